@@ -1,0 +1,162 @@
+-- x ≥ 1 and x ≤ 0 have no point: a proof by the difference of the two
+use Rattle.std.proofs.Common.{◌≡◌, ℕ, zero, suc, ◌-◌, ◌^◌, ◌<◌, ◌⊎◌, List, [], ◌∷◌, Some, None, ℤ, pos, negsuc, All, Contains, Bool, true, false, cond, arith, refl, sym, ◌∙◌, ap, subst, inl, inr, ⊎_elim, slice_index_or, IsTrue, lit<, lit≤, unwrap_or}
+use Rattle.std.specs.FinMap.{empty, insert, get-empty, get-insert}
+use Rattle.std.specs.Ordering.{nat_cmp}
+use Rattle.std.specs.Cmp.{nat_cmp_total}
+use Rattle.std.proofs.lemmas.List.Elements.{All-nil, All-cons}
+use Rattle.std.proofs.lemmas.Int.{ints}
+use Rattle.vipr_spec.specs.Gcd.{gcd}
+use Rattle.vipr_spec.specs.Fraction.{ℚ, over, whole, zero_ℚ, ◌+ℚ◌, ◌*ℚ◌, neg_ℚ, ◌≤ℚ◌, ProductFits, SumFits}
+use Rattle.vipr_spec.specs.Constraint.{at_most, at_least, Row, at, Entry, pull, Combines, TermsFit}
+use Rattle.vipr_spec.specs.Certificate.{minimum, infeasible, lin, Certificate, reason_at, IsProof, IsValid, StepFits, RefersTo, is_live, RestsOn, RestsOnNothing}
+use Rattle.vipr_spec.proofs.Fractions.{whole-add, whole-mul, whole-le, le_of_whole, is_one, is_neg, is_whole, over_same, mul-zero_ℚ, add-mul_ℚ, zero-mul_ℚ, add-zero_ℚ}
+use Rattle.vipr_spec.proofs.Rests.{rests_lin, rests_given}
+
+one : ℚ
+one = whole (pos 1)
+
+minus_one : ℚ
+minus_one = whole (negsuc 0)
+
+row : Row
+row = insert empty 0 one
+
+both : List (ℕ × ℚ)
+both = (0, whole (pos 1)) ∷ (1, whole (negsuc 0)) ∷ []
+
+abbrev example : Certificate
+example = record {
+  problem = record {
+    variables = 1;
+    integers = [];
+    direction = minimum;
+    objective = empty;
+    constraints = record { row = row; sense = at_least; bound = whole (pos 1) } ∷ record { row = row; sense = at_most; bound = zero_ℚ } ∷ [];
+  };
+  claim = infeasible;
+  solutions = [];
+  derivations = record { stated = record { row = empty; sense = at_least; bound = whole (pos 1) }; reason = lin both; last = None } ∷ [];
+}
+
+-- closed fractions compute, but for the proof inside
+half : over (pos 2) 4 ≡ over (pos 1) 2
+half = (over_same (pos 2) (pos 1) 4 2 (lit< tt) (lit< tt)).1 refl
+
+large : (over (pos (2 ^ 126)) (2 ^ 100) *ℚ over (negsuc (2 ^ 90 - 1)) (2 ^ 120)).denom ≡ 2 ^ 4
+unfolding over gcd ◌*ℚ◌
+large = refl
+
+fits : SumFits (over (pos 1) 6) (over (pos 1) 3)
+unfolding over gcd ◌+ℚ◌
+fits = (lit≤ tt, lit≤ tt, lit≤ tt, lit≤ tt)
+
+one_or_zero : (q : ℚ) (b : Bool) → (unwrap_or (cond b (Some q) None) zero_ℚ ≡ q) ⊎ (unwrap_or (cond b (Some q) None) zero_ℚ ≡ zero_ℚ)
+one_or_zero q true = inl refl
+one_or_zero q false = inr refl
+
+at_row : (j : ℕ) → (at row j ≡ whole (pos 1)) ⊎ (at row j ≡ zero_ℚ)
+unfolding row one
+at_row j = rw (get-insert nat_cmp_total, get-empty nat_cmp) (one_or_zero (whole (pos 1)) _)
+
+difference : (a : ℚ) → whole (pos 1) *ℚ a +ℚ (whole (negsuc 0) *ℚ a +ℚ zero_ℚ) ≡ zero_ℚ
+difference a = ap (λ z. whole (pos 1) *ℚ a +ℚ z) (add-zero_ℚ _) ∙ sym (add-mul_ℚ _ _ a) ∙ ap (λ z. z *ℚ a) (whole-add (pos 1) (negsuc 0)) ∙ zero-mul_ℚ a
+
+neg_minus_one : neg_ℚ (whole (negsuc 0)) ≡ whole (pos 1)
+neg_minus_one = is_one _ _ _ _ (is_neg _ _ _ (is_whole (negsuc 0))) (is_whole (pos 1))
+
+one_positive : zero_ℚ ≤ℚ whole (pos 1)
+one_positive = whole-le (pos 0) (pos 1) (omega (arith, ints))
+
+not_one : ¬ (whole (pos 1) ≤ℚ zero_ℚ)
+not_one h = let l = le_of_whole (pos 1) (pos 0) h in omega (arith, ints)
+
+first : Entry
+first = (whole (pos 1), record { row = at row; sense = at_least; bound = whole (pos 1) })
+
+second : Entry
+second = (whole (negsuc 0), record { row = at row; sense = at_most; bound = zero_ℚ })
+
+bound_sum : whole (pos 1) *ℚ whole (pos 1) +ℚ (whole (negsuc 0) *ℚ zero_ℚ +ℚ zero_ℚ) ≡ whole (pos 1)
+bound_sum = ap (λ z. whole (pos 1) *ℚ whole (pos 1) +ℚ z) (add-zero_ℚ _ ∙ mul-zero_ℚ _) ∙ add-zero_ℚ _ ∙ whole-mul (pos 1) (pos 1)
+
+pulls : All (λ e. zero_ℚ ≤ℚ pull e) (first ∷ second ∷ [])
+unfolding first second
+pulls = All-cons (λ e. zero_ℚ ≤ℚ pull e) first (second ∷ []) one_positive
+    (All-cons (λ e. zero_ℚ ≤ℚ pull e) second [] (subst (λ z. zero_ℚ ≤ℚ z) (sym neg_minus_one) one_positive) (All-nil (λ e. zero_ℚ ≤ℚ pull e)))
+
+the_sum : Combines (first ∷ second ∷ []) (record { row = at empty; sense = at_least; bound = whole (pos 1) })
+unfolding first second
+the_sum = (at_least, (pulls, (0, first, lit< tt, refl, not_one)), inl (λ j. difference (at row j), λ h. not_one (subst (λ z. z ≤ℚ zero_ℚ) bound_sum h)))
+
+earlier : All (λ e. e.0 < 2) both
+unfolding both
+earlier = All-cons (λ (e : ℕ × ℚ). e.0 < 2) (0, whole (pos 1)) ((1, whole (negsuc 0)) ∷ []) (lit< tt) (All-cons (λ (e : ℕ × ℚ). e.0 < 2) (1, whole (negsuc 0)) [] (lit< tt) (All-nil (λ (e : ℕ × ℚ). e.0 < 2)))
+
+steps : (k : ℕ) → IsValid example k (reason_at example k)
+unfolding both first second
+steps zero = tt
+steps (suc zero) = tt
+steps (suc (suc zero)) = (earlier, the_sum)
+steps (suc (suc (suc k))) = tt
+
+product_fits : (a b c d : ℤ) → ProductFits (whole a) (whole b) → ProductFits (whole c) (whole d) → All (λ (t : ℚ × ℚ). ProductFits t.0 t.1) ((whole a, whole b) ∷ (whole c, whole d) ∷ [])
+product_fits a b c d h k = All-cons (λ (t : ℚ × ℚ). ProductFits t.0 t.1) (whole a, whole b) ((whole c, whole d) ∷ []) h (All-cons (λ (t : ℚ × ℚ). ProductFits t.0 t.1) (whole c, whole d) [] k (All-nil (λ (t : ℚ × ℚ). ProductFits t.0 t.1)))
+
+at_one : TermsFit ((whole (pos 1), whole (pos 1)) ∷ (whole (negsuc 0), whole (pos 1)) ∷ [])
+unfolding over gcd ◌+ℚ◌ ◌*ℚ◌
+at_one = (product_fits (pos 1) (pos 1) (negsuc 0) (pos 1) (lit≤ tt, lit≤ tt) (lit≤ tt, lit≤ tt), ((lit≤ tt, lit≤ tt, lit≤ tt, lit≤ tt), ((lit≤ tt, lit≤ tt, lit≤ tt, lit≤ tt), tt)))
+
+at_zero : TermsFit ((whole (pos 1), zero_ℚ) ∷ (whole (negsuc 0), zero_ℚ) ∷ [])
+unfolding over gcd ◌+ℚ◌ ◌*ℚ◌
+at_zero = (product_fits (pos 1) (pos 0) (negsuc 0) (pos 0) (lit≤ tt, lit≤ tt) (lit≤ tt, lit≤ tt), ((lit≤ tt, lit≤ tt, lit≤ tt, lit≤ tt), ((lit≤ tt, lit≤ tt, lit≤ tt, lit≤ tt), tt)))
+
+at_bounds : TermsFit ((whole (pos 1), whole (pos 1)) ∷ (whole (negsuc 0), zero_ℚ) ∷ [])
+unfolding over gcd ◌+ℚ◌ ◌*ℚ◌
+at_bounds = (product_fits (pos 1) (pos 1) (negsuc 0) (pos 0) (lit≤ tt, lit≤ tt) (lit≤ tt, lit≤ tt), ((lit≤ tt, lit≤ tt, lit≤ tt, lit≤ tt), ((lit≤ tt, lit≤ tt, lit≤ tt, lit≤ tt), tt)))
+
+abbrev RowFits : ℚ → Type 0
+RowFits a = TermsFit ((whole (pos 1), a) ∷ (whole (negsuc 0), a) ∷ [])
+
+steps_fit : (k : ℕ) → StepFits example (reason_at example k)
+unfolding both
+steps_fit zero = tt
+steps_fit (suc zero) = tt
+steps_fit (suc (suc zero)) = (λ j. ⊎_elim (λ e. subst RowFits (sym e) at_one) (λ e. subst RowFits (sym e) at_zero) (at_row j), at_bounds)
+steps_fit (suc (suc (suc k))) = tt
+
+in_both : (e : ℕ × ℚ) → Contains both e → (e.0 ≡ 0) ⊎ (e.0 ≡ 1)
+unfolding both
+in_both e m = by m.0 m.1 m.2
+  where
+    by : (k : ℕ) → k < 2 → slice_index_or ((0, whole (pos 1)) ∷ (1, whole (negsuc 0)) ∷ []) k e ≡ e → (e.0 ≡ 0) ⊎ (e.0 ≡ 1)
+    by zero h p = inl (sym (ap (λ (f : ℕ × ℚ). f.0) p))
+    by (suc zero) h p = inr (sym (ap (λ (f : ℕ × ℚ). f.0) p))
+    by (suc (suc k)) h p = absurd (omega arith)
+
+live : (i : ℕ) → (i ≡ 0) ⊎ (i ≡ 1) → IsTrue (is_live example 2 i)
+live i (inl e) = subst (λ i. IsTrue (is_live example 2 i)) (sym e) refl
+live i (inr e) = subst (λ i. IsTrue (is_live example 2 i)) (sym e) refl
+
+references : (k i : ℕ) → RefersTo (reason_at example k) i → IsTrue (is_live example k i)
+references zero i h = absurd h
+references (suc zero) i h = absurd h
+references (suc (suc zero)) i h = live i (in_both (i, h.0) h.1)
+references (suc (suc (suc k))) i h = absurd h
+
+given : (a i : ℕ) → (i ≡ 0) ⊎ (i ≡ 1) → ¬ RestsOn example i a
+given a i (inl e) r = rests_given example i a (ap (reason_at example) e) r
+given a i (inr e) r = rests_given example i a (ap (reason_at example) e) r
+
+nothing : RestsOnNothing example 2
+nothing a r = let u = rests_lin example 2 a both refl r in given a u.0.0 (in_both u.0 u.1) u.3
+
+valid : IsProof example
+valid = record {
+  solutions = All-nil _;
+  solutions_fit = All-nil _;
+  steps = steps;
+  steps_fit = steps_fit;
+  references = references;
+  primal = tt;
+  dual = λ _. (2, (lit< tt, nothing, (λ j. ap (λ o. unwrap_or o zero_ℚ) (get-empty nat_cmp j), not_one)));
+}

@@ -1,0 +1,92 @@
+-- What a step says depends on the derivations up to it alone
+use Rattle.std.proofs.Common.{◌≡◌, ℕ, ◌+◌, ◌<◌, ◌≤◌, List, [], ◌∷◌, ◌++◌, map, length, slice_index_or, Option, Some, None, All, Contains, arith, refl, sym, ◌∙◌, ap, ap₂, subst, subst₂, append_assoc}
+use Rattle.std.proofs.lemmas.List.{map-append, get_or_append_left}
+use Rattle.std.proofs.lemmas.List.Elements.{All-head, All-tail, All-contains}
+use Rattle.std.proofs.Math.ListN.{length-append, length-map}
+use Rattle.std.proofs.Math.Seq.{get_or-append_seam}
+use Rattle.vipr_spec.specs.Fraction.{ℚ}
+use Rattle.vipr_spec.specs.Constraint.{condition, Dominates, Combines, CombinesRounded}
+use Rattle.vipr_spec.specs.Certificate.{Reason, asm, lin, rnd, uns, sol, Derivation, Certificate, constraint_at, reason_at, last_at, RestsOn, itself, by_lin, by_rnd, by_first, by_second, entries, count, IsValid}
+
+-- with more derivations
+abbrev pub with_more : Certificate → List Derivation → Certificate
+with_more c ds = record c { derivations = c.derivations ++ ds }
+
+-- two lists end to end, of which the second goes on
+longer : {X Y Z : Type 0} (f : X → Z) (g : Y → Z) (xs : List X) (ys zs : List Y) (d : Z) (i : ℕ) → i < length xs + length ys
+    → slice_index_or (map f xs ++ map g (ys ++ zs)) i d ≡ slice_index_or (map f xs ++ map g ys) i d
+longer f g xs ys zs d i h =
+    let small : i < length (map f xs ++ map g ys) = simp (length-append, length-map) h in
+    ap (λ l. slice_index_or (map f xs ++ l) i d) (map-append g ys zs) ∙ ap (λ l. slice_index_or l i d) (sym (append_assoc (map f xs) (map g ys) (map g zs)))
+    ∙ get_or_append_left (map f xs ++ map g ys) (map g zs) d i small
+
+pub constraint_before : (c : Certificate) (ds : List Derivation) (i : ℕ) → i < count c → constraint_at (with_more c ds) i ≡ constraint_at c i
+constraint_before c ds i h = longer condition (λ d. condition d.stated) c.problem.constraints c.derivations ds _ i h
+
+pub reason_before : (c : Certificate) (ds : List Derivation) (i : ℕ) → i < count c → reason_at (with_more c ds) i ≡ reason_at c i
+reason_before c ds i h = longer (λ a. None) (λ d. Some d.reason) c.problem.constraints c.derivations ds None i h
+
+pub last_before : (c : Certificate) (ds : List Derivation) (i : ℕ) → i < count c → last_at (with_more c ds) i ≡ last_at c i
+last_before c ds i h = longer (λ a. None) (λ d. d.last) c.problem.constraints c.derivations ds None i h
+
+entries_before : (c : Certificate) (ds : List Derivation) (k : ℕ) (es : List (ℕ × ℚ)) → k ≤ count c → All (λ e. e.0 < k) es → entries (with_more c ds) es ≡ entries c es
+entries_before c ds k [] h a = refl
+entries_before c ds k (e ∷ es) h a =
+    let l : e.0 < k = All-head (λ (e : ℕ × ℚ). e.0 < k) e es a in
+    ap₂ (λ x xs. (e.1, x) ∷ xs) (constraint_before c ds e.0 (omega arith)) (entries_before c ds k es h (All-tail (λ (e : ℕ × ℚ). e.0 < k) e es a))
+
+pub valid_before : (c : Certificate) (ds : List Derivation) (k : ℕ) (r : Option Reason) → k < count c → IsValid c k r → IsValid (with_more c ds) k r
+valid_before c ds k None h v = v
+valid_before c ds k (Some asm) h v = v
+valid_before c ds k (Some (lin es)) h v = (v.0, subst₂ Combines (sym (entries_before c ds k es (omega arith) v.0)) (sym (constraint_before c ds k h)) v.1)
+valid_before c ds k (Some (rnd es)) h v = (v.0, subst₂ (CombinesRounded c.problem.integers) (sym (entries_before c ds k es (omega arith) v.0)) (sym (constraint_before c ds k h)) v.1)
+valid_before c ds k (Some (uns i1 l1 i2 l2)) h v =
+    let p1 : i1 < count c = omega arith in let q1 : l1 < count c = omega arith in let p2 : i2 < count c = omega arith in let q2 : l2 < count c = omega arith in (
+      v.0,
+      v.1,
+      v.2,
+      v.3,
+      reason_before c ds l1 q1 ∙ v.4,
+      reason_before c ds l2 q2 ∙ v.5,
+      rw (constraint_before c ds l1 q1, constraint_before c ds l2 q2, constraint_before c ds i1 p1, constraint_before c ds i2 p2, constraint_before c ds k h) v.6,
+    )
+valid_before c ds k (Some sol) h v = (v.0, v.1, subst (Dominates _) (sym (constraint_before c ds k h)) v.2)
+
+earlier_lin : (c : Certificate) (i : ℕ) (es : List (ℕ × ℚ)) (e : ℕ × ℚ) → IsValid c i (reason_at c i) → reason_at c i ≡ Some (lin es) → Contains es e → e.0 < i
+earlier_lin c i es e v r m = let w : IsValid c i (Some (lin es)) = subst (IsValid c i) r v in All-contains (λ (e : ℕ × ℚ). e.0 < i) es e w.0 m
+
+earlier_rnd : (c : Certificate) (i : ℕ) (es : List (ℕ × ℚ)) (e : ℕ × ℚ) → IsValid c i (reason_at c i) → reason_at c i ≡ Some (rnd es) → Contains es e → e.0 < i
+earlier_rnd c i es e v r m = let w : IsValid c i (Some (rnd es)) = subst (IsValid c i) r v in All-contains (λ (e : ℕ × ℚ). e.0 < i) es e w.0 m
+
+earlier_uns : (c : Certificate) (i i1 l1 i2 l2 : ℕ) → IsValid c i (reason_at c i) → reason_at c i ≡ Some (uns i1 l1 i2 l2) → (i1 < i) × (i2 < i)
+earlier_uns c i i1 l1 i2 l2 v r = let w : IsValid c i (Some (uns i1 l1 i2 l2)) = subst (IsValid c i) r v in (w.0, w.2)
+
+-- an assumption set stays as it is
+pub rests_before : (c : Certificate) (ds : List Derivation) → ((k : ℕ) → k < count c → IsValid c k (reason_at c k)) → (i a : ℕ) → i < count c → RestsOn c i a → RestsOn (with_more c ds) i a
+rests_before c ds v i a h (itself e) = itself (reason_before c ds i h ∙ e)
+rests_before c ds v i a h (by_lin es e r m n d) = by_lin es e (reason_before c ds i h ∙ r) m n (rests_before c ds v e.0 a (let l = earlier_lin c i es e (v i h) r m in omega arith) d)
+rests_before c ds v i a h (by_rnd es e r m n d) = by_rnd es e (reason_before c ds i h ∙ r) m n (rests_before c ds v e.0 a (let l = earlier_rnd c i es e (v i h) r m in omega arith) d)
+rests_before c ds v i a h (by_first i1 l1 i2 l2 r d n) = by_first i1 l1 i2 l2 (reason_before c ds i h ∙ r) (rests_before c ds v i1 a (let l = earlier_uns c i i1 l1 i2 l2 (v i h) r in omega arith) d) n
+rests_before c ds v i a h (by_second i1 l1 i2 l2 r d n) = by_second i1 l1 i2 l2 (reason_before c ds i h ∙ r) (rests_before c ds v i2 a (let l = earlier_uns c i i1 l1 i2 l2 (v i h) r in omega arith) d) n
+
+pub rests_after : (c : Certificate) (ds : List Derivation) → ((k : ℕ) → k < count c → IsValid c k (reason_at c k)) → (i a : ℕ) → i < count c → RestsOn (with_more c ds) i a → RestsOn c i a
+rests_after c ds v i a h (itself e) = itself (sym (reason_before c ds i h) ∙ e)
+rests_after c ds v i a h (by_lin es e r m n d) = let q = sym (reason_before c ds i h) ∙ r in by_lin es e q m n (rests_after c ds v e.0 a (let l = earlier_lin c i es e (v i h) q m in omega arith) d)
+rests_after c ds v i a h (by_rnd es e r m n d) = let q = sym (reason_before c ds i h) ∙ r in by_rnd es e q m n (rests_after c ds v e.0 a (let l = earlier_rnd c i es e (v i h) q m in omega arith) d)
+rests_after c ds v i a h (by_first i1 l1 i2 l2 r d n) = let q = sym (reason_before c ds i h) ∙ r in by_first i1 l1 i2 l2 q (rests_after c ds v i1 a (let l = earlier_uns c i i1 l1 i2 l2 (v i h) q in omega arith) d) n
+rests_after c ds v i a h (by_second i1 l1 i2 l2 r d n) = let q = sym (reason_before c ds i h) ∙ r in by_second i1 l1 i2 l2 q (rests_after c ds v i2 a (let l = earlier_uns c i i1 l1 i2 l2 (v i h) q in omega arith) d) n
+
+-- ---- the next derivation
+next : {X Y Z : Type 0} (f : X → Z) (g : Y → Z) (xs : List X) (ys : List Y) (y : Y) (d : Z) → slice_index_or (map f xs ++ map g (ys ++ y ∷ [])) (length xs + length ys) d ≡ g y
+next f g xs ys y d =
+    let all = map f xs ++ map g ys in
+    let size : length all ≡ length xs + length ys = simp (length-append, length-map) in
+    ap (λ l. slice_index_or (map f xs ++ l) (length xs + length ys) d) (map-append g ys (y ∷ []))
+    ∙ ap (λ l. slice_index_or l (length xs + length ys) d) (sym (append_assoc (map f xs) (map g ys) (g y ∷ [])))
+    ∙ ap (λ n. slice_index_or (all ++ g y ∷ []) n d) (sym size) ∙ get_or-append_seam all (g y) [] d
+
+pub constraint_next : (c : Certificate) (d : Derivation) → constraint_at (with_more c (d ∷ [])) (count c) ≡ condition d.stated
+constraint_next c d = next condition (λ s. condition s.stated) c.problem.constraints c.derivations d _
+
+pub reason_next : (c : Certificate) (d : Derivation) → reason_at (with_more c (d ∷ [])) (count c) ≡ Some d.reason
+reason_next c d = next (λ a. None) (λ s. Some s.reason) c.problem.constraints c.derivations d None
