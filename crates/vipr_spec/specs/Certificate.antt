@@ -2,32 +2,50 @@
 use Rattle.std.specs.Prelude.{◌≡◌, ◌≢◌, ℕ, ◌+◌, ◌-◌, ◌<◌, ◌≤◌, ◌⊎◌, max, Bool, true, false, ◌&&◌, ◌||◌, nat_lt, nat_le, IsTrue, IsSome, IsSomeAnd, count_by, fold, List, ◌++◌, map, length, slice_index_or, Option, Some, None, IfSome, All, Contains}
 use Rattle.std.specs.List.{range_with_len}
 use Rattle.vipr_spec.specs.Fraction.{ℚ, zero_ℚ, ◌≤ℚ◌, IsWhole}
-use Rattle.vipr_spec.specs.Constraint.{Sense, at_most, equal, at_least, Row, at, Constraint, Condition, condition, Point, value, IsTrueAt, IsAbsurd, Dominates, Entry, SumOfFits, ValueFits, Combines, CombinesRounded, Unsplits}
+use Rattle.vipr_spec.specs.Constraint.{Sense, at_most, equal, at_least, Ints, IsInteger, Row, at, Constraint, Condition, condition, Point, value, IsTrueAt, IsAbsurd, Dominates, Entry, SumOfFits, ValueFits, Combines, CombinesRounded, Unsplits}
+
+-- any bytes of a token; names need not be distinct
+abbrev pub Name : Type 0
+Name = List ℕ
+
+pub record Named (A : Type 0) : Type 0 where
+  pub name : Name
+  pub item : A
 
 pub data Direction : Type 0 where
   minimum : Direction
   maximum : Direction
-
-pub record Problem : Type 0 where
-  pub variables : ℕ
-  pub integers : List ℕ
-  pub direction : Direction
-  pub objective : Row
-  pub constraints : List Constraint
 
 -- a bound that is not there is infinite
 pub data Claim : Type 0 where
   infeasible : Claim
   range : (lower upper : Option ℚ) → Claim
 
+pub record Problem : Type 0 where
+  -- of the variables 0, 1, 2, ..
+  pub names : List Name
+  -- the variables that are to be whole
+  pub integers : Ints
+  pub direction : Direction
+  pub objective : Row
+  pub constraints : List (Named Constraint)
+  -- how many of the constraints are bounds; nothing depends on it
+  pub bound_count : ℕ
+  pub claim : Claim
+
+abbrev pub variables : Problem → ℕ
+variables p = length p.names
+
 pub data Reason : Type 0 where
   asm : Reason
+  -- pairs of a constraint's index and a multiplier
   lin : List (ℕ × ℚ) → Reason
   rnd : List (ℕ × ℚ) → Reason
   uns : (i1 l1 i2 l2 : ℕ) → Reason
   sol : Reason
 
 pub record Derivation : Type 0 where
+  pub name : Name
   pub stated : Constraint
   pub reason : Reason
   -- the last reference, none where the constraint is never dropped
@@ -35,18 +53,17 @@ pub record Derivation : Type 0 where
 
 pub record Certificate : Type 0 where
   pub problem : Problem
-  pub claim : Claim
-  pub solutions : List Row
+  pub solutions : List (Named Row)
   pub derivations : List Derivation
 
 -- ---- what is claimed
 
 pub record IsFeasible (p : Problem) (x : Point) : Type 0 where
-  pub whole : (j : ℕ) → Contains p.integers j → IsWhole (x j)
-  pub meets : All (λ c. IsTrueAt p.variables (condition c) x) p.constraints
+  pub whole : (j : ℕ) → IsInteger p.integers j → IsWhole (x j)
+  pub meets : All (λ c. IsTrueAt (variables p) (condition c.item) x) p.constraints
 
 abbrev pub objective_at : Problem → Point → ℚ
-objective_at p x = value p.variables (at p.objective) x
+objective_at p x = value (variables p) (at p.objective) x
 
 -- the objective value v is as good as w
 abbrev pub IsAsGood : Direction → ℚ → ℚ → Type 0
@@ -65,10 +82,10 @@ primal_bound minimum lower upper = upper
 primal_bound maximum lower upper = lower
 
 -- some listed solution is feasible and as good as the bound
-abbrev pub IsAttained : Problem → List Row → ℚ → Type 0
-IsAttained p solutions bound = (s : Row) × Contains solutions s × IsFeasible p (at s) × IsAsGood p.direction (objective_at p (at s)) bound
+abbrev pub IsAttained : Problem → List (Named Row) → ℚ → Type 0
+IsAttained p solutions bound = (s : Named Row) × Contains solutions s × IsFeasible p (at s.item) × IsAsGood p.direction (objective_at p (at s.item)) bound
 
-abbrev pub IsTrueClaim : Problem → List Row → Claim → Type 0
+abbrev pub IsTrueClaim : Problem → List (Named Row) → Claim → Type 0
 IsTrueClaim p solutions infeasible = (x : Point) → ¬ IsFeasible p x
 IsTrueClaim p solutions (range lower upper) =
     IfSome (dual_bound p.direction lower upper) (λ bound. (x : Point) → IsFeasible p x → IsAsGood p.direction bound (objective_at p x))
@@ -78,7 +95,7 @@ IsTrueClaim p solutions (range lower upper) =
 
 -- past the end 0 = 0
 abbrev pub constraint_at : Certificate → ℕ → Condition
-constraint_at c i = slice_index_or (map condition c.problem.constraints ++ map (λ d. condition d.stated) c.derivations) i (record { row = λ j. zero_ℚ; sense = equal; bound = zero_ℚ })
+constraint_at c i = slice_index_or (map (λ n. condition n.item) c.problem.constraints ++ map (λ d. condition d.stated) c.derivations) i (record { row = λ j. zero_ℚ; sense = equal; bound = zero_ℚ })
 
 -- none where the constraint is not derived
 abbrev pub reason_at : Certificate → ℕ → Option Reason
@@ -116,8 +133,13 @@ stays maximum = at_most
 abbrev pub objective_constraint : Problem → Sense → ℚ → Condition
 objective_constraint p s b = record { row = at p.objective; sense = s; bound = b }
 
-abbrev pub IsBest : Certificate → Row → Type 0
-IsBest c s = Contains c.solutions s × All (λ t. IsAsGoodAt c.problem (at s) (at t)) c.solutions
+-- no listed solution has a better objective than the listed solution s
+abbrev pub IsBest : Certificate → Named Row → Type 0
+IsBest c s = Contains c.solutions s × All (λ t. IsAsGoodAt c.problem (at s.item) (at t.item)) c.solutions
+
+-- the objective at the best listed solution s, as a bound
+abbrev pub cutoff : Problem → Named Row → Condition
+cutoff p s = objective_constraint p (reaches p.direction) (objective_at p (at s.item))
 
 abbrev pub IsValid : Certificate → ℕ → Option Reason → Type 0
 IsValid c k None = Unit {0}
@@ -127,8 +149,7 @@ IsValid c k (Some (rnd es)) = All (λ e. e.0 < k) es × CombinesRounded c.proble
 IsValid c k (Some (uns i1 l1 i2 l2)) =
     (i1 < k) × (l1 < k) × (i2 < k) × (l2 < k) × (reason_at c l1 ≡ Some asm) × (reason_at c l2 ≡ Some asm)
     × Unsplits c.problem.integers (constraint_at c l1) (constraint_at c l2) (constraint_at c i1) (constraint_at c i2) (constraint_at c k)
-IsValid c k (Some sol) =
-    (s : Row) × IsBest c s × Dominates (objective_constraint c.problem (reaches c.problem.direction) (objective_at c.problem (at s))) (constraint_at c k)
+IsValid c k (Some sol) = (s : Named Row) × IsBest c s × Dominates (cutoff c.problem s) (constraint_at c k)
 
 abbrev pub StepFits : Certificate → Option Reason → Type 0
 StepFits c None = Unit {0}
@@ -139,7 +160,7 @@ StepFits c (Some (uns i1 l1 i2 l2)) = Unit {0}
 StepFits c (Some sol) = Unit {0}
 
 abbrev pub SolutionFits : Problem → Point → Type 0
-SolutionFits p x = All (λ c. ValueFits p.variables (at c.row) x) p.constraints × ValueFits p.variables (at p.objective) x
+SolutionFits p x = All (λ c. ValueFits (variables p) (at c.item.row) x) p.constraints × ValueFits (variables p) (at p.objective) x
 
 -- ---- references
 
@@ -179,21 +200,21 @@ abbrev pub count : Certificate → ℕ
 count c = length c.problem.constraints + length c.derivations
 
 abbrev pub ProvesDual : Certificate → ℕ → Type 0
-ProvesDual c goal = (goal < count c) × RestsOnNothing c goal × MeetsDual c.problem c.claim (constraint_at c goal)
+ProvesDual c goal = (goal < count c) × RestsOnNothing c goal × MeetsDual c.problem c.problem.claim (constraint_at c goal)
 
-abbrev pub MeetsPrimal : Problem → List Row → Claim → Type 0
+abbrev pub MeetsPrimal : Problem → List (Named Row) → Claim → Type 0
 MeetsPrimal p solutions infeasible = Unit {0}
 MeetsPrimal p solutions (range lower upper) =
-    IfSome (primal_bound p.direction lower upper) (λ bound. (s : Row) × Contains solutions s × IsAsGood p.direction (objective_at p (at s)) bound)
+    IfSome (primal_bound p.direction lower upper) (λ bound. (s : Named Row) × Contains solutions s × IsAsGood p.direction (objective_at p (at s.item)) bound)
 
 pub record IsProof (c : Certificate) : Type 0 where
-  pub solutions : All (λ s. IsFeasible c.problem (at s)) c.solutions
-  pub solutions_fit : All (λ s. SolutionFits c.problem (at s)) c.solutions
+  pub solutions : All (λ s. IsFeasible c.problem (at s.item)) c.solutions
+  pub solutions_fit : All (λ s. SolutionFits c.problem (at s.item)) c.solutions
   pub steps : (k : ℕ) → IsValid c k (reason_at c k)
   pub steps_fit : (k : ℕ) → StepFits c (reason_at c k)
   pub references : (k i : ℕ) → RefersTo (reason_at c k) i → IsTrue (is_live c k i)
-  pub primal : MeetsPrimal c.problem c.solutions c.claim
-  pub dual : NeedsGoal c.problem c.claim → (goal : ℕ) × ProvesDual c goal
+  pub primal : MeetsPrimal c.problem c.solutions c.problem.claim
+  pub dual : NeedsGoal c.problem c.problem.claim → (goal : ℕ) × ProvesDual c goal
 
 -- ---- what is held, the goal, and what it needs
 

@@ -1,6 +1,7 @@
 -- Linear constraints over the variables 0, 1, 2, .., their truth at a point, and what follows from them
-use Rattle.std.specs.Prelude.{◌≡◌, ◌≢◌, ℕ, zero, suc, ◌<◌, ◌⊎◌, List, [], ◌∷◌, map, ℤ, pos, ◌+ℤ◌, ◌≤ℤ◌, All, Contains, Any, unwrap_or}
+use Rattle.std.specs.Prelude.{◌≡◌, ◌≢◌, ℕ, zero, suc, ◌<◌, ◌⊎◌, List, [], ◌∷◌, map, ℤ, pos, ◌+ℤ◌, ◌≤ℤ◌, All, Any, unwrap_or, IsTrue}
 use Rattle.std.specs.FinMap.{FinMap, get}
+use Rattle.std.specs.FinSet.{FinSet, contains}
 use Rattle.std.specs.Ordering.{nat_cmp}
 use Rattle.vipr_spec.specs.Fraction.{ℚ, zero_ℚ, ◌+ℚ◌, ◌*ℚ◌, neg_ℚ, ◌≤ℚ◌, whole, IsWhole, ProductFits, SumFits}
 
@@ -8,6 +9,13 @@ pub data Sense : Type 0 where
   at_most : Sense
   equal : Sense
   at_least : Sense
+
+-- a set of variables
+abbrev pub Ints : Type 0
+Ints = FinSet nat_cmp
+
+abbrev pub IsInteger : Ints → ℕ → Type 0
+IsInteger integers j = IsTrue (contains integers j)
 
 -- a finite map from variables to fractions
 abbrev pub Row : Type 0
@@ -106,8 +114,8 @@ ValueFits n row x = (j : ℕ) → j < n → ProductFits (row j) (x j) × SumFits
 -- ---- whole numbers
 
 -- the nonzero coefficients are whole, and at integer variables
-abbrev pub IsWholeRow : List ℕ → (ℕ → ℚ) → Type 0
-IsWholeRow integers row = (j : ℕ) → row j ≢ zero_ℚ → IsWhole (row j) × Contains integers j
+abbrev pub IsWholeRow : Ints → (ℕ → ℚ) → Type 0
+IsWholeRow integers row = (j : ℕ) → row j ≢ zero_ℚ → IsWhole (row j) × IsInteger integers j
 
 -- k is the least whole number not below b, the greatest not above it, or b itself
 abbrev pub RoundsTo : Sense → ℚ → ℤ → Type 0
@@ -120,13 +128,13 @@ abbrev pub DominatesRounded : Condition → Condition → Type 0
 DominatesRounded c d = ((c.sense ≡ equal) × ¬ IsWhole c.bound) ⊎ ((k : ℤ) × RoundsTo c.sense c.bound k × Dominates (record c { bound = whole k }) d)
 
 -- a x ≤ k and a x ≥ k + 1
-pub record IsCut (integers : List ℕ) (low high : Condition) : Type 0 where
+pub record IsCut (integers : Ints) (low high : Condition) : Type 0 where
   pub row : (j : ℕ) → low.row j ≡ high.row j
   pub whole_row : IsWholeRow integers low.row
   pub senses : (low.sense ≡ at_most) × (high.sense ≡ at_least)
   pub bounds : (k : ℤ) × (low.bound ≡ whole k) × (high.bound ≡ whole (k +ℤ pos 1))
 
-abbrev pub IsSplit : List ℕ → Condition → Condition → Type 0
+abbrev pub IsSplit : Ints → Condition → Condition → Type 0
 IsSplit integers a b = IsCut integers a b ⊎ IsCut integers b a
 
 -- ---- the rules
@@ -136,9 +144,9 @@ abbrev pub Combines : List Entry → Condition → Type 0
 Combines es d = (s : Sense) × HasSense es s × Dominates (sum_of es s) d
 
 -- the sum of the entries is suitable, can be rounded, and then dominates d
-abbrev pub CombinesRounded : List ℕ → List Entry → Condition → Type 0
+abbrev pub CombinesRounded : Ints → List Entry → Condition → Type 0
 CombinesRounded integers es d = (s : Sense) × HasSense es s × IsWholeRow integers (sum_of es s).row × DominatesRounded (sum_of es s) d
 
 -- a and b split, and what was shown from each of them dominates d
-abbrev pub Unsplits : List ℕ → Condition → Condition → Condition → Condition → Condition → Type 0
+abbrev pub Unsplits : Ints → Condition → Condition → Condition → Condition → Condition → Type 0
 Unsplits integers a b from_a from_b d = IsSplit integers a b × Dominates from_a d × Dominates from_b d
