@@ -27,15 +27,16 @@ both = (0, whole (pos 1)) ∷ (1, whole (negsuc 0)) ∷ []
 abbrev example : Certificate
 example = record {
   problem = record {
-    variables = 1;
-    integers = [];
+    names = [] ∷ [];
+    integers = empty;
     direction = minimum;
     objective = empty;
-    constraints = record { row = row; sense = at_least; bound = whole (pos 1) } ∷ record { row = row; sense = at_most; bound = zero_ℚ } ∷ [];
+    constraints = record { name = []; item = record { row = row; sense = at_least; bound = whole (pos 1) } } ∷ record { name = []; item = record { row = row; sense = at_most; bound = zero_ℚ } } ∷ [];
+    bound_count = 0;
+    claim = infeasible;
   };
-  claim = infeasible;
   solutions = [];
-  derivations = record { stated = record { row = empty; sense = at_least; bound = whole (pos 1) }; reason = lin both; last = None } ∷ [];
+  derivations = record { name = []; stated = record { row = empty; sense = at_least; bound = whole (pos 1) }; reason = lin both; last = None } ∷ [];
 }
 
 -- closed fractions compute, but for the proof inside

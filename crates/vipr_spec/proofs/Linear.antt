@@ -1,9 +1,9 @@
 -- What follows from a true constraint, and from several
-use Rattle.std.proofs.Common.{◌≡◌, ◌≢◌, ℕ, zero, suc, ◌⊎◌, List, [], ◌∷◌, ℤ, All, Contains, arith, refl, sym, ◌∙◌, ap, ap₂, subst, subst₂, inl, inr, ⊎_elim}
+use Rattle.std.proofs.Common.{◌≡◌, ◌≢◌, ℕ, zero, suc, ◌⊎◌, List, [], ◌∷◌, ℤ, All, arith, refl, sym, ◌∙◌, ap, ap₂, subst, subst₂, inl, inr, ⊎_elim}
 use Rattle.std.proofs.lemmas.List.Elements.{All-head, All-tail}
 use Rattle.std.proofs.lemmas.Int.{ints, by_lt_z}
 use Rattle.vipr_spec.specs.Fraction.{ℚ, zero_ℚ, ◌+ℚ◌, ◌*ℚ◌, neg_ℚ, ◌≤ℚ◌, whole, IsWhole}
-use Rattle.vipr_spec.specs.Constraint.{Sense, at_most, equal, at_least, Condition, Point, value, Compares, IsTrueAt, IsAbsurd, Dominates, Entry, sum_over, signed, pull, HasSense, sum_of, IsWholeRow, RoundsTo, DominatesRounded, IsCut, IsSplit, Combines, CombinesRounded, Unsplits}
+use Rattle.vipr_spec.specs.Constraint.{Sense, at_most, equal, at_least, Ints, IsInteger, Condition, Point, value, Compares, IsTrueAt, IsAbsurd, Dominates, Entry, sum_over, signed, pull, HasSense, sum_of, IsWholeRow, RoundsTo, DominatesRounded, IsCut, IsSplit, Combines, CombinesRounded, Unsplits}
 use Rattle.vipr_spec.proofs.Fractions.{ring_ℚ, zero-mul_ℚ, add-zero_ℚ, zero-add_ℚ, le_refl_ℚ, le_of_eq_ℚ, le_trans_ℚ, le_antisymm_ℚ, add-le-add_ℚ, mul-le_ℚ, mul-le-neg_ℚ, neg-add_ℚ, whole-le, IsWhole-zero, IsWhole-add, IsWhole-mul, zero_or_not}
 
 -- ---- values
@@ -98,10 +98,10 @@ sum_true n x es s h t = subst (λ v. Compares s v (sum_over (λ e. e.0 *ℚ e.1.
     by equal h = le_antisymm_ℚ _ _ (down (λ k d l. le_of_eq_ℚ _ _ (h k d l))) (up (λ k d l. le_of_eq_ℚ _ _ (sym (h k d l))))
 
 -- ---- whole rows
-abbrev pub IsWholePoint : List ℕ → Point → Type 0
-IsWholePoint integers x = (j : ℕ) → Contains integers j → IsWhole (x j)
+abbrev pub IsWholePoint : Ints → Point → Type 0
+IsWholePoint integers x = (j : ℕ) → IsInteger integers j → IsWhole (x j)
 
-pub whole_value : (integers : List ℕ) (n : ℕ) (x : Point) (row : ℕ → ℚ) → IsWholeRow integers row → IsWholePoint integers x → IsWhole (value n row x)
+pub whole_value : (integers : Ints) (n : ℕ) (x : Point) (row : ℕ → ℚ) → IsWholeRow integers row → IsWholePoint integers x → IsWhole (value n row x)
 whole_value integers zero x row h w = IsWhole-zero
 whole_value integers (suc n) x row h w = IsWhole-add _ _ (whole_value integers n x row h w) (⊎_elim
     (λ (z : row n ≡ zero_ℚ). subst IsWhole (sym (zero-mul_ℚ (x n)) ∙ ap (λ a. a *ℚ x n) (sym z)) IsWhole-zero)
@@ -118,7 +118,7 @@ rounded_true n x c d w (inr h) t = dominates_true n x _ d h.2 (subst (λ v. Comp
     (rounded_at c.sense w.0 h.0 c.bound h.1 (subst (λ v. Compares c.sense v c.bound) w.1 t)))
 
 -- ---- one side of a split is true
-cut_true : (integers : List ℕ) (n : ℕ) (x : Point) (low high : Condition) → IsCut integers low high → IsWholePoint integers x → IsTrueAt n low x ⊎ IsTrueAt n high x
+cut_true : (integers : Ints) (n : ℕ) (x : Point) (low high : Condition) → IsCut integers low high → IsWholePoint integers x → IsTrueAt n low x ⊎ IsTrueAt n high x
 cut_true integers n x low high h w = by_lt_z k m
     (λ l. inr (rw (h.senses.1) (subst₂ (λ u v. u ≤ℚ v) (sym h.bounds.2) (sym is.1 ∙ value_same n x low.row high.row h.row) (whole-le _ _ (omega (arith, ints))))))
     (λ l. inl (rw (h.senses.0) (subst₂ (λ u v. u ≤ℚ v) (sym is.1) (sym h.bounds.1) (whole-le _ _ l))))
@@ -132,7 +132,7 @@ cut_true integers n x low high h w = by_lt_z k m
     k : ℤ
     k = h.bounds.0
 
-pub split_true : (integers : List ℕ) (n : ℕ) (x : Point) (a b : Condition) → IsSplit integers a b → IsWholePoint integers x → IsTrueAt n a x ⊎ IsTrueAt n b x
+pub split_true : (integers : Ints) (n : ℕ) (x : Point) (a b : Condition) → IsSplit integers a b → IsWholePoint integers x → IsTrueAt n a x ⊎ IsTrueAt n b x
 split_true integers n x a b (inl h) w = cut_true integers n x a b h w
 split_true integers n x a b (inr h) w = ⊎_elim inr inl (cut_true integers n x b a h w)
 
@@ -140,10 +140,10 @@ split_true integers n x a b (inr h) w = ⊎_elim inr inl (cut_true integers n x 
 pub lin_true : (n : ℕ) (x : Point) (es : List Entry) (d : Condition) → Combines es d → All (IsTrueEntry n x) es → IsTrueAt n d x
 lin_true n x es d h t = dominates_true n x _ d h.2 (sum_true n x es h.0 h.1 t)
 
-pub rnd_true : (integers : List ℕ) (n : ℕ) (x : Point) (es : List Entry) (d : Condition) → CombinesRounded integers es d → IsWholePoint integers x → All (IsTrueEntry n x) es → IsTrueAt n d x
+pub rnd_true : (integers : Ints) (n : ℕ) (x : Point) (es : List Entry) (d : Condition) → CombinesRounded integers es d → IsWholePoint integers x → All (IsTrueEntry n x) es → IsTrueAt n d x
 rnd_true integers n x es d h w t = rounded_true n x _ d (whole_value integers n x _ h.2 w) h.3 (sum_true n x es h.0 h.1 t)
 
-pub uns_true : (integers : List ℕ) (n : ℕ) (x : Point) (a b from_a from_b d : Condition) → Unsplits integers a b from_a from_b d → IsWholePoint integers x
+pub uns_true : (integers : Ints) (n : ℕ) (x : Point) (a b from_a from_b d : Condition) → Unsplits integers a b from_a from_b d → IsWholePoint integers x
     → (IsTrueAt n a x → IsTrueAt n from_a x) → (IsTrueAt n b x → IsTrueAt n from_b x) → IsTrueAt n d x
 uns_true integers n x a b from_a from_b d h w f g = ⊎_elim
     (λ t. dominates_true n x from_a d h.1 (f t)) (λ t. dominates_true n x from_b d h.2 (g t)) (split_true integers n x a b h.0 w)

@@ -21,7 +21,7 @@ longer f g xs ys zs d i h =
     ∙ get_or_append_left (map f xs ++ map g ys) (map g zs) d i small
 
 pub constraint_before : (c : Certificate) (ds : List Derivation) (i : ℕ) → i < count c → constraint_at (with_more c ds) i ≡ constraint_at c i
-constraint_before c ds i h = longer condition (λ d. condition d.stated) c.problem.constraints c.derivations ds _ i h
+constraint_before c ds i h = longer (λ n. condition n.item) (λ d. condition d.stated) c.problem.constraints c.derivations ds _ i h
 
 pub reason_before : (c : Certificate) (ds : List Derivation) (i : ℕ) → i < count c → reason_at (with_more c ds) i ≡ reason_at c i
 reason_before c ds i h = longer (λ a. None) (λ d. Some d.reason) c.problem.constraints c.derivations ds None i h
@@ -86,7 +86,7 @@ next f g xs ys y d =
     ∙ ap (λ n. slice_index_or (all ++ g y ∷ []) n d) (sym size) ∙ get_or-append_seam all (g y) [] d
 
 pub constraint_next : (c : Certificate) (d : Derivation) → constraint_at (with_more c (d ∷ [])) (count c) ≡ condition d.stated
-constraint_next c d = next condition (λ s. condition s.stated) c.problem.constraints c.derivations d _
+constraint_next c d = next (λ n. condition n.item) (λ s. condition s.stated) c.problem.constraints c.derivations d _
 
 pub reason_next : (c : Certificate) (d : Derivation) → reason_at (with_more c (d ∷ [])) (count c) ≡ Some d.reason
 reason_next c d = next (λ a. None) (λ s. Some s.reason) c.problem.constraints c.derivations d None

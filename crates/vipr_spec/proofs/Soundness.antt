@@ -4,7 +4,7 @@ use Rattle.std.proofs.lemmas.List.Elements.{All-head, All-tail, All-cons, All-ni
 use native.Mathlib.Decide.{ℕ_discrete}
 use Rattle.vipr_spec.specs.Fraction.{ℚ, zero_ℚ}
 use Rattle.vipr_spec.specs.Constraint.{Row, at, Constraint, Condition, condition, Point, Compares, IsTrueAt, IsAbsurd, Dominates}
-use Rattle.vipr_spec.specs.Certificate.{Direction, minimum, maximum, Problem, Claim, infeasible, range, Reason, asm, lin, rnd, uns, sol, Derivation, Certificate, IsFeasible, objective_at, IsAsGood, IsAsGoodAt, dual_bound, primal_bound, IsAttained, IsTrueClaim, constraint_at, reason_at, RestsOn, itself, by_lin, by_rnd, by_first, by_second, RestsOnNothing, entries, reaches, stays, objective_constraint, IsValid, MeetsDual, NeedsGoal, MeetsPrimal, count, IsProof}
+use Rattle.vipr_spec.specs.Certificate.{Named, variables, Direction, minimum, maximum, Problem, Claim, infeasible, range, Reason, asm, lin, rnd, uns, sol, Derivation, Certificate, IsFeasible, objective_at, IsAsGood, IsAsGoodAt, dual_bound, primal_bound, IsAttained, IsTrueClaim, constraint_at, reason_at, RestsOn, itself, by_lin, by_rnd, by_first, by_second, RestsOnNothing, entries, reaches, stays, objective_constraint, IsValid, MeetsDual, NeedsGoal, MeetsPrimal, count, IsProof}
 use Rattle.vipr_spec.proofs.Fractions.{le_refl_ℚ, le_trans_ℚ, le_total_ℚ}
 use Rattle.vipr_spec.proofs.Linear.{absurd_false, value-zero, dominates_true, IsTrueEntry, lin_true, rnd_true, uns_true}
 
@@ -22,20 +22,20 @@ as_good_total minimum v w = le_total_ℚ v w
 as_good_total maximum v w = le_total_ℚ w v
 
 -- no point of the list has a better objective
-abbrev pub IsAdmitted : Problem → List Row → Point → Type 0
-IsAdmitted p ss x = All (λ s. IsAsGoodAt p x (at s)) ss
+abbrev pub IsAdmitted : Problem → List (Named Row) → Point → Type 0
+IsAdmitted p ss x = All (λ s. IsAsGoodAt p x (at s.item)) ss
 
 -- a feasible point, or a listed solution that is better, is admitted
-best : (p : Problem) (ss : List Row) (x : Point) → IsFeasible p x → All (λ s. IsFeasible p (at s)) ss → (z : Point) × IsFeasible p z × IsAdmitted p ss z × IsAsGoodAt p z x
+best : (p : Problem) (ss : List (Named Row)) (x : Point) → IsFeasible p x → All (λ s. IsFeasible p (at s.item)) ss → (z : Point) × IsFeasible p z × IsAdmitted p ss z × IsAsGoodAt p z x
 best p [] x f all = (x, f, All-nil _, as_good_refl p.direction _)
 best p (s ∷ ss) x f all =
-    let r = best p ss x f (All-tail (λ s. IsFeasible p (at s)) s ss all) in
+    let r = best p ss x f (All-tail (λ s. IsFeasible p (at s.item)) s ss all) in
     ⊎_elim
-    (λ (h : IsAsGoodAt p r.0 (at s)). (r.0, r.1, All-cons (λ s. IsAsGoodAt p r.0 (at s)) s ss h r.2, r.3))
-    (λ (h : IsAsGoodAt p (at s) r.0). (
-      at s,
-      All-head (λ s. IsFeasible p (at s)) s ss all,
-      All-cons (λ t. IsAsGoodAt p (at s) (at t)) s ss (as_good_refl p.direction (objective_at p (at s))) (λ k d l. as_good_trans p.direction _ _ _ h (r.2 k d l)),
+    (λ (h : IsAsGoodAt p r.0 (at s.item)). (r.0, r.1, All-cons (λ s. IsAsGoodAt p r.0 (at s.item)) s ss h r.2, r.3))
+    (λ (h : IsAsGoodAt p (at s.item) r.0). (
+      at s.item,
+      All-head (λ s. IsFeasible p (at s.item)) s ss all,
+      All-cons (λ t. IsAsGoodAt p (at s.item) (at t.item)) s ss (as_good_refl p.direction (objective_at p (at s.item))) (λ k d l. as_good_trans p.direction _ _ _ h (r.2 k d l)),
       as_good_trans p.direction _ _ _ h r.3,
     ))
     (as_good_total p.direction _ _)
@@ -46,31 +46,31 @@ reached maximum v w h = h
 
 -- ---- the induction
 abbrev pub IsTrueOf : Certificate → Point → ℕ → Type 0
-IsTrueOf c x k = IsTrueAt c.problem.variables (constraint_at c k) x
+IsTrueOf c x k = IsTrueAt (variables c.problem) (constraint_at c k) x
 
 -- constraint k is true where the assumptions that it rests on are
 abbrev pub Follows : Certificate → Point → ℕ → Type 0
 Follows c x k = ((a : ℕ) → RestsOn c k a → IsTrueOf c x a) → IsTrueOf c x k
 
-given_at : (P : Condition → Type 0) (gs : List Constraint) (ds : List Derivation) (d : Condition) (k : ℕ) → All (λ g. P (condition g)) gs → P d
+given_at : (P : Condition → Type 0) (gs : List (Named Constraint)) (ds : List Derivation) (d : Condition) (k : ℕ) → All (λ g. P (condition g.item)) gs → P d
     → slice_index_or (map (λ a. None) gs ++ map (λ s. Some s.reason) ds) k None ≡ None
-    → P (slice_index_or (map condition gs ++ map (λ s. condition s.stated) ds) k d)
+    → P (slice_index_or (map (λ g. condition g.item) gs ++ map (λ s. condition s.stated) ds) k d)
 given_at P [] [] d k h q e = q
 given_at P [] (s ∷ ds) d zero h q e = cc
 given_at P [] (s ∷ ds) d (suc k) h q e = given_at P [] ds d k h q e
-given_at P (g ∷ gs) ds d zero h q e = All-head (λ g. P (condition g)) g gs h
-given_at P (g ∷ gs) ds d (suc k) h q e = given_at P gs ds d k (All-tail (λ g. P (condition g)) g gs h) q e
+given_at P (g ∷ gs) ds d zero h q e = All-head (λ g. P (condition g.item)) g gs h
+given_at P (g ∷ gs) ds d (suc k) h q e = given_at P gs ds d k (All-tail (λ g. P (condition g.item)) g gs h) q e
 
 entries_true : (c : Certificate) (x : Point) (k : ℕ) (es : List (ℕ × ℚ))
     → ((e : ℕ × ℚ) → Contains es e → e.1 ≢ zero_ℚ → (a : ℕ) → RestsOn c e.0 a → RestsOn c k a)
     → All (λ e. e.0 < k) es → ((j : ℕ) → j < k → Follows c x j) → ((a : ℕ) → RestsOn c k a → IsTrueOf c x a)
-    → All (IsTrueEntry c.problem.variables x) (entries c es)
-entries_true c x k es rests small below h = All-map (IsTrueEntry c.problem.variables x) (λ (e : ℕ × ℚ). (e.1, constraint_at c e.0)) es
+    → All (IsTrueEntry (variables c.problem) x) (entries c es)
+entries_true c x k es rests small below h = All-map (IsTrueEntry (variables c.problem) x) (λ (e : ℕ × ℚ). (e.1, constraint_at c e.0)) es
     (λ i d l n. below _ (small i d l) (λ a r. h a (rests _ (Contains-get_or es i d l) n a r)))
 
 module _ (c : Certificate) (x : Point) (feasible : IsFeasible c.problem x) (admitted : IsAdmitted c.problem c.solutions x) where
   step : (k : ℕ) (r : Option Reason) → reason_at c k ≡ r → IsValid c k r → ((j : ℕ) → j < k → Follows c x j) → Follows c x k
-  step k None e v below h = given_at (λ a. IsTrueAt c.problem.variables a x) c.problem.constraints c.derivations _ k feasible.meets (value-zero c.problem.variables x _ (λ j. refl)) e
+  step k None e v below h = given_at (λ a. IsTrueAt (variables c.problem) a x) c.problem.constraints c.derivations _ k feasible.meets (value-zero (variables c.problem) x _ (λ j. refl)) e
   step k (Some asm) e v below h = h k (itself e)
   step k (Some (lin es)) e v below h = lin_true _ x _ _ v.1 (entries_true c x k es (λ i m n a r. by_lin es i e m n r) v.0 below h)
   step k (Some (rnd es)) e v below h = rnd_true _ _ x _ _ v.1 feasible.whole (entries_true c x k es (λ i m n a r. by_rnd es i e m n r) v.0 below h)
@@ -84,7 +84,7 @@ module _ (c : Certificate) (x : Point) (feasible : IsFeasible c.problem x) (admi
           by : Dec (a ≡ l) → IsTrueOf c x a
           by (yes e) = subst (IsTrueOf c x) (sym e) t
           by (no n) = f n
-  step k (Some sol) e v below h = dominates_true _ x _ _ v.2 (reached c.problem.direction _ _ (All-contains (λ s. IsAsGoodAt c.problem x (at s)) c.solutions v.0 admitted v.1.0))
+  step k (Some sol) e v below h = dominates_true _ x _ _ v.2 (reached c.problem.direction _ _ (All-contains (λ s. IsAsGoodAt c.problem x (at s.item)) c.solutions v.0 admitted v.1.0))
 
   all : (p : (k : ℕ) → IsValid c k (reason_at c k)) (n k : ℕ) → k < n → Follows c x k
   all p zero k h = absurd (not-suc-le-zero h)
@@ -97,7 +97,7 @@ no_better c p x f =
     let b = best c.problem c.solutions x f p.solutions in
     (b.0, b.1, b.3, λ g none. all c b.0 b.1 b.2 p.steps (suc g) g (omega arith) (λ a r. absurd (none a r)))
 
-dual_true : (p : Problem) (d : Direction) (bound : ℚ) (goal : Condition) (z : Point) → Dominates goal (objective_constraint p (stays d) bound) → IsTrueAt p.variables goal z → IsAsGood d bound (objective_at p z)
+dual_true : (p : Problem) (d : Direction) (bound : ℚ) (goal : Condition) (z : Point) → Dominates goal (objective_constraint p (stays d) bound) → IsTrueAt (variables p) goal z → IsAsGood d bound (objective_at p z)
 dual_true p minimum bound goal z h t = dominates_true _ z _ _ h t
 dual_true p maximum bound goal z h t = dominates_true _ z _ _ h t
 
@@ -114,9 +114,9 @@ dual_side : (c : Certificate) → IsProof c → (o : Option ℚ)
 dual_side c p None h = tt
 dual_side c p (Some bound) h = let g = h refl in of_dual c p bound g.0 g.2 g.3
 
-primal_side : (c : Certificate) → IsProof c → (o : Option ℚ) → IfSome o (λ bound. (s : Row) × Contains c.solutions s × IsAsGood c.problem.direction (objective_at c.problem (at s)) bound) → IfSome o (IsAttained c.problem c.solutions)
+primal_side : (c : Certificate) → IsProof c → (o : Option ℚ) → IfSome o (λ bound. (s : Named Row) × Contains c.solutions s × IsAsGood c.problem.direction (objective_at c.problem (at s.item)) bound) → IfSome o (IsAttained c.problem c.solutions)
 primal_side c p None h = h
-primal_side c p (Some bound) h = (h.0, h.1, All-contains (λ s. IsFeasible c.problem (at s)) c.solutions h.0 p.solutions h.1, h.2)
+primal_side c p (Some bound) h = (h.0, h.1, All-contains (λ s. IsFeasible c.problem (at s.item)) c.solutions h.0 p.solutions h.1, h.2)
 
 claim_by : (c : Certificate) → IsProof c → (q : Claim) → MeetsPrimal c.problem c.solutions q
     → (NeedsGoal c.problem q → (goal : ℕ) × (goal < count c) × RestsOnNothing c goal × MeetsDual c.problem q (constraint_at c goal))
@@ -125,5 +125,5 @@ claim_by c p infeasible primal dual = let g = dual tt in of_infeasible c p g.0 g
 claim_by c p (range lower upper) primal dual =
     (dual_side c p (dual_bound c.problem.direction lower upper) dual, primal_side c p (primal_bound c.problem.direction lower upper) primal)
 
-pub claim_true : (c : Certificate) → IsProof c → IsTrueClaim c.problem c.solutions c.claim
-claim_true c p = claim_by c p c.claim p.primal (λ n. let g = p.dual n in (g.0, g.1.0, g.1.1, g.1.2))
+pub claim_true : (c : Certificate) → IsProof c → IsTrueClaim c.problem c.solutions c.problem.claim
+claim_true c p = claim_by c p c.problem.claim p.primal (λ n. let g = p.dual n in (g.0, g.1.0, g.1.1, g.1.2))

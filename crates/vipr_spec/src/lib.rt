@@ -16,10 +16,10 @@ pub fn cross_products()
 
 /// What a proof claims is true.
 pub fn proofs_are_true()
-    ensures { (c : Certificate) → IsProof c → IsTrueClaim c.problem c.solutions c.claim }
+    ensures { (c : Certificate) → IsProof c → IsTrueClaim c.problem c.solutions c.problem.claim }
 {}
 
 /// No point of numerators over one denominator is feasible where a proof claims so.
 pub fn infeasible_has_no_point()
-    ensures { (c : Certificate) → IsProof c → c.claim ≡ infeasible → (numer : ℕ → ℤ) (denom : ℕ) → 0 < denom → ¬ IsFeasible c.problem (λ j. over (numer j) denom) }
+    ensures { (c : Certificate) → IsProof c → c.problem.claim ≡ infeasible → (numer : ℕ → ℤ) (denom : ℕ) → 0 < denom → ¬ IsFeasible c.problem (λ j. over (numer j) denom) }
 {}
