@@ -22,7 +22,7 @@ value_same : (n : ℕ) (x : Point) (a b : ℕ → ℚ) → ((j : ℕ) → a j �
 value_same zero x a b h = refl
 value_same (suc n) x a b h = ap₂ (λ v c. v +ℚ c *ℚ x n) (value_same n x a b h) (h n)
 
-value_sum : (n : ℕ) (x : Point) (es : List Entry) → value n (λ j. sum_over (λ e. e.0 *ℚ e.1.row j) es) x ≡ sum_over (λ e. e.0 *ℚ value n e.1.row x) es
+pub value_sum : (n : ℕ) (x : Point) (es : List Entry) → value n (λ j. sum_over (λ e. e.0 *ℚ e.1.row j) es) x ≡ sum_over (λ e. e.0 *ℚ value n e.1.row x) es
 value_sum n x [] = value-zero n x _ (λ j. refl)
 value_sum n x (e ∷ es) = value_step n x e.0 e.1.row (λ j. sum_over (λ e. e.0 *ℚ e.1.row j) es) ∙ ap (λ v. e.0 *ℚ value n e.1.row x +ℚ v) (value_sum n x es)
 

@@ -5,6 +5,7 @@ use native.Mathlib.Decide.{ℕ_discrete}
 use Rattle.vipr_spec.specs.Fraction.{ℚ, zero_ℚ}
 use Rattle.vipr_spec.specs.Constraint.{Row, at, Constraint, Condition, condition, Point, Compares, IsTrueAt, IsAbsurd, Dominates}
 use Rattle.vipr_spec.specs.Certificate.{Named, variables, Direction, minimum, maximum, Problem, Claim, infeasible, range, Reason, asm, lin, rnd, uns, sol, Derivation, Certificate, IsFeasible, objective_at, IsAsGood, IsAsGoodAt, dual_bound, primal_bound, IsAttained, IsTrueClaim, constraint_at, reason_at, RestsOn, itself, by_lin, by_rnd, by_first, by_second, RestsOnNothing, entries, reaches, stays, objective_constraint, IsValid, MeetsDual, NeedsGoal, MeetsPrimal, count, IsProof}
+use Rattle.vipr_spec.specs.Soundness.{IsAdmitted, IsTrueOf, IsSound}
 use Rattle.vipr_spec.proofs.Fractions.{le_refl_ℚ, le_trans_ℚ, le_total_ℚ}
 use Rattle.vipr_spec.proofs.Linear.{absurd_false, value-zero, dominates_true, IsTrueEntry, lin_true, rnd_true, uns_true}
 
@@ -21,12 +22,12 @@ as_good_total : (d : Direction) (v w : ℚ) → IsAsGood d v w ⊎ IsAsGood d w 
 as_good_total minimum v w = le_total_ℚ v w
 as_good_total maximum v w = le_total_ℚ w v
 
--- no point of the list has a better objective
-abbrev pub IsAdmitted : Problem → List (Named Row) → Point → Type 0
-IsAdmitted p ss x = All (λ s. IsAsGoodAt p x (at s.item)) ss
+-- no listed solution has a better objective
+abbrev IsUnbeaten : Problem → List (Named Row) → Point → Type 0
+IsUnbeaten p ss x = All (λ s. IsAsGoodAt p x (at s.item)) ss
 
 -- a feasible point, or a listed solution that is better, is admitted
-best : (p : Problem) (ss : List (Named Row)) (x : Point) → IsFeasible p x → All (λ s. IsFeasible p (at s.item)) ss → (z : Point) × IsFeasible p z × IsAdmitted p ss z × IsAsGoodAt p z x
+best : (p : Problem) (ss : List (Named Row)) (x : Point) → IsFeasible p x → All (λ s. IsFeasible p (at s.item)) ss → (z : Point) × IsFeasible p z × IsUnbeaten p ss z × IsAsGoodAt p z x
 best p [] x f all = (x, f, All-nil _, as_good_refl p.direction _)
 best p (s ∷ ss) x f all =
     let r = best p ss x f (All-tail (λ s. IsFeasible p (at s.item)) s ss all) in
@@ -45,12 +46,9 @@ reached minimum v w h = h
 reached maximum v w h = h
 
 -- ---- the induction
-abbrev pub IsTrueOf : Certificate → Point → ℕ → Type 0
-IsTrueOf c x k = IsTrueAt (variables c.problem) (constraint_at c k) x
-
--- constraint k is true where the assumptions that it rests on are
-abbrev pub Follows : Certificate → Point → ℕ → Type 0
-Follows c x k = ((a : ℕ) → RestsOn c k a → IsTrueOf c x a) → IsTrueOf c x k
+-- constraint k is true at x if the assumptions that it rests on are
+abbrev Follows : Certificate → Point → ℕ → Type 0
+Follows c x k = ((a : ℕ) → RestsOn c k a → IsTrueOf c a x) → IsTrueOf c k x
 
 given_at : (P : Condition → Type 0) (gs : List (Named Constraint)) (ds : List Derivation) (d : Condition) (k : ℕ) → All (λ g. P (condition g.item)) gs → P d
     → slice_index_or (map (λ a. None) gs ++ map (λ s. Some s.reason) ds) k None ≡ None
@@ -63,41 +61,47 @@ given_at P (g ∷ gs) ds d (suc k) h q e = given_at P gs ds d k (All-tail (λ g.
 
 entries_true : (c : Certificate) (x : Point) (k : ℕ) (es : List (ℕ × ℚ))
     → ((e : ℕ × ℚ) → Contains es e → e.1 ≢ zero_ℚ → (a : ℕ) → RestsOn c e.0 a → RestsOn c k a)
-    → All (λ e. e.0 < k) es → ((j : ℕ) → j < k → Follows c x j) → ((a : ℕ) → RestsOn c k a → IsTrueOf c x a)
+    → All (λ e. e.0 < k) es → ((j : ℕ) → j < k → Follows c x j) → ((a : ℕ) → RestsOn c k a → IsTrueOf c a x)
     → All (IsTrueEntry (variables c.problem) x) (entries c es)
 entries_true c x k es rests small below h = All-map (IsTrueEntry (variables c.problem) x) (λ (e : ℕ × ℚ). (e.1, constraint_at c e.0)) es
     (λ i d l n. below _ (small i d l) (λ a r. h a (rests _ (Contains-get_or es i d l) n a r)))
 
-module _ (c : Certificate) (x : Point) (feasible : IsFeasible c.problem x) (admitted : IsAdmitted c.problem c.solutions x) where
+module _ (c : Certificate) (x : Point) (admitted : IsAdmitted c.problem c.solutions x) where
   step : (k : ℕ) (r : Option Reason) → reason_at c k ≡ r → IsValid c k r → ((j : ℕ) → j < k → Follows c x j) → Follows c x k
-  step k None e v below h = given_at (λ a. IsTrueAt (variables c.problem) a x) c.problem.constraints c.derivations _ k feasible.meets (value-zero (variables c.problem) x _ (λ j. refl)) e
+  step k None e v below h = given_at (λ a. IsTrueAt (variables c.problem) a x) c.problem.constraints c.derivations _ k admitted.feasible.meets (value-zero (variables c.problem) x _ (λ j. refl)) e
   step k (Some asm) e v below h = h k (itself e)
   step k (Some (lin es)) e v below h = lin_true _ x _ _ v.1 (entries_true c x k es (λ i m n a r. by_lin es i e m n r) v.0 below h)
-  step k (Some (rnd es)) e v below h = rnd_true _ _ x _ _ v.1 feasible.whole (entries_true c x k es (λ i m n a r. by_rnd es i e m n r) v.0 below h)
-  step k (Some (uns i1 l1 i2 l2)) e v below h = uns_true _ _ x _ _ _ _ _ v.6 feasible.whole
+  step k (Some (rnd es)) e v below h = rnd_true _ _ x _ _ v.1 admitted.feasible.whole (entries_true c x k es (λ i m n a r. by_rnd es i e m n r) v.0 below h)
+  step k (Some (uns i1 l1 i2 l2)) e v below h = uns_true _ _ x _ _ _ _ _ v.6 admitted.feasible.whole
       (λ t. below i1 v.0 (λ a r. either a l1 t (λ n. h a (by_first i1 l1 i2 l2 e r n))))
       (λ t. below i2 v.2 (λ a r. either a l2 t (λ n. h a (by_second i1 l1 i2 l2 e r n))))
     where
-      either : (a l : ℕ) → IsTrueOf c x l → (a ≢ l → IsTrueOf c x a) → IsTrueOf c x a
+      either : (a l : ℕ) → IsTrueOf c l x → (a ≢ l → IsTrueOf c a x) → IsTrueOf c a x
       either a l t f = by (ℕ_discrete a l)
         where
-          by : Dec (a ≡ l) → IsTrueOf c x a
-          by (yes e) = subst (IsTrueOf c x) (sym e) t
+          by : Dec (a ≡ l) → IsTrueOf c a x
+          by (yes e) = subst (λ b. IsTrueOf c b x) (sym e) t
           by (no n) = f n
-  step k (Some sol) e v below h = dominates_true _ x _ _ v.2 (reached c.problem.direction _ _ (All-contains (λ s. IsAsGoodAt c.problem x (at s.item)) c.solutions v.0 admitted v.1.0))
+  step k (Some sol) e v below h = dominates_true _ x _ _ v.2 (reached c.problem.direction _ _ (All-contains (λ s. IsAsGoodAt c.problem x (at s.item)) c.solutions v.0 admitted.unbeaten v.1.0))
 
-  all : (p : (k : ℕ) → IsValid c k (reason_at c k)) (n k : ℕ) → k < n → Follows c x k
-  all p zero k h = absurd (not-suc-le-zero h)
-  all p (suc n) k h = step k (reason_at c k) refl (p k) (λ j l. all p n j (omega arith))
+pub step_sound : (c : Certificate) (k : ℕ) → IsValid c k (reason_at c k) → ((j : ℕ) → j < k → IsSound c j) → IsSound c k
+step_sound c k v below x admitted = step c x admitted k (reason_at c k) refl v (λ j l. below j l x admitted)
+
+below_sound : (c : Certificate) → ((k : ℕ) → IsValid c k (reason_at c k)) → (n k : ℕ) → k < n → IsSound c k
+below_sound c p zero k h = absurd (not-suc-le-zero h)
+below_sound c p (suc n) k h = step_sound c k (p k) (λ j l. below_sound c p n j (omega arith))
+
+pub all_sound : (c : Certificate) → ((k : ℕ) → IsValid c k (reason_at c k)) → (k : ℕ) → IsSound c k
+all_sound c p k = below_sound c p (suc k) k (omega arith)
 
 -- ---- the claim
 no_better : (c : Certificate) → IsProof c → (x : Point) → IsFeasible c.problem x
-    → (z : Point) × IsFeasible c.problem z × IsAsGood c.problem.direction (objective_at c.problem z) (objective_at c.problem x) × ((g : ℕ) → RestsOnNothing c g → IsTrueOf c z g)
+    → (z : Point) × IsFeasible c.problem z × IsAsGood c.problem.direction (objective_at c.problem z) (objective_at c.problem x) × ((g : ℕ) → RestsOnNothing c g → IsTrueOf c g z)
 no_better c p x f =
     let b = best c.problem c.solutions x f p.solutions in
-    (b.0, b.1, b.3, λ g none. all c b.0 b.1 b.2 p.steps (suc g) g (omega arith) (λ a r. absurd (none a r)))
+    (b.0, b.1, b.3, λ g none. all_sound c p.steps g b.0 (record { feasible = b.1; unbeaten = b.2 }) (λ a r. absurd (none a r)))
 
-dual_true : (p : Problem) (d : Direction) (bound : ℚ) (goal : Condition) (z : Point) → Dominates goal (objective_constraint p (stays d) bound) → IsTrueAt (variables p) goal z → IsAsGood d bound (objective_at p z)
+pub dual_true : (p : Problem) (d : Direction) (bound : ℚ) (goal : Condition) (z : Point) → Dominates goal (objective_constraint p (stays d) bound) → IsTrueAt (variables p) goal z → IsAsGood d bound (objective_at p z)
 dual_true p minimum bound goal z h t = dominates_true _ z _ _ h t
 dual_true p maximum bound goal z h t = dominates_true _ z _ _ h t
 
