@@ -1,0 +1,392 @@
+#!/usr/bin/env python3
+"""A plain model of `vipr check`: the rules of docs/FORMAT.md over Python's whole numbers, with no care for speed.
+
+usage: plain_check.py [FILE ..]
+
+Prints for each file (standard input without one) what `vipr check` is to print, as a second opinion on certificates
+written by hand and on the proved program. It shares no code with it and proves nothing.
+"""
+import re
+import sys
+from fractions import Fraction
+from math import ceil, floor, gcd
+
+LARGEST = 2**127 - 1
+LARGEST_COUNT = 2**32 - 1
+LONGEST_TOKEN = 65535
+SPACE = b"\t\n\v\f\r "
+TOKEN = re.compile(rb"[^\t-\r ]+")
+
+
+class Refused(Exception):
+    """A fault: its cause's number, and where it lies."""
+
+
+class Unfit(Exception):
+    """A product or a sum is out of bound."""
+
+
+def bounded(*numbers):
+    if any(abs(number) > LARGEST for number in numbers):
+        raise Unfit
+
+
+def add(x, y):
+    shared = gcd(x.denominator, y.denominator)
+    left = x.numerator * (y.denominator // shared)
+    right = y.numerator * (x.denominator // shared)
+    total = left + right
+    common = gcd(total, shared)
+    bounded(left, right, total, (x.denominator // shared) * (y.denominator // common))
+    return x + y
+
+
+def multiply(x, y):
+    product = x * y
+    bounded(product.numerator, product.denominator)
+    return product
+
+
+class Tokens:
+    """The tokens of a text, with their offsets."""
+
+    def __init__(self, text):
+        self.text = text
+        self.at = 0
+        while self.at < len(text) and (text[self.at] in SPACE or text[self.at : self.at + 1] == b"%"):
+            if text[self.at] in SPACE:
+                self.at += 1
+            else:
+                end = text.find(b"\n", self.at)
+                self.at = len(text) if end < 0 else end + 1
+
+    def peek(self):
+        """The next token and its offset, or None at the end."""
+        found = TOKEN.search(self.text, self.at)
+        return found and (found[0], found.start())
+
+    def next(self):
+        found = self.peek()
+        if found is None:
+            raise Refused(1, f"byte {len(self.text)}")
+        token, offset = found
+        self.at = offset + len(token)
+        if len(token) > LONGEST_TOKEN:
+            raise Refused(17, f"byte {offset}")
+        return token, offset
+
+    def one_of(self, cause, *words):
+        token, offset = self.next()
+        if token not in words:
+            raise Refused(cause, f"byte {offset}")
+        return token
+
+    def count(self, before=0):
+        token, offset = self.next()
+        if not token.isdigit():
+            raise Refused(7, f"byte {offset}")
+        if before + int(token) > LARGEST_COUNT:
+            raise Refused(8, f"byte {offset}")
+        return int(token)
+
+    def number(self, infinite=None):
+        token, offset = self.next()
+        if token == infinite:
+            return None
+        parts = re.fullmatch(rb"([-+]?)([0-9]+)(?:/([0-9]+))?", token)
+        if not parts:
+            raise Refused(4, f"byte {offset}")
+        top, bottom = int(parts[2]), int(parts[3] or b"1")
+        if max(top, bottom) > LARGEST:
+            raise Refused(5, f"byte {offset}")
+        if bottom == 0:
+            raise Refused(6, f"byte {offset}")
+        return Fraction(-top if parts[1] == b"-" else top, bottom)
+
+    def variable(self, variables):
+        token, offset = self.next()
+        if not token.isdigit() or int(token) >= variables:
+            raise Refused(9, f"byte {offset}")
+        return int(token), offset
+
+    def reference(self):
+        token, offset = self.next()
+        if not token.isdigit() or int(token) > LARGEST_COUNT:
+            raise Refused(16, f"byte {offset}")
+        return int(token)
+
+    def vector(self, variables, objective=None):
+        found = self.peek()
+        if objective is not None and found is not None and found[0] == b"OBJ":
+            self.next()
+            return objective
+        row, seen = {}, set()
+        for _ in range(self.count()):
+            index, offset = self.variable(variables)
+            if index in seen:
+                raise Refused(10, f"byte {offset}")
+            seen.add(index)
+            coefficient = self.number()
+            if coefficient:
+                row[index] = coefficient
+        return row
+
+    def constraint(self, variables, objective):
+        """A constraint: its row, its sense and its right side."""
+        self.next()
+        sense = self.one_of(11, b"E", b"L", b"G").decode()
+        right = self.number()
+        return self.vector(variables, objective), sense, right
+
+    def reason(self):
+        word = self.one_of(14, b"asm", b"lin", b"rnd", b"uns", b"sol").decode()
+        if word in ("lin", "rnd"):
+            return word, [(self.reference(), self.number()) for _ in range(self.count())]
+        return word, [self.reference() for _ in range(4)] if word == "uns" else []
+
+
+ABSURD = ({}, "G", Fraction(1))
+
+
+def is_absurd(constraint):
+    row, sense, right = constraint
+    return not row and {"G": right > 0, "L": right < 0, "E": right != 0}[sense]
+
+
+def dominates(strong, weak):
+    if is_absurd(strong):
+        return True
+    (row, sense, right), (wanted, stated, bound) = strong, weak
+    at_least = sense in "GE" and right >= bound
+    at_most = sense in "LE" and right <= bound
+    return row == wanted and {"G": at_least, "L": at_most, "E": at_least and at_most and sense == "E"}[stated]
+
+
+def value_at(row, point):
+    total = Fraction(0)
+    for index in sorted(row):
+        if index in point:
+            total = add(total, multiply(row[index], point[index]))
+    return total
+
+
+def holds(value, sense, right):
+    return {"G": value >= right, "L": value <= right, "E": value == right}[sense]
+
+
+def whole_at(row, integers):
+    return all(index in integers and row[index].denominator == 1 for index in row)
+
+
+def is_split(first, second, integers):
+    (row, sense, right), (other, other_sense, other_right) = sorted((first, second), key=lambda c: c[1], reverse=True)
+    return (
+        (sense, other_sense) == ("L", "G")
+        and row == other
+        and whole_at(row, integers)
+        and right.denominator == 1
+        and other_right == right + 1
+    )
+
+
+def rounded(constraint, integers, refuse):
+    row, sense, right = constraint
+    if not whole_at(row, integers):
+        refuse(36)
+    if sense == "E":
+        return constraint if right.denominator == 1 else ABSURD
+    return row, sense, Fraction(ceil(right) if sense == "G" else floor(right))
+
+
+class Checker:
+    def __init__(self, text):
+        self.tokens = Tokens(text)
+        self.constraints = []
+        self.sets = []
+        self.assumptions = set()
+        self.last = {}
+        self.best = None
+        self.proved = False
+        self.kept_for_good = self.peak = 0
+        self.kept_until = {}
+
+    def run(self):
+        self.problem()
+        for index in range(self.solutions):
+            self.solution(f"SOL {index}")
+        self.primal_side()
+        self.tokens.one_of(2, b"DER")
+        derived = self.tokens.count(self.rows)
+        for index in range(self.rows, self.rows + derived):
+            self.derivation(index)
+        left = self.tokens.peek()
+        if left is not None:
+            raise Refused(18, f"byte {left[1]}")
+        if self.goal is not None and not self.proved:
+            raise Refused(51, "end")
+        claim = "infeas" if self.bounds is None else "range {} {}".format(
+            *("-inf inf".split()[side] if bound is None else bound for side, bound in enumerate(self.bounds)))
+        return f"verified {claim}\nsolutions {self.solutions} derived {derived} peak {self.peak}"
+
+    def problem(self):
+        tokens = self.tokens
+        tokens.one_of(2, b"VER")
+        tokens.one_of(3, b"1.0")
+        tokens.one_of(2, b"VAR")
+        self.variables = variables = tokens.count()
+        for _ in range(variables):
+            tokens.next()
+        tokens.one_of(2, b"INT")
+        self.integers = {tokens.variable(variables)[0] for _ in range(tokens.count())}
+        tokens.one_of(2, b"OBJ")
+        self.minimizes = tokens.one_of(12, b"min", b"max") == b"min"
+        self.objective = tokens.vector(variables)
+        tokens.one_of(2, b"CON")
+        self.rows = tokens.count()
+        tokens.count()
+        for _ in range(self.rows):
+            self.constraints.append(tokens.constraint(variables, self.objective))
+            self.sets.append(frozenset())
+        tokens.one_of(2, b"RTP")
+        if tokens.one_of(13, b"infeas", b"range") == b"infeas":
+            self.bounds, self.primal, self.goal = None, None, ABSURD
+        else:
+            self.bounds = tokens.number(b"-inf"), tokens.number(b"inf")
+            dual, self.primal = self.bounds if self.minimizes else self.bounds[::-1]
+            self.goal = None if dual is None else (self.objective, "G" if self.minimizes else "L", dual)
+        tokens.one_of(2, b"SOL")
+        self.solutions = tokens.count()
+        for index in range(self.rows):
+            self.look_at(index)
+
+    def look_at(self, index):
+        if self.goal is not None and not self.sets[index] and dominates(self.constraints[index], self.goal):
+            self.proved = True
+
+    def solution(self, place):
+        self.tokens.next()
+        point = self.tokens.vector(self.variables)
+        if any(point[index].denominator != 1 for index in point if index in self.integers):
+            raise Refused(21, place)
+        try:
+            for row, sense, right in self.constraints:
+                if not holds(value_at(row, point), sense, right):
+                    raise Refused(22, place)
+            value = value_at(self.objective, point)
+        except Unfit:
+            raise Refused(23, place) from None
+        if self.best is None or (value < self.best if self.minimizes else value > self.best):
+            self.best = value
+
+    def primal_side(self):
+        if self.primal is None:
+            return
+        if self.best is None or (self.best > self.primal if self.minimizes else self.best < self.primal):
+            raise Refused(52, "end")
+
+    def derivation(self, own):
+        tokens = self.tokens
+        stated = tokens.constraint(self.variables, self.objective)
+        tokens.one_of(15, b"{")
+        reason, parts = tokens.reason()
+        tokens.one_of(15, b"}")
+        found = tokens.peek()
+        if found is not None and found[0] == b"-1":
+            tokens.next()
+            last = None
+        else:
+            last = tokens.reference()
+
+        def refuse(cause):
+            raise Refused(cause, f"DER {own}")
+
+        def refer(index, counts=True):
+            if index >= own:
+                refuse(31)
+            if counts and index >= self.rows and index not in self.assumptions:
+                if self.last[index] is not None and self.last[index] < own:
+                    refuse(32)
+
+        if reason == "asm":
+            rests_on = frozenset([own])
+            self.assumptions.add(own)
+        elif reason in ("lin", "rnd"):
+            for index, multiplier in parts:
+                refer(index, multiplier != 0)
+            used = [(index, multiplier) for index, multiplier in parts if multiplier]
+            computed = self.combined(used, refuse)
+            if reason == "rnd":
+                computed = rounded(computed, self.integers, refuse)
+            if not dominates(computed, stated):
+                refuse(38)
+            rests_on = frozenset().union(*(self.sets[index] for index, _ in used))
+        elif reason == "uns":
+            for index in parts:
+                refer(index)
+            first, left, second, right = parts
+            if left not in self.assumptions or right not in self.assumptions:
+                refuse(33)
+            if not is_split(self.constraints[left], self.constraints[right], self.integers):
+                refuse(37)
+            if not all(dominates(self.constraints[index], stated) for index in (first, second)):
+                refuse(38)
+            rests_on = (self.sets[first] - {left}) | (self.sets[second] - {right})
+        else:
+            if self.best is None:
+                refuse(39)
+            if not dominates((self.objective, "L" if self.minimizes else "G", self.best), stated):
+                refuse(38)
+            rests_on = frozenset()
+        self.constraints.append(stated)
+        self.sets.append(rests_on)
+        self.last[own] = last
+        self.look_at(own)
+        self.hold(own, last)
+
+    def combined(self, used, refuse):
+        row, right, sign = {}, Fraction(0), 0
+        for index, multiplier in used:
+            terms, sense, bound = self.constraints[index]
+            turned = {"G": 1, "L": -1, "E": 0}[sense] * (1 if multiplier > 0 else -1)
+            if turned * sign < 0:
+                refuse(34)
+            sign = sign or turned
+            try:
+                for variable, coefficient in terms.items():
+                    row[variable] = add(row.get(variable, Fraction(0)), multiply(multiplier, coefficient))
+                right = add(right, multiply(multiplier, bound))
+            except Unfit:
+                refuse(35)
+        return {variable: value for variable, value in row.items() if value}, "LEG"[sign + 1], right
+
+    def hold(self, own, last):
+        """Counts what is held after the derivation."""
+        self.kept_until.pop(own, None)
+        self.peak = max(self.peak, self.kept_for_good + sum(self.kept_until.values()) + 1)
+        if last is None or own in self.assumptions:
+            self.kept_for_good += 1
+        elif last > own:
+            self.kept_until[last] = self.kept_until.get(last, 0) + 1
+
+
+def verdict(text):
+    try:
+        return Checker(text).run()
+    except Refused as fault:
+        cause, place = fault.args
+        return f"refused {cause} at {place}"
+
+
+def main():
+    sys.set_int_max_str_digits(0)
+    for path in sys.argv[1:] or [None]:
+        if path is None:
+            text = sys.stdin.buffer.read()
+        else:
+            with open(path, "rb") as file:
+                text = file.read()
+        print(verdict(text))
+
+
+if __name__ == "__main__":
+    main()
