@@ -1,0 +1,5 @@
+pub mod Steps
+pub mod Views
+pub mod Sums
+pub mod Compared
+pub mod Rounding

@@ -1,0 +1,98 @@
+-- What the fields of a `Frac` say of the fraction that contracts see, and signed words that are passed on.
+use Rattle.std.proofs.Common.{◌≡◌, ℕ, zero, suc, ℤ, pos, ◌/◌, ◌<◌, ◌≤◌, refl, sym, ap, ◌∙◌, arith, to_z, of_z, int_div}
+use Rattle.std.specs.Prelude.{unsigned_abs, ◌-ℤ◌, neg_ℤ}
+use Rattle.std.specs.Int.{w128}
+use Rattle.std.proofs.Common.{FitsSigned}
+use Rattle.std.specs.Prelude.{Result, Ok, Err, IsOk}
+use Rattle.std.specs.Result.{IsErr}
+use Rattle.std.proofs.lemmas.Int.{ints, to_z-of_z, fits_signed_from_abs}
+use Rattle.std.proofs.Math.Nat.{div-le_self, le_trans}
+use Rattle.vipr_spec.specs.Gcd.{gcd}
+use Rattle.vipr_spec.specs.Lowest.{abs_div}
+use Rattle.vipr_spec.specs.Fraction.{ℚ, over, neg_ℚ, most, IsBounded}
+use Rattle.vipr_spec.proofs.Knuth.{parts_of}
+use Rattle.vipr_spec.proofs.Fractions.{is_one, is_neg, is_over}
+use Rattle.vipr_frac.specs.Parts.{IsReduced}
+use Rattle.vipr_frac.proofs.Steps.{gcd-one}
+
+-- a signed word that is passed or returned
+pub as-is : (z : ℤ) → unsigned_abs z ≤ most → to_z w128 (of_z w128 z) ≡ z
+as-is z h = to_z-of_z w128 z (fits_signed_from_abs w128 z (omega arith))
+
+pub record Facts (x : ℚ) (p : ℤ) (q : ℕ) : Type 0 where
+  pub numer : p ≡ x.numer
+  pub back : to_z w128 (of_z w128 p) ≡ x.numer
+  pub denom : q ≡ x.denom
+  pub some : 0 < x.denom
+  pub bounded : IsBounded x
+
+pub facts : (x : ℚ) (p : ℤ) (q : ℕ) → over p q ≡ x → IsReduced p q → Facts x p q
+facts x p q e h =
+    let parts = parts_of p q h.lowest in
+    let numer_is : p ≡ x.numer = sym parts.0 ∙ ap (λ (y : ℚ). y.numer) e in
+    let denom_is : q ≡ x.denom = sym parts.1 ∙ ap (λ (y : ℚ). y.denom) e in
+    record {
+      numer = numer_is;
+      back = as-is p h.numer_bounded ∙ numer_is;
+      denom = denom_is;
+      some = x.lowest.positive;
+      bounded = (rw numer_is at h.numer_bounded, rw denom_is at h.denom_bounded);
+    }
+
+-- ---- p / q in lowest terms
+pub over-parts : (p : ℤ) (q : ℕ) → 0 < q → ((over p q).numer ≡ int_div p (pos (gcd (unsigned_abs p) q))) × ((over p q).denom ≡ q / gcd (unsigned_abs p) q)
+unfolding over
+over-parts p zero h = absurd (omega arith)
+over-parts p (suc q) h = (refl, refl)
+
+-- a fraction is made of its parts
+pub over-self : (x : ℚ) → over x.numer x.denom ≡ x
+over-self x = is_one _ _ _ _ (is_over x.numer x.denom x.lowest.positive) (record { some = x.lowest.positive; cross = refl })
+
+-- reduction keeps the bound
+pub IsReduced-over : (p : ℤ) (q : ℕ) → 0 < q → unsigned_abs p ≤ most → q ≤ most → IsReduced (over p q).numer (over p q).denom
+IsReduced-over p q some h k =
+    let parts = over-parts p q some in
+    record {
+      lowest = (over p q).lowest;
+      numer_bounded = rw (parts.0, abs_div p (gcd (unsigned_abs p) q)) (le_trans (div-le_self (unsigned_abs p) _) h);
+      denom_bounded = rw parts.1 (le_trans (div-le_self q _) k);
+    }
+
+pub IsReduced-whole : (p : ℤ) → unsigned_abs p ≤ most → IsReduced p 1
+IsReduced-whole p h =
+    record { lowest = record { positive = omega arith; apart = gcd-one (unsigned_abs p) }; numer_bounded = h; denom_bounded = omega arith }
+
+pub abs-neg : (z : ℤ) → unsigned_abs (pos 0 -ℤ z) ≡ unsigned_abs z
+abs-neg z = omega (arith, ints)
+
+neg-is : (z : ℤ) → pos 0 -ℤ z ≡ neg_ℤ z
+neg-is z = omega (arith, ints)
+
+pub negated-word : (p : ℤ) → unsigned_abs p ≤ most → to_z w128 (of_z w128 (pos 0 -ℤ to_z w128 (of_z w128 p))) ≡ neg_ℤ p
+negated-word p h =
+    let small : unsigned_abs (pos 0 -ℤ p) ≤ most = rw (abs-neg p) h in
+    rw (as-is p h) (as-is (pos 0 -ℤ p) small ∙ neg-is p)
+
+pub negated-fits : (p : ℤ) → unsigned_abs p ≤ most → FitsSigned w128 (pos 0 -ℤ to_z w128 (of_z w128 p))
+negated-fits p h = rw (as-is p h) (fits_signed_from_abs w128 (pos 0 -ℤ p) (let e = abs-neg p in omega arith))
+
+pub negated-small : (p : ℤ) → unsigned_abs p ≤ most → unsigned_abs (neg_ℤ p) ≤ most
+negated-small p h = rw (← neg-is p, abs-neg p) h
+
+pub IsReduced-negated : (p : ℤ) (q : ℕ) → IsReduced p q → IsReduced (neg_ℤ p) q
+IsReduced-negated p q h =
+    let e : unsigned_abs (neg_ℤ p) ≡ unsigned_abs p = ap unsigned_abs (sym (neg-is p)) ∙ abs-neg p in
+    record {
+      lowest = record { positive = h.lowest.positive; apart = rw e h.lowest.apart };
+      numer_bounded = rw e h.numer_bounded;
+      denom_bounded = h.denom_bounded;
+    }
+
+pub over-negated : (p : ℤ) (q : ℕ) → 0 < q → over (neg_ℤ p) q ≡ neg_ℚ (over p q)
+over-negated p q some = is_one _ _ _ _ (is_over (neg_ℤ p) q some) (is_neg _ _ _ (is_over p q some))
+
+-- a refusal is no success
+pub refused : {A E X : Type 0} (r : Result A E) → IsErr r → IsOk r → X
+refused (Ok x) p q = cc
+refused (Err e) p q = cc

@@ -1,0 +1,76 @@
+use Rattle.std.proofs.Common.{◌≡◌, ◌*◌, pos, ◌∙◌, refl, to_z, of_z, true, false}
+use Rattle.std.specs.Prelude.{int_div}
+use Rattle.std.specs.Int.{w128}
+use Rattle.std.proofs.lemmas.Int.{to_z-of_z}
+use Rattle.vipr_spec.specs.Gcd.{gcd}
+use Rattle.vipr_frac.specs.Parts.{both_parts, sum_gcd, sum_denom, FitsParts, FitsSum}
+use Rattle.vipr_frac.proofs.Sums.{sum-is, IsReduced-sum}
+use Rattle.vipr_frac.proofs.Views.{as-is, facts, Facts, refused}
+use Rattle.vipr_frac.proofs.frac.sum_by_parts.Goals as goal
+use Rattle.vipr_frac.proofs.frac.sum_by_parts.Goals.{After-quotient-2, After-divided}
+
+pub sum_of_parts-requires : goal.sum_of_parts-requires
+sum_of_parts-requires c =
+    let a : Facts c.args.a c.a.inside.p c.a.inside.q = facts _ _ _ c.a.view_is c.a.invariant in
+    let b : Facts c.args.b c.b.inside.p c.b.inside.q = facts _ _ _ c.b.view_is c.b.invariant in
+    c.gcd_of-g.ensures.value ∙ rw (a.denom, b.denom)
+
+module _ (c : After-quotient-2) where
+  a : Facts c.args.a c.a-2.inside.p c.a-2.inside.q
+  a = facts _ _ _ c.a-2.view_is c.a-2.invariant
+
+  b : Facts c.args.b c.b-2.inside.p c.b-2.inside.q
+  b = facts _ _ _ c.b-2.view_is c.b-2.invariant
+
+  a_first : Facts c.args.a c.a.inside.p c.a.inside.q
+  a_first = facts _ _ _ c.a.view_is c.a.invariant
+
+  b_first : Facts c.args.b c.b.inside.p c.b.inside.q
+  b_first = facts _ _ _ c.b.view_is c.b.invariant
+
+  parts : FitsParts c.args.a c.args.b
+  parts = c.in_ok-both.ensures.fits.0 refl
+
+  g_is : c.gcd_of-g.result ≡ gcd c.args.a.denom c.args.b.denom
+  g_is = c.gcd_of-g.ensures.value ∙ rw (a_first.denom, b_first.denom)
+
+  both_is : to_z w128 (of_z w128 c.in_ok-both.both) ≡ both_parts c.args.a c.args.b
+  both_is = rw c.in_ok-both.ensures.value (as-is _ parts.both)
+
+  h_is : c.gcd_of-h.result ≡ sum_gcd c.args.a c.args.b
+  h_is = c.gcd_of-h.ensures.value ∙ rw (c.unsigned_abs.ensures.value, both_is, g_is)
+
+  q_value : c.quotient.result * c.quotient-2.result ≡ sum_denom c.args.a c.args.b
+  q_value = rw (c.quotient.ensures, c.quotient-2.ensures, a.denom, b.denom, g_is, h_is)
+
+module _ (c : After-divided) where
+  abbrev d : After-quotient-2
+  d = (goal.at.of_parts-requires c).After-quotient-2
+
+  q_is : c.in_ok-q.q ≡ sum_denom c.args.a c.args.b
+  q_is = c.in_ok-q.ensures.value ∙ q_value d
+
+  p_is : to_z w128 (of_z w128 c.divided.result) ≡ int_div (both_parts c.args.a c.args.b) (pos (sum_gcd c.args.a c.args.b))
+  p_is =
+      to_z-of_z w128 c.divided.result (record { sfits = c.divided.type_inv }) ∙ c.divided.ensures ∙ rw (both_is d, h_is d)
+
+  fits : FitsSum c.args.a c.args.b
+  fits = let parts = parts d in record { left = parts.left; right = parts.right; both = parts.both; below = rw (q_value d) at (c.in_ok-q.ensures.fits.0 refl) }
+
+pub of_parts-requires : goal.of_parts-requires
+of_parts-requires c = rw (p_is c, q_is c) (IsReduced-sum c.args.a c.args.b (fits c))
+
+pub returns-clause-fits : goal.returns-clause-fits
+returns-clause-fits c = let d = (goal.at.returns-clause-fits c).After-divided in (λ _. fits d, λ _. refl)
+
+pub returns-clause-value : goal.returns-clause-value
+returns-clause-value c =
+    let d = (goal.at.returns-clause-value c).After-divided in
+    c.of_parts.ensures ∙ rw (p_is d, q_is d, sum-is c.args.a c.args.b)
+
+pub returns-in_err-q-clause-fits : goal.returns-in_err-q-clause-fits
+returns-in_err-q-clause-fits c =
+    let d = (goal.at.returns-in_err-q-clause-fits c).After-quotient-2 in (
+      λ ok. refused _ c.from_residual-in_err-q.ensures.0 ok,
+      λ f. let e : false ≡ true = c.in_err-q.ensures.fits.1 (rw (q_value d) f.below) in cc,
+    )

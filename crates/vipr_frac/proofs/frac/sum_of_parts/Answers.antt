@@ -1,0 +1,70 @@
+use Rattle.std.proofs.Common.{◌≡◌, ◌/◌, ◌∙◌, subst, refl, to_z, of_z, ℕ, ℤ, ◌≤◌, true, false, pos}
+use Rattle.std.specs.Prelude.{◌+ℤ◌, ◌*ℤ◌, unsigned_abs}
+use Rattle.std.specs.Int.{w128}
+use Rattle.vipr_spec.specs.Fraction.{ℚ, most}
+use Rattle.vipr_spec.specs.Gcd.{gcd}
+use Rattle.vipr_frac.specs.Parts.{left_part, right_part, both_parts}
+use Rattle.vipr_frac.proofs.Steps.{gcd-some}
+use Rattle.vipr_frac.proofs.Views.{as-is, facts, Facts, refused}
+use Rattle.vipr_frac.proofs.frac.sum_of_parts.Goals as goal
+
+pub quotient-requires : goal.quotient-requires
+quotient-requires c = gcd-some c.args.a.denom _ _ c.args.b.lowest.positive c.requires
+
+pub quotient-requires-2 : goal.quotient-requires-2
+quotient-requires-2 c = gcd-some c.args.a.denom _ _ c.args.b.lowest.positive c.requires
+
+-- the parts as they are computed
+left_is : (x y : ℚ) (p : ℤ) (g r s : ℕ) → to_z w128 (of_z w128 p) ≡ x.numer → s ≡ y.denom → g ≡ gcd x.denom y.denom → r ≡ s / g → to_z w128 (of_z w128 p) *ℤ pos r ≡ left_part x y
+left_is x y p g r s e f h k = rw (e, k, f, h)
+
+right_is : (x y : ℚ) (p : ℤ) (g r s : ℕ) → to_z w128 (of_z w128 p) ≡ y.numer → s ≡ x.denom → g ≡ gcd x.denom y.denom → r ≡ s / g → to_z w128 (of_z w128 p) *ℤ pos r ≡ right_part x y
+right_is x y p g r s e f h k = rw (e, k, f, h)
+
+pub returns-in_err-left-clause-fits : goal.returns-in_err-left-clause-fits
+returns-in_err-left-clause-fits c =
+    let a : Facts c.args.a c.a.inside.p c.a.inside.q = facts _ _ _ c.a.view_is c.a.invariant in
+    let b : Facts c.args.b c.b.inside.p c.b.inside.q = facts _ _ _ c.b.view_is c.b.invariant in
+    let left = left_is c.args.a c.args.b c.a.inside.p c.args.g c.quotient.result c.b.inside.q a.back b.denom c.requires c.quotient.ensures in (
+      λ ok. refused _ c.from_residual.ensures.0 ok,
+      λ f. let e : false ≡ true = c.in_err-left.ensures.fits.1 (rw left f.left) in cc,
+    )
+
+pub returns-in_err-right-clause-fits : goal.returns-in_err-right-clause-fits
+returns-in_err-right-clause-fits c =
+    let a : Facts c.args.a c.a.inside.p c.a.inside.q = facts _ _ _ c.a.view_is c.a.invariant in
+    let b : Facts c.args.b c.b.inside.p c.b.inside.q = facts _ _ _ c.b.view_is c.b.invariant in
+    let right = right_is c.args.a c.args.b c.b.inside.p c.args.g c.quotient-2.result c.a.inside.q b.back a.denom c.requires c.quotient-2.ensures in (
+      λ ok. refused _ c.from_residual-in_err-right.ensures.0 ok,
+      λ f. let e : false ≡ true = c.in_err-right.ensures.fits.1 (rw right f.right) in cc,
+    )
+
+pub returns-clause-fits : goal.returns-clause-fits
+returns-clause-fits c =
+    let a : Facts c.args.a c.a.inside.p c.a.inside.q = facts _ _ _ c.a.view_is c.a.invariant in
+    let b : Facts c.args.b c.b.inside.p c.b.inside.q = facts _ _ _ c.b.view_is c.b.invariant in
+    let left = left_is c.args.a c.args.b c.a.inside.p c.args.g c.quotient.result c.b.inside.q a.back b.denom c.requires c.quotient.ensures in
+    let right = right_is c.args.a c.args.b c.b.inside.p c.args.g c.quotient-2.result c.a.inside.q b.back a.denom c.requires c.quotient-2.ensures in
+    let left_value : c.in_ok-left.left ≡ left_part c.args.a c.args.b = c.in_ok-left.ensures.value ∙ left in
+    let right_value : c.in_ok-right.right ≡ right_part c.args.a c.args.b = c.in_ok-right.ensures.value ∙ right in
+    let left_small : unsigned_abs (left_part c.args.a c.args.b) ≤ most = subst (λ z. unsigned_abs z ≤ most) left (c.in_ok-left.ensures.fits.0 refl) in
+    let right_small : unsigned_abs (right_part c.args.a c.args.b) ≤ most = subst (λ z. unsigned_abs z ≤ most) right (c.in_ok-right.ensures.fits.0 refl) in
+    let both : to_z w128 (of_z w128 c.in_ok-left.left) +ℤ to_z w128 (of_z w128 c.in_ok-right.right) ≡ both_parts c.args.a c.args.b =
+    rw (left_value, right_value, as-is _ left_small, as-is _ right_small) in (
+      λ ok. record { left = left_small; right = right_small; both = rw (← both) (c.bounded_sum.ensures.fits.0 ok) },
+      λ f. c.bounded_sum.ensures.fits.1 (rw both f.both),
+    )
+
+pub returns-clause-value : goal.returns-clause-value
+returns-clause-value c =
+    let a : Facts c.args.a c.a.inside.p c.a.inside.q = facts _ _ _ c.a.view_is c.a.invariant in
+    let b : Facts c.args.b c.b.inside.p c.b.inside.q = facts _ _ _ c.b.view_is c.b.invariant in
+    let left = left_is c.args.a c.args.b c.a.inside.p c.args.g c.quotient.result c.b.inside.q a.back b.denom c.requires c.quotient.ensures in
+    let right = right_is c.args.a c.args.b c.b.inside.p c.args.g c.quotient-2.result c.a.inside.q b.back a.denom c.requires c.quotient-2.ensures in
+    let left_value : c.in_ok-left.left ≡ left_part c.args.a c.args.b = c.in_ok-left.ensures.value ∙ left in
+    let right_value : c.in_ok-right.right ≡ right_part c.args.a c.args.b = c.in_ok-right.ensures.value ∙ right in
+    let left_small : unsigned_abs (left_part c.args.a c.args.b) ≤ most = subst (λ z. unsigned_abs z ≤ most) left (c.in_ok-left.ensures.fits.0 refl) in
+    let right_small : unsigned_abs (right_part c.args.a c.args.b) ≤ most = subst (λ z. unsigned_abs z ≤ most) right (c.in_ok-right.ensures.fits.0 refl) in
+    let both : to_z w128 (of_z w128 c.in_ok-left.left) +ℤ to_z w128 (of_z w128 c.in_ok-right.right) ≡ both_parts c.args.a c.args.b =
+    rw (left_value, right_value, as-is _ left_small, as-is _ right_small) in
+    rw (← both) c.bounded_sum.ensures.value

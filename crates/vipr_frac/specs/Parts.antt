@@ -1,0 +1,51 @@
+-- The numbers that a sum and a product go through, and what the fields of a `Frac` keep.
+use Rattle.std.specs.Prelude.{ℕ, ◌*◌, ◌/◌, ◌≤◌, ℤ, pos, ◌+ℤ◌, ◌*ℤ◌, unsigned_abs, int_div}
+use Rattle.vipr_spec.specs.Fraction.{ℚ, most}
+use Rattle.vipr_spec.specs.Gcd.{gcd}
+use Rattle.vipr_spec.specs.Lowest.{IsLowest}
+
+-- p / q is in lowest terms and bounded
+pub record IsReduced (p : ℤ) (q : ℕ) : Type 0 where
+  pub lowest : IsLowest p q
+  pub numer_bounded : unsigned_abs p ≤ most
+  pub denom_bounded : q ≤ most
+
+-- the two parts of a sum over the least common denominator
+abbrev pub left_part : ℚ → ℚ → ℤ
+left_part x y = x.numer *ℤ pos (y.denom / gcd x.denom y.denom)
+
+abbrev pub right_part : ℚ → ℚ → ℤ
+right_part x y = y.numer *ℤ pos (x.denom / gcd x.denom y.denom)
+
+abbrev pub both_parts : ℚ → ℚ → ℤ
+both_parts x y = left_part x y +ℤ right_part x y
+
+-- what is left to be divided out of both, and the denominator after that
+abbrev pub sum_gcd : ℚ → ℚ → ℕ
+sum_gcd x y = gcd (unsigned_abs (both_parts x y)) (gcd x.denom y.denom)
+
+abbrev pub sum_denom : ℚ → ℚ → ℕ
+sum_denom x y = (x.denom / gcd x.denom y.denom) * (y.denom / sum_gcd x y)
+
+-- a product, reduced crosswise first
+abbrev pub product_numer : ℚ → ℚ → ℤ
+product_numer x y = int_div x.numer (pos (gcd (unsigned_abs x.numer) y.denom)) *ℤ int_div y.numer (pos (gcd (unsigned_abs y.numer) x.denom))
+
+abbrev pub product_denom : ℚ → ℚ → ℕ
+product_denom x y = x.denom / gcd (unsigned_abs y.numer) x.denom * (y.denom / gcd (unsigned_abs x.numer) y.denom)
+
+pub record FitsProduct (x y : ℚ) : Type 0 where
+  pub numer : unsigned_abs (product_numer x y) ≤ most
+  pub below : product_denom x y ≤ most
+
+-- the first three tests of a sum
+pub record FitsParts (x y : ℚ) : Type 0 where
+  pub left : unsigned_abs (left_part x y) ≤ most
+  pub right : unsigned_abs (right_part x y) ≤ most
+  pub both : unsigned_abs (both_parts x y) ≤ most
+
+pub record FitsSum (x y : ℚ) : Type 0 where
+  pub left : unsigned_abs (left_part x y) ≤ most
+  pub right : unsigned_abs (right_part x y) ≤ most
+  pub both : unsigned_abs (both_parts x y) ≤ most
+  pub below : sum_denom x y ≤ most

@@ -1,0 +1,399 @@
+//! The fractions and their arithmetic.
+ghost use Rattle.std.specs.Prelude.{◌≡◌, ℕ, ℤ, pos, ◌+◌, ◌*◌, ◌<◌, ◌≤◌, ◌+ℤ◌, ◌*ℤ◌, ◌<ℤ◌, ◌≤ℤ◌, unsigned_abs, int_div, ◌↔◌, ◌⊎◌, IsOk, IfOk, IsTrue};
+ghost use Rattle.std.specs.Ordering.{nat_cmp, int_cmp};
+ghost use Rattle.vipr_spec.specs.Fraction.{most, over, whole, zero_ℚ, neg_ℚ, ◌+ℚ◌, ◌*ℚ◌, IsBounded, IsWhole, SumFits, ProductFits};
+ghost use Rattle.vipr_spec.specs.FractionOrder.{IsFloor, IsCeil, eq_ℚ};
+ghost use Rattle.vipr_spec.specs.Gcd.{gcd};
+ghost use Rattle.vipr_frac.specs.Parts.{IsReduced, FitsParts, FitsSum, both_parts};
+
+use crate::gcd::{gcd_of, quotient};
+use std::cmp::Ordering;
+use std::hash::{Hash, Hasher};
+use std::marker::Model;
+
+/// Why a numerator and a denominator make no bounded fraction.
+#[derive(Clone, Copy, Debug, PartialEq, Eq)]
+pub enum FracError {
+    /// One of them as given is out of bound, a negative denominator included.
+    Range,
+    /// The denominator is 0.
+    ZeroDenominator,
+}
+
+/// The exact answer, or a number on the way to it, is out of bound.
+#[derive(Clone, Copy, Debug, PartialEq, Eq)]
+pub struct Overflow;
+
+/// A fraction in lowest terms, whose numerator is at most 2^127 - 1 in absolute value, and whose denominator
+/// is at least 1 and at most 2^127 - 1. Equality, order and hash are those of the values.
+#[derive(Clone, Copy, Debug)]
+pub struct Frac {
+    p: i128,
+    q: u128,
+}
+
+impl Model for Frac {
+    ghost use Rattle.vipr_spec.specs.Fraction.{ℚ, coded_ℚ, over};
+
+    ghost Value = { ℚ };
+
+    ghost coded = { coded_ℚ };
+
+    ghost use Rattle.vipr_frac.specs.Parts.{IsReduced};
+    ghost use Rattle.vipr_frac.specs.Fields.{inverse_is};
+
+    ghost view = { λ f. over f.p f.q };
+
+    ghost invariant = { λ f. IsReduced f.p f.q };
+
+    ghost inverse = { λ x. record { p = x.numer; q = x.denom } };
+
+    ghost inverse_ok = { λ a h. inverse_is a h };
+}
+
+impl PartialEq for Frac {
+    ghost use Rattle.std.specs.Cmp.{partial_equiv_from_equiv, eq_by_cmp_equiv};
+    ghost use Rattle.vipr_spec.specs.FractionOrder.{eq_ℚ};
+    ghost use Rattle.vipr_spec.proofs.FractionOrders.{cmp_total};
+
+    ghost eq = { eq_ℚ };
+
+    ghost laws = { partial_equiv_from_equiv (eq_by_cmp_equiv cmp_total) };
+
+    fn eq(&self, other: &Frac) -> bool
+        ensures tested { result ≡ eq_ℚ self.now other.now }
+        ensures same { IsTrue result ↔ (self.now ≡ other.now) }
+    {
+        self.p == other.p && self.q == other.q
+    }
+}
+
+impl Eq for Frac {
+    ghost use Rattle.std.specs.Cmp.{eq_by_cmp_equiv};
+    ghost use Rattle.vipr_spec.proofs.FractionOrders.{cmp_total};
+
+    ghost laws = { eq_by_cmp_equiv cmp_total };
+}
+
+impl Hash for Frac {
+    ghost use Rattle.std.specs.Prelude.{◌++◌};
+    ghost use Rattle.std.specs.Hash as fed;
+    ghost use Rattle.vipr_frac.specs.Fields.{hash_input_of, hash_input_respects};
+
+    ghost hash_input = { hash_input_of };
+
+    ghost respects_eq = { hash_input_respects };
+
+    fn hash<H: Hasher>(&self, state: &mut H) {
+        self.p.hash(state);
+        self.q.hash(state);
+    }
+}
+
+impl Ord for Frac {
+    ghost use Rattle.std.specs.Prelude.{refl};
+    ghost use Rattle.vipr_spec.specs.FractionOrder.{cmp_ℚ};
+    ghost use Rattle.vipr_spec.proofs.FractionOrders.{cmp_total};
+
+    ghost cmp = { cmp_ℚ };
+
+    ghost total = { cmp_total };
+
+    ghost matches_partial_cmp = { λ x y. refl };
+
+    ghost matches_eq = { λ x y. refl };
+
+    fn cmp(&self, other: &Frac) -> Ordering {
+        compare_fractions(self.p, self.q, other.p, other.q)
+    }
+}
+
+impl PartialOrd for Frac {
+    ghost use Rattle.std.specs.Ordering.{as_partial_cmp};
+    ghost use Rattle.std.specs.Cmp.{partial_order_from_total};
+    ghost use Rattle.vipr_spec.specs.FractionOrder.{cmp_ℚ};
+    ghost use Rattle.vipr_spec.proofs.FractionOrders.{cmp_total};
+
+    ghost partial_cmp = { as_partial_cmp cmp_ℚ };
+
+    ghost laws = { partial_order_from_total cmp_total };
+
+    fn partial_cmp(&self, other: &Frac) -> Option<Ordering> {
+        Some(self.cmp(other))
+    }
+}
+
+// The order of p / q and r / s.
+fn compare_fractions(p: i128, q: u128, r: i128, s: u128) -> Ordering
+    requires q { 0 < q }
+    requires s { 0 < s }
+    ensures { result ≡ int_cmp (p *ℤ pos s) (r *ℤ pos q) }
+{
+    if q == s {
+        return p.cmp(&r);
+    }
+    if p < 0 {
+        if r < 0 {
+            compare_products(r.unsigned_abs(), q, p.unsigned_abs(), s)
+        } else {
+            Ordering::Less
+        }
+    } else if r < 0 {
+        Ordering::Greater
+    } else {
+        compare_products(p.unsigned_abs(), s, r.unsigned_abs(), q)
+    }
+}
+
+// The order of a * b and c * d, which take two words.
+fn compare_products(a: u128, b: u128, c: u128, d: u128) -> Ordering
+    ensures { result ≡ nat_cmp (a * b) (c * d) }
+{
+    let (low, high) = a.carrying_mul(b, 0);
+    let (other_low, other_high) = c.carrying_mul(d, 0);
+    if high == other_high {
+        low.cmp(&other_low)
+    } else {
+        high.cmp(&other_high)
+    }
+}
+
+#[inline(always)]
+fn bounded_sum(a: i128, b: i128) -> Result<i128, Overflow>
+    ensures fits { IsOk result ↔ (unsigned_abs (a +ℤ b) ≤ most) }
+    ensures value { IfOk result (λ t. t ≡ a +ℤ b) }
+{
+    match a.checked_add(b) {
+        Some(t) if t != i128::MIN => Ok(t),
+        _ => Err(Overflow),
+    }
+}
+
+#[inline(always)]
+fn bounded_product(a: i128, b: i128) -> Result<i128, Overflow>
+    ensures fits { IsOk result ↔ (unsigned_abs (a *ℤ b) ≤ most) }
+    ensures value { IfOk result (λ t. t ≡ a *ℤ b) }
+{
+    match a.checked_mul(b) {
+        Some(t) if t != i128::MIN => Ok(t),
+        _ => Err(Overflow),
+    }
+}
+
+fn bounded_denominator(a: u128, b: u128) -> Result<u128, Overflow>
+    ensures fits { IsOk result ↔ (a * b ≤ most) }
+    ensures value { IfOk result (λ t. t ≡ a * b) }
+{
+    match a.checked_mul(b) {
+        Some(t) if t <= i128::MAX as u128 => Ok(t),
+        _ => Err(Overflow),
+    }
+}
+
+// The division leaves no rest where it is used.
+fn divided(p: i128, g: u128) -> i128
+    requires some { 0 < g }
+    requires small { g ≤ most }
+    ensures { result ≡ int_div p (pos g) }
+{
+    if g == 1 {
+        return p;
+    }
+    let size = quotient(p.unsigned_abs(), g) as i128;
+    if p < 0 { -size } else { size }
+}
+
+fn of_parts(p: i128, q: u128) -> Frac
+    requires { IsReduced p q }
+    ensures { result ≡ over p q }
+{
+    Frac { p, q }
+}
+
+pub(crate) fn reduced(p: i128, q: u128) -> Frac
+    requires numer { unsigned_abs p ≤ most }
+    requires some { 0 < q }
+    requires denom { q ≤ most }
+    ensures { result ≡ over p q }
+{
+    let g = gcd_of(p.unsigned_abs(), q);
+    of_parts(divided(p, g), quotient(q, g))
+}
+
+#[inline(always)]
+fn of_whole(p: i128) -> Frac
+    requires { unsigned_abs p ≤ most }
+    ensures { result ≡ whole p }
+{
+    Frac { p, q: 1 }
+}
+
+#[inline(always)]
+fn whole_sum(a: i128, b: i128) -> Result<Frac, Overflow>
+    ensures fits { IsOk result ↔ (unsigned_abs (a +ℤ b) ≤ most) }
+    ensures value { IfOk result (λ f. f ≡ whole (a +ℤ b)) }
+{
+    match bounded_sum(a, b) {
+        Ok(p) => Ok(of_whole(p)),
+        Err(refused) => Err(refused),
+    }
+}
+
+#[inline(always)]
+fn whole_product(a: i128, b: i128) -> Result<Frac, Overflow>
+    ensures fits { IsOk result ↔ (unsigned_abs (a *ℤ b) ≤ most) }
+    ensures value { IfOk result (λ f. f ≡ whole (a *ℤ b)) }
+{
+    match bounded_product(a, b) {
+        Ok(p) => Ok(of_whole(p)),
+        Err(refused) => Err(refused),
+    }
+}
+
+fn scaled(p: i128, n: u128) -> Result<i128, Overflow>
+    requires { n ≤ most }
+    ensures fits { IsOk result ↔ (unsigned_abs (p *ℤ pos n) ≤ most) }
+    ensures value { IfOk result (λ t. t ≡ p *ℤ pos n) }
+{
+    bounded_product(p, n as i128)
+}
+
+fn sum_of_parts(a: Frac, b: Frac, g: u128) -> Result<i128, Overflow>
+    requires { g ≡ gcd a.denom b.denom }
+    ensures fits { IsOk result ↔ FitsParts a b }
+    ensures value { IfOk result (λ t. t ≡ both_parts a b) }
+{
+    let left = scaled(a.p, quotient(b.q, g))?;
+    let right = scaled(b.p, quotient(a.q, g))?;
+    bounded_sum(left, right)
+}
+
+#[inline(never)]
+fn sum_by_parts(a: Frac, b: Frac) -> Result<Frac, Overflow>
+    ensures fits { IsOk result ↔ FitsSum a b }
+    ensures value { IfOk result (λ f. f ≡ a +ℚ b) }
+{
+    let g = gcd_of(a.q, b.q);
+    let both = sum_of_parts(a, b, g)?;
+    let h = gcd_of(both.unsigned_abs(), g);
+    let q = bounded_denominator(quotient(a.q, g), quotient(b.q, h))?;
+    Ok(of_parts(divided(both, h), q))
+}
+
+#[inline(never)]
+fn product_by_parts(a: Frac, b: Frac) -> Result<Frac, Overflow>
+    ensures fits { IsOk result ↔ ProductFits a b }
+    ensures value { IfOk result (λ f. f ≡ a *ℚ b) }
+{
+    let g = gcd_of(a.p.unsigned_abs(), b.q);
+    let h = gcd_of(b.p.unsigned_abs(), a.q);
+    let p = bounded_product(divided(a.p, g), divided(b.p, h))?;
+    let q = bounded_denominator(quotient(a.q, h), quotient(b.q, g))?;
+    Ok(of_parts(p, q))
+}
+
+impl Frac {
+    /// p / q. The parts are tested as they are given, before common divisors are taken out.
+    pub fn new(p: i128, q: i128) -> Result<Frac, FracError>
+        ensures range { (result ≡ Err FracError.Range) ↔ ((most < unsigned_abs p) ⊎ (q <ℤ pos 0)) }
+        ensures zero { (result ≡ Err FracError.ZeroDenominator) ↔ ((unsigned_abs p ≤ most) × (q ≡ pos 0)) }
+        ensures value { IfOk result (λ f. f ≡ over p (unsigned_abs q)) }
+    {
+        if p == i128::MIN || q < 0 {
+            return Err(FracError::Range);
+        }
+        if q == 0 {
+            return Err(FracError::ZeroDenominator);
+        }
+        Ok(reduced(p, q as u128))
+    }
+
+    /// 0.
+    pub fn zero() -> Frac
+        ensures { result ≡ zero_ℚ }
+    {
+        Frac { p: 0, q: 1 }
+    }
+
+    /// 1.
+    pub fn one() -> Frac
+        ensures { result ≡ whole (pos 1) }
+    {
+        Frac { p: 1, q: 1 }
+    }
+
+    /// The numerator in lowest terms.
+    pub fn numer(self) -> i128
+        ensures value { result ≡ self.numer }
+        ensures bounded { IsBounded self }
+    {
+        self.p
+    }
+
+    /// The denominator in lowest terms, at least 1.
+    pub fn denom(self) -> i128
+        ensures value { result ≡ pos self.denom }
+        ensures bounded { IsBounded self }
+    {
+        self.q as i128
+    }
+
+    /// The fraction with the other sign.
+    pub fn neg(self) -> Frac
+        ensures { result ≡ neg_ℚ self }
+    {
+        Frac {
+            p: -self.p,
+            q: self.q,
+        }
+    }
+
+    /// Whether it is a whole number.
+    pub fn is_whole(self) -> bool
+        ensures denominator { IsTrue result ↔ (self.denom ≡ 1) }
+        ensures value { IsTrue result ↔ IsWhole self }
+    {
+        self.q == 1
+    }
+
+    /// The greatest whole number that is not above it.
+    pub fn floor(self) -> i128
+        ensures floor { IsFloor self result }
+        ensures bounded { unsigned_abs result ≤ most }
+    {
+        self.p.div_euclid(self.q as i128)
+    }
+
+    /// The least whole number that is not below it.
+    pub fn ceil(self) -> i128
+        ensures ceil { IsCeil self result }
+        ensures bounded { unsigned_abs result ≤ most }
+    {
+        -self.neg().floor()
+    }
+
+    /// The exact sum, in lowest terms. It is refused where one of the two parts over the least common
+    /// denominator, their sum, or the denominator of the answer is out of bound.
+    #[inline(always)]
+    pub fn add(self, other: Frac) -> Result<Frac, Overflow>
+        ensures fits { IsOk result ↔ SumFits self other }
+        ensures value { IfOk result (λ f. f ≡ self +ℚ other) }
+    {
+        if self.q == 1 && other.q == 1 {
+            return whole_sum(self.p, other.p);
+        }
+        sum_by_parts(self, other)
+    }
+
+    /// The exact product, in lowest terms. It is refused where that is out of bound.
+    #[inline(always)]
+    pub fn mul(self, other: Frac) -> Result<Frac, Overflow>
+        ensures fits { IsOk result ↔ ProductFits self other }
+        ensures value { IfOk result (λ f. f ≡ self *ℚ other) }
+    {
+        if self.q == 1 && other.q == 1 {
+            return whole_product(self.p, other.p);
+        }
+        product_by_parts(self, other)
+    }
+}

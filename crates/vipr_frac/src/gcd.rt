@@ -1,0 +1,66 @@
+//! The greatest common divisor, and division by it, with short ways for words of 64 bits.
+ghost use Rattle.std.specs.Prelude.{◌≡◌, ◌<◌, ◌≤◌, ◌/◌, ◌%◌};
+ghost use Rattle.vipr_spec.specs.Gcd.{gcd};
+
+const WORD: u128 = u64::MAX as u128;
+
+fn word_gcd(a: u64, b: u64) -> u64
+    ensures { result ≡ gcd a b }
+{
+    let mut x = a;
+    let mut y = b;
+    while y != 0 {
+        let rest = x % y;
+        x = y;
+        y = rest;
+    }
+    x
+}
+
+fn remainder(a: u128, b: u128) -> u128
+    requires { 0 < b }
+    ensures { result ≡ a % b }
+{
+    if a <= WORD && b <= WORD {
+        (a as u64 % b as u64) as u128
+    } else {
+        a % b
+    }
+}
+
+pub(crate) fn gcd_of(a: u128, b: u128) -> u128
+    requires { 0 < b }
+    ensures value { result ≡ gcd a b }
+    ensures some { 0 < result }
+    ensures at_most { result ≤ b }
+{
+    if b == 1 {
+        return 1;
+    }
+    let mut x = a;
+    let mut y = b;
+    while y > WORD {
+        let rest = x % y;
+        x = y;
+        y = rest;
+    }
+    if y == 0 {
+        return x;
+    }
+    let rest = remainder(x, y);
+    word_gcd(y as u64, rest as u64) as u128
+}
+
+// The whole quotient.
+pub(crate) fn quotient(n: u128, g: u128) -> u128
+    requires { 0 < g }
+    ensures { result ≡ n / g }
+{
+    if g == 1 {
+        n
+    } else if n <= WORD && g <= WORD {
+        (n as u64 / g as u64) as u128
+    } else {
+        n / g
+    }
+}

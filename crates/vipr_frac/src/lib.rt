@@ -1,0 +1,7 @@
+//! Bounded fractions: exact arithmetic on numerators and denominators of at most 2^127 - 1.
+#![tactic(auto)]
+
+mod frac;
+mod gcd;
+
+pub use frac::{Frac, FracError, Overflow};
