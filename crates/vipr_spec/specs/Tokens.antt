@@ -1,5 +1,5 @@
 -- The tokens of a text.
-use Rattle.std.specs.Prelude.{ℕ, ◌+◌, Bool, true, false, not, ◌&&◌, ◌||◌, ◌==◌, nat_le, if◌then◌else◌, List, [], ◌∷◌, ◌++◌, length, take_while}
+use Rattle.std.specs.Prelude.{◌≡◌, ℕ, ◌+◌, ◌<◌, ◌≤◌, Bool, true, false, not, ◌&&◌, ◌||◌, ◌==◌, nat_le, if◌then◌else◌, List, [], ◌∷◌, ◌++◌, length, slice_index, take_while}
 use Rattle.vipr_spec.specs.Input.{Input}
 
 -- a token, and the offset of its first byte
@@ -10,6 +10,16 @@ pub record Token : Type 0 where
 -- white space: tab, line feed, vertical tab, form feed, carriage return and space (a choice of this profile)
 unfoldable pub is_white : ℕ → Bool
 is_white b = (nat_le 9 b && nat_le b 13) || (b == 32)
+
+-- some bytes, none of which is white space
+pub record IsRun (bytes : List ℕ) : Type 0 where
+  pub some : 0 < length bytes
+  pub solid : (k : ℕ) → k < length bytes → is_white (slice_index bytes k) ≡ false
+
+-- the bytes of a token, which is no longer than a token may be (the limit is a choice of this profile)
+pub record IsToken (bytes : List ℕ) : Type 0 where
+  pub run : IsRun bytes
+  pub short : length bytes ≤ 65535
 
 -- the longest run of other bytes at the front
 abbrev pub run : List ℕ → List ℕ

@@ -1,0 +1,11 @@
+//! Where bytes come from, and where they go.
+//!
+//! A [`Source`] is read, a [`Sink`] is written. Each has a law that says what a caller may rely on,
+//! also where a read gives fewer bytes than there is room for, or a write takes fewer than it is handed.
+#![tactic(auto)]
+
+mod sink;
+mod source;
+
+pub use sink::{FromWrite, Sink};
+pub use source::{Bytes, Failed, FromRead, Source};

@@ -1,0 +1,46 @@
+ghost use Rattle.std.specs.Prelude.{◌≡◌, ℕ, ◌<◌, ◌≤◌, length, Option, None, IfOk, IfSome};
+ghost use Rattle.vipr_bytes.specs.Output.{Output, Writes};
+
+use crate::source::Failed;
+use std::io::Write;
+
+/// A writer of bytes.
+///
+/// A write takes the first bytes that it is handed, at least one where there is room. Only where no
+/// room is left it takes none or fails.
+pub trait Sink {
+    // Where the writer tells: the bytes that it took, and how many more it has room for.
+    ghost output: { Self → Option Output };
+
+    /// Takes bytes from the front of `bytes`, and answers how many.
+    fn write(&mut self, bytes: &[u8]) -> Result<usize, Failed>
+        requires { 0 < length bytes.now }
+        ensures count { IfOk result (λ n. n ≤ length bytes.now) }
+        ensures taken { IfSome (output self.old) (λ o. Writes o (output self.new) result bytes.now) };
+}
+
+/// Writes to a writer of std. It tells nothing of what that took.
+///
+/// It fails on every error of the writer, an interrupted write too.
+#[derive(Drop)]
+pub struct FromWrite<W> {
+    writer: W,
+}
+
+impl<W: Write> FromWrite<W> {
+    /// A writer that was handed nothing yet.
+    pub fn new(writer: W) -> FromWrite<W> {
+        FromWrite { writer }
+    }
+}
+
+impl<W: Write> Sink for FromWrite<W> {
+    ghost output = { λ _. None };
+
+    fn write(&mut self, bytes: &[u8]) -> Result<usize, Failed> {
+        match self.writer.write(bytes) {
+            Ok(n) => Ok(n),
+            Err(_) => Err(Failed),
+        }
+    }
+}

@@ -1,0 +1,107 @@
+ghost use Rattle.std.specs.Prelude.{◌≡◌, ℕ, ◌+◌, ◌-◌, ◌^◌, ◌<◌, ◌≤◌, List, length, Option, Some, None, false, IfOk, IfSome};
+ghost use Rattle.vipr_spec.specs.Input.{Input};
+ghost use Rattle.vipr_bytes.specs.Reads.{Reads};
+
+use std::io::Read;
+use std::marker::Model;
+
+/// A read or a write failed.
+#[derive(Clone, Copy, Debug, PartialEq, Eq, Hash)]
+pub struct Failed;
+
+/// A reader of bytes.
+///
+/// A read gives the next bytes, as many as it likes. It gives none only at the end, and fails only
+/// where the reader's meaning has a failure.
+pub trait Source {
+    // At most so many reads still give bytes.
+    ghost reads_left: { Self → ℕ };
+
+    // Where the reader tells: the bytes that are left, and what follows them.
+    ghost input: { Self → Option Input };
+
+    /// Writes the next bytes to the front of `buf`, and answers how many; 0 comes only at the end.
+    fn read(&mut self, buf: &mut [u8]) -> Result<usize, Failed>
+        requires { 0 < length buf.old }
+        ensures count { IfOk result (λ n. n ≤ length buf.new) }
+        ensures bound { IfOk result (λ n. 0 < n → reads_left self.new < reads_left self.old) }
+        ensures bytes { IfSome (input self.old) (λ i. Reads i (input self.new) result buf.new) };
+}
+
+/// Reads a slice. It tells its bytes, and never fails.
+#[derive(Drop)]
+pub struct Bytes<'a> {
+    left: &'a [u8],
+}
+
+// Seen as the bytes that are left.
+impl<'a> Model for Bytes<'a> {
+    ghost Value = { List ℕ };
+
+    ghost view = { λ b. b.left.now };
+}
+
+impl<'a> Bytes<'a> {
+    /// A reader at the start of `bytes`.
+    pub fn new(bytes: &'a [u8]) -> Bytes<'a>
+        ensures { result ≡ bytes.now }
+    {
+        Bytes { left: bytes }
+    }
+}
+
+impl Source for Bytes<'_> {
+    ghost reads_left = { λ bytes. length bytes };
+
+    ghost input = { λ bytes. Some (record { bytes = bytes; fails = false }) };
+
+    fn read(&mut self, buf: &mut [u8]) -> Result<usize, Failed> {
+        let n = self.left.len().min(buf.len());
+        let (front, rest) = self.left.split_at(n);
+        buf[..n].copy_from_slice(front);
+        self.left = rest;
+        Ok(n)
+    }
+}
+
+/// Reads a reader of std. It tells nothing of its bytes.
+///
+/// It fails on every error of the reader, an interrupted read too, and at its 2^64th read.
+#[derive(Drop)]
+pub struct FromRead<R> {
+    reader: R,
+    reads: u64,
+}
+
+// Seen as the number of reads that may still give bytes.
+impl<R> Model for FromRead<R> {
+    ghost Value = { ℕ };
+
+    ghost view = { λ r. 2 ^ 64 - 1 - r.reads };
+}
+
+impl<R: Read> FromRead<R> {
+    /// A reader that was asked nothing yet.
+    pub fn new(reader: R) -> FromRead<R>
+        ensures { result ≡ 2 ^ 64 - 1 }
+    {
+        FromRead { reader, reads: 0 }
+    }
+}
+
+impl<R: Read> Source for FromRead<R> {
+    ghost reads_left = { λ reads. reads };
+
+    ghost input = { λ _. None };
+
+    fn read(&mut self, buf: &mut [u8]) -> Result<usize, Failed> {
+        if self.reads == u64::MAX {
+            return Err(Failed);
+        }
+        self.reads += 1;
+        match self.reader.read(buf) {
+            Ok(n) => Ok(n),
+            Err(_) => Err(Failed),
+        }
+    }
+}

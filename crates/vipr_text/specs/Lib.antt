@@ -1,0 +1,3 @@
+pub mod Places
+pub mod View
+pub mod Follows

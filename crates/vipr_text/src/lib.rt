@@ -1,0 +1,12 @@
+//! The tokens of a text that is read in pieces.
+#![tactic(auto)]
+
+mod bytes;
+mod error;
+mod piece;
+mod place;
+mod tokens;
+mod window;
+
+pub use error::TextError;
+pub use tokens::{Token, Tokens};
