@@ -7,24 +7,25 @@ use Rattle.std.proofs.lemmas.Bool.{false≢true, ltb-true, lt-ltb, le-ltb, cases
 use Rattle.vipr_spec.specs.Input.{Input}
 use Rattle.vipr_spec.specs.Tokens.{IsToken, is_white, tokens_from, tokens_after_front, run}
 use Rattle.vipr_text.specs.Places.{tokens_in}
-use Rattle.vipr_text.specs.View.{prepend, Left, left_of, Keeps, IsOver, answer_of, next_left, reading_of, Reading}
+use Rattle.vipr_spec.specs.Reading.{Rest}
+use Rattle.vipr_text.specs.View.{prepend, left_of, Keeps, IsOver, answer_of, next_left, reading_of, Reading}
 use Rattle.vipr_text.specs.declared.place.Place.{Place}
 use Rattle.vipr_text.specs.declared.place.Place.TheVariants.{Front, Comment, Past}
 use Rattle.vipr_spec.proofs.TokenLaws.{token_cut, token_whole, token_long, run_from}
 
 -- what is left of an input
-abbrev pub left_at : Place → ℕ → List ℕ → Option Input → Option Left
+abbrev pub left_at : Place → ℕ → List ℕ → Option Input → Option Rest
 left_at place offset un source = option_and_then (left_of place offset) (option_map (prepend un) source)
 
-abbrev pub left_is : Place → ℕ → List ℕ → Input → Left
+abbrev pub left_is : Place → ℕ → List ℕ → Input → Rest
 left_is place offset un r = record { tokens = tokens_in place r.fails offset (un ++ r.bytes); fails = r.fails; length = offset + length (un ++ r.bytes) }
 
-if_told : (b : Bool) (l : Left) (Q : Left → Type 0) → (b ≡ true → Q l) → IfSome (if b then Some l else None) Q
+if_told : (b : Bool) (l : Rest) (Q : Rest → Type 0) → (b ≡ true → Q l) → IfSome (if b then Some l else None) Q
 if_told true l Q h = h refl
 if_told false l Q h = tt
 
 -- to show a fact of what is left, show it of each input that may be
-pub told : (place : Place) (offset : ℕ) (un : List ℕ) (source : Option Input) (Q : Left → Type 0) →
+pub told : (place : Place) (offset : ℕ) (un : List ℕ) (source : Option Input) (Q : Rest → Type 0) →
     ((r : Input) → source ≡ Some r → offset + length (un ++ r.bytes) < 2 ^ 64 → Q (left_is place offset un r)) →
     IfSome (left_at place offset un source) Q
 told place offset un None Q h = tt
@@ -50,7 +51,7 @@ gap_left source p p' o o' un un' n within cut at same =
     let z : o' + length (un' ++ r.bytes) ≡ o + length (un ++ r.bytes) = omega arith in
     let v : tokens_in p' r.fails o' (un' ++ r.bytes) ≡ tokens_in p r.fails o (un ++ r.bytes) = rw (cut, e) (sym (same r.fails o r.bytes)) in
     rw (z, v) refl in
-    rw is (t ∙ ap (λ (l : Left). Some l) s))
+    rw is (t ∙ ap (λ (l : Rest). Some l) s))
 
 -- the part of a list from n further on
 pub narrowed : (xs : List ℕ) (start end n : ℕ) → start + n ≤ end → slice_range xs (start + n) end ≡ drop n (slice_range xs start end)
@@ -91,7 +92,7 @@ over_end source p o un none end =
     rw (e, nil_from_length un none, nothing false p o) (refl, refl))
 
 -- what is over was so before
-pub over_kept : (old new : Option Left) (fails : Bool) → Keeps old new → IsOver new fails → IsOver old fails
+pub over_kept : (old new : Option Rest) (fails : Bool) → Keeps old new → IsOver new fails → IsOver old fails
 over_kept None new fails kept over = tt
 over_kept (Some l) new fails kept over = rw kept at over
 
@@ -165,7 +166,7 @@ long_left source o un within solid =
     let yes : nat_lt 65535 (length (run (un ++ r.bytes))) ≡ true = lt-ltb 65535 (length (run (un ++ r.bytes))) (omega arith) in
     rw (token_long r.fails o (un ++ r.bytes) m solid') (rw (t, f, yes) refl))
 
-pub some_weaker : (o : Option Left) (P Q : Left → Type 0) → ((l : Left) → P l → Q l) → IfSome o P → IfSome o Q
+pub some_weaker : (o : Option Rest) (P Q : Rest → Type 0) → ((l : Rest) → P l → Q l) → IfSome o P → IfSome o Q
 some_weaker None P Q f p = tt
 some_weaker (Some l) P Q f p = f l p
 
@@ -191,7 +192,7 @@ taken_answer source o buf start end n len shown some limit within solid white en
           rw (eq-eqb n 65536 h, front, m) (long_left source o (slice_range buf start end) (omega arith) (λ k j. solid k (omega arith)))
       | inr h ↦
           let m : len ≡ n = omega arith in
-          rw (ne_eqb n 65536 h, front, m) (some_weaker _ _ _ (λ (l : Left) (p : (Ok (Some (record { bytes = take n (slice_range buf start end); offset = o; long = false })) ≡ answer_of l) × (left_at Past (min (o + n) (2 ^ 64 - 1)) (drop n (slice_range buf start end)) source ≡ Some (next_left l))). p.0)
+          rw (ne_eqb n 65536 h, front, m) (some_weaker _ _ _ (λ (l : Rest) (p : (Ok (Some (record { bytes = take n (slice_range buf start end); offset = o; long = false })) ≡ answer_of l) × (left_at Past (min (o + n) (2 ^ 64 - 1)) (drop n (slice_range buf start end)) source ≡ Some (next_left l))). p.0)
           (token_left source o (min (o + n) (2 ^ 64 - 1)) (slice_range buf start end) (drop n (slice_range buf start end)) n some within (omega arith) solid white
           (λ e. ends (omega arith) e) refl refl))
     ]
@@ -203,7 +204,7 @@ pub taken_left : (source : Option Input) (o o' : ℕ) (un un' : List ℕ) (n : �
     un' ≡ drop n un → o' ≡ min (o + n) (2 ^ 64 - 1) →
     IfSome (left_at Past o un source) (λ l. left_at Past o' un' source ≡ Some (next_left l))
 taken_left source o o' un un' n some within short solid white ends cut at =
-    some_weaker _ _ _ (λ (l : Left) (p : (Ok (Some (record { bytes = take n un; offset = o; long = false })) ≡ answer_of l) × (left_at Past o' un' source ≡ Some (next_left l))). p.1)
+    some_weaker _ _ _ (λ (l : Rest) (p : (Ok (Some (record { bytes = take n un; offset = o; long = false })) ≡ answer_of l) × (left_at Past o' un' source ≡ Some (next_left l))). p.1)
     (token_left source o o' un un' n some within short solid white ends cut at)
 
 -- at most 65,535 bytes of a run are a token
@@ -220,11 +221,11 @@ token_part buf start end n len shown some within solid =
     })
 
 -- what holds of what is left later held of it before
-pub kept : (old new : Option Left) (P : Left → Type 0) → Keeps old new → IfSome new P → IfSome old P
+pub kept : (old new : Option Rest) (P : Rest → Type 0) → Keeps old new → IfSome new P → IfSome old P
 kept None new P keeps h = tt
 kept (Some l) new P keeps h = rw keeps at h
 
 -- what holds of what is left, where it is told
-pub told_holds : (r : Reading) (spent : Bool) (at : ℕ) (o : Option Left) (P : Left → Type 0) → r ≡ reading_of spent at o → IfSome o P → r.told ≡ true → P r.left
+pub told_holds : (r : Reading) (spent : Bool) (at : ℕ) (o : Option Rest) (P : Rest → Type 0) → r ≡ reading_of spent at o → IfSome o P → r.told ≡ true → P r.left
 told_holds r spent at None P e h told = absurd (false≢true (sym (ap (λ (x : Reading). x.told) e) ∙ told))
 told_holds r spent at (Some l) P e h told = rw e h

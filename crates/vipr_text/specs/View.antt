@@ -3,6 +3,7 @@ use Rattle.std.specs.Prelude.{◌≡◌, ℕ, ◌+◌, ◌^◌, ◌<◌, nat_lt,
 use Rattle.std.specs.Option.{option_map}
 use Rattle.vipr_spec.specs.Input.{Input}
 use Rattle.vipr_spec.specs.Tokens.{Token, is_white}
+use Rattle.vipr_spec.specs.Reading.{Rest}
 use Rattle.vipr_text.specs.declared.place.Place.TheVariants.{Past}
 use Rattle.vipr_text.specs.declared.window.Window.{Window}
 use Rattle.vipr_text.specs.declared.place.Place.{Place}
@@ -28,25 +29,19 @@ source_left input t = if t.ended then Some (record { bytes = []; fails = false }
 abbrev pub input_left : {R : Type 0} → (R → Option Input) → Window R → Option Input
 input_left input t = option_map (prepend (unread t)) (source_left input t)
 
--- the tokens left, whether a failure follows them in place of the end, and the length of the whole text up to there
-pub record Left : Type 0 where
-  pub tokens : List Token
-  pub fails : Bool
-  pub length : ℕ
-
 -- of an input that ends at an offset below 2^64
-abbrev pub left_of : Place → ℕ → Input → Option Left
+abbrev pub left_of : Place → ℕ → Input → Option Rest
 left_of place offset i = if nat_lt (offset + length i.bytes) (2 ^ 64) then Some (record { tokens = tokens_in place i.fails offset i.bytes; fails = i.fails; length = offset + length i.bytes }) else None
 
-abbrev pub left : {R : Type 0} → (R → Option Input) → Window R → Option Left
+abbrev pub left : {R : Type 0} → (R → Option Input) → Window R → Option Rest
 left input t = option_and_then (left_of t.place t.offset) (input_left input t)
 
 -- what was told stays so
-abbrev pub Keeps : Option Left → Option Left → Type 0
+abbrev pub Keeps : Option Rest → Option Rest → Type 0
 Keeps old new = IfSome old (λ l. new ≡ Some l)
 
 -- no token is left, and this follows
-abbrev pub IsOver : Option Left → Bool → Type 0
+abbrev pub IsOver : Option Rest → Bool → Type 0
 IsOver old fails = IfSome old (λ l. (l.tokens ≡ []) × (l.fails ≡ fails))
 
 -- a token stands at the front of the unread bytes
@@ -78,12 +73,12 @@ first_answer (w ∷ ws) fails = Ok (Some (seen_of w))
 first_answer [] false = Ok None
 first_answer [] true = Err error.Read
 
-abbrev pub answer_of : Left → Result (Option Seen) TextError
+abbrev pub answer_of : Rest → Result (Option Seen) TextError
 answer_of l = first_answer l.tokens l.fails
 
 -- the tokens after the first
-abbrev pub next_left : Left → Left
-next_left l = record { tokens = drop 1 l.tokens; fails = l.fails; length = l.length }
+abbrev pub next_left : Rest → Rest
+next_left l = record l { tokens = drop 1 l.tokens }
 
 -- an answer, as it is seen
 abbrev pub seen : {X : Type 0} → (X → Seen) → Result (Option X) TextError → Result (Option Seen) TextError
@@ -102,9 +97,9 @@ pub record Reading : Type 0 where
   pub spent : Bool
   pub at : ℕ
   pub told : Bool
-  pub left : Left
+  pub left : Rest
 
-abbrev pub reading_of : Bool → ℕ → Option Left → Reading
+abbrev pub reading_of : Bool → ℕ → Option Rest → Reading
 reading_of spent at (Some l) = record { spent = spent; at = at; told = true; left = l }
 reading_of spent at None = record { spent = spent; at = at; told = false; left = record { tokens = []; fails = false; length = 0 } }
 
