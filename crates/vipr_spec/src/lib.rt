@@ -5,3 +5,4 @@
 pub mod arithmetic;
 pub mod claims;
 pub mod consequences;
+pub mod grammar;

@@ -1,0 +1,148 @@
+-- Readings and shapes, one after another
+use Rattle.std.proofs.Common.{◌≡◌, ℕ, ◌≤◌, ◌⊎◌, inl, inr, Bool, true, false, nat_lt, if◌then◌else◌, List, [], ◌∷◌, ◌++◌, length, map, Result, Ok, Err, All, arith, refl, sym, ◌∙◌, ap, subst, append_assoc}
+use Rattle.std.proofs.lemmas.List.{map-append}
+use Rattle.std.proofs.lemmas.List.Elements.{All-nil, All-cons, All-head, All-tail, All-append}
+use Rattle.std.proofs.lemmas.Bool.Decides.{nat_tests}
+use Rattle.vipr_spec.specs.Tokens.{Token}
+use Rattle.vipr_spec.specs.Reading.{Rest, Fault, refused, unread, ◌>>=◌, Read, most_bytes, first_token, token_read}
+use Rattle.vipr_spec.specs.Grammar.{◌then◌}
+use Rattle.vipr_spec.specs.GrammarLaws.{Taken}
+
+-- ---- results
+
+pub chosen : {A : Type 0} (b : Bool) (x y z : A) → (if b then x else y) ≡ z → ((b ≡ true) × (x ≡ z)) ⊎ ((b ≡ false) × (y ≡ z))
+chosen true x y z e = inl (refl, e)
+chosen false x y z e = inr (refl, e)
+
+pub guard_true : {A E : Type 0} (b : Bool) (x y : A) (c : E) → (if b then Ok x else Err c) ≡ Ok y → (b ≡ true) × (x ≡ y)
+guard_true true x y c e = (refl, cc)
+guard_true false x y c e = absurd (cc)
+
+pub guard_false : {A E : Type 0} (b : Bool) (x y : A) (c : E) → (if b then Err c else Ok x) ≡ Ok y → (b ≡ false) × (x ≡ y)
+guard_false true x y c e = absurd (cc)
+guard_false false x y c e = (refl, cc)
+
+abbrev pub success : {A : Type 0} → (E : Type 0) → A → Result A E
+success E x = Ok x
+
+pub same_ok : {A E : Type 0} {x y : A} → success E x ≡ success E y → x ≡ y
+same_ok e = cc
+
+pub bind_ok : {A B : Type 0} {r : Result A Fault} {f : A → Result B Fault} {y : B} → (r >>= f) ≡ Ok y → (x : A) × (r ≡ Ok x) × (f x ≡ Ok y)
+bind_ok {r = Ok x} e = (x, refl, e)
+bind_ok {r = Err d} e = absurd (cc)
+
+pub ok_then : {A B : Type 0} {r : Result A Fault} (f : A → Result B Fault) {x : A} {y : Result B Fault} → r ≡ Ok x → f x ≡ y → (r >>= f) ≡ y
+ok_then f e h = ap (λ z. z >>= f) e ∙ h
+
+-- ---- tokens taken
+
+abbrev pub bytes_of : List Token → List (List ℕ)
+bytes_of ts = map (λ t. t.bytes) ts
+
+abbrev pub IsShort : List ℕ → Type 0
+IsShort b = length b ≤ most_bytes
+
+-- the same tokens, of another shape
+pub taken_as : {P : List (List ℕ) → Type 0} (Q : List (List ℕ) → Type 0) {r s : Rest} (t : Taken P r s) → Q (bytes_of t.front) → Taken Q r s
+taken_as Q t q = record { front = t.front; joined = t.joined; short = t.short; shape = q }
+
+abbrev pub answer : {A : Type 0} → A → Rest → Read A
+answer x s = Ok (x, s)
+
+-- what was read is this
+pub taken_is : {A : Type 0} (S : A → List (List ℕ) → Type 0) {r q s : Rest} {v x : A} → answer v q ≡ answer x s → Taken (S v) r q → Taken (S x) r s
+taken_is S {r} {q} {s} {v} {x} e t =
+    let both = same_ok e in let same : v ≡ x = ap (λ p. p.0) both in let left : q ≡ s = ap (λ p. p.1) both in
+    subst (λ y. Taken (S y) r s) same (subst (λ p. Taken (S v) r p) left t)
+
+pub taken_nothing : (r : Rest) → Taken (λ ts. ts ≡ []) r r
+taken_nothing r = record { front = []; joined = refl; short = All-nil _; shape = refl }
+
+no_tokens : (ts : List Token) → bytes_of ts ≡ [] → ts ≡ []
+no_tokens [] e = refl
+no_tokens (t ∷ ts) e = absurd (cc)
+
+pub nothing_taken : {r s : Rest} → Taken (λ ts. ts ≡ []) r s → r ≡ s
+nothing_taken {r} {s} t = t.joined ∙ ap (λ l. record s { tokens = l ++ s.tokens }) (no_tokens t.front t.shape)
+
+pub taken_then : {P Q : List (List ℕ) → Type 0} {r s t : Rest} → Taken P r s → Taken Q s t → Taken (P then Q) r t
+taken_then {t = t} a b = record {
+  front = a.front ++ b.front;
+  joined = a.joined ∙ ap (λ (u : Rest). record u { tokens = a.front ++ u.tokens }) b.joined ∙ ap (λ l. record t { tokens = l }) (sym (append_assoc a.front b.front t.tokens));
+  short = subst (All IsShort) (sym (map-append _ a.front b.front)) (All-append IsShort (bytes_of a.front) (bytes_of b.front) a.short b.short);
+  shape = (bytes_of a.front, bytes_of b.front, map-append _ a.front b.front, a.shape, b.shape);
+}
+
+record Split (ts : List Token) (xs ys : List (List ℕ)) : Type 0 where
+  front : List Token
+  back : List Token
+  joined : ts ≡ front ++ back
+  in_front : bytes_of front ≡ xs
+  behind : bytes_of back ≡ ys
+
+split_more : {t : Token} {ts : List Token} {x : List ℕ} {xs ys : List (List ℕ)} → t.bytes ≡ x → Split ts xs ys → Split (t ∷ ts) (x ∷ xs) ys
+split_more {t} e s = record { front = t ∷ s.front; back = s.back; joined = ap (λ l. t ∷ l) s.joined; in_front = cc; behind = s.behind }
+
+split : (ts : List Token) (xs ys : List (List ℕ)) → bytes_of ts ≡ xs ++ ys → Split ts xs ys
+split ts [] ys e = record { front = []; back = ts; joined = refl; in_front = refl; behind = e }
+split [] (x ∷ xs) ys e = absurd (cc)
+split (t ∷ ts) (x ∷ xs) ys e = let h : t.bytes ≡ x = cc in let k : bytes_of ts ≡ xs ++ ys = cc in split_more h (split ts xs ys k)
+
+all_front : {X : Type 0} (P : X → Type 0) (xs ys : List X) → All P (xs ++ ys) → All P xs
+all_front P [] ys h = All-nil P
+all_front P (x ∷ xs) ys h = All-cons P x xs (All-head P x (xs ++ ys) h) (all_front P xs ys (All-tail P x (xs ++ ys) h))
+
+all_back : {X : Type 0} (P : X → Type 0) (xs ys : List X) → All P (xs ++ ys) → All P ys
+all_back P [] ys h = h
+all_back P (x ∷ xs) ys h = all_back P xs ys (All-tail P x (xs ++ ys) h)
+
+-- the place between the two
+pub record Parted (P Q : List (List ℕ) → Type 0) (r t : Rest) : Type 0 where
+  pub at : Rest
+  pub before : Taken P r at
+  pub after : Taken Q at t
+
+pub parted : {P Q : List (List ℕ) → Type 0} {r t : Rest} → Taken (P then Q) r t → Parted P Q r t
+parted {P} {Q} {r} {t} a =
+    let k = split a.front a.shape.0 a.shape.1 a.shape.2 in
+    let all : All IsShort (bytes_of k.front ++ bytes_of k.back) = subst (All IsShort) (ap bytes_of k.joined ∙ map-append _ k.front k.back) a.short in
+    record {
+      at = record t { tokens = k.back ++ t.tokens };
+      before = record {
+        front = k.front;
+        joined = a.joined ∙ ap (λ l. record t { tokens = l ++ t.tokens }) k.joined ∙ ap (λ l. record t { tokens = l }) (append_assoc k.front k.back t.tokens);
+        short = all_front IsShort (bytes_of k.front) (bytes_of k.back) all;
+        shape = subst P (sym k.in_front) a.shape.3;
+      };
+      after = record { front = k.back; joined = refl; short = all_back IsShort (bytes_of k.front) (bytes_of k.back) all; shape = subst Q (sym k.behind) a.shape.4 };
+    }
+
+-- ---- one token
+
+not_more : (n m : ℕ) → nat_lt m n ≡ false → n ≤ m
+not_more n m e = grind (arith, nat_tests)
+
+pub record Next (r : Rest) (t : Token) (s : Rest) : Type 0 where
+  pub joined : r ≡ record s { tokens = t ∷ s.tokens }
+  pub short : length t.bytes ≤ most_bytes
+
+unread_none : (fails : Bool) (n : ℕ) (x : Token × Rest) → (if fails then Err unread else Err (refused 1 n)) ≡ Ok x → ⊥
+unread_none true n x e = cc
+unread_none false n x e = cc
+
+next_from : (ts : List Token) (r : Rest) (t : Token) (s : Rest) → r.tokens ≡ ts → first_token ts r ≡ Ok (t, s) → Next r t s
+unfolding first_token
+next_from [] r t s h e = absurd (unread_none r.fails r.length (t, s) e)
+next_from (u ∷ us) r t s h e =
+    let g = guard_false (nat_lt most_bytes (length u.bytes)) (u, record r { tokens = us }) (t, s) _ e in
+    let token : u ≡ t = ap (λ p. p.0) g.1 in
+    let left : record r { tokens = us } ≡ s = ap (λ p. p.1) g.1 in
+    let size : length u.bytes ≤ most_bytes = not_more (length u.bytes) most_bytes g.0 in
+    record {
+      joined = ap (λ l. record r { tokens = l }) h ∙ ap (λ (q : Rest). record q { tokens = u ∷ q.tokens }) left ∙ ap (λ v. record s { tokens = v ∷ s.tokens }) token;
+      short = subst (λ (v : Token). length v.bytes ≤ most_bytes) token size;
+    }
+
+pub next_sound : {r : Rest} {t : Token} {s : Rest} → token_read r ≡ Ok (t, s) → Next r t s
+next_sound {r} {t} {s} e = next_from r.tokens r t s refl e

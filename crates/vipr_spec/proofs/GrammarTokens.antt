@@ -1,0 +1,188 @@
+-- The kinds of token
+use Rattle.std.proofs.Common.{◌≡◌, ℕ, ◌-◌, ◌<◌, ◌≤◌, ◌⊎◌, inl, inr, ⊎_elim, Bool, true, false, nat_lt, nat_le, nat_eq, if◌then◌else◌, List, Option, Some, None, Result, Ok, Err, codes, arith, refl, sym, ◌∙◌, ap, subst}
+use Rattle.std.specs.List.{list_any}
+use Rattle.std.specs.Str.{bytes_eq}
+use Rattle.std.proofs.lemmas.Bool.Decides.{nat_tests}
+use Rattle.std.proofs.lemmas.Slice.Eq.{bytes_eq-Decides}
+use Rattle.vipr_spec.specs.Digits.{natural_of}
+use Rattle.vipr_spec.specs.Causes as cause
+use Rattle.vipr_spec.specs.Constraint.{Sense, at_most, equal, at_least}
+use Rattle.vipr_spec.specs.Certificate.{Direction, minimum, maximum}
+use Rattle.vipr_spec.specs.Reading.{most_count, at_most_or, word_of, count_of, derivation_count_of, below, variable_of, unless_among, new_variable_of, reference_of, some_of, last_of, sense_of, direction_of, has_range_of, Rule, by_asm, by_lin, by_rnd, by_uns, by_sol, rule_of}
+use Rattle.vipr_spec.specs.Grammar.{SpellsNatural, SpellsCount, SpellsVariable, SpellsSense, SpellsDirection, SpellsLast}
+use Rattle.vipr_spec.specs.GrammarLaws.{ReadsKind, rule_word, KindsOfToken}
+use Rattle.vipr_spec.proofs.GrammarNumbers.{natural_sound, natural_complete}
+use Rattle.vipr_spec.proofs.GrammarSteps.{guard_true, guard_false, chosen, success, same_ok}
+
+-- ---- fixed words
+
+pub same_bytes : (t w : List ℕ) → bytes_eq t w ≡ true → t ≡ w
+same_bytes t w e = (bytes_eq-Decides t w).0 e
+
+pub bytes_same : (t w : List ℕ) → t ≡ w → bytes_eq t w ≡ true
+bytes_same t w e = (bytes_eq-Decides t w).1 e
+
+-- the first word of several, or what the others give
+pub picked : {A E : Type 0} (t w : List ℕ) (x y : A) (others : Result A E) → (if bytes_eq t w then Ok x else others) ≡ Ok y → ((t ≡ w) × (x ≡ y)) ⊎ (others ≡ Ok y)
+picked t w x y others e = ⊎_elim (λ h. inl (same_bytes t w h.0, same_ok h.1)) (λ h. inr h.1) (chosen (bytes_eq t w) (Ok x) others (Ok y) e)
+
+-- of the first word a value P holds, and of the others too
+picks : {A : Type 0} (P : A → Type 0) (t w : List ℕ) (x y : A) (others : Result A ℕ) → (t ≡ w → P x) → (others ≡ Ok y → P y) → (if bytes_eq t w then Ok x else others) ≡ Ok y → P y
+picks P t w x y others here there e = ⊎_elim (λ h. subst P h.1 (here h.0)) there (picked t w x y others e)
+
+none_picked : {A : Type 0} (P : Type 0) (c : ℕ) (y : A) → Err c ≡ success ℕ y → P
+none_picked P c y e = absurd (cc)
+
+fixed_sound : (w : List ℕ) (c : ℕ) (t : List ℕ) (x : Unit {0}) → word_of w c t ≡ Ok x → t ≡ w
+fixed_sound w c t x e = same_bytes t w (guard_true (bytes_eq t w) tt x c e).0
+
+fixed_complete : (w : List ℕ) (c : ℕ) (t : List ℕ) (x : Unit {0}) → t ≡ w → word_of w c t ≡ Ok x
+fixed_complete w c t x e = ap (λ b. if b then Ok tt else Err c) (bytes_same t w e)
+
+sense_sound : (t : List ℕ) (s : Sense) → sense_of t ≡ Ok s → SpellsSense t s
+unfolding sense_of
+sense_sound t s e = picks (SpellsSense t) t _ equal s _ (λ h. h) (λ e2. picks (SpellsSense t) t _ at_most s _ (λ h. h) (λ e3. picks (SpellsSense t) t _ at_least s _ (λ h. h) (none_picked _ _ s) e3) e2) e
+
+sense_complete : (t : List ℕ) (s : Sense) → SpellsSense t s → sense_of t ≡ Ok s
+unfolding sense_of
+sense_complete t equal e = rw e
+sense_complete t at_most e = rw e
+sense_complete t at_least e = rw e
+
+direction_sound : (t : List ℕ) (s : Direction) → direction_of t ≡ Ok s → SpellsDirection t s
+unfolding direction_of
+direction_sound t s e = picks (SpellsDirection t) t _ minimum s _ (λ h. h) (λ e2. picks (SpellsDirection t) t _ maximum s _ (λ h. h) (none_picked _ _ s) e2) e
+
+direction_complete : (t : List ℕ) (s : Direction) → SpellsDirection t s → direction_of t ≡ Ok s
+unfolding direction_of
+direction_complete t minimum e = rw e
+direction_complete t maximum e = rw e
+
+abbrev SpellsRange : List ℕ → Bool → Type 0
+SpellsRange t b = t ≡ (if b then codes "range" else codes "infeas")
+
+has_range_sound : (t : List ℕ) (b : Bool) → has_range_of t ≡ Ok b → SpellsRange t b
+unfolding has_range_of
+has_range_sound t s e = picks (SpellsRange t) t _ false s _ (λ h. h) (λ e2. picks (SpellsRange t) t _ true s _ (λ h. h) (none_picked _ _ s) e2) e
+
+has_range_complete : (t : List ℕ) (b : Bool) → SpellsRange t b → has_range_of t ≡ Ok b
+unfolding has_range_of
+has_range_complete t false e = rw e
+has_range_complete t true e = rw e
+
+abbrev SpellsRule : List ℕ → Rule → Type 0
+SpellsRule t rule = t ≡ rule_word rule
+
+rule_sound : (t : List ℕ) (r : Rule) → rule_of t ≡ Ok r → SpellsRule t r
+unfolding rule_of
+rule_sound t r e =
+    let P : Rule → Type 0 = SpellsRule t in
+    picks P t _ by_asm r _ (λ h. h)
+    (λ e2. picks P t _ by_lin r _ (λ h. h)
+    (λ e3. picks P t _ by_rnd r _ (λ h. h)
+    (λ e4. picks P t _ by_uns r _ (λ h. h) (λ e5. picks P t _ by_sol r _ (λ h. h) (none_picked _ _ r) e5) e4) e3) e2)
+    e
+
+rule_complete : (t : List ℕ) (r : Rule) → SpellsRule t r → rule_of t ≡ Ok r
+unfolding rule_of
+rule_complete t by_asm e = rw e
+rule_complete t by_lin e = rw e
+rule_complete t by_rnd e = rw e
+rule_complete t by_uns e = rw e
+rule_complete t by_sol e = rw e
+
+-- ---- naturals within a bound
+
+at_most_sound : (most : ℕ) (found : Option ℕ) (absent larger n : ℕ) → at_most_or most found absent larger ≡ Ok n → (found ≡ Some n) × (n ≤ most)
+at_most_sound most None absent larger n e = absurd (cc)
+at_most_sound most (Some m) absent larger n e = let g = guard_true (nat_le m most) m n larger e in let h : m ≤ most = grind (arith, nat_tests, g.0) in (ap Some g.1, subst (λ k. k ≤ most) g.1 h)
+
+at_most_complete : (most : ℕ) (found : Option ℕ) (absent larger n : ℕ) → found ≡ Some n → n ≤ most → at_most_or most found absent larger ≡ Ok n
+at_most_complete most found absent larger n e h =
+    let t : nat_le n most ≡ true = grind (arith, nat_tests, h) in
+    ap (λ o. at_most_or most o absent larger) e ∙ ap (λ b. if b then Ok n else Err larger) t
+
+bounded : (most absent larger : ℕ) → ReadsKind (λ t. at_most_or most (natural_of t) absent larger) (λ t n. SpellsNatural t n × (n ≤ most))
+bounded most absent larger t n = (
+  λ e. let k = at_most_sound most (natural_of t) absent larger n e in (natural_sound t n k.0, k.1),
+  λ h. at_most_complete most (natural_of t) absent larger n (natural_complete t n h.0) h.1,
+)
+
+count_is : ReadsKind count_of SpellsCount
+unfolding count_of
+count_is = bounded most_count _ _
+
+derivation_count_is : (m : ℕ) → ReadsKind (derivation_count_of m) (λ t d. SpellsNatural t d × (d ≤ most_count - m))
+unfolding derivation_count_of
+derivation_count_is m = bounded (most_count - m) _ _
+
+reference_is : ReadsKind reference_of SpellsCount
+unfolding reference_of
+reference_is = bounded most_count _ _
+
+below_sound : (n : ℕ) (found : Option ℕ) (i : ℕ) → below n found ≡ Ok i → (found ≡ Some i) × (i < n)
+below_sound n None i e = absurd (cc)
+below_sound n (Some j) i e = let g = guard_true (nat_lt j n) j i _ e in let h : j < n = grind (arith, nat_tests, g.0) in (ap Some g.1, subst (λ k. k < n) g.1 h)
+
+below_complete : (n : ℕ) (found : Option ℕ) (i : ℕ) → found ≡ Some i → i < n → below n found ≡ Ok i
+below_complete n found i e h =
+    let t : nat_lt i n ≡ true = grind (arith, nat_tests, h) in
+    ap (λ o. below n o) e ∙ ap (λ b. if b then Ok i else Err cause.bad_index) t
+
+variable_is : (n : ℕ) → ReadsKind (variable_of n) (SpellsVariable n)
+unfolding variable_of
+variable_is n t i = (λ e. let k = below_sound n (natural_of t) i e in (natural_sound t i k.0, k.1), λ h. below_complete n (natural_of t) i (natural_complete t i h.0) h.1)
+
+among_sound : (before : List ℕ) (found : Result ℕ ℕ) (i : ℕ) → unless_among before found ≡ Ok i → (found ≡ Ok i) × (list_any (nat_eq i) before ≡ false)
+among_sound before (Err c) i e = absurd (cc)
+among_sound before (Ok j) i e = let g = guard_false (list_any (nat_eq j) before) j i _ e in (ap Ok g.1, subst (λ k. list_any (nat_eq k) before ≡ false) g.1 g.0)
+
+among_complete : (before : List ℕ) (found : Result ℕ ℕ) (i : ℕ) → found ≡ Ok i → list_any (nat_eq i) before ≡ false → unless_among before found ≡ Ok i
+among_complete before found i e h = ap (λ r. unless_among before r) e ∙ ap (λ b. if b then Err cause.repeated_index else Ok i) h
+
+new_variable_is : (n : ℕ) (before : List ℕ) → ReadsKind (new_variable_of n before) (λ t i. SpellsVariable n t i × (list_any (nat_eq i) before ≡ false))
+unfolding new_variable_of
+new_variable_is n before t i = (
+  λ e. let k = among_sound before (variable_of n t) i e in ((variable_is n t i).0 k.0, k.1),
+  λ h. among_complete before (variable_of n t) i ((variable_is n t i).1 h.0) h.1,
+)
+
+-- ---- last references
+
+pub some_sound : {A : Type 0} (found : Result A ℕ) (o : Option A) → some_of found ≡ Ok o → (x : A) × (found ≡ Ok x) × (o ≡ Some x)
+some_sound (Ok x) o e = (x, refl, sym (same_ok e))
+some_sound (Err c) o e = absurd (cc)
+
+no_number : (i : ℕ) → ¬ SpellsCount (codes "-1") i
+no_number i h = absurd (omega arith)
+
+last_sound : (t : List ℕ) (o : Option ℕ) → last_of t ≡ Ok o → SpellsLast t o
+unfolding last_of
+last_sound t o e =
+    picks (SpellsLast t) t _ None o _ (λ h. h)
+    (λ f. let k = some_sound (reference_of t) o f in subst (SpellsLast t) (sym k.2) ((reference_is t k.0).0 k.1)) e
+
+last_complete : (t : List ℕ) (o : Option ℕ) → SpellsLast t o → last_of t ≡ Ok o
+unfolding last_of
+last_complete t None e = rw e
+last_complete t (Some i) h = other (bytes_eq t (codes "-1")) refl
+  where
+    other : (b : Bool) → bytes_eq t (codes "-1") ≡ b → (if b then Ok None else some_of (reference_of t)) ≡ Ok (Some i)
+    other true e = absurd (no_number i (subst (λ u. SpellsCount u i) (same_bytes t _ e) h))
+    other false e = ap some_of ((reference_is t i).1 h)
+
+pub kinds_of_token : KindsOfToken
+kinds_of_token = record {
+  name = λ t x. (λ e. same_ok e, λ e. ap Ok e);
+  fixed = λ w c t x. (fixed_sound w c t x, fixed_complete w c t x);
+  count = count_is;
+  derivation_count = derivation_count_is;
+  variable = variable_is;
+  new_variable = new_variable_is;
+  reference = reference_is;
+  last = λ t o. (last_sound t o, last_complete t o);
+  sense = λ t s. (sense_sound t s, sense_complete t s);
+  direction = λ t d. (direction_sound t d, direction_complete t d);
+  has_range = λ t b. (has_range_sound t b, has_range_complete t b);
+  rule = λ t r. (rule_sound t r, rule_complete t r);
+}
