@@ -149,7 +149,7 @@ given a i (inl e) r = rests_given example i a (ap (reason_at example) e) r
 given a i (inr e) r = rests_given example i a (ap (reason_at example) e) r
 
 nothing : RestsOnNothing example 2
-nothing a r = let u = rests_lin example 2 a both refl r in given a u.0.0 (in_both u.0 u.1) u.3
+nothing a r = let u = (rests_lin example 2 a both refl).0 r in given a u.0.0 (in_both u.0 u.1) u.3
 
 valid : IsProof example
 valid = record {

@@ -1,51 +1,47 @@
 -- The assumption sets, by the reason
-use Rattle.std.proofs.Common.{◌≡◌, ◌≢◌, ℕ, ◌⊎◌, List, Some, None, Contains, refl, sym, ◌∙◌, subst, inl, inr}
-use Rattle.vipr_spec.specs.Fraction.{ℚ, zero_ℚ}
-use Rattle.vipr_spec.specs.Certificate.{asm, lin, rnd, uns, sol, Certificate, reason_at, RestsOn, itself, by_lin, by_rnd, by_first, by_second}
+use Rattle.std.proofs.Common.{◌≡◌, ◌≢◌, ℕ, ◌⊎◌, List, Option, Some, None, refl, sym, subst, inl, inr}
+use Rattle.std.specs.Prelude.{◌↔◌}
+use Rattle.vipr_spec.specs.Fraction.{ℚ}
+use Rattle.vipr_spec.specs.Certificate.{Reason, asm, lin, rnd, uns, sol, Certificate, reason_at, RestsOn, itself, by_lin, by_rnd, by_first, by_second}
+use Rattle.vipr_spec.specs.OnePass.{SomeRestsOn, RestsBy}
 
-abbrev pub IsUsed : Certificate → List (ℕ × ℚ) → ℕ → Type 0
-IsUsed c es a = (e : ℕ × ℚ) × Contains es e × (e.1 ≢ zero_ℚ) × RestsOn c e.0 a
+pub rests_out : (c : Certificate) (i a : ℕ) → RestsOn c i a → RestsBy c i (reason_at c i) a
+rests_out c i a (itself e) = subst (λ r. RestsBy c i r i) (sym e) refl
+rests_out c i a (by_lin es e r m n d) = let u : RestsBy c i (Some (lin es)) a = (e, m, n, d) in subst (λ q. RestsBy c i q a) (sym r) u
+rests_out c i a (by_rnd es e r m n d) = let u : RestsBy c i (Some (rnd es)) a = (e, m, n, d) in subst (λ q. RestsBy c i q a) (sym r) u
+rests_out c i a (by_first i1 l1 i2 l2 r d n) = let u : RestsBy c i (Some (uns i1 l1 i2 l2)) a = inl (d, n) in subst (λ q. RestsBy c i q a) (sym r) u
+rests_out c i a (by_second i1 l1 i2 l2 r d n) = let u : RestsBy c i (Some (uns i1 l1 i2 l2)) a = inr (d, n) in subst (λ q. RestsBy c i q a) (sym r) u
 
-same_lin : (es fs : List (ℕ × ℚ)) → Some (lin es) ≡ Some (lin fs) → es ≡ fs
-same_lin es fs e = cc
+pub rests_in : (c : Certificate) (i a : ℕ) (q : Option Reason) → reason_at c i ≡ q → RestsBy c i q a → RestsOn c i a
+rests_in c i a None e h = absurd h
+rests_in c i a (Some asm) e h = subst (λ b. RestsOn c i b) h (itself e)
+rests_in c i a (Some (lin es)) e h = by_lin es h.0 e h.1 h.2 h.3
+rests_in c i a (Some (rnd es)) e h = by_rnd es h.0 e h.1 h.2 h.3
+rests_in c i a (Some (uns i1 l1 i2 l2)) e (inl h) = by_first i1 l1 i2 l2 e h.0 h.1
+rests_in c i a (Some (uns i1 l1 i2 l2)) e (inr h) = by_second i1 l1 i2 l2 e h.0 h.1
+rests_in c i a (Some sol) e h = absurd h
 
-same_rnd : (es fs : List (ℕ × ℚ)) → Some (rnd es) ≡ Some (rnd fs) → es ≡ fs
-same_rnd es fs e = cc
+pub rests_iff : (c : Certificate) (i a : ℕ) → RestsOn c i a ↔ RestsBy c i (reason_at c i) a
+rests_iff c i a = (rests_out c i a, rests_in c i a (reason_at c i) refl)
+
+-- where the reason is known
+pub rests_by : (c : Certificate) (i a : ℕ) (q : Option Reason) → reason_at c i ≡ q → RestsOn c i a → RestsBy c i q a
+rests_by c i a q e r = subst (λ q. RestsBy c i q a) e (rests_out c i a r)
 
 pub rests_given : (c : Certificate) (i a : ℕ) → reason_at c i ≡ None → ¬ RestsOn c i a
-rests_given c i a q (itself e) = absurd (cc)
-rests_given c i a q (by_lin es e r m n d) = absurd (cc)
-rests_given c i a q (by_rnd es e r m n d) = absurd (cc)
-rests_given c i a q (by_first i1 l1 i2 l2 r d n) = absurd (cc)
-rests_given c i a q (by_second i1 l1 i2 l2 r d n) = absurd (cc)
+rests_given c i a q r = rests_by c i a None q r
 
 pub rests_sol : (c : Certificate) (i a : ℕ) → reason_at c i ≡ Some sol → ¬ RestsOn c i a
-rests_sol c i a q (itself e) = absurd (cc)
-rests_sol c i a q (by_lin es e r m n d) = absurd (cc)
-rests_sol c i a q (by_rnd es e r m n d) = absurd (cc)
-rests_sol c i a q (by_first i1 l1 i2 l2 r d n) = absurd (cc)
-rests_sol c i a q (by_second i1 l1 i2 l2 r d n) = absurd (cc)
+rests_sol c i a q r = rests_by c i a (Some sol) q r
 
-pub rests_asm : (c : Certificate) (i a : ℕ) → reason_at c i ≡ Some asm → RestsOn c i a → i ≡ a
-rests_asm c i a q (itself e) = refl
-rests_asm c i a q (by_lin es e r m n d) = absurd (cc)
-rests_asm c i a q (by_rnd es e r m n d) = absurd (cc)
-rests_asm c i a q (by_first i1 l1 i2 l2 r d n) = absurd (cc)
-rests_asm c i a q (by_second i1 l1 i2 l2 r d n) = absurd (cc)
+pub rests_asm : (c : Certificate) (i a : ℕ) → reason_at c i ≡ Some asm → RestsOn c i a ↔ (i ≡ a)
+rests_asm c i a q = (rests_by c i a (Some asm) q, rests_in c i a (Some asm) q)
 
-used_of : (c : Certificate) (a : ℕ) (fs es : List (ℕ × ℚ)) (e : ℕ × ℚ) → fs ≡ es → Contains fs e → e.1 ≢ zero_ℚ → RestsOn c e.0 a → IsUsed c es a
-used_of c a fs es e p m n d = (e, subst (λ gs. Contains gs e) p m, n, d)
+pub rests_lin : (c : Certificate) (i a : ℕ) (es : List (ℕ × ℚ)) → reason_at c i ≡ Some (lin es) → RestsOn c i a ↔ SomeRestsOn c es a
+rests_lin c i a es q = (rests_by c i a (Some (lin es)) q, rests_in c i a (Some (lin es)) q)
 
-pub rests_lin : (c : Certificate) (i a : ℕ) (es : List (ℕ × ℚ)) → reason_at c i ≡ Some (lin es) → RestsOn c i a → IsUsed c es a
-rests_lin c i a es q (itself e) = absurd (cc)
-rests_lin c i a es q (by_lin fs e r m n d) = used_of c a fs es e (same_lin fs es (sym r ∙ q)) m n d
-rests_lin c i a es q (by_rnd fs e r m n d) = absurd (cc)
-rests_lin c i a es q (by_first i1 l1 i2 l2 r d n) = absurd (cc)
-rests_lin c i a es q (by_second i1 l1 i2 l2 r d n) = absurd (cc)
+pub rests_rnd : (c : Certificate) (i a : ℕ) (es : List (ℕ × ℚ)) → reason_at c i ≡ Some (rnd es) → RestsOn c i a ↔ SomeRestsOn c es a
+rests_rnd c i a es q = (rests_by c i a (Some (rnd es)) q, rests_in c i a (Some (rnd es)) q)
 
-pub rests_uns : (c : Certificate) (i a i1 l1 i2 l2 : ℕ) → reason_at c i ≡ Some (uns i1 l1 i2 l2) → RestsOn c i a → (RestsOn c i1 a × (a ≢ l1)) ⊎ (RestsOn c i2 a × (a ≢ l2))
-rests_uns c i a i1 l1 i2 l2 q (itself e) = absurd (cc)
-rests_uns c i a i1 l1 i2 l2 q (by_lin fs e r m n d) = absurd (cc)
-rests_uns c i a i1 l1 i2 l2 q (by_rnd fs e r m n d) = absurd (cc)
-rests_uns c i a i1 l1 i2 l2 q (by_first j1 k1 j2 k2 r d n) = let e : j1 ≡ i1 = cc in let f : k1 ≡ l1 = cc in inl (subst (λ j. RestsOn c j a) e d, subst (λ l. a ≢ l) f n)
-rests_uns c i a i1 l1 i2 l2 q (by_second j1 k1 j2 k2 r d n) = let e : j2 ≡ i2 = cc in let f : k2 ≡ l2 = cc in inr (subst (λ j. RestsOn c j a) e d, subst (λ l. a ≢ l) f n)
+pub rests_uns : (c : Certificate) (i a i1 l1 i2 l2 : ℕ) → reason_at c i ≡ Some (uns i1 l1 i2 l2) → RestsOn c i a ↔ ((RestsOn c i1 a × (a ≢ l1)) ⊎ (RestsOn c i2 a × (a ≢ l2)))
+rests_uns c i a i1 l1 i2 l2 q = (rests_by c i a (Some (uns i1 l1 i2 l2)) q, rests_in c i a (Some (uns i1 l1 i2 l2)) q)

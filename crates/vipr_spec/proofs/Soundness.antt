@@ -10,15 +10,15 @@ use Rattle.vipr_spec.proofs.Fractions.{le_refl_ℚ, le_trans_ℚ, le_total_ℚ}
 use Rattle.vipr_spec.proofs.Linear.{absurd_false, value-zero, dominates_true, IsTrueEntry, lin_true, rnd_true, uns_true}
 
 -- ---- admitted points
-as_good_refl : (d : Direction) (v : ℚ) → IsAsGood d v v
+pub as_good_refl : (d : Direction) (v : ℚ) → IsAsGood d v v
 as_good_refl minimum v = le_refl_ℚ v
 as_good_refl maximum v = le_refl_ℚ v
 
-as_good_trans : (d : Direction) (u v w : ℚ) → IsAsGood d u v → IsAsGood d v w → IsAsGood d u w
+pub as_good_trans : (d : Direction) (u v w : ℚ) → IsAsGood d u v → IsAsGood d v w → IsAsGood d u w
 as_good_trans minimum u v w h k = le_trans_ℚ u v w h k
 as_good_trans maximum u v w h k = le_trans_ℚ w v u k h
 
-as_good_total : (d : Direction) (v w : ℚ) → IsAsGood d v w ⊎ IsAsGood d w v
+pub as_good_total : (d : Direction) (v w : ℚ) → IsAsGood d v w ⊎ IsAsGood d w v
 as_good_total minimum v w = le_total_ℚ v w
 as_good_total maximum v w = le_total_ℚ w v
 

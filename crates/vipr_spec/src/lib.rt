@@ -3,6 +3,10 @@
 #![tactic(auto)]
 
 pub mod arithmetic;
+pub mod assumption_sets;
+pub mod best_values;
 pub mod claims;
 pub mod consequences;
+pub mod dual_side;
 pub mod grammar;
+pub mod one_pass;
