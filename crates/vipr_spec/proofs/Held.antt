@@ -1,5 +1,5 @@
 -- What is live and held, and the peak, depend on the derivations so far alone
-use Rattle.std.proofs.Common.{◌≡◌, List, ℕ, zero, suc, ◌+◌, ◌-◌, ◌<◌, ◌≤◌, max, Bool, true, false, ◌&&◌, ◌||◌, nat_lt, ◌∷◌, [], ◌++◌, map, length, arith, refl, sym, ◌∙◌, ap, ap₂, length-append}
+use Rattle.std.proofs.Common.{◌≡◌, List, ℕ, zero, suc, ◌+◌, ◌-◌, ◌<◌, ◌≤◌, max, Bool, true, false, ◌&&◌, ◌||◌, nat_lt, ◌∷◌, [], ◌++◌, map, length, arith, refl, ◌∙◌, ap, ap₂, length-append}
 use Rattle.std.proofs.lemmas.Bool.{ltb-true}
 use Rattle.std.proofs.lemmas.List.FromFn.{map-range_with_len_more}
 use Rattle.std.proofs.lemmas.List.Sums.{fold-append}

@@ -1,18 +1,16 @@
 -- What a step says depends on the derivations up to it alone
-use Rattle.std.proofs.Common.{◌≡◌, ℕ, zero, suc, ◌+◌, ◌-◌, ◌<◌, ◌≤◌, max, Bool, true, false, List, [], ◌∷◌, ◌++◌, map, length, slice_index_or, Option, Some, None, All, Contains, arith, refl, sym, ◌∙◌, ap, ap₂, subst, subst₂, append_assoc}
-use Rattle.std.specs.Prelude.{◌↔◌, ◌&&◌, ◌||◌, nat_lt, fold, count_by}
-use Rattle.std.specs.List.{range_with_len}
-use Rattle.std.proofs.lemmas.Bool.{ltb-true}
+use Rattle.std.proofs.Common.{◌≡◌, ℕ, zero, suc, ◌+◌, ◌<◌, ◌≤◌, List, [], ◌∷◌, ◌++◌, map, length, slice_index_or, Option, Some, None, All, Contains, arith, refl, sym, ◌∙◌, ap, ap₂, subst, subst₂, append_assoc, ⊎_elim}
+use Rattle.std.specs.Prelude.{◌↔◌}
+use Rattle.std.proofs.lemmas.Bool.{cases_lt}
 use Rattle.std.proofs.lemmas.List.{map-append, get_or_append_left, get_or_past}
 use Rattle.std.proofs.lemmas.List.Elements.{All-head, All-tail, All-contains}
-use Rattle.std.proofs.lemmas.List.FromFn.{map-range_with_len_more}
-use Rattle.std.proofs.lemmas.List.Sums.{fold-append}
 use Rattle.std.proofs.Math.ListN.{length-append, length-map}
 use Rattle.std.proofs.Math.Seq.{get_or-append_seam}
 use Rattle.vipr_spec.specs.Fraction.{ℚ}
 use Rattle.vipr_spec.specs.Constraint.{condition, Dominates, Combines, CombinesRounded, SumOfFits}
-use Rattle.vipr_spec.specs.Certificate.{Reason, asm, lin, rnd, uns, sol, Derivation, Certificate, constraint_at, reason_at, last_at, RestsOn, itself, by_lin, by_rnd, by_first, by_second, RestsOnNothing, entries, count, IsValid, StepFits, is_assumption, lasts_to, is_live, held, peak}
-use Rattle.vipr_spec.specs.OnePass.{with_more, with_next, NamesEarlier, RefersBack}
+use Rattle.vipr_spec.specs.Certificate.{Reason, asm, lin, rnd, uns, sol, Derivation, Certificate, constraint_at, reason_at, last_at, RestsOn, itself, by_lin, by_rnd, by_first, by_second, RestsOnNothing, entries, count, IsValid, StepFits}
+pub use Rattle.vipr_spec.specs.OnePass.{with_more, with_next}
+use Rattle.vipr_spec.specs.OnePass.{NamesEarlier, RefersBack}
 
 -- two lists end to end, of which the second goes on
 longer : {X Y Z : Type 0} (f : X → Z) (g : Y → Z) (xs : List X) (ys zs : List Y) (d : Z) (i : ℕ) → i < length xs + length ys
@@ -59,15 +57,6 @@ entries_before c ds k [] h a = refl
 entries_before c ds k (e ∷ es) h a =
     let l : e.0 < k = All-head (λ (e : ℕ × ℚ). e.0 < k) e es a in
     ap₂ (λ x xs. (e.1, x) ∷ xs) (constraint_before c ds e.0 (omega arith)) (entries_before c ds k es h (All-tail (λ (e : ℕ × ℚ). e.0 < k) e es a))
-
--- ---- liveness
-both_or_none : (b p q : Bool) → (b ≡ true → p ≡ q) → (b && p) ≡ (b && q)
-both_or_none false p q h = refl
-both_or_none true p q h = h refl
-
-pub is_live_before : (c : Certificate) (ds : List Derivation) (k i : ℕ) → k ≤ count c → is_live (with_more c ds) k i ≡ is_live c k i
-is_live_before c ds k i h = both_or_none (nat_lt i k) _ _ (λ t. let l : i < k = ltb-true i k t in
-    ap₂ (λ r o. is_assumption r || lasts_to k o) (reason_before c ds i (omega arith)) (last_before c ds i (omega arith)))
 
 -- ---- validity and fitting
 pub names_earlier : (c : Certificate) (k : ℕ) (r : Option Reason) → IsValid c k r → NamesEarlier k r
@@ -131,22 +120,35 @@ earlier_uns : (c : Certificate) (i i1 l1 i2 l2 : ℕ) → RefersBack c → reaso
 earlier_uns c i i1 l1 i2 l2 v r = let w : NamesEarlier i (Some (uns i1 l1 i2 l2)) = subst (NamesEarlier i) r (v i) in (w.0, w.2)
 
 module _ (c : Certificate) (ds : List Derivation) (back : RefersBack c) where
-  pub rests_before : (i a : ℕ) → i < count c → RestsOn c i a → RestsOn (with_more c ds) i a
-  rests_before i a h (itself e) = itself (reason_before c ds i h ∙ e)
-  rests_before i a h (by_lin es e r m n d) = by_lin es e (reason_before c ds i h ∙ r) m n (rests_before e.0 a (let l = earlier_lin c i es e back r m in omega arith) d)
-  rests_before i a h (by_rnd es e r m n d) = by_rnd es e (reason_before c ds i h ∙ r) m n (rests_before e.0 a (let l = earlier_rnd c i es e back r m in omega arith) d)
-  rests_before i a h (by_first i1 l1 i2 l2 r d n) = by_first i1 l1 i2 l2 (reason_before c ds i h ∙ r) (rests_before i1 a (let l = earlier_uns c i i1 l1 i2 l2 back r in omega arith) d) n
-  rests_before i a h (by_second i1 l1 i2 l2 r d n) = by_second i1 l1 i2 l2 (reason_before c ds i h ∙ r) (rests_before i2 a (let l = earlier_uns c i i1 l1 i2 l2 back r in omega arith) d) n
+  pub rests_later : (i a : ℕ) → i < count c → RestsOn c i a → RestsOn (with_more c ds) i a
+  rests_later i a h (itself e) = itself (reason_before c ds i h ∙ e)
+  rests_later i a h (by_lin es e r m n d) = by_lin es e (reason_before c ds i h ∙ r) m n (rests_later e.0 a (let l = earlier_lin c i es e back r m in omega arith) d)
+  rests_later i a h (by_rnd es e r m n d) = by_rnd es e (reason_before c ds i h ∙ r) m n (rests_later e.0 a (let l = earlier_rnd c i es e back r m in omega arith) d)
+  rests_later i a h (by_first i1 l1 i2 l2 r d n) = by_first i1 l1 i2 l2 (reason_before c ds i h ∙ r) (rests_later i1 a (let l = earlier_uns c i i1 l1 i2 l2 back r in omega arith) d) n
+  rests_later i a h (by_second i1 l1 i2 l2 r d n) = by_second i1 l1 i2 l2 (reason_before c ds i h ∙ r) (rests_later i2 a (let l = earlier_uns c i i1 l1 i2 l2 back r in omega arith) d) n
 
-  pub rests_after : (i a : ℕ) → i < count c → RestsOn (with_more c ds) i a → RestsOn c i a
-  rests_after i a h (itself e) = itself (sym (reason_before c ds i h) ∙ e)
-  rests_after i a h (by_lin es e r m n d) = let q = sym (reason_before c ds i h) ∙ r in by_lin es e q m n (rests_after e.0 a (let l = earlier_lin c i es e back q m in omega arith) d)
-  rests_after i a h (by_rnd es e r m n d) = let q = sym (reason_before c ds i h) ∙ r in by_rnd es e q m n (rests_after e.0 a (let l = earlier_rnd c i es e back q m in omega arith) d)
-  rests_after i a h (by_first i1 l1 i2 l2 r d n) = let q = sym (reason_before c ds i h) ∙ r in by_first i1 l1 i2 l2 q (rests_after i1 a (let l = earlier_uns c i i1 l1 i2 l2 back q in omega arith) d) n
-  rests_after i a h (by_second i1 l1 i2 l2 r d n) = let q = sym (reason_before c ds i h) ∙ r in by_second i1 l1 i2 l2 q (rests_after i2 a (let l = earlier_uns c i i1 l1 i2 l2 back q in omega arith) d) n
+  pub rests_sooner : (i a : ℕ) → i < count c → RestsOn (with_more c ds) i a → RestsOn c i a
+  rests_sooner i a h (itself e) = itself (sym (reason_before c ds i h) ∙ e)
+  rests_sooner i a h (by_lin es e r m n d) = let q = sym (reason_before c ds i h) ∙ r in by_lin es e q m n (rests_sooner e.0 a (let l = earlier_lin c i es e back q m in omega arith) d)
+  rests_sooner i a h (by_rnd es e r m n d) = let q = sym (reason_before c ds i h) ∙ r in by_rnd es e q m n (rests_sooner e.0 a (let l = earlier_rnd c i es e back q m in omega arith) d)
+  rests_sooner i a h (by_first i1 l1 i2 l2 r d n) = let q = sym (reason_before c ds i h) ∙ r in by_first i1 l1 i2 l2 q (rests_sooner i1 a (let l = earlier_uns c i i1 l1 i2 l2 back q in omega arith) d) n
+  rests_sooner i a h (by_second i1 l1 i2 l2 r d n) = let q = sym (reason_before c ds i h) ∙ r in by_second i1 l1 i2 l2 q (rests_sooner i2 a (let l = earlier_uns c i i1 l1 i2 l2 back q in omega arith) d) n
 
-  pub rests_nothing_before : (i : ℕ) → i < count c → RestsOnNothing (with_more c ds) i ↔ RestsOnNothing c i
-  rests_nothing_before i h = (λ n a r. n a (rests_before i a h r), λ n a r. n a (rests_after i a h r))
+  pub rests_on_nothing : (i : ℕ) → i < count c → RestsOnNothing (with_more c ds) i ↔ RestsOnNothing c i
+  rests_on_nothing i h = (λ n a r. n a (rests_later i a h r), λ n a r. n a (rests_sooner i a h r))
+
+-- where every step so far is valid
+pub back_of_valid : (c : Certificate) → ((k : ℕ) → k < count c → IsValid c k (reason_at c k)) → RefersBack c
+back_of_valid c v k = ⊎_elim
+    (λ (h : k < count c). names_earlier c k (reason_at c k) (v k h))
+    (λ (h : count c ≤ k). subst (NamesEarlier k) (sym (reason_past c k h)) tt)
+    (cases_lt k (count c))
+
+pub rests_before : (c : Certificate) (ds : List Derivation) → ((k : ℕ) → k < count c → IsValid c k (reason_at c k)) → (i a : ℕ) → i < count c → RestsOn c i a → RestsOn (with_more c ds) i a
+rests_before c ds v i a h r = rests_later c ds (back_of_valid c v) i a h r
+
+pub rests_after : (c : Certificate) (ds : List Derivation) → ((k : ℕ) → k < count c → IsValid c k (reason_at c k)) → (i a : ℕ) → i < count c → RestsOn (with_more c ds) i a → RestsOn c i a
+rests_after c ds v i a h r = rests_sooner c ds (back_of_valid c v) i a h r
 
 -- ---- the next derivation
 next : {X Y Z : Type 0} (f : X → Z) (g : Y → Z) (xs : List X) (ys : List Y) (y : Y) (d : Z) → slice_index_or (map f xs ++ map g (ys ++ y ∷ [])) (length xs + length ys) d ≡ g y
@@ -165,22 +167,3 @@ reason_next c d = next (λ a. None) (λ s. Some s.reason) c.problem.constraints 
 
 pub last_next : (c : Certificate) (d : Derivation) → last_at (with_next c d) (count c) ≡ d.last
 last_next c d = next (λ a. None) (λ s. s.last) c.problem.constraints c.derivations d None
-
--- ---- what is held
-pub held_before : (c : Certificate) (ds : List Derivation) (k : ℕ) → k < count c → held (with_more c ds) k ≡ held c k
-held_before c ds k h = let m = length c.problem.constraints in ap (λ f. 1 + count_by f (range_with_len m (k - m))) (λ i x. is_live_before c ds (k + 1) x (omega arith) i)
-
-map_range_same : (f g : ℕ → ℕ) (a n : ℕ) → ((i : ℕ) → i < a + n → f i ≡ g i) → map f (range_with_len a n) ≡ map g (range_with_len a n)
-map_range_same f g a zero h = refl
-map_range_same f g a (suc n) h = ap₂ (λ x xs. x ∷ xs) (h a (omega arith)) (map_range_same f g (a + 1) n (λ i l. h i (omega arith)))
-
-pub peak_next : (c : Certificate) (d : Derivation) → peak (with_next c d) ≡ max (peak c) (held (with_next c d) (count c))
-peak_next c d =
-    let m = length c.problem.constraints in
-    let n = length c.derivations in
-    let e = with_next c d in
-    let more : length (c.derivations ++ d ∷ []) ≡ n + 1 = simp length-append in
-    ap (λ l. fold max 0 (map (held e) (range_with_len m l))) more
-    ∙ ap (fold max 0) (map-range_with_len_more (held e) m n (m + n) refl)
-    ∙ fold-append max 0 (map (held e) (range_with_len m n)) (held e (m + n) ∷ [])
-    ∙ ap (λ l. max (fold max 0 l) (held e (m + n))) (map_range_same (held e) (held c) m n (λ i l. held_before c (d ∷ []) i l))

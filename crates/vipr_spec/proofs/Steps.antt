@@ -8,7 +8,8 @@ use Rattle.vipr_spec.specs.Constraint.{Condition, condition, Dominates, Combines
 use Rattle.vipr_spec.specs.Certificate.{Problem, Claim, infeasible, range, dual_bound, Reason, asm, lin, rnd, uns, sol, Derivation, Certificate, constraint_at, reason_at, RestsOn, count, IsValid, StepFits, RefersTo, MeetsDual, NeedsGoal, ProvesDual, IsProof}
 use Rattle.vipr_spec.specs.OnePass.{with_more, with_next, RestsBy, NamesEarlier, RefersBack, FollowsBy, IsGoodStep, IsGoodNext, HasGoodSteps, IsProofByStep, GoalIs}
 use Rattle.vipr_spec.proofs.Rests.{rests_in, rests_by, rests_given}
-use Rattle.vipr_spec.proofs.Prefix.{constraint_before, reason_before, count_next, count_least, reason_past, reason_given, entries_before, is_live_before, names_earlier, fits_before, valid_before, valid_after, rests_before, rests_after, rests_nothing_before, constraint_next, reason_next}
+use Rattle.vipr_spec.proofs.Held.{live_before}
+use Rattle.vipr_spec.proofs.Prefix.{constraint_before, reason_before, count_next, count_least, reason_past, reason_given, entries_before, names_earlier, fits_before, valid_before, valid_after, rests_later, rests_sooner, rests_on_nothing, constraint_next, reason_next}
 
 -- ---- earlier steps
 pub good_before : (c : Certificate) (ds : List Derivation) (k : ℕ) → k < count c → IsGoodStep c k → IsGoodStep (with_more c ds) k
@@ -16,7 +17,7 @@ good_before c ds k h g =
     let e = reason_before c ds k h in record {
       valid = subst (IsValid (with_more c ds) k) (sym e) (valid_before c ds k (reason_at c k) h g.valid);
       fits = subst (StepFits (with_more c ds)) (sym e) ((fits_before c ds k (reason_at c k) (omega arith) (names_earlier c k (reason_at c k) g.valid)).1 g.fits);
-      references = λ i r. subst IsTrue (sym (is_live_before c ds k i (omega arith))) (g.references i (subst (λ q. RefersTo q i) e r));
+      references = λ i r. subst IsTrue (sym (live_before c ds k i (omega arith))) (g.references i (subst (λ q. RefersTo q i) e r));
     }
 
 pub good_after : (c : Certificate) (ds : List Derivation) (k : ℕ) → k < count c → IsGoodStep (with_more c ds) k → IsGoodStep c k
@@ -25,7 +26,7 @@ good_after c ds k h g =
     let v : IsValid c k (reason_at c k) = valid_after c ds k (reason_at c k) h (subst (IsValid (with_more c ds) k) e g.valid) in record {
       valid = v;
       fits = (fits_before c ds k (reason_at c k) (omega arith) (names_earlier c k (reason_at c k) v)).0 (subst (StepFits (with_more c ds)) e g.fits);
-      references = λ i r. subst IsTrue (is_live_before c ds k i (omega arith)) (g.references i (subst (λ q. RefersTo q i) (sym e) r));
+      references = λ i r. subst IsTrue (live_before c ds k i (omega arith)) (g.references i (subst (λ q. RefersTo q i) (sym e) r));
     }
 
 -- ---- a step that is none
@@ -98,14 +99,14 @@ good_next c d = (there, back)
       earlier = v.0;
       follows = v.1;
       fits = (fits_before c (d ∷ []) (count c) (Some d.reason) (omega arith) v.0).0 (subst (StepFits (with_next c d)) e g.fits);
-      references = λ i r. subst IsTrue (is_live_before c (d ∷ []) (count c) i (omega arith)) (g.references i (subst (λ q. RefersTo q i) (sym e) r));
+      references = λ i r. subst IsTrue (live_before c (d ∷ []) (count c) i (omega arith)) (g.references i (subst (λ q. RefersTo q i) (sym e) r));
     }
 
     back : IsGoodNext c d → IsGoodStep (with_next c d) (count c)
     back g = record {
       valid = subst (IsValid (with_next c d) (count c)) (sym e) ((valid_next c d).1 (g.earlier, g.follows));
       fits = subst (StepFits (with_next c d)) (sym e) ((fits_before c (d ∷ []) (count c) (Some d.reason) (omega arith) g.earlier).1 g.fits);
-      references = λ i r. subst IsTrue (sym (is_live_before c (d ∷ []) (count c) i (omega arith))) (g.references i (subst (λ q. RefersTo q i) e r));
+      references = λ i r. subst IsTrue (sym (live_before c (d ∷ []) (count c) i (omega arith))) (g.references i (subst (λ q. RefersTo q i) e r));
     }
 
 pub good_steps_next : (c : Certificate) (d : Derivation) → HasGoodSteps (with_next c d) ↔ (HasGoodSteps c × IsGoodNext c d)
@@ -149,22 +150,22 @@ rests_next_by : (c : Certificate) (d : Derivation) (a : ℕ) (r : Reason) → Re
     → RestsBy (with_next c d) (count c) (Some r) a ↔ RestsBy c (count c) (Some r) a
 rests_next_by c d a asm back n = (λ h. h, λ h. h)
 rests_next_by c d a (lin es) back n = (
-  λ h. (h.0, h.1, h.2, rests_after c (d ∷ []) back h.0.0 a (All-contains (λ (e : ℕ × ℚ). e.0 < count c) es h.0 n h.1) h.3),
-  λ h. (h.0, h.1, h.2, rests_before c (d ∷ []) back h.0.0 a (All-contains (λ (e : ℕ × ℚ). e.0 < count c) es h.0 n h.1) h.3),
+  λ h. (h.0, h.1, h.2, rests_sooner c (d ∷ []) back h.0.0 a (All-contains (λ (e : ℕ × ℚ). e.0 < count c) es h.0 n h.1) h.3),
+  λ h. (h.0, h.1, h.2, rests_later c (d ∷ []) back h.0.0 a (All-contains (λ (e : ℕ × ℚ). e.0 < count c) es h.0 n h.1) h.3),
 )
 rests_next_by c d a (rnd es) back n = (
-  λ h. (h.0, h.1, h.2, rests_after c (d ∷ []) back h.0.0 a (All-contains (λ (e : ℕ × ℚ). e.0 < count c) es h.0 n h.1) h.3),
-  λ h. (h.0, h.1, h.2, rests_before c (d ∷ []) back h.0.0 a (All-contains (λ (e : ℕ × ℚ). e.0 < count c) es h.0 n h.1) h.3),
+  λ h. (h.0, h.1, h.2, rests_sooner c (d ∷ []) back h.0.0 a (All-contains (λ (e : ℕ × ℚ). e.0 < count c) es h.0 n h.1) h.3),
+  λ h. (h.0, h.1, h.2, rests_later c (d ∷ []) back h.0.0 a (All-contains (λ (e : ℕ × ℚ). e.0 < count c) es h.0 n h.1) h.3),
 )
 rests_next_by c d a (uns i1 l1 i2 l2) back n = (there, here)
   where
     there : RestsBy (with_next c d) (count c) (Some (uns i1 l1 i2 l2)) a → RestsBy c (count c) (Some (uns i1 l1 i2 l2)) a
-    there (inl h) = inl (rests_after c (d ∷ []) back i1 a n.0 h.0, h.1)
-    there (inr h) = inr (rests_after c (d ∷ []) back i2 a n.2 h.0, h.1)
+    there (inl h) = inl (rests_sooner c (d ∷ []) back i1 a n.0 h.0, h.1)
+    there (inr h) = inr (rests_sooner c (d ∷ []) back i2 a n.2 h.0, h.1)
 
     here : RestsBy c (count c) (Some (uns i1 l1 i2 l2)) a → RestsBy (with_next c d) (count c) (Some (uns i1 l1 i2 l2)) a
-    here (inl h) = inl (rests_before c (d ∷ []) back i1 a n.0 h.0, h.1)
-    here (inr h) = inr (rests_before c (d ∷ []) back i2 a n.2 h.0, h.1)
+    here (inl h) = inl (rests_later c (d ∷ []) back i1 a n.0 h.0, h.1)
+    here (inr h) = inr (rests_later c (d ∷ []) back i2 a n.2 h.0, h.1)
 rests_next_by c d a sol back n = (λ h. h, λ h. h)
 
 pub rests_next : (c : Certificate) (d : Derivation) (a : ℕ) → RefersBack c → NamesEarlier (count c) (Some d.reason) → RestsOn (with_next c d) (count c) a ↔ RestsBy c (count c) (Some d.reason) a
@@ -176,7 +177,7 @@ rests_next c d a back n = let q = rests_next_by c d a d.reason back n in (
 -- ---- the dual side and the goal
 pub dual_before : (c : Certificate) (ds : List Derivation) (k : ℕ) → RefersBack c → k < count c → ProvesDual (with_more c ds) k ↔ ProvesDual c k
 dual_before c ds k back h =
-    let q = rests_nothing_before c ds back k h in
+    let q = rests_on_nothing c ds back k h in
     let e = constraint_before c ds k h in (
       λ p. (h, q.0 p.1, subst (MeetsDual c.problem c.problem.claim) e p.2),
       λ p. (let n : count c ≤ count (with_more c ds) = count_least c ds in omega arith, q.1 p.1, subst (MeetsDual c.problem c.problem.claim) (sym e) p.2),

@@ -1,4 +1,5 @@
-use Rattle.vipr_spec.proofs.Prefix.{constraint_before, reason_before, last_before, is_live_before, held_before}
+use Rattle.vipr_spec.proofs.Prefix.{constraint_before, reason_before, last_before}
+use Rattle.vipr_spec.proofs.Held.{live_before, held_before}
 use Rattle.vipr_spec.proofs.Steps.{good_before, good_after}
 use Rattle.vipr_spec.proofs.one_pass.earlier_ones_stay.Goals as goal
 
@@ -7,7 +8,7 @@ returns c = record {
   constraint = constraint_before;
   reason = reason_before;
   last = last_before;
-  live = is_live_before;
+  live = live_before;
   held = held_before;
   step = λ c ds k h. (good_after c ds k h, good_before c ds k h);
 }

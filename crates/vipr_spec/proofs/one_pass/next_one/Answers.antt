@@ -1,4 +1,5 @@
-use Rattle.vipr_spec.proofs.Prefix.{count_next, constraint_next, reason_next, last_next, peak_next}
+use Rattle.vipr_spec.proofs.Held.{peak_next}
+use Rattle.vipr_spec.proofs.Prefix.{count_next, constraint_next, reason_next, last_next}
 use Rattle.vipr_spec.proofs.Steps.{good_next}
 use Rattle.vipr_spec.proofs.one_pass.next_one.Goals as goal
 
