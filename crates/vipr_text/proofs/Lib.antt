@@ -1,2 +1,3 @@
+pub mod Naturals
 pub mod Pieces
 pub mod State

@@ -2,7 +2,9 @@
 #![tactic(auto)]
 
 mod bytes;
+mod causes;
 mod error;
+mod kinds;
 mod piece;
 mod place;
 mod tokens;

@@ -1,0 +1,97 @@
+//! What a token means, by the kind that is wanted: the value, or the cause of its refusal.
+ghost use Rattle.std.specs.Prelude.{◌≡◌, min};
+ghost use Rattle.std.specs.Option.{option_map};
+ghost use Rattle.vipr_spec.specs.Digits.{natural_of};
+ghost use Rattle.vipr_spec.specs.Reading.{at_most_or, count_of, derivation_count_of, variable_of, reference_of, last_of};
+
+use crate::causes;
+
+/// One more than the greatest count and index.
+const OVER: u64 = 4_294_967_296;
+
+/// The number that digits write, or `OVER` where it is larger.
+fn natural(bytes: &[u8]) -> Option<u64>
+    ensures { result ≡ option_map (min OVER) (natural_of bytes.now) }
+{
+    if bytes.is_empty() {
+        return None;
+    }
+    let mut value: u64 = 0;
+    for b in bytes {
+        if *b < b'0' || *b > b'9' {
+            return None;
+        }
+        value = (value * 10 + u64::from(*b - b'0')).min(OVER);
+    }
+    Some(value)
+}
+
+/// A number of at most `most`, or the cause where it isn't digits or is larger.
+fn at_most(bytes: &[u8], most: u32, absent: u8, larger: u8) -> Result<u32, u8>
+    ensures { result ≡ at_most_or most (natural_of bytes.now) absent larger }
+{
+    match natural(bytes) {
+        None => Err(absent),
+        Some(n) if n <= u64::from(most) => Ok(n as u32),
+        Some(_) => Err(larger),
+    }
+}
+
+/// A count.
+#[tactic(auto, unfolding(vipr_spec::specs::Reading::count_of))]
+pub(crate) fn count(bytes: &[u8]) -> Result<u32, u8>
+    ensures { result ≡ count_of bytes.now }
+{
+    at_most(bytes, u32::MAX, causes::BAD_COUNT, causes::COUNT_TOO_LARGE)
+}
+
+/// The number of derivations, where there are `constraints` before them.
+#[tactic(auto, unfolding(vipr_spec::specs::Reading::derivation_count_of))]
+pub(crate) fn derivation_count(constraints: u32, bytes: &[u8]) -> Result<u32, u8>
+    ensures { result ≡ derivation_count_of constraints bytes.now }
+{
+    at_most(
+        bytes,
+        u32::MAX - constraints,
+        causes::BAD_COUNT,
+        causes::COUNT_TOO_LARGE,
+    )
+}
+
+/// A variable below `variables`.
+#[tactic(auto, unfolding(vipr_spec::specs::Reading::variable_of))]
+pub(crate) fn variable(variables: u32, bytes: &[u8]) -> Result<u32, u8>
+    ensures { result ≡ variable_of variables bytes.now }
+{
+    match natural(bytes) {
+        Some(i) if i < u64::from(variables) => Ok(i as u32),
+        _ => Err(causes::BAD_INDEX),
+    }
+}
+
+/// A constraint's index.
+#[tactic(auto, unfolding(vipr_spec::specs::Reading::reference_of))]
+pub(crate) fn reference(bytes: &[u8]) -> Result<u32, u8>
+    ensures { result ≡ reference_of bytes.now }
+{
+    at_most(
+        bytes,
+        u32::MAX,
+        causes::BAD_REFERENCE,
+        causes::BAD_REFERENCE,
+    )
+}
+
+/// A last reference, `None` for `-1`.
+#[tactic(auto, unfolding(vipr_spec::specs::Reading::last_of))]
+pub(crate) fn last(bytes: &[u8]) -> Result<Option<u32>, u8>
+    ensures { result ≡ last_of bytes.now }
+{
+    if bytes == b"-1".as_slice() {
+        return Ok(None);
+    }
+    match reference(bytes) {
+        Ok(i) => Ok(Some(i)),
+        Err(cause) => Err(cause),
+    }
+}
