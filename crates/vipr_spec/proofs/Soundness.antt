@@ -1,10 +1,10 @@
 -- A proof's claim is true
-use Rattle.std.proofs.Common.{◌≡◌, ◌≢◌, ℕ, zero, suc, ◌<◌, ◌⊎◌, List, [], ◌∷◌, ◌++◌, map, slice_index_or, Option, Some, None, IfSome, IsSome, IsSomeAnd, All, Contains, arith, refl, sym, subst, ⊎_elim, not-suc-le-zero}
+use Rattle.std.proofs.Common.{◌≡◌, ◌≢◌, ℕ, zero, suc, ◌<◌, ◌⊎◌, List, [], ◌∷◌, ◌++◌, map, slice_index_or, Option, Some, None, IfSome, IsSome, IsSomeAnd, All, Contains, arith, refl, sym, subst, inl, inr, ⊎_elim, not-suc-le-zero}
 use Rattle.std.proofs.lemmas.List.Elements.{All-head, All-tail, All-cons, All-nil, All-map, All-contains, Contains-get_or}
 use native.Mathlib.Decide.{ℕ_discrete}
 use Rattle.vipr_spec.specs.Fraction.{ℚ, zero_ℚ}
 use Rattle.vipr_spec.specs.Constraint.{Row, at, Constraint, Condition, condition, Point, Compares, IsTrueAt, IsAbsurd, Dominates}
-use Rattle.vipr_spec.specs.Certificate.{Named, variables, Direction, minimum, maximum, Problem, Claim, infeasible, range, Reason, asm, lin, rnd, uns, sol, Derivation, Certificate, IsFeasible, objective_at, IsAsGood, IsAsGoodAt, dual_bound, primal_bound, IsAttained, IsTrueClaim, constraint_at, reason_at, RestsOn, itself, by_lin, by_rnd, by_first, by_second, RestsOnNothing, entries, reaches, stays, objective_constraint, IsValid, MeetsDual, NeedsGoal, MeetsPrimal, count, IsProof}
+use Rattle.vipr_spec.specs.Certificate.{Named, variables, Direction, minimum, maximum, Problem, Claim, infeasible, range, Reason, asm, lin, rnd, uns, sol, Derivation, Certificate, IsFeasible, objective_at, IsAsGood, IsAsGoodAt, dual_bound, primal_bound, IsAttained, IsTrueClaim, constraint_at, reason_at, RestsOn, itself, by_lin, by_rnd, by_first, by_second, RestsOnNothing, entries, reaches, stays, objective_constraint, IsValid, MeetsDual, NeedsGoal, MeetsPrimal, count, IsProof, RefersTo}
 use Rattle.vipr_spec.specs.Soundness.{IsAdmitted, IsTrueOf, IsSound}
 use Rattle.vipr_spec.proofs.Fractions.{le_refl_ℚ, le_trans_ℚ, le_total_ℚ}
 use Rattle.vipr_spec.proofs.Linear.{absurd_false, value-zero, dominates_true, IsTrueEntry, lin_true, rnd_true, uns_true}
@@ -61,20 +61,20 @@ given_at P (g ∷ gs) ds d (suc k) h q e = given_at P gs ds d k (All-tail (λ g.
 
 entries_true : (c : Certificate) (x : Point) (k : ℕ) (es : List (ℕ × ℚ))
     → ((e : ℕ × ℚ) → Contains es e → e.1 ≢ zero_ℚ → (a : ℕ) → RestsOn c e.0 a → RestsOn c k a)
-    → All (λ e. e.0 < k) es → ((j : ℕ) → j < k → Follows c x j) → ((a : ℕ) → RestsOn c k a → IsTrueOf c a x)
+    → ((j : ℕ) → (m : ℚ) × Contains es (j, m) × (m ≢ zero_ℚ) → Follows c x j) → ((a : ℕ) → RestsOn c k a → IsTrueOf c a x)
     → All (IsTrueEntry (variables c.problem) x) (entries c es)
-entries_true c x k es rests small below h = All-map (IsTrueEntry (variables c.problem) x) (λ (e : ℕ × ℚ). (e.1, constraint_at c e.0)) es
-    (λ i d l n. below _ (small i d l) (λ a r. h a (rests _ (Contains-get_or es i d l) n a r)))
+entries_true c x k es rests below h = All-map (IsTrueEntry (variables c.problem) x) (λ (e : ℕ × ℚ). (e.1, constraint_at c e.0)) es
+    (λ i d l n. below _ (_, Contains-get_or es i d l, n) (λ a r. h a (rests _ (Contains-get_or es i d l) n a r)))
 
 module _ (c : Certificate) (x : Point) (admitted : IsAdmitted c.problem c.solutions x) where
-  step : (k : ℕ) (r : Option Reason) → reason_at c k ≡ r → IsValid c k r → ((j : ℕ) → j < k → Follows c x j) → Follows c x k
+  step : (k : ℕ) (r : Option Reason) → reason_at c k ≡ r → IsValid c k r → ((j : ℕ) → RefersTo r j → Follows c x j) → Follows c x k
   step k None e v below h = given_at (λ a. IsTrueAt (variables c.problem) a x) c.problem.constraints c.derivations _ k admitted.feasible.meets (value-zero (variables c.problem) x _ (λ j. refl)) e
   step k (Some asm) e v below h = h k (itself e)
-  step k (Some (lin es)) e v below h = lin_true _ x _ _ v.1 (entries_true c x k es (λ i m n a r. by_lin es i e m n r) v.0 below h)
-  step k (Some (rnd es)) e v below h = rnd_true _ _ x _ _ v.1 admitted.feasible.whole (entries_true c x k es (λ i m n a r. by_rnd es i e m n r) v.0 below h)
+  step k (Some (lin es)) e v below h = lin_true _ x _ _ v.1 (entries_true c x k es (λ i m n a r. by_lin es i e m n r) below h)
+  step k (Some (rnd es)) e v below h = rnd_true _ _ x _ _ v.1 admitted.feasible.whole (entries_true c x k es (λ i m n a r. by_rnd es i e m n r) below h)
   step k (Some (uns i1 l1 i2 l2)) e v below h = uns_true _ _ x _ _ _ _ _ v.6 admitted.feasible.whole
-      (λ t. below i1 v.0 (λ a r. either a l1 t (λ n. h a (by_first i1 l1 i2 l2 e r n))))
-      (λ t. below i2 v.2 (λ a r. either a l2 t (λ n. h a (by_second i1 l1 i2 l2 e r n))))
+      (λ t. below i1 (inl refl) (λ a r. either a l1 t (λ n. h a (by_first i1 l1 i2 l2 e r n))))
+      (λ t. below i2 (inr (inr (inl refl))) (λ a r. either a l2 t (λ n. h a (by_second i1 l1 i2 l2 e r n))))
     where
       either : (a l : ℕ) → IsTrueOf c l x → (a ≢ l → IsTrueOf c a x) → IsTrueOf c a x
       either a l t f = by (ℕ_discrete a l)
@@ -84,12 +84,24 @@ module _ (c : Certificate) (x : Point) (admitted : IsAdmitted c.problem c.soluti
           by (no n) = f n
   step k (Some sol) e v below h = dominates_true _ x _ _ v.2 (reached c.problem.direction _ _ (All-contains (λ s. IsAsGoodAt c.problem x (at s.item)) c.solutions v.0 admitted.unbeaten v.1.0))
 
-pub step_sound : (c : Certificate) (k : ℕ) → IsValid c k (reason_at c k) → ((j : ℕ) → j < k → IsSound c j) → IsSound c k
+pub step_sound : (c : Certificate) (k : ℕ) → IsValid c k (reason_at c k) → ((j : ℕ) → RefersTo (reason_at c k) j → IsSound c j) → IsSound c k
 step_sound c k v below x admitted = step c x admitted k (reason_at c k) refl v (λ j l. below j l x admitted)
+
+-- a valid step refers to earlier constraints
+pub refers_earlier : (c : Certificate) (k : ℕ) (r : Option Reason) → IsValid c k r → (j : ℕ) → RefersTo r j → j < k
+refers_earlier c k None v j h = absurd h
+refers_earlier c k (Some asm) v j h = absurd h
+refers_earlier c k (Some (lin es)) v j h = All-contains (λ (e : ℕ × ℚ). e.0 < k) es (j, h.0) v.0 h.1
+refers_earlier c k (Some (rnd es)) v j h = All-contains (λ (e : ℕ × ℚ). e.0 < k) es (j, h.0) v.0 h.1
+refers_earlier c k (Some (uns i1 l1 i2 l2)) v j h = ⊎_elim (at i1 v.0) (λ h. ⊎_elim (at l1 v.1) (λ h. ⊎_elim (at i2 v.2) (at l2 v.3) h) h) h
+  where
+    at : (i : ℕ) → i < k → j ≡ i → j < k
+    at i l e = omega arith
+refers_earlier c k (Some sol) v j h = absurd h
 
 below_sound : (c : Certificate) → ((k : ℕ) → IsValid c k (reason_at c k)) → (n k : ℕ) → k < n → IsSound c k
 below_sound c p zero k h = absurd (not-suc-le-zero h)
-below_sound c p (suc n) k h = step_sound c k (p k) (λ j l. below_sound c p n j (omega arith))
+below_sound c p (suc n) k h = step_sound c k (p k) (λ j r. let l : j < k = refers_earlier c k (reason_at c k) (p k) j r in below_sound c p n j (omega arith))
 
 pub all_sound : (c : Certificate) → ((k : ℕ) → IsValid c k (reason_at c k)) → (k : ℕ) → IsSound c k
 all_sound c p k = below_sound c p (suc k) k (omega arith)

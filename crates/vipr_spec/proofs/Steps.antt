@@ -4,12 +4,14 @@ use Rattle.std.specs.Prelude.{◌↔◌, IsTrue}
 use Rattle.std.proofs.lemmas.Bool.{cases_lt}
 use Rattle.std.proofs.lemmas.List.Elements.{All-contains}
 use Rattle.vipr_spec.specs.Fraction.{ℚ}
-use Rattle.vipr_spec.specs.Constraint.{Condition, condition, Dominates, Combines, CombinesRounded, Unsplits}
-use Rattle.vipr_spec.specs.Certificate.{Problem, Claim, infeasible, range, dual_bound, Reason, asm, lin, rnd, uns, sol, Derivation, Certificate, constraint_at, reason_at, RestsOn, count, IsValid, StepFits, RefersTo, MeetsDual, NeedsGoal, ProvesDual, IsProof}
+use Rattle.vipr_spec.specs.Constraint.{IsTrueAt, Condition, condition, Dominates, Combines, CombinesRounded, Unsplits}
+use Rattle.vipr_spec.specs.Certificate.{Problem, variables, itself, by_lin, by_rnd, by_first, by_second, Claim, infeasible, range, dual_bound, Reason, asm, lin, rnd, uns, sol, Derivation, Certificate, constraint_at, reason_at, RestsOn, count, IsValid, StepFits, RefersTo, MeetsDual, NeedsGoal, ProvesDual, IsProof}
 use Rattle.vipr_spec.specs.OnePass.{with_more, with_next, RestsBy, NamesEarlier, RefersBack, FollowsBy, IsGoodStep, IsGoodNext, HasGoodSteps, IsProofByStep, GoalIs}
 use Rattle.vipr_spec.proofs.Rests.{rests_in, rests_by, rests_given}
 use Rattle.vipr_spec.proofs.Held.{live_before}
-use Rattle.vipr_spec.proofs.Prefix.{constraint_before, reason_before, count_next, count_least, reason_past, reason_given, entries_before, names_earlier, fits_before, valid_before, valid_after, rests_later, rests_sooner, rests_on_nothing, constraint_next, reason_next}
+use Rattle.vipr_spec.specs.Soundness.{IsSound}
+use Rattle.vipr_spec.proofs.Soundness.{step_sound, refers_earlier}
+use Rattle.vipr_spec.proofs.Prefix.{earlier_lin, earlier_rnd, earlier_uns, constraint_before, reason_before, count_next, count_least, reason_past, reason_given, entries_before, names_earlier, fits_before, valid_before, valid_after, rests_later, rests_sooner, rests_on_nothing, constraint_next, reason_next}
 
 -- ---- earlier steps
 pub good_before : (c : Certificate) (ds : List Derivation) (k : ℕ) → k < count c → IsGoodStep c k → IsGoodStep (with_more c ds) k
@@ -173,6 +175,33 @@ rests_next c d a back n = let q = rests_next_by c d a d.reason back n in (
   λ r. q.0 (rests_by (with_next c d) (count c) a (Some d.reason) (reason_next c d) r),
   λ r. rests_in (with_next c d) (count c) a (Some d.reason) (reason_next c d) (q.1 r),
 )
+
+-- ---- soundness
+rests_below : (c : Certificate) → RefersBack c → (i a : ℕ) → RestsOn c i a → a ≤ i
+rests_below c back i a (itself e) = omega arith
+rests_below c back i a (by_lin es e r m n d) = let l = earlier_lin c i es e back r m in let h = rests_below c back e.0 a d in omega arith
+rests_below c back i a (by_rnd es e r m n d) = let l = earlier_rnd c i es e back r m in let h = rests_below c back e.0 a d in omega arith
+rests_below c back i a (by_first i1 l1 i2 l2 r d n) = let l = earlier_uns c i i1 l1 i2 l2 back r in let h = rests_below c back i1 a d in omega arith
+rests_below c back i a (by_second i1 l1 i2 l2 r d n) = let l = earlier_uns c i i1 l1 i2 l2 back r in let h = rests_below c back i2 a d in omega arith
+
+pub sound_given : (c : Certificate) (i : ℕ) → i < length c.problem.constraints → IsSound c i
+sound_given c i h = step_sound c i (good_given c i h).valid (λ j r. absurd (subst (λ o. RefersTo o j) (reason_given c i h) r))
+
+pub sound_before : (c : Certificate) (ds : List Derivation) (i : ℕ) → RefersBack c → i < count c → IsSound c i → IsSound (with_more c ds) i
+sound_before c ds i back h s x admitted given =
+    subst (λ d. IsTrueAt (variables c.problem) d x) (sym (constraint_before c ds i h)) (s x (record { feasible = admitted.feasible; unbeaten = admitted.unbeaten }) (λ a r.
+    let l : a ≤ i = rests_below c back i a r in
+    subst (λ d. IsTrueAt (variables c.problem) d x) (constraint_before c ds a (omega arith)) (given a (rests_later c ds back i a h r))))
+
+-- the next derivation is sound where those that it refers to are
+pub sound_next : (c : Certificate) (d : Derivation) → RefersBack c → NamesEarlier (count c) (Some d.reason) → FollowsBy c d d.reason
+    → ((i : ℕ) → RefersTo (Some d.reason) i → IsSound c i) → IsSound (with_next c d) (count c)
+sound_next c d back n f s =
+    let v = (valid_next c d).1 (n, f) in
+    let e = reason_next c d in
+    step_sound (with_next c d) (count c) (subst (IsValid (with_next c d) (count c)) (sym e) v)
+    (λ i r. let q : RefersTo (Some d.reason) i = subst (λ o. RefersTo o i) e r in
+    sound_before c (d ∷ []) i back (refers_earlier (with_next c d) (count c) (Some d.reason) v i q) (s i q))
 
 -- ---- the dual side and the goal
 pub dual_before : (c : Certificate) (ds : List Derivation) (k : ℕ) → RefersBack c → k < count c → ProvesDual (with_more c ds) k ↔ ProvesDual c k
