@@ -9,4 +9,5 @@ pub mod claims;
 pub mod consequences;
 pub mod dual_side;
 pub mod grammar;
+pub mod numbers;
 pub mod one_pass;
