@@ -11,3 +11,4 @@ pub mod dual_side;
 pub mod grammar;
 pub mod numbers;
 pub mod one_pass;
+pub mod texts;
