@@ -12,3 +12,5 @@ pub mod grammar;
 pub mod numbers;
 pub mod one_pass;
 pub mod texts;
+pub mod progress;
+pub mod verdict;

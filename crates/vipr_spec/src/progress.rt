@@ -1,0 +1,52 @@
+//! The answer for a text, item by item: what the items read so far leave open, the rest tells.
+
+ghost use Rattle.std.specs.Prelude.{◌≡◌, ◌↔◌, ℕ, suc, List, [], ◌∷◌, length, Option, Some, None, Ok, Err};
+ghost use Rattle.vipr_spec.specs.Constraint.{Row};
+ghost use Rattle.vipr_spec.specs.Certificate.{Named, Problem, Derivation, Certificate, infeasible, MeetsPrimal, count};
+ghost use Rattle.vipr_spec.specs.Reading.{Rest, Fault, problem_read, solution_read, derivations_read, derivation_read, end_read};
+ghost use Rattle.vipr_spec.specs.OnePass.{with_next};
+ghost use Rattle.vipr_spec.specs.Verdict.{StepTest, step_tests, FirstFailing, at_solution, at_end, spelled, meets_primal, of_step, meets_dual, is_built, Passes, Report, Reports, Answer, verified, told_by, IsAnswer};
+ghost use Rattle.vipr_spec.specs.Progress.{PassesNext, Answers, derivations_from, solutions_from};
+
+/// The problem comes first.
+pub fn problem_first()
+    ensures fault { (r : Rest) (f : Fault) (a : Answer) → problem_read r ≡ Err f → IsAnswer r a ↔ (a ≡ told_by (spelled f)) }
+    ensures passes { (r : Rest) (p : Problem) (n : ℕ) (s : Rest) (a : Answer) → problem_read r ≡ Ok ((p, n), s) → p.claim ≡ infeasible
+        → IsAnswer r a ↔ Answers (solutions_from p [] n s) a }
+    ensures not_built { (r : Rest) (p : Problem) (n : ℕ) (s : Rest) (a : Answer) → problem_read r ≡ Ok ((p, n), s) → ¬ (p.claim ≡ infeasible)
+        → IsAnswer r a ↔ (a ≡ told_by (is_built at_end)) }
+{}
+
+/// The solutions follow, and their end.
+pub fn solutions_next()
+    ensures fault { (p : Problem) (ss : List (Named Row)) (n : ℕ) (r : Rest) (f : Fault) (a : Answer) → solution_read p r ≡ Err f
+        → Answers (solutions_from p ss (suc n) r) a ↔ (a ≡ told_by (spelled f)) }
+    ensures not_built { (p : Problem) (ss : List (Named Row)) (n : ℕ) (r : Rest) (s : Named Row) (t : Rest) (a : Answer) → solution_read p r ≡ Ok (s, t)
+        → Answers (solutions_from p ss (suc n) r) a ↔ (a ≡ told_by (is_built (at_solution (length ss)))) }
+    ensures unmet { (p : Problem) (ss : List (Named Row)) (r : Rest) (a : Answer) → ¬ MeetsPrimal p ss p.claim
+        → Answers (solutions_from p ss 0 r) a ↔ (a ≡ told_by meets_primal) }
+    ensures end_fault { (p : Problem) (ss : List (Named Row)) (r : Rest) (f : Fault) (a : Answer) → MeetsPrimal p ss p.claim → derivations_read p r ≡ Err f
+        → Answers (solutions_from p ss 0 r) a ↔ (a ≡ told_by (spelled f)) }
+    ensures end { (p : Problem) (ss : List (Named Row)) (r : Rest) (n : ℕ) (s : Rest) (a : Answer) → MeetsPrimal p ss p.claim → derivations_read p r ≡ Ok (n, s)
+        → Answers (solutions_from p ss 0 r) a ↔ Answers (derivations_from (record { problem = p; solutions = ss; derivations = [] }) n s) a }
+{}
+
+/// Then the derivations, each tested in the certificate before it.
+pub fn derivations_next()
+    ensures fault { (c : Certificate) (n : ℕ) (r : Rest) (f : Fault) (a : Answer) → derivation_read c.problem r ≡ Err f
+        → Answers (derivations_from c (suc n) r) a ↔ (a ≡ told_by (spelled f)) }
+    ensures passes { (c : Certificate) (n : ℕ) (r : Rest) (d : Derivation) (s : Rest) (a : Answer) → derivation_read c.problem r ≡ Ok (d, s)
+        → FirstFailing (PassesNext c d) (step_tests d.reason) None
+        → Answers (derivations_from c (suc n) r) a ↔ Answers (derivations_from (with_next c d) n s) a }
+    ensures fails { (c : Certificate) (n : ℕ) (r : Rest) (d : Derivation) (s : Rest) (t : StepTest) (a : Answer) → derivation_read c.problem r ≡ Ok (d, s)
+        → FirstFailing (PassesNext c d) (step_tests d.reason) (Some t)
+        → Answers (derivations_from c (suc n) r) a ↔ (a ≡ told_by (of_step (count c) t)) }
+{}
+
+/// And the end.
+pub fn end_last()
+    ensures fault { (c : Certificate) (r : Rest) (f : Fault) (a : Answer) → end_read r ≡ Err f → Answers (derivations_from c 0 r) a ↔ (a ≡ told_by (spelled f)) }
+    ensures fails { (c : Certificate) (r : Rest) (a : Answer) → end_read r ≡ Ok tt → ¬ Passes c meets_dual → Answers (derivations_from c 0 r) a ↔ (a ≡ told_by meets_dual) }
+    ensures passes { (c : Certificate) (r : Rest) (a : Answer) → end_read r ≡ Ok tt → Passes c meets_dual
+        → Answers (derivations_from c 0 r) a ↔ ((report : Report) × Reports c report × (a ≡ verified report)) }
+{}
