@@ -1,0 +1,299 @@
+-- Lists of pairs as rows: order, look-ups, and that the order of the pairs makes no difference
+use Rattle.std.proofs.Common.{◌≡◌, ◌≢◌, ℕ, zero, suc, ◌+◌, ◌-◌, ◌<◌, ◌≤◌, take, drop, Bool, true, false, not, cond, nat_eq, List, [], ◌∷◌, ◌++◌, length, get_or, filter, Contains, Option, Some, None, IfSome, ℤ, pos, ◌*ℤ◌, T, arith, refl, sym, ◌∙◌, ap, subst, append_assoc, ◌||◌, ◌&&◌, unwrap_or, inl, inr, ◌⊎◌}
+use Rattle.std.specs.Prelude.{◌↔◌}
+use Rattle.std.proofs.lemmas.Bool.{cases_eq}
+use Rattle.std.proofs.lemmas.Bool.Decides.{nat_tests, Decides-int_eq}
+use Rattle.std.proofs.lemmas.Slice.Eq.{slice_eq-Decides}
+use Rattle.std.specs.Bool.{Decides, ◌==◌}
+use Rattle.std.specs.Cmp.Lexicographic.{pointwise}
+use Rattle.std.proofs.lemmas.Int.{ints}
+use Rattle.std.proofs.lemmas.List.{get_or-map, length-map, take_more, take-append-drop}
+use Rattle.std.proofs.lemmas.List.Folds.{list_any-append}
+use Rattle.std.proofs.lemmas.List.Sorted.{Contains-permutation, IsPermutation-map}
+use Rattle.std.proofs.lemmas.Map.Keys.{IsDistinct-head, IsDistinct-tail, IsDistinct-cons, IsDistinct-push, IsDistinct-from_apart, below_from_sorted, sorted_head, sorted_tail, sorted_from_strictly_increasing, IsDistinct-IsPermutation, IsStrictlyIncreasing-from_distinct}
+use Rattle.std.proofs.lemmas.Map.Views.{Contains-from_any, Contains-from_lookup, lookup-from_Contains}
+use Rattle.std.specs.Cmp.{nat_eq_equiv, nat_cmp_total}
+use Rattle.std.specs.declared.cmp.Ordering.TheVariants.{Less}
+use Rattle.std.specs.FinMap.{entries, from_sorted, find, is_sorted, get-from_sorted, get-from_entries, entries-from_sorted, entries_sorted, same_entries_map, same_map, nat_cmp-IsAntisymmetric}
+use Rattle.std.specs.FinMap.Entries.{below_all}
+use Rattle.std.specs.List.{IsDistinct, AllByRecursion, list_any}
+use Rattle.std.specs.List.Sorted.{IsPermutation, IsNonDecreasing, IsNonDecreasingBy, IsStrictlyIncreasing, IsStrictlySortedBy}
+use Rattle.std.specs.Map.{lookup}
+use Rattle.std.specs.BTreeMap.{is_at}
+use Rattle.std.specs.Ordering.{nat_cmp, int_eq, eq_by_cmp}
+use Rattle.vipr_spec.specs.Fraction.{ℚ, zero_ℚ, over}
+use Rattle.vipr_spec.specs.FractionOrder.{eq_ℚ}
+use Rattle.vipr_spec.specs.Gcd.{gcd}
+use Rattle.vipr_spec.specs.Constraint.{Row, at}
+use Rattle.vipr_spec.specs.Reading.{is_nonzero, row_of}
+use Rattle.vipr_spec.proofs.Fractions.{same_ℚ}
+use Rattle.vipr_spec.proofs.FractionOrders.{eq_is}
+use Rattle.vipr_spec.proofs.Loops.{same_rows}
+use Rattle.vipr_linear.specs.Row.{RisesFrom, variables_of, IsFirstRepeated, HasNoZeros}
+
+-- ---- zero
+pub zero_numer : zero_ℚ.numer ≡ pos 0
+unfolding over gcd
+zero_numer = refl
+
+zero_denom : zero_ℚ.denom ≡ 1
+unfolding over gcd
+zero_denom = refl
+
+pub zero_from_numer : (x : ℚ) → x.numer ≡ pos 0 → x ≡ zero_ℚ
+zero_from_numer x e = same_ℚ x zero_ℚ (nothing x.numer zero_ℚ.denom e ∙ sym (nothing zero_ℚ.numer x.denom zero_numer))
+  where
+    nothing : (p : ℤ) (n : ℕ) → p ≡ pos 0 → p *ℤ pos n ≡ pos 0
+    nothing p n e = ap (λ z. z *ℤ pos n) e ∙ omega (arith, ints)
+
+pub not_zero : (x : ℚ) → not (int_eq x.numer (pos 0)) ≡ true → x ≢ zero_ℚ
+not_zero x t e = let n = ap (λ (z : ℚ). z.numer) e ∙ zero_numer in let f = (Decides-int_eq x.numer (pos 0)).1 n in cc
+
+pub zero_test : (x : ℚ) → not (int_eq x.numer (pos 0)) ≡ false → x ≡ zero_ℚ
+zero_test x t = by (int_eq x.numer (pos 0)) refl t
+  where
+    by : (b : Bool) → int_eq x.numer (pos 0) ≡ b → not b ≡ false → x ≡ zero_ℚ
+    by true e h = zero_from_numer x ((Decides-int_eq x.numer (pos 0)).0 e)
+    by false e h = absurd (cc)
+
+-- ---- order
+pub rises_from : (low high : ℕ) (es : List (ℕ × ℚ)) → low ≤ high → RisesFrom high es → RisesFrom low es
+rises_from low high [] h r = tt
+rises_from low high (e ∷ es) h r = (omega arith, r.1, r.2)
+
+rises_below : (x low : ℕ) (es : List (ℕ × ℚ)) → x < low → RisesFrom low es → T (below_all nat_cmp x es)
+rises_below x low [] h r = tt
+rises_below x low (e ∷ es) h r =
+    let less : x < e.0 = omega arith in
+    let rest = rises_below x (e.0 + 1) es (omega arith) r.2 in
+    grind (arith, nat_tests)
+
+pub rises_sorted : (low : ℕ) (es : List (ℕ × ℚ)) → RisesFrom low es → T (is_sorted nat_cmp es)
+rises_sorted low [] r = tt
+rises_sorted low (e ∷ es) r =
+    let below = rises_below e.0 (e.0 + 1) es (omega arith) r.2 in
+    let rest = rises_sorted (e.0 + 1) es r.2 in
+    grind (arith, nat_tests)
+
+-- ---- look-ups
+module _ (j : ℕ) where
+  find_nonzero : (low : ℕ) (es : List (ℕ × ℚ)) → RisesFrom low es → IfSome (find nat_cmp j es) (λ a. a ≢ zero_ℚ)
+  find_nonzero low [] r = tt
+  find_nonzero low (e ∷ es) r =
+      let rest = find_nonzero (e.0 + 1) es r.2 in
+      elim (eq_by_cmp nat_cmp j e.0) as (λ b. IfSome (cond b (Some e.1) (find nat_cmp j es)) (λ a. a ≢ zero_ℚ)) [ true ↦ r.1 | false ↦ rest ]
+
+pub no_zeros : (es : List (ℕ × ℚ)) → RisesFrom 0 es → HasNoZeros (from_sorted es)
+no_zeros es r = λ j. subst (λ (o : Option ℚ). IfSome o (λ a. a ≢ zero_ℚ)) (sym (get-from_sorted nat_cmp es j (rises_sorted 0 es r))) (find_nonzero j 0 es r)
+
+find_lookup : (q : ℕ) (es : List (ℕ × ℚ)) → find nat_cmp q es ≡ lookup (nat_eq q) es
+find_lookup q [] = refl
+find_lookup q (e ∷ es) =
+    let same : eq_by_cmp nat_cmp q e.0 ≡ nat_eq q e.0 = grind (arith, nat_tests) in
+    let rest = find_lookup q es in
+    (λ i. cond (same i) (Some e.1) (rest i))
+
+exact : (x y : ℕ) → nat_eq x y ≡ true → x ≡ y
+exact x y h = grind (arith, nat_tests)
+
+-- a look-up does not depend on the order
+module _ (q : ℕ) (xs ys : List (ℕ × ℚ)) (dx : IsDistinct nat_eq (variables_of xs)) (dy : IsDistinct nat_eq (variables_of ys)) (there : (e : ℕ × ℚ) → Contains xs e → Contains ys e) (back : (e : ℕ × ℚ) → Contains ys e → Contains xs e) where
+  same_lookup : lookup (nat_eq q) xs ≡ lookup (nat_eq q) ys
+  same_lookup = by (lookup (nat_eq q) xs) (lookup (nat_eq q) ys) refl refl
+    where
+      by : (a b : Option ℚ) → lookup (nat_eq q) xs ≡ a → lookup (nat_eq q) ys ≡ b → a ≡ b
+      by None None e f = refl
+      by (Some v) b e f = sym (lookup-from_Contains nat_eq_equiv q v ys dy (there (q, v) (Contains-from_lookup exact q v xs e))) ∙ f
+      by None (Some w) e f = sym e ∙ lookup-from_Contains nat_eq_equiv q w xs dx (back (q, w) (Contains-from_lookup exact q w ys f))
+
+-- ---- filters
+distinct_filter : (p : ℕ × ℚ → Bool) (es : List (ℕ × ℚ)) → IsDistinct nat_eq (variables_of es) → IsDistinct nat_eq (variables_of (filter p es))
+distinct_filter p [] d = d
+distinct_filter p (e ∷ es) d =
+    let rest = distinct_filter p es (IsDistinct-tail nat_eq e.0 (variables_of es) d) in
+    elim (p e) as (λ b. IsDistinct nat_eq (variables_of (cond b (e ∷ filter p es) (filter p es)))) [
+      | true ↦ IsDistinct-cons nat_eq e.0 _ (kept es (IsDistinct-head nat_eq e.0 (variables_of es) d)) rest
+      | false ↦ rest
+    ]
+  where
+    kept : (fs : List (ℕ × ℚ)) → AllByRecursion (λ y. nat_eq e.0 y ≡ false) (variables_of fs) → AllByRecursion (λ y. nat_eq e.0 y ≡ false) (variables_of (filter p fs))
+    kept [] h = h
+    kept (f ∷ fs) h = elim (p f) as (λ b. AllByRecursion (λ y. nat_eq e.0 y ≡ false) (variables_of (cond b (f ∷ filter p fs) (filter p fs)))) [ true ↦ (h.0, kept fs h.1) | false ↦ kept fs h.1 ]
+
+contains_cons : (x e : ℕ × ℚ) (es : List (ℕ × ℚ)) → Contains es e → Contains (x ∷ es) e
+contains_cons x e es h = (suc h.0, omega (arith, h.1), h.2)
+
+contains_cases : (x e : ℕ × ℚ) (es : List (ℕ × ℚ)) → Contains (x ∷ es) e → (x ≡ e) ⊎ Contains es e
+contains_cases x e es (zero, l, h) = inl h
+contains_cases x e es (suc k, l, h) = inr (k, omega arith, h)
+
+contains_filter : (p : ℕ × ℚ → Bool) (es : List (ℕ × ℚ)) (e : ℕ × ℚ) → p e ≡ true → Contains es e → Contains (filter p es) e
+contains_filter p [] e t h = absurd (omega (arith, h.1))
+contains_filter p (x ∷ es) e t h = elim (contains_cases x e es h) [
+  | inl same ↦ subst (λ b. Contains (cond b (x ∷ filter p es) (filter p es)) e) (sym (ap p same ∙ t)) (0, omega arith, same)
+  | inr later ↦ let rest = contains_filter p es e t later in elim (p x) as (λ b. Contains (cond b (x ∷ filter p es) (filter p es)) e) [ true ↦ contains_cons x e _ rest | false ↦ rest ]
+]
+
+contains_unfiltered : (p : ℕ × ℚ → Bool) (es : List (ℕ × ℚ)) (e : ℕ × ℚ) → Contains (filter p es) e → Contains es e × (p e ≡ true)
+contains_unfiltered p [] e h = absurd (omega (arith, h.1))
+contains_unfiltered p (x ∷ es) e h = by (p x) refl h (λ k. contains_unfiltered p es e k)
+  where
+    later : Contains es e × (p e ≡ true) → Contains (x ∷ es) e × (p e ≡ true)
+    later r = (contains_cons x e es r.0, r.1)
+
+    by : (b : Bool) → p x ≡ b → Contains (cond b (x ∷ filter p es) (filter p es)) e → (Contains (filter p es) e → Contains es e × (p e ≡ true)) → Contains (x ∷ es) e × (p e ≡ true)
+    by true t k rest = elim (contains_cases x e (filter p es) k) [ inl same ↦ ((0, omega arith, same), sym (ap p same) ∙ t) | inr l ↦ later (rest l) ]
+    by false t k rest = later (rest k)
+
+find_filtered : (q : ℕ) (xs ys : List (ℕ × ℚ)) → IsPermutation xs ys → IsPermutation ys xs → IsDistinct nat_eq (variables_of xs) → IsDistinct nat_eq (variables_of ys)
+    → find nat_cmp q (filter is_nonzero xs) ≡ find nat_cmp q (filter is_nonzero ys)
+find_filtered q xs ys p p' dx dy =
+    find_lookup q _
+    ∙ same_lookup q (filter is_nonzero xs) (filter is_nonzero ys) (distinct_filter is_nonzero xs dx) (distinct_filter is_nonzero ys dy) (moved xs ys p) (moved ys xs p')
+    ∙ sym (find_lookup q _)
+  where
+    moved : (xs ys : List (ℕ × ℚ)) → IsPermutation xs ys → (e : ℕ × ℚ) → Contains (filter is_nonzero xs) e → Contains (filter is_nonzero ys) e
+    moved xs ys p e h = let r = contains_unfiltered is_nonzero xs e h in contains_filter is_nonzero ys e r.1 (Contains-permutation xs ys e p r.0)
+
+-- ---- the list that a row keeps
+at_least_all : (low x : ℕ) (ys : List ℕ) → low ≤ x → AllByRecursion (λ y. nat_cmp x y ≡ Less) ys → AllByRecursion (λ y. low + 1 ≤ y) ys
+at_least_all low x [] le h = tt
+at_least_all low x (y ∷ ys) le h = (let l : nat_cmp x y ≡ Less = h.0 in grind (arith, nat_tests), at_least_all low x ys le h.1)
+
+rises_filtered : (low : ℕ) (es : List (ℕ × ℚ)) → AllByRecursion (λ y. low ≤ y) (variables_of es) → IsStrictlySortedBy nat_cmp (variables_of es) → RisesFrom low (filter is_nonzero es)
+rises_filtered low [] h s = tt
+rises_filtered low (e ∷ es) h s =
+    by (is_nonzero e) refl h.0 (rises_filtered (e.0 + 1) es (at_least_all e.0 e.0 (variables_of es) (omega arith) (sorted_head nat_cmp e.0 (variables_of es) s)) (sorted_tail nat_cmp e.0 (variables_of es) s))
+  where
+    by : (b : Bool) → is_nonzero e ≡ b → low ≤ e.0 → RisesFrom (e.0 + 1) (filter is_nonzero es) → RisesFrom low (cond b (e ∷ filter is_nonzero es) (filter is_nonzero es))
+    by true t le rest = (le, not_zero e.1 t, rest)
+    by false t le rest = rises_from low (e.0 + 1) (filter is_nonzero es) (omega arith) rest
+
+at_least_nothing : (ys : List ℕ) → AllByRecursion (λ y. 0 ≤ y) ys
+at_least_nothing [] = tt
+at_least_nothing (y ∷ ys) = (omega arith, at_least_nothing ys)
+
+-- what is kept of pairs that rise
+pub row_kept : (es : List (ℕ × ℚ)) → IsStrictlyIncreasing (variables_of es) → RisesFrom 0 (filter is_nonzero es)
+row_kept es s = rises_filtered 0 es (at_least_nothing _) (sorted_from_strictly_increasing _ s)
+
+pub distinct_of_rising : (xs : List ℕ) → IsStrictlyIncreasing xs → IsDistinct nat_eq xs
+distinct_of_rising xs s = IsDistinct-from_apart nat_eq xs (λ i j d l h. let b = below_from_sorted xs i j d (sorted_from_strictly_increasing xs s) l h in grind (arith, nat_tests))
+
+-- the list that is kept makes the row of the pairs
+pub row_seen : (pairs es : List (ℕ × ℚ)) → IsPermutation pairs es → IsPermutation es pairs → IsDistinct nat_eq (variables_of pairs) → IsStrictlyIncreasing (variables_of es) → from_sorted {R = nat_cmp} (filter is_nonzero es) ≡ row_of pairs
+row_seen pairs es p p' d s = same_map nat_cmp_total nat_cmp-IsAntisymmetric _ _ (λ q.
+    get-from_sorted nat_cmp (filter is_nonzero es) q (rises_sorted 0 _ (row_kept es s))
+    ∙ find_filtered q es pairs p' p (distinct_of_rising _ s) d
+    ∙ sym (get-from_entries nat_cmp_total (filter is_nonzero pairs) q))
+
+non_decreasing_keys : (es : List (ℕ × ℚ)) → IsNonDecreasingBy (λ p. p.0) es → IsNonDecreasing (variables_of es)
+non_decreasing_keys es n = λ i j d le l.
+    let e = length-map es (λ (p : ℕ × ℚ). p.0) in
+    let before : i < length es = omega (arith, e) in
+    let within : j < length es = omega (arith, e) in
+    rw (get_or-map (λ (p : ℕ × ℚ). p.0) es i (d, zero_ℚ) d before, get_or-map (λ (p : ℕ × ℚ). p.0) es j (d, zero_ℚ) d within) (n i j (d, zero_ℚ) le within)
+
+pub rising_of_sorted : (pairs es : List (ℕ × ℚ)) → IsPermutation pairs es → IsNonDecreasingBy (λ p. p.0) es → IsDistinct nat_eq (variables_of pairs) → IsStrictlyIncreasing (variables_of es)
+rising_of_sorted pairs es p n d = IsStrictlyIncreasing-from_distinct (variables_of es) (non_decreasing_keys es n) (IsDistinct-IsPermutation nat_eq (λ x y. grind (arith, nat_tests)) (variables_of pairs) (variables_of es) (IsPermutation-map (λ p. p.0) pairs es p) d)
+
+-- ---- the test whether variables rise
+key_at : (es : List (ℕ × ℚ)) (k : ℕ) (p : ℕ × ℚ) → k < length es → get_or (variables_of es) k 0 ≡ (get_or es k p).0
+key_at es k p l = get_or-map (λ (p : ℕ × ℚ). p.0) es k p 0 l
+
+pub rises_more : (es : List (ℕ × ℚ)) (i : ℕ) (p q : ℕ × ℚ) → 1 ≤ i → i < length es → (get_or es (i - 1) p).0 < (get_or es i q).0
+    → ((k : ℕ) → k + 1 < i → get_or (variables_of es) k 0 < get_or (variables_of es) (k + 1) 0) → (k : ℕ) → k + 1 < i + 1 → get_or (variables_of es) k 0 < get_or (variables_of es) (k + 1) 0
+rises_more es i p q some l less before k h = by (cases_eq (k + 1) i)
+  where
+    by : (k + 1 ≡ i) ⊎ (k + 1 ≢ i) → get_or (variables_of es) k 0 < get_or (variables_of es) (k + 1) 0
+    by (inl is) =
+        let at : k ≡ i - 1 = omega arith in
+        let first = key_at es (i - 1) p (omega arith) in
+        let second = key_at es i q l in
+        rw (is, at, first, second) less
+    by (inr apart) = before k (omega arith)
+
+pub falls_at : (es : List (ℕ × ℚ)) (i : ℕ) (p q : ℕ × ℚ) → 1 ≤ i → i < length es → (get_or es i q).0 ≤ (get_or es (i - 1) p).0 → ¬ IsStrictlyIncreasing (variables_of es)
+falls_at es i p q some l more rising =
+    let first = key_at es (i - 1) p (omega arith) in
+    let second = key_at es i q l in
+    let next : i - 1 + 1 ≡ i = omega arith in
+    let e = length-map es (λ (p : ℕ × ℚ). p.0) in
+    let h : get_or (variables_of es) (i - 1) 0 < get_or (variables_of es) (i - 1 + 1) 0 = rising (i - 1) (omega (arith, e)) in
+    let h' = rw next at h in
+    omega (arith, first, second, h')
+
+-- ---- the first variable that stood before
+module _ (es : List (ℕ × ℚ)) (i : ℕ) (p : ℕ × ℚ) (l : i < length es) (e : p ≡ get_or es i p) where
+  here : get_or (variables_of es) i 0 ≡ p.0
+  here = key_at es i p l ∙ ap (λ (p : ℕ × ℚ). p.0) (sym e)
+
+  within : i < length (variables_of es)
+  within = let h = length-map es (λ (p : ℕ × ℚ). p.0) in omega (arith, h, l)
+
+  one_more : take (i + 1) (variables_of es) ≡ take i (variables_of es) ++ p.0 ∷ []
+  one_more = take_more (variables_of es) i 0 within ∙ ap (λ v. take i (variables_of es) ++ v ∷ []) here
+
+  pub first_repeated_at : IsDistinct nat_eq (take i (variables_of es)) → list_any (nat_eq p.0) (take i (variables_of es)) ≡ true → IsFirstRepeated (variables_of es) p.0
+  first_repeated_at d t = record {
+    before = take i (variables_of es);
+    after = drop (i + 1) (variables_of es);
+    parts = sym (take-append-drop (i + 1) (variables_of es)) ∙ ap (λ xs. xs ++ drop (i + 1) (variables_of es)) one_more ∙ append_assoc (take i (variables_of es)) (p.0 ∷ []) (drop (i + 1) (variables_of es));
+    distinct = d;
+    repeated = Contains-from_any exact p.0 (take i (variables_of es)) t;
+  }
+
+  pub distinct_more : IsDistinct nat_eq (take i (variables_of es)) → list_any (nat_eq p.0) (take i (variables_of es)) ≡ false → IsDistinct nat_eq (take (i + 1) (variables_of es))
+  distinct_more d t = rw one_more (IsDistinct-push nat_eq_equiv (take i (variables_of es)) p.0 d t)
+
+  pub seen_more : (q : ℕ) (old new : Bool) → old ≡ list_any (nat_eq q) (take i (variables_of es)) → new ≡ cond (is_at (nat_cmp p.0) q) true old → new ≡ list_any (nat_eq q) (take (i + 1) (variables_of es))
+  seen_more q old new a b =
+      b ∙ ap (λ t. cond t true old) same ∙ either (nat_eq q p.0) old ∙ ap (λ o. o || (nat_eq q p.0 || false)) a
+      ∙ sym (list_any-append (nat_eq q) (take i (variables_of es)) (p.0 ∷ [])) ∙ ap (list_any (nat_eq q)) (sym one_more)
+    where
+      same : is_at (nat_cmp p.0) q ≡ nat_eq q p.0
+      same = grind (arith, nat_tests)
+
+      either : (t o : Bool) → cond t true o ≡ (o || (t || false))
+      either true true = refl
+      either true false = refl
+      either false true = refl
+      either false false = refl
+
+pub nothing_distinct : IsDistinct nat_eq []
+unfolding IsDistinct
+nothing_distinct = tt
+
+-- ---- rows that are the same
+same_entry : (a b : ℕ × ℚ) → Decides (nat_eq a.0 b.0 && eq_ℚ a.1 b.1) (a ≡ b)
+same_entry a b = (there (nat_eq a.0 b.0) refl, back)
+  where
+    there : (t : Bool) → nat_eq a.0 b.0 ≡ t → (t && eq_ℚ a.1 b.1) ≡ true → a ≡ b
+    there true e h = let k = exact a.0 b.0 e in let v = (eq_is a.1 b.1).0 h in (λ i. (k i, v i))
+    there false e h = absurd (cc)
+
+    back : a ≡ b → (nat_eq a.0 b.0 && eq_ℚ a.1 b.1) ≡ true
+    back e = let k : nat_eq a.0 b.0 ≡ true = let f = ap (λ (p : ℕ × ℚ). p.0) e in grind (arith, nat_tests) in ap (λ t. t && eq_ℚ a.1 b.1) k ∙ (eq_is a.1 b.1).1 (ap (λ (p : ℕ × ℚ). p.1) e)
+
+same_lists : (xs ys : List (ℕ × ℚ)) → RisesFrom 0 xs → RisesFrom 0 ys → ((j : ℕ) → at (from_sorted xs) j ≡ at (from_sorted ys) j) → xs ≡ ys
+same_lists xs ys r s e =
+    sym (entries-from_sorted nat_cmp xs (rises_sorted 0 xs r))
+    ∙ ap entries (same_rows (from_sorted xs) (from_sorted ys) (no_zeros xs r) (no_zeros ys s) e)
+    ∙ entries-from_sorted nat_cmp ys (rises_sorted 0 ys s)
+
+-- a test of the lists tells whether the coefficients are the same
+pub same_told : (xs ys : List (ℕ × ℚ)) (b : Bool) → RisesFrom 0 xs → RisesFrom 0 ys → b ≡ pointwise (λ (x y : ℕ × ℚ). nat_eq x.0 y.0 && eq_ℚ x.1 y.1) xs ys → (b ≡ true) ↔ ((j : ℕ) → at (from_sorted xs) j ≡ at (from_sorted ys) j)
+same_told xs ys b r s h =
+    let d = slice_eq-Decides same_entry xs ys b h in
+    (λ t j. ap (λ es. at (from_sorted es) j) (d.0 t), λ e. d.1 (same_lists xs ys r s e))
+
+-- the entries of a row make it again
+pub row_again : (m : Row) → from_sorted {R = nat_cmp} (entries m) ≡ m
+row_again m = same_entries_map _ m (entries-from_sorted nat_cmp (entries m) (entries_sorted m))
+
+at-nothing : (j : ℕ) → at (from_sorted []) j ≡ zero_ℚ
+at-nothing j = ap (λ o. unwrap_or o zero_ℚ) (get-from_sorted nat_cmp [] j tt)
+
+pub empty_told : (xs : List (ℕ × ℚ)) (b : Bool) → RisesFrom 0 xs → b ≡ (length xs == 0) → (b ≡ true) ↔ ((j : ℕ) → at (from_sorted xs) j ≡ zero_ℚ)
+empty_told [] b r h = (λ t j. at-nothing j, λ e. h)
+empty_told (x ∷ xs) b r h = (λ t. absurd (grind (arith, nat_tests)), λ e. let is = same_lists (x ∷ xs) [] r tt (λ j. e j ∙ sym (at-nothing j)) in absurd (cc))

@@ -1,0 +1,26 @@
+-- Rows as lists of variables with coefficients
+use Rattle.std.specs.Prelude.{◌≡◌, ◌≢◌, ℕ, ◌+◌, ◌≤◌, nat_eq, List, [], ◌∷◌, ◌++◌, map, Contains, IfSome}
+use Rattle.std.specs.List.{IsDistinct}
+use Rattle.std.specs.FinMap.{get}
+use Rattle.vipr_spec.specs.Fraction.{ℚ, zero_ℚ}
+use Rattle.vipr_spec.specs.Constraint.{Row}
+
+-- the variables rise from `low` on, and no coefficient is 0
+abbrev pub RisesFrom : ℕ → List (ℕ × ℚ) → Type 0
+RisesFrom low [] = Unit {0}
+RisesFrom low (e ∷ es) = (low ≤ e.0) × (e.1 ≢ zero_ℚ) × RisesFrom (e.0 + 1) es
+
+abbrev pub variables_of : List (ℕ × ℚ) → List ℕ
+variables_of pairs = map (λ p. p.0) pairs
+
+-- v is the first variable that stood before
+pub record IsFirstRepeated (variables : List ℕ) (v : ℕ) : Type 0 where
+  pub before : List ℕ
+  pub after : List ℕ
+  pub parts : variables ≡ before ++ v ∷ after
+  pub distinct : IsDistinct nat_eq before
+  pub repeated : Contains before v
+
+-- no coefficient of the map is 0
+abbrev pub HasNoZeros : Row → Type 0
+HasNoZeros row = (j : ℕ) → IfSome (get row j) (λ a. a ≢ zero_ℚ)

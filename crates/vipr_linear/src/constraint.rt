@@ -1,0 +1,62 @@
+//! Constraints, and which says as much as another.
+ghost use Rattle.std.specs.Prelude.{◌≡◌, ◌↔◌, IsTrue};
+ghost use Rattle.vipr_spec.specs.Constraint.{Compares, IsAbsurd, Dominates};
+ghost use Rattle.vipr_linear.specs.Constraint.{sense_of, condition_of, SaysAsMuch};
+
+use crate::row::Row;
+use vipr_frac::Frac;
+
+/// How a row compares with its right-hand side.
+#[derive(Clone, Copy, Debug, PartialEq, Eq)]
+pub enum Sense {
+    /// Equal.
+    E,
+    /// At most.
+    L,
+    /// At least.
+    G,
+}
+
+/// A row, how it compares, and its right-hand side.
+#[derive(Debug, Drop)]
+pub struct Constraint {
+    pub row: Row,
+    pub sense: Sense,
+    pub rhs: Frac,
+}
+
+impl Constraint {
+    /// Whether it has no variable and is false.
+    pub fn is_absurd(&self) -> bool
+        ensures { IsTrue result ↔ IsAbsurd (condition_of self.now) }
+    {
+        self.row.is_empty() && !compares(self.sense, Frac::zero(), self.rhs)
+    }
+
+    /// Whether it is absurd, or has the row of `other` and says as much.
+    pub fn dominates(&self, other: &Constraint) -> bool
+        ensures { IsTrue result ↔ Dominates (condition_of self.now) (condition_of other.now) }
+    {
+        self.is_absurd() || self.says(other)
+    }
+
+    // Whether the rows are the same, and the sense and the right-hand side say as much.
+    fn says(&self, other: &Constraint) -> bool
+        ensures { IsTrue result ↔ SaysAsMuch (condition_of self.now) (condition_of other.now) }
+    {
+        (self.sense == other.sense || self.sense == Sense::E)
+            && compares(other.sense, self.rhs, other.rhs)
+            && self.row.is_same(&other.row)
+    }
+}
+
+/// Whether a value compares so with a right-hand side.
+pub(crate) fn compares(sense: Sense, value: Frac, rhs: Frac) -> bool
+    ensures { IsTrue result ↔ Compares (sense_of sense) value rhs }
+{
+    match sense {
+        Sense::E => value == rhs,
+        Sense::L => value <= rhs,
+        Sense::G => value >= rhs,
+    }
+}

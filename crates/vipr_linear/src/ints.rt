@@ -1,0 +1,56 @@
+//! Sets of variables.
+ghost use Rattle.std.specs.Prelude.{◌≡◌, ◌↔◌, IsTrue, IfOk};
+ghost use Rattle.std.specs.FinSet.{from_list};
+ghost use Rattle.std.specs.List.Sorted.{IsStrictlyIncreasing};
+ghost use Rattle.vipr_spec.specs.Constraint.{IsInteger};
+
+use std::alloc::{AllocError, Global};
+use std::marker::Model;
+
+/// A set of variables: those that have to be whole.
+#[derive(Debug, Drop)]
+pub struct Ints {
+    indices: Vec<u32>,
+}
+
+impl Model for Ints {
+    ghost use Rattle.std.specs.Coded.{coded_ℕ};
+    ghost use Rattle.std.specs.FinSet.{FinSet, code, from_list};
+    ghost use Rattle.std.specs.List.Sorted.{IsStrictlyIncreasing};
+    ghost use Rattle.std.specs.Ordering.{nat_cmp};
+
+    ghost Value = { FinSet nat_cmp };
+
+    ghost coded = { code coded_ℕ };
+
+    ghost view = { λ a. from_list a.indices.items };
+
+    ghost invariant = { λ a. IsStrictlyIncreasing a.indices.items };
+}
+
+impl Ints {
+    /// The set of these variables, in any order, of which some may stand twice.
+    pub fn from_indices(_alloc: Global, indices: Vec<u32>) -> Result<Ints, AllocError>
+        ensures { IfOk result (λ ints. ints ≡ from_list indices.items) }
+    {
+        let mut indices = indices;
+        indices.sort_unstable();
+        indices.dedup();
+        Ok(Ints { indices })
+    }
+
+    /// Whether a variable is one of them.
+    pub fn contains(&self, variable: u32) -> bool
+        ensures { IsTrue result ↔ IsInteger self.now variable }
+    {
+        self.indices.binary_search(&variable).is_ok()
+    }
+
+    /// The variables, in rising order.
+    pub fn indices(&self) -> &[u32]
+        ensures set { from_list result.now ≡ self.now }
+        ensures rising { IsStrictlyIncreasing result.now }
+    {
+        self.indices.as_slice()
+    }
+}

@@ -1,0 +1,152 @@
+//! Rows: the nonzero coefficients of a constraint.
+ghost use Rattle.std.specs.Prelude.{◌≡◌, ◌≢◌, ◌↔◌, ◌+◌, ◌<◌, nat_eq, IsTrue, IsOk, IfOk, IfErr, OnOk, MatchOption, filter, slice_index, length, ℕ};
+ghost use Rattle.std.specs.List.{IsDistinct};
+ghost use Rattle.std.specs.List.Sorted.{IsPermutation, IsNonDecreasingBy, IsStrictlyIncreasing};
+ghost use Rattle.std.specs.FinMap.{entries};
+ghost use Rattle.vipr_spec.specs.Fraction.{zero_ℚ};
+ghost use Rattle.vipr_spec.specs.Constraint.{at};
+ghost use Rattle.vipr_spec.specs.Reading.{is_nonzero, row_of};
+ghost use Rattle.vipr_linear.specs.Row.{RisesFrom, variables_of, IsFirstRepeated, HasNoZeros};
+
+use std::alloc::{AllocError, Global};
+use std::collections::BTreeSet;
+use std::marker::Model;
+use vipr_frac::Frac;
+
+/// A finite map from variables to nonzero coefficients.
+#[derive(Debug, Drop)]
+pub struct Row {
+    entries: Vec<(u32, Frac)>,
+}
+
+impl Model for Row {
+    ghost use Rattle.std.specs.Coded.{coded_ℕ};
+    ghost use Rattle.std.specs.Ordering.{nat_cmp};
+    ghost use Rattle.std.specs.FinMap.{FinMap, code, from_sorted};
+    ghost use Rattle.vipr_spec.specs.Fraction.{ℚ, coded_ℚ};
+    ghost use Rattle.vipr_linear.specs.Row.{RisesFrom};
+
+    ghost Value = { FinMap nat_cmp ℚ };
+
+    ghost coded = { code coded_ℕ coded_ℚ };
+
+    ghost view = { λ a. from_sorted a.entries.items };
+
+    ghost invariant = { λ a. RisesFrom 0 a.entries.items };
+}
+
+/// Why pairs are no row.
+#[derive(Clone, Copy, Debug, PartialEq, Eq)]
+pub enum RowError {
+    /// The variable of the first pair whose variable stood before.
+    Repeated(u32),
+    /// A growth was refused.
+    Memory,
+}
+
+impl From<AllocError> for RowError {
+    ghost use Rattle.vipr_linear.specs.declared.row.RowError.{RowError};
+    ghost use Rattle.vipr_linear.specs.declared.row.RowError.TheVariants.{Memory};
+
+    ghost from_gives = { λ _ e. e ≡ Memory };
+
+    fn from(_error: AllocError) -> RowError {
+        RowError::Memory
+    }
+}
+
+impl Row {
+    /// The row of these coefficients, in any order. Coefficients 0 are dropped.
+    pub fn from_pairs(alloc: Global, pairs: Vec<(u32, Frac)>) -> Result<Row, RowError>
+        ensures row { IfOk result (λ row. row ≡ row_of pairs.items) }
+        ensures distinct { OnOk result (IsDistinct nat_eq (variables_of pairs.items)) }
+        ensures repeated { (v : ℕ) → result ≡ Err (RowError.Repeated v) → IsFirstRepeated (variables_of pairs.items) v }
+    {
+        let mut entries = in_order(alloc, pairs)?;
+        drop_zeros(&mut entries);
+        Ok(Row { entries })
+    }
+
+    /// The variables with their coefficients, in rising order.
+    pub fn entries(&self) -> &[(u32, Frac)]
+        ensures list { result.now ≡ entries self.now }
+        ensures rising { RisesFrom 0 result.now }
+        ensures no_zeros { HasNoZeros self.now }
+    {
+        self.entries.as_slice()
+    }
+
+    /// Whether the coefficients are the same.
+    pub fn is_same(&self, other: &Row) -> bool
+        ensures { IsTrue result ↔ ((j : ℕ) → at self.now j ≡ at other.now j) }
+    {
+        self.entries() == other.entries()
+    }
+
+    /// Whether it has no variable.
+    pub fn is_empty(&self) -> bool
+        ensures { IsTrue result ↔ ((j : ℕ) → at self.now j ≡ zero_ℚ) }
+    {
+        self.entries().is_empty()
+    }
+}
+
+/// A value for each variable that is not 0.
+#[derive(Debug, Drop)]
+pub struct Solution(pub Row);
+
+// The pairs in rising order of their variables.
+fn in_order(alloc: Global, pairs: Vec<(u32, Frac)>) -> Result<Vec<(u32, Frac)>, RowError>
+    ensures permutation { IfOk result (λ v. IsPermutation pairs.items v.items) }
+    ensures distinct { OnOk result (IsDistinct nat_eq (variables_of pairs.items)) }
+    ensures rising { IfOk result (λ v. IsStrictlyIncreasing (variables_of v.items)) }
+    ensures repeated { (v : ℕ) → result ≡ Err (RowError.Repeated v) → IsFirstRepeated (variables_of pairs.items) v }
+{
+    if rises(&pairs) {
+        return Ok(pairs);
+    }
+    if let Some(v) = first_repeated(alloc, &pairs)? {
+        return Err(RowError::Repeated(v));
+    }
+    let mut sorted = pairs;
+    sort_by_variable(&mut sorted);
+    Ok(sorted)
+}
+
+// Whether the variables rise, each standing once.
+fn rises(pairs: &[(u32, Frac)]) -> bool
+    ensures { IsTrue result ↔ IsStrictlyIncreasing (variables_of pairs.now) }
+{
+    for i in 1..pairs.len() {
+        if pairs[i].0 <= pairs[i - 1].0 {
+            return false;
+        }
+    }
+    true
+}
+
+// The first variable that stood before.
+fn first_repeated(alloc: Global, pairs: &[(u32, Frac)]) -> Result<Option<u32>, AllocError>
+    ensures { IfOk result (λ r. MatchOption r (IsDistinct nat_eq (variables_of pairs.now)) (λ v. IsFirstRepeated (variables_of pairs.now) v)) }
+{
+    let mut seen = BTreeSet::new(alloc);
+    for pair in pairs {
+        if !seen.insert(pair.0)? {
+            return Ok(Some(pair.0));
+        }
+    }
+    Ok(None)
+}
+
+fn sort_by_variable(pairs: &mut Vec<(u32, Frac)>)
+    ensures permutation { IsPermutation pairs.old.items pairs.new.items }
+    ensures sorted { IsNonDecreasingBy (λ p. p.0) pairs.new.items }
+{
+    pairs.sort_unstable_by_key(|pair| pair.0);
+}
+
+fn drop_zeros(pairs: &mut Vec<(u32, Frac)>)
+    ensures { pairs.new.items ≡ filter is_nonzero pairs.old.items }
+{
+    pairs.retain(|pair| pair.1.numer() != 0);
+}
