@@ -1,0 +1,66 @@
+-- A rising list, as a set.
+use Rattle.std.proofs.Common.{◌≡◌, ℕ, ◌<◌, ◌≤◌, Bool, true, false, not, ◌||◌, ◌&&◌, nat_eq, List, [], ◌∷◌, length, get_or, filter, Result, Ok, Err, is_ok, MatchResult, ◌^◌, refl, sym, ap, ◌∙◌, arith, suc, ◌⊎◌, inl, inr}
+use Rattle.std.proofs.lemmas.Bool.Decides.{nat_tests}
+use Rattle.std.proofs.lemmas.Bool.{cases_lt}
+use Rattle.std.proofs.lemmas.List.Elements.{All-from_get_or}
+use Rattle.std.proofs.lemmas.List.Folds.{list_any_at, list_any_none}
+use Rattle.std.proofs.lemmas.List.Sorted.{searched}
+use Rattle.std.specs.List.Sorted.{IsBinarySearchResult}
+use Rattle.std.specs.Cmp.{nat_cmp_total}
+use Rattle.std.specs.Ordering.{nat_cmp, eq_by_cmp}
+use Rattle.std.specs.FinSet.{FinSet, contains, empty, from_list, union, remove, same_set, nat_cmp-IsAntisymmetric, contains-from_list_nat, contains-union, contains-remove, contains-empty}
+use Rattle.vipr_rules.specs.Rising.{IsRising, IsUnion, has}
+use Rattle.vipr_rules.proofs.RisingLemmas.{has_all_but, rises_order}
+
+same_numbers : (s t : FinSet nat_cmp) → ((q : ℕ) → contains s q ≡ contains t q) → s ≡ t
+same_numbers s t same = same_set nat_cmp_total nat_cmp-IsAntisymmetric s t same
+
+pub union_seen : (xs ys zs : List ℕ) → IsUnion xs ys zs → from_list {R = nat_cmp} zs ≡ union (from_list xs) (from_list ys)
+union_seen xs ys zs u = same_numbers _ _ (λ q.
+    contains-from_list_nat zs q ∙ u.members q
+    ∙ (λ t. sym (contains-from_list_nat xs q) t || sym (contains-from_list_nat ys q) t)
+    ∙ sym (contains-union nat_cmp_total (from_list xs) (from_list ys) q))
+
+tied_numbers : (a b : ℕ) → nat_eq a b ≡ eq_by_cmp nat_cmp a b
+tied_numbers a b = grind (arith, nat_tests)
+
+pub remove_seen : (xs : List ℕ) (k : ℕ) → from_list {R = nat_cmp} (filter (λ x. not (nat_eq x k)) xs) ≡ remove (from_list xs) k
+remove_seen xs k = same_numbers _ _ (λ q.
+    contains-from_list_nat (filter (λ x. not (nat_eq x k)) xs) q ∙ has_all_but k xs q
+    ∙ (λ t. not (tied_numbers q k t) && sym (contains-from_list_nat xs q) t)
+    ∙ sym (contains-remove nat_cmp_total (from_list xs) k q))
+
+pub found : (xs : List ℕ) (q : ℕ) (r : Result ℕ ℕ) → IsRising xs → IsBinarySearchResult (λ y. nat_cmp y q) xs r → is_ok r ≡ contains (from_list {R = nat_cmp} xs) q
+found xs q r rising s = by r (searched xs q r s (rises_order 0 (2 ^ 32) xs rising)) ∙ sym (contains-from_list_nat xs q)
+  where
+    by : (r : Result ℕ ℕ) → MatchResult r (λ i. (i < length xs) × (get_or xs i 0 ≡ q)) (λ i. (i ≤ length xs) × ((k : ℕ) → k < i → get_or xs k 0 < q) × ((k : ℕ) → i ≤ k → k < length xs → q < get_or xs k 0)) → is_ok r ≡ has xs q
+    by (Ok i) h = sym (list_any_at (λ x. nat_eq x q) xs i 0 h.0 (at (get_or xs i 0) h.1))
+      where
+        at : (x : ℕ) → x ≡ q → nat_eq x q ≡ true
+        at x e = grind (arith, nat_tests)
+    by (Err i) h = sym (list_any_none (λ x. nat_eq x q) xs (All-from_get_or (λ x. nat_eq x q ≡ false) xs 0 (λ k lt. elim (cases_lt k i) [
+      | inl before ↦ other (get_or xs k 0) (inl (h.1 k before))
+      | inr after ↦ other (get_or xs k 0) (inr (h.2 k after lt))
+    ])))
+      where
+        other : (x : ℕ) → (x < q) ⊎ (q < x) → nat_eq x q ≡ false
+        other x e = grind (arith, nat_tests)
+
+-- a set is empty where its list is
+pub empty_seen : (xs : List ℕ) (b : Bool) → b ≡ nat_eq (length xs) 0 → (b ≡ true → from_list {R = nat_cmp} xs ≡ empty) × (from_list {R = nat_cmp} xs ≡ empty → b ≡ true)
+empty_seen [] b e = (λ h. refl, λ h. e)
+empty_seen (x ∷ xs) b e = (
+  λ h. absurd (let none : nat_eq (length (x ∷ xs)) 0 ≡ false = longer (length xs) in cc (none, e, h)),
+  λ h. absurd (
+      let here : has (x ∷ xs) x ≡ true = ap (λ c. c || has xs x) (itself x) in
+      let a = contains-from_list_nat (x ∷ xs) x in
+      let b = ap (λ s. contains s x) h in
+      let c = contains-empty nat_cmp x in
+      cc (here, a, b, c)),
+)
+  where
+    itself : (x : ℕ) → nat_eq x x ≡ true
+    itself x = grind (arith, nat_tests)
+
+    longer : (n : ℕ) → nat_eq (suc n) 0 ≡ false
+    longer n = grind (arith, nat_tests)

@@ -1,0 +1,17 @@
+//! Laws of the table of rows.
+
+ghost use Rattle.std.specs.Prelude.{◌≡◌, ℕ, ◌+◌, ◌≤◌, [], length};
+ghost use Rattle.vipr_spec.specs.Certificate.{Certificate, Derivation, count, held as held_after};
+ghost use Rattle.vipr_spec.specs.OnePass.{with_next, HasGoodSteps};
+ghost use Rattle.vipr_rules.specs.Table.{Table, empty_table, step, entry_at, held as held_in};
+ghost use Rattle.vipr_rules.specs.History.{IsEntryOf, IsTableOf, Answers};
+ghost use Rattle.vipr_rules.specs.declared.entries.Entry.{Entry as EntryValue};
+
+/// The table holds the last derived constraint and the earlier ones that are live after it, as many
+/// as are held, and a look-up answers exactly those that are live before the next derivation.
+pub fn table_holds_what_is_live()
+    ensures empty { (c : Certificate) → c.derivations ≡ [] → IsTableOf c (empty_table (length c.problem.constraints)) }
+    ensures step { (c : Certificate) (d : Derivation) (e : EntryValue) (t : Table) → IsTableOf c t → HasGoodSteps c → IsEntryOf (with_next c d) (count c) e → IsTableOf (with_next c d) (step t e) }
+    ensures found { (c : Certificate) (t : Table) → IsTableOf c t → (i : ℕ) → Answers c i (entry_at t i) }
+    ensures counted { (c : Certificate) (t : Table) → IsTableOf c t → (k : ℕ) → k + 1 ≡ count c → length c.problem.constraints ≤ k → held_in t ≡ held_after c k }
+{}
