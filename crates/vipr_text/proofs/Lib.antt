@@ -1,3 +1,4 @@
+pub mod Taking
 pub mod Naturals
 pub mod Pieces
 pub mod State

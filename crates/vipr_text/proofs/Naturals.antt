@@ -1,8 +1,8 @@
 -- Reading digits one by one
-use Rattle.std.proofs.Common.{◌≡◌, ◌≢◌, ℕ, ◌+◌, ◌-◌, ◌*◌, ◌<◌, ◌≤◌, ◌⊎◌, Bool, true, false, ◌&&◌, nat_le, cond, min, List, [], ◌∷◌, length, drop, get_or, Some, None, arith, refl, sym, ◌∙◌, ap, subst, drop-cons, add-one, inl, inr}
+use Rattle.std.proofs.Common.{◌≡◌, ◌≢◌, ℕ, ◌+◌, ◌-◌, ◌*◌, ◌<◌, ◌≤◌, ◌⊎◌, List, [], ◌∷◌, length, drop, get_or, Some, None, arith, refl, sym, ◌∙◌, ap, drop-cons, add-one}
 use Rattle.std.proofs.lemmas.List.{drop_all}
 use Rattle.std.proofs.lemmas.Bool.Decides.{nat_tests}
-use Rattle.vipr_spec.specs.Digits.{is_digit, natural_after, natural_of}
+use Rattle.vipr_spec.specs.Digits.{natural_after, natural_of}
 
 pub natural_of_empty : (bs : List ℕ) → length bs ≡ 0 → natural_of bs ≡ None
 unfolding natural_of

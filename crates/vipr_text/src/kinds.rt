@@ -2,7 +2,7 @@
 ghost use Rattle.std.specs.Prelude.{◌≡◌, min};
 ghost use Rattle.std.specs.Option.{option_map};
 ghost use Rattle.vipr_spec.specs.Digits.{natural_of};
-ghost use Rattle.vipr_spec.specs.Reading.{at_most_or, count_of, derivation_count_of, variable_of, reference_of, last_of};
+ghost use Rattle.vipr_spec.specs.Reading.{at_most_or, count_of, derivation_count_of, variable_of, reference_of, last_of, word_of};
 
 use crate::causes;
 
@@ -94,4 +94,11 @@ pub(crate) fn last(bytes: &[u8]) -> Result<Option<u32>, u8>
         Ok(i) => Ok(Some(i)),
         Err(cause) => Err(cause),
     }
+}
+
+/// This word, or `cause`.
+pub(crate) fn word(word: &[u8], cause: u8, bytes: &[u8]) -> Result<(), u8>
+    ensures { result ≡ word_of word.now cause bytes.now }
+{
+    if bytes == word { Ok(()) } else { Err(cause) }
 }

@@ -8,6 +8,7 @@ mod kinds;
 mod piece;
 mod place;
 mod tokens;
+mod wanted;
 mod window;
 
 pub use error::TextError;

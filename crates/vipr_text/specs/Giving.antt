@@ -1,0 +1,30 @@
+-- What a reader gave, against what the reading of the tokens left gives
+use Rattle.std.specs.Prelude.{◌≡◌, ℕ, true, ⊤, ◌⊎◌, List, Result, Ok, Err}
+use Rattle.vipr_spec.specs.Tokens.{Token}
+use Rattle.vipr_spec.specs.Reading.{Rest, Fault, refused, unread, Read, token_read}
+use Rattle.vipr_text.specs.View.{Reading}
+use Rattle.vipr_text.specs.declared.error.TextError.{TextError}
+use Rattle.vipr_text.specs.declared.error.TextError.TheVariants as error
+
+-- an error is the fault of the reading, unless memory ran out
+abbrev pub Fails : {Y : Type 0} → TextError → Result Y Fault → Type 0
+Fails (error.Refused c o) r = r ≡ Err (refused c o)
+Fails error.Read r = r ≡ Err unread
+Fails error.Memory r = ⊤
+Fails error.Spent r = ⊥
+
+-- the value that the reading gives, with the rest that is left then; or its fault
+abbrev pub Gives : {X Y : Type 0} → (X → Y) → Result X TextError → Reading → Read Y → Type 0
+Gives view (Ok x) new r = (r ≡ Ok (view x, new.left)) × (new.told ≡ true)
+Gives view (Err e) new r = Fails e r
+
+-- the next token was taken, and Means says what became of its bytes: a value or the number of a cause
+abbrev pub TakenBy : {X : Type 0} → (List ℕ → Result X ℕ → Type 0) → Result X TextError → Reading → Rest → Type 0
+TakenBy Means (Ok x) new left = (t : Token) × (token_read left ≡ Ok (t, new.left)) × Means t.bytes (Ok x) × (new.told ≡ true)
+TakenBy Means (Err (error.Refused c o)) new left = (token_read left ≡ Err (refused c o)) ⊎ ((t : Token) × (rest : Rest) × (token_read left ≡ Ok (t, rest)) × Means t.bytes (Err c) × (o ≡ t.offset))
+TakenBy Means (Err error.Read) new left = token_read left ≡ Err unread
+TakenBy Means (Err error.Memory) new left = ⊥
+TakenBy Means (Err error.Spent) new left = ⊥
+
+pub record IsTaken {X : Type 0} (Means : List ℕ → Result X ℕ → Type 0) (result : Result X TextError) (new : Reading) (left : Rest) : Type 0 where
+  pub by : TakenBy Means result new left

@@ -1,0 +1,108 @@
+//! The tokens that are wanted one by one, each with the fault that it may have.
+ghost use Rattle.std.specs.Prelude.{◌≡◌, true, false, OnOk};
+ghost use Rattle.std.specs.Fn.{FnOnceReturnsAt};
+ghost use Rattle.std.specs.Borrow.{sem};
+ghost use Rattle.std.specs.Io.BufRead.{Rests};
+ghost use Rattle.vipr_spec.specs.Reading as reading;
+ghost use Rattle.vipr_text.specs.Giving.{Gives, IsTaken};
+ghost use Rattle.vipr_text.specs.View.{seen_token};
+ghost use Rattle.vipr_text.specs.contracts.tokens.Tokens.{the_row};
+
+use crate::error::TextError;
+use crate::tokens::Tokens;
+use crate::{causes, kinds};
+use vipr_bytes::Source;
+
+/// What the next token means, where `kind` says what its bytes mean or the cause of their refusal.
+fn taken<R: Source, T, F: FnOnce(&[u8]) -> Result<T, u8>>(
+    tokens: &mut Tokens<R>,
+    kind: F,
+) -> Result<T, TextError>
+    requires unspent { tokens.old.spent ≡ false }
+    requires callable { F.IsAlwaysCallable kind }
+    ensures unspent { OnOk result (tokens.new.spent ≡ false) }
+    ensures taken { tokens.old.told ≡ true → IsTaken (FnOnceReturnsAt F.FnOnce kind) result tokens.new tokens.old.left }
+{
+    match tokens.next()? {
+        None => Err(TextError::Refused {
+            cause: causes::TRUNCATED,
+            offset: tokens.offset(),
+        }),
+        Some(token) => {
+            if token.long {
+                return Err(TextError::Refused {
+                    cause: causes::TOKEN_TOO_LONG,
+                    offset: token.offset,
+                });
+            }
+            match kind(token.bytes) {
+                Ok(value) => Ok(value),
+                Err(cause) => Err(TextError::Refused {
+                    cause,
+                    offset: token.offset,
+                }),
+            }
+        }
+    }
+}
+
+/// A count.
+pub(crate) fn count<R: Source>(tokens: &mut Tokens<R>) -> Result<u32, TextError>
+    requires { tokens.old.spent ≡ false }
+    ensures unspent { OnOk result (tokens.new.spent ≡ false) }
+    ensures read { tokens.old.told ≡ true → Gives (λ n. n) result tokens.new (reading.taken reading.count_of tokens.old.left) }
+{
+    taken(tokens, kinds::count)
+}
+
+/// The number of derivations, where there are `constraints` before them.
+pub(crate) fn derivation_count<R: Source>(
+    tokens: &mut Tokens<R>,
+    constraints: u32,
+) -> Result<u32, TextError>
+    requires { tokens.old.spent ≡ false }
+    ensures unspent { OnOk result (tokens.new.spent ≡ false) }
+    ensures read { tokens.old.told ≡ true → Gives (λ n. n) result tokens.new (reading.taken (reading.derivation_count_of constraints) tokens.old.left) }
+{
+    taken(tokens, |bytes| kinds::derivation_count(constraints, bytes))
+}
+
+/// A variable below `variables`.
+pub(crate) fn variable<R: Source>(tokens: &mut Tokens<R>, variables: u32) -> Result<u32, TextError>
+    requires { tokens.old.spent ≡ false }
+    ensures unspent { OnOk result (tokens.new.spent ≡ false) }
+    ensures read { tokens.old.told ≡ true → Gives (λ n. n) result tokens.new (reading.taken (reading.variable_of variables) tokens.old.left) }
+{
+    taken(tokens, |bytes| kinds::variable(variables, bytes))
+}
+
+/// A constraint's index.
+pub(crate) fn reference<R: Source>(tokens: &mut Tokens<R>) -> Result<u32, TextError>
+    requires { tokens.old.spent ≡ false }
+    ensures unspent { OnOk result (tokens.new.spent ≡ false) }
+    ensures read { tokens.old.told ≡ true → Gives (λ n. n) result tokens.new (reading.taken reading.reference_of tokens.old.left) }
+{
+    taken(tokens, kinds::reference)
+}
+
+/// A last reference, `None` for `-1`.
+pub(crate) fn last<R: Source>(tokens: &mut Tokens<R>) -> Result<Option<u32>, TextError>
+    requires { tokens.old.spent ≡ false }
+    ensures unspent { OnOk result (tokens.new.spent ≡ false) }
+    ensures read { tokens.old.told ≡ true → Gives (λ n. n) result tokens.new (reading.taken reading.last_of tokens.old.left) }
+{
+    taken(tokens, kinds::last)
+}
+
+/// This word, or `cause`.
+pub(crate) fn word<R: Source>(
+    tokens: &mut Tokens<R>,
+    word: &[u8],
+    cause: u8,
+) -> Result<(), TextError>
+    requires { tokens.old.spent ≡ false }
+    ensures unspent { OnOk result (tokens.new.spent ≡ false) }
+    ensures read { tokens.old.told ≡ true → Gives (λ u. u) result tokens.new (reading.taken (reading.word_of word.now cause) tokens.old.left) }
+{
+    taken(tokens, |bytes| kinds::word(word, cause, bytes))
+}
