@@ -3,22 +3,23 @@ use Rattle.std.proofs.Common.{◌≡◌, false, nat_lt, if◌then◌else◌, ℕ
 use Rattle.std.proofs.lemmas.Bool.Decides.{nat_tests}
 use Rattle.std.proofs.lemmas.List.Elements.{All-nil, All-cons, All-head}
 use Rattle.vipr_spec.specs.Tokens.{Token}
-use Rattle.vipr_spec.specs.Reading.{Rest, refused, Read, most_bytes, first_token, token_read, judged, taken, repeated}
-use Rattle.vipr_spec.specs.Grammar.{one, ◌then◌, each}
+use Rattle.vipr_spec.specs.Reading.{Rest, refused, Read, most_bytes, first_token, token_read, judged, taken, repeated, name_of, word_of, count_of}
+use Rattle.vipr_spec.specs.Grammar.{one, ◌then◌, each, SpellsCount, word}
 use Rattle.vipr_spec.specs.GrammarLaws.{ReadsKind, Taken, Reads}
-use Rattle.vipr_spec.proofs.GrammarSteps.{bind_ok, ok_then, same_ok, bytes_of, IsShort, taken_is, taken_nothing, nothing_taken, taken_then, parted, Next, next_sound}
+use Rattle.vipr_spec.proofs.GrammarTokens.{kinds_of_token}
+use Rattle.vipr_spec.proofs.GrammarSteps.{bind_ok, ok_then, same_ok, bytes_of, IsShort, taken_is, taken_nothing, nothing_taken, taken_then, parted, Next, next_sound, taken_as}
 
 -- ---- one token
 
-one_token : {r s : Rest} {t : Token} (P : List (List ℕ) → Type 0) → Next r t s → P (t.bytes ∷ []) → Taken P r s
+pub one_token : {r s : Rest} {t : Token} (P : List (List ℕ) → Type 0) → Next r t s → P (t.bytes ∷ []) → Taken P r s
 one_token {t = t} P n h = record { front = t ∷ []; joined = n.joined; short = All-cons IsShort t.bytes [] n.short (All-nil IsShort); shape = h }
 
-record FirstOf (P : List (List ℕ) → Type 0) (r s : Rest) : Type 0 where
-  token : Token
-  next : Next r token s
-  shape : P (token.bytes ∷ [])
+pub record FirstOf (P : List (List ℕ) → Type 0) (r s : Rest) : Type 0 where
+  pub token : Token
+  pub next : Next r token s
+  pub shape : P (token.bytes ∷ [])
 
-first_of_front : (P : List (List ℕ) → Type 0) (r s : Rest) (ts : List Token) (b : List ℕ) → r ≡ record s { tokens = ts ++ s.tokens } → All IsShort (bytes_of ts) → bytes_of ts ≡ b ∷ [] → P (bytes_of ts) → FirstOf P r s
+pub first_of_front : (P : List (List ℕ) → Type 0) (r s : Rest) (ts : List Token) (b : List ℕ) → r ≡ record s { tokens = ts ++ s.tokens } → All IsShort (bytes_of ts) → bytes_of ts ≡ b ∷ [] → P (bytes_of ts) → FirstOf P r s
 first_of_front P r s [] b j a e h = absurd (cc)
 first_of_front P r s (t ∷ []) b j a e h = record { token = t; next = record { joined = j; short = All-head IsShort t.bytes [] a }; shape = h }
 first_of_front P r s (t ∷ u ∷ us) b j a e h = absurd (cc)
@@ -52,6 +53,21 @@ module _ {A : Type 0} (kind : List ℕ → Result A ℕ) (P : List ℕ → A →
 
   pub reads_one : Reads (taken kind) (one P)
   reads_one r s x = (taken_sound r s x, taken_complete r s x)
+
+pub reads_like : {A : Type 0} {read : Rest → Read A} {S T : A → List (List ℕ) → Type 0} → Reads read S → ((x : A) (ts : List (List ℕ)) → S x ts → T x ts) → ((x : A) (ts : List (List ℕ)) → T x ts → S x ts) → Reads read T
+reads_like {S = S} {T = T} law to from r s x = (
+  λ e. let t = (law r s x).0 e in taken_as (T x) t (to x (bytes_of t.front) t.shape),
+  λ t. (law r s x).1 (taken_as (S x) t (from x (bytes_of t.front) t.shape)),
+)
+
+pub reads_name : Reads (taken name_of) word
+reads_name = reads_like (reads_one name_of (λ t x. t ≡ x) kinds_of_token.name) (λ x ts h. h.1 ∙ ap (λ b. b ∷ []) h.2) (λ x ts h. (x, h, refl))
+
+pub reads_fixed : (w : List ℕ) (c : ℕ) → Reads (taken (word_of w c)) (λ u. word w)
+reads_fixed w c = reads_like (reads_one (word_of w c) (λ t x. t ≡ w) (kinds_of_token.fixed w c)) (λ x ts h. h.1 ∙ ap (λ b. b ∷ []) h.2) (λ x ts h. (w, h, refl))
+
+pub reads_count : Reads (taken count_of) (one SpellsCount)
+reads_count = reads_one count_of SpellsCount kinds_of_token.count
 
 -- ---- so many in a row
 

@@ -56,6 +56,9 @@ taken_is S {r} {q} {s} {v} {x} e t =
     let both = same_ok e in let same : v ≡ x = ap (λ p. p.0) both in let left : q ≡ s = ap (λ p. p.1) both in
     subst (λ y. Taken (S y) r s) same (subst (λ p. Taken (S v) r p) left t)
 
+pub is_answer : {A : Type 0} (P : A → Rest → Type 0) {q s : Rest} {v x : A} → answer v q ≡ answer x s → P v q → P x s
+is_answer P e p = subst (λ y. P y.0 y.1) (same_ok e) p
+
 pub taken_nothing : (r : Rest) → Taken (λ ts. ts ≡ []) r r
 taken_nothing r = record { front = []; joined = refl; short = All-nil _; shape = refl }
 

@@ -10,7 +10,7 @@ use Rattle.vipr_spec.specs.Constraint.{Sense, at_most, equal, at_least}
 use Rattle.vipr_spec.specs.Certificate.{Direction, minimum, maximum}
 use Rattle.vipr_spec.specs.Reading.{most_count, at_most_or, word_of, count_of, derivation_count_of, below, variable_of, unless_among, new_variable_of, reference_of, some_of, last_of, sense_of, direction_of, has_range_of, Rule, by_asm, by_lin, by_rnd, by_uns, by_sol, rule_of}
 use Rattle.vipr_spec.specs.Grammar.{SpellsNatural, SpellsCount, SpellsVariable, SpellsSense, SpellsDirection, SpellsLast}
-use Rattle.vipr_spec.specs.GrammarLaws.{ReadsKind, rule_word, KindsOfToken}
+use Rattle.vipr_spec.specs.GrammarLaws.{ReadsKind, SpellsRange, rule_word, KindsOfToken}
 use Rattle.vipr_spec.proofs.GrammarNumbers.{natural_sound, natural_complete}
 use Rattle.vipr_spec.proofs.GrammarSteps.{guard_true, guard_false, chosen, success, same_ok}
 
@@ -27,7 +27,7 @@ pub picked : {A E : Type 0} (t w : List ℕ) (x y : A) (others : Result A E) →
 picked t w x y others e = ⊎_elim (λ h. inl (same_bytes t w h.0, same_ok h.1)) (λ h. inr h.1) (chosen (bytes_eq t w) (Ok x) others (Ok y) e)
 
 -- of the first word a value P holds, and of the others too
-picks : {A : Type 0} (P : A → Type 0) (t w : List ℕ) (x y : A) (others : Result A ℕ) → (t ≡ w → P x) → (others ≡ Ok y → P y) → (if bytes_eq t w then Ok x else others) ≡ Ok y → P y
+pub picks : {A : Type 0} (P : A → Type 0) (t w : List ℕ) (x y : A) (others : Result A ℕ) → (t ≡ w → P x) → (others ≡ Ok y → P y) → (if bytes_eq t w then Ok x else others) ≡ Ok y → P y
 picks P t w x y others here there e = ⊎_elim (λ h. subst P h.1 (here h.0)) there (picked t w x y others e)
 
 none_picked : {A : Type 0} (P : Type 0) (c : ℕ) (y : A) → Err c ≡ success ℕ y → P
@@ -57,9 +57,6 @@ direction_complete : (t : List ℕ) (s : Direction) → SpellsDirection t s → 
 unfolding direction_of
 direction_complete t minimum e = rw e
 direction_complete t maximum e = rw e
-
-abbrev SpellsRange : List ℕ → Bool → Type 0
-SpellsRange t b = t ≡ (if b then codes "range" else codes "infeas")
 
 has_range_sound : (t : List ℕ) (b : Bool) → has_range_of t ≡ Ok b → SpellsRange t b
 unfolding has_range_of

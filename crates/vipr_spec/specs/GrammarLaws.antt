@@ -1,10 +1,15 @@
 -- Reading and the grammar say the same
-use Rattle.std.specs.Prelude.{◌≡◌, ◌↔◌, ℕ, ◌-◌, ◌≤◌, false, nat_eq, if◌then◌else◌, List, ◌++◌, length, map, All, Some, Result, Ok, codes}
+use Rattle.std.specs.Prelude.{◌≡◌, ◌↔◌, ℕ, ◌+◌, ◌-◌, ◌≤◌, Bool, false, nat_eq, if◌then◌else◌, List, [], ◌++◌, length, map, All, Some, Result, Ok, codes}
 use Rattle.std.specs.List.{list_any}
+use Rattle.vipr_spec.specs.Constraint.{Row}
+use Rattle.vipr_spec.specs.Certificate.{Problem, variables, Certificate}
 use Rattle.vipr_spec.specs.Digits.{natural_of}
-use Rattle.vipr_spec.specs.Tokens.{Token}
-use Rattle.vipr_spec.specs.Reading.{Rest, Read, most_bytes, most_count, name_of, word_of, count_of, derivation_count_of, variable_of, new_variable_of, reference_of, last_of, sense_of, direction_of, has_range_of, rule_of, Rule, by_asm, by_lin, by_rnd, by_uns, by_sol}
-use Rattle.vipr_spec.specs.Grammar.{SpellsNatural, SpellsCount, SpellsVariable, SpellsSense, SpellsDirection, SpellsLast}
+use Rattle.vipr_spec.specs.Number.{SpellsNumber}
+use Rattle.vipr_spec.specs.Tokens.{Token, text_tokens}
+use Rattle.vipr_spec.specs.Reading.{Rest, Read, most_bytes, most_count, name_of, word_of, count_of, derivation_count_of, variable_of, new_variable_of, reference_of, last_of, number_of, bound_of, sense_of, direction_of, has_range_of, rule_of, Rule, by_asm, by_lin, by_rnd, by_uns, by_sol, vector_read, row_read, constraint_read, version_read, names_read, integers_read, objective_read, constraints_read, claim_read, problem_read, solution_read, derivations_read, entry_read, reason_read, derivation_read, end_read, certificate_read}
+use Rattle.vipr_spec.specs.Grammar.{SpellsNatural, SpellsCount, SpellsVariable, SpellsSense, SpellsDirection, SpellsBound, SpellsLast, word, one, ◌then◌, vector, coefficients, constraint, version, names, integers, objective, constraints, claim, problem, solution, entry, reason, derivation, SpelledBy, Spells}
+
+-- ---- tokens
 
 -- digits write exactly the number that they spell
 abbrev pub ReadsNaturals : Type 0
@@ -21,6 +26,10 @@ rule_word by_rnd = codes "rnd"
 rule_word by_uns = codes "uns"
 rule_word by_sol = codes "sol"
 
+-- whether the claim is a range
+abbrev pub SpellsRange : List ℕ → Bool → Type 0
+SpellsRange t b = t ≡ (if b then codes "range" else codes "infeas")
+
 -- each kind of token but numbers
 pub record KindsOfToken : Type 0 where
   pub name : ReadsKind name_of (λ t x. t ≡ x)
@@ -33,8 +42,16 @@ pub record KindsOfToken : Type 0 where
   pub last : ReadsKind last_of SpellsLast
   pub sense : ReadsKind sense_of SpellsSense
   pub direction : ReadsKind direction_of SpellsDirection
-  pub has_range : ReadsKind has_range_of (λ t b. t ≡ (if b then codes "range" else codes "infeas"))
+  pub has_range : ReadsKind has_range_of SpellsRange
   pub rule : ReadsKind rule_of (λ t rule. t ≡ rule_word rule)
+
+-- numbers, and the bounds of a claim
+pub record KindsOfNumber : Type 0 where
+  pub number : ReadsKind number_of SpellsNumber
+  pub lower : ReadsKind (bound_of (codes "-inf")) (SpellsBound (codes "-inf"))
+  pub upper : ReadsKind (bound_of (codes "inf")) (SpellsBound (codes "inf"))
+
+-- ---- parts
 
 -- The tokens that stand from r up to s have the shape P, and are short enough.
 pub record Taken (P : List (List ℕ) → Type 0) (r s : Rest) : Type 0 where
@@ -43,6 +60,57 @@ pub record Taken (P : List (List ℕ) → Type 0) (r s : Rest) : Type 0 where
   pub short : All (λ t. length t ≤ most_bytes) (map (λ t. t.bytes) front)
   pub shape : P (map (λ t. t.bytes) front)
 
--- Read is exactly what is spelled, and what follows it is left.
+-- Read is exactly what the tokens at the front spell, whatever follows them, and what follows them is left.
 abbrev pub Reads : {A : Type 0} → (Rest → Read A) → (A → List (List ℕ) → Type 0) → Type 0
 Reads {A} read S = (r s : Rest) (x : A) → (read r ≡ Ok (x, s)) ↔ Taken (S x) r s
+
+-- a problem, and the number of solutions behind it
+abbrev pub problem_and_count : Problem × ℕ → List (List ℕ) → Type 0
+problem_and_count x = problem x.0 then word (codes "SOL") then one SpellsCount x.1
+
+-- the number of derivations, which with the constraints of the problem is no more than a count may be
+abbrev pub derivation_count : Problem → ℕ → List (List ℕ) → Type 0
+derivation_count p d ts = (length p.constraints + d ≤ most_count) × (word (codes "DER") then one SpellsCount d) ts
+
+-- no token is left, and no failure follows
+abbrev pub EndsHere : Rest → Type 0
+EndsHere r = (r.tokens ≡ []) × (r.fails ≡ false)
+
+-- the parts of an item
+pub record PartsOfItems : Type 0 where
+  pub vector : (n : ℕ) → Reads (vector_read n) (vector n)
+  pub coefficients : (n : ℕ) (objective : Row) → Reads (row_read n objective) (coefficients n objective)
+  pub constraint : (n : ℕ) (objective : Row) → Reads (constraint_read n objective) (λ c. constraint n objective c.name c.item)
+  pub version : Reads version_read (λ u. version)
+  pub names : Reads names_read names
+  pub integers : (n : ℕ) → Reads (integers_read n) (integers n)
+  pub objective : (n : ℕ) → Reads (objective_read n) (λ x. objective n x.0 x.1)
+  pub constraints : (n : ℕ) (objective : Row) → Reads (constraints_read n objective) (λ x. constraints n objective x.0 x.1)
+  pub claim : Reads claim_read claim
+  pub entry : Reads entry_read entry
+  pub reason : Reads reason_read (λ x. word (codes "{") then reason x then word (codes "}"))
+
+-- The items of a certificate, in the order in which they stand. Counts keep the constraints of a problem that was read within `most_count`.
+pub record Items : Type 0 where
+  pub problem : Reads problem_read problem_and_count
+  pub few_constraints : (r s : Rest) (x : Problem × ℕ) → problem_read r ≡ Ok (x, s) → length x.0.constraints ≤ most_count
+  pub solution : (p : Problem) → Reads (solution_read p) (solution (variables p))
+  pub derivations : (p : Problem) → length p.constraints ≤ most_count → Reads (derivations_read p) (derivation_count p)
+  pub derivation : (p : Problem) → Reads (derivation_read p) (derivation p)
+  pub end : (r : Rest) → (end_read r ≡ Ok tt) ↔ EndsHere r
+
+-- ---- certificates
+
+-- A certificate is read exactly where all tokens spell it, and no failure follows them.
+abbrev pub ReadsCertificates : Type 0
+ReadsCertificates = (r : Rest) (c : Certificate) → (certificate_read r ≡ Ok c) ↔ ((r.fails ≡ false) × SpelledBy (map (λ t. t.bytes) r.tokens) c)
+
+-- what there is to read of a text that no failure cuts off
+abbrev pub whole_text : List ℕ → Rest
+whole_text bytes = record { tokens = text_tokens bytes; fails = false; length = length bytes }
+
+abbrev pub ReadsTexts : Type 0
+ReadsTexts = (bytes : List ℕ) (c : Certificate) → (certificate_read (whole_text bytes) ≡ Ok c) ↔ Spells bytes c
+
+abbrev pub OneCertificate : Type 0
+OneCertificate = (bytes : List ℕ) (c d : Certificate) → Spells bytes c → Spells bytes d → c ≡ d

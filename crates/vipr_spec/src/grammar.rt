@@ -1,6 +1,6 @@
 //! Laws of the format: what is read from a text is what the grammar says that it spells.
 
-ghost use Rattle.vipr_spec.specs.GrammarLaws.{ReadsNaturals, KindsOfToken};
+ghost use Rattle.vipr_spec.specs.GrammarLaws.{ReadsNaturals, KindsOfToken, KindsOfNumber, PartsOfItems, Items, ReadsCertificates, ReadsTexts, OneCertificate};
 
 /// Digits write the number that they spell, and nothing else writes one.
 pub fn naturals()
@@ -9,5 +9,28 @@ pub fn naturals()
 
 /// A token of a kind means what the grammar says that it spells, and other tokens are none of that kind.
 pub fn kinds_of_token()
-    ensures { KindsOfToken }
+    ensures words { KindsOfToken }
+    ensures numbers { KindsOfNumber }
+{}
+
+/// A part of an item is read exactly where the next tokens spell it, whatever follows them.
+pub fn parts_of_items()
+    ensures { PartsOfItems }
+{}
+
+/// An item is read exactly where the next tokens spell it, whatever follows them.
+pub fn items()
+    ensures { Items }
+{}
+
+/// A certificate is read exactly where the tokens of the text spell it: so it was read only if the
+/// text spells it, and what a text spells is read.
+pub fn reading_is_the_grammar()
+    ensures tokens { ReadsCertificates }
+    ensures texts { ReadsTexts }
+{}
+
+/// No text spells two certificates.
+pub fn one_certificate()
+    ensures { OneCertificate }
 {}

@@ -11,6 +11,6 @@ pub mod dual_side;
 pub mod grammar;
 pub mod numbers;
 pub mod one_pass;
-pub mod texts;
 pub mod progress;
+pub mod texts;
 pub mod verdict;

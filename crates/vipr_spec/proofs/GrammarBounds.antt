@@ -1,0 +1,56 @@
+-- Numbers, and the bounds of a claim
+use Rattle.std.proofs.Common.{◌≡◌, ℕ, Bool, true, false, if◌then◌else◌, List, Option, Some, None, Result, Ok, Err, codes, refl, sym, ap, subst}
+use Rattle.std.specs.Str.{bytes_eq}
+use Rattle.vipr_spec.specs.Fraction.{ℚ}
+use Rattle.vipr_spec.specs.Digits.{natural_after, natural_of}
+use Rattle.vipr_spec.specs.Number.{SpellsNumber, NumberFault, not_a_number, number_read}
+use Rattle.vipr_spec.specs.Reading.{some_of, caused, number_of, bound_of}
+use Rattle.vipr_spec.specs.Grammar.{SpellsBound}
+use Rattle.vipr_spec.specs.GrammarLaws.{ReadsKind, KindsOfNumber}
+use Rattle.vipr_spec.proofs.NumberReads.{number_sound, number_complete}
+use Rattle.vipr_spec.proofs.GrammarSteps.{same_ok}
+use Rattle.vipr_spec.proofs.GrammarTokens.{same_bytes, bytes_same, picks, some_sound}
+
+caused_ok : (r : Result ℚ NumberFault) (x : ℚ) → caused r ≡ Ok x → r ≡ Ok x
+caused_ok (Ok y) x e = ap Ok (same_ok e)
+caused_ok (Err c) x e = absurd (cc)
+
+pub number_is : ReadsKind number_of SpellsNumber
+number_is t x = (λ e. number_sound t x (caused_ok (number_read t) x e), λ h. ap caused (number_complete t x h))
+
+-- what is no number
+abbrev pub IsNoNumber : List ℕ → Type 0
+IsNoNumber t = number_read t ≡ Err not_a_number
+
+pub no_lower : IsNoNumber (codes "-inf")
+unfolding number_read natural_of natural_after
+no_lower = refl
+
+pub no_upper : IsNoNumber (codes "inf")
+unfolding number_read natural_of natural_after
+no_upper = refl
+
+module _ (infinite : List ℕ) (none : IsNoNumber infinite) where
+  bound_sound : (t : List ℕ) (o : Option ℚ) → bound_of infinite t ≡ Ok o → SpellsBound infinite t o
+  unfolding bound_of
+  bound_sound t o e =
+      picks (SpellsBound infinite t) t infinite None o _ (λ h. h)
+      (λ f. let k = some_sound (number_of t) o f in subst (SpellsBound infinite t) (sym k.2) ((number_is t k.0).0 k.1)) e
+
+  bound_other : (t : List ℕ) (x : ℚ) → SpellsNumber t x → (b : Bool) → bytes_eq t infinite ≡ b → (if b then Ok None else some_of (number_of t)) ≡ Ok (Some x)
+  bound_other t x h true e =
+      let same : t ≡ infinite = same_bytes t infinite e in
+      let read : number_read infinite ≡ Ok x = subst (λ u. number_read u ≡ Ok x) same (number_complete t x h) in
+      absurd (cc)
+  bound_other t x h false e = ap some_of ((number_is t x).1 h)
+
+  bound_complete : (t : List ℕ) (o : Option ℚ) → SpellsBound infinite t o → bound_of infinite t ≡ Ok o
+  unfolding bound_of
+  bound_complete t None e = ap (λ b. if b then Ok None else some_of (number_of t)) (bytes_same t infinite e)
+  bound_complete t (Some x) h = bound_other t x h (bytes_eq t infinite) refl
+
+  pub bound_is : ReadsKind (bound_of infinite) (SpellsBound infinite)
+  bound_is t o = (bound_sound t o, bound_complete t o)
+
+pub kinds_of_number : KindsOfNumber
+kinds_of_number = record { number = number_is; lower = bound_is (codes "-inf") no_lower; upper = bound_is (codes "inf") no_upper }
