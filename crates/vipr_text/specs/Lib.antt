@@ -2,3 +2,4 @@ pub mod Places
 pub mod View
 pub mod Follows
 pub mod Giving
+pub mod Items

@@ -1,9 +1,10 @@
-//! The tokens of a text that is read in pieces.
+//! Certificates as text: tokens, what a certificate is made of, and its readers.
 #![tactic(auto)]
 
 mod bytes;
 mod causes;
 mod error;
+mod items;
 mod kinds;
 mod piece;
 mod place;
@@ -12,4 +13,5 @@ mod wanted;
 mod window;
 
 pub use error::TextError;
+pub use items::{Claim, Derivation, Goal, Name, Named, Problem, Reason};
 pub use tokens::{Token, Tokens};
