@@ -3,3 +3,4 @@ pub mod Views
 pub mod Sums
 pub mod Compared
 pub mod Rounding
+pub mod Parsed

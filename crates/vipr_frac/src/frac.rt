@@ -221,7 +221,7 @@ pub(crate) fn reduced(p: i128, q: u128) -> Frac
 }
 
 #[inline(always)]
-fn of_whole(p: i128) -> Frac
+pub(crate) fn of_whole(p: i128) -> Frac
     requires { unsigned_abs p ≤ most }
     ensures { result ≡ whole p }
 {

@@ -3,5 +3,7 @@
 
 mod frac;
 mod gcd;
+mod number;
 
 pub use frac::{Frac, FracError, Overflow};
+pub use number::NumberError;

@@ -1,12 +1,13 @@
 -- What is read as a number is what is spelled as one
-use Rattle.std.proofs.Common.{◌≡◌, ℕ, suc, ◌+◌, ◌<◌, ◌≤◌, inl, inr, Bool, true, false, nat_lt, ◌==◌, ◌||◌, if◌then◌else◌, List, [], ◌∷◌, ◌++◌, length, take, drop, Option, Some, None, Ok, Err, ℤ, pos, negsuc, subst, append-nil, arith, refl, sym, ◌∙◌, ap, append_assoc}
+use Rattle.std.proofs.Common.{◌≡◌, ℕ, suc, ◌+◌, ◌<◌, ◌≤◌, inl, inr, Bool, true, false, nat_lt, ◌==◌, ◌||◌, if◌then◌else◌, List, [], ◌∷◌, ◌++◌, length, take, drop, Option, Some, None, Ok, Err, ℤ, pos, negsuc, subst, append-nil, lit<, lit≤, arith, refl, sym, ◌∙◌, ap, append_assoc}
 use Rattle.std.proofs.lemmas.Bool.Decides.{nat_tests}
 use Rattle.std.proofs.lemmas.Bool.{eqb-true}
+use Rattle.std.proofs.lemmas.List.{length-append}
 use Rattle.std.specs.Char.{digit_value}
 use Rattle.std.specs.Fmt.{decimal, signed_decimal}
-use Rattle.std.proofs.lemmas.Fmt.{decimal_is_IsNumeral_wide}
+use Rattle.std.proofs.lemmas.Fmt.{decimal_is_IsNumeral_wide, length-decimal-le_wide}
 use Rattle.std.specs.Str.Parse.{AllDigits, IsNumeral, digits_value, without_leading_sign, starts_with_minus}
-use Rattle.std.specs.Prelude.{IfSome}
+use Rattle.std.specs.Prelude.{IfSome, unsigned_abs}
 use Rattle.vipr_spec.specs.Fraction.{ℚ, over, most, IsBounded}
 use Rattle.vipr_spec.proofs.GrammarNumbers.{natural_sound, natural_complete}
 use Rattle.vipr_spec.proofs.Points.{over_parts}
@@ -228,3 +229,33 @@ text_by x (negsuc n) false b e f =
 
 pub text_spelled : (x : ℚ) → IsBounded x → SpellsNumber (number_text x) x
 text_spelled x b = text_by x x.numer (x.denom == 1) b refl refl
+
+text_length : (x : ℚ) (p : ℤ) (t : Bool) → unsigned_abs p ≤ most → x.denom ≤ most → length (if t then signed_decimal p else signed_decimal p ++ 47 ∷ decimal x.denom) ≤ 80
+text_length x p t h k = by (signed_decimal p) t (numer_length p h)
+  where
+    digits_length : (n : ℕ) → n ≤ most → length (decimal n) ≤ 39
+    digits_length n h = length-decimal-le_wide 39 n (lit< tt) (omega arith) (omega arith)
+
+    numer_length : (p : ℤ) → unsigned_abs p ≤ most → length (signed_decimal p) ≤ 40
+    numer_length (pos n) h = let l = digits_length n h in omega arith
+    numer_length (negsuc n) h = let l = digits_length (suc n) h in omega arith
+
+    by : (ds : List ℕ) (t : Bool) → length ds ≤ 40 → length (if t then ds else ds ++ 47 ∷ decimal x.denom) ≤ 80
+    by ds true l = omega arith
+    by ds false l = let d = digits_length x.denom k in omega (arith, length-append ds (47 ∷ decimal x.denom))
+
+-- at most a sign, 39 digits, a slash and 39 digits
+pub text_short : (x : ℚ) → IsBounded x → length (number_text x) ≤ 80
+text_short x b = text_length x x.numer (x.denom == 1) b.0 b.1
+
+-- digits alone are a whole number
+pub plain_number : (is_negative : Bool) (bs : List ℕ) (n : ℕ) → natural_of bs ≡ Some n → n ≤ most → of_parts is_negative (natural_of (top_of bs)) (natural_of (bottom_of bs)) ≡ Ok (over (signed is_negative n) 1)
+unfolding natural_of natural_after
+plain_number is_negative bs n e h =
+    let k = natural_sound bs n e in
+    let top : top_of bs ≡ bs = ap top_of (sym (append-nil bs)) ∙ top_is bs None k.0.1 in
+    let bottom : bottom_of bs ≡ 49 ∷ [] = ap bottom_of (sym (append-nil bs)) ∙ bottom_is bs None k.0.1 in
+    ap (λ cs. of_parts is_negative (natural_of cs) (natural_of (bottom_of bs))) top
+    ∙ ap (λ cs. of_parts is_negative (natural_of bs) (natural_of cs)) bottom
+    ∙ ap (λ m. of_parts is_negative m (natural_of (49 ∷ []))) e
+    ∙ written_complete is_negative n 1 h (lit≤ tt) (lit≤ tt)

@@ -1,5 +1,5 @@
 //! Laws of numbers as they are written.
-ghost use Rattle.std.specs.Prelude.{◌≡◌, ◌↔◌, ℕ, List, Ok};
+ghost use Rattle.std.specs.Prelude.{◌≡◌, ◌↔◌, ℕ, ◌≤◌, List, length, Ok};
 ghost use Rattle.vipr_spec.specs.Fraction.{ℚ, IsBounded};
 ghost use Rattle.vipr_spec.specs.Number.{SpellsNumber, number_read, number_text};
 
@@ -9,4 +9,5 @@ pub fn spelled_numbers()
     ensures read { (bs : List ℕ) (x : ℚ) → (number_read bs ≡ Ok x) ↔ SpellsNumber bs x }
     ensures one { (bs : List ℕ) (x y : ℚ) → SpellsNumber bs x → SpellsNumber bs y → x ≡ y }
     ensures text { (x : ℚ) → IsBounded x → SpellsNumber (number_text x) x }
+    ensures short { (x : ℚ) → IsBounded x → length (number_text x) ≤ 80 }
 {}

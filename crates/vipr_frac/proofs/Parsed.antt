@@ -1,0 +1,23 @@
+-- What the parts of a text give is what is read from it, and what it spells.
+use Rattle.std.proofs.Common.{◌≡◌, ℕ, Bool, List, Result, Ok, Err, sym, ◌∙◌, ap}
+use Rattle.std.specs.Prelude.{◌↔◌}
+use Rattle.std.specs.Str.Parse.{starts_with_minus, without_leading_sign}
+use Rattle.vipr_spec.specs.Fraction.{ℚ}
+use Rattle.vipr_spec.specs.Digits.{natural_of}
+use Rattle.vipr_spec.specs.Number.{SpellsNumber, number_read, of_parts, top_of, bottom_of}
+use Rattle.vipr_spec.proofs.NumberReads.{number_sound, number_complete}
+use Rattle.vipr_frac.specs.Reading.{as_read}
+use Rattle.vipr_frac.specs.declared.number.NumberError.{NumberError}
+
+pub read_parts : (bs cs : List ℕ) (is_negative : Bool) (r : Result ℚ NumberError) → is_negative ≡ starts_with_minus bs → cs ≡ without_leading_sign bs → as_read r ≡ of_parts is_negative (natural_of (top_of cs)) (natural_of (bottom_of cs)) → as_read r ≡ number_read bs
+unfolding number_read
+read_parts bs cs is_negative r e f h =
+    h ∙ ap (λ m. of_parts m (natural_of (top_of cs)) (natural_of (bottom_of cs))) e
+    ∙ ap (λ ds. of_parts (starts_with_minus bs) (natural_of (top_of ds)) (natural_of (bottom_of ds))) f
+
+same_number : (r : Result ℚ NumberError) (x : ℚ) → as_read r ≡ Ok x → r ≡ Ok x
+same_number (Ok y) x e = cc
+same_number (Err f) x e = absurd (cc)
+
+pub spelled : (bs : List ℕ) (r : Result ℚ NumberError) → as_read r ≡ number_read bs → (x : ℚ) → (r ≡ Ok x) ↔ SpellsNumber bs x
+spelled bs r h x = (λ e. number_sound bs x (sym h ∙ ap as_read e), λ s. same_number r x (h ∙ number_complete bs x s))
