@@ -12,5 +12,6 @@ pub mod grammar;
 pub mod numbers;
 pub mod one_pass;
 pub mod progress;
+pub mod proof_tests;
 pub mod texts;
 pub mod verdict;

@@ -1,0 +1,23 @@
+//! A certificate is a proof exactly where no test of it fails.
+
+ghost use Rattle.std.specs.Prelude.{◌↔◌, ℕ, None, Some, IsTrue};
+ghost use Rattle.vipr_spec.specs.Constraint.{Row, at};
+ghost use Rattle.vipr_spec.specs.Certificate.{Problem, Reason, Certificate, IsFeasible, SolutionFits, IsValid, StepFits, RefersTo, is_live, IsProof};
+ghost use Rattle.vipr_spec.specs.Verdict.{FirstFailing, PassesStep, all_step_tests, PassesSolution, solution_tests, Passes};
+ghost use Rattle.vipr_spec.specs.ProofTests.{proof_tests};
+
+/// No test of a derivation fails exactly where it is valid, fits, and refers to live constraints alone.
+pub fn of_steps()
+    ensures { (c : Certificate) (k : ℕ) (r : Reason) → FirstFailing (PassesStep c k) (all_step_tests r) None
+        ↔ (IsValid c k (Some r) × StepFits c (Some r) × ((i : ℕ) → RefersTo (Some r) i → IsTrue (is_live c k i))) }
+{}
+
+/// No test of a listed solution fails exactly where it is feasible and fits.
+pub fn of_solutions()
+    ensures { (p : Problem) (s : Row) → FirstFailing (PassesSolution p s) (solution_tests p) None ↔ (IsFeasible p (at s) × SolutionFits p (at s)) }
+{}
+
+/// No test of a certificate fails exactly where it is a proof.
+pub fn of_proofs()
+    ensures { (c : Certificate) → FirstFailing (Passes c) (proof_tests c) None ↔ IsProof c }
+{}
