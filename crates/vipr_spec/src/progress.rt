@@ -1,10 +1,10 @@
 //! The answer for a text, item by item: what the items read so far leave open, the rest tells.
 
-ghost use Rattle.std.specs.Prelude.{◌≡◌, ◌↔◌, ℕ, suc, List, [], ◌∷◌, length, Option, Some, None, Ok, Err};
+ghost use Rattle.std.specs.Prelude.{◌≡◌, ◌↔◌, ℕ, suc, List, [], ◌∷◌, length, Option, Some, None, IsSome, MatchOption, Ok, Err};
 ghost use Rattle.vipr_spec.specs.Constraint.{Row};
-ghost use Rattle.vipr_spec.specs.Certificate.{Named, Problem, Derivation, Certificate, infeasible, MeetsPrimal, count};
+ghost use Rattle.vipr_spec.specs.Certificate.{Named, Problem, Derivation, Certificate, infeasible, MeetsPrimal, NeedsGoal, IsGoal, count};
 ghost use Rattle.vipr_spec.specs.Reading.{Rest, Fault, problem_read, solution_read, derivations_read, derivation_read, end_read};
-ghost use Rattle.vipr_spec.specs.OnePass.{with_next};
+ghost use Rattle.vipr_spec.specs.OnePass.{with_next, GoalIs, IsGoodNext};
 ghost use Rattle.vipr_spec.specs.Verdict.{StepTest, step_tests, FirstFailing, at_solution, at_end, spelled, meets_primal, of_step, meets_dual, is_built, Passes, Report, Reports, Answer, verified, told_by, IsAnswer};
 ghost use Rattle.vipr_spec.specs.Progress.{PassesNext, Answers, derivations_from, solutions_from};
 
@@ -49,4 +49,22 @@ pub fn end_last()
     ensures fails { (c : Certificate) (r : Rest) (a : Answer) → end_read r ≡ Ok tt → ¬ Passes c meets_dual → Answers (derivations_from c 0 r) a ↔ (a ≡ told_by meets_dual) }
     ensures passes { (c : Certificate) (r : Rest) (a : Answer) → end_read r ≡ Ok tt → Passes c meets_dual
         → Answers (derivations_from c 0 r) a ↔ ((report : Report) × Reports c report × (a ≡ verified report)) }
+{}
+
+/// The dual side is met where a goal was found or none is needed, and the goal is then reported.
+/// It is unmet where one is needed and none was found.
+pub fn goals_reported()
+    ensures met { (c : Certificate) (goal : Option ℕ) → GoalIs c goal → (NeedsGoal c.problem c.problem.claim → IsSome goal)
+        → Passes c meets_dual × MatchOption goal (¬ NeedsGoal c.problem c.problem.claim) (IsGoal c) }
+    ensures missed { (c : Certificate) → GoalIs c None → NeedsGoal c.problem c.problem.claim → ¬ Passes c meets_dual }
+{}
+
+/// A text has one answer at most.
+pub fn one_answer()
+    ensures { (r : Rest) (a b : Answer) → IsAnswer r a → IsAnswer r b → a ≡ b }
+{}
+
+/// A derivation of a kind that is built, all of whose tests pass, can come next.
+pub fn built_ones_are_good()
+    ensures { (c : Certificate) (d : Derivation) → FirstFailing (PassesNext c d) (step_tests d.reason) None → IsGoodNext c d }
 {}
