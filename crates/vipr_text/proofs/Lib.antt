@@ -1,3 +1,4 @@
+pub mod Repeating
 pub mod Taking
 pub mod Naturals
 pub mod Pieces

@@ -1,7 +1,7 @@
 -- What a reader gave, against what the reading of the tokens left gives
-use Rattle.std.specs.Prelude.{◌≡◌, ℕ, true, ⊤, ◌⊎◌, List, Result, Ok, Err}
+use Rattle.std.specs.Prelude.{◌≡◌, ℕ, true, ⊤, ◌⊎◌, List, ◌++◌, Result, Ok, Err}
 use Rattle.vipr_spec.specs.Tokens.{Token}
-use Rattle.vipr_spec.specs.Reading.{Rest, Fault, refused, unread, Read, token_read}
+use Rattle.vipr_spec.specs.Reading.{Rest, Fault, refused, unread, Read, token_read, ◌>>=◌}
 use Rattle.vipr_text.specs.View.{Reading}
 use Rattle.vipr_text.specs.declared.error.TextError.{TextError}
 use Rattle.vipr_text.specs.declared.error.TextError.TheVariants as error
@@ -17,6 +17,15 @@ Fails error.Spent r = ⊥
 abbrev pub Gives : {X Y : Type 0} → (X → Y) → Result X TextError → Reading → Read Y → Type 0
 Gives view (Ok x) new r = (r ≡ Ok (view x, new.left)) × (new.told ≡ true)
 Gives view (Err e) new r = Fails e r
+
+-- items in front of those that are read
+abbrev pub with_front : {A : Type 0} → List A → Read (List A) → Read (List A)
+with_front front read = read >>= λ xs. Ok (front ++ xs.0, xs.1)
+
+-- a value as it is seen
+abbrev pub viewed : {X Y E : Type 0} → (X → Y) → Result X E → Result Y E
+viewed view (Ok x) = Ok (view x)
+viewed view (Err e) = Err e
 
 -- the next token was taken, and Means says what became of its bytes: a value or the number of a cause
 abbrev pub TakenBy : {X : Type 0} → (List ℕ → Result X ℕ → Type 0) → Result X TextError → Reading → Rest → Type 0

@@ -3,3 +3,4 @@ pub mod View
 pub mod Follows
 pub mod Giving
 pub mod Items
+pub mod Rules

@@ -2,9 +2,22 @@
 ghost use Rattle.std.specs.Prelude.{◌≡◌, min};
 ghost use Rattle.std.specs.Option.{option_map};
 ghost use Rattle.vipr_spec.specs.Digits.{natural_of};
-ghost use Rattle.vipr_spec.specs.Reading.{at_most_or, count_of, derivation_count_of, variable_of, reference_of, last_of, word_of};
+ghost use Rattle.vipr_text.specs.Giving.{viewed};
+ghost use Rattle.vipr_text.specs.Rules.{rule_seen};
+ghost use Rattle.vipr_spec.specs.Reading.{at_most_or, count_of, derivation_count_of, variable_of, reference_of, last_of, word_of, rule_of, number_of};
 
 use crate::causes;
+use vipr_frac::{Frac, NumberError};
+
+/// The rule of a reason, before what belongs to it is read.
+#[derive(Clone, Copy, Debug, PartialEq, Eq)]
+pub(crate) enum Rule {
+    Asm,
+    Lin,
+    Rnd,
+    Uns,
+    Sol,
+}
 
 /// One more than the greatest count and index.
 const OVER: u64 = 4_294_967_296;
@@ -101,4 +114,36 @@ pub(crate) fn word(word: &[u8], cause: u8, bytes: &[u8]) -> Result<(), u8>
     ensures { result ≡ word_of word.now cause bytes.now }
 {
     if bytes == word { Ok(()) } else { Err(cause) }
+}
+
+/// The word after `{`.
+#[tactic(auto, unfolding(vipr_spec::specs::Reading::rule_of))]
+pub(crate) fn reason_rule(bytes: &[u8]) -> Result<Rule, u8>
+    ensures { viewed rule_seen result ≡ rule_of bytes.now }
+{
+    if bytes == b"asm".as_slice() {
+        Ok(Rule::Asm)
+    } else if bytes == b"lin".as_slice() {
+        Ok(Rule::Lin)
+    } else if bytes == b"rnd".as_slice() {
+        Ok(Rule::Rnd)
+    } else if bytes == b"uns".as_slice() {
+        Ok(Rule::Uns)
+    } else if bytes == b"sol".as_slice() {
+        Ok(Rule::Sol)
+    } else {
+        Err(causes::BAD_REASON)
+    }
+}
+
+/// A number.
+pub(crate) fn number(bytes: &[u8]) -> Result<Frac, u8>
+    ensures { result ≡ number_of bytes.now }
+{
+    match Frac::parse(bytes) {
+        Ok(number) => Ok(number),
+        Err(NumberError::Bad) => Err(causes::BAD_NUMBER),
+        Err(NumberError::TooLarge) => Err(causes::NUMBER_TOO_LARGE),
+        Err(NumberError::ZeroDenominator) => Err(causes::ZERO_DENOMINATOR),
+    }
 }

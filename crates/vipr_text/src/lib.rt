@@ -8,6 +8,7 @@ mod items;
 mod kinds;
 mod piece;
 mod place;
+mod reasons;
 mod tokens;
 mod wanted;
 mod window;

@@ -5,13 +5,16 @@ ghost use Rattle.std.specs.Borrow.{sem};
 ghost use Rattle.std.specs.Io.BufRead.{Rests};
 ghost use Rattle.vipr_spec.specs.Reading as reading;
 ghost use Rattle.vipr_text.specs.Giving.{Gives, IsTaken};
+ghost use Rattle.vipr_text.specs.Rules.{rule_seen};
 ghost use Rattle.vipr_text.specs.View.{seen_token};
 ghost use Rattle.vipr_text.specs.contracts.tokens.Tokens.{the_row};
 
 use crate::error::TextError;
+use crate::kinds::Rule;
 use crate::tokens::Tokens;
 use crate::{causes, kinds};
 use vipr_bytes::Source;
+use vipr_frac::Frac;
 
 /// What the next token means, where `kind` says what its bytes mean or the cause of their refusal.
 fn taken<R: Source, T, F: FnOnce(&[u8]) -> Result<T, u8>>(
@@ -105,4 +108,22 @@ pub(crate) fn word<R: Source>(
     ensures read { tokens.old.told ≡ true → Gives (λ u. u) result tokens.new (reading.taken (reading.word_of word.now cause) tokens.old.left) }
 {
     taken(tokens, |bytes| kinds::word(word, cause, bytes))
+}
+
+/// A number.
+pub(crate) fn number<R: Source>(tokens: &mut Tokens<R>) -> Result<Frac, TextError>
+    requires { tokens.old.spent ≡ false }
+    ensures unspent { OnOk result (tokens.new.spent ≡ false) }
+    ensures read { tokens.old.told ≡ true → Gives (λ n. n) result tokens.new (reading.taken reading.number_of tokens.old.left) }
+{
+    taken(tokens, kinds::number)
+}
+
+/// The word after `{`.
+pub(crate) fn reason_rule<R: Source>(tokens: &mut Tokens<R>) -> Result<Rule, TextError>
+    requires { tokens.old.spent ≡ false }
+    ensures unspent { OnOk result (tokens.new.spent ≡ false) }
+    ensures read { tokens.old.told ≡ true → Gives (rule_seen) result tokens.new (reading.taken reading.rule_of tokens.old.left) }
+{
+    taken(tokens, kinds::reason_rule)
 }
