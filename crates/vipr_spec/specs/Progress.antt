@@ -1,7 +1,7 @@
 -- A text item by item: what the tests of the next derivation say, and what remains once so much was read
 use Rattle.std.specs.Prelude.{◌≡◌, ℕ, ◌<◌, IsTrue, List, [], ◌∷◌, ◌++◌, length, Option, Some, All}
 use Rattle.vipr_spec.specs.Constraint.{Sense, Row, condition, HasSense, SumOfFits, sum_of, IsWholeRow, IsSplit, Dominates, Combines, CombinesRounded}
-use Rattle.vipr_spec.specs.Certificate.{Named, Problem, asm, Derivation, Certificate, constraint_at, reason_at, entries, is_live, IsBest, cutoff, count}
+use Rattle.vipr_spec.specs.Certificate.{Named, Problem, infeasible, Reason, asm, lin, Derivation, Certificate, constraint_at, reason_at, entries, is_live, IsBest, cutoff, count}
 use Rattle.vipr_spec.specs.Reading.{Rest, ◌>>=◌, solution_read, derivation_read, end_read}
 use Rattle.vipr_spec.specs.OnePass.{with_more}
 use Rattle.vipr_spec.specs.Verdict.{StepTest, earlier, live, assumed, suitable, fitting, roundable, split, listed, by_sum, by_rounding, by_constraint, by_cutoff, built, at_solution, Test, is_built, Passes, FirstFailing, items_read, Found, numbered, tests_of_derivation, last_tests, ending_found, Answer, IsToldBy}
@@ -59,3 +59,15 @@ solutions_from p ss n r = let items = items_read (solution_read p) n r in let en
   certificate = record { problem = p; solutions = ss ++ items.0; derivations = ending.0 };
   tests = numbered (λ i s. is_built (at_solution i) ∷ []) (length ss) items.0 ++ ending.1;
 }
+
+-- ---- what is built so far
+
+abbrev pub IsSum : Reason → Type 0
+IsSum (lin es) = Unit {0}
+IsSum _ = ⊥
+
+-- infeasibility is claimed and no solution is listed, and each reason is a sum
+pub record IsBuilt (c : Certificate) : Type 0 where
+  pub claim : c.problem.claim ≡ infeasible
+  pub solutions : c.solutions ≡ []
+  pub reasons : All (λ d. IsSum d.reason) c.derivations

@@ -1,10 +1,14 @@
 //! The first test that fails, and what the tests of a step say.
 
-ghost use Rattle.std.specs.Prelude.{◌≡◌, ◌↔◌, ℕ, ◌<◌, ◌⊎◌, List, ◌∷◌, ◌++◌, Option, Some, None, All};
-ghost use Rattle.vipr_spec.specs.Certificate.{Reason, Derivation, Certificate, reason_at, count};
+ghost use Rattle.std.specs.Prelude.{◌≡◌, ◌↔◌, ℕ, ◌<◌, ◌⊎◌, List, ◌∷◌, ◌++◌, Option, Some, None, Ok, All};
+ghost use Rattle.vipr_spec.specs.Certificate.{Reason, Derivation, Certificate, reason_at, count, IsProof};
+ghost use Rattle.vipr_spec.specs.Reading.{Rest, certificate_read};
+ghost use Rattle.vipr_spec.specs.Grammar.{Spells};
+ghost use Rattle.vipr_spec.specs.GrammarLaws.{whole_text};
+ghost use Rattle.vipr_spec.specs.Soundness.{IsShown};
 ghost use Rattle.vipr_spec.specs.OnePass.{with_more, IsGoodStep, IsGoodNext};
-ghost use Rattle.vipr_spec.specs.Verdict.{FirstFailing, Test, Passes, StepTest, PassesStep, all_step_tests};
-ghost use Rattle.vipr_spec.specs.Progress.{LooksBefore, PassesNext};
+ghost use Rattle.vipr_spec.specs.Verdict.{FirstFailing, Test, Passes, StepTest, PassesStep, all_step_tests, Report, Reports, verified, IsAnswer};
+ghost use Rattle.vipr_spec.specs.Progress.{LooksBefore, PassesNext, IsBuilt};
 
 /// No test fails first exactly where all pass, and only one test fails first. Of two lists, one
 /// after the other, it is that of the first list, or that of the second if all of the first pass.
@@ -32,4 +36,16 @@ pub fn tests_look_back()
 pub fn tests_of_steps()
     ensures good { (c : Certificate) (k : ℕ) (r : Reason) → reason_at c k ≡ Some r → All (PassesStep c k) (all_step_tests r) ↔ IsGoodStep c k }
     ensures next { (c : Certificate) (d : Derivation) → All (PassesNext c d) (all_step_tests d.reason) ↔ IsGoodNext c d }
+{}
+
+/// A text is verified exactly where it spells a certificate that is of the kind that is built and
+/// is a proof, and what is reported is that of the certificate. What the certificate claims is then
+/// true, over all points.
+pub fn verified_texts()
+    ensures read { (r : Rest) (report : Report) → IsAnswer r (verified report)
+        ↔ ((c : Certificate) × (certificate_read r ≡ Ok c) × IsBuilt c × IsProof c × Reports c report) }
+    ensures spelled { (bytes : List ℕ) (report : Report) → IsAnswer (whole_text bytes) (verified report)
+        ↔ ((c : Certificate) × Spells bytes c × IsBuilt c × IsProof c × Reports c report) }
+    ensures shown { (bytes : List ℕ) (report : Report) → IsAnswer (whole_text bytes) (verified report)
+        → (c : Certificate) × Spells bytes c × IsShown c.problem c.solutions c.problem.claim }
 {}

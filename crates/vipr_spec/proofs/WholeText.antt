@@ -1,0 +1,203 @@
+-- A text is verified exactly where it is read as a proof
+use Rattle.std.proofs.Common.{◌≡◌, ℕ, zero, suc, List, [], ◌∷◌, ◌++◌, length, map, Option, Some, None, Result, Ok, Err, All, Contains, refl, sym, ◌∙◌, ap, ap₂, subst, zero-lt-suc}
+use Rattle.std.specs.Prelude.{◌↔◌}
+use Rattle.std.proofs.lemmas.List.Elements.{All-nil, All-cons, All-head, All-tail, All-contains, Contains-append_right}
+use Rattle.vipr_spec.specs.Constraint.{Row}
+use Rattle.vipr_spec.specs.Certificate.{Named, Problem, Claim, infeasible, range, Reason, asm, lin, rnd, uns, sol, Derivation, Certificate, IsProof}
+use Rattle.vipr_spec.specs.Reading.{Rest, Fault, Read, ◌>>=◌, repeated, problem_read, solution_read, derivations_read, derivation_read, end_read, certificate_read}
+use Rattle.vipr_spec.specs.Grammar.{Spells}
+use Rattle.vipr_spec.specs.GrammarLaws.{whole_text}
+use Rattle.vipr_spec.specs.Verdict.{built, all_step_tests, step_tests, solution_tests, of_solution, FirstFailing, at_solution, at_end, Test, spelled, meets_primal, of_step, meets_dual, is_built, Passes, before_items, items_read, Found, numbered, tests_of_derivation, last_tests, derivations_found, ending_found, claim_tests, problem_found, found_in, Report, Reports, verified, IsToldBy, IsAnswer}
+use Rattle.vipr_spec.specs.ProofTests.{proof_tests}
+use Rattle.vipr_spec.specs.Progress.{IsSum, IsBuilt}
+use Rattle.vipr_spec.proofs.FirstFailing.{none_all, all_none, all_parts}
+use Rattle.vipr_spec.proofs.AllTests.{proof_of_tests, tests_of_proof}
+use Rattle.vipr_spec.proofs.GrammarWhole.{reads_texts}
+use Rattle.vipr_spec.proofs.Reported.{told_not_verified}
+
+-- ---- reading all items, and reading them up to a fault
+
+abbrev ended : {A : Type 0} → List A → Result Rest Fault → Read (List A)
+ended xs (Ok s) = Ok (xs, s)
+ended xs (Err f) = Err f
+
+more_ended : {A : Type 0} (x : A) (xs : List A) (e : Result Rest Fault) → (ended xs e >>= λ ys. Ok (x ∷ ys.0, ys.1)) ≡ ended (x ∷ xs) e
+more_ended x xs (Ok s) = refl
+more_ended x xs (Err f) = refl
+
+repeated_is : {A : Type 0} (item : Rest → Read A) (n : ℕ) (r : Rest) → repeated item n r ≡ ended (items_read item n r).0 (items_read item n r).1
+unfolding repeated items_read
+repeated_is item zero r = refl
+repeated_is {A} item (suc n) r = by (λ s. repeated_is item n s) (item r)
+  where
+    by : ((s : Rest) → repeated item n s ≡ ended (items_read item n s).0 (items_read item n s).1) → (y : Read A) → (y >>= λ x. repeated item n x.1 >>= λ xs. Ok (x.0 ∷ xs.0, xs.1)) ≡ ended (before_items (items_read item n) y).0 (before_items (items_read item n) y).1
+    by others (Err f) = refl
+    by others (Ok x) = ap (λ z. z >>= λ xs. Ok (x.0 ∷ xs.0, xs.1)) (others x.1) ∙ more_ended x.0 _ _
+
+-- ---- what was found, where the text was read to its end
+
+abbrev opening_tests : Problem → List (Named Row) → List Test
+opening_tests p ss = claim_tests p.claim ++ numbered (λ i s. is_built (at_solution i) ∷ []) 0 ss
+
+abbrev all_tests : Certificate → List Test
+all_tests c = opening_tests c.problem c.solutions ++ (meets_primal ∷ (numbered tests_of_derivation (length c.problem.constraints) c.derivations ++ (meets_dual ∷ [])))
+
+-- either the whole was read, or the fault is among the tests
+abbrev Whole : Found → Result Certificate Fault → Type 0
+Whole found (Ok c) = found ≡ record { certificate = c; tests = all_tests c }
+Whole found (Err f) = Contains found.tests (spelled f)
+
+last_one : {A : Type 0} (x : A) → Contains (x ∷ []) x
+last_one x = (0, zero-lt-suc 0, refl)
+
+after_one : {A : Type 0} (x y : A) (ys : List A) → Contains ys x → Contains (y ∷ ys) x
+after_one x y ys h = Contains-append_right (y ∷ []) ys x h
+
+module _ (p : Problem) (ss : List (Named Row)) where
+  at_end_whole : (ds : List Derivation) (x : Result (Unit {0}) Fault)
+      → Whole (record {
+        certificate = record { problem = p; solutions = ss; derivations = ds };
+        tests = opening_tests p ss ++ (meets_primal ∷ (numbered tests_of_derivation (length p.constraints) ds ++ last_tests x));
+      }) (x >>= λ end. Ok (record { problem = p; solutions = ss; derivations = ds }))
+  at_end_whole ds (Ok done) = refl
+  at_end_whole ds (Err f) = Contains-append_right (opening_tests p ss) _ _ (after_one _ _ _ (Contains-append_right (numbered tests_of_derivation (length p.constraints) ds) _ _ (last_one (spelled f))))
+
+  derivations_whole : (ds : List Derivation) (x : Result Rest Fault)
+      → Whole (record {
+        certificate = record { problem = p; solutions = ss; derivations = ds };
+        tests = opening_tests p ss ++ (meets_primal ∷ (numbered tests_of_derivation (length p.constraints) ds ++ last_tests (x >>= end_read)));
+      }) (ended ds x >>= λ d. end_read d.1 >>= λ end. Ok (record { problem = p; solutions = ss; derivations = d.0 }))
+  derivations_whole ds (Ok s) = at_end_whole ds (end_read s)
+  derivations_whole ds (Err f) = at_end_whole ds (Err f)
+
+  count_whole : (x : Result (ℕ × Rest) Fault)
+      → Whole (record {
+        certificate = record { problem = p; solutions = ss; derivations = (derivations_found p x).0 };
+        tests = opening_tests p ss ++ (meets_primal ∷ (derivations_found p x).1);
+      }) (x >>= λ d. repeated (derivation_read p) d.0 d.1 >>= λ ds. end_read ds.1 >>= λ end. Ok (record { problem = p; solutions = ss; derivations = ds.0 }))
+  count_whole (Err f) = Contains-append_right (opening_tests p ss) (meets_primal ∷ spelled f ∷ []) (spelled f) (after_one (spelled f) meets_primal (spelled f ∷ []) (last_one (spelled f)))
+  count_whole (Ok d) =
+      let items = items_read (derivation_read p) d.0 d.1 in
+      subst (λ z. Whole (record {
+        certificate = record { problem = p; solutions = ss; derivations = items.0 };
+        tests = opening_tests p ss ++ (meets_primal ∷ (numbered tests_of_derivation (length p.constraints) items.0 ++ last_tests (items.1 >>= end_read)));
+      }) (z >>= λ ds. end_read ds.1 >>= λ end. Ok (record { problem = p; solutions = ss; derivations = ds.0 }))) (sym (repeated_is (derivation_read p) d.0 d.1)) (derivations_whole items.0 items.1)
+
+solutions_whole : (p : Problem) (ss : List (Named Row)) (x : Result Rest Fault)
+    → Whole (record {
+      certificate = record { problem = p; solutions = ss; derivations = (ending_found p x).0 };
+      tests = opening_tests p ss ++ (ending_found p x).1;
+    }) (ended ss x >>= λ s. derivations_read p s.1 >>= λ d. repeated (derivation_read p) d.0 d.1 >>= λ ds. end_read ds.1 >>= λ end. Ok (record { problem = p; solutions = s.0; derivations = ds.0 }))
+solutions_whole p ss (Ok s) = count_whole p ss (derivations_read p s)
+solutions_whole p ss (Err f) = Contains-append_right (opening_tests p ss) _ _ (last_one (spelled f))
+
+whole_read : (r : Rest) → Whole (found_in r) (certificate_read r)
+unfolding found_in certificate_read
+whole_read r = by (problem_read r)
+  where
+    by : (x : Read (Problem × ℕ)) → Whole (problem_found x) (x >>= λ p. repeated (solution_read p.0.0) p.0.1 p.1 >>= λ s. derivations_read p.0.0 s.1 >>= λ d. repeated (derivation_read p.0.0) d.0 d.1
+        >>= λ ds. end_read ds.1 >>= λ end. Ok (record { problem = p.0.0; solutions = s.0; derivations = ds.0 }))
+    by (Err f) = last_one (spelled f)
+    by (Ok p) =
+        let items = items_read (solution_read p.0.0) p.0.1 p.1 in
+        subst (λ z. Whole (problem_found (Ok p)) (z >>= λ s. derivations_read p.0.0 s.1 >>= λ d. repeated (derivation_read p.0.0) d.0 d.1
+        >>= λ ds. end_read ds.1 >>= λ end. Ok (record { problem = p.0.0; solutions = s.0; derivations = ds.0 }))) (sym (repeated_is (solution_read p.0.0) p.0.1 p.1)) (solutions_whole p.0.0 items.0 items.1)
+
+-- ---- the tests of what is built
+
+abbrev built_steps : ℕ → List Derivation → List Test
+built_steps k ds = numbered tests_of_derivation k ds
+
+abbrev every_step : ℕ → List Derivation → List Test
+every_step k ds = numbered (λ i d. map (of_step i) (all_step_tests d.reason)) k ds
+
+same_steps : (k : ℕ) (ds : List Derivation) → All (λ d. IsSum d.reason) ds → built_steps k ds ≡ every_step k ds
+unfolding numbered
+same_steps k [] a = refl
+same_steps k (d ∷ ds) a = ap₂ (λ x y. x ++ y) (by d.reason (All-head (λ d. IsSum d.reason) d ds a)) (same_steps (suc k) ds (All-tail (λ d. IsSum d.reason) d ds a))
+  where
+    by : (r : Reason) → IsSum r → map (of_step k) (step_tests r) ≡ map (of_step k) (all_step_tests r)
+    by (lin es) s = refl
+    by asm s = absurd s
+    by (rnd es) s = absurd s
+    by (uns i1 l1 i2 l2) s = absurd s
+    by sol s = absurd s
+
+sums_of : (c : Certificate) (k : ℕ) (ds : List Derivation) → All (Passes c) (built_steps k ds) → All (λ d. IsSum d.reason) ds
+unfolding numbered
+sums_of c k [] a = All-nil (λ d. IsSum d.reason)
+sums_of c k (d ∷ ds) a =
+    let p = all_parts (Passes c) (tests_of_derivation k d) (built_steps (suc k) ds) a in
+    All-cons (λ d. IsSum d.reason) d ds (by d.reason p.0) (sums_of c (suc k) ds p.1)
+  where
+    by : (r : Reason) → All (Passes c) (map (of_step k) (step_tests r)) → IsSum r
+    by (lin es) s = tt
+    by asm s = All-head (Passes c) (of_step k built) [] s
+    by (rnd es) s = All-head (Passes c) (of_step k built) [] s
+    by (uns i1 l1 i2 l2) s = All-head (Passes c) (of_step k built) [] s
+    by sol s = All-head (Passes c) (of_step k built) [] s
+
+opening_none : (p : Problem) (ss : List (Named Row)) → p.claim ≡ infeasible → ss ≡ [] → opening_tests p ss ≡ []
+unfolding numbered
+opening_none p ss e f = ap₂ (λ q l. claim_tests q ++ numbered (λ i s. is_built (at_solution i) ∷ []) 0 l) e f
+
+infeasible_of : (c : Certificate) (q : Claim) → All (Passes c) (claim_tests q) → q ≡ infeasible
+infeasible_of c infeasible a = refl
+infeasible_of c (range lower upper) a = absurd (All-head (Passes c) (is_built at_end) [] a)
+
+none_of : (c : Certificate) (ss : List (Named Row)) → All (Passes c) (numbered (λ i s. is_built (at_solution i) ∷ []) 0 ss) → ss ≡ []
+unfolding numbered
+none_of c [] a = refl
+none_of c (s ∷ ss) a = absurd (All-head (Passes c) (is_built (at_solution 0)) _ a)
+
+built_of : (c : Certificate) → All (Passes c) (all_tests c) → IsBuilt c
+built_of c a =
+    let p = all_parts (Passes c) (opening_tests c.problem c.solutions) _ a in
+    let q = all_parts (Passes c) (claim_tests c.problem.claim) _ p.0 in
+    let s = all_parts (Passes c) (built_steps (length c.problem.constraints) c.derivations) _ (All-tail (Passes c) meets_primal _ p.1) in
+    record { claim = infeasible_of c c.problem.claim q.0; solutions = none_of c c.solutions q.1; reasons = sums_of c (length c.problem.constraints) c.derivations s.0 }
+
+same_tests : (c : Certificate) → IsBuilt c → all_tests c ≡ proof_tests c
+unfolding numbered
+same_tests c b =
+    ap₂ (λ o s. o ++ (meets_primal ∷ (s ++ (meets_dual ∷ [])))) (opening_none c.problem c.solutions b.claim b.solutions) (same_steps (length c.problem.constraints) c.derivations b.reasons)
+    ∙ ap (λ l. numbered (λ i s. map (of_solution i s.item) (solution_tests c.problem)) 0 l ++ (meets_primal ∷ (every_step (length c.problem.constraints) c.derivations ++ (meets_dual ∷ [])))) (sym b.solutions)
+
+-- ---- verified
+
+abbrev IsVerified : Result Certificate Fault → Report → Type 0
+IsVerified x report = (c : Certificate) × (x ≡ Ok c) × IsBuilt c × IsProof c × Reports c report
+
+all_passed : (r : Rest) (report : Report) → IsAnswer r (verified report) → All (Passes (found_in r).certificate) (found_in r).tests × Reports (found_in r).certificate report
+all_passed r report h = by h.0 h.1 h.2
+  where
+    by : (f : Option Test) → FirstFailing (Passes (found_in r).certificate) (found_in r).tests f → IsToldBy (found_in r) f (verified report) → All (Passes (found_in r).certificate) (found_in r).tests × Reports (found_in r).certificate report
+    by None p q = (none_all (Passes (found_in r).certificate) (found_in r).tests p, (let e : q.0 ≡ report = cc q.2 in subst (Reports (found_in r).certificate) e q.1))
+    by (Some t) p q = absurd (told_not_verified t report (sym q))
+
+verified_out : (found : Found) (x : Result Certificate Fault) (report : Report) → Whole found x → All (Passes found.certificate) found.tests → Reports found.certificate report → IsVerified x report
+verified_out found (Err f) report w a s = absurd (All-contains (Passes found.certificate) found.tests (spelled f) a w)
+verified_out found (Ok c) report w a s =
+    let b = subst (λ g. All (Passes g.certificate) g.tests) w a in
+    let i = built_of c b in
+    (c, refl, i, proof_of_tests c (subst (All (Passes c)) (same_tests c i) b), subst (λ g. Reports g.certificate report) w s)
+
+verified_in : (found : Found) (x : Result Certificate Fault) (report : Report) → Whole found x → IsVerified x report → (FirstFailing (Passes found.certificate) found.tests None) × Reports found.certificate report
+verified_in found (Err f) report w v = absurd (cc v.1)
+verified_in found (Ok d) report w v =
+    let e : v.0 ≡ d = cc v.1 in
+    let c = v.0 in
+    let g : found ≡ record { certificate = c; tests = all_tests c } = w ∙ ap (λ c. record { certificate = c; tests = all_tests c }) (sym e) in
+    subst (λ g. (FirstFailing (Passes g.certificate) g.tests None) × Reports g.certificate report) (sym g) (all_none (Passes c) (all_tests c) (subst (All (Passes c)) (sym (same_tests c v.2)) (tests_of_proof c v.3)), v.4)
+
+pub verified_read : (r : Rest) (report : Report) → IsAnswer r (verified report) ↔ IsVerified (certificate_read r) report
+verified_read r report = (
+  λ h. let a = all_passed r report h in verified_out (found_in r) (certificate_read r) report (whole_read r) a.0 a.1,
+  λ v. let a = verified_in (found_in r) (certificate_read r) report (whole_read r) v in (None, a.0, (report, a.1, refl)),
+)
+
+pub verified_text : (bytes : List ℕ) (report : Report) → IsAnswer (whole_text bytes) (verified report) ↔ ((c : Certificate) × Spells bytes c × IsBuilt c × IsProof c × Reports c report)
+verified_text bytes report = (
+  λ h. let v = (verified_read (whole_text bytes) report).0 h in (v.0, (reads_texts bytes v.0).0 v.1, v.2, v.3, v.4),
+  λ v. (verified_read (whole_text bytes) report).1 (v.0, (reads_texts bytes v.0).1 v.1, v.2, v.3, v.4),
+)
