@@ -1,43 +1,17 @@
 -- x ≥ 1 and x ≤ 0 have no point: a proof by the difference of the two
-use Rattle.std.proofs.Common.{◌≡◌, ℕ, zero, suc, ◌-◌, ◌^◌, ◌<◌, ◌⊎◌, List, [], ◌∷◌, Some, None, ℤ, pos, negsuc, All, Contains, Bool, true, false, cond, arith, refl, sym, ◌∙◌, ap, subst, inl, inr, ⊎_elim, slice_index_or, IsTrue, lit<, lit≤, unwrap_or}
-use Rattle.std.specs.FinMap.{empty, insert, get-empty, get-insert}
+use Rattle.std.proofs.Common.{◌≡◌, ℕ, zero, suc, ◌-◌, ◌^◌, ◌<◌, ◌⊎◌, [], ◌∷◌, Some, None, ℤ, pos, negsuc, All, Contains, Bool, true, false, cond, arith, refl, sym, ◌∙◌, ap, subst, inl, inr, ⊎_elim, slice_index_or, IsTrue, lit<, lit≤, unwrap_or}
+use Rattle.std.specs.FinMap.{empty, get-empty, get-insert}
 use Rattle.std.specs.Ordering.{nat_cmp}
 use Rattle.std.specs.Cmp.{nat_cmp_total}
 use Rattle.std.proofs.lemmas.List.Elements.{All-nil, All-cons}
 use Rattle.std.proofs.lemmas.Int.{ints}
 use Rattle.vipr_spec.specs.Gcd.{gcd}
 use Rattle.vipr_spec.specs.Fraction.{ℚ, over, whole, zero_ℚ, ◌+ℚ◌, ◌*ℚ◌, neg_ℚ, ◌≤ℚ◌, ProductFits, SumFits}
-use Rattle.vipr_spec.specs.Constraint.{at_most, at_least, Row, at, Entry, pull, Combines, TermsFit}
-use Rattle.vipr_spec.specs.Certificate.{minimum, infeasible, lin, Certificate, reason_at, IsProof, IsValid, StepFits, RefersTo, is_live, RestsOn, RestsOnNothing}
+use Rattle.vipr_spec.specs.Constraint.{at_most, at_least, at, Entry, pull, Combines, TermsFit}
+use Rattle.vipr_spec.specs.Certificate.{reason_at, IsProof, IsValid, StepFits, RefersTo, is_live, RestsOn, itself, RestsOnNothing}
+use Rattle.vipr_spec.specs.Examples.{row, both, example, assumed}
 use Rattle.vipr_spec.proofs.Fractions.{whole-add, whole-mul, whole-le, le_of_whole, is_one, is_neg, is_whole, over_same, mul-zero_ℚ, add-mul_ℚ, zero-mul_ℚ, add-zero_ℚ}
 use Rattle.vipr_spec.proofs.Rests.{rests_lin, rests_given}
-
-one : ℚ
-one = whole (pos 1)
-
-minus_one : ℚ
-minus_one = whole (negsuc 0)
-
-row : Row
-row = insert empty 0 one
-
-both : List (ℕ × ℚ)
-both = (0, whole (pos 1)) ∷ (1, whole (negsuc 0)) ∷ []
-
-abbrev example : Certificate
-example = record {
-  problem = record {
-    names = [] ∷ [];
-    integers = empty;
-    direction = minimum;
-    objective = empty;
-    constraints = record { name = []; item = record { row = row; sense = at_least; bound = whole (pos 1) } } ∷ record { name = []; item = record { row = row; sense = at_most; bound = zero_ℚ } } ∷ [];
-    bound_count = 0;
-    claim = infeasible;
-  };
-  solutions = [];
-  derivations = record { name = []; stated = record { row = empty; sense = at_least; bound = whole (pos 1) }; reason = lin both; last = None } ∷ [];
-}
 
 -- closed fractions compute, but for the proof inside
 half : over (pos 2) 4 ≡ over (pos 1) 2
@@ -56,7 +30,7 @@ one_or_zero q true = inl refl
 one_or_zero q false = inr refl
 
 at_row : (j : ℕ) → (at row j ≡ whole (pos 1)) ⊎ (at row j ≡ zero_ℚ)
-unfolding row one
+unfolding row
 at_row j = rw (get-insert nat_cmp_total, get-empty nat_cmp) (one_or_zero (whole (pos 1)) _)
 
 difference : (a : ℚ) → whole (pos 1) *ℚ a +ℚ (whole (negsuc 0) *ℚ a +ℚ zero_ℚ) ≡ zero_ℚ
@@ -151,7 +125,7 @@ given a i (inr e) r = rests_given example i a (ap (reason_at example) e) r
 nothing : RestsOnNothing example 2
 nothing a r = let u = (rests_lin example 2 a both refl).0 r in given a u.0.0 (in_both u.0 u.1) u.3
 
-valid : IsProof example
+pub valid : IsProof example
 valid = record {
   solutions = All-nil _;
   solutions_fit = All-nil _;
@@ -161,3 +135,10 @@ valid = record {
   primal = tt;
   dual = λ _. (2, (lit< tt, nothing, (λ j. ap (λ o. unwrap_or o zero_ℚ) (get-empty nat_cmp j), not_one)));
 }
+
+-- ---- an assumption rests on itself
+pub invalid : ¬ IsProof assumed
+invalid p =
+    let d = p.dual tt in
+    let e : 0 ≡ d.0 = omega (arith, d.1.0) in
+    d.1.1 0 (subst (λ g. RestsOn assumed g 0) e (itself refl))

@@ -15,3 +15,4 @@ pub mod progress;
 pub mod proof_tests;
 pub mod texts;
 pub mod verdict;
+pub mod worked_examples;
