@@ -14,10 +14,10 @@ use Rattle.vipr_spec.proofs.GrammarSections.{reads_keyword}
 
 -- ---- entries
 
-reads_reference : Reads (taken reference_of) (one SpellsCount)
+pub reads_reference : Reads (taken reference_of) (one SpellsCount)
 reads_reference = reads_one reference_of SpellsCount kinds_of_token.reference
 
-reads_last : Reads (taken last_of) (one SpellsLast)
+pub reads_last : Reads (taken last_of) (one SpellsLast)
 reads_last = reads_one last_of SpellsLast kinds_of_token.last
 
 entry_sound : (r s : Rest) (x : ℕ × ℚ) → entry_read r ≡ Ok (x, s) → Taken (entry x) r s
@@ -33,7 +33,7 @@ entry_complete r s x t = let i = parted t in ok_then _ ((reads_reference r i.at 
 pub reads_entry : Reads entry_read entry
 reads_entry r s x = (entry_sound r s x, entry_complete r s x)
 
-abbrev entries : List (ℕ × ℚ) → List (List ℕ) → Type 0
+abbrev pub entries : List (ℕ × ℚ) → List (List ℕ) → Type 0
 entries es = one SpellsCount (length es) then each entry es
 
 entries_sound : (r s : Rest) (es : List (ℕ × ℚ)) → entries_read r ≡ Ok (es, s) → Taken (entries es) r s
@@ -47,12 +47,15 @@ entries_complete : (r s : Rest) (es : List (ℕ × ℚ)) → Taken (entries es) 
 unfolding entries_read
 entries_complete r s es t = let p = parted t in ok_then _ ((reads_count r p.at (length es)).1 p.before) (repeated_complete entry_read entry reads_entry es p.at s p.after)
 
+pub reads_entries : Reads entries_read entries
+reads_entries r s es = (entries_sound r s es, entries_complete r s es)
+
 -- ---- reasons
 
-abbrev SpellsRule : List ℕ → Rule → Type 0
+abbrev pub SpellsRule : List ℕ → Rule → Type 0
 SpellsRule t rule = t ≡ rule_word rule
 
-reads_rule : Reads (taken rule_of) (one SpellsRule)
+pub reads_rule : Reads (taken rule_of) (one SpellsRule)
 reads_rule = reads_one rule_of SpellsRule kinds_of_token.rule
 
 rule_alone : (rule : Rule) {r s : Rest} → Taken (one SpellsRule rule) r s → Taken (word (rule_word rule)) r s
@@ -76,7 +79,7 @@ by_sound by_uns q r s x h e =
 by_sound by_sol q r s x h e = taken_is reason e (rule_alone by_sol h)
 
 -- the word of the rule is read, and then what it takes
-abbrev ruled : Rest → Read Reason
+abbrev pub ruled : Rest → Read Reason
 ruled q = taken rule_of q >>= λ rule. by_read rule.0 rule.1
 
 by_complete : (q s : Rest) (x : Reason) → Taken (reason x) q s → ruled q ≡ Ok (x, s)
@@ -93,6 +96,14 @@ by_complete q s (uns i1 l1 i2 l2) t =
     (ok_then _ ((reads_reference b.at c.at l1).1 c.before)
     (ok_then _ ((reads_reference c.at d.at i2).1 d.before) (ok_then _ ((reads_reference d.at s l2).1 d.after) refl))))
 by_complete q s sol t = ok_then _ ((reads_rule q s by_sol).1 (alone_rule by_sol t)) refl
+
+ruled_sound : (q s : Rest) (x : Reason) → ruled q ≡ Ok (x, s) → Taken (reason x) q s
+ruled_sound q s x e =
+    let rule = bind_ok {r = taken rule_of q} {f = λ rule. by_read rule.0 rule.1} e in
+    by_sound rule.0.0 q rule.0.1 s x ((reads_rule q rule.0.1 rule.0.0).0 rule.1) rule.2
+
+pub reads_ruled : Reads ruled reason
+reads_ruled q s x = (ruled_sound q s x, by_complete q s x)
 
 abbrev pub braced : Reason → List (List ℕ) → Type 0
 braced x = word (codes "{") then reason x then word (codes "}")
@@ -142,11 +153,23 @@ reads_derivation p r s x = (derivation_sound p r s x, derivation_complete p r s 
 
 -- ---- the number of derivations
 
-abbrev SpellsRoom : ℕ → List ℕ → ℕ → Type 0
+abbrev pub SpellsRoom : ℕ → List ℕ → ℕ → Type 0
 SpellsRoom m t d = SpellsNatural t d × (d ≤ most_count - m)
 
-reads_room : (m : ℕ) → Reads (taken (derivation_count_of m)) (one (SpellsRoom m))
+pub reads_room : (m : ℕ) → Reads (taken (derivation_count_of m)) (one (SpellsRoom m))
 reads_room m = reads_one (derivation_count_of m) (SpellsRoom m) (kinds_of_token.derivation_count m)
+
+any_count_sound : (p : Problem) (r s : Rest) (d : ℕ) → derivations_read p r ≡ Ok (d, s) → Taken (word (codes "DER") then one (SpellsRoom (length p.constraints)) d) r s
+unfolding derivations_read
+any_count_sound p r s d e = let v = bind_ok e in taken_then ((reads_keyword (codes "DER") r v.0.1 tt).0 v.1) ((reads_room (length p.constraints) v.0.1 s d).0 v.2)
+
+any_count_complete : (p : Problem) (r s : Rest) (d : ℕ) → Taken (word (codes "DER") then one (SpellsRoom (length p.constraints)) d) r s → derivations_read p r ≡ Ok (d, s)
+unfolding derivations_read
+any_count_complete p r s d t = let v = parted t in ok_then _ ((reads_keyword _ r v.at tt).1 v.before) ((reads_room (length p.constraints) v.at s d).1 v.after)
+
+-- of a problem with any number of constraints
+pub reads_any_count : (p : Problem) → Reads (derivations_read p) (λ d. word (codes "DER") then one (SpellsRoom (length p.constraints)) d)
+reads_any_count p r s d = (any_count_sound p r s d, any_count_complete p r s d)
 
 small : (m d : ℕ) → d ≤ most_count - m → d ≤ most_count
 small m d h = omega arith

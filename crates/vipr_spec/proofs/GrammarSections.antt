@@ -48,7 +48,7 @@ reads_names r s ns = (names_sound r s ns, names_complete r s ns)
 
 -- ---- integer variables
 
-reads_index : (n : ℕ) → Reads (taken (variable_of n)) (one (SpellsVariable n))
+pub reads_index : (n : ℕ) → Reads (taken (variable_of n)) (one (SpellsVariable n))
 reads_index n = reads_one (variable_of n) (SpellsVariable n) (kinds_of_token.variable n)
 
 integers_sound : (n : ℕ) (r s : Rest) (x : Ints) → integers_read n r ≡ Ok (x, s) → Taken (integers n x) r s
@@ -75,7 +75,7 @@ reads_integers n r s x = (integers_sound n r s x, integers_complete n r s x)
 
 -- ---- the objective
 
-reads_direction : Reads (taken direction_of) (one SpellsDirection)
+pub reads_direction : Reads (taken direction_of) (one SpellsDirection)
 reads_direction = reads_one direction_of SpellsDirection kinds_of_token.direction
 
 objective_sound : (n : ℕ) (r s : Rest) (x : Direction × Row) → objective_read n r ≡ Ok (x, s) → Taken (objective n x.0 x.1) r s
@@ -128,13 +128,13 @@ module _ (n : ℕ) (row : Row) where
 
 -- ---- the claim
 
-reads_has_range : Reads (taken has_range_of) (one SpellsRange)
+pub reads_has_range : Reads (taken has_range_of) (one SpellsRange)
 reads_has_range = reads_one has_range_of SpellsRange kinds_of_token.has_range
 
-reads_lower : Reads (taken (bound_of (codes "-inf"))) (one (SpellsBound (codes "-inf")))
+pub reads_lower : Reads (taken (bound_of (codes "-inf"))) (one (SpellsBound (codes "-inf")))
 reads_lower = reads_one (bound_of (codes "-inf")) (SpellsBound (codes "-inf")) (bound_is (codes "-inf") no_lower)
 
-reads_upper : Reads (taken (bound_of (codes "inf"))) (one (SpellsBound (codes "inf")))
+pub reads_upper : Reads (taken (bound_of (codes "inf"))) (one (SpellsBound (codes "inf")))
 reads_upper = reads_one (bound_of (codes "inf")) (SpellsBound (codes "inf")) (bound_is (codes "inf") no_upper)
 
 range_sound : (b : Bool) (q r u s : Rest) (x : Claim) → Taken (word (codes "RTP")) q r → Taken (one SpellsRange b) r u → range_read b u ≡ Ok (x, s) → Taken (claim x) q s

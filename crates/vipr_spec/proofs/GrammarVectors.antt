@@ -22,10 +22,10 @@ reads_number = reads_one number_of SpellsNumber number_is
 
 -- ---- variables that differ
 
-abbrev IsNew : List ℕ → ℕ → Type 0
+abbrev pub IsNew : List ℕ → ℕ → Type 0
 IsNew before i = list_any (nat_eq i) before ≡ false
 
-abbrev AreNew : List ℕ → List ℕ → Type 0
+abbrev pub AreNew : List ℕ → List ℕ → Type 0
 AreNew before is = AllByRecursion (IsNew before) is
 
 abbrev AllDiffer : ℕ → List ℕ → Type 0
@@ -53,15 +53,15 @@ nothing_before : (is : List ℕ) → AreNew [] is
 nothing_before [] = tt
 nothing_before (i ∷ is) = (refl, nothing_before is)
 
-abbrev variables_of : List (ℕ × ℚ) → List ℕ
+abbrev pub variables_of : List (ℕ × ℚ) → List ℕ
 variables_of ps = map (λ p. p.0) ps
 
 -- ---- pairs
 
-abbrev SpellsNew : ℕ → List ℕ → List ℕ → ℕ → Type 0
+abbrev pub SpellsNew : ℕ → List ℕ → List ℕ → ℕ → Type 0
 SpellsNew n before t i = SpellsVariable n t i × IsNew before i
 
-reads_variable : (n : ℕ) (before : List ℕ) → Reads (taken (new_variable_of n before)) (one (SpellsNew n before))
+pub reads_variable : (n : ℕ) (before : List ℕ) → Reads (taken (new_variable_of n before)) (one (SpellsNew n before))
 reads_variable n before = reads_one (new_variable_of n before) (SpellsNew n before) (kinds_of_token.new_variable n before)
 
 record PairTaken (n : ℕ) (before : List ℕ) (p : ℕ × ℚ) (r s : Rest) : Type 0 where
@@ -109,6 +109,21 @@ pairs_complete n before (p ∷ ps) r s new distinct t =
     let a = parted t in
     ok_then _ (pair_complete n before r a.at p (record { new = new.0; tokens = a.before }))
     (ok_then _ (pairs_complete n (p.0 ∷ before) ps a.at s (joined p.0 before (variables_of ps) new.1 distinct.0) distinct.1 a.after) refl)
+
+pub reads_pair : (n : ℕ) (before : List ℕ) → Reads (pair_read n before) (λ p ts. IsNew before p.0 × pair n p ts)
+reads_pair n before r s p = (
+  λ e. let t = pair_sound n before r s p e in taken_as (λ ts. IsNew before p.0 × pair n p ts) t.tokens (t.new, t.tokens.shape),
+  λ t. pair_complete n before r s p (record { new = t.shape.0; tokens = taken_as (pair n p) t t.shape.1 }),
+)
+
+abbrev pub DistinctPairs : ℕ → List ℕ → ℕ → List (ℕ × ℚ) → List (List ℕ) → Type 0
+DistinctPairs n before k ps ts = (length ps ≡ k) × AreNew before (variables_of ps) × IsDistinct nat_eq (variables_of ps) × each (pair n) ps ts
+
+pub reads_pairs : (n : ℕ) (before : List ℕ) (k : ℕ) → Reads (pairs_read n before k) (DistinctPairs n before k)
+reads_pairs n before k r s ps = (
+  λ e. let t = pairs_sound n before k r s ps e in taken_as (DistinctPairs n before k ps) t.tokens (t.count, t.new, t.distinct, t.tokens.shape),
+  λ t. subst (λ m. pairs_read n before m r ≡ Ok (ps, s)) t.shape.0 (pairs_complete n before ps r s t.shape.1 t.shape.2 (taken_as (each (pair n) ps) t t.shape.3)),
+)
 
 -- ---- vectors
 
@@ -179,7 +194,7 @@ reads_row n objective r s row = (row_sound n objective r s row, row_complete n o
 
 -- ---- constraints
 
-reads_sense : Reads (taken sense_of) (one SpellsSense)
+pub reads_sense : Reads (taken sense_of) (one SpellsSense)
 reads_sense = reads_one sense_of SpellsSense kinds_of_token.sense
 
 abbrev Stated : ℕ → Row → Named Constraint → List (List ℕ) → Type 0

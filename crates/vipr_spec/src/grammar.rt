@@ -1,5 +1,8 @@
 //! Laws of the format: what is read from a text is what the grammar says that it spells.
 
+ghost use Rattle.vipr_spec.specs.Grammar.{Spells};
+ghost use Rattle.vipr_spec.specs.FaultLaws.{ItemFaults};
+ghost use Rattle.vipr_spec.specs.ExampleText.{example_text, example_certificate};
 ghost use Rattle.vipr_spec.specs.GrammarLaws.{ReadsNaturals, KindsOfToken, KindsOfNumber, PartsOfItems, Items, ReadsCertificates, ReadsTexts, OneCertificate};
 
 /// Digits write the number that they spell, and nothing else writes one.
@@ -33,4 +36,15 @@ pub fn reading_is_the_grammar()
 /// No text spells two certificates.
 pub fn one_certificate()
     ensures { OneCertificate }
+{}
+
+/// A text and what it spells.
+pub fn example()
+    ensures { Spells example_text example_certificate }
+{}
+
+/// What is refused at a token is refused whatever follows it, and reading fails for want of more only
+/// where a failure follows.
+pub fn faults_stand()
+    ensures { ItemFaults }
 {}

@@ -1,0 +1,32 @@
+-- What a fault of a text depends on
+use Rattle.std.specs.Prelude.{◌≡◌, ℕ, ◌⊎◌, true, false, List, ◌∷◌, ◌++◌, Result, Err}
+use Rattle.vipr_spec.specs.Causes as cause
+use Rattle.vipr_spec.specs.Tokens.{Token}
+use Rattle.vipr_spec.specs.Certificate.{Problem}
+use Rattle.vipr_spec.specs.Reading.{Rest, Fault, refused, unread, problem_read, solution_read, derivations_read, derivation_read, end_read, certificate_read}
+
+-- A token at the offset is refused for the cause, whatever follows it.
+pub record IsRefusedAt {A : Type 0} (read : Rest → Result A Fault) (r : Rest) (why place : ℕ) : Type 0 where
+  pub before : List Token
+  pub token : Token
+  pub after : List Token
+  pub joined : r.tokens ≡ before ++ token ∷ after
+  pub here : token.offset ≡ place
+  pub stands : (s : Rest) (more : List Token) → s.tokens ≡ before ++ token ∷ more → read s ≡ Err (refused why place)
+
+-- the text ends where a token is wanted
+abbrev pub EndsEarly : Rest → ℕ → ℕ → Type 0
+EndsEarly r why place = (r.fails ≡ false) × (why ≡ cause.truncated) × (place ≡ r.length)
+
+-- A refusal is that of one token, or of the end; and for want of more to read it fails only where a failure follows.
+pub record FaultsStand {A : Type 0} (read : Rest → Result A Fault) : Type 0 where
+  pub refusal : (r : Rest) (why place : ℕ) → read r ≡ Err (refused why place) → IsRefusedAt read r why place ⊎ EndsEarly r why place
+  pub failure : (r : Rest) → read r ≡ Err unread → r.fails ≡ true
+
+pub record ItemFaults : Type 0 where
+  pub problem : FaultsStand problem_read
+  pub solution : (p : Problem) → FaultsStand (solution_read p)
+  pub derivations : (p : Problem) → FaultsStand (derivations_read p)
+  pub derivation : (p : Problem) → FaultsStand (derivation_read p)
+  pub end : FaultsStand end_read
+  pub certificate : FaultsStand certificate_read
