@@ -1,2 +1,5 @@
 pub mod Rows
 pub mod Sets
+pub mod Marks
+pub mod Adding
+pub mod Collecting

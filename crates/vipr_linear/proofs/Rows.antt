@@ -56,6 +56,13 @@ zero_test x t = by (int_eq x.numer (pos 0)) refl t
     by true e h = zero_from_numer x ((Decides-int_eq x.numer (pos 0)).0 e)
     by false e h = absurd (cc)
 
+pub nonzero_test : (x : ℚ) → x ≢ zero_ℚ → not (int_eq x.numer (pos 0)) ≡ true
+nonzero_test x n = by (int_eq x.numer (pos 0)) refl
+  where
+    by : (b : Bool) → int_eq x.numer (pos 0) ≡ b → not (int_eq x.numer (pos 0)) ≡ true
+    by true e = absurd (n (zero_from_numer x ((Decides-int_eq x.numer (pos 0)).0 e)))
+    by false e = ap not e
+
 -- ---- order
 pub rises_from : (low high : ℕ) (es : List (ℕ × ℚ)) → low ≤ high → RisesFrom high es → RisesFrom low es
 rises_from low high [] h r = tt
@@ -86,14 +93,14 @@ module _ (j : ℕ) where
 pub no_zeros : (es : List (ℕ × ℚ)) → RisesFrom 0 es → HasNoZeros (from_sorted es)
 no_zeros es r = λ j. subst (λ (o : Option ℚ). IfSome o (λ a. a ≢ zero_ℚ)) (sym (get-from_sorted nat_cmp es j (rises_sorted 0 es r))) (find_nonzero j 0 es r)
 
-find_lookup : (q : ℕ) (es : List (ℕ × ℚ)) → find nat_cmp q es ≡ lookup (nat_eq q) es
+pub find_lookup : (q : ℕ) (es : List (ℕ × ℚ)) → find nat_cmp q es ≡ lookup (nat_eq q) es
 find_lookup q [] = refl
 find_lookup q (e ∷ es) =
     let same : eq_by_cmp nat_cmp q e.0 ≡ nat_eq q e.0 = grind (arith, nat_tests) in
     let rest = find_lookup q es in
     (λ i. cond (same i) (Some e.1) (rest i))
 
-exact : (x y : ℕ) → nat_eq x y ≡ true → x ≡ y
+pub exact : (x y : ℕ) → nat_eq x y ≡ true → x ≡ y
 exact x y h = grind (arith, nat_tests)
 
 -- a look-up does not depend on the order
@@ -107,7 +114,7 @@ module _ (q : ℕ) (xs ys : List (ℕ × ℚ)) (dx : IsDistinct nat_eq (variable
       by None (Some w) e f = sym e ∙ lookup-from_Contains nat_eq_equiv q w xs dx (back (q, w) (Contains-from_lookup exact q w ys f))
 
 -- ---- filters
-distinct_filter : (p : ℕ × ℚ → Bool) (es : List (ℕ × ℚ)) → IsDistinct nat_eq (variables_of es) → IsDistinct nat_eq (variables_of (filter p es))
+pub distinct_filter : (p : ℕ × ℚ → Bool) (es : List (ℕ × ℚ)) → IsDistinct nat_eq (variables_of es) → IsDistinct nat_eq (variables_of (filter p es))
 distinct_filter p [] d = d
 distinct_filter p (e ∷ es) d =
     let rest = distinct_filter p es (IsDistinct-tail nat_eq e.0 (variables_of es) d) in
@@ -127,14 +134,14 @@ contains_cases : (x e : ℕ × ℚ) (es : List (ℕ × ℚ)) → Contains (x ∷
 contains_cases x e es (zero, l, h) = inl h
 contains_cases x e es (suc k, l, h) = inr (k, omega arith, h)
 
-contains_filter : (p : ℕ × ℚ → Bool) (es : List (ℕ × ℚ)) (e : ℕ × ℚ) → p e ≡ true → Contains es e → Contains (filter p es) e
+pub contains_filter : (p : ℕ × ℚ → Bool) (es : List (ℕ × ℚ)) (e : ℕ × ℚ) → p e ≡ true → Contains es e → Contains (filter p es) e
 contains_filter p [] e t h = absurd (omega (arith, h.1))
 contains_filter p (x ∷ es) e t h = elim (contains_cases x e es h) [
   | inl same ↦ subst (λ b. Contains (cond b (x ∷ filter p es) (filter p es)) e) (sym (ap p same ∙ t)) (0, omega arith, same)
   | inr later ↦ let rest = contains_filter p es e t later in elim (p x) as (λ b. Contains (cond b (x ∷ filter p es) (filter p es)) e) [ true ↦ contains_cons x e _ rest | false ↦ rest ]
 ]
 
-contains_unfiltered : (p : ℕ × ℚ → Bool) (es : List (ℕ × ℚ)) (e : ℕ × ℚ) → Contains (filter p es) e → Contains es e × (p e ≡ true)
+pub contains_unfiltered : (p : ℕ × ℚ → Bool) (es : List (ℕ × ℚ)) (e : ℕ × ℚ) → Contains (filter p es) e → Contains es e × (p e ≡ true)
 contains_unfiltered p [] e h = absurd (omega (arith, h.1))
 contains_unfiltered p (x ∷ es) e h = by (p x) refl h (λ k. contains_unfiltered p es e k)
   where

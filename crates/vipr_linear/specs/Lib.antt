@@ -1,2 +1,4 @@
 pub mod Row
 pub mod Constraint
+pub mod Accumulator
+pub mod Touched

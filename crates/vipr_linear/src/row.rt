@@ -1,8 +1,9 @@
 //! Rows: the nonzero coefficients of a constraint.
-ghost use Rattle.std.specs.Prelude.{◌≡◌, ◌≢◌, ◌↔◌, ◌+◌, ◌<◌, nat_eq, IsTrue, IsOk, IfOk, IfErr, OnOk, MatchOption, filter, slice_index, length, ℕ};
+ghost use Rattle.std.specs.Prelude.{◌≡◌, ◌≢◌, ◌↔◌, ◌+◌, ◌<◌, nat_eq, IsTrue, IsOk, IfOk, IfErr, OnOk, MatchOption, filter, pos, length, ℕ};
+ghost use Rattle.std.specs.Ordering.{int_eq};
 ghost use Rattle.std.specs.List.{IsDistinct};
 ghost use Rattle.std.specs.List.Sorted.{IsPermutation, IsNonDecreasingBy, IsStrictlyIncreasing};
-ghost use Rattle.std.specs.FinMap.{entries};
+ghost use Rattle.std.specs.FinMap.{entries, from_sorted};
 ghost use Rattle.vipr_spec.specs.Fraction.{zero_ℚ};
 ghost use Rattle.vipr_spec.specs.Constraint.{at};
 ghost use Rattle.vipr_spec.specs.Reading.{is_nonzero, row_of};
@@ -65,6 +66,14 @@ impl Row {
         let mut entries = in_order(alloc, pairs)?;
         drop_zeros(&mut entries);
         Ok(Row { entries })
+    }
+
+    /// The row of coefficients that are not 0, whose variables rise.
+    pub(crate) fn from_rising(entries: Vec<(u32, Frac)>) -> Row
+        requires { RisesFrom 0 entries.items }
+        ensures { result ≡ from_sorted entries.items }
+    {
+        Row { entries }
     }
 
     /// The variables with their coefficients, in rising order.
@@ -148,5 +157,12 @@ fn sort_by_variable(pairs: &mut Vec<(u32, Frac)>)
 fn drop_zeros(pairs: &mut Vec<(u32, Frac)>)
     ensures { pairs.new.items ≡ filter is_nonzero pairs.old.items }
 {
-    pairs.retain(|pair| pair.1.numer() != 0);
+    pairs.retain(|pair| !is_zero(pair.1));
+}
+
+/// Whether a fraction is 0.
+pub(crate) fn is_zero(x: Frac) -> bool
+    ensures { result ≡ int_eq x.numer (pos 0) }
+{
+    x.numer() == 0
 }

@@ -1,0 +1,197 @@
+-- Marks and the list of the marked variables, and the sums beside them
+use Rattle.std.proofs.Common.{◌≡◌, ◌≢◌, ℕ, suc, ◌+◌, ◌<◌, ◌≤◌, take, drop, Bool, true, false, cond, nat_eq, List, [], ◌∷◌, ◌++◌, length, get_or, arith, refl, sym, ◌∙◌, ap, subst, ◌||◌, inl, inr, ◌⊎◌, drop-cons, add-one, length-drop, ap₂, subst₂, map, filter, not, pos, Result, Ok, Err, IsOk, IsErr, All}
+use Rattle.std.specs.Prelude.{◌↔◌, slice_set}
+use Rattle.std.proofs.lemmas.Bool.{cases_eq, cases_lt}
+use Rattle.std.proofs.lemmas.Bool.Decides.{nat_tests}
+use Rattle.std.proofs.lemmas.List.{get_or-set_same, get_or-set_other, get_or_past, get_or_default, get_or-map, length_push, length-set, length-map, take_all, append-nil}
+use Rattle.std.proofs.lemmas.List.Elements.{filter_more}
+use Rattle.std.proofs.lemmas.List.Folds.{list_any-append, list_any_at}
+use Rattle.std.proofs.lemmas.Map.Keys.{IsDistinct-push}
+use Rattle.std.proofs.lemmas.Map.Steps.{length-le_from_distinct_below}
+use Rattle.std.specs.Cmp.{nat_eq_equiv}
+use Rattle.std.specs.List.{IsDistinct, list_any}
+use Rattle.vipr_spec.specs.Fraction.{ℚ, zero_ℚ, ◌+ℚ◌, ◌*ℚ◌, ProductFits, SumFits}
+use Rattle.vipr_spec.specs.Reading.{is_nonzero}
+use Rattle.std.specs.Ordering.{int_eq}
+use Rattle.vipr_spec.proofs.Fractions.{zero_or_not}
+use Rattle.vipr_linear.specs.Accumulator.{TermFits, with_term, with_terms, TermsFitIn}
+use Rattle.vipr_linear.specs.Touched.{Touching, Covers}
+use Rattle.vipr_linear.proofs.Rows.{nothing_distinct}
+
+pub marked_below : (marks : List Bool) (j : ℕ) → get_or marks j false ≡ true → j < length marks
+marked_below marks j t = elim (cases_lt j (length marks)) [ inl l ↦ l | inr past ↦ absurd (let e = get_or_past marks j false past in cc) ]
+
+itself : (j : ℕ) → nat_eq j j ≡ true
+itself j = grind (arith, nat_tests)
+
+other : (j v : ℕ) → j ≢ v → nat_eq j v ≡ false
+other j v n = grind (arith, nat_tests)
+
+or_true : (a : Bool) → (a || (true || false)) ≡ true
+or_true true = refl
+or_true false = refl
+
+or_false : (a : Bool) → (a || (false || false)) ≡ a
+or_false true = refl
+or_false false = refl
+
+-- ---- one more touched variable
+module _ (marks : List Bool) (touched : List ℕ) (v : ℕ) (l : v < length marks) (m : get_or marks v false ≡ false) (t : Touching marks touched) where
+  distinct_more : IsDistinct nat_eq (touched ++ v ∷ [])
+  distinct_more = IsDistinct-push nat_eq_equiv touched v t.distinct (sym (t.listed v) ∙ m)
+
+  listed_more : (j : ℕ) → get_or (slice_set marks v true) j false ≡ list_any (nat_eq j) (touched ++ v ∷ [])
+  listed_more j = by (cases_eq j v)
+    where
+      by : (j ≡ v) ⊎ (j ≢ v) → get_or (slice_set marks v true) j false ≡ list_any (nat_eq j) (touched ++ v ∷ [])
+      by (inl e) = ap (λ k. get_or (slice_set marks v true) k false) e ∙ get_or-set_same marks v true false l ∙ sym (list_any-append (nat_eq j) touched (v ∷ []) ∙ ap (λ b. list_any (nat_eq j) touched || (b || false)) (ap (λ k. nat_eq j k) (sym e) ∙ itself j) ∙ or_true _)
+      by (inr n) = get_or-set_other marks v j true false n ∙ t.listed j ∙ sym (list_any-append (nat_eq j) touched (v ∷ []) ∙ ap (λ b. list_any (nat_eq j) touched || (b || false)) (other j v n) ∙ or_false _)
+
+  pub touch_more : Touching (slice_set marks v true) (touched ++ v ∷ [])
+  touch_more = record { listed = listed_more; distinct = distinct_more }
+
+  pub touch_room : length touched < length marks
+  touch_room =
+      let all = length-le_from_distinct_below (touched ++ v ∷ []) (length (slice_set marks v true)) distinct_more (λ q h. marked_below (slice_set marks v true) q (listed_more q ∙ h)) in
+      omega (arith, all, length_push touched v, length-set marks v true)
+
+pub still_marked : (marks : List Bool) (v j : ℕ) → v < length marks → get_or marks j false ≡ true → get_or (slice_set marks v true) j false ≡ true
+still_marked marks v j l t = by (cases_eq j v)
+  where
+    by : (j ≡ v) ⊎ (j ≢ v) → get_or (slice_set marks v true) j false ≡ true
+    by (inl e) = ap (λ k. get_or (slice_set marks v true) k false) e ∙ get_or-set_same marks v true false l
+    by (inr n) = get_or-set_other marks v j true false n ∙ t
+
+-- ---- terms, in their order
+next : {A : Type 0} (es : List A) (i : ℕ) (p : A) → i < length es → p ≡ get_or es i p → drop i es ≡ p ∷ drop (i + 1) es
+next es i p l e = rw add-one (drop-cons es i p l ∙ ap (λ x. x ∷ drop (suc i) es) (sym e))
+
+module _ (sums : List ℚ) (m : ℚ) (es : List (ℕ × ℚ)) (i : ℕ) (p : ℕ × ℚ) (l : i < length es) (e : p ≡ get_or es i p) where
+  pub next_sums : with_terms sums m (drop i es) ≡ with_terms (with_term sums m p) m (drop (i + 1) es)
+  unfolding with_terms
+  next_sums = ap (with_terms sums m) (next es i p l e)
+
+  pub next_fits : TermsFitIn sums m (drop i es) ↔ (TermFits (get_or sums p.0 zero_ℚ) m p.1 × TermsFitIn (with_term sums m p) m (drop (i + 1) es))
+  unfolding TermsFitIn
+  next_fits = (λ h. subst (TermsFitIn sums m) (next es i p l e) h, λ h. subst (TermsFitIn sums m) (sym (next es i p l e)) h)
+
+-- a sum that changes at a marked variable
+pub covers_set : (sums : List ℚ) (marks : List Bool) (v : ℕ) (x : ℚ) → v < length sums → get_or marks v false ≡ true → Covers sums marks → Covers (slice_set sums v x) marks
+covers_set sums marks v x l t c j n = by (cases_eq j v)
+  where
+    by : (j ≡ v) ⊎ (j ≢ v) → get_or marks j false ≡ true
+    by (inl e) = ap (λ k. get_or marks k false) e ∙ t
+    by (inr d) = c j (λ z. n (get_or-set_other sums v j x zero_ℚ d ∙ z))
+
+pub covers_more : (sums : List ℚ) (marks marks' : List Bool) → ((j : ℕ) → get_or marks j false ≡ true → get_or marks' j false ≡ true) → Covers sums marks → Covers sums marks'
+covers_more sums marks marks' k c j n = k j (c j n)
+
+-- an error is no success
+pub not_both : {A E : Type 0} (r : Result A E) → IsErr r → IsOk r → ⊥
+not_both (Ok x) e o = absurd (cc)
+not_both (Err x) e o = absurd (cc)
+
+-- one turn of the loop that adds terms: what was read, the product and the sum
+module _ (first : Type 0) (sums : List ℚ) (m : ℚ) (es : List (ℕ × ℚ)) (i : ℕ) (p : ℕ × ℚ) (l : i < length es) (e : p ≡ get_or es i p) (known : first ↔ TermsFitIn sums m (drop i es)) where
+  pub product_refused : (ProductFits m p.1 → false ≡ true) → ¬ first
+  product_refused refused h = let f = (next_fits sums m es i p l e).0 (known.0 h) in absurd (let x = refused f.0.0 in cc)
+
+  module _ (old product : ℚ) (w : p.0 < length sums) (o : old ≡ get_or sums p.0 old) (q : product ≡ m *ℚ p.1) where
+    old_is : get_or sums p.0 zero_ℚ ≡ old
+    old_is = get_or_default sums p.0 zero_ℚ old w ∙ sym o
+
+    pub sum_refused : (SumFits old product → false ≡ true) → ¬ first
+    sum_refused refused h = let f = (next_fits sums m es i p l e).0 (known.0 h) in absurd (let x = refused (subst₂ SumFits old_is (sym q) f.0.1) in cc)
+
+    module _ (new : ℚ) (s : new ≡ old +ℚ product) where
+      term_is : slice_set sums p.0 new ≡ with_term sums m p
+      term_is = ap (slice_set sums p.0) (s ∙ ap₂ (λ a b. a +ℚ b) (sym old_is) q)
+
+      pub fits_on : ProductFits m p.1 → SumFits old product → first ↔ TermsFitIn (slice_set sums p.0 new) m (drop (i + 1) es)
+      fits_on a b = (
+        λ h. subst (λ x. TermsFitIn x m (drop (i + 1) es)) (sym term_is) ((next_fits sums m es i p l e).0 (known.0 h)).1,
+        λ h. known.1 ((next_fits sums m es i p l e).1 ((a, subst₂ SumFits (sym old_is) q b), subst (λ x. TermsFitIn x m (drop (i + 1) es)) term_is h)),
+      )
+
+      pub sums_on : with_terms (slice_set sums p.0 new) m (drop (i + 1) es) ≡ with_terms sums m (drop i es)
+      sums_on = ap (λ x. with_terms x m (drop (i + 1) es)) term_is ∙ sym (next_sums sums m es i p l e)
+
+pub item_within : (es : List (ℕ × ℚ)) (n i : ℕ) (p : ℕ × ℚ) → All (λ e. e.0 < n) es → i < length es → p ≡ get_or es i p → p.0 < n
+item_within es n i p all l e = subst (λ (q : ℕ × ℚ). q.0 < n) (sym e) (all i p l)
+
+pub past_end : {A : Type 0} (xs : List A) (i : ℕ) → length xs ≤ i → drop i xs ≡ []
+past_end xs i h = no_items (drop i xs) (omega (arith, length-drop i xs))
+  where
+    no_items : {A : Type 0} (zs : List A) → length zs ≡ 0 → zs ≡ []
+    no_items [] e = refl
+    no_items (z ∷ zs) e = absurd (omega arith)
+
+-- after the last term
+pub all_fit : (sums : List ℚ) (m : ℚ) (es : List (ℕ × ℚ)) (i : ℕ) → length es ≤ i → TermsFitIn sums m (drop i es)
+unfolding TermsFitIn
+all_fit sums m es i h = subst (TermsFitIn sums m) (sym (past_end es i h)) tt
+
+pub no_more : (sums : List ℚ) (m : ℚ) (es : List (ℕ × ℚ)) (i : ℕ) → length es ≤ i → with_terms sums m (drop i es) ≡ sums
+unfolding with_terms
+no_more sums m es i h = ap (with_terms sums m) (past_end es i h)
+
+-- ---- setting sums back
+pub touched_below : (marks : List Bool) (touched items : List ℕ) (i : ℕ) → Touching marks touched → items ≡ touched → i < length items → get_or items i 0 < length marks
+touched_below marks touched items i t e l = marked_below marks _ (t.listed _ ∙ rw (← e) (list_any_at (nat_eq (get_or items i 0)) items i 0 l (itself _)))
+
+-- what is not set back is in the rest of the list
+module _ {A : Type 0} (xs : List A) (d x : A) (items : List ℕ) (i : ℕ) (l : i < length items) (w : get_or items i 0 < length xs) where
+  still_left : (P : A → Type 0) → ¬ P x → (j : ℕ) → (P (get_or xs j d) → list_any (nat_eq j) (drop i items) ≡ true) → P (get_or (slice_set xs (get_or items i 0) x) j d) → list_any (nat_eq j) (drop (i + 1) items) ≡ true
+  still_left P never j before h = by (cases_eq j (get_or items i 0))
+    where
+      by : (j ≡ get_or items i 0) ⊎ (j ≢ get_or items i 0) → list_any (nat_eq j) (drop (i + 1) items) ≡ true
+      by (inl e) = absurd (never (subst P (ap (λ k. get_or (slice_set xs (get_or items i 0) x) k d) e ∙ get_or-set_same xs (get_or items i 0) x d w) h))
+      by (inr n) =
+          let was = before (subst P (get_or-set_other xs (get_or items i 0) j x d n) h) in
+          ap (λ b. b || list_any (nat_eq j) (drop (i + 1) items)) (sym (other j (get_or items i 0) n)) ∙ ap (list_any (nat_eq j)) (sym (next items i (get_or items i 0) l (get_or_default items i _ _ l))) ∙ was
+
+pub sums_left : (sums : List ℚ) (x : ℚ) (items : List ℕ) (i : ℕ) → i < length items → get_or items i 0 < length sums → x ≡ zero_ℚ
+    → ((j : ℕ) → get_or sums j zero_ℚ ≢ zero_ℚ → list_any (nat_eq j) (drop i items) ≡ true) → (j : ℕ) → get_or (slice_set sums (get_or items i 0) x) j zero_ℚ ≢ zero_ℚ → list_any (nat_eq j) (drop (i + 1) items) ≡ true
+sums_left sums x items i l w z before j h = still_left sums zero_ℚ x items i l w (λ y. y ≢ zero_ℚ) (λ n. n z) j (before j) h
+
+pub marks_left : (marks : List Bool) (items : List ℕ) (i : ℕ) → i < length items → get_or items i 0 < length marks
+    → ((j : ℕ) → get_or marks j false ≡ true → list_any (nat_eq j) (drop i items) ≡ true) → (j : ℕ) → get_or (slice_set marks (get_or items i 0) false) j false ≡ true → list_any (nat_eq j) (drop (i + 1) items) ≡ true
+marks_left marks items i l w before j h = still_left marks false false items i l w (λ y. y ≡ true) (λ t. absurd (cc)) j (before j) h
+
+none_there : (items : List ℕ) (i j : ℕ) → length items ≤ i → list_any (nat_eq j) (drop i items) ≡ true → ⊥
+none_there items i j h t = absurd (let e = ap (list_any (nat_eq j)) (past_end items i h) in cc)
+
+pub all_zero : (sums : List ℚ) (items : List ℕ) (i : ℕ) → length items ≤ i → ((j : ℕ) → get_or sums j zero_ℚ ≢ zero_ℚ → list_any (nat_eq j) (drop i items) ≡ true) → (j : ℕ) → get_or sums j zero_ℚ ≡ zero_ℚ
+all_zero sums items i h left j = elim (zero_or_not (get_or sums j zero_ℚ)) [ inl e ↦ e | inr n ↦ absurd (none_there items i j h (left j n)) ]
+
+pub none_touched : (marks : List Bool) (items : List ℕ) (i : ℕ) → length items ≤ i → ((j : ℕ) → get_or marks j false ≡ true → list_any (nat_eq j) (drop i items) ≡ true) → Touching marks []
+none_touched marks items i h left = record { listed = λ j. by (get_or marks j false) refl j; distinct = nothing_distinct }
+  where
+    by : (b : Bool) → b ≡ b → (j : ℕ) → get_or marks j false ≡ false
+    by b e j = at (get_or marks j false) refl
+      where
+        at : (c : Bool) → get_or marks j false ≡ c → get_or marks j false ≡ false
+        at true f = absurd (none_there items i j h (left j f))
+        at false f = f
+
+-- ---- the sums that are not 0
+abbrev pub pick : List ℚ → ℕ → ℕ × ℚ
+pick sums j = (j, get_or sums j zero_ℚ)
+
+module _ (sums : List ℚ) (touched : List ℕ) (i : ℕ) (x : ℚ) (l : i < length touched) (w : get_or touched i 0 < length sums) (r : x ≡ get_or sums (get_or touched i 0) x) (es : List (ℕ × ℚ)) (so : es ≡ filter is_nonzero (take i (map (pick sums) touched))) where
+  picked : get_or (map (pick sums) touched) i (0, zero_ℚ) ≡ (get_or touched i 0, x)
+  picked = get_or-map (pick sums) touched i 0 (0, zero_ℚ) l ∙ ap (λ y. (get_or touched i 0, y)) (get_or_default sums (get_or touched i 0) zero_ℚ x w ∙ sym r)
+
+  one_more : filter is_nonzero (take (i + 1) (map (pick sums) touched)) ≡ es ++ cond (is_nonzero (get_or touched i 0, x)) ((get_or touched i 0, x) ∷ []) []
+  one_more =
+      filter_more is_nonzero (map (pick sums) touched) i (0, zero_ℚ) (let e = length-map touched (pick sums) in omega (arith, e, l))
+      ∙ ap₂ (λ a b. a ++ cond (is_nonzero b) (b ∷ []) []) (sym so) picked
+
+  pub kept : int_eq x.numer (pos 0) ≡ false → es ++ (get_or touched i 0, x) ∷ [] ≡ filter is_nonzero (take (i + 1) (map (pick sums) touched))
+  kept f = sym (one_more ∙ ap (λ b. es ++ cond (not b) ((get_or touched i 0, x) ∷ []) []) f)
+
+  pub left_out : int_eq x.numer (pos 0) ≡ true → es ≡ filter is_nonzero (take (i + 1) (map (pick sums) touched))
+  left_out t = sym (one_more ∙ ap (λ b. es ++ cond (not b) ((get_or touched i 0, x) ∷ []) []) t ∙ append-nil es)
+
+pub all_picked : (sums : List ℚ) (touched : List ℕ) (i : ℕ) → length touched ≤ i → filter is_nonzero (take i (map (pick sums) touched)) ≡ filter is_nonzero (map (pick sums) touched)
+all_picked sums touched i h = ap (filter is_nonzero) (take_all i (map (pick sums) touched) (let e = length-map touched (pick sums) in omega (arith, e)))

@@ -1,0 +1,33 @@
+use Rattle.std.proofs.Common.{◌∙◌, sym, refl, subst}
+use Rattle.vipr_spec.specs.Fraction.{SumFits}
+use Rattle.vipr_linear.proofs.Adding.{below, row_terms, row_terms_fit}
+use Rattle.vipr_linear.proofs.Collecting.{on_ok}
+use Rattle.vipr_linear.proofs.Marks.{not_both}
+use Rattle.vipr_linear.proofs.combination.add_multiple.Goals as goal
+
+pub add_terms-requires-clause-within : goal.add_terms-requires-clause-within
+add_terms-requires-clause-within c =
+    let list = c.entries-entries.ensures.list in
+    rw list (below c.args.constraint.now.row _ (rw list at c.entries-entries.ensures.rising) c.requires.names)
+
+pub returns-in_err-add_terms-clause-fits : goal.returns-in_err-add_terms-clause-fits
+returns-in_err-add_terms-clause-fits c =
+    let list = c.entries-entries.ensures.list in
+    let fit = row_terms_fit c.args.constraint.now.row c.args.sums.now c.args.multiplier (rw list at c.entries-entries.ensures.rising) in
+    let told = rw list at c.in_err-add_terms.ensures.fits in
+    (λ o. absurd (not_both _ c.from_residual.ensures.0 o), λ h. absurd (let x = told.1 (fit.1 h.0) in cc))
+
+pub returns-clause-fits : goal.returns-clause-fits
+returns-clause-fits c =
+    let list = c.entries-entries.ensures.list in
+    let fit = row_terms_fit c.args.constraint.now.row c.args.sums.now c.args.multiplier (rw list at c.entries-entries.ensures.rising) in
+    let told = rw list at c.in_ok-add_terms.ensures.fits in
+    let product = c.in_ok-mul.ensures in
+    (λ o. (fit.0 (told.0 refl), (product.fits.0 refl, subst (SumFits c.args.rhs) product.value (c.add.ensures.fits.0 o))), λ h. c.add.ensures.fits.1 (subst (SumFits c.args.rhs) (sym product.value) h.1.1))
+
+pub returns-clause-sums : goal.returns-clause-sums
+returns-clause-sums c =
+    let list = c.entries-entries.ensures.list in
+    let rising = rw list at c.entries-entries.ensures.rising in
+    let told = rw list at c.in_ok-add_terms.ensures.sums in
+    on_ok c.add.result _ (told ∙ row_terms c.args.constraint.now.row c.args.sums.now c.args.multiplier rising (below c.args.constraint.now.row _ rising c.requires.names))

@@ -1,0 +1,198 @@
+//! Sums of multiples of constraints.
+ghost use Rattle.std.specs.Prelude.{◌≡◌, ◌≢◌, ◌↔◌, ◌⊎◌, ◌<◌, ◌≤◌, ℕ, true, false, length, All, IsOk, IsSome, IsNone, IfOk, IfErr, OnOk, OnErr, MatchOption, vec_capacity, Some, None};
+ghost use Rattle.vipr_spec.specs.Fraction.{◌+ℚ◌, ◌*ℚ◌};
+ghost use Rattle.vipr_spec.specs.Constraint.{at};
+ghost use Rattle.vipr_linear.specs.Accumulator as held;
+ghost use Rattle.vipr_linear.specs.Accumulator.{with_row, RowFits, TermFits, NamesBelow, CanAdd, EntryFits, HoldsSum, IsSpent, joined_with, with_entry, nothing_added};
+ghost use Rattle.vipr_linear.specs.Constraint.{sense_of, condition_of};
+ghost use Rattle.vipr_linear.specs.Touched.{Touching, Covers};
+
+use crate::constraint::{Constraint, Sense};
+use crate::row::{Row, is_zero};
+use crate::sums::{add_terms, nonzero_sums, reset};
+use std::alloc::{AllocError, Global};
+use std::cmp::Ordering;
+use std::marker::Model;
+use vipr_frac::{Frac, Overflow};
+
+/// Why an entry can't be added, or the sum not be given.
+#[derive(Clone, Copy, Debug, PartialEq, Eq)]
+pub enum CombError {
+    /// With the entry, some product of a multiplier and a sense's sign is positive and another negative.
+    MixedSigns,
+    /// A product or a partial sum is out of bound.
+    Overflow,
+    /// A growth was refused.
+    Memory,
+    /// An error came before, and no `clear` since.
+    Spent,
+}
+
+/// The sum of multiples of constraints over the variables below a number.
+#[derive(Debug, Drop)]
+pub struct Combination {
+    sums: Vec<Frac>,
+    marks: Vec<bool>,
+    touched: Vec<u32>,
+    sense: Sense,
+    rhs: Frac,
+    is_spent: bool,
+}
+
+impl Model for Combination {
+    ghost use Rattle.std.specs.Prelude.{vec_capacity};
+    ghost use Rattle.vipr_linear.specs.Accumulator.{Accumulator, coded_accumulator};
+    ghost use Rattle.vipr_linear.specs.Constraint.{sense_of};
+    ghost use Rattle.vipr_linear.specs.Touched.{IsKept};
+
+    ghost Value = { Accumulator };
+
+    ghost coded = { coded_accumulator };
+
+    ghost view = { λ a. record { sums = a.sums.items; bound = a.rhs; sense = sense_of a.sense; spent = a.is_spent } };
+
+    ghost invariant = { λ a. IsKept a.sums.items a.marks.items a.touched.items (vec_capacity a.touched) };
+}
+
+impl Combination {
+    /// The empty sum over the variables below `n`.
+    pub fn new(alloc: Global, n: u32) -> Result<Combination, AllocError>
+        ensures { IfOk result (λ sum. sum ≡ nothing_added n) }
+    {
+        Ok(Combination {
+            sums: vec![in alloc; Frac::zero(); n as usize]?,
+            marks: vec![in alloc; false; n as usize]?,
+            touched: Vec::with_capacity(alloc, n as usize)?,
+            sense: Sense::E,
+            rhs: Frac::zero(),
+            is_spent: false,
+        })
+    }
+
+    /// Makes it empty, also after an error.
+    pub fn clear(&mut self)
+        ensures { self.new ≡ nothing_added (length self.old.sums) }
+    {
+        reset(&mut self.sums, &mut self.marks, &mut self.touched);
+        self.sense = Sense::E;
+        self.rhs = Frac::zero();
+        self.is_spent = false;
+    }
+
+    /// Adds the multiple of a constraint. A multiplier 0 changes nothing. After an error it is spent.
+    pub fn add(&mut self, constraint: &Constraint, multiplier: Frac) -> Result<(), CombError>
+        requires { NamesBelow (length self.old.sums) (at constraint.now.row) }
+        ensures ok { IsOk result ↔ CanAdd self.old (multiplier, condition_of constraint.now) }
+        ensures added { OnOk result (self.new ≡ with_entry self.old (multiplier, condition_of constraint.now)) }
+
+        ensures spent { (result ≡ Err CombError.Spent) ↔ (self.old.spent ≡ true) }
+        ensures mixed_signs { (result ≡ Err CombError.MixedSigns) ↔ ((self.old.spent ≡ false) × IsNone (joined_with self.old (multiplier, condition_of constraint.now))) }
+        ensures overflow { (result ≡ Err CombError.Overflow) ↔ ((self.old.spent ≡ false) × IsSome (joined_with self.old (multiplier, condition_of constraint.now)) × ¬ EntryFits self.old (multiplier, condition_of constraint.now)) }
+        ensures no_memory { result ≢ Err CombError.Memory }
+        ensures err { OnErr result (IsSpent (length self.old.sums) self.new) }
+    {
+        if self.is_spent {
+            return Err(CombError::Spent);
+        }
+        let Some(sense) = joined(self.sense, turned(multiplier, constraint.sense)) else {
+            self.is_spent = true;
+            return Err(CombError::MixedSigns);
+        };
+        if is_zero(multiplier) {
+            return Ok(());
+        }
+        match add_multiple(
+            &mut self.sums,
+            &mut self.marks,
+            &mut self.touched,
+            self.rhs,
+            constraint,
+            multiplier,
+        ) {
+            Ok(rhs) => {
+                self.rhs = rhs;
+                self.sense = sense;
+                Ok(())
+            }
+            Err(_) => {
+                self.is_spent = true;
+                Err(CombError::Overflow)
+            }
+        }
+    }
+
+    /// Gives the sum, and makes it empty. After an error it is spent.
+    pub fn finish(&mut self, alloc: Global) -> Result<Constraint, CombError>
+        ensures sum { IfOk result (λ sum. HoldsSum self.old sum.row (sense_of sum.sense) sum.rhs) }
+        ensures emptied { OnOk result (self.new ≡ nothing_added (length self.old.sums)) }
+
+        ensures spent { (result ≡ Err CombError.Spent) ↔ (self.old.spent ≡ true) }
+        ensures memory { IfErr result (λ error. (error ≡ CombError.Spent) ⊎ (error ≡ CombError.Memory)) }
+        ensures err { OnErr result (IsSpent (length self.old.sums) self.new) }
+    {
+        if self.is_spent {
+            return Err(CombError::Spent);
+        }
+        self.touched.sort_unstable();
+        let Ok(entries) = nonzero_sums(alloc, &self.sums, &self.touched) else {
+            self.is_spent = true;
+            return Err(CombError::Memory);
+        };
+        let sum = Constraint {
+            row: Row::from_rising(entries),
+            sense: self.sense,
+            rhs: self.rhs,
+        };
+        self.clear();
+        Ok(sum)
+    }
+}
+
+// The sense of the multiple of a constraint.
+fn turned(multiplier: Frac, sense: Sense) -> Sense
+    ensures { sense_of result ≡ held.turned multiplier (sense_of sense) }
+{
+    match (sense, multiplier.numer().cmp(&0)) {
+        (Sense::E, _) | (_, Ordering::Equal) => Sense::E,
+        (Sense::G, Ordering::Greater) | (Sense::L, Ordering::Less) => Sense::G,
+        (Sense::L, Ordering::Greater) | (Sense::G, Ordering::Less) => Sense::L,
+    }
+}
+
+// The sense of a sum of two, if they go together.
+fn joined(a: Sense, b: Sense) -> Option<Sense>
+    ensures { MatchOption result (held.joined (sense_of a) (sense_of b) ≡ None) (λ s. held.joined (sense_of a) (sense_of b) ≡ Some (sense_of s)) }
+{
+    match (a, b) {
+        (Sense::E, _) => Some(b),
+        (_, Sense::E) => Some(a),
+        (Sense::G, Sense::G) | (Sense::L, Sense::L) => Some(a),
+        (Sense::G, Sense::L) | (Sense::L, Sense::G) => None,
+    }
+}
+
+// Adds the multiple of a constraint to the sums, and gives the new right-hand side.
+fn add_multiple(
+    sums: &mut [Frac],
+    marks: &mut [bool],
+    touched: &mut Vec<u32>,
+    rhs: Frac,
+    constraint: &Constraint,
+    multiplier: Frac,
+) -> Result<Frac, Overflow>
+    requires places { length marks.old ≡ length sums.old }
+    requires names { NamesBelow (length sums.old) (at constraint.now.row) }
+    requires room { length marks.old ≤ vec_capacity touched.old }
+    requires touching { Touching marks.old touched.old.items }
+    requires covers { Covers sums.old marks.old }
+    ensures fits { IsOk result ↔ (RowFits sums.old multiplier (at constraint.now.row) × TermFits rhs multiplier constraint.now.rhs) }
+    ensures sums { OnOk result (sums.new ≡ with_row sums.old multiplier (at constraint.now.row)) }
+    ensures rhs { IfOk result (λ r. r ≡ rhs +ℚ multiplier *ℚ constraint.now.rhs) }
+    ensures touching { Touching marks.new touched.new.items }
+    ensures covers { Covers sums.new marks.new }
+    ensures capacity { vec_capacity touched.old ≤ vec_capacity touched.new }
+{
+    let entries = constraint.row.entries();
+    add_terms(sums, marks, touched, entries, multiplier)?;
+    rhs.add(multiplier.mul(constraint.rhs)?)
+}

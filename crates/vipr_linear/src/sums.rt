@@ -1,0 +1,89 @@
+//! Partial sums of variables, one place for each, with a list of the touched ones.
+ghost use Rattle.std.specs.Prelude.{◌≡◌, ◌↔◌, ◌<◌, ◌≤◌, ℕ, Bool, true, false, IsOk, IfOk, OnOk, All, [], filter, map, length, slice_index_or, vec_capacity, vec_len};
+ghost use Rattle.vipr_spec.specs.Fraction.{zero_ℚ};
+ghost use Rattle.vipr_spec.specs.Reading.{is_nonzero};
+ghost use Rattle.vipr_linear.specs.Accumulator.{with_terms, TermsFitIn};
+ghost use Rattle.vipr_linear.specs.Touched.{Touching, Covers};
+
+use crate::row::is_zero;
+use std::alloc::{AllocError, Global};
+use vipr_frac::{Frac, Overflow};
+
+// Lists a variable as touched, once.
+fn touch(marks: &mut [bool], touched: &mut Vec<u32>, variable: u32)
+    requires within { variable < length marks.old }
+    requires room { length marks.old ≤ vec_capacity touched.old }
+    requires touching { Touching marks.old touched.old.items }
+    ensures touching { Touching marks.new touched.new.items }
+    ensures marked { slice_index_or marks.new variable false ≡ true }
+    ensures kept { (j : ℕ) → slice_index_or marks.old j false ≡ true → slice_index_or marks.new j false ≡ true }
+    ensures capacity { vec_capacity touched.old ≤ vec_capacity touched.new }
+{
+    if !marks[variable as usize] {
+        touched.push(variable).unwrap();
+        marks[variable as usize] = true;
+    }
+}
+
+/// Adds the multiple of each entry to the sum of its variable, in order.
+pub(crate) fn add_terms(
+    sums: &mut [Frac],
+    marks: &mut [bool],
+    touched: &mut Vec<u32>,
+    entries: &[(u32, Frac)],
+    multiplier: Frac,
+) -> Result<(), Overflow>
+    requires places { length marks.old ≡ length sums.old }
+    requires within { All (λ e. e.0 < length sums.old) entries.now }
+    requires room { length marks.old ≤ vec_capacity touched.old }
+    requires touching { Touching marks.old touched.old.items }
+    requires covers { Covers sums.old marks.old }
+    ensures fits { IsOk result ↔ TermsFitIn sums.old multiplier entries.now }
+    ensures sums { OnOk result (sums.new ≡ with_terms sums.old multiplier entries.now) }
+    ensures touching { Touching marks.new touched.new.items }
+    ensures covers { Covers sums.new marks.new }
+    ensures capacity { vec_capacity touched.old ≤ vec_capacity touched.new }
+{
+    for (variable, coefficient) in entries {
+        touch(marks, touched, *variable);
+        let product = multiplier.mul(*coefficient)?;
+        let place = *variable as usize;
+        sums[place] = sums[place].add(product)?;
+    }
+    Ok(())
+}
+
+/// Sets the sums of the touched variables to 0, and forgets that they were touched.
+pub(crate) fn reset(sums: &mut [Frac], marks: &mut [bool], touched: &mut Vec<u32>)
+    requires places { length marks.old ≡ length sums.old }
+    requires touching { Touching marks.old touched.old.items }
+    requires covers { Covers sums.old marks.old }
+    ensures sums { (j : ℕ) → slice_index_or sums.new j zero_ℚ ≡ zero_ℚ }
+    ensures touching { Touching marks.new touched.new.items }
+    ensures capacity { vec_capacity touched.new ≡ vec_capacity touched.old }
+{
+    for variable in touched.iter() {
+        sums[*variable as usize] = Frac::zero();
+        marks[*variable as usize] = false;
+    }
+    touched.clear();
+}
+
+/// The touched variables whose sums are not 0, with these.
+pub(crate) fn nonzero_sums(
+    alloc: Global,
+    sums: &[Frac],
+    touched: &[u32],
+) -> Result<Vec<(u32, Frac)>, AllocError>
+    requires { All (λ j. j < length sums.now) touched.now }
+    ensures { IfOk result (λ v. v.items ≡ filter is_nonzero (map (λ j. (j, slice_index_or sums.now j zero_ℚ)) touched.now)) }
+{
+    let mut entries = Vec::with_capacity(alloc, touched.len())?;
+    for variable in touched {
+        let sum = sums[*variable as usize];
+        if !is_zero(sum) {
+            entries.push((*variable, sum))?;
+        }
+    }
+    Ok(entries)
+}
