@@ -226,6 +226,6 @@ kept None new P keeps h = tt
 kept (Some l) new P keeps h = rw keeps at h
 
 -- what holds of what is left, where it is told
-pub told_holds : (r : Reading) (spent : Bool) (at : ℕ) (o : Option Rest) (P : Rest → Type 0) → r ≡ reading_of spent at o → IfSome o P → r.told ≡ true → P r.left
-told_holds r spent at None P e h told = absurd (false≢true (sym (ap (λ (x : Reading). x.told) e) ∙ told))
-told_holds r spent at (Some l) P e h told = rw e h
+pub told_holds : (r : Reading) (spent : Bool) (o : Option Rest) (P : Rest → Type 0) → r ≡ reading_of spent o → IfSome o P → r.told ≡ true → P r.left
+told_holds r spent None P e h told = absurd (false≢true (sym (ap (λ (x : Reading). x.told) e) ∙ told))
+told_holds r spent (Some l) P e h told = rw e h

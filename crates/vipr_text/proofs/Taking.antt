@@ -1,78 +1,44 @@
 -- What an answer of the reader of tokens says of the token that is wanted
-use Rattle.std.proofs.Common.{◌≡◌, ◌≢◌, ℕ, ◌≤◌, ◌⊎◌, Bool, true, false, List, [], ◌∷◌, length, drop, nat_lt, Some, None, Result, Ok, Err, refl, sym, ap, ◌∙◌, subst, inl, inr}
+use Rattle.std.proofs.Common.{◌≡◌, ◌≢◌, ℕ, ◌≤◌, Bool, true, false, List, [], ◌∷◌, length, nat_lt, ◌<◌, if◌then◌else◌, Option, Some, None, Result, Ok, Err, refl, sym, ap, ◌∙◌, inl, inr}
 use Rattle.std.proofs.lemmas.List.{take_all}
-use Rattle.std.proofs.lemmas.Bool.{ltb-false}
+use Rattle.std.proofs.lemmas.Bool.{ltb-false, ltb-true}
 use Rattle.vipr_spec.specs.Tokens.{Token}
-use Rattle.vipr_spec.specs.Reading.{Rest, refused, unread, token_read, first_token, taken}
+use Rattle.vipr_spec.specs.Reading.{Rest, token_read, first_token, taken, variable_of, below}
+use Rattle.vipr_spec.specs.Digits.{natural_of}
+use Rattle.std.specs.Result.{IfOk}
+use Rattle.vipr_spec.specs.Causes as cause
 use Rattle.vipr_text.specs.View.{Reading, Seen, answer_of, first_answer, seen_of, next_left}
-use Rattle.vipr_text.specs.Giving.{Gives, TakenBy, IsTaken}
+use Rattle.vipr_text.specs.Giving.{Fails, Gives, TakenBy, IsTaken, IsMeaning}
 use Rattle.vipr_text.specs.declared.error.TextError.{TextError}
 use Rattle.vipr_text.specs.declared.error.TextError.TheVariants as error
 
+-- what was seen, as a token
+abbrev pub token_seen : Seen → Token
+token_seen s = record { bytes = s.bytes; offset = s.offset }
+
 -- a token that isn't too long
-pub record IsNext (l : Rest) (bytes : List ℕ) (offset : ℕ) : Type 0 where
-  pub token : Token
-  pub read : token_read l ≡ Ok (token, next_left l)
-  pub bytes_are : token.bytes ≡ bytes
-  pub offset_is : token.offset ≡ offset
-
-pub next_token : (l : Rest) (s : Seen) → Ok (Some s) ≡ answer_of l → s.long ≡ false → IsNext l s.bytes s.offset
+pub short_token : (l : Rest) (s : Seen) → Ok (Some s) ≡ answer_of l → s.long ≡ false → token_read l ≡ Ok (token_seen s, next_left l)
 unfolding first_token
-next_token l s h short = go l.tokens l.fails h refl
+short_token l s h short = go l.tokens l.fails h
   where
-    go : (ts : List Token) (fails : Bool) → Ok (Some s) ≡ first_answer ts fails → ts ≡ l.tokens → IsNext l s.bytes s.offset
-    go [] false e q = absurd (cc)
-    go [] true e q = absurd (cc)
-    go (t ∷ ts) fails e q =
-        let same : s ≡ seen_of t = (cc) in
-        let no : nat_lt 65535 (length t.bytes) ≡ false = sym (ap (λ (x : Seen). x.long) same) ∙ short in
-        let fits : length t.bytes ≤ 65535 = ltb-false 65535 (length t.bytes) no in
-        let all : s.bytes ≡ t.bytes = ap (λ (x : Seen). x.bytes) same ∙ take_all 65535 t.bytes fits in
-        let here : first_token (t ∷ ts) l ≡ Ok (t, record l { tokens = ts }) = rw no refl in
-        let gone : record l { tokens = ts } ≡ next_left l = ap (λ (us : List Token). record l { tokens = drop 1 us }) q in
-        record {
-          token = t;
-          read = ap (λ us. first_token us l) (sym q) ∙ here ∙ ap (λ r. Ok (t, r)) gone;
-          bytes_are = sym all;
-          offset_is = ap (λ (x : Seen). x.offset) (sym same);
-        }
-
-pub long_token : (l : Rest) (s : Seen) → Ok (Some s) ≡ answer_of l → s.long ≡ true → token_read l ≡ Err (refused 17 s.offset)
-unfolding first_token
-long_token l s h long = go l.tokens l.fails h
-  where
-    go : (ts : List Token) (fails : Bool) → Ok (Some s) ≡ first_answer ts fails → first_token ts l ≡ Err (refused 17 s.offset)
-    go [] false e = absurd (cc)
-    go [] true e = absurd (cc)
+    go : (ts : List Token) (fails : Bool) → Ok (Some s) ≡ first_answer ts fails → first_token ts (record l { tokens = ts; fails = fails }) ≡ Ok (token_seen s, next_left (record l { tokens = ts; fails = fails }))
+    go [] false e = cc
+    go [] true e = cc
     go (t ∷ ts) fails e =
-        let same : s ≡ seen_of t = (cc) in
-        let yes : nat_lt 65535 (length t.bytes) ≡ true = sym (ap (λ (x : Seen). x.long) same) ∙ long in
-        let here : first_token (t ∷ ts) l ≡ Err (refused 17 t.offset) = rw yes refl in
-        here ∙ ap (λ (x : Seen). Err (refused 17 x.offset)) (sym same)
+        let q : s ≡ seen_of t = (cc) in
+        let no : nat_lt 65535 (length t.bytes) ≡ false = sym (ap (λ (x : Seen). x.long) q) ∙ short in
+        let fits : length t.bytes ≤ 65535 = ltb-false 65535 (length t.bytes) no in
+        let all : s.bytes ≡ t.bytes = ap (λ (x : Seen). x.bytes) q ∙ take_all 65535 t.bytes fits in
+        let at : s.offset ≡ t.offset = ap (λ (x : Seen). x.offset) q in
+        rw (no, all, at) refl
 
-pub no_token : (l : Rest) → Ok None ≡ answer_of l → token_read l ≡ Err (refused 1 l.length)
-unfolding first_token
-no_token l h = go l.tokens l.fails refl h
-  where
-    go : (ts : List Token) (fails : Bool) → fails ≡ l.fails → Ok None ≡ first_answer ts fails → first_token ts l ≡ Err (refused 1 l.length)
-    go [] false q e = rw (← q) refl
-    go [] true q e = absurd (cc)
-    go (t ∷ ts) fails q e = absurd (cc)
-
-pub failed_token : (l : Rest) → Err error.Read ≡ answer_of l → token_read l ≡ Err unread
-unfolding first_token
-failed_token l h = go l.tokens l.fails refl h
-  where
-    go : (ts : List Token) (fails : Bool) → fails ≡ l.fails → Err error.Read ≡ first_answer ts fails → first_token ts l ≡ Err unread
-    go [] false q e = absurd (cc)
-    go [] true q e = rw (← q) refl
-    go (t ∷ ts) fails q e = absurd (cc)
-
--- an error of `next` is passed on
+-- an error where a token is wanted is passed on
 pub passed_on : {X : Type 0} (Means : List ℕ → Result X ℕ → Type 0) (e : TextError) (new : Reading) (l : Rest)
-    → (e ≡ error.Read) ⊎ (e ≡ error.Spent) → e ≢ error.Spent → Err e ≡ answer_of l → IsTaken Means (Err e) new l
-passed_on {X} Means e new l (inl q) n h = record { by = subst (λ (d : TextError). TakenBy Means (Err d) new l) (sym q) (failed_token l (subst (λ (d : TextError). Err d ≡ answer_of l) q h)) }
-passed_on Means e new l (inr q) n h = absurd (n q)
+    → e ≢ error.Memory → Fails e (token_read l) → TakenBy Means (Err e) new l
+passed_on Means (error.Refused c o) new l some h = inl h
+passed_on Means error.Read new l some h = h
+passed_on Means error.Memory new l some h = absurd (some refl)
+passed_on Means error.Spent new l some h = h
 
 gives_by : {X Y : Type 0} (Means : List ℕ → Result X ℕ → Type 0) (view : X → Y) (kind : List ℕ → Result Y ℕ) (result : Result X TextError) (new : Reading) (l : Rest)
     → ((bytes : List ℕ) (x : X) → Means bytes (Ok x) → kind bytes ≡ Ok (view x)) → ((bytes : List ℕ) (c : ℕ) → Means bytes (Err c) → kind bytes ≡ Err c)
@@ -94,3 +60,25 @@ gives_taken {Means = Means} {result = result} {new = new} {l = l} view kind h go
 -- what a kind says of the bytes that it was given
 pub said : {Y : Type 0} (kind : List ℕ → Result Y ℕ) {given bytes : List ℕ} {r : Result Y ℕ} → r ≡ kind given → given ≡ bytes → kind bytes ≡ r
 said kind e same = sym (e ∙ ap kind same)
+
+if_meaning : {X : Type 0} (r : Result X TextError) (Means : List ℕ → Result X ℕ → Type 0) (P : X → Type 0)
+    → IfOk r (λ x. (bytes : List ℕ) × Means bytes (Ok x)) → ((bytes : List ℕ) (x : X) → Means bytes (Ok x) → P x) → IfOk r P
+if_meaning (Ok x) Means P h f = f h.0 x h.1
+if_meaning (Err e) Means P h f = tt
+
+-- what is so of each value that some bytes mean
+pub if_value : {X : Type 0} {Means : List ℕ → Result X ℕ → Type 0} {r : Result X TextError} (P : X → Type 0)
+    → IsMeaning Means r → ((bytes : List ℕ) (x : X) → Means bytes (Ok x) → P x) → IfOk r P
+if_value {X = X} {Means = Means} {r = r} P h f = if_meaning r Means P h.of f
+
+pub variable_below : (n : ℕ) (bytes : List ℕ) (i : ℕ) → Ok i ≡ variable_of n bytes → i < n
+unfolding variable_of
+variable_below n bytes i h = of_number (natural_of bytes) h
+  where
+    of_test : (j : ℕ) (b : Bool) → nat_lt j n ≡ b → Ok i ≡ (if b then Ok j else Err cause.bad_index) → i < n
+    of_test j true lt e = let q : i ≡ j = (cc) in rw q (ltb-true j n lt)
+    of_test j false lt e = absurd (cc)
+
+    of_number : (o : Option ℕ) → Ok i ≡ below n o → i < n
+    of_number None e = absurd (cc)
+    of_number (Some j) e = of_test j (nat_lt j n) refl e

@@ -1,5 +1,5 @@
 -- A reader after an answer.
-use Rattle.std.specs.Prelude.{◌≡◌, true, false, Option, None, Ok, Result}
+use Rattle.std.specs.Prelude.{◌≡◌, true, false, Option, Result}
 use Rattle.vipr_text.specs.View.{Reading, Seen, stops, next_left}
 use Rattle.vipr_text.specs.declared.error.TextError.{TextError}
 
@@ -9,4 +9,9 @@ pub record Follows (old : Reading) (answer : Result (Option Seen) TextError) (ne
   pub stays : old.spent ≡ true → new.spent ≡ true
   pub told : old.spent ≡ false → new.spent ≡ false → old.told ≡ true → new.told ≡ true
   pub left : old.spent ≡ false → new.spent ≡ false → old.told ≡ true → new.left ≡ next_left old.left
-  pub end : old.spent ≡ false → answer ≡ Ok None → old.told ≡ true → new.at ≡ old.left.length
+
+-- it goes on behind a token
+pub record IsBehind (old new : Reading) : Type 0 where
+  pub spent : new.spent ≡ false
+  pub told : old.told ≡ true → new.told ≡ true
+  pub left : old.told ≡ true → new.left ≡ next_left old.left

@@ -1,5 +1,5 @@
 -- What a reader gave, against what the reading of the tokens left gives
-use Rattle.std.specs.Prelude.{◌≡◌, ℕ, true, ⊤, ◌⊎◌, List, ◌++◌, Result, Ok, Err}
+use Rattle.std.specs.Prelude.{◌≡◌, ℕ, true, ⊤, ◌⊎◌, List, ◌++◌, Result, Ok, Err, IfOk}
 use Rattle.vipr_spec.specs.Tokens.{Token}
 use Rattle.vipr_spec.specs.Reading.{Rest, Fault, refused, unread, Read, token_read, ◌>>=◌}
 use Rattle.vipr_text.specs.View.{Reading}
@@ -12,6 +12,11 @@ Fails (error.Refused c o) r = r ≡ Err (refused c o)
 Fails error.Read r = r ≡ Err unread
 Fails error.Memory r = ⊤
 Fails error.Spent r = ⊥
+
+-- the value that the reading gives, and what is left then; or its fault
+abbrev pub Tells : {X Y : Type 0} → (X → Y) → Result X TextError → Rest → Read Y → Type 0
+Tells view (Ok x) left r = r ≡ Ok (view x, left)
+Tells view (Err e) left r = Fails e r
 
 -- the value that the reading gives, with the rest that is left then; or its fault
 abbrev pub Gives : {X Y : Type 0} → (X → Y) → Result X TextError → Reading → Read Y → Type 0
@@ -37,3 +42,7 @@ TakenBy Means (Err error.Spent) new left = ⊥
 
 pub record IsTaken {X : Type 0} (Means : List ℕ → Result X ℕ → Type 0) (result : Result X TextError) (new : Reading) (left : Rest) : Type 0 where
   pub by : TakenBy Means result new left
+
+-- a value is what some bytes mean
+pub record IsMeaning {X : Type 0} (Means : List ℕ → Result X ℕ → Type 0) (result : Result X TextError) : Type 0 where
+  pub of : IfOk result (λ x. (bytes : List ℕ) × Means bytes (Ok x))

@@ -92,16 +92,22 @@ stops (Ok None) = false
 stops (Ok (Some s)) = s.long
 stops (Err e) = true
 
--- what a caller sees of a reader of tokens: `left` says nothing where it isn't told, and `at` is the offset reached
+-- what a caller sees of a reader of tokens: `left` says nothing where it isn't told
 pub record Reading : Type 0 where
   pub spent : Bool
-  pub at : ℕ
   pub told : Bool
   pub left : Rest
 
-abbrev pub reading_of : Bool → ℕ → Option Rest → Reading
-reading_of spent at (Some l) = record { spent = spent; at = at; told = true; left = l }
-reading_of spent at None = record { spent = spent; at = at; told = false; left = record { tokens = []; fails = false; length = 0 } }
+abbrev pub reading_of : Bool → Option Rest → Reading
+reading_of spent (Some l) = record { spent = spent; told = true; left = l }
+reading_of spent None = record { spent = spent; told = false; left = record { tokens = []; fails = false; length = 0 } }
 
 abbrev pub reading : {R : Type 0} → (R → Option Input) → Window R → Reading
-reading input w = reading_of w.spent w.offset (left input w)
+reading input w = reading_of w.spent (left input w)
+
+-- a token that was found in the buffer, and one that was lent
+abbrev pub found_token : List ℕ → Found → Token
+found_token buf f = record { bytes = slice_range buf f.start (f.start + f.len); offset = f.offset }
+
+abbrev pub lent_token : LentToken → Token
+lent_token t = record { bytes = t.bytes.now; offset = t.offset }

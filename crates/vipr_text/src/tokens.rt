@@ -1,9 +1,11 @@
-ghost use Rattle.std.specs.Prelude.{◌≡◌, ◌^◌, ◌<◌, ◌↔◌, ◌⊎◌, false, true, length, Some, IfOk, IfSome, IfErr, IsErrOf};
+ghost use Rattle.std.specs.Prelude.{◌≡◌, ◌^◌, ◌<◌, ◌↔◌, ◌⊎◌, false, true, length, Some, IfOk, IfSome, IfErr, IsErrOf, OnOk, ◌≢◌};
 ghost use Rattle.std.specs.Borrow.{sem};
 ghost use Rattle.std.specs.Io.BufRead.{Rests};
 ghost use Rattle.vipr_spec.specs.Tokens.{tokens, IsToken};
-ghost use Rattle.vipr_text.specs.View.{seen, seen_token, answer_of};
-ghost use Rattle.vipr_text.specs.Follows.{Follows};
+ghost use Rattle.vipr_spec.specs.Reading.{token_read};
+ghost use Rattle.vipr_text.specs.View.{seen, seen_token, answer_of, next_left, lent_token};
+ghost use Rattle.vipr_text.specs.Follows.{Follows, IsBehind};
+ghost use Rattle.vipr_text.specs.Giving.{Tells};
 ghost use Rattle.vipr_text.specs.contracts.tokens.Tokens.{the_row};
 
 use crate::error::TextError;
@@ -76,10 +78,21 @@ impl<R: Source> Tokens<R> {
         }))
     }
 
-    /// The offset that was reached: after `None`, the length of the text.
-    pub(crate) fn offset(&self) -> u64
-        ensures { result ≡ self.now.at }
+    /// The token that is wanted. It takes no memory.
+    pub(crate) fn want(&mut self) -> Result<Token<'_>, TextError>
+        requires { self.old.spent ≡ false }
+        ensures token { IfOk result (λ t. IsToken t.bytes.now) }
+        ensures error { IfErr result (λ e. (e ≢ TextError.Spent) × (e ≢ TextError.Memory)) }
+        ensures read { self.old.told ≡ true → Tells lent_token result (next_left self.old.left) (token_read self.old.left) }
+        ensures* after { sem 𝓛 (Rests (the_row R.row R.Source) self.entry (λ new. OnOk result (IsBehind self.old new))) }
     {
-        self.window.offset
+        let window = &mut self.window;
+        let found = window.want()?;
+        let end = found.start + found.len;
+        Ok(Token {
+            bytes: &window.buf[found.start..end],
+            offset: found.offset,
+            long: found.long,
+        })
     }
 }

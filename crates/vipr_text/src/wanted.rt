@@ -1,18 +1,20 @@
 //! The tokens that are wanted one by one, each with the fault that it may have.
-ghost use Rattle.std.specs.Prelude.{◌≡◌, true, false, OnOk};
+ghost use Rattle.std.specs.Prelude.{◌≡◌, ◌≢◌, ◌<◌, ℕ, List, true, false, OnOk, IfOk, IfErr, All};
 ghost use Rattle.std.specs.Fn.{FnOnceReturnsAt};
 ghost use Rattle.std.specs.Borrow.{sem};
 ghost use Rattle.std.specs.Io.BufRead.{Rests};
 ghost use Rattle.vipr_spec.specs.Reading as reading;
-ghost use Rattle.vipr_text.specs.Giving.{Gives, IsTaken};
+ghost use Rattle.vipr_spec.specs.Tokens.{IsToken};
+ghost use Rattle.vipr_text.specs.Giving.{Gives, IsTaken, IsMeaning};
 ghost use Rattle.vipr_text.specs.Rules.{rule_seen};
 ghost use Rattle.vipr_text.specs.View.{seen_token};
 ghost use Rattle.vipr_text.specs.contracts.tokens.Tokens.{the_row};
 
 use crate::error::TextError;
-use crate::kinds::Rule;
+use crate::items::Name;
+use crate::kinds::{self, Rule};
 use crate::tokens::Tokens;
-use crate::{causes, kinds};
+use std::alloc::Global;
 use vipr_bytes::Source;
 use vipr_frac::Frac;
 
@@ -24,28 +26,17 @@ fn taken<R: Source, T, F: FnOnce(&[u8]) -> Result<T, u8>>(
     requires unspent { tokens.old.spent ≡ false }
     requires callable { F.IsAlwaysCallable kind }
     ensures unspent { OnOk result (tokens.new.spent ≡ false) }
+    ensures error { IfErr result (λ e. (e ≢ TextError.Spent) × (e ≢ TextError.Memory)) }
+    ensures value { IsMeaning (FnOnceReturnsAt F.FnOnce kind) result }
     ensures taken { tokens.old.told ≡ true → IsTaken (FnOnceReturnsAt F.FnOnce kind) result tokens.new tokens.old.left }
 {
-    match tokens.next()? {
-        None => Err(TextError::Refused {
-            cause: causes::TRUNCATED,
-            offset: tokens.offset(),
+    let token = tokens.want()?;
+    match kind(token.bytes) {
+        Ok(value) => Ok(value),
+        Err(cause) => Err(TextError::Refused {
+            cause,
+            offset: token.offset,
         }),
-        Some(token) => {
-            if token.long {
-                return Err(TextError::Refused {
-                    cause: causes::TOKEN_TOO_LONG,
-                    offset: token.offset,
-                });
-            }
-            match kind(token.bytes) {
-                Ok(value) => Ok(value),
-                Err(cause) => Err(TextError::Refused {
-                    cause,
-                    offset: token.offset,
-                }),
-            }
-        }
     }
 }
 
@@ -53,6 +44,7 @@ fn taken<R: Source, T, F: FnOnce(&[u8]) -> Result<T, u8>>(
 pub(crate) fn count<R: Source>(tokens: &mut Tokens<R>) -> Result<u32, TextError>
     requires { tokens.old.spent ≡ false }
     ensures unspent { OnOk result (tokens.new.spent ≡ false) }
+    ensures error { IfErr result (λ e. (e ≢ TextError.Spent) × (e ≢ TextError.Memory)) }
     ensures read { tokens.old.told ≡ true → Gives (λ n. n) result tokens.new (reading.taken reading.count_of tokens.old.left) }
 {
     taken(tokens, kinds::count)
@@ -65,6 +57,7 @@ pub(crate) fn derivation_count<R: Source>(
 ) -> Result<u32, TextError>
     requires { tokens.old.spent ≡ false }
     ensures unspent { OnOk result (tokens.new.spent ≡ false) }
+    ensures error { IfErr result (λ e. (e ≢ TextError.Spent) × (e ≢ TextError.Memory)) }
     ensures read { tokens.old.told ≡ true → Gives (λ n. n) result tokens.new (reading.taken (reading.derivation_count_of constraints) tokens.old.left) }
 {
     taken(tokens, |bytes| kinds::derivation_count(constraints, bytes))
@@ -74,6 +67,8 @@ pub(crate) fn derivation_count<R: Source>(
 pub(crate) fn variable<R: Source>(tokens: &mut Tokens<R>, variables: u32) -> Result<u32, TextError>
     requires { tokens.old.spent ≡ false }
     ensures unspent { OnOk result (tokens.new.spent ≡ false) }
+    ensures error { IfErr result (λ e. (e ≢ TextError.Spent) × (e ≢ TextError.Memory)) }
+    ensures below { IfOk result (λ i. i < variables) }
     ensures read { tokens.old.told ≡ true → Gives (λ n. n) result tokens.new (reading.taken (reading.variable_of variables) tokens.old.left) }
 {
     taken(tokens, |bytes| kinds::variable(variables, bytes))
@@ -83,6 +78,7 @@ pub(crate) fn variable<R: Source>(tokens: &mut Tokens<R>, variables: u32) -> Res
 pub(crate) fn reference<R: Source>(tokens: &mut Tokens<R>) -> Result<u32, TextError>
     requires { tokens.old.spent ≡ false }
     ensures unspent { OnOk result (tokens.new.spent ≡ false) }
+    ensures error { IfErr result (λ e. (e ≢ TextError.Spent) × (e ≢ TextError.Memory)) }
     ensures read { tokens.old.told ≡ true → Gives (λ n. n) result tokens.new (reading.taken reading.reference_of tokens.old.left) }
 {
     taken(tokens, kinds::reference)
@@ -92,6 +88,7 @@ pub(crate) fn reference<R: Source>(tokens: &mut Tokens<R>) -> Result<u32, TextEr
 pub(crate) fn last<R: Source>(tokens: &mut Tokens<R>) -> Result<Option<u32>, TextError>
     requires { tokens.old.spent ≡ false }
     ensures unspent { OnOk result (tokens.new.spent ≡ false) }
+    ensures error { IfErr result (λ e. (e ≢ TextError.Spent) × (e ≢ TextError.Memory)) }
     ensures read { tokens.old.told ≡ true → Gives (λ n. n) result tokens.new (reading.taken reading.last_of tokens.old.left) }
 {
     taken(tokens, kinds::last)
@@ -105,6 +102,7 @@ pub(crate) fn word<R: Source>(
 ) -> Result<(), TextError>
     requires { tokens.old.spent ≡ false }
     ensures unspent { OnOk result (tokens.new.spent ≡ false) }
+    ensures error { IfErr result (λ e. (e ≢ TextError.Spent) × (e ≢ TextError.Memory)) }
     ensures read { tokens.old.told ≡ true → Gives (λ u. u) result tokens.new (reading.taken (reading.word_of word.now cause) tokens.old.left) }
 {
     taken(tokens, |bytes| kinds::word(word, cause, bytes))
@@ -114,6 +112,7 @@ pub(crate) fn word<R: Source>(
 pub(crate) fn number<R: Source>(tokens: &mut Tokens<R>) -> Result<Frac, TextError>
     requires { tokens.old.spent ≡ false }
     ensures unspent { OnOk result (tokens.new.spent ≡ false) }
+    ensures error { IfErr result (λ e. (e ≢ TextError.Spent) × (e ≢ TextError.Memory)) }
     ensures read { tokens.old.told ≡ true → Gives (λ n. n) result tokens.new (reading.taken reading.number_of tokens.old.left) }
 {
     taken(tokens, kinds::number)
@@ -123,7 +122,62 @@ pub(crate) fn number<R: Source>(tokens: &mut Tokens<R>) -> Result<Frac, TextErro
 pub(crate) fn reason_rule<R: Source>(tokens: &mut Tokens<R>) -> Result<Rule, TextError>
     requires { tokens.old.spent ≡ false }
     ensures unspent { OnOk result (tokens.new.spent ≡ false) }
+    ensures error { IfErr result (λ e. (e ≢ TextError.Spent) × (e ≢ TextError.Memory)) }
     ensures read { tokens.old.told ≡ true → Gives (rule_seen) result tokens.new (reading.taken reading.rule_of tokens.old.left) }
 {
     taken(tokens, kinds::reason_rule)
+}
+
+/// A name.
+pub(crate) fn name<R: Source>(alloc: Global, tokens: &mut Tokens<R>) -> Result<Name, TextError>
+    requires { tokens.old.spent ≡ false }
+    ensures unspent { OnOk result (tokens.new.spent ≡ false) }
+    ensures error { IfErr result (λ e. e ≢ TextError.Spent) }
+    ensures token { IfOk result (λ name. IsToken name) }
+    ensures read { tokens.old.told ≡ true → Gives (λ name. name) result tokens.new (reading.taken reading.name_of tokens.old.left) }
+{
+    let token = tokens.want()?;
+    let name = Name::of_token(alloc, token.bytes)?;
+    Ok(name)
+}
+
+/// So many names.
+pub(crate) fn names<R: Source>(
+    alloc: Global,
+    tokens: &mut Tokens<R>,
+    count: u32,
+) -> Result<Vec<Name>, TextError>
+    requires { tokens.old.spent ≡ false }
+    ensures unspent { OnOk result (tokens.new.spent ≡ false) }
+    ensures error { IfErr result (λ e. e ≢ TextError.Spent) }
+    ensures tokens { IfOk result (λ names. All (λ name. IsToken name) names.items) }
+    ensures read { tokens.old.told ≡ true → Gives (λ names. names.items) result tokens.new (reading.repeated (reading.taken reading.name_of) count tokens.old.left) }
+{
+    let mut names = Vec::new(alloc);
+    for _ in 0..count {
+        let name = name(alloc, tokens)?;
+        names.push(name)?;
+    }
+    Ok(names)
+}
+
+/// So many variables below `variables`.
+pub(crate) fn indices<R: Source>(
+    alloc: Global,
+    tokens: &mut Tokens<R>,
+    variables: u32,
+    count: u32,
+) -> Result<Vec<u32>, TextError>
+    requires { tokens.old.spent ≡ false }
+    ensures unspent { OnOk result (tokens.new.spent ≡ false) }
+    ensures error { IfErr result (λ e. e ≢ TextError.Spent) }
+    ensures below { IfOk result (λ indices. All (λ i. i < variables) indices.items) }
+    ensures read { tokens.old.told ≡ true → Gives (λ indices. indices.items) result tokens.new (reading.repeated (reading.taken (reading.variable_of variables)) count tokens.old.left) }
+{
+    let mut indices = Vec::new(alloc);
+    for _ in 0..count {
+        let index = variable(tokens, variables)?;
+        indices.push(index)?;
+    }
+    Ok(indices)
 }

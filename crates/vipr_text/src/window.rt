@@ -1,8 +1,9 @@
-ghost use Rattle.std.specs.Prelude.{◌≡◌, ℕ, ◌+◌, ◌-◌, ◌^◌, ◌<◌, ◌≤◌, min, Bool, true, false, List, ◌∷◌, ◌++◌, length, drop, slice_index, Option, Some, None, Ok, Err, IfOk, IfSome, IfErr, IfNone, IsErrOf, ◌↔◌, take, OnOk, OnErr, slice_range};
+ghost use Rattle.std.specs.Prelude.{◌≡◌, ℕ, ◌+◌, ◌-◌, ◌^◌, ◌<◌, ◌≤◌, min, Bool, true, false, List, ◌∷◌, ◌++◌, length, drop, slice_index, Option, Some, None, Ok, Err, IfOk, IfSome, IfErr, IfNone, IsErrOf, ◌↔◌, take, OnOk, OnErr, slice_range, ◌≢◌};
 ghost use Rattle.vipr_spec.specs.Input.{Input};
 ghost use Rattle.vipr_spec.specs.Tokens.{tokens, is_white, IsToken};
 
 use crate::bytes::{is_white, run_end};
+use crate::causes;
 use crate::error::TextError;
 use crate::piece::{move_to_front, read_behind};
 use crate::place::{Place, gap};
@@ -25,7 +26,7 @@ pub(crate) struct Window<R> {
     pub(crate) buf: Box<[u8; 65536]>,
     start: usize,
     end: usize,
-    pub(crate) offset: u64,
+    offset: u64,
     place: Place,
     ended: bool,
     pub(crate) spent: bool,
@@ -38,7 +39,9 @@ impl<R: Source> Window<R> {
     ghost use Rattle.std.specs.Io.BufRead.{Rests};
     ghost use Rattle.vipr_text.specs.contracts.window.Window.{the_row};
     ghost use Rattle.vipr_text.specs.Places.{tokens_in};
-    ghost use Rattle.vipr_text.specs.View.{unread, input_left, left, rounds, Keeps, IsOver, IsAtToken, seen_found, answer_of, next_left, seen, stops};
+    ghost use Rattle.vipr_text.specs.View.{unread, input_left, left, rounds, Keeps, IsOver, IsAtToken, seen_found, answer_of, next_left, seen, stops, found_token};
+    ghost use Rattle.vipr_text.specs.Giving.{Tells};
+    ghost use Rattle.vipr_spec.specs.Reading.{token_read};
 
     /// A reader at the start of the text. Where there is no memory, nothing was read.
     pub(crate) fn new(alloc: Global, source: R) -> Result<Window<R>, AllocError>
@@ -207,5 +210,31 @@ impl<R: Source> Window<R> {
         let n = self.measure()?;
         let found = self.take_token(n);
         Ok(Some(found))
+    }
+
+    /// Takes the token that is wanted here.
+    #[tactic(auto, unfolding(vipr_spec::specs::Reading::first_token))]
+    pub(crate) fn want(&mut self) -> Result<Found, TextError>
+        requires { self.old.spent ≡ false }
+        ensures read { IfSome (left R.input self.old) (λ l. Tells (found_token self.new.buf.value) result (next_left l) (token_read l)) }
+        ensures left { OnOk result (IfSome (left R.input self.old) (λ l. left R.input self.new ≡ Some (next_left l))) }
+        ensures unspent { OnOk result (self.new.spent ≡ false) }
+        ensures within { IfOk result (λ f. f.start + f.len ≤ 65536) }
+        ensures token { IfOk result (λ f. IsToken (slice_range self.new.buf.value f.start (f.start + f.len))) }
+        ensures error { IfErr result (λ e. (e ≢ TextError.Spent) × (e ≢ TextError.Memory)) }
+    {
+        let Some(found) = self.advance()? else {
+            return Err(TextError::Refused {
+                cause: causes::TRUNCATED,
+                offset: self.offset,
+            });
+        };
+        if found.long {
+            return Err(TextError::Refused {
+                cause: causes::TOKEN_TOO_LONG,
+                offset: found.offset,
+            });
+        }
+        Ok(found)
     }
 }

@@ -12,7 +12,7 @@ returns g c = (
     token = rw c.deref.ensures (rw c.in-Some.is at c.in_ok-found.ensures.token);
     error = tt;
     answer = λ unspent told.
-        rw c.deref.ensures (told_holds _ c.self.inside.window.spent c.self.inside.window.offset (left g.R.Source.input c.self.inside.window) (λ (l : Rest). Ok (Some (seen_found c.advance.new.self.buf.value c.in-Some.found)) ≡ answer_of l)
+        rw c.deref.ensures (told_holds _ c.self.inside.window.spent (left g.R.Source.input c.self.inside.window) (λ (l : Rest). Ok (Some (seen_found c.advance.new.self.buf.value c.in-Some.found)) ≡ answer_of l)
         (sym c.self.view_is) (rw c.in-Some.is at c.in_ok-found.ensures.answer) told);
     after = tt;
   },
