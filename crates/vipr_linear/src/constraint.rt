@@ -4,6 +4,7 @@ ghost use Rattle.vipr_spec.specs.Constraint.{Compares, IsAbsurd, Dominates};
 ghost use Rattle.vipr_linear.specs.Constraint.{sense_of, condition_of, SaysAsMuch};
 
 use crate::row::Row;
+use std::alloc::AllocError;
 use vipr_frac::Frac;
 
 /// How a row compares with its right-hand side.
@@ -23,6 +24,20 @@ pub struct Constraint {
     pub row: Row,
     pub sense: Sense,
     pub rhs: Frac,
+}
+
+impl Clone for Constraint {
+    ghost use Rattle.std.specs.Prelude.{◌≡◌};
+
+    ghost is_clone = { λ c copy. copy ≡ c };
+
+    fn clone(&self) -> Result<Constraint, AllocError> {
+        Ok(Constraint {
+            row: self.row.clone()?,
+            sense: self.sense,
+            rhs: self.rhs,
+        })
+    }
 }
 
 impl Constraint {

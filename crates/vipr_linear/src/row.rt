@@ -36,6 +36,18 @@ impl Model for Row {
     ghost invariant = { λ a. RisesFrom 0 a.entries.items };
 }
 
+impl Clone for Row {
+    ghost use Rattle.std.specs.Prelude.{◌≡◌};
+
+    ghost is_clone = { λ row copy. copy ≡ row };
+
+    fn clone(&self) -> Result<Row, AllocError> {
+        Ok(Row {
+            entries: self.entries.clone()?,
+        })
+    }
+}
+
 /// Why pairs are no row.
 #[derive(Clone, Copy, Debug, PartialEq, Eq)]
 pub enum RowError {
