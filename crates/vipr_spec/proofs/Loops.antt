@@ -18,7 +18,7 @@ value_gap a (suc b) row x h z = ⊎_elim
     ∙ ap (λ c. value a row x +ℚ c) (zero-mul_ℚ (x b)) ∙ add-zero_ℚ (value a row x))
     (eq-or-lt_of_le h)
 
-zero_bounded : IsBounded zero_ℚ
+pub zero_bounded : IsBounded zero_ℚ
 unfolding over gcd
 zero_bounded = (lit≤ tt, lit≤ tt)
 

@@ -13,6 +13,7 @@ pub mod numbers;
 pub mod one_pass;
 pub mod progress;
 pub mod proof_tests;
+pub mod sums;
 pub mod texts;
 pub mod verdict;
 pub mod worked_examples;
