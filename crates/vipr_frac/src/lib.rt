@@ -4,6 +4,8 @@
 mod frac;
 mod gcd;
 mod number;
+#[cfg(test)]
+mod tests;
 
 pub use frac::{Frac, FracError, Overflow};
 pub use number::NumberError;
