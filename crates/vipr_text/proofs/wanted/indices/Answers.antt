@@ -13,7 +13,7 @@ returns-in_err-index-clause-read g c told =
 
 pub returns-clause-read : goal.returns-clause-read
 returns-clause-read g c told = (
-  all_read (taken (variable_of c.args.variables)) c.loop.indices.items c.args.count c.loop.counter c.loop.tokens.left
+  is_done (taken (variable_of c.args.variables)) c.loop.indices.items c.args.count c.loop.counter c.loop.tokens.left
       (repeated (taken (variable_of c.args.variables)) c.args.count c.args.tokens.now.left) (omega arith) (c.loop.invariant.read told),
   c.loop.invariant.told told,
 )
