@@ -5,6 +5,7 @@
 pub mod arithmetic;
 pub mod assumption_sets;
 pub mod best_values;
+pub mod checking;
 pub mod claims;
 pub mod consequences;
 pub mod dual_side;
