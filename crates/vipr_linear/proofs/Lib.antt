@@ -3,3 +3,4 @@ pub mod Sets
 pub mod Marks
 pub mod Adding
 pub mod Collecting
+pub mod StepByStep

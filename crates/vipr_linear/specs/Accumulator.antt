@@ -7,7 +7,7 @@ use Rattle.std.specs.declared.cmp.Ordering.{Ordering}
 use Rattle.std.specs.declared.cmp.Ordering.TheVariants.{Less, Equal, Greater}
 use Rattle.std.proofs.Common.{refl}
 use Rattle.vipr_spec.specs.Fraction.{ℚ, coded_ℚ, zero_ℚ, ◌+ℚ◌, ◌*ℚ◌, ProductFits, SumFits}
-use Rattle.vipr_spec.specs.Constraint.{Sense, at_most, equal, at_least, Row, at, Entry}
+use Rattle.vipr_spec.specs.Constraint.{Sense, at_most, equal, at_least, Row, at, Entry, sum_over, HasSense, SumOfFits}
 use Rattle.vipr_linear.specs.Row.{HasNoZeros}
 
 -- the partial sum of each variable and of the right-hand sides, the sense of the sum so far, and whether an error came
@@ -84,6 +84,18 @@ with_entry a e = record {
 -- the row has no variable from n on
 abbrev pub NamesBelow : ℕ → (ℕ → ℚ) → Type 0
 NamesBelow n row = (j : ℕ) → n ≤ j → row j ≡ zero_ℚ
+
+abbrev pub IsSuitable : List Entry → Type 0
+IsSuitable es = (s : Sense) × HasSense es s
+
+-- the entries were added to nothing, in this order
+pub record Holds (n : ℕ) (es : List Entry) (a : Accumulator) : Type 0 where
+  pub variables : length a.sums ≡ n
+  pub fresh : a.spent ≡ false
+  pub row_is : (j : ℕ) → sum_at a j ≡ sum_over (λ e. e.0 *ℚ e.1.row j) es
+  pub bound_is : a.bound ≡ sum_over (λ e. e.0 *ℚ e.1.bound) es
+  pub sense_is : HasSense es a.sense
+  pub fits : SumOfFits es
 
 -- after an error, over n variables
 pub record IsSpent (n : ℕ) (a : Accumulator) : Type 0 where
