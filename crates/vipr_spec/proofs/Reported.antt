@@ -1,13 +1,14 @@
 -- What is reported, and that a text has one answer
-use Rattle.std.proofs.Common.{◌≡◌, ℕ, [], ◌∷◌, Option, Some, None, All, MatchOption, inl, inr, arith, refl, sym, ◌∙◌, ap, subst}
+use Rattle.std.proofs.Common.{◌≡◌, ℕ, [], ◌∷◌, Option, Some, None, MatchOption, inl, inr, arith, refl, sym, ◌∙◌, ap, subst, ◌⊎◌}
 use Rattle.std.specs.Prelude.{IsSome}
-use Rattle.vipr_spec.specs.Certificate.{Reason, asm, lin, rnd, uns, sol, Derivation, Certificate, NeedsGoal, IsGoal}
+use Rattle.vipr_spec.specs.Certificate.{Derivation, Certificate, NeedsGoal, IsGoal}
 use Rattle.vipr_spec.specs.Reading.{Rest, Fault, refused, unread}
 use Rattle.vipr_spec.specs.OnePass.{GoalIs, IsGoodNext}
 use Rattle.vipr_spec.specs.Verdict.{built, all_step_tests, step_tests, FirstFailing, Test, spelled, of_solution, meets_primal, of_step, meets_dual, is_built, Passes, found_in, Report, Reports, Answer, verified, told_by, IsToldBy, IsAnswer}
-use Rattle.vipr_spec.specs.Progress.{PassesNext}
+use Rattle.vipr_spec.specs.Progress.{PassesNext, IsSum}
 use Rattle.vipr_spec.proofs.Steps.{goal_needed}
 use Rattle.vipr_spec.proofs.FirstFailing.{failing_unique, none_all}
+use Rattle.vipr_spec.proofs.StepTests.{built_or_not}
 use Rattle.vipr_spec.proofs.GoodTests.{next_passes}
 
 -- ---- the goal
@@ -60,15 +61,12 @@ told_not_verified (is_built place) report e = cc
 -- ---- the next derivation, of the reasons that are built
 
 pub built_good : (c : Certificate) (d : Derivation) → FirstFailing (PassesNext c d) (step_tests d.reason) None → IsGoodNext c d
-built_good c d h = by d.reason refl h
+built_good c d h = by (built_or_not d.reason)
   where
     unbuilt : FirstFailing (PassesNext c d) (built ∷ []) None → ⊥
     unbuilt (inl x) = x.0
     unbuilt (inr x) = cc
 
-    by : (r : Reason) → d.reason ≡ r → FirstFailing (PassesNext c d) (step_tests r) None → IsGoodNext c d
-    by (lin es) e f = (next_passes c d).0 (subst (λ r. All (PassesNext c d) (all_step_tests r)) (sym e) (none_all (PassesNext c d) (step_tests (lin es)) f))
-    by asm e f = absurd (unbuilt f)
-    by (rnd es) e f = absurd (unbuilt f)
-    by (uns i1 l1 i2 l2) e f = absurd (unbuilt f)
-    by sol e f = absurd (unbuilt f)
+    by : ((step_tests d.reason ≡ all_step_tests d.reason) × IsSum d.reason) ⊎ ((step_tests d.reason ≡ built ∷ []) × ¬ IsSum d.reason) → IsGoodNext c d
+    by (inl e) = (next_passes c d).0 (none_all (PassesNext c d) (all_step_tests d.reason) (subst (λ ts. FirstFailing (PassesNext c d) ts None) e.0 h))
+    by (inr e) = absurd (unbuilt (subst (λ ts. FirstFailing (PassesNext c d) ts None) e.0 h))

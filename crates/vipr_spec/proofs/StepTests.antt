@@ -1,5 +1,5 @@
 -- The tests of a step look at the derivations up to it alone
-use Rattle.std.proofs.Common.{◌≡◌, ℕ, ◌<◌, ◌≤◌, Bool, true, false, List, [], ◌∷◌, ◌++◌, Option, Some, All, arith, refl, sym, ◌∙◌, ap, ap₂, subst, append_assoc, length}
+use Rattle.std.proofs.Common.{◌≡◌, ℕ, ◌<◌, ◌≤◌, Bool, true, false, List, [], ◌∷◌, ◌++◌, Option, Some, All, arith, refl, sym, ◌∙◌, ap, ap₂, subst, append_assoc, length, ◌⊎◌, inl, inr}
 use Rattle.std.specs.Prelude.{◌↔◌, flat_map, IsTrue, if◌then◌else◌}
 use Rattle.std.proofs.lemmas.List.Elements.{All-nil, All-cons, All-head, All-tail, All-append}
 use Rattle.vipr_spec.specs.Fraction.{ℚ}
@@ -8,7 +8,7 @@ use Rattle.vipr_spec.specs.Certificate.{Named, Certificate, Derivation, Reason, 
 use Rattle.vipr_spec.specs.Reading.{is_nonzero}
 use Rattle.vipr_spec.specs.OnePass.{with_more, with_next}
 use Rattle.vipr_spec.specs.Verdict.{StepTest, earlier, live, assumed, suitable, fitting, roundable, split, listed, by_sum, by_rounding, by_constraint, by_cutoff, built, PassesStep, FirstFailing, reference_tests, entry_tests, sum_tests, all_step_tests, step_tests}
-use Rattle.vipr_spec.specs.Progress.{LooksBefore, PassesNext}
+use Rattle.vipr_spec.specs.Progress.{LooksBefore, PassesNext, IsSum}
 use Rattle.vipr_spec.proofs.Prefix.{constraint_before, reason_before, count_next, entries_before, constraint_next}
 use Rattle.vipr_spec.proofs.Held.{live_before}
 use Rattle.vipr_spec.proofs.FirstFailing.{Agree, agree_iff, agree_append, all_parts}
@@ -181,14 +181,22 @@ pub tests_next : (c : Certificate) (d : Derivation) (ds : List Derivation) (r : 
     → FirstFailing (PassesStep (with_more c (d ∷ ds)) (count c)) (all_step_tests r) f ↔ FirstFailing (PassesNext c d) (all_step_tests r) f
 tests_next c d ds r f = agree_iff _ _ (all_step_tests r) f (steps_agree (count c) (PassesStep (with_more c (d ∷ ds)) (count c)) (PassesNext c d) (λ i l. l) (next_more c d ds) r)
 
--- the same of the reasons that are built
-not_built : (c : Certificate) (d : Derivation) (ds : List Derivation) (f : Option StepTest) → FirstFailing (PassesStep (with_more c (d ∷ ds)) (count c)) (built ∷ []) f ↔ FirstFailing (PassesNext c d) (built ∷ []) f
-not_built c d ds f = agree_iff (PassesStep (with_more c (d ∷ ds)) (count c)) (PassesNext c d) (built ∷ []) f ((λ h. h, λ h. h), λ h. tt)
+-- ---- the reasons that are built
+
+pub built_or_not : (r : Reason) → ((step_tests r ≡ all_step_tests r) × IsSum r) ⊎ ((step_tests r ≡ built ∷ []) × ¬ IsSum r)
+built_or_not (lin es) = inl (refl, tt)
+built_or_not asm = inr (refl, λ h. h)
+built_or_not (rnd es) = inr (refl, λ h. h)
+built_or_not (uns i1 l1 i2 l2) = inr (refl, λ h. h)
+built_or_not sol = inr (refl, λ h. h)
+
+abbrev SameFailing : Certificate → Derivation → List Derivation → Option StepTest → List StepTest → Type 0
+SameFailing c d ds f ts = FirstFailing (PassesStep (with_more c (d ∷ ds)) (count c)) ts f ↔ FirstFailing (PassesNext c d) ts f
 
 pub built_tests_next : (c : Certificate) (d : Derivation) (ds : List Derivation) (r : Reason) (f : Option StepTest)
     → FirstFailing (PassesStep (with_more c (d ∷ ds)) (count c)) (step_tests r) f ↔ FirstFailing (PassesNext c d) (step_tests r) f
-built_tests_next c d ds (lin es) f = tests_next c d ds (lin es) f
-built_tests_next c d ds asm f = not_built c d ds f
-built_tests_next c d ds (rnd es) f = not_built c d ds f
-built_tests_next c d ds (uns i1 l1 i2 l2) f = not_built c d ds f
-built_tests_next c d ds sol f = not_built c d ds f
+built_tests_next c d ds r f = by (built_or_not r)
+  where
+    by : ((step_tests r ≡ all_step_tests r) × IsSum r) ⊎ ((step_tests r ≡ built ∷ []) × ¬ IsSum r) → SameFailing c d ds f (step_tests r)
+    by (inl e) = subst (SameFailing c d ds f) (sym e.0) (tests_next c d ds r f)
+    by (inr e) = subst (SameFailing c d ds f) (sym e.0) (agree_iff (PassesStep (with_more c (d ∷ ds)) (count c)) (PassesNext c d) (built ∷ []) f ((λ h. h, λ h. h), λ h. tt))

@@ -1,9 +1,9 @@
 -- A text is verified exactly where it is read as a proof
-use Rattle.std.proofs.Common.{◌≡◌, ℕ, zero, suc, List, [], ◌∷◌, ◌++◌, length, map, Option, Some, None, Result, Ok, Err, All, Contains, refl, sym, ◌∙◌, ap, ap₂, subst, zero-lt-suc}
+use Rattle.std.proofs.Common.{◌≡◌, ℕ, zero, suc, List, [], ◌∷◌, ◌++◌, length, map, Option, Some, None, Result, Ok, Err, All, Contains, refl, sym, ◌∙◌, ap, ap₂, subst, zero-lt-suc, inl, inr}
 use Rattle.std.specs.Prelude.{◌↔◌}
 use Rattle.std.proofs.lemmas.List.Elements.{All-nil, All-cons, All-head, All-tail, All-contains, Contains-append_right}
 use Rattle.vipr_spec.specs.Constraint.{Row}
-use Rattle.vipr_spec.specs.Certificate.{Named, Problem, Claim, infeasible, range, Reason, asm, lin, rnd, uns, sol, Derivation, Certificate, IsProof}
+use Rattle.vipr_spec.specs.Certificate.{Named, Problem, Claim, infeasible, range, Reason, Derivation, Certificate, IsProof}
 use Rattle.vipr_spec.specs.Reading.{Rest, Fault, Read, ◌>>=◌, repeated, problem_read, solution_read, derivations_read, derivation_read, end_read, certificate_read}
 use Rattle.vipr_spec.specs.Grammar.{Spells}
 use Rattle.vipr_spec.specs.GrammarLaws.{whole_text}
@@ -13,6 +13,7 @@ use Rattle.vipr_spec.specs.Progress.{IsSum, IsBuilt}
 use Rattle.vipr_spec.proofs.FirstFailing.{none_all, all_none, all_parts}
 use Rattle.vipr_spec.proofs.AllTests.{proof_of_tests, tests_of_proof}
 use Rattle.vipr_spec.proofs.GrammarWhole.{reads_texts}
+use Rattle.vipr_spec.proofs.StepTests.{built_or_not}
 use Rattle.vipr_spec.proofs.Reported.{told_not_verified}
 
 -- ---- reading all items, and reading them up to a fault
@@ -117,11 +118,7 @@ same_steps k [] a = refl
 same_steps k (d ∷ ds) a = ap₂ (λ x y. x ++ y) (by d.reason (All-head (λ d. IsSum d.reason) d ds a)) (same_steps (suc k) ds (All-tail (λ d. IsSum d.reason) d ds a))
   where
     by : (r : Reason) → IsSum r → map (of_step k) (step_tests r) ≡ map (of_step k) (all_step_tests r)
-    by (lin es) s = refl
-    by asm s = absurd s
-    by (rnd es) s = absurd s
-    by (uns i1 l1 i2 l2) s = absurd s
-    by sol s = absurd s
+    by r s = elim (built_or_not r) [ inl e ↦ ap (map (of_step k)) e.0 | inr e ↦ absurd (e.1 s) ]
 
 sums_of : (c : Certificate) (k : ℕ) (ds : List Derivation) → All (Passes c) (built_steps k ds) → All (λ d. IsSum d.reason) ds
 unfolding numbered
@@ -131,11 +128,7 @@ sums_of c k (d ∷ ds) a =
     All-cons (λ d. IsSum d.reason) d ds (by d.reason p.0) (sums_of c (suc k) ds p.1)
   where
     by : (r : Reason) → All (Passes c) (map (of_step k) (step_tests r)) → IsSum r
-    by (lin es) s = tt
-    by asm s = All-head (Passes c) (of_step k built) [] s
-    by (rnd es) s = All-head (Passes c) (of_step k built) [] s
-    by (uns i1 l1 i2 l2) s = All-head (Passes c) (of_step k built) [] s
-    by sol s = All-head (Passes c) (of_step k built) [] s
+    by r s = elim (built_or_not r) [ inl e ↦ e.1 | inr e ↦ absurd (All-head (Passes c) (of_step k built) [] (subst (λ ts. All (Passes c) (map (of_step k) ts)) e.0 s)) ]
 
 opening_none : (p : Problem) (ss : List (Named Row)) → p.claim ≡ infeasible → ss ≡ [] → opening_tests p ss ≡ []
 unfolding numbered
