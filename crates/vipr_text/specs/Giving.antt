@@ -23,6 +23,16 @@ abbrev pub Gives : {X Y : Type 0} → (X → Y) → Result X TextError → Readi
 Gives view (Ok x) new r = (r ≡ Ok (view x, new.left)) × (new.told ≡ true)
 Gives view (Err e) new r = Fails e r
 
+-- the same of a value that has the reader in it
+abbrev pub GivesFrom : {X Y : Type 0} → (X → Y) → (X → Reading) → Result X TextError → Read Y → Type 0
+GivesFrom view reader (Ok x) r = (r ≡ Ok (view x, (reader x).left)) × ((reader x).told ≡ true)
+GivesFrom view reader (Err e) r = Fails e r
+
+-- the text ended, or has the fault of the reading there
+abbrev pub Ends : Result (Unit {0}) TextError → Result (Unit {0}) Fault → Type 0
+Ends (Ok done) r = r ≡ Ok tt
+Ends (Err e) r = Fails e r
+
 -- items in front of those that are read
 abbrev pub with_front : {A : Type 0} → List A → Read (List A) → Read (List A)
 with_front front read = read >>= λ xs. Ok (front ++ xs.0, xs.1)

@@ -4,3 +4,5 @@ pub mod Follows
 pub mod Giving
 pub mod Items
 pub mod Rules
+pub mod Readers
+pub mod ItemsCode

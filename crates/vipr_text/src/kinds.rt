@@ -4,10 +4,14 @@ ghost use Rattle.std.specs.Option.{option_map};
 ghost use Rattle.vipr_spec.specs.Digits.{natural_of};
 ghost use Rattle.vipr_text.specs.Giving.{viewed};
 ghost use Rattle.vipr_text.specs.Rules.{rule_seen};
-ghost use Rattle.vipr_spec.specs.Reading.{at_most_or, count_of, derivation_count_of, variable_of, reference_of, last_of, word_of, rule_of, number_of};
+ghost use Rattle.vipr_linear.specs.Constraint.{sense_of as sense_seen};
+ghost use Rattle.vipr_text.specs.Items.{direction_of as direction_seen};
+ghost use Rattle.vipr_spec.specs.Reading.{at_most_or, count_of, derivation_count_of, variable_of, reference_of, last_of, word_of, rule_of, number_of, sense_of, direction_of, has_range_of, bound_of};
 
 use crate::causes;
+use crate::items::Goal;
 use vipr_frac::{Frac, NumberError};
+use vipr_linear::Sense;
 
 /// The rule of a reason, before what belongs to it is read.
 #[derive(Clone, Copy, Debug, PartialEq, Eq)]
@@ -145,5 +149,63 @@ pub(crate) fn number(bytes: &[u8]) -> Result<Frac, u8>
         Err(NumberError::Bad) => Err(causes::BAD_NUMBER),
         Err(NumberError::TooLarge) => Err(causes::NUMBER_TOO_LARGE),
         Err(NumberError::ZeroDenominator) => Err(causes::ZERO_DENOMINATOR),
+    }
+}
+
+/// A sense.
+#[tactic(auto, unfolding(vipr_spec::specs::Reading::sense_of))]
+pub(crate) fn sense(bytes: &[u8]) -> Result<Sense, u8>
+    ensures { viewed sense_seen result ≡ sense_of bytes.now }
+{
+    if bytes == b"E".as_slice() {
+        Ok(Sense::E)
+    } else if bytes == b"L".as_slice() {
+        Ok(Sense::L)
+    } else if bytes == b"G".as_slice() {
+        Ok(Sense::G)
+    } else {
+        Err(causes::BAD_SENSE)
+    }
+}
+
+/// Whether the objective is to be small or large.
+#[tactic(auto, unfolding(vipr_spec::specs::Reading::direction_of))]
+pub(crate) fn goal(bytes: &[u8]) -> Result<Goal, u8>
+    ensures { viewed direction_seen result ≡ direction_of bytes.now }
+{
+    if bytes == b"min".as_slice() {
+        Ok(Goal::Min)
+    } else if bytes == b"max".as_slice() {
+        Ok(Goal::Max)
+    } else {
+        Err(causes::BAD_OBJECTIVE_SENSE)
+    }
+}
+
+/// Whether the claim is a range.
+#[tactic(auto, unfolding(vipr_spec::specs::Reading::has_range_of))]
+pub(crate) fn has_range(bytes: &[u8]) -> Result<bool, u8>
+    ensures { result ≡ has_range_of bytes.now }
+{
+    if bytes == b"infeas".as_slice() {
+        Ok(false)
+    } else if bytes == b"range".as_slice() {
+        Ok(true)
+    } else {
+        Err(causes::BAD_CLAIM)
+    }
+}
+
+/// A bound of the claim, `None` where it is spelled as `infinite`.
+#[tactic(auto, unfolding(vipr_spec::specs::Reading::bound_of))]
+pub(crate) fn bound(infinite: &[u8], bytes: &[u8]) -> Result<Option<Frac>, u8>
+    ensures { result ≡ bound_of infinite.now bytes.now }
+{
+    if bytes == infinite {
+        return Ok(None);
+    }
+    match number(bytes) {
+        Ok(bound) => Ok(Some(bound)),
+        Err(cause) => Err(cause),
     }
 }

@@ -3,6 +3,7 @@
 
 mod bytes;
 mod causes;
+mod claims;
 mod error;
 mod items;
 mod kinds;

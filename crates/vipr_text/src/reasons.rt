@@ -1,5 +1,5 @@
 //! Reads the reasons of derivations.
-ghost use Rattle.std.specs.Prelude.{◌≡◌, true, false, OnOk};
+ghost use Rattle.std.specs.Prelude.{◌≡◌, ◌≢◌, true, false, OnOk, IfErr};
 ghost use Rattle.vipr_spec.specs.Reading as reading;
 ghost use Rattle.vipr_text.specs.Giving.{Gives};
 ghost use Rattle.vipr_text.specs.Items.{reason_of};
@@ -19,6 +19,7 @@ use vipr_frac::Frac;
 fn entry<R: Source>(tokens: &mut Tokens<R>) -> Result<(u32, Frac), TextError>
     requires { tokens.old.spent ≡ false }
     ensures unspent { OnOk result (tokens.new.spent ≡ false) }
+    ensures error { IfErr result (λ e. e ≢ TextError.Spent) }
     ensures read { tokens.old.told ≡ true → Gives (λ e. e) result tokens.new (reading.entry_read tokens.old.left) }
 {
     let index = wanted::reference(tokens)?;
@@ -34,6 +35,7 @@ fn entries_of<R: Source>(
 ) -> Result<Vec<(u32, Frac)>, TextError>
     requires { tokens.old.spent ≡ false }
     ensures unspent { OnOk result (tokens.new.spent ≡ false) }
+    ensures error { IfErr result (λ e. e ≢ TextError.Spent) }
     ensures read { tokens.old.told ≡ true → Gives (λ v. v.items) result tokens.new (reading.repeated reading.entry_read count tokens.old.left) }
 {
     let mut entries = Vec::new(alloc);
@@ -49,6 +51,7 @@ fn entries_of<R: Source>(
 fn entries<R: Source>(alloc: Global, tokens: &mut Tokens<R>) -> Result<Vec<(u32, Frac)>, TextError>
     requires { tokens.old.spent ≡ false }
     ensures unspent { OnOk result (tokens.new.spent ≡ false) }
+    ensures error { IfErr result (λ e. e ≢ TextError.Spent) }
     ensures read { tokens.old.told ≡ true → Gives (λ v. v.items) result tokens.new (reading.entries_read tokens.old.left) }
 {
     let count = wanted::count(tokens)?;
@@ -60,6 +63,7 @@ fn entries<R: Source>(alloc: Global, tokens: &mut Tokens<R>) -> Result<Vec<(u32,
 fn branches<R: Source>(tokens: &mut Tokens<R>) -> Result<Reason, TextError>
     requires { tokens.old.spent ≡ false }
     ensures unspent { OnOk result (tokens.new.spent ≡ false) }
+    ensures error { IfErr result (λ e. e ≢ TextError.Spent) }
     ensures read { tokens.old.told ≡ true → Gives reason_of result tokens.new (reading.by_read reading.by_uns tokens.old.left) }
 {
     let i1 = wanted::reference(tokens)?;
@@ -74,6 +78,7 @@ fn branches<R: Source>(tokens: &mut Tokens<R>) -> Result<Reason, TextError>
 fn by<R: Source>(alloc: Global, tokens: &mut Tokens<R>, rule: Rule) -> Result<Reason, TextError>
     requires { tokens.old.spent ≡ false }
     ensures unspent { OnOk result (tokens.new.spent ≡ false) }
+    ensures error { IfErr result (λ e. e ≢ TextError.Spent) }
     ensures read { tokens.old.told ≡ true → Gives reason_of result tokens.new (reading.by_read (rule_seen rule) tokens.old.left) }
 {
     match rule {
@@ -96,6 +101,7 @@ fn by<R: Source>(alloc: Global, tokens: &mut Tokens<R>, rule: Rule) -> Result<Re
 pub(crate) fn reason<R: Source>(alloc: Global, tokens: &mut Tokens<R>) -> Result<Reason, TextError>
     requires { tokens.old.spent ≡ false }
     ensures unspent { OnOk result (tokens.new.spent ≡ false) }
+    ensures error { IfErr result (λ e. e ≢ TextError.Spent) }
     ensures read { tokens.old.told ≡ true → Gives reason_of result tokens.new (reading.reason_read tokens.old.left) }
 {
     wanted::word(tokens, b"{", causes::BAD_BRACE)?;

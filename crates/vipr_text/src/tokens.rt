@@ -95,4 +95,18 @@ impl<R: Source> Tokens<R> {
             long: found.long,
         })
     }
+
+    /// Whether an error came before.
+    pub(crate) fn is_spent(&self) -> bool
+        ensures { result ≡ self.now.spent }
+    {
+        self.window.spent
+    }
+
+    /// Reads no more.
+    pub(crate) fn spend(&mut self)
+        ensures { self.new ≡ record self.old { spent = true } }
+    {
+        self.window.spent = true;
+    }
 }

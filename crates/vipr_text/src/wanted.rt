@@ -7,16 +7,19 @@ ghost use Rattle.vipr_spec.specs.Reading as reading;
 ghost use Rattle.vipr_spec.specs.Tokens.{IsToken};
 ghost use Rattle.vipr_text.specs.Giving.{Gives, IsTaken, IsMeaning};
 ghost use Rattle.vipr_text.specs.Rules.{rule_seen};
+ghost use Rattle.vipr_linear.specs.Constraint.{sense_of as sense_seen};
+ghost use Rattle.vipr_text.specs.Items.{direction_of as direction_seen};
 ghost use Rattle.vipr_text.specs.View.{seen_token};
 ghost use Rattle.vipr_text.specs.contracts.tokens.Tokens.{the_row};
 
 use crate::error::TextError;
-use crate::items::Name;
+use crate::items::{Goal, Name};
 use crate::kinds::{self, Rule};
 use crate::tokens::Tokens;
 use std::alloc::Global;
 use vipr_bytes::Source;
 use vipr_frac::Frac;
+use vipr_linear::Sense;
 
 /// What the next token means, where `kind` says what its bytes mean or the cause of their refusal.
 fn taken<R: Source, T, F: FnOnce(&[u8]) -> Result<T, u8>>(
@@ -180,4 +183,47 @@ pub(crate) fn indices<R: Source>(
         indices.push(index)?;
     }
     Ok(indices)
+}
+
+/// A sense.
+pub(crate) fn sense<R: Source>(tokens: &mut Tokens<R>) -> Result<Sense, TextError>
+    requires { tokens.old.spent ≡ false }
+    ensures unspent { OnOk result (tokens.new.spent ≡ false) }
+    ensures error { IfErr result (λ e. (e ≢ TextError.Spent) × (e ≢ TextError.Memory)) }
+    ensures read { tokens.old.told ≡ true → Gives (sense_seen) result tokens.new (reading.taken reading.sense_of tokens.old.left) }
+{
+    taken(tokens, kinds::sense)
+}
+
+/// Whether the objective is to be small or large.
+pub(crate) fn goal<R: Source>(tokens: &mut Tokens<R>) -> Result<Goal, TextError>
+    requires { tokens.old.spent ≡ false }
+    ensures unspent { OnOk result (tokens.new.spent ≡ false) }
+    ensures error { IfErr result (λ e. (e ≢ TextError.Spent) × (e ≢ TextError.Memory)) }
+    ensures read { tokens.old.told ≡ true → Gives (direction_seen) result tokens.new (reading.taken reading.direction_of tokens.old.left) }
+{
+    taken(tokens, kinds::goal)
+}
+
+/// Whether the claim is a range.
+pub(crate) fn has_range<R: Source>(tokens: &mut Tokens<R>) -> Result<bool, TextError>
+    requires { tokens.old.spent ≡ false }
+    ensures unspent { OnOk result (tokens.new.spent ≡ false) }
+    ensures error { IfErr result (λ e. (e ≢ TextError.Spent) × (e ≢ TextError.Memory)) }
+    ensures read { tokens.old.told ≡ true → Gives (λ n. n) result tokens.new (reading.taken reading.has_range_of tokens.old.left) }
+{
+    taken(tokens, kinds::has_range)
+}
+
+/// A bound of the claim, `None` where it is spelled as `infinite`.
+pub(crate) fn bound<R: Source>(
+    tokens: &mut Tokens<R>,
+    infinite: &[u8],
+) -> Result<Option<Frac>, TextError>
+    requires { tokens.old.spent ≡ false }
+    ensures unspent { OnOk result (tokens.new.spent ≡ false) }
+    ensures error { IfErr result (λ e. (e ≢ TextError.Spent) × (e ≢ TextError.Memory)) }
+    ensures read { tokens.old.told ≡ true → Gives (λ n. n) result tokens.new (reading.taken (reading.bound_of infinite.now) tokens.old.left) }
+{
+    taken(tokens, |bytes| kinds::bound(infinite, bytes))
 }
