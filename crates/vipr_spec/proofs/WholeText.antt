@@ -7,10 +7,10 @@ use Rattle.vipr_spec.specs.Certificate.{Named, Problem, Claim, infeasible, range
 use Rattle.vipr_spec.specs.Reading.{Rest, Fault, Read, ◌>>=◌, repeated, problem_read, solution_read, derivations_read, derivation_read, end_read, certificate_read}
 use Rattle.vipr_spec.specs.Grammar.{Spells}
 use Rattle.vipr_spec.specs.GrammarLaws.{whole_text}
-use Rattle.vipr_spec.specs.Verdict.{built, all_step_tests, step_tests, solution_tests, of_solution, FirstFailing, at_solution, at_end, Test, spelled, meets_primal, of_step, meets_dual, is_built, Passes, before_items, items_read, Found, numbered, tests_of_derivation, last_tests, derivations_found, ending_found, claim_tests, problem_found, found_in, Report, Reports, verified, IsToldBy, IsAnswer}
+use Rattle.vipr_spec.specs.Verdict.{built, all_step_tests, step_tests, solution_tests, of_solution, FirstFailing, at_solution, at_end, Test, spelled, meets_primal, of_step, meets_dual, is_built, Passes, before_items, items_read, Found, numbered, tests_of_derivation, last_tests, derivations_found, ending_found, claim_tests, problem_found, found_in, Report, Reports, Answer, verified, IsToldBy, IsAnswer}
 use Rattle.vipr_spec.specs.ProofTests.{proof_tests}
 use Rattle.vipr_spec.specs.Progress.{IsSum, IsBuilt}
-use Rattle.vipr_spec.proofs.FirstFailing.{none_all, all_none, all_parts}
+use Rattle.vipr_spec.proofs.FirstFailing.{none_all, all_none, all_parts, failing_unique}
 use Rattle.vipr_spec.proofs.AllTests.{proof_of_tests, tests_of_proof}
 use Rattle.vipr_spec.proofs.GrammarWhole.{reads_texts}
 use Rattle.vipr_spec.proofs.StepTests.{built_or_not}
@@ -194,3 +194,16 @@ verified_text bytes report = (
   λ h. let v = (verified_read (whole_text bytes) report).0 h in (v.0, (reads_texts bytes v.0).0 v.1, v.2, v.3, v.4),
   λ v. (verified_read (whole_text bytes) report).1 (v.0, (reads_texts bytes v.0).1 v.1, v.2, v.3, v.4),
 )
+
+-- whatever is answered for a text that is read as a proof of the kind that is built, it is verified
+pub proof_answered : (r : Rest) (c : Certificate) (a : Answer) → certificate_read r ≡ Ok c → IsBuilt c → IsProof c → IsAnswer r a → (report : Report) × Reports c report × (a ≡ verified report)
+proof_answered r c a e b p h = by (found_in r) (certificate_read r) (whole_read r) e h.0 h.1 h.2
+  where
+    by : (found : Found) (x : Result Certificate Fault) → Whole found x → x ≡ Ok c → (f : Option Test) → FirstFailing (Passes found.certificate) found.tests f → IsToldBy found f a → (report : Report) × Reports c report × (a ≡ verified report)
+    by found (Err f) w x t g told = absurd (cc x)
+    by found (Ok d) w x t g told =
+        let same : d ≡ c = cc x in
+        let is : found ≡ record { certificate = c; tests = all_tests c } = w ∙ ap (λ c. record { certificate = c; tests = all_tests c }) same in
+        let none = all_none (Passes c) (all_tests c) (subst (All (Passes c)) (sym (same_tests c b)) (tests_of_proof c p)) in
+        let first = subst (λ f. FirstFailing (Passes f.certificate) f.tests t) is g in
+        subst (λ f. IsToldBy (record { certificate = c; tests = all_tests c }) f a) (failing_unique (Passes c) (all_tests c) t None first none) (subst (λ f. IsToldBy f t a) is told)

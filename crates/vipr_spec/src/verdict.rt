@@ -7,7 +7,7 @@ ghost use Rattle.vipr_spec.specs.Grammar.{Spells};
 ghost use Rattle.vipr_spec.specs.GrammarLaws.{whole_text};
 ghost use Rattle.vipr_spec.specs.Soundness.{IsShown};
 ghost use Rattle.vipr_spec.specs.OnePass.{with_more, IsGoodStep, IsGoodNext};
-ghost use Rattle.vipr_spec.specs.Verdict.{FirstFailing, Test, Passes, StepTest, PassesStep, all_step_tests, Report, Reports, verified, IsAnswer};
+ghost use Rattle.vipr_spec.specs.Verdict.{FirstFailing, Test, Passes, StepTest, PassesStep, all_step_tests, Report, Reports, Answer, verified, IsAnswer};
 ghost use Rattle.vipr_spec.specs.Progress.{LooksBefore, PassesNext, IsBuilt};
 
 /// No test fails first exactly where all pass, and only one test fails first. Of two lists, one
@@ -39,13 +39,15 @@ pub fn tests_of_steps()
 {}
 
 /// A text is verified exactly where it spells a certificate that is of the kind that is built and
-/// is a proof, and what is reported is that of the certificate. What the certificate claims is then
-/// true, over all points.
+/// is a proof, and what is reported is that of the certificate. So whatever is answered for such a
+/// text is that it is verified. What the certificate claims is then true, over all points.
 pub fn verified_texts()
     ensures read { (r : Rest) (report : Report) → IsAnswer r (verified report)
         ↔ ((c : Certificate) × (certificate_read r ≡ Ok c) × IsBuilt c × IsProof c × Reports c report) }
     ensures spelled { (bytes : List ℕ) (report : Report) → IsAnswer (whole_text bytes) (verified report)
         ↔ ((c : Certificate) × Spells bytes c × IsBuilt c × IsProof c × Reports c report) }
+    ensures proved { (r : Rest) (c : Certificate) (a : Answer) → certificate_read r ≡ Ok c → IsBuilt c → IsProof c → IsAnswer r a
+        → (report : Report) × Reports c report × (a ≡ verified report) }
     ensures shown { (bytes : List ℕ) (report : Report) → IsAnswer (whole_text bytes) (verified report)
         → (c : Certificate) × Spells bytes c × IsShown c.problem c.solutions c.problem.claim }
 {}
