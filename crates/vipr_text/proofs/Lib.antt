@@ -4,3 +4,4 @@ pub mod Taking
 pub mod Naturals
 pub mod Pieces
 pub mod State
+pub mod Marking

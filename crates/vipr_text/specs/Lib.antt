@@ -6,3 +6,4 @@ pub mod Items
 pub mod Rules
 pub mod Readers
 pub mod ItemsCode
+pub mod Marks

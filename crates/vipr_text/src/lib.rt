@@ -7,6 +7,7 @@ mod claims;
 mod error;
 mod items;
 mod kinds;
+mod pairs;
 mod piece;
 mod place;
 mod reasons;

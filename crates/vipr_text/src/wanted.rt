@@ -22,7 +22,7 @@ use vipr_frac::Frac;
 use vipr_linear::Sense;
 
 /// What the next token means, where `kind` says what its bytes mean or the cause of their refusal.
-fn taken<R: Source, T, F: FnOnce(&[u8]) -> Result<T, u8>>(
+pub(crate) fn taken<R: Source, T, F: FnOnce(&[u8]) -> Result<T, u8>>(
     tokens: &mut Tokens<R>,
     kind: F,
 ) -> Result<T, TextError>
