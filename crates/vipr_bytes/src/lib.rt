@@ -6,6 +6,8 @@
 
 mod sink;
 mod source;
+#[cfg(test)]
+mod tests;
 
 pub use sink::{FromWrite, Sink};
 pub use source::{Bytes, Failed, FromRead, Source};

@@ -1,0 +1,84 @@
+use super::*;
+use std::io::{self, Read, Write};
+use std::test::Fail;
+
+/// Moves at most two bytes a call, and fails at a chosen call.
+#[derive(Drop)]
+struct Halting<T> {
+    inner: T,
+    calls_left: u8,
+}
+
+impl<T> Halting<T> {
+    fn turn(&mut self, len: usize) -> io::Result<usize> {
+        if self.calls_left == 0 {
+            return Err(io::Error::from(io::ErrorKind::Interrupted));
+        }
+        self.calls_left -= 1;
+        Ok(len.min(2))
+    }
+}
+
+impl<T: Read> Read for Halting<T> {
+    fn read(&mut self, buf: &mut [u8]) -> io::Result<usize> {
+        let len = self.turn(buf.len())?.min(buf.len());
+        self.inner.read(&mut buf[..len])
+    }
+}
+
+impl<T: Write> Write for Halting<T> {
+    fn write(&mut self, buf: &[u8]) -> io::Result<usize> {
+        let len = self.turn(buf.len())?.min(buf.len());
+        self.inner.write(&buf[..len])
+    }
+
+    fn flush(&mut self) -> io::Result<()> {
+        Ok(())
+    }
+}
+
+fn first<R: Source>(source: &mut R) -> Result<(usize, u8), Failed> {
+    let mut buf = [0u8; 4];
+    let n = source.read(&mut buf)?;
+    Ok((n, buf[0]))
+}
+
+#[test]
+fn a_slice_is_read_to_its_end(rt: HostRuntime) {
+    let mut source = Bytes::new(b"abcde");
+    assert_eq!(rt; first(&mut source), Ok((4, b'a')));
+    assert_eq!(rt; first(&mut source), Ok((1, b'e')));
+    assert_eq!(rt; first(&mut source), Ok((0, 0)));
+}
+
+#[test]
+fn a_reader_is_read_and_its_errors_are_failures(rt: HostRuntime) {
+    let mut source = FromRead::new(Halting {
+        inner: b"abc".as_slice(),
+        calls_left: 3,
+    });
+    assert_eq!(rt; first(&mut source), Ok((2, b'a')));
+    assert_eq!(rt; first(&mut source), Ok((1, b'c')));
+    assert_eq!(rt; first(&mut source), Ok((0, 0)));
+    assert_eq!(rt; first(&mut source), Err(Failed));
+}
+
+fn written<W: Sink>(sink: &mut W) -> Result<usize, Failed> {
+    sink.write(b"abc")
+}
+
+#[test]
+fn a_writer_is_written_and_its_errors_are_failures(rt: HostRuntime) -> Result<(), Fail> {
+    let mut bytes = Vec::new(rt.alloc());
+    {
+        let mut sink = FromWrite::new(Halting {
+            inner: &mut bytes,
+            calls_left: 2,
+        });
+        assert_eq!(rt; written(&mut sink), Ok(2));
+        assert_eq!(rt; written(&mut sink), Ok(2));
+        assert_eq!(rt; written(&mut sink), Err(Failed));
+    }
+    assert_eq!(rt; bytes.as_slice(), b"abab".as_slice());
+    Ok(())
+}
