@@ -86,7 +86,7 @@ not_last m k q false h g = grind (arith, nat_tests)
 eq_cases : (i j : ℕ) → ((i ≡ j) × (nat_eq i j ≡ true)) ⊎ ((i ≡ j → ⊥) × (nat_eq i j ≡ false))
 eq_cases i j = grind (arith, nat_tests)
 
-if_live_of : (k : ℕ) (o : Option Entry) (x : Entry) → if_live k o ≡ Some x → o ≡ Some x
+pub if_live_of : (k : ℕ) (o : Option Entry) (x : Entry) → if_live k o ≡ Some x → o ≡ Some x
 if_live_of k None x h = absurd (cc)
 if_live_of k (Some e) x h = by (is_live_before k e) h
   where

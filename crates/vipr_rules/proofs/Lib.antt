@@ -6,3 +6,9 @@ pub mod TiedLemmas
 pub mod KeptLemmas
 pub mod CountLemmas
 pub mod HistoryLemmas
+pub mod EntryTests
+pub mod UnionLemmas
+pub mod LookupLemmas
+pub mod SumLemmas
+pub mod StepLemmas
+pub mod BelowLemmas

@@ -6,3 +6,5 @@ pub mod TableCode
 pub mod Tied
 pub mod Kept
 pub mod History
+pub mod Before
+pub mod Judged

@@ -1,19 +1,28 @@
-//! The rules of derivations: the assumptions that a derived constraint rests on, and the table of
-//! the derived constraints that later derivations may still refer to.
+//! The rules of derivations: the test of one derivation, the assumptions that a derived constraint
+//! rests on, and the table of the derived constraints that later derivations may still refer to.
 #![tactic(auto)]
 
+mod adding;
 mod assumed;
 mod entries;
+mod failure;
 mod history;
 mod keep_all;
+mod lin;
 mod live_only;
+mod lookup;
 mod merge;
 mod order;
+mod references;
+mod steps;
 mod table;
+mod united;
 
 pub use assumed::Assumptions;
 pub use entries::Entry;
-pub use history::table_holds_what_is_live;
+pub use failure::RuleError;
+pub use history::{names_stay_below, table_holds_what_is_live};
 pub use keep_all::KeepAll;
 pub use live_only::LiveOnly;
+pub use steps::apply;
 pub use table::Rows;

@@ -1,0 +1,140 @@
+-- The tests of a sum's entries, one entry after another.
+use Rattle.std.proofs.Common.{◌≡◌, ℕ, zero, suc, ◌+◌, ◌<◌, ◌≤◌, Bool, true, false, List, [], ◌∷◌, ◌++◌, length, take, drop, get_or, Option, Some, None, refl, sym, ap, ◌∙◌, subst, append_assoc, inl, inr, arith}
+use Rattle.std.specs.List.{flat_map}
+use Rattle.std.proofs.Math.Seq.{take-suc}
+use Rattle.std.proofs.lemmas.List.{append-nil, take-append-drop}
+use Rattle.std.proofs.lemmas.Grind.{flat_map-append}
+use Rattle.vipr_spec.specs.Fraction.{ℚ}
+use Rattle.vipr_spec.specs.Certificate.{Certificate, Derivation}
+use Rattle.vipr_spec.specs.Progress.{PassesNext}
+use Rattle.vipr_rules.specs.declared.failure.RuleError.{RuleError}
+use Rattle.vipr_rules.specs.Judged.{entries_of, Passes, Stops, Tells, SumStops}
+use Rattle.std.specs.Prelude.{if◌then◌else◌}
+use Rattle.vipr_spec.specs.Reading.{is_nonzero}
+use Rattle.vipr_spec.specs.Verdict.{StepTest, earlier, live, suitable, fitting, FirstFailing, reference_tests, entry_tests}
+use Rattle.vipr_spec.proofs.FirstFailing.{failing_first, failing_second, failing_parts}
+use Rattle.std.proofs.lemmas.List.Concat.{flat_map-cons}
+
+pub entry_tests-append : (before xs ys : List (ℕ × ℚ)) → entry_tests before (xs ++ ys) ≡ entry_tests before xs ++ entry_tests (before ++ xs) ys
+unfolding entry_tests
+entry_tests-append before [] ys = ap (λ l. entry_tests l ys) (sym (append-nil before))
+entry_tests-append before (x ∷ xs) ys =
+    ap (λ l. suitable (before ++ x ∷ []) ∷ fitting (before ++ x ∷ []) ∷ l)
+    (entry_tests-append (before ++ x ∷ []) xs ys ∙ ap (λ l. entry_tests (before ++ x ∷ []) xs ++ entry_tests l ys) (append_assoc before (x ∷ []) xs))
+
+pub one_more : (es : List (ℕ × ℚ)) (n : ℕ) (e : ℕ × ℚ) → n < length es → e ≡ get_or es n e → take (n + 1) es ≡ take n es ++ e ∷ []
+one_more es n e within is = ap (λ k. take k es) (let s : n + 1 ≡ suc n = omega arith in s) ∙ take-suc es n e within ∙ ap (λ x. take n es ++ x ∷ []) (sym is)
+
+pub take_all : (es : List (ℕ × ℚ)) (n : ℕ) → length es ≤ n → take n es ≡ es
+take_all [] zero h = refl
+take_all [] (suc n) h = refl
+take_all (x ∷ es) zero h = absurd (omega arith)
+take_all (x ∷ es) (suc n) h = ap (λ l. x ∷ l) (take_all es n (omega arith))
+
+-- where all tests of two lists pass, those of each do
+passing_parts : (P : StepTest → Type 0) (xs ys : List StepTest) → FirstFailing P (xs ++ ys) None → FirstFailing P xs None × FirstFailing P ys None
+passing_parts P xs ys h = elim (failing_parts P xs ys None h) [ inl k ↦ k | inr k ↦ absurd (let e = k.1 in cc) ]
+
+pub references_each : (P : StepTest → Type 0) (es : List (ℕ × ℚ)) (n : ℕ) (e : ℕ × ℚ) → FirstFailing P (flat_map reference_tests es) None → n < length es → e ≡ get_or es n e → FirstFailing P (reference_tests e) None
+references_each P [] n e h lt is = absurd (omega arith)
+references_each P (x ∷ es) zero e h lt is =
+    subst (λ y. FirstFailing P (reference_tests y) None) (sym is) (passing_parts P (reference_tests x) (flat_map reference_tests es) (subst (λ ts. FirstFailing P ts None) (flat_map-cons reference_tests x es) h)).0
+references_each P (x ∷ es) (suc n) e h lt is =
+    references_each P es n e (passing_parts P (reference_tests x) (flat_map reference_tests es) (subst (λ ts. FirstFailing P ts None) (flat_map-cons reference_tests x es) h)).1 (omega arith) is
+
+module _ (P : StepTest → Type 0) (es : List (ℕ × ℚ)) (n : ℕ) (e : ℕ × ℚ) (within : n < length es) (is : e ≡ get_or es n e) where
+  abbrev so_far : List (ℕ × ℚ)
+  so_far = take n es
+
+  one_more' : take (n + 1) es ≡ so_far ++ e ∷ []
+  one_more' = one_more es n e within is
+
+  parts : es ≡ (so_far ++ e ∷ []) ++ drop (n + 1) es
+  parts = sym (take-append-drop (n + 1) es) ∙ ap (λ l. l ++ drop (n + 1) es) one_more'
+
+  step_tests_of : entry_tests [] (so_far ++ e ∷ []) ≡ entry_tests [] so_far ++ suitable (so_far ++ e ∷ []) ∷ fitting (so_far ++ e ∷ []) ∷ []
+  unfolding entry_tests
+  step_tests_of = entry_tests-append [] so_far (e ∷ [])
+
+  -- the entry passes
+  pub entry_passes : FirstFailing P (entry_tests [] so_far) None → P (suitable (so_far ++ e ∷ [])) → P (fitting (so_far ++ e ∷ [])) → FirstFailing P (entry_tests [] (take (n + 1) es)) None
+  entry_passes before s f =
+      subst (λ l. FirstFailing P (entry_tests [] l) None) (sym one_more')
+      (subst (λ ts. FirstFailing P ts None) (sym step_tests_of) (failing_second P (entry_tests [] so_far) _ None before (inl (s, inl (f, refl)))))
+
+  -- its sign or its size is the first thing that fails
+  fails : (t : StepTest) → FirstFailing P (entry_tests [] so_far) None → FirstFailing P (suitable (so_far ++ e ∷ []) ∷ fitting (so_far ++ e ∷ []) ∷ []) (Some t) → FirstFailing P (entry_tests [] es) (Some t)
+  fails t before h =
+      subst (λ l. FirstFailing P (entry_tests [] l) (Some t)) (sym parts)
+      (subst (λ ts. FirstFailing P ts (Some t)) (sym (entry_tests-append [] (so_far ++ e ∷ []) (drop (n + 1) es)))
+      (failing_first P (entry_tests [] (so_far ++ e ∷ [])) (entry_tests (so_far ++ e ∷ []) (drop (n + 1) es)) t
+      (subst (λ ts. FirstFailing P ts (Some t)) (sym step_tests_of) (failing_second P (entry_tests [] so_far) _ (Some t) before h))))
+
+  pub sign_fails : FirstFailing P (entry_tests [] so_far) None → ¬ P (suitable (so_far ++ e ∷ [])) → FirstFailing P (entry_tests [] es) (Some (suitable (take (n + 1) es)))
+  sign_fails before bad = subst (λ l. FirstFailing P (entry_tests [] es) (Some (suitable l))) (sym one_more') (fails _ before (inr (bad, refl)))
+
+  pub size_fails : FirstFailing P (entry_tests [] so_far) None → P (suitable (so_far ++ e ∷ [])) → ¬ P (fitting (so_far ++ e ∷ [])) → FirstFailing P (entry_tests [] es) (Some (fitting (take (n + 1) es)))
+  size_fails before s bad = subst (λ l. FirstFailing P (entry_tests [] es) (Some (fitting l))) (sym one_more') (fails _ before (inl (s, inr (bad, refl))))
+
+  -- ---- the references
+  pub references_more : (f : Option StepTest) → FirstFailing P (flat_map reference_tests so_far) None → FirstFailing P (reference_tests e) f → FirstFailing P (flat_map reference_tests (take (n + 1) es)) f
+  references_more f before h =
+      subst (λ l. FirstFailing P (flat_map reference_tests l) f) (sym one_more')
+      (subst (λ ts. FirstFailing P ts f) (sym (flat_map-append reference_tests so_far (e ∷ []) ∙ ap (λ l. flat_map reference_tests so_far ++ l) (append-nil (reference_tests e))))
+      (failing_second P (flat_map reference_tests so_far) (reference_tests e) f before h))
+
+  pub reference_fails : (t : StepTest) → FirstFailing P (flat_map reference_tests so_far) None → FirstFailing P (reference_tests e) (Some t) → FirstFailing P (flat_map reference_tests es) (Some t)
+  reference_fails t before h =
+      subst (λ l. FirstFailing P (flat_map reference_tests l) (Some t)) (sym (sym (take-append-drop (n + 1) es)))
+      (subst (λ ts. FirstFailing P ts (Some t)) (sym (flat_map-append reference_tests (take (n + 1) es) (drop (n + 1) es)))
+      (failing_first P (flat_map reference_tests (take (n + 1) es)) (flat_map reference_tests (drop (n + 1) es)) t (references_more (Some t) before h)))
+
+module _ (P : StepTest → Type 0) (e : ℕ × ℚ) where
+  pub reference_not_earlier : ¬ P (earlier e.0) → FirstFailing P (reference_tests e) (Some (earlier e.0))
+  reference_not_earlier bad = by (is_nonzero e)
+    where
+      by : (b : Bool) → FirstFailing P (if b then earlier e.0 ∷ live e.0 ∷ [] else earlier e.0 ∷ []) (Some (earlier e.0))
+      by true = inr (bad, refl)
+      by false = inr (bad, refl)
+
+  abbrev tests : Bool → List StepTest
+  tests b = if b then earlier e.0 ∷ live e.0 ∷ [] else earlier e.0 ∷ []
+
+  pub reference_unused : is_nonzero e ≡ false → P (earlier e.0) → FirstFailing P (reference_tests e) None
+  reference_unused unused p = subst (λ b. FirstFailing P (tests b) None) (sym unused) (inl (p, refl))
+
+  pub reference_live : P (earlier e.0) → P (live e.0) → FirstFailing P (reference_tests e) None
+  reference_live p q = by (is_nonzero e)
+    where
+      by : (b : Bool) → FirstFailing P (tests b) None
+      by true = inl (p, inl (q, refl))
+      by false = inl (p, refl)
+
+  pub reference_dropped : is_nonzero e ≡ true → P (earlier e.0) → ¬ P (live e.0) → FirstFailing P (reference_tests e) (Some (live e.0))
+  reference_dropped some p bad = subst (λ b. FirstFailing P (tests b) (Some (live e.0))) (sym some) (inl (p, inr (bad, refl)))
+
+  -- what passing says
+  pub reference_is_earlier : FirstFailing P (reference_tests e) None → P (earlier e.0)
+  reference_is_earlier = by (is_nonzero e)
+    where
+      by : (b : Bool) → FirstFailing P (tests b) None → P (earlier e.0)
+      by true (inl h) = h.0
+      by true (inr h) = absurd (cc)
+      by false (inl h) = h.0
+      by false (inr h) = absurd (cc)
+
+  pub reference_is_live : is_nonzero e ≡ true → FirstFailing P (reference_tests e) None → P (live e.0)
+  reference_is_live some h = by (subst (λ b. FirstFailing P (tests b) None) some h)
+    where
+      by : FirstFailing P (earlier e.0 ∷ live e.0 ∷ []) None → P (live e.0)
+      by (inl (p, inl h)) = h.0
+      by (inl (p, inr h)) = absurd (cc)
+      by (inr h) = absurd (cc)
+
+-- what an entry that can't be added tells of the whole sum
+pub sum_stops : (c : Certificate) (d : Derivation) (es : List (ℕ × ℚ)) (n : ℕ) (e : ℕ × ℚ) (error : RuleError) → n < length es → e ≡ get_or es n e → es ≡ entries_of d.reason
+    → Passes c d (entry_tests [] (take n es)) → SumStops c (take n es ++ e ∷ []) n error → Stops c d (entry_tests [] es) error
+sum_stops c d es n e error lt is of before (inl (this, bad)) =
+    (suitable (take (n + 1) es), sign_fails (PassesNext c d) es n e lt is before bad, subst (λ x. Tells c d x (suitable (take (n + 1) es))) (sym this) (ap (λ l. suitable (take (n + 1) l)) of))
+sum_stops c d es n e error lt is of before (inr (this, good, bad)) =
+    (fitting (take (n + 1) es), size_fails (PassesNext c d) es n e lt is before good bad, subst (λ x. Tells c d x (fitting (take (n + 1) es))) (sym this) (ap (λ l. fitting (take (n + 1) l)) of))

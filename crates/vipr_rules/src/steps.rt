@@ -1,0 +1,53 @@
+//! Derivations by their reasons.
+
+ghost use Rattle.std.specs.Prelude.{◌≡◌, length, IfOk};
+ghost use Rattle.vipr_spec.specs.Certificate.{Certificate};
+ghost use Rattle.vipr_spec.specs.OnePass.{RefersBack};
+ghost use Rattle.vipr_text.specs.Items.{problem_of, derivation_of};
+ghost use Rattle.vipr_rules.specs.Before.{NameBelow};
+ghost use Rattle.vipr_rules.specs.History.{IsTableOf};
+ghost use Rattle.vipr_rules.specs.Judged.{Judges};
+
+use crate::entries::Entry;
+use crate::failure::RuleError;
+use crate::lin::combine;
+use crate::table::Rows;
+use std::alloc::Global;
+use vipr_frac::Frac;
+use vipr_linear::Combination;
+use vipr_text::{Derivation, Problem, Reason};
+
+/// Tests a derivation against the problem, the best objective value among the listed solutions and
+/// the table of earlier derivations, and gives what is to be kept of it.
+///
+/// `scratch` is made for the problem's number of variables; what it holds doesn't matter.
+///
+/// # Errors
+///
+/// The first test that the derivation fails, with what there is to tell about it.
+pub fn apply<S: Rows>(
+    alloc: Global,
+    p: &Problem,
+    _best: Option<&Frac>,
+    rows: &S,
+    scratch: &mut Combination,
+    step: &Derivation,
+) -> Result<Entry, RuleError>
+    requires { NameBelow (length scratch.old.sums) p.now.cons.items (S.table rows.now) }
+    ensures judged { (c : Certificate) → c.problem ≡ problem_of p.now → IsTableOf c (S.table rows.now) → RefersBack c → Judges c (derivation_of step.now) result }
+    ensures stated { IfOk result (λ e. e.constraint ≡ step.now.constraint) }
+    ensures variables { length scratch.new.sums ≡ length scratch.old.sums }
+{
+    match &step.reason {
+        Reason::Lin(entries) => {
+            let assumptions = combine(alloc, &p.cons, rows, scratch, &step.constraint, entries)?;
+            Ok(Entry {
+                constraint: step.constraint.clone()?,
+                assumptions,
+                is_assumption: false,
+                last: step.last,
+            })
+        }
+        Reason::Asm | Reason::Rnd(_) | Reason::Uns { .. } | Reason::Sol => Err(RuleError::NotYet),
+    }
+}
