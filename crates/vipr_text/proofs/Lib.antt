@@ -1,3 +1,4 @@
+pub mod VectorRows
 pub mod Ending
 pub mod Repeating
 pub mod Taking

@@ -1,9 +1,11 @@
 -- What the readers of a certificate have left, and what each call takes of it
-use Rattle.std.specs.Prelude.{◌≡◌, ℕ, suc, ◌<◌, ◌⊎◌, true, length, Option, Some, None, Result, Ok, Err}
-use Rattle.vipr_spec.specs.Constraint.{Row}
+use Rattle.std.specs.Prelude.{◌≡◌, ℕ, suc, ◌<◌, ◌⊎◌, true, false, length, Option, Some, None, Result, Ok, Err, List, [], Bool}
+use Rattle.vipr_spec.specs.Constraint.{Row, at}
+use Rattle.vipr_linear.specs.Accumulator.{NamesBelow}
 use Rattle.vipr_spec.specs.Certificate.{Problem, variables}
 use Rattle.vipr_spec.specs.Reading.{Rest, Fault, Read}
 use Rattle.vipr_text.specs.Giving.{Fails}
+use Rattle.vipr_text.specs.Marks.{AreMarked}
 use Rattle.vipr_text.specs.View.{Reading}
 use Rattle.vipr_text.specs.declared.error.TextError.{TextError}
 
@@ -32,3 +34,9 @@ abbrev pub NextItem : {X Y : Type 0} → (X → Y) → (Rest → Read Y) → (Re
 NextItem view item ending old new (Ok None) = (old.left ≡ 0) × (ending old.reading.left ≡ Ok tt)
 NextItem view item ending old new (Ok (Some x)) = (old.left ≡ suc new.left) × (item old.reading.left ≡ Ok (view x, new.reading.left)) × (new.reading.told ≡ true)
 NextItem view item ending old new (Err e) = ((old.left ≡ 0) × Fails e (ending old.reading.left)) ⊎ ((0 < old.left) × Fails e (item old.reading.left))
+
+-- between two items no variable is marked, and the objective names the problem's variables alone
+pub record AreReady (reading : Reading) (variables : ℕ) (objective : Row) (marks : List Bool) : Type 0 where
+  pub size : length marks ≡ variables
+  pub unmarked : reading.spent ≡ false → AreMarked variables marks []
+  pub below : NamesBelow variables (at objective)

@@ -3,7 +3,7 @@ ghost use Rattle.std.specs.Prelude.{◌≡◌, min};
 ghost use Rattle.std.specs.Option.{option_map};
 ghost use Rattle.vipr_spec.specs.Digits.{natural_of};
 ghost use Rattle.vipr_text.specs.Giving.{viewed};
-ghost use Rattle.vipr_text.specs.Rules.{rule_seen};
+ghost use Rattle.vipr_text.specs.Rules.{rule_seen, objective_or_count_of};
 ghost use Rattle.vipr_linear.specs.Constraint.{sense_of as sense_seen};
 ghost use Rattle.vipr_text.specs.Items.{direction_of as direction_seen};
 ghost use Rattle.vipr_spec.specs.Reading.{at_most_or, count_of, derivation_count_of, variable_of, reference_of, last_of, word_of, rule_of, number_of, sense_of, direction_of, has_range_of, bound_of};
@@ -206,6 +206,19 @@ pub(crate) fn bound(infinite: &[u8], bytes: &[u8]) -> Result<Option<Frac>, u8>
     }
     match number(bytes) {
         Ok(bound) => Ok(Some(bound)),
+        Err(cause) => Err(cause),
+    }
+}
+
+/// The token `OBJ`, or a count.
+pub(crate) fn objective_or_count(bytes: &[u8]) -> Result<Option<u32>, u8>
+    ensures { result ≡ objective_or_count_of bytes.now }
+{
+    if bytes == b"OBJ".as_slice() {
+        return Ok(None);
+    }
+    match count(bytes) {
+        Ok(count) => Ok(Some(count)),
         Err(cause) => Err(cause),
     }
 }

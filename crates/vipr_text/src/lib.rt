@@ -10,11 +10,15 @@ mod kinds;
 mod pairs;
 mod piece;
 mod place;
+mod reader;
 mod reasons;
+mod sections;
 mod tokens;
+mod vectors;
 mod wanted;
 mod window;
 
 pub use error::TextError;
 pub use items::{Claim, Derivation, Goal, Name, Named, Problem, Reason};
+pub use reader::{CertReader, Derivations, Solutions};
 pub use tokens::{Token, Tokens};

@@ -1,12 +1,12 @@
 //! The tokens that are wanted one by one, each with the fault that it may have.
-ghost use Rattle.std.specs.Prelude.{◌≡◌, ◌≢◌, ◌<◌, ℕ, List, true, false, OnOk, IfOk, IfErr, All};
+ghost use Rattle.std.specs.Prelude.{◌≡◌, ◌≢◌, ◌<◌, ℕ, List, true, false, length, OnOk, IfOk, IfErr, All};
 ghost use Rattle.std.specs.Fn.{FnOnceReturnsAt};
 ghost use Rattle.std.specs.Borrow.{sem};
 ghost use Rattle.std.specs.Io.BufRead.{Rests};
 ghost use Rattle.vipr_spec.specs.Reading as reading;
 ghost use Rattle.vipr_spec.specs.Tokens.{IsToken};
 ghost use Rattle.vipr_text.specs.Giving.{Gives, IsTaken, IsMeaning};
-ghost use Rattle.vipr_text.specs.Rules.{rule_seen};
+ghost use Rattle.vipr_text.specs.Rules.{rule_seen, objective_or_count_of};
 ghost use Rattle.vipr_linear.specs.Constraint.{sense_of as sense_seen};
 ghost use Rattle.vipr_text.specs.Items.{direction_of as direction_seen};
 ghost use Rattle.vipr_text.specs.View.{seen_token};
@@ -154,6 +154,7 @@ pub(crate) fn names<R: Source>(
     ensures unspent { OnOk result (tokens.new.spent ≡ false) }
     ensures error { IfErr result (λ e. e ≢ TextError.Spent) }
     ensures tokens { IfOk result (λ names. All (λ name. IsToken name) names.items) }
+    ensures count { IfOk result (λ names. length names.items ≡ count) }
     ensures read { tokens.old.told ≡ true → Gives (λ names. names.items) result tokens.new (reading.repeated (reading.taken reading.name_of) count tokens.old.left) }
 {
     let mut names = Vec::new(alloc);
@@ -226,4 +227,16 @@ pub(crate) fn bound<R: Source>(
     ensures read { tokens.old.told ≡ true → Gives (λ n. n) result tokens.new (reading.taken (reading.bound_of infinite.now) tokens.old.left) }
 {
     taken(tokens, |bytes| kinds::bound(infinite, bytes))
+}
+
+/// The token `OBJ`, or a count.
+pub(crate) fn objective_or_count<R: Source>(
+    tokens: &mut Tokens<R>,
+) -> Result<Option<u32>, TextError>
+    requires { tokens.old.spent ≡ false }
+    ensures unspent { OnOk result (tokens.new.spent ≡ false) }
+    ensures error { IfErr result (λ e. (e ≢ TextError.Spent) × (e ≢ TextError.Memory)) }
+    ensures read { tokens.old.told ≡ true → Gives (λ n. n) result tokens.new (reading.taken objective_or_count_of tokens.old.left) }
+{
+    taken(tokens, kinds::objective_or_count)
 }

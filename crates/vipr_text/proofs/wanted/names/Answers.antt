@@ -1,4 +1,4 @@
-use Rattle.std.proofs.Common.{arith}
+use Rattle.std.proofs.Common.{length-append, ◌∷◌, [], arith}
 use Rattle.std.proofs.lemmas.Result.{err_from_is_err_and}
 use Rattle.std.proofs.lemmas.List.Elements.{All-push}
 use Rattle.vipr_spec.specs.Tokens.{IsToken}
@@ -25,8 +25,12 @@ loop-preserved g c =
     record {
       unspent = c.in_ok-name.ensures.unspent;
       are_tokens = rw c.in_ok-push.ensures.items (All-push IsToken c.loop.names.items n c.loop.invariant.are_tokens c.in_ok-name.ensures.token);
+      so_many = rw c.in_ok-push.ensures.items (omega (arith, length-append c.loop.names.items (n ∷ []), c.loop.invariant.so_many));
       told = λ told. (c.in_ok-name.ensures.read (c.loop.invariant.told told)).1;
       read = λ told.
           rw c.in_ok-push.ensures.items (goes_on (taken name_of) c.loop.names.items c.args.count c.loop.counter c.loop.tokens.left c.name.new.tokens.left n
           (repeated (taken name_of) c.args.count c.args.tokens.now.left) c.loop-test.true (c.in_ok-name.ensures.read (c.loop.invariant.told told)).0 (c.loop.invariant.read told));
     }
+
+pub returns-clause-count : goal.returns-clause-count
+returns-clause-count g c = omega (arith, c.loop.invariant.so_many)

@@ -1,0 +1,47 @@
+-- Pairs of distinct variables as rows
+use Rattle.std.proofs.Common.{◌≡◌, ℕ, zero, suc, ◌<◌, ◌≤◌, true, false, cond, nat_eq, List, [], ◌∷◌, ◌++◌, filter, None, unwrap_or, All, Contains, arith, refl, sym, ap, ◌∙◌, subst, not-suc-le-zero}
+use Rattle.std.proofs.lemmas.Bool.{eqb-false}
+use Rattle.std.proofs.lemmas.Bool.Decides.{nat_tests}
+use Rattle.std.proofs.lemmas.List.Elements.{All-head, All-tail, Contains-append_right}
+use Rattle.std.specs.Cmp.{nat_cmp_total}
+use Rattle.std.specs.FinMap.{find, get-from_entries}
+use Rattle.std.specs.List.{IsDistinct, AllByRecursion}
+use Rattle.std.specs.Ordering.{nat_cmp, eq_by_cmp}
+use Rattle.vipr_spec.specs.Fraction.{ℚ, zero_ℚ}
+use Rattle.vipr_spec.specs.Constraint.{at}
+use Rattle.vipr_spec.specs.Reading.{is_nonzero, row_of}
+use Rattle.vipr_linear.specs.Accumulator.{NamesBelow}
+use Rattle.vipr_linear.specs.Row.{IsFirstRepeated}
+
+none_apart : (x : ℕ) (ys : List ℕ) → AllByRecursion (λ y. nat_eq x y ≡ false) ys → ¬ Contains ys x
+none_apart x [] a (k, l, e) = absurd (not-suc-le-zero l)
+none_apart x (y ∷ ys) a (zero, l, e) = eqb-false x y a.0 (sym e)
+none_apart x (y ∷ ys) a (suc k, l, e) = none_apart x ys a.1 (k, omega arith, e)
+
+first_of : (xs ys : List ℕ) (v : ℕ) → Contains (xs ++ v ∷ ys) v
+first_of xs ys v = Contains-append_right xs (v ∷ ys) v (0, omega arith, refl)
+
+twice : (before after : List ℕ) (v : ℕ) → Contains before v → ¬ IsDistinct nat_eq (before ++ v ∷ after)
+unfolding IsDistinct
+twice [] after v (k, l, e) d = absurd (not-suc-le-zero l)
+twice (x ∷ xs) after v (zero, l, e) d = none_apart x (xs ++ v ∷ after) d.0 (subst (Contains (xs ++ v ∷ after)) (sym e) (first_of xs after v))
+twice (x ∷ xs) after v (suc k, l, e) d = twice xs after v (k, omega arith, e) d.1
+
+-- variables that differ have no first one that stood before
+pub none_repeated : (variables : List ℕ) (v : ℕ) → IsDistinct nat_eq variables → ¬ IsFirstRepeated variables v
+none_repeated variables v d r = twice r.before r.after v r.repeated (subst (IsDistinct nat_eq) r.parts d)
+
+not_found : (n j : ℕ) → n ≤ j → (ps : List (ℕ × ℚ)) → All (λ p. p.0 < n) ps → find nat_cmp j (filter is_nonzero ps) ≡ None
+not_found n j h [] a = refl
+not_found n j h (p ∷ ps) a =
+    let small : p.0 < n = All-head (λ (p : ℕ × ℚ). p.0 < n) p ps a in
+    let rest = not_found n j h ps (All-tail (λ (p : ℕ × ℚ). p.0 < n) p ps a) in
+    let apart : eq_by_cmp nat_cmp j p.0 ≡ false = grind (arith, nat_tests) in
+    elim (is_nonzero p) as (λ b. find nat_cmp j (cond b (p ∷ filter is_nonzero ps) (filter is_nonzero ps)) ≡ None) [
+      | true ↦ rw apart rest
+      | false ↦ rest
+    ]
+
+-- the row of pairs of variables below n names no other
+pub row_below : (n : ℕ) (ps : List (ℕ × ℚ)) → All (λ p. p.0 < n) ps → NamesBelow n (at (row_of ps))
+row_below n ps a j h = ap (λ o. unwrap_or o zero_ℚ) (get-from_entries nat_cmp_total (filter is_nonzero ps) j ∙ not_found n j h ps a)
