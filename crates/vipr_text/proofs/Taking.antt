@@ -1,9 +1,9 @@
 -- What an answer of the reader of tokens says of the token that is wanted
-use Rattle.std.proofs.Common.{◌≡◌, ◌≢◌, ℕ, ◌≤◌, Bool, true, false, List, [], ◌∷◌, length, nat_lt, ◌<◌, if◌then◌else◌, Option, Some, None, Result, Ok, Err, refl, sym, ap, ◌∙◌, inl, inr}
+use Rattle.std.proofs.Common.{◌≡◌, ◌≢◌, ℕ, ◌+◌, ◌-◌, ◌^◌, ◌≤◌, nat_le, leb-true, arith, Bool, true, false, List, [], ◌∷◌, length, nat_lt, ◌<◌, if◌then◌else◌, Option, Some, None, Result, Ok, Err, refl, sym, ap, ◌∙◌, inl, inr}
 use Rattle.std.proofs.lemmas.List.{take_all}
 use Rattle.std.proofs.lemmas.Bool.{ltb-false, ltb-true}
 use Rattle.vipr_spec.specs.Tokens.{Token}
-use Rattle.vipr_spec.specs.Reading.{Rest, token_read, first_token, taken, variable_of, below}
+use Rattle.vipr_spec.specs.Reading.{Rest, token_read, first_token, taken, variable_of, derivation_count_of, most_count, at_most_or, below}
 use Rattle.vipr_spec.specs.Digits.{natural_of}
 use Rattle.std.specs.Result.{IfOk}
 use Rattle.vipr_spec.specs.Causes as cause
@@ -82,3 +82,15 @@ variable_below n bytes i h = of_number (natural_of bytes) h
     of_number : (o : Option ℕ) → Ok i ≡ below n o → i < n
     of_number None e = absurd (cc)
     of_number (Some j) e = of_test j (nat_lt j n) refl e
+
+pub count_within : (m : ℕ) (bytes : List ℕ) (n : ℕ) → m < 2 ^ 32 → Ok n ≡ derivation_count_of m bytes → m + n < 2 ^ 32
+unfolding derivation_count_of
+count_within m bytes n small h = of_number (natural_of bytes) h
+  where
+    of_test : (j : ℕ) (b : Bool) → nat_le j (most_count - m) ≡ b → Ok n ≡ (if b then Ok j else Err cause.count_too_large) → m + n < 2 ^ 32
+    of_test j true le e = let q : n ≡ j = (cc) in let l = leb-true j (most_count - m) le in omega arith
+    of_test j false le e = absurd (cc)
+
+    of_number : (o : Option ℕ) → Ok n ≡ at_most_or (most_count - m) o cause.bad_count cause.count_too_large → m + n < 2 ^ 32
+    of_number None e = absurd (cc)
+    of_number (Some j) e = of_test j (nat_le j (most_count - m)) refl e

@@ -1,5 +1,5 @@
 //! Reads a certificate item by item: its problem, each solution, each derivation.
-ghost use Rattle.std.specs.Prelude.{◌≡◌, ◌≢◌, ◌^◌, ◌<◌, true, false, length, Ok, IfOk, IfErr, IfSome, OnOk, OnErr, IsErrOf, ◌↔◌, [], All};
+ghost use Rattle.std.specs.Prelude.{◌≡◌, ◌≢◌, ◌^◌, ◌+◌, ◌<◌, suc, MatchOption, true, false, length, Ok, IfOk, IfErr, IfSome, OnOk, OnErr, IsErrOf, ◌↔◌, [], All};
 ghost use Rattle.vipr_spec.specs.Constraint.{at};
 ghost use Rattle.vipr_linear.specs.Accumulator.{NamesBelow};
 ghost use Rattle.vipr_text.specs.Marks.{AreMarked};
@@ -173,6 +173,7 @@ impl<R: Source> Solutions<R> {
         ensures spent { IsErrOf result TextError.Spent ↔ (self.reading.spent ≡ true) }
         ensures remembers { IfOk result (λ d. Remembers self d) }
         ensures unspent { IfOk result (λ d. d.reading.spent ≡ false) }
+        ensures counted { IfOk result (λ d. d.constraints + d.left < 2 ^ 32) }
         ensures read { (p : ProblemMeant) → Knows self p → self.reading.spent ≡ false → self.reading.told ≡ true
             → GivesFrom (λ d. d.left) (λ d. d.reading) result (derivations_read p self.reading.left) }
     {
@@ -206,6 +207,7 @@ impl<R: Source> Derivations<R> {
         ensures stopped { OnErr result (self.new.reading.spent ≡ true) }
         ensures remembers { Remembers self.old self.new }
         ensures unspent { OnOk result (self.new.reading.spent ≡ false) }
+        ensures counted { IfOk result (λ o. MatchOption o (self.old.left ≡ 0) (λ _. self.old.left ≡ suc self.new.left)) }
         ensures below { IfOk result (λ o. IfSome o (λ d. NamesBelow self.old.variables (at d.constraint.row))) }
         ensures read { (p : ProblemMeant) → Knows self.old p → self.old.reading.spent ≡ false → self.old.reading.told ≡ true
             → NextItem derivation_of (derivation_read p) end_read self.old self.new result }
@@ -247,6 +249,7 @@ fn head<R: Source>(tokens: &mut Tokens<R>, constraints: u32) -> Result<u32, Text
     requires { tokens.old.spent ≡ false }
     ensures unspent { OnOk result (tokens.new.spent ≡ false) }
     ensures error { IfErr result (λ e. e ≢ TextError.Spent) }
+    ensures counted { IfOk result (λ n. constraints + n < 2 ^ 32) }
     ensures read { tokens.old.told ≡ true → (p : ProblemMeant) → constraints ≡ length p.constraints → Gives (λ n. n) result tokens.new (derivations_read p tokens.old.left) }
 {
     wanted::word(tokens, b"DER", causes::WRONG_KEYWORD)?;

@@ -1,5 +1,5 @@
 //! The tokens that are wanted one by one, each with the fault that it may have.
-ghost use Rattle.std.specs.Prelude.{◌≡◌, ◌≢◌, ◌<◌, ℕ, List, true, false, length, OnOk, IfOk, IfErr, All};
+ghost use Rattle.std.specs.Prelude.{◌≡◌, ◌≢◌, ◌+◌, ◌^◌, ◌<◌, ℕ, List, true, false, length, OnOk, IfOk, IfErr, All};
 ghost use Rattle.std.specs.Fn.{FnOnceReturnsAt};
 ghost use Rattle.std.specs.Borrow.{sem};
 ghost use Rattle.std.specs.Io.BufRead.{Rests};
@@ -61,6 +61,7 @@ pub(crate) fn derivation_count<R: Source>(
     requires { tokens.old.spent ≡ false }
     ensures unspent { OnOk result (tokens.new.spent ≡ false) }
     ensures error { IfErr result (λ e. (e ≢ TextError.Spent) × (e ≢ TextError.Memory)) }
+    ensures counted { IfOk result (λ n. constraints + n < 2 ^ 32) }
     ensures read { tokens.old.told ≡ true → Gives (λ n. n) result tokens.new (reading.taken (reading.derivation_count_of constraints) tokens.old.left) }
 {
     taken(tokens, |bytes| kinds::derivation_count(constraints, bytes))
