@@ -1,0 +1,148 @@
+-- The checker's state, derivation by derivation
+use Rattle.std.proofs.Common.{◌≡◌, ℕ, ◌+◌, ◌<◌, ◌≤◌, ◌^◌, max, List, [], ◌∷◌, ◌++◌, length, map, replicate, get_or, Option, Some, None, All, Ok, ◌-◌, inl, inr, arith, rules, refl, sym, ◌∙◌, ap, ap₂, subst}
+use Rattle.std.proofs.lemmas.Bool.{cases_lt}
+use Rattle.std.proofs.lemmas.List.{get_or-map, get_or_past, length-map}
+use Rattle.std.proofs.lemmas.List.Elements.{All-nil, All-push, All-append, All-map, All-get_or}
+use Rattle.std.specs.FinMap as finite
+use Rattle.vipr_spec.specs.Fraction.{zero_ℚ}
+use Rattle.vipr_spec.specs.Constraint.{Constraint, Condition, condition, at, equal}
+use Rattle.vipr_spec.specs.Certificate.{Named, Problem, variables, infeasible, Derivation, Certificate, constraint_at, NeedsGoal, count, held as held_after}
+use Rattle.vipr_spec.specs.OnePass.{with_next, RefersBack}
+use Rattle.vipr_spec.specs.Checking.{start, IsChecked, NextGoal}
+use Rattle.vipr_spec.specs.Verdict.{step_tests, verified}
+use Rattle.vipr_spec.proofs.Prefix.{count_next}
+use Rattle.vipr_spec.proofs.Checked.{checked_start, checked_next, checked_verified, checked_unproved}
+use Rattle.vipr_spec.specs.Reading.{Rest, end_read}
+use Rattle.vipr_spec.specs.Causes.{no_proof}
+use Rattle.vipr_spec.specs.Progress.{Answers, derivations_from}
+use Rattle.vipr_spec.proofs.Reported.{built_good}
+use Rattle.vipr_spec.proofs.Steps.{refers_back}
+use Rattle.vipr_linear.specs.Accumulator.{Accumulator, NamesBelow}
+use Rattle.vipr_linear.specs.Constraint.{constraint_of, condition_of}
+use Rattle.vipr_text.specs.Items.{named_of, problem_of, claim_of}
+use Rattle.vipr_text.specs.declared.items.Problem.{Problem as ProblemRead}
+use Rattle.vipr_text.specs.declared.items.Named.{Named as NamedRead}
+use Rattle.vipr_linear.specs.declared.constraint.Constraint.{Constraint as ConstraintRead}
+use Rattle.vipr_rules.specs.Table.{Table, empty_table, step, held}
+use Rattle.vipr_rules.specs.History.{IsTableOf, IsEntryOf}
+use Rattle.vipr_rules.specs.Before.{NameBelow}
+use Rattle.vipr_rules.specs.Judged.{Passes}
+use Rattle.vipr_rules.specs.declared.entries.Entry.{Entry}
+use Rattle.vipr_rules.proofs.HistoryLemmas.{IsTableOf-empty, IsTableOf-step, IsTableOf-held}
+use Rattle.vipr_check.specs.State.{IsInShape, NamesItsOwn, Describes, HasRoom}
+use Rattle.vipr_check.specs.Goal.{IsFirstFalse}
+use Rattle.vipr_check.specs.View.{answer_of}
+use Rattle.vipr_check.specs.Refused.{refused_at}
+use Rattle.vipr_check.specs.declared.verdict.Place.TheVariants.{End}
+use Rattle.vipr_check.specs.declared.verdict.Verdict.{Verdict}
+use Rattle.vipr_check.specs.declared.verdict.Verdict.TheVariants.{Verified}
+use Rattle.vipr_check.proofs.GoalLemmas.{first_met}
+use Rattle.vipr_check.specs.declared.checker.Checker.{Checker}
+
+-- ---- variables
+
+All-unmapped : {X Y : Type 0} (P : Y → Type 0) (f : X → Y) (xs : List X) → All P (map f xs) → All (λ x. P (f x)) xs
+All-unmapped P f xs a k d lt = subst P (get_or-map f xs k d (f d) lt) (a k (f d) (simp length-map lt))
+
+abbrev nothing_said : Condition
+nothing_said = record { row = λ j. zero_ℚ; sense = equal; bound = zero_ℚ }
+
+own_constraint : (c : Certificate) → NamesItsOwn c → (i : ℕ) → NamesBelow (variables c.problem) (constraint_at c i).row
+own_constraint c own i =
+    let P : Condition → Type 0 = λ x. NamesBelow (variables c.problem) x.row in
+    let xs = map (λ n. condition n.item) c.problem.constraints ++ map (λ d. condition d.stated) c.derivations in
+    let a : All P xs = All-append P (map (λ n. condition n.item) c.problem.constraints) (map (λ d. condition d.stated) c.derivations) (All-map P (λ n. condition n.item) c.problem.constraints own.given) (All-map P (λ d. condition d.stated) c.derivations own.derived) in
+    elim (cases_lt i (length xs)) [
+      | inl less ↦ a i nothing_said less
+      | inr more ↦ subst P (sym (get_or_past xs i nothing_said more)) (λ j le. refl)
+    ]
+
+own_next : (c : Certificate) (d : Derivation) → NamesItsOwn c → NamesBelow (variables c.problem) (at d.stated.row) → NamesItsOwn (with_next c d)
+own_next c d own names = record { given = own.given; derived = All-push (λ d. NamesBelow (variables c.problem) (at d.stated.row)) c.derivations d own.derived names }
+
+-- ---- the beginning
+
+module _ {S : Type 0} (table : S → Table) where
+  pub Describes-start : (p : ProblemRead) (k : Checker S) (m : ℕ) → k.problem ≡ p → (problem_of p).claim ≡ infeasible → IsInShape p → m ≡ length p.cons.items → table k.rows ≡ empty_table m
+      → length k.scratch.sums ≡ length p.names.items → k.peak ≡ 0 → IsFirstFalse p.cons.items k.goal → Describes table (start (problem_of p) []) k
+  Describes-start p k m same claim shape first rows scratch none goal =
+      let c = start (problem_of p) [] in
+      let n : m ≡ length (map (named_of constraint_of) p.cons.items) = first ∙ sym (length-map p.cons.items (named_of constraint_of)) in
+      record {
+        problem = ap problem_of (sym same);
+        claim = claim;
+        solutions = refl;
+        rows = subst (IsTableOf c) (sym (rows ∙ ap empty_table n)) (IsTableOf-empty c refl);
+        own = record { given = All-map (λ n. NamesBelow (variables c.problem) (at n.item.row)) (named_of constraint_of) p.cons.items shape.below; derived = All-nil (λ d. NamesBelow (variables c.problem) (at d.stated.row)) };
+        scratch = scratch;
+        checked = subst (IsChecked c k.goal) (sym none) (checked_start (problem_of p) [] k.goal (first_met (problem_of p) p.cons.items claim refl k.goal goal));
+      }
+
+  -- ---- what the rules ask for
+
+  module _ (c : Certificate) (k : Checker S) (is : Describes table c k) where
+    same_variables : variables c.problem ≡ length k.problem.names.items
+    same_variables = ap variables is.problem
+
+    pub rows_first : (table k.rows).first ≡ length k.problem.cons.items
+    rows_first = is.rows.first ∙ ap (λ p. length p.constraints) is.problem ∙ length-map k.problem.cons.items (named_of constraint_of)
+
+    given_own : All (λ n. NamesBelow (length k.scratch.sums) (at n.item.row)) k.problem.cons.items
+    given_own =
+        let a = subst (λ (p : Problem). All (λ n. NamesBelow (variables p) (at n.item.row)) p.constraints) is.problem is.own.given in
+        let b = All-unmapped (λ (n : Named Constraint). NamesBelow (length k.problem.names.items) (at n.item.row)) (named_of constraint_of) k.problem.cons.items a in
+        subst (λ (n : ℕ). All (λ x. NamesBelow n (at x.item.row)) k.problem.cons.items) (sym (is.scratch ∙ same_variables)) b
+
+    held_own : (i : ℕ) (e : Entry) → finite.get (table k.rows).entries i ≡ Some e → NamesBelow (length k.scratch.sums) (at e.constraint.row)
+    held_own i e h =
+        subst (λ (n : ℕ). NamesBelow n (at e.constraint.row)) (sym is.scratch)
+        (subst (λ (x : Condition). NamesBelow (variables c.problem) x.row) (is.rows.entry i e h).says (own_constraint c is.own i))
+
+    pub names_below : NameBelow (length k.scratch.sums) k.problem.cons.items (table k.rows)
+    names_below = record { given_ones = given_own; derived_ones = held_own }
+
+    pub back : RefersBack c
+    back = refers_back c is.checked.steps
+
+  -- ---- one more derivation
+
+  pub Describes-next : (c : Certificate) (d : Derivation) (e : Entry) (k l : Checker S) → Describes table c k → HasRoom c d → Passes c d (step_tests d.reason) → IsEntryOf (with_next c d) (count c) e
+      → l.problem ≡ k.problem → length l.scratch.sums ≡ length k.scratch.sums → table l.rows ≡ step (table k.rows) e → l.peak ≡ max k.peak (held (table l.rows)) → NextGoal c d k.goal l.goal → Describes table (with_next c d) l
+  Describes-next c d e k l is room passes entry problem scratch rows top goal =
+      let t : IsTableOf (with_next c d) (table l.rows) = subst (IsTableOf (with_next c d)) (sym rows) (IsTableOf-step c d e (table k.rows) is.rows (λ k h. (is.checked.steps k h).valid) entry) in
+      let n = count_next c d in
+      let most : l.peak ≡ max k.peak (held_after (with_next c d) (count c)) = top ∙ ap (max k.peak) (IsTableOf-held (with_next c d) (table l.rows) t (count c) (sym n) (omega arith)) in
+      record {
+        problem = is.problem ∙ ap problem_of (sym problem);
+        claim = is.claim;
+        solutions = is.solutions;
+        rows = t;
+        own = own_next c d is.own room.names;
+        scratch = scratch ∙ is.scratch;
+        checked = subst (IsChecked (with_next c d) l.goal) (sym most) (checked_next c d k.goal l.goal k.peak is.checked (built_good c d passes) goal);
+      }
+
+  pub Describes-scratch : (c : Certificate) (k : Checker S) (a : Accumulator) → Describes table c k → length a.sums ≡ length k.scratch.sums → Describes table c (record k { scratch = a })
+  Describes-scratch c k a is e = record { problem = is.problem; claim = is.claim; solutions = is.solutions; rows = is.rows; own = is.own; scratch = e ∙ is.scratch; checked = is.checked }
+
+  -- ---- the end
+
+  module _ (c : Certificate) (k : Checker S) (r : Rest) (is : Describes table c k) (end : end_read r ≡ Ok tt) where
+    needed : NeedsGoal c.problem c.problem.claim
+    needed = subst (NeedsGoal c.problem) (sym is.claim) tt
+
+    pub finish_unproved : (v : Verdict) → k.goal ≡ None → v ≡ refused_at no_proof End → Answers (derivations_from c 0 r) (answer_of v)
+    finish_unproved v none e =
+        subst (λ v. Answers (derivations_from c 0 r) (answer_of v)) (sym e) (checked_unproved c k.peak r (subst (λ g. IsChecked c g k.peak) none is.checked) end needed)
+
+    pub finish_verified : (goal derived : ℕ) → k.goal ≡ Some goal → derived ≡ (table k.rows).next - length k.problem.cons.items
+        → Answers (derivations_from c 0 r) (answer_of (Verified (record { claim = k.problem.claim; solutions = 0; derived = derived; peak = k.peak; goal = Some goal })))
+    finish_verified goal derived some e =
+        let a = checked_verified c (Some goal) k.peak r (subst (λ g. IsChecked c g k.peak) some is.checked) end (λ _. search rules) in
+        let claims : c.problem.claim ≡ claim_of k.problem.claim = ap (λ p. p.claim) is.problem in
+        let solutions : length c.solutions ≡ 0 = ap length is.solutions in
+        let first = rows_first c k is in
+        let next = is.rows.next in
+        let start = is.rows.first in
+        let all : length c.derivations ≡ derived = omega arith in
+        subst (Answers (derivations_from c 0 r)) (λ i. verified (record { claim = claims i; solutions = solutions i; derived = all i; peak = k.peak; goal = Some goal })) a

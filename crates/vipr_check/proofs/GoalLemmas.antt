@@ -1,0 +1,84 @@
+-- The goal, constraint by constraint
+use Rattle.std.proofs.Common.{◌≡◌, ℕ, ◌+◌, ◌<◌, ◌≤◌, Bool, true, false, List, [], ◌∷◌, length, map, get_or, Option, Some, None, is_some, All, inl, inr, arith, refl, sym, ◌∙◌, ap, subst}
+use Rattle.std.specs.Prelude.{◌↔◌}
+use Rattle.std.specs.List.{AllWithin, HoldsAt}
+use Rattle.std.proofs.lemmas.List.{get_or-map, length-map}
+use Rattle.std.proofs.lemmas.List.Elements.{All-map}
+use Rattle.std.specs.FinSet as set
+use Rattle.std.specs.FinSet.{same_set, contains-empty, nat_cmp-IsAntisymmetric}
+use Rattle.std.specs.Cmp.{nat_cmp_total}
+use Rattle.std.specs.Ordering.{nat_cmp}
+use Rattle.vipr_spec.specs.Constraint.{condition, IsAbsurd}
+use Rattle.vipr_spec.specs.Certificate.{Named as NamedMeant, Problem, Claim, infeasible, Derivation, Certificate, MeetsDual, count, RestsOn}
+use Rattle.vipr_spec.specs.Constraint.{Constraint as ConstraintMeant}
+use Rattle.vipr_spec.specs.OnePass.{with_next}
+use Rattle.vipr_spec.specs.Checking.{Meets, IsFirstMet, ProvesNext, NextGoal}
+use Rattle.vipr_spec.proofs.Prefix.{constraint_next}
+use Rattle.vipr_linear.specs.Constraint.{constraint_of, condition_of}
+use Rattle.vipr_linear.specs.declared.constraint.Constraint.{Constraint}
+use Rattle.vipr_text.specs.Items.{named_of}
+use Rattle.vipr_text.specs.declared.items.Named.{Named}
+use Rattle.vipr_rules.specs.declared.entries.Entry.{Entry}
+use Rattle.vipr_rules.specs.History.{IsEntryOf}
+use Rattle.vipr_check.specs.Goal.{SaysFalse, IsFirstFalse}
+
+-- ---- the constraints of a problem
+
+any_of : {X : Type 0} (xs : List X) (i : ℕ) → i < length xs → X
+any_of [] i h = absurd (omega arith)
+any_of (x ∷ xs) i h = x
+
+mapped_at : {X Y : Type 0} (P : Y → Type 0) (f : X → Y) (xs : List X) (i : ℕ) (e : Y) → i < length xs → ((d : X) → P (f (get_or xs i d))) → P (get_or (map f xs) i e)
+mapped_at P f xs i e h k = let d = any_of xs i h in subst P (sym (get_or-map f xs i d e h)) (k d)
+
+met : (p : Problem) (n : Named Constraint) → p.claim ≡ infeasible → SaysFalse n → Meets p (named_of constraint_of n)
+met p n claim h = subst (λ q. MeetsDual p q (condition_of n.item)) (sym claim) h
+
+unmet : (p : Problem) (n : Named Constraint) → p.claim ≡ infeasible → ¬ SaysFalse n → ¬ Meets p (named_of constraint_of n)
+unmet p n claim h m = h (subst (λ q. MeetsDual p q (condition_of n.item)) claim m)
+
+module _ (p : Problem) (cons : List (Named Constraint)) (claim : p.claim ≡ infeasible) where
+  met_in : (goal : Option ℕ) → IsFirstFalse cons goal → IsFirstMet (record p { constraints = map (named_of constraint_of) cons }) goal
+  met_in None a = All-map (λ n. ¬ Meets p n) (named_of constraint_of) cons (λ k d lt. unmet p (get_or cons k d) claim (a k d lt))
+  met_in (Some i) a = (
+    simp length-map a.0,
+    λ e. mapped_at (Meets p) (named_of constraint_of) cons i e a.0 (λ d. met p (get_or cons i d) claim (a.1 d)),
+    λ k e low high. mapped_at (λ n. ¬ Meets p n) (named_of constraint_of) cons k e (let lt = a.0 in omega arith) (λ d. unmet p (get_or cons k d) claim (a.2 k d low high)),
+  )
+
+  pub first_met : p.constraints ≡ map (named_of constraint_of) cons → (goal : Option ℕ) → IsFirstFalse cons goal → IsFirstMet p goal
+  first_met e goal a = subst (λ l. IsFirstMet (record p { constraints = l }) goal) (sym e) (met_in goal a)
+
+-- ---- one more derivation
+
+pub next_proves : (c : Certificate) (d : Derivation) (e : Entry) → c.problem.claim ≡ infeasible → IsEntryOf (with_next c d) (count c) e
+    → ProvesNext c d ↔ ((e.assumptions ≡ set.empty) × IsAbsurd (condition_of e.constraint))
+next_proves c d e claim is = (
+  λ h. (
+    same_set nat_cmp_total nat_cmp-IsAntisymmetric e.assumptions set.empty (λ a. no_member a (set.contains e.assumptions a) refl (h.0 a)),
+    subst IsAbsurd same (subst (λ q. MeetsDual c.problem q (condition d.stated)) claim h.1),
+  ),
+  λ h. (
+    λ a r. (let t = (is.rests a).1 r in let f = ap (λ s. set.contains s a) h.0 ∙ contains-empty nat_cmp a in cc),
+    subst (λ q. MeetsDual c.problem q (condition d.stated)) (sym claim) (subst IsAbsurd (sym same) h.1),
+  ),
+)
+  where
+    same : condition d.stated ≡ condition_of e.constraint
+    same = sym (constraint_next c d) ∙ is.says
+
+    no_member : (a : ℕ) (b : Bool) → set.contains e.assumptions a ≡ b → ¬ RestsOn (with_next c d) (count c) a → set.contains e.assumptions a ≡ set.contains (set.empty {R = nat_cmp}) a
+    no_member a true s n = absurd (n ((is.rests a).0 s))
+    no_member a false s n = s ∙ sym (contains-empty nat_cmp a)
+
+pub goal_kept : (c : Certificate) (d : Derivation) (goal : Option ℕ) → is_some goal ≡ true → NextGoal c d goal goal
+goal_kept c d None s = cc
+goal_kept c d (Some k) s = refl
+
+pub goal_new : (c : Certificate) (d : Derivation) (goal : Option ℕ) (k : ℕ) → is_some goal ≡ false → count c ≡ k → ProvesNext c d → NextGoal c d goal (Some k)
+goal_new c d None k s e p = inl (p, ap Some (sym e))
+goal_new c d (Some j) k s e p = absurd (cc s)
+
+pub goal_open : (c : Certificate) (d : Derivation) (goal : Option ℕ) → is_some goal ≡ false → ¬ ProvesNext c d → NextGoal c d goal None
+goal_open c d None s p = inr (p, refl)
+goal_open c d (Some j) s p = absurd (cc s)

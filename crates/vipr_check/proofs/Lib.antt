@@ -1,0 +1,4 @@
+pub mod Answering
+pub mod GoalLemmas
+pub mod DescribedLemmas
+pub mod StreamLemmas

@@ -1,0 +1,19 @@
+use Rattle.std.proofs.Common.{sym, inl, inr}
+use Rattle.std.proofs.lemmas.Result.{err_from_is_err_and}
+use Rattle.vipr_text.specs.Items.{derivation_of}
+use Rattle.vipr_check.proofs.DescribedLemmas.{names_below, back, Describes-scratch}
+use Rattle.vipr_check.proofs.checker.Checker.derivation.Goals as goal
+
+pub apply-requires : goal.apply-requires
+apply-requires g c = names_below g.S.Rows.table c.requires.0 c.args.self.now c.requires.1
+
+pub returns-in_err-entry : goal.returns-in_err-entry
+returns-in_err-entry g c = λ s is room.
+    let p = err_from_is_err_and c.from_residual.result c.from_residual.ensures.1 in
+    let judged = c.in_err-entry.ensures.judged s is.problem is.rows (back g.S.Rows.table s c.args.self.now is) in
+    rw (p.1, p.2) judged
+
+pub returns : goal.returns
+returns g c = λ s is room.
+    let judged = c.in_ok-entry.ensures.judged s is.problem is.rows (back g.S.Rows.table s c.args.self.now is) in
+    (judged.0, c.in_ok-keep.ensures s (derivation_of c.args.step.now) (Describes-scratch g.S.Rows.table s c.args.self.now c.apply.new.scratch is c.in_ok-entry.ensures.variables) room judged.0 judged.1)

@@ -1,0 +1,6 @@
+pub mod View
+pub mod Goal
+pub mod Refused
+pub mod State
+pub mod Taking
+pub mod Texts

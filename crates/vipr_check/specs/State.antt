@@ -1,0 +1,58 @@
+-- A checker, described by the certificate that it was handed so far
+use Rattle.std.specs.Prelude.{◌≡◌, ◌+◌, ◌<◌, ◌^◌, true, false, [], length, All}
+use Rattle.vipr_spec.specs.Constraint.{at}
+use Rattle.vipr_spec.specs.Certificate.{variables, infeasible, Derivation, Certificate, count}
+use Rattle.vipr_spec.specs.Checking.{IsChecked}
+use Rattle.vipr_spec.specs.Verdict.{Answer}
+use Rattle.vipr_spec.specs.Progress.{Answers, derivations_from}
+use Rattle.vipr_linear.specs.Accumulator.{NamesBelow}
+use Rattle.vipr_text.specs.Items.{problem_of}
+use Rattle.vipr_text.specs.declared.items.Problem.{Problem}
+use Rattle.vipr_text.specs.Readers.{Items, Knows}
+use Rattle.vipr_rules.specs.Table.{Table}
+use Rattle.vipr_rules.specs.History.{IsTableOf}
+use Rattle.vipr_check.specs.declared.checker.Checker.{Checker}
+
+-- there are no more variables and constraints than a count may be, and the rows name these variables alone
+pub record IsInShape (p : Problem) : Type 0 where
+  pub names : length p.names.items < 2 ^ 32
+  pub constraints : length p.cons.items < 2 ^ 32
+  pub below : All (λ n. NamesBelow (length p.names.items) (at n.item.row)) p.cons.items
+
+-- the rows name variables of the problem alone
+pub record NamesItsOwn (c : Certificate) : Type 0 where
+  pub given : All (λ n. NamesBelow (variables c.problem) (at n.item.row)) c.problem.constraints
+  pub derived : All (λ d. NamesBelow (variables c.problem) (at d.stated.row)) c.derivations
+
+-- the checker has what is to be known of the certificate so far
+pub record Describes {S : Type 0} (table : S → Table) (c : Certificate) (k : Checker S) : Type 0 where
+  pub problem : c.problem ≡ problem_of k.problem
+  pub claim : c.problem.claim ≡ infeasible
+  pub solutions : c.solutions ≡ []
+  pub rows : IsTableOf c (table k.rows)
+  pub own : NamesItsOwn c
+  pub scratch : length k.scratch.sums ≡ variables c.problem
+  pub checked : IsChecked c k.goal k.peak
+
+-- the derivation names variables of the problem alone, and there is an index for it
+pub record HasRoom (c : Certificate) (d : Derivation) : Type 0 where
+  pub names : NamesBelow (variables c.problem) (at d.stated.row)
+  pub index : count c + 1 < 2 ^ 32
+
+-- the checker stands behind the certificate c, and the reader before the derivation that comes next
+pub record IsAt {S : Type 0} (table : S → Table) (c : Certificate) (k : Checker S) (r : Items) : Type 0 where
+  pub describes : Describes table c k
+  pub knows : Knows r c.problem
+  pub unspent : r.reading.spent ≡ false
+  pub room : count c + r.left < 2 ^ 32
+
+-- an answer for the certificate d and what is left then is one for the certificate c and what is left before
+pub record Leads (c : Certificate) (old : Items) (d : Certificate) (new : Items) : Type 0 where
+  pub told : new.reading.told ≡ true
+  pub answers : (a : Answer) → Answers (derivations_from d new.left new.reading.left) a → Answers (derivations_from c old.left old.reading.left) a
+
+-- so much was read since the certificate c that the checker now stands behind another one
+pub record HasReached {S : Type 0} (table : S → Table) (c : Certificate) (old : Items) (k : Checker S) (new : Items) : Type 0 where
+  pub now : Certificate
+  pub is_at : IsAt table now k new
+  pub leads : old.reading.told ≡ true → Leads c old now new

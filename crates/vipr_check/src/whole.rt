@@ -1,0 +1,61 @@
+//! Checks a whole certificate.
+
+ghost use Rattle.std.specs.Prelude.{◌≡◌};
+ghost use Rattle.vipr_spec.specs.Certificate.{Certificate, IsProof};
+ghost use Rattle.vipr_spec.specs.Grammar.{Spells};
+ghost use Rattle.vipr_spec.specs.Soundness.{IsShown};
+ghost use Rattle.vipr_spec.specs.Verdict.{Answer, Reports, IsAnswer};
+ghost use Rattle.vipr_spec.specs.Progress.{IsBuilt};
+ghost use Rattle.vipr_check.specs.View.{report_of, Says, IfVerified, IsVerified};
+ghost use Rattle.vipr_check.specs.Texts.{rest_of, IfTold, IfWhole};
+
+use crate::stream::verdict_on;
+use crate::verdict::{Fault, Verdict};
+use std::alloc::Global;
+use vipr_bytes::Source;
+use vipr_rules::{LiveOnly, Rows};
+
+/// Checks the certificate that is read from `source`, and holds no more derived constraints than
+/// may still be referred to.
+///
+/// Each item is tested before more is read than it takes. What isn't built yet is refused: a claim
+/// of bounds, a listed solution, and every reason but a sum.
+///
+/// # Errors
+///
+/// Where a read fails, and where a growth is refused.
+pub fn check<R: Source + Drop>(alloc: Global, source: R) -> Result<Verdict, Fault>
+    // The answer is that of the definitions for the bytes that the source gives, in whatever pieces.
+    ensures exact { IfTold (R.input source) (λ i. Says (IsAnswer (rest_of i)) result) }
+    // They have one answer.
+    ensures only { IfTold (R.input source) (λ i. (a : Answer) → IsAnswer (rest_of i) a → Says (λ b. b ≡ a) result) }
+    // Verified is only what spells a proof, and the report is that of the proof.
+    ensures proof { IfWhole (R.input source) (λ bytes. IfVerified result (λ report.
+        (c : Certificate) × Spells bytes c × IsBuilt c × IsProof c × Reports c (report_of report))) }
+    // Whatever spells a proof of the kind that is built is verified.
+    ensures every { IfWhole (R.input source) (λ bytes. (c : Certificate) → Spells bytes c → IsBuilt c → IsProof c
+        → IsVerified result (λ report. Reports c (report_of report))) }
+    // What is claimed is then true at every point: each that is whole at the integer variables breaks a constraint.
+    ensures sound { IfWhole (R.input source) (λ bytes. IfVerified result (λ report.
+        (c : Certificate) × Spells bytes c × IsShown c.problem c.solutions c.problem.claim)) }
+{
+    check_with::<R, LiveOnly>(alloc, source)
+}
+
+/// The same over any table of the derived constraints.
+///
+/// # Errors
+///
+/// Where a read fails, and where a growth is refused.
+pub fn check_with<R: Source + Drop, S: Rows>(alloc: Global, source: R) -> Result<Verdict, Fault>
+    ensures exact { IfTold (R.input source) (λ i. Says (IsAnswer (rest_of i)) result) }
+    ensures only { IfTold (R.input source) (λ i. (a : Answer) → IsAnswer (rest_of i) a → Says (λ b. b ≡ a) result) }
+    ensures proof { IfWhole (R.input source) (λ bytes. IfVerified result (λ report.
+        (c : Certificate) × Spells bytes c × IsBuilt c × IsProof c × Reports c (report_of report))) }
+    ensures every { IfWhole (R.input source) (λ bytes. (c : Certificate) → Spells bytes c → IsBuilt c → IsProof c
+        → IsVerified result (λ report. Reports c (report_of report))) }
+    ensures sound { IfWhole (R.input source) (λ bytes. IfVerified result (λ report.
+        (c : Certificate) × Spells bytes c × IsShown c.problem c.solutions c.problem.claim)) }
+{
+    verdict_on::<R, S>(alloc, source)
+}
