@@ -16,6 +16,8 @@ mod order;
 mod references;
 mod steps;
 mod table;
+#[cfg(test)]
+mod tests;
 mod united;
 
 pub use assumed::Assumptions;

@@ -1,0 +1,99 @@
+use crate::{Assumptions, Entry, KeepAll, LiveOnly, Rows};
+use std::alloc::Global;
+use std::process::Abort;
+use std::test::Fail;
+use vipr_frac::Frac;
+use vipr_linear::{Constraint, Row, Sense};
+
+fn entry(alloc: Global, last: Option<u32>, is_assumption: bool) -> Result<Entry, Fail> {
+    Ok(Entry {
+        constraint: Constraint {
+            row: Row::from_pairs(alloc, Vec::new(alloc))?,
+            sense: Sense::G,
+            rhs: Frac::one(),
+        },
+        assumptions: Assumptions::empty(alloc),
+        is_assumption,
+        last,
+    })
+}
+
+// The table after derivations with these last references, the first with the index 2, of which some
+// are assumptions, and how many entries were held after each.
+fn placed<S: Rows>(
+    rt: &impl Abort,
+    alloc: Global,
+    derivations: &[(Option<u32>, bool)],
+) -> Result<(S, Vec<usize>), Fail> {
+    let mut rows = S::new(alloc, 2);
+    let mut held = Vec::new(alloc);
+    for (last, is_assumption) in derivations {
+        rows.advance();
+        assert!(rt; rows.next() < 100);
+        assert!(rt; rows.put(entry(alloc, *last, *is_assumption)?).is_ok());
+        held.push(rows.held())?;
+    }
+    Ok((rows, held))
+}
+
+// Two assumptions, a constraint from each, and one that rests on neither.
+fn both_branches<S: Rows>(rt: &impl Abort, alloc: Global) -> Result<(), Fail> {
+    let (rows, held) = placed::<S>(
+        rt,
+        alloc,
+        &[
+            (Some(6), true),
+            (Some(6), true),
+            (Some(6), false),
+            (Some(6), false),
+            (None, false),
+        ],
+    )?;
+    assert_eq!(rt; held.as_slice(), [1, 2, 3, 4, 3].as_slice());
+    assert!(rt; rows.get(2).is_some());
+    assert!(rt; rows.get(4).is_none());
+    assert!(rt; rows.get(6).is_some());
+    Ok(())
+}
+
+// Constraints that the third derivation may refer to and the next one may not, the third itself
+// among them.
+fn dropped<S: Rows>(rt: &impl Abort, alloc: Global) -> Result<(), Fail> {
+    let (rows, held) = placed::<S>(
+        rt,
+        alloc,
+        &[(Some(4), false), (Some(4), false), (Some(4), false)],
+    )?;
+    assert_eq!(rt; held.as_slice(), [1, 2, 1].as_slice());
+    assert!(rt; rows.get(2).is_none());
+    assert!(rt; rows.get(4).is_none());
+    assert!(rt; rows.get(5).is_none());
+    Ok(())
+}
+
+#[test]
+fn live_only(rt: HostRuntime) -> Result<(), Fail> {
+    both_branches::<LiveOnly>(&rt, rt.alloc())?;
+    dropped::<LiveOnly>(&rt, rt.alloc())
+}
+
+#[test]
+fn keep_all(rt: HostRuntime) -> Result<(), Fail> {
+    both_branches::<KeepAll>(&rt, rt.alloc())?;
+    dropped::<KeepAll>(&rt, rt.alloc())
+}
+
+#[test]
+fn sets(rt: HostRuntime) -> Result<(), Fail> {
+    let alloc = rt.alloc();
+    let none = Assumptions::empty(alloc);
+    let two = Assumptions::single(alloc, 2)?;
+    let five = Assumptions::single(alloc, 5)?;
+    let both = five.union(alloc, &two)?.union(alloc, &none)?;
+    assert!(rt; both.contains(2) && both.contains(5) && !both.contains(3));
+    let again = both.union(alloc, &both)?;
+    let left = again.without(alloc, 5)?;
+    assert!(rt; left.contains(2) && !left.contains(5));
+    assert!(rt; none.is_empty() && left.without(alloc, 2)?.is_empty() && !left.is_empty());
+    Ok(())
+}
