@@ -11,7 +11,7 @@ use Rattle.std.specs.List.{range_with_len}
 use Rattle.std.specs.Ordering.{nat_cmp, int_cmp, int_eq, eq_by_cmp}
 use Rattle.vipr_spec.specs.Fraction.{ℚ, zero_ℚ, ◌+ℚ◌, ◌*ℚ◌}
 use Rattle.vipr_spec.specs.Constraint.{Row, at, Sense, at_most, equal, at_least, Entry}
-use Rattle.vipr_spec.proofs.Fractions.{add-zero_ℚ, mul-zero_ℚ, zero-mul_ℚ}
+use Rattle.vipr_spec.proofs.Fractions.{add-zero_ℚ, mul-zero_ℚ, zero-mul_ℚ, zero_or_not}
 use Rattle.vipr_linear.specs.Accumulator.{Accumulator, sum_at, with_entry, by_sign, turned, joined, NamesBelow, TermFits, with_term, with_terms, TermsFitIn}
 use Rattle.vipr_linear.specs.Row.{RisesFrom}
 use Rattle.vipr_linear.proofs.Rows.{row_again, rises_sorted, zero_numer, zero_from_numer}
@@ -25,13 +25,13 @@ tied j = grind (arith, nat_tests)
 untied : (j k : ℕ) → j ≢ k → eq_by_cmp nat_cmp j k ≡ false
 untied j k n = grind (arith, nat_tests)
 
-coefficient_here : (p : ℕ × ℚ) (es : List (ℕ × ℚ)) (j : ℕ) → j ≡ p.0 → coefficient (p ∷ es) j ≡ p.1
+pub coefficient_here : (p : ℕ × ℚ) (es : List (ℕ × ℚ)) (j : ℕ) → j ≡ p.0 → coefficient (p ∷ es) j ≡ p.1
 coefficient_here p es j e = ap (λ b. unwrap_or (cond b (Some p.1) (find nat_cmp j es)) zero_ℚ) (ap (eq_by_cmp nat_cmp j) (sym e) ∙ tied j)
 
-coefficient_later : (p : ℕ × ℚ) (es : List (ℕ × ℚ)) (j : ℕ) → j ≢ p.0 → coefficient (p ∷ es) j ≡ coefficient es j
+pub coefficient_later : (p : ℕ × ℚ) (es : List (ℕ × ℚ)) (j : ℕ) → j ≢ p.0 → coefficient (p ∷ es) j ≡ coefficient es j
 coefficient_later p es j n = ap (λ b. unwrap_or (cond b (Some p.1) (find nat_cmp j es)) zero_ℚ) (untied j p.0 n)
 
-coefficient_below : (low : ℕ) (es : List (ℕ × ℚ)) (j : ℕ) → j < low → RisesFrom low es → coefficient es j ≡ zero_ℚ
+pub coefficient_below : (low : ℕ) (es : List (ℕ × ℚ)) (j : ℕ) → j < low → RisesFrom low es → coefficient es j ≡ zero_ℚ
 coefficient_below low [] j l r = refl
 coefficient_below low (p ∷ es) j l r = coefficient_later p es j (λ e. absurd (let le : low ≤ p.0 = r.0 in omega arith)) ∙ coefficient_below (p.0 + 1) es j (let le : low ≤ p.0 = r.0 in omega arith) r.2
 
@@ -96,9 +96,31 @@ fits_at low sums m (p ∷ es) r =
       λ h. let k = parts_fit sums m p es r.2 r.1 h in (k.0, rest.1 k.1),
     )
 
+-- what holds of each listed entry holds of each coefficient that is not 0
+module _ (P : ℕ → ℚ → Type 0) where
+  entry_first : (p : ℕ × ℚ) (es : List (ℕ × ℚ)) → P p.0 p.1 → ((j : ℕ) → coefficient es j ≢ zero_ℚ → P j (coefficient es j)) → (j : ℕ) → coefficient (p ∷ es) j ≢ zero_ℚ → P j (coefficient (p ∷ es) j)
+  entry_first p es h rest j n = by (cases_eq j p.0)
+    where
+      by : (j ≡ p.0) ⊎ (j ≢ p.0) → P j (coefficient (p ∷ es) j)
+      by (inl e) = subst₂ P (sym e) (sym (coefficient_here p es j e)) h
+      by (inr d) = subst (P j) (sym (coefficient_later p es j d)) (rest j (λ z. n (coefficient_later p es j d ∙ z)))
+
+  entry_rest : (p : ℕ × ℚ) (es : List (ℕ × ℚ)) → RisesFrom (p.0 + 1) es → ((j : ℕ) → coefficient (p ∷ es) j ≢ zero_ℚ → P j (coefficient (p ∷ es) j)) → (j : ℕ) → coefficient es j ≢ zero_ℚ → P j (coefficient es j)
+  entry_rest p es r h j n =
+      let apart : j ≢ p.0 = λ e. n (coefficient_below (p.0 + 1) es j (omega arith) r) in
+      subst (P j) (coefficient_later p es j apart) (h j (λ z. n (sym (coefficient_later p es j apart) ∙ z)))
+
+  entries_each : (low : ℕ) (es : List (ℕ × ℚ)) → RisesFrom low es → All (λ e. P e.0 e.1) es ↔ ((j : ℕ) → coefficient es j ≢ zero_ℚ → P j (coefficient es j))
+  entries_each low [] r = (λ all j n. absurd (n refl), λ h. All-nil (λ (e : ℕ × ℚ). P e.0 e.1))
+  entries_each low (p ∷ es) r =
+      let rest = entries_each (p.0 + 1) es r.2 in (
+        λ all. entry_first p es (All-head (λ (e : ℕ × ℚ). P e.0 e.1) p es all) (rest.0 (All-tail (λ (e : ℕ × ℚ). P e.0 e.1) p es all)),
+        λ h. All-cons (λ (e : ℕ × ℚ). P e.0 e.1) p es (subst (P p.0) (coefficient_here p es p.0 refl) (h p.0 (λ z. r.1 (sym (coefficient_here p es p.0 refl) ∙ z)))) (rest.1 (entry_rest p es r.2 h)),
+      )
+
 -- ---- the same of a row
 module _ (row : Row) where
-  coefficient_at : RisesFrom 0 (entries row) → (j : ℕ) → coefficient (entries row) j ≡ at row j
+  pub coefficient_at : RisesFrom 0 (entries row) → (j : ℕ) → coefficient (entries row) j ≡ at row j
   coefficient_at r j = sym (ap (λ o. unwrap_or o zero_ℚ) (get-from_sorted nat_cmp (entries row) j (rises_sorted 0 (entries row) r))) ∙ ap (λ m. at m j) (row_again row)
 
   -- a row that names variables below n alone, by its entries
@@ -116,6 +138,20 @@ module _ (row : Row) where
           later : (j : ℕ) → n ≤ j → (j ≡ p.0) ⊎ (j ≢ p.0) → coefficient es j ≡ zero_ℚ
           later j l (inl e) = coefficient_below (p.0 + 1) es j (omega arith) r.2
           later j l (inr d) = sym (coefficient_later p es j d) ∙ none j l
+
+  pub row_each : (P : ℕ → ℚ → Type 0) → RisesFrom 0 (entries row) → All (λ e. P e.0 e.1) (entries row) ↔ ((j : ℕ) → at row j ≢ zero_ℚ → P j (at row j))
+  row_each P r =
+      let each = entries_each P 0 (entries row) r in (
+        λ all j n. subst (P j) (coefficient_at r j) (each.0 all j (λ z. n (sym (coefficient_at r j) ∙ z))),
+        λ h. each.1 (λ j n. subst (P j) (sym (coefficient_at r j)) (h j (λ z. n (coefficient_at r j ∙ z)))),
+      )
+
+  pub names_told : (n : ℕ) → RisesFrom 0 (entries row) → All (λ e. e.0 < n) (entries row) ↔ NamesBelow n (at row)
+  names_told n r = (λ all j past. zero (zero_or_not (at row j)) past ((row_each (λ j x. j < n) r).0 all j), λ names. below n r names)
+    where
+      zero : {j : ℕ} → (at row j ≡ zero_ℚ) ⊎ ¬ (at row j ≡ zero_ℚ) → n ≤ j → (at row j ≢ zero_ℚ → j < n) → at row j ≡ zero_ℚ
+      zero (inl e) past h = e
+      zero (inr m) past h = absurd (let l = h m in omega (arith, l, past))
 
   pub row_terms_fit : (sums : List ℚ) (m : ℚ) → RisesFrom 0 (entries row) → TermsFitIn sums m (entries row) ↔ ((j : ℕ) → at row j ≢ zero_ℚ → TermFits (get_or sums j zero_ℚ) m (at row j))
   row_terms_fit sums m r =

@@ -4,3 +4,6 @@ pub mod Marks
 pub mod Adding
 pub mod Collecting
 pub mod StepByStep
+pub mod Roundings
+pub mod Valuing
+pub mod Searching

@@ -63,7 +63,7 @@ still_marked marks v j l t = by (cases_eq j v)
     by (inr n) = get_or-set_other marks v j true false n ∙ t
 
 -- ---- terms, in their order
-next : {A : Type 0} (es : List A) (i : ℕ) (p : A) → i < length es → p ≡ get_or es i p → drop i es ≡ p ∷ drop (i + 1) es
+pub next : {A : Type 0} (es : List A) (i : ℕ) (p : A) → i < length es → p ≡ get_or es i p → drop i es ≡ p ∷ drop (i + 1) es
 next es i p l e = rw add-one (drop-cons es i p l ∙ ap (λ x. x ∷ drop (suc i) es) (sym e))
 
 module _ (sums : List ℚ) (m : ℚ) (es : List (ℕ × ℚ)) (i : ℕ) (p : ℕ × ℚ) (l : i < length es) (e : p ≡ get_or es i p) where

@@ -36,7 +36,7 @@ partial_push s (x ∷ xs) t =
       λ h. (h.0.0, rest.1 (h.0.1, subst (λ y. SumFits y t) (sym same) h.1)),
     )
 
-sum_bounded : (x y : ℚ) → SumFits x y → IsBounded (x +ℚ y)
+pub sum_bounded : (x y : ℚ) → SumFits x y → IsBounded (x +ℚ y)
 sum_bounded x y f =
     let parts = parts_of _ _ (sum_lowest x.numer y.numer x.denom y.denom x.lowest y.lowest) in
     let numer = ap (λ (z : ℚ). z.numer) (sum_is x y) ∙ parts.0 in
@@ -93,7 +93,7 @@ entry_terms x es e =
       λ h. subst TermsFit (sym split) (push.1 (h.0, subst (λ s. TermFits s e.0 (x e)) (sym same) h.1)),
     )
 
-zero_bounded : IsBounded zero_ℚ
+pub zero_bounded : IsBounded zero_ℚ
 zero_bounded = subst IsBounded (mul-zero_ℚ zero_ℚ) (zero_product_fits zero_ℚ)
 
 -- what is held is bounded
@@ -104,7 +104,7 @@ held_bounded x es h =
     subst IsBounded (zero-add_ℚ _ ∙ sum-map (λ (t : ℚ). t) (λ (t : ℚ × ℚ). t.0 *ℚ t.1) (map pair es) ∙ sum-map (λ (t : ℚ × ℚ). t.0 *ℚ t.1) pair es) b
 
 -- a product with 0 fits, and so does the sum with it
-nothing_fits : (s m x : ℚ) → IsBounded s → m *ℚ x ≡ zero_ℚ → TermFits s m x
+pub nothing_fits : (s m x : ℚ) → IsBounded s → m *ℚ x ≡ zero_ℚ → TermFits s m x
 nothing_fits s m x b e = (subst IsBounded (sym e) zero_bounded, subst (SumFits s) (sym e) (sum_with_zero_fits s b))
 
 module _ (n : ℕ) (es : List Entry) (e : Entry) (a : Accumulator) (h : Holds n es a) where

@@ -2,3 +2,5 @@ pub mod Row
 pub mod Constraint
 pub mod Accumulator
 pub mod Touched
+pub mod Rounding
+pub mod Values

@@ -89,6 +89,7 @@ impl Combination {
         ensures mixed_signs { (result ≡ Err CombError.MixedSigns) ↔ ((self.old.spent ≡ false) × IsNone (joined_with self.old (multiplier, condition_of constraint.now))) }
         ensures overflow { (result ≡ Err CombError.Overflow) ↔ ((self.old.spent ≡ false) × IsSome (joined_with self.old (multiplier, condition_of constraint.now)) × ¬ EntryFits self.old (multiplier, condition_of constraint.now)) }
         ensures no_memory { result ≢ Err CombError.Memory }
+        ensures variables { length self.new.sums ≡ length self.old.sums }
         ensures err { OnErr result (IsSpent (length self.old.sums) self.new) }
     {
         if self.is_spent {
@@ -128,6 +129,7 @@ impl Combination {
 
         ensures spent { (result ≡ Err CombError.Spent) ↔ (self.old.spent ≡ true) }
         ensures memory { IfErr result (λ error. (error ≡ CombError.Spent) ⊎ (error ≡ CombError.Memory)) }
+        ensures variables { length self.new.sums ≡ length self.old.sums }
         ensures err { OnErr result (IsSpent (length self.old.sums) self.new) }
     {
         if self.is_spent {

@@ -1,5 +1,5 @@
 //! Rows: the nonzero coefficients of a constraint.
-ghost use Rattle.std.specs.Prelude.{◌≡◌, ◌≢◌, ◌↔◌, ◌+◌, ◌<◌, nat_eq, IsTrue, IsOk, IfOk, IfErr, OnOk, MatchOption, filter, pos, length, ℕ};
+ghost use Rattle.std.specs.Prelude.{All, ◌≡◌, ◌≢◌, ◌↔◌, ◌+◌, ◌<◌, nat_eq, IsTrue, IsOk, IfOk, IfErr, OnOk, MatchOption, filter, pos, length, ℕ};
 ghost use Rattle.std.specs.Ordering.{int_eq};
 ghost use Rattle.std.specs.List.{IsDistinct};
 ghost use Rattle.std.specs.List.Sorted.{IsPermutation, IsNonDecreasingBy, IsStrictlyIncreasing};
@@ -7,6 +7,7 @@ ghost use Rattle.std.specs.FinMap.{entries, from_sorted};
 ghost use Rattle.vipr_spec.specs.Fraction.{zero_ℚ};
 ghost use Rattle.vipr_spec.specs.Constraint.{at};
 ghost use Rattle.vipr_spec.specs.Reading.{is_nonzero, row_of};
+ghost use Rattle.vipr_linear.specs.Accumulator.{NamesBelow};
 ghost use Rattle.vipr_linear.specs.Row.{RisesFrom, variables_of, IsFirstRepeated, HasNoZeros};
 
 use std::alloc::{AllocError, Global};
@@ -97,6 +98,26 @@ impl Row {
         self.entries.as_slice()
     }
 
+    /// The coefficient of a variable, 0 where it doesn't stand in the row.
+    pub fn coefficient(&self, variable: u32) -> Frac
+        ensures { result ≡ at self.now variable }
+    {
+        match self
+            .entries
+            .binary_search_by_key(&variable, |entry| entry.0)
+        {
+            Ok(place) => self.entries[place].1,
+            Err(_) => Frac::zero(),
+        }
+    }
+
+    /// Whether it has no variable from `n` on.
+    pub fn names_below(&self, n: u32) -> bool
+        ensures { IsTrue result ↔ NamesBelow n (at self.now) }
+    {
+        all_below(self.entries(), n)
+    }
+
     /// Whether the coefficients are the same.
     pub fn is_same(&self, other: &Row) -> bool
         ensures { IsTrue result ↔ ((j : ℕ) → at self.now j ≡ at other.now j) }
@@ -115,6 +136,12 @@ impl Row {
 /// A value for each variable that is not 0.
 #[derive(Debug, Drop)]
 pub struct Solution(pub Row);
+
+fn all_below(entries: &[(u32, Frac)], n: u32) -> bool
+    ensures { IsTrue result ↔ All (λ e. e.0 < n) entries.now }
+{
+    entries.iter().all(|entry| entry.0 < n)
+}
 
 // The pairs in rising order of their variables.
 fn in_order(alloc: Global, pairs: Vec<(u32, Frac)>) -> Result<Vec<(u32, Frac)>, RowError>
