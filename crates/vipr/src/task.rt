@@ -1,0 +1,16 @@
+//! What the program can be asked for.
+ghost use Rattle.std.specs.Prelude.{◌≡◌, IfSome, IsNone};
+ghost use Rattle.vipr.specs.Line.{name_of};
+
+/// What the program is to do.
+#[derive(Clone, Copy, Debug, PartialEq, Eq)]
+pub enum Task {
+    Check,
+}
+
+/// A command line that was read: the task, and the file that it names.
+#[derive(Clone, Copy, Debug, PartialEq, Eq)]
+pub struct Job<'a> {
+    pub command: Task,
+    pub file: Option<&'a str>,
+}
