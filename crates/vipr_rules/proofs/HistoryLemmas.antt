@@ -19,7 +19,7 @@ entry_later : (c : Certificate) (ds : List Derivation) (i : ℕ) (e : Entry) →
 entry_later c ds i e valid h x = record {
   says = constraint_before c ds i h ∙ x.says;
   rests = λ a. (λ t. rests_before c ds valid i a h ((x.rests a).0 t), λ r. (x.rests a).1 (rests_after c ds valid i a h r));
-  assumption = x.assumption ∙ sym (ap is_assumption (reason_before c ds i h));
+  is_assumed = x.is_assumed ∙ sym (ap is_assumption (reason_before c ds i h));
   last = x.last ∙ sym (last_before c ds i h);
 }
 
@@ -28,7 +28,7 @@ abbrev lasts : Certificate → ℕ → ℕ → Bool
 lasts c k i = is_assumption (reason_at c i) || lasts_to k (last_at c i)
 
 entry_lasts : (c : Certificate) (i : ℕ) (e : Entry) (k : ℕ) → IsEntryOf c i e → is_live_before k e ≡ lasts c k i
-entry_lasts c i e k x = by e.is_assumption ∙ ap₂ (λ b l. b || lasts_to k l) x.assumption x.last
+entry_lasts c i e k x = by e.is_assumption ∙ ap₂ (λ b l. b || lasts_to k l) x.is_assumed x.last
   where
     by : (b : Bool) → lasts_to k (cond b None e.last) ≡ (b || lasts_to k e.last)
     by true = refl

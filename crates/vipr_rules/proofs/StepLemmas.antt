@@ -79,6 +79,6 @@ lin_entry c d es e by back passes says rests assumed last = record {
       let next = rests_next c d a back (built_good c d passes).earlier in
       let here = subst (λ r. RestsBy c (count c) (Some r) a ↔ SomeRestsOn c es a) (sym by) ((λ x. x), (λ x. x)) in
       (λ t. next.1 (here.1 ((rests a).0 t)), λ r. (rests a).1 (here.0 (next.0 r)));
-  assumption = assumed ∙ sym (ap is_assumption (reason_next c d) ∙ ap (λ r. is_assumption (Some r)) by);
+  is_assumed = assumed ∙ sym (ap is_assumption (reason_next c d) ∙ ap (λ r. is_assumption (Some r)) by);
   last = last ∙ sym (last_next c d);
 }

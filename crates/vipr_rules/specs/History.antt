@@ -11,7 +11,7 @@ use Rattle.vipr_rules.specs.Table.{Table}
 pub record IsEntryOf (c : Certificate) (i : ℕ) (e : Entry) : Type 0 where
   pub says : constraint_at c i ≡ condition_of e.constraint
   pub rests : (a : ℕ) → IsTrue (set.contains e.assumptions a) ↔ RestsOn c i a
-  pub assumption : e.is_assumption ≡ is_assumption (reason_at c i)
+  pub is_assumed : e.is_assumption ≡ is_assumption (reason_at c i)
   pub last : e.last ≡ last_at c i
 
 -- constraint i is derived
