@@ -1,12 +1,12 @@
 -- What is answered, step by step
-use Rattle.std.proofs.Common.{◌≡◌, ℕ, Bool, false, List, Option, Some, None, Result, Ok, Err, refl, sym, ◌∙◌, ap, subst}
+use Rattle.std.proofs.Common.{◌≡◌, ℕ, false, List, Option, Some, None, Result, Ok, Err, refl, sym, ap, subst}
 use Rattle.vipr_spec.specs.Certificate.{Certificate, Derivation, IsProof, count}
 use Rattle.vipr_spec.specs.Input.{Input}
 use Rattle.vipr_spec.specs.Reading.{Rest, Fault as ReadFault, refused, unread, certificate_read}
 use Rattle.vipr_spec.specs.Grammar.{Spells}
 use Rattle.vipr_spec.specs.GrammarLaws.{whole_text}
 use Rattle.vipr_spec.specs.Soundness.{IsShown}
-use Rattle.vipr_spec.specs.Verdict.{StepTest, earlier, live, assumed, suitable, fitting, roundable, split, listed, by_sum, by_rounding, by_constraint, by_cutoff, built, step_tests, step_cause, spelled, of_step, Report as Told, Reports, Answer, verified, refuses, cut_short, told_by, IsAnswer}
+use Rattle.vipr_spec.specs.Verdict.{StepTest, earlier, live, assumed, suitable, fitting, roundable, split, listed, by_sum, by_rounding, by_constraint, by_cutoff, built, step_tests, spelled, of_step, Reports, Answer, verified, cut_short, told_by, IsAnswer}
 use Rattle.vipr_spec.specs.Progress.{IsBuilt}
 use Rattle.vipr_spec.proofs.Reported.{one_answer}
 use Rattle.vipr_spec.proofs.WholeText.{verified_text, proof_answered}

@@ -1,8 +1,8 @@
 -- The checker's state, derivation by derivation
-use Rattle.std.proofs.Common.{◌≡◌, ℕ, ◌+◌, ◌<◌, ◌≤◌, ◌^◌, max, List, [], ◌∷◌, ◌++◌, length, map, replicate, get_or, Option, Some, None, All, Ok, ◌-◌, inl, inr, arith, rules, refl, sym, ◌∙◌, ap, ap₂, subst}
+use Rattle.std.proofs.Common.{◌≡◌, ℕ, max, List, [], ◌++◌, length, map, Some, None, All, Ok, ◌-◌, inl, inr, arith, rules, refl, sym, ◌∙◌, ap, subst}
 use Rattle.std.proofs.lemmas.Bool.{cases_lt}
 use Rattle.std.proofs.lemmas.List.{get_or-map, get_or_past, length-map}
-use Rattle.std.proofs.lemmas.List.Elements.{All-nil, All-push, All-append, All-map, All-get_or}
+use Rattle.std.proofs.lemmas.List.Elements.{All-nil, All-push, All-append, All-map}
 use Rattle.std.specs.FinMap as finite
 use Rattle.vipr_spec.specs.Fraction.{zero_ℚ}
 use Rattle.vipr_spec.specs.Constraint.{Constraint, Condition, condition, at, equal}
@@ -18,11 +18,9 @@ use Rattle.vipr_spec.specs.Progress.{Answers, derivations_from}
 use Rattle.vipr_spec.proofs.Reported.{built_good}
 use Rattle.vipr_spec.proofs.Steps.{refers_back}
 use Rattle.vipr_linear.specs.Accumulator.{Accumulator, NamesBelow}
-use Rattle.vipr_linear.specs.Constraint.{constraint_of, condition_of}
+use Rattle.vipr_linear.specs.Constraint.{constraint_of}
 use Rattle.vipr_text.specs.Items.{named_of, problem_of, claim_of}
 use Rattle.vipr_text.specs.declared.items.Problem.{Problem as ProblemRead}
-use Rattle.vipr_text.specs.declared.items.Named.{Named as NamedRead}
-use Rattle.vipr_linear.specs.declared.constraint.Constraint.{Constraint as ConstraintRead}
 use Rattle.vipr_rules.specs.Table.{Table, empty_table, step, held}
 use Rattle.vipr_rules.specs.History.{IsTableOf, IsEntryOf}
 use Rattle.vipr_rules.specs.Before.{NameBelow}

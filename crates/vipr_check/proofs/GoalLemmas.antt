@@ -1,7 +1,6 @@
 -- The goal, constraint by constraint
-use Rattle.std.proofs.Common.{◌≡◌, ℕ, ◌+◌, ◌<◌, ◌≤◌, Bool, true, false, List, [], ◌∷◌, length, map, get_or, Option, Some, None, is_some, All, inl, inr, arith, refl, sym, ◌∙◌, ap, subst}
+use Rattle.std.proofs.Common.{◌≡◌, ℕ, ◌<◌, Bool, true, false, List, [], ◌∷◌, length, map, get_or, Option, Some, None, is_some, inl, inr, arith, refl, sym, ◌∙◌, ap, subst}
 use Rattle.std.specs.Prelude.{◌↔◌}
-use Rattle.std.specs.List.{AllWithin, HoldsAt}
 use Rattle.std.proofs.lemmas.List.{get_or-map, length-map}
 use Rattle.std.proofs.lemmas.List.Elements.{All-map}
 use Rattle.std.specs.FinSet as set
@@ -9,8 +8,7 @@ use Rattle.std.specs.FinSet.{same_set, contains-empty, nat_cmp-IsAntisymmetric}
 use Rattle.std.specs.Cmp.{nat_cmp_total}
 use Rattle.std.specs.Ordering.{nat_cmp}
 use Rattle.vipr_spec.specs.Constraint.{condition, IsAbsurd}
-use Rattle.vipr_spec.specs.Certificate.{Named as NamedMeant, Problem, Claim, infeasible, Derivation, Certificate, MeetsDual, count, RestsOn}
-use Rattle.vipr_spec.specs.Constraint.{Constraint as ConstraintMeant}
+use Rattle.vipr_spec.specs.Certificate.{Problem, infeasible, Derivation, Certificate, MeetsDual, count, RestsOn}
 use Rattle.vipr_spec.specs.OnePass.{with_next}
 use Rattle.vipr_spec.specs.Checking.{Meets, IsFirstMet, ProvesNext, NextGoal}
 use Rattle.vipr_spec.proofs.Prefix.{constraint_next}

@@ -1,13 +1,13 @@
 -- A text item by item: what is answered for what is left is the answer for what was left before
-use Rattle.std.proofs.Common.{◌≡◌, ℕ, zero, suc, ◌+◌, ◌-◌, ◌<◌, ◌≤◌, ◌^◌, true, false, List, [], length, Option, Some, None, Result, Ok, Err, inl, inr, arith, refl, sym, ◌∙◌, ap, subst}
+use Rattle.std.proofs.Common.{◌≡◌, ℕ, zero, suc, ◌+◌, ◌<◌, ◌^◌, true, false, [], Option, Some, None, Result, Ok, inl, inr, arith, refl, sym, ◌∙◌, subst}
 use Rattle.std.specs.Prelude.{◌⊎◌}
 use Rattle.vipr_spec.specs.Constraint.{Row, at}
-use Rattle.vipr_spec.specs.Certificate.{Named, Problem, variables, infeasible, Claim, Derivation, Certificate, MeetsPrimal, count}
-use Rattle.vipr_spec.specs.Reading.{Rest, Read, Fault as ReadFault, problem_read, solution_read, derivations_read, derivation_read, end_read}
+use Rattle.vipr_spec.specs.Certificate.{Named, Problem, infeasible, Derivation, Certificate, MeetsPrimal, count}
+use Rattle.vipr_spec.specs.Reading.{Rest, problem_read, solution_read, derivations_read, derivation_read, end_read}
 use Rattle.vipr_spec.specs.OnePass.{with_next}
 use Rattle.vipr_spec.specs.Checking.{start}
 use Rattle.vipr_spec.specs.Causes.{not_yet}
-use Rattle.vipr_spec.specs.Verdict.{step_tests, at_solution, at_end, spelled, of_step, is_built, Answer, told_by, IsAnswer}
+use Rattle.vipr_spec.specs.Verdict.{at_solution, at_end, spelled, of_step, is_built, told_by, IsAnswer}
 use Rattle.vipr_spec.specs.Progress.{Answers, derivations_from, solutions_from}
 use Rattle.vipr_spec.proofs.Prefix.{count_next}
 use Rattle.vipr_spec.proofs.Remains.{problem_fault, problem_built, problem_unbuilt, solution_fault, solution_unbuilt, derivations_fault, derivations_begin, derivation_fault, derivation_passes, derivation_fails, end_fault}
@@ -22,8 +22,8 @@ use Rattle.vipr_check.specs.declared.verdict.Verdict.{Verdict}
 use Rattle.vipr_check.specs.declared.verdict.Fault.{Fault}
 use Rattle.vipr_check.specs.View.{answer_of, Says}
 use Rattle.vipr_check.specs.Refused.{refused_at, text_failed}
-use Rattle.vipr_check.specs.State.{Describes, HasRoom, IsAt, Leads, HasReached}
-use Rattle.vipr_check.specs.Taking.{FailsNext, IsTaken, Goes}
+use Rattle.vipr_check.specs.State.{Describes, HasRoom, IsAt, HasReached}
+use Rattle.vipr_check.specs.Taking.{IsTaken, Goes}
 use Rattle.vipr_check.proofs.Answering.{Says-by, text_says}
 
 -- ---- the reader's memory

@@ -8,7 +8,7 @@ use Rattle.vipr_rules.specs.declared.failure.RuleError.TheVariants as rule
 use Rattle.vipr_check.specs.declared.verdict.Place.{Place}
 use Rattle.vipr_check.specs.declared.verdict.Place.TheVariants.{Byte, Der}
 use Rattle.vipr_check.specs.declared.verdict.Verdict.{Verdict}
-use Rattle.vipr_check.specs.declared.verdict.Verdict.TheVariants.{Verified, Refused}
+use Rattle.vipr_check.specs.declared.verdict.Verdict.TheVariants.{Refused}
 use Rattle.vipr_check.specs.declared.verdict.Fault.{Fault}
 use Rattle.vipr_check.specs.declared.verdict.Fault.TheVariants.{Read, Memory}
 

@@ -1,8 +1,8 @@
 -- How a checker takes a derivation
-use Rattle.std.specs.Prelude.{◌≡◌, ◌⊎◌, ℕ, true, Option, Some, None, Result, Ok, Err}
+use Rattle.std.specs.Prelude.{◌≡◌, ◌⊎◌, true, Option, Some, None, Result, Ok, Err}
 use Rattle.vipr_spec.specs.Certificate.{Derivation, Certificate, count}
 use Rattle.vipr_spec.specs.OnePass.{with_next}
-use Rattle.vipr_spec.specs.Verdict.{step_tests, StepTest, FirstFailing, of_step, Answer, told_by}
+use Rattle.vipr_spec.specs.Verdict.{step_tests, StepTest, FirstFailing, of_step, told_by}
 use Rattle.vipr_spec.specs.Progress.{PassesNext, Answers, derivations_from}
 use Rattle.vipr_rules.specs.Table.{Table}
 use Rattle.vipr_rules.specs.Judged.{Passes, Stops}

@@ -1,5 +1,5 @@
 -- What a check answers, as the answer of the definitions
-use Rattle.std.specs.Prelude.{◌≡◌, ⊤, Result, Ok, Err}
+use Rattle.std.specs.Prelude.{⊤, Result, Ok, Err}
 use Rattle.vipr_spec.specs.Verdict as is
 use Rattle.vipr_text.specs.Items.{claim_of}
 use Rattle.vipr_check.specs.declared.verdict.Place.{Place}

@@ -7,6 +7,8 @@ mod goal;
 mod refused;
 mod stepping;
 mod stream;
+#[cfg(test)]
+mod tests;
 mod verdict;
 mod whole;
 

@@ -1,4 +1,4 @@
-use Rattle.std.proofs.Common.{true, false, get_or, subst, sym, ◌∙◌, arith}
+use Rattle.std.proofs.Common.{subst, ◌∙◌, arith}
 use Rattle.std.proofs.lemmas.List.Elements.{AllWithin-more}
 use Rattle.vipr_check.specs.Goal.{SaysFalse}
 use Rattle.std.proofs.lemmas.List.{get_or_default}

@@ -1,7 +1,6 @@
-use Rattle.std.proofs.Common.{[], arith}
+use Rattle.std.proofs.Common.{[]}
 use Rattle.vipr_spec.specs.Checking.{start}
 use Rattle.vipr_text.specs.Items.{problem_of}
-use Rattle.vipr_check.specs.State.{IsAt}
 use Rattle.vipr_check.proofs.StreamLemmas.{at_start}
 use Rattle.vipr_check.proofs.stream.after_solutions.Goals as goal
 

@@ -1,4 +1,3 @@
-use Rattle.std.proofs.Common.{sym, inl, inr}
 use Rattle.std.proofs.lemmas.Result.{err_from_is_err_and}
 use Rattle.vipr_text.specs.Items.{derivation_of}
 use Rattle.vipr_check.proofs.DescribedLemmas.{names_below, back, Describes-scratch}

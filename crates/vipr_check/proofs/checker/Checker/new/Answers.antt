@@ -1,4 +1,4 @@
-use Rattle.std.proofs.Common.{◌≡◌, length, replicate, refl, sym, ◌∙◌, ap, arith, subst}
+use Rattle.std.proofs.Common.{◌≡◌, length, refl, ◌∙◌, ap, arith, subst}
 use Rattle.std.proofs.lemmas.List.{length-replicate}
 use Rattle.vipr_spec.specs.Fraction.{zero_ℚ}
 use Rattle.vipr_check.specs.Goal.{IsFirstFalse}
