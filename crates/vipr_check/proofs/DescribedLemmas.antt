@@ -5,7 +5,7 @@ use Rattle.std.proofs.lemmas.List.{get_or-map, get_or_past, length-map}
 use Rattle.std.proofs.lemmas.List.Elements.{All-nil, All-push, All-append, All-map}
 use Rattle.std.specs.FinMap as finite
 use Rattle.vipr_spec.specs.Fraction.{zero_ℚ}
-use Rattle.vipr_spec.specs.Constraint.{Constraint, Condition, condition, at, equal}
+use Rattle.vipr_spec.specs.Constraint.{Constraint, Condition, condition, at, equal, NamesBelow}
 use Rattle.vipr_spec.specs.Certificate.{Named, Problem, variables, infeasible, Derivation, Certificate, constraint_at, NeedsGoal, count, held as held_after}
 use Rattle.vipr_spec.specs.OnePass.{with_next, RefersBack}
 use Rattle.vipr_spec.specs.Checking.{start, IsChecked, NextGoal}
@@ -17,7 +17,7 @@ use Rattle.vipr_spec.specs.Causes.{no_proof}
 use Rattle.vipr_spec.specs.Progress.{Answers, derivations_from}
 use Rattle.vipr_spec.proofs.Reported.{built_good}
 use Rattle.vipr_spec.proofs.Steps.{refers_back}
-use Rattle.vipr_linear.specs.Accumulator.{Accumulator, NamesBelow}
+use Rattle.vipr_linear.specs.Accumulator.{Accumulator}
 use Rattle.vipr_linear.specs.Constraint.{constraint_of}
 use Rattle.vipr_text.specs.Items.{named_of, problem_of, claim_of}
 use Rattle.vipr_text.specs.declared.items.Problem.{Problem as ProblemRead}

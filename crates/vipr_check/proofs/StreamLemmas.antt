@@ -1,7 +1,7 @@
 -- A text item by item: what is answered for what is left is the answer for what was left before
 use Rattle.std.proofs.Common.{◌≡◌, ℕ, zero, suc, ◌+◌, ◌<◌, ◌^◌, true, false, [], Option, Some, None, Result, Ok, inl, inr, arith, refl, sym, ◌∙◌, subst}
 use Rattle.std.specs.Prelude.{◌⊎◌}
-use Rattle.vipr_spec.specs.Constraint.{Row, at}
+use Rattle.vipr_spec.specs.Constraint.{Row, at, NamesBelow}
 use Rattle.vipr_spec.specs.Certificate.{Named, Problem, infeasible, Derivation, Certificate, MeetsPrimal, count}
 use Rattle.vipr_spec.specs.Reading.{Rest, problem_read, solution_read, derivations_read, derivation_read, end_read}
 use Rattle.vipr_spec.specs.OnePass.{with_next}
@@ -11,7 +11,6 @@ use Rattle.vipr_spec.specs.Verdict.{at_solution, at_end, spelled, of_step, is_bu
 use Rattle.vipr_spec.specs.Progress.{Answers, derivations_from, solutions_from}
 use Rattle.vipr_spec.proofs.Prefix.{count_next}
 use Rattle.vipr_spec.proofs.Remains.{problem_fault, problem_built, problem_unbuilt, solution_fault, solution_unbuilt, derivations_fault, derivations_begin, derivation_fault, derivation_passes, derivation_fails, end_fault}
-use Rattle.vipr_linear.specs.Accumulator.{NamesBelow}
 use Rattle.vipr_text.specs.Giving.{Fails}
 use Rattle.vipr_text.specs.Readers.{Items, Knows, Remembers, NextItem}
 use Rattle.vipr_text.specs.declared.error.TextError.{TextError}

@@ -1,11 +1,10 @@
 -- A checker, described by the certificate that it was handed so far
 use Rattle.std.specs.Prelude.{◌≡◌, ◌+◌, ◌<◌, ◌^◌, true, false, [], length, All}
-use Rattle.vipr_spec.specs.Constraint.{at}
+use Rattle.vipr_spec.specs.Constraint.{at, NamesBelow}
 use Rattle.vipr_spec.specs.Certificate.{variables, infeasible, Derivation, Certificate, count}
 use Rattle.vipr_spec.specs.Checking.{IsChecked}
 use Rattle.vipr_spec.specs.Verdict.{Answer}
 use Rattle.vipr_spec.specs.Progress.{Answers, derivations_from}
-use Rattle.vipr_linear.specs.Accumulator.{NamesBelow}
 use Rattle.vipr_text.specs.Items.{problem_of}
 use Rattle.vipr_text.specs.declared.items.Problem.{Problem}
 use Rattle.vipr_text.specs.Readers.{Items, Knows}

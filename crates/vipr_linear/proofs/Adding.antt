@@ -10,9 +10,9 @@ use Rattle.std.specs.FinMap.{entries, find, get-from_sorted}
 use Rattle.std.specs.List.{range_with_len}
 use Rattle.std.specs.Ordering.{nat_cmp, int_cmp, int_eq, eq_by_cmp}
 use Rattle.vipr_spec.specs.Fraction.{ℚ, zero_ℚ, ◌+ℚ◌, ◌*ℚ◌}
-use Rattle.vipr_spec.specs.Constraint.{Row, at, Sense, at_most, equal, at_least, Entry}
+use Rattle.vipr_spec.specs.Constraint.{Row, at, Sense, at_most, equal, at_least, Entry, NamesBelow}
 use Rattle.vipr_spec.proofs.Fractions.{add-zero_ℚ, mul-zero_ℚ, zero-mul_ℚ, zero_or_not}
-use Rattle.vipr_linear.specs.Accumulator.{Accumulator, sum_at, with_entry, by_sign, turned, joined, NamesBelow, TermFits, with_term, with_terms, TermsFitIn}
+use Rattle.vipr_linear.specs.Accumulator.{Accumulator, sum_at, with_entry, by_sign, turned, joined, TermFits, with_term, with_terms, TermsFitIn}
 use Rattle.vipr_linear.specs.Row.{RisesFrom}
 use Rattle.vipr_linear.proofs.Rows.{row_again, rises_sorted, zero_numer, zero_from_numer}
 

@@ -14,13 +14,13 @@ use Rattle.std.specs.declared.cmp.Ordering.{Ordering}
 use Rattle.std.specs.declared.cmp.Ordering.TheVariants.{Less, Equal, Greater}
 use Rattle.std.specs.Ordering.{int_cmp, MatchOrdering}
 use Rattle.vipr_spec.specs.Fraction.{ℚ, over, zero_ℚ, ◌+ℚ◌, ◌*ℚ◌, neg_ℚ, ◌≤ℚ◌, IsBounded, ProductFits, SumFits}
-use Rattle.vipr_spec.specs.Constraint.{Sense, at_most, equal, at_least, Row, at, Entry, sum_over, signed, pull, HasSense, sum_of, PartialSumsFit, TermsFit, SumOfFits}
+use Rattle.vipr_spec.specs.Constraint.{Sense, at_most, equal, at_least, Row, at, Entry, sum_over, signed, pull, HasSense, sum_of, PartialSumsFit, TermsFit, SumOfFits, NamesBelow}
 use Rattle.vipr_spec.specs.Gcd.{gcd}
 use Rattle.vipr_spec.specs.Lowest.{abs_div}
 use Rattle.vipr_spec.proofs.Fractions.{add_assoc_ℚ, add-zero_ℚ, zero-add_ℚ, mul-zero_ℚ, zero-mul_ℚ, neg-add_ℚ, add-le-add_ℚ, le_refl_ℚ, le_of_eq_ℚ, le_total_ℚ, le_antisymm_ℚ, zero_or_not}
 use Rattle.vipr_spec.proofs.Knuth.{sum_is, sum_lowest, parts_of}
 use Rattle.vipr_spec.proofs.Loops.{zero_product_fits, sum_with_zero_fits}
-use Rattle.vipr_linear.specs.Accumulator.{Accumulator, sum_at, nothing_added, turned, by_sign, joined, joined_with, TermFits, EntryFits, with_entry, NamesBelow, Holds, IsSuitable, HoldsSum}
+use Rattle.vipr_linear.specs.Accumulator.{Accumulator, sum_at, nothing_added, turned, by_sign, joined, joined_with, TermFits, EntryFits, with_entry, Holds, IsSuitable, HoldsSum}
 use Rattle.vipr_linear.proofs.Rows.{zero_numer, zero_from_numer}
 
 -- ---- partial sums

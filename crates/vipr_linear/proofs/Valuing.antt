@@ -4,10 +4,10 @@ use Rattle.std.specs.Prelude.{◌↔◌}
 use Rattle.std.proofs.lemmas.Bool.{cases_eq, cases_lt}
 use Rattle.std.specs.FinMap.{entries}
 use Rattle.vipr_spec.specs.Fraction.{ℚ, zero_ℚ, ◌+ℚ◌, ◌*ℚ◌, IsBounded, ProductFits, SumFits}
-use Rattle.vipr_spec.specs.Constraint.{Row, Point, at, value, ValueFits}
+use Rattle.vipr_spec.specs.Constraint.{Row, Point, at, value, ValueFits, NamesBelow}
 use Rattle.vipr_spec.proofs.Fractions.{zero-mul_ℚ}
 use Rattle.vipr_spec.proofs.Loops.{value_gap}
-use Rattle.vipr_linear.specs.Accumulator.{TermFits, NamesBelow}
+use Rattle.vipr_linear.specs.Accumulator.{TermFits}
 use Rattle.vipr_linear.specs.Row.{RisesFrom}
 use Rattle.vipr_linear.specs.Values.{with_values, ValuesFit}
 use Rattle.vipr_linear.proofs.Adding.{coefficient, coefficient_here, coefficient_later, coefficient_below, coefficient_at}

@@ -81,10 +81,6 @@ with_entry a e = record {
   spent = false;
 }
 
--- the row has no variable from n on
-abbrev pub NamesBelow : ℕ → (ℕ → ℚ) → Type 0
-NamesBelow n row = (j : ℕ) → n ≤ j → row j ≡ zero_ℚ
-
 abbrev pub IsSuitable : List Entry → Type 0
 IsSuitable es = (s : Sense) × HasSense es s
 

@@ -1,9 +1,9 @@
 //! Sums of multiples of constraints.
 ghost use Rattle.std.specs.Prelude.{◌≡◌, ◌≢◌, ◌↔◌, ◌⊎◌, ◌<◌, ◌≤◌, ℕ, true, false, length, All, IsOk, IsSome, IsNone, IfOk, IfErr, OnOk, OnErr, MatchOption, vec_capacity, Some, None};
 ghost use Rattle.vipr_spec.specs.Fraction.{◌+ℚ◌, ◌*ℚ◌};
-ghost use Rattle.vipr_spec.specs.Constraint.{at};
+ghost use Rattle.vipr_spec.specs.Constraint.{at, NamesBelow};
 ghost use Rattle.vipr_linear.specs.Accumulator as held;
-ghost use Rattle.vipr_linear.specs.Accumulator.{with_row, RowFits, TermFits, NamesBelow, CanAdd, EntryFits, HoldsSum, IsSpent, joined_with, with_entry, nothing_added};
+ghost use Rattle.vipr_linear.specs.Accumulator.{with_row, RowFits, TermFits, CanAdd, EntryFits, HoldsSum, IsSpent, joined_with, with_entry, nothing_added};
 ghost use Rattle.vipr_linear.specs.Constraint.{sense_of, condition_of};
 ghost use Rattle.vipr_linear.specs.Touched.{Touching, Covers};
 

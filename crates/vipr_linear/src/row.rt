@@ -5,9 +5,8 @@ ghost use Rattle.std.specs.List.{IsDistinct};
 ghost use Rattle.std.specs.List.Sorted.{IsPermutation, IsNonDecreasingBy, IsStrictlyIncreasing};
 ghost use Rattle.std.specs.FinMap.{entries, from_sorted};
 ghost use Rattle.vipr_spec.specs.Fraction.{zero_ℚ};
-ghost use Rattle.vipr_spec.specs.Constraint.{at};
+ghost use Rattle.vipr_spec.specs.Constraint.{at, NamesBelow};
 ghost use Rattle.vipr_spec.specs.Reading.{is_nonzero, row_of};
-ghost use Rattle.vipr_linear.specs.Accumulator.{NamesBelow};
 ghost use Rattle.vipr_linear.specs.Row.{RisesFrom, variables_of, IsFirstRepeated, HasNoZeros};
 
 use std::alloc::{AllocError, Global};

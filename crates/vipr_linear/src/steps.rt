@@ -1,8 +1,8 @@
 //! Adding entries one after the other gives their sum.
 ghost use Rattle.std.specs.Prelude.{◌≡◌, ◌↔◌, ℕ, List, [], ◌∷◌, ◌++◌, IsSome};
 ghost use Rattle.vipr_spec.specs.Fraction.{ℚ};
-ghost use Rattle.vipr_spec.specs.Constraint.{Row, Sense, at, Entry, HasSense, sum_of, SumOfFits};
-ghost use Rattle.vipr_linear.specs.Accumulator.{Accumulator, nothing_added, joined_with, EntryFits, with_entry, NamesBelow, Holds, IsSuitable, HoldsSum};
+ghost use Rattle.vipr_spec.specs.Constraint.{Row, Sense, at, Entry, HasSense, sum_of, SumOfFits, NamesBelow};
+ghost use Rattle.vipr_linear.specs.Accumulator.{Accumulator, nothing_added, joined_with, EntryFits, with_entry, Holds, IsSuitable, HoldsSum};
 
 /// Adding entries one after the other: what can be added is what keeps the sum suitable and fitting, and what
 /// is held is the sum of the entries so far.

@@ -2,8 +2,7 @@
 ghost use Rattle.std.specs.Prelude.{◌≡◌, ◌↔◌, ℕ, IsTrue, IsOk, IfOk};
 ghost use Rattle.std.specs.FinMap.{entries};
 ghost use Rattle.vipr_spec.specs.Fraction.{zero_ℚ};
-ghost use Rattle.vipr_spec.specs.Constraint.{at, value, ValueFits, IsTrueAt};
-ghost use Rattle.vipr_linear.specs.Accumulator.{NamesBelow};
+ghost use Rattle.vipr_spec.specs.Constraint.{at, value, ValueFits, IsTrueAt, NamesBelow};
 ghost use Rattle.vipr_linear.specs.Constraint.{condition_of};
 ghost use Rattle.vipr_linear.specs.Row.{RisesFrom};
 ghost use Rattle.vipr_linear.specs.Values.{with_values, ValuesFit};

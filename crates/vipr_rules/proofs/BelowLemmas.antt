@@ -2,8 +2,7 @@
 use Rattle.std.proofs.Common.{◌≡◌, ℕ, ◌+◌, Bool, true, false, cond, nat_eq, List, Some, All, sym, ap, ◌∙◌, subst}
 use Rattle.std.specs.Ordering.{nat_cmp}
 use Rattle.std.specs.FinMap.{get, get-empty}
-use Rattle.vipr_spec.specs.Constraint.{at}
-use Rattle.vipr_linear.specs.Accumulator.{NamesBelow}
+use Rattle.vipr_spec.specs.Constraint.{at, NamesBelow}
 use Rattle.vipr_linear.specs.declared.constraint.Constraint.{Constraint}
 use Rattle.vipr_text.specs.declared.items.Named.{Named}
 use Rattle.vipr_rules.specs.declared.entries.Entry.{Entry}

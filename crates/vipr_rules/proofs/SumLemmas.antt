@@ -2,14 +2,14 @@
 use Rattle.std.proofs.Common.{◌≡◌, ℕ, List, [], ◌∷◌, ◌++◌, Some, refl, sym, ◌∙◌, ap, subst, pos}
 use Rattle.std.specs.Ordering.{int_cmp}
 use Rattle.vipr_spec.specs.Fraction.{ℚ, zero_ℚ, ◌+ℚ◌, ◌*ℚ◌}
-use Rattle.vipr_spec.specs.Constraint.{Sense, at_most, equal, at_least, Condition, Entry, sum_over, HasSense, SumOfFits}
+use Rattle.vipr_spec.specs.Constraint.{Sense, at_most, equal, at_least, Condition, Entry, sum_over, HasSense, SumOfFits, NamesBelow}
 use Rattle.vipr_spec.specs.MoreEntries.{turned, joined, by_sign}
 use Rattle.vipr_spec.proofs.Fractions.{add-zero_ℚ, zero-mul_ℚ}
 use Rattle.vipr_spec.proofs.MoreEntries.{joined_sense, turned_sense, sum_more}
 use Rattle.std.specs.Prelude.{IsSome, IsNone}
 use Rattle.std.proofs.lemmas.List.{map-append}
 use Rattle.vipr_spec.specs.Certificate.{Certificate, constraint_at, entries}
-use Rattle.vipr_linear.specs.Accumulator.{Accumulator, Holds, NamesBelow, CanAdd, with_entry, joined_with, EntryFits, IsSuitable}
+use Rattle.vipr_linear.specs.Accumulator.{Accumulator, Holds, CanAdd, with_entry, joined_with, EntryFits, IsSuitable}
 use Rattle.vipr_linear.proofs.Rows.{zero_numer}
 use Rattle.vipr_linear.proofs.StepByStep.{fits_told, suitable_told, step_held}
 

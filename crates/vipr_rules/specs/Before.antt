@@ -6,8 +6,7 @@ use Rattle.std.specs.Ordering.{nat_cmp}
 use Rattle.vipr_spec.specs.Fraction.{ℚ}
 use Rattle.vipr_spec.specs.OnePass.{SomeRestsOn}
 use Rattle.vipr_spec.specs.Certificate.{Certificate, constraint_at, is_live, count, RestsOn}
-use Rattle.vipr_spec.specs.Constraint.{at}
-use Rattle.vipr_linear.specs.Accumulator.{NamesBelow}
+use Rattle.vipr_spec.specs.Constraint.{at, NamesBelow}
 use Rattle.vipr_linear.specs.Constraint.{constraint_of, condition_of}
 use Rattle.vipr_rules.specs.declared.entries.Entry.{Entry}
 use Rattle.vipr_linear.specs.declared.constraint.Constraint.{Constraint}

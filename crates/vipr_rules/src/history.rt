@@ -3,8 +3,7 @@
 ghost use Rattle.std.specs.Prelude.{◌≡◌, ℕ, ◌+◌, ◌≤◌, List, [], length, All};
 ghost use Rattle.vipr_spec.specs.Certificate.{Certificate, Derivation, count, held as held_after};
 ghost use Rattle.vipr_spec.specs.OnePass.{with_next, HasGoodSteps};
-ghost use Rattle.vipr_spec.specs.Constraint.{at};
-ghost use Rattle.vipr_linear.specs.Accumulator.{NamesBelow};
+ghost use Rattle.vipr_spec.specs.Constraint.{at, NamesBelow};
 ghost use Rattle.vipr_linear.specs.declared.constraint.Constraint.{Constraint};
 ghost use Rattle.vipr_text.specs.declared.items.Named.{Named};
 ghost use Rattle.vipr_rules.specs.Before.{NameBelow};

@@ -1,9 +1,8 @@
 //! The constraints before a derivation: those of the problem, and the live ones of the table.
 
 ghost use Rattle.std.specs.Prelude.{◌≡◌, ◌<◌, ℕ, IfSome, option_copied};
-ghost use Rattle.vipr_spec.specs.Constraint.{at};
+ghost use Rattle.vipr_spec.specs.Constraint.{at, NamesBelow};
 ghost use Rattle.vipr_spec.specs.Certificate.{Certificate, is_live as live_at, count};
-ghost use Rattle.vipr_linear.specs.Accumulator.{NamesBelow};
 ghost use Rattle.vipr_rules.specs.Before.{StandsBefore, SaysWhat, RestsOnWhat, NameBelow};
 
 use crate::assumed::Assumptions;

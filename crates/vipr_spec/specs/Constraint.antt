@@ -1,5 +1,5 @@
 -- Linear constraints over the variables 0, 1, 2, .., their truth at a point, and what follows from them
-use Rattle.std.specs.Prelude.{◌≡◌, ◌≢◌, ℕ, zero, suc, ◌<◌, ◌⊎◌, List, [], ◌∷◌, map, ℤ, pos, ◌+ℤ◌, ◌≤ℤ◌, All, Any, unwrap_or, IsTrue}
+use Rattle.std.specs.Prelude.{◌≡◌, ◌≢◌, ℕ, zero, suc, ◌<◌, ◌≤◌, ◌⊎◌, List, [], ◌∷◌, map, ℤ, pos, ◌+ℤ◌, ◌≤ℤ◌, All, Any, unwrap_or, IsTrue}
 use Rattle.std.specs.FinMap.{FinMap, get}
 use Rattle.std.specs.FinSet.{FinSet, contains}
 use Rattle.std.specs.Ordering.{nat_cmp}
@@ -38,6 +38,10 @@ pub record Condition : Type 0 where
 
 abbrev pub condition : Constraint → Condition
 condition c = record { row = at c.row; sense = c.sense; bound = c.bound }
+
+-- the row has no variable from n on
+abbrev pub NamesBelow : ℕ → (ℕ → ℚ) → Type 0
+NamesBelow n row = (j : ℕ) → n ≤ j → row j ≡ zero_ℚ
 
 -- a coordinate for each variable
 abbrev pub Point : Type 0

@@ -8,9 +8,8 @@ use Rattle.std.specs.FinMap.{find, get-from_entries}
 use Rattle.std.specs.List.{IsDistinct, AllByRecursion}
 use Rattle.std.specs.Ordering.{nat_cmp, eq_by_cmp}
 use Rattle.vipr_spec.specs.Fraction.{ℚ, zero_ℚ}
-use Rattle.vipr_spec.specs.Constraint.{at}
+use Rattle.vipr_spec.specs.Constraint.{at, NamesBelow}
 use Rattle.vipr_spec.specs.Reading.{is_nonzero, row_of}
-use Rattle.vipr_linear.specs.Accumulator.{NamesBelow}
 use Rattle.vipr_linear.specs.Row.{IsFirstRepeated}
 
 none_apart : (x : ℕ) (ys : List ℕ) → AllByRecursion (λ y. nat_eq x y ≡ false) ys → ¬ Contains ys x

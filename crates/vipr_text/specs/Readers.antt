@@ -1,7 +1,6 @@
 -- What the readers of a certificate have left, and what each call takes of it
 use Rattle.std.specs.Prelude.{◌≡◌, ℕ, suc, ◌<◌, ◌⊎◌, true, false, length, Option, Some, None, Result, Ok, Err, List, [], Bool}
-use Rattle.vipr_spec.specs.Constraint.{Row, at}
-use Rattle.vipr_linear.specs.Accumulator.{NamesBelow}
+use Rattle.vipr_spec.specs.Constraint.{Row, at, NamesBelow}
 use Rattle.vipr_spec.specs.Certificate.{Problem, variables}
 use Rattle.vipr_spec.specs.Reading.{Rest, Fault, Read}
 use Rattle.vipr_text.specs.Giving.{Fails}

@@ -1,7 +1,6 @@
 //! Reads a certificate item by item: its problem, each solution, each derivation.
 ghost use Rattle.std.specs.Prelude.{◌≡◌, ◌≢◌, ◌^◌, ◌+◌, ◌<◌, suc, MatchOption, true, false, length, Ok, IfOk, IfErr, IfSome, OnOk, OnErr, IsErrOf, ◌↔◌, [], All};
-ghost use Rattle.vipr_spec.specs.Constraint.{at};
-ghost use Rattle.vipr_linear.specs.Accumulator.{NamesBelow};
+ghost use Rattle.vipr_spec.specs.Constraint.{at, NamesBelow};
 ghost use Rattle.vipr_text.specs.Marks.{AreMarked};
 ghost use Rattle.vipr_spec.specs.Tokens.{tokens};
 ghost use Rattle.vipr_spec.specs.Certificate.{Problem as ProblemMeant, variables as variables_of};

@@ -1,9 +1,8 @@
 //! Reads the sections of a problem, and solutions.
 ghost use Rattle.std.specs.Prelude.{◌≡◌, ◌≢◌, ◌-◌, ◌<◌, ◌^◌, true, false, [], length, map, OnOk, IfOk, IfErr, All};
-ghost use Rattle.vipr_spec.specs.Constraint.{at};
+ghost use Rattle.vipr_spec.specs.Constraint.{at, NamesBelow};
 ghost use Rattle.vipr_spec.specs.Certificate.{Problem as ProblemMeant, variables as variables_of};
 ghost use Rattle.vipr_spec.specs.Reading as reading;
-ghost use Rattle.vipr_linear.specs.Accumulator.{NamesBelow};
 ghost use Rattle.vipr_linear.specs.Constraint.{constraint_of};
 ghost use Rattle.vipr_text.specs.Giving.{Gives};
 ghost use Rattle.vipr_text.specs.Items.{problem_of, named_of, direction_of};

@@ -1,9 +1,8 @@
 //! Reads sparse vectors.
 ghost use Rattle.std.specs.Prelude.{◌≡◌, ◌≢◌, ◌<◌, true, false, [], length, map, nat_eq, OnOk, IfOk, IfErr, All};
 ghost use Rattle.std.specs.List.{IsDistinct};
-ghost use Rattle.vipr_spec.specs.Constraint.{at};
+ghost use Rattle.vipr_spec.specs.Constraint.{at, NamesBelow};
 ghost use Rattle.vipr_spec.specs.Reading as reading;
-ghost use Rattle.vipr_linear.specs.Accumulator.{NamesBelow};
 ghost use Rattle.vipr_text.specs.Giving.{Gives};
 ghost use Rattle.vipr_text.specs.Marks.{AreMarked};
 

@@ -2,9 +2,8 @@ use Rattle.std.proofs.Common.{◌∷◌, [], map, length-append, arith}
 use Rattle.std.proofs.lemmas.Result.{err_from_is_err_and}
 use Rattle.std.proofs.lemmas.List.{map_push}
 use Rattle.std.proofs.lemmas.List.Elements.{All-push}
-use Rattle.vipr_spec.specs.Constraint.{at}
+use Rattle.vipr_spec.specs.Constraint.{at, NamesBelow}
 use Rattle.vipr_spec.specs.Reading.{repeated, constraint_read}
-use Rattle.vipr_linear.specs.Accumulator.{NamesBelow}
 use Rattle.vipr_linear.specs.Constraint.{constraint_of}
 use Rattle.vipr_text.specs.Items.{named_of}
 use Rattle.vipr_text.proofs.Repeating.{goes_on, ends, is_done}

@@ -1,8 +1,7 @@
 use Rattle.std.proofs.Common.{◌≡◌, ◌-◌, true, false, [], length, map}
 use Rattle.std.specs.List.{All}
-use Rattle.vipr_spec.specs.Constraint.{at}
+use Rattle.vipr_spec.specs.Constraint.{at, NamesBelow}
 use Rattle.vipr_spec.specs.Reading.{repeated, constraint_read}
-use Rattle.vipr_linear.specs.Accumulator.{NamesBelow}
 use Rattle.vipr_linear.specs.Constraint.{constraint_of}
 use Rattle.vipr_text.specs.Giving.{with_front}
 use Rattle.vipr_text.specs.Items.{named_of}

@@ -1,6 +1,5 @@
 use Rattle.std.proofs.Common.{Err, subst, sym, ap, ◌∙◌}
-use Rattle.vipr_spec.specs.Constraint.{at}
-use Rattle.vipr_linear.specs.Accumulator.{NamesBelow}
+use Rattle.vipr_spec.specs.Constraint.{at, NamesBelow}
 use Rattle.vipr_text.proofs.VectorRows.{none_repeated, row_below}
 use Rattle.vipr_text.proofs.vectors.row_of_distinct.Goals as goal
 
