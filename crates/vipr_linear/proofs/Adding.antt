@@ -8,11 +8,13 @@ use Rattle.std.proofs.lemmas.List.Elements.{All-head, All-tail, All-nil, All-con
 use Rattle.std.proofs.lemmas.List.FromFn.{get_or-map-range_with_len, length-map-range_with_len}
 use Rattle.std.specs.FinMap.{entries, find, get-from_sorted}
 use Rattle.std.specs.List.{range_with_len}
-use Rattle.std.specs.Ordering.{nat_cmp, int_cmp, int_eq, eq_by_cmp}
+use Rattle.std.specs.Ordering.{nat_cmp, int_eq, eq_by_cmp}
 use Rattle.vipr_spec.specs.Fraction.{ℚ, zero_ℚ, ◌+ℚ◌, ◌*ℚ◌}
-use Rattle.vipr_spec.specs.Constraint.{Row, at, Sense, at_most, equal, at_least, Entry, NamesBelow}
+use Rattle.vipr_spec.specs.Constraint.{Row, at, equal, Entry, NamesBelow}
 use Rattle.vipr_spec.proofs.Fractions.{add-zero_ℚ, mul-zero_ℚ, zero-mul_ℚ, zero_or_not}
-use Rattle.vipr_linear.specs.Accumulator.{Accumulator, sum_at, with_entry, by_sign, turned, joined, TermFits, with_term, with_terms, TermsFitIn}
+use Rattle.vipr_spec.specs.MoreEntries.{joined, TermFits}
+use Rattle.vipr_spec.proofs.MoreEntries.{turned_zero, joined_equal}
+use Rattle.vipr_linear.specs.Accumulator.{Accumulator, sum_at, with_entry, with_term, with_terms, TermsFitIn}
 use Rattle.vipr_linear.specs.Row.{RisesFrom}
 use Rattle.vipr_linear.proofs.Rows.{row_again, rises_sorted, zero_numer, zero_from_numer}
 
@@ -167,19 +169,6 @@ module _ (row : Row) where
       ∙ sym (get_or-map-range_with_len (λ j. get_or sums j zero_ℚ +ℚ m *ℚ at row j) 0 (length sums) k k d within (omega arith)))
 
 -- ---- an entry with multiplier 0 changes nothing
-turned_zero : (m : ℚ) (s : Sense) → m ≡ zero_ℚ → turned m s ≡ equal
-turned_zero m s e = ap (λ x. turned x s) e ∙ of s
-  where
-    of : (s : Sense) → turned zero_ℚ s ≡ equal
-    of at_most = ap (λ z. by_sign (int_cmp z (pos 0)) at_least at_most) zero_numer
-    of equal = refl
-    of at_least = ap (λ z. by_sign (int_cmp z (pos 0)) at_most at_least) zero_numer
-
-joined_equal : (s : Sense) → joined s equal ≡ Some s
-joined_equal at_most = refl
-joined_equal equal = refl
-joined_equal at_least = refl
-
 pub nothing_changes : (a : Accumulator) (e : Entry) → a.spent ≡ false → e.0 ≡ zero_ℚ → a ≡ with_entry a e
 nothing_changes a e fresh z =
     λ i. record {

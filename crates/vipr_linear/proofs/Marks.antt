@@ -14,7 +14,8 @@ use Rattle.vipr_spec.specs.Fraction.{ℚ, zero_ℚ, ◌+ℚ◌, ◌*ℚ◌, Prod
 use Rattle.vipr_spec.specs.Reading.{is_nonzero}
 use Rattle.std.specs.Ordering.{int_eq}
 use Rattle.vipr_spec.proofs.Fractions.{zero_or_not}
-use Rattle.vipr_linear.specs.Accumulator.{TermFits, with_term, with_terms, TermsFitIn}
+use Rattle.vipr_spec.specs.MoreEntries.{TermFits}
+use Rattle.vipr_linear.specs.Accumulator.{with_term, with_terms, TermsFitIn}
 use Rattle.vipr_linear.specs.Touched.{Touching, Covers}
 use Rattle.vipr_linear.proofs.Rows.{nothing_distinct}
 

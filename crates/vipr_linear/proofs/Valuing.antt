@@ -5,14 +5,13 @@ use Rattle.std.proofs.lemmas.Bool.{cases_eq, cases_lt}
 use Rattle.std.specs.FinMap.{entries}
 use Rattle.vipr_spec.specs.Fraction.{ℚ, zero_ℚ, ◌+ℚ◌, ◌*ℚ◌, IsBounded, ProductFits, SumFits}
 use Rattle.vipr_spec.specs.Constraint.{Row, Point, at, value, ValueFits, NamesBelow}
-use Rattle.vipr_spec.proofs.Fractions.{zero-mul_ℚ}
-use Rattle.vipr_spec.proofs.Loops.{value_gap}
-use Rattle.vipr_linear.specs.Accumulator.{TermFits}
+use Rattle.vipr_spec.specs.MoreEntries.{TermFits}
+use Rattle.vipr_spec.proofs.Loops.{value_gap, zero_bounded}
+use Rattle.vipr_spec.proofs.MoreEntries.{sum_bounded, nothing_more}
 use Rattle.vipr_linear.specs.Row.{RisesFrom}
 use Rattle.vipr_linear.specs.Values.{with_values, ValuesFit}
 use Rattle.vipr_linear.proofs.Adding.{coefficient, coefficient_here, coefficient_later, coefficient_below, coefficient_at}
 use Rattle.vipr_linear.proofs.Marks.{next, past_end}
-use Rattle.vipr_linear.proofs.StepByStep.{sum_bounded, zero_bounded, nothing_fits}
 
 -- ---- one turn of the loop over the entries
 module _ (first : Type 0) (s : ℚ) (x : Point) (es : List (ℕ × ℚ)) (i : ℕ) (p : ℕ × ℚ) (l : i < length es) (e : p ≡ get_or es i p) (known : first ↔ ValuesFit s (drop i es) x) (c product : ℚ) (q : c ≡ x p.0) where
@@ -91,8 +90,8 @@ module _ (n : ℕ) (row : ℕ → ℚ) (x : Point) (below : (j : ℕ) → n ≤ 
       where
         by : (j < p.0) ⊎ (p.0 ≤ j) → (j ≡ p.0) ⊎ (j ≢ p.0) → TermFits (value j row x) (row j) (x j)
         by (inl before) e =
-            nothing_fits (value j row x) (row j) (x j) (subst IsBounded (sym (value_gap low j row x a (λ k c d. zero_between k c (omega arith)))) b)
-            (ap (λ c. c *ℚ x j) (zero_between j a before) ∙ zero-mul_ℚ (x j))
+            nothing_more (value j row x) (row j) (x j) (subst IsBounded (sym (value_gap low j row x a (λ k c d. zero_between k c (omega arith)))) b)
+            (inl (zero_between j a before))
         by (inr k) (inl e) = subst (λ k. TermFits (value k row x) (row k) (x k)) (sym e) (subst₂ (λ v c. TermFits v c (x p.0)) (sym value_here) (sym row_here) h.0)
         by (inr k) (inr d) = h.1 j (omega arith) l
 
@@ -109,7 +108,7 @@ module _ (n : ℕ) (row : ℕ → ℚ) (x : Point) (below : (j : ℕ) → n ≤ 
   listed_fits : (low : ℕ) (es : List (ℕ × ℚ)) → RisesFrom low es → Agrees low es → IsBounded (value low row x) → ValuesFit (value low row x) es x ↔ FitFrom low
   unfolding ValuesFit
   listed_fits low [] r agrees b = (
-    λ h j a l. nothing_fits (value j row x) (row j) (x j) (subst IsBounded (sym (value_gap low j row x a (λ k c d. agrees k c))) b) (ap (λ c. c *ℚ x j) (agrees j a) ∙ zero-mul_ℚ (x j)),
+    λ h j a l. nothing_more (value j row x) (row j) (x j) (subst IsBounded (sym (value_gap low j row x a (λ k c d. agrees k c))) b) (inl (agrees j a)),
     λ h. tt,
   )
   listed_fits low (p ∷ es) r agrees b =

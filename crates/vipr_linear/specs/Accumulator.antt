@@ -1,13 +1,11 @@
 -- What a combination holds, and what one more entry makes of it
-use Rattle.std.specs.Prelude.{◌≡◌, ◌≢◌, ℕ, zero, suc, ◌≤◌, Bool, true, false, List, [], ◌∷◌, map, length, replicate, slice_index_or, slice_set, Option, Some, None, IsSome, unwrap_or, pos}
+use Rattle.std.specs.Prelude.{◌≡◌, ◌≢◌, ℕ, zero, suc, Bool, true, false, List, [], ◌∷◌, map, length, replicate, slice_index_or, slice_set, Option, IsSome, unwrap_or}
 use Rattle.std.specs.List.{range_with_len}
-use Rattle.std.specs.Ordering.{int_cmp}
 use Rattle.std.specs.Coded.{Coded, code_by, coded_ℕ, coded×, coded_list, coded_bool}
-use Rattle.std.specs.declared.cmp.Ordering.{Ordering}
-use Rattle.std.specs.declared.cmp.Ordering.TheVariants.{Less, Equal, Greater}
 use Rattle.std.proofs.Common.{refl}
-use Rattle.vipr_spec.specs.Fraction.{ℚ, coded_ℚ, zero_ℚ, ◌+ℚ◌, ◌*ℚ◌, ProductFits, SumFits}
+use Rattle.vipr_spec.specs.Fraction.{ℚ, coded_ℚ, zero_ℚ, ◌+ℚ◌, ◌*ℚ◌}
 use Rattle.vipr_spec.specs.Constraint.{Sense, at_most, equal, at_least, Row, at, Entry, sum_over, HasSense, SumOfFits}
+use Rattle.vipr_spec.specs.MoreEntries.{turned, joined, TermFits}
 use Rattle.vipr_linear.specs.Row.{HasNoZeros}
 
 -- the partial sum of each variable and of the right-hand sides, the sense of the sum so far, and whether an error came
@@ -25,36 +23,10 @@ sum_at a j = slice_index_or a.sums j zero_ℚ
 abbrev pub nothing_added : ℕ → Accumulator
 nothing_added n = record { sums = replicate n zero_ℚ; bound = zero_ℚ; sense = equal; spent = false }
 
--- ---- senses
-
-abbrev pub by_sign : Ordering → Sense → Sense → Sense
-by_sign Less s t = s
-by_sign Equal s t = equal
-by_sign Greater s t = t
-
--- the sense of the multiple of a constraint
-abbrev pub turned : ℚ → Sense → Sense
-turned m at_least = by_sign (int_cmp m.numer (pos 0)) at_most at_least
-turned m at_most = by_sign (int_cmp m.numer (pos 0)) at_least at_most
-turned m equal = equal
-
--- the sense of a sum of two, none where one is at most and the other at least
-abbrev pub joined : Sense → Sense → Option Sense
-joined equal t = Some t
-joined at_most equal = Some at_most
-joined at_most at_most = Some at_most
-joined at_most at_least = None
-joined at_least equal = Some at_least
-joined at_least at_least = Some at_least
-joined at_least at_most = None
-
 -- ---- one more entry
 
 abbrev pub joined_with : Accumulator → Entry → Option Sense
 joined_with a e = joined a.sense (turned e.0 e.1.sense)
-
-abbrev pub TermFits : ℚ → ℚ → ℚ → Type 0
-TermFits s m x = ProductFits m x × SumFits s (m *ℚ x)
 
 -- at the variables that stand in the row
 abbrev pub RowFits : List ℚ → ℚ → (ℕ → ℚ) → Type 0

@@ -2,8 +2,9 @@
 ghost use Rattle.std.specs.Prelude.{◌≡◌, ◌≢◌, ◌↔◌, ◌⊎◌, ◌<◌, ◌≤◌, ℕ, true, false, length, All, IsOk, IsSome, IsNone, IfOk, IfErr, OnOk, OnErr, MatchOption, vec_capacity, Some, None};
 ghost use Rattle.vipr_spec.specs.Fraction.{◌+ℚ◌, ◌*ℚ◌};
 ghost use Rattle.vipr_spec.specs.Constraint.{at, NamesBelow};
-ghost use Rattle.vipr_linear.specs.Accumulator as held;
-ghost use Rattle.vipr_linear.specs.Accumulator.{with_row, RowFits, TermFits, CanAdd, EntryFits, HoldsSum, IsSpent, joined_with, with_entry, nothing_added};
+ghost use Rattle.vipr_spec.specs.MoreEntries as combined;
+ghost use Rattle.vipr_spec.specs.MoreEntries.{TermFits};
+ghost use Rattle.vipr_linear.specs.Accumulator.{with_row, RowFits, CanAdd, EntryFits, HoldsSum, IsSpent, joined_with, with_entry, nothing_added};
 ghost use Rattle.vipr_linear.specs.Constraint.{sense_of, condition_of};
 ghost use Rattle.vipr_linear.specs.Touched.{Touching, Covers};
 
@@ -152,7 +153,7 @@ impl Combination {
 
 // The sense of the multiple of a constraint.
 fn turned(multiplier: Frac, sense: Sense) -> Sense
-    ensures { sense_of result ≡ held.turned multiplier (sense_of sense) }
+    ensures { sense_of result ≡ combined.turned multiplier (sense_of sense) }
 {
     match (sense, multiplier.numer().cmp(&0)) {
         (Sense::E, _) | (_, Ordering::Equal) => Sense::E,
@@ -163,7 +164,7 @@ fn turned(multiplier: Frac, sense: Sense) -> Sense
 
 // The sense of a sum of two, if they go together.
 fn joined(a: Sense, b: Sense) -> Option<Sense>
-    ensures { MatchOption result (held.joined (sense_of a) (sense_of b) ≡ None) (λ s. held.joined (sense_of a) (sense_of b) ≡ Some (sense_of s)) }
+    ensures { MatchOption result (combined.joined (sense_of a) (sense_of b) ≡ None) (λ s. combined.joined (sense_of a) (sense_of b) ≡ Some (sense_of s)) }
 {
     match (a, b) {
         (Sense::E, _) => Some(b),

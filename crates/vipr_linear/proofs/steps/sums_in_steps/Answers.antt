@@ -1,4 +1,5 @@
-use Rattle.vipr_linear.proofs.StepByStep.{start_held, suitable_told, fits_told, step_held, suitable_before, fits_before, one_sense, sum_held}
+use Rattle.vipr_spec.proofs.MoreEntries.{one_sense, suitable_front, fitting_front}
+use Rattle.vipr_linear.proofs.StepByStep.{start_held, suitable_told, fits_told, step_held, sum_held}
 use Rattle.vipr_linear.proofs.steps.sums_in_steps.Goals as goal
 
 pub returns-clause-start : goal.returns-clause-start
@@ -14,10 +15,10 @@ pub returns-clause-step : goal.returns-clause-step
 returns-clause-step c = step_held
 
 pub returns-clause-suitable_before : goal.returns-clause-suitable_before
-returns-clause-suitable_before c = suitable_before
+returns-clause-suitable_before c = suitable_front
 
 pub returns-clause-fits_before : goal.returns-clause-fits_before
-returns-clause-fits_before c = fits_before
+returns-clause-fits_before c = fitting_front
 
 pub returns-clause-one_sense : goal.returns-clause-one_sense
 returns-clause-one_sense c = one_sense

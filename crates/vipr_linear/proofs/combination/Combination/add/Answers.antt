@@ -1,6 +1,7 @@
 use Rattle.std.proofs.Common.{◌≡◌, ◌≢◌, ◌∙◌, ap, sym, refl, is_some, subst, false, Some}
 use Rattle.vipr_spec.specs.Fraction.{zero_ℚ}
-use Rattle.vipr_linear.specs.Accumulator.{Accumulator, joined_with, joined, turned, EntryFits}
+use Rattle.vipr_spec.specs.MoreEntries.{joined, turned}
+use Rattle.vipr_linear.specs.Accumulator.{Accumulator, joined_with, EntryFits}
 use Rattle.vipr_linear.specs.Constraint.{sense_of, condition_of}
 use Rattle.vipr_linear.proofs.Adding.{nothing_changes, told_zero, told_nonzero}
 use Rattle.vipr_linear.proofs.combination.Combination.add.Goals as goal
