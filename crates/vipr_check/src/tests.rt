@@ -1,19 +1,33 @@
+ghost use Rattle.std.specs.Prelude.{◌≡◌, ◌<◌, length, Some};
+ghost use Rattle.vipr_spec.specs.Input.{Input};
+
 use crate::{Fault, Place, Refusal, Report, Verdict, check, check_with};
 use std::alloc::Global;
-use std::io::{self, Read};
+use std::cell::Cell;
+use std::process::Abort;
 use std::test::Fail;
-use vipr_bytes::{Bytes, FromRead, Source};
+use vipr_bytes::{Bytes, Failed, Source};
 use vipr_rules::KeepAll;
+use vipr_text::CertReader;
 
 // x >= 1 and x <= 0.
 const INFEASIBLE: &[u8] =
     b"VER 1.0\nVAR 1\nx\nINT 0\nOBJ min\n0\nCON 2 0\na G 1 1 0 1\nb L 0 1 0 1\nRTP infeas\nSOL 0\nDER 1\nf G 1 0 { lin 2 0 1 1 -1 } -1\n";
+// The second section has another word.
+const MISSPELLED: &[u8] =
+    b"VER 1.0\nVAX 1\nx\nINT 0\nOBJ min\n0\nCON 2 0\na G 1 1 0 1\nb L 0 1 0 1\nRTP infeas\nSOL 0\nDER 1\nf G 1 0 { lin 2 0 1 1 -1 } -1\n";
+// A brace stands at the reason.
+const GLUED: &[u8] =
+    b"VER 1.0\nVAR 1\nx\nINT 0\nOBJ min\n0\nCON 2 0\na G 1 1 0 1\nb L 0 1 0 1\nRTP infeas\nSOL 0\nDER 1\nf G 1 0 {lin 2 0 1 1 -1 } -1\n";
 // 0 >= 1, without variables.
 const ABSURD: &[u8] =
     b"VER 1.0\nVAR 0\nINT 0\nOBJ min\n0\nCON 1 0\na G 1 0\nRTP infeas\nSOL 0\nDER 0\n";
 // The multiplier of b has the wrong sign.
 const MIXED: &[u8] =
     b"VER 1.0\nVAR 1\nx\nINT 0\nOBJ min\n0\nCON 2 0\na G 1 1 0 1\nb L 0 1 0 1\nRTP infeas\nSOL 0\nDER 1\nf G 1 0 { lin 2 0 1 1 1 } -1\n";
+// The same, and something behind the last derivation.
+const MIXED_AND_MORE: &[u8] =
+    b"VER 1.0\nVAR 1\nx\nINT 0\nOBJ min\n0\nCON 2 0\na G 1 1 0 1\nb L 0 1 0 1\nRTP infeas\nSOL 0\nDER 1\nf G 1 0 { lin 2 0 1 1 1 } -1\n x";
 // The derivation refers to itself.
 const LATE: &[u8] =
     b"VER 1.0\nVAR 1\nx\nINT 0\nOBJ min\n0\nCON 2 0\na G 1 1 0 1\nb L 0 1 0 1\nRTP infeas\nSOL 0\nDER 1\nf G 1 0 { lin 2 0 1 2 -1 } -1\n";
@@ -33,6 +47,10 @@ const TRAILING: &[u8] =
 const BOUNDED: &[u8] = b"VER 1.0 VAR 0 INT 0 OBJ min 0 CON 0 0 RTP range 0 inf SOL 0 DER 0";
 
 const LISTED: &[u8] = b"VER 1.0 VAR 0 INT 0 OBJ min 0 CON 0 0 RTP infeas SOL 1 s 0 DER 0";
+
+// x >= 3, and the solution 3.
+const SOLVED: &[u8] =
+    b"VER 1.0\nVAR 1\nx\nINT 0\nOBJ min\n1 0 1\nCON 1 0\na G 3 1 0 1\nRTP infeas\nSOL 1\ns 1 0 3\nDER 1\nc L 3 1 0 1 { sol } -1\n";
 
 const ASSUMED: &[u8] =
     b"VER 1.0 VAR 0 INT 0 OBJ min 0 CON 0 0 RTP infeas SOL 0 DER 1 f G 1 0 { asm } -1";
@@ -101,52 +119,194 @@ fn others_are_refused(rt: HostRuntime) {
     assert_eq!(rt; refusal(alloc, Bytes::new(ASSUMED)), at(60, Place::Der(0)));
 }
 
-// Gives at most two bytes a read, and fails after so many reads.
+/// Gives its bytes in pieces, then the end or a failure, and counts the reads.
 #[derive(Drop)]
-struct Halting<'a> {
-    text: &'a [u8],
-    reads_left: usize,
+struct Counting<'a> {
+    left: &'a [u8],
+    piece: usize,
+    fails: bool,
+    reads: &'a Cell<usize>,
+    ghost some: { 0 < piece },
 }
 
-impl Read for Halting<'_> {
-    fn read(&mut self, buf: &mut [u8]) -> io::Result<usize> {
-        if self.reads_left == 0 {
-            return Err(io::Error::from(io::ErrorKind::Interrupted));
+impl Source for Counting<'_> {
+    ghost reads_left = { λ c. length c.left.now };
+
+    ghost input = { λ c. Some (record { bytes = c.left.now; fails = c.fails }) };
+
+    fn read(&mut self, buf: &mut [u8]) -> Result<usize, Failed> {
+        self.reads.set(self.reads.get().saturating_add(1));
+        if self.fails && self.left.is_empty() {
+            return Err(Failed);
         }
-        self.reads_left -= 1;
-        let len = buf.len().min(2);
-        self.text.read(&mut buf[..len])
+        let n = self.left.len().min(self.piece).min(buf.len());
+        let (front, rest) = self.left.split_at(n);
+        buf[..n].copy_from_slice(front);
+        self.left = rest;
+        Ok(n)
     }
 }
 
-fn in_pairs(text: &[u8], reads_left: usize) -> FromRead<Halting<'_>> {
-    FromRead::new(Halting { text, reads_left })
+/// What is answered: `None` where the certificate is verified.
+fn answered<R: Source + Drop>(alloc: Global, source: R) -> Result<Option<Refusal>, Fault> {
+    match check(alloc, source)? {
+        Verdict::Verified(_) => Ok(None),
+        Verdict::Refused(refusal) => Ok(Some(refusal)),
+    }
 }
 
+/// Checks the answer and the number of reads where `given` comes in pieces, and then the end or a failure.
+///
+/// The answer needs `needed` bytes, one more than there are where it needs their end.
+fn reads_what_it_needs<H: Abort + AllocGlobal>(
+    rt: &H,
+    given: &[u8],
+    fails: bool,
+    piece: usize,
+    needed: usize,
+    wanted: Option<Refusal>,
+)
+    requires { 0 < piece }
+{
+    let reads = Cell::new(0);
+    let source = Counting {
+        left: given,
+        piece,
+        fails,
+        reads: &reads,
+    };
+    let answer = answered(rt.alloc(), source);
+    let pieces = given.len().min(needed).div_ceil(piece);
+    if given.len() >= needed {
+        assert_eq!(rt; answer, Ok(wanted));
+        assert_eq!(rt; reads.get(), pieces);
+    } else {
+        let wanted = if fails { Err(Fault::Read) } else { Ok(wanted) };
+        assert_eq!(rt; answer, wanted);
+        assert_eq!(rt; reads.get(), pieces.saturating_add(1));
+    }
+}
+
+/// A read is made only where the bytes at hand don't decide, and none after a failure or the end.
 #[test]
-fn pieces_make_no_difference(rt: HostRuntime) -> Result<(), Fail> {
-    let verdict = check(rt.alloc(), in_pairs(INFEASIBLE, 1000))?;
-    let report = report_of(verdict).ok_or("it is a proof")?;
-    assert_eq!(rt; report.goal, Some(2));
+fn reads_are_made_as_they_are_needed(rt: HostRuntime) {
+    let rows = [
+        (INFEASIBLE, 118, None),
+        (MISSPELLED, 12, at(2, Place::Byte(8))),
+        (GLUED, 100, at(15, Place::Byte(95))),
+        (BOUNDED, 60, at(60, Place::End)),
+        (LISTED, 59, at(60, Place::Sol(0))),
+        (LATE, 117, at(31, Place::Der(2))),
+        (MIXED_AND_MORE, 116, at(34, Place::Der(2))),
+        (UNPROVED, 88, at(51, Place::End)),
+        (TRAILING, 71, at(18, Place::Byte(69))),
+    ];
+    for (text, needed, wanted) in rows {
+        for piece in 1..8 {
+            for given in 0..=text.len() {
+                let (front, _) = text.split_at(given);
+                reads_what_it_needs(&rt, front, true, piece, needed, wanted);
+            }
+            reads_what_it_needs(&rt, text, false, piece, needed, wanted);
+        }
+    }
+}
+
+/// A name of 65,535 bytes is read to its end, and of a longer one no more than shows that it is too long.
+#[test]
+fn long_names_are_read_as_they_are_needed(rt: HostRuntime) -> Result<(), Fail> {
+    let alloc = rt.alloc();
+    let (front, behind) = INFEASIBLE.split_at_checked(14).ok_or("too short")?;
+    let mut text = front.to_vec(alloc)?;
+    text.resize(14 + 65534, b'x')?;
+    text.extend_from_slice(behind)?;
+    reads_what_it_needs(&rt, text.as_slice(), false, 1, 117 + 65534 + 1, None);
+    text.resize(14 + 65534, b'x')?;
+    text.push(b'x')?;
+    text.extend_from_slice(behind)?;
+    reads_what_it_needs(
+        &rt,
+        text.as_slice(),
+        false,
+        1,
+        14 + 65536,
+        at(17, Place::Byte(14)),
+    );
     Ok(())
 }
 
+/// Each reader stops behind its item, and the last one at the end.
 #[test]
-fn failures_end_it(rt: HostRuntime) {
-    let fault = match check(rt.alloc(), in_pairs(INFEASIBLE, 58)) {
-        Ok(verdict) => {
-            let _report = report_of(verdict);
-            None
-        }
-        Err(fault) => Some(fault),
-    };
-    assert_eq!(rt; fault, Some(Fault::Read));
+fn readers_stop_behind_their_items(rt: HostRuntime) -> Result<(), Fail> {
+    let alloc = rt.alloc();
+    let reads = Cell::new(0);
+    let reader = CertReader::new(
+        alloc,
+        Counting {
+            left: SOLVED,
+            piece: 1,
+            fails: false,
+            reads: &reads,
+        },
+    )?;
+    assert_eq!(rt; reads.get(), 0);
+    let (_, mut solutions) = reader.read_problem(alloc)?;
+    assert_eq!(rt; reads.get(), 73);
+    assert!(rt; solutions.next(alloc)?.is_some());
+    assert_eq!(rt; reads.get(), 81);
+    assert!(rt; solutions.next(alloc)?.is_none());
+    assert_eq!(rt; solutions.left(), 0);
+    assert_eq!(rt; reads.get(), 81);
+    let mut derivations = solutions.finish()?;
+    assert_eq!(rt; reads.get(), 87);
+    assert!(rt; derivations.next(alloc)?.is_some());
+    assert_eq!(rt; reads.get(), 110);
+    for _ in 0..2 {
+        assert!(rt; derivations.next(alloc)?.is_none());
+        assert_eq!(rt; reads.get(), 111);
+    }
+    Ok(())
 }
 
+/// How many of a certificate's beginnings have each cause, 0 standing for those that are verified.
 #[test]
-fn each_item_is_tested_before_more_is_read(rt: HostRuntime) {
-    assert_eq!(rt;
-        refusal(rt.alloc(), in_pairs(LISTED, 30)),
-        at(60, Place::Sol(0))
-    );
+fn beginnings_are_refused(rt: HostRuntime) {
+    let alloc = rt.alloc();
+    let mut counts = [0u8; 256];
+    for len in 0..INFEASIBLE.len() {
+        let (beginning, _) = INFEASIBLE.split_at(len);
+        let reads = Cell::new(0);
+        let source = Counting {
+            left: beginning,
+            piece: 1,
+            fails: false,
+            reads: &reads,
+        };
+        let answer = answered(alloc, source);
+        assert_eq!(rt; answered(alloc, Bytes::new(beginning)), answer);
+        let cause = match answer {
+            Ok(Some(refusal)) => refusal.cause,
+            Ok(None) | Err(_) => 0,
+        };
+        match cause {
+            0 => assert_eq!(rt; (answer, len), (Ok(None), 116)),
+            1 => assert_eq!(rt; answer, Ok(at(1, Place::Byte(len as u64)))),
+            _ => {}
+        }
+        counts[cause as usize] = counts[cause as usize].saturating_add(1);
+    }
+    let rows = [
+        (0, 1),
+        (1, 87),
+        (2, 16),
+        (3, 2),
+        (4, 1),
+        (12, 2),
+        (13, 5),
+        (14, 2),
+        (16, 1),
+    ];
+    for (cause, wanted) in rows {
+        assert_eq!(rt; counts[cause as usize], wanted, "cause {cause}");
+    }
 }
