@@ -2,7 +2,6 @@ pub mod VectorRows
 pub mod Ending
 pub mod Repeating
 pub mod Taking
-pub mod Naturals
 pub mod Pieces
 pub mod State
 pub mod Marking
