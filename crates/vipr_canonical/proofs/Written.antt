@@ -1,0 +1,122 @@
+-- Words that are tokens, and are of a shape
+use Rattle.std.proofs.Common.{◌≡◌, ℕ, ◌<◌, ◌≤◌, inl, inr, Bool, true, false, ◌&&◌, nat_lt, nat_le, List, [], ◌∷◌, ◌++◌, length, All, Option, Some, None, IfSome, arith, refl, sym, subst}
+use Rattle.std.specs.List.{flat_map, list_all}
+use Rattle.std.specs.Char.{digit_value}
+use Rattle.std.specs.Fmt.{decimal}
+use Rattle.std.specs.Str.Parse.{AllDigits, IsNumeral}
+use Rattle.std.proofs.lemmas.Bool.Decides.{nat_tests}
+use Rattle.std.proofs.lemmas.Fmt.{decimal_is_IsNumeral, length-decimal-le}
+use Rattle.std.proofs.lemmas.List.{length-append}
+use Rattle.std.proofs.lemmas.List.Elements.{All-nil, All-cons, All-append, All-head, All-tail}
+use Rattle.vipr_spec.specs.Fraction.{ℚ, IsBounded}
+use Rattle.vipr_spec.specs.Number.{IsSign, under, SpellsNumber, number_text}
+use Rattle.vipr_spec.specs.Tokens.{is_white, IsToken}
+use Rattle.vipr_spec.specs.Reading.{most_count}
+use Rattle.vipr_spec.specs.Grammar.{SpellsNatural, SpellsCount, SpellsVariable, word, one, ◌then◌, each}
+use Rattle.vipr_spec.proofs.NumberReads.{text_spelled, text_short}
+
+-- ---- tokens
+
+abbrev Solid : List ℕ → Type 0
+Solid bs = All (λ b. is_white b ≡ false) bs
+
+solid_token : (bs : List ℕ) → 0 < length bs → length bs ≤ 65535 → Solid bs → IsToken bs
+solid_token bs some short solid = record { run = record { some = some; solid = λ k h. solid k 0 h }; short = short }
+
+-- words of letters, digits and signs, as a test
+abbrev IsPlain : List ℕ → Type 0
+IsPlain bs = (nat_lt 0 (length bs) && nat_le (length bs) 65535 && list_all (λ b. nat_lt 32 b) bs) ≡ true
+
+above_space : (b : ℕ) → nat_lt 32 b ≡ true → is_white b ≡ false
+unfolding is_white
+above_space b h = grind (arith, nat_tests)
+
+both_true : (a b : Bool) → (a && b) ≡ true → (a ≡ true) × (b ≡ true)
+both_true true b h = (refl, h)
+both_true false b h = absurd (cc)
+
+all_above : (bs : List ℕ) → list_all (λ b. nat_lt 32 b) bs ≡ true → Solid bs
+all_above [] h = All-nil (λ b. is_white b ≡ false)
+all_above (b ∷ bs) h =
+    let k = both_true (nat_lt 32 b) (list_all (λ b. nat_lt 32 b) bs) h in
+    All-cons (λ b. is_white b ≡ false) b bs (above_space b k.0) (all_above bs k.1)
+
+pub plain_token : (bs : List ℕ) → IsPlain bs → IsToken bs
+plain_token bs h =
+    let k = both_true (nat_lt 0 (length bs) && nat_le (length bs) 65535) (list_all (λ b. nat_lt 32 b) bs) h in
+    let l = both_true (nat_lt 0 (length bs)) (nat_le (length bs) 65535) k.0 in
+    let some : 0 < length bs = let t = l.0 in grind (arith, nat_tests) in
+    let short : length bs ≤ 65535 = let t = l.1 in grind (arith, nat_tests) in
+    solid_token bs some short (all_above bs k.1)
+
+digit_solid : (b : ℕ) → digit_value b < 10 → is_white b ≡ false
+unfolding is_white
+digit_solid b h = grind (arith, nat_tests)
+
+digits_solid : (bs : List ℕ) → AllDigits 10 bs → Solid bs
+digits_solid [] h = All-nil (λ b. is_white b ≡ false)
+digits_solid (b ∷ bs) h = All-cons (λ b. is_white b ≡ false) b bs (digit_solid b h.0) (digits_solid bs h.1)
+
+-- ---- counts and numbers
+
+pub decimal_natural : (n : ℕ) → n ≤ most_count → SpellsNatural (decimal n) n
+decimal_natural n h = decimal_is_IsNumeral n (omega arith)
+
+pub decimal_token : (n : ℕ) → n ≤ most_count → IsToken (decimal n)
+decimal_token n h =
+    let k = decimal_natural n h in
+    let l = length-decimal-le 20 n (omega arith) (omega arith) (omega arith) in
+    solid_token (decimal n) k.0.0 (omega arith) (digits_solid (decimal n) k.0.1)
+
+sign_solid : (sign : List ℕ) (is_negative : Bool) → IsSign sign is_negative → Solid sign
+sign_solid sign is_negative (inl h) = subst Solid (sym h.0) (all_above [] refl)
+sign_solid sign is_negative (inr (inl h)) = subst Solid (sym h.0) (all_above (43 ∷ []) refl)
+sign_solid sign is_negative (inr (inr h)) = subst Solid (sym h.0) (all_above (45 ∷ []) refl)
+
+under_solid : (bottom : Option (List ℕ)) → IfSome bottom (IsNumeral 10) → Solid (under bottom)
+under_solid None h = all_above [] refl
+under_solid (Some digits) h = All-cons (λ b. is_white b ≡ false) 47 digits (above_space 47 refl) (digits_solid digits h.1)
+
+number_solid : (t : List ℕ) (x : ℚ) → SpellsNumber t x → (0 < length t) × Solid t
+number_solid t x s =
+    let front = All-append (λ b. is_white b ≡ false) s.sign s.top (sign_solid s.sign s.is_negative s.is_sign) (digits_solid s.top s.top_digits.1) in
+    let all = All-append (λ b. is_white b ≡ false) (s.sign ++ s.top) (under s.bottom) front (under_solid s.bottom s.bottom_digits) in
+    let some : 0 < length (s.sign ++ s.top ++ under s.bottom) = omega (arith, length-append s.sign s.top, length-append (s.sign ++ s.top) (under s.bottom), s.top_digits.0) in
+    (subst (λ bs. 0 < length bs) (sym s.joined) some, subst Solid (sym s.joined) all)
+
+pub number_token : (x : ℚ) → IsBounded x → IsToken (number_text x)
+number_token x b =
+    let k = number_solid (number_text x) x (text_spelled x b) in
+    let l = text_short x b in
+    solid_token (number_text x) k.0 (omega arith) k.1
+
+-- ---- shapes
+
+pub record Written (P : List (List ℕ) → Type 0) (ws : List (List ℕ)) : Type 0 where
+  pub tokens : All IsToken ws
+  pub shape : P ws
+
+pub word_written : (w : List ℕ) → IsToken w → Written (word w) (w ∷ [])
+word_written w h = record { tokens = All-cons IsToken w [] h (All-nil IsToken); shape = refl }
+
+pub fixed_written : (w : List ℕ) → IsPlain w → Written (word w) (w ∷ [])
+fixed_written w h = word_written w (plain_token w h)
+
+pub one_written : {A : Type 0} (P : List ℕ → A → Type 0) (x : A) (t : List ℕ) → IsToken t → P t x → Written (one P x) (t ∷ [])
+one_written P x t h p = record { tokens = All-cons IsToken t [] h (All-nil IsToken); shape = (t, refl, p) }
+
+pub then_written : {P Q : List (List ℕ) → Type 0} {a b : List (List ℕ)} → Written P a → Written Q b → Written (P then Q) (a ++ b)
+then_written {a = a} {b = b} p q = record { tokens = All-append IsToken a b p.tokens q.tokens; shape = (a, b, refl, p.shape, q.shape) }
+
+pub each_written : {A : Type 0} (P : A → List (List ℕ) → Type 0) (f : A → List (List ℕ)) (xs : List A) → All (λ x. Written (P x) (f x)) xs → Written (each P xs) (flat_map f xs)
+each_written P f [] h = record { tokens = All-nil IsToken; shape = refl }
+each_written P f (x ∷ xs) h = then_written (All-head (λ x. Written (P x) (f x)) x xs h) (each_written P f xs (All-tail (λ x. Written (P x) (f x)) x xs h))
+
+pub count_written : (n : ℕ) → n ≤ most_count → Written (one SpellsCount n) (decimal n ∷ [])
+count_written n h = one_written SpellsCount n (decimal n) (decimal_token n h) (decimal_natural n h, h)
+
+pub variable_written : (n i : ℕ) → n ≤ most_count → i < n → Written (one (SpellsVariable n) i) (decimal i ∷ [])
+variable_written n i few h = let small : i ≤ most_count = omega arith in one_written (SpellsVariable n) i (decimal i) (decimal_token i small) (decimal_natural i small, h)
+
+pub number_written : (x : ℚ) → IsBounded x → Written (one SpellsNumber x) (number_text x ∷ [])
+number_written x b = one_written SpellsNumber x (number_text x) (number_token x b) (text_spelled x b)

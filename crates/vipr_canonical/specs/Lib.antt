@@ -1,0 +1,4 @@
+-- what the contracts cite
+pub mod Canonical
+pub mod Laws
+pub mod Example

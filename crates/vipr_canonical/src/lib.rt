@@ -1,0 +1,18 @@
+//! The canonical text of certificates, and what it spells: laws without code. What their words mean
+//! stands in `specs/`.
+#![tactic(auto)]
+
+ghost use Rattle.std.specs.Prelude.{◌≡◌};
+ghost use Rattle.vipr_canonical.specs.Canonical.{canonical_text};
+ghost use Rattle.vipr_canonical.specs.Example.{example, example_text};
+ghost use Rattle.vipr_canonical.specs.Laws.{SpellsItself};
+
+/// The canonical text of a certificate within the limits of the format spells that certificate and no other.
+pub fn canonical_texts()
+    ensures { SpellsItself }
+{}
+
+/// A certificate, and its canonical text byte by byte.
+pub fn worked_example()
+    ensures { canonical_text example ≡ example_text }
+{}
