@@ -4,3 +4,7 @@ pub mod RowEntries
 pub mod Sections
 pub mod Whole
 pub mod ExampleText
+pub mod SpelledNumbers
+pub mod SpelledRows
+pub mod SpelledTokens
+pub mod SpelledSections

@@ -12,3 +12,7 @@ pub record SpellsOnly (text : List ℕ) (c : Certificate) : Type 0 where
 
 abbrev pub SpellsItself : Type 0
 SpellsItself = (c : Certificate) → CanWrite c → SpellsOnly (canonical_text c) c
+
+-- what a text spells can be written
+abbrev pub CanWriteSpelled : Type 0
+CanWriteSpelled = (text : List ℕ) (c : Certificate) → Spells text c → CanWrite c

@@ -5,11 +5,16 @@
 ghost use Rattle.std.specs.Prelude.{◌≡◌};
 ghost use Rattle.vipr_canonical.specs.Canonical.{canonical_text};
 ghost use Rattle.vipr_canonical.specs.Example.{example, example_text};
-ghost use Rattle.vipr_canonical.specs.Laws.{SpellsItself};
+ghost use Rattle.vipr_canonical.specs.Laws.{SpellsItself, CanWriteSpelled};
 
 /// The canonical text of a certificate within the limits of the format spells that certificate and no other.
 pub fn canonical_texts()
     ensures { SpellsItself }
+{}
+
+/// What a text spells is within the limits of the format, so it has a canonical text.
+pub fn spelled_ones()
+    ensures { CanWriteSpelled }
 {}
 
 /// A certificate, and its canonical text byte by byte.

@@ -1,0 +1,77 @@
+-- The rows of pairs: which variables they name, and their coefficients
+use Rattle.std.proofs.Common.{◌≡◌, ◌≢◌, ℕ, ◌<◌, ◌≤◌, Bool, true, false, not, cond, List, [], ◌∷◌, filter, None, unwrap_or, All, pos, arith, refl, sym, ap, ◌∙◌, subst}
+use Rattle.std.proofs.lemmas.Bool.Decides.{nat_tests, Decides-int_eq}
+use Rattle.std.proofs.lemmas.List.{nil_from_length}
+use Rattle.std.proofs.lemmas.List.Elements.{All-nil, All-cons, All-head, All-tail}
+use Rattle.std.specs.Cmp.{nat_cmp_total}
+use Rattle.std.specs.declared.cmp.Ordering.TheVariants.{Less, Equal, Greater}
+use Rattle.std.specs.FinMap.{entries, empty, from_entries, find, put, get-from_entries, entries-insert, len-entries, len-empty}
+use Rattle.std.specs.FinMap.Entries.{by_order}
+use Rattle.std.specs.Ordering.{nat_cmp, int_eq, eq_by_cmp}
+use Rattle.vipr_spec.specs.Gcd.{gcd}
+use Rattle.vipr_spec.specs.Fraction.{ℚ, over, zero_ℚ, IsBounded}
+use Rattle.vipr_spec.specs.Constraint.{at, NamesBelow}
+use Rattle.vipr_spec.specs.Reading.{is_nonzero, row_of}
+use Rattle.vipr_spec.specs.Shape.{RowFits}
+
+-- ---- the variables
+not_found : (n j : ℕ) → n ≤ j → (ps : List (ℕ × ℚ)) → All (λ p. p.0 < n) ps → find nat_cmp j (filter is_nonzero ps) ≡ None
+not_found n j h [] a = refl
+not_found n j h (p ∷ ps) a =
+    let small : p.0 < n = All-head (λ (p : ℕ × ℚ). p.0 < n) p ps a in
+    let rest = not_found n j h ps (All-tail (λ (p : ℕ × ℚ). p.0 < n) p ps a) in
+    let apart : eq_by_cmp nat_cmp j p.0 ≡ false = grind (arith, nat_tests) in
+    elim (is_nonzero p) as (λ b. find nat_cmp j (cond b (p ∷ filter is_nonzero ps) (filter is_nonzero ps)) ≡ None) [
+      | true ↦ rw apart rest
+      | false ↦ rest
+    ]
+
+-- the row of pairs of variables below n names no other
+pub names_below : (n : ℕ) (ps : List (ℕ × ℚ)) → All (λ p. p.0 < n) ps → NamesBelow n (at (row_of ps))
+names_below n ps a j h = ap (λ o. unwrap_or o zero_ℚ) (get-from_entries nat_cmp_total (filter is_nonzero ps) j ∙ not_found n j h ps a)
+
+-- ---- the coefficients
+module _ (P : ℚ → Type 0) where
+  abbrev Has : ℕ × ℚ → Type 0
+  Has e = P e.1
+
+  put_has : (k : ℕ) (v : ℚ) (es : List (ℕ × ℚ)) → P v → All Has es → All Has (put nat_cmp k v es)
+  put_has k v [] h a = All-cons Has (k, v) [] h (All-nil Has)
+  put_has k v (e ∷ es) h a =
+      let rest = put_has k v es h (All-tail Has e es a) in
+      elim (nat_cmp k e.0) as (λ r. All Has (by_order r ((k, v) ∷ e ∷ es) ((e.0, v) ∷ es) (e ∷ put nat_cmp k v es))) [
+        | Less ↦ All-cons Has (k, v) (e ∷ es) h a
+        | Equal ↦ All-cons Has (e.0, v) es h (All-tail Has e es a)
+        | Greater ↦ All-cons Has e (put nat_cmp k v es) (All-head Has e es a) rest
+      ]
+
+  nothing : entries (empty {X = ℚ} {R = nat_cmp}) ≡ []
+  nothing = nil_from_length _ (sym (len-entries (empty {X = ℚ} {R = nat_cmp})) ∙ len-empty nat_cmp ℚ)
+
+  entries_have : (es : List (ℕ × ℚ)) → All Has es → All Has (entries (from_entries {R = nat_cmp} es))
+  entries_have [] a = subst (All Has) (sym nothing) (All-nil Has)
+  entries_have (e ∷ es) a =
+      subst (All Has) (sym (entries-insert nat_cmp_total (from_entries es) e.0 e.1))
+      (put_has e.0 e.1 (entries (from_entries es)) (All-head Has e es a) (entries_have es (All-tail Has e es a)))
+
+zero_numer : zero_ℚ.numer ≡ pos 0
+unfolding over gcd
+zero_numer = refl
+
+not_zero : (x : ℚ) → not (int_eq x.numer (pos 0)) ≡ true → x ≢ zero_ℚ
+not_zero x t e = let n = ap (λ (z : ℚ). z.numer) e ∙ zero_numer in let f = (Decides-int_eq x.numer (pos 0)).1 n in cc
+
+abbrev Fits : ℚ → Type 0
+Fits x = (x ≢ zero_ℚ) × IsBounded x
+
+fit_by : (p : ℕ × ℚ) (ps : List (ℕ × ℚ)) (b : Bool) → is_nonzero p ≡ b → IsBounded p.1 → All (λ e. Fits e.1) ps → All (λ e. Fits e.1) (cond b (p ∷ ps) ps)
+fit_by p ps true t h a = All-cons (λ (e : ℕ × ℚ). Fits e.1) p ps (not_zero p.1 t, h) a
+fit_by p ps false t h a = a
+
+kept_fit : (ps : List (ℕ × ℚ)) → All (λ p. IsBounded p.1) ps → All (λ e. Fits e.1) (filter is_nonzero ps)
+kept_fit [] a = All-nil (λ (e : ℕ × ℚ). Fits e.1)
+kept_fit (p ∷ ps) a = fit_by p (filter is_nonzero ps) (is_nonzero p) refl (All-head (λ (e : ℕ × ℚ). IsBounded e.1) p ps a) (kept_fit ps (All-tail (λ (e : ℕ × ℚ). IsBounded e.1) p ps a))
+
+-- the row of pairs with bounded coefficients keeps those that are not 0
+pub row_fits : (ps : List (ℕ × ℚ)) → All (λ p. IsBounded p.1) ps → RowFits (row_of ps)
+row_fits ps a = entries_have Fits (filter is_nonzero ps) (kept_fit ps a)
