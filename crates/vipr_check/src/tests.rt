@@ -176,14 +176,19 @@ fn reads_what_it_needs<H: Abort + AllocGlobal>(
         reads: &reads,
     };
     let answer = answered(rt.alloc(), source);
-    let pieces = given.len().min(needed).div_ceil(piece);
-    if given.len() >= needed {
-        assert_eq!(rt; answer, Ok(wanted));
-        assert_eq!(rt; reads.get(), pieces);
+    let len = given.len();
+    let pieces = len.min(needed).div_ceil(piece);
+    if len >= needed {
+        assert_eq!(rt; answer, Ok(wanted), "{len} bytes by {piece}");
+        assert_eq!(rt; reads.get(), pieces, "{len} bytes by {piece}");
     } else {
         let wanted = if fails { Err(Fault::Read) } else { Ok(wanted) };
-        assert_eq!(rt; answer, wanted);
-        assert_eq!(rt; reads.get(), pieces.saturating_add(1));
+        assert_eq!(rt; answer, wanted, "{len} bytes by {piece}");
+        assert_eq!(rt;
+            reads.get(),
+            pieces.saturating_add(1),
+            "{len} bytes by {piece}"
+        );
     }
 }
 
@@ -212,26 +217,23 @@ fn reads_are_made_as_they_are_needed(rt: HostRuntime) {
     }
 }
 
-/// A name of 65,535 bytes is read to its end, and of a longer one no more than shows that it is too long.
+/// Of a name, no more than 65,536 bytes are read before it is known to be too long: with the 14 bytes in front, 1311
+/// pieces of 50.
 #[test]
 fn long_names_are_read_as_they_are_needed(rt: HostRuntime) -> Result<(), Fail> {
     let alloc = rt.alloc();
     let (front, behind) = INFEASIBLE.split_at_checked(14).ok_or("too short")?;
-    let mut text = front.to_vec(alloc)?;
-    text.resize(14 + 65534, b'x')?;
-    text.extend_from_slice(behind)?;
-    reads_what_it_needs(&rt, text.as_slice(), false, 1, 117 + 65534 + 1, None);
-    text.resize(14 + 65534, b'x')?;
-    text.push(b'x')?;
-    text.extend_from_slice(behind)?;
-    reads_what_it_needs(
-        &rt,
-        text.as_slice(),
-        false,
-        1,
-        14 + 65536,
-        at(17, Place::Byte(14)),
-    );
+    let rows = [
+        (65534, 65534 + 117 + 1, None),
+        (65535, 65536 + 14, at(17, Place::Byte(14))),
+        (65540, 65536 + 14, at(17, Place::Byte(14))),
+    ];
+    for (more, needed, wanted) in rows {
+        let mut text = front.to_vec(alloc)?;
+        text.resize(14 + more, b'x')?;
+        text.extend_from_slice(behind)?;
+        reads_what_it_needs(&rt, text.as_slice(), false, 50, needed, wanted);
+    }
     Ok(())
 }
 
