@@ -8,7 +8,7 @@ use std::process::Abort;
 use std::test::Fail;
 use vipr_bytes::{Bytes, Failed, Source};
 use vipr_rules::KeepAll;
-use vipr_text::CertReader;
+use vipr_text::{CertReader, TextError};
 
 // x >= 1 and x <= 0.
 const INFEASIBLE: &[u8] =
@@ -266,6 +266,40 @@ fn readers_stop_behind_their_items(rt: HostRuntime) -> Result<(), Fail> {
     for _ in 0..2 {
         assert!(rt; derivations.next(alloc)?.is_none());
         assert_eq!(rt; reads.get(), 111);
+    }
+    Ok(())
+}
+
+/// A reader whose source failed reads no more.
+#[test]
+fn readers_stop_at_a_failure(rt: HostRuntime) -> Result<(), Fail> {
+    let alloc = rt.alloc();
+    for given in 73..SOLVED.len() {
+        let reads = Cell::new(0);
+        let (left, _) = SOLVED.split_at(given);
+        let source = Counting {
+            left,
+            piece: 1,
+            fails: true,
+            reads: &reads,
+        };
+        let (_, mut solutions) = CertReader::new(alloc, source)?.read_problem(alloc)?;
+        if given < 81 {
+            assert_eq!(rt; solutions.next(alloc).err(), Some(TextError::Read));
+            assert_eq!(rt; solutions.next(alloc).err(), Some(TextError::Spent));
+            assert_eq!(rt; solutions.left(), 1);
+        } else {
+            assert!(rt; solutions.next(alloc)?.is_some());
+            assert_eq!(rt; solutions.left(), 0);
+            match solutions.finish() {
+                Ok(mut derivations) => {
+                    assert_eq!(rt; derivations.next(alloc).err(), Some(TextError::Read));
+                    assert_eq!(rt; derivations.next(alloc).err(), Some(TextError::Spent));
+                }
+                Err(error) => assert_eq!(rt; (error, given < 87), (TextError::Read, true)),
+            }
+        }
+        assert_eq!(rt; reads.get(), given + 1);
     }
     Ok(())
 }
