@@ -19,15 +19,18 @@ use Rattle.vipr_spec.proofs.Reported.{built_good}
 use Rattle.vipr_spec.proofs.Steps.{refers_back}
 use Rattle.vipr_linear.specs.Accumulator.{Accumulator}
 use Rattle.vipr_linear.specs.Constraint.{constraint_of}
-use Rattle.vipr_text.specs.Items.{named_of, problem_of, claim_of}
-use Rattle.vipr_text.specs.declared.items.Problem.{Problem as ProblemRead}
+use Rattle.vipr_items.specs.Items.{named_of, claim_of}
+use Rattle.vipr_linear.specs.declared.constraint.Constraint.{Constraint as ConstraintItem}
+use Rattle.vipr_items.specs.declared.items.Claim.{Claim}
+use Rattle.vipr_items.specs.declared.items.Named.{Named as NamedItem}
+use Rattle.vipr_spec.specs.Shape.{ProblemShape}
 use Rattle.vipr_rules.specs.Table.{Table, empty_table, step, held}
 use Rattle.vipr_rules.specs.History.{IsTableOf, IsEntryOf}
-use Rattle.vipr_rules.specs.Before.{NameBelow}
+use Rattle.vipr_rules.specs.Before.{DerivedBelow}
 use Rattle.vipr_rules.specs.Judged.{Passes}
 use Rattle.vipr_rules.specs.declared.entries.Entry.{Entry}
 use Rattle.vipr_rules.proofs.HistoryLemmas.{IsTableOf-empty, IsTableOf-step, IsTableOf-held}
-use Rattle.vipr_check.specs.State.{IsInShape, NamesItsOwn, Describes, HasRoom}
+use Rattle.vipr_check.specs.State.{NamesItsOwn, Describes, HasRoom}
 use Rattle.vipr_check.specs.Goal.{IsFirstFalse}
 use Rattle.vipr_check.specs.View.{answer_of}
 use Rattle.vipr_check.specs.Refused.{refused_at}
@@ -38,9 +41,6 @@ use Rattle.vipr_check.proofs.GoalLemmas.{first_met}
 use Rattle.vipr_check.specs.declared.checker.Checker.{Checker}
 
 -- ---- variables
-
-All-unmapped : {X Y : Type 0} (P : Y → Type 0) (f : X → Y) (xs : List X) → All P (map f xs) → All (λ x. P (f x)) xs
-All-unmapped P f xs a k d lt = subst P (get_or-map f xs k d (f d) lt) (a k (f d) (simp length-map lt))
 
 abbrev nothing_said : Condition
 nothing_said = record { row = λ j. zero_ℚ; sense = equal; bound = zero_ℚ }
@@ -61,43 +61,35 @@ own_next c d own names = record { given = own.given; derived = All-push (λ d. N
 -- ---- the beginning
 
 module _ {S : Type 0} (table : S → Table) where
-  pub Describes-start : (p : ProblemRead) (k : Checker S) (m : ℕ) → k.problem ≡ p → (problem_of p).claim ≡ infeasible → IsInShape p → m ≡ length p.cons.items → table k.rows ≡ empty_table m
-      → length k.scratch.sums ≡ length p.names.items → k.peak ≡ 0 → IsFirstFalse p.cons.items k.goal → Describes table (start (problem_of p) []) k
-  Describes-start p k m same claim shape first rows scratch none goal =
-      let c = start (problem_of p) [] in
-      let n : m ≡ length (map (named_of constraint_of) p.cons.items) = first ∙ sym (length-map p.cons.items (named_of constraint_of)) in
+  pub Describes-start : (p : Problem) (cons : List (NamedItem ConstraintItem)) (k : Checker S) (m : ℕ) → k.problem ≡ p → p.claim ≡ infeasible → ProblemShape p → map (named_of constraint_of) cons ≡ p.constraints
+      → m ≡ length p.constraints → table k.rows ≡ empty_table m → length k.scratch.sums ≡ variables p → k.peak ≡ 0 → IsFirstFalse cons k.goal → Describes table (start p []) k
+  Describes-start p cons k m same claim shape seen first rows scratch none goal =
+      let c = start p [] in
       record {
-        problem = ap problem_of (sym same);
+        problem = sym same;
         claim = claim;
         solutions = refl;
-        rows = subst (IsTableOf c) (sym (rows ∙ ap empty_table n)) (IsTableOf-empty c refl);
-        own = record { given = All-map (λ n. NamesBelow (variables c.problem) (at n.item.row)) (named_of constraint_of) p.cons.items shape.below; derived = All-nil (λ d. NamesBelow (variables c.problem) (at d.stated.row)) };
+        rows = subst (IsTableOf c) (sym (rows ∙ ap empty_table first)) (IsTableOf-empty c refl);
+        own = record { given = λ i n l. (shape.constraints i n l).row; derived = All-nil (λ d. NamesBelow (variables c.problem) (at d.stated.row)) };
         scratch = scratch;
-        checked = subst (IsChecked c k.goal) (sym none) (checked_start (problem_of p) [] k.goal (first_met (problem_of p) p.cons.items claim refl k.goal goal));
+        checked = subst (IsChecked c k.goal) (sym none) (checked_start p [] k.goal (first_met p cons claim (sym seen) k.goal goal));
       }
 
   -- ---- what the rules ask for
 
   module _ (c : Certificate) (k : Checker S) (is : Describes table c k) where
-    same_variables : variables c.problem ≡ length k.problem.names.items
-    same_variables = ap variables is.problem
+    pub rows_first : (table k.rows).first ≡ length k.problem.constraints
+    rows_first = is.rows.first ∙ ap (λ p. length p.constraints) is.problem
 
-    pub rows_first : (table k.rows).first ≡ length k.problem.cons.items
-    rows_first = is.rows.first ∙ ap (λ p. length p.constraints) is.problem ∙ length-map k.problem.cons.items (named_of constraint_of)
+    pub scratch_size : length k.scratch.sums ≡ variables k.problem
+    scratch_size = is.scratch ∙ ap variables is.problem
 
-    given_own : All (λ n. NamesBelow (length k.scratch.sums) (at n.item.row)) k.problem.cons.items
-    given_own =
-        let a = subst (λ (p : Problem). All (λ n. NamesBelow (variables p) (at n.item.row)) p.constraints) is.problem is.own.given in
-        let b = All-unmapped (λ (n : Named Constraint). NamesBelow (length k.problem.names.items) (at n.item.row)) (named_of constraint_of) k.problem.cons.items a in
-        subst (λ (n : ℕ). All (λ x. NamesBelow n (at x.item.row)) k.problem.cons.items) (sym (is.scratch ∙ same_variables)) b
-
-    held_own : (i : ℕ) (e : Entry) → finite.get (table k.rows).entries i ≡ Some e → NamesBelow (length k.scratch.sums) (at e.constraint.row)
-    held_own i e h =
-        subst (λ (n : ℕ). NamesBelow n (at e.constraint.row)) (sym is.scratch)
-        (subst (λ (x : Condition). NamesBelow (variables c.problem) x.row) (is.rows.entry i e h).says (own_constraint c is.own i))
-
-    pub names_below : NameBelow (length k.scratch.sums) k.problem.cons.items (table k.rows)
-    names_below = record { given_ones = given_own; derived_ones = held_own }
+    pub derived_below : DerivedBelow (variables k.problem) (table k.rows)
+    derived_below = record {
+      each = λ i e h.
+          subst (λ (p : Problem). NamesBelow (variables p) (at e.constraint.row)) is.problem
+          (subst (λ (x : Condition). NamesBelow (variables c.problem) x.row) (is.rows.entry i e h).says (own_constraint c is.own i));
+    }
 
     pub back : RefersBack c
     back = refers_back c is.checked.steps
@@ -111,7 +103,7 @@ module _ {S : Type 0} (table : S → Table) where
       let n = count_next c d in
       let most : l.peak ≡ max k.peak (held_after (with_next c d) (count c)) = top ∙ ap (max k.peak) (IsTableOf-held (with_next c d) (table l.rows) t (count c) (sym n) (omega arith)) in
       record {
-        problem = is.problem ∙ ap problem_of (sym problem);
+        problem = is.problem ∙ sym problem;
         claim = is.claim;
         solutions = is.solutions;
         rows = t;
@@ -133,11 +125,11 @@ module _ {S : Type 0} (table : S → Table) where
     finish_unproved v none e =
         subst (λ v. Answers (derivations_from c 0 r) (answer_of v)) (sym e) (checked_unproved c k.peak r (subst (λ g. IsChecked c g k.peak) none is.checked) end needed)
 
-    pub finish_verified : (goal derived : ℕ) → k.goal ≡ Some goal → derived ≡ (table k.rows).next - length k.problem.cons.items
-        → Answers (derivations_from c 0 r) (answer_of (Verified (record { claim = k.problem.claim; solutions = 0; derived = derived; peak = k.peak; goal = Some goal })))
-    finish_verified goal derived some e =
+    pub finish_verified : (goal derived : ℕ) (claim : Claim) → k.goal ≡ Some goal → claim_of claim ≡ k.problem.claim → derived ≡ (table k.rows).next - length k.problem.constraints
+        → Answers (derivations_from c 0 r) (answer_of (Verified (record { claim = claim; solutions = 0; derived = derived; peak = k.peak; goal = Some goal })))
+    finish_verified goal derived claim some says e =
         let a = checked_verified c (Some goal) k.peak r (subst (λ g. IsChecked c g k.peak) some is.checked) end (λ _. search rules) in
-        let claims : c.problem.claim ≡ claim_of k.problem.claim = ap (λ p. p.claim) is.problem in
+        let claims : c.problem.claim ≡ claim_of claim = ap (λ p. p.claim) is.problem ∙ sym says in
         let solutions : length c.solutions ≡ 0 = ap length is.solutions in
         let first = rows_first c k is in
         let next = is.rows.next in

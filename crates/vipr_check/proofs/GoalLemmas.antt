@@ -14,8 +14,8 @@ use Rattle.vipr_spec.specs.Checking.{Meets, IsFirstMet, ProvesNext, NextGoal}
 use Rattle.vipr_spec.proofs.Prefix.{constraint_next}
 use Rattle.vipr_linear.specs.Constraint.{constraint_of, condition_of}
 use Rattle.vipr_linear.specs.declared.constraint.Constraint.{Constraint}
-use Rattle.vipr_text.specs.Items.{named_of}
-use Rattle.vipr_text.specs.declared.items.Named.{Named}
+use Rattle.vipr_items.specs.Items.{named_of}
+use Rattle.vipr_items.specs.declared.items.Named.{Named}
 use Rattle.vipr_rules.specs.declared.entries.Entry.{Entry}
 use Rattle.vipr_rules.specs.History.{IsEntryOf}
 use Rattle.vipr_check.specs.Goal.{SaysFalse, IsFirstFalse}

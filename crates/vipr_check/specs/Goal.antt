@@ -4,7 +4,7 @@ use Rattle.std.specs.List.{AllWithin, HoldsAt}
 use Rattle.vipr_spec.specs.Constraint.{IsAbsurd}
 use Rattle.vipr_linear.specs.Constraint.{condition_of}
 use Rattle.vipr_linear.specs.declared.constraint.Constraint.{Constraint}
-use Rattle.vipr_text.specs.declared.items.Named.{Named}
+use Rattle.vipr_items.specs.declared.items.Named.{Named}
 
 abbrev pub SaysFalse : Named Constraint → Type 0
 SaysFalse n = IsAbsurd (condition_of n.item)

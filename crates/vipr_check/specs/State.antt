@@ -5,18 +5,10 @@ use Rattle.vipr_spec.specs.Certificate.{variables, infeasible, Derivation, Certi
 use Rattle.vipr_spec.specs.Checking.{IsChecked}
 use Rattle.vipr_spec.specs.Verdict.{Answer}
 use Rattle.vipr_spec.specs.Progress.{Answers, derivations_from}
-use Rattle.vipr_text.specs.Items.{problem_of}
-use Rattle.vipr_text.specs.declared.items.Problem.{Problem}
 use Rattle.vipr_text.specs.Readers.{Items, Knows}
 use Rattle.vipr_rules.specs.Table.{Table}
 use Rattle.vipr_rules.specs.History.{IsTableOf}
 use Rattle.vipr_check.specs.declared.checker.Checker.{Checker}
-
--- there are no more variables and constraints than a count may be, and the rows name these variables alone
-pub record IsInShape (p : Problem) : Type 0 where
-  pub names : length p.names.items < 2 ^ 32
-  pub constraints : length p.cons.items < 2 ^ 32
-  pub below : All (λ n. NamesBelow (length p.names.items) (at n.item.row)) p.cons.items
 
 -- the rows name variables of the problem alone
 pub record NamesItsOwn (c : Certificate) : Type 0 where
@@ -25,7 +17,7 @@ pub record NamesItsOwn (c : Certificate) : Type 0 where
 
 -- the checker has what is to be known of the certificate so far
 pub record Describes {S : Type 0} (table : S → Table) (c : Certificate) (k : Checker S) : Type 0 where
-  pub problem : c.problem ≡ problem_of k.problem
+  pub problem : c.problem ≡ k.problem
   pub claim : c.problem.claim ≡ infeasible
   pub solutions : c.solutions ≡ []
   pub rows : IsTableOf c (table k.rows)

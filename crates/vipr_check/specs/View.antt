@@ -1,7 +1,7 @@
 -- What a check answers, as the answer of the definitions
 use Rattle.std.specs.Prelude.{⊤, Result, Ok, Err}
 use Rattle.vipr_spec.specs.Verdict as is
-use Rattle.vipr_text.specs.Items.{claim_of}
+use Rattle.vipr_items.specs.Items.{claim_of}
 use Rattle.vipr_check.specs.declared.verdict.Place.{Place}
 use Rattle.vipr_check.specs.declared.verdict.Place.TheVariants.{Byte, Sol, Der, End}
 use Rattle.vipr_check.specs.declared.verdict.Refusal.{Refusal}

@@ -3,7 +3,7 @@
 ghost use Rattle.std.specs.Prelude.{◌≡◌, ◌+◌, ◌<◌, ◌^◌, max, length, List, IfOk, Ok};
 ghost use Rattle.vipr_spec.specs.Certificate.{Problem as ProblemMeant, Derivation as DerivationMeant, Certificate, infeasible, count};
 ghost use Rattle.vipr_spec.specs.OnePass.{with_next, RefersBack, GoalIs};
-ghost use Rattle.vipr_text.specs.Items.{problem_of, named_of, claim_of, derivation_of};
+ghost use Rattle.vipr_items.specs.Items.{derivation_of};
 ghost use Rattle.vipr_linear.specs.Constraint.{constraint_of};
 ghost use Rattle.vipr_rules.specs.Table.{step as table_step, held as held_in};
 ghost use Rattle.vipr_rules.specs.History.{IsEntryOf};

@@ -6,13 +6,13 @@ ghost use Rattle.vipr_spec.specs.Reading.{Rest, end_read};
 ghost use Rattle.vipr_spec.specs.OnePass.{with_next};
 ghost use Rattle.vipr_spec.specs.Checking.{start};
 ghost use Rattle.vipr_spec.specs.Progress.{Answers, derivations_from};
-ghost use Rattle.vipr_text.specs.Items.{problem_of, claim_of, derivation_of};
+ghost use Rattle.vipr_items.specs.Items.{derivation_of};
 ghost use Rattle.vipr_rules.specs.Table.{step as table_step, held as held_in};
 ghost use Rattle.vipr_rules.specs.History.{IsEntryOf};
 ghost use Rattle.vipr_spec.specs.Verdict.{step_tests};
 ghost use Rattle.vipr_rules.specs.Judged.{Passes};
 ghost use Rattle.vipr_check.specs.View.{answer_of};
-ghost use Rattle.vipr_check.specs.State.{IsInShape, Describes, HasRoom};
+ghost use Rattle.vipr_check.specs.State.{Describes, HasRoom};
 ghost use Rattle.vipr_check.specs.Taking.{Takes};
 
 use crate::causes;
@@ -41,14 +41,13 @@ fn place<S: Rows>(rows: &mut S, entry: Entry) -> Result<usize, AllocError>
 impl<S: Rows> Checker<S> {
     /// A checker of a problem that claims infeasibility, before its derivations.
     pub(crate) fn new(alloc: Global, problem: Problem) -> Result<Checker<S>, AllocError>
-        requires claim { claim_of problem.claim ≡ infeasible }
-        requires shape { IsInShape problem }
-        ensures { IfOk result (λ k. Describes S.table (start (problem_of problem) []) k) }
+        requires { problem.claim ≡ infeasible }
+        ensures { IfOk result (λ k. Describes S.table (start problem []) k) }
     {
-        let variables = problem.names.len() as u32;
-        let constraints = problem.cons.len() as u32;
+        let variables = problem.names().len() as u32;
+        let constraints = problem.cons().len() as u32;
         let scratch = Combination::new(alloc, variables)?;
-        let goal = goal_among(problem.cons.as_slice());
+        let goal = goal_among(problem.cons());
         Ok(Checker {
             problem,
             rows: S::new(alloc, constraints),
@@ -104,9 +103,9 @@ impl<S: Rows> Checker<S> {
         match self.goal {
             None => refused(causes::NO_PROOF, Place::End),
             Some(goal) => Verdict::Verified(Report {
-                claim: self.problem.claim,
+                claim: self.problem.claim(),
                 solutions: 0,
-                derived: self.rows.next() - self.problem.cons.len() as u32,
+                derived: self.rows.next() - self.problem.cons().len() as u32,
                 peak: self.peak,
                 goal: Some(goal),
             }),

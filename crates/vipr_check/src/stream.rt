@@ -6,10 +6,10 @@ ghost use Rattle.vipr_spec.specs.Reading.{Rest, problem_read};
 ghost use Rattle.vipr_spec.specs.Verdict.{Answer, IsAnswer};
 ghost use Rattle.vipr_spec.specs.Checking.{start};
 ghost use Rattle.vipr_spec.specs.Progress.{Answers, derivations_from, solutions_from};
-ghost use Rattle.vipr_text.specs.Items.{problem_of, claim_of, derivation_of};
+ghost use Rattle.vipr_items.specs.Items.{derivation_of};
 ghost use Rattle.vipr_text.specs.Readers.{Items, Knows};
 ghost use Rattle.vipr_check.specs.View.{Says};
-ghost use Rattle.vipr_check.specs.State.{IsInShape, Describes, HasRoom, IsAt, HasReached};
+ghost use Rattle.vipr_check.specs.State.{Describes, HasRoom, IsAt, HasReached};
 ghost use Rattle.vipr_check.specs.Taking.{IsTaken, Goes};
 ghost use Rattle.vipr_check.specs.Texts.{rest_of, IfTold};
 
@@ -42,13 +42,12 @@ fn after_problem<R: Source + Drop, S: Rows>(
     problem: Problem,
     solutions: Solutions<R>,
 ) -> Result<Verdict, Fault>
-    requires knows { Knows solutions (problem_of problem) }
+    requires knows { Knows solutions problem }
     requires unspent { solutions.reading.spent ≡ false }
-    requires shape { IsInShape problem }
-    ensures { solutions.reading.told ≡ true → (r : Rest) → problem_read r ≡ Ok ((problem_of problem, solutions.left), solutions.reading.left)
+    ensures { solutions.reading.told ≡ true → (r : Rest) → problem_read r ≡ Ok ((problem, solutions.left), solutions.reading.left)
         → Says (IsAnswer r) result }
 {
-    match problem.claim {
+    match problem.claim() {
         Claim::Infeas => after_claim::<R, S>(alloc, problem, solutions),
         Claim::Range(_, _) => Ok(refused(causes::NOT_YET, Place::End)),
     }
@@ -60,11 +59,10 @@ fn after_claim<R: Source + Drop, S: Rows>(
     problem: Problem,
     solutions: Solutions<R>,
 ) -> Result<Verdict, Fault>
-    requires claim { claim_of problem.claim ≡ infeasible }
-    requires knows { Knows solutions (problem_of problem) }
+    requires claim { problem.claim ≡ infeasible }
+    requires knows { Knows solutions problem }
     requires unspent { solutions.reading.spent ≡ false }
-    requires shape { IsInShape problem }
-    ensures { solutions.reading.told ≡ true → Says (Answers (solutions_from (problem_of problem) [] solutions.left solutions.reading.left)) result }
+    ensures { solutions.reading.told ≡ true → Says (Answers (solutions_from problem [] solutions.left solutions.reading.left)) result }
 {
     if solutions.left() > 0 {
         return at_solution(alloc, solutions);
@@ -96,12 +94,11 @@ fn after_solutions<R: Source + Drop, S: Rows>(
     problem: Problem,
     derivations: Derivations<R>,
 ) -> Result<Verdict, Fault>
-    requires claim { claim_of problem.claim ≡ infeasible }
-    requires knows { Knows derivations (problem_of problem) }
+    requires claim { problem.claim ≡ infeasible }
+    requires knows { Knows derivations problem }
     requires unspent { derivations.reading.spent ≡ false }
-    requires shape { IsInShape problem }
     requires room { derivations.constraints + derivations.left < 2 ^ 32 }
-    ensures { derivations.reading.told ≡ true → Says (Answers (derivations_from (start (problem_of problem) []) derivations.left derivations.reading.left)) result }
+    ensures { derivations.reading.told ≡ true → Says (Answers (derivations_from (start problem []) derivations.left derivations.reading.left)) result }
 {
     let checker: Checker<S> = Checker::new(alloc, problem)?;
     after_steps(alloc, checker, derivations)

@@ -9,7 +9,7 @@ use Rattle.vipr_spec.proofs.Prefix.{reason_given}
 use Rattle.vipr_spec.proofs.Rests.{rests_given}
 use Rattle.vipr_linear.specs.Constraint.{constraint_of, condition_of}
 use Rattle.vipr_linear.specs.declared.constraint.Constraint.{Constraint}
-use Rattle.vipr_text.specs.declared.items.Named.{Named}
+use Rattle.vipr_items.specs.declared.items.Named.{Named}
 use Rattle.vipr_rules.specs.declared.entries.Entry.{Entry}
 use Rattle.vipr_rules.specs.Table.{Table, entry_at}
 use Rattle.vipr_rules.specs.History.{is_derived}

@@ -15,8 +15,8 @@ use Rattle.vipr_spec.proofs.Steps.{rests_next}
 use Rattle.vipr_spec.proofs.Reported.{built_good}
 use Rattle.vipr_linear.specs.Constraint.{constraint_of, condition_of}
 use Rattle.vipr_linear.specs.declared.constraint.Constraint.{Constraint}
-use Rattle.vipr_text.specs.declared.items.Problem.{Problem}
-use Rattle.vipr_text.specs.Items.{problem_of, named_of}
+use Rattle.vipr_items.specs.declared.items.Named.{Named}
+use Rattle.vipr_items.specs.Items.{named_of}
 use Rattle.vipr_rules.specs.declared.failure.RuleError.{RuleError}
 use Rattle.vipr_rules.specs.declared.failure.RuleError.TheVariants.{NotDominated}
 use Rattle.vipr_rules.specs.declared.entries.Entry.{Entry}
@@ -64,9 +64,9 @@ module _ (c : Certificate) (d : Derivation) (es : List (ℕ × ℚ)) where
     lin_not_dominated bad = stops_second c d (references ++ sums) (by_sum es ∷ []) (NotDominated computed stated) both (by_sum es, inr (combines_not bad, refl), (sum, says))
 
 -- ---- what stands before
-pub stands : (c : Certificate) (p : Problem) (t : Table) → c.problem ≡ problem_of p → IsTableOf c t → StandsBefore c p.cons.items t
-stands c p t is table = record {
-  given = ap (λ q. map (λ n. n.item) q.constraints) is ∙ map-map (λ n. n.item) (named_of constraint_of) p.cons.items;
+pub stands : (c : Certificate) (cons : List (Named Constraint)) (t : Table) → map (named_of constraint_of) cons ≡ c.problem.constraints → IsTableOf c t → StandsBefore c cons t
+stands c cons t is table = record {
+  given = ap (map (λ n. n.item)) (sym is) ∙ map-map (λ n. n.item) (named_of constraint_of) cons;
   table = table;
 }
 

@@ -10,7 +10,7 @@ use Rattle.vipr_spec.specs.Constraint.{at, NamesBelow}
 use Rattle.vipr_linear.specs.Constraint.{constraint_of, condition_of}
 use Rattle.vipr_rules.specs.declared.entries.Entry.{Entry}
 use Rattle.vipr_linear.specs.declared.constraint.Constraint.{Constraint}
-use Rattle.vipr_text.specs.declared.items.Named.{Named}
+use Rattle.vipr_items.specs.declared.items.Named.{Named}
 use Rattle.vipr_rules.specs.Table.{Table}
 use Rattle.vipr_rules.specs.History.{IsTableOf}
 
@@ -33,7 +33,11 @@ pub record RestsOnWhat (c : Certificate) (i : ℕ) (found : Option (set.FinSet n
 abbrev pub IsSetOfAll : Certificate → List (ℕ × ℚ) → set.FinSet nat_cmp → Type 0
 IsSetOfAll c es s = (a : ℕ) → IsTrue (set.contains s a) ↔ SomeRestsOn c es a
 
--- the constraints of the problem and of the table have no variable from n on
+-- the constraints of the table have no variable from n on
+pub record DerivedBelow (n : ℕ) (t : Table) : Type 0 where
+  pub each : (i : ℕ) (e : Entry) → finmap.get t.entries i ≡ Some e → NamesBelow n (at e.constraint.row)
+
+-- nor have these
 pub record NameBelow (n : ℕ) (cons : List (Named Constraint)) (t : Table) : Type 0 where
   pub given_ones : All (λ x. NamesBelow n (at x.item.row)) cons
-  pub derived_ones : (i : ℕ) (e : Entry) → finmap.get t.entries i ≡ Some e → NamesBelow n (at e.constraint.row)
+  pub derived_ones : DerivedBelow n t

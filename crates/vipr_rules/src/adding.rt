@@ -16,8 +16,8 @@ use crate::references::is_used;
 use crate::table::Rows;
 use std::alloc::Global;
 use vipr_frac::Frac;
+use vipr_items::Named;
 use vipr_linear::{CombError, Combination, Constraint};
-use vipr_text::Named;
 
 /// Adds the entries up in their order, those with the multiplier 0 left out.
 pub fn add_up<S: Rows>(

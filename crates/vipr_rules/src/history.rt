@@ -5,8 +5,8 @@ ghost use Rattle.vipr_spec.specs.Certificate.{Certificate, Derivation, count, he
 ghost use Rattle.vipr_spec.specs.OnePass.{with_next, HasGoodSteps};
 ghost use Rattle.vipr_spec.specs.Constraint.{at, NamesBelow};
 ghost use Rattle.vipr_linear.specs.declared.constraint.Constraint.{Constraint};
-ghost use Rattle.vipr_text.specs.declared.items.Named.{Named};
-ghost use Rattle.vipr_rules.specs.Before.{NameBelow};
+ghost use Rattle.vipr_items.specs.declared.items.Named.{Named};
+ghost use Rattle.vipr_rules.specs.Before.{DerivedBelow};
 ghost use Rattle.vipr_rules.specs.Table.{Table, empty_table, step, entry_at, held as held_in};
 ghost use Rattle.vipr_rules.specs.History.{IsEntryOf, IsTableOf, Answers};
 ghost use Rattle.vipr_rules.specs.declared.entries.Entry.{Entry as EntryValue};
@@ -23,6 +23,6 @@ pub fn table_holds_what_is_live()
 /// Where no constraint of the problem and of the table has a variable from `n` on, that stays so with
 /// an entry that has none either.
 pub fn names_stay_below()
-    ensures empty { (n first : ℕ) (cons : List (Named Constraint)) → All (λ x. NamesBelow n (at x.item.row)) cons → NameBelow n cons (empty_table first) }
-    ensures step { (n : ℕ) (cons : List (Named Constraint)) (t : Table) (e : EntryValue) → NameBelow n cons t → NamesBelow n (at e.constraint.row) → NameBelow n cons (step t e) }
+    ensures empty { (n first : ℕ) → DerivedBelow n (empty_table first) }
+    ensures step { (n : ℕ) (t : Table) (e : EntryValue) → DerivedBelow n t → NamesBelow n (at e.constraint.row) → DerivedBelow n (step t e) }
 {}

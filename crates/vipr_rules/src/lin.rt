@@ -17,8 +17,8 @@ use crate::table::Rows;
 use crate::united::unite;
 use std::alloc::Global;
 use vipr_frac::Frac;
+use vipr_items::Named;
 use vipr_linear::{Combination, Constraint};
-use vipr_text::Named;
 
 /// Tests a derivation by `lin`, and gives the assumptions that it rests on.
 pub fn combine<S: Rows>(

@@ -7,8 +7,8 @@ ghost use Rattle.vipr_rules.specs.Before.{StandsBefore, SaysWhat, RestsOnWhat, N
 
 use crate::assumed::Assumptions;
 use crate::table::Rows;
+use vipr_items::Named;
 use vipr_linear::Constraint;
-use vipr_text::Named;
 
 /// Whether constraint `index` is live before the next derivation.
 pub fn is_live<S: Rows>(given: &[Named<Constraint>], rows: &S, index: u32) -> bool

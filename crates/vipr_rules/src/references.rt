@@ -12,8 +12,8 @@ use crate::failure::RuleError;
 use crate::lookup::is_live;
 use crate::table::Rows;
 use vipr_frac::Frac;
+use vipr_items::Named;
 use vipr_linear::Constraint;
-use vipr_text::Named;
 
 /// Whether an entry counts: its multiplier isn't 0.
 pub fn is_used(entry: &(u32, Frac)) -> bool

@@ -1,10 +1,10 @@
 //! Derivations by their reasons.
 
 ghost use Rattle.std.specs.Prelude.{◌≡◌, length, IfOk};
-ghost use Rattle.vipr_spec.specs.Certificate.{Certificate};
+ghost use Rattle.vipr_spec.specs.Certificate.{Certificate, variables};
 ghost use Rattle.vipr_spec.specs.OnePass.{RefersBack};
-ghost use Rattle.vipr_text.specs.Items.{problem_of, derivation_of};
-ghost use Rattle.vipr_rules.specs.Before.{NameBelow};
+ghost use Rattle.vipr_items.specs.Items.{derivation_of};
+ghost use Rattle.vipr_rules.specs.Before.{DerivedBelow};
 ghost use Rattle.vipr_rules.specs.History.{IsTableOf};
 ghost use Rattle.vipr_rules.specs.Judged.{Judges};
 
@@ -14,8 +14,8 @@ use crate::lin::combine;
 use crate::table::Rows;
 use std::alloc::Global;
 use vipr_frac::Frac;
+use vipr_items::{Derivation, Problem, Reason};
 use vipr_linear::Combination;
-use vipr_text::{Derivation, Problem, Reason};
 
 /// Tests a derivation against the problem, the best objective value among the listed solutions and
 /// the table of earlier derivations, and gives what is to be kept of it.
@@ -33,14 +33,15 @@ pub fn apply<S: Rows>(
     scratch: &mut Combination,
     step: &Derivation,
 ) -> Result<Entry, RuleError>
-    requires { NameBelow (length scratch.old.sums) p.now.cons.items (S.table rows.now) }
-    ensures judged { (c : Certificate) → c.problem ≡ problem_of p.now → IsTableOf c (S.table rows.now) → RefersBack c → Judges c (derivation_of step.now) result }
+    requires variables { length scratch.old.sums ≡ variables p.now }
+    requires rows { DerivedBelow (variables p.now) (S.table rows.now) }
+    ensures judged { (c : Certificate) → c.problem ≡ p.now → IsTableOf c (S.table rows.now) → RefersBack c → Judges c (derivation_of step.now) result }
     ensures stated { IfOk result (λ e. e.constraint ≡ step.now.constraint) }
     ensures variables { length scratch.new.sums ≡ length scratch.old.sums }
 {
     match &step.reason {
         Reason::Lin(entries) => {
-            let assumptions = combine(alloc, &p.cons, rows, scratch, &step.constraint, entries)?;
+            let assumptions = combine(alloc, p.cons(), rows, scratch, &step.constraint, entries)?;
             Ok(Entry {
                 constraint: step.constraint.clone()?,
                 assumptions,

@@ -14,8 +14,8 @@ use crate::references::is_used;
 use crate::table::Rows;
 use std::alloc::{AllocError, Global};
 use vipr_frac::Frac;
+use vipr_items::Named;
 use vipr_linear::Constraint;
-use vipr_text::Named;
 
 /// The assumptions that the constraints of the entries rest on, those with the multiplier 0 left
 /// out.

@@ -2,13 +2,13 @@
 ghost use Rattle.std.specs.Prelude.{◌≡◌, ◌≢◌, true, false, OnOk, IfErr};
 ghost use Rattle.vipr_spec.specs.Reading as reading;
 ghost use Rattle.vipr_text.specs.Giving.{Gives};
-ghost use Rattle.vipr_text.specs.Items.{claim_of};
+ghost use Rattle.vipr_items.specs.Items.{claim_of};
 
 use crate::error::TextError;
-use crate::items::Claim;
 use crate::tokens::Tokens;
 use crate::{causes, wanted};
 use vipr_bytes::Source;
+use vipr_items::Claim;
 
 /// The version, 1.0.
 #[tactic(auto, unfolding(vipr_spec::specs::Reading::version_read))]

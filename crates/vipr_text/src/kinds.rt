@@ -5,12 +5,12 @@ ghost use Rattle.vipr_spec.specs.Digits.{natural_of};
 ghost use Rattle.vipr_text.specs.Giving.{viewed};
 ghost use Rattle.vipr_text.specs.Rules.{rule_seen, objective_or_count_of};
 ghost use Rattle.vipr_linear.specs.Constraint.{sense_of as sense_seen};
-ghost use Rattle.vipr_text.specs.Items.{direction_of as direction_seen};
+ghost use Rattle.vipr_items.specs.Items.{direction_of as direction_seen};
 ghost use Rattle.vipr_spec.specs.Reading.{at_most_or, count_of, derivation_count_of, variable_of, reference_of, last_of, word_of, rule_of, number_of, sense_of, direction_of, has_range_of, bound_of};
 
 use crate::causes;
-use crate::items::Goal;
 use vipr_frac::{Frac, NumberError};
+use vipr_items::Goal;
 use vipr_linear::Sense;
 
 /// The rule of a reason, before what belongs to it is read.

@@ -5,7 +5,6 @@ mod bytes;
 mod causes;
 mod claims;
 mod error;
-mod items;
 mod kinds;
 mod pairs;
 mod piece;
@@ -19,6 +18,8 @@ mod wanted;
 mod window;
 
 pub use error::TextError;
-pub use items::{Claim, Derivation, Goal, Name, Named, Problem, Reason};
 pub use reader::{CertReader, Derivations, Solutions};
 pub use tokens::{Token, Tokens};
+pub use vipr_items::{
+    BadShape, Certificate, Claim, Derivation, Goal, Name, Named, Problem, Reason,
+};

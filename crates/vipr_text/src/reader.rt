@@ -6,16 +6,17 @@ ghost use Rattle.vipr_spec.specs.Tokens.{tokens};
 ghost use Rattle.vipr_spec.specs.Certificate.{Problem as ProblemMeant, variables as variables_of};
 ghost use Rattle.vipr_spec.specs.Reading.{problem_read, solution_read, derivations_read, derivation_read, end_read};
 ghost use Rattle.vipr_text.specs.Giving.{GivesFrom, Gives, Ends};
-ghost use Rattle.vipr_text.specs.Items.{problem_of, named_of, derivation_of};
+ghost use Rattle.vipr_items.specs.Items.{solution_of, derivation_of};
+ghost use Rattle.vipr_spec.specs.Shape.{SolutionShape, DerivationShape};
 ghost use Rattle.vipr_text.specs.Readers.{Items, Knows, Remembers, NextItem};
 
 use crate::error::TextError;
-use crate::items::{Derivation, Named, Problem};
 use crate::tokens::Tokens;
 use crate::{causes, reasons, sections, wanted};
 use std::alloc::{AllocError, Global};
 use std::marker::Model;
 use vipr_bytes::Source;
+use vipr_items::{Derivation, Named, Problem};
 use vipr_linear::{Row, Solution};
 
 /// Reads a certificate from its start.
@@ -105,22 +106,19 @@ impl<R: Source> CertReader<R> {
     pub fn read_problem(self, alloc: Global) -> Result<(Problem, Solutions<R>), TextError>
     where
         R: Drop,
-        ensures read { self.told ≡ true → GivesFrom (λ x. (problem_of x.0, x.1.left)) (λ x. x.1.reading) result (problem_read self.left) }
-        ensures knows { IfOk result (λ x. Knows x.1 (problem_of x.0)) }
-        ensures names { IfOk result (λ x. length x.0.names.items < 2 ^ 32) }
-        ensures constraints { IfOk result (λ x. length x.0.cons.items < 2 ^ 32) }
-        ensures below { IfOk result (λ x. All (λ c. NamesBelow (length x.0.names.items) (at c.item.row)) x.0.cons.items) }
+        ensures read { self.told ≡ true → GivesFrom (λ x. (x.0, x.1.left)) (λ x. x.1.reading) result (problem_read self.left) }
+        ensures knows { IfOk result (λ x. Knows x.1 x.0) }
         ensures unspent { IfOk result (λ x. x.1.reading.spent ≡ false) }
         ensures error { IfErr result (λ e. e ≢ TextError.Spent) }
     {
         let CertReader { mut tokens } = self;
         let start = sections::problem(alloc, &mut tokens)?;
-        let objective = start.problem.objective.clone()?;
+        let objective = start.problem.objective().clone()?;
         let reader = Solutions {
             tokens,
             left: start.solutions,
-            variables: start.problem.names.len() as u32,
-            constraints: start.problem.cons.len() as u32,
+            variables: start.problem.names().len() as u32,
+            constraints: start.problem.cons().len() as u32,
             objective,
             marks: start.marks,
         };
@@ -142,9 +140,10 @@ impl<R: Source> Solutions<R> {
         ensures stopped { OnErr result (self.new.reading.spent ≡ true) }
         ensures remembers { Remembers self.old self.new }
         ensures unspent { OnOk result (self.new.reading.spent ≡ false) }
-        ensures below { IfOk result (λ o. IfSome o (λ s. NamesBelow self.old.variables (at s.item.0))) }
+        ensures counted { IfOk result (λ o. MatchOption o (self.old.left ≡ 0) (λ _. self.old.left ≡ suc self.new.left)) }
+        ensures shape { IfOk result (λ o. IfSome o (λ s. SolutionShape self.old.variables (solution_of s))) }
         ensures read { (p : ProblemMeant) → Knows self.old p → self.old.reading.spent ≡ false → self.old.reading.told ≡ true
-            → NextItem (named_of (λ s. s.0)) (solution_read p) (λ r. Ok tt) self.old self.new result }
+            → NextItem solution_of (solution_read p) (λ r. Ok tt) self.old self.new result }
     {
         if self.tokens.is_spent() {
             return Err(TextError::Spent);
@@ -207,7 +206,7 @@ impl<R: Source> Derivations<R> {
         ensures remembers { Remembers self.old self.new }
         ensures unspent { OnOk result (self.new.reading.spent ≡ false) }
         ensures counted { IfOk result (λ o. MatchOption o (self.old.left ≡ 0) (λ _. self.old.left ≡ suc self.new.left)) }
-        ensures below { IfOk result (λ o. IfSome o (λ d. NamesBelow self.old.variables (at d.constraint.row))) }
+        ensures shape { IfOk result (λ o. IfSome o (λ d. DerivationShape self.old.variables (derivation_of d))) }
         ensures read { (p : ProblemMeant) → Knows self.old p → self.old.reading.spent ≡ false → self.old.reading.told ≡ true
             → NextItem derivation_of (derivation_read p) end_read self.old self.new result }
     {
@@ -269,7 +268,7 @@ fn derivation<R: Source>(
     requires unmarked { AreMarked variables marks.old [] }
     ensures unspent { OnOk result (tokens.new.spent ≡ false) }
     ensures unmarked { OnOk result (AreMarked variables marks.new []) }
-    ensures below { NamesBelow variables (at objective.now) → IfOk result (λ d. NamesBelow variables (at d.constraint.row)) }
+    ensures shape { NamesBelow variables (at objective.now) → IfOk result (λ d. DerivationShape variables (derivation_of d)) }
     ensures error { IfErr result (λ e. e ≢ TextError.Spent) }
     ensures read { tokens.old.told ≡ true → (p : ProblemMeant) → variables ≡ variables_of p → objective.now ≡ p.objective → Gives derivation_of result tokens.new (derivation_read p tokens.old.left) }
 {

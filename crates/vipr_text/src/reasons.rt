@@ -1,18 +1,20 @@
 //! Reads the reasons of derivations.
-ghost use Rattle.std.specs.Prelude.{◌≡◌, ◌≢◌, true, false, OnOk, IfErr};
+ghost use Rattle.std.specs.Prelude.{◌≡◌, ◌≢◌, ◌≤◌, true, false, OnOk, IfOk, IfErr, length};
+ghost use Rattle.vipr_spec.specs.Shape.{ReasonShape};
+ghost use Rattle.vipr_spec.specs.Reading.{most_count};
 ghost use Rattle.vipr_spec.specs.Reading as reading;
 ghost use Rattle.vipr_text.specs.Giving.{Gives};
-ghost use Rattle.vipr_text.specs.Items.{reason_of};
+ghost use Rattle.vipr_items.specs.Items.{reason_of};
 ghost use Rattle.vipr_text.specs.Rules.{rule_seen};
 
 use crate::error::TextError;
-use crate::items::Reason;
 use crate::kinds::Rule;
 use crate::tokens::Tokens;
 use crate::{causes, wanted};
 use std::alloc::Global;
 use vipr_bytes::Source;
 use vipr_frac::Frac;
+use vipr_items::Reason;
 
 /// A constraint's index and its multiplier.
 #[tactic(auto, unfolding(vipr_spec::specs::Reading::entry_read))]
@@ -36,6 +38,7 @@ fn entries_of<R: Source>(
     requires { tokens.old.spent ≡ false }
     ensures unspent { OnOk result (tokens.new.spent ≡ false) }
     ensures error { IfErr result (λ e. e ≢ TextError.Spent) }
+    ensures count { IfOk result (λ v. length v.items ≤ most_count) }
     ensures read { tokens.old.told ≡ true → Gives (λ v. v.items) result tokens.new (reading.repeated reading.entry_read count tokens.old.left) }
 {
     let mut entries = Vec::new(alloc);
@@ -52,6 +55,7 @@ fn entries<R: Source>(alloc: Global, tokens: &mut Tokens<R>) -> Result<Vec<(u32,
     requires { tokens.old.spent ≡ false }
     ensures unspent { OnOk result (tokens.new.spent ≡ false) }
     ensures error { IfErr result (λ e. e ≢ TextError.Spent) }
+    ensures count { IfOk result (λ v. length v.items ≤ most_count) }
     ensures read { tokens.old.told ≡ true → Gives (λ v. v.items) result tokens.new (reading.entries_read tokens.old.left) }
 {
     let count = wanted::count(tokens)?;
@@ -64,6 +68,7 @@ fn branches<R: Source>(tokens: &mut Tokens<R>) -> Result<Reason, TextError>
     requires { tokens.old.spent ≡ false }
     ensures unspent { OnOk result (tokens.new.spent ≡ false) }
     ensures error { IfErr result (λ e. e ≢ TextError.Spent) }
+    ensures shape { IfOk result (λ r. ReasonShape (reason_of r)) }
     ensures read { tokens.old.told ≡ true → Gives reason_of result tokens.new (reading.by_read reading.by_uns tokens.old.left) }
 {
     let i1 = wanted::reference(tokens)?;
@@ -79,6 +84,7 @@ fn by<R: Source>(alloc: Global, tokens: &mut Tokens<R>, rule: Rule) -> Result<Re
     requires { tokens.old.spent ≡ false }
     ensures unspent { OnOk result (tokens.new.spent ≡ false) }
     ensures error { IfErr result (λ e. e ≢ TextError.Spent) }
+    ensures shape { IfOk result (λ r. ReasonShape (reason_of r)) }
     ensures read { tokens.old.told ≡ true → Gives reason_of result tokens.new (reading.by_read (rule_seen rule) tokens.old.left) }
 {
     match rule {
@@ -102,6 +108,7 @@ pub(crate) fn reason<R: Source>(alloc: Global, tokens: &mut Tokens<R>) -> Result
     requires { tokens.old.spent ≡ false }
     ensures unspent { OnOk result (tokens.new.spent ≡ false) }
     ensures error { IfErr result (λ e. e ≢ TextError.Spent) }
+    ensures shape { IfOk result (λ r. ReasonShape (reason_of r)) }
     ensures read { tokens.old.told ≡ true → Gives reason_of result tokens.new (reading.reason_read tokens.old.left) }
 {
     wanted::word(tokens, b"{", causes::BAD_BRACE)?;

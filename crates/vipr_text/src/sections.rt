@@ -1,19 +1,21 @@
 //! Reads the sections of a problem, and solutions.
-ghost use Rattle.std.specs.Prelude.{◌≡◌, ◌≢◌, ◌-◌, ◌<◌, ◌^◌, true, false, [], length, map, OnOk, IfOk, IfErr, All};
-ghost use Rattle.vipr_spec.specs.Constraint.{at, NamesBelow};
+ghost use Rattle.std.specs.Prelude.{◌≡◌, ◌≢◌, ◌-◌, ◌<◌, ◌^◌, ℕ, true, false, [], length, map, OnOk, IfOk, IfErr, All};
+ghost use Rattle.vipr_spec.specs.Constraint.{at, IsInteger, NamesBelow};
+ghost use Rattle.vipr_spec.specs.Tokens.{IsToken};
+ghost use Rattle.vipr_spec.specs.Shape.{ConstraintShape, SolutionShape};
 ghost use Rattle.vipr_spec.specs.Certificate.{Problem as ProblemMeant, variables as variables_of};
 ghost use Rattle.vipr_spec.specs.Reading as reading;
 ghost use Rattle.vipr_linear.specs.Constraint.{constraint_of};
 ghost use Rattle.vipr_text.specs.Giving.{Gives};
-ghost use Rattle.vipr_text.specs.Items.{problem_of, named_of, direction_of};
+ghost use Rattle.vipr_items.specs.Items.{named_of, solution_of, direction_of};
 ghost use Rattle.vipr_text.specs.Marks.{AreMarked};
 
 use crate::error::TextError;
-use crate::items::{Goal, Name, Named, Problem};
 use crate::tokens::Tokens;
 use crate::{causes, claims, vectors, wanted};
 use std::alloc::Global;
 use vipr_bytes::Source;
+use vipr_items::{BadShape, Goal, Name, Named, Problem};
 use vipr_linear::{Constraint, Ints, Row, Solution};
 
 /// The names of the variables.
@@ -22,6 +24,7 @@ fn names<R: Source>(alloc: Global, tokens: &mut Tokens<R>) -> Result<Vec<Name>, 
     requires { tokens.old.spent ≡ false }
     ensures unspent { OnOk result (tokens.new.spent ≡ false) }
     ensures error { IfErr result (λ e. e ≢ TextError.Spent) }
+    ensures tokens { IfOk result (λ names. All IsToken names.items) }
     ensures count { IfOk result (λ names. length names.items < 2 ^ 32) }
     ensures read { tokens.old.told ≡ true → Gives (λ names. names.items) result tokens.new (reading.names_read tokens.old.left) }
 {
@@ -40,6 +43,7 @@ fn integers<R: Source>(
     requires { tokens.old.spent ≡ false }
     ensures unspent { OnOk result (tokens.new.spent ≡ false) }
     ensures error { IfErr result (λ e. e ≢ TextError.Spent) }
+    ensures below { IfOk result (λ ints. (j : ℕ) → IsInteger ints j → j < variables) }
     ensures read { tokens.old.told ≡ true → Gives (λ ints. ints) result tokens.new (reading.integers_read variables tokens.old.left) }
 {
     wanted::word(tokens, b"INT", causes::WRONG_KEYWORD)?;
@@ -87,6 +91,7 @@ pub(crate) fn constraint<R: Source>(
     ensures unspent { OnOk result (tokens.new.spent ≡ false) }
     ensures error { IfErr result (λ e. e ≢ TextError.Spent) }
     ensures unmarked { OnOk result (AreMarked variables marks.new []) }
+    ensures token { IfOk result (λ c. IsToken c.name) }
     ensures below { NamesBelow variables (at objective.now) → IfOk result (λ c. NamesBelow variables (at c.item.row)) }
     ensures read { tokens.old.told ≡ true → Gives (named_of constraint_of) result tokens.new (reading.constraint_read variables objective.now tokens.old.left) }
 {
@@ -117,7 +122,7 @@ fn constraints_of<R: Source>(
     ensures error { IfErr result (λ e. e ≢ TextError.Spent) }
     ensures unmarked { OnOk result (AreMarked variables marks.new []) }
     ensures count { IfOk result (λ cons. length cons.items < 2 ^ 32) }
-    ensures below { IfOk result (λ cons. All (λ c. NamesBelow variables (at c.item.row)) cons.items) }
+    ensures shape { IfOk result (λ cons. All (ConstraintShape variables) (map (named_of constraint_of) cons.items)) }
     ensures read { tokens.old.told ≡ true → Gives (λ cons. map (named_of constraint_of) cons.items) result tokens.new (reading.repeated (reading.constraint_read variables objective.now) count tokens.old.left) }
 {
     let mut cons = Vec::new(alloc);
@@ -145,7 +150,7 @@ fn constraints<R: Source>(
     ensures error { IfErr result (λ e. e ≢ TextError.Spent) }
     ensures unmarked { OnOk result (AreMarked variables marks.new []) }
     ensures count { IfOk result (λ x. length x.1.items < 2 ^ 32) }
-    ensures below { IfOk result (λ x. All (λ c. NamesBelow variables (at c.item.row)) x.1.items) }
+    ensures shape { IfOk result (λ x. All (ConstraintShape variables) (map (named_of constraint_of) x.1.items)) }
     ensures read { tokens.old.told ≡ true → Gives (λ x. (x.0, map (named_of constraint_of) x.1.items)) result tokens.new (reading.constraints_read variables objective.now tokens.old.left) }
 {
     wanted::word(tokens, b"CON", causes::WRONG_KEYWORD)?;
@@ -169,8 +174,8 @@ pub(crate) fn solution<R: Source>(
     ensures unspent { OnOk result (tokens.new.spent ≡ false) }
     ensures error { IfErr result (λ e. e ≢ TextError.Spent) }
     ensures unmarked { OnOk result (AreMarked variables marks.new []) }
-    ensures below { IfOk result (λ s. NamesBelow variables (at s.item.0)) }
-    ensures read { tokens.old.told ≡ true → (p : ProblemMeant) → variables ≡ variables_of p → Gives (named_of (λ s. s.0)) result tokens.new (reading.solution_read p tokens.old.left) }
+    ensures shape { IfOk result (λ s. SolutionShape variables (solution_of s)) }
+    ensures read { tokens.old.told ≡ true → (p : ProblemMeant) → variables ≡ variables_of p → Gives solution_of result tokens.new (reading.solution_read p tokens.old.left) }
 {
     let name = wanted::name(alloc, tokens)?;
     let row = vectors::vector(alloc, tokens, variables, marks)?;
@@ -205,12 +210,8 @@ pub(crate) fn problem<R: Source>(alloc: Global, tokens: &mut Tokens<R>) -> Resul
     requires { tokens.old.spent ≡ false }
     ensures unspent { OnOk result (tokens.new.spent ≡ false) }
     ensures error { IfErr result (λ e. e ≢ TextError.Spent) }
-    ensures names { IfOk result (λ x. length x.problem.names.items < 2 ^ 32) }
-    ensures cons { IfOk result (λ x. length x.problem.cons.items < 2 ^ 32) }
-    ensures objective { IfOk result (λ x. NamesBelow (length x.problem.names.items) (at x.problem.objective)) }
-    ensures below { IfOk result (λ x. All (λ c. NamesBelow (length x.problem.names.items) (at c.item.row)) x.problem.cons.items) }
-    ensures marks { IfOk result (λ x. (length x.marks.items ≡ length x.problem.names.items) × AreMarked (length x.problem.names.items) x.marks.items []) }
-    ensures read { tokens.old.told ≡ true → Gives (λ x. (problem_of x.problem, x.solutions)) result tokens.new (reading.problem_read tokens.old.left) }
+    ensures marks { IfOk result (λ x. (length x.marks.items ≡ variables_of x.problem) × AreMarked (variables_of x.problem) x.marks.items []) }
+    ensures read { tokens.old.told ≡ true → Gives (λ x. (x.problem, x.solutions)) result tokens.new (reading.problem_read tokens.old.left) }
 {
     claims::version(tokens)?;
     let names = names(alloc, tokens)?;
@@ -222,17 +223,12 @@ pub(crate) fn problem<R: Source>(alloc: Global, tokens: &mut Tokens<R>) -> Resul
     let claim = claims::claim(tokens)?;
     wanted::word(tokens, b"SOL", causes::WRONG_KEYWORD)?;
     let solutions = wanted::count(tokens)?;
-    Ok(Start {
-        problem: Problem {
-            names,
-            ints,
-            sense,
-            objective,
-            cons,
-            bound_count,
-            claim,
-        },
-        solutions,
-        marks,
-    })
+    match Problem::new(names, ints, sense, objective, cons, bound_count, claim) {
+        Ok(problem) => Ok(Start {
+            problem,
+            solutions,
+            marks,
+        }),
+        Err(BadShape) => unreachable!(),
+    }
 }

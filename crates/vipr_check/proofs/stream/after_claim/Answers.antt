@@ -1,13 +1,12 @@
 use Rattle.std.proofs.Common.{◌≡◌, [], sym, subst, arith}
 use Rattle.vipr_spec.specs.Progress.{Answers, solutions_from}
-use Rattle.vipr_text.specs.Items.{problem_of}
 use Rattle.vipr_check.specs.View.{Says}
 use Rattle.vipr_check.proofs.StreamLemmas.{ending_read, ending_failed}
 use Rattle.vipr_check.proofs.stream.after_claim.Goals as goal
 
 pub returns-in-Ok : goal.returns-in-Ok
 returns-in-Ok g c = λ told.
-    let p = problem_of c.args.problem in
+    let p = c.args.problem in
     let old = c.args.solutions in
     let new = c.in-Ok.derivations in
     let zero : old.left ≡ 0 = omega arith in
@@ -16,7 +15,7 @@ returns-in-Ok g c = λ told.
 
 pub returns-in-Err : goal.returns-in-Err
 returns-in-Err g c = λ told.
-    let p = problem_of c.args.problem in
+    let p = c.args.problem in
     let old = c.args.solutions in
     let zero : old.left ≡ 0 = omega arith in
     subst (Says (Answers (solutions_from p [] old.left old.reading.left))) (sym c.after_text_error.ensures)

@@ -1,6 +1,6 @@
 use Rattle.std.proofs.Common.{[], sym, subst}
 use Rattle.vipr_spec.specs.Progress.{Answers, solutions_from}
-use Rattle.vipr_text.specs.Items.{named_of}
+use Rattle.vipr_items.specs.Items.{named_of}
 use Rattle.vipr_check.specs.View.{Says}
 use Rattle.vipr_check.proofs.StreamLemmas.{solution_at_hand, solution_missing}
 use Rattle.vipr_check.proofs.stream.at_solution.Goals as goal

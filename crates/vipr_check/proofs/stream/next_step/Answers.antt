@@ -1,6 +1,6 @@
 use Rattle.std.proofs.Common.{sym, subst}
 use Rattle.vipr_spec.specs.Progress.{Answers, derivations_from}
-use Rattle.vipr_text.specs.Items.{derivation_of}
+use Rattle.vipr_items.specs.Items.{derivation_of}
 use Rattle.vipr_check.specs.View.{answer_of, Says}
 use Rattle.vipr_check.proofs.StreamLemmas.{room_for, room_at_end, goes_on, derivations_failed}
 use Rattle.vipr_check.proofs.stream.next_step.Goals as goal
@@ -11,7 +11,7 @@ take-requires g c =
     let h = rw c.in-Ok-Some.field-0-is at c.in-Ok-Some.ensures in (
       c.requires.0,
       is.describes,
-      room_for g.S.Rows.table c.requires.0 c.args.checker.now c.args.derivations.now c.next.new.self.left (derivation_of c.in-Ok-Some.step) is h.counted h.below,
+      room_for g.S.Rows.table c.requires.0 c.args.checker.now c.args.derivations.now c.next.new.self.left (derivation_of c.in-Ok-Some.step) is h.counted h.shape.row,
     )
 
 pub finish-requires : goal.finish-requires
@@ -23,7 +23,7 @@ returns-in-Ok-Some-clause-step g c = λ s is.
     let k = c.args.checker.now in
     let old = c.args.derivations.now in
     let d = derivation_of c.in-Ok-Some.step in
-    let room = room_for g.S.Rows.table s k old c.next.new.self.left d is h.counted h.below in
+    let room = room_for g.S.Rows.table s k old c.next.new.self.left d is h.counted h.shape.row in
     goes_on g.S.Rows.table s k c.take.new.checker old c.next.new.self d is h.counted h.remembers h.unspent (λ told. (let r = h.read s.problem is.knows is.unspent told in (r.1, r.2))) c.take.result (c.take.ensures s is.describes room)
 
 pub returns-in-Ok-None-clause-step : goal.returns-in-Ok-None-clause-step

@@ -1,5 +1,5 @@
 use Rattle.std.proofs.Common.{◌∙◌, ap, sym, subst, inl, inr}
-use Rattle.vipr_text.specs.Items.{derivation_of}
+use Rattle.vipr_items.specs.Items.{derivation_of}
 use Rattle.vipr_check.specs.Refused.{step_failed}
 use Rattle.vipr_check.specs.Taking.{FailsNext}
 use Rattle.vipr_check.proofs.Answering.{rule_says}

@@ -1,5 +1,5 @@
-use Rattle.vipr_rules.proofs.BelowLemmas.{NameBelow-empty, NameBelow-step}
+use Rattle.vipr_rules.proofs.BelowLemmas.{DerivedBelow-empty, DerivedBelow-step}
 use Rattle.vipr_rules.proofs.history.names_stay_below.Goals as goal
 
 pub returns : goal.returns
-returns c = record { empty = NameBelow-empty; step = NameBelow-step }
+returns c = record { empty = DerivedBelow-empty; step = DerivedBelow-step }

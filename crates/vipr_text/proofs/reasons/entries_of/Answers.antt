@@ -1,3 +1,4 @@
+use Rattle.std.proofs.Common.{◌∷◌, [], length-append, arith}
 use Rattle.std.proofs.lemmas.Result.{err_from_is_err_and}
 use Rattle.vipr_spec.specs.Reading as reading
 use Rattle.vipr_text.proofs.Repeating.{goes_on, ends, is_done}
@@ -13,6 +14,7 @@ pub loop-preserved : goal.loop-preserved
 loop-preserved g c =
     record {
       unspent = c.in_ok-entry.ensures.unspent;
+      so_many = rw c.in_ok-push.ensures.items (omega (arith, length-append c.loop.entries.items (c.in_ok-entry.entry ∷ []), c.loop.invariant.so_many));
       told = λ told. (c.in_ok-entry.ensures.read (c.loop.invariant.told told)).1;
       read = λ told.
           rw c.in_ok-push.ensures.items (goes_on reading.entry_read c.loop.entries.items c.args.count c.loop.counter c.loop.tokens.left c.entry.new.tokens.left c.in_ok-entry.entry
@@ -22,6 +24,9 @@ loop-preserved g c =
 pub returns-clause-read : goal.returns-clause-read
 returns-clause-read g c told = (
   is_done reading.entry_read c.loop.entries.items c.args.count c.loop.counter c.loop.tokens.left
-      (reading.repeated reading.entry_read c.args.count c.args.tokens.now.left) c.loop-test.false (c.loop.invariant.read told),
+      (reading.repeated reading.entry_read c.args.count c.args.tokens.now.left) (omega arith) (c.loop.invariant.read told),
   c.loop.invariant.told told,
 )
+
+pub returns-clause-count : goal.returns-clause-count
+returns-clause-count g c = omega (arith, c.loop.invariant.so_many)

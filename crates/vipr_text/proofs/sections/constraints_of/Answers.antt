@@ -2,10 +2,10 @@ use Rattle.std.proofs.Common.{◌∷◌, [], map, length-append, arith}
 use Rattle.std.proofs.lemmas.Result.{err_from_is_err_and}
 use Rattle.std.proofs.lemmas.List.{map_push}
 use Rattle.std.proofs.lemmas.List.Elements.{All-push}
-use Rattle.vipr_spec.specs.Constraint.{at, NamesBelow}
+use Rattle.vipr_spec.specs.Shape.{ConstraintShape}
 use Rattle.vipr_spec.specs.Reading.{repeated, constraint_read}
 use Rattle.vipr_linear.specs.Constraint.{constraint_of}
-use Rattle.vipr_text.specs.Items.{named_of}
+use Rattle.vipr_items.specs.Items.{named_of}
 use Rattle.vipr_text.proofs.Repeating.{goes_on, ends, is_done}
 use Rattle.vipr_text.proofs.sections.constraints_of.Goals as goal
 
@@ -29,7 +29,8 @@ loop-preserved g c =
       unspent = c.in_ok-constraint.ensures.unspent;
       unmarked = c.in_ok-constraint.ensures.unmarked;
       so_many = rw c.in_ok-push.ensures.items (omega (arith, length-append c.loop.cons.items (n ∷ []), c.loop.invariant.so_many));
-      below = rw c.in_ok-push.ensures.items (All-push (λ k. NamesBelow c.args.variables (at k.item.row)) c.loop.cons.items n c.loop.invariant.below (c.in_ok-constraint.ensures.below c.requires.below));
+      shape =
+          rw (c.in_ok-push.ensures.items, map_push (named_of constraint_of) c.loop.cons.items n) (All-push (ConstraintShape c.args.variables) (map (named_of constraint_of) c.loop.cons.items) (named_of constraint_of n) c.loop.invariant.shape (record { name = c.in_ok-constraint.ensures.token; row = c.in_ok-constraint.ensures.below c.requires.below }));
       told = λ told. (c.in_ok-constraint.ensures.read (c.loop.invariant.told told)).1;
       read = λ told.
           rw (c.in_ok-push.ensures.items, map_push (named_of constraint_of) c.loop.cons.items n) (goes_on (constraint_read c.args.variables c.args.objective.now) (map (named_of constraint_of) c.loop.cons.items) c.args.count c.loop.counter c.loop.tokens.left c.constraint.new.tokens.left (named_of constraint_of n)

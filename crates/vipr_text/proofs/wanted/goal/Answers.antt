@@ -1,5 +1,5 @@
 use Rattle.vipr_spec.specs.Reading as reading
-use Rattle.vipr_text.specs.Items.{direction_of}
+use Rattle.vipr_items.specs.Items.{direction_of}
 use Rattle.vipr_text.proofs.Taking.{gives_taken, said}
 use Rattle.vipr_text.proofs.wanted.goal.Goals as goal
 

@@ -1,10 +1,13 @@
 use Rattle.std.proofs.lemmas.Result.{err_from_is_err_and}
-use Rattle.vipr_text.specs.Items.{derivation_of}
-use Rattle.vipr_check.proofs.DescribedLemmas.{names_below, back, Describes-scratch}
+use Rattle.vipr_items.specs.Items.{derivation_of}
+use Rattle.vipr_check.proofs.DescribedLemmas.{scratch_size, derived_below, back, Describes-scratch}
 use Rattle.vipr_check.proofs.checker.Checker.derivation.Goals as goal
 
-pub apply-requires : goal.apply-requires
-apply-requires g c = names_below g.S.Rows.table c.requires.0 c.args.self.now c.requires.1
+pub apply-requires-clause-variables : goal.apply-requires-clause-variables
+apply-requires-clause-variables g c = scratch_size g.S.Rows.table c.requires.0 c.args.self.now c.requires.1
+
+pub apply-requires-clause-rows : goal.apply-requires-clause-rows
+apply-requires-clause-rows g c = derived_below g.S.Rows.table c.requires.0 c.args.self.now c.requires.1
 
 pub returns-in_err-entry : goal.returns-in_err-entry
 returns-in_err-entry g c = λ s is room.

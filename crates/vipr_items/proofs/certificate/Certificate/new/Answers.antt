@@ -1,0 +1,53 @@
+use Rattle.std.proofs.Common.{rules, ◌≡◌, ℕ, ◌+◌, ◌-◌, ◌≤◌, All, map, length, arith, ap, sym, ◌∙◌}
+use Rattle.std.proofs.lemmas.List.{length-map}
+use Rattle.vipr_linear.specs.Constraint.{constraint_of}
+use Rattle.vipr_spec.specs.Certificate.{variables}
+use Rattle.vipr_spec.specs.Reading.{most_count}
+use Rattle.vipr_spec.specs.Shape.{SolutionShape, DerivationShape, CertificateShape, RowFits, DerivationFits, CertificateFits, CanWrite}
+use Rattle.vipr_linear.specs.declared.row.Solution.{Solution}
+use Rattle.vipr_items.specs.declared.items.Named.{Named}
+use Rattle.vipr_items.specs.declared.items.Derivation.{Derivation}
+use Rattle.vipr_items.specs.Items.{certificate_with, named_of, solution_of, derivation_of}
+use Rattle.vipr_items.proofs.Within.{each_of}
+use Rattle.vipr_items.proofs.certificate.Certificate.new.Goals as goal
+
+module _ (c : goal.Else-not-derivations_are_within) where
+  few_solutions : length (map solution_of c.args.solutions.items) ≤ most_count
+  few_solutions =
+      let size : length c.args.solutions.items ≤ most_count = search rules in
+      rw (length-map c.args.solutions.items solution_of) size
+
+  few_derivations : length c.args.problem.constraints + length (map derivation_of c.args.derivations.items) ≤ most_count
+  few_derivations =
+      let given : length c.args.problem.constraints ≡ length c.cons.result.now = ap length (sym c.cons.ensures.constraints) ∙ length-map c.cons.result.now (named_of constraint_of) in
+      let few : length c.args.problem.constraints ≤ most_count = c.cons.ensures.writes.shape.few_constraints in
+      let room : length c.args.derivations.items ≤ most_count - length c.cons.result.now = search rules in
+      rw (length-map c.args.derivations.items derivation_of) (omega (arith, given, few, room))
+
+  solutions : All (SolutionShape (variables c.args.problem)) (map solution_of c.args.solutions.items)
+  solutions = search rules
+
+  derivations : All (DerivationShape (variables c.args.problem)) (map derivation_of c.args.derivations.items)
+  derivations = search rules
+
+  is_within : CertificateShape (certificate_with c.args.problem c.args.solutions.items c.args.derivations.items)
+  is_within = record { problem = c.names.ensures.writes.shape; few_solutions = few_solutions; solutions = solutions; few_derivations = few_derivations; derivations = derivations }
+
+  solution_numbers : All (λ (s : Named Solution). RowFits s.item.0) c.args.solutions.items
+  solution_numbers = search rules
+
+  derivation_numbers : All (λ (d : Derivation). DerivationFits (derivation_of d)) c.args.derivations.items
+  derivation_numbers = search rules
+
+  fits : CertificateFits (certificate_with c.args.problem c.args.solutions.items c.args.derivations.items)
+  fits = record {
+    problem = c.names.ensures.writes.fits;
+    solutions = each_of (λ (s : Named Solution). RowFits s.item.0) (λ s. RowFits s.item) c.args.solutions.items solution_numbers solution_of (λ s h. h);
+    derivations = each_of (λ (d : Derivation). DerivationFits (derivation_of d)) DerivationFits c.args.derivations.items derivation_numbers derivation_of (λ d h. h);
+  }
+
+pub invariant_of-result : goal.invariant_of-result
+invariant_of-result c = record { shape = is_within c; fits = fits c }
+
+pub returns-clause-shape : goal.returns-clause-shape
+returns-clause-shape c = (λ t. is_within c, λ h. search rules)

@@ -1,0 +1,4 @@
+-- what the contracts cite
+pub mod Items
+pub mod Codes
+pub mod Earlier

@@ -1,0 +1,14 @@
+//! What certificates are made of.
+#![tactic(auto)]
+
+mod certificate;
+mod facts;
+mod items;
+mod limits;
+mod name;
+mod problem;
+
+pub use certificate::Certificate;
+pub use items::{Claim, Derivation, Goal, Named, Reason};
+pub use name::{BadShape, Name};
+pub use problem::Problem;
