@@ -2,8 +2,9 @@
 use Rattle.std.proofs.Common.{◌≡◌, ℕ, ◌<◌, ◌≤◌, replicate, Bool, false, nat_eq, List, [], ◌∷◌, ◌++◌, take, drop, map, filter, length, get_or, All, Contains, Result, Ok, Err, OnOk, Option, Some, None, unwrap_or, arith, refl, sym, ◌∙◌, ap, subst, ◌⊎◌, inl, inr}
 use Rattle.std.proofs.lemmas.List.Sorted.{IsNonDecreasingBy-from_sort, list_any-IsPermutation}
 use Rattle.std.proofs.lemmas.Map.Keys.{IsDistinct-IsPermutation, IsStrictlyIncreasing-from_distinct}
+use Rattle.std.proofs.lemmas.Map.Made.{IsDistinct-keys_filter}
 use Rattle.std.proofs.lemmas.Map.Views.{Contains-from_any, Contains-from_lookup, lookup-from_Contains}
-use Rattle.std.proofs.lemmas.List.{get_or-map, get_or_default, get_or_past, get_or-replicate, length-map, length-replicate, append-nil, take_all}
+use Rattle.std.proofs.lemmas.List.{get_or-map, get_or_default, get_or_past, get_or-replicate, length-map, length-replicate, append-nil, take_all, drop_all}
 use Rattle.std.proofs.lemmas.Bool.{cases_lt}
 use Rattle.std.specs.Cmp.{nat_eq_equiv}
 use Rattle.std.specs.Map.{lookup}
@@ -18,8 +19,8 @@ use Rattle.vipr_spec.specs.Reading.{is_nonzero}
 use Rattle.vipr_spec.proofs.Fractions.{zero_or_not}
 use Rattle.vipr_linear.specs.Row.{RisesFrom, variables_of}
 use Rattle.vipr_linear.specs.Touched.{Touching, Covers, IsKept}
-use Rattle.vipr_linear.proofs.Marks.{pick, touched_below, past_end}
-use Rattle.vipr_linear.proofs.Rows.{nothing_distinct, row_kept, rises_sorted, find_lookup, contains_unfiltered, contains_filter, distinct_filter, exact, nonzero_test}
+use Rattle.vipr_linear.proofs.Marks.{pick, touched_below}
+use Rattle.vipr_linear.proofs.Rows.{nothing_distinct, row_kept, rises_sorted, find_lookup, contains_unfiltered, contains_filter, exact, nonzero_test}
 
 pub touching_sorted : (marks : List Bool) (xs ys : List ℕ) → IsPermutation xs ys → Touching marks xs → Touching marks ys
 touching_sorted marks xs ys p t = record {
@@ -62,7 +63,7 @@ module _ (sums : List ℚ) (marks : List Bool) (xs : List ℕ) (t : Touching mar
       by z (Some v) e = only_picked xs v (contains_unfiltered is_nonzero (map (pick sums) xs) (j, v) (Contains-from_lookup exact j v _ e)).0
       by (inr n) None e =
           let there = Contains-from_any exact j xs (sym (t.listed j) ∙ c j n) in
-          let is = lookup-from_Contains nat_eq_equiv j (get_or sums j zero_ℚ) _ (distinct_filter is_nonzero _ distinct) (contains_filter is_nonzero (map (pick sums) xs) (pick sums j) (nonzero_test (get_or sums j zero_ℚ) n) (picked xs there)) in
+          let is = lookup-from_Contains nat_eq_equiv j (get_or sums j zero_ℚ) _ (IsDistinct-keys_filter nat_eq is_nonzero _ distinct) (contains_filter is_nonzero (map (pick sums) xs) (pick sums j) (nonzero_test (get_or sums j zero_ℚ) n) (picked xs there)) in
           absurd (let clash = sym e ∙ is in cc)
 
 pub collected_at : (sums : List ℚ) (marks : List Bool) (xs : List ℕ) → Touching marks xs → Covers sums marks → IsStrictlyIncreasing xs → (j : ℕ) → at (from_sorted (filter is_nonzero (map (pick sums) xs))) j ≡ get_or sums j zero_ℚ
@@ -92,7 +93,7 @@ kept_at_first n m touched e le = record {
 
 -- what a slice of a vector writes back
 pub given_back : {A : Type 0} (xs ys : List A) (n : ℕ) → n ≡ length ys → length xs ≡ length ys → take n (xs ++ drop (length xs) ys) ≡ xs
-given_back xs ys n e f = ap (λ zs. take n (xs ++ zs)) (past_end ys (length xs) (omega (arith, f))) ∙ ap (take n) (append-nil xs) ∙ take_all n xs (omega (arith, e, f))
+given_back xs ys n e f = ap (λ zs. take n (xs ++ zs)) (drop_all (length xs) ys (omega (arith, f))) ∙ ap (take n) (append-nil xs) ∙ take_all n xs (omega (arith, e, f))
 
 pub on_ok : {A E : Type 0} (r : Result A E) (P : Type 0) → P → OnOk r P
 on_ok (Ok x) P p = p

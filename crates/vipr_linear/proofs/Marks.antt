@@ -1,9 +1,9 @@
 -- Marks and the list of the marked variables, and the sums beside them
-use Rattle.std.proofs.Common.{◌≡◌, ◌≢◌, ℕ, suc, ◌+◌, ◌<◌, ◌≤◌, take, drop, Bool, true, false, cond, nat_eq, List, [], ◌∷◌, ◌++◌, length, get_or, arith, refl, sym, ◌∙◌, ap, subst, ◌||◌, inl, inr, ◌⊎◌, drop-cons, add-one, length-drop, ap₂, subst₂, map, filter, not, pos, Result, Ok, Err, IsOk, IsErr, All}
+use Rattle.std.proofs.Common.{◌≡◌, ◌≢◌, ℕ, suc, ◌+◌, ◌<◌, ◌≤◌, take, drop, Bool, true, false, cond, nat_eq, List, [], ◌∷◌, ◌++◌, length, get_or, arith, refl, sym, ◌∙◌, ap, subst, ◌||◌, inl, inr, ◌⊎◌, drop-cons, add-one, ap₂, subst₂, map, filter, not, pos, Result, Ok, Err, IsOk, IsErr, All}
 use Rattle.std.specs.Prelude.{◌↔◌, slice_set}
 use Rattle.std.proofs.lemmas.Bool.{cases_eq, cases_lt}
 use Rattle.std.proofs.lemmas.Bool.Decides.{nat_tests}
-use Rattle.std.proofs.lemmas.List.{get_or-set_same, get_or-set_other, get_or_past, get_or_default, get_or-map, length_push, length-set, length-map, take_all, append-nil}
+use Rattle.std.proofs.lemmas.List.{get_or-set_same, get_or-set_other, get_or_past, get_or_default, get_or-map, length_push, length-set, length-map, take_all, drop_all, append-nil}
 use Rattle.std.proofs.lemmas.List.Elements.{filter_more}
 use Rattle.std.proofs.lemmas.List.Folds.{list_any-append, list_any_at}
 use Rattle.std.proofs.lemmas.Map.Keys.{IsDistinct-push}
@@ -120,21 +120,14 @@ module _ (first : Type 0) (sums : List ℚ) (m : ℚ) (es : List (ℕ × ℚ)) (
 pub item_within : (es : List (ℕ × ℚ)) (n i : ℕ) (p : ℕ × ℚ) → All (λ e. e.0 < n) es → i < length es → p ≡ get_or es i p → p.0 < n
 item_within es n i p all l e = subst (λ (q : ℕ × ℚ). q.0 < n) (sym e) (all i p l)
 
-pub past_end : {A : Type 0} (xs : List A) (i : ℕ) → length xs ≤ i → drop i xs ≡ []
-past_end xs i h = no_items (drop i xs) (omega (arith, length-drop i xs))
-  where
-    no_items : {A : Type 0} (zs : List A) → length zs ≡ 0 → zs ≡ []
-    no_items [] e = refl
-    no_items (z ∷ zs) e = absurd (omega arith)
-
 -- after the last term
 pub all_fit : (sums : List ℚ) (m : ℚ) (es : List (ℕ × ℚ)) (i : ℕ) → length es ≤ i → TermsFitIn sums m (drop i es)
 unfolding TermsFitIn
-all_fit sums m es i h = subst (TermsFitIn sums m) (sym (past_end es i h)) tt
+all_fit sums m es i h = subst (TermsFitIn sums m) (sym (drop_all i es h)) tt
 
 pub no_more : (sums : List ℚ) (m : ℚ) (es : List (ℕ × ℚ)) (i : ℕ) → length es ≤ i → with_terms sums m (drop i es) ≡ sums
 unfolding with_terms
-no_more sums m es i h = ap (with_terms sums m) (past_end es i h)
+no_more sums m es i h = ap (with_terms sums m) (drop_all i es h)
 
 -- ---- setting sums back
 pub touched_below : (marks : List Bool) (touched items : List ℕ) (i : ℕ) → Touching marks touched → items ≡ touched → i < length items → get_or items i 0 < length marks
@@ -160,7 +153,7 @@ pub marks_left : (marks : List Bool) (items : List ℕ) (i : ℕ) → i < length
 marks_left marks items i l w before j h = still_left marks false false items i l w (λ y. y ≡ true) (λ t. absurd (cc)) j (before j) h
 
 none_there : (items : List ℕ) (i j : ℕ) → length items ≤ i → list_any (nat_eq j) (drop i items) ≡ true → ⊥
-none_there items i j h t = absurd (let e = ap (list_any (nat_eq j)) (past_end items i h) in cc)
+none_there items i j h t = absurd (let e = ap (list_any (nat_eq j)) (drop_all i items h) in cc)
 
 pub all_zero : (sums : List ℚ) (items : List ℕ) (i : ℕ) → length items ≤ i → ((j : ℕ) → get_or sums j zero_ℚ ≢ zero_ℚ → list_any (nat_eq j) (drop i items) ≡ true) → (j : ℕ) → get_or sums j zero_ℚ ≡ zero_ℚ
 all_zero sums items i h left j = elim (zero_or_not (get_or sums j zero_ℚ)) [ inl e ↦ e | inr n ↦ absurd (none_there items i j h (left j n)) ]

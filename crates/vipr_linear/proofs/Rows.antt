@@ -8,9 +8,11 @@ use Rattle.std.specs.Bool.{Decides, ◌==◌}
 use Rattle.std.specs.Cmp.Lexicographic.{pointwise}
 use Rattle.std.proofs.lemmas.Int.{ints}
 use Rattle.std.proofs.lemmas.List.{get_or-map, length-map, take_more, take-append-drop}
+use Rattle.std.proofs.lemmas.List.Elements.{All-contains, All-filter, Contains-get_or, filter_passes}
 use Rattle.std.proofs.lemmas.List.Folds.{list_any-append}
 use Rattle.std.proofs.lemmas.List.Sorted.{Contains-permutation, IsPermutation-map}
-use Rattle.std.proofs.lemmas.Map.Keys.{IsDistinct-head, IsDistinct-tail, IsDistinct-cons, IsDistinct-push, IsDistinct-from_apart, below_from_sorted, sorted_head, sorted_tail, sorted_from_strictly_increasing, IsDistinct-IsPermutation, IsStrictlyIncreasing-from_distinct}
+use Rattle.std.proofs.lemmas.Map.Keys.{IsDistinct-push, IsDistinct-from_apart, below_from_sorted, sorted_head, sorted_tail, sorted_from_strictly_increasing, IsDistinct-IsPermutation, IsStrictlyIncreasing-from_distinct}
+use Rattle.std.proofs.lemmas.Map.Made.{IsDistinct-keys_filter}
 use Rattle.std.proofs.lemmas.Map.Views.{Contains-from_any, Contains-from_lookup, lookup-from_Contains}
 use Rattle.std.specs.Cmp.{nat_eq_equiv, nat_cmp_total}
 use Rattle.std.specs.declared.cmp.Ordering.TheVariants.{Less}
@@ -35,10 +37,6 @@ use Rattle.vipr_linear.specs.Row.{RisesFrom, variables_of, IsFirstRepeated, HasN
 pub zero_numer : zero_ℚ.numer ≡ pos 0
 unfolding over gcd
 zero_numer = refl
-
-zero_denom : zero_ℚ.denom ≡ 1
-unfolding over gcd
-zero_denom = refl
 
 pub zero_from_numer : (x : ℚ) → x.numer ≡ pos 0 → x ≡ zero_ℚ
 zero_from_numer x e = same_ℚ x zero_ℚ (nothing x.numer zero_ℚ.denom e ∙ sym (nothing zero_ℚ.numer x.denom zero_numer))
@@ -114,19 +112,6 @@ module _ (q : ℕ) (xs ys : List (ℕ × ℚ)) (dx : IsDistinct nat_eq (variable
       by None (Some w) e f = sym e ∙ lookup-from_Contains nat_eq_equiv q w xs dx (back (q, w) (Contains-from_lookup exact q w ys f))
 
 -- ---- filters
-pub distinct_filter : (p : ℕ × ℚ → Bool) (es : List (ℕ × ℚ)) → IsDistinct nat_eq (variables_of es) → IsDistinct nat_eq (variables_of (filter p es))
-distinct_filter p [] d = d
-distinct_filter p (e ∷ es) d =
-    let rest = distinct_filter p es (IsDistinct-tail nat_eq e.0 (variables_of es) d) in
-    elim (p e) as (λ b. IsDistinct nat_eq (variables_of (cond b (e ∷ filter p es) (filter p es)))) [
-      | true ↦ IsDistinct-cons nat_eq e.0 _ (kept es (IsDistinct-head nat_eq e.0 (variables_of es) d)) rest
-      | false ↦ rest
-    ]
-  where
-    kept : (fs : List (ℕ × ℚ)) → AllByRecursion (λ y. nat_eq e.0 y ≡ false) (variables_of fs) → AllByRecursion (λ y. nat_eq e.0 y ≡ false) (variables_of (filter p fs))
-    kept [] h = h
-    kept (f ∷ fs) h = elim (p f) as (λ b. AllByRecursion (λ y. nat_eq e.0 y ≡ false) (variables_of (cond b (f ∷ filter p fs) (filter p fs)))) [ true ↦ (h.0, kept fs h.1) | false ↦ kept fs h.1 ]
-
 contains_cons : (x e : ℕ × ℚ) (es : List (ℕ × ℚ)) → Contains es e → Contains (x ∷ es) e
 contains_cons x e es h = (suc h.0, omega (arith, h.1), h.2)
 
@@ -142,21 +127,16 @@ contains_filter p (x ∷ es) e t h = elim (contains_cases x e es h) [
 ]
 
 pub contains_unfiltered : (p : ℕ × ℚ → Bool) (es : List (ℕ × ℚ)) (e : ℕ × ℚ) → Contains (filter p es) e → Contains es e × (p e ≡ true)
-contains_unfiltered p [] e h = absurd (omega (arith, h.1))
-contains_unfiltered p (x ∷ es) e h = by (p x) refl h (λ k. contains_unfiltered p es e k)
-  where
-    later : Contains es e × (p e ≡ true) → Contains (x ∷ es) e × (p e ≡ true)
-    later r = (contains_cons x e es r.0, r.1)
-
-    by : (b : Bool) → p x ≡ b → Contains (cond b (x ∷ filter p es) (filter p es)) e → (Contains (filter p es) e → Contains es e × (p e ≡ true)) → Contains (x ∷ es) e × (p e ≡ true)
-    by true t k rest = elim (contains_cases x e (filter p es) k) [ inl same ↦ ((0, omega arith, same), sym (ap p same) ∙ t) | inr l ↦ later (rest l) ]
-    by false t k rest = later (rest k)
+contains_unfiltered p es e h = (
+  All-contains (Contains es) (filter p es) e (All-filter p (Contains es) es (λ k d l. Contains-get_or es k d l)) h,
+  All-contains (λ x. p x ≡ true) (filter p es) e (filter_passes p es) h,
+)
 
 find_filtered : (q : ℕ) (xs ys : List (ℕ × ℚ)) → IsPermutation xs ys → IsPermutation ys xs → IsDistinct nat_eq (variables_of xs) → IsDistinct nat_eq (variables_of ys)
     → find nat_cmp q (filter is_nonzero xs) ≡ find nat_cmp q (filter is_nonzero ys)
 find_filtered q xs ys p p' dx dy =
     find_lookup q _
-    ∙ same_lookup q (filter is_nonzero xs) (filter is_nonzero ys) (distinct_filter is_nonzero xs dx) (distinct_filter is_nonzero ys dy) (moved xs ys p) (moved ys xs p')
+    ∙ same_lookup q (filter is_nonzero xs) (filter is_nonzero ys) (IsDistinct-keys_filter nat_eq is_nonzero xs dx) (IsDistinct-keys_filter nat_eq is_nonzero ys dy) (moved xs ys p) (moved ys xs p')
     ∙ sym (find_lookup q _)
   where
     moved : (xs ys : List (ℕ × ℚ)) → IsPermutation xs ys → (e : ℕ × ℚ) → Contains (filter is_nonzero xs) e → Contains (filter is_nonzero ys) e

@@ -2,6 +2,7 @@
 use Rattle.std.proofs.Common.{◌≡◌, ◌≢◌, ℕ, ◌+◌, ◌<◌, ◌≤◌, true, false, List, [], ◌∷◌, length, get_or, drop, Result, Ok, Err, IfOk, arith, refl, sym, ◌∙◌, ap, ap₂, subst, subst₂, ◌⊎◌, inl, inr, add-one}
 use Rattle.std.specs.Prelude.{◌↔◌}
 use Rattle.std.proofs.lemmas.Bool.{cases_eq, cases_lt}
+use Rattle.std.proofs.lemmas.List.{drop_all}
 use Rattle.std.specs.FinMap.{entries}
 use Rattle.vipr_spec.specs.Fraction.{ℚ, zero_ℚ, ◌+ℚ◌, ◌*ℚ◌, IsBounded, ProductFits, SumFits}
 use Rattle.vipr_spec.specs.Constraint.{Row, Point, at, value, ValueFits, NamesBelow}
@@ -11,7 +12,7 @@ use Rattle.vipr_spec.proofs.MoreEntries.{sum_bounded, nothing_more}
 use Rattle.vipr_linear.specs.Row.{RisesFrom}
 use Rattle.vipr_linear.specs.Values.{with_values, ValuesFit}
 use Rattle.vipr_linear.proofs.Adding.{coefficient, coefficient_here, coefficient_later, coefficient_below, coefficient_at}
-use Rattle.vipr_linear.proofs.Marks.{next, past_end}
+use Rattle.vipr_linear.proofs.Marks.{next}
 
 -- ---- one turn of the loop over the entries
 module _ (first : Type 0) (s : ℚ) (x : Point) (es : List (ℕ × ℚ)) (i : ℕ) (p : ℕ × ℚ) (l : i < length es) (e : p ≡ get_or es i p) (known : first ↔ ValuesFit s (drop i es) x) (c product : ℚ) (q : c ≡ x p.0) where
@@ -48,11 +49,11 @@ module _ (first : Type 0) (s : ℚ) (x : Point) (es : List (ℕ × ℚ)) (i : �
 
 pub all_fit : (s : ℚ) (x : Point) (es : List (ℕ × ℚ)) (i : ℕ) → length es ≤ i → ValuesFit s (drop i es) x
 unfolding ValuesFit
-all_fit s x es i h = subst (λ ys. ValuesFit s ys x) (sym (past_end es i h)) tt
+all_fit s x es i h = subst (λ ys. ValuesFit s ys x) (sym (drop_all i es h)) tt
 
 pub no_more : (s : ℚ) (x : Point) (es : List (ℕ × ℚ)) (i : ℕ) → length es ≤ i → with_values s (drop i es) x ≡ s
 unfolding with_values
-no_more s x es i h = ap (λ ys. with_values s ys x) (past_end es i h)
+no_more s x es i h = ap (λ ys. with_values s ys x) (drop_all i es h)
 
 -- ---- entries from some variable on, and the row as a function
 module _ (n : ℕ) (row : ℕ → ℚ) (x : Point) (below : (j : ℕ) → n ≤ j → row j ≡ zero_ℚ) where
