@@ -1,5 +1,5 @@
 //! Reads a certificate item by item: its problem, each solution, each derivation.
-ghost use Rattle.std.specs.Prelude.{◌≡◌, ◌≢◌, ◌^◌, ◌+◌, ◌<◌, suc, MatchOption, true, false, length, Ok, IfOk, IfErr, IfSome, OnOk, OnErr, IsErrOf, ◌↔◌, [], All};
+ghost use Rattle.std.specs.Prelude.{◌≡◌, ◌≢◌, ◌^◌, ◌+◌, ◌<◌, suc, MatchOption, true, false, length, Ok, None, IfOk, IfErr, IfSome, OnOk, OnErr, IsErrOf, ◌↔◌, [], All};
 ghost use Rattle.vipr_spec.specs.Constraint.{at, NamesBelow};
 ghost use Rattle.vipr_text.specs.Marks.{AreMarked};
 ghost use Rattle.vipr_spec.specs.Tokens.{tokens};
@@ -138,6 +138,8 @@ impl<R: Source> Solutions<R> {
     pub fn next(&mut self, alloc: Global) -> Result<Option<Named<Solution>>, TextError>
         ensures spent { IsErrOf result TextError.Spent ↔ (self.old.reading.spent ≡ true) }
         ensures stopped { OnErr result (self.new.reading.spent ≡ true) }
+        ensures kept { OnErr result (self.new.left ≡ self.old.left) }
+        ensures none { result ≡ Ok None → self.new ≡ self.old }
         ensures remembers { Remembers self.old self.new }
         ensures unspent { OnOk result (self.new.reading.spent ≡ false) }
         ensures counted { IfOk result (λ o. MatchOption o (self.old.left ≡ 0) (λ _. self.old.left ≡ suc self.new.left)) }
@@ -203,6 +205,7 @@ impl<R: Source> Derivations<R> {
     pub fn next(&mut self, alloc: Global) -> Result<Option<Derivation>, TextError>
         ensures spent { IsErrOf result TextError.Spent ↔ (self.old.reading.spent ≡ true) }
         ensures stopped { OnErr result (self.new.reading.spent ≡ true) }
+        ensures kept { OnErr result (self.new.left ≡ self.old.left) }
         ensures remembers { Remembers self.old self.new }
         ensures unspent { OnOk result (self.new.reading.spent ≡ false) }
         ensures counted { IfOk result (λ o. MatchOption o (self.old.left ≡ 0) (λ _. self.old.left ≡ suc self.new.left)) }
