@@ -1,0 +1,152 @@
+//! Each constructor once within its limits, and past those that are cheap to reach.
+use crate::{BadShape, Certificate, Claim, Derivation, Goal, Name, Named, Problem, Reason};
+use bstr::BString;
+use std::alloc::Global;
+use std::test::Fail;
+use vipr_frac::Frac;
+use vipr_linear::{Constraint, Ints, Row, Sense, Solution};
+
+fn name(alloc: Global, bytes: &[u8]) -> Result<Name, Fail> {
+    Ok(Name::new(BString::from_slice(alloc, bytes)?)?)
+}
+
+// The row with the coefficient 1 at a variable.
+fn row(alloc: Global, variable: u32) -> Result<Row, Fail> {
+    Ok(Row::from_pairs(alloc, vec![in alloc; (variable, Frac::one())]?)?)
+}
+
+// That the variable is at least 1.
+fn at_least_one(alloc: Global, variable: u32) -> Result<Constraint, Fail> {
+    Ok(Constraint {
+        row: row(alloc, variable)?,
+        sense: Sense::G,
+        rhs: Frac::one(),
+    })
+}
+
+// A problem over two variables.
+fn problem(
+    alloc: Global,
+    integer: u32,
+    objective: u32,
+    constrained: u32,
+) -> Result<Result<Problem, BadShape>, Fail> {
+    let names = vec![in alloc; name(alloc, b"x")?, name(alloc, b"y")?]?;
+    let ints = Ints::from_indices(alloc, vec![in alloc; integer]?)?;
+    let cons = vec![in alloc;
+        Named {
+            name: name(alloc, b"C0")?,
+            item: at_least_one(alloc, constrained)?,
+        },
+    ]?;
+    Ok(Problem::new(
+        names,
+        ints,
+        Goal::Max,
+        row(alloc, objective)?,
+        cons,
+        1,
+        Claim::Range(None, Some(Frac::one())),
+    ))
+}
+
+// A certificate over two variables, with one constraint and one derivation.
+fn certificate(
+    alloc: Global,
+    solved: u32,
+    derived: u32,
+    reason: Reason,
+) -> Result<Result<Certificate, BadShape>, Fail> {
+    let solutions = vec![in alloc;
+        Named {
+            name: name(alloc, b"S")?,
+            item: Solution(row(alloc, solved)?),
+        },
+    ]?;
+    let derivations = vec![in alloc;
+        Derivation {
+            name: name(alloc, b"C1")?,
+            constraint: at_least_one(alloc, derived)?,
+            reason,
+            last: None,
+        },
+    ]?;
+    let problem = problem(alloc, 0, 0, 0)??;
+    Ok(Certificate::new(problem, solutions, derivations))
+}
+
+#[test]
+fn names(rt: HostRuntime) -> Result<(), Fail> {
+    let alloc = rt.alloc();
+    for (len, fits) in [(0, false), (1, true), (65_535, true), (65_536, false)] {
+        let name = Name::new(BString::new(vec![in alloc; b'x'; len]?));
+        assert_eq!(rt; name.is_ok(), fits, "at {len}");
+    }
+    for (byte, fits) in [
+        (0, true),
+        (8, true),
+        (9, false),
+        (13, false),
+        (14, true),
+        (32, false),
+        (33, true),
+        (255, true),
+    ] {
+        let name = Name::new(BString::new(vec![in alloc; b'x', byte]?));
+        assert_eq!(rt; name.is_ok(), fits, "at {byte}");
+    }
+    let token = name(alloc, b"x#1")?;
+    assert_eq!(rt; token.as_bytes(), b"x#1".as_slice());
+    let again = Name::of_token(alloc, token.as_bytes())?;
+    assert_eq!(rt; again.as_bytes(), b"x#1".as_slice());
+    Ok(())
+}
+
+#[test]
+fn problems(rt: HostRuntime) -> Result<(), Fail> {
+    let alloc = rt.alloc();
+    assert!(rt; problem(alloc, 2, 1, 1)?.is_err());
+    assert!(rt; problem(alloc, 1, 2, 1)?.is_err());
+    assert!(rt; problem(alloc, 1, 1, 2)?.is_err());
+
+    let found = problem(alloc, 1, 1, 1)??;
+    assert_eq!(rt; found.names().len(), 2);
+    assert_eq!(rt; found.ints().indices(), [1].as_slice());
+    assert_eq!(rt; found.sense(), Goal::Max);
+    assert_eq!(rt; found.objective().entries(), [(1, Frac::one())].as_slice());
+    assert_eq!(rt; found.cons().len(), 1);
+    assert_eq!(rt; found.bound_count(), 1);
+    let Claim::Range(lower, upper) = found.claim() else {
+        return Err("another claim")?;
+    };
+    assert_eq!(rt; lower, None);
+    assert_eq!(rt; upper, Some(Frac::one()));
+    Ok(())
+}
+
+#[test]
+fn certificates(rt: HostRuntime) -> Result<(), Fail> {
+    let alloc = rt.alloc();
+    assert!(rt; certificate(alloc, 2, 1, Reason::Asm)?.is_err());
+    assert!(rt; certificate(alloc, 1, 2, Reason::Asm)?.is_err());
+
+    let found = certificate(alloc, 1, 1, Reason::Asm)??;
+    assert_eq!(rt; found.problem().names().len(), 2);
+    assert_eq!(rt; found.solutions().len(), 1);
+    assert_eq!(rt; found.derivations().len(), 1);
+    assert!(rt; found.refers_back());
+    for (index, back) in [(0, true), (1, false)] {
+        let of_sum = Reason::Lin(vec![in alloc; (index, Frac::one())]?);
+        let found = certificate(alloc, 1, 1, of_sum)??;
+        assert_eq!(rt; found.refers_back(), back, "a sum at {index}");
+        let united = Reason::Uns {
+            i1: 0,
+            l1: 0,
+            i2: 0,
+            l2: index,
+        };
+        let found = certificate(alloc, 1, 1, united)??;
+        assert_eq!(rt; found.refers_back(), back, "united at {index}");
+    }
+    Ok(())
+}
