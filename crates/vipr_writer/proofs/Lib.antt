@@ -1,0 +1,4 @@
+pub mod Appended
+pub mod Members
+pub mod Handed
+pub mod Parts
