@@ -13,22 +13,7 @@ use Rattle.vipr_spec.specs.Fraction.{ℚ, over, zero_ℚ, IsBounded}
 use Rattle.vipr_spec.specs.Constraint.{at, NamesBelow}
 use Rattle.vipr_spec.specs.Reading.{is_nonzero, row_of}
 use Rattle.vipr_spec.specs.Shape.{RowFits}
-
--- ---- the variables
-not_found : (n j : ℕ) → n ≤ j → (ps : List (ℕ × ℚ)) → All (λ p. p.0 < n) ps → find nat_cmp j (filter is_nonzero ps) ≡ None
-not_found n j h [] a = refl
-not_found n j h (p ∷ ps) a =
-    let small : p.0 < n = All-head (λ (p : ℕ × ℚ). p.0 < n) p ps a in
-    let rest = not_found n j h ps (All-tail (λ (p : ℕ × ℚ). p.0 < n) p ps a) in
-    let apart : eq_by_cmp nat_cmp j p.0 ≡ false = grind (arith, nat_tests) in
-    elim (is_nonzero p) as (λ b. find nat_cmp j (cond b (p ∷ filter is_nonzero ps) (filter is_nonzero ps)) ≡ None) [
-      | true ↦ rw apart rest
-      | false ↦ rest
-    ]
-
--- the row of pairs of variables below n names no other
-pub names_below : (n : ℕ) (ps : List (ℕ × ℚ)) → All (λ p. p.0 < n) ps → NamesBelow n (at (row_of ps))
-names_below n ps a j h = ap (λ o. unwrap_or o zero_ℚ) (get-from_entries nat_cmp_total (filter is_nonzero ps) j ∙ not_found n j h ps a)
+use Rattle.vipr_spec.proofs.PairRows.{not_zero}
 
 -- ---- the coefficients
 module _ (P : ℚ → Type 0) where
@@ -53,13 +38,6 @@ module _ (P : ℚ → Type 0) where
   entries_have (e ∷ es) a =
       subst (All Has) (sym (entries-insert nat_cmp_total (from_entries es) e.0 e.1))
       (put_has e.0 e.1 (entries (from_entries es)) (All-head Has e es a) (entries_have es (All-tail Has e es a)))
-
-zero_numer : zero_ℚ.numer ≡ pos 0
-unfolding over gcd
-zero_numer = refl
-
-not_zero : (x : ℚ) → not (int_eq x.numer (pos 0)) ≡ true → x ≢ zero_ℚ
-not_zero x t e = let n = ap (λ (z : ℚ). z.numer) e ∙ zero_numer in let f = (Decides-int_eq x.numer (pos 0)).1 n in cc
 
 abbrev Fits : ℚ → Type 0
 Fits x = (x ≢ zero_ℚ) × IsBounded x

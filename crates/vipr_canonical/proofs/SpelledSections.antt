@@ -12,7 +12,8 @@ use Rattle.vipr_spec.specs.Reading.{most_count}
 use Rattle.vipr_spec.specs.Grammar.{SpellsCount, SpellsVariable, SpellsSense, SpellsDirection, SpellsBound, SpellsLast, word, one, ◌then◌, each, pair, vector, coefficients, constraint, version, names, integers, objective, constraints, claim, problem, solution, solutions, entry, reason, derivation, derivations, SpelledBy}
 use Rattle.vipr_spec.specs.Shape.{ReasonShape, DerivationShape, RowFits, ClaimFits, EntryFits, ReasonFits, DerivationFits, CanWriteProblem, CanWrite}
 use Rattle.vipr_canonical.proofs.SpelledNumbers.{number_bounded, bound_bounded}
-use Rattle.vipr_canonical.proofs.SpelledRows.{names_below, row_fits}
+use Rattle.vipr_canonical.proofs.SpelledRows.{row_fits}
+use Rattle.vipr_spec.proofs.PairRows.{row_below}
 use Rattle.vipr_canonical.proofs.SpelledTokens.{Gives, gives_nothing, gives_word, gives_one, gives_then, gives_each}
 
 -- ---- one token
@@ -50,7 +51,7 @@ gives_vector : (n : ℕ) (row : Row) → Gives (vector n row) (GoodRow n row)
 gives_vector n row = record {
   law = λ ts a s.
       let all = (gives_then (one SpellsCount (length s.0)) (each (pair n) s.0) (gives_count (length s.0)) (λ h. gives_each (pair n) (λ p. (p.0 < n) × IsBounded p.1) (gives_pair n) s.0)).law ts a s.3 in
-      subst (GoodRow n) (sym s.2) (record { below = names_below n s.0 (λ k d h. (all.1 k d h).0); fits = row_fits s.0 (λ k d h. (all.1 k d h).1) });
+      subst (GoodRow n) (sym s.2) (record { below = row_below n s.0 (λ k d h. (all.1 k d h).0); fits = row_fits s.0 (λ k d h. (all.1 k d h).1) });
 }
 
 gives_coefficients : (n : ℕ) (given row : Row) → GoodRow n given → Gives (coefficients n given row) (GoodRow n row)

@@ -16,7 +16,8 @@ use Rattle.vipr_spec.specs.MoreEntries.{joined, TermFits}
 use Rattle.vipr_spec.proofs.MoreEntries.{turned_zero, joined_equal}
 use Rattle.vipr_linear.specs.Accumulator.{Accumulator, sum_at, with_entry, with_term, with_terms, TermsFitIn}
 use Rattle.vipr_linear.specs.Row.{RisesFrom}
-use Rattle.vipr_linear.proofs.Rows.{row_again, rises_sorted, zero_numer, zero_from_numer}
+use Rattle.vipr_linear.proofs.Rows.{row_again, rises_sorted}
+use Rattle.vipr_spec.proofs.Fractions.{zero_numer, zero_from_numer}
 
 abbrev pub coefficient : List (ℕ × ℚ) → ℕ → ℚ
 coefficient es j = unwrap_or (find nat_cmp j es) zero_ℚ

@@ -31,22 +31,12 @@ use Rattle.vipr_spec.specs.Reading.{is_nonzero, row_of}
 use Rattle.vipr_spec.proofs.Fractions.{same_ℚ}
 use Rattle.vipr_spec.proofs.FractionOrders.{eq_is}
 use Rattle.vipr_spec.proofs.Loops.{same_rows}
-use Rattle.vipr_linear.specs.Row.{RisesFrom, variables_of, IsFirstRepeated, HasNoZeros}
+use Rattle.vipr_spec.proofs.Fractions.{zero_from_numer}
+use Rattle.vipr_spec.proofs.PairRows.{not_zero}
+use Rattle.vipr_linear.specs.Row.{RisesFrom, variables_of, IsFirstRepeated}
+use Rattle.vipr_spec.specs.Constraint.{HasNoZeros}
 
 -- ---- zero
-pub zero_numer : zero_ℚ.numer ≡ pos 0
-unfolding over gcd
-zero_numer = refl
-
-pub zero_from_numer : (x : ℚ) → x.numer ≡ pos 0 → x ≡ zero_ℚ
-zero_from_numer x e = same_ℚ x zero_ℚ (nothing x.numer zero_ℚ.denom e ∙ sym (nothing zero_ℚ.numer x.denom zero_numer))
-  where
-    nothing : (p : ℤ) (n : ℕ) → p ≡ pos 0 → p *ℤ pos n ≡ pos 0
-    nothing p n e = ap (λ z. z *ℤ pos n) e ∙ omega (arith, ints)
-
-pub not_zero : (x : ℚ) → not (int_eq x.numer (pos 0)) ≡ true → x ≢ zero_ℚ
-not_zero x t e = let n = ap (λ (z : ℚ). z.numer) e ∙ zero_numer in let f = (Decides-int_eq x.numer (pos 0)).1 n in cc
-
 pub zero_test : (x : ℚ) → not (int_eq x.numer (pos 0)) ≡ false → x ≡ zero_ℚ
 zero_test x t = by (int_eq x.numer (pos 0)) refl t
   where

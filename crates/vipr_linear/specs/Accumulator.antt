@@ -6,7 +6,7 @@ use Rattle.std.proofs.Common.{refl}
 use Rattle.vipr_spec.specs.Fraction.{ℚ, coded_ℚ, zero_ℚ, ◌+ℚ◌, ◌*ℚ◌}
 use Rattle.vipr_spec.specs.Constraint.{Sense, at_most, equal, at_least, Row, at, Entry, sum_over, HasSense, SumOfFits}
 use Rattle.vipr_spec.specs.MoreEntries.{turned, joined, TermFits}
-use Rattle.vipr_linear.specs.Row.{HasNoZeros}
+use Rattle.vipr_spec.specs.Constraint.{HasNoZeros}
 
 -- the partial sum of each variable and of the right-hand sides, the sense of the sum so far, and whether an error came
 pub record Accumulator : Type 0 where

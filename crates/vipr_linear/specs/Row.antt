@@ -20,7 +20,3 @@ pub record IsFirstRepeated (variables : List ℕ) (v : ℕ) : Type 0 where
   pub parts : variables ≡ before ++ v ∷ after
   pub distinct : IsDistinct nat_eq before
   pub repeated : Contains before v
-
--- no coefficient of the map is 0
-abbrev pub HasNoZeros : Row → Type 0
-HasNoZeros row = (j : ℕ) → IfSome (get row j) (λ a. a ≢ zero_ℚ)

@@ -7,7 +7,8 @@ ghost use Rattle.std.specs.FinMap.{entries, from_sorted};
 ghost use Rattle.vipr_spec.specs.Fraction.{zero_ℚ};
 ghost use Rattle.vipr_spec.specs.Constraint.{at, NamesBelow};
 ghost use Rattle.vipr_spec.specs.Reading.{is_nonzero, row_of};
-ghost use Rattle.vipr_linear.specs.Row.{RisesFrom, variables_of, IsFirstRepeated, HasNoZeros};
+ghost use Rattle.vipr_linear.specs.Row.{RisesFrom, variables_of, IsFirstRepeated};
+ghost use Rattle.vipr_spec.specs.Constraint.{HasNoZeros};
 
 use std::alloc::{AllocError, Global};
 use std::collections::BTreeSet;

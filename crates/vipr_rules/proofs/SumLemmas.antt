@@ -10,24 +10,11 @@ use Rattle.std.specs.Prelude.{IsSome, IsNone}
 use Rattle.std.proofs.lemmas.List.{map-append}
 use Rattle.vipr_spec.specs.Certificate.{Certificate, constraint_at, entries}
 use Rattle.vipr_linear.specs.Accumulator.{Accumulator, Holds, CanAdd, with_entry, joined_with, EntryFits, IsSuitable}
-use Rattle.vipr_linear.proofs.Rows.{zero_numer}
+use Rattle.vipr_spec.proofs.MoreEntries.{turned_zero, joined_equal}
 use Rattle.vipr_linear.proofs.StepByStep.{fits_told, suitable_told, step_held}
-
-turned_zero : (m : ℚ) (s : Sense) → m ≡ zero_ℚ → turned m s ≡ equal
-turned_zero m s e = ap (λ x. turned x s) e ∙ of s
-  where
-    of : (s : Sense) → turned zero_ℚ s ≡ equal
-    of at_most = ap (λ z. by_sign (int_cmp z (pos 0)) at_least at_most) zero_numer
-    of equal = refl
-    of at_least = ap (λ z. by_sign (int_cmp z (pos 0)) at_most at_least) zero_numer
 
 nothing : (s x : ℚ) → s +ℚ zero_ℚ *ℚ x ≡ s
 nothing s x = ap (λ y. s +ℚ y) (zero-mul_ℚ x) ∙ add-zero_ℚ s
-
-same : (s : Sense) → joined s equal ≡ Some s
-same at_most = refl
-same equal = refl
-same at_least = refl
 
 pub held_without : (n : ℕ) (es : List Entry) (e : Entry) (a : Accumulator) → Holds n es a → e.0 ≡ zero_ℚ → Holds n (es ++ e ∷ []) a
 held_without n es e a is z = record {
@@ -35,7 +22,7 @@ held_without n es e a is z = record {
   fresh = is.fresh;
   row_is = λ j. is.row_is j ∙ sym (sum_more (λ e. e.0 *ℚ e.1.row j) es e ∙ ap (λ m. sum_over (λ e. e.0 *ℚ e.1.row j) es +ℚ m *ℚ e.1.row j) z ∙ nothing _ (e.1.row j));
   bound_is = is.bound_is ∙ sym (sum_more (λ e. e.0 *ℚ e.1.bound) es e ∙ ap (λ m. sum_over (λ e. e.0 *ℚ e.1.bound) es +ℚ m *ℚ e.1.bound) z ∙ nothing _ e.1.bound);
-  sense_is = joined_sense es (e ∷ []) a.sense equal a.sense is.sense_is (subst (HasSense (e ∷ [])) (turned_zero e.0 e.1.sense z) (turned_sense e.0 e.1)) (same a.sense);
+  sense_is = joined_sense es (e ∷ []) a.sense equal a.sense is.sense_is (subst (HasSense (e ∷ [])) (turned_zero e.0 e.1.sense z) (turned_sense e.0 e.1)) (joined_equal a.sense);
   fits = (fits_told n es e a is).0 (λ m. absurd (m z));
 }
 

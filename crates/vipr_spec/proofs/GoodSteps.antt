@@ -11,15 +11,13 @@ use Rattle.vipr_spec.specs.Constraint.{Sense, at_most, equal, at_least, Entry, p
 use Rattle.vipr_spec.specs.Certificate.{Reason, asm, lin, rnd, uns, sol, Certificate, constraint_at, entries, IsValid, StepFits, RefersTo, is_live}
 use Rattle.vipr_spec.specs.Reading.{is_nonzero}
 use Rattle.vipr_spec.specs.Verdict.{StepTest, earlier, live, suitable, fitting, roundable, listed, by_sum, by_rounding, by_cutoff, built, PassesStep, reference_tests, entry_tests, sum_tests, all_step_tests, FirstFailing}
-use Rattle.vipr_spec.proofs.Fractions.{le_antisymm_ℚ, is_same, is_self, is_zero, Is}
+use Rattle.vipr_spec.proofs.Fractions.{is_zero, Is, zero_from_numer}
+use Rattle.vipr_spec.proofs.MoreEntries.{suitable_front, fitting_front}
 use Rattle.vipr_spec.proofs.Points.{le_or_not_ℚ}
 use Rattle.vipr_spec.proofs.FirstFailing.{none_all, all_none, all_parts}
 use Rattle.vipr_spec.proofs.EachTests.{flat_all_of, flat_all}
 
 -- ---- what multiplier is 0
-zero_numer : (x : ℚ) → x.numer ≡ pos 0 → x ≡ zero_ℚ
-zero_numer x e = is_same _ _ _ _ _ _ (is_self x) (is_zero 1 (zero-lt-suc 0)) (omega (arith, ints))
-
 numer_zero : (x : ℚ) → x ≡ zero_ℚ → x.numer ≡ pos 0
 numer_zero x e = let z = subst (λ z. Is z (pos 0) 1) (sym e) (is_zero 1 (zero-lt-suc 0)) in let c = z.cross in omega (arith, ints)
 
@@ -27,7 +25,7 @@ pub nonzero_or_zero : (e : ℕ × ℚ) → ((is_nonzero e ≡ true) × (e.1 ≢ 
 nonzero_or_zero e = by (int_eq e.1.numer (pos 0)) refl
   where
     by : (b : Bool) → int_eq e.1.numer (pos 0) ≡ b → ((not b ≡ true) × (e.1 ≢ zero_ℚ)) ⊎ ((not b ≡ false) × (e.1 ≡ zero_ℚ))
-    by true h = inr (refl, zero_numer e.1 ((Decides-int_eq e.1.numer (pos 0)).0 h))
+    by true h = inr (refl, zero_from_numer e.1 ((Decides-int_eq e.1.numer (pos 0)).0 h))
     by false h = inl (refl, λ z. let t = (Decides-int_eq e.1.numer (pos 0)).1 (numer_zero e.1 z) in absurd (cc))
 
 -- ---- the references of a sum
@@ -60,54 +58,8 @@ named_in c k es a = flat_all (PassesStep c k) reference_tests (IsNamed c k) (ref
 earlier_of : (c : Certificate) (k : ℕ) (es : List (ℕ × ℚ)) → All (IsNamed c k) es → All (λ e. e.0 < k) es
 earlier_of c k es a = All-weaker (IsNamed c k) (λ (e : ℕ × ℚ). e.0 < k) (λ e n. n.0) es a
 
--- ---- the front of a sum
--- every product is 0, or one is not
-any_or_all : (P : ℚ → Type 0) → ((q : ℚ) → P q ⊎ ¬ P q) → (es : List Entry) → All (λ e. P (pull e)) es ⊎ Any (λ e. ¬ P (pull e)) es
-any_or_all P decide [] = inl (All-nil (λ (e : Entry). P (pull e)))
-any_or_all P decide (e ∷ es) = ⊎_elim
-    (λ (h : P (pull e)). ⊎_elim
-    (λ (a : All (λ e. P (pull e)) es). inl (All-cons (λ (e : Entry). P (pull e)) e es h a))
-    (λ (a : Any (λ e. ¬ P (pull e)) es). inr (suc a.0, a.1, omega (arith, a.2), a.3, a.4))
-    (any_or_all P decide es))
-    (λ (h : ¬ P (pull e)). inr (0, e, omega arith, refl, h))
-    (decide (pull e))
-
 abbrev IsSuitable : List Entry → Type 0
 IsSuitable es = (s : Sense) × HasSense es s
-
-suitable_front : (es fs : List Entry) → IsSuitable (es ++ fs) → IsSuitable es
-suitable_front es fs h = by h.0 h.1
-  where
-    by : (s : Sense) → HasSense (es ++ fs) s → IsSuitable es
-    by equal a = (equal, (all_parts (λ (e : Entry). pull e ≡ zero_ℚ) es fs a).0)
-    by at_least a =
-        let up = (all_parts (λ (e : Entry). zero_ℚ ≤ℚ pull e) es fs a.0).0 in
-        ⊎_elim
-        (λ (z : All (λ (e : Entry). pull e ≤ℚ zero_ℚ) es). (equal, λ k d l. le_antisymm_ℚ _ _ (z k d l) (up k d l)))
-        (λ (z : Any (λ (e : Entry). ¬ (pull e ≤ℚ zero_ℚ)) es). (at_least, (up, z)))
-        (any_or_all (λ q. q ≤ℚ zero_ℚ) (λ q. le_or_not_ℚ q zero_ℚ) es)
-    by at_most a =
-        let down = (all_parts (λ (e : Entry). pull e ≤ℚ zero_ℚ) es fs a.0).0 in
-        ⊎_elim
-        (λ (z : All (λ (e : Entry). zero_ℚ ≤ℚ pull e) es). (equal, λ k d l. le_antisymm_ℚ _ _ (down k d l) (z k d l)))
-        (λ (z : Any (λ (e : Entry). ¬ (zero_ℚ ≤ℚ pull e)) es). (at_most, (down, z)))
-        (any_or_all (λ q. zero_ℚ ≤ℚ q) (λ q. le_or_not_ℚ zero_ℚ q) es)
-
-partial_front : (s : ℚ) (ts us : List ℚ) → PartialSumsFit s (ts ++ us) → PartialSumsFit s ts
-partial_front s [] us h = tt
-partial_front s (t ∷ ts) us h = (h.0, partial_front (s +ℚ t) ts us h.1)
-
-terms_front : (ts us : List (ℚ × ℚ)) → TermsFit (ts ++ us) → TermsFit ts
-terms_front ts us h = (
-  (all_parts (λ (t : ℚ × ℚ). ProductFits t.0 t.1) ts us h.0).0,
-  partial_front zero_ℚ (map (λ t. t.0 *ℚ t.1) ts) (map (λ t. t.0 *ℚ t.1) us) (subst (PartialSumsFit zero_ℚ) (map-append (λ (t : ℚ × ℚ). t.0 *ℚ t.1) ts us) h.1),
-)
-
-fitting_front : (es fs : List Entry) → SumOfFits (es ++ fs) → SumOfFits es
-fitting_front es fs h = (
-  λ j. terms_front (map (λ e. (e.0, e.1.row j)) es) (map (λ e. (e.0, e.1.row j)) fs) (subst TermsFit (map-append (λ (e : Entry). (e.0, e.1.row j)) es fs) (h.0 j)),
-  terms_front (map (λ e. (e.0, e.1.bound)) es) (map (λ e. (e.0, e.1.bound)) fs) (subst TermsFit (map-append (λ (e : Entry). (e.0, e.1.bound)) es fs) h.1),
-)
 
 -- ---- all tests of a sum's entries pass
 module _ (c : Certificate) (k : ℕ) where

@@ -29,18 +29,3 @@ twice (x ∷ xs) after v (suc k, l, e) d = twice xs after v (k, omega arith, e) 
 -- variables that differ have no first one that stood before
 pub none_repeated : (variables : List ℕ) (v : ℕ) → IsDistinct nat_eq variables → ¬ IsFirstRepeated variables v
 none_repeated variables v d r = twice r.before r.after v r.repeated (subst (IsDistinct nat_eq) r.parts d)
-
-not_found : (n j : ℕ) → n ≤ j → (ps : List (ℕ × ℚ)) → All (λ p. p.0 < n) ps → find nat_cmp j (filter is_nonzero ps) ≡ None
-not_found n j h [] a = refl
-not_found n j h (p ∷ ps) a =
-    let small : p.0 < n = All-head (λ (p : ℕ × ℚ). p.0 < n) p ps a in
-    let rest = not_found n j h ps (All-tail (λ (p : ℕ × ℚ). p.0 < n) p ps a) in
-    let apart : eq_by_cmp nat_cmp j p.0 ≡ false = grind (arith, nat_tests) in
-    elim (is_nonzero p) as (λ b. find nat_cmp j (cond b (p ∷ filter is_nonzero ps) (filter is_nonzero ps)) ≡ None) [
-      | true ↦ rw apart rest
-      | false ↦ rest
-    ]
-
--- the row of pairs of variables below n names no other
-pub row_below : (n : ℕ) (ps : List (ℕ × ℚ)) → All (λ p. p.0 < n) ps → NamesBelow n (at (row_of ps))
-row_below n ps a j h = ap (λ o. unwrap_or o zero_ℚ) (get-from_entries nat_cmp_total (filter is_nonzero ps) j ∙ not_found n j h ps a)

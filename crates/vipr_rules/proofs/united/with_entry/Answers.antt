@@ -2,7 +2,8 @@ use Rattle.std.proofs.Common.{◌≡◌, true, false, sym, ◌∙◌, subst, ref
 use Rattle.std.proofs.lemmas.Result.{IfOk-weaker}
 use Rattle.vipr_spec.specs.Progress.{PassesNext}
 use Rattle.vipr_spec.specs.Reading.{is_nonzero}
-use Rattle.vipr_linear.proofs.Rows.{not_zero, zero_test}
+use Rattle.vipr_spec.proofs.PairRows.{not_zero}
+use Rattle.vipr_linear.proofs.Rows.{zero_test}
 use Rattle.vipr_rules.specs.Before.{IsSetOfAll}
 use Rattle.vipr_rules.proofs.EntryTests.{reference_is_earlier, reference_is_live}
 use Rattle.vipr_rules.proofs.UnionLemmas.{without_it, with_it}

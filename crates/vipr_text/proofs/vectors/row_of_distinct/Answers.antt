@@ -1,6 +1,7 @@
 use Rattle.std.proofs.Common.{Err, subst, sym, ap, ◌∙◌}
 use Rattle.vipr_spec.specs.Constraint.{at, NamesBelow}
-use Rattle.vipr_text.proofs.VectorRows.{none_repeated, row_below}
+use Rattle.vipr_text.proofs.VectorRows.{none_repeated}
+use Rattle.vipr_spec.proofs.PairRows.{row_below}
 use Rattle.vipr_text.proofs.vectors.row_of_distinct.Goals as goal
 
 pub unreachable-requires : goal.unreachable-requires

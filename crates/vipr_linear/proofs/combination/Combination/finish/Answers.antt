@@ -3,7 +3,8 @@ use Rattle.std.specs.FinMap.{from_sorted}
 use Rattle.vipr_spec.specs.Fraction.{zero_ℚ}
 use Rattle.vipr_spec.specs.Constraint.{at}
 use Rattle.vipr_linear.specs.Accumulator.{Accumulator}
-use Rattle.vipr_linear.specs.Row.{RisesFrom, HasNoZeros}
+use Rattle.vipr_linear.specs.Row.{RisesFrom}
+use Rattle.vipr_spec.specs.Constraint.{HasNoZeros}
 use Rattle.vipr_linear.proofs.Collecting.{collected_at, collected_rises, kept_sorted, rising_of_touched, touched_within}
 use Rattle.vipr_linear.proofs.Rows.{no_zeros}
 use Rattle.vipr_linear.proofs.combination.Combination.finish.Goals as goal

@@ -2,7 +2,7 @@ use Rattle.std.proofs.Common.{ap, ◌∙◌, sym, subst}
 use Rattle.std.specs.FinMap.{entries, entries-from_sorted}
 use Rattle.std.specs.Ordering.{nat_cmp}
 use Rattle.vipr_linear.proofs.Rows.{rises_sorted, no_zeros}
-use Rattle.vipr_linear.specs.Row.{HasNoZeros}
+use Rattle.vipr_spec.specs.Constraint.{HasNoZeros}
 use Rattle.vipr_linear.proofs.row.Row.entries.Goals as goal
 
 pub returns-clause-list : goal.returns-clause-list
