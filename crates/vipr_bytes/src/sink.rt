@@ -3,6 +3,7 @@ ghost use Rattle.vipr_bytes.specs.Output.{Output, Writes};
 
 use crate::source::Failed;
 use std::io::Write;
+use std::marker::Model;
 
 /// A writer of bytes.
 ///
@@ -27,9 +28,18 @@ pub struct FromWrite<W> {
     writer: W,
 }
 
+// Seen as the writer.
+impl<W> Model for FromWrite<W> {
+    ghost Value = { W };
+
+    ghost view = { λ w. w.writer };
+}
+
 impl<W: Write> FromWrite<W> {
     /// A writer that was handed nothing yet.
-    pub fn new(writer: W) -> FromWrite<W> {
+    pub fn new(writer: W) -> FromWrite<W>
+        ensures { result ≡ writer }
+    {
         FromWrite { writer }
     }
 }
