@@ -5,3 +5,5 @@ pub mod Taking
 pub mod Pieces
 pub mod State
 pub mod Marking
+pub mod WholeSteps
+pub mod WholeTexts

@@ -6,3 +6,4 @@ pub mod Rules
 pub mod Readers
 pub mod ItemsCode
 pub mod Marks
+pub mod Whole

@@ -12,9 +12,12 @@ mod place;
 mod reader;
 mod reasons;
 mod sections;
+#[cfg(test)]
+mod tests;
 mod tokens;
 mod vectors;
 mod wanted;
+mod whole;
 mod window;
 
 pub use error::TextError;
@@ -23,3 +26,4 @@ pub use tokens::{Token, Tokens};
 pub use vipr_items::{
     BadShape, Certificate, Claim, Derivation, Goal, Name, Named, Problem, Reason,
 };
+pub use whole::read_certificate;

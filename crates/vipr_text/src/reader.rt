@@ -7,7 +7,7 @@ ghost use Rattle.vipr_spec.specs.Certificate.{Problem as ProblemMeant, variables
 ghost use Rattle.vipr_spec.specs.Reading.{problem_read, solution_read, derivations_read, derivation_read, end_read};
 ghost use Rattle.vipr_text.specs.Giving.{GivesFrom, Gives, Ends};
 ghost use Rattle.vipr_items.specs.Items.{solution_of, derivation_of};
-ghost use Rattle.vipr_spec.specs.Shape.{SolutionShape, DerivationShape};
+ghost use Rattle.vipr_spec.specs.Shape.{ProblemShape, SolutionShape, DerivationShape};
 ghost use Rattle.vipr_text.specs.Readers.{Items, Knows, Remembers, NextItem};
 
 use crate::error::TextError;
@@ -109,6 +109,8 @@ impl<R: Source> CertReader<R> {
         ensures read { self.told ≡ true → GivesFrom (λ x. (x.0, x.1.left)) (λ x. x.1.reading) result (problem_read self.left) }
         ensures knows { IfOk result (λ x. Knows x.1 x.0) }
         ensures unspent { IfOk result (λ x. x.1.reading.spent ≡ false) }
+        ensures shape { IfOk result (λ x. ProblemShape x.0) }
+        ensures counted { IfOk result (λ x. x.1.left < 2 ^ 32) }
         ensures error { IfErr result (λ e. e ≢ TextError.Spent) }
     {
         let CertReader { mut tokens } = self;
