@@ -1,5 +1,5 @@
 -- What is answered, step by step
-use Rattle.std.proofs.Common.{◌≡◌, ℕ, false, List, Option, Some, None, Result, Ok, Err, refl, sym, ap, subst}
+use Rattle.std.proofs.Common.{◌≡◌, ℕ, true, false, List, Option, Some, None, Result, Ok, Err, refl, sym, ap, subst}
 use Rattle.vipr_spec.specs.Certificate.{Certificate, Derivation, IsProof, count}
 use Rattle.vipr_spec.specs.Input.{Input}
 use Rattle.vipr_spec.specs.Reading.{Rest, Fault as ReadFault, refused, unread, certificate_read}
@@ -10,7 +10,7 @@ use Rattle.vipr_spec.specs.Verdict.{StepTest, earlier, live, assumed, suitable, 
 use Rattle.vipr_spec.specs.Progress.{IsBuilt}
 use Rattle.vipr_spec.proofs.Reported.{one_answer}
 use Rattle.vipr_spec.proofs.WholeText.{verified_text, proof_answered}
-use Rattle.vipr_spec.proofs.GrammarWhole.{reads_texts}
+use Rattle.vipr_spec.proofs.GrammarWhole.{reads_texts, one_certificate}
 use Rattle.vipr_spec.proofs.Points.{claim_shown}
 use Rattle.vipr_linear.specs.Constraint.{condition_of}
 use Rattle.vipr_text.specs.Giving.{Fails}
@@ -24,10 +24,11 @@ use Rattle.vipr_check.specs.declared.verdict.Verdict.{Verdict}
 use Rattle.vipr_check.specs.declared.verdict.Verdict.TheVariants.{Verified, Refused}
 use Rattle.vipr_check.specs.declared.verdict.Fault.{Fault}
 use Rattle.vipr_check.specs.declared.verdict.Fault.TheVariants.{Read, Memory}
+use Rattle.vipr_check.proofs.Failures.{failed_read}
 use Rattle.vipr_check.specs.View.{report_of, answer_of, Says, IfVerified, IsVerified}
 use Rattle.vipr_check.specs.Refused.{text_failed, step_failed}
 use Rattle.vipr_check.specs.Taking.{FailsNext}
-use Rattle.vipr_check.specs.Texts.{rest_of, IfTold, IfWhole}
+use Rattle.vipr_check.specs.Texts.{rest_of, IfTold, IfWhole, SpellsOnly}
 
 pub Says-by : (P Q : Answer → Type 0) (r : Result Verdict Fault) → ((a : Answer) → P a → Q a) → Says P r → Says Q r
 Says-by P Q (Ok v) k h = k (answer_of v) h
@@ -83,20 +84,28 @@ rule_says k c d e is h = record { test = h.0; first = h.1; says = subst (λ n. S
 pub only_says : (r : Rest) (x : Result Verdict Fault) → Says (IsAnswer r) x → (a : Answer) → IsAnswer r a → Says (λ b. b ≡ a) x
 only_says r x h a k = Says-by (IsAnswer r) (λ b. b ≡ a) x (λ b g. one_answer r b a g k) h
 
+pub read_says : (r : Rest) (x : Result Verdict Fault) → Says (IsAnswer r) x → x ≡ Err Read → r.fails ≡ true
+read_says r x h e = failed_read r (subst (Says (IsAnswer r)) e h)
+
 whole_is : (i : Input) → i.fails ≡ false → rest_of i ≡ whole_text i.bytes
 whole_is i e = ap (λ b. rest_of (record { bytes = i.bytes; fails = b })) e
 
-pub proof_says : (i : Input) (x : Result Verdict Fault) → Says (IsAnswer (rest_of i)) x → i.fails ≡ false
-    → IfVerified x (λ report. (c : Certificate) × Spells i.bytes c × IsBuilt c × IsProof c × Reports c (report_of report))
-proof_says i (Ok (Verified r)) h e = (verified_text i.bytes (report_of r)).0 (subst (λ s. IsAnswer s (verified (report_of r))) (whole_is i e) h)
+abbrev IsProofOf : List ℕ → Report → Type 0
+IsProofOf bytes report = (c : Certificate) × SpellsOnly bytes c × IsBuilt c × IsProof c × Reports c (report_of report)
+
+the_proof : (bytes : List ℕ) (report : Report) → ((c : Certificate) × Spells bytes c × IsBuilt c × IsProof c × Reports c (report_of report)) → IsProofOf bytes report
+the_proof bytes report p = (p.0, (p.1, λ other s. one_certificate bytes other p.0 s p.1), p.2, p.3, p.4)
+
+pub proof_says : (i : Input) (x : Result Verdict Fault) → Says (IsAnswer (rest_of i)) x → i.fails ≡ false → IfVerified x (IsProofOf i.bytes)
+proof_says i (Ok (Verified r)) h e = the_proof i.bytes r ((verified_text i.bytes (report_of r)).0 (subst (λ s. IsAnswer s (verified (report_of r))) (whole_is i e) h))
 proof_says i (Ok (Refused r)) h e = tt
 proof_says i (Err f) h e = tt
 
-shown_of : (bytes : List ℕ) (report : Report) → ((c : Certificate) × Spells bytes c × IsBuilt c × IsProof c × Reports c (report_of report)) → (c : Certificate) × Spells bytes c × IsShown c.problem c.solutions c.problem.claim
+shown_of : (bytes : List ℕ) (report : Report) → IsProofOf bytes report → (c : Certificate) × SpellsOnly bytes c × IsShown c.problem c.solutions c.problem.claim
 shown_of bytes report p = (p.0, p.1, claim_shown p.0 p.3)
 
 pub sound_says : (i : Input) (x : Result Verdict Fault) → Says (IsAnswer (rest_of i)) x → i.fails ≡ false
-    → IfVerified x (λ report. (c : Certificate) × Spells i.bytes c × IsShown c.problem c.solutions c.problem.claim)
+    → IfVerified x (λ report. (c : Certificate) × SpellsOnly i.bytes c × IsShown c.problem c.solutions c.problem.claim)
 sound_says i (Ok (Verified r)) h e = shown_of i.bytes r (proof_says i (Ok (Verified r)) h e)
 sound_says i (Ok (Refused r)) h e = tt
 sound_says i (Err f) h e = tt

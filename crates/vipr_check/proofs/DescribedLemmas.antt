@@ -1,16 +1,11 @@
 -- The checker's state, derivation by derivation
-use Rattle.std.proofs.Common.{◌≡◌, ℕ, max, List, [], ◌++◌, length, map, Some, None, All, Ok, ◌-◌, inl, inr, arith, rules, refl, sym, ◌∙◌, ap, subst}
-use Rattle.std.proofs.lemmas.Bool.{cases_lt}
-use Rattle.std.proofs.lemmas.List.{get_or-map, get_or_past, length-map}
-use Rattle.std.proofs.lemmas.List.Elements.{All-nil, All-push, All-append, All-map}
-use Rattle.std.specs.FinMap as finite
-use Rattle.vipr_spec.specs.Fraction.{zero_ℚ}
-use Rattle.vipr_spec.specs.Constraint.{Constraint, Condition, condition, at, equal, NamesBelow}
-use Rattle.vipr_spec.specs.Certificate.{Named, Problem, variables, infeasible, Derivation, Certificate, constraint_at, NeedsGoal, count, held as held_after}
+use Rattle.std.proofs.Common.{◌≡◌, ℕ, max, List, [], length, map, Some, None, Ok, ◌-◌, arith, rules, refl, sym, ◌∙◌, ap, subst}
+use Rattle.vipr_spec.specs.Constraint.{Condition, condition, NamesBelow}
+use Rattle.vipr_spec.specs.Certificate.{Problem, variables, infeasible, Derivation, Certificate, NeedsGoal, count, held as held_after}
 use Rattle.vipr_spec.specs.OnePass.{with_next, RefersBack}
 use Rattle.vipr_spec.specs.Checking.{start, IsChecked, NextGoal}
 use Rattle.vipr_spec.specs.Verdict.{step_tests, verified}
-use Rattle.vipr_spec.proofs.Prefix.{count_next}
+use Rattle.vipr_spec.proofs.Prefix.{count_next, constraint_next}
 use Rattle.vipr_spec.proofs.Checked.{checked_start, checked_next, checked_verified, checked_unproved}
 use Rattle.vipr_spec.specs.Reading.{Rest, end_read}
 use Rattle.vipr_spec.specs.Causes.{no_proof}
@@ -18,19 +13,19 @@ use Rattle.vipr_spec.specs.Progress.{Answers, derivations_from}
 use Rattle.vipr_spec.proofs.Reported.{built_good}
 use Rattle.vipr_spec.proofs.Steps.{refers_back}
 use Rattle.vipr_linear.specs.Accumulator.{Accumulator}
-use Rattle.vipr_linear.specs.Constraint.{constraint_of}
+use Rattle.vipr_linear.specs.Constraint.{constraint_of, condition_of}
 use Rattle.vipr_items.specs.Items.{named_of, claim_of}
 use Rattle.vipr_linear.specs.declared.constraint.Constraint.{Constraint as ConstraintItem}
 use Rattle.vipr_items.specs.declared.items.Claim.{Claim}
 use Rattle.vipr_items.specs.declared.items.Named.{Named as NamedItem}
-use Rattle.vipr_spec.specs.Shape.{ProblemShape}
 use Rattle.vipr_rules.specs.Table.{Table, empty_table, step, held}
 use Rattle.vipr_rules.specs.History.{IsTableOf, IsEntryOf}
 use Rattle.vipr_rules.specs.Before.{DerivedBelow}
 use Rattle.vipr_rules.specs.Judged.{Passes}
 use Rattle.vipr_rules.specs.declared.entries.Entry.{Entry}
+use Rattle.vipr_rules.proofs.BelowLemmas.{DerivedBelow-empty, DerivedBelow-step}
 use Rattle.vipr_rules.proofs.HistoryLemmas.{IsTableOf-empty, IsTableOf-step, IsTableOf-held}
-use Rattle.vipr_check.specs.State.{NamesItsOwn, Describes, HasRoom}
+use Rattle.vipr_check.specs.State.{Describes, HasRoom}
 use Rattle.vipr_check.specs.Goal.{IsFirstFalse}
 use Rattle.vipr_check.specs.View.{answer_of}
 use Rattle.vipr_check.specs.Refused.{refused_at}
@@ -40,37 +35,19 @@ use Rattle.vipr_check.specs.declared.verdict.Verdict.TheVariants.{Verified}
 use Rattle.vipr_check.proofs.GoalLemmas.{first_met}
 use Rattle.vipr_check.specs.declared.checker.Checker.{Checker}
 
--- ---- variables
-
-abbrev nothing_said : Condition
-nothing_said = record { row = λ j. zero_ℚ; sense = equal; bound = zero_ℚ }
-
-own_constraint : (c : Certificate) → NamesItsOwn c → (i : ℕ) → NamesBelow (variables c.problem) (constraint_at c i).row
-own_constraint c own i =
-    let P : Condition → Type 0 = λ x. NamesBelow (variables c.problem) x.row in
-    let xs = map (λ n. condition n.item) c.problem.constraints ++ map (λ d. condition d.stated) c.derivations in
-    let a : All P xs = All-append P (map (λ n. condition n.item) c.problem.constraints) (map (λ d. condition d.stated) c.derivations) (All-map P (λ n. condition n.item) c.problem.constraints own.given) (All-map P (λ d. condition d.stated) c.derivations own.derived) in
-    elim (cases_lt i (length xs)) [
-      | inl less ↦ a i nothing_said less
-      | inr more ↦ subst P (sym (get_or_past xs i nothing_said more)) (λ j le. refl)
-    ]
-
-own_next : (c : Certificate) (d : Derivation) → NamesItsOwn c → NamesBelow (variables c.problem) (at d.stated.row) → NamesItsOwn (with_next c d)
-own_next c d own names = record { given = own.given; derived = All-push (λ d. NamesBelow (variables c.problem) (at d.stated.row)) c.derivations d own.derived names }
-
 -- ---- the beginning
 
 module _ {S : Type 0} (table : S → Table) where
-  pub Describes-start : (p : Problem) (cons : List (NamedItem ConstraintItem)) (k : Checker S) (m : ℕ) → k.problem ≡ p → p.claim ≡ infeasible → ProblemShape p → map (named_of constraint_of) cons ≡ p.constraints
+  pub Describes-start : (p : Problem) (cons : List (NamedItem ConstraintItem)) (k : Checker S) (m : ℕ) → k.problem ≡ p → p.claim ≡ infeasible → map (named_of constraint_of) cons ≡ p.constraints
       → m ≡ length p.constraints → table k.rows ≡ empty_table m → length k.scratch.sums ≡ variables p → k.peak ≡ 0 → IsFirstFalse cons k.goal → Describes table (start p []) k
-  Describes-start p cons k m same claim shape seen first rows scratch none goal =
+  Describes-start p cons k m same claim seen first rows scratch none goal =
       let c = start p [] in
       record {
         problem = sym same;
         claim = claim;
         solutions = refl;
         rows = subst (IsTableOf c) (sym (rows ∙ ap empty_table first)) (IsTableOf-empty c refl);
-        own = record { given = λ i n l. (shape.constraints i n l).row; derived = All-nil (λ d. NamesBelow (variables c.problem) (at d.stated.row)) };
+        own = subst (DerivedBelow (variables p)) (sym rows) (DerivedBelow-empty (variables p) m);
         scratch = scratch;
         checked = subst (IsChecked c k.goal) (sym none) (checked_start p [] k.goal (first_met p cons claim (sym seen) k.goal goal));
       }
@@ -85,11 +62,7 @@ module _ {S : Type 0} (table : S → Table) where
     scratch_size = is.scratch ∙ ap variables is.problem
 
     pub derived_below : DerivedBelow (variables k.problem) (table k.rows)
-    derived_below = record {
-      each = λ i e h.
-          subst (λ (p : Problem). NamesBelow (variables p) (at e.constraint.row)) is.problem
-          (subst (λ (x : Condition). NamesBelow (variables c.problem) x.row) (is.rows.entry i e h).says (own_constraint c is.own i));
-    }
+    derived_below = subst (λ (p : Problem). DerivedBelow (variables p) (table k.rows)) is.problem is.own
 
     pub back : RefersBack c
     back = refers_back c is.checked.steps
@@ -101,13 +74,14 @@ module _ {S : Type 0} (table : S → Table) where
   Describes-next c d e k l is room passes entry problem scratch rows top goal =
       let t : IsTableOf (with_next c d) (table l.rows) = subst (IsTableOf (with_next c d)) (sym rows) (IsTableOf-step c d e (table k.rows) is.rows (λ k h. (is.checked.steps k h).valid) entry) in
       let n = count_next c d in
+      let says : condition d.stated ≡ condition_of e.constraint = sym (constraint_next c d) ∙ entry.says in
       let most : l.peak ≡ max k.peak (held_after (with_next c d) (count c)) = top ∙ ap (max k.peak) (IsTableOf-held (with_next c d) (table l.rows) t (count c) (sym n) (omega arith)) in
       record {
         problem = is.problem ∙ sym problem;
         claim = is.claim;
         solutions = is.solutions;
         rows = t;
-        own = own_next c d is.own room.names;
+        own = subst (DerivedBelow (variables c.problem)) (sym rows) (DerivedBelow-step (variables c.problem) (table k.rows) e is.own (subst (λ (x : Condition). NamesBelow (variables c.problem) x.row) says room.names));
         scratch = scratch ∙ is.scratch;
         checked = subst (IsChecked (with_next c d) l.goal) (sym most) (checked_next c d k.goal l.goal k.peak is.checked (built_good c d passes) goal);
       }

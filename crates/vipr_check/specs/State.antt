@@ -1,5 +1,5 @@
 -- A checker, described by the certificate that it was handed so far
-use Rattle.std.specs.Prelude.{◌≡◌, ◌+◌, ◌<◌, ◌^◌, true, false, [], length, All}
+use Rattle.std.specs.Prelude.{◌≡◌, ◌+◌, ◌<◌, ◌^◌, true, false, [], length}
 use Rattle.vipr_spec.specs.Constraint.{at, NamesBelow}
 use Rattle.vipr_spec.specs.Certificate.{variables, infeasible, Derivation, Certificate, count}
 use Rattle.vipr_spec.specs.Checking.{IsChecked}
@@ -7,13 +7,9 @@ use Rattle.vipr_spec.specs.Verdict.{Answer}
 use Rattle.vipr_spec.specs.Progress.{Answers, derivations_from}
 use Rattle.vipr_text.specs.Readers.{Items, Knows}
 use Rattle.vipr_rules.specs.Table.{Table}
+use Rattle.vipr_rules.specs.Before.{DerivedBelow}
 use Rattle.vipr_rules.specs.History.{IsTableOf}
 use Rattle.vipr_check.specs.declared.checker.Checker.{Checker}
-
--- the rows name variables of the problem alone
-pub record NamesItsOwn (c : Certificate) : Type 0 where
-  pub given : All (λ n. NamesBelow (variables c.problem) (at n.item.row)) c.problem.constraints
-  pub derived : All (λ d. NamesBelow (variables c.problem) (at d.stated.row)) c.derivations
 
 -- the checker has what is to be known of the certificate so far
 pub record Describes {S : Type 0} (table : S → Table) (c : Certificate) (k : Checker S) : Type 0 where
@@ -21,7 +17,7 @@ pub record Describes {S : Type 0} (table : S → Table) (c : Certificate) (k : C
   pub claim : c.problem.claim ≡ infeasible
   pub solutions : c.solutions ≡ []
   pub rows : IsTableOf c (table k.rows)
-  pub own : NamesItsOwn c
+  pub own : DerivedBelow (variables c.problem) (table k.rows)
   pub scratch : length k.scratch.sums ≡ variables c.problem
   pub checked : IsChecked c k.goal k.peak
 

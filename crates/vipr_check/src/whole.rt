@@ -1,13 +1,14 @@
 //! Checks a whole certificate.
 
-ghost use Rattle.std.specs.Prelude.{◌≡◌};
+ghost use Rattle.std.specs.Prelude.{◌≡◌, true, Err};
 ghost use Rattle.vipr_spec.specs.Certificate.{Certificate, IsProof};
 ghost use Rattle.vipr_spec.specs.Grammar.{Spells};
 ghost use Rattle.vipr_spec.specs.Soundness.{IsShown};
 ghost use Rattle.vipr_spec.specs.Verdict.{Answer, Reports, IsAnswer};
 ghost use Rattle.vipr_spec.specs.Progress.{IsBuilt};
+ghost use Rattle.vipr_check.specs.declared.verdict.Fault.TheVariants.{Read};
 ghost use Rattle.vipr_check.specs.View.{report_of, Says, IfVerified, IsVerified};
-ghost use Rattle.vipr_check.specs.Texts.{rest_of, IfTold, IfWhole};
+ghost use Rattle.vipr_check.specs.Texts.{rest_of, IfTold, IfWhole, SpellsOnly};
 
 use crate::stream::verdict_on;
 use crate::verdict::{Fault, Verdict};
@@ -29,15 +30,17 @@ pub fn check<R: Source + Drop>(alloc: Global, source: R) -> Result<Verdict, Faul
     ensures exact { IfTold (R.input source) (λ i. Says (IsAnswer (rest_of i)) result) }
     // They have one answer.
     ensures only { IfTold (R.input source) (λ i. (a : Answer) → IsAnswer (rest_of i) a → Says (λ b. b ≡ a) result) }
-    // Verified is only what spells a proof, and the report is that of the proof.
+    // That a read failed is answered only where the source fails.
+    ensures read { IfTold (R.input source) (λ i. result ≡ Err Read → i.fails ≡ true) }
+    // Verified is only what spells one certificate, a proof, and the report is that of the proof.
     ensures proof { IfWhole (R.input source) (λ bytes. IfVerified result (λ report.
-        (c : Certificate) × Spells bytes c × IsBuilt c × IsProof c × Reports c (report_of report))) }
+        (c : Certificate) × SpellsOnly bytes c × IsBuilt c × IsProof c × Reports c (report_of report))) }
     // Whatever spells a proof of the kind that is built is verified.
     ensures every { IfWhole (R.input source) (λ bytes. (c : Certificate) → Spells bytes c → IsBuilt c → IsProof c
         → IsVerified result (λ report. Reports c (report_of report))) }
     // What is claimed is then true at every point: each that is whole at the integer variables breaks a constraint.
     ensures sound { IfWhole (R.input source) (λ bytes. IfVerified result (λ report.
-        (c : Certificate) × Spells bytes c × IsShown c.problem c.solutions c.problem.claim)) }
+        (c : Certificate) × SpellsOnly bytes c × IsShown c.problem c.solutions c.problem.claim)) }
 {
     check_with::<R, LiveOnly>(alloc, source)
 }
@@ -50,12 +53,13 @@ pub fn check<R: Source + Drop>(alloc: Global, source: R) -> Result<Verdict, Faul
 pub fn check_with<R: Source + Drop, S: Rows>(alloc: Global, source: R) -> Result<Verdict, Fault>
     ensures exact { IfTold (R.input source) (λ i. Says (IsAnswer (rest_of i)) result) }
     ensures only { IfTold (R.input source) (λ i. (a : Answer) → IsAnswer (rest_of i) a → Says (λ b. b ≡ a) result) }
+    ensures read { IfTold (R.input source) (λ i. result ≡ Err Read → i.fails ≡ true) }
     ensures proof { IfWhole (R.input source) (λ bytes. IfVerified result (λ report.
-        (c : Certificate) × Spells bytes c × IsBuilt c × IsProof c × Reports c (report_of report))) }
+        (c : Certificate) × SpellsOnly bytes c × IsBuilt c × IsProof c × Reports c (report_of report))) }
     ensures every { IfWhole (R.input source) (λ bytes. (c : Certificate) → Spells bytes c → IsBuilt c → IsProof c
         → IsVerified result (λ report. Reports c (report_of report))) }
     ensures sound { IfWhole (R.input source) (λ bytes. IfVerified result (λ report.
-        (c : Certificate) × Spells bytes c × IsShown c.problem c.solutions c.problem.claim)) }
+        (c : Certificate) × SpellsOnly bytes c × IsShown c.problem c.solutions c.problem.claim)) }
 {
     verdict_on::<R, S>(alloc, source)
 }

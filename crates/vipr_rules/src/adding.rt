@@ -20,7 +20,7 @@ use vipr_items::Named;
 use vipr_linear::{CombError, Combination, Constraint};
 
 /// Adds the entries up in their order, those with the multiplier 0 left out.
-pub fn add_up<S: Rows>(
+pub(crate) fn add_up<S: Rows>(
     alloc: Global,
     given: &[Named<Constraint>],
     rows: &S,

@@ -22,14 +22,14 @@ pub struct Entry {
 
 impl Entry {
     /// The last derivation that may refer to the entry, where there is one.
-    pub fn expiry(&self) -> Option<u32>
+    pub(crate) fn expiry(&self) -> Option<u32>
         ensures { result ≡ expiry_of self.now }
     {
         if self.is_assumption { None } else { self.last }
     }
 
     /// Whether derivation `k` or a later one may refer to the entry.
-    pub fn is_live_before(&self, k: u32) -> bool
+    pub(crate) fn is_live_before(&self, k: u32) -> bool
         ensures { result ≡ live_before k self.now }
     {
         self.is_assumption || self.last.is_none_or(|last| k <= last)

@@ -21,7 +21,7 @@ use vipr_items::Named;
 use vipr_linear::{Combination, Constraint};
 
 /// Tests a derivation by `lin`, and gives the assumptions that it rests on.
-pub fn combine<S: Rows>(
+pub(crate) fn combine<S: Rows>(
     alloc: Global,
     given: &[Named<Constraint>],
     rows: &S,

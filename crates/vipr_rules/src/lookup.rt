@@ -11,14 +11,14 @@ use vipr_items::Named;
 use vipr_linear::Constraint;
 
 /// Whether constraint `index` is live before the next derivation.
-pub fn is_live<S: Rows>(given: &[Named<Constraint>], rows: &S, index: u32) -> bool
+pub(crate) fn is_live<S: Rows>(given: &[Named<Constraint>], rows: &S, index: u32) -> bool
     ensures { (c : Certificate) → StandsBefore c given.now (S.table rows.now) → index < count c → result ≡ live_at c (count c) index }
 {
     (index as usize) < given.len() || rows.get(index).is_some()
 }
 
 /// Constraint `index`, if it is live before the next derivation.
-pub fn constraint<'a, S: Rows>(
+pub(crate) fn constraint<'a, S: Rows>(
     given: &'a [Named<Constraint>],
     rows: &'a S,
     index: u32,
@@ -37,7 +37,7 @@ pub fn constraint<'a, S: Rows>(
 
 /// The assumptions that constraint `index` rests on, if it is derived and live before the next
 /// derivation. A constraint of the problem rests on none.
-pub fn assumptions<'a, S: Rows>(
+pub(crate) fn assumptions<'a, S: Rows>(
     given: &[Named<Constraint>],
     rows: &'a S,
     index: u32,

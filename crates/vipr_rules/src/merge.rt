@@ -7,7 +7,7 @@ use std::alloc::{AllocError, Global};
 
 /// The items of two rising lists, each once, in order. One list is copied where the other adds
 /// nothing to it.
-pub fn join(alloc: Global, xs: &[u32], ys: &[u32]) -> Result<Vec<u32>, AllocError>
+pub(crate) fn join(alloc: Global, xs: &[u32], ys: &[u32]) -> Result<Vec<u32>, AllocError>
     requires left { IsRising xs.now }
     requires right { IsRising ys.now }
     ensures { IfOk result (λ v. IsUnion xs.now ys.now v.items) }
@@ -48,7 +48,7 @@ fn merge(alloc: Global, xs: &[u32], ys: &[u32]) -> Result<Vec<u32>, AllocError>
 }
 
 /// The items other than `index`.
-pub fn all_but(alloc: Global, xs: &[u32], index: u32) -> Result<Vec<u32>, AllocError>
+pub(crate) fn all_but(alloc: Global, xs: &[u32], index: u32) -> Result<Vec<u32>, AllocError>
     ensures { IfOk result (λ v. v.items ≡ filter (λ x. not (nat_eq x index)) xs.now) }
 {
     xs.iter().copied().filter(|x| *x != index).collect(alloc)

@@ -9,13 +9,13 @@ use std::collections::BinaryHeap;
 
 /// Indices in the order of the last derivation that may refer to each.
 #[derive(Drop)]
-pub struct Order {
+pub(crate) struct Order {
     heap: BinaryHeap<Reverse<(u32, u32)>>,
     ghost ordered: { IsHeap due_cmp (heap_items heap) } by { Prim.hlevel props },
 }
 
 impl Order {
-    pub fn new(alloc: Global) -> Self
+    pub(crate) fn new(alloc: Global) -> Self
         ensures { dues result.heap ≡ [] }
     {
         Order {
@@ -24,7 +24,7 @@ impl Order {
     }
 
     /// Makes room for one more.
-    pub fn reserve_one(&mut self) -> Result<(), AllocError>
+    pub(crate) fn reserve_one(&mut self) -> Result<(), AllocError>
         ensures same { dues self.new.heap ≡ dues self.old.heap }
         ensures room { OnOk result (heap_len self.new.heap < heap_capacity self.new.heap) }
     {
@@ -32,7 +32,7 @@ impl Order {
     }
 
     /// Notes when the entry at `index` expires, if it does.
-    pub fn note(&mut self, expiry: Option<u32>, index: u32)
+    pub(crate) fn note(&mut self, expiry: Option<u32>, index: u32)
         requires { heap_len self.old.heap < heap_capacity self.old.heap }
         ensures { Notes expiry index (dues self.old.heap) (dues self.new.heap) }
     {
@@ -42,7 +42,7 @@ impl Order {
     }
 
     /// Takes out an index whose last derivation is at most `now`.
-    pub fn take_due(&mut self, now: u32) -> Option<u32>
+    pub(crate) fn take_due(&mut self, now: u32) -> Option<u32>
         ensures some { IfSome result (λ index. (last : ℕ) × (last ≤ now) × IsPermutation (dues self.old.heap) ((last, index) ∷ dues self.new.heap)) }
         ensures unchanged { IfNone result (dues self.new.heap ≡ dues self.old.heap) }
         ensures none { IfNone result (All (λ d. now < d.0) (dues self.old.heap)) }

@@ -16,14 +16,14 @@ use vipr_items::Named;
 use vipr_linear::Constraint;
 
 /// Whether an entry counts: its multiplier isn't 0.
-pub fn is_used(entry: &(u32, Frac)) -> bool
+pub(crate) fn is_used(entry: &(u32, Frac)) -> bool
     ensures { result ≡ is_nonzero entry.now }
 {
     entry.1.numer() != 0
 }
 
 /// Tests the references of all entries in their order.
-pub fn check_references<S: Rows>(
+pub(crate) fn check_references<S: Rows>(
     given: &[Named<Constraint>],
     rows: &S,
     entries: &[(u32, Frac)],

@@ -19,7 +19,7 @@ use vipr_linear::Constraint;
 
 /// The assumptions that the constraints of the entries rest on, those with the multiplier 0 left
 /// out.
-pub fn unite<S: Rows>(
+pub(crate) fn unite<S: Rows>(
     alloc: Global,
     given: &[Named<Constraint>],
     rows: &S,
