@@ -1,5 +1,5 @@
 -- Items that keep the limits, as they are tested and as the definitions see them
-use Rattle.std.proofs.Common.{◌≡◌, ◌≢◌, ℕ, ◌+◌, ◌<◌, Bool, List, [], ◌∷◌, map, length, All}
+use Rattle.std.proofs.Common.{◌≢◌, ℕ, ◌+◌, ◌<◌, Bool, List, [], ◌∷◌, map, All}
 use Rattle.std.specs.Prelude.{◌↔◌, IsTrue}
 use Rattle.std.proofs.lemmas.List.Elements.{All-map, All-nil, All-cons, All-head, All-tail}
 use Rattle.vipr_spec.specs.Fraction.{ℚ, zero_ℚ}

@@ -1,5 +1,5 @@
 -- Problems and certificates are stored as tuples of their parts.
-use Rattle.std.specs.Prelude.{ℕ, List, Option, ◌≡◌, refl, zero, suc, ◌⊎◌, Bool, true, false}
+use Rattle.std.specs.Prelude.{ℕ, List, Option, ◌≡◌, refl, ◌⊎◌, Bool, true, false}
 use Rattle.std.proofs.Common.{inl, inr}
 use Rattle.std.specs.Coded.{Coded, code_by, coded×, coded⊎, coded_ℕ, coded_bool, coded_list, coded_option}
 use Rattle.std.specs.FinMap as map

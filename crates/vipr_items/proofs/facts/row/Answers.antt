@@ -1,6 +1,3 @@
-use Rattle.vipr_spec.specs.Fraction.{zero_ℚ, IsBounded}
-use Rattle.std.proofs.Common.{ℕ, ◌≢◌}
-use Rattle.vipr_spec.specs.Fraction.{ℚ}
 use Rattle.vipr_items.proofs.Within.{nonzero_from}
 use Rattle.vipr_items.proofs.facts.row.Goals as goal
 

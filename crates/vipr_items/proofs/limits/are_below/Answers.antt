@@ -1,6 +1,6 @@
 use Rattle.std.proofs.Common.{rules, ℕ, ◌<◌, subst, All}
 use Rattle.std.specs.Prelude.{◌↔◌, IsTrue}
-use Rattle.vipr_spec.specs.Constraint.{Ints, IsInteger}
+use Rattle.vipr_spec.specs.Constraint.{IsInteger}
 use Rattle.vipr_items.proofs.Within.{members_below}
 use Rattle.vipr_items.proofs.limits.are_below.Goals as goal
 

@@ -1,9 +1,9 @@
-use Rattle.std.proofs.Common.{rules, ◌≡◌, ℕ, ◌+◌, ◌-◌, ◌≤◌, All, map, length, arith, ap, sym, ◌∙◌}
+use Rattle.std.proofs.Common.{rules, ◌≡◌, ◌+◌, ◌-◌, ◌≤◌, All, map, length, arith, ap, sym, ◌∙◌}
 use Rattle.std.proofs.lemmas.List.{length-map}
 use Rattle.vipr_linear.specs.Constraint.{constraint_of}
 use Rattle.vipr_spec.specs.Certificate.{variables}
 use Rattle.vipr_spec.specs.Reading.{most_count}
-use Rattle.vipr_spec.specs.Shape.{SolutionShape, DerivationShape, CertificateShape, RowFits, DerivationFits, CertificateFits, CanWrite}
+use Rattle.vipr_spec.specs.Shape.{SolutionShape, DerivationShape, CertificateShape, RowFits, DerivationFits, CertificateFits}
 use Rattle.vipr_linear.specs.declared.row.Solution.{Solution}
 use Rattle.vipr_items.specs.declared.items.Named.{Named}
 use Rattle.vipr_items.specs.declared.items.Derivation.{Derivation}

@@ -1,8 +1,7 @@
-use Rattle.std.proofs.Common.{◌≡◌, ℕ, length, sym, ap, ◌∙◌, subst}
+use Rattle.std.proofs.Common.{◌≡◌, length, sym, ap, ◌∙◌, subst}
 use Rattle.std.proofs.lemmas.List.{length-map}
 use Rattle.std.specs.Prelude.{◌↔◌, IsTrue}
 use Rattle.vipr_spec.specs.Certificate.{Problem}
-use Rattle.vipr_spec.specs.OnePass.{RefersBack}
 use Rattle.vipr_linear.specs.Constraint.{constraint_of}
 use Rattle.vipr_items.specs.Items.{named_of}
 use Rattle.vipr_items.specs.Earlier.{NameEarlierFrom}

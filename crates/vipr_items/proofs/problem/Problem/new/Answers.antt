@@ -1,9 +1,9 @@
-use Rattle.std.proofs.Common.{rules, ◌≡◌, ℕ, ◌<◌, ◌≤◌, All, map, length}
+use Rattle.std.proofs.Common.{rules, ℕ, ◌<◌, ◌≤◌, All, map, length}
 use Rattle.std.proofs.lemmas.List.{length-map}
 use Rattle.vipr_spec.specs.Constraint.{at, IsInteger, NamesBelow}
 use Rattle.vipr_spec.specs.Tokens.{IsToken}
 use Rattle.vipr_spec.specs.Reading.{most_count}
-use Rattle.vipr_spec.specs.Shape.{ConstraintShape, ProblemShape, RowFits, ConstraintFits, ClaimFits, ProblemFits, CanWriteProblem}
+use Rattle.vipr_spec.specs.Shape.{ConstraintShape, ProblemShape, RowFits, ConstraintFits, ClaimFits, ProblemFits}
 use Rattle.vipr_linear.specs.Constraint.{constraint_of}
 use Rattle.vipr_linear.specs.declared.constraint.Constraint.{Constraint}
 use Rattle.vipr_items.specs.declared.items.Named.{Named}
