@@ -1,4 +1,4 @@
-//! Certificates as text: tokens, what a certificate is made of, and its readers.
+//! Certificates as text: tokens, what a certificate is made of, its readers and its writer.
 #![tactic(auto)]
 
 mod bytes;
@@ -26,4 +26,5 @@ pub use tokens::{Token, Tokens};
 pub use vipr_items::{
     BadShape, Certificate, Claim, Derivation, Goal, Name, Named, Problem, Reason,
 };
+pub use vipr_writer::{WriteError, write_certificate};
 pub use whole::read_certificate;
