@@ -28,7 +28,9 @@ use Rattle.vipr_check.proofs.Failures.{failed_read}
 use Rattle.vipr_check.specs.View.{report_of, answer_of, Says, IfVerified, IsVerified}
 use Rattle.vipr_check.specs.Refused.{text_failed, step_failed}
 use Rattle.vipr_check.specs.Taking.{FailsNext}
-use Rattle.vipr_check.specs.Texts.{rest_of, IfTold, IfWhole, SpellsOnly}
+use Rattle.vipr_text.specs.Whole.{rest_of, IfTold, IfWhole}
+use Rattle.vipr_canonical.specs.Laws.{SpellsOnly}
+use Rattle.vipr_text.proofs.WholeTexts.{whole_is}
 
 pub Says-by : (P Q : Answer → Type 0) (r : Result Verdict Fault) → ((a : Answer) → P a → Q a) → Says P r → Says Q r
 Says-by P Q (Ok v) k h = k (answer_of v) h
@@ -87,14 +89,11 @@ only_says r x h a k = Says-by (IsAnswer r) (λ b. b ≡ a) x (λ b g. one_answer
 pub read_says : (r : Rest) (x : Result Verdict Fault) → Says (IsAnswer r) x → x ≡ Err Read → r.fails ≡ true
 read_says r x h e = failed_read r (subst (Says (IsAnswer r)) e h)
 
-whole_is : (i : Input) → i.fails ≡ false → rest_of i ≡ whole_text i.bytes
-whole_is i e = ap (λ b. rest_of (record { bytes = i.bytes; fails = b })) e
-
 abbrev IsProofOf : List ℕ → Report → Type 0
 IsProofOf bytes report = (c : Certificate) × SpellsOnly bytes c × IsBuilt c × IsProof c × Reports c (report_of report)
 
 the_proof : (bytes : List ℕ) (report : Report) → ((c : Certificate) × Spells bytes c × IsBuilt c × IsProof c × Reports c (report_of report)) → IsProofOf bytes report
-the_proof bytes report p = (p.0, (p.1, λ other s. one_certificate bytes other p.0 s p.1), p.2, p.3, p.4)
+the_proof bytes report p = (p.0, record { this = p.1; no_other = λ other s. one_certificate bytes other p.0 s p.1 }, p.2, p.3, p.4)
 
 pub proof_says : (i : Input) (x : Result Verdict Fault) → Says (IsAnswer (rest_of i)) x → i.fails ≡ false → IfVerified x (IsProofOf i.bytes)
 proof_says i (Ok (Verified r)) h e = the_proof i.bytes r ((verified_text i.bytes (report_of r)).0 (subst (λ s. IsAnswer s (verified (report_of r))) (whole_is i e) h))
@@ -121,13 +120,3 @@ every_read r c (Err Memory) e b p h = tt
 
 pub every_says : (i : Input) (x : Result Verdict Fault) → Says (IsAnswer (rest_of i)) x → i.fails ≡ false → (c : Certificate) → Spells i.bytes c → IsBuilt c → IsProof c → IsVerified x (λ report. Reports c (report_of report))
 every_says i x h e c s b p = every_read (whole_text i.bytes) c x ((reads_texts i.bytes c).1 s) b p (subst (λ r. Says (IsAnswer r) x) (whole_is i e) h)
-
--- ---- what the source tells
-
-pub IfTold-by : (o : Option Input) (P Q : Input → Type 0) → ((i : Input) → P i → Q i) → IfTold o P → IfTold o Q
-IfTold-by None P Q k h = tt
-IfTold-by (Some i) P Q k h = λ short. k i (h short)
-
-pub IfWhole-by : (o : Option Input) (P : Input → Type 0) (Q : List ℕ → Type 0) → ((i : Input) → P i → i.fails ≡ false → Q i.bytes) → IfTold o P → IfWhole o Q
-IfWhole-by None P Q k h = tt
-IfWhole-by (Some i) P Q k h = λ short whole. k i (h short) whole

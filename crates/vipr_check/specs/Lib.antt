@@ -3,4 +3,3 @@ pub mod Goal
 pub mod Refused
 pub mod State
 pub mod Taking
-pub mod Texts

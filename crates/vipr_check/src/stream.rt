@@ -11,7 +11,7 @@ ghost use Rattle.vipr_text.specs.Readers.{Items, Knows};
 ghost use Rattle.vipr_check.specs.View.{Says};
 ghost use Rattle.vipr_check.specs.State.{Describes, HasRoom, IsAt, HasReached};
 ghost use Rattle.vipr_check.specs.Taking.{IsTaken, Goes};
-ghost use Rattle.vipr_check.specs.Texts.{rest_of, IfTold};
+ghost use Rattle.vipr_text.specs.Whole.{rest_of, IfTold};
 
 use crate::causes;
 use crate::checker::Checker;

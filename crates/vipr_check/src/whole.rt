@@ -8,7 +8,8 @@ ghost use Rattle.vipr_spec.specs.Verdict.{Answer, Reports, IsAnswer};
 ghost use Rattle.vipr_spec.specs.Progress.{IsBuilt};
 ghost use Rattle.vipr_check.specs.declared.verdict.Fault.TheVariants.{Read};
 ghost use Rattle.vipr_check.specs.View.{report_of, Says, IfVerified, IsVerified};
-ghost use Rattle.vipr_check.specs.Texts.{rest_of, IfTold, IfWhole, SpellsOnly};
+ghost use Rattle.vipr_text.specs.Whole.{rest_of, IfTold, IfWhole};
+ghost use Rattle.vipr_canonical.specs.Laws.{SpellsOnly};
 
 use crate::stream::verdict_on;
 use crate::verdict::{Fault, Verdict};

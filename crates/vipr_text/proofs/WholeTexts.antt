@@ -19,7 +19,7 @@ pub IfWhole-by : (o : Option Input) (P : Input → Type 0) (Q : List ℕ → Typ
 IfWhole-by None P Q k h = tt
 IfWhole-by (Some i) P Q k h = λ short whole. k i (h short) whole
 
-whole_is : (i : Input) → i.fails ≡ false → rest_of i ≡ whole_text i.bytes
+pub whole_is : (i : Input) → i.fails ≡ false → rest_of i ≡ whole_text i.bytes
 whole_is i e = ap (λ b. rest_of (record { bytes = i.bytes; fails = b })) e
 
 -- what was read is spelled

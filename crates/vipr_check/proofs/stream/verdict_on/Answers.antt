@@ -3,8 +3,8 @@ use Rattle.vipr_spec.specs.Reading.{problem_read}
 use Rattle.vipr_spec.specs.Verdict.{IsAnswer}
 use Rattle.vipr_text.specs.Giving.{Fails}
 use Rattle.vipr_check.specs.View.{Says}
-use Rattle.vipr_check.specs.Texts.{rest_of}
-use Rattle.vipr_check.proofs.Answering.{IfTold-by}
+use Rattle.vipr_text.specs.Whole.{rest_of}
+use Rattle.vipr_text.proofs.WholeTexts.{IfTold-by}
 use Rattle.vipr_check.proofs.StreamLemmas.{problem_failed}
 use Rattle.vipr_check.proofs.stream.verdict_on.Goals as goal
 

@@ -1,7 +1,8 @@
 use Rattle.vipr_spec.specs.Verdict.{IsAnswer}
 use Rattle.vipr_check.specs.View.{Says}
-use Rattle.vipr_check.specs.Texts.{rest_of}
-use Rattle.vipr_check.proofs.Answering.{IfTold-by, IfWhole-by, only_says, read_says, proof_says, every_says, sound_says}
+use Rattle.vipr_text.specs.Whole.{rest_of}
+use Rattle.vipr_text.proofs.WholeTexts.{IfTold-by, IfWhole-by}
+use Rattle.vipr_check.proofs.Answering.{only_says, read_says, proof_says, every_says, sound_says}
 use Rattle.vipr_check.proofs.whole.check_with.Goals as goal
 
 pub returns-clause-only : goal.returns-clause-only
