@@ -14,7 +14,7 @@ use Rattle.clap.specs.declared.parser.matches.ArgMatches.TheViews.{out-ArgMatche
 use Rattle.vipr.specs.Line.{asked, asked_by, line, name_of}
 use Rattle.vipr.specs.declared.task.Job.{Job}
 use Rattle.vipr.specs.declared.task.Task.{Task}
-use Rattle.vipr.specs.declared.task.Task.TheVariants.{Check}
+use Rattle.vipr.specs.declared.task.Task.TheVariants.{Check, Show}
 
 pub is_simple_line : is_simple line ≡ true
 unfolding line
@@ -90,7 +90,8 @@ stop_named (Some p) q h = named_in (built line).subs p q h
 one_of : (name : Text) → IsNamed (built line).subs name → ((t : Task) → name_of t ≡ name → ⊥) → ⊥
 unfolding line
 one_of name (inl h) none = none Check h
-one_of name (inr h) none = h
+one_of name (inr (inl h)) none = none Show h
+one_of name (inr (inr h)) none = h
 
 -- a subcommand that was entered is one of the tasks
 pub never_other : (words : List Text) (q : Text × List Row) → subcommand_of line words ≡ Some q → ((t : Task) → name_of t ≡ q.0 → ⊥) → ⊥

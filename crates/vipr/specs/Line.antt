@@ -4,7 +4,7 @@ use Rattle.clap.specs.Words.{App, Rule, Text, first_of, new_app, new_rule, subco
 use Rattle.clap.specs.Words.{with_rule, with_subcommand}
 use Rattle.vipr.specs.declared.task.Job.{Job}
 use Rattle.vipr.specs.declared.task.Task.{Task}
-use Rattle.vipr.specs.declared.task.Task.TheVariants.{Check}
+use Rattle.vipr.specs.declared.task.Task.TheVariants.{Check, Show}
 
 -- `[FILE]`
 abbrev pub file_rule : Rule
@@ -12,6 +12,7 @@ file_rule = record (new_rule (codes "file")) { value_names = 1 }
 
 abbrev pub name_of : Task → Text
 name_of Check = codes "check"
+name_of Show = codes "show"
 
 -- a subcommand with `[FILE]`
 abbrev pub with_file : Task → App
@@ -27,7 +28,7 @@ bare = record (new_app (codes "vipr")) {
 }
 
 unfoldable pub line : App
-line = with_subcommand bare (with_file Check).top
+line = with_subcommand (with_subcommand bare (with_file Check).top) (with_file Show).top
 
 -- a subcommand's name, and the first value of FILE
 abbrev pub Request : Type 0

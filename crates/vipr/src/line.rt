@@ -38,6 +38,7 @@ fn task_named(name: &str) -> Option<Task>
 {
     match name {
         "check" => Some(Task::Check),
+        "show" => Some(Task::Show),
         _ => None,
     }
 }
@@ -51,11 +52,13 @@ fn command_line<'a>(alloc: Global) -> Result<Command<'a>, AllocError>
         "check",
         "Checks a certificate and prints the verdict",
     )?;
+    let show = on_file(alloc, "show", "Writes a certificate's canonical text")?;
     Command::new(alloc, "vipr")
         .about("Checks VIPR 1.0 certificates")
         .subcommand_required(true)
         .disable_help_subcommand(true)
-        .subcommand(check)
+        .subcommand(check)?
+        .subcommand(show)
 }
 
 /// A subcommand that reads FILE.

@@ -1,9 +1,11 @@
 //! Checks VIPR 1.0 certificates.
 #![tactic(auto)]
 
+mod fault;
 mod line;
 mod output;
 mod program;
+mod show;
 mod task;
 #[cfg(test)]
 mod tests;

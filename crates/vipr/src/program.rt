@@ -2,10 +2,12 @@
 ghost use Rattle.std.specs.Prelude.{◌≡◌, ◌≢◌, ◌≤◌, IfOk, false, map};
 ghost use Rattle.clap.specs.Words.{kind_of, takes};
 ghost use Rattle.vipr.specs.Line.{line};
-ghost use Rattle.vipr.specs.Program.{status_for};
+ghost use Rattle.vipr.specs.Program.{shown_status, status_for};
 
+use crate::fault::Fault;
 use crate::line::job;
 use crate::output::Counted;
+use crate::show::{Shown, show};
 use crate::task::{Job, Task};
 use crate::verdict::Lines;
 use clap::Error;
@@ -15,36 +17,14 @@ use std::fmt::Display;
 use std::fs::File;
 use std::io::{Read, Write};
 use std::rt::Files;
-use vipr_bytes::FromRead;
+use vipr_bytes::{FromRead, FromWrite};
 use vipr_check::{Verdict, check};
 
-/// Why a command was cut short.
-#[derive(Clone, Copy, Debug, PartialEq, Eq)]
-enum Fault {
-    Read,
-    Memory,
-    /// The output refused more bytes than these.
-    Write { taken: u64 },
-}
-
-impl From<vipr_check::Fault> for Fault {
-    ghost use Rattle.std.specs.Prelude.{◌≡◌};
-    ghost use Rattle.vipr.specs.Program.{fault_for};
-
-    ghost from_gives = { λ fault told. told ≡ fault_for fault };
-
-    fn from(fault: vipr_check::Fault) -> Fault {
-        match fault {
-            vipr_check::Fault::Read => Fault::Read,
-            vipr_check::Fault::Memory => Fault::Memory,
-        }
-    }
-}
-
 /// Does what the words ask for, the program's name first, and answers the exit status: 0 where the certificate is
-/// verified or help was asked for, 1 where it is refused, 2 for words that aren't taken, 3 for a fault.
+/// verified or shown, or help was asked for, 1 where it is refused, 2 for words that aren't taken, 3 for a fault.
 ///
-/// A verdict and help go to `out`; what is wrong with the words, and a fault, to `err`.
+/// A verdict, a certificate and help go to `out`; what is wrong with the words, a fault, and the refusal of a
+/// certificate that was to be shown, to `err`.
 pub fn run<H: AllocGlobal + Files, R: Read + Drop, O: Write, E: Write>(
     rt: &H,
     words: &[&str],
@@ -83,7 +63,7 @@ fn obey<H: AllocGlobal + Files, R: Read + Drop, O: Write, E: Write>(
     ensures usage { IfOk result (λ s. s ≡ 2 → takes line (map (λ w. w.now) words.now) ≡ false) }
 {
     match job(rt.alloc(), words) {
-        Ok(job) => do_job(rt, &job, input, out),
+        Ok(job) => do_job(rt, &job, input, out, err),
         Err(error) => answer(&error, out, err),
     }
 }
@@ -104,28 +84,30 @@ fn answer<O: Write, E: Write>(error: &Error, out: &mut O, err: &mut E) -> Result
     Ok(0)
 }
 
-fn do_job<H: AllocGlobal + Files, R: Read + Drop, O: Write>(
+fn do_job<H: AllocGlobal + Files, R: Read + Drop, O: Write, E: Write>(
     rt: &H,
     job: &Job<'_>,
     input: R,
     out: &mut O,
+    err: &mut E,
 ) -> Result<u8, Fault>
     ensures { IfOk result (λ s. s ≤ 1) }
 {
     match job.file {
-        None => do_task(rt.alloc(), job.command, input, out),
+        None => do_task(rt.alloc(), job.command, input, out, err),
         Some(path) => match File::open(rt, path) {
-            Ok(file) => do_task(rt.alloc(), job.command, file, out),
+            Ok(file) => do_task(rt.alloc(), job.command, file, out, err),
             Err(_) => Err(Fault::Read),
         },
     }
 }
 
-fn do_task<R: Read + Drop, O: Write>(
+fn do_task<R: Read + Drop, O: Write, E: Write>(
     alloc: Global,
     command: Task,
     input: R,
     out: &mut O,
+    err: &mut E,
 ) -> Result<u8, Fault>
     ensures { IfOk result (λ s. s ≤ 1) }
 {
@@ -136,6 +118,10 @@ fn do_task<R: Read + Drop, O: Write>(
             print(&Lines(&verdict), out)?;
             Ok(status_of(&verdict))
         }
+        Task::Show => {
+            let shown = show(alloc, reader, &mut FromWrite::new(out))?;
+            Ok(tell(&shown, err))
+        }
     }
 }
 
@@ -145,6 +131,19 @@ fn status_of(verdict: &Verdict) -> u8
     match verdict {
         Verdict::Verified(_) => 0,
         Verdict::Refused(_) => 1,
+    }
+}
+
+/// Prints a refusal's line, and answers the exit status.
+fn tell<E: Write>(shown: &Shown, err: &mut E) -> u8
+    ensures { result ≡ shown_status shown.now }
+{
+    match shown {
+        Shown::Whole => 0,
+        Shown::Refused(refusal) => {
+            let _ = write!(err, "{}", Lines(&Verdict::Refused(*refusal)));
+            1
+        }
     }
 }
 

@@ -6,6 +6,7 @@ ghost use Rattle.vipr.specs.Line.{name_of};
 #[derive(Clone, Copy, Debug, PartialEq, Eq)]
 pub enum Task {
     Check,
+    Show,
 }
 
 /// A command line that was read: the task, and the file that it names.

@@ -29,7 +29,209 @@ DER 1
 f G 1 0 { lin 2 0 1 1 -1 } -1
 ";
 
+/// Two assumptions that split, and both lead to `0 >= 1`.
+const BOTH_BRANCHES: &str = "VER 1.0
+VAR 1
+x
+INT 1
+0
+OBJ min
+0
+CON 2 0
+a G 1 1 0 2
+b L 1 1 0 2
+RTP infeas
+SOL 0
+DER 5
+c L 0 1 0 1 { asm } 6
+d G 1 1 0 1 { asm } 6
+e G 1 0 { lin 2 0 1 2 -2 } 6
+f G 1 0 { lin 2 3 2 1 -1 } 6
+g G 1 0 { uns 4 2 5 3 } -1
+";
+
+/// The same with an unused assumption, and with every constraint kept.
+const ALL_KEPT: &str = "VER 1.0
+VAR 1
+x
+INT 1
+0
+OBJ min
+0
+CON 2 0
+a G 1 1 0 2
+b L 1 1 0 2
+RTP infeas
+SOL 0
+DER 6
+z L 5 1 0 1 { asm } -1
+c L 0 1 0 1 { asm } -1
+d G 1 1 0 1 { asm } -1
+e G 1 0 { lin 2 0 1 3 -2 } -1
+f G 1 0 { lin 2 4 2 1 -1 } -1
+g G 1 0 { uns 5 3 6 4 } -1
+";
+
+const ROUNDED_UP: &str = "VER 1.0
+VAR 1
+x
+INT 1
+0
+OBJ min
+1 0 1
+CON 1 0
+a G 1/2 1 0 1
+RTP range 1 1
+SOL 1
+s 1 0 1
+DER 1
+d G 1 1 0 1 { rnd 1 0 1 } -1
+";
+
+const ROUNDED_DOWN: &str = "VER 1.0
+VAR 1
+x
+INT 1
+0
+OBJ max
+1 0 1
+CON 1 0
+a L 5/2 1 0 1
+RTP range 2 2
+SOL 1
+s 1 0 2
+DER 1
+d L 2 1 0 1 { rnd 1 0 1 } -1
+";
+
+const NOT_WHOLE: &str = "VER 1.0
+VAR 1
+x
+INT 1
+0
+OBJ min
+0
+CON 1 0
+a E 1 1 0 2
+RTP infeas
+SOL 0
+DER 1
+f G 1 0 { rnd 1 0 1/2 } -1
+";
+
+/// `0 >= 1`, without variables.
+const NO_VARIABLES: &str = "VER 1.0
+VAR 0
+INT 0
+OBJ min
+0
+CON 1 0
+a G 1 0
+RTP infeas
+SOL 0
+DER 0
+";
+
+const NO_BOUNDS: &str = "VER 1.0
+VAR 1
+x
+INT 0
+OBJ min
+1 0 1
+CON 0 0
+RTP range -inf inf
+SOL 0
+DER 0
+";
+
+/// A claim that there is no solution, beside one.
+const SOLVED: &str = "VER 1.0
+VAR 1
+x
+INT 0
+OBJ min
+1 0 1
+CON 1 0
+a G 3 1 0 1
+RTP infeas
+SOL 1
+s 1 0 3
+DER 1
+c L 3 1 0 1 { sol } -1
+";
+
+/// The coefficient 2^126 with the multiplier 2.
+const PAST_THE_LIMIT: &str = "VER 1.0
+VAR 1
+x
+INT 0
+OBJ min
+0
+CON 1 0
+a G 0 1 0 85070591730234615865843651857942052864
+RTP infeas
+SOL 0
+DER 1
+f G 1 0 { lin 1 0 2 } -1
+";
+
+/// A cutoff that isn't needed, and an entry with multiplier 0.
+const CUT_OFF: &str = "VER 1.0
+VAR 1
+x
+INT 1
+0
+OBJ min
+1 0 1
+CON 1 0
+a G 5 1 0 2
+RTP range 3 3
+SOL 1
+s 1 0 3
+DER 2
+c L 3 1 0 1 { sol } -1
+g G 3 1 0 1 { rnd 2 0 1/2 1 0 } -1
+";
+
+/// Much of the freedom in spelling.
+const LENIENT: &str =
+    "%a VER\r\n  %b\n VER\t1.0\r\nVAR\t1\r\nx\r\nINT 2\r\n0 00\r\nOBJ max\r\n1 0 2/4\r\nCON 2 1\r\na L +5 OBJ\r\nb G -0/7 1 0 0\r\nRTP range -inf inf\r\nSOL 0\r\nDER 0";
+
+/// The canonical text of the same certificate.
+const LENIENT_SHOWN: &str = "VER 1.0
+VAR 1
+x
+INT 1
+0
+OBJ max
+1 0 1/2
+CON 2 1
+a L 5 1 0 1/2
+b G 0 0
+RTP range -inf inf
+SOL 0
+DER 0
+";
+
+/// Texts that are canonical, of certificates that are proofs and of others.
+const CANONICAL: [&str; 12] = [
+    INFEASIBLE,
+    BOTH_BRANCHES,
+    ALL_KEPT,
+    ROUNDED_UP,
+    ROUNDED_DOWN,
+    NOT_WHOLE,
+    NO_VARIABLES,
+    NO_BOUNDS,
+    SOLVED,
+    PAST_THE_LIMIT,
+    LENIENT_SHOWN,
+    CUT_OFF,
+];
+
 const CHECK: [&str; 2] = ["vipr", "check"];
+
+const SHOW: [&str; 2] = ["vipr", "show"];
 
 /// 2^127.
 const TOO_LARGE: &str = "170141183460469231731687303715884105728";
@@ -60,22 +262,23 @@ impl Read for Pieces<'_> {
     }
 }
 
-/// A writer that takes `room` bytes, one a call.
+/// A writer that takes `room` bytes, one a call, and then fails or takes none.
 #[derive(Drop)]
-struct Narrow {
-    room: u64,
+struct Narrow<'a> {
+    taken: &'a mut Vec<u8>,
+    room: usize,
+    fails: bool,
 }
 
-impl Write for Narrow {
+impl Write for Narrow<'_> {
     fn write(&mut self, buf: &[u8]) -> io::Result<usize> {
-        if self.room == 0 {
+        if self.room == 0 && self.fails {
             return Err(io::Error::from(io::ErrorKind::StorageFull));
         }
-        if buf.is_empty() {
-            return Ok(0);
-        }
-        self.room -= 1;
-        Ok(1)
+        let count = buf.len().min(self.room).min(1);
+        self.taken.extend_from_slice(&buf[..count])?;
+        self.room -= count;
+        Ok(count)
     }
 
     fn flush(&mut self) -> io::Result<()> {
@@ -147,46 +350,56 @@ const TEXTS: [(&str, &str); 10] = [
     ("VER 1.1", "refused 3 at byte 4\n"),
     ("VER 1.0\nVAR 4294967295\n", "refused 1 at byte 23\n"),
     ("VER 1.0\nVAR 4294967296\n", "refused 8 at byte 12\n"),
-    // 0 >= 1, without variables
     (
-        "VER 1.0\nVAR 0\nINT 0\nOBJ min\n0\nCON 1 0\na G 1 0\nRTP infeas\nSOL 0\nDER 0\n",
+        NO_VARIABLES,
         "verified infeas\nsolutions 0 derived 0 peak 0\n",
     ),
-    // the coefficient 2^126 with the multiplier 2
-    (
-        "VER 1.0\nVAR 1\nx\nINT 0\nOBJ min\n0\nCON 1 0\na G 0 1 0 85070591730234615865843651857942052864\nRTP infeas\nSOL 0\nDER 1\nf G 1 0 { lin 1 0 2 } -1\n",
-        "refused 35 at DER 1\n",
-    ),
+    (PAST_THE_LIMIT, "refused 35 at DER 1\n"),
     // what isn't built is refused where it begins, after the text of its item
-    (
-        "VER 1.0\nVAR 1\nx\nINT 0\nOBJ min\n1 0 1\nCON 0 0\nRTP range -inf inf\nSOL 0\nDER 0\n",
-        "refused 60 at end\n",
-    ),
-    (
-        "VER 1.0\nVAR 1\nx\nINT 0\nOBJ min\n1 0 1\nCON 1 0\na G 3 1 0 1\nRTP infeas\nSOL 1\ns 1 0 3\nDER 1\nc L 3 1 0 1 { sol } -1\n",
-        "refused 60 at SOL 0\n",
-    ),
-    (
-        "VER 1.0\nVAR 1\nx\nINT 1\n0\nOBJ min\n0\nCON 1 0\na E 1 1 0 2\nRTP infeas\nSOL 0\nDER 1\nf G 1 0 { rnd 1 0 1/2 } -1\n",
-        "refused 60 at DER 1\n",
-    ),
+    (NO_BOUNDS, "refused 60 at end\n"),
+    (SOLVED, "refused 60 at SOL 0\n"),
+    (NOT_WHOLE, "refused 60 at DER 1\n"),
 ];
 
-/// A certificate's text, what `check` prints of it, and the exit status.
+/// A command, a certificate's text, what is printed of it on both outputs, and the exit status.
 #[derive(Drop)]
 struct Row {
+    command: Task,
     text: String,
-    printed: &'static str,
+    printed: String,
+    complained: &'static str,
     status: u8,
 }
 
 impl Row {
-    fn new(text: String, printed: &'static str) -> Row {
+    fn checked(alloc: Global, text: String, printed: &str) -> Result<Row, Fail> {
         let status = if printed.starts_with("refused") { 1 } else { 0 };
-        Row {
+        Ok(Row {
+            command: Task::Check,
             text,
-            printed,
+            printed: format!(in alloc; "{printed}")?,
+            complained: "",
             status,
+        })
+    }
+
+    fn shown(alloc: Global, text: &str, printed: &str) -> Result<Row, Fail> {
+        Ok(Row {
+            command: Task::Show,
+            text: format!(in alloc; "{text}")?,
+            printed: format!(in alloc; "{printed}")?,
+            complained: "",
+            status: 0,
+        })
+    }
+
+    fn not_shown(alloc: Global, text: String, complained: &'static str) -> Row {
+        Row {
+            command: Task::Show,
+            text,
+            printed: String::new(alloc),
+            complained,
+            status: 1,
         }
     }
 }
@@ -202,11 +415,23 @@ fn edited(alloc: Global, at: usize, old: &str, new: &str) -> Result<String, Fail
 fn short_rows(alloc: Global) -> Result<Vec<Row>, Fail> {
     let mut rows = Vec::new(alloc);
     for (at, old, new, printed) in EDITS {
-        rows.push(Row::new(edited(alloc, at, old, new)?, printed))?;
+        let text = edited(alloc, at, old, new)?;
+        rows.push(Row::checked(alloc, text, printed)?)?;
     }
     for (text, printed) in TEXTS {
-        rows.push(Row::new(format!(in alloc; "{text}")?, printed))?;
+        let text = format!(in alloc; "{text}")?;
+        rows.push(Row::checked(alloc, text, printed)?)?;
     }
+    for text in CANONICAL {
+        rows.push(Row::shown(alloc, text, text)?)?;
+    }
+    rows.push(Row::shown(alloc, LENIENT, LENIENT_SHOWN)?)?;
+    // a last reference that comes before the derivation that refers
+    let (front, behind) = BOTH_BRANCHES.split_once("} 6\nf").ok_or("other")?;
+    let early = format!(in alloc; "{front}}} 5\nf{behind}")?;
+    rows.push(Row::shown(alloc, early.as_str(), early.as_str())?)?;
+    let cut = edited(alloc, 108, " -1 } -1\n", "")?;
+    rows.push(Row::not_shown(alloc, cut, "refused 1 at byte 108\n"))?;
     Ok(rows)
 }
 
@@ -215,15 +440,26 @@ fn long_rows(alloc: Global) -> Result<Vec<Row>, Fail> {
     let mut rows = Vec::new(alloc);
     for (len, printed) in [(65535, VERIFIED), (65536, "refused 17 at byte 14\n")] {
         let name = "x".repeat(alloc, len)?;
-        rows.push(Row::new(edited(alloc, 14, "x", name.as_str())?, printed))?;
+        let text = edited(alloc, 14, "x", name.as_str())?;
+        rows.push(Row::checked(alloc, text, printed)?)?;
     }
     let comment = "c".repeat(alloc, 200000)?;
     for (new, printed) in [("1", VERIFIED), (TOO_LARGE, "refused 5 at byte 200052\n")] {
         let behind = edited(alloc, 50, "1", new)?;
         let text = format!(in alloc; "%{comment}\n{behind}")?;
-        rows.push(Row::new(text, printed))?;
+        rows.push(Row::checked(alloc, text, printed)?)?;
     }
     Ok(rows)
+}
+
+/// Checks what a row's command answers.
+fn answers<H: Abort + AllocGlobal + Files, R: Read + Drop>(rt: &H, row: &Row, input: R) {
+    let words = match row.command {
+        Task::Check => CHECK,
+        Task::Show => SHOW,
+    };
+    let printed = row.printed.as_str();
+    prints(rt, &words, input, row.status, printed, row.complained);
 }
 
 /// Checks what is answered where a text comes in equal pieces.
@@ -235,7 +471,7 @@ fn answers_in_pieces<H: Abort + AllocGlobal + Files>(rt: &H, row: &Row) {
             later: piece,
             reads: u64::MAX,
         };
-        prints(rt, &CHECK, input, row.status, row.printed, "");
+        answers(rt, row, input);
     }
 }
 
@@ -257,7 +493,7 @@ fn answers_cut<H: Abort + AllocGlobal + Files>(rt: &H, row: &Row) {
                 later: usize::MAX,
                 reads: u64::MAX,
             };
-            prints(rt, &CHECK, input, row.status, row.printed, "");
+            answers(rt, row, input);
         }
     }
 }
@@ -286,11 +522,14 @@ fn reads_fail(rt: HostRuntime) -> Result<(), Fail> {
     let alloc = rt.alloc();
     let behind = INFEASIBLE.strip_prefix("VER 1.0\nVAR").ok_or("other")?;
     let misspelled = format!(in alloc; "VER 1.0\nVAX{behind}")?;
+    let refused = "refused 2 at byte 8\n";
     let rows = [
-        (INFEASIBLE, 118, 0, VERIFIED),
-        (misspelled.as_str(), 12, 1, "refused 2 at byte 8\n"),
+        (CHECK, INFEASIBLE, 118, 0, VERIFIED, ""),
+        (CHECK, misspelled.as_str(), 12, 1, refused, ""),
+        (SHOW, INFEASIBLE, 118, 0, INFEASIBLE, ""),
+        (SHOW, misspelled.as_str(), 12, 1, "", refused),
     ];
-    for (text, enough, status, wanted) in rows {
+    for (words, text, enough, status, printed, complained) in rows {
         for reads in 0..=text.len() as u64 + 1 {
             let input = Pieces {
                 left: text.as_bytes(),
@@ -299,28 +538,63 @@ fn reads_fail(rt: HostRuntime) -> Result<(), Fail> {
                 reads,
             };
             if reads < enough {
-                prints(&rt, &CHECK, input, 3, "", "fault read\n");
+                prints(&rt, &words, input, 3, "", "fault read\n");
             } else {
-                prints(&rt, &CHECK, input, status, wanted, "");
+                prints(&rt, &words, input, status, printed, complained);
             }
         }
     }
     Ok(())
 }
 
+/// Checks what is written where the output takes one byte a call, and then no more.
+fn writes_so_far<H: Abort + AllocGlobal + Files>(
+    rt: &H,
+    words: &[&str],
+    whole: &[u8],
+    room: usize,
+    fails: bool,
+) -> Result<(), Fail> {
+    let mut taken = Vec::new(rt.alloc());
+    let mut err = Vec::new(rt.alloc());
+    let mut out = Narrow {
+        taken: &mut taken,
+        room,
+        fails,
+    };
+    let status = run(rt, words, INFEASIBLE.as_bytes(), &mut out, &mut err);
+    let wanted = if room < whole.len() {
+        format!(in rt.alloc(); "fault write after {room}\n")?
+    } else {
+        String::new(rt.alloc())
+    };
+    assert_eq!(rt; text_of(err.as_slice()), wanted.as_str());
+    assert_eq!(rt; taken.as_slice(), &whole[..room.min(whole.len())]);
+    assert_eq!(rt; status, if room < whole.len() { 3 } else { 0 });
+    Ok(())
+}
+
 #[test]
 fn writes_fail(rt: HostRuntime) -> Result<(), Fail> {
-    for (words, most) in [(CHECK, VERIFIED.len() as u64), (["vipr", "--help"], 20)] {
-        for room in 0..most {
-            let mut err = Vec::new(rt.alloc());
-            let mut out = Narrow { room };
-            let status = run(&rt, &words, INFEASIBLE.as_bytes(), &mut out, &mut err);
-            let wanted = format!(in rt.alloc(); "fault write after {room}\n")?;
-            assert_eq!(rt; text_of(err.as_slice()), wanted.as_str());
-            assert_eq!(rt; status, 3);
+    for words in [CHECK, SHOW, ["vipr", "--help"]] {
+        let mut whole = Vec::new(rt.alloc());
+        let mut err = Vec::new(rt.alloc());
+        let status = run(&rt, &words, INFEASIBLE.as_bytes(), &mut whole, &mut err);
+        assert_eq!(rt; status, 0);
+        for room in 0..whole.len() + 1 {
+            for fails in [false, true] {
+                writes_so_far(&rt, &words, whole.as_slice(), room, fails)?;
+            }
         }
     }
     Ok(())
+}
+
+fn words_on(command: Task, file: &str) -> [&str; 3] {
+    match command {
+        Task::Check => ["vipr", "check", file],
+        Task::Show => ["vipr", "show", file],
+    }
 }
 
 /// The same texts from files; a file that isn't there, or is a folder, can't be read.
@@ -330,17 +604,21 @@ fn answers_files(rt: HostRuntime) -> Result<(), Fail> {
     let folder = env::temp_dir(&rt)?;
     let id = process::id(rt.process());
     let path = format!(in alloc; "{}/vipr-{id}", folder.as_path().display())?;
-    let words = ["vipr", "check", path.as_str()];
     for rows in [short_rows(alloc)?, long_rows(alloc)?] {
         for row in rows {
             fs::write(&rt, path.as_str(), row.text.as_str())?;
-            prints(&rt, &words, "other".as_bytes(), row.status, row.printed, "");
+            let words = words_on(row.command, path.as_str());
+            let printed = row.printed.as_str();
+            let input = "other".as_bytes();
+            prints(&rt, &words, input, row.status, printed, row.complained);
         }
     }
     fs::remove_file(&rt, path.as_str())?;
-    for path in [path.as_str(), "/"] {
-        let words = ["vipr", "check", path];
-        prints(&rt, &words, INFEASIBLE.as_bytes(), 3, "", "fault read\n");
+    for command in [Task::Check, Task::Show] {
+        for path in [path.as_str(), "/"] {
+            let words = words_on(command, path);
+            prints(&rt, &words, INFEASIBLE.as_bytes(), 3, "", "fault read\n");
+        }
     }
     Ok(())
 }
@@ -389,13 +667,18 @@ fn shows_verdicts(rt: HostRuntime) -> Result<(), Fail> {
 
 #[test]
 fn reads_command_lines(rt: HostRuntime) -> Result<(), Fail> {
-    let words = ["vipr", "check", "a.vipr"];
-    let wanted = Job {
-        command: Task::Check,
-        file: Some("a.vipr"),
-    };
-    let read = job(rt.alloc(), &words)?;
-    assert!(rt; read == wanted);
+    let taken = [
+        (
+            ["vipr", "check", "a.vipr"].as_slice(),
+            Task::Check,
+            Some("a.vipr"),
+        ),
+        (SHOW.as_slice(), Task::Show, None),
+    ];
+    for (words, command, file) in taken {
+        let read = job(rt.alloc(), words)?;
+        assert!(rt; read == Job { command, file });
+    }
     let lines = [
         (["vipr"].as_slice(), ErrorKind::MissingSubcommand),
         (["vipr", "chek"].as_slice(), ErrorKind::InvalidSubcommand),
@@ -409,7 +692,7 @@ fn reads_command_lines(rt: HostRuntime) -> Result<(), Fail> {
             ErrorKind::UnknownArgument,
         ),
         (["vipr", "--help"].as_slice(), ErrorKind::DisplayHelp),
-        (["vipr", "check", "-h"].as_slice(), ErrorKind::DisplayHelp),
+        (["vipr", "show", "-h"].as_slice(), ErrorKind::DisplayHelp),
     ];
     for (words, wanted) in lines {
         let Err(error) = job(rt.alloc(), words) else {
@@ -429,6 +712,12 @@ fn reads_command_lines(rt: HostRuntime) -> Result<(), Fail> {
         assert!(rt; shown.contains("Usage: vipr"));
         assert!(rt; shown.ends_with("\n"));
         assert_eq!(rt; hidden, "");
+    }
+    let mut help = Vec::new(rt.alloc());
+    let mut err = Vec::new(rt.alloc());
+    let _ = run(&rt, &["vipr", "-h"], "".as_bytes(), &mut help, &mut err);
+    for command in ["check  Checks a certificate", "show   Writes a certificate"] {
+        assert!(rt; text_of(help.as_slice()).contains(command));
     }
     Ok(())
 }

@@ -18,4 +18,5 @@ returns c =
     let bare_is : app_of c.disable_help_subcommand.result ≡ bare = ap app_of_fields c.disable_help_subcommand.ensures
     ∙ ap without_help (ap app_of_fields c.subcommand_required.ensures
     ∙ ap with_required (ap app_of_fields c.about.ensures ∙ c.new.ensures.app)) in
-    IfOk-weaker c.subcommand.result _ _ (λ r h. h.shape c.in_ok-check.ensures.local ∙ ap₂ with_subcommand bare_is (ap (λ (a : App). a.top) c.in_ok-check.ensures.app)) c.subcommand.ensures
+    let checks = c.in_ok-subcommand.ensures.shape c.in_ok-check.ensures.local ∙ ap₂ with_subcommand bare_is (ap (λ (a : App). a.top) c.in_ok-check.ensures.app) in
+    IfOk-weaker c.subcommand-2.result _ _ (λ r h. h.shape c.in_ok-show.ensures.local ∙ ap₂ with_subcommand checks (ap (λ (a : App). a.top) c.in_ok-show.ensures.app)) c.subcommand-2.ensures

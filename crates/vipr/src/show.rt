@@ -1,0 +1,52 @@
+//! Shows a certificate.
+ghost use Rattle.std.specs.Prelude.{IfSome};
+ghost use Rattle.vipr_spec.specs.Reading.{certificate_read};
+ghost use Rattle.vipr_text.specs.Whole.{rest_of, IfTold, IfWhole};
+ghost use Rattle.vipr.specs.Shown.{Shows, any_text, text_of, text_read};
+
+use crate::fault::Fault;
+use std::alloc::Global;
+use vipr_bytes::{Sink, Source};
+use vipr_check::{Place, Refusal};
+use vipr_text::{TextError, read_certificate, write_certificate};
+
+/// What became of a certificate that was to be shown.
+#[derive(Clone, Copy, Debug, PartialEq, Eq)]
+pub enum Shown {
+    /// Its canonical text was written.
+    Whole,
+    /// The text spells none. Nothing was written.
+    Refused(Refusal),
+}
+
+/// Reads a certificate to the end of its text, and then writes its canonical text. What it means isn't tested.
+///
+/// # Errors
+///
+/// Where a read fails and where a growth is refused: nothing was written. Where a write fails.
+pub fn show<R: Source + Drop, W: Sink>(
+    alloc: Global,
+    source: R,
+    writer: &mut W,
+) -> Result<Shown, Fault>
+    // Nothing is written but a certificate's text.
+    ensures written { IfSome (W.output writer.old) (λ o. Shows any_text o (W.output writer.new) result) }
+    // The certificate, or the refusal, is that of the definitions for the bytes that the source gives, in whatever pieces.
+    ensures exact { IfSome (W.output writer.old) (λ o. IfTold (R.input source) (λ i. Shows (text_read (certificate_read (rest_of i))) o (W.output writer.new) result)) }
+    // The certificate is what the text spells, and it is refused where it spells none.
+    ensures spelled { IfSome (W.output writer.old) (λ o. IfWhole (R.input source) (λ bytes. Shows (text_of bytes) o (W.output writer.new) result)) }
+{
+    match read_certificate(alloc, source) {
+        Ok(certificate) => {
+            write_certificate(alloc, &certificate, writer)?;
+            Ok(Shown::Whole)
+        }
+        Err(TextError::Refused { cause, offset }) => Ok(Shown::Refused(Refusal {
+            cause,
+            place: Place::Byte(offset),
+        })),
+        Err(TextError::Read) => Err(Fault::Read),
+        Err(TextError::Memory) => Err(Fault::Memory),
+        Err(TextError::Spent) => unreachable!(),
+    }
+}
