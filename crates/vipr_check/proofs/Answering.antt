@@ -1,5 +1,5 @@
 -- What is answered, step by step
-use Rattle.std.proofs.Common.{◌≡◌, ℕ, true, false, List, Option, Some, None, Result, Ok, Err, refl, sym, ap, subst}
+use Rattle.std.proofs.Common.{◌≡◌, ℕ, true, false, List, Result, Ok, Err, refl, sym, ap, subst}
 use Rattle.vipr_spec.specs.Certificate.{Certificate, Derivation, IsProof, count}
 use Rattle.vipr_spec.specs.Input.{Input}
 use Rattle.vipr_spec.specs.Reading.{Rest, Fault as ReadFault, refused, unread, certificate_read}
@@ -9,8 +9,8 @@ use Rattle.vipr_spec.specs.Soundness.{IsShown}
 use Rattle.vipr_spec.specs.Verdict.{StepTest, earlier, live, assumed, suitable, fitting, roundable, split, listed, by_sum, by_rounding, by_constraint, by_cutoff, built, step_tests, spelled, of_step, Reports, Answer, verified, cut_short, told_by, IsAnswer}
 use Rattle.vipr_spec.specs.Progress.{IsBuilt}
 use Rattle.vipr_spec.proofs.Reported.{one_answer}
-use Rattle.vipr_spec.proofs.WholeText.{verified_text, proof_answered}
-use Rattle.vipr_spec.proofs.GrammarWhole.{reads_texts, one_certificate}
+use Rattle.vipr_spec.proofs.WholeText.{verified_read, verified_text, proof_answered}
+use Rattle.vipr_spec.proofs.GrammarWhole.{reads_certificates, reads_texts, one_certificate}
 use Rattle.vipr_spec.proofs.Points.{claim_shown}
 use Rattle.vipr_linear.specs.Constraint.{condition_of}
 use Rattle.vipr_text.specs.Giving.{Fails}
@@ -28,7 +28,7 @@ use Rattle.vipr_check.proofs.Failures.{failed_read}
 use Rattle.vipr_check.specs.View.{report_of, answer_of, Says, IfVerified, IsVerified}
 use Rattle.vipr_check.specs.Refused.{text_failed, step_failed}
 use Rattle.vipr_check.specs.Taking.{FailsNext}
-use Rattle.vipr_text.specs.Whole.{rest_of, IfTold, IfWhole}
+use Rattle.vipr_text.specs.Whole.{rest_of}
 use Rattle.vipr_canonical.specs.Laws.{SpellsOnly}
 use Rattle.vipr_text.proofs.WholeTexts.{whole_is}
 
@@ -88,6 +88,11 @@ only_says r x h a k = Says-by (IsAnswer r) (λ b. b ≡ a) x (λ b g. one_answer
 
 pub read_says : (r : Rest) (x : Result Verdict Fault) → Says (IsAnswer r) x → x ≡ Err Read → r.fails ≡ true
 read_says r x h e = failed_read r (subst (Says (IsAnswer r)) e h)
+
+pub ended_says : (r : Rest) (x : Result Verdict Fault) → Says (IsAnswer r) x → IfVerified x (λ report. r.fails ≡ false)
+ended_says r (Ok (Verified v)) h = let a = (verified_read r (report_of v)).0 h in ((reads_certificates r a.0).0 a.1).0
+ended_says r (Ok (Refused v)) h = tt
+ended_says r (Err e) h = tt
 
 abbrev IsProofOf : List ℕ → Report → Type 0
 IsProofOf bytes report = (c : Certificate) × SpellsOnly bytes c × IsBuilt c × IsProof c × Reports c (report_of report)

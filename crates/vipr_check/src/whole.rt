@@ -1,6 +1,6 @@
 //! Checks a whole certificate.
 
-ghost use Rattle.std.specs.Prelude.{◌≡◌, true, Err};
+ghost use Rattle.std.specs.Prelude.{◌≡◌, true, false, Err};
 ghost use Rattle.vipr_spec.specs.Certificate.{Certificate, IsProof};
 ghost use Rattle.vipr_spec.specs.Grammar.{Spells};
 ghost use Rattle.vipr_spec.specs.Soundness.{IsShown};
@@ -31,8 +31,9 @@ pub fn check<R: Source + Drop>(alloc: Global, source: R) -> Result<Verdict, Faul
     ensures exact { IfTold (R.input source) (λ i. Says (IsAnswer (rest_of i)) result) }
     // They have one answer.
     ensures only { IfTold (R.input source) (λ i. (a : Answer) → IsAnswer (rest_of i) a → Says (λ b. b ≡ a) result) }
-    // That a read failed is answered only where the source fails.
+    // That a read failed is answered only where the source fails, and verified only where it doesn't.
     ensures read { IfTold (R.input source) (λ i. result ≡ Err Read → i.fails ≡ true) }
+    ensures ended { IfTold (R.input source) (λ i. IfVerified result (λ report. i.fails ≡ false)) }
     // Verified is only what spells one certificate, a proof, and the report is that of the proof.
     ensures proof { IfWhole (R.input source) (λ bytes. IfVerified result (λ report.
         (c : Certificate) × SpellsOnly bytes c × IsBuilt c × IsProof c × Reports c (report_of report))) }
@@ -55,6 +56,7 @@ pub fn check_with<R: Source + Drop, S: Rows>(alloc: Global, source: R) -> Result
     ensures exact { IfTold (R.input source) (λ i. Says (IsAnswer (rest_of i)) result) }
     ensures only { IfTold (R.input source) (λ i. (a : Answer) → IsAnswer (rest_of i) a → Says (λ b. b ≡ a) result) }
     ensures read { IfTold (R.input source) (λ i. result ≡ Err Read → i.fails ≡ true) }
+    ensures ended { IfTold (R.input source) (λ i. IfVerified result (λ report. i.fails ≡ false)) }
     ensures proof { IfWhole (R.input source) (λ bytes. IfVerified result (λ report.
         (c : Certificate) × SpellsOnly bytes c × IsBuilt c × IsProof c × Reports c (report_of report))) }
     ensures every { IfWhole (R.input source) (λ bytes. (c : Certificate) → Spells bytes c → IsBuilt c → IsProof c

@@ -1,17 +1,19 @@
 -- What the parts of a derivation's tests say of all of them, and what is kept of it.
-use Rattle.std.proofs.Common.{◌≡◌, ℕ, false, List, [], ◌∷◌, ◌++◌, map, Some, None, refl, sym, ◌∙◌, ap, subst, inl, inr}
-use Rattle.std.specs.Prelude.{◌↔◌, flat_map}
+use Rattle.std.proofs.Common.{◌≡◌, ℕ, ◌<◌, ◌≤◌, length, IsTrue, false, List, [], ◌∷◌, ◌++◌, map, Some, None, refl, sym, ◌∙◌, ap, subst, inl, inr}
+use Rattle.std.specs.Prelude.{◌↔◌, ◌⊎◌, flat_map}
+use Rattle.std.proofs.lemmas.Bool.{cases_lt}
 use Rattle.std.proofs.lemmas.Simd.{map-map}
 use Rattle.vipr_spec.specs.Fraction.{ℚ}
 use Rattle.vipr_spec.specs.Constraint.{condition, sum_of, Dominates, Combines}
-use Rattle.vipr_spec.specs.Certificate.{Certificate, Derivation, lin, entries, count, is_assumption}
+use Rattle.vipr_spec.specs.Certificate.{Certificate, Derivation, lin, entries, count, is_assumption, is_live}
 use Rattle.vipr_spec.specs.OnePass.{with_next, RefersBack, RestsBy, SomeRestsOn}
 use Rattle.vipr_spec.specs.Verdict.{StepTest, by_sum, reference_tests, entry_tests, all_step_tests, step_tests}
 use Rattle.vipr_spec.specs.Progress.{PassesNext}
 use Rattle.vipr_spec.proofs.FirstFailing.{failing_first, failing_second}
 use Rattle.vipr_spec.proofs.MoreEntries.{one_sense}
 use Rattle.vipr_spec.proofs.Prefix.{constraint_next, reason_next, last_next}
-use Rattle.vipr_spec.proofs.Steps.{rests_next}
+use Rattle.vipr_spec.specs.Soundness.{IsSound}
+use Rattle.vipr_spec.proofs.Steps.{rests_next, sound_given, sound_next}
 use Rattle.vipr_spec.proofs.Reported.{built_good}
 use Rattle.vipr_linear.specs.Constraint.{constraint_of, condition_of}
 use Rattle.vipr_linear.specs.declared.constraint.Constraint.{Constraint}
@@ -23,7 +25,7 @@ use Rattle.vipr_rules.specs.declared.entries.Entry.{Entry}
 use Rattle.vipr_rules.specs.Table.{Table}
 use Rattle.vipr_rules.specs.History.{IsEntryOf, IsTableOf}
 use Rattle.vipr_rules.specs.Before.{StandsBefore, IsSetOfAll}
-use Rattle.vipr_rules.specs.Judged.{IsSum, Stops, Passes}
+use Rattle.vipr_rules.specs.Judged.{IsSum, Stops, Passes, KeepsSound}
 
 -- ---- one list of tests after another
 pub stops_first : (c : Certificate) (d : Derivation) (xs ys : List StepTest) (e : RuleError) → Stops c d xs e → Stops c d (xs ++ ys) e
@@ -82,3 +84,11 @@ lin_entry c d es e by back passes says rests assumed last = record {
   is_assumed = assumed ∙ sym (ap is_assumption (reason_next c d) ∙ ap (λ r. is_assumption (Some r)) by);
   last = last ∙ sym (last_next c d);
 }
+
+-- ---- the induction over the derivations
+pub keeps_sound : (c : Certificate) (d : Derivation) → RefersBack c → Passes c d (step_tests d.reason) → KeepsSound c d
+keeps_sound c d back passes s = let good = built_good c d passes in sound_next c d back good.earlier good.follows (λ i r. by i (cases_lt i (length c.problem.constraints)) (good.references i r))
+  where
+    by : (i : ℕ) → (i < length c.problem.constraints) ⊎ (length c.problem.constraints ≤ i) → IsTrue (is_live c (count c) i) → IsSound c i
+    by i (inl given) live = sound_given c i given
+    by i (inr derived) live = s i derived live

@@ -1,9 +1,7 @@
 -- An entry with the multiplier 0 changes nothing of what is held.
-use Rattle.std.proofs.Common.{◌≡◌, ℕ, List, [], ◌∷◌, ◌++◌, Some, refl, sym, ◌∙◌, ap, subst, pos}
-use Rattle.std.specs.Ordering.{int_cmp}
+use Rattle.std.proofs.Common.{◌≡◌, ℕ, List, [], ◌∷◌, ◌++◌, sym, ◌∙◌, ap, subst}
 use Rattle.vipr_spec.specs.Fraction.{ℚ, zero_ℚ, ◌+ℚ◌, ◌*ℚ◌}
-use Rattle.vipr_spec.specs.Constraint.{Sense, at_most, equal, at_least, Condition, Entry, sum_over, HasSense, SumOfFits, NamesBelow}
-use Rattle.vipr_spec.specs.MoreEntries.{turned, joined, by_sign}
+use Rattle.vipr_spec.specs.Constraint.{equal, Condition, Entry, sum_over, HasSense, SumOfFits, NamesBelow}
 use Rattle.vipr_spec.proofs.Fractions.{add-zero_ℚ, zero-mul_ℚ}
 use Rattle.vipr_spec.proofs.MoreEntries.{joined_sense, turned_sense, sum_more}
 use Rattle.std.specs.Prelude.{IsSome, IsNone}

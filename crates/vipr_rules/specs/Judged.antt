@@ -1,11 +1,12 @@
 -- What is told of a derivation that is refused, and what is kept of one that is taken.
-use Rattle.std.specs.Prelude.{◌≡◌, ℕ, ◌+◌, ◌⊎◌, ℤ, List, [], take, Some, None, Result, Ok, Err}
+use Rattle.std.specs.Prelude.{◌≡◌, ℕ, ◌+◌, ◌≤◌, ◌⊎◌, IsTrue, length, ℤ, List, [], take, Some, None, Result, Ok, Err}
 use Rattle.vipr_spec.specs.Fraction.{ℚ, whole}
 use Rattle.vipr_spec.specs.Constraint.{Sense, Row, Condition, condition, HasSense, sum_of, SumOfFits, RoundsTo}
-use Rattle.vipr_spec.specs.Certificate.{Named, Reason, lin, rnd, Derivation, Certificate, constraint_at, entries, IsBest, cutoff, count}
+use Rattle.vipr_spec.specs.Certificate.{Named, Reason, lin, rnd, Derivation, Certificate, constraint_at, entries, IsBest, cutoff, is_live, count}
 use Rattle.vipr_spec.specs.OnePass.{with_next}
 use Rattle.vipr_spec.specs.Verdict.{StepTest, earlier, live, assumed, suitable, fitting, roundable, split, listed, by_sum, by_rounding, by_constraint, by_cutoff, built, FirstFailing, step_tests}
 use Rattle.vipr_spec.specs.Progress.{PassesNext}
+use Rattle.vipr_spec.specs.Soundness.{IsSound}
 use Rattle.vipr_linear.specs.Constraint.{condition_of}
 use Rattle.vipr_rules.specs.declared.failure.RuleError.{RuleError}
 use Rattle.vipr_rules.specs.declared.failure.RuleError.TheVariants.{NotEarlier, Dropped, NotAssumption, MixedSigns, Overflow, NotRoundable, NotSplit, NotDominated, NoSolution, NotYet, Memory}
@@ -60,3 +61,7 @@ SumStops c es position e =
 abbrev pub Judges : Certificate → Derivation → Result Entry RuleError → Type 0
 Judges c d (Ok e) = Passes c d (step_tests d.reason) × IsEntryOf (with_next c d) (count c) e
 Judges c d (Err e) = (e ≡ Memory) ⊎ Stops c d (step_tests d.reason) e
+
+-- Where each derived constraint that is live before it is true at every admitted point at which the assumptions are true that it rests on, the derivation that comes next is, too.
+abbrev pub KeepsSound : Certificate → Derivation → Type 0
+KeepsSound c d = ((i : ℕ) → length c.problem.constraints ≤ i → IsTrue (is_live c (count c) i) → IsSound c i) → IsSound (with_next c d) (count c)

@@ -1,12 +1,13 @@
 //! Derivations by their reasons.
 
-ghost use Rattle.std.specs.Prelude.{◌≡◌, length, IfOk};
+ghost use Rattle.std.specs.Prelude.{◌≡◌, length, IfOk, option_copied};
 ghost use Rattle.vipr_spec.specs.Certificate.{Certificate, variables};
 ghost use Rattle.vipr_spec.specs.OnePass.{RefersBack};
+ghost use Rattle.vipr_spec.specs.Soundness.{IsBestValue};
 ghost use Rattle.vipr_items.specs.Items.{derivation_of};
 ghost use Rattle.vipr_rules.specs.Before.{DerivedBelow};
 ghost use Rattle.vipr_rules.specs.History.{IsTableOf};
-ghost use Rattle.vipr_rules.specs.Judged.{Judges};
+ghost use Rattle.vipr_rules.specs.Judged.{Judges, KeepsSound};
 
 use crate::entries::Entry;
 use crate::failure::RuleError;
@@ -28,7 +29,7 @@ use vipr_linear::Combination;
 pub fn apply<S: Rows>(
     alloc: Global,
     p: &Problem,
-    _best: Option<&Frac>,
+    best: Option<&Frac>,
     rows: &S,
     scratch: &mut Combination,
     step: &Derivation,
@@ -36,6 +37,9 @@ pub fn apply<S: Rows>(
     requires variables { length scratch.old.sums ≡ variables p.now }
     requires rows { DerivedBelow (variables p.now) (S.table rows.now) }
     ensures judged { (c : Certificate) → c.problem ≡ p.now → IsTableOf c (S.table rows.now) → RefersBack c → Judges c (derivation_of step.now) result }
+    // What is answered is sound where the live constraints before it are.
+    ensures sound { (c : Certificate) → c.problem ≡ p.now → IsTableOf c (S.table rows.now) → RefersBack c → IsBestValue p.now c.solutions (option_copied best.entry)
+        → IfOk result (λ _. KeepsSound c (derivation_of step.now)) }
     ensures stated { IfOk result (λ e. e.constraint ≡ step.now.constraint) }
     ensures variables { length scratch.new.sums ≡ length scratch.old.sums }
 {

@@ -8,7 +8,7 @@ use Rattle.vipr_linear.specs.Constraint.{condition_of}
 use Rattle.vipr_items.specs.Items.{reason_of, derivation_of}
 use Rattle.vipr_rules.proofs.BelowLemmas.{below_given}
 use Rattle.vipr_rules.specs.Judged.{Stops, Passes}
-use Rattle.vipr_rules.proofs.StepLemmas.{stands, lin_entry}
+use Rattle.vipr_rules.proofs.StepLemmas.{stands, lin_entry, keeps_sound}
 use Rattle.vipr_rules.proofs.steps.apply.Goals as goal
 
 pub returns-in_err-assumptions-in-Lin-clause-judged : goal.returns-in_err-assumptions-in-Lin-clause-judged
@@ -28,6 +28,9 @@ returns-in_ok-clone-in-Lin-clause-judged g c = λ d is table back.
     let told = c.in_ok-assumptions-in-Lin.ensures.judged d step before by refl in
     let passes = subst (λ r. Passes d step (step_tests r)) (sym by) told.0 in
     (passes, lin_entry d step c.deref.result.now _ by back passes (ap condition_of c.in_ok-clone-in-Lin.ensures.cases) told.1 refl refl)
+
+pub returns-in_ok-clone-in-Lin-clause-sound : goal.returns-in_ok-clone-in-Lin-clause-sound
+returns-in_ok-clone-in-Lin-clause-sound g c = λ d is table back best. keeps_sound d (derivation_of c.args.step.now) back (returns-in_ok-clone-in-Lin-clause-judged g c d is table back).0
 
 pub combine-requires : goal.combine-requires
 combine-requires g c =
