@@ -7,10 +7,10 @@ use Rattle.vipr_spec.specs.Reading.{certificate_read}
 use Rattle.vipr_spec.proofs.GrammarItemFaults.{item_faults}
 use Rattle.vipr_bytes.specs.Output.{Output}
 use Rattle.vipr_canonical.specs.Canonical.{canonical_text}
-use Rattle.vipr_text.specs.Giving.{Fails}
+use Rattle.vipr_tokens.specs.Faults.{Fails}
 use Rattle.vipr_text.specs.Whole.{rest_of, IfTold, IfWhole}
-use Rattle.vipr_text.specs.declared.error.TextError.{TextError}
-use Rattle.vipr_text.specs.declared.error.TextError.TheVariants as error
+use Rattle.vipr_tokens.specs.declared.error.TextError.{TextError}
+use Rattle.vipr_tokens.specs.declared.error.TextError.TheVariants as error
 use Rattle.vipr_writer.specs.Written.{Wrote}
 use Rattle.vipr_writer.specs.declared.writer.WriteError.{WriteError}
 use Rattle.vipr_writer.specs.declared.writer.WriteError.TheVariants as write

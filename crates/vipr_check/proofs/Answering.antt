@@ -13,9 +13,9 @@ use Rattle.vipr_spec.proofs.WholeText.{verified_read, verified_text, proof_answe
 use Rattle.vipr_spec.proofs.GrammarWhole.{reads_certificates, reads_texts, one_certificate}
 use Rattle.vipr_spec.proofs.Points.{claim_shown}
 use Rattle.vipr_linear.specs.Constraint.{condition_of}
-use Rattle.vipr_text.specs.Giving.{Fails}
-use Rattle.vipr_text.specs.declared.error.TextError.{TextError}
-use Rattle.vipr_text.specs.declared.error.TextError.TheVariants as text
+use Rattle.vipr_tokens.specs.Faults.{Fails}
+use Rattle.vipr_tokens.specs.declared.error.TextError.{TextError}
+use Rattle.vipr_tokens.specs.declared.error.TextError.TheVariants as text
 use Rattle.vipr_rules.specs.Judged.{IsComputed, Tells, Stops}
 use Rattle.vipr_rules.specs.declared.failure.RuleError.{RuleError}
 use Rattle.vipr_rules.specs.declared.failure.RuleError.TheVariants as rule

@@ -11,9 +11,9 @@ use Rattle.vipr_spec.specs.Verdict.{at_solution, at_end, spelled, of_step, is_bu
 use Rattle.vipr_spec.specs.Progress.{Answers, derivations_from, solutions_from}
 use Rattle.vipr_spec.proofs.Prefix.{count_next}
 use Rattle.vipr_spec.proofs.Remains.{problem_fault, problem_built, problem_unbuilt, solution_fault, solution_unbuilt, derivations_fault, derivations_begin, derivation_fault, derivation_passes, derivation_fails, end_fault}
-use Rattle.vipr_text.specs.Giving.{Fails}
+use Rattle.vipr_tokens.specs.Faults.{Fails}
 use Rattle.vipr_text.specs.Readers.{Items, Knows, Remembers, NextItem}
-use Rattle.vipr_text.specs.declared.error.TextError.{TextError}
+use Rattle.vipr_tokens.specs.declared.error.TextError.{TextError}
 use Rattle.vipr_rules.specs.Table.{Table}
 use Rattle.vipr_check.specs.declared.checker.Checker.{Checker}
 use Rattle.vipr_check.specs.declared.verdict.Place.TheVariants.{Sol, End}

@@ -1,8 +1,8 @@
 -- What is answered where a text or a derivation is refused
 use Rattle.std.specs.Prelude.{ℕ, Result, Ok, Err}
 use Rattle.vipr_spec.specs.Causes as cause
-use Rattle.vipr_text.specs.declared.error.TextError.{TextError}
-use Rattle.vipr_text.specs.declared.error.TextError.TheVariants as text
+use Rattle.vipr_tokens.specs.declared.error.TextError.{TextError}
+use Rattle.vipr_tokens.specs.declared.error.TextError.TheVariants as text
 use Rattle.vipr_rules.specs.declared.failure.RuleError.{RuleError}
 use Rattle.vipr_rules.specs.declared.failure.RuleError.TheVariants as rule
 use Rattle.vipr_check.specs.declared.verdict.Place.{Place}

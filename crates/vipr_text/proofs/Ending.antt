@@ -2,10 +2,10 @@
 use Rattle.std.proofs.Common.{◌≡◌, ◌≢◌, ◌⊎◌, Bool, true, false, List, [], ◌∷◌, Some, None, Ok, Err, refl, sym, ap, subst, inl, inr}
 use Rattle.vipr_spec.specs.Tokens.{Token}
 use Rattle.vipr_spec.specs.Reading.{Rest, refused, unread, end_read, end_of}
-use Rattle.vipr_text.specs.View.{Seen, answer_of, first_answer, seen_of}
-use Rattle.vipr_text.specs.Giving.{Fails}
-use Rattle.vipr_text.specs.declared.error.TextError.{TextError}
-use Rattle.vipr_text.specs.declared.error.TextError.TheVariants as error
+use Rattle.vipr_tokens.specs.View.{Seen, answer_of, first_answer, seen_of}
+use Rattle.vipr_tokens.specs.Faults.{Fails}
+use Rattle.vipr_tokens.specs.declared.error.TextError.{TextError}
+use Rattle.vipr_tokens.specs.declared.error.TextError.TheVariants as error
 
 pub ended : (l : Rest) → Ok None ≡ answer_of l → end_read l ≡ Ok tt
 unfolding end_of

@@ -7,10 +7,11 @@ use Rattle.std.proofs.lemmas.Bool.{cases_eq, eq-eqb, ne_eqb, false≢true}
 use Rattle.vipr_spec.specs.Causes as cause
 use Rattle.vipr_spec.specs.Fraction.{ℚ}
 use Rattle.vipr_spec.specs.Reading.{Rest, Read, ◌>>=◌, variable_of, new_variable_of, pair_read, pairs_read}
-use Rattle.vipr_text.specs.Giving.{Fails, with_front}
+use Rattle.vipr_tokens.specs.Faults.{Fails}
+use Rattle.vipr_text.specs.Giving.{with_front}
 use Rattle.vipr_text.specs.Marks.{AreMarked}
-use Rattle.vipr_text.specs.declared.error.TextError.{TextError}
-use Rattle.vipr_text.specs.declared.error.TextError.TheVariants as error
+use Rattle.vipr_tokens.specs.declared.error.TextError.{TextError}
+use Rattle.vipr_tokens.specs.declared.error.TextError.TheVariants as error
 
 -- ---- one variable
 

@@ -5,11 +5,12 @@ use Rattle.vipr_spec.specs.Constraint.{Row}
 use Rattle.vipr_spec.specs.Reading.{Rest, Fault, Read, ◌>>=◌, most_count, repeated, problem_read, solution_read, derivations_read, derivation_read, end_read, certificate_read}
 use Rattle.std.specs.Prelude.{Result}
 use Rattle.vipr_spec.specs.Shape.{ProblemShape, SolutionShape, DerivationShape, CertificateShape}
-use Rattle.vipr_text.specs.Giving.{Fails, with_front}
+use Rattle.vipr_tokens.specs.Faults.{Fails}
+use Rattle.vipr_text.specs.Giving.{with_front}
 use Rattle.vipr_text.specs.Readers.{Items, Knows, Remembers}
 use Rattle.vipr_text.specs.Whole.{derivations_to_end}
-use Rattle.vipr_text.specs.declared.error.TextError.{TextError}
-use Rattle.vipr_text.specs.declared.error.TextError.TheVariants as error
+use Rattle.vipr_tokens.specs.declared.error.TextError.{TextError}
+use Rattle.vipr_tokens.specs.declared.error.TextError.TheVariants as error
 use Rattle.vipr_text.proofs.Repeating.{goes_on, ends, is_done, begins}
 
 -- ---- one item after another

@@ -6,10 +6,10 @@ use Rattle.vipr_spec.specs.Reading.{Fault, certificate_read}
 use Rattle.vipr_spec.specs.Grammar.{Spells}
 use Rattle.vipr_spec.specs.GrammarLaws.{whole_text}
 use Rattle.vipr_spec.proofs.GrammarWhole.{reads_texts}
-use Rattle.vipr_text.specs.View.{Reading}
+use Rattle.vipr_tokens.specs.View.{Reading}
 use Rattle.vipr_text.specs.Whole.{rest_of, IfTold, IfWhole, IsRead}
-use Rattle.vipr_text.specs.declared.error.TextError.{TextError}
-use Rattle.vipr_text.specs.declared.error.TextError.TheVariants as error
+use Rattle.vipr_tokens.specs.declared.error.TextError.{TextError}
+use Rattle.vipr_tokens.specs.declared.error.TextError.TheVariants as error
 
 pub IfTold-by : (o : Option Input) (P Q : Input → Type 0) → ((i : Input) → P i → Q i) → IfTold o P → IfTold o Q
 IfTold-by None P Q k h = tt

@@ -1,22 +1,11 @@
 -- What a reader gave, against what the reading of the tokens left gives
-use Rattle.std.specs.Prelude.{◌≡◌, ℕ, true, ⊤, ◌⊎◌, List, ◌++◌, Result, Ok, Err, IfOk}
+use Rattle.std.specs.Prelude.{◌≡◌, ℕ, true, ◌⊎◌, List, ◌++◌, Result, Ok, Err, IfOk}
 use Rattle.vipr_spec.specs.Tokens.{Token}
 use Rattle.vipr_spec.specs.Reading.{Rest, Fault, refused, unread, Read, token_read, ◌>>=◌}
-use Rattle.vipr_text.specs.View.{Reading}
-use Rattle.vipr_text.specs.declared.error.TextError.{TextError}
-use Rattle.vipr_text.specs.declared.error.TextError.TheVariants as error
-
--- an error is the fault of the reading, unless memory ran out
-abbrev pub Fails : {Y : Type 0} → TextError → Result Y Fault → Type 0
-Fails (error.Refused c o) r = r ≡ Err (refused c o)
-Fails error.Read r = r ≡ Err unread
-Fails error.Memory r = ⊤
-Fails error.Spent r = ⊥
-
--- the value that the reading gives, and what is left then; or its fault
-abbrev pub Tells : {X Y : Type 0} → (X → Y) → Result X TextError → Rest → Read Y → Type 0
-Tells view (Ok x) left r = r ≡ Ok (view x, left)
-Tells view (Err e) left r = Fails e r
+use Rattle.vipr_tokens.specs.Faults.{Fails}
+use Rattle.vipr_tokens.specs.View.{Reading}
+use Rattle.vipr_tokens.specs.declared.error.TextError.{TextError}
+use Rattle.vipr_tokens.specs.declared.error.TextError.TheVariants as error
 
 -- the value that the reading gives, with the rest that is left then; or its fault
 abbrev pub Gives : {X Y : Type 0} → (X → Y) → Result X TextError → Reading → Read Y → Type 0

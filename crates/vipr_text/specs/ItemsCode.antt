@@ -6,7 +6,7 @@ use Rattle.vipr_spec.specs.Fraction.{coded_ℚ}
 use Rattle.vipr_spec.specs.Constraint.{Row}
 use Rattle.vipr_spec.specs.Tokens.{Token}
 use Rattle.vipr_spec.specs.Reading.{Rest}
-use Rattle.vipr_text.specs.View.{Reading}
+use Rattle.vipr_tokens.specs.View.{Reading}
 use Rattle.vipr_text.specs.Readers.{Items}
 
 abbrev pub token_code : Coded Token

@@ -1,6 +1,3 @@
-pub mod Places
-pub mod View
-pub mod Follows
 pub mod Giving
 pub mod Rules
 pub mod Readers

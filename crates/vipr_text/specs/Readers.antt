@@ -3,10 +3,10 @@ use Rattle.std.specs.Prelude.{◌≡◌, ℕ, suc, ◌<◌, ◌⊎◌, true, fal
 use Rattle.vipr_spec.specs.Constraint.{Row, at, NamesBelow}
 use Rattle.vipr_spec.specs.Certificate.{Problem, variables}
 use Rattle.vipr_spec.specs.Reading.{Rest, Fault, Read}
-use Rattle.vipr_text.specs.Giving.{Fails}
+use Rattle.vipr_tokens.specs.Faults.{Fails}
 use Rattle.vipr_text.specs.Marks.{AreMarked}
-use Rattle.vipr_text.specs.View.{Reading}
-use Rattle.vipr_text.specs.declared.error.TextError.{TextError}
+use Rattle.vipr_tokens.specs.View.{Reading}
+use Rattle.vipr_tokens.specs.declared.error.TextError.{TextError}
 
 -- a reader of items: what is left of the text, how many items are to come, and what it knows of the problem
 pub record Items : Type 0 where

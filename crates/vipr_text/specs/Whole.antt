@@ -4,8 +4,8 @@ use Rattle.vipr_spec.specs.Certificate.{Problem, Derivation}
 use Rattle.vipr_spec.specs.Input.{Input}
 use Rattle.vipr_spec.specs.Tokens.{tokens}
 use Rattle.vipr_spec.specs.Reading.{Rest, Fault, ◌>>=◌, repeated, derivation_read, end_read}
-use Rattle.vipr_text.specs.Giving.{Fails}
-use Rattle.vipr_text.specs.declared.error.TextError.{TextError}
+use Rattle.vipr_tokens.specs.Faults.{Fails}
+use Rattle.vipr_tokens.specs.declared.error.TextError.{TextError}
 
 -- all that there is to read of what a source gives
 abbrev pub rest_of : Input → Rest

@@ -4,11 +4,10 @@ ghost use Rattle.vipr_spec.specs.Reading as reading;
 ghost use Rattle.vipr_text.specs.Giving.{Gives};
 ghost use Rattle.vipr_items.specs.Items.{claim_of};
 
-use crate::error::TextError;
-use crate::tokens::Tokens;
-use crate::{causes, wanted};
+use crate::wanted;
 use vipr_bytes::Source;
 use vipr_items::Claim;
+use vipr_tokens::{TextError, Tokens, causes};
 
 /// The version, 1.0.
 #[tactic(auto, unfolding(vipr_spec::specs::Reading::version_read))]

@@ -8,10 +8,10 @@ ghost use Rattle.vipr_linear.specs.Constraint.{sense_of as sense_seen};
 ghost use Rattle.vipr_items.specs.Items.{direction_of as direction_seen};
 ghost use Rattle.vipr_spec.specs.Reading.{at_most_or, count_of, derivation_count_of, variable_of, reference_of, last_of, word_of, rule_of, number_of, sense_of, direction_of, has_range_of, bound_of};
 
-use crate::causes;
 use vipr_frac::{Frac, NumberError};
 use vipr_items::Goal;
 use vipr_linear::Sense;
+use vipr_tokens::causes;
 
 /// The rule of a reason, before what belongs to it is read.
 #[derive(Clone, Copy, Debug, PartialEq, Eq)]

@@ -5,12 +5,11 @@ ghost use Rattle.vipr_spec.specs.Reading as reading;
 ghost use Rattle.vipr_text.specs.Giving.{Gives};
 ghost use Rattle.vipr_text.specs.Marks.{AreMarked};
 
-use crate::error::TextError;
-use crate::tokens::Tokens;
-use crate::{causes, kinds, wanted};
+use crate::{kinds, wanted};
 use std::alloc::Global;
 use vipr_bytes::Source;
 use vipr_frac::Frac;
+use vipr_tokens::{TextError, Tokens, causes};
 
 /// Whether a variable is marked.
 fn is_marked(marks: &[bool], variable: u32) -> bool

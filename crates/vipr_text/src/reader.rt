@@ -10,14 +10,13 @@ ghost use Rattle.vipr_items.specs.Items.{solution_of, derivation_of};
 ghost use Rattle.vipr_spec.specs.Shape.{ProblemShape, SolutionShape, DerivationShape};
 ghost use Rattle.vipr_text.specs.Readers.{Items, Knows, Remembers, NextItem};
 
-use crate::error::TextError;
-use crate::tokens::Tokens;
-use crate::{causes, reasons, sections, wanted};
+use crate::{reasons, sections, wanted};
 use std::alloc::{AllocError, Global};
 use std::marker::Model;
 use vipr_bytes::Source;
 use vipr_items::{Derivation, Named, Problem};
 use vipr_linear::{Row, Solution};
+use vipr_tokens::{TextError, Tokens, causes};
 
 /// Reads a certificate from its start.
 #[derive(Drop)]
@@ -27,7 +26,7 @@ pub struct CertReader<R: Source> {
 
 impl<R: Source> Model for CertReader<R> {
     ghost use Rattle.std.specs.Prelude.{◌≡◌, false};
-    ghost use Rattle.vipr_text.specs.View.{Reading};
+    ghost use Rattle.vipr_tokens.specs.View.{Reading};
 
     ghost Value = { Reading };
 

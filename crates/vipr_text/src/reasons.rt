@@ -7,14 +7,13 @@ ghost use Rattle.vipr_text.specs.Giving.{Gives};
 ghost use Rattle.vipr_items.specs.Items.{reason_of};
 ghost use Rattle.vipr_text.specs.Rules.{rule_seen};
 
-use crate::error::TextError;
 use crate::kinds::Rule;
-use crate::tokens::Tokens;
-use crate::{causes, wanted};
+use crate::wanted;
 use std::alloc::Global;
 use vipr_bytes::Source;
 use vipr_frac::Frac;
 use vipr_items::Reason;
+use vipr_tokens::{TextError, Tokens, causes};
 
 /// A constraint's index and its multiplier.
 #[tactic(auto, unfolding(vipr_spec::specs::Reading::entry_read))]

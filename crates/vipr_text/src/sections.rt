@@ -10,13 +10,12 @@ ghost use Rattle.vipr_text.specs.Giving.{Gives};
 ghost use Rattle.vipr_items.specs.Items.{named_of, solution_of, direction_of};
 ghost use Rattle.vipr_text.specs.Marks.{AreMarked};
 
-use crate::error::TextError;
-use crate::tokens::Tokens;
-use crate::{causes, claims, vectors, wanted};
+use crate::{claims, vectors, wanted};
 use std::alloc::Global;
 use vipr_bytes::Source;
 use vipr_items::{BadShape, Goal, Name, Named, Problem};
 use vipr_linear::{Constraint, Ints, Row, Solution};
+use vipr_tokens::{TextError, Tokens, causes};
 
 /// The names of the variables.
 #[tactic(auto, unfolding(vipr_spec::specs::Reading::names_read))]

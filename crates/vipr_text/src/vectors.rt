@@ -6,14 +6,13 @@ ghost use Rattle.vipr_spec.specs.Reading as reading;
 ghost use Rattle.vipr_text.specs.Giving.{Gives};
 ghost use Rattle.vipr_text.specs.Marks.{AreMarked};
 
-use crate::error::TextError;
 use crate::pairs::pairs;
-use crate::tokens::Tokens;
 use crate::wanted;
 use std::alloc::Global;
 use vipr_bytes::Source;
 use vipr_frac::Frac;
 use vipr_linear::{Row, RowError};
+use vipr_tokens::{TextError, Tokens};
 
 /// The row of pairs whose variables differ.
 fn row_of_distinct(alloc: Global, pairs: Vec<(u32, Frac)>, variables: u32) -> Result<Row, TextError>

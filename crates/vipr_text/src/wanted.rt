@@ -9,17 +9,16 @@ ghost use Rattle.vipr_text.specs.Giving.{Gives, IsTaken, IsMeaning};
 ghost use Rattle.vipr_text.specs.Rules.{rule_seen, objective_or_count_of};
 ghost use Rattle.vipr_linear.specs.Constraint.{sense_of as sense_seen};
 ghost use Rattle.vipr_items.specs.Items.{direction_of as direction_seen};
-ghost use Rattle.vipr_text.specs.View.{seen_token};
-ghost use Rattle.vipr_text.specs.contracts.tokens.Tokens.{the_row};
+ghost use Rattle.vipr_tokens.specs.View.{seen_token};
+ghost use Rattle.vipr_tokens.specs.contracts.tokens.Tokens.{the_row};
 
-use crate::error::TextError;
 use crate::kinds::{self, Rule};
-use crate::tokens::Tokens;
 use std::alloc::Global;
 use vipr_bytes::Source;
 use vipr_frac::Frac;
 use vipr_items::{Goal, Name};
 use vipr_linear::Sense;
+use vipr_tokens::{TextError, Tokens};
 
 /// What the next token means, where `kind` says what its bytes mean or the cause of their refusal.
 pub(crate) fn taken<R: Source, T, F: FnOnce(&[u8]) -> Result<T, u8>>(

@@ -9,12 +9,12 @@ ghost use Rattle.vipr_text.specs.Giving.{Gives};
 ghost use Rattle.vipr_text.specs.Readers.{Knows, Remembers};
 ghost use Rattle.vipr_text.specs.Whole.{rest_of, IfTold, IfWhole, IsRead, derivations_to_end};
 
-use crate::error::TextError;
 use crate::reader::{CertReader, Derivations, Solutions};
 use std::alloc::Global;
 use vipr_bytes::Source;
 use vipr_items::{BadShape, Certificate, Derivation, Named};
 use vipr_linear::Solution;
+use vipr_tokens::TextError;
 
 /// The certificate that `source` gives, which is read to its end.
 ///

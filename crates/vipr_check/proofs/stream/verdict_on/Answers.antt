@@ -1,7 +1,7 @@
 use Rattle.std.proofs.Common.{◌≡◌, true, sym, subst}
 use Rattle.vipr_spec.specs.Reading.{problem_read}
 use Rattle.vipr_spec.specs.Verdict.{IsAnswer}
-use Rattle.vipr_text.specs.Giving.{Fails}
+use Rattle.vipr_tokens.specs.Faults.{Fails}
 use Rattle.vipr_check.specs.View.{Says}
 use Rattle.vipr_text.specs.Whole.{rest_of}
 use Rattle.vipr_text.proofs.WholeTexts.{IfTold-by}

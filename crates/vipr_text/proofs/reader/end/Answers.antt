@@ -1,8 +1,8 @@
 use Rattle.std.proofs.Common.{◌≢◌, Err, sym, ap, ◌∙◌}
 use Rattle.std.proofs.lemmas.Result.{err_from_is_err_and}
 use Rattle.std.proofs.lemmas.Bool.{false≢true}
-use Rattle.vipr_text.specs.View.{seen_token}
-use Rattle.vipr_text.specs.declared.error.TextError.TheVariants as error
+use Rattle.vipr_tokens.specs.View.{seen_token}
+use Rattle.vipr_tokens.specs.declared.error.TextError.TheVariants as error
 use Rattle.vipr_text.proofs.Ending.{ended, trailing, not_ended}
 use Rattle.vipr_text.proofs.reader.end.Goals as goal
 

@@ -1,5 +1,5 @@
 use Rattle.std.proofs.Common.{ℕ, ◌<◌, subst, sym}
-use Rattle.vipr_spec.specs.Constraint.{Ints, IsInteger}
+use Rattle.vipr_spec.specs.Constraint.{IsInteger}
 use Rattle.vipr_items.proofs.Within.{members_below}
 use Rattle.vipr_text.proofs.sections.integers.Goals as goal
 

@@ -6,7 +6,7 @@ use Rattle.std.proofs.lemmas.List.Elements.{All-push}
 use Rattle.vipr_spec.specs.Shape.{DerivationShape}
 use Rattle.vipr_spec.specs.Reading.{derivation_read}
 use Rattle.vipr_items.specs.Items.{derivation_of}
-use Rattle.vipr_text.specs.declared.error.TextError.TheVariants as error
+use Rattle.vipr_tokens.specs.declared.error.TextError.TheVariants as error
 use Rattle.vipr_text.proofs.WholeSteps.{none_given, one_given, given_fails, all_given, still_knows, remembers_self, remembers_on, item_fails, end_fails, at_end}
 use Rattle.vipr_text.proofs.whole.derived.Goals as goal
 

@@ -6,7 +6,7 @@ use Rattle.std.proofs.lemmas.List.Elements.{All-push}
 use Rattle.vipr_spec.specs.Shape.{SolutionShape}
 use Rattle.vipr_spec.specs.Reading.{repeated, solution_read}
 use Rattle.vipr_items.specs.Items.{solution_of}
-use Rattle.vipr_text.specs.declared.error.TextError.TheVariants as error
+use Rattle.vipr_tokens.specs.declared.error.TextError.TheVariants as error
 use Rattle.vipr_text.proofs.WholeSteps.{none_given, one_given, given_fails, all_given, still_knows, remembers_self, remembers_on, no_fault}
 use Rattle.vipr_text.proofs.whole.listed.Goals as goal
 

@@ -3,7 +3,7 @@ use Rattle.vipr_text.specs.Whole.{rest_of, IsRead}
 use Rattle.vipr_spec.specs.Reading.{certificate_read}
 use Rattle.vipr_spec.specs.Certificate.{Certificate}
 use Rattle.vipr_spec.specs.Grammar.{Spells}
-use Rattle.vipr_text.specs.declared.error.TextError.TheVariants.{Memory}
+use Rattle.vipr_tokens.specs.declared.error.TextError.TheVariants.{Memory}
 use Rattle.vipr_text.proofs.WholeTexts.{IfWhole-by, read_by, spelled_by, only_by}
 use Rattle.vipr_text.proofs.whole.read_certificate.Goals as goal
 
