@@ -1,5 +1,5 @@
 -- What `show` answers, from what is read and what is written.
-use Rattle.std.proofs.Common.{◌≡◌, ◌⊎◌, Option, Some, None, Result, Ok, Err, IfSome, IsErrAnd, ℕ, true, false, inl, inr, refl, sym, subst, ◌∙◌}
+use Rattle.std.proofs.Common.{◌≡◌, ◌⊎◌, Option, Some, None, Result, Ok, Err, IsErrAnd, ℕ, true, false, inl, inr, refl, sym, subst, ◌∙◌}
 use Rattle.vipr_spec.specs.Certificate.{Certificate}
 use Rattle.vipr_spec.specs.Grammar.{Spells}
 use Rattle.vipr_spec.specs.Input.{Input}
@@ -11,10 +11,10 @@ use Rattle.vipr_tokens.specs.Faults.{Fails}
 use Rattle.vipr_text.specs.Whole.{rest_of, IfTold, IfWhole}
 use Rattle.vipr_tokens.specs.declared.error.TextError.{TextError}
 use Rattle.vipr_tokens.specs.declared.error.TextError.TheVariants as error
-use Rattle.vipr_writer.specs.Written.{Wrote}
 use Rattle.vipr_writer.specs.declared.writer.WriteError.{WriteError}
 use Rattle.vipr_writer.specs.declared.writer.WriteError.TheVariants as write
 use Rattle.vipr_check.specs.declared.verdict.Place.TheVariants.{Byte}
+use Rattle.vipr.specs.Printed.{Stays, Took}
 use Rattle.vipr.specs.Program.{write_fault_for}
 use Rattle.vipr.specs.Shown.{Kind, Shows, text_of, text_read}
 use Rattle.vipr.specs.declared.fault.Fault.{Fault}
@@ -29,42 +29,42 @@ true_not_false : true ≡ false → ⊥
 true_not_false h = cc
 
 -- the text was written
-pub shown_whole : (old new : Option Output) (c : Certificate) → IfSome old (λ o. Wrote o new (canonical_text c) (Ok tt))
-    → (k : Kind) → k.Spelled c → IfSome old (λ o. Shows k o new (Ok Whole))
-shown_whole None new c w k s = tt
-shown_whole (Some o) new c w k s = (c, s, w)
-
-stopped : (o : Output) (new : Option Output) (c : Certificate) (e : WriteError) (r : Result Shown Fault) → IsErrAnd r (λ f. f ≡ write_fault_for e) → Wrote o new (canonical_text c) (Err e)
-    → (k : Kind) → k.Spelled c → Shows k o new r
-stopped o new c e (Ok x) h w k s = absurd h
-stopped o new c (write.Write n) (Err f) h w k s = subst (λ y. Shows k o new (Err y)) (sym h) (c, s, w)
-stopped o new c (write.Memory n) (Err f) h w k s = subst (λ y. Shows k o new (Err y)) (sym h) (w.1)
+pub shown_whole : (old new : Option Output) (c : Certificate) → Took old new (canonical_text c) (Ok tt)
+    → (k : Kind) → k.Spelled c → Shows k old new (Ok Whole)
+shown_whole old new c w k s = (c, s, w)
 
 -- the writing stopped
-pub cut_short : (old new : Option Output) (c : Certificate) (e : WriteError) (r : Result Shown Fault) → IsErrAnd r (λ f. f ≡ write_fault_for e) → IfSome old (λ o. Wrote o new (canonical_text c) (Err e))
-    → (k : Kind) → k.Spelled c → IfSome old (λ o. Shows k o new r)
-cut_short None new c e r h w k s = tt
-cut_short (Some o) new c e r h w k s = stopped o new c e r h w k s
+pub cut_short : (old new : Option Output) (c : Certificate) (e : WriteError) (r : Result Shown Fault) → IsErrAnd r (λ f. f ≡ write_fault_for e) → Took old new (canonical_text c) (Err e)
+    → (k : Kind) → k.Spelled c → Shows k old new r
+cut_short old new c e (Ok x) h w k s = absurd h
+cut_short old new c (write.Write n) (Err f) h w k s = subst (λ y. Shows k old new (Err y)) (sym h) (c, s, w)
+cut_short old new c (write.Memory n) (Err f) h w k s = subst (λ y. Shows k old new (Err y)) (sym h) (none_of_it old w)
+  where
+    none_of_it : (o : Option Output) → Took o new (canonical_text c) (Err (write.Memory n)) → Stays o new
+    none_of_it None t = tt
+    none_of_it (Some o) t = t.1
 
 -- of a certificate that was read
-pub exact_by : (old new : Option Output) (source : Option Input) (c : Certificate) (r : Result Shown Fault) → ((k : Kind) → k.Spelled c → IfSome old (λ o. Shows k o new r))
-    → IfTold source (λ i. certificate_read (rest_of i) ≡ Ok c) → IfSome old (λ o. IfTold source (λ i. Shows (text_read (certificate_read (rest_of i))) o new r))
-exact_by None new source c r given h = tt
-exact_by (Some o) new None c r given h = tt
-exact_by (Some o) new (Some i) c r given h = λ short. given (text_read (certificate_read (rest_of i))) (h short)
+pub exact_by : (old new : Option Output) (source : Option Input) (c : Certificate) (r : Result Shown Fault) → ((k : Kind) → k.Spelled c → Shows k old new r)
+    → IfTold source (λ i. certificate_read (rest_of i) ≡ Ok c) → IfTold source (λ i. Shows (text_read (certificate_read (rest_of i))) old new r)
+exact_by old new None c r given h = tt
+exact_by old new (Some i) c r given h = λ short. given (text_read (certificate_read (rest_of i))) (h short)
 
-pub spelled_by : (old new : Option Output) (source : Option Input) (c : Certificate) (r : Result Shown Fault) → ((k : Kind) → k.Spelled c → IfSome old (λ o. Shows k o new r))
-    → IfWhole source (λ bytes. Spells bytes c) → IfSome old (λ o. IfWhole source (λ bytes. Shows (text_of bytes) o new r))
-spelled_by None new source c r given h = tt
-spelled_by (Some o) new None c r given h = tt
-spelled_by (Some o) new (Some i) c r given h = λ short whole. given (text_of i.bytes) (h short whole)
+pub spelled_by : (old new : Option Output) (source : Option Input) (c : Certificate) (r : Result Shown Fault) → ((k : Kind) → k.Spelled c → Shows k old new r)
+    → IfWhole source (λ bytes. Spells bytes c) → IfWhole source (λ bytes. Shows (text_of bytes) old new r)
+spelled_by old new None c r given h = tt
+spelled_by old new (Some i) c r given h = λ short whole. given (text_of i.bytes) (h short whole)
+
+-- nothing was written
+pub stays : (old : Option Output) → Stays old old
+stays None = tt
+stays (Some o) = refl
 
 -- a text with a refusal is that of no certificate
 pub none_spelled : (old : Option Output) (source : Option Input) (e : TextError) (cause offset : ℕ) → e ≡ error.Refused cause offset
-    → IfWhole source (λ bytes. (c : Certificate) → Spells bytes c → (fails e ≡ Ok c) ⊎ (fails e ≡ Err error.Memory)) → IfSome old (λ o. IfWhole source (λ bytes. Shows (text_of bytes) o old (Ok (Refused (record { cause = cause; place = Byte offset })))))
-none_spelled None source e cause offset is only = tt
-none_spelled (Some o) None e cause offset is only = tt
-none_spelled (Some o) (Some i) e cause offset is only = λ short whole. ((λ c s. never c (only short whole c s)), refl)
+    → IfWhole source (λ bytes. (c : Certificate) → Spells bytes c → (fails e ≡ Ok c) ⊎ (fails e ≡ Err error.Memory)) → IfWhole source (λ bytes. Shows (text_of bytes) old old (Ok (Refused (record { cause = cause; place = Byte offset }))))
+none_spelled old None e cause offset is only = tt
+none_spelled old (Some i) e cause offset is only = λ short whole. ((λ c s. never c (only short whole c s)), stays old)
   where
     never : (c : Certificate) → (fails e ≡ Ok c) ⊎ (fails e ≡ Err error.Memory) → ⊥
     never c (inl h) = cc
@@ -72,10 +72,9 @@ none_spelled (Some o) (Some i) e cause offset is only = λ short whole. ((λ c s
 
 -- where no read fails, the text is read to its end
 pub never_unread : (old : Option Output) (source : Option Input) (e : TextError) → e ≡ error.Read → IfTold source (λ i. Fails e (certificate_read (rest_of i)))
-    → IfSome old (λ o. IfWhole source (λ bytes. Shows (text_of bytes) o old (Err Read)))
-never_unread None source e is h = tt
-never_unread (Some o) None e is h = tt
-never_unread (Some o) (Some i) e is h = λ short whole. (true_not_false (sym (failed (h short)) ∙ whole), refl)
+    → IfWhole source (λ bytes. Shows (text_of bytes) old old (Err Read))
+never_unread old None e is h = tt
+never_unread old (Some i) e is h = λ short whole. (true_not_false (sym (failed (h short)) ∙ whole), stays old)
   where
     failed : Fails e (certificate_read (rest_of i)) → i.fails ≡ true
     failed f = item_faults.certificate.failure (rest_of i) (subst (λ y. Fails y (certificate_read (rest_of i))) is f)

@@ -1,14 +1,14 @@
 -- What `show` answers, and what was written then.
-use Rattle.std.specs.Prelude.{⊤, ◌≡◌, ℕ, List, Option, Some, Result, Ok, Err}
+use Rattle.std.specs.Prelude.{⊤, ◌≡◌, ℕ, List, Option, Result, Ok, Err}
 use Rattle.vipr_spec.specs.Certificate.{Certificate}
 use Rattle.vipr_spec.specs.Grammar.{Spells}
 use Rattle.vipr_spec.specs.Reading.{Fault as TextFault, refused, unread}
 use Rattle.vipr_canonical.specs.Canonical.{canonical_text}
 use Rattle.vipr_bytes.specs.Output.{Output}
-use Rattle.vipr_writer.specs.Written.{Wrote}
 use Rattle.vipr_writer.specs.declared.writer.WriteError.TheVariants as write
 use Rattle.vipr_check.specs.declared.verdict.Place.TheVariants.{Byte}
 use Rattle.vipr_check.specs.declared.verdict.Refusal.{Refusal}
+use Rattle.vipr.specs.Printed.{Took, Stays}
 use Rattle.vipr.specs.declared.fault.Fault.{Fault}
 use Rattle.vipr.specs.declared.fault.Fault.TheVariants.{Memory, Read, Write}
 use Rattle.vipr.specs.declared.show.Shown.{Shown}
@@ -20,16 +20,16 @@ pub record Kind : Type 1 where
   pub Unspelled : Refusal → Type 0
   pub Unread : Type 0
 
--- o is the writer's output before, and new the one afterwards.
+-- old is the writer's output before, where it tells that, and new the one afterwards.
 -- Whole: the canonical text of the certificate was taken.
--- Write: its first n bytes were taken, and there was no room for more.
+-- Write: its first n bytes were taken, and no more.
 -- Else nothing was written.
-abbrev pub Shows : Kind → Output → Option Output → Result Shown Fault → Type 0
-Shows k o new (Ok Whole) = (c : Certificate) × k.Spelled c × Wrote o new (canonical_text c) (Ok tt)
-Shows k o new (Ok (Refused r)) = k.Unspelled r × (new ≡ Some o)
-Shows k o new (Err Read) = k.Unread × (new ≡ Some o)
-Shows k o new (Err Memory) = new ≡ Some o
-Shows k o new (Err (Write n)) = (c : Certificate) × k.Spelled c × Wrote o new (canonical_text c) (Err (write.Write n))
+abbrev pub Shows : Kind → Option Output → Option Output → Result Shown Fault → Type 0
+Shows k old new (Ok Whole) = (c : Certificate) × k.Spelled c × Took old new (canonical_text c) (Ok tt)
+Shows k old new (Ok (Refused r)) = k.Unspelled r × Stays old new
+Shows k old new (Err Read) = k.Unread × Stays old new
+Shows k old new (Err Memory) = Stays old new
+Shows k old new (Err (Write n)) = (c : Certificate) × k.Spelled c × Took old new (canonical_text c) (Err (write.Write n))
 
 -- a text of which nothing is known
 abbrev pub any_text : Kind

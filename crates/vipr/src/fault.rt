@@ -1,4 +1,11 @@
 //! Why a command is cut short.
+ghost use Rattle.std.specs.Prelude.{◌≡◌, Some};
+ghost use Rattle.vipr.specs.Program.{fault_for, fault_text, write_fault_for};
+ghost use Rattle.vipr.specs.declared.fault.Fault.TheVariants.{Memory};
+
+use std::alloc::AllocError;
+use std::fmt;
+use std::fmt::{Display, Formatter};
 use vipr_text::WriteError;
 
 /// Why a command was cut short.
@@ -10,10 +17,27 @@ pub enum Fault {
     Write { taken: u64 },
 }
 
-impl From<vipr_check::Fault> for Fault {
-    ghost use Rattle.std.specs.Prelude.{◌≡◌};
-    ghost use Rattle.vipr.specs.Program.{fault_for};
+impl Display for Fault {
+    ghost output = { λ fault. Some (fault_text fault) };
 
+    fn fmt<W: fmt::Write>(&self, f: &mut Formatter<W>) -> fmt::Result {
+        match self {
+            Fault::Read => f.write_str("fault read"),
+            Fault::Memory => f.write_str("fault memory"),
+            Fault::Write { taken } => write!(f, "fault write after {taken}"),
+        }
+    }
+}
+
+impl From<AllocError> for Fault {
+    ghost from_gives = { λ _ told. told ≡ Memory };
+
+    fn from(_error: AllocError) -> Fault {
+        Fault::Memory
+    }
+}
+
+impl From<vipr_check::Fault> for Fault {
     ghost from_gives = { λ fault told. told ≡ fault_for fault };
 
     fn from(fault: vipr_check::Fault) -> Fault {
@@ -25,9 +49,6 @@ impl From<vipr_check::Fault> for Fault {
 }
 
 impl From<WriteError> for Fault {
-    ghost use Rattle.std.specs.Prelude.{◌≡◌};
-    ghost use Rattle.vipr.specs.Program.{write_fault_for};
-
     ghost from_gives = { λ error told. told ≡ write_fault_for error };
 
     fn from(error: WriteError) -> Fault {

@@ -1,9 +1,11 @@
 //! Checks VIPR 1.0 certificates.
 #![tactic(auto)]
 
+ghost use Rattle.std.specs.Prelude.{◌≤◌, IfOk};
+
 mod fault;
 mod line;
-mod output;
+mod print;
 mod program;
 mod show;
 mod task;
@@ -11,6 +13,7 @@ mod task;
 mod tests;
 mod verdict;
 
+use fault::Fault;
 use program::run;
 use std::io::{ErrorKind, Write};
 use std::process::ExitCode;
@@ -20,12 +23,14 @@ fn main(rt: HostRuntime) -> ExitCode {
     ExitCode::from(status(&rt))
 }
 
-fn status(rt: &HostRuntime) -> u8 {
+fn status(rt: &HostRuntime) -> u8
+    ensures { result ≤ 3 }
+{
     let mut err = rt.stderr();
     match on_arguments(rt) {
         Ok(status) => status,
         Err(error) if error.kind() == ErrorKind::OutOfMemory => {
-            let _ = writeln!(err, "fault memory");
+            let _ = writeln!(err, "{}", Fault::Memory);
             3
         }
         Err(_) => {
@@ -38,7 +43,9 @@ fn status(rt: &HostRuntime) -> u8 {
     }
 }
 
-fn on_arguments(rt: &HostRuntime) -> io::Result<u8> {
+fn on_arguments(rt: &HostRuntime) -> io::Result<u8>
+    ensures { IfOk result (λ s. s ≤ 3) }
+{
     let alloc = rt.alloc();
     let arguments: Vec<String> = env::args(rt)?.collect(alloc)?;
     let words: Vec<&str> = arguments.iter().map(|word| word.as_str()).collect(alloc)?;

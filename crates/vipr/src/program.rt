@@ -1,23 +1,23 @@
 //! The whole program, over what stands for the standard streams.
-ghost use Rattle.std.specs.Prelude.{◌≡◌, ◌≢◌, ◌≤◌, IfOk, false, map};
+ghost use Rattle.std.specs.Prelude.{◌≡◌, ◌≤◌, IfOk, IsNone, false, map};
 ghost use Rattle.clap.specs.Words.{kind_of, takes};
+ghost use Rattle.vipr_text.specs.Whole.{IfTold};
 ghost use Rattle.vipr.specs.Line.{line};
-ghost use Rattle.vipr.specs.Program.{shown_status, status_for};
+ghost use Rattle.vipr.specs.Program.{Answers, Does, Fits, Obeys, PrintsText, PrintsVerdict, known_by, status_for, unknown};
 
 use crate::fault::Fault;
 use crate::line::job;
-use crate::output::Counted;
+use crate::print::print;
 use crate::show::{Shown, show};
 use crate::task::{Job, Task};
-use crate::verdict::Lines;
+use crate::verdict::{Lines, RefusalLine};
 use clap::Error;
 use clap::error::ErrorKind;
 use std::alloc::Global;
-use std::fmt::Display;
 use std::fs::File;
 use std::io::{Read, Write};
 use std::rt::Files;
-use vipr_bytes::{FromRead, FromWrite};
+use vipr_bytes::{FromRead, FromWrite, Sink, Source};
 use vipr_check::{Verdict, check};
 
 /// Does what the words ask for, the program's name first, and answers the exit status: 0 where the certificate is
@@ -34,25 +34,25 @@ pub fn run<H: AllocGlobal + Files, R: Read + Drop, O: Write, E: Write>(
 ) -> u8
     ensures status { result ≤ 3 }
     ensures usage { result ≡ 2 → takes line (map (λ w. w.now) words.now) ≡ false }
+    // The status is one that fits what the words ask for.
+    ensures fits { Fits (map (λ w. w.now) words.now) result }
 {
-    match obey(rt, words, input, out, err) {
+    let source = FromRead::new(input);
+    match obey(rt, words, source, &mut FromWrite::new(out), err) {
         Ok(status) => status,
         Err(fault) => {
-            report(fault, err);
+            let _ = writeln!(err, "{fault}");
             3
         }
     }
 }
 
-fn report<E: Write>(fault: Fault, err: &mut E) {
-    let _ = match fault {
-        Fault::Read => writeln!(err, "fault read"),
-        Fault::Memory => writeln!(err, "fault memory"),
-        Fault::Write { taken } => writeln!(err, "fault write after {taken}"),
-    };
-}
-
-fn obey<H: AllocGlobal + Files, R: Read + Drop, O: Write, E: Write>(
+/// The same over any source and sink, but that a fault is not told.
+///
+/// # Errors
+///
+/// Where a file can't be opened or a read fails, a growth is refused, or a write fails.
+fn obey<H: AllocGlobal + Files, R: Source + Drop, O: Sink, E: Write>(
     rt: &H,
     words: &[&str],
     input: R,
@@ -61,17 +61,23 @@ fn obey<H: AllocGlobal + Files, R: Read + Drop, O: Write, E: Write>(
 ) -> Result<u8, Fault>
     ensures status { IfOk result (λ s. s ≤ 2) }
     ensures usage { IfOk result (λ s. s ≡ 2 → takes line (map (λ w. w.now) words.now) ≡ false) }
+    ensures any { Obeys (map (λ w. w.now) words.now) unknown (O.output out.old) (O.output out.new) result }
+    ensures told { IfTold (R.input input) (λ i. Obeys (map (λ w. w.now) words.now) (known_by i) (O.output out.old) (O.output out.new) result) }
 {
     match job(rt.alloc(), words) {
         Ok(job) => do_job(rt, &job, input, out, err),
-        Err(error) => answer(&error, out, err),
+        Err(error) => answer(rt.alloc(), &error, out, err),
     }
 }
 
 /// Prints help, or what is wrong with the words.
-fn answer<O: Write, E: Write>(error: &Error, out: &mut O, err: &mut E) -> Result<u8, Fault>
-    ensures status { IfOk result (λ s. s ≤ 2) }
-    ensures words { IfOk result (λ _. kind_of error.now ≢ ErrorKind.OutOfMemory) }
+fn answer<O: Sink, E: Write>(
+    alloc: Global,
+    error: &Error,
+    out: &mut O,
+    err: &mut E,
+) -> Result<u8, Fault>
+    ensures { Answers (kind_of error.now) (O.output out.old) (O.output out.new) result }
 {
     if error.kind() == ErrorKind::OutOfMemory {
         return Err(Fault::Memory);
@@ -80,47 +86,74 @@ fn answer<O: Write, E: Write>(error: &Error, out: &mut O, err: &mut E) -> Result
         let _ = write!(err, "{error}");
         return Ok(2);
     }
-    print(error, out)?;
+    print(alloc, error, out)?;
     Ok(0)
 }
 
-fn do_job<H: AllocGlobal + Files, R: Read + Drop, O: Write, E: Write>(
+fn do_job<H: AllocGlobal + Files, R: Source + Drop, O: Sink, E: Write>(
     rt: &H,
     job: &Job<'_>,
     input: R,
     out: &mut O,
     err: &mut E,
 ) -> Result<u8, Fault>
-    ensures { IfOk result (λ s. s ≤ 1) }
+    ensures any { Does job.now.command unknown (O.output out.old) (O.output out.new) result }
+    ensures told { IsNone job.now.file → IfTold (R.input input) (λ i. Does job.now.command (known_by i) (O.output out.old) (O.output out.new) result) }
 {
     match job.file {
         None => do_task(rt.alloc(), job.command, input, out, err),
         Some(path) => match File::open(rt, path) {
-            Ok(file) => do_task(rt.alloc(), job.command, file, out, err),
+            Ok(file) => do_task(rt.alloc(), job.command, FromRead::new(file), out, err),
             Err(_) => Err(Fault::Read),
         },
     }
 }
 
-fn do_task<R: Read + Drop, O: Write, E: Write>(
+fn do_task<R: Source + Drop, O: Sink, E: Write>(
     alloc: Global,
     command: Task,
-    input: R,
+    source: R,
     out: &mut O,
     err: &mut E,
 ) -> Result<u8, Fault>
-    ensures { IfOk result (λ s. s ≤ 1) }
+    ensures any { Does command unknown (O.output out.old) (O.output out.new) result }
+    ensures told { IfTold (R.input source) (λ i. Does command (known_by i) (O.output out.old) (O.output out.new) result) }
 {
-    let reader = FromRead::new(input);
     match command {
-        Task::Check => {
-            let verdict = check(alloc, reader)?;
-            print(&Lines(&verdict), out)?;
-            Ok(status_of(&verdict))
-        }
-        Task::Show => {
-            let shown = show(alloc, reader, &mut FromWrite::new(out))?;
-            Ok(tell(&shown, err))
+        Task::Check => print_verdict(alloc, source, out),
+        Task::Show => print_text(alloc, source, out, err),
+    }
+}
+
+/// Prints the verdict on a certificate, and answers the exit status.
+fn print_verdict<R: Source + Drop, O: Sink>(
+    alloc: Global,
+    source: R,
+    out: &mut O,
+) -> Result<u8, Fault>
+    ensures any { PrintsVerdict unknown (O.output out.old) (O.output out.new) result }
+    ensures told { IfTold (R.input source) (λ i. PrintsVerdict (known_by i) (O.output out.old) (O.output out.new) result) }
+{
+    let verdict = check(alloc, source)?;
+    print(alloc, &Lines(&verdict), out)?;
+    Ok(status_of(&verdict))
+}
+
+/// Prints a certificate's canonical text, or on `err` why there is none, and answers the exit status.
+fn print_text<R: Source + Drop, O: Sink, E: Write>(
+    alloc: Global,
+    source: R,
+    out: &mut O,
+    err: &mut E,
+) -> Result<u8, Fault>
+    ensures any { PrintsText unknown (O.output out.old) (O.output out.new) result }
+    ensures told { IfTold (R.input source) (λ i. PrintsText (known_by i) (O.output out.old) (O.output out.new) result) }
+{
+    match show(alloc, source, out)? {
+        Shown::Whole => Ok(0),
+        Shown::Refused(refusal) => {
+            let _ = write!(err, "{}", RefusalLine(&refusal));
+            Ok(1)
         }
     }
 }
@@ -131,26 +164,5 @@ fn status_of(verdict: &Verdict) -> u8
     match verdict {
         Verdict::Verified(_) => 0,
         Verdict::Refused(_) => 1,
-    }
-}
-
-/// Prints a refusal's line, and answers the exit status.
-fn tell<E: Write>(shown: &Shown, err: &mut E) -> u8
-    ensures { result ≡ shown_status shown.now }
-{
-    match shown {
-        Shown::Whole => 0,
-        Shown::Refused(refusal) => {
-            let _ = write!(err, "{}", Lines(&Verdict::Refused(*refusal)));
-            1
-        }
-    }
-}
-
-fn print<T: Display, O: Write>(text: &T, out: &mut O) -> Result<(), Fault> {
-    let mut out = Counted::new(out);
-    match write!(out, "{text}") {
-        Ok(()) => Ok(()),
-        Err(_) => Err(Fault::Write { taken: out.taken() }),
     }
 }

@@ -1,5 +1,4 @@
 //! Shows a certificate.
-ghost use Rattle.std.specs.Prelude.{IfSome};
 ghost use Rattle.vipr_spec.specs.Reading.{certificate_read};
 ghost use Rattle.vipr_text.specs.Whole.{rest_of, IfTold, IfWhole};
 ghost use Rattle.vipr.specs.Shown.{Shows, any_text, text_of, text_read};
@@ -30,11 +29,11 @@ pub fn show<R: Source + Drop, W: Sink>(
     writer: &mut W,
 ) -> Result<Shown, Fault>
     // Nothing is written but a certificate's text.
-    ensures written { IfSome (W.output writer.old) (λ o. Shows any_text o (W.output writer.new) result) }
+    ensures written { Shows any_text (W.output writer.old) (W.output writer.new) result }
     // The certificate, or the refusal, is that of the definitions for the bytes that the source gives, in whatever pieces.
-    ensures exact { IfSome (W.output writer.old) (λ o. IfTold (R.input source) (λ i. Shows (text_read (certificate_read (rest_of i))) o (W.output writer.new) result)) }
+    ensures exact { IfTold (R.input source) (λ i. Shows (text_read (certificate_read (rest_of i))) (W.output writer.old) (W.output writer.new) result) }
     // The certificate is what the text spells, and it is refused where it spells none.
-    ensures spelled { IfSome (W.output writer.old) (λ o. IfWhole (R.input source) (λ bytes. Shows (text_of bytes) o (W.output writer.new) result)) }
+    ensures spelled { IfWhole (R.input source) (λ bytes. Shows (text_of bytes) (W.output writer.old) (W.output writer.new) result) }
 {
     match read_certificate(alloc, source) {
         Ok(certificate) => {

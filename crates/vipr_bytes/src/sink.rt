@@ -1,5 +1,5 @@
-ghost use Rattle.std.specs.Prelude.{◌≡◌, ℕ, ◌<◌, ◌≤◌, length, Option, None, IfOk, IfSome};
-ghost use Rattle.vipr_bytes.specs.Output.{Output, Writes};
+ghost use Rattle.std.specs.Prelude.{◌≡◌, ℕ, ◌<◌, ◌≤◌, length, Option, IfOk, IfSome};
+ghost use Rattle.vipr_bytes.specs.Output.{Output, Writes, held};
 
 use crate::source::Failed;
 use std::io::Write;
@@ -10,7 +10,7 @@ use std::marker::Model;
 /// A write takes the first bytes that it is handed, at least one where there is room. Only where no
 /// room is left it takes none or fails.
 pub trait Sink {
-    // Where the writer tells: the bytes that it took, and how many more it has room for.
+    // Where the writer tells: the bytes that it took, and where that is known how many more it has room for.
     ghost output: { Self → Option Output };
 
     /// Takes bytes from the front of `bytes`, and answers how many.
@@ -20,7 +20,7 @@ pub trait Sink {
         ensures taken { IfSome (output self.old) (λ o. Writes o (output self.new) result bytes.now) };
 }
 
-/// Writes to a writer of std. It tells nothing of what that took.
+/// Writes to a writer of std. It tells what that took where the writer does, and never how much room is left.
 ///
 /// It fails on every error of the writer, an interrupted write too.
 #[derive(Drop)]
@@ -45,7 +45,7 @@ impl<W: Write> FromWrite<W> {
 }
 
 impl<W: Write> Sink for FromWrite<W> {
-    ghost output = { λ _. None };
+    ghost output = { λ w. held (W.contents w) };
 
     fn write(&mut self, bytes: &[u8]) -> Result<usize, Failed> {
         match self.writer.write(bytes) {

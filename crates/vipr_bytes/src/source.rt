@@ -1,4 +1,5 @@
 ghost use Rattle.std.specs.Prelude.{◌≡◌, ℕ, ◌+◌, ◌-◌, ◌^◌, ◌<◌, ◌≤◌, List, length, Option, Some, None, false, IfOk, IfSome};
+ghost use Rattle.std.specs.Io.KnownBytes.{ReadConsumes};
 ghost use Rattle.vipr_spec.specs.Input.{Input};
 ghost use Rattle.vipr_bytes.specs.Reads.{Reads};
 
@@ -64,7 +65,7 @@ impl Source for Bytes<'_> {
     }
 }
 
-/// Reads a reader of std. It tells nothing of its bytes.
+/// Reads a reader of std. It tells nothing of the bytes to come.
 ///
 /// It fails on every error of the reader, an interrupted read too, and at its 2^64th read.
 #[derive(Drop)]
@@ -73,28 +74,27 @@ pub struct FromRead<R> {
     reads: u64,
 }
 
-// Seen as the number of reads that may still give bytes.
-impl<R> Model for FromRead<R> {
-    ghost Value = { ℕ };
-
-    ghost view = { λ r. 2 ^ 64 - 1 - r.reads };
-}
-
 impl<R: Read> FromRead<R> {
     /// A reader that was asked nothing yet.
     pub fn new(reader: R) -> FromRead<R>
-        ensures { result ≡ 2 ^ 64 - 1 }
+        ensures reader { result.reader ≡ reader }
+        ensures reads { result.reads ≡ 0 }
     {
         FromRead { reader, reads: 0 }
     }
 }
 
 impl<R: Read> Source for FromRead<R> {
-    ghost reads_left = { λ reads. reads };
+    ghost reads_left = { λ r. 2 ^ 64 - 1 - r.reads };
 
     ghost input = { λ _. None };
 
-    fn read(&mut self, buf: &mut [u8]) -> Result<usize, Failed> {
+    // What it gives is what the reader gave.
+    fn read(&mut self, buf: &mut [u8]) -> Result<usize, Failed>
+        ensures count { IfOk result (λ n. n ≤ length buf.new) }
+        ensures bound { IfOk result (λ n. 0 < n → 2 ^ 64 - 1 - self.new.reads < 2 ^ 64 - 1 - self.old.reads) }
+        ensures given { ReadConsumes (R.remaining self.old.reader) (R.remaining self.new.reader) result buf.new }
+    {
         if self.reads == u64::MAX {
             return Err(Failed);
         }

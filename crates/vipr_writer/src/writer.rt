@@ -2,7 +2,7 @@
 ghost use Rattle.std.specs.Prelude.{IfErr, IfSome};
 ghost use Rattle.vipr_canonical.specs.Canonical.{canonical_text};
 ghost use Rattle.vipr_canonical.specs.Laws.{SpellsOnly};
-ghost use Rattle.vipr_writer.specs.Written.{Wrote, StopsWithin};
+ghost use Rattle.vipr_writer.specs.Written.{Wrote, StopsAfterPart, StopsWithin};
 
 use crate::sections::text_of;
 use std::alloc::Global;
@@ -23,14 +23,20 @@ pub enum WriteError {
     Memory { taken: u64 },
 }
 
-// Hands the bytes to the writer, until it took all of them.
-fn write_whole<W: Sink>(writer: &mut W, text: &[u8]) -> Result<(), WriteError>
-    ensures told { IfSome (W.output writer.old) (λ o. Wrote o (W.output writer.new) text.now result) }
-    ensures within { IfErr result (StopsWithin text.now) }
+/// Hands bytes to a writer, until it took all of them.
+///
+/// A write that fails or takes 0 bytes ends the call.
+///
+/// # Errors
+///
+/// `Write` where a write failed or took nothing: exactly the first `taken` bytes were taken.
+pub fn write_bytes<W: Sink>(writer: &mut W, bytes: &[u8]) -> Result<(), WriteError>
+    ensures told { IfSome (W.output writer.old) (λ o. Wrote o (W.output writer.new) bytes.now result) }
+    ensures within { IfErr result (StopsAfterPart bytes.now) }
 {
     let mut taken = 0;
-    while taken < text.len() {
-        match writer.write(&text[taken..]) {
+    while taken < bytes.len() {
+        match writer.write(&bytes[taken..]) {
             Ok(n) if n > 0 => taken += n,
             _ => {
                 return Err(WriteError::Write {
@@ -69,7 +75,7 @@ pub fn write_certificate<W: Sink>(
 {
     spells_only(certificate);
     match text_of(alloc, certificate) {
-        Ok(text) => write_whole(writer, &text),
+        Ok(text) => write_bytes(writer, &text),
         Err(_) => Err(WriteError::Memory { taken: 0 }),
     }
 }
