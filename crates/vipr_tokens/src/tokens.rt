@@ -78,7 +78,7 @@ impl<R: Source> Tokens<R> {
         }))
     }
 
-    /// The token that is wanted. It takes no memory.
+    /// The token that is wanted. It takes no memory. After an error nothing is said of what is left.
     pub fn want(&mut self) -> Result<Token<'_>, TextError>
         requires { self.old.spent ≡ false }
         ensures token { IfOk result (λ t. IsToken t.bytes.now) }
