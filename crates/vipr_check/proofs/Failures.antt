@@ -1,11 +1,12 @@
 -- That a read failed is answered only where the source fails
-use Rattle.std.proofs.Common.{◌≡◌, ℕ, zero, suc, true, List, [], ◌∷◌, ◌++◌, length, map, Option, Some, None, Result, Ok, Err, All, refl, sym, ◌∙◌, ap, subst, inl, inr, arith}
+use Rattle.std.proofs.Common.{◌≡◌, ℕ, suc, true, List, [], ◌∷◌, ◌++◌, length, map, Option, Some, None, Result, Ok, Err, All, refl, sym, subst, inl, inr, arith}
 use Rattle.std.proofs.lemmas.List.Elements.{All-nil, All-cons, All-tail, All-append}
 use Rattle.vipr_spec.specs.Constraint.{Row}
 use Rattle.vipr_spec.specs.Certificate.{Named, Problem, Claim, infeasible, range, Derivation, Certificate}
 use Rattle.vipr_spec.specs.Reading.{Rest, Fault, refused, unread, Read, ◌>>=◌, repeated, problem_read, solution_read, derivations_read, derivation_read, end_read, certificate_read}
-use Rattle.vipr_spec.specs.Verdict.{step_tests, FirstFailing, at_solution, at_end, Test, spelled, of_step, meets_primal, meets_dual, is_built, Passes, before_items, items_read, numbered, tests_of_derivation, last_tests, derivations_found, ending_found, claim_tests, problem_found, found_in, cut_short, told_by, IsToldBy, IsAnswer}
+use Rattle.vipr_spec.specs.Verdict.{step_tests, FirstFailing, at_solution, at_end, Test, spelled, of_step, meets_primal, meets_dual, is_built, Passes, items_read, numbered, tests_of_derivation, last_tests, derivations_found, ending_found, claim_tests, problem_found, found_in, cut_short, told_by, IsToldBy, IsAnswer}
 use Rattle.vipr_spec.proofs.GrammarItemFaults.{item_faults}
+use Rattle.vipr_spec.proofs.WholeText.{ended, repeated_is}
 
 -- the test tells of a failed read only where the reading failed for want of more
 abbrev Tells : {A : Type 0} → Result A Fault → Test → Type 0
@@ -44,25 +45,6 @@ fault {A} f = All-cons (Tells {A = A} (Err f)) (spelled f) [] (by f) (All-nil (T
     by : (f : Fault) → told_by (spelled f) ≡ cut_short → ◌≡◌ {A = Result A Fault} (Err f) (Err unread)
     by (refused c o) e = absurd (cc e)
     by unread e = refl
-
--- ---- reading all items, and reading them up to a fault
-
-abbrev ended : {A : Type 0} → List A → Result Rest Fault → Read (List A)
-ended xs (Ok s) = Ok (xs, s)
-ended xs (Err f) = Err f
-
-more_ended : {A : Type 0} (x : A) (xs : List A) (e : Result Rest Fault) → (ended xs e >>= λ ys. Ok (x ∷ ys.0, ys.1)) ≡ ended (x ∷ xs) e
-more_ended x xs (Ok s) = refl
-more_ended x xs (Err f) = refl
-
-repeated_is : {A : Type 0} (item : Rest → Read A) (n : ℕ) (r : Rest) → repeated item n r ≡ ended (items_read item n r).0 (items_read item n r).1
-unfolding repeated items_read
-repeated_is item zero r = refl
-repeated_is {A} item (suc n) r = by (λ s. repeated_is item n s) (item r)
-  where
-    by : ((s : Rest) → repeated item n s ≡ ended (items_read item n s).0 (items_read item n s).1) → (y : Read A) → (y >>= λ x. repeated item n x.1 >>= λ xs. Ok (x.0 ∷ xs.0, xs.1)) ≡ ended (before_items (items_read item n) y).0 (before_items (items_read item n) y).1
-    by others (Err f) = refl
-    by others (Ok x) = ap (λ z. z >>= λ xs. Ok (x.0 ∷ xs.0, xs.1)) (others x.1) ∙ more_ended x.0 _ _
 
 -- ---- the whole text
 

@@ -18,7 +18,7 @@ use Rattle.vipr_spec.proofs.Reported.{told_not_verified}
 
 -- ---- reading all items, and reading them up to a fault
 
-abbrev ended : {A : Type 0} → List A → Result Rest Fault → Read (List A)
+abbrev pub ended : {A : Type 0} → List A → Result Rest Fault → Read (List A)
 ended xs (Ok s) = Ok (xs, s)
 ended xs (Err f) = Err f
 
@@ -26,7 +26,7 @@ more_ended : {A : Type 0} (x : A) (xs : List A) (e : Result Rest Fault) → (end
 more_ended x xs (Ok s) = refl
 more_ended x xs (Err f) = refl
 
-repeated_is : {A : Type 0} (item : Rest → Read A) (n : ℕ) (r : Rest) → repeated item n r ≡ ended (items_read item n r).0 (items_read item n r).1
+pub repeated_is : {A : Type 0} (item : Rest → Read A) (n : ℕ) (r : Rest) → repeated item n r ≡ ended (items_read item n r).0 (items_read item n r).1
 unfolding repeated items_read
 repeated_is item zero r = refl
 repeated_is {A} item (suc n) r = by (λ s. repeated_is item n s) (item r)
