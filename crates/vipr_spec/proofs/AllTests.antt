@@ -1,17 +1,17 @@
 -- All tests of a certificate pass exactly where it is a proof
-use Rattle.std.proofs.Common.{◌≡◌, ℕ, zero, suc, ◌+◌, ◌-◌, ◌<◌, ◌≤◌, List, [], ◌∷◌, ◌++◌, map, length, slice_index_or, Some, None, All, arith, refl, sym, ◌∙◌, ap, subst, ⊎_elim}
+use Rattle.std.proofs.Common.{◌≡◌, ℕ, zero, suc, ◌+◌, ◌-◌, ◌<◌, ◌≤◌, List, [], ◌∷◌, ◌++◌, map, length, slice_index_or, Some, None, All, arith, refl, ◌∙◌, ap, subst, ⊎_elim}
 use Rattle.std.specs.Prelude.{◌↔◌}
 use Rattle.std.proofs.lemmas.Bool.{cases_lt}
 use Rattle.std.proofs.lemmas.List.Elements.{All-nil, All-cons, All-head, All-tail, All-append, All-map}
 use Rattle.std.specs.FinMap.{empty}
 use Rattle.vipr_spec.specs.Fraction.{zero_ℚ}
 use Rattle.vipr_spec.specs.Constraint.{at, equal}
-use Rattle.vipr_spec.specs.Certificate.{Reason, asm, Derivation, Certificate, reason_at, IsFeasible, SolutionFits, IsValid, StepFits, RefersTo, IsProof}
+use Rattle.vipr_spec.specs.Certificate.{asm, Derivation, Certificate, reason_at, IsFeasible, SolutionFits, IsProof}
 use Rattle.vipr_spec.specs.OnePass.{IsGoodStep, HasGoodSteps}
 use Rattle.vipr_spec.specs.Verdict.{Test, of_solution, meets_primal, of_step, meets_dual, Passes, all_step_tests, solution_tests, numbered, tests_of_solution, FirstFailing}
 use Rattle.vipr_spec.specs.ProofTests.{proof_tests}
 use Rattle.vipr_spec.proofs.FirstFailing.{none_all, all_none, all_parts}
-use Rattle.vipr_spec.proofs.GoodSteps.{IsGood, good_of_tests, tests_of_good}
+use Rattle.vipr_spec.proofs.GoodTests.{good_passes}
 use Rattle.vipr_spec.proofs.SolutionTests.{feasible_of_tests, tests_of_feasible}
 use Rattle.vipr_spec.proofs.Steps.{good_given, proof_by_step}
 
@@ -48,16 +48,6 @@ after_given f g (x ∷ xs) ys k d z h = let e : suc (length xs) + k ≡ suc (len
 pub reason_derived : (c : Certificate) (k : ℕ) (d : Derivation) → k < length c.derivations → reason_at c (length c.problem.constraints + k) ≡ Some (slice_index_or c.derivations k d).reason
 reason_derived c k d h = after_given (λ a. None) (λ d. Some d.reason) c.problem.constraints c.derivations k d None h
 
-step_of : (c : Certificate) (k : ℕ) (r : Reason) → reason_at c k ≡ Some r → IsGood c k r → IsGoodStep c k
-step_of c k r e g = record {
-  valid = subst (IsValid c k) (sym e) g.0;
-  fits = subst (StepFits c) (sym e) g.1;
-  references = λ i h. g.2 i (subst (λ o. RefersTo o i) e h);
-}
-
-good_of : (c : Certificate) (k : ℕ) (r : Reason) → reason_at c k ≡ Some r → IsGoodStep c k → IsGood c k r
-good_of c k r e g = (subst (IsValid c k) e g.valid, subst (StepFits c) e g.fits, λ i h. g.references i (subst (λ o. RefersTo o i) (sym e) h))
-
 nothing : Derivation
 nothing = record { name = []; stated = record { row = empty; sense = equal; bound = zero_ℚ }; reason = asm; last = None }
 
@@ -77,14 +67,14 @@ module _ (c : Certificate) where
       let e : m + j ≡ k = omega arith in
       let within : j < length c.derivations = omega arith in
       let r = (slice_index_or c.derivations j nothing).reason in
-      subst (IsGoodStep c) e (step_of c (m + j) r (reason_derived c j nothing within)
-      (good_of_tests c (m + j) r (unmapped (Passes c) (of_step (m + j)) (all_step_tests r) (numbered_of (Passes c) step_list m c.derivations a j nothing within)))))
+      subst (IsGoodStep c) e ((good_passes c (m + j) r (reason_derived c j nothing within)).0
+      (unmapped (Passes c) (of_step (m + j)) (all_step_tests r) (numbered_of (Passes c) step_list m c.derivations a j nothing within))))
       (cases_lt k m)
 
   of_steps : HasGoodSteps c → All (Passes c) (numbered step_list m c.derivations)
   of_steps g = numbered_all (Passes c) step_list m c.derivations (λ j d h.
       let r = (slice_index_or c.derivations j d).reason in
-      All-map (Passes c) (of_step (m + j)) (all_step_tests r) (tests_of_good c (m + j) r (good_of c (m + j) r (reason_derived c j d h) (g (m + j) (omega arith)))))
+      All-map (Passes c) (of_step (m + j)) (all_step_tests r) ((good_passes c (m + j) r (reason_derived c j d h)).1 (g (m + j) (omega arith))))
 
   solutions_of : All (Passes c) (numbered (tests_of_solution c.problem) 0 c.solutions) → All (λ s. IsFeasible c.problem (at s.item) × SolutionFits c.problem (at s.item)) c.solutions
   solutions_of a k d h = feasible_of_tests c.problem (slice_index_or c.solutions k d).item

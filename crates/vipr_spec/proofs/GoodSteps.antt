@@ -1,19 +1,18 @@
 -- All tests of a derivation pass exactly where the step is good
-use Rattle.std.proofs.Common.{◌≡◌, ◌≢◌, ℕ, suc, ◌<◌, ◌⊎◌, Bool, true, false, cond, List, [], ◌∷◌, ◌++◌, map, length, slice_index_or, Some, None, pos, All, Contains, arith, refl, sym, subst, append_assoc, inl, inr, ⊎_elim, zero-lt-suc, append-nil, lit<}
-use Rattle.std.specs.Prelude.{◌↔◌, flat_map, IsTrue, not, Any}
+use Rattle.std.proofs.Common.{◌≡◌, ◌≢◌, ℕ, ◌<◌, ◌⊎◌, Bool, true, false, cond, List, [], ◌∷◌, ◌++◌, length, slice_index_or, Some, None, pos, All, Contains, arith, refl, sym, subst, append_assoc, inl, inr, ⊎_elim, zero-lt-suc, append-nil, lit<}
+use Rattle.std.specs.Prelude.{◌↔◌, flat_map, IsTrue, not}
 use Rattle.std.specs.Ordering.{int_eq}
 use Rattle.std.proofs.lemmas.Bool.Decides.{Decides-int_eq}
 use Rattle.std.proofs.lemmas.Int.{ints}
 use Rattle.std.proofs.lemmas.List.{map-append}
 use Rattle.std.proofs.lemmas.List.Elements.{All-from_recursion, All-nil, All-cons, All-head, All-tail, All-append, All-weaker, All-contains, Contains-get_or}
-use Rattle.vipr_spec.specs.Fraction.{ℚ, zero_ℚ, ◌+ℚ◌, ◌*ℚ◌, ◌≤ℚ◌, ProductFits}
-use Rattle.vipr_spec.specs.Constraint.{Sense, at_most, equal, at_least, Entry, pull, HasSense, PartialSumsFit, TermsFit, SumOfFits}
+use Rattle.vipr_spec.specs.Fraction.{ℚ, zero_ℚ}
+use Rattle.vipr_spec.specs.Constraint.{Sense, Entry, HasSense, SumOfFits}
 use Rattle.vipr_spec.specs.Certificate.{Reason, asm, lin, rnd, uns, sol, Certificate, constraint_at, entries, IsValid, StepFits, RefersTo, is_live}
 use Rattle.vipr_spec.specs.Reading.{is_nonzero}
 use Rattle.vipr_spec.specs.Verdict.{StepTest, earlier, live, suitable, fitting, roundable, listed, by_sum, by_rounding, by_cutoff, built, PassesStep, reference_tests, entry_tests, sum_tests, all_step_tests, FirstFailing}
 use Rattle.vipr_spec.proofs.Fractions.{is_zero, Is, zero_from_numer}
 use Rattle.vipr_spec.proofs.MoreEntries.{suitable_front, fitting_front}
-use Rattle.vipr_spec.proofs.Points.{le_or_not_ℚ}
 use Rattle.vipr_spec.proofs.FirstFailing.{none_all, all_none, all_parts}
 use Rattle.vipr_spec.proofs.EachTests.{flat_all_of, flat_all}
 

@@ -7,7 +7,7 @@ use Rattle.vipr_spec.specs.OnePass.{GoalIs, IsGoodNext}
 use Rattle.vipr_spec.specs.Verdict.{built, all_step_tests, step_tests, FirstFailing, Test, spelled, of_solution, meets_primal, of_step, meets_dual, is_built, Passes, found_in, Report, Reports, Answer, verified, told_by, IsToldBy, IsAnswer}
 use Rattle.vipr_spec.specs.Progress.{PassesNext, IsSum}
 use Rattle.vipr_spec.proofs.Steps.{goal_needed}
-use Rattle.vipr_spec.proofs.FirstFailing.{failing_unique, none_all}
+use Rattle.vipr_spec.proofs.FirstFailing.{failing_unique}
 use Rattle.vipr_spec.proofs.StepTests.{built_or_not}
 use Rattle.vipr_spec.proofs.GoodTests.{next_passes}
 
@@ -68,5 +68,5 @@ built_good c d h = by (built_or_not d.reason)
     unbuilt (inr x) = cc
 
     by : ((step_tests d.reason ≡ all_step_tests d.reason) × IsSum d.reason) ⊎ ((step_tests d.reason ≡ built ∷ []) × ¬ IsSum d.reason) → IsGoodNext c d
-    by (inl e) = (next_passes c d).0 (none_all (PassesNext c d) (all_step_tests d.reason) (subst (λ ts. FirstFailing (PassesNext c d) ts None) e.0 h))
+    by (inl e) = (next_passes c d).0 (subst (λ ts. FirstFailing (PassesNext c d) ts None) e.0 h)
     by (inr e) = absurd (unbuilt (subst (λ ts. FirstFailing (PassesNext c d) ts None) e.0 h))

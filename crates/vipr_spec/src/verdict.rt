@@ -1,12 +1,12 @@
 //! The first test that fails, and what the tests of a step say.
 
 ghost use Rattle.std.specs.Prelude.{◌≡◌, ◌↔◌, ℕ, ◌<◌, ◌⊎◌, List, ◌∷◌, ◌++◌, Option, Some, None, Ok, All};
-ghost use Rattle.vipr_spec.specs.Certificate.{Reason, Derivation, Certificate, reason_at, count, IsProof};
+ghost use Rattle.vipr_spec.specs.Certificate.{Reason, Derivation, Certificate, count, IsProof};
 ghost use Rattle.vipr_spec.specs.Reading.{Rest, certificate_read};
 ghost use Rattle.vipr_spec.specs.Grammar.{Spells};
 ghost use Rattle.vipr_spec.specs.GrammarLaws.{whole_text};
 ghost use Rattle.vipr_spec.specs.Soundness.{IsShown};
-ghost use Rattle.vipr_spec.specs.OnePass.{with_more, IsGoodStep, IsGoodNext};
+ghost use Rattle.vipr_spec.specs.OnePass.{with_more};
 ghost use Rattle.vipr_spec.specs.Verdict.{FirstFailing, Test, Passes, StepTest, PassesStep, all_step_tests, Report, Reports, Answer, verified, IsAnswer};
 ghost use Rattle.vipr_spec.specs.Progress.{LooksBefore, PassesNext, IsBuilt};
 
@@ -29,13 +29,6 @@ pub fn tests_look_back()
         → FirstFailing (PassesStep (with_more c ds) k) (all_step_tests r) f ↔ FirstFailing (PassesStep c k) (all_step_tests r) f }
     ensures next { (c : Certificate) (d : Derivation) (ds : List Derivation) (f : Option StepTest)
         → FirstFailing (PassesStep (with_more c (d ∷ ds)) (count c)) (all_step_tests d.reason) f ↔ FirstFailing (PassesNext c d) (all_step_tests d.reason) f }
-{}
-
-/// A derivation passes its tests exactly where the step is good, and the next one where it can
-/// come next, whatever its reason is.
-pub fn tests_of_steps()
-    ensures good { (c : Certificate) (k : ℕ) (r : Reason) → reason_at c k ≡ Some r → All (PassesStep c k) (all_step_tests r) ↔ IsGoodStep c k }
-    ensures next { (c : Certificate) (d : Derivation) → All (PassesNext c d) (all_step_tests d.reason) ↔ IsGoodNext c d }
 {}
 
 /// A text is verified exactly where it spells a certificate that is of the kind that is built and
