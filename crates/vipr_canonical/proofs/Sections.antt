@@ -7,14 +7,14 @@ use Rattle.std.proofs.lemmas.Grind.{flat_map-append}
 use Rattle.std.proofs.lemmas.List.Folds.{flat_map-map}
 use Rattle.vipr_spec.specs.Fraction.{ℚ, IsBounded}
 use Rattle.vipr_spec.specs.Constraint.{Sense, at_most, equal, at_least, Row, at, Ints, IsInteger, Constraint, NamesBelow}
-use Rattle.vipr_spec.specs.Certificate.{Name, Named, Direction, minimum, maximum, Claim, infeasible, range, Problem, variables, Reason, asm, lin, rnd, uns, sol, Derivation}
+use Rattle.vipr_spec.specs.Certificate.{Name, Named, Direction, minimum, maximum, Claim, infeasible, range, Problem, variables, integer_variables, Reason, asm, lin, rnd, uns, sol, Derivation}
 use Rattle.vipr_spec.specs.Tokens.{IsToken}
 use Rattle.vipr_spec.specs.Reading.{most_count}
 use Rattle.vipr_spec.specs.Shape.{ConstraintShape, ProblemShape, SolutionShape, ReasonShape, DerivationShape, RowFits, ConstraintFits, ClaimFits, ProblemFits, EntryFits, ReasonFits, DerivationFits}
 use Rattle.vipr_spec.specs.Grammar as grammar
 use Rattle.vipr_spec.specs.Grammar.{SpellsCount, SpellsVariable, SpellsSense, SpellsDirection, SpellsBound, SpellsLast, word, one, ◌then◌, each}
 use Rattle.vipr_spec.proofs.NumberReads.{text_spelled}
-use Rattle.vipr_canonical.specs.Canonical.{pair_words, vector_words, sense_word, direction_word, bound_word, last_word, constraint_words, given_words, claim_words, solution_words, reason_words, derivation_words, integer_variables, problem_lines, solutions_lines, derivations_lines}
+use Rattle.vipr_canonical.specs.Canonical.{pair_words, vector_words, sense_word, direction_word, bound_word, last_word, constraint_words, given_words, claim_words, solution_words, reason_words, derivation_words, problem_lines, solutions_lines, derivations_lines}
 use Rattle.vipr_canonical.proofs.LineTokens.{words_of}
 use Rattle.vipr_canonical.proofs.RowEntries.{row_entries, members, set_members}
 use Rattle.vipr_canonical.proofs.Written.{Written, plain_token, decimal_token, decimal_natural, number_token, word_written, fixed_written, one_written, then_written, each_written, count_written, variable_written, number_written}

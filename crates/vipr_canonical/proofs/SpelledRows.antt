@@ -1,16 +1,13 @@
 -- The rows of pairs: which variables they name, and their coefficients
-use Rattle.std.proofs.Common.{◌≡◌, ◌≢◌, ℕ, ◌<◌, ◌≤◌, Bool, true, false, not, cond, List, [], ◌∷◌, filter, None, unwrap_or, All, pos, arith, refl, sym, ap, ◌∙◌, subst}
-use Rattle.std.proofs.lemmas.Bool.Decides.{nat_tests, Decides-int_eq}
+use Rattle.std.proofs.Common.{◌≡◌, ◌≢◌, ℕ, Bool, true, false, cond, List, [], ◌∷◌, filter, All, refl, sym, ◌∙◌, subst}
 use Rattle.std.proofs.lemmas.List.{nil_from_length}
 use Rattle.std.proofs.lemmas.List.Elements.{All-nil, All-cons, All-head, All-tail}
 use Rattle.std.specs.Cmp.{nat_cmp_total}
 use Rattle.std.specs.declared.cmp.Ordering.TheVariants.{Less, Equal, Greater}
-use Rattle.std.specs.FinMap.{entries, empty, from_entries, find, put, get-from_entries, entries-insert, len-entries, len-empty}
+use Rattle.std.specs.FinMap.{entries, empty, from_entries, put, entries-insert, len-entries, len-empty}
 use Rattle.std.specs.FinMap.Entries.{by_order}
-use Rattle.std.specs.Ordering.{nat_cmp, int_eq, eq_by_cmp}
-use Rattle.vipr_spec.specs.Gcd.{gcd}
-use Rattle.vipr_spec.specs.Fraction.{ℚ, over, zero_ℚ, IsBounded}
-use Rattle.vipr_spec.specs.Constraint.{at, NamesBelow}
+use Rattle.std.specs.Ordering.{nat_cmp}
+use Rattle.vipr_spec.specs.Fraction.{ℚ, zero_ℚ, IsBounded}
 use Rattle.vipr_spec.specs.Reading.{is_nonzero, row_of}
 use Rattle.vipr_spec.specs.Shape.{RowFits}
 use Rattle.vipr_spec.proofs.PairRows.{not_zero}

@@ -1,8 +1,5 @@
 -- What is spelled is within the limits of the format, section by section
-use Rattle.std.proofs.Common.{◌≡◌, ℕ, ◌+◌, ◌<◌, ◌≤◌, ⊎_elim, true, nat_eq, List, length, Option, Some, None, IfSome, All, codes, arith, sym, ◌∙◌, subst}
-use Rattle.std.proofs.lemmas.Bool.Decides.{nat_tests}
-use Rattle.std.proofs.lemmas.List.Folds.{Any-from_list_any}
-use Rattle.std.specs.FinSet.{from_list, contains-from_list_nat}
+use Rattle.std.proofs.Common.{◌≡◌, ℕ, ◌+◌, ◌<◌, ◌≤◌, ⊎_elim, List, length, Option, Some, None, IfSome, All, codes, sym, subst}
 use Rattle.vipr_spec.specs.Fraction.{ℚ, IsBounded}
 use Rattle.vipr_spec.specs.Number.{SpellsNumber}
 use Rattle.vipr_spec.specs.Constraint.{Row, Ints, at, Constraint, NamesBelow, IsInteger}
@@ -13,7 +10,7 @@ use Rattle.vipr_spec.specs.Grammar.{SpellsCount, SpellsVariable, SpellsSense, Sp
 use Rattle.vipr_spec.specs.Shape.{ReasonShape, DerivationShape, RowFits, ClaimFits, EntryFits, ReasonFits, DerivationFits, CanWriteProblem, CanWrite}
 use Rattle.vipr_canonical.proofs.SpelledNumbers.{number_bounded, bound_bounded}
 use Rattle.vipr_canonical.proofs.SpelledRows.{row_fits}
-use Rattle.vipr_spec.proofs.PairRows.{row_below}
+use Rattle.vipr_spec.proofs.PairRows.{row_below, set_below}
 use Rattle.vipr_canonical.proofs.SpelledTokens.{Gives, gives_nothing, gives_word, gives_one, gives_then, gives_each}
 
 -- ---- one token
@@ -81,19 +78,11 @@ gives_constraint n given name c good = record {
 gives_names : (ns : List Name) → Gives (names ns) (IsToken (codes "VAR") × ((length ns ≤ most_count) × All IsToken ns))
 gives_names ns = gives_counted word IsToken gives_word (codes "VAR") ns
 
-same_number : (x j n : ℕ) → nat_eq x j ≡ true → x < n → j < n
-same_number x j n e h = grind (arith, nat_tests)
-
-members_below : (n : ℕ) (is : List ℕ) → All (λ i. i < n) is → (j : ℕ) → IsInteger (from_list is) j → j < n
-members_below n is a j h =
-    let m = Any-from_list_any (λ y. nat_eq y j) is (sym (contains-from_list_nat is j) ∙ h) in
-    same_number m.1 j n m.4 (subst (λ i. i < n) m.3 (a m.0 m.1 m.2))
-
 gives_integers : (n : ℕ) (ints : Ints) → Gives (integers n ints) ((j : ℕ) → IsInteger ints j → j < n)
 gives_integers n ints = record {
   law = λ ts a s.
       let all = (gives_counted (one (SpellsVariable n)) (λ i. i < n) (gives_variable n) (codes "INT") s.0).law ts a s.2 in
-      subst (λ (is : Ints). (j : ℕ) → IsInteger is j → j < n) (sym s.1) (members_below n s.0 all.1.1);
+      subst (λ (is : Ints). (j : ℕ) → IsInteger is j → j < n) (sym s.1) (set_below n s.0 all.1.1);
 }
 
 gives_objective : (n : ℕ) (direction : Direction) (row : Row) → Gives (objective n direction row) (GoodRow n row)

@@ -1,13 +1,11 @@
 -- The canonical text of a certificate: its lines, each of them words with a space between them and a line feed at the end
-use Rattle.std.specs.Prelude.{ℕ, List, [], ◌∷◌, ◌++◌, length, map, flat_map, filter, Option, Some, None, codes}
-use Rattle.std.specs.List.{range_with_len}
+use Rattle.std.specs.Prelude.{ℕ, List, [], ◌∷◌, ◌++◌, length, map, flat_map, Option, Some, None, codes}
 use Rattle.std.specs.FinMap.{entries}
-use Rattle.std.specs.FinSet.{contains}
 use Rattle.std.specs.Fmt.{decimal}
 use Rattle.vipr_spec.specs.Fraction.{ℚ}
 use Rattle.vipr_spec.specs.Number.{number_text}
 use Rattle.vipr_spec.specs.Constraint.{Sense, at_most, equal, at_least, Row, Constraint}
-use Rattle.vipr_spec.specs.Certificate.{Name, Named, Direction, minimum, maximum, Claim, infeasible, range, Problem, variables, Reason, asm, lin, rnd, uns, sol, Derivation, Certificate}
+use Rattle.vipr_spec.specs.Certificate.{Name, Named, Direction, minimum, maximum, Claim, infeasible, range, Problem, variables, integer_variables, Reason, asm, lin, rnd, uns, sol, Derivation, Certificate}
 
 -- ---- words
 
@@ -69,10 +67,6 @@ derivation_words d = constraint_words d.name d.stated ++ codes "{" ∷ (reason_w
 -- a keyword and a count
 abbrev pub heading : List ℕ → ℕ → List (List ℕ)
 heading keyword n = keyword ∷ decimal n ∷ []
-
--- the integer variables in rising order
-abbrev pub integer_variables : Problem → List ℕ
-integer_variables p = filter (contains p.integers) (range_with_len 0 (variables p))
 
 abbrev pub variables_lines : Problem → List (List (List ℕ))
 variables_lines p =

@@ -5,8 +5,8 @@ use Rattle.std.proofs.lemmas.Bool.{cases_lt}
 use Rattle.std.proofs.lemmas.List.Elements.{All-nil, All-cons, All-head, All-tail, All-append, All-map}
 use Rattle.std.specs.FinMap.{empty}
 use Rattle.vipr_spec.specs.Fraction.{zero_ℚ}
-use Rattle.vipr_spec.specs.Constraint.{at, equal}
-use Rattle.vipr_spec.specs.Certificate.{asm, Derivation, Certificate, reason_at, IsFeasible, SolutionFits, IsProof}
+use Rattle.vipr_spec.specs.Constraint.{IsInteger, at, equal}
+use Rattle.vipr_spec.specs.Certificate.{asm, Derivation, Certificate, variables, reason_at, IsFeasible, SolutionFits, IsProof}
 use Rattle.vipr_spec.specs.OnePass.{IsGoodStep, HasGoodSteps}
 use Rattle.vipr_spec.specs.Verdict.{Test, of_solution, meets_primal, of_step, meets_dual, Passes, all_step_tests, solution_tests, numbered, tests_of_solution, FirstFailing}
 use Rattle.vipr_spec.specs.ProofTests.{proof_tests}
@@ -76,19 +76,19 @@ module _ (c : Certificate) where
       let r = (slice_index_or c.derivations j d).reason in
       All-map (Passes c) (of_step (m + j)) (all_step_tests r) ((good_passes c (m + j) r (reason_derived c j d h)).1 (g (m + j) (omega arith))))
 
-  solutions_of : All (Passes c) (numbered (tests_of_solution c.problem) 0 c.solutions) → All (λ s. IsFeasible c.problem (at s.item) × SolutionFits c.problem (at s.item)) c.solutions
-  solutions_of a k d h = feasible_of_tests c.problem (slice_index_or c.solutions k d).item
+  solutions_of : ((j : ℕ) → IsInteger c.problem.integers j → j < variables c.problem) → All (Passes c) (numbered (tests_of_solution c.problem) 0 c.solutions) → All (λ s. IsFeasible c.problem (at s.item) × SolutionFits c.problem (at s.item)) c.solutions
+  solutions_of below a k d h = feasible_of_tests c.problem (slice_index_or c.solutions k d).item below
       (unmapped (Passes c) (of_solution (0 + k) (slice_index_or c.solutions k d).item) (solution_tests c.problem) (numbered_of (Passes c) (tests_of_solution c.problem) 0 c.solutions a k d h))
 
   of_solutions : All (λ s. IsFeasible c.problem (at s.item)) c.solutions → All (λ s. SolutionFits c.problem (at s.item)) c.solutions → All (Passes c) (numbered (tests_of_solution c.problem) 0 c.solutions)
   of_solutions f g = numbered_all (Passes c) (tests_of_solution c.problem) 0 c.solutions (λ k d h.
       All-map (Passes c) (of_solution (0 + k) (slice_index_or c.solutions k d).item) (solution_tests c.problem) (tests_of_feasible c.problem (slice_index_or c.solutions k d).item (f k d h) (g k d h)))
 
-  pub proof_of_tests : All (Passes c) (proof_tests c) → IsProof c
-  proof_of_tests a =
+  pub proof_of_tests : ((j : ℕ) → IsInteger c.problem.integers j → j < variables c.problem) → All (Passes c) (proof_tests c) → IsProof c
+  proof_of_tests below a =
       let one = all_parts (Passes c) (numbered (tests_of_solution c.problem) 0 c.solutions) (meets_primal ∷ (numbered step_list m c.derivations ++ meets_dual ∷ [])) a in
       let two = all_parts (Passes c) (numbered step_list m c.derivations) (meets_dual ∷ []) (All-tail (Passes c) meets_primal (numbered step_list m c.derivations ++ meets_dual ∷ []) one.1) in
-      let s = solutions_of one.0 in
+      let s = solutions_of below one.0 in
       (proof_by_step c).1 (record {
         solutions = λ k d h. (s k d h).0;
         solutions_fit = λ k d h. (s k d h).1;
@@ -105,5 +105,5 @@ module _ (c : Certificate) where
       (All-append (Passes c) (numbered step_list m c.derivations) (meets_dual ∷ []) (of_steps p.steps)
       (All-cons (Passes c) meets_dual [] p.dual (All-nil (Passes c)))))
 
-  pub no_proof_test_fails : FirstFailing (Passes c) (proof_tests c) None ↔ IsProof c
-  no_proof_test_fails = (λ f. proof_of_tests (none_all (Passes c) (proof_tests c) f), λ p. all_none (Passes c) (proof_tests c) (tests_of_proof p))
+  pub no_proof_test_fails : ((j : ℕ) → IsInteger c.problem.integers j → j < variables c.problem) → FirstFailing (Passes c) (proof_tests c) None ↔ IsProof c
+  no_proof_test_fails below = (λ f. proof_of_tests below (none_all (Passes c) (proof_tests c) f), λ p. all_none (Passes c) (proof_tests c) (tests_of_proof p))

@@ -1,11 +1,13 @@
 -- The whole certificate, and that no tokens spell two
-use Rattle.std.proofs.Common.{◌≡◌, ◌↔◌, ℕ, ◌≤◌, Bool, true, false, if◌then◌else◌, List, [], ◌∷◌, ◌++◌, length, Result, Ok, Err, All, codes, refl, sym, ◌∙◌, ap, subst, append-nil}
-use Rattle.vipr_spec.specs.Constraint.{Row}
+use Rattle.std.proofs.Common.{◌≡◌, ◌↔◌, ℕ, ◌<◌, ◌≤◌, Bool, true, false, if◌then◌else◌, List, [], ◌∷◌, ◌++◌, length, Result, Ok, Err, All, codes, refl, sym, ◌∙◌, ap, subst, append-nil}
+use Rattle.std.proofs.lemmas.List.Elements.{All-nil, All-cons}
+use Rattle.vipr_spec.specs.Constraint.{IsInteger, Row}
 use Rattle.vipr_spec.specs.Tokens.{Token}
 use Rattle.vipr_spec.specs.Certificate.{Named, Problem, variables, Derivation, Certificate}
 use Rattle.vipr_spec.specs.Reading.{Rest, Fault, unread, ◌>>=◌, most_count, repeated, end_of, end_read, problem_read, solution_read, derivations_read, derivation_read, certificate_read}
-use Rattle.vipr_spec.specs.Grammar.{SpellsCount, word, one, ◌then◌, each, problem, solution, solutions, derivation, derivations, SpelledBy}
+use Rattle.vipr_spec.specs.Grammar.{SpellsCount, SpellsVariable, word, one, ◌then◌, each, problem, solution, solutions, derivation, derivations, SpelledBy}
 use Rattle.vipr_spec.specs.GrammarLaws.{Taken, derivation_count, whole_text, EndsHere, ReadsCertificates, ReadsTexts, OneCertificate}
+use Rattle.vipr_spec.proofs.PairRows.{set_below}
 use Rattle.vipr_spec.proofs.GrammarSteps.{bind_ok, ok_then, same_ok, success, bytes_of, IsShort, taken_as, taken_then, parted}
 use Rattle.vipr_spec.proofs.GrammarParts.{repeated_sound, repeated_complete}
 use Rattle.vipr_spec.proofs.GrammarSections.{reads_problem, reads_solution}
@@ -68,6 +70,15 @@ few_constraints p t =
     let count = parted (parted (parted constraints).before).after in
     count.before.shape.2.1
 
+variables_below : (n : ℕ) (is : List ℕ) (ts : List (List ℕ)) → each (one (SpellsVariable n)) is ts → All (λ i. i < n) is
+variables_below n [] ts e = All-nil (λ i. i < n)
+variables_below n (i ∷ is) ts e = All-cons (λ i. i < n) i is e.3.2.1 (variables_below n is e.1 e.4)
+
+integers_below : (p : Problem) {r s : Rest} → Taken (problem p) r s → (j : ℕ) → IsInteger p.integers j → j < variables p
+integers_below p t j h =
+    let integers = (parted (parted (parted t).after).after).before.shape in
+    set_below (variables p) integers.0 (variables_below (variables p) integers.0 integers.2.4.1 integers.2.4.4) j (subst (λ is. IsInteger is j) integers.1 h)
+
 pub few_constraints_read : (r s : Rest) (x : Problem × ℕ) → problem_read r ≡ Ok (x, s) → length x.0.constraints ≤ most_count
 few_constraints_read r s x e = few_constraints x.0 (parted ((reads_problem r s x).0 e)).before
 
@@ -111,6 +122,9 @@ module _ (r : Rest) (c : Certificate) where
       (ok_then (derived c.problem c.solutions) ((reads_derivations c.problem few b.at room.at m).1 (taken_as (derivation_count c.problem m) header (b.after.shape.0, header.shape)))
       (ok_then (closed c.problem c.solutions) (repeated_complete (derivation_read c.problem) (derivation c.problem) (reads_derivation c.problem) c.derivations room.at w.end room.after)
       (ok_then _ (end_complete w.end w.ends) refl))))
+
+pub integers_read_below : (r : Rest) (c : Certificate) → certificate_read r ≡ Ok c → (j : ℕ) → IsInteger c.problem.integers j → j < variables c.problem
+integers_read_below r c e = let w = certificate_sound r c e in integers_below c.problem (parted w.tokens).before
 
 -- ---- texts
 

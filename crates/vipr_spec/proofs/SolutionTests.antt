@@ -1,41 +1,42 @@
 -- All tests of a listed solution pass exactly where it is feasible and fits
-use Rattle.std.proofs.Common.{◌≡◌, ℕ, ◌<◌, true, List, [], ◌∷◌, map, length, slice_index_or, All, None, ◌++◌, arith, refl, sym, ◌∙◌, subst}
+use Rattle.std.proofs.Common.{◌≡◌, ℕ, ◌<◌, Bool, true, false, cond, List, [], ◌∷◌, map, filter, length, slice_index_or, All, None, ◌++◌, arith, refl, sym, ◌∙◌, subst}
 use Rattle.std.specs.Prelude.{◌↔◌, flat_map}
 use Rattle.std.specs.List.{range_with_len}
-use Rattle.std.specs.Ordering.{nat_cmp, eq_by_cmp}
-use Rattle.std.specs.FinSet.{items, contains-items}
+use Rattle.std.specs.FinSet.{contains}
 use Rattle.std.specs.FinMap.{empty}
-use Rattle.std.specs.Cmp.{unsigned_tied}
-use Rattle.std.proofs.lemmas.Bool.Decides.{Decides-eqb}
 use Rattle.std.proofs.lemmas.List.{get_or-map}
-use Rattle.std.proofs.lemmas.List.Folds.{Any-from_list_any, list_any_at}
 use Rattle.std.proofs.lemmas.List.FromFn.{length-range_with_len, get_or-range_with_len}
-use Rattle.std.proofs.lemmas.List.Elements.{All-nil, All-cons, All-head, All-tail, All-append, All-map, All-get_or}
+use Rattle.std.proofs.lemmas.List.Elements.{All-nil, All-cons, All-head, All-tail, All-append, All-map, All-get_or, All-weaker, filter_passes}
 use Rattle.std.proofs.Math.ListN.{length-map}
 use Rattle.vipr_spec.specs.Fraction.{zero_ℚ, IsWhole}
-use Rattle.vipr_spec.specs.Constraint.{Ints, IsInteger, Row, at, equal, condition, Constraint, IsTrueAt, ValueFits}
-use Rattle.vipr_spec.specs.Certificate.{Named, Problem, variables, IsFeasible, SolutionFits}
+use Rattle.vipr_spec.specs.Constraint.{IsInteger, Row, at, equal, condition, Constraint, IsTrueAt, ValueFits}
+use Rattle.vipr_spec.specs.Certificate.{Named, Problem, variables, integer_variables, IsFeasible, SolutionFits}
 use Rattle.vipr_spec.specs.Verdict.{whole_at, value_fits, holds, objective_fits, given_at, PassesSolution, solution_tests, FirstFailing}
 use Rattle.vipr_spec.proofs.FirstFailing.{none_all, all_none, all_parts}
 use Rattle.vipr_spec.proofs.EachTests.{flat_all_of, flat_all}
 
--- ---- the members of a set of variables
-member_tie : (j x : ℕ) → eq_by_cmp nat_cmp j x ≡ true → j ≡ x
-member_tie j x h = (Decides-eqb j x).0 (sym (unsigned_tied j x) ∙ h)
+-- ---- the integer variables
 
-itself_tied : (j : ℕ) → eq_by_cmp nat_cmp j j ≡ true
-itself_tied j = unsigned_tied j j ∙ (Decides-eqb j j).1 refl
+abbrev IfPasses : (ℕ → Type 0) → (ℕ → Bool) → ℕ → Type 0
+IfPasses P p x = p x ≡ true → P x
 
-pub members_all : (P : ℕ → Type 0) (s : Ints) → All P (items s) ↔ ((j : ℕ) → IsInteger s j → P j)
-members_all P s = (there, λ f k d h. f (slice_index_or (items s) k d) (member k d h))
+kept_all : (P : ℕ → Type 0) (p : ℕ → Bool) (xs : List ℕ) → All P (filter p xs) → All (IfPasses P p) xs
+kept_all P p [] a = All-nil (IfPasses P p)
+kept_all P p (x ∷ xs) a = by (p x) refl (kept_all P p xs) a
   where
-    there : All P (items s) → (j : ℕ) → IsInteger s j → P j
-    there a j i =
-        let m = Any-from_list_any (eq_by_cmp nat_cmp j) (items s) (sym (contains-items s j) ∙ i) in
-        subst P (sym (member_tie j m.1 m.4)) (subst P m.3 (a m.0 m.1 m.2))
+    by : (b : Bool) → p x ≡ b → (All P (filter p xs) → All (IfPasses P p) xs) → All P (cond b (x ∷ filter p xs) (filter p xs)) → All (IfPasses P p) (x ∷ xs)
+    by true e rest a = All-cons (IfPasses P p) x xs (λ t. All-head P x (filter p xs) a) (rest (All-tail P x (filter p xs) a))
+    by false e rest a = All-cons (IfPasses P p) x xs (λ t. absurd (cc)) (rest a)
 
-    member : (k d : ℕ) → k < length (items s) → IsInteger s (slice_index_or (items s) k d)
-    member k d h = contains-items s (slice_index_or (items s) k d) ∙ list_any_at (eq_by_cmp nat_cmp (slice_index_or (items s) k d)) (items s) k d h (itself_tied (slice_index_or (items s) k d))
+each_integer : (P : ℕ → Type 0) (p : Problem) → ((j : ℕ) → IsInteger p.integers j → j < variables p) → All P (integer_variables p) → (j : ℕ) → IsInteger p.integers j → P j
+each_integer P p below a j i =
+    let less : j < variables p = below j i in
+    let within : j < length (range_with_len 0 (variables p)) = subst (λ n. j < n) (sym (length-range_with_len 0 (variables p))) less in
+    let is : slice_index_or (range_with_len 0 (variables p)) j j ≡ j = get_or-range_with_len 0 (variables p) j j less ∙ omega arith in
+    subst (λ n. IsInteger p.integers n → P n) is (kept_all P (contains p.integers) (range_with_len 0 (variables p)) a j j within) i
+
+all_integers : (P : ℕ → Type 0) (p : Problem) → ((j : ℕ) → IsInteger p.integers j → P j) → All P (integer_variables p)
+all_integers P p f = All-weaker (IsInteger p.integers) P f (integer_variables p) (filter_passes (contains p.integers) (range_with_len 0 (variables p)))
 
 -- ---- the constraints of the problem by index
 pub each_given : (P : Constraint → Type 0) (p : Problem) → All (λ i. P (given_at p i)) (range_with_len 0 (length p.constraints)) ↔ All (λ c. P c.item) p.constraints
@@ -61,14 +62,14 @@ each_given P p = (
 abbrev MeetsOne : Problem → Row → Constraint → Type 0
 MeetsOne p s c = ValueFits (variables p) (at c.row) (at s) × IsTrueAt (variables p) (condition c) (at s)
 
-pub feasible_of_tests : (p : Problem) (s : Row) → All (PassesSolution p s) (solution_tests p) → IsFeasible p (at s) × SolutionFits p (at s)
-feasible_of_tests p s a =
+pub feasible_of_tests : (p : Problem) (s : Row) → ((j : ℕ) → IsInteger p.integers j → j < variables p) → All (PassesSolution p s) (solution_tests p) → IsFeasible p (at s) × SolutionFits p (at s)
+feasible_of_tests p s below a =
     let P = PassesSolution p s in
     let pairs = λ (i : ℕ). value_fits i ∷ holds i ∷ [] in
-    let two = all_parts P (map whole_at (items p.integers) ++ flat_map pairs (range_with_len 0 (length p.constraints))) (objective_fits ∷ []) a in
-    let one = all_parts P (map whole_at (items p.integers)) (flat_map pairs (range_with_len 0 (length p.constraints))) two.0 in
+    let two = all_parts P (map whole_at (integer_variables p) ++ flat_map pairs (range_with_len 0 (length p.constraints))) (objective_fits ∷ []) a in
+    let one = all_parts P (map whole_at (integer_variables p)) (flat_map pairs (range_with_len 0 (length p.constraints))) two.0 in
     let each : All (λ c. MeetsOne p s c.item) p.constraints = (each_given (MeetsOne p s) p).0 (flat_all_of P pairs (λ i. MeetsOne p s (given_at p i)) (λ i b. (All-head P (value_fits i) (holds i ∷ []) b, All-head P (holds i) [] (All-tail P (value_fits i) (holds i ∷ []) b))) (range_with_len 0 (length p.constraints)) one.1) in (
-      record { whole = (members_all (λ j. IsWhole (at s j)) p.integers).0 (unmapped (items p.integers) one.0); meets = λ k d h. (each k d h).1 },
+      record { whole = each_integer (λ j. IsWhole (at s j)) p below (unmapped (integer_variables p) one.0); meets = λ k d h. (each k d h).1 },
       (λ k d h. (each k d h).0, All-head P objective_fits [] two.1),
     )
   where
@@ -81,14 +82,14 @@ tests_of_feasible p s f g =
     let P = PassesSolution p s in
     let pairs = λ (i : ℕ). value_fits i ∷ holds i ∷ [] in
     let each : All (λ c. MeetsOne p s c.item) p.constraints = λ k d h. (g.0 k d h, f.meets k d h) in
-    All-append P (map whole_at (items p.integers) ++ flat_map pairs (range_with_len 0 (length p.constraints))) (objective_fits ∷ [])
-    (All-append P (map whole_at (items p.integers)) (flat_map pairs (range_with_len 0 (length p.constraints)))
-    (All-map P whole_at (items p.integers) ((members_all (λ j. IsWhole (at s j)) p.integers).1 f.whole))
+    All-append P (map whole_at (integer_variables p) ++ flat_map pairs (range_with_len 0 (length p.constraints))) (objective_fits ∷ [])
+    (All-append P (map whole_at (integer_variables p)) (flat_map pairs (range_with_len 0 (length p.constraints)))
+    (All-map P whole_at (integer_variables p) (all_integers (λ j. IsWhole (at s j)) p f.whole))
     (flat_all P pairs (λ i. MeetsOne p s (given_at p i)) (λ i m. All-cons P (value_fits i) (holds i ∷ []) m.0 (All-cons P (holds i) [] m.1 (All-nil P))) (range_with_len 0 (length p.constraints)) ((each_given (MeetsOne p s) p).1 each)))
     (All-cons P objective_fits [] g.1 (All-nil P))
 
-pub no_solution_test_fails : (p : Problem) (s : Row) → FirstFailing (PassesSolution p s) (solution_tests p) None ↔ (IsFeasible p (at s) × SolutionFits p (at s))
-no_solution_test_fails p s = (
-  λ f. feasible_of_tests p s (none_all (PassesSolution p s) (solution_tests p) f),
+pub no_solution_test_fails : (p : Problem) (s : Row) → ((j : ℕ) → IsInteger p.integers j → j < variables p) → FirstFailing (PassesSolution p s) (solution_tests p) None ↔ (IsFeasible p (at s) × SolutionFits p (at s))
+no_solution_test_fails p s below = (
+  λ f. feasible_of_tests p s below (none_all (PassesSolution p s) (solution_tests p) f),
   λ g. all_none (PassesSolution p s) (solution_tests p) (tests_of_feasible p s g.0 g.1),
 )

@@ -1,9 +1,9 @@
 -- A text is verified exactly where it is read as a proof
-use Rattle.std.proofs.Common.{◌≡◌, ℕ, zero, suc, List, [], ◌∷◌, ◌++◌, length, map, Option, Some, None, Result, Ok, Err, All, Contains, refl, sym, ◌∙◌, ap, ap₂, subst, zero-lt-suc, inl, inr}
+use Rattle.std.proofs.Common.{◌≡◌, ℕ, ◌<◌, zero, suc, List, [], ◌∷◌, ◌++◌, length, map, Option, Some, None, Result, Ok, Err, All, Contains, refl, sym, ◌∙◌, ap, ap₂, subst, zero-lt-suc, inl, inr}
 use Rattle.std.specs.Prelude.{◌↔◌}
 use Rattle.std.proofs.lemmas.List.Elements.{All-nil, All-cons, All-head, All-tail, All-contains, Contains-append_right}
-use Rattle.vipr_spec.specs.Constraint.{Row}
-use Rattle.vipr_spec.specs.Certificate.{Named, Problem, Claim, infeasible, range, Reason, Derivation, Certificate, IsProof}
+use Rattle.vipr_spec.specs.Constraint.{IsInteger, Row}
+use Rattle.vipr_spec.specs.Certificate.{Named, Problem, variables, Claim, infeasible, range, Reason, Derivation, Certificate, IsProof}
 use Rattle.vipr_spec.specs.Reading.{Rest, Fault, Read, ◌>>=◌, repeated, problem_read, solution_read, derivations_read, derivation_read, end_read, certificate_read}
 use Rattle.vipr_spec.specs.Grammar.{Spells}
 use Rattle.vipr_spec.specs.GrammarLaws.{whole_text}
@@ -12,7 +12,7 @@ use Rattle.vipr_spec.specs.ProofTests.{proof_tests}
 use Rattle.vipr_spec.specs.Progress.{IsSum, IsBuilt}
 use Rattle.vipr_spec.proofs.FirstFailing.{none_all, all_none, all_parts, failing_unique}
 use Rattle.vipr_spec.proofs.AllTests.{proof_of_tests, tests_of_proof}
-use Rattle.vipr_spec.proofs.GrammarWhole.{reads_texts}
+use Rattle.vipr_spec.proofs.GrammarWhole.{reads_texts, integers_read_below}
 use Rattle.vipr_spec.proofs.StepTests.{built_or_not}
 use Rattle.vipr_spec.proofs.Reported.{told_not_verified}
 
@@ -168,12 +168,12 @@ all_passed r report h = by h.0 h.1 h.2
     by None p q = (none_all (Passes (found_in r).certificate) (found_in r).tests p, (let e : q.0 ≡ report = cc q.2 in subst (Reports (found_in r).certificate) e q.1))
     by (Some t) p q = absurd (told_not_verified t report (sym q))
 
-verified_out : (found : Found) (x : Result Certificate Fault) (report : Report) → Whole found x → All (Passes found.certificate) found.tests → Reports found.certificate report → IsVerified x report
-verified_out found (Err f) report w a s = absurd (All-contains (Passes found.certificate) found.tests (spelled f) a w)
-verified_out found (Ok c) report w a s =
+verified_out : (found : Found) (x : Result Certificate Fault) (report : Report) → ((c : Certificate) → x ≡ Ok c → (j : ℕ) → IsInteger c.problem.integers j → j < variables c.problem) → Whole found x → All (Passes found.certificate) found.tests → Reports found.certificate report → IsVerified x report
+verified_out found (Err f) report below w a s = absurd (All-contains (Passes found.certificate) found.tests (spelled f) a w)
+verified_out found (Ok c) report below w a s =
     let b = subst (λ g. All (Passes g.certificate) g.tests) w a in
     let i = built_of c b in
-    (c, refl, i, proof_of_tests c (subst (All (Passes c)) (same_tests c i) b), subst (λ g. Reports g.certificate report) w s)
+    (c, refl, i, proof_of_tests c (below c refl) (subst (All (Passes c)) (same_tests c i) b), subst (λ g. Reports g.certificate report) w s)
 
 verified_in : (found : Found) (x : Result Certificate Fault) (report : Report) → Whole found x → IsVerified x report → (FirstFailing (Passes found.certificate) found.tests None) × Reports found.certificate report
 verified_in found (Err f) report w v = absurd (cc v.1)
@@ -185,7 +185,7 @@ verified_in found (Ok d) report w v =
 
 pub verified_read : (r : Rest) (report : Report) → IsAnswer r (verified report) ↔ IsVerified (certificate_read r) report
 verified_read r report = (
-  λ h. let a = all_passed r report h in verified_out (found_in r) (certificate_read r) report (whole_read r) a.0 a.1,
+  λ h. let a = all_passed r report h in verified_out (found_in r) (certificate_read r) report (integers_read_below r) (whole_read r) a.0 a.1,
   λ v. let a = verified_in (found_in r) (certificate_read r) report (whole_read r) v in (None, a.0, (report, a.1, refl)),
 )
 

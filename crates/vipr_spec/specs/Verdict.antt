@@ -5,7 +5,7 @@ use Rattle.std.specs.FinSet as set
 use Rattle.std.specs.FinMap.{empty}
 use Rattle.vipr_spec.specs.Fraction.{ℚ, zero_ℚ, IsWhole}
 use Rattle.vipr_spec.specs.Constraint.{Sense, equal, Row, at, condition, Constraint, IsTrueAt, ValueFits, HasSense, SumOfFits, sum_of, IsWholeRow, IsSplit, Dominates, Combines, CombinesRounded}
-use Rattle.vipr_spec.specs.Certificate.{Named, minimum, Claim, infeasible, range, Problem, variables, Reason, asm, lin, rnd, uns, sol, Derivation, Certificate, constraint_at, reason_at, entries, is_live, IsBest, cutoff, MeetsPrimal, NeedsGoal, ProvesDual, IsGoal, peak}
+use Rattle.vipr_spec.specs.Certificate.{Named, minimum, Claim, infeasible, range, Problem, variables, integer_variables, Reason, asm, lin, rnd, uns, sol, Derivation, Certificate, constraint_at, reason_at, entries, is_live, IsBest, cutoff, MeetsPrimal, NeedsGoal, ProvesDual, IsGoal, peak}
 use Rattle.vipr_spec.specs.Causes as cause
 use Rattle.vipr_spec.specs.Reading.{Rest, Fault, refused, unread, Read, ◌>>=◌, is_nonzero, problem_read, solution_read, derivations_read, derivation_read, end_read}
 
@@ -127,9 +127,9 @@ solution_cause (value_fits i) = cause.solution_overflow
 solution_cause (holds i) = cause.solution_breaks
 solution_cause objective_fits = cause.solution_overflow
 
--- the integer variables in their order, then the constraints in theirs, then the objective
+-- the integer variables in rising order, then the constraints in their order, then the objective
 abbrev pub solution_tests : Problem → List SolutionTest
-solution_tests p = map whole_at (set.items p.integers) ++ flat_map (λ i. value_fits i ∷ holds i ∷ []) (range_with_len 0 (length p.constraints)) ++ objective_fits ∷ []
+solution_tests p = map whole_at (integer_variables p) ++ flat_map (λ i. value_fits i ∷ holds i ∷ []) (range_with_len 0 (length p.constraints)) ++ objective_fits ∷ []
 
 -- ---- what is tested of a text
 
