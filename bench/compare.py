@@ -1,19 +1,24 @@
 #!/usr/bin/env python3
-"""Compares the built program with the plain model on many damaged certificates.
+"""Compares the built program with the plain models on the examples and on many damaged copies of them.
 
 usage: compare.py [PROGRAM [RUNS [SEED]]]      crates/vipr/out/vipr, 2000 runs and seed 1 without them
 
-Each run takes an example, changes a few tokens of it, and checks the result with both. Prints each text on which they
-differ, and a last line of counts. The exit status is 1 if they differ. Answers with cause 60 (a part that isn't built)
-are counted apart.
+Each example is tried as it is. Each run then takes one, changes a few tokens of it, and tries the result. What `check`
+and `show` print on standard output and on standard error, and the exit status, must be what the models say, byte for
+byte. What the program doesn't have yet it must refuse with fault 60, and at the place that `AsBuilt` says: any other
+answer there, and fault 60 anywhere else, is a difference.
+
+Prints each text on which they differ, and a last line of counts. The exit status is 1 if they differ.
 """
 import random
 import re
 import subprocess
 import sys
+from collections import Counter
 from pathlib import Path
 
-from plain_check import verdict
+from plain_check import Checker, Refused, verdict
+from plain_show import shown
 
 TOP = Path(__file__).resolve().parent.parent
 SPARE = [
@@ -51,29 +56,57 @@ def damaged(text, chance):
     return front + b"".join(token + chance.choice(GAPS) for token in tokens)
 
 
+class AsBuilt(Checker):
+    """The plain checker, with fault 60 where the program needs a part that isn't built."""
+
+    reasons = {"lin"}
+
+    def problem(self):
+        super().problem()
+        if self.bounds is not None:
+            raise Refused(60, "end")
+
+    def test_solution(self, place, point):
+        raise Refused(60, place)
+
+    def test_derivation(self, own, stated, reason, *rest):
+        if reason not in self.reasons:
+            raise Refused(60, f"DER {own}")
+        super().test_derivation(own, stated, reason, *rest)
+
+
+def checked(text):
+    """What goes to standard output, what goes to standard error, and the exit status."""
+    answer = verdict(text, AsBuilt)
+    return f"{answer}\n".encode(), b"", 0 if answer.startswith("verified") else 1
+
+
+def kind(output, status):
+    if status:
+        return "not built" if output.startswith(b"refused 60 ") else "refused"
+    return "verified" if output.startswith(b"verified ") else "shown"
+
+
 def main():
     program = sys.argv[1] if len(sys.argv) > 1 else TOP / "crates/vipr/out/vipr"
     runs = int(sys.argv[2]) if len(sys.argv) > 2 else 2000
     chance = random.Random(int(sys.argv[3]) if len(sys.argv) > 3 else 1)
     sys.set_int_max_str_digits(0)
-    examples = [path.read_bytes() for path in sorted((TOP / "examples").glob("*.vipr"))]
-    examples = [text for text in examples if len(text) < 10000]
-    same = different = not_built = 0
-    for _ in range(runs):
-        text = damaged(chance.choice(examples), chance)
-        wanted = verdict(text) + "\n"
-        answer = subprocess.run([program, "check"], input=text, capture_output=True)
-        printed = answer.stdout.decode()
-        status = 0 if wanted.startswith("verified") else 1
-        if printed.startswith("refused 60 "):
-            not_built += 1
-        elif (printed, answer.returncode) == (wanted, status):
-            same += 1
-        else:
-            different += 1
-            print(f"{text[:2000]!r}\n  wanted {wanted!r}, got {printed!r}, {answer.stderr!r}, status {answer.returncode}")
-    print(f"{same} the same, {not_built} not built, {different} different")
-    sys.exit(different > 0)
+    examples = [path.read_bytes() for path in sorted((TOP / "examples").rglob("*.vipr"))]
+    short = [text for text in examples if len(text) < 10000]
+    counts = Counter()
+    for text in examples + [damaged(chance.choice(short), chance) for _ in range(runs)]:
+        for command, model in ("check", checked), ("show", shown):
+            wanted = model(text)
+            answer = subprocess.run([program, command], input=text, capture_output=True)
+            got = answer.stdout, answer.stderr, answer.returncode
+            if got == wanted:
+                counts[f"{command}: {kind(wanted[0], wanted[2])}"] += 1
+            else:
+                counts["different"] += 1
+                print(f"{text[:2000]!r}\n  {command}: wanted {wanted!r}, got {got!r}")
+    print(", ".join(f"{what} {number}" for what, number in sorted(counts.items())))
+    sys.exit(counts["different"] > 0)
 
 
 if __name__ == "__main__":

@@ -265,7 +265,9 @@ class Checker:
 
     def solution(self, place):
         self.tokens.next()
-        point = self.tokens.vector(self.variables)
+        self.test_solution(place, self.tokens.vector(self.variables))
+
+    def test_solution(self, place, point):
         if any(point[index].denominator != 1 for index in point if index in self.integers):
             raise Refused(21, place)
         try:
@@ -296,7 +298,9 @@ class Checker:
             last = None
         else:
             last = tokens.reference()
+        self.test_derivation(own, stated, reason, parts, last)
 
+    def test_derivation(self, own, stated, reason, parts, last):
         def refuse(cause):
             raise Refused(cause, f"DER {own}")
 
@@ -369,9 +373,9 @@ class Checker:
             self.kept_until[last] = self.kept_until.get(last, 0) + 1
 
 
-def verdict(text):
+def verdict(text, checker=Checker):
     try:
-        return Checker(text).run()
+        return checker(text).run()
     except Refused as fault:
         cause, place = fault.args
         return f"refused {cause} at {place}"
