@@ -94,7 +94,7 @@ def main():
     sys.set_int_max_str_digits(0)
     examples = [path.read_bytes() for path in sorted((TOP / "examples").rglob("*.vipr"))]
     short = [text for text in examples if len(text) < 10000]
-    counts = Counter()
+    counts = Counter(different=0)
     for text in examples + [damaged(chance.choice(short), chance) for _ in range(runs)]:
         for command, model in ("check", checked), ("show", shown):
             wanted = model(text)
