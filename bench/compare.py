@@ -5,8 +5,7 @@ usage: compare.py [PROGRAM [RUNS [SEED]]]      crates/vipr/out/vipr, 2000 runs a
 
 Each example is tried as it is. Each run then takes one, changes a few tokens of it, and tries the result. What `check`
 and `show` print on standard output and on standard error, and the exit status, must be what the models say, byte for
-byte. What the program doesn't have yet it must refuse with fault 60, and at the place that `AsBuilt` says: any other
-answer there, and fault 60 anywhere else, is a difference.
+byte.
 
 Prints each text on which they differ, and a last line of counts. The exit status is 1 if they differ.
 """
@@ -17,7 +16,7 @@ import sys
 from collections import Counter
 from pathlib import Path
 
-from plain_check import Checker, Refused, verdict
+from plain_check import verdict
 from plain_show import shown
 
 TOP = Path(__file__).resolve().parent.parent
@@ -56,34 +55,15 @@ def damaged(text, chance):
     return front + b"".join(token + chance.choice(GAPS) for token in tokens)
 
 
-class AsBuilt(Checker):
-    """The plain checker, with fault 60 where the program needs a part that isn't built."""
-
-    reasons = {"lin"}
-
-    def problem(self):
-        super().problem()
-        if self.bounds is not None:
-            raise Refused(60, "end")
-
-    def test_solution(self, place, point):
-        raise Refused(60, place)
-
-    def test_derivation(self, own, stated, reason, *rest):
-        if reason not in self.reasons:
-            raise Refused(60, f"DER {own}")
-        super().test_derivation(own, stated, reason, *rest)
-
-
 def checked(text):
     """What goes to standard output, what goes to standard error, and the exit status."""
-    answer = verdict(text, AsBuilt)
+    answer = verdict(text)
     return f"{answer}\n".encode(), b"", 0 if answer.startswith("verified") else 1
 
 
 def kind(output, status):
     if status:
-        return "not built" if output.startswith(b"refused 60 ") else "refused"
+        return "refused"
     return "verified" if output.startswith(b"verified ") else "shown"
 
 

@@ -119,6 +119,21 @@ DER 1
 f G 1 0 { rnd 1 0 1/2 } -1
 ";
 
+/// The same where x may be a fraction.
+const NOT_INTEGER: &str = "VER 1.0
+VAR 1
+x
+INT 0
+OBJ min
+0
+CON 1 0
+a E 1 1 0 2
+RTP infeas
+SOL 0
+DER 1
+f G 1 0 { rnd 1 0 1/2 } -1
+";
+
 /// `0 >= 1`, without variables.
 const NO_VARIABLES: &str = "VER 1.0
 VAR 0
@@ -156,6 +171,21 @@ a G 3 1 0 1
 RTP infeas
 SOL 1
 s 1 0 3
+DER 1
+c L 3 1 0 1 { sol } -1
+";
+
+/// The cutoff of no solution.
+const USES_SOLUTION: &str = "VER 1.0
+VAR 1
+x
+INT 0
+OBJ min
+1 0 1
+CON 1 0
+a G 3 1 0 1
+RTP infeas
+SOL 0
 DER 1
 c L 3 1 0 1 { sol } -1
 ";
@@ -237,6 +267,8 @@ const SHOW: [&str; 2] = ["vipr", "show"];
 const TOO_LARGE: &str = "170141183460469231731687303715884105728";
 
 const VERIFIED: &str = "verified infeas\nsolutions 0 derived 1 peak 1\n";
+
+const BOTH_VERIFIED: &str = "verified infeas\nsolutions 0 derived 5 peak 4\n";
 
 /// A reader that gives its bytes in pieces and then, after so many reads, fails.
 #[derive(Drop)]
@@ -343,8 +375,75 @@ const EDITS: [(usize, &str, &str, &str); 25] = [
     (109, "-1 } -1\n", "1 } -1\n x", "refused 34 at DER 2\n"),
 ];
 
+/// What stands in the text with both branches, what is put there, and what `check` prints then.
+const BRANCH_EDITS: [(&str, &str, &str); 11] = [
+    ("", "", BOTH_VERIFIED),
+    ("uns 4 2 5 3", "uns 5 3 4 2", BOTH_VERIFIED),
+    // a reference after the last one
+    ("} 6\nf", "} 5\nf", "refused 32 at DER 6\n"),
+    // each branch without the other's assumption
+    ("uns 4 2 5 3", "uns 5 2 4 3", "refused 51 at end\n"),
+    // no assumption, and no split
+    ("uns 4 2 5 3", "uns 4 0 5 3", "refused 33 at DER 6\n"),
+    ("uns 4 2 5 3", "uns 4 2 5 4", "refused 33 at DER 6\n"),
+    ("uns 4 2 5 3", "uns 4 2 5 2", "refused 37 at DER 6\n"),
+    ("d G 1 1 0 1", "d G 2 1 0 1", "refused 37 at DER 6\n"),
+    ("INT 1\n0\n", "INT 0\n", "refused 37 at DER 6\n"),
+    // a branch that says less
+    ("e G 1 0 {", "e G 0 0 {", "refused 38 at DER 6\n"),
+    ("DER 5", "DER 3", "refused 18 at byte 162\n"),
+];
+
+/// The same in the text that is rounded up.
+const UP_EDITS: [(&str, &str, &str); 5] = [
+    // rounding, and a listed solution, of a variable that may be a fraction
+    ("INT 1\n0\n", "INT 0\n", "refused 36 at DER 1\n"),
+    ("s 1 0 1", "s 1 0 1/2", "refused 21 at SOL 0\n"),
+    // bounds that aren't attained, and such as are
+    ("range 1 1", "range 1 0", "refused 52 at end\n"),
+    (
+        "range 1 1\nSOL 1\ns 1 0 1\n",
+        "range 1 inf\nSOL 0\n",
+        "verified range 1 inf\nsolutions 0 derived 1 peak 1\n",
+    ),
+    (
+        "range 1 1\nSOL 1\ns 1 0 1\n",
+        "range 1 7/2\nSOL 2\ns 1 0 3\nt 1 0 2\n",
+        "verified range 1 7/2\nsolutions 2 derived 1 peak 1\n",
+    ),
+];
+
+/// The same in the text that is rounded down.
+const DOWN_EDITS: [(&str, &str, &str); 3] = [
+    ("range 2 2", "range 3 2", "refused 52 at end\n"),
+    ("range 2 2", "range 2 1", "refused 51 at end\n"),
+    (
+        "range 2 2",
+        "range -inf inf",
+        "verified range -inf inf\nsolutions 1 derived 1 peak 1\n",
+    ),
+];
+
+/// The same in the text with a solution.
+const SOLVED_EDITS: [(&str, &str, &str); 5] = [
+    ("s 1 0 3", "s 1 0 2", "refused 22 at SOL 0\n"),
+    (
+        "SOL 1\ns 1 0 3\n",
+        "SOL 2\ns 1 0 3\nt 1 0 2\n",
+        "refused 22 at SOL 1\n",
+    ),
+    // the cutoff
+    ("c L 3", "c L 2", "refused 38 at DER 1\n"),
+    ("c L 3", "c L 4", "refused 51 at end\n"),
+    (
+        "SOL 1\ns 1 0 3\n",
+        "SOL 2\ns 1 0 3\nt 1 0 7/2\n",
+        "refused 51 at end\n",
+    ),
+];
+
 /// Other texts, and what `check` prints of them.
-const TEXTS: [(&str, &str); 10] = [
+const TEXTS: [(&str, &str); 17] = [
     ("", "refused 1 at byte 0\n"),
     ("%x", "refused 1 at byte 2\n"),
     ("VER 1.1", "refused 3 at byte 4\n"),
@@ -355,10 +454,33 @@ const TEXTS: [(&str, &str); 10] = [
         "verified infeas\nsolutions 0 derived 0 peak 0\n",
     ),
     (PAST_THE_LIMIT, "refused 35 at DER 1\n"),
-    // what isn't built is refused where it begins, after the text of its item
-    (NO_BOUNDS, "refused 60 at end\n"),
-    (SOLVED, "refused 60 at SOL 0\n"),
-    (NOT_WHOLE, "refused 60 at DER 1\n"),
+    // claims and solutions
+    (
+        NO_BOUNDS,
+        "verified range -inf inf\nsolutions 0 derived 0 peak 0\n",
+    ),
+    (
+        LENIENT,
+        "verified range -inf inf\nsolutions 0 derived 0 peak 0\n",
+    ),
+    (SOLVED, "refused 51 at end\n"),
+    (
+        ROUNDED_UP,
+        "verified range 1 1\nsolutions 1 derived 1 peak 1\n",
+    ),
+    (
+        ROUNDED_DOWN,
+        "verified range 2 2\nsolutions 1 derived 1 peak 1\n",
+    ),
+    (
+        CUT_OFF,
+        "verified range 3 3\nsolutions 1 derived 2 peak 2\n",
+    ),
+    (USES_SOLUTION, "refused 39 at DER 1\n"),
+    // the reasons
+    (ALL_KEPT, "verified infeas\nsolutions 0 derived 6 peak 6\n"),
+    (NOT_WHOLE, VERIFIED),
+    (NOT_INTEGER, "refused 36 at DER 1\n"),
 ];
 
 /// A command, a certificate's text, what is printed of it on both outputs, and the exit status.
@@ -411,28 +533,80 @@ fn edited(alloc: Global, at: usize, old: &str, new: &str) -> Result<String, Fail
     Ok(format!(in alloc; "{front}{new}{behind}")?)
 }
 
+/// A text with `old` replaced where it first stands.
+fn replaced(alloc: Global, text: &str, old: &str, new: &str) -> Result<String, Fail> {
+    let (front, behind) = text.split_once(old).ok_or("not there")?;
+    Ok(format!(in alloc; "{front}{new}{behind}")?)
+}
+
 /// Texts of a few lines.
 fn short_rows(alloc: Global) -> Result<Vec<Row>, Fail> {
     let mut rows = Vec::new(alloc);
+    add_edited(alloc, &mut rows)?;
+    add_solved(alloc, &mut rows)?;
+    add_checked(alloc, &mut rows)?;
+    add_shown(alloc, &mut rows)?;
+    Ok(rows)
+}
+
+/// Texts with a part replaced, to be checked.
+fn add_edited(alloc: Global, rows: &mut Vec<Row>) -> Result<(), Fail> {
     for (at, old, new, printed) in EDITS {
         let text = edited(alloc, at, old, new)?;
         rows.push(Row::checked(alloc, text, printed)?)?;
     }
+    for (old, new, printed) in BRANCH_EDITS {
+        let text = replaced(alloc, BOTH_BRANCHES, old, new)?;
+        rows.push(Row::checked(alloc, text, printed)?)?;
+    }
+    for (old, new, printed) in UP_EDITS {
+        let text = replaced(alloc, ROUNDED_UP, old, new)?;
+        rows.push(Row::checked(alloc, text, printed)?)?;
+    }
+    Ok(())
+}
+
+/// The same of texts with solutions.
+fn add_solved(alloc: Global, rows: &mut Vec<Row>) -> Result<(), Fail> {
+    for (old, new, printed) in DOWN_EDITS {
+        let text = replaced(alloc, ROUNDED_DOWN, old, new)?;
+        rows.push(Row::checked(alloc, text, printed)?)?;
+    }
+    for (old, new, printed) in SOLVED_EDITS {
+        let text = replaced(alloc, SOLVED, old, new)?;
+        rows.push(Row::checked(alloc, text, printed)?)?;
+    }
+    let listed = replaced(alloc, PAST_THE_LIMIT, "SOL 0\n", "SOL 1\ns 1 0 2\n")?;
+    rows.push(Row::checked(alloc, listed, "refused 23 at SOL 0\n")?)?;
+    Ok(())
+}
+
+/// Other texts to be checked.
+fn add_checked(alloc: Global, rows: &mut Vec<Row>) -> Result<(), Fail> {
     for (text, printed) in TEXTS {
         let text = format!(in alloc; "{text}")?;
         rows.push(Row::checked(alloc, text, printed)?)?;
     }
+    // the first branch alone
+    let fewer = replaced(alloc, BOTH_BRANCHES, "DER 5", "DER 3")?;
+    let (first, _) = fewer.split_once("f G").ok_or("not there")?;
+    let first = format!(in alloc; "{first}")?;
+    rows.push(Row::checked(alloc, first, "refused 51 at end\n")?)?;
+    Ok(())
+}
+
+/// Texts to be shown.
+fn add_shown(alloc: Global, rows: &mut Vec<Row>) -> Result<(), Fail> {
     for text in CANONICAL {
         rows.push(Row::shown(alloc, text, text)?)?;
     }
     rows.push(Row::shown(alloc, LENIENT, LENIENT_SHOWN)?)?;
     // a last reference that comes before the derivation that refers
-    let (front, behind) = BOTH_BRANCHES.split_once("} 6\nf").ok_or("other")?;
-    let early = format!(in alloc; "{front}}} 5\nf{behind}")?;
+    let early = replaced(alloc, BOTH_BRANCHES, "} 6\nf", "} 5\nf")?;
     rows.push(Row::shown(alloc, early.as_str(), early.as_str())?)?;
     let cut = edited(alloc, 108, " -1 } -1\n", "")?;
     rows.push(Row::not_shown(alloc, cut, "refused 1 at byte 108\n"))?;
-    Ok(rows)
+    Ok(())
 }
 
 /// Texts with a name of 65,535 or 65,536 bytes, or with a comment of 200,000.
@@ -657,9 +831,9 @@ fn shows_verdicts(rt: HostRuntime) -> Result<(), Fail> {
         (Place::End, "end"),
     ];
     for (place, wanted) in places {
-        let refusal = Refusal { cause: 60, place };
+        let refusal = Refusal { cause: 23, place };
         let shown = format!(in rt.alloc(); "{}", Lines(&Verdict::Refused(refusal)))?;
-        let wanted = format!(in rt.alloc(); "refused 60 at {wanted}\n")?;
+        let wanted = format!(in rt.alloc(); "refused 23 at {wanted}\n")?;
         assert_eq!(rt; shown.as_str(), wanted.as_str());
     }
     Ok(())

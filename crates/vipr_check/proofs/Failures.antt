@@ -2,9 +2,9 @@
 use Rattle.std.proofs.Common.{◌≡◌, ℕ, suc, true, List, [], ◌∷◌, ◌++◌, length, map, Option, Some, None, Result, Ok, Err, All, refl, sym, subst, inl, inr, arith}
 use Rattle.std.proofs.lemmas.List.Elements.{All-nil, All-cons, All-tail, All-append}
 use Rattle.vipr_spec.specs.Constraint.{Row}
-use Rattle.vipr_spec.specs.Certificate.{Named, Problem, Claim, infeasible, range, Derivation, Certificate}
+use Rattle.vipr_spec.specs.Certificate.{Named, Problem, Derivation, Certificate}
 use Rattle.vipr_spec.specs.Reading.{Rest, Fault, refused, unread, Read, ◌>>=◌, repeated, problem_read, solution_read, derivations_read, derivation_read, end_read, certificate_read}
-use Rattle.vipr_spec.specs.Verdict.{step_tests, FirstFailing, at_solution, at_end, Test, spelled, of_step, meets_primal, meets_dual, is_built, Passes, items_read, numbered, tests_of_derivation, last_tests, derivations_found, ending_found, claim_tests, problem_found, found_in, cut_short, told_by, IsToldBy, IsAnswer}
+use Rattle.vipr_spec.specs.Verdict.{step_tests, solution_tests, FirstFailing, Test, spelled, of_solution, of_step, meets_primal, meets_dual, Passes, items_read, numbered, tests_of_solution, tests_of_derivation, last_tests, derivations_found, ending_found, problem_found, found_in, cut_short, told_by, IsToldBy, IsAnswer}
 use Rattle.vipr_spec.proofs.GrammarItemFaults.{item_faults}
 use Rattle.vipr_spec.proofs.WholeText.{ended, repeated_is}
 
@@ -32,12 +32,12 @@ module _ {A : Type 0} (x : Result A Fault) where
       by [] = All-nil (Tells x)
       by (t ∷ ts) = All-cons (Tells x) (of_step i t) (map (of_step i) ts) (λ e. absurd (cc e)) (by ts)
 
-  claims : (q : Claim) → All (Tells x) (claim_tests q)
-  claims infeasible = All-nil (Tells x)
-  claims (range lower upper) = All-cons (Tells x) (is_built at_end) [] (λ e. absurd (cc e)) (All-nil (Tells x))
-
-  unbuilt : (i : ℕ) (s : Named Row) → All (Tells x) (is_built (at_solution i) ∷ [])
-  unbuilt i s = All-cons (Tells x) (is_built (at_solution i)) [] (λ e. absurd (cc e)) (All-nil (Tells x))
+  solutions : (p : Problem) (i : ℕ) (s : Named Row) → All (Tells x) (tests_of_solution p i s)
+  solutions p i s = by (solution_tests p)
+    where
+      by : (ts : _) → All (Tells x) (map (of_solution i s.item) ts)
+      by [] = All-nil (Tells x)
+      by (t ∷ ts) = All-cons (Tells x) (of_solution i s.item t) (map (of_solution i s.item) ts) (λ e. absurd (cc e)) (by ts)
 
 fault : {A : Type 0} (f : Fault) → All (Tells {A = A} (Err f)) (spelled f ∷ [])
 fault {A} f = All-cons (Tells {A = A} (Err f)) (spelled f) [] (by f) (All-nil (Tells {A = A} (Err f)))
@@ -89,8 +89,8 @@ all_tests r = by (problem_read r)
         let items = items_read (solution_read p.0.0) p.0.1 p.1 in
         let y = ended items.0 items.1 >>= λ s. from_count p.0.0 s.0 (derivations_read p.0.0 s.1) in
         subst (λ z. All (Tells (z >>= λ s. from_count p.0.0 s.0 (derivations_read p.0.0 s.1))) (problem_found (Ok p)).tests) (sym (repeated_is (solution_read p.0.0) p.0.1 p.1))
-        (All-append (Tells y) (claim_tests p.0.0.claim ++ numbered (λ i s. is_built (at_solution i) ∷ []) 0 items.0) (ending_found p.0.0 items.1).1
-        (All-append (Tells y) (claim_tests p.0.0.claim) (numbered (λ i s. is_built (at_solution i) ∷ []) 0 items.0) (claims y p.0.0.claim) (all_numbered (Tells y) (λ i s. is_built (at_solution i) ∷ []) (unbuilt y) 0 items.0))
+        (All-append (Tells y) (numbered (tests_of_solution p.0.0) 0 items.0) (ending_found p.0.0 items.1).1
+        (all_numbered (Tells y) (tests_of_solution p.0.0) (solutions y p.0.0) 0 items.0)
         (in_solutions p.0.0 items.0 items.1))
 
 pub failed_read : (r : Rest) → IsAnswer r cut_short → r.fails ≡ true

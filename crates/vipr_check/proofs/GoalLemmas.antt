@@ -7,8 +7,8 @@ use Rattle.std.specs.FinSet as set
 use Rattle.std.specs.FinSet.{same_set, contains-empty, nat_cmp-IsAntisymmetric}
 use Rattle.std.specs.Cmp.{nat_cmp_total}
 use Rattle.std.specs.Ordering.{nat_cmp}
-use Rattle.vipr_spec.specs.Constraint.{condition, IsAbsurd}
-use Rattle.vipr_spec.specs.Certificate.{Problem, infeasible, Derivation, Certificate, MeetsDual, count, RestsOn}
+use Rattle.vipr_spec.specs.Constraint.{condition}
+use Rattle.vipr_spec.specs.Certificate.{Problem, Derivation, Certificate, count, RestsOn}
 use Rattle.vipr_spec.specs.OnePass.{with_next}
 use Rattle.vipr_spec.specs.Checking.{Meets, IsFirstMet, ProvesNext, NextGoal}
 use Rattle.vipr_spec.proofs.Prefix.{constraint_next}
@@ -16,9 +16,11 @@ use Rattle.vipr_linear.specs.Constraint.{constraint_of, condition_of}
 use Rattle.vipr_linear.specs.declared.constraint.Constraint.{Constraint}
 use Rattle.vipr_items.specs.Items.{named_of}
 use Rattle.vipr_items.specs.declared.items.Named.{Named}
+use Rattle.vipr_rules.specs.Claim.{IsMetBy, IsTargetOf}
+use Rattle.vipr_rules.specs.declared.claim.Target.{Target}
 use Rattle.vipr_rules.specs.declared.entries.Entry.{Entry}
 use Rattle.vipr_rules.specs.History.{IsEntryOf}
-use Rattle.vipr_check.specs.Goal.{SaysFalse, IsFirstFalse}
+use Rattle.vipr_check.specs.Goal.{Hits, IsFirstHit}
 
 -- ---- the constraints of a problem
 
@@ -29,36 +31,34 @@ any_of (x ∷ xs) i h = x
 mapped_at : {X Y : Type 0} (P : Y → Type 0) (f : X → Y) (xs : List X) (i : ℕ) (e : Y) → i < length xs → ((d : X) → P (f (get_or xs i d))) → P (get_or (map f xs) i e)
 mapped_at P f xs i e h k = let d = any_of xs i h in subst P (sym (get_or-map f xs i d e h)) (k d)
 
-met : (p : Problem) (n : Named Constraint) → p.claim ≡ infeasible → SaysFalse n → Meets p (named_of constraint_of n)
-met p n claim h = subst (λ q. MeetsDual p q (condition_of n.item)) (sym claim) h
+module _ (p : Problem) (t : Target) (is : IsTargetOf p t) where
+  unmet : (n : Named Constraint) → ¬ Hits t n → ¬ Meets p (named_of constraint_of n)
+  unmet n h m = h ((is.met (condition_of n.item)).1 m)
 
-unmet : (p : Problem) (n : Named Constraint) → p.claim ≡ infeasible → ¬ SaysFalse n → ¬ Meets p (named_of constraint_of n)
-unmet p n claim h m = h (subst (λ q. MeetsDual p q (condition_of n.item)) claim m)
+  module _ (cons : List (Named Constraint)) where
+    met_in : (goal : Option ℕ) → IsFirstHit t cons goal → IsFirstMet (record p { constraints = map (named_of constraint_of) cons }) goal
+    met_in None a = All-map (λ n. ¬ Meets p n) (named_of constraint_of) cons (λ k d lt. unmet (get_or cons k d) (a k d lt))
+    met_in (Some i) a = (
+      simp length-map a.0,
+      λ e. mapped_at (Meets p) (named_of constraint_of) cons i e a.0 (λ d. (is.met (condition_of (get_or cons i d).item)).0 (a.1 d)),
+      λ k e low high. mapped_at (λ n. ¬ Meets p n) (named_of constraint_of) cons k e (let lt = a.0 in omega arith) (λ d. unmet (get_or cons k d) (a.2 k d low high)),
+    )
 
-module _ (p : Problem) (cons : List (Named Constraint)) (claim : p.claim ≡ infeasible) where
-  met_in : (goal : Option ℕ) → IsFirstFalse cons goal → IsFirstMet (record p { constraints = map (named_of constraint_of) cons }) goal
-  met_in None a = All-map (λ n. ¬ Meets p n) (named_of constraint_of) cons (λ k d lt. unmet p (get_or cons k d) claim (a k d lt))
-  met_in (Some i) a = (
-    simp length-map a.0,
-    λ e. mapped_at (Meets p) (named_of constraint_of) cons i e a.0 (λ d. met p (get_or cons i d) claim (a.1 d)),
-    λ k e low high. mapped_at (λ n. ¬ Meets p n) (named_of constraint_of) cons k e (let lt = a.0 in omega arith) (λ d. unmet p (get_or cons k d) claim (a.2 k d low high)),
-  )
-
-  pub first_met : p.constraints ≡ map (named_of constraint_of) cons → (goal : Option ℕ) → IsFirstFalse cons goal → IsFirstMet p goal
-  first_met e goal a = subst (λ l. IsFirstMet (record p { constraints = l }) goal) (sym e) (met_in goal a)
+    pub first_met : p.constraints ≡ map (named_of constraint_of) cons → (goal : Option ℕ) → IsFirstHit t cons goal → IsFirstMet p goal
+    first_met e goal a = subst (λ l. IsFirstMet (record p { constraints = l }) goal) (sym e) (met_in goal a)
 
 -- ---- one more derivation
 
-pub next_proves : (c : Certificate) (d : Derivation) (e : Entry) → c.problem.claim ≡ infeasible → IsEntryOf (with_next c d) (count c) e
-    → ProvesNext c d ↔ ((e.assumptions ≡ set.empty) × IsAbsurd (condition_of e.constraint))
-next_proves c d e claim is = (
+pub next_proves : (c : Certificate) (d : Derivation) (t : Target) (e : Entry) → IsTargetOf c.problem t → IsEntryOf (with_next c d) (count c) e
+    → ProvesNext c d ↔ ((e.assumptions ≡ set.empty) × IsMetBy t (condition_of e.constraint))
+next_proves c d t e target is = (
   λ h. (
     same_set nat_cmp_total nat_cmp-IsAntisymmetric e.assumptions set.empty (λ a. no_member a (set.contains e.assumptions a) refl (h.0 a)),
-    subst IsAbsurd same (subst (λ q. MeetsDual c.problem q (condition d.stated)) claim h.1),
+    subst (IsMetBy t) same ((target.met (condition d.stated)).1 h.1),
   ),
   λ h. (
     λ a r. (let t = (is.rests a).1 r in let f = ap (λ s. set.contains s a) h.0 ∙ contains-empty nat_cmp a in cc),
-    subst (λ q. MeetsDual c.problem q (condition d.stated)) (sym claim) (subst IsAbsurd (sym same) h.1),
+    (target.met (condition d.stated)).0 (subst (IsMetBy t) (sym same) h.1),
   ),
 )
   where

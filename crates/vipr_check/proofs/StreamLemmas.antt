@@ -1,29 +1,32 @@
 -- A text item by item: what is answered for what is left is the answer for what was left before
-use Rattle.std.proofs.Common.{◌≡◌, ℕ, zero, suc, ◌+◌, ◌<◌, ◌^◌, true, false, [], Option, Some, None, Result, Ok, inl, inr, arith, refl, sym, ◌∙◌, subst}
+use Rattle.std.proofs.Common.{◌≡◌, ℕ, zero, suc, ◌+◌, ◌<◌, ◌^◌, true, false, List, [], ◌∷◌, ◌++◌, length, Option, Some, None, Result, Ok, inl, inr, arith, refl, sym, ◌∙◌, subst}
 use Rattle.std.specs.Prelude.{◌⊎◌}
 use Rattle.vipr_spec.specs.Constraint.{Row, at, NamesBelow}
-use Rattle.vipr_spec.specs.Certificate.{Named, Problem, infeasible, Derivation, Certificate, MeetsPrimal, count}
+use Rattle.vipr_spec.specs.Certificate.{Named, Problem, Derivation, Certificate, MeetsPrimal, count}
 use Rattle.vipr_spec.specs.Reading.{Rest, problem_read, solution_read, derivations_read, derivation_read, end_read}
 use Rattle.vipr_spec.specs.OnePass.{with_next}
 use Rattle.vipr_spec.specs.Checking.{start}
-use Rattle.vipr_spec.specs.Causes.{not_yet}
-use Rattle.vipr_spec.specs.Verdict.{at_solution, at_end, spelled, of_step, is_built, told_by, IsAnswer}
+use Rattle.vipr_spec.specs.Causes.{no_primal}
+use Rattle.vipr_spec.specs.Verdict.{spelled, of_solution, meets_primal, of_step, told_by, IsAnswer}
 use Rattle.vipr_spec.specs.Progress.{Answers, derivations_from, solutions_from}
 use Rattle.vipr_spec.proofs.Prefix.{count_next}
-use Rattle.vipr_spec.proofs.Remains.{problem_fault, problem_built, problem_unbuilt, solution_fault, solution_unbuilt, derivations_fault, derivations_begin, derivation_fault, derivation_passes, derivation_fails, end_fault}
+use Rattle.vipr_spec.proofs.Remains.{problem_fault, problem_ok, solution_fault, solution_passes, solution_fails, solutions_unmet, derivations_fault, derivations_begin, derivation_fault, derivation_passes, derivation_fails, end_fault}
 use Rattle.vipr_tokens.specs.Faults.{Fails}
-use Rattle.vipr_text.specs.Readers.{Items, Knows, Remembers, NextItem}
+use Rattle.vipr_text.specs.Readers.{Items, Knows, Remembers}
 use Rattle.vipr_tokens.specs.declared.error.TextError.{TextError}
+use Rattle.std.proofs.lemmas.List.{length-append}
 use Rattle.vipr_rules.specs.Table.{Table}
+use Rattle.vipr_rules.specs.Solution.{test_of}
 use Rattle.vipr_check.specs.declared.checker.Checker.{Checker}
-use Rattle.vipr_check.specs.declared.verdict.Place.TheVariants.{Sol, End}
+use Rattle.vipr_check.specs.declared.verdict.Place.TheVariants.{End}
 use Rattle.vipr_check.specs.declared.verdict.Verdict.{Verdict}
 use Rattle.vipr_check.specs.declared.verdict.Fault.{Fault}
 use Rattle.vipr_check.specs.View.{answer_of, Says}
 use Rattle.vipr_check.specs.Refused.{refused_at, text_failed}
-use Rattle.vipr_check.specs.State.{Describes, HasRoom, IsAt, HasReached}
-use Rattle.vipr_check.specs.Taking.{IsTaken, Goes}
-use Rattle.vipr_check.proofs.Answering.{Says-by, text_says}
+use Rattle.vipr_check.specs.State.{Begins, HasRoom, IsAmong, HasListed, IsAt, HasReached}
+use Rattle.vipr_check.specs.Taking.{IsListed, GoesAmong, IsTaken, Goes}
+use Rattle.vipr_check.proofs.Answering.{Says-by, text_says, told_solution}
+use Rattle.vipr_check.proofs.DescribedLemmas.{described}
 
 -- ---- the reader's memory
 
@@ -40,8 +43,8 @@ module _ {S : Type 0} (table : S → Table) where
   pub room_at_end : (c : Certificate) (k : Checker S) (old : Items) → IsAt table c k old → count c < 2 ^ 32
   room_at_end c k old is = let r = is.room in omega arith
 
-  pub at_start : (p : Problem) (k : Checker S) (r : Items) → Describes table (start p []) k → Knows r p → r.reading.spent ≡ false → r.constraints + r.left < 2 ^ 32 → IsAt table (start p []) k r
-  at_start p k r is knows unspent room = record { describes = is; knows = knows; unspent = unspent; room = let e = knows.constraints in omega arith }
+  pub at_start : (p : Problem) (ss : List (Named Row)) (k : Checker S) (r : Items) → Begins table p ss k → Knows r p → r.reading.spent ≡ false → r.constraints + r.left < 2 ^ 32 → IsAt table (start p ss) k r
+  at_start p ss k r is knows unspent room = record { describes = described table p ss k is; knows = knows; unspent = unspent; room = let e = knows.constraints in omega arith }
 
   pub reached_now : (c : Certificate) (k : Checker S) (old : Items) → IsAt table c k old → HasReached table c old k old
   reached_now c k old is = record { now = c; is_at = is; leads = λ told. record { told = told; answers = λ a h. h } }
@@ -84,42 +87,72 @@ derivations_failed c (suc n) r e (inr h) = text_says (Answers (derivations_from 
 
 -- ---- the solutions
 
-pub solution_failed : (p : Problem) (n : ℕ) (r : Rest) (e : TextError) → 0 < n → Fails e (solution_read p r) → Says (Answers (solutions_from p [] n r)) (text_failed e)
-solution_failed p zero r e lt h = absurd (omega arith)
-solution_failed p (suc n) r e lt h = text_says (Answers (solutions_from p [] (suc n) r)) e (solution_read p r) h (λ f is. (solution_fault p [] n r f (told_by (spelled f)) is).1 refl)
+module _ {S : Type 0} (table : S → Table) where
+  pub among_start : (p : Problem) (k : Checker S) (r : Items) → Begins table p [] k → Knows r p → r.reading.spent ≡ false → r.left < 2 ^ 32 → IsAmong table p [] k r
+  among_start p k r is knows unspent room = record { begins = is; knows = knows; unspent = unspent; room = omega arith }
 
-pub solution_refused : (p : Problem) (n m : ℕ) (r : Rest) (s : Named Row) (t : Rest) (v : Verdict) → n ≡ suc m → solution_read p r ≡ Ok (s, t) → v ≡ refused_at not_yet (Sol 0) → Answers (solutions_from p [] n r) (answer_of v)
-solution_refused p n m r s t v e is w =
-    subst (λ v. Answers (solutions_from p [] n r) (answer_of v)) (sym w) (subst (λ n. Answers (solutions_from p [] n r) (told_by (is_built (at_solution 0)))) (sym e) ((solution_unbuilt p [] m r s t (told_by (is_built (at_solution 0))) is).1 refl))
+  pub listed_now : (p : Problem) (ss : List (Named Row)) (k : Checker S) (old : Items) → IsAmong table p ss k old → HasListed table p ss old k old
+  listed_now p ss k old is = record { now = ss; is_among = is; told = λ t. t; answers = λ t a h. h }
 
--- a listed solution was read
-pub solution_at_hand : {X : Type 0} (view : X → Named Row) (p : Problem) (old new : Items) (o : Option X) (v : Verdict) → 0 < old.left → NextItem view (solution_read p) (λ r. Ok tt) old new (Ok o) → v ≡ refused_at not_yet (Sol 0)
-    → Answers (solutions_from p [] old.left old.reading.left) (answer_of v)
-solution_at_hand view p old new None v lt h w = absurd (let z = h.0 in omega arith)
-solution_at_hand view p old new (Some x) v lt h w = solution_refused p old.left new.left old.reading.left (view x) new.reading.left v h.0 h.1 w
+  pub listed_later : (p : Problem) (ss : List (Named Row)) (k l : Checker S) (old mid new : Items) → (h : HasListed table p ss old k mid) → HasListed table p h.now mid l new → HasListed table p ss old l new
+  listed_later p ss k l old mid new h i = record {
+    now = i.now;
+    is_among = i.is_among;
+    told = λ t. i.told (h.told t);
+    answers = λ t a y. h.answers t a (i.answers (h.told t) a y);
+  }
 
-pub solution_missing : (p : Problem) (n : ℕ) (r : Rest) (e : TextError) → 0 < n → ((n ≡ 0) × Fails {Y = Unit {0}} e (Ok tt)) ⊎ ((0 < n) × Fails e (solution_read p r)) → Says (Answers (solutions_from p [] n r)) (text_failed e)
-solution_missing p n r e lt (inl h) = absurd (let z = h.0 in omega arith)
-solution_missing p n r e lt (inr h) = solution_failed p n r e lt h.1
+  pub answered_later : (p : Problem) (ss : List (Named Row)) (k : Checker S) (old mid : Items) (x : Result Verdict Fault) → (h : HasListed table p ss old k mid) → old.reading.told ≡ true
+      → (mid.reading.told ≡ true → Says (Answers (solutions_from p h.now mid.left mid.reading.left)) x) → Says (Answers (solutions_from p ss old.left old.reading.left)) x
+  answered_later p ss k old mid x h told s = Says-by (Answers (solutions_from p h.now mid.left mid.reading.left)) (Answers (solutions_from p ss old.left old.reading.left)) x (h.answers told) (s (h.told told))
 
-meets : (p : Problem) → p.claim ≡ infeasible → MeetsPrimal p [] p.claim
-meets p e = subst (MeetsPrimal p []) (sym e) tt
+  -- there is a number for one more
+  pub one_more : (p : Problem) (ss : List (Named Row)) (k : Checker S) (old : Items) → IsAmong table p ss k old → 0 < old.left → k.listed + 1 < 2 ^ 32
+  one_more p ss k old is some = let e = is.begins.listed in let r = is.room in omega (arith, e, r, some)
 
-pub ending_failed : (p : Problem) (n : ℕ) (r : Rest) (e : TextError) → p.claim ≡ infeasible → n ≡ 0 → Fails e (derivations_read p r) → Says (Answers (solutions_from p [] n r)) (text_failed e)
-ending_failed p n r e claim z h =
-    subst (λ n. Says (Answers (solutions_from p [] n r)) (text_failed e)) (sym z) (text_says (Answers (solutions_from p [] 0 r)) e (derivations_read p r) h (λ f is. (derivations_fault p [] r f (told_by (spelled f)) (meets p claim) is).1 refl))
+  module _ (p : Problem) (ss : List (Named Row)) (k l : Checker S) (old new : Items) (s : Named Row) (is : IsAmong table p ss k old) (fewer : old.left ≡ suc new.left) (memory : Remembers old new) (unspent : new.reading.spent ≡ false)
+      (read : old.reading.told ≡ true → (solution_read p old.reading.left ≡ Ok (s, new.reading.left)) × (new.reading.told ≡ true)) where
+    pub goes_among : (x : Option (Result Verdict Fault)) → IsListed table p ss s l x → GoesAmong table p ss old l new x
+    goes_among None h = record {
+      now = ss ++ s ∷ [];
+      is_among = record {
+        begins = h.1;
+        knows = knows_still p old new is.knows memory;
+        unspent = unspent;
+        room = (let e = length-append ss (s ∷ []) in let r = is.room in omega (arith, e, r, fewer));
+      };
+      told = λ told. (read told).1;
+      answers = λ told a y. subst (λ n. Answers (solutions_from p ss n old.reading.left) a) (sym fewer) ((solution_passes p ss new.left old.reading.left s new.reading.left a (read told).0 h.0).1 y);
+    }
+    goes_among (Some answer) (e, fails, is_it) = λ told.
+        subst (Says (Answers (solutions_from p ss old.left old.reading.left))) (sym is_it)
+        (subst (Answers (solutions_from p ss old.left old.reading.left)) (sym (told_solution (length ss) s.item e))
+        (subst (λ n. Answers (solutions_from p ss n old.reading.left) (told_by (of_solution (length ss) s.item (test_of e)))) (sym fewer)
+        ((solution_fails p ss new.left old.reading.left s new.reading.left (test_of e) (told_by (of_solution (length ss) s.item (test_of e))) (read told).0 fails).1 refl)))
 
-pub ending_read : (p : Problem) (n m : ℕ) (r s : Rest) (x : Result Verdict Fault) → p.claim ≡ infeasible → n ≡ 0 → derivations_read p r ≡ Ok (m, s) → Says (Answers (derivations_from (start p []) m s)) x → Says (Answers (solutions_from p [] n r)) x
-ending_read p n m r s x claim z is h =
-    subst (λ n. Says (Answers (solutions_from p [] n r)) x) (sym z) (Says-by (Answers (derivations_from (start p []) m s)) (Answers (solutions_from p [] 0 r)) x (λ a. (derivations_begin p [] r m s a (meets p claim) is).1) h)
+solution_fault_at : (p : Problem) (ss : List (Named Row)) (n : ℕ) (r : Rest) (e : TextError) → 0 < n → Fails e (solution_read p r) → Says (Answers (solutions_from p ss n r)) (text_failed e)
+solution_fault_at p ss zero r e lt h = absurd (omega arith)
+solution_fault_at p ss (suc n) r e lt h = text_says (Answers (solutions_from p ss (suc n) r)) e (solution_read p r) h (λ f is. (solution_fault p ss n r f (told_by (spelled f)) is).1 refl)
+
+pub solution_missing : (p : Problem) (ss : List (Named Row)) (n : ℕ) (r : Rest) (e : TextError) → 0 < n → ((n ≡ 0) × Fails {Y = Unit {0}} e (Ok tt)) ⊎ ((0 < n) × Fails e (solution_read p r)) → Says (Answers (solutions_from p ss n r)) (text_failed e)
+solution_missing p ss n r e lt (inl h) = absurd (let z = h.0 in omega arith)
+solution_missing p ss n r e lt (inr h) = solution_fault_at p ss n r e lt h.1
+
+-- ---- their end
+
+pub ending_unmet : (p : Problem) (ss : List (Named Row)) (r : Rest) (v : Verdict) → ¬ MeetsPrimal p ss p.claim → v ≡ refused_at no_primal End → Answers (solutions_from p ss 0 r) (answer_of v)
+ending_unmet p ss r v n e = subst (λ v. Answers (solutions_from p ss 0 r) (answer_of v)) (sym e) ((solutions_unmet p ss r (told_by meets_primal) n).1 refl)
+
+pub ending_failed : (p : Problem) (ss : List (Named Row)) (r : Rest) (e : TextError) → MeetsPrimal p ss p.claim → Fails e (derivations_read p r) → Says (Answers (solutions_from p ss 0 r)) (text_failed e)
+ending_failed p ss r e met h = text_says (Answers (solutions_from p ss 0 r)) e (derivations_read p r) h (λ f is. (derivations_fault p ss r f (told_by (spelled f)) met is).1 refl)
+
+pub ending_read : (p : Problem) (ss : List (Named Row)) (m : ℕ) (r s : Rest) (x : Result Verdict Fault) → MeetsPrimal p ss p.claim → derivations_read p r ≡ Ok (m, s) → Says (Answers (derivations_from (start p ss) m s)) x → Says (Answers (solutions_from p ss 0 r)) x
+ending_read p ss m r s x met is h = Says-by (Answers (derivations_from (start p ss) m s)) (Answers (solutions_from p ss 0 r)) x (λ a. (derivations_begin p ss r m s a met is).1) h
 
 -- ---- the problem
 
 pub problem_failed : (r : Rest) (e : TextError) → Fails e (problem_read r) → Says (IsAnswer r) (text_failed e)
 problem_failed r e h = text_says (IsAnswer r) e (problem_read r) h (λ f is. (problem_fault r f (told_by (spelled f)) is).1 refl)
 
-pub problem_read_on : (r : Rest) (p : Problem) (n : ℕ) (s : Rest) (x : Result Verdict Fault) → problem_read r ≡ Ok ((p, n), s) → p.claim ≡ infeasible → Says (Answers (solutions_from p [] n s)) x → Says (IsAnswer r) x
-problem_read_on r p n s x is claim h = Says-by (Answers (solutions_from p [] n s)) (IsAnswer r) x (λ a. (problem_built r p n s a is claim).1) h
-
-pub problem_refused : (r : Rest) (p : Problem) (n : ℕ) (s : Rest) (v : Verdict) → problem_read r ≡ Ok ((p, n), s) → ¬ (p.claim ≡ infeasible) → v ≡ refused_at not_yet End → IsAnswer r (answer_of v)
-problem_refused r p n s v is claim w = subst (λ v. IsAnswer r (answer_of v)) (sym w) ((problem_unbuilt r p n s (told_by (is_built at_end)) is claim).1 refl)
+pub problem_read_on : (r : Rest) (p : Problem) (n : ℕ) (s : Rest) (x : Result Verdict Fault) → problem_read r ≡ Ok ((p, n), s) → Says (Answers (solutions_from p [] n s)) x → Says (IsAnswer r) x
+problem_read_on r p n s x is h = Says-by (Answers (solutions_from p [] n s)) (IsAnswer r) x (λ a. (problem_ok r p n s a is).1) h

@@ -5,8 +5,10 @@ use Rattle.vipr_tokens.specs.declared.error.TextError.{TextError}
 use Rattle.vipr_tokens.specs.declared.error.TextError.TheVariants as text
 use Rattle.vipr_rules.specs.declared.failure.RuleError.{RuleError}
 use Rattle.vipr_rules.specs.declared.failure.RuleError.TheVariants as rule
+use Rattle.vipr_rules.specs.declared.solution.SolutionError.{SolutionError}
+use Rattle.vipr_rules.specs.declared.solution.SolutionError.TheVariants as solution
 use Rattle.vipr_check.specs.declared.verdict.Place.{Place}
-use Rattle.vipr_check.specs.declared.verdict.Place.TheVariants.{Byte, Der}
+use Rattle.vipr_check.specs.declared.verdict.Place.TheVariants.{Byte, Sol, Der}
 use Rattle.vipr_check.specs.declared.verdict.Verdict.{Verdict}
 use Rattle.vipr_check.specs.declared.verdict.Verdict.TheVariants.{Refused}
 use Rattle.vipr_check.specs.declared.verdict.Fault.{Fault}
@@ -32,5 +34,10 @@ step_failed k (rule.NotRoundable x) = Ok (refused_at cause.not_roundable (Der k)
 step_failed k (rule.NotSplit x y) = Ok (refused_at cause.not_split (Der k))
 step_failed k (rule.NotDominated x y) = Ok (refused_at cause.not_dominated (Der k))
 step_failed k rule.NoSolution = Ok (refused_at cause.no_solution (Der k))
-step_failed k rule.NotYet = Ok (refused_at cause.not_yet (Der k))
 step_failed k rule.Memory = Err Memory
+
+-- of listed solution i
+abbrev pub solution_failed : ℕ → SolutionError → Verdict
+solution_failed i (solution.NotWhole j) = refused_at cause.solution_not_whole (Sol i)
+solution_failed i (solution.Breaks n) = refused_at cause.solution_breaks (Sol i)
+solution_failed i (solution.Overflow at) = refused_at cause.solution_overflow (Sol i)

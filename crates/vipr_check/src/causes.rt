@@ -1,5 +1,11 @@
 //! The numbers of the causes for which a certificate is refused, its text aside.
 
+/// An integer variable of a listed solution isn't whole.
+pub const SOLUTION_NOT_WHOLE: u8 = 21;
+/// A constraint is false at a listed solution.
+pub const SOLUTION_BREAKS: u8 = 22;
+/// A value at a listed solution is out of bound.
+pub const SOLUTION_OVERFLOW: u8 = 23;
 /// A constraint's index doesn't come before the derivation.
 pub const NOT_EARLIER: u8 = 31;
 /// A constraint isn't live before the derivation.
@@ -20,5 +26,5 @@ pub const NOT_DOMINATED: u8 = 38;
 pub const NO_SOLUTION: u8 = 39;
 /// No constraint proves the dual side.
 pub const NO_PROOF: u8 = 51;
-/// What isn't built yet.
-pub const NOT_YET: u8 = 60;
+/// The listed solutions don't meet the primal side.
+pub const NO_PRIMAL: u8 = 52;

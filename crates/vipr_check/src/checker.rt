@@ -1,22 +1,20 @@
 //! The checker of derivations, one after the other.
 
-ghost use Rattle.std.specs.Prelude.{◌≡◌, ◌+◌, ◌<◌, ◌^◌, max, length, List, IfOk, Ok};
-ghost use Rattle.vipr_spec.specs.Certificate.{Problem as ProblemMeant, Derivation as DerivationMeant, Certificate, infeasible, count};
-ghost use Rattle.vipr_spec.specs.OnePass.{with_next, RefersBack, GoalIs};
-ghost use Rattle.vipr_items.specs.Items.{derivation_of};
-ghost use Rattle.vipr_linear.specs.Constraint.{constraint_of};
-ghost use Rattle.vipr_rules.specs.Table.{step as table_step, held as held_in};
-ghost use Rattle.vipr_rules.specs.History.{IsEntryOf};
-
-use std::alloc::{AllocError, Global};
-use vipr_linear::{Combination, Constraint};
-use vipr_rules::{Entry, Rows};
-use vipr_text::{Named, Problem};
+use vipr_frac::Frac;
+use vipr_linear::Combination;
+use vipr_rules::{Rows, Target};
+use vipr_text::Problem;
 
 /// What is known of a certificate so far.
 #[derive(Drop)]
 pub(crate) struct Checker<S: Rows> {
     pub(crate) problem: Problem,
+    /// What a constraint must say to prove the dual side of the claim.
+    pub(crate) target: Target,
+    /// The best objective value among the listed solutions, none where none is listed so far.
+    pub(crate) best: Option<Frac>,
+    /// How many solutions are listed so far.
+    pub(crate) listed: u32,
     pub(crate) rows: S,
     pub(crate) scratch: Combination,
     /// How many derived constraints were held at most.

@@ -1,11 +1,11 @@
 //! What is answered where a text or a derivation is refused.
 
 ghost use Rattle.std.specs.Prelude.{◌≡◌};
-ghost use Rattle.vipr_check.specs.Refused.{refused_at, text_failed, step_failed};
+ghost use Rattle.vipr_check.specs.Refused.{refused_at, text_failed, solution_failed, step_failed};
 
 use crate::causes;
 use crate::verdict::{Fault, Place, Refusal, Verdict};
-use vipr_rules::RuleError;
+use vipr_rules::{RuleError, SolutionError};
 use vipr_text::TextError;
 
 /// The refusal for a cause at a place.
@@ -27,6 +27,18 @@ pub(crate) fn after_text_error(error: TextError) -> Result<Verdict, Fault>
     }
 }
 
+/// The verdict where the listed solution `index` was not taken.
+pub(crate) fn after_solution_error(index: u32, error: SolutionError) -> Verdict
+    ensures { result ≡ solution_failed index error }
+{
+    let cause = match error {
+        SolutionError::NotWhole(_) => causes::SOLUTION_NOT_WHOLE,
+        SolutionError::Breaks(_) => causes::SOLUTION_BREAKS,
+        SolutionError::Overflow(_) => causes::SOLUTION_OVERFLOW,
+    };
+    refused(cause, Place::Sol(index))
+}
+
 /// The answer where the derivation of the constraint `index` was not taken.
 pub(crate) fn after_rule_error(index: u32, error: RuleError) -> Result<Verdict, Fault>
     ensures { result ≡ step_failed index error }
@@ -41,7 +53,6 @@ pub(crate) fn after_rule_error(index: u32, error: RuleError) -> Result<Verdict, 
         RuleError::NotSplit(_, _) => causes::NOT_SPLIT,
         RuleError::NotDominated { .. } => causes::NOT_DOMINATED,
         RuleError::NoSolution => causes::NO_SOLUTION,
-        RuleError::NotYet => causes::NOT_YET,
         RuleError::Memory => return Err(Fault::Memory),
     };
     Ok(refused(cause, Place::Der(index)))

@@ -1,10 +1,11 @@
 //! How the checker takes the next derivation, and what it answers at the end.
 
-ghost use Rattle.std.specs.Prelude.{◌≡◌, ◌+◌, ◌<◌, ◌^◌, length, IfOk, OnOk, Ok, []};
-ghost use Rattle.vipr_spec.specs.Certificate.{Derivation as DerivationMeant, Certificate, infeasible, count};
+ghost use Rattle.std.specs.Prelude.{◌≡◌, ◌≢◌, ◌↔◌, ◌+◌, ◌<◌, ◌^◌, IfOk, OnOk, IsTrue, Ok, List, [], None};
+ghost use Rattle.vipr_rules.specs.declared.claim.Target.TheVariants.{Nothing};
+ghost use Rattle.vipr_spec.specs.Certificate.{Named as NamedMeant, Problem as ProblemMeant, Derivation as DerivationMeant, Certificate, MeetsPrimal, count};
+ghost use Rattle.vipr_spec.specs.Constraint.{Row};
 ghost use Rattle.vipr_spec.specs.Reading.{Rest, end_read};
 ghost use Rattle.vipr_spec.specs.OnePass.{with_next};
-ghost use Rattle.vipr_spec.specs.Checking.{start};
 ghost use Rattle.vipr_spec.specs.Progress.{Answers, derivations_from};
 ghost use Rattle.vipr_items.specs.Items.{derivation_of};
 ghost use Rattle.vipr_rules.specs.Table.{step as table_step, held as held_in};
@@ -12,8 +13,8 @@ ghost use Rattle.vipr_rules.specs.History.{IsEntryOf};
 ghost use Rattle.vipr_spec.specs.Verdict.{step_tests};
 ghost use Rattle.vipr_rules.specs.Judged.{Passes};
 ghost use Rattle.vipr_check.specs.View.{answer_of};
-ghost use Rattle.vipr_check.specs.State.{Describes, HasRoom};
-ghost use Rattle.vipr_check.specs.Taking.{Takes};
+ghost use Rattle.vipr_check.specs.State.{Begins, Describes, HasRoom};
+ghost use Rattle.vipr_check.specs.Taking.{Lists, Takes};
 
 use crate::causes;
 use crate::checker::Checker;
@@ -21,8 +22,10 @@ use crate::goal::{goal_among, goal_with};
 use crate::refused::refused;
 use crate::verdict::{Place, Report, Verdict};
 use std::alloc::{AllocError, Global};
-use vipr_linear::Combination;
-use vipr_rules::{Entry, Rows, RuleError, apply};
+use vipr_linear::{Combination, Solution};
+use vipr_rules::{
+    Entry, Rows, RuleError, SolutionError, Target, apply, better, meets_primal, test_solution,
+};
 use vipr_text::{Derivation, Problem};
 
 /// Places an entry, and tells how many are held then.
@@ -39,22 +42,44 @@ fn place<S: Rows>(rows: &mut S, entry: Entry) -> Result<usize, AllocError>
 }
 
 impl<S: Rows> Checker<S> {
-    /// A checker of a problem that claims infeasibility, before its derivations.
+    /// A checker of a problem, before its solutions.
     pub(crate) fn new(alloc: Global, problem: Problem) -> Result<Checker<S>, AllocError>
-        requires { problem.claim ≡ infeasible }
-        ensures { IfOk result (λ k. Describes S.table (start problem []) k) }
+        ensures { IfOk result (λ k. Begins S.table problem [] k) }
     {
         let variables = problem.names().len() as u32;
         let constraints = problem.cons().len() as u32;
         let scratch = Combination::new(alloc, variables)?;
-        let goal = goal_among(problem.cons());
+        let target = Target::of_claim(&problem)?;
+        let goal = goal_among(&target, problem.cons());
         Ok(Checker {
             problem,
+            target,
+            best: None,
+            listed: 0,
             rows: S::new(alloc, constraints),
             scratch,
             peak: 0,
             goal,
         })
+    }
+
+    /// Takes the next listed solution, where it is a feasible one.
+    pub(crate) fn solution(&mut self, solution: &Solution) -> Result<(), SolutionError>
+        requires { self.old.listed + 1 < 2 ^ 32 }
+        ensures { (p : ProblemMeant) (ss : List (NamedMeant Row)) (s : NamedMeant Row) → Begins S.table p ss self.old → s.item ≡ solution.now.0
+            → Lists S.table p ss s self.new result }
+    {
+        let value = test_solution(&self.problem, solution)?;
+        self.best = better(&self.problem, self.best, value);
+        self.listed += 1;
+        Ok(())
+    }
+
+    /// Whether the listed solutions meet the primal side of the claim.
+    pub(crate) fn meets_primal(&self) -> bool
+        ensures { (p : ProblemMeant) (ss : List (NamedMeant Row)) → Begins S.table p ss self.now → IsTrue result ↔ MeetsPrimal p ss p.claim }
+    {
+        meets_primal(&self.problem, self.best.as_ref())
     }
 
     /// The index of the constraint that is derived next.
@@ -73,7 +98,7 @@ impl<S: Rows> Checker<S> {
         let entry = apply(
             alloc,
             &self.problem,
-            None,
+            self.best.as_ref(),
             &self.rows,
             &mut self.scratch,
             step,
@@ -88,7 +113,7 @@ impl<S: Rows> Checker<S> {
         ensures { (c : Certificate) (d : DerivationMeant) → Describes S.table c self.old → HasRoom c d → Passes c d (step_tests d.reason)
             → IsEntryOf (with_next c d) (count c) entry → OnOk result (Describes S.table (with_next c d) self.new) }
     {
-        let goal = goal_with(self.goal, self.rows.next(), &entry);
+        let goal = goal_with(&self.target, self.goal, self.rows.next(), &entry);
         let held = place(&mut self.rows, entry)?;
         self.goal = goal;
         self.peak = self.peak.max(held);
@@ -100,15 +125,22 @@ impl<S: Rows> Checker<S> {
         requires { (c : Certificate) × Describes S.table c self.now × (count c < 2 ^ 32) }
         ensures { (c : Certificate) (r : Rest) → Describes S.table c self.now → end_read r ≡ Ok tt → Answers (derivations_from c 0 r) (answer_of result) }
     {
-        match self.goal {
-            None => refused(causes::NO_PROOF, Place::End),
-            Some(goal) => Verdict::Verified(Report {
-                claim: self.problem.claim(),
-                solutions: 0,
-                derived: self.rows.next() - self.problem.cons().len() as u32,
-                peak: self.peak,
-                goal: Some(goal),
-            }),
+        if self.lacks_goal() {
+            return refused(causes::NO_PROOF, Place::End);
         }
+        Verdict::Verified(Report {
+            claim: self.problem.claim(),
+            solutions: self.listed,
+            derived: self.rows.next() - self.problem.cons().len() as u32,
+            peak: self.peak,
+            goal: self.goal,
+        })
+    }
+
+    // Whether the dual side has to be proved, and isn't.
+    fn lacks_goal(&self) -> bool
+        ensures { IsTrue result ↔ ((self.now.goal ≡ None) × (self.now.target ≢ Nothing)) }
+    {
+        self.goal.is_none() && !matches!(self.target, Target::Nothing)
     }
 }

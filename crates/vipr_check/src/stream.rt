@@ -1,26 +1,27 @@
 //! Checks a certificate item by item: each is tested before the next one is read.
 
-ghost use Rattle.std.specs.Prelude.{◌≡◌, ◌+◌, ◌<◌, ◌^◌, ℕ, true, false, suc, [], Ok, IfNone};
-ghost use Rattle.vipr_spec.specs.Certificate.{Problem as ProblemMeant, Certificate, infeasible};
+ghost use Rattle.std.specs.Prelude.{◌≡◌, ◌+◌, ◌<◌, ◌^◌, true, false, suc, List, Ok, IfNone};
+ghost use Rattle.vipr_spec.specs.Constraint.{Row};
+ghost use Rattle.vipr_spec.specs.Certificate.{Named as NamedMeant, Problem as ProblemMeant, Certificate};
 ghost use Rattle.vipr_spec.specs.Reading.{Rest, problem_read};
 ghost use Rattle.vipr_spec.specs.Verdict.{Answer, IsAnswer};
-ghost use Rattle.vipr_spec.specs.Checking.{start};
 ghost use Rattle.vipr_spec.specs.Progress.{Answers, derivations_from, solutions_from};
 ghost use Rattle.vipr_items.specs.Items.{derivation_of};
 ghost use Rattle.vipr_text.specs.Readers.{Items, Knows};
 ghost use Rattle.vipr_check.specs.View.{Says};
-ghost use Rattle.vipr_check.specs.State.{Describes, HasRoom, IsAt, HasReached};
-ghost use Rattle.vipr_check.specs.Taking.{IsTaken, Goes};
+ghost use Rattle.vipr_check.specs.State.{Begins, Describes, HasRoom, IsAmong, IsAt};
+ghost use Rattle.vipr_check.specs.Taking.{IsListed, GoesAmong, IsTaken, Goes};
 ghost use Rattle.vipr_text.specs.Whole.{rest_of, IfTold};
 
 use crate::causes;
 use crate::checker::Checker;
-use crate::refused::{after_rule_error, after_text_error, refused};
+use crate::refused::{after_rule_error, after_solution_error, after_text_error, refused};
 use crate::verdict::{Fault, Place, Verdict};
 use std::alloc::Global;
 use vipr_bytes::Source;
+use vipr_linear::Solution;
 use vipr_rules::Rows;
-use vipr_text::{CertReader, Claim, Derivation, Derivations, Problem, Solutions};
+use vipr_text::{CertReader, Derivation, Derivations, Problem, Solutions};
 
 /// The verdict on the certificate that is read from `source`.
 pub(crate) fn verdict_on<R: Source + Drop, S: Rows>(
@@ -36,7 +37,7 @@ pub(crate) fn verdict_on<R: Source + Drop, S: Rows>(
     }
 }
 
-// The verdict where the problem was read. A claim of bounds isn't built yet.
+// The verdict where the problem was read.
 fn after_problem<R: Source + Drop, S: Rows>(
     alloc: Global,
     problem: Problem,
@@ -44,64 +45,83 @@ fn after_problem<R: Source + Drop, S: Rows>(
 ) -> Result<Verdict, Fault>
     requires knows { Knows solutions problem }
     requires unspent { solutions.reading.spent ≡ false }
+    requires counted { solutions.left < 2 ^ 32 }
     ensures { solutions.reading.told ≡ true → (r : Rest) → problem_read r ≡ Ok ((problem, solutions.left), solutions.reading.left)
         → Says (IsAnswer r) result }
 {
-    match problem.claim() {
-        Claim::Infeas => after_claim::<R, S>(alloc, problem, solutions),
-        Claim::Range(_, _) => Ok(refused(causes::NOT_YET, Place::End)),
-    }
+    let checker: Checker<S> = Checker::new(alloc, problem)?;
+    after_solutions(alloc, checker, solutions)
 }
 
-// The verdict where infeasibility is claimed.
-fn after_claim<R: Source + Drop, S: Rows>(
-    alloc: Global,
-    problem: Problem,
-    solutions: Solutions<R>,
-) -> Result<Verdict, Fault>
-    requires claim { problem.claim ≡ infeasible }
-    requires knows { Knows solutions problem }
-    requires unspent { solutions.reading.spent ≡ false }
-    ensures { solutions.reading.told ≡ true → Says (Answers (solutions_from problem [] solutions.left solutions.reading.left)) result }
-{
-    if solutions.left() > 0 {
-        return at_solution(alloc, solutions);
-    }
-    match solutions.finish() {
-        Ok(derivations) => after_solutions::<R, S>(alloc, problem, derivations),
-        Err(error) => after_text_error(error),
-    }
-}
-
-// The verdict where a solution is listed, which isn't built yet.
-fn at_solution<R: Source + Drop>(
-    alloc: Global,
-    mut solutions: Solutions<R>,
-) -> Result<Verdict, Fault>
-    requires unspent { solutions.reading.spent ≡ false }
-    requires some { 0 < solutions.left }
-    ensures { (p : ProblemMeant) → Knows solutions p → solutions.reading.told ≡ true → Says (Answers (solutions_from p [] solutions.left solutions.reading.left)) result }
-{
-    match solutions.next(alloc) {
-        Ok(_) => Ok(refused(causes::NOT_YET, Place::Sol(0))),
-        Err(error) => after_text_error(error),
-    }
-}
-
-// The verdict where the number of derivations was read.
+// The verdict where the checker took all solutions so far.
 fn after_solutions<R: Source + Drop, S: Rows>(
     alloc: Global,
-    problem: Problem,
-    derivations: Derivations<R>,
+    mut checker: Checker<S>,
+    mut solutions: Solutions<R>,
 ) -> Result<Verdict, Fault>
-    requires claim { problem.claim ≡ infeasible }
-    requires knows { Knows derivations problem }
-    requires unspent { derivations.reading.spent ≡ false }
-    requires room { derivations.constraints + derivations.left < 2 ^ 32 }
-    ensures { derivations.reading.told ≡ true → Says (Answers (derivations_from (start problem []) derivations.left derivations.reading.left)) result }
+    requires { (p : ProblemMeant) × (ss : List (NamedMeant Row)) × IsAmong S.table p ss checker solutions }
+    ensures { (p : ProblemMeant) (ss : List (NamedMeant Row)) → IsAmong S.table p ss checker solutions → solutions.reading.told ≡ true
+        → Says (Answers (solutions_from p ss solutions.left solutions.reading.left)) result }
 {
-    let checker: Checker<S> = Checker::new(alloc, problem)?;
-    after_steps(alloc, checker, derivations)
+    'solutions: while solutions.left() > 0 {
+        match next_solution(alloc, &mut checker, &mut solutions) {
+            Some(verdict) => return verdict,
+            None => continue 'solutions,
+        }
+    }
+    after_last_solution(alloc, checker, solutions)
+}
+
+// Takes the next solution, or gives the verdict at the first fault.
+fn next_solution<R: Source, S: Rows>(
+    alloc: Global,
+    checker: &mut Checker<S>,
+    solutions: &mut Solutions<R>,
+) -> Option<Result<Verdict, Fault>>
+    requires among { (p : ProblemMeant) × (ss : List (NamedMeant Row)) × IsAmong S.table p ss checker.old solutions.old }
+    requires some { 0 < solutions.old.left }
+    ensures fewer { IfNone result (solutions.old.left ≡ suc solutions.new.left) }
+    ensures step { (p : ProblemMeant) (ss : List (NamedMeant Row)) → IsAmong S.table p ss checker.old solutions.old
+        → GoesAmong S.table p ss solutions.old checker.new solutions.new result }
+{
+    match solutions.next(alloc) {
+        Ok(Some(named)) => list(checker, &named.item),
+        Ok(None) => unreachable!(),
+        Err(error) => Some(after_text_error(error)),
+    }
+}
+
+// Takes a solution that was read, or gives the verdict where it is at fault.
+fn list<S: Rows>(checker: &mut Checker<S>, solution: &Solution) -> Option<Result<Verdict, Fault>>
+    requires { checker.old.listed + 1 < 2 ^ 32 }
+    ensures { (p : ProblemMeant) (ss : List (NamedMeant Row)) (s : NamedMeant Row) → Begins S.table p ss checker.old → s.item ≡ solution.now.0
+        → IsListed S.table p ss s checker.new result }
+{
+    let index = checker.listed;
+    match checker.solution(solution) {
+        Ok(()) => None,
+        Err(error) => Some(Ok(after_solution_error(index, error))),
+    }
+}
+
+// The verdict where all solutions were taken.
+fn after_last_solution<R: Source + Drop, S: Rows>(
+    alloc: Global,
+    checker: Checker<S>,
+    solutions: Solutions<R>,
+) -> Result<Verdict, Fault>
+    requires none { solutions.left ≡ 0 }
+    requires among { (p : ProblemMeant) × (ss : List (NamedMeant Row)) × IsAmong S.table p ss checker solutions }
+    ensures { (p : ProblemMeant) (ss : List (NamedMeant Row)) → IsAmong S.table p ss checker solutions → solutions.reading.told ≡ true
+        → Says (Answers (solutions_from p ss 0 solutions.reading.left)) result }
+{
+    if !checker.meets_primal() {
+        return Ok(refused(causes::NO_PRIMAL, Place::End));
+    }
+    match solutions.finish() {
+        Ok(derivations) => after_steps(alloc, checker, derivations),
+        Err(error) => after_text_error(error),
+    }
 }
 
 // The verdict where the checker took all derivations so far.

@@ -46,14 +46,24 @@ const TRAILING: &[u8] =
 
 const BOUNDED: &[u8] = b"VER 1.0 VAR 0 INT 0 OBJ min 0 CON 0 0 RTP range 0 inf SOL 0 DER 0";
 
+// No solution is listed, and one is claimed.
+const UNMET: &[u8] = b"VER 1.0 VAR 0 INT 0 OBJ min 0 CON 0 0 RTP range -inf 0 SOL 0 DER 0";
+
 const LISTED: &[u8] = b"VER 1.0 VAR 0 INT 0 OBJ min 0 CON 0 0 RTP infeas SOL 1 s 0 DER 0";
 
 // x >= 3, and the solution 3.
 const SOLVED: &[u8] =
     b"VER 1.0\nVAR 1\nx\nINT 0\nOBJ min\n1 0 1\nCON 1 0\na G 3 1 0 1\nRTP infeas\nSOL 1\ns 1 0 3\nDER 1\nc L 3 1 0 1 { sol } -1\n";
 
+// x >= 3, and 2 as solution.
+const UNSOLVED: &[u8] =
+    b"VER 1.0\nVAR 1\nx\nINT 0\nOBJ min\n1 0 1\nCON 1 0\na G 3 1 0 1\nRTP infeas\nSOL 1\ns 1 0 2\nDER 1\nc L 3 1 0 1 { sol } -1\n";
+
 const ASSUMED: &[u8] =
     b"VER 1.0 VAR 0 INT 0 OBJ min 0 CON 0 0 RTP infeas SOL 0 DER 1 f G 1 0 { asm } -1";
+
+const CUT_OFF: &[u8] =
+    b"VER 1.0 VAR 0 INT 0 OBJ min 0 CON 0 0 RTP infeas SOL 0 DER 1 f G 1 0 { sol } -1";
 
 fn report_of(verdict: Verdict) -> Option<Report> {
     match verdict {
@@ -114,9 +124,13 @@ fn others_are_refused(rt: HostRuntime) {
         at(38, Place::Der(2))
     );
     assert_eq!(rt; refusal(alloc, Bytes::new(UNPROVED)), at(51, Place::End));
-    assert_eq!(rt; refusal(alloc, Bytes::new(BOUNDED)), at(60, Place::End));
-    assert_eq!(rt; refusal(alloc, Bytes::new(LISTED)), at(60, Place::Sol(0)));
-    assert_eq!(rt; refusal(alloc, Bytes::new(ASSUMED)), at(60, Place::Der(0)));
+    assert_eq!(rt; refusal(alloc, Bytes::new(BOUNDED)), at(51, Place::End));
+    assert_eq!(rt; refusal(alloc, Bytes::new(LISTED)), at(51, Place::End));
+    assert_eq!(rt; refusal(alloc, Bytes::new(UNMET)), at(52, Place::End));
+    assert_eq!(rt; refusal(alloc, Bytes::new(UNSOLVED)), at(22, Place::Sol(0)));
+    assert_eq!(rt; refusal(alloc, Bytes::new(CUT_OFF)), at(39, Place::Der(0)));
+    // what is assumed is no goal
+    assert_eq!(rt; refusal(alloc, Bytes::new(ASSUMED)), at(51, Place::End));
 }
 
 /// Gives its bytes in pieces, then the end or a failure, and counts the reads.
@@ -199,8 +213,9 @@ fn reads_are_made_as_they_are_needed(rt: HostRuntime) {
         (INFEASIBLE, 118, None),
         (MISSPELLED, 12, at(2, Place::Byte(8))),
         (GLUED, 100, at(15, Place::Byte(95))),
-        (BOUNDED, 60, at(60, Place::End)),
-        (LISTED, 59, at(60, Place::Sol(0))),
+        (BOUNDED, 66, at(51, Place::End)),
+        (UNMET, 61, at(52, Place::End)),
+        (UNSOLVED, 81, at(22, Place::Sol(0))),
         (LATE, 117, at(31, Place::Der(2))),
         (MIXED_AND_MORE, 116, at(34, Place::Der(2))),
         (UNPROVED, 88, at(51, Place::End)),

@@ -5,7 +5,6 @@ ghost use Rattle.vipr_spec.specs.Certificate.{Certificate, IsProof};
 ghost use Rattle.vipr_spec.specs.Grammar.{Spells};
 ghost use Rattle.vipr_spec.specs.Soundness.{IsShown};
 ghost use Rattle.vipr_spec.specs.Verdict.{Answer, Reports, IsAnswer};
-ghost use Rattle.vipr_spec.specs.Progress.{IsBuilt};
 ghost use Rattle.vipr_check.specs.declared.verdict.Fault.TheVariants.{Read};
 ghost use Rattle.vipr_check.specs.View.{report_of, Says, IfVerified, IsVerified};
 ghost use Rattle.vipr_text.specs.Whole.{rest_of, IfTold, IfWhole};
@@ -20,8 +19,7 @@ use vipr_rules::{LiveOnly, Rows};
 /// Checks the certificate that is read from `source`, and holds no more derived constraints than
 /// may still be referred to.
 ///
-/// Each item is tested before more is read than it takes. What isn't built yet is refused: a claim
-/// of bounds, a listed solution, and every reason but a sum.
+/// Each item is tested before more is read than it takes.
 ///
 /// # Errors
 ///
@@ -36,9 +34,9 @@ pub fn check<R: Source + Drop>(alloc: Global, source: R) -> Result<Verdict, Faul
     ensures ended { IfTold (R.input source) (λ i. IfVerified result (λ report. i.fails ≡ false)) }
     // Verified is only what spells one certificate, a proof, and the report is that of the proof.
     ensures proof { IfWhole (R.input source) (λ bytes. IfVerified result (λ report.
-        (c : Certificate) × SpellsOnly bytes c × IsBuilt c × IsProof c × Reports c (report_of report))) }
-    // Whatever spells a proof of the kind that is built is verified.
-    ensures every { IfWhole (R.input source) (λ bytes. (c : Certificate) → Spells bytes c → IsBuilt c → IsProof c
+        (c : Certificate) × SpellsOnly bytes c × IsProof c × Reports c (report_of report))) }
+    // Whatever spells a proof is verified.
+    ensures every { IfWhole (R.input source) (λ bytes. (c : Certificate) → Spells bytes c → IsProof c
         → IsVerified result (λ report. Reports c (report_of report))) }
     // What is claimed is then true at every point: each that is whole at the integer variables breaks a constraint.
     ensures sound { IfWhole (R.input source) (λ bytes. IfVerified result (λ report.
@@ -58,8 +56,8 @@ pub fn check_with<R: Source + Drop, S: Rows>(alloc: Global, source: R) -> Result
     ensures read { IfTold (R.input source) (λ i. result ≡ Err Read → i.fails ≡ true) }
     ensures ended { IfTold (R.input source) (λ i. IfVerified result (λ report. i.fails ≡ false)) }
     ensures proof { IfWhole (R.input source) (λ bytes. IfVerified result (λ report.
-        (c : Certificate) × SpellsOnly bytes c × IsBuilt c × IsProof c × Reports c (report_of report))) }
-    ensures every { IfWhole (R.input source) (λ bytes. (c : Certificate) → Spells bytes c → IsBuilt c → IsProof c
+        (c : Certificate) × SpellsOnly bytes c × IsProof c × Reports c (report_of report))) }
+    ensures every { IfWhole (R.input source) (λ bytes. (c : Certificate) → Spells bytes c → IsProof c
         → IsVerified result (λ report. Reports c (report_of report))) }
     ensures sound { IfWhole (R.input source) (λ bytes. IfVerified result (λ report.
         (c : Certificate) × SpellsOnly bytes c × IsShown c.problem c.solutions c.problem.claim)) }

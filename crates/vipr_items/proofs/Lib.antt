@@ -1,3 +1,4 @@
 pub mod Seen
 pub mod Within
 pub mod Backwards
+pub mod Members

@@ -32,7 +32,7 @@ take_all (x ∷ es) zero h = absurd (omega arith)
 take_all (x ∷ es) (suc n) h = ap (λ l. x ∷ l) (take_all es n (omega arith))
 
 -- where all tests of two lists pass, those of each do
-passing_parts : (P : StepTest → Type 0) (xs ys : List StepTest) → FirstFailing P (xs ++ ys) None → FirstFailing P xs None × FirstFailing P ys None
+pub passing_parts : (P : StepTest → Type 0) (xs ys : List StepTest) → FirstFailing P (xs ++ ys) None → FirstFailing P xs None × FirstFailing P ys None
 passing_parts P xs ys h = elim (failing_parts P xs ys None h) [ inl k ↦ k | inr k ↦ absurd (let e = k.1 in cc) ]
 
 pub references_each : (P : StepTest → Type 0) (es : List (ℕ × ℚ)) (n : ℕ) (e : ℕ × ℚ) → FirstFailing P (flat_map reference_tests es) None → n < length es → e ≡ get_or es n e → FirstFailing P (reference_tests e) None

@@ -11,4 +11,9 @@ pub mod UnionLemmas
 pub mod LookupLemmas
 pub mod SumLemmas
 pub mod StepLemmas
+pub mod UnsplitLemmas
+pub mod RoundLemmas
 pub mod BelowLemmas
+pub mod CutoffLemmas
+pub mod ClaimLemmas
+pub mod SolutionLemmas

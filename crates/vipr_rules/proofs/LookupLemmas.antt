@@ -1,10 +1,10 @@
 -- What is found by the index of a constraint.
-use Rattle.std.proofs.Common.{◌≡◌, ℕ, zero, suc, ◌<◌, ◌≤◌, true, ◌&&◌, ◌||◌, nat_lt, nat_le, List, [], ◌∷◌, ◌++◌, length, map, get_or, slice_index_or, Option, Some, None, is_some, refl, sym, ap, ap₂, ◌∙◌, arith}
+use Rattle.std.proofs.Common.{◌≡◌, ℕ, zero, suc, ◌<◌, ◌≤◌, Bool, true, false, ◌&&◌, ◌||◌, nat_lt, nat_le, List, [], ◌∷◌, ◌++◌, length, map, get_or, slice_index_or, Option, Some, None, is_some, refl, sym, ap, ap₂, ◌∙◌, arith}
 use Rattle.std.proofs.lemmas.Bool.Decides.{nat_tests}
 use Rattle.std.proofs.lemmas.Simd.{map-map}
 use Rattle.std.proofs.lemmas.List.{length-map}
 use Rattle.vipr_spec.specs.Constraint.{condition}
-use Rattle.vipr_spec.specs.Certificate.{Certificate, constraint_at, last_at, is_assumption, lasts_to, is_live, count}
+use Rattle.vipr_spec.specs.Certificate.{Certificate, constraint_at, reason_at, last_at, is_assumption, lasts_to, is_live, count}
 use Rattle.vipr_spec.proofs.Prefix.{reason_given}
 use Rattle.vipr_spec.proofs.Rests.{rests_given}
 use Rattle.vipr_linear.specs.Constraint.{constraint_of, condition_of}
@@ -25,13 +25,18 @@ none_front (x ∷ xs) ys (suc i) h = none_front xs ys i (omega arith)
 last_given : (c : Certificate) (i : ℕ) → i < length c.problem.constraints → last_at c i ≡ None
 last_given c i h = none_front c.problem.constraints (map (λ d. d.last) c.derivations) i h
 
+before : (i n : ℕ) → i < n → (nat_lt i n && true) ≡ true
+before i n h = grind (arith, nat_tests)
+
 pub live_given : (c : Certificate) (i : ℕ) → i < length c.problem.constraints → is_live c (count c) i ≡ true
 live_given c i h =
     ap₂ (λ r l. nat_lt i (count c) && (is_assumption r || lasts_to (count c) l)) (reason_given c i h) (last_given c i h)
     ∙ before i (count c) (omega arith)
-  where
-    before : (i n : ℕ) → i < n → (nat_lt i n && true) ≡ true
-    before i n h = grind (arith, nat_tests)
+
+-- an assumption is live from where it is placed on
+none_dropped : (i n : ℕ) (a l : Bool) → i < n → false ≡ (nat_lt i n && (a || l)) → false ≡ a
+none_dropped i n true l h e = absurd (let t = before i n h in cc)
+none_dropped i n false l h e = refl
 
 in_front : {B C : Type 0} (g : B → C) (rest : List C) (d : C) (b : B) (bs : List B) (i : ℕ) → i < length bs → b ≡ get_or bs i b → slice_index_or (map g bs ++ rest) i d ≡ g b
 in_front g rest d b [] i lt at = absurd (omega arith)
@@ -82,3 +87,13 @@ module _ (c : Certificate) (cons : List (Named Constraint)) (t : Table) (is : St
 
   pub rests_on_dropped : (i : ℕ) → length cons ≤ i → None ≡ entry_at t i → RestsOnWhat c i None
   rests_on_dropped i h at = record { some = tt; none = λ e l. absurd (let d = ap is_some at ∙ derived_live i h ∙ l in cc) }
+
+  -- ---- whether it is an assumption
+  pub given_not_assumed : (i : ℕ) → i < length cons → false ≡ is_assumption (reason_at c i)
+  given_not_assumed i h = sym (ap is_assumption (reason_given c i (let e = as_many in omega (arith, e))))
+
+  pub derived_assumed : (i : ℕ) (e : Entry) → Some e ≡ entry_at t i → e.is_assumption ≡ is_assumption (reason_at c i)
+  derived_assumed i e at = ((IsTableOf-answers c t is.table i).entry e (sym at)).is_assumed
+
+  pub dropped_not_assumed : (i : ℕ) → length cons ≤ i → i < count c → None ≡ entry_at t i → false ≡ is_assumption (reason_at c i)
+  dropped_not_assumed i h lt at = none_dropped i (count c) (is_assumption (reason_at c i)) (lasts_to (count c) (last_at c i)) lt (ap is_some at ∙ derived_live i h)

@@ -21,7 +21,7 @@ union_seen xs ys zs u = same_numbers _ _ (λ q.
     ∙ (λ t. sym (contains-from_list_nat xs q) t || sym (contains-from_list_nat ys q) t)
     ∙ sym (contains-union nat_cmp_total (from_list xs) (from_list ys) q))
 
-tied_numbers : (a b : ℕ) → nat_eq a b ≡ eq_by_cmp nat_cmp a b
+pub tied_numbers : (a b : ℕ) → nat_eq a b ≡ eq_by_cmp nat_cmp a b
 tied_numbers a b = grind (arith, nat_tests)
 
 pub remove_seen : (xs : List ℕ) (k : ℕ) → from_list {R = nat_cmp} (filter (λ x. not (nat_eq x k)) xs) ≡ remove (from_list xs) k

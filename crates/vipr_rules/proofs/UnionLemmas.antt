@@ -23,7 +23,7 @@ IsSetOf-none c i none a = (λ t. absurd (none_in_empty a t), λ r. absurd (none 
 pub IsSetOfAll-none : (c : Certificate) → IsSetOfAll c [] empty
 IsSetOfAll-none c a = (λ t. absurd (none_in_empty a t), λ (e, h, n, r). absurd (let lt = h.1 in omega arith))
 
-in_union : (s t : FinSet nat_cmp) (a : ℕ) → IsTrue (contains (union s t) a) ↔ (IsTrue (contains s a) ⊎ IsTrue (contains t a))
+pub in_union : (s t : FinSet nat_cmp) (a : ℕ) → IsTrue (contains (union s t) a) ↔ (IsTrue (contains s a) ⊎ IsTrue (contains t a))
 in_union s t a = (λ h. out (contains s a) (contains t a) (sym (contains-union nat_cmp_total s t a) ∙ h), λ h. contains-union nat_cmp_total s t a ∙ back (contains s a) (contains t a) h)
   where
     out : (b d : Bool) → (b || d) ≡ true → (b ≡ true) ⊎ (d ≡ true)

@@ -1,11 +1,11 @@
 -- What stands before the next derivation.
-use Rattle.std.specs.Prelude.{◌≡◌, ◌↔◌, ℕ, List, map, Option, Some, None, is_some, IsTrue, IfSome, All}
+use Rattle.std.specs.Prelude.{◌≡◌, ◌≢◌, ◌⊎◌, ◌↔◌, ℕ, List, map, Option, Some, None, is_some, IsTrue, IfSome, All}
 use Rattle.std.specs.FinSet as set
 use Rattle.std.specs.FinMap as finmap
 use Rattle.std.specs.Ordering.{nat_cmp}
 use Rattle.vipr_spec.specs.Fraction.{ℚ}
-use Rattle.vipr_spec.specs.OnePass.{SomeRestsOn}
-use Rattle.vipr_spec.specs.Certificate.{Certificate, constraint_at, is_live, count, RestsOn}
+use Rattle.vipr_spec.specs.OnePass.{SomeRestsOn, RestsBy}
+use Rattle.vipr_spec.specs.Certificate.{Certificate, Reason, constraint_at, is_live, count, RestsOn}
 use Rattle.vipr_spec.specs.Constraint.{at, NamesBelow}
 use Rattle.vipr_linear.specs.Constraint.{constraint_of, condition_of}
 use Rattle.vipr_rules.specs.declared.entries.Entry.{Entry}
@@ -32,6 +32,18 @@ pub record RestsOnWhat (c : Certificate) (i : ℕ) (found : Option (set.FinSet n
 -- the set has what the entries rest on, those with the multiplier 0 left out
 abbrev pub IsSetOfAll : Certificate → List (ℕ × ℚ) → set.FinSet nat_cmp → Type 0
 IsSetOfAll c es s = (a : ℕ) → IsTrue (set.contains s a) ↔ SomeRestsOn c es a
+
+-- the set has what constraint i rests on without l
+abbrev pub IsSetWithout : Certificate → ℕ → ℕ → set.FinSet nat_cmp → Type 0
+IsSetWithout c i l s = (a : ℕ) → IsTrue (set.contains s a) ↔ (RestsOn c i a × (a ≢ l))
+
+-- the set has what the one constraint rests on without l1, and the other without l2
+abbrev pub IsUnsplitSet : Certificate → ℕ → ℕ → ℕ → ℕ → set.FinSet nat_cmp → Type 0
+IsUnsplitSet c i1 l1 i2 l2 s = (a : ℕ) → IsTrue (set.contains s a) ↔ ((RestsOn c i1 a × (a ≢ l1)) ⊎ (RestsOn c i2 a × (a ≢ l2)))
+
+-- the set has what a derivation by this reason rests on, that comes after the certificate c
+abbrev pub IsSetByReason : Certificate → Reason → set.FinSet nat_cmp → Type 0
+IsSetByReason c r s = (a : ℕ) → IsTrue (set.contains s a) ↔ RestsBy c (count c) (Some r) a
 
 -- the constraints of the table have no variable from n on
 pub record DerivedBelow (n : ℕ) (t : Table) : Type 0 where

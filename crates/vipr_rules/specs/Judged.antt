@@ -1,15 +1,15 @@
 -- What is told of a derivation that is refused, and what is kept of one that is taken.
-use Rattle.std.specs.Prelude.{◌≡◌, ℕ, ◌+◌, ◌≤◌, ◌⊎◌, IsTrue, length, ℤ, List, [], take, Some, None, Result, Ok, Err}
+use Rattle.std.specs.Prelude.{◌≡◌, ℕ, ◌+◌, ◌≤◌, ◌⊎◌, IsTrue, length, ℤ, List, [], ◌∷◌, take, Some, None, Result, Ok, Err}
 use Rattle.vipr_spec.specs.Fraction.{ℚ, whole}
 use Rattle.vipr_spec.specs.Constraint.{Sense, Row, Condition, condition, HasSense, sum_of, SumOfFits, RoundsTo}
 use Rattle.vipr_spec.specs.Certificate.{Named, Reason, lin, rnd, Derivation, Certificate, constraint_at, entries, IsBest, cutoff, is_live, count}
 use Rattle.vipr_spec.specs.OnePass.{with_next}
-use Rattle.vipr_spec.specs.Verdict.{StepTest, earlier, live, assumed, suitable, fitting, roundable, split, listed, by_sum, by_rounding, by_constraint, by_cutoff, built, FirstFailing, step_tests}
+use Rattle.vipr_spec.specs.Verdict.{StepTest, earlier, live, assumed, suitable, fitting, roundable, split, listed, by_sum, by_rounding, by_constraint, by_cutoff, FirstFailing, step_tests}
 use Rattle.vipr_spec.specs.Progress.{PassesNext}
 use Rattle.vipr_spec.specs.Soundness.{IsSound}
 use Rattle.vipr_linear.specs.Constraint.{condition_of}
 use Rattle.vipr_rules.specs.declared.failure.RuleError.{RuleError}
-use Rattle.vipr_rules.specs.declared.failure.RuleError.TheVariants.{NotEarlier, Dropped, NotAssumption, MixedSigns, Overflow, NotRoundable, NotSplit, NotDominated, NoSolution, NotYet, Memory}
+use Rattle.vipr_rules.specs.declared.failure.RuleError.TheVariants.{NotEarlier, Dropped, NotAssumption, MixedSigns, Overflow, NotRoundable, NotSplit, NotDominated, NoSolution, Memory}
 use Rattle.vipr_rules.specs.declared.entries.Entry.{Entry}
 use Rattle.vipr_rules.specs.History.{IsEntryOf}
 
@@ -17,6 +17,10 @@ abbrev pub entries_of : Reason → List (ℕ × ℚ)
 entries_of (lin es) = es
 entries_of (rnd es) = es
 entries_of _ = []
+
+-- constraint i comes before, and is live
+abbrev pub index_tests : ℕ → List StepTest
+index_tests i = earlier i ∷ live i ∷ []
 
 -- the entries are suitable, and this is their sum
 abbrev pub IsSum : Certificate → List (ℕ × ℚ) → Condition → Type 0
@@ -41,7 +45,6 @@ Tells c d (NotRoundable x) t = (t ≡ roundable (entries_of d.reason)) × IsSum 
 Tells c d (NotSplit x y) t = (l1 : ℕ) × (l2 : ℕ) × (t ≡ split l1 l2) × (condition_of x ≡ constraint_at c l1) × (condition_of y ≡ constraint_at c l2)
 Tells c d (NotDominated x y) t = IsComputed c t (condition_of x) × (condition_of y ≡ condition d.stated)
 Tells c d NoSolution t = t ≡ listed
-Tells c d NotYet t = t ≡ built
 Tells c d Memory t = ⊥
 
 -- of these tests one fails first, and the error says which

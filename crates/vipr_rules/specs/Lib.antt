@@ -8,3 +8,5 @@ pub mod Kept
 pub mod History
 pub mod Before
 pub mod Judged
+pub mod Claim
+pub mod Solution

@@ -29,8 +29,6 @@ pub enum RuleError {
     },
     /// No solution is listed.
     NoSolution,
-    /// The reason isn't built yet.
-    NotYet,
     /// A growth was refused.
     Memory,
 }

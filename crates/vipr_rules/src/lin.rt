@@ -3,7 +3,7 @@
 ghost use Rattle.std.specs.Prelude.{◌≡◌, ◌⊎◌, length, MatchResult};
 ghost use Rattle.vipr_spec.specs.Constraint.{condition};
 ghost use Rattle.vipr_spec.specs.Certificate.{Certificate, Derivation, lin as by_lin};
-ghost use Rattle.vipr_spec.specs.Verdict.{all_step_tests};
+ghost use Rattle.vipr_spec.specs.Verdict.{step_tests};
 ghost use Rattle.vipr_linear.specs.Constraint.{condition_of};
 ghost use Rattle.vipr_rules.specs.Before.{StandsBefore, NameBelow, IsSetOfAll};
 ghost use Rattle.vipr_rules.specs.Judged.{Passes, Stops};
@@ -31,8 +31,8 @@ pub(crate) fn combine<S: Rows>(
 ) -> Result<Assumptions, RuleError>
     requires { NameBelow (length scratch.old.sums) given.now (S.table rows.now) }
     ensures judged { (c : Certificate) (d : Derivation) → StandsBefore c given.now (S.table rows.now) → d.reason ≡ by_lin entries.now → condition_of stated.now ≡ condition d.stated
-        → MatchResult result (λ s. Passes c d (all_step_tests (by_lin entries.now)) × IsSetOfAll c entries.now s)
-        (λ e. (e ≡ Memory) ⊎ Stops c d (all_step_tests (by_lin entries.now)) e) }
+        → MatchResult result (λ s. Passes c d (step_tests (by_lin entries.now)) × IsSetOfAll c entries.now s)
+        (λ e. (e ≡ Memory) ⊎ Stops c d (step_tests (by_lin entries.now)) e) }
     ensures variables { length scratch.new.sums ≡ length scratch.old.sums }
 {
     check_references(given, rows, entries)?;

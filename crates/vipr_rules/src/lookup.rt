@@ -2,7 +2,7 @@
 
 ghost use Rattle.std.specs.Prelude.{◌≡◌, ◌<◌, ℕ, IfSome, option_copied};
 ghost use Rattle.vipr_spec.specs.Constraint.{at, NamesBelow};
-ghost use Rattle.vipr_spec.specs.Certificate.{Certificate, is_live as live_at, count};
+ghost use Rattle.vipr_spec.specs.Certificate.{Certificate, is_assumption as is_assumed, reason_at, is_live as live_at, count};
 ghost use Rattle.vipr_rules.specs.Before.{StandsBefore, SaysWhat, RestsOnWhat, NameBelow};
 
 use crate::assumed::Assumptions;
@@ -50,5 +50,18 @@ pub(crate) fn assumptions<'a, S: Rows>(
     match rows.get(index) {
         Some(entry) => Some(&entry.assumptions),
         None => None,
+    }
+}
+
+/// Whether constraint `index` is an assumption.
+pub(crate) fn is_assumption<S: Rows>(given: &[Named<Constraint>], rows: &S, index: u32) -> bool
+    ensures { (c : Certificate) → StandsBefore c given.now (S.table rows.now) → index < count c → result ≡ is_assumed (reason_at c index) }
+{
+    if (index as usize) < given.len() {
+        return false;
+    }
+    match rows.get(index) {
+        Some(entry) => entry.is_assumption,
+        None => false,
     }
 }

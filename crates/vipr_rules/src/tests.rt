@@ -1,9 +1,10 @@
-use crate::{Assumptions, Entry, KeepAll, LiveOnly, Rows};
+use crate::{Assumptions, Entry, KeepAll, LiveOnly, Rows, SolutionError, test_solution};
 use std::alloc::Global;
 use std::process::Abort;
 use std::test::Fail;
 use vipr_frac::Frac;
-use vipr_linear::{Constraint, Row, Sense};
+use vipr_items::{Claim, Goal, Name, Named, Problem};
+use vipr_linear::{Constraint, Ints, Row, Sense, Solution};
 
 fn entry(alloc: Global, last: Option<u32>, is_assumption: bool) -> Result<Entry, Fail> {
     Ok(Entry {
@@ -95,5 +96,49 @@ fn sets(rt: HostRuntime) -> Result<(), Fail> {
     let left = again.without(alloc, 5)?;
     assert!(rt; left.contains(2) && !left.contains(5));
     assert!(rt; none.is_empty() && left.without(alloc, 2)?.is_empty() && !left.is_empty());
+    Ok(())
+}
+
+fn some_name(alloc: Global) -> Result<Name, Fail> {
+    Ok(Name::of_token(alloc, b"x")?)
+}
+
+// Of two variables the first is to be whole and at least 1, and their sum is to be small.
+fn problem(alloc: Global) -> Result<Problem, Fail> {
+    let names = vec![in alloc; some_name(alloc)?, some_name(alloc)?]?;
+    let cons = vec![in alloc;
+        Named {
+            name: some_name(alloc)?,
+            item: Constraint {
+                row: Row::from_pairs(alloc, vec![in alloc; (0, Frac::one())]?)?,
+                sense: Sense::G,
+                rhs: Frac::one(),
+            },
+        },
+    ]?;
+    let ints = Ints::from_indices(alloc, vec![in alloc; 0]?)?;
+    let sum = vec![in alloc; (0, Frac::one()), (1, Frac::one())]?;
+    let objective = Row::from_pairs(alloc, sum)?;
+    Ok(Problem::new(names, ints, Goal::Min, objective, cons, 0, Claim::Infeas)?)
+}
+
+#[test]
+fn solutions(rt: HostRuntime) -> Result<(), Fail> {
+    let alloc = rt.alloc();
+    let problem = problem(alloc)?;
+    let half = Frac::new(1, 2)?;
+    for (x, y, found) in [
+        (Frac::one(), half, Ok(Frac::new(3, 2)?)),
+        (half, half, Err(SolutionError::NotWhole(0))),
+        (Frac::zero(), half, Err(SolutionError::Breaks(0))),
+        (
+            Frac::one(),
+            Frac::new(i128::MAX, 1)?,
+            Err(SolutionError::Overflow(None)),
+        ),
+    ] {
+        let solution = Solution(Row::from_pairs(alloc, vec![in alloc; (0, x), (1, y)]?)?);
+        assert_eq!(rt; test_solution(&problem, &solution), found);
+    }
     Ok(())
 }

@@ -8,7 +8,7 @@ use Rattle.vipr_spec.specs.Fraction.{zero_ℚ}
 use Rattle.vipr_spec.specs.Constraint.{IsInteger, at, equal}
 use Rattle.vipr_spec.specs.Certificate.{asm, Derivation, Certificate, variables, reason_at, IsFeasible, SolutionFits, IsProof}
 use Rattle.vipr_spec.specs.OnePass.{IsGoodStep, HasGoodSteps}
-use Rattle.vipr_spec.specs.Verdict.{Test, of_solution, meets_primal, of_step, meets_dual, Passes, all_step_tests, solution_tests, numbered, tests_of_solution, FirstFailing}
+use Rattle.vipr_spec.specs.Verdict.{Test, of_solution, meets_primal, of_step, meets_dual, Passes, step_tests, solution_tests, numbered, tests_of_solution, FirstFailing}
 use Rattle.vipr_spec.specs.ProofTests.{proof_tests}
 use Rattle.vipr_spec.proofs.FirstFailing.{none_all, all_none, all_parts}
 use Rattle.vipr_spec.proofs.GoodTests.{good_passes}
@@ -57,7 +57,7 @@ module _ (c : Certificate) where
   m = length c.problem.constraints
 
   abbrev step_list : ℕ → Derivation → List Test
-  step_list k d = map (of_step k) (all_step_tests d.reason)
+  step_list k d = map (of_step k) (step_tests d.reason)
 
   steps_of : All (Passes c) (numbered step_list m c.derivations) → HasGoodSteps c
   steps_of a k h = ⊎_elim
@@ -68,13 +68,13 @@ module _ (c : Certificate) where
       let within : j < length c.derivations = omega arith in
       let r = (slice_index_or c.derivations j nothing).reason in
       subst (IsGoodStep c) e ((good_passes c (m + j) r (reason_derived c j nothing within)).0
-      (unmapped (Passes c) (of_step (m + j)) (all_step_tests r) (numbered_of (Passes c) step_list m c.derivations a j nothing within))))
+      (unmapped (Passes c) (of_step (m + j)) (step_tests r) (numbered_of (Passes c) step_list m c.derivations a j nothing within))))
       (cases_lt k m)
 
   of_steps : HasGoodSteps c → All (Passes c) (numbered step_list m c.derivations)
   of_steps g = numbered_all (Passes c) step_list m c.derivations (λ j d h.
       let r = (slice_index_or c.derivations j d).reason in
-      All-map (Passes c) (of_step (m + j)) (all_step_tests r) ((good_passes c (m + j) r (reason_derived c j d h)).1 (g (m + j) (omega arith))))
+      All-map (Passes c) (of_step (m + j)) (step_tests r) ((good_passes c (m + j) r (reason_derived c j d h)).1 (g (m + j) (omega arith))))
 
   solutions_of : ((j : ℕ) → IsInteger c.problem.integers j → j < variables c.problem) → All (Passes c) (numbered (tests_of_solution c.problem) 0 c.solutions) → All (λ s. IsFeasible c.problem (at s.item) × SolutionFits c.problem (at s.item)) c.solutions
   solutions_of below a k d h = feasible_of_tests c.problem (slice_index_or c.solutions k d).item below

@@ -10,7 +10,7 @@ use Rattle.vipr_spec.specs.Fraction.{ℚ, zero_ℚ}
 use Rattle.vipr_spec.specs.Constraint.{Sense, Entry, HasSense, SumOfFits}
 use Rattle.vipr_spec.specs.Certificate.{Reason, asm, lin, rnd, uns, sol, Certificate, constraint_at, entries, IsValid, StepFits, RefersTo, is_live}
 use Rattle.vipr_spec.specs.Reading.{is_nonzero}
-use Rattle.vipr_spec.specs.Verdict.{StepTest, earlier, live, suitable, fitting, roundable, listed, by_sum, by_rounding, by_cutoff, built, PassesStep, reference_tests, entry_tests, sum_tests, all_step_tests, FirstFailing}
+use Rattle.vipr_spec.specs.Verdict.{StepTest, earlier, live, suitable, fitting, roundable, listed, by_sum, by_rounding, by_cutoff, PassesStep, reference_tests, entry_tests, sum_tests, step_tests, FirstFailing}
 use Rattle.vipr_spec.proofs.Fractions.{is_zero, Is, zero_from_numer}
 use Rattle.vipr_spec.proofs.MoreEntries.{suitable_front, fitting_front}
 use Rattle.vipr_spec.proofs.FirstFailing.{none_all, all_none, all_parts}
@@ -104,7 +104,7 @@ module _ (c : Certificate) (k : ℕ) where
   abbrev pub IsGood : Reason → Type 0
   IsGood r = IsValid c k (Some r) × StepFits c (Some r) × ((i : ℕ) → RefersTo (Some r) i → IsTrue (is_live c k i))
 
-  pub good_of_tests : (r : Reason) → All (PassesStep c k) (all_step_tests r) → IsGood r
+  pub good_of_tests : (r : Reason) → All (PassesStep c k) (step_tests r) → IsGood r
   good_of_tests asm a = (tt, tt, λ i h. absurd h)
   good_of_tests (lin es) a =
       let two = all_parts (PassesStep c k) (sum_tests es) (by_sum es ∷ []) a in
@@ -128,8 +128,8 @@ module _ (c : Certificate) (k : ℕ) where
     λ i h. ⊎_elim (at i i1 (pass 1 (lit< tt))) (λ h. ⊎_elim (at i l1 (pass 3 (lit< tt))) (λ h. ⊎_elim (at i i2 (pass 5 (lit< tt))) (at i l2 (pass 7 (lit< tt))) h) h) h,
   )
     where
-      pass : (n : ℕ) → n < 13 → PassesStep c k (slice_index_or (all_step_tests (uns i1 l1 i2 l2)) n built)
-      pass n h = a n built h
+      pass : (n : ℕ) → n < 13 → PassesStep c k (slice_index_or (step_tests (uns i1 l1 i2 l2)) n listed)
+      pass n h = a n listed h
 
       at : (i j : ℕ) → IsTrue (is_live c k j) → i ≡ j → IsTrue (is_live c k i)
       at i j l e = subst (λ n. IsTrue (is_live c k n)) (sym e) l
@@ -138,12 +138,12 @@ module _ (c : Certificate) (k : ℕ) where
   one_test : (t : StepTest) → PassesStep c k t → All (PassesStep c k) (t ∷ [])
   one_test t h = All-cons (PassesStep c k) t [] h (All-nil (PassesStep c k))
 
-  pub tests_of_good : (r : Reason) → IsGood r → All (PassesStep c k) (all_step_tests r)
+  pub tests_of_good : (r : Reason) → IsGood r → All (PassesStep c k) (step_tests r)
   tests_of_good asm g = All-nil (PassesStep c k)
   tests_of_good (lin es) g = All-append (PassesStep c k) (sum_tests es) (by_sum es ∷ []) (sum_tests_pass es (named_by es g.0.0 g.2) (g.0.1.0, g.0.1.1) g.1) (one_test (by_sum es) g.0.1)
   tests_of_good (rnd es) g = All-append (PassesStep c k) (sum_tests es) (roundable es ∷ by_rounding es ∷ []) (sum_tests_pass es (named_by es g.0.0 g.2) (g.0.1.0, g.0.1.1) g.1)
       (All-cons (PassesStep c k) (roundable es) (by_rounding es ∷ []) (g.0.1.0, g.0.1.1, g.0.1.2) (one_test (by_rounding es) g.0.1))
-  tests_of_good (uns i1 l1 i2 l2) g = All-from_recursion (PassesStep c k) (all_step_tests (uns i1 l1 i2 l2))
+  tests_of_good (uns i1 l1 i2 l2) g = All-from_recursion (PassesStep c k) (step_tests (uns i1 l1 i2 l2))
       (v.0, (g.2 i1 (inl refl), (v.1, (g.2 l1 (inr (inl refl)), (v.2, (g.2 i2 (inr (inr (inl refl))), (v.3, (g.2 l2 (inr (inr (inr refl))), (v.4, (v.5, (v.6.0, (v.6.1, (v.6.2, tt)))))))))))))
     where
       v : IsValid c k (Some (uns i1 l1 i2 l2))
@@ -153,8 +153,8 @@ module _ (c : Certificate) (k : ℕ) where
       some_listed : Contains c.solutions g.0.0 → 0 < length c.solutions
       some_listed m = let h = m.1 in omega arith
 
-  pub no_test_fails : (r : Reason) → FirstFailing (PassesStep c k) (all_step_tests r) None ↔ IsGood r
+  pub no_test_fails : (r : Reason) → FirstFailing (PassesStep c k) (step_tests r) None ↔ IsGood r
   no_test_fails r = (
-    λ f. good_of_tests r (none_all (PassesStep c k) (all_step_tests r) f),
-    λ g. all_none (PassesStep c k) (all_step_tests r) (tests_of_good r g),
+    λ f. good_of_tests r (none_all (PassesStep c k) (step_tests r) f),
+    λ g. all_none (PassesStep c k) (step_tests r) (tests_of_good r g),
   )

@@ -1,14 +1,15 @@
 -- What remains of a text, item by item
 use Rattle.std.proofs.Common.{◌≡◌, ℕ, suc, ◌+◌, List, [], ◌∷◌, ◌++◌, length, Option, Some, None, Result, Ok, Err, arith, refl, sym, ◌∙◌, ap, ap₂, subst, append_assoc, append-nil, inl, inr}
 use Rattle.std.specs.Prelude.{◌↔◌}
+use Rattle.std.proofs.lemmas.List.{length-append}
 use Rattle.vipr_spec.specs.Constraint.{Row}
-use Rattle.vipr_spec.specs.Certificate.{Named, Problem, Derivation, Certificate, infeasible, range, Claim, MeetsPrimal, count}
+use Rattle.vipr_spec.specs.Certificate.{Named, Problem, Derivation, Certificate, MeetsPrimal, count}
 use Rattle.vipr_spec.specs.Reading.{Rest, Fault, ◌>>=◌, problem_read, solution_read, derivations_read, derivation_read, end_read}
 use Rattle.vipr_spec.specs.OnePass.{with_more, with_next}
-use Rattle.vipr_spec.specs.Verdict.{StepTest, step_tests, FirstFailing, at_solution, at_end, Test, spelled, meets_primal, of_step, meets_dual, is_built, Passes, before_items, items_read, Found, numbered, tests_of_derivation, last_tests, derivations_found, ending_found, claim_tests, problem_found, found_in, Report, Reports, Answer, verified, told_by, IsToldBy, IsAnswer}
+use Rattle.vipr_spec.specs.Verdict.{StepTest, step_tests, FirstFailing, SolutionTest, PassesSolution, solution_tests, of_solution, Test, spelled, meets_primal, of_step, meets_dual, Passes, before_items, items_read, Found, numbered, tests_of_solution, tests_of_derivation, last_tests, derivations_found, ending_found, problem_found, found_in, Report, Reports, Answer, verified, told_by, IsToldBy, IsAnswer}
 use Rattle.vipr_spec.specs.Progress.{PassesNext, Answers, derivations_from, solutions_from}
 use Rattle.vipr_spec.proofs.FirstFailing.{failing_unique, failing_first, failing_second, failing_after, failing_map}
-use Rattle.vipr_spec.proofs.StepTests.{more_next, built_tests_next}
+use Rattle.vipr_spec.proofs.StepTests.{more_next, tests_next}
 use Rattle.vipr_spec.proofs.Prefix.{count_next}
 
 -- ---- tests that pass, and a test that fails
@@ -74,14 +75,14 @@ derivation_passes c n r d s a e h =
       certificate = with_more c (d ∷ items.0);
       tests = tests_of_derivation (count c) d ++ (numbered tests_of_derivation (suc (count c)) items.0 ++ last_tests (items.1 >>= end_read));
     }) a ↔ Answers x a) (derivation_then c n d s) (passed _ _ _ a
-    (failing_map (of_step (count c)) (Passes (with_more c (d ∷ items.0))) (step_tests d.reason) None ((built_tests_next c d items.0 d.reason None).1 h))))
+    (failing_map (of_step (count c)) (Passes (with_more c (d ∷ items.0))) (step_tests d.reason) None ((tests_next c d items.0 d.reason None).1 h))))
 
 pub derivation_fails : (c : Certificate) (n : ℕ) (r : Rest) (d : Derivation) (s : Rest) (t : StepTest) (a : Answer) → derivation_read c.problem r ≡ Ok (d, s) → FirstFailing (PassesNext c d) (step_tests d.reason) (Some t)
     → Answers (derivations_from c (suc n) r) a ↔ (a ≡ told_by (of_step (count c) t))
 derivation_fails c n r d s t a e h =
     let items = items_read (derivation_read c.problem) n s in
     moved _ _ a _ (derivation_next c n r d s e) (failed _ _ _ (of_step (count c) t) a
-    (failing_map (of_step (count c)) (Passes (with_more c (d ∷ items.0))) (step_tests d.reason) (Some t) ((built_tests_next c d items.0 d.reason (Some t)).1 h)))
+    (failing_map (of_step (count c)) (Passes (with_more c (d ∷ items.0))) (step_tests d.reason) (Some t) ((tests_next c d items.0 d.reason (Some t)).1 h)))
 
 pub derivation_fault : (c : Certificate) (n : ℕ) (r : Rest) (f : Fault) (a : Answer) → derivation_read c.problem r ≡ Err f → Answers (derivations_from c (suc n) r) a ↔ (a ≡ told_by (spelled f))
 unfolding items_read numbered
@@ -113,17 +114,49 @@ unfolding items_read numbered
 solution_fault p ss n r f a e =
     moved _ _ a _ (ap (λ x. let items = before_items (items_read (solution_read p) n) x in let ending = ending_found p items.1 in record {
       certificate = record { problem = p; solutions = ss ++ items.0; derivations = ending.0 };
-      tests = numbered (λ i s. is_built (at_solution i) ∷ []) (length ss) items.0 ++ ending.1;
+      tests = numbered (tests_of_solution p) (length ss) items.0 ++ ending.1;
     }) e) (failed_now _ [] (spelled f) a (λ h. h))
 
-pub solution_unbuilt : (p : Problem) (ss : List (Named Row)) (n : ℕ) (r : Rest) (s : Named Row) (t : Rest) (a : Answer) → solution_read p r ≡ Ok (s, t)
-    → Answers (solutions_from p ss (suc n) r) a ↔ (a ≡ told_by (is_built (at_solution (length ss))))
+solution_next : (p : Problem) (ss : List (Named Row)) (n : ℕ) (r : Rest) (s : Named Row) (t : Rest) → solution_read p r ≡ Ok (s, t)
+    → solutions_from p ss (suc n) r ≡ (let items = items_read (solution_read p) n t in let ending = ending_found p items.1 in record {
+      certificate = record { problem = p; solutions = ss ++ s ∷ items.0; derivations = ending.0 };
+      tests = tests_of_solution p (length ss) s ++ (numbered (tests_of_solution p) (suc (length ss)) items.0 ++ ending.1);
+    })
 unfolding items_read numbered
-solution_unbuilt p ss n r s t a e =
-    moved _ _ a _ (ap (λ x. let items = before_items (items_read (solution_read p) n) x in let ending = ending_found p items.1 in record {
+solution_next p ss n r s t e =
+    ap (λ x. let items = before_items (items_read (solution_read p) n) x in let ending = ending_found p items.1 in record {
       certificate = record { problem = p; solutions = ss ++ items.0; derivations = ending.0 };
-      tests = numbered (λ i s. is_built (at_solution i) ∷ []) (length ss) items.0 ++ ending.1;
-    }) e) (failed_now _ _ (is_built (at_solution (length ss))) a (λ h. h))
+      tests = numbered (tests_of_solution p) (length ss) items.0 ++ ending.1;
+    }) e
+    ∙ (let items = items_read (solution_read p) n t in let ending = ending_found p items.1 in
+    ap (λ ts. record { certificate = record { problem = p; solutions = ss ++ s ∷ items.0; derivations = ending.0 }; tests = ts }) (append_assoc (tests_of_solution p (length ss) s) _ _))
+
+solution_then : (p : Problem) (ss : List (Named Row)) (n : ℕ) (s : Named Row) (t : Rest)
+    → (let items = items_read (solution_read p) n t in let ending = ending_found p items.1 in record {
+      certificate = record { problem = p; solutions = ss ++ s ∷ items.0; derivations = ending.0 };
+      tests = numbered (tests_of_solution p) (suc (length ss)) items.0 ++ ending.1;
+    }) ≡ solutions_from p (ss ++ s ∷ []) n t
+solution_then p ss n s t =
+    let items = items_read (solution_read p) n t in let ending = ending_found p items.1 in
+    ap₂ (λ l k. record { certificate = record { problem = p; solutions = l; derivations = ending.0 }; tests = numbered (tests_of_solution p) k items.0 ++ ending.1 })
+    (sym (append_assoc ss (s ∷ []) items.0)) (let e = length-append ss (s ∷ []) in omega arith)
+
+pub solution_passes : (p : Problem) (ss : List (Named Row)) (n : ℕ) (r : Rest) (s : Named Row) (t : Rest) (a : Answer) → solution_read p r ≡ Ok (s, t) → FirstFailing (PassesSolution p s.item) (solution_tests p) None
+    → Answers (solutions_from p ss (suc n) r) a ↔ Answers (solutions_from p (ss ++ s ∷ []) n t) a
+solution_passes p ss n r s t a e h =
+    let items = items_read (solution_read p) n t in let ending = ending_found p items.1 in
+    let c : Certificate = record { problem = p; solutions = ss ++ s ∷ items.0; derivations = ending.0 } in
+    moved _ _ a _ (solution_next p ss n r s t e) (subst (λ x. Answers (record {
+      certificate = c;
+      tests = tests_of_solution p (length ss) s ++ (numbered (tests_of_solution p) (suc (length ss)) items.0 ++ ending.1);
+    }) a ↔ Answers x a) (solution_then p ss n s t) (passed _ _ _ a (failing_map (of_solution (length ss) s.item) (Passes c) (solution_tests p) None h)))
+
+pub solution_fails : (p : Problem) (ss : List (Named Row)) (n : ℕ) (r : Rest) (s : Named Row) (t : Rest) (x : SolutionTest) (a : Answer) → solution_read p r ≡ Ok (s, t) → FirstFailing (PassesSolution p s.item) (solution_tests p) (Some x)
+    → Answers (solutions_from p ss (suc n) r) a ↔ (a ≡ told_by (of_solution (length ss) s.item x))
+solution_fails p ss n r s t x a e h =
+    let items = items_read (solution_read p) n t in let ending = ending_found p items.1 in
+    let c : Certificate = record { problem = p; solutions = ss ++ s ∷ items.0; derivations = ending.0 } in
+    moved _ _ a _ (solution_next p ss n r s t e) (failed _ _ _ (of_solution (length ss) s.item x) a (failing_map (of_solution (length ss) s.item) (Passes c) (solution_tests p) (Some x) h))
 
 -- ---- the end of the solutions
 
@@ -156,23 +189,6 @@ pub problem_fault : (r : Rest) (f : Fault) (a : Answer) → problem_read r ≡ E
 unfolding found_in
 problem_fault r f a e = moved _ _ a _ (ap problem_found e) (failed_now _ [] (spelled f) a (λ h. h))
 
-pub problem_ok : (r : Rest) (p : Problem) (n : ℕ) (s : Rest) → problem_read r ≡ Ok ((p, n), s)
-    → found_in r ≡ (let after = solutions_from p [] n s in record { certificate = after.certificate; tests = claim_tests p.claim ++ after.tests })
+pub problem_ok : (r : Rest) (p : Problem) (n : ℕ) (s : Rest) (a : Answer) → problem_read r ≡ Ok ((p, n), s) → IsAnswer r a ↔ Answers (solutions_from p [] n s) a
 unfolding found_in
-problem_ok r p n s e =
-    let after = solutions_from p [] n s in
-    ap problem_found e ∙ ap (λ ts. record { certificate = after.certificate; tests = ts }) (append_assoc (claim_tests p.claim) _ _)
-
-pub problem_built : (r : Rest) (p : Problem) (n : ℕ) (s : Rest) (a : Answer) → problem_read r ≡ Ok ((p, n), s) → p.claim ≡ infeasible → IsAnswer r a ↔ Answers (solutions_from p [] n s) a
-problem_built r p n s a e q =
-    let after = solutions_from p [] n s in
-    moved _ _ a _ (problem_ok r p n s e) (passed after.certificate (claim_tests p.claim) after.tests a (subst (λ x. FirstFailing (Passes after.certificate) (claim_tests x) None) (sym q) refl))
-
-not_infeasible : (c : Certificate) (q : Claim) → ¬ (q ≡ infeasible) → FirstFailing (Passes c) (claim_tests q) (Some (is_built at_end))
-not_infeasible c infeasible n = absurd (n refl)
-not_infeasible c (range lower upper) n = inr (λ h. h, refl)
-
-pub problem_unbuilt : (r : Rest) (p : Problem) (n : ℕ) (s : Rest) (a : Answer) → problem_read r ≡ Ok ((p, n), s) → ¬ (p.claim ≡ infeasible) → IsAnswer r a ↔ (a ≡ told_by (is_built at_end))
-problem_unbuilt r p n s a e q =
-    let after = solutions_from p [] n s in
-    moved _ _ a _ (problem_ok r p n s e) (failed after.certificate (claim_tests p.claim) after.tests (is_built at_end) a (not_infeasible _ p.claim q))
+problem_ok r p n s a e = moved _ _ a _ (ap problem_found e) (λ h. h, λ h. h)

@@ -1,14 +1,13 @@
 -- What is reported, and that a text has one answer
-use Rattle.std.proofs.Common.{◌≡◌, ℕ, [], ◌∷◌, Option, Some, None, MatchOption, inl, inr, arith, refl, sym, ◌∙◌, ap, subst, ◌⊎◌}
+use Rattle.std.proofs.Common.{◌≡◌, ℕ, Option, Some, None, MatchOption, arith, refl, sym, ◌∙◌, ap, subst}
 use Rattle.std.specs.Prelude.{IsSome}
 use Rattle.vipr_spec.specs.Certificate.{Derivation, Certificate, NeedsGoal, IsGoal}
 use Rattle.vipr_spec.specs.Reading.{Rest, Fault, refused, unread}
 use Rattle.vipr_spec.specs.OnePass.{GoalIs, IsGoodNext}
-use Rattle.vipr_spec.specs.Verdict.{built, all_step_tests, step_tests, FirstFailing, Test, spelled, of_solution, meets_primal, of_step, meets_dual, is_built, Passes, found_in, Report, Reports, Answer, verified, told_by, IsToldBy, IsAnswer}
-use Rattle.vipr_spec.specs.Progress.{PassesNext, IsSum}
+use Rattle.vipr_spec.specs.Verdict.{step_tests, FirstFailing, Test, spelled, of_solution, meets_primal, of_step, meets_dual, Passes, found_in, Report, Reports, Answer, verified, told_by, IsToldBy, IsAnswer}
+use Rattle.vipr_spec.specs.Progress.{PassesNext}
 use Rattle.vipr_spec.proofs.Steps.{goal_needed}
 use Rattle.vipr_spec.proofs.FirstFailing.{failing_unique}
-use Rattle.vipr_spec.proofs.StepTests.{built_or_not}
 use Rattle.vipr_spec.proofs.GoodTests.{next_passes}
 
 -- ---- the goal
@@ -56,17 +55,8 @@ told_not_verified (of_solution i s t) report e = cc
 told_not_verified meets_primal report e = cc
 told_not_verified (of_step k t) report e = cc
 told_not_verified meets_dual report e = cc
-told_not_verified (is_built place) report e = cc
 
--- ---- the next derivation, of the reasons that are built
+-- ---- the next derivation
 
-pub built_good : (c : Certificate) (d : Derivation) → FirstFailing (PassesNext c d) (step_tests d.reason) None → IsGoodNext c d
-built_good c d h = by (built_or_not d.reason)
-  where
-    unbuilt : FirstFailing (PassesNext c d) (built ∷ []) None → ⊥
-    unbuilt (inl x) = x.0
-    unbuilt (inr x) = cc
-
-    by : ((step_tests d.reason ≡ all_step_tests d.reason) × IsSum d.reason) ⊎ ((step_tests d.reason ≡ built ∷ []) × ¬ IsSum d.reason) → IsGoodNext c d
-    by (inl e) = (next_passes c d).0 (subst (λ ts. FirstFailing (PassesNext c d) ts None) e.0 h)
-    by (inr e) = absurd (unbuilt (subst (λ ts. FirstFailing (PassesNext c d) ts None) e.0 h))
+pub next_good : (c : Certificate) (d : Derivation) → FirstFailing (PassesNext c d) (step_tests d.reason) None → IsGoodNext c d
+next_good c d h = (next_passes c d).0 h

@@ -1,5 +1,5 @@
 -- The tests of a step look at the derivations up to it alone
-use Rattle.std.proofs.Common.{◌≡◌, ℕ, ◌<◌, ◌≤◌, Bool, true, false, List, [], ◌∷◌, ◌++◌, Option, Some, All, arith, refl, sym, ◌∙◌, ap, ap₂, subst, append_assoc, length, ◌⊎◌, inl, inr}
+use Rattle.std.proofs.Common.{◌≡◌, ℕ, ◌<◌, ◌≤◌, Bool, true, false, List, [], ◌∷◌, ◌++◌, Option, Some, All, arith, refl, sym, ◌∙◌, ap, ap₂, subst, append_assoc, length}
 use Rattle.std.specs.Prelude.{◌↔◌, flat_map, IsTrue, if◌then◌else◌}
 use Rattle.std.proofs.lemmas.List.Elements.{All-nil, All-cons, All-head, All-tail, All-append}
 use Rattle.vipr_spec.specs.Fraction.{ℚ}
@@ -7,8 +7,8 @@ use Rattle.vipr_spec.specs.Constraint.{Sense, Row, HasSense, SumOfFits, sum_of, 
 use Rattle.vipr_spec.specs.Certificate.{Named, Certificate, Derivation, Reason, asm, lin, rnd, uns, sol, constraint_at, reason_at, entries, is_live, IsBest, cutoff, count}
 use Rattle.vipr_spec.specs.Reading.{is_nonzero}
 use Rattle.vipr_spec.specs.OnePass.{with_more, with_next}
-use Rattle.vipr_spec.specs.Verdict.{StepTest, earlier, live, assumed, suitable, fitting, roundable, split, listed, by_sum, by_rounding, by_constraint, by_cutoff, built, PassesStep, FirstFailing, reference_tests, entry_tests, sum_tests, all_step_tests, step_tests}
-use Rattle.vipr_spec.specs.Progress.{LooksBefore, PassesNext, IsSum}
+use Rattle.vipr_spec.specs.Verdict.{StepTest, earlier, live, assumed, suitable, fitting, roundable, split, listed, by_sum, by_rounding, by_constraint, by_cutoff, PassesStep, FirstFailing, reference_tests, entry_tests, sum_tests, step_tests}
+use Rattle.vipr_spec.specs.Progress.{LooksBefore, PassesNext}
 use Rattle.vipr_spec.proofs.Prefix.{constraint_before, reason_before, count_next, entries_before, constraint_next}
 use Rattle.vipr_spec.proofs.Held.{live_before}
 use Rattle.vipr_spec.proofs.FirstFailing.{Agree, agree_iff, agree_append, all_parts}
@@ -50,7 +50,7 @@ module _ (k : ℕ) (P Q : StepTest → Type 0) (first : (i : ℕ) → P (earlier
       (agree_append P Q (flat_map reference_tests es) (entry_tests [] es ++ ts) (references_agree es)
       (λ a. let early = references_early es a in agree_append P Q (entry_tests [] es) ts (entries_agree [] es (All-nil (λ (e : ℕ × ℚ). e.0 < k)) early) (λ b. rest early)))
 
-  pub steps_agree : (r : Reason) → Agree P Q (all_step_tests r)
+  pub steps_agree : (r : Reason) → Agree P Q (step_tests r)
   steps_agree asm = tt
   steps_agree (lin es) = sum_agree es (by_sum es ∷ []) (λ a. (same (by_sum es) a, λ p. tt))
   steps_agree (rnd es) = sum_agree es (roundable es ∷ by_rounding es ∷ []) (λ a. (same (roundable es) a, λ p. (same (by_rounding es) a, λ q. tt)))
@@ -106,7 +106,6 @@ Says c k d (by_sum es) = Combines (entries c es) d
 Says c k d (by_rounding es) = CombinesRounded c.problem.integers (entries c es) d
 Says c k d (by_constraint i) = Dominates (constraint_at c i) d
 Says c k d by_cutoff = (s : Named Row) × IsBest c s × Dominates (cutoff c.problem s) d
-Says c k d built = ⊥
 
 step_says : (c : Certificate) (k : ℕ) (t : StepTest) → PassesStep c k t ≡ Says c k (constraint_at c k) t
 step_says c k (earlier i) = refl
@@ -121,7 +120,6 @@ step_says c k (by_sum es) = refl
 step_says c k (by_rounding es) = refl
 step_says c k (by_constraint i) = refl
 step_says c k by_cutoff = refl
-step_says c k built = refl
 
 next_says : (c : Certificate) (d : Derivation) (t : StepTest) → PassesNext c d t ≡ Says c (count c) (condition d.stated) t
 next_says c d (earlier i) = refl
@@ -136,7 +134,6 @@ next_says c d (by_sum es) = refl
 next_says c d (by_rounding es) = refl
 next_says c d (by_constraint i) = refl
 next_says c d by_cutoff = refl
-next_says c d built = refl
 
 says_more : (c : Certificate) (ds : List Derivation) (k : ℕ) (d : Condition) (t : StepTest) → k ≤ count c → LooksBefore k t → Says (with_more c ds) k d t ≡ Says c k d t
 says_more c ds k d (earlier i) h l = refl
@@ -151,7 +148,6 @@ says_more c ds k d (by_sum es) h l = ap (λ xs. Combines xs d) (entries_before c
 says_more c ds k d (by_rounding es) h l = ap (λ xs. CombinesRounded c.problem.integers xs d) (entries_before c ds k es h l)
 says_more c ds k d (by_constraint i) h l = ap (λ x. Dominates x d) (constraint_before c ds i (omega arith))
 says_more c ds k d by_cutoff h l = refl
-says_more c ds k d built h l = refl
 
 same_type : {A B : Type 0} → A ≡ B → A ↔ B
 same_type e = (λ a. subst (λ X. X) e a, λ b. subst (λ X. X) (sym e) b)
@@ -162,8 +158,8 @@ pub step_more : (c : Certificate) (ds : List Derivation) (k : ℕ) (t : StepTest
 step_more c ds k t h l = same_type (step_says (with_more c ds) k t ∙ ap (λ d. Says (with_more c ds) k d t) (constraint_before c ds k h) ∙ says_more c ds k _ t (omega arith) l ∙ sym (step_says c k t))
 
 pub tests_before : (c : Certificate) (ds : List Derivation) (k : ℕ) (r : Reason) (f : Option StepTest) → k < count c
-    → FirstFailing (PassesStep (with_more c ds) k) (all_step_tests r) f ↔ FirstFailing (PassesStep c k) (all_step_tests r) f
-tests_before c ds k r f h = agree_iff _ _ (all_step_tests r) f (steps_agree k (PassesStep (with_more c ds) k) (PassesStep c k) (λ i l. l) (λ t l. step_more c ds k t h l) r)
+    → FirstFailing (PassesStep (with_more c ds) k) (step_tests r) f ↔ FirstFailing (PassesStep c k) (step_tests r) f
+tests_before c ds k r f h = agree_iff _ _ (step_tests r) f (steps_agree k (PassesStep (with_more c ds) k) (PassesStep c k) (λ i l. l) (λ t l. step_more c ds k t h l) r)
 
 pub more_next : (c : Certificate) (d : Derivation) (ds : List Derivation) → with_more (with_next c d) ds ≡ with_more c (d ∷ ds)
 more_next c d ds = ap (λ l. record c { derivations = l }) (append_assoc c.derivations (d ∷ []) ds)
@@ -178,25 +174,5 @@ next_more c d ds t l = same_type (step_says (with_more c (d ∷ ds)) (count c) t
     ∙ says_more c (d ∷ ds) (count c) _ t (omega arith) l ∙ sym (next_says c d t))
 
 pub tests_next : (c : Certificate) (d : Derivation) (ds : List Derivation) (r : Reason) (f : Option StepTest)
-    → FirstFailing (PassesStep (with_more c (d ∷ ds)) (count c)) (all_step_tests r) f ↔ FirstFailing (PassesNext c d) (all_step_tests r) f
-tests_next c d ds r f = agree_iff _ _ (all_step_tests r) f (steps_agree (count c) (PassesStep (with_more c (d ∷ ds)) (count c)) (PassesNext c d) (λ i l. l) (next_more c d ds) r)
-
--- ---- the reasons that are built
-
-pub built_or_not : (r : Reason) → ((step_tests r ≡ all_step_tests r) × IsSum r) ⊎ ((step_tests r ≡ built ∷ []) × ¬ IsSum r)
-built_or_not (lin es) = inl (refl, tt)
-built_or_not asm = inr (refl, λ h. h)
-built_or_not (rnd es) = inr (refl, λ h. h)
-built_or_not (uns i1 l1 i2 l2) = inr (refl, λ h. h)
-built_or_not sol = inr (refl, λ h. h)
-
-abbrev SameFailing : Certificate → Derivation → List Derivation → Option StepTest → List StepTest → Type 0
-SameFailing c d ds f ts = FirstFailing (PassesStep (with_more c (d ∷ ds)) (count c)) ts f ↔ FirstFailing (PassesNext c d) ts f
-
-pub built_tests_next : (c : Certificate) (d : Derivation) (ds : List Derivation) (r : Reason) (f : Option StepTest)
     → FirstFailing (PassesStep (with_more c (d ∷ ds)) (count c)) (step_tests r) f ↔ FirstFailing (PassesNext c d) (step_tests r) f
-built_tests_next c d ds r f = by (built_or_not r)
-  where
-    by : ((step_tests r ≡ all_step_tests r) × IsSum r) ⊎ ((step_tests r ≡ built ∷ []) × ¬ IsSum r) → SameFailing c d ds f (step_tests r)
-    by (inl e) = subst (SameFailing c d ds f) (sym e.0) (tests_next c d ds r f)
-    by (inr e) = subst (SameFailing c d ds f) (sym e.0) (agree_iff (PassesStep (with_more c (d ∷ ds)) (count c)) (PassesNext c d) (built ∷ []) f ((λ h. h, λ h. h), λ h. tt))
+tests_next c d ds r f = agree_iff _ _ (step_tests r) f (steps_agree (count c) (PassesStep (with_more c (d ∷ ds)) (count c)) (PassesNext c d) (λ i l. l) (next_more c d ds) r)

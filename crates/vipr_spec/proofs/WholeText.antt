@@ -1,19 +1,16 @@
 -- A text is verified exactly where it is read as a proof
-use Rattle.std.proofs.Common.{◌≡◌, ℕ, ◌<◌, zero, suc, List, [], ◌∷◌, ◌++◌, length, map, Option, Some, None, Result, Ok, Err, All, Contains, refl, sym, ◌∙◌, ap, ap₂, subst, zero-lt-suc, inl, inr}
+use Rattle.std.proofs.Common.{◌≡◌, ℕ, ◌<◌, zero, suc, List, [], ◌∷◌, ◌++◌, length, Option, Some, None, Result, Ok, Err, All, Contains, refl, sym, ◌∙◌, ap, subst, zero-lt-suc}
 use Rattle.std.specs.Prelude.{◌↔◌}
-use Rattle.std.proofs.lemmas.List.Elements.{All-nil, All-cons, All-head, All-tail, All-contains, Contains-append_right}
+use Rattle.std.proofs.lemmas.List.Elements.{All-contains, Contains-append_right}
 use Rattle.vipr_spec.specs.Constraint.{IsInteger, Row}
-use Rattle.vipr_spec.specs.Certificate.{Named, Problem, variables, Claim, infeasible, range, Reason, Derivation, Certificate, IsProof}
+use Rattle.vipr_spec.specs.Certificate.{Named, Problem, variables, Derivation, Certificate, IsProof}
 use Rattle.vipr_spec.specs.Reading.{Rest, Fault, Read, ◌>>=◌, repeated, problem_read, solution_read, derivations_read, derivation_read, end_read, certificate_read}
 use Rattle.vipr_spec.specs.Grammar.{Spells}
 use Rattle.vipr_spec.specs.GrammarLaws.{whole_text}
-use Rattle.vipr_spec.specs.Verdict.{built, all_step_tests, step_tests, solution_tests, of_solution, FirstFailing, at_solution, at_end, Test, spelled, meets_primal, of_step, meets_dual, is_built, Passes, before_items, items_read, Found, numbered, tests_of_derivation, last_tests, derivations_found, ending_found, claim_tests, problem_found, found_in, Report, Reports, Answer, verified, IsToldBy, IsAnswer}
-use Rattle.vipr_spec.specs.ProofTests.{proof_tests}
-use Rattle.vipr_spec.specs.Progress.{IsSum, IsBuilt}
-use Rattle.vipr_spec.proofs.FirstFailing.{none_all, all_none, all_parts, failing_unique}
+use Rattle.vipr_spec.specs.Verdict.{FirstFailing, Test, spelled, meets_primal, meets_dual, Passes, before_items, items_read, Found, numbered, tests_of_solution, tests_of_derivation, last_tests, derivations_found, ending_found, problem_found, found_in, Report, Reports, Answer, verified, IsToldBy, IsAnswer}
+use Rattle.vipr_spec.proofs.FirstFailing.{none_all, all_none, failing_unique}
 use Rattle.vipr_spec.proofs.AllTests.{proof_of_tests, tests_of_proof}
 use Rattle.vipr_spec.proofs.GrammarWhole.{reads_texts, integers_read_below}
-use Rattle.vipr_spec.proofs.StepTests.{built_or_not}
 use Rattle.vipr_spec.proofs.Reported.{told_not_verified}
 
 -- ---- reading all items, and reading them up to a fault
@@ -38,7 +35,7 @@ repeated_is {A} item (suc n) r = by (λ s. repeated_is item n s) (item r)
 -- ---- what was found, where the text was read to its end
 
 abbrev opening_tests : Problem → List (Named Row) → List Test
-opening_tests p ss = claim_tests p.claim ++ numbered (λ i s. is_built (at_solution i) ∷ []) 0 ss
+opening_tests p ss = numbered (tests_of_solution p) 0 ss
 
 abbrev all_tests : Certificate → List Test
 all_tests c = opening_tests c.problem c.solutions ++ (meets_primal ∷ (numbered tests_of_derivation (length c.problem.constraints) c.derivations ++ (meets_dual ∷ [])))
@@ -104,62 +101,10 @@ whole_read r = by (problem_read r)
         subst (λ z. Whole (problem_found (Ok p)) (z >>= λ s. derivations_read p.0.0 s.1 >>= λ d. repeated (derivation_read p.0.0) d.0 d.1
         >>= λ ds. end_read ds.1 >>= λ end. Ok (record { problem = p.0.0; solutions = s.0; derivations = ds.0 }))) (sym (repeated_is (solution_read p.0.0) p.0.1 p.1)) (solutions_whole p.0.0 items.0 items.1)
 
--- ---- the tests of what is built
-
-abbrev built_steps : ℕ → List Derivation → List Test
-built_steps k ds = numbered tests_of_derivation k ds
-
-abbrev every_step : ℕ → List Derivation → List Test
-every_step k ds = numbered (λ i d. map (of_step i) (all_step_tests d.reason)) k ds
-
-same_steps : (k : ℕ) (ds : List Derivation) → All (λ d. IsSum d.reason) ds → built_steps k ds ≡ every_step k ds
-unfolding numbered
-same_steps k [] a = refl
-same_steps k (d ∷ ds) a = ap₂ (λ x y. x ++ y) (by d.reason (All-head (λ d. IsSum d.reason) d ds a)) (same_steps (suc k) ds (All-tail (λ d. IsSum d.reason) d ds a))
-  where
-    by : (r : Reason) → IsSum r → map (of_step k) (step_tests r) ≡ map (of_step k) (all_step_tests r)
-    by r s = elim (built_or_not r) [ inl e ↦ ap (map (of_step k)) e.0 | inr e ↦ absurd (e.1 s) ]
-
-sums_of : (c : Certificate) (k : ℕ) (ds : List Derivation) → All (Passes c) (built_steps k ds) → All (λ d. IsSum d.reason) ds
-unfolding numbered
-sums_of c k [] a = All-nil (λ d. IsSum d.reason)
-sums_of c k (d ∷ ds) a =
-    let p = all_parts (Passes c) (tests_of_derivation k d) (built_steps (suc k) ds) a in
-    All-cons (λ d. IsSum d.reason) d ds (by d.reason p.0) (sums_of c (suc k) ds p.1)
-  where
-    by : (r : Reason) → All (Passes c) (map (of_step k) (step_tests r)) → IsSum r
-    by r s = elim (built_or_not r) [ inl e ↦ e.1 | inr e ↦ absurd (All-head (Passes c) (of_step k built) [] (subst (λ ts. All (Passes c) (map (of_step k) ts)) e.0 s)) ]
-
-opening_none : (p : Problem) (ss : List (Named Row)) → p.claim ≡ infeasible → ss ≡ [] → opening_tests p ss ≡ []
-unfolding numbered
-opening_none p ss e f = ap₂ (λ q l. claim_tests q ++ numbered (λ i s. is_built (at_solution i) ∷ []) 0 l) e f
-
-infeasible_of : (c : Certificate) (q : Claim) → All (Passes c) (claim_tests q) → q ≡ infeasible
-infeasible_of c infeasible a = refl
-infeasible_of c (range lower upper) a = absurd (All-head (Passes c) (is_built at_end) [] a)
-
-none_of : (c : Certificate) (ss : List (Named Row)) → All (Passes c) (numbered (λ i s. is_built (at_solution i) ∷ []) 0 ss) → ss ≡ []
-unfolding numbered
-none_of c [] a = refl
-none_of c (s ∷ ss) a = absurd (All-head (Passes c) (is_built (at_solution 0)) _ a)
-
-built_of : (c : Certificate) → All (Passes c) (all_tests c) → IsBuilt c
-built_of c a =
-    let p = all_parts (Passes c) (opening_tests c.problem c.solutions) _ a in
-    let q = all_parts (Passes c) (claim_tests c.problem.claim) _ p.0 in
-    let s = all_parts (Passes c) (built_steps (length c.problem.constraints) c.derivations) _ (All-tail (Passes c) meets_primal _ p.1) in
-    record { claim = infeasible_of c c.problem.claim q.0; solutions = none_of c c.solutions q.1; reasons = sums_of c (length c.problem.constraints) c.derivations s.0 }
-
-same_tests : (c : Certificate) → IsBuilt c → all_tests c ≡ proof_tests c
-unfolding numbered
-same_tests c b =
-    ap₂ (λ o s. o ++ (meets_primal ∷ (s ++ (meets_dual ∷ [])))) (opening_none c.problem c.solutions b.claim b.solutions) (same_steps (length c.problem.constraints) c.derivations b.reasons)
-    ∙ ap (λ l. numbered (λ i s. map (of_solution i s.item) (solution_tests c.problem)) 0 l ++ (meets_primal ∷ (every_step (length c.problem.constraints) c.derivations ++ (meets_dual ∷ [])))) (sym b.solutions)
-
 -- ---- verified
 
 abbrev IsVerified : Result Certificate Fault → Report → Type 0
-IsVerified x report = (c : Certificate) × (x ≡ Ok c) × IsBuilt c × IsProof c × Reports c report
+IsVerified x report = (c : Certificate) × (x ≡ Ok c) × IsProof c × Reports c report
 
 all_passed : (r : Rest) (report : Report) → IsAnswer r (verified report) → All (Passes (found_in r).certificate) (found_in r).tests × Reports (found_in r).certificate report
 all_passed r report h = by h.0 h.1 h.2
@@ -172,8 +117,7 @@ verified_out : (found : Found) (x : Result Certificate Fault) (report : Report) 
 verified_out found (Err f) report below w a s = absurd (All-contains (Passes found.certificate) found.tests (spelled f) a w)
 verified_out found (Ok c) report below w a s =
     let b = subst (λ g. All (Passes g.certificate) g.tests) w a in
-    let i = built_of c b in
-    (c, refl, i, proof_of_tests c (below c refl) (subst (All (Passes c)) (same_tests c i) b), subst (λ g. Reports g.certificate report) w s)
+    (c, refl, proof_of_tests c (below c refl) b, subst (λ g. Reports g.certificate report) w s)
 
 verified_in : (found : Found) (x : Result Certificate Fault) (report : Report) → Whole found x → IsVerified x report → (FirstFailing (Passes found.certificate) found.tests None) × Reports found.certificate report
 verified_in found (Err f) report w v = absurd (cc v.1)
@@ -181,7 +125,7 @@ verified_in found (Ok d) report w v =
     let e : v.0 ≡ d = cc v.1 in
     let c = v.0 in
     let g : found ≡ record { certificate = c; tests = all_tests c } = w ∙ ap (λ c. record { certificate = c; tests = all_tests c }) (sym e) in
-    subst (λ g. (FirstFailing (Passes g.certificate) g.tests None) × Reports g.certificate report) (sym g) (all_none (Passes c) (all_tests c) (subst (All (Passes c)) (sym (same_tests c v.2)) (tests_of_proof c v.3)), v.4)
+    subst (λ g. (FirstFailing (Passes g.certificate) g.tests None) × Reports g.certificate report) (sym g) (all_none (Passes c) (all_tests c) (tests_of_proof c v.2), v.3)
 
 pub verified_read : (r : Rest) (report : Report) → IsAnswer r (verified report) ↔ IsVerified (certificate_read r) report
 verified_read r report = (
@@ -189,21 +133,21 @@ verified_read r report = (
   λ v. let a = verified_in (found_in r) (certificate_read r) report (whole_read r) v in (None, a.0, (report, a.1, refl)),
 )
 
-pub verified_text : (bytes : List ℕ) (report : Report) → IsAnswer (whole_text bytes) (verified report) ↔ ((c : Certificate) × Spells bytes c × IsBuilt c × IsProof c × Reports c report)
+pub verified_text : (bytes : List ℕ) (report : Report) → IsAnswer (whole_text bytes) (verified report) ↔ ((c : Certificate) × Spells bytes c × IsProof c × Reports c report)
 verified_text bytes report = (
-  λ h. let v = (verified_read (whole_text bytes) report).0 h in (v.0, (reads_texts bytes v.0).0 v.1, v.2, v.3, v.4),
-  λ v. (verified_read (whole_text bytes) report).1 (v.0, (reads_texts bytes v.0).1 v.1, v.2, v.3, v.4),
+  λ h. let v = (verified_read (whole_text bytes) report).0 h in (v.0, (reads_texts bytes v.0).0 v.1, v.2, v.3),
+  λ v. (verified_read (whole_text bytes) report).1 (v.0, (reads_texts bytes v.0).1 v.1, v.2, v.3),
 )
 
--- whatever is answered for a text that is read as a proof of the kind that is built, it is verified
-pub proof_answered : (r : Rest) (c : Certificate) (a : Answer) → certificate_read r ≡ Ok c → IsBuilt c → IsProof c → IsAnswer r a → (report : Report) × Reports c report × (a ≡ verified report)
-proof_answered r c a e b p h = by (found_in r) (certificate_read r) (whole_read r) e h.0 h.1 h.2
+-- whatever is answered for a text that is read as a proof, it is verified
+pub proof_answered : (r : Rest) (c : Certificate) (a : Answer) → certificate_read r ≡ Ok c → IsProof c → IsAnswer r a → (report : Report) × Reports c report × (a ≡ verified report)
+proof_answered r c a e p h = by (found_in r) (certificate_read r) (whole_read r) e h.0 h.1 h.2
   where
     by : (found : Found) (x : Result Certificate Fault) → Whole found x → x ≡ Ok c → (f : Option Test) → FirstFailing (Passes found.certificate) found.tests f → IsToldBy found f a → (report : Report) × Reports c report × (a ≡ verified report)
     by found (Err f) w x t g told = absurd (cc x)
     by found (Ok d) w x t g told =
         let same : d ≡ c = cc x in
         let is : found ≡ record { certificate = c; tests = all_tests c } = w ∙ ap (λ c. record { certificate = c; tests = all_tests c }) same in
-        let none = all_none (Passes c) (all_tests c) (subst (All (Passes c)) (sym (same_tests c b)) (tests_of_proof c p)) in
+        let none = all_none (Passes c) (all_tests c) (tests_of_proof c p) in
         let first = subst (λ f. FirstFailing (Passes f.certificate) f.tests t) is g in
         subst (λ f. IsToldBy (record { certificate = c; tests = all_tests c }) f a) (failing_unique (Passes c) (all_tests c) t None first none) (subst (λ f. IsToldBy f t a) is told)

@@ -1,10 +1,10 @@
 -- A text item by item: what the tests of the next derivation say, and what remains once so much was read
-use Rattle.std.specs.Prelude.{◌≡◌, ℕ, ◌<◌, IsTrue, List, [], ◌∷◌, ◌++◌, length, Option, Some, All}
+use Rattle.std.specs.Prelude.{◌≡◌, ℕ, ◌<◌, IsTrue, List, ◌++◌, length, Option, Some, All}
 use Rattle.vipr_spec.specs.Constraint.{Sense, Row, condition, HasSense, SumOfFits, sum_of, IsWholeRow, IsSplit, Dominates, Combines, CombinesRounded}
-use Rattle.vipr_spec.specs.Certificate.{Named, Problem, infeasible, Reason, asm, lin, Derivation, Certificate, constraint_at, reason_at, entries, is_live, IsBest, cutoff, count}
+use Rattle.vipr_spec.specs.Certificate.{Named, Problem, asm, Derivation, Certificate, constraint_at, reason_at, entries, is_live, IsBest, cutoff, count}
 use Rattle.vipr_spec.specs.Reading.{Rest, ◌>>=◌, solution_read, derivation_read, end_read}
 use Rattle.vipr_spec.specs.OnePass.{with_more}
-use Rattle.vipr_spec.specs.Verdict.{StepTest, earlier, live, assumed, suitable, fitting, roundable, split, listed, by_sum, by_rounding, by_constraint, by_cutoff, built, at_solution, Test, is_built, Passes, FirstFailing, items_read, Found, numbered, tests_of_derivation, last_tests, ending_found, Answer, IsToldBy}
+use Rattle.vipr_spec.specs.Verdict.{StepTest, earlier, live, assumed, suitable, fitting, roundable, split, listed, by_sum, by_rounding, by_constraint, by_cutoff, Test, Passes, FirstFailing, items_read, Found, numbered, tests_of_solution, tests_of_derivation, last_tests, ending_found, Answer, IsToldBy}
 
 -- ---- tests of a step
 
@@ -22,7 +22,6 @@ LooksBefore k (by_sum es) = All (λ e. e.0 < k) es
 LooksBefore k (by_rounding es) = All (λ e. e.0 < k) es
 LooksBefore k (by_constraint i) = i < k
 LooksBefore k by_cutoff = Unit {0}
-LooksBefore k built = Unit {0}
 
 -- what a test says of the derivation d, if it comes next after the certificate c
 abbrev pub PassesNext : Certificate → Derivation → StepTest → Type 0
@@ -38,7 +37,6 @@ PassesNext c d (by_sum es) = Combines (entries c es) (condition d.stated)
 PassesNext c d (by_rounding es) = CombinesRounded c.problem.integers (entries c es) (condition d.stated)
 PassesNext c d (by_constraint i) = Dominates (constraint_at c i) (condition d.stated)
 PassesNext c d by_cutoff = (s : Named Row) × IsBest c s × Dominates (cutoff c.problem s) (condition d.stated)
-PassesNext c d built = ⊥
 
 -- ---- what remains of a text
 
@@ -57,17 +55,5 @@ derivations_from c n r = let items = items_read (derivation_read c.problem) n r 
 abbrev pub solutions_from : Problem → List (Named Row) → ℕ → Rest → Found
 solutions_from p ss n r = let items = items_read (solution_read p) n r in let ending = ending_found p items.1 in record {
   certificate = record { problem = p; solutions = ss ++ items.0; derivations = ending.0 };
-  tests = numbered (λ i s. is_built (at_solution i) ∷ []) (length ss) items.0 ++ ending.1;
+  tests = numbered (tests_of_solution p) (length ss) items.0 ++ ending.1;
 }
-
--- ---- what is built so far
-
-abbrev pub IsSum : Reason → Type 0
-IsSum (lin es) = Unit {0}
-IsSum _ = ⊥
-
--- infeasibility is claimed and no solution is listed, and each reason is a sum
-pub record IsBuilt (c : Certificate) : Type 0 where
-  pub claim : c.problem.claim ≡ infeasible
-  pub solutions : c.solutions ≡ []
-  pub reasons : All (λ d. IsSum d.reason) c.derivations

@@ -5,7 +5,7 @@ use Rattle.std.specs.FinSet as set
 use Rattle.std.specs.FinMap.{empty}
 use Rattle.vipr_spec.specs.Fraction.{ℚ, zero_ℚ, IsWhole}
 use Rattle.vipr_spec.specs.Constraint.{Sense, equal, Row, at, condition, Constraint, IsTrueAt, ValueFits, HasSense, SumOfFits, sum_of, IsWholeRow, IsSplit, Dominates, Combines, CombinesRounded}
-use Rattle.vipr_spec.specs.Certificate.{Named, minimum, Claim, infeasible, range, Problem, variables, integer_variables, Reason, asm, lin, rnd, uns, sol, Derivation, Certificate, constraint_at, reason_at, entries, is_live, IsBest, cutoff, MeetsPrimal, NeedsGoal, ProvesDual, IsGoal, peak}
+use Rattle.vipr_spec.specs.Certificate.{Named, minimum, Claim, infeasible, Problem, variables, integer_variables, Reason, asm, lin, rnd, uns, sol, Derivation, Certificate, constraint_at, reason_at, entries, is_live, IsBest, cutoff, MeetsPrimal, NeedsGoal, ProvesDual, IsGoal, peak}
 use Rattle.vipr_spec.specs.Causes as cause
 use Rattle.vipr_spec.specs.Reading.{Rest, Fault, refused, unread, Read, ◌>>=◌, is_nonzero, problem_read, solution_read, derivations_read, derivation_read, end_read}
 
@@ -33,8 +33,6 @@ pub data StepTest : Type 0 where
   by_rounding : List (ℕ × ℚ) → StepTest
   by_constraint : (i : ℕ) → StepTest
   by_cutoff : StepTest
-  -- the reason isn't built yet
-  built : StepTest
 
 abbrev pub PassesStep : Certificate → ℕ → StepTest → Type 0
 PassesStep c k (earlier i) = i < k
@@ -49,7 +47,6 @@ PassesStep c k (by_sum es) = Combines (entries c es) (constraint_at c k)
 PassesStep c k (by_rounding es) = CombinesRounded c.problem.integers (entries c es) (constraint_at c k)
 PassesStep c k (by_constraint i) = Dominates (constraint_at c i) (constraint_at c k)
 PassesStep c k by_cutoff = (s : Named Row) × IsBest c s × Dominates (cutoff c.problem s) (constraint_at c k)
-PassesStep c k built = ⊥
 
 abbrev pub step_cause : StepTest → ℕ
 step_cause (earlier i) = cause.not_earlier
@@ -64,7 +61,6 @@ step_cause (by_sum es) = cause.not_dominated
 step_cause (by_rounding es) = cause.not_dominated
 step_cause (by_constraint i) = cause.not_dominated
 step_cause by_cutoff = cause.not_dominated
-step_cause built = cause.not_yet
 
 -- each index of a reason must be earlier and then live; one with the multiplier 0 needs only be earlier
 abbrev pub reference_tests : ℕ × ℚ → List StepTest
@@ -79,19 +75,14 @@ abbrev pub sum_tests : List (ℕ × ℚ) → List StepTest
 sum_tests es = flat_map reference_tests es ++ entry_tests [] es
 
 -- the tests of every reason
-abbrev pub all_step_tests : Reason → List StepTest
-all_step_tests asm = []
-all_step_tests (lin es) = sum_tests es ++ by_sum es ∷ []
-all_step_tests (rnd es) = sum_tests es ++ roundable es ∷ by_rounding es ∷ []
-all_step_tests (uns i1 l1 i2 l2) =
+abbrev pub step_tests : Reason → List StepTest
+step_tests asm = []
+step_tests (lin es) = sum_tests es ++ by_sum es ∷ []
+step_tests (rnd es) = sum_tests es ++ roundable es ∷ by_rounding es ∷ []
+step_tests (uns i1 l1 i2 l2) =
     earlier i1 ∷ live i1 ∷ earlier l1 ∷ live l1 ∷ earlier i2 ∷ live i2 ∷ earlier l2 ∷ live l2
     ∷ assumed l1 ∷ assumed l2 ∷ split l1 l2 ∷ by_constraint i1 ∷ by_constraint i2 ∷ []
-all_step_tests sol = listed ∷ by_cutoff ∷ []
-
--- those of the reasons that are built
-abbrev pub step_tests : Reason → List StepTest
-step_tests (lin es) = all_step_tests (lin es)
-step_tests _ = built ∷ []
+step_tests sol = listed ∷ by_cutoff ∷ []
 
 -- ---- the first test that fails
 
@@ -154,8 +145,6 @@ pub data Test : Type 0 where
   of_step : (k : ℕ) → StepTest → Test
   -- some constraint proves the dual side
   meets_dual : Test
-  -- what stands at a place isn't built yet
-  is_built : Place → Test
 
 -- in the certificate as far as it was read
 abbrev pub Passes : Certificate → Test → Type 0
@@ -164,7 +153,6 @@ Passes c (of_solution i s t) = PassesSolution c.problem s t
 Passes c meets_primal = MeetsPrimal c.problem c.solutions c.problem.claim
 Passes c (of_step k t) = PassesStep c k t
 Passes c meets_dual = NeedsGoal c.problem c.problem.claim → (goal : ℕ) × ProvesDual c goal
-Passes c (is_built place) = ⊥
 
 -- ---- a text, item by item
 
@@ -209,11 +197,6 @@ abbrev pub ending_found : Problem → Result Rest Fault → List Derivation × L
 ending_found p (Err f) = ([], spelled f ∷ [])
 ending_found p (Ok r) = let found = derivations_found p (derivations_read p r) in (found.0, meets_primal ∷ found.1)
 
--- what isn't built yet comes right after its item
-abbrev pub claim_tests : Claim → List Test
-claim_tests infeasible = []
-claim_tests (range lower upper) = is_built at_end ∷ []
-
 abbrev pub problem_found : Read (Problem × ℕ) → Found
 problem_found (Err f) = record {
   certificate = record {
@@ -227,7 +210,7 @@ problem_found (Ok p) =
     let items = items_read (solution_read p.0.0) p.0.1 p.1 in
     let ending = ending_found p.0.0 items.1 in record {
       certificate = record { problem = p.0.0; solutions = items.0; derivations = ending.0 };
-      tests = claim_tests p.0.0.claim ++ numbered (λ i s. is_built (at_solution i) ∷ []) 0 items.0 ++ ending.1;
+      tests = numbered (tests_of_solution p.0.0) 0 items.0 ++ ending.1;
     }
 
 unfoldable pub found_in : Rest → Found
@@ -264,7 +247,6 @@ told_by (of_solution i s t) = refuses (record { cause = solution_cause t; place 
 told_by meets_primal = refuses (record { cause = cause.no_primal; place = at_end })
 told_by (of_step k t) = refuses (record { cause = step_cause t; place = at_derivation k })
 told_by meets_dual = refuses (record { cause = cause.no_proof; place = at_end })
-told_by (is_built place) = refuses (record { cause = cause.not_yet; place = place })
 
 -- the answer for what was found: the first test that fails tells it, and where none does it is verified
 abbrev pub IsToldBy : Found → Option Test → Answer → Type 0

@@ -1,28 +1,30 @@
 //! The answer for a text, item by item: what the items read so far leave open, the rest tells.
 
-ghost use Rattle.std.specs.Prelude.{◌≡◌, ◌↔◌, ℕ, suc, List, [], ◌∷◌, length, Option, Some, None, IsSome, MatchOption, Ok, Err};
+ghost use Rattle.std.specs.Prelude.{◌≡◌, ◌↔◌, ℕ, suc, List, [], ◌∷◌, ◌++◌, length, Option, Some, None, IsSome, MatchOption, Ok, Err};
 ghost use Rattle.vipr_spec.specs.Constraint.{Row};
-ghost use Rattle.vipr_spec.specs.Certificate.{Named, Problem, Derivation, Certificate, infeasible, MeetsPrimal, NeedsGoal, IsGoal, count};
+ghost use Rattle.vipr_spec.specs.Certificate.{Named, Problem, Derivation, Certificate, MeetsPrimal, NeedsGoal, IsGoal, count};
 ghost use Rattle.vipr_spec.specs.Reading.{Rest, Fault, problem_read, solution_read, derivations_read, derivation_read, end_read};
 ghost use Rattle.vipr_spec.specs.OnePass.{with_next, GoalIs, IsGoodNext};
-ghost use Rattle.vipr_spec.specs.Verdict.{StepTest, step_tests, FirstFailing, at_solution, at_end, spelled, meets_primal, of_step, meets_dual, is_built, Passes, Report, Reports, Answer, verified, told_by, IsAnswer};
+ghost use Rattle.vipr_spec.specs.Verdict.{StepTest, step_tests, FirstFailing, SolutionTest, PassesSolution, solution_tests, of_solution, spelled, meets_primal, of_step, meets_dual, Passes, Report, Reports, Answer, verified, told_by, IsAnswer};
 ghost use Rattle.vipr_spec.specs.Progress.{PassesNext, Answers, derivations_from, solutions_from};
 
 /// The problem comes first.
 pub fn problem_first()
     ensures fault { (r : Rest) (f : Fault) (a : Answer) → problem_read r ≡ Err f → IsAnswer r a ↔ (a ≡ told_by (spelled f)) }
-    ensures passes { (r : Rest) (p : Problem) (n : ℕ) (s : Rest) (a : Answer) → problem_read r ≡ Ok ((p, n), s) → p.claim ≡ infeasible
+    ensures passes { (r : Rest) (p : Problem) (n : ℕ) (s : Rest) (a : Answer) → problem_read r ≡ Ok ((p, n), s)
         → IsAnswer r a ↔ Answers (solutions_from p [] n s) a }
-    ensures not_built { (r : Rest) (p : Problem) (n : ℕ) (s : Rest) (a : Answer) → problem_read r ≡ Ok ((p, n), s) → ¬ (p.claim ≡ infeasible)
-        → IsAnswer r a ↔ (a ≡ told_by (is_built at_end)) }
 {}
 
 /// The solutions follow, and their end.
 pub fn solutions_next()
     ensures fault { (p : Problem) (ss : List (Named Row)) (n : ℕ) (r : Rest) (f : Fault) (a : Answer) → solution_read p r ≡ Err f
         → Answers (solutions_from p ss (suc n) r) a ↔ (a ≡ told_by (spelled f)) }
-    ensures not_built { (p : Problem) (ss : List (Named Row)) (n : ℕ) (r : Rest) (s : Named Row) (t : Rest) (a : Answer) → solution_read p r ≡ Ok (s, t)
-        → Answers (solutions_from p ss (suc n) r) a ↔ (a ≡ told_by (is_built (at_solution (length ss)))) }
+    ensures passes { (p : Problem) (ss : List (Named Row)) (n : ℕ) (r : Rest) (s : Named Row) (t : Rest) (a : Answer) → solution_read p r ≡ Ok (s, t)
+        → FirstFailing (PassesSolution p s.item) (solution_tests p) None
+        → Answers (solutions_from p ss (suc n) r) a ↔ Answers (solutions_from p (ss ++ s ∷ []) n t) a }
+    ensures fails { (p : Problem) (ss : List (Named Row)) (n : ℕ) (r : Rest) (s : Named Row) (t : Rest) (x : SolutionTest) (a : Answer) → solution_read p r ≡ Ok (s, t)
+        → FirstFailing (PassesSolution p s.item) (solution_tests p) (Some x)
+        → Answers (solutions_from p ss (suc n) r) a ↔ (a ≡ told_by (of_solution (length ss) s.item x)) }
     ensures unmet { (p : Problem) (ss : List (Named Row)) (r : Rest) (a : Answer) → ¬ MeetsPrimal p ss p.claim
         → Answers (solutions_from p ss 0 r) a ↔ (a ≡ told_by meets_primal) }
     ensures end_fault { (p : Problem) (ss : List (Named Row)) (r : Rest) (f : Fault) (a : Answer) → MeetsPrimal p ss p.claim → derivations_read p r ≡ Err f
@@ -64,7 +66,7 @@ pub fn one_answer()
     ensures { (r : Rest) (a b : Answer) → IsAnswer r a → IsAnswer r b → a ≡ b }
 {}
 
-/// A derivation of a kind that is built, all of whose tests pass, can come next.
-pub fn built_ones_are_good()
+/// A derivation all of whose tests pass can come next.
+pub fn passing_ones_are_good()
     ensures { (c : Certificate) (d : Derivation) → FirstFailing (PassesNext c d) (step_tests d.reason) None → IsGoodNext c d }
 {}

@@ -7,8 +7,8 @@ ghost use Rattle.vipr_spec.specs.Grammar.{Spells};
 ghost use Rattle.vipr_spec.specs.GrammarLaws.{whole_text};
 ghost use Rattle.vipr_spec.specs.Soundness.{IsShown};
 ghost use Rattle.vipr_spec.specs.OnePass.{with_more};
-ghost use Rattle.vipr_spec.specs.Verdict.{FirstFailing, Test, Passes, StepTest, PassesStep, all_step_tests, Report, Reports, Answer, verified, IsAnswer};
-ghost use Rattle.vipr_spec.specs.Progress.{LooksBefore, PassesNext, IsBuilt};
+ghost use Rattle.vipr_spec.specs.Verdict.{FirstFailing, Test, Passes, StepTest, PassesStep, step_tests, Report, Reports, Answer, verified, IsAnswer};
+ghost use Rattle.vipr_spec.specs.Progress.{LooksBefore, PassesNext};
 
 /// No test fails first exactly where all pass, and only one test fails first. Of two lists, one
 /// after the other, it is that of the first list, or that of the second if all of the first pass.
@@ -26,20 +26,19 @@ pub fn first_failing()
 pub fn tests_look_back()
     ensures each { (c : Certificate) (ds : List Derivation) (k : ℕ) (t : StepTest) → k < count c → LooksBefore k t → PassesStep (with_more c ds) k t ↔ PassesStep c k t }
     ensures before { (c : Certificate) (ds : List Derivation) (k : ℕ) (r : Reason) (f : Option StepTest) → k < count c
-        → FirstFailing (PassesStep (with_more c ds) k) (all_step_tests r) f ↔ FirstFailing (PassesStep c k) (all_step_tests r) f }
+        → FirstFailing (PassesStep (with_more c ds) k) (step_tests r) f ↔ FirstFailing (PassesStep c k) (step_tests r) f }
     ensures next { (c : Certificate) (d : Derivation) (ds : List Derivation) (f : Option StepTest)
-        → FirstFailing (PassesStep (with_more c (d ∷ ds)) (count c)) (all_step_tests d.reason) f ↔ FirstFailing (PassesNext c d) (all_step_tests d.reason) f }
+        → FirstFailing (PassesStep (with_more c (d ∷ ds)) (count c)) (step_tests d.reason) f ↔ FirstFailing (PassesNext c d) (step_tests d.reason) f }
 {}
 
-/// A text is verified exactly where it spells a certificate that is of the kind that is built and
-/// is a proof, and what is reported is that of the certificate. So whatever is answered for such a
-/// text is that it is verified. What the certificate claims is then true, over all points.
+/// A text is verified exactly where it spells a certificate that is a proof, and what is reported is
+/// that of the certificate. So whatever is answered for such a text is that it is verified. What the certificate claims is then true, over all points.
 pub fn verified_texts()
     ensures read { (r : Rest) (report : Report) → IsAnswer r (verified report)
-        ↔ ((c : Certificate) × (certificate_read r ≡ Ok c) × IsBuilt c × IsProof c × Reports c report) }
+        ↔ ((c : Certificate) × (certificate_read r ≡ Ok c) × IsProof c × Reports c report) }
     ensures spelled { (bytes : List ℕ) (report : Report) → IsAnswer (whole_text bytes) (verified report)
-        ↔ ((c : Certificate) × Spells bytes c × IsBuilt c × IsProof c × Reports c report) }
-    ensures proved { (r : Rest) (c : Certificate) (a : Answer) → certificate_read r ≡ Ok c → IsBuilt c → IsProof c → IsAnswer r a
+        ↔ ((c : Certificate) × Spells bytes c × IsProof c × Reports c report) }
+    ensures proved { (r : Rest) (c : Certificate) (a : Answer) → certificate_read r ≡ Ok c → IsProof c → IsAnswer r a
         → (report : Report) × Reports c report × (a ≡ verified report) }
     ensures shown { (bytes : List ℕ) (report : Report) → IsAnswer (whole_text bytes) (verified report)
         → (c : Certificate) × Spells bytes c × IsShown c.problem c.solutions c.problem.claim }

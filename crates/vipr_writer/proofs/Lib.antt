@@ -1,4 +1,3 @@
 pub mod Appended
-pub mod Members
 pub mod Handed
 pub mod Parts

@@ -1,6 +1,6 @@
 use Rattle.std.proofs.Common.{arith}
 use Rattle.std.proofs.lemmas.Grind.{common_steps}
-use Rattle.vipr_writer.proofs.Members.{members_are}
+use Rattle.vipr_items.proofs.Members.{members_are}
 use Rattle.vipr_writer.proofs.sections.append_integers.Goals as goal
 
 pub returns : goal.returns

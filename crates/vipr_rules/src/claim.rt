@@ -1,0 +1,127 @@
+//! Both sides of a claim: what a constraint must say to prove its dual bound, and whether the best listed solution
+//! meets its primal bound.
+
+ghost use Rattle.std.specs.Prelude.{◌≡◌, ◌↔◌, ◌++◌, ◌∷◌, [], List, IfOk, IsTrue, option_copied};
+ghost use Rattle.vipr_spec.specs.Constraint.{Row, at};
+ghost use Rattle.vipr_spec.specs.Certificate.{Named, objective_at, objective_constraint, stays, IsAsGood, MeetsPrimal};
+ghost use Rattle.vipr_spec.specs.Certificate.{dual_bound as dual_bound_by, primal_bound as primal_bound_by};
+ghost use Rattle.vipr_spec.specs.Soundness.{IsBestValue};
+ghost use Rattle.vipr_linear.specs.Constraint.{condition_of};
+ghost use Rattle.vipr_rules.specs.Claim.{IsMetBy, IsTargetOf};
+
+use crate::objective::objective_with;
+use std::alloc::AllocError;
+use vipr_frac::Frac;
+use vipr_items::{Claim, Goal, Problem};
+use vipr_linear::{Constraint, Sense};
+
+/// What a constraint must say to prove the dual side of a claim.
+#[derive(Debug, Drop)]
+pub enum Target {
+    /// Infeasibility is claimed: the constraint must be absurd.
+    Absurdity,
+    /// The constraint must dominate this one, the objective with the dual bound.
+    Bound(Constraint),
+    /// The dual bound is infinite: nothing has to be proved.
+    Nothing,
+}
+
+impl Target {
+    /// The target of a problem's claim.
+    ///
+    /// # Errors
+    ///
+    /// Where a growth is refused.
+    pub fn of_claim(p: &Problem) -> Result<Target, AllocError>
+        ensures { IfOk result (IsTargetOf p.now) }
+    {
+        let Claim::Range(lower, upper) = p.claim() else {
+            return Ok(Target::Absurdity);
+        };
+        match dual_bound(p, lower, upper) {
+            Some(bound) => Ok(Target::Bound(no_better(p, bound)?)),
+            None => Ok(Target::Nothing),
+        }
+    }
+
+    /// Whether the constraint says what it must.
+    pub fn is_met_by(&self, constraint: &Constraint) -> bool
+        ensures { IsTrue result ↔ IsMetBy self.now (condition_of constraint.now) }
+    {
+        match self {
+            Target::Absurdity => constraint.is_absurd(),
+            Target::Bound(bound) => constraint.dominates(bound),
+            Target::Nothing => false,
+        }
+    }
+}
+
+/// Whether the best value among the listed solutions, none where no solution is listed, meets the primal side of the
+/// claim.
+pub fn meets_primal(p: &Problem, best: Option<&Frac>) -> bool
+    ensures { (ss : List (Named Row)) → IsBestValue p.now ss (option_copied best.entry) → IsTrue result ↔ MeetsPrimal p.now ss p.now.claim }
+{
+    let Claim::Range(lower, upper) = p.claim() else {
+        return true;
+    };
+    let Some(bound) = primal_bound(p, lower, upper) else {
+        return true;
+    };
+    let Some(value) = best else {
+        return false;
+    };
+    is_as_good(p, *value, bound)
+}
+
+/// The best value with one more solution, whose value is `value`.
+pub fn better(p: &Problem, best: Option<Frac>, value: Frac) -> Option<Frac>
+    ensures { (ss : List (Named Row)) (s : Named Row) → IsBestValue p.now ss best → value ≡ objective_at p.now (at s.item) → IsBestValue p.now (ss ++ s ∷ []) result }
+{
+    let Some(found) = best else {
+        return Some(value);
+    };
+    if is_as_good(p, found, value) {
+        Some(found)
+    } else {
+        Some(value)
+    }
+}
+
+/// Whether a value of the objective is as good as another.
+fn is_as_good(p: &Problem, value: Frac, other: Frac) -> bool
+    ensures { IsTrue result ↔ IsAsGood p.now.direction value other }
+{
+    match p.sense() {
+        Goal::Min => value <= other,
+        Goal::Max => value >= other,
+    }
+}
+
+fn dual_bound(p: &Problem, lower: Option<Frac>, upper: Option<Frac>) -> Option<Frac>
+    ensures { result ≡ dual_bound_by p.now.direction lower upper }
+{
+    match p.sense() {
+        Goal::Min => lower,
+        Goal::Max => upper,
+    }
+}
+
+fn primal_bound(p: &Problem, lower: Option<Frac>, upper: Option<Frac>) -> Option<Frac>
+    ensures { result ≡ primal_bound_by p.now.direction lower upper }
+{
+    match p.sense() {
+        Goal::Min => upper,
+        Goal::Max => lower,
+    }
+}
+
+/// The objective that is no better than the bound.
+fn no_better(p: &Problem, bound: Frac) -> Result<Constraint, AllocError>
+    ensures { IfOk result (λ x. condition_of x ≡ objective_constraint p.now (stays p.now.direction) bound) }
+{
+    let sense = match p.sense() {
+        Goal::Min => Sense::G,
+        Goal::Max => Sense::L,
+    };
+    objective_with(p, sense, bound)
+}
