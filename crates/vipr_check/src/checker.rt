@@ -1,4 +1,4 @@
-//! The checker of derivations, one after the other.
+//! What the checker keeps of the certificate so far.
 
 use vipr_frac::Frac;
 use vipr_linear::Combination;
