@@ -1,2 +1,3 @@
 pub mod Reads
 pub mod Output
+pub mod Known
