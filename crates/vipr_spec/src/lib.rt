@@ -9,6 +9,7 @@ pub mod checking;
 pub mod claims;
 pub mod consequences;
 pub mod dual_side;
+pub mod explained;
 pub mod grammar;
 pub mod numbers;
 pub mod profiles;
