@@ -1,13 +1,11 @@
-//! The canonical text of certificates, and what it spells: laws without code. What their words mean
-//! stands in `specs/`.
-#![tactic(auto)]
-
+//! The canonical text of certificates, and what it spells: laws without code.
 ghost use Rattle.std.specs.Prelude.{◌≡◌};
 ghost use Rattle.vipr_write.specs.Canonical.{canonical_text};
 ghost use Rattle.vipr_write.specs.Example.{example, example_text};
 ghost use Rattle.vipr_write.specs.Laws.{SpellsItself, CanWriteSpelled};
 
-/// The canonical text of a certificate within the limits of the format spells that certificate and no other.
+/// The canonical text of a certificate within the limits of the format spells that certificate and no
+/// other.
 pub fn canonical_texts()
     ensures { SpellsItself }
 {}

@@ -1,14 +1,17 @@
-//! Writes the canonical text of a certificate, and any other bytes.
+//! Writes the canonical text of a certificate. That it spells the certificate and no other is a law
+//! of its definition, which stands in `specs/`.
 //!
 //! The whole text is made first, so that want of memory comes before the first byte. Then it is handed
-//! to the writer, until that took all of it.
+//! to the sink, until that took all of it.
 #![tactic(auto)]
 
+mod canonical;
 mod lines;
 mod sections;
 #[cfg(test)]
 mod tests;
 mod words;
-mod writer;
+mod write;
 
-pub use writer::{WriteError, write_bytes, write_certificate};
+pub use canonical::{canonical_texts, spelled_ones, worked_example};
+pub use write::{WriteError, write_certificate};

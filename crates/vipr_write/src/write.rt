@@ -1,81 +1,63 @@
-//! Hands a text to a writer.
-ghost use Rattle.std.specs.Prelude.{IfErr, IfSome};
+//! Writes the canonical text of a certificate.
+ghost use Rattle.std.specs.Prelude.{◌≡◌, IfErr, IfSome};
+ghost use Rattle.vipr_spec.specs.Grammar.{SpellsOnly};
+ghost use Rattle.vipr_bytes.specs.Written.{EndsAtFailure};
 ghost use Rattle.vipr_write.specs.Canonical.{canonical_text};
-ghost use Rattle.vipr_write.specs.Laws.{SpellsOnly};
-ghost use Rattle.vipr_write.specs.Written.{Wrote, StopsAfterPart, StopsWithin};
+ghost use Rattle.vipr_write.specs.WrittenText.{WroteText, IsWithin, LeavesFailures, write_error};
 
 use crate::sections::text_of;
 use std::alloc::Global;
 use thiserror::Error;
-use vipr_bytes::Sink;
-use vipr_canonical::canonical_texts;
+use vipr_bytes::{Sink, WriteFailed, write_bytes};
 use vipr_items::Certificate;
 
-/// Why a certificate was not written whole.
+/// Why a certificate was not written whole. Exactly the first `taken` bytes of its text were taken.
+///
+/// The whole text is made before its first byte is written, so it is shorter than 2^64 bytes, and the
+/// number is exact.
 #[derive(Clone, Copy, Debug, PartialEq, Eq, Error)]
 pub enum WriteError {
-    /// A write failed or took nothing, after so many bytes were taken.
+    /// A write failed or took nothing.
     #[error("a write failed after {taken} bytes")]
     Write { taken: u64 },
 
-    /// A growth was refused, after so many bytes were taken.
+    /// A growth was refused. Nothing was written, and `taken` is 0.
     #[error("out of memory after {taken} bytes")]
     Memory { taken: u64 },
 }
 
-/// Hands bytes to a writer, until it took all of them.
-///
-/// A write that fails or takes 0 bytes ends the call.
-///
-/// # Errors
-///
-/// `Write` where a write failed or took nothing: exactly the first `taken` bytes were taken.
-pub fn write_bytes<W: Sink>(writer: &mut W, bytes: &[u8]) -> Result<(), WriteError>
-    ensures told { IfSome (W.output writer.old) (λ o. Wrote o (W.output writer.new) bytes.now result) }
-    ensures within { IfErr result (StopsAfterPart bytes.now) }
-{
-    let mut taken = 0;
-    while taken < bytes.len() {
-        match writer.write(&bytes[taken..]) {
-            Ok(n) if n > 0 => taken += n,
-            _ => {
-                return Err(WriteError::Write {
-                    taken: taken as u64,
-                });
-            }
+impl From<WriteFailed> for WriteError {
+    ghost from_gives = { λ failed error. error ≡ write_error failed };
+
+    fn from(failed: WriteFailed) -> WriteError {
+        WriteError::Write {
+            taken: failed.taken,
         }
     }
-    Ok(())
 }
 
-// What the canonical text spells. Nothing is computed.
-fn spells_only(certificate: &Certificate)
-    ensures { SpellsOnly (canonical_text certificate.now) certificate.now }
-{
-    canonical_texts();
-    let _ = certificate.derivations();
-}
-
-/// Writes the canonical text of a certificate.
+/// Writes the canonical text of a certificate, which spells that certificate and no other.
 ///
-/// All memory is taken before the first byte. A write that fails or takes 0 bytes ends the call.
+/// All memory is taken before the first byte.
 ///
 /// # Errors
 ///
-/// `Write` where a write failed or took nothing: exactly the first `taken` bytes were taken. `Memory` where
-/// a growth was refused: nothing was written, and `taken` is 0.
+/// `Memory` where a growth is refused: nothing was written. `Write` where a write fails or takes
+/// nothing, and the sink is asked no more.
 pub fn write_certificate<W: Sink>(
     alloc: Global,
     certificate: &Certificate,
-    writer: &mut W,
+    sink: &mut W,
 ) -> Result<(), WriteError>
-    ensures told { IfSome (W.output writer.old) (λ o. Wrote o (W.output writer.new) (canonical_text certificate.now) result) }
-    ensures within { IfErr result (StopsWithin (canonical_text certificate.now)) }
+    ensures output { IfSome (W.output sink.old)
+        (λ o. WroteText o (W.output sink.new) (canonical_text certificate.now) result) }
+    ensures part { IfErr result (IsWithin (canonical_text certificate.now)) }
+    ensures failures { IfSome (W.failures sink.old)
+        (λ n. LeavesFailures n (W.failures sink.new) result) }
     ensures law { SpellsOnly (canonical_text certificate.now) certificate.now }
 {
-    spells_only(certificate);
     match text_of(alloc, certificate) {
-        Ok(text) => write_bytes(writer, &text),
+        Ok(text) => Ok(write_bytes(sink, &text)?),
         Err(_) => Err(WriteError::Memory { taken: 0 }),
     }
 }
