@@ -14,7 +14,8 @@ use Rattle.std.proofs.lemmas.List.Elements.{All-nil, All-cons, All-head, All-tai
 use Rattle.std.proofs.lemmas.List.FromFn.{length-range_with_len, get_or-range_with_len}
 use Rattle.std.proofs.lemmas.Map.Views.{any-filter_same}
 use Rattle.vipr_spec.specs.Fraction.{ℚ, zero_ℚ}
-use Rattle.vipr_spec.specs.Constraint.{Row, at, Ints, IsInteger, NamesBelow}
+use Rattle.vipr_spec.specs.Constraint.{Row, at, IsInteger, NamesBelow}
+use Rattle.vipr_spec.specs.Certificate.{Problem, variables, integer_variables}
 use Rattle.vipr_spec.specs.Reading.{is_nonzero, row_of}
 use Rattle.vipr_spec.proofs.Fractions.{is_same, is_self, is_zero}
 
@@ -119,14 +120,11 @@ row_entries n row names a =
 
 -- ---- sets of variables
 
--- those of the first n variables that are in a set
-abbrev pub members : ℕ → Ints → List ℕ
-members n ints = filter (contains ints) (range_with_len 0 n)
-
-pub record AreMembers (n : ℕ) (ints : Ints) : Type 0 where
-  pub below : All (λ j. j < n) (members n ints)
-  pub few : length (members n ints) ≤ n
-  pub again : ints ≡ from_list (members n ints)
+-- the integer variables of a problem, in rising order
+pub record AreMembers (p : Problem) : Type 0 where
+  pub below : All (λ j. j < variables p) (integer_variables p)
+  pub few : length (integer_variables p) ≤ variables p
+  pub again : p.integers ≡ from_list (integer_variables p)
 
 filter_length : (p : ℕ → Bool) (xs : List ℕ) → length (filter p xs) ≤ length xs
 filter_length p [] = omega arith
@@ -148,22 +146,24 @@ any_range q a (suc n) l h = elim (cases_lt a q) [
 tied_same : (q k : ℕ) → eq_by_cmp nat_cmp q k ≡ true → k ≡ q
 tied_same q k h = grind (arith, nat_tests)
 
-pub set_members : (n : ℕ) (ints : Ints) → ((j : ℕ) → IsInteger ints j → j < n) → AreMembers n ints
-set_members n ints h =
+pub set_members : (p : Problem) → ((j : ℕ) → IsInteger p.integers j → j < variables p) → AreMembers p
+set_members p h =
+    let n = variables p in
+    let ints = p.integers in
     let in_range : All (λ j. j < n) (range_with_len 0 n) = λ k d l. let size = length-range_with_len 0 n in let less : k < n = omega arith in rw (get_or-range_with_len 0 n k d less) (omega arith) in
-    let few : length (members n ints) ≤ n = omega (arith, filter_length (contains ints) (range_with_len 0 n), length-range_with_len 0 n) in
+    let few : length (integer_variables p) ≤ n = omega (arith, filter_length (contains ints) (range_with_len 0 n), length-range_with_len 0 n) in
     record {
       below = All-filter (contains ints) (λ j. j < n) (range_with_len 0 n) in_range;
       few = few;
-      again = same_set nat_cmp_total nat_cmp-IsAntisymmetric ints (from_list (members n ints)) (λ q. same q (contains ints q) refl ∙ sym (contains-from_list nat_cmp_total (members n ints) q));
+      again = same_set nat_cmp_total nat_cmp-IsAntisymmetric ints (from_list (integer_variables p)) (λ q. same q (contains ints q) refl ∙ sym (contains-from_list nat_cmp_total (integer_variables p) q));
     }
   where
-    found : (q : ℕ) → list_any (eq_by_cmp nat_cmp q) (members n ints) ≡ (contains ints q && list_any (eq_by_cmp nat_cmp q) (range_with_len 0 n))
-    found q = any-filter_same (eq_by_cmp nat_cmp q) (contains ints) (contains ints q) (λ k e. ap (contains ints) (tied_same q k e)) (range_with_len 0 n)
+    found : (q : ℕ) → list_any (eq_by_cmp nat_cmp q) (integer_variables p) ≡ (contains p.integers q && list_any (eq_by_cmp nat_cmp q) (range_with_len 0 (variables p)))
+    found q = any-filter_same (eq_by_cmp nat_cmp q) (contains p.integers) (contains p.integers q) (λ k e. ap (contains p.integers) (tied_same q k e)) (range_with_len 0 (variables p))
 
-    same : (q : ℕ) (b : Bool) → contains ints q ≡ b → contains ints q ≡ list_any (eq_by_cmp nat_cmp q) (members n ints)
+    same : (q : ℕ) (b : Bool) → contains p.integers q ≡ b → contains p.integers q ≡ list_any (eq_by_cmp nat_cmp q) (integer_variables p)
     same q true e =
-        let less : q < n = h q e in
-        let there = any_range q 0 n (omega arith) (omega arith) in
-        e ∙ sym (found q ∙ ap (λ b. b && list_any (eq_by_cmp nat_cmp q) (range_with_len 0 n)) e ∙ there)
-    same q false e = e ∙ sym (found q ∙ ap (λ b. b && list_any (eq_by_cmp nat_cmp q) (range_with_len 0 n)) e)
+        let less : q < variables p = h q e in
+        let there = any_range q 0 (variables p) (omega arith) (omega arith) in
+        e ∙ sym (found q ∙ ap (λ b. b && list_any (eq_by_cmp nat_cmp q) (range_with_len 0 (variables p))) e ∙ there)
+    same q false e = e ∙ sym (found q ∙ ap (λ b. b && list_any (eq_by_cmp nat_cmp q) (range_with_len 0 (variables p))) e)

@@ -6,7 +6,7 @@ use Rattle.std.specs.FinMap.{entries}
 use Rattle.std.proofs.lemmas.Grind.{flat_map-append}
 use Rattle.std.proofs.lemmas.List.Folds.{flat_map-map}
 use Rattle.vipr_spec.specs.Fraction.{ℚ, IsBounded}
-use Rattle.vipr_spec.specs.Constraint.{Sense, at_most, equal, at_least, Row, at, Ints, IsInteger, Constraint, NamesBelow}
+use Rattle.vipr_spec.specs.Constraint.{Sense, at_most, equal, at_least, Row, at, IsInteger, Constraint, NamesBelow}
 use Rattle.vipr_spec.specs.Certificate.{Name, Named, Direction, minimum, maximum, Claim, infeasible, range, Problem, variables, integer_variables, Reason, asm, lin, rnd, uns, sol, Derivation}
 use Rattle.vipr_spec.specs.Tokens.{IsToken}
 use Rattle.vipr_spec.specs.Reading.{most_count}
@@ -16,7 +16,7 @@ use Rattle.vipr_spec.specs.Grammar.{SpellsCount, SpellsVariable, SpellsSense, Sp
 use Rattle.vipr_spec.proofs.NumberReads.{text_spelled}
 use Rattle.vipr_write.specs.Canonical.{pair_words, vector_words, sense_word, direction_word, bound_word, last_word, constraint_words, given_words, claim_words, solution_words, reason_words, derivation_words, problem_lines, solutions_lines, derivations_lines}
 use Rattle.vipr_write.proofs.LineTokens.{words_of}
-use Rattle.vipr_write.proofs.RowEntries.{row_entries, members, set_members}
+use Rattle.vipr_write.proofs.RowEntries.{row_entries, set_members}
 use Rattle.vipr_write.proofs.WordTokens.{Written, plain_token, decimal_token, decimal_natural, number_token, word_written, fixed_written, one_written, then_written, each_written, count_written, variable_written, number_written}
 
 -- ---- words of a few letters
@@ -84,17 +84,6 @@ module _ (n : ℕ) (few : n ≤ most_count) where
 
   -- ---- sections
 
-  variables_written : (is : List ℕ) → All (λ j. j < n) is → Written (each (one (SpellsVariable n)) is) (flat_map (λ j. decimal j ∷ []) is)
-  variables_written is h = each_written (one (SpellsVariable n)) (λ j. decimal j ∷ []) is (λ k d l. variable_written n _ few (h k d l))
-
-  pub integers_written : (ints : Ints) → ((j : ℕ) → IsInteger ints j → j < n) → Written (grammar.integers n ints) (codes "INT" ∷ decimal (length (members n ints)) ∷ flat_map (λ j. decimal j ∷ []) (members n ints))
-  integers_written ints h =
-      let is = set_members n ints h in
-      let count : length (members n ints) ≤ most_count = let l = is.few in omega arith in
-      let body : Written (word (codes "INT") then one SpellsCount (length (members n ints)) then each (one (SpellsVariable n)) (members n ints)) (codes "INT" ∷ decimal (length (members n ints)) ∷ flat_map (λ j. decimal j ∷ []) (members n ints)) =
-      then_written (fixed_written (codes "INT") refl) (then_written (count_written (length (members n ints)) count) (variables_written (members n ints) is.below)) in
-      record { tokens = body.tokens; shape = (members n ints, is.again, body.shape) }
-
   pub solution_written : (s : Named Row) → SolutionShape n s → RowFits s.item → Written (grammar.solution n s) (solution_words s)
   solution_written s shape fits = then_written (word_written s.name shape.name) (vector_written s.item shape.row fits)
 
@@ -117,6 +106,18 @@ names_written ns few h =
     then_written (fixed_written (codes "VAR") refl)
     (then_written (count_written (length ns) few) (each_written word (λ name. name ∷ []) ns (λ k d l. word_written _ (h k d l))))
 
+-- the integer variables
+integers_written : (p : Problem) → variables p ≤ most_count → ((j : ℕ) → IsInteger p.integers j → j < variables p) → Written (grammar.integers (variables p) p.integers) (codes "INT" ∷ decimal (length (integer_variables p)) ∷ flat_map (λ j. decimal j ∷ []) (integer_variables p))
+integers_written p few h =
+    let n = variables p in
+    let is = set_members p h in
+    let count : length (integer_variables p) ≤ most_count = let l = is.few in omega arith in
+    let each_one : Written (each (one (SpellsVariable n)) (integer_variables p)) (flat_map (λ j. decimal j ∷ []) (integer_variables p)) =
+    each_written (one (SpellsVariable n)) (λ j. decimal j ∷ []) (integer_variables p) (λ k d l. variable_written n _ few (is.below k d l)) in
+    let body : Written (word (codes "INT") then one SpellsCount (length (integer_variables p)) then each (one (SpellsVariable n)) (integer_variables p)) (codes "INT" ∷ decimal (length (integer_variables p)) ∷ flat_map (λ j. decimal j ∷ []) (integer_variables p)) =
+    then_written (fixed_written (codes "INT") refl) (then_written (count_written (length (integer_variables p)) count) each_one) in
+    record { tokens = body.tokens; shape = (integer_variables p, is.again, body.shape) }
+
 -- ---- problems
 
 abbrev problem_words : Problem → List (List ℕ)
@@ -136,7 +137,7 @@ problem_written p shape fits =
     let body : Written (grammar.problem p) (problem_words p) =
     then_written (then_written (fixed_written (codes "VER") refl) (fixed_written (codes "1.0") refl))
     (then_written (names_written p.names shape.few_names shape.names)
-    (then_written (integers_written n shape.few_names p.integers shape.integers)
+    (then_written (integers_written p shape.few_names shape.integers)
     (then_written (then_written (fixed_written (codes "OBJ") refl) (then_written (direction_written p.direction) (vector_written n shape.few_names p.objective shape.objective fits.objective)))
     (then_written (constraints_written n shape.few_names p.objective p.bound_count p.constraints fits.bound_count shape.few_constraints shape.constraints fits.constraints)
     (claim_written p.claim fits.claim))))) in

@@ -1,9 +1,7 @@
 -- Parts of the canonical text
-use Rattle.std.specs.Prelude.{ℕ, List, [], ◌∷◌, ◌++◌, length, map, filter, codes}
+use Rattle.std.specs.Prelude.{ℕ, List, [], ◌∷◌, ◌++◌, length, map, codes}
 use Rattle.std.specs.Fmt.{decimal}
-use Rattle.std.specs.List.{range_with_len}
-use Rattle.std.specs.FinSet.{contains}
-use Rattle.vipr_spec.specs.Constraint.{Ints, Constraint}
+use Rattle.vipr_spec.specs.Constraint.{Constraint}
 use Rattle.vipr_spec.specs.Certificate.{Named}
 use Rattle.vipr_write.specs.Canonical.{heading, given_words, spaced}
 
@@ -12,13 +10,9 @@ abbrev pub words_text : List (List ℕ) → List ℕ
 words_text [] = []
 words_text (w ∷ ws) = w ++ spaced ws
 
--- how many indices there are, and then each of them
-abbrev pub indices_lines : List ℕ → List (List (List ℕ))
-indices_lines js = heading (codes "INT") (length js) ∷ map (λ j. decimal j ∷ []) js
-
--- those of the first n variables that are in the set
-abbrev pub integers_lines : ℕ → Ints → List (List (List ℕ))
-integers_lines n ints = indices_lines (filter (contains ints) (range_with_len 0 n))
+-- how many integer variables there are, and then each of them
+abbrev pub integers_lines : List ℕ → List (List (List ℕ))
+integers_lines js = heading (codes "INT") (length js) ∷ map (λ j. decimal j ∷ []) js
 
 -- how many constraints there are, and how many of them are bounds
 abbrev pub constraints_heading : ℕ → ℕ → List (List ℕ)

@@ -1,7 +1,7 @@
 //! The sections of a certificate.
-ghost use Rattle.std.specs.Prelude.{◌≡◌, ◌∷◌, ◌++◌, ◌<◌, [], ℕ, map, codes, OnOk, IfOk};
+ghost use Rattle.std.specs.Prelude.{◌≡◌, ◌∷◌, ◌++◌, [], map, codes, OnOk, IfOk};
 ghost use Rattle.std.specs.Fmt.{decimal};
-ghost use Rattle.vipr_spec.specs.Constraint.{IsInteger};
+ghost use Rattle.vipr_spec.specs.Grammar.{SpellsOnly};
 ghost use Rattle.vipr_linear.specs.Constraint.{constraint_of};
 ghost use Rattle.vipr_write.specs.Canonical.{direction_word, vector_words, variables_lines, problem_lines, solutions_lines, derivations_lines, line_text, lines_text, canonical_text};
 ghost use Rattle.vipr_items.specs.Items.{named_of, direction_of, solution_of, derivation_of};
@@ -13,7 +13,7 @@ use crate::lines::{
 use crate::words::{append_decimal, append_index, append_pairs};
 use std::alloc::{AllocError, Global};
 use vipr_items::{Certificate, Derivation, Goal, Name, Named, Problem};
-use vipr_linear::{Constraint, Ints, Row, Solution};
+use vipr_linear::{Constraint, Row, Solution};
 
 // The names, each on its line.
 fn append_names(text: &mut Vec<u8>, names: &[Name]) -> Result<(), AllocError>
@@ -37,12 +37,11 @@ fn append_indices(text: &mut Vec<u8>, indices: &[u32]) -> Result<(), AllocError>
     Ok(())
 }
 
-// The integer variables.
-fn append_integers(text: &mut Vec<u8>, ints: &Ints, variables: usize) -> Result<(), AllocError>
-    requires { (j : ℕ) → IsInteger ints.now j → j < variables }
-    ensures { OnOk result (text.new.items ≡ text.old.items ++ lines_text (integers_lines variables ints.now)) }
+// How many integer variables there are, and each of them.
+fn append_integers(text: &mut Vec<u8>, indices: &[u32]) -> Result<(), AllocError>
+    ensures { OnOk result
+        (text.new.items ≡ text.old.items ++ lines_text (integers_lines indices.now)) }
 {
-    let indices = ints.indices();
     append_heading(text, b"INT", indices.len())?;
     append_indices(text, indices)
 }
@@ -55,7 +54,7 @@ fn append_variables(text: &mut Vec<u8>, problem: &Problem) -> Result<(), AllocEr
     text.extend_from_slice(b"VER 1.0\n")?;
     append_heading(text, b"VAR", names.len())?;
     append_names(text, names)?;
-    append_integers(text, problem.ints(), names.len())
+    append_integers(text, problem.integer_variables())
 }
 
 // The line of the objective's direction.
@@ -138,13 +137,16 @@ fn append_derivations(text: &mut Vec<u8>, derivations: &[Derivation]) -> Result<
     Ok(())
 }
 
-/// The canonical text.
+/// The canonical text, which spells the certificate and no other.
+#[tactic(auto, using(crate::proofs::WholeText::canonical_spells))]
 pub(crate) fn text_of(alloc: Global, certificate: &Certificate) -> Result<Vec<u8>, AllocError>
-    ensures { IfOk result (λ text. text.items ≡ canonical_text certificate.now) }
+    ensures text { IfOk result (λ text. text.items ≡ canonical_text certificate.now) }
+    ensures law { SpellsOnly (canonical_text certificate.now) certificate.now }
 {
+    let derivations = certificate.derivations();
     let mut text = Vec::new(alloc);
     append_problem(&mut text, certificate.problem())?;
     append_solutions(&mut text, certificate.solutions())?;
-    append_derivations(&mut text, certificate.derivations())?;
+    append_derivations(&mut text, derivations)?;
     Ok(text)
 }

@@ -187,6 +187,8 @@ impl Sink for OneByOne {
 
     ghost output = { λ _. None };
 
+    ghost failures = { λ _. None };
+
     fn write(&mut self, bytes: &[u8]) -> Result<usize, Failed> {
         self.calls = self.calls.saturating_add(1);
         if self.calls == self.last_call {
