@@ -6,9 +6,9 @@ use Rattle.clap.specs.declared.error.ErrorKind.{ErrorKind}
 use Rattle.vipr_spec.specs.Input.{Input}
 use Rattle.vipr_bytes.specs.Output.{Output}
 use Rattle.vipr_text.specs.Whole.{IfTold}
-use Rattle.vipr.specs.Line.{line}
-use Rattle.vipr.specs.Program.{Answers, Declines, Does, Fits, Known, Obeys, exit_status, known_by, read_from, unknown}
-use Rattle.vipr.specs.Shown.{Kind, Shows}
+use Rattle.vipr.specs.Args.{line}
+use Rattle.vipr.specs.Run.{Answers, Declines, Does, Fits, Known, Obeys, exit_status, known_by, read_from, unknown}
+use Rattle.vipr.specs.Show.{Kind, Shows}
 use Rattle.vipr.specs.declared.fault.Fault.{Fault}
 use Rattle.vipr.specs.declared.fault.Fault.TheVariants.{Memory, Read, Write}
 use Rattle.vipr.specs.declared.show.Shown.{Shown}

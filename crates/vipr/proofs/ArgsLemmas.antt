@@ -11,7 +11,7 @@ use Rattle.clap.specs.Simple.{argument_words, built, entered, label_of, names_of
 use Rattle.clap.specs.Words.{Row, Shape, Text, fault_of, first_of, has_subcommand, is_simple, is_simple_and_free, subcommand_name_of, subcommand_of, subcommand_rows_of}
 use Rattle.clap.specs.declared.parser.matches.ArgMatches.{ArgMatches}
 use Rattle.clap.specs.declared.parser.matches.ArgMatches.TheViews.{out-ArgMatches}
-use Rattle.vipr.specs.Line.{asked, asked_by, line, name_of}
+use Rattle.vipr.specs.Args.{asked, asked_by, line, name_of}
 use Rattle.vipr.specs.declared.task.Job.{Job}
 use Rattle.vipr.specs.declared.task.Task.{Task}
 use Rattle.vipr.specs.declared.task.Task.TheVariants.{Check, Show}

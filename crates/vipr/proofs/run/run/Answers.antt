@@ -1,6 +1,6 @@
 use Rattle.std.proofs.Common.{Ok, Err}
-use Rattle.vipr.proofs.ProgramLemmas.{fits}
-use Rattle.vipr.proofs.program.run.Goals as goal
+use Rattle.vipr.proofs.RunLemmas.{fits}
+use Rattle.vipr.proofs.run.run.Goals as goal
 
 pub returns-in-Ok-clause-fits : goal.returns-in-Ok-clause-fits
 returns-in-Ok-clause-fits g c = fits _ _ _ (Ok c.in-Ok.status) c.in-Ok.ensures.any

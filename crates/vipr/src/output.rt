@@ -1,11 +1,10 @@
 //! How a text is printed.
-ghost use Rattle.vipr.specs.Printed.{Prints};
+ghost use Rattle.vipr.specs.Output.{Prints};
 
 use crate::fault::Fault;
 use std::alloc::Global;
 use std::fmt::Display;
-use vipr_bytes::Sink;
-use vipr_writer::write_bytes;
+use vipr_bytes::{Sink, write_bytes};
 
 /// Makes the whole text, and then hands it to the writer until that took all of it.
 ///

@@ -2,15 +2,15 @@
 ghost use Rattle.std.specs.Prelude.{◌≡◌, ◌≤◌, IfOk, IsNone, false, map};
 ghost use Rattle.clap.specs.Words.{kind_of, takes};
 ghost use Rattle.vipr_text.specs.Whole.{IfTold};
-ghost use Rattle.vipr.specs.Line.{line};
-ghost use Rattle.vipr.specs.Program.{Answers, Does, Fits, Obeys, PrintsText, PrintsVerdict, known_by, status_for, unknown};
+ghost use Rattle.vipr.specs.Args.{line};
+ghost use Rattle.vipr.specs.Run.{Answers, Does, Fits, Obeys, known_by, unknown};
 
+use crate::args::job;
+use crate::check::print_verdict;
 use crate::fault::Fault;
-use crate::line::job;
-use crate::print::print;
-use crate::show::{Shown, show};
+use crate::output::print;
+use crate::show::print_text;
 use crate::task::{Job, Task};
-use crate::verdict::{Lines, RefusalLine};
 use clap::Error;
 use clap::error::ErrorKind;
 use std::alloc::Global;
@@ -18,7 +18,6 @@ use std::fs::File;
 use std::io::{Read, Write};
 use std::rt::Files;
 use vipr_bytes::{FromRead, FromWrite, Sink, Source};
-use vipr_check::{Verdict, check};
 
 /// Does what the words ask for, the program's name first, and answers the exit status: 0 where the certificate is
 /// verified or shown, or help was asked for, 1 where it is refused, 2 for words that aren't taken, 3 for a fault.
@@ -122,47 +121,5 @@ fn do_task<R: Source + Drop, O: Sink, E: Write>(
     match command {
         Task::Check => print_verdict(alloc, source, out),
         Task::Show => print_text(alloc, source, out, err),
-    }
-}
-
-/// Prints the verdict on a certificate, and answers the exit status.
-fn print_verdict<R: Source + Drop, O: Sink>(
-    alloc: Global,
-    source: R,
-    out: &mut O,
-) -> Result<u8, Fault>
-    ensures any { PrintsVerdict unknown (O.output out.old) (O.output out.new) result }
-    ensures told { IfTold (R.input source) (λ i. PrintsVerdict (known_by i) (O.output out.old) (O.output out.new) result) }
-{
-    let verdict = check(alloc, source)?;
-    print(alloc, &Lines(&verdict), out)?;
-    Ok(status_of(&verdict))
-}
-
-/// Prints a certificate's canonical text, or on `err` why there is none, and answers the exit status.
-fn print_text<R: Source + Drop, O: Sink, E: Write>(
-    alloc: Global,
-    source: R,
-    out: &mut O,
-    err: &mut E,
-) -> Result<u8, Fault>
-    ensures any { PrintsText unknown (O.output out.old) (O.output out.new) result }
-    ensures told { IfTold (R.input source) (λ i. PrintsText (known_by i) (O.output out.old) (O.output out.new) result) }
-{
-    match show(alloc, source, out)? {
-        Shown::Whole => Ok(0),
-        Shown::Refused(refusal) => {
-            let _ = write!(err, "{}", RefusalLine(&refusal));
-            Ok(1)
-        }
-    }
-}
-
-fn status_of(verdict: &Verdict) -> u8
-    ensures { result ≡ status_for verdict.now }
-{
-    match verdict {
-        Verdict::Verified(_) => 0,
-        Verdict::Refused(_) => 1,
     }
 }

@@ -1,7 +1,7 @@
 use Rattle.std.proofs.Common.{map}
-use Rattle.vipr.specs.Program.{unknown}
-use Rattle.vipr.proofs.ProgramLemmas.{declined, all_told}
-use Rattle.vipr.proofs.program.obey.Goals as goal
+use Rattle.vipr.specs.Run.{unknown}
+use Rattle.vipr.proofs.RunLemmas.{declined, all_told}
+use Rattle.vipr.proofs.run.obey.Goals as goal
 
 pub returns-in-Err-clause-any : goal.returns-in-Err-clause-any
 returns-in-Err-clause-any g c =

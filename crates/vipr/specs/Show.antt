@@ -3,12 +3,11 @@ use Rattle.std.specs.Prelude.{⊤, ◌≡◌, ℕ, List, Option, Result, Ok, Err
 use Rattle.vipr_spec.specs.Certificate.{Certificate}
 use Rattle.vipr_spec.specs.Grammar.{Spells}
 use Rattle.vipr_spec.specs.Reading.{Fault as TextFault, refused, unread}
-use Rattle.vipr_canonical.specs.Canonical.{canonical_text}
+use Rattle.vipr_write.specs.Canonical.{canonical_text}
 use Rattle.vipr_bytes.specs.Output.{Output}
-use Rattle.vipr_writer.specs.declared.writer.WriteError.TheVariants as write
 use Rattle.vipr_check.specs.declared.verdict.Place.TheVariants.{Byte}
 use Rattle.vipr_check.specs.declared.verdict.Refusal.{Refusal}
-use Rattle.vipr.specs.Printed.{Took, Stays}
+use Rattle.vipr.specs.Output.{Took, Stays, after_first}
 use Rattle.vipr.specs.declared.fault.Fault.{Fault}
 use Rattle.vipr.specs.declared.fault.Fault.TheVariants.{Memory, Read, Write}
 use Rattle.vipr.specs.declared.show.Shown.{Shown}
@@ -29,7 +28,7 @@ Shows k old new (Ok Whole) = (c : Certificate) × k.Spelled c × Took old new (c
 Shows k old new (Ok (Refused r)) = k.Unspelled r × Stays old new
 Shows k old new (Err Read) = k.Unread × Stays old new
 Shows k old new (Err Memory) = Stays old new
-Shows k old new (Err (Write n)) = (c : Certificate) × k.Spelled c × Took old new (canonical_text c) (Err (write.Write n))
+Shows k old new (Err (Write n)) = (c : Certificate) × k.Spelled c × Took old new (canonical_text c) (Err (after_first n))
 
 -- a text of which nothing is known
 abbrev pub any_text : Kind

@@ -1,8 +1,8 @@
 use Rattle.std.proofs.Common.{◌≡◌, ◌∙◌, ap, subst, sym, map, true, false, codes, refl}
 use Rattle.clap.specs.Words.{App, Kinds, HasKind, fault_of, found_of, is_simple, is_simple_and_free, rows_of, subcommand_of, takes}
 use Rattle.clap.proofs.WalkLemmas.{first_value-rows}
-use Rattle.vipr.proofs.LineLemmas.{entered_is, failed_on, handed_on, is_asked, is_free_line, is_simple_line, never_other, never_without}
-use Rattle.vipr.proofs.line.job.Goals as goal
+use Rattle.vipr.proofs.ArgsLemmas.{entered_is, failed_on, handed_on, is_asked, is_free_line, is_simple_line, never_other, never_without}
+use Rattle.vipr.proofs.args.job.Goals as goal
 
 pub returns-in_err-matches-clause-err : goal.returns-in_err-matches-clause-err
 returns-in_err-matches-clause-err c =

@@ -2,7 +2,7 @@
 ghost use Rattle.std.specs.Prelude.{◌≡◌, Some, IfErr, IfOk, IfSome, IsNone, true, false, map};
 ghost use Rattle.clap.specs.Words.{FailsBy, app_of, fault_of, kind_of, new_app, rule_of, takes, with_rule};
 ghost use Rattle.clap.specs.declared.builder.command.Command.TheViews.{out-Command as fields_of};
-ghost use Rattle.vipr.specs.Line.{asked, asked_by, file_rule, line, name_of};
+ghost use Rattle.vipr.specs.Args.{asked, asked_by, file_rule, line, name_of};
 ghost use Rattle.vipr.specs.declared.task.Task.{Task};
 
 use crate::task::{Job, Task};

@@ -2,8 +2,8 @@ use Rattle.std.proofs.Common.{ap, ap₂, ◌≡◌, ◌∙◌, true}
 use Rattle.std.proofs.lemmas.Result.{IfOk-weaker}
 use Rattle.clap.specs.Words.{App, app_of, with_subcommand}
 use Rattle.clap.specs.Simple.{app_of_fields}
-use Rattle.vipr.specs.Line.{bare, line}
-use Rattle.vipr.proofs.line.command_line.Goals as goal
+use Rattle.vipr.specs.Args.{bare, line}
+use Rattle.vipr.proofs.args.command_line.Goals as goal
 
 -- `subcommand_required` and `disable_help_subcommand`
 abbrev with_required : App → App

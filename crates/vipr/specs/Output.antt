@@ -1,16 +1,19 @@
 -- What a writer took of what was to be printed.
 use Rattle.std.specs.Prelude.{◌≡◌, ℕ, List, Option, Some, IfSome, Result, Ok, Err}
 use Rattle.vipr_bytes.specs.Output.{Output}
-use Rattle.vipr_writer.specs.Written.{Wrote}
-use Rattle.vipr_writer.specs.declared.writer.WriteError.{WriteError}
-use Rattle.vipr_writer.specs.declared.writer.WriteError.TheVariants as write
+use Rattle.vipr_bytes.specs.Written.{Wrote}
+use Rattle.vipr_bytes.specs.declared.write.WriteFailed.{WriteFailed}
 use Rattle.vipr.specs.declared.fault.Fault.{Fault}
 use Rattle.vipr.specs.declared.fault.Fault.TheVariants.{Memory, Read, Write}
 
 -- old is the writer's output before, where it tells that, and new the one afterwards.
 -- The text was handed to it, with this result.
-abbrev pub Took : Option Output → Option Output → List ℕ → Result (Unit {0}) WriteError → Type 0
+abbrev pub Took : Option Output → Option Output → List ℕ → Result (Unit {0}) WriteFailed → Type 0
 Took old new text r = IfSome old (λ o. Wrote o new text r)
+
+-- only the first n bytes were taken
+abbrev pub after_first : ℕ → WriteFailed
+after_first n = record { taken = n }
 
 -- nothing was handed to it
 abbrev pub Stays : Option Output → Option Output → Type 0
@@ -25,4 +28,4 @@ abbrev pub Prints : Option (List ℕ) → Option Output → Option Output → Re
 Prints known old new (Ok u) = (text : List ℕ) × IsText known text × Took old new text (Ok tt)
 Prints known old new (Err Read) = ⊥
 Prints known old new (Err Memory) = Stays old new
-Prints known old new (Err (Write n)) = (text : List ℕ) × IsText known text × Took old new text (Err (write.Write n))
+Prints known old new (Err (Write n)) = (text : List ℕ) × IsText known text × Took old new text (Err (after_first n))

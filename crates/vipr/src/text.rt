@@ -1,6 +1,6 @@
 //! A verdict's lines.
 ghost use Rattle.std.specs.Prelude.{Some};
-ghost use Rattle.vipr.specs.Lines.{bound_text, claim_text, place_text, refusal_text, verdict_text};
+ghost use Rattle.vipr.specs.Text.{bound_text, claim_text, place_text, refusal_text, verdict_text};
 
 use std::fmt;
 use std::fmt::{Display, Formatter, Write};

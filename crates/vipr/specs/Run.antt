@@ -13,12 +13,12 @@ use Rattle.vipr_check.specs.declared.verdict.Fault.{Fault as CheckFault}
 use Rattle.vipr_check.specs.declared.verdict.Fault.TheVariants.{Memory as CheckMemory, Read as CheckRead}
 use Rattle.vipr_check.specs.declared.verdict.Verdict.{Verdict}
 use Rattle.vipr_check.specs.declared.verdict.Verdict.TheVariants.{Refused, Verified}
-use Rattle.vipr_writer.specs.declared.writer.WriteError.{WriteError}
-use Rattle.vipr_writer.specs.declared.writer.WriteError.TheVariants as write
-use Rattle.vipr.specs.Line.{asked_by, line, name_of}
-use Rattle.vipr.specs.Lines.{verdict_text}
-use Rattle.vipr.specs.Printed.{Took, Stays}
-use Rattle.vipr.specs.Shown.{Kind, Shows, any_text, text_read}
+use Rattle.vipr_write.specs.declared.write.WriteError.{WriteError}
+use Rattle.vipr_write.specs.declared.write.WriteError.TheVariants as write
+use Rattle.vipr.specs.Args.{asked_by, line, name_of}
+use Rattle.vipr.specs.Text.{verdict_text}
+use Rattle.vipr.specs.Output.{Took, Stays, after_first}
+use Rattle.vipr.specs.Show.{Kind, Shows, any_text, text_read}
 use Rattle.vipr.specs.declared.fault.Fault.{Fault}
 use Rattle.vipr.specs.declared.fault.Fault.TheVariants.{Memory, Read, Write}
 use Rattle.vipr.specs.declared.show.Shown.{Shown}
@@ -74,7 +74,7 @@ abbrev pub PrintsVerdict : Known → Option Output → Option Output → Result 
 PrintsVerdict k old new (Ok s) = (v : Verdict) × k.Judged (Ok v) × (s ≡ status_for v) × Took old new (verdict_text v) (Ok tt)
 PrintsVerdict k old new (Err Read) = k.Judged (Err CheckRead) × Stays old new
 PrintsVerdict k old new (Err Memory) = Stays old new
-PrintsVerdict k old new (Err (Write n)) = (v : Verdict) × k.Judged (Ok v) × Took old new (verdict_text v) (Err (write.Write n))
+PrintsVerdict k old new (Err (Write n)) = (v : Verdict) × k.Judged (Ok v) × Took old new (verdict_text v) (Err (after_first n))
 
 -- the canonical text was printed, or the certificate refused
 abbrev pub PrintsText : Known → Option Output → Option Output → Result ℕ Fault → Type 0
@@ -102,7 +102,7 @@ abbrev pub Declines : ErrorKind → Option Output → Option Output → Result �
 Declines k old new (Ok s) = (IsHelp k × (s ≡ 0) × ((text : List ℕ) × Took old new text (Ok tt))) ⊎ ((¬ IsHelp k) × (s ≡ 2) × Stays old new)
 Declines k old new (Err Read) = ⊥
 Declines k old new (Err Memory) = Stays old new
-Declines k old new (Err (Write n)) = IsHelp k × ((text : List ℕ) × Took old new text (Err (write.Write n)))
+Declines k old new (Err (Write n)) = IsHelp k × ((text : List ℕ) × Took old new text (Err (after_first n)))
 
 -- memory ran out
 abbrev pub LacksMemory : Option Output → Option Output → Result ℕ Fault → Type 0
