@@ -1,11 +1,11 @@
 #!/usr/bin/env python3
 """Compares the built program with the plain models on the examples and on many damaged copies of them.
 
-usage: compare.py [PROGRAM [RUNS [SEED]]]      crates/vipr/out/vipr, 2000 runs and seed 1 without them
+usage: compare.py [--all] [PROGRAM [RUNS [SEED]]]      crates/vipr/out/vipr, 2000 runs and seed 1 without them
 
 Each example is tried as it is. Each run then takes one, changes a few tokens of it, and tries the result. What `check`
 and `show` print on standard output and on standard error, and the exit status, must be what the models say, byte for
-byte.
+byte. With --all so must what `explain` and `tighten` print, for a program that has them.
 
 Prints each text on which they differ, and a last line of counts. The exit status is 1 if they differ.
 """
@@ -16,8 +16,9 @@ import sys
 from collections import Counter
 from pathlib import Path
 
-from plain_check import verdict
+from plain_check import explained, verdict
 from plain_show import shown
+from plain_tighten import tightened
 
 TOP = Path(__file__).resolve().parent.parent
 SPARE = [
@@ -55,33 +56,43 @@ def damaged(text, chance):
     return front + b"".join(token + chance.choice(GAPS) for token in tokens)
 
 
-def checked(text):
-    """What goes to standard output, what goes to standard error, and the exit status."""
-    answer = verdict(text)
+def printed(answer):
+    """What goes to standard output, what goes to standard error, and the exit status, of a verdict's lines."""
     return f"{answer}\n".encode(), b"", 0 if answer.startswith("verified") else 1
 
 
-def kind(output, status):
-    if status:
-        return "refused"
-    return "verified" if output.startswith(b"verified ") else "shown"
+def checked(text):
+    return printed(verdict(text))
+
+
+def with_reason(text):
+    return printed(explained(text))
+
+
+MODELS = {"check": checked, "show": shown}
+ALL_MODELS = {**MODELS, "explain": with_reason, "tighten": tightened}
+DONE = {"check": "verified", "show": "shown", "explain": "verified", "tighten": "tightened"}
 
 
 def main():
-    program = sys.argv[1] if len(sys.argv) > 1 else TOP / "crates/vipr/out/vipr"
-    runs = int(sys.argv[2]) if len(sys.argv) > 2 else 2000
-    chance = random.Random(int(sys.argv[3]) if len(sys.argv) > 3 else 1)
+    words = sys.argv[1:]
+    models = MODELS
+    if words[:1] == ["--all"]:
+        words, models = words[1:], ALL_MODELS
+    program = words[0] if words else TOP / "crates/vipr/out/vipr"
+    runs = int(words[1]) if len(words) > 1 else 2000
+    chance = random.Random(int(words[2]) if len(words) > 2 else 1)
     sys.set_int_max_str_digits(0)
     examples = [path.read_bytes() for path in sorted((TOP / "examples").rglob("*.vipr"))]
     short = [text for text in examples if len(text) < 10000]
     counts = Counter(different=0)
     for text in examples + [damaged(chance.choice(short), chance) for _ in range(runs)]:
-        for command, model in ("check", checked), ("show", shown):
+        for command, model in models.items():
             wanted = model(text)
             answer = subprocess.run([program, command], input=text, capture_output=True)
             got = answer.stdout, answer.stderr, answer.returncode
             if got == wanted:
-                counts[f"{command}: {kind(wanted[0], wanted[2])}"] += 1
+                counts[f"{command}: {DONE[command] if wanted[2] == 0 else 'refused'}"] += 1
             else:
                 counts["different"] += 1
                 print(f"{text[:2000]!r}\n  {command}: wanted {wanted!r}, got {got!r}")

@@ -1,10 +1,11 @@
 #!/usr/bin/env python3
 """A plain model of `vipr check`: the rules of docs/FORMAT.md over Python's whole numbers, with no care for speed.
 
-usage: plain_check.py [FILE ..]
+usage: plain_check.py [--explain] [FILE ..]
 
 Prints for each file (standard input without one) what `vipr check` is to print, as a second opinion on certificates
-written by hand and on the proved program. It shares no code with it and proves nothing.
+written by hand and on the proved program. It shares no code with it and proves nothing. With --explain it prints what
+`vipr explain` is to print: the same lines, and then the goal, or the cause's name and what shows the fault.
 """
 import re
 import sys
@@ -16,10 +17,18 @@ LARGEST_COUNT = 2**32 - 1
 LONGEST_TOKEN = 65535
 SPACE = b"\t\n\v\f\r "
 TOKEN = re.compile(rb"[^\t-\r ]+")
+CAUSES = {
+    1: "Truncated", 2: "WrongKeyword", 3: "UnsupportedVersion", 4: "BadNumber", 5: "NumberTooLarge",
+    6: "ZeroDenominator", 7: "BadCount", 8: "CountTooLarge", 9: "BadIndex", 10: "RepeatedIndex", 11: "BadSense",
+    12: "BadObjectiveSense", 13: "BadClaim", 14: "BadReason", 15: "BadBrace", 16: "BadReference", 17: "TokenTooLong",
+    18: "TrailingText", 21: "SolutionNotWhole", 22: "SolutionBreaks", 23: "SolutionOverflow", 31: "NotEarlier",
+    32: "Dropped", 33: "NotAssumption", 34: "MixedSigns", 35: "Overflow", 36: "NotRoundable", 37: "NotSplit",
+    38: "NotDominated", 39: "NoSolution", 51: "NoProof", 52: "NoPrimal",
+}
 
 
 class Refused(Exception):
-    """A fault: its cause's number, and where it lies."""
+    """A fault: its cause's number, where it lies, and the lines that show it."""
 
 
 class Unfit(Exception):
@@ -145,6 +154,34 @@ class Tokens:
         return word, [self.reference() for _ in range(4)] if word == "uns" else []
 
 
+def readable(name):
+    """A name as it is printed: printable ASCII but the backslash, and whole characters past ASCII, as they are."""
+    shown = ""
+    while name:
+        for size in 2, 3, 4:
+            try:
+                character = name[:size].decode()
+            except UnicodeDecodeError:
+                continue
+            if len(character) == 1:
+                break
+        else:
+            size, byte = 1, name[0]
+            if 0x20 < byte < 0x7F and byte != 0x5C:
+                character = chr(byte)
+            else:
+                character = {0: "\\0", 0x5C: "\\\\"}.get(byte, f"\\x{byte:02X}")
+        shown += character
+        name = name[size:]
+    return shown
+
+
+def written(constraint):
+    """A constraint without its name, as in the canonical text."""
+    row, sense, right = constraint
+    return " ".join(map(str, [sense, right, len(row), *(word for index in sorted(row) for word in (index, row[index]))]))
+
+
 ABSURD = ({}, "G", Fraction(1))
 
 
@@ -192,7 +229,7 @@ def is_split(first, second, integers):
 def rounded(constraint, integers, refuse):
     row, sense, right = constraint
     if not whole_at(row, integers):
-        refuse(36)
+        refuse(36, f"sum {written(constraint)}")
     if sense == "E":
         return constraint if right.denominator == 1 else ABSURD
     return row, sense, Fraction(ceil(right) if sense == "G" else floor(right))
@@ -201,29 +238,31 @@ def rounded(constraint, integers, refuse):
 class Checker:
     def __init__(self, text):
         self.tokens = Tokens(text)
+        self.names = []
+        self.row_names = []
         self.constraints = []
         self.sets = []
         self.assumptions = set()
         self.last = {}
         self.best = None
-        self.proved = False
+        self.goal_index = None
         self.kept_for_good = self.peak = 0
         self.kept_until = {}
 
     def run(self):
         self.problem()
         for index in range(self.solutions):
-            self.solution(f"SOL {index}")
+            self.solution(index)
         self.primal_side()
         self.tokens.one_of(2, b"DER")
-        derived = self.tokens.count(self.rows)
+        self.derived = derived = self.tokens.count(self.rows)
         for index in range(self.rows, self.rows + derived):
             self.derivation(index)
         left = self.tokens.peek()
         if left is not None:
             raise Refused(18, f"byte {left[1]}")
-        if self.goal is not None and not self.proved:
-            raise Refused(51, "end")
+        if self.goal is not None and self.goal_index is None:
+            raise Refused(51, "end", "goal absurdity" if self.bounds is None else f"goal {written(self.goal)}")
         claim = "infeas" if self.bounds is None else "range {} {}".format(
             *("-inf inf".split()[side] if bound is None else bound for side, bound in enumerate(self.bounds)))
         return f"verified {claim}\nsolutions {self.solutions} derived {derived} peak {self.peak}"
@@ -235,7 +274,7 @@ class Checker:
         tokens.one_of(2, b"VAR")
         self.variables = variables = tokens.count()
         for _ in range(variables):
-            tokens.next()
+            self.names.append(tokens.next()[0])
         tokens.one_of(2, b"INT")
         self.integers = {tokens.variable(variables)[0] for _ in range(tokens.count())}
         tokens.one_of(2, b"OBJ")
@@ -245,6 +284,7 @@ class Checker:
         self.rows = tokens.count()
         tokens.count()
         for _ in range(self.rows):
+            self.row_names.append(self.name_ahead())
             self.constraints.append(tokens.constraint(variables, self.objective))
             self.sets.append(frozenset())
         tokens.one_of(2, b"RTP")
@@ -259,24 +299,40 @@ class Checker:
         for index in range(self.rows):
             self.look_at(index)
 
+    def name_ahead(self):
+        """The name of the item that comes next, where there is one."""
+        found = self.tokens.peek()
+        return found and found[0]
+
     def look_at(self, index):
-        if self.goal is not None and not self.sets[index] and dominates(self.constraints[index], self.goal):
-            self.proved = True
+        if self.goal is None or self.goal_index is not None or self.sets[index]:
+            return
+        if dominates(self.constraints[index], self.goal):
+            self.goal_index = index
 
-    def solution(self, place):
-        self.tokens.next()
-        self.test_solution(place, self.tokens.vector(self.variables))
+    def solution(self, own):
+        name = self.tokens.next()[0]
+        self.test_solution(own, name, self.tokens.vector(self.variables))
 
-    def test_solution(self, place, point):
-        if any(point[index].denominator != 1 for index in point if index in self.integers):
-            raise Refused(21, place)
+    def test_solution(self, own, name, point):
+        def refuse(cause, *lines):
+            raise Refused(cause, f"SOL {own}", f"solution {own} {readable(name)}", *lines) from None
+
+        for index in sorted(self.integers & point.keys()):
+            if point[index].denominator != 1:
+                refuse(21, f"variable {index} {readable(self.names[index])}", f"value {point[index]}")
+        for index, (row, sense, right) in enumerate(self.constraints):
+            constraint = f"constraint {index} {readable(self.row_names[index])}"
+            try:
+                value = value_at(row, point)
+            except Unfit:
+                refuse(23, constraint)
+            if not holds(value, sense, right):
+                refuse(22, constraint, f"left {value} {sense} right {right}")
         try:
-            for row, sense, right in self.constraints:
-                if not holds(value_at(row, point), sense, right):
-                    raise Refused(22, place)
             value = value_at(self.objective, point)
         except Unfit:
-            raise Refused(23, place) from None
+            refuse(23, "objective")
         if self.best is None or (value < self.best if self.minimizes else value > self.best):
             self.best = value
 
@@ -284,10 +340,11 @@ class Checker:
         if self.primal is None:
             return
         if self.best is None or (self.best > self.primal if self.minimizes else self.best < self.primal):
-            raise Refused(52, "end")
+            raise Refused(52, "end", f"bound {self.primal}")
 
     def derivation(self, own):
         tokens = self.tokens
+        name = self.name_ahead()
         stated = tokens.constraint(self.variables, self.objective)
         tokens.one_of(15, b"{")
         reason, parts = tokens.reason()
@@ -298,18 +355,22 @@ class Checker:
             last = None
         else:
             last = tokens.reference()
-        self.test_derivation(own, stated, reason, parts, last)
+        self.test_derivation(own, name, stated, reason, parts, last)
 
-    def test_derivation(self, own, stated, reason, parts, last):
-        def refuse(cause):
-            raise Refused(cause, f"DER {own}")
+    def test_derivation(self, own, name, stated, reason, parts, last):
+        def refuse(cause, *lines):
+            raise Refused(cause, f"DER {own}", f"derivation {own} {readable(name)}", *lines) from None
 
         def refer(index, counts=True):
             if index >= own:
-                refuse(31)
+                refuse(31, f"index {index}")
             if counts and index >= self.rows and index not in self.assumptions:
                 if self.last[index] is not None and self.last[index] < own:
-                    refuse(32)
+                    refuse(32, f"index {index}")
+
+        def need(computed):
+            if not dominates(computed, stated):
+                refuse(38, f"computed {written(computed)}", f"stated {written(stated)}")
 
         if reason == "asm":
             rests_on = frozenset([own])
@@ -317,29 +378,28 @@ class Checker:
         elif reason in ("lin", "rnd"):
             for index, multiplier in parts:
                 refer(index, multiplier != 0)
-            used = [(index, multiplier) for index, multiplier in parts if multiplier]
-            computed = self.combined(used, refuse)
+            computed = self.combined(parts, refuse)
             if reason == "rnd":
                 computed = rounded(computed, self.integers, refuse)
-            if not dominates(computed, stated):
-                refuse(38)
-            rests_on = frozenset().union(*(self.sets[index] for index, _ in used))
+            need(computed)
+            rests_on = frozenset().union(*(self.sets[index] for index, multiplier in parts if multiplier))
         elif reason == "uns":
             for index in parts:
                 refer(index)
             first, left, second, right = parts
-            if left not in self.assumptions or right not in self.assumptions:
-                refuse(33)
-            if not is_split(self.constraints[left], self.constraints[right], self.integers):
-                refuse(37)
-            if not all(dominates(self.constraints[index], stated) for index in (first, second)):
-                refuse(38)
+            for index in left, right:
+                if index not in self.assumptions:
+                    refuse(33, f"index {index}")
+            branches = self.constraints[left], self.constraints[right]
+            if not is_split(*branches, self.integers):
+                refuse(37, f"first {written(branches[0])}", f"second {written(branches[1])}")
+            for index in first, second:
+                need(self.constraints[index])
             rests_on = (self.sets[first] - {left}) | (self.sets[second] - {right})
         else:
             if self.best is None:
                 refuse(39)
-            if not dominates((self.objective, "L" if self.minimizes else "G", self.best), stated):
-                refuse(38)
+            need((self.objective, "L" if self.minimizes else "G", self.best))
             rests_on = frozenset()
         self.constraints.append(stated)
         self.sets.append(rests_on)
@@ -347,20 +407,22 @@ class Checker:
         self.look_at(own)
         self.hold(own, last)
 
-    def combined(self, used, refuse):
+    def combined(self, entries, refuse):
         row, right, sign = {}, Fraction(0), 0
-        for index, multiplier in used:
+        for position, (index, multiplier) in enumerate(entries):
+            if not multiplier:
+                continue
             terms, sense, bound = self.constraints[index]
             turned = {"G": 1, "L": -1, "E": 0}[sense] * (1 if multiplier > 0 else -1)
             if turned * sign < 0:
-                refuse(34)
+                refuse(34, f"entry {position}")
             sign = sign or turned
             try:
                 for variable, coefficient in terms.items():
                     row[variable] = add(row.get(variable, Fraction(0)), multiply(multiplier, coefficient))
                 right = add(right, multiply(multiplier, bound))
             except Unfit:
-                refuse(35)
+                refuse(35, f"entry {position}")
         return {variable: value for variable, value in row.items() if value}, "LEG"[sign + 1], right
 
     def hold(self, own, last):
@@ -377,19 +439,34 @@ def verdict(text, checker=Checker):
     try:
         return checker(text).run()
     except Refused as fault:
-        cause, place = fault.args
+        cause, place = fault.args[:2]
         return f"refused {cause} at {place}"
+
+
+def explained(text, checker=Checker):
+    """The verdict, and what shows it."""
+    run = checker(text)
+    try:
+        answer = run.run()
+        return f"{answer}\ngoal {'none' if run.goal_index is None else run.goal_index}"
+    except Refused as fault:
+        cause, place, *lines = fault.args
+        return "\n".join([f"refused {cause} at {place}", f"cause {CAUSES[cause]}", *lines])
 
 
 def main():
     sys.set_int_max_str_digits(0)
-    for path in sys.argv[1:] or [None]:
+    paths = sys.argv[1:]
+    answer = verdict
+    if paths[:1] == ["--explain"]:
+        paths, answer = paths[1:], explained
+    for path in paths or [None]:
         if path is None:
             text = sys.stdin.buffer.read()
         else:
             with open(path, "rb") as file:
                 text = file.read()
-        print(verdict(text))
+        print(answer(text))
 
 
 if __name__ == "__main__":

@@ -1,22 +1,23 @@
 -- What `show` answers, from what is read and what is written.
-use Rattle.std.proofs.Common.{◌≡◌, ◌⊎◌, Option, Some, None, Result, Ok, Err, IsErrAnd, ℕ, true, false, inl, inr, refl, sym, subst, ◌∙◌}
+use Rattle.std.proofs.Common.{◌≡◌, ◌⊎◌, Option, Some, None, Result, Ok, Err, IfSome, IsErrAnd, ℕ, true, false, inl, inr, refl, sym, subst, ◌∙◌}
 use Rattle.vipr_spec.specs.Certificate.{Certificate}
 use Rattle.vipr_spec.specs.Grammar.{Spells}
 use Rattle.vipr_spec.specs.Input.{Input}
 use Rattle.vipr_spec.specs.Reading.{certificate_read}
 use Rattle.vipr_spec.proofs.GrammarItemFaults.{item_faults}
 use Rattle.vipr_bytes.specs.Output.{Output}
-use Rattle.vipr_canonical.specs.Canonical.{canonical_text}
+use Rattle.vipr_write.specs.Canonical.{canonical_text}
 use Rattle.vipr_tokens.specs.Faults.{Fails}
 use Rattle.vipr_text.specs.Whole.{rest_of, IfTold, IfWhole}
 use Rattle.vipr_tokens.specs.declared.error.TextError.{TextError}
 use Rattle.vipr_tokens.specs.declared.error.TextError.TheVariants as error
-use Rattle.vipr_writer.specs.declared.writer.WriteError.{WriteError}
-use Rattle.vipr_writer.specs.declared.writer.WriteError.TheVariants as write
+use Rattle.vipr_write.specs.WrittenText.{WroteText}
+use Rattle.vipr_write.specs.declared.write.WriteError.{WriteError}
+use Rattle.vipr_write.specs.declared.write.WriteError.TheVariants as write
 use Rattle.vipr_check.specs.declared.verdict.Place.TheVariants.{Byte}
-use Rattle.vipr.specs.Printed.{Stays, Took}
-use Rattle.vipr.specs.Program.{write_fault_for}
-use Rattle.vipr.specs.Shown.{Kind, Shows, text_of, text_read}
+use Rattle.vipr.specs.Output.{Stays, Took}
+use Rattle.vipr.specs.Run.{write_fault_for}
+use Rattle.vipr.specs.Show.{Kind, Shows, text_of, text_read}
 use Rattle.vipr.specs.declared.fault.Fault.{Fault}
 use Rattle.vipr.specs.declared.fault.Fault.TheVariants.{Read}
 use Rattle.vipr.specs.declared.show.Shown.{Shown}
@@ -34,13 +35,13 @@ pub shown_whole : (old new : Option Output) (c : Certificate) → Took old new (
 shown_whole old new c w k s = (c, s, w)
 
 -- the writing stopped
-pub cut_short : (old new : Option Output) (c : Certificate) (e : WriteError) (r : Result Shown Fault) → IsErrAnd r (λ f. f ≡ write_fault_for e) → Took old new (canonical_text c) (Err e)
+pub cut_short : (old new : Option Output) (c : Certificate) (e : WriteError) (r : Result Shown Fault) → IsErrAnd r (λ f. f ≡ write_fault_for e) → IfSome old (λ o. WroteText o new (canonical_text c) (Err e))
     → (k : Kind) → k.Spelled c → Shows k old new r
 cut_short old new c e (Ok x) h w k s = absurd h
 cut_short old new c (write.Write n) (Err f) h w k s = subst (λ y. Shows k old new (Err y)) (sym h) (c, s, w)
 cut_short old new c (write.Memory n) (Err f) h w k s = subst (λ y. Shows k old new (Err y)) (sym h) (none_of_it old w)
   where
-    none_of_it : (o : Option Output) → Took o new (canonical_text c) (Err (write.Memory n)) → Stays o new
+    none_of_it : (o : Option Output) → IfSome o (λ p. WroteText p new (canonical_text c) (Err (write.Memory n))) → Stays o new
     none_of_it None t = tt
     none_of_it (Some o) t = t.1
 

@@ -1,5 +1,5 @@
-pub mod Line
-pub mod Lines
-pub mod Printed
-pub mod Program
-pub mod Shown
+pub mod Args
+pub mod Text
+pub mod Output
+pub mod Run
+pub mod Show

@@ -1,12 +1,13 @@
 //! Why a command is cut short.
 ghost use Rattle.std.specs.Prelude.{◌≡◌, Some};
-ghost use Rattle.vipr.specs.Program.{fault_for, fault_text, write_fault_for};
-ghost use Rattle.vipr.specs.declared.fault.Fault.TheVariants.{Memory};
+ghost use Rattle.vipr.specs.Run.{fault_for, fault_text, write_fault_for};
+ghost use Rattle.vipr.specs.declared.fault.Fault.TheVariants.{Memory, Write};
 
 use std::alloc::AllocError;
 use std::fmt;
 use std::fmt::{Display, Formatter};
-use vipr_text::WriteError;
+use vipr_bytes::WriteFailed;
+use vipr_write::WriteError;
 
 /// Why a command was cut short.
 #[derive(Clone, Copy, Debug, PartialEq, Eq)]
@@ -55,6 +56,16 @@ impl From<WriteError> for Fault {
         match error {
             WriteError::Write { taken } => Fault::Write { taken },
             WriteError::Memory { taken: _ } => Fault::Memory,
+        }
+    }
+}
+
+impl From<WriteFailed> for Fault {
+    ghost from_gives = { λ failed told. told ≡ Write failed.taken };
+
+    fn from(failed: WriteFailed) -> Fault {
+        Fault::Write {
+            taken: failed.taken,
         }
     }
 }

@@ -3,18 +3,18 @@
 
 ghost use Rattle.std.specs.Prelude.{◌≤◌, IfOk};
 
+mod args;
+mod check;
 mod fault;
-mod line;
-mod print;
-mod program;
+mod output;
+mod run;
 mod show;
 mod task;
 #[cfg(test)]
 mod tests;
-mod verdict;
+mod text;
 
 use fault::Fault;
-use program::run;
 use std::io::{ErrorKind, Write};
 use std::process::ExitCode;
 use std::{env, io};
@@ -49,7 +49,7 @@ fn on_arguments(rt: &HostRuntime) -> io::Result<u8>
     let alloc = rt.alloc();
     let arguments: Vec<String> = env::args(rt)?.collect(alloc)?;
     let words: Vec<&str> = arguments.iter().map(|word| word.as_str()).collect(alloc)?;
-    Ok(run(
+    Ok(run::run(
         rt,
         words.as_slice(),
         rt.stdin(),

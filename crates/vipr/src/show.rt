@@ -1,13 +1,17 @@
-//! Shows a certificate.
+//! Shows a certificate: writes its canonical text.
 ghost use Rattle.vipr_spec.specs.Reading.{certificate_read};
 ghost use Rattle.vipr_text.specs.Whole.{rest_of, IfTold, IfWhole};
-ghost use Rattle.vipr.specs.Shown.{Shows, any_text, text_of, text_read};
+ghost use Rattle.vipr.specs.Run.{PrintsText, known_by, unknown};
+ghost use Rattle.vipr.specs.Show.{Shows, any_text, text_of, text_read};
 
 use crate::fault::Fault;
+use crate::text::RefusalLine;
 use std::alloc::Global;
+use std::io::Write;
 use vipr_bytes::{Sink, Source};
 use vipr_check::{Place, Refusal};
-use vipr_text::{TextError, read_certificate, write_certificate};
+use vipr_text::{TextError, read_certificate};
+use vipr_write::write_certificate;
 
 /// What became of a certificate that was to be shown.
 #[derive(Clone, Copy, Debug, PartialEq, Eq)]
@@ -47,5 +51,24 @@ pub fn show<R: Source + Drop, W: Sink>(
         Err(TextError::Read) => Err(Fault::Read),
         Err(TextError::Memory) => Err(Fault::Memory),
         Err(TextError::Spent) => unreachable!(),
+    }
+}
+
+/// Prints a certificate's canonical text, or on `err` why there is none, and answers the exit status.
+pub fn print_text<R: Source + Drop, O: Sink, E: Write>(
+    alloc: Global,
+    source: R,
+    out: &mut O,
+    err: &mut E,
+) -> Result<u8, Fault>
+    ensures any { PrintsText unknown (O.output out.old) (O.output out.new) result }
+    ensures told { IfTold (R.input source) (λ i. PrintsText (known_by i) (O.output out.old) (O.output out.new) result) }
+{
+    match show(alloc, source, out)? {
+        Shown::Whole => Ok(0),
+        Shown::Refused(refusal) => {
+            let _ = write!(err, "{}", RefusalLine(&refusal));
+            Ok(1)
+        }
     }
 }

@@ -1,5 +1,5 @@
 -- The law of a writer that tells what it took.
-use Rattle.std.specs.Prelude.{◌≡◌, ℕ, ◌-◌, ◌<◌, ◌≤◌, List, ◌++◌, take, Option, Some, None, option_map, IfSome, Result, Ok, Err}
+use Rattle.std.specs.Prelude.{◌≡◌, ℕ, zero, suc, ◌+◌, ◌-◌, ◌<◌, ◌≤◌, List, ◌++◌, take, Option, Some, None, option_map, IfSome, Result, Ok, Err}
 use Rattle.vipr_bytes.specs.declared.source.Failed.{Failed}
 
 -- the bytes that were taken, and where that is known how many more there is room for
@@ -19,3 +19,9 @@ with_first n bytes o = record { taken = o.taken ++ take n bytes; room = option_m
 abbrev pub Writes : Output → Option Output → Result ℕ Failed → List ℕ → Type 0
 Writes o new (Ok n) bytes = IfSome o.room (λ room. (n ≤ room) × (0 < room → 0 < n)) × (new ≡ Some (with_first n bytes o))
 Writes o new (Err e) bytes = IfSome o.room (λ room. room ≡ 0) × (new ≡ Some o)
+
+-- whether a write failed or took nothing, as a number
+abbrev pub failure_of : Result ℕ Failed → ℕ
+failure_of (Ok zero) = 1
+failure_of (Ok (suc n)) = 0
+failure_of (Err e) = 1

@@ -8,6 +8,8 @@ mod sink;
 mod source;
 #[cfg(test)]
 mod tests;
+mod write;
 
 pub use sink::{FromWrite, Sink};
 pub use source::{Bytes, Failed, FromRead, Source};
+pub use write::{WriteFailed, write_bytes};

@@ -1,5 +1,5 @@
-ghost use Rattle.std.specs.Prelude.{◌≡◌, ℕ, ◌<◌, ◌≤◌, length, Option, IfOk, IfSome};
-ghost use Rattle.vipr_bytes.specs.Output.{Output, Writes, held};
+ghost use Rattle.std.specs.Prelude.{◌≡◌, ℕ, ◌+◌, ◌<◌, ◌≤◌, length, Option, Some, None, IfOk, IfSome};
+ghost use Rattle.vipr_bytes.specs.Output.{Output, Writes, held, failure_of};
 
 use crate::source::Failed;
 use std::io::Write;
@@ -13,11 +13,15 @@ pub trait Sink {
     // Where the writer tells: the bytes that it took, and where that is known how many more it has room for.
     ghost output: { Self → Option Output };
 
+    // Where it is known: how many writes so far failed or took nothing.
+    ghost failures: { Self → Option ℕ };
+
     /// Takes bytes from the front of `bytes`, and answers how many.
     fn write(&mut self, bytes: &[u8]) -> Result<usize, Failed>
         requires { 0 < length bytes.now }
         ensures count { IfOk result (λ n. n ≤ length bytes.now) }
-        ensures taken { IfSome (output self.old) (λ o. Writes o (output self.new) result bytes.now) };
+        ensures taken { IfSome (output self.old) (λ o. Writes o (output self.new) result bytes.now) }
+        ensures failed { IfSome (failures self.old) (λ n. failures self.new ≡ Some (n + failure_of result)) };
 }
 
 /// Writes to a writer of std. It tells what that took where the writer does, and never how much room is left.
@@ -46,6 +50,8 @@ impl<W: Write> FromWrite<W> {
 
 impl<W: Write> Sink for FromWrite<W> {
     ghost output = { λ w. held (W.contents w) };
+
+    ghost failures = { λ _. None };
 
     fn write(&mut self, bytes: &[u8]) -> Result<usize, Failed> {
         match self.writer.write(bytes) {

@@ -3,7 +3,7 @@ use Rattle.std.proofs.Common.{◌≡◌, ℕ, true, false, List, Some, None, Res
 use Rattle.vipr_spec.specs.Certificate.{Certificate, Derivation, IsProof, count}
 use Rattle.vipr_spec.specs.Input.{Input}
 use Rattle.vipr_spec.specs.Reading.{Rest, Fault as ReadFault, refused, unread, certificate_read}
-use Rattle.vipr_spec.specs.Grammar.{Spells}
+use Rattle.vipr_spec.specs.Grammar.{Spells, SpellsOnly}
 use Rattle.vipr_spec.specs.GrammarLaws.{whole_text}
 use Rattle.vipr_spec.specs.Soundness.{IsShown}
 use Rattle.vipr_spec.specs.Verdict.{StepTest, earlier, live, assumed, suitable, fitting, roundable, split, listed, by_sum, by_rounding, by_constraint, by_cutoff, step_tests, spelled, of_solution, of_step, Reports, Answer, verified, cut_short, told_by, IsAnswer}
@@ -32,7 +32,6 @@ use Rattle.vipr_check.specs.View.{report_of, answer_of, Says, IfVerified, IsVeri
 use Rattle.vipr_check.specs.Refused.{text_failed, solution_failed, step_failed}
 use Rattle.vipr_check.specs.Taking.{FailsNext}
 use Rattle.vipr_text.specs.Whole.{rest_of}
-use Rattle.vipr_canonical.specs.Laws.{SpellsOnly}
 use Rattle.vipr_text.proofs.WholeTexts.{whole_is}
 
 pub Says-by : (P Q : Answer → Type 0) (r : Result Verdict Fault) → ((a : Answer) → P a → Q a) → Says P r → Says Q r

@@ -3,13 +3,12 @@
 ghost use Rattle.std.specs.Prelude.{◌≡◌, true, false, Err};
 ghost use Rattle.vipr_spec.specs.Constraint.{one};
 ghost use Rattle.vipr_spec.specs.Certificate.{Certificate, IsProof};
-ghost use Rattle.vipr_spec.specs.Grammar.{Spells};
+ghost use Rattle.vipr_spec.specs.Grammar.{Spells, SpellsOnly};
 ghost use Rattle.vipr_spec.specs.Soundness.{IsShown};
 ghost use Rattle.vipr_spec.specs.Verdict.{Answer, Reports, IsAnswer};
 ghost use Rattle.vipr_check.specs.declared.verdict.Fault.TheVariants.{Read};
 ghost use Rattle.vipr_check.specs.View.{report_of, Says, IfVerified, IsVerified};
 ghost use Rattle.vipr_text.specs.Whole.{rest_of, IfTold, IfWhole};
-ghost use Rattle.vipr_canonical.specs.Laws.{SpellsOnly};
 
 use crate::stream::verdict_on;
 use crate::verdict::{Fault, Verdict};

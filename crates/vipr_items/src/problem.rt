@@ -1,5 +1,6 @@
 //! Problems.
 ghost use Rattle.std.specs.Prelude.{◌≡◌, ◌↔◌, ◌≤◌, IsOk, IfOk, map};
+ghost use Rattle.vipr_spec.specs.Certificate.{integer_variables};
 ghost use Rattle.vipr_spec.specs.Shape.{ProblemShape, CanWriteProblem};
 ghost use Rattle.vipr_linear.specs.Constraint.{constraint_of};
 ghost use Rattle.vipr_items.specs.Items.{problem_with, named_of, direction_of, claim_of};
@@ -93,9 +94,18 @@ impl Problem {
 
     /// The variables that have to be whole.
     pub fn ints(&self) -> &Ints
-        ensures { result.now ≡ self.now.integers }
+        ensures integers { result.now ≡ self.now.integers }
+        ensures writes { CanWriteProblem self.now }
     {
         &self.ints
+    }
+
+    /// The variables that have to be whole, in rising order.
+    pub fn integer_variables(&self) -> &[u32]
+        ensures variables { result.now ≡ integer_variables self.now }
+        ensures writes { CanWriteProblem self.now }
+    {
+        self.ints().indices()
     }
 
     /// Whether the objective is to be small or large.

@@ -139,3 +139,8 @@ pub record SpelledBy (ts : List (List ℕ)) (c : Certificate) : Type 0 where
 
 abbrev pub Spells : List ℕ → Certificate → Type 0
 Spells bytes c = SpelledBy (map (λ (t : Token). t.bytes) (text_tokens bytes)) c
+
+-- a text spells this certificate and no other
+pub record SpellsOnly (bytes : List ℕ) (c : Certificate) : Type 0 where
+  pub this : Spells bytes c
+  pub no_other : (d : Certificate) → Spells bytes d → d ≡ c

@@ -1,4 +1,4 @@
-//! Certificates as text: their readers, with the tokens, the types and the writer handed on.
+//! Certificates as text: their readers, with the tokens and the types handed on.
 #![tactic(auto)]
 
 mod claims;
@@ -18,5 +18,4 @@ pub use vipr_items::{
     BadShape, Certificate, Claim, Derivation, Goal, Name, Named, Problem, Reason,
 };
 pub use vipr_tokens::{TextError, Token, Tokens};
-pub use vipr_writer::{WriteError, write_certificate};
 pub use whole::read_certificate;

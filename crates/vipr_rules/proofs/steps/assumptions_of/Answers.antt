@@ -48,7 +48,7 @@ returns-in-Rnd-clause-judged g c = λ d is table best.
     let step = derivation_of c.args.step.now in
     let before = stands d c.cons-given.result.now (g.S.Rows.table c.args.rows.now) (c.cons-given.ensures.constraints ∙ sym (ap (λ (q : Problem). q.constraints) is)) table in
     let by = ap reason_of c.in-Rnd.is ∙ ap rnd (sym c.deref-in-Rnd.ensures.value) in
-    let ints = ap (λ (q : Problem). q.integers) is ∙ sym c.ints.ensures in
+    let ints = ap (λ (q : Problem). q.integers) is ∙ sym c.ints.ensures.integers in
     subst (λ r. MatchResult c.combine_rounded.result (λ s. Passes d step (step_tests r) × IsSetByReason d r s) (λ e. (e ≡ Memory) ⊎ Stops d step (step_tests r) e)) (sym by) (c.combine_rounded.ensures.judged d step before ints by refl)
 
 pub returns-in-Uns-clause-judged : goal.returns-in-Uns-clause-judged
@@ -56,5 +56,5 @@ returns-in-Uns-clause-judged g c = λ d is table best.
     let step = derivation_of c.args.step.now in
     let before = stands d c.cons-given.result.now (g.S.Rows.table c.args.rows.now) (c.cons-given.ensures.constraints ∙ sym (ap (λ (q : Problem). q.constraints) is)) table in
     let by = ap reason_of c.in-Uns.is in
-    let ints = ap (λ (q : Problem). q.integers) is ∙ sym c.ints-in-Uns.ensures in
+    let ints = ap (λ (q : Problem). q.integers) is ∙ sym c.ints-in-Uns.ensures.integers in
     subst (λ r. MatchResult c.unsplit.result (λ s. Passes d step (step_tests r) × IsSetByReason d r s) (λ e. (e ≡ Memory) ⊎ Stops d step (step_tests r) e)) (sym by) (c.unsplit.ensures.judged d step before ints by refl)

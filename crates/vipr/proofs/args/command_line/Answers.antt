@@ -1,0 +1,22 @@
+use Rattle.std.proofs.Common.{ap, ap₂, ◌≡◌, ◌∙◌, true}
+use Rattle.std.proofs.lemmas.Result.{IfOk-weaker}
+use Rattle.clap.specs.Words.{App, app_of, with_subcommand}
+use Rattle.clap.specs.Simple.{app_of_fields}
+use Rattle.vipr.specs.Args.{bare, line}
+use Rattle.vipr.proofs.args.command_line.Goals as goal
+
+-- `subcommand_required` and `disable_help_subcommand`
+abbrev with_required : App → App
+with_required a = record a { top = record a.top { subcommand_required = true } }
+
+abbrev without_help : App → App
+without_help a = record a { top = record a.top { disable_help_subcommand = true } }
+
+pub returns : goal.returns
+unfolding line
+returns c =
+    let bare_is : app_of c.disable_help_subcommand.result ≡ bare = ap app_of_fields c.disable_help_subcommand.ensures
+    ∙ ap without_help (ap app_of_fields c.subcommand_required.ensures
+    ∙ ap with_required (ap app_of_fields c.about.ensures ∙ c.new.ensures.app)) in
+    let checks = c.in_ok-subcommand.ensures.shape c.in_ok-check.ensures.local ∙ ap₂ with_subcommand bare_is (ap (λ (a : App). a.top) c.in_ok-check.ensures.app) in
+    IfOk-weaker c.subcommand-2.result _ _ (λ r h. h.shape c.in_ok-show.ensures.local ∙ ap₂ with_subcommand checks (ap (λ (a : App). a.top) c.in_ok-show.ensures.app)) c.subcommand-2.ensures

@@ -1,0 +1,15 @@
+use Rattle.std.proofs.Common.{map}
+use Rattle.vipr.specs.Run.{unknown}
+use Rattle.vipr.proofs.RunLemmas.{declined, all_told}
+use Rattle.vipr.proofs.run.obey.Goals as goal
+
+pub returns-in-Err-clause-any : goal.returns-in-Err-clause-any
+returns-in-Err-clause-any g c =
+    declined (map (λ w. w.now) c.args.words.now) unknown c.in-Err.error (g.O.Sink.output c.args.out.now) (g.O.Sink.output c.answer.new.out) c.answer.result c.in-Err.ensures.kinds c.answer.ensures
+
+pub returns-in-Err-clause-told : goal.returns-in-Err-clause-told
+returns-in-Err-clause-told g c =
+    let old = g.O.Sink.output c.args.out.now in
+    let new = g.O.Sink.output c.answer.new.out in
+    all_told (g.R.Source.input c.args.input) (map (λ w. w.now) c.args.words.now) old new c.answer.result
+    (λ k. declined (map (λ w. w.now) c.args.words.now) k c.in-Err.error old new c.answer.result c.in-Err.ensures.kinds c.answer.ensures)

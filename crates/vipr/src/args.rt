@@ -1,0 +1,79 @@
+//! The command line, read by `clap`.
+ghost use Rattle.std.specs.Prelude.{◌≡◌, Some, IfErr, IfOk, IfSome, IsNone, true, false, map};
+ghost use Rattle.clap.specs.Words.{FailsBy, app_of, fault_of, kind_of, new_app, rule_of, takes, with_rule};
+ghost use Rattle.clap.specs.declared.builder.command.Command.TheViews.{out-Command as fields_of};
+ghost use Rattle.vipr.specs.Args.{asked, asked_by, file_rule, line, name_of};
+ghost use Rattle.vipr.specs.declared.task.Task.{Task};
+
+use crate::task::{Job, Task};
+use clap::error::ErrorKind;
+use clap::{Arg, Command, Error};
+use std::alloc::{AllocError, Global};
+
+/// Reads a command line, the program's name first.
+///
+/// The error is `clap`'s: help that was asked for, words that aren't taken, or want of memory.
+pub fn job<'a>(alloc: Global, words: &'a [&'a str]) -> Result<Job<'a>, Error>
+    ensures ok { IfOk result (λ j. asked_by (map (λ w. w.now) words.entry.now) ≡ Some (asked j)) }
+    ensures err { IfErr result (λ e. takes line (map (λ w. w.now) words.entry.now) ≡ true
+        → kind_of e ≡ ErrorKind.OutOfMemory) }
+    ensures kinds { FailsBy (fault_of line (map (λ w. w.now) words.entry.now)) result }
+{
+    let matches = command_line(alloc)?.try_get_matches_from(words)?;
+    let Some((name, inner)) = matches.subcommand() else {
+        unreachable!()
+    };
+    let Some(command) = task_named(name) else {
+        unreachable!()
+    };
+    Ok(Job {
+        command,
+        file: inner.get_str("file"),
+    })
+}
+
+fn task_named(name: &str) -> Option<Task>
+    ensures some { IfSome result (λ t. name_of t ≡ name.now) }
+    ensures none { IsNone result → (t : Task) → name_of t ≡ name.now → ⊥ }
+{
+    match name {
+        "check" => Some(Task::Check),
+        "show" => Some(Task::Show),
+        _ => None,
+    }
+}
+
+/// The program's commands and their arguments.
+fn command_line<'a>(alloc: Global) -> Result<Command<'a>, AllocError>
+    ensures { IfOk result (λ c. app_of c ≡ line) }
+{
+    let check = on_file(
+        alloc,
+        "check",
+        "Checks a certificate and prints the verdict",
+    )?;
+    let show = on_file(alloc, "show", "Writes a certificate's canonical text")?;
+    Command::new(alloc, "vipr")
+        .about("Checks VIPR 1.0 certificates")
+        .subcommand_required(true)
+        .disable_help_subcommand(true)
+        .subcommand(check)?
+        .subcommand(show)
+}
+
+/// A subcommand that reads FILE.
+fn on_file<'a>(alloc: Global, name: &'a str, about: &'a str) -> Result<Command<'a>, AllocError>
+    ensures app { IfOk result (λ c. app_of c ≡ with_rule (new_app name.entry.now) file_rule) }
+    ensures local { IfOk result (λ c. (fields_of c).has_globals ≡ false) }
+{
+    Command::new(alloc, name).about(about).arg(file(alloc))
+}
+
+fn file<'a>(alloc: Global) -> Arg<'a>
+    ensures rule { rule_of result ≡ file_rule }
+    ensures local { result.global ≡ false }
+{
+    Arg::new(alloc, "file")
+        .value_name("FILE")
+        .help("The certificate; standard input if absent")
+}

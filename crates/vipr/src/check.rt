@@ -1,0 +1,34 @@
+//! Checks a certificate and prints the verdict.
+ghost use Rattle.std.specs.Prelude.{◌≡◌};
+ghost use Rattle.vipr_text.specs.Whole.{IfTold};
+ghost use Rattle.vipr.specs.Run.{PrintsVerdict, known_by, status_for, unknown};
+
+use crate::fault::Fault;
+use crate::output::print;
+use crate::text::Lines;
+use std::alloc::Global;
+use vipr_bytes::{Sink, Source};
+use vipr_check::{Verdict, check};
+
+/// Prints the verdict on a certificate, and answers the exit status.
+pub fn print_verdict<R: Source + Drop, O: Sink>(
+    alloc: Global,
+    source: R,
+    out: &mut O,
+) -> Result<u8, Fault>
+    ensures any { PrintsVerdict unknown (O.output out.old) (O.output out.new) result }
+    ensures told { IfTold (R.input source) (λ i. PrintsVerdict (known_by i) (O.output out.old) (O.output out.new) result) }
+{
+    let verdict = check(alloc, source)?;
+    print(alloc, &Lines(&verdict), out)?;
+    Ok(status_of(&verdict))
+}
+
+fn status_of(verdict: &Verdict) -> u8
+    ensures { result ≡ status_for verdict.now }
+{
+    match verdict {
+        Verdict::Verified(_) => 0,
+        Verdict::Refused(_) => 1,
+    }
+}

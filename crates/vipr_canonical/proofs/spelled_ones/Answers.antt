@@ -1,6 +1,0 @@
-use Rattle.vipr_canonical.proofs.SpelledTokens.{short_tokens}
-use Rattle.vipr_canonical.proofs.SpelledSections.{can_write_spelled}
-use Rattle.vipr_canonical.proofs.spelled_ones.Goals as goal
-
-pub returns : goal.returns
-returns g text c s = can_write_spelled _ c (short_tokens text s.short) s

@@ -1,4 +1,0 @@
--- what the contracts cite
-pub mod Canonical
-pub mod Laws
-pub mod Example

@@ -1,0 +1,52 @@
+-- Lines and sections in the parts in which they are appended
+use Rattle.std.proofs.Common.{◌≡◌, ℕ, List, [], ◌∷◌, ◌++◌, length, map, append_assoc, sym, ap, ◌∙◌}
+use Rattle.std.specs.Prelude.{codes}
+use Rattle.std.specs.List.{flat_map}
+use Rattle.std.proofs.lemmas.List.{append-nil, length-map}
+use Rattle.std.proofs.lemmas.List.Folds.{flat_map-map}
+use Rattle.std.proofs.lemmas.Grind.{flat_map-append}
+use Rattle.vipr_spec.specs.Certificate.{Problem, Derivation, Certificate}
+use Rattle.vipr_spec.specs.Number.{number_text}
+use Rattle.vipr_write.specs.Canonical.{sense_word, constraint_words, reason_words, last_word, derivation_words, direction_word, vector_words, given_words, claim_words, variables_lines, problem_lines, solutions_lines, derivations_lines, certificate_lines, spaced, line_text, lines_text}
+use Rattle.vipr_write.specs.Lines.{words_text, constraints_heading, constraints_lines}
+
+spaced-append : (ws us : List (List ℕ)) → spaced (ws ++ us) ≡ spaced ws ++ spaced us
+spaced-append ws us = flat_map-append (λ w. 32 ∷ w) ws us
+
+lines_text-append : (ls ms : List (List (List ℕ))) → lines_text (ls ++ ms) ≡ lines_text ls ++ lines_text ms
+lines_text-append ls ms = flat_map-append line_text ls ms
+
+line_parts : (start name front back last : List ℕ) (ws us : List (List ℕ)) →
+    start ++ line_text ((name ∷ ws) ++ front ∷ (us ++ back ∷ last ∷ [])) ≡ (((((start ++ words_text (name ∷ ws)) ++ 32 ∷ front) ++ spaced us) ++ 32 ∷ back) ++ 32 ∷ last) ++ 10 ∷ []
+line_parts start name front back last ws us =
+    ap (λ t. start ++ (name ++ (t ++ 10 ∷ []))) (spaced-append ws (front ∷ (us ++ back ∷ last ∷ [])) ∙ ap (λ t. spaced ws ++ ((32 ∷ front) ++ t)) (spaced-append us (back ∷ last ∷ [])))
+    ∙ simp (append_assoc, append-nil)
+
+pub derivation_parts : (start : List ℕ) (d : Derivation) →
+    start ++ line_text (derivation_words d) ≡ (((((start ++ words_text (constraint_words d.name d.stated)) ++ codes " {") ++ spaced (reason_words d.reason)) ++ codes " }") ++ 32 ∷ last_word d.last) ++ codes "\n"
+derivation_parts start d = line_parts start d.name (codes "{") (codes "}") (last_word d.last) (sense_word d.stated.sense ∷ number_text d.stated.bound ∷ vector_words d.stated.row) (reason_words d.reason)
+
+section_parts : (start : List ℕ) (front cons : List (List (List ℕ))) (direction vector con claim : List (List ℕ)) →
+    start ++ lines_text (front ++ direction ∷ vector ∷ con ∷ (cons ++ claim ∷ [])) ≡ ((((start ++ lines_text front) ++ line_text direction) ++ line_text vector) ++ lines_text (con ∷ cons)) ++ line_text claim
+section_parts start front cons direction vector con claim =
+    ap (λ t. start ++ t) (lines_text-append front (direction ∷ vector ∷ con ∷ (cons ++ claim ∷ [])) ∙ ap (λ t. lines_text front ++ (line_text direction ++ (line_text vector ++ (line_text con ++ t)))) (lines_text-append cons (claim ∷ [])))
+    ∙ simp (append_assoc, append-nil)
+
+pub problem_parts : (start : List ℕ) (p : Problem) →
+    start ++ lines_text (problem_lines p) ≡
+    ((((start ++ lines_text (variables_lines p)) ++ line_text (codes "OBJ" ∷ direction_word p.direction ∷ [])) ++ line_text (vector_words p.objective)) ++ lines_text (constraints_lines p.constraints p.bound_count)) ++ line_text (claim_words p.claim)
+problem_parts start p = section_parts start (variables_lines p) (map given_words p.constraints) (codes "OBJ" ∷ direction_word p.direction ∷ []) (vector_words p.objective) (constraints_heading p.bound_count (length p.constraints)) (claim_words p.claim)
+
+three_parts : (ls ms ns : List (List (List ℕ))) → lines_text (ls ++ (ms ++ ns)) ≡ (lines_text ls ++ lines_text ms) ++ lines_text ns
+three_parts ls ms ns = lines_text-append ls (ms ++ ns) ∙ ap (λ t. lines_text ls ++ t) (lines_text-append ms ns) ∙ sym (append_assoc (lines_text ls) (lines_text ms) (lines_text ns))
+
+pub certificate_parts : (c : Certificate) → lines_text (certificate_lines c) ≡ (lines_text (problem_lines c.problem) ++ lines_text (solutions_lines c.solutions)) ++ lines_text (derivations_lines c.derivations)
+certificate_parts c = three_parts (problem_lines c.problem) (solutions_lines c.solutions) (derivations_lines c.derivations)
+
+-- a heading that says how many items there are, and a line for each of them
+pub headed : {X Y : Type 0} (start : List ℕ) (heading : ℕ → List (List ℕ)) (words : Y → List (List ℕ)) (view : X → Y) (xs : List X) →
+    start ++ lines_text (heading (length (map view xs)) ∷ map words (map view xs)) ≡ (start ++ line_text (heading (length xs))) ++ flat_map (λ x. line_text (words (view x))) xs
+headed start heading words view xs =
+    ap (λ n. start ++ (line_text (heading n) ++ lines_text (map words (map view xs)))) (length-map xs view)
+    ∙ ap (λ t. start ++ (line_text (heading (length xs)) ++ t)) (flat_map-map line_text words (map view xs) ∙ flat_map-map (λ y. line_text (words y)) view xs)
+    ∙ sym (append_assoc start (line_text (heading (length xs))) (flat_map (λ x. line_text (words (view x))) xs))

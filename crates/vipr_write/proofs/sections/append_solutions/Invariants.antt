@@ -1,0 +1,10 @@
+use Rattle.std.proofs.Common.{◌≡◌, ◌++◌, take}
+use Rattle.std.specs.List.{flat_map}
+use Rattle.vipr_linear.specs.declared.row.Solution.{Solution}
+use Rattle.vipr_write.specs.Canonical.{solution_words, line_text}
+use Rattle.vipr_items.specs.Items.{solution_of}
+use Rattle.vipr_items.specs.declared.items.Named.{Named}
+use Rattle.vipr_write.proofs.sections.append_solutions.Given as goal
+
+abbrev pub invariant-loop-solution : goal.invariant-loop-solution
+invariant-loop-solution l = l.text.items ≡ l.initial.text.items ++ flat_map (λ (s : Named Solution). line_text (solution_words (solution_of s))) (take l.solution-index l.solutions)

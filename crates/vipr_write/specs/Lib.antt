@@ -1,0 +1,6 @@
+-- what the contracts cite
+pub mod Canonical
+pub mod Laws
+pub mod Example
+pub mod Lines
+pub mod WrittenText

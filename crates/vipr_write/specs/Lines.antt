@@ -1,0 +1,22 @@
+-- Parts of the canonical text
+use Rattle.std.specs.Prelude.{ℕ, List, [], ◌∷◌, ◌++◌, length, map, codes}
+use Rattle.std.specs.Fmt.{decimal}
+use Rattle.vipr_spec.specs.Constraint.{Constraint}
+use Rattle.vipr_spec.specs.Certificate.{Named}
+use Rattle.vipr_write.specs.Canonical.{heading, given_words, spaced}
+
+-- a line without its line feed
+abbrev pub words_text : List (List ℕ) → List ℕ
+words_text [] = []
+words_text (w ∷ ws) = w ++ spaced ws
+
+-- how many integer variables there are, and then each of them
+abbrev pub integers_lines : List ℕ → List (List (List ℕ))
+integers_lines js = heading (codes "INT") (length js) ∷ map (λ j. decimal j ∷ []) js
+
+-- how many constraints there are, and how many of them are bounds
+abbrev pub constraints_heading : ℕ → ℕ → List (List ℕ)
+constraints_heading bound_count n = codes "CON" ∷ decimal n ∷ decimal bound_count ∷ []
+
+abbrev pub constraints_lines : List (Named Constraint) → ℕ → List (List (List ℕ))
+constraints_lines cs bound_count = constraints_heading bound_count (length cs) ∷ map given_words cs

@@ -1,0 +1,134 @@
+//! Lines.
+ghost use Rattle.std.specs.Prelude.{◌≡◌, ◌∷◌, ◌++◌, OnOk};
+ghost use Rattle.vipr_spec.specs.Certificate.{range, uns};
+ghost use Rattle.vipr_linear.specs.Constraint.{constraint_of};
+ghost use Rattle.vipr_write.specs.Canonical.{counted_words, constraint_words, given_words, claim_words, solution_words, reason_words, derivation_words, heading, spaced, line_text};
+ghost use Rattle.vipr_items.specs.Items.{named_of, solution_of, claim_of, reason_of, derivation_of};
+ghost use Rattle.vipr_write.specs.Lines.{words_text};
+
+use crate::words::{
+    append_bound, append_counted, append_index, append_last, append_number, append_sense,
+    append_word,
+};
+use std::alloc::AllocError;
+use vipr_frac::Frac;
+use vipr_items::{Claim, Derivation, Name, Named, Reason};
+use vipr_linear::{Constraint, Solution};
+
+/// A keyword and a count.
+pub(crate) fn append_heading(text: &mut Vec<u8>, keyword: &[u8], n: usize) -> Result<(), AllocError>
+    ensures { OnOk result (text.new.items ≡ text.old.items ++ line_text (heading keyword.now n)) }
+{
+    text.extend_from_slice(keyword)?;
+    append_index(text, n)?;
+    text.push(b'\n')?;
+    Ok(())
+}
+
+// The words of a constraint, with no line feed.
+fn append_stated(text: &mut Vec<u8>, name: &Name, constraint: &Constraint) -> Result<(), AllocError>
+    ensures { OnOk result (text.new.items ≡ text.old.items ++ words_text (constraint_words name.now (constraint_of constraint.now))) }
+{
+    text.extend_from_slice(name.as_bytes())?;
+    append_sense(text, constraint.sense)?;
+    append_number(text, &constraint.rhs)?;
+    append_counted(text, constraint.row.entries())
+}
+
+/// A constraint.
+pub(crate) fn append_constraint(
+    text: &mut Vec<u8>,
+    constraint: &Named<Constraint>,
+) -> Result<(), AllocError>
+    ensures { OnOk result (text.new.items ≡ text.old.items ++ line_text (given_words (named_of constraint_of constraint.now))) }
+{
+    append_stated(text, &constraint.name, &constraint.item)?;
+    text.push(b'\n')?;
+    Ok(())
+}
+
+// A claim of two bounds.
+fn append_range(
+    text: &mut Vec<u8>,
+    lower: Option<Frac>,
+    upper: Option<Frac>,
+) -> Result<(), AllocError>
+    ensures { OnOk result (text.new.items ≡ text.old.items ++ line_text (claim_words (range lower upper))) }
+{
+    text.extend_from_slice(b"RTP range")?;
+    append_bound(text, b"-inf", lower)?;
+    append_bound(text, b"inf", upper)?;
+    text.push(b'\n')?;
+    Ok(())
+}
+
+/// What is claimed.
+pub(crate) fn append_claim(text: &mut Vec<u8>, claim: Claim) -> Result<(), AllocError>
+    ensures { OnOk result (text.new.items ≡ text.old.items ++ line_text (claim_words (claim_of claim))) }
+{
+    match claim {
+        Claim::Infeas => text.extend_from_slice(b"RTP infeas\n"),
+        Claim::Range(lower, upper) => append_range(text, lower, upper),
+    }
+}
+
+/// A listed solution.
+pub(crate) fn append_solution(
+    text: &mut Vec<u8>,
+    solution: &Named<Solution>,
+) -> Result<(), AllocError>
+    ensures { OnOk result (text.new.items ≡ text.old.items ++ line_text (solution_words (solution_of solution.now))) }
+{
+    text.extend_from_slice(solution.name.as_bytes())?;
+    append_counted(text, solution.item.0.entries())?;
+    text.push(b'\n')?;
+    Ok(())
+}
+
+// The reason of a split.
+fn append_split(text: &mut Vec<u8>, i1: u32, l1: u32, i2: u32, l2: u32) -> Result<(), AllocError>
+    ensures { OnOk result (text.new.items ≡ text.old.items ++ spaced (reason_words (uns i1 l1 i2 l2))) }
+{
+    append_word(text, b"uns")?;
+    append_index(text, i1 as usize)?;
+    append_index(text, l1 as usize)?;
+    append_index(text, i2 as usize)?;
+    append_index(text, l2 as usize)
+}
+
+// The keyword and the entries of a sum.
+fn append_sum(text: &mut Vec<u8>, keyword: &[u8], entries: &[(u32, Frac)]) -> Result<(), AllocError>
+    ensures { OnOk result (text.new.items ≡ text.old.items ++ spaced (keyword.now ∷ counted_words entries.now)) }
+{
+    append_word(text, keyword)?;
+    append_counted(text, entries)
+}
+
+// Why a derived constraint holds.
+fn append_reason(text: &mut Vec<u8>, reason: &Reason) -> Result<(), AllocError>
+    ensures { OnOk result (text.new.items ≡ text.old.items ++ spaced (reason_words (reason_of reason.now))) }
+{
+    match reason {
+        Reason::Asm => append_word(text, b"asm"),
+        Reason::Lin(entries) => append_sum(text, b"lin", entries),
+        Reason::Rnd(entries) => append_sum(text, b"rnd", entries),
+        Reason::Uns { i1, l1, i2, l2 } => append_split(text, *i1, *l1, *i2, *l2),
+        Reason::Sol => append_word(text, b"sol"),
+    }
+}
+
+/// A derivation.
+pub(crate) fn append_derivation(
+    text: &mut Vec<u8>,
+    derivation: &Derivation,
+) -> Result<(), AllocError>
+    ensures { OnOk result (text.new.items ≡ text.old.items ++ line_text (derivation_words (derivation_of derivation.now))) }
+{
+    append_stated(text, &derivation.name, &derivation.constraint)?;
+    append_word(text, b"{")?;
+    append_reason(text, &derivation.reason)?;
+    append_word(text, b"}")?;
+    append_last(text, derivation.last)?;
+    text.push(b'\n')?;
+    Ok(())
+}

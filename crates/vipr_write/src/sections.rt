@@ -1,0 +1,152 @@
+//! The sections of a certificate.
+ghost use Rattle.std.specs.Prelude.{◌≡◌, ◌∷◌, ◌++◌, [], map, codes, OnOk, IfOk};
+ghost use Rattle.std.specs.Fmt.{decimal};
+ghost use Rattle.vipr_spec.specs.Grammar.{SpellsOnly};
+ghost use Rattle.vipr_linear.specs.Constraint.{constraint_of};
+ghost use Rattle.vipr_write.specs.Canonical.{direction_word, vector_words, variables_lines, problem_lines, solutions_lines, derivations_lines, line_text, lines_text, canonical_text};
+ghost use Rattle.vipr_items.specs.Items.{named_of, direction_of, solution_of, derivation_of};
+ghost use Rattle.vipr_write.specs.Lines.{integers_lines, constraints_heading, constraints_lines};
+
+use crate::lines::{
+    append_claim, append_constraint, append_derivation, append_heading, append_solution,
+};
+use crate::words::{append_decimal, append_index, append_pairs};
+use std::alloc::{AllocError, Global};
+use vipr_items::{Certificate, Derivation, Goal, Name, Named, Problem};
+use vipr_linear::{Constraint, Row, Solution};
+
+// The names, each on its line.
+fn append_names(text: &mut Vec<u8>, names: &[Name]) -> Result<(), AllocError>
+    ensures { OnOk result (text.new.items ≡ text.old.items ++ lines_text (map (λ name. name ∷ []) names.now)) }
+{
+    for name in names {
+        text.extend_from_slice(name.as_bytes())?;
+        text.push(b'\n')?;
+    }
+    Ok(())
+}
+
+// The indices, each on its line.
+fn append_indices(text: &mut Vec<u8>, indices: &[u32]) -> Result<(), AllocError>
+    ensures { OnOk result (text.new.items ≡ text.old.items ++ lines_text (map (λ j. decimal j ∷ []) indices.now)) }
+{
+    for index in indices {
+        append_decimal(text, *index as usize)?;
+        text.push(b'\n')?;
+    }
+    Ok(())
+}
+
+// How many integer variables there are, and each of them.
+fn append_integers(text: &mut Vec<u8>, indices: &[u32]) -> Result<(), AllocError>
+    ensures { OnOk result
+        (text.new.items ≡ text.old.items ++ lines_text (integers_lines indices.now)) }
+{
+    append_heading(text, b"INT", indices.len())?;
+    append_indices(text, indices)
+}
+
+// The version, the variables, and which of them are integer.
+fn append_variables(text: &mut Vec<u8>, problem: &Problem) -> Result<(), AllocError>
+    ensures { OnOk result (text.new.items ≡ text.old.items ++ lines_text (variables_lines problem.now)) }
+{
+    let names = problem.names();
+    text.extend_from_slice(b"VER 1.0\n")?;
+    append_heading(text, b"VAR", names.len())?;
+    append_names(text, names)?;
+    append_integers(text, problem.integer_variables())
+}
+
+// The line of the objective's direction.
+fn append_goal(text: &mut Vec<u8>, sense: Goal) -> Result<(), AllocError>
+    ensures { OnOk result (text.new.items ≡ text.old.items ++ line_text (codes "OBJ" ∷ direction_word (direction_of sense) ∷ [])) }
+{
+    match sense {
+        Goal::Min => text.extend_from_slice(b"OBJ min\n"),
+        Goal::Max => text.extend_from_slice(b"OBJ max\n"),
+    }
+}
+
+// The coefficients of the objective.
+fn append_coefficients(text: &mut Vec<u8>, row: &Row) -> Result<(), AllocError>
+    ensures { OnOk result (text.new.items ≡ text.old.items ++ line_text (vector_words row.now)) }
+{
+    let entries = row.entries();
+    append_decimal(text, entries.len())?;
+    append_pairs(text, entries)?;
+    text.push(b'\n')?;
+    Ok(())
+}
+
+// How many constraints there are, and how many of them are bounds.
+fn append_counts(text: &mut Vec<u8>, count: usize, bound_count: usize) -> Result<(), AllocError>
+    ensures { OnOk result (text.new.items ≡ text.old.items ++ line_text (constraints_heading bound_count count)) }
+{
+    text.extend_from_slice(b"CON")?;
+    append_index(text, count)?;
+    append_index(text, bound_count)?;
+    text.push(b'\n')?;
+    Ok(())
+}
+
+// The constraints, with how many of them are bounds.
+fn append_constraints(
+    text: &mut Vec<u8>,
+    cons: &[Named<Constraint>],
+    bound_count: u32,
+) -> Result<(), AllocError>
+    ensures { OnOk result (text.new.items ≡ text.old.items ++ lines_text (constraints_lines (map (named_of constraint_of) cons.now) bound_count)) }
+{
+    append_counts(text, cons.len(), bound_count as usize)?;
+    for constraint in cons {
+        append_constraint(text, constraint)?;
+    }
+    Ok(())
+}
+
+// What a certificate is about.
+fn append_problem(text: &mut Vec<u8>, problem: &Problem) -> Result<(), AllocError>
+    ensures { OnOk result (text.new.items ≡ text.old.items ++ lines_text (problem_lines problem.now)) }
+{
+    append_variables(text, problem)?;
+    append_goal(text, problem.sense())?;
+    append_coefficients(text, problem.objective())?;
+    append_constraints(text, problem.cons(), problem.bound_count())?;
+    append_claim(text, problem.claim())
+}
+
+// The listed solutions.
+fn append_solutions(text: &mut Vec<u8>, solutions: &[Named<Solution>]) -> Result<(), AllocError>
+    ensures { OnOk result (text.new.items ≡ text.old.items ++ lines_text (solutions_lines (map solution_of solutions.now))) }
+{
+    append_heading(text, b"SOL", solutions.len())?;
+    for solution in solutions {
+        append_solution(text, solution)?;
+    }
+    Ok(())
+}
+
+// The derivations.
+fn append_derivations(text: &mut Vec<u8>, derivations: &[Derivation]) -> Result<(), AllocError>
+    ensures { OnOk result (text.new.items ≡ text.old.items ++ lines_text (derivations_lines (map derivation_of derivations.now))) }
+{
+    append_heading(text, b"DER", derivations.len())?;
+    for derivation in derivations {
+        append_derivation(text, derivation)?;
+    }
+    Ok(())
+}
+
+/// The canonical text, which spells the certificate and no other.
+#[tactic(auto, using(crate::proofs::WholeText::canonical_spells))]
+pub(crate) fn text_of(alloc: Global, certificate: &Certificate) -> Result<Vec<u8>, AllocError>
+    ensures text { IfOk result (λ text. text.items ≡ canonical_text certificate.now) }
+    ensures law { SpellsOnly (canonical_text certificate.now) certificate.now }
+{
+    let derivations = certificate.derivations();
+    let mut text = Vec::new(alloc);
+    append_problem(&mut text, certificate.problem())?;
+    append_solutions(&mut text, certificate.solutions())?;
+    append_derivations(&mut text, derivations)?;
+    Ok(text)
+}

@@ -1,3 +1,0 @@
-pub mod Appended
-pub mod Handed
-pub mod Parts

@@ -1,3 +1,0 @@
--- what the contracts cite
-pub mod Lines
-pub mod Written
