@@ -234,21 +234,23 @@ def text():
         total += lines
         sizes.append((number, title, len(part), lines, total))
         body.append('## %d. %s\n\n%s\n' % (number, title, what))
-        file = None
-        for d in part:
-            where = os.path.relpath(d.path, CRATES)
-            if where != file:
-                file = where
-                body.append('### `%s`\n' % where)
-            if d.comment:
-                body.append(d.comment[0].upper() + d.comment[1:] + ('' if d.comment.endswith(('.', ':')) else '.') + '\n')
-            body.append('```text\n%s\n```\n' % '\n'.join(d.lines))
-            example = next((shown[n] for n in d.names if n in shown), None)
-            used |= {n for n in d.names if n in shown}
-            if example:
-                body.append('*Example.* %s\n' % example)
-            else:
-                without.append('%s (%s)' % (d.names[0], where))
+        for where in list(dict.fromkeys(os.path.relpath(d.path, CRATES) for d in part)):
+            here = [d for d in part if os.path.relpath(d.path, CRATES) == where]
+            body.append('### `%s`\n' % where)
+            if all(re.match(r'abbrev pub \S+ : ℕ$', d.lines[0]) and len(d.lines) == 2 for d in here) and len(here) > 5:
+                body.append('```text\n%s\n```\n' % '\n'.join(l for d in here for l in (['-- ' + d.comment] if d.comment else []) + d.lines))
+                body.append('*Example.* %s\n' % shown.get(os.path.basename(where), 'The table in [FORMAT.md](FORMAT.md) says when each comes.'))
+                continue
+            for d in here:
+                if d.comment:
+                    body.append(d.comment[0].upper() + d.comment[1:] + ('' if d.comment.endswith(('.', ':')) else '.') + '\n')
+                body.append('```text\n%s\n```\n' % '\n'.join(d.lines))
+                example = next((shown[n] for n in d.names if n in shown), None)
+                used |= {n for n in d.names if n in shown}
+                if example:
+                    body.append('*Example.* %s\n' % example)
+                else:
+                    without.append('%s (%s)' % (d.names[0], where))
     out.append('| Part | Definitions | Lines | Lines up to here |\n|---|---|---|---|')
     out += ['| %d. %s | %d | %d | %d |' % s for s in sizes]
     out.append('\nLines are counted without comments and imports. The words of the standard library that the definitions '
