@@ -1,0 +1,269 @@
+#!/usr/bin/env python3
+"""Checks how the repository is built, from its text alone: what no prover checks and each reader relies on.
+
+usage: tests/house.py [--write]
+
+Prints the place of each fault, and last `house: N checks, F failed`; the exit status is 1 where one failed.
+--write brings the crate graph of docs/ARCHITECTURE.md and docs/STATEMENT.md up to date first.
+"""
+import collections
+import os
+import re
+import subprocess
+import sys
+
+ROOT = os.path.dirname(os.path.dirname(os.path.abspath(__file__)))
+CRATES = os.path.join(ROOT, 'crates')
+WIDTH = 100
+LENGTH = 800
+# words that name the model of a type, one in each crate that has such a type
+MODEL_WORDS = {'view', 'coded', 'Value'}
+
+
+def read(path):
+    with open(path, encoding='utf-8') as f:
+        return f.read()
+
+
+def shown(path):
+    return os.path.relpath(path, ROOT)
+
+
+def crates():
+    """crates.txt: each crate with what it depends on."""
+    out = {}
+    for line in read(os.path.join(ROOT, 'crates.txt')).split('\n'):
+        line = line.split('#')[0].strip()
+        if line:
+            head, _, deps = line.partition(':')
+            out[head.split()[0]] = deps.split()
+    return out
+
+
+def files(parts, ends):
+    for crate in sorted(os.listdir(CRATES)):
+        for part in parts:
+            for folder, subfolders, names in os.walk(os.path.join(CRATES, crate, part)):
+                subfolders.sort()
+                for name in sorted(names):
+                    if name.endswith(ends):
+                        yield crate, part, os.path.join(folder, name)
+
+
+def is_test(path):
+    return any(piece.startswith('tests') for piece in shown(path).split(os.sep))
+
+
+# ---- the checks: each gives the places of its faults
+
+def foreign_proofs():
+    """A crate cites another one's lemmas through its table `proofs.Laws` alone."""
+    names = set(os.listdir(CRATES))
+    for crate, part, path in files(('specs', 'proofs', 'src'), ('.antt', '.rt')):
+        for n, line in enumerate(read(path).split('\n'), 1):
+            for m in re.finditer(r'\bRattle\.(\w+)\.proofs\b(?!\.Laws\b)|\b(\w+)::proofs::(?!Laws\b)', line):
+                other = m[1] or m[2]
+                if other in names and other != crate:
+                    yield '%s:%d: names the proofs of %s' % (shown(path), n, other)
+
+
+def private_lemmas():
+    """Of a crate's lemma files the table of its laws alone is public."""
+    for crate in sorted(os.listdir(CRATES)):
+        lib = os.path.join(CRATES, crate, 'proofs', 'Lib.antt')
+        if os.path.isfile(lib):
+            for n, line in enumerate(read(lib).split('\n'), 1):
+                m = re.match(r'pub mod (\w+)', line)
+                if m and m[1] != 'Laws':
+                    yield '%s:%d: %s is public' % (shown(lib), n, m[1])
+
+
+DEFINED = re.compile(r'^(?:unfoldable |abbrev )?pub (?:abbrev |record |data )?([^\s:({]+)'
+                     r'|^(?:abbrev|unfoldable|record|data) (?:pub )?([^\s:({]+)')
+
+
+def names_twice():
+    """One word, one meaning: a name is defined in one spec file."""
+    places = collections.defaultdict(list)
+    for crate, part, path in files(('specs',), ('.antt',)):
+        here = set()
+        for n, line in enumerate(read(path).split('\n'), 1):
+            m = DEFINED.match(line)
+            name = m and (m[1] or m[2])
+            if name and name not in ('use', 'mod', 'open', 'ruleset') and name not in MODEL_WORDS and name not in here:
+                here.add(name)
+                places[name].append('%s:%d' % (shown(path), n))
+    for name in sorted(places):
+        if len(places[name]) > 1:
+            yield '%s is defined %d times: %s' % (name, len(places[name]), ', '.join(places[name]))
+
+
+def long_lines():
+    """Lines of src and specs have at most 100 columns, but for tests, long strings, and what rt fmt joins."""
+    for crate, part, path in files(('src', 'specs'), ('.rt', '.antt')):
+        if is_test(path):
+            continue
+        for n, line in enumerate(read(path).split('\n'), 1):
+            string = max([len(s) for s in re.findall(r'"(?:[^"\\]|\\.)*"', line)] + [0])
+            if len(line) > WIDTH and string <= 60 and not re.match(r'\s*#!?\[tactic\(', line):
+                yield '%s:%d: %d columns' % (shown(path), n, len(line))
+
+
+def long_files():
+    """A source file has at most 800 lines."""
+    found = [path for _, _, path in files(('src', 'specs', 'proofs'), ('.rt', '.antt'))]
+    found += [os.path.join(ROOT, part, name) for part in ('tests', 'bench') if os.path.isdir(os.path.join(ROOT, part))
+              for name in sorted(os.listdir(os.path.join(ROOT, part))) if name.endswith('.py')]
+    for path in found:
+        lines = read(path).count('\n')
+        if lines > LENGTH:
+            yield '%s: %d lines' % (shown(path), lines)
+
+
+GRAPH = ('<!-- crate graph: written by `tests/house.py --write` from crates.txt -->', '<!-- end of the crate graph -->')
+
+
+def crate_graph():
+    """The graph as docs/ARCHITECTURE.md has it: by level, each crate with the crates directly below it."""
+    all_deps = crates()
+    own = {c: [d for d in deps if d in all_deps] for c, deps in all_deps.items()}
+    others = {c: [d for d in deps if d not in all_deps] for c, deps in all_deps.items()}
+    below, level = {}, {}
+
+    def walk(crate):
+        if crate not in below:
+            below[crate] = set()
+            for d in own[crate]:
+                below[crate] |= {d} | walk(d)
+            level[crate] = 1 + max([level[d] for d in own[crate]] + [-1])
+        return below[crate]
+    for crate in own:
+        walk(crate)
+    width = max(len(c) for c in own)
+    rows = []
+    for crate in sorted(own, key=lambda c: (level[c], c)):
+        direct = [d for d in sorted(own[crate]) if not any(d in below[e] for e in own[crate] if e != d)]
+        kit = ' + ' + ' '.join(others[crate]) if others[crate] else ''
+        rows.append(('%d  %s  %s%s' % (level[crate], crate.ljust(width), ' '.join(direct), kit)).rstrip())
+    return '\n'.join([GRAPH[0], '```text'] + rows + ['```', GRAPH[1]])
+
+
+def graph_is_current():
+    """The crate graph of docs/ARCHITECTURE.md is that of crates.txt, and its table names each crate once."""
+    text = read(os.path.join(ROOT, 'docs', 'ARCHITECTURE.md'))
+    if crate_graph() not in text:
+        yield 'docs/ARCHITECTURE.md: the crate graph is not that of crates.txt (tests/house.py --write)'
+    for crate in crates():
+        rows = len(re.findall(r'^\| `%s` \|' % crate, text, re.M))
+        if rows != 1:
+            yield 'docs/ARCHITECTURE.md: %s has %d rows in the table of crates' % (crate, rows)
+    for crate in re.findall(r'^\| `(vipr\w*)` \|', text, re.M):
+        if crate not in crates():
+            yield 'docs/ARCHITECTURE.md: there is no crate %s' % crate
+
+
+def crates_are_there():
+    """crates.txt lists the folders of crates/, and no more."""
+    listed, there = set(crates()), {d for d in os.listdir(CRATES) if os.path.isdir(os.path.join(CRATES, d, 'src'))}
+    for crate in sorted(listed ^ there):
+        yield '%s is %s' % (crate, 'not in crates.txt' if crate in there else 'not in crates/')
+
+
+def statement_is_current():
+    """docs/STATEMENT.md is what tests/statement.py makes of the spec files."""
+    out = subprocess.run([sys.executable, os.path.join(ROOT, 'tests', 'statement.py'), '--check'], capture_output=True, text=True, check=False)
+    if out.returncode:
+        yield (out.stdout + out.stderr).strip().split('\n')[-1]
+
+
+def snake(name):
+    return re.sub(r'(?<=[a-z0-9])(?=[A-Z])', '_', name).lower()
+
+
+def causes_agree():
+    """The causes have the same numbers and names in docs/FORMAT.md, in specs/Causes.antt and in code."""
+    page = {int(n): (name, text) for n, name, text in
+            re.findall(r'^\| (\d+) \| ([A-Z]\w*) \| ([^|]+?) \|', read(os.path.join(ROOT, 'docs', 'FORMAT.md')), re.M)}
+    spec = read(os.path.join(CRATES, 'vipr_spec', 'specs', 'Causes.antt'))
+    defined = {int(n): name for name, n in re.findall(r'^([a-z]\w*) = (\d+)$', spec, re.M)}
+    code, said = {}, {}
+    for crate, part, path in files(('src',), ('.rt',)):
+        if re.match(r'causes?\.rt$', os.path.basename(path)):
+            text = read(path)
+            for lead, name, n in re.findall(r'((?:^///[^\n]*\n)*)^pub const ([A-Z_]+): u8 = (\d+);', text, re.M):
+                if int(n) in code:
+                    yield '%s: %s: cause %s stands twice in code' % (shown(path), name, n)
+                code[int(n)] = name
+                if not lead:
+                    yield '%s: %s has no line that says what it is' % (shown(path), name)
+            constant = {name: int(n) for name, n in re.findall(r'pub const ([A-Z_]+): u8 = (\d+);', text)}
+            for arm, word in re.findall(r'^\s*([A-Z_]+|\d+) => (?:Some\()?b?"([A-Z]\w*)"', text, re.M):
+                said[int(arm) if arm.isdigit() else constant.get(arm, arm)] = word
+    numbers = sorted(set(page) | set(defined) | set(code))
+    for n in numbers:
+        name = page.get(n, ('', ''))[0]
+        if not name:
+            yield 'docs/FORMAT.md: no row for cause %d' % n
+        if defined.get(n) != snake(name):
+            yield 'Causes.antt: cause %d is %s, in docs/FORMAT.md %s' % (n, defined.get(n), name)
+        if code.get(n, '').lower() != snake(name):
+            yield 'code: cause %d is %s, in docs/FORMAT.md %s' % (n, code.get(n), name)
+        if said and said.get(n) != name:
+            yield 'code: cause %d is called %s, in docs/FORMAT.md %s' % (n, said.get(n), name)
+    spelled = dict((int(n), w) for n, w in re.findall(r'^cause_name (\d+) = (?:Some \()?codes "(\w+)"', spec, re.M))
+    for n in numbers:
+        if spelled and spelled.get(n) != page.get(n, ('', ''))[0]:
+            yield 'Causes.antt: cause %d is called %s, in docs/FORMAT.md %s' % (n, spelled.get(n), page.get(n, ('', ''))[0])
+
+
+def edits_stand():
+    """The `old:` text of each must-fail edit stands once in its file."""
+    for crate, part, path in files(('must-fail',), ('.edit',)):
+        state, file, old = {}, None, None
+        for n, line in enumerate(read(path).split('\n'), 1):
+            if line.startswith('file: '):
+                file = line[6:].strip()
+                full = os.path.join(CRATES, crate, file)
+                if file not in state and os.path.isfile(full):
+                    state[file] = read(full)
+                if file not in state:
+                    yield '%s:%d: no file %s' % (shown(path), n, file)
+            elif line.startswith('old: '):
+                old = line[5:]
+                count = state.get(file, '').count(old)
+                if count != 1:
+                    yield '%s:%d: stands %d times in %s' % (shown(path), n, count, file)
+            elif line.startswith('new:') and old is not None and file in state:
+                state[file] = state[file].replace(old, line[5:], 1)
+                old = None
+
+
+CHECKS = [foreign_proofs, private_lemmas, names_twice, long_lines, long_files, crates_are_there, graph_is_current,
+          statement_is_current, causes_agree, edits_stand]
+
+
+def write():
+    path = os.path.join(ROOT, 'docs', 'ARCHITECTURE.md')
+    text = read(path)
+    new = re.sub(re.escape(GRAPH[0]) + r'(?:.|\n)*?' + re.escape(GRAPH[1]), lambda m: crate_graph(), text)
+    with open(path, 'w', encoding='utf-8') as f:
+        f.write(new)
+    subprocess.run([sys.executable, os.path.join(ROOT, 'tests', 'statement.py')], check=True)
+
+
+def main():
+    if '--write' in sys.argv:
+        write()
+    failed = 0
+    for check in CHECKS:
+        faults = list(check())
+        failed += bool(faults)
+        for fault in faults:
+            print(fault)
+        if faults:
+            print('FAILED (%d): %s' % (len(faults), check.__doc__))
+    print('house: %d checks, %d failed' % (len(CHECKS), failed))
+    return 1 if failed else 0
+
+
+sys.exit(main())
