@@ -21,7 +21,8 @@ pub trait Sink {
         requires { 0 < length bytes.now }
         ensures count { IfOk result (λ n. n ≤ length bytes.now) }
         ensures taken { IfSome (output self.old) (λ o. Writes o (output self.new) result bytes.now) }
-        ensures failed { IfSome (failures self.old) (λ n. failures self.new ≡ Some (n + failure_of result)) };
+        ensures failed { IfSome (failures self.old)
+            (λ n. failures self.new ≡ Some (n + failure_of result)) };
 }
 
 /// Writes to a writer of std. It tells what that took where the writer does, and never how much room is left.

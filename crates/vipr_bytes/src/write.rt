@@ -1,5 +1,5 @@
 //! Hands bytes to a sink.
-ghost use Rattle.std.specs.Prelude.{◌≡◌, ◌<◌, length, IfErr, IfSome};
+ghost use Rattle.std.specs.Prelude.{◌<◌, length, IfErr, IfSome};
 ghost use Rattle.vipr_bytes.specs.Written.{Wrote, EndsAtFailure};
 
 use crate::sink::Sink;
@@ -17,9 +17,11 @@ pub struct WriteFailed {
 ///
 /// Where a write fails or takes nothing, and the sink is asked no more.
 pub fn write_bytes<W: Sink>(sink: &mut W, bytes: &[u8]) -> Result<(), WriteFailed>
-    ensures output { IfSome (W.output sink.old) (λ o. Wrote o (W.output sink.new) bytes.now result) }
+    ensures output { IfSome (W.output sink.old)
+        (λ o. Wrote o (W.output sink.new) bytes.now result) }
     ensures part { IfErr result (λ e. e.taken < length bytes.now) }
-    ensures failures { IfSome (W.failures sink.old) (λ n. EndsAtFailure n (W.failures sink.new) result) }
+    ensures failures { IfSome (W.failures sink.old)
+        (λ n. EndsAtFailure n (W.failures sink.new) result) }
 {
     let mut taken = 0;
     while taken < bytes.len() {

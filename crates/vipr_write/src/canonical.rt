@@ -4,8 +4,8 @@ ghost use Rattle.vipr_write.specs.Canonical.{canonical_text};
 ghost use Rattle.vipr_write.specs.Example.{example, example_text};
 ghost use Rattle.vipr_write.specs.Laws.{SpellsItself, CanWriteSpelled};
 
-/// The canonical text of a certificate within the limits of the format spells that certificate and no
-/// other.
+/// The canonical text of a certificate within the limits of the format spells that certificate and
+/// no other.
 pub fn canonical_texts()
     ensures { SpellsItself }
 {}

@@ -1,8 +1,8 @@
 //! Writes the canonical text of a certificate. That it spells the certificate and no other is a law
 //! of its definition, which stands in `specs/`.
 //!
-//! The whole text is made first, so that want of memory comes before the first byte. Then it is handed
-//! to the sink, until that took all of it.
+//! The whole text is made first, so that want of memory comes before the first byte. Then it is
+//! handed to the sink, until that took all of it.
 #![tactic(auto)]
 
 mod canonical;

@@ -1,7 +1,6 @@
 //! Writes the canonical text of a certificate.
 ghost use Rattle.std.specs.Prelude.{◌≡◌, IfErr, IfSome};
 ghost use Rattle.vipr_spec.specs.Grammar.{SpellsOnly};
-ghost use Rattle.vipr_bytes.specs.Written.{EndsAtFailure};
 ghost use Rattle.vipr_write.specs.Canonical.{canonical_text};
 ghost use Rattle.vipr_write.specs.WrittenText.{WroteText, IsWithin, LeavesFailures, write_error};
 
@@ -13,8 +12,8 @@ use vipr_items::Certificate;
 
 /// Why a certificate was not written whole. Exactly the first `taken` bytes of its text were taken.
 ///
-/// The whole text is made before its first byte is written, so it is shorter than 2^64 bytes, and the
-/// number is exact.
+/// The whole text is made before its first byte is written, so it is shorter than 2^64 bytes, and
+/// the number is exact.
 #[derive(Clone, Copy, Debug, PartialEq, Eq, Error)]
 pub enum WriteError {
     /// A write failed or took nothing.

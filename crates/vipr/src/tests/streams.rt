@@ -106,8 +106,8 @@ fn writes_fail(rt: HostRuntime) -> Result<(), Fail> {
     Ok(())
 }
 
-/// Gives or takes one byte a call, is interrupted at one call, and goes on at the next. It counts its
-/// calls.
+/// Gives or takes one byte a call, is interrupted at one call, and goes on at the next. It counts
+/// its calls.
 #[derive(Drop)]
 struct Interrupted<T> {
     inner: T,
