@@ -176,6 +176,14 @@ def statement_is_current():
         yield (out.stdout + out.stderr).strip().split('\n')[-1]
 
 
+def examples_are_there():
+    """Each definition that docs/STATEMENT.md quotes has an example in tests/statement_examples.md."""
+    out = subprocess.run([sys.executable, os.path.join(ROOT, 'tests', 'statement.py'), '--missing'], capture_output=True, text=True, check=False)
+    for line in out.stdout.split('\n'):
+        if line.startswith('no example: '):
+            yield line
+
+
 def snake(name):
     return re.sub(r'(?<=[a-z0-9])(?=[A-Z])', '_', name).lower()
 
@@ -239,7 +247,7 @@ def edits_stand():
 
 
 CHECKS = [foreign_proofs, private_lemmas, names_twice, long_lines, long_files, crates_are_there, graph_is_current,
-          statement_is_current, causes_agree, edits_stand]
+          statement_is_current, examples_are_there, causes_agree, edits_stand]
 
 
 def write():
