@@ -5,7 +5,8 @@ use Rattle.std.specs.FinSet as set
 use Rattle.std.specs.Ordering.{nat_cmp}
 use Rattle.vipr_spec.specs.Fraction.{ℚ, over, whole, zero_ℚ}
 use Rattle.vipr_spec.specs.Constraint.{at_most, at_least, Row}
-use Rattle.vipr_spec.specs.Certificate.{minimum, maximum, infeasible, range, asm, lin, rnd, uns, sol}
+use Rattle.vipr_spec.specs.Certificate.{minimum, maximum, infeasible, range, asm, lin, rnd, uns}
+use Rattle.vipr_spec.specs.Certificate.{sol}
 use Rattle.vipr_spec.specs.Certificate.{Problem, Certificate}
 
 -- the row of the first variable
@@ -14,30 +15,6 @@ row = insert empty 0 (whole (pos 1))
 
 unfoldable pub both : List (ℕ × ℚ)
 both = (0, whole (pos 1)) ∷ (1, whole (negsuc 0)) ∷ []
-
--- x ≥ 1 and x ≤ 0 have no point: their difference is 0 ≥ 1
-abbrev pub example : Certificate
-example = record {
-  problem = record {
-    names = [] ∷ [];
-    integers = empty;
-    direction = minimum;
-    objective = empty;
-    constraints = record { name = []; item = record { row = row; sense = at_least; bound = whole (pos 1) } } ∷ record { name = []; item = record { row = row; sense = at_most; bound = zero_ℚ } } ∷ [];
-    bound_count = 0;
-    claim = infeasible;
-  };
-  solutions = [];
-  derivations = record { name = []; stated = record { row = empty; sense = at_least; bound = whole (pos 1) }; reason = lin both; last = None } ∷ [];
-}
-
--- no constraints; that they have no point rests on the assumption 0 ≥ 1
-abbrev pub assumed : Certificate
-assumed = record {
-  problem = record { names = [] ∷ []; integers = empty; direction = minimum; objective = empty; constraints = []; bound_count = 0; claim = infeasible };
-  solutions = [];
-  derivations = record { name = []; stated = record { row = empty; sense = at_least; bound = whole (pos 1) }; reason = asm; last = None } ∷ [];
-}
 
 -- x ≥ 1 and x ≤ 0 of one variable, with no point
 abbrev pub apart : Problem
@@ -51,6 +28,40 @@ apart = record {
       ∷ record { name = []; item = record { row = row; sense = at_most; bound = zero_ℚ } } ∷ [];
   bound_count = 0;
   claim = infeasible;
+}
+
+-- their difference is 0 ≥ 1
+abbrev pub example : Certificate
+example = record {
+  problem = apart;
+  solutions = [];
+  derivations = record {
+    name = [];
+    stated = record { row = empty; sense = at_least; bound = whole (pos 1) };
+    reason = lin both;
+    last = None;
+  } ∷ [];
+}
+
+-- no constraints; that they have no point rests on the assumption 0 ≥ 1
+abbrev pub assumed : Certificate
+assumed = record {
+  problem = record {
+    names = [] ∷ [];
+    integers = set.empty;
+    direction = minimum;
+    objective = empty;
+    constraints = [];
+    bound_count = 0;
+    claim = infeasible;
+  };
+  solutions = [];
+  derivations = record {
+    name = [];
+    stated = record { row = empty; sense = at_least; bound = whole (pos 1) };
+    reason = asm;
+    last = None;
+  } ∷ [];
 }
 
 -- constraint 2 is dropped at step 2, and step 3 refers to it
@@ -82,7 +93,10 @@ too_large = record {
     direction = minimum;
     objective = empty;
     constraints =
-        record { name = []; item = record { row = empty; sense = at_least; bound = whole (pos (2 ^ 126)) } } ∷ [];
+        record {
+          name = [];
+          item = record { row = empty; sense = at_least; bound = whole (pos (2 ^ 126)) };
+        } ∷ [];
     bound_count = 0;
     claim = infeasible;
   };
@@ -102,9 +116,9 @@ twice = insert empty 0 (whole (pos 2))
 unfoldable pub first_variable : set.FinSet nat_cmp
 first_variable = set.insert set.empty 0
 
--- max x, where x is whole and 2 x ≤ 3: it is 1. Half of the constraint is rounded to x ≤ 1, which the
--- branches x ≤ 0 and x ≥ 1 then give once more; the listed solution x = 1 gives x ≥ 1. Constraint 1
--- is dropped at the last step that refers to it.
+-- max x, where x is whole and 2 x ≤ 3: it is 1. Half of the constraint is rounded to x ≤ 1, which
+-- the branches x ≤ 0 and x ≥ 1 then give once more; the listed solution x = 1 gives x ≥ 1.
+-- Constraint 1 is dropped at the last step that refers to it.
 abbrev pub optimum : Certificate
 optimum = record {
   problem = record {
@@ -113,7 +127,10 @@ optimum = record {
     direction = maximum;
     objective = row;
     constraints =
-        record { name = []; item = record { row = twice; sense = at_most; bound = whole (pos 3) } } ∷ [];
+        record {
+          name = [];
+          item = record { row = twice; sense = at_most; bound = whole (pos 3) };
+        } ∷ [];
     bound_count = 0;
     claim = range (Some (whole (pos 1))) (Some (whole (pos 1)));
   };
