@@ -4,10 +4,10 @@ use Rattle.std.specs.Prelude.{◌↔◌}
 use Rattle.vipr_spec.specs.Fraction.{ℚ}
 use Rattle.vipr_spec.specs.Constraint.{Profile, Row, condition}
 use Rattle.vipr_spec.specs.Certificate.{Named, Problem, Derivation, Certificate, Known, known_at, MeetsPrimal, count}
-use Rattle.vipr_spec.specs.Reading.{Rest, Fault, ◌>>=◌, problem_read, solution_read, derivations_read, derivation_read, end_read}
-use Rattle.vipr_spec.specs.Steps.{with_more, with_next, before, StepTest, PassesStep, step_tests, FirstFailing, StepDetail, Shows}
+use Rattle.vipr_spec.specs.Reading.{Rest, Fault, problem_read, solution_read, derivations_read, derivation_read, end_read}
+use Rattle.vipr_spec.specs.Steps.{with_more, with_next, StepTest, PassesStep, step_tests, FirstFailing, StepDetail, Shows}
 use Rattle.vipr_spec.specs.Tests.{SolutionTest, PassesSolution, solution_tests, of_solution, Test, spelled, meets_primal, of_step, meets_dual, Passes, Detail, none, step, no_proof, no_primal, name_at, names_of, solution_detail, goal_needed_by, finite_primal, Explains}
-use Rattle.vipr_spec.specs.Verdict.{items_read, Found, ending_found, Report, Reports, Answer, verified, told_by, IsExplainedBy, Explained, IsExplained}
+use Rattle.vipr_spec.specs.Verdict.{items_read, Found, Report, Reports, Answer, verified, told_by, IsExplainedBy, Explained, IsExplained}
 use Rattle.vipr_spec.specs.Progress.{derivations_from, solutions_from}
 use Rattle.vipr_spec.proofs.Prefix.{before_more, known_next}
 use Rattle.vipr_spec.proofs.Told as told

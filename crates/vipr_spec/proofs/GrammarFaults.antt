@@ -30,7 +30,7 @@ module _ {A B : Type 0} {read : Rest → Read A} {S : A → List (List ℕ) → 
   read_again r s q x t rest e = (law q (record q { tokens = rest }) x).1 (record { front = t.front; joined = ap (λ ts. record q { tokens = ts }) e; short = t.short; shape = t.shape })
 
   now : (r : Rest) (c o : ℕ) → IsRefusedAt read r c o → IsRefusedAt (λ q. read q >>= f) r c o
-  now r c o k = record { before = k.before; token = k.token; after = k.after; joined = k.joined; here = k.here; stands = λ q more e. ap (λ z. z >>= f) (k.stands q more e) }
+  now r c o k = record { before = k.before; token = k.token; after = k.after; joined = k.joined; here = k.here; stands = λ q more e. ap (λ z. z >>= f) (k.stands q more e); first = λ q e h. ap (λ z. z >>= f) (k.first q e h) }
 
   later : (r s : Rest) (x : A) (c o : ℕ) → Taken (S x) r s → IsRefusedAt (λ q. f (x, q)) s c o → IsRefusedAt (λ q. read q >>= f) r c o
   later r s x c o t k = record {
@@ -42,6 +42,7 @@ module _ {A B : Type 0} {read : Rest → Read A} {S : A → List (List ℕ) → 
     stands = λ q more e.
         let rest = k.before ++ k.token ∷ more in
         ok_then f (read_again r s q x t rest (e ∙ append_assoc t.front k.before (k.token ∷ more))) (k.stands (record q { tokens = rest }) more refl);
+    first = λ q e h. ok_then f (read_again r s q x t k.before e) (k.first (record q { tokens = k.before }) refl h);
   }
 
   later_end : (r s : Rest) (x : A) (c o : ℕ) → Taken (S x) r s → EndsEarly s c o → EndsEarly r c o
@@ -67,7 +68,7 @@ module _ {A B : Type 0} {read : Rest → Read A} {S : A → List (List ℕ) → 
 pub stands_same : {A : Type 0} (read like : Rest → Result A Fault) → ((r : Rest) → like r ≡ read r) → FaultsStand read → FaultsStand like
 stands_same read like same k = record {
   refusal = λ r c o e. ⊎_elim
-      (λ (h : IsRefusedAt read r c o). inl (record { before = h.before; token = h.token; after = h.after; joined = h.joined; here = h.here; stands = λ q more i. same q ∙ h.stands q more i }))
+      (λ (h : IsRefusedAt read r c o). inl (record { before = h.before; token = h.token; after = h.after; joined = h.joined; here = h.here; stands = λ q more i. same q ∙ h.stands q more i; first = λ q i l. same q ∙ h.first q i l }))
       inr
       (k.refusal r c o (sym (same r) ∙ e));
   failure = λ r e. k.failure r (sym (same r) ∙ e);
@@ -77,7 +78,7 @@ stands_same read like same k = record {
 pub stands_named : {A B : Type 0} {read : Rest → Result A Fault} (g : A → B) → FaultsStand read → FaultsStand (λ r. read r >>= λ x. Ok (g x))
 stands_named {A} {B} {read} g k = record {
   refusal = λ r c o e. ⊎_elim
-      (λ (h : IsRefusedAt read r c o). inl (record { before = h.before; token = h.token; after = h.after; joined = h.joined; here = h.here; stands = λ q more i. ap (λ z. z >>= λ x. Ok (g x)) (h.stands q more i) }))
+      (λ (h : IsRefusedAt read r c o). inl (record { before = h.before; token = h.token; after = h.after; joined = h.joined; here = h.here; stands = λ q more i. ap (λ z. z >>= λ x. Ok (g x)) (h.stands q more i); first = λ q i l. ap (λ z. z >>= λ x. Ok (g x)) (h.first q i l) }))
       inr
       (k.refusal r c o (unnamed r (refused c o) e));
   failure = λ r e. k.failure r (unnamed r unread e);
@@ -132,7 +133,7 @@ module _ {A : Type 0} (kind : List ℕ → Result A ℕ) where
   from_refusal [] r c o h e = inr (no_more_fault r.fails r.length c o e)
   from_refusal (t ∷ ts) r c o h e =
       let k = outcome_fault (nat_lt most_bytes (length t.bytes)) t ts r c o e in
-      inl (record { before = []; token = t; after = ts; joined = h; here = k.0; stands = λ s more i. ap (λ us. from us s) i ∙ k.1 more s })
+      inl (record { before = []; token = t; after = ts; joined = h; here = k.0; stands = λ s more i. ap (λ us. from us s) i ∙ k.1 more s; first = λ s i l. ap (λ us. from us s) i ∙ ap (λ b. no_more b s.length) l })
 
   from_failure : (ts : List Token) (r : Rest) → from ts r ≡ Err unread → r.fails ≡ true
   unfolding first_token

@@ -41,6 +41,11 @@ IsOther : List Token → Type 0
 IsOther [] = Unit {0}
 IsOther (t ∷ ts) = is_objective t ≡ false
 
+front_other : (before : List Token) (token : Token) (after : List Token) → IsOther (before ++ token ∷ after) → IsOther before
+unfolding IsOther
+front_other [] token after h = tt
+front_other (t ∷ ts) token after h = h
+
 still_other : (before : List Token) (t : Token) (after more : List Token) → IsOther (before ++ t ∷ after) → IsOther (before ++ t ∷ more)
 unfolding IsOther
 still_other [] t after more h = h
@@ -107,6 +112,7 @@ module _ (n : ℕ) (objective : Row) where
         joined = k.joined;
         here = k.here;
         stands = λ q more i. row_is_vector q (subst IsOther (sym i) (still_other k.before k.token k.after more (subst IsOther k.joined h))) ∙ k.stands q more i;
+        first = λ q i l. row_is_vector q (subst IsOther (sym i) (front_other k.before k.token k.after (subst IsOther k.joined h))) ∙ k.first q i l;
       }))
       inr
       ((stands_vector n).refusal r c o (sym (row_is_vector r h) ∙ e))
@@ -269,7 +275,7 @@ no_end false c o e = cc
 end_refusal : (ts : List Token) (r : Rest) (c o : ℕ) → r.tokens ≡ ts → end_of ts r ≡ Err (refused c o) → IsRefusedAt end_read r c o ⊎ EndsEarly r c o
 unfolding end_of
 end_refusal [] r c o h e = absurd (no_end r.fails c o e)
-end_refusal (t ∷ ts) r c o h e = inl (record { before = []; token = t; after = ts; joined = h; here = cc; stands = λ q more i. ap (λ us. end_of us q) i ∙ e })
+end_refusal (t ∷ ts) r c o h e = inl (record { before = []; token = t; after = ts; joined = h; here = cc; stands = λ q more i. ap (λ us. end_of us q) i ∙ e; first = λ q i l. ap (λ us. end_of us q) i ∙ ap (λ b. if b then Err unread else Ok tt) l })
 
 end_failure : (ts : List Token) (r : Rest) → end_of ts r ≡ Err unread → r.fails ≡ true
 unfolding end_of

@@ -36,14 +36,14 @@ repeated_is {A} item (suc n) r = by (λ s. repeated_is item n s) (item r)
 
 -- ---- what was found, where the text was read to its end
 
-abbrev opening_tests : Problem → List (Named Row) → List Test
+abbrev pub opening_tests : Problem → List (Named Row) → List Test
 opening_tests p ss = numbered (tests_of_solution p) 0 ss
 
-abbrev all_tests : Certificate → List Test
+abbrev pub all_tests : Certificate → List Test
 all_tests c = opening_tests c.problem c.solutions ++ (meets_primal ∷ (numbered tests_of_derivation (length c.problem.constraints) c.derivations ++ (meets_dual ∷ [])))
 
 -- either the whole was read, or the fault is among the tests
-abbrev Whole : Found → Result Certificate Fault → Type 0
+abbrev pub Whole : Found → Result Certificate Fault → Type 0
 Whole found (Ok c) = found ≡ record { certificate = c; tests = all_tests c }
 Whole found (Err f) = Contains found.tests (spelled f)
 
@@ -91,7 +91,7 @@ solutions_whole : (p : Problem) (ss : List (Named Row)) (x : Result Rest Fault)
 solutions_whole p ss (Ok s) = count_whole p ss (derivations_read p s)
 solutions_whole p ss (Err f) = Contains-append_right (opening_tests p ss) _ _ (last_one (spelled f))
 
-whole_read : (r : Rest) → Whole (found_in r) (certificate_read r)
+pub whole_read : (r : Rest) → Whole (found_in r) (certificate_read r)
 unfolding found_in certificate_read
 whole_read r = by (problem_read r)
   where

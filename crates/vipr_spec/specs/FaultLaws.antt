@@ -5,14 +5,17 @@ use Rattle.vipr_spec.specs.Tokens.{Token}
 use Rattle.vipr_spec.specs.Certificate.{Problem}
 use Rattle.vipr_spec.specs.Reading.{Rest, Fault, refused, unread, problem_read, solution_read, derivations_read, derivation_read, end_read, certificate_read}
 
--- A token at the offset is refused for the cause, whatever follows it.
+-- A token at the offset is refused for the cause, whatever follows it, and none before it is: where
+-- a failure follows those, nothing is refused.
 pub record IsRefusedAt {A : Type 0} (read : Rest → Result A Fault) (r : Rest) (why place : ℕ) : Type 0 where
   pub before : List Token
   pub token : Token
   pub after : List Token
   pub joined : r.tokens ≡ before ++ token ∷ after
   pub here : token.offset ≡ place
-  pub stands : (s : Rest) (more : List Token) → s.tokens ≡ before ++ token ∷ more → read s ≡ Err (refused why place)
+  pub stands : (s : Rest) (more : List Token) → s.tokens ≡ before ++ token ∷ more
+      → read s ≡ Err (refused why place)
+  pub first : (s : Rest) → s.tokens ≡ before → s.fails ≡ true → read s ≡ Err unread
 
 -- the text ends where a token is wanted
 abbrev pub EndsEarly : Rest → ℕ → ℕ → Type 0

@@ -1,6 +1,6 @@
 //! The first test that fails, and which texts are verified.
 
-ghost use Rattle.std.specs.Prelude.{◌≡◌, ◌↔◌, ℕ, ◌⊎◌, List, ◌++◌, Option, Some, None, Ok, All};
+ghost use Rattle.std.specs.Prelude.{◌≡◌, ◌≢◌, ◌↔◌, ℕ, ◌⊎◌, List, ◌++◌, Option, Some, None, Ok, All};
 ghost use Rattle.vipr_spec.specs.Constraint.{Profile};
 ghost use Rattle.vipr_spec.specs.Certificate.{Certificate, IsProof};
 ghost use Rattle.vipr_spec.specs.Reading.{Rest, certificate_read};
@@ -9,7 +9,10 @@ ghost use Rattle.vipr_spec.specs.GrammarLaws.{whole_text};
 ghost use Rattle.vipr_spec.specs.Soundness.{IsShown};
 ghost use Rattle.vipr_spec.specs.Steps.{FirstFailing};
 ghost use Rattle.vipr_spec.specs.Tests.{Test, Passes};
-ghost use Rattle.vipr_spec.specs.Verdict.{Report, Reports, Answer, verified, IsAnswer};
+ghost use Rattle.vipr_spec.specs.Verdict.{found_in, Report, Reports, Refusal, Answer, refuses, verified};
+ghost use Rattle.vipr_spec.specs.Verdict.{IsAnswer};
+ghost use Rattle.vipr_spec.specs.RefusalLaws.{IsRefusedBy};
+ghost use Rattle.vipr_spec.specs.Causes as cause;
 
 /// No test fails first exactly where all pass, and only one test fails first. Of two lists, one
 /// after the other, it is that of the first list, or that of the second if all of the first pass.
@@ -18,6 +21,17 @@ pub fn first_failing()
     ensures unique { (P : Profile) (c : Certificate) (ts : List Test) (f g : Option Test) → FirstFailing (Passes P c) ts f → FirstFailing (Passes P c) ts g → f ≡ g }
     ensures joined { (P : Profile) (c : Certificate) (a b : List Test) (f : Option Test)
         → FirstFailing (Passes P c) (a ++ b) f ↔ ((FirstFailing (Passes P c) a None × FirstFailing (Passes P c) b f) ⊎ ((t : Test) × (f ≡ Some t) × FirstFailing (Passes P c) a (Some t))) }
+{}
+
+/// What is refused before the end of the text is refused whatever follows the tokens up to the place.
+pub fn refusals_stand()
+    ensures { (P : Profile) (r : Rest) (x : Refusal) → IsAnswer P r (refuses x)
+        → x.cause ≢ cause.truncated → x.cause ≢ cause.no_proof → IsRefusedBy P found_in r x }
+{}
+
+/// Each text has an answer: it can't be that it has none.
+pub fn texts_are_answered()
+    ensures { (P : Profile) (r : Rest) → ¬ ¬ ((a : Answer) × IsAnswer P r a) }
 {}
 
 /// A text is verified exactly where it spells a certificate that is a proof, and what is reported is

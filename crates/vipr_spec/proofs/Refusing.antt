@@ -1,0 +1,33 @@
+-- A reference that comes too late, and a sum that is too large
+use Rattle.std.proofs.Common.{◌≢◌, ◌≤◌, ◌^◌, ◌-◌, [], pos, IsTrue, arith, refl, lit<, lit≤, le→leb}
+use Rattle.std.proofs.lemmas.List.Elements.{All-head}
+use Rattle.std.proofs.lemmas.Int.{ints}
+use Rattle.vipr_spec.specs.Gcd.{gcd}
+use Rattle.vipr_spec.specs.Fraction.{ℚ, over, whole, zero_ℚ, ◌*ℚ◌, IsBounded, ProductFits}
+use Rattle.vipr_spec.specs.Constraint.{Profile}
+use Rattle.vipr_spec.specs.Certificate.{is_live, IsProof}
+use Rattle.vipr_spec.specs.Examples.{dropped, too_large}
+use Rattle.vipr_spec.proofs.Fractions.{le_of_whole, le_of_eq_ℚ}
+
+one_not_zero : whole (pos 1) ≢ zero_ℚ
+one_not_zero e = let l = le_of_whole (pos 1) (pos 0) (le_of_eq_ℚ _ _ e) in omega (arith, ints)
+
+pub not_live : (P : Profile) → ¬ IsProof P dropped
+not_live P p = late ((p.steps 3 _ refl).references 2 (whole (pos 1), (0, lit< tt, refl), one_not_zero))
+  where
+    late : IsTrue (is_live dropped 3 2) → ⊥
+    late e = cc
+
+over_most : ¬ (2 ^ 127 ≤ 2 ^ 127 - 1)
+over_most h = le→leb (2 ^ 127) (2 ^ 127 - 1) h
+
+product : ¬ ProductFits (whole (pos 2)) (whole (pos (2 ^ 126)))
+unfolding over gcd ◌*ℚ◌
+product h = over_most h.0
+
+pub not_bounded : (P : Profile) → ¬ IsProof P too_large
+not_bounded P p = product (All-head (λ (t : ℚ × ℚ). ProductFits t.0 t.1) (whole (pos 2), whole (pos (2 ^ 126))) [] (p.steps 1 _ refl).fits.1.0)
+
+pub largest : IsBounded (whole (pos (2 ^ 127 - 1)))
+unfolding over gcd
+largest = (lit≤ tt, lit≤ tt)

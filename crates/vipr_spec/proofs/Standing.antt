@@ -1,0 +1,223 @@
+-- A refusal before the end stands whatever follows the tokens read
+use Rattle.std.proofs.Common.{◌≡◌, ◌≢◌, ℕ, zero, suc, ◌≤◌, ◌⊎◌, List, [], ◌∷◌, ◌++◌, length, Option, Some, None, Result, Ok, Err, refl, sym, ◌∙◌, ap, subst, append_assoc, inl, inr}
+use Rattle.std.specs.Prelude.{◌↔◌}
+use Rattle.vipr_spec.specs.Causes as cause
+use Rattle.vipr_spec.specs.Constraint.{Profile, Row, condition}
+use Rattle.vipr_spec.specs.Certificate.{Named, Problem, Derivation, Certificate, MeetsPrimal, count}
+use Rattle.vipr_spec.specs.Tokens.{Token}
+use Rattle.vipr_spec.specs.Reading.{Rest, Fault, refused, unread, Read, ◌>>=◌, most_count, problem_read, solution_read, derivations_read, derivation_read, end_read}
+use Rattle.vipr_spec.specs.GrammarLaws.{Reads}
+use Rattle.vipr_spec.specs.FaultLaws.{IsRefusedAt, EndsEarly, FaultsStand}
+use Rattle.vipr_spec.specs.Steps.{with_more, with_next, StepTest, PassesStep, step_tests, step_cause, FirstFailing}
+use Rattle.vipr_spec.specs.Tests.{SolutionTest, PassesSolution, solution_tests, solution_cause, of_solution, Test, spelled, meets_primal, of_step, meets_dual, Passes, numbered, tests_of_solution, tests_of_derivation}
+use Rattle.vipr_spec.specs.Verdict.{items_read, Found, last_tests, derivations_found, ending_found, found_in, Place, at_byte, at_solution, at_derivation, at_end, Refusal, Answer, refuses, cut_short, told_by, IsToldBy, Answers, IsAnswer}
+use Rattle.vipr_spec.specs.RefusalLaws.{EndsAt, IsRefusedBy}
+use Rattle.vipr_spec.specs.Progress.{derivations_from, solutions_from}
+use Rattle.vipr_spec.proofs.FirstFailing.{failing_parts, failing_unmap}
+use Rattle.vipr_spec.proofs.Steps.{tests_next}
+use Rattle.vipr_spec.proofs.GrammarSections.{reads_problem, reads_solution}
+use Rattle.vipr_spec.proofs.GrammarDerivations.{reads_derivations, reads_derivation}
+use Rattle.vipr_spec.proofs.GrammarWhole.{few_constraints_read}
+use Rattle.vipr_spec.proofs.GrammarItemFaults.{item_faults}
+use Rattle.vipr_spec.proofs.Told as told
+use Rattle.vipr_spec.proofs.Remains.{problem_fault, problem_ok, solution_fault, solution_passes, solution_fails, solutions_unmet, derivations_fault, derivations_begin, derivation_fault, derivation_passes, derivation_fails, end_fault}
+
+-- ---- an item is read from its own tokens
+
+pub record IsRead {A : Type 0} (read : Rest → Read A) (r s : Rest) (x : A) : Type 0 where
+  pub front : List Token
+  pub joined : r.tokens ≡ front ++ s.tokens
+  pub again : (q : Rest) (more : List Token) → q.tokens ≡ front ++ more → read q ≡ Ok (x, record q { tokens = more })
+
+is_read : {A : Type 0} {read : Rest → Read A} {S : A → List (List ℕ) → Type 0} → Reads read S → (r s : Rest) (x : A) → read r ≡ Ok (x, s) → IsRead read r s x
+is_read law r s x e = let t = (law r s x).0 e in record {
+  front = t.front;
+  joined = ap (λ (q : Rest). q.tokens) t.joined;
+  again = λ q more j. (law q (record q { tokens = more }) x).1 (record { front = t.front; joined = ap (λ ts. record q { tokens = ts }) j; short = t.short; shape = t.shape });
+}
+
+-- ---- which causes are meant
+
+-- no refusal for want of a token, nor at the end of the text
+abbrev pub IsBeforeEnd : Refusal → Type 0
+IsBeforeEnd x = (x.cause ≢ cause.truncated) × (x.cause ≢ cause.no_proof)
+
+same_refusal : (x y : Refusal) → refuses x ≡ refuses y → x ≡ y
+same_refusal x y e = cc
+
+ends_later : (front back : List Token) (p : Place) → EndsAt back p → EndsAt (front ++ back) p
+ends_later front back (at_byte o) e = (front ++ e.0, e.1, ap (λ ts. front ++ ts) e.2 ∙ sym (append_assoc front e.0 (e.1 ∷ [])), e.3)
+ends_later front back (at_solution i) e = tt
+ends_later front back (at_derivation k) e = tt
+ends_later front back at_end e = tt
+
+module _ (P : Profile) where
+  -- a fault of a token
+  fault_stands : {A : Type 0} (read : Rest → Result A Fault) (found : Rest → Found) → FaultsStand read → ((q : Rest) (f : Fault) (a : Answer) → read q ≡ Err f → Answers P (found q) a ↔ (a ≡ told_by (spelled f)))
+      → (r : Rest) (f : Fault) (x : Refusal) → IsBeforeEnd x → read r ≡ Err f → Answers P (found r) (refuses x) → IsRefusedBy P found r x
+  fault_stands read found faults law r unread x b e h = let t : refuses x ≡ cut_short = (law r unread (refuses x) e).0 h in absurd (cc)
+  fault_stands read found faults law r (refused why place) x b e h = by (faults.refusal r why place e)
+    where
+      is : x ≡ record { cause = why; place = at_byte place }
+      is = same_refusal x _ ((law r (refused why place) (refuses x) e).0 h)
+
+      by : IsRefusedAt read r why place ⊎ EndsEarly r why place → IsRefusedBy P found r x
+      by (inr early) = absurd (b.0 (ap (λ (x : Refusal). x.cause) is ∙ early.1))
+      by (inl at) = record {
+        front = at.before ++ at.token ∷ [];
+        after = at.after;
+        joined = at.joined ∙ sym (append_assoc at.before (at.token ∷ []) at.after);
+        ends = subst (λ (x : Refusal). EndsAt (at.before ++ at.token ∷ []) x.place) (sym is) (at.before, at.token, refl, at.here);
+        stands = λ s more j. (law s (refused why place) (refuses x) (at.stands s more (j ∙ append_assoc at.before (at.token ∷ []) more))).1 (ap refuses is);
+      }
+
+  -- what is refused after an item that is read
+  after_item : {A : Type 0} {read : Rest → Read A} {r s : Rest} {x : A} (found later : Rest → Found) (y : Refusal) → IsRead read r s x
+      → ((q t : Rest) → read q ≡ Ok (x, t) → Answers P (later t) (refuses y) → Answers P (found q) (refuses y)) → IsRefusedBy P later s y → IsRefusedBy P found r y
+  after_item found later y item back l = record {
+    front = item.front ++ l.front;
+    after = l.after;
+    joined = item.joined ∙ ap (λ ts. item.front ++ ts) l.joined ∙ sym (append_assoc item.front l.front l.after);
+    ends = ends_later item.front l.front y.place l.ends;
+    stands = λ q more j.
+        let e = item.again q (l.front ++ more) (j ∙ append_assoc item.front l.front more) in
+        back q (record q { tokens = l.front ++ more }) e (l.stands (record q { tokens = l.front ++ more }) more refl);
+  }
+
+  -- an item that is read and refused, at a place that is no byte
+  item_stands : {A : Type 0} {read : Rest → Read A} {r s : Rest} {x : A} (found : Rest → Found) (why : ℕ) (place : Place) (y : Refusal) → ((ts : List Token) → EndsAt ts place) → IsRead read r s x
+      → ((q t : Rest) → read q ≡ Ok (x, t) → Answers P (found q) (refuses y) ↔ (refuses y ≡ refuses (record { cause = why; place = place }))) → refuses y ≡ refuses (record { cause = why; place = place }) → IsRefusedBy P found r y
+  item_stands {s = s} found why place y anywhere item law is = record {
+    front = item.front;
+    after = s.tokens;
+    joined = item.joined;
+    ends = subst (λ (x : Refusal). EndsAt item.front x.place) (sym (same_refusal y _ is)) (anywhere item.front);
+    stands = λ q more j. (law q (record q { tokens = more }) (item.again q more j)).1 is;
+  }
+
+  -- ---- the derivations
+
+  -- its tests pass, or one of them fails first
+  step_found : (c : Certificate) (n : ℕ) (r : Rest) (d : Derivation) (s : Rest) (a : Answer) → derivation_read c.problem r ≡ Ok (d, s) → Answers P (derivations_from c (suc n) r) a
+      → (f : Option StepTest) × FirstFailing (PassesStep P c (condition d.stated)) (step_tests d.reason) f
+  step_found c n r d s a e h = elim (failing_parts (Passes P after) (tests_of_derivation (count c) d) _ g.0 g.1) [ inl k ↦ own None k.0 | inr k ↦ own (Some k.0) k.2 ]
+    where
+      ds : List Derivation
+      ds = (items_read (derivation_read c.problem) n s).0
+
+      after : Certificate
+      after = with_more c (d ∷ ds)
+
+      g : Answers P (record {
+        certificate = after;
+        tests = tests_of_derivation (count c) d ++ (numbered tests_of_derivation (suc (count c)) ds ++ last_tests ((items_read (derivation_read c.problem) n s).1 >>= end_read));
+      }) a
+      g = subst (λ f. Answers P f a) (told.derivation_next c n r d s e) h
+
+      own : (f : Option Test) → FirstFailing (Passes P after) (tests_of_derivation (count c) d) f → (f : Option StepTest) × FirstFailing (PassesStep P c (condition d.stated)) (step_tests d.reason) f
+      own f q = let k = failing_unmap (of_step (count c)) (Passes P after) (step_tests d.reason) f q in (k.0, (tests_next P c d ds k.0).0 k.2)
+
+  derivations_stand : (n : ℕ) (c : Certificate) (r : Rest) (x : Refusal) → IsBeforeEnd x → Answers P (derivations_from c n r) (refuses x) → IsRefusedBy P (derivations_from c n) r x
+  derivations_stand zero c r x b h = by (end_read r) refl
+    where
+      by : (y : Result (Unit {0}) Fault) → end_read r ≡ y → IsRefusedBy P (derivations_from c 0) r x
+      by (Err f) e = fault_stands end_read (derivations_from c 0) item_faults.end (λ q f a e. end_fault P c q f a e) r f x b e h
+      by (Ok done) e = absurd (last g.0 g.1 g.2)
+        where
+          g : Answers P (record { certificate = c; tests = meets_dual ∷ [] }) (refuses x)
+          g = subst (λ f. Answers P f (refuses x)) (told.at_the_end c r ∙ ap (λ y. record { certificate = c; tests = last_tests y }) e) h
+
+          last : (f : Option Test) → FirstFailing (Passes P c) (meets_dual ∷ []) f → IsToldBy P c f (refuses x) → ⊥
+          last None q t = cc t.2
+          last (Some t) (inl q) u = cc q.1
+          last (Some t) (inr q) u = b.1 (ap (λ (x : Refusal). x.cause) (same_refusal x _ (subst (λ o. IsToldBy P c o (refuses x)) q.1 u)))
+  derivations_stand (suc n) c r x b h = by (λ d s g. derivations_stand n (with_next c d) s x b g) (derivation_read c.problem r) refl
+    where
+      by : ((d : Derivation) (s : Rest) → Answers P (derivations_from (with_next c d) n s) (refuses x) → IsRefusedBy P (derivations_from (with_next c d) n) s x) → (y : Read Derivation) → derivation_read c.problem r ≡ y → IsRefusedBy P (derivations_from c (suc n)) r x
+      by on (Err f) e = fault_stands (derivation_read c.problem) (derivations_from c (suc n)) (item_faults.derivation c.problem) (λ q f a e. derivation_fault P c n q f a e) r f x b e h
+      by on (Ok (d, s)) e = tested k.0 k.1
+        where
+          item : IsRead (derivation_read c.problem) r s d
+          item = is_read (reads_derivation c.problem) r s d e
+
+          k : (f : Option StepTest) × FirstFailing (PassesStep P c (condition d.stated)) (step_tests d.reason) f
+          k = step_found c n r d s (refuses x) e h
+
+          tested : (f : Option StepTest) → FirstFailing (PassesStep P c (condition d.stated)) (step_tests d.reason) f → IsRefusedBy P (derivations_from c (suc n)) r x
+          tested None g = after_item (derivations_from c (suc n)) (derivations_from (with_next c d) n) x item (λ q t e. (derivation_passes P c n q d t (refuses x) e g).1)
+              (on d s ((derivation_passes P c n r d s (refuses x) e g).0 h))
+          tested (Some u) g = item_stands (derivations_from c (suc n)) (step_cause u) (at_derivation (count c)) x (λ ts. tt) item (λ q t e. derivation_fails P c n q d t u (refuses x) e g) ((derivation_fails P c n r d s u (refuses x) e g).0 h)
+
+  -- ---- the solutions
+
+  solution_found : (p : Problem) (ss : List (Named Row)) (n : ℕ) (r : Rest) (s : Named Row) (t : Rest) (a : Answer) → solution_read p r ≡ Ok (s, t) → Answers P (solutions_from p ss (suc n) r) a
+      → (f : Option SolutionTest) × FirstFailing (PassesSolution p s.item) (solution_tests p) f
+  solution_found p ss n r s t a e h = elim (failing_parts (Passes P after) (tests_of_solution p (length ss) s) _ g.0 g.1) [ inl k ↦ own None k.0 | inr k ↦ own (Some k.0) k.2 ]
+    where
+      items : List (Named Row) × Result Rest Fault
+      items = items_read (solution_read p) n t
+
+      after : Certificate
+      after = record { problem = p; solutions = ss ++ s ∷ items.0; derivations = (ending_found p items.1).0 }
+
+      g : Answers P (record {
+        certificate = after;
+        tests = tests_of_solution p (length ss) s ++ (numbered (tests_of_solution p) (suc (length ss)) items.0 ++ (ending_found p items.1).1);
+      }) a
+      g = subst (λ f. Answers P f a) (told.solution_next p ss n r s t e) h
+
+      own : (f : Option Test) → FirstFailing (Passes P after) (tests_of_solution p (length ss) s) f → (f : Option SolutionTest) × FirstFailing (PassesSolution p s.item) (solution_tests p) f
+      own f q = let k = failing_unmap (of_solution (length ss) s.item) (Passes P after) (solution_tests p) f q in (k.0, k.2)
+
+  solutions_stand : (n : ℕ) (p : Problem) → length p.constraints ≤ most_count → (ss : List (Named Row)) (r : Rest) (x : Refusal) → IsBeforeEnd x → Answers P (solutions_from p ss n r) (refuses x) → IsRefusedBy P (solutions_from p ss n) r x
+  solutions_stand zero p few ss r x b h = first g.0 g.1
+    where
+      after : Certificate
+      after = record { problem = p; solutions = ss; derivations = (derivations_found p (derivations_read p r)).0 }
+
+      g : Answers P (record { certificate = after; tests = meets_primal ∷ (derivations_found p (derivations_read p r)).1 }) (refuses x)
+      g = subst (λ f. Answers P f (refuses x)) (told.no_more_solutions p ss r (derivations_read p r) refl) h
+
+      met_by : MeetsPrimal p ss p.claim → (y : Read ℕ) → derivations_read p r ≡ y → IsRefusedBy P (solutions_from p ss 0) r x
+      met_by met (Err f) e = fault_stands (derivations_read p) (solutions_from p ss 0) (item_faults.derivations p) (λ q f a e. derivations_fault P p ss q f a met e) r f x b e h
+      met_by met (Ok (m, s)) e =
+          let start : Certificate = record { problem = p; solutions = ss; derivations = [] } in
+          after_item (solutions_from p ss 0) (derivations_from start m) x (is_read (reads_derivations p few) r s m e) (λ q t e. (derivations_begin P p ss q m t (refuses x) met e).1)
+          (derivations_stand m start s x b ((derivations_begin P p ss r m s (refuses x) met e).0 h))
+
+      first : (f : Option Test) → FirstFailing (Passes P after) (meets_primal ∷ (derivations_found p (derivations_read p r)).1) f → IsRefusedBy P (solutions_from p ss 0) r x
+      first f (inl q) = met_by q.0 (derivations_read p r) refl
+      first f (inr q) =
+          let is = (solutions_unmet P p ss r (refuses x) q.0).0 h in record {
+            front = [];
+            after = r.tokens;
+            joined = refl;
+            ends = subst (λ (x : Refusal). EndsAt [] x.place) (sym (same_refusal x _ is)) tt;
+            stands = λ s more j. (solutions_unmet P p ss s (refuses x) q.0).1 is;
+          }
+  solutions_stand (suc n) p few ss r x b h = by (λ s t g. solutions_stand n p few (ss ++ s ∷ []) t x b g) (solution_read p r) refl
+    where
+      by : ((s : Named Row) (t : Rest) → Answers P (solutions_from p (ss ++ s ∷ []) n t) (refuses x) → IsRefusedBy P (solutions_from p (ss ++ s ∷ []) n) t x) → (y : Read (Named Row)) → solution_read p r ≡ y → IsRefusedBy P (solutions_from p ss (suc n)) r x
+      by on (Err f) e = fault_stands (solution_read p) (solutions_from p ss (suc n)) (item_faults.solution p) (λ q f a e. solution_fault P p ss n q f a e) r f x b e h
+      by on (Ok (s, t)) e = tested k.0 k.1
+        where
+          item : IsRead (solution_read p) r t s
+          item = is_read (reads_solution p) r t s e
+
+          k : (f : Option SolutionTest) × FirstFailing (PassesSolution p s.item) (solution_tests p) f
+          k = solution_found p ss n r s t (refuses x) e h
+
+          tested : (f : Option SolutionTest) → FirstFailing (PassesSolution p s.item) (solution_tests p) f → IsRefusedBy P (solutions_from p ss (suc n)) r x
+          tested None g = after_item (solutions_from p ss (suc n)) (solutions_from p (ss ++ s ∷ []) n) x item (λ q t e. (solution_passes P p ss n q s t (refuses x) e g).1)
+              (on s t ((solution_passes P p ss n r s t (refuses x) e g).0 h))
+          tested (Some u) g = item_stands (solutions_from p ss (suc n)) (solution_cause u) (at_solution (length ss)) x (λ ts. tt) item (λ q t e. solution_fails P p ss n q s t u (refuses x) e g) ((solution_fails P p ss n r s t u (refuses x) e g).0 h)
+
+  -- ---- the whole text
+
+  pub refusal_stands : (r : Rest) (x : Refusal) → IsBeforeEnd x → IsAnswer P r (refuses x) → IsRefusedBy P found_in r x
+  refusal_stands r x b h = by (problem_read r) refl
+    where
+      by : (y : Read (Problem × ℕ)) → problem_read r ≡ y → IsRefusedBy P found_in r x
+      by (Err f) e = fault_stands problem_read found_in item_faults.problem (λ q f a e. problem_fault P q f a e) r f x b e h
+      by (Ok ((p, n), s)) e = after_item found_in (solutions_from p [] n) x (is_read reads_problem r s (p, n) e) (λ q t e. (problem_ok P q p n t (refuses x) e).1)
+          (solutions_stand n p (few_constraints_read r s (p, n) e) [] s x b ((problem_ok P r p n s (refuses x) e).0 h))
