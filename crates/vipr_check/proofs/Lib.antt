@@ -1,5 +1,2 @@
-pub mod Answering
 pub mod GoalLemmas
-pub mod DescribedLemmas
-pub mod StreamLemmas
-pub mod Failures
+pub mod ProgressLemmas

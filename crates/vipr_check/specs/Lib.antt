@@ -1,5 +1,5 @@
 pub mod View
 pub mod Goal
-pub mod Refused
+pub mod Halts
+pub mod Progress
 pub mod State
-pub mod Taking
