@@ -6,7 +6,7 @@ use Rattle.std.proofs.lemmas.List.Elements.{All-nil, All-cons, All-append}
 use Rattle.std.specs.FinMap.{get}
 use Rattle.vipr_spec.specs.Fraction.{ℚ}
 use Rattle.vipr_spec.specs.Soundness.{IsBestValue}
-use Rattle.vipr_spec.specs.Constraint.{Row, at, Condition, condition, IsInteger, NamesBelow}
+use Rattle.vipr_spec.specs.Constraint.{one, Row, at, Condition, condition, IsInteger, NamesBelow}
 use Rattle.vipr_spec.specs.Certificate.{Named, Problem, variables, Derivation, Certificate, count, IsFeasible, SolutionFits, MeetsPrimal, NeedsGoal, IsGoal, held as held_after}
 use Rattle.vipr_spec.specs.OnePass.{with_next, RefersBack, GoalIs}
 use Rattle.vipr_spec.specs.Checking.{start, IsChecked, IsFirstMet, NextGoal}
@@ -83,18 +83,18 @@ steps_start k ss is primal = record {
   best = is.best;
   solutions = is.solutions;
   rows = subst (IsTableOf (start k.problem ss)) (sym is.rows) (IsTableOf-empty (start k.problem ss) refl);
-  checked = subst (IsChecked (start k.problem ss) k.goal) (sym is.peak) (checked_start k.problem ss k.goal is.goal);
+  checked = subst (IsChecked one (start k.problem ss) k.goal) (sym is.peak) (checked_start one k.problem ss k.goal is.goal);
 }
 
 -- ---- derivations
 
 pub back : (c : Certificate) (k : Progress) → HasSteps c k → RefersBack c
-back c k is = refers_back c is.checked.steps
+back c k is = refers_back one c is.checked.steps
 
 pub steps_next : (c : Certificate) (d : Derivation) (e : Entry) (k : Progress) (rows : Table) (top : ℕ) (goal : Option ℕ) → HasSteps c k → Passes c d (step_tests d.reason) → IsEntryOf (with_next c d) (count c) e
-    → rows ≡ step k.rows e → top ≡ max k.peak (held rows) → NextGoal c d k.goal goal → HasSteps (with_next c d) (record k { rows = rows; peak = top; goal = goal })
+    → rows ≡ step k.rows e → top ≡ max k.peak (held rows) → NextGoal one c d k.goal goal → HasSteps (with_next c d) (record k { rows = rows; peak = top; goal = goal })
 steps_next c d e k rows top goal is passes entry placed most next =
-    let t : IsTableOf (with_next c d) rows = subst (IsTableOf (with_next c d)) (sym placed) (IsTableOf-step c d e k.rows is.rows (λ k h. (is.checked.steps k h).valid) entry) in
+    let t : IsTableOf (with_next c d) rows = subst (IsTableOf (with_next c d)) (sym placed) (IsTableOf-step c d e k.rows is.rows (back c k is) entry) in
     let n = count_next c d in
     let same : top ≡ max k.peak (held_after (with_next c d) (count c)) = most ∙ ap (max k.peak) (IsTableOf-held (with_next c d) rows t (count c) (sym n) (let f = is.rows.next in omega arith)) in
     record {
@@ -104,7 +104,7 @@ steps_next c d e k rows top goal is passes entry placed most next =
       best = is.best;
       solutions = is.solutions;
       rows = t;
-      checked = subst (IsChecked (with_next c d) goal) (sym same) (checked_next c d k.goal goal k.peak is.checked (next_good c d passes) next);
+      checked = subst (IsChecked one (with_next c d) goal) (sym same) (checked_next one c d k.goal goal k.peak is.checked (next_good one c d passes) next);
     }
 
 -- so many are held then
@@ -121,20 +121,20 @@ module _ (c : Certificate) (k : Progress) (is : HasSteps c k) (t : Target) (targ
   needed : NeedsGoal c.problem c.problem.claim → t ≢ Nothing
   needed n = target.needed.0 (subst (λ p. NeedsGoal p p.claim) is.problem n)
 
-  pub unproved : k.goal ≡ None → t ≢ Nothing → ¬ PassesTest c meets_dual
-  unproved none some = goal_missed c (subst (GoalIs c) none is.checked.goal_is) (subst (λ p. NeedsGoal p p.claim) (sym is.problem) (target.needed.1 some))
+  pub unproved : k.goal ≡ None → t ≢ Nothing → ¬ PassesTest one c meets_dual
+  unproved none some = goal_missed one c (subst (GoalIs one c) none is.checked.goal_is) (subst (λ p. NeedsGoal p p.claim) (sym is.problem) (target.needed.1 some))
 
   pub reported : (r : Report) → ¬ ((k.goal ≡ None) × (t ≢ Nothing)) → r.claim ≡ k.problem.claim → r.solutions ≡ k.solutions → r.derived ≡ k.rows.next - length k.problem.constraints → r.peak ≡ k.peak → r.goal ≡ k.goal
-      → PassesTest c meets_dual × Reports c r
+      → PassesTest one c meets_dual × Reports one c r
   reported r lacks claim solutions derived peak goal =
-      let met = goal_met c k.goal is.checked.goal_is (λ n. some_goal k.goal (needed n) lacks) in (
+      let met = goal_met one c k.goal is.checked.goal_is (λ n. some_goal k.goal (needed n) lacks) in (
         met.0,
         record {
           claim = claim ∙ sym (ap (λ p. p.claim) is.problem);
           solutions = solutions ∙ sym is.solutions;
           derived = let e = ap (λ p. length p.constraints) is.problem in let next = is.rows.next in omega (arith, e, next, derived);
           peak = peak ∙ is.checked.peak_is;
-          goal = subst (λ g. MatchOption g (¬ NeedsGoal c.problem c.problem.claim) (IsGoal c)) (sym goal) met.1;
+          goal = subst (λ g. MatchOption g (¬ NeedsGoal c.problem c.problem.claim) (IsGoal one c)) (sym goal) met.1;
         },
       )
 

@@ -3,3 +3,5 @@ pub mod Goal
 pub mod Halts
 pub mod Progress
 pub mod State
+pub mod Run
+pub mod Checks

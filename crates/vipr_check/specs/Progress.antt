@@ -2,7 +2,7 @@
 use Rattle.std.specs.Prelude.{◌≡◌, ℕ, ◌<◌, ◌≤◌, List, length, Option, All, refl}
 use Rattle.std.specs.Coded.{Coded, code_by, coded×, coded_ℕ, coded_option}
 use Rattle.vipr_spec.specs.Fraction.{ℚ, coded_ℚ}
-use Rattle.vipr_spec.specs.Constraint.{Row, at, IsInteger}
+use Rattle.vipr_spec.specs.Constraint.{one, Row, at, IsInteger}
 use Rattle.vipr_spec.specs.Certificate.{Named, Problem, variables, Certificate, IsFeasible, SolutionFits, MeetsPrimal}
 use Rattle.vipr_spec.specs.Soundness.{IsBestValue}
 use Rattle.vipr_spec.specs.Checking.{IsFirstMet, IsChecked}
@@ -45,7 +45,7 @@ pub record HasSolutions (ss : List (Named Row)) (k : Progress) : Type 0 where
   pub best : IsBestValue k.problem ss k.best
   pub solutions : length ss ≡ k.solutions
   pub rows : k.rows ≡ empty_table (length k.problem.constraints)
-  pub goal : IsFirstMet k.problem k.goal
+  pub goal : IsFirstMet one k.problem k.goal
   pub peak : k.peak ≡ 0
 
 -- the certificate c came so far: its solutions meet the primal side of the claim, and its steps are good
@@ -56,7 +56,7 @@ pub record HasSteps (c : Certificate) (k : Progress) : Type 0 where
   pub best : IsBestValue c.problem c.solutions k.best
   pub solutions : length c.solutions ≡ k.solutions
   pub rows : IsTableOf c k.rows
-  pub checked : IsChecked c k.goal k.peak
+  pub checked : IsChecked one c k.goal k.peak
 
 -- what the rules need beside that: the target is that of the claim, all names are the problem's variables, and the scratch has a place for each
 pub record IsReady (p : Problem) (t : Target) (table : Table) (a : Accumulator) : Type 0 where

@@ -1,7 +1,7 @@
 -- What a checker holds, and what each of its calls makes of it
 use Rattle.std.specs.Prelude.{◌≡◌, ◌≢◌, ◌⊎◌, ℕ, ◌≤◌, Bool, true, false, List, ◌∷◌, ◌++◌, [], length, Option, Some, None, Result, Ok, Err, refl}
 use Rattle.std.specs.Coded.{Coded, code_by, coded×, coded_bool, coded_option}
-use Rattle.vipr_spec.specs.Constraint.{Row}
+use Rattle.vipr_spec.specs.Constraint.{one, Row}
 use Rattle.vipr_spec.specs.Certificate.{Named, Problem, MeetsPrimal, Derivation, Certificate, IsProof, count, held}
 use Rattle.vipr_spec.specs.OnePass.{with_next}
 use Rattle.vipr_spec.specs.Checking.{start}
@@ -104,10 +104,10 @@ TakesStep c d old new (Err e) = (h : Halt) × HaltsBy old h new e × StopsStep c
 -- ---- the end
 
 abbrev pub StopsFinish : Certificate → Halt → Type 0
-StopsFinish c (Refused r f) = (f ≡ Proof) × (¬ PassesTest c meets_dual) × IsRefusalBy r meets_dual
+StopsFinish c (Refused r f) = (f ≡ Proof) × (¬ PassesTest one c meets_dual) × IsRefusalBy r meets_dual
 StopsFinish c Memory = ⊥
 
 -- the certificate is a proof, this is its report, and its claim is true at every point; or no constraint proves the dual side
 abbrev pub Finishes : Certificate → State → State → Result Report Stop → Type 0
-Finishes c old new (Ok r) = IsProof c × Reports c (report_of r) × IsShown c.problem c.solutions c.problem.claim × (new ≡ old)
+Finishes c old new (Ok r) = IsProof one c × Reports one c (report_of r) × IsShown c.problem c.solutions c.problem.claim × (new ≡ old)
 Finishes c old new (Err e) = (h : Halt) × HaltsBy old h new e × StopsFinish c h

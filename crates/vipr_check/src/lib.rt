@@ -6,8 +6,13 @@ mod checker;
 mod goal;
 mod halt;
 mod progress;
+mod run;
+#[cfg(test)]
+mod tests;
 mod verdict;
+mod whole;
 
 pub use checker::Checker;
 pub use halt::Stop;
 pub use verdict::{Fault, Place, Refusal, Report, Verdict};
+pub use whole::{check, check_with};

@@ -2,7 +2,7 @@
 
 ghost use Rattle.std.specs.Prelude.{◌≡◌, ◌≢◌, ◌≤◌, ◌+◌, ◌<◌, ◌^◌, ◌⊎◌, ◌↔◌, IfOk, IfErr, OnOk, OnErr, MatchResult, MatchOption, IsTrue, Ok, List, [], ◌∷◌, ◌++◌, Some, None};
 ghost use Rattle.vipr_spec.specs.Certificate.{Named as NamedMeant, Derivation as DerivationMeant, Certificate, variables, MeetsPrimal, NeedsGoal, IsProof, count, held};
-ghost use Rattle.vipr_spec.specs.Constraint.{Row, at, NamesBelow};
+ghost use Rattle.vipr_spec.specs.Constraint.{one, Row, at, NamesBelow};
 ghost use Rattle.vipr_spec.specs.OnePass.{with_next};
 ghost use Rattle.vipr_spec.specs.Verdict.{step_tests, FirstFailing, PassesSolution, solution_tests, Reports, meets_dual, Passes as PassesTest};
 ghost use Rattle.vipr_items.specs.Items.{derivation_of};
@@ -165,7 +165,7 @@ impl<S: Rows> Progress<S> {
     /// The report, where the certificate ends here and is a proof.
     pub(crate) fn report(&self) -> Option<Report>
         ensures { (c : Certificate) → HasSteps c self.now
-            → MatchOption result (¬ PassesTest c meets_dual) (λ r. PassesTest c meets_dual × Reports c (report_of r)) }
+            → MatchOption result (¬ PassesTest one c meets_dual) (λ r. PassesTest one c meets_dual × Reports one c (report_of r)) }
     {
         if lacks_goal(self.goal, &self.target) {
             return None;

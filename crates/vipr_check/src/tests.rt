@@ -1,0 +1,363 @@
+ghost use Rattle.std.specs.Prelude.{◌≡◌, ◌<◌, length, Some};
+ghost use Rattle.vipr_spec.specs.Input.{Input};
+
+use crate::{Fault, Place, Refusal, Report, Verdict, check, check_with};
+use std::alloc::Global;
+use std::cell::Cell;
+use std::process::Abort;
+use std::test::Fail;
+use vipr_bytes::{Bytes, Failed, Source};
+use vipr_rules::KeepAll;
+use vipr_text::{CertReader, TextError};
+
+// x >= 1 and x <= 0.
+const INFEASIBLE: &[u8] =
+    b"VER 1.0\nVAR 1\nx\nINT 0\nOBJ min\n0\nCON 2 0\na G 1 1 0 1\nb L 0 1 0 1\nRTP infeas\nSOL 0\nDER 1\nf G 1 0 { lin 2 0 1 1 -1 } -1\n";
+// The second section has another word.
+const MISSPELLED: &[u8] =
+    b"VER 1.0\nVAX 1\nx\nINT 0\nOBJ min\n0\nCON 2 0\na G 1 1 0 1\nb L 0 1 0 1\nRTP infeas\nSOL 0\nDER 1\nf G 1 0 { lin 2 0 1 1 -1 } -1\n";
+// A brace stands at the reason.
+const GLUED: &[u8] =
+    b"VER 1.0\nVAR 1\nx\nINT 0\nOBJ min\n0\nCON 2 0\na G 1 1 0 1\nb L 0 1 0 1\nRTP infeas\nSOL 0\nDER 1\nf G 1 0 {lin 2 0 1 1 -1 } -1\n";
+// 0 >= 1, without variables.
+const ABSURD: &[u8] =
+    b"VER 1.0\nVAR 0\nINT 0\nOBJ min\n0\nCON 1 0\na G 1 0\nRTP infeas\nSOL 0\nDER 0\n";
+// The multiplier of b has the wrong sign.
+const MIXED: &[u8] =
+    b"VER 1.0\nVAR 1\nx\nINT 0\nOBJ min\n0\nCON 2 0\na G 1 1 0 1\nb L 0 1 0 1\nRTP infeas\nSOL 0\nDER 1\nf G 1 0 { lin 2 0 1 1 1 } -1\n";
+// The same, and something behind the last derivation.
+const MIXED_AND_MORE: &[u8] =
+    b"VER 1.0\nVAR 1\nx\nINT 0\nOBJ min\n0\nCON 2 0\na G 1 1 0 1\nb L 0 1 0 1\nRTP infeas\nSOL 0\nDER 1\nf G 1 0 { lin 2 0 1 1 1 } -1\n x";
+// The derivation refers to itself.
+const LATE: &[u8] =
+    b"VER 1.0\nVAR 1\nx\nINT 0\nOBJ min\n0\nCON 2 0\na G 1 1 0 1\nb L 0 1 0 1\nRTP infeas\nSOL 0\nDER 1\nf G 1 0 { lin 2 0 1 2 -1 } -1\n";
+// The sum is x >= 2, and 0 >= 1 is stated.
+const UNDOMINATED: &[u8] =
+    b"VER 1.0\nVAR 1\nx\nINT 0\nOBJ min\n0\nCON 2 0\na G 1 1 0 1\nb L 0 1 0 1\nRTP infeas\nSOL 0\nDER 1\nf G 1 0 { lin 1 0 2 } -1\n";
+// 2^126 times 2 is past the bound.
+const OVERFLOWING: &[u8] =
+    b"VER 1.0\nVAR 1\nx\nINT 0\nOBJ min\n0\nCON 1 0\na G 1 1 0 85070591730234615865843651857942052864\nRTP infeas\nSOL 0\nDER 1\nf G 2 0 { lin 1 0 2 } -1\n";
+// Nothing is derived.
+const UNPROVED: &[u8] =
+    b"VER 1.0\nVAR 1\nx\nINT 0\nOBJ min\n0\nCON 2 0\na G 1 1 0 1\nb L 0 1 0 1\nRTP infeas\nSOL 0\nDER 0\n";
+
+const TRAILING: &[u8] =
+    b"VER 1.0\nVAR 0\nINT 0\nOBJ min\n0\nCON 1 0\na G 1 0\nRTP infeas\nSOL 0\nDER 0\nx";
+
+const BOUNDED: &[u8] = b"VER 1.0 VAR 0 INT 0 OBJ min 0 CON 0 0 RTP range 0 inf SOL 0 DER 0";
+
+// No solution is listed, and one is claimed.
+const UNMET: &[u8] = b"VER 1.0 VAR 0 INT 0 OBJ min 0 CON 0 0 RTP range -inf 0 SOL 0 DER 0";
+
+const LISTED: &[u8] = b"VER 1.0 VAR 0 INT 0 OBJ min 0 CON 0 0 RTP infeas SOL 1 s 0 DER 0";
+
+// x >= 3, and the solution 3.
+const SOLVED: &[u8] =
+    b"VER 1.0\nVAR 1\nx\nINT 0\nOBJ min\n1 0 1\nCON 1 0\na G 3 1 0 1\nRTP infeas\nSOL 1\ns 1 0 3\nDER 1\nc L 3 1 0 1 { sol } -1\n";
+
+// x >= 3, and 2 as solution.
+const UNSOLVED: &[u8] =
+    b"VER 1.0\nVAR 1\nx\nINT 0\nOBJ min\n1 0 1\nCON 1 0\na G 3 1 0 1\nRTP infeas\nSOL 1\ns 1 0 2\nDER 1\nc L 3 1 0 1 { sol } -1\n";
+
+const ASSUMED: &[u8] =
+    b"VER 1.0 VAR 0 INT 0 OBJ min 0 CON 0 0 RTP infeas SOL 0 DER 1 f G 1 0 { asm } -1";
+
+const CUT_OFF: &[u8] =
+    b"VER 1.0 VAR 0 INT 0 OBJ min 0 CON 0 0 RTP infeas SOL 0 DER 1 f G 1 0 { sol } -1";
+
+fn report_of(verdict: Verdict) -> Option<Report> {
+    match verdict {
+        Verdict::Verified(report) => Some(report),
+        Verdict::Refused(_) => None,
+    }
+}
+
+fn refusal<R: Source + Drop>(alloc: Global, source: R) -> Option<Refusal> {
+    match check(alloc, source) {
+        Ok(Verdict::Refused(refusal)) => Some(refusal),
+        Ok(Verdict::Verified(_)) | Err(_) => None,
+    }
+}
+
+fn at(cause: u8, place: Place) -> Option<Refusal> {
+    Some(Refusal { cause, place })
+}
+
+#[test]
+fn proofs_are_verified(rt: HostRuntime) -> Result<(), Fail> {
+    let report = report_of(check(rt.alloc(), Bytes::new(INFEASIBLE))?).ok_or("it is a proof")?;
+    assert_eq!(rt; report.solutions, 0);
+    assert_eq!(rt; report.derived, 1);
+    assert_eq!(rt; report.peak, 1);
+    assert_eq!(rt; report.goal, Some(2));
+    let report = report_of(check(rt.alloc(), Bytes::new(ABSURD))?).ok_or("it is a proof")?;
+    assert_eq!(rt; report.derived, 0);
+    assert_eq!(rt; report.peak, 0);
+    assert_eq!(rt; report.goal, Some(0));
+    Ok(())
+}
+
+#[test]
+fn any_table_serves(rt: HostRuntime) -> Result<(), Fail> {
+    let verdict = check_with::<Bytes, KeepAll>(rt.alloc(), Bytes::new(INFEASIBLE))?;
+    let report = report_of(verdict).ok_or("it is a proof")?;
+    assert_eq!(rt; report.goal, Some(2));
+    Ok(())
+}
+
+#[test]
+fn others_are_refused(rt: HostRuntime) {
+    let alloc = rt.alloc();
+    assert_eq!(rt; refusal(alloc, Bytes::new(b"")), at(1, Place::Byte(0)));
+    assert_eq!(rt;
+        refusal(alloc, Bytes::new(TRAILING)),
+        at(18, Place::Byte(69))
+    );
+    assert_eq!(rt; refusal(alloc, Bytes::new(LATE)), at(31, Place::Der(2)));
+    assert_eq!(rt; refusal(alloc, Bytes::new(MIXED)), at(34, Place::Der(2)));
+    assert_eq!(rt;
+        refusal(alloc, Bytes::new(OVERFLOWING)),
+        at(35, Place::Der(1))
+    );
+    assert_eq!(rt;
+        refusal(alloc, Bytes::new(UNDOMINATED)),
+        at(38, Place::Der(2))
+    );
+    assert_eq!(rt; refusal(alloc, Bytes::new(UNPROVED)), at(51, Place::End));
+    assert_eq!(rt; refusal(alloc, Bytes::new(BOUNDED)), at(51, Place::End));
+    assert_eq!(rt; refusal(alloc, Bytes::new(LISTED)), at(51, Place::End));
+    assert_eq!(rt; refusal(alloc, Bytes::new(UNMET)), at(52, Place::End));
+    assert_eq!(rt; refusal(alloc, Bytes::new(UNSOLVED)), at(22, Place::Sol(0)));
+    assert_eq!(rt; refusal(alloc, Bytes::new(CUT_OFF)), at(39, Place::Der(0)));
+    // what is assumed is no goal
+    assert_eq!(rt; refusal(alloc, Bytes::new(ASSUMED)), at(51, Place::End));
+}
+
+/// Gives its bytes in pieces, then the end or a failure, and counts the reads.
+#[derive(Drop)]
+struct Counting<'a> {
+    left: &'a [u8],
+    piece: usize,
+    fails: bool,
+    reads: &'a Cell<usize>,
+    ghost some: { 0 < piece },
+}
+
+impl Source for Counting<'_> {
+    ghost reads_left = { λ c. length c.left.now };
+
+    ghost input = { λ c. Some (record { bytes = c.left.now; fails = c.fails }) };
+
+    fn read(&mut self, buf: &mut [u8]) -> Result<usize, Failed> {
+        self.reads.set(self.reads.get().saturating_add(1));
+        if self.fails && self.left.is_empty() {
+            return Err(Failed);
+        }
+        let n = self.left.len().min(self.piece).min(buf.len());
+        let (front, rest) = self.left.split_at(n);
+        buf[..n].copy_from_slice(front);
+        self.left = rest;
+        Ok(n)
+    }
+}
+
+/// What is answered: `None` where the certificate is verified.
+fn answered<R: Source + Drop>(alloc: Global, source: R) -> Result<Option<Refusal>, Fault> {
+    match check(alloc, source)? {
+        Verdict::Verified(_) => Ok(None),
+        Verdict::Refused(refusal) => Ok(Some(refusal)),
+    }
+}
+
+/// Checks the answer and the number of reads where `given` comes in pieces, and then the end or a failure.
+///
+/// The answer needs `needed` bytes, one more than there are where it needs their end.
+fn reads_what_it_needs<H: Abort + AllocGlobal>(
+    rt: &H,
+    given: &[u8],
+    fails: bool,
+    piece: usize,
+    needed: usize,
+    wanted: Option<Refusal>,
+)
+    requires { 0 < piece }
+{
+    let reads = Cell::new(0);
+    let source = Counting {
+        left: given,
+        piece,
+        fails,
+        reads: &reads,
+    };
+    let answer = answered(rt.alloc(), source);
+    let len = given.len();
+    let pieces = len.min(needed).div_ceil(piece);
+    if len >= needed {
+        assert_eq!(rt; answer, Ok(wanted), "{len} bytes by {piece}");
+        assert_eq!(rt; reads.get(), pieces, "{len} bytes by {piece}");
+    } else {
+        let wanted = if fails { Err(Fault::Read) } else { Ok(wanted) };
+        assert_eq!(rt; answer, wanted, "{len} bytes by {piece}");
+        assert_eq!(rt;
+            reads.get(),
+            pieces.saturating_add(1),
+            "{len} bytes by {piece}"
+        );
+    }
+}
+
+/// A read is made only where the bytes at hand don't decide, and none after a failure or the end.
+#[test]
+fn reads_are_made_as_they_are_needed(rt: HostRuntime) {
+    let rows = [
+        (INFEASIBLE, 118, None),
+        (MISSPELLED, 12, at(2, Place::Byte(8))),
+        (GLUED, 100, at(15, Place::Byte(95))),
+        (BOUNDED, 66, at(51, Place::End)),
+        (UNMET, 61, at(52, Place::End)),
+        (UNSOLVED, 81, at(22, Place::Sol(0))),
+        (LATE, 117, at(31, Place::Der(2))),
+        (MIXED_AND_MORE, 116, at(34, Place::Der(2))),
+        (UNPROVED, 88, at(51, Place::End)),
+        (TRAILING, 71, at(18, Place::Byte(69))),
+    ];
+    for (text, needed, wanted) in rows {
+        for piece in 1..8 {
+            for given in 0..=text.len() {
+                let (front, _) = text.split_at(given);
+                reads_what_it_needs(&rt, front, true, piece, needed, wanted);
+            }
+            reads_what_it_needs(&rt, text, false, piece, needed, wanted);
+        }
+    }
+}
+
+/// Of a name, no more than 65,536 bytes are read before it is known to be too long: with the 14 bytes in front, 1311
+/// pieces of 50.
+#[test]
+fn long_names_are_read_as_they_are_needed(rt: HostRuntime) -> Result<(), Fail> {
+    let alloc = rt.alloc();
+    let (front, behind) = INFEASIBLE.split_at_checked(14).ok_or("too short")?;
+    let rows = [
+        (65534, 65534 + 117 + 1, None),
+        (65535, 65536 + 14, at(17, Place::Byte(14))),
+        (65540, 65536 + 14, at(17, Place::Byte(14))),
+    ];
+    for (more, needed, wanted) in rows {
+        let mut text = front.to_vec(alloc)?;
+        text.resize(14 + more, b'x')?;
+        text.extend_from_slice(behind)?;
+        reads_what_it_needs(&rt, text.as_slice(), false, 50, needed, wanted);
+    }
+    Ok(())
+}
+
+/// Each reader stops behind its item, and the last one at the end.
+#[test]
+fn readers_stop_behind_their_items(rt: HostRuntime) -> Result<(), Fail> {
+    let alloc = rt.alloc();
+    let reads = Cell::new(0);
+    let reader = CertReader::new(
+        alloc,
+        Counting {
+            left: SOLVED,
+            piece: 1,
+            fails: false,
+            reads: &reads,
+        },
+    )?;
+    assert_eq!(rt; reads.get(), 0);
+    let (_, mut solutions) = reader.read_problem(alloc)?;
+    assert_eq!(rt; reads.get(), 73);
+    assert!(rt; solutions.next(alloc)?.is_some());
+    assert_eq!(rt; reads.get(), 81);
+    assert!(rt; solutions.next(alloc)?.is_none());
+    assert_eq!(rt; solutions.left(), 0);
+    assert_eq!(rt; reads.get(), 81);
+    let mut derivations = solutions.finish()?;
+    assert_eq!(rt; reads.get(), 87);
+    assert!(rt; derivations.next(alloc)?.is_some());
+    assert_eq!(rt; reads.get(), 110);
+    for _ in 0..2 {
+        assert!(rt; derivations.next(alloc)?.is_none());
+        assert_eq!(rt; reads.get(), 111);
+    }
+    Ok(())
+}
+
+/// A reader whose source failed reads no more.
+#[test]
+fn readers_stop_at_a_failure(rt: HostRuntime) -> Result<(), Fail> {
+    let alloc = rt.alloc();
+    for given in 73..SOLVED.len() {
+        let reads = Cell::new(0);
+        let (left, _) = SOLVED.split_at(given);
+        let source = Counting {
+            left,
+            piece: 1,
+            fails: true,
+            reads: &reads,
+        };
+        let (_, mut solutions) = CertReader::new(alloc, source)?.read_problem(alloc)?;
+        if given < 81 {
+            assert_eq!(rt; solutions.next(alloc).err(), Some(TextError::Read));
+            assert_eq!(rt; solutions.next(alloc).err(), Some(TextError::Spent));
+            assert_eq!(rt; solutions.left(), 1);
+        } else {
+            assert!(rt; solutions.next(alloc)?.is_some());
+            assert_eq!(rt; solutions.left(), 0);
+            match solutions.finish() {
+                Ok(mut derivations) => {
+                    assert_eq!(rt; derivations.next(alloc).err(), Some(TextError::Read));
+                    assert_eq!(rt; derivations.next(alloc).err(), Some(TextError::Spent));
+                }
+                Err(error) => assert_eq!(rt; (error, given < 87), (TextError::Read, true)),
+            }
+        }
+        assert_eq!(rt; reads.get(), given + 1);
+    }
+    Ok(())
+}
+
+/// How many of a certificate's beginnings have each cause, 0 standing for those that are verified.
+#[test]
+fn beginnings_are_refused(rt: HostRuntime) {
+    let alloc = rt.alloc();
+    let mut counts = [0u8; 256];
+    for len in 0..INFEASIBLE.len() {
+        let (beginning, _) = INFEASIBLE.split_at(len);
+        let reads = Cell::new(0);
+        let source = Counting {
+            left: beginning,
+            piece: 1,
+            fails: false,
+            reads: &reads,
+        };
+        let answer = answered(alloc, source);
+        assert_eq!(rt; answered(alloc, Bytes::new(beginning)), answer);
+        let cause = match answer {
+            Ok(Some(refusal)) => refusal.cause,
+            Ok(None) | Err(_) => 0,
+        };
+        match cause {
+            0 => assert_eq!(rt; (answer, len), (Ok(None), 116)),
+            1 => assert_eq!(rt; answer, Ok(at(1, Place::Byte(len as u64)))),
+            _ => {}
+        }
+        counts[cause as usize] = counts[cause as usize].saturating_add(1);
+    }
+    let rows = [
+        (0, 1),
+        (1, 87),
+        (2, 16),
+        (3, 2),
+        (4, 1),
+        (12, 2),
+        (13, 5),
+        (14, 2),
+        (16, 1),
+    ];
+    for (cause, wanted) in rows {
+        assert_eq!(rt; counts[cause as usize], wanted, "cause {cause}");
+    }
+}
