@@ -62,7 +62,7 @@ halts_advanced v w k o h a e is f g says = record {
   kept = inr (
     is,
     ap (λ x. record v { progress = x; halt = o }) f ∙ ap (λ x. record v { progress = record v.progress { rows = advance_table v.progress.rows }; halt = x }) g
-    ∙ ap (λ (u : State). record u { halt = Some h; progress = record u.progress { rows = advance_table u.progress.rows } }) e,
+        ∙ ap (λ (u : State). record u { halt = Some h; progress = record u.progress { rows = advance_table u.progress.rows } }) e,
   );
   answer = says;
 }
@@ -92,7 +92,7 @@ stops_step c d k e (Refused r f) same is (inr x) = (
   is.2,
   x,
   ap (λ p. refuses (record { cause = r.cause; place = place_of p })) is.1 ∙ ap (λ i. refuses (record { cause = r.cause; place = at_derivation i })) (sym same)
-  ∙ ap (λ n. refuses (record { cause = n; place = at_derivation (count c) })) (cause_is c d e x.0 r.cause x.2 is.0),
+      ∙ ap (λ n. refuses (record { cause = n; place = at_derivation (count c) })) (cause_is c d e x.0 r.cause x.2 is.0),
 )
 
 pub kept_or_advanced : (v w : State) (k : Progress) (o : Option Halt) (h : Halt) (a : Stop) (n : ℕ) (name : List ℕ) (e : RuleError) → v ≡ w → IsStepHalt n name e h

@@ -5,3 +5,4 @@ pub mod Failures
 pub mod GoalLemmas
 pub mod ProgressLemmas
 pub mod RunLemmas
+pub mod SoundLemmas

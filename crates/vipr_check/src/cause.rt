@@ -1,7 +1,6 @@
 //! The causes for which a certificate is refused: their numbers, names and meanings.
 
 ghost use Rattle.std.specs.Prelude.{◌≡◌, IfSome, IfNone, option_map, Some, None};
-
 ghost use Rattle.vipr_spec.specs.Verdict.{solution_cause};
 ghost use Rattle.vipr_rules.specs.Solution.{test_of};
 ghost use Rattle.vipr_check.specs.Halts.{rule_cause};

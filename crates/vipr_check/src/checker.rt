@@ -1,9 +1,10 @@
 //! A checker: takes a certificate item by item, and stops at the first that is at fault.
 
-ghost use Rattle.std.specs.Prelude.{◌≡◌, ◌+◌, ◌<◌, ◌^◌, true, false, IfOk, MatchOption, List, [], None, Some, Ok, Err};
+ghost use Rattle.std.specs.Prelude.{◌≡◌, ◌≢◌, ◌+◌, ◌<◌, ◌^◌, true, false, IfOk, MatchOption, List, [], None, Some, Ok, Err};
 ghost use Rattle.vipr_spec.specs.Certificate.{Named as NamedMeant, Certificate, variables};
 ghost use Rattle.vipr_spec.specs.Constraint.{Row, at, NamesBelow};
 ghost use Rattle.vipr_items.specs.Items.{solution_of, derivation_of};
+ghost use Rattle.vipr_check.specs.Sound.{KeepsSoundness};
 ghost use Rattle.vipr_check.specs.Halts.{first_answer, later_answer};
 ghost use Rattle.vipr_check.specs.Progress.{HasSolutions, HasSteps};
 ghost use Rattle.vipr_check.specs.State.{Repeats, TakesSolution, EndsSolutions, TakesStep, Finishes};
@@ -61,7 +62,12 @@ impl<S: Rows> Checker<S> {
     /// Whether solutions may still come: `solution` and `end_solutions` are called then, the others
     /// after.
     pub fn in_solutions(&self) -> bool
-        ensures { result ≡ self.now.in_solutions }
+        ensures phase { result ≡ self.now.in_solutions }
+        // What is so of every checker, unless memory was refused: its best value is that of a
+        // feasible point, its rows are true wherever those are that they rest on, and once it has a
+        // goal, the dual side of the claim is true.
+        ensures sound { self.now.halt ≢ Some Halt.Memory
+            → KeepsSoundness self.now.progress.problem self.now.progress.best self.now.progress.rows self.now.progress.goal }
     {
         self.in_solutions
     }

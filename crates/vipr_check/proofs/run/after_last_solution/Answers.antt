@@ -32,8 +32,8 @@ returns-in-Ok g c = λ p ss is told.
     let at = at_start p ss c.args.checker c.end_solutions.new.self old is h new (knows_still p old new is.knows c.in-Ok.ensures.remembers) c.in-Ok.ensures.unspent c.in-Ok.ensures.counted in
     ending_read p ss new.left old.reading.left new.reading.left c.after_steps.result met r.0 (c.after_steps.ensures (start p ss) at r.1)
 
-pub returns-in-Err-2 : goal.returns-in-Err-2
-returns-in-Err-2 g c = λ p ss is told.
+pub returns-in-Err-finish : goal.returns-in-Err-finish
+returns-in-Err-finish g c = λ p ss is told.
     let old = c.args.solutions in
     let met = ending_met p ss c.args.checker c.end_solutions.new.self is.problem (c.in_default.ensures.next ss is.runs is.has) in
-    subst (Says (Answers one (solutions_from p ss 0 old.reading.left))) (sym c.unread.ensures) (ending_failed p ss old.reading.left c.in-Err-2.error met (c.in-Err-2.ensures.read p is.knows is.unspent told))
+    subst (Says (Answers one (solutions_from p ss 0 old.reading.left))) (sym c.unread.ensures) (ending_failed p ss old.reading.left c.in-Err-finish.error met (c.in-Err-finish.ensures.read p is.knows is.unspent told))

@@ -16,9 +16,9 @@ invariant_of-self g c =
 
 pub invariant_of-self-in-Err : goal.invariant_of-self-in-Err
 invariant_of-self-in-Err g c =
-    let open : c.self.inside.halt ≡ None = ap (λ v. v.halt) c.self.view_is ∙ runs_of c.args.self.now.halt _ c.in_ok-go_on.ensures in
+    let unstopped : c.self.inside.halt ≡ None = ap (λ v. v.halt) c.self.view_is ∙ runs_of c.args.self.now.halt _ c.in_ok-go_on.ensures in
     reached_after c.self.inside.progress c.derivation.new.self c.self.inside.in_solutions c.self.inside.halt c.stop.new.halt c.at_derivation.result c.next-index.result _ c.in-Err.error
-    open c.self.invariant c.at_derivation.ensures c.in-Err.ensures.err c.stop.ensures.halt
+    unstopped c.self.invariant c.at_derivation.ensures c.in-Err.ensures.err c.stop.ensures.halt
 
 pub returns-in-Ok-clause-next : goal.returns-in-Ok-clause-next
 returns-in-Ok-clause-next g c = λ s halted has.

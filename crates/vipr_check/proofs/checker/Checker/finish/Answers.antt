@@ -8,8 +8,8 @@ use Rattle.vipr_check.proofs.checker.Checker.finish.Goals as goal
 pub invariant_of-self : goal.invariant_of-self
 invariant_of-self g c =
     let runs : c.args.self.now.halt ≡ None = runs_of c.args.self.now.halt _ c.in_ok-go_on.ensures in
-    let open : c.self.inside.halt ≡ None = ap (λ v. v.halt) c.self.view_is ∙ runs in
-    reached_still c.self.inside.progress c.self.inside.in_solutions c.self.inside.halt c.stop.new.halt open c.self.invariant
+    let unstopped : c.self.inside.halt ≡ None = ap (λ v. v.halt) c.self.view_is ∙ runs in
+    reached_still c.self.inside.progress c.self.inside.in_solutions c.self.inside.halt c.stop.new.halt unstopped c.self.invariant
 
 pub returns-in-Some-clause-next : goal.returns-in-Some-clause-next
 returns-in-Some-clause-next g c = λ s halted has.

@@ -38,5 +38,5 @@ returns-clause-next g c = λ s has.
     let next = c.goal_with-goal.ensures s d (subst (λ p. IsTargetOf p k.target) (sym is.problem) c.self.invariant.target) (sym (c.next.ensures ∙ is.rows.next)) judged.1 in (
       judged.0,
       steps_next s d c.in_ok-entry.entry _ (g.S.Rows.table c.place.new.rows) c.max-self-inside.result c.goal_with-goal.result is judged.0 judged.1 c.in_ok-held.ensures.table
-      (c.max-self-inside.ensures ∙ ap (max k.peak) c.in_ok-held.ensures.held) next,
+          (c.max-self-inside.ensures ∙ ap (max k.peak) c.in_ok-held.ensures.held) next,
     )
