@@ -1,27 +1,20 @@
 -- What is answered, step by step
-use Rattle.std.proofs.Common.{◌≡◌, ℕ, true, false, List, Some, None, Result, Ok, Err, refl, sym, ap, subst}
-use Rattle.vipr_spec.specs.Certificate.{Certificate, Derivation, IsProof, count}
+use Rattle.std.proofs.Common.{◌≡◌, ℕ, true, false, List, Option, Result, Ok, Err, subst}
+use Rattle.vipr_spec.specs.Certificate.{Certificate, IsProof}
 use Rattle.vipr_spec.specs.Input.{Input}
 use Rattle.vipr_spec.specs.Reading.{Rest, Fault as ReadFault, refused, unread, certificate_read}
 use Rattle.vipr_spec.specs.Grammar.{Spells, SpellsOnly}
 use Rattle.vipr_spec.specs.GrammarLaws.{whole_text}
 use Rattle.vipr_spec.specs.Soundness.{IsShown}
-use Rattle.vipr_spec.specs.Verdict.{StepTest, earlier, live, assumed, suitable, fitting, roundable, split, listed, by_sum, by_rounding, by_constraint, by_cutoff, step_tests, spelled, of_solution, of_step, Reports, Answer, verified, cut_short, told_by, IsAnswer}
+use Rattle.vipr_spec.specs.Verdict.{spelled, Reports, Answer, verified, cut_short, told_by, IsAnswer}
 use Rattle.vipr_spec.proofs.Reported.{one_answer}
 use Rattle.vipr_spec.proofs.WholeText.{verified_read, verified_text, proof_answered}
 use Rattle.vipr_spec.proofs.GrammarWhole.{reads_certificates, reads_texts, one_certificate}
 use Rattle.vipr_spec.proofs.Points.{claim_shown}
-use Rattle.vipr_linear.specs.Constraint.{condition_of}
 use Rattle.vipr_tokens.specs.Faults.{Fails}
 use Rattle.vipr_tokens.specs.declared.error.TextError.{TextError}
 use Rattle.vipr_tokens.specs.declared.error.TextError.TheVariants as text
-use Rattle.vipr_rules.specs.Judged.{IsComputed, Tells, Stops}
-use Rattle.vipr_spec.specs.Constraint.{one, Row}
-use Rattle.vipr_rules.specs.Solution.{test_of}
-use Rattle.vipr_rules.specs.declared.solution.SolutionError.{SolutionError}
-use Rattle.vipr_rules.specs.declared.solution.SolutionError.TheVariants as solution
-use Rattle.vipr_rules.specs.declared.failure.RuleError.{RuleError}
-use Rattle.vipr_rules.specs.declared.failure.RuleError.TheVariants as rule
+use Rattle.vipr_spec.specs.Constraint.{one}
 use Rattle.vipr_check.specs.declared.verdict.Report.{Report}
 use Rattle.vipr_check.specs.declared.verdict.Verdict.{Verdict}
 use Rattle.vipr_check.specs.declared.verdict.Verdict.TheVariants.{Verified, Refused}
@@ -29,10 +22,11 @@ use Rattle.vipr_check.specs.declared.verdict.Fault.{Fault}
 use Rattle.vipr_check.specs.declared.verdict.Fault.TheVariants.{Read, Memory}
 use Rattle.vipr_check.proofs.Failures.{failed_read}
 use Rattle.vipr_check.specs.View.{report_of, answer_of, Says, IfVerified, IsVerified}
-use Rattle.vipr_check.specs.Refused.{text_failed, solution_failed, step_failed}
-use Rattle.vipr_check.specs.Taking.{FailsNext}
+use Rattle.vipr_check.specs.Run.{text_answer}
 use Rattle.vipr_text.specs.Whole.{rest_of}
-use Rattle.vipr_text.proofs.WholeTexts.{whole_is}
+use Rattle.vipr_text.specs.Whole.{IfTold, IfWhole}
+use Rattle.vipr_text.proofs.WholeTexts.{IfTold-by, IfWhole-by, whole_is}
+use Rattle.vipr_check.specs.Checks.{Checks}
 
 pub Says-by : (P Q : Answer → Type 0) (r : Result Verdict Fault) → ((a : Answer) → P a → Q a) → Says P r → Says Q r
 Says-by P Q (Ok v) k h = k (answer_of v) h
@@ -42,51 +36,11 @@ Says-by P Q (Err Memory) k h = tt
 -- ---- errors
 
 -- an error of a reader tells the fault
-pub text_says : {Y : Type 0} (P : Answer → Type 0) (e : TextError) (r : Result Y ReadFault) → Fails e r → ((f : ReadFault) → r ≡ Err f → P (told_by (spelled f))) → Says P (text_failed e)
+pub text_says : {Y : Type 0} (P : Answer → Type 0) (e : TextError) (r : Result Y ReadFault) → Fails e r → ((f : ReadFault) → r ≡ Err f → P (told_by (spelled f))) → Says P (text_answer e)
 text_says P (text.Refused c o) r h k = k (refused c o) h
 text_says P text.Read r h k = k unread h
 text_says P text.Memory r h k = tt
 text_says P text.Spent r h k = absurd h
-
-abbrev told : ℕ → StepTest → Answer
-told k t = told_by (of_step k t)
-
-compared : (k : ℕ) (c : Certificate) (x : _) (t : StepTest) → IsComputed c t x → told k by_cutoff ≡ told k t
-compared k c x (by_sum es) h = refl
-compared k c x (by_rounding es) h = refl
-compared k c x (by_constraint i) h = refl
-compared k c x by_cutoff h = refl
-compared k c x (earlier i) h = absurd h
-compared k c x (live i) h = absurd h
-compared k c x (assumed l) h = absurd h
-compared k c x (suitable es) h = absurd h
-compared k c x (fitting es) h = absurd h
-compared k c x (roundable es) h = absurd h
-compared k c x (split l1 l2) h = absurd h
-compared k c x listed h = absurd h
-
--- an error of the rules tells the test
-tells_says : (k : ℕ) (c : Certificate) (d : Derivation) (e : RuleError) (t : StepTest) → Tells c d e t → Says (λ a. a ≡ told k t) (step_failed k e)
-tells_says k c d (rule.NotEarlier i) t h = ap (told k) (sym h)
-tells_says k c d (rule.Dropped i) t h = ap (told k) (sym h)
-tells_says k c d (rule.NotAssumption i) t h = ap (told k) (sym h)
-tells_says k c d (rule.MixedSigns n) t h = ap (told k) (sym h)
-tells_says k c d (rule.Overflow n) t h = ap (told k) (sym h)
-tells_says k c d (rule.NotRoundable x) t h = ap (told k) (sym h.0)
-tells_says k c d (rule.NotSplit x y) t h = ap (told k) (sym h.2)
-tells_says k c d (rule.NotDominated x y) t h = compared k c (condition_of x) t h.0
-tells_says k c d rule.NoSolution t h = ap (told k) (sym h)
-tells_says k c d rule.Memory t h = absurd h
-
-pub rule_says : (k : ℕ) (c : Certificate) (d : Derivation) (e : RuleError) → k ≡ count c → Stops c d (step_tests d.reason) e → FailsNext c d (step_failed k e)
-rule_says k c d e is h = record { test = h.0; first = h.1; says = subst (λ n. Says (λ a. a ≡ told n h.0) (step_failed k e)) is (tells_says k c d e h.0 h.2) }
-
--- an error of a listed solution tells the test
-pub told_solution : (i : ℕ) (s : Row) (e : SolutionError) → answer_of (solution_failed i e) ≡ told_by (of_solution i s (test_of e))
-told_solution i s (solution.NotWhole j) = refl
-told_solution i s (solution.Breaks n) = refl
-told_solution i s (solution.Overflow None) = refl
-told_solution i s (solution.Overflow (Some n)) = refl
 
 -- ---- the whole
 
@@ -132,3 +86,15 @@ every_read r c (Err Memory) e p h = tt
 
 pub every_says : (i : Input) (x : Result Verdict Fault) → Says (IsAnswer one (rest_of i)) x → i.fails ≡ false → (c : Certificate) → Spells i.bytes c → IsProof one c → IsVerified x (λ report. Reports one c (report_of report))
 every_says i x h e c s p = every_read (whole_text i.bytes) c x ((reads_texts i.bytes c).1 s) p (subst (λ r. Says (IsAnswer one r) x) (whole_is i e) h)
+
+-- all of it from the exact answer
+pub checks : (source : Option Input) (x : Result Verdict Fault) → IfTold source (λ i. Says (IsAnswer one (rest_of i)) x) → Checks source x
+checks source x exact = record {
+  exact = exact;
+  only = IfTold-by source (λ i. Says (IsAnswer one (rest_of i)) x) (λ i. (a : Answer) → IsAnswer one (rest_of i) a → Says (λ b. b ≡ a) x) (λ i h. only_says (rest_of i) x h) exact;
+  read = IfTold-by source (λ i. Says (IsAnswer one (rest_of i)) x) (λ i. x ≡ Err Read → i.fails ≡ true) (λ i h. read_says (rest_of i) x h) exact;
+  ended = IfTold-by source (λ i. Says (IsAnswer one (rest_of i)) x) (λ i. IfVerified x (λ report. i.fails ≡ false)) (λ i h. ended_says (rest_of i) x h) exact;
+  proof = IfWhole-by source (λ i. Says (IsAnswer one (rest_of i)) x) (λ bytes. IfVerified x (IsProofOf bytes)) (λ i h e. proof_says i x h e) exact;
+  every = IfWhole-by source (λ i. Says (IsAnswer one (rest_of i)) x) (λ bytes. (c : Certificate) → Spells bytes c → IsProof one c → IsVerified x (λ report. Reports one c (report_of report))) (λ i h e. every_says i x h e) exact;
+  sound = IfWhole-by source (λ i. Says (IsAnswer one (rest_of i)) x) (λ bytes. IfVerified x (λ report. (c : Certificate) × SpellsOnly bytes c × IsShown c.problem c.solutions c.problem.claim)) (λ i h e. sound_says i x h e) exact;
+}

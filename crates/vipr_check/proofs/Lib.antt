@@ -1,5 +1,8 @@
 pub mod Answering
-pub mod GoalLemmas
-pub mod DescribedLemmas
-pub mod StreamLemmas
+pub mod CauseLemmas
+pub mod CheckerLemmas
 pub mod Failures
+pub mod GoalLemmas
+pub mod ProgressLemmas
+pub mod RunLemmas
+pub mod SoundLemmas

@@ -1,5 +1,8 @@
 pub mod View
 pub mod Goal
-pub mod Refused
+pub mod Halts
+pub mod Progress
+pub mod Sound
 pub mod State
-pub mod Taking
+pub mod Run
+pub mod Checks

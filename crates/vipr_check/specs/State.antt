@@ -1,73 +1,113 @@
--- A checker, described by the certificate that it was handed so far
-use Rattle.std.specs.Prelude.{◌≡◌, ◌+◌, ◌<◌, ◌^◌, true, false, List, length}
-use Rattle.vipr_spec.specs.Constraint.{one, Row, at, NamesBelow}
-use Rattle.vipr_spec.specs.Certificate.{Named, Problem, variables, Derivation, Certificate, count}
-use Rattle.vipr_spec.specs.Soundness.{IsBestValue}
-use Rattle.vipr_spec.specs.Checking.{IsFirstMet, IsChecked}
-use Rattle.vipr_spec.specs.Verdict.{Answer}
-use Rattle.vipr_spec.specs.Progress.{Answers, solutions_from, derivations_from}
-use Rattle.vipr_text.specs.Readers.{Items, Knows}
-use Rattle.vipr_rules.specs.Table.{Table, empty_table}
-use Rattle.vipr_rules.specs.Claim.{IsTargetOf}
-use Rattle.vipr_rules.specs.Before.{DerivedBelow}
-use Rattle.vipr_rules.specs.History.{IsTableOf}
-use Rattle.vipr_check.specs.declared.checker.Checker.{Checker}
+-- What a checker holds, and what each of its calls makes of it
+use Rattle.std.specs.Prelude.{◌≡◌, ◌≢◌, ◌⊎◌, ℕ, ◌≤◌, Bool, true, false, List, ◌∷◌, ◌++◌, [], length, Option, Some, None, Result, Ok, Err, refl}
+use Rattle.std.specs.Coded.{Coded, code_by, coded×, coded_bool, coded_option}
+use Rattle.vipr_spec.specs.Constraint.{one, Row}
+use Rattle.vipr_spec.specs.Certificate.{Named, Problem, MeetsPrimal, Derivation, Certificate, IsProof, count, held}
+use Rattle.vipr_spec.specs.OnePass.{with_next}
+use Rattle.vipr_spec.specs.Checking.{start}
+use Rattle.vipr_spec.specs.Soundness.{IsShown}
+use Rattle.vipr_spec.specs.Verdict.{step_tests, Test, of_solution, of_step, meets_primal, meets_dual, Passes as PassesTest, PassesSolution, solution_tests, FirstFailing, Reports, Answer, refuses, told_by}
+use Rattle.vipr_rules.specs.Judged.{Passes, Stops}
+use Rattle.vipr_rules.specs.Table.{advance_table, held as held_in}
+use Rattle.vipr_rules.specs.Solution.{test_of}
+use Rattle.vipr_rules.specs.declared.solution.SolutionError.{SolutionError}
+use Rattle.vipr_rules.specs.declared.failure.RuleError.{RuleError}
+use Rattle.vipr_check.specs.declared.verdict.Refusal.{Refusal}
+use Rattle.vipr_check.specs.declared.verdict.Report.{Report}
+use Rattle.vipr_check.specs.declared.halt.Stop.{Stop}
+use Rattle.vipr_check.specs.declared.halt.Finding.{Finding}
+use Rattle.vipr_check.specs.declared.halt.Finding.TheVariants.{Solution, Primal, Derived, Proof}
+use Rattle.vipr_check.specs.declared.halt.Halt.{Halt}
+use Rattle.vipr_check.specs.declared.halt.Halt.TheVariants.{Refused, Memory}
+use Rattle.vipr_check.specs.contracts.halt.Halt as halt
+use Rattle.vipr_check.specs.View.{refusal_of, report_of}
+use Rattle.vipr_check.specs.Halts.{first_answer, later_answer}
+use Rattle.vipr_check.specs.Progress.{Progress, progress_code, HasSolutions, HasSteps}
 
--- the checker has what is to be known of the certificate so far
-pub record Describes {S : Type 0} (table : S → Table) (c : Certificate) (k : Checker S) : Type 0 where
-  pub problem : c.problem ≡ k.problem
-  pub target : IsTargetOf c.problem k.target
-  pub best : IsBestValue c.problem c.solutions k.best
-  pub listed : length c.solutions ≡ k.listed
-  pub rows : IsTableOf c (table k.rows)
-  pub own : DerivedBelow (variables c.problem) (table k.rows)
-  pub scratch : length k.scratch.sums ≡ variables c.problem
-  pub checked : IsChecked one c k.goal k.peak
+pub record State : Type 0 where
+  pub progress : Progress
+  -- whether solutions may still come
+  pub in_solutions : Bool
+  -- why it stopped, if it did
+  pub halt : Option Halt
 
--- the checker has what is to be known of the problem and these solutions, and no derivation
-pub record Begins {S : Type 0} (table : S → Table) (p : Problem) (ss : List (Named Row)) (k : Checker S) : Type 0 where
-  pub problem : p ≡ k.problem
-  pub target : IsTargetOf p k.target
-  pub best : IsBestValue p ss k.best
-  pub listed : length ss ≡ k.listed
-  pub rows : table k.rows ≡ empty_table (length p.constraints)
-  pub scratch : length k.scratch.sums ≡ variables p
-  pub goal : IsFirstMet one p k.goal
-  pub peak : k.peak ≡ 0
+abbrev pub state_code : Coded State
+state_code =
+    code_by (Progress × (Bool × Option Halt)) (coded× progress_code (coded× coded_bool (coded_option halt.the_row.coded)))
+    (λ s. (s.progress, (s.in_solutions, s.halt))) (λ t. record { progress = t.0; in_solutions = t.1.0; halt = t.1.1 }) (λ _. refl)
 
--- the checker stands behind the problem and these solutions, and the reader before the solution that comes next
-pub record IsAmong {S : Type 0} (table : S → Table) (p : Problem) (ss : List (Named Row)) (k : Checker S) (r : Items) : Type 0 where
-  pub begins : Begins table p ss k
-  pub knows : Knows r p
-  pub unspent : r.reading.spent ≡ false
-  pub room : length ss + r.left < 2 ^ 32
+-- unless memory was refused: it is at the solutions, and some were listed; or behind them, and some certificate came so far
+pub record IsReached (k : Progress) (in_solutions : Bool) (halt : Option Halt) : Type 0 where
+  pub solutions : halt ≢ Some Memory → in_solutions ≡ true → (ss : List (Named Row)) × HasSolutions ss k
+  pub steps : halt ≢ Some Memory → in_solutions ≡ false → (c : Certificate) × HasSteps c k
 
--- so much was read since these solutions that the checker now stands behind more of them
-pub record HasListed {S : Type 0} (table : S → Table) (p : Problem) (ss : List (Named Row)) (old : Items) (k : Checker S) (new : Items) : Type 0 where
-  pub now : List (Named Row)
-  pub is_among : IsAmong table p now k new
-  pub told : old.reading.told ≡ true → new.reading.told ≡ true
-  pub answers : old.reading.told ≡ true → (a : Answer) → Answers one (solutions_from p now new.left new.reading.left) a → Answers one (solutions_from p ss old.left old.reading.left) a
+-- ---- stops
 
--- the derivation names variables of the problem alone, and there is an index for it
-pub record HasRoom (c : Certificate) (d : Derivation) : Type 0 where
-  pub names : NamesBelow (variables c.problem) (at d.stated.row)
-  pub index : count c + 1 < 2 ^ 32
+-- a stop keeps all else as it was, but where memory was refused, the rows may be those before the next derivation is placed
+pub record HaltsBy (old : State) (h : Halt) (new : State) (e : Stop) : Type 0 where
+  pub kept : (new ≡ record old { halt = Some h })
+      ⊎ ((h ≡ Memory) × (new ≡ record old { halt = Some h; progress = record old.progress { rows = advance_table old.progress.rows } }))
+  pub answer : e ≡ first_answer h
 
--- the checker stands behind the certificate c, and the reader before the derivation that comes next
-pub record IsAt {S : Type 0} (table : S → Table) (c : Certificate) (k : Checker S) (r : Items) : Type 0 where
-  pub describes : Describes table c k
-  pub knows : Knows r c.problem
-  pub unspent : r.reading.spent ≡ false
-  pub room : count c + r.left < 2 ^ 32
+-- where it stopped before, it answers so and stays as it is
+abbrev pub Repeats : {T : Type 0} → State → State → Result T Stop → Type 0
+Repeats old new result = (h : Halt) → old.halt ≡ Some h → (result ≡ Err (later_answer h)) × (new ≡ old)
 
--- an answer for the certificate d and what is left then is one for the certificate c and what is left before
-pub record Leads (c : Certificate) (old : Items) (d : Certificate) (new : Items) : Type 0 where
-  pub told : new.reading.told ≡ true
-  pub answers : (a : Answer) → Answers one (derivations_from d new.left new.reading.left) a → Answers one (derivations_from c old.left old.reading.left) a
+-- the refusal is that of the test
+abbrev pub IsRefusalBy : Refusal → Test → Type 0
+IsRefusalBy r t = refuses (refusal_of r) ≡ told_by t
 
--- so much was read since the certificate c that the checker now stands behind another one
-pub record HasReached {S : Type 0} (table : S → Table) (c : Certificate) (old : Items) (k : Checker S) (new : Items) : Type 0 where
-  pub now : Certificate
-  pub is_at : IsAt table now k new
-  pub leads : old.reading.told ≡ true → Leads c old now new
+-- ---- a solution
+
+-- the solution s fails a test after the solutions ss, or memory was refused
+abbrev pub StopsSolution : Problem → List (Named Row) → Named Row → Halt → Type 0
+StopsSolution p ss s (Refused r f) =
+    (e : SolutionError) × (f ≡ Solution s.name e) × FirstFailing (PassesSolution p s.item) (solution_tests p) (Some (test_of e))
+    × IsRefusalBy r (of_solution (length ss) s.item (test_of e))
+StopsSolution p ss s Memory = Unit {0}
+
+-- the number and the best value may change
+abbrev pub TakesSolution : List (Named Row) → Named Row → State → State → Result (Unit {0}) Stop → Type 0
+TakesSolution ss s old new (Ok done) =
+    FirstFailing (PassesSolution old.progress.problem s.item) (solution_tests old.progress.problem) None × HasSolutions (ss ++ s ∷ []) new.progress
+    × (new ≡ record old { progress = record old.progress { solutions = new.progress.solutions; best = new.progress.best } })
+TakesSolution ss s old new (Err e) = (h : Halt) × HaltsBy old h new e × StopsSolution old.progress.problem ss s h
+
+-- ---- the end of the solutions
+
+abbrev pub StopsEnd : Problem → List (Named Row) → Halt → Type 0
+StopsEnd p ss (Refused r f) = (f ≡ Primal) × (¬ MeetsPrimal p ss p.claim) × IsRefusalBy r meets_primal
+StopsEnd p ss Memory = ⊥
+
+-- the phase changes
+abbrev pub EndsSolutions : List (Named Row) → State → State → Result (Unit {0}) Stop → Type 0
+EndsSolutions ss old new (Ok done) =
+    MeetsPrimal old.progress.problem ss old.progress.problem.claim × HasSteps (start old.progress.problem ss) new.progress
+    × (new ≡ record old { in_solutions = false })
+EndsSolutions ss old new (Err e) = (h : Halt) × HaltsBy old h new e × StopsEnd old.progress.problem ss h
+
+-- ---- a derivation
+
+-- a test of the derivation d fails after the certificate c, or memory was refused
+abbrev pub StopsStep : Certificate → Derivation → Halt → Type 0
+StopsStep c d (Refused r f) = (e : RuleError) × (f ≡ Derived d.name e) × (x : Stops c d (step_tests d.reason) e) × IsRefusalBy r (of_step (count c) x.0)
+StopsStep c d Memory = Unit {0}
+
+-- the table, the peak and the goal may change
+abbrev pub TakesStep : Certificate → Derivation → State → State → Result (Unit {0}) Stop → Type 0
+TakesStep c d old new (Ok done) =
+    Passes c d (step_tests d.reason) × HasSteps (with_next c d) new.progress
+    × (held_in new.progress.rows ≡ held (with_next c d) (count c)) × (held_in new.progress.rows ≤ new.progress.peak)
+    × (new ≡ record old { progress = record old.progress { rows = new.progress.rows; peak = new.progress.peak; goal = new.progress.goal } })
+TakesStep c d old new (Err e) = (h : Halt) × HaltsBy old h new e × StopsStep c d h
+
+-- ---- the end
+
+abbrev pub StopsFinish : Certificate → Halt → Type 0
+StopsFinish c (Refused r f) = (f ≡ Proof) × (¬ PassesTest one c meets_dual) × IsRefusalBy r meets_dual
+StopsFinish c Memory = ⊥
+
+-- the certificate is a proof, this is its report, and its claim is true at every point; or no constraint proves the dual side
+abbrev pub Finishes : Certificate → State → State → Result Report Stop → Type 0
+Finishes c old new (Ok r) = IsProof one c × Reports one c (report_of r) × IsShown c.problem c.solutions c.problem.claim × (new ≡ old)
+Finishes c old new (Err e) = (h : Halt) × HaltsBy old h new e × StopsFinish c h

@@ -1,24 +1,189 @@
-//! What the checker keeps of the certificate so far.
+//! A checker: takes a certificate item by item, and stops at the first that is at fault.
 
-use vipr_frac::Frac;
-use vipr_linear::Combination;
-use vipr_rules::{Rows, Target};
-use vipr_text::Problem;
+ghost use Rattle.std.specs.Prelude.{◌≡◌, ◌≢◌, ◌+◌, ◌<◌, ◌^◌, true, false, IfOk, MatchOption, List, [], None, Some, Ok, Err};
+ghost use Rattle.vipr_spec.specs.Certificate.{Named as NamedMeant, Certificate, variables};
+ghost use Rattle.vipr_spec.specs.Constraint.{Row, at, NamesBelow};
+ghost use Rattle.vipr_items.specs.Items.{solution_of, derivation_of};
+ghost use Rattle.vipr_check.specs.Sound.{KeepsSoundness};
+ghost use Rattle.vipr_check.specs.Halts.{first_answer, later_answer};
+ghost use Rattle.vipr_check.specs.Progress.{HasSolutions, HasSteps};
+ghost use Rattle.vipr_check.specs.State.{Repeats, TakesSolution, EndsSolutions, TakesStep, Finishes};
 
-/// What is known of a certificate so far.
+use crate::cause;
+use crate::halt::{Finding, Halt, Stop};
+use crate::progress::Progress;
+use crate::verdict::Report;
+use std::alloc::{AllocError, Global};
+use std::marker::Model;
+use vipr_linear::Solution;
+use vipr_rules::Rows;
+use vipr_text::{Derivation, Named, Problem};
+
+/// Takes a certificate item by item: the problem, each solution, the end of the solutions, each
+/// derivation, the end. It stops at the first item that is at fault.
 #[derive(Drop)]
-pub(crate) struct Checker<S: Rows> {
-    pub(crate) problem: Problem,
-    /// What a constraint must say to prove the dual side of the claim.
-    pub(crate) target: Target,
-    /// The best objective value among the listed solutions, none where none is listed so far.
-    pub(crate) best: Option<Frac>,
-    /// How many solutions are listed so far.
-    pub(crate) listed: u32,
-    pub(crate) rows: S,
-    pub(crate) scratch: Combination,
-    /// How many derived constraints were held at most.
-    pub(crate) peak: usize,
-    /// The first constraint that proves the dual side, if there is one.
-    pub(crate) goal: Option<u32>,
+pub struct Checker<S: Rows> {
+    progress: Progress<S>,
+    in_solutions: bool,
+    halt: Option<Halt>,
+}
+
+impl<S: Rows> Model for Checker<S> {
+    ghost use Rattle.vipr_check.specs.State.{State, state_code, IsReached};
+
+    ghost Value = { State };
+
+    ghost coded = { state_code };
+
+    ghost view = { λ k. record { progress = k.progress; in_solutions = k.in_solutions; halt = k.halt } };
+
+    ghost invariant = { λ k. IsReached k.progress k.in_solutions k.halt };
+}
+
+impl<S: Rows> Checker<S> {
+    /// A checker of a problem, before its solutions.
+    ///
+    /// # Errors
+    ///
+    /// Where a growth is refused.
+    pub fn new(alloc: Global, problem: Problem) -> Result<Checker<S>, AllocError>
+        ensures problem { IfOk result (λ k. k.progress.problem ≡ problem) }
+        ensures start { IfOk result (λ k. HasSolutions [] k.progress) }
+        ensures phase { IfOk result (λ k. k.in_solutions ≡ true) }
+        ensures runs { IfOk result (λ k. k.halt ≡ None) }
+    {
+        Ok(Checker {
+            progress: Progress::new(alloc, problem)?,
+            in_solutions: true,
+            halt: None,
+        })
+    }
+
+    /// Whether solutions may still come: `solution` and `end_solutions` are called then, the others
+    /// after.
+    pub fn in_solutions(&self) -> bool
+        ensures phase { result ≡ self.now.in_solutions }
+        // What is so of every checker, unless memory was refused: its best value is that of a
+        // feasible point, its rows are true wherever those are that they rest on, and once it has a
+        // goal, the dual side of the claim is true.
+        ensures sound { self.now.halt ≢ Some Halt.Memory
+            → KeepsSoundness self.now.progress.problem self.now.progress.best self.now.progress.rows self.now.progress.goal }
+    {
+        self.in_solutions
+    }
+
+    /// Takes the next listed solution.
+    ///
+    /// # Errors
+    ///
+    /// The refusal with the first cause that the solution has, or want of memory.
+    pub fn solution(&mut self, solution: &Named<Solution>) -> Result<(), Stop>
+        requires phase { self.old.in_solutions ≡ true }
+        requires room { self.old.progress.solutions + 1 < 2 ^ 32 }
+        ensures again { Repeats self.old self.new result }
+        ensures next { (ss : List (NamedMeant Row)) → self.old.halt ≡ None → HasSolutions ss self.old.progress
+            → TakesSolution ss (solution_of solution.now) self.old self.new result }
+    {
+        self.go_on()?;
+        let number = self.progress.solutions();
+        match self.progress.solution(&solution.item) {
+            Ok(()) => Ok(()),
+            Err(error) => {
+                Err(stop(
+                    &mut self.halt,
+                    Halt::at_solution(number, &solution.name, error),
+                ))
+            }
+        }
+    }
+
+    /// Ends the solutions; derivations follow.
+    ///
+    /// # Errors
+    ///
+    /// The refusal where the listed solutions don't meet the primal side of the claim.
+    pub fn end_solutions(&mut self) -> Result<(), Stop>
+        requires { self.old.in_solutions ≡ true }
+        ensures again { Repeats self.old self.new result }
+        ensures next { (ss : List (NamedMeant Row)) → self.old.halt ≡ None → HasSolutions ss self.old.progress
+            → EndsSolutions ss self.old self.new result }
+    {
+        self.go_on()?;
+        if !self.progress.meets_primal() {
+            return Err(stop(
+                &mut self.halt,
+                Halt::at_end(cause::NO_PRIMAL, Finding::Primal),
+            ));
+        }
+        self.in_solutions = false;
+        Ok(())
+    }
+
+    /// Takes the next derivation.
+    ///
+    /// # Errors
+    ///
+    /// The refusal with the first cause that the derivation has, or want of memory.
+    pub fn derivation(&mut self, alloc: Global, step: &Derivation) -> Result<(), Stop>
+        requires phase { self.old.in_solutions ≡ false }
+        requires room { self.old.progress.rows.next + 1 < 2 ^ 32 }
+        requires names { NamesBelow (variables self.old.progress.problem) (at step.now.constraint.row) }
+        ensures again { Repeats self.old self.new result }
+        ensures next { (c : Certificate) → self.old.halt ≡ None → HasSteps c self.old.progress
+            → TakesStep c (derivation_of step.now) self.old self.new result }
+    {
+        self.go_on()?;
+        let index = self.progress.next();
+        match self.progress.derivation(alloc, step) {
+            Ok(()) => Ok(()),
+            Err(error) => {
+                Err(stop(
+                    &mut self.halt,
+                    Halt::at_derivation(index, &step.name, error),
+                ))
+            }
+        }
+    }
+
+    /// The report, where the certificate ends here.
+    ///
+    /// # Errors
+    ///
+    /// The refusal where no constraint proves the dual side of the claim.
+    pub fn finish(&mut self) -> Result<Report, Stop>
+        requires { self.old.in_solutions ≡ false }
+        ensures again { Repeats self.old self.new result }
+        ensures next { (c : Certificate) → self.old.halt ≡ None → HasSteps c self.old.progress → Finishes c self.old self.new result }
+    {
+        self.go_on()?;
+        match self.progress.report() {
+            Some(report) => Ok(report),
+            None => {
+                Err(stop(
+                    &mut self.halt,
+                    Halt::at_end(cause::NO_PROOF, Finding::Proof),
+                ))
+            }
+        }
+    }
+
+    // Where it stopped, what is answered since.
+    fn go_on(&self) -> Result<(), Stop>
+        ensures { MatchOption self.now.halt (result ≡ Ok tt) (λ h. result ≡ Err (later_answer h)) }
+    {
+        match &self.halt {
+            None => Ok(()),
+            Some(halt) => Err(halt.later_answer()),
+        }
+    }
+}
+
+// Stops, and gives what is answered.
+fn stop(halt: &mut Option<Halt>, why: Halt) -> Stop
+    ensures halt { halt.new ≡ Some why }
+    ensures answer { result ≡ first_answer why }
+{
+    let answer = why.first_answer();
+    *halt = Some(why);
+    answer
 }

@@ -1,13 +1,13 @@
 ghost use Rattle.std.specs.Prelude.{◌≡◌, ◌<◌, length, Some};
 ghost use Rattle.vipr_spec.specs.Input.{Input};
 
-use crate::{Fault, Place, Refusal, Report, Verdict, check, check_with};
+use crate::{Checker, Fault, Place, Refusal, Report, Stop, Verdict, check, check_with};
 use std::alloc::Global;
 use std::cell::Cell;
 use std::process::Abort;
 use std::test::Fail;
 use vipr_bytes::{Bytes, Failed, Source};
-use vipr_rules::KeepAll;
+use vipr_rules::{KeepAll, LiveOnly};
 use vipr_text::{CertReader, TextError};
 
 // x >= 1 and x <= 0.
@@ -65,6 +65,14 @@ const ASSUMED: &[u8] =
 const CUT_OFF: &[u8] =
     b"VER 1.0 VAR 0 INT 0 OBJ min 0 CON 0 0 RTP infeas SOL 0 DER 1 f G 1 0 { sol } -1";
 
+// Both branches of a split: four derived constraints are held at most.
+const BRANCHES: &[u8] =
+    b"VER 1.0\nVAR 1\nx\nINT 1\n0\nOBJ min\n0\nCON 2 0\na G 1 1 0 2\nb L 1 1 0 2\nRTP infeas\nSOL 0\nDER 5\nc L 0 1 0 1 { asm } 6\nd G 1 1 0 1 { asm } 6\ne G 1 0 { lin 2 0 1 2 -2 } 6\nf G 1 0 { lin 2 3 2 1 -1 } 6\ng G 1 0 { uns 4 2 5 3 } -1\n";
+
+// The same with an unused assumption in front, and nothing is ever dropped.
+const BRANCHES_AND_MORE: &[u8] =
+    b"VER 1.0\nVAR 1\nx\nINT 1\n0\nOBJ min\n0\nCON 2 0\na G 1 1 0 2\nb L 1 1 0 2\nRTP infeas\nSOL 0\nDER 6\nz L 5 1 0 1 { asm } -1\nc L 0 1 0 1 { asm } -1\nd G 1 1 0 1 { asm } -1\ne G 1 0 { lin 2 0 1 3 -2 } -1\nf G 1 0 { lin 2 4 2 1 -1 } -1\ng G 1 0 { uns 5 3 6 4 } -1\n";
+
 fn report_of(verdict: Verdict) -> Option<Report> {
     match verdict {
         Verdict::Verified(report) => Some(report),
@@ -102,6 +110,33 @@ fn any_table_serves(rt: HostRuntime) -> Result<(), Fail> {
     let verdict = check_with::<Bytes, KeepAll>(rt.alloc(), Bytes::new(INFEASIBLE))?;
     let report = report_of(verdict).ok_or("it is a proof")?;
     assert_eq!(rt; report.goal, Some(2));
+    Ok(())
+}
+
+#[test]
+fn both_tables_have_the_same_peak(rt: HostRuntime) -> Result<(), Fail> {
+    let alloc = rt.alloc();
+    for (text, peak) in [(BRANCHES, 4), (BRANCHES_AND_MORE, 6)] {
+        let kept = report_of(check_with::<Bytes, KeepAll>(alloc, Bytes::new(text))?);
+        let live = report_of(check_with::<Bytes, LiveOnly>(alloc, Bytes::new(text))?);
+        assert_eq!(rt; kept.ok_or("it is a proof")?.peak, peak);
+        assert_eq!(rt; live.ok_or("it is a proof")?.peak, peak);
+    }
+    Ok(())
+}
+
+/// A stop leaves the phase, and every call after it answers the same.
+#[test]
+fn a_refusal_is_answered_again(rt: HostRuntime) -> Result<(), Fail> {
+    let alloc = rt.alloc();
+    let (problem, _) = CertReader::new(alloc, Bytes::new(UNMET))?.read_problem(alloc)?;
+    let mut checker: Checker<LiveOnly> = Checker::new(alloc, problem)?;
+    let place = Place::End;
+    let refusal = Stop::Refused(Refusal { cause: 52, place });
+    for _ in 0..3 {
+        assert!(rt; checker.in_solutions());
+        assert_eq!(rt; checker.end_solutions(), Err(refusal));
+    }
     Ok(())
 }
 

@@ -33,6 +33,18 @@ impl Model for Name {
     ghost invariant = { λ n. IsToken (bstring_bytes n.bytes) };
 }
 
+impl Clone for Name {
+    ghost use Rattle.std.specs.Prelude.{◌≡◌};
+
+    ghost is_clone = { λ name copy. copy ≡ name };
+
+    fn clone(&self) -> Result<Name, AllocError> {
+        Ok(Name {
+            bytes: self.bytes.clone()?,
+        })
+    }
+}
+
 impl Name {
     /// The name of these bytes.
     ///

@@ -1,21 +1,40 @@
-use Rattle.std.proofs.lemmas.Result.{err_from_is_err_and}
+use Rattle.std.proofs.Common.{◌≡◌, true, false, None, refl, sym, ◌∙◌, ap, subst}
+use Rattle.vipr_spec.specs.OnePass.{with_next}
 use Rattle.vipr_items.specs.Items.{derivation_of}
-use Rattle.vipr_check.proofs.DescribedLemmas.{best_here, scratch_size, derived_below, back, Describes-scratch}
+use Rattle.vipr_check.specs.Progress.{HasSteps}
+use Rattle.vipr_check.proofs.ProgressLemmas.{held_next}
+use Rattle.vipr_check.proofs.CheckerLemmas.{runs_of, derived_frame, kept_or_advanced, stops_step, reached_after}
 use Rattle.vipr_check.proofs.checker.Checker.derivation.Goals as goal
 
-pub apply-requires-clause-variables : goal.apply-requires-clause-variables
-apply-requires-clause-variables g c = scratch_size g.S.Rows.table c.requires.0 c.args.self.now c.requires.1
+pub invariant_of-self : goal.invariant_of-self
+invariant_of-self g c =
+    let d = derivation_of c.args.step.now in
+    let phase : c.self.inside.in_solutions ≡ false = ap (λ v. v.in_solutions) c.self.view_is ∙ c.requires.phase in record {
+      solutions = λ n e. absurd (cc (phase, e));
+      steps = λ n e. (let r = c.self.invariant.steps n e in (with_next r.0 d, (c.in-Ok.ensures.next r.0 r.1).1));
+    }
 
-pub apply-requires-clause-rows : goal.apply-requires-clause-rows
-apply-requires-clause-rows g c = derived_below g.S.Rows.table c.requires.0 c.args.self.now c.requires.1
+pub invariant_of-self-in-Err : goal.invariant_of-self-in-Err
+invariant_of-self-in-Err g c =
+    let unstopped : c.self.inside.halt ≡ None = ap (λ v. v.halt) c.self.view_is ∙ runs_of c.args.self.now.halt _ c.in_ok-go_on.ensures in
+    reached_after c.self.inside.progress c.derivation.new.self c.self.inside.in_solutions c.self.inside.halt c.stop.new.halt c.at_derivation.result c.next-index.result _ c.in-Err.error
+    unstopped c.self.invariant c.at_derivation.ensures c.in-Err.ensures.err c.stop.ensures.halt
 
-pub returns-in_err-entry : goal.returns-in_err-entry
-returns-in_err-entry g c = λ s is room.
-    let p = err_from_is_err_and c.from_residual.result c.from_residual.ensures.1 in
-    let judged = c.in_err-entry.ensures.judged s is.problem is.rows (back g.S.Rows.table s c.args.self.now is) (best_here s.problem c.args.self.now.problem s.solutions c.args.self.now.best _ is.problem c.as_ref.ensures.value is.best) in
-    rw (p.1, p.2) judged
+pub returns-in-Ok-clause-next : goal.returns-in-Ok-clause-next
+returns-in-Ok-clause-next g c = λ s halted has.
+    let d = derivation_of c.args.step.now in
+    let same = ap (λ v. v.progress) c.self.view_is in
+    let t = c.in-Ok.ensures.next s (subst (HasSteps s) (sym same) has) in
+    let new = c.derivation.new.self in
+    (t.0, t.1, held_next s d new t.1, c.in-Ok.ensures.peak, derived_frame _ c.args.self.now new new.rows new.peak new.goal c.self.view_is c.in-Ok.ensures.ok)
 
-pub returns : goal.returns
-returns g c = λ s is room.
-    let judged = c.in_ok-entry.ensures.judged s is.problem is.rows (back g.S.Rows.table s c.args.self.now is) (best_here s.problem c.args.self.now.problem s.solutions c.args.self.now.best _ is.problem c.as_ref.ensures.value is.best) in
-    (judged.0, c.in_ok-keep.ensures s (derivation_of c.args.step.now) (Describes-scratch g.S.Rows.table s c.args.self.now c.apply.new.scratch is c.in_ok-entry.ensures.variables) room judged.0 judged.1)
+pub returns-in-Err-clause-next : goal.returns-in-Err-clause-next
+returns-in-Err-clause-next g c = λ s halted has.
+    let d = derivation_of c.args.step.now in
+    let same = ap (λ v. v.progress) c.self.view_is in
+    let is = subst (HasSteps s) (sym same) has in
+    let h = c.at_derivation.result in (
+      h,
+      kept_or_advanced _ c.args.self.now c.derivation.new.self c.stop.new.halt h c.stop.result c.next-index.result _ c.in-Err.error c.self.view_is c.at_derivation.ensures c.in-Err.ensures.err c.stop.ensures.halt c.stop.ensures.answer,
+      stops_step s d c.next-index.result c.in-Err.error h (sym (c.next-index.ensures ∙ is.rows.next)) c.at_derivation.ensures (c.in-Err.ensures.next s is),
+    )

@@ -1,18 +1,19 @@
-use Rattle.std.proofs.Common.{◌≡◌, ◌-◌, length, sym, ap, ◌∙◌, arith}
-use Rattle.std.proofs.lemmas.List.{length-map}
-use Rattle.vipr_linear.specs.Constraint.{constraint_of}
-use Rattle.vipr_items.specs.Items.{named_of}
-use Rattle.vipr_check.proofs.DescribedLemmas.{finish_unproved, finish_verified, some_goal}
+use Rattle.std.proofs.Common.{◌≡◌, None, refl, sym, ◌∙◌, ap, subst}
+use Rattle.vipr_spec.specs.Constraint.{one}
+use Rattle.vipr_spec.proofs.Points.{claim_shown}
+use Rattle.vipr_check.specs.Progress.{HasSteps}
+use Rattle.vipr_check.proofs.CheckerLemmas.{runs_of, reached_still, proof_of}
 use Rattle.vipr_check.proofs.checker.Checker.finish.Goals as goal
 
-pub returns-then-lacks_goal : goal.returns-then-lacks_goal
-returns-then-lacks_goal g c = λ s r is end.
-    let lacks = c.lacks_goal.ensures.0 c.if-lacks_goal.true in
-    finish_unproved g.S.Rows.table s c.args.self.now r is end c.refused.result lacks.0 lacks.1 c.refused.ensures
+pub invariant_of-self : goal.invariant_of-self
+invariant_of-self g c =
+    let runs : c.args.self.now.halt ≡ None = runs_of c.args.self.now.halt _ c.in_ok-go_on.ensures in
+    let unstopped : c.self.inside.halt ≡ None = ap (λ v. v.halt) c.self.view_is ∙ runs in
+    reached_still c.self.inside.progress c.self.inside.in_solutions c.self.inside.halt c.stop.new.halt unstopped c.self.invariant
 
-pub returns : goal.returns
-returns g c = λ s r is end.
-    let given : length c.cons.result.now ≡ length c.args.self.now.problem.constraints = sym (length-map c.cons.result.now (named_of constraint_of)) ∙ ap length c.cons.ensures.constraints in
-    finish_verified g.S.Rows.table s c.args.self.now r is end (c.next.result - length c.cons.result.now) c.claim.result
-    (λ n. some_goal c.args.self.now.goal n (λ l. let t = c.lacks_goal.ensures.1 l in let f = c.if-lacks_goal.false in cc))
-    c.claim.ensures (omega (arith, given, c.next.ensures))
+pub returns-in-Some-clause-next : goal.returns-in-Some-clause-next
+returns-in-Some-clause-next g c = λ s halted has.
+    let is = subst (HasSteps s) (sym (ap (λ v. v.progress) c.self.view_is)) has in
+    let r = c.in-Some.ensures s is in
+    let proof = proof_of s c.self.inside.progress is r.0 in
+    (proof, r.1, claim_shown one s proof, refl)

@@ -1,21 +1,37 @@
-use Rattle.std.proofs.Common.{[], ◌∷◌, ◌++◌, refl, sym, ◌∙◌, ap}
-use Rattle.std.proofs.lemmas.Result.{err_from_is_err_and}
-use Rattle.vipr_spec.specs.Constraint.{at}
-use Rattle.vipr_spec.specs.Certificate.{objective_at}
-use Rattle.vipr_check.proofs.DescribedLemmas.{best_here, tests_here, begins-next}
+use Rattle.std.proofs.Common.{◌≡◌, true, false, [], ◌∷◌, ◌++◌, None, refl, sym, ◌∙◌, ap, subst}
+use Rattle.vipr_spec.specs.Verdict.{PassesSolution, solution_tests, FirstFailing}
+use Rattle.vipr_items.specs.Items.{solution_of}
+use Rattle.vipr_check.specs.Progress.{Progress, HasSolutions}
+use Rattle.vipr_check.specs.State.{StopsSolution}
+use Rattle.vipr_check.proofs.CheckerLemmas.{listed_frame, halts_same, stops_solution}
 use Rattle.vipr_check.proofs.checker.Checker.solution.Goals as goal
 
-pub returns-in_err-value : goal.returns-in_err-value
-returns-in_err-value g c = λ p ss s is same.
-    let f = err_from_is_err_and c.from_residual.result c.from_residual.ensures.1 in
-    rw (f.1, f.2) (tests_here p c.args.self.now.problem s.item c.args.solution.now.0 _ is.problem same c.in_err-value.ensures)
+pub invariant_of-self : goal.invariant_of-self
+invariant_of-self g c =
+    let s = solution_of c.args.solution.now in
+    let phase : c.self.inside.in_solutions ≡ true = ap (λ v. v.in_solutions) c.self.view_is ∙ c.requires.phase in record {
+      solutions = λ n e. (let r = c.self.invariant.solutions n e in (r.0 ++ s ∷ [], (c.in-Ok.ensures.next r.0 s r.1 refl).1));
+      steps = λ n e. absurd (cc (phase, e));
+    }
 
-pub returns : goal.returns
-returns g c = λ p ss s is same.
-    let k = c.args.self.now in
-    let told = c.in_ok-value.ensures in
-    let value = told.1 ∙ ap (λ x. objective_at k.problem (at x)) (sym same) in
-    let better = c.better-self.ensures ss s (best_here p k.problem ss k.best k.best is.problem refl is.best) value in (
-      tests_here p k.problem s.item c.args.solution.now.0 _ is.problem same told.0,
-      begins-next g.S.Rows.table p ss s k c.better-self.result _ is (best_here k.problem p (ss ++ s ∷ []) c.better-self.result c.better-self.result (sym is.problem) refl better) refl,
+pub returns-in-Ok-clause-next : goal.returns-in-Ok-clause-next
+returns-in-Ok-clause-next g c = λ ss halted has.
+    let s = solution_of c.args.solution.now in
+    let same = ap (λ v. v.progress) c.self.view_is in
+    let t = c.in-Ok.ensures.next ss s (subst (HasSolutions ss) (sym same) has) refl in (
+      subst (λ (x : Progress). FirstFailing (PassesSolution x.problem s.item) (solution_tests x.problem) None) same t.0,
+      t.1,
+      listed_frame _ c.args.self.now c.solution.new.self c.solution.new.self.solutions c.solution.new.self.best c.self.view_is c.in-Ok.ensures.ok,
+    )
+
+pub returns-in-Err-clause-next : goal.returns-in-Err-clause-next
+returns-in-Err-clause-next g c = λ ss halted has.
+    let s = solution_of c.args.solution.now in
+    let k = c.self.inside.progress in
+    let same = ap (λ v. v.progress) c.self.view_is in
+    let is = subst (HasSolutions ss) (sym same) has in
+    let h = c.at_solution.result in (
+      h,
+      halts_same _ c.args.self.now c.solution.new.self c.stop.new.halt h c.stop.result c.self.view_is c.in-Err.ensures.err c.stop.ensures.halt c.stop.ensures.answer,
+      subst (λ (x : Progress). StopsSolution x.problem ss s h) same (stops_solution k.problem ss s c.solutions-number.result c.in-Err.error h (is.solutions ∙ sym c.solutions-number.ensures) c.at_solution.ensures (c.in-Err.ensures.next ss s is refl)),
     )

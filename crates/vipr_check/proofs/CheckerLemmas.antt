@@ -1,0 +1,110 @@
+-- A checker's state, call by call
+use Rattle.std.proofs.Common.{◌≡◌, ◌≢◌, ℕ, Bool, true, false, List, ◌∷◌, ◌++◌, [], length, Option, Some, None, Result, Ok, Err, refl, sym, ◌∙◌, ap, subst, inl, inr}
+use Rattle.std.specs.Prelude.{◌⊎◌, MatchOption}
+use Rattle.vipr_spec.specs.Fraction.{ℚ}
+use Rattle.vipr_spec.specs.Constraint.{one, Row}
+use Rattle.vipr_spec.specs.Certificate.{Named, Problem, Derivation, Certificate, IsProof, MeetsPrimal, count}
+use Rattle.vipr_spec.specs.Verdict.{step_tests, StepTest, step_cause, PassesSolution, solution_tests, solution_cause, FirstFailing, Passes as PassesTest, meets_primal, meets_dual, of_solution, of_step, Answer, refuses, told_by, at_solution, at_derivation}
+use Rattle.vipr_rules.specs.Judged.{Tells, Stops}
+use Rattle.vipr_rules.specs.Table.{Table, advance_table}
+use Rattle.vipr_rules.specs.Solution.{test_of}
+use Rattle.vipr_rules.specs.declared.solution.SolutionError.{SolutionError}
+use Rattle.vipr_rules.specs.declared.failure.RuleError.{RuleError}
+use Rattle.vipr_rules.specs.declared.failure.RuleError.TheVariants as rule
+use Rattle.vipr_check.specs.declared.verdict.Refusal.{Refusal}
+use Rattle.vipr_check.specs.declared.halt.Stop.{Stop}
+use Rattle.vipr_check.specs.declared.halt.Finding.{Finding}
+use Rattle.vipr_check.specs.declared.halt.Halt.{Halt}
+use Rattle.vipr_check.specs.declared.halt.Halt.TheVariants.{Refused, Memory}
+use Rattle.vipr_check.specs.View.{refusal_of, place_of}
+use Rattle.vipr_check.specs.Halts.{first_answer, later_answer, rule_cause, IsSolutionHalt, IsStepHalt}
+use Rattle.vipr_check.specs.Progress.{Progress, HasSolutions, HasSteps}
+use Rattle.vipr_check.specs.State.{State, IsReached, HaltsBy, IsRefusalBy, StopsSolution, StopsStep}
+use Rattle.vipr_check.proofs.CauseLemmas.{cause_is}
+
+-- where a call went on, nothing had stopped it
+pub runs_of : (halt : Option Halt) (x : Unit {0}) → MatchOption halt (◌≡◌ {A = Result (Unit {0}) Stop} (Ok x) (Ok tt)) (λ h. ◌≡◌ {A = Result (Unit {0}) Stop} (Ok x) (Err (later_answer h))) → halt ≡ None
+runs_of None x h = refl
+runs_of (Some y) x h = absurd (cc h)
+
+pub reached_still : (k : Progress) (b : Bool) (old new : Option Halt) → old ≡ None → IsReached k b old → IsReached k b new
+reached_still k b old new e is = record { solutions = λ n p. is.solutions (λ m. absurd (cc (e, m))) p; steps = λ n p. is.steps (λ m. absurd (cc (e, m))) p }
+
+pub proof_of : (c : Certificate) (k : Progress) → HasSteps c k → PassesTest one c meets_dual → IsProof one c
+proof_of c k is dual = record {
+  solutions = λ i d l. (is.feasible i d l).0;
+  solutions_fit = λ i d l. (is.feasible i d l).1;
+  steps = is.checked.steps;
+  primal = is.primal;
+  dual = dual;
+}
+
+-- ---- what stays
+
+pub listed_frame : (v w : State) (k : Progress) (n : ℕ) (b : Option ℚ) → v ≡ w → k ≡ record v.progress { solutions = n; best = b }
+    → record v { progress = k } ≡ record w { progress = record w.progress { solutions = n; best = b } }
+listed_frame v w k n b e f = ap (λ x. record v { progress = x }) f ∙ ap (λ (u : State). record u { progress = record u.progress { solutions = n; best = b } }) e
+
+pub derived_frame : (v w : State) (k : Progress) (rows : Table) (top : ℕ) (goal : Option ℕ) → v ≡ w → k ≡ record v.progress { rows = rows; peak = top; goal = goal }
+    → record v { progress = k } ≡ record w { progress = record w.progress { rows = rows; peak = top; goal = goal } }
+derived_frame v w k rows top goal e f =
+    ap (λ x. record v { progress = x }) f ∙ ap (λ (u : State). record u { progress = record u.progress { rows = rows; peak = top; goal = goal } }) e
+
+pub halts_same : (v w : State) (k : Progress) (o : Option Halt) (h : Halt) (a : Stop) → v ≡ w → k ≡ v.progress → o ≡ Some h → a ≡ first_answer h → HaltsBy w h (record v { progress = k; halt = o }) a
+halts_same v w k o h a e f g says = record {
+  kept = inl (ap (λ x. record v { progress = x; halt = o }) f ∙ ap (λ x. record v { halt = x }) g ∙ ap (λ (u : State). record u { halt = Some h }) e);
+  answer = says;
+}
+
+pub halts_advanced : (v w : State) (k : Progress) (o : Option Halt) (h : Halt) (a : Stop) → v ≡ w → h ≡ Memory → k ≡ record v.progress { rows = advance_table v.progress.rows } → o ≡ Some h → a ≡ first_answer h
+    → HaltsBy w h (record v { progress = k; halt = o }) a
+halts_advanced v w k o h a e is f g says = record {
+  kept = inr (
+    is,
+    ap (λ x. record v { progress = x; halt = o }) f ∙ ap (λ x. record v { progress = record v.progress { rows = advance_table v.progress.rows }; halt = x }) g
+        ∙ ap (λ (u : State). record u { halt = Some h; progress = record u.progress { rows = advance_table u.progress.rows } }) e,
+  );
+  answer = says;
+}
+
+-- ---- stops
+
+pub stops_solution : (p : Problem) (ss : List (Named Row)) (s : Named Row) (n : ℕ) (e : SolutionError) (h : Halt) → length ss ≡ n → IsSolutionHalt n s.name e h
+    → FirstFailing (PassesSolution p s.item) (solution_tests p) (Some (test_of e)) → StopsSolution p ss s h
+stops_solution p ss s n e Memory same is fails = tt
+stops_solution p ss s n e (Refused r f) same is fails = (
+  e,
+  is.1,
+  fails,
+  ap (λ x. refuses (refusal_of x)) is.0 ∙ ap (λ i. refuses (record { cause = solution_cause (test_of e); place = at_solution i })) (sym same),
+)
+
+-- want of memory is no refusal
+pub memory_stops : (k : ℕ) (name : List ℕ) (e : RuleError) (h : Halt) → e ≡ rule.Memory → IsStepHalt k name e h → h ≡ Memory
+memory_stops k name e Memory is h = refl
+memory_stops k name e (Refused r f) is h = absurd (let n : rule_cause e ≡ None = ap rule_cause is in cc (n, h.0))
+
+pub stops_step : (c : Certificate) (d : Derivation) (k : ℕ) (e : RuleError) (h : Halt) → count c ≡ k → IsStepHalt k d.name e h → (e ≡ rule.Memory) ⊎ Stops c d (step_tests d.reason) e → StopsStep c d h
+stops_step c d k e Memory same is w = tt
+stops_step c d k e (Refused r f) same is (inl m) = absurd (let n : rule_cause e ≡ None = ap rule_cause m in cc (n, is.0))
+stops_step c d k e (Refused r f) same is (inr x) = (
+  e,
+  is.2,
+  x,
+  ap (λ p. refuses (record { cause = r.cause; place = place_of p })) is.1 ∙ ap (λ i. refuses (record { cause = r.cause; place = at_derivation i })) (sym same)
+      ∙ ap (λ n. refuses (record { cause = n; place = at_derivation (count c) })) (cause_is c d e x.0 r.cause x.2 is.0),
+)
+
+pub kept_or_advanced : (v w : State) (k : Progress) (o : Option Halt) (h : Halt) (a : Stop) (n : ℕ) (name : List ℕ) (e : RuleError) → v ≡ w → IsStepHalt n name e h
+    → (k ≡ v.progress) ⊎ ((e ≡ rule.Memory) × (k ≡ record v.progress { rows = advance_table v.progress.rows })) → o ≡ Some h → a ≡ first_answer h
+    → HaltsBy w h (record v { progress = k; halt = o }) a
+kept_or_advanced v w k o h a n name e same is (inl f) g says = halts_same v w k o h a same f g says
+kept_or_advanced v w k o h a n name e same is (inr f) g says = halts_advanced v w k o h a same (memory_stops n name e h f.0 is) f.1 g says
+
+-- after a derivation that failed a test all is as it was
+pub reached_after : (k new : Progress) (b : Bool) (old o : Option Halt) (h : Halt) (n : ℕ) (name : List ℕ) (e : RuleError) → old ≡ None → IsReached k b old → IsStepHalt n name e h
+    → (new ≡ k) ⊎ ((e ≡ rule.Memory) × (new ≡ record k { rows = advance_table k.rows })) → o ≡ Some h → IsReached new b o
+reached_after k new b old o h n name e none is tells (inl f) g = subst (λ x. IsReached x b o) (sym f) (reached_still k b old o none is)
+reached_after k new b old o h n name e none is tells (inr f) g =
+    let m : o ≡ Some Memory = g ∙ ap Some (memory_stops n name e h f.0 tells) in
+    record { solutions = λ not p. absurd (not m); steps = λ not p. absurd (not m) }

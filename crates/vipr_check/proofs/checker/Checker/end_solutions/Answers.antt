@@ -1,0 +1,28 @@
+use Rattle.std.proofs.Common.{◌≡◌, true, false, None, refl, sym, ◌∙◌, ap, subst}
+use Rattle.vipr_spec.specs.Certificate.{MeetsPrimal}
+use Rattle.vipr_spec.specs.Checking.{start}
+use Rattle.vipr_check.specs.Progress.{Progress, HasSolutions, HasSteps}
+use Rattle.vipr_check.specs.State.{State}
+use Rattle.vipr_check.proofs.ProgressLemmas.{steps_start}
+use Rattle.vipr_check.proofs.checker.Checker.end_solutions.Goals as goal
+
+pub invariant_of-self-2 : goal.invariant_of-self-2
+invariant_of-self-2 g c =
+    let k = c.self.inside.progress in
+    let phase : c.self.inside.in_solutions ≡ true = ap (λ v. v.in_solutions) c.self.view_is ∙ c.requires in record {
+      solutions = λ n e. absurd (cc e);
+      steps = λ n e.
+          let r = c.self.invariant.solutions n phase in
+          (start k.problem r.0, steps_start k r.0 r.1 ((c.meets_primal.ensures r.0 r.1).0 c.if-not-meets_primal.false));
+    }
+
+pub returns-clause-next : goal.returns-clause-next
+returns-clause-next g c = λ ss halted has.
+    let k = c.self.inside.progress in
+    let same = ap (λ v. v.progress) c.self.view_is in
+    let is = subst (HasSolutions ss) (sym same) has in
+    let met = (c.meets_primal.ensures ss is).0 c.if-not-meets_primal.false in (
+      subst (λ (x : Progress). MeetsPrimal x.problem ss x.problem.claim) same met,
+      subst (λ (x : Progress). HasSteps (start x.problem ss) k) same (steps_start k ss is met),
+      ap (λ (v : State). record v { in_solutions = false }) c.self.view_is,
+    )

@@ -1,9 +1,0 @@
-use Rattle.vipr_spec.specs.Certificate.{Certificate}
-use Rattle.vipr_check.specs.State.{IsAt, HasReached}
-use Rattle.vipr_check.proofs.stream.after_steps.Given as goal
-
-abbrev pub invariant-steps : goal.invariant-steps
-invariant-steps g l = (c : Certificate) → IsAt g.S.Rows.table c l.initial.checker l.initial.derivations → HasReached g.S.Rows.table c l.initial.derivations l.checker l.derivations
-
-abbrev pub decreases-steps : goal.decreases-steps
-decreases-steps g l = l.derivations.left

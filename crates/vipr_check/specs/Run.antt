@@ -1,0 +1,93 @@
+-- A checker run over a text, item by item
+use Rattle.std.specs.Prelude.{◌≡◌, ◌+◌, ◌<◌, ◌^◌, true, false, List, length, Option, Some, None, Result, Ok, Err}
+use Rattle.vipr_spec.specs.Constraint.{one, Row}
+use Rattle.vipr_spec.specs.Certificate.{Named, Problem, Certificate, count}
+use Rattle.vipr_spec.specs.Verdict.{Answer}
+use Rattle.vipr_spec.specs.Progress.{Answers, solutions_from, derivations_from}
+use Rattle.vipr_tokens.specs.declared.error.TextError.{TextError}
+use Rattle.vipr_tokens.specs.declared.error.TextError.TheVariants as text
+use Rattle.vipr_text.specs.Readers.{Items, Knows}
+use Rattle.vipr_check.specs.declared.verdict.Place.TheVariants.{Byte}
+use Rattle.vipr_check.specs.declared.verdict.Report.{Report}
+use Rattle.vipr_check.specs.declared.verdict.Verdict.{Verdict}
+use Rattle.vipr_check.specs.declared.verdict.Verdict.TheVariants.{Verified, Refused}
+use Rattle.vipr_check.specs.declared.verdict.Fault.{Fault}
+use Rattle.vipr_check.specs.declared.verdict.Fault.TheVariants.{Read, Memory}
+use Rattle.vipr_check.specs.declared.halt.Stop.{Stop}
+use Rattle.vipr_check.specs.declared.halt.Stop.TheVariants as stop
+use Rattle.vipr_check.specs.View.{Says}
+use Rattle.vipr_check.specs.Progress.{HasSolutions, HasSteps}
+use Rattle.vipr_check.specs.State.{State}
+
+-- ---- what is answered
+
+abbrev pub text_answer : TextError → Result Verdict Fault
+text_answer (text.Refused c offset) = Ok (Refused (record { cause = c; place = Byte offset }))
+text_answer text.Read = Err Read
+text_answer text.Memory = Err Memory
+text_answer text.Spent = Err Read
+
+abbrev pub stop_answer : Stop → Result Verdict Fault
+stop_answer (stop.Refused r) = Ok (Refused r)
+stop_answer stop.Memory = Err Memory
+stop_answer stop.Spent = Err Memory
+
+-- none where the item was taken
+abbrev pub step_answer : Result (Unit {0}) Stop → Option (Result Verdict Fault)
+step_answer (Ok done) = None
+step_answer (Err e) = Some (stop_answer e)
+
+abbrev pub end_answer : Result Report Stop → Result Verdict Fault
+end_answer (Ok r) = Ok (Verified r)
+end_answer (Err e) = stop_answer e
+
+-- ---- the solutions
+
+-- the checker stands behind the problem and these solutions, and the reader before the solution that comes next
+pub record IsAmong (p : Problem) (ss : List (Named Row)) (k : State) (r : Items) : Type 0 where
+  pub problem : k.progress.problem ≡ p
+  pub has : HasSolutions ss k.progress
+  pub phase : k.in_solutions ≡ true
+  pub runs : k.halt ≡ None
+  pub knows : Knows r p
+  pub unspent : r.reading.spent ≡ false
+  pub room : length ss + r.left < 2 ^ 32
+
+-- so much was read since these solutions that the checker now stands behind more of them
+pub record HasListed (p : Problem) (ss : List (Named Row)) (old : Items) (k : State) (new : Items) : Type 0 where
+  pub now : List (Named Row)
+  pub is_among : IsAmong p now k new
+  pub told : old.reading.told ≡ true → new.reading.told ≡ true
+  pub answers : old.reading.told ≡ true → (a : Answer) → Answers one (solutions_from p now new.left new.reading.left) a → Answers one (solutions_from p ss old.left old.reading.left) a
+
+-- a solution more was taken, or the answer is that for what was left
+abbrev pub GoesAmong : Problem → List (Named Row) → Items → State → Items → Option (Result Verdict Fault) → Type 0
+GoesAmong p ss old k new None = HasListed p ss old k new
+GoesAmong p ss old k new (Some answer) = old.reading.told ≡ true → Says (Answers one (solutions_from p ss old.left old.reading.left)) answer
+
+-- ---- the derivations
+
+-- the checker stands behind the certificate c, and the reader before the derivation that comes next
+pub record IsAt (c : Certificate) (k : State) (r : Items) : Type 0 where
+  pub has : HasSteps c k.progress
+  pub phase : k.in_solutions ≡ false
+  pub runs : k.halt ≡ None
+  pub knows : Knows r c.problem
+  pub unspent : r.reading.spent ≡ false
+  pub room : count c + r.left < 2 ^ 32
+
+-- an answer for the certificate d and what is left then is one for the certificate c and what is left before
+pub record Leads (c : Certificate) (old : Items) (d : Certificate) (new : Items) : Type 0 where
+  pub told : new.reading.told ≡ true
+  pub answers : (a : Answer) → Answers one (derivations_from d new.left new.reading.left) a → Answers one (derivations_from c old.left old.reading.left) a
+
+-- so much was read since the certificate c that the checker now stands behind another one
+pub record HasReached (c : Certificate) (old : Items) (k : State) (new : Items) : Type 0 where
+  pub now : Certificate
+  pub is_at : IsAt now k new
+  pub leads : old.reading.told ≡ true → Leads c old now new
+
+-- a derivation more was taken, or the answer is that for what was left
+abbrev pub Goes : Certificate → Items → State → Items → Option (Result Verdict Fault) → Type 0
+Goes c old k new None = HasReached c old k new
+Goes c old k new (Some answer) = old.reading.told ≡ true → Says (Answers one (derivations_from c old.left old.reading.left)) answer

@@ -1,0 +1,181 @@
+//! What a checker knows of a certificate so far.
+
+ghost use Rattle.std.specs.Prelude.{◌≡◌, ◌≢◌, ◌≤◌, ◌+◌, ◌<◌, ◌^◌, ◌⊎◌, ◌↔◌, IfOk, IfErr, OnOk, OnErr, MatchResult, MatchOption, IsTrue, Ok, List, [], ◌∷◌, ◌++◌, Some, None};
+ghost use Rattle.vipr_spec.specs.Certificate.{Named as NamedMeant, Derivation as DerivationMeant, Certificate, variables, MeetsPrimal, NeedsGoal, IsProof, count, held};
+ghost use Rattle.vipr_spec.specs.Constraint.{one, Row, at, NamesBelow};
+ghost use Rattle.vipr_spec.specs.OnePass.{with_next};
+ghost use Rattle.vipr_spec.specs.Verdict.{step_tests, FirstFailing, PassesSolution, solution_tests, Reports, meets_dual, Passes as PassesTest};
+ghost use Rattle.vipr_items.specs.Items.{derivation_of};
+ghost use Rattle.vipr_rules.specs.Table.{step as table_step, advance_table, held as held_in};
+ghost use Rattle.vipr_rules.specs.History.{IsEntryOf};
+ghost use Rattle.vipr_rules.specs.Judged.{Passes, Stops};
+ghost use Rattle.vipr_rules.specs.Solution.{test_of};
+ghost use Rattle.vipr_rules.specs.declared.claim.Target.TheVariants.{Nothing};
+ghost use Rattle.vipr_rules.specs.declared.failure.RuleError.TheVariants.{Memory};
+ghost use Rattle.vipr_check.specs.View.{report_of};
+ghost use Rattle.vipr_check.specs.Progress.{HasSolutions, HasSteps};
+
+use crate::goal::{goal_among, goal_with};
+use crate::verdict::Report;
+use std::alloc::{AllocError, Global};
+use std::marker::Model;
+use vipr_frac::Frac;
+use vipr_linear::{Combination, Solution};
+use vipr_rules::{
+    Entry, Rows, RuleError, SolutionError, Target, apply, better, meets_primal, test_solution,
+};
+use vipr_text::{Derivation, Problem};
+
+/// What is known of a certificate so far.
+#[derive(Drop)]
+pub(crate) struct Progress<S: Rows> {
+    problem: Problem,
+    /// What a constraint must say to prove the dual side of the claim.
+    target: Target,
+    /// How many solutions were listed.
+    solutions: u32,
+    /// The best objective value among the listed solutions, none where none was listed.
+    best: Option<Frac>,
+    rows: S,
+    scratch: Combination,
+    /// How many derived constraints were held at most.
+    peak: usize,
+    /// The first constraint that proves the dual side, if there is one.
+    goal: Option<u32>,
+}
+
+impl<S: Rows> Model for Progress<S> {
+    ghost use Rattle.vipr_check.specs.Progress.{Progress, progress_code, IsReady};
+
+    ghost Value = { Progress };
+
+    ghost coded = { progress_code };
+
+    ghost view = { λ k. record { problem = k.problem; solutions = k.solutions; best = k.best; rows = S.table k.rows; peak = k.peak; goal = k.goal } };
+
+    ghost invariant = { λ k. IsReady k.problem k.target (S.table k.rows) k.scratch };
+}
+
+/// Places an entry, and gives how many are held then.
+fn place<S: Rows>(rows: &mut S, entry: Entry) -> Result<usize, AllocError>
+    requires { (S.table rows.old).next + 1 < 2 ^ 32 }
+    ensures table { OnOk result (S.table rows.new ≡ table_step (S.table rows.old) entry) }
+    ensures err { OnErr result (S.table rows.new ≡ advance_table (S.table rows.old)) }
+    ensures held { IfOk result (λ n. n ≡ held_in (S.table rows.new)) }
+{
+    rows.advance();
+    match rows.put(entry) {
+        Ok(()) => Ok(rows.held()),
+        Err((_, error)) => Err(error),
+    }
+}
+
+// Whether the dual side has to be proved, and isn't.
+fn lacks_goal(goal: Option<u32>, target: &Target) -> bool
+    ensures { IsTrue result ↔ ((goal ≡ None) × (target.now ≢ Nothing)) }
+{
+    goal.is_none() && !matches!(target, Target::Nothing)
+}
+
+impl<S: Rows> Progress<S> {
+    /// What is known before the solutions.
+    pub(crate) fn new(alloc: Global, problem: Problem) -> Result<Progress<S>, AllocError>
+        ensures problem { IfOk result (λ k. k.problem ≡ problem) }
+        ensures start { IfOk result (λ k. HasSolutions [] k) }
+    {
+        let variables = problem.names().len() as u32;
+        let constraints = problem.cons().len() as u32;
+        let scratch = Combination::new(alloc, variables)?;
+        let target = Target::of_claim(&problem)?;
+        let goal = goal_among(&target, problem.cons());
+        Ok(Progress {
+            problem,
+            target,
+            solutions: 0,
+            best: None,
+            rows: S::new(alloc, constraints),
+            scratch,
+            peak: 0,
+            goal,
+        })
+    }
+
+    /// How many solutions were listed.
+    pub(crate) fn solutions(&self) -> u32
+        ensures { result ≡ self.now.solutions }
+    {
+        self.solutions
+    }
+
+    /// The index of the constraint that is derived next.
+    pub(crate) fn next(&self) -> u32
+        ensures { result ≡ self.now.rows.next }
+    {
+        self.rows.next()
+    }
+
+    /// Tests the next listed solution, and goes on with it where it passes.
+    pub(crate) fn solution(&mut self, solution: &Solution) -> Result<(), SolutionError>
+        requires { self.old.solutions + 1 < 2 ^ 32 }
+        ensures next { (ss : List (NamedMeant Row)) (s : NamedMeant Row) → HasSolutions ss self.old → s.item ≡ solution.now.0
+            → MatchResult result (λ _. FirstFailing (PassesSolution self.old.problem s.item) (solution_tests self.old.problem) None × HasSolutions (ss ++ s ∷ []) self.new)
+            (λ e. FirstFailing (PassesSolution self.old.problem s.item) (solution_tests self.old.problem) (Some (test_of e))) }
+        ensures ok { OnOk result (self.new ≡ record self.old { solutions = self.new.solutions; best = self.new.best }) }
+        ensures err { OnErr result (self.new ≡ self.old) }
+    {
+        let value = test_solution(&self.problem, solution)?;
+        self.best = better(&self.problem, self.best, value);
+        self.solutions += 1;
+        Ok(())
+    }
+
+    /// Whether the listed solutions meet the primal side of the claim.
+    pub(crate) fn meets_primal(&self) -> bool
+        ensures { (ss : List (NamedMeant Row)) → HasSolutions ss self.now → IsTrue result ↔ MeetsPrimal self.now.problem ss self.now.problem.claim }
+    {
+        meets_primal(&self.problem, self.best.as_ref())
+    }
+
+    /// Tests the next derivation, and goes on with it where it passes.
+    pub(crate) fn derivation(&mut self, alloc: Global, step: &Derivation) -> Result<(), RuleError>
+        requires room { self.old.rows.next + 1 < 2 ^ 32 }
+        requires names { NamesBelow (variables self.old.problem) (at step.now.constraint.row) }
+        ensures next { (c : Certificate) → HasSteps c self.old
+            → MatchResult result (λ _. Passes c (derivation_of step.now) (step_tests (derivation_of step.now).reason) × HasSteps (with_next c (derivation_of step.now)) self.new)
+            (λ e. (e ≡ Memory) ⊎ Stops c (derivation_of step.now) (step_tests (derivation_of step.now).reason) e) }
+        ensures ok { OnOk result (self.new ≡ record self.old { rows = self.new.rows; peak = self.new.peak; goal = self.new.goal }) }
+        ensures peak { OnOk result (held_in self.new.rows ≤ self.new.peak) }
+        ensures err { IfErr result (λ e. (self.new ≡ self.old) ⊎ ((e ≡ Memory) × (self.new ≡ record self.old { rows = advance_table self.old.rows }))) }
+    {
+        let entry = apply(
+            alloc,
+            &self.problem,
+            self.best.as_ref(),
+            &self.rows,
+            &mut self.scratch,
+            step,
+        )?;
+        let goal = goal_with(&self.target, self.goal, self.rows.next(), &entry);
+        let held = place(&mut self.rows, entry)?;
+        self.goal = goal;
+        self.peak = self.peak.max(held);
+        Ok(())
+    }
+
+    /// The report, where the certificate ends here and is a proof.
+    pub(crate) fn report(&self) -> Option<Report>
+        ensures { (c : Certificate) → HasSteps c self.now
+            → MatchOption result (¬ PassesTest one c meets_dual) (λ r. PassesTest one c meets_dual × Reports one c (report_of r)) }
+    {
+        if lacks_goal(self.goal, &self.target) {
+            return None;
+        }
+        Some(Report {
+            claim: self.problem.claim(),
+            solutions: self.solutions,
+            derived: self.rows.next() - self.problem.cons().len() as u32,
+            peak: self.peak,
+            goal: self.goal,
+        })
+    }
+}

@@ -1,0 +1,200 @@
+//! Runs a checker over a text: each item is taken before the next one is read.
+
+ghost use Rattle.std.specs.Prelude.{◌≡◌, ◌≢◌, ◌+◌, ◌<◌, ◌^◌, true, false, suc, List, Ok, Err, IfNone};
+ghost use Rattle.vipr_spec.specs.Constraint.{one, Row};
+ghost use Rattle.vipr_spec.specs.Certificate.{Named as NamedMeant, Problem as ProblemMeant, Certificate};
+ghost use Rattle.vipr_spec.specs.Reading.{Rest, problem_read};
+ghost use Rattle.vipr_spec.specs.Verdict.{Answer, IsAnswer};
+ghost use Rattle.vipr_spec.specs.Progress.{Answers, derivations_from, solutions_from};
+ghost use Rattle.vipr_text.specs.Readers.{Items, Knows};
+ghost use Rattle.vipr_text.specs.Whole.{rest_of, IfTold};
+ghost use Rattle.vipr_tokens.specs.declared.error.TextError.TheVariants as text_error;
+ghost use Rattle.vipr_check.specs.View.{Says};
+ghost use Rattle.vipr_check.specs.Run.{text_answer, stop_answer, step_answer, end_answer, IsAmong, GoesAmong, IsAt, Goes};
+
+use crate::checker::Checker;
+use crate::halt::Stop;
+use crate::verdict::{Fault, Place, Refusal, Report, Verdict};
+use std::alloc::Global;
+use vipr_bytes::Source;
+use vipr_rules::Rows;
+use vipr_text::{CertReader, Derivations, Problem, Solutions, TextError};
+
+/// The verdict on the certificate that is read from `source`.
+pub(crate) fn run<R: Source + Drop, S: Rows>(alloc: Global, source: R) -> Result<Verdict, Fault>
+    ensures { IfTold (R.input source) (λ i. Says (IsAnswer one (rest_of i)) result) }
+{
+    let reader = CertReader::new(alloc, source)?;
+    match reader.read_problem(alloc) {
+        Ok((problem, solutions)) => after_problem::<R, S>(alloc, problem, solutions),
+        Err(error) => unread(error),
+    }
+}
+
+// The verdict where the problem was read.
+fn after_problem<R: Source + Drop, S: Rows>(
+    alloc: Global,
+    problem: Problem,
+    solutions: Solutions<R>,
+) -> Result<Verdict, Fault>
+    requires knows { Knows solutions problem }
+    requires unspent { solutions.reading.spent ≡ false }
+    requires counted { solutions.left < 2 ^ 32 }
+    ensures { solutions.reading.told ≡ true → (r : Rest)
+        → problem_read r ≡ Ok ((problem, solutions.left), solutions.reading.left)
+        → Says (IsAnswer one r) result }
+{
+    let checker: Checker<S> = Checker::new(alloc, problem)?;
+    after_solutions(alloc, checker, solutions)
+}
+
+// The verdict where the checker took all solutions so far.
+fn after_solutions<R: Source + Drop, S: Rows>(
+    alloc: Global,
+    mut checker: Checker<S>,
+    mut solutions: Solutions<R>,
+) -> Result<Verdict, Fault>
+    requires { (p : ProblemMeant) × (ss : List (NamedMeant Row)) × IsAmong p ss checker solutions }
+    ensures { (p : ProblemMeant) (ss : List (NamedMeant Row)) → IsAmong p ss checker solutions
+        → solutions.reading.told ≡ true
+        → Says (Answers one (solutions_from p ss solutions.left solutions.reading.left)) result }
+{
+    'solutions: while solutions.left() > 0 {
+        match next_solution(alloc, &mut checker, &mut solutions) {
+            Some(verdict) => return verdict,
+            None => continue 'solutions,
+        }
+    }
+    after_last_solution(alloc, checker, solutions)
+}
+
+// Takes the next solution, or gives the verdict at the first fault.
+fn next_solution<R: Source, S: Rows>(
+    alloc: Global,
+    checker: &mut Checker<S>,
+    solutions: &mut Solutions<R>,
+) -> Option<Result<Verdict, Fault>>
+    requires among { (p : ProblemMeant) × (ss : List (NamedMeant Row))
+        × IsAmong p ss checker.old solutions.old }
+    requires some { 0 < solutions.old.left }
+    ensures fewer { IfNone result (solutions.old.left ≡ suc solutions.new.left) }
+    ensures step { (p : ProblemMeant) (ss : List (NamedMeant Row))
+        → IsAmong p ss checker.old solutions.old
+        → GoesAmong p ss solutions.old checker.new solutions.new result }
+{
+    match solutions.next(alloc) {
+        Ok(Some(solution)) => after_item(checker.solution(&solution)),
+        Ok(None) => unreachable!(),
+        Err(error) => Some(unread(error)),
+    }
+}
+
+// The verdict where all solutions were taken.
+fn after_last_solution<R: Source + Drop, S: Rows>(
+    alloc: Global,
+    mut checker: Checker<S>,
+    solutions: Solutions<R>,
+) -> Result<Verdict, Fault>
+    requires none { solutions.left ≡ 0 }
+    requires among { (p : ProblemMeant) × (ss : List (NamedMeant Row))
+        × IsAmong p ss checker solutions }
+    ensures { (p : ProblemMeant) (ss : List (NamedMeant Row)) → IsAmong p ss checker solutions
+        → solutions.reading.told ≡ true
+        → Says (Answers one (solutions_from p ss 0 solutions.reading.left)) result }
+{
+    if let Err(stop) = checker.end_solutions() {
+        return stopped(stop);
+    }
+    match solutions.finish() {
+        Ok(derivations) => after_steps(alloc, checker, derivations),
+        Err(error) => unread(error),
+    }
+}
+
+// The verdict where the checker took all derivations so far.
+fn after_steps<R: Source + Drop, S: Rows>(
+    alloc: Global,
+    mut checker: Checker<S>,
+    mut derivations: Derivations<R>,
+) -> Result<Verdict, Fault>
+    requires { (c : Certificate) × IsAt c checker derivations }
+    ensures { (c : Certificate) → IsAt c checker derivations → derivations.reading.told ≡ true
+        → Says (Answers one (derivations_from c derivations.left derivations.reading.left)) result }
+{
+    'steps: loop {
+        match next_step(alloc, &mut checker, &mut derivations) {
+            Some(verdict) => return verdict,
+            None => continue 'steps,
+        }
+    }
+}
+
+// Takes the next derivation, or gives the verdict: at the end, or at the first fault.
+fn next_step<R: Source, S: Rows>(
+    alloc: Global,
+    checker: &mut Checker<S>,
+    derivations: &mut Derivations<R>,
+) -> Option<Result<Verdict, Fault>>
+    requires { (c : Certificate) × IsAt c checker.old derivations.old }
+    ensures fewer { IfNone result (derivations.old.left ≡ suc derivations.new.left) }
+    ensures step { (c : Certificate) → IsAt c checker.old derivations.old
+        → Goes c derivations.old checker.new derivations.new result }
+{
+    match derivations.next(alloc) {
+        Ok(Some(step)) => after_item(checker.derivation(alloc, &step)),
+        Ok(None) => Some(after_end(checker.finish())),
+        Err(error) => Some(unread(error)),
+    }
+}
+
+// The answer where the checker stopped at an item.
+fn after_item(outcome: Result<(), Stop>) -> Option<Result<Verdict, Fault>>
+    requires { outcome ≢ Err Stop.Spent }
+    ensures { result ≡ step_answer outcome }
+{
+    match outcome {
+        Ok(()) => None,
+        Err(stop) => Some(stopped(stop)),
+    }
+}
+
+// The answer at the end.
+fn after_end(outcome: Result<Report, Stop>) -> Result<Verdict, Fault>
+    requires { outcome ≢ Err Stop.Spent }
+    ensures { result ≡ end_answer outcome }
+{
+    match outcome {
+        Ok(report) => Ok(Verdict::Verified(report)),
+        Err(stop) => stopped(stop),
+    }
+}
+
+// The answer where the checker stopped first.
+fn stopped(stop: Stop) -> Result<Verdict, Fault>
+    requires { stop ≢ Stop.Spent }
+    ensures { result ≡ stop_answer stop }
+{
+    match stop {
+        Stop::Refused(refusal) => Ok(Verdict::Refused(refusal)),
+        Stop::Memory => Err(Fault::Memory),
+        Stop::Spent => unreachable!(),
+    }
+}
+
+// The answer where the text was not read on.
+fn unread(error: TextError) -> Result<Verdict, Fault>
+    requires { error ≢ text_error.Spent }
+    ensures { result ≡ text_answer error }
+{
+    match error {
+        TextError::Refused { cause, offset } => {
+            Ok(Verdict::Refused(Refusal {
+                cause,
+                place: Place::Byte(offset),
+            }))
+        }
+        TextError::Read => Err(Fault::Read),
+        TextError::Memory => Err(Fault::Memory),
+        TextError::Spent => unreachable!(),
+    }
+}
