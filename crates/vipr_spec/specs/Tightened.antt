@@ -1,6 +1,6 @@
 -- The tightened certificate: the derivations that the goal needs, renumbered
 use Rattle.std.specs.Prelude.{ℕ, zero, suc, Bool, false, cond, ◌&&◌, ◌||◌, nat_eq, nat_lt, ◌+◌}
-use Rattle.std.specs.Prelude.{filter, List, [], ◌∷◌, map, length, take}
+use Rattle.std.specs.Prelude.{filter, List, [], ◌∷◌, map, length}
 use Rattle.std.specs.Prelude.{Option, Some, None, IsSomeAnd}
 use Rattle.std.specs.List.{list_any}
 use Rattle.vipr_spec.specs.Fraction.{ℚ}
@@ -89,12 +89,16 @@ with_last_references k (d ∷ ds) =
 
 -- ---- the whole
 
+-- what is kept of derivations of indices m, m + 1, ..
+abbrev pub kept_derivations : (ℕ → Bool) → ℕ → List Derivation → List Derivation
+kept_derivations keep m ds =
+    with_last_references m (map (with_new_indices (new_index keep)) (kept_of keep m ds))
+
 -- the certificate with the kept derivations alone
 abbrev pub with_kept : Certificate → (ℕ → Bool) → Certificate
 with_kept c keep =
     let m = length c.problem.constraints in
-    let kept = kept_of keep m c.derivations in
-    record c { derivations = with_last_references m (map (with_new_indices (new_index keep)) kept) }
+    record c { derivations = kept_derivations keep m c.derivations }
 
 abbrev pub tightened : Certificate → Option ℕ → Certificate
 tightened c goal = with_kept c (is_kept c goal)
@@ -120,8 +124,3 @@ abbrev pub referred_by : (ℕ → Bool) → ℕ → ℕ → List Derivation → 
 referred_by refers p k [] = []
 referred_by refers p k (d ∷ ds) =
     record d { last = cond (refers k) (Some p) d.last } ∷ referred_by refers p (suc k) ds
-
--- what is kept of the first j derivations
-abbrev pub kept_so_far : Certificate → (ℕ → Bool) → ℕ → List Derivation
-kept_so_far c keep j =
-    (with_kept (record c { derivations = take j c.derivations }) keep).derivations

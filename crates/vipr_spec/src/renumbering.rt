@@ -1,15 +1,14 @@
 //! The new indices of what is kept, and what is said of it in the tightened certificate.
 
 ghost use Rattle.std.specs.Prelude.{◌≡◌, ◌↔◌, ℕ, suc, ◌+◌, ◌<◌, ◌≤◌, IsTrue, IsFalse, Bool, cond};
-ghost use Rattle.std.specs.Prelude.{List, [], ◌∷◌, ◌++◌, map, length, slice_index_or};
+ghost use Rattle.std.specs.Prelude.{List, [], ◌∷◌, ◌++◌, map, length, take, slice_index_or};
 ghost use Rattle.std.specs.Prelude.{Option, Some, None};
 ghost use Rattle.vipr_spec.specs.Certificate.{Certificate, Derivation, constraint_at, reason_at};
 ghost use Rattle.vipr_spec.specs.Certificate.{last_at, RestsOn, RefersTo, count};
 ghost use Rattle.vipr_spec.specs.OnePass.{RefersBack};
 ghost use Rattle.vipr_spec.specs.Tightened.{refers_to, is_kept, kept_of, new_index};
 ghost use Rattle.vipr_spec.specs.Tightened.{tightened_index, renumbered_at, with_new_indices};
-ghost use Rattle.vipr_spec.specs.Tightened.{with_kept, tightened, new_goal, referred_by};
-ghost use Rattle.vipr_spec.specs.Tightened.{kept_so_far};
+ghost use Rattle.vipr_spec.specs.Tightened.{kept_derivations, tightened, new_goal, referred_by};
 
 /// New indices rise, leave no gap, and are the old ones for the constraints of the problem.
 pub fn new_indices()
@@ -73,18 +72,14 @@ pub fn last_references()
 pub fn one_pass()
     ensures index { (keep : ℕ → Bool) (i : ℕ)
         → new_index keep (suc i) ≡ new_index keep i + cond (keep i) 1 0 }
-    ensures start { (c : Certificate) (keep : ℕ → Bool) → kept_so_far c keep 0 ≡ [] }
-    ensures kept { (c : Certificate) (keep : ℕ → Bool) (j : ℕ) (d : Derivation)
-        → ((i : ℕ) → i < length c.problem.constraints → IsTrue (keep i))
-        → j < length c.derivations → IsTrue (keep (length c.problem.constraints + j))
-        → kept_so_far c keep (j + 1)
-        ≡ (let m = length c.problem.constraints in
-        let new = with_new_indices (new_index keep) (slice_index_or c.derivations j d) in
-        referred_by (refers_to new.reason) (new_index keep (m + j)) m (kept_so_far c keep j)
+    ensures kept { (keep : ℕ → Bool) (m j : ℕ) (ds : List Derivation) (d : Derivation)
+        → ((i : ℕ) → i < m → IsTrue (keep i)) → j < length ds → IsTrue (keep (m + j))
+        → kept_derivations keep m (take (j + 1) ds)
+        ≡ (let new = with_new_indices (new_index keep) (slice_index_or ds j d) in
+        let before = kept_derivations keep m (take j ds) in
+        referred_by (refers_to new.reason) (new_index keep (m + j)) m before
         ++ record new { last = None } ∷ []) }
-    ensures left_out { (c : Certificate) (keep : ℕ → Bool) (j : ℕ) → j < length c.derivations
-        → IsFalse (keep (length c.problem.constraints + j))
-        → kept_so_far c keep (j + 1) ≡ kept_so_far c keep j }
-    ensures all { (c : Certificate) (keep : ℕ → Bool)
-        → kept_so_far c keep (length c.derivations) ≡ (with_kept c keep).derivations }
+    ensures left_out { (keep : ℕ → Bool) (m j : ℕ) (ds : List Derivation)
+        → j < length ds → IsFalse (keep (m + j))
+        → kept_derivations keep m (take (j + 1) ds) ≡ kept_derivations keep m (take j ds) }
 {}

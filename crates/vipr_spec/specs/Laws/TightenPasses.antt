@@ -1,10 +1,11 @@
 -- The two passes of the tightener, step by step: marks from the end, and what is kept from the front
 use Rattle.std.proofs.Common.{◌≡◌, ℕ, suc, ◌+◌, ◌<◌, Bool, true, false, cond, ◌&&◌, ◌||◌, List, [], ◌∷◌, ◌++◌, map, take, drop, length, slice_index_or, Option, Some, None, arith, refl, ◌∙◌, ap, ap₂, append-nil}
-use Rattle.std.proofs.lemmas.List.{take_more, drop_more, map_push, take_all, length-take-le, length-map}
+use Rattle.std.proofs.lemmas.List.{take_more, drop_more, map_push, length-take-le, length-map}
 use Rattle.vipr_spec.specs.Fraction.{zero_ℚ}
 use Rattle.vipr_spec.specs.Constraint.{equal}
-use Rattle.vipr_spec.specs.Certificate.{asm, Derivation, Certificate}
-use Rattle.vipr_spec.specs.Tightened.{refers_to, is_marked, kept_of, new_index, with_new_indices, or_else, last_reference, with_last_references, with_kept, referred_by, kept_so_far}
+use Rattle.std.specs.FinMap.{empty}
+use Rattle.vipr_spec.specs.Certificate.{asm, Derivation}
+use Rattle.vipr_spec.specs.Tightened.{refers_to, is_marked, kept_of, new_index, with_new_indices, or_else, last_reference, with_last_references, kept_derivations, referred_by}
 use Rattle.vipr_spec.specs.Laws.Kept.{index_same, length_kept}
 
 pub kept_more : {A : Type 0} (keep : ℕ → Bool) (k : ℕ) (xs : List A) (x : A) → kept_of keep k (xs ++ x ∷ []) ≡ kept_of keep k xs ++ cond (keep (k + length xs)) (x ∷ []) []
@@ -40,7 +41,7 @@ with_more k (e ∷ ds) d =
     (reference_more (suc k) ds d k ∙ ap (λ n. cond (refers_to d.reason k) (Some n) (last_reference (suc k) ds k)) place)
     (with_more (suc k) ds d ∙ ap (λ n. referred_by (refers_to d.reason) n (suc k) (with_last_references (suc k) ds) ++ record d { last = None } ∷ []) place)
 
--- ---- the pass
+-- ---- the pass from the front
 
 -- the derivations so far, and one that is kept
 kept_and : (keep : ℕ → Bool) (m j : ℕ) (ds : List Derivation) (d : Derivation) → j < length ds → kept_of keep m (take (j + 1) ds) ≡ kept_of keep m (take j ds) ++ cond (keep (m + j)) (slice_index_or ds j d ∷ []) []
@@ -48,36 +49,31 @@ kept_and keep m j ds d h =
     let size : length (take j ds) ≡ j = length-take-le j ds (omega arith) in
     ap (kept_of keep m) (take_more ds j d h) ∙ kept_more keep m (take j ds) (slice_index_or ds j d) ∙ ap (λ n. kept_of keep m (take j ds) ++ cond (keep (m + n)) (slice_index_or ds j d ∷ []) []) size
 
-pub so_far_no : (c : Certificate) (keep : ℕ → Bool) (j : ℕ) → j < length c.derivations → keep (length c.problem.constraints + j) ≡ false → kept_so_far c keep (j + 1) ≡ kept_so_far c keep j
-so_far_no c keep j h e =
-    let m = length c.problem.constraints in
-    let d : Derivation = record { name = []; stated = record { row = c.problem.objective; sense = equal; bound = zero_ℚ }; reason = asm; last = None } in
+pub next_left_out : (keep : ℕ → Bool) (m j : ℕ) (ds : List Derivation) → j < length ds → keep (m + j) ≡ false → kept_derivations keep m (take (j + 1) ds) ≡ kept_derivations keep m (take j ds)
+next_left_out keep m j ds h e =
+    let d : Derivation = record { name = []; stated = record { row = empty; sense = equal; bound = zero_ℚ }; reason = asm; last = None } in
     ap (λ l. with_last_references m (map (with_new_indices (new_index keep)) l))
-    (kept_and keep m j c.derivations d h ∙ ap (λ b. kept_of keep m (take j c.derivations) ++ cond b (slice_index_or c.derivations j d ∷ []) []) e ∙ append-nil (kept_of keep m (take j c.derivations)))
+    (kept_and keep m j ds d h ∙ ap (λ b. kept_of keep m (take j ds) ++ cond b (slice_index_or ds j d ∷ []) []) e ∙ append-nil (kept_of keep m (take j ds)))
 
-pub so_far_yes : (c : Certificate) (keep : ℕ → Bool) (j : ℕ) (d : Derivation) → ((i : ℕ) → i < length c.problem.constraints → keep i ≡ true) → j < length c.derivations → keep (length c.problem.constraints + j) ≡ true
-    → kept_so_far c keep (j + 1)
-    ≡ (let new = with_new_indices (new_index keep) (slice_index_or c.derivations j d) in
-    referred_by (refers_to new.reason) (new_index keep (length c.problem.constraints + j)) (length c.problem.constraints) (kept_so_far c keep j) ++ record new { last = None } ∷ [])
-so_far_yes c keep j d given h e =
-    let m = length c.problem.constraints in
+pub next_kept : (keep : ℕ → Bool) (m j : ℕ) (ds : List Derivation) (d : Derivation) → ((i : ℕ) → i < m → keep i ≡ true) → j < length ds → keep (m + j) ≡ true
+    → kept_derivations keep m (take (j + 1) ds)
+    ≡ (let new = with_new_indices (new_index keep) (slice_index_or ds j d) in
+    referred_by (refers_to new.reason) (new_index keep (m + j)) m (kept_derivations keep m (take j ds)) ++ record new { last = None } ∷ [])
+next_kept keep m j all d given h e =
     let w = with_new_indices (new_index keep) in
-    let ds = kept_of keep m (take j c.derivations) in
-    let x = slice_index_or c.derivations j d in
+    let ds = kept_of keep m (take j all) in
+    let x = slice_index_or all j d in
     let first : new_index keep m ≡ m = index_same keep m given m (omega arith) in
-    let size : length (take j c.derivations) ≡ j = length-take-le j c.derivations (omega arith) in
-    let many : length ds + new_index keep m ≡ new_index keep (m + length (take j c.derivations)) = length_kept keep m (take j c.derivations) in
-    let same : new_index keep (m + length (take j c.derivations)) ≡ new_index keep (m + j) = ap (λ n. new_index keep (m + n)) size in
+    let size : length (take j all) ≡ j = length-take-le j all (omega arith) in
+    let many : length ds + new_index keep m ≡ new_index keep (m + length (take j all)) = length_kept keep m (take j all) in
+    let same : new_index keep (m + length (take j all)) ≡ new_index keep (m + j) = ap (λ n. new_index keep (m + n)) size in
     let mapped : length (map w ds) ≡ length ds = length-map ds w in
     let place : m + length (map w ds) ≡ new_index keep (m + j) = omega arith in
-    let kept : kept_of keep m (take (j + 1) c.derivations) ≡ ds ++ x ∷ [] = kept_and keep m j c.derivations d h ∙ ap (λ b. ds ++ cond b (x ∷ []) []) e in
-    let longer : map w (kept_of keep m (take (j + 1) c.derivations)) ≡ map w ds ++ w x ∷ [] = ap (map w) kept ∙ map_push w ds x in
+    let kept : kept_of keep m (take (j + 1) all) ≡ ds ++ x ∷ [] = kept_and keep m j all d h ∙ ap (λ b. ds ++ cond b (x ∷ []) []) e in
+    let longer : map w (kept_of keep m (take (j + 1) all)) ≡ map w ds ++ w x ∷ [] = ap (map w) kept ∙ map_push w ds x in
     ap (with_last_references m) longer ∙ with_more m (map w ds) (w x) ∙ ap (λ n. referred_by (refers_to (w x).reason) n m (with_last_references m (map w ds)) ++ record (w x) { last = None } ∷ []) place
 
-pub so_far_all : (c : Certificate) (keep : ℕ → Bool) → kept_so_far c keep (length c.derivations) ≡ (with_kept c keep).derivations
-so_far_all c keep =
-    let m = length c.problem.constraints in
-    ap (λ l. with_last_references m (map (with_new_indices (new_index keep)) (kept_of keep m l))) (take_all (length c.derivations) c.derivations (omega arith))
+-- ---- the pass from the end
 
 -- one step of the pass from the end
 pub marked_down : (goal : Option ℕ) (m j i : ℕ) (ds : List Derivation) (d : Derivation) → j < length ds
