@@ -10,7 +10,7 @@ use Rattle.vipr_spec.specs.Reading.{is_nonzero}
 use Rattle.vipr_spec.specs.Laws.Kept.{map_with, length_with, index_mono, index_same, old_index, kept_map, length_kept, kept_at}
 use Rattle.vipr_spec.proofs.SmallerSums.{Contains-filter, Contains-filter_back, Contains-map, Contains-map_back, is_not_zero, not_zero_is}
 use Rattle.vipr_spec.proofs.References.{reason_in, last_in, last_then, last_names}
-use Rattle.vipr_spec.proofs.Marked.{at_place, reason_placed}
+use Rattle.vipr_spec.specs.Laws.Placed.{at_place, reason_placed}
 
 -- ---- reasons under new indices
 

@@ -1,8 +1,9 @@
 -- What is kept of a list, and its new indices
 use Rattle.std.proofs.Common.{◌≡◌, ℕ, Option, zero, suc, ◌+◌, ◌<◌, ◌≤◌, ◌⊎◌, Bool, true, false, cond, List, [], ◌∷◌, map, length, slice_index_or, arith, refl, sym, ◌∙◌, ap, ap₂, subst, inl, inr, ⊎_elim}
 use Rattle.std.proofs.lemmas.Bool.{cases_Bool, cases_order}
+use Rattle.std.proofs.lemmas.List.{length-map}
 use Rattle.vipr_spec.specs.Certificate.{Derivation}
-use Rattle.vipr_spec.specs.Tightened.{kept_of, new_index, last_reference, with_last_references}
+use Rattle.vipr_spec.specs.Tightened.{kept_of, new_index, with_new_indices, last_reference, with_last_references, kept_derivations}
 
 -- ---- new indices
 
@@ -143,3 +144,11 @@ length_with k (d ∷ ds) = ap suc (length_with (suc k) ds)
 pub map_with : {X : Type 0} (f : Derivation → X) → ((d : Derivation) (l : Option ℕ) → f (record d { last = l }) ≡ f d) → (k : ℕ) (ds : List Derivation) → map f (with_last_references k ds) ≡ map f ds
 map_with f same k [] = refl
 map_with f same k (d ∷ ds) = ap₂ (λ x xs. x ∷ xs) (same d (last_reference (suc k) ds k)) (map_with f same (suc k) ds)
+
+pub length_kept_derivations : (keep : ℕ → Bool) (m : ℕ) (ds : List Derivation) → length (kept_derivations keep m ds) + new_index keep m ≡ new_index keep (m + length ds)
+length_kept_derivations keep m ds =
+    let kept = kept_of keep m ds in
+    let size : length (map (with_new_indices (new_index keep)) kept) ≡ length kept = length-map kept (with_new_indices (new_index keep)) in
+    let all : length (kept_derivations keep m ds) ≡ length (map (with_new_indices (new_index keep)) kept) = length_with m (map (with_new_indices (new_index keep)) kept) in
+    let few : length kept + new_index keep m ≡ new_index keep (m + length ds) = length_kept keep m ds in
+    omega arith

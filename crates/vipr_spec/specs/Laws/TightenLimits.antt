@@ -10,7 +10,7 @@ use Rattle.vipr_spec.specs.Reading.{is_nonzero, most_count}
 use Rattle.vipr_spec.specs.Shape.{ReasonShape, DerivationShape, EntryFits, ReasonFits, DerivationFits, CanWrite}
 use Rattle.vipr_spec.specs.Certificate.{variables, Reason, asm, lin, rnd, uns, sol, Derivation, Certificate, count}
 use Rattle.vipr_spec.specs.Tightened.{is_kept, kept_of, new_index, renumbered_entries, refers_to, or_else, renumbered, with_new_indices, last_reference, with_last_references, tightened}
-use Rattle.vipr_spec.specs.Laws.Kept.{index_le, index_same, length_kept, length_with}
+use Rattle.vipr_spec.specs.Laws.Kept.{index_le, index_same, length_kept, length_kept_derivations}
 
 All-kept : {A : Type 0} (P : A → Type 0) (keep : ℕ → Bool) (k : ℕ) (xs : List A) → All P xs → All P (kept_of keep k xs)
 All-kept P keep k [] a = a
@@ -45,10 +45,7 @@ count_kept : (c : Certificate) (goal : Option ℕ) → count (tightened c goal) 
 count_kept c goal =
     let m = length c.problem.constraints in
     let keep = is_kept c goal in
-    let kept = kept_of keep m c.derivations in
-    let size : length (map (with_new_indices (new_index keep)) kept) ≡ length kept = length-map kept (with_new_indices (new_index keep)) in
-    let all : length (tightened c goal).derivations ≡ length (map (with_new_indices (new_index keep)) kept) = length_with m (map (with_new_indices (new_index keep)) kept) in
-    let few : length kept + new_index keep m ≡ new_index keep (count c) = length_kept keep m c.derivations in
+    let few : length (tightened c goal).derivations + new_index keep m ≡ new_index keep (count c) = length_kept_derivations keep m c.derivations in
     let first : new_index keep m ≡ m = index_same keep m (given c goal) m (omega arith) in
     omega arith
 

@@ -1,11 +1,16 @@
 -- The two passes of the tightener, step by step: marks from the end, and what is kept from the front
-use Rattle.std.proofs.Common.{◌≡◌, ℕ, suc, ◌+◌, ◌<◌, Bool, true, false, cond, ◌&&◌, ◌||◌, List, [], ◌∷◌, ◌++◌, map, take, drop, length, slice_index_or, Option, Some, None, arith, refl, ◌∙◌, ap, ap₂, append-nil}
+use Rattle.std.proofs.Common.{◌≡◌, ℕ, suc, ◌+◌, ◌<◌, ◌≤◌, Bool, true, false, cond, ◌&&◌, ◌||◌, List, [], ◌∷◌, ◌++◌, map, take, drop, length, slice_index_or, Option, Some, None, All, filter, nat_eq, eqb-true, subst, arith, refl, ◌∙◌, ap, ap₂, append-nil}
 use Rattle.std.proofs.lemmas.List.{take_more, drop_more, map_push, length-take-le, length-map}
-use Rattle.vipr_spec.specs.Fraction.{zero_ℚ}
+use Rattle.std.specs.List.{list_any}
+use Rattle.std.proofs.lemmas.List.Folds.{list_any_none}
+use Rattle.std.proofs.lemmas.List.Elements.{All-head, All-tail, All-weaker, All-filter}
+use Rattle.vipr_spec.specs.Fraction.{ℚ, zero_ℚ}
+use Rattle.vipr_spec.specs.Reading.{is_nonzero}
+use Rattle.vipr_spec.specs.OnePass.{NamesEarlier}
 use Rattle.vipr_spec.specs.Constraint.{equal}
 use Rattle.std.specs.FinMap.{empty}
-use Rattle.vipr_spec.specs.Certificate.{asm, Derivation}
-use Rattle.vipr_spec.specs.Tightened.{refers_to, is_marked, kept_of, new_index, with_new_indices, or_else, last_reference, with_last_references, kept_derivations, referred_by}
+use Rattle.vipr_spec.specs.Certificate.{Reason, asm, lin, rnd, uns, sol, Derivation}
+use Rattle.vipr_spec.specs.Tightened.{refers_to, is_the_goal, is_marked, renumbered, kept_of, new_index, with_new_indices, or_else, last_reference, with_last_references, kept_derivations, referred_by}
 use Rattle.vipr_spec.specs.Laws.Kept.{index_same, length_kept}
 
 pub kept_more : {A : Type 0} (keep : ℕ → Bool) (k : ℕ) (xs : List A) (x : A) → kept_of keep k (xs ++ x ∷ []) ≡ kept_of keep k xs ++ cond (keep (k + length xs)) (x ∷ []) []
@@ -82,3 +87,60 @@ marked_down goal m j i ds d h =
     let place : suc (m + j) ≡ m + (j + 1) = omega arith in
     ap (λ l. is_marked goal (m + j) l i) (drop_more ds j d h)
     ∙ ap (λ n. is_marked goal n (drop (j + 1) ds) i || (is_marked goal n (drop (j + 1) ds) (m + j) && refers_to (slice_index_or ds j d).reason i)) place
+
+-- ---- what is not marked
+
+apart : (i n : ℕ) → n < i → nat_eq i n ≡ false
+apart i n h = by (nat_eq i n) refl
+  where
+    by : (b : Bool) → nat_eq i n ≡ b → nat_eq i n ≡ false
+    by true e = absurd (let same = eqb-true i n e in omega arith)
+    by false e = e
+
+unnamed : (k i : ℕ) (es : List (ℕ × ℚ)) → k ≤ i → All (λ e. e.0 < k) es → list_any (λ e. nat_eq i e.0 && is_nonzero e) es ≡ false
+unnamed k i es h a =
+    list_any_none (λ (e : ℕ × ℚ). nat_eq i e.0 && is_nonzero e) es
+    (All-weaker (λ (e : ℕ × ℚ). e.0 < k) (λ e. (nat_eq i e.0 && is_nonzero e) ≡ false) (λ e l. ap (λ b. b && is_nonzero e) (apart i e.0 (omega arith))) es a)
+
+not_referred : (k : ℕ) (r : Reason) (i : ℕ) → NamesEarlier k (Some r) → k ≤ i → refers_to r i ≡ false
+not_referred k asm i n h = refl
+not_referred k (lin es) i n h = unnamed k i es h n
+not_referred k (rnd es) i n h = unnamed k i es h n
+not_referred k (uns i1 l1 i2 l2) i n h =
+    ap₂ (λ a b. a || (b || (nat_eq i i2 || nat_eq i l2))) (apart i i1 (let l = n.0 in omega arith)) (apart i l1 (let l = n.1 in omega arith))
+    ∙ ap₂ (λ a b. a || b) (apart i i2 (let l = n.2 in omega arith)) (apart i l2 (let l = n.3 in omega arith))
+not_referred k sol i n h = refl
+
+-- nothing past the derivations but the goal
+pub marked_past : (goal : Option ℕ) (k : ℕ) (ds : List Derivation) (i : ℕ) → is_the_goal goal i ≡ false
+    → ((j : ℕ) → NamesEarlier (k + j) (slice_index_or (map (λ d. Some d.reason) ds) j None)) → k + length ds ≤ i → is_marked goal k ds i ≡ false
+marked_past goal k [] i other earlier h = other
+marked_past goal k (d ∷ ds) i other earlier h =
+    ap₂ (λ a b. a || (is_marked goal (suc k) ds k && b)) rest here ∙ by (is_marked goal (suc k) ds k)
+  where
+    rest : is_marked goal (suc k) ds i ≡ false
+    rest = marked_past goal (suc k) ds i other
+        (λ j. let same : k + suc j ≡ suc k + j = omega arith in subst (λ n. NamesEarlier n (slice_index_or (map (λ (d : Derivation). Some d.reason) ds) j None)) same (earlier (suc j)))
+        (omega arith)
+
+    here : refers_to d.reason i ≡ false
+    here = let same : k + 0 ≡ k = omega arith in not_referred k d.reason i (subst (λ n. NamesEarlier n (Some d.reason)) same (earlier 0)) (omega arith)
+
+    by : (b : Bool) → (b && false) ≡ false
+    by true = refl
+    by false = refl
+
+-- ---- indices that are looked up
+
+pairs_alike : (f g : ℕ → ℕ) (k : ℕ) → ((i : ℕ) → i < k → f i ≡ g i) → (es : List (ℕ × ℚ)) → All (λ e. e.0 < k) es → map {B = ℕ × ℚ} (λ e. (f e.0, e.1)) es ≡ map (λ e. (g e.0, e.1)) es
+pairs_alike f g k same [] a = refl
+pairs_alike f g k same (e ∷ es) a =
+    ap₂ (λ i l. (i, e.1) ∷ l) (same e.0 (All-head (λ (e : ℕ × ℚ). e.0 < k) e es a)) (pairs_alike f g k same es (All-tail (λ (e : ℕ × ℚ). e.0 < k) e es a))
+
+-- those alone that are named
+pub renumbered_alike : (f g : ℕ → ℕ) (k : ℕ) → ((i : ℕ) → i < k → f i ≡ g i) → (r : Reason) → NamesEarlier k (Some r) → renumbered f r ≡ renumbered g r
+renumbered_alike f g k same asm n = refl
+renumbered_alike f g k same (lin es) n = ap lin (pairs_alike f g k same (filter is_nonzero es) (All-filter is_nonzero (λ (e : ℕ × ℚ). e.0 < k) es n))
+renumbered_alike f g k same (rnd es) n = ap rnd (pairs_alike f g k same (filter is_nonzero es) (All-filter is_nonzero (λ (e : ℕ × ℚ). e.0 < k) es n))
+renumbered_alike f g k same (uns i1 l1 i2 l2) n = ap₂ (λ a b. uns a b (f i2) (f l2)) (same i1 n.0) (same l1 n.1) ∙ ap₂ (λ a b. uns (g i1) (g l1) a b) (same i2 n.2) (same l2 n.3)
+renumbered_alike f g k same sol n = refl
