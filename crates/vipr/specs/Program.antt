@@ -3,6 +3,7 @@ use Rattle.std.specs.Prelude.{⊤, ◌≡◌, ◌≢◌, ◌⊎◌, ℕ, List, O
 use Rattle.clap.specs.Words.{IsAmong, Text, fault_of}
 use Rattle.clap.specs.declared.error.ErrorKind.{ErrorKind}
 use Rattle.clap.specs.declared.error.ErrorKind.TheVariants as kind
+use Rattle.vipr_spec.specs.Constraint.{one}
 use Rattle.vipr_spec.specs.Input.{Input}
 use Rattle.vipr_spec.specs.Reading.{certificate_read}
 use Rattle.vipr_spec.specs.Verdict.{IsAnswer}
@@ -66,7 +67,7 @@ unknown = record { Judged = λ _. ⊤; kind = any_text }
 
 -- one that gives these bytes
 abbrev pub known_by : Input → Known
-known_by i = record { Judged = Says (IsAnswer (rest_of i)); kind = text_read (certificate_read (rest_of i)) }
+known_by i = record { Judged = Says (IsAnswer one (rest_of i)); kind = text_read (certificate_read (rest_of i)) }
 
 -- old is the output before, where it tells that, and new the one afterwards.
 -- The verdict's lines were printed, and the status is the verdict's.

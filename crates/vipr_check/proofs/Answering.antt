@@ -16,7 +16,7 @@ use Rattle.vipr_tokens.specs.Faults.{Fails}
 use Rattle.vipr_tokens.specs.declared.error.TextError.{TextError}
 use Rattle.vipr_tokens.specs.declared.error.TextError.TheVariants as text
 use Rattle.vipr_rules.specs.Judged.{IsComputed, Tells, Stops}
-use Rattle.vipr_spec.specs.Constraint.{Row}
+use Rattle.vipr_spec.specs.Constraint.{one, Row}
 use Rattle.vipr_rules.specs.Solution.{test_of}
 use Rattle.vipr_rules.specs.declared.solution.SolutionError.{SolutionError}
 use Rattle.vipr_rules.specs.declared.solution.SolutionError.TheVariants as solution
@@ -91,45 +91,45 @@ told_solution i s (solution.Overflow (Some n)) = refl
 
 -- ---- the whole
 
-pub only_says : (r : Rest) (x : Result Verdict Fault) → Says (IsAnswer r) x → (a : Answer) → IsAnswer r a → Says (λ b. b ≡ a) x
-only_says r x h a k = Says-by (IsAnswer r) (λ b. b ≡ a) x (λ b g. one_answer r b a g k) h
+pub only_says : (r : Rest) (x : Result Verdict Fault) → Says (IsAnswer one r) x → (a : Answer) → IsAnswer one r a → Says (λ b. b ≡ a) x
+only_says r x h a k = Says-by (IsAnswer one r) (λ b. b ≡ a) x (λ b g. one_answer one r b a g k) h
 
-pub read_says : (r : Rest) (x : Result Verdict Fault) → Says (IsAnswer r) x → x ≡ Err Read → r.fails ≡ true
-read_says r x h e = failed_read r (subst (Says (IsAnswer r)) e h)
+pub read_says : (r : Rest) (x : Result Verdict Fault) → Says (IsAnswer one r) x → x ≡ Err Read → r.fails ≡ true
+read_says r x h e = failed_read r (subst (Says (IsAnswer one r)) e h)
 
-pub ended_says : (r : Rest) (x : Result Verdict Fault) → Says (IsAnswer r) x → IfVerified x (λ report. r.fails ≡ false)
-ended_says r (Ok (Verified v)) h = let a = (verified_read r (report_of v)).0 h in ((reads_certificates r a.0).0 a.1).0
+pub ended_says : (r : Rest) (x : Result Verdict Fault) → Says (IsAnswer one r) x → IfVerified x (λ report. r.fails ≡ false)
+ended_says r (Ok (Verified v)) h = let a = (verified_read one r (report_of v)).0 h in ((reads_certificates r a.0).0 a.1).0
 ended_says r (Ok (Refused v)) h = tt
 ended_says r (Err e) h = tt
 
 abbrev IsProofOf : List ℕ → Report → Type 0
-IsProofOf bytes report = (c : Certificate) × SpellsOnly bytes c × IsProof c × Reports c (report_of report)
+IsProofOf bytes report = (c : Certificate) × SpellsOnly bytes c × IsProof one c × Reports one c (report_of report)
 
-the_proof : (bytes : List ℕ) (report : Report) → ((c : Certificate) × Spells bytes c × IsProof c × Reports c (report_of report)) → IsProofOf bytes report
+the_proof : (bytes : List ℕ) (report : Report) → ((c : Certificate) × Spells bytes c × IsProof one c × Reports one c (report_of report)) → IsProofOf bytes report
 the_proof bytes report p = (p.0, record { this = p.1; no_other = λ other s. one_certificate bytes other p.0 s p.1 }, p.2, p.3)
 
-pub proof_says : (i : Input) (x : Result Verdict Fault) → Says (IsAnswer (rest_of i)) x → i.fails ≡ false → IfVerified x (IsProofOf i.bytes)
-proof_says i (Ok (Verified r)) h e = the_proof i.bytes r ((verified_text i.bytes (report_of r)).0 (subst (λ s. IsAnswer s (verified (report_of r))) (whole_is i e) h))
+pub proof_says : (i : Input) (x : Result Verdict Fault) → Says (IsAnswer one (rest_of i)) x → i.fails ≡ false → IfVerified x (IsProofOf i.bytes)
+proof_says i (Ok (Verified r)) h e = the_proof i.bytes r ((verified_text one i.bytes (report_of r)).0 (subst (λ s. IsAnswer one s (verified (report_of r))) (whole_is i e) h))
 proof_says i (Ok (Refused r)) h e = tt
 proof_says i (Err f) h e = tt
 
 shown_of : (bytes : List ℕ) (report : Report) → IsProofOf bytes report → (c : Certificate) × SpellsOnly bytes c × IsShown c.problem c.solutions c.problem.claim
-shown_of bytes report p = (p.0, p.1, claim_shown p.0 p.2)
+shown_of bytes report p = (p.0, p.1, claim_shown one p.0 p.2)
 
-pub sound_says : (i : Input) (x : Result Verdict Fault) → Says (IsAnswer (rest_of i)) x → i.fails ≡ false
+pub sound_says : (i : Input) (x : Result Verdict Fault) → Says (IsAnswer one (rest_of i)) x → i.fails ≡ false
     → IfVerified x (λ report. (c : Certificate) × SpellsOnly i.bytes c × IsShown c.problem c.solutions c.problem.claim)
 sound_says i (Ok (Verified r)) h e = shown_of i.bytes r (proof_says i (Ok (Verified r)) h e)
 sound_says i (Ok (Refused r)) h e = tt
 sound_says i (Err f) h e = tt
 
-every_read : (r : Rest) (c : Certificate) (x : Result Verdict Fault) → certificate_read r ≡ Ok c → IsProof c → Says (IsAnswer r) x → IsVerified x (λ report. Reports c (report_of report))
+every_read : (r : Rest) (c : Certificate) (x : Result Verdict Fault) → certificate_read r ≡ Ok c → IsProof one c → Says (IsAnswer one r) x → IsVerified x (λ report. Reports one c (report_of report))
 every_read r c (Ok (Verified v)) e p h =
-    let a = proof_answered r c (verified (report_of v)) e p h in
+    let a = proof_answered one r c (verified (report_of v)) e p h in
     let same : a.0 ≡ report_of v = cc a.2 in
-    subst (Reports c) same a.1
-every_read r c (Ok (Refused v)) e p h = let a = proof_answered r c (answer_of (Refused v)) e p h in absurd (cc a.2)
-every_read r c (Err Read) e p h = let a = proof_answered r c cut_short e p h in absurd (cc a.2)
+    subst (Reports one c) same a.1
+every_read r c (Ok (Refused v)) e p h = let a = proof_answered one r c (answer_of (Refused v)) e p h in absurd (cc a.2)
+every_read r c (Err Read) e p h = let a = proof_answered one r c cut_short e p h in absurd (cc a.2)
 every_read r c (Err Memory) e p h = tt
 
-pub every_says : (i : Input) (x : Result Verdict Fault) → Says (IsAnswer (rest_of i)) x → i.fails ≡ false → (c : Certificate) → Spells i.bytes c → IsProof c → IsVerified x (λ report. Reports c (report_of report))
-every_says i x h e c s p = every_read (whole_text i.bytes) c x ((reads_texts i.bytes c).1 s) p (subst (λ r. Says (IsAnswer r) x) (whole_is i e) h)
+pub every_says : (i : Input) (x : Result Verdict Fault) → Says (IsAnswer one (rest_of i)) x → i.fails ≡ false → (c : Certificate) → Spells i.bytes c → IsProof one c → IsVerified x (λ report. Reports one c (report_of report))
+every_says i x h e c s p = every_read (whole_text i.bytes) c x ((reads_texts i.bytes c).1 s) p (subst (λ r. Says (IsAnswer one r) x) (whole_is i e) h)

@@ -6,7 +6,7 @@ use Rattle.vipr_spec.specs.Fraction.{ℚ}
 use Rattle.vipr_spec.specs.Soundness.{IsBestValue}
 use Rattle.vipr_rules.specs.Claim.{IsTargetOf}
 use Rattle.vipr_rules.specs.declared.claim.Target.TheVariants.{Nothing}
-use Rattle.vipr_spec.specs.Constraint.{Row, Condition, condition, NamesBelow}
+use Rattle.vipr_spec.specs.Constraint.{one, Row, Condition, condition, NamesBelow}
 use Rattle.vipr_spec.specs.Certificate.{Named, Problem, variables, Derivation, Certificate, count, held as held_after}
 use Rattle.vipr_spec.specs.OnePass.{with_next, RefersBack}
 use Rattle.vipr_spec.specs.Checking.{start, IsChecked, NextGoal}
@@ -91,7 +91,7 @@ module _ {S : Type 0} (table : S → Table) where
     rows = subst (IsTableOf c) (sym is.rows) (IsTableOf-empty c refl);
     own = subst (DerivedBelow (variables p)) (sym is.rows) (DerivedBelow-empty (variables p) (length p.constraints));
     scratch = is.scratch;
-    checked = subst (IsChecked c k.goal) (sym is.peak) (checked_start p ss k.goal is.goal);
+    checked = subst (IsChecked one c k.goal) (sym is.peak) (checked_start one p ss k.goal is.goal);
   }
 
   -- ---- what the rules ask for
@@ -107,14 +107,14 @@ module _ {S : Type 0} (table : S → Table) where
     derived_below = subst (λ (p : Problem). DerivedBelow (variables p) (table k.rows)) is.problem is.own
 
     pub back : RefersBack c
-    back = refers_back c is.checked.steps
+    back = refers_back one c is.checked.steps
 
   -- ---- one more derivation
 
   pub Describes-next : (c : Certificate) (d : Derivation) (e : Entry) (k l : Checker S) → Describes table c k → HasRoom c d → Passes c d (step_tests d.reason) → IsEntryOf (with_next c d) (count c) e
-      → l.problem ≡ k.problem → l.target ≡ k.target → l.best ≡ k.best → l.listed ≡ k.listed → length l.scratch.sums ≡ length k.scratch.sums → table l.rows ≡ step (table k.rows) e → l.peak ≡ max k.peak (held (table l.rows)) → NextGoal c d k.goal l.goal → Describes table (with_next c d) l
+      → l.problem ≡ k.problem → l.target ≡ k.target → l.best ≡ k.best → l.listed ≡ k.listed → length l.scratch.sums ≡ length k.scratch.sums → table l.rows ≡ step (table k.rows) e → l.peak ≡ max k.peak (held (table l.rows)) → NextGoal one c d k.goal l.goal → Describes table (with_next c d) l
   Describes-next c d e k l is room passes entry problem same best listed scratch rows top goal =
-      let t : IsTableOf (with_next c d) (table l.rows) = subst (IsTableOf (with_next c d)) (sym rows) (IsTableOf-step c d e (table k.rows) is.rows (λ k h. (is.checked.steps k h).valid) entry) in
+      let t : IsTableOf (with_next c d) (table l.rows) = subst (IsTableOf (with_next c d)) (sym rows) (IsTableOf-step c d e (table k.rows) is.rows (refers_back one c is.checked.steps) entry) in
       let n = count_next c d in
       let says : condition d.stated ≡ condition_of e.constraint = sym (constraint_next c d) ∙ entry.says in
       let most : l.peak ≡ max k.peak (held_after (with_next c d) (count c)) = top ∙ ap (max k.peak) (IsTableOf-held (with_next c d) (table l.rows) t (count c) (sym n) (omega arith)) in
@@ -126,7 +126,7 @@ module _ {S : Type 0} (table : S → Table) where
         rows = t;
         own = subst (DerivedBelow (variables c.problem)) (sym rows) (DerivedBelow-step (variables c.problem) (table k.rows) e is.own (subst (λ (x : Condition). NamesBelow (variables c.problem) x.row) says room.names));
         scratch = scratch ∙ is.scratch;
-        checked = subst (IsChecked (with_next c d) l.goal) (sym most) (checked_next c d k.goal l.goal k.peak is.checked (next_good c d passes) goal);
+        checked = subst (IsChecked one (with_next c d) l.goal) (sym most) (checked_next one c d k.goal l.goal k.peak is.checked (next_good one c d passes) goal);
       }
 
   pub Describes-scratch : (c : Certificate) (k : Checker S) (a : Accumulator) → Describes table c k → length a.sums ≡ length k.scratch.sums → Describes table c (record k { scratch = a })
@@ -135,17 +135,17 @@ module _ {S : Type 0} (table : S → Table) where
   -- ---- the end
 
   module _ (c : Certificate) (k : Checker S) (r : Rest) (is : Describes table c k) (end : end_read r ≡ Ok tt) where
-    pub finish_unproved : (v : Verdict) → k.goal ≡ None → k.target ≢ Nothing → v ≡ refused_at no_proof End → Answers (derivations_from c 0 r) (answer_of v)
+    pub finish_unproved : (v : Verdict) → k.goal ≡ None → k.target ≢ Nothing → v ≡ refused_at no_proof End → Answers one (derivations_from c 0 r) (answer_of v)
     finish_unproved v none some e =
-        subst (λ v. Answers (derivations_from c 0 r) (answer_of v)) (sym e) (checked_unproved c k.peak r (subst (λ g. IsChecked c g k.peak) none is.checked) end (is.target.needed.1 some))
+        subst (λ v. Answers one (derivations_from c 0 r) (answer_of v)) (sym e) (checked_unproved one c k.peak r (subst (λ g. IsChecked one c g k.peak) none is.checked) end (is.target.needed.1 some))
 
     pub finish_verified : (derived : ℕ) (claim : Claim) → (k.target ≢ Nothing → IsSome k.goal) → claim_of claim ≡ k.problem.claim → derived ≡ (table k.rows).next - length k.problem.constraints
-        → Answers (derivations_from c 0 r) (answer_of (Verified (record { claim = claim; solutions = k.listed; derived = derived; peak = k.peak; goal = k.goal })))
+        → Answers one (derivations_from c 0 r) (answer_of (Verified (record { claim = claim; solutions = k.listed; derived = derived; peak = k.peak; goal = k.goal })))
     finish_verified derived claim some says e =
-        let a = checked_verified c k.goal k.peak r is.checked end (λ n. some (is.target.needed.0 n)) in
+        let a = checked_verified one c k.goal k.peak r is.checked end (λ n. some (is.target.needed.0 n)) in
         let claims : c.problem.claim ≡ claim_of claim = ap (λ p. p.claim) is.problem ∙ sym says in
         let first = rows_first c k is in
         let next = is.rows.next in
         let start = is.rows.first in
         let all : length c.derivations ≡ derived = omega arith in
-        subst (Answers (derivations_from c 0 r)) (λ i. verified (record { claim = claims i; solutions = is.listed i; derived = all i; peak = k.peak; goal = k.goal })) a
+        subst (Answers one (derivations_from c 0 r)) (λ i. verified (record { claim = claims i; solutions = is.listed i; derived = all i; peak = k.peak; goal = k.goal })) a

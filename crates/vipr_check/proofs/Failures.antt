@@ -1,7 +1,7 @@
 -- That a read failed is answered only where the source fails
 use Rattle.std.proofs.Common.{◌≡◌, ℕ, suc, true, List, [], ◌∷◌, ◌++◌, length, map, Option, Some, None, Result, Ok, Err, All, refl, sym, subst, inl, inr, arith}
 use Rattle.std.proofs.lemmas.List.Elements.{All-nil, All-cons, All-tail, All-append}
-use Rattle.vipr_spec.specs.Constraint.{Row}
+use Rattle.vipr_spec.specs.Constraint.{one, Row}
 use Rattle.vipr_spec.specs.Certificate.{Named, Problem, Derivation, Certificate}
 use Rattle.vipr_spec.specs.Reading.{Rest, Fault, refused, unread, Read, ◌>>=◌, repeated, problem_read, solution_read, derivations_read, derivation_read, end_read, certificate_read}
 use Rattle.vipr_spec.specs.Verdict.{step_tests, solution_tests, FirstFailing, Test, spelled, of_solution, of_step, meets_primal, meets_dual, Passes, items_read, numbered, tests_of_solution, tests_of_derivation, last_tests, derivations_found, ending_found, problem_found, found_in, cut_short, told_by, IsToldBy, IsAnswer}
@@ -93,9 +93,9 @@ all_tests r = by (problem_read r)
         (all_numbered (Tells y) (tests_of_solution p.0.0) (solutions y p.0.0) 0 items.0)
         (in_solutions p.0.0 items.0 items.1))
 
-pub failed_read : (r : Rest) → IsAnswer r cut_short → r.fails ≡ true
+pub failed_read : (r : Rest) → IsAnswer one r cut_short → r.fails ≡ true
 failed_read r h = by h.0 h.1 h.2
   where
-    by : (f : Option Test) → FirstFailing (Passes (found_in r).certificate) (found_in r).tests f → IsToldBy (found_in r) f cut_short → r.fails ≡ true
+    by : (f : Option Test) → FirstFailing (Passes one (found_in r).certificate) (found_in r).tests f → IsToldBy one (found_in r).certificate f cut_short → r.fails ≡ true
     by None g told = absurd (cc told.2)
-    by (Some t) g told = item_faults.certificate.failure r (failing_has (Passes (found_in r).certificate) (Tells (certificate_read r)) (found_in r).tests t (all_tests r) g (sym told))
+    by (Some t) g told = item_faults.certificate.failure r (failing_has (Passes one (found_in r).certificate) (Tells (certificate_read r)) (found_in r).tests t (all_tests r) g (sym told))

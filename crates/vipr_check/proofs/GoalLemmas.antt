@@ -7,7 +7,7 @@ use Rattle.std.specs.FinSet as set
 use Rattle.std.specs.FinSet.{same_set, contains-empty, nat_cmp-IsAntisymmetric}
 use Rattle.std.specs.Cmp.{nat_cmp_total}
 use Rattle.std.specs.Ordering.{nat_cmp}
-use Rattle.vipr_spec.specs.Constraint.{condition}
+use Rattle.vipr_spec.specs.Constraint.{one, condition}
 use Rattle.vipr_spec.specs.Certificate.{Problem, Derivation, Certificate, count, RestsOn}
 use Rattle.vipr_spec.specs.OnePass.{with_next}
 use Rattle.vipr_spec.specs.Checking.{Meets, IsFirstMet, ProvesNext, NextGoal}
@@ -32,25 +32,25 @@ mapped_at : {X Y : Type 0} (P : Y → Type 0) (f : X → Y) (xs : List X) (i : �
 mapped_at P f xs i e h k = let d = any_of xs i h in subst P (sym (get_or-map f xs i d e h)) (k d)
 
 module _ (p : Problem) (t : Target) (is : IsTargetOf p t) where
-  unmet : (n : Named Constraint) → ¬ Hits t n → ¬ Meets p (named_of constraint_of n)
+  unmet : (n : Named Constraint) → ¬ Hits t n → ¬ Meets one p (named_of constraint_of n)
   unmet n h m = h ((is.met (condition_of n.item)).1 m)
 
   module _ (cons : List (Named Constraint)) where
-    met_in : (goal : Option ℕ) → IsFirstHit t cons goal → IsFirstMet (record p { constraints = map (named_of constraint_of) cons }) goal
-    met_in None a = All-map (λ n. ¬ Meets p n) (named_of constraint_of) cons (λ k d lt. unmet (get_or cons k d) (a k d lt))
+    met_in : (goal : Option ℕ) → IsFirstHit t cons goal → IsFirstMet one (record p { constraints = map (named_of constraint_of) cons }) goal
+    met_in None a = All-map (λ n. ¬ Meets one p n) (named_of constraint_of) cons (λ k d lt. unmet (get_or cons k d) (a k d lt))
     met_in (Some i) a = (
       simp length-map a.0,
-      λ e. mapped_at (Meets p) (named_of constraint_of) cons i e a.0 (λ d. (is.met (condition_of (get_or cons i d).item)).0 (a.1 d)),
-      λ k e low high. mapped_at (λ n. ¬ Meets p n) (named_of constraint_of) cons k e (let lt = a.0 in omega arith) (λ d. unmet (get_or cons k d) (a.2 k d low high)),
+      λ e. mapped_at (Meets one p) (named_of constraint_of) cons i e a.0 (λ d. (is.met (condition_of (get_or cons i d).item)).0 (a.1 d)),
+      λ k e low high. mapped_at (λ n. ¬ Meets one p n) (named_of constraint_of) cons k e (let lt = a.0 in omega arith) (λ d. unmet (get_or cons k d) (a.2 k d low high)),
     )
 
-    pub first_met : p.constraints ≡ map (named_of constraint_of) cons → (goal : Option ℕ) → IsFirstHit t cons goal → IsFirstMet p goal
-    first_met e goal a = subst (λ l. IsFirstMet (record p { constraints = l }) goal) (sym e) (met_in goal a)
+    pub first_met : p.constraints ≡ map (named_of constraint_of) cons → (goal : Option ℕ) → IsFirstHit t cons goal → IsFirstMet one p goal
+    first_met e goal a = subst (λ l. IsFirstMet one (record p { constraints = l }) goal) (sym e) (met_in goal a)
 
 -- ---- one more derivation
 
 pub next_proves : (c : Certificate) (d : Derivation) (t : Target) (e : Entry) → IsTargetOf c.problem t → IsEntryOf (with_next c d) (count c) e
-    → ProvesNext c d ↔ ((e.assumptions ≡ set.empty) × IsMetBy t (condition_of e.constraint))
+    → ProvesNext one c d ↔ ((e.assumptions ≡ set.empty) × IsMetBy t (condition_of e.constraint))
 next_proves c d t e target is = (
   λ h. (
     same_set nat_cmp_total nat_cmp-IsAntisymmetric e.assumptions set.empty (λ a. no_member a (set.contains e.assumptions a) refl (h.0 a)),
@@ -69,14 +69,14 @@ next_proves c d t e target is = (
     no_member a true s n = absurd (n ((is.rests a).0 s))
     no_member a false s n = s ∙ sym (contains-empty nat_cmp a)
 
-pub goal_kept : (c : Certificate) (d : Derivation) (goal : Option ℕ) → is_some goal ≡ true → NextGoal c d goal goal
+pub goal_kept : (c : Certificate) (d : Derivation) (goal : Option ℕ) → is_some goal ≡ true → NextGoal one c d goal goal
 goal_kept c d None s = cc
 goal_kept c d (Some k) s = refl
 
-pub goal_new : (c : Certificate) (d : Derivation) (goal : Option ℕ) (k : ℕ) → is_some goal ≡ false → count c ≡ k → ProvesNext c d → NextGoal c d goal (Some k)
+pub goal_new : (c : Certificate) (d : Derivation) (goal : Option ℕ) (k : ℕ) → is_some goal ≡ false → count c ≡ k → ProvesNext one c d → NextGoal one c d goal (Some k)
 goal_new c d None k s e p = inl (p, ap Some (sym e))
 goal_new c d (Some j) k s e p = absurd (cc s)
 
-pub goal_open : (c : Certificate) (d : Derivation) (goal : Option ℕ) → is_some goal ≡ false → ¬ ProvesNext c d → NextGoal c d goal None
+pub goal_open : (c : Certificate) (d : Derivation) (goal : Option ℕ) → is_some goal ≡ false → ¬ ProvesNext one c d → NextGoal one c d goal None
 goal_open c d None s p = inr (p, refl)
 goal_open c d (Some j) s p = absurd (cc s)

@@ -1,7 +1,7 @@
 -- A text item by item: what is answered for what is left is the answer for what was left before
 use Rattle.std.proofs.Common.{◌≡◌, ℕ, zero, suc, ◌+◌, ◌<◌, ◌^◌, true, false, List, [], ◌∷◌, ◌++◌, length, Option, Some, None, Result, Ok, inl, inr, arith, refl, sym, ◌∙◌, subst}
 use Rattle.std.specs.Prelude.{◌⊎◌}
-use Rattle.vipr_spec.specs.Constraint.{Row, at, NamesBelow}
+use Rattle.vipr_spec.specs.Constraint.{one, Row, at, NamesBelow}
 use Rattle.vipr_spec.specs.Certificate.{Named, Problem, Derivation, Certificate, MeetsPrimal, count}
 use Rattle.vipr_spec.specs.Reading.{Rest, problem_read, solution_read, derivations_read, derivation_read, end_read}
 use Rattle.vipr_spec.specs.OnePass.{with_next}
@@ -57,8 +57,8 @@ module _ {S : Type 0} (table : S → Table) where
   }
 
   pub ended_later : (c : Certificate) (k : Checker S) (old mid : Items) (x : Result Verdict Fault) → (h : HasReached table c old k mid) → old.reading.told ≡ true
-      → (mid.reading.told ≡ true → Says (Answers (derivations_from h.now mid.left mid.reading.left)) x) → Says (Answers (derivations_from c old.left old.reading.left)) x
-  ended_later c k old mid x h told s = let a = h.leads told in Says-by (Answers (derivations_from h.now mid.left mid.reading.left)) (Answers (derivations_from c old.left old.reading.left)) x a.answers (s a.told)
+      → (mid.reading.told ≡ true → Says (Answers one (derivations_from h.now mid.left mid.reading.left)) x) → Says (Answers one (derivations_from c old.left old.reading.left)) x
+  ended_later c k old mid x h told s = let a = h.leads told in Says-by (Answers one (derivations_from h.now mid.left mid.reading.left)) (Answers one (derivations_from c old.left old.reading.left)) x a.answers (s a.told)
 
   module _ (c : Certificate) (k l : Checker S) (old new : Items) (d : Derivation) (is : IsAt table c k old) (fewer : old.left ≡ suc new.left) (memory : Remembers old new) (unspent : new.reading.spent ≡ false)
       (read : old.reading.told ≡ true → (derivation_read c.problem old.reading.left ≡ Ok (d, new.reading.left)) × (new.reading.told ≡ true)) where
@@ -73,17 +73,17 @@ module _ {S : Type 0} (table : S → Table) where
       };
       leads = λ told. record {
         told = (read told).1;
-        answers = λ a y. subst (λ n. Answers (derivations_from c n old.reading.left) a) (sym fewer) ((derivation_passes c new.left old.reading.left d new.reading.left a (read told).0 h.0).1 y);
+        answers = λ a y. subst (λ n. Answers one (derivations_from c n old.reading.left) a) (sym fewer) ((derivation_passes one c new.left old.reading.left d new.reading.left a (read told).0 h.0).1 y);
       };
     }
-    goes_on (Some answer) (inl e) = λ told. subst (Says (Answers (derivations_from c old.left old.reading.left))) (sym e) tt
-    goes_on (Some answer) (inr f) = λ told. Says-by (λ a. a ≡ told_by (of_step (count c) f.test)) (Answers (derivations_from c old.left old.reading.left)) answer
-        (λ a y. subst (λ n. Answers (derivations_from c n old.reading.left) a) (sym fewer) ((derivation_fails c new.left old.reading.left d new.reading.left f.test a (read told).0 f.first).1 y)) f.says
+    goes_on (Some answer) (inl e) = λ told. subst (Says (Answers one (derivations_from c old.left old.reading.left))) (sym e) tt
+    goes_on (Some answer) (inr f) = λ told. Says-by (λ a. a ≡ told_by (of_step (count c) f.test)) (Answers one (derivations_from c old.left old.reading.left)) answer
+        (λ a y. subst (λ n. Answers one (derivations_from c n old.reading.left) a) (sym fewer) ((derivation_fails one c new.left old.reading.left d new.reading.left f.test a (read told).0 f.first).1 y)) f.says
 
-pub derivations_failed : (c : Certificate) (n : ℕ) (r : Rest) (e : TextError) → ((n ≡ 0) × Fails e (end_read r)) ⊎ ((0 < n) × Fails e (derivation_read c.problem r)) → Says (Answers (derivations_from c n r)) (text_failed e)
-derivations_failed c n r e (inl h) = subst (λ n. Says (Answers (derivations_from c n r)) (text_failed e)) (sym h.0) (text_says (Answers (derivations_from c 0 r)) e (end_read r) h.1 (λ f is. (end_fault c r f (told_by (spelled f)) is).1 refl))
+pub derivations_failed : (c : Certificate) (n : ℕ) (r : Rest) (e : TextError) → ((n ≡ 0) × Fails e (end_read r)) ⊎ ((0 < n) × Fails e (derivation_read c.problem r)) → Says (Answers one (derivations_from c n r)) (text_failed e)
+derivations_failed c n r e (inl h) = subst (λ n. Says (Answers one (derivations_from c n r)) (text_failed e)) (sym h.0) (text_says (Answers one (derivations_from c 0 r)) e (end_read r) h.1 (λ f is. (end_fault one c r f (told_by (spelled f)) is).1 refl))
 derivations_failed c zero r e (inr h) = absurd (let z = h.0 in omega arith)
-derivations_failed c (suc n) r e (inr h) = text_says (Answers (derivations_from c (suc n) r)) e (derivation_read c.problem r) h.1 (λ f is. (derivation_fault c n r f (told_by (spelled f)) is).1 refl)
+derivations_failed c (suc n) r e (inr h) = text_says (Answers one (derivations_from c (suc n) r)) e (derivation_read c.problem r) h.1 (λ f is. (derivation_fault one c n r f (told_by (spelled f)) is).1 refl)
 
 -- ---- the solutions
 
@@ -103,8 +103,8 @@ module _ {S : Type 0} (table : S → Table) where
   }
 
   pub answered_later : (p : Problem) (ss : List (Named Row)) (k : Checker S) (old mid : Items) (x : Result Verdict Fault) → (h : HasListed table p ss old k mid) → old.reading.told ≡ true
-      → (mid.reading.told ≡ true → Says (Answers (solutions_from p h.now mid.left mid.reading.left)) x) → Says (Answers (solutions_from p ss old.left old.reading.left)) x
-  answered_later p ss k old mid x h told s = Says-by (Answers (solutions_from p h.now mid.left mid.reading.left)) (Answers (solutions_from p ss old.left old.reading.left)) x (h.answers told) (s (h.told told))
+      → (mid.reading.told ≡ true → Says (Answers one (solutions_from p h.now mid.left mid.reading.left)) x) → Says (Answers one (solutions_from p ss old.left old.reading.left)) x
+  answered_later p ss k old mid x h told s = Says-by (Answers one (solutions_from p h.now mid.left mid.reading.left)) (Answers one (solutions_from p ss old.left old.reading.left)) x (h.answers told) (s (h.told told))
 
   -- there is a number for one more
   pub one_more : (p : Problem) (ss : List (Named Row)) (k : Checker S) (old : Items) → IsAmong table p ss k old → 0 < old.left → k.listed + 1 < 2 ^ 32
@@ -122,37 +122,37 @@ module _ {S : Type 0} (table : S → Table) where
         room = (let e = length-append ss (s ∷ []) in let r = is.room in omega (arith, e, r, fewer));
       };
       told = λ told. (read told).1;
-      answers = λ told a y. subst (λ n. Answers (solutions_from p ss n old.reading.left) a) (sym fewer) ((solution_passes p ss new.left old.reading.left s new.reading.left a (read told).0 h.0).1 y);
+      answers = λ told a y. subst (λ n. Answers one (solutions_from p ss n old.reading.left) a) (sym fewer) ((solution_passes one p ss new.left old.reading.left s new.reading.left a (read told).0 h.0).1 y);
     }
     goes_among (Some answer) (e, fails, is_it) = λ told.
-        subst (Says (Answers (solutions_from p ss old.left old.reading.left))) (sym is_it)
-        (subst (Answers (solutions_from p ss old.left old.reading.left)) (sym (told_solution (length ss) s.item e))
-        (subst (λ n. Answers (solutions_from p ss n old.reading.left) (told_by (of_solution (length ss) s.item (test_of e)))) (sym fewer)
-        ((solution_fails p ss new.left old.reading.left s new.reading.left (test_of e) (told_by (of_solution (length ss) s.item (test_of e))) (read told).0 fails).1 refl)))
+        subst (Says (Answers one (solutions_from p ss old.left old.reading.left))) (sym is_it)
+        (subst (Answers one (solutions_from p ss old.left old.reading.left)) (sym (told_solution (length ss) s.item e))
+        (subst (λ n. Answers one (solutions_from p ss n old.reading.left) (told_by (of_solution (length ss) s.item (test_of e)))) (sym fewer)
+        ((solution_fails one p ss new.left old.reading.left s new.reading.left (test_of e) (told_by (of_solution (length ss) s.item (test_of e))) (read told).0 fails).1 refl)))
 
-solution_fault_at : (p : Problem) (ss : List (Named Row)) (n : ℕ) (r : Rest) (e : TextError) → 0 < n → Fails e (solution_read p r) → Says (Answers (solutions_from p ss n r)) (text_failed e)
+solution_fault_at : (p : Problem) (ss : List (Named Row)) (n : ℕ) (r : Rest) (e : TextError) → 0 < n → Fails e (solution_read p r) → Says (Answers one (solutions_from p ss n r)) (text_failed e)
 solution_fault_at p ss zero r e lt h = absurd (omega arith)
-solution_fault_at p ss (suc n) r e lt h = text_says (Answers (solutions_from p ss (suc n) r)) e (solution_read p r) h (λ f is. (solution_fault p ss n r f (told_by (spelled f)) is).1 refl)
+solution_fault_at p ss (suc n) r e lt h = text_says (Answers one (solutions_from p ss (suc n) r)) e (solution_read p r) h (λ f is. (solution_fault one p ss n r f (told_by (spelled f)) is).1 refl)
 
-pub solution_missing : (p : Problem) (ss : List (Named Row)) (n : ℕ) (r : Rest) (e : TextError) → 0 < n → ((n ≡ 0) × Fails {Y = Unit {0}} e (Ok tt)) ⊎ ((0 < n) × Fails e (solution_read p r)) → Says (Answers (solutions_from p ss n r)) (text_failed e)
+pub solution_missing : (p : Problem) (ss : List (Named Row)) (n : ℕ) (r : Rest) (e : TextError) → 0 < n → ((n ≡ 0) × Fails {Y = Unit {0}} e (Ok tt)) ⊎ ((0 < n) × Fails e (solution_read p r)) → Says (Answers one (solutions_from p ss n r)) (text_failed e)
 solution_missing p ss n r e lt (inl h) = absurd (let z = h.0 in omega arith)
 solution_missing p ss n r e lt (inr h) = solution_fault_at p ss n r e lt h.1
 
 -- ---- their end
 
-pub ending_unmet : (p : Problem) (ss : List (Named Row)) (r : Rest) (v : Verdict) → ¬ MeetsPrimal p ss p.claim → v ≡ refused_at no_primal End → Answers (solutions_from p ss 0 r) (answer_of v)
-ending_unmet p ss r v n e = subst (λ v. Answers (solutions_from p ss 0 r) (answer_of v)) (sym e) ((solutions_unmet p ss r (told_by meets_primal) n).1 refl)
+pub ending_unmet : (p : Problem) (ss : List (Named Row)) (r : Rest) (v : Verdict) → ¬ MeetsPrimal p ss p.claim → v ≡ refused_at no_primal End → Answers one (solutions_from p ss 0 r) (answer_of v)
+ending_unmet p ss r v n e = subst (λ v. Answers one (solutions_from p ss 0 r) (answer_of v)) (sym e) ((solutions_unmet one p ss r (told_by meets_primal) n).1 refl)
 
-pub ending_failed : (p : Problem) (ss : List (Named Row)) (r : Rest) (e : TextError) → MeetsPrimal p ss p.claim → Fails e (derivations_read p r) → Says (Answers (solutions_from p ss 0 r)) (text_failed e)
-ending_failed p ss r e met h = text_says (Answers (solutions_from p ss 0 r)) e (derivations_read p r) h (λ f is. (derivations_fault p ss r f (told_by (spelled f)) met is).1 refl)
+pub ending_failed : (p : Problem) (ss : List (Named Row)) (r : Rest) (e : TextError) → MeetsPrimal p ss p.claim → Fails e (derivations_read p r) → Says (Answers one (solutions_from p ss 0 r)) (text_failed e)
+ending_failed p ss r e met h = text_says (Answers one (solutions_from p ss 0 r)) e (derivations_read p r) h (λ f is. (derivations_fault one p ss r f (told_by (spelled f)) met is).1 refl)
 
-pub ending_read : (p : Problem) (ss : List (Named Row)) (m : ℕ) (r s : Rest) (x : Result Verdict Fault) → MeetsPrimal p ss p.claim → derivations_read p r ≡ Ok (m, s) → Says (Answers (derivations_from (start p ss) m s)) x → Says (Answers (solutions_from p ss 0 r)) x
-ending_read p ss m r s x met is h = Says-by (Answers (derivations_from (start p ss) m s)) (Answers (solutions_from p ss 0 r)) x (λ a. (derivations_begin p ss r m s a met is).1) h
+pub ending_read : (p : Problem) (ss : List (Named Row)) (m : ℕ) (r s : Rest) (x : Result Verdict Fault) → MeetsPrimal p ss p.claim → derivations_read p r ≡ Ok (m, s) → Says (Answers one (derivations_from (start p ss) m s)) x → Says (Answers one (solutions_from p ss 0 r)) x
+ending_read p ss m r s x met is h = Says-by (Answers one (derivations_from (start p ss) m s)) (Answers one (solutions_from p ss 0 r)) x (λ a. (derivations_begin one p ss r m s a met is).1) h
 
 -- ---- the problem
 
-pub problem_failed : (r : Rest) (e : TextError) → Fails e (problem_read r) → Says (IsAnswer r) (text_failed e)
-problem_failed r e h = text_says (IsAnswer r) e (problem_read r) h (λ f is. (problem_fault r f (told_by (spelled f)) is).1 refl)
+pub problem_failed : (r : Rest) (e : TextError) → Fails e (problem_read r) → Says (IsAnswer one r) (text_failed e)
+problem_failed r e h = text_says (IsAnswer one r) e (problem_read r) h (λ f is. (problem_fault one r f (told_by (spelled f)) is).1 refl)
 
-pub problem_read_on : (r : Rest) (p : Problem) (n : ℕ) (s : Rest) (x : Result Verdict Fault) → problem_read r ≡ Ok ((p, n), s) → Says (Answers (solutions_from p [] n s)) x → Says (IsAnswer r) x
-problem_read_on r p n s x is h = Says-by (Answers (solutions_from p [] n s)) (IsAnswer r) x (λ a. (problem_ok r p n s a is).1) h
+pub problem_read_on : (r : Rest) (p : Problem) (n : ℕ) (s : Rest) (x : Result Verdict Fault) → problem_read r ≡ Ok ((p, n), s) → Says (Answers one (solutions_from p [] n s)) x → Says (IsAnswer one r) x
+problem_read_on r p n s x is h = Says-by (Answers one (solutions_from p [] n s)) (IsAnswer one r) x (λ a. (problem_ok one r p n s a is).1) h

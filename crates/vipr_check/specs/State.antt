@@ -1,6 +1,6 @@
 -- A checker, described by the certificate that it was handed so far
 use Rattle.std.specs.Prelude.{◌≡◌, ◌+◌, ◌<◌, ◌^◌, true, false, List, length}
-use Rattle.vipr_spec.specs.Constraint.{Row, at, NamesBelow}
+use Rattle.vipr_spec.specs.Constraint.{one, Row, at, NamesBelow}
 use Rattle.vipr_spec.specs.Certificate.{Named, Problem, variables, Derivation, Certificate, count}
 use Rattle.vipr_spec.specs.Soundness.{IsBestValue}
 use Rattle.vipr_spec.specs.Checking.{IsFirstMet, IsChecked}
@@ -22,7 +22,7 @@ pub record Describes {S : Type 0} (table : S → Table) (c : Certificate) (k : C
   pub rows : IsTableOf c (table k.rows)
   pub own : DerivedBelow (variables c.problem) (table k.rows)
   pub scratch : length k.scratch.sums ≡ variables c.problem
-  pub checked : IsChecked c k.goal k.peak
+  pub checked : IsChecked one c k.goal k.peak
 
 -- the checker has what is to be known of the problem and these solutions, and no derivation
 pub record Begins {S : Type 0} (table : S → Table) (p : Problem) (ss : List (Named Row)) (k : Checker S) : Type 0 where
@@ -32,7 +32,7 @@ pub record Begins {S : Type 0} (table : S → Table) (p : Problem) (ss : List (N
   pub listed : length ss ≡ k.listed
   pub rows : table k.rows ≡ empty_table (length p.constraints)
   pub scratch : length k.scratch.sums ≡ variables p
-  pub goal : IsFirstMet p k.goal
+  pub goal : IsFirstMet one p k.goal
   pub peak : k.peak ≡ 0
 
 -- the checker stands behind the problem and these solutions, and the reader before the solution that comes next
@@ -47,7 +47,7 @@ pub record HasListed {S : Type 0} (table : S → Table) (p : Problem) (ss : List
   pub now : List (Named Row)
   pub is_among : IsAmong table p now k new
   pub told : old.reading.told ≡ true → new.reading.told ≡ true
-  pub answers : old.reading.told ≡ true → (a : Answer) → Answers (solutions_from p now new.left new.reading.left) a → Answers (solutions_from p ss old.left old.reading.left) a
+  pub answers : old.reading.told ≡ true → (a : Answer) → Answers one (solutions_from p now new.left new.reading.left) a → Answers one (solutions_from p ss old.left old.reading.left) a
 
 -- the derivation names variables of the problem alone, and there is an index for it
 pub record HasRoom (c : Certificate) (d : Derivation) : Type 0 where
@@ -64,7 +64,7 @@ pub record IsAt {S : Type 0} (table : S → Table) (c : Certificate) (k : Checke
 -- an answer for the certificate d and what is left then is one for the certificate c and what is left before
 pub record Leads (c : Certificate) (old : Items) (d : Certificate) (new : Items) : Type 0 where
   pub told : new.reading.told ≡ true
-  pub answers : (a : Answer) → Answers (derivations_from d new.left new.reading.left) a → Answers (derivations_from c old.left old.reading.left) a
+  pub answers : (a : Answer) → Answers one (derivations_from d new.left new.reading.left) a → Answers one (derivations_from c old.left old.reading.left) a
 
 -- so much was read since the certificate c that the checker now stands behind another one
 pub record HasReached {S : Type 0} (table : S → Table) (c : Certificate) (old : Items) (k : Checker S) (new : Items) : Type 0 where

@@ -1,7 +1,7 @@
 -- How a checker takes a derivation
 use Rattle.std.specs.Prelude.{◌≡◌, ◌⊎◌, true, List, [], ◌∷◌, ◌++◌, length, Option, Some, None, Result, Ok, Err}
 use Rattle.vipr_spec.specs.Certificate.{Named, Problem, Derivation, Certificate, count}
-use Rattle.vipr_spec.specs.Constraint.{Row}
+use Rattle.vipr_spec.specs.Constraint.{one, Row}
 use Rattle.vipr_spec.specs.OnePass.{with_next}
 use Rattle.vipr_spec.specs.Verdict.{step_tests, StepTest, PassesSolution, solution_tests, FirstFailing, of_step, told_by}
 use Rattle.vipr_spec.specs.Progress.{PassesNext, Answers, solutions_from, derivations_from}
@@ -39,7 +39,7 @@ IsTaken table c d k (Some answer) = (answer ≡ Err fault.Memory) ⊎ FailsNext 
 -- a derivation more was taken, or the answer is that for what was left
 abbrev pub Goes : {S : Type 0} → (S → Table) → Certificate → Items → Checker S → Items → Option (Result Verdict Fault) → Type 0
 Goes table c old k new None = HasReached table c old k new
-Goes table c old k new (Some answer) = old.reading.told ≡ true → Says (Answers (derivations_from c old.left old.reading.left)) answer
+Goes table c old k new (Some answer) = old.reading.told ≡ true → Says (Answers one (derivations_from c old.left old.reading.left)) answer
 
 -- a listed solution passes its tests, and the checker then describes the certificate with it; or a test fails
 abbrev pub Lists : {S : Type 0} → (S → Table) → Problem → List (Named Row) → Named Row → Checker S → Result (Unit {0}) SolutionError → Type 0
@@ -54,4 +54,4 @@ IsListed table p ss s k (Some answer) = (e : SolutionError) × FirstFailing (Pas
 -- a solution more was taken, or the answer is that for what was left
 abbrev pub GoesAmong : {S : Type 0} → (S → Table) → Problem → List (Named Row) → Items → Checker S → Items → Option (Result Verdict Fault) → Type 0
 GoesAmong table p ss old k new None = HasListed table p ss old k new
-GoesAmong table p ss old k new (Some answer) = old.reading.told ≡ true → Says (Answers (solutions_from p ss old.left old.reading.left)) answer
+GoesAmong table p ss old k new (Some answer) = old.reading.told ≡ true → Says (Answers one (solutions_from p ss old.left old.reading.left)) answer

@@ -2,6 +2,7 @@
 
 ghost use Rattle.std.specs.Prelude.{◌≡◌, ◌↔◌, ◌<◌, ◌^◌, length, IsTrue};
 ghost use Rattle.std.specs.FinSet.{empty};
+ghost use Rattle.vipr_spec.specs.Constraint.{one};
 ghost use Rattle.vipr_spec.specs.Certificate.{Derivation as DerivationMeant, Certificate, count};
 ghost use Rattle.vipr_spec.specs.OnePass.{with_next};
 ghost use Rattle.vipr_spec.specs.Checking.{NextGoal};
@@ -35,7 +36,7 @@ pub(crate) fn goal_with(
     entry: &Entry,
 ) -> Option<u32>
     ensures { (c : Certificate) (d : DerivationMeant) → IsTargetOf c.problem target.now → count c ≡ index
-        → IsEntryOf (with_next c d) (count c) entry.now → NextGoal c d goal result }
+        → IsEntryOf (with_next c d) (count c) entry.now → NextGoal one c d goal result }
 {
     if goal.is_some() {
         return goal;

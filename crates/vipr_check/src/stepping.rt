@@ -3,7 +3,7 @@
 ghost use Rattle.std.specs.Prelude.{◌≡◌, ◌≢◌, ◌↔◌, ◌+◌, ◌<◌, ◌^◌, IfOk, OnOk, IsTrue, Ok, List, [], None};
 ghost use Rattle.vipr_rules.specs.declared.claim.Target.TheVariants.{Nothing};
 ghost use Rattle.vipr_spec.specs.Certificate.{Named as NamedMeant, Problem as ProblemMeant, Derivation as DerivationMeant, Certificate, MeetsPrimal, count};
-ghost use Rattle.vipr_spec.specs.Constraint.{Row};
+ghost use Rattle.vipr_spec.specs.Constraint.{one, Row};
 ghost use Rattle.vipr_spec.specs.Reading.{Rest, end_read};
 ghost use Rattle.vipr_spec.specs.OnePass.{with_next};
 ghost use Rattle.vipr_spec.specs.Progress.{Answers, derivations_from};
@@ -123,7 +123,7 @@ impl<S: Rows> Checker<S> {
     /// The verdict where the certificate ends here.
     pub(crate) fn finish(&self) -> Verdict
         requires { (c : Certificate) × Describes S.table c self.now × (count c < 2 ^ 32) }
-        ensures { (c : Certificate) (r : Rest) → Describes S.table c self.now → end_read r ≡ Ok tt → Answers (derivations_from c 0 r) (answer_of result) }
+        ensures { (c : Certificate) (r : Rest) → Describes S.table c self.now → end_read r ≡ Ok tt → Answers one (derivations_from c 0 r) (answer_of result) }
     {
         if self.lacks_goal() {
             return refused(causes::NO_PROOF, Place::End);

@@ -1,7 +1,7 @@
 //! Checks a certificate item by item: each is tested before the next one is read.
 
 ghost use Rattle.std.specs.Prelude.{◌≡◌, ◌+◌, ◌<◌, ◌^◌, true, false, suc, List, Ok, IfNone};
-ghost use Rattle.vipr_spec.specs.Constraint.{Row};
+ghost use Rattle.vipr_spec.specs.Constraint.{one, Row};
 ghost use Rattle.vipr_spec.specs.Certificate.{Named as NamedMeant, Problem as ProblemMeant, Certificate};
 ghost use Rattle.vipr_spec.specs.Reading.{Rest, problem_read};
 ghost use Rattle.vipr_spec.specs.Verdict.{Answer, IsAnswer};
@@ -28,7 +28,7 @@ pub(crate) fn verdict_on<R: Source + Drop, S: Rows>(
     alloc: Global,
     source: R,
 ) -> Result<Verdict, Fault>
-    ensures { IfTold (R.input source) (λ i. Says (IsAnswer (rest_of i)) result) }
+    ensures { IfTold (R.input source) (λ i. Says (IsAnswer one (rest_of i)) result) }
 {
     let reader = CertReader::new(alloc, source)?;
     match reader.read_problem(alloc) {
@@ -47,7 +47,7 @@ fn after_problem<R: Source + Drop, S: Rows>(
     requires unspent { solutions.reading.spent ≡ false }
     requires counted { solutions.left < 2 ^ 32 }
     ensures { solutions.reading.told ≡ true → (r : Rest) → problem_read r ≡ Ok ((problem, solutions.left), solutions.reading.left)
-        → Says (IsAnswer r) result }
+        → Says (IsAnswer one r) result }
 {
     let checker: Checker<S> = Checker::new(alloc, problem)?;
     after_solutions(alloc, checker, solutions)
@@ -61,7 +61,7 @@ fn after_solutions<R: Source + Drop, S: Rows>(
 ) -> Result<Verdict, Fault>
     requires { (p : ProblemMeant) × (ss : List (NamedMeant Row)) × IsAmong S.table p ss checker solutions }
     ensures { (p : ProblemMeant) (ss : List (NamedMeant Row)) → IsAmong S.table p ss checker solutions → solutions.reading.told ≡ true
-        → Says (Answers (solutions_from p ss solutions.left solutions.reading.left)) result }
+        → Says (Answers one (solutions_from p ss solutions.left solutions.reading.left)) result }
 {
     'solutions: while solutions.left() > 0 {
         match next_solution(alloc, &mut checker, &mut solutions) {
@@ -113,7 +113,7 @@ fn after_last_solution<R: Source + Drop, S: Rows>(
     requires none { solutions.left ≡ 0 }
     requires among { (p : ProblemMeant) × (ss : List (NamedMeant Row)) × IsAmong S.table p ss checker solutions }
     ensures { (p : ProblemMeant) (ss : List (NamedMeant Row)) → IsAmong S.table p ss checker solutions → solutions.reading.told ≡ true
-        → Says (Answers (solutions_from p ss 0 solutions.reading.left)) result }
+        → Says (Answers one (solutions_from p ss 0 solutions.reading.left)) result }
 {
     if !checker.meets_primal() {
         return Ok(refused(causes::NO_PRIMAL, Place::End));
@@ -132,7 +132,7 @@ fn after_steps<R: Source + Drop, S: Rows>(
 ) -> Result<Verdict, Fault>
     requires { (c : Certificate) × IsAt S.table c checker derivations }
     ensures { (c : Certificate) → IsAt S.table c checker derivations → derivations.reading.told ≡ true
-        → Says (Answers (derivations_from c derivations.left derivations.reading.left)) result }
+        → Says (Answers one (derivations_from c derivations.left derivations.reading.left)) result }
 {
     'steps: loop {
         match next_step(alloc, &mut checker, &mut derivations) {

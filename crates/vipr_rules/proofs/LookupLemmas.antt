@@ -5,7 +5,7 @@ use Rattle.std.proofs.lemmas.Simd.{map-map}
 use Rattle.std.proofs.lemmas.List.{length-map}
 use Rattle.vipr_spec.specs.Constraint.{condition}
 use Rattle.vipr_spec.specs.Certificate.{Certificate, constraint_at, reason_at, last_at, is_assumption, lasts_to, is_live, count}
-use Rattle.vipr_spec.proofs.Prefix.{reason_given}
+use Rattle.vipr_spec.proofs.Prefix.{reason_given, constraints_listed, lasts_listed}
 use Rattle.vipr_spec.proofs.Rests.{rests_given}
 use Rattle.vipr_linear.specs.Constraint.{constraint_of, condition_of}
 use Rattle.vipr_linear.specs.declared.constraint.Constraint.{Constraint}
@@ -23,7 +23,7 @@ none_front (x ∷ xs) ys zero h = refl
 none_front (x ∷ xs) ys (suc i) h = none_front xs ys i (omega arith)
 
 last_given : (c : Certificate) (i : ℕ) → i < length c.problem.constraints → last_at c i ≡ None
-last_given c i h = none_front c.problem.constraints (map (λ d. d.last) c.derivations) i h
+last_given c i h = lasts_listed c i ∙ none_front c.problem.constraints (map (λ d. d.last) c.derivations) i h
 
 before : (i n : ℕ) → i < n → (nat_lt i n && true) ≡ true
 before i n h = grind (arith, nat_tests)
@@ -55,7 +55,7 @@ module _ (c : Certificate) (cons : List (Named Constraint)) (t : Table) (is : St
   given_live i h = live_given c i (let e = as_many in omega (arith, e))
 
   pub given_says : (i : ℕ) (x : Named Constraint) → i < length cons → x ≡ get_or cons i x → constraint_at c i ≡ condition_of x.item
-  given_says i x h at = front (λ n. condition n.item) (λ n. condition_of n.item) c.problem.constraints cons _ i _ x conditions h at
+  given_says i x h at = constraints_listed c i ∙ front (λ n. condition n.item) (λ n. condition_of n.item) c.problem.constraints cons _ i _ x conditions h at
     where
       conditions : map (λ n. condition n.item) c.problem.constraints ≡ map (λ n. condition_of n.item) cons
       conditions = sym (map-map condition (λ n. n.item) c.problem.constraints) ∙ ap (map condition) is.given ∙ map-map condition (λ n. constraint_of n.item) cons

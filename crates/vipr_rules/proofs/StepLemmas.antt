@@ -8,7 +8,7 @@ use Rattle.std.specs.Cmp.{nat_cmp_total, unsigned_tied}
 use Rattle.std.proofs.lemmas.Bool.Decides.{nat_tests}
 use Rattle.std.specs.Ordering.{nat_cmp}
 use Rattle.vipr_spec.specs.Fraction.{ℚ}
-use Rattle.vipr_spec.specs.Constraint.{condition, sum_of, Dominates, Combines}
+use Rattle.vipr_spec.specs.Constraint.{one, condition, sum_of, Dominates, Combines}
 use Rattle.vipr_spec.specs.Certificate.{Certificate, Derivation, sol, entries, count, is_assumption, is_live}
 use Rattle.vipr_spec.specs.OnePass.{with_next, RefersBack}
 use Rattle.vipr_spec.specs.Verdict.{StepTest, by_sum, reference_tests, entry_tests, sum_tests, step_tests}
@@ -105,14 +105,14 @@ pub kept_entry : (c : Certificate) (d : Derivation) (e : Entry) → RefersBack c
     → condition_of e.constraint ≡ condition d.stated → IsSetByReason c d.reason e.assumptions → e.is_assumption ≡ is_assumption (Some d.reason) → e.last ≡ d.last → IsEntryOf (with_next c d) (count c) e
 kept_entry c d e back passes says rests assumed last = record {
   says = constraint_next c d ∙ sym says;
-  rests = λ a. let next = rests_next c d a back (next_good c d passes).earlier in (λ t. next.1 ((rests a).0 t), λ r. (rests a).1 (next.0 r));
+  rests = λ a. let next = rests_next c d a back (next_good one c d passes).earlier in (λ t. next.1 ((rests a).0 t), λ r. (rests a).1 (next.0 r));
   is_assumed = assumed ∙ sym (ap is_assumption (reason_next c d));
   last = last ∙ sym (last_next c d);
 }
 
 -- ---- the induction over the derivations
 pub keeps_sound : (c : Certificate) (d : Derivation) → RefersBack c → Passes c d (step_tests d.reason) → KeepsSound c d
-keeps_sound c d back passes s = let good = next_good c d passes in sound_next c d back good.earlier good.follows (λ i r. by i (cases_lt i (length c.problem.constraints)) (good.references i r))
+keeps_sound c d back passes s = let good = next_good one c d passes in sound_next one c d back good.earlier good.follows (λ i r. by i (cases_lt i (length c.problem.constraints)) (good.references i r))
   where
     by : (i : ℕ) → (i < length c.problem.constraints) ⊎ (length c.problem.constraints ≤ i) → IsTrue (is_live c (count c) i) → IsSound c i
     by i (inl given) live = sound_given c i given

@@ -5,7 +5,7 @@ use Rattle.std.proofs.lemmas.Bool.Decides.{nat_tests}
 use Rattle.std.specs.Cmp.{nat_cmp_total}
 use Rattle.std.specs.Ordering.{nat_cmp}
 use Rattle.std.specs.FinSet.{FinSet, contains, union, remove, empty, contains-remove}
-use Rattle.vipr_spec.specs.Constraint.{Condition, condition, Ints, IsSplit, Dominates}
+use Rattle.vipr_spec.specs.Constraint.{one as profile_one, Condition, condition, Ints, IsSplit, Dominates}
 use Rattle.vipr_spec.specs.Certificate.{Certificate, Derivation, uns, constraint_at, is_live, RestsOn, count}
 use Rattle.vipr_spec.specs.Verdict.{StepTest, assumed, split, by_constraint, step_tests}
 use Rattle.vipr_spec.specs.Progress.{PassesNext}
@@ -50,8 +50,8 @@ module _ (c : Certificate) where
   )
 
 -- ---- one test
-splits_same : (m n : Ints) (a a' b b' : Condition) → m ≡ n → a ≡ a' → b ≡ b' → IsSplit m a b → IsSplit n a' b'
-splits_same m n a a' b b' e f g h = subst (λ i. IsSplit i a' b') e (subst (λ x. IsSplit m x b') f (subst (IsSplit m a) g h))
+splits_same : (m n : Ints) (a a' b b' : Condition) → m ≡ n → a ≡ a' → b ≡ b' → IsSplit profile_one m a b → IsSplit profile_one n a' b'
+splits_same m n a a' b b' e f g h = subst (λ i. IsSplit profile_one i a' b') e (subst (λ x. IsSplit profile_one m x b') f (subst (IsSplit profile_one m a) g h))
 
 dominates_same : (a a' b b' : Condition) → a ≡ a' → b ≡ b' → Dominates a b → Dominates a' b'
 dominates_same a a' b b' f g h = subst (λ x. Dominates x b') f (subst (Dominates a) g h)
@@ -73,10 +73,10 @@ module _ (c : Certificate) (d : Derivation) where
   index_is_live i (inr h) = absurd (cc)
 
   module _ (l1 l2 : ℕ) (x y : Constraint) (ints : Ints) (same : c.problem.integers ≡ ints) (says_x : condition_of x ≡ constraint_at c l1) (says_y : condition_of y ≡ constraint_at c l2) where
-    pub split_passes : IsSplit ints (condition_of x) (condition_of y) → Passes c d (split l1 l2 ∷ [])
+    pub split_passes : IsSplit profile_one ints (condition_of x) (condition_of y) → Passes c d (split l1 l2 ∷ [])
     split_passes h = passes_one (split l1 l2) (splits_same ints c.problem.integers _ _ _ _ (sym same) says_x says_y h)
 
-    pub split_stops : ¬ IsSplit ints (condition_of x) (condition_of y) → Stops c d (split l1 l2 ∷ []) (NotSplit x y)
+    pub split_stops : ¬ IsSplit profile_one ints (condition_of x) (condition_of y) → Stops c d (split l1 l2 ∷ []) (NotSplit x y)
     split_stops bad = stops_one (split l1 l2) (NotSplit x y) (λ h. bad (splits_same c.problem.integers ints _ _ _ _ same (sym says_x) (sym says_y) h)) (l1, l2, refl, says_x, says_y)
 
   module _ (i : ℕ) (x y : Constraint) (says_x : condition_of x ≡ constraint_at c i) (says_y : condition_of y ≡ condition d.stated) where

@@ -4,10 +4,11 @@ use Rattle.std.proofs.lemmas.Bool.{and_from, or_right, cases_lt}
 use Rattle.std.proofs.lemmas.List.{get_or_append_left, length-map}
 use Rattle.vipr_spec.specs.Fraction.{ℚ, zero_ℚ}
 use Rattle.vipr_spec.specs.Constraint.{condition}
-use Rattle.vipr_spec.specs.Certificate.{Reason, asm, lin, rnd, uns, sol, Derivation, Certificate, constraint_at, reason_at, last_at, is_assumption, lasts_to, is_live, RefersTo, count}
+use Rattle.vipr_spec.specs.Certificate.{Reason, asm, lin, rnd, uns, sol, Derivation, Certificate, constraint_at, reason_at, last_at, unknown, is_assumption, lasts_to, is_live, RefersTo, count}
 use Rattle.vipr_spec.specs.Tightened.{kept_of, new_index, renumbered_entries, renumbered, renumbered_at, with_new_indices, with_last_references, with_kept}
 use Rattle.vipr_spec.specs.Reading.{is_nonzero}
 use Rattle.vipr_spec.specs.Laws.Kept.{map_with, length_with, index_mono, index_same, old_index, kept_map, length_kept, kept_at}
+use Rattle.vipr_spec.proofs.Prefix.{constraints_listed, reasons_listed, lasts_listed}
 use Rattle.vipr_spec.proofs.SmallerSums.{Contains-filter, Contains-filter_back, Contains-map, Contains-map_back, is_not_zero, not_zero_is}
 use Rattle.vipr_spec.proofs.References.{reason_in, last_in, last_then, last_names}
 use Rattle.vipr_spec.specs.Laws.Placed.{at_place, reason_placed}
@@ -109,14 +110,18 @@ module _ (c : Certificate) (keep : ℕ → Bool) (given : (i : ℕ) → i < leng
 
   pub constraint_new : (i : ℕ) → keep i ≡ true → constraint_at (with_kept c keep) (new_index keep i) ≡ constraint_at c i
   constraint_new i k =
-      at_new keep (λ n. condition n.item) _ c.problem.constraints (map (λ d. condition d.stated) (with_kept c keep).derivations) (map (λ d. condition d.stated) c.derivations) given
+      constraints_listed (with_kept c keep) (new_index keep i)
+      ∙ at_new keep (λ n. condition n.item) unknown.stated c.problem.constraints (map (λ d. condition d.stated) (with_kept c keep).derivations) (map (λ d. condition d.stated) c.derivations) given
       (kept_values (λ d. condition d.stated) (λ d. condition d.stated) (λ d l. refl) (λ d. refl)) i k
+      ∙ sym (constraints_listed c i)
 
   pub reason_new : (i : ℕ) → keep i ≡ true → reason_at (with_kept c keep) (new_index keep i) ≡ renumbered_at (new_index keep) (reason_at c i)
   reason_new i k =
-      at_new keep (λ a. None) None c.problem.constraints (map (λ d. Some d.reason) (with_kept c keep).derivations) (map (λ d. Some (renumbered (new_index keep) d.reason)) c.derivations) given
+      reasons_listed (with_kept c keep) (new_index keep i)
+      ∙ at_new keep (λ a. None) None c.problem.constraints (map (λ d. Some d.reason) (with_kept c keep).derivations) (map (λ d. Some (renumbered (new_index keep) d.reason)) c.derivations) given
       (kept_values (λ d. Some (renumbered (new_index keep) d.reason)) (λ d. Some d.reason) (λ d l. refl) (λ d. refl)) i k
       ∙ option_out (new_index keep) _ c.problem.constraints c.derivations i
+      ∙ ap (renumbered_at (new_index keep)) (sym (reasons_listed c i))
 
   pub length_new : length (with_kept c keep).derivations + length c.problem.constraints ≡ new_index keep (count c)
   length_new =
@@ -136,7 +141,7 @@ module _ (c : Certificate) (keep : ℕ → Bool) (given : (i : ℕ) → i < leng
 
   -- ---- last references
   pub last_of : (p : ℕ) → last_at (with_kept c keep) (length c.problem.constraints + p) ≡ last_in (with_kept c keep).derivations p
-  last_of p = at_place (λ a. None) c.problem.constraints (map (λ d. d.last) (with_kept c keep).derivations) p None
+  last_of p = lasts_listed (with_kept c keep) (length c.problem.constraints + p) ∙ at_place (λ a. None) c.problem.constraints (map (λ d. d.last) (with_kept c keep).derivations) p None
 
   reasons_in : (j : ℕ) → reason_in (with_kept c keep).derivations j ≡ reason_in (map (with_new_indices (new_index keep)) (kept_of keep (length c.problem.constraints) c.derivations)) j
   reasons_in j = ap (λ l. slice_index_or l j None) (map_with (λ d. Some d.reason) (λ d l. refl) (length c.problem.constraints) (map (with_new_indices (new_index keep)) (kept_of keep (length c.problem.constraints) c.derivations)))
@@ -172,6 +177,6 @@ module _ (c : Certificate) (keep : ℕ → Bool) (given : (i : ℕ) → i < leng
   live_new k i lt r =
       let t = with_kept c keep in
       and_from (nat_lt i k) _ (lt-ltb i k lt) (or_right (is_assumption (reason_at t i)) _ (⊎_elim
-      (λ (l : i < length c.problem.constraints). ap (lasts_to k) (given_none c.problem.constraints (map (λ d. d.last) t.derivations) i l))
+      (λ (l : i < length c.problem.constraints). ap (lasts_to k) (lasts_listed t i ∙ given_none c.problem.constraints (map (λ d. d.last) t.derivations) i l))
       (λ (l : length c.problem.constraints ≤ i). let found = last_then_new k i l lt r in ap (lasts_to k) found.1 ∙ le-leb k found.0 found.2)
       (cases_lt i (length c.problem.constraints))))

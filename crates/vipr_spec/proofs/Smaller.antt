@@ -1,14 +1,14 @@
 -- A proof with what is kept alone is a proof, where what is referred to is kept
-use Rattle.std.proofs.Common.{◌≡◌, ℕ, ◌<◌, ◌≤◌, ◌⊎◌, Bool, true, false, List, [], ◌∷◌, map, length, filter, Option, Some, None, All, Contains, arith, refl, sym, ◌∙◌, ap, ap₂, subst, subst₂, inl, inr, ⊎_elim}
+use Rattle.std.proofs.Common.{◌≡◌, ◌≢◌, ℕ, ◌<◌, ◌≤◌, ◌⊎◌, Bool, true, false, List, [], ◌∷◌, map, length, filter, Option, Some, None, All, Contains, arith, refl, sym, ◌∙◌, ap, ap₂, subst, subst₂, inl, inr, ⊎_elim}
 use Rattle.std.proofs.lemmas.Bool.{cases_Bool, cases_lt}
 use Rattle.std.proofs.lemmas.List.Elements.{All-contains, Contains-get_or}
-use Rattle.vipr_spec.specs.Fraction.{ℚ}
-use Rattle.vipr_spec.specs.Constraint.{SumOfFits, Combines, CombinesRounded, Dominates}
-use Rattle.vipr_spec.specs.Certificate.{Reason, asm, lin, rnd, uns, sol, Certificate, constraint_at, reason_at, RestsOn, itself, by_lin, by_rnd, by_first, by_second, entries, IsValid, StepFits, RefersTo, MeetsDual, NeedsGoal, count, ProvesDual, IsProof}
-use Rattle.vipr_spec.specs.OnePass.{NamesEarlier, RefersBack}
-use Rattle.vipr_spec.specs.Tightened.{new_index, renumbered_entries, renumbered_at, with_kept}
+use Rattle.vipr_spec.specs.Fraction.{ℚ, zero_ℚ}
+use Rattle.vipr_spec.specs.Constraint.{Profile, Condition, SumOfFits, Combines, CombinesRounded}
+use Rattle.vipr_spec.specs.Certificate.{Reason, asm, lin, rnd, uns, sol, Certificate, constraint_at, reason_at, Brings, RestsOn, itself, brought, entries, NamesEarlier, FollowsBy, StepFits, IsGoodStep, HasGoodSteps, RefersTo, MeetsDual, NeedsGoal, count, ProvesDual, IsProof}
+use Rattle.vipr_spec.specs.Steps.{RefersBack}
+use Rattle.vipr_spec.specs.Tightened.{new_index, renumbered_entries, renumbered, renumbered_at, with_kept}
 use Rattle.vipr_spec.specs.Reading.{is_nonzero}
-use Rattle.vipr_spec.proofs.Prefix.{reason_past, names_earlier}
+use Rattle.vipr_spec.proofs.Prefix.{reason_past, is_derived}
 use Rattle.vipr_spec.specs.Laws.Kept.{index_lt, index_injective}
 use Rattle.vipr_spec.proofs.SmallerSums.{is_there, is_not_zero, not_zero_is, filter_yes, filter_no, Contains-head, Contains-tail, smaller_combines, smaller_rounds, smaller_fits}
 use Rattle.vipr_spec.proofs.References.{refers_earlier}
@@ -27,30 +27,9 @@ asm_back new (Some (rnd es)) e = absurd (cc)
 asm_back new (Some (uns i1 l1 i2 l2)) e = absurd (cc)
 asm_back new (Some sol) e = absurd (cc)
 
-lin_back : (new : ℕ → ℕ) (q : Option Reason) (fs : List (ℕ × ℚ)) → renumbered_at new q ≡ Some (lin fs) → (es : List (ℕ × ℚ)) × (q ≡ Some (lin es)) × (renumbered_entries new es ≡ fs)
-lin_back new None fs e = absurd (cc)
-lin_back new (Some asm) fs e = absurd (cc)
-lin_back new (Some (lin es)) fs e = (es, refl, cc)
-lin_back new (Some (rnd es)) fs e = absurd (cc)
-lin_back new (Some (uns i1 l1 i2 l2)) fs e = absurd (cc)
-lin_back new (Some sol) fs e = absurd (cc)
-
-rnd_back : (new : ℕ → ℕ) (q : Option Reason) (fs : List (ℕ × ℚ)) → renumbered_at new q ≡ Some (rnd fs) → (es : List (ℕ × ℚ)) × (q ≡ Some (rnd es)) × (renumbered_entries new es ≡ fs)
-rnd_back new None fs e = absurd (cc)
-rnd_back new (Some asm) fs e = absurd (cc)
-rnd_back new (Some (lin es)) fs e = absurd (cc)
-rnd_back new (Some (rnd es)) fs e = (es, refl, cc)
-rnd_back new (Some (uns i1 l1 i2 l2)) fs e = absurd (cc)
-rnd_back new (Some sol) fs e = absurd (cc)
-
-uns_back : (new : ℕ → ℕ) (q : Option Reason) (a b c d : ℕ) → renumbered_at new q ≡ Some (uns a b c d)
-    → (i1 : ℕ) × (l1 : ℕ) × (i2 : ℕ) × (l2 : ℕ) × (q ≡ Some (uns i1 l1 i2 l2)) × (new i1 ≡ a) × (new l1 ≡ b) × (new i2 ≡ c) × (new l2 ≡ d)
-uns_back new None a b c d e = absurd (cc)
-uns_back new (Some asm) a b c d e = absurd (cc)
-uns_back new (Some (lin es)) a b c d e = absurd (cc)
-uns_back new (Some (rnd es)) a b c d e = absurd (cc)
-uns_back new (Some (uns i1 l1 i2 l2)) a b c d e = (i1, l1, i2, l2, refl, cc, cc, cc, cc)
-uns_back new (Some sol) a b c d e = absurd (cc)
+some_back : (new : ℕ → ℕ) (q : Option Reason) (r : Reason) → renumbered_at new q ≡ Some r → (o : Reason) × (q ≡ Some o) × (renumbered new o ≡ r)
+some_back new None r e = absurd (cc)
+some_back new (Some o) r e = (o, refl, cc)
 
 -- ---- what is kept
 
@@ -116,116 +95,115 @@ module _ (c : Certificate) (keep : ℕ → Bool) (given : (i : ℕ) → i < leng
       (λ (l : count (with_kept c keep) ≤ p). subst (NamesEarlier p) (sym (reason_past (with_kept c keep) p l)) tt)
       (cases_lt p (count (with_kept c keep)))
 
-  valid_new : (k : ℕ) (r : Option Reason) → keep k ≡ true → reason_at c k ≡ r → IsValid c k r → IsValid (with_kept c keep) (new_index keep k) (renumbered_at (new_index keep) r)
-  valid_new k None h q v = tt
-  valid_new k (Some asm) h q v = tt
-  valid_new k (Some (lin es)) h q v = (
-    earlier_new k es (kept_lin k es h q) v.0,
-    subst₂ Combines (sym (entries_new es (kept_lin k es h q))) (sym (constraint_new c keep given k h)) (smaller_combines (entries c es) (constraint_at c k) v.1),
-  )
-  valid_new k (Some (rnd es)) h q v = (
-    earlier_new k es (kept_rnd k es h q) v.0,
-    subst₂ (CombinesRounded c.problem.integers) (sym (entries_new es (kept_rnd k es h q))) (sym (constraint_new c keep given k h)) (smaller_rounds c.problem.integers (entries c es) (constraint_at c k) v.1),
-  )
-  valid_new k (Some (uns i1 l1 i2 l2)) h q v =
+  follows_new : (P : Profile) (k : ℕ) (r : Reason) (d : Condition) → keep k ≡ true → reason_at c k ≡ Some r → FollowsBy P c r d → FollowsBy P (with_kept c keep) (renumbered (new_index keep) r) d
+  follows_new P k asm d h q v = tt
+  follows_new P k (lin es) d h q v = subst (λ l. Combines l d) (sym (entries_new es (kept_lin k es h q))) (smaller_combines (entries c es) d v)
+  follows_new P k (rnd es) d h q v = subst (λ l. CombinesRounded c.problem.integers l d) (sym (entries_new es (kept_rnd k es h q))) (smaller_rounds c.problem.integers (entries c es) d v)
+  follows_new P k (uns i1 l1 i2 l2) d h q v =
       let r = uns i1 l1 i2 l2 in
       let k1 = closed_by k i1 r h q (inl refl) in let m1 = closed_by k l1 r h q (inr (inl refl)) in
       let k2 = closed_by k i2 r h q (inr (inr (inl refl))) in let m2 = closed_by k l2 r h q (inr (inr (inr refl))) in (
-        index_lt keep i1 k k1 v.0,
-        index_lt keep l1 k m1 v.1,
-        index_lt keep i2 k k2 v.2,
-        index_lt keep l2 k m2 v.3,
-        reason_new c keep given l1 m1 ∙ ap (renumbered_at (new_index keep)) v.4,
-        reason_new c keep given l2 m2 ∙ ap (renumbered_at (new_index keep)) v.5,
-        rw (constraint_new c keep given l1 m1, constraint_new c keep given l2 m2, constraint_new c keep given i1 k1, constraint_new c keep given i2 k2, constraint_new c keep given k h) v.6,
+        reason_new c keep given l1 m1 ∙ ap (renumbered_at (new_index keep)) v.0,
+        reason_new c keep given l2 m2 ∙ ap (renumbered_at (new_index keep)) v.1,
+        rw (constraint_new c keep given l1 m1, constraint_new c keep given l2 m2, constraint_new c keep given i1 k1, constraint_new c keep given i2 k2) v.2,
       )
-  valid_new k (Some sol) h q v = (v.0, v.1, subst (Dominates _) (sym (constraint_new c keep given k h)) v.2)
+  follows_new P k sol d h q v = v
 
-  fits_new : (k : ℕ) (r : Option Reason) → keep k ≡ true → reason_at c k ≡ r → StepFits c r → StepFits (with_kept c keep) (renumbered_at (new_index keep) r)
-  fits_new k None h q v = tt
-  fits_new k (Some asm) h q v = tt
-  fits_new k (Some (lin es)) h q v = subst SumOfFits (sym (entries_new es (kept_lin k es h q))) (smaller_fits (entries c es) v)
-  fits_new k (Some (rnd es)) h q v = subst SumOfFits (sym (entries_new es (kept_rnd k es h q))) (smaller_fits (entries c es) v)
-  fits_new k (Some (uns i1 l1 i2 l2)) h q v = tt
-  fits_new k (Some sol) h q v = tt
+  fits_new : (k : ℕ) (r : Reason) → keep k ≡ true → reason_at c k ≡ Some r → StepFits c r → StepFits (with_kept c keep) (renumbered (new_index keep) r)
+  fits_new k asm h q v = tt
+  fits_new k (lin es) h q v = subst SumOfFits (sym (entries_new es (kept_lin k es h q))) (smaller_fits (entries c es) v)
+  fits_new k (rnd es) h q v = subst SumOfFits (sym (entries_new es (kept_rnd k es h q))) (smaller_fits (entries c es) v)
+  fits_new k (uns i1 l1 i2 l2) h q v = tt
+  fits_new k sol h q v = tt
 
-  valid_all : ((k : ℕ) → IsValid c k (reason_at c k)) → (p : ℕ) → IsValid (with_kept c keep) p (reason_at (with_kept c keep) p)
-  valid_all v p = ⊎_elim
-      (λ (l : p < count (with_kept c keep)).
-      let o = old_of c keep given p l in
-      subst (λ n. IsValid (with_kept c keep) n (reason_at (with_kept c keep) n)) o.3
-      (subst (IsValid (with_kept c keep) (new_index keep o.0)) (sym (reason_new c keep given o.0 o.2)) (valid_new o.0 (reason_at c o.0) o.2 refl (v o.0))))
-      (λ (l : count (with_kept c keep) ≤ p). subst (IsValid (with_kept c keep) p) (sym (reason_past (with_kept c keep) p l)) tt)
-      (cases_lt p (count (with_kept c keep)))
+  good_new : (P : Profile) (k : ℕ) (r : Reason) → keep k ≡ true → reason_at c k ≡ Some r → IsGoodStep P c k r (constraint_at c k)
+      → IsGoodStep P (with_kept c keep) (new_index keep k) (renumbered (new_index keep) r) (constraint_at (with_kept c keep) (new_index keep k))
+  good_new P k r h q g =
+      let t = with_kept c keep in
+      let p = new_index keep k in
+      let s = renumbered (new_index keep) r in
+      let there : reason_at t p ≡ Some s = reason_new c keep given k h ∙ ap (renumbered_at (new_index keep)) q in
+      let earlier : NamesEarlier p (Some s) = names_new k (Some r) h q g.earlier in
+      record {
+        earlier = earlier;
+        follows = subst (FollowsBy P t s) (sym (constraint_new c keep given k h)) (follows_new P k r (constraint_at c k) h q g.follows);
+        fits = fits_new k r h q g.fits;
+        references = λ i f. live_new c keep given p i (refers_earlier p (Some s) i earlier f) (subst (λ o. RefersTo o i) (sym there) f);
+      }
 
-  fits_all : ((k : ℕ) → StepFits c (reason_at c k)) → (p : ℕ) → StepFits (with_kept c keep) (reason_at (with_kept c keep) p)
-  fits_all v p = ⊎_elim
-      (λ (l : p < count (with_kept c keep)).
-      let o = old_of c keep given p l in
-      subst (λ n. StepFits (with_kept c keep) (reason_at (with_kept c keep) n)) o.3
-      (subst (StepFits (with_kept c keep)) (sym (reason_new c keep given o.0 o.2)) (fits_new o.0 (reason_at c o.0) o.2 refl (v o.0))))
-      (λ (l : count (with_kept c keep) ≤ p). subst (StepFits (with_kept c keep)) (sym (reason_past (with_kept c keep) p l)) tt)
-      (cases_lt p (count (with_kept c keep)))
+  good_all : (P : Profile) → HasGoodSteps P c → HasGoodSteps P (with_kept c keep)
+  good_all P v p r e =
+      let t = with_kept c keep in
+      let o = old_of c keep given p (is_derived t p r e).1 in
+      let back = some_back (new_index keep) (reason_at c o.0) r (sym (reason_new c keep given o.0 o.2) ∙ ap (reason_at t) o.3 ∙ e) in
+      let good = good_new P o.0 back.0 o.2 back.1 (v o.0 back.0 back.1) in
+      subst (λ n. IsGoodStep P t n r (constraint_at t n)) o.3 (subst (λ q. IsGoodStep P t (new_index keep o.0) q (constraint_at t (new_index keep o.0))) back.2 good)
 
   -- ---- assumption sets
+
+  brings_entry : (es : List (ℕ × ℚ)) (p : ℕ) → (m : ℚ) × Contains (renumbered_entries (new_index keep) es) (p, m) × (m ≢ zero_ℚ) → (j : ℕ) × ((m : ℚ) × Contains es (j, m) × (m ≢ zero_ℚ)) × (new_index keep j ≡ p)
+  brings_entry es p h = let r = entry_old (new_index keep) es (p, h.0) h.1 in (r.0.0, (r.0.1, r.1, r.2), ap (λ (e : ℕ × ℚ). e.0) r.3)
+
+  -- what a reason brings under its new indices, it brings
+  brings_old : (q : Option Reason) (p b : ℕ) → Brings (renumbered_at (new_index keep) q) p b → (j : ℕ) × (new_index keep j ≡ p) × RefersTo q j × ((a : ℕ) → new_index keep a ≡ b → Brings q j a)
+  brings_old None p b h = absurd h
+  brings_old (Some asm) p b h = absurd h
+  brings_old (Some (lin es)) p b h = let r = brings_entry es p h in (r.0, r.2, r.1, λ a e. r.1)
+  brings_old (Some (rnd es)) p b h = let r = brings_entry es p h in (r.0, r.2, r.1, λ a e. r.1)
+  brings_old (Some (uns i1 l1 i2 l2)) p b (inl h) = (i1, sym h.0, inl refl, λ a e. inl (refl, λ z. h.1 (sym e ∙ ap (new_index keep) z)))
+  brings_old (Some (uns i1 l1 i2 l2)) p b (inr h) = (i2, sym h.0, inr (inr (inl refl)), λ a e. inr (refl, λ z. h.1 (sym e ∙ ap (new_index keep) z)))
+  brings_old (Some sol) p b h = absurd h
+
+  brings_refers : (q : Option Reason) (j a : ℕ) → Brings q j a → RefersTo q j
+  brings_refers None j a h = absurd h
+  brings_refers (Some asm) j a h = absurd h
+  brings_refers (Some (lin es)) j a h = h
+  brings_refers (Some (rnd es)) j a h = h
+  brings_refers (Some (uns i1 l1 i2 l2)) j a (inl h) = inl h.0
+  brings_refers (Some (uns i1 l1 i2 l2)) j a (inr h) = inr (inr (inl h.0))
+  brings_refers (Some sol) j a h = absurd h
+
+  -- the assumption a is kept, and so is all that the reason refers to
+  brings_new : (q : Option Reason) (j a : ℕ) → ((i : ℕ) → RefersTo q i → keep i ≡ true) → keep a ≡ true → Brings q j a → Brings (renumbered_at (new_index keep) q) (new_index keep j) (new_index keep a)
+  brings_new None j a k h b = b
+  brings_new (Some asm) j a k h b = b
+  brings_new (Some (lin es)) j a k h b = (b.0, entry_new (new_index keep) es (j, b.0) b.1 b.2, b.2)
+  brings_new (Some (rnd es)) j a k h b = (b.0, entry_new (new_index keep) es (j, b.0) b.1 b.2, b.2)
+  brings_new (Some (uns i1 l1 i2 l2)) j a k h (inl b) = inl (ap (new_index keep) b.0, λ z. b.1 (index_injective keep a l1 h (k l1 (inr (inl refl))) z))
+  brings_new (Some (uns i1 l1 i2 l2)) j a k h (inr b) = inr (ap (new_index keep) b.0, λ z. b.1 (index_injective keep a l2 h (k l2 (inr (inr (inr refl)))) z))
+  brings_new (Some sol) j a k h b = b
 
   pub rests_old : (p b : ℕ) → RestsOn (with_kept c keep) p b → (i : ℕ) → keep i ≡ true → new_index keep i ≡ p → (a : ℕ) × RestsOn c i a × (new_index keep a ≡ b)
   rests_old p b (itself r) i k e =
       let q = asm_back (new_index keep) (reason_at c i) (sym (reason_new c keep given i k) ∙ ap (reason_at (with_kept c keep)) e ∙ r) in
       (i, itself q, e)
-  rests_old p b (by_lin fs f r m n d) i k e =
-      let q = lin_back (new_index keep) (reason_at c i) fs (sym (reason_new c keep given i k) ∙ ap (reason_at (with_kept c keep)) e ∙ r) in
-      let o = entry_old (new_index keep) q.0 f (subst (λ l. Contains l f) (sym q.2) m) in
-      let s = rests_old f.0 b d o.0.0 (kept_lin i q.0 k q.1 o.0 o.1 (not_zero_is o.0.1 o.2)) (ap (λ (e : ℕ × ℚ). e.0) o.3) in
-      (s.0, by_lin q.0 o.0 q.1 o.1 o.2 s.1, s.2)
-  rests_old p b (by_rnd fs f r m n d) i k e =
-      let q = rnd_back (new_index keep) (reason_at c i) fs (sym (reason_new c keep given i k) ∙ ap (reason_at (with_kept c keep)) e ∙ r) in
-      let o = entry_old (new_index keep) q.0 f (subst (λ l. Contains l f) (sym q.2) m) in
-      let s = rests_old f.0 b d o.0.0 (kept_rnd i q.0 k q.1 o.0 o.1 (not_zero_is o.0.1 o.2)) (ap (λ (e : ℕ × ℚ). e.0) o.3) in
-      (s.0, by_rnd q.0 o.0 q.1 o.1 o.2 s.1, s.2)
-  rests_old p b (by_first j1 k1 j2 k2 r d n) i k e =
-      let q = uns_back (new_index keep) (reason_at c i) j1 k1 j2 k2 (sym (reason_new c keep given i k) ∙ ap (reason_at (with_kept c keep)) e ∙ r) in
-      let s = rests_old j1 b d q.0 (closed_by i q.0 (uns q.0 q.1 q.2 q.3) k q.4 (inl refl)) q.5 in
-      (s.0, by_first q.0 q.1 q.2 q.3 q.4 s.1 (λ z. n (sym s.2 ∙ ap (new_index keep) z ∙ q.6)), s.2)
-  rests_old p b (by_second j1 k1 j2 k2 r d n) i k e =
-      let q = uns_back (new_index keep) (reason_at c i) j1 k1 j2 k2 (sym (reason_new c keep given i k) ∙ ap (reason_at (with_kept c keep)) e ∙ r) in
-      let s = rests_old j2 b d q.2 (closed_by i q.2 (uns q.0 q.1 q.2 q.3) k q.4 (inr (inr (inl refl)))) q.7 in
-      (s.0, by_second q.0 q.1 q.2 q.3 q.4 s.1 (λ z. n (sym s.2 ∙ ap (new_index keep) z ∙ q.8)), s.2)
+  rests_old p b (brought {j = j} h d) i k e =
+      let there : reason_at (with_kept c keep) p ≡ renumbered_at (new_index keep) (reason_at c i) = ap (reason_at (with_kept c keep)) (sym e) ∙ reason_new c keep given i k in
+      let o = brings_old (reason_at c i) j b (subst (λ q. Brings q j b) there h) in
+      let s = rests_old j b d o.0 (closed i o.0 k o.2) o.1 in
+      (s.0, brought (o.3 s.0 s.2) s.1, s.2)
 
   pub rests_new : (i a : ℕ) → RestsOn c i a → keep i ≡ true → (keep a ≡ true) × RestsOn (with_kept c keep) (new_index keep i) (new_index keep a)
   rests_new i a (itself r) k = (k, itself (reason_new c keep given i k ∙ ap (renumbered_at (new_index keep)) r))
-  rests_new i a (by_lin es e r m n d) k =
-      let s = rests_new e.0 a d (kept_lin i es k r e m (not_zero_is e.1 n)) in
-      (s.0, by_lin (renumbered_entries (new_index keep) es) (new_index keep e.0, e.1) (reason_new c keep given i k ∙ ap (renumbered_at (new_index keep)) r) (entry_new (new_index keep) es e m n) n s.1)
-  rests_new i a (by_rnd es e r m n d) k =
-      let s = rests_new e.0 a d (kept_rnd i es k r e m (not_zero_is e.1 n)) in
-      (s.0, by_rnd (renumbered_entries (new_index keep) es) (new_index keep e.0, e.1) (reason_new c keep given i k ∙ ap (renumbered_at (new_index keep)) r) (entry_new (new_index keep) es e m n) n s.1)
-  rests_new i a (by_first i1 l1 i2 l2 r d n) k =
-      let s = rests_new i1 a d (closed_by i i1 (uns i1 l1 i2 l2) k r (inl refl)) in
-      let l = closed_by i l1 (uns i1 l1 i2 l2) k r (inr (inl refl)) in
-      (s.0, by_first (new_index keep i1) (new_index keep l1) (new_index keep i2) (new_index keep l2) (reason_new c keep given i k ∙ ap (renumbered_at (new_index keep)) r) s.1 (λ z. n (index_injective keep a l1 s.0 l z)))
-  rests_new i a (by_second i1 l1 i2 l2 r d n) k =
-      let s = rests_new i2 a d (closed_by i i2 (uns i1 l1 i2 l2) k r (inr (inr (inl refl)))) in
-      let l = closed_by i l2 (uns i1 l1 i2 l2) k r (inr (inr (inr refl))) in
-      (s.0, by_second (new_index keep i1) (new_index keep l1) (new_index keep i2) (new_index keep l2) (reason_new c keep given i k ∙ ap (renumbered_at (new_index keep)) r) s.1 (λ z. n (index_injective keep a l2 s.0 l z)))
+  rests_new i a (brought {j = j} h d) k =
+      let s = rests_new j a d (closed i j k (brings_refers (reason_at c i) j a h)) in
+      (s.0, brought (subst (λ q. Brings q (new_index keep j) (new_index keep a)) (sym (reason_new c keep given i k)) (brings_new (reason_at c i) j a (λ n f. closed i n k f) s.0 h)) s.1)
 
-  pub proves_new : (i : ℕ) → keep i ≡ true → ProvesDual c i → ProvesDual (with_kept c keep) (new_index keep i)
-  proves_new i k d = (
+  pub proves_new : (P : Profile) (i : ℕ) → keep i ≡ true → ProvesDual P c i → ProvesDual P (with_kept c keep) (new_index keep i)
+  proves_new P i k d = (
     let e = count_new c keep given in let l = index_lt keep i (count c) k d.0 in omega arith,
     λ b r. let s = rests_old (new_index keep i) b r i k refl in d.1 s.0 s.1,
-    subst (MeetsDual c.problem c.problem.claim) (sym (constraint_new c keep given i k)) d.2,
+    subst (MeetsDual P c.problem c.problem.claim) (sym (constraint_new c keep given i k)) d.2,
   )
 
-  pub proves_old : (i : ℕ) → i < count c → keep i ≡ true → ProvesDual (with_kept c keep) (new_index keep i) → ProvesDual c i
-  proves_old i h k d = (h, λ a r. d.1 (new_index keep a) (rests_new i a r k).1, subst (MeetsDual c.problem c.problem.claim) (constraint_new c keep given i k) d.2)
+  pub proves_old : (P : Profile) (i : ℕ) → i < count c → keep i ≡ true → ProvesDual P (with_kept c keep) (new_index keep i) → ProvesDual P c i
+  proves_old P i h k d = (h, λ a r. d.1 (new_index keep a) (rests_new i a r k).1, subst (MeetsDual P c.problem c.problem.claim) (constraint_new c keep given i k) d.2)
 
-  pub smaller_proof : IsProof c → (NeedsGoal c.problem c.problem.claim → (goal : ℕ) × (keep goal ≡ true) × ProvesDual c goal) → IsProof (with_kept c keep)
-  smaller_proof p dual = record {
+  pub smaller_proof : (P : Profile) → IsProof P c → (NeedsGoal c.problem c.problem.claim → (goal : ℕ) × (keep goal ≡ true) × ProvesDual P c goal) → IsProof P (with_kept c keep)
+  smaller_proof P p dual = record {
     solutions = p.solutions;
     solutions_fit = p.solutions_fit;
-    steps = valid_all p.steps;
-    steps_fit = fits_all p.steps_fit;
-    references = λ k i r. live_new c keep given k i (refers_earlier k (reason_at (with_kept c keep) k) i (names_earlier (with_kept c keep) k (reason_at (with_kept c keep) k) (valid_all p.steps k)) r) r;
+    steps = good_all P p.steps;
     primal = p.primal;
-    dual = λ n. let g = dual n in (new_index keep g.0, proves_new g.0 g.1 g.2);
+    dual = λ n. let g = dual n in (new_index keep g.0, proves_new P g.0 g.1 g.2);
   }

@@ -4,12 +4,11 @@ use Rattle.std.proofs.lemmas.Bool.{cases_Bool, cases_lt, both_ways}
 use Rattle.std.proofs.lemmas.List.{nil_from_length}
 use Rattle.std.proofs.lemmas.List.Elements.{All-head, All-tail}
 use Rattle.vipr_spec.specs.Fraction.{ℚ}
-use Rattle.vipr_spec.specs.Constraint.{Condition}
-use Rattle.vipr_spec.specs.Certificate.{Problem, Claim, infeasible, range, dual_bound, MeetsDual, constraint_at, Reason, asm, lin, rnd, uns, sol, Derivation, Certificate, reason_at, NeedsGoal, count, ProvesDual, IsProof, IsNeeded, the_goal, referred_to}
-use Rattle.vipr_spec.specs.OnePass.{NamesEarlier, RefersBack, GoalIs}
+use Rattle.vipr_spec.specs.Constraint.{Profile, Condition}
+use Rattle.vipr_spec.specs.Certificate.{Problem, Claim, infeasible, range, dual_bound, MeetsDual, constraint_at, Reason, asm, lin, rnd, uns, sol, Derivation, Certificate, reason_at, NamesEarlier, RefersTo, is_live, NeedsGoal, count, ProvesDual, IsProof, GoalIs, IsNeeded, the_goal, referred_to}
+use Rattle.vipr_spec.specs.Steps.{RefersBack}
 use Rattle.vipr_spec.specs.Tightened.{is_kept, kept_of, new_index, renumbered_entries, renumbered, renumbered_at, with_new_indices, with_last_references, tightened, new_goal, IsNeededFor}
 use Rattle.vipr_spec.specs.Reading.{is_nonzero}
-use Rattle.vipr_spec.proofs.Prefix.{names_earlier}
 use Rattle.vipr_spec.specs.Laws.Kept.{index_mono, index_same, kept_all}
 use Rattle.vipr_spec.proofs.SmallerSums.{filter_yes, filter_no}
 use Rattle.vipr_spec.proofs.References.{reason_in, with_again}
@@ -18,27 +17,39 @@ use Rattle.vipr_spec.proofs.Marked.{none_marked, needed_derived, kept_given, kep
 use Rattle.vipr_spec.proofs.Places.{new_given, new_derived, old_derived, reason_new, old_of}
 use Rattle.vipr_spec.proofs.Smaller.{back_new, refers_at_new, proves_new, proves_old, smaller_proof}
 
-pub back_of_proof : (c : Certificate) → IsProof c → RefersBack c
-back_of_proof c p k = names_earlier c k (reason_at c k) (p.steps k)
+pub back_of_proof : (P : Profile) (c : Certificate) → IsProof P c → RefersBack c
+back_of_proof P c p k = by (reason_at c k) refl
+  where
+    by : (o : Option Reason) → reason_at c k ≡ o → NamesEarlier k (reason_at c k)
+    by None e = subst (NamesEarlier k) (sym e) tt
+    by (Some r) e = subst (NamesEarlier k) (sym e) (p.steps k r e).earlier
+
+-- what a step of a proof refers to is live
+pub live_in_proof : (P : Profile) (c : Certificate) → IsProof P c → (k i : ℕ) → RefersTo (reason_at c k) i → is_live c k i ≡ true
+live_in_proof P c p k i f = by (reason_at c k) refl
+  where
+    by : (o : Option Reason) → reason_at c k ≡ o → is_live c k i ≡ true
+    by None e = absurd (subst (λ o. RefersTo o i) e f)
+    by (Some r) e = (p.steps k r e).references i (subst (λ o. RefersTo o i) e f)
 
 -- ---- a proof, and its goal
 
-goal_there : (c : Certificate) (goal : Option ℕ) → IsProof c → GoalIs c goal → NeedsGoal c.problem c.problem.claim → (g : ℕ) × (is_kept c goal g ≡ true) × ProvesDual c g
-goal_there c None p is n = let d = p.dual n in absurd (is d.0 d.1)
-goal_there c (Some g) p is n = (g, goal_kept c g, is.0)
+goal_there : (P : Profile) (c : Certificate) (goal : Option ℕ) → IsProof P c → GoalIs P c goal → NeedsGoal c.problem c.problem.claim → (g : ℕ) × (is_kept c goal g ≡ true) × ProvesDual P c g
+goal_there P c None p is n = let d = p.dual n in absurd (is d.0 d.1)
+goal_there P c (Some g) p is n = (g, goal_kept c g, is.0)
 
-pub tight_proof : (c : Certificate) (goal : Option ℕ) → IsProof c → GoalIs c goal → IsProof (tightened c goal)
-tight_proof c goal p is = smaller_proof c (is_kept c goal) (kept_given c goal) (kept_closed c goal (back_of_proof c p)) p (goal_there c goal p is)
+pub tight_proof : (P : Profile) (c : Certificate) (goal : Option ℕ) → IsProof P c → GoalIs P c goal → IsProof P (tightened c goal)
+tight_proof P c goal p is = smaller_proof c (is_kept c goal) (kept_given c goal) (kept_closed c goal (back_of_proof P c p)) P p (goal_there P c goal p is)
 
-pub tight_goal : (c : Certificate) (goal : Option ℕ) → RefersBack c → GoalIs c goal → GoalIs (tightened c goal) (new_goal c goal)
-tight_goal c None back is = λ p d.
+pub tight_goal : (P : Profile) (c : Certificate) (goal : Option ℕ) → RefersBack c → GoalIs P c goal → GoalIs P (tightened c goal) (new_goal c goal)
+tight_goal P c None back is = λ p d.
     let o = old_of c (is_kept c None) (kept_given c None) p d.0 in
-    is o.0 (proves_old c (is_kept c None) (kept_given c None) (kept_closed c None back) o.0 o.1 o.2 (subst (ProvesDual (tightened c None)) (sym o.3) d))
-tight_goal c (Some g) back is = (
-  proves_new c (is_kept c (Some g)) (kept_given c (Some g)) (kept_closed c (Some g) back) g (goal_kept c g) is.0,
+    is o.0 (proves_old c (is_kept c None) (kept_given c None) (kept_closed c None back) P o.0 o.1 o.2 (subst (ProvesDual P (tightened c None)) (sym o.3) d))
+tight_goal P c (Some g) back is = (
+  proves_new c (is_kept c (Some g)) (kept_given c (Some g)) (kept_closed c (Some g) back) P g (goal_kept c g) is.0,
   λ p d.
       let o = old_of c (is_kept c (Some g)) (kept_given c (Some g)) p d.0 in
-      let old = proves_old c (is_kept c (Some g)) (kept_given c (Some g)) (kept_closed c (Some g) back) o.0 o.1 o.2 (subst (ProvesDual (tightened c (Some g))) (sym o.3) d) in
+      let old = proves_old c (is_kept c (Some g)) (kept_given c (Some g)) (kept_closed c (Some g) back) P o.0 o.1 o.2 (subst (ProvesDual P (tightened c (Some g))) (sym o.3) d) in
       let l = index_mono (is_kept c (Some g)) g o.0 (is.1 o.0 old) in
       let e = o.3 in omega arith,
 )
@@ -179,16 +190,16 @@ tight_twice c goal back = tight_again c goal back (tight_back c goal back)
 
 -- ---- no goal
 
-meets_needs : (p : Problem) (q : Claim) (goal : Condition) → MeetsDual p q goal → NeedsGoal p q
-meets_needs p infeasible goal m = tt
-meets_needs p (range lower upper) goal m = some_of (dual_bound p.direction lower upper) _ m
+meets_needs : (P : Profile) (p : Problem) (q : Claim) (goal : Condition) → MeetsDual P p q goal → NeedsGoal p q
+meets_needs P p infeasible goal m = tt
+meets_needs P p (range lower upper) goal m = some_of (dual_bound p.direction lower upper) _ m
   where
     some_of : (o : Option ℚ) (P : ℚ → Type 0) → IsSomeAnd o P → IsSome o
     some_of None P h = absurd h
     some_of (Some x) P h = refl
 
-pub no_goal : (c : Certificate) → IsProof c → GoalIs c None → ¬ NeedsGoal c.problem c.problem.claim
-no_goal c p is n = let d = p.dual n in is d.0 d.1
+pub no_goal : (P : Profile) (c : Certificate) → IsProof P c → GoalIs P c None → ¬ NeedsGoal c.problem c.problem.claim
+no_goal P c p is n = let d = p.dual n in is d.0 d.1
 
-pub unneeded_goal : (c : Certificate) → ¬ NeedsGoal c.problem c.problem.claim → GoalIs c None
-unneeded_goal c n k d = n (meets_needs c.problem c.problem.claim (constraint_at c k) d.2)
+pub unneeded_goal : (P : Profile) (c : Certificate) → ¬ NeedsGoal c.problem c.problem.claim → GoalIs P c None
+unneeded_goal P c n k d = n (meets_needs P c.problem c.problem.claim (constraint_at c k) d.2)

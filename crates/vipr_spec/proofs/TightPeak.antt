@@ -3,13 +3,14 @@ use Rattle.std.proofs.Common.{◌≡◌, ℕ, zero, suc, ◌+◌, ◌-◌, ◌<�
 use Rattle.std.specs.List.{range_with_len, count_by, fold}
 use Rattle.std.proofs.lemmas.List.Sums.{sum_by-append}
 use Rattle.std.proofs.lemmas.Bool.{cases_Bool, cases_lt, and_parts, and_from, or_cases, or_left, or_right}
+use Rattle.vipr_spec.specs.Constraint.{Profile}
 use Rattle.vipr_spec.specs.Certificate.{Reason, asm, lin, rnd, uns, sol, Certificate, reason_at, last_at, is_assumption, lasts_to, is_live, held, peak, RefersTo, IsProof, IsNeeded}
 use Rattle.vipr_spec.specs.Tightened.{is_kept, new_index, renumbered_at, tightened}
 use Rattle.vipr_spec.specs.Laws.Kept.{index_yes, index_no, index_mono, index_lt, index_lt_back, index_injective}
 use Rattle.vipr_spec.proofs.Marked.{back_at, needed_cases, needed_below, kept_given, kept_closed, kept_needed, needed_kept}
 use Rattle.vipr_spec.proofs.Places.{new_given, new_derived, old_derived, reason_new, length_new, old_of, last_then_new, last_is_new}
 use Rattle.vipr_spec.proofs.Smaller.{refers_at_new, refers_at_old}
-use Rattle.vipr_spec.proofs.Tight.{back_of_proof, tight_none}
+use Rattle.vipr_spec.proofs.Tight.{back_of_proof, live_in_proof, tight_none}
 
 -- ---- counts over ranges
 
@@ -117,14 +118,14 @@ lasts_sooner : (k j : ℕ) (o : Option ℕ) → k ≤ j → lasts_to j o ≡ tru
 lasts_sooner k j None h e = refl
 lasts_sooner k j (Some l) h e = let b = leb-true j l e in le-leb k l (omega arith)
 
-module _ (c : Certificate) (g : ℕ) (proof : IsProof c) where
+module _ (P : Profile) (c : Certificate) (g : ℕ) (proof : IsProof P c) where
   -- constraint i is needed, and derivation k after it is
   lasts_old : (i k : ℕ) → length c.problem.constraints ≤ i → i < k → is_kept c (Some g) i ≡ true → is_kept c (Some g) k ≡ true
       → (o : Option ℕ) → last_at (tightened c (Some g)) (new_index (is_kept c (Some g)) i) ≡ o → lasts_to (new_index (is_kept c (Some g)) k + 1) o ≡ true
       → (is_assumption (reason_at c i) || lasts_to (k + 1) (last_at c i)) ≡ true
   lasts_old i k low h ki kk None e l =
       let keep = is_kept c (Some g) in
-      let back = back_of_proof c proof in
+      let back = back_of_proof P c proof in
       absurd (⊎_elim
       (λ (same : i ≡ g). let b = needed_below c g k back (kept_needed c g k (omega arith) kk) in omega arith)
       (λ (r : (j : ℕ) × IsNeeded c g j × RefersTo (reason_at c j) i).
@@ -137,7 +138,7 @@ module _ (c : Certificate) (g : ℕ) (proof : IsProof c) where
   lasts_old i k low h ki kk (Some l) e le =
       let keep = is_kept c (Some g) in
       let given = kept_given c (Some g) in
-      let back = back_of_proof c proof in
+      let back = back_of_proof P c proof in
       let closed = kept_closed c (Some g) back in
       let last = last_is_new c keep given (new_index keep i) l (new_derived c keep given i low) e in
       let past : new_index keep k + 1 ≤ l = leb-true (new_index keep k + 1) l le in
@@ -146,7 +147,7 @@ module _ (c : Certificate) (g : ℕ) (proof : IsProof c) where
       let r = refers_at_old c keep given closed o.0 (new_index keep i) o.2 there in
       let same : r.0 ≡ i = index_injective keep r.0 i (closed o.0 r.0 o.2 r.1) ki r.2 in
       let later : k < o.0 = index_lt_back keep k o.0 (let f = o.3 in omega arith) in
-      let live = proof.references o.0 i (subst (RefersTo (reason_at c o.0)) same r.1) in
+      let live = live_in_proof P c proof o.0 i (subst (RefersTo (reason_at c o.0)) same r.1) in
       ⊎_elim
       (λ (a : is_assumption (reason_at c i) ≡ true). or_left (is_assumption (reason_at c i)) _ a)
       (λ (a : lasts_to o.0 (last_at c i) ≡ true). or_right (is_assumption (reason_at c i)) _ (lasts_sooner (k + 1) o.0 (last_at c i) (omega arith) a))
@@ -187,12 +188,12 @@ module _ (c : Certificate) (g : ℕ) (proof : IsProof c) where
       let same : held (tightened c (Some g)) (new_index keep o.0) ≡ held (tightened c (Some g)) p = ap (held (tightened c (Some g))) e in
       omega arith)
 
-pub tight_peak : (c : Certificate) (goal : Option ℕ) → IsProof c → peak (tightened c goal) ≤ peak c
-tight_peak c None p =
-    let none = tight_none c (back_of_proof c p) in
+pub tight_peak : (P : Profile) (c : Certificate) (goal : Option ℕ) → IsProof P c → peak (tightened c goal) ≤ peak c
+tight_peak P c None p =
+    let none = tight_none c (back_of_proof P c p) in
     let same : peak (tightened c None) ≡ peak (record c { derivations = [] }) = ap (λ ds. peak (record c { derivations = ds })) none in
     omega arith
-tight_peak c (Some g) p = some_peak c g p
+tight_peak P c (Some g) p = some_peak P c g p
 
 -- ---- how many are kept
 

@@ -3,7 +3,7 @@
 ghost use Rattle.std.specs.Prelude.{◌≡◌, ◌↔◌, ℕ, ◌+◌, ◌<◌, ◌≤◌, ◌⊎◌, ◌&&◌, ◌||◌, IsTrue};
 ghost use Rattle.std.specs.Prelude.{List, [], drop, length, slice_index_or, Option, Some};
 ghost use Rattle.vipr_spec.specs.Certificate.{Certificate, Derivation, Reason, reason_at, RefersTo};
-ghost use Rattle.vipr_spec.specs.OnePass.{RefersBack};
+ghost use Rattle.vipr_spec.specs.Steps.{RefersBack};
 ghost use Rattle.vipr_spec.specs.Tightened.{refers_to, is_the_goal, is_marked, is_kept};
 ghost use Rattle.vipr_spec.specs.Tightened.{IsNeededFor};
 

@@ -5,7 +5,7 @@ ghost use Rattle.std.specs.Prelude.{List, [], ◌∷◌, ◌++◌, map, length, 
 ghost use Rattle.std.specs.Prelude.{Option, Some, None};
 ghost use Rattle.vipr_spec.specs.Certificate.{Certificate, Derivation, constraint_at, reason_at};
 ghost use Rattle.vipr_spec.specs.Certificate.{last_at, RestsOn, RefersTo, count};
-ghost use Rattle.vipr_spec.specs.OnePass.{RefersBack};
+ghost use Rattle.vipr_spec.specs.Steps.{RefersBack};
 ghost use Rattle.vipr_spec.specs.Tightened.{refers_to, is_kept, kept_of, new_index};
 ghost use Rattle.vipr_spec.specs.Tightened.{tightened_index, renumbered_at, with_new_indices};
 ghost use Rattle.vipr_spec.specs.Tightened.{kept_derivations, tightened, new_goal, referred_by};

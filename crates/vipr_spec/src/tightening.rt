@@ -3,17 +3,19 @@
 ghost use Rattle.std.specs.Prelude.{◌≡◌, ℕ, ◌+◌, ◌<◌, ◌≤◌, not, IsTrue, List, [], length};
 ghost use Rattle.std.specs.Prelude.{count_by, Option, Some, None};
 ghost use Rattle.std.specs.List.{range_with_len};
-ghost use Rattle.vipr_spec.specs.Certificate.{Certificate, count, held, peak, IsProof, NeedsGoal};
-ghost use Rattle.vipr_spec.specs.OnePass.{RefersBack, GoalIs};
+ghost use Rattle.vipr_spec.specs.Constraint.{Profile};
+ghost use Rattle.vipr_spec.specs.Certificate.{Certificate, count, held, peak, IsProof, GoalIs};
+ghost use Rattle.vipr_spec.specs.Certificate.{NeedsGoal};
+ghost use Rattle.vipr_spec.specs.Steps.{RefersBack};
 ghost use Rattle.vipr_spec.specs.Shape.{CanWrite};
 ghost use Rattle.vipr_spec.specs.Tightened.{is_kept, tightened_index, tightened, new_goal};
 ghost use Rattle.vipr_spec.specs.Tightened.{IsNeededFor};
 
-/// Tightened for its goal, a proof is a proof of the same problem, with the same claim and the
-/// same listed solutions.
+/// Under each profile of the rules: tightened for its goal, a proof is a proof of the same problem,
+/// with the same claim and the same listed solutions.
 pub fn stays_a_proof()
-    ensures proof { (c : Certificate) (goal : Option ℕ)
-        → IsProof c → GoalIs c goal → IsProof (tightened c goal) }
+    ensures proof { (P : Profile) (c : Certificate) (goal : Option ℕ)
+        → IsProof P c → GoalIs P c goal → IsProof P (tightened c goal) }
     ensures problem { (c : Certificate) (goal : Option ℕ) → (tightened c goal).problem ≡ c.problem }
     ensures solutions { (c : Certificate) (goal : Option ℕ)
         → (tightened c goal).solutions ≡ c.solutions }
@@ -21,11 +23,12 @@ pub fn stays_a_proof()
 
 /// Its goal is the image of the goal. A proof has no goal exactly where its dual side needs none.
 pub fn goal_stays()
-    ensures goal { (c : Certificate) (goal : Option ℕ)
-        → RefersBack c → GoalIs c goal → GoalIs (tightened c goal) (new_goal c goal) }
-    ensures none { (c : Certificate)
-        → IsProof c → GoalIs c None → ¬ NeedsGoal c.problem c.problem.claim }
-    ensures unneeded { (c : Certificate) → ¬ NeedsGoal c.problem c.problem.claim → GoalIs c None }
+    ensures goal { (P : Profile) (c : Certificate) (goal : Option ℕ)
+        → RefersBack c → GoalIs P c goal → GoalIs P (tightened c goal) (new_goal c goal) }
+    ensures none { (P : Profile) (c : Certificate)
+        → IsProof P c → GoalIs P c None → ¬ NeedsGoal c.problem c.problem.claim }
+    ensures unneeded { (P : Profile) (c : Certificate)
+        → ¬ NeedsGoal c.problem c.problem.claim → GoalIs P c None }
 {}
 
 /// Each derivation of it is needed in it for its goal. So there are none where there is no goal,
@@ -56,11 +59,11 @@ pub fn can_be_written()
 /// After a derivation that is kept no more is held than was, so the peak is no higher. What is
 /// kept and what is removed are all derivations.
 pub fn how_much_stays()
-    ensures held { (c : Certificate) (goal k : ℕ)
-        → IsProof c → length c.problem.constraints ≤ k → IsTrue (is_kept c (Some goal) k)
+    ensures held { (P : Profile) (c : Certificate) (goal k : ℕ)
+        → IsProof P c → length c.problem.constraints ≤ k → IsTrue (is_kept c (Some goal) k)
         → held (tightened c (Some goal)) (tightened_index c (Some goal) k) ≤ held c k }
-    ensures peak { (c : Certificate) (goal : Option ℕ)
-        → IsProof c → peak (tightened c goal) ≤ peak c }
+    ensures peak { (P : Profile) (c : Certificate) (goal : Option ℕ)
+        → IsProof P c → peak (tightened c goal) ≤ peak c }
     ensures counts { (c : Certificate) (goal : Option ℕ)
         → (let derived = range_with_len (length c.problem.constraints) (length c.derivations) in
         length (tightened c goal).derivations + count_by (λ i. not (is_kept c goal i)) derived

@@ -6,7 +6,7 @@ use Rattle.std.proofs.lemmas.List.Folds.{list_any_none}
 use Rattle.std.proofs.lemmas.List.Elements.{All-head, All-tail, All-weaker, All-filter}
 use Rattle.vipr_spec.specs.Fraction.{ℚ, zero_ℚ}
 use Rattle.vipr_spec.specs.Reading.{is_nonzero}
-use Rattle.vipr_spec.specs.OnePass.{NamesEarlier}
+use Rattle.vipr_spec.specs.Certificate.{NamesEarlier}
 use Rattle.vipr_spec.specs.Constraint.{equal}
 use Rattle.std.specs.FinMap.{empty}
 use Rattle.vipr_spec.specs.Certificate.{Reason, asm, lin, rnd, uns, sol, Derivation}
@@ -116,16 +116,12 @@ pub marked_past : (goal : Option ℕ) (k : ℕ) (ds : List Derivation) (i : ℕ)
     → ((j : ℕ) → NamesEarlier (k + j) (slice_index_or (map (λ d. Some d.reason) ds) j None)) → k + length ds ≤ i → is_marked goal k ds i ≡ false
 marked_past goal k [] i other earlier h = other
 marked_past goal k (d ∷ ds) i other earlier h =
+    let next : (j : ℕ) → NamesEarlier (suc k + j) (slice_index_or (map (λ (d : Derivation). Some d.reason) ds) j None) =
+    λ j. let same : k + suc j ≡ suc k + j = omega arith in subst (λ n. NamesEarlier n (slice_index_or (map (λ (d : Derivation). Some d.reason) ds) j None)) same (earlier (suc j)) in
+    let rest : is_marked goal (suc k) ds i ≡ false = marked_past goal (suc k) ds i other next (omega arith) in
+    let here : refers_to d.reason i ≡ false = not_referred k d.reason i (let same : k + 0 ≡ k = omega arith in subst (λ n. NamesEarlier n (Some d.reason)) same (earlier 0)) (omega arith) in
     ap₂ (λ a b. a || (is_marked goal (suc k) ds k && b)) rest here ∙ by (is_marked goal (suc k) ds k)
   where
-    rest : is_marked goal (suc k) ds i ≡ false
-    rest = marked_past goal (suc k) ds i other
-        (λ j. let same : k + suc j ≡ suc k + j = omega arith in subst (λ n. NamesEarlier n (slice_index_or (map (λ (d : Derivation). Some d.reason) ds) j None)) same (earlier (suc j)))
-        (omega arith)
-
-    here : refers_to d.reason i ≡ false
-    here = let same : k + 0 ≡ k = omega arith in not_referred k d.reason i (subst (λ n. NamesEarlier n (Some d.reason)) same (earlier 0)) (omega arith)
-
     by : (b : Bool) → (b && false) ≡ false
     by true = refl
     by false = refl

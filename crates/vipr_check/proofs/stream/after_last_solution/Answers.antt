@@ -1,4 +1,5 @@
 use Rattle.std.proofs.Common.{sym, subst}
+use Rattle.vipr_spec.specs.Constraint.{one}
 use Rattle.vipr_spec.specs.Checking.{start}
 use Rattle.vipr_spec.specs.Progress.{Answers, solutions_from}
 use Rattle.vipr_check.specs.View.{Says}
@@ -27,4 +28,4 @@ pub returns-in-Err : goal.returns-in-Err
 returns-in-Err g c = λ p ss is told.
     let old = c.args.solutions in
     let met = (c.meets_primal.ensures p ss is.begins).0 c.if-not-meets_primal.false in
-    subst (Says (Answers (solutions_from p ss 0 old.reading.left))) (sym c.after_text_error.ensures) (ending_failed p ss old.reading.left c.in-Err.error met (c.in-Err.ensures.read p is.knows is.unspent told))
+    subst (Says (Answers one (solutions_from p ss 0 old.reading.left))) (sym c.after_text_error.ensures) (ending_failed p ss old.reading.left c.in-Err.error met (c.in-Err.ensures.read p is.knows is.unspent told))

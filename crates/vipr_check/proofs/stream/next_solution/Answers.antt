@@ -1,4 +1,5 @@
 use Rattle.std.proofs.Common.{refl, sym, subst}
+use Rattle.vipr_spec.specs.Constraint.{one}
 use Rattle.vipr_spec.specs.Progress.{Answers, solutions_from}
 use Rattle.vipr_items.specs.Items.{solution_of}
 use Rattle.vipr_check.specs.View.{Says}
@@ -18,5 +19,5 @@ returns-in-Ok-Some-clause-step g c = λ p ss is.
 pub returns-in-Err-clause-step : goal.returns-in-Err-clause-step
 returns-in-Err-clause-step g c = λ p ss is told.
     let old = c.args.solutions.now in
-    subst (Says (Answers (solutions_from p ss old.left old.reading.left))) (sym c.after_text_error.ensures)
+    subst (Says (Answers one (solutions_from p ss old.left old.reading.left))) (sym c.after_text_error.ensures)
     (solution_missing p ss old.left old.reading.left c.in-Err.error c.requires.some (c.in-Err.ensures.read p is.knows is.unspent told))

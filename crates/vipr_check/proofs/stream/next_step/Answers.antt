@@ -1,4 +1,5 @@
 use Rattle.std.proofs.Common.{sym, subst}
+use Rattle.vipr_spec.specs.Constraint.{one}
 use Rattle.vipr_spec.specs.Progress.{Answers, derivations_from}
 use Rattle.vipr_items.specs.Items.{derivation_of}
 use Rattle.vipr_check.specs.View.{answer_of, Says}
@@ -31,9 +32,9 @@ returns-in-Ok-None-clause-step g c = λ s is told.
     let h = rw c.in-Ok-None.field-0-is at c.in-Ok-None.ensures in
     let r = h.read s.problem is.knows is.unspent told in
     let left = c.args.derivations.now.reading.left in
-    subst (λ n. Answers (derivations_from s n left) (answer_of c.finish.result)) (sym r.0) (c.finish.ensures s left is.describes r.1)
+    subst (λ n. Answers one (derivations_from s n left) (answer_of c.finish.result)) (sym r.0) (c.finish.ensures s left is.describes r.1)
 
 pub returns-in-Err-clause-step : goal.returns-in-Err-clause-step
 returns-in-Err-clause-step g c = λ s is told.
     let old = c.args.derivations.now in
-    subst (Says (Answers (derivations_from s old.left old.reading.left))) (sym c.after_text_error.ensures) (derivations_failed s old.left old.reading.left c.in-Err.error (c.in-Err.ensures.read s.problem is.knows is.unspent told))
+    subst (Says (Answers one (derivations_from s old.left old.reading.left))) (sym c.after_text_error.ensures) (derivations_failed s old.left old.reading.left c.in-Err.error (c.in-Err.ensures.read s.problem is.knows is.unspent told))
