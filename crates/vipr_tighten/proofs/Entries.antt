@@ -1,0 +1,50 @@
+-- Entries under new indices, one after the other
+use Rattle.std.proofs.Common.{◌≡◌, ℕ, zero, suc, ◌+◌, ◌<◌, List, [], ◌∷◌, ◌++◌, take, drop, map, length, get_or, All, arith, refl, sym, ◌∙◌, ap, ap₂, add-one, append-nil}
+use Rattle.std.proofs.Math.ListN.{set}
+use Rattle.std.proofs.lemmas.List.{drop_all, take_all}
+use Rattle.std.proofs.lemmas.List.Elements.{All-get_or}
+use Rattle.vipr_spec.specs.Fraction.{ℚ}
+use Rattle.vipr_tighten.specs.Passes.{index_by}
+
+-- the first i are changed
+abbrev part : {A : Type 0} (g : A → A) (i : ℕ) (xs : List A) → List A
+part g i xs = map g (take i xs) ++ drop i xs
+
+at_part : {A : Type 0} (g : A → A) (xs : List A) (i : ℕ) (d : A) → i < length xs → get_or (part g i xs) i d ≡ get_or xs i d
+at_part g [] i d h = absurd (omega arith)
+at_part g (x ∷ xs) zero d h = refl
+at_part g (x ∷ xs) (suc i) d h = at_part g xs i d (omega arith)
+
+set_part : {A : Type 0} (g : A → A) (xs : List A) (i : ℕ) (x : A) → i < length xs → x ≡ get_or xs i x → set (part g i xs) i (g x) ≡ part g (suc i) xs
+set_part g [] i x h e = absurd (omega arith)
+set_part g (y ∷ xs) zero x h e = ap (λ z. g z ∷ xs) e
+set_part g (y ∷ xs) (suc i) x h e = ap (λ l. g y ∷ l) (set_part g xs i x (omega arith) e)
+
+abbrev pub under : ℕ → List ℕ → ℕ × ℚ → ℕ × ℚ
+under first table e = (index_by first table e.0, e.1)
+
+-- the first i have their new indices
+pub record EntriesSoFar (first : ℕ) (table : List ℕ) (old : List (ℕ × ℚ)) (i : ℕ) (now : List (ℕ × ℚ)) : Type 0 where
+  pub those : now ≡ part (under first table) i old
+
+module _ (first : ℕ) (table : List ℕ) (old : List (ℕ × ℚ)) where
+  pub none_so_far : EntriesSoFar first table old 0 old
+  none_so_far = record { those = refl }
+
+  module _ (i : ℕ) (now : List (ℕ × ℚ)) (h : i < length old) (so_far : EntriesSoFar first table old i now) (x : ℕ × ℚ) (is : x ≡ get_or now i x) where
+    old_one : x ≡ get_or old i x
+    old_one = is ∙ ap (λ l. get_or l i x) so_far.those ∙ at_part (under first table) old i x h
+
+    pub next_below : (n : ℕ) → All (λ e. e.0 < n) old → x.0 < n
+    next_below n a = let e = ap (λ (y : ℕ × ℚ). y.0) old_one in let l = All-get_or (λ (e : ℕ × ℚ). e.0 < n) old i x h a in omega arith
+
+    pub next_entry : EntriesSoFar first table old (i + 1) (set now i (under first table x))
+    next_entry = record {
+      those =
+          ap (λ l. set l i (under first table x)) so_far.those ∙ set_part (under first table) old i x h old_one
+          ∙ ap (λ n. part (under first table) n old) {x = suc i} {y = i + 1} (omega arith);
+    }
+
+  pub all_entries : (i : ℕ) (now : List (ℕ × ℚ)) → EntriesSoFar first table old i now → length old < i + 1 → now ≡ map (under first table) old
+  all_entries i now so_far far =
+      so_far.those ∙ ap₂ (λ a b. map (under first table) a ++ b) (take_all i old (omega arith)) (drop_all i old (omega arith)) ∙ append-nil (map (under first table) old)

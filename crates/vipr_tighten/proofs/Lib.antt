@@ -1,0 +1,4 @@
+pub mod Marking
+pub mod Referring
+pub mod Entries
+pub mod Renumbering

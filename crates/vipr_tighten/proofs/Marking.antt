@@ -1,0 +1,159 @@
+-- Marks, from the end to the front
+use Rattle.std.proofs.Common.{◌≡◌, ℕ, suc, ◌+◌, ◌-◌, ◌<◌, ◌≤◌, Bool, true, false, ◌&&◌, ◌||◌, nat_eq, List, [], ◌∷◌, ◌++◌, take, drop, map, replicate, length, slice_index_or, get_or, Option, Some, None, arith, refl, sym, ◌∙◌, ap, ap₂, subst}
+use Rattle.std.specs.List.{list_any}
+use Rattle.std.proofs.Math.Bool.{or_assoc}
+use Rattle.std.proofs.lemmas.List.{drop_all, get_or-map, get_or-replicate, get_or_read_under, length-map, length-replicate}
+use Rattle.std.proofs.lemmas.List.Folds.{list_any_more}
+use Rattle.std.specs.FinMap.{empty}
+use Rattle.vipr_spec.specs.Fraction.{ℚ, zero_ℚ}
+use Rattle.vipr_spec.specs.Constraint.{equal}
+use Rattle.vipr_spec.specs.Reading.{is_nonzero}
+use Rattle.vipr_spec.specs.Certificate.{asm, Derivation}
+use Rattle.vipr_spec.specs.Tightened.{refers_to, is_the_goal, is_marked}
+use Rattle.vipr_spec.specs.Laws.{marked_down}
+use Rattle.vipr_items.specs.Items.{reason_of, derivation_of}
+use Rattle.vipr_items.specs.declared.items.Derivation.{Derivation as Stored}
+use Rattle.vipr_tighten.specs.Passes.{has_mark, MarksAlso, AreMarks}
+
+-- ---- tests, one after the other
+
+also_both : (first : ℕ) (p q : ℕ → Bool) (old mid new : List Bool) → length mid ≡ length old → MarksAlso first p old mid → MarksAlso first q mid new → MarksAlso first (λ i. p i || q i) old new
+also_both first p q old mid new size a b k h =
+    let inside : k < length mid = omega arith in
+    b k inside ∙ ap (λ m. m || q (first + k)) (a k h) ∙ or_assoc (has_mark old k) (p (first + k)) (q (first + k))
+
+also_alike : (first : ℕ) (p q : ℕ → Bool) (old new : List Bool) → ((i : ℕ) → p i ≡ q i) → MarksAlso first p old new → MarksAlso first q old new
+also_alike first p q old new same a k h = a k h ∙ ap (λ b. has_mark old k || b) (same (first + k))
+
+-- a test that nothing passes
+pub also_none : (first : ℕ) (p : ℕ → Bool) (marks : List Bool) → ((i : ℕ) → p i ≡ false) → MarksAlso first p marks marks
+also_none first p marks none k h = by (has_mark marks k) ∙ ap (λ b. has_mark marks k || b) (sym (none (first + k)))
+  where
+    by : (b : Bool) → b ≡ (b || false)
+    by true = refl
+    by false = refl
+
+module _ {A : Type 0} (first : ℕ) (p : ℕ → A → Bool) (es : List A) (n : ℕ) (e : A) (h : n < length es) (old mid new : List Bool) (size : length mid ≡ length old) where
+  -- one more element
+  pub also_more : MarksAlso first (λ i. list_any (p i) (take n es)) old mid → MarksAlso first (λ i. p i (get_or es n e)) mid new → MarksAlso first (λ i. list_any (p i) (take (n + 1) es)) old new
+  also_more a b =
+      also_alike first (λ i. list_any (p i) (take n es) || p i (get_or es n e)) (λ i. list_any (p i) (take (n + 1) es)) old new
+      (λ i. sym (list_any_more (p i) es n e h)) (also_both first (λ i. list_any (p i) (take n es)) (λ i. p i (get_or es n e)) old mid new size a b)
+
+module _ (first : ℕ) (es : List (ℕ × ℚ)) (n : ℕ) (e : ℕ × ℚ) (h : n < length es) (is : e ≡ get_or es n e) (old mid : List Bool) (size : length mid ≡ length old) where
+  abbrev names : ℕ → ℕ × ℚ → Bool
+  names i e = nat_eq i e.0 && is_nonzero e
+
+  pub entry_marked : (new : List Bool) → is_nonzero e ≡ true → MarksAlso first (λ i. list_any (names i) (take n es)) old mid → MarksAlso first (λ i. nat_eq i e.0) mid new
+      → MarksAlso first (λ i. list_any (names i) (take (n + 1) es)) old new
+  entry_marked new t a b =
+      also_more first names es n e h old mid new size a
+      (also_alike first (λ i. nat_eq i e.0) (λ i. names i (get_or es n e)) mid new (λ i. by (nat_eq i e.0) ∙ ap (λ u. nat_eq i e.0 && u) (sym t) ∙ ap (names i) is) b)
+    where
+      by : (u : Bool) → u ≡ (u && true)
+      by true = refl
+      by false = refl
+
+  pub entry_passed : is_nonzero e ≡ false → MarksAlso first (λ i. list_any (names i) (take n es)) old mid → MarksAlso first (λ i. list_any (names i) (take (n + 1) es)) old mid
+  entry_passed t a =
+      also_more first names es n e h old mid mid size a
+      (also_none first (λ i. names i (get_or es n e)) mid (λ i. ap (names i) (sym is) ∙ ap (λ u. nat_eq i e.0 && u) t ∙ by (nat_eq i e.0)))
+    where
+      by : (u : Bool) → (u && false) ≡ false
+      by true = refl
+      by false = refl
+
+pub also_four : (first : ℕ) (p q r s : ℕ → Bool) (m0 m1 m2 m3 m4 : List Bool) → length m1 ≡ length m0 → length m2 ≡ length m1 → length m3 ≡ length m2
+    → MarksAlso first p m0 m1 → MarksAlso first q m1 m2 → MarksAlso first r m2 m3 → MarksAlso first s m3 m4 → MarksAlso first (λ i. p i || (q i || (r i || s i))) m0 m4
+also_four first p q r s m0 m1 m2 m3 m4 e1 e2 e3 a b c d =
+    also_both first p (λ i. q i || (r i || s i)) m0 m1 m4 e1 a (also_both first q (λ i. r i || s i) m1 m2 m4 e2 b (also_both first r s m2 m3 m4 e3 c d))
+
+-- ---- derivation by derivation
+
+-- what the derivations from j on mark
+pub record AreMarksFrom (goal : Option ℕ) (first : ℕ) (ds : List Derivation) (j : ℕ) (marks : List Bool) : Type 0 where
+  pub size : length marks ≡ length ds
+  pub each : (k : ℕ) → k < length ds → has_mark marks k ≡ is_marked goal (first + j) (drop j ds) (first + k)
+
+module _ (goal : Option ℕ) (first : ℕ) (ds : List Derivation) where
+  pub marks_begin : (marks : List Bool) → length marks ≡ length ds → ((k : ℕ) → k < length ds → has_mark marks k ≡ is_the_goal goal (first + k)) → AreMarksFrom goal first ds (length ds) marks
+  marks_begin marks size goal_alone = record {
+    size = size;
+    each = λ k h. goal_alone k h ∙ ap (λ l. is_marked goal (first + length ds) l (first + k)) (sym (drop_all (length ds) ds (omega arith)));
+  }
+
+  -- j is the next one towards the front
+  module _ (j : ℕ) (d : Derivation) (h : j < length ds) (marks : List Bool) (so_far : AreMarksFrom goal first ds (j + 1) marks) where
+    step : (new : List Bool) → length new ≡ length marks → ((k : ℕ) → k < length ds → has_mark new k ≡ (has_mark marks k || (has_mark marks j && refers_to (slice_index_or ds j d).reason (first + k)))) → AreMarksFrom goal first ds j new
+    step new size marked = record {
+      size = size ∙ so_far.size;
+      each = λ k l.
+          marked k l
+          ∙ ap₂ (λ a b. a || (b && refers_to (slice_index_or ds j d).reason (first + k))) (so_far.each k l) (so_far.each j h)
+          ∙ sym (marked_down goal first j (first + k) ds d h);
+    }
+
+    pub marks_more : (new : List Bool) → length new ≡ length marks → has_mark marks j ≡ true → MarksAlso first (refers_to (slice_index_or ds j d).reason) marks new → AreMarksFrom goal first ds j new
+    marks_more new size marked also = step new size (λ k l.
+        let s = so_far.size in
+        also k (omega arith) ∙ ap (λ b. has_mark marks k || (b && refers_to (slice_index_or ds j d).reason (first + k))) (sym marked))
+
+    pub marks_stay : has_mark marks j ≡ false → AreMarksFrom goal first ds j marks
+    marks_stay unmarked = step marks refl (λ k l. by (has_mark marks k) ∙ ap (λ b. has_mark marks k || (b && refers_to (slice_index_or ds j d).reason (first + k))) (sym unmarked))
+      where
+        by : (b : Bool) → b ≡ (b || false)
+        by true = refl
+        by false = refl
+
+  pub marks_end : (marks : List Bool) → AreMarksFrom goal first ds 0 marks → AreMarks goal first ds marks
+  marks_end marks m =
+      let same : first + 0 ≡ first = omega arith in
+      record { size = m.size; each = λ k h. m.each k h ∙ ap (λ n. is_marked goal n ds (first + k)) same }
+
+-- ---- of the program's derivations
+
+-- at the start, with no mark but the goal's
+module _ (goal : Option ℕ) (first : ℕ) (ds : List Stored) (clear : List Bool) (is : clear ≡ replicate (length ds) false) where
+  count : length (map derivation_of ds) ≡ length ds
+  count = length-map ds derivation_of
+
+  size : length clear ≡ length ds
+  size = ap length is ∙ length-replicate (length ds) false
+
+  unmarked : (k : ℕ) → k < length ds → has_mark clear k ≡ false
+  unmarked k h = ap (λ l. has_mark l k) is ∙ get_or-replicate (length ds) k false false h
+
+  from_end : (marks : List Bool) → length marks ≡ length clear → ((k : ℕ) → k < length ds → has_mark marks k ≡ is_the_goal goal (first + k)) → AreMarksFrom goal first (map derivation_of ds) (length ds) marks
+  from_end marks same each =
+      let c = count in let s = size in
+      subst (λ n. AreMarksFrom goal first (map derivation_of ds) n marks) count
+      (marks_begin goal first (map derivation_of ds) marks (omega arith) (λ k h. each k (omega arith)))
+
+  pub begin_none : goal ≡ None → AreMarksFrom goal first (map derivation_of ds) (length ds) clear
+  begin_none none = from_end clear refl (λ k h. unmarked k h ∙ ap (λ g. is_the_goal g (first + k)) (sym none))
+
+  pub begin_goal : (index : ℕ) → goal ≡ Some index → (marks : List Bool) → length marks ≡ length clear → MarksAlso first (λ i. nat_eq i index) clear marks → AreMarksFrom goal first (map derivation_of ds) (length ds) marks
+  begin_goal index some marks same also =
+      from_end marks same (λ k h. let s = size in also k (omega arith) ∙ ap (λ b. b || nat_eq (first + k) index) (unmarked k h) ∙ ap (λ g. is_the_goal g (first + k)) (sym some))
+
+reason_seen : (ds : List Stored) (j : ℕ) (d : Stored) → j < length ds → d ≡ get_or ds j d → slice_index_or (map derivation_of ds) j (derivation_of d) ≡ derivation_of d
+reason_seen ds j d h is = get_or-map derivation_of ds j d (derivation_of d) h ∙ ap derivation_of (sym is)
+
+module _ (goal : Option ℕ) (first : ℕ) (ds : List Stored) (j : ℕ) (h : j < length ds) (marks : List Bool) (so_far : AreMarksFrom goal first (map derivation_of ds) (j + 1) marks) where
+  inside : j < length (map derivation_of ds)
+  inside = let s = length-map ds derivation_of in omega arith
+
+  pub next_marked : (d : Stored) → d ≡ get_or ds j d → (new : List Bool) → length new ≡ length marks → has_mark marks j ≡ true → MarksAlso first (refers_to (reason_of d.reason)) marks new → AreMarksFrom goal first (map derivation_of ds) j new
+  next_marked d is new size marked also =
+      marks_more goal first (map derivation_of ds) j (derivation_of d) inside marks so_far new size marked
+      (subst (λ (x : Derivation). MarksAlso first (refers_to x.reason) marks new) (sym (reason_seen ds j d h is)) also)
+
+  pub next_unmarked : has_mark marks j ≡ false → AreMarksFrom goal first (map derivation_of ds) j marks
+  next_unmarked unmarked = marks_stay goal first (map derivation_of ds) j none inside marks so_far unmarked
+    where
+      none : Derivation
+      none = record { name = []; stated = record { row = empty; sense = equal; bound = zero_ℚ }; reason = asm; last = None }
+
+-- what was read there
+pub mark_read : (marks : List Bool) (j : ℕ) (read b : Bool) → j < length marks → read ≡ get_or marks j read → read ≡ b → has_mark marks j ≡ b
+mark_read marks j read b h is e = sym (get_or_read_under marks j (length marks) read false is h refl) ∙ e

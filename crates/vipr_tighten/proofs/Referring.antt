@@ -1,0 +1,104 @@
+-- Last references, index by index
+use Rattle.std.proofs.Common.{◌≡◌, ℕ, zero, suc, ◌+◌, ◌<◌, ◌≤◌, Bool, true, false, cond, not, ◌&&◌, ◌||◌, nat_eq, List, [], ◌∷◌, take, map, length, get_or, Option, Some, None, arith, refl, sym, ◌∙◌, ap, ap₂, eq-eqb, eqb-true}
+use Rattle.std.proofs.Math.ListN.{set}
+use Rattle.std.specs.List.{list_any}
+use Rattle.std.proofs.lemmas.List.Folds.{list_any_more}
+use Rattle.std.proofs.lemmas.List.{length-map}
+use Rattle.vipr_spec.specs.Fraction.{ℚ}
+use Rattle.vipr_spec.specs.Reading.{is_nonzero}
+use Rattle.vipr_spec.specs.Certificate.{Derivation}
+use Rattle.vipr_spec.specs.Tightened.{referred_by}
+use Rattle.vipr_items.specs.Items.{derivation_of}
+use Rattle.vipr_items.specs.declared.items.Derivation.{Derivation as Stored}
+
+unequal : (i n : ℕ) → ¬ (i ≡ n) → nat_eq i n ≡ false
+unequal i n h = by (nat_eq i n) refl
+  where
+    by : (b : Bool) → nat_eq i n ≡ b → nat_eq i n ≡ false
+    by true e = absurd (h (eqb-true i n e))
+    by false e = e
+
+-- ---- tests
+
+pub referred_alike : (p q : ℕ → Bool) (last k : ℕ) (ds : List Derivation) → ((i : ℕ) → p i ≡ q i) → referred_by p last k ds ≡ referred_by q last k ds
+referred_alike p q last k [] same = refl
+referred_alike p q last k (d ∷ ds) same = ap₂ (λ b l. record d { last = cond b (Some last) d.last } ∷ l) (same k) (referred_alike p q last (suc k) ds same)
+
+pub referred_both : (p q : ℕ → Bool) (last k : ℕ) (ds : List Derivation) → referred_by q last k (referred_by p last k ds) ≡ referred_by (λ i. p i || q i) last k ds
+referred_both p q last k [] = refl
+referred_both p q last k (d ∷ ds) = ap₂ (λ o l. record d { last = o } ∷ l) (by (p k) (q k)) (referred_both p q last (suc k) ds)
+  where
+    by : (a b : Bool) → cond b (Some last) (cond a (Some last) d.last) ≡ cond (a || b) (Some last) d.last
+    by true true = refl
+    by true false = refl
+    by false true = refl
+    by false false = refl
+
+pub referred_none : (p : ℕ → Bool) (last k : ℕ) (ds : List Derivation) → ((i : ℕ) → k ≤ i → i < k + length ds → p i ≡ false) → referred_by p last k ds ≡ ds
+referred_none p last k [] none = refl
+referred_none p last k (d ∷ ds) none =
+    ap₂ (λ b l. record d { last = cond b (Some last) d.last } ∷ l) (none k (omega arith) (omega arith)) (referred_none p last (suc k) ds (λ i a b. none i (omega arith) (omega arith)))
+
+-- ---- one index
+
+pub referred_at : (last k : ℕ) (ds : List Stored) (place index : ℕ) (x : Stored) → index ≡ k + place → place < length ds → x ≡ get_or ds place x
+    → map derivation_of (set ds place (record x { last = Some last })) ≡ referred_by (λ i. nat_eq i index) last k (map derivation_of ds)
+referred_at last k [] place index x e h is = absurd (omega arith)
+referred_at last k (d ∷ ds) zero index x e h is =
+    ap₂ (λ o l. record (derivation_of x) { last = o } ∷ l)
+    (ap (λ b. cond b (Some last) d.last) (sym (eq-eqb k index (omega arith))))
+    (sym (referred_none (λ i. nat_eq i index) last (suc k) (map derivation_of ds) (λ i a b. unequal i index (λ same. omega arith))))
+    ∙ ap (λ (y : Stored). record (derivation_of y) { last = cond (nat_eq k index) (Some last) d.last } ∷ referred_by (λ i. nat_eq i index) last (suc k) (map derivation_of ds)) is
+referred_at last k (d ∷ ds) (suc place) index x e h is =
+    ap₂ (λ o l. record (derivation_of d) { last = o } ∷ l)
+    (ap (λ b. cond b (Some last) d.last) (sym (unequal k index (λ same. omega arith))))
+    (referred_at last (suc k) ds place index x (omega arith) (omega arith) is)
+
+-- before the first one, and past the last one
+pub referred_outside : (last k : ℕ) (ds : List Stored) (index : ℕ) → ((i : ℕ) → k ≤ i → i < k + length ds → ¬ (i ≡ index)) → map derivation_of ds ≡ referred_by (λ i. nat_eq i index) last k (map derivation_of ds)
+referred_outside last k ds index out =
+    let size : length (map derivation_of ds) ≡ length ds = length-map ds derivation_of in
+    sym (referred_none (λ i. nat_eq i index) last k (map derivation_of ds) (λ i a b. unequal i index (out i a (omega arith))))
+
+-- ---- entry by entry
+
+abbrev names : ℕ → ℕ × ℚ → Bool
+names i e = nat_eq i e.0 && is_nonzero e
+
+module _ (last k : ℕ) (es : List (ℕ × ℚ)) (n : ℕ) (e : ℕ × ℚ) (h : n < length es) (is : e ≡ get_or es n e) (old mid : List Stored)
+    (so_far : map derivation_of mid ≡ referred_by (λ i. list_any (names i) (take n es)) last k (map derivation_of old)) where
+  more : (new : List Stored) → map derivation_of new ≡ referred_by (λ i. names i e) last k (map derivation_of mid) → map derivation_of new ≡ referred_by (λ i. list_any (names i) (take (n + 1) es)) last k (map derivation_of old)
+  more new this =
+      this ∙ ap (referred_by (λ i. names i e) last k) so_far
+      ∙ referred_both (λ i. list_any (names i) (take n es)) (λ i. names i e) last k (map derivation_of old)
+      ∙ referred_alike (λ i. list_any (names i) (take n es) || names i e) (λ i. list_any (names i) (take (n + 1) es)) last k (map derivation_of old)
+      (λ i. ap (λ x. list_any (names i) (take n es) || names i x) is ∙ sym (list_any_more (names i) es n e h))
+
+  pub entry_referred : (new : List Stored) → is_nonzero e ≡ true → map derivation_of new ≡ referred_by (λ i. nat_eq i e.0) last k (map derivation_of mid)
+      → map derivation_of new ≡ referred_by (λ i. list_any (names i) (take (n + 1) es)) last k (map derivation_of old)
+  entry_referred new t this = more new (this ∙ referred_alike (λ i. nat_eq i e.0) (λ i. names i e) last k (map derivation_of mid) (λ i. by (nat_eq i e.0) ∙ ap (λ u. nat_eq i e.0 && u) (sym t)))
+    where
+      by : (u : Bool) → u ≡ (u && true)
+      by true = refl
+      by false = refl
+
+  pub entry_skipped : is_nonzero e ≡ false → map derivation_of mid ≡ referred_by (λ i. list_any (names i) (take (n + 1) es)) last k (map derivation_of old)
+  entry_skipped t = more mid (sym (referred_none (λ i. names i e) last k (map derivation_of mid) (λ i a b. ap (λ u. nat_eq i e.0 && u) t ∙ by (nat_eq i e.0))))
+    where
+      by : (u : Bool) → (u && false) ≡ false
+      by true = refl
+      by false = refl
+
+pub none_referred : (last k : ℕ) (ds : List Derivation) → ds ≡ referred_by (λ i. false) last k ds
+none_referred last k ds = sym (referred_none (λ i. false) last k ds (λ i a b. refl))
+
+-- ---- the four indices of a split
+
+pub four_referred : (p q r s : ℕ → Bool) (last k : ℕ) (ds0 ds1 ds2 ds3 ds4 : List Derivation) → ds1 ≡ referred_by p last k ds0 → ds2 ≡ referred_by q last k ds1 → ds3 ≡ referred_by r last k ds2 → ds4 ≡ referred_by s last k ds3
+    → ds4 ≡ referred_by (λ i. p i || (q i || (r i || s i))) last k ds0
+four_referred p q r s last k ds0 ds1 ds2 ds3 ds4 a b c d =
+    d
+    ∙ ap (referred_by s last k) (c ∙ ap (referred_by r last k) (b ∙ ap (referred_by q last k) a))
+    ∙ referred_both r s last k (referred_by q last k (referred_by p last k ds0))
+    ∙ referred_both q (λ i. r i || s i) last k (referred_by p last k ds0)
+    ∙ referred_both p (λ i. q i || (r i || s i)) last k ds0

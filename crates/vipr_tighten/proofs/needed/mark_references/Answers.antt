@@ -1,0 +1,1 @@
+use Rattle.vipr_tighten.proofs.needed.mark_references.Goals as goal

@@ -1,0 +1,79 @@
+//! What the goal needs: one pass from the end.
+ghost use Rattle.std.specs.Prelude.{ℕ, Bool, ◌&&◌, ◌+◌, ◌≡◌, nat_eq, not, map, length, IfOk, pos};
+ghost use Rattle.std.specs.List.{list_any};
+ghost use Rattle.std.specs.Ordering.{int_eq};
+ghost use Rattle.vipr_spec.specs.Reading.{is_nonzero};
+ghost use Rattle.vipr_spec.specs.Tightened.{refers_to};
+ghost use Rattle.vipr_items.specs.Items.{reason_of, derivation_of};
+ghost use Rattle.vipr_tighten.specs.Passes.{MarksAlso, AreMarks};
+
+use std::alloc::{AllocError, Global};
+use vipr_frac::Frac;
+use vipr_items::{Derivation, Reason};
+
+/// For each derivation whether the goal needs it. The first derivation has the index `first`.
+pub(crate) fn needed(
+    alloc: Global,
+    derivations: &[Derivation],
+    first: usize,
+    goal: Option<u32>,
+) -> Result<Vec<bool>, AllocError>
+    ensures { IfOk result (λ marks.
+        AreMarks goal first (map derivation_of derivations.now) marks.items) }
+{
+    let mut marks = vec![in alloc; false; derivations.len()]?;
+    if let Some(index) = goal {
+        mark(&mut marks, first, index);
+    }
+    for i in (0..derivations.len()).rev() {
+        if marks[i] {
+            mark_references(&mut marks, first, &derivations[i].reason);
+        }
+    }
+    Ok(marks)
+}
+
+// Marks what a reason refers to.
+fn mark_references(marks: &mut [bool], first: usize, reason: &Reason)
+    ensures { MarksAlso first (refers_to (reason_of reason.now)) marks.old marks.new }
+{
+    match reason {
+        Reason::Asm | Reason::Sol => {}
+        Reason::Lin(entries) | Reason::Rnd(entries) => mark_entries(marks, first, entries),
+        Reason::Uns { i1, l1, i2, l2 } => {
+            mark(marks, first, *i1);
+            mark(marks, first, *l1);
+            mark(marks, first, *i2);
+            mark(marks, first, *l2);
+        }
+    }
+}
+
+// Marks what the entries with a nonzero multiplier name.
+fn mark_entries(marks: &mut [bool], first: usize, entries: &[(u32, Frac)])
+    ensures { MarksAlso first (λ i. list_any (λ e. nat_eq i e.0 && is_nonzero e) entries.now)
+        marks.old marks.new }
+{
+    for (index, multiplier) in entries {
+        if !is_zero(multiplier) {
+            mark(marks, first, *index);
+        }
+    }
+}
+
+// Marks the derivation of this index, if there is one.
+fn mark(marks: &mut [bool], first: usize, index: u32)
+    ensures { MarksAlso first (λ i. nat_eq i index) marks.old marks.new }
+{
+    let index = index as usize;
+    if first <= index && index - first < marks.len() {
+        marks[index - first] = true;
+    }
+}
+
+/// Whether a fraction is 0.
+pub(crate) fn is_zero(x: &Frac) -> bool
+    ensures { result ≡ int_eq x.now.numer (pos 0) }
+{
+    x.numer() == 0
+}
