@@ -81,6 +81,17 @@ impl Row {
         Ok(Row { entries })
     }
 
+    /// The row of these coefficients, in any order, where the variables differ. Coefficients 0 are dropped.
+    /// It takes no memory.
+    pub fn from_distinct(pairs: Vec<(u32, Frac)>) -> Row
+        requires { IsDistinct nat_eq (variables_of pairs.items) }
+        ensures { result ≡ row_of pairs.items }
+    {
+        let mut entries = distinct_in_order(pairs);
+        drop_zeros(&mut entries);
+        Row { entries }
+    }
+
     /// The row of coefficients that are not 0, whose variables rise.
     pub(crate) fn from_rising(entries: Vec<(u32, Frac)>) -> Row
         requires { RisesFrom 0 entries.items }
@@ -159,6 +170,20 @@ fn in_order(alloc: Global, pairs: Vec<(u32, Frac)>) -> Result<Vec<(u32, Frac)>, 
     let mut sorted = pairs;
     sort_by_variable(&mut sorted);
     Ok(sorted)
+}
+
+// Pairs whose variables differ, in rising order of these.
+fn distinct_in_order(pairs: Vec<(u32, Frac)>) -> Vec<(u32, Frac)>
+    requires { IsDistinct nat_eq (variables_of pairs.items) }
+    ensures permutation { IsPermutation pairs.items result.items }
+    ensures rising { IsStrictlyIncreasing (variables_of result.items) }
+{
+    if rises(&pairs) {
+        return pairs;
+    }
+    let mut sorted = pairs;
+    sort_by_variable(&mut sorted);
+    sorted
 }
 
 // Whether the variables rise, each standing once.
