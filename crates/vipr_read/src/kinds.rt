@@ -164,12 +164,7 @@ impl TokenKind for Reference {
 
     #[tactic(auto, unfolding(vipr_spec::specs::Reading::reference_of))]
     fn read(&self, bytes: &[u8]) -> Result<u32, Unfit> {
-        at_most(
-            bytes,
-            u32::MAX,
-            cause::BAD_REFERENCE,
-            cause::BAD_REFERENCE,
-        )
+        at_most(bytes, u32::MAX, cause::BAD_REFERENCE, cause::BAD_REFERENCE)
     }
 }
 

@@ -8,14 +8,13 @@ ghost use Rattle.vipr_items.specs.Items.{derivation_of};
 ghost use Rattle.vipr_read.specs.Items.{Items, Knows, Remembers, NextItem, GivesFrom};
 ghost use Rattle.vipr_bytes.specs.Known.{IfKnown, text_of};
 
-use vipr_scan::TextError;
 use crate::parser::Parser;
 use std::alloc::Global;
 use std::marker::Model;
 use vipr_bytes::Source;
 use vipr_items::Derivation;
 use vipr_linear::Row;
-use vipr_scan::Scanner;
+use vipr_scan::{Scanner, TextError};
 
 /// Reads the derivations of a certificate whose solutions were read.
 #[derive(Drop)]
