@@ -1,0 +1,5 @@
+pub mod Marks
+pub mod Rules
+pub mod Parsing
+pub mod Items
+pub mod ItemsCode

@@ -1,0 +1,14 @@
+//! Reads the derivations of a certificate: one parser over the scanner, and its public reader.
+#![tactic(auto)]
+
+mod kinds;
+mod marks;
+mod parser;
+mod parts;
+mod reader;
+mod reasons;
+#[cfg(test)]
+mod tests;
+
+pub use reader::Derivations;
+pub use vipr_scan::TextError;
