@@ -86,7 +86,8 @@ impl Row {
     /// dropped. It takes no memory.
     pub fn from_distinct(pairs: Vec<(u32, Frac)>) -> Row
         requires { IsDistinct nat_eq (variables_of pairs.items) }
-        ensures { result ≡ row_of pairs.items }
+        ensures row { result ≡ row_of pairs.items }
+        ensures fits { RowFits result }
     {
         let mut entries = distinct_in_order(pairs);
         drop_zeros(&mut entries);
