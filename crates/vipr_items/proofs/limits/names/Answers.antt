@@ -1,6 +1,6 @@
 use Rattle.vipr_spec.specs.Tokens.{IsToken}
 use Rattle.vipr_items.proofs.Seen.{none_seen, one_more, all_seen}
-use Rattle.vipr_items.proofs.facts.names.Goals as goal
+use Rattle.vipr_items.proofs.limits.names.Goals as goal
 
 pub loop-name-init : goal.loop-name-init
 loop-name-init c = none_seen IsToken c.args.names.now

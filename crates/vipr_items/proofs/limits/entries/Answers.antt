@@ -1,6 +1,6 @@
 use Rattle.vipr_spec.specs.Shape.{EntryFits}
 use Rattle.vipr_items.proofs.Seen.{none_seen, one_more, all_seen}
-use Rattle.vipr_items.proofs.facts.entries.Goals as goal
+use Rattle.vipr_items.proofs.limits.entries.Goals as goal
 
 pub loop-each-init : goal.loop-each-init
 loop-each-init c = none_seen EntryFits c.args.entries.now
