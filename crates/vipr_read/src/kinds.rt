@@ -1,20 +1,38 @@
 //! The kinds of token: what each means, or the cause of its refusal.
-ghost use Rattle.std.specs.Prelude.{◌≡◌, ◌+◌, ◌^◌, ◌<◌, ◌≤◌, ℕ, Option, IfSome, min, length, slice_index_or, false, true};
+ghost use Rattle.std.specs.Prelude.{◌≡◌, ◌+◌, ◌^◌, ◌<◌, ◌≤◌, ℕ, Bool, Option, IfSome, min, length, slice_index_or, false, true};
 ghost use Rattle.std.specs.Option.{option_map};
 ghost use Rattle.vipr_spec.specs.Digits.{natural_of};
 ghost use Rattle.vipr_spec.specs.Fraction.{ℚ, IsBounded};
-ghost use Rattle.vipr_spec.specs.Certificate.{Name as NameMeant};
+ghost use Rattle.vipr_spec.specs.Certificate.{Name as NameMeant, Direction as DirectionMeant};
 ghost use Rattle.vipr_spec.specs.Constraint.{Sense as SenseMeant};
 ghost use Rattle.vipr_spec.specs.Tokens.{IsToken};
-ghost use Rattle.vipr_spec.specs.Reading.{Rule as RuleMeant, most_count, at_most_or, name_of, count_of, derivation_count_of, reference_of, last_of, word_of, rule_of, number_of, sense_of};
+ghost use Rattle.vipr_spec.specs.Reading.{
+  Rule as RuleMeant,
+  most_count,
+  at_most_or,
+  name_of,
+  count_of,
+  derivation_count_of,
+  reference_of,
+  last_of,
+  word_of,
+  rule_of,
+  number_of,
+  sense_of,
+  variable_of,
+  direction_of,
+  has_range_of,
+  bound_of,
+};
 ghost use Rattle.vipr_scan.specs.Meaning.{Means};
 ghost use Rattle.vipr_linear.specs.Constraint.{sense_of as sense_seen};
+ghost use Rattle.vipr_items.specs.Items.{direction_of as direction_seen};
 ghost use Rattle.vipr_read.specs.Rules.{rule_seen, objective_or_count_of};
 ghost use Rattle.vipr_read.specs.Marks.{unmarked_of};
 
 use std::alloc::Global;
 use vipr_frac::{Frac, NumberError};
-use vipr_items::Name;
+use vipr_items::{Goal, Name};
 use vipr_linear::Sense;
 use vipr_scan::{TokenKind, Unfit, cause};
 
@@ -82,6 +100,8 @@ impl TokenKind for Count {
 
     ghost meaning = { λ _ bytes. count_of bytes };
 
+    ghost bounds = { λ _ n. n ≤ most_count };
+
     #[tactic(auto, unfolding(vipr_spec::specs::Reading::count_of))]
     fn read(&self, bytes: &[u8]) -> Result<u32, Unfit> {
         at_most(bytes, u32::MAX, cause::BAD_COUNT, cause::COUNT_TOO_LARGE)
@@ -111,6 +131,30 @@ impl TokenKind for DerivationCount {
             cause::BAD_COUNT,
             cause::COUNT_TOO_LARGE,
         )
+    }
+}
+
+/// A variable, of which there are so many.
+#[derive(Drop)]
+pub(crate) struct Variable(pub(crate) u32);
+
+impl TokenKind for Variable {
+    type Value = u32;
+
+    ghost Meant = { ℕ };
+
+    ghost view = { λ n. n };
+
+    ghost meaning = { λ k bytes. variable_of k.0 bytes };
+
+    ghost bounds = { λ k i. i < k.0 };
+
+    #[tactic(auto, unfolding(vipr_spec::specs::Reading::variable_of))]
+    fn read(&self, bytes: &[u8]) -> Result<u32, Unfit> {
+        match natural(bytes) {
+            Some(i) if i < u64::from(self.0) => Ok(i as u32),
+            _ => Err(Unfit::Cause(cause::BAD_INDEX)),
+        }
     }
 }
 
@@ -265,6 +309,81 @@ impl TokenKind for SenseKind {
             Ok(Sense::G)
         } else {
             Err(Unfit::Cause(cause::BAD_SENSE))
+        }
+    }
+}
+
+/// Whether the objective is to be small or large.
+pub(crate) struct GoalKind;
+
+impl TokenKind for GoalKind {
+    type Value = Goal;
+
+    ghost Meant = { DirectionMeant };
+
+    ghost view = { direction_seen };
+
+    ghost meaning = { λ _ bytes. direction_of bytes };
+
+    #[tactic(auto, unfolding(vipr_spec::specs::Reading::direction_of))]
+    fn read(&self, bytes: &[u8]) -> Result<Goal, Unfit> {
+        if bytes == b"min".as_slice() {
+            Ok(Goal::Min)
+        } else if bytes == b"max".as_slice() {
+            Ok(Goal::Max)
+        } else {
+            Err(Unfit::Cause(cause::BAD_OBJECTIVE_SENSE))
+        }
+    }
+}
+
+/// Whether the claim is a range.
+pub(crate) struct HasRange;
+
+impl TokenKind for HasRange {
+    type Value = bool;
+
+    ghost Meant = { Bool };
+
+    ghost view = { λ b. b };
+
+    ghost meaning = { λ _ bytes. has_range_of bytes };
+
+    #[tactic(auto, unfolding(vipr_spec::specs::Reading::has_range_of))]
+    fn read(&self, bytes: &[u8]) -> Result<bool, Unfit> {
+        if bytes == b"infeas".as_slice() {
+            Ok(false)
+        } else if bytes == b"range".as_slice() {
+            Ok(true)
+        } else {
+            Err(Unfit::Cause(cause::BAD_CLAIM))
+        }
+    }
+}
+
+/// A bound of the claim, `None` for this word.
+#[derive(Drop)]
+pub(crate) struct Bound<'a>(pub(crate) &'a [u8]);
+
+impl TokenKind for Bound<'_> {
+    type Value = Option<Frac>;
+
+    ghost Meant = { Option ℚ };
+
+    ghost view = { λ x. x };
+
+    ghost meaning = { λ k bytes. bound_of k.0.now bytes };
+
+    ghost bounds = { λ _ bound. IfSome bound IsBounded };
+
+    #[tactic(auto, unfolding(vipr_spec::specs::Reading::bound_of))]
+    fn read(&self, bytes: &[u8]) -> Result<Option<Frac>, Unfit> {
+        if bytes == self.0 {
+            return Ok(None);
+        }
+        match Number.read(bytes) {
+            Ok(bound) => Ok(Some(bound)),
+            Err(unfit) => Err(unfit),
         }
     }
 }

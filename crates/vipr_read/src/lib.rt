@@ -1,12 +1,13 @@
 //! Reads the derivations of a certificate: one parser over the scanner, and its public reader.
 #![tactic(auto)]
 
+mod derivation;
 mod kinds;
 mod marks;
 mod parser;
 mod parts;
+mod problem;
 mod reader;
-mod reasons;
 #[cfg(test)]
 mod tests;
 

@@ -63,7 +63,8 @@ impl<R: Source> Derivations<R> {
             GivesFrom (λ d. d.left) (λ d. d.rest) result (derivations_read p (text_of i))) }
     {
         let scanner = Scanner::new(alloc, source)?;
-        let mut parser = Parser::new(alloc, scanner, variables)?;
+        let mut parser = Parser::new(alloc, scanner);
+        parser.set_variables(alloc, variables)?;
         let left = parser.derivation_count(constraints)?;
         Ok(Derivations {
             parser,

@@ -26,7 +26,7 @@ impl From<AllocError> for Unfit {
 
 /// A kind of token: what the bytes of a token mean, or the cause of their refusal.
 pub trait TokenKind {
-    type Value;
+    type Value: Drop;
 
     /// What the definitions say that a token of this kind is.
     ghost Meant: { Type 0 };

@@ -1,19 +1,25 @@
-//! Parses the reasons of derivations.
-ghost use Rattle.std.specs.Prelude.{ℕ, ◌≤◌, length, All, IfOk};
+//! Reads listed solutions, and derivations with their reasons.
+ghost use Rattle.std.specs.Prelude.{◌≡◌, ℕ, ◌+◌, ◌^◌, ◌<◌, ◌≤◌, length, All, IfOk};
 ghost use Rattle.vipr_spec.specs.Fraction.{ℚ};
-ghost use Rattle.vipr_spec.specs.Shape.{ReasonShape, EntryFits, ReasonFits};
-ghost use Rattle.vipr_spec.specs.Reading.{most_count, by_uns, entry_read, entries_read, by_read, reason_read};
-ghost use Rattle.vipr_items.specs.Items.{reason_of};
+ghost use Rattle.vipr_spec.specs.Shape.{SolutionShape, DerivationShape, ReasonShape, RowFits, EntryFits, ReasonFits, DerivationFits};
+ghost use Rattle.vipr_spec.specs.Constraint.{at, NamesBelow};
+ghost use Rattle.vipr_spec.specs.Certificate.{Problem as ProblemMeant, variables as variables_in};
+ghost use Rattle.vipr_spec.specs.Reading.{most_count, by_uns, entry_read, entries_read, by_read, reason_read, solution_read, derivations_read, derivation_read};
+ghost use Rattle.vipr_items.specs.Items.{solution_of, reason_of, derivation_of};
 ghost use Rattle.vipr_read.specs.Parsing.{Parses};
 ghost use Rattle.vipr_read.specs.Rules.{rule_seen};
 
-use crate::kinds::{Count, Number, Reference, Rule, RuleKind, Word};
+use crate::kinds::{
+    Count, DerivationCount, Last, NameKind, Number, Reference, Rule, RuleKind, Word,
+};
 use crate::parser::Parser;
 use crate::parts::{Part, many};
+use crate::problem::Stated;
 use std::alloc::Global;
 use vipr_bytes::Source;
 use vipr_frac::Frac;
-use vipr_items::Reason;
+use vipr_items::{Derivation, Named, Reason};
+use vipr_linear::{Row, Solution};
 use vipr_scan::{Stop, cause};
 
 /// A constraint's index and its multiplier.
@@ -102,5 +108,55 @@ impl<R: Source> Parser<R> {
         let reason = self.by(alloc, rule)?;
         self.take(&Word(b"}", cause::BAD_BRACE))?;
         Ok(reason)
+    }
+    /// A listed solution.
+    #[tactic(auto, unfolding(vipr_spec::specs::Reading::solution_read))]
+    pub(crate) fn solution(&mut self, alloc: Global) -> Result<Named<Solution>, Stop>
+        ensures read { (p : ProblemMeant) → self.old.variables ≡ variables_in p →
+            Parses solution_of (solution_read p) self.old self.new result }
+        ensures variables { self.new.variables ≡ self.old.variables }
+        ensures shape { IfOk result (λ s. SolutionShape self.old.variables (solution_of s)) }
+        ensures fits { IfOk result (λ s. RowFits s.item.0) }
+    {
+        let name = self.take(&NameKind(alloc))?;
+        let row = self.vector(alloc)?;
+        Ok(Named {
+            name,
+            item: Solution(row),
+        })
+    }
+
+    /// The number of derivations, where there are so many constraints before them.
+    #[tactic(auto, unfolding(vipr_spec::specs::Reading::derivations_read))]
+    pub(crate) fn derivation_count(&mut self, constraints: u32) -> Result<u32, Stop>
+        ensures read { (p : ProblemMeant) → constraints ≡ length p.constraints →
+            Parses (λ n. n) (derivations_read p) self.old self.new result }
+        ensures variables { self.new.variables ≡ self.old.variables }
+        ensures counted { IfOk result (λ n. constraints + n < 2 ^ 32) }
+    {
+        self.take(&Word(b"DER", cause::WRONG_KEYWORD))?;
+        self.take(&DerivationCount(constraints))
+    }
+
+    /// A derivation.
+    #[tactic(auto, unfolding(vipr_spec::specs::Reading::derivation_read))]
+    pub(crate) fn derivation(&mut self, alloc: Global, objective: &Row) -> Result<Derivation, Stop>
+        requires { RowFits objective.now }
+        ensures read { (p : ProblemMeant) → self.old.variables ≡ variables_in p →
+            objective.now ≡ p.objective → Parses derivation_of (derivation_read p) self.old self.new result }
+        ensures variables { self.new.variables ≡ self.old.variables }
+        ensures shape { NamesBelow self.old.variables (at objective.now) →
+            IfOk result (λ d. DerivationShape self.old.variables (derivation_of d)) }
+        ensures fits { IfOk result (λ d. DerivationFits (derivation_of d)) }
+    {
+        let stated = Stated { objective }.parse(self, alloc)?;
+        let reason = self.reason(alloc)?;
+        let last = self.take(&Last)?;
+        Ok(Derivation {
+            name: stated.name,
+            constraint: stated.item,
+            reason,
+            last,
+        })
     }
 }
