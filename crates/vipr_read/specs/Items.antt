@@ -1,7 +1,8 @@
 -- What a reader of items has left, and what each call takes of it
 use Rattle.std.specs.Prelude.{◌≡◌, ℕ, suc, ◌<◌, ◌⊎◌, Bool, length, Option, Some, None, Result, Ok, Err, IsSome}
-use Rattle.vipr_spec.specs.Constraint.{Row}
+use Rattle.vipr_spec.specs.Constraint.{Row, at, NamesBelow}
 use Rattle.vipr_spec.specs.Certificate.{Problem, variables}
+use Rattle.vipr_spec.specs.Shape.{RowFits}
 use Rattle.vipr_spec.specs.Reading.{Rest, Fault, Read}
 use Rattle.vipr_scan.specs.Giving.{rest_of}
 use Rattle.vipr_scan.specs.Faults.{Fails}
@@ -28,6 +29,16 @@ pub record Remembers (old new : Items) : Type 0 where
   pub variables : new.variables ≡ old.variables
   pub constraints : new.constraints ≡ old.constraints
   pub objective : new.objective ≡ old.objective
+
+-- its variables are below n, and its coefficients can be written
+pub record IsObjective (n : ℕ) (row : Row) : Type 0 where
+  pub below : NamesBelow n (at row)
+  pub fits : RowFits row
+
+-- the text ended, or has the fault of the reading there
+abbrev pub EndsWith : Result (Unit {0}) TextError → Result (Unit {0}) Fault → Type 0
+EndsWith (Ok done) r = r ≡ Ok tt
+EndsWith (Err e) r = Fails e r
 
 -- the value that the reading gives, with the rest that the reader in it has then; or its fault
 abbrev pub GivesFrom : {X Y : Type 0} → (X → Y) → (X → Option Rest) → Result X TextError → Read Y

@@ -3,3 +3,4 @@ pub mod Rules
 pub mod Parsing
 pub mod Items
 pub mod ItemsCode
+pub mod Whole

@@ -1,7 +1,9 @@
 //! Reads the derivations of a certificate: one parser over the scanner, and its public reader.
 #![tactic(auto)]
 
+mod certificate;
 mod derivation;
+mod item;
 mod kinds;
 mod marks;
 mod parser;
@@ -11,5 +13,6 @@ mod reader;
 #[cfg(test)]
 mod tests;
 
-pub use reader::Derivations;
+pub use certificate::read_certificate;
+pub use reader::{Derivations, Solutions};
 pub use vipr_scan::TextError;
