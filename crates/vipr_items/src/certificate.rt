@@ -82,22 +82,6 @@ impl Certificate {
         }
     }
 
-    /// The certificate of parts that are known to be within the limits. Nothing is tested.
-    pub fn of_parts(
-        problem: Problem,
-        solutions: Vec<Named<Solution>>,
-        derivations: Vec<Derivation>,
-    ) -> Certificate
-        requires { CanWrite (certificate_with problem solutions.items derivations.items) }
-        ensures { result ≡ certificate_with problem solutions.items derivations.items }
-    {
-        Certificate {
-            problem,
-            solutions,
-            derivations,
-        }
-    }
-
     /// What it is about.
     pub fn problem(&self) -> &Problem
         ensures { result.now ≡ self.now.problem }

@@ -101,30 +101,6 @@ impl Problem {
         }
     }
 
-    /// The problem of parts that are known to be within the limits. Nothing is tested.
-    pub fn of_parts(
-        names: Vec<Name>,
-        ints: Ints,
-        sense: Goal,
-        objective: Row,
-        cons: Vec<Named<Constraint>>,
-        bound_count: u32,
-        claim: Claim,
-    ) -> Problem
-        requires { CanWriteProblem (problem_with names.items ints sense objective cons.items bound_count claim) }
-        ensures { result ≡ problem_with names.items ints sense objective cons.items bound_count claim }
-    {
-        Problem {
-            names,
-            ints,
-            sense,
-            objective,
-            cons,
-            bound_count,
-            claim,
-        }
-    }
-
     /// The variables' names.
     pub fn names(&self) -> &[Name]
         ensures names { result.now ≡ self.now.names }

@@ -1,4 +1,5 @@
-ghost use Rattle.std.specs.Prelude.{◌≡◌, ◌⊎◌, ◌↔◌, ◌+◌, ◌≤◌, true, false, slice_range, IfOk, IfSome, IfErr, IsErrOf, IsSome, Some};
+ghost use Rattle.std.specs.Prelude.{◌≡◌, ◌⊎◌, ◌↔◌, ◌+◌, ◌≤◌, true, false, slice_range, IfOk};
+ghost use Rattle.std.specs.Prelude.{IfSome, IfErr, IsErrOf, IsSome, Some};
 ghost use Rattle.std.specs.Borrow.{sem};
 ghost use Rattle.std.specs.Io.BufRead.{Rests};
 ghost use Rattle.vipr_bytes.specs.Known.{IfKnown, text_of};
@@ -100,8 +101,8 @@ impl<R: Source> Tokens<R> {
 
     /// The next token, or `None` at the end. It takes no memory.
     ///
-    /// It fails only where a read fails before the token's end is known, and after an earlier failure
-    /// or a token that was too long.
+    /// It fails only where a read fails before the token's end is known, and after an earlier
+    /// failure or a token that was too long.
     pub fn next(&mut self) -> Result<Option<Token<'_>>, TextError>
         ensures spent { IsErrOf result TextError.Spent ↔ (self.old.failed ≡ true) }
         ensures token { IfOk result (λ o. IfSome o (λ t. IsToken t.bytes.now)) }
