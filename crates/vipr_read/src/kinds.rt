@@ -161,7 +161,8 @@ impl TokenKind for NewVariable<'_> {
 
     ghost meaning = { λ k bytes. unmarked_of k.marks.now bytes };
 
-    ghost bounds = { λ k i. (i < length k.marks.now) × (slice_index_or k.marks.now i false ≡ false) };
+    ghost bounds = { λ k i.
+        (i < length k.marks.now) × (slice_index_or k.marks.now i false ≡ false) };
 
     #[tactic(auto, unfolding(vipr_spec::specs::Reading::variable_of))]
     fn read(&self, bytes: &[u8]) -> Result<u32, Unfit> {

@@ -22,12 +22,12 @@ unread t = slice_range t.buf.value t.start t.end
 abbrev pub prepend : List ℕ → Input → Input
 prepend bytes i = record { bytes = bytes ++ i.bytes; fails = i.fails }
 
--- what reads will give from here on, where it is told
+-- what reads will give from here on, where it is known
 abbrev pub source_left : {R : Type 0} → (R → Option Input) → Window R → Option Input
 source_left input t =
     if t.ended then Some (record { bytes = []; fails = false }) else input t.source
 
--- the input from the first byte not yet taken on, where it is told
+-- the input from the first byte not yet taken on, where it is known
 abbrev pub input_left : {R : Type 0} → (R → Option Input) → Window R → Option Input
 input_left input t = option_map (prepend (unread t)) (source_left input t)
 
@@ -36,12 +36,13 @@ abbrev pub left_of : Place → ℕ → Input → Option Rest
 left_of place offset i =
     let end = offset + length i.bytes in
     let tokens = tokens_in place i.fails offset i.bytes in
-    if nat_lt end (2 ^ 64) then Some (record { tokens = tokens; fails = i.fails; length = end }) else None
+    let rest : Rest = record { tokens = tokens; fails = i.fails; length = end } in
+    if nat_lt end (2 ^ 64) then Some rest else None
 
 abbrev pub left : {R : Type 0} → (R → Option Input) → Window R → Option Rest
 left input t = option_and_then (left_of t.place t.offset) (input_left input t)
 
--- what was told stays so
+-- what was known stays so
 abbrev pub Keeps : Option Rest → Option Rest → Type 0
 Keeps old new = IfSome old (λ l. new ≡ Some l)
 

@@ -39,7 +39,8 @@ impl<R: Source> Reader<R> {
     /// Finds the next token, and takes it.
     fn advance(&mut self) -> Result<Option<Found>, TextError>
         ensures spent { IsErrOf result TextError.Spent ↔ (self.old.failed ≡ true) }
-        ensures failed { self.new.failed ≡ ends_reading (seen (seen_found self.new.window.buf.value) result) }
+        ensures failed { self.new.failed ≡
+            ends_reading (seen (seen_found self.new.window.buf.value) result) }
         ensures unchanged { self.old.failed ≡ true → self.new ≡ self.old }
         ensures answer { self.old.failed ≡ false → IfSome (left R.input self.old.window)
             (λ l. seen (seen_found self.new.window.buf.value) result ≡ public_answer l) }
@@ -88,7 +89,8 @@ impl<R: Source> Tokens<R> {
     where
         R: Drop,
         ensures fresh { IfOk result (λ t. t.failed ≡ false) }
-        ensures rest { IfOk result (λ t. IfKnown (R.input source) (λ i. t.rest ≡ Some (text_of i))) }
+        ensures rest { IfOk result
+            (λ t. IfKnown (R.input source) (λ i. t.rest ≡ Some (text_of i))) }
     {
         let window = Window::new(alloc, source)?;
         Ok(Tokens {

@@ -148,8 +148,10 @@ impl<R: Source> Window<R> {
         ensures run { IfOk result
             (λ n. (k : ℕ) → k < n → is_white (slice_index (unread self.new) k) ≡ false) }
         ensures white { IfOk result
-            (λ n. n < length (unread self.new) → is_white (slice_index (unread self.new) n) ≡ true) }
-        ensures whole { IfOk result (λ n. n < 65536 → n ≡ length (unread self.new) → self.new.ended ≡ true) }
+            (λ n. n < length (unread self.new) →
+            is_white (slice_index (unread self.new) n) ≡ true) }
+        ensures whole { IfOk result
+            (λ n. n < 65536 → n ≡ length (unread self.new) → self.new.ended ≡ true) }
         ensures place { OnOk result (self.new.place ≡ Place.Past) }
         ensures failed { OnErr result (IsOver (left R.input self.old) true) }
         ensures error { IfErr result (λ e. e ≡ Stop.Read) }
@@ -172,14 +174,16 @@ impl<R: Source> Window<R> {
         requires token { 0 < n }
         requires limit { n ≤ 65536 }
         requires run { (k : ℕ) → k < n → is_white (slice_index (unread self.old) k) ≡ false }
-        requires white { n < length (unread self.old) → is_white (slice_index (unread self.old) n) ≡ true }
+        requires white { n < length (unread self.old) →
+            is_white (slice_index (unread self.old) n) ≡ true }
         requires whole { n < 65536 → n ≡ length (unread self.old) → self.old.ended ≡ true }
         ensures answer { IfSome (left R.input self.old)
             (λ l. Ok (Some (seen_found self.new.buf.value result)) ≡ next_answer l) }
         ensures left { result.long ≡ false →
             IfSome (left R.input self.old) (λ l. left R.input self.new ≡ Some (next_left l)) }
         ensures within { result.start + result.len ≤ 65536 }
-        ensures token { IsToken (slice_range self.new.buf.value result.start (result.start + result.len)) }
+        ensures token { IsToken
+            (slice_range self.new.buf.value result.start (result.start + result.len)) }
     {
         let found = Found {
             start: self.start,
@@ -222,7 +226,8 @@ impl<R: Source> Window<R> {
             (left R.input self.old) (left R.input self.new) result }
         ensures behind { IsBehind (left R.input self.old) (left R.input self.new) }
         ensures within { IfOk result (λ f. f.start + f.len ≤ 65536) }
-        ensures token { IfOk result (λ f. IsToken (slice_range self.new.buf.value f.start (f.start + f.len))) }
+        ensures token { IfOk result
+            (λ f. IsToken (slice_range self.new.buf.value f.start (f.start + f.len))) }
         ensures error { IfErr result (λ e. e ≢ Stop.Memory) }
     {
         let Some(found) = self.advance()? else {
