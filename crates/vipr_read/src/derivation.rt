@@ -1,10 +1,13 @@
 //! Reads listed solutions, and derivations with their reasons.
 ghost use Rattle.std.specs.Prelude.{◌≡◌, ℕ, ◌+◌, ◌^◌, ◌<◌, ◌≤◌, length, All, IfOk};
 ghost use Rattle.vipr_spec.specs.Fraction.{ℚ};
-ghost use Rattle.vipr_spec.specs.Shape.{SolutionShape, DerivationShape, ReasonShape, RowFits, EntryFits, ReasonFits, DerivationFits};
+ghost use Rattle.vipr_spec.specs.Shape.{SolutionShape, DerivationShape, ReasonShape, RowFits};
+ghost use Rattle.vipr_spec.specs.Shape.{EntryFits, ReasonFits, DerivationFits};
 ghost use Rattle.vipr_spec.specs.Constraint.{at, NamesBelow};
 ghost use Rattle.vipr_spec.specs.Certificate.{Problem as ProblemMeant, variables as variables_in};
-ghost use Rattle.vipr_spec.specs.Reading.{most_count, by_uns, entry_read, entries_read, by_read, reason_read, solution_read, derivations_read, derivation_read};
+ghost use Rattle.vipr_spec.specs.Reading.{most_count, by_uns, entry_read, entries_read, by_read};
+ghost use Rattle.vipr_spec.specs.Reading.{reason_read, solution_read, derivations_read};
+ghost use Rattle.vipr_spec.specs.Reading.{derivation_read};
 ghost use Rattle.vipr_items.specs.Items.{solution_of, reason_of, derivation_of};
 ghost use Rattle.vipr_read.specs.Parsing.{Parses};
 ghost use Rattle.vipr_read.specs.Rules.{rule_seen};
@@ -143,7 +146,8 @@ impl<R: Source> Parser<R> {
     pub(crate) fn derivation(&mut self, alloc: Global, objective: &Row) -> Result<Derivation, Stop>
         requires { RowFits objective.now }
         ensures read { (p : ProblemMeant) → self.old.variables ≡ variables_in p →
-            objective.now ≡ p.objective → Parses derivation_of (derivation_read p) self.old self.new result }
+            objective.now ≡ p.objective →
+            Parses derivation_of (derivation_read p) self.old self.new result }
         ensures variables { self.new.variables ≡ self.old.variables }
         ensures shape { NamesBelow self.old.variables (at objective.now) →
             IfOk result (λ d. DerivationShape self.old.variables (derivation_of d)) }

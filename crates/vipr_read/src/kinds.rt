@@ -1,29 +1,16 @@
 //! The kinds of token: what each means, or the cause of its refusal.
-ghost use Rattle.std.specs.Prelude.{◌≡◌, ◌+◌, ◌^◌, ◌<◌, ◌≤◌, ℕ, Bool, Option, IfSome, min, length, slice_index_or, false, true};
+ghost use Rattle.std.specs.Prelude.{◌≡◌, ◌+◌, ◌^◌, ◌<◌, ◌≤◌, ℕ, Bool, Option, IfSome, min, length};
+ghost use Rattle.std.specs.Prelude.{slice_index_or, false, true};
 ghost use Rattle.std.specs.Option.{option_map};
 ghost use Rattle.vipr_spec.specs.Digits.{natural_of};
 ghost use Rattle.vipr_spec.specs.Fraction.{ℚ, IsBounded};
 ghost use Rattle.vipr_spec.specs.Certificate.{Name as NameMeant, Direction as DirectionMeant};
 ghost use Rattle.vipr_spec.specs.Constraint.{Sense as SenseMeant};
 ghost use Rattle.vipr_spec.specs.Tokens.{IsToken};
-ghost use Rattle.vipr_spec.specs.Reading.{
-  Rule as RuleMeant,
-  most_count,
-  at_most_or,
-  name_of,
-  count_of,
-  derivation_count_of,
-  reference_of,
-  last_of,
-  word_of,
-  rule_of,
-  number_of,
-  sense_of,
-  variable_of,
-  direction_of,
-  has_range_of,
-  bound_of,
-};
+ghost use Rattle.vipr_spec.specs.Reading.{Rule as RuleMeant, most_count, at_most_or, name_of};
+ghost use Rattle.vipr_spec.specs.Reading.{count_of, derivation_count_of, reference_of, last_of};
+ghost use Rattle.vipr_spec.specs.Reading.{word_of, rule_of, number_of, sense_of, variable_of};
+ghost use Rattle.vipr_spec.specs.Reading.{direction_of, has_range_of, bound_of};
 ghost use Rattle.vipr_scan.specs.Meaning.{Means};
 ghost use Rattle.vipr_linear.specs.Constraint.{sense_of as sense_seen};
 ghost use Rattle.vipr_items.specs.Items.{direction_of as direction_seen};
@@ -174,7 +161,8 @@ impl TokenKind for NewVariable<'_> {
 
     ghost meaning = { λ k bytes. unmarked_of k.marks.now bytes };
 
-    ghost bounds = { λ k i. (i < length k.marks.now) × (slice_index_or k.marks.now i false ≡ false) };
+    ghost bounds = { λ k i.
+        (i < length k.marks.now) × (slice_index_or k.marks.now i false ≡ false) };
 
     #[tactic(auto, unfolding(vipr_spec::specs::Reading::variable_of))]
     fn read(&self, bytes: &[u8]) -> Result<u32, Unfit> {

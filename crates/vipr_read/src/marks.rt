@@ -1,5 +1,6 @@
 //! Scans pairs of variables and coefficients, with a mark for each variable that has stood.
-ghost use Rattle.std.specs.Prelude.{◌≡◌, ◌^◌, ◌<◌, ℕ, List, [], false, true, map, nat_eq, length, slice_index_or, IfOk, All};
+ghost use Rattle.std.specs.Prelude.{◌≡◌, ◌^◌, ◌<◌, ℕ, List, [], false, true, map, nat_eq, length};
+ghost use Rattle.std.specs.Prelude.{slice_index_or, IfOk, All};
 ghost use Rattle.std.specs.List.{IsDistinct};
 ghost use Rattle.vipr_spec.specs.Reading.{pair_read, pairs_read};
 ghost use Rattle.vipr_scan.specs.Giving.{Scans};
@@ -15,7 +16,8 @@ use vipr_scan::{Scanner, Stop};
 #[tactic(auto, using(crate::proofs::Marking::new_of_unmarked), unfolding(vipr_spec::specs::Reading::pair_read))]
 fn pair<R: Source>(scanner: &mut Scanner<R>, marks: &[bool]) -> Result<(u32, Frac), Stop>
     requires { length marks.now < 2 ^ 32 }
-    ensures read { (before : List ℕ) → AreMarked marks.now before → Scans (λ p. p) (pair_read (length marks.now) before) scanner.old scanner.new result }
+    ensures read { (before : List ℕ) → AreMarked marks.now before →
+        Scans (λ p. p) (pair_read (length marks.now) before) scanner.old scanner.new result }
     ensures below { IfOk result (λ p. p.0 < length marks.now) }
     ensures new { IfOk result (λ p. slice_index_or marks.now p.0 false ≡ false) }
 {
@@ -38,7 +40,8 @@ pub(crate) fn mark_pairs<R: Source>(
     ensures marked { AreMarked marks.new (variables_of pairs.new.items) }
     ensures below { All (λ p. p.0 < length marks.old) pairs.new.items }
     ensures distinct { IsDistinct nat_eq (variables_of pairs.new.items) }
-    ensures read { Scans (λ _. pairs.new.items) (pairs_read (length marks.old) [] count) scanner.old scanner.new result }
+    ensures read { Scans (λ _. pairs.new.items)
+        (pairs_read (length marks.old) [] count) scanner.old scanner.new result }
 {
     for _ in 0..count {
         let (variable, coefficient) = pair(scanner, marks)?;

@@ -1,9 +1,11 @@
 //! The parser, and how it reads sparse vectors.
-ghost use Rattle.std.specs.Prelude.{◌≡◌, ◌^◌, ◌<◌, [], nat_eq, length, IfOk, All, OnOk, IsSome};
+ghost use Rattle.std.specs.Prelude.{◌≡◌, ◌^◌, ◌<◌, [], nat_eq, length, IfOk, IfErr, All, OnOk};
+ghost use Rattle.std.specs.Prelude.{IsSome};
 ghost use Rattle.std.specs.List.{IsDistinct};
 ghost use Rattle.vipr_spec.specs.Constraint.{at, NamesBelow};
 ghost use Rattle.vipr_spec.specs.Shape.{RowFits};
-ghost use Rattle.vipr_spec.specs.Reading.{taken, pairs_read, counted_read, vector_read, row_read, end_read};
+ghost use Rattle.vipr_spec.specs.Reading.{taken, pairs_read, counted_read, vector_read, row_read};
+ghost use Rattle.vipr_spec.specs.Reading.{end_read};
 ghost use Rattle.vipr_linear.specs.Row.{variables_of};
 ghost use Rattle.vipr_scan.specs.Giving.{Ends, rest_of};
 ghost use Rattle.vipr_read.specs.Parsing.{Parses};
@@ -17,7 +19,7 @@ use vipr_frac::Frac;
 use vipr_linear::Row;
 use vipr_scan::{Scanner, Stop, TokenKind};
 
-/// Parses a certificate, of which it knows the number of variables; none before their names were read.
+/// Parses a certificate, of which it knows the number of variables: 0 before their names were read.
 #[derive(Drop)]
 pub(crate) struct Parser<R: Source> {
     scanner: Scanner<R>,
@@ -48,16 +50,11 @@ impl<R: Source> Parser<R> {
         }
     }
 
-    /// The number of variables.
-    pub(crate) fn variables(&self) -> u32
-        ensures { result ≡ self.now.variables }
-    {
-        self.marks.len() as u32
-    }
-
     /// Goes on with so many variables.
     pub(crate) fn set_variables(&mut self, alloc: Global, variables: u32) -> Result<(), Stop>
-        ensures { OnOk result (self.new ≡ record { rest = self.old.rest; variables = variables }) }
+        ensures parser { OnOk result
+            (self.new ≡ record { rest = self.old.rest; variables = variables }) }
+        ensures error { IfErr result (λ e. e ≡ Stop.Memory) }
     {
         self.marks = vec![in alloc; false; variables as usize]?;
         Ok(())

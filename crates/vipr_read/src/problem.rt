@@ -1,10 +1,14 @@
 //! Reads the problem, section by section.
 ghost use Rattle.std.specs.Prelude.{◌≡◌, ℕ, ◌<◌, ◌≤◌, length, map, All, OnOk, IfOk, IsSome};
-ghost use Rattle.vipr_spec.specs.Constraint.{at, IsInteger, NamesBelow, Constraint as ConstraintMeant};
+ghost use Rattle.vipr_spec.specs.Constraint.{at, IsInteger, NamesBelow};
+ghost use Rattle.vipr_spec.specs.Constraint.{Constraint as ConstraintMeant};
 ghost use Rattle.vipr_spec.specs.Certificate.{Named as NamedMeant, variables};
 ghost use Rattle.vipr_spec.specs.Tokens.{IsToken};
-ghost use Rattle.vipr_spec.specs.Shape.{ConstraintShape, RowFits, ConstraintFits, ClaimFits, ProblemShape};
-ghost use Rattle.vipr_spec.specs.Reading.{most_count, version_read, names_read, integers_read, objective_read, constraint_read, constraints_read, range_read, claim_read, problem_read};
+ghost use Rattle.vipr_spec.specs.Shape.{ConstraintShape, RowFits, ConstraintFits, ClaimFits};
+ghost use Rattle.vipr_spec.specs.Shape.{ProblemShape};
+ghost use Rattle.vipr_spec.specs.Reading.{most_count, version_read, names_read, integers_read};
+ghost use Rattle.vipr_spec.specs.Reading.{objective_read, constraint_read, constraints_read};
+ghost use Rattle.vipr_spec.specs.Reading.{range_read, claim_read, problem_read};
 ghost use Rattle.vipr_linear.specs.Constraint.{constraint_of};
 ghost use Rattle.vipr_items.specs.Items.{named_of, direction_of, claim_of};
 ghost use Rattle.vipr_scan.specs.Giving.{Scans};
@@ -35,7 +39,8 @@ impl Part for Stated<'_> {
 
     ghost reading = { λ s n. constraint_read n s.objective.now };
 
-    ghost shape = { λ s n c. (NamesBelow n (at s.objective.now) → ConstraintShape n (named_of constraint_of c)) × ConstraintFits (constraint_of c.item) };
+    ghost shape = { λ s n c. (NamesBelow n (at s.objective.now) →
+        ConstraintShape n (named_of constraint_of c)) × ConstraintFits (constraint_of c.item) };
 
     #[tactic(auto, unfolding(vipr_spec::specs::Reading::constraint_read))]
     fn parse<R: Source>(
@@ -76,17 +81,15 @@ impl<R: Source> Parser<R> {
         many(self, alloc, &One(NameKind(alloc)), count)
     }
 
-    /// The integer variables. One that stands twice is kept once.
-    #[tactic(auto, using(crate::proofs::Below::set_below), unfolding(vipr_spec::specs::Reading::integers_read))]
-    fn integers(&mut self, alloc: Global) -> Result<Ints, Stop>
-        ensures read { Parses (λ ints. ints) (integers_read self.old.variables)
-            self.old self.new result }
-        ensures below { IfOk result (λ ints. (j : ℕ) → IsInteger ints j → j < self.old.variables) }
+    /// The integer variables, of so many. One that stands twice is kept once.
+    #[tactic(auto, unfolding(vipr_spec::specs::Reading::integers_read))]
+    fn integers(&mut self, alloc: Global, variables: u32) -> Result<Ints, Stop>
+        ensures read { Parses (λ ints. ints) (integers_read variables) self.old self.new result }
+        ensures below { IfOk result (λ ints. (j : ℕ) → IsInteger ints j → j < variables) }
     {
         self.take(&Word(b"INT", cause::WRONG_KEYWORD))?;
         let count = self.take(&Count)?;
-        let variable = Variable(self.variables());
-        let indices = many(self, alloc, &One(variable), count)?;
+        let indices = many(self, alloc, &One(Variable(variables)), count)?;
         Ok(Ints::from_indices(alloc, indices)?)
     }
 
@@ -116,7 +119,8 @@ impl<R: Source> Parser<R> {
         ensures read { Parses (λ x. (x.0, map (named_of constraint_of) x.1.items))
             (constraints_read self.old.variables objective.now) self.old self.new result }
         ensures bounds { IfOk result (λ x. x.0 ≤ most_count) }
-        ensures few { IfOk result (λ x. length (map (named_of constraint_of) x.1.items) ≤ most_count) }
+        ensures few { IfOk result
+            (λ x. length (map (named_of constraint_of) x.1.items) ≤ most_count) }
         ensures shape { IfOk result (λ x.
             All (ConstraintShape self.old.variables) (map (named_of constraint_of) x.1.items)) }
         ensures fit { IfOk result (λ x.
@@ -163,8 +167,9 @@ impl<R: Source> Parser<R> {
     {
         self.version()?;
         let names = self.names(alloc)?;
-        self.set_variables(alloc, names.len() as u32)?;
-        let ints = self.integers(alloc)?;
+        let variables = names.len() as u32;
+        self.set_variables(alloc, variables)?;
+        let ints = self.integers(alloc, variables)?;
         let (goal, objective) = self.objective(alloc)?;
         let (bound_count, constraints) = self.constraints(alloc, &objective)?;
         let claim = self.claim()?;

@@ -1,5 +1,6 @@
 -- What a call gave, against what the reading of the rest gives, where the rest is known
-use Rattle.std.specs.Prelude.{◌≡◌, false, [], Option, Some, None, Result, Ok, Err, IsSome, IfSome, IfOk}
+use Rattle.std.specs.Prelude.{◌≡◌, false, [], Option, Some, None, Result, Ok, Err, IsSome, IfSome}
+use Rattle.std.specs.Prelude.{IfOk}
 use Rattle.vipr_spec.specs.Reading.{Rest, Fault, Read, token_read}
 use Rattle.vipr_scan.specs.Faults.{IsFaultOf}
 use Rattle.vipr_scan.specs.declared.error.Stop.{Stop}
@@ -24,6 +25,7 @@ abbrev pub Ends : Result (Unit {0}) Stop → Result (Unit {0}) Fault → Type 0
 Ends (Ok done) r = r ≡ Ok tt
 Ends (Err e) r = IsFaultOf e r
 
--- where the next token is there in full, and no longer than a token may be, this is the rest behind it
+-- where the next token is there in full, and no longer than a token may be, this is the rest
+-- behind it
 abbrev pub IsBehind : Option Rest → Option Rest → Type 0
 IsBehind old new = IfSome old (λ l. IfOk (token_read l) (λ t. new ≡ Some t.1))

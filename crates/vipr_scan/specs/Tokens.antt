@@ -36,7 +36,8 @@ ends_reading (Ok (Some s)) = s.long
 ends_reading (Err e) = true
 
 -- it failed where that ended the reading, else the other tokens are left
-pub record Follows (old : Reading) (answer : Result (Option Seen) TextError) (new : Reading) : Type 0 where
+pub record Follows (old : Reading) (answer : Result (Option Seen) TextError) (new : Reading)
+    : Type 0 where
   pub failed : old.failed ≡ false → new.failed ≡ ends_reading answer
   pub stays : old.failed ≡ true → new ≡ old
   pub rest : old.failed ≡ false → new.failed ≡ false → IsSome old.rest →

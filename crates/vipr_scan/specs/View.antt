@@ -1,5 +1,7 @@
 -- What a reader of tokens has left.
-use Rattle.std.specs.Prelude.{◌≡◌, ℕ, ◌+◌, ◌^◌, ◌<◌, nat_lt, Bool, true, false, List, [], ◌∷◌, ◌++◌, length, take, drop, Option, Some, None, Result, Ok, Err, slice_range, slice_index, IfSome, if◌then◌else◌, option_and_then}
+use Rattle.std.specs.Prelude.{◌≡◌, ℕ, ◌+◌, ◌^◌, ◌<◌, nat_lt, Bool, true, false, List, [], ◌∷◌, ◌++◌}
+use Rattle.std.specs.Prelude.{length, take, drop, Option, Some, None, Result, Ok, Err, slice_range}
+use Rattle.std.specs.Prelude.{slice_index, IfSome, if◌then◌else◌, option_and_then}
 use Rattle.std.specs.Option.{option_map}
 use Rattle.vipr_spec.specs.Input.{Input}
 use Rattle.vipr_spec.specs.Tokens.{Token, is_white}
@@ -20,22 +22,27 @@ unread t = slice_range t.buf.value t.start t.end
 abbrev pub prepend : List ℕ → Input → Input
 prepend bytes i = record { bytes = bytes ++ i.bytes; fails = i.fails }
 
--- what reads will give from here on, where it is told
+-- what reads will give from here on, where it is known
 abbrev pub source_left : {R : Type 0} → (R → Option Input) → Window R → Option Input
-source_left input t = if t.ended then Some (record { bytes = []; fails = false }) else input t.source
+source_left input t =
+    if t.ended then Some (record { bytes = []; fails = false }) else input t.source
 
--- the input from the first byte not yet taken on, where it is told
+-- the input from the first byte not yet taken on, where it is known
 abbrev pub input_left : {R : Type 0} → (R → Option Input) → Window R → Option Input
 input_left input t = option_map (prepend (unread t)) (source_left input t)
 
 -- of an input that ends at an offset below 2^64
 abbrev pub left_of : Place → ℕ → Input → Option Rest
-left_of place offset i = if nat_lt (offset + length i.bytes) (2 ^ 64) then Some (record { tokens = tokens_in place i.fails offset i.bytes; fails = i.fails; length = offset + length i.bytes }) else None
+left_of place offset i =
+    let end = offset + length i.bytes in
+    let tokens = tokens_in place i.fails offset i.bytes in
+    let rest : Rest = record { tokens = tokens; fails = i.fails; length = end } in
+    if nat_lt end (2 ^ 64) then Some rest else None
 
 abbrev pub left : {R : Type 0} → (R → Option Input) → Window R → Option Rest
 left input t = option_and_then (left_of t.place t.offset) (input_left input t)
 
--- what was told stays so
+-- what was known stays so
 abbrev pub Keeps : Option Rest → Option Rest → Type 0
 Keeps old new = IfSome old (λ l. new ≡ Some l)
 
@@ -45,7 +52,8 @@ IsOver old fails = IfSome old (λ l. (l.tokens ≡ []) × (l.fails ≡ fails))
 
 -- a token stands at the front of the unread bytes
 abbrev pub IsAtToken : {R : Type 0} → Window R → Type 0
-IsAtToken t = (0 < length (unread t)) × (t.place ≡ Past) × (is_white (slice_index (unread t) 0) ≡ false)
+IsAtToken t =
+    (0 < length (unread t)) × (t.place ≡ Past) × (is_white (slice_index (unread t) 0) ≡ false)
 
 -- the reads that may still come, and one for the end
 abbrev pub rounds : {R : Type 0} → (R → ℕ) → Window R → ℕ
@@ -58,10 +66,12 @@ pub record Seen : Type 0 where
   pub long : Bool
 
 abbrev pub seen_of : Token → Seen
-seen_of w = record { bytes = take 65535 w.bytes; offset = w.offset; long = nat_lt 65535 (length w.bytes) }
+seen_of w =
+    record { bytes = take 65535 w.bytes; offset = w.offset; long = nat_lt 65535 (length w.bytes) }
 
 abbrev pub seen_found : List ℕ → Found → Seen
-seen_found buf f = record { bytes = slice_range buf f.start (f.start + f.len); offset = f.offset; long = f.long }
+seen_found buf f =
+    record { bytes = slice_range buf f.start (f.start + f.len); offset = f.offset; long = f.long }
 
 -- the answer where these tokens are left
 abbrev pub first_answer : List Token → Bool → Result (Option Seen) Stop

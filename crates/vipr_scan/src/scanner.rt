@@ -1,4 +1,5 @@
-ghost use Rattle.std.specs.Prelude.{◌≡◌, ◌≢◌, ◌^◌, ◌<◌, length, Some, IfOk, IfSome, IfErr, OnOk, IsSome};
+ghost use Rattle.std.specs.Prelude.{◌≡◌, ◌≢◌, ◌^◌, ◌<◌, length, Some, IfOk, IfSome, IfErr, OnOk};
+ghost use Rattle.std.specs.Prelude.{IsSome};
 ghost use Rattle.vipr_bytes.specs.Known.{IfKnown, text_of};
 ghost use Rattle.vipr_spec.specs.Reading.{taken, end_read};
 ghost use Rattle.vipr_scan.specs.Giving.{Scans, Ends, IsBehind, rest_of};
@@ -10,8 +11,8 @@ use std::alloc::{AllocError, Global};
 use std::marker::Model;
 use vipr_bytes::Source;
 
-/// Takes the tokens of a text one by one, over a buffer of 65,536 bytes. In contracts it is the rest of
-/// the text, where that is known.
+/// Takes the tokens of a text one by one, over a buffer of 65,536 bytes. In contracts it is the
+/// rest of the text, where that is known.
 #[derive(Drop)]
 pub struct Scanner<R: Source> {
     window: Window<R>,

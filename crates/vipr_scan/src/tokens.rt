@@ -1,4 +1,5 @@
-ghost use Rattle.std.specs.Prelude.{◌≡◌, ◌⊎◌, ◌↔◌, ◌+◌, ◌≤◌, true, false, slice_range, IfOk, IfSome, IfErr, IsErrOf, IsSome, Some};
+ghost use Rattle.std.specs.Prelude.{◌≡◌, ◌⊎◌, ◌↔◌, ◌+◌, ◌≤◌, true, false, slice_range, IfOk};
+ghost use Rattle.std.specs.Prelude.{IfSome, IfErr, IsErrOf, IsSome, Some};
 ghost use Rattle.std.specs.Borrow.{sem};
 ghost use Rattle.std.specs.Io.BufRead.{Rests};
 ghost use Rattle.vipr_bytes.specs.Known.{IfKnown, text_of};
@@ -38,7 +39,8 @@ impl<R: Source> Reader<R> {
     /// Finds the next token, and takes it.
     fn advance(&mut self) -> Result<Option<Found>, TextError>
         ensures spent { IsErrOf result TextError.Spent ↔ (self.old.failed ≡ true) }
-        ensures failed { self.new.failed ≡ ends_reading (seen (seen_found self.new.window.buf.value) result) }
+        ensures failed { self.new.failed ≡
+            ends_reading (seen (seen_found self.new.window.buf.value) result) }
         ensures unchanged { self.old.failed ≡ true → self.new ≡ self.old }
         ensures answer { self.old.failed ≡ false → IfSome (left R.input self.old.window)
             (λ l. seen (seen_found self.new.window.buf.value) result ≡ public_answer l) }
@@ -87,7 +89,8 @@ impl<R: Source> Tokens<R> {
     where
         R: Drop,
         ensures fresh { IfOk result (λ t. t.failed ≡ false) }
-        ensures rest { IfOk result (λ t. IfKnown (R.input source) (λ i. t.rest ≡ Some (text_of i))) }
+        ensures rest { IfOk result
+            (λ t. IfKnown (R.input source) (λ i. t.rest ≡ Some (text_of i))) }
     {
         let window = Window::new(alloc, source)?;
         Ok(Tokens {
@@ -100,8 +103,8 @@ impl<R: Source> Tokens<R> {
 
     /// The next token, or `None` at the end. It takes no memory.
     ///
-    /// It fails only where a read fails before the token's end is known, and after an earlier failure
-    /// or a token that was too long.
+    /// It fails only where a read fails before the token's end is known, and after an earlier
+    /// failure or a token that was too long.
     pub fn next(&mut self) -> Result<Option<Token<'_>>, TextError>
         ensures spent { IsErrOf result TextError.Spent ↔ (self.old.failed ≡ true) }
         ensures token { IfOk result (λ o. IfSome o (λ t. IsToken t.bytes.now)) }

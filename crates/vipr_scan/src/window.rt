@@ -1,4 +1,7 @@
-ghost use Rattle.std.specs.Prelude.{◌≡◌, ℕ, ◌+◌, ◌-◌, ◌^◌, ◌<◌, ◌≤◌, min, Bool, true, false, List, ◌∷◌, ◌++◌, length, drop, slice_index, Option, Some, None, Ok, Err, IfOk, IfSome, IfErr, IfNone, IsErrOf, ◌↔◌, take, OnOk, OnErr, slice_range, ◌≢◌};
+ghost use Rattle.std.specs.Prelude.{◌≡◌, ℕ, ◌+◌, ◌-◌, ◌^◌, ◌<◌, ◌≤◌, min, Bool, true, false, List};
+ghost use Rattle.std.specs.Prelude.{◌∷◌, ◌++◌, length, drop, slice_index, Option, Some, None, Ok};
+ghost use Rattle.std.specs.Prelude.{Err, IfOk, IfSome, IfErr, IfNone, IsErrOf, ◌↔◌, take, OnOk};
+ghost use Rattle.std.specs.Prelude.{OnErr, slice_range, ◌≢◌};
 ghost use Rattle.vipr_spec.specs.Input.{Input};
 ghost use Rattle.vipr_spec.specs.Tokens.{is_white, IsToken};
 ghost use Rattle.vipr_bytes.specs.Known.{IfKnown, text_of};
@@ -39,7 +42,9 @@ impl<R: Source> Window<R> {
     ghost use Rattle.std.specs.Io.BufRead.{Rests};
     ghost use Rattle.vipr_scan.specs.contracts.window.Window.{the_row};
     ghost use Rattle.vipr_scan.specs.Places.{tokens_in};
-    ghost use Rattle.vipr_scan.specs.View.{unread, input_left, left, rounds, Keeps, IsOver, IsAtToken, seen_found, next_answer, next_left, seen, stops, found_token};
+    ghost use Rattle.vipr_scan.specs.View.{unread, input_left, left, rounds, Keeps, IsOver};
+    ghost use Rattle.vipr_scan.specs.View.{IsAtToken, seen_found, next_answer, next_left, seen};
+    ghost use Rattle.vipr_scan.specs.View.{stops, found_token};
     ghost use Rattle.vipr_scan.specs.Giving.{Scans, Ends, IsBehind};
     ghost use Rattle.vipr_spec.specs.Reading.{token_read, end_read};
 
@@ -70,9 +75,12 @@ impl<R: Source> Window<R> {
         ensures offset { self.new.offset ≡ self.old.offset }
         ensures kept { length (unread self.old) ≤ length (unread self.new) }
         ensures front { take (length (unread self.old)) (unread self.new) ≡ unread self.old }
-        ensures input { OnOk result (IfSome (input_left R.input self.old) (λ i. input_left R.input self.new ≡ Some i)) }
+        ensures input { OnOk result
+            (IfSome (input_left R.input self.old) (λ i. input_left R.input self.new ≡ Some i)) }
         ensures left { OnOk result (Keeps (left R.input self.old) (left R.input self.new)) }
-        ensures err { OnErr result (IfSome (input_left R.input self.old) (λ i. (i.bytes ≡ unread self.old) × (i.fails ≡ true))) }
+        ensures err { OnErr result
+            (IfSome (input_left R.input self.old)
+            (λ i. (i.bytes ≡ unread self.old) × (i.fails ≡ true))) }
         ensures error { IfErr result (λ e. e ≡ Stop.Read) }
         ensures round { OnOk result (rounds R.reads_left self.new < rounds R.reads_left self.old) }
     {
@@ -113,9 +121,12 @@ impl<R: Source> Window<R> {
     fn skip(&mut self) -> Result<(), Stop>
         ensures left { OnOk result (Keeps (left R.input self.old) (left R.input self.new)) }
         ensures token { OnOk result (0 < length (unread self.new) → IsAtToken self.new) }
-        ensures end { OnOk result (length (unread self.new) ≡ 0 → IsOver (left R.input self.old) false) }
+        ensures end { OnOk result
+            (length (unread self.new) ≡ 0 → IsOver (left R.input self.old) false) }
         ensures length { OnOk result (length (unread self.new) ≡ self.new.end - self.new.start) }
-        ensures reached { OnOk result (length (unread self.new) ≡ 0 → IfSome (left R.input self.old) (λ l. self.new.offset ≡ l.length)) }
+        ensures reached { OnOk result
+            (length (unread self.new) ≡ 0 →
+            IfSome (left R.input self.old) (λ l. self.new.offset ≡ l.length)) }
         ensures failed { OnErr result (IsOver (left R.input self.old) true) }
         ensures error { IfErr result (λ e. e ≡ Stop.Read) }
     {
@@ -134,9 +145,13 @@ impl<R: Source> Window<R> {
         ensures left { OnOk result (Keeps (left R.input self.old) (left R.input self.new)) }
         ensures within { IfOk result (λ n. n ≤ length (unread self.new)) }
         ensures token { IfOk result (λ n. 0 < n) }
-        ensures run { IfOk result (λ n. (k : ℕ) → k < n → is_white (slice_index (unread self.new) k) ≡ false) }
-        ensures white { IfOk result (λ n. n < length (unread self.new) → is_white (slice_index (unread self.new) n) ≡ true) }
-        ensures whole { IfOk result (λ n. n < 65536 → n ≡ length (unread self.new) → self.new.ended ≡ true) }
+        ensures run { IfOk result
+            (λ n. (k : ℕ) → k < n → is_white (slice_index (unread self.new) k) ≡ false) }
+        ensures white { IfOk result
+            (λ n. n < length (unread self.new) →
+            is_white (slice_index (unread self.new) n) ≡ true) }
+        ensures whole { IfOk result
+            (λ n. n < 65536 → n ≡ length (unread self.new) → self.new.ended ≡ true) }
         ensures place { OnOk result (self.new.place ≡ Place.Past) }
         ensures failed { OnErr result (IsOver (left R.input self.old) true) }
         ensures error { IfErr result (λ e. e ≡ Stop.Read) }
@@ -159,12 +174,16 @@ impl<R: Source> Window<R> {
         requires token { 0 < n }
         requires limit { n ≤ 65536 }
         requires run { (k : ℕ) → k < n → is_white (slice_index (unread self.old) k) ≡ false }
-        requires white { n < length (unread self.old) → is_white (slice_index (unread self.old) n) ≡ true }
+        requires white { n < length (unread self.old) →
+            is_white (slice_index (unread self.old) n) ≡ true }
         requires whole { n < 65536 → n ≡ length (unread self.old) → self.old.ended ≡ true }
-        ensures answer { IfSome (left R.input self.old) (λ l. Ok (Some (seen_found self.new.buf.value result)) ≡ next_answer l) }
-        ensures left { result.long ≡ false → IfSome (left R.input self.old) (λ l. left R.input self.new ≡ Some (next_left l)) }
+        ensures answer { IfSome (left R.input self.old)
+            (λ l. Ok (Some (seen_found self.new.buf.value result)) ≡ next_answer l) }
+        ensures left { result.long ≡ false →
+            IfSome (left R.input self.old) (λ l. left R.input self.new ≡ Some (next_left l)) }
         ensures within { result.start + result.len ≤ 65536 }
-        ensures token { IsToken (slice_range self.new.buf.value result.start (result.start + result.len)) }
+        ensures token { IsToken
+            (slice_range self.new.buf.value result.start (result.start + result.len)) }
     {
         let found = Found {
             start: self.start,
@@ -179,11 +198,16 @@ impl<R: Source> Window<R> {
 
     /// Finds the next token, and takes it.
     pub(crate) fn advance(&mut self) -> Result<Option<Found>, Stop>
-        ensures answer { IfSome (left R.input self.old) (λ l. seen (seen_found self.new.buf.value) result ≡ next_answer l) }
-        ensures left { stops (seen (seen_found self.new.buf.value) result) ≡ false → IfSome (left R.input self.old) (λ l. left R.input self.new ≡ Some (next_left l)) }
-        ensures end { result ≡ Ok None → IfSome (left R.input self.old) (λ l. self.new.offset ≡ l.length) }
+        ensures answer { IfSome (left R.input self.old)
+            (λ l. seen (seen_found self.new.buf.value) result ≡ next_answer l) }
+        ensures left { stops (seen (seen_found self.new.buf.value) result) ≡ false →
+            IfSome (left R.input self.old) (λ l. left R.input self.new ≡ Some (next_left l)) }
+        ensures end { result ≡ Ok None →
+            IfSome (left R.input self.old) (λ l. self.new.offset ≡ l.length) }
         ensures within { IfOk result (λ o. IfSome o (λ f. f.start + f.len ≤ 65536)) }
-        ensures token { IfOk result (λ o. IfSome o (λ f. IsToken (slice_range self.new.buf.value f.start (f.start + f.len)))) }
+        ensures token { IfOk result
+            (λ o. IfSome o
+            (λ f. IsToken (slice_range self.new.buf.value f.start (f.start + f.len)))) }
         ensures error { IfErr result (λ e. e ≡ Stop.Read) }
     {
         self.skip()?;
@@ -202,7 +226,8 @@ impl<R: Source> Window<R> {
             (left R.input self.old) (left R.input self.new) result }
         ensures behind { IsBehind (left R.input self.old) (left R.input self.new) }
         ensures within { IfOk result (λ f. f.start + f.len ≤ 65536) }
-        ensures token { IfOk result (λ f. IsToken (slice_range self.new.buf.value f.start (f.start + f.len))) }
+        ensures token { IfOk result
+            (λ f. IsToken (slice_range self.new.buf.value f.start (f.start + f.len))) }
         ensures error { IfErr result (λ e. e ≢ Stop.Memory) }
     {
         let Some(found) = self.advance()? else {
