@@ -44,6 +44,7 @@ pub fn read_certificate<R: Source + Drop>(
 }
 
 // The certificate that the parser is at the start of.
+#[tactic(auto, unfolding(vipr_spec::specs::Reading::certificate_read))]
 fn whole<R: Source + Drop>(alloc: Global, mut parser: Parser<R>) -> Result<Certificate, Stop>
     ensures { IsSome parser.rest
         → IsParsed (λ c. c) result (certificate_read (rest_of parser.rest)) }
