@@ -1,6 +1,7 @@
-//! Reads the derivations of a certificate: one parser over the scanner, and its public reader.
+//! Reads certificates: one parser over the scanner, the public readers, and whole certificates.
 #![tactic(auto)]
 
+mod cert_reader;
 mod certificate;
 mod derivation;
 mod item;
@@ -13,6 +14,7 @@ mod reader;
 #[cfg(test)]
 mod tests;
 
+pub use cert_reader::CertReader;
 pub use certificate::read_certificate;
 pub use reader::{Derivations, Solutions};
-pub use vipr_scan::TextError;
+pub use vipr_scan::{TextError, Token, Tokens};
