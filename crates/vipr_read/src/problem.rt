@@ -1,5 +1,5 @@
 //! Reads the problem, section by section.
-ghost use Rattle.std.specs.Prelude.{◌≡◌, ℕ, ◌<◌, ◌≤◌, length, map, All, OnOk, IfOk, IsSome};
+ghost use Rattle.std.specs.Prelude.{◌≡◌, ℕ, ◌^◌, ◌<◌, ◌≤◌, length, map, All, OnOk, IfOk, IsSome};
 ghost use Rattle.vipr_spec.specs.Constraint.{at, IsInteger, NamesBelow};
 ghost use Rattle.vipr_spec.specs.Constraint.{Constraint as ConstraintMeant};
 ghost use Rattle.vipr_spec.specs.Certificate.{Named as NamedMeant, variables};
@@ -164,6 +164,7 @@ impl<R: Source> Parser<R> {
         ensures read { Scans (λ x. x) problem_read self.old.rest self.new.rest result }
         ensures variables { IfOk result (λ x. self.new.variables ≡ variables x.0) }
         ensures shape { IfOk result (λ x. ProblemShape x.0) }
+        ensures counted { IfOk result (λ x. x.1 < 2 ^ 32) }
     {
         self.version()?;
         let names = self.names(alloc)?;
