@@ -18,8 +18,8 @@ use vipr_scan::{Scanner, Stop, TextError};
 ///
 /// # Errors
 ///
-/// `Refused` where the text spells no certificate, `Read` where a read fails before that is known, and
-/// `Memory` where a growth is refused.
+/// `Refused` where the text spells no certificate, `Read` where a read fails before that is known,
+/// and `Memory` where a growth is refused.
 pub fn read_certificate<R: Source + Drop>(
     alloc: Global,
     source: R,

@@ -1,7 +1,8 @@
 //! The items of a certificate whose problem is known: its listed solutions and its derivations.
 ghost use Rattle.std.specs.Prelude.{◌≡◌, ℕ, map, length, All, IfOk};
 ghost use Rattle.vipr_spec.specs.Constraint.{Row as RowMeant, at, NamesBelow};
-ghost use Rattle.vipr_spec.specs.Certificate.{Problem as ProblemMeant, variables as variables_in, Named as NamedMeant, Derivation as DerivationMeant};
+ghost use Rattle.vipr_spec.specs.Certificate.{Problem as ProblemMeant, variables as variables_in};
+ghost use Rattle.vipr_spec.specs.Certificate.{Named as NamedMeant, Derivation as DerivationMeant};
 ghost use Rattle.vipr_spec.specs.Reading.{Rest, Read, repeated, solution_read, derivation_read};
 ghost use Rattle.vipr_spec.specs.Shape.{RowFits, SolutionShape, DerivationShape, DerivationFits};
 ghost use Rattle.vipr_items.specs.Items.{solution_of, derivation_of};

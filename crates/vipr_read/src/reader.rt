@@ -1,8 +1,10 @@
 //! Reads the items of a certificate one by one.
-ghost use Rattle.std.specs.Prelude.{◌≡◌, ◌≢◌, ◌^◌, ◌+◌, ◌<◌, suc, MatchOption, true, false, Ok, None, IfOk, IfErr, IfSome, OnOk, OnErr, IsErrOf, IsSome, ◌↔◌};
+ghost use Rattle.std.specs.Prelude.{◌≡◌, ◌≢◌, ◌↔◌, ◌^◌, ◌+◌, ◌<◌, suc, true, false, Ok, None};
+ghost use Rattle.std.specs.Prelude.{IfOk, IfErr, IfSome, OnOk, OnErr, IsErrOf, IsSome, MatchOption};
 ghost use Rattle.vipr_spec.specs.Constraint.{at, NamesBelow};
 ghost use Rattle.vipr_spec.specs.Certificate.{Problem as ProblemMeant};
-ghost use Rattle.vipr_spec.specs.Reading.{solution_read, derivations_read, derivation_read, end_read};
+ghost use Rattle.vipr_spec.specs.Reading.{solution_read, derivations_read, derivation_read};
+ghost use Rattle.vipr_spec.specs.Reading.{end_read};
 ghost use Rattle.vipr_spec.specs.Shape.{RowFits, SolutionShape, DerivationShape};
 ghost use Rattle.vipr_items.specs.Items.{solution_of, derivation_of};
 ghost use Rattle.vipr_scan.specs.Giving.{rest_of};
@@ -161,8 +163,8 @@ impl<R: Source> Solutions<R> {
     ///
     /// # Errors
     ///
-    /// `Refused` where the text is at fault, `Read` where a read failed, and `Memory` where a growth was
-    /// refused; after an error `Spent`.
+    /// `Refused` where the text is at fault, `Read` where a read failed, and `Memory` where a growth
+    /// was refused; after an error `Spent`.
     pub fn next(&mut self, alloc: Global) -> Result<Option<Named<Solution>>, TextError>
         ensures spent { IsErrOf result TextError.Spent ↔ (self.old.failed ≡ true) }
         ensures failed { OnErr result (self.new.failed ≡ true) }
@@ -194,7 +196,8 @@ impl<R: Source> Solutions<R> {
         ensures working { IfOk result (λ d. d.failed ≡ false) }
         ensures counted { IfOk result (λ d. d.constraints + d.left < 2 ^ 32) }
         ensures read { (p : ProblemMeant) → Knows self p → IsSome self.rest
-            → GivesFrom (λ d. d.left) (λ d. d.rest) result (derivations_read p (rest_of self.rest)) }
+            → GivesFrom (λ d. d.left) (λ d. d.rest) result
+            (derivations_read p (rest_of self.rest)) }
     {
         let mut items = self.items;
         if items.failed {
@@ -232,8 +235,8 @@ impl<R: Source> Derivations<R> {
     ///
     /// # Errors
     ///
-    /// `Refused` where the text is at fault, `Read` where a read failed, and `Memory` where a growth was
-    /// refused; after an error `Spent`.
+    /// `Refused` where the text is at fault, `Read` where a read failed, and `Memory` where a growth
+    /// was refused; after an error `Spent`.
     pub fn next(&mut self, alloc: Global) -> Result<Option<Derivation>, TextError>
         ensures spent { IsErrOf result TextError.Spent ↔ (self.old.failed ≡ true) }
         ensures failed { OnErr result (self.new.failed ≡ true) }
