@@ -7,9 +7,9 @@ ghost use Rattle.vipr_items.specs.Items.{certificate_with, solution_of, reason_o
 ghost use Rattle.vipr_items.specs.Earlier.{NameEarlierFrom};
 
 use crate::items::{Derivation, Named, Reason};
+use crate::limits;
 use crate::name::BadShape;
 use crate::problem::Problem;
-use crate::{facts, limits};
 use std::marker::Model;
 use vipr_frac::Frac;
 use vipr_linear::Solution;
@@ -52,23 +52,34 @@ impl Certificate {
         ensures shape { IsOk result ↔ CertificateShape (certificate_with problem solutions.items derivations.items) }
         ensures parts { IfOk result (λ c. c ≡ certificate_with problem solutions.items derivations.items) }
     {
-        facts::solutions(&solutions);
-        facts::derivations(&derivations);
         let variables = problem.names().len() as u32;
         let room = u32::MAX as usize - problem.cons().len();
         if !limits::is_count(solutions.len()) || derivations.len() > room {
             return Err(BadShape);
         }
-        if !limits::solutions_are_within(&solutions, variables)
-            || !limits::derivations_are_within(&derivations, variables)
+        if !limits::are_within(&solutions, variables)
+            || !limits::are_within(&derivations, variables)
         {
             return Err(BadShape);
         }
-        Ok(Certificate {
+        Ok(Certificate::of_parts(problem, solutions, derivations))
+    }
+
+    /// The certificate of parts that are known to be within the limits. Nothing is tested.
+    pub fn of_parts(
+        problem: Problem,
+        solutions: Vec<Named<Solution>>,
+        derivations: Vec<Derivation>,
+    ) -> Certificate
+        requires { CanWrite (certificate_with problem solutions.items derivations.items) }
+        ensures parts { result ≡ certificate_with problem solutions.items derivations.items }
+        ensures writes { CanWrite result }
+    {
+        Self {
             problem,
             solutions,
             derivations,
-        })
+        }
     }
 
     /// The certificate of parts that are known to be within the limits. Nothing is tested.

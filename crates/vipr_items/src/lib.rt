@@ -2,7 +2,6 @@
 #![tactic(auto)]
 
 mod certificate;
-mod facts;
 mod items;
 mod limits;
 mod name;

@@ -6,8 +6,8 @@ ghost use Rattle.vipr_linear.specs.Constraint.{constraint_of};
 ghost use Rattle.vipr_items.specs.Items.{problem_with, named_of, direction_of, claim_of};
 
 use crate::items::{Claim, Goal, Named};
+use crate::limits;
 use crate::name::{BadShape, Name};
-use crate::{facts, limits};
 use std::marker::Model;
 use vipr_linear::{Constraint, Ints, Row};
 
@@ -59,10 +59,9 @@ impl Problem {
         ensures shape { IsOk result ↔ ProblemShape (problem_with names.items ints sense objective cons.items bound_count claim) }
         ensures parts { IfOk result (λ p. p ≡ problem_with names.items ints sense objective cons.items bound_count claim) }
     {
-        facts::names(&names);
-        facts::row(&objective);
-        facts::constraints(&cons);
-        facts::claim(&claim);
+        limits::names(&names);
+        limits::claim(&claim);
+        let _ = objective.entries();
         if !limits::is_count(names.len()) {
             return Err(BadShape);
         }
@@ -70,10 +69,29 @@ impl Problem {
         if !limits::is_count(cons.len()) || !limits::are_below(&ints, variables) {
             return Err(BadShape);
         }
-        if !objective.names_below(variables) || !limits::constraints_are_within(&cons, variables) {
+        if !objective.names_below(variables) || !limits::are_within(&cons, variables) {
             return Err(BadShape);
         }
-        Ok(Problem {
+        Ok(Problem::of_parts(names, ints, sense, objective, cons, bound_count, claim))
+    }
+
+    /// The problem of parts that are known to be within the limits. Nothing is tested.
+    pub fn of_parts(
+        names: Vec<Name>,
+        ints: Ints,
+        sense: Goal,
+        objective: Row,
+        cons: Vec<Named<Constraint>>,
+        bound_count: u32,
+        claim: Claim,
+    ) -> Problem
+        requires { CanWriteProblem
+            (problem_with names.items ints sense objective cons.items bound_count claim) }
+        ensures parts { result
+            ≡ problem_with names.items ints sense objective cons.items bound_count claim }
+        ensures writes { CanWriteProblem result }
+    {
+        Self {
             names,
             ints,
             sense,
@@ -81,7 +99,7 @@ impl Problem {
             cons,
             bound_count,
             claim,
-        })
+        }
     }
 
     /// The variables' names.

@@ -1,5 +1,5 @@
 -- Lists of pairs as rows: order, look-ups, and that the order of the pairs makes no difference
-use Rattle.std.proofs.Common.{◌≡◌, ◌≢◌, ℕ, zero, suc, ◌+◌, ◌-◌, ◌<◌, ◌≤◌, take, drop, Bool, true, false, not, cond, nat_eq, List, [], ◌∷◌, ◌++◌, length, get_or, filter, Contains, Option, Some, None, IfSome, ℤ, pos, ◌*ℤ◌, T, arith, refl, sym, ◌∙◌, ap, subst, append_assoc, ◌||◌, ◌&&◌, unwrap_or, inl, inr, ◌⊎◌}
+use Rattle.std.proofs.Common.{◌≡◌, ◌≢◌, ℕ, zero, suc, ◌+◌, ◌-◌, ◌<◌, ◌≤◌, take, drop, Bool, true, false, not, cond, nat_eq, List, [], ◌∷◌, ◌++◌, length, get_or, filter, All, Contains, Option, Some, None, IfSome, ℤ, pos, ◌*ℤ◌, T, arith, refl, sym, ◌∙◌, ap, subst, append_assoc, ◌||◌, ◌&&◌, unwrap_or, inl, inr, ◌⊎◌}
 use Rattle.std.specs.Prelude.{◌↔◌}
 use Rattle.std.proofs.lemmas.Bool.{cases_eq}
 use Rattle.std.proofs.lemmas.Bool.Decides.{nat_tests, Decides-int_eq}
@@ -8,7 +8,7 @@ use Rattle.std.specs.Bool.{Decides, ◌==◌}
 use Rattle.std.specs.Cmp.Lexicographic.{pointwise}
 use Rattle.std.proofs.lemmas.Int.{ints}
 use Rattle.std.proofs.lemmas.List.{get_or-map, length-map, take_more, take-append-drop}
-use Rattle.std.proofs.lemmas.List.Elements.{All-contains, All-filter, Contains-get_or, filter_passes}
+use Rattle.std.proofs.lemmas.List.Elements.{All-nil, All-cons, All-contains, All-filter, Contains-get_or, filter_passes}
 use Rattle.std.proofs.lemmas.List.Folds.{list_any-append}
 use Rattle.std.proofs.lemmas.List.Sorted.{Contains-permutation, IsPermutation-map}
 use Rattle.std.proofs.lemmas.Map.Keys.{IsDistinct-push, IsDistinct-from_apart, below_from_sorted, sorted_head, sorted_tail, sorted_from_strictly_increasing, IsDistinct-IsPermutation, IsStrictlyIncreasing-from_distinct}
@@ -23,9 +23,10 @@ use Rattle.std.specs.List.Sorted.{IsPermutation, IsNonDecreasing, IsNonDecreasin
 use Rattle.std.specs.Map.{lookup}
 use Rattle.std.specs.BTreeMap.{is_at}
 use Rattle.std.specs.Ordering.{nat_cmp, int_eq, eq_by_cmp}
-use Rattle.vipr_spec.specs.Fraction.{ℚ, zero_ℚ, over}
+use Rattle.vipr_spec.specs.Fraction.{ℚ, zero_ℚ, over, IsBounded}
 use Rattle.vipr_spec.specs.FractionOrder.{eq_ℚ}
 use Rattle.vipr_spec.specs.Gcd.{gcd}
+use Rattle.vipr_spec.specs.Shape.{RowFits}
 use Rattle.vipr_spec.specs.Constraint.{Row, at}
 use Rattle.vipr_spec.specs.Reading.{is_nonzero, row_of}
 use Rattle.vipr_spec.proofs.Fractions.{same_ℚ}
@@ -33,7 +34,7 @@ use Rattle.vipr_spec.proofs.FractionOrders.{eq_is}
 use Rattle.vipr_spec.proofs.Loops.{same_rows}
 use Rattle.vipr_spec.proofs.Fractions.{zero_from_numer}
 use Rattle.vipr_spec.proofs.PairRows.{not_zero}
-use Rattle.vipr_linear.specs.Row.{RisesFrom, variables_of, IsFirstRepeated}
+use Rattle.vipr_linear.specs.Row.{RisesFrom, AreEntries, variables_of, IsFirstRepeated}
 use Rattle.vipr_spec.specs.Constraint.{HasNoZeros}
 
 -- ---- zero
@@ -80,6 +81,14 @@ module _ (j : ℕ) where
 
 pub no_zeros : (es : List (ℕ × ℚ)) → RisesFrom 0 es → HasNoZeros (from_sorted es)
 no_zeros es r = λ j. subst (λ (o : Option ℚ). IfSome o (λ a. a ≢ zero_ℚ)) (sym (get-from_sorted nat_cmp es j (rises_sorted 0 es r))) (find_nonzero j 0 es r)
+
+nonzero_from : (low : ℕ) (es : List (ℕ × ℚ)) → RisesFrom low es → All (λ (e : ℕ × ℚ). e.1 ≢ zero_ℚ) es
+nonzero_from low [] r = All-nil (λ (e : ℕ × ℚ). e.1 ≢ zero_ℚ)
+nonzero_from low (e ∷ es) r = All-cons (λ (e : ℕ × ℚ). e.1 ≢ zero_ℚ) e es r.1 (nonzero_from (e.0 + 1) es r.2)
+
+-- the row of such entries has numbers that can be written
+pub entries_fit : (es : List (ℕ × ℚ)) → AreEntries es → RowFits (from_sorted es)
+entries_fit es a = subst (All (λ (e : ℕ × ℚ). (e.1 ≢ zero_ℚ) × IsBounded e.1)) (sym (entries-from_sorted nat_cmp es (rises_sorted 0 es a.rising))) (λ k d l. (nonzero_from 0 es a.rising k d l, a.bounded k d l))
 
 pub find_lookup : (q : ℕ) (es : List (ℕ × ℚ)) → find nat_cmp q es ≡ lookup (nat_eq q) es
 find_lookup q [] = refl

@@ -1,14 +1,19 @@
 -- Rows as lists of variables with coefficients
-use Rattle.std.specs.Prelude.{◌≡◌, ◌≢◌, ℕ, ◌+◌, ◌≤◌, nat_eq, List, [], ◌∷◌, ◌++◌, map, Contains, IfSome}
+use Rattle.std.specs.Prelude.{◌≡◌, ◌≢◌, ℕ, ◌+◌, ◌≤◌, nat_eq, List, [], ◌∷◌, ◌++◌, map, Contains, IfSome, All}
 use Rattle.std.specs.List.{IsDistinct}
 use Rattle.std.specs.FinMap.{get}
-use Rattle.vipr_spec.specs.Fraction.{ℚ, zero_ℚ}
+use Rattle.vipr_spec.specs.Fraction.{ℚ, zero_ℚ, IsBounded}
 use Rattle.vipr_spec.specs.Constraint.{Row}
 
 -- the variables rise from `low` on, and no coefficient is 0
 abbrev pub RisesFrom : ℕ → List (ℕ × ℚ) → Type 0
 RisesFrom low [] = Unit {0}
 RisesFrom low (e ∷ es) = (low ≤ e.0) × (e.1 ≢ zero_ℚ) × RisesFrom (e.0 + 1) es
+
+-- the entries of a row
+pub record AreEntries (es : List (ℕ × ℚ)) : Type 0 where
+  pub rising : RisesFrom 0 es
+  pub bounded : All (λ e. IsBounded e.1) es
 
 abbrev pub variables_of : List (ℕ × ℚ) → List ℕ
 variables_of pairs = map (λ p. p.0) pairs

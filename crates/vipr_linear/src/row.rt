@@ -4,10 +4,11 @@ ghost use Rattle.std.specs.Ordering.{int_eq};
 ghost use Rattle.std.specs.List.{IsDistinct};
 ghost use Rattle.std.specs.List.Sorted.{IsPermutation, IsNonDecreasingBy, IsStrictlyIncreasing};
 ghost use Rattle.std.specs.FinMap.{entries, from_sorted};
-ghost use Rattle.vipr_spec.specs.Fraction.{zero_ℚ};
+ghost use Rattle.vipr_spec.specs.Fraction.{zero_ℚ, IsBounded};
 ghost use Rattle.vipr_spec.specs.Constraint.{at, NamesBelow};
 ghost use Rattle.vipr_spec.specs.Reading.{is_nonzero, row_of};
-ghost use Rattle.vipr_linear.specs.Row.{RisesFrom, variables_of, IsFirstRepeated};
+ghost use Rattle.vipr_spec.specs.Shape.{RowFits};
+ghost use Rattle.vipr_linear.specs.Row.{RisesFrom, AreEntries, variables_of, IsFirstRepeated};
 ghost use Rattle.vipr_spec.specs.Constraint.{HasNoZeros};
 
 use std::alloc::{AllocError, Global};
@@ -26,7 +27,7 @@ impl Model for Row {
     ghost use Rattle.std.specs.Ordering.{nat_cmp};
     ghost use Rattle.std.specs.FinMap.{FinMap, code, from_sorted};
     ghost use Rattle.vipr_spec.specs.Fraction.{ℚ, coded_ℚ};
-    ghost use Rattle.vipr_linear.specs.Row.{RisesFrom};
+    ghost use Rattle.vipr_linear.specs.Row.{AreEntries};
 
     ghost Value = { FinMap nat_cmp ℚ };
 
@@ -34,7 +35,7 @@ impl Model for Row {
 
     ghost view = { λ a. from_sorted a.entries.items };
 
-    ghost invariant = { λ a. RisesFrom 0 a.entries.items };
+    ghost invariant = { λ a. AreEntries a.entries.items };
 }
 
 impl Clone for Row {
@@ -81,9 +82,21 @@ impl Row {
         Ok(Row { entries })
     }
 
+    /// The row of these coefficients, in any order, where the variables differ. Coefficients 0 are
+    /// dropped. It takes no memory.
+    pub fn from_distinct(pairs: Vec<(u32, Frac)>) -> Row
+        requires { IsDistinct nat_eq (variables_of pairs.items) }
+        ensures row { result ≡ row_of pairs.items }
+        ensures fits { RowFits result }
+    {
+        let mut entries = distinct_in_order(pairs);
+        drop_zeros(&mut entries);
+        Row { entries }
+    }
+
     /// The row of coefficients that are not 0, whose variables rise.
     pub(crate) fn from_rising(entries: Vec<(u32, Frac)>) -> Row
-        requires { RisesFrom 0 entries.items }
+        requires { AreEntries entries.items }
         ensures { result ≡ from_sorted entries.items }
     {
         Row { entries }
@@ -94,6 +107,7 @@ impl Row {
         ensures list { result.now ≡ entries self.now }
         ensures rising { RisesFrom 0 result.now }
         ensures no_zeros { HasNoZeros self.now }
+        ensures fits { RowFits self.now }
     {
         self.entries.as_slice()
     }
@@ -161,6 +175,20 @@ fn in_order(alloc: Global, pairs: Vec<(u32, Frac)>) -> Result<Vec<(u32, Frac)>, 
     Ok(sorted)
 }
 
+// Pairs whose variables differ, in rising order of these.
+fn distinct_in_order(pairs: Vec<(u32, Frac)>) -> Vec<(u32, Frac)>
+    requires { IsDistinct nat_eq (variables_of pairs.items) }
+    ensures permutation { IsPermutation pairs.items result.items }
+    ensures rising { IsStrictlyIncreasing (variables_of result.items) }
+{
+    if rises(&pairs) {
+        return pairs;
+    }
+    let mut sorted = pairs;
+    sort_by_variable(&mut sorted);
+    sorted
+}
+
 // Whether the variables rise, each standing once.
 fn rises(pairs: &[(u32, Frac)]) -> bool
     ensures { IsTrue result ↔ IsStrictlyIncreasing (variables_of pairs.now) }
@@ -194,14 +222,16 @@ fn sort_by_variable(pairs: &mut Vec<(u32, Frac)>)
 }
 
 fn drop_zeros(pairs: &mut Vec<(u32, Frac)>)
-    ensures { pairs.new.items ≡ filter is_nonzero pairs.old.items }
+    ensures kept { pairs.new.items ≡ filter is_nonzero pairs.old.items }
+    ensures bounded { All (λ p. IsBounded p.1) pairs.new.items }
 {
     pairs.retain(|pair| !is_zero(pair.1));
 }
 
 /// Whether a fraction is 0.
 pub(crate) fn is_zero(x: Frac) -> bool
-    ensures { result ≡ int_eq x.numer (pos 0) }
+    ensures zero { result ≡ int_eq x.numer (pos 0) }
+    ensures bounded { IsBounded x }
 {
     x.numer() == 0
 }

@@ -1,6 +1,6 @@
 //! Partial sums of variables, one place for each, with a list of the touched ones.
 ghost use Rattle.std.specs.Prelude.{◌≡◌, ◌↔◌, ◌<◌, ◌≤◌, ℕ, Bool, true, false, IsOk, IfOk, OnOk, All, [], filter, map, length, slice_index_or, vec_capacity, vec_len};
-ghost use Rattle.vipr_spec.specs.Fraction.{zero_ℚ};
+ghost use Rattle.vipr_spec.specs.Fraction.{zero_ℚ, IsBounded};
 ghost use Rattle.vipr_spec.specs.Reading.{is_nonzero};
 ghost use Rattle.vipr_linear.specs.Accumulator.{with_terms, TermsFitIn};
 ghost use Rattle.vipr_linear.specs.Touched.{Touching, Covers};
@@ -76,7 +76,9 @@ pub(crate) fn nonzero_sums(
     touched: &[u32],
 ) -> Result<Vec<(u32, Frac)>, AllocError>
     requires { All (λ j. j < length sums.now) touched.now }
-    ensures { IfOk result (λ v. v.items ≡ filter is_nonzero (map (λ j. (j, slice_index_or sums.now j zero_ℚ)) touched.now)) }
+    ensures kept { IfOk result (λ v. v.items
+        ≡ filter is_nonzero (map (λ j. (j, slice_index_or sums.now j zero_ℚ)) touched.now)) }
+    ensures bounded { IfOk result (λ v. All (λ e. IsBounded e.1) v.items) }
 {
     let mut entries = Vec::with_capacity(alloc, touched.len())?;
     for variable in touched {

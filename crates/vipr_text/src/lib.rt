@@ -1,21 +1,9 @@
-//! Certificates as text: their readers, with the tokens and the types handed on.
+//! Certificates as text: the public names of their readers, their writer and their types in one place.
 #![tactic(auto)]
 
-mod claims;
-mod kinds;
-mod pairs;
-mod reader;
-mod reasons;
-mod sections;
-#[cfg(test)]
-mod tests;
-mod vectors;
-mod wanted;
-mod whole;
-
-pub use reader::{CertReader, Derivations, Solutions};
 pub use vipr_items::{
     BadShape, Certificate, Claim, Derivation, Goal, Name, Named, Problem, Reason,
 };
-pub use vipr_tokens::{TextError, Token, Tokens};
-pub use whole::read_certificate;
+pub use vipr_read::{CertReader, Derivations, Solutions, read_certificate};
+pub use vipr_scan::{TextError, Token, Tokens};
+pub use vipr_write::{WriteError, write_certificate};

@@ -1,7 +1,11 @@
-use Rattle.std.proofs.Common.{rules}
-use Rattle.std.proofs.lemmas.Fn.{filter_same}
+use Rattle.std.proofs.Common.{◌≡◌, ℕ, rules}
+use Rattle.std.proofs.lemmas.Fn.{filter_same, All-from_retain}
+use Rattle.vipr_spec.specs.Fraction.{ℚ, IsBounded}
 use Rattle.vipr_spec.specs.Reading.{is_nonzero}
 use Rattle.vipr_linear.proofs.row.drop_zeros.Goals as goal
 
-pub returns : goal.returns
-returns c = filter_same _ is_nonzero _ (λ x r f' k. search rules) _ _ c.retain.ensures.filtered
+pub returns-clause-kept : goal.returns-clause-kept
+returns-clause-kept c = filter_same _ is_nonzero _ (λ x r f' k. search rules) _ _ c.retain.ensures.filtered
+
+pub returns-clause-bounded : goal.returns-clause-bounded
+returns-clause-bounded c = All-from_retain _ (λ (p : ℕ × ℚ). IsBounded p.1) _ (λ x r f' k. search rules) _ _ c.retain.ensures.filtered

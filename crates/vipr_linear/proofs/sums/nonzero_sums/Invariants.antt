@@ -1,7 +1,10 @@
-use Rattle.std.proofs.Common.{◌≡◌, take, get_or, map, filter}
-use Rattle.vipr_spec.specs.Fraction.{zero_ℚ}
+use Rattle.std.proofs.Common.{◌≡◌, ℕ, take, get_or, map, filter, All}
+use Rattle.vipr_spec.specs.Fraction.{ℚ, zero_ℚ, IsBounded}
 use Rattle.vipr_spec.specs.Reading.{is_nonzero}
 use Rattle.vipr_linear.proofs.sums.nonzero_sums.Given as goal
 
 abbrev pub invariant-loop-variable : goal.invariant-loop-variable
-invariant-loop-variable l = l.entries.items ≡ filter is_nonzero (take l.variable-index (map (λ j. (j, get_or l.sums j zero_ℚ)) l.touched))
+invariant-loop-variable l = record {
+  kept : l.entries.items ≡ filter is_nonzero (take l.variable-index (map (λ j. (j, get_or l.sums j zero_ℚ)) l.touched));
+  bounded : All (λ (e : ℕ × ℚ). IsBounded e.1) l.entries.items;
+}

@@ -1,17 +1,15 @@
 use Rattle.std.proofs.Common.{rules, ◌≡◌, ◌+◌, ◌-◌, ◌≤◌, All, map, length, arith, ap, sym, ◌∙◌}
 use Rattle.std.proofs.lemmas.List.{length-map}
 use Rattle.vipr_linear.specs.Constraint.{constraint_of}
+use Rattle.vipr_spec.specs.Certificate as is
 use Rattle.vipr_spec.specs.Certificate.{variables}
+use Rattle.vipr_spec.specs.Constraint as linear
 use Rattle.vipr_spec.specs.Reading.{most_count}
 use Rattle.vipr_spec.specs.Shape.{SolutionShape, DerivationShape, CertificateShape, RowFits, DerivationFits, CertificateFits}
-use Rattle.vipr_linear.specs.declared.row.Solution.{Solution}
-use Rattle.vipr_items.specs.declared.items.Named.{Named}
-use Rattle.vipr_items.specs.declared.items.Derivation.{Derivation}
 use Rattle.vipr_items.specs.Items.{certificate_with, named_of, solution_of, derivation_of}
-use Rattle.vipr_items.proofs.Within.{each_of}
 use Rattle.vipr_items.proofs.certificate.Certificate.new.Goals as goal
 
-module _ (c : goal.Else-not-derivations_are_within) where
+module _ (c : goal.Else-not-are_within-2) where
   few_solutions : length (map solution_of c.args.solutions.items) ≤ most_count
   few_solutions =
       let size : length c.args.solutions.items ≤ most_count = search rules in
@@ -33,21 +31,17 @@ module _ (c : goal.Else-not-derivations_are_within) where
   is_within : CertificateShape (certificate_with c.args.problem c.args.solutions.items c.args.derivations.items)
   is_within = record { problem = c.names.ensures.writes.shape; few_solutions = few_solutions; solutions = solutions; few_derivations = few_derivations; derivations = derivations }
 
-  solution_numbers : All (λ (s : Named Solution). RowFits s.item.0) c.args.solutions.items
+  solution_numbers : All (λ (s : is.Named linear.Row). RowFits s.item) (map solution_of c.args.solutions.items)
   solution_numbers = search rules
 
-  derivation_numbers : All (λ (d : Derivation). DerivationFits (derivation_of d)) c.args.derivations.items
+  derivation_numbers : All DerivationFits (map derivation_of c.args.derivations.items)
   derivation_numbers = search rules
 
   fits : CertificateFits (certificate_with c.args.problem c.args.solutions.items c.args.derivations.items)
-  fits = record {
-    problem = c.names.ensures.writes.fits;
-    solutions = each_of (λ (s : Named Solution). RowFits s.item.0) (λ s. RowFits s.item) c.args.solutions.items solution_numbers solution_of (λ s h. h);
-    derivations = each_of (λ (d : Derivation). DerivationFits (derivation_of d)) DerivationFits c.args.derivations.items derivation_numbers derivation_of (λ d h. h);
-  }
+  fits = record { problem = c.names.ensures.writes.fits; solutions = solution_numbers; derivations = derivation_numbers }
 
-pub invariant_of-result : goal.invariant_of-result
-invariant_of-result c = record { shape = is_within c; fits = fits c }
+pub of_parts-requires : goal.of_parts-requires
+of_parts-requires c = record { shape = is_within c; fits = fits c }
 
 pub returns-clause-shape : goal.returns-clause-shape
-returns-clause-shape c = (λ t. is_within c, λ h. search rules)
+returns-clause-shape c = (λ t. rw c.of_parts.ensures.parts at c.of_parts.ensures.writes.shape, λ h. search rules)

@@ -1,17 +1,16 @@
 use Rattle.std.proofs.Common.{rules, ℕ, ◌<◌, ◌≤◌, All, map, length}
 use Rattle.std.proofs.lemmas.List.{length-map}
+use Rattle.vipr_spec.specs.Certificate as is
+use Rattle.vipr_spec.specs.Constraint as linear
 use Rattle.vipr_spec.specs.Constraint.{at, IsInteger, NamesBelow}
 use Rattle.vipr_spec.specs.Tokens.{IsToken}
 use Rattle.vipr_spec.specs.Reading.{most_count}
 use Rattle.vipr_spec.specs.Shape.{ConstraintShape, ProblemShape, RowFits, ConstraintFits, ClaimFits, ProblemFits}
 use Rattle.vipr_linear.specs.Constraint.{constraint_of}
-use Rattle.vipr_linear.specs.declared.constraint.Constraint.{Constraint}
-use Rattle.vipr_items.specs.declared.items.Named.{Named}
 use Rattle.vipr_items.specs.Items.{problem_with, named_of, claim_of}
-use Rattle.vipr_items.proofs.Within.{each_of}
 use Rattle.vipr_items.proofs.problem.Problem.new.Goals as goal
 
-module _ (c : goal.Else-not-constraints_are_within) where
+module _ (c : goal.Else-not-are_within) where
   names : All IsToken c.args.names.items
   names = search rules
 
@@ -38,7 +37,7 @@ module _ (c : goal.Else-not-constraints_are_within) where
   row_fits : RowFits c.args.objective
   row_fits = search rules
 
-  numbers : All (λ (n : Named Constraint). ConstraintFits (constraint_of n.item)) c.args.cons.items
+  numbers : All (λ (n : is.Named linear.Constraint). ConstraintFits n.item) (map (named_of constraint_of) c.args.cons.items)
   numbers = search rules
 
   bound_count : c.args.bound_count ≤ most_count
@@ -48,15 +47,10 @@ module _ (c : goal.Else-not-constraints_are_within) where
   claim = search rules
 
   fits : ProblemFits (problem_with c.args.names.items c.args.ints c.args.sense c.args.objective c.args.cons.items c.args.bound_count c.args.claim)
-  fits = record {
-    objective = row_fits;
-    constraints = each_of (λ (n : Named Constraint). ConstraintFits (constraint_of n.item)) (λ n. ConstraintFits n.item) c.args.cons.items numbers (named_of constraint_of) (λ n h. h);
-    bound_count = bound_count;
-    claim = claim;
-  }
+  fits = record { objective = row_fits; constraints = numbers; bound_count = bound_count; claim = claim }
 
-pub invariant_of-result : goal.invariant_of-result
-invariant_of-result c = record { shape = shape c; fits = fits c }
+pub of_parts-requires : goal.of_parts-requires
+of_parts-requires c = record { shape = shape c; fits = fits c }
 
 pub returns-clause-shape : goal.returns-clause-shape
-returns-clause-shape c = (λ t. shape c, λ h. search rules)
+returns-clause-shape c = (λ t. rw c.of_parts.ensures.parts at c.of_parts.ensures.writes.shape, λ h. search rules)

@@ -9,17 +9,17 @@ use Rattle.vipr_linear.proofs.combination.Combination.add.Goals as goal
 pub returns-then-is_zero-clause-added : goal.returns-then-is_zero-clause-added
 returns-then-is_zero-clause-added c =
     let fresh : c.args.self.now.spent ≡ false = ap (λ (a : Accumulator). a.spent) (sym c.self.view_is) ∙ c.if-self.false in
-    nothing_changes c.args.self.now _ fresh (told_zero c.args.multiplier c.is_zero.result c.is_zero.ensures c.if-is_zero.true)
+    nothing_changes c.args.self.now _ fresh (told_zero c.args.multiplier c.is_zero.result c.is_zero.ensures.zero c.if-is_zero.true)
 
 pub returns-then-is_zero-clause-ok : goal.returns-then-is_zero-clause-ok
 returns-then-is_zero-clause-ok c =
     let fresh : c.args.self.now.spent ≡ false = ap (λ (a : Accumulator). a.spent) (sym c.self.view_is) ∙ c.if-self.false in
     let suitable : joined_with c.args.self.now (c.args.multiplier, condition_of c.args.constraint.now) ≡ Some (sense_of c.in-Some.sense) =
     ap (λ (a : Accumulator). joined a.sense (turned c.args.multiplier (sense_of c.args.constraint.now.sense))) (sym c.self.view_is) ∙ ap (joined (sense_of c.self.inside.sense)) (sym c.turned.ensures) ∙ c.in-Some.ensures in
-    (λ _. record { fresh = fresh; suitable = ap is_some suitable; fits = λ n. absurd (n (told_zero c.args.multiplier c.is_zero.result c.is_zero.ensures c.if-is_zero.true)) }, λ _. refl)
+    (λ _. record { fresh = fresh; suitable = ap is_some suitable; fits = λ n. absurd (n (told_zero c.args.multiplier c.is_zero.result c.is_zero.ensures.zero c.if-is_zero.true)) }, λ _. refl)
 
 pub returns-then-is_zero-clause-overflow : goal.returns-then-is_zero-clause-overflow
-returns-then-is_zero-clause-overflow c = (λ e. absurd (cc), λ h. absurd (h.2 (λ n. absurd (n (told_zero c.args.multiplier c.is_zero.result c.is_zero.ensures c.if-is_zero.true)))))
+returns-then-is_zero-clause-overflow c = (λ e. absurd (cc), λ h. absurd (h.2 (λ n. absurd (n (told_zero c.args.multiplier c.is_zero.result c.is_zero.ensures.zero c.if-is_zero.true)))))
 
 pub returns-in-Ok-clause-overflow : goal.returns-in-Ok-clause-overflow
 returns-in-Ok-clause-overflow c =
@@ -28,7 +28,7 @@ returns-in-Ok-clause-overflow c =
 
 pub returns-in-Err-clause-ok : goal.returns-in-Err-clause-ok
 returns-in-Err-clause-ok c =
-    let some : c.args.multiplier ≢ zero_ℚ = told_nonzero c.args.multiplier c.is_zero.result c.is_zero.ensures c.if-is_zero.false in
+    let some : c.args.multiplier ≢ zero_ℚ = told_nonzero c.args.multiplier c.is_zero.result c.is_zero.ensures.zero c.if-is_zero.false in
     let told = rw c.deref_mut.ensures.value at c.in-Err.ensures.fits in
     let never : EntryFits c.args.self.now (c.args.multiplier, condition_of c.args.constraint.now) → ⊥ = λ fits.
     (let f = subst (λ (a : Accumulator). EntryFits a (c.args.multiplier, condition_of c.args.constraint.now)) (sym c.self.view_is) fits some in absurd (let x = told.1 f in cc)) in
@@ -39,7 +39,7 @@ returns-in-Err-clause-overflow c =
     let fresh : c.args.self.now.spent ≡ false = ap (λ (a : Accumulator). a.spent) (sym c.self.view_is) ∙ c.if-self.false in
     let suitable : joined_with c.args.self.now (c.args.multiplier, condition_of c.args.constraint.now) ≡ Some (sense_of c.in-Some.sense) =
     ap (λ (a : Accumulator). joined a.sense (turned c.args.multiplier (sense_of c.args.constraint.now.sense))) (sym c.self.view_is) ∙ ap (joined (sense_of c.self.inside.sense)) (sym c.turned.ensures) ∙ c.in-Some.ensures in
-    let some : c.args.multiplier ≢ zero_ℚ = told_nonzero c.args.multiplier c.is_zero.result c.is_zero.ensures c.if-is_zero.false in
+    let some : c.args.multiplier ≢ zero_ℚ = told_nonzero c.args.multiplier c.is_zero.result c.is_zero.ensures.zero c.if-is_zero.false in
     let told = rw c.deref_mut.ensures.value at c.in-Err.ensures.fits in
     let never : EntryFits c.args.self.now (c.args.multiplier, condition_of c.args.constraint.now) → ⊥ = λ fits.
     (let f = subst (λ (a : Accumulator). EntryFits a (c.args.multiplier, condition_of c.args.constraint.now)) (sym c.self.view_is) fits some in absurd (let x = told.1 f in cc)) in

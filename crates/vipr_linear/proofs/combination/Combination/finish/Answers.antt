@@ -23,14 +23,17 @@ invariant_of-self-2 c = kept_sorted _ _ _ _ _ _ c.sort_unstable.ensures.permutat
 pub from_rising-requires : goal.from_rising-requires
 from_rising-requires c =
     let kept = kept_sorted _ _ _ _ _ _ c.sort_unstable.ensures.permutation c.sort_unstable.ensures.capacity c.self.invariant in
-    let list = rw (c.deref-2.ensures.value, c.deref.ensures.value) at c.in-Ok.ensures in
-    subst (RisesFrom 0) (sym list) (collected_rises _ _ (rising_of_touched _ _ c.sort_unstable.ensures.sorted kept.touching))
+    let list = rw (c.deref-2.ensures.value, c.deref.ensures.value) at c.in-Ok.ensures.kept in
+    record {
+      rising = subst (RisesFrom 0) (sym list) (collected_rises _ _ (rising_of_touched _ _ c.sort_unstable.ensures.sorted kept.touching));
+      bounded = c.in-Ok.ensures.bounded;
+    }
 
 pub returns-clause-sum : goal.returns-clause-sum
 returns-clause-sum c =
     let kept = kept_sorted _ _ _ _ _ _ c.sort_unstable.ensures.permutation c.sort_unstable.ensures.capacity c.self.invariant in
     let rising = rising_of_touched _ _ c.sort_unstable.ensures.sorted kept.touching in
-    let list = rw (c.deref-2.ensures.value, c.deref.ensures.value) at c.in-Ok.ensures in
+    let list = rw (c.deref-2.ensures.value, c.deref.ensures.value) at c.in-Ok.ensures.kept in
     let row = c.from_rising.ensures ∙ ap from_sorted list in
     record {
       row_is = λ j. ap (λ m. at m j) row ∙ collected_at _ _ _ kept.touching kept.covers rising j ∙ ap (λ (a : Accumulator). get_or a.sums j zero_ℚ) c.self.view_is;

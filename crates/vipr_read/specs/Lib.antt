@@ -1,0 +1,6 @@
+pub mod Marks
+pub mod Rules
+pub mod Parsing
+pub mod Items
+pub mod ItemsCode
+pub mod Whole

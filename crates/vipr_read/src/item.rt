@@ -1,0 +1,126 @@
+//! The items of a certificate whose problem is known: its listed solutions and its derivations.
+ghost use Rattle.std.specs.Prelude.{◌≡◌, ℕ, map, length, All, IfOk};
+ghost use Rattle.vipr_spec.specs.Constraint.{Row as RowMeant, at, NamesBelow};
+ghost use Rattle.vipr_spec.specs.Certificate.{Problem as ProblemMeant, variables as variables_in};
+ghost use Rattle.vipr_spec.specs.Certificate.{Named as NamedMeant, Derivation as DerivationMeant};
+ghost use Rattle.vipr_spec.specs.Reading.{Rest, Read, repeated, solution_read, derivation_read};
+ghost use Rattle.vipr_spec.specs.Shape.{RowFits, SolutionShape, DerivationShape, DerivationFits};
+ghost use Rattle.vipr_items.specs.Items.{solution_of, derivation_of};
+ghost use Rattle.vipr_read.specs.Parsing.{Parses};
+
+use crate::parser::Parser;
+use std::alloc::Global;
+use vipr_bytes::Source;
+use vipr_items::{Derivation, Named};
+use vipr_linear::{Row, Solution};
+use vipr_scan::Stop;
+
+/// A kind of item, as a parser reads it where the problem is known.
+pub(crate) trait Item {
+    type Value: Drop;
+
+    /// What the definitions say that such an item is.
+    ghost Meant: { Type 0 };
+
+    ghost view: { Self.Value → Meant };
+
+    ghost reading: { ProblemMeant → Rest → Read Meant };
+
+    /// Each is within the limits, over so many variables.
+    ghost shape: { ℕ → Meant → Type 0 };
+
+    /// The numbers of each can be written.
+    ghost fits: { Meant → Type 0 };
+
+    fn parse<R: Source>(
+        &self,
+        parser: &mut Parser<R>,
+        alloc: Global,
+        objective: &Row,
+    ) -> Result<Self::Value, Stop>
+        requires below { NamesBelow parser.old.variables (at objective.now) }
+        requires fits { RowFits objective.now }
+        ensures read { (p : ProblemMeant) → parser.old.variables ≡ variables_in p
+            → objective.now ≡ p.objective → Parses view (reading p) parser.old parser.new result }
+        ensures variables { parser.new.variables ≡ parser.old.variables }
+        ensures shape { IfOk result (λ x. shape parser.old.variables (view x)) }
+        ensures fits { IfOk result (λ x. fits (view x)) };
+}
+
+/// Listed solutions.
+pub(crate) struct Listed;
+
+impl Item for Listed {
+    type Value = Named<Solution>;
+
+    ghost Meant = { NamedMeant RowMeant };
+
+    ghost view = { solution_of };
+
+    ghost reading = { solution_read };
+
+    ghost shape = { SolutionShape };
+
+    ghost fits = { λ s. RowFits s.item };
+
+    fn parse<R: Source>(
+        &self,
+        parser: &mut Parser<R>,
+        alloc: Global,
+        _objective: &Row,
+    ) -> Result<Named<Solution>, Stop> {
+        parser.solution(alloc)
+    }
+}
+
+/// Derivations.
+pub(crate) struct Derived;
+
+impl Item for Derived {
+    type Value = Derivation;
+
+    ghost Meant = { DerivationMeant };
+
+    ghost view = { derivation_of };
+
+    ghost reading = { derivation_read };
+
+    ghost shape = { DerivationShape };
+
+    ghost fits = { DerivationFits };
+
+    fn parse<R: Source>(
+        &self,
+        parser: &mut Parser<R>,
+        alloc: Global,
+        objective: &Row,
+    ) -> Result<Derivation, Stop> {
+        parser.derivation(alloc, objective)
+    }
+}
+
+/// So many items in a row.
+pub(crate) fn all<R: Source, I: Item>(
+    parser: &mut Parser<R>,
+    alloc: Global,
+    item: &I,
+    objective: &Row,
+    count: u32,
+) -> Result<Vec<I::Value>, Stop>
+    requires below { NamesBelow parser.old.variables (at objective.now) }
+    requires fits { RowFits objective.now }
+    ensures read { (p : ProblemMeant) → parser.old.variables ≡ variables_in p
+        → objective.now ≡ p.objective → Parses (λ v. map I.view v.items)
+        (repeated (I.reading p) count) parser.old parser.new result }
+    ensures variables { parser.new.variables ≡ parser.old.variables }
+    ensures count { IfOk result (λ v. length v.items ≡ count) }
+    ensures shape { IfOk result (λ v. All (I.shape parser.old.variables) (map I.view v.items)) }
+    ensures fits { IfOk result (λ v. All I.fits (map I.view v.items)) }
+{
+    let mut items = Vec::new(alloc);
+    for _ in 0..count {
+        let next = item.parse(parser, alloc, objective)?;
+        items.push(next)?;
+    }
+    Ok(items)
+}

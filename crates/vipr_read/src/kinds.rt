@@ -1,0 +1,440 @@
+//! The kinds of token: what each means, or the cause of its refusal.
+ghost use Rattle.std.specs.Prelude.{◌≡◌, ◌+◌, ◌^◌, ◌<◌, ◌≤◌, ℕ, Bool, Option, IfSome, min, length};
+ghost use Rattle.std.specs.Prelude.{slice_index_or, false, true};
+ghost use Rattle.std.specs.Option.{option_map};
+ghost use Rattle.vipr_spec.specs.Digits.{natural_of};
+ghost use Rattle.vipr_spec.specs.Fraction.{ℚ, IsBounded};
+ghost use Rattle.vipr_spec.specs.Certificate.{Name as NameMeant, Direction as DirectionMeant};
+ghost use Rattle.vipr_spec.specs.Constraint.{Sense as SenseMeant};
+ghost use Rattle.vipr_spec.specs.Tokens.{IsToken};
+ghost use Rattle.vipr_spec.specs.Reading.{Rule as RuleMeant, most_count, at_most_or, name_of};
+ghost use Rattle.vipr_spec.specs.Reading.{count_of, derivation_count_of, reference_of, last_of};
+ghost use Rattle.vipr_spec.specs.Reading.{word_of, rule_of, number_of, sense_of, variable_of};
+ghost use Rattle.vipr_spec.specs.Reading.{direction_of, has_range_of, bound_of};
+ghost use Rattle.vipr_scan.specs.Meaning.{Means};
+ghost use Rattle.vipr_linear.specs.Constraint.{sense_of as sense_seen};
+ghost use Rattle.vipr_items.specs.Items.{direction_of as direction_seen};
+ghost use Rattle.vipr_read.specs.Rules.{rule_seen, objective_or_count_of};
+ghost use Rattle.vipr_read.specs.Marks.{unmarked_of};
+
+use std::alloc::Global;
+use vipr_frac::{Frac, NumberError};
+use vipr_items::{Goal, Name};
+use vipr_linear::Sense;
+use vipr_scan::{TokenKind, Unfit, cause};
+
+/// One more than the greatest count and index.
+const OVER: u64 = 4_294_967_296;
+
+/// The number that digits write, or `OVER` where it is larger.
+fn natural(bytes: &[u8]) -> Option<u64>
+    ensures { result ≡ option_map (min OVER) (natural_of bytes.now) }
+{
+    if bytes.is_empty() {
+        return None;
+    }
+    let mut value: u64 = 0;
+    for b in bytes {
+        if *b < b'0' || *b > b'9' {
+            return None;
+        }
+        value = (value * 10 + u64::from(*b - b'0')).min(OVER);
+    }
+    Some(value)
+}
+
+/// A number of at most `most`, or the cause where it isn't digits or is larger.
+fn at_most(bytes: &[u8], most: u32, absent: u8, larger: u8) -> Result<u32, Unfit>
+    ensures { Means (λ n. n) result (at_most_or most (natural_of bytes.now) absent larger) }
+{
+    match natural(bytes) {
+        None => Err(Unfit::Cause(absent)),
+        Some(n) if n <= u64::from(most) => Ok(n as u32),
+        Some(_) => Err(Unfit::Cause(larger)),
+    }
+}
+
+/// A name.
+#[derive(Drop)]
+pub(crate) struct NameKind(pub(crate) Global);
+
+impl TokenKind for NameKind {
+    type Value = Name;
+
+    ghost Meant = { NameMeant };
+
+    ghost view = { λ name. name };
+
+    ghost meaning = { λ _ bytes. name_of bytes };
+
+    ghost bounds = { λ _ name. IsToken name };
+
+    fn read(&self, bytes: &[u8]) -> Result<Name, Unfit> {
+        let name = Name::of_token(self.0, bytes)?;
+        Ok(name)
+    }
+}
+
+/// A count.
+pub(crate) struct Count;
+
+impl TokenKind for Count {
+    type Value = u32;
+
+    ghost Meant = { ℕ };
+
+    ghost view = { λ n. n };
+
+    ghost meaning = { λ _ bytes. count_of bytes };
+
+    ghost bounds = { λ _ n. n ≤ most_count };
+
+    #[tactic(auto, unfolding(vipr_spec::specs::Reading::count_of))]
+    fn read(&self, bytes: &[u8]) -> Result<u32, Unfit> {
+        at_most(bytes, u32::MAX, cause::BAD_COUNT, cause::COUNT_TOO_LARGE)
+    }
+}
+
+/// The number of derivations, where there are so many constraints before them.
+#[derive(Drop)]
+pub(crate) struct DerivationCount(pub(crate) u32);
+
+impl TokenKind for DerivationCount {
+    type Value = u32;
+
+    ghost Meant = { ℕ };
+
+    ghost view = { λ n. n };
+
+    ghost meaning = { λ k bytes. derivation_count_of k.0 bytes };
+
+    ghost bounds = { λ k n. k.0 + n < 2 ^ 32 };
+
+    #[tactic(auto, unfolding(vipr_spec::specs::Reading::derivation_count_of))]
+    fn read(&self, bytes: &[u8]) -> Result<u32, Unfit> {
+        at_most(
+            bytes,
+            u32::MAX - self.0,
+            cause::BAD_COUNT,
+            cause::COUNT_TOO_LARGE,
+        )
+    }
+}
+
+/// A variable, of which there are so many.
+#[derive(Drop)]
+pub(crate) struct Variable(pub(crate) u32);
+
+impl TokenKind for Variable {
+    type Value = u32;
+
+    ghost Meant = { ℕ };
+
+    ghost view = { λ n. n };
+
+    ghost meaning = { λ k bytes. variable_of k.0 bytes };
+
+    ghost bounds = { λ k i. i < k.0 };
+
+    #[tactic(auto, unfolding(vipr_spec::specs::Reading::variable_of))]
+    fn read(&self, bytes: &[u8]) -> Result<u32, Unfit> {
+        match natural(bytes) {
+            Some(i) if i < u64::from(self.0) => Ok(i as u32),
+            _ => Err(Unfit::Cause(cause::BAD_INDEX)),
+        }
+    }
+}
+
+/// A variable that isn't marked; there is a mark for each variable.
+#[derive(Drop)]
+pub(crate) struct NewVariable<'a> {
+    pub(crate) marks: &'a [bool],
+    ghost few: { length marks.now < 2 ^ 32 },
+}
+
+impl TokenKind for NewVariable<'_> {
+    type Value = u32;
+
+    ghost Meant = { ℕ };
+
+    ghost view = { λ n. n };
+
+    ghost meaning = { λ k bytes. unmarked_of k.marks.now bytes };
+
+    ghost bounds = { λ k i.
+        (i < length k.marks.now) × (slice_index_or k.marks.now i false ≡ false) };
+
+    #[tactic(auto, unfolding(vipr_spec::specs::Reading::variable_of))]
+    fn read(&self, bytes: &[u8]) -> Result<u32, Unfit> {
+        let marks = self.marks;
+        match natural(bytes) {
+            Some(i) if i < marks.len() as u64 => {
+                if marks[i as usize] {
+                    Err(Unfit::Cause(cause::REPEATED_INDEX))
+                } else {
+                    Ok(i as u32)
+                }
+            }
+            _ => Err(Unfit::Cause(cause::BAD_INDEX)),
+        }
+    }
+}
+
+/// A constraint's index.
+pub(crate) struct Reference;
+
+impl TokenKind for Reference {
+    type Value = u32;
+
+    ghost Meant = { ℕ };
+
+    ghost view = { λ n. n };
+
+    ghost meaning = { λ _ bytes. reference_of bytes };
+
+    ghost bounds = { λ _ n. n ≤ most_count };
+
+    #[tactic(auto, unfolding(vipr_spec::specs::Reading::reference_of))]
+    fn read(&self, bytes: &[u8]) -> Result<u32, Unfit> {
+        at_most(bytes, u32::MAX, cause::BAD_REFERENCE, cause::BAD_REFERENCE)
+    }
+}
+
+/// A last reference, `None` for `-1`.
+pub(crate) struct Last;
+
+impl TokenKind for Last {
+    type Value = Option<u32>;
+
+    ghost Meant = { Option ℕ };
+
+    ghost view = { λ n. n };
+
+    ghost meaning = { λ _ bytes. last_of bytes };
+
+    ghost bounds = { λ _ last. IfSome last (λ n. n ≤ most_count) };
+
+    #[tactic(auto, unfolding(vipr_spec::specs::Reading::last_of))]
+    fn read(&self, bytes: &[u8]) -> Result<Option<u32>, Unfit> {
+        if bytes == b"-1".as_slice() {
+            return Ok(None);
+        }
+        match Reference.read(bytes) {
+            Ok(i) => Ok(Some(i)),
+            Err(unfit) => Err(unfit),
+        }
+    }
+}
+
+/// This word, or the cause.
+#[derive(Drop)]
+pub(crate) struct Word<'a>(pub(crate) &'a [u8], pub(crate) u8);
+
+impl TokenKind for Word<'_> {
+    type Value = ();
+
+    ghost Meant = { Unit {0} };
+
+    ghost view = { λ u. u };
+
+    ghost meaning = { λ k bytes. word_of k.0.now k.1 bytes };
+
+    fn read(&self, bytes: &[u8]) -> Result<(), Unfit> {
+        if bytes == self.0 {
+            Ok(())
+        } else {
+            Err(Unfit::Cause(self.1))
+        }
+    }
+}
+
+/// A number.
+pub(crate) struct Number;
+
+impl TokenKind for Number {
+    type Value = Frac;
+
+    ghost Meant = { ℚ };
+
+    ghost view = { λ x. x };
+
+    ghost meaning = { λ _ bytes. number_of bytes };
+
+    ghost bounds = { λ _ x. IsBounded x };
+
+    fn read(&self, bytes: &[u8]) -> Result<Frac, Unfit> {
+        match Frac::parse(bytes) {
+            Ok(number) => {
+                let _bounded = number.denom();
+                Ok(number)
+            }
+            Err(NumberError::Bad) => Err(Unfit::Cause(cause::BAD_NUMBER)),
+            Err(NumberError::TooLarge) => Err(Unfit::Cause(cause::NUMBER_TOO_LARGE)),
+            Err(NumberError::ZeroDenominator) => Err(Unfit::Cause(cause::ZERO_DENOMINATOR)),
+        }
+    }
+}
+
+/// A sense.
+pub(crate) struct SenseKind;
+
+impl TokenKind for SenseKind {
+    type Value = Sense;
+
+    ghost Meant = { SenseMeant };
+
+    ghost view = { sense_seen };
+
+    ghost meaning = { λ _ bytes. sense_of bytes };
+
+    #[tactic(auto, unfolding(vipr_spec::specs::Reading::sense_of))]
+    fn read(&self, bytes: &[u8]) -> Result<Sense, Unfit> {
+        if bytes == b"E".as_slice() {
+            Ok(Sense::E)
+        } else if bytes == b"L".as_slice() {
+            Ok(Sense::L)
+        } else if bytes == b"G".as_slice() {
+            Ok(Sense::G)
+        } else {
+            Err(Unfit::Cause(cause::BAD_SENSE))
+        }
+    }
+}
+
+/// Whether the objective is to be small or large.
+pub(crate) struct GoalKind;
+
+impl TokenKind for GoalKind {
+    type Value = Goal;
+
+    ghost Meant = { DirectionMeant };
+
+    ghost view = { direction_seen };
+
+    ghost meaning = { λ _ bytes. direction_of bytes };
+
+    #[tactic(auto, unfolding(vipr_spec::specs::Reading::direction_of))]
+    fn read(&self, bytes: &[u8]) -> Result<Goal, Unfit> {
+        if bytes == b"min".as_slice() {
+            Ok(Goal::Min)
+        } else if bytes == b"max".as_slice() {
+            Ok(Goal::Max)
+        } else {
+            Err(Unfit::Cause(cause::BAD_OBJECTIVE_SENSE))
+        }
+    }
+}
+
+/// Whether the claim is a range.
+pub(crate) struct HasRange;
+
+impl TokenKind for HasRange {
+    type Value = bool;
+
+    ghost Meant = { Bool };
+
+    ghost view = { λ b. b };
+
+    ghost meaning = { λ _ bytes. has_range_of bytes };
+
+    #[tactic(auto, unfolding(vipr_spec::specs::Reading::has_range_of))]
+    fn read(&self, bytes: &[u8]) -> Result<bool, Unfit> {
+        if bytes == b"infeas".as_slice() {
+            Ok(false)
+        } else if bytes == b"range".as_slice() {
+            Ok(true)
+        } else {
+            Err(Unfit::Cause(cause::BAD_CLAIM))
+        }
+    }
+}
+
+/// A bound of the claim, `None` for this word.
+#[derive(Drop)]
+pub(crate) struct Bound<'a>(pub(crate) &'a [u8]);
+
+impl TokenKind for Bound<'_> {
+    type Value = Option<Frac>;
+
+    ghost Meant = { Option ℚ };
+
+    ghost view = { λ x. x };
+
+    ghost meaning = { λ k bytes. bound_of k.0.now bytes };
+
+    ghost bounds = { λ _ bound. IfSome bound IsBounded };
+
+    #[tactic(auto, unfolding(vipr_spec::specs::Reading::bound_of))]
+    fn read(&self, bytes: &[u8]) -> Result<Option<Frac>, Unfit> {
+        if bytes == self.0 {
+            return Ok(None);
+        }
+        match Number.read(bytes) {
+            Ok(bound) => Ok(Some(bound)),
+            Err(unfit) => Err(unfit),
+        }
+    }
+}
+
+/// The rule of a reason, before what belongs to it is read.
+#[derive(Clone, Copy, Debug, PartialEq, Eq)]
+pub(crate) enum Rule {
+    Asm,
+    Lin,
+    Rnd,
+    Uns,
+    Sol,
+}
+
+/// The word after `{`.
+pub(crate) struct RuleKind;
+
+impl TokenKind for RuleKind {
+    type Value = Rule;
+
+    ghost Meant = { RuleMeant };
+
+    ghost view = { rule_seen };
+
+    ghost meaning = { λ _ bytes. rule_of bytes };
+
+    #[tactic(auto, unfolding(vipr_spec::specs::Reading::rule_of))]
+    fn read(&self, bytes: &[u8]) -> Result<Rule, Unfit> {
+        if bytes == b"asm".as_slice() {
+            Ok(Rule::Asm)
+        } else if bytes == b"lin".as_slice() {
+            Ok(Rule::Lin)
+        } else if bytes == b"rnd".as_slice() {
+            Ok(Rule::Rnd)
+        } else if bytes == b"uns".as_slice() {
+            Ok(Rule::Uns)
+        } else if bytes == b"sol".as_slice() {
+            Ok(Rule::Sol)
+        } else {
+            Err(Unfit::Cause(cause::BAD_REASON))
+        }
+    }
+}
+
+/// The token `OBJ`, for which there is no count, or a count.
+pub(crate) struct ObjectiveOrCount;
+
+impl TokenKind for ObjectiveOrCount {
+    type Value = Option<u32>;
+
+    ghost Meant = { Option ℕ };
+
+    ghost view = { λ n. n };
+
+    ghost meaning = { λ _ bytes. objective_or_count_of bytes };
+
+    fn read(&self, bytes: &[u8]) -> Result<Option<u32>, Unfit> {
+        if bytes == b"OBJ".as_slice() {
+            return Ok(None);
+        }
+        match Count.read(bytes) {
+            Ok(count) => Ok(Some(count)),
+            Err(unfit) => Err(unfit),
+        }
+    }
+}

@@ -1,0 +1,263 @@
+//! Reads the items of a certificate one by one.
+ghost use Rattle.std.specs.Prelude.{◌≡◌, ◌≢◌, ◌↔◌, ◌^◌, ◌+◌, ◌<◌, suc, true, false, Ok, None};
+ghost use Rattle.std.specs.Prelude.{IfOk, IfErr, IfSome, OnOk, OnErr, IsErrOf, IsSome, MatchOption};
+ghost use Rattle.vipr_spec.specs.Constraint.{at, NamesBelow};
+ghost use Rattle.vipr_spec.specs.Certificate.{Problem as ProblemMeant};
+ghost use Rattle.vipr_spec.specs.Reading.{solution_read, derivations_read, derivation_read};
+ghost use Rattle.vipr_spec.specs.Reading.{end_read};
+ghost use Rattle.vipr_spec.specs.Shape.{RowFits, SolutionShape, DerivationShape};
+ghost use Rattle.vipr_items.specs.Items.{solution_of, derivation_of};
+ghost use Rattle.vipr_scan.specs.Giving.{rest_of};
+ghost use Rattle.vipr_read.specs.Items.{Items, Knows, Remembers, NextItem, GivesFrom, EndsWith};
+
+use crate::item::{Derived, Item, Listed};
+use crate::parser::Parser;
+use std::alloc::Global;
+use std::marker::Model;
+use vipr_bytes::Source;
+use vipr_items::{Derivation, Named};
+use vipr_linear::{Row, Solution};
+use vipr_scan::TextError;
+
+/// Reads items of either kind, where the problem is known.
+#[derive(Drop)]
+struct ItemReader<R: Source> {
+    parser: Parser<R>,
+    left: u32,
+    constraints: u32,
+    objective: Row,
+    /// Whether an error came.
+    failed: bool,
+}
+
+impl<R: Source> Model for ItemReader<R> {
+    ghost use Rattle.std.specs.Prelude.{None, if◌then◌else◌};
+    ghost use Rattle.vipr_read.specs.Items.{Items, IsObjective};
+    ghost use Rattle.vipr_read.specs.ItemsCode.{items_code};
+
+    ghost Value = { Items };
+
+    ghost coded = { items_code };
+
+    ghost view = { λ r. record {
+      failed = r.failed;
+      rest = if r.failed then None else r.parser.rest;
+      left = r.left;
+      variables = r.parser.variables;
+      constraints = r.constraints;
+      objective = r.objective;
+    } };
+
+    ghost invariant = { λ r. IsObjective r.parser.variables r.objective };
+}
+
+impl<R: Source> ItemReader<R> {
+    /// The next item, or `None` where no item is to come; nothing is read then.
+    fn next<I: Item>(&mut self, alloc: Global, item: &I) -> Result<Option<I::Value>, TextError>
+        ensures spent { IsErrOf result TextError.Spent ↔ (self.old.failed ≡ true) }
+        ensures failed { OnErr result (self.new.failed ≡ true) }
+        ensures kept { OnErr result (self.new.left ≡ self.old.left) }
+        ensures none { result ≡ Ok None → self.new ≡ self.old }
+        ensures remembers { Remembers self.old self.new }
+        ensures working { OnOk result (self.new.failed ≡ false) }
+        ensures counted { IfOk result (λ o.
+            MatchOption o (self.old.left ≡ 0) (λ _. self.old.left ≡ suc self.new.left)) }
+        ensures shape { IfOk result (λ o. IfSome o (λ x. I.shape self.old.variables (I.view x))) }
+        ensures read { (p : ProblemMeant) → Knows self.old p
+            → NextItem I.view (I.reading p) (λ _. Ok tt) self.old self.new result }
+    {
+        if self.failed {
+            return Err(TextError::Spent);
+        }
+        if self.left == 0 {
+            return Ok(None);
+        }
+        match item.parse(&mut self.parser, alloc, &self.objective) {
+            Ok(next) => {
+                self.left -= 1;
+                Ok(Some(next))
+            }
+            Err(stop) => {
+                self.failed = true;
+                Err(TextError::from(stop))
+            }
+        }
+    }
+
+    /// The end of the text.
+    fn end(&mut self) -> Result<(), TextError>
+        requires { self.old.failed ≡ false }
+        ensures error { IfErr result (λ e. e ≢ TextError.Spent) }
+        ensures failed { OnErr result (self.new.failed ≡ true) }
+        ensures kept { self.new.left ≡ self.old.left }
+        ensures remembers { Remembers self.old self.new }
+        ensures working { OnOk result (self.new.failed ≡ false) }
+        ensures same { OnOk result (IsSome self.old.rest → self.new ≡ self.old) }
+        ensures read { IsSome self.old.rest → EndsWith result (end_read (rest_of self.old.rest)) }
+    {
+        match self.parser.end() {
+            Ok(()) => Ok(()),
+            Err(stop) => {
+                self.failed = true;
+                Err(TextError::from(stop))
+            }
+        }
+    }
+}
+
+/// Reads the solutions of a certificate whose problem was read.
+#[derive(Drop)]
+pub struct Solutions<R: Source> {
+    items: ItemReader<R>,
+}
+
+impl<R: Source> Model for Solutions<R> {
+    ghost use Rattle.vipr_read.specs.Items.{Items};
+    ghost use Rattle.vipr_read.specs.ItemsCode.{items_code};
+
+    ghost Value = { Items };
+
+    ghost coded = { items_code };
+
+    ghost view = { λ r. r.items };
+}
+
+impl<R: Source> Solutions<R> {
+    /// The solutions of which so many are to come, where so much is known of the problem.
+    pub(crate) fn new(
+        parser: Parser<R>,
+        left: u32,
+        constraints: u32,
+        objective: Row,
+    ) -> Solutions<R>
+        requires below { NamesBelow parser.variables (at objective) }
+        requires fits { RowFits objective }
+        ensures { result ≡ record {
+          failed = false;
+          rest = parser.rest;
+          left = left;
+          variables = parser.variables;
+          constraints = constraints;
+          objective = objective;
+        } }
+    {
+        Solutions {
+            items: ItemReader {
+                parser,
+                left,
+                constraints,
+                objective,
+                failed: false,
+            },
+        }
+    }
+
+    /// How many solutions are still to come.
+    pub fn left(&self) -> u32
+        ensures { result ≡ self.now.left }
+    {
+        self.items.left
+    }
+
+    /// The next solution, or `None` where all were read; nothing is read then.
+    ///
+    /// # Errors
+    ///
+    /// `Refused` where the text is at fault, `Read` where a read failed, and `Memory` where a growth
+    /// was refused; after an error `Spent`.
+    pub fn next(&mut self, alloc: Global) -> Result<Option<Named<Solution>>, TextError>
+        ensures spent { IsErrOf result TextError.Spent ↔ (self.old.failed ≡ true) }
+        ensures failed { OnErr result (self.new.failed ≡ true) }
+        ensures kept { OnErr result (self.new.left ≡ self.old.left) }
+        ensures none { result ≡ Ok None → self.new ≡ self.old }
+        ensures remembers { Remembers self.old self.new }
+        ensures working { OnOk result (self.new.failed ≡ false) }
+        ensures counted { IfOk result (λ o.
+            MatchOption o (self.old.left ≡ 0) (λ _. self.old.left ≡ suc self.new.left)) }
+        ensures shape { IfOk result (λ o.
+            IfSome o (λ s. SolutionShape self.old.variables (solution_of s))) }
+        ensures read { (p : ProblemMeant) → Knows self.old p
+            → NextItem solution_of (solution_read p) (λ _. Ok tt) self.old self.new result }
+    {
+        self.items.next(alloc, &Listed)
+    }
+
+    /// What follows the solutions: the number of derivations.
+    ///
+    /// # Errors
+    ///
+    /// Those of `next`.
+    pub fn finish(self) -> Result<Derivations<R>, TextError>
+    where
+        R: Drop,
+        requires { self.left ≡ 0 }
+        ensures spent { IsErrOf result TextError.Spent ↔ (self.failed ≡ true) }
+        ensures remembers { IfOk result (λ d. Remembers self d) }
+        ensures working { IfOk result (λ d. d.failed ≡ false) }
+        ensures counted { IfOk result (λ d. d.constraints + d.left < 2 ^ 32) }
+        ensures read { (p : ProblemMeant) → Knows self p → IsSome self.rest
+            → GivesFrom (λ d. d.left) (λ d. d.rest) result
+            (derivations_read p (rest_of self.rest)) }
+    {
+        let mut items = self.items;
+        if items.failed {
+            return Err(TextError::Spent);
+        }
+        match items.parser.derivation_count(items.constraints) {
+            Ok(left) => {
+                items.left = left;
+                Ok(Derivations { items })
+            }
+            Err(stop) => Err(TextError::from(stop)),
+        }
+    }
+}
+
+/// Reads the derivations of a certificate whose solutions were read.
+#[derive(Drop)]
+pub struct Derivations<R: Source> {
+    items: ItemReader<R>,
+}
+
+impl<R: Source> Model for Derivations<R> {
+    ghost use Rattle.vipr_read.specs.Items.{Items};
+    ghost use Rattle.vipr_read.specs.ItemsCode.{items_code};
+
+    ghost Value = { Items };
+
+    ghost coded = { items_code };
+
+    ghost view = { λ r. r.items };
+}
+
+impl<R: Source> Derivations<R> {
+    /// The next derivation, or `None` where all were read and only white space followed.
+    ///
+    /// # Errors
+    ///
+    /// `Refused` where the text is at fault, `Read` where a read failed, and `Memory` where a growth
+    /// was refused; after an error `Spent`.
+    pub fn next(&mut self, alloc: Global) -> Result<Option<Derivation>, TextError>
+        ensures spent { IsErrOf result TextError.Spent ↔ (self.old.failed ≡ true) }
+        ensures failed { OnErr result (self.new.failed ≡ true) }
+        ensures kept { OnErr result (self.new.left ≡ self.old.left) }
+        ensures none { result ≡ Ok None → (self.new.left ≡ self.old.left)
+            × (IsSome self.old.rest → self.new ≡ self.old) }
+        ensures remembers { Remembers self.old self.new }
+        ensures working { OnOk result (self.new.failed ≡ false) }
+        ensures counted { IfOk result (λ o.
+            MatchOption o (self.old.left ≡ 0) (λ _. self.old.left ≡ suc self.new.left)) }
+        ensures shape { IfOk result (λ o.
+            IfSome o (λ d. DerivationShape self.old.variables (derivation_of d))) }
+        ensures read { (p : ProblemMeant) → Knows self.old p
+            → NextItem derivation_of (derivation_read p) end_read self.old self.new result }
+    {
+        match self.items.next(alloc, &Derived) {
+            Ok(None) => match self.items.end() {
+                Ok(()) => Ok(None),
+                Err(error) => Err(error),
+            },
+            next => next,
+        }
+    }
+}

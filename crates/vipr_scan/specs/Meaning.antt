@@ -1,0 +1,10 @@
+-- What a kind makes of the bytes of a token, against what they mean
+use Rattle.std.specs.Prelude.{◌≡◌, ℕ, ⊤, Result, Ok, Err}
+use Rattle.vipr_scan.specs.declared.kind.Unfit.{Unfit}
+use Rattle.vipr_scan.specs.declared.kind.Unfit.TheVariants as unfit
+
+-- the value that they mean, or the cause, unless memory ran out
+abbrev pub Means : {X Y : Type 0} → (X → Y) → Result X Unfit → Result Y ℕ → Type 0
+Means view (Ok x) m = m ≡ Ok (view x)
+Means view (Err (unfit.Cause c)) m = m ≡ Err c
+Means view (Err unfit.Memory) m = ⊤

@@ -1,0 +1,103 @@
+-- What a reader of tokens has left.
+use Rattle.std.specs.Prelude.{◌≡◌, ℕ, ◌+◌, ◌^◌, ◌<◌, nat_lt, Bool, true, false, List, [], ◌∷◌, ◌++◌}
+use Rattle.std.specs.Prelude.{length, take, drop, Option, Some, None, Result, Ok, Err, slice_range}
+use Rattle.std.specs.Prelude.{slice_index, IfSome, if◌then◌else◌, option_and_then}
+use Rattle.std.specs.Option.{option_map}
+use Rattle.vipr_spec.specs.Input.{Input}
+use Rattle.vipr_spec.specs.Tokens.{Token, is_white}
+use Rattle.vipr_spec.specs.Reading.{Rest}
+use Rattle.vipr_scan.specs.declared.place.Place.TheVariants.{Past}
+use Rattle.vipr_scan.specs.declared.window.Window.{Window}
+use Rattle.vipr_scan.specs.declared.place.Place.{Place}
+use Rattle.vipr_scan.specs.Places.{tokens_in}
+use Rattle.vipr_scan.specs.declared.error.Stop.{Stop}
+use Rattle.vipr_scan.specs.declared.error.Stop.TheVariants as stop
+use Rattle.vipr_scan.specs.declared.window.Found.{Found}
+
+-- the bytes that were read and not yet taken
+abbrev pub unread : {R : Type 0} → Window R → List ℕ
+unread t = slice_range t.buf.value t.start t.end
+
+-- the input with bytes in front
+abbrev pub prepend : List ℕ → Input → Input
+prepend bytes i = record { bytes = bytes ++ i.bytes; fails = i.fails }
+
+-- what reads will give from here on, where it is known
+abbrev pub source_left : {R : Type 0} → (R → Option Input) → Window R → Option Input
+source_left input t =
+    if t.ended then Some (record { bytes = []; fails = false }) else input t.source
+
+-- the input from the first byte not yet taken on, where it is known
+abbrev pub input_left : {R : Type 0} → (R → Option Input) → Window R → Option Input
+input_left input t = option_map (prepend (unread t)) (source_left input t)
+
+-- of an input that ends at an offset below 2^64
+abbrev pub left_of : Place → ℕ → Input → Option Rest
+left_of place offset i =
+    let end = offset + length i.bytes in
+    let tokens = tokens_in place i.fails offset i.bytes in
+    let rest : Rest = record { tokens = tokens; fails = i.fails; length = end } in
+    if nat_lt end (2 ^ 64) then Some rest else None
+
+abbrev pub left : {R : Type 0} → (R → Option Input) → Window R → Option Rest
+left input t = option_and_then (left_of t.place t.offset) (input_left input t)
+
+-- what was known stays so
+abbrev pub Keeps : Option Rest → Option Rest → Type 0
+Keeps old new = IfSome old (λ l. new ≡ Some l)
+
+-- no token is left, and this follows
+abbrev pub IsOver : Option Rest → Bool → Type 0
+IsOver old fails = IfSome old (λ l. (l.tokens ≡ []) × (l.fails ≡ fails))
+
+-- a token stands at the front of the unread bytes
+abbrev pub IsAtToken : {R : Type 0} → Window R → Type 0
+IsAtToken t =
+    (0 < length (unread t)) × (t.place ≡ Past) × (is_white (slice_index (unread t) 0) ≡ false)
+
+-- the reads that may still come, and one for the end
+abbrev pub rounds : {R : Type 0} → (R → ℕ) → Window R → ℕ
+rounds reads_left t = if t.ended then 0 else reads_left t.source + 1
+
+-- what a caller sees of a token: at most 65,535 of its bytes
+pub record Seen : Type 0 where
+  pub bytes : List ℕ
+  pub offset : ℕ
+  pub long : Bool
+
+abbrev pub seen_of : Token → Seen
+seen_of w =
+    record { bytes = take 65535 w.bytes; offset = w.offset; long = nat_lt 65535 (length w.bytes) }
+
+abbrev pub seen_found : List ℕ → Found → Seen
+seen_found buf f =
+    record { bytes = slice_range buf f.start (f.start + f.len); offset = f.offset; long = f.long }
+
+-- the answer where these tokens are left
+abbrev pub first_answer : List Token → Bool → Result (Option Seen) Stop
+first_answer (w ∷ ws) fails = Ok (Some (seen_of w))
+first_answer [] false = Ok None
+first_answer [] true = Err stop.Read
+
+abbrev pub next_answer : Rest → Result (Option Seen) Stop
+next_answer l = first_answer l.tokens l.fails
+
+-- the tokens after the first
+abbrev pub next_left : Rest → Rest
+next_left l = record l { tokens = drop 1 l.tokens }
+
+-- an answer, as it is seen
+abbrev pub seen : {X E : Type 0} → (X → Seen) → Result (Option X) E → Result (Option Seen) E
+seen view (Ok None) = Ok None
+seen view (Ok (Some x)) = Ok (Some (view x))
+seen view (Err e) = Err e
+
+-- an error and a token that is too long end the reading
+abbrev pub stops : Result (Option Seen) Stop → Bool
+stops (Ok None) = false
+stops (Ok (Some s)) = s.long
+stops (Err e) = true
+
+-- a token that was found in the buffer
+abbrev pub found_token : List ℕ → Found → Token
+found_token buf f = record { bytes = slice_range buf f.start (f.start + f.len); offset = f.offset }

@@ -1,0 +1,96 @@
+use std::alloc::{AllocError, AllocFailed};
+use thiserror::Error;
+
+/// Why a text was not read on.
+#[derive(Clone, Copy, Debug, PartialEq, Eq)]
+pub enum Stop {
+    /// The text is refused: the number of the cause, and the offset of the first byte of the token
+    /// that is at fault.
+    Refused { cause: u8, offset: u64 },
+
+    /// A read failed.
+    Read,
+
+    /// A growth was refused.
+    Memory,
+}
+
+impl From<AllocError> for Stop {
+    ghost use Rattle.std.specs.Prelude.{◌≡◌};
+    ghost use Rattle.vipr_scan.specs.declared.error.Stop.TheVariants.{Memory};
+
+    ghost from_gives = { λ _ e. e ≡ Memory };
+
+    fn from(_e: AllocError) -> Stop {
+        Stop::Memory
+    }
+}
+
+impl<T: Drop> From<AllocFailed<T>> for Stop {
+    ghost use Rattle.std.specs.Prelude.{◌≡◌};
+    ghost use Rattle.vipr_scan.specs.declared.error.Stop.TheVariants.{Memory};
+
+    ghost from_gives = { λ _ e. e ≡ Memory };
+
+    fn from(_e: AllocFailed<T>) -> Stop {
+        Stop::Memory
+    }
+}
+
+/// Why a public reader did not read on.
+#[derive(Clone, Copy, Debug, PartialEq, Eq, Error)]
+pub enum TextError {
+    /// The text is refused: the number of the cause, and the offset of the first byte of the token
+    /// that is at fault.
+    #[error("refused {cause} at byte {offset}")]
+    Refused { cause: u8, offset: u64 },
+
+    /// A read failed.
+    #[error("a read failed")]
+    Read,
+
+    /// A growth was refused.
+    #[error("out of memory")]
+    Memory,
+
+    /// An error came before.
+    #[error("the reader is spent")]
+    Spent,
+}
+
+impl From<Stop> for TextError {
+    ghost use Rattle.std.specs.Prelude.{◌≡◌};
+    ghost use Rattle.vipr_scan.specs.Faults.{error_of};
+
+    ghost from_gives = { λ stop e. e ≡ error_of stop };
+
+    fn from(stop: Stop) -> TextError {
+        match stop {
+            Stop::Refused { cause, offset } => TextError::Refused { cause, offset },
+            Stop::Read => TextError::Read,
+            Stop::Memory => TextError::Memory,
+        }
+    }
+}
+
+impl From<AllocError> for TextError {
+    ghost use Rattle.std.specs.Prelude.{◌≡◌};
+    ghost use Rattle.vipr_scan.specs.declared.error.TextError.TheVariants.{Memory};
+
+    ghost from_gives = { λ _ e. e ≡ Memory };
+
+    fn from(_e: AllocError) -> TextError {
+        TextError::Memory
+    }
+}
+
+impl<T: Drop> From<AllocFailed<T>> for TextError {
+    ghost use Rattle.std.specs.Prelude.{◌≡◌};
+    ghost use Rattle.vipr_scan.specs.declared.error.TextError.TheVariants.{Memory};
+
+    ghost from_gives = { λ _ e. e ≡ Memory };
+
+    fn from(_e: AllocFailed<T>) -> TextError {
+        TextError::Memory
+    }
+}

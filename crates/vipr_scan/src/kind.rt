@@ -1,0 +1,45 @@
+ghost use Rattle.std.specs.Prelude.{ℕ, List, Result, IfOk, ⊤};
+ghost use Rattle.vipr_spec.specs.Tokens.{IsToken};
+ghost use Rattle.vipr_scan.specs.Meaning.{Means};
+
+use std::alloc::AllocError;
+
+/// Why bytes are no token of a kind.
+#[derive(Clone, Copy, Debug, PartialEq, Eq)]
+pub enum Unfit {
+    /// The number of the cause.
+    Cause(u8),
+    /// A growth was refused.
+    Memory,
+}
+
+impl From<AllocError> for Unfit {
+    ghost use Rattle.std.specs.Prelude.{◌≡◌};
+    ghost use Rattle.vipr_scan.specs.declared.kind.Unfit.TheVariants.{Memory};
+
+    ghost from_gives = { λ _ e. e ≡ Memory };
+
+    fn from(_e: AllocError) -> Unfit {
+        Unfit::Memory
+    }
+}
+
+/// A kind of token: what the bytes of a token mean, or the cause of their refusal.
+pub trait TokenKind {
+    type Value: Drop;
+
+    /// What the definitions say that a token of this kind is.
+    ghost Meant: { Type 0 };
+
+    ghost view: { Self.Value → Meant };
+
+    ghost meaning: { Self → List ℕ → Result Meant ℕ };
+
+    /// What is so of each value, whether or not the source tells its bytes.
+    ghost bounds: { Self → Self.Value → Type 0 } = { λ _ _. ⊤ };
+
+    fn read(&self, bytes: &[u8]) -> Result<Self::Value, Unfit>
+        requires { IsToken bytes.now }
+        ensures meaning { Means view result (meaning self.now bytes.now) }
+        ensures bounds { IfOk result (λ x. bounds self.now x) };
+}

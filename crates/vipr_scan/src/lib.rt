@@ -1,0 +1,19 @@
+//! The scanner of a text: one call takes a token of any kind, over a fixed buffer.
+#![tactic(auto)]
+
+mod bytes;
+pub mod cause;
+mod error;
+mod kind;
+mod piece;
+mod place;
+mod scanner;
+#[cfg(test)]
+mod tests;
+mod tokens;
+mod window;
+
+pub use error::{Stop, TextError};
+pub use kind::{TokenKind, Unfit};
+pub use scanner::Scanner;
+pub use tokens::{Token, Tokens};

@@ -1,0 +1,69 @@
+ghost use Rattle.std.specs.Prelude.{◌≡◌, ◌≢◌, ◌^◌, ◌<◌, length, Some, IfOk, IfSome, IfErr, OnOk};
+ghost use Rattle.std.specs.Prelude.{IsSome};
+ghost use Rattle.vipr_bytes.specs.Known.{IfKnown, text_of};
+ghost use Rattle.vipr_spec.specs.Reading.{taken, end_read};
+ghost use Rattle.vipr_scan.specs.Giving.{Scans, Ends, IsBehind, rest_of};
+
+use crate::error::Stop;
+use crate::kind::{TokenKind, Unfit};
+use crate::window::Window;
+use std::alloc::{AllocError, Global};
+use std::marker::Model;
+use vipr_bytes::Source;
+
+/// Takes the tokens of a text one by one, over a buffer of 65,536 bytes. In contracts it is the
+/// rest of the text, where that is known.
+#[derive(Drop)]
+pub struct Scanner<R: Source> {
+    window: Window<R>,
+}
+
+impl<R: Source> Model for Scanner<R> {
+    ghost use Rattle.std.specs.Prelude.{Option};
+    ghost use Rattle.vipr_spec.specs.Reading.{Rest};
+    ghost use Rattle.vipr_scan.specs.View.{left};
+
+    ghost Value = { Option Rest };
+
+    ghost view = { λ s. left R.input s.window };
+}
+
+impl<R: Source> Scanner<R> {
+    /// A scanner at the start of the text. Where there is no memory, nothing was read.
+    pub fn new(alloc: Global, source: R) -> Result<Scanner<R>, AllocError>
+    where
+        R: Drop,
+        ensures { IfOk result (λ s. IfKnown (R.input source) (λ i. s ≡ Some (text_of i))) }
+    {
+        let window = Window::new(alloc, source)?;
+        Ok(Scanner { window })
+    }
+
+    /// The next token, which is of this kind. A token that the kind refuses is taken too.
+    pub fn take<K: TokenKind>(&mut self, kind: &K) -> Result<K::Value, Stop>
+        ensures read { Scans K.view (taken (K.meaning kind.now)) self.old self.new result }
+        ensures behind { IsBehind self.old self.new }
+        ensures bounds { IfOk result (λ x. K.bounds kind.now x) }
+    {
+        let found = self.window.want()?;
+        let bytes = &self.window.buf[found.start..found.start + found.len];
+        match kind.read(bytes) {
+            Ok(value) => Ok(value),
+            Err(Unfit::Cause(cause)) => Err(Stop::Refused {
+                cause,
+                offset: found.offset,
+            }),
+            Err(Unfit::Memory) => Err(Stop::Memory),
+        }
+    }
+
+    /// The end of the text. A token that stands there is taken.
+    pub fn end(&mut self) -> Result<(), Stop>
+        ensures read { IsSome self.old → Ends result (end_read (rest_of self.old)) }
+        ensures kept { OnOk result (IsSome self.old → self.new ≡ self.old) }
+        ensures behind { IsBehind self.old self.new }
+        ensures error { IfErr result (λ e. e ≢ Stop.Memory) }
+    {
+        self.window.end()
+    }
+}

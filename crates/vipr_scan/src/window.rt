@@ -1,0 +1,263 @@
+ghost use Rattle.std.specs.Prelude.{◌≡◌, ℕ, ◌+◌, ◌-◌, ◌^◌, ◌<◌, ◌≤◌, min, Bool, true, false, List};
+ghost use Rattle.std.specs.Prelude.{◌∷◌, ◌++◌, length, drop, slice_index, Option, Some, None, Ok};
+ghost use Rattle.std.specs.Prelude.{Err, IfOk, IfSome, IfErr, IfNone, IsErrOf, ◌↔◌, take, OnOk};
+ghost use Rattle.std.specs.Prelude.{OnErr, slice_range, ◌≢◌};
+ghost use Rattle.vipr_spec.specs.Input.{Input};
+ghost use Rattle.vipr_spec.specs.Tokens.{is_white, IsToken};
+ghost use Rattle.vipr_bytes.specs.Known.{IfKnown, text_of};
+
+use crate::bytes::{is_white, run_end};
+use crate::cause;
+use crate::error::Stop;
+use crate::piece::{move_to_front, read_behind};
+use crate::place::{Place, gap};
+use std::alloc::{AllocError, Global};
+use vipr_bytes::Source;
+
+/// Where a token lies in the buffer.
+#[derive(Clone, Copy, Debug)]
+pub(crate) struct Found {
+    pub(crate) start: usize,
+    pub(crate) len: usize,
+    pub(crate) offset: u64,
+    pub(crate) long: bool,
+}
+
+/// Reads the tokens of a text.
+#[derive(Drop)]
+pub(crate) struct Window<R> {
+    source: R,
+    pub(crate) buf: Box<[u8; 65536]>,
+    start: usize,
+    end: usize,
+    offset: u64,
+    place: Place,
+    ended: bool,
+    ghost ordered: { start ≤ end },
+    ghost within: { end ≤ 65536 },
+}
+
+impl<R: Source> Window<R> {
+    ghost use Rattle.std.specs.Borrow.{sem};
+    ghost use Rattle.std.specs.Io.BufRead.{Rests};
+    ghost use Rattle.vipr_scan.specs.contracts.window.Window.{the_row};
+    ghost use Rattle.vipr_scan.specs.Places.{tokens_in};
+    ghost use Rattle.vipr_scan.specs.View.{unread, input_left, left, rounds, Keeps, IsOver};
+    ghost use Rattle.vipr_scan.specs.View.{IsAtToken, seen_found, next_answer, next_left, seen};
+    ghost use Rattle.vipr_scan.specs.View.{stops, found_token};
+    ghost use Rattle.vipr_scan.specs.Giving.{Scans, Ends, IsBehind};
+    ghost use Rattle.vipr_spec.specs.Reading.{token_read, end_read};
+
+    /// A reader at the start of the text. Where there is no memory, nothing was read.
+    pub(crate) fn new(alloc: Global, source: R) -> Result<Window<R>, AllocError>
+    where
+        R: Drop,
+        ensures left { IfOk result (λ t. IfKnown (R.input source) (λ i.
+            left R.input t ≡ Some (text_of i))) }
+    {
+        let buf = Box::new(alloc, [0; 65536])?;
+        Ok(Window {
+            source,
+            buf,
+            start: 0,
+            end: 0,
+            offset: 0,
+            place: Place::Front,
+            ended: false,
+        })
+    }
+
+    /// Moves the unread bytes to the front of the buffer, and reads behind them.
+    fn fill(&mut self) -> Result<(), Stop>
+        requires room { length (unread self.old) < 65536 }
+        requires more { self.old.ended ≡ false }
+        ensures place { self.new.place ≡ self.old.place }
+        ensures offset { self.new.offset ≡ self.old.offset }
+        ensures kept { length (unread self.old) ≤ length (unread self.new) }
+        ensures front { take (length (unread self.old)) (unread self.new) ≡ unread self.old }
+        ensures input { OnOk result
+            (IfSome (input_left R.input self.old) (λ i. input_left R.input self.new ≡ Some i)) }
+        ensures left { OnOk result (Keeps (left R.input self.old) (left R.input self.new)) }
+        ensures err { OnErr result
+            (IfSome (input_left R.input self.old)
+            (λ i. (i.bytes ≡ unread self.old) × (i.fails ≡ true))) }
+        ensures error { IfErr result (λ e. e ≡ Stop.Read) }
+        ensures round { OnOk result (rounds R.reads_left self.new < rounds R.reads_left self.old) }
+    {
+        let held = self.end - self.start;
+        let buf: &mut [u8; 65536] = &mut self.buf;
+        move_to_front(buf, self.start, self.end);
+        self.start = 0;
+        self.end = held;
+        match read_behind(&mut self.source, buf, held) {
+            Ok(0) => {
+                self.ended = true;
+                Ok(())
+            }
+            Ok(n) => {
+                self.end = held + n;
+                Ok(())
+            }
+            Err(_) => Err(Stop::Read),
+        }
+    }
+
+    /// Takes the white space and comments at hand before the next token.
+    fn take_gap(&mut self)
+        ensures left { Keeps (left R.input self.old) (left R.input self.new) }
+        ensures token { 0 < length (unread self.new) → IsAtToken self.new }
+        ensures length { length (unread self.new) ≡ self.new.end - self.new.start }
+        ensures ended { self.new.ended ≡ self.old.ended }
+        ensures source { self.new.source ≡ self.old.source }
+    {
+        let bytes = &self.buf[self.start..self.end];
+        let (n, place) = gap(self.place, bytes);
+        self.start += n;
+        self.offset = self.offset.saturating_add(n as u64);
+        self.place = place;
+    }
+
+    /// Goes to the next token. At the end no byte is left.
+    fn skip(&mut self) -> Result<(), Stop>
+        ensures left { OnOk result (Keeps (left R.input self.old) (left R.input self.new)) }
+        ensures token { OnOk result (0 < length (unread self.new) → IsAtToken self.new) }
+        ensures end { OnOk result
+            (length (unread self.new) ≡ 0 → IsOver (left R.input self.old) false) }
+        ensures length { OnOk result (length (unread self.new) ≡ self.new.end - self.new.start) }
+        ensures reached { OnOk result
+            (length (unread self.new) ≡ 0 →
+            IfSome (left R.input self.old) (λ l. self.new.offset ≡ l.length)) }
+        ensures failed { OnErr result (IsOver (left R.input self.old) true) }
+        ensures error { IfErr result (λ e. e ≡ Stop.Read) }
+    {
+        loop {
+            self.take_gap();
+            if self.start < self.end || self.ended {
+                return Ok(());
+            }
+            self.fill()?;
+        }
+    }
+
+    /// The length of the token at the front, all of it at hand, or 65,536 if it is longer.
+    fn measure(&mut self) -> Result<usize, Stop>
+        requires { IsAtToken self.old }
+        ensures left { OnOk result (Keeps (left R.input self.old) (left R.input self.new)) }
+        ensures within { IfOk result (λ n. n ≤ length (unread self.new)) }
+        ensures token { IfOk result (λ n. 0 < n) }
+        ensures run { IfOk result
+            (λ n. (k : ℕ) → k < n → is_white (slice_index (unread self.new) k) ≡ false) }
+        ensures white { IfOk result
+            (λ n. n < length (unread self.new) →
+            is_white (slice_index (unread self.new) n) ≡ true) }
+        ensures whole { IfOk result
+            (λ n. n < 65536 → n ≡ length (unread self.new) → self.new.ended ≡ true) }
+        ensures place { OnOk result (self.new.place ≡ Place.Past) }
+        ensures failed { OnErr result (IsOver (left R.input self.old) true) }
+        ensures error { IfErr result (λ e. e ≡ Stop.Read) }
+    {
+        let mut len = 0;
+        loop {
+            let bytes = &self.buf[self.start..self.end];
+            len = run_end(bytes, len);
+            if len < bytes.len() || len == 65536 || self.ended {
+                return Ok(len);
+            }
+            self.fill()?;
+        }
+    }
+
+    /// Takes the token at the front, of that many bytes.
+    fn take_token(&mut self, n: usize) -> Found
+        requires place { self.old.place ≡ Place.Past }
+        requires within { n ≤ length (unread self.old) }
+        requires token { 0 < n }
+        requires limit { n ≤ 65536 }
+        requires run { (k : ℕ) → k < n → is_white (slice_index (unread self.old) k) ≡ false }
+        requires white { n < length (unread self.old) →
+            is_white (slice_index (unread self.old) n) ≡ true }
+        requires whole { n < 65536 → n ≡ length (unread self.old) → self.old.ended ≡ true }
+        ensures answer { IfSome (left R.input self.old)
+            (λ l. Ok (Some (seen_found self.new.buf.value result)) ≡ next_answer l) }
+        ensures left { result.long ≡ false →
+            IfSome (left R.input self.old) (λ l. left R.input self.new ≡ Some (next_left l)) }
+        ensures within { result.start + result.len ≤ 65536 }
+        ensures token { IsToken
+            (slice_range self.new.buf.value result.start (result.start + result.len)) }
+    {
+        let found = Found {
+            start: self.start,
+            len: n.min(65535),
+            offset: self.offset,
+            long: n == 65536,
+        };
+        self.start += n;
+        self.offset = self.offset.saturating_add(n as u64);
+        found
+    }
+
+    /// Finds the next token, and takes it.
+    pub(crate) fn advance(&mut self) -> Result<Option<Found>, Stop>
+        ensures answer { IfSome (left R.input self.old)
+            (λ l. seen (seen_found self.new.buf.value) result ≡ next_answer l) }
+        ensures left { stops (seen (seen_found self.new.buf.value) result) ≡ false →
+            IfSome (left R.input self.old) (λ l. left R.input self.new ≡ Some (next_left l)) }
+        ensures end { result ≡ Ok None →
+            IfSome (left R.input self.old) (λ l. self.new.offset ≡ l.length) }
+        ensures within { IfOk result (λ o. IfSome o (λ f. f.start + f.len ≤ 65536)) }
+        ensures token { IfOk result
+            (λ o. IfSome o
+            (λ f. IsToken (slice_range self.new.buf.value f.start (f.start + f.len)))) }
+        ensures error { IfErr result (λ e. e ≡ Stop.Read) }
+    {
+        self.skip()?;
+        if self.start == self.end {
+            return Ok(None);
+        }
+        let n = self.measure()?;
+        let found = self.take_token(n);
+        Ok(Some(found))
+    }
+
+    /// Takes the token that is wanted here.
+    #[tactic(auto, unfolding(vipr_spec::specs::Reading::first_token))]
+    pub(crate) fn want(&mut self) -> Result<Found, Stop>
+        ensures read { Scans (found_token self.new.buf.value) token_read
+            (left R.input self.old) (left R.input self.new) result }
+        ensures behind { IsBehind (left R.input self.old) (left R.input self.new) }
+        ensures within { IfOk result (λ f. f.start + f.len ≤ 65536) }
+        ensures token { IfOk result
+            (λ f. IsToken (slice_range self.new.buf.value f.start (f.start + f.len))) }
+        ensures error { IfErr result (λ e. e ≢ Stop.Memory) }
+    {
+        let Some(found) = self.advance()? else {
+            return Err(Stop::Refused {
+                cause: cause::TRUNCATED,
+                offset: self.offset,
+            });
+        };
+        if found.long {
+            return Err(Stop::Refused {
+                cause: cause::TOKEN_TOO_LONG,
+                offset: found.offset,
+            });
+        }
+        Ok(found)
+    }
+
+    /// Takes the end of the text.
+    pub(crate) fn end(&mut self) -> Result<(), Stop>
+        ensures read { IfSome (left R.input self.old) (λ l. Ends result (end_read l)) }
+        ensures behind { IsBehind (left R.input self.old) (left R.input self.new) }
+        ensures kept { OnOk result (Keeps (left R.input self.old) (left R.input self.new)) }
+        ensures error { IfErr result (λ e. e ≢ Stop.Memory) }
+    {
+        match self.advance()? {
+            None => Ok(()),
+            Some(found) => Err(Stop::Refused {
+                cause: cause::TRAILING_TEXT,
+                offset: found.offset,
+            }),
+        }
+    }
+}

@@ -1,7 +1,0 @@
-pub mod VectorRows
-pub mod Ending
-pub mod Repeating
-pub mod Taking
-pub mod Marking
-pub mod WholeSteps
-pub mod WholeTexts

@@ -1,6 +1,0 @@
-pub mod Giving
-pub mod Rules
-pub mod Readers
-pub mod ItemsCode
-pub mod Marks
-pub mod Whole

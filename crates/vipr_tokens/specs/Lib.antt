@@ -1,4 +1,0 @@
-pub mod Places
-pub mod View
-pub mod Follows
-pub mod Faults
