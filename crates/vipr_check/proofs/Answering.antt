@@ -15,13 +15,13 @@ use Rattle.vipr_linear.specs.Constraint.{condition_of}
 use Rattle.vipr_tokens.specs.Faults.{Fails}
 use Rattle.vipr_tokens.specs.declared.error.TextError.{TextError}
 use Rattle.vipr_tokens.specs.declared.error.TextError.TheVariants as text
-use Rattle.vipr_rules.specs.Judged.{IsComputed, Tells, Stops}
+use Rattle.vipr_rules.specs.Apply.{IsComputed, Tells, Stops}
 use Rattle.vipr_spec.specs.Constraint.{Row}
 use Rattle.vipr_rules.specs.Solution.{test_of}
 use Rattle.vipr_rules.specs.declared.solution.SolutionError.{SolutionError}
 use Rattle.vipr_rules.specs.declared.solution.SolutionError.TheVariants as solution
-use Rattle.vipr_rules.specs.declared.failure.RuleError.{RuleError}
-use Rattle.vipr_rules.specs.declared.failure.RuleError.TheVariants as rule
+use Rattle.vipr_rules.specs.declared.error.RuleError.{RuleError}
+use Rattle.vipr_rules.specs.declared.error.RuleError.TheVariants as rule
 use Rattle.vipr_check.specs.declared.verdict.Report.{Report}
 use Rattle.vipr_check.specs.declared.verdict.Verdict.{Verdict}
 use Rattle.vipr_check.specs.declared.verdict.Verdict.TheVariants.{Verified, Refused}

@@ -3,8 +3,8 @@ use Rattle.std.specs.Prelude.{ℕ, Result, Ok, Err}
 use Rattle.vipr_spec.specs.Causes as cause
 use Rattle.vipr_tokens.specs.declared.error.TextError.{TextError}
 use Rattle.vipr_tokens.specs.declared.error.TextError.TheVariants as text
-use Rattle.vipr_rules.specs.declared.failure.RuleError.{RuleError}
-use Rattle.vipr_rules.specs.declared.failure.RuleError.TheVariants as rule
+use Rattle.vipr_rules.specs.declared.error.RuleError.{RuleError}
+use Rattle.vipr_rules.specs.declared.error.RuleError.TheVariants as rule
 use Rattle.vipr_rules.specs.declared.solution.SolutionError.{SolutionError}
 use Rattle.vipr_rules.specs.declared.solution.SolutionError.TheVariants as solution
 use Rattle.vipr_check.specs.declared.verdict.Place.{Place}

@@ -9,7 +9,7 @@ use Rattle.vipr_spec.specs.Progress.{Answers, solutions_from, derivations_from}
 use Rattle.vipr_text.specs.Readers.{Items, Knows}
 use Rattle.vipr_rules.specs.Table.{Table, empty_table}
 use Rattle.vipr_rules.specs.Claim.{IsTargetOf}
-use Rattle.vipr_rules.specs.Before.{DerivedBelow}
+use Rattle.vipr_rules.specs.Table.{DerivedBelow}
 use Rattle.vipr_rules.specs.History.{IsTableOf}
 use Rattle.vipr_check.specs.declared.checker.Checker.{Checker}
 

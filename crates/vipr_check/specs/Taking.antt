@@ -6,11 +6,11 @@ use Rattle.vipr_spec.specs.OnePass.{with_next}
 use Rattle.vipr_spec.specs.Verdict.{step_tests, StepTest, PassesSolution, solution_tests, FirstFailing, of_step, told_by}
 use Rattle.vipr_spec.specs.Progress.{PassesNext, Answers, solutions_from, derivations_from}
 use Rattle.vipr_rules.specs.Table.{Table}
-use Rattle.vipr_rules.specs.Judged.{Passes, Stops}
+use Rattle.vipr_rules.specs.Apply.{Passes, Stops}
 use Rattle.vipr_rules.specs.Solution.{test_of}
 use Rattle.vipr_rules.specs.declared.solution.SolutionError.{SolutionError}
-use Rattle.vipr_rules.specs.declared.failure.RuleError.{RuleError}
-use Rattle.vipr_rules.specs.declared.failure.RuleError.TheVariants.{Memory}
+use Rattle.vipr_rules.specs.declared.error.RuleError.{RuleError}
+use Rattle.vipr_rules.specs.declared.error.RuleError.TheVariants.{Memory}
 use Rattle.vipr_text.specs.Readers.{Items}
 use Rattle.vipr_check.specs.declared.verdict.Verdict.{Verdict}
 use Rattle.vipr_check.specs.declared.verdict.Fault.{Fault}

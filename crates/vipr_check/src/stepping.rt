@@ -11,7 +11,7 @@ ghost use Rattle.vipr_items.specs.Items.{derivation_of};
 ghost use Rattle.vipr_rules.specs.Table.{step as table_step, held as held_in};
 ghost use Rattle.vipr_rules.specs.History.{IsEntryOf};
 ghost use Rattle.vipr_spec.specs.Verdict.{step_tests};
-ghost use Rattle.vipr_rules.specs.Judged.{Passes};
+ghost use Rattle.vipr_rules.specs.Apply.{Passes};
 ghost use Rattle.vipr_check.specs.View.{answer_of};
 ghost use Rattle.vipr_check.specs.State.{Begins, Describes, HasRoom};
 ghost use Rattle.vipr_check.specs.Taking.{Lists, Takes};

@@ -5,9 +5,8 @@ use Rattle.std.specs.FinMap.{get, get-empty}
 use Rattle.vipr_spec.specs.Constraint.{at, NamesBelow}
 use Rattle.vipr_linear.specs.declared.constraint.Constraint.{Constraint}
 use Rattle.vipr_items.specs.declared.items.Named.{Named}
-use Rattle.vipr_rules.specs.declared.entries.Entry.{Entry}
-use Rattle.vipr_rules.specs.Table.{Table, if_live, live_part, empty_table, step}
-use Rattle.vipr_rules.specs.Before.{DerivedBelow, NameBelow}
+use Rattle.vipr_rules.specs.declared.rows.Entry.{Entry}
+use Rattle.vipr_rules.specs.Table.{Table, if_live, live_part, empty_table, step, entry_at, DerivedBelow}
 use Rattle.vipr_spec.specs.Shape.{ConstraintShape}
 use Rattle.vipr_linear.specs.Constraint.{constraint_of}
 use Rattle.vipr_items.specs.Items.{named_of}
@@ -30,8 +29,8 @@ DerivedBelow-step n t e below new = record {
     by i x false h = below.each i x (if_live_of (t.next + 1) (get t.entries i) x h)
 
 -- constraints that keep the limits, and those of the table
-pub below_given : (n : ℕ) (cons : List (Named Constraint)) (t : Table) → All (ConstraintShape n) (map (named_of constraint_of) cons) → DerivedBelow n t → NameBelow n cons t
-below_given n cons t given derived = record {
-  given_ones = each_from (λ (x : Named Constraint). NamesBelow n (at x.item.row)) (ConstraintShape n) (named_of constraint_of) (λ x s. s.row) cons given;
-  derived_ones = derived;
-}
+pub given_below : (n : ℕ) (cons : List (Named Constraint)) → All (ConstraintShape n) (map (named_of constraint_of) cons) → All (λ x. NamesBelow n (at x.item.row)) cons
+given_below n cons given = each_from (λ (x : Named Constraint). NamesBelow n (at x.item.row)) (ConstraintShape n) (named_of constraint_of) (λ x s. s.row) cons given
+
+pub found_below : (n : ℕ) (t : Table) (i : ℕ) (e : Entry) → DerivedBelow n t → Some e ≡ entry_at t i → NamesBelow n (at e.constraint.row)
+found_below n t i e below at = below.each i e (if_live_of t.next (get t.entries i) e (sym at))

@@ -8,8 +8,8 @@ use Rattle.vipr_spec.specs.Verdict.{listed, by_cutoff, step_tests}
 use Rattle.vipr_spec.proofs.Best.{cuts_off}
 use Rattle.vipr_linear.specs.Constraint.{condition_of}
 use Rattle.vipr_linear.specs.declared.constraint.Constraint.{Constraint}
-use Rattle.vipr_rules.specs.declared.failure.RuleError.TheVariants.{NotDominated, NoSolution}
-use Rattle.vipr_rules.specs.Judged.{Stops, Passes}
+use Rattle.vipr_rules.specs.declared.error.RuleError.TheVariants.{NotDominated, NoSolution}
+use Rattle.vipr_rules.specs.Apply.{Stops, Passes}
 
 none_below : (ss : List (Named Row)) → ss ≡ [] → ¬ (0 < length ss)
 none_below ss e h = let n = ap length e in omega (arith, n)

@@ -5,7 +5,7 @@ use Rattle.std.proofs.lemmas.Bool.Decides.{nat_tests}
 use Rattle.std.specs.Ordering.{nat_cmp, ordering_then, is_lt}
 use Rattle.std.specs.BinaryHeap.{IsUpperBound}
 use Rattle.std.specs.declared.cmp.Reverse.{Reverse}
-use Rattle.vipr_rules.specs.Due.{due_cmp}
+use Rattle.vipr_rules.specs.Expiry.{due_cmp}
 
 -- where a pair does not come before another, its last derivation does not either
 not_before : (a b p q : ℕ) → is_lt (ordering_then (nat_cmp a b) (nat_cmp p q)) ≡ false → b ≤ a

@@ -8,7 +8,7 @@ use Rattle.std.specs.List.{range_with_len, count_by}
 use Rattle.vipr_spec.specs.Certificate.{Derivation, Certificate, reason_at, last_at, is_assumption, lasts_to, is_live, count, IsValid}
 use Rattle.vipr_spec.specs.Certificate as spec
 use Rattle.vipr_spec.proofs.Prefix.{with_more, constraint_before, reason_before, last_before, rests_before, rests_after}
-use Rattle.vipr_rules.specs.declared.entries.Entry.{Entry}
+use Rattle.vipr_rules.specs.declared.rows.Entry.{Entry}
 use Rattle.vipr_rules.specs.Table.{Table, is_live_before, if_live, live_part, empty_table, step, entry_at, held}
 use Rattle.vipr_rules.specs.History.{IsEntryOf, is_derived, is_held, IsTableOf, Answers}
 use Rattle.vipr_rules.proofs.TableLemmas.{get-insert_at, get-live_part}

@@ -8,7 +8,7 @@ pub mod CountLemmas
 pub mod HistoryLemmas
 pub mod EntryTests
 pub mod UnionLemmas
-pub mod LookupLemmas
+pub mod ContextLemmas
 pub mod SumLemmas
 pub mod StepLemmas
 pub mod UnsplitLemmas

@@ -11,9 +11,9 @@ use Rattle.vipr_linear.specs.Constraint.{sense_of, condition_of}
 use Rattle.vipr_linear.specs.Rounding.{IsRounding}
 use Rattle.vipr_linear.specs.declared.constraint.Constraint.{Constraint}
 use Rattle.vipr_linear.specs.declared.rounding.Rounded.TheVariants.{Row}
-use Rattle.vipr_rules.specs.declared.failure.RuleError.{RuleError}
-use Rattle.vipr_rules.specs.declared.failure.RuleError.TheVariants.{NotRoundable, NotDominated, Memory}
-use Rattle.vipr_rules.specs.Judged.{entries_of, IsSum, IsComputed, Stops, Passes}
+use Rattle.vipr_rules.specs.declared.error.RuleError.{RuleError}
+use Rattle.vipr_rules.specs.declared.error.RuleError.TheVariants.{NotRoundable, NotDominated, Memory}
+use Rattle.vipr_rules.specs.Apply.{entries_of, IsSum, IsComputed, Stops, Passes}
 
 -- x is the sum of the entries
 module _ (c : Certificate) (d : Derivation) (es : List (ℕ × ℚ)) (x : Constraint) (sum : IsSum c es (condition_of x)) (ints : Ints) (same : c.problem.integers ≡ ints) where

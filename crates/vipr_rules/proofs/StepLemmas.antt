@@ -23,13 +23,13 @@ use Rattle.vipr_linear.specs.Constraint.{constraint_of, condition_of}
 use Rattle.vipr_linear.specs.declared.constraint.Constraint.{Constraint}
 use Rattle.vipr_items.specs.declared.items.Named.{Named}
 use Rattle.vipr_items.specs.Items.{named_of}
-use Rattle.vipr_rules.specs.declared.failure.RuleError.{RuleError}
-use Rattle.vipr_rules.specs.declared.failure.RuleError.TheVariants.{NotDominated}
-use Rattle.vipr_rules.specs.declared.entries.Entry.{Entry}
+use Rattle.vipr_rules.specs.declared.error.RuleError.{RuleError}
+use Rattle.vipr_rules.specs.declared.error.RuleError.TheVariants.{NotDominated}
+use Rattle.vipr_rules.specs.declared.rows.Entry.{Entry}
 use Rattle.vipr_rules.specs.Table.{Table}
 use Rattle.vipr_rules.specs.History.{IsEntryOf, IsTableOf}
-use Rattle.vipr_rules.specs.Before.{StandsBefore, IsSetByReason}
-use Rattle.vipr_rules.specs.Judged.{IsSum, Stops, Passes, KeepsSound}
+use Rattle.vipr_rules.specs.Context.{StandsBefore, IsSetByReason}
+use Rattle.vipr_rules.specs.Apply.{IsSum, Stops, Passes, KeepsSound}
 
 -- ---- one list of tests after another
 pub stops_first : (c : Certificate) (d : Derivation) (xs ys : List StepTest) (e : RuleError) → Stops c d xs e → Stops c d (xs ++ ys) e

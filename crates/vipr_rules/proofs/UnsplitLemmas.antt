@@ -12,11 +12,11 @@ use Rattle.vipr_spec.specs.Progress.{PassesNext}
 use Rattle.vipr_spec.proofs.FirstFailing.{failing_second}
 use Rattle.vipr_linear.specs.Constraint.{condition_of}
 use Rattle.vipr_linear.specs.declared.constraint.Constraint.{Constraint}
-use Rattle.vipr_rules.specs.declared.failure.RuleError.{RuleError}
-use Rattle.vipr_rules.specs.declared.failure.RuleError.TheVariants.{NotSplit, NotDominated}
-use Rattle.vipr_rules.specs.declared.uns.Branch.{Branch}
-use Rattle.vipr_rules.specs.Before.{IsSetWithout, IsUnsplitSet}
-use Rattle.vipr_rules.specs.Judged.{index_tests, Passes, Stops, Tells}
+use Rattle.vipr_rules.specs.declared.error.RuleError.{RuleError}
+use Rattle.vipr_rules.specs.declared.error.RuleError.TheVariants.{NotSplit, NotDominated}
+use Rattle.vipr_rules.specs.declared.branches.Branch.{Branch}
+use Rattle.vipr_rules.specs.Context.{IsSetWithout, IsUnsplitSet}
+use Rattle.vipr_rules.specs.Apply.{index_tests, Passes, Stops, Tells}
 use Rattle.vipr_rules.proofs.EntryTests.{passing_parts}
 use Rattle.vipr_rules.proofs.SetLemmas.{tied_numbers}
 use Rattle.vipr_rules.proofs.StepLemmas.{stops_first, stops_second}
