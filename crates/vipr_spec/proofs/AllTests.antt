@@ -1,19 +1,19 @@
 -- All tests of a certificate pass exactly where it is a proof
-use Rattle.std.proofs.Common.{◌≡◌, ℕ, zero, suc, ◌+◌, ◌-◌, ◌<◌, ◌≤◌, List, [], ◌∷◌, ◌++◌, map, length, slice_index_or, Some, None, All, arith, refl, ◌∙◌, ap, subst, ⊎_elim}
+use Rattle.std.proofs.Common.{◌≡◌, ℕ, zero, suc, ◌+◌, ◌-◌, ◌<◌, List, [], ◌∷◌, ◌++◌, map, length, slice_index_or, unwrap_or, Some, None, All, arith, sym, ◌∙◌, ap, subst, subst₂}
 use Rattle.std.specs.Prelude.{◌↔◌}
-use Rattle.std.proofs.lemmas.Bool.{cases_lt}
+use Rattle.std.proofs.lemmas.List.{get_or-append-add, get_or-map}
 use Rattle.std.proofs.lemmas.List.Elements.{All-nil, All-cons, All-head, All-tail, All-append, All-map}
+use Rattle.std.proofs.Math.ListN.{length-map}
 use Rattle.std.specs.FinMap.{empty}
 use Rattle.vipr_spec.specs.Fraction.{zero_ℚ}
-use Rattle.vipr_spec.specs.Constraint.{IsInteger, at, equal}
-use Rattle.vipr_spec.specs.Certificate.{asm, Derivation, Certificate, variables, reason_at, IsFeasible, SolutionFits, IsProof}
-use Rattle.vipr_spec.specs.OnePass.{IsGoodStep, HasGoodSteps}
-use Rattle.vipr_spec.specs.Verdict.{Test, of_solution, meets_primal, of_step, meets_dual, Passes, step_tests, solution_tests, numbered, tests_of_solution, FirstFailing}
-use Rattle.vipr_spec.specs.ProofTests.{proof_tests}
+use Rattle.vipr_spec.specs.Constraint.{Profile, Constraint, IsInteger, at, equal}
+use Rattle.vipr_spec.specs.Certificate.{Named, asm, Derivation, Certificate, Known, given, derived, variables, constraint_at, reason_at, IsFeasible, SolutionFits, HasGoodSteps, IsProof}
+use Rattle.vipr_spec.specs.Steps.{before, PassesStep, step_tests, FirstFailing}
+use Rattle.vipr_spec.specs.Tests.{Test, of_solution, meets_primal, of_step, meets_dual, Passes, solution_tests, numbered, tests_of_solution, tests_of_derivation, proof_tests}
 use Rattle.vipr_spec.proofs.FirstFailing.{none_all, all_none, all_parts}
-use Rattle.vipr_spec.proofs.GoodTests.{good_passes}
 use Rattle.vipr_spec.proofs.SolutionTests.{feasible_of_tests, tests_of_feasible}
-use Rattle.vipr_spec.proofs.Steps.{good_given, proof_by_step}
+use Rattle.vipr_spec.proofs.Prefix.{is_derived}
+use Rattle.vipr_spec.proofs.Steps.{good_before}
 
 -- ---- the tests of numbered items
 numbered_of : {A : Type 0} (P : Test → Type 0) (tests : ℕ → A → List Test) (n : ℕ) (xs : List A) → All P (numbered tests n xs) → (k : ℕ) (d : A) → k < length xs → All P (tests (n + k) (slice_index_or xs k d))
@@ -37,73 +37,71 @@ unmapped : {A : Type 0} (P : Test → Type 0) (f : A → Test) (xs : List A) →
 unmapped P f [] a = All-nil (λ x. P (f x))
 unmapped P f (x ∷ xs) a = All-cons (λ x. P (f x)) x xs (All-head P (f x) (map f xs) a) (unmapped P f xs (All-tail P (f x) (map f xs) a))
 
--- ---- the reason of each derivation
-after_given : {X Y Z : Type 0} (f : X → Z) (g : Y → Z) (xs : List X) (ys : List Y) (k : ℕ) (d : Y) (z : Z) → k < length ys
-    → slice_index_or (map f xs ++ map g ys) (length xs + k) z ≡ g (slice_index_or ys k d)
-after_given f g [] [] k d z h = absurd (omega arith)
-after_given f g [] (y ∷ ys) zero d z h = refl
-after_given f g [] (y ∷ ys) (suc k) d z h = let e : 0 + suc k ≡ suc k = omega arith in ap (λ i. slice_index_or (g y ∷ map g ys) i z) e ∙ let e0 : k ≡ 0 + k = omega arith in ap (λ i. slice_index_or (map g ys) i z) e0 ∙ after_given f g [] ys k d z (omega arith)
-after_given f g (x ∷ xs) ys k d z h = let e : suc (length xs) + k ≡ suc (length xs + k) = omega arith in ap (λ i. slice_index_or (f x ∷ (map f xs ++ map g ys)) i z) e ∙ after_given f g xs ys k d z h
+-- ---- each derivation
+after_given : (xs : List (Named Constraint)) (ys : List Derivation) (k : ℕ) (d : Derivation) (none : Known) → k < length ys → slice_index_or (map given xs ++ map derived ys) (length xs + k) none ≡ derived (slice_index_or ys k d)
+after_given xs ys k d none h =
+    let n : length (map given xs) ≡ length xs = simp length-map in
+    ap (λ n. slice_index_or (map given xs ++ map derived ys) (n + k) none) (sym n) ∙ get_or-append-add (map given xs) (map derived ys) k none
+    ∙ get_or-map derived ys k d none h
 
-pub reason_derived : (c : Certificate) (k : ℕ) (d : Derivation) → k < length c.derivations → reason_at c (length c.problem.constraints + k) ≡ Some (slice_index_or c.derivations k d).reason
-reason_derived c k d h = after_given (λ a. None) (λ d. Some d.reason) c.problem.constraints c.derivations k d None h
+reason_derived : (c : Certificate) (k : ℕ) (d : Derivation) → k < length c.derivations → reason_at c (length c.problem.constraints + k) ≡ Some (slice_index_or c.derivations k d).reason
+reason_derived c k d h = ap (λ (x : Known). x.reason) (after_given c.problem.constraints c.derivations k d _ h)
 
 nothing : Derivation
 nothing = record { name = []; stated = record { row = empty; sense = equal; bound = zero_ℚ }; reason = asm; last = None }
 
 -- ---- all tests
-module _ (c : Certificate) where
+module _ (P : Profile) (c : Certificate) where
   abbrev m : ℕ
   m = length c.problem.constraints
 
-  abbrev step_list : ℕ → Derivation → List Test
-  step_list k d = map (of_step k) (step_tests d.reason)
-
-  steps_of : All (Passes c) (numbered step_list m c.derivations) → HasGoodSteps c
-  steps_of a k h = ⊎_elim
-      (λ (l : k < m). good_given c k l)
-      (λ (l : m ≤ k).
+  steps_of : All (Passes P c) (numbered tests_of_derivation m c.derivations) → HasGoodSteps P c
+  steps_of a k r e =
+      let h = is_derived c k r e in
       let j = k - m in
-      let e : m + j ≡ k = omega arith in
-      let within : j < length c.derivations = omega arith in
-      let r = (slice_index_or c.derivations j nothing).reason in
-      subst (IsGoodStep c) e ((good_passes c (m + j) r (reason_derived c j nothing within)).0
-      (unmapped (Passes c) (of_step (m + j)) (step_tests r) (numbered_of (Passes c) step_list m c.derivations a j nothing within))))
-      (cases_lt k m)
+      let at : m + j ≡ k = omega arith in
+      let d = slice_index_or c.derivations j nothing in
+      let q = reason_derived c j nothing (omega arith) in
+      let same : d.reason ≡ r = ap (λ o. unwrap_or o r) (sym q ∙ ap (reason_at c) at ∙ e) in
+      let passed = none_of (m + j) d (numbered_of (Passes P c) tests_of_derivation m c.derivations a j nothing (omega arith)) in
+      (good_before P c k r e).0 (subst₂ (λ n q. FirstFailing (PassesStep P (before c n) (constraint_at c n)) (step_tests q) None) at same passed)
+    where
+      none_of : (k : ℕ) (d : Derivation) → All (Passes P c) (tests_of_derivation k d) → FirstFailing (PassesStep P (before c k) (constraint_at c k)) (step_tests d.reason) None
+      none_of k d a = all_none (PassesStep P (before c k) (constraint_at c k)) (step_tests d.reason) (unmapped (Passes P c) (of_step k) (step_tests d.reason) a)
 
-  of_steps : HasGoodSteps c → All (Passes c) (numbered step_list m c.derivations)
-  of_steps g = numbered_all (Passes c) step_list m c.derivations (λ j d h.
+  of_steps : HasGoodSteps P c → All (Passes P c) (numbered tests_of_derivation m c.derivations)
+  of_steps g = numbered_all (Passes P c) tests_of_derivation m c.derivations (λ j d h.
       let r = (slice_index_or c.derivations j d).reason in
-      All-map (Passes c) (of_step (m + j)) (step_tests r) ((good_passes c (m + j) r (reason_derived c j d h)).1 (g (m + j) (omega arith))))
+      let q = reason_derived c j d h in
+      All-map (Passes P c) (of_step (m + j)) (step_tests r) (none_all (PassesStep P (before c (m + j)) (constraint_at c (m + j))) (step_tests r) ((good_before P c (m + j) r q).1 (g (m + j) r q))))
 
-  solutions_of : ((j : ℕ) → IsInteger c.problem.integers j → j < variables c.problem) → All (Passes c) (numbered (tests_of_solution c.problem) 0 c.solutions) → All (λ s. IsFeasible c.problem (at s.item) × SolutionFits c.problem (at s.item)) c.solutions
+  solutions_of : ((j : ℕ) → IsInteger c.problem.integers j → j < variables c.problem) → All (Passes P c) (numbered (tests_of_solution c.problem) 0 c.solutions) → All (λ s. IsFeasible c.problem (at s.item) × SolutionFits c.problem (at s.item)) c.solutions
   solutions_of below a k d h = feasible_of_tests c.problem (slice_index_or c.solutions k d).item below
-      (unmapped (Passes c) (of_solution (0 + k) (slice_index_or c.solutions k d).item) (solution_tests c.problem) (numbered_of (Passes c) (tests_of_solution c.problem) 0 c.solutions a k d h))
+      (unmapped (Passes P c) (of_solution (0 + k) (slice_index_or c.solutions k d).item) (solution_tests c.problem) (numbered_of (Passes P c) (tests_of_solution c.problem) 0 c.solutions a k d h))
 
-  of_solutions : All (λ s. IsFeasible c.problem (at s.item)) c.solutions → All (λ s. SolutionFits c.problem (at s.item)) c.solutions → All (Passes c) (numbered (tests_of_solution c.problem) 0 c.solutions)
-  of_solutions f g = numbered_all (Passes c) (tests_of_solution c.problem) 0 c.solutions (λ k d h.
-      All-map (Passes c) (of_solution (0 + k) (slice_index_or c.solutions k d).item) (solution_tests c.problem) (tests_of_feasible c.problem (slice_index_or c.solutions k d).item (f k d h) (g k d h)))
+  of_solutions : All (λ s. IsFeasible c.problem (at s.item)) c.solutions → All (λ s. SolutionFits c.problem (at s.item)) c.solutions → All (Passes P c) (numbered (tests_of_solution c.problem) 0 c.solutions)
+  of_solutions f g = numbered_all (Passes P c) (tests_of_solution c.problem) 0 c.solutions (λ k d h.
+      All-map (Passes P c) (of_solution (0 + k) (slice_index_or c.solutions k d).item) (solution_tests c.problem) (tests_of_feasible c.problem (slice_index_or c.solutions k d).item (f k d h) (g k d h)))
 
-  pub proof_of_tests : ((j : ℕ) → IsInteger c.problem.integers j → j < variables c.problem) → All (Passes c) (proof_tests c) → IsProof c
+  pub proof_of_tests : ((j : ℕ) → IsInteger c.problem.integers j → j < variables c.problem) → All (Passes P c) (proof_tests c) → IsProof P c
   proof_of_tests below a =
-      let one = all_parts (Passes c) (numbered (tests_of_solution c.problem) 0 c.solutions) (meets_primal ∷ (numbered step_list m c.derivations ++ meets_dual ∷ [])) a in
-      let two = all_parts (Passes c) (numbered step_list m c.derivations) (meets_dual ∷ []) (All-tail (Passes c) meets_primal (numbered step_list m c.derivations ++ meets_dual ∷ []) one.1) in
+      let one = all_parts (Passes P c) (numbered (tests_of_solution c.problem) 0 c.solutions) (meets_primal ∷ (numbered tests_of_derivation m c.derivations ++ meets_dual ∷ [])) a in
+      let two = all_parts (Passes P c) (numbered tests_of_derivation m c.derivations) (meets_dual ∷ []) (All-tail (Passes P c) meets_primal (numbered tests_of_derivation m c.derivations ++ meets_dual ∷ []) one.1) in
       let s = solutions_of below one.0 in
-      (proof_by_step c).1 (record {
+      record {
         solutions = λ k d h. (s k d h).0;
         solutions_fit = λ k d h. (s k d h).1;
         steps = steps_of two.0;
-        primal = All-head (Passes c) meets_primal (numbered step_list m c.derivations ++ meets_dual ∷ []) one.1;
-        dual = All-head (Passes c) meets_dual [] two.1;
-      })
+        primal = All-head (Passes P c) meets_primal (numbered tests_of_derivation m c.derivations ++ meets_dual ∷ []) one.1;
+        dual = All-head (Passes P c) meets_dual [] two.1;
+      }
 
-  pub tests_of_proof : IsProof c → All (Passes c) (proof_tests c)
-  tests_of_proof proof =
-      let p = (proof_by_step c).0 proof in
-      All-append (Passes c) (numbered (tests_of_solution c.problem) 0 c.solutions) (meets_primal ∷ (numbered step_list m c.derivations ++ meets_dual ∷ [])) (of_solutions p.solutions p.solutions_fit)
-      (All-cons (Passes c) meets_primal (numbered step_list m c.derivations ++ meets_dual ∷ []) p.primal
-      (All-append (Passes c) (numbered step_list m c.derivations) (meets_dual ∷ []) (of_steps p.steps)
-      (All-cons (Passes c) meets_dual [] p.dual (All-nil (Passes c)))))
+  pub tests_of_proof : IsProof P c → All (Passes P c) (proof_tests c)
+  tests_of_proof p =
+      All-append (Passes P c) (numbered (tests_of_solution c.problem) 0 c.solutions) (meets_primal ∷ (numbered tests_of_derivation m c.derivations ++ meets_dual ∷ [])) (of_solutions p.solutions p.solutions_fit)
+      (All-cons (Passes P c) meets_primal (numbered tests_of_derivation m c.derivations ++ meets_dual ∷ []) p.primal
+      (All-append (Passes P c) (numbered tests_of_derivation m c.derivations) (meets_dual ∷ []) (of_steps p.steps)
+      (All-cons (Passes P c) meets_dual [] p.dual (All-nil (Passes P c)))))
 
-  pub no_proof_test_fails : ((j : ℕ) → IsInteger c.problem.integers j → j < variables c.problem) → FirstFailing (Passes c) (proof_tests c) None ↔ IsProof c
-  no_proof_test_fails below = (λ f. proof_of_tests below (none_all (Passes c) (proof_tests c) f), λ p. all_none (Passes c) (proof_tests c) (tests_of_proof p))
+  pub no_proof_test_fails : ((j : ℕ) → IsInteger c.problem.integers j → j < variables c.problem) → FirstFailing (Passes P c) (proof_tests c) None ↔ IsProof P c
+  no_proof_test_fails below = (λ f. proof_of_tests below (none_all (Passes P c) (proof_tests c) f), λ p. all_none (Passes P c) (proof_tests c) (tests_of_proof p))

@@ -7,11 +7,11 @@ use Rattle.std.proofs.lemmas.List.Elements.{All-nil, All-cons}
 use Rattle.std.proofs.lemmas.Int.{ints}
 use Rattle.vipr_spec.specs.Gcd.{gcd}
 use Rattle.vipr_spec.specs.Fraction.{ℚ, over, whole, zero_ℚ, ◌+ℚ◌, ◌*ℚ◌, neg_ℚ, ◌≤ℚ◌, ProductFits, SumFits}
-use Rattle.vipr_spec.specs.Constraint.{at_most, at_least, at, Entry, pull, Combines, TermsFit}
-use Rattle.vipr_spec.specs.Certificate.{reason_at, IsProof, IsValid, StepFits, RefersTo, is_live, RestsOn, itself, RestsOnNothing}
+use Rattle.vipr_spec.specs.Constraint.{Profile, at_most, at_least, at, Entry, pull, Combines, TermsFit, SumOfFits}
+use Rattle.vipr_spec.specs.Certificate.{constraint_at, reason_at, entries, lin, IsProof, IsGoodStep, HasGoodSteps, is_live, RestsOn, itself, RestsOnNothing}
 use Rattle.vipr_spec.specs.Examples.{row, both, example, assumed}
 use Rattle.vipr_spec.proofs.Fractions.{whole-add, whole-mul, whole-le, le_of_whole, is_one, is_neg, is_whole, over_same, mul-zero_ℚ, add-mul_ℚ, zero-mul_ℚ, add-zero_ℚ}
-use Rattle.vipr_spec.proofs.Rests.{rests_lin, rests_given}
+use Rattle.vipr_spec.proofs.Rests.{rests_out, rests_given}
 
 -- closed fractions compute, but for the proof inside
 half : over (pos 2) 4 ≡ over (pos 1) 2
@@ -67,13 +67,6 @@ earlier : All (λ e. e.0 < 2) both
 unfolding both
 earlier = All-cons (λ (e : ℕ × ℚ). e.0 < 2) (0, whole (pos 1)) ((1, whole (negsuc 0)) ∷ []) (lit< tt) (All-cons (λ (e : ℕ × ℚ). e.0 < 2) (1, whole (negsuc 0)) [] (lit< tt) (All-nil (λ (e : ℕ × ℚ). e.0 < 2)))
 
-steps : (k : ℕ) → IsValid example k (reason_at example k)
-unfolding both first second
-steps zero = tt
-steps (suc zero) = tt
-steps (suc (suc zero)) = (earlier, the_sum)
-steps (suc (suc (suc k))) = tt
-
 product_fits : (a b c d : ℤ) → ProductFits (whole a) (whole b) → ProductFits (whole c) (whole d) → All (λ (t : ℚ × ℚ). ProductFits t.0 t.1) ((whole a, whole b) ∷ (whole c, whole d) ∷ [])
 product_fits a b c d h k = All-cons (λ (t : ℚ × ℚ). ProductFits t.0 t.1) (whole a, whole b) ((whole c, whole d) ∷ []) h (All-cons (λ (t : ℚ × ℚ). ProductFits t.0 t.1) (whole c, whole d) [] k (All-nil (λ (t : ℚ × ℚ). ProductFits t.0 t.1)))
 
@@ -92,12 +85,9 @@ at_bounds = (product_fits (pos 1) (pos 1) (negsuc 0) (pos 0) (lit≤ tt, lit≤ 
 abbrev RowFits : ℚ → Type 0
 RowFits a = TermsFit ((whole (pos 1), a) ∷ (whole (negsuc 0), a) ∷ [])
 
-steps_fit : (k : ℕ) → StepFits example (reason_at example k)
+the_fit : SumOfFits (entries example both)
 unfolding both
-steps_fit zero = tt
-steps_fit (suc zero) = tt
-steps_fit (suc (suc zero)) = (λ j. ⊎_elim (λ e. subst RowFits (sym e) at_one) (λ e. subst RowFits (sym e) at_zero) (at_row j), at_bounds)
-steps_fit (suc (suc (suc k))) = tt
+the_fit = (λ j. ⊎_elim (λ e. subst RowFits (sym e) at_one) (λ e. subst RowFits (sym e) at_zero) (at_row j), at_bounds)
 
 in_both : (e : ℕ × ℚ) → Contains both e → (e.0 ≡ 0) ⊎ (e.0 ≡ 1)
 unfolding both
@@ -112,33 +102,38 @@ live : (i : ℕ) → (i ≡ 0) ⊎ (i ≡ 1) → IsTrue (is_live example 2 i)
 live i (inl e) = subst (λ i. IsTrue (is_live example 2 i)) (sym e) refl
 live i (inr e) = subst (λ i. IsTrue (is_live example 2 i)) (sym e) refl
 
-references : (k i : ℕ) → RefersTo (reason_at example k) i → IsTrue (is_live example k i)
-references zero i h = absurd h
-references (suc zero) i h = absurd h
-references (suc (suc zero)) i h = live i (in_both (i, h.0) h.1)
-references (suc (suc (suc k))) i h = absurd h
+the_combination : Combines (entries example both) (constraint_at example 2)
+unfolding both first second
+the_combination = the_sum
+
+good : (P : Profile) → IsGoodStep P example 2 (lin both) (constraint_at example 2)
+good P = record { earlier = earlier; follows = the_combination; fits = the_fit; references = λ i h. live i (in_both (i, h.0) h.1) }
+
+steps : (P : Profile) → HasGoodSteps P example
+steps P zero r e = absurd (cc)
+steps P (suc zero) r e = absurd (cc)
+steps P (suc (suc zero)) r e = let q : lin both ≡ r = ap (λ o. unwrap_or o r) e in subst (λ r. IsGoodStep P example 2 r (constraint_at example 2)) q (good P)
+steps P (suc (suc (suc k))) r e = absurd (cc)
 
 given : (a i : ℕ) → (i ≡ 0) ⊎ (i ≡ 1) → ¬ RestsOn example i a
 given a i (inl e) r = rests_given example i a (ap (reason_at example) e) r
 given a i (inr e) r = rests_given example i a (ap (reason_at example) e) r
 
 nothing : RestsOnNothing example 2
-nothing a r = let u = (rests_lin example 2 a both refl).0 r in given a u.0.0 (in_both u.0 u.1) u.3
+nothing a r = let u = rests_out example 2 a r in given a u.0.0 (in_both u.0 u.1) u.3
 
-pub valid : IsProof example
-valid = record {
+pub valid : (P : Profile) → IsProof P example
+valid P = record {
   solutions = All-nil _;
   solutions_fit = All-nil _;
-  steps = steps;
-  steps_fit = steps_fit;
-  references = references;
+  steps = steps P;
   primal = tt;
   dual = λ _. (2, (lit< tt, nothing, (λ j. ap (λ o. unwrap_or o zero_ℚ) (get-empty nat_cmp j), not_one)));
 }
 
 -- ---- an assumption rests on itself
-pub invalid : ¬ IsProof assumed
-invalid p =
+pub invalid : (P : Profile) → ¬ IsProof P assumed
+invalid P p =
     let d = p.dual tt in
     let e : 0 ≡ d.0 = omega (arith, d.1.0) in
     d.1.1 0 (subst (λ g. RestsOn assumed g 0) e (itself refl))

@@ -11,7 +11,8 @@ use Rattle.std.proofs.Math.ListN.{length-map}
 use Rattle.vipr_spec.specs.Fraction.{zero_ℚ, IsWhole}
 use Rattle.vipr_spec.specs.Constraint.{IsInteger, Row, at, equal, condition, Constraint, IsTrueAt, ValueFits}
 use Rattle.vipr_spec.specs.Certificate.{Named, Problem, variables, integer_variables, IsFeasible, SolutionFits}
-use Rattle.vipr_spec.specs.Verdict.{whole_at, value_fits, holds, objective_fits, given_at, PassesSolution, solution_tests, FirstFailing}
+use Rattle.vipr_spec.specs.Tests.{whole_at, value_fits, holds, objective_fits, given_at, PassesSolution, solution_tests}
+use Rattle.vipr_spec.specs.Steps.{FirstFailing}
 use Rattle.vipr_spec.proofs.FirstFailing.{none_all, all_none, all_parts}
 use Rattle.vipr_spec.proofs.EachTests.{flat_all_of, flat_all}
 

@@ -1,178 +1,126 @@
--- The tests of a step look at the derivations up to it alone
-use Rattle.std.proofs.Common.{◌≡◌, ℕ, ◌<◌, ◌≤◌, Bool, true, false, List, [], ◌∷◌, ◌++◌, Option, Some, All, arith, refl, sym, ◌∙◌, ap, ap₂, subst, append_assoc, length}
-use Rattle.std.specs.Prelude.{◌↔◌, flat_map, IsTrue, if◌then◌else◌}
-use Rattle.std.proofs.lemmas.List.Elements.{All-nil, All-cons, All-head, All-tail, All-append}
-use Rattle.vipr_spec.specs.Fraction.{ℚ}
-use Rattle.vipr_spec.specs.Constraint.{Sense, Row, HasSense, SumOfFits, sum_of, IsWholeRow, IsSplit, Combines, CombinesRounded, Dominates, Condition, condition}
-use Rattle.vipr_spec.specs.Certificate.{Named, Certificate, Derivation, Reason, asm, lin, rnd, uns, sol, constraint_at, reason_at, entries, is_live, IsBest, cutoff, count}
+-- All tests of a step pass exactly where it is good
+use Rattle.std.proofs.Common.{◌≡◌, ◌≢◌, ℕ, ◌<◌, ◌⊎◌, Bool, true, false, List, [], ◌∷◌, ◌++◌, slice_index_or, None, pos, All, Contains, arith, refl, sym, ◌∙◌, ap, subst, append_assoc, inl, inr, zero-lt-suc, append-nil, lit<}
+use Rattle.std.specs.Prelude.{◌↔◌, flat_map, IsTrue, not, if◌then◌else◌}
+use Rattle.std.specs.List.{AllByRecursion as ByRecursion}
+use Rattle.std.specs.Ordering.{int_eq}
+use Rattle.std.proofs.lemmas.Bool.Decides.{Decides-int_eq}
+use Rattle.std.proofs.lemmas.Int.{ints}
+use Rattle.std.proofs.lemmas.List.{map-append}
+use Rattle.std.proofs.lemmas.List.Elements.{All-from_recursion, recursion_from_All, All-nil, All-cons, All-head, All-tail, All-append, All-weaker, All-contains, Contains-get_or}
+use Rattle.vipr_spec.specs.Fraction.{ℚ, zero_ℚ}
+use Rattle.vipr_spec.specs.Constraint.{Profile, Sense, Condition, Entry, HasSense, SumOfFits}
+use Rattle.vipr_spec.specs.Certificate.{Reason, asm, lin, rnd, uns, sol, Certificate, constraint_at, entries, is_live, count, IsGoodStep}
 use Rattle.vipr_spec.specs.Reading.{is_nonzero}
-use Rattle.vipr_spec.specs.OnePass.{with_more, with_next}
-use Rattle.vipr_spec.specs.Verdict.{StepTest, earlier, live, assumed, suitable, fitting, roundable, split, listed, by_sum, by_rounding, by_constraint, by_cutoff, PassesStep, FirstFailing, reference_tests, entry_tests, sum_tests, step_tests}
-use Rattle.vipr_spec.specs.Progress.{LooksBefore, PassesNext}
-use Rattle.vipr_spec.proofs.Prefix.{constraint_before, reason_before, count_next, entries_before, constraint_next}
-use Rattle.vipr_spec.proofs.Held.{live_before}
-use Rattle.vipr_spec.proofs.FirstFailing.{Agree, agree_iff, agree_append, all_parts}
+use Rattle.vipr_spec.specs.Steps.{StepTest, earlier, live, suitable, fitting, roundable, listed, by_sum, by_rounding, PassesStep, reference_tests, entry_tests, sum_tests, step_tests, FirstFailing}
+use Rattle.vipr_spec.proofs.Fractions.{is_zero, Is, zero_from_numer}
+use Rattle.vipr_spec.proofs.MoreEntries.{suitable_front, fitting_front}
+use Rattle.vipr_spec.proofs.FirstFailing.{none_all, all_none, all_parts}
+use Rattle.vipr_spec.proofs.EachTests.{flat_all_of, flat_all}
 
--- ---- where the references of a reason are tested first
+-- ---- what multiplier is 0
+numer_zero : (x : ℚ) → x ≡ zero_ℚ → x.numer ≡ pos 0
+numer_zero x e = let z = subst (λ z. Is z (pos 0) 1) (sym e) (is_zero 1 (zero-lt-suc 0)) in let c = z.cross in omega (arith, ints)
 
-abbrev Early : ℕ → List (ℕ × ℚ) → Type 0
-Early k es = All (λ e. e.0 < k) es
+pub nonzero_or_zero : (e : ℕ × ℚ) → ((is_nonzero e ≡ true) × (e.1 ≢ zero_ℚ)) ⊎ ((is_nonzero e ≡ false) × (e.1 ≡ zero_ℚ))
+nonzero_or_zero e = by (int_eq e.1.numer (pos 0)) refl
+  where
+    by : (b : Bool) → int_eq e.1.numer (pos 0) ≡ b → ((not b ≡ true) × (e.1 ≢ zero_ℚ)) ⊎ ((not b ≡ false) × (e.1 ≡ zero_ℚ))
+    by true h = inr (refl, zero_from_numer e.1 ((Decides-int_eq e.1.numer (pos 0)).0 h))
+    by false h = inl (refl, λ z. let t = (Decides-int_eq e.1.numer (pos 0)).1 (numer_zero e.1 z) in absurd (cc))
 
-module _ (k : ℕ) (P Q : StepTest → Type 0) (first : (i : ℕ) → P (earlier i) → i < k) (same : (t : StepTest) → LooksBefore k t → P t ↔ Q t) where
-  reference_agree : (b : Bool) (i : ℕ) → Agree P Q (if b then earlier i ∷ live i ∷ [] else earlier i ∷ [])
-  reference_agree true i = (same (earlier i) tt, λ p. (same (live i) tt, λ q. tt))
-  reference_agree false i = (same (earlier i) tt, λ p. tt)
+abbrev IsSuitable : List Entry → Type 0
+IsSuitable es = (s : Sense) × HasSense es s
 
-  reference_early : (b : Bool) (i : ℕ) → All P (if b then earlier i ∷ live i ∷ [] else earlier i ∷ []) → i < k
-  reference_early true i a = first i (All-head P (earlier i) (live i ∷ []) a)
-  reference_early false i a = first i (All-head P (earlier i) [] a)
+abbrev SomeNonzero : List (ℕ × ℚ) → ℕ → Type 0
+SomeNonzero es i = (m : ℚ) × Contains es (i, m) × (m ≢ zero_ℚ)
 
-  references_agree : (es : List (ℕ × ℚ)) → Agree P Q (flat_map reference_tests es)
-  references_agree [] = tt
-  references_agree (e ∷ es) = agree_append P Q (reference_tests e) (flat_map reference_tests es) (reference_agree (is_nonzero e) e.0) (λ a. references_agree es)
+module _ (P : Profile) (c : Certificate) (d : Condition) where
+  abbrev T : StepTest → Type 0
+  T = PassesStep P c d
 
-  references_early : (es : List (ℕ × ℚ)) → All P (flat_map reference_tests es) → Early k es
-  references_early [] a = All-nil (λ (e : ℕ × ℚ). e.0 < k)
-  references_early (e ∷ es) a = let b = all_parts P (reference_tests e) (flat_map reference_tests es) a in
-      All-cons (λ (e : ℕ × ℚ). e.0 < k) e es (reference_early (is_nonzero e) e.0 b.0) (references_early es b.1)
+  -- ---- the references of a sum
+  abbrev IsNamed : ℕ × ℚ → Type 0
+  IsNamed e = (e.0 < count c) × (e.1 ≢ zero_ℚ → IsTrue (is_live c (count c) e.0))
 
-  entries_agree : (before es : List (ℕ × ℚ)) → Early k before → Early k es → Agree P Q (entry_tests before es)
+  reference_by : (e : ℕ × ℚ) (b : Bool) → ((b ≡ true) × (e.1 ≢ zero_ℚ)) ⊎ ((b ≡ false) × (e.1 ≡ zero_ℚ)) → ByRecursion T (if b then earlier e.0 ∷ live e.0 ∷ [] else earlier e.0 ∷ []) ↔ IsNamed e
+  reference_by e true (inl h) = (λ a. (a.0, λ n. a.1.0), λ n. (n.0, (n.1 h.1, tt)))
+  reference_by e true (inr h) = absurd (cc)
+  reference_by e false (inl h) = absurd (cc)
+  reference_by e false (inr h) = (λ a. (a.0, λ n. absurd (n h.1)), λ n. (n.0, tt))
+
+  reference : (e : ℕ × ℚ) → All T (reference_tests e) ↔ IsNamed e
+  reference e = let r = reference_by e (is_nonzero e) (nonzero_or_zero e) in (λ a. r.0 (recursion_from_All T (reference_tests e) a), λ n. All-from_recursion T (reference_tests e) (r.1 n))
+
+  -- ---- the sums of a sum's first entries
+  entries_pass : (front es : List (ℕ × ℚ)) → IsSuitable (entries c (front ++ es)) → SumOfFits (entries c (front ++ es)) → All T (entry_tests front es)
   unfolding entry_tests
-  entries_agree before [] b a = tt
-  entries_agree before (e ∷ es) b a =
-      let c : Early k (before ++ e ∷ []) = All-append (λ (e : ℕ × ℚ). e.0 < k) before (e ∷ []) b
-      (All-cons (λ (e : ℕ × ℚ). e.0 < k) e [] (All-head (λ (e : ℕ × ℚ). e.0 < k) e es a) (All-nil (λ (e : ℕ × ℚ). e.0 < k))) in
-      (same (suitable (before ++ e ∷ [])) c, λ p. (same (fitting (before ++ e ∷ [])) c, λ q. entries_agree (before ++ e ∷ []) es c (All-tail (λ (e : ℕ × ℚ). e.0 < k) e es a)))
+  entries_pass front [] s f = All-nil T
+  entries_pass front (e ∷ es) s f =
+      let one = front ++ e ∷ [] in
+      let e1 : entries c (front ++ e ∷ es) ≡ entries c (one ++ es) = ap (entries c) (sym (append_assoc front (e ∷ []) es)) in
+      let two : entries c (front ++ e ∷ es) ≡ entries c one ++ entries c es = e1 ∙ map-append (λ (e : ℕ × ℚ). (e.1, constraint_at c e.0)) one es in
+      All-cons T (suitable one) (fitting one ∷ entry_tests one es) (suitable_front (entries c one) (entries c es) (subst IsSuitable two s))
+      (All-cons T (fitting one) (entry_tests one es) (fitting_front (entries c one) (entries c es) (subst SumOfFits two f)) (entries_pass one es (subst IsSuitable e1 s) (subst SumOfFits e1 f)))
 
-  sum_agree : (es : List (ℕ × ℚ)) (ts : List StepTest) → (Early k es → Agree P Q ts) → Agree P Q (sum_tests es ++ ts)
-  sum_agree es ts rest =
-      subst (Agree P Q) (sym (append_assoc (flat_map reference_tests es) (entry_tests [] es) ts))
-      (agree_append P Q (flat_map reference_tests es) (entry_tests [] es ++ ts) (references_agree es)
-      (λ a. let early = references_early es a in agree_append P Q (entry_tests [] es) ts (entries_agree [] es (All-nil (λ (e : ℕ × ℚ). e.0 < k)) early) (λ b. rest early)))
+  entries_fit : (front es : List (ℕ × ℚ)) → SumOfFits (entries c front) → All T (entry_tests front es) → SumOfFits (entries c (front ++ es))
+  unfolding entry_tests
+  entries_fit front [] f a = subst (λ l. SumOfFits (entries c l)) (sym (append-nil front)) f
+  entries_fit front (e ∷ es) f a =
+      let one = front ++ e ∷ [] in
+      let rest = All-tail T (suitable one) (fitting one ∷ entry_tests one es) a in
+      subst (λ l. SumOfFits (entries c l)) (append_assoc front (e ∷ []) es) (entries_fit one es (All-head T (fitting one) (entry_tests one es) rest) (All-tail T (fitting one) (entry_tests one es) rest))
 
-  pub steps_agree : (r : Reason) → Agree P Q (step_tests r)
-  steps_agree asm = tt
-  steps_agree (lin es) = sum_agree es (by_sum es ∷ []) (λ a. (same (by_sum es) a, λ p. tt))
-  steps_agree (rnd es) = sum_agree es (roundable es ∷ by_rounding es ∷ []) (λ a. (same (roundable es) a, λ p. (same (by_rounding es) a, λ q. tt)))
-  steps_agree (uns i1 l1 i2 l2) = (
-    same (earlier i1) tt,
-    λ e1. (
-      same (live i1) tt,
-      λ p. (
-        same (earlier l1) tt,
-        λ f1. (
-          same (live l1) tt,
-          λ p. (
-            same (earlier i2) tt,
-            λ e2. (
-              same (live i2) tt,
-              λ p. (
-                same (earlier l2) tt,
-                λ f2. (
-                  same (live l2) tt,
-                  λ p. (
-                    same (assumed l1) (first l1 f1),
-                    λ p. (
-                      same (assumed l2) (first l2 f2),
-                      λ p. (
-                        same (split l1 l2) (first l1 f1, first l2 f2),
-                        λ p. (same (by_constraint i1) (first i1 e1), λ p. (same (by_constraint i2) (first i2 e2), λ p. tt)),
-                      ),
-                    ),
-                  ),
-                ),
-              ),
-            ),
-          ),
-        ),
-      ),
-    ),
-  )
-  steps_agree sol = (same listed tt, λ p. (same by_cutoff tt, λ p. tt))
+  -- ---- every reason
+  abbrev Good : Reason → Type 0
+  Good r = IsGoodStep P c (count c) r d
 
--- ---- tests of a certificate with more derivations
+  -- a sum's entries name earlier constraints, those that count live ones, and the sum fits
+  abbrev IsReady : List (ℕ × ℚ) → Type 0
+  IsReady es = All (λ e. e.0 < count c) es × ((i : ℕ) → SomeNonzero es i → IsTrue (is_live c (count c) i)) × SumOfFits (entries c es)
 
--- what a test says where this is stated
-abbrev Says : Certificate → ℕ → Condition → StepTest → Type 0
-Says c k d (earlier i) = i < k
-Says c k d (live i) = IsTrue (is_live c k i)
-Says c k d (assumed l) = reason_at c l ≡ Some asm
-Says c k d (suitable es) = (s : Sense) × HasSense (entries c es) s
-Says c k d (fitting es) = SumOfFits (entries c es)
-Says c k d (roundable es) = (s : Sense) × HasSense (entries c es) s × IsWholeRow c.problem.integers (sum_of (entries c es) s).row
-Says c k d (split l1 l2) = IsSplit c.problem.integers (constraint_at c l1) (constraint_at c l2)
-Says c k d listed = 0 < length c.solutions
-Says c k d (by_sum es) = Combines (entries c es) d
-Says c k d (by_rounding es) = CombinesRounded c.problem.integers (entries c es) d
-Says c k d (by_constraint i) = Dominates (constraint_at c i) d
-Says c k d by_cutoff = (s : Named Row) × IsBest c s × Dominates (cutoff c.problem s) d
+  sum_of : (es : List (ℕ × ℚ)) (ts : List StepTest) → All T (sum_tests es ++ ts) → IsReady es × ByRecursion T ts
+  sum_of es ts a =
+      let r = all_parts T (sum_tests es) ts a in
+      let s = all_parts T (flat_map reference_tests es) (entry_tests [] es) r.0 in
+      let n = flat_all_of T reference_tests IsNamed (λ e. (reference e).0) es s.0 in (
+        (All-weaker IsNamed (λ (e : ℕ × ℚ). e.0 < count c) (λ e n. n.0) es n, λ i h. (All-contains IsNamed es (i, h.0) n h.1).1 h.2, entries_fit [] es (λ j. (All-nil _, tt), (All-nil _, tt)) s.1),
+        recursion_from_All T ts r.1,
+      )
 
-step_says : (c : Certificate) (k : ℕ) (t : StepTest) → PassesStep c k t ≡ Says c k (constraint_at c k) t
-step_says c k (earlier i) = refl
-step_says c k (live i) = refl
-step_says c k (assumed l) = refl
-step_says c k (suitable es) = refl
-step_says c k (fitting es) = refl
-step_says c k (roundable es) = refl
-step_says c k (split l1 l2) = refl
-step_says c k listed = refl
-step_says c k (by_sum es) = refl
-step_says c k (by_rounding es) = refl
-step_says c k (by_constraint i) = refl
-step_says c k by_cutoff = refl
+  sum_in : (es : List (ℕ × ℚ)) (ts : List StepTest) → IsReady es → IsSuitable (entries c es) → ByRecursion T ts → All T (sum_tests es ++ ts)
+  sum_in es ts n s a = All-append T (sum_tests es) ts
+      (All-append T (flat_map reference_tests es) (entry_tests [] es) (flat_all T reference_tests IsNamed (λ e. (reference e).1) es (λ i e l. (n.0 i e l, λ z. n.1 _ (_, Contains-get_or es i e l, z)))) (entries_pass [] es s n.2))
+      (All-from_recursion T ts a)
 
-next_says : (c : Certificate) (d : Derivation) (t : StepTest) → PassesNext c d t ≡ Says c (count c) (condition d.stated) t
-next_says c d (earlier i) = refl
-next_says c d (live i) = refl
-next_says c d (assumed l) = refl
-next_says c d (suitable es) = refl
-next_says c d (fitting es) = refl
-next_says c d (roundable es) = refl
-next_says c d (split l1 l2) = refl
-next_says c d listed = refl
-next_says c d (by_sum es) = refl
-next_says c d (by_rounding es) = refl
-next_says c d (by_constraint i) = refl
-next_says c d by_cutoff = refl
+  good_of_tests : (r : Reason) → All T (step_tests r) → Good r
+  good_of_tests asm a = record { earlier = tt; follows = tt; fits = tt; references = λ i h. absurd h }
+  good_of_tests (lin es) a = let s = sum_of es (by_sum es ∷ []) a in record { earlier = s.0.0; follows = s.1.0; fits = s.0.2; references = s.0.1 }
+  good_of_tests (rnd es) a = let s = sum_of es (roundable es ∷ by_rounding es ∷ []) a in record { earlier = s.0.0; follows = s.1.1.0; fits = s.0.2; references = s.0.1 }
+  good_of_tests (uns i1 l1 i2 l2) a = record {
+    earlier = (pass 0 (lit< tt), pass 2 (lit< tt), pass 4 (lit< tt), pass 6 (lit< tt));
+    follows = (pass 8 (lit< tt), pass 9 (lit< tt), (pass 10 (lit< tt), pass 11 (lit< tt), pass 12 (lit< tt)));
+    fits = tt;
+    references = λ i h. elim h [ inl e ↦ at e (pass 1 (lit< tt)) | inr h ↦ elim h [ inl e ↦ at e (pass 3 (lit< tt)) | inr h ↦ elim h [ inl e ↦ at e (pass 5 (lit< tt)) | inr e ↦ at e (pass 7 (lit< tt)) ] ] ];
+  }
+    where
+      pass : (n : ℕ) → n < 13 → T (slice_index_or (step_tests (uns i1 l1 i2 l2)) n listed)
+      pass n h = a n listed h
 
-says_more : (c : Certificate) (ds : List Derivation) (k : ℕ) (d : Condition) (t : StepTest) → k ≤ count c → LooksBefore k t → Says (with_more c ds) k d t ≡ Says c k d t
-says_more c ds k d (earlier i) h l = refl
-says_more c ds k d (live i) h l = ap (λ b. IsTrue b) (live_before c ds k i h)
-says_more c ds k d (assumed i) h l = ap (λ r. r ≡ Some asm) (reason_before c ds i (omega arith))
-says_more c ds k d (suitable es) h l = ap (λ xs. (s : Sense) × HasSense xs s) (entries_before c ds k es h l)
-says_more c ds k d (fitting es) h l = ap SumOfFits (entries_before c ds k es h l)
-says_more c ds k d (roundable es) h l = ap (λ xs. (s : Sense) × HasSense xs s × IsWholeRow c.problem.integers (sum_of xs s).row) (entries_before c ds k es h l)
-says_more c ds k d (split l1 l2) h l = ap₂ (IsSplit c.problem.integers) (constraint_before c ds l1 (let l0 = l.0 in omega arith)) (constraint_before c ds l2 (let l0 = l.1 in omega arith))
-says_more c ds k d listed h l = refl
-says_more c ds k d (by_sum es) h l = ap (λ xs. Combines xs d) (entries_before c ds k es h l)
-says_more c ds k d (by_rounding es) h l = ap (λ xs. CombinesRounded c.problem.integers xs d) (entries_before c ds k es h l)
-says_more c ds k d (by_constraint i) h l = ap (λ x. Dominates x d) (constraint_before c ds i (omega arith))
-says_more c ds k d by_cutoff h l = refl
+      at : {i j : ℕ} → i ≡ j → IsTrue (is_live c (count c) j) → IsTrue (is_live c (count c) i)
+      at e l = subst (λ n. IsTrue (is_live c (count c) n)) (sym e) l
+  good_of_tests sol a = let s = recursion_from_All T (step_tests sol) a in record { earlier = tt; follows = s.1.0; fits = tt; references = λ i h. absurd h }
 
-same_type : {A B : Type 0} → A ≡ B → A ↔ B
-same_type e = (λ a. subst (λ X. X) e a, λ b. subst (λ X. X) (sym e) b)
+  tests_of_good : (r : Reason) → Good r → All T (step_tests r)
+  tests_of_good asm g = All-nil T
+  tests_of_good (lin es) g = sum_in es (by_sum es ∷ []) (g.earlier, g.references, g.fits) (g.follows.0, g.follows.1) (g.follows, tt)
+  tests_of_good (rnd es) g = sum_in es (roundable es ∷ by_rounding es ∷ []) (g.earlier, g.references, g.fits) (g.follows.0, g.follows.1) ((g.follows.0, g.follows.1, g.follows.2), (g.follows, tt))
+  tests_of_good (uns i1 l1 i2 l2) g =
+      let e = g.earlier in
+      let f = g.follows in
+      let live = g.references in
+      All-from_recursion T (step_tests (uns i1 l1 i2 l2))
+      (e.0, (live i1 (inl refl), (e.1, (live l1 (inr (inl refl)), (e.2, (live i2 (inr (inr (inl refl))), (e.3, (live l2 (inr (inr (inr refl))), (f.0, (f.1, (f.2.0, (f.2.1, (f.2.2, tt)))))))))))))
+  tests_of_good sol g = All-from_recursion T (step_tests sol) (let h = g.follows.1.0.1 in omega arith, (g.follows, tt))
 
--- ---- the first that fails
-
-pub step_more : (c : Certificate) (ds : List Derivation) (k : ℕ) (t : StepTest) → k < count c → LooksBefore k t → PassesStep (with_more c ds) k t ↔ PassesStep c k t
-step_more c ds k t h l = same_type (step_says (with_more c ds) k t ∙ ap (λ d. Says (with_more c ds) k d t) (constraint_before c ds k h) ∙ says_more c ds k _ t (omega arith) l ∙ sym (step_says c k t))
-
-pub tests_before : (c : Certificate) (ds : List Derivation) (k : ℕ) (r : Reason) (f : Option StepTest) → k < count c
-    → FirstFailing (PassesStep (with_more c ds) k) (step_tests r) f ↔ FirstFailing (PassesStep c k) (step_tests r) f
-tests_before c ds k r f h = agree_iff _ _ (step_tests r) f (steps_agree k (PassesStep (with_more c ds) k) (PassesStep c k) (λ i l. l) (λ t l. step_more c ds k t h l) r)
-
-pub more_next : (c : Certificate) (d : Derivation) (ds : List Derivation) → with_more (with_next c d) ds ≡ with_more c (d ∷ ds)
-more_next c d ds = ap (λ l. record c { derivations = l }) (append_assoc c.derivations (d ∷ []) ds)
-
-stated_next : (c : Certificate) (d : Derivation) (ds : List Derivation) → constraint_at (with_more c (d ∷ ds)) (count c) ≡ condition d.stated
-stated_next c d ds =
-    ap (λ e. constraint_at e (count c)) (sym (more_next c d ds))
-    ∙ constraint_before (with_next c d) ds (count c) (let e = count_next c d in omega arith) ∙ constraint_next c d
-
-next_more : (c : Certificate) (d : Derivation) (ds : List Derivation) (t : StepTest) → LooksBefore (count c) t → PassesStep (with_more c (d ∷ ds)) (count c) t ↔ PassesNext c d t
-next_more c d ds t l = same_type (step_says (with_more c (d ∷ ds)) (count c) t ∙ ap (λ e. Says (with_more c (d ∷ ds)) (count c) e t) (stated_next c d ds)
-    ∙ says_more c (d ∷ ds) (count c) _ t (omega arith) l ∙ sym (next_says c d t))
-
-pub tests_next : (c : Certificate) (d : Derivation) (ds : List Derivation) (r : Reason) (f : Option StepTest)
-    → FirstFailing (PassesStep (with_more c (d ∷ ds)) (count c)) (step_tests r) f ↔ FirstFailing (PassesNext c d) (step_tests r) f
-tests_next c d ds r f = agree_iff _ _ (step_tests r) f (steps_agree (count c) (PassesStep (with_more c (d ∷ ds)) (count c)) (PassesNext c d) (λ i l. l) (next_more c d ds) r)
+  pub no_test_fails : (r : Reason) → FirstFailing (PassesStep P c d) (step_tests r) None ↔ IsGoodStep P c (count c) r d
+  no_test_fails r = (λ f. good_of_tests r (none_all T (step_tests r) f), λ g. all_none T (step_tests r) (tests_of_good r g))

@@ -1,174 +1,132 @@
--- Steps one after the other: the next one by what was there before, and a proof by its steps
-use Rattle.std.proofs.Common.{◌≡◌, ℕ, ◌<◌, ◌≤◌, ◌⊎◌, List, [], ◌∷◌, length, Option, Some, None, IsSome, IsSomeAnd, arith, refl, sym, ◌∙◌, ap, subst, subst₂, inl, inr, ⊎_elim}
-use Rattle.std.specs.Prelude.{◌↔◌, IsTrue}
+-- A certificate step by step
+use Rattle.std.proofs.Common.{◌≡◌, ℕ, ◌<◌, ◌≤◌, List, [], ◌∷◌, ◌++◌, length, unwrap_or, Option, Some, None, All, arith, refl, sym, ◌∙◌, ap, subst, ⊎_elim, inl, inr}
+use Rattle.std.specs.Prelude.{◌↔◌}
 use Rattle.std.proofs.lemmas.Bool.{cases_lt}
 use Rattle.std.proofs.lemmas.List.Elements.{All-contains}
 use Rattle.vipr_spec.specs.Fraction.{ℚ}
-use Rattle.vipr_spec.specs.Constraint.{IsTrueAt, Condition, condition, Dominates, Combines, CombinesRounded, Unsplits}
-use Rattle.vipr_spec.specs.Certificate.{Problem, variables, itself, by_lin, by_rnd, by_first, by_second, Claim, infeasible, range, dual_bound, Reason, asm, lin, rnd, uns, sol, Derivation, Certificate, constraint_at, reason_at, RestsOn, count, IsValid, StepFits, RefersTo, MeetsDual, NeedsGoal, ProvesDual, IsProof}
-use Rattle.vipr_spec.specs.OnePass.{with_more, with_next, RestsBy, NamesEarlier, RefersBack, FollowsBy, IsGoodStep, IsGoodNext, HasGoodSteps, IsProofByStep, GoalIs}
-use Rattle.vipr_spec.proofs.Rests.{rests_in, rests_by, rests_given}
-use Rattle.vipr_spec.proofs.Held.{live_before}
-use Rattle.vipr_spec.specs.Soundness.{IsSound}
-use Rattle.vipr_spec.proofs.Soundness.{step_sound, refers_earlier}
-use Rattle.vipr_spec.proofs.Prefix.{earlier_lin, earlier_rnd, earlier_uns, constraint_before, reason_before, count_next, count_least, reason_past, reason_given, entries_before, names_earlier, fits_before, valid_before, valid_after, rests_later, rests_sooner, rests_on_nothing, constraint_next, reason_next}
+use Rattle.vipr_spec.specs.Constraint.{Profile, Condition, condition, IsTrueAt}
+use Rattle.vipr_spec.specs.Certificate.{variables, Reason, asm, lin, rnd, uns, sol, Derivation, Certificate, Known, constraint_at, reason_at, RestsOn, itself, brought, count, NamesEarlier, RefersTo, IsGoodStep, HasGoodSteps, FollowsBy}
+use Rattle.vipr_spec.specs.Steps.{with_more, with_next, before, StepTest, PassesStep, step_tests, FirstFailing, IsGoodNext, PassesSteps, RefersBack, SomeRestsOn, RestsBy}
+use Rattle.vipr_spec.specs.Soundness.{IsTrueOf, IsSound}
+use Rattle.vipr_spec.proofs.Prefix.{known_before, known_next, reason_next, reason_given, is_derived, count_next, before_count, before_stays, before_more, known_in, Alike, holding, brings_earlier, good_alike, follows_alike, rests_alike}
+use Rattle.vipr_spec.proofs.Rests.{rests_by, rests_in}
+use Rattle.vipr_spec.proofs.StepTests.{no_test_fails}
+use Rattle.vipr_spec.proofs.Soundness.{step_sound, sound_none, refers_earlier}
 
--- ---- earlier steps
-pub good_before : (c : Certificate) (ds : List Derivation) (k : ℕ) → k < count c → IsGoodStep c k → IsGoodStep (with_more c ds) k
-good_before c ds k h g =
-    let e = reason_before c ds k h in record {
-      valid = subst (IsValid (with_more c ds) k) (sym e) (valid_before c ds k (reason_at c k) h g.valid);
-      fits = subst (StepFits (with_more c ds)) (sym e) ((fits_before c ds k (reason_at c k) (omega arith) (names_earlier c k (reason_at c k) g.valid)).1 g.fits);
-      references = λ i r. subst IsTrue (sym (live_before c ds k i (omega arith))) (g.references i (subst (λ q. RefersTo q i) e r));
-    }
+-- ---- tests of a certificate with more derivations
+abbrev pub Fails : Profile → Certificate → ℕ → Reason → Option StepTest → Type 0
+Fails P c k r f = FirstFailing (PassesStep P (before c k) (constraint_at c k)) (step_tests r) f
 
-pub good_after : (c : Certificate) (ds : List Derivation) (k : ℕ) → k < count c → IsGoodStep (with_more c ds) k → IsGoodStep c k
-good_after c ds k h g =
-    let e = reason_before c ds k h in
-    let v : IsValid c k (reason_at c k) = valid_after c ds k (reason_at c k) h (subst (IsValid (with_more c ds) k) e g.valid) in record {
-      valid = v;
-      fits = (fits_before c ds k (reason_at c k) (omega arith) (names_earlier c k (reason_at c k) v)).0 (subst (StepFits (with_more c ds)) e g.fits);
-      references = λ i r. subst IsTrue (live_before c ds k i (omega arith)) (g.references i (subst (λ q. RefersTo q i) (sym e) r));
-    }
+same_type : {A B : Type 0} → A ≡ B → A ↔ B
+same_type e = (λ a. subst (λ X. X) e a, λ b. subst (λ X. X) (sym e) b)
 
--- ---- a step that is none
-good_of_none : (c : Certificate) (k : ℕ) → reason_at c k ≡ None → IsGoodStep c k
-good_of_none c k e = record {
-  valid = subst (IsValid c k) (sym e) tt;
-  fits = subst (StepFits c) (sym e) tt;
-  references = λ i r. absurd (subst (λ q. RefersTo q i) e r);
-}
+pub tests_stay : (P : Profile) (c : Certificate) (ds : List Derivation) (k : ℕ) (r : Reason) (f : Option StepTest) → k < count c → Fails P (with_more c ds) k r f ↔ Fails P c k r f
+tests_stay P c ds k r f h = same_type (ap (λ s. FirstFailing (PassesStep P s (constraint_at (with_more c ds) k)) (step_tests r) f) (before_stays c ds k (omega arith))
+    ∙ ap (λ (x : Known). FirstFailing (PassesStep P (before c k) x.stated) (step_tests r) f) (known_before c ds k h))
 
-pub good_given : (c : Certificate) (k : ℕ) → k < length c.problem.constraints → IsGoodStep c k
-good_given c k h = good_of_none c k (reason_given c k h)
+pub tests_next : (P : Profile) (c : Certificate) (d : Derivation) (ds : List Derivation) (f : Option StepTest)
+    → Fails P (with_more c (d ∷ ds)) (count c) d.reason f ↔ FirstFailing (PassesStep P c (condition d.stated)) (step_tests d.reason) f
+tests_next P c d ds f = same_type (ap (λ s. FirstFailing (PassesStep P s (constraint_at (with_more c (d ∷ ds)) (count c))) (step_tests d.reason) f) (before_more c (d ∷ ds))
+    ∙ ap (λ (x : Known). FirstFailing (PassesStep P c x.stated) (step_tests d.reason) f) (known_next c d ds))
 
-pub good_past : (c : Certificate) (k : ℕ) → count c ≤ k → IsGoodStep c k
-good_past c k h = good_of_none c k (reason_past c k h)
+-- ---- a step of a longer certificate, and of the whole one
+-- the same of two certificates in which the same is known of the constraints before it, and it states the same
+good_same : (P : Profile) (c : Certificate) (ds es : List Derivation) (k : ℕ) (r : Reason) (d e : Condition) → Alike c ds es k → d ≡ e → IsGoodStep P (holding c ds) k r d ↔ IsGoodStep P (holding c es) k r e
+good_same P c ds es k r d e same q = (
+  λ g. subst (IsGoodStep P (holding c es) k r) q (good_alike c ds es k same P r d g),
+  λ g. good_alike c es ds k (λ i h. sym (same i h)) P r d (subst (IsGoodStep P (holding c es) k r) (sym q) g),
+)
 
--- without derivations
-pub good_without : (c : Certificate) → c.derivations ≡ [] → HasGoodSteps c
-good_without c e k h = let z : length c.derivations ≡ 0 = ap length e in good_given c k (omega arith)
+pub good_more : (P : Profile) (c : Certificate) (ds : List Derivation) (k : ℕ) (r : Reason) → k < count c
+    → IsGoodStep P (with_more c ds) k r (constraint_at (with_more c ds) k) ↔ IsGoodStep P c k r (constraint_at c k)
+good_more P c ds k r h = good_same P c (c.derivations ++ ds) c.derivations k r _ _ (λ i l. known_before c ds i (omega arith)) (ap (λ (x : Known). x.stated) (known_before c ds k h))
+
+pub good_next : (P : Profile) (c : Certificate) (d : Derivation) (r : Reason)
+    → IsGoodStep P (with_next c d) (count c) r (constraint_at (with_next c d) (count c)) ↔ IsGoodStep P c (count c) r (condition d.stated)
+good_next P c d r = good_same P c (c.derivations ++ d ∷ []) c.derivations (count c) r _ _ (known_before c (d ∷ [])) (ap (λ (x : Known). x.stated) (known_next c d []))
+
+pub good_before : (P : Profile) (c : Certificate) (k : ℕ) (r : Reason) → reason_at c k ≡ Some r → FirstFailing (PassesStep P (before c k) (constraint_at c k)) (step_tests r) None ↔ IsGoodStep P c k r (constraint_at c k)
+good_before P c k r e =
+    let h = is_derived c k r e in
+    let n : count (before c k) ≡ k = before_count c k h.0 (omega arith) in
+    let t = no_test_fails P (before c k) (constraint_at c k) r in
+    let g = good_same P c (before c k).derivations c.derivations k r (constraint_at c k) (constraint_at c k) (known_in c k h.0 (omega arith)) refl in (
+      λ f. g.0 (subst (λ n. IsGoodStep P (before c k) n r (constraint_at c k)) n (t.0 f)),
+      λ f. t.1 (subst (λ n. IsGoodStep P (before c k) n r (constraint_at c k)) (sym n) (g.1 f)),
+    )
+
+pub steps_read : (P : Profile) (c : Certificate) → PassesSteps P c ↔ HasGoodSteps P c
+steps_read P c = (λ p k r e. (good_before P c k r e).0 (p k r e), λ g k r e. (good_before P c k r e).1 (g k r e))
 
 -- ---- the next step
-follows_of : (c : Certificate) (d : Derivation) (r : Reason) → IsValid (with_next c d) (count c) (Some r) → FollowsBy c d r
-follows_of c d asm v = tt
-follows_of c d (lin es) v = subst₂ Combines (entries_before c (d ∷ []) (count c) es (omega arith) v.0) (constraint_next c d) v.1
-follows_of c d (rnd es) v = subst₂ (CombinesRounded c.problem.integers) (entries_before c (d ∷ []) (count c) es (omega arith) v.0) (constraint_next c d) v.1
-follows_of c d (uns i1 l1 i2 l2) v = (
-  sym (reason_before c (d ∷ []) l1 v.1) ∙ v.4,
-  sym (reason_before c (d ∷ []) l2 v.3) ∙ v.5,
-  rw (
-    ← constraint_before c (d ∷ []) l1 v.1,
-    ← constraint_before c (d ∷ []) l2 v.3,
-    ← constraint_before c (d ∷ []) i1 v.0,
-    ← constraint_before c (d ∷ []) i2 v.2,
-  ) (subst (λ z. Unsplits c.problem.integers (constraint_at (with_next c d) l1) (constraint_at (with_next c d) l2) (constraint_at (with_next c d) i1) (constraint_at (with_next c d) i2) z) (constraint_next c d) v.6),
-)
-follows_of c d sol v = (v.0, v.1, subst (Dominates _) (constraint_next c d) v.2)
-
-valid_of : (c : Certificate) (d : Derivation) (r : Reason) → NamesEarlier (count c) (Some r) → FollowsBy c d r → IsValid (with_next c d) (count c) (Some r)
-valid_of c d asm n v = tt
-valid_of c d (lin es) n v = (n, subst₂ Combines (sym (entries_before c (d ∷ []) (count c) es (omega arith) n)) (sym (constraint_next c d)) v)
-valid_of c d (rnd es) n v = (n, subst₂ (CombinesRounded c.problem.integers) (sym (entries_before c (d ∷ []) (count c) es (omega arith) n)) (sym (constraint_next c d)) v)
-valid_of c d (uns i1 l1 i2 l2) n v = (
-  n.0,
-  n.1,
-  n.2,
-  n.3,
-  reason_before c (d ∷ []) l1 n.1 ∙ v.0,
-  reason_before c (d ∷ []) l2 n.3 ∙ v.1,
-  rw (
-    constraint_before c (d ∷ []) l1 n.1,
-    constraint_before c (d ∷ []) l2 n.3,
-    constraint_before c (d ∷ []) i1 n.0,
-    constraint_before c (d ∷ []) i2 n.2,
-    constraint_next c d,
-  ) v.2,
-)
-valid_of c d sol n v = (v.0, v.1, subst (Dominates _) (sym (constraint_next c d)) v.2)
-
-pub valid_next : (c : Certificate) (d : Derivation) → IsValid (with_next c d) (count c) (Some d.reason) ↔ (NamesEarlier (count c) (Some d.reason) × FollowsBy c d d.reason)
-valid_next c d = (λ v. (names_earlier (with_next c d) (count c) (Some d.reason) v, follows_of c d d.reason v), λ v. valid_of c d d.reason v.0 v.1)
-
-pub good_next : (c : Certificate) (d : Derivation) → IsGoodStep (with_next c d) (count c) ↔ IsGoodNext c d
-good_next c d = (there, back)
+pub good_steps_next : (P : Profile) (c : Certificate) (d : Derivation) → HasGoodSteps P (with_next c d) ↔ (HasGoodSteps P c × IsGoodNext P c d)
+good_steps_next P c d = (λ g. (sooner g, (good_next P c d d.reason).0 (g (count c) d.reason last)), later)
   where
-    e : reason_at (with_next c d) (count c) ≡ Some d.reason
-    e = reason_next c d
+    last : reason_at (with_next c d) (count c) ≡ Some d.reason
+    last = ap (λ (x : Known). x.reason) (known_next c d [])
 
-    there : IsGoodStep (with_next c d) (count c) → IsGoodNext c d
-    there g = let v = (valid_next c d).0 (subst (IsValid (with_next c d) (count c)) e g.valid) in record {
-      earlier = v.0;
-      follows = v.1;
-      fits = (fits_before c (d ∷ []) (count c) (Some d.reason) (omega arith) v.0).0 (subst (StepFits (with_next c d)) e g.fits);
-      references = λ i r. subst IsTrue (live_before c (d ∷ []) (count c) i (omega arith)) (g.references i (subst (λ q. RefersTo q i) (sym e) r));
-    }
+    reason_more : (k : ℕ) → k < count c → reason_at (with_next c d) k ≡ reason_at c k
+    reason_more k h = ap (λ (x : Known). x.reason) (known_before c (d ∷ []) k h)
 
-    back : IsGoodNext c d → IsGoodStep (with_next c d) (count c)
-    back g = record {
-      valid = subst (IsValid (with_next c d) (count c)) (sym e) ((valid_next c d).1 (g.earlier, g.follows));
-      fits = subst (StepFits (with_next c d)) (sym e) ((fits_before c (d ∷ []) (count c) (Some d.reason) (omega arith) g.earlier).1 g.fits);
-      references = λ i r. subst IsTrue (sym (live_before c (d ∷ []) (count c) i (omega arith))) (g.references i (subst (λ q. RefersTo q i) e r));
-    }
+    sooner : HasGoodSteps P (with_next c d) → HasGoodSteps P c
+    sooner g k r e = let h = (is_derived c k r e).1 in (good_more P c (d ∷ []) k r h).0 (g k r (reason_more k h ∙ e))
 
-pub good_steps_next : (c : Certificate) (d : Derivation) → HasGoodSteps (with_next c d) ↔ (HasGoodSteps c × IsGoodNext c d)
-good_steps_next c d = (
-  λ g. (λ k h. good_after c (d ∷ []) k h (g k (let n = count_next c d in omega arith)), (good_next c d).0 (g (count c) (let n = count_next c d in omega arith))),
-  λ g k h. ⊎_elim
-      (λ (l : k < count c). good_before c (d ∷ []) k l (g.0 k l))
-      (λ (l : count c ≤ k). let n = count_next c d in let e : count c ≡ k = omega arith in subst (IsGoodStep (with_next c d)) e ((good_next c d).1 g.1))
-      (cases_lt k (count c)),
-)
+    later : HasGoodSteps P c × IsGoodNext P c d → HasGoodSteps P (with_next c d)
+    later g k r e = ⊎_elim
+        (λ (h : k < count c). (good_more P c (d ∷ []) k r h).1 (g.0 k r (sym (reason_more k h) ∙ e)))
+        (λ (h : count c ≤ k).
+        let n = (is_derived (with_next c d) k r e).1 in
+        let m = count_next c d in
+        let at : count c ≡ k = omega arith in
+        subst (λ n. (r : Reason) → reason_at (with_next c d) n ≡ Some r → IsGoodStep P (with_next c d) n r (constraint_at (with_next c d) n)) at
+        (λ r e. (good_next P c d r).1 (subst (λ q. IsGoodStep P c (count c) q (condition d.stated)) (ap (λ o. unwrap_or o r) (sym last ∙ e)) g.1)) r e)
+        (cases_lt k (count c))
 
--- all steps, those past the end too
-pub all_good : (c : Certificate) → HasGoodSteps c → (k : ℕ) → IsGoodStep c k
-all_good c g k = ⊎_elim (λ (l : k < count c). g k l) (λ (l : count c ≤ k). good_past c k l) (cases_lt k (count c))
+pub good_without : (P : Profile) (c : Certificate) → c.derivations ≡ [] → HasGoodSteps P c
+good_without P c e k r q = let h = is_derived c k r q in let l = h.0 in let n = h.1 in let z : length c.derivations ≡ 0 = ap length e in absurd (omega arith)
 
-pub refers_back : (c : Certificate) → HasGoodSteps c → RefersBack c
-refers_back c g k = names_earlier c k (reason_at c k) (all_good c g k).valid
+back_by : (P : Profile) (c : Certificate) → HasGoodSteps P c → (k : ℕ) (o : Option Reason) → reason_at c k ≡ o → NamesEarlier k o
+back_by P c g k None e = tt
+back_by P c g k (Some r) e = (g k r e).earlier
 
-pub proof_by_step : (c : Certificate) → IsProof c ↔ IsProofByStep c
-proof_by_step c = (
-  λ p. record {
-    solutions = p.solutions;
-    solutions_fit = p.solutions_fit;
-    steps = λ k h. record { valid = p.steps k; fits = p.steps_fit k; references = p.references k };
-    primal = p.primal;
-    dual = p.dual;
-  },
-  λ p. record {
-    solutions = p.solutions;
-    solutions_fit = p.solutions_fit;
-    steps = λ k. (all_good c p.steps k).valid;
-    steps_fit = λ k. (all_good c p.steps k).fits;
-    references = λ k. (all_good c p.steps k).references;
-    primal = p.primal;
-    dual = p.dual;
-  },
-)
+pub refers_back : (P : Profile) (c : Certificate) → HasGoodSteps P c → RefersBack c
+refers_back P c g k = back_by P c g k (reason_at c k) refl
 
 -- ---- assumption sets
+module _ (c : Certificate) (ds : List Derivation) (back : RefersBack c) where
+  back_more : (i : ℕ) → i < count c → NamesEarlier i (reason_at (with_more c ds) i)
+  back_more i h = subst (λ (x : Known). NamesEarlier i x.reason) (sym (known_before c ds i h)) (back i)
+
+  -- an earlier constraint rests on the same in a certificate with more derivations
+  pub rests_more : (i a : ℕ) → i < count c → RestsOn (with_more c ds) i a ↔ RestsOn c i a
+  rests_more i a h = (
+    rests_alike c (c.derivations ++ ds) c.derivations (count c) (known_before c ds) back_more i a h,
+    rests_alike c c.derivations (c.derivations ++ ds) (count c) (λ i h. sym (known_before c ds i h)) (λ i h. back i) i a h,
+  )
+
+-- what the next derivation rests on
 rests_next_by : (c : Certificate) (d : Derivation) (a : ℕ) (r : Reason) → RefersBack c → NamesEarlier (count c) (Some r)
     → RestsBy (with_next c d) (count c) (Some r) a ↔ RestsBy c (count c) (Some r) a
-rests_next_by c d a asm back n = (λ h. h, λ h. h)
-rests_next_by c d a (lin es) back n = (
-  λ h. (h.0, h.1, h.2, rests_sooner c (d ∷ []) back h.0.0 a (All-contains (λ (e : ℕ × ℚ). e.0 < count c) es h.0 n h.1) h.3),
-  λ h. (h.0, h.1, h.2, rests_later c (d ∷ []) back h.0.0 a (All-contains (λ (e : ℕ × ℚ). e.0 < count c) es h.0 n h.1) h.3),
-)
-rests_next_by c d a (rnd es) back n = (
-  λ h. (h.0, h.1, h.2, rests_sooner c (d ∷ []) back h.0.0 a (All-contains (λ (e : ℕ × ℚ). e.0 < count c) es h.0 n h.1) h.3),
-  λ h. (h.0, h.1, h.2, rests_later c (d ∷ []) back h.0.0 a (All-contains (λ (e : ℕ × ℚ). e.0 < count c) es h.0 n h.1) h.3),
-)
-rests_next_by c d a (uns i1 l1 i2 l2) back n = (there, here)
+rests_next_by c d a r back n = by r n
   where
-    there : RestsBy (with_next c d) (count c) (Some (uns i1 l1 i2 l2)) a → RestsBy c (count c) (Some (uns i1 l1 i2 l2)) a
-    there (inl h) = inl (rests_sooner c (d ∷ []) back i1 a n.0 h.0, h.1)
-    there (inr h) = inr (rests_sooner c (d ∷ []) back i2 a n.2 h.0, h.1)
+    m : (i : ℕ) → i < count c → RestsOn (with_next c d) i a ↔ RestsOn c i a
+    m i h = rests_more c (d ∷ []) back i a h
 
-    here : RestsBy c (count c) (Some (uns i1 l1 i2 l2)) a → RestsBy (with_next c d) (count c) (Some (uns i1 l1 i2 l2)) a
-    here (inl h) = inl (rests_later c (d ∷ []) back i1 a n.0 h.0, h.1)
-    here (inr h) = inr (rests_later c (d ∷ []) back i2 a n.2 h.0, h.1)
-rests_next_by c d a sol back n = (λ h. h, λ h. h)
+    some : (es : List (ℕ × ℚ)) → All (λ e. e.0 < count c) es → SomeRestsOn (with_next c d) es a ↔ SomeRestsOn c es a
+    some es n = (
+      λ h. (h.0, h.1, h.2, (m h.0.0 (All-contains (λ (e : ℕ × ℚ). e.0 < count c) es h.0 n h.1)).0 h.3),
+      λ h. (h.0, h.1, h.2, (m h.0.0 (All-contains (λ (e : ℕ × ℚ). e.0 < count c) es h.0 n h.1)).1 h.3),
+    )
+
+    by : (r : Reason) → NamesEarlier (count c) (Some r) → RestsBy (with_next c d) (count c) (Some r) a ↔ RestsBy c (count c) (Some r) a
+    by asm n = (λ h. h, λ h. h)
+    by (lin es) n = some es n
+    by (rnd es) n = some es n
+    by (uns i1 l1 i2 l2) n = (
+      λ h. elim h [ inl g ↦ inl ((m i1 n.0).0 g.0, g.1) | inr g ↦ inr ((m i2 n.2).0 g.0, g.1) ],
+      λ h. elim h [ inl g ↦ inl ((m i1 n.0).1 g.0, g.1) | inr g ↦ inr ((m i2 n.2).1 g.0, g.1) ],
+    )
+    by sol n = (λ h. h, λ h. h)
 
 pub rests_next : (c : Certificate) (d : Derivation) (a : ℕ) → RefersBack c → NamesEarlier (count c) (Some d.reason) → RestsOn (with_next c d) (count c) a ↔ RestsBy c (count c) (Some d.reason) a
 rests_next c d a back n = let q = rests_next_by c d a d.reason back n in (
@@ -179,83 +137,23 @@ rests_next c d a back n = let q = rests_next_by c d a d.reason back n in (
 -- ---- soundness
 rests_below : (c : Certificate) → RefersBack c → (i a : ℕ) → RestsOn c i a → a ≤ i
 rests_below c back i a (itself e) = omega arith
-rests_below c back i a (by_lin es e r m n d) = let l = earlier_lin c i es e back r m in let h = rests_below c back e.0 a d in omega arith
-rests_below c back i a (by_rnd es e r m n d) = let l = earlier_rnd c i es e back r m in let h = rests_below c back e.0 a d in omega arith
-rests_below c back i a (by_first i1 l1 i2 l2 r d n) = let l = earlier_uns c i i1 l1 i2 l2 back r in let h = rests_below c back i1 a d in omega arith
-rests_below c back i a (by_second i1 l1 i2 l2 r d n) = let l = earlier_uns c i i1 l1 i2 l2 back r in let h = rests_below c back i2 a d in omega arith
+rests_below c back i a (brought {j = j} b r) = let l = brings_earlier i j a (reason_at c i) (back i) b in let h = rests_below c back j a r in omega arith
 
 pub sound_given : (c : Certificate) (i : ℕ) → i < length c.problem.constraints → IsSound c i
-sound_given c i h = step_sound c i (good_given c i h).valid (λ j r. absurd (subst (λ o. RefersTo o j) (reason_given c i h) r))
+sound_given c i h = sound_none c i (reason_given c i h)
 
 pub sound_before : (c : Certificate) (ds : List Derivation) (i : ℕ) → RefersBack c → i < count c → IsSound c i → IsSound (with_more c ds) i
 sound_before c ds i back h s x admitted given =
-    subst (λ d. IsTrueAt (variables c.problem) d x) (sym (constraint_before c ds i h)) (s x (record { feasible = admitted.feasible; unbeaten = admitted.unbeaten }) (λ a r.
+    let true_at : (k : ℕ) → k < count c → IsTrueOf (with_more c ds) k x ≡ IsTrueOf c k x = λ k l. ap (λ (y : Known). IsTrueAt (variables c.problem) y.stated x) (known_before c ds k l) in
+    subst (λ X. X) (sym (true_at i h)) (s x (record { feasible = admitted.feasible; unbeaten = admitted.unbeaten }) (λ a r.
     let l : a ≤ i = rests_below c back i a r in
-    subst (λ d. IsTrueAt (variables c.problem) d x) (constraint_before c ds a (omega arith)) (given a (rests_later c ds back i a h r))))
+    subst (λ X. X) (true_at a (omega arith)) (given a ((rests_more c ds back i a h).1 r))))
 
--- the next derivation is sound where those that it refers to are
-pub sound_next : (c : Certificate) (d : Derivation) → RefersBack c → NamesEarlier (count c) (Some d.reason) → FollowsBy c d d.reason
+-- the next derivation is sound where those are that it refers to
+pub sound_next : (P : Profile) (c : Certificate) (d : Derivation) → RefersBack c → NamesEarlier (count c) (Some d.reason) → FollowsBy P c d.reason (condition d.stated)
     → ((i : ℕ) → RefersTo (Some d.reason) i → IsSound c i) → IsSound (with_next c d) (count c)
-sound_next c d back n f s =
-    let v = (valid_next c d).1 (n, f) in
-    let e = reason_next c d in
-    step_sound (with_next c d) (count c) (subst (IsValid (with_next c d) (count c)) (sym e) v)
-    (λ i r. let q : RefersTo (Some d.reason) i = subst (λ o. RefersTo o i) e r in
-    sound_before c (d ∷ []) i back (refers_earlier (with_next c d) (count c) (Some d.reason) v i q) (s i q))
-
--- ---- the dual side and the goal
-pub dual_before : (c : Certificate) (ds : List Derivation) (k : ℕ) → RefersBack c → k < count c → ProvesDual (with_more c ds) k ↔ ProvesDual c k
-dual_before c ds k back h =
-    let q = rests_on_nothing c ds back k h in
-    let e = constraint_before c ds k h in (
-      λ p. (h, q.0 p.1, subst (MeetsDual c.problem c.problem.claim) e p.2),
-      λ p. (let n : count c ≤ count (with_more c ds) = count_least c ds in omega arith, q.1 p.1, subst (MeetsDual c.problem c.problem.claim) (sym e) p.2),
-    )
-
-pub dual_next : (c : Certificate) (d : Derivation) → RefersBack c → NamesEarlier (count c) (Some d.reason)
-    → ProvesDual (with_next c d) (count c) ↔ (((a : ℕ) → ¬ RestsBy c (count c) (Some d.reason) a) × MeetsDual c.problem c.problem.claim (condition d.stated))
-dual_next c d back n =
-    let e = constraint_next c d in (
-      λ p. (λ a r. p.1 a ((rests_next c d a back n).1 r), subst (MeetsDual c.problem c.problem.claim) e p.2),
-      λ p. (let m = count_next c d in omega arith, λ a r. p.0 a ((rests_next c d a back n).0 r), subst (MeetsDual c.problem c.problem.claim) (sym e) p.1),
-    )
-
-pub dual_given : (c : Certificate) (k : ℕ) → k < length c.problem.constraints → ProvesDual c k ↔ MeetsDual c.problem c.problem.claim (constraint_at c k)
-dual_given c k h = (λ p. p.2, λ m. (omega arith, λ a. rests_given c k a (reason_given c k h), m))
-
--- an index that proves the dual side is an earlier one, or the next
-dual_cases : (c : Certificate) (d : Derivation) (k : ℕ) → RefersBack c → ProvesDual (with_next c d) k → (ProvesDual c k × (k < count c)) ⊎ (k ≡ count c)
-dual_cases c d k back p = ⊎_elim
-    (λ (l : k < count c). inl ((dual_before c (d ∷ []) k back l).0 p, l))
-    (λ (l : count c ≤ k). let n = count_next c d in let h = p.0 in inr (omega arith))
-    (cases_lt k (count c))
-
-pub goal_stays : (c : Certificate) (d : Derivation) (goal : ℕ) → RefersBack c → GoalIs c (Some goal) → GoalIs (with_next c d) (Some goal)
-goal_stays c d goal back g = (
-  (dual_before c (d ∷ []) goal back g.0.0).1 g.0,
-  λ other p. ⊎_elim (λ (q : ProvesDual c other × (other < count c)). g.1 other q.0) (λ (e : other ≡ count c). let h = g.0.0 in omega arith) (dual_cases c d other back p),
-)
-
-pub goal_found : (c : Certificate) (d : Derivation) → RefersBack c → GoalIs c None → ProvesDual (with_next c d) (count c) → GoalIs (with_next c d) (Some (count c))
-goal_found c d back none p = (
-  p,
-  λ other q. ⊎_elim (λ (r : ProvesDual c other × (other < count c)). absurd (none other r.0)) (λ (e : other ≡ count c). omega arith) (dual_cases c d other back q),
-)
-
-pub goal_missing : (c : Certificate) (d : Derivation) → RefersBack c → GoalIs c None → ¬ ProvesDual (with_next c d) (count c) → GoalIs (with_next c d) None
-goal_missing c d back none not k p = ⊎_elim
-    (λ (r : ProvesDual c k × (k < count c)). none k r.0)
-    (λ (e : k ≡ count c). not (subst (ProvesDual (with_next c d)) e p))
-    (dual_cases c d k back p)
-
--- nothing proves a dual side that needs no goal
-meets_needs : (p : Problem) (q : Claim) (goal : Condition) → MeetsDual p q goal → NeedsGoal p q
-meets_needs p infeasible goal m = tt
-meets_needs p (range lower upper) goal m = some_of (dual_bound p.direction lower upper) _ m
-  where
-    some_of : (o : Option ℚ) (P : ℚ → Type 0) → IsSomeAnd o P → IsSome o
-    some_of None P h = absurd h
-    some_of (Some x) P h = refl
-
-pub goal_needed : (c : Certificate) (k : ℕ) → ProvesDual c k → NeedsGoal c.problem c.problem.claim
-goal_needed c k p = meets_needs c.problem c.problem.claim (constraint_at c k) p.2
+sound_next P c d back n f s =
+    let q = known_next c d [] in
+    step_sound P (with_next c d) (count c) d.reason (ap (λ (x : Known). x.reason) q)
+    (subst (λ (x : Known). FollowsBy P (with_next c d) d.reason x.stated) (sym q) (follows_alike c c.derivations (with_next c d).derivations (count c) (λ i h. sym (known_before c (d ∷ []) i h)) P d.reason (condition d.stated) n f))
+    (λ i r. sound_before c (d ∷ []) i back (refers_earlier (count c) d.reason n i r) (s i r))

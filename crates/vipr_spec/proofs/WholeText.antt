@@ -2,12 +2,14 @@
 use Rattle.std.proofs.Common.{◌≡◌, ℕ, ◌<◌, zero, suc, List, [], ◌∷◌, ◌++◌, length, Option, Some, None, Result, Ok, Err, All, Contains, refl, sym, ◌∙◌, ap, subst, zero-lt-suc}
 use Rattle.std.specs.Prelude.{◌↔◌}
 use Rattle.std.proofs.lemmas.List.Elements.{All-contains, Contains-append_right}
-use Rattle.vipr_spec.specs.Constraint.{IsInteger, Row}
+use Rattle.vipr_spec.specs.Constraint.{Profile, IsInteger, Row}
 use Rattle.vipr_spec.specs.Certificate.{Named, Problem, variables, Derivation, Certificate, IsProof}
 use Rattle.vipr_spec.specs.Reading.{Rest, Fault, Read, ◌>>=◌, repeated, problem_read, solution_read, derivations_read, derivation_read, end_read, certificate_read}
 use Rattle.vipr_spec.specs.Grammar.{Spells}
 use Rattle.vipr_spec.specs.GrammarLaws.{whole_text}
-use Rattle.vipr_spec.specs.Verdict.{FirstFailing, Test, spelled, meets_primal, meets_dual, Passes, before_items, items_read, Found, numbered, tests_of_solution, tests_of_derivation, last_tests, derivations_found, ending_found, problem_found, found_in, Report, Reports, Answer, verified, IsToldBy, IsAnswer}
+use Rattle.vipr_spec.specs.Steps.{FirstFailing}
+use Rattle.vipr_spec.specs.Tests.{Test, spelled, meets_primal, meets_dual, Passes, numbered, tests_of_solution, tests_of_derivation}
+use Rattle.vipr_spec.specs.Verdict.{before_items, items_read, Found, last_tests, derivations_found, ending_found, problem_found, found_in, Report, Reports, Answer, verified, IsToldBy, IsAnswer}
 use Rattle.vipr_spec.proofs.FirstFailing.{none_all, all_none, failing_unique}
 use Rattle.vipr_spec.proofs.AllTests.{proof_of_tests, tests_of_proof}
 use Rattle.vipr_spec.proofs.GrammarWhole.{reads_texts, integers_read_below}
@@ -103,51 +105,52 @@ whole_read r = by (problem_read r)
 
 -- ---- verified
 
-abbrev IsVerified : Result Certificate Fault → Report → Type 0
-IsVerified x report = (c : Certificate) × (x ≡ Ok c) × IsProof c × Reports c report
+module _ (P : Profile) where
+  abbrev IsVerified : Result Certificate Fault → Report → Type 0
+  IsVerified x report = (c : Certificate) × (x ≡ Ok c) × IsProof P c × Reports P c report
 
-all_passed : (r : Rest) (report : Report) → IsAnswer r (verified report) → All (Passes (found_in r).certificate) (found_in r).tests × Reports (found_in r).certificate report
-all_passed r report h = by h.0 h.1 h.2
-  where
-    by : (f : Option Test) → FirstFailing (Passes (found_in r).certificate) (found_in r).tests f → IsToldBy (found_in r) f (verified report) → All (Passes (found_in r).certificate) (found_in r).tests × Reports (found_in r).certificate report
-    by None p q = (none_all (Passes (found_in r).certificate) (found_in r).tests p, (let e : q.0 ≡ report = cc q.2 in subst (Reports (found_in r).certificate) e q.1))
-    by (Some t) p q = absurd (told_not_verified t report (sym q))
+  all_passed : (r : Rest) (report : Report) → IsAnswer P r (verified report) → All (Passes P (found_in r).certificate) (found_in r).tests × Reports P (found_in r).certificate report
+  all_passed r report h = by h.0 h.1 h.2
+    where
+      by : (f : Option Test) → FirstFailing (Passes P (found_in r).certificate) (found_in r).tests f → IsToldBy P (found_in r).certificate f (verified report) → All (Passes P (found_in r).certificate) (found_in r).tests × Reports P (found_in r).certificate report
+      by None p q = (none_all (Passes P (found_in r).certificate) (found_in r).tests p, (let e : q.0 ≡ report = cc q.2 in subst (Reports P (found_in r).certificate) e q.1))
+      by (Some t) p q = absurd (told_not_verified t report (sym q))
 
-verified_out : (found : Found) (x : Result Certificate Fault) (report : Report) → ((c : Certificate) → x ≡ Ok c → (j : ℕ) → IsInteger c.problem.integers j → j < variables c.problem) → Whole found x → All (Passes found.certificate) found.tests → Reports found.certificate report → IsVerified x report
-verified_out found (Err f) report below w a s = absurd (All-contains (Passes found.certificate) found.tests (spelled f) a w)
-verified_out found (Ok c) report below w a s =
-    let b = subst (λ g. All (Passes g.certificate) g.tests) w a in
-    (c, refl, proof_of_tests c (below c refl) b, subst (λ g. Reports g.certificate report) w s)
+  verified_out : (found : Found) (x : Result Certificate Fault) (report : Report) → ((c : Certificate) → x ≡ Ok c → (j : ℕ) → IsInteger c.problem.integers j → j < variables c.problem) → Whole found x → All (Passes P found.certificate) found.tests → Reports P found.certificate report → IsVerified x report
+  verified_out found (Err f) report below w a s = absurd (All-contains (Passes P found.certificate) found.tests (spelled f) a w)
+  verified_out found (Ok c) report below w a s =
+      let b = subst (λ g. All (Passes P g.certificate) g.tests) w a in
+      (c, refl, proof_of_tests P c (below c refl) b, subst (λ g. Reports P g.certificate report) w s)
 
-verified_in : (found : Found) (x : Result Certificate Fault) (report : Report) → Whole found x → IsVerified x report → (FirstFailing (Passes found.certificate) found.tests None) × Reports found.certificate report
-verified_in found (Err f) report w v = absurd (cc v.1)
-verified_in found (Ok d) report w v =
-    let e : v.0 ≡ d = cc v.1 in
-    let c = v.0 in
-    let g : found ≡ record { certificate = c; tests = all_tests c } = w ∙ ap (λ c. record { certificate = c; tests = all_tests c }) (sym e) in
-    subst (λ g. (FirstFailing (Passes g.certificate) g.tests None) × Reports g.certificate report) (sym g) (all_none (Passes c) (all_tests c) (tests_of_proof c v.2), v.3)
+  verified_in : (found : Found) (x : Result Certificate Fault) (report : Report) → Whole found x → IsVerified x report → (FirstFailing (Passes P found.certificate) found.tests None) × Reports P found.certificate report
+  verified_in found (Err f) report w v = absurd (cc v.1)
+  verified_in found (Ok d) report w v =
+      let e : v.0 ≡ d = cc v.1 in
+      let c = v.0 in
+      let g : found ≡ record { certificate = c; tests = all_tests c } = w ∙ ap (λ c. record { certificate = c; tests = all_tests c }) (sym e) in
+      subst (λ g. (FirstFailing (Passes P g.certificate) g.tests None) × Reports P g.certificate report) (sym g) (all_none (Passes P c) (all_tests c) (tests_of_proof P c v.2), v.3)
 
-pub verified_read : (r : Rest) (report : Report) → IsAnswer r (verified report) ↔ IsVerified (certificate_read r) report
-verified_read r report = (
-  λ h. let a = all_passed r report h in verified_out (found_in r) (certificate_read r) report (integers_read_below r) (whole_read r) a.0 a.1,
-  λ v. let a = verified_in (found_in r) (certificate_read r) report (whole_read r) v in (None, a.0, (report, a.1, refl)),
-)
+  pub verified_read : (r : Rest) (report : Report) → IsAnswer P r (verified report) ↔ IsVerified (certificate_read r) report
+  verified_read r report = (
+    λ h. let a = all_passed r report h in verified_out (found_in r) (certificate_read r) report (integers_read_below r) (whole_read r) a.0 a.1,
+    λ v. let a = verified_in (found_in r) (certificate_read r) report (whole_read r) v in (None, a.0, (report, a.1, refl)),
+  )
 
-pub verified_text : (bytes : List ℕ) (report : Report) → IsAnswer (whole_text bytes) (verified report) ↔ ((c : Certificate) × Spells bytes c × IsProof c × Reports c report)
-verified_text bytes report = (
-  λ h. let v = (verified_read (whole_text bytes) report).0 h in (v.0, (reads_texts bytes v.0).0 v.1, v.2, v.3),
-  λ v. (verified_read (whole_text bytes) report).1 (v.0, (reads_texts bytes v.0).1 v.1, v.2, v.3),
-)
+  pub verified_text : (bytes : List ℕ) (report : Report) → IsAnswer P (whole_text bytes) (verified report) ↔ ((c : Certificate) × Spells bytes c × IsProof P c × Reports P c report)
+  verified_text bytes report = (
+    λ h. let v = (verified_read (whole_text bytes) report).0 h in (v.0, (reads_texts bytes v.0).0 v.1, v.2, v.3),
+    λ v. (verified_read (whole_text bytes) report).1 (v.0, (reads_texts bytes v.0).1 v.1, v.2, v.3),
+  )
 
--- whatever is answered for a text that is read as a proof, it is verified
-pub proof_answered : (r : Rest) (c : Certificate) (a : Answer) → certificate_read r ≡ Ok c → IsProof c → IsAnswer r a → (report : Report) × Reports c report × (a ≡ verified report)
-proof_answered r c a e p h = by (found_in r) (certificate_read r) (whole_read r) e h.0 h.1 h.2
-  where
-    by : (found : Found) (x : Result Certificate Fault) → Whole found x → x ≡ Ok c → (f : Option Test) → FirstFailing (Passes found.certificate) found.tests f → IsToldBy found f a → (report : Report) × Reports c report × (a ≡ verified report)
-    by found (Err f) w x t g told = absurd (cc x)
-    by found (Ok d) w x t g told =
-        let same : d ≡ c = cc x in
-        let is : found ≡ record { certificate = c; tests = all_tests c } = w ∙ ap (λ c. record { certificate = c; tests = all_tests c }) same in
-        let none = all_none (Passes c) (all_tests c) (tests_of_proof c p) in
-        let first = subst (λ f. FirstFailing (Passes f.certificate) f.tests t) is g in
-        subst (λ f. IsToldBy (record { certificate = c; tests = all_tests c }) f a) (failing_unique (Passes c) (all_tests c) t None first none) (subst (λ f. IsToldBy f t a) is told)
+  -- whatever is answered for a text that is read as a proof, it is verified
+  pub proof_answered : (r : Rest) (c : Certificate) (a : Answer) → certificate_read r ≡ Ok c → IsProof P c → IsAnswer P r a → (report : Report) × Reports P c report × (a ≡ verified report)
+  proof_answered r c a e p h = by (found_in r) (certificate_read r) (whole_read r) e h.0 h.1 h.2
+    where
+      by : (found : Found) (x : Result Certificate Fault) → Whole found x → x ≡ Ok c → (f : Option Test) → FirstFailing (Passes P found.certificate) found.tests f → IsToldBy P found.certificate f a → (report : Report) × Reports P c report × (a ≡ verified report)
+      by found (Err f) w x t g told = absurd (cc x)
+      by found (Ok d) w x t g told =
+          let same : d ≡ c = cc x in
+          let is : found ≡ record { certificate = c; tests = all_tests c } = w ∙ ap (λ c. record { certificate = c; tests = all_tests c }) same in
+          let none = all_none (Passes P c) (all_tests c) (tests_of_proof P c p) in
+          let first = subst (λ f. FirstFailing (Passes P f.certificate) f.tests t) is g in
+          subst (λ f. IsToldBy P c f a) (failing_unique (Passes P c) (all_tests c) t None first none) (subst (λ f. IsToldBy P f.certificate t a) is told)

@@ -1,8 +1,8 @@
 //! Which assumptions a constraint rests on.
 
 ghost use Rattle.std.specs.Prelude.{◌↔◌, ℕ, ◌<◌, List, Some};
-ghost use Rattle.vipr_spec.specs.Certificate.{Certificate, Derivation, reason_at, RestsOn, count};
-ghost use Rattle.vipr_spec.specs.OnePass.{with_more, with_next, RestsBy, NamesEarlier, RefersBack};
+ghost use Rattle.vipr_spec.specs.Certificate.{Certificate, Derivation, reason_at, RestsOn, count, NamesEarlier};
+ghost use Rattle.vipr_spec.specs.Steps.{with_more, with_next, RestsBy, RefersBack};
 
 /// By the reason of the constraint.
 pub fn by_reason()

@@ -1,6 +1,5 @@
-use Rattle.vipr_spec.proofs.Prefix.{rests_later, rests_sooner}
-use Rattle.vipr_spec.proofs.Steps.{rests_next}
+use Rattle.vipr_spec.proofs.Steps.{rests_more, rests_next}
 use Rattle.vipr_spec.proofs.assumption_sets.one_pass.Goals as goal
 
 pub returns : goal.returns
-returns c = record { stay = λ c ds i a back h. (rests_sooner c ds back i a h, rests_later c ds back i a h); next = rests_next }
+returns c = record { stay = λ c ds i a back h. rests_more c ds back i a h; next = rests_next }

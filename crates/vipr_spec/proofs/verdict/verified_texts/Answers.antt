@@ -7,5 +7,5 @@ returns c = record {
   read = verified_read;
   spelled = verified_text;
   proved = proof_answered;
-  shown = λ bytes report h. let v = (verified_text bytes report).0 h in (v.0, v.1, claim_shown v.0 v.2);
+  shown = λ P bytes report h. let v = (verified_text P bytes report).0 h in (v.0, v.1, claim_shown P v.0 v.2);
 }
