@@ -1,5 +1,5 @@
 -- Derivations that name earlier constraints alone, one after the other and all at once
-use Rattle.std.proofs.Common.{◌≡◌, ℕ, ◌+◌, ◌-◌, ◌<◌, ◌≤◌, List, [], ◌∷◌, map, length, get_or, Option, Some, None, arith, refl, sym, ap, subst, ◌∙◌, inl, inr}
+use Rattle.std.proofs.Common.{◌≡◌, ℕ, ◌+◌, ◌-◌, ◌<◌, ◌≤◌, List, [], ◌∷◌, ◌++◌, map, length, get_or, Option, Some, None, arith, refl, sym, ap, subst, ◌∙◌, inl, inr}
 use Rattle.std.proofs.lemmas.Bool.{cases_lt}
 use Rattle.std.proofs.lemmas.List.{get_or-map, length-map, get_or_past}
 use Rattle.std.proofs.Math.ListN.{get_or-append}
@@ -10,6 +10,7 @@ use Rattle.std.specs.FinMap.{empty}
 use Rattle.vipr_spec.specs.Fraction.{zero_ℚ}
 use Rattle.vipr_spec.specs.Constraint as linear
 use Rattle.vipr_spec.specs.OnePass.{NamesEarlier, RefersBack}
+use Rattle.vipr_spec.proofs.Prefix.{reasons_listed}
 use Rattle.vipr_items.specs.Items.{reason_of, derivation_of}
 use Rattle.vipr_items.specs.Earlier.{reason_in, NameEarlierFrom}
 use Rattle.vipr_items.specs.declared.items.Derivation.{Derivation}
@@ -48,17 +49,20 @@ module _ (c : is.Certificate) (ds : List Derivation) (seen : c.derivations ≡ m
       twice [] = refl
       twice (d ∷ ds) = ap (λ l. Some (reason_of d.reason) ∷ l) (twice ds)
 
+  listed : (k : ℕ) → is.reason_at c k ≡ get_or (given ++ map (λ (d : is.Derivation). Some d.reason) c.derivations) k None
+  listed k = reasons_listed c k
+
   abbrev derived_in : ℕ → Option is.Reason
   derived_in i = get_or (map (λ (d : is.Derivation). Some d.reason) c.derivations) i None
 
   reason_behind : (k : ℕ) → length given ≤ k → is.reason_at c k ≡ derived_in (k - length given)
-  reason_behind k h = get_or-append_right given (map (λ (d : is.Derivation). Some d.reason) c.derivations) k None h
+  reason_behind k h = listed k ∙ get_or-append_right given (map (λ (d : is.Derivation). Some d.reason) c.derivations) k None h
 
   same_in : (i : ℕ) → derived_in i ≡ reason_in ds i
   same_in i = ap (λ l. get_or l i None) derived
 
   given_none : (k : ℕ) → k < length given → is.reason_at c k ≡ None
-  given_none k h = get_or-append given (map (λ (d : is.Derivation). Some d.reason) c.derivations) None k h ∙ get_or-map (λ (a : is.Named linear.Constraint). None) c.problem.constraints k (record { name = []; item = record { row = empty; sense = linear.equal; bound = zero_ℚ } }) None (let s = size in omega (arith, h, s))
+  given_none k h = listed k ∙ get_or-append given (map (λ (d : is.Derivation). Some d.reason) c.derivations) None k h ∙ get_or-map (λ (a : is.Named linear.Constraint). None) c.problem.constraints k (record { name = []; item = record { row = empty; sense = linear.equal; bound = zero_ℚ } }) None (let s = size in omega (arith, h, s))
 
   past : (k : ℕ) → length given + length ds ≤ k → is.reason_at c k ≡ None
   past k h =

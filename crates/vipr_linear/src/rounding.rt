@@ -1,7 +1,7 @@
 //! Rounding of sums over integer variables, and splits.
 ghost use Rattle.std.specs.Prelude.{◌≡◌, ◌↔◌, ◌≤◌, ℤ, pos, ◌+ℤ◌, unsigned_abs, IsTrue, IsOk, IfOk, IfErr, MatchOption};
 ghost use Rattle.vipr_spec.specs.Fraction.{most, whole, IsWhole};
-ghost use Rattle.vipr_spec.specs.Constraint.{Condition, at, equal, IsInteger, IsWholeRow, RoundsTo, DominatesRounded, IsCut, IsSplit};
+ghost use Rattle.vipr_spec.specs.Constraint.{one, Condition, at, equal, IsInteger, IsWholeRow, RoundsTo, DominatesRounded, IsCut, IsSplit};
 ghost use Rattle.vipr_linear.specs.Constraint.{sense_of, condition_of};
 
 use crate::constraint::{Constraint, Sense};
@@ -87,13 +87,13 @@ fn is_whole_at(ints: &Ints, variable: u32, coefficient: Frac) -> bool
 /// Whether one of the constraints is at most k, the other at least k + 1, for the same whole row over integer
 /// variables and a whole k.
 pub fn is_split(a: &Constraint, b: &Constraint, ints: &Ints) -> bool
-    ensures { IsTrue result ↔ IsSplit ints.now (condition_of a.now) (condition_of b.now) }
+    ensures { IsTrue result ↔ IsSplit one ints.now (condition_of a.now) (condition_of b.now) }
 {
     is_cut(a, b, ints) || is_cut(b, a, ints)
 }
 
 fn is_cut(low: &Constraint, high: &Constraint, ints: &Ints) -> bool
-    ensures { IsTrue result ↔ IsCut ints.now (condition_of low.now) (condition_of high.now) }
+    ensures { IsTrue result ↔ IsCut one ints.now (condition_of low.now) (condition_of high.now) }
 {
     low.sense == Sense::L
         && high.sense == Sense::G

@@ -3,7 +3,7 @@ use Rattle.std.proofs.Common.{◌≡◌, ◌≢◌, List, [], ◌∷◌, ◌++�
 use Rattle.std.specs.Prelude.{◌↔◌}
 use Rattle.std.proofs.lemmas.List.Elements.{All-contains}
 use Rattle.vipr_spec.specs.Fraction.{ℚ}
-use Rattle.vipr_spec.specs.Constraint.{Row, at, Dominates}
+use Rattle.vipr_spec.specs.Constraint.{one, Row, at, Dominates}
 use Rattle.vipr_spec.specs.Certificate.{Named, Problem, range, objective_at, objective_constraint, stays, IsAsGood, dual_bound, primal_bound, MeetsDual, NeedsGoal, MeetsPrimal}
 use Rattle.vipr_spec.specs.Soundness.{IsBestValue}
 use Rattle.vipr_spec.proofs.Soundness.{as_good_trans}
@@ -19,7 +19,7 @@ the_first p ss s none = subst (λ (l : List (Named Row)). IsBestValue p (l ++ s 
 module _ (p : Problem) (lower upper : Option ℚ) (bound : ℚ) (is : range lower upper ≡ p.claim) where
   pub bound_is_target : (x : Constraint) → Some bound ≡ dual_bound p.direction lower upper → condition_of x ≡ objective_constraint p (stays p.direction) bound → IsTargetOf p (Bound x)
   bound_is_target x dual says = record {
-    met = λ d. subst (λ k. Dominates d (condition_of x) ↔ MeetsDual p k d) is
+    met = λ d. subst (λ k. Dominates d (condition_of x) ↔ MeetsDual one p k d) is
         (subst (λ b. Dominates d (condition_of x) ↔ IsSomeAnd b (λ v. Dominates d (objective_constraint p (stays p.direction) v))) dual
         (subst (λ y. Dominates d (condition_of x) ↔ Dominates d y) says (λ h. h, λ h. h)));
     needed = subst (λ k. NeedsGoal p k ↔ (Bound x ≢ Nothing)) is (subst (λ b. IsSome b ↔ (Bound x ≢ Nothing)) dual (λ h e. absurd cc, λ h. refl));

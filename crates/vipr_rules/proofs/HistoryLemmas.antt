@@ -5,9 +5,11 @@ use Rattle.std.proofs.lemmas.Bool.{cases_lt}
 use Rattle.std.specs.Ordering.{nat_cmp}
 use Rattle.std.specs.FinMap.{get, get-empty, contains_key}
 use Rattle.std.specs.List.{range_with_len, count_by}
-use Rattle.vipr_spec.specs.Certificate.{Derivation, Certificate, reason_at, last_at, is_assumption, lasts_to, is_live, count, IsValid}
+use Rattle.vipr_spec.specs.Certificate.{Derivation, Certificate, reason_at, last_at, is_assumption, lasts_to, is_live, count}
 use Rattle.vipr_spec.specs.Certificate as spec
-use Rattle.vipr_spec.proofs.Prefix.{with_more, constraint_before, reason_before, last_before, rests_before, rests_after}
+use Rattle.vipr_spec.specs.OnePass.{RefersBack}
+use Rattle.vipr_spec.proofs.Prefix.{with_more, constraint_before, reason_before, last_before}
+use Rattle.vipr_spec.proofs.Steps.{rests_more}
 use Rattle.vipr_rules.specs.declared.rows.Entry.{Entry}
 use Rattle.vipr_rules.specs.Table.{Table, is_live_before, if_live, live_part, empty_table, step, entry_at, held}
 use Rattle.vipr_rules.specs.History.{IsEntryOf, is_derived, is_held, IsTableOf, Answers}
@@ -15,10 +17,10 @@ use Rattle.vipr_rules.proofs.TableLemmas.{get-insert_at, get-live_part}
 use Rattle.vipr_rules.proofs.CountLemmas.{count_same, count_more, len_counts}
 
 -- later derivations change no entry
-entry_later : (c : Certificate) (ds : List Derivation) (i : ℕ) (e : Entry) → ((k : ℕ) → k < count c → IsValid c k (reason_at c k)) → i < count c → IsEntryOf c i e → IsEntryOf (with_more c ds) i e
-entry_later c ds i e valid h x = record {
+entry_later : (c : Certificate) (ds : List Derivation) (i : ℕ) (e : Entry) → RefersBack c → i < count c → IsEntryOf c i e → IsEntryOf (with_more c ds) i e
+entry_later c ds i e back h x = record {
   says = constraint_before c ds i h ∙ x.says;
-  rests = λ a. (λ t. rests_before c ds valid i a h ((x.rests a).0 t), λ r. (x.rests a).1 (rests_after c ds valid i a h r));
+  rests = λ a. (λ t. (rests_more c ds back i a h).1 ((x.rests a).0 t), λ r. (x.rests a).1 ((rests_more c ds back i a h).0 r));
   is_assumed = x.is_assumed ∙ sym (ap is_assumption (reason_before c ds i h));
   last = x.last ∙ sym (last_before c ds i h);
 }
@@ -115,7 +117,7 @@ IsTableOf-empty c none = record {
     nothing i false h = h
 
 module _ (c : Certificate) (d : Derivation) (e : Entry) (t : Table)
-    (is : IsTableOf c t) (valid : (k : ℕ) → k < count c → IsValid c k (reason_at c k)) (new : IsEntryOf (with_more c (d ∷ [])) (count c) e) where
+    (is : IsTableOf c t) (back : RefersBack c) (new : IsEntryOf (with_more c (d ∷ [])) (count c) e) where
   abbrev after : Certificate
   after = with_more c (d ∷ [])
 
@@ -173,7 +175,7 @@ module _ (c : Certificate) (d : Derivation) (e : Entry) (t : Table)
       entry_at_step q x (inr apart) h =
           let was : get t.entries q ≡ Some x = if_live_of (count c + 1) (get t.entries q) x (ap (λ b. cond b (Some e) (if_live (count c + 1) (get t.entries q))) (sym apart.1) ∙ h) in
           let r = held_range c q (sym (is.held q) ∙ ap is_some was) in
-          entry_later c (d ∷ []) q x valid r.1 (is.entry q x was)
+          entry_later c (d ∷ []) q x back r.1 (is.entry q x was)
 
 module _ (c : Certificate) (t : Table) (is : IsTableOf c t) where
   -- a look-up answers exactly the derived constraints that are live before the next derivation

@@ -1,6 +1,6 @@
 pub mod RisingLemmas
 pub mod SetLemmas
-pub mod DueLemmas
+pub mod ExpiryLemmas
 pub mod TableLemmas
 pub mod TiedLemmas
 pub mod KeptLemmas
@@ -11,7 +11,8 @@ pub mod UnionLemmas
 pub mod ContextLemmas
 pub mod SumLemmas
 pub mod StepLemmas
-pub mod UnsplitLemmas
+pub mod BranchLemmas
+pub mod SoundLemmas
 pub mod RoundLemmas
 pub mod BelowLemmas
 pub mod CutoffLemmas

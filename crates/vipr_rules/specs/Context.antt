@@ -4,7 +4,7 @@ use Rattle.std.specs.FinSet as set
 use Rattle.std.specs.Ordering.{nat_cmp}
 use Rattle.vipr_spec.specs.Fraction.{ℚ}
 use Rattle.vipr_spec.specs.Soundness.{IsBestValue}
-use Rattle.vipr_spec.specs.OnePass.{SomeRestsOn, RestsBy}
+use Rattle.vipr_spec.specs.Steps.{SomeRestsOn, RestsBy}
 use Rattle.vipr_spec.specs.Certificate.{Certificate, Reason, constraint_at, reason_at, count}
 use Rattle.vipr_spec.specs.Certificate.{is_assumption, RestsOn}
 use Rattle.vipr_linear.specs.Constraint.{condition_of}

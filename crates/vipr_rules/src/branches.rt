@@ -2,13 +2,13 @@
 //! without them.
 
 ghost use Rattle.std.specs.Prelude.{◌≡◌, ◌⊎◌, ◌∷◌, [], ℕ, true, IfOk, OnOk, MatchResult};
-ghost use Rattle.vipr_spec.specs.Constraint.{condition, IsSplit};
-ghost use Rattle.vipr_spec.specs.Certificate.{Certificate, Derivation, constraint_at, uns as by_uns};
-ghost use Rattle.vipr_spec.specs.Verdict.{assumed, split};
+ghost use Rattle.vipr_spec.specs.Constraint.{one, condition, IsSplit};
+ghost use Rattle.vipr_spec.specs.Certificate.{Certificate, Derivation, constraint_at, uns};
+ghost use Rattle.vipr_spec.specs.Steps.{assumed, split};
 ghost use Rattle.vipr_linear.specs.Constraint.{condition_of};
 ghost use Rattle.vipr_rules.specs.Context.{IsContextOf, IsKnownAs, is_assumed};
 ghost use Rattle.vipr_rules.specs.Soundness.{IsSoundUnder};
-ghost use Rattle.vipr_rules.specs.Apply.{Passes, Stops, IsRuled};
+ghost use Rattle.vipr_rules.specs.Apply.{Passes, Stops, IsRuledBy};
 ghost use Rattle.vipr_rules.specs.declared.error.RuleError.TheVariants.{Memory};
 
 use crate::assumptions::Assumptions;
@@ -37,8 +37,9 @@ pub(crate) fn join_branches<S: Rows>(
     second: Branch,
 ) -> Result<Assumptions, RuleError>
     ensures ruled { (c : Certificate) (d : Derivation) → IsContextOf S.table c context.now
-        → d.reason ≡ by_uns first.conclusion first.assumption second.conclusion second.assumption
-        → condition_of stated.now ≡ condition d.stated → IsRuled c d result }
+        → condition_of stated.now ≡ condition d.stated
+        → IsRuledBy c d (uns first.conclusion first.assumption second.conclusion second.assumption)
+        result }
     ensures sound { IfOk result (λ s.
         IsSoundUnder S.table context.now s (condition_of stated.now)) }
 {
@@ -79,7 +80,7 @@ fn check_split(first: &Constraint, second: &Constraint, ints: &Ints) -> Result<(
         → MatchResult result (λ _. Passes c d (split l1 l2 ∷ []))
         (λ e. (e ≡ Memory) ⊎ Stops c d (split l1 l2 ∷ []) e) }
     ensures ok { OnOk result
-        (IsSplit ints.now (condition_of first.now) (condition_of second.now)) }
+        (IsSplit one ints.now (condition_of first.now) (condition_of second.now)) }
 {
     if is_split(first, second, ints) {
         return Ok(());

@@ -4,7 +4,7 @@ ghost use Rattle.std.specs.Prelude.{◌≡◌, ◌∷◌, [], true, IfOk, MatchR
 ghost use Rattle.std.specs.FinSet as set;
 ghost use Rattle.vipr_spec.specs.Constraint.{at, NamesBelow};
 ghost use Rattle.vipr_spec.specs.Certificate.{Certificate, Derivation, variables};
-ghost use Rattle.vipr_spec.specs.Verdict.{earlier};
+ghost use Rattle.vipr_spec.specs.Steps.{earlier};
 ghost use Rattle.vipr_linear.specs.Constraint.{condition_of};
 ghost use Rattle.vipr_rules.specs.Table.{DerivedBelow};
 ghost use Rattle.vipr_rules.specs.Context.{IsContextOf, IsKnownAs, row_of, set_of, is_assumed};

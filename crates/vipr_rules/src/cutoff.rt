@@ -7,7 +7,7 @@ ghost use Rattle.vipr_spec.specs.Certificate.{objective_constraint, reaches, sol
 ghost use Rattle.vipr_linear.specs.Constraint.{condition_of};
 ghost use Rattle.vipr_rules.specs.Context.{IsContextOf};
 ghost use Rattle.vipr_rules.specs.Soundness.{IsSoundUnder};
-ghost use Rattle.vipr_rules.specs.Apply.{IsRuled};
+ghost use Rattle.vipr_rules.specs.Apply.{IsRuledBy};
 
 use crate::assumptions::Assumptions;
 use crate::claim::objective_with;
@@ -27,7 +27,7 @@ pub(crate) fn cut_off<S: Rows>(
     stated: &Constraint,
 ) -> Result<Assumptions, RuleError>
     ensures ruled { (c : Certificate) (d : DerivationMeant) → IsContextOf S.table c context.now
-        → d.reason ≡ by_sol → condition_of stated.now ≡ condition d.stated → IsRuled c d result }
+        → condition_of stated.now ≡ condition d.stated → IsRuledBy c d by_sol result }
     ensures sound { IfOk result (λ s.
         IsSoundUnder S.table context.now s (condition_of stated.now)) }
 {

@@ -4,7 +4,7 @@ ghost use Rattle.std.specs.Prelude.{◌≡◌, ◌≢◌, ℕ, length, Some, IfO
 ghost use Rattle.vipr_spec.specs.Constraint.{Condition, Point};
 ghost use Rattle.vipr_spec.specs.Certificate.{Certificate, variables};
 ghost use Rattle.vipr_spec.specs.Certificate.{is_assumption as is_assumption_by};
-ghost use Rattle.vipr_spec.specs.OnePass.{RefersBack};
+ghost use Rattle.vipr_spec.specs.Steps.{RefersBack};
 ghost use Rattle.vipr_spec.specs.Soundness.{IsBestValue};
 ghost use Rattle.vipr_linear.specs.Constraint.{condition_of};
 ghost use Rattle.vipr_items.specs.Items.{derivation_of, reason_of};
@@ -12,7 +12,7 @@ ghost use Rattle.vipr_rules.specs.Table.{DerivedBelow};
 ghost use Rattle.vipr_rules.specs.History.{IsTableOf};
 ghost use Rattle.vipr_rules.specs.Context.{IsContextOf};
 ghost use Rattle.vipr_rules.specs.Soundness.{HasSoundRows, IsSoundRow, IsSoundAt, IsTrueUnder};
-ghost use Rattle.vipr_rules.specs.Apply.{Judges, KeepsSound, IsRuled, Passes, free_tests};
+ghost use Rattle.vipr_rules.specs.Apply.{Judges, KeepsSound, IsRuledBy, Passes, free_tests};
 ghost use Rattle.vipr_rules.specs.declared.error.RuleError.TheVariants.{Memory};
 
 use crate::assumptions::Assumptions;
@@ -94,7 +94,7 @@ fn assumptions_of<S: Rows>(
     requires variables { length scratch.old.sums ≡ variables context.now.problem.now }
     requires rows { DerivedBelow (variables context.now.problem.now) (S.table context.now.rows.now) }
     ensures ruled { (c : Certificate) → IsContextOf S.table c context.now
-        → IsRuled c (derivation_of step.now) result }
+        → IsRuledBy c (derivation_of step.now) (reason_of step.now.reason) result }
     ensures sound { IfOk result (λ s. (says : ℕ → Condition) (x : Point)
         → IsSoundAt S.table context.now says x
         → says (S.table context.now.rows.now).next ≡ condition_of step.now.constraint

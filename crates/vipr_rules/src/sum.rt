@@ -8,13 +8,13 @@ ghost use Rattle.vipr_spec.specs.Constraint.{IsWholeRow, DominatesRounded};
 ghost use Rattle.vipr_spec.specs.Certificate.{Certificate, Derivation, variables};
 ghost use Rattle.vipr_spec.specs.Certificate.{lin as by_lin, rnd as by_rnd};
 ghost use Rattle.vipr_spec.specs.Reading.{is_nonzero};
-ghost use Rattle.vipr_spec.specs.Verdict.{reference_tests, sum_tests, roundable, by_rounding};
+ghost use Rattle.vipr_spec.specs.Steps.{reference_tests, sum_tests, roundable, by_rounding, IsSum};
 ghost use Rattle.vipr_linear.specs.Accumulator.{Holds, HoldsSum};
 ghost use Rattle.vipr_linear.specs.Constraint.{sense_of, condition_of};
 ghost use Rattle.vipr_rules.specs.Table.{DerivedBelow};
 ghost use Rattle.vipr_rules.specs.Context.{IsContextOf, IsKnownAs, IsSetOfAll, row_of, set_of};
 ghost use Rattle.vipr_rules.specs.Soundness.{IsSoundUnder};
-ghost use Rattle.vipr_rules.specs.Apply.{entries_of, IsSum, Passes, Stops, SumStops, IsRuled};
+ghost use Rattle.vipr_rules.specs.Apply.{Passes, Stops, SumStops, IsRuledBy};
 ghost use Rattle.vipr_rules.specs.declared.error.RuleError.TheVariants.{Memory};
 
 use crate::assumptions::Assumptions;
@@ -44,8 +44,7 @@ pub(crate) fn combine<S: Rows>(
     requires variables { length scratch.old.sums ≡ variables context.now.problem.now }
     requires rows { DerivedBelow (variables context.now.problem.now) (S.table context.now.rows.now) }
     ensures ruled { (c : Certificate) (d : Derivation) → IsContextOf S.table c context.now
-        → d.reason ≡ by_lin entries.now → condition_of stated.now ≡ condition d.stated
-        → IsRuled c d result }
+        → condition_of stated.now ≡ condition d.stated → IsRuledBy c d (by_lin entries.now) result }
     ensures sound { IfOk result (λ s.
         IsSoundUnder S.table context.now s (condition_of stated.now)) }
     ensures variables { length scratch.new.sums ≡ length scratch.old.sums }
@@ -66,8 +65,7 @@ pub(crate) fn combine_rounded<S: Rows>(
     requires variables { length scratch.old.sums ≡ variables context.now.problem.now }
     requires rows { DerivedBelow (variables context.now.problem.now) (S.table context.now.rows.now) }
     ensures ruled { (c : Certificate) (d : Derivation) → IsContextOf S.table c context.now
-        → d.reason ≡ by_rnd entries.now → condition_of stated.now ≡ condition d.stated
-        → IsRuled c d result }
+        → condition_of stated.now ≡ condition d.stated → IsRuledBy c d (by_rnd entries.now) result }
     ensures sound { IfOk result (λ s.
         IsSoundUnder S.table context.now s (condition_of stated.now)) }
     ensures variables { length scratch.new.sums ≡ length scratch.old.sums }
@@ -79,8 +77,8 @@ pub(crate) fn combine_rounded<S: Rows>(
 
 // Tests that the sum can be rounded and then dominates the stated constraint.
 fn check_rounded(sum: Constraint, ints: &Ints, stated: &Constraint) -> Result<(), RuleError>
-    ensures tests { (c : Certificate) (d : Derivation) (es : List (ℕ × ℚ)) → IsSum c es (condition_of sum)
-        → c.problem.integers ≡ ints.now → entries_of d.reason ≡ es
+    ensures tests { (c : Certificate) (d : Derivation) (es : List (ℕ × ℚ))
+        → IsSum c es (condition_of sum) → c.problem.integers ≡ ints.now
         → condition_of stated.now ≡ condition d.stated
         → MatchResult result (λ _. Passes c d (roundable es ∷ by_rounding es ∷ []))
         (λ e. (e ≡ Memory) ⊎ Stops c d (roundable es ∷ by_rounding es ∷ []) e) }
@@ -105,7 +103,6 @@ fn add_up<S: Rows>(
     requires variables { length scratch.old.sums ≡ variables context.now.problem.now }
     requires rows { DerivedBelow (variables context.now.problem.now) (S.table context.now.rows.now) }
     ensures sum { (c : Certificate) (d : Derivation) → IsContextOf S.table c context.now
-        → entries.now ≡ entries_of d.reason
         → MatchResult result
         (λ s. Passes c d (sum_tests entries.now) × IsSum c entries.now (condition_of s.constraint)
         × IsSetOfAll c entries.now s.assumptions)
@@ -142,7 +139,7 @@ fn add_multiple(
 ) -> Result<(), RuleError>
     requires fresh { scratch.old.spent ≡ false }
     requires below { NamesBelow (length scratch.old.sums) (at constraint.now.row) }
-    ensures sum { let e = (multiplier, condition_of constraint.now) in
+    ensures sum { let e : Summand = (multiplier, condition_of constraint.now) in
         (n : ℕ) (es : List Summand) → Holds n es scratch.old
         → MatchResult result (λ _. Holds n (es ++ e ∷ []) scratch.new)
         (SumStops (es ++ e ∷ []) position) }

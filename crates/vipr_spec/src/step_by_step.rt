@@ -1,8 +1,8 @@
 //! A step, tested in the certificate before it.
 
-ghost use Rattle.std.specs.Prelude.{◌≡◌, ◌↔◌, ℕ, ◌+◌, ◌<◌, ◌≤◌, ◌⊎◌, max, List, [], ◌∷◌, ◌++◌, length, Option, Some, None, All};
+ghost use Rattle.std.specs.Prelude.{◌≡◌, ◌↔◌, ℕ, ◌+◌, ◌<◌, ◌≤◌, ◌⊎◌, max, List, [], ◌∷◌, ◌++◌, map, length, slice_index_or, Option, Some, None, All};
 ghost use Rattle.vipr_spec.specs.Constraint.{Profile, Condition, condition};
-ghost use Rattle.vipr_spec.specs.Certificate.{Reason, Derivation, Certificate, derived, known_at, constraint_at, reason_at, is_live, held, peak, count, IsGoodStep, HasGoodSteps};
+ghost use Rattle.vipr_spec.specs.Certificate.{Reason, Derivation, Certificate, derived, unknown, known_at, constraint_at, reason_at, last_at, is_live, held, peak, count, IsGoodStep, HasGoodSteps};
 ghost use Rattle.vipr_spec.specs.Steps.{StepTest, PassesStep, step_tests, FirstFailing, with_more, with_next, before, IsGoodNext, PassesSteps, RefersBack, StepDetail, Refuses};
 
 /// No test fails first exactly where all pass, and only one test fails first. Of two lists, one
@@ -37,6 +37,17 @@ pub fn next_one()
     ensures none { (P : Profile) (c : Certificate) → c.derivations ≡ [] → HasGoodSteps P c }
     ensures steps { (P : Profile) (c : Certificate) (d : Derivation) → HasGoodSteps P (with_next c d) ↔ (HasGoodSteps P c × IsGoodNext P c d) }
     ensures back { (P : Profile) (c : Certificate) → HasGoodSteps P c → RefersBack c }
+{}
+
+/// What is known of a constraint, field by field: of those of the problem first, and then of the
+/// derivations.
+pub fn field_by_field()
+    ensures stated { (c : Certificate) (i : ℕ) → constraint_at c i
+        ≡ slice_index_or (map (λ n. condition n.item) c.problem.constraints ++ map (λ d. condition d.stated) c.derivations) i unknown.stated }
+    ensures reason { (c : Certificate) (i : ℕ) → reason_at c i
+        ≡ slice_index_or (map (λ a. None) c.problem.constraints ++ map (λ d. Some d.reason) c.derivations) i None }
+    ensures last { (c : Certificate) (i : ℕ) → last_at c i
+        ≡ slice_index_or (map (λ a. None) c.problem.constraints ++ map (λ d. d.last) c.derivations) i None }
 {}
 
 /// No test of a step fails exactly where it names what is there, is valid, fits, and refers to live

@@ -2,7 +2,7 @@
 
 ghost use Rattle.std.specs.Prelude.{◌≡◌, ℕ, ◌+◌, ◌≤◌, List, [], length, All};
 ghost use Rattle.vipr_spec.specs.Certificate.{Certificate, Derivation, count, held as held_after};
-ghost use Rattle.vipr_spec.specs.OnePass.{with_next, HasGoodSteps};
+ghost use Rattle.vipr_spec.specs.OnePass.{with_next, RefersBack};
 ghost use Rattle.vipr_spec.specs.Constraint.{at, NamesBelow};
 ghost use Rattle.vipr_linear.specs.declared.constraint.Constraint.{Constraint};
 ghost use Rattle.vipr_items.specs.declared.items.Named.{Named};
@@ -15,7 +15,7 @@ ghost use Rattle.vipr_rules.specs.declared.rows.Entry.{Entry as EntryValue};
 /// as are held, and a look-up answers exactly those that are live before the next derivation.
 pub fn table_holds_what_is_live()
     ensures empty { (c : Certificate) → c.derivations ≡ [] → IsTableOf c (empty_table (length c.problem.constraints)) }
-    ensures step { (c : Certificate) (d : Derivation) (e : EntryValue) (t : Table) → IsTableOf c t → HasGoodSteps c → IsEntryOf (with_next c d) (count c) e → IsTableOf (with_next c d) (step t e) }
+    ensures step { (c : Certificate) (d : Derivation) (e : EntryValue) (t : Table) → IsTableOf c t → RefersBack c → IsEntryOf (with_next c d) (count c) e → IsTableOf (with_next c d) (step t e) }
     ensures found { (c : Certificate) (t : Table) → IsTableOf c t → (i : ℕ) → Answers c i (entry_at t i) }
     ensures counted { (c : Certificate) (t : Table) → IsTableOf c t → (k : ℕ) → k + 1 ≡ count c → length c.problem.constraints ≤ k → held_in t ≡ held_after c k }
 {}

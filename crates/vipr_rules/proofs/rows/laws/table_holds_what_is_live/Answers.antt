@@ -5,7 +5,7 @@ pub returns : goal.returns
 returns c =
     record {
       empty = IsTableOf-empty;
-      step = λ c d e t is good new. IsTableOf-step c d e t is (λ k h. (good k h).valid) new;
+      step = IsTableOf-step;
       found = IsTableOf-answers;
       counted = IsTableOf-held;
     }

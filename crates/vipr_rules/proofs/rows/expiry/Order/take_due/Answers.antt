@@ -1,6 +1,6 @@
 use Rattle.std.proofs.Common.{◌≡◌, ap, arith}
 use Rattle.std.proofs.lemmas.List.Sorted.{IsPermutation-map}
-use Rattle.vipr_rules.proofs.DueLemmas.{All-below_top, same_front}
+use Rattle.vipr_rules.proofs.ExpiryLemmas.{All-below_top, same_front}
 use Rattle.vipr_rules.proofs.rows.expiry.Order.take_due.Goals as goal
 
 pub returns-then-now-last-clause-none : goal.returns-then-now-last-clause-none
