@@ -1,7 +1,7 @@
 -- The tests of a sum's entries, one entry after another.
-use Rattle.std.proofs.Common.{◌≡◌, ℕ, zero, suc, ◌+◌, ◌-◌, ◌<◌, ◌≤◌, Bool, true, false, List, [], ◌∷◌, ◌++◌, length, take, drop, get_or, Option, Some, None, refl, sym, ap, ◌∙◌, subst, append_assoc, inl, inr, arith}
+use Rattle.std.proofs.Common.{◌≡◌, ℕ, zero, suc, ◌+◌, ◌-◌, ◌<◌, ◌≤◌, Bool, true, false, List, [], ◌∷◌, ◌++◌, length, length-drop, take, drop, get_or, Option, Some, None, refl, sym, ap, ◌∙◌, subst, append_assoc, inl, inr, arith}
 use Rattle.std.specs.List.{flat_map}
-use Rattle.std.proofs.Math.Seq.{take-suc}
+use Rattle.std.proofs.Math.Seq.{take-suc, take-length}
 use Rattle.std.proofs.lemmas.List.{append-nil, take-append-drop, length-take-le}
 use Rattle.std.proofs.lemmas.Grind.{flat_map-append}
 use Rattle.vipr_spec.specs.Fraction.{ℚ}
@@ -106,3 +106,7 @@ pub references_rest : (P : StepTest → Type 0) (es : List (ℕ × ℚ)) (n : �
 references_rest P es n f h k =
     subst (λ l. FirstFailing P (flat_map reference_tests l) f) (take-append-drop n es)
     (subst (λ ts. FirstFailing P ts f) (sym (flat_map-append reference_tests (take n es) (drop n es))) (failing_second P (flat_map reference_tests (take n es)) (flat_map reference_tests (drop n es)) f h k))
+
+-- the entries from one on, as a slice
+pub to_end : (es : List (ℕ × ℚ)) (i : ℕ) → take (length es - i) (drop i es) ≡ drop i es
+to_end es i = ap (λ n. take n (drop i es)) (sym (length-drop i es)) ∙ take-length (drop i es)

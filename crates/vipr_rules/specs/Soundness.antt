@@ -32,7 +32,8 @@ pub record HasSoundRows (p : Problem) (best : Option ℚ) (t : Table) (says : �
 -- ---- against a context whose rows are sound
 
 -- `says` is what its rows state, and x a point at which no better value than its best one is reached
-pub record IsSoundAt {S : Type 0} (table : S → Table) (c : Context S) (says : ℕ → Condition) (x : Point) : Type 0 where
+pub record IsSoundAt {S : Type 0} (table : S → Table) (c : Context S) (says : ℕ → Condition)
+    (x : Point) : Type 0 where
   pub rows : HasSoundRows c.problem.now (option_copied c.best) (table c.rows.now) says
   pub admitted : IsAdmittedBy c.problem.now (option_copied c.best) x
 

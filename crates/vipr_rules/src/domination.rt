@@ -10,10 +10,7 @@ use crate::error::RuleError;
 use vipr_linear::Constraint;
 
 /// Tests that the computed constraint dominates the stated one.
-pub(crate) fn check_domination(
-    computed: &Constraint,
-    stated: &Constraint,
-) -> Result<(), RuleError>
+pub(crate) fn check_domination(computed: &Constraint, stated: &Constraint) -> Result<(), RuleError>
     ensures { MatchResult result
         (λ _. Dominates (condition_of computed.now) (condition_of stated.now))
         (λ e. (e ≡ Memory) ⊎ IsNotDominated computed.now stated.now e) }

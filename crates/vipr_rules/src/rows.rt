@@ -9,11 +9,10 @@ ghost use Rattle.vipr_rules.specs.Table.{expiry as expiry_of, is_live_before as 
 ghost use Rattle.vipr_rules.specs.Table.{Table, empty_table, advance_table, put_entry};
 ghost use Rattle.vipr_rules.specs.Table.{entry_at, held as held_in};
 
+use crate::assumptions::Assumptions;
 pub use keep_all::KeepAll;
 pub use laws::{names_stay_below, table_holds_what_is_live};
 pub use live_only::LiveOnly;
-
-use crate::assumptions::Assumptions;
 use std::alloc::{AllocError, Global};
 use vipr_linear::Constraint;
 

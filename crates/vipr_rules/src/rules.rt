@@ -92,7 +92,8 @@ fn assumptions_of<S: Rows>(
     step: &Derivation,
 ) -> Result<Assumptions, RuleError>
     requires variables { length scratch.old.sums ≡ variables context.now.problem.now }
-    requires rows { DerivedBelow (variables context.now.problem.now) (S.table context.now.rows.now) }
+    requires rows { let n = variables context.now.problem.now in
+        DerivedBelow n (S.table context.now.rows.now) }
     ensures ruled { (c : Certificate) → IsContextOf S.table c context.now
         → IsRuledBy c (derivation_of step.now) (reason_of step.now.reason) result }
     ensures sound { IfOk result (λ s. (says : ℕ → Condition) (x : Point)

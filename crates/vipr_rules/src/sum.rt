@@ -42,7 +42,8 @@ pub(crate) fn combine<S: Rows>(
     entries: &[(u32, Frac)],
 ) -> Result<Assumptions, RuleError>
     requires variables { length scratch.old.sums ≡ variables context.now.problem.now }
-    requires rows { DerivedBelow (variables context.now.problem.now) (S.table context.now.rows.now) }
+    requires rows { let n = variables context.now.problem.now in
+        DerivedBelow n (S.table context.now.rows.now) }
     ensures ruled { (c : Certificate) (d : Derivation) → IsContextOf S.table c context.now
         → condition_of stated.now ≡ condition d.stated → IsRuledBy c d (by_lin entries.now) result }
     ensures sound { IfOk result (λ s.
@@ -63,7 +64,8 @@ pub(crate) fn combine_rounded<S: Rows>(
     entries: &[(u32, Frac)],
 ) -> Result<Assumptions, RuleError>
     requires variables { length scratch.old.sums ≡ variables context.now.problem.now }
-    requires rows { DerivedBelow (variables context.now.problem.now) (S.table context.now.rows.now) }
+    requires rows { let n = variables context.now.problem.now in
+        DerivedBelow n (S.table context.now.rows.now) }
     ensures ruled { (c : Certificate) (d : Derivation) → IsContextOf S.table c context.now
         → condition_of stated.now ≡ condition d.stated → IsRuledBy c d (by_rnd entries.now) result }
     ensures sound { IfOk result (λ s.
@@ -101,7 +103,8 @@ fn add_up<S: Rows>(
     entries: &[(u32, Frac)],
 ) -> Result<Sum, RuleError>
     requires variables { length scratch.old.sums ≡ variables context.now.problem.now }
-    requires rows { DerivedBelow (variables context.now.problem.now) (S.table context.now.rows.now) }
+    requires rows { let n = variables context.now.problem.now in
+        DerivedBelow n (S.table context.now.rows.now) }
     ensures sum { (c : Certificate) (d : Derivation) → IsContextOf S.table c context.now
         → MatchResult result
         (λ s. Passes c d (sum_tests entries.now) × IsSum c entries.now (condition_of s.constraint)
@@ -169,10 +172,7 @@ fn finish(alloc: Global, scratch: &mut Combination) -> Result<Constraint, RuleEr
 }
 
 // Tests the references of all entries in their order.
-fn check_references<S: Rows>(
-    context: &Context<S>,
-    entries: &[(u32, Frac)],
-) -> Result<(), RuleError>
+fn check_references<S: Rows>(context: &Context<S>, entries: &[(u32, Frac)]) -> Result<(), RuleError>
     ensures { (c : Certificate) (d : Derivation) → IsContextOf S.table c context.now
         → MatchResult result (λ _. Passes c d (flat_map reference_tests entries.now))
         (Stops c d (flat_map reference_tests entries.now)) }

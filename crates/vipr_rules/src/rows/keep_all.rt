@@ -3,9 +3,8 @@
 ghost use Rattle.std.specs.Prelude.{◌≡◌, ◌<◌, length, is_some, slice_get, if◌then◌else◌};
 ghost use Rattle.vipr_rules.specs.KeepAll.{forget_at, shown};
 
-use crate::rows::Entry;
 use crate::rows::expiry::Order;
-use crate::rows::Rows;
+use crate::rows::{Entry, Rows};
 use std::alloc::{AllocError, Global};
 use std::marker::Model;
 

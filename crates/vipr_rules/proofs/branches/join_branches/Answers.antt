@@ -150,8 +150,7 @@ returns-clause-ruled g c = λ d e is says.
     let x1 = ap condition_of c.constraint-3.ensures ∙ k1.1.says in
     let d1 = constraint_passes d e c.args.first.conclusion _ c.args.stated.now x1 says c.in_ok-check_domination.ensures in
     let x2 = ap condition_of c.constraint-4.ensures ∙ k3.1.says in
-    let d2 = constraint_passes d e c.args.second.conclusion _ c.args.stated.now x2 says c.in_ok-check_domination-2.ensures in
-    (
+    let d2 = constraint_passes d e c.args.second.conclusion _ c.args.stated.now x2 says c.in_ok-check_domination-2.ensures in (
       all_pass d e c.args.first.conclusion c.args.first.assumption c.args.second.conclusion c.args.second.assumption k1.0 k2.0 k3.0 k4.0 a1 a2 s d1 d2,
       joined_set d c.args.first.conclusion c.args.first.assumption c.args.second.conclusion c.args.second.assumption _ _ _ _ _ k1.1 k3.1 c.in_ok-from_first.ensures c.in_ok-from_second.ensures c.in_ok-union.ensures,
     )
