@@ -1,17 +1,17 @@
 -- The tests of a sum's entries, one entry after another.
-use Rattle.std.proofs.Common.{◌≡◌, ℕ, zero, suc, ◌+◌, ◌<◌, ◌≤◌, Bool, true, false, List, [], ◌∷◌, ◌++◌, length, take, drop, get_or, Option, Some, None, refl, sym, ap, ◌∙◌, subst, append_assoc, inl, inr, arith}
+use Rattle.std.proofs.Common.{◌≡◌, ℕ, zero, suc, ◌+◌, ◌-◌, ◌<◌, ◌≤◌, Bool, true, false, List, [], ◌∷◌, ◌++◌, length, length-drop, take, drop, get_or, Option, Some, None, refl, sym, ap, ◌∙◌, subst, append_assoc, inl, inr, arith}
 use Rattle.std.specs.List.{flat_map}
-use Rattle.std.proofs.Math.Seq.{take-suc}
-use Rattle.std.proofs.lemmas.List.{append-nil, take-append-drop}
+use Rattle.std.proofs.Math.Seq.{take-suc, take-length}
+use Rattle.std.proofs.lemmas.List.{append-nil, take-append-drop, length-take-le}
 use Rattle.std.proofs.lemmas.Grind.{flat_map-append}
 use Rattle.vipr_spec.specs.Fraction.{ℚ}
-use Rattle.vipr_spec.specs.Certificate.{Certificate, Derivation}
+use Rattle.vipr_spec.specs.Certificate.{Certificate, Derivation, entries}
 use Rattle.vipr_spec.specs.Progress.{PassesNext}
-use Rattle.vipr_rules.specs.declared.failure.RuleError.{RuleError}
-use Rattle.vipr_rules.specs.Judged.{entries_of, Passes, Stops, Tells, SumStops}
+use Rattle.vipr_rules.specs.declared.error.RuleError.{RuleError}
+use Rattle.vipr_rules.specs.Apply.{Passes, Stops, SumStops, shown_by}
 use Rattle.std.specs.Prelude.{if◌then◌else◌}
 use Rattle.vipr_spec.specs.Reading.{is_nonzero}
-use Rattle.vipr_spec.specs.Verdict.{StepTest, earlier, live, suitable, fitting, FirstFailing, reference_tests, entry_tests}
+use Rattle.vipr_spec.specs.Steps.{StepTest, earlier, live, suitable, fitting, FirstFailing, reference_tests, entry_tests, position}
 use Rattle.vipr_spec.proofs.FirstFailing.{failing_first, failing_second, failing_parts}
 use Rattle.std.proofs.lemmas.List.Concat.{flat_map-cons}
 
@@ -34,13 +34,6 @@ take_all (x ∷ es) (suc n) h = ap (λ l. x ∷ l) (take_all es n (omega arith))
 -- where all tests of two lists pass, those of each do
 pub passing_parts : (P : StepTest → Type 0) (xs ys : List StepTest) → FirstFailing P (xs ++ ys) None → FirstFailing P xs None × FirstFailing P ys None
 passing_parts P xs ys h = elim (failing_parts P xs ys None h) [ inl k ↦ k | inr k ↦ absurd (let e = k.1 in cc) ]
-
-pub references_each : (P : StepTest → Type 0) (es : List (ℕ × ℚ)) (n : ℕ) (e : ℕ × ℚ) → FirstFailing P (flat_map reference_tests es) None → n < length es → e ≡ get_or es n e → FirstFailing P (reference_tests e) None
-references_each P [] n e h lt is = absurd (omega arith)
-references_each P (x ∷ es) zero e h lt is =
-    subst (λ y. FirstFailing P (reference_tests y) None) (sym is) (passing_parts P (reference_tests x) (flat_map reference_tests es) (subst (λ ts. FirstFailing P ts None) (flat_map-cons reference_tests x es) h)).0
-references_each P (x ∷ es) (suc n) e h lt is =
-    references_each P es n e (passing_parts P (reference_tests x) (flat_map reference_tests es) (subst (λ ts. FirstFailing P ts None) (flat_map-cons reference_tests x es) h)).1 (omega arith) is
 
 module _ (P : StepTest → Type 0) (es : List (ℕ × ℚ)) (n : ℕ) (e : ℕ × ℚ) (within : n < length es) (is : e ≡ get_or es n e) where
   abbrev so_far : List (ℕ × ℚ)
@@ -89,52 +82,31 @@ module _ (P : StepTest → Type 0) (es : List (ℕ × ℚ)) (n : ℕ) (e : ℕ �
       (subst (λ ts. FirstFailing P ts (Some t)) (sym (flat_map-append reference_tests (take (n + 1) es) (drop (n + 1) es)))
       (failing_first P (flat_map reference_tests (take (n + 1) es)) (flat_map reference_tests (drop (n + 1) es)) t (references_more (Some t) before h)))
 
-module _ (P : StepTest → Type 0) (e : ℕ × ℚ) where
-  pub reference_not_earlier : ¬ P (earlier e.0) → FirstFailing P (reference_tests e) (Some (earlier e.0))
-  reference_not_earlier bad = by (is_nonzero e)
-    where
-      by : (b : Bool) → FirstFailing P (if b then earlier e.0 ∷ live e.0 ∷ [] else earlier e.0 ∷ []) (Some (earlier e.0))
-      by true = inr (bad, refl)
-      by false = inr (bad, refl)
-
-  abbrev tests : Bool → List StepTest
-  tests b = if b then earlier e.0 ∷ live e.0 ∷ [] else earlier e.0 ∷ []
-
-  pub reference_unused : is_nonzero e ≡ false → P (earlier e.0) → FirstFailing P (reference_tests e) None
-  reference_unused unused p = subst (λ b. FirstFailing P (tests b) None) (sym unused) (inl (p, refl))
-
-  pub reference_live : P (earlier e.0) → P (live e.0) → FirstFailing P (reference_tests e) None
-  reference_live p q = by (is_nonzero e)
-    where
-      by : (b : Bool) → FirstFailing P (tests b) None
-      by true = inl (p, inl (q, refl))
-      by false = inl (p, refl)
-
-  pub reference_dropped : is_nonzero e ≡ true → P (earlier e.0) → ¬ P (live e.0) → FirstFailing P (reference_tests e) (Some (live e.0))
-  reference_dropped some p bad = subst (λ b. FirstFailing P (tests b) (Some (live e.0))) (sym some) (inl (p, inr (bad, refl)))
-
-  -- what passing says
-  pub reference_is_earlier : FirstFailing P (reference_tests e) None → P (earlier e.0)
-  reference_is_earlier = by (is_nonzero e)
-    where
-      by : (b : Bool) → FirstFailing P (tests b) None → P (earlier e.0)
-      by true (inl h) = h.0
-      by true (inr h) = absurd (cc)
-      by false (inl h) = h.0
-      by false (inr h) = absurd (cc)
-
-  pub reference_is_live : is_nonzero e ≡ true → FirstFailing P (reference_tests e) None → P (live e.0)
-  reference_is_live some h = by (subst (λ b. FirstFailing P (tests b) None) some h)
-    where
-      by : FirstFailing P (earlier e.0 ∷ live e.0 ∷ []) None → P (live e.0)
-      by (inl (p, inl h)) = h.0
-      by (inl (p, inr h)) = absurd (cc)
-      by (inr h) = absurd (cc)
-
 -- what an entry that can't be added tells of the whole sum
-pub sum_stops : (c : Certificate) (d : Derivation) (es : List (ℕ × ℚ)) (n : ℕ) (e : ℕ × ℚ) (error : RuleError) → n < length es → e ≡ get_or es n e → es ≡ entries_of d.reason
-    → Passes c d (entry_tests [] (take n es)) → SumStops c (take n es ++ e ∷ []) n error → Stops c d (entry_tests [] es) error
-sum_stops c d es n e error lt is of before (inl (this, bad)) =
-    (suitable (take (n + 1) es), sign_fails (PassesNext c d) es n e lt is before bad, subst (λ x. Tells c d x (suitable (take (n + 1) es))) (sym this) (ap (λ l. suitable (take (n + 1) l)) of))
-sum_stops c d es n e error lt is of before (inr (this, good, bad)) =
-    (fitting (take (n + 1) es), size_fails (PassesNext c d) es n e lt is before good bad, subst (λ x. Tells c d x (fitting (take (n + 1) es))) (sym this) (ap (λ l. fitting (take (n + 1) l)) of))
+at_position : (es : List (ℕ × ℚ)) (n : ℕ) → n < length es → n ≡ length (take (n + 1) es) - 1
+at_position es n h = let e = length-take-le (n + 1) es (omega arith) in omega (arith, e)
+
+pub sum_stops : (c : Certificate) (d : Derivation) (es : List (ℕ × ℚ)) (n : ℕ) (e : ℕ × ℚ) (error : RuleError) → n < length es → e ≡ get_or es n e
+    → Passes c d (entry_tests [] (take n es)) → SumStops (entries c (take n es ++ e ∷ [])) n error → Stops c d (entry_tests [] es) error
+sum_stops c d es n e error lt is before (inl (this, bad)) =
+    (suitable (take (n + 1) es), sign_fails (PassesNext c d) es n e lt is before bad, (position n, ap shown_by this, ap position (at_position es n lt)))
+sum_stops c d es n e error lt is before (inr (this, good, bad)) =
+    (fitting (take (n + 1) es), size_fails (PassesNext c d) es n e lt is before good bad, (position n, ap shown_by this, ap position (at_position es n lt)))
+
+-- the references of an entry
+pub used_passes : (P : StepTest → Type 0) (e : ℕ × ℚ) (f : Option StepTest) → is_nonzero e ≡ true → FirstFailing P (earlier e.0 ∷ live e.0 ∷ []) f → FirstFailing P (reference_tests e) f
+used_passes P e f some h = subst (λ b. FirstFailing P (if b then earlier e.0 ∷ live e.0 ∷ [] else earlier e.0 ∷ []) f) (sym some) h
+
+pub unused_passes : (P : StepTest → Type 0) (e : ℕ × ℚ) (f : Option StepTest) → is_nonzero e ≡ false → FirstFailing P (earlier e.0 ∷ []) f → FirstFailing P (reference_tests e) f
+unused_passes P e f none h = subst (λ b. FirstFailing P (if b then earlier e.0 ∷ live e.0 ∷ [] else earlier e.0 ∷ []) f) (sym none) h
+
+-- those of the first entries pass, and then those behind them are tested
+pub references_rest : (P : StepTest → Type 0) (es : List (ℕ × ℚ)) (n : ℕ) (f : Option StepTest) → FirstFailing P (flat_map reference_tests (take n es)) None → FirstFailing P (flat_map reference_tests (drop n es)) f
+    → FirstFailing P (flat_map reference_tests es) f
+references_rest P es n f h k =
+    subst (λ l. FirstFailing P (flat_map reference_tests l) f) (take-append-drop n es)
+    (subst (λ ts. FirstFailing P ts f) (sym (flat_map-append reference_tests (take n es) (drop n es))) (failing_second P (flat_map reference_tests (take n es)) (flat_map reference_tests (drop n es)) f h k))
+
+-- the entries from one on, as a slice
+pub to_end : (es : List (ℕ × ℚ)) (i : ℕ) → take (length es - i) (drop i es) ≡ drop i es
+to_end es i = ap (λ n. take n (drop i es)) (sym (length-drop i es)) ∙ take-length (drop i es)

@@ -10,7 +10,7 @@ use Rattle.vipr_spec.specs.Certificate as spec
 use Rattle.vipr_spec.specs.OnePass.{RefersBack}
 use Rattle.vipr_spec.proofs.Prefix.{with_more, constraint_before, reason_before, last_before}
 use Rattle.vipr_spec.proofs.Steps.{rests_more}
-use Rattle.vipr_rules.specs.declared.entries.Entry.{Entry}
+use Rattle.vipr_rules.specs.declared.rows.Entry.{Entry}
 use Rattle.vipr_rules.specs.Table.{Table, is_live_before, if_live, live_part, empty_table, step, entry_at, held}
 use Rattle.vipr_rules.specs.History.{IsEntryOf, is_derived, is_held, IsTableOf, Answers}
 use Rattle.vipr_rules.proofs.TableLemmas.{get-insert_at, get-live_part}

@@ -9,11 +9,11 @@ use Rattle.std.proofs.lemmas.List.Elements.{All-cons, All-head, All-tail}
 use Rattle.std.proofs.lemmas.List.Sorted.{All-permutation}
 use Rattle.std.proofs.Math.ListN.{set}
 use mir.Val.{bool_byte}
-use Rattle.vipr_rules.specs.declared.entries.Entry.{Entry}
-use Rattle.vipr_rules.specs.declared.keep_all.Kept.{Kept}
-use Rattle.vipr_rules.specs.Kept.{kept_map, shown, forget_at, IsKept}
-use Rattle.vipr_rules.specs.Due.{Notes}
-use Rattle.vipr_rules.specs.Tied.{IsTied}
+use Rattle.vipr_rules.specs.declared.rows.Entry.{Entry}
+use Rattle.vipr_rules.specs.declared.rows.keep_all.Kept.{Kept}
+use Rattle.vipr_rules.specs.KeepAll.{kept_map, shown, forget_at, IsKept}
+use Rattle.vipr_rules.specs.Expiry.{Notes}
+use Rattle.vipr_rules.specs.Expiry.{IsTied}
 use Rattle.vipr_rules.specs.Table.{expiry, if_live}
 use Rattle.vipr_rules.proofs.TableLemmas.{get-insert_at, get-remove_at, same_numbers}
 use Rattle.vipr_rules.proofs.TiedLemmas.{IsTied-put, IsTied-taken, IsTied-empty}

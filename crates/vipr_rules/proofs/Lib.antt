@@ -1,6 +1,6 @@
 pub mod RisingLemmas
 pub mod SetLemmas
-pub mod DueLemmas
+pub mod ExpiryLemmas
 pub mod TableLemmas
 pub mod TiedLemmas
 pub mod KeptLemmas
@@ -8,10 +8,11 @@ pub mod CountLemmas
 pub mod HistoryLemmas
 pub mod EntryTests
 pub mod UnionLemmas
-pub mod LookupLemmas
+pub mod ContextLemmas
 pub mod SumLemmas
 pub mod StepLemmas
-pub mod UnsplitLemmas
+pub mod BranchLemmas
+pub mod SoundLemmas
 pub mod RoundLemmas
 pub mod BelowLemmas
 pub mod CutoffLemmas

@@ -4,39 +4,39 @@ use Rattle.std.specs.Prelude.{◌↔◌, ◌⊎◌}
 use Rattle.vipr_spec.specs.Fraction.{ℚ, whole}
 use Rattle.vipr_spec.specs.Constraint.{at, condition, Ints, sum_of, IsWholeRow, Dominates, DominatesRounded, CombinesRounded}
 use Rattle.vipr_spec.specs.Certificate.{Certificate, Derivation, entries}
-use Rattle.vipr_spec.specs.Verdict.{roundable, by_rounding}
+use Rattle.vipr_spec.specs.Steps.{roundable, by_rounding, sum, compared, IsSum}
 use Rattle.vipr_spec.specs.Progress.{PassesNext}
 use Rattle.vipr_spec.proofs.MoreEntries.{one_sense}
 use Rattle.vipr_linear.specs.Constraint.{sense_of, condition_of}
 use Rattle.vipr_linear.specs.Rounding.{IsRounding}
 use Rattle.vipr_linear.specs.declared.constraint.Constraint.{Constraint}
 use Rattle.vipr_linear.specs.declared.rounding.Rounded.TheVariants.{Row}
-use Rattle.vipr_rules.specs.declared.failure.RuleError.{RuleError}
-use Rattle.vipr_rules.specs.declared.failure.RuleError.TheVariants.{NotRoundable, NotDominated, Memory}
-use Rattle.vipr_rules.specs.Judged.{entries_of, IsSum, IsComputed, Stops, Passes}
+use Rattle.vipr_rules.specs.declared.error.RuleError.{RuleError}
+use Rattle.vipr_rules.specs.declared.error.RuleError.TheVariants.{NotRoundable, Memory}
+use Rattle.vipr_rules.specs.Apply.{Stops, Passes, IsNotDominated, shown_by}
 
 -- x is the sum of the entries
-module _ (c : Certificate) (d : Derivation) (es : List (ℕ × ℚ)) (x : Constraint) (sum : IsSum c es (condition_of x)) (ints : Ints) (same : c.problem.integers ≡ ints) where
-  whole_row : IsWholeRow ints (at x.row) → IsWholeRow c.problem.integers (sum_of (entries c es) sum.0).row
-  whole_row w = subst (λ y. IsWholeRow c.problem.integers y.row) sum.2 (subst (λ i. IsWholeRow i (at x.row)) (sym same) w)
+module _ (c : Certificate) (d : Derivation) (es : List (ℕ × ℚ)) (x : Constraint) (summed : IsSum c es (condition_of x)) (ints : Ints) (same : c.problem.integers ≡ ints) where
+  whole_row : IsWholeRow ints (at x.row) → IsWholeRow c.problem.integers (sum_of (entries c es) summed.0).row
+  whole_row w = subst (λ y. IsWholeRow c.problem.integers y.row) summed.2 (subst (λ i. IsWholeRow i (at x.row)) (sym same) w)
 
   can_round : IsWholeRow ints (at x.row) → PassesNext c d (roundable es)
-  can_round w = (sum.0, sum.1, whole_row w)
+  can_round w = (summed.0, summed.1, whole_row w)
 
   -- the row of a sum is the same for each sense
   cannot_round : ¬ IsWholeRow ints (at x.row) → ¬ PassesNext c d (roundable es)
-  cannot_round bad (s, h, w) = bad (subst (λ i. IsWholeRow i (at x.row)) same (subst (λ y. IsWholeRow c.problem.integers y.row) (sym sum.2) w))
+  cannot_round bad (s, h, w) = bad (subst (λ i. IsWholeRow i (at x.row)) same (subst (λ y. IsWholeRow c.problem.integers y.row) (sym summed.2) w))
 
-  pub not_roundable : entries_of d.reason ≡ es → ¬ IsWholeRow ints (at x.row) → Stops c d (roundable es ∷ by_rounding es ∷ []) (NotRoundable x)
-  not_roundable by bad = (roundable es, inr (cannot_round bad, refl), (ap roundable (sym by), subst (λ es. IsSum c es (condition_of x)) (sym by) sum))
+  pub not_roundable : ¬ IsWholeRow ints (at x.row) → Stops c d (roundable es ∷ by_rounding es ∷ []) (NotRoundable x)
+  not_roundable bad = (roundable es, inr (cannot_round bad, refl), (sum (condition_of x), refl, (condition_of x, summed, refl)))
 
   module _ (w : IsWholeRow ints (at x.row)) (stated : Constraint) (says : condition_of stated ≡ condition d.stated) where
     combines : DominatesRounded (condition_of x) (condition_of stated) → CombinesRounded c.problem.integers (entries c es) (condition d.stated)
-    combines h = (sum.0, sum.1, whole_row w, subst (λ y. DominatesRounded y (condition d.stated)) sum.2 (subst (DominatesRounded (condition_of x)) says h))
+    combines h = (summed.0, summed.1, whole_row w, subst (λ y. DominatesRounded y (condition d.stated)) summed.2 (subst (DominatesRounded (condition_of x)) says h))
 
     combines_not : ¬ DominatesRounded (condition_of x) (condition_of stated) → ¬ CombinesRounded c.problem.integers (entries c es) (condition d.stated)
     combines_not bad (s, h, _, dom) =
-        bad (subst (DominatesRounded (condition_of x)) (sym says) (subst (λ y. DominatesRounded y (condition d.stated)) (ap (sum_of (entries c es)) (one_sense (entries c es) s sum.0 h sum.1) ∙ sym sum.2) dom))
+        bad (subst (DominatesRounded (condition_of x)) (sym says) (subst (λ y. DominatesRounded y (condition d.stated)) (ap (sum_of (entries c es)) (one_sense (entries c es) s summed.0 h summed.1) ∙ sym summed.2) dom))
 
     pub rounded_dominates : DominatesRounded (condition_of x) (condition_of stated) → Passes c d (roundable es ∷ by_rounding es ∷ [])
     rounded_dominates h = inl (can_round w, inl (combines h, refl))
@@ -45,14 +45,14 @@ module _ (c : Certificate) (d : Derivation) (es : List (ℕ × ℚ)) (x : Constr
       rounded : condition_of computed ≡ record (condition_of x) { bound = whole r.2.0 }
       rounded = λ i. record { row = at (r.0 i); sense = sense_of (r.1 i); bound = r.2.2 i }
 
-      is_computed : IsComputed c (by_rounding es) (condition_of computed)
-      is_computed = (condition_of x, r.2.0, sum, r.2.1, rounded)
-
-      not_dominated : ¬ DominatesRounded (condition_of x) (condition_of stated) → Stops c d (roundable es ∷ by_rounding es ∷ []) (NotDominated computed stated)
-      not_dominated bad = (by_rounding es, inl (can_round w, inr (combines_not bad, refl)), (is_computed, says))
+      not_dominated : (e : RuleError) → IsNotDominated computed stated e → ¬ DominatesRounded (condition_of x) (condition_of stated) → Stops c d (roundable es ∷ by_rounding es ∷ []) e
+      not_dominated e told bad = (
+        by_rounding es,
+        inl (can_round w, inr (combines_not bad, refl)),
+        (compared (condition_of computed) (condition_of stated), ap shown_by told.0, (condition_of x, r.2.0, summed, r.2.1, λ i. compared (rounded i) (says i))),
+      )
 
       pub rounded_refused : Dominates (condition_of computed) (condition_of stated) ↔ DominatesRounded (condition_of x) (condition_of stated)
-          → (e : RuleError) → (e ≡ Memory) ⊎ ((e ≡ NotDominated computed stated) × ¬ Dominates (condition_of computed) (condition_of stated))
-          → (e ≡ Memory) ⊎ Stops c d (roundable es ∷ by_rounding es ∷ []) e
+          → (e : RuleError) → (e ≡ Memory) ⊎ IsNotDominated computed stated e → (e ≡ Memory) ⊎ Stops c d (roundable es ∷ by_rounding es ∷ []) e
       rounded_refused same_as e (inl memory) = inl memory
-      rounded_refused same_as e (inr told) = inr (subst (Stops c d (roundable es ∷ by_rounding es ∷ [])) (sym told.0) (not_dominated (λ h. told.1 (same_as.1 h))))
+      rounded_refused same_as e (inr told) = inr (not_dominated e told (λ h. told.1 (same_as.1 h)))

@@ -64,3 +64,17 @@ empty_seen (x ∷ xs) b e = (
 
     longer : (n : ℕ) → nat_eq (suc n) 0 ≡ false
     longer n = grind (arith, nat_tests)
+
+or_false : (b : Bool) → (b || false) ≡ b
+or_false true = refl
+or_false false = refl
+
+and_false : (b : Bool) → (b && false) ≡ false
+and_false true = refl
+and_false false = refl
+
+pub union_none : (s : FinSet nat_cmp) → s ≡ union s empty
+union_none s = sym (same_numbers _ _ (λ q. contains-union nat_cmp_total s empty q ∙ ap (λ b. contains s q || b) (contains-empty nat_cmp q) ∙ or_false (contains s q)))
+
+pub remove_none : (k : ℕ) → empty ≡ remove {R = nat_cmp} empty k
+remove_none k = sym (same_numbers _ _ (λ q. contains-remove nat_cmp_total empty k q ∙ ap (λ b. not (eq_by_cmp nat_cmp q k) && b) (contains-empty nat_cmp q) ∙ and_false _ ∙ sym (contains-empty nat_cmp q)))

@@ -1,17 +1,16 @@
 -- What the parts of a derivation's tests say of all of them, and what is kept of it.
 use Rattle.std.proofs.Common.{◌≡◌, ℕ, ◌<◌, ◌≤◌, length, IsTrue, true, false, ◌||◌, nat_eq, ap₂, arith, List, [], ◌∷◌, ◌++◌, map, Some, None, refl, sym, ◌∙◌, ap, subst, inl, inr}
-use Rattle.std.specs.Prelude.{◌↔◌, ◌⊎◌, flat_map}
+use Rattle.std.specs.Prelude.{◌↔◌, ◌⊎◌}
 use Rattle.std.proofs.lemmas.Bool.{cases_lt}
-use Rattle.std.proofs.lemmas.Simd.{map-map}
 use Rattle.std.specs.FinSet.{FinSet, contains, empty, insert, contains-insert, contains-empty}
 use Rattle.std.specs.Cmp.{nat_cmp_total, unsigned_tied}
 use Rattle.std.proofs.lemmas.Bool.Decides.{nat_tests}
 use Rattle.std.specs.Ordering.{nat_cmp}
 use Rattle.vipr_spec.specs.Fraction.{ℚ}
 use Rattle.vipr_spec.specs.Constraint.{one, condition, sum_of, Dominates, Combines}
-use Rattle.vipr_spec.specs.Certificate.{Certificate, Derivation, sol, entries, count, is_assumption, is_live}
+use Rattle.vipr_spec.specs.Certificate.{Certificate, Derivation, Reason, asm, lin, rnd, uns, sol, entries, count, is_assumption, is_live}
 use Rattle.vipr_spec.specs.OnePass.{with_next, RefersBack}
-use Rattle.vipr_spec.specs.Verdict.{StepTest, by_sum, reference_tests, entry_tests, sum_tests, step_tests}
+use Rattle.vipr_spec.specs.Steps.{StepTest, by_sum, split, listed, by_constraint, by_cutoff, step_tests, step_cause, compared, IsSum}
 use Rattle.vipr_spec.specs.Progress.{PassesNext}
 use Rattle.vipr_spec.proofs.FirstFailing.{failing_first, failing_second}
 use Rattle.vipr_spec.proofs.MoreEntries.{one_sense}
@@ -19,17 +18,15 @@ use Rattle.vipr_spec.proofs.Prefix.{constraint_next, reason_next, last_next}
 use Rattle.vipr_spec.specs.Soundness.{IsSound}
 use Rattle.vipr_spec.proofs.Steps.{rests_next, sound_given, sound_next}
 use Rattle.vipr_spec.proofs.Reported.{next_good}
-use Rattle.vipr_linear.specs.Constraint.{constraint_of, condition_of}
+use Rattle.vipr_linear.specs.Constraint.{condition_of}
 use Rattle.vipr_linear.specs.declared.constraint.Constraint.{Constraint}
-use Rattle.vipr_items.specs.declared.items.Named.{Named}
-use Rattle.vipr_items.specs.Items.{named_of}
-use Rattle.vipr_rules.specs.declared.failure.RuleError.{RuleError}
-use Rattle.vipr_rules.specs.declared.failure.RuleError.TheVariants.{NotDominated}
-use Rattle.vipr_rules.specs.declared.entries.Entry.{Entry}
-use Rattle.vipr_rules.specs.Table.{Table}
-use Rattle.vipr_rules.specs.History.{IsEntryOf, IsTableOf}
-use Rattle.vipr_rules.specs.Before.{StandsBefore, IsSetByReason}
-use Rattle.vipr_rules.specs.Judged.{IsSum, Stops, Passes, KeepsSound}
+use Rattle.vipr_rules.specs.declared.error.RuleError.{RuleError}
+use Rattle.vipr_rules.specs.declared.rows.Entry.{Entry}
+use Rattle.vipr_rules.specs.History.{IsEntryOf}
+use Rattle.vipr_rules.specs.Context.{IsSetByReason}
+use Rattle.vipr_rules.specs.declared.error.RuleError.TheVariants.{Memory}
+use Rattle.vipr_rules.specs.Apply.{Stops, Passes, Tells, KeepsSound, IsRefusal, IsNotDominated, shown_by, free_tests}
+use Rattle.vipr_rules.proofs.EntryTests.{passing_parts}
 
 -- ---- one list of tests after another
 pub stops_first : (c : Certificate) (d : Derivation) (xs ys : List StepTest) (e : RuleError) → Stops c d xs e → Stops c d (xs ++ ys) e
@@ -38,51 +35,45 @@ stops_first c d xs ys e (t, f, told) = (t, failing_first (PassesNext c d) xs ys 
 pub stops_second : (c : Certificate) (d : Derivation) (xs ys : List StepTest) (e : RuleError) → Passes c d xs → Stops c d ys e → Stops c d (xs ++ ys) e
 stops_second c d xs ys e p (t, f, told) = (t, failing_second (PassesNext c d) xs ys (Some t) p f, told)
 
--- ---- a sum, and what is tested after it
-module _ (c : Certificate) (d : Derivation) (es : List (ℕ × ℚ)) (after : List StepTest) where
-  abbrev references : List StepTest
-  references = flat_map reference_tests es
+pub passes_both : (c : Certificate) (d : Derivation) (xs ys : List StepTest) → Passes c d xs → Passes c d ys → Passes c d (xs ++ ys)
+passes_both c d xs ys p q = failing_second (PassesNext c d) xs ys None p q
 
-  abbrev sums : List StepTest
-  sums = entry_tests [] es
+module _ (c : Certificate) (d : Derivation) where
+  pub passes_one : (t : StepTest) → PassesNext c d t → Passes c d (t ∷ [])
+  passes_one t h = inl (h, refl)
 
-  pub stops_at_reference : (e : RuleError) → Stops c d references e → Stops c d (sum_tests es ++ after) e
-  stops_at_reference e s = stops_first c d (references ++ sums) after e (stops_first c d references sums e s)
+  pub stops_one : (t : StepTest) (e : RuleError) → ¬ PassesNext c d t → Tells c d e t → Stops c d (t ∷ []) e
+  stops_one t e bad told = (t, inr (bad, refl), told)
 
-  pub stops_at_entry : (e : RuleError) → Passes c d references → Stops c d sums e → Stops c d (sum_tests es ++ after) e
-  stops_at_entry e p s = stops_first c d (references ++ sums) after e (stops_second c d references sums e p s)
+pub refusal : (c : Certificate) (d : Derivation) (e : RuleError) → Stops c d (step_tests d.reason) e → IsRefusal c d e
+refusal c d e (t, f, told) = (step_cause t, told.0, told.1, (t, f, refl, told.2))
 
-  module _ (p : Passes c d references) (q : Passes c d sums) where
-    both : Passes c d (references ++ sums)
-    both = failing_second (PassesNext c d) references sums None p q
+-- an error that says which test fails isn't want of memory
+pub told_is_not_memory : (c : Certificate) (d : Derivation) (ts : List StepTest) (e : RuleError) → Stops c d ts e → ¬ (e ≡ Memory)
+told_is_not_memory c d ts e (t, f, told) is = let none = sym (ap shown_by is) ∙ told.1 in cc
 
-    pub stops_after : (e : RuleError) → Stops c d after e → Stops c d (sum_tests es ++ after) e
-    stops_after e s = stops_second c d (references ++ sums) after e both s
-
-    pub passes_after : Passes c d after → Passes c d (sum_tests es ++ after)
-    passes_after r = failing_second (PassesNext c d) (references ++ sums) after None both r
+-- where all tests pass, those that take no memory do
+pub free_of_all : (c : Certificate) (d : Derivation) (r : Reason) → Passes c d (step_tests r) → Passes c d (free_tests r)
+free_of_all c d asm p = refl
+free_of_all c d (lin es) p = refl
+free_of_all c d (rnd es) p = refl
+free_of_all c d (uns i1 l1 i2 l2) p = (passing_parts (PassesNext c d) (free_tests (uns i1 l1 i2 l2)) (split l1 l2 ∷ by_constraint i1 ∷ by_constraint i2 ∷ []) p).0
+free_of_all c d sol p = (passing_parts (PassesNext c d) (listed ∷ []) (by_cutoff ∷ []) p).0
 
 -- ---- by `lin`
-module _ (c : Certificate) (d : Derivation) (es : List (ℕ × ℚ)) (computed stated : Constraint) (sum : IsSum c es (condition_of computed)) (says : condition_of stated ≡ condition d.stated) where
+module _ (c : Certificate) (d : Derivation) (es : List (ℕ × ℚ)) (computed stated : Constraint) (summed : IsSum c es (condition_of computed)) (says : condition_of stated ≡ condition d.stated) where
   combines : Dominates (condition_of computed) (condition_of stated) → Combines (entries c es) (condition d.stated)
-  combines h = (sum.0, sum.1, subst (λ x. Dominates x (condition d.stated)) sum.2 (subst (Dominates (condition_of computed)) says h))
+  combines h = (summed.0, summed.1, subst (λ x. Dominates x (condition d.stated)) summed.2 (subst (Dominates (condition_of computed)) says h))
 
   combines_not : ¬ Dominates (condition_of computed) (condition_of stated) → ¬ Combines (entries c es) (condition d.stated)
   combines_not bad (s, h, dom) =
-      bad (subst (Dominates (condition_of computed)) (sym says) (subst (λ x. Dominates x (condition d.stated)) (ap (sum_of (entries c es)) (one_sense (entries c es) s sum.0 h sum.1) ∙ sym sum.2) dom))
+      bad (subst (Dominates (condition_of computed)) (sym says) (subst (λ x. Dominates x (condition d.stated)) (ap (sum_of (entries c es)) (one_sense (entries c es) s summed.0 h summed.1) ∙ sym summed.2) dom))
 
   pub dominated : Dominates (condition_of computed) (condition_of stated) → Passes c d (by_sum es ∷ [])
-  dominated h = inl (combines h, refl)
+  dominated h = passes_one c d (by_sum es) (combines h)
 
-  pub not_dominated : ¬ Dominates (condition_of computed) (condition_of stated) → Stops c d (by_sum es ∷ []) (NotDominated computed stated)
-  not_dominated bad = (by_sum es, inr (combines_not bad, refl), (sum, says))
-
--- ---- what stands before
-pub stands : (c : Certificate) (cons : List (Named Constraint)) (t : Table) → map (named_of constraint_of) cons ≡ c.problem.constraints → IsTableOf c t → StandsBefore c cons t
-stands c cons t is table = record {
-  given = ap (map (λ n. n.item)) (sym is) ∙ map-map (λ n. n.item) (named_of constraint_of) cons;
-  table = table;
-}
+  pub not_dominated : (e : RuleError) → IsNotDominated computed stated e → Stops c d (by_sum es ∷ []) e
+  not_dominated e (is, bad) = stops_one c d (by_sum es) e (combines_not bad) (compared (condition_of computed) (condition_of stated), ap shown_by is, (condition_of computed, summed, ap (compared (condition_of computed)) says))
 
 -- ---- what an assumption rests on
 pub own_set : (n a : ℕ) → IsTrue (contains (insert {R = nat_cmp} empty n) a) ↔ (n ≡ a)

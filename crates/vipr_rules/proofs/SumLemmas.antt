@@ -1,15 +1,18 @@
--- An entry with the multiplier 0 changes nothing of what is held.
-use Rattle.std.proofs.Common.{◌≡◌, ℕ, List, [], ◌∷◌, ◌++◌, sym, ◌∙◌, ap, subst}
+-- What is held of a sum: an entry with the multiplier 0 changes nothing, and a sum of true entries is true.
+use Rattle.std.proofs.Common.{◌≡◌, ℕ, List, [], ◌∷◌, ◌++◌, All, refl, sym, ◌∙◌, ap, subst}
+use Rattle.std.proofs.lemmas.List.Elements.{All-nil, All-cons, All-append}
 use Rattle.vipr_spec.specs.Fraction.{ℚ, zero_ℚ, ◌+ℚ◌, ◌*ℚ◌}
-use Rattle.vipr_spec.specs.Constraint.{equal, Condition, Entry, sum_over, HasSense, SumOfFits, NamesBelow}
+use Rattle.vipr_spec.specs.Constraint.{equal, Condition, Entry, Point, sum_over, HasSense, IsTrueAt}
 use Rattle.vipr_spec.proofs.Fractions.{add-zero_ℚ, zero-mul_ℚ}
 use Rattle.vipr_spec.proofs.MoreEntries.{joined_sense, turned_sense, sum_more}
-use Rattle.std.specs.Prelude.{IsSome, IsNone}
+use Rattle.vipr_spec.proofs.Linear.{IsTrueEntry, sum_true}
 use Rattle.std.proofs.lemmas.List.{map-append}
 use Rattle.vipr_spec.specs.Certificate.{Certificate, constraint_at, entries}
-use Rattle.vipr_linear.specs.Accumulator.{Accumulator, Holds, CanAdd, with_entry, joined_with, EntryFits, IsSuitable}
+use Rattle.vipr_linear.specs.Accumulator.{Accumulator, nothing_added, Holds, HoldsSum}
+use Rattle.vipr_linear.specs.Constraint.{sense_of, condition_of}
+use Rattle.vipr_linear.specs.declared.constraint.Constraint.{Constraint}
 use Rattle.vipr_spec.proofs.MoreEntries.{turned_zero, joined_equal}
-use Rattle.vipr_linear.proofs.StepByStep.{fits_told, suitable_told, step_held}
+use Rattle.vipr_linear.proofs.StepByStep.{fits_told, start_held, sum_held}
 
 nothing : (s x : ℚ) → s +ℚ zero_ℚ *ℚ x ≡ s
 nothing s x = ap (λ y. s +ℚ y) (zero-mul_ℚ x) ∙ add-zero_ℚ s
@@ -25,21 +28,28 @@ held_without n es e a is z = record {
 }
 
 -- ---- an entry by its index
-module _ (c : Certificate) (before : List (ℕ × ℚ)) (e : ℕ × ℚ) (x : Condition) (says : constraint_at c e.0 ≡ x) (n : ℕ) (a : Accumulator) (is : Holds n (entries c before) a) where
-  entries_more : entries c (before ++ e ∷ []) ≡ entries c before ++ (e.1, x) ∷ []
-  entries_more = map-append (λ (e : ℕ × ℚ). (e.1, constraint_at c e.0)) before (e ∷ []) ∙ ap (λ y. entries c before ++ (e.1, y) ∷ []) says
+module _ (c : Certificate) (before : List (ℕ × ℚ)) (e : ℕ × ℚ) where
+  pub entries_more : (x : Condition) → x ≡ constraint_at c e.0 → entries c (before ++ e ∷ []) ≡ entries c before ++ (e.1, x) ∷ []
+  entries_more x says = map-append (λ (e : ℕ × ℚ). (e.1, constraint_at c e.0)) before (e ∷ []) ∙ ap (λ y. entries c before ++ (e.1, y) ∷ []) (sym says)
 
-  pub unused_held : e.1 ≡ zero_ℚ → Holds n (entries c (before ++ e ∷ [])) a
-  unused_held z = subst (λ es. Holds n es a) (sym entries_more) (held_without n (entries c before) (e.1, x) a is z)
+  pub unused_held : (n : ℕ) (a : Accumulator) → Holds n (entries c before) a → e.1 ≡ zero_ℚ → Holds n (entries c (before ++ e ∷ [])) a
+  unused_held n a is z = subst (λ es. Holds n es a) (sym (entries_more (constraint_at c e.0) refl)) (held_without n (entries c before) (e.1, constraint_at c e.0) a is z)
 
-  pub added_held : NamesBelow n x.row → CanAdd a (e.1, x) → Holds n (entries c (before ++ e ∷ [])) (with_entry a (e.1, x))
-  added_held below can = subst (λ es. Holds n es (with_entry a (e.1, x))) (sym entries_more) (step_held n (entries c before) (e.1, x) a is below can.suitable can.fits)
+-- ---- over all points: what is held is a sum of entries that are true at x
+pub record IsTrueSum (n : ℕ) (x : Point) (a : Accumulator) : Type 0 where
+  pub es : List Entry
+  pub held : Holds n es a
+  pub each : All (IsTrueEntry n x) es
 
-  pub sign_held : IsNone (joined_with a (e.1, x)) → ¬ IsSuitable (entries c (before ++ e ∷ []))
-  sign_held none s = let some = (suitable_told n (entries c before) (e.1, x) a is).1 (subst IsSuitable entries_more s) in absurd (cc)
+pub nothing_true : (n : ℕ) (x : Point) → IsTrueSum n x (nothing_added n)
+nothing_true n x = record { es = []; held = start_held n; each = All-nil (IsTrueEntry n x) }
 
-  pub suitable_held : IsSome (joined_with a (e.1, x)) → IsSuitable (entries c (before ++ e ∷ []))
-  suitable_held some = subst IsSuitable (sym entries_more) ((suitable_told n (entries c before) (e.1, x) a is).0 some)
+pub more_true : (n : ℕ) (x : Point) (a b : Accumulator) (e : Entry) (s : IsTrueSum n x a) → Holds n (s.es ++ e ∷ []) b → IsTrueAt n e.1 x → IsTrueSum n x b
+more_true n x a b e s held t = record {
+  es = s.es ++ e ∷ [];
+  held = held;
+  each = All-append (IsTrueEntry n x) s.es (e ∷ []) s.each (All-cons (IsTrueEntry n x) e [] (λ m. t) (All-nil (IsTrueEntry n x)));
+}
 
-  pub size_held : ¬ EntryFits a (e.1, x) → ¬ SumOfFits (entries c (before ++ e ∷ []))
-  size_held bad f = bad ((fits_told n (entries c before) (e.1, x) a is).1 (subst SumOfFits entries_more f))
+pub sum_is_true : (n : ℕ) (x : Point) (a : Accumulator) (c : Constraint) → IsTrueSum n x a → HoldsSum a c.row (sense_of c.sense) c.rhs → IsTrueAt n (condition_of c) x
+sum_is_true n x a c s h = let k = sum_held n s.es a c.row (sense_of c.sense) c.rhs s.held h in subst (λ d. IsTrueAt n d x) (sym k.1) (sum_true n x s.es (sense_of c.sense) k.0 s.each)

@@ -7,7 +7,7 @@ use Rattle.std.specs.Map.{lookup, keys_of}
 use Rattle.std.specs.List.{IsDistinct, AllByRecursion}
 use Rattle.std.proofs.lemmas.Map.Keys.{IsDistinct-head, IsDistinct-tail}
 use Rattle.std.specs.FinMap.{FinMap, get, insert, remove, find, from_entries, len, get-insert, get-remove, get-from_entries, get-retain_keys, len-insert, len-empty, same_map, nat_cmp-IsAntisymmetric, contains_key}
-use Rattle.vipr_rules.specs.declared.entries.Entry.{Entry}
+use Rattle.vipr_rules.specs.declared.rows.Entry.{Entry}
 use Rattle.vipr_rules.specs.Table.{Table, if_live, is_live_before, live_part}
 
 pub tied_numbers : (a b : ℕ) → eq_by_cmp nat_cmp a b ≡ nat_eq a b

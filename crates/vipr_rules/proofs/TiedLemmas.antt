@@ -6,10 +6,10 @@ use Rattle.std.proofs.lemmas.List.Sorted.{All-permutation, Contains-permutation}
 use Rattle.std.specs.Ordering.{nat_cmp}
 use Rattle.std.specs.FinMap.{FinMap, get, insert, remove, empty, get-empty}
 use Rattle.vipr_spec.specs.Certificate.{lasts_to}
-use Rattle.vipr_rules.specs.Due.{Notes}
-use Rattle.vipr_rules.specs.declared.entries.Entry.{Entry}
+use Rattle.vipr_rules.specs.Expiry.{Notes}
+use Rattle.vipr_rules.specs.declared.rows.Entry.{Entry}
 use Rattle.vipr_rules.specs.Table.{expiry, if_live, live_part}
-use Rattle.vipr_rules.specs.Tied.{IsTied}
+use Rattle.vipr_rules.specs.Expiry.{IsTied}
 use Rattle.vipr_rules.proofs.TableLemmas.{get-insert_at, get-remove_at, get-live_part, same_numbers, if_live-true, if_live-false}
 
 ahead_cases : (x y : ℕ × ℕ) (ds : List (ℕ × ℕ)) → Contains (x ∷ ds) y → (y ≡ x) ⊎ Contains ds y

@@ -8,7 +8,7 @@ use Rattle.std.specs.FinSet.{FinSet, contains, union, empty, contains-union, con
 use Rattle.vipr_spec.specs.Fraction.{ℚ, zero_ℚ}
 use Rattle.vipr_spec.specs.Certificate.{Certificate, RestsOn}
 use Rattle.vipr_spec.specs.OnePass.{SomeRestsOn}
-use Rattle.vipr_rules.specs.Before.{IsSetOfAll}
+use Rattle.vipr_rules.specs.Context.{IsSetOfAll}
 
 -- the set has the assumptions that constraint i rests on
 abbrev pub IsSetOf : Certificate → ℕ → FinSet nat_cmp → Type 0

@@ -1,12 +1,12 @@
 pub mod Rising
 pub mod Merging
-pub mod Due
 pub mod Table
 pub mod TableCode
-pub mod Tied
-pub mod Kept
+pub mod Expiry
+pub mod KeepAll
 pub mod History
-pub mod Before
-pub mod Judged
+pub mod Context
+pub mod Soundness
+pub mod Apply
 pub mod Claim
 pub mod Solution

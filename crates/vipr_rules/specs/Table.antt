@@ -1,9 +1,10 @@
 -- A table of entries by index, from which those that nothing may refer to any more are forgotten.
-use Rattle.std.specs.Prelude.{ℕ, ◌+◌, Bool, Option, None, Some, is_some, if◌then◌else◌}
+use Rattle.std.specs.Prelude.{◌≡◌, ℕ, ◌+◌, Bool, Option, None, Some, is_some, if◌then◌else◌}
 use Rattle.std.specs.FinMap as map
 use Rattle.std.specs.Ordering.{nat_cmp}
+use Rattle.vipr_spec.specs.Constraint.{at, NamesBelow}
 use Rattle.vipr_spec.specs.Certificate.{lasts_to}
-use Rattle.vipr_rules.specs.declared.entries.Entry.{Entry}
+use Rattle.vipr_rules.specs.declared.rows.Entry.{Entry}
 
 -- the first index, the index of the next entry, and the entries by index
 pub record Table : Type 0 where
@@ -50,3 +51,7 @@ held t = map.len t.entries
 -- the table after the next derivation: what expires before it is forgotten, and its entry is placed
 abbrev pub step : Table → Entry → Table
 step t e = put_entry (advance_table t) e
+
+-- the constraints of the table have no variable from n on
+pub record DerivedBelow (n : ℕ) (t : Table) : Type 0 where
+  pub each : (i : ℕ) (e : Entry) → map.get t.entries i ≡ Some e → NamesBelow n (at e.constraint.row)

@@ -3,8 +3,8 @@ use Rattle.std.specs.Prelude.{ℕ, refl}
 use Rattle.std.specs.Coded.{Coded, code_by, coded×, coded_ℕ}
 use Rattle.std.specs.FinMap as map
 use Rattle.std.specs.Ordering.{nat_cmp}
-use Rattle.vipr_rules.specs.declared.entries.Entry.{Entry}
-use Rattle.vipr_rules.specs.contracts.entries.Entry as entry
+use Rattle.vipr_rules.specs.declared.rows.Entry.{Entry}
+use Rattle.vipr_rules.specs.contracts.rows.Entry as entry
 use Rattle.vipr_rules.specs.Table.{Table}
 
 abbrev pub table_code : Coded Table

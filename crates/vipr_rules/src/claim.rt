@@ -1,15 +1,14 @@
-//! Both sides of a claim: what a constraint must say to prove its dual bound, and whether the best listed solution
-//! meets its primal bound.
+//! Both sides of a claim: what a constraint must say to prove its dual bound, and whether the best
+//! listed solution meets its primal bound.
 
 ghost use Rattle.std.specs.Prelude.{◌≡◌, ◌↔◌, ◌++◌, ◌∷◌, [], List, IfOk, IsTrue, option_copied};
 ghost use Rattle.vipr_spec.specs.Constraint.{Row, at};
 ghost use Rattle.vipr_spec.specs.Certificate.{Named, objective_at, objective_constraint, stays, IsAsGood, MeetsPrimal};
 ghost use Rattle.vipr_spec.specs.Certificate.{dual_bound as dual_bound_by, primal_bound as primal_bound_by};
 ghost use Rattle.vipr_spec.specs.Soundness.{IsBestValue};
-ghost use Rattle.vipr_linear.specs.Constraint.{condition_of};
+ghost use Rattle.vipr_linear.specs.Constraint.{sense_of, condition_of};
 ghost use Rattle.vipr_rules.specs.Claim.{IsMetBy, IsTargetOf};
 
-use crate::objective::objective_with;
 use std::alloc::AllocError;
 use vipr_frac::Frac;
 use vipr_items::{Claim, Goal, Problem};
@@ -124,4 +123,15 @@ fn no_better(p: &Problem, bound: Frac) -> Result<Constraint, AllocError>
         Goal::Max => Sense::L,
     };
     objective_with(p, sense, bound)
+}
+
+/// The objective with this sense and right-hand side.
+pub(crate) fn objective_with(p: &Problem, sense: Sense, rhs: Frac) -> Result<Constraint, AllocError>
+    ensures { IfOk result (λ x. condition_of x ≡ objective_constraint p.now (sense_of sense) rhs) }
+{
+    Ok(Constraint {
+        row: p.objective().clone()?,
+        sense,
+        rhs,
+    })
 }

@@ -1,0 +1,10 @@
+use Rattle.std.proofs.Common.{◌∙◌, ap}
+use Rattle.std.specs.FinSet.{contains}
+use Rattle.vipr_rules.proofs.SetLemmas.{found}
+use Rattle.vipr_rules.proofs.assumptions.Assumptions.contains.Goals as goal
+
+pub returns : goal.returns
+returns c =
+    c.is_ok.ensures.value
+    ∙ found c.self.inside.items.items c.args.index _ c.self.invariant (rw c.deref.ensures.value at c.binary_search.ensures.position)
+    ∙ ap (λ s. contains s c.args.index) c.self.view_is

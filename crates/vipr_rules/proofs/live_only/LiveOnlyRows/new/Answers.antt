@@ -1,5 +1,0 @@
-use Rattle.vipr_rules.proofs.TiedLemmas.{IsTied-empty}
-use Rattle.vipr_rules.proofs.live_only.LiveOnlyRows.new.Goals as goal
-
-pub invariant_of-result : goal.invariant_of-result
-invariant_of-result c = rw (c.new.ensures.empty, c.new-2.ensures) (IsTied-empty c.args.first)

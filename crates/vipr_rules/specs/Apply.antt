@@ -1,0 +1,103 @@
+-- What `apply` answers of the derivation that comes next
+use Rattle.std.specs.Prelude.{◌≡◌, ℕ, ◌≤◌, ◌⊎◌, IsTrue, length, List, [], ◌∷◌}
+use Rattle.std.specs.Prelude.{Option, Some, None, Result, Ok, Err}
+use Rattle.std.specs.FinSet as set
+use Rattle.std.specs.Ordering.{nat_cmp}
+use Rattle.vipr_spec.specs.Constraint.{one, condition, Entry as Summand, SumOfFits, Dominates}
+use Rattle.vipr_spec.specs.Certificate.{Reason, uns, sol, Derivation, Certificate, is_live, count}
+use Rattle.vipr_spec.specs.Causes as cause
+use Rattle.vipr_spec.specs.Steps.{with_next, StepTest, earlier, live, assumed, listed, step_tests}
+use Rattle.vipr_spec.specs.Steps.{FirstFailing, step_cause, Shows, Refuses}
+use Rattle.vipr_spec.specs.Steps.{StepDetail, index, position, sum, both, compared, nothing}
+use Rattle.vipr_spec.specs.Progress.{PassesNext}
+use Rattle.vipr_spec.specs.Soundness.{IsSound}
+use Rattle.vipr_linear.specs.Accumulator.{IsSuitable}
+use Rattle.vipr_linear.specs.Constraint.{condition_of}
+use Rattle.vipr_linear.specs.declared.constraint.Constraint.{Constraint}
+use Rattle.vipr_rules.specs.declared.error.RuleError.{RuleError}
+use Rattle.vipr_rules.specs.declared.error.RuleError.TheVariants.{NotEarlier, Dropped}
+use Rattle.vipr_rules.specs.declared.error.RuleError.TheVariants.{NotAssumption, MixedSigns}
+use Rattle.vipr_rules.specs.declared.error.RuleError.TheVariants.{Overflow, NotRoundable}
+use Rattle.vipr_rules.specs.declared.error.RuleError.TheVariants.{NotSplit, NotDominated}
+use Rattle.vipr_rules.specs.declared.error.RuleError.TheVariants.{NoSolution, Memory}
+use Rattle.vipr_rules.specs.declared.rows.Entry.{Entry}
+use Rattle.vipr_rules.specs.History.{IsEntryOf}
+use Rattle.vipr_rules.specs.Context.{IsSetByReason}
+
+-- ---- what an error says
+
+-- the cause and the detail, none where a growth was refused
+abbrev pub shown_by : RuleError → Option (ℕ × StepDetail)
+shown_by (NotEarlier i) = Some (cause.not_earlier, index i)
+shown_by (Dropped i) = Some (cause.dropped, index i)
+shown_by (NotAssumption l) = Some (cause.not_assumption, index l)
+shown_by (MixedSigns n) = Some (cause.mixed_signs, position n)
+shown_by (Overflow n) = Some (cause.overflow, position n)
+shown_by (NotRoundable x) = Some (cause.not_roundable, sum (condition_of x))
+shown_by (NotSplit x y) = Some (cause.not_split, both (condition_of x) (condition_of y))
+shown_by (NotDominated x y) =
+    Some (cause.not_dominated, compared (condition_of x) (condition_of y))
+shown_by NoSolution = Some (cause.no_solution, nothing)
+shown_by Memory = None
+
+-- a test of the derivation d fails first, and the error says which, and its detail
+abbrev pub IsRefusal : Certificate → Derivation → RuleError → Type 0
+IsRefusal c d e = (n : ℕ) × (x : StepDetail) × (shown_by e ≡ Some (n, x)) × Refuses one c d n x
+
+-- of the derivation d, that comes after the certificate c: it passes all tests, and this is kept of
+-- it; or a test fails; or a growth was refused
+abbrev pub Judges : Certificate → Derivation → Result Entry RuleError → Type 0
+Judges c d (Ok e) =
+    FirstFailing (PassesNext c d) (step_tests d.reason) None × IsEntryOf (with_next c d) (count c) e
+Judges c d (Err e) = (e ≡ Memory) ⊎ IsRefusal c d e
+
+-- Where each derived constraint that is live before it is true at every admitted point at which the
+-- assumptions are true that it rests on, the derivation that comes next is, too.
+abbrev pub KeepsSound : Certificate → Derivation → Type 0
+KeepsSound c d =
+    ((i : ℕ) → length c.problem.constraints ≤ i → IsTrue (is_live c (count c) i) → IsSound c i)
+    → IsSound (with_next c d) (count c)
+
+-- ---- some of the tests of a derivation
+
+abbrev pub Passes : Certificate → Derivation → List StepTest → Type 0
+Passes c d ts = FirstFailing (PassesNext c d) ts None
+
+-- the error says that this test fails
+abbrev pub Tells : Certificate → Derivation → RuleError → StepTest → Type 0
+Tells c d e t =
+    (x : StepDetail) × (shown_by e ≡ Some (step_cause t, x)) × Shows c (condition d.stated) t x
+
+-- of these tests one fails first, and the error says which
+abbrev pub Stops : Certificate → Derivation → List StepTest → RuleError → Type 0
+Stops c d ts e = (t : StepTest) × FirstFailing (PassesNext c d) ts (Some t) × Tells c d e t
+
+-- constraint i comes before, and is live
+abbrev pub index_tests : ℕ → List StepTest
+index_tests i = earlier i ∷ live i ∷ []
+
+-- with the last of these summands, at this position, the sum is not suitable, or doesn't fit
+abbrev pub SumStops : List Summand → ℕ → RuleError → Type 0
+SumStops es n e =
+    ((e ≡ MixedSigns n) × ¬ IsSuitable es) ⊎ ((e ≡ Overflow n) × IsSuitable es × ¬ SumOfFits es)
+
+-- the error says that the one doesn't dominate the other, as it is
+abbrev pub IsNotDominated : Constraint → Constraint → RuleError → Type 0
+IsNotDominated computed stated e =
+    (e ≡ NotDominated computed stated) × ¬ Dominates (condition_of computed) (condition_of stated)
+
+-- the first tests, which take no memory
+abbrev pub free_tests : Reason → List StepTest
+free_tests (uns i1 l1 i2 l2) =
+    earlier i1 ∷ live i1 ∷ earlier l1 ∷ live l1
+    ∷ earlier i2 ∷ live i2 ∷ earlier l2 ∷ live l2
+    ∷ assumed l1 ∷ assumed l2 ∷ []
+free_tests sol = listed ∷ []
+free_tests _ = []
+
+-- Of a derivation by the reason r: all its tests pass, and the set is what it rests on; or a test
+-- fails; or a growth was refused, behind the tests that take no memory.
+abbrev pub IsRuledBy : Certificate → Derivation → Reason → Result (set.FinSet nat_cmp) RuleError → Type 0
+IsRuledBy c d r (Ok s) = Passes c d (step_tests r) × IsSetByReason c r s
+IsRuledBy c d r (Err e) =
+    ((e ≡ Memory) × Passes c d (free_tests r)) ⊎ Stops c d (step_tests r) e

@@ -1,0 +1,57 @@
+-- What a derivation is tested against, and the constraints before it
+use Rattle.std.specs.Prelude.{◌≡◌, ◌≢◌, ◌⊎◌, ◌↔◌, ℕ, Bool, false, List, Some, IsTrue, option_copied}
+use Rattle.std.specs.FinSet as set
+use Rattle.std.specs.Ordering.{nat_cmp}
+use Rattle.vipr_spec.specs.Fraction.{ℚ}
+use Rattle.vipr_spec.specs.Soundness.{IsBestValue}
+use Rattle.vipr_spec.specs.Steps.{SomeRestsOn, RestsBy}
+use Rattle.vipr_spec.specs.Certificate.{Certificate, Reason, constraint_at, reason_at, count}
+use Rattle.vipr_spec.specs.Certificate.{is_assumption, RestsOn}
+use Rattle.vipr_linear.specs.Constraint.{condition_of}
+use Rattle.vipr_linear.specs.declared.constraint.Constraint.{Constraint}
+use Rattle.vipr_rules.specs.declared.context.Context.{Context}
+use Rattle.vipr_rules.specs.declared.context.Known.{Known}
+use Rattle.vipr_rules.specs.declared.context.Known.TheVariants.{Given, Derived}
+use Rattle.vipr_rules.specs.Table.{Table}
+use Rattle.vipr_rules.specs.History.{IsTableOf}
+
+-- the problem, the best objective value and the table are those of the certificate so far
+pub record IsContextOf {S : Type 0} (table : S → Table) (c : Certificate) (x : Context S) : Type 0 where
+  pub problem : c.problem ≡ x.problem.now
+  pub rows : IsTableOf c (table x.rows.now)
+  pub best : IsBestValue x.problem.now c.solutions (option_copied x.best)
+
+-- ---- what a look-up gives
+
+abbrev pub row_of : Known → Constraint
+row_of (Given x) = x.now
+row_of (Derived e) = e.now.constraint
+
+-- the assumptions that it rests on
+abbrev pub set_of : Known → set.FinSet nat_cmp
+set_of (Given x) = set.empty
+set_of (Derived e) = e.now.assumptions
+
+abbrev pub is_assumed : Known → Bool
+is_assumed (Given x) = false
+is_assumed (Derived e) = e.now.is_assumption
+
+-- it says of constraint i what the certificate does
+pub record IsKnownAs (c : Certificate) (i : ℕ) (k : Known) : Type 0 where
+  pub says : condition_of (row_of k) ≡ constraint_at c i
+  pub rests : (a : ℕ) → IsTrue (set.contains (set_of k) a) ↔ RestsOn c i a
+  pub is_assumption : is_assumed k ≡ is_assumption (reason_at c i)
+
+-- ---- assumption sets
+
+-- the set has what the entries rest on, those with the multiplier 0 left out
+abbrev pub IsSetOfAll : Certificate → List (ℕ × ℚ) → set.FinSet nat_cmp → Type 0
+IsSetOfAll c es s = (a : ℕ) → IsTrue (set.contains s a) ↔ SomeRestsOn c es a
+
+-- the set has what constraint i rests on without l
+abbrev pub IsSetWithout : Certificate → ℕ → ℕ → set.FinSet nat_cmp → Type 0
+IsSetWithout c i l s = (a : ℕ) → IsTrue (set.contains s a) ↔ (RestsOn c i a × (a ≢ l))
+
+-- the set has what a derivation by this reason rests on, that comes after the certificate c
+abbrev pub IsSetByReason : Certificate → Reason → set.FinSet nat_cmp → Type 0
+IsSetByReason c r s = (a : ℕ) → IsTrue (set.contains s a) ↔ RestsBy c (count c) (Some r) a

@@ -1,0 +1,124 @@
+//! What a derivation is tested against, and the constraints that it may refer to.
+
+ghost use Rattle.std.specs.Prelude.{◌≡◌, ◌∷◌, [], true, IfOk, MatchResult};
+ghost use Rattle.std.specs.FinSet as set;
+ghost use Rattle.vipr_spec.specs.Constraint.{at, NamesBelow};
+ghost use Rattle.vipr_spec.specs.Certificate.{Certificate, Derivation, variables};
+ghost use Rattle.vipr_spec.specs.Steps.{earlier};
+ghost use Rattle.vipr_linear.specs.Constraint.{condition_of};
+ghost use Rattle.vipr_rules.specs.Table.{DerivedBelow};
+ghost use Rattle.vipr_rules.specs.Context.{IsContextOf, IsKnownAs, row_of, set_of, is_assumed};
+ghost use Rattle.vipr_rules.specs.Soundness.{IsSoundUnder, IsStatedAt};
+ghost use Rattle.vipr_rules.specs.Apply.{index_tests, Passes, Stops};
+
+use crate::assumptions::Assumptions;
+use crate::error::RuleError;
+use crate::rows::{Entry, Rows};
+use std::alloc::{AllocError, Global};
+use vipr_frac::Frac;
+use vipr_items::Problem;
+use vipr_linear::Constraint;
+
+/// What a derivation is tested against.
+#[derive(Drop)]
+pub(crate) struct Context<'a, S: Rows> {
+    /// The problem, whose constraints come first.
+    pub(crate) problem: &'a Problem,
+    /// The best objective value among the listed solutions, if one is listed.
+    pub(crate) best: Option<&'a Frac>,
+    /// The derived constraints.
+    pub(crate) rows: &'a S,
+}
+
+/// A constraint that a derivation may refer to.
+#[derive(Clone, Copy)]
+pub(crate) enum Known<'a> {
+    /// One of the problem, which rests on no assumption.
+    Given(&'a Constraint),
+    /// One that is derived, and live.
+    Derived(&'a Entry),
+}
+
+impl<'a> Known<'a> {
+    /// What it says.
+    pub(crate) fn constraint(self) -> &'a Constraint
+        ensures { result.now ≡ row_of self.entry }
+    {
+        match self {
+            Known::Given(constraint) => constraint,
+            Known::Derived(entry) => &entry.constraint,
+        }
+    }
+
+    /// Whether it is an assumption.
+    pub(crate) fn is_assumption(self) -> bool
+        ensures { result ≡ is_assumed self.entry }
+    {
+        match self {
+            Known::Given(_) => false,
+            Known::Derived(entry) => entry.is_assumption,
+        }
+    }
+
+    /// A set together with the assumptions that it rests on.
+    pub(crate) fn joined_to(
+        self,
+        alloc: Global,
+        others: Assumptions,
+    ) -> Result<Assumptions, AllocError>
+        ensures { IfOk result (λ s. s ≡ set.union others (set_of self.entry)) }
+    {
+        match self {
+            Known::Given(_) => Ok(others),
+            Known::Derived(entry) => others.union(alloc, &entry.assumptions),
+        }
+    }
+
+    /// The assumptions that it rests on but one.
+    pub(crate) fn without(self, alloc: Global, index: u32) -> Result<Assumptions, AllocError>
+        ensures { IfOk result (λ s. s ≡ set.remove (set_of self.entry) index) }
+    {
+        match self {
+            Known::Given(_) => Ok(Assumptions::empty(alloc)),
+            Known::Derived(entry) => entry.assumptions.without(alloc, index),
+        }
+    }
+}
+
+impl<'a, S: Rows> Context<'a, S> {
+    /// Tests that constraint `index` comes before the derivation.
+    pub(crate) fn check_earlier(&self, index: u32) -> Result<(), RuleError>
+        ensures { (c : Certificate) (d : Derivation) → IsContextOf S.table c self.now
+            → MatchResult result (λ _. Passes c d (earlier index ∷ []))
+            (Stops c d (earlier index ∷ [])) }
+    {
+        if self.rows.next() <= index {
+            return Err(RuleError::NotEarlier(index));
+        }
+        Ok(())
+    }
+
+    /// Constraint `index`, tested to come before the derivation and to be live there.
+    pub(crate) fn find(&self, index: u32) -> Result<Known<'a>, RuleError>
+        ensures known { (c : Certificate) (d : Derivation) → IsContextOf S.table c self.now
+            → MatchResult result (λ k. Passes c d (index_tests index) × IsKnownAs c index k)
+            (Stops c d (index_tests index)) }
+        ensures below { let n = variables self.now.problem.now in
+            DerivedBelow n (S.table self.now.rows.now)
+            → IfOk result (λ k. NamesBelow n (at (row_of k).row)) }
+        ensures sound { IfOk result (λ k.
+            IsSoundUnder S.table self.now (set_of k) (condition_of (row_of k))) }
+        ensures stated { IfOk result (λ k.
+            is_assumed k ≡ true → IsStatedAt S.table self.now index (row_of k)) }
+    {
+        self.check_earlier(index)?;
+        let given = self.problem.cons();
+        if (index as usize) < given.len() {
+            return Ok(Known::Given(&given[index as usize].item));
+        }
+        match self.rows.get(index) {
+            Some(entry) => Ok(Known::Derived(entry)),
+            None => Err(RuleError::Dropped(index)),
+        }
+    }
+}

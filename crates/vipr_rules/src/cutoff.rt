@@ -1,0 +1,53 @@
+//! The rule by which the best listed solution cuts off every point that is no better.
+
+ghost use Rattle.std.specs.Prelude.{◌≡◌, IfOk};
+ghost use Rattle.vipr_spec.specs.Constraint.{condition};
+ghost use Rattle.vipr_spec.specs.Certificate.{Certificate, Derivation as DerivationMeant};
+ghost use Rattle.vipr_spec.specs.Certificate.{objective_constraint, reaches, sol as by_sol};
+ghost use Rattle.vipr_linear.specs.Constraint.{condition_of};
+ghost use Rattle.vipr_rules.specs.Context.{IsContextOf};
+ghost use Rattle.vipr_rules.specs.Soundness.{IsSoundUnder};
+ghost use Rattle.vipr_rules.specs.Apply.{IsRuledBy};
+
+use crate::assumptions::Assumptions;
+use crate::claim::objective_with;
+use crate::context::Context;
+use crate::domination::check_domination;
+use crate::error::RuleError;
+use crate::rows::Rows;
+use std::alloc::{AllocError, Global};
+use vipr_frac::Frac;
+use vipr_items::{Goal, Problem};
+use vipr_linear::{Constraint, Sense};
+
+/// Tests a derivation by `sol`, which rests on no assumption.
+pub(crate) fn cut_off<S: Rows>(
+    alloc: Global,
+    context: &Context<S>,
+    stated: &Constraint,
+) -> Result<Assumptions, RuleError>
+    ensures ruled { (c : Certificate) (d : DerivationMeant) → IsContextOf S.table c context.now
+        → condition_of stated.now ≡ condition d.stated → IsRuledBy c d by_sol result }
+    ensures sound { IfOk result (λ s.
+        IsSoundUnder S.table context.now s (condition_of stated.now)) }
+{
+    let Some(value) = context.best else {
+        return Err(RuleError::NoSolution);
+    };
+    let computed = cutoff(context.problem, *value)?;
+    check_domination(&computed, stated)?;
+    Ok(Assumptions::empty(alloc))
+}
+
+/// The objective with this value as right-hand side: at most that where it is to be small, at least
+/// where it is to be large.
+fn cutoff(p: &Problem, value: Frac) -> Result<Constraint, AllocError>
+    ensures { IfOk result (λ x.
+        condition_of x ≡ objective_constraint p.now (reaches p.now.direction) value) }
+{
+    let sense = match p.sense() {
+        Goal::Min => Sense::L,
+        Goal::Max => Sense::G,
+    };
+    objective_with(p, sense, value)
+}

@@ -1,0 +1,130 @@
+//! Derivations by their reasons.
+
+ghost use Rattle.std.specs.Prelude.{◌≡◌, ◌≢◌, ℕ, length, Some, IfOk, IfErr, option_copied};
+ghost use Rattle.vipr_spec.specs.Constraint.{Condition, Point};
+ghost use Rattle.vipr_spec.specs.Certificate.{Certificate, variables};
+ghost use Rattle.vipr_spec.specs.Certificate.{is_assumption as is_assumption_by};
+ghost use Rattle.vipr_spec.specs.Steps.{RefersBack};
+ghost use Rattle.vipr_spec.specs.Soundness.{IsBestValue};
+ghost use Rattle.vipr_linear.specs.Constraint.{condition_of};
+ghost use Rattle.vipr_items.specs.Items.{derivation_of, reason_of};
+ghost use Rattle.vipr_rules.specs.Table.{DerivedBelow};
+ghost use Rattle.vipr_rules.specs.History.{IsTableOf};
+ghost use Rattle.vipr_rules.specs.Context.{IsContextOf};
+ghost use Rattle.vipr_rules.specs.Soundness.{HasSoundRows, IsSoundRow, IsSoundAt, IsTrueUnder};
+ghost use Rattle.vipr_rules.specs.Apply.{Judges, KeepsSound, IsRuledBy, Passes, free_tests};
+ghost use Rattle.vipr_rules.specs.declared.error.RuleError.TheVariants.{Memory};
+
+use crate::assumptions::Assumptions;
+use crate::branches::{Branch, join_branches};
+use crate::context::Context;
+use crate::cutoff::cut_off;
+use crate::error::RuleError;
+use crate::rows::{Entry, Rows};
+use crate::sum::{combine, combine_rounded};
+use std::alloc::Global;
+use vipr_frac::Frac;
+use vipr_items::{Derivation, Problem, Reason};
+use vipr_linear::Combination;
+
+/// Tests a derivation against the problem, the best objective value among the listed solutions and
+/// the table of earlier derivations, and gives what is to be kept of it.
+///
+/// `scratch` is made for the problem's number of variables; what it holds doesn't matter.
+///
+/// # Errors
+///
+/// The first test that the derivation fails, with what there is to tell about it.
+pub fn apply<S: Rows>(
+    alloc: Global,
+    p: &Problem,
+    best: Option<&Frac>,
+    rows: &S,
+    scratch: &mut Combination,
+    step: &Derivation,
+) -> Result<Entry, RuleError>
+    requires variables { length scratch.old.sums ≡ variables p.now }
+    requires rows { DerivedBelow (variables p.now) (S.table rows.now) }
+
+    // Over the table of a certificate the answer is that of the definitions.
+    ensures judged { (c : Certificate) → c.problem ≡ p.now → IsTableOf c (S.table rows.now)
+        → RefersBack c → IsBestValue p.now c.solutions (option_copied best.entry)
+        → Judges c (derivation_of step.now) result }
+    // That a growth was refused is no answer before the tests that take no memory pass.
+    ensures memory { (c : Certificate) → c.problem ≡ p.now → IsTableOf c (S.table rows.now)
+        → IsBestValue p.now c.solutions (option_copied best.entry)
+        → IfErr result (λ e. e ≡ Memory
+        → Passes c (derivation_of step.now) (free_tests (reason_of step.now.reason))) }
+
+    // What is answered is sound where the live constraints before it are.
+    ensures sound { (c : Certificate) → c.problem ≡ p.now → IsTableOf c (S.table rows.now)
+        → RefersBack c → IsBestValue p.now c.solutions (option_copied best.entry)
+        → IfOk result (λ _. KeepsSound c (derivation_of step.now)) }
+    // So it is over any table and best value: `says` is what the rows state, and what is answered
+    // states at the next index.
+    ensures sound_rows { IfOk result (λ e. (says : ℕ → Condition)
+        → HasSoundRows p.now (option_copied best.entry) (S.table rows.now) says
+        → says (S.table rows.now).next ≡ condition_of e.constraint
+        → IsSoundRow p.now (option_copied best.entry) says e) }
+
+    ensures stated { IfOk result (λ e. e.constraint ≡ step.now.constraint) }
+    ensures variables { length scratch.new.sums ≡ length scratch.old.sums }
+{
+    let context = Context {
+        problem: p,
+        best,
+        rows,
+    };
+    let assumptions = assumptions_of(alloc, &context, scratch, step)?;
+    Ok(Entry {
+        constraint: step.constraint.clone()?,
+        assumptions,
+        is_assumption: is_assumption(&step.reason),
+        last: step.last,
+    })
+}
+
+/// Tests a derivation by the rule of its reason, and gives the assumptions that it rests on.
+fn assumptions_of<S: Rows>(
+    alloc: Global,
+    context: &Context<S>,
+    scratch: &mut Combination,
+    step: &Derivation,
+) -> Result<Assumptions, RuleError>
+    requires variables { length scratch.old.sums ≡ variables context.now.problem.now }
+    requires rows { let n = variables context.now.problem.now in
+        DerivedBelow n (S.table context.now.rows.now) }
+    ensures ruled { (c : Certificate) → IsContextOf S.table c context.now
+        → IsRuledBy c (derivation_of step.now) (reason_of step.now.reason) result }
+    ensures sound { IfOk result (λ s. (says : ℕ → Condition) (x : Point)
+        → IsSoundAt S.table context.now says x
+        → says (S.table context.now.rows.now).next ≡ condition_of step.now.constraint
+        → IsTrueUnder (variables context.now.problem.now) says s
+        (condition_of step.now.constraint) x) }
+    ensures variables { length scratch.new.sums ≡ length scratch.old.sums }
+{
+    let stated = &step.constraint;
+    match &step.reason {
+        Reason::Asm => Ok(Assumptions::single(alloc, context.rows.next())?),
+        Reason::Lin(entries) => combine(alloc, context, scratch, stated, entries),
+        Reason::Rnd(entries) => combine_rounded(alloc, context, scratch, stated, entries),
+        Reason::Uns { i1, l1, i2, l2 } => {
+            let first = Branch {
+                conclusion: *i1,
+                assumption: *l1,
+            };
+            let second = Branch {
+                conclusion: *i2,
+                assumption: *l2,
+            };
+            join_branches(alloc, context, stated, first, second)
+        }
+        Reason::Sol => cut_off(alloc, context, stated),
+    }
+}
+
+fn is_assumption(reason: &Reason) -> bool
+    ensures { result ≡ is_assumption_by (Some (reason_of reason.now)) }
+{
+    matches!(reason, Reason::Asm)
+}

@@ -1,0 +1,216 @@
+//! The rules by which a sum of constraints, or its rounding, dominates the stated one.
+
+ghost use Rattle.std.specs.Prelude.{◌≡◌, ◌≢◌, ◌⊎◌, ◌∷◌, ◌++◌, [], List, ℕ, true, false, flat_map};
+ghost use Rattle.std.specs.Prelude.{length, IfOk, IfErr, IfSome, OnOk, MatchOption, MatchResult};
+ghost use Rattle.vipr_spec.specs.Fraction.{ℚ};
+ghost use Rattle.vipr_spec.specs.Constraint.{Entry as Summand, at, condition, NamesBelow};
+ghost use Rattle.vipr_spec.specs.Constraint.{IsWholeRow, DominatesRounded};
+ghost use Rattle.vipr_spec.specs.Certificate.{Certificate, Derivation, variables};
+ghost use Rattle.vipr_spec.specs.Certificate.{lin as by_lin, rnd as by_rnd};
+ghost use Rattle.vipr_spec.specs.Reading.{is_nonzero};
+ghost use Rattle.vipr_spec.specs.Steps.{reference_tests, sum_tests, roundable, by_rounding, IsSum};
+ghost use Rattle.vipr_linear.specs.Accumulator.{Holds, HoldsSum};
+ghost use Rattle.vipr_linear.specs.Constraint.{sense_of, condition_of};
+ghost use Rattle.vipr_rules.specs.Table.{DerivedBelow};
+ghost use Rattle.vipr_rules.specs.Context.{IsContextOf, IsKnownAs, IsSetOfAll, row_of, set_of};
+ghost use Rattle.vipr_rules.specs.Soundness.{IsSoundUnder};
+ghost use Rattle.vipr_rules.specs.Apply.{Passes, Stops, SumStops, IsRuledBy};
+ghost use Rattle.vipr_rules.specs.declared.error.RuleError.TheVariants.{Memory};
+
+use crate::assumptions::Assumptions;
+use crate::context::{Context, Known};
+use crate::domination::check_domination;
+use crate::error::RuleError;
+use crate::rows::Rows;
+use std::alloc::Global;
+use vipr_frac::Frac;
+use vipr_linear::{CombError, Combination, Constraint, Ints, NotRoundable, Rounded};
+
+/// A sum of constraints, and the assumptions that these rest on.
+#[derive(Drop)]
+struct Sum {
+    constraint: Constraint,
+    assumptions: Assumptions,
+}
+
+/// Tests a derivation by `lin`, and gives the assumptions that it rests on.
+pub(crate) fn combine<S: Rows>(
+    alloc: Global,
+    context: &Context<S>,
+    scratch: &mut Combination,
+    stated: &Constraint,
+    entries: &[(u32, Frac)],
+) -> Result<Assumptions, RuleError>
+    requires variables { length scratch.old.sums ≡ variables context.now.problem.now }
+    requires rows { let n = variables context.now.problem.now in
+        DerivedBelow n (S.table context.now.rows.now) }
+    ensures ruled { (c : Certificate) (d : Derivation) → IsContextOf S.table c context.now
+        → condition_of stated.now ≡ condition d.stated → IsRuledBy c d (by_lin entries.now) result }
+    ensures sound { IfOk result (λ s.
+        IsSoundUnder S.table context.now s (condition_of stated.now)) }
+    ensures variables { length scratch.new.sums ≡ length scratch.old.sums }
+{
+    let sum = add_up(alloc, context, scratch, entries)?;
+    check_domination(&sum.constraint, stated)?;
+    Ok(sum.assumptions)
+}
+
+/// Tests a derivation by `rnd`, and gives the assumptions that it rests on.
+pub(crate) fn combine_rounded<S: Rows>(
+    alloc: Global,
+    context: &Context<S>,
+    scratch: &mut Combination,
+    stated: &Constraint,
+    entries: &[(u32, Frac)],
+) -> Result<Assumptions, RuleError>
+    requires variables { length scratch.old.sums ≡ variables context.now.problem.now }
+    requires rows { let n = variables context.now.problem.now in
+        DerivedBelow n (S.table context.now.rows.now) }
+    ensures ruled { (c : Certificate) (d : Derivation) → IsContextOf S.table c context.now
+        → condition_of stated.now ≡ condition d.stated → IsRuledBy c d (by_rnd entries.now) result }
+    ensures sound { IfOk result (λ s.
+        IsSoundUnder S.table context.now s (condition_of stated.now)) }
+    ensures variables { length scratch.new.sums ≡ length scratch.old.sums }
+{
+    let sum = add_up(alloc, context, scratch, entries)?;
+    check_rounded(sum.constraint, context.problem.ints(), stated)?;
+    Ok(sum.assumptions)
+}
+
+// Tests that the sum can be rounded and then dominates the stated constraint.
+fn check_rounded(sum: Constraint, ints: &Ints, stated: &Constraint) -> Result<(), RuleError>
+    ensures tests { (c : Certificate) (d : Derivation) (es : List (ℕ × ℚ))
+        → IsSum c es (condition_of sum) → c.problem.integers ≡ ints.now
+        → condition_of stated.now ≡ condition d.stated
+        → MatchResult result (λ _. Passes c d (roundable es ∷ by_rounding es ∷ []))
+        (λ e. (e ≡ Memory) ⊎ Stops c d (roundable es ∷ by_rounding es ∷ []) e) }
+    ensures dominates { OnOk result (IsWholeRow ints.now (at sum.row)
+        × DominatesRounded (condition_of sum) (condition_of stated.now)) }
+{
+    match sum.round(ints) {
+        Ok(Rounded::Row(computed)) => check_domination(&computed, stated),
+        Ok(Rounded::Absurd) => Ok(()),
+        Err(NotRoundable(sum)) => Err(RuleError::NotRoundable(sum)),
+    }
+}
+
+// The sum of the entries in their order, those with the multiplier 0 left out. Each reference is
+// looked up once; where an entry can't be added, the references behind it are tested first.
+fn add_up<S: Rows>(
+    alloc: Global,
+    context: &Context<S>,
+    scratch: &mut Combination,
+    entries: &[(u32, Frac)],
+) -> Result<Sum, RuleError>
+    requires variables { length scratch.old.sums ≡ variables context.now.problem.now }
+    requires rows { let n = variables context.now.problem.now in
+        DerivedBelow n (S.table context.now.rows.now) }
+    ensures sum { (c : Certificate) (d : Derivation) → IsContextOf S.table c context.now
+        → MatchResult result
+        (λ s. Passes c d (sum_tests entries.now) × IsSum c entries.now (condition_of s.constraint)
+        × IsSetOfAll c entries.now s.assumptions)
+        (λ e. (e ≡ Memory) ⊎ Stops c d (sum_tests entries.now) e) }
+    ensures sound { IfOk result (λ s.
+        IsSoundUnder S.table context.now s.assumptions (condition_of s.constraint)) }
+    ensures variables { length scratch.new.sums ≡ length scratch.old.sums }
+{
+    scratch.clear();
+    let mut assumptions = Assumptions::empty(alloc);
+    for (position, entry) in entries.iter().enumerate() {
+        let Some(known) = find_used(context, entry)? else {
+            continue;
+        };
+        if let Err(error) = add_multiple(scratch, known.constraint(), entry.1, position) {
+            check_references(context, &entries[position + 1..])?;
+            return Err(error);
+        }
+        assumptions = known.joined_to(alloc, assumptions)?;
+    }
+    let constraint = finish(alloc, scratch)?;
+    Ok(Sum {
+        constraint,
+        assumptions,
+    })
+}
+
+// Adds the multiple of a constraint, that of the entry at a position.
+fn add_multiple(
+    scratch: &mut Combination,
+    constraint: &Constraint,
+    multiplier: Frac,
+    position: usize,
+) -> Result<(), RuleError>
+    requires fresh { scratch.old.spent ≡ false }
+    requires below { NamesBelow (length scratch.old.sums) (at constraint.now.row) }
+    ensures sum { let e : Summand = (multiplier, condition_of constraint.now) in
+        (n : ℕ) (es : List Summand) → Holds n es scratch.old
+        → MatchResult result (λ _. Holds n (es ++ e ∷ []) scratch.new)
+        (SumStops (es ++ e ∷ []) position) }
+    ensures fresh { OnOk result (scratch.new.spent ≡ false) }
+    ensures variables { length scratch.new.sums ≡ length scratch.old.sums }
+{
+    match scratch.add(constraint, multiplier) {
+        Ok(()) => Ok(()),
+        Err(CombError::MixedSigns) => Err(RuleError::MixedSigns(position)),
+        Err(CombError::Overflow) => Err(RuleError::Overflow(position)),
+        Err(CombError::Memory | CombError::Spent) => unreachable!(),
+    }
+}
+
+// Gives the sum that is held.
+fn finish(alloc: Global, scratch: &mut Combination) -> Result<Constraint, RuleError>
+    requires { scratch.old.spent ≡ false }
+    ensures sum { IfOk result (λ sum. HoldsSum scratch.old sum.row (sense_of sum.sense) sum.rhs) }
+    ensures memory { IfErr result (λ e. e ≡ Memory) }
+    ensures variables { length scratch.new.sums ≡ length scratch.old.sums }
+{
+    match scratch.finish(alloc) {
+        Ok(sum) => Ok(sum),
+        Err(CombError::Memory) => Err(RuleError::Memory),
+        Err(CombError::MixedSigns | CombError::Overflow | CombError::Spent) => unreachable!(),
+    }
+}
+
+// Tests the references of all entries in their order.
+fn check_references<S: Rows>(context: &Context<S>, entries: &[(u32, Frac)]) -> Result<(), RuleError>
+    ensures { (c : Certificate) (d : Derivation) → IsContextOf S.table c context.now
+        → MatchResult result (λ _. Passes c d (flat_map reference_tests entries.now))
+        (Stops c d (flat_map reference_tests entries.now)) }
+{
+    for entry in entries {
+        find_used(context, entry)?;
+    }
+    Ok(())
+}
+
+// The constraint of an entry, tested to come before the derivation and to be live there. An entry
+// with the multiplier 0 uses none, and its index is only tested to come before.
+fn find_used<'a, S: Rows>(
+    context: &Context<'a, S>,
+    entry: &(u32, Frac),
+) -> Result<Option<Known<'a>>, RuleError>
+    ensures known { (c : Certificate) (d : Derivation) → IsContextOf S.table c context.now
+        → MatchResult result (λ o. Passes c d (reference_tests entry.now)
+        × MatchOption o (is_nonzero entry.now ≡ false)
+        (λ k. (is_nonzero entry.now ≡ true) × IsKnownAs c entry.now.0 k))
+        (Stops c d (reference_tests entry.now)) }
+    ensures below { let n = variables context.now.problem.now in
+        DerivedBelow n (S.table context.now.rows.now)
+        → IfOk result (λ o. IfSome o (λ k. NamesBelow n (at (row_of k).row))) }
+    ensures sound { IfOk result (λ o. IfSome o (λ k.
+        IsSoundUnder S.table context.now (set_of k) (condition_of (row_of k)))) }
+{
+    if is_used(entry) {
+        Ok(Some(context.find(entry.0)?))
+    } else {
+        context.check_earlier(entry.0)?;
+        Ok(None)
+    }
+}
+
+// Whether an entry counts: its multiplier isn't 0.
+fn is_used(entry: &(u32, Frac)) -> bool
+    ensures { result ≡ is_nonzero entry.now }
+{
+    entry.1.numer() != 0
+}
