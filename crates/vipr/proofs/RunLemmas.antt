@@ -5,7 +5,7 @@ use Rattle.clap.specs.declared.error.Error.{Error}
 use Rattle.clap.specs.declared.error.ErrorKind.{ErrorKind}
 use Rattle.vipr_spec.specs.Input.{Input}
 use Rattle.vipr_bytes.specs.Output.{Output}
-use Rattle.vipr_text.specs.Whole.{IfTold}
+use Rattle.vipr_bytes.specs.Known.{IfKnown}
 use Rattle.vipr.specs.Args.{line}
 use Rattle.vipr.specs.Run.{Answers, Declines, Does, Fits, Known, Obeys, exit_status, known_by, read_from, unknown}
 use Rattle.vipr.specs.Show.{Kind, Shows}
@@ -21,7 +21,7 @@ declined words k e old new r (inl memory) (inl (other, d)) = absurd (other memor
 declined words k e old new r (inr among) (inl (other, d)) = inr (inl (kind_of e, among, d))
 declined words k e old new r has (inr (memory, l)) = inr (inr l)
 
-pub all_told : (source : Option Input) (words : List Text) (old new : Option Output) (r : Result ℕ Fault) → ((k : Known) → Obeys words k old new r) → IfTold source (λ i. Obeys words (known_by i) old new r)
+pub all_told : (source : Option Input) (words : List Text) (old new : Option Output) (r : Result ℕ Fault) → ((k : Known) → Obeys words k old new r) → IfKnown source (λ i. Obeys words (known_by i) old new r)
 all_told None words old new r given = tt
 all_told (Some i) words old new r given = λ short. given (known_by i)
 

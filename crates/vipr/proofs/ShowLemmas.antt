@@ -7,10 +7,10 @@ use Rattle.vipr_spec.specs.Reading.{certificate_read}
 use Rattle.vipr_spec.proofs.GrammarItemFaults.{item_faults}
 use Rattle.vipr_bytes.specs.Output.{Output}
 use Rattle.vipr_write.specs.Canonical.{canonical_text}
-use Rattle.vipr_tokens.specs.Faults.{Fails}
-use Rattle.vipr_text.specs.Whole.{rest_of, IfTold, IfWhole}
-use Rattle.vipr_tokens.specs.declared.error.TextError.{TextError}
-use Rattle.vipr_tokens.specs.declared.error.TextError.TheVariants as error
+use Rattle.vipr_scan.specs.Faults.{Fails}
+use Rattle.vipr_bytes.specs.Known.{text_of, IfKnown, IfWhole}
+use Rattle.vipr_scan.specs.declared.error.TextError.{TextError}
+use Rattle.vipr_scan.specs.declared.error.TextError.TheVariants as error
 use Rattle.vipr_write.specs.WrittenText.{WroteText}
 use Rattle.vipr_write.specs.declared.write.WriteError.{WriteError}
 use Rattle.vipr_write.specs.declared.write.WriteError.TheVariants as write
@@ -47,9 +47,9 @@ cut_short old new c (write.Memory n) (Err f) h w k s = subst (λ y. Shows k old 
 
 -- of a certificate that was read
 pub exact_by : (old new : Option Output) (source : Option Input) (c : Certificate) (r : Result Shown Fault) → ((k : Kind) → k.Spelled c → Shows k old new r)
-    → IfTold source (λ i. certificate_read (rest_of i) ≡ Ok c) → IfTold source (λ i. Shows (text_read (certificate_read (rest_of i))) old new r)
+    → IfKnown source (λ i. certificate_read (text_of i) ≡ Ok c) → IfKnown source (λ i. Shows (text_read (certificate_read (text_of i))) old new r)
 exact_by old new None c r given h = tt
-exact_by old new (Some i) c r given h = λ short. given (text_read (certificate_read (rest_of i))) (h short)
+exact_by old new (Some i) c r given h = λ short. given (text_read (certificate_read (text_of i))) (h short)
 
 pub spelled_by : (old new : Option Output) (source : Option Input) (c : Certificate) (r : Result Shown Fault) → ((k : Kind) → k.Spelled c → Shows k old new r)
     → IfWhole source (λ bytes. Spells bytes c) → IfWhole source (λ bytes. Shows (text_of bytes) old new r)
@@ -72,10 +72,10 @@ none_spelled old (Some i) e cause offset is only = λ short whole. ((λ c s. nev
     never c (inr h) = let m : e ≡ error.Memory = cc in let bad : error.Refused cause offset ≡ error.Memory = sym is ∙ m in cc
 
 -- where no read fails, the text is read to its end
-pub never_unread : (old : Option Output) (source : Option Input) (e : TextError) → e ≡ error.Read → IfTold source (λ i. Fails e (certificate_read (rest_of i)))
+pub never_unread : (old : Option Output) (source : Option Input) (e : TextError) → e ≡ error.Read → IfKnown source (λ i. Fails e (certificate_read (text_of i)))
     → IfWhole source (λ bytes. Shows (text_of bytes) old old (Err Read))
 never_unread old None e is h = tt
 never_unread old (Some i) e is h = λ short whole. (true_not_false (sym (failed (h short)) ∙ whole), stays old)
   where
-    failed : Fails e (certificate_read (rest_of i)) → i.fails ≡ true
-    failed f = item_faults.certificate.failure (rest_of i) (subst (λ y. Fails y (certificate_read (rest_of i))) is f)
+    failed : Fails e (certificate_read (text_of i)) → i.fails ≡ true
+    failed f = item_faults.certificate.failure (text_of i) (subst (λ y. Fails y (certificate_read (text_of i))) is f)

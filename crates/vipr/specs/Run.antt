@@ -8,7 +8,7 @@ use Rattle.vipr_spec.specs.Input.{Input}
 use Rattle.vipr_spec.specs.Reading.{certificate_read}
 use Rattle.vipr_spec.specs.Verdict.{IsAnswer}
 use Rattle.vipr_bytes.specs.Output.{Output}
-use Rattle.vipr_text.specs.Whole.{rest_of}
+use Rattle.vipr_bytes.specs.Known.{text_of}
 use Rattle.vipr_check.specs.View.{Says}
 use Rattle.vipr_check.specs.declared.verdict.Fault.{Fault as CheckFault}
 use Rattle.vipr_check.specs.declared.verdict.Fault.TheVariants.{Memory as CheckMemory, Read as CheckRead}
@@ -67,7 +67,7 @@ unknown = record { Judged = λ _. ⊤; kind = any_text }
 
 -- one that gives these bytes
 abbrev pub known_by : Input → Known
-known_by i = record { Judged = Says (IsAnswer one (rest_of i)); kind = text_read (certificate_read (rest_of i)) }
+known_by i = record { Judged = Says (IsAnswer one (text_of i)); kind = text_read (certificate_read (text_of i)) }
 
 -- old is the output before, where it tells that, and new the one afterwards.
 -- The verdict's lines were printed, and the status is the verdict's.

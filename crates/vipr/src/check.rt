@@ -1,6 +1,6 @@
 //! Checks a certificate and prints the verdict.
 ghost use Rattle.std.specs.Prelude.{◌≡◌};
-ghost use Rattle.vipr_text.specs.Whole.{IfTold};
+ghost use Rattle.vipr_bytes.specs.Known.{IfKnown};
 ghost use Rattle.vipr.specs.Run.{PrintsVerdict, known_by, status_for, unknown};
 
 use crate::fault::Fault;
@@ -17,7 +17,7 @@ pub fn print_verdict<R: Source + Drop, O: Sink>(
     out: &mut O,
 ) -> Result<u8, Fault>
     ensures any { PrintsVerdict unknown (O.output out.old) (O.output out.new) result }
-    ensures told { IfTold (R.input source) (λ i. PrintsVerdict (known_by i) (O.output out.old) (O.output out.new) result) }
+    ensures told { IfKnown (R.input source) (λ i. PrintsVerdict (known_by i) (O.output out.old) (O.output out.new) result) }
 {
     let verdict = check(alloc, source)?;
     print(alloc, &Lines(&verdict), out)?;

@@ -1,7 +1,7 @@
 //! The whole program, over what stands for the standard streams.
 ghost use Rattle.std.specs.Prelude.{◌≡◌, ◌≤◌, IfOk, IsNone, false, map};
 ghost use Rattle.clap.specs.Words.{kind_of, takes};
-ghost use Rattle.vipr_text.specs.Whole.{IfTold};
+ghost use Rattle.vipr_bytes.specs.Known.{IfKnown};
 ghost use Rattle.vipr.specs.Args.{line};
 ghost use Rattle.vipr.specs.Run.{Answers, Does, Fits, Obeys, known_by, unknown};
 
@@ -61,7 +61,7 @@ fn obey<H: AllocGlobal + Files, R: Source + Drop, O: Sink, E: Write>(
     ensures status { IfOk result (λ s. s ≤ 2) }
     ensures usage { IfOk result (λ s. s ≡ 2 → takes line (map (λ w. w.now) words.now) ≡ false) }
     ensures any { Obeys (map (λ w. w.now) words.now) unknown (O.output out.old) (O.output out.new) result }
-    ensures told { IfTold (R.input input) (λ i. Obeys (map (λ w. w.now) words.now) (known_by i) (O.output out.old) (O.output out.new) result) }
+    ensures told { IfKnown (R.input input) (λ i. Obeys (map (λ w. w.now) words.now) (known_by i) (O.output out.old) (O.output out.new) result) }
 {
     match job(rt.alloc(), words) {
         Ok(job) => do_job(rt, &job, input, out, err),
@@ -97,7 +97,7 @@ fn do_job<H: AllocGlobal + Files, R: Source + Drop, O: Sink, E: Write>(
     err: &mut E,
 ) -> Result<u8, Fault>
     ensures any { Does job.now.command unknown (O.output out.old) (O.output out.new) result }
-    ensures told { IsNone job.now.file → IfTold (R.input input) (λ i. Does job.now.command (known_by i) (O.output out.old) (O.output out.new) result) }
+    ensures told { IsNone job.now.file → IfKnown (R.input input) (λ i. Does job.now.command (known_by i) (O.output out.old) (O.output out.new) result) }
 {
     match job.file {
         None => do_task(rt.alloc(), job.command, input, out, err),
@@ -116,7 +116,7 @@ fn do_task<R: Source + Drop, O: Sink, E: Write>(
     err: &mut E,
 ) -> Result<u8, Fault>
     ensures any { Does command unknown (O.output out.old) (O.output out.new) result }
-    ensures told { IfTold (R.input source) (λ i. Does command (known_by i) (O.output out.old) (O.output out.new) result) }
+    ensures told { IfKnown (R.input source) (λ i. Does command (known_by i) (O.output out.old) (O.output out.new) result) }
 {
     match command {
         Task::Check => print_verdict(alloc, source, out),

@@ -1,6 +1,6 @@
 //! Shows a certificate: writes its canonical text.
 ghost use Rattle.vipr_spec.specs.Reading.{certificate_read};
-ghost use Rattle.vipr_text.specs.Whole.{rest_of, IfTold, IfWhole};
+ghost use Rattle.vipr_bytes.specs.Known.{text_of, IfKnown, IfWhole};
 ghost use Rattle.vipr.specs.Run.{PrintsText, known_by, unknown};
 ghost use Rattle.vipr.specs.Show.{Shows, any_text, text_of, text_read};
 
@@ -35,7 +35,7 @@ pub fn show<R: Source + Drop, W: Sink>(
     // Nothing is written but a certificate's text.
     ensures written { Shows any_text (W.output writer.old) (W.output writer.new) result }
     // The certificate, or the refusal, is that of the definitions for the bytes that the source gives, in whatever pieces.
-    ensures exact { IfTold (R.input source) (λ i. Shows (text_read (certificate_read (rest_of i))) (W.output writer.old) (W.output writer.new) result) }
+    ensures exact { IfKnown (R.input source) (λ i. Shows (text_read (certificate_read (text_of i))) (W.output writer.old) (W.output writer.new) result) }
     // The certificate is what the text spells, and it is refused where it spells none.
     ensures spelled { IfWhole (R.input source) (λ bytes. Shows (text_of bytes) (W.output writer.old) (W.output writer.new) result) }
 {
@@ -62,7 +62,7 @@ pub fn print_text<R: Source + Drop, O: Sink, E: Write>(
     err: &mut E,
 ) -> Result<u8, Fault>
     ensures any { PrintsText unknown (O.output out.old) (O.output out.new) result }
-    ensures told { IfTold (R.input source) (λ i. PrintsText (known_by i) (O.output out.old) (O.output out.new) result) }
+    ensures told { IfKnown (R.input source) (λ i. PrintsText (known_by i) (O.output out.old) (O.output out.new) result) }
 {
     match show(alloc, source, out)? {
         Shown::Whole => Ok(0),

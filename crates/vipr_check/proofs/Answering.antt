@@ -11,9 +11,9 @@ use Rattle.vipr_spec.proofs.Reported.{one_answer}
 use Rattle.vipr_spec.proofs.WholeText.{verified_read, verified_text, proof_answered}
 use Rattle.vipr_spec.proofs.GrammarWhole.{reads_certificates, reads_texts, one_certificate}
 use Rattle.vipr_spec.proofs.Points.{claim_shown}
-use Rattle.vipr_tokens.specs.Faults.{Fails}
-use Rattle.vipr_tokens.specs.declared.error.TextError.{TextError}
-use Rattle.vipr_tokens.specs.declared.error.TextError.TheVariants as text
+use Rattle.vipr_scan.specs.Faults.{Fails}
+use Rattle.vipr_scan.specs.declared.error.TextError.{TextError}
+use Rattle.vipr_scan.specs.declared.error.TextError.TheVariants as text
 use Rattle.vipr_spec.specs.Constraint.{one}
 use Rattle.vipr_check.specs.declared.verdict.Report.{Report}
 use Rattle.vipr_check.specs.declared.verdict.Verdict.{Verdict}
@@ -23,9 +23,9 @@ use Rattle.vipr_check.specs.declared.verdict.Fault.TheVariants.{Read, Memory}
 use Rattle.vipr_check.proofs.Failures.{failed_read}
 use Rattle.vipr_check.specs.View.{report_of, answer_of, Says, IfVerified, IsVerified}
 use Rattle.vipr_check.specs.Run.{text_answer}
-use Rattle.vipr_text.specs.Whole.{rest_of}
-use Rattle.vipr_text.specs.Whole.{IfTold, IfWhole}
-use Rattle.vipr_text.proofs.WholeTexts.{IfTold-by, IfWhole-by, whole_is}
+use Rattle.vipr_bytes.specs.Known.{text_of}
+use Rattle.vipr_bytes.specs.Known.{IfKnown, IfWhole}
+use Rattle.vipr_check.proofs.KnownTexts.{known_by, whole_by, whole_is}
 use Rattle.vipr_check.specs.Checks.{Checks}
 
 pub Says-by : (P Q : Answer → Type 0) (r : Result Verdict Fault) → ((a : Answer) → P a → Q a) → Says P r → Says Q r
@@ -61,7 +61,7 @@ IsProofOf bytes report = (c : Certificate) × SpellsOnly bytes c × IsProof one 
 the_proof : (bytes : List ℕ) (report : Report) → ((c : Certificate) × Spells bytes c × IsProof one c × Reports one c (report_of report)) → IsProofOf bytes report
 the_proof bytes report p = (p.0, record { this = p.1; no_other = λ other s. one_certificate bytes other p.0 s p.1 }, p.2, p.3)
 
-pub proof_says : (i : Input) (x : Result Verdict Fault) → Says (IsAnswer one (rest_of i)) x → i.fails ≡ false → IfVerified x (IsProofOf i.bytes)
+pub proof_says : (i : Input) (x : Result Verdict Fault) → Says (IsAnswer one (text_of i)) x → i.fails ≡ false → IfVerified x (IsProofOf i.bytes)
 proof_says i (Ok (Verified r)) h e = the_proof i.bytes r ((verified_text one i.bytes (report_of r)).0 (subst (λ s. IsAnswer one s (verified (report_of r))) (whole_is i e) h))
 proof_says i (Ok (Refused r)) h e = tt
 proof_says i (Err f) h e = tt
@@ -69,7 +69,7 @@ proof_says i (Err f) h e = tt
 shown_of : (bytes : List ℕ) (report : Report) → IsProofOf bytes report → (c : Certificate) × SpellsOnly bytes c × IsShown c.problem c.solutions c.problem.claim
 shown_of bytes report p = (p.0, p.1, claim_shown one p.0 p.2)
 
-pub sound_says : (i : Input) (x : Result Verdict Fault) → Says (IsAnswer one (rest_of i)) x → i.fails ≡ false
+pub sound_says : (i : Input) (x : Result Verdict Fault) → Says (IsAnswer one (text_of i)) x → i.fails ≡ false
     → IfVerified x (λ report. (c : Certificate) × SpellsOnly i.bytes c × IsShown c.problem c.solutions c.problem.claim)
 sound_says i (Ok (Verified r)) h e = shown_of i.bytes r (proof_says i (Ok (Verified r)) h e)
 sound_says i (Ok (Refused r)) h e = tt
@@ -84,17 +84,17 @@ every_read r c (Ok (Refused v)) e p h = let a = proof_answered one r c (answer_o
 every_read r c (Err Read) e p h = let a = proof_answered one r c cut_short e p h in absurd (cc a.2)
 every_read r c (Err Memory) e p h = tt
 
-pub every_says : (i : Input) (x : Result Verdict Fault) → Says (IsAnswer one (rest_of i)) x → i.fails ≡ false → (c : Certificate) → Spells i.bytes c → IsProof one c → IsVerified x (λ report. Reports one c (report_of report))
+pub every_says : (i : Input) (x : Result Verdict Fault) → Says (IsAnswer one (text_of i)) x → i.fails ≡ false → (c : Certificate) → Spells i.bytes c → IsProof one c → IsVerified x (λ report. Reports one c (report_of report))
 every_says i x h e c s p = every_read (whole_text i.bytes) c x ((reads_texts i.bytes c).1 s) p (subst (λ r. Says (IsAnswer one r) x) (whole_is i e) h)
 
 -- all of it from the exact answer
-pub checks : (source : Option Input) (x : Result Verdict Fault) → IfTold source (λ i. Says (IsAnswer one (rest_of i)) x) → Checks source x
+pub checks : (source : Option Input) (x : Result Verdict Fault) → IfKnown source (λ i. Says (IsAnswer one (text_of i)) x) → Checks source x
 checks source x exact = record {
   exact = exact;
-  only = IfTold-by source (λ i. Says (IsAnswer one (rest_of i)) x) (λ i. (a : Answer) → IsAnswer one (rest_of i) a → Says (λ b. b ≡ a) x) (λ i h. only_says (rest_of i) x h) exact;
-  read = IfTold-by source (λ i. Says (IsAnswer one (rest_of i)) x) (λ i. x ≡ Err Read → i.fails ≡ true) (λ i h. read_says (rest_of i) x h) exact;
-  ended = IfTold-by source (λ i. Says (IsAnswer one (rest_of i)) x) (λ i. IfVerified x (λ report. i.fails ≡ false)) (λ i h. ended_says (rest_of i) x h) exact;
-  proof = IfWhole-by source (λ i. Says (IsAnswer one (rest_of i)) x) (λ bytes. IfVerified x (IsProofOf bytes)) (λ i h e. proof_says i x h e) exact;
-  every = IfWhole-by source (λ i. Says (IsAnswer one (rest_of i)) x) (λ bytes. (c : Certificate) → Spells bytes c → IsProof one c → IsVerified x (λ report. Reports one c (report_of report))) (λ i h e. every_says i x h e) exact;
-  sound = IfWhole-by source (λ i. Says (IsAnswer one (rest_of i)) x) (λ bytes. IfVerified x (λ report. (c : Certificate) × SpellsOnly bytes c × IsShown c.problem c.solutions c.problem.claim)) (λ i h e. sound_says i x h e) exact;
+  only = known_by source (λ i. Says (IsAnswer one (text_of i)) x) (λ i. (a : Answer) → IsAnswer one (text_of i) a → Says (λ b. b ≡ a) x) (λ i h. only_says (text_of i) x h) exact;
+  read = known_by source (λ i. Says (IsAnswer one (text_of i)) x) (λ i. x ≡ Err Read → i.fails ≡ true) (λ i h. read_says (text_of i) x h) exact;
+  ended = known_by source (λ i. Says (IsAnswer one (text_of i)) x) (λ i. IfVerified x (λ report. i.fails ≡ false)) (λ i h. ended_says (text_of i) x h) exact;
+  proof = whole_by source (λ i. Says (IsAnswer one (text_of i)) x) (λ bytes. IfVerified x (IsProofOf bytes)) (λ i h e. proof_says i x h e) exact;
+  every = whole_by source (λ i. Says (IsAnswer one (text_of i)) x) (λ bytes. (c : Certificate) → Spells bytes c → IsProof one c → IsVerified x (λ report. Reports one c (report_of report))) (λ i h e. every_says i x h e) exact;
+  sound = whole_by source (λ i. Says (IsAnswer one (text_of i)) x) (λ bytes. IfVerified x (λ report. (c : Certificate) × SpellsOnly bytes c × IsShown c.problem c.solutions c.problem.claim)) (λ i h e. sound_says i x h e) exact;
 }

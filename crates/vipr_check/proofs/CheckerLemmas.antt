@@ -5,12 +5,12 @@ use Rattle.vipr_spec.specs.Fraction.{ℚ}
 use Rattle.vipr_spec.specs.Constraint.{one, Row}
 use Rattle.vipr_spec.specs.Certificate.{Named, Problem, Derivation, Certificate, IsProof, MeetsPrimal, count}
 use Rattle.vipr_spec.specs.Verdict.{step_tests, StepTest, step_cause, PassesSolution, solution_tests, solution_cause, FirstFailing, Passes as PassesTest, meets_primal, meets_dual, of_solution, of_step, Answer, refuses, told_by, at_solution, at_derivation}
-use Rattle.vipr_rules.specs.Judged.{Tells, Stops}
+use Rattle.vipr_rules.specs.Apply.{Tells, Stops}
 use Rattle.vipr_rules.specs.Table.{Table, advance_table}
 use Rattle.vipr_rules.specs.Solution.{test_of}
 use Rattle.vipr_rules.specs.declared.solution.SolutionError.{SolutionError}
-use Rattle.vipr_rules.specs.declared.failure.RuleError.{RuleError}
-use Rattle.vipr_rules.specs.declared.failure.RuleError.TheVariants as rule
+use Rattle.vipr_rules.specs.declared.error.RuleError.{RuleError}
+use Rattle.vipr_rules.specs.declared.error.RuleError.TheVariants as rule
 use Rattle.vipr_check.specs.declared.verdict.Refusal.{Refusal}
 use Rattle.vipr_check.specs.declared.halt.Stop.{Stop}
 use Rattle.vipr_check.specs.declared.halt.Finding.{Finding}

@@ -18,7 +18,7 @@ use Rattle.vipr_items.specs.Items.{named_of}
 use Rattle.vipr_items.specs.declared.items.Named.{Named}
 use Rattle.vipr_rules.specs.Claim.{IsMetBy, IsTargetOf}
 use Rattle.vipr_rules.specs.declared.claim.Target.{Target}
-use Rattle.vipr_rules.specs.declared.entries.Entry.{Entry}
+use Rattle.vipr_rules.specs.declared.rows.Entry.{Entry}
 use Rattle.vipr_rules.specs.History.{IsEntryOf}
 use Rattle.vipr_check.specs.Goal.{Hits, IsFirstHit}
 

@@ -6,3 +6,4 @@ pub mod GoalLemmas
 pub mod ProgressLemmas
 pub mod RunLemmas
 pub mod SoundLemmas
+mod KnownTexts

@@ -26,9 +26,9 @@ use Rattle.vipr_rules.specs.declared.claim.Target.{Target}
 use Rattle.vipr_rules.specs.declared.claim.Target.TheVariants.{Nothing}
 use Rattle.vipr_rules.specs.Table.{Table, empty_table, advance_table, step, held}
 use Rattle.vipr_rules.specs.History.{IsTableOf, IsEntryOf}
-use Rattle.vipr_rules.specs.Before.{DerivedBelow}
-use Rattle.vipr_rules.specs.Judged.{Passes}
-use Rattle.vipr_rules.specs.declared.entries.Entry.{Entry}
+use Rattle.vipr_rules.specs.Table.{DerivedBelow}
+use Rattle.vipr_rules.specs.Apply.{Passes}
+use Rattle.vipr_rules.specs.declared.rows.Entry.{Entry}
 use Rattle.vipr_rules.proofs.BelowLemmas.{DerivedBelow-empty, DerivedBelow-step}
 use Rattle.vipr_rules.proofs.TableLemmas.{get-live_part}
 use Rattle.vipr_rules.proofs.HistoryLemmas.{if_live_of, IsTableOf-empty, IsTableOf-step, IsTableOf-held}

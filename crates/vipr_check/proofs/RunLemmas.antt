@@ -1,6 +1,7 @@
 -- A text item by item: what is answered for what is left is the answer for what was left before
 use Rattle.std.proofs.Common.{◌≡◌, ◌≢◌, ℕ, zero, suc, ◌+◌, ◌<◌, ◌^◌, true, false, List, [], ◌∷◌, ◌++◌, length, Option, Some, None, Result, Ok, Err, inl, inr, arith, refl, sym, ◌∙◌, ap, subst}
-use Rattle.std.specs.Prelude.{◌⊎◌, OnErr, IsErrOf, ◌↔◌}
+use Rattle.std.specs.Prelude.{◌⊎◌, OnErr, IsErrOf, ◌↔◌, IsSome}
+use Rattle.vipr_scan.specs.Giving.{rest_of}
 use Rattle.std.proofs.lemmas.List.{length-append}
 use Rattle.vipr_spec.specs.Constraint.{one, Row, at, NamesBelow}
 use Rattle.vipr_spec.specs.Certificate.{Named, Problem, variables, Derivation, Certificate, MeetsPrimal, IsProof, count}
@@ -11,9 +12,9 @@ use Rattle.vipr_spec.specs.Verdict.{spelled, of_solution, meets_primal, meets_du
 use Rattle.vipr_spec.specs.Progress.{Answers, derivations_from, solutions_from}
 use Rattle.vipr_spec.proofs.Prefix.{count_next}
 use Rattle.vipr_spec.proofs.Remains.{problem_fault, problem_ok, solution_fault, solution_passes, solution_fails, solutions_unmet, derivations_fault, derivations_begin, derivation_fault, derivation_passes, derivation_fails, end_fault, end_unproved, end_verified}
-use Rattle.vipr_tokens.specs.Faults.{Fails}
-use Rattle.vipr_tokens.specs.declared.error.TextError.{TextError}
-use Rattle.vipr_text.specs.Readers.{Items, Knows, Remembers}
+use Rattle.vipr_scan.specs.Faults.{Fails}
+use Rattle.vipr_scan.specs.declared.error.TextError.{TextError}
+use Rattle.vipr_read.specs.Items.{Items, Knows, Remembers}
 use Rattle.vipr_rules.specs.Solution.{test_of}
 use Rattle.vipr_check.specs.declared.verdict.Refusal.{Refusal}
 use Rattle.vipr_check.specs.declared.verdict.Report.{Report}
@@ -62,7 +63,7 @@ pub finish_unspent : (c : Certificate) (k l : State) (x : Result Report Stop) �
 finish_unspent c k l (Ok r) h = λ e. cc
 finish_unspent c k l (Err e) h = some_stop e (first_unspent h.0 e h.1.answer)
 
-pub at_start : (p : Problem) (ss : List (Named Row)) (k l : State) (r : Items) → IsAmong p ss k r → EndsSolutions ss k l (Ok tt) → (new : Items) → Knows new p → new.reading.spent ≡ false → new.constraints + new.left < 2 ^ 32
+pub at_start : (p : Problem) (ss : List (Named Row)) (k l : State) (r : Items) → IsAmong p ss k r → EndsSolutions ss k l (Ok tt) → (new : Items) → Knows new p → new.failed ≡ false → new.constraints + new.left < 2 ^ 32
     → IsAt (start p ss) l new
 at_start p ss k l r is h new knows unspent room = record {
   has = subst (λ q. HasSteps (start q ss) l.progress) is.problem h.1;
@@ -83,20 +84,20 @@ reached_later c k l old mid new h i = record {
   leads = λ told. let a = h.leads told in let b = i.leads a.told in record { told = b.told; answers = λ x y. a.answers x (b.answers x y) };
 }
 
-pub ended_later : (c : Certificate) (k : State) (old mid : Items) (x : Result Verdict Fault) → (h : HasReached c old k mid) → old.reading.told ≡ true
-    → (mid.reading.told ≡ true → Says (Answers one (derivations_from h.now mid.left mid.reading.left)) x) → Says (Answers one (derivations_from c old.left old.reading.left)) x
-ended_later c k old mid x h told s = let a = h.leads told in Says-by (Answers one (derivations_from h.now mid.left mid.reading.left)) (Answers one (derivations_from c old.left old.reading.left)) x a.answers (s a.told)
+pub ended_later : (c : Certificate) (k : State) (old mid : Items) (x : Result Verdict Fault) → (h : HasReached c old k mid) → IsSome old.rest
+    → (IsSome mid.rest → Says (Answers one (derivations_from h.now mid.left (rest_of mid.rest))) x) → Says (Answers one (derivations_from c old.left (rest_of old.rest))) x
+ended_later c k old mid x h told s = let a = h.leads told in Says-by (Answers one (derivations_from h.now mid.left (rest_of mid.rest))) (Answers one (derivations_from c old.left (rest_of old.rest))) x a.answers (s a.told)
 
-module _ (c : Certificate) (k l : State) (old new : Items) (d : Derivation) (is : IsAt c k old) (fewer : old.left ≡ suc new.left) (memory : Remembers old new) (unspent : new.reading.spent ≡ false)
-    (read : old.reading.told ≡ true → (derivation_read c.problem old.reading.left ≡ Ok (d, new.reading.left)) × (new.reading.told ≡ true)) where
+module _ (c : Certificate) (k l : State) (old new : Items) (d : Derivation) (is : IsAt c k old) (fewer : old.left ≡ suc new.left) (memory : Remembers old new) (unspent : new.failed ≡ false)
+    (read : IsSome old.rest → (derivation_read c.problem (rest_of old.rest) ≡ Ok (d, (rest_of new.rest))) × (IsSome new.rest)) where
   abbrev Left : Answer → Type 0
-  Left a = Answers one (derivations_from c old.left old.reading.left) a
+  Left a = Answers one (derivations_from c old.left (rest_of old.rest)) a
 
-  step_stopped : (h : Halt) → StopsStep c d h → old.reading.told ≡ true → Says Left (stop_answer (first_answer h))
+  step_stopped : (h : Halt) → StopsStep c d h → IsSome old.rest → Says Left (stop_answer (first_answer h))
   step_stopped Memory w told = tt
   step_stopped (Refused r f) (e, named, fails, refusal) told =
-      subst Left (sym refusal) (subst (λ n. Answers one (derivations_from c n old.reading.left) (told_by (of_step (count c) fails.0))) (sym fewer)
-      ((derivation_fails one c new.left old.reading.left d new.reading.left fails.0 (told_by (of_step (count c) fails.0)) (read told).0 fails.1).1 refl))
+      subst Left (sym refusal) (subst (λ n. Answers one (derivations_from c n (rest_of old.rest)) (told_by (of_step (count c) fails.0))) (sym fewer)
+      ((derivation_fails one c new.left (rest_of old.rest) d (rest_of new.rest) fails.0 (told_by (of_step (count c) fails.0)) (read told).0 fails.1).1 refl))
 
   pub goes_on : (x : Result (Unit {0}) Stop) → TakesStep c d k l x → Goes c old l new (step_answer x)
   goes_on (Ok done) h = record {
@@ -111,7 +112,7 @@ module _ (c : Certificate) (k l : State) (old new : Items) (d : Derivation) (is 
     };
     leads = λ told. record {
       told = (read told).1;
-      answers = λ a y. subst (λ n. Answers one (derivations_from c n old.reading.left) a) (sym fewer) ((derivation_passes one c new.left old.reading.left d new.reading.left a (read told).0 h.0).1 y);
+      answers = λ a y. subst (λ n. Answers one (derivations_from c n (rest_of old.rest)) a) (sym fewer) ((derivation_passes one c new.left (rest_of old.rest) d (rest_of new.rest) a (read told).0 h.0).1 y);
     };
   }
   goes_on (Err e) (h, halts, why) = λ told. subst (λ s. Says Left (stop_answer s)) (sym halts.answer) (step_stopped h why told)
@@ -148,24 +149,24 @@ listed_later p ss k l old mid new h i = record {
   answers = λ t a y. h.answers t a (i.answers (h.told t) a y);
 }
 
-pub answered_later : (p : Problem) (ss : List (Named Row)) (k : State) (old mid : Items) (x : Result Verdict Fault) → (h : HasListed p ss old k mid) → old.reading.told ≡ true
-    → (mid.reading.told ≡ true → Says (Answers one (solutions_from p h.now mid.left mid.reading.left)) x) → Says (Answers one (solutions_from p ss old.left old.reading.left)) x
-answered_later p ss k old mid x h told s = Says-by (Answers one (solutions_from p h.now mid.left mid.reading.left)) (Answers one (solutions_from p ss old.left old.reading.left)) x (h.answers told) (s (h.told told))
+pub answered_later : (p : Problem) (ss : List (Named Row)) (k : State) (old mid : Items) (x : Result Verdict Fault) → (h : HasListed p ss old k mid) → IsSome old.rest
+    → (IsSome mid.rest → Says (Answers one (solutions_from p h.now mid.left (rest_of mid.rest))) x) → Says (Answers one (solutions_from p ss old.left (rest_of old.rest))) x
+answered_later p ss k old mid x h told s = Says-by (Answers one (solutions_from p h.now mid.left (rest_of mid.rest))) (Answers one (solutions_from p ss old.left (rest_of old.rest))) x (h.answers told) (s (h.told told))
 
 -- there is a number for one more
 pub one_more : (p : Problem) (ss : List (Named Row)) (k : State) (old : Items) → IsAmong p ss k old → 0 < old.left → k.progress.solutions + 1 < 2 ^ 32
 one_more p ss k old is some = let e = is.has.solutions in let r = is.room in omega (arith, e, r, some)
 
-module _ (p : Problem) (ss : List (Named Row)) (k l : State) (old new : Items) (s : Named Row) (is : IsAmong p ss k old) (fewer : old.left ≡ suc new.left) (memory : Remembers old new) (unspent : new.reading.spent ≡ false)
-    (read : old.reading.told ≡ true → (solution_read p old.reading.left ≡ Ok (s, new.reading.left)) × (new.reading.told ≡ true)) where
+module _ (p : Problem) (ss : List (Named Row)) (k l : State) (old new : Items) (s : Named Row) (is : IsAmong p ss k old) (fewer : old.left ≡ suc new.left) (memory : Remembers old new) (unspent : new.failed ≡ false)
+    (read : IsSome old.rest → (solution_read p (rest_of old.rest) ≡ Ok (s, (rest_of new.rest))) × (IsSome new.rest)) where
   abbrev Remaining : Answer → Type 0
-  Remaining a = Answers one (solutions_from p ss old.left old.reading.left) a
+  Remaining a = Answers one (solutions_from p ss old.left (rest_of old.rest)) a
 
-  solution_stopped : (h : Halt) → StopsSolution p ss s h → old.reading.told ≡ true → Says Remaining (stop_answer (first_answer h))
+  solution_stopped : (h : Halt) → StopsSolution p ss s h → IsSome old.rest → Says Remaining (stop_answer (first_answer h))
   solution_stopped Memory w told = tt
   solution_stopped (Refused r f) (e, named, fails, refusal) told =
-      subst Remaining (sym refusal) (subst (λ n. Answers one (solutions_from p ss n old.reading.left) (told_by (of_solution (length ss) s.item (test_of e)))) (sym fewer)
-      ((solution_fails one p ss new.left old.reading.left s new.reading.left (test_of e) (told_by (of_solution (length ss) s.item (test_of e))) (read told).0 fails).1 refl))
+      subst Remaining (sym refusal) (subst (λ n. Answers one (solutions_from p ss n (rest_of old.rest)) (told_by (of_solution (length ss) s.item (test_of e)))) (sym fewer)
+      ((solution_fails one p ss new.left (rest_of old.rest) s (rest_of new.rest) (test_of e) (told_by (of_solution (length ss) s.item (test_of e))) (read told).0 fails).1 refl))
 
   pub goes_among : (x : Result (Unit {0}) Stop) → TakesSolution ss s k l x → GoesAmong p ss old l new (step_answer x)
   goes_among (Ok done) h = record {
@@ -180,8 +181,8 @@ module _ (p : Problem) (ss : List (Named Row)) (k l : State) (old new : Items) (
       room = (let e = length-append ss (s ∷ []) in let r = is.room in omega (arith, e, r, fewer));
     };
     told = λ told. (read told).1;
-    answers = λ told a y. subst (λ n. Answers one (solutions_from p ss n old.reading.left) a) (sym fewer)
-        ((solution_passes one p ss new.left old.reading.left s new.reading.left a (read told).0 (subst (λ q. FirstFailing (PassesSolution q s.item) (solution_tests q) None) is.problem h.0)).1 y);
+    answers = λ told a y. subst (λ n. Answers one (solutions_from p ss n (rest_of old.rest)) a) (sym fewer)
+        ((solution_passes one p ss new.left (rest_of old.rest) s (rest_of new.rest) a (read told).0 (subst (λ q. FirstFailing (PassesSolution q s.item) (solution_tests q) None) is.problem h.0)).1 y);
   }
   goes_among (Err e) (h, halts, why) = λ told. subst (λ x. Says Remaining (stop_answer x)) (sym halts.answer) (solution_stopped h (subst (λ q. StopsSolution q ss s h) is.problem why) told)
 
@@ -216,7 +217,7 @@ ending_read p ss m r s x met is h = Says-by (Answers one (derivations_from (star
 
 -- ---- the problem
 
-pub among_start : (p : Problem) (k : State) (r : Items) → k.progress.problem ≡ p → HasSolutions [] k.progress → k.in_solutions ≡ true → k.halt ≡ None → Knows r p → r.reading.spent ≡ false → r.left < 2 ^ 32 → IsAmong p [] k r
+pub among_start : (p : Problem) (k : State) (r : Items) → k.progress.problem ≡ p → HasSolutions [] k.progress → k.in_solutions ≡ true → k.halt ≡ None → Knows r p → r.failed ≡ false → r.left < 2 ^ 32 → IsAmong p [] k r
 among_start p k r same has phase runs knows unspent room = record { problem = same; has = has; phase = phase; runs = runs; knows = knows; unspent = unspent; room = omega arith }
 
 pub problem_failed : (r : Rest) (e : TextError) → Fails e (problem_read r) → Says (IsAnswer one r) (text_answer e)

@@ -17,7 +17,7 @@ use Rattle.vipr_spec.proofs.Soundness.{as_good_refl, as_good_trans, as_good_tota
 use Rattle.vipr_spec.proofs.Best.{admitted_by}
 use Rattle.vipr_spec.proofs.Checked.{checked_start}
 use Rattle.vipr_linear.specs.Constraint.{condition_of}
-use Rattle.vipr_rules.specs.declared.entries.Entry.{Entry}
+use Rattle.vipr_rules.specs.declared.rows.Entry.{Entry}
 use Rattle.vipr_rules.specs.Table.{Table}
 use Rattle.vipr_rules.specs.History.{IsTableOf, is_held}
 use Rattle.vipr_rules.proofs.HistoryLemmas.{IsTableOf-empty}

@@ -4,8 +4,8 @@ use Rattle.vipr_spec.specs.Causes as cause
 use Rattle.vipr_spec.specs.Verdict.{solution_cause}
 use Rattle.vipr_rules.specs.Solution.{test_of}
 use Rattle.vipr_rules.specs.declared.solution.SolutionError.{SolutionError}
-use Rattle.vipr_rules.specs.declared.failure.RuleError.{RuleError}
-use Rattle.vipr_rules.specs.declared.failure.RuleError.TheVariants as rule
+use Rattle.vipr_rules.specs.declared.error.RuleError.{RuleError}
+use Rattle.vipr_rules.specs.declared.error.RuleError.TheVariants as rule
 use Rattle.vipr_check.specs.declared.verdict.Place.TheVariants.{Sol, Der}
 use Rattle.vipr_check.specs.declared.halt.Finding.TheVariants.{Solution, Derived}
 use Rattle.vipr_check.specs.declared.halt.Stop.{Stop}

@@ -12,7 +12,7 @@ use Rattle.vipr_rules.specs.Table.{Table, empty_table}
 use Rattle.vipr_rules.specs.TableCode.{table_code}
 use Rattle.vipr_rules.specs.Claim.{IsTargetOf}
 use Rattle.vipr_rules.specs.declared.claim.Target.{Target}
-use Rattle.vipr_rules.specs.Before.{DerivedBelow}
+use Rattle.vipr_rules.specs.Table.{DerivedBelow}
 use Rattle.vipr_rules.specs.History.{IsTableOf}
 
 pub record Progress : Type 0 where

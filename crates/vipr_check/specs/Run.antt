@@ -1,12 +1,14 @@
 -- A checker run over a text, item by item
 use Rattle.std.specs.Prelude.{◌≡◌, ◌+◌, ◌<◌, ◌^◌, true, false, List, length, Option, Some, None, Result, Ok, Err}
+use Rattle.std.specs.Prelude.{IsSome}
 use Rattle.vipr_spec.specs.Constraint.{one, Row}
 use Rattle.vipr_spec.specs.Certificate.{Named, Problem, Certificate, count}
 use Rattle.vipr_spec.specs.Verdict.{Answer}
 use Rattle.vipr_spec.specs.Progress.{Answers, solutions_from, derivations_from}
-use Rattle.vipr_tokens.specs.declared.error.TextError.{TextError}
-use Rattle.vipr_tokens.specs.declared.error.TextError.TheVariants as text
-use Rattle.vipr_text.specs.Readers.{Items, Knows}
+use Rattle.vipr_scan.specs.declared.error.TextError.{TextError}
+use Rattle.vipr_scan.specs.declared.error.TextError.TheVariants as text
+use Rattle.vipr_scan.specs.Giving.{rest_of}
+use Rattle.vipr_read.specs.Items.{Items, Knows}
 use Rattle.vipr_check.specs.declared.verdict.Place.TheVariants.{Byte}
 use Rattle.vipr_check.specs.declared.verdict.Report.{Report}
 use Rattle.vipr_check.specs.declared.verdict.Verdict.{Verdict}
@@ -50,20 +52,20 @@ pub record IsAmong (p : Problem) (ss : List (Named Row)) (k : State) (r : Items)
   pub phase : k.in_solutions ≡ true
   pub runs : k.halt ≡ None
   pub knows : Knows r p
-  pub unspent : r.reading.spent ≡ false
+  pub unspent : r.failed ≡ false
   pub room : length ss + r.left < 2 ^ 32
 
 -- so much was read since these solutions that the checker now stands behind more of them
 pub record HasListed (p : Problem) (ss : List (Named Row)) (old : Items) (k : State) (new : Items) : Type 0 where
   pub now : List (Named Row)
   pub is_among : IsAmong p now k new
-  pub told : old.reading.told ≡ true → new.reading.told ≡ true
-  pub answers : old.reading.told ≡ true → (a : Answer) → Answers one (solutions_from p now new.left new.reading.left) a → Answers one (solutions_from p ss old.left old.reading.left) a
+  pub told : IsSome old.rest → IsSome new.rest
+  pub answers : IsSome old.rest → (a : Answer) → Answers one (solutions_from p now new.left (rest_of new.rest)) a → Answers one (solutions_from p ss old.left (rest_of old.rest)) a
 
 -- a solution more was taken, or the answer is that for what was left
 abbrev pub GoesAmong : Problem → List (Named Row) → Items → State → Items → Option (Result Verdict Fault) → Type 0
 GoesAmong p ss old k new None = HasListed p ss old k new
-GoesAmong p ss old k new (Some answer) = old.reading.told ≡ true → Says (Answers one (solutions_from p ss old.left old.reading.left)) answer
+GoesAmong p ss old k new (Some answer) = IsSome old.rest → Says (Answers one (solutions_from p ss old.left (rest_of old.rest))) answer
 
 -- ---- the derivations
 
@@ -73,21 +75,21 @@ pub record IsAt (c : Certificate) (k : State) (r : Items) : Type 0 where
   pub phase : k.in_solutions ≡ false
   pub runs : k.halt ≡ None
   pub knows : Knows r c.problem
-  pub unspent : r.reading.spent ≡ false
+  pub unspent : r.failed ≡ false
   pub room : count c + r.left < 2 ^ 32
 
 -- an answer for the certificate d and what is left then is one for the certificate c and what is left before
 pub record Leads (c : Certificate) (old : Items) (d : Certificate) (new : Items) : Type 0 where
-  pub told : new.reading.told ≡ true
-  pub answers : (a : Answer) → Answers one (derivations_from d new.left new.reading.left) a → Answers one (derivations_from c old.left old.reading.left) a
+  pub told : IsSome new.rest
+  pub answers : (a : Answer) → Answers one (derivations_from d new.left (rest_of new.rest)) a → Answers one (derivations_from c old.left (rest_of old.rest)) a
 
 -- so much was read since the certificate c that the checker now stands behind another one
 pub record HasReached (c : Certificate) (old : Items) (k : State) (new : Items) : Type 0 where
   pub now : Certificate
   pub is_at : IsAt now k new
-  pub leads : old.reading.told ≡ true → Leads c old now new
+  pub leads : IsSome old.rest → Leads c old now new
 
 -- a derivation more was taken, or the answer is that for what was left
 abbrev pub Goes : Certificate → Items → State → Items → Option (Result Verdict Fault) → Type 0
 Goes c old k new None = HasReached c old k new
-Goes c old k new (Some answer) = old.reading.told ≡ true → Says (Answers one (derivations_from c old.left old.reading.left)) answer
+Goes c old k new (Some answer) = IsSome old.rest → Says (Answers one (derivations_from c old.left (rest_of old.rest))) answer

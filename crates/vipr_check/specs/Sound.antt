@@ -7,7 +7,7 @@ use Rattle.vipr_spec.specs.Constraint.{Point, IsTrueAt}
 use Rattle.vipr_spec.specs.Certificate.{Problem, variables, Claim, infeasible, range, IsFeasible, objective_at, IsAsGood, dual_bound}
 use Rattle.vipr_spec.specs.Soundness.{IsAdmittedBy}
 use Rattle.vipr_linear.specs.Constraint.{condition_of}
-use Rattle.vipr_rules.specs.declared.entries.Entry.{Entry}
+use Rattle.vipr_rules.specs.declared.rows.Entry.{Entry}
 use Rattle.vipr_rules.specs.Table.{Table}
 
 -- the dual side of the claim holds at every feasible point

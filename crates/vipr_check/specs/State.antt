@@ -7,11 +7,11 @@ use Rattle.vipr_spec.specs.OnePass.{with_next}
 use Rattle.vipr_spec.specs.Checking.{start}
 use Rattle.vipr_spec.specs.Soundness.{IsShown}
 use Rattle.vipr_spec.specs.Verdict.{step_tests, Test, of_solution, of_step, meets_primal, meets_dual, Passes as PassesTest, PassesSolution, solution_tests, FirstFailing, Reports, Answer, refuses, told_by}
-use Rattle.vipr_rules.specs.Judged.{Passes, Stops}
+use Rattle.vipr_rules.specs.Apply.{Passes, Stops}
 use Rattle.vipr_rules.specs.Table.{advance_table, held as held_in}
 use Rattle.vipr_rules.specs.Solution.{test_of}
 use Rattle.vipr_rules.specs.declared.solution.SolutionError.{SolutionError}
-use Rattle.vipr_rules.specs.declared.failure.RuleError.{RuleError}
+use Rattle.vipr_rules.specs.declared.error.RuleError.{RuleError}
 use Rattle.vipr_check.specs.declared.verdict.Refusal.{Refusal}
 use Rattle.vipr_check.specs.declared.verdict.Report.{Report}
 use Rattle.vipr_check.specs.declared.halt.Stop.{Stop}

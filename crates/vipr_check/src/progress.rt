@@ -8,10 +8,10 @@ ghost use Rattle.vipr_spec.specs.Verdict.{step_tests, FirstFailing, PassesSoluti
 ghost use Rattle.vipr_items.specs.Items.{derivation_of};
 ghost use Rattle.vipr_rules.specs.Table.{step as table_step, advance_table, held as held_in};
 ghost use Rattle.vipr_rules.specs.History.{IsEntryOf};
-ghost use Rattle.vipr_rules.specs.Judged.{Passes, Stops};
+ghost use Rattle.vipr_rules.specs.Apply.{Passes, Stops};
 ghost use Rattle.vipr_rules.specs.Solution.{test_of};
 ghost use Rattle.vipr_rules.specs.declared.claim.Target.TheVariants.{Nothing};
-ghost use Rattle.vipr_rules.specs.declared.failure.RuleError.TheVariants.{Memory};
+ghost use Rattle.vipr_rules.specs.declared.error.RuleError.TheVariants.{Memory};
 ghost use Rattle.vipr_check.specs.View.{report_of};
 ghost use Rattle.vipr_check.specs.Progress.{HasSolutions, HasSteps};
 
@@ -24,7 +24,7 @@ use vipr_linear::{Combination, Solution};
 use vipr_rules::{
     Entry, Rows, RuleError, SolutionError, Target, apply, better, meets_primal, test_solution,
 };
-use vipr_text::{Derivation, Problem};
+use vipr_items::{Derivation, Problem};
 
 /// What is known of a certificate so far.
 #[derive(Drop)]

@@ -1,14 +1,15 @@
 //! Runs a checker over a text: each item is taken before the next one is read.
 
-ghost use Rattle.std.specs.Prelude.{◌≡◌, ◌≢◌, ◌+◌, ◌<◌, ◌^◌, true, false, suc, List, Ok, Err, IfNone};
+ghost use Rattle.std.specs.Prelude.{◌≡◌, ◌≢◌, ◌+◌, ◌<◌, ◌^◌, false, suc, List, Ok, Err, IfNone, IsSome};
+ghost use Rattle.vipr_scan.specs.Giving.{rest_of};
 ghost use Rattle.vipr_spec.specs.Constraint.{one, Row};
 ghost use Rattle.vipr_spec.specs.Certificate.{Named as NamedMeant, Problem as ProblemMeant, Certificate};
 ghost use Rattle.vipr_spec.specs.Reading.{Rest, problem_read};
 ghost use Rattle.vipr_spec.specs.Verdict.{Answer, IsAnswer};
 ghost use Rattle.vipr_spec.specs.Progress.{Answers, derivations_from, solutions_from};
-ghost use Rattle.vipr_text.specs.Readers.{Items, Knows};
-ghost use Rattle.vipr_text.specs.Whole.{rest_of, IfTold};
-ghost use Rattle.vipr_tokens.specs.declared.error.TextError.TheVariants as text_error;
+ghost use Rattle.vipr_read.specs.Items.{Items, Knows};
+ghost use Rattle.vipr_bytes.specs.Known.{text_of, IfKnown};
+ghost use Rattle.vipr_scan.specs.declared.error.TextError.TheVariants as text_error;
 ghost use Rattle.vipr_check.specs.View.{Says};
 ghost use Rattle.vipr_check.specs.Run.{text_answer, stop_answer, step_answer, end_answer, IsAmong, GoesAmong, IsAt, Goes};
 
@@ -18,11 +19,13 @@ use crate::verdict::{Fault, Place, Refusal, Report, Verdict};
 use std::alloc::Global;
 use vipr_bytes::Source;
 use vipr_rules::Rows;
-use vipr_text::{CertReader, Derivations, Problem, Solutions, TextError};
+use vipr_items::Problem;
+use vipr_read::{CertReader, Derivations, Solutions};
+use vipr_scan::TextError;
 
 /// The verdict on the certificate that is read from `source`.
 pub(crate) fn run<R: Source + Drop, S: Rows>(alloc: Global, source: R) -> Result<Verdict, Fault>
-    ensures { IfTold (R.input source) (λ i. Says (IsAnswer one (rest_of i)) result) }
+    ensures { IfKnown (R.input source) (λ i. Says (IsAnswer one (text_of i)) result) }
 {
     let reader = CertReader::new(alloc, source)?;
     match reader.read_problem(alloc) {
@@ -38,10 +41,10 @@ fn after_problem<R: Source + Drop, S: Rows>(
     solutions: Solutions<R>,
 ) -> Result<Verdict, Fault>
     requires knows { Knows solutions problem }
-    requires unspent { solutions.reading.spent ≡ false }
+    requires unspent { solutions.failed ≡ false }
     requires counted { solutions.left < 2 ^ 32 }
-    ensures { solutions.reading.told ≡ true → (r : Rest)
-        → problem_read r ≡ Ok ((problem, solutions.left), solutions.reading.left)
+    ensures { IsSome solutions.rest → (r : Rest)
+        → problem_read r ≡ Ok ((problem, solutions.left), (rest_of solutions.rest))
         → Says (IsAnswer one r) result }
 {
     let checker: Checker<S> = Checker::new(alloc, problem)?;
@@ -56,8 +59,8 @@ fn after_solutions<R: Source + Drop, S: Rows>(
 ) -> Result<Verdict, Fault>
     requires { (p : ProblemMeant) × (ss : List (NamedMeant Row)) × IsAmong p ss checker solutions }
     ensures { (p : ProblemMeant) (ss : List (NamedMeant Row)) → IsAmong p ss checker solutions
-        → solutions.reading.told ≡ true
-        → Says (Answers one (solutions_from p ss solutions.left solutions.reading.left)) result }
+        → IsSome solutions.rest
+        → Says (Answers one (solutions_from p ss solutions.left (rest_of solutions.rest))) result }
 {
     'solutions: while solutions.left() > 0 {
         match next_solution(alloc, &mut checker, &mut solutions) {
@@ -99,8 +102,8 @@ fn after_last_solution<R: Source + Drop, S: Rows>(
     requires among { (p : ProblemMeant) × (ss : List (NamedMeant Row))
         × IsAmong p ss checker solutions }
     ensures { (p : ProblemMeant) (ss : List (NamedMeant Row)) → IsAmong p ss checker solutions
-        → solutions.reading.told ≡ true
-        → Says (Answers one (solutions_from p ss 0 solutions.reading.left)) result }
+        → IsSome solutions.rest
+        → Says (Answers one (solutions_from p ss 0 (rest_of solutions.rest))) result }
 {
     if let Err(stop) = checker.end_solutions() {
         return stopped(stop);
@@ -118,8 +121,8 @@ fn after_steps<R: Source + Drop, S: Rows>(
     mut derivations: Derivations<R>,
 ) -> Result<Verdict, Fault>
     requires { (c : Certificate) × IsAt c checker derivations }
-    ensures { (c : Certificate) → IsAt c checker derivations → derivations.reading.told ≡ true
-        → Says (Answers one (derivations_from c derivations.left derivations.reading.left)) result }
+    ensures { (c : Certificate) → IsAt c checker derivations → IsSome derivations.rest
+        → Says (Answers one (derivations_from c derivations.left (rest_of derivations.rest))) result }
 {
     'steps: loop {
         match next_step(alloc, &mut checker, &mut derivations) {

@@ -8,7 +8,8 @@ use std::process::Abort;
 use std::test::Fail;
 use vipr_bytes::{Bytes, Failed, Source};
 use vipr_rules::{KeepAll, LiveOnly};
-use vipr_text::{CertReader, TextError};
+use vipr_read::CertReader;
+use vipr_scan::TextError;
 
 // x >= 1 and x <= 0.
 const INFEASIBLE: &[u8] =

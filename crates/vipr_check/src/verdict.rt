@@ -1,7 +1,7 @@
 //! What a check answers.
 
 use std::alloc::AllocError;
-use vipr_text::Claim;
+use vipr_items::Claim;
 
 /// Where a certificate is refused.
 #[derive(Clone, Copy, Debug, PartialEq, Eq)]

@@ -1,6 +1,7 @@
 use Rattle.std.proofs.Common.{◌≡◌, sym, subst, arith}
 use Rattle.vipr_spec.specs.Constraint.{one}
 use Rattle.vipr_spec.specs.Progress.{Answers, solutions_from}
+use Rattle.vipr_scan.specs.Giving.{rest_of}
 use Rattle.vipr_check.specs.View.{Says}
 use Rattle.vipr_check.proofs.RunLemmas.{listed_now, listed_later, answered_later}
 use Rattle.vipr_check.proofs.run.after_solutions.Goals as goal
@@ -32,4 +33,4 @@ returns g c = λ p ss is told.
     let x = c.after_last_solution.result in
     let zero : mid.left ≡ 0 = omega arith in
     answered_later p ss c.solutions.checker c.args.solutions mid x h told
-    (λ t. subst (λ n. Says (Answers one (solutions_from p h.now n mid.reading.left)) x) (sym zero) (c.after_last_solution.ensures p h.now h.is_among t))
+    (λ t. subst (λ n. Says (Answers one (solutions_from p h.now n (rest_of mid.rest))) x) (sym zero) (c.after_last_solution.ensures p h.now h.is_among t))

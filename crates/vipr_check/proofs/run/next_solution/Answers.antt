@@ -2,6 +2,7 @@ use Rattle.std.proofs.Common.{refl, sym, subst}
 use Rattle.vipr_spec.specs.Constraint.{one}
 use Rattle.vipr_spec.specs.Progress.{Answers, solutions_from}
 use Rattle.vipr_items.specs.Items.{solution_of}
+use Rattle.vipr_scan.specs.Giving.{rest_of}
 use Rattle.vipr_check.specs.View.{Says}
 use Rattle.vipr_check.specs.Run.{GoesAmong}
 use Rattle.vipr_check.proofs.RunLemmas.{one_more, goes_among, solution_missing, solution_unspent}
@@ -25,10 +26,10 @@ returns-in-Ok-Some-clause-step g c = λ p ss is.
     let old = c.args.solutions.now in
     let new = c.next.new.self in
     subst (GoesAmong p ss old c.solution.new.self new) (sym c.after_item.ensures)
-    (goes_among p ss c.args.checker.now c.solution.new.self old new s is h.counted h.remembers h.unspent (λ told. (let r = h.read p is.knows is.unspent told in (r.1, r.2))) c.solution.result (c.solution.ensures.next ss is.runs is.has))
+    (goes_among p ss c.args.checker.now c.solution.new.self old new s is h.counted h.remembers h.working (λ told. (let r = h.read p is.knows told in (r.1, r.2))) c.solution.result (c.solution.ensures.next ss is.runs is.has))
 
 pub returns-in-Err-clause-step : goal.returns-in-Err-clause-step
 returns-in-Err-clause-step g c = λ p ss is told.
     let old = c.args.solutions.now in
-    subst (Says (Answers one (solutions_from p ss old.left old.reading.left))) (sym c.unread.ensures)
-    (solution_missing p ss old.left old.reading.left c.in-Err.error c.requires.some (c.in-Err.ensures.read p is.knows is.unspent told))
+    subst (Says (Answers one (solutions_from p ss old.left (rest_of old.rest)))) (sym c.unread.ensures)
+    (solution_missing p ss old.left (rest_of old.rest) c.in-Err.error c.requires.some (c.in-Err.ensures.read p is.knows told))

@@ -2,6 +2,7 @@ use Rattle.std.proofs.Common.{sym, subst}
 use Rattle.vipr_spec.specs.Constraint.{one, at}
 use Rattle.vipr_spec.specs.Progress.{Answers, derivations_from}
 use Rattle.vipr_items.specs.Items.{derivation_of}
+use Rattle.vipr_scan.specs.Giving.{rest_of}
 use Rattle.vipr_check.specs.View.{Says}
 use Rattle.vipr_check.specs.Run.{Goes, end_answer}
 use Rattle.vipr_check.proofs.RunLemmas.{room_for, names_for, goes_on, finished, derivations_failed, step_unspent, finish_unspent}
@@ -41,17 +42,17 @@ returns-in-Ok-Some-clause-step g c = λ s is.
     let new = c.next.new.self in
     let d = derivation_of c.in-Ok-Some.step in
     subst (Goes s old c.derivation.new.self new) (sym c.after_item.ensures)
-    (goes_on s k c.derivation.new.self old new d is h.counted h.remembers h.unspent (λ told. (let r = h.read s.problem is.knows is.unspent told in (r.1, r.2))) c.derivation.result (c.derivation.ensures.next s is.runs is.has))
+    (goes_on s k c.derivation.new.self old new d is h.counted h.remembers h.working (λ told. (let r = h.read s.problem is.knows told in (r.1, r.2))) c.derivation.result (c.derivation.ensures.next s is.runs is.has))
 
 pub returns-in-Ok-None-clause-step : goal.returns-in-Ok-None-clause-step
 returns-in-Ok-None-clause-step g c = λ s is told.
     let h = rw c.in-Ok-None.field-0-is at c.in-Ok-None.ensures in
-    let r = h.read s.problem is.knows is.unspent told in
-    let left = c.args.derivations.now.reading.left in
+    let r = h.read s.problem is.knows told in
+    let left = (rest_of c.args.derivations.now.rest) in
     let x = finished s c.args.checker.now c.finish.new.self left c.finish.result r.1 (c.finish.ensures.next s is.runs is.has) in
     subst (λ n. Says (Answers one (derivations_from s n left)) c.after_end.result) (sym r.0) (subst (Says (Answers one (derivations_from s 0 left))) (sym c.after_end.ensures) x)
 
 pub returns-in-Err-clause-step : goal.returns-in-Err-clause-step
 returns-in-Err-clause-step g c = λ s is told.
     let old = c.args.derivations.now in
-    subst (Says (Answers one (derivations_from s old.left old.reading.left))) (sym c.unread.ensures) (derivations_failed s old.left old.reading.left c.in-Err.error (c.in-Err.ensures.read s.problem is.knows is.unspent told))
+    subst (Says (Answers one (derivations_from s old.left (rest_of old.rest)))) (sym c.unread.ensures) (derivations_failed s old.left (rest_of old.rest) c.in-Err.error (c.in-Err.ensures.read s.problem is.knows told))

@@ -1,11 +1,13 @@
-use Rattle.std.proofs.Common.{◌≡◌, true, sym, subst}
+use Rattle.std.proofs.Common.{◌≡◌, Some, refl, sym, subst}
 use Rattle.vipr_spec.specs.Constraint.{one}
 use Rattle.vipr_spec.specs.Reading.{problem_read}
 use Rattle.vipr_spec.specs.Verdict.{IsAnswer}
-use Rattle.vipr_tokens.specs.Faults.{Fails}
+use Rattle.std.specs.Prelude.{IsSome}
+use Rattle.vipr_scan.specs.Faults.{Fails}
+use Rattle.vipr_scan.specs.Giving.{rest_of}
 use Rattle.vipr_check.specs.View.{Says}
-use Rattle.vipr_text.specs.Whole.{rest_of}
-use Rattle.vipr_text.proofs.WholeTexts.{IfTold-by}
+use Rattle.vipr_bytes.specs.Known.{text_of}
+use Rattle.vipr_check.proofs.KnownTexts.{known_by}
 use Rattle.vipr_check.proofs.RunLemmas.{problem_failed}
 use Rattle.vipr_check.proofs.run.run.Goals as goal
 
@@ -13,6 +15,7 @@ pub returns-in-Err : goal.returns-in-Err
 returns-in-Err g c =
     let r = c.in_ok-reader.reader in
     let e = c.in-Err.error in
-    IfTold-by (g.R.Source.input c.args.source) (λ i. (r.told ≡ true) × (r.left ≡ rest_of i)) _ (λ i h.
-    subst (Says (IsAnswer one (rest_of i))) (sym c.unread.ensures) (problem_failed (rest_of i) e (subst (λ s. Fails e (problem_read s)) h.1 (c.in-Err.ensures.read h.0))))
+    known_by (g.R.Source.input c.args.source) (λ i. r ≡ Some (text_of i)) _ (λ i h.
+    subst (Says (IsAnswer one (text_of i))) (sym c.unread.ensures)
+    (problem_failed (text_of i) e (subst (λ s. Fails e (problem_read (rest_of s))) h (c.in-Err.ensures.read (subst IsSome (sym h) tt)))))
     c.in_ok-reader.ensures
