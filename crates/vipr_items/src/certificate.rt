@@ -82,22 +82,6 @@ impl Certificate {
         }
     }
 
-    /// The certificate of parts that are known to be within the limits. Nothing is tested.
-    pub fn of_parts(
-        problem: Problem,
-        solutions: Vec<Named<Solution>>,
-        derivations: Vec<Derivation>,
-    ) -> Certificate
-        requires { CanWrite (certificate_with problem solutions.items derivations.items) }
-        ensures { result ≡ certificate_with problem solutions.items derivations.items }
-    {
-        Certificate {
-            problem,
-            solutions,
-            derivations,
-        }
-    }
-
     /// The problem, the solutions and the derivations.
     pub fn into_parts(self) -> (Problem, Vec<Named<Solution>>, Vec<Derivation>)
         ensures parts { self ≡ certificate_with result.0 result.1.items result.2.items }

@@ -62,7 +62,7 @@ returns-in_err-check_split-clause-ruled g c = λ d e is says.
     let k4 = c.in_ok-second_assumption.ensures.known d e is in
     let a1 = c.in_ok-check_assumption.ensures.tests d e k2.1 in
     let a2 = c.in_ok-check_assumption-2.ensures.tests d e k4.1 in
-    let ints = ap (λ (q : Problem). q.integers) is.problem ∙ sym c.ints.ensures in
+    let ints = ap (λ (q : Problem). q.integers) is.problem ∙ sym c.ints.ensures.integers in
     rw (p.1, p.2) (elim (c.in_err-check_split.ensures.tests d e c.args.first.assumption c.args.second.assumption ints (ap condition_of c.constraint.ensures ∙ k2.1.says) (ap condition_of c.constraint-2.ensures ∙ k4.1.says)) [
       | inl memory ↦ inl (memory, free_pass d e c.args.first.conclusion c.args.first.assumption c.args.second.conclusion c.args.second.assumption k1.0 k2.0 k3.0 k4.0 a1 a2)
       | inr stops ↦ inr (stops_7 d e c.args.first.conclusion c.args.first.assumption c.args.second.conclusion c.args.second.assumption k1.0 k2.0 k3.0 k4.0 a1 a2 _ stops)
@@ -77,7 +77,7 @@ returns-in_err-check_domination-clause-ruled g c = λ d e is says.
     let k4 = c.in_ok-second_assumption.ensures.known d e is in
     let a1 = c.in_ok-check_assumption.ensures.tests d e k2.1 in
     let a2 = c.in_ok-check_assumption-2.ensures.tests d e k4.1 in
-    let ints = ap (λ (q : Problem). q.integers) is.problem ∙ sym c.ints.ensures in
+    let ints = ap (λ (q : Problem). q.integers) is.problem ∙ sym c.ints.ensures.integers in
     let s = c.in_ok-check_split.ensures.tests d e c.args.first.assumption c.args.second.assumption ints (ap condition_of c.constraint.ensures ∙ k2.1.says) (ap condition_of c.constraint-2.ensures ∙ k4.1.says) in
     let x1 = ap condition_of c.constraint-3.ensures ∙ k1.1.says in
     rw (p.1, p.2) (elim c.in_err-check_domination.ensures [
@@ -94,7 +94,7 @@ returns-in_err-check_domination-2-clause-ruled g c = λ d e is says.
     let k4 = c.in_ok-second_assumption.ensures.known d e is in
     let a1 = c.in_ok-check_assumption.ensures.tests d e k2.1 in
     let a2 = c.in_ok-check_assumption-2.ensures.tests d e k4.1 in
-    let ints = ap (λ (q : Problem). q.integers) is.problem ∙ sym c.ints.ensures in
+    let ints = ap (λ (q : Problem). q.integers) is.problem ∙ sym c.ints.ensures.integers in
     let s = c.in_ok-check_split.ensures.tests d e c.args.first.assumption c.args.second.assumption ints (ap condition_of c.constraint.ensures ∙ k2.1.says) (ap condition_of c.constraint-2.ensures ∙ k4.1.says) in
     let x1 = ap condition_of c.constraint-3.ensures ∙ k1.1.says in
     let d1 = constraint_passes d e c.args.first.conclusion _ c.args.stated.now x1 says c.in_ok-check_domination.ensures in
@@ -145,7 +145,7 @@ returns-clause-ruled g c = λ d e is says.
     let k4 = c.in_ok-second_assumption.ensures.known d e is in
     let a1 = c.in_ok-check_assumption.ensures.tests d e k2.1 in
     let a2 = c.in_ok-check_assumption-2.ensures.tests d e k4.1 in
-    let ints = ap (λ (q : Problem). q.integers) is.problem ∙ sym c.ints.ensures in
+    let ints = ap (λ (q : Problem). q.integers) is.problem ∙ sym c.ints.ensures.integers in
     let s = c.in_ok-check_split.ensures.tests d e c.args.first.assumption c.args.second.assumption ints (ap condition_of c.constraint.ensures ∙ k2.1.says) (ap condition_of c.constraint-2.ensures ∙ k4.1.says) in
     let x1 = ap condition_of c.constraint-3.ensures ∙ k1.1.says in
     let d1 = constraint_passes d e c.args.first.conclusion _ c.args.stated.now x1 says c.in_ok-check_domination.ensures in
@@ -157,7 +157,7 @@ returns-clause-ruled g c = λ d e is says.
 
 pub returns-clause-sound : goal.returns-clause-sound
 returns-clause-sound g c = λ says x at.
-    let split = subst (λ i. IsSplit one i (condition_of c.constraint.result.now) (condition_of c.constraint-2.result.now)) c.ints.ensures c.in_ok-check_split.ensures.ok in
+    let split = subst (λ i. IsSplit one i (condition_of c.constraint.result.now) (condition_of c.constraint-2.result.now)) c.ints.ensures.integers c.in_ok-check_split.ensures.ok in
     branches_true _ says x _ _ _ _ _ _ c.args.first.assumption c.args.second.assumption _ _ _ _ _
     (c.in_ok-first_assumption.ensures.stated c.in_ok-check_assumption.ensures.ok says x at ∙ sym (ap condition_of c.constraint.ensures))
     (c.in_ok-second_assumption.ensures.stated c.in_ok-check_assumption-2.ensures.ok says x at ∙ sym (ap condition_of c.constraint-2.ensures))

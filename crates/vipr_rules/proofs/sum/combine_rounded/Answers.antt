@@ -18,7 +18,7 @@ returns-in_err-sum-clause-ruled g c = λ d e is says.
 pub returns-in_err-check_rounded-clause-ruled : goal.returns-in_err-check_rounded-clause-ruled
 returns-in_err-check_rounded-clause-ruled g c = λ d e is says.
     let sum = c.in_ok-sum.ensures.sum d e is in
-    let ints = ap (λ (q : Problem). q.integers) is.problem ∙ sym c.ints.ensures in
+    let ints = ap (λ (q : Problem). q.integers) is.problem ∙ sym c.ints.ensures.integers in
     let p = err_from_is_err_and c.from_residual-in_err-check_rounded.result c.from_residual-in_err-check_rounded.ensures.1 in
     rw (p.1, p.2) (elim (c.in_err-check_rounded.ensures.tests d e c.args.entries.now sum.1 ints says) [
       | inl memory ↦ inl (memory, refl)
@@ -28,7 +28,7 @@ returns-in_err-check_rounded-clause-ruled g c = λ d e is says.
 pub returns-clause-ruled : goal.returns-clause-ruled
 returns-clause-ruled g c = λ d e is says.
     let sum = c.in_ok-sum.ensures.sum d e is in
-    let ints = ap (λ (q : Problem). q.integers) is.problem ∙ sym c.ints.ensures in (
+    let ints = ap (λ (q : Problem). q.integers) is.problem ∙ sym c.ints.ensures.integers in (
       passes_both d e (sum_tests c.args.entries.now) (roundable c.args.entries.now ∷ by_rounding c.args.entries.now ∷ []) sum.0 (c.in_ok-check_rounded.ensures.tests d e c.args.entries.now sum.1 ints says),
       sum.2,
     )
@@ -37,5 +37,5 @@ pub returns-clause-sound : goal.returns-clause-sound
 returns-clause-sound g c = λ says x here h.
     let n = variables c.args.context.now.problem.now in
     let rounds = c.in_ok-check_rounded.ensures.dominates in
-    let whole = subst (λ i. IsWholeRow i (at c.in_ok-sum.sum.constraint.row)) c.ints.ensures rounds.0 in
+    let whole = subst (λ i. IsWholeRow i (at c.in_ok-sum.sum.constraint.row)) c.ints.ensures.integers rounds.0 in
     rounded_true n x _ _ (whole_value _ n x _ whole here.admitted.feasible.whole) rounds.1 (c.in_ok-sum.ensures.sound says x here h)
