@@ -17,5 +17,5 @@ returns-in-Err g c =
     let e = c.in-Err.error in
     known_by (g.R.Source.input c.args.source) (λ i. r ≡ Some (text_of i)) _ (λ i h.
     subst (Says (IsAnswer one (text_of i))) (sym c.unread.ensures)
-    (problem_failed (text_of i) e (subst (λ s. Fails e (problem_read (rest_of s))) h (c.in-Err.ensures.read (subst IsSome (sym h) tt)))))
+    (problem_failed (text_of i) e (subst (λ s. Fails e (problem_read (rest_of s))) h (c.in-Err.ensures.read (subst IsSome (sym h) refl)))))
     c.in_ok-reader.ensures

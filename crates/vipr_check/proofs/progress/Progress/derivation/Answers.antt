@@ -6,6 +6,7 @@ use Rattle.vipr_linear.specs.declared.constraint.Constraint.{Constraint}
 use Rattle.vipr_items.specs.Items.{derivation_of}
 use Rattle.vipr_rules.specs.Claim.{IsTargetOf}
 use Rattle.vipr_check.specs.Progress.{Progress as Known, HasSteps}
+use Rattle.vipr_check.proofs.CauseLemmas.{map_right, refusal_stops}
 use Rattle.vipr_check.proofs.ProgressLemmas.{best_here, back, steps_next, ready_advance, ready_step}
 use Rattle.vipr_check.proofs.progress.Progress.derivation.Goals as goal
 
@@ -15,7 +16,7 @@ returns-in_err-entry-clause-next g c = λ s has.
     let k = c.self.inside in
     let p = err_from_is_err_and c.from_residual.result c.from_residual.ensures.1 in
     let judged = c.in_err-entry.ensures.judged s is.problem is.rows (back s _ is) (best_here s.problem k.problem s.solutions k.best _ is.problem c.as_ref.ensures.value is.best) in
-    rw (p.1, p.2) judged
+    rw (p.1, p.2) (map_right (refusal_stops s (derivation_of c.args.step.now) c.in_err-entry.field-0.0) judged)
 
 pub invariant_of-self-in_err-held : goal.invariant_of-self-in_err-held
 invariant_of-self-in_err-held g c =
