@@ -17,7 +17,7 @@ use Rattle.vipr_write.specs.declared.write.WriteError.TheVariants as write
 use Rattle.vipr_check.specs.declared.verdict.Place.TheVariants.{Byte}
 use Rattle.vipr.specs.Output.{Stays, Took}
 use Rattle.vipr.specs.Run.{write_fault_for}
-use Rattle.vipr.specs.Show.{Kind, Shows, text_of, text_read}
+use Rattle.vipr.specs.Show.{Kind, Shows, text_spelling, text_read}
 use Rattle.vipr.specs.declared.fault.Fault.{Fault}
 use Rattle.vipr.specs.declared.fault.Fault.TheVariants.{Read}
 use Rattle.vipr.specs.declared.show.Shown.{Shown}
@@ -52,9 +52,9 @@ exact_by old new None c r given h = tt
 exact_by old new (Some i) c r given h = λ short. given (text_read (certificate_read (text_of i))) (h short)
 
 pub spelled_by : (old new : Option Output) (source : Option Input) (c : Certificate) (r : Result Shown Fault) → ((k : Kind) → k.Spelled c → Shows k old new r)
-    → IfWhole source (λ bytes. Spells bytes c) → IfWhole source (λ bytes. Shows (text_of bytes) old new r)
+    → IfWhole source (λ bytes. Spells bytes c) → IfWhole source (λ bytes. Shows (text_spelling bytes) old new r)
 spelled_by old new None c r given h = tt
-spelled_by old new (Some i) c r given h = λ short whole. given (text_of i.bytes) (h short whole)
+spelled_by old new (Some i) c r given h = λ short whole. given (text_spelling i.bytes) (h short whole)
 
 -- nothing was written
 pub stays : (old : Option Output) → Stays old old
@@ -63,7 +63,7 @@ stays (Some o) = refl
 
 -- a text with a refusal is that of no certificate
 pub none_spelled : (old : Option Output) (source : Option Input) (e : TextError) (cause offset : ℕ) → e ≡ error.Refused cause offset
-    → IfWhole source (λ bytes. (c : Certificate) → Spells bytes c → (fails e ≡ Ok c) ⊎ (fails e ≡ Err error.Memory)) → IfWhole source (λ bytes. Shows (text_of bytes) old old (Ok (Refused (record { cause = cause; place = Byte offset }))))
+    → IfWhole source (λ bytes. (c : Certificate) → Spells bytes c → (fails e ≡ Ok c) ⊎ (fails e ≡ Err error.Memory)) → IfWhole source (λ bytes. Shows (text_spelling bytes) old old (Ok (Refused (record { cause = cause; place = Byte offset }))))
 none_spelled old None e cause offset is only = tt
 none_spelled old (Some i) e cause offset is only = λ short whole. ((λ c s. never c (only short whole c s)), stays old)
   where
@@ -73,7 +73,7 @@ none_spelled old (Some i) e cause offset is only = λ short whole. ((λ c s. nev
 
 -- where no read fails, the text is read to its end
 pub never_unread : (old : Option Output) (source : Option Input) (e : TextError) → e ≡ error.Read → IfKnown source (λ i. Fails e (certificate_read (text_of i)))
-    → IfWhole source (λ bytes. Shows (text_of bytes) old old (Err Read))
+    → IfWhole source (λ bytes. Shows (text_spelling bytes) old old (Err Read))
 never_unread old None e is h = tt
 never_unread old (Some i) e is h = λ short whole. (true_not_false (sym (failed (h short)) ∙ whole), stays old)
   where

@@ -43,8 +43,8 @@ text_read r = record {
 }
 
 -- a text of which no read fails
-abbrev pub text_of : List ℕ → Kind
-text_of bytes = record {
+abbrev pub text_spelling : List ℕ → Kind
+text_spelling bytes = record {
   Spelled = λ c. Spells bytes c;
   Unspelled = λ _. (c : Certificate) → Spells bytes c → ⊥;
   Unread = ⊥;

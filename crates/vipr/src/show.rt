@@ -2,7 +2,7 @@
 ghost use Rattle.vipr_spec.specs.Reading.{certificate_read};
 ghost use Rattle.vipr_bytes.specs.Known.{text_of, IfKnown, IfWhole};
 ghost use Rattle.vipr.specs.Run.{PrintsText, known_by, unknown};
-ghost use Rattle.vipr.specs.Show.{Shows, any_text, text_of, text_read};
+ghost use Rattle.vipr.specs.Show.{Shows, any_text, text_spelling, text_read};
 
 use crate::fault::Fault;
 use crate::text::RefusalLine;
@@ -37,7 +37,7 @@ pub fn show<R: Source + Drop, W: Sink>(
     // The certificate, or the refusal, is that of the definitions for the bytes that the source gives, in whatever pieces.
     ensures exact { IfKnown (R.input source) (λ i. Shows (text_read (certificate_read (text_of i))) (W.output writer.old) (W.output writer.new) result) }
     // The certificate is what the text spells, and it is refused where it spells none.
-    ensures spelled { IfWhole (R.input source) (λ bytes. Shows (text_of bytes) (W.output writer.old) (W.output writer.new) result) }
+    ensures spelled { IfWhole (R.input source) (λ bytes. Shows (text_spelling bytes) (W.output writer.old) (W.output writer.new) result) }
 {
     match read_certificate(alloc, source) {
         Ok(certificate) => {

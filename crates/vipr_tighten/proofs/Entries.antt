@@ -1,7 +1,7 @@
 -- Entries under new indices, one after the other
 use Rattle.std.proofs.Common.{◌≡◌, ℕ, zero, suc, ◌+◌, ◌<◌, List, [], ◌∷◌, ◌++◌, take, drop, map, length, get_or, All, arith, refl, sym, ◌∙◌, ap, ap₂, add-one, append-nil}
 use Rattle.std.proofs.Math.ListN.{set}
-use Rattle.std.proofs.lemmas.List.{drop_all, take_all}
+use Rattle.std.proofs.lemmas.List.{drop_all, get_or_read_under, take_all}
 use Rattle.std.proofs.lemmas.List.Elements.{All-get_or}
 use Rattle.vipr_spec.specs.Fraction.{ℚ}
 use Rattle.vipr_tighten.specs.Passes.{index_by}
@@ -20,6 +20,15 @@ set_part g [] i x h e = absurd (omega arith)
 set_part g (y ∷ xs) zero x h e = ap (λ z. g z ∷ xs) e
 set_part g (y ∷ xs) (suc i) x h e = ap (λ l. g y ∷ l) (set_part g xs i x (omega arith) e)
 
+part_size : {A : Type 0} (g : A → A) (xs : List A) (i : ℕ) → length (part g i xs) ≡ length xs
+part_size g [] i = by i
+  where
+    by : (i : ℕ) → length (part g i []) ≡ 0
+    by zero = refl
+    by (suc i) = refl
+part_size g (x ∷ xs) zero = refl
+part_size g (x ∷ xs) (suc i) = ap suc (part_size g xs i)
+
 abbrev pub under : ℕ → List ℕ → ℕ × ℚ → ℕ × ℚ
 under first table e = (index_by first table e.0, e.1)
 
@@ -37,6 +46,13 @@ module _ (first : ℕ) (table : List ℕ) (old : List (ℕ × ℚ)) where
 
     pub next_below : (n : ℕ) → All (λ e. e.0 < n) old → x.0 < n
     next_below n a = let e = ap (λ (y : ℕ × ℚ). y.0) old_one in let l = All-get_or (λ (e : ℕ × ℚ). e.0 < n) old i x h a in omega arith
+
+    size : length now ≡ length old
+    size = ap length so_far.those ∙ part_size (under first table) old i
+
+    -- another reading of it
+    pub same_entry : (y : ℕ × ℚ) → y ≡ get_or now i y → y ≡ x
+    same_entry y e = let s = size in get_or_read_under now i (length now) y x e (omega arith) refl ∙ sym is
 
     pub next_entry : EntriesSoFar first table old (i + 1) (set now i (under first table x))
     next_entry = record {

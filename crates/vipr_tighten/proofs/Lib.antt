@@ -2,3 +2,4 @@ pub mod Marking
 pub mod Referring
 pub mod Entries
 pub mod Renumbering
+pub mod Tightening

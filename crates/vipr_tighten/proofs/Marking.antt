@@ -2,7 +2,7 @@
 use Rattle.std.proofs.Common.{◌≡◌, ℕ, suc, ◌+◌, ◌-◌, ◌<◌, ◌≤◌, Bool, true, false, ◌&&◌, ◌||◌, nat_eq, List, [], ◌∷◌, ◌++◌, take, drop, map, replicate, length, slice_index_or, get_or, Option, Some, None, arith, refl, sym, ◌∙◌, ap, ap₂, subst}
 use Rattle.std.specs.List.{list_any}
 use Rattle.std.proofs.Math.Bool.{or_assoc}
-use Rattle.std.proofs.lemmas.List.{drop_all, get_or-map, get_or-replicate, get_or_read_under, length-map, length-replicate}
+use Rattle.std.proofs.lemmas.List.{drop_all, get_or-map, get_or-replicate, get_or_default, get_or_read_under, length-map, length-replicate}
 use Rattle.std.proofs.lemmas.List.Folds.{list_any_more}
 use Rattle.std.specs.FinMap.{empty}
 use Rattle.vipr_spec.specs.Fraction.{ℚ, zero_ℚ}
@@ -157,3 +157,6 @@ module _ (goal : Option ℕ) (first : ℕ) (ds : List Stored) (j : ℕ) (h : j <
 -- what was read there
 pub mark_read : (marks : List Bool) (j : ℕ) (read b : Bool) → j < length marks → read ≡ get_or marks j read → read ≡ b → has_mark marks j ≡ b
 mark_read marks j read b h is e = sym (get_or_read_under marks j (length marks) read false is h refl) ∙ e
+
+pub mark_is : (marks : List Bool) (j k : ℕ) (d b : Bool) → j ≡ k → k < length marks → get_or marks j d ≡ b → has_mark marks k ≡ b
+mark_is marks j k d b e h is = get_or_default marks k false d h ∙ ap (λ n. get_or marks n d) (sym e) ∙ is

@@ -6,6 +6,8 @@
 
 mod needed;
 mod renumber;
+#[cfg(test)]
+mod tests;
 mod tighten;
 
 pub use tighten::tighten_certificate;

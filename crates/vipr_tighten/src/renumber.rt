@@ -2,7 +2,7 @@
 ghost use Rattle.std.specs.Prelude.{◌≡◌, ◌+◌, ◌<◌, ◌≤◌, ◌&&◌, nat_eq, All, IfOk, Some, None, map};
 ghost use Rattle.std.specs.Prelude.{length};
 ghost use Rattle.std.specs.List.{list_any};
-ghost use Rattle.vipr_spec.specs.OnePass.{NamesEarlier};
+ghost use Rattle.vipr_spec.specs.Certificate.{NamesEarlier};
 ghost use Rattle.vipr_spec.specs.Reading.{is_nonzero, most_count};
 ghost use Rattle.vipr_spec.specs.Tightened.{refers_to, renumbered_entries, renumbered};
 ghost use Rattle.vipr_spec.specs.Tightened.{with_new_indices, kept_derivations, referred_by};

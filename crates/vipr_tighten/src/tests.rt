@@ -1,6 +1,7 @@
 //! Certificates as texts, and what they become.
 use crate::tighten_certificate;
 use std::alloc::Global;
+use std::process::Abort;
 use std::test::Fail;
 use vipr_bytes::{Bytes, FromWrite};
 use vipr_text::{read_certificate, write_certificate};
@@ -116,23 +117,44 @@ g G 1 0 { uns 4 2 5 3 } -1
 
 #[test]
 fn a_cutoff_stays_for_itself_alone(rt: HostRuntime) -> Result<(), Fail> {
-    assert_eq!(rt; tightened(&rt, rt.alloc(), CUTOFF, Some(0))?.as_slice(), UNDERIVED);
-    assert_eq!(rt; tightened(&rt, rt.alloc(), CUTOFF, Some(1))?.as_slice(), CUTOFF);
-    assert_eq!(rt; tightened(&rt, rt.alloc(), CUTOFF, None)?.as_slice(), UNDERIVED);
+    assert_eq!(rt;
+        tightened(&rt, rt.alloc(), CUTOFF, Some(0))?.as_slice(),
+        UNDERIVED
+    );
+    assert_eq!(rt;
+        tightened(&rt, rt.alloc(), CUTOFF, Some(1))?.as_slice(),
+        CUTOFF
+    );
+    assert_eq!(rt;
+        tightened(&rt, rt.alloc(), CUTOFF, None)?.as_slice(),
+        UNDERIVED
+    );
     Ok(())
 }
 
 #[test]
 fn entries_with_multiplier_0_go(rt: HostRuntime) -> Result<(), Fail> {
-    assert_eq!(rt; tightened(&rt, rt.alloc(), IGNORED, Some(2))?.as_slice(), ROUNDED);
-    assert_eq!(rt; tightened(&rt, rt.alloc(), ROUNDED, Some(1))?.as_slice(), ROUNDED);
+    assert_eq!(rt;
+        tightened(&rt, rt.alloc(), IGNORED, Some(2))?.as_slice(),
+        ROUNDED
+    );
+    assert_eq!(rt;
+        tightened(&rt, rt.alloc(), ROUNDED, Some(1))?.as_slice(),
+        ROUNDED
+    );
     Ok(())
 }
 
 #[test]
 fn indices_and_last_references_follow(rt: HostRuntime) -> Result<(), Fail> {
-    assert_eq!(rt; tightened(&rt, rt.alloc(), UNUSED, Some(7))?.as_slice(), SPLIT);
-    assert_eq!(rt; tightened(&rt, rt.alloc(), SPLIT, Some(6))?.as_slice(), SPLIT);
+    assert_eq!(rt;
+        tightened(&rt, rt.alloc(), UNUSED, Some(7))?.as_slice(),
+        SPLIT
+    );
+    assert_eq!(rt;
+        tightened(&rt, rt.alloc(), SPLIT, Some(6))?.as_slice(),
+        SPLIT
+    );
     Ok(())
 }
 

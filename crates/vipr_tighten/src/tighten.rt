@@ -1,7 +1,7 @@
 //! The tightened certificate.
 ghost use Rattle.std.specs.Prelude.{◌≡◌, ◌<◌, IfOk, IfSome};
 ghost use Rattle.vipr_spec.specs.Certificate.{count};
-ghost use Rattle.vipr_spec.specs.OnePass.{RefersBack};
+ghost use Rattle.vipr_spec.specs.Steps.{RefersBack};
 ghost use Rattle.vipr_spec.specs.Tightened.{tightened};
 
 use crate::needed::needed;

@@ -1,7 +1,9 @@
 use Rattle.std.proofs.Common.{◌≡◌, ◌+◌, ◌-◌, ◌<◌, Bool, true, false, Vec, Global, vec_len, map, length, replicate, refl, arith, sym, ap, ◌∙◌, subst}
 use Rattle.std.proofs.lemmas.List.{length-map, with_items_is}
-use Rattle.vipr_items.specs.Items.{derivation_of}
-use Rattle.vipr_tighten.specs.Passes.{has_mark}
+use Rattle.vipr_spec.specs.Tightened.{refers_to}
+use Rattle.vipr_items.specs.Items.{reason_of, derivation_of}
+use Rattle.vipr_items.specs.declared.items.Derivation.{Derivation}
+use Rattle.vipr_tighten.specs.Passes.{has_mark, MarksAlso}
 use Rattle.vipr_tighten.proofs.Marking.{AreMarksFrom, begin_none, begin_goal, next_marked, next_unmarked, marks_end, mark_read}
 use Rattle.vipr_tighten.proofs.needed.needed.Goals as goal
 use Rattle.vipr_tighten.proofs.needed.needed.Goals.{in-Some, in_default}
@@ -60,7 +62,7 @@ loop-i-preserved-then-index c =
     (next_marked c.args.goal c.args.first c.args.derivations.now j (omega arith) c.loop-i.marks.items so_far c.index-derivations-i.result c.index-derivations-i.is
     c.mark_references.new.marks (same ∙ ap length value)
     (mark_read c.loop-i.marks.items j c.index.result.now true (omega arith) c.index.ensures c.if-index.true)
-    (rw value at c.mark_references.ensures))
+    (rw value at (subst (λ (x : Derivation). MarksAlso c.args.first (refers_to (reason_of x.reason)) c.deref_mut-then-index.result.now c.mark_references.new.marks) (sym c.index-derivations-i.is) c.mark_references.ensures)))
 
 pub returns : goal.returns
 returns c =
