@@ -15,9 +15,9 @@ use crate::progress::Progress;
 use crate::verdict::Report;
 use std::alloc::{AllocError, Global};
 use std::marker::Model;
+use vipr_items::{Derivation, Named, Problem};
 use vipr_linear::Solution;
 use vipr_rules::Rows;
-use vipr_items::{Derivation, Named, Problem};
 
 /// Takes a certificate item by item: the problem, each solution, the end of the solutions, each
 /// derivation, the end. It stops at the first item that is at fault.

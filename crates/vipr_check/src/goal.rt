@@ -11,9 +11,9 @@ ghost use Rattle.vipr_rules.specs.Claim.{IsMetBy, IsTargetOf};
 ghost use Rattle.vipr_rules.specs.History.{IsEntryOf};
 ghost use Rattle.vipr_check.specs.Goal.{IsFirstHit};
 
+use vipr_items::Named;
 use vipr_linear::Constraint;
 use vipr_rules::{Entry, Target};
-use vipr_items::Named;
 
 /// The first constraint of a problem that says what it must.
 pub(crate) fn goal_among(target: &Target, constraints: &[Named<Constraint>]) -> Option<u32>

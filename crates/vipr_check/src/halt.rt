@@ -5,8 +5,8 @@ ghost use Rattle.vipr_check.specs.Halts.{first_answer, later_answer, IsSolutionH
 
 use crate::cause;
 use crate::verdict::{Place, Refusal};
-use vipr_rules::{RuleError, SolutionError};
 use vipr_items::Name;
+use vipr_rules::{RuleError, SolutionError};
 
 /// What a call of a `Checker` answers where it doesn't go on.
 #[derive(Clone, Copy, Debug, PartialEq, Eq)]

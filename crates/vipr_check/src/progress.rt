@@ -20,11 +20,11 @@ use crate::verdict::Report;
 use std::alloc::{AllocError, Global};
 use std::marker::Model;
 use vipr_frac::Frac;
+use vipr_items::{Derivation, Problem};
 use vipr_linear::{Combination, Solution};
 use vipr_rules::{
     Entry, Rows, RuleError, SolutionError, Target, apply, better, meets_primal, test_solution,
 };
-use vipr_items::{Derivation, Problem};
 
 /// What is known of a certificate so far.
 #[derive(Drop)]

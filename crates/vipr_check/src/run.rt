@@ -18,9 +18,9 @@ use crate::halt::Stop;
 use crate::verdict::{Fault, Place, Refusal, Report, Verdict};
 use std::alloc::Global;
 use vipr_bytes::Source;
-use vipr_rules::Rows;
 use vipr_items::Problem;
 use vipr_read::{CertReader, Derivations, Solutions};
+use vipr_rules::Rows;
 use vipr_scan::TextError;
 
 /// The verdict on the certificate that is read from `source`.

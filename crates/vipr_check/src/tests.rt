@@ -7,8 +7,8 @@ use std::cell::Cell;
 use std::process::Abort;
 use std::test::Fail;
 use vipr_bytes::{Bytes, Failed, Source};
-use vipr_rules::{KeepAll, LiveOnly};
 use vipr_read::CertReader;
+use vipr_rules::{KeepAll, LiveOnly};
 use vipr_scan::TextError;
 
 // x >= 1 and x <= 0.
