@@ -1,11 +1,13 @@
 #!/usr/bin/env python3
 """Compares the built program with the plain models on the examples and on many damaged copies of them.
 
-usage: compare.py [--all] [PROGRAM [RUNS [SEED]]]      crates/vipr/out/vipr, 2000 runs and seed 1 without them
+usage: compare.py [--profiles] [PROGRAM [RUNS [SEED]]]
 
-Each example is tried as it is. Each run then takes one, changes a few tokens of it, and tries the result. What `check`
-and `show` print on standard output and on standard error, and the exit status, must be what the models say, byte for
-byte. With --all so must what `explain` and `tighten` print, for a program that has them.
+Without them the program is crates/vipr/out/vipr, the runs are 2000 and the seed is 1.
+
+Each example is tried as it is. Each run then takes one, changes a few tokens of it, and tries the result. What each
+command that the program has prints on standard output and on standard error, and the exit status, must be what the
+models say, byte for byte; with --profiles also by the second profile of the rules.
 
 Prints each text on which they differ, and a last line of counts. The exit status is 1 if they differ.
 """
@@ -14,6 +16,7 @@ import re
 import subprocess
 import sys
 from collections import Counter
+from functools import partial
 from pathlib import Path
 
 from plain_check import explained, verdict
@@ -61,25 +64,30 @@ def printed(answer):
     return f"{answer}\n".encode(), b"", 0 if answer.startswith("verified") else 1
 
 
-def checked(text):
-    return printed(verdict(text))
+def checked(text, profile=1):
+    return printed(verdict(text, profile))
 
 
-def with_reason(text):
-    return printed(explained(text))
+def with_reason(text, profile=1):
+    return printed(explained(text, profile))
 
 
-MODELS = {"check": checked, "show": shown}
-ALL_MODELS = {**MODELS, "explain": with_reason, "tighten": tightened}
+MODELS = {"check": checked, "show": shown, "explain": with_reason, "tighten": tightened}
+SECOND = ["--profile", "2"]
 DONE = {"check": "verified", "show": "shown", "explain": "verified", "tighten": "tightened"}
 
 
 def main():
     words = sys.argv[1:]
-    models = MODELS
-    if words[:1] == ["--all"]:
-        words, models = words[1:], ALL_MODELS
+    profiles = words[:1] == ["--profiles"]
+    words = words[profiles:]
     program = words[0] if words else TOP / "crates/vipr/out/vipr"
+    page = subprocess.run([program, "--help"], capture_output=True, text=True, check=True).stdout
+    models = {command: model for command, model in MODELS.items() if f"\n  {command} " in page}
+    tasks = [(command, [command], model) for command, model in models.items()]
+    if profiles:
+        tasks += [(f"{command} by 2", [command, *SECOND], partial(model, profile=2))
+                  for command, model in models.items() if command != "show"]
     runs = int(words[1]) if len(words) > 1 else 2000
     chance = random.Random(int(words[2]) if len(words) > 2 else 1)
     sys.set_int_max_str_digits(0)
@@ -87,15 +95,15 @@ def main():
     short = [text for text in examples if len(text) < 10000]
     counts = Counter(different=0)
     for text in examples + [damaged(chance.choice(short), chance) for _ in range(runs)]:
-        for command, model in models.items():
+        for name, line, model in tasks:
             wanted = model(text)
-            answer = subprocess.run([program, command], input=text, capture_output=True)
+            answer = subprocess.run([program, *line], input=text, capture_output=True)
             got = answer.stdout, answer.stderr, answer.returncode
             if got == wanted:
-                counts[f"{command}: {DONE[command] if wanted[2] == 0 else 'refused'}"] += 1
+                counts[f"{name}: {DONE[line[0]] if wanted[2] == 0 else 'refused'}"] += 1
             else:
                 counts["different"] += 1
-                print(f"{text[:2000]!r}\n  {command}: wanted {wanted!r}, got {got!r}")
+                print(f"{text[:2000]!r}\n  {name}: wanted {wanted!r}, got {got!r}")
     print(", ".join(f"{what} {number}" for what, number in sorted(counts.items())))
     sys.exit(counts["different"] > 0)
 

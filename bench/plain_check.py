@@ -1,7 +1,7 @@
 #!/usr/bin/env python3
 """A plain model of `vipr check`: the rules of docs/FORMAT.md over Python's whole numbers, with no care for speed.
 
-usage: plain_check.py [--explain] [FILE ..]
+usage: plain_check.py [--explain] [--profile 1|2] [FILE ..]
 
 Prints for each file (standard input without one) what `vipr check` is to print, as a second opinion on certificates
 written by hand and on the proved program. It shares no code with it and proves nothing. With --explain it prints what
@@ -226,6 +226,20 @@ def is_split(first, second, integers):
     )
 
 
+def covers(first, second, integers):
+    """The second profile's split: no whole number is above the one bound and below the other."""
+    (row, sense, right), (other, other_sense, other_right) = sorted((first, second), key=lambda c: c[1], reverse=True)
+    return (
+        (sense, other_sense) == ("L", "G")
+        and row == other
+        and whole_at(row, integers)
+        and ceil(other_right) <= floor(right) + 1
+    )
+
+
+SPLITS = {1: is_split, 2: covers}
+
+
 def rounded(constraint, integers, refuse):
     row, sense, right = constraint
     if not whole_at(row, integers):
@@ -236,7 +250,8 @@ def rounded(constraint, integers, refuse):
 
 
 class Checker:
-    def __init__(self, text):
+    def __init__(self, text, profile=1):
+        self.profile = profile
         self.tokens = Tokens(text)
         self.names = []
         self.row_names = []
@@ -307,8 +322,17 @@ class Checker:
     def look_at(self, index):
         if self.goal is None or self.goal_index is not None or self.sets[index]:
             return
-        if dominates(self.constraints[index], self.goal):
+        if self.meets(self.constraints[index]):
             self.goal_index = index
+
+    def meets(self, constraint):
+        """Whether the constraint proves the dual side."""
+        if dominates(constraint, self.goal):
+            return True
+        whole = self.bounds is not None and whole_at(self.objective, self.integers)
+        if self.profile == 1 or not whole or constraint[0] != self.objective:
+            return False
+        return dominates(rounded(constraint, self.integers, None), self.goal)
 
     def solution(self, own):
         name = self.tokens.next()[0]
@@ -391,7 +415,7 @@ class Checker:
                 if index not in self.assumptions:
                     refuse(33, f"index {index}")
             branches = self.constraints[left], self.constraints[right]
-            if not is_split(*branches, self.integers):
+            if not SPLITS[self.profile](*branches, self.integers):
                 refuse(37, f"first {written(branches[0])}", f"second {written(branches[1])}")
             for index in first, second:
                 need(self.constraints[index])
@@ -435,17 +459,17 @@ class Checker:
             self.kept_until[last] = self.kept_until.get(last, 0) + 1
 
 
-def verdict(text, checker=Checker):
+def verdict(text, profile=1, checker=Checker):
     try:
-        return checker(text).run()
+        return checker(text, profile).run()
     except Refused as fault:
         cause, place = fault.args[:2]
         return f"refused {cause} at {place}"
 
 
-def explained(text, checker=Checker):
+def explained(text, profile=1, checker=Checker):
     """The verdict, and what shows it."""
-    run = checker(text)
+    run = checker(text, profile)
     try:
         answer = run.run()
         return f"{answer}\ngoal {'none' if run.goal_index is None else run.goal_index}"
@@ -457,16 +481,18 @@ def explained(text, checker=Checker):
 def main():
     sys.set_int_max_str_digits(0)
     paths = sys.argv[1:]
-    answer = verdict
+    answer, profile = verdict, 1
     if paths[:1] == ["--explain"]:
         paths, answer = paths[1:], explained
+    if paths[:2] in (["--profile", "1"], ["--profile", "2"]):
+        paths, profile = paths[2:], int(paths[1])
     for path in paths or [None]:
         if path is None:
             text = sys.stdin.buffer.read()
         else:
             with open(path, "rb") as file:
                 text = file.read()
-        print(answer(text))
+        print(answer(text, profile))
 
 
 if __name__ == "__main__":

@@ -1,7 +1,7 @@
 #!/usr/bin/env python3
 """A plain model of `vipr tighten`: it takes out of a proof what its goal doesn't need.
 
-usage: plain_tighten.py [FILE ..]
+usage: plain_tighten.py [--profile 1|2] [FILE ..]
 
 Prints for each file (standard input without one) what `vipr tighten` is to write, and on standard error its line of
 counts, or the refusal. The text is read and checked by plain_check.py, and written by plain_show.py. It shares no code
@@ -57,9 +57,9 @@ def needed(goal, rows, derivations):
     return sorted(found)
 
 
-def tightened(text):
+def tightened(text, profile=1):
     """What goes to the output, what goes to standard error, and the exit status."""
-    checker = Checker(text)
+    checker = Checker(text, profile)
     try:
         checker.run()
     except Refused as fault:
@@ -80,7 +80,7 @@ def tightened(text):
             last[other] = number(index)
     written = [derivations[index - rows].line(number, last.get(index, -1)) for index in kept]
     output = b"".join(line + b"\n" for line in lines[:heading] + [b"DER %d" % len(kept)] + written)
-    again = Checker(output)
+    again = Checker(output, profile)
     again.run()
     counts = f"kept {len(kept)} removed {checker.derived - len(kept)} peak {checker.peak} {again.peak}\n"
     return output, counts.encode(), 0
@@ -88,14 +88,16 @@ def tightened(text):
 
 def main():
     sys.set_int_max_str_digits(0)
-    status = 0
-    for path in sys.argv[1:] or [None]:
+    status, profile, paths = 0, 1, sys.argv[1:]
+    if paths[:2] in (["--profile", "1"], ["--profile", "2"]):
+        paths, profile = paths[2:], int(paths[1])
+    for path in paths or [None]:
         if path is None:
             text = sys.stdin.buffer.read()
         else:
             with open(path, "rb") as file:
                 text = file.read()
-        output, errors, one = tightened(text)
+        output, errors, one = tightened(text, profile)
         sys.stdout.buffer.write(output)
         sys.stderr.buffer.write(errors)
         status = max(status, one)

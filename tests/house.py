@@ -194,7 +194,7 @@ def causes_agree():
             re.findall(r'^\| (\d+) \| ([A-Z]\w*) \| ([^|]+?) \|', read(os.path.join(ROOT, 'docs', 'FORMAT.md')), re.M)}
     spec = read(os.path.join(CRATES, 'vipr_spec', 'specs', 'Causes.antt'))
     defined = {int(n): name for name, n in re.findall(r'^([a-z]\w*) = (\d+)$', spec, re.M)}
-    code, said = {}, {}
+    code, said, arms = {}, {}, []
     for crate, part, path in files(('src',), ('.rt',)):
         if re.match(r'causes?\.rt$', os.path.basename(path)):
             text = read(path)
@@ -204,9 +204,10 @@ def causes_agree():
                 code[int(n)] = name
                 if not lead:
                     yield '%s: %s has no line that says what it is' % (shown(path), name)
-            constant = {name: int(n) for name, n in re.findall(r'pub const ([A-Z_]+): u8 = (\d+);', text)}
-            for arm, word in re.findall(r'^\s*([A-Z_]+|\d+) => (?:Some\()?b?"([A-Z]\w*)"', text, re.M):
-                said[int(arm) if arm.isdigit() else constant.get(arm, arm)] = word
+            arms += re.findall(r'^\s*([A-Z_]+) => "([A-Z]\w*)"', text, re.M)
+    constant = {name: n for n, name in code.items()}
+    for arm, word in arms:
+        said[constant.get(arm, arm)] = word
     numbers = sorted(set(page) | set(defined) | set(code))
     for n in numbers:
         name = page.get(n, ('', ''))[0]
@@ -216,11 +217,12 @@ def causes_agree():
             yield 'Causes.antt: cause %d is %s, in docs/FORMAT.md %s' % (n, defined.get(n), name)
         if code.get(n, '').lower() != snake(name):
             yield 'code: cause %d is %s, in docs/FORMAT.md %s' % (n, code.get(n), name)
-        if said and said.get(n) != name:
+        if said.get(n) != name:
             yield 'code: cause %d is called %s, in docs/FORMAT.md %s' % (n, said.get(n), name)
-    spelled = dict((int(n), w) for n, w in re.findall(r'^cause_name (\d+) = (?:Some \()?codes "(\w+)"', spec, re.M))
+    number = {name: n for n, name in defined.items()}
+    spelled = {number.get(name): word for name, word in re.findall(r'\(([a-z]\w*), codes "(\w+)"\)', spec)}
     for n in numbers:
-        if spelled and spelled.get(n) != page.get(n, ('', ''))[0]:
+        if spelled.get(n) != page.get(n, ('', ''))[0]:
             yield 'Causes.antt: cause %d is called %s, in docs/FORMAT.md %s' % (n, spelled.get(n), page.get(n, ('', ''))[0])
 
 

@@ -16,7 +16,7 @@ ROOT = os.path.dirname(os.path.dirname(os.path.abspath(__file__)))
 CRATES = os.path.join(ROOT, 'crates')
 TARGET = os.path.join(ROOT, 'docs', 'STATEMENT.md')
 EXAMPLES = os.path.join(ROOT, 'tests', 'statement_examples.md')
-SPEC_CRATES = ['vipr_spec', 'vipr_bytes']
+SPEC_CRATES = ['vipr_spec', 'vipr_bytes', 'vipr_check']
 
 # Each part: its title, what it is for, and the definitions at its top. A root that isn't there is left out.
 PARTS = [
@@ -27,11 +27,15 @@ PARTS = [
     ('What a proof is, and what spells it',
      'With this part one knows when a text is verified: exactly where it spells a certificate that is a proof. The '
      'rules say what a derivation may conclude, the grammar which tokens spell which certificate.',
-     ['IfKnown', 'IfWhole', 'AreTokens', 'Spells', 'IsProof']),
+     ['IfKnown', 'IfWhole', 'AreTokens', 'SpellsOnly', 'IsProof', 'IfVerified', 'IsVerified']),
     ('Which answer is given',
      'With this part one knows the whole answer: the report of a proof, and of any other text the first cause, in the '
      'order of the tests, with its place.',
      ['IsAnswer', 'Reports', 'IsExplained', 'cause_name']),
+    ('What is proved of the program',
+     'The record is the contract of `check_in`, and under profile one of `check`: each of its fields is a clause, in the '
+     'words of the parts before. A result is what the call answers for a source.',
+     ['Checks']),
 ]
 
 HEAD = '''# The statement
@@ -237,10 +241,11 @@ def text():
         for where in list(dict.fromkeys(os.path.relpath(d.path, CRATES) for d in part)):
             here = [d for d in part if os.path.relpath(d.path, CRATES) == where]
             body.append('### `%s`\n' % where)
-            if all(re.match(r'abbrev pub \S+ : ℕ$', d.lines[0]) and len(d.lines) == 2 for d in here) and len(here) > 5:
-                body.append('```text\n%s\n```\n' % '\n'.join(l for d in here for l in (['-- ' + d.comment] if d.comment else []) + d.lines))
+            numbers = [d for d in here if re.match(r'abbrev pub \S+ : ℕ$', d.lines[0]) and len(d.lines) == 2]
+            if len(numbers) > 5:
+                body.append('```text\n%s\n```\n' % '\n'.join(l for d in numbers for l in (['-- ' + d.comment] if d.comment else []) + d.lines))
                 body.append('*Example.* %s\n' % shown.get(os.path.basename(where), 'The table in [FORMAT.md](FORMAT.md) says when each comes.'))
-                continue
+                here = [d for d in here if d not in numbers]
             for d in here:
                 if d.comment:
                     body.append(d.comment[0].upper() + d.comment[1:] + ('' if d.comment.endswith(('.', ':')) else '.') + '\n')

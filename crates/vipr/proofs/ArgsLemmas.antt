@@ -11,10 +11,10 @@ use Rattle.clap.specs.Simple.{argument_words, built, entered, label_of, names_of
 use Rattle.clap.specs.Words.{Row, Shape, Text, fault_of, first_of, has_subcommand, is_simple, is_simple_and_free, subcommand_name_of, subcommand_of, subcommand_rows_of}
 use Rattle.clap.specs.declared.parser.matches.ArgMatches.{ArgMatches}
 use Rattle.clap.specs.declared.parser.matches.ArgMatches.TheViews.{out-ArgMatches}
-use Rattle.vipr.specs.Args.{asked, asked_by, line, name_of}
+use Rattle.vipr.specs.Args.{asked, asked_by, line, command_word}
 use Rattle.vipr.specs.declared.task.Job.{Job}
 use Rattle.vipr.specs.declared.task.Task.{Task}
-use Rattle.vipr.specs.declared.task.Task.TheVariants.{Check, Show}
+use Rattle.vipr.specs.declared.task.Task.TheVariants.{Check, Explain, Show, Tighten}
 
 pub is_simple_line : is_simple line ≡ true
 unfolding line
@@ -87,20 +87,22 @@ stop_named : (stop : Option (Text × List Text)) (q : Text × List Row) → ente
 stop_named None q h = cc
 stop_named (Some p) q h = named_in (built line).subs p q h
 
-one_of : (name : Text) → IsNamed (built line).subs name → ((t : Task) → name_of t ≡ name → ⊥) → ⊥
+one_of : (name : Text) → IsNamed (built line).subs name → ((t : Task) → command_word t ≡ name → ⊥) → ⊥
 unfolding line
 one_of name (inl h) none = none Check h
-one_of name (inr (inl h)) none = none Show h
-one_of name (inr (inr h)) none = h
+one_of name (inr (inl h)) none = none Explain h
+one_of name (inr (inr (inl h))) none = none Show h
+one_of name (inr (inr (inr (inl h)))) none = none Tighten h
+one_of name (inr (inr (inr (inr h)))) none = h
 
 -- a subcommand that was entered is one of the tasks
-pub never_other : (words : List Text) (q : Text × List Row) → subcommand_of line words ≡ Some q → ((t : Task) → name_of t ≡ q.0 → ⊥) → ⊥
+pub never_other : (words : List Text) (q : Text × List Row) → subcommand_of line words ≡ Some q → ((t : Task) → command_word t ≡ q.0 → ⊥) → ⊥
 never_other words q e none = one_of q.0 (stop_named _ q e) none
 
 pub failed_on : {T : Type 0} (r : Result T Error) (e : Error) (kinds : Kinds) → IsErrAnd r (λ y. y ≡ e) → HasKind kinds e → FailsBy kinds r
 failed_on (Ok x) e kinds h k = absurd h
 failed_on (Err y) e kinds h k = subst (HasKind kinds) (sym h) k
 
-pub is_asked : (words : List Text) (j : Job) (name : Text) (rows : List Row) → subcommand_of line words ≡ Some (name, rows) → name_of j.command ≡ name
-    → option_map (λ s. s.now) j.file ≡ first_of (codes "file") rows → asked_by words ≡ Some (asked j)
-is_asked words j name rows e n f = rw (e, n, f) refl
+pub is_asked : (words : List Text) (j : Job) (name : Text) (rows : List Row) → subcommand_of line words ≡ Some (name, rows) → command_word j.command ≡ name
+    → option_map (λ s. s.now) j.file ≡ first_of (codes "file") rows → option_map (λ s. s.now) j.out ≡ first_of (codes "out") rows → asked_by words ≡ Some (asked j)
+is_asked words j name rows e n f o = rw (e, n, f, o) refl

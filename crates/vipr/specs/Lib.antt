@@ -1,5 +1,7 @@
 pub mod Args
 pub mod Text
+pub mod Explanation
 pub mod Output
-pub mod Run
 pub mod Show
+pub mod Tighten
+pub mod Run

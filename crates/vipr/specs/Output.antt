@@ -24,8 +24,10 @@ abbrev pub IsText : Option (List ℕ) → List ℕ → Type 0
 IsText known text = IfSome known (λ t. text ≡ t)
 
 -- Ok: the text was taken whole. Write: its first n bytes were, and no more. Memory: nothing was.
-abbrev pub Prints : Option (List ℕ) → Option Output → Option Output → Result (Unit {0}) Fault → Type 0
+abbrev pub Prints : Option (List ℕ) → Option Output → Option Output → Result (Unit {0}) Fault
+    → Type 0
 Prints known old new (Ok u) = (text : List ℕ) × IsText known text × Took old new text (Ok tt)
 Prints known old new (Err Read) = ⊥
 Prints known old new (Err Memory) = Stays old new
-Prints known old new (Err (Write n)) = (text : List ℕ) × IsText known text × Took old new text (Err (after_first n))
+Prints known old new (Err (Write n)) = (text : List ℕ) × IsText known text
+    × Took old new text (Err (after_first n))

@@ -1,31 +1,38 @@
 -- What the program answers, and what it prints.
-use Rattle.std.specs.Prelude.{⊤, ◌≡◌, ◌≢◌, ◌⊎◌, ℕ, List, Option, Some, None, Result, Ok, Err, codes, ◌++◌, decimal}
+use Rattle.std.specs.Prelude.{⊤, ◌≡◌, ◌≢◌, ◌⊎◌, ℕ, List, Option, Some, None, Result, Ok, Err, codes}
+use Rattle.std.specs.Prelude.{◌++◌, decimal}
 use Rattle.clap.specs.Words.{IsAmong, Text, fault_of}
 use Rattle.clap.specs.declared.error.ErrorKind.{ErrorKind}
 use Rattle.clap.specs.declared.error.ErrorKind.TheVariants as kind
 use Rattle.vipr_spec.specs.Constraint.{one}
 use Rattle.vipr_spec.specs.Input.{Input}
 use Rattle.vipr_spec.specs.Reading.{certificate_read}
-use Rattle.vipr_spec.specs.Verdict.{IsAnswer}
+use Rattle.vipr_spec.specs.Verdict.{IsAnswer, IsExplained}
 use Rattle.vipr_bytes.specs.Output.{Output}
 use Rattle.vipr_bytes.specs.Known.{text_of}
 use Rattle.vipr_check.specs.View.{Says}
+use Rattle.vipr_check.specs.Run.{SaysInDetail}
+use Rattle.vipr_check.specs.declared.detail.Detail.{Detail}
 use Rattle.vipr_check.specs.declared.verdict.Fault.{Fault as CheckFault}
-use Rattle.vipr_check.specs.declared.verdict.Fault.TheVariants.{Memory as CheckMemory, Read as CheckRead}
+use Rattle.vipr_check.specs.declared.verdict.Fault.TheVariants.{Memory as CheckMemory}
+use Rattle.vipr_check.specs.declared.verdict.Fault.TheVariants.{Read as CheckRead}
 use Rattle.vipr_check.specs.declared.verdict.Verdict.{Verdict}
 use Rattle.vipr_check.specs.declared.verdict.Verdict.TheVariants.{Refused, Verified}
+use Rattle.vipr_tighten.specs.Tightens.{KindOfText, any_kind, kind_read}
 use Rattle.vipr_write.specs.declared.write.WriteError.{WriteError}
 use Rattle.vipr_write.specs.declared.write.WriteError.TheVariants as write
-use Rattle.vipr.specs.Args.{asked_by, line, name_of}
+use Rattle.vipr.specs.Args.{asked_by, line, command_word}
 use Rattle.vipr.specs.Text.{verdict_text}
+use Rattle.vipr.specs.Explanation.{explained_text}
 use Rattle.vipr.specs.Output.{Took, Stays, after_first}
-use Rattle.vipr.specs.Show.{Kind, Shows, any_text, text_read}
+use Rattle.vipr.specs.Show.{Kind, ShowsText, any_text, text_read}
+use Rattle.vipr.specs.Tighten.{WritesTightened}
 use Rattle.vipr.specs.declared.fault.Fault.{Fault}
 use Rattle.vipr.specs.declared.fault.Fault.TheVariants.{Memory, Read, Write}
 use Rattle.vipr.specs.declared.show.Shown.{Shown}
 use Rattle.vipr.specs.declared.show.Shown.TheVariants as shown
 use Rattle.vipr.specs.declared.task.Task.{Task}
-use Rattle.vipr.specs.declared.task.Task.TheVariants.{Check, Show}
+use Rattle.vipr.specs.declared.task.Task.TheVariants.{Check, Explain, Show, Tighten}
 
 -- 0 where the certificate is verified, 1 where it is refused
 abbrev pub status_for : Verdict → ℕ
@@ -56,71 +63,116 @@ fault_text Read = codes "fault read"
 fault_text Memory = codes "fault memory"
 fault_text (Write n) = codes "fault write after " ++ decimal n
 
--- What is known of an input: which verdict it can have, and which certificate it can spell.
-pub record Known : Type 1 where
+-- What is known of an input: which verdict it can have, and with which detail, which certificate
+-- it can spell, and of which proof it can be.
+pub record KnownInput : Type 1 where
   pub Judged : Result Verdict CheckFault → Type 0
+  pub Explained : Result (Verdict × Detail) CheckFault → Type 0
   pub kind : Kind
+  pub proof : KindOfText
 
 -- an input of which nothing is known
-abbrev pub unknown : Known
-unknown = record { Judged = λ _. ⊤; kind = any_text }
+abbrev pub unknown_input : KnownInput
+unknown_input = record {
+  Judged = λ _. ⊤;
+  Explained = λ _. ⊤;
+  kind = any_text;
+  proof = any_kind;
+}
 
 -- one that gives these bytes
-abbrev pub known_by : Input → Known
-known_by i = record { Judged = Says (IsAnswer one (text_of i)); kind = text_read (certificate_read (text_of i)) }
+abbrev pub known_by : Input → KnownInput
+known_by i =
+    record {
+      Judged = Says (IsAnswer one (text_of i));
+      Explained = SaysInDetail (IsExplained one (text_of i));
+      kind = text_read (certificate_read (text_of i));
+      proof = kind_read (text_of i);
+    }
 
 -- old is the output before, where it tells that, and new the one afterwards.
 -- The verdict's lines were printed, and the status is the verdict's.
-abbrev pub PrintsVerdict : Known → Option Output → Option Output → Result ℕ Fault → Type 0
-PrintsVerdict k old new (Ok s) = (v : Verdict) × k.Judged (Ok v) × (s ≡ status_for v) × Took old new (verdict_text v) (Ok tt)
+abbrev pub PrintsVerdict : KnownInput → Option Output → Option Output → Result ℕ Fault → Type 0
+PrintsVerdict k old new (Ok s) = (v : Verdict) × k.Judged (Ok v) × (s ≡ status_for v)
+    × Took old new (verdict_text v) (Ok tt)
 PrintsVerdict k old new (Err Read) = k.Judged (Err CheckRead) × Stays old new
 PrintsVerdict k old new (Err Memory) = Stays old new
-PrintsVerdict k old new (Err (Write n)) = (v : Verdict) × k.Judged (Ok v) × Took old new (verdict_text v) (Err (after_first n))
+PrintsVerdict k old new (Err (Write n)) = (v : Verdict) × k.Judged (Ok v)
+    × Took old new (verdict_text v) (Err (after_first n))
+
+-- the same of the verdict's lines with those of the detail
+abbrev pub PrintsExplanation : KnownInput → Option Output → Option Output → Result ℕ Fault → Type 0
+PrintsExplanation k old new (Ok s) = (v : Verdict) × (x : Detail) × k.Explained (Ok (v, x))
+    × (s ≡ status_for v) × Took old new (explained_text v x) (Ok tt)
+PrintsExplanation k old new (Err Read) = k.Explained (Err CheckRead) × Stays old new
+PrintsExplanation k old new (Err Memory) = Stays old new
+PrintsExplanation k old new (Err (Write n)) = (v : Verdict) × (x : Detail)
+    × k.Explained (Ok (v, x)) × Took old new (explained_text v x) (Err (after_first n))
 
 -- the canonical text was printed, or the certificate refused
-abbrev pub PrintsText : Known → Option Output → Option Output → Result ℕ Fault → Type 0
-PrintsText k old new (Ok s) = (x : Shown) × (s ≡ shown_status x) × Shows k.kind old new (Ok x)
-PrintsText k old new (Err f) = Shows k.kind old new (Err f)
+abbrev pub PrintsText : KnownInput → Option Output → Option Output → Result ℕ Fault → Type 0
+PrintsText k old new (Ok s) = (x : Shown) × (s ≡ shown_status x) × ShowsText k.kind old new (Ok x)
+PrintsText k old new (Err f) = ShowsText k.kind old new (Err f)
 
-abbrev pub Does : Task → Known → Option Output → Option Output → Result ℕ Fault → Type 0
-Does Check k old new r = PrintsVerdict k old new r
-Does Show k old new r = PrintsText k old new r
+-- the tightened certificate was written: to standard output, or else to a file, of which nothing
+-- is said, and nothing was printed
+abbrev pub PrintsTightened : Option Text → KnownInput → Option Output → Option Output
+    → Result ℕ Fault → Type 0
+PrintsTightened None k old new r = WritesTightened k.proof old new r
+PrintsTightened (Some out) k old new r = WritesTightened k.proof None None r × Stays old new
+
+-- the task is done, with this OUT
+abbrev pub Does : Task → Option Text → KnownInput → Option Output → Option Output
+    → Result ℕ Fault → Type 0
+Does Check out k old new r = PrintsVerdict k old new r
+Does Explain out k old new r = PrintsExplanation k old new r
+Does Show out k old new r = PrintsText k old new r
+Does Tighten out k old new r = PrintsTightened out k old new r
 
 -- what is read: of a file that is named nothing is known
-abbrev pub read_from : Option Text → Known → Known
+abbrev pub read_from : Option Text → KnownInput → KnownInput
 read_from None k = k
-read_from (Some file) k = unknown
+read_from (Some file) k = unknown_input
 
 -- the words ask for a task, which is done
-abbrev pub DoesAsked : List Text → Known → Option Output → Option Output → Result ℕ Fault → Type 0
-DoesAsked words k old new r = (t : Task) × (file : Option Text) × (asked_by words ≡ Some (name_of t, file)) × Does t (read_from file k) old new r
+abbrev pub DoesAsked : List Text → KnownInput → Option Output → Option Output → Result ℕ Fault
+    → Type 0
+DoesAsked words k old new r = (t : Task) × (file out : Option Text)
+    × (asked_by words ≡ Some (command_word t, file, out))
+    × Does t out (read_from file k) old new r
 
 abbrev pub IsHelp : ErrorKind → Type 0
 IsHelp k = (k ≡ kind.DisplayHelp) ⊎ (k ≡ kind.DisplayVersion)
 
 -- help was printed, or the words are wrong and nothing was
 abbrev pub Declines : ErrorKind → Option Output → Option Output → Result ℕ Fault → Type 0
-Declines k old new (Ok s) = (IsHelp k × (s ≡ 0) × ((text : List ℕ) × Took old new text (Ok tt))) ⊎ ((¬ IsHelp k) × (s ≡ 2) × Stays old new)
+Declines k old new (Ok s) = (IsHelp k × (s ≡ 0) × ((text : List ℕ) × Took old new text (Ok tt)))
+    ⊎ ((¬ IsHelp k) × (s ≡ 2) × Stays old new)
 Declines k old new (Err Read) = ⊥
 Declines k old new (Err Memory) = Stays old new
-Declines k old new (Err (Write n)) = IsHelp k × ((text : List ℕ) × Took old new text (Err (after_first n)))
+Declines k old new (Err (Write n)) = IsHelp k
+    × ((text : List ℕ) × Took old new text (Err (after_first n)))
 
 -- memory ran out
 abbrev pub LacksMemory : Option Output → Option Output → Result ℕ Fault → Type 0
 LacksMemory old new r = (r ≡ Err Memory) × Stays old new
 
 -- the same of any error of a command line
-abbrev pub Answers : ErrorKind → Option Output → Option Output → Result ℕ Fault → Type 0
-Answers k old new r = ((k ≢ kind.OutOfMemory) × Declines k old new r) ⊎ ((k ≡ kind.OutOfMemory) × LacksMemory old new r)
+abbrev pub AnswersError : ErrorKind → Option Output → Option Output → Result ℕ Fault → Type 0
+AnswersError k old new r = ((k ≢ kind.OutOfMemory) × Declines k old new r)
+    ⊎ ((k ≡ kind.OutOfMemory) × LacksMemory old new r)
 
 -- the words aren't taken, or ask for help
 abbrev pub DeclinesWords : List Text → Option Output → Option Output → Result ℕ Fault → Type 0
-DeclinesWords words old new r = (k : ErrorKind) × IsAmong k (fault_of line words) × Declines k old new r
+DeclinesWords words old new r = (k : ErrorKind) × IsAmong k (fault_of line words)
+    × Declines k old new r
 
 -- what the words ask for is done, or they are declined, or memory ran out before that was known
-abbrev pub Obeys : List Text → Known → Option Output → Option Output → Result ℕ Fault → Type 0
-Obeys words k old new r = DoesAsked words k old new r ⊎ DeclinesWords words old new r ⊎ LacksMemory old new r
+abbrev pub Obeys : List Text → KnownInput → Option Output → Option Output → Result ℕ Fault → Type 0
+Obeys words k old new r = DoesAsked words k old new r ⊎ DeclinesWords words old new r
+    ⊎ LacksMemory old new r
 
 -- an exit status for these words, whatever is read and printed
 abbrev pub Fits : List Text → ℕ → Type 0
-Fits words status = (r : Result ℕ Fault) × (status ≡ exit_status r) × Obeys words unknown None None r
+Fits words status = (r : Result ℕ Fault) × (status ≡ exit_status r)
+    × Obeys words unknown_input None None r

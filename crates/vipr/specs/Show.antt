@@ -13,7 +13,8 @@ use Rattle.vipr.specs.declared.fault.Fault.TheVariants.{Memory, Read, Write}
 use Rattle.vipr.specs.declared.show.Shown.{Shown}
 use Rattle.vipr.specs.declared.show.Shown.TheVariants.{Refused, Whole}
 
--- What a text may be: that of such a certificate, one with such a refusal, or one whose reading fails in this case.
+-- What a text may be: that of such a certificate, one with such a refusal, or one whose reading
+-- fails in this case.
 pub record Kind : Type 1 where
   pub Spelled : Certificate → Type 0
   pub Unspelled : Refusal → Type 0
@@ -23,12 +24,14 @@ pub record Kind : Type 1 where
 -- Whole: the canonical text of the certificate was taken.
 -- Write: its first n bytes were taken, and no more.
 -- Else nothing was written.
-abbrev pub Shows : Kind → Option Output → Option Output → Result Shown Fault → Type 0
-Shows k old new (Ok Whole) = (c : Certificate) × k.Spelled c × Took old new (canonical_text c) (Ok tt)
-Shows k old new (Ok (Refused r)) = k.Unspelled r × Stays old new
-Shows k old new (Err Read) = k.Unread × Stays old new
-Shows k old new (Err Memory) = Stays old new
-Shows k old new (Err (Write n)) = (c : Certificate) × k.Spelled c × Took old new (canonical_text c) (Err (after_first n))
+abbrev pub ShowsText : Kind → Option Output → Option Output → Result Shown Fault → Type 0
+ShowsText k old new (Ok Whole) = (c : Certificate) × k.Spelled c
+    × Took old new (canonical_text c) (Ok tt)
+ShowsText k old new (Ok (Refused r)) = k.Unspelled r × Stays old new
+ShowsText k old new (Err Read) = k.Unread × Stays old new
+ShowsText k old new (Err Memory) = Stays old new
+ShowsText k old new (Err (Write n)) = (c : Certificate) × k.Spelled c
+    × Took old new (canonical_text c) (Err (after_first n))
 
 -- a text of which nothing is known
 abbrev pub any_text : Kind
@@ -38,7 +41,8 @@ any_text = record { Spelled = λ _. ⊤; Unspelled = λ _. ⊤; Unread = ⊤ }
 abbrev pub text_read : Result Certificate TextFault → Kind
 text_read r = record {
   Spelled = λ c. r ≡ Ok c;
-  Unspelled = λ x. (cause offset : ℕ) × (r ≡ Err (refused cause offset)) × (x ≡ record { cause = cause; place = Byte offset });
+  Unspelled = λ x. (cause offset : ℕ) × (r ≡ Err (refused cause offset))
+      × (x ≡ record { cause = cause; place = Byte offset });
   Unread = r ≡ Err unread;
 }
 

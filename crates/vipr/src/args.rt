@@ -1,8 +1,9 @@
 //! The command line, read by `clap`.
 ghost use Rattle.std.specs.Prelude.{◌≡◌, Some, IfErr, IfOk, IfSome, IsNone, true, false, map};
-ghost use Rattle.clap.specs.Words.{FailsBy, app_of, fault_of, kind_of, new_app, rule_of, takes, with_rule};
+ghost use Rattle.clap.specs.Words.{FailsBy, app_of, fault_of, kind_of, new_app, rule_of, takes};
+ghost use Rattle.clap.specs.Words.{with_rule};
 ghost use Rattle.clap.specs.declared.builder.command.Command.TheViews.{out-Command as fields_of};
-ghost use Rattle.vipr.specs.Args.{asked, asked_by, file_rule, line, name_of};
+ghost use Rattle.vipr.specs.Args.{asked, asked_by, file_rule, line, command_word, out_rule};
 ghost use Rattle.vipr.specs.declared.task.Task.{Task};
 
 use crate::task::{Job, Task};
@@ -29,16 +30,19 @@ pub fn job<'a>(alloc: Global, words: &'a [&'a str]) -> Result<Job<'a>, Error>
     Ok(Job {
         command,
         file: inner.get_str("file"),
+        out: inner.get_str("out"),
     })
 }
 
 fn task_named(name: &str) -> Option<Task>
-    ensures some { IfSome result (λ t. name_of t ≡ name.now) }
-    ensures none { IsNone result → (t : Task) → name_of t ≡ name.now → ⊥ }
+    ensures some { IfSome result (λ t. command_word t ≡ name.now) }
+    ensures none { IsNone result → (t : Task) → command_word t ≡ name.now → ⊥ }
 {
     match name {
         "check" => Some(Task::Check),
+        "explain" => Some(Task::Explain),
         "show" => Some(Task::Show),
+        "tighten" => Some(Task::Tighten),
         _ => None,
     }
 }
@@ -52,13 +56,26 @@ fn command_line<'a>(alloc: Global) -> Result<Command<'a>, AllocError>
         "check",
         "Checks a certificate and prints the verdict",
     )?;
+    let explain = on_file(
+        alloc,
+        "explain",
+        "Checks a certificate and prints the verdict with what shows it",
+    )?;
     let show = on_file(alloc, "show", "Writes a certificate's canonical text")?;
+    let tighten = with_out(
+        alloc,
+        "tighten",
+        "Writes a verified certificate without what its proof doesn't need",
+    )?;
     Command::new(alloc, "vipr")
         .about("Checks VIPR 1.0 certificates")
+        .version("0.1.0")
         .subcommand_required(true)
         .disable_help_subcommand(true)
         .subcommand(check)?
-        .subcommand(show)
+        .subcommand(explain)?
+        .subcommand(show)?
+        .subcommand(tighten)
 }
 
 /// A subcommand that reads FILE.
@@ -69,6 +86,15 @@ fn on_file<'a>(alloc: Global, name: &'a str, about: &'a str) -> Result<Command<'
     Command::new(alloc, name).about(about).arg(file(alloc))
 }
 
+/// A subcommand that reads FILE and writes to OUT.
+fn with_out<'a>(alloc: Global, name: &'a str, about: &'a str) -> Result<Command<'a>, AllocError>
+    ensures app { IfOk result
+        (λ c. app_of c ≡ with_rule (with_rule (new_app name.entry.now) file_rule) out_rule) }
+    ensures local { IfOk result (λ c. (fields_of c).has_globals ≡ false) }
+{
+    on_file(alloc, name, about)?.arg(out(alloc))
+}
+
 fn file<'a>(alloc: Global) -> Arg<'a>
     ensures rule { rule_of result ≡ file_rule }
     ensures local { result.global ≡ false }
@@ -76,4 +102,14 @@ fn file<'a>(alloc: Global) -> Arg<'a>
     Arg::new(alloc, "file")
         .value_name("FILE")
         .help("The certificate; standard input if absent")
+}
+
+fn out<'a>(alloc: Global) -> Arg<'a>
+    ensures rule { rule_of result ≡ out_rule }
+    ensures local { result.global ≡ false }
+{
+    Arg::new(alloc, "out")
+        .long("out")
+        .value_name("OUT")
+        .help("Where to write it; standard output if absent")
 }

@@ -1,7 +1,7 @@
 //! Checks a certificate and prints the verdict.
 ghost use Rattle.std.specs.Prelude.{◌≡◌};
 ghost use Rattle.vipr_bytes.specs.Known.{IfKnown};
-ghost use Rattle.vipr.specs.Run.{PrintsVerdict, known_by, status_for, unknown};
+ghost use Rattle.vipr.specs.Run.{PrintsVerdict, known_by, status_for, unknown_input};
 
 use crate::fault::Fault;
 use crate::output::print;
@@ -16,15 +16,17 @@ pub fn print_verdict<R: Source + Drop, O: Sink>(
     source: R,
     out: &mut O,
 ) -> Result<u8, Fault>
-    ensures any { PrintsVerdict unknown (O.output out.old) (O.output out.new) result }
-    ensures told { IfKnown (R.input source) (λ i. PrintsVerdict (known_by i) (O.output out.old) (O.output out.new) result) }
+    ensures any { PrintsVerdict unknown_input (O.output out.old) (O.output out.new) result }
+    ensures told { IfKnown (R.input source)
+        (λ i. PrintsVerdict (known_by i) (O.output out.old) (O.output out.new) result) }
 {
     let verdict = check(alloc, source)?;
     print(alloc, &Lines(&verdict), out)?;
     Ok(status_of(&verdict))
 }
 
-fn status_of(verdict: &Verdict) -> u8
+/// The exit status of a verdict.
+pub fn status_of(verdict: &Verdict) -> u8
     ensures { result ≡ status_for verdict.now }
 {
     match verdict {

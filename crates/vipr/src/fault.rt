@@ -1,12 +1,14 @@
 //! Why a command is cut short.
 ghost use Rattle.std.specs.Prelude.{◌≡◌, Some};
 ghost use Rattle.vipr.specs.Run.{fault_for, fault_text, write_fault_for};
+ghost use Rattle.vipr.specs.Tighten.{tighten_fault_for};
 ghost use Rattle.vipr.specs.declared.fault.Fault.TheVariants.{Memory, Write};
 
 use std::alloc::AllocError;
 use std::fmt;
 use std::fmt::{Display, Formatter};
 use vipr_bytes::WriteFailed;
+use vipr_tighten::TightenFault;
 use vipr_write::WriteError;
 
 /// Why a command was cut short.
@@ -56,6 +58,18 @@ impl From<WriteError> for Fault {
         match error {
             WriteError::Write { taken } => Fault::Write { taken },
             WriteError::Memory { taken: _ } => Fault::Memory,
+        }
+    }
+}
+
+impl From<TightenFault> for Fault {
+    ghost from_gives = { λ fault told. told ≡ tighten_fault_for fault };
+
+    fn from(fault: TightenFault) -> Fault {
+        match fault {
+            TightenFault::Read => Fault::Read,
+            TightenFault::Memory { taken: _ } => Fault::Memory,
+            TightenFault::Write { taken } => Fault::Write { taken },
         }
     }
 }

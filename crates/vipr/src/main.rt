@@ -5,6 +5,8 @@ ghost use Rattle.std.specs.Prelude.{◌≤◌, IfOk};
 
 mod args;
 mod check;
+mod explain;
+mod explanation;
 mod fault;
 mod output;
 mod run;
@@ -13,6 +15,7 @@ mod task;
 #[cfg(test)]
 mod tests;
 mod text;
+mod tighten;
 
 use fault::Fault;
 use std::io::{ErrorKind, Write};

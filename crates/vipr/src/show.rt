@@ -1,8 +1,8 @@
 //! Shows a certificate: writes its canonical text.
 ghost use Rattle.vipr_spec.specs.Reading.{certificate_read};
 ghost use Rattle.vipr_bytes.specs.Known.{text_of, IfKnown, IfWhole};
-ghost use Rattle.vipr.specs.Run.{PrintsText, known_by, unknown};
-ghost use Rattle.vipr.specs.Show.{Shows, any_text, text_spelling, text_read};
+ghost use Rattle.vipr.specs.Run.{PrintsText, known_by, unknown_input};
+ghost use Rattle.vipr.specs.Show.{ShowsText, any_text, text_spelling, text_read};
 
 use crate::fault::Fault;
 use crate::text::RefusalLine;
@@ -22,7 +22,8 @@ pub enum Shown {
     Refused(Refusal),
 }
 
-/// Reads a certificate to the end of its text, and then writes its canonical text. What it means isn't tested.
+/// Reads a certificate to the end of its text, and then writes its canonical text. What it means
+/// isn't tested.
 ///
 /// # Errors
 ///
@@ -33,11 +34,15 @@ pub fn show<R: Source + Drop, W: Sink>(
     writer: &mut W,
 ) -> Result<Shown, Fault>
     // Nothing is written but a certificate's text.
-    ensures written { Shows any_text (W.output writer.old) (W.output writer.new) result }
-    // The certificate, or the refusal, is that of the definitions for the bytes that the source gives, in whatever pieces.
-    ensures exact { IfKnown (R.input source) (λ i. Shows (text_read (certificate_read (text_of i))) (W.output writer.old) (W.output writer.new) result) }
+    ensures written { ShowsText any_text (W.output writer.old) (W.output writer.new) result }
+    // The certificate, or the refusal, is that of the definitions for the bytes that the source
+    // gives, in whatever pieces.
+    ensures exact { IfKnown (R.input source) (λ i. ShowsText
+        (text_read (certificate_read (text_of i))) (W.output writer.old)
+        (W.output writer.new) result) }
     // The certificate is what the text spells, and it is refused where it spells none.
-    ensures spelled { IfWhole (R.input source) (λ bytes. Shows (text_spelling bytes) (W.output writer.old) (W.output writer.new) result) }
+    ensures spelled { IfWhole (R.input source) (λ bytes. ShowsText (text_spelling bytes)
+        (W.output writer.old) (W.output writer.new) result) }
 {
     match read_certificate(alloc, source) {
         Ok(certificate) => {
@@ -54,15 +59,17 @@ pub fn show<R: Source + Drop, W: Sink>(
     }
 }
 
-/// Prints a certificate's canonical text, or on `err` why there is none, and answers the exit status.
+/// Prints a certificate's canonical text, or on `err` why there is none, and answers the exit
+/// status.
 pub fn print_text<R: Source + Drop, O: Sink, E: Write>(
     alloc: Global,
     source: R,
     out: &mut O,
     err: &mut E,
 ) -> Result<u8, Fault>
-    ensures any { PrintsText unknown (O.output out.old) (O.output out.new) result }
-    ensures told { IfKnown (R.input source) (λ i. PrintsText (known_by i) (O.output out.old) (O.output out.new) result) }
+    ensures any { PrintsText unknown_input (O.output out.old) (O.output out.new) result }
+    ensures told { IfKnown (R.input source)
+        (λ i. PrintsText (known_by i) (O.output out.old) (O.output out.new) result) }
 {
     match show(alloc, source, out)? {
         Shown::Whole => Ok(0),

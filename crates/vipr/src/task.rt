@@ -4,12 +4,16 @@
 #[derive(Clone, Copy, Debug, PartialEq, Eq)]
 pub enum Task {
     Check,
+    Explain,
     Show,
+    Tighten,
 }
 
-/// A command line that was read: the task, and the file that it names.
+/// A command line that was read: the task, the file that it names, and the one to write to. Only
+/// `Tighten` has that.
 #[derive(Clone, Copy, Debug, PartialEq, Eq)]
 pub struct Job<'a> {
     pub command: Task,
     pub file: Option<&'a str>,
+    pub out: Option<&'a str>,
 }

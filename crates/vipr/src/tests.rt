@@ -2,10 +2,12 @@
 mod answers;
 mod args;
 mod edits;
+mod explained;
 mod rows;
 mod streams;
 mod text;
 mod texts;
+mod tightened;
 
 use crate::run::run;
 use std::io;
@@ -15,7 +17,11 @@ use std::rt::Files;
 
 const CHECK: [&str; 2] = ["vipr", "check"];
 
+const EXPLAIN: [&str; 2] = ["vipr", "explain"];
+
 const SHOW: [&str; 2] = ["vipr", "show"];
+
+const TIGHTEN: [&str; 2] = ["vipr", "tighten"];
 
 /// 2^127.
 const TOO_LARGE: &str = "170141183460469231731687303715884105728";

@@ -1,14 +1,17 @@
 //! A verdict's lines.
 ghost use Rattle.std.specs.Prelude.{Some};
-ghost use Rattle.vipr.specs.Text.{bound_text, claim_text, place_text, refusal_text, verdict_text};
+ghost use Rattle.vipr.specs.Text.{bound_text, claim_text, outcome_text, place_text};
+ghost use Rattle.vipr.specs.Text.{refusal_text, verdict_text};
 
 use std::fmt;
 use std::fmt::{Display, Formatter, Write};
 use vipr_check::{Place, Refusal, Report, Verdict};
 use vipr_frac::Frac;
 use vipr_text::Claim;
+use vipr_tighten::Outcome;
 
-/// A verdict as the program prints it: `verified ..` and a line of counts, or the one line `refused ..`.
+/// A verdict as the program prints it: `verified ..` and a line of counts, or the one line
+/// `refused ..`.
 #[derive(Clone, Copy)]
 pub struct Lines<'a>(pub &'a Verdict);
 
@@ -47,6 +50,30 @@ impl Display for RefusalLine<'_> {
         let cause = self.0.cause;
         let place = PlaceText(self.0.place);
         write!(f, "refused {cause} at {place}\n")
+    }
+}
+
+/// What became of a certificate that was to be tightened, as the program prints it: `kept ..`, or
+/// the line of its refusal.
+#[derive(Clone, Copy)]
+pub struct OutcomeLine<'a>(pub &'a Outcome);
+
+impl Display for OutcomeLine<'_> {
+    ghost output = { λ l. Some (outcome_text l.0.now) };
+
+    fn fmt<W: Write>(&self, f: &mut Formatter<W>) -> fmt::Result {
+        match self.0 {
+            Outcome::Tightened {
+                kept,
+                removed,
+                peak_before,
+                peak_after,
+            } => write!(
+                f,
+                "kept {kept} removed {removed} peak {peak_before} {peak_after}\n"
+            ),
+            Outcome::Refused(refusal) => write!(f, "{}", RefusalLine(refusal)),
+        }
     }
 }
 
@@ -103,8 +130,26 @@ impl Display for Bound {
     fn fmt<W: Write>(&self, f: &mut Formatter<W>) -> fmt::Result {
         match self.value {
             None => f.write_str(self.infinite),
-            Some(number) if number.denom() == 1 => write!(f, "{}", number.numer()),
-            Some(number) => write!(f, "{}/{}", number.numer(), number.denom()),
+            Some(number) => write!(f, "{}", Number(number)),
+        }
+    }
+}
+
+/// A number, in lowest terms.
+#[derive(Clone, Copy)]
+pub struct Number(pub Frac);
+
+impl Display for Number {
+    ghost use Rattle.vipr_spec.specs.Number.{number_text};
+
+    ghost output = { λ n. Some (number_text n.0) };
+
+    fn fmt<W: Write>(&self, f: &mut Formatter<W>) -> fmt::Result {
+        let number = self.0;
+        if number.denom() == 1 {
+            write!(f, "{}", number.numer())
+        } else {
+            write!(f, "{}/{}", number.numer(), number.denom())
         }
     }
 }

@@ -1,5 +1,6 @@
 -- What a sink took of bytes that it was handed
-use Rattle.std.specs.Prelude.{◌≡◌, ℕ, suc, ◌-◌, ◌<◌, ◌≤◌, List, ◌++◌, length, Option, Some, option_map, IfSome, Result, Ok, Err}
+use Rattle.std.specs.Prelude.{◌≡◌, ℕ, suc, ◌-◌, ◌<◌, ◌≤◌, List, ◌++◌, length, Option, Some}
+use Rattle.std.specs.Prelude.{option_map, IfSome, Result, Ok, Err}
 use Rattle.vipr_bytes.specs.Output.{Output, with_first}
 use Rattle.vipr_bytes.specs.declared.write.WriteFailed.{WriteFailed}
 

@@ -1,7 +1,8 @@
 //! Where bytes come from, and where they go.
 //!
 //! A [`Source`] is read, a [`Sink`] is written. Each has a law that says what a caller may rely on,
-//! also where a read gives fewer bytes than there is room for, or a write takes fewer than it is handed.
+//! also where a read gives fewer bytes than there is room for, or a write takes fewer than it is
+//! handed.
 #![tactic(auto)]
 
 mod sink;

@@ -1,5 +1,6 @@
-ghost use Rattle.std.specs.Prelude.{◌≡◌, ℕ, ◌+◌, ◌<◌, ◌≤◌, length, Option, Some, None, IfOk, IfSome};
-ghost use Rattle.vipr_bytes.specs.Output.{Output, Writes, held, failure_of};
+ghost use Rattle.std.specs.Prelude.{◌≡◌, ℕ, ◌+◌, ◌<◌, ◌≤◌, length, Option, Some, None, IfOk};
+ghost use Rattle.std.specs.Prelude.{IfSome};
+ghost use Rattle.vipr_bytes.specs.Output.{Output, Writes, output_of, failure_of};
 
 use crate::source::Failed;
 use std::io::Write;
@@ -10,7 +11,8 @@ use std::marker::Model;
 /// A write takes the first bytes that it is handed, at least one where there is room. Only where no
 /// room is left it takes none or fails.
 pub trait Sink {
-    // Where the writer tells: the bytes that it took, and where that is known how many more it has room for.
+    // Where the writer tells: the bytes that it took, and where that is known how many more it has
+    // room for.
     ghost output: { Self → Option Output };
 
     // Where it is known: how many writes so far failed or took nothing.
@@ -20,12 +22,14 @@ pub trait Sink {
     fn write(&mut self, bytes: &[u8]) -> Result<usize, Failed>
         requires { 0 < length bytes.now }
         ensures count { IfOk result (λ n. n ≤ length bytes.now) }
-        ensures taken { IfSome (output self.old) (λ o. Writes o (output self.new) result bytes.now) }
+        ensures taken { IfSome (output self.old)
+            (λ o. Writes o (output self.new) result bytes.now) }
         ensures failed { IfSome (failures self.old)
             (λ n. failures self.new ≡ Some (n + failure_of result)) };
 }
 
-/// Writes to a writer of std. It tells what that took where the writer does, and never how much room is left.
+/// Writes to a writer of std. It tells what that took where the writer does, and never how much
+/// room is left.
 ///
 /// It fails on every error of the writer, an interrupted write too.
 #[derive(Drop)]
@@ -50,7 +54,7 @@ impl<W: Write> FromWrite<W> {
 }
 
 impl<W: Write> Sink for FromWrite<W> {
-    ghost output = { λ w. held (W.contents w) };
+    ghost output = { λ w. output_of (W.contents w) };
 
     ghost failures = { λ _. None };
 

@@ -1,7 +1,8 @@
-ghost use Rattle.std.specs.Prelude.{◌≡◌, ℕ, ◌+◌, ◌-◌, ◌^◌, ◌<◌, ◌≤◌, List, length, Option, Some, None, false, IfOk, IfSome};
+ghost use Rattle.std.specs.Prelude.{◌≡◌, ℕ, ◌+◌, ◌-◌, ◌^◌, ◌<◌, ◌≤◌, List, length, Option, Some};
+ghost use Rattle.std.specs.Prelude.{None, false, IfOk, IfSome};
 ghost use Rattle.std.specs.Io.KnownBytes.{ReadConsumes};
 ghost use Rattle.vipr_spec.specs.Input.{Input};
-ghost use Rattle.vipr_bytes.specs.Reads.{Reads};
+ghost use Rattle.vipr_bytes.specs.Reads.{ReadsBytes};
 
 use std::io::Read;
 use std::marker::Model;
@@ -26,7 +27,8 @@ pub trait Source {
         requires { 0 < length buf.old }
         ensures count { IfOk result (λ n. n ≤ length buf.new) }
         ensures bound { IfOk result (λ n. 0 < n → reads_left self.new < reads_left self.old) }
-        ensures bytes { IfSome (input self.old) (λ i. Reads i (input self.new) result buf.new) };
+        ensures bytes { IfSome (input self.old)
+            (λ i. ReadsBytes i (input self.new) result buf.new) };
 }
 
 /// Reads a slice. It tells its bytes, and never fails.
@@ -92,8 +94,10 @@ impl<R: Read> Source for FromRead<R> {
     // What it gives is what the reader gave.
     fn read(&mut self, buf: &mut [u8]) -> Result<usize, Failed>
         ensures count { IfOk result (λ n. n ≤ length buf.new) }
-        ensures bound { IfOk result (λ n. 0 < n → 2 ^ 64 - 1 - self.new.reads < 2 ^ 64 - 1 - self.old.reads) }
-        ensures given { ReadConsumes (R.remaining self.old.reader) (R.remaining self.new.reader) result buf.new }
+        ensures bound { IfOk result
+            (λ n. 0 < n → 2 ^ 64 - 1 - self.new.reads < 2 ^ 64 - 1 - self.old.reads) }
+        ensures given { ReadConsumes (R.remaining self.old.reader)
+            (R.remaining self.new.reader) result buf.new }
     {
         if self.reads == u64::MAX {
             return Err(Failed);

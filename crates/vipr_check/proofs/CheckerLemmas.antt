@@ -2,12 +2,14 @@
 use Rattle.std.proofs.Common.{◌≡◌, ◌≢◌, ℕ, Bool, true, false, List, ◌∷◌, ◌++◌, [], length, Option, Some, None, Result, Ok, Err, refl, sym, ◌∙◌, ap, subst, inl, inr}
 use Rattle.std.specs.Prelude.{◌⊎◌, MatchOption}
 use Rattle.vipr_spec.specs.Fraction.{ℚ}
-use Rattle.vipr_spec.specs.Constraint.{one, Row}
+use Rattle.vipr_spec.specs.Constraint.{Profile, Row}
 use Rattle.vipr_spec.specs.Certificate.{Named, Problem, Derivation, Certificate, IsProof, MeetsPrimal, count}
-use Rattle.vipr_spec.specs.Verdict.{step_tests, StepTest, step_cause, PassesSolution, solution_tests, solution_cause, FirstFailing, Passes as PassesTest, meets_primal, meets_dual, of_solution, of_step, Answer, refuses, told_by, at_solution, at_derivation}
-use Rattle.vipr_rules.specs.Apply.{Tells, Stops}
+use Rattle.vipr_spec.specs.Verdict.{Answer, refuses, told_by, at_solution, at_derivation}
+use Rattle.vipr_spec.specs.Steps.{step_tests, StepTest, step_cause, FirstFailing}
+use Rattle.vipr_spec.specs.Tests.{PassesSolution, solution_tests, solution_cause, Passes as PassesTest, meets_primal, meets_dual, of_solution, of_step}
+use Rattle.vipr_rules.specs.Apply.{Tells, StopsIn}
 use Rattle.vipr_rules.specs.Table.{Table, advance_table}
-use Rattle.vipr_rules.specs.Solution.{test_of}
+use Rattle.vipr_rules.specs.Solution.{test_of, FailsBy}
 use Rattle.vipr_rules.specs.declared.solution.SolutionError.{SolutionError}
 use Rattle.vipr_rules.specs.declared.error.RuleError.{RuleError}
 use Rattle.vipr_rules.specs.declared.error.RuleError.TheVariants as rule
@@ -17,20 +19,21 @@ use Rattle.vipr_check.specs.declared.halt.Finding.{Finding}
 use Rattle.vipr_check.specs.declared.halt.Halt.{Halt}
 use Rattle.vipr_check.specs.declared.halt.Halt.TheVariants.{Refused, Memory}
 use Rattle.vipr_check.specs.View.{refusal_of, place_of}
-use Rattle.vipr_check.specs.Halts.{first_answer, later_answer, rule_cause, IsSolutionHalt, IsStepHalt}
+use Rattle.vipr_check.specs.Halts.{halt_answer, later_answer, rule_cause, IsSolutionHalt, IsStepHalt, CanShow, CanShowHalt}
 use Rattle.vipr_check.specs.Progress.{Progress, HasSolutions, HasSteps}
 use Rattle.vipr_check.specs.State.{State, IsReached, HaltsBy, IsRefusalBy, StopsSolution, StopsStep}
 use Rattle.vipr_check.proofs.CauseLemmas.{cause_is}
+use Rattle.vipr_check.proofs.ShownLemmas.{failing_within}
 
 -- where a call went on, nothing had stopped it
 pub runs_of : (halt : Option Halt) (x : Unit {0}) → MatchOption halt (◌≡◌ {A = Result (Unit {0}) Stop} (Ok x) (Ok tt)) (λ h. ◌≡◌ {A = Result (Unit {0}) Stop} (Ok x) (Err (later_answer h))) → halt ≡ None
 runs_of None x h = refl
 runs_of (Some y) x h = absurd (cc h)
 
-pub reached_still : (k : Progress) (b : Bool) (old new : Option Halt) → old ≡ None → IsReached k b old → IsReached k b new
-reached_still k b old new e is = record { solutions = λ n p. is.solutions (λ m. absurd (cc (e, m))) p; steps = λ n p. is.steps (λ m. absurd (cc (e, m))) p }
+pub reached_still : (k : Progress) (b : Bool) (old new : Option Halt) → old ≡ None → CanShowHalt k.problem new → IsReached k b old → IsReached k b new
+reached_still k b old new e shows is = record { solutions = λ n p. is.solutions (λ m. absurd (cc (e, m))) p; steps = λ n p. is.steps (λ m. absurd (cc (e, m))) p; shows = shows }
 
-pub proof_of : (c : Certificate) (k : Progress) → HasSteps c k → PassesTest one c meets_dual → IsProof one c
+pub proof_of : (c : Certificate) (k : Progress) → HasSteps c k → PassesTest k.profile c meets_dual → IsProof k.profile c
 proof_of c k is dual = record {
   solutions = λ i d l. (is.feasible i d l).0;
   solutions_fit = λ i d l. (is.feasible i d l).1;
@@ -50,13 +53,13 @@ pub derived_frame : (v w : State) (k : Progress) (rows : Table) (top : ℕ) (goa
 derived_frame v w k rows top goal e f =
     ap (λ x. record v { progress = x }) f ∙ ap (λ (u : State). record u { progress = record u.progress { rows = rows; peak = top; goal = goal } }) e
 
-pub halts_same : (v w : State) (k : Progress) (o : Option Halt) (h : Halt) (a : Stop) → v ≡ w → k ≡ v.progress → o ≡ Some h → a ≡ first_answer h → HaltsBy w h (record v { progress = k; halt = o }) a
+pub halts_same : (v w : State) (k : Progress) (o : Option Halt) (h : Halt) (a : Stop) → v ≡ w → k ≡ v.progress → o ≡ Some h → a ≡ halt_answer h → HaltsBy w h (record v { progress = k; halt = o }) a
 halts_same v w k o h a e f g says = record {
   kept = inl (ap (λ x. record v { progress = x; halt = o }) f ∙ ap (λ x. record v { halt = x }) g ∙ ap (λ (u : State). record u { halt = Some h }) e);
   answer = says;
 }
 
-pub halts_advanced : (v w : State) (k : Progress) (o : Option Halt) (h : Halt) (a : Stop) → v ≡ w → h ≡ Memory → k ≡ record v.progress { rows = advance_table v.progress.rows } → o ≡ Some h → a ≡ first_answer h
+pub halts_advanced : (v w : State) (k : Progress) (o : Option Halt) (h : Halt) (a : Stop) → v ≡ w → h ≡ Memory → k ≡ record v.progress { rows = advance_table v.progress.rows } → o ≡ Some h → a ≡ halt_answer h
     → HaltsBy w h (record v { progress = k; halt = o }) a
 halts_advanced v w k o h a e is f g says = record {
   kept = inr (
@@ -70,7 +73,7 @@ halts_advanced v w k o h a e is f g says = record {
 -- ---- stops
 
 pub stops_solution : (p : Problem) (ss : List (Named Row)) (s : Named Row) (n : ℕ) (e : SolutionError) (h : Halt) → length ss ≡ n → IsSolutionHalt n s.name e h
-    → FirstFailing (PassesSolution p s.item) (solution_tests p) (Some (test_of e)) → StopsSolution p ss s h
+    → FailsBy p s.item (solution_tests p) e → StopsSolution p ss s h
 stops_solution p ss s n e Memory same is fails = tt
 stops_solution p ss s n e (Refused r f) same is fails = (
   e,
@@ -84,10 +87,10 @@ pub memory_stops : (k : ℕ) (name : List ℕ) (e : RuleError) (h : Halt) → e 
 memory_stops k name e Memory is h = refl
 memory_stops k name e (Refused r f) is h = absurd (let n : rule_cause e ≡ None = ap rule_cause is in cc (n, h.0))
 
-pub stops_step : (c : Certificate) (d : Derivation) (k : ℕ) (e : RuleError) (h : Halt) → count c ≡ k → IsStepHalt k d.name e h → (e ≡ rule.Memory) ⊎ Stops c d (step_tests d.reason) e → StopsStep c d h
-stops_step c d k e Memory same is w = tt
-stops_step c d k e (Refused r f) same is (inl m) = absurd (let n : rule_cause e ≡ None = ap rule_cause m in cc (n, is.0))
-stops_step c d k e (Refused r f) same is (inr x) = (
+pub stops_step : (P : Profile) (c : Certificate) (d : Derivation) (k : ℕ) (e : RuleError) (h : Halt) → count c ≡ k → IsStepHalt k d.name e h → (e ≡ rule.Memory) ⊎ StopsIn P c d (step_tests d.reason) e → StopsStep P c d h
+stops_step P c d k e Memory same is w = tt
+stops_step P c d k e (Refused r f) same is (inl m) = absurd (let n : rule_cause e ≡ None = ap rule_cause m in cc (n, is.0))
+stops_step P c d k e (Refused r f) same is (inr x) = (
   e,
   is.2,
   x,
@@ -96,15 +99,24 @@ stops_step c d k e (Refused r f) same is (inr x) = (
 )
 
 pub kept_or_advanced : (v w : State) (k : Progress) (o : Option Halt) (h : Halt) (a : Stop) (n : ℕ) (name : List ℕ) (e : RuleError) → v ≡ w → IsStepHalt n name e h
-    → (k ≡ v.progress) ⊎ ((e ≡ rule.Memory) × (k ≡ record v.progress { rows = advance_table v.progress.rows })) → o ≡ Some h → a ≡ first_answer h
+    → (k ≡ v.progress) ⊎ ((e ≡ rule.Memory) × (k ≡ record v.progress { rows = advance_table v.progress.rows })) → o ≡ Some h → a ≡ halt_answer h
     → HaltsBy w h (record v { progress = k; halt = o }) a
 kept_or_advanced v w k o h a n name e same is (inl f) g says = halts_same v w k o h a same f g says
 kept_or_advanced v w k o h a n name e same is (inr f) g says = halts_advanced v w k o h a same (memory_stops n name e h f.0 is) f.1 g says
 
+-- what is to be shown is there
+step_can_show : (p : Problem) (k : ℕ) (name : List ℕ) (e : RuleError) (h : Halt) → IsStepHalt k name e h → CanShowHalt p (Some h)
+step_can_show p k name e Memory is = tt
+step_can_show p k name e (Refused r f) is = subst (CanShow p) (sym is.2) tt
+
+pub solution_can_show : (p : Problem) (s : Row) (n : ℕ) (name : List ℕ) (e : SolutionError) (h : Halt) → FailsBy p s (solution_tests p) e → IsSolutionHalt n name e h → CanShowHalt p (Some h)
+solution_can_show p s n name e Memory fails is = tt
+solution_can_show p s n name e (Refused r f) fails is = subst (CanShow p) (sym is.1) (failing_within p s (test_of e) fails.0)
+
 -- after a derivation that failed a test all is as it was
 pub reached_after : (k new : Progress) (b : Bool) (old o : Option Halt) (h : Halt) (n : ℕ) (name : List ℕ) (e : RuleError) → old ≡ None → IsReached k b old → IsStepHalt n name e h
     → (new ≡ k) ⊎ ((e ≡ rule.Memory) × (new ≡ record k { rows = advance_table k.rows })) → o ≡ Some h → IsReached new b o
-reached_after k new b old o h n name e none is tells (inl f) g = subst (λ x. IsReached x b o) (sym f) (reached_still k b old o none is)
+reached_after k new b old o h n name e none is tells (inl f) g = subst (λ x. IsReached x b o) (sym f) (reached_still k b old o none (subst (CanShowHalt k.problem) (sym g) (step_can_show k.problem n name e h tells)) is)
 reached_after k new b old o h n name e none is tells (inr f) g =
     let m : o ≡ Some Memory = g ∙ ap Some (memory_stops n name e h f.0 tells) in
-    record { solutions = λ not p. absurd (not m); steps = λ not p. absurd (not m) }
+    record { solutions = λ not p. absurd (not m); steps = λ not p. absurd (not m); shows = subst (CanShowHalt new.problem) (sym m) tt }

@@ -6,32 +6,29 @@ use Rattle.std.proofs.lemmas.List.Elements.{All-nil, All-cons, All-append}
 use Rattle.std.specs.FinMap.{get}
 use Rattle.vipr_spec.specs.Fraction.{ℚ}
 use Rattle.vipr_spec.specs.Soundness.{IsBestValue}
-use Rattle.vipr_spec.specs.Constraint.{one, Row, at, Condition, condition, IsInteger, NamesBelow}
-use Rattle.vipr_spec.specs.Certificate.{Named, Problem, variables, Derivation, Certificate, count, IsFeasible, SolutionFits, MeetsPrimal, NeedsGoal, IsGoal, held as held_after}
-use Rattle.vipr_spec.specs.OnePass.{with_next, RefersBack, GoalIs}
+use Rattle.vipr_spec.specs.Constraint.{Profile, Row, at, Condition, condition, IsInteger, NamesBelow}
+use Rattle.vipr_spec.specs.Certificate.{Named, Problem, variables, Derivation, Certificate, count, IsFeasible, SolutionFits, MeetsPrimal, NeedsGoal, IsGoal, held as held_after, GoalIs}
+use Rattle.vipr_spec.specs.Steps.{with_next, RefersBack, step_tests, FirstFailing}
 use Rattle.vipr_spec.specs.Checking.{start, IsChecked, IsFirstMet, NextGoal}
-use Rattle.vipr_spec.specs.Verdict.{SolutionTest, PassesSolution, solution_tests, step_tests, FirstFailing, Passes as PassesTest, meets_dual, Report, Reports}
-use Rattle.vipr_spec.proofs.Prefix.{count_next, constraint_next}
-use Rattle.vipr_spec.proofs.Checked.{checked_start, checked_next}
-use Rattle.vipr_spec.proofs.Reported.{next_good, goal_met, goal_missed}
-use Rattle.vipr_spec.proofs.SolutionTests.{no_solution_test_fails}
-use Rattle.vipr_spec.proofs.Steps.{refers_back}
+use Rattle.vipr_spec.specs.Verdict.{Report, Reports}
+use Rattle.vipr_spec.specs.Tests.{SolutionTest, PassesSolution, solution_tests, Passes as PassesTest, meets_dual}
+use Rattle.vipr_spec.proofs.Laws.{count_next, constraint_next, checked_start, checked_next, next_good, goal_met, goal_missed, no_solution_test_fails, refers_back}
 use Rattle.vipr_linear.specs.Accumulator.{Accumulator}
 use Rattle.vipr_linear.specs.Constraint.{constraint_of, condition_of}
 use Rattle.vipr_linear.specs.declared.constraint.Constraint.{Constraint as ConstraintItem}
-use Rattle.vipr_items.specs.Items.{named_of}
-use Rattle.vipr_items.specs.declared.items.Named.{Named as NamedItem}
-use Rattle.vipr_rules.specs.Claim.{IsTargetOf}
+use Rattle.vipr_cert.specs.Items.{named_of}
+use Rattle.vipr_cert.specs.declared.items.Named.{Named as NamedItem}
+use Rattle.vipr_rules.specs.Claim.{IsTargetIn}
 use Rattle.vipr_rules.specs.declared.claim.Target.{Target}
 use Rattle.vipr_rules.specs.declared.claim.Target.TheVariants.{Nothing}
-use Rattle.vipr_rules.specs.Table.{Table, empty_table, advance_table, step, held}
+use Rattle.vipr_rules.specs.Table.{Table, empty_table, advance_table, step, held_count}
 use Rattle.vipr_rules.specs.History.{IsTableOf, IsEntryOf}
 use Rattle.vipr_rules.specs.Table.{DerivedBelow}
-use Rattle.vipr_rules.specs.Apply.{Passes}
+use Rattle.vipr_rules.specs.Apply.{PassesTestsIn}
+use Rattle.vipr_rules.specs.Solution.{FailsBy}
+use Rattle.vipr_rules.specs.declared.solution.SolutionError.{SolutionError}
 use Rattle.vipr_rules.specs.declared.rows.Entry.{Entry}
-use Rattle.vipr_rules.proofs.BelowLemmas.{DerivedBelow-empty, DerivedBelow-step}
-use Rattle.vipr_rules.proofs.TableLemmas.{get-live_part}
-use Rattle.vipr_rules.proofs.HistoryLemmas.{if_live_of, IsTableOf-empty, IsTableOf-step, IsTableOf-held}
+use Rattle.vipr_rules.proofs.Laws.{DerivedBelow-empty, DerivedBelow-step, get-live_part, if_live_of, IsTableOf-empty, IsTableOf-step, IsTableOf-held}
 use Rattle.vipr_check.specs.Goal.{IsFirstHit}
 use Rattle.vipr_check.specs.Progress.{Progress, AreFeasible, HasSolutions, HasSteps, IsReady}
 use Rattle.vipr_check.proofs.GoalLemmas.{first_met}
@@ -46,14 +43,14 @@ feasible_one p s below passes =
     All-cons (λ (s : Named Row). IsFeasible p (at s.item) × SolutionFits p (at s.item)) s [] ((no_solution_test_fails p s.item below).0 passes)
     (All-nil (λ (s : Named Row). IsFeasible p (at s.item) × SolutionFits p (at s.item)))
 
-pub solutions_start : (k : Progress) (t : Target) (cons : List (NamedItem ConstraintItem)) → IsTargetOf k.problem t → k.solutions ≡ 0 → k.best ≡ None → map (named_of constraint_of) cons ≡ k.problem.constraints
+pub solutions_start : (k : Progress) (t : Target) (cons : List (NamedItem ConstraintItem)) → IsTargetIn k.profile k.problem t → k.solutions ≡ 0 → k.best ≡ None → map (named_of constraint_of) cons ≡ k.problem.constraints
     → k.rows ≡ empty_table (length k.problem.constraints) → IsFirstHit t cons k.goal → k.peak ≡ 0 → HasSolutions [] k
 solutions_start k t cons target none unlisted seen rows goal peak = record {
   feasible = All-nil (λ (s : Named Row). IsFeasible k.problem (at s.item) × SolutionFits k.problem (at s.item));
   best = subst (IsBestValue k.problem []) (sym unlisted) refl;
   solutions = sym none;
   rows = rows;
-  goal = first_met k.problem t target cons (sym seen) k.goal goal;
+  goal = first_met k.profile k.problem t target cons (sym seen) k.goal goal;
   peak = peak;
 }
 
@@ -73,6 +70,9 @@ solutions_next k ss s n best below is passes b e = record {
 pub tests_moved : (p q : Problem) (t s : Row) (f : Option SolutionTest) → p ≡ q → t ≡ s → FirstFailing (PassesSolution p t) (solution_tests p) f → FirstFailing (PassesSolution q s) (solution_tests q) f
 tests_moved p q t s f same e h = subst (λ x. FirstFailing (PassesSolution x s) (solution_tests x) f) same (subst (λ y. FirstFailing (PassesSolution p y) (solution_tests p) f) e h)
 
+pub failure_moved : (p q : Problem) (t s : Row) (e : SolutionError) → p ≡ q → t ≡ s → FailsBy p t (solution_tests p) e → FailsBy q s (solution_tests q) e
+failure_moved p q t s f same e h = subst (λ x. FailsBy x s (solution_tests x) f) same (subst (λ y. FailsBy p y (solution_tests p) f) e h)
+
 -- ---- their end
 
 pub steps_start : (k : Progress) (ss : List (Named Row)) → HasSolutions ss k → MeetsPrimal k.problem ss k.problem.claim → HasSteps (start k.problem ss) k
@@ -83,16 +83,16 @@ steps_start k ss is primal = record {
   best = is.best;
   solutions = is.solutions;
   rows = subst (IsTableOf (start k.problem ss)) (sym is.rows) (IsTableOf-empty (start k.problem ss) refl);
-  checked = subst (IsChecked one (start k.problem ss) k.goal) (sym is.peak) (checked_start one k.problem ss k.goal is.goal);
+  checked = subst (IsChecked k.profile (start k.problem ss) k.goal) (sym is.peak) (checked_start k.profile k.problem ss k.goal is.goal);
 }
 
 -- ---- derivations
 
 pub back : (c : Certificate) (k : Progress) → HasSteps c k → RefersBack c
-back c k is = refers_back one c is.checked.steps
+back c k is = refers_back k.profile c is.checked.steps
 
-pub steps_next : (c : Certificate) (d : Derivation) (e : Entry) (k : Progress) (rows : Table) (top : ℕ) (goal : Option ℕ) → HasSteps c k → Passes c d (step_tests d.reason) → IsEntryOf (with_next c d) (count c) e
-    → rows ≡ step k.rows e → top ≡ max k.peak (held rows) → NextGoal one c d k.goal goal → HasSteps (with_next c d) (record k { rows = rows; peak = top; goal = goal })
+pub steps_next : (c : Certificate) (d : Derivation) (e : Entry) (k : Progress) (rows : Table) (top : ℕ) (goal : Option ℕ) → HasSteps c k → PassesTestsIn k.profile c d (step_tests d.reason) → IsEntryOf (with_next c d) (count c) e
+    → rows ≡ step k.rows e → top ≡ max k.peak (held_count rows) → NextGoal k.profile c d k.goal goal → HasSteps (with_next c d) (record k { rows = rows; peak = top; goal = goal })
 steps_next c d e k rows top goal is passes entry placed most next =
     let t : IsTableOf (with_next c d) rows = subst (IsTableOf (with_next c d)) (sym placed) (IsTableOf-step c d e k.rows is.rows (back c k is) entry) in
     let n = count_next c d in
@@ -104,11 +104,11 @@ steps_next c d e k rows top goal is passes entry placed most next =
       best = is.best;
       solutions = is.solutions;
       rows = t;
-      checked = subst (IsChecked one (with_next c d) goal) (sym same) (checked_next one c d k.goal goal k.peak is.checked (next_good one c d passes) next);
+      checked = subst (IsChecked k.profile (with_next c d) goal) (sym same) (checked_next k.profile c d k.goal goal k.peak is.checked (next_good k.profile c d passes) next);
     }
 
 -- so many are held then
-pub held_next : (c : Certificate) (d : Derivation) (k : Progress) → HasSteps (with_next c d) k → held k.rows ≡ held_after (with_next c d) (count c)
+pub held_next : (c : Certificate) (d : Derivation) (k : Progress) → HasSteps (with_next c d) k → held_count k.rows ≡ held_after (with_next c d) (count c)
 held_next c d k is = let n = count_next c d in IsTableOf-held (with_next c d) k.rows is.rows (count c) (sym n) (omega arith)
 
 -- ---- the end
@@ -117,24 +117,24 @@ pub some_goal : {T : Type 0} {t u : T} (goal : Option ℕ) → t ≢ u → ¬ ((
 some_goal None n lacks = absurd (lacks (refl, n))
 some_goal (Some k) n lacks = refl
 
-module _ (c : Certificate) (k : Progress) (is : HasSteps c k) (t : Target) (target : IsTargetOf k.problem t) where
+module _ (c : Certificate) (k : Progress) (is : HasSteps c k) (t : Target) (target : IsTargetIn k.profile k.problem t) where
   needed : NeedsGoal c.problem c.problem.claim → t ≢ Nothing
   needed n = target.needed.0 (subst (λ p. NeedsGoal p p.claim) is.problem n)
 
-  pub unproved : k.goal ≡ None → t ≢ Nothing → ¬ PassesTest one c meets_dual
-  unproved none some = goal_missed one c (subst (GoalIs one c) none is.checked.goal_is) (subst (λ p. NeedsGoal p p.claim) (sym is.problem) (target.needed.1 some))
+  pub unproved : k.goal ≡ None → t ≢ Nothing → ¬ PassesTest k.profile c meets_dual
+  unproved none some = goal_missed k.profile c (subst (GoalIs k.profile c) none is.checked.goal_is) (subst (λ p. NeedsGoal p p.claim) (sym is.problem) (target.needed.1 some))
 
   pub reported : (r : Report) → ¬ ((k.goal ≡ None) × (t ≢ Nothing)) → r.claim ≡ k.problem.claim → r.solutions ≡ k.solutions → r.derived ≡ k.rows.next - length k.problem.constraints → r.peak ≡ k.peak → r.goal ≡ k.goal
-      → PassesTest one c meets_dual × Reports one c r
+      → PassesTest k.profile c meets_dual × Reports k.profile c r
   reported r lacks claim solutions derived peak goal =
-      let met = goal_met one c k.goal is.checked.goal_is (λ n. some_goal k.goal (needed n) lacks) in (
+      let met = goal_met k.profile c k.goal is.checked.goal_is (λ n. some_goal k.goal (needed n) lacks) in (
         met.0,
         record {
           claim = claim ∙ sym (ap (λ p. p.claim) is.problem);
           solutions = solutions ∙ sym is.solutions;
           derived = let e = ap (λ p. length p.constraints) is.problem in let next = is.rows.next in omega (arith, e, next, derived);
           peak = peak ∙ is.checked.peak_is;
-          goal = subst (λ g. MatchOption g (¬ NeedsGoal c.problem c.problem.claim) (IsGoal one c)) (sym goal) met.1;
+          goal = subst (λ g. MatchOption g (¬ NeedsGoal c.problem c.problem.claim) (IsGoal k.profile c)) (sym goal) met.1;
         },
       )
 
@@ -143,12 +143,12 @@ module _ (c : Certificate) (k : Progress) (is : HasSteps c k) (t : Target) (targ
 DerivedBelow-advance : (n : ℕ) (t : Table) → DerivedBelow n t → DerivedBelow n (advance_table t)
 DerivedBelow-advance n t below = record { each = λ i e h. below.each i e (if_live_of (t.next + 1) (get t.entries i) e (sym (get-live_part (t.next + 1) t.entries i) ∙ h)) }
 
-module _ (p : Problem) (t : Target) (rows : Table) (a : Accumulator) (is : IsReady p t rows a) where
-  pub ready_with : (b : Accumulator) → length b.sums ≡ length a.sums → IsReady p t rows b
+module _ (P : Profile) (p : Problem) (t : Target) (rows : Table) (a : Accumulator) (is : IsReady P p t rows a) where
+  pub ready_with : (b : Accumulator) → length b.sums ≡ length a.sums → IsReady P p t rows b
   ready_with b e = record { integers = is.integers; target = is.target; first = is.first; next = is.next; own = is.own; scratch = e ∙ is.scratch }
 
-  pub ready_advance : (new : Table) (b : Accumulator) → new ≡ advance_table rows → length b.sums ≡ length a.sums → IsReady p t new b
-  ready_advance new b placed e = subst (λ r. IsReady p t r b) (sym placed) (record {
+  pub ready_advance : (new : Table) (b : Accumulator) → new ≡ advance_table rows → length b.sums ≡ length a.sums → IsReady P p t new b
+  ready_advance new b placed e = subst (λ r. IsReady P p t r b) (sym placed) (record {
     integers = is.integers;
     target = is.target;
     first = is.first;
@@ -157,8 +157,8 @@ module _ (p : Problem) (t : Target) (rows : Table) (a : Accumulator) (is : IsRea
     scratch = e ∙ is.scratch;
   })
 
-  pub ready_step : (e : Entry) (new : Table) (b : Accumulator) → new ≡ step rows e → length b.sums ≡ length a.sums → NamesBelow (variables p) (at e.constraint.row) → IsReady p t new b
-  ready_step e new b placed same names = subst (λ r. IsReady p t r b) (sym placed) (record {
+  pub ready_step : (e : Entry) (new : Table) (b : Accumulator) → new ≡ step rows e → length b.sums ≡ length a.sums → NamesBelow (variables p) (at e.constraint.row) → IsReady P p t new b
+  ready_step e new b placed same names = subst (λ r. IsReady P p t r b) (sym placed) (record {
     integers = is.integers;
     target = is.target;
     first = is.first;
@@ -167,9 +167,9 @@ module _ (p : Problem) (t : Target) (rows : Table) (a : Accumulator) (is : IsRea
     scratch = same ∙ is.scratch;
   })
 
-pub ready_start : (p : Problem) (t : Target) (table : Table) (a : Accumulator) (m : ℕ) → ((j : ℕ) → IsInteger p.integers j → j < variables p) → IsTargetOf p t → table ≡ empty_table m → m ≡ length p.constraints
-    → length a.sums ≡ variables p → IsReady p t table a
-ready_start p t table a m below target made first scratch = subst (λ r. IsReady p t r a) (sym made) (record {
+pub ready_start : (P : Profile) (p : Problem) (t : Target) (table : Table) (a : Accumulator) (m : ℕ) → ((j : ℕ) → IsInteger p.integers j → j < variables p) → IsTargetIn P p t → table ≡ empty_table m → m ≡ length p.constraints
+    → length a.sums ≡ variables p → IsReady P p t table a
+ready_start P p t table a m below target made first scratch = subst (λ r. IsReady P p t r a) (sym made) (record {
   integers = below;
   target = target;
   first = first;

@@ -3,15 +3,17 @@ use Rattle.std.proofs.Common.{◌≡◌, ◌≢◌, ℕ, zero, suc, ◌+◌, ◌
 use Rattle.std.specs.Prelude.{◌⊎◌, OnErr, IsErrOf, ◌↔◌, IsSome}
 use Rattle.vipr_scan.specs.Giving.{rest_of}
 use Rattle.std.proofs.lemmas.List.{length-append}
-use Rattle.vipr_spec.specs.Constraint.{one, Row, at, NamesBelow}
+use Rattle.vipr_spec.specs.Constraint.{condition, Profile, Row, at, NamesBelow}
 use Rattle.vipr_spec.specs.Certificate.{Named, Problem, variables, Derivation, Certificate, MeetsPrimal, IsProof, count}
 use Rattle.vipr_spec.specs.Reading.{Rest, Read, problem_read, solution_read, derivations_read, derivation_read, end_read}
-use Rattle.vipr_spec.specs.OnePass.{with_next}
+use Rattle.vipr_spec.specs.Steps.{step_tests, PassesStep, with_next, FirstFailing}
 use Rattle.vipr_spec.specs.Checking.{start}
-use Rattle.vipr_spec.specs.Verdict.{spelled, of_solution, meets_primal, meets_dual, of_step, Passes as PassesTest, PassesSolution, solution_tests, FirstFailing, Reports, Answer, verified, told_by, IsAnswer}
-use Rattle.vipr_spec.specs.Progress.{Answers, derivations_from, solutions_from}
-use Rattle.vipr_spec.proofs.Prefix.{count_next}
-use Rattle.vipr_spec.proofs.Remains.{problem_fault, problem_ok, solution_fault, solution_passes, solution_fails, solutions_unmet, derivations_fault, derivations_begin, derivation_fault, derivation_passes, derivation_fails, end_fault, end_unproved, end_verified}
+use Rattle.vipr_spec.specs.Tests.{spelled, of_solution, meets_primal, meets_dual, of_step, Passes as PassesTest, PassesSolution, solution_tests, Detail, none, step, no_proof, no_primal, solution_detail, goal_needed_by}
+use Rattle.vipr_spec.specs.Steps.{FirstFailing}
+use Rattle.vipr_spec.specs.Verdict.{Reports, Answer, verified, refuses, told_by, Explained, IsExplained, IsAnswer}
+use Rattle.vipr_spec.specs.Shape.{ReasonShape}
+use Rattle.vipr_spec.specs.Progress.{derivations_from, solutions_from}
+use Rattle.vipr_spec.proofs.Laws.{count_next, problem_fault, problem_ok, solution_fault, solution_passes, solution_fails, solutions_unmet, derivations_fault, derivations_begin, derivation_fault, derivation_passes, derivation_fails, end_fault, end_unproved, end_verified}
 use Rattle.vipr_scan.specs.Faults.{Fails}
 use Rattle.vipr_scan.specs.declared.error.TextError.{TextError}
 use Rattle.vipr_read.specs.Items.{Items, Knows, Remembers}
@@ -20,16 +22,19 @@ use Rattle.vipr_check.specs.declared.verdict.Refusal.{Refusal}
 use Rattle.vipr_check.specs.declared.verdict.Report.{Report}
 use Rattle.vipr_check.specs.declared.verdict.Verdict.{Verdict}
 use Rattle.vipr_check.specs.declared.verdict.Fault.{Fault}
+use Rattle.vipr_check.specs.declared.verdict.Fault.TheVariants as fault
 use Rattle.vipr_check.specs.declared.halt.Stop.{Stop}
 use Rattle.vipr_check.specs.declared.halt.Stop.TheVariants as stop
 use Rattle.vipr_check.specs.declared.halt.Halt.{Halt}
 use Rattle.vipr_check.specs.declared.halt.Halt.TheVariants.{Refused, Memory}
-use Rattle.vipr_check.specs.View.{answer_of, report_of, refusal_of, Says}
-use Rattle.vipr_check.specs.Halts.{first_answer}
+use Rattle.vipr_check.specs.View.{answer_of, report_of, refusal_of}
+use Rattle.vipr_check.specs.Shown.{finding_shown, primal_shown, halt_shown, state_shown}
+use Rattle.vipr_check.specs.Halts.{halt_answer}
 use Rattle.vipr_check.specs.Progress.{Progress, HasSolutions, HasSteps}
 use Rattle.vipr_check.specs.State.{State, HaltsBy, StopsSolution, TakesSolution, StopsEnd, EndsSolutions, StopsStep, TakesStep, StopsFinish, Finishes}
-use Rattle.vipr_check.specs.Run.{text_answer, stop_answer, step_answer, end_answer, IsAmong, HasListed, GoesAmong, IsAt, Leads, HasReached, Goes}
-use Rattle.vipr_check.proofs.Answering.{Says-by, text_says}
+use Rattle.vipr_check.specs.Run.{text_answer, stop_answer, step_answer, end_answer, IsAmong, HasListed, GoesAmong, IsAt, Leads, HasReached, Goes, SaysWith, SaysAtEnd}
+use Rattle.vipr_check.proofs.Answering.{SaysWith-by, text_says}
+use Rattle.vipr_check.proofs.ShownLemmas.{missed_bound, stop_shown, halted_shown, unshown}
 
 -- ---- the reader's memory
 
@@ -39,21 +44,25 @@ knows_still p old new k r = record { variables = r.variables ∙ k.variables; co
 -- ---- stops
 
 -- a checker that stops for the first time isn't spent
-pub first_unspent : (h : Halt) (e : Stop) → e ≡ first_answer h → e ≢ stop.Spent
+pub first_unspent : (h : Halt) (e : Stop) → e ≡ halt_answer h → e ≢ stop.Spent
 first_unspent (Refused r f) e says is = cc
 first_unspent Memory e says is = cc
 
 some_stop : {T : Type 0} (e : Stop) → e ≢ stop.Spent → ◌≢◌ {A = Result T Stop} (Err e) (Err stop.Spent)
 some_stop e n is = n (cc)
 
+-- what is said where a checker stopped
+stopped_says : (P : Answer → Detail → Type 0) (k l : State) (h : Halt) (e : Stop) → HaltsBy k h l e → SaysWith P (halt_shown k.progress.problem (Some h)) (stop_answer (halt_answer h)) → SaysWith P (state_shown l) (stop_answer e)
+stopped_says P k l h e halts s = subst (λ x. SaysWith P x (stop_answer e)) (sym (halted_shown k l h e halts)) (subst (λ t. SaysWith P (halt_shown k.progress.problem (Some h)) (stop_answer t)) (sym halts.answer) s)
+
 -- ---- the derivations
 
 -- a derivation that was read has an index, and names variables of the problem
-pub room_for : (c : Certificate) (k : State) (old : Items) (n : ℕ) → IsAt c k old → old.left ≡ suc n → k.progress.rows.next + 1 < 2 ^ 32
-room_for c k old n is e = let r = is.room in let next = is.has.rows.next in omega (arith, r, next, e)
+pub room_for : (P : Profile) (c : Certificate) (k : State) (old : Items) (n : ℕ) → IsAt P c k old → old.left ≡ suc n → k.progress.rows.next + 1 < 2 ^ 32
+room_for P c k old n is e = let r = is.room in let next = is.has.rows.next in omega (arith, r, next, e)
 
-pub names_for : (c : Certificate) (k : State) (old : Items) (row : ℕ → _) → IsAt c k old → NamesBelow old.variables row → NamesBelow (variables k.progress.problem) row
-names_for c k old row is names = subst (λ p. NamesBelow (variables p) row) is.has.problem (subst (λ n. NamesBelow n row) is.knows.variables names)
+pub names_for : (P : Profile) (c : Certificate) (k : State) (old : Items) (row : ℕ → _) → IsAt P c k old → NamesBelow old.variables row → NamesBelow (variables k.progress.problem) row
+names_for P c k old row is names = subst (λ p. NamesBelow (variables p) row) is.has.problem (subst (λ n. NamesBelow n row) is.knows.variables names)
 
 pub step_unspent : (c : Certificate) (d : Derivation) (k l : State) (x : Result (Unit {0}) Stop) → TakesStep c d k l x → x ≢ Err stop.Spent
 step_unspent c d k l (Ok done) h = λ e. cc
@@ -63,9 +72,10 @@ pub finish_unspent : (c : Certificate) (k l : State) (x : Result Report Stop) �
 finish_unspent c k l (Ok r) h = λ e. cc
 finish_unspent c k l (Err e) h = some_stop e (first_unspent h.0 e h.1.answer)
 
-pub at_start : (p : Problem) (ss : List (Named Row)) (k l : State) (r : Items) → IsAmong p ss k r → EndsSolutions ss k l (Ok tt) → (new : Items) → Knows new p → new.failed ≡ false → new.constraints + new.left < 2 ^ 32
-    → IsAt (start p ss) l new
-at_start p ss k l r is h new knows unspent room = record {
+pub at_start : (P : Profile) (p : Problem) (ss : List (Named Row)) (k l : State) (r : Items) → IsAmong P p ss k r → EndsSolutions ss k l (Ok tt) → (new : Items) → Knows new p → new.failed ≡ false → new.constraints + new.left < 2 ^ 32
+    → IsAt P (start p ss) l new
+at_start P p ss k l r is h new knows unspent room = record {
+  profile = ap (λ v. v.progress.profile) h.2 ∙ is.profile;
   has = subst (λ q. HasSteps (start q ss) l.progress) is.problem h.1;
   phase = ap (λ v. v.in_solutions) h.2;
   runs = ap (λ v. v.halt) h.2 ∙ is.runs;
@@ -74,35 +84,39 @@ at_start p ss k l r is h new knows unspent room = record {
   room = let e = knows.constraints in omega arith;
 }
 
-pub reached_now : (c : Certificate) (k : State) (old : Items) → IsAt c k old → HasReached c old k old
-reached_now c k old is = record { now = c; is_at = is; leads = λ told. record { told = told; answers = λ a h. h } }
+pub reached_now : (P : Profile) (c : Certificate) (k : State) (old : Items) → IsAt P c k old → HasReached P c old k old
+reached_now P c k old is = record { now = c; is_at = is; leads = λ told. record { told = told; answers = λ a x h. h } }
 
-pub reached_later : (c : Certificate) (k l : State) (old mid new : Items) → (h : HasReached c old k mid) → HasReached h.now mid l new → HasReached c old l new
-reached_later c k l old mid new h i = record {
+pub reached_later : (P : Profile) (c : Certificate) (k l : State) (old mid new : Items) → (h : HasReached P c old k mid) → HasReached P h.now mid l new → HasReached P c old l new
+reached_later P c k l old mid new h i = record {
   now = i.now;
   is_at = i.is_at;
-  leads = λ told. let a = h.leads told in let b = i.leads a.told in record { told = b.told; answers = λ x y. a.answers x (b.answers x y) };
+  leads = λ told. let a = h.leads told in let b = i.leads a.told in record { told = b.told; answers = λ x z y. a.answers x z (b.answers x z y) };
 }
 
-pub ended_later : (c : Certificate) (k : State) (old mid : Items) (x : Result Verdict Fault) → (h : HasReached c old k mid) → IsSome old.rest
-    → (IsSome mid.rest → Says (Answers one (derivations_from h.now mid.left (rest_of mid.rest))) x) → Says (Answers one (derivations_from c old.left (rest_of old.rest))) x
-ended_later c k old mid x h told s = let a = h.leads told in Says-by (Answers one (derivations_from h.now mid.left (rest_of mid.rest))) (Answers one (derivations_from c old.left (rest_of old.rest))) x a.answers (s a.told)
+pub ended_later : (P : Profile) (c : Certificate) (k : State) (old mid : Items) (y : Detail) (x : Result Verdict Fault) → (h : HasReached P c old k mid) → IsSome old.rest
+    → (IsSome mid.rest → SaysWith (Explained P (derivations_from h.now mid.left (rest_of mid.rest))) y x) → SaysWith (Explained P (derivations_from c old.left (rest_of old.rest))) y x
+ended_later P c k old mid y x h told s = let a = h.leads told in SaysWith-by (Explained P (derivations_from h.now mid.left (rest_of mid.rest))) (Explained P (derivations_from c old.left (rest_of old.rest))) y x a.answers (s a.told)
 
-module _ (c : Certificate) (k l : State) (old new : Items) (d : Derivation) (is : IsAt c k old) (fewer : old.left ≡ suc new.left) (memory : Remembers old new) (unspent : new.failed ≡ false)
+module _ (P : Profile) (c : Certificate) (k l : State) (old new : Items) (d : Derivation) (is : IsAt P c k old) (few : ReasonShape d.reason) (fewer : old.left ≡ suc new.left) (memory : Remembers old new) (unspent : new.failed ≡ false)
     (read : IsSome old.rest → (derivation_read c.problem (rest_of old.rest) ≡ Ok (d, (rest_of new.rest))) × (IsSome new.rest)) where
-  abbrev Left : Answer → Type 0
-  Left a = Answers one (derivations_from c old.left (rest_of old.rest)) a
+  abbrev Left : Answer → Detail → Type 0
+  Left a x = Explained P (derivations_from c old.left (rest_of old.rest)) a x
 
-  step_stopped : (h : Halt) → StopsStep c d h → IsSome old.rest → Says Left (stop_answer (first_answer h))
-  step_stopped Memory w told = tt
-  step_stopped (Refused r f) (e, named, fails, refusal) told =
-      subst Left (sym refusal) (subst (λ n. Answers one (derivations_from c n (rest_of old.rest)) (told_by (of_step (count c) fails.0))) (sym fewer)
-      ((derivation_fails one c new.left (rest_of old.rest) d (rest_of new.rest) fails.0 (told_by (of_step (count c) fails.0)) (read told).0 fails.1).1 refl))
+  step_stopped : (p : Problem) (h : Halt) → StopsStep P c d h → IsSome old.rest → SaysWith Left (halt_shown p (Some h)) (stop_answer (halt_answer h))
+  step_stopped p Memory w told = tt
+  step_stopped p (Refused r f) (e, named, fails, refusal) told =
+      let a = refuses (refusal_of r) in
+      let x = finding_shown p f in
+      let shown : x ≡ step d.name fails.2.0 = ap (finding_shown p) named ∙ ap (step d.name) (stop_shown P c d e few fails) in
+      subst (λ n. Explained P (derivations_from c n (rest_of old.rest)) a x) (sym fewer)
+      ((derivation_fails P a x c new.left (rest_of old.rest) d (rest_of new.rest) fails.0 (read told).0 fails.1).1 (refusal, (fails.2.0, fails.2.2, shown)))
 
-  pub goes_on : (x : Result (Unit {0}) Stop) → TakesStep c d k l x → Goes c old l new (step_answer x)
+  pub goes_on : (x : Result (Unit {0}) Stop) → TakesStep c d k l x → Goes P c old l new (step_answer x)
   goes_on (Ok done) h = record {
     now = with_next c d;
     is_at = record {
+      profile = ap (λ v. v.progress.profile) h.4 ∙ is.profile;
       has = h.1;
       phase = ap (λ v. v.in_solutions) h.4 ∙ is.phase;
       runs = ap (λ v. v.halt) h.4 ∙ is.runs;
@@ -112,25 +126,29 @@ module _ (c : Certificate) (k l : State) (old new : Items) (d : Derivation) (is 
     };
     leads = λ told. record {
       told = (read told).1;
-      answers = λ a y. subst (λ n. Answers one (derivations_from c n (rest_of old.rest)) a) (sym fewer) ((derivation_passes one c new.left (rest_of old.rest) d (rest_of new.rest) a (read told).0 h.0).1 y);
+      answers = λ a x y. subst (λ n. Explained P (derivations_from c n (rest_of old.rest)) a x) (sym fewer) ((derivation_passes P a x c new.left (rest_of old.rest) d (rest_of new.rest) (read told).0 (subst (λ Q. FirstFailing (PassesStep Q c (condition d.stated)) (step_tests d.reason) None) is.profile h.0)).1 y);
     };
   }
-  goes_on (Err e) (h, halts, why) = λ told. subst (λ s. Says Left (stop_answer s)) (sym halts.answer) (step_stopped h why told)
+  goes_on (Err e) (h, halts, why) = λ told. stopped_says Left k l h e halts (step_stopped k.progress.problem h (subst (λ Q. StopsStep Q c d h) is.profile why) told)
 
-pub derivations_failed : (c : Certificate) (n : ℕ) (r : Rest) (e : TextError) → ((n ≡ 0) × Fails e (end_read r)) ⊎ ((0 < n) × Fails e (derivation_read c.problem r)) → Says (Answers one (derivations_from c n r)) (text_answer e)
-derivations_failed c n r e (inl h) = subst (λ n. Says (Answers one (derivations_from c n r)) (text_answer e)) (sym h.0) (text_says (Answers one (derivations_from c 0 r)) e (end_read r) h.1 (λ f is. (end_fault one c r f (told_by (spelled f)) is).1 refl))
-derivations_failed c zero r e (inr h) = absurd (let z = h.0 in omega arith)
-derivations_failed c (suc n) r e (inr h) = text_says (Answers one (derivations_from c (suc n) r)) e (derivation_read c.problem r) h.1 (λ f is. (derivation_fault one c n r f (told_by (spelled f)) is).1 refl)
+pub derivations_failed : (P : Profile) (c : Certificate) (n : ℕ) (r : Rest) (x : Detail) (e : TextError) → x ≡ none → ((n ≡ 0) × Fails e (end_read r)) ⊎ ((0 < n) × Fails e (derivation_read c.problem r)) → SaysWith (Explained P (derivations_from c n r)) x (text_answer e)
+derivations_failed P c n r x e shown (inl h) = subst (λ n. SaysWith (Explained P (derivations_from c n r)) x (text_answer e)) (sym h.0) (text_says (Explained P (derivations_from c 0 r)) x e (end_read r) shown h.1 (λ f is. (end_fault P (told_by (spelled f)) none c r f is).1 (refl, refl)))
+derivations_failed P c zero r x e shown (inr h) = absurd (let z = h.0 in omega arith)
+derivations_failed P c (suc n) r x e shown (inr h) = text_says (Explained P (derivations_from c (suc n) r)) x e (derivation_read c.problem r) shown h.1 (λ f is. (derivation_fault P (told_by (spelled f)) none c n r f is).1 (refl, refl))
 
 -- ---- the end
 
-finish_stopped : (c : Certificate) (r : Rest) (h : Halt) → end_read r ≡ Ok tt → StopsFinish c h → Says (Answers one (derivations_from c 0 r)) (stop_answer (first_answer h))
-finish_stopped c r Memory end w = absurd w
-finish_stopped c r (Refused x f) end (named, fails, refusal) = subst (Answers one (derivations_from c 0 r)) (sym refusal) ((end_unproved one c r (told_by meets_dual) end fails).1 refl)
+finish_stopped : (P : Profile) (c : Certificate) (r : Rest) (p : Problem) (h : Halt) → c.problem ≡ p → end_read r ≡ Ok tt → StopsFinish P c h → SaysWith (Explained P (derivations_from c 0 r)) (halt_shown p (Some h)) (stop_answer (halt_answer h))
+finish_stopped P c r p Memory same end w = absurd w
+finish_stopped P c r p (Refused x f) same end (named, fails, refusal) =
+    let shown : finding_shown p f ≡ no_proof (goal_needed_by c.problem c.problem.claim) = ap (finding_shown p) named ∙ ap (λ q. no_proof (goal_needed_by q q.claim)) (sym same) in
+    (end_unproved P (refuses (refusal_of x)) (finding_shown p f) c r end fails).1 (refusal, shown)
 
-pub finished : (c : Certificate) (k l : State) (r : Rest) (x : Result Report Stop) → end_read r ≡ Ok tt → Finishes c k l x → Says (Answers one (derivations_from c 0 r)) (end_answer x)
-finished c k l r (Ok report) end h = (end_verified one c r (verified (report_of report)) end h.0.dual).1 (report_of report, h.1, refl)
-finished c k l r (Err e) end (h, halts, why) = subst (λ s. Says (Answers one (derivations_from c 0 r)) (stop_answer s)) (sym halts.answer) (finish_stopped c r h end why)
+pub finished : (P : Profile) (c : Certificate) (k l : State) (r : Rest) (x : Result Report Stop) → k.progress.profile ≡ P → c.problem ≡ k.progress.problem → k.halt ≡ None → end_read r ≡ Ok tt → Finishes c k l x → SaysWith (Explained P (derivations_from c 0 r)) (state_shown l) (end_answer x)
+finished P c k l r (Ok report) under same runs end h =
+    let shown : state_shown l ≡ none = ap state_shown h.3 ∙ unshown k runs in
+    (end_verified P (verified (report_of report)) (state_shown l) c r end (subst (λ Q. IsProof Q c) under h.0).dual).1 ((report_of report, subst (λ Q. Reports Q c (report_of report)) under h.1, refl), shown)
+finished P c k l r (Err e) under same runs end (h, halts, why) = stopped_says (Explained P (derivations_from c 0 r)) k l h e halts (finish_stopped P c r k.progress.problem h same end (subst (λ Q. StopsFinish Q c h) under why))
 
 -- ---- the solutions
 
@@ -138,40 +156,44 @@ pub solution_unspent : (ss : List (Named Row)) (s : Named Row) (k l : State) (x 
 solution_unspent ss s k l (Ok done) h = λ e. cc
 solution_unspent ss s k l (Err e) h = some_stop e (first_unspent h.0 e h.1.answer)
 
-pub listed_now : (p : Problem) (ss : List (Named Row)) (k : State) (old : Items) → IsAmong p ss k old → HasListed p ss old k old
-listed_now p ss k old is = record { now = ss; is_among = is; told = λ t. t; answers = λ t a h. h }
+pub listed_now : (P : Profile) (p : Problem) (ss : List (Named Row)) (k : State) (old : Items) → IsAmong P p ss k old → HasListed P p ss old k old
+listed_now P p ss k old is = record { now = ss; is_among = is; told = λ t. t; answers = λ t a x h. h }
 
-pub listed_later : (p : Problem) (ss : List (Named Row)) (k l : State) (old mid new : Items) → (h : HasListed p ss old k mid) → HasListed p h.now mid l new → HasListed p ss old l new
-listed_later p ss k l old mid new h i = record {
+pub listed_later : (P : Profile) (p : Problem) (ss : List (Named Row)) (k l : State) (old mid new : Items) → (h : HasListed P p ss old k mid) → HasListed P p h.now mid l new → HasListed P p ss old l new
+listed_later P p ss k l old mid new h i = record {
   now = i.now;
   is_among = i.is_among;
   told = λ t. i.told (h.told t);
-  answers = λ t a y. h.answers t a (i.answers (h.told t) a y);
+  answers = λ t a x y. h.answers t a x (i.answers (h.told t) a x y);
 }
 
-pub answered_later : (p : Problem) (ss : List (Named Row)) (k : State) (old mid : Items) (x : Result Verdict Fault) → (h : HasListed p ss old k mid) → IsSome old.rest
-    → (IsSome mid.rest → Says (Answers one (solutions_from p h.now mid.left (rest_of mid.rest))) x) → Says (Answers one (solutions_from p ss old.left (rest_of old.rest))) x
-answered_later p ss k old mid x h told s = Says-by (Answers one (solutions_from p h.now mid.left (rest_of mid.rest))) (Answers one (solutions_from p ss old.left (rest_of old.rest))) x (h.answers told) (s (h.told told))
+pub answered_later : (P : Profile) (p : Problem) (ss : List (Named Row)) (k : State) (old mid : Items) (y : Detail) (x : Result Verdict Fault) → (h : HasListed P p ss old k mid) → IsSome old.rest
+    → (IsSome mid.rest → SaysWith (Explained P (solutions_from p h.now mid.left (rest_of mid.rest))) y x) → SaysWith (Explained P (solutions_from p ss old.left (rest_of old.rest))) y x
+answered_later P p ss k old mid y x h told s = SaysWith-by (Explained P (solutions_from p h.now mid.left (rest_of mid.rest))) (Explained P (solutions_from p ss old.left (rest_of old.rest))) y x (h.answers told) (s (h.told told))
 
 -- there is a number for one more
-pub one_more : (p : Problem) (ss : List (Named Row)) (k : State) (old : Items) → IsAmong p ss k old → 0 < old.left → k.progress.solutions + 1 < 2 ^ 32
-one_more p ss k old is some = let e = is.has.solutions in let r = is.room in omega (arith, e, r, some)
+pub one_more : (P : Profile) (p : Problem) (ss : List (Named Row)) (k : State) (old : Items) → IsAmong P p ss k old → 0 < old.left → k.progress.solutions + 1 < 2 ^ 32
+one_more P p ss k old is some = let e = is.has.solutions in let r = is.room in omega (arith, e, r, some)
 
-module _ (p : Problem) (ss : List (Named Row)) (k l : State) (old new : Items) (s : Named Row) (is : IsAmong p ss k old) (fewer : old.left ≡ suc new.left) (memory : Remembers old new) (unspent : new.failed ≡ false)
+module _ (P : Profile) (p : Problem) (ss : List (Named Row)) (k l : State) (old new : Items) (s : Named Row) (is : IsAmong P p ss k old) (fewer : old.left ≡ suc new.left) (memory : Remembers old new) (unspent : new.failed ≡ false)
     (read : IsSome old.rest → (solution_read p (rest_of old.rest) ≡ Ok (s, (rest_of new.rest))) × (IsSome new.rest)) where
-  abbrev Remaining : Answer → Type 0
-  Remaining a = Answers one (solutions_from p ss old.left (rest_of old.rest)) a
+  abbrev Remaining : Answer → Detail → Type 0
+  Remaining a x = Explained P (solutions_from p ss old.left (rest_of old.rest)) a x
 
-  solution_stopped : (h : Halt) → StopsSolution p ss s h → IsSome old.rest → Says Remaining (stop_answer (first_answer h))
+  solution_stopped : (h : Halt) → StopsSolution p ss s h → IsSome old.rest → SaysWith Remaining (halt_shown p (Some h)) (stop_answer (halt_answer h))
   solution_stopped Memory w told = tt
   solution_stopped (Refused r f) (e, named, fails, refusal) told =
-      subst Remaining (sym refusal) (subst (λ n. Answers one (solutions_from p ss n (rest_of old.rest)) (told_by (of_solution (length ss) s.item (test_of e)))) (sym fewer)
-      ((solution_fails one p ss new.left (rest_of old.rest) s (rest_of new.rest) (test_of e) (told_by (of_solution (length ss) s.item (test_of e))) (read told).0 fails).1 refl))
+      let a = refuses (refusal_of r) in
+      let x = finding_shown p f in
+      let shown : x ≡ solution_detail p s.name s.item (test_of e) = ap (finding_shown p) named ∙ fails.1 s.name in
+      subst (λ n. Explained P (solutions_from p ss n (rest_of old.rest)) a x) (sym fewer)
+      ((solution_fails P a x p ss new.left (rest_of old.rest) s (rest_of new.rest) (test_of e) (read told).0 fails.0).1 (refusal, shown))
 
-  pub goes_among : (x : Result (Unit {0}) Stop) → TakesSolution ss s k l x → GoesAmong p ss old l new (step_answer x)
+  pub goes_among : (x : Result (Unit {0}) Stop) → TakesSolution ss s k l x → GoesAmong P p ss old l new (step_answer x)
   goes_among (Ok done) h = record {
     now = ss ++ s ∷ [];
     is_among = record {
+      profile = ap (λ v. v.progress.profile) h.2 ∙ is.profile;
       problem = ap (λ v. v.progress.problem) h.2 ∙ is.problem;
       has = h.1;
       phase = ap (λ v. v.in_solutions) h.2 ∙ is.phase;
@@ -181,27 +203,32 @@ module _ (p : Problem) (ss : List (Named Row)) (k l : State) (old new : Items) (
       room = (let e = length-append ss (s ∷ []) in let r = is.room in omega (arith, e, r, fewer));
     };
     told = λ told. (read told).1;
-    answers = λ told a y. subst (λ n. Answers one (solutions_from p ss n (rest_of old.rest)) a) (sym fewer)
-        ((solution_passes one p ss new.left (rest_of old.rest) s (rest_of new.rest) a (read told).0 (subst (λ q. FirstFailing (PassesSolution q s.item) (solution_tests q) None) is.problem h.0)).1 y);
+    answers = λ told a x y. subst (λ n. Explained P (solutions_from p ss n (rest_of old.rest)) a x) (sym fewer)
+        ((solution_passes P a x p ss new.left (rest_of old.rest) s (rest_of new.rest) (read told).0 (subst (λ q. FirstFailing (PassesSolution q s.item) (solution_tests q) None) is.problem h.0)).1 y);
   }
-  goes_among (Err e) (h, halts, why) = λ told. subst (λ x. Says Remaining (stop_answer x)) (sym halts.answer) (solution_stopped h (subst (λ q. StopsSolution q ss s h) is.problem why) told)
+  goes_among (Err e) (h, halts, why) = λ told. stopped_says Remaining k l h e halts
+      (subst (λ q. SaysWith Remaining (halt_shown q (Some h)) (stop_answer (halt_answer h))) (sym is.problem) (solution_stopped h (subst (λ q. StopsSolution q ss s h) is.problem why) told))
 
-solution_fault_at : (p : Problem) (ss : List (Named Row)) (n : ℕ) (r : Rest) (e : TextError) → 0 < n → Fails e (solution_read p r) → Says (Answers one (solutions_from p ss n r)) (text_answer e)
-solution_fault_at p ss zero r e lt h = absurd (omega arith)
-solution_fault_at p ss (suc n) r e lt h = text_says (Answers one (solutions_from p ss (suc n) r)) e (solution_read p r) h (λ f is. (solution_fault one p ss n r f (told_by (spelled f)) is).1 refl)
+solution_fault_at : (P : Profile) (p : Problem) (ss : List (Named Row)) (n : ℕ) (r : Rest) (x : Detail) (e : TextError) → x ≡ none → 0 < n → Fails e (solution_read p r) → SaysWith (Explained P (solutions_from p ss n r)) x (text_answer e)
+solution_fault_at P p ss zero r x e shown lt h = absurd (omega arith)
+solution_fault_at P p ss (suc n) r x e shown lt h = text_says (Explained P (solutions_from p ss (suc n) r)) x e (solution_read p r) shown h (λ f is. (solution_fault P (told_by (spelled f)) none p ss n r f is).1 (refl, refl))
 
-pub solution_missing : (p : Problem) (ss : List (Named Row)) (n : ℕ) (r : Rest) (e : TextError) → 0 < n → ((n ≡ 0) × Fails {Y = Unit {0}} e (Ok tt)) ⊎ ((0 < n) × Fails e (solution_read p r)) → Says (Answers one (solutions_from p ss n r)) (text_answer e)
-solution_missing p ss n r e lt (inl h) = absurd (let z = h.0 in omega arith)
-solution_missing p ss n r e lt (inr h) = solution_fault_at p ss n r e lt h.1
+pub solution_missing : (P : Profile) (p : Problem) (ss : List (Named Row)) (n : ℕ) (r : Rest) (x : Detail) (e : TextError) → x ≡ none → 0 < n → ((n ≡ 0) × Fails {Y = Unit {0}} e (Ok tt)) ⊎ ((0 < n) × Fails e (solution_read p r)) → SaysWith (Explained P (solutions_from p ss n r)) x (text_answer e)
+solution_missing P p ss n r x e shown lt (inl h) = absurd (let z = h.0 in omega arith)
+solution_missing P p ss n r x e shown lt (inr h) = solution_fault_at P p ss n r x e shown lt h.1
 
 -- ---- their end
 
-ending_stopped : (p : Problem) (ss : List (Named Row)) (r : Rest) (h : Halt) → StopsEnd p ss h → Says (Answers one (solutions_from p ss 0 r)) (stop_answer (first_answer h))
-ending_stopped p ss r Memory w = absurd w
-ending_stopped p ss r (Refused x f) (named, fails, refusal) = subst (Answers one (solutions_from p ss 0 r)) (sym refusal) ((solutions_unmet one p ss r (told_by meets_primal) fails).1 refl)
+ending_stopped : (P : Profile) (p : Problem) (ss : List (Named Row)) (r : Rest) (h : Halt) → StopsEnd p ss h → SaysWith (Explained P (solutions_from p ss 0 r)) (halt_shown p (Some h)) (stop_answer (halt_answer h))
+ending_stopped P p ss r Memory w = absurd w
+ending_stopped P p ss r (Refused x f) (named, fails, refusal) =
+    let bound = missed_bound p ss p.claim fails in
+    let shown : finding_shown p f ≡ no_primal bound.0 = ap (finding_shown p) named ∙ ap primal_shown bound.1 in
+    (solutions_unmet P (refuses (refusal_of x)) (finding_shown p f) p ss r fails).1 (refusal, (bound.0, bound.1, shown))
 
-pub ending_unmet : (p : Problem) (ss : List (Named Row)) (k l : State) (r : Rest) (e : Stop) → k.progress.problem ≡ p → EndsSolutions ss k l (Err e) → Says (Answers one (solutions_from p ss 0 r)) (stop_answer e)
-ending_unmet p ss k l r e same (h, halts, why) = subst (λ s. Says (Answers one (solutions_from p ss 0 r)) (stop_answer s)) (sym halts.answer) (ending_stopped p ss r h (subst (λ q. StopsEnd q ss h) same why))
+pub ending_unmet : (P : Profile) (p : Problem) (ss : List (Named Row)) (k l : State) (r : Rest) (e : Stop) → k.progress.problem ≡ p → EndsSolutions ss k l (Err e) → SaysWith (Explained P (solutions_from p ss 0 r)) (state_shown l) (stop_answer e)
+ending_unmet P p ss k l r e same (h, halts, why) = stopped_says (Explained P (solutions_from p ss 0 r)) k l h e halts
+    (subst (λ q. SaysWith (Explained P (solutions_from p ss 0 r)) (halt_shown q (Some h)) (stop_answer (halt_answer h))) (sym same) (ending_stopped P p ss r h (subst (λ q. StopsEnd q ss h) same why)))
 
 pub ending_unspent : (ss : List (Named Row)) (k l : State) (e : Stop) → EndsSolutions ss k l (Err e) → e ≢ stop.Spent
 ending_unspent ss k l e h = first_unspent h.0 e h.1.answer
@@ -209,19 +236,28 @@ ending_unspent ss k l e h = first_unspent h.0 e h.1.answer
 pub ending_met : (p : Problem) (ss : List (Named Row)) (k l : State) → k.progress.problem ≡ p → EndsSolutions ss k l (Ok tt) → MeetsPrimal p ss p.claim
 ending_met p ss k l same h = subst (λ q. MeetsPrimal q ss q.claim) same h.0
 
-pub ending_failed : (p : Problem) (ss : List (Named Row)) (r : Rest) (e : TextError) → MeetsPrimal p ss p.claim → Fails e (derivations_read p r) → Says (Answers one (solutions_from p ss 0 r)) (text_answer e)
-ending_failed p ss r e met h = text_says (Answers one (solutions_from p ss 0 r)) e (derivations_read p r) h (λ f is. (derivations_fault one p ss r f (told_by (spelled f)) met is).1 refl)
+pub ending_failed : (P : Profile) (p : Problem) (ss : List (Named Row)) (r : Rest) (x : Detail) (e : TextError) → x ≡ none → MeetsPrimal p ss p.claim → Fails e (derivations_read p r) → SaysWith (Explained P (solutions_from p ss 0 r)) x (text_answer e)
+ending_failed P p ss r x e shown met h = text_says (Explained P (solutions_from p ss 0 r)) x e (derivations_read p r) shown h (λ f is. (derivations_fault P (told_by (spelled f)) none p ss r f met is).1 (refl, refl))
 
-pub ending_read : (p : Problem) (ss : List (Named Row)) (m : ℕ) (r s : Rest) (x : Result Verdict Fault) → MeetsPrimal p ss p.claim → derivations_read p r ≡ Ok (m, s) → Says (Answers one (derivations_from (start p ss) m s)) x → Says (Answers one (solutions_from p ss 0 r)) x
-ending_read p ss m r s x met is h = Says-by (Answers one (derivations_from (start p ss) m s)) (Answers one (solutions_from p ss 0 r)) x (λ a. (derivations_begin one p ss r m s a met is).1) h
+pub ending_read : (P : Profile) (p : Problem) (ss : List (Named Row)) (m : ℕ) (r s : Rest) (y : Detail) (x : Result Verdict Fault) → MeetsPrimal p ss p.claim → derivations_read p r ≡ Ok (m, s) → SaysWith (Explained P (derivations_from (start p ss) m s)) y x → SaysWith (Explained P (solutions_from p ss 0 r)) y x
+ending_read P p ss m r s y x met is h = SaysWith-by (Explained P (derivations_from (start p ss) m s)) (Explained P (solutions_from p ss 0 r)) y x (λ a z. (derivations_begin P a z p ss r m s met is).1) h
+
+-- the checker stays as it is, but for the phase
+pub ending_shown : (P : Profile) (p : Problem) (ss : List (Named Row)) (k l : State) (r : Items) → IsAmong P p ss k r → EndsSolutions ss k l (Ok tt) → state_shown l ≡ none
+ending_shown P p ss k l r is h = ap state_shown h.2 ∙ unshown k is.runs
 
 -- ---- the problem
 
-pub among_start : (p : Problem) (k : State) (r : Items) → k.progress.problem ≡ p → HasSolutions [] k.progress → k.in_solutions ≡ true → k.halt ≡ None → Knows r p → r.failed ≡ false → r.left < 2 ^ 32 → IsAmong p [] k r
-among_start p k r same has phase runs knows unspent room = record { problem = same; has = has; phase = phase; runs = runs; knows = knows; unspent = unspent; room = omega arith }
+-- where there is no verdict, nothing is shown
+pub fault_ends : (P : Answer → Detail → Type 0) (x : Detail) (f : Fault) → SaysWith P x (Err f) → SaysAtEnd P (Err f)
+fault_ends P x fault.Read h = h
+fault_ends P x fault.Memory h = tt
 
-pub problem_failed : (r : Rest) (e : TextError) → Fails e (problem_read r) → Says (IsAnswer one r) (text_answer e)
-problem_failed r e h = text_says (IsAnswer one r) e (problem_read r) h (λ f is. (problem_fault one r f (told_by (spelled f)) is).1 refl)
+pub among_start : (P : Profile) (p : Problem) (k : State) (r : Items) → k.progress.profile ≡ P → k.progress.problem ≡ p → HasSolutions [] k.progress → k.in_solutions ≡ true → k.halt ≡ None → Knows r p → r.failed ≡ false → r.left < 2 ^ 32 → IsAmong P p [] k r
+among_start P p k r runs_by same has phase runs knows unspent room = record { profile = runs_by; problem = same; has = has; phase = phase; runs = runs; knows = knows; unspent = unspent; room = omega arith }
 
-pub problem_read_on : (r : Rest) (p : Problem) (n : ℕ) (s : Rest) (x : Result Verdict Fault) → problem_read r ≡ Ok ((p, n), s) → Says (Answers one (solutions_from p [] n s)) x → Says (IsAnswer one r) x
-problem_read_on r p n s x is h = Says-by (Answers one (solutions_from p [] n s)) (IsAnswer one r) x (λ a. (problem_ok one r p n s a is).1) h
+pub problem_failed : (P : Profile) (r : Rest) (e : TextError) → Fails e (problem_read r) → SaysWith (IsExplained P r) none (text_answer e)
+problem_failed P r e h = text_says (IsExplained P r) none e (problem_read r) refl h (λ f is. (problem_fault P (told_by (spelled f)) none r f is).1 (refl, refl))
+
+pub problem_read_on : (P : Profile) (r : Rest) (p : Problem) (n : ℕ) (s : Rest) (y : Detail) (x : Result Verdict Fault) → problem_read r ≡ Ok ((p, n), s) → SaysWith (Explained P (solutions_from p [] n s)) y x → SaysWith (IsExplained P r) y x
+problem_read_on P r p n s y x is h = SaysWith-by (Explained P (solutions_from p [] n s)) (IsExplained P r) y x (λ a z. (problem_ok P a z r p n s is).1) h

@@ -7,20 +7,16 @@ use Rattle.std.proofs.lemmas.List.Elements.{All-nil, All-contains}
 use Rattle.std.specs.FinMap as map
 use Rattle.std.specs.FinSet as set
 use Rattle.vipr_spec.specs.Fraction.{ℚ}
-use Rattle.vipr_spec.specs.Constraint.{one, Row, at, Point, Condition, IsTrueAt}
+use Rattle.vipr_spec.specs.Constraint.{Profile, Row, at, Point, Condition, IsTrueAt}
 use Rattle.vipr_spec.specs.Certificate.{Named, Problem, variables, Claim, infeasible, range, asm, Certificate, IsFeasible, SolutionFits, objective_at, IsAsGood, IsAsGoodAt, dual_bound, constraint_at, reason_at, last_at, is_assumption, lasts_to, RestsOn, itself, brought, RestsOnNothing, MeetsBound, MeetsDual, GoalIs, count}
 use Rattle.vipr_spec.specs.Checking.{start, IsChecked}
 use Rattle.vipr_spec.specs.Soundness.{IsAdmitted, IsTrueOf, IsBestValue, IsAdmittedBy}
-use Rattle.vipr_spec.proofs.Prefix.{reason_past, reason_given}
-use Rattle.vipr_spec.proofs.Linear.{absurd_false}
-use Rattle.vipr_spec.proofs.Soundness.{as_good_refl, as_good_trans, as_good_total, all_sound, bound_true}
-use Rattle.vipr_spec.proofs.Best.{admitted_by}
-use Rattle.vipr_spec.proofs.Checked.{checked_start}
+use Rattle.vipr_spec.proofs.Laws.{reason_past, reason_given, absurd_false, as_good_refl, as_good_trans, as_good_total, all_sound, bound_true, admitted_by, checked_start}
 use Rattle.vipr_linear.specs.Constraint.{condition_of}
 use Rattle.vipr_rules.specs.declared.rows.Entry.{Entry}
 use Rattle.vipr_rules.specs.Table.{Table}
 use Rattle.vipr_rules.specs.History.{IsTableOf, is_held}
-use Rattle.vipr_rules.proofs.HistoryLemmas.{IsTableOf-empty}
+use Rattle.vipr_rules.proofs.Laws.{IsTableOf-empty}
 use Rattle.vipr_check.specs.Progress.{Progress, AreFeasible, HasSolutions, HasSteps}
 use Rattle.vipr_check.specs.Sound.{IsDualTrue, RestsOnTrue, KeepsSoundness}
 use Rattle.vipr_check.specs.State.{State, IsReached}
@@ -50,26 +46,26 @@ best_point p ss (Some v) is all = let s = is.0.0 in (at s.item, (All-contains (�
 
 -- ---- the dual side
 
-module _ (c : Certificate) (goal : Option ℕ) (top : ℕ) (b : Option ℚ) (is : IsChecked one c goal top) (best : IsBestValue c.problem c.solutions b) (all : AreFeasible c.problem c.solutions) where
+module _ (P : Profile) (c : Certificate) (goal : Option ℕ) (top : ℕ) (b : Option ℚ) (is : IsChecked P c goal top) (best : IsBestValue c.problem c.solutions b) (all : AreFeasible c.problem c.solutions) where
   module _ (k : ℕ) (none : RestsOnNothing c k) where
     true_at : (x : Point) → IsFeasible c.problem x → (z : Point) × IsFeasible c.problem z × IsAsGoodAt c.problem z x × IsTrueOf c k z
-    true_at x f = let u = unbeaten_one c.problem c.solutions b best all x f in (u.0, u.1, u.3, all_sound one c is.steps k u.0 (record { feasible = u.1; unbeaten = u.2 }) (λ a r. absurd (none a r)))
+    true_at x f = let u = unbeaten_one c.problem c.solutions b best all x f in (u.0, u.1, u.3, all_sound P c is.steps k u.0 (record { feasible = u.1; unbeaten = u.2 }) (λ a r. absurd (none a r)))
 
-    bounded : (o : Option ℚ) → IfSome o (λ bound. MeetsBound one c.problem (constraint_at c k) bound) → IfSome o (λ bound. (x : Point) → IsFeasible c.problem x → IsAsGood c.problem.direction bound (objective_at c.problem x))
+    bounded : (o : Option ℚ) → IfSome o (λ bound. MeetsBound P c.problem (constraint_at c k) bound) → IfSome o (λ bound. (x : Point) → IsFeasible c.problem x → IsAsGood c.problem.direction bound (objective_at c.problem x))
     bounded None h = tt
-    bounded (Some bound) h = λ x f. (let t = true_at x f in as_good_trans c.problem.direction _ _ _ (bound_true one c.problem bound _ t.0 h t.1.whole t.3) t.2)
+    bounded (Some bound) h = λ x f. (let t = true_at x f in as_good_trans c.problem.direction _ _ _ (bound_true P c.problem bound _ t.0 h t.1.whole t.3) t.2)
 
-    some_meets : (o : Option ℚ) (P : ℚ → Type 0) → IsSomeAnd o P → IfSome o P
-    some_meets None P h = tt
-    some_meets (Some v) P h = h
+    some_meets : (o : Option ℚ) (Q : ℚ → Type 0) → IsSomeAnd o Q → IfSome o Q
+    some_meets None Q h = tt
+    some_meets (Some v) Q h = h
 
-    dual_by : (q : Claim) → MeetsDual one c.problem q (constraint_at c k) → IsDualTrue c.problem q
+    dual_by : (q : Claim) → MeetsDual P c.problem q (constraint_at c k) → IsDualTrue c.problem q
     dual_by infeasible h = λ x f. (let t = true_at x f in absurd_false _ t.0 _ h t.3)
-    dual_by (range lower upper) h = bounded (dual_bound c.problem.direction lower upper) (some_meets (dual_bound c.problem.direction lower upper) (MeetsBound one c.problem (constraint_at c k)) h)
+    dual_by (range lower upper) h = bounded (dual_bound c.problem.direction lower upper) (some_meets (dual_bound c.problem.direction lower upper) (MeetsBound P c.problem (constraint_at c k)) h)
 
   dual_of : (g : Option ℕ) → goal ≡ g → IsSome g → IsDualTrue c.problem c.problem.claim
   dual_of None e some = absurd (cc some)
-  dual_of (Some k) e some = let h = subst (GoalIs one c) e is.goal_is in dual_by k h.0.1 c.problem.claim h.0.2
+  dual_of (Some k) e some = let h = subst (GoalIs P c) e is.goal_is in dual_by k h.0.1 c.problem.claim h.0.2
 
 -- ---- the rows
 
@@ -94,29 +90,29 @@ an_entry : (o : Option Entry) → is_some o ≡ true → (e : Entry) × (o ≡ S
 an_entry None h = absurd (cc h)
 an_entry (Some e) h = (e, refl)
 
-module _ (c : Certificate) (t : Table) (goal : Option ℕ) (top : ℕ) (b : Option ℚ) (table : IsTableOf c t) (is : IsChecked one c goal top) (best : IsBestValue c.problem c.solutions b) where
+module _ (P : Profile) (c : Certificate) (t : Table) (goal : Option ℕ) (top : ℕ) (b : Option ℚ) (table : IsTableOf c t) (is : IsChecked P c goal top) (best : IsBestValue c.problem c.solutions b) where
   rows_true : (i : ℕ) (e : Entry) → map.get t.entries i ≡ Some e → (x : Point) → IsAdmittedBy c.problem b x → RestsOnTrue c.problem t e x → IsTrueAt (variables c.problem) (condition_of e.constraint) x
   rows_true i e here x admitted rests =
       let entry = table.entry i e here in
       subst (λ (d : Condition). IsTrueAt (variables c.problem) d x) entry.says
-      (all_sound one c is.steps i x ((admitted_by c.problem c.solutions x b best).1 admitted) (λ a r.
+      (all_sound P c is.steps i x ((admitted_by c.problem c.solutions x b best).1 admitted) (λ a r.
       let f = an_entry (map.get t.entries a) (table.held a ∙ assumption_held c a (assumed c i a r)) in
       subst (λ (d : Condition). IsTrueAt (variables c.problem) d x) (sym (table.entry a f.0 f.1).says) (rests a f.0 ((entry.rests a).1 r) f.1)))
 
-keeps_of : (c : Certificate) (t : Table) (goal : Option ℕ) (top : ℕ) (b : Option ℚ) → IsTableOf c t → IsChecked one c goal top → IsBestValue c.problem c.solutions b → AreFeasible c.problem c.solutions → KeepsSoundness c.problem b t goal
-keeps_of c t goal top b table is best all = record {
+keeps_of : (P : Profile) (c : Certificate) (t : Table) (goal : Option ℕ) (top : ℕ) (b : Option ℚ) → IsTableOf c t → IsChecked P c goal top → IsBestValue c.problem c.solutions b → AreFeasible c.problem c.solutions → KeepsSoundness c.problem b t goal
+keeps_of P c t goal top b table is best all = record {
   best = best_point c.problem c.solutions b best all;
-  rows = rows_true c t goal top b table is best;
-  dual = dual_of c goal top b is best all goal refl;
+  rows = rows_true P c t goal top b table is best;
+  dual = dual_of P c goal top b is best all goal refl;
 }
 
 pub keeps_steps : (c : Certificate) (k : Progress) → HasSteps c k → KeepsSoundness k.problem k.best k.rows k.goal
-keeps_steps c k is = subst (λ p. KeepsSoundness p k.best k.rows k.goal) is.problem (keeps_of c k.rows k.goal k.peak k.best is.rows is.checked is.best is.feasible)
+keeps_steps c k is = subst (λ p. KeepsSoundness p k.best k.rows k.goal) is.problem (keeps_of k.profile c k.rows k.goal k.peak k.best is.rows is.checked is.best is.feasible)
 
 pub keeps_solutions : (ss : List (Named Row)) (k : Progress) → HasSolutions ss k → KeepsSoundness k.problem k.best k.rows k.goal
 keeps_solutions ss k is =
     let c = start k.problem ss in
-    keeps_of c k.rows k.goal k.peak k.best (subst (IsTableOf c) (sym is.rows) (IsTableOf-empty c refl)) (subst (IsChecked one c k.goal) (sym is.peak) (checked_start one k.problem ss k.goal is.goal)) is.best is.feasible
+    keeps_of k.profile c k.rows k.goal k.peak k.best (subst (IsTableOf c) (sym is.rows) (IsTableOf-empty c refl)) (subst (IsChecked k.profile c k.goal) (sym is.peak) (checked_start k.profile k.problem ss k.goal is.goal)) is.best is.feasible
 
 keeps_in : (k : Progress) (phase : Bool) (halt : Option Halt) → IsReached k phase halt → halt ≢ Some Memory → KeepsSoundness k.problem k.best k.rows k.goal
 keeps_in k true halt is n = let r = is.solutions n refl in keeps_solutions r.0 k r.1

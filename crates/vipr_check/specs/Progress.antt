@@ -1,21 +1,24 @@
 -- What a checker knows of a certificate so far: the problem and solutions, or these and derivations
-use Rattle.std.specs.Prelude.{◌≡◌, ℕ, ◌<◌, ◌≤◌, List, length, Option, All, refl}
-use Rattle.std.specs.Coded.{Coded, code_by, coded×, coded_ℕ, coded_option}
+use Rattle.std.specs.Prelude.{◌≡◌, ℕ, ◌<◌, ◌≤◌, Bool, true, false, List, length, Option, All}
+use Rattle.std.specs.Prelude.{refl}
+use Rattle.std.specs.Coded.{Coded, code_by, coded×, coded_bool, coded_ℕ, coded_option}
 use Rattle.vipr_spec.specs.Fraction.{ℚ, coded_ℚ}
-use Rattle.vipr_spec.specs.Constraint.{one, Row, at, IsInteger}
-use Rattle.vipr_spec.specs.Certificate.{Named, Problem, variables, Certificate, IsFeasible, SolutionFits, MeetsPrimal}
+use Rattle.vipr_spec.specs.Constraint.{Profile, one, two, Row, at, IsInteger}
+use Rattle.vipr_spec.specs.Certificate.{Named, Problem, variables, Certificate, IsFeasible}
+use Rattle.vipr_spec.specs.Certificate.{SolutionFits, MeetsPrimal}
 use Rattle.vipr_spec.specs.Soundness.{IsBestValue}
 use Rattle.vipr_spec.specs.Checking.{IsFirstMet, IsChecked}
-use Rattle.vipr_items.specs.Codes.{problem_code}
+use Rattle.vipr_cert.specs.Codes.{problem_code}
 use Rattle.vipr_linear.specs.Accumulator.{Accumulator}
 use Rattle.vipr_rules.specs.Table.{Table, empty_table}
 use Rattle.vipr_rules.specs.TableCode.{table_code}
-use Rattle.vipr_rules.specs.Claim.{IsTargetOf}
+use Rattle.vipr_rules.specs.Claim.{IsTargetIn}
 use Rattle.vipr_rules.specs.declared.claim.Target.{Target}
 use Rattle.vipr_rules.specs.Table.{DerivedBelow}
 use Rattle.vipr_rules.specs.History.{IsTableOf}
 
 pub record Progress : Type 0 where
+  pub profile : Profile
   pub problem : Problem
   -- how many solutions were listed
   pub solutions : ℕ
@@ -27,12 +30,36 @@ pub record Progress : Type 0 where
   -- the first constraint that proves the dual side, if there is one
   pub goal : Option ℕ
 
+abbrev is_one : Profile → Bool
+is_one one = true
+is_one two = false
+
+abbrev profile_from : Bool → Profile
+profile_from true = one
+profile_from false = two
+
+pub profile_again : (P : Profile) → profile_from (is_one P) ≡ P
+profile_again one = refl
+profile_again two = refl
+
+abbrev pub profile_code : Coded Profile
+profile_code = code_by Bool coded_bool is_one profile_from profile_again
+
 abbrev pub progress_code : Coded Progress
 progress_code =
-    code_by ((Problem × (ℕ × Option ℚ)) × (Table × (ℕ × Option ℕ)))
-    (coded× (coded× problem_code (coded× coded_ℕ (coded_option coded_ℚ))) (coded× table_code (coded× coded_ℕ (coded_option coded_ℕ))))
-    (λ k. ((k.problem, (k.solutions, k.best)), (k.rows, (k.peak, k.goal))))
-    (λ t. record { problem = t.0.0; solutions = t.0.1.0; best = t.0.1.1; rows = t.1.0; peak = t.1.1.0; goal = t.1.1.1 })
+    code_by (((Profile × Problem) × (ℕ × Option ℚ)) × (Table × (ℕ × Option ℕ)))
+    (coded× (coded× (coded× profile_code problem_code) (coded× coded_ℕ (coded_option coded_ℚ)))
+    (coded× table_code (coded× coded_ℕ (coded_option coded_ℕ))))
+    (λ k. (((k.profile, k.problem), (k.solutions, k.best)), (k.rows, (k.peak, k.goal))))
+    (λ t. record {
+      profile = t.0.0.0;
+      problem = t.0.0.1;
+      solutions = t.0.1.0;
+      best = t.0.1.1;
+      rows = t.1.0;
+      peak = t.1.1.0;
+      goal = t.1.1.1;
+    })
     (λ _. refl)
 
 -- each of these solutions is feasible and fits
@@ -45,10 +72,11 @@ pub record HasSolutions (ss : List (Named Row)) (k : Progress) : Type 0 where
   pub best : IsBestValue k.problem ss k.best
   pub solutions : length ss ≡ k.solutions
   pub rows : k.rows ≡ empty_table (length k.problem.constraints)
-  pub goal : IsFirstMet one k.problem k.goal
+  pub goal : IsFirstMet k.profile k.problem k.goal
   pub peak : k.peak ≡ 0
 
--- the certificate c came so far: its solutions meet the primal side of the claim, and its steps are good
+-- the certificate c came so far: its solutions meet the primal side of the claim, and its steps are
+-- good
 pub record HasSteps (c : Certificate) (k : Progress) : Type 0 where
   pub problem : c.problem ≡ k.problem
   pub feasible : AreFeasible c.problem c.solutions
@@ -56,12 +84,14 @@ pub record HasSteps (c : Certificate) (k : Progress) : Type 0 where
   pub best : IsBestValue c.problem c.solutions k.best
   pub solutions : length c.solutions ≡ k.solutions
   pub rows : IsTableOf c k.rows
-  pub checked : IsChecked one c k.goal k.peak
+  pub checked : IsChecked k.profile c k.goal k.peak
 
--- what the rules need beside that: the target is that of the claim, all names are the problem's variables, and the scratch has a place for each
-pub record IsReady (p : Problem) (t : Target) (table : Table) (a : Accumulator) : Type 0 where
+-- what the rules need beside that: the target is that of the claim, all names are the problem's
+-- variables, and the scratch has a place for each
+pub record IsReady (P : Profile) (p : Problem) (t : Target) (table : Table)
+    (a : Accumulator) : Type 0 where
   pub integers : (j : ℕ) → IsInteger p.integers j → j < variables p
-  pub target : IsTargetOf p t
+  pub target : IsTargetIn P p t
   pub first : table.first ≡ length p.constraints
   pub next : table.first ≤ table.next
   pub own : DerivedBelow (variables p) table

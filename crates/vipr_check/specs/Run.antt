@@ -1,10 +1,12 @@
 -- A checker run over a text, item by item
-use Rattle.std.specs.Prelude.{◌≡◌, ◌+◌, ◌<◌, ◌^◌, true, false, List, length, Option, Some, None, Result, Ok, Err}
+use Rattle.std.specs.Prelude.{⊤, ◌≡◌, ◌+◌, ◌<◌, ◌^◌, true, false, List, length, Option, Some, None}
+use Rattle.std.specs.Prelude.{Result, Ok, Err}
 use Rattle.std.specs.Prelude.{IsSome}
-use Rattle.vipr_spec.specs.Constraint.{one, Row}
+use Rattle.vipr_spec.specs.Constraint.{Profile, Row}
 use Rattle.vipr_spec.specs.Certificate.{Named, Problem, Certificate, count}
-use Rattle.vipr_spec.specs.Verdict.{Answer}
-use Rattle.vipr_spec.specs.Progress.{Answers, solutions_from, derivations_from}
+use Rattle.vipr_spec.specs.Tests.{Detail as DetailMeant, none}
+use Rattle.vipr_spec.specs.Verdict.{Answer, cut_short, Explained}
+use Rattle.vipr_spec.specs.Progress.{solutions_from, derivations_from}
 use Rattle.vipr_scan.specs.declared.error.TextError.{TextError}
 use Rattle.vipr_scan.specs.declared.error.TextError.TheVariants as text
 use Rattle.vipr_scan.specs.Giving.{rest_of}
@@ -17,7 +19,9 @@ use Rattle.vipr_check.specs.declared.verdict.Fault.{Fault}
 use Rattle.vipr_check.specs.declared.verdict.Fault.TheVariants.{Read, Memory}
 use Rattle.vipr_check.specs.declared.halt.Stop.{Stop}
 use Rattle.vipr_check.specs.declared.halt.Stop.TheVariants as stop
-use Rattle.vipr_check.specs.View.{Says}
+use Rattle.vipr_check.specs.declared.detail.Detail.{Detail}
+use Rattle.vipr_check.specs.View.{answer_of}
+use Rattle.vipr_check.specs.Shown.{detail_of, state_shown, last_shown}
 use Rattle.vipr_check.specs.Progress.{HasSolutions, HasSteps}
 use Rattle.vipr_check.specs.State.{State}
 
@@ -43,10 +47,36 @@ abbrev pub end_answer : Result Report Stop → Result Verdict Fault
 end_answer (Ok r) = Ok (Verified r)
 end_answer (Err e) = stop_answer e
 
+-- the answer, with what is shown of it, is one of these; want of memory is none
+abbrev pub SaysWith : (Answer → DetailMeant → Type 0) → DetailMeant → Result Verdict Fault → Type 0
+SaysWith P x (Ok v) = P (answer_of v) x
+SaysWith P x (Err Read) = P cut_short none
+SaysWith P x (Err Memory) = ⊤
+
+-- the same where a checker may be left, which knows what is shown
+abbrev pub SaysAtEnd : (Answer → DetailMeant → Type 0) → Result (Verdict × Option State) Fault
+    → Type 0
+SaysAtEnd P (Ok e) = P (answer_of e.0) (last_shown e.1)
+SaysAtEnd P (Err Read) = P cut_short none
+SaysAtEnd P (Err Memory) = ⊤
+
+-- the same of a detail
+abbrev pub SaysInDetail : (Answer → DetailMeant → Type 0) → Result (Verdict × Detail) Fault → Type 0
+SaysInDetail P (Ok e) = P (answer_of e.0) (detail_of e.1)
+SaysInDetail P (Err Read) = P cut_short none
+SaysInDetail P (Err Memory) = ⊤
+
+abbrev pub verdict_in : {T : Type 0} → Result (Verdict × T) Fault → Result Verdict Fault
+verdict_in (Ok e) = Ok e.0
+verdict_in (Err f) = Err f
+
 -- ---- the solutions
 
--- the checker stands behind the problem and these solutions, and the reader before the solution that comes next
-pub record IsAmong (p : Problem) (ss : List (Named Row)) (k : State) (r : Items) : Type 0 where
+-- the checker stands behind the problem and these solutions, and the reader before the solution
+-- that comes next
+pub record IsAmong (P : Profile) (p : Problem) (ss : List (Named Row)) (k : State)
+    (r : Items) : Type 0 where
+  pub profile : k.progress.profile ≡ P
   pub problem : k.progress.problem ≡ p
   pub has : HasSolutions ss k.progress
   pub phase : k.in_solutions ≡ true
@@ -56,21 +86,28 @@ pub record IsAmong (p : Problem) (ss : List (Named Row)) (k : State) (r : Items)
   pub room : length ss + r.left < 2 ^ 32
 
 -- so much was read since these solutions that the checker now stands behind more of them
-pub record HasListed (p : Problem) (ss : List (Named Row)) (old : Items) (k : State) (new : Items) : Type 0 where
+pub record HasListed (P : Profile) (p : Problem) (ss : List (Named Row)) (old : Items) (k : State)
+    (new : Items) : Type 0 where
   pub now : List (Named Row)
-  pub is_among : IsAmong p now k new
+  pub is_among : IsAmong P p now k new
   pub told : IsSome old.rest → IsSome new.rest
-  pub answers : IsSome old.rest → (a : Answer) → Answers one (solutions_from p now new.left (rest_of new.rest)) a → Answers one (solutions_from p ss old.left (rest_of old.rest)) a
+  pub answers : IsSome old.rest → (a : Answer) (x : DetailMeant)
+      → Explained P (solutions_from p now new.left (rest_of new.rest)) a x
+      → Explained P (solutions_from p ss old.left (rest_of old.rest)) a x
 
 -- a solution more was taken, or the answer is that for what was left
-abbrev pub GoesAmong : Problem → List (Named Row) → Items → State → Items → Option (Result Verdict Fault) → Type 0
-GoesAmong p ss old k new None = HasListed p ss old k new
-GoesAmong p ss old k new (Some answer) = IsSome old.rest → Says (Answers one (solutions_from p ss old.left (rest_of old.rest))) answer
+abbrev pub GoesAmong : Profile → Problem → List (Named Row) → Items → State → Items
+    → Option (Result Verdict Fault) → Type 0
+GoesAmong P p ss old k new None = HasListed P p ss old k new
+GoesAmong P p ss old k new (Some answer) = IsSome old.rest
+    → SaysWith (Explained P (solutions_from p ss old.left (rest_of old.rest)))
+    (state_shown k) answer
 
 -- ---- the derivations
 
 -- the checker stands behind the certificate c, and the reader before the derivation that comes next
-pub record IsAt (c : Certificate) (k : State) (r : Items) : Type 0 where
+pub record IsAt (P : Profile) (c : Certificate) (k : State) (r : Items) : Type 0 where
+  pub profile : k.progress.profile ≡ P
   pub has : HasSteps c k.progress
   pub phase : k.in_solutions ≡ false
   pub runs : k.halt ≡ None
@@ -78,18 +115,26 @@ pub record IsAt (c : Certificate) (k : State) (r : Items) : Type 0 where
   pub unspent : r.failed ≡ false
   pub room : count c + r.left < 2 ^ 32
 
--- an answer for the certificate d and what is left then is one for the certificate c and what is left before
-pub record Leads (c : Certificate) (old : Items) (d : Certificate) (new : Items) : Type 0 where
+-- an answer for the certificate d and what is left then is one for the certificate c and what is
+-- left before
+pub record Leads (P : Profile) (c : Certificate) (old : Items) (d : Certificate)
+    (new : Items) : Type 0 where
   pub told : IsSome new.rest
-  pub answers : (a : Answer) → Answers one (derivations_from d new.left (rest_of new.rest)) a → Answers one (derivations_from c old.left (rest_of old.rest)) a
+  pub answers : (a : Answer) (x : DetailMeant)
+      → Explained P (derivations_from d new.left (rest_of new.rest)) a x
+      → Explained P (derivations_from c old.left (rest_of old.rest)) a x
 
 -- so much was read since the certificate c that the checker now stands behind another one
-pub record HasReached (c : Certificate) (old : Items) (k : State) (new : Items) : Type 0 where
+pub record HasReached (P : Profile) (c : Certificate) (old : Items) (k : State)
+    (new : Items) : Type 0 where
   pub now : Certificate
-  pub is_at : IsAt now k new
-  pub leads : IsSome old.rest → Leads c old now new
+  pub is_at : IsAt P now k new
+  pub leads : IsSome old.rest → Leads P c old now new
 
 -- a derivation more was taken, or the answer is that for what was left
-abbrev pub Goes : Certificate → Items → State → Items → Option (Result Verdict Fault) → Type 0
-Goes c old k new None = HasReached c old k new
-Goes c old k new (Some answer) = IsSome old.rest → Says (Answers one (derivations_from c old.left (rest_of old.rest))) answer
+abbrev pub Goes : Profile → Certificate → Items → State → Items → Option (Result Verdict Fault)
+    → Type 0
+Goes P c old k new None = HasReached P c old k new
+Goes P c old k new (Some answer) = IsSome old.rest
+    → SaysWith (Explained P (derivations_from c old.left (rest_of old.rest)))
+    (state_shown k) answer

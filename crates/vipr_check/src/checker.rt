@@ -1,23 +1,28 @@
 //! A checker: takes a certificate item by item, and stops at the first that is at fault.
 
-ghost use Rattle.std.specs.Prelude.{◌≡◌, ◌≢◌, ◌+◌, ◌<◌, ◌^◌, true, false, IfOk, MatchOption, List, [], None, Some, Ok, Err};
+ghost use Rattle.std.specs.Prelude.{◌≡◌, ◌≢◌, ◌+◌, ◌<◌, ◌^◌, true, false, IfOk, MatchOption, List};
+ghost use Rattle.std.specs.Prelude.{[], None, Some, Ok, Err};
 ghost use Rattle.vipr_spec.specs.Certificate.{Named as NamedMeant, Certificate, variables};
-ghost use Rattle.vipr_spec.specs.Constraint.{Row, at, NamesBelow};
-ghost use Rattle.vipr_items.specs.Items.{solution_of, derivation_of};
+ghost use Rattle.vipr_spec.specs.Constraint.{one, Row, at, NamesBelow};
+ghost use Rattle.vipr_cert.specs.Items.{solution_of, derivation_of};
+ghost use Rattle.vipr_rules.specs.Profile.{profile_of};
 ghost use Rattle.vipr_check.specs.Sound.{KeepsSoundness};
-ghost use Rattle.vipr_check.specs.Halts.{first_answer, later_answer};
+ghost use Rattle.vipr_check.specs.Halts.{halt_answer, later_answer};
 ghost use Rattle.vipr_check.specs.Progress.{HasSolutions, HasSteps};
-ghost use Rattle.vipr_check.specs.State.{Repeats, TakesSolution, EndsSolutions, TakesStep, Finishes};
+ghost use Rattle.vipr_check.specs.State.{Repeats, TakesSolution, EndsSolutions, TakesStep};
+ghost use Rattle.vipr_check.specs.State.{Finishes};
+ghost use Rattle.vipr_check.specs.Shown.{detail_of, state_shown};
 
 use crate::cause;
+use crate::detail::{Detail, of_finding};
 use crate::halt::{Finding, Halt, Stop};
 use crate::progress::Progress;
 use crate::verdict::Report;
 use std::alloc::{AllocError, Global};
 use std::marker::Model;
-use vipr_items::{Derivation, Named, Problem};
+use vipr_cert::{Derivation, Named, Problem};
 use vipr_linear::Solution;
-use vipr_rules::Rows;
+use vipr_rules::{Profile, Rows};
 
 /// Takes a certificate item by item: the problem, each solution, the end of the solutions, each
 /// derivation, the end. It stops at the first item that is at fault.
@@ -35,7 +40,8 @@ impl<S: Rows> Model for Checker<S> {
 
     ghost coded = { state_code };
 
-    ghost view = { λ k. record { progress = k.progress; in_solutions = k.in_solutions; halt = k.halt } };
+    ghost view = { λ k.
+        record { progress = k.progress; in_solutions = k.in_solutions; halt = k.halt } };
 
     ghost invariant = { λ k. IsReached k.progress k.in_solutions k.halt };
 }
@@ -51,9 +57,29 @@ impl<S: Rows> Checker<S> {
         ensures start { IfOk result (λ k. HasSolutions [] k.progress) }
         ensures phase { IfOk result (λ k. k.in_solutions ≡ true) }
         ensures runs { IfOk result (λ k. k.halt ≡ None) }
+        ensures profile { IfOk result (λ k. k.progress.profile ≡ one) }
+    {
+        Checker::new_in(alloc, Profile::One, problem)
+    }
+
+    /// The same by the rules of a profile.
+    ///
+    /// # Errors
+    ///
+    /// Where a growth is refused.
+    pub fn new_in(
+        alloc: Global,
+        profile: Profile,
+        problem: Problem,
+    ) -> Result<Checker<S>, AllocError>
+        ensures problem { IfOk result (λ k. k.progress.problem ≡ problem) }
+        ensures start { IfOk result (λ k. HasSolutions [] k.progress) }
+        ensures phase { IfOk result (λ k. k.in_solutions ≡ true) }
+        ensures runs { IfOk result (λ k. k.halt ≡ None) }
+        ensures profile { IfOk result (λ k. k.progress.profile ≡ profile_of profile) }
     {
         Ok(Checker {
-            progress: Progress::new(alloc, problem)?,
+            progress: Progress::new(alloc, profile, problem)?,
             in_solutions: true,
             halt: None,
         })
@@ -67,7 +93,8 @@ impl<S: Rows> Checker<S> {
         // feasible point, its rows are true wherever those are that they rest on, and once it has a
         // goal, the dual side of the claim is true.
         ensures sound { self.now.halt ≢ Some Halt.Memory
-            → KeepsSoundness self.now.progress.problem self.now.progress.best self.now.progress.rows self.now.progress.goal }
+            → KeepsSoundness self.now.progress.problem self.now.progress.best self.now.progress.rows
+            self.now.progress.goal }
     {
         self.in_solutions
     }
@@ -81,7 +108,8 @@ impl<S: Rows> Checker<S> {
         requires phase { self.old.in_solutions ≡ true }
         requires room { self.old.progress.solutions + 1 < 2 ^ 32 }
         ensures again { Repeats self.old self.new result }
-        ensures next { (ss : List (NamedMeant Row)) → self.old.halt ≡ None → HasSolutions ss self.old.progress
+        ensures next { (ss : List (NamedMeant Row)) → self.old.halt ≡ None
+            → HasSolutions ss self.old.progress
             → TakesSolution ss (solution_of solution.now) self.old self.new result }
     {
         self.go_on()?;
@@ -105,7 +133,8 @@ impl<S: Rows> Checker<S> {
     pub fn end_solutions(&mut self) -> Result<(), Stop>
         requires { self.old.in_solutions ≡ true }
         ensures again { Repeats self.old self.new result }
-        ensures next { (ss : List (NamedMeant Row)) → self.old.halt ≡ None → HasSolutions ss self.old.progress
+        ensures next { (ss : List (NamedMeant Row)) → self.old.halt ≡ None
+            → HasSolutions ss self.old.progress
             → EndsSolutions ss self.old self.new result }
     {
         self.go_on()?;
@@ -127,7 +156,8 @@ impl<S: Rows> Checker<S> {
     pub fn derivation(&mut self, alloc: Global, step: &Derivation) -> Result<(), Stop>
         requires phase { self.old.in_solutions ≡ false }
         requires room { self.old.progress.rows.next + 1 < 2 ^ 32 }
-        requires names { NamesBelow (variables self.old.progress.problem) (at step.now.constraint.row) }
+        requires names { NamesBelow (variables self.old.progress.problem)
+            (at step.now.constraint.row) }
         ensures again { Repeats self.old self.new result }
         ensures next { (c : Certificate) → self.old.halt ≡ None → HasSteps c self.old.progress
             → TakesStep c (derivation_of step.now) self.old self.new result }
@@ -153,7 +183,8 @@ impl<S: Rows> Checker<S> {
     pub fn finish(&mut self) -> Result<Report, Stop>
         requires { self.old.in_solutions ≡ false }
         ensures again { Repeats self.old self.new result }
-        ensures next { (c : Certificate) → self.old.halt ≡ None → HasSteps c self.old.progress → Finishes c self.old self.new result }
+        ensures next { (c : Certificate) → self.old.halt ≡ None → HasSteps c self.old.progress
+            → Finishes c self.old self.new result }
     {
         self.go_on()?;
         match self.progress.report() {
@@ -164,6 +195,24 @@ impl<S: Rows> Checker<S> {
                     Halt::at_end(cause::NO_PROOF, Finding::Proof),
                 ))
             }
+        }
+    }
+
+    /// The problem, where nothing more is to be checked.
+    pub fn into_problem(self) -> Problem
+        ensures { result ≡ self.progress.problem }
+    {
+        self.progress.into_problem()
+    }
+
+    /// What there is to show of the refusal at which it stopped, and nothing where it didn't.
+    pub(crate) fn detail(self) -> Result<Detail, AllocError>
+        ensures { IfOk result (λ d. detail_of d ≡ state_shown self) }
+    {
+        let Checker { progress, halt, .. } = self;
+        match halt {
+            Some(Halt::Refused(_, finding)) => of_finding(progress, finding),
+            Some(Halt::Memory) | None => Ok(Detail::None),
         }
     }
 
@@ -181,7 +230,7 @@ impl<S: Rows> Checker<S> {
 // Stops, and gives what is answered.
 fn stop(halt: &mut Option<Halt>, why: Halt) -> Stop
     ensures halt { halt.new ≡ Some why }
-    ensures answer { result ≡ first_answer why }
+    ensures answer { result ≡ halt_answer why }
 {
     let answer = why.first_answer();
     *halt = Some(why);

@@ -2,16 +2,16 @@
 
 ghost use Rattle.std.specs.Prelude.{◌≡◌, ◌↔◌, ◌<◌, ◌^◌, length, IsTrue};
 ghost use Rattle.std.specs.FinSet.{empty};
-ghost use Rattle.vipr_spec.specs.Constraint.{one};
+ghost use Rattle.vipr_spec.specs.Constraint.{Profile};
 ghost use Rattle.vipr_spec.specs.Certificate.{Derivation as DerivationMeant, Certificate, count};
-ghost use Rattle.vipr_spec.specs.OnePass.{with_next};
+ghost use Rattle.vipr_spec.specs.Steps.{with_next};
 ghost use Rattle.vipr_spec.specs.Checking.{NextGoal};
 ghost use Rattle.vipr_linear.specs.Constraint.{condition_of};
-ghost use Rattle.vipr_rules.specs.Claim.{IsMetBy, IsTargetOf};
+ghost use Rattle.vipr_rules.specs.Claim.{IsMetBy, IsTargetIn};
 ghost use Rattle.vipr_rules.specs.History.{IsEntryOf};
 ghost use Rattle.vipr_check.specs.Goal.{IsFirstHit};
 
-use vipr_items::Named;
+use vipr_cert::Named;
 use vipr_linear::Constraint;
 use vipr_rules::{Entry, Target};
 
@@ -35,8 +35,10 @@ pub(crate) fn goal_with(
     index: u32,
     entry: &Entry,
 ) -> Option<u32>
-    ensures { (c : Certificate) (d : DerivationMeant) → IsTargetOf c.problem target.now → count c ≡ index
-        → IsEntryOf (with_next c d) (count c) entry.now → NextGoal one c d goal result }
+    ensures { (P : Profile) (c : Certificate) (d : DerivationMeant)
+        → IsTargetIn P c.problem target.now
+        → count c ≡ index
+        → IsEntryOf (with_next c d) (count c) entry.now → NextGoal P c d goal result }
 {
     if goal.is_some() {
         return goal;
@@ -50,7 +52,8 @@ pub(crate) fn goal_with(
 
 // Whether the constraint rests on nothing and says what it must.
 fn is_proof(target: &Target, entry: &Entry) -> bool
-    ensures { IsTrue result ↔ ((entry.now.assumptions ≡ empty) × IsMetBy target.now (condition_of entry.now.constraint)) }
+    ensures { IsTrue result ↔ ((entry.now.assumptions ≡ empty)
+        × IsMetBy target.now (condition_of entry.now.constraint)) }
 {
     entry.assumptions.is_empty() && target.is_met_by(&entry.constraint)
 }

@@ -1,11 +1,11 @@
 //! Why a checker stops, and what it answers then.
 
 ghost use Rattle.std.specs.Prelude.{◌≡◌};
-ghost use Rattle.vipr_check.specs.Halts.{first_answer, later_answer, IsSolutionHalt, IsStepHalt};
+ghost use Rattle.vipr_check.specs.Halts.{halt_answer, later_answer, IsSolutionHalt, IsStepHalt};
 
 use crate::cause;
 use crate::verdict::{Place, Refusal};
-use vipr_items::Name;
+use vipr_cert::Name;
 use vipr_rules::{RuleError, SolutionError};
 
 /// What a call of a `Checker` answers where it doesn't go on.
@@ -46,7 +46,7 @@ impl Halt {
         ensures { IsSolutionHalt number name.now error result }
     {
         let refusal = Refusal {
-            cause: cause::of_solution(error),
+            cause: cause::of_solution(&error),
             place: Place::Sol(number),
         };
         match name.clone() {
@@ -85,7 +85,7 @@ impl Halt {
 
     /// The answer of the call that stops.
     pub(crate) fn first_answer(&self) -> Stop
-        ensures { result ≡ first_answer self.now }
+        ensures { result ≡ halt_answer self.now }
     {
         match self {
             Halt::Refused(refusal, _) => Stop::Refused(*refusal),

@@ -1,8 +1,9 @@
 //! Checks a certificate while it is read, and holds no more of it than later steps may need.
 #![tactic(auto)]
 
-mod cause;
+pub mod cause;
 mod checker;
+mod detail;
 mod goal;
 mod halt;
 mod progress;
@@ -13,6 +14,7 @@ mod verdict;
 mod whole;
 
 pub use checker::Checker;
+pub use detail::{Detail, StepDetail};
 pub use halt::Stop;
 pub use verdict::{Fault, Place, Refusal, Report, Verdict};
-pub use whole::{check, check_with};
+pub use whole::{check, check_in, check_with, explain, explain_in};

@@ -1,15 +1,23 @@
 //! What a checker knows of a certificate so far.
 
-ghost use Rattle.std.specs.Prelude.{◌≡◌, ◌≢◌, ◌≤◌, ◌+◌, ◌<◌, ◌^◌, ◌⊎◌, ◌↔◌, IfOk, IfErr, OnOk, OnErr, MatchResult, MatchOption, IsTrue, Ok, List, [], ◌∷◌, ◌++◌, Some, None};
-ghost use Rattle.vipr_spec.specs.Certificate.{Named as NamedMeant, Derivation as DerivationMeant, Certificate, variables, MeetsPrimal, NeedsGoal, IsProof, count, held};
-ghost use Rattle.vipr_spec.specs.Constraint.{one, Row, at, NamesBelow};
-ghost use Rattle.vipr_spec.specs.OnePass.{with_next};
-ghost use Rattle.vipr_spec.specs.Verdict.{step_tests, FirstFailing, PassesSolution, solution_tests, Reports, meets_dual, Passes as PassesTest};
-ghost use Rattle.vipr_items.specs.Items.{derivation_of};
-ghost use Rattle.vipr_rules.specs.Table.{step as table_step, advance_table, held as held_in};
+ghost use Rattle.std.specs.Prelude.{◌≡◌, ◌≢◌, ◌≤◌, ◌+◌, ◌<◌, ◌^◌, ◌⊎◌, ◌↔◌, IfOk, IfErr, OnOk};
+ghost use Rattle.std.specs.Prelude.{OnErr, MatchResult, MatchOption, IsTrue, Ok, List, [], ◌∷◌};
+ghost use Rattle.std.specs.Prelude.{◌++◌, None, option_map};
+ghost use Rattle.vipr_spec.specs.Certificate.{Named as NamedMeant, Derivation as DerivationMeant};
+ghost use Rattle.vipr_spec.specs.Certificate.{Certificate, variables, MeetsPrimal, NeedsGoal};
+ghost use Rattle.vipr_spec.specs.Certificate.{IsProof, count, held};
+ghost use Rattle.vipr_spec.specs.Constraint.{Row, at, NamesBelow};
+ghost use Rattle.vipr_spec.specs.Steps.{with_next, step_tests, FirstFailing};
+ghost use Rattle.vipr_spec.specs.Tests.{PassesSolution, solution_tests, meets_dual};
+ghost use Rattle.vipr_spec.specs.Tests.{Passes as PassesTest, goal_needed_by};
+ghost use Rattle.vipr_spec.specs.Verdict.{Reports};
+ghost use Rattle.vipr_linear.specs.Constraint.{condition_of};
+ghost use Rattle.vipr_cert.specs.Items.{derivation_of};
+ghost use Rattle.vipr_rules.specs.Profile.{profile_of};
+ghost use Rattle.vipr_rules.specs.Table.{step as table_step, advance_table, held_count as held_in};
 ghost use Rattle.vipr_rules.specs.History.{IsEntryOf};
-ghost use Rattle.vipr_rules.specs.Apply.{Passes, Stops};
-ghost use Rattle.vipr_rules.specs.Solution.{test_of};
+ghost use Rattle.vipr_rules.specs.Apply.{PassesTestsIn, StopsIn};
+ghost use Rattle.vipr_rules.specs.Solution.{FailsBy};
 ghost use Rattle.vipr_rules.specs.declared.claim.Target.TheVariants.{Nothing};
 ghost use Rattle.vipr_rules.specs.declared.error.RuleError.TheVariants.{Memory};
 ghost use Rattle.vipr_check.specs.View.{report_of};
@@ -19,16 +27,18 @@ use crate::goal::{goal_among, goal_with};
 use crate::verdict::Report;
 use std::alloc::{AllocError, Global};
 use std::marker::Model;
+use vipr_cert::{Derivation, Problem};
 use vipr_frac::Frac;
-use vipr_items::{Derivation, Problem};
-use vipr_linear::{Combination, Solution};
+use vipr_linear::{Combination, Constraint, Solution};
 use vipr_rules::{
-    Entry, Rows, RuleError, SolutionError, Target, apply, better, meets_primal, test_solution,
+    Entry, Profile, Rows, RuleError, SolutionError, Target, apply_in, better, meets_primal,
+    test_solution,
 };
 
 /// What is known of a certificate so far.
 #[derive(Drop)]
 pub(crate) struct Progress<S: Rows> {
+    profile: Profile,
     problem: Problem,
     /// What a constraint must say to prove the dual side of the claim.
     target: Target,
@@ -45,15 +55,25 @@ pub(crate) struct Progress<S: Rows> {
 }
 
 impl<S: Rows> Model for Progress<S> {
+    ghost use Rattle.vipr_rules.specs.Profile.{profile_of};
     ghost use Rattle.vipr_check.specs.Progress.{Progress, progress_code, IsReady};
 
     ghost Value = { Progress };
 
     ghost coded = { progress_code };
 
-    ghost view = { λ k. record { problem = k.problem; solutions = k.solutions; best = k.best; rows = S.table k.rows; peak = k.peak; goal = k.goal } };
+    ghost view = { λ k. record {
+      profile = profile_of k.profile;
+      problem = k.problem;
+      solutions = k.solutions;
+      best = k.best;
+      rows = S.table k.rows;
+      peak = k.peak;
+      goal = k.goal;
+    } };
 
-    ghost invariant = { λ k. IsReady k.problem k.target (S.table k.rows) k.scratch };
+    ghost invariant = { λ k. IsReady (profile_of k.profile) k.problem k.target
+        (S.table k.rows) k.scratch };
 }
 
 /// Places an entry, and gives how many are held then.
@@ -79,16 +99,22 @@ fn lacks_goal(goal: Option<u32>, target: &Target) -> bool
 
 impl<S: Rows> Progress<S> {
     /// What is known before the solutions.
-    pub(crate) fn new(alloc: Global, problem: Problem) -> Result<Progress<S>, AllocError>
+    pub(crate) fn new(
+        alloc: Global,
+        profile: Profile,
+        problem: Problem,
+    ) -> Result<Progress<S>, AllocError>
+        ensures profile { IfOk result (λ k. k.profile ≡ profile_of profile) }
         ensures problem { IfOk result (λ k. k.problem ≡ problem) }
         ensures start { IfOk result (λ k. HasSolutions [] k) }
     {
         let variables = problem.names().len() as u32;
         let constraints = problem.cons().len() as u32;
         let scratch = Combination::new(alloc, variables)?;
-        let target = Target::of_claim(&problem)?;
+        let target = Target::of_claim_in(profile, &problem)?;
         let goal = goal_among(&target, problem.cons());
         Ok(Progress {
+            profile,
             problem,
             target,
             solutions: 0,
@@ -98,6 +124,31 @@ impl<S: Rows> Progress<S> {
             peak: 0,
             goal,
         })
+    }
+
+    /// The problem.
+    pub(crate) fn into_problem(self) -> Problem
+        ensures { result ≡ self.problem }
+    {
+        self.problem
+    }
+
+    /// The problem.
+    pub(crate) fn problem(&self) -> &Problem
+        ensures { result.now ≡ self.now.problem }
+    {
+        &self.problem
+    }
+
+    /// What a constraint must dominate to prove the dual side; none is the absurdity.
+    pub(crate) fn goal_needed(self) -> Option<Constraint>
+        ensures { option_map condition_of result ≡ goal_needed_by self.problem self.problem.claim }
+    {
+        let Progress { target, .. } = self;
+        match target {
+            Target::Bound(bound) | Target::WholeBound(bound) => Some(bound),
+            Target::Absurdity | Target::Nothing => None,
+        }
     }
 
     /// How many solutions were listed.
@@ -117,13 +168,16 @@ impl<S: Rows> Progress<S> {
     /// Tests the next listed solution, and goes on with it where it passes.
     pub(crate) fn solution(&mut self, solution: &Solution) -> Result<(), SolutionError>
         requires { self.old.solutions + 1 < 2 ^ 32 }
-        ensures next { (ss : List (NamedMeant Row)) (s : NamedMeant Row) → HasSolutions ss self.old → s.item ≡ solution.now.0
-            → MatchResult result (λ _. FirstFailing (PassesSolution self.old.problem s.item) (solution_tests self.old.problem) None × HasSolutions (ss ++ s ∷ []) self.new)
-            (λ e. FirstFailing (PassesSolution self.old.problem s.item) (solution_tests self.old.problem) (Some (test_of e))) }
-        ensures ok { OnOk result (self.new ≡ record self.old { solutions = self.new.solutions; best = self.new.best }) }
+        ensures next { (ss : List (NamedMeant Row)) (s : NamedMeant Row) → HasSolutions ss self.old
+            → s.item ≡ solution.now.0
+            → MatchResult result (λ _. FirstFailing (PassesSolution self.old.problem s.item)
+            (solution_tests self.old.problem) None × HasSolutions (ss ++ s ∷ []) self.new)
+            (FailsBy self.old.problem s.item (solution_tests self.old.problem)) }
+        ensures ok { OnOk result
+            (self.new ≡ record self.old { solutions = self.new.solutions; best = self.new.best }) }
         ensures err { OnErr result (self.new ≡ self.old) }
     {
-        let value = test_solution(&self.problem, solution)?;
+        let value = test_solution(&self.problem, &mut self.scratch, solution)?;
         self.best = better(&self.problem, self.best, value);
         self.solutions += 1;
         Ok(())
@@ -131,7 +185,8 @@ impl<S: Rows> Progress<S> {
 
     /// Whether the listed solutions meet the primal side of the claim.
     pub(crate) fn meets_primal(&self) -> bool
-        ensures { (ss : List (NamedMeant Row)) → HasSolutions ss self.now → IsTrue result ↔ MeetsPrimal self.now.problem ss self.now.problem.claim }
+        ensures { (ss : List (NamedMeant Row)) → HasSolutions ss self.now
+            → IsTrue result ↔ MeetsPrimal self.now.problem ss self.now.problem.claim }
     {
         meets_primal(&self.problem, self.best.as_ref())
     }
@@ -141,14 +196,21 @@ impl<S: Rows> Progress<S> {
         requires room { self.old.rows.next + 1 < 2 ^ 32 }
         requires names { NamesBelow (variables self.old.problem) (at step.now.constraint.row) }
         ensures next { (c : Certificate) → HasSteps c self.old
-            → MatchResult result (λ _. Passes c (derivation_of step.now) (step_tests (derivation_of step.now).reason) × HasSteps (with_next c (derivation_of step.now)) self.new)
-            (λ e. (e ≡ Memory) ⊎ Stops c (derivation_of step.now) (step_tests (derivation_of step.now).reason) e) }
-        ensures ok { OnOk result (self.new ≡ record self.old { rows = self.new.rows; peak = self.new.peak; goal = self.new.goal }) }
+            → MatchResult result (λ _. PassesTestsIn self.old.profile c (derivation_of step.now)
+            (step_tests (derivation_of step.now).reason)
+            × HasSteps (with_next c (derivation_of step.now)) self.new)
+            (λ e. (e ≡ Memory)
+            ⊎ StopsIn self.old.profile c (derivation_of step.now)
+            (step_tests (derivation_of step.now).reason) e) }
+        ensures ok { OnOk result (self.new ≡ record
+            self.old { rows = self.new.rows; peak = self.new.peak; goal = self.new.goal }) }
         ensures peak { OnOk result (held_in self.new.rows ≤ self.new.peak) }
-        ensures err { IfErr result (λ e. (self.new ≡ self.old) ⊎ ((e ≡ Memory) × (self.new ≡ record self.old { rows = advance_table self.old.rows }))) }
+        ensures err { IfErr result (λ e. (self.new ≡ self.old) ⊎ ((e ≡ Memory)
+            × (self.new ≡ record self.old { rows = advance_table self.old.rows }))) }
     {
-        let entry = apply(
+        let entry = apply_in(
             alloc,
+            self.profile,
             &self.problem,
             self.best.as_ref(),
             &self.rows,
@@ -165,7 +227,9 @@ impl<S: Rows> Progress<S> {
     /// The report, where the certificate ends here and is a proof.
     pub(crate) fn report(&self) -> Option<Report>
         ensures { (c : Certificate) → HasSteps c self.now
-            → MatchOption result (¬ PassesTest one c meets_dual) (λ r. PassesTest one c meets_dual × Reports one c (report_of r)) }
+            → MatchOption result (¬ PassesTest self.now.profile c meets_dual)
+            (λ r. PassesTest self.now.profile c meets_dual
+            × Reports self.now.profile c (report_of r)) }
     {
         if lacks_goal(self.goal, &self.target) {
             return None;

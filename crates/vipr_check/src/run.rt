@@ -1,69 +1,89 @@
 //! Runs a checker over a text: each item is taken before the next one is read.
 
-ghost use Rattle.std.specs.Prelude.{◌≡◌, ◌≢◌, ◌+◌, ◌<◌, ◌^◌, false, suc, List, Ok, Err, IfNone, IsSome};
+ghost use Rattle.std.specs.Prelude.{◌≡◌, ◌≢◌, ◌+◌, ◌<◌, ◌^◌, false, suc, List, Ok, Err, IfNone};
+ghost use Rattle.std.specs.Prelude.{IsSome};
 ghost use Rattle.vipr_scan.specs.Giving.{rest_of};
-ghost use Rattle.vipr_spec.specs.Constraint.{one, Row};
-ghost use Rattle.vipr_spec.specs.Certificate.{Named as NamedMeant, Problem as ProblemMeant, Certificate};
+ghost use Rattle.vipr_spec.specs.Constraint.{Profile as ProfileMeant, Row};
+ghost use Rattle.vipr_spec.specs.Certificate.{Named as NamedMeant, Problem as ProblemMeant};
+ghost use Rattle.vipr_spec.specs.Certificate.{Certificate};
 ghost use Rattle.vipr_spec.specs.Reading.{Rest, problem_read};
-ghost use Rattle.vipr_spec.specs.Verdict.{Answer, IsAnswer};
-ghost use Rattle.vipr_spec.specs.Progress.{Answers, derivations_from, solutions_from};
+ghost use Rattle.vipr_spec.specs.Verdict.{Explained, IsExplained, Answer, IsAnswer};
+ghost use Rattle.vipr_spec.specs.Progress.{derivations_from, solutions_from};
+ghost use Rattle.vipr_rules.specs.Profile.{profile_of};
 ghost use Rattle.vipr_read.specs.Items.{Items, Knows};
 ghost use Rattle.vipr_bytes.specs.Known.{text_of, IfKnown};
 ghost use Rattle.vipr_scan.specs.declared.error.TextError.TheVariants as text_error;
-ghost use Rattle.vipr_check.specs.View.{Says};
-ghost use Rattle.vipr_check.specs.Run.{text_answer, stop_answer, step_answer, end_answer, IsAmong, GoesAmong, IsAt, Goes};
+ghost use Rattle.vipr_check.specs.Shown.{state_shown};
+ghost use Rattle.vipr_check.specs.Run.{text_answer, stop_answer, step_answer, end_answer, IsAmong};
+ghost use Rattle.vipr_check.specs.Run.{GoesAmong, IsAt, Goes, SaysWith, SaysAtEnd};
 
 use crate::checker::Checker;
 use crate::halt::Stop;
 use crate::verdict::{Fault, Place, Refusal, Report, Verdict};
 use std::alloc::Global;
 use vipr_bytes::Source;
-use vipr_items::Problem;
+use vipr_cert::Problem;
 use vipr_read::{CertReader, Derivations, Solutions};
-use vipr_rules::Rows;
+use vipr_rules::{Profile, Rows};
 use vipr_scan::TextError;
 
-/// The verdict on the certificate that is read from `source`.
-pub(crate) fn run<R: Source + Drop, S: Rows>(alloc: Global, source: R) -> Result<Verdict, Fault>
-    ensures { IfKnown (R.input source) (λ i. Says (IsAnswer one (text_of i)) result) }
+/// The verdict on the certificate that is read from `source`, and the checker as it stands then,
+/// which knows what there is to show; none where no problem was read.
+pub(crate) fn run<R: Source + Drop, S: Rows>(
+    alloc: Global,
+    profile: Profile,
+    source: R,
+) -> Result<(Verdict, Option<Checker<S>>), Fault>
+    ensures { IfKnown (R.input source)
+        (λ i. SaysAtEnd (IsExplained (profile_of profile) (text_of i)) result) }
 {
     let reader = CertReader::new(alloc, source)?;
     match reader.read_problem(alloc) {
-        Ok((problem, solutions)) => after_problem::<R, S>(alloc, problem, solutions),
-        Err(error) => unread(error),
+        Ok((problem, solutions)) => after_problem::<R, S>(alloc, profile, problem, solutions),
+        Err(error) => match unread(error) {
+            Ok(verdict) => Ok((verdict, None)),
+            Err(fault) => Err(fault),
+        },
     }
 }
 
-// The verdict where the problem was read.
+// The verdict, and the checker, where the problem was read.
 fn after_problem<R: Source + Drop, S: Rows>(
     alloc: Global,
+    profile: Profile,
     problem: Problem,
     solutions: Solutions<R>,
-) -> Result<Verdict, Fault>
+) -> Result<(Verdict, Option<Checker<S>>), Fault>
     requires knows { Knows solutions problem }
     requires unspent { solutions.failed ≡ false }
     requires counted { solutions.left < 2 ^ 32 }
     ensures { IsSome solutions.rest → (r : Rest)
         → problem_read r ≡ Ok ((problem, solutions.left), (rest_of solutions.rest))
-        → Says (IsAnswer one r) result }
+        → SaysAtEnd (IsExplained (profile_of profile) r) result }
 {
-    let checker: Checker<S> = Checker::new(alloc, problem)?;
-    after_solutions(alloc, checker, solutions)
+    let mut checker: Checker<S> = Checker::new_in(alloc, profile, problem)?;
+    match after_solutions(alloc, &mut checker, solutions) {
+        Ok(verdict) => Ok((verdict, Some(checker))),
+        Err(fault) => Err(fault),
+    }
 }
 
 // The verdict where the checker took all solutions so far.
 fn after_solutions<R: Source + Drop, S: Rows>(
     alloc: Global,
-    mut checker: Checker<S>,
+    checker: &mut Checker<S>,
     mut solutions: Solutions<R>,
 ) -> Result<Verdict, Fault>
-    requires { (p : ProblemMeant) × (ss : List (NamedMeant Row)) × IsAmong p ss checker solutions }
-    ensures { (p : ProblemMeant) (ss : List (NamedMeant Row)) → IsAmong p ss checker solutions
+    requires { (P : ProfileMeant) × (p : ProblemMeant) × (ss : List (NamedMeant Row))
+        × IsAmong P p ss checker.old solutions }
+    ensures { (P : ProfileMeant) (p : ProblemMeant) (ss : List (NamedMeant Row))
+        → IsAmong P p ss checker.old solutions
         → IsSome solutions.rest
-        → Says (Answers one (solutions_from p ss solutions.left (rest_of solutions.rest))) result }
+        → SaysWith (Explained P (solutions_from p ss solutions.left (rest_of solutions.rest)))
+        (state_shown checker.new) result }
 {
     'solutions: while solutions.left() > 0 {
-        match next_solution(alloc, &mut checker, &mut solutions) {
+        match next_solution(alloc, checker, &mut solutions) {
             Some(verdict) => return verdict,
             None => continue 'solutions,
         }
@@ -77,13 +97,13 @@ fn next_solution<R: Source, S: Rows>(
     checker: &mut Checker<S>,
     solutions: &mut Solutions<R>,
 ) -> Option<Result<Verdict, Fault>>
-    requires among { (p : ProblemMeant) × (ss : List (NamedMeant Row))
-        × IsAmong p ss checker.old solutions.old }
+    requires among { (P : ProfileMeant) × (p : ProblemMeant) × (ss : List (NamedMeant Row))
+        × IsAmong P p ss checker.old solutions.old }
     requires some { 0 < solutions.old.left }
     ensures fewer { IfNone result (solutions.old.left ≡ suc solutions.new.left) }
-    ensures step { (p : ProblemMeant) (ss : List (NamedMeant Row))
-        → IsAmong p ss checker.old solutions.old
-        → GoesAmong p ss solutions.old checker.new solutions.new result }
+    ensures step { (P : ProfileMeant) (p : ProblemMeant) (ss : List (NamedMeant Row))
+        → IsAmong P p ss checker.old solutions.old
+        → GoesAmong P p ss solutions.old checker.new solutions.new result }
 {
     match solutions.next(alloc) {
         Ok(Some(solution)) => after_item(checker.solution(&solution)),
@@ -95,15 +115,17 @@ fn next_solution<R: Source, S: Rows>(
 // The verdict where all solutions were taken.
 fn after_last_solution<R: Source + Drop, S: Rows>(
     alloc: Global,
-    mut checker: Checker<S>,
+    checker: &mut Checker<S>,
     solutions: Solutions<R>,
 ) -> Result<Verdict, Fault>
     requires none { solutions.left ≡ 0 }
-    requires among { (p : ProblemMeant) × (ss : List (NamedMeant Row))
-        × IsAmong p ss checker solutions }
-    ensures { (p : ProblemMeant) (ss : List (NamedMeant Row)) → IsAmong p ss checker solutions
+    requires among { (P : ProfileMeant) × (p : ProblemMeant) × (ss : List (NamedMeant Row))
+        × IsAmong P p ss checker.old solutions }
+    ensures { (P : ProfileMeant) (p : ProblemMeant) (ss : List (NamedMeant Row))
+        → IsAmong P p ss checker.old solutions
         → IsSome solutions.rest
-        → Says (Answers one (solutions_from p ss 0 (rest_of solutions.rest))) result }
+        → SaysWith (Explained P (solutions_from p ss 0 (rest_of solutions.rest)))
+        (state_shown checker.new) result }
 {
     if let Err(stop) = checker.end_solutions() {
         return stopped(stop);
@@ -117,15 +139,18 @@ fn after_last_solution<R: Source + Drop, S: Rows>(
 // The verdict where the checker took all derivations so far.
 fn after_steps<R: Source + Drop, S: Rows>(
     alloc: Global,
-    mut checker: Checker<S>,
+    checker: &mut Checker<S>,
     mut derivations: Derivations<R>,
 ) -> Result<Verdict, Fault>
-    requires { (c : Certificate) × IsAt c checker derivations }
-    ensures { (c : Certificate) → IsAt c checker derivations → IsSome derivations.rest
-        → Says (Answers one (derivations_from c derivations.left (rest_of derivations.rest))) result }
+    requires { (P : ProfileMeant) × (c : Certificate) × IsAt P c checker.old derivations }
+    ensures { (P : ProfileMeant) (c : Certificate) → IsAt P c checker.old derivations
+        → IsSome derivations.rest
+        → SaysWith
+        (Explained P (derivations_from c derivations.left (rest_of derivations.rest)))
+        (state_shown checker.new) result }
 {
     'steps: loop {
-        match next_step(alloc, &mut checker, &mut derivations) {
+        match next_step(alloc, checker, &mut derivations) {
             Some(verdict) => return verdict,
             None => continue 'steps,
         }
@@ -138,10 +163,10 @@ fn next_step<R: Source, S: Rows>(
     checker: &mut Checker<S>,
     derivations: &mut Derivations<R>,
 ) -> Option<Result<Verdict, Fault>>
-    requires { (c : Certificate) × IsAt c checker.old derivations.old }
+    requires { (P : ProfileMeant) × (c : Certificate) × IsAt P c checker.old derivations.old }
     ensures fewer { IfNone result (derivations.old.left ≡ suc derivations.new.left) }
-    ensures step { (c : Certificate) → IsAt c checker.old derivations.old
-        → Goes c derivations.old checker.new derivations.new result }
+    ensures step { (P : ProfileMeant) (c : Certificate) → IsAt P c checker.old derivations.old
+        → Goes P c derivations.old checker.new derivations.new result }
 {
     match derivations.next(alloc) {
         Ok(Some(step)) => after_item(checker.derivation(alloc, &step)),

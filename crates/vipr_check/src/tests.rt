@@ -1,7 +1,12 @@
 ghost use Rattle.std.specs.Prelude.{◌≡◌, ◌<◌, length, Some};
 ghost use Rattle.vipr_spec.specs.Input.{Input};
 
-use crate::{Checker, Fault, Place, Refusal, Report, Stop, Verdict, check, check_with};
+mod profiles;
+
+use crate::{
+    Checker, Detail, Fault, Place, Refusal, Report, StepDetail, Stop, Verdict, check, check_with,
+    explain,
+};
 use std::alloc::Global;
 use std::cell::Cell;
 use std::process::Abort;
@@ -123,6 +128,38 @@ fn both_tables_have_the_same_peak(rt: HostRuntime) -> Result<(), Fail> {
         assert_eq!(rt; kept.ok_or("it is a proof")?.peak, peak);
         assert_eq!(rt; live.ok_or("it is a proof")?.peak, peak);
     }
+    Ok(())
+}
+
+/// The detail is that of the first test that fails, and a proof has none.
+#[test]
+fn refusals_are_explained(rt: HostRuntime) -> Result<(), Fail> {
+    let alloc = rt.alloc();
+    let (verdict, detail) = explain(alloc, Bytes::new(INFEASIBLE))?;
+    assert_eq!(rt; report_of(verdict).ok_or("it is a proof")?.goal, Some(2));
+    assert!(rt; matches!(&detail, Detail::None));
+    let (_, detail) = explain(alloc, Bytes::new(MISSPELLED))?;
+    assert!(rt; matches!(&detail, Detail::None));
+    let (_, detail) = explain(alloc, Bytes::new(MIXED))?;
+    let Detail::Step { name, what } = &detail else {
+        return Err(Fail::from("no derivation"));
+    };
+    assert_eq!(rt; name.as_bytes(), b"f".as_slice());
+    assert!(rt; matches!(what, StepDetail::Entry(1)));
+    let (_, detail) = explain(alloc, Bytes::new(UNSOLVED))?;
+    let Detail::Breaks {
+        name,
+        left,
+        right,
+        ..
+    } = &detail
+    else {
+        return Err(Fail::from("no solution"));
+    };
+    assert_eq!(rt; name.as_bytes(), b"a".as_slice());
+    assert!(rt; left.numer() == 2 && right.numer() == 3);
+    let (_, detail) = explain(alloc, Bytes::new(UNPROVED))?;
+    assert!(rt; matches!(&detail, Detail::NoProof(None)));
     Ok(())
 }
 

@@ -1,6 +1,7 @@
-pub mod Steps
-pub mod Views
-pub mod Sums
-pub mod Compared
-pub mod Rounding
-pub mod Parsed
+mod Steps
+mod Views
+mod Sums
+mod Small
+mod Compared
+mod Rounding
+mod Parsed

@@ -5,7 +5,7 @@ use Rattle.std.specs.Str.Parse.{starts_with_minus, without_leading_sign}
 use Rattle.vipr_spec.specs.Fraction.{ℚ}
 use Rattle.vipr_spec.specs.Digits.{natural_of}
 use Rattle.vipr_spec.specs.Number.{SpellsNumber, number_read, of_parts, top_of, bottom_of}
-use Rattle.vipr_spec.proofs.NumberReads.{number_sound, number_complete}
+use Rattle.vipr_spec.proofs.Laws.{number_sound, number_complete}
 use Rattle.vipr_frac.specs.Reading.{as_read}
 use Rattle.vipr_frac.specs.declared.number.NumberError.{NumberError}
 

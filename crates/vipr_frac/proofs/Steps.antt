@@ -18,6 +18,9 @@ gcd-end a b e = gcd-same a b a (IsGcd-from_zero a b e)
 pub gcd-one : (a : ℕ) → gcd a 1 ≡ 1
 gcd-one a = gcd-same a 1 1 (one-dvd a, dvd_refl 1, λ d p q. q)
 
+pub one-gcd : (b : ℕ) → gcd 1 b ≡ 1
+one-gcd b = gcd-same 1 b 1 (dvd_refl 1, one-dvd b, λ d p q. p)
+
 pub gcd-some : (a b g : ℕ) → 0 < b → g ≡ gcd a b → 0 < g
 gcd-some a b g some e = pos_of_dvd_of_pos (subst (λ n. n ∣ b) (sym e) (gcd_is a b).1) some
 

@@ -6,8 +6,7 @@ use Rattle.std.proofs.lemmas.Int.{ints}
 use Rattle.vipr_spec.specs.Gcd.{gcd}
 use Rattle.vipr_spec.specs.Lowest.{IsLowest, abs_div}
 use Rattle.vipr_spec.specs.Fraction.{ℚ, over, whole, most, ◌+ℚ◌, ◌*ℚ◌, IsBounded, IsWhole, SumFits, ProductFits}
-use Rattle.vipr_spec.proofs.Fractions.{whole-add, whole-mul}
-use Rattle.vipr_spec.proofs.Knuth.{sum_is, sum_lowest, product_is, parts_of}
+use Rattle.vipr_spec.proofs.Laws.{whole-add, whole-mul, sum_is, sum_lowest, product_is, parts_of}
 use Rattle.vipr_frac.specs.Parts.{IsReduced, left_part, right_part, both_parts, sum_gcd, sum_denom, product_numer, product_denom, FitsSum, FitsProduct}
 use Rattle.vipr_frac.proofs.Steps.{gcd-one}
 use Rattle.vipr_frac.proofs.Views.{over-self}

@@ -10,8 +10,7 @@ use Rattle.std.proofs.Math.Nat.{div-le_self, le_trans}
 use Rattle.vipr_spec.specs.Gcd.{gcd}
 use Rattle.vipr_spec.specs.Lowest.{abs_div}
 use Rattle.vipr_spec.specs.Fraction.{ℚ, over, neg_ℚ, most, IsBounded}
-use Rattle.vipr_spec.proofs.Knuth.{parts_of}
-use Rattle.vipr_spec.proofs.Fractions.{is_one, is_neg, is_over}
+use Rattle.vipr_spec.proofs.Laws.{parts_of, is_one, is_neg, is_over}
 use Rattle.vipr_frac.specs.Parts.{IsReduced}
 use Rattle.vipr_frac.proofs.Steps.{gcd-one}
 

@@ -1,18 +1,20 @@
--- What the fields of a `Frac` have to do with the fraction that they stand for, and what it is hashed by.
+-- What the fields of a `Frac` have to do with the fraction that they stand for, and what it is
+-- hashed by.
 use Rattle.std.proofs.Common.{◌≡◌, ℕ, ap, ◌∙◌, true}
 use Rattle.std.specs.Prelude.{◌++◌}
 use Rattle.std.specs.Hash as fed
 use Rattle.vipr_spec.specs.Fraction.{ℚ, over}
 use Rattle.vipr_spec.specs.FractionOrder.{eq_ℚ}
-use Rattle.vipr_spec.proofs.Knuth.{parts_of}
-use Rattle.vipr_spec.proofs.FractionOrders.{eq_is}
+use Rattle.vipr_spec.proofs.Laws.{parts_of, eq_is}
 use Rattle.vipr_frac.specs.declared.frac.Frac.TheInside.{Inside}
 use Rattle.vipr_frac.specs.Parts.{IsReduced}
 
-pub inverse_is : (a : Inside) → IsReduced a.p a.q → record { p = (over a.p a.q).numer; q = (over a.p a.q).denom } ≡ a
+pub inverse_is : (a : Inside) → IsReduced a.p a.q
+    → record { p = (over a.p a.q).numer; q = (over a.p a.q).denom } ≡ a
 inverse_is a h =
     let e = parts_of a.p a.q h.lowest in
-    ap (λ (n : ℕ). record { p = (over a.p a.q).numer; q = n }) e.1 ∙ ap (λ p. record { p = p; q = a.q }) e.0
+    ap (λ (n : ℕ). record { p = (over a.p a.q).numer; q = n }) e.1
+    ∙ ap (λ p. record { p = p; q = a.q }) e.0
 
 -- the numerator and the denominator in lowest terms
 abbrev pub hash_input_of : ℚ → fed.HashWrites

@@ -1,5 +1,5 @@
 -- The numbers that a sum and a product go through, and what the fields of a `Frac` keep.
-use Rattle.std.specs.Prelude.{ℕ, ◌*◌, ◌/◌, ◌≤◌, ℤ, pos, ◌+ℤ◌, ◌*ℤ◌, unsigned_abs, int_div}
+use Rattle.std.specs.Prelude.{ℕ, ◌*◌, ◌/◌, ◌≤◌, ◌^◌, ℤ, pos, ◌+ℤ◌, ◌*ℤ◌, unsigned_abs, int_div}
 use Rattle.vipr_spec.specs.Fraction.{ℚ, most}
 use Rattle.vipr_spec.specs.Gcd.{gcd}
 use Rattle.vipr_spec.specs.Lowest.{IsLowest}
@@ -29,10 +29,13 @@ sum_denom x y = (x.denom / gcd x.denom y.denom) * (y.denom / sum_gcd x y)
 
 -- a product, reduced crosswise first
 abbrev pub product_numer : ℚ → ℚ → ℤ
-product_numer x y = int_div x.numer (pos (gcd (unsigned_abs x.numer) y.denom)) *ℤ int_div y.numer (pos (gcd (unsigned_abs y.numer) x.denom))
+product_numer x y =
+    int_div x.numer (pos (gcd (unsigned_abs x.numer) y.denom)) *ℤ int_div y.numer
+    (pos (gcd (unsigned_abs y.numer) x.denom))
 
 abbrev pub product_denom : ℚ → ℚ → ℕ
-product_denom x y = x.denom / gcd (unsigned_abs y.numer) x.denom * (y.denom / gcd (unsigned_abs x.numer) y.denom)
+product_denom x y =
+    x.denom / gcd (unsigned_abs y.numer) x.denom * (y.denom / gcd (unsigned_abs x.numer) y.denom)
 
 pub record FitsProduct (x y : ℚ) : Type 0 where
   pub numer : unsigned_abs (product_numer x y) ≤ most
@@ -49,3 +52,8 @@ pub record FitsSum (x y : ℚ) : Type 0 where
   pub right : unsigned_abs (right_part x y) ≤ most
   pub both : unsigned_abs (both_parts x y) ≤ most
   pub below : sum_denom x y ≤ most
+
+-- products of two such parts, and sums of two such products, are in bound
+pub record IsSmall (x : ℚ) : Type 0 where
+  pub numer : unsigned_abs x.numer ≤ 2 ^ 62
+  pub denom : x.denom ≤ 2 ^ 62

@@ -1,15 +1,20 @@
 //! The fractions and their arithmetic.
-ghost use Rattle.std.specs.Prelude.{◌≡◌, ℕ, ℤ, pos, ◌+◌, ◌*◌, ◌<◌, ◌≤◌, ◌+ℤ◌, ◌*ℤ◌, ◌<ℤ◌, ◌≤ℤ◌, unsigned_abs, int_div, ◌↔◌, ◌⊎◌, IsOk, IfOk, IsTrue};
+ghost use Rattle.std.specs.Prelude.{◌≡◌, ℕ, ℤ, pos, ◌+◌, ◌*◌, ◌<◌, ◌≤◌, ◌+ℤ◌, ◌*ℤ◌, ◌<ℤ◌, ◌≤ℤ◌};
+ghost use Rattle.std.specs.Prelude.{unsigned_abs, int_div, ◌↔◌, ◌⊎◌, IsOk, IfOk, IsTrue};
 ghost use Rattle.std.specs.Ordering.{nat_cmp, int_cmp};
-ghost use Rattle.vipr_spec.specs.Fraction.{most, over, whole, zero_ℚ, neg_ℚ, ◌+ℚ◌, ◌*ℚ◌, IsBounded, IsWhole, SumFits, ProductFits};
+ghost use Rattle.vipr_spec.specs.Fraction.{most, over, whole, zero_ℚ, neg_ℚ, ◌+ℚ◌, ◌*ℚ◌, IsBounded};
+ghost use Rattle.vipr_spec.specs.Fraction.{IsWhole, SumFits, ProductFits};
 ghost use Rattle.vipr_spec.specs.FractionOrder.{IsFloor, IsCeil, eq_ℚ};
 ghost use Rattle.vipr_spec.specs.Gcd.{gcd};
-ghost use Rattle.vipr_frac.specs.Parts.{IsReduced, FitsParts, FitsSum, both_parts};
+ghost use Rattle.vipr_frac.specs.Parts.{IsReduced, FitsParts, FitsSum, both_parts, IsSmall};
 
 use crate::gcd::{gcd_of, quotient};
 use std::cmp::Ordering;
 use std::hash::{Hash, Hasher};
 use std::marker::Model;
+
+// Where no numerator and no denominator is larger, products of two and sums of such stay in bound.
+const SMALL: u128 = 1 << 62;
 
 /// Why a numerator and a denominator make no bounded fraction.
 #[derive(Clone, Copy, Debug, PartialEq, Eq)]
@@ -24,8 +29,9 @@ pub enum FracError {
 #[derive(Clone, Copy, Debug, PartialEq, Eq)]
 pub struct Overflow;
 
-/// A fraction in lowest terms, whose numerator is at most 2^127 - 1 in absolute value, and whose denominator
-/// is at least 1 and at most 2^127 - 1. Equality, order and hash are those of the values.
+/// A fraction in lowest terms, whose numerator is at most 2^127 - 1 in absolute value, and whose
+/// denominator is at least 1 and at most 2^127 - 1. Equality, order and hash are those of the
+/// values.
 #[derive(Clone, Copy, Debug)]
 pub struct Frac {
     p: i128,
@@ -54,7 +60,7 @@ impl Model for Frac {
 impl PartialEq for Frac {
     ghost use Rattle.std.specs.Cmp.{partial_equiv_from_equiv, eq_by_cmp_equiv};
     ghost use Rattle.vipr_spec.specs.FractionOrder.{eq_ℚ};
-    ghost use Rattle.vipr_spec.proofs.FractionOrders.{cmp_total};
+    ghost use Rattle.vipr_spec.proofs.Laws.{cmp_total};
 
     ghost eq = { eq_ℚ };
 
@@ -70,7 +76,7 @@ impl PartialEq for Frac {
 
 impl Eq for Frac {
     ghost use Rattle.std.specs.Cmp.{eq_by_cmp_equiv};
-    ghost use Rattle.vipr_spec.proofs.FractionOrders.{cmp_total};
+    ghost use Rattle.vipr_spec.proofs.Laws.{cmp_total};
 
     ghost laws = { eq_by_cmp_equiv cmp_total };
 }
@@ -93,7 +99,7 @@ impl Hash for Frac {
 impl Ord for Frac {
     ghost use Rattle.std.specs.Prelude.{refl};
     ghost use Rattle.vipr_spec.specs.FractionOrder.{cmp_ℚ};
-    ghost use Rattle.vipr_spec.proofs.FractionOrders.{cmp_total};
+    ghost use Rattle.vipr_spec.proofs.Laws.{cmp_total};
 
     ghost cmp = { cmp_ℚ };
 
@@ -112,7 +118,7 @@ impl PartialOrd for Frac {
     ghost use Rattle.std.specs.Ordering.{as_partial_cmp};
     ghost use Rattle.std.specs.Cmp.{partial_order_from_total};
     ghost use Rattle.vipr_spec.specs.FractionOrder.{cmp_ℚ};
-    ghost use Rattle.vipr_spec.proofs.FractionOrders.{cmp_total};
+    ghost use Rattle.vipr_spec.proofs.Laws.{cmp_total};
 
     ghost partial_cmp = { as_partial_cmp cmp_ℚ };
 
@@ -292,11 +298,49 @@ fn product_by_parts(a: Frac, b: Frac) -> Result<Frac, Overflow>
     Ok(of_parts(p, q))
 }
 
+#[inline(always)]
+fn is_small(a: Frac) -> bool
+    ensures { IsTrue result → IsSmall a }
+{
+    a.p.unsigned_abs() <= SMALL && a.q <= SMALL
+}
+
+// The sum of small fractions.
+#[inline(always)]
+fn small_sum(a: Frac, b: Frac) -> Frac
+    requires left { IsSmall a }
+    requires right { IsSmall b }
+    ensures fits { FitsSum a b }
+    ensures value { result ≡ a +ℚ b }
+{
+    let g = gcd_of(a.q, b.q);
+    let left = a.p * quotient(b.q, g) as i128;
+    let right = b.p * quotient(a.q, g) as i128;
+    let both = left + right;
+    let h = gcd_of(both.unsigned_abs(), g);
+    of_parts(divided(both, h), quotient(a.q, g) * quotient(b.q, h))
+}
+
+// The product of small fractions.
+#[inline(always)]
+fn small_product(a: Frac, b: Frac) -> Frac
+    requires left { IsSmall a }
+    requires right { IsSmall b }
+    ensures fits { ProductFits a b }
+    ensures value { result ≡ a *ℚ b }
+{
+    let g = gcd_of(a.p.unsigned_abs(), b.q);
+    let h = gcd_of(b.p.unsigned_abs(), a.q);
+    let p = divided(a.p, g) * divided(b.p, h);
+    of_parts(p, quotient(a.q, h) * quotient(b.q, g))
+}
+
 impl Frac {
     /// p / q. The parts are tested as they are given, before common divisors are taken out.
     pub fn new(p: i128, q: i128) -> Result<Frac, FracError>
         ensures range { (result ≡ Err FracError.Range) ↔ ((most < unsigned_abs p) ⊎ (q <ℤ pos 0)) }
-        ensures zero { (result ≡ Err FracError.ZeroDenominator) ↔ ((unsigned_abs p ≤ most) × (q ≡ pos 0)) }
+        ensures zero { (result ≡ Err FracError.ZeroDenominator)
+            ↔ ((unsigned_abs p ≤ most) × (q ≡ pos 0)) }
         ensures value { IfOk result (λ f. f ≡ over p (unsigned_abs q)) }
     {
         if p == i128::MIN || q < 0 {
@@ -372,8 +416,8 @@ impl Frac {
         -self.neg().floor()
     }
 
-    /// The exact sum, in lowest terms. It is refused where one of the two parts over the least common
-    /// denominator, their sum, or the denominator of the answer is out of bound.
+    /// The exact sum, in lowest terms. It is refused where one of the two parts over the least
+    /// common denominator, their sum, or the denominator of the answer is out of bound.
     #[inline(always)]
     pub fn add(self, other: Frac) -> Result<Frac, Overflow>
         ensures fits { IsOk result ↔ SumFits self other }
@@ -381,6 +425,9 @@ impl Frac {
     {
         if self.q == 1 && other.q == 1 {
             return whole_sum(self.p, other.p);
+        }
+        if is_small(self) && is_small(other) {
+            return Ok(small_sum(self, other));
         }
         sum_by_parts(self, other)
     }
@@ -393,6 +440,9 @@ impl Frac {
     {
         if self.q == 1 && other.q == 1 {
             return whole_product(self.p, other.p);
+        }
+        if is_small(self) && is_small(other) {
+            return Ok(small_product(self, other));
         }
         product_by_parts(self, other)
     }

@@ -34,7 +34,7 @@ pub(crate) fn gcd_of(a: u128, b: u128) -> u128
     ensures some { 0 < result }
     ensures at_most { result ≤ b }
 {
-    if b == 1 {
+    if a == 1 || b == 1 {
         return 1;
     }
     let mut x = a;

@@ -1,11 +1,13 @@
 //! Fractions as they are written: an optional sign, digits, and optionally a slash and digits.
-ghost use Rattle.std.specs.Prelude.{◌≡◌, ℕ, ◌+◌, ◌^◌, ◌<◌, ◌≤◌, ◌⊎◌, ◌↔◌, min, MatchOption, IfSome, IsOk, OnOk, OnErr, length, ◌++◌, vec_len, vec_capacity};
+ghost use Rattle.std.specs.Prelude.{◌≡◌, ℕ, ◌+◌, ◌^◌, ◌<◌, ◌≤◌, ◌⊎◌, ◌↔◌, min, MatchOption, IfSome};
+ghost use Rattle.std.specs.Prelude.{IsOk, OnOk, OnErr, length, ◌++◌, vec_len, vec_capacity};
 ghost use Rattle.std.specs.Option.{option_map};
 ghost use Rattle.std.specs.List.{position};
 ghost use Rattle.std.specs.Str.Parse.{without_leading_sign, starts_with_minus};
 ghost use Rattle.vipr_spec.specs.Fraction.{ℚ, most};
 ghost use Rattle.vipr_spec.specs.Digits.{natural_of};
-ghost use Rattle.vipr_spec.specs.Number.{SpellsNumber, is_slash, slash_place, top_of, bottom_of, signed, written, of_parts, number_read, number_text};
+ghost use Rattle.vipr_spec.specs.Number.{SpellsNumber, is_slash, slash_place, top_of, bottom_of};
+ghost use Rattle.vipr_spec.specs.Number.{signed, written, of_parts, number_read, number_text};
 ghost use Rattle.vipr_frac.specs.Reading.{as_read};
 
 use crate::frac::{Frac, of_whole, reduced};
@@ -143,7 +145,8 @@ fn fraction(is_negative: bool, top: u128, bottom: u128) -> Result<Frac, NumberEr
 
 // A number without its sign.
 fn unsigned_fraction(is_negative: bool, text: &[u8]) -> Result<Frac, NumberError>
-    ensures { as_read result ≡ of_parts is_negative (natural_of (top_of text.now)) (natural_of (bottom_of text.now)) }
+    ensures { as_read result
+        ≡ of_parts is_negative (natural_of (top_of text.now)) (natural_of (bottom_of text.now)) }
 {
     let place = slash(text);
     match (natural(&text[..place]), natural(bottom(text, place))) {
@@ -155,7 +158,8 @@ fn unsigned_fraction(is_negative: bool, text: &[u8]) -> Result<Frac, NumberError
 // A whole number of a few digits: most numbers of most certificates.
 fn short_whole(is_negative: bool, text: &[u8]) -> Option<Frac>
     ensures { MatchOption result ((SHORT < length text.now) ⊎ (natural_of text.now ≡ None))
-        (λ x. Ok x ≡ of_parts is_negative (natural_of (top_of text.now)) (natural_of (bottom_of text.now))) }
+        (λ x. Ok x ≡ of_parts is_negative (natural_of (top_of text.now))
+        (natural_of (bottom_of text.now))) }
 {
     if text.len() > SHORT {
         return None;
@@ -180,13 +184,14 @@ impl Frac {
         }
     }
 
-    /// Appends the numerator, and where the denominator is not 1 a slash and the denominator: at most 80
-    /// bytes. It is refused only where the room was missing and could not be had, and then nothing is
-    /// appended.
+    /// Appends the numerator, and where the denominator is not 1 a slash and the denominator: at
+    /// most 80 bytes. It is refused only where the room was missing and could not be had, and then
+    /// nothing is appended.
     pub fn write_to(&self, out: &mut Vec<u8>) -> Result<(), AllocError>
         ensures ok { OnOk result (out.new.items ≡ out.old.items ++ number_text self.now) }
         ensures err { OnErr result (out.new.items ≡ out.old.items) }
-        ensures room { vec_len out.old + length (number_text self.now) ≤ vec_capacity out.old → IsOk result }
+        ensures room { vec_len out.old + length (number_text self.now) ≤ vec_capacity out.old
+            → IsOk result }
         ensures short { length (number_text self.now) ≤ 80 }
     {
         let mut top = Buffer::new();

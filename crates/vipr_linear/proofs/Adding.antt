@@ -11,13 +11,11 @@ use Rattle.std.specs.List.{range_with_len}
 use Rattle.std.specs.Ordering.{nat_cmp, int_eq, eq_by_cmp}
 use Rattle.vipr_spec.specs.Fraction.{ℚ, zero_ℚ, ◌+ℚ◌, ◌*ℚ◌}
 use Rattle.vipr_spec.specs.Constraint.{Row, at, equal, Entry, NamesBelow}
-use Rattle.vipr_spec.proofs.Fractions.{add-zero_ℚ, mul-zero_ℚ, zero-mul_ℚ, zero_or_not}
+use Rattle.vipr_spec.proofs.Laws.{add-zero_ℚ, mul-zero_ℚ, zero-mul_ℚ, zero_or_not, turned_zero, joined_equal, zero_numer, zero_from_numer}
 use Rattle.vipr_spec.specs.MoreEntries.{joined, TermFits}
-use Rattle.vipr_spec.proofs.MoreEntries.{turned_zero, joined_equal}
 use Rattle.vipr_linear.specs.Accumulator.{Accumulator, sum_at, with_entry, with_term, with_terms, TermsFitIn}
 use Rattle.vipr_linear.specs.Row.{RisesFrom}
 use Rattle.vipr_linear.proofs.Rows.{row_again, rises_sorted}
-use Rattle.vipr_spec.proofs.Fractions.{zero_numer, zero_from_numer}
 
 abbrev pub coefficient : List (ℕ × ℚ) → ℕ → ℚ
 coefficient es j = unwrap_or (find nat_cmp j es) zero_ℚ

@@ -16,9 +16,9 @@ use Rattle.std.specs.Ordering.{nat_cmp}
 use Rattle.vipr_spec.specs.Fraction.{ℚ, zero_ℚ}
 use Rattle.vipr_spec.specs.Constraint.{at}
 use Rattle.vipr_spec.specs.Reading.{is_nonzero}
-use Rattle.vipr_spec.proofs.Fractions.{zero_or_not}
+use Rattle.vipr_spec.proofs.Laws.{zero_or_not}
 use Rattle.vipr_linear.specs.Row.{RisesFrom, variables_of}
-use Rattle.vipr_linear.specs.Touched.{Touching, Covers, IsKept}
+use Rattle.vipr_linear.specs.Touched.{Touching, Covers, AreTouched}
 use Rattle.vipr_linear.proofs.Marks.{pick, touched_below}
 use Rattle.vipr_linear.proofs.Rows.{nothing_distinct, row_kept, rises_sorted, find_lookup, contains_unfiltered, contains_filter, exact, nonzero_test}
 
@@ -72,10 +72,10 @@ collected_at sums marks xs t c s j = ap (λ o. unwrap_or o zero_ℚ) (get-from_s
 pub touched_within : (sums : List ℚ) (marks : List Bool) (xs : List ℕ) → length marks ≡ length sums → Touching marks xs → All (λ j. j < length sums) xs
 touched_within sums marks xs e t k d l = let h = touched_below marks xs xs k t refl l in rw (get_or_default xs k d 0 l, ← e) h
 
-pub kept_sorted : (sums : List ℚ) (marks : List Bool) (xs ys : List ℕ) (m n : ℕ) → IsPermutation xs ys → n ≡ m → IsKept sums marks xs m → IsKept sums marks ys n
+pub kept_sorted : (sums : List ℚ) (marks : List Bool) (xs ys : List ℕ) (m n : ℕ) → IsPermutation xs ys → n ≡ m → AreTouched sums marks xs m → AreTouched sums marks ys n
 kept_sorted sums marks xs ys m n p e k = record { places = k.places; room = (let r = k.room in omega (arith, e, r)); touching = touching_sorted marks xs ys p k.touching; covers = k.covers }
 
-pub kept_at_first : (n m : ℕ) (touched : List ℕ) → touched ≡ [] → n ≤ m → IsKept (replicate n zero_ℚ) (replicate n false) touched m
+pub kept_at_first : (n m : ℕ) (touched : List ℕ) → touched ≡ [] → n ≤ m → AreTouched (replicate n zero_ℚ) (replicate n false) touched m
 kept_at_first n m touched e le = record {
   places = length-replicate n false ∙ sym (length-replicate n zero_ℚ);
   room = (let l = length-replicate n false in omega (arith, l, le));

@@ -1,9 +1,11 @@
-pub mod Rows
-pub mod Sets
-pub mod Marks
-pub mod Adding
-pub mod Collecting
-pub mod StepByStep
-pub mod Roundings
-pub mod Valuing
-pub mod Searching
+mod Rows
+mod Sets
+mod Marks
+mod Adding
+mod Collecting
+mod StepByStep
+mod Roundings
+mod Valuing
+mod Searching
+mod Points
+pub mod Laws

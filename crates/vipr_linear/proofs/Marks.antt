@@ -13,7 +13,7 @@ use Rattle.std.specs.List.{IsDistinct, list_any}
 use Rattle.vipr_spec.specs.Fraction.{ℚ, zero_ℚ, ◌+ℚ◌, ◌*ℚ◌, ProductFits, SumFits}
 use Rattle.vipr_spec.specs.Reading.{is_nonzero}
 use Rattle.std.specs.Ordering.{int_eq}
-use Rattle.vipr_spec.proofs.Fractions.{zero_or_not}
+use Rattle.vipr_spec.proofs.Laws.{zero_or_not}
 use Rattle.vipr_spec.specs.MoreEntries.{TermFits}
 use Rattle.vipr_linear.specs.Accumulator.{with_term, with_terms, TermsFitIn}
 use Rattle.vipr_linear.specs.Touched.{Touching, Covers}

@@ -1,11 +1,11 @@
 -- Whole fractions, and what a rounding dominates
-use Rattle.std.proofs.Common.{◌≡◌, ℤ, pos, ◌+ℤ◌, ◌≤ℤ◌, Bool, true, arith, sym, ◌∙◌, ap, subst, inl, inr}
+use Rattle.std.proofs.Common.{◌≡◌, ℤ, pos, ◌+ℤ◌, ◌≤ℤ◌, Bool, true, arith, refl, sym, ◌∙◌, ap, subst, inl, inr}
 use Rattle.std.specs.Prelude.{◌↔◌}
 use Rattle.std.proofs.lemmas.Int.{ints}
 use Rattle.vipr_spec.specs.Fraction.{ℚ, whole}
-use Rattle.vipr_spec.specs.Constraint.{Sense, at_most, equal, at_least, Condition, at, RoundsTo, Dominates, DominatesRounded}
-use Rattle.vipr_spec.proofs.Fractions.{Is, is_self, is_one, is_whole, le_of_whole, le_of_eq_ℚ}
-use Rattle.vipr_linear.specs.Constraint.{sense_of, condition_of}
+use Rattle.vipr_spec.specs.Constraint.{Sense, at_most, equal, at_least, Condition, at, RoundsTo, Dominates, DominatesRounded, two, LeavesNone}
+use Rattle.vipr_spec.proofs.Laws.{Is, is_self, is_one, is_whole, le_of_whole, le_of_eq_ℚ}
+use Rattle.vipr_linear.specs.Constraint.{sense_of, condition_of, with_bound}
 use Rattle.vipr_linear.specs.Rounding.{IsRounding, RoundedDominates}
 use Rattle.vipr_linear.specs.declared.constraint.Constraint.{Constraint}
 use Rattle.vipr_linear.specs.declared.rounding.Rounded.{Rounded}
@@ -44,3 +44,15 @@ rounding_dominates c (Row e) d h = (λ l. inr (k, h.2.1, subst (λ x. Dominates 
     back (inl l) = absurd (l.1 (h.2.0, subst (λ s. RoundsTo s c.rhs h.2.0) l.0 h.2.1))
     back (inr l) = subst (λ x. Dominates x d) (sym same) (subst (λ m. Dominates (record (condition_of c) { bound = whole m }) d) (rounds_once (sense_of c.sense) c.rhs l.0 h.2.0 l.1 h.2.1) l.2)
 rounding_dominates c Absurd d h = (λ l. inl h, λ l. tt)
+
+-- with the rounded right-hand side
+pub rounded_with : (c : Constraint) (b : ℚ) (d : Condition) → (k : ℤ) × RoundsTo (sense_of c.sense) c.rhs k × (b ≡ whole k) → Dominates (with_bound c b) d ↔ DominatesRounded (condition_of c) d
+rounded_with c b d h = rounding_dominates c (Row (record c { rhs = b })) d (refl, refl, h)
+
+-- ---- splits that cover
+pub none_left : (low high : ℚ) (floor ceiling : ℤ) (b : Bool) → RoundsTo at_most low floor → RoundsTo at_least high ceiling → (b ≡ true) ↔ (ceiling ≤ℤ (floor +ℤ pos 1)) → (b ≡ true) ↔ LeavesNone two low high
+none_left low high floor ceiling b down up told = (
+  λ t. (floor, ceiling, down, up, told.0 t),
+  λ h. told.1 (subst (λ k. k ≤ℤ (floor +ℤ pos 1)) (rounds_once at_least high h.1 ceiling h.3 up)
+      (subst (λ m. h.1 ≤ℤ (m +ℤ pos 1)) (rounds_once at_most low h.0 floor h.2 down) h.4)),
+)

@@ -29,11 +29,7 @@ use Rattle.vipr_spec.specs.Gcd.{gcd}
 use Rattle.vipr_spec.specs.Shape.{RowFits}
 use Rattle.vipr_spec.specs.Constraint.{Row, at}
 use Rattle.vipr_spec.specs.Reading.{is_nonzero, row_of}
-use Rattle.vipr_spec.proofs.Fractions.{same_ℚ}
-use Rattle.vipr_spec.proofs.FractionOrders.{eq_is}
-use Rattle.vipr_spec.proofs.Loops.{same_rows}
-use Rattle.vipr_spec.proofs.Fractions.{zero_from_numer}
-use Rattle.vipr_spec.proofs.PairRows.{not_zero}
+use Rattle.vipr_spec.proofs.Laws.{same_ℚ, eq_is, same_rows, zero_from_numer, not_zero}
 use Rattle.vipr_linear.specs.Row.{RisesFrom, AreEntries, variables_of, IsFirstRepeated}
 use Rattle.vipr_spec.specs.Constraint.{HasNoZeros}
 

@@ -30,7 +30,7 @@ index_rises a b v h = grind (arith, nat_tests)
 pub searchable : (es : List (ℕ × ℚ)) (v : ℕ) → RisesFrom 0 es → IsNonDecreasingBy (λ (y : ℕ × ℚ). ordering_index (nat_cmp y.0 v)) es
 searchable es v r i j d le l = index_rises _ _ v (rises_order 0 es i j d r le l)
 
-at_place : (low : ℕ) (es : List (ℕ × ℚ)) (i : ℕ) (d : ℕ × ℚ) → RisesFrom low es → i < length es → coefficient es (get_or es i d).0 ≡ (get_or es i d).1
+pub at_place : (low : ℕ) (es : List (ℕ × ℚ)) (i : ℕ) (d : ℕ × ℚ) → RisesFrom low es → i < length es → coefficient es (get_or es i d).0 ≡ (get_or es i d).1
 at_place low [] i d r l = absurd (omega arith)
 at_place low (e ∷ es) zero d r l = coefficient_here e es e.0 refl
 at_place low (e ∷ es) (suc i) d r l =

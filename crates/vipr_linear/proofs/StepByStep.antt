@@ -8,9 +8,8 @@ use Rattle.std.proofs.lemmas.Bool.{cases_lt}
 use Rattle.vipr_spec.specs.Fraction.{ℚ, zero_ℚ, ◌+ℚ◌, ◌*ℚ◌, IsBounded, ProductFits}
 use Rattle.vipr_spec.specs.Constraint.{Sense, equal, Row, at, Entry, HasSense, sum_of, SumOfFits, NamesBelow}
 use Rattle.vipr_spec.specs.MoreEntries.{turned, TermFits}
-use Rattle.vipr_spec.proofs.Fractions.{zero-add_ℚ, mul-zero_ℚ, zero_or_not}
-use Rattle.vipr_spec.proofs.MoreEntries.{no_sense, turned_sense, joined_sense, clashing_senses, sum_more, fits_more, sums_bounded, nothing_more}
-use Rattle.vipr_linear.specs.Accumulator.{Accumulator, sum_at, nothing_added, joined_with, EntryFits, with_entry, Holds, IsSuitable, HoldsSum}
+use Rattle.vipr_spec.proofs.Laws.{zero-add_ℚ, mul-zero_ℚ, zero_or_not, no_sense, turned_sense, joined_sense, clashing_senses, sum_more, fits_more, sums_bounded, nothing_more}
+use Rattle.vipr_linear.specs.Accumulator.{Accumulator, sum_at, nothing_added, joined_with, AdditionFits, with_entry, Holds, IsSuitable, HoldsSum}
 
 -- ---- what fits
 module _ (n : ℕ) (es : List Entry) (e : Entry) (a : Accumulator) (h : Holds n es a) where
@@ -27,10 +26,10 @@ module _ (n : ℕ) (es : List Entry) (e : Entry) (a : Accumulator) (h : Holds n 
   bound_bounded : IsBounded a.bound
   bound_bounded = subst IsBounded (sym h.bound_is) (sums_bounded es h.fits).1
 
-  pub fits_told : EntryFits a e ↔ SumOfFits (es ++ e ∷ [])
+  pub fits_told : AdditionFits a e ↔ SumOfFits (es ++ e ∷ [])
   fits_told = (λ f. terms_told.0 (all_terms f (zero_or_not e.0)), λ k m. let t = terms_told.1 k in (λ j some. t.0 j, t.1))
     where
-      all_terms : EntryFits a e → (e.0 ≡ zero_ℚ) ⊎ ¬ (e.0 ≡ zero_ℚ) → ((j : ℕ) → TermFits (sum_at a j) e.0 (e.1.row j)) × TermFits a.bound e.0 e.1.bound
+      all_terms : AdditionFits a e → (e.0 ≡ zero_ℚ) ⊎ ¬ (e.0 ≡ zero_ℚ) → ((j : ℕ) → TermFits (sum_at a j) e.0 (e.1.row j)) × TermFits a.bound e.0 e.1.bound
       all_terms f (inl z) = (λ j. nothing_more (sum_at a j) e.0 (e.1.row j) (sum_bounded j) (inl z), nothing_more a.bound e.0 e.1.bound bound_bounded (inl z))
       all_terms f (inr m) = (λ j. term_at j (zero_or_not (e.1.row j)), (f m).1)
         where
@@ -54,7 +53,7 @@ module _ (n : ℕ) (es : List Entry) (e : Entry) (a : Accumulator) (h : Holds n 
   sense_held (Some t) is some = new_sense t is
   sense_held None is some = absurd (cc)
 
-  pub step_held : NamesBelow n e.1.row → IsSome (joined_with a e) → EntryFits a e → Holds n (es ++ e ∷ []) (with_entry a e)
+  pub step_held : NamesBelow n e.1.row → IsSome (joined_with a e) → AdditionFits a e → Holds n (es ++ e ∷ []) (with_entry a e)
   step_held names some fit = record {
     variables = length-map-range_with_len _ 0 (length a.sums) ∙ h.variables;
     fresh = refl;

@@ -7,8 +7,7 @@ use Rattle.std.specs.FinMap.{entries}
 use Rattle.vipr_spec.specs.Fraction.{ℚ, zero_ℚ, ◌+ℚ◌, ◌*ℚ◌, IsBounded, ProductFits, SumFits}
 use Rattle.vipr_spec.specs.Constraint.{Row, Point, at, value, ValueFits, NamesBelow}
 use Rattle.vipr_spec.specs.MoreEntries.{TermFits}
-use Rattle.vipr_spec.proofs.Loops.{value_gap, zero_bounded}
-use Rattle.vipr_spec.proofs.MoreEntries.{sum_bounded, nothing_more}
+use Rattle.vipr_spec.proofs.Laws.{value_gap, zero_bounded, sum_bounded, nothing_more}
 use Rattle.vipr_linear.specs.Row.{RisesFrom}
 use Rattle.vipr_linear.specs.Values.{with_values, ValuesFit}
 use Rattle.vipr_linear.proofs.Adding.{coefficient, coefficient_here, coefficient_later, coefficient_below, coefficient_at}

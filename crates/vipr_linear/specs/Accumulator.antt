@@ -1,14 +1,17 @@
 -- What a combination holds, and what one more entry makes of it
-use Rattle.std.specs.Prelude.{◌≡◌, ◌≢◌, ℕ, zero, suc, Bool, true, false, List, [], ◌∷◌, map, length, replicate, slice_index_or, slice_set, Option, IsSome, unwrap_or}
+use Rattle.std.specs.Prelude.{◌≡◌, ◌≢◌, ℕ, zero, suc, Bool, true, false, List, [], ◌∷◌, map, length}
+use Rattle.std.specs.Prelude.{replicate, slice_index_or, slice_set, Option, IsSome, unwrap_or}
 use Rattle.std.specs.List.{range_with_len}
 use Rattle.std.specs.Coded.{Coded, code_by, coded_ℕ, coded×, coded_list, coded_bool}
 use Rattle.std.proofs.Common.{refl}
 use Rattle.vipr_spec.specs.Fraction.{ℚ, coded_ℚ, zero_ℚ, ◌+ℚ◌, ◌*ℚ◌}
-use Rattle.vipr_spec.specs.Constraint.{Sense, at_most, equal, at_least, Row, at, Entry, sum_over, HasSense, SumOfFits}
+use Rattle.vipr_spec.specs.Constraint.{Sense, at_most, equal, at_least, Row, at, Entry, sum_over}
+use Rattle.vipr_spec.specs.Constraint.{HasSense, SumOfFits}
 use Rattle.vipr_spec.specs.MoreEntries.{turned, joined, TermFits}
 use Rattle.vipr_spec.specs.Constraint.{HasNoZeros}
 
--- the partial sum of each variable and of the right-hand sides, the sense of the sum so far, and whether an error came
+-- the partial sum of each variable and of the right-hand sides, the sense of the sum so far, and
+-- whether an error came
 pub record Accumulator : Type 0 where
   pub sums : List ℚ
   pub bound : ℚ
@@ -29,21 +32,24 @@ abbrev pub joined_with : Accumulator → Entry → Option Sense
 joined_with a e = joined a.sense (turned e.0 e.1.sense)
 
 -- at the variables that stand in the row
-abbrev pub RowFits : List ℚ → ℚ → (ℕ → ℚ) → Type 0
-RowFits sums m row = (j : ℕ) → row j ≢ zero_ℚ → TermFits (slice_index_or sums j zero_ℚ) m (row j)
+abbrev pub RowAdditionFits : List ℚ → ℚ → (ℕ → ℚ) → Type 0
+RowAdditionFits sums m row = (j : ℕ) → row j ≢ zero_ℚ
+    → TermFits (slice_index_or sums j zero_ℚ) m (row j)
 
 abbrev pub with_row : List ℚ → ℚ → (ℕ → ℚ) → List ℚ
-with_row sums m row = map (λ j. slice_index_or sums j zero_ℚ +ℚ m *ℚ row j) (range_with_len 0 (length sums))
+with_row sums m row =
+    map (λ j. slice_index_or sums j zero_ℚ +ℚ m *ℚ row j) (range_with_len 0 (length sums))
 
 -- each product and each sum with it fits, at the row and at the right-hand side
-abbrev pub EntryFits : Accumulator → Entry → Type 0
-EntryFits a e = e.0 ≢ zero_ℚ → RowFits a.sums e.0 e.1.row × TermFits a.bound e.0 e.1.bound
+abbrev pub AdditionFits : Accumulator → Entry → Type 0
+AdditionFits a e = e.0 ≢ zero_ℚ
+    → RowAdditionFits a.sums e.0 e.1.row × TermFits a.bound e.0 e.1.bound
 
 -- not spent, the sum stays suitable, and the entry fits
 pub record CanAdd (a : Accumulator) (e : Entry) : Type 0 where
   pub fresh : a.spent ≡ false
   pub suitable : IsSome (joined_with a e)
-  pub fits : EntryFits a e
+  pub fits : AdditionFits a e
 
 abbrev pub with_entry : Accumulator → Entry → Accumulator
 with_entry a e = record {
@@ -100,8 +106,10 @@ coded_sense = code_by ℕ coded_ℕ sense_code sense_back sense_again
 
 abbrev pub coded_accumulator : Coded Accumulator
 coded_accumulator =
-    code_by ((List ℚ × ℚ) × (Sense × Bool)) (coded× (coded× (coded_list coded_ℚ) coded_ℚ) (coded× coded_sense coded_bool))
-    (λ a. ((a.sums, a.bound), (a.sense, a.spent))) (λ p. record { sums = p.0.0; bound = p.0.1; sense = p.1.0; spent = p.1.1 }) (λ _. refl)
+    code_by ((List ℚ × ℚ) × (Sense × Bool))
+    (coded× (coded× (coded_list coded_ℚ) coded_ℚ) (coded× coded_sense coded_bool))
+    (λ a. ((a.sums, a.bound), (a.sense, a.spent)))
+    (λ p. record { sums = p.0.0; bound = p.0.1; sense = p.1.0; spent = p.1.1 }) (λ _. refl)
 
 -- ---- how the entries of a row are added, in their order
 
@@ -114,4 +122,5 @@ with_terms sums m (p ∷ ps) = with_terms (with_term sums m p) m ps
 
 unfoldable pub TermsFitIn : List ℚ → ℚ → List (ℕ × ℚ) → Type 0
 TermsFitIn sums m [] = Unit {0}
-TermsFitIn sums m (p ∷ ps) = TermFits (slice_index_or sums p.0 zero_ℚ) m p.1 × TermsFitIn (with_term sums m p) m ps
+TermsFitIn sums m (p ∷ ps) = TermFits (slice_index_or sums p.0 zero_ℚ) m p.1
+    × TermsFitIn (with_term sums m p) m ps

@@ -4,3 +4,4 @@ pub mod Accumulator
 pub mod Touched
 pub mod Rounding
 pub mod Values
+pub mod Split

@@ -9,7 +9,8 @@ use Rattle.vipr_linear.specs.declared.rounding.Rounded.TheVariants.{Row, Absurd}
 
 -- the right-hand side is rounded; an equation whose right-hand side is not whole is absurd
 abbrev pub IsRounding : Constraint → Rounded → Type 0
-IsRounding c (Row d) = (d.row ≡ c.row) × (d.sense ≡ c.sense) × ((k : ℤ) × RoundsTo (sense_of c.sense) c.rhs k × (d.rhs ≡ whole k))
+IsRounding c (Row d) = (d.row ≡ c.row) × (d.sense ≡ c.sense)
+    × ((k : ℤ) × RoundsTo (sense_of c.sense) c.rhs k × (d.rhs ≡ whole k))
 IsRounding c Absurd = (sense_of c.sense ≡ equal) × ¬ IsWhole c.rhs
 
 -- what is absurd dominates every condition

@@ -1,5 +1,6 @@
 -- Which variables a combination has touched: a mark at each, and their list
-use Rattle.std.specs.Prelude.{◌≡◌, ◌≢◌, ℕ, ◌≤◌, Bool, true, false, nat_eq, List, length, slice_index_or}
+use Rattle.std.specs.Prelude.{◌≡◌, ◌≢◌, ℕ, ◌≤◌, Bool, true, false, nat_eq, List, length}
+use Rattle.std.specs.Prelude.{slice_index_or}
 use Rattle.std.specs.List.{IsDistinct, list_any}
 use Rattle.vipr_spec.specs.Fraction.{ℚ, zero_ℚ}
 
@@ -10,9 +11,11 @@ pub record Touching (marks : List Bool) (touched : List ℕ) : Type 0 where
 
 -- a variable whose sum is not 0 is marked
 abbrev pub Covers : List ℚ → List Bool → Type 0
-Covers sums marks = (j : ℕ) → slice_index_or sums j zero_ℚ ≢ zero_ℚ → slice_index_or marks j false ≡ true
+Covers sums marks = (j : ℕ) → slice_index_or sums j zero_ℚ ≢ zero_ℚ
+    → slice_index_or marks j false ≡ true
 
-pub record IsKept (sums : List ℚ) (marks : List Bool) (touched : List ℕ) (capacity : ℕ) : Type 0 where
+pub record AreTouched (sums : List ℚ) (marks : List Bool) (touched : List ℕ)
+    (capacity : ℕ) : Type 0 where
   pub places : length marks ≡ length sums
   pub room : length marks ≤ capacity
   pub touching : Touching marks touched

@@ -1,16 +1,22 @@
 //! Sums of multiples of constraints.
-ghost use Rattle.std.specs.Prelude.{◌≡◌, ◌≢◌, ◌↔◌, ◌⊎◌, ◌<◌, ◌≤◌, ℕ, true, false, length, All, IsOk, IsSome, IsNone, IfOk, IfErr, OnOk, OnErr, MatchOption, vec_capacity, Some, None};
+ghost use Rattle.std.specs.Prelude.{◌≡◌, ◌≢◌, ◌↔◌, ◌⊎◌, ◌<◌, ◌≤◌, ℕ, true, false, length, All};
+ghost use Rattle.std.specs.Prelude.{IsOk, IsSome, IsNone, IfOk, IfErr, OnOk, OnErr, MatchOption};
+ghost use Rattle.std.specs.Prelude.{vec_capacity, Some, None};
 ghost use Rattle.vipr_spec.specs.Fraction.{◌+ℚ◌, ◌*ℚ◌};
-ghost use Rattle.vipr_spec.specs.Constraint.{at, NamesBelow};
+ghost use Rattle.vipr_spec.specs.Constraint.{Point, at, NamesBelow, value, ValueFits};
 ghost use Rattle.vipr_spec.specs.MoreEntries as combined;
 ghost use Rattle.vipr_spec.specs.MoreEntries.{TermFits};
-ghost use Rattle.vipr_linear.specs.Accumulator.{with_row, RowFits, CanAdd, EntryFits, HoldsSum, IsSpent, joined_with, with_entry, nothing_added};
+ghost use Rattle.vipr_linear.specs.Accumulator.{with_row, RowAdditionFits, CanAdd, AdditionFits};
+ghost use Rattle.vipr_linear.specs.Accumulator.{HoldsSum, IsSpent, joined_with, with_entry};
+ghost use Rattle.vipr_linear.specs.Accumulator.{nothing_added};
 ghost use Rattle.vipr_linear.specs.Constraint.{sense_of, condition_of};
 ghost use Rattle.vipr_linear.specs.Touched.{Touching, Covers};
+ghost use Rattle.vipr_linear.specs.Values.{IsLaidOut};
 
 use crate::constraint::{Constraint, Sense};
-use crate::row::{Row, is_zero};
-use crate::sums::{add_terms, nonzero_sums, reset};
+use crate::row::{Row, Solution, is_zero};
+use crate::sums::{add_terms, nonzero_sums, reset, set_sums};
+use crate::values::value_in;
 use std::alloc::{AllocError, Global};
 use std::cmp::Ordering;
 use std::marker::Model;
@@ -19,7 +25,8 @@ use vipr_frac::{Frac, Overflow};
 /// Why an entry can't be added, or the sum not be given.
 #[derive(Clone, Copy, Debug, PartialEq, Eq)]
 pub enum CombError {
-    /// With the entry, some product of a multiplier and a sense's sign is positive and another negative.
+    /// With the entry, some product of a multiplier and a sense's sign is positive and another
+    /// negative.
     MixedSigns,
     /// A product or a partial sum is out of bound.
     Overflow,
@@ -29,7 +36,8 @@ pub enum CombError {
     Spent,
 }
 
-/// The sum of multiples of constraints over the variables below a number.
+/// The sum of multiples of constraints over the variables below a number. Its places hold a point
+/// too, where a solution is laid out.
 #[derive(Debug, Drop)]
 pub struct Combination {
     sums: Vec<Frac>,
@@ -44,15 +52,21 @@ impl Model for Combination {
     ghost use Rattle.std.specs.Prelude.{vec_capacity};
     ghost use Rattle.vipr_linear.specs.Accumulator.{Accumulator, coded_accumulator};
     ghost use Rattle.vipr_linear.specs.Constraint.{sense_of};
-    ghost use Rattle.vipr_linear.specs.Touched.{IsKept};
+    ghost use Rattle.vipr_linear.specs.Touched.{AreTouched};
 
     ghost Value = { Accumulator };
 
     ghost coded = { coded_accumulator };
 
-    ghost view = { λ a. record { sums = a.sums.items; bound = a.rhs; sense = sense_of a.sense; spent = a.is_spent } };
+    ghost view = { λ a. record {
+      sums = a.sums.items;
+      bound = a.rhs;
+      sense = sense_of a.sense;
+      spent = a.is_spent;
+    } };
 
-    ghost invariant = { λ a. IsKept a.sums.items a.marks.items a.touched.items (vec_capacity a.touched) };
+    ghost invariant = { λ a. AreTouched a.sums.items a.marks.items a.touched.items
+        (vec_capacity a.touched) };
 }
 
 impl Combination {
@@ -80,15 +94,44 @@ impl Combination {
         self.is_spent = false;
     }
 
-    /// Adds the multiple of a constraint. A multiplier 0 changes nothing. After an error it is spent.
+    /// Makes the sum of each variable its coordinate at a solution, in place of what was added.
+    pub fn lay_out(&mut self, solution: &Solution)
+        ensures { IsLaidOut (length self.old.sums) (at solution.now.0) self.new.sums }
+    {
+        self.clear();
+        set_sums(
+            &mut self.sums,
+            &mut self.marks,
+            &mut self.touched,
+            solution.0.entries(),
+        );
+    }
+
+    /// The value of a row at the solution that is laid out, summed over the row's variables in
+    /// rising order.
+    pub fn value_of(&self, row: &Row) -> Result<Frac, Overflow>
+        ensures fits { (n : ℕ) (x : Point) → IsLaidOut n x self.now.sums
+            → NamesBelow n (at row.now) → IsOk result ↔ ValueFits n (at row.now) x }
+        ensures value { (n : ℕ) (x : Point) → IsLaidOut n x self.now.sums
+            → NamesBelow n (at row.now) → IfOk result (λ v. v ≡ value n (at row.now) x) }
+    {
+        value_in(row, &self.sums)
+    }
+
+    /// Adds the multiple of a constraint. A multiplier 0 changes nothing. After an error it is
+    /// spent.
     pub fn add(&mut self, constraint: &Constraint, multiplier: Frac) -> Result<(), CombError>
         requires { NamesBelow (length self.old.sums) (at constraint.now.row) }
         ensures ok { IsOk result ↔ CanAdd self.old (multiplier, condition_of constraint.now) }
-        ensures added { OnOk result (self.new ≡ with_entry self.old (multiplier, condition_of constraint.now)) }
+        ensures added { OnOk result
+            (self.new ≡ with_entry self.old (multiplier, condition_of constraint.now)) }
 
         ensures spent { (result ≡ Err CombError.Spent) ↔ (self.old.spent ≡ true) }
-        ensures mixed_signs { (result ≡ Err CombError.MixedSigns) ↔ ((self.old.spent ≡ false) × IsNone (joined_with self.old (multiplier, condition_of constraint.now))) }
-        ensures overflow { (result ≡ Err CombError.Overflow) ↔ ((self.old.spent ≡ false) × IsSome (joined_with self.old (multiplier, condition_of constraint.now)) × ¬ EntryFits self.old (multiplier, condition_of constraint.now)) }
+        ensures mixed_signs { (result ≡ Err CombError.MixedSigns) ↔ ((self.old.spent ≡ false)
+            × IsNone (joined_with self.old (multiplier, condition_of constraint.now))) }
+        ensures overflow { (result ≡ Err CombError.Overflow) ↔ ((self.old.spent ≡ false)
+            × IsSome (joined_with self.old (multiplier, condition_of constraint.now))
+            × ¬ AdditionFits self.old (multiplier, condition_of constraint.now)) }
         ensures no_memory { result ≢ Err CombError.Memory }
         ensures variables { length self.new.sums ≡ length self.old.sums }
         ensures err { OnErr result (IsSpent (length self.old.sums) self.new) }
@@ -129,7 +172,8 @@ impl Combination {
         ensures emptied { OnOk result (self.new ≡ nothing_added (length self.old.sums)) }
 
         ensures spent { (result ≡ Err CombError.Spent) ↔ (self.old.spent ≡ true) }
-        ensures memory { IfErr result (λ error. (error ≡ CombError.Spent) ⊎ (error ≡ CombError.Memory)) }
+        ensures memory { IfErr result
+            (λ error. (error ≡ CombError.Spent) ⊎ (error ≡ CombError.Memory)) }
         ensures variables { length self.new.sums ≡ length self.old.sums }
         ensures err { OnErr result (IsSpent (length self.old.sums) self.new) }
     {
@@ -164,7 +208,8 @@ fn turned(multiplier: Frac, sense: Sense) -> Sense
 
 // The sense of a sum of two, if they go together.
 fn joined(a: Sense, b: Sense) -> Option<Sense>
-    ensures { MatchOption result (combined.joined (sense_of a) (sense_of b) ≡ None) (λ s. combined.joined (sense_of a) (sense_of b) ≡ Some (sense_of s)) }
+    ensures { MatchOption result (combined.joined (sense_of a) (sense_of b) ≡ None)
+        (λ s. combined.joined (sense_of a) (sense_of b) ≡ Some (sense_of s)) }
 {
     match (a, b) {
         (Sense::E, _) => Some(b),
@@ -188,7 +233,8 @@ fn add_multiple(
     requires room { length marks.old ≤ vec_capacity touched.old }
     requires touching { Touching marks.old touched.old.items }
     requires covers { Covers sums.old marks.old }
-    ensures fits { IsOk result ↔ (RowFits sums.old multiplier (at constraint.now.row) × TermFits rhs multiplier constraint.now.rhs) }
+    ensures fits { IsOk result ↔ (RowAdditionFits sums.old multiplier (at constraint.now.row)
+        × TermFits rhs multiplier constraint.now.rhs) }
     ensures sums { OnOk result (sums.new ≡ with_row sums.old multiplier (at constraint.now.row)) }
     ensures rhs { IfOk result (λ r. r ≡ rhs +ℚ multiplier *ℚ constraint.now.rhs) }
     ensures touching { Touching marks.new touched.new.items }

@@ -1,7 +1,7 @@
 //! Constraints, and which says as much as another.
 ghost use Rattle.std.specs.Prelude.{◌≡◌, ◌↔◌, IsTrue};
 ghost use Rattle.vipr_spec.specs.Constraint.{Compares, IsAbsurd, Dominates};
-ghost use Rattle.vipr_linear.specs.Constraint.{sense_of, condition_of, SaysAsMuch};
+ghost use Rattle.vipr_linear.specs.Constraint.{sense_of, condition_of, with_bound, SaysAsMuch};
 
 use crate::row::Row;
 use std::alloc::AllocError;
@@ -45,28 +45,42 @@ impl Constraint {
     pub fn is_absurd(&self) -> bool
         ensures { IsTrue result ↔ IsAbsurd (condition_of self.now) }
     {
-        self.row.is_empty() && !compares(self.sense, Frac::zero(), self.rhs)
+        self.is_absurd_with(self.rhs)
     }
 
     /// Whether it is absurd, or has the row of `other` and says as much.
     pub fn dominates(&self, other: &Constraint) -> bool
         ensures { IsTrue result ↔ Dominates (condition_of self.now) (condition_of other.now) }
     {
-        self.is_absurd() || self.says(other)
+        self.dominates_with(self.rhs, other)
     }
 
-    // Whether the rows are the same, and the sense and the right-hand side say as much.
-    fn says(&self, other: &Constraint) -> bool
-        ensures { IsTrue result ↔ SaysAsMuch (condition_of self.now) (condition_of other.now) }
+    // Whether it would dominate `other` with this right-hand side.
+    pub(crate) fn dominates_with(&self, rhs: Frac, other: &Constraint) -> bool
+        ensures { IsTrue result ↔ Dominates (with_bound self.now rhs) (condition_of other.now) }
+    {
+        self.is_absurd_with(rhs) || self.says(rhs, other)
+    }
+
+    // Whether it would be absurd with this right-hand side.
+    fn is_absurd_with(&self, rhs: Frac) -> bool
+        ensures { IsTrue result ↔ IsAbsurd (with_bound self.now rhs) }
+    {
+        self.row.is_empty() && !compares(self.sense, Frac::zero(), rhs)
+    }
+
+    // Whether the rows are the same, and the sense and this right-hand side say as much.
+    fn says(&self, rhs: Frac, other: &Constraint) -> bool
+        ensures { IsTrue result ↔ SaysAsMuch (with_bound self.now rhs) (condition_of other.now) }
     {
         (self.sense == other.sense || self.sense == Sense::E)
-            && compares(other.sense, self.rhs, other.rhs)
+            && compares(other.sense, rhs, other.rhs)
             && self.row.is_same(&other.row)
     }
 }
 
 /// Whether a value compares so with a right-hand side.
-pub(crate) fn compares(sense: Sense, value: Frac, rhs: Frac) -> bool
+pub fn compares(sense: Sense, value: Frac, rhs: Frac) -> bool
     ensures { IsTrue result ↔ Compares (sense_of sense) value rhs }
 {
     match sense {

@@ -4,8 +4,10 @@
 mod combination;
 mod constraint;
 mod ints;
+mod kept;
 mod rounding;
 mod row;
+mod split;
 mod steps;
 mod sums;
 #[cfg(test)]
@@ -13,9 +15,10 @@ mod tests;
 mod values;
 
 pub use combination::{CombError, Combination};
-pub use constraint::{Constraint, Sense};
+pub use constraint::{Constraint, Sense, compares};
 pub use ints::Ints;
-pub use rounding::{NotRoundable, Rounded, is_split};
+pub use rounding::{NotRoundable, Rounded, is_whole_row};
 pub use row::{Row, RowError, Solution};
+pub use split::{covers, is_split};
 pub use steps::sums_in_steps;
-pub use values::{holds_at, value_at};
+pub use values::{first_fractional, holds_at, value_at};

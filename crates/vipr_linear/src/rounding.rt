@@ -1,7 +1,9 @@
-//! Rounding of sums over integer variables, and splits.
-ghost use Rattle.std.specs.Prelude.{◌≡◌, ◌↔◌, ◌≤◌, ℤ, pos, ◌+ℤ◌, unsigned_abs, IsTrue, IsOk, IfOk, IfErr, MatchOption};
+//! Rounding of sums over integer variables.
+ghost use Rattle.std.specs.Prelude.{◌≡◌, ◌↔◌, ◌≤◌, ℤ, unsigned_abs, IsTrue, IsOk, IfOk, IfErr};
+ghost use Rattle.std.specs.Prelude.{MatchOption};
 ghost use Rattle.vipr_spec.specs.Fraction.{most, whole, IsWhole};
-ghost use Rattle.vipr_spec.specs.Constraint.{one, Condition, at, equal, IsInteger, IsWholeRow, RoundsTo, DominatesRounded, IsCut, IsSplit};
+ghost use Rattle.vipr_spec.specs.Constraint.{Condition, at, equal, IsInteger, IsWholeRow, RoundsTo};
+ghost use Rattle.vipr_spec.specs.Constraint.{DominatesRounded};
 ghost use Rattle.vipr_linear.specs.Constraint.{sense_of, condition_of};
 
 use crate::constraint::{Constraint, Sense};
@@ -17,7 +19,8 @@ pub enum Rounded {
     Absurd,
 }
 
-/// The constraint, some coefficient of which isn't whole or stands at a variable that isn't an integer.
+/// The constraint, some coefficient of which isn't whole or stands at a variable that isn't an
+/// integer.
 #[derive(Debug, Drop)]
 pub struct NotRoundable(pub Constraint);
 
@@ -28,13 +31,26 @@ impl Constraint {
     pub fn round(self, ints: &Ints) -> Result<Rounded, NotRoundable>
         ensures ok { IsOk result ↔ IsWholeRow ints.now (at self.row) }
         ensures rounding { IfOk result (IsRounding self) }
-        ensures dominates { IfOk result (λ rounded. (d : Condition) → RoundedDominates rounded d ↔ DominatesRounded (condition_of self) d) }
+        ensures dominates { IfOk result (λ rounded. (d : Condition)
+            → RoundedDominates rounded d ↔ DominatesRounded (condition_of self) d) }
         ensures back { IfErr result (λ refused. refused.0 ≡ self) }
     {
         if !is_whole_row(&self.row, ints) {
             return Err(NotRoundable(self));
         }
         Ok(self.rounded())
+    }
+
+    /// Whether what it becomes by rounding its right-hand side, whatever its row is, dominates
+    /// `other`.
+    pub fn dominates_rounded(&self, other: &Constraint) -> bool
+        ensures { IsTrue result
+            ↔ DominatesRounded (condition_of self.now) (condition_of other.now) }
+    {
+        match rounded_rhs(self.sense, self.rhs) {
+            Some(rhs) => self.dominates_with(rhs, other),
+            None => true,
+        }
     }
 
     // Rounds the right-hand side, whatever the row is.
@@ -49,7 +65,8 @@ impl Constraint {
 }
 
 fn rounded_rhs(sense: Sense, rhs: Frac) -> Option<Frac>
-    ensures { MatchOption result ((sense_of sense ≡ equal) × ¬ IsWhole rhs) (λ r. (k : ℤ) × RoundsTo (sense_of sense) rhs k × (r ≡ whole k)) }
+    ensures { MatchOption result ((sense_of sense ≡ equal) × ¬ IsWhole rhs)
+        (λ r. (k : ℤ) × RoundsTo (sense_of sense) rhs k × (r ≡ whole k)) }
 {
     match sense {
         Sense::G => Some(whole(rhs.ceil())),
@@ -66,8 +83,8 @@ fn whole(k: i128) -> Frac
     Frac::new(k, 1).unwrap()
 }
 
-// Whether all coefficients are whole and at integer variables.
-fn is_whole_row(row: &Row, ints: &Ints) -> bool
+/// Whether all coefficients are whole and at integer variables.
+pub fn is_whole_row(row: &Row, ints: &Ints) -> bool
     ensures { IsTrue result ↔ IsWholeRow ints.now (at row.now) }
 {
     for (variable, coefficient) in row.entries() {
@@ -82,36 +99,4 @@ fn is_whole_at(ints: &Ints, variable: u32, coefficient: Frac) -> bool
     ensures { IsTrue result ↔ (IsWhole coefficient × IsInteger ints.now variable) }
 {
     coefficient.is_whole() && ints.contains(variable)
-}
-
-/// Whether one of the constraints is at most k, the other at least k + 1, for the same whole row over integer
-/// variables and a whole k.
-pub fn is_split(a: &Constraint, b: &Constraint, ints: &Ints) -> bool
-    ensures { IsTrue result ↔ IsSplit one ints.now (condition_of a.now) (condition_of b.now) }
-{
-    is_cut(a, b, ints) || is_cut(b, a, ints)
-}
-
-fn is_cut(low: &Constraint, high: &Constraint, ints: &Ints) -> bool
-    ensures { IsTrue result ↔ IsCut one ints.now (condition_of low.now) (condition_of high.now) }
-{
-    low.sense == Sense::L
-        && high.sense == Sense::G
-        && is_next(low.rhs, high.rhs)
-        && low.row.is_same(&high.row)
-        && is_whole_row(&low.row, ints)
-}
-
-// Whether both are whole, and the second is one more.
-fn is_next(low: Frac, high: Frac) -> bool
-    ensures { IsTrue result ↔ ((k : ℤ) × (low ≡ whole k) × (high ≡ whole (k +ℤ pos 1))) }
-{
-    low.is_whole() && high.is_whole() && is_one_more(low.numer(), high.numer())
-}
-
-fn is_one_more(low: i128, high: i128) -> bool
-    requires { unsigned_abs high ≤ most }
-    ensures { IsTrue result ↔ (high ≡ low +ℤ pos 1) }
-{
-    high - 1 == low
 }

@@ -1,5 +1,6 @@
 //! Rows: the nonzero coefficients of a constraint.
-ghost use Rattle.std.specs.Prelude.{All, ◌≡◌, ◌≢◌, ◌↔◌, ◌+◌, ◌<◌, nat_eq, IsTrue, IsOk, IfOk, IfErr, OnOk, MatchOption, filter, pos, length, ℕ};
+ghost use Rattle.std.specs.Prelude.{All, ◌≡◌, ◌≢◌, ◌↔◌, ◌+◌, ◌<◌, nat_eq, IsTrue, IsOk, IfOk};
+ghost use Rattle.std.specs.Prelude.{IfErr, OnOk, MatchOption, filter, pos, length, ℕ};
 ghost use Rattle.std.specs.Ordering.{int_eq};
 ghost use Rattle.std.specs.List.{IsDistinct};
 ghost use Rattle.std.specs.List.Sorted.{IsPermutation, IsNonDecreasingBy, IsStrictlyIncreasing};
@@ -11,6 +12,7 @@ ghost use Rattle.vipr_spec.specs.Shape.{RowFits};
 ghost use Rattle.vipr_linear.specs.Row.{RisesFrom, AreEntries, variables_of, IsFirstRepeated};
 ghost use Rattle.vipr_spec.specs.Constraint.{HasNoZeros};
 
+use crate::kept::Kept;
 use std::alloc::{AllocError, Global};
 use std::collections::BTreeSet;
 use std::marker::Model;
@@ -19,7 +21,7 @@ use vipr_frac::Frac;
 /// A finite map from variables to nonzero coefficients.
 #[derive(Debug, Drop)]
 pub struct Row {
-    entries: Vec<(u32, Frac)>,
+    kept: Kept,
 }
 
 impl Model for Row {
@@ -27,15 +29,15 @@ impl Model for Row {
     ghost use Rattle.std.specs.Ordering.{nat_cmp};
     ghost use Rattle.std.specs.FinMap.{FinMap, code, from_sorted};
     ghost use Rattle.vipr_spec.specs.Fraction.{ℚ, coded_ℚ};
-    ghost use Rattle.vipr_linear.specs.Row.{AreEntries};
+    ghost use Rattle.vipr_linear.specs.Row.{AreEntries, kept_items};
 
     ghost Value = { FinMap nat_cmp ℚ };
 
     ghost coded = { code coded_ℕ coded_ℚ };
 
-    ghost view = { λ a. from_sorted a.entries.items };
+    ghost view = { λ a. from_sorted (kept_items a.kept) };
 
-    ghost invariant = { λ a. AreEntries a.entries.items };
+    ghost invariant = { λ a. AreEntries (kept_items a.kept) };
 }
 
 impl Clone for Row {
@@ -45,7 +47,7 @@ impl Clone for Row {
 
     fn clone(&self) -> Result<Row, AllocError> {
         Ok(Row {
-            entries: self.entries.clone()?,
+            kept: self.kept.copied()?,
         })
     }
 }
@@ -75,11 +77,14 @@ impl Row {
     pub fn from_pairs(alloc: Global, pairs: Vec<(u32, Frac)>) -> Result<Row, RowError>
         ensures row { IfOk result (λ row. row ≡ row_of pairs.items) }
         ensures distinct { OnOk result (IsDistinct nat_eq (variables_of pairs.items)) }
-        ensures repeated { (v : ℕ) → result ≡ Err (RowError.Repeated v) → IsFirstRepeated (variables_of pairs.items) v }
+        ensures repeated { (v : ℕ) → result ≡ Err (RowError.Repeated v)
+            → IsFirstRepeated (variables_of pairs.items) v }
     {
         let mut entries = in_order(alloc, pairs)?;
         drop_zeros(&mut entries);
-        Ok(Row { entries })
+        Ok(Row {
+            kept: Kept::Own(entries),
+        })
     }
 
     /// The row of these coefficients, in any order, where the variables differ. Coefficients 0 are
@@ -91,7 +96,9 @@ impl Row {
     {
         let mut entries = distinct_in_order(pairs);
         drop_zeros(&mut entries);
-        Row { entries }
+        Row {
+            kept: Kept::Own(entries),
+        }
     }
 
     /// The row of coefficients that are not 0, whose variables rise.
@@ -99,7 +106,18 @@ impl Row {
         requires { AreEntries entries.items }
         ensures { result ≡ from_sorted entries.items }
     {
-        Row { entries }
+        Row {
+            kept: Kept::Own(entries),
+        }
+    }
+
+    /// The same row, whose clones share its entries: a clone takes no memory then.
+    pub fn shared(self, alloc: Global) -> Result<Row, AllocError>
+        ensures { IfOk result (λ row. row ≡ self) }
+    {
+        Ok(Row {
+            kept: self.kept.shared(alloc)?,
+        })
     }
 
     /// The variables with their coefficients, in rising order.
@@ -109,18 +127,16 @@ impl Row {
         ensures no_zeros { HasNoZeros self.now }
         ensures fits { RowFits self.now }
     {
-        self.entries.as_slice()
+        self.kept.as_slice()
     }
 
     /// The coefficient of a variable, 0 where it doesn't stand in the row.
     pub fn coefficient(&self, variable: u32) -> Frac
         ensures { result ≡ at self.now variable }
     {
-        match self
-            .entries
-            .binary_search_by_key(&variable, |entry| entry.0)
-        {
-            Ok(place) => self.entries[place].1,
+        let entries = self.kept.as_slice();
+        match entries.binary_search_by_key(&variable, |entry| entry.0) {
+            Ok(place) => entries[place].1,
             Err(_) => Frac::zero(),
         }
     }
@@ -162,7 +178,8 @@ fn in_order(alloc: Global, pairs: Vec<(u32, Frac)>) -> Result<Vec<(u32, Frac)>, 
     ensures permutation { IfOk result (λ v. IsPermutation pairs.items v.items) }
     ensures distinct { OnOk result (IsDistinct nat_eq (variables_of pairs.items)) }
     ensures rising { IfOk result (λ v. IsStrictlyIncreasing (variables_of v.items)) }
-    ensures repeated { (v : ℕ) → result ≡ Err (RowError.Repeated v) → IsFirstRepeated (variables_of pairs.items) v }
+    ensures repeated { (v : ℕ) → result ≡ Err (RowError.Repeated v)
+        → IsFirstRepeated (variables_of pairs.items) v }
 {
     if rises(&pairs) {
         return Ok(pairs);
@@ -203,7 +220,8 @@ fn rises(pairs: &[(u32, Frac)]) -> bool
 
 // The first variable that stood before.
 fn first_repeated(alloc: Global, pairs: &[(u32, Frac)]) -> Result<Option<u32>, AllocError>
-    ensures { IfOk result (λ r. MatchOption r (IsDistinct nat_eq (variables_of pairs.now)) (λ v. IsFirstRepeated (variables_of pairs.now) v)) }
+    ensures { IfOk result (λ r. MatchOption r (IsDistinct nat_eq (variables_of pairs.now))
+        (λ v. IsFirstRepeated (variables_of pairs.now) v)) }
 {
     let mut seen = BTreeSet::new(alloc);
     for pair in pairs {

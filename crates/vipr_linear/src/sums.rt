@@ -1,8 +1,11 @@
 //! Partial sums of variables, one place for each, with a list of the touched ones.
-ghost use Rattle.std.specs.Prelude.{◌≡◌, ◌↔◌, ◌<◌, ◌≤◌, ℕ, Bool, true, false, IsOk, IfOk, OnOk, All, [], filter, map, length, slice_index_or, vec_capacity, vec_len};
+ghost use Rattle.std.specs.Prelude.{◌≡◌, ◌↔◌, ◌<◌, ◌≤◌, ℕ, Bool, true, false, IsOk, IfOk, OnOk};
+ghost use Rattle.std.specs.Prelude.{All, [], filter, map, length, slice_index_or, vec_capacity};
+ghost use Rattle.std.specs.Prelude.{vec_len};
 ghost use Rattle.vipr_spec.specs.Fraction.{zero_ℚ, IsBounded};
 ghost use Rattle.vipr_spec.specs.Reading.{is_nonzero};
 ghost use Rattle.vipr_linear.specs.Accumulator.{with_terms, TermsFitIn};
+ghost use Rattle.vipr_linear.specs.Values.{with_set};
 ghost use Rattle.vipr_linear.specs.Touched.{Touching, Covers};
 
 use crate::row::is_zero;
@@ -16,7 +19,8 @@ fn touch(marks: &mut [bool], touched: &mut Vec<u32>, variable: u32)
     requires touching { Touching marks.old touched.old.items }
     ensures touching { Touching marks.new touched.new.items }
     ensures marked { slice_index_or marks.new variable false ≡ true }
-    ensures kept { (j : ℕ) → slice_index_or marks.old j false ≡ true → slice_index_or marks.new j false ≡ true }
+    ensures kept { (j : ℕ) → slice_index_or marks.old j false ≡ true
+        → slice_index_or marks.new j false ≡ true }
     ensures capacity { vec_capacity touched.old ≤ vec_capacity touched.new }
 {
     if !marks[variable as usize] {
@@ -51,6 +55,32 @@ pub(crate) fn add_terms(
         sums[place] = sums[place].add(product)?;
     }
     Ok(())
+}
+
+/// Makes the sum of each variable that an entry names its coefficient. Entries past the last place
+/// are left out.
+pub(crate) fn set_sums(
+    sums: &mut [Frac],
+    marks: &mut [bool],
+    touched: &mut Vec<u32>,
+    entries: &[(u32, Frac)],
+)
+    requires places { length marks.old ≡ length sums.old }
+    requires room { length marks.old ≤ vec_capacity touched.old }
+    requires touching { Touching marks.old touched.old.items }
+    requires covers { Covers sums.old marks.old }
+    ensures sums { sums.new ≡ with_set sums.old entries.now }
+    ensures touching { Touching marks.new touched.new.items }
+    ensures covers { Covers sums.new marks.new }
+    ensures capacity { vec_capacity touched.old ≤ vec_capacity touched.new }
+{
+    for (variable, coefficient) in entries {
+        let place = *variable as usize;
+        if place < sums.len() {
+            touch(marks, touched, *variable);
+            sums[place] = *coefficient;
+        }
+    }
 }
 
 /// Sets the sums of the touched variables to 0, and forgets that they were touched.

@@ -1,9 +1,10 @@
-//! Values from outside: which constraints dominate, which form a split, and each call once with ample memory.
+//! Values from outside: which constraints dominate, which split or cover, and each call once with
+//! ample memory.
 ghost use Rattle.std.specs.Prelude.{◌≡◌, length};
 
 use crate::{
-    CombError, Combination, Constraint, Ints, Rounded, Row, RowError, Sense, Solution, holds_at,
-    is_split, value_at,
+    CombError, Combination, Constraint, Ints, Rounded, Row, RowError, Sense, Solution, covers,
+    holds_at, is_split, is_whole_row, value_at,
 };
 use std::alloc::Global;
 use std::test::Fail;
@@ -83,6 +84,51 @@ fn splits(rt: HostRuntime) -> Result<(), Fail> {
     let most = constraint(alloc, &[(0, 1)], Sense::L, MOST)?;
     let least = constraint(alloc, &[(0, 1)], Sense::G, MOST)?;
     assert!(rt; !is_split(&most, &least, &ints));
+    Ok(())
+}
+
+// A bound of the first variable: `p` over `q`.
+fn bound(alloc: Global, sense: Sense, p: i128, q: i128) -> Result<Constraint, Fail> {
+    Ok(Constraint {
+        row: row(alloc, &[(0, 1)])?,
+        sense,
+        rhs: Frac::new(p, q)?,
+    })
+}
+
+#[test]
+fn covered(rt: HostRuntime) -> Result<(), Fail> {
+    let alloc = rt.alloc();
+    let ints = Ints::from_indices(alloc, vec![in alloc; 0]?)?;
+    let at_most = |p: i128, q: i128| bound(alloc, Sense::L, p, q);
+    let at_least = |p: i128, q: i128| bound(alloc, Sense::G, p, q);
+    assert!(rt; covers(&at_most(1, 1)?, &at_least(0, 1)?, &ints));
+    assert!(rt; covers(&at_least(0, 1)?, &at_most(1, 1)?, &ints));
+    assert!(rt; covers(&at_most(MOST, 1)?, &at_least(MOST, 1)?, &ints));
+    assert!(rt; covers(&at_most(-MOST, 1)?, &at_least(-MOST, 1)?, &ints));
+    assert!(rt; covers(&at_most(-1, 2)?, &at_least(-1, 2)?, &ints));
+    assert!(rt; covers(&at_most(1, 4)?, &at_least(3, 4)?, &ints));
+
+    assert!(rt; !covers(&at_most(1, 2)?, &at_least(3, 2)?, &ints));
+    assert!(rt; !covers(&at_most(0, 1)?, &at_least(2, 1)?, &ints));
+    assert!(rt; !covers(&at_most(0, 1)?, &at_most(1, 1)?, &ints));
+    assert!(rt; !covers(&at_most(-MOST, 1)?, &at_least(MOST, 1)?, &ints));
+    let none = Ints::from_indices(alloc, Vec::new(alloc))?;
+    assert!(rt; !covers(&at_most(1, 1)?, &at_least(0, 1)?, &none));
+    Ok(())
+}
+
+#[test]
+fn rounded(rt: HostRuntime) -> Result<(), Fail> {
+    let alloc = rt.alloc();
+    let ints = Ints::from_indices(alloc, vec![in alloc; 0]?)?;
+    let half = bound(alloc, Sense::G, 1, 2)?;
+    assert!(rt; is_whole_row(&half.row, &ints));
+    assert!(rt; !is_whole_row(&row(alloc, &[(1, 1)])?, &ints));
+    assert!(rt; half.dominates_rounded(&bound(alloc, Sense::G, 1, 1)?));
+    assert!(rt; !half.dominates_rounded(&bound(alloc, Sense::G, 2, 1)?));
+    let equal = bound(alloc, Sense::E, 1, 2)?;
+    assert!(rt; equal.dominates_rounded(&bound(alloc, Sense::L, -7, 1)?));
     Ok(())
 }
 

@@ -6,7 +6,7 @@ use Rattle.vipr_spec.specs.Input.{Input}
 use Rattle.vipr_spec.specs.Reading.{Rest, Fault, ◌>>=◌, repeated, problem_read, solution_read, derivations_read, derivation_read, end_read, certificate_read}
 use Rattle.vipr_spec.specs.Grammar.{Spells}
 use Rattle.vipr_spec.specs.GrammarLaws.{whole_text}
-use Rattle.vipr_spec.proofs.GrammarWhole.{reads_texts}
+use Rattle.vipr_spec.proofs.Laws.{reads_texts}
 use Rattle.vipr_bytes.specs.Known.{text_of, IfKnown, IfWhole}
 use Rattle.vipr_read.specs.Whole.{IsRead}
 use Rattle.vipr_scan.specs.Faults.{IsFaultOf}

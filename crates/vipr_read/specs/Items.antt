@@ -1,5 +1,6 @@
 -- What a reader of items has left, and what each call takes of it
-use Rattle.std.specs.Prelude.{◌≡◌, ℕ, suc, ◌<◌, ◌⊎◌, Bool, length, Option, Some, None, Result, Ok, Err, IsSome}
+use Rattle.std.specs.Prelude.{◌≡◌, ℕ, suc, ◌<◌, ◌⊎◌, Bool, length, Option, Some, None, Result, Ok}
+use Rattle.std.specs.Prelude.{Err, IsSome}
 use Rattle.vipr_spec.specs.Constraint.{Row, at, NamesBelow}
 use Rattle.vipr_spec.specs.Certificate.{Problem, variables}
 use Rattle.vipr_spec.specs.Shape.{RowFits}
@@ -35,11 +36,6 @@ pub record IsObjective (n : ℕ) (row : Row) : Type 0 where
   pub below : NamesBelow n (at row)
   pub fits : RowFits row
 
--- the text ended, or has the fault of the reading there
-abbrev pub EndsWith : Result (Unit {0}) TextError → Result (Unit {0}) Fault → Type 0
-EndsWith (Ok done) r = r ≡ Ok tt
-EndsWith (Err e) r = Fails e r
-
 -- the value that the reading gives, with the rest that the reader in it has then; or its fault
 abbrev pub GivesFrom : {X Y : Type 0} → (X → Y) → (X → Option Rest) → Result X TextError → Read Y
     → Type 0
@@ -52,9 +48,11 @@ abbrev pub NextIs : {X Y : Type 0} → (X → Y) → (Rest → Read Y) → (Rest
     → Items → Items → Result (Option X) TextError → Type 0
 NextIs view item ending old new (Ok None) = (old.left ≡ 0) × (ending (rest_of old.rest) ≡ Ok tt)
 NextIs view item ending old new (Ok (Some x)) =
-    (old.left ≡ suc new.left) × (item (rest_of old.rest) ≡ Ok (view x, rest_of new.rest)) × IsSome new.rest
+    (old.left ≡ suc new.left) × (item (rest_of old.rest) ≡ Ok (view x, rest_of new.rest))
+    × IsSome new.rest
 NextIs view item ending old new (Err e) =
-    ((old.left ≡ 0) × Fails e (ending (rest_of old.rest))) ⊎ ((0 < old.left) × Fails e (item (rest_of old.rest)))
+    ((old.left ≡ 0) × Fails e (ending (rest_of old.rest)))
+    ⊎ ((0 < old.left) × Fails e (item (rest_of old.rest)))
 
 -- that, where the rest is known
 abbrev pub NextItem : {X Y : Type 0} → (X → Y) → (Rest → Read Y) → (Rest → Result (Unit {0}) Fault)

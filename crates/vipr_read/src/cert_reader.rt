@@ -11,7 +11,7 @@ use crate::reader::Solutions;
 use std::alloc::{AllocError, Global};
 use std::marker::Model;
 use vipr_bytes::Source;
-use vipr_items::Problem;
+use vipr_cert::Problem;
 use vipr_scan::{Scanner, TextError};
 
 /// Reads a certificate from its start. In contracts it is the rest of the text, where it is known.

@@ -11,7 +11,7 @@ use crate::item::{Derived, Listed, all};
 use crate::parser::Parser;
 use std::alloc::Global;
 use vipr_bytes::Source;
-use vipr_items::Certificate;
+use vipr_cert::Certificate;
 use vipr_scan::{Scanner, Stop, TextError};
 
 /// The certificate that `source` gives, which is read to its end.

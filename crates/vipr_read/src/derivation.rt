@@ -8,7 +8,7 @@ ghost use Rattle.vipr_spec.specs.Certificate.{Problem as ProblemMeant, variables
 ghost use Rattle.vipr_spec.specs.Reading.{most_count, by_uns, entry_read, entries_read, by_read};
 ghost use Rattle.vipr_spec.specs.Reading.{reason_read, solution_read, derivations_read};
 ghost use Rattle.vipr_spec.specs.Reading.{derivation_read};
-ghost use Rattle.vipr_items.specs.Items.{solution_of, reason_of, derivation_of};
+ghost use Rattle.vipr_cert.specs.Items.{solution_of, reason_of, derivation_of};
 ghost use Rattle.vipr_read.specs.Parsing.{Parses};
 ghost use Rattle.vipr_read.specs.Rules.{rule_seen};
 
@@ -20,8 +20,8 @@ use crate::parts::{Part, many};
 use crate::problem::Stated;
 use std::alloc::Global;
 use vipr_bytes::Source;
+use vipr_cert::{Derivation, Named, Reason};
 use vipr_frac::Frac;
-use vipr_items::{Derivation, Named, Reason};
 use vipr_linear::{Row, Solution};
 use vipr_scan::{Stop, cause};
 

@@ -5,13 +5,13 @@ ghost use Rattle.vipr_spec.specs.Certificate.{Problem as ProblemMeant, variables
 ghost use Rattle.vipr_spec.specs.Certificate.{Named as NamedMeant, Derivation as DerivationMeant};
 ghost use Rattle.vipr_spec.specs.Reading.{Rest, Read, repeated, solution_read, derivation_read};
 ghost use Rattle.vipr_spec.specs.Shape.{RowFits, SolutionShape, DerivationShape, DerivationFits};
-ghost use Rattle.vipr_items.specs.Items.{solution_of, derivation_of};
+ghost use Rattle.vipr_cert.specs.Items.{solution_of, derivation_of};
 ghost use Rattle.vipr_read.specs.Parsing.{Parses};
 
 use crate::parser::Parser;
 use std::alloc::Global;
 use vipr_bytes::Source;
-use vipr_items::{Derivation, Named};
+use vipr_cert::{Derivation, Named};
 use vipr_linear::{Row, Solution};
 use vipr_scan::Stop;
 

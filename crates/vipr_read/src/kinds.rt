@@ -9,17 +9,17 @@ ghost use Rattle.vipr_spec.specs.Constraint.{Sense as SenseMeant};
 ghost use Rattle.vipr_spec.specs.Tokens.{IsToken};
 ghost use Rattle.vipr_spec.specs.Reading.{Rule as RuleMeant, most_count, at_most_or, name_of};
 ghost use Rattle.vipr_spec.specs.Reading.{count_of, derivation_count_of, reference_of, last_of};
-ghost use Rattle.vipr_spec.specs.Reading.{word_of, rule_of, number_of, sense_of, variable_of};
-ghost use Rattle.vipr_spec.specs.Reading.{direction_of, has_range_of, bound_of};
+ghost use Rattle.vipr_spec.specs.Reading.{word_of, rule_of, number_of, spelled_sense, variable_of};
+ghost use Rattle.vipr_spec.specs.Reading.{spelled_direction, has_range_of, bound_of};
 ghost use Rattle.vipr_scan.specs.Meaning.{Means};
 ghost use Rattle.vipr_linear.specs.Constraint.{sense_of as sense_seen};
-ghost use Rattle.vipr_items.specs.Items.{direction_of as direction_seen};
+ghost use Rattle.vipr_cert.specs.Items.{direction_of as direction_seen};
 ghost use Rattle.vipr_read.specs.Rules.{rule_seen, objective_or_count_of};
 ghost use Rattle.vipr_read.specs.Marks.{unmarked_of};
 
 use std::alloc::Global;
+use vipr_cert::{Goal, Name};
 use vipr_frac::{Frac, NumberError};
-use vipr_items::{Goal, Name};
 use vipr_linear::Sense;
 use vipr_scan::{TokenKind, Unfit, cause};
 
@@ -285,9 +285,9 @@ impl TokenKind for SenseKind {
 
     ghost view = { sense_seen };
 
-    ghost meaning = { λ _ bytes. sense_of bytes };
+    ghost meaning = { λ _ bytes. spelled_sense bytes };
 
-    #[tactic(auto, unfolding(vipr_spec::specs::Reading::sense_of))]
+    #[tactic(auto, unfolding(vipr_spec::specs::Reading::spelled_sense))]
     fn read(&self, bytes: &[u8]) -> Result<Sense, Unfit> {
         if bytes == b"E".as_slice() {
             Ok(Sense::E)
@@ -311,9 +311,9 @@ impl TokenKind for GoalKind {
 
     ghost view = { direction_seen };
 
-    ghost meaning = { λ _ bytes. direction_of bytes };
+    ghost meaning = { λ _ bytes. spelled_direction bytes };
 
-    #[tactic(auto, unfolding(vipr_spec::specs::Reading::direction_of))]
+    #[tactic(auto, unfolding(vipr_spec::specs::Reading::spelled_direction))]
     fn read(&self, bytes: &[u8]) -> Result<Goal, Unfit> {
         if bytes == b"min".as_slice() {
             Ok(Goal::Min)

@@ -12,7 +12,7 @@ ghost use Rattle.vipr_read.specs.Parsing.{Parses};
 
 use crate::kinds::{Count, ObjectiveOrCount};
 use crate::marks::{mark_pairs, unmark};
-use std::alloc::Global;
+use std::alloc::{AllocError, Global};
 use std::marker::Model;
 use vipr_bytes::Source;
 use vipr_frac::Frac;
@@ -51,10 +51,9 @@ impl<R: Source> Parser<R> {
     }
 
     /// Goes on with so many variables.
-    pub(crate) fn set_variables(&mut self, alloc: Global, variables: u32) -> Result<(), Stop>
-        ensures parser { OnOk result
+    pub(crate) fn set_variables(&mut self, alloc: Global, variables: u32) -> Result<(), AllocError>
+        ensures { OnOk result
             (self.new ≡ record { rest = self.old.rest; variables = variables }) }
-        ensures error { IfErr result (λ e. e ≡ Stop.Memory) }
     {
         self.marks = vec![in alloc; false; variables as usize]?;
         Ok(())
@@ -92,7 +91,7 @@ impl<R: Source> Parser<R> {
     }
 
     /// The row of so many pairs.
-    #[tactic(auto, using(crate::proofs::Below::row_below), unfolding(vipr_spec::specs::Reading::counted_read))]
+    #[tactic(auto, using(vipr_spec::proofs::Laws::row_below), unfolding(vipr_spec::specs::Reading::counted_read))]
     fn counted(&mut self, alloc: Global, count: u32) -> Result<Row, Stop>
         ensures read { Parses (λ row. row) (λ l. counted_read self.old.variables (count, l))
             self.old self.new result }

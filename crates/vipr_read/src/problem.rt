@@ -10,7 +10,7 @@ ghost use Rattle.vipr_spec.specs.Reading.{most_count, version_read, names_read, 
 ghost use Rattle.vipr_spec.specs.Reading.{objective_read, constraint_read, constraints_read};
 ghost use Rattle.vipr_spec.specs.Reading.{range_read, claim_read, problem_read};
 ghost use Rattle.vipr_linear.specs.Constraint.{constraint_of};
-ghost use Rattle.vipr_items.specs.Items.{named_of, direction_of, claim_of};
+ghost use Rattle.vipr_cert.specs.Items.{named_of, direction_of, claim_of};
 ghost use Rattle.vipr_scan.specs.Giving.{Scans};
 ghost use Rattle.vipr_read.specs.Parsing.{Parses};
 
@@ -19,7 +19,7 @@ use crate::parser::Parser;
 use crate::parts::{One, Part, many};
 use std::alloc::Global;
 use vipr_bytes::Source;
-use vipr_items::{Claim, Goal, Name, Named, Problem};
+use vipr_cert::{Claim, Goal, Name, Named, Problem};
 use vipr_linear::{Constraint, Ints, Row};
 use vipr_scan::{Stop, cause};
 
@@ -93,7 +93,7 @@ impl<R: Source> Parser<R> {
         Ok(Ints::from_indices(alloc, indices)?)
     }
 
-    /// The objective.
+    /// The objective, whose clones share its entries.
     #[tactic(auto, unfolding(vipr_spec::specs::Reading::objective_read))]
     fn objective(&mut self, alloc: Global) -> Result<(Goal, Row), Stop>
         ensures read { Parses (λ x. (direction_of x.0, x.1)) (objective_read self.old.variables)
@@ -104,7 +104,7 @@ impl<R: Source> Parser<R> {
         self.take(&Word(b"OBJ", cause::WRONG_KEYWORD))?;
         let goal = self.take(&GoalKind)?;
         let row = self.vector(alloc)?;
-        Ok((goal, row))
+        Ok((goal, row.shared(alloc)?))
     }
 
     /// How many of the constraints are bounds, and the constraints.

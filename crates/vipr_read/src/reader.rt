@@ -1,21 +1,22 @@
 //! Reads the items of a certificate one by one.
 ghost use Rattle.std.specs.Prelude.{◌≡◌, ◌≢◌, ◌↔◌, ◌^◌, ◌+◌, ◌<◌, suc, true, false, Ok, None};
 ghost use Rattle.std.specs.Prelude.{IfOk, IfErr, IfSome, OnOk, OnErr, IsErrOf, IsSome, MatchOption};
+ghost use Rattle.std.specs.Prelude.{MatchResult};
 ghost use Rattle.vipr_spec.specs.Constraint.{at, NamesBelow};
 ghost use Rattle.vipr_spec.specs.Certificate.{Problem as ProblemMeant};
 ghost use Rattle.vipr_spec.specs.Reading.{solution_read, derivations_read, derivation_read};
 ghost use Rattle.vipr_spec.specs.Reading.{end_read};
 ghost use Rattle.vipr_spec.specs.Shape.{RowFits, SolutionShape, DerivationShape};
-ghost use Rattle.vipr_items.specs.Items.{solution_of, derivation_of};
+ghost use Rattle.vipr_cert.specs.Items.{solution_of, derivation_of};
 ghost use Rattle.vipr_scan.specs.Giving.{rest_of};
-ghost use Rattle.vipr_read.specs.Items.{Items, Knows, Remembers, NextItem, GivesFrom, EndsWith};
+ghost use Rattle.vipr_read.specs.Items.{Items, Knows, Remembers, NextItem, GivesFrom};
 
 use crate::item::{Derived, Item, Listed};
 use crate::parser::Parser;
 use std::alloc::Global;
 use std::marker::Model;
 use vipr_bytes::Source;
-use vipr_items::{Derivation, Named};
+use vipr_cert::{Derivation, Named};
 use vipr_linear::{Row, Solution};
 use vipr_scan::TextError;
 
@@ -55,13 +56,12 @@ impl<R: Source> ItemReader<R> {
     /// The next item, or `None` where no item is to come; nothing is read then.
     fn next<I: Item>(&mut self, alloc: Global, item: &I) -> Result<Option<I::Value>, TextError>
         ensures spent { IsErrOf result TextError.Spent ↔ (self.old.failed ≡ true) }
-        ensures failed { OnErr result (self.new.failed ≡ true) }
-        ensures kept { OnErr result (self.new.left ≡ self.old.left) }
-        ensures none { result ≡ Ok None → self.new ≡ self.old }
+        ensures failed { MatchResult result (λ _. self.new.failed ≡ false)
+            (λ _. self.new.failed ≡ true) }
         ensures remembers { Remembers self.old self.new }
-        ensures working { OnOk result (self.new.failed ≡ false) }
-        ensures counted { IfOk result (λ o.
-            MatchOption o (self.old.left ≡ 0) (λ _. self.old.left ≡ suc self.new.left)) }
+        ensures counted { MatchResult result
+            (λ o. MatchOption o ((self.old.left ≡ 0) × (self.new ≡ self.old))
+            (λ _. self.old.left ≡ suc self.new.left)) (λ _. self.new.left ≡ self.old.left) }
         ensures shape { IfOk result (λ o. IfSome o (λ x. I.shape self.old.variables (I.view x))) }
         ensures read { (p : ProblemMeant) → Knows self.old p
             → NextItem I.view (I.reading p) (λ _. Ok tt) self.old self.new result }
@@ -77,26 +77,6 @@ impl<R: Source> ItemReader<R> {
                 self.left -= 1;
                 Ok(Some(next))
             }
-            Err(stop) => {
-                self.failed = true;
-                Err(TextError::from(stop))
-            }
-        }
-    }
-
-    /// The end of the text.
-    fn end(&mut self) -> Result<(), TextError>
-        requires { self.old.failed ≡ false }
-        ensures error { IfErr result (λ e. e ≢ TextError.Spent) }
-        ensures failed { OnErr result (self.new.failed ≡ true) }
-        ensures kept { self.new.left ≡ self.old.left }
-        ensures remembers { Remembers self.old self.new }
-        ensures working { OnOk result (self.new.failed ≡ false) }
-        ensures same { OnOk result (IsSome self.old.rest → self.new ≡ self.old) }
-        ensures read { IsSome self.old.rest → EndsWith result (end_read (rest_of self.old.rest)) }
-    {
-        match self.parser.end() {
-            Ok(()) => Ok(()),
             Err(stop) => {
                 self.failed = true;
                 Err(TextError::from(stop))
@@ -163,8 +143,8 @@ impl<R: Source> Solutions<R> {
     ///
     /// # Errors
     ///
-    /// `Refused` where the text is at fault, `Read` where a read failed, and `Memory` where a growth
-    /// was refused; after an error `Spent`.
+    /// `Refused` where the text is at fault, `Read` where a read failed, and `Memory` where a
+    /// growth was refused; after an error `Spent`.
     pub fn next(&mut self, alloc: Global) -> Result<Option<Named<Solution>>, TextError>
         ensures spent { IsErrOf result TextError.Spent ↔ (self.old.failed ≡ true) }
         ensures failed { OnErr result (self.new.failed ≡ true) }
@@ -235,8 +215,8 @@ impl<R: Source> Derivations<R> {
     ///
     /// # Errors
     ///
-    /// `Refused` where the text is at fault, `Read` where a read failed, and `Memory` where a growth
-    /// was refused; after an error `Spent`.
+    /// `Refused` where the text is at fault, `Read` where a read failed, and `Memory` where a
+    /// growth was refused; after an error `Spent`.
     pub fn next(&mut self, alloc: Global) -> Result<Option<Derivation>, TextError>
         ensures spent { IsErrOf result TextError.Spent ↔ (self.old.failed ≡ true) }
         ensures failed { OnErr result (self.new.failed ≡ true) }
@@ -253,9 +233,12 @@ impl<R: Source> Derivations<R> {
             → NextItem derivation_of (derivation_read p) end_read self.old self.new result }
     {
         match self.items.next(alloc, &Derived) {
-            Ok(None) => match self.items.end() {
+            Ok(None) => match self.items.parser.end() {
                 Ok(()) => Ok(None),
-                Err(error) => Err(error),
+                Err(stop) => {
+                    self.items.failed = true;
+                    Err(TextError::from(stop))
+                }
             },
             next => next,
         }

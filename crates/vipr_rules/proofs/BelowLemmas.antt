@@ -4,13 +4,13 @@ use Rattle.std.specs.Ordering.{nat_cmp}
 use Rattle.std.specs.FinMap.{get, get-empty}
 use Rattle.vipr_spec.specs.Constraint.{at, NamesBelow, Point, IsTrueAt, condition}
 use Rattle.vipr_linear.specs.declared.constraint.Constraint.{Constraint}
-use Rattle.vipr_items.specs.declared.items.Named.{Named}
+use Rattle.vipr_cert.specs.declared.items.Named.{Named}
 use Rattle.vipr_rules.specs.declared.rows.Entry.{Entry}
 use Rattle.vipr_rules.specs.Table.{Table, if_live, live_part, empty_table, step, entry_at, DerivedBelow}
 use Rattle.vipr_spec.specs.Shape.{ConstraintShape}
 use Rattle.vipr_linear.specs.Constraint.{constraint_of, condition_of}
-use Rattle.vipr_items.specs.Items.{named_of}
-use Rattle.vipr_items.proofs.Within.{each_from}
+use Rattle.vipr_cert.specs.Items.{named_of}
+use Rattle.vipr_cert.proofs.Laws.{each_from}
 use Rattle.vipr_rules.proofs.TableLemmas.{get-insert_at, get-live_part}
 use Rattle.vipr_rules.proofs.HistoryLemmas.{if_live_of}
 

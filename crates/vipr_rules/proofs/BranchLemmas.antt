@@ -5,7 +5,7 @@ use Rattle.std.proofs.lemmas.Bool.Decides.{nat_tests}
 use Rattle.std.specs.Cmp.{nat_cmp_total}
 use Rattle.std.specs.Ordering.{nat_cmp}
 use Rattle.std.specs.FinSet.{FinSet, contains, union, remove, contains-remove}
-use Rattle.vipr_spec.specs.Constraint.{one as profile_one, Condition, condition, Ints, IsSplit, Dominates}
+use Rattle.vipr_spec.specs.Constraint.{Profile, Condition, condition, Ints, IsSplit, Dominates}
 use Rattle.vipr_spec.specs.Certificate.{Certificate, Derivation, Reason, asm, lin, rnd, uns, sol, constraint_at, reason_at, is_assumption, RestsOn}
 use Rattle.vipr_spec.specs.Steps.{StepTest, assumed, split, by_constraint, step_tests, index, both, compared}
 use Rattle.vipr_linear.specs.Constraint.{condition_of}
@@ -13,8 +13,8 @@ use Rattle.vipr_linear.specs.declared.constraint.Constraint.{Constraint}
 use Rattle.vipr_rules.specs.declared.error.RuleError.{RuleError}
 use Rattle.vipr_rules.specs.declared.error.RuleError.TheVariants.{NotAssumption, NotSplit}
 use Rattle.vipr_rules.specs.declared.context.Known.{Known}
-use Rattle.vipr_rules.specs.Context.{IsKnownAs, IsSetWithout, IsSetByReason, row_of, set_of, is_assumed}
-use Rattle.vipr_rules.specs.Apply.{index_tests, free_tests, Passes, Stops, IsNotDominated, shown_by}
+use Rattle.vipr_rules.specs.Context.{IsKnownAs, IsSetWithout, IsSetByReason, row_found, set_of, is_assumed}
+use Rattle.vipr_rules.specs.Apply.{index_tests, free_tests, PassesTestsIn, StopsIn, IsNotDominated, shown_by}
 use Rattle.vipr_rules.proofs.SetLemmas.{tied_numbers}
 use Rattle.vipr_rules.proofs.StepLemmas.{stops_first, stops_second, passes_both, passes_one, stops_one}
 use Rattle.vipr_rules.proofs.UnionLemmas.{in_union}
@@ -55,37 +55,37 @@ assumed_by (Some (rnd es)) h = absurd (cc)
 assumed_by (Some (uns i1 l1 i2 l2)) h = absurd (cc)
 assumed_by (Some sol) h = absurd (cc)
 
-module _ (c : Certificate) (d : Derivation) where
+module _ (P : Profile) (c : Certificate) (d : Derivation) where
   module _ (l : ℕ) (k : Known) (is : IsKnownAs c l k) where
-    pub assumed_passes : is_assumed k ≡ true → Passes c d (assumed l ∷ [])
-    assumed_passes h = passes_one c d (assumed l) (assumed_by (reason_at c l) (sym is.is_assumption ∙ h))
+    pub assumed_passes : is_assumed k ≡ true → PassesTestsIn P c d (assumed l ∷ [])
+    assumed_passes h = passes_one P c d (assumed l) (assumed_by (reason_at c l) (sym is.is_assumption ∙ h))
 
-    pub assumed_stops : is_assumed k ≡ false → Stops c d (assumed l ∷ []) (NotAssumption l)
-    assumed_stops h = stops_one c d (assumed l) (NotAssumption l) (λ e. let t = sym (ap is_assumption e) ∙ sym is.is_assumption ∙ h in cc) (index l, refl, refl)
+    pub assumed_stops : is_assumed k ≡ false → StopsIn P c d (assumed l ∷ []) (NotAssumption l)
+    assumed_stops h = stops_one P c d (assumed l) (NotAssumption l) (λ e. let t = sym (ap is_assumption e) ∙ sym is.is_assumption ∙ h in cc) (index l, refl, refl)
 
   module _ (l1 l2 : ℕ) (x y : Constraint) (ints : Ints) (same : c.problem.integers ≡ ints) (says_x : condition_of x ≡ constraint_at c l1) (says_y : condition_of y ≡ constraint_at c l2) where
-    splits : (m n : Ints) (a a' b b' : Condition) → m ≡ n → a ≡ a' → b ≡ b' → IsSplit profile_one m a b → IsSplit profile_one n a' b'
-    splits m n a a' b b' e f g h = subst (λ i. IsSplit profile_one i a' b') e (subst (λ x. IsSplit profile_one m x b') f (subst (IsSplit profile_one m a) g h))
+    splits : (m n : Ints) (a a' b b' : Condition) → m ≡ n → a ≡ a' → b ≡ b' → IsSplit P m a b → IsSplit P n a' b'
+    splits m n a a' b b' e f g h = subst (λ i. IsSplit P i a' b') e (subst (λ x. IsSplit P m x b') f (subst (IsSplit P m a) g h))
 
-    pub split_passes : IsSplit profile_one ints (condition_of x) (condition_of y) → Passes c d (split l1 l2 ∷ [])
-    split_passes h = passes_one c d (split l1 l2) (splits ints c.problem.integers _ _ _ _ (sym same) says_x says_y h)
+    pub split_passes : IsSplit P ints (condition_of x) (condition_of y) → PassesTestsIn P c d (split l1 l2 ∷ [])
+    split_passes h = passes_one P c d (split l1 l2) (splits ints c.problem.integers _ _ _ _ (sym same) says_x says_y h)
 
-    pub split_stops : ¬ IsSplit profile_one ints (condition_of x) (condition_of y) → Stops c d (split l1 l2 ∷ []) (NotSplit x y)
-    split_stops bad = stops_one c d (split l1 l2) (NotSplit x y) (λ h. bad (splits c.problem.integers ints _ _ _ _ same (sym says_x) (sym says_y) h)) (both (condition_of x) (condition_of y), refl, ap₂ both says_x says_y)
+    pub split_stops : ¬ IsSplit P ints (condition_of x) (condition_of y) → StopsIn P c d (split l1 l2 ∷ []) (NotSplit x y)
+    split_stops bad = stops_one P c d (split l1 l2) (NotSplit x y) (λ h. bad (splits c.problem.integers ints _ _ _ _ same (sym says_x) (sym says_y) h)) (both (condition_of x) (condition_of y), refl, ap₂ both says_x says_y)
 
   module _ (i : ℕ) (x y : Constraint) (says_x : condition_of x ≡ constraint_at c i) (says_y : condition_of y ≡ condition d.stated) where
     dominates : (a a' b b' : Condition) → a ≡ a' → b ≡ b' → Dominates a b → Dominates a' b'
     dominates a a' b b' f g h = subst (λ x. Dominates x b') f (subst (Dominates a) g h)
 
-    pub constraint_passes : Dominates (condition_of x) (condition_of y) → Passes c d (by_constraint i ∷ [])
-    constraint_passes h = passes_one c d (by_constraint i) (dominates _ _ _ _ says_x says_y h)
+    pub constraint_passes : Dominates (condition_of x) (condition_of y) → PassesTestsIn P c d (by_constraint i ∷ [])
+    constraint_passes h = passes_one P c d (by_constraint i) (dominates _ _ _ _ says_x says_y h)
 
-    pub constraint_stops : (e : RuleError) → IsNotDominated x y e → Stops c d (by_constraint i ∷ []) e
+    pub constraint_stops : (e : RuleError) → IsNotDominated x y e → StopsIn P c d (by_constraint i ∷ []) e
     constraint_stops e (is, bad) =
-        stops_one c d (by_constraint i) e (λ h. bad (dominates _ _ _ _ (sym says_x) (sym says_y) h)) (compared (condition_of x) (condition_of y), ap shown_by is, ap₂ compared says_x says_y)
+        stops_one P c d (by_constraint i) e (λ h. bad (dominates _ _ _ _ (sym says_x) (sym says_y) h)) (compared (condition_of x) (condition_of y), ap shown_by is, ap₂ compared says_x says_y)
 
 -- ---- all tests
-module _ (c : Certificate) (d : Derivation) (i1 l1 i2 l2 : ℕ) where
+module _ (P : Profile) (c : Certificate) (d : Derivation) (i1 l1 i2 l2 : ℕ) where
   abbrev reason : Reason
   reason = uns i1 l1 i2 l2
 
@@ -98,62 +98,62 @@ module _ (c : Certificate) (d : Derivation) (i1 l1 i2 l2 : ℕ) where
   abbrev ends : List StepTest
   ends = assumptions ++ split l1 l2 ∷ conclusions
 
-  pub stops_1 : (e : RuleError) → Stops c d (index_tests i1) e → Stops c d (step_tests reason) e
-  stops_1 e s = stops_first c d (index_tests i1) (index_tests l1 ++ index_tests i2 ++ index_tests l2 ++ ends) e s
+  pub stops_1 : (e : RuleError) → StopsIn P c d (index_tests i1) e → StopsIn P c d (step_tests reason) e
+  stops_1 e s = stops_first P c d (index_tests i1) (index_tests l1 ++ index_tests i2 ++ index_tests l2 ++ ends) e s
 
-  module _ (p1 : Passes c d (index_tests i1)) where
-    pub stops_2 : (e : RuleError) → Stops c d (index_tests l1) e → Stops c d (step_tests reason) e
-    stops_2 e s = stops_second c d (index_tests i1) (index_tests l1 ++ index_tests i2 ++ index_tests l2 ++ ends) e p1 (stops_first c d (index_tests l1) (index_tests i2 ++ index_tests l2 ++ ends) e s)
+  module _ (p1 : PassesTestsIn P c d (index_tests i1)) where
+    pub stops_2 : (e : RuleError) → StopsIn P c d (index_tests l1) e → StopsIn P c d (step_tests reason) e
+    stops_2 e s = stops_second P c d (index_tests i1) (index_tests l1 ++ index_tests i2 ++ index_tests l2 ++ ends) e p1 (stops_first P c d (index_tests l1) (index_tests i2 ++ index_tests l2 ++ ends) e s)
 
-    module _ (p2 : Passes c d (index_tests l1)) where
-      first : Passes c d (index_tests i1 ++ index_tests l1)
-      first = passes_both c d (index_tests i1) (index_tests l1) p1 p2
+    module _ (p2 : PassesTestsIn P c d (index_tests l1)) where
+      first : PassesTestsIn P c d (index_tests i1 ++ index_tests l1)
+      first = passes_both P c d (index_tests i1) (index_tests l1) p1 p2
 
-      pub stops_3 : (e : RuleError) → Stops c d (index_tests i2) e → Stops c d (step_tests reason) e
-      stops_3 e s = stops_second c d (index_tests i1 ++ index_tests l1) (index_tests i2 ++ index_tests l2 ++ ends) e first (stops_first c d (index_tests i2) (index_tests l2 ++ ends) e s)
+      pub stops_3 : (e : RuleError) → StopsIn P c d (index_tests i2) e → StopsIn P c d (step_tests reason) e
+      stops_3 e s = stops_second P c d (index_tests i1 ++ index_tests l1) (index_tests i2 ++ index_tests l2 ++ ends) e first (stops_first P c d (index_tests i2) (index_tests l2 ++ ends) e s)
 
-      module _ (p3 : Passes c d (index_tests i2)) where
-        second : Passes c d (index_tests i1 ++ index_tests l1 ++ index_tests i2)
-        second = passes_both c d (index_tests i1 ++ index_tests l1) (index_tests i2) first p3
+      module _ (p3 : PassesTestsIn P c d (index_tests i2)) where
+        second : PassesTestsIn P c d (index_tests i1 ++ index_tests l1 ++ index_tests i2)
+        second = passes_both P c d (index_tests i1 ++ index_tests l1) (index_tests i2) first p3
 
-        pub stops_4 : (e : RuleError) → Stops c d (index_tests l2) e → Stops c d (step_tests reason) e
-        stops_4 e s = stops_second c d (index_tests i1 ++ index_tests l1 ++ index_tests i2) (index_tests l2 ++ ends) e second (stops_first c d (index_tests l2) ends e s)
+        pub stops_4 : (e : RuleError) → StopsIn P c d (index_tests l2) e → StopsIn P c d (step_tests reason) e
+        stops_4 e s = stops_second P c d (index_tests i1 ++ index_tests l1 ++ index_tests i2) (index_tests l2 ++ ends) e second (stops_first P c d (index_tests l2) ends e s)
 
-        module _ (p4 : Passes c d (index_tests l2)) where
+        module _ (p4 : PassesTestsIn P c d (index_tests l2)) where
           abbrev indices : List StepTest
           indices = index_tests i1 ++ index_tests l1 ++ index_tests i2 ++ index_tests l2
 
-          found : Passes c d indices
-          found = passes_both c d (index_tests i1 ++ index_tests l1 ++ index_tests i2) (index_tests l2) second p4
+          found : PassesTestsIn P c d indices
+          found = passes_both P c d (index_tests i1 ++ index_tests l1 ++ index_tests i2) (index_tests l2) second p4
 
-          pub stops_5 : (e : RuleError) → Stops c d (assumed l1 ∷ []) e → Stops c d (step_tests reason) e
-          stops_5 e s = stops_second c d indices ends e found (stops_first c d (assumed l1 ∷ []) (assumed l2 ∷ split l1 l2 ∷ conclusions) e s)
+          pub stops_5 : (e : RuleError) → StopsIn P c d (assumed l1 ∷ []) e → StopsIn P c d (step_tests reason) e
+          stops_5 e s = stops_second P c d indices ends e found (stops_first P c d (assumed l1 ∷ []) (assumed l2 ∷ split l1 l2 ∷ conclusions) e s)
 
-          module _ (p5 : Passes c d (assumed l1 ∷ [])) where
-            pub stops_6 : (e : RuleError) → Stops c d (assumed l2 ∷ []) e → Stops c d (step_tests reason) e
-            stops_6 e s = stops_second c d indices ends e found (stops_second c d (assumed l1 ∷ []) (assumed l2 ∷ split l1 l2 ∷ conclusions) e p5 (stops_first c d (assumed l2 ∷ []) (split l1 l2 ∷ conclusions) e s))
+          module _ (p5 : PassesTestsIn P c d (assumed l1 ∷ [])) where
+            pub stops_6 : (e : RuleError) → StopsIn P c d (assumed l2 ∷ []) e → StopsIn P c d (step_tests reason) e
+            stops_6 e s = stops_second P c d indices ends e found (stops_second P c d (assumed l1 ∷ []) (assumed l2 ∷ split l1 l2 ∷ conclusions) e p5 (stops_first P c d (assumed l2 ∷ []) (split l1 l2 ∷ conclusions) e s))
 
-            module _ (p6 : Passes c d (assumed l2 ∷ [])) where
-              assuming : Passes c d assumptions
-              assuming = passes_both c d (assumed l1 ∷ []) (assumed l2 ∷ []) p5 p6
+            module _ (p6 : PassesTestsIn P c d (assumed l2 ∷ [])) where
+              assuming : PassesTestsIn P c d assumptions
+              assuming = passes_both P c d (assumed l1 ∷ []) (assumed l2 ∷ []) p5 p6
 
-              pub free_pass : Passes c d (free_tests reason)
-              free_pass = passes_both c d indices assumptions found assuming
+              pub free_pass : PassesTestsIn P c d (free_tests reason)
+              free_pass = passes_both P c d indices assumptions found assuming
 
-              pub stops_7 : (e : RuleError) → Stops c d (split l1 l2 ∷ []) e → Stops c d (step_tests reason) e
-              stops_7 e s = stops_second c d (indices ++ assumptions) (split l1 l2 ∷ conclusions) e free_pass (stops_first c d (split l1 l2 ∷ []) conclusions e s)
+              pub stops_7 : (e : RuleError) → StopsIn P c d (split l1 l2 ∷ []) e → StopsIn P c d (step_tests reason) e
+              stops_7 e s = stops_second P c d (indices ++ assumptions) (split l1 l2 ∷ conclusions) e free_pass (stops_first P c d (split l1 l2 ∷ []) conclusions e s)
 
-              module _ (p7 : Passes c d (split l1 l2 ∷ [])) where
-                pub stops_8 : (e : RuleError) → Stops c d (by_constraint i1 ∷ []) e → Stops c d (step_tests reason) e
-                stops_8 e s = stops_second c d (indices ++ assumptions) (split l1 l2 ∷ conclusions) e free_pass (stops_second c d (split l1 l2 ∷ []) conclusions e p7 (stops_first c d (by_constraint i1 ∷ []) (by_constraint i2 ∷ []) e s))
+              module _ (p7 : PassesTestsIn P c d (split l1 l2 ∷ [])) where
+                pub stops_8 : (e : RuleError) → StopsIn P c d (by_constraint i1 ∷ []) e → StopsIn P c d (step_tests reason) e
+                stops_8 e s = stops_second P c d (indices ++ assumptions) (split l1 l2 ∷ conclusions) e free_pass (stops_second P c d (split l1 l2 ∷ []) conclusions e p7 (stops_first P c d (by_constraint i1 ∷ []) (by_constraint i2 ∷ []) e s))
 
-                module _ (p8 : Passes c d (by_constraint i1 ∷ [])) where
-                  pub stops_9 : (e : RuleError) → Stops c d (by_constraint i2 ∷ []) e → Stops c d (step_tests reason) e
+                module _ (p8 : PassesTestsIn P c d (by_constraint i1 ∷ [])) where
+                  pub stops_9 : (e : RuleError) → StopsIn P c d (by_constraint i2 ∷ []) e → StopsIn P c d (step_tests reason) e
                   stops_9 e s =
-                      stops_second c d (indices ++ assumptions) (split l1 l2 ∷ conclusions) e free_pass
-                      (stops_second c d (split l1 l2 ∷ []) conclusions e p7 (stops_second c d (by_constraint i1 ∷ []) (by_constraint i2 ∷ []) e p8 s))
+                      stops_second P c d (indices ++ assumptions) (split l1 l2 ∷ conclusions) e free_pass
+                      (stops_second P c d (split l1 l2 ∷ []) conclusions e p7 (stops_second P c d (by_constraint i1 ∷ []) (by_constraint i2 ∷ []) e p8 s))
 
-                  pub all_pass : Passes c d (by_constraint i2 ∷ []) → Passes c d (step_tests reason)
+                  pub all_pass : PassesTestsIn P c d (by_constraint i2 ∷ []) → PassesTestsIn P c d (step_tests reason)
                   all_pass p9 =
-                      passes_both c d (indices ++ assumptions) (split l1 l2 ∷ conclusions) free_pass
-                      (passes_both c d (split l1 l2 ∷ []) conclusions p7 (passes_both c d (by_constraint i1 ∷ []) (by_constraint i2 ∷ []) p8 p9))
+                      passes_both P c d (indices ++ assumptions) (split l1 l2 ∷ conclusions) free_pass
+                      (passes_both P c d (split l1 l2 ∷ []) conclusions p7 (passes_both P c d (by_constraint i1 ∷ []) (by_constraint i2 ∷ []) p8 p9))

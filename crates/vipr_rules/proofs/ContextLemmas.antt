@@ -6,22 +6,21 @@ use Rattle.std.specs.Ordering.{nat_cmp}
 use Rattle.std.proofs.lemmas.Bool.Decides.{nat_tests}
 use Rattle.std.proofs.lemmas.Simd.{map-map}
 use Rattle.std.proofs.lemmas.List.{length-map}
-use Rattle.vipr_spec.specs.Constraint.{condition}
+use Rattle.vipr_spec.specs.Constraint.{Profile, condition}
 use Rattle.vipr_spec.specs.Steps.{earlier, live, index}
 use Rattle.vipr_spec.specs.Certificate.{Certificate, Derivation, constraint_at, reason_at, last_at, is_assumption, lasts_to, is_live, count}
-use Rattle.vipr_spec.proofs.Prefix.{reason_given, constraints_listed, lasts_listed}
-use Rattle.vipr_spec.proofs.Rests.{rests_given}
+use Rattle.vipr_spec.proofs.Laws.{reason_given, constraints_listed, lasts_listed, rests_given}
 use Rattle.vipr_linear.specs.Constraint.{constraint_of, condition_of}
 use Rattle.vipr_linear.specs.declared.constraint.Constraint.{Constraint}
-use Rattle.vipr_items.specs.declared.items.Named.{Named}
-use Rattle.vipr_items.specs.Items.{named_of}
+use Rattle.vipr_cert.specs.declared.items.Named.{Named}
+use Rattle.vipr_cert.specs.Items.{named_of}
 use Rattle.vipr_rules.specs.declared.rows.Entry.{Entry}
 use Rattle.vipr_rules.specs.declared.context.Known.TheVariants.{Given, Derived}
 use Rattle.vipr_rules.specs.Table.{Table, entry_at}
 use Rattle.vipr_rules.specs.History.{is_derived, IsTableOf}
 use Rattle.vipr_rules.specs.declared.error.RuleError.TheVariants.{NotEarlier, Dropped}
 use Rattle.vipr_rules.specs.Context.{IsKnownAs}
-use Rattle.vipr_rules.specs.Apply.{index_tests, Passes, Stops}
+use Rattle.vipr_rules.specs.Apply.{index_tests, PassesTestsIn, StopsIn}
 use Rattle.vipr_rules.proofs.StepLemmas.{stops_second, passes_both, passes_one, stops_one}
 use Rattle.vipr_rules.proofs.HistoryLemmas.{IsTableOf-answers}
 
@@ -52,18 +51,18 @@ front : {A B C : Type 0} (f : A → C) (g : B → C) (xs : List A) (bs : List B)
 front f g xs bs rest i d b same lt at = ap (λ l. slice_index_or (l ++ rest) i d) same ∙ in_front g rest d b bs i lt at
 
 -- ---- the tests of one index
-module _ (c : Certificate) (d : Derivation) (i : ℕ) where
-  pub earlier_passes : (n : ℕ) → n ≡ count c → i < n → Passes c d (earlier i ∷ [])
-  earlier_passes n is h = passes_one c d (earlier i) (omega (arith, is, h))
+module _ (P : Profile) (c : Certificate) (d : Derivation) (i : ℕ) where
+  pub earlier_passes : (n : ℕ) → n ≡ count c → i < n → PassesTestsIn P c d (earlier i ∷ [])
+  earlier_passes n is h = passes_one P c d (earlier i) (omega (arith, is, h))
 
-  pub earlier_stops : (n : ℕ) → n ≡ count c → n ≤ i → Stops c d (earlier i ∷ []) (NotEarlier i)
-  earlier_stops n is h = stops_one c d (earlier i) (NotEarlier i) (λ lt. omega (arith, is, h, lt)) (index i, refl, refl)
+  pub earlier_stops : (n : ℕ) → n ≡ count c → n ≤ i → StopsIn P c d (earlier i ∷ []) (NotEarlier i)
+  earlier_stops n is h = stops_one P c d (earlier i) (NotEarlier i) (λ lt. omega (arith, is, h, lt)) (index i, refl, refl)
 
-  pub live_passes : Passes c d (earlier i ∷ []) → IsTrue (is_live c (count c) i) → Passes c d (index_tests i)
-  live_passes p h = passes_both c d (earlier i ∷ []) (live i ∷ []) p (passes_one c d (live i) h)
+  pub live_passes : PassesTestsIn P c d (earlier i ∷ []) → IsTrue (is_live c (count c) i) → PassesTestsIn P c d (index_tests i)
+  live_passes p h = passes_both P c d (earlier i ∷ []) (live i ∷ []) p (passes_one P c d (live i) h)
 
-  pub live_stops : Passes c d (earlier i ∷ []) → ¬ IsTrue (is_live c (count c) i) → Stops c d (index_tests i) (Dropped i)
-  live_stops p bad = stops_second c d (earlier i ∷ []) (live i ∷ []) (Dropped i) p (stops_one c d (live i) (Dropped i) bad (index i, refl, refl))
+  pub live_stops : PassesTestsIn P c d (earlier i ∷ []) → ¬ IsTrue (is_live c (count c) i) → StopsIn P c d (index_tests i) (Dropped i)
+  live_stops p bad = stops_second P c d (earlier i ∷ []) (live i ∷ []) (Dropped i) p (stops_one P c d (live i) (Dropped i) bad (index i, refl, refl))
 
 -- the constraints of the problem, and the table of the derived ones
 module _ (c : Certificate) (cons : List (Named Constraint)) (t : Table) (same : map (named_of constraint_of) cons ≡ c.problem.constraints) (table : IsTableOf c t) where

@@ -1,38 +1,38 @@
 -- What the tests of the reason `sol` say of the best value.
 use Rattle.std.proofs.Common.{◌≡◌, ◌<◌, length, List, [], ◌∷◌, Some, None, All, refl, sym, ap, ap₂, ◌∙◌, subst, inl, inr, arith}
 use Rattle.vipr_spec.specs.Fraction.{ℚ}
-use Rattle.vipr_spec.specs.Constraint.{Row, at, Condition, condition, Dominates, Compares}
+use Rattle.vipr_spec.specs.Constraint.{Profile, Row, at, Condition, condition, Dominates, Compares}
 use Rattle.vipr_spec.specs.Certificate.{Named, Certificate, Derivation, Direction, minimum, maximum, objective_at, objective_constraint, reaches, IsAsGood, sol}
 use Rattle.vipr_spec.specs.Soundness.{IsBestValue}
 use Rattle.vipr_spec.specs.Steps.{listed, by_cutoff, step_tests, nothing, compared}
-use Rattle.vipr_spec.proofs.Best.{cuts_off}
+use Rattle.vipr_spec.proofs.Laws.{cuts_off}
 use Rattle.vipr_linear.specs.Constraint.{condition_of}
 use Rattle.vipr_linear.specs.declared.constraint.Constraint.{Constraint}
 use Rattle.vipr_rules.specs.declared.error.RuleError.{RuleError}
 use Rattle.vipr_rules.specs.declared.error.RuleError.TheVariants.{NoSolution}
-use Rattle.vipr_rules.specs.Apply.{Stops, Passes, IsNotDominated, shown_by}
+use Rattle.vipr_rules.specs.Apply.{StopsIn, PassesTestsIn, IsNotDominated, shown_by}
 
 none_below : (ss : List (Named Row)) → ss ≡ [] → ¬ (0 < length ss)
 none_below ss e h = let n = ap length e in omega (arith, n)
 
-pub none_listed : (c : Certificate) (d : Derivation) → IsBestValue c.problem c.solutions None → Stops c d (step_tests sol) NoSolution
-none_listed c d none = (listed, inr (none_below c.solutions none, refl), (nothing, refl, refl))
+pub none_listed : (P : Profile) (c : Certificate) (d : Derivation) → IsBestValue c.problem c.solutions None → StopsIn P c d (step_tests sol) NoSolution
+none_listed P c d none = (listed, inr (none_below c.solutions none, refl), (nothing, refl, refl))
 
-module _ (c : Certificate) (d : Derivation) (best : ℚ) (is : IsBestValue c.problem c.solutions (Some best)) where
+module _ (P : Profile) (c : Certificate) (d : Derivation) (best : ℚ) (is : IsBestValue c.problem c.solutions (Some best)) where
   some_listed : 0 < length c.solutions
   some_listed = let h = is.0.1.1 in omega arith
 
-  pub listed_passes : Passes c d (listed ∷ [])
+  pub listed_passes : PassesTestsIn P c d (listed ∷ [])
   listed_passes = inl (some_listed, refl)
 
   abbrev bound : Condition
   bound = objective_constraint c.problem (reaches c.problem.direction) best
 
   module _ (computed stated : Constraint) (same : condition_of computed ≡ bound) (says : condition_of stated ≡ condition d.stated) where
-    pub cut_passes : Dominates (condition_of computed) (condition_of stated) → Passes c d (step_tests sol)
+    pub cut_passes : Dominates (condition_of computed) (condition_of stated) → PassesTestsIn P c d (step_tests sol)
     cut_passes h = inl (some_listed, inl ((cuts_off c (Some best) (condition d.stated) is).1 (subst (Dominates bound) says (subst (λ x. Dominates x (condition_of stated)) same h)), refl))
 
-    pub cut_not_dominated : (e : RuleError) → IsNotDominated computed stated e → Stops c d (step_tests sol) e
+    pub cut_not_dominated : (e : RuleError) → IsNotDominated computed stated e → StopsIn P c d (step_tests sol) e
     cut_not_dominated e (this, bad) = (
       by_cutoff,
       inl (some_listed, inr ((λ v. bad (subst (λ x. Dominates x (condition_of stated)) (sym same) (subst (Dominates bound) (sym says) ((cuts_off c (Some best) (condition d.stated) is).0 v)))), refl)),

@@ -5,14 +5,14 @@ use Rattle.std.proofs.Math.Seq.{take-suc, take-length}
 use Rattle.std.proofs.lemmas.List.{append-nil, take-append-drop, length-take-le}
 use Rattle.std.proofs.lemmas.Grind.{flat_map-append}
 use Rattle.vipr_spec.specs.Fraction.{ℚ}
+use Rattle.vipr_spec.specs.Constraint.{condition, Profile}
 use Rattle.vipr_spec.specs.Certificate.{Certificate, Derivation, entries}
-use Rattle.vipr_spec.specs.Progress.{PassesNext}
 use Rattle.vipr_rules.specs.declared.error.RuleError.{RuleError}
-use Rattle.vipr_rules.specs.Apply.{Passes, Stops, SumStops, shown_by}
+use Rattle.vipr_rules.specs.Apply.{PassesTestsIn, StopsIn, SumStops, shown_by}
 use Rattle.std.specs.Prelude.{if◌then◌else◌}
 use Rattle.vipr_spec.specs.Reading.{is_nonzero}
-use Rattle.vipr_spec.specs.Steps.{StepTest, earlier, live, suitable, fitting, FirstFailing, reference_tests, entry_tests, position}
-use Rattle.vipr_spec.proofs.FirstFailing.{failing_first, failing_second, failing_parts}
+use Rattle.vipr_spec.specs.Steps.{PassesStep, StepTest, earlier, live, suitable, fitting, FirstFailing, reference_tests, entry_tests, position}
+use Rattle.vipr_spec.proofs.Laws.{failing_first, failing_second, failing_parts}
 use Rattle.std.proofs.lemmas.List.Concat.{flat_map-cons}
 
 pub entry_tests-append : (before xs ys : List (ℕ × ℚ)) → entry_tests before (xs ++ ys) ≡ entry_tests before xs ++ entry_tests (before ++ xs) ys
@@ -86,12 +86,12 @@ module _ (P : StepTest → Type 0) (es : List (ℕ × ℚ)) (n : ℕ) (e : ℕ �
 at_position : (es : List (ℕ × ℚ)) (n : ℕ) → n < length es → n ≡ length (take (n + 1) es) - 1
 at_position es n h = let e = length-take-le (n + 1) es (omega arith) in omega (arith, e)
 
-pub sum_stops : (c : Certificate) (d : Derivation) (es : List (ℕ × ℚ)) (n : ℕ) (e : ℕ × ℚ) (error : RuleError) → n < length es → e ≡ get_or es n e
-    → Passes c d (entry_tests [] (take n es)) → SumStops (entries c (take n es ++ e ∷ [])) n error → Stops c d (entry_tests [] es) error
-sum_stops c d es n e error lt is before (inl (this, bad)) =
-    (suitable (take (n + 1) es), sign_fails (PassesNext c d) es n e lt is before bad, (position n, ap shown_by this, ap position (at_position es n lt)))
-sum_stops c d es n e error lt is before (inr (this, good, bad)) =
-    (fitting (take (n + 1) es), size_fails (PassesNext c d) es n e lt is before good bad, (position n, ap shown_by this, ap position (at_position es n lt)))
+pub sum_stops : (P : Profile) (c : Certificate) (d : Derivation) (es : List (ℕ × ℚ)) (n : ℕ) (e : ℕ × ℚ) (error : RuleError) → n < length es → e ≡ get_or es n e
+    → PassesTestsIn P c d (entry_tests [] (take n es)) → SumStops (entries c (take n es ++ e ∷ [])) n error → StopsIn P c d (entry_tests [] es) error
+sum_stops P c d es n e error lt is before (inl (this, bad)) =
+    (suitable (take (n + 1) es), sign_fails (PassesStep P c (condition d.stated)) es n e lt is before bad, (position n, ap shown_by this, ap position (at_position es n lt)))
+sum_stops P c d es n e error lt is before (inr (this, good, bad)) =
+    (fitting (take (n + 1) es), size_fails (PassesStep P c (condition d.stated)) es n e lt is before good bad, (position n, ap shown_by this, ap position (at_position es n lt)))
 
 -- the references of an entry
 pub used_passes : (P : StepTest → Type 0) (e : ℕ × ℚ) (f : Option StepTest) → is_nonzero e ≡ true → FirstFailing P (earlier e.0 ∷ live e.0 ∷ []) f → FirstFailing P (reference_tests e) f

@@ -7,12 +7,11 @@ use Rattle.std.specs.FinMap.{get, get-empty, contains_key}
 use Rattle.std.specs.List.{range_with_len, count_by}
 use Rattle.vipr_spec.specs.Certificate.{Derivation, Certificate, reason_at, last_at, is_assumption, lasts_to, is_live, count}
 use Rattle.vipr_spec.specs.Certificate as spec
-use Rattle.vipr_spec.specs.OnePass.{RefersBack}
-use Rattle.vipr_spec.proofs.Prefix.{with_more, constraint_before, reason_before, last_before}
-use Rattle.vipr_spec.proofs.Steps.{rests_more}
+use Rattle.vipr_spec.specs.Steps.{RefersBack}
+use Rattle.vipr_spec.proofs.Laws.{with_more, constraint_before, reason_before, last_before, rests_more}
 use Rattle.vipr_rules.specs.declared.rows.Entry.{Entry}
-use Rattle.vipr_rules.specs.Table.{Table, is_live_before, if_live, live_part, empty_table, step, entry_at, held}
-use Rattle.vipr_rules.specs.History.{IsEntryOf, is_derived, is_held, IsTableOf, Answers}
+use Rattle.vipr_rules.specs.Table.{Table, is_live_before, if_live, live_part, empty_table, step, entry_at, held_count}
+use Rattle.vipr_rules.specs.History.{IsEntryOf, is_derived, is_held, IsTableOf, FindsLive}
 use Rattle.vipr_rules.proofs.TableLemmas.{get-insert_at, get-live_part}
 use Rattle.vipr_rules.proofs.CountLemmas.{count_same, count_more, len_counts}
 
@@ -179,7 +178,7 @@ module _ (c : Certificate) (d : Derivation) (e : Entry) (t : Table)
 
 module _ (c : Certificate) (t : Table) (is : IsTableOf c t) where
   -- a look-up answers exactly the derived constraints that are live before the next derivation
-  pub IsTableOf-answers : (i : ℕ) → Answers c i (entry_at t i)
+  pub IsTableOf-answers : (i : ℕ) → FindsLive c i (entry_at t i)
   IsTableOf-answers i = record {
     live = ap (λ n. is_some (if_live n (get t.entries i))) is.next ∙ at (get t.entries i) refl;
     entry = λ e h. is.entry i e (if_live_of t.next (get t.entries i) e h);
@@ -193,7 +192,7 @@ module _ (c : Certificate) (t : Table) (is : IsTableOf c t) where
       at None there = sym (not_live (length c.problem.constraints) (count c) i (lasts c (count c) i) (sym (is.held i) ∙ ap is_some there))
 
   -- as many are held as the certificate says
-  pub IsTableOf-held : (k : ℕ) → k + 1 ≡ count c → length c.problem.constraints ≤ k → held t ≡ spec.held c k
+  pub IsTableOf-held : (k : ℕ) → k + 1 ≡ count c → length c.problem.constraints ≤ k → held_count t ≡ spec.held c k
   IsTableOf-held k last derived =
       let m = length c.problem.constraints in
       let n = k - m in

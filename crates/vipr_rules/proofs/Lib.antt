@@ -1,20 +1,21 @@
-pub mod RisingLemmas
-pub mod SetLemmas
-pub mod ExpiryLemmas
-pub mod TableLemmas
-pub mod TiedLemmas
-pub mod KeptLemmas
-pub mod CountLemmas
-pub mod HistoryLemmas
-pub mod EntryTests
-pub mod UnionLemmas
-pub mod ContextLemmas
-pub mod SumLemmas
-pub mod StepLemmas
-pub mod BranchLemmas
-pub mod SoundLemmas
-pub mod RoundLemmas
-pub mod BelowLemmas
-pub mod CutoffLemmas
-pub mod ClaimLemmas
-pub mod SolutionLemmas
+mod RisingLemmas
+mod SetLemmas
+mod ExpiryLemmas
+mod TableLemmas
+mod ExpiryOrderLemmas
+mod KeepAllLemmas
+mod CountLemmas
+mod HistoryLemmas
+mod EntryTests
+mod UnionLemmas
+mod ContextLemmas
+mod SumLemmas
+mod StepLemmas
+mod BranchLemmas
+mod SoundLemmas
+mod RoundLemmas
+mod BelowLemmas
+mod CutoffLemmas
+mod ClaimLemmas
+mod SolutionLemmas
+pub mod Laws

@@ -2,32 +2,31 @@
 use Rattle.std.proofs.Common.{◌≡◌, ℕ, List, [], ◌∷◌, refl, sym, ◌∙◌, ap, subst, inl, inr}
 use Rattle.std.specs.Prelude.{◌↔◌, ◌⊎◌}
 use Rattle.vipr_spec.specs.Fraction.{ℚ, whole}
-use Rattle.vipr_spec.specs.Constraint.{at, condition, Ints, sum_of, IsWholeRow, Dominates, DominatesRounded, CombinesRounded}
+use Rattle.vipr_spec.specs.Constraint.{Profile, at, condition, Ints, sum_of, IsWholeRow, Dominates, DominatesRounded, CombinesRounded}
 use Rattle.vipr_spec.specs.Certificate.{Certificate, Derivation, entries}
-use Rattle.vipr_spec.specs.Steps.{roundable, by_rounding, sum, compared, IsSum}
-use Rattle.vipr_spec.specs.Progress.{PassesNext}
-use Rattle.vipr_spec.proofs.MoreEntries.{one_sense}
+use Rattle.vipr_spec.specs.Steps.{PassesStep, roundable, by_rounding, sum, compared, IsSum}
+use Rattle.vipr_spec.proofs.Laws.{one_sense}
 use Rattle.vipr_linear.specs.Constraint.{sense_of, condition_of}
 use Rattle.vipr_linear.specs.Rounding.{IsRounding}
 use Rattle.vipr_linear.specs.declared.constraint.Constraint.{Constraint}
 use Rattle.vipr_linear.specs.declared.rounding.Rounded.TheVariants.{Row}
 use Rattle.vipr_rules.specs.declared.error.RuleError.{RuleError}
 use Rattle.vipr_rules.specs.declared.error.RuleError.TheVariants.{NotRoundable, Memory}
-use Rattle.vipr_rules.specs.Apply.{Stops, Passes, IsNotDominated, shown_by}
+use Rattle.vipr_rules.specs.Apply.{StopsIn, PassesTestsIn, IsNotDominated, shown_by}
 
 -- x is the sum of the entries
-module _ (c : Certificate) (d : Derivation) (es : List (ℕ × ℚ)) (x : Constraint) (summed : IsSum c es (condition_of x)) (ints : Ints) (same : c.problem.integers ≡ ints) where
+module _ (P : Profile) (c : Certificate) (d : Derivation) (es : List (ℕ × ℚ)) (x : Constraint) (summed : IsSum c es (condition_of x)) (ints : Ints) (same : c.problem.integers ≡ ints) where
   whole_row : IsWholeRow ints (at x.row) → IsWholeRow c.problem.integers (sum_of (entries c es) summed.0).row
   whole_row w = subst (λ y. IsWholeRow c.problem.integers y.row) summed.2 (subst (λ i. IsWholeRow i (at x.row)) (sym same) w)
 
-  can_round : IsWholeRow ints (at x.row) → PassesNext c d (roundable es)
+  can_round : IsWholeRow ints (at x.row) → PassesStep P c (condition d.stated) (roundable es)
   can_round w = (summed.0, summed.1, whole_row w)
 
   -- the row of a sum is the same for each sense
-  cannot_round : ¬ IsWholeRow ints (at x.row) → ¬ PassesNext c d (roundable es)
+  cannot_round : ¬ IsWholeRow ints (at x.row) → ¬ PassesStep P c (condition d.stated) (roundable es)
   cannot_round bad (s, h, w) = bad (subst (λ i. IsWholeRow i (at x.row)) same (subst (λ y. IsWholeRow c.problem.integers y.row) (sym summed.2) w))
 
-  pub not_roundable : ¬ IsWholeRow ints (at x.row) → Stops c d (roundable es ∷ by_rounding es ∷ []) (NotRoundable x)
+  pub not_roundable : ¬ IsWholeRow ints (at x.row) → StopsIn P c d (roundable es ∷ by_rounding es ∷ []) (NotRoundable x)
   not_roundable bad = (roundable es, inr (cannot_round bad, refl), (sum (condition_of x), refl, (condition_of x, summed, refl)))
 
   module _ (w : IsWholeRow ints (at x.row)) (stated : Constraint) (says : condition_of stated ≡ condition d.stated) where
@@ -38,14 +37,14 @@ module _ (c : Certificate) (d : Derivation) (es : List (ℕ × ℚ)) (x : Constr
     combines_not bad (s, h, _, dom) =
         bad (subst (DominatesRounded (condition_of x)) (sym says) (subst (λ y. DominatesRounded y (condition d.stated)) (ap (sum_of (entries c es)) (one_sense (entries c es) s summed.0 h summed.1) ∙ sym summed.2) dom))
 
-    pub rounded_dominates : DominatesRounded (condition_of x) (condition_of stated) → Passes c d (roundable es ∷ by_rounding es ∷ [])
+    pub rounded_dominates : DominatesRounded (condition_of x) (condition_of stated) → PassesTestsIn P c d (roundable es ∷ by_rounding es ∷ [])
     rounded_dominates h = inl (can_round w, inl (combines h, refl))
 
     module _ (computed : Constraint) (r : IsRounding x (Row computed)) where
       rounded : condition_of computed ≡ record (condition_of x) { bound = whole r.2.0 }
       rounded = λ i. record { row = at (r.0 i); sense = sense_of (r.1 i); bound = r.2.2 i }
 
-      not_dominated : (e : RuleError) → IsNotDominated computed stated e → ¬ DominatesRounded (condition_of x) (condition_of stated) → Stops c d (roundable es ∷ by_rounding es ∷ []) e
+      not_dominated : (e : RuleError) → IsNotDominated computed stated e → ¬ DominatesRounded (condition_of x) (condition_of stated) → StopsIn P c d (roundable es ∷ by_rounding es ∷ []) e
       not_dominated e told bad = (
         by_rounding es,
         inl (can_round w, inr (combines_not bad, refl)),
@@ -53,6 +52,6 @@ module _ (c : Certificate) (d : Derivation) (es : List (ℕ × ℚ)) (x : Constr
       )
 
       pub rounded_refused : Dominates (condition_of computed) (condition_of stated) ↔ DominatesRounded (condition_of x) (condition_of stated)
-          → (e : RuleError) → (e ≡ Memory) ⊎ IsNotDominated computed stated e → (e ≡ Memory) ⊎ Stops c d (roundable es ∷ by_rounding es ∷ []) e
+          → (e : RuleError) → (e ≡ Memory) ⊎ IsNotDominated computed stated e → (e ≡ Memory) ⊎ StopsIn P c d (roundable es ∷ by_rounding es ∷ []) e
       rounded_refused same_as e (inl memory) = inl memory
       rounded_refused same_as e (inr told) = inr (not_dominated e told (λ h. told.1 (same_as.1 h)))

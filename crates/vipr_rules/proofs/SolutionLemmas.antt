@@ -1,24 +1,27 @@
 -- The tests of a listed solution, one item after another.
-use Rattle.std.proofs.Common.{◌≡◌, ℕ, ◌+◌, ◌<◌, ◌≤◌, List, [], ◌∷◌, ◌++◌, length, take, drop, map, get_or, Option, Some, None, refl, sym, ap, ◌∙◌, subst, inl, inr, arith}
+use Rattle.std.proofs.Common.{◌≡◌, ◌≢◌, ℕ, zero, suc, ◌+◌, ◌<◌, ◌≤◌, Bool, true, false, cond, filter, ◌⊎◌, List, [], ◌∷◌, ◌++◌, length, take, drop, map, get_or, Option, Some, None, refl, sym, ap, ◌∙◌, subst, inl, inr, arith}
 use Rattle.std.specs.List.{flat_map, range_with_len}
-use Rattle.std.specs.FinSet.{from_list}
-use Rattle.std.specs.List.Sorted.{IsStrictlyIncreasing}
+use Rattle.std.specs.FinSet.{contains}
+use Rattle.std.proofs.lemmas.Bool.{cases_eq}
 use Rattle.std.proofs.lemmas.List.{append-nil, take-append-drop, take_all, take_more, get_or-map}
-use Rattle.std.proofs.lemmas.List.Concat.{flat_map-append, flat_map_single}
+use Rattle.std.proofs.lemmas.List.Concat.{flat_map-append}
 use Rattle.std.proofs.lemmas.List.FromFn.{length-range_with_len, get_or-range_with_len}
 use Rattle.std.proofs.Math.ListN.{length-map}
-use Rattle.vipr_spec.specs.Constraint.{Row, at, NamesBelow}
+use Rattle.vipr_spec.specs.Fraction.{ℚ, IsWhole}
+use Rattle.vipr_spec.specs.Constraint.{Row, at, IsInteger, NamesBelow}
 use Rattle.vipr_spec.specs.Certificate as is
 use Rattle.vipr_spec.specs.Certificate.{Problem, variables, integer_variables}
 use Rattle.vipr_spec.specs.Shape.{CanWriteProblem, ConstraintShape}
-use Rattle.vipr_spec.specs.Verdict.{SolutionTest, whole_at, objective_fits, given_at, PassesSolution, FirstFailing, solution_tests}
-use Rattle.vipr_spec.proofs.FirstFailing.{failing_first, failing_second}
+use Rattle.vipr_spec.specs.Tests.{not_whole as shown, name_at, SolutionTest, whole_at, objective_fits, given_at, PassesSolution, solution_tests}
+use Rattle.vipr_spec.specs.Steps.{FirstFailing}
+use Rattle.vipr_spec.proofs.Laws.{failing_first, failing_second}
 use Rattle.vipr_linear.specs.Constraint.{constraint_of}
 use Rattle.vipr_linear.specs.declared.constraint.Constraint.{Constraint}
-use Rattle.vipr_items.specs.declared.items.Named.{Named}
-use Rattle.vipr_items.specs.Items.{named_of}
-use Rattle.vipr_items.proofs.Members.{members_are}
+use Rattle.vipr_cert.specs.declared.items.Named.{Named}
+use Rattle.vipr_cert.specs.Items.{named_of}
+use Rattle.vipr_linear.specs.Values.{AreWhole, IsFirstFractional}
 use Rattle.vipr_rules.specs.declared.solution.SolutionError.{SolutionError}
+use Rattle.vipr_rules.specs.declared.solution.SolutionError.TheVariants.{NotWhole}
 use Rattle.vipr_rules.specs.Solution.{test_of, PassesAll, FailsBy, tests_at, tests_below}
 
 -- ---- items, each with its tests
@@ -38,25 +41,40 @@ module _ {X T : Type 0} (P : T → Type 0) (f : X → List T) (xs : List X) (n :
       (failing_first P (flat_map f (take (n + 1) xs)) (flat_map f (drop (n + 1) xs)) t (item_next (Some t) before h)))
 
 -- ---- the integer variables
-abbrev pub whole_alone : ℕ → List SolutionTest
-whole_alone j = whole_at j ∷ []
+module _ (p : Problem) (s : Row) where
+  abbrev from : ℕ → ℕ → List SolutionTest
+  from a n = map whole_at (filter (contains p.integers) (range_with_len a n))
 
-module _ (p : Problem) (s : Row) (js : List ℕ) (n : ℕ) where
-  abbrev pub WholeUpTo : Type 0
-  WholeUpTo = PassesAll p s (flat_map whole_alone (take n js))
+  one_from : (a n : ℕ) (found : Option SolutionTest) → (IsInteger p.integers a → FirstFailing (PassesSolution p s) (whole_at a ∷ from (a + 1) n) found)
+      → (¬ IsInteger p.integers a → FirstFailing (PassesSolution p s) (from (a + 1) n) found) → FirstFailing (PassesSolution p s) (from a (suc n)) found
+  one_from a n found there elsewhere = by (contains p.integers a) refl
+    where
+      by : (b : Bool) → contains p.integers a ≡ b → FirstFailing (PassesSolution p s) (map whole_at (cond b (a ∷ filter (contains p.integers) (range_with_len (a + 1) n)) (filter (contains p.integers) (range_with_len (a + 1) n)))) found
+      by true e = there e
+      by false e = elsewhere (λ h. absurd (cc (e, h)))
 
-  pub whole_next : n < length js → WholeUpTo → PassesSolution p s (whole_at (get_or js n 0)) → PassesAll p s (flat_map whole_alone (take (n + 1) js))
-  whole_next within before h = item_next (PassesSolution p s) whole_alone js n (get_or js n 0) 0 within refl None before (inl (h, refl))
+  whole_from : AreWhole p.integers s → (a n : ℕ) → PassesAll p s (from a n)
+  whole_from w a zero = refl
+  whole_from w a (suc n) =
+      let rest = whole_from w (a + 1) n in one_from a n None (λ integer. inl (w a integer, rest)) (λ _. rest)
 
-  pub not_whole : n < length js → WholeUpTo → ¬ PassesSolution p s (whole_at (get_or js n 0)) → FirstFailing (PassesSolution p s) (map whole_at js) (Some (whole_at (get_or js n 0)))
-  not_whole within before bad =
-      subst (λ ts. FirstFailing (PassesSolution p s) ts (Some (whole_at (get_or js n 0)))) (flat_map_single whole_at js)
-      (item_fails (PassesSolution p s) whole_alone js n (get_or js n 0) 0 within refl (whole_at (get_or js n 0)) before (inr (bad, refl)))
+  pub all_whole : AreWhole p.integers s → PassesAll p s (map whole_at (integer_variables p))
+  all_whole w = whole_from w 0 (variables p)
 
-  pub all_whole : length js ≤ n → WholeUpTo → PassesAll p s (map whole_at js)
-  all_whole past before =
-      subst (PassesAll p s) (flat_map_single whole_at js)
-      (subst (λ l. PassesAll p s (flat_map whole_alone l)) (take_all n js past) before)
+  module _ (e : ℕ × ℚ) (f : IsFirstFractional p.integers s e) where
+    fails_from : (a n : ℕ) → a ≤ e.0 → e.0 < a + n → FirstFailing (PassesSolution p s) (from a n) (Some (whole_at e.0))
+    fails_from a zero h l = absurd (omega (arith, h, l))
+    fails_from a (suc n) h l = elim (cases_eq a e.0) [
+      | inl same ↦ one_from a n _
+          (λ _. inr (λ w. f.fractional (subst IsWhole (ap (at s) same ∙ f.coordinate) w), ap (λ j. Some (whole_at j)) (sym same)))
+          (λ not. absurd (not (subst (IsInteger p.integers) (sym same) f.integer)))
+      | inr apart ↦
+          let rest = fails_from (a + 1) n (omega (arith, h, apart)) (omega (arith, l)) in
+          one_from a n _ (λ integer. inl (f.least a (omega (arith, h, apart)) integer, rest)) (λ _. rest)
+    ]
+
+    pub not_whole : e.0 < variables p → FailsBy p s (map whole_at (integer_variables p)) (NotWhole e.0 e.1)
+    not_whole l = (fails_from 0 (variables p) (omega arith) (omega (arith, l)), λ name. ap (λ v. shown name e.0 (name_at p.names e.0) v) (sym f.coordinate))
 
 -- ---- the constraints
 module _ (p : Problem) (cons : List (Named Constraint)) (same : map (named_of constraint_of) cons ≡ p.constraints) where
@@ -87,33 +105,27 @@ module _ (p : Problem) (s : Row) (i : ℕ) where
   true_next h before k = item_next (PassesSolution p s) tests_at _ i i i (in_range h) (index h) None before k
 
   pub constraint_fails : i < length p.constraints → TrueUpTo → (e : SolutionError) → FailsBy p s (tests_at i) e → FailsBy p s (tests_below (length p.constraints)) e
-  constraint_fails h before e k = item_fails (PassesSolution p s) tests_at _ i i i (in_range h) (index h) (test_of e) before k
+  constraint_fails h before e k = (item_fails (PassesSolution p s) tests_at _ i i i (in_range h) (index h) (test_of e) before k.0, k.1)
 
   pub all_true : length p.constraints ≤ i → TrueUpTo → PassesAll p s (tests_below (length p.constraints))
   all_true past before = subst (λ l. PassesAll p s (flat_map tests_at l)) (take_all i (range_with_len 0 (length p.constraints)) (subst (λ k. k ≤ i) (sym (length-range_with_len 0 (length p.constraints))) past)) before
 
 -- ---- all tests
-module _ (p : Problem) (s : Row) (js : List ℕ) (w : CanWriteProblem p) (set : from_list js ≡ p.integers) (rising : IsStrictlyIncreasing js) where
-  integers_are : integer_variables p ≡ js
-  integers_are = members_are js p.integers (variables p) set rising w.shape.integers
-
+module _ (p : Problem) (s : Row) where
   abbrev first : List SolutionTest
   first = map whole_at (integer_variables p)
 
   abbrev second : List SolutionTest
   second = tests_below (length p.constraints)
 
-  as_first : (found : Option SolutionTest) → FirstFailing (PassesSolution p s) (map whole_at js) found → FirstFailing (PassesSolution p s) first found
-  as_first found h = subst (λ l. FirstFailing (PassesSolution p s) (map whole_at l) found) (sym integers_are) h
+  pub integers_fail : (e : SolutionError) → FailsBy p s first e → FailsBy p s (solution_tests p) e
+  integers_fail e h = (failing_first _ (first ++ second) (objective_fits ∷ []) (test_of e) (failing_first _ first second (test_of e) h.0), h.1)
 
-  pub integers_fail : (e : SolutionError) → FailsBy p s (map whole_at js) e → FailsBy p s (solution_tests p) e
-  integers_fail e h = failing_first _ (first ++ second) (objective_fits ∷ []) (test_of e) (failing_first _ first second (test_of e) (as_first _ h))
+  pub constraints_fail : (e : SolutionError) → PassesAll p s first → FailsBy p s second e → FailsBy p s (solution_tests p) e
+  constraints_fail e a h = (failing_first _ (first ++ second) (objective_fits ∷ []) (test_of e) (failing_second _ first second (Some (test_of e)) a h.0), h.1)
 
-  pub constraints_fail : (e : SolutionError) → PassesAll p s (map whole_at js) → FailsBy p s second e → FailsBy p s (solution_tests p) e
-  constraints_fail e a h = failing_first _ (first ++ second) (objective_fits ∷ []) (test_of e) (failing_second _ first second (Some (test_of e)) (as_first None a) h)
-
-  pub objective_last : (found : Option SolutionTest) → PassesAll p s (map whole_at js) → PassesAll p s second → FirstFailing (PassesSolution p s) (objective_fits ∷ []) found → FirstFailing (PassesSolution p s) (solution_tests p) found
-  objective_last found a b h = failing_second _ (first ++ second) (objective_fits ∷ []) found (failing_second _ first second None (as_first None a) b) h
+  pub objective_last : (found : Option SolutionTest) → PassesAll p s first → PassesAll p s second → FirstFailing (PassesSolution p s) (objective_fits ∷ []) found → FirstFailing (PassesSolution p s) (solution_tests p) found
+  objective_last found a b h = failing_second _ (first ++ second) (objective_fits ∷ []) found (failing_second _ first second None a b) h
 
 pub objective_below : (p : Problem) (row : Row) → row ≡ p.objective → CanWriteProblem p → NamesBelow (variables p) (at row)
 objective_below p row same w = subst (λ r. NamesBelow (variables p) (at r)) (sym same) w.shape.objective

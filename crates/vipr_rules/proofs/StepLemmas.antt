@@ -7,17 +7,11 @@ use Rattle.std.specs.Cmp.{nat_cmp_total, unsigned_tied}
 use Rattle.std.proofs.lemmas.Bool.Decides.{nat_tests}
 use Rattle.std.specs.Ordering.{nat_cmp}
 use Rattle.vipr_spec.specs.Fraction.{ℚ}
-use Rattle.vipr_spec.specs.Constraint.{one, condition, sum_of, Dominates, Combines}
+use Rattle.vipr_spec.specs.Constraint.{Profile, condition, sum_of, Dominates, Combines}
 use Rattle.vipr_spec.specs.Certificate.{Certificate, Derivation, Reason, asm, lin, rnd, uns, sol, entries, count, is_assumption, is_live}
-use Rattle.vipr_spec.specs.OnePass.{with_next, RefersBack}
-use Rattle.vipr_spec.specs.Steps.{StepTest, by_sum, split, listed, by_constraint, by_cutoff, step_tests, step_cause, compared, IsSum}
-use Rattle.vipr_spec.specs.Progress.{PassesNext}
-use Rattle.vipr_spec.proofs.FirstFailing.{failing_first, failing_second}
-use Rattle.vipr_spec.proofs.MoreEntries.{one_sense}
-use Rattle.vipr_spec.proofs.Prefix.{constraint_next, reason_next, last_next}
+use Rattle.vipr_spec.specs.Steps.{PassesStep, with_next, RefersBack, StepTest, by_sum, split, listed, by_constraint, by_cutoff, step_tests, step_cause, compared, IsSum}
+use Rattle.vipr_spec.proofs.Laws.{failing_first, failing_second, one_sense, constraint_next, reason_next, last_next, rests_next, sound_given, sound_next, next_good}
 use Rattle.vipr_spec.specs.Soundness.{IsSound}
-use Rattle.vipr_spec.proofs.Steps.{rests_next, sound_given, sound_next}
-use Rattle.vipr_spec.proofs.Reported.{next_good}
 use Rattle.vipr_linear.specs.Constraint.{condition_of}
 use Rattle.vipr_linear.specs.declared.constraint.Constraint.{Constraint}
 use Rattle.vipr_rules.specs.declared.error.RuleError.{RuleError}
@@ -25,43 +19,43 @@ use Rattle.vipr_rules.specs.declared.rows.Entry.{Entry}
 use Rattle.vipr_rules.specs.History.{IsEntryOf}
 use Rattle.vipr_rules.specs.Context.{IsSetByReason}
 use Rattle.vipr_rules.specs.declared.error.RuleError.TheVariants.{Memory}
-use Rattle.vipr_rules.specs.Apply.{Stops, Passes, Tells, KeepsSound, IsRefusal, IsNotDominated, shown_by, free_tests}
+use Rattle.vipr_rules.specs.Apply.{StopsIn, PassesTestsIn, Tells, KeepsSound, IsRefusalIn, IsNotDominated, shown_by, free_tests}
 use Rattle.vipr_rules.proofs.EntryTests.{passing_parts}
 
 -- ---- one list of tests after another
-pub stops_first : (c : Certificate) (d : Derivation) (xs ys : List StepTest) (e : RuleError) → Stops c d xs e → Stops c d (xs ++ ys) e
-stops_first c d xs ys e (t, f, told) = (t, failing_first (PassesNext c d) xs ys t f, told)
+pub stops_first : (P : Profile) (c : Certificate) (d : Derivation) (xs ys : List StepTest) (e : RuleError) → StopsIn P c d xs e → StopsIn P c d (xs ++ ys) e
+stops_first P c d xs ys e (t, f, told) = (t, failing_first (PassesStep P c (condition d.stated)) xs ys t f, told)
 
-pub stops_second : (c : Certificate) (d : Derivation) (xs ys : List StepTest) (e : RuleError) → Passes c d xs → Stops c d ys e → Stops c d (xs ++ ys) e
-stops_second c d xs ys e p (t, f, told) = (t, failing_second (PassesNext c d) xs ys (Some t) p f, told)
+pub stops_second : (P : Profile) (c : Certificate) (d : Derivation) (xs ys : List StepTest) (e : RuleError) → PassesTestsIn P c d xs → StopsIn P c d ys e → StopsIn P c d (xs ++ ys) e
+stops_second P c d xs ys e p (t, f, told) = (t, failing_second (PassesStep P c (condition d.stated)) xs ys (Some t) p f, told)
 
-pub passes_both : (c : Certificate) (d : Derivation) (xs ys : List StepTest) → Passes c d xs → Passes c d ys → Passes c d (xs ++ ys)
-passes_both c d xs ys p q = failing_second (PassesNext c d) xs ys None p q
+pub passes_both : (P : Profile) (c : Certificate) (d : Derivation) (xs ys : List StepTest) → PassesTestsIn P c d xs → PassesTestsIn P c d ys → PassesTestsIn P c d (xs ++ ys)
+passes_both P c d xs ys p q = failing_second (PassesStep P c (condition d.stated)) xs ys None p q
 
-module _ (c : Certificate) (d : Derivation) where
-  pub passes_one : (t : StepTest) → PassesNext c d t → Passes c d (t ∷ [])
+module _ (P : Profile) (c : Certificate) (d : Derivation) where
+  pub passes_one : (t : StepTest) → PassesStep P c (condition d.stated) t → PassesTestsIn P c d (t ∷ [])
   passes_one t h = inl (h, refl)
 
-  pub stops_one : (t : StepTest) (e : RuleError) → ¬ PassesNext c d t → Tells c d e t → Stops c d (t ∷ []) e
+  pub stops_one : (t : StepTest) (e : RuleError) → ¬ PassesStep P c (condition d.stated) t → Tells c d e t → StopsIn P c d (t ∷ []) e
   stops_one t e bad told = (t, inr (bad, refl), told)
 
-pub refusal : (c : Certificate) (d : Derivation) (e : RuleError) → Stops c d (step_tests d.reason) e → IsRefusal c d e
-refusal c d e (t, f, told) = (step_cause t, told.0, told.1, (t, f, refl, told.2))
+pub refusal : (P : Profile) (c : Certificate) (d : Derivation) (e : RuleError) → StopsIn P c d (step_tests d.reason) e → IsRefusalIn P c d e
+refusal P c d e (t, f, told) = (step_cause t, told.0, told.1, (t, f, refl, told.2))
 
 -- an error that says which test fails isn't want of memory
-pub told_is_not_memory : (c : Certificate) (d : Derivation) (ts : List StepTest) (e : RuleError) → Stops c d ts e → ¬ (e ≡ Memory)
-told_is_not_memory c d ts e (t, f, told) is = let none = sym (ap shown_by is) ∙ told.1 in cc
+pub told_is_not_memory : (P : Profile) (c : Certificate) (d : Derivation) (ts : List StepTest) (e : RuleError) → StopsIn P c d ts e → ¬ (e ≡ Memory)
+told_is_not_memory P c d ts e (t, f, told) is = let none = sym (ap shown_by is) ∙ told.1 in cc
 
 -- where all tests pass, those that take no memory do
-pub free_of_all : (c : Certificate) (d : Derivation) (r : Reason) → Passes c d (step_tests r) → Passes c d (free_tests r)
-free_of_all c d asm p = refl
-free_of_all c d (lin es) p = refl
-free_of_all c d (rnd es) p = refl
-free_of_all c d (uns i1 l1 i2 l2) p = (passing_parts (PassesNext c d) (free_tests (uns i1 l1 i2 l2)) (split l1 l2 ∷ by_constraint i1 ∷ by_constraint i2 ∷ []) p).0
-free_of_all c d sol p = (passing_parts (PassesNext c d) (listed ∷ []) (by_cutoff ∷ []) p).0
+pub free_of_all : (P : Profile) (c : Certificate) (d : Derivation) (r : Reason) → PassesTestsIn P c d (step_tests r) → PassesTestsIn P c d (free_tests r)
+free_of_all P c d asm p = refl
+free_of_all P c d (lin es) p = refl
+free_of_all P c d (rnd es) p = refl
+free_of_all P c d (uns i1 l1 i2 l2) p = (passing_parts (PassesStep P c (condition d.stated)) (free_tests (uns i1 l1 i2 l2)) (split l1 l2 ∷ by_constraint i1 ∷ by_constraint i2 ∷ []) p).0
+free_of_all P c d sol p = (passing_parts (PassesStep P c (condition d.stated)) (listed ∷ []) (by_cutoff ∷ []) p).0
 
 -- ---- by `lin`
-module _ (c : Certificate) (d : Derivation) (es : List (ℕ × ℚ)) (computed stated : Constraint) (summed : IsSum c es (condition_of computed)) (says : condition_of stated ≡ condition d.stated) where
+module _ (P : Profile) (c : Certificate) (d : Derivation) (es : List (ℕ × ℚ)) (computed stated : Constraint) (summed : IsSum c es (condition_of computed)) (says : condition_of stated ≡ condition d.stated) where
   combines : Dominates (condition_of computed) (condition_of stated) → Combines (entries c es) (condition d.stated)
   combines h = (summed.0, summed.1, subst (λ x. Dominates x (condition d.stated)) summed.2 (subst (Dominates (condition_of computed)) says h))
 
@@ -69,11 +63,11 @@ module _ (c : Certificate) (d : Derivation) (es : List (ℕ × ℚ)) (computed s
   combines_not bad (s, h, dom) =
       bad (subst (Dominates (condition_of computed)) (sym says) (subst (λ x. Dominates x (condition d.stated)) (ap (sum_of (entries c es)) (one_sense (entries c es) s summed.0 h summed.1) ∙ sym summed.2) dom))
 
-  pub dominated : Dominates (condition_of computed) (condition_of stated) → Passes c d (by_sum es ∷ [])
-  dominated h = passes_one c d (by_sum es) (combines h)
+  pub dominated : Dominates (condition_of computed) (condition_of stated) → PassesTestsIn P c d (by_sum es ∷ [])
+  dominated h = passes_one P c d (by_sum es) (combines h)
 
-  pub not_dominated : (e : RuleError) → IsNotDominated computed stated e → Stops c d (by_sum es ∷ []) e
-  not_dominated e (is, bad) = stops_one c d (by_sum es) e (combines_not bad) (compared (condition_of computed) (condition_of stated), ap shown_by is, (condition_of computed, summed, ap (compared (condition_of computed)) says))
+  pub not_dominated : (e : RuleError) → IsNotDominated computed stated e → StopsIn P c d (by_sum es ∷ []) e
+  not_dominated e (is, bad) = stops_one P c d (by_sum es) e (combines_not bad) (compared (condition_of computed) (condition_of stated), ap shown_by is, (condition_of computed, summed, ap (compared (condition_of computed)) says))
 
 -- ---- what an assumption rests on
 pub own_set : (n a : ℕ) → IsTrue (contains (insert {R = nat_cmp} empty n) a) ↔ (n ≡ a)
@@ -92,18 +86,18 @@ pub no_set : (c : Certificate) (s : FinSet nat_cmp) → s ≡ empty → IsSetByR
 no_set c s e a = (λ t. let h : contains {R = nat_cmp} empty a ≡ true = subst (λ x. contains x a ≡ true) e t in absurd (let n = contains-empty nat_cmp a in cc), λ r. absurd r)
 
 -- ---- what is kept
-pub kept_entry : (c : Certificate) (d : Derivation) (e : Entry) → RefersBack c → Passes c d (step_tests d.reason)
+pub kept_entry : (P : Profile) (c : Certificate) (d : Derivation) (e : Entry) → RefersBack c → PassesTestsIn P c d (step_tests d.reason)
     → condition_of e.constraint ≡ condition d.stated → IsSetByReason c d.reason e.assumptions → e.is_assumption ≡ is_assumption (Some d.reason) → e.last ≡ d.last → IsEntryOf (with_next c d) (count c) e
-kept_entry c d e back passes says rests assumed last = record {
+kept_entry P c d e back passes says rests assumed last = record {
   says = constraint_next c d ∙ sym says;
-  rests = λ a. let next = rests_next c d a back (next_good one c d passes).earlier in (λ t. next.1 ((rests a).0 t), λ r. (rests a).1 (next.0 r));
+  rests = λ a. let next = rests_next c d a back (next_good P c d passes).earlier in (λ t. next.1 ((rests a).0 t), λ r. (rests a).1 (next.0 r));
   is_assumed = assumed ∙ sym (ap is_assumption (reason_next c d));
   last = last ∙ sym (last_next c d);
 }
 
 -- ---- the induction over the derivations
-pub keeps_sound : (c : Certificate) (d : Derivation) → RefersBack c → Passes c d (step_tests d.reason) → KeepsSound c d
-keeps_sound c d back passes s = let good = next_good one c d passes in sound_next one c d back good.earlier good.follows (λ i r. by i (cases_lt i (length c.problem.constraints)) (good.references i r))
+pub keeps_sound : (P : Profile) (c : Certificate) (d : Derivation) → RefersBack c → PassesTestsIn P c d (step_tests d.reason) → KeepsSound c d
+keeps_sound P c d back passes s = let good = next_good P c d passes in sound_next P c d back good.earlier good.follows (λ i r. by i (cases_lt i (length c.problem.constraints)) (good.references i r))
   where
     by : (i : ℕ) → (i < length c.problem.constraints) ⊎ (length c.problem.constraints ≤ i) → IsTrue (is_live c (count c) i) → IsSound c i
     by i (inl given) live = sound_given c i given

@@ -3,16 +3,13 @@ use Rattle.std.proofs.Common.{◌≡◌, ℕ, List, [], ◌∷◌, ◌++◌, All
 use Rattle.std.proofs.lemmas.List.Elements.{All-nil, All-cons, All-append}
 use Rattle.vipr_spec.specs.Fraction.{ℚ, zero_ℚ, ◌+ℚ◌, ◌*ℚ◌}
 use Rattle.vipr_spec.specs.Constraint.{equal, Condition, Entry, Point, sum_over, HasSense, IsTrueAt}
-use Rattle.vipr_spec.proofs.Fractions.{add-zero_ℚ, zero-mul_ℚ}
-use Rattle.vipr_spec.proofs.MoreEntries.{joined_sense, turned_sense, sum_more}
-use Rattle.vipr_spec.proofs.Linear.{IsTrueEntry, sum_true}
+use Rattle.vipr_spec.proofs.Laws.{add-zero_ℚ, zero-mul_ℚ, joined_sense, turned_sense, sum_more, IsTrueEntry, sum_true, turned_zero, joined_equal}
 use Rattle.std.proofs.lemmas.List.{map-append}
 use Rattle.vipr_spec.specs.Certificate.{Certificate, constraint_at, entries}
 use Rattle.vipr_linear.specs.Accumulator.{Accumulator, nothing_added, Holds, HoldsSum}
 use Rattle.vipr_linear.specs.Constraint.{sense_of, condition_of}
 use Rattle.vipr_linear.specs.declared.constraint.Constraint.{Constraint}
-use Rattle.vipr_spec.proofs.MoreEntries.{turned_zero, joined_equal}
-use Rattle.vipr_linear.proofs.StepByStep.{fits_told, start_held, sum_held}
+use Rattle.vipr_linear.proofs.Laws.{fits_told, start_held, sum_held}
 
 nothing : (s x : ℚ) → s +ℚ zero_ℚ *ℚ x ≡ s
 nothing s x = ap (λ y. s +ℚ y) (zero-mul_ℚ x) ∙ add-zero_ℚ s

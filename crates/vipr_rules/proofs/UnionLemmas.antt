@@ -7,7 +7,7 @@ use Rattle.std.specs.Ordering.{nat_cmp}
 use Rattle.std.specs.FinSet.{FinSet, contains, union, empty, contains-union, contains-empty}
 use Rattle.vipr_spec.specs.Fraction.{ℚ, zero_ℚ}
 use Rattle.vipr_spec.specs.Certificate.{Certificate, RestsOn}
-use Rattle.vipr_spec.specs.OnePass.{SomeRestsOn}
+use Rattle.vipr_spec.specs.Steps.{SomeRestsOn}
 use Rattle.vipr_rules.specs.Context.{IsSetOfAll}
 
 -- the set has the assumptions that constraint i rests on

@@ -3,13 +3,14 @@ use Rattle.std.specs.Prelude.{◌≡◌, ℕ, ◌≤◌, ◌⊎◌, IsTrue, leng
 use Rattle.std.specs.Prelude.{Option, Some, None, Result, Ok, Err}
 use Rattle.std.specs.FinSet as set
 use Rattle.std.specs.Ordering.{nat_cmp}
-use Rattle.vipr_spec.specs.Constraint.{one, condition, Entry as Summand, SumOfFits, Dominates}
+use Rattle.vipr_spec.specs.Constraint.{Profile, one, condition, Entry as Summand, SumOfFits}
+use Rattle.vipr_spec.specs.Constraint.{Dominates}
 use Rattle.vipr_spec.specs.Certificate.{Reason, uns, sol, Derivation, Certificate, is_live, count}
 use Rattle.vipr_spec.specs.Causes as cause
-use Rattle.vipr_spec.specs.Steps.{with_next, StepTest, earlier, live, assumed, listed, step_tests}
+use Rattle.vipr_spec.specs.Steps.{PassesStep, with_next, StepTest, earlier, live, assumed, listed}
+use Rattle.vipr_spec.specs.Steps.{step_tests}
 use Rattle.vipr_spec.specs.Steps.{FirstFailing, step_cause, Shows, Refuses}
 use Rattle.vipr_spec.specs.Steps.{StepDetail, index, position, sum, both, compared, nothing}
-use Rattle.vipr_spec.specs.Progress.{PassesNext}
 use Rattle.vipr_spec.specs.Soundness.{IsSound}
 use Rattle.vipr_linear.specs.Accumulator.{IsSuitable}
 use Rattle.vipr_linear.specs.Constraint.{condition_of}
@@ -41,15 +42,17 @@ shown_by NoSolution = Some (cause.no_solution, nothing)
 shown_by Memory = None
 
 -- a test of the derivation d fails first, and the error says which, and its detail
-abbrev pub IsRefusal : Certificate → Derivation → RuleError → Type 0
-IsRefusal c d e = (n : ℕ) × (x : StepDetail) × (shown_by e ≡ Some (n, x)) × Refuses one c d n x
+abbrev pub IsRefusalIn : Profile → Certificate → Derivation → RuleError → Type 0
+IsRefusalIn P c d e =
+    (n : ℕ) × (x : StepDetail) × (shown_by e ≡ Some (n, x)) × Refuses P c d n x
 
 -- of the derivation d, that comes after the certificate c: it passes all tests, and this is kept of
 -- it; or a test fails; or a growth was refused
-abbrev pub Judges : Certificate → Derivation → Result Entry RuleError → Type 0
-Judges c d (Ok e) =
-    FirstFailing (PassesNext c d) (step_tests d.reason) None × IsEntryOf (with_next c d) (count c) e
-Judges c d (Err e) = (e ≡ Memory) ⊎ IsRefusal c d e
+abbrev pub JudgesIn : Profile → Certificate → Derivation → Result Entry RuleError → Type 0
+JudgesIn P c d (Ok e) =
+    FirstFailing (PassesStep P c (condition d.stated)) (step_tests d.reason) None
+    × IsEntryOf (with_next c d) (count c) e
+JudgesIn P c d (Err e) = (e ≡ Memory) ⊎ IsRefusalIn P c d e
 
 -- Where each derived constraint that is live before it is true at every admitted point at which the
 -- assumptions are true that it rests on, the derivation that comes next is, too.
@@ -60,8 +63,8 @@ KeepsSound c d =
 
 -- ---- some of the tests of a derivation
 
-abbrev pub Passes : Certificate → Derivation → List StepTest → Type 0
-Passes c d ts = FirstFailing (PassesNext c d) ts None
+abbrev pub PassesTestsIn : Profile → Certificate → Derivation → List StepTest → Type 0
+PassesTestsIn P c d ts = FirstFailing (PassesStep P c (condition d.stated)) ts None
 
 -- the error says that this test fails
 abbrev pub Tells : Certificate → Derivation → RuleError → StepTest → Type 0
@@ -69,8 +72,9 @@ Tells c d e t =
     (x : StepDetail) × (shown_by e ≡ Some (step_cause t, x)) × Shows c (condition d.stated) t x
 
 -- of these tests one fails first, and the error says which
-abbrev pub Stops : Certificate → Derivation → List StepTest → RuleError → Type 0
-Stops c d ts e = (t : StepTest) × FirstFailing (PassesNext c d) ts (Some t) × Tells c d e t
+abbrev pub StopsIn : Profile → Certificate → Derivation → List StepTest → RuleError → Type 0
+StopsIn P c d ts e = (t : StepTest) × FirstFailing (PassesStep P c (condition d.stated)) ts (Some t)
+    × Tells c d e t
 
 -- constraint i comes before, and is live
 abbrev pub index_tests : ℕ → List StepTest
@@ -97,7 +101,22 @@ free_tests _ = []
 
 -- Of a derivation by the reason r: all its tests pass, and the set is what it rests on; or a test
 -- fails; or a growth was refused, behind the tests that take no memory.
-abbrev pub IsRuledBy : Certificate → Derivation → Reason → Result (set.FinSet nat_cmp) RuleError → Type 0
-IsRuledBy c d r (Ok s) = Passes c d (step_tests r) × IsSetByReason c r s
-IsRuledBy c d r (Err e) =
-    ((e ≡ Memory) × Passes c d (free_tests r)) ⊎ Stops c d (step_tests r) e
+abbrev pub IsRuledBy : Profile → Certificate → Derivation → Reason
+    → Result (set.FinSet nat_cmp) RuleError → Type 0
+IsRuledBy P c d r (Ok s) = PassesTestsIn P c d (step_tests r) × IsSetByReason c r s
+IsRuledBy P c d r (Err e) =
+    ((e ≡ Memory) × PassesTestsIn P c d (free_tests r)) ⊎ StopsIn P c d (step_tests r) e
+
+-- ---- under profile one
+
+abbrev pub IsRefusal : Certificate → Derivation → RuleError → Type 0
+IsRefusal c d e = IsRefusalIn one c d e
+
+abbrev pub Judges : Certificate → Derivation → Result Entry RuleError → Type 0
+Judges c d result = JudgesIn one c d result
+
+abbrev pub PassesTests : Certificate → Derivation → List StepTest → Type 0
+PassesTests c d ts = PassesTestsIn one c d ts
+
+abbrev pub Stops : Certificate → Derivation → List StepTest → RuleError → Type 0
+Stops c d ts e = StopsIn one c d ts e

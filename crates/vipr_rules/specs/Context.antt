@@ -3,6 +3,7 @@ use Rattle.std.specs.Prelude.{◌≡◌, ◌≢◌, ◌⊎◌, ◌↔◌, ℕ, B
 use Rattle.std.specs.FinSet as set
 use Rattle.std.specs.Ordering.{nat_cmp}
 use Rattle.vipr_spec.specs.Fraction.{ℚ}
+use Rattle.vipr_spec.specs.Constraint.{Profile}
 use Rattle.vipr_spec.specs.Soundness.{IsBestValue}
 use Rattle.vipr_spec.specs.Steps.{SomeRestsOn, RestsBy}
 use Rattle.vipr_spec.specs.Certificate.{Certificate, Reason, constraint_at, reason_at, count}
@@ -12,20 +13,24 @@ use Rattle.vipr_linear.specs.declared.constraint.Constraint.{Constraint}
 use Rattle.vipr_rules.specs.declared.context.Context.{Context}
 use Rattle.vipr_rules.specs.declared.context.Known.{Known}
 use Rattle.vipr_rules.specs.declared.context.Known.TheVariants.{Given, Derived}
+use Rattle.vipr_rules.specs.Profile.{profile_of}
 use Rattle.vipr_rules.specs.Table.{Table}
 use Rattle.vipr_rules.specs.History.{IsTableOf}
 
--- the problem, the best objective value and the table are those of the certificate so far
-pub record IsContextOf {S : Type 0} (table : S → Table) (c : Certificate) (x : Context S) : Type 0 where
+-- the profile is P; the problem, the best objective value and the table are those of the
+-- certificate so far
+pub record IsContextOf {S : Type 0} (table : S → Table) (P : Profile) (c : Certificate)
+    (x : Context S) : Type 0 where
+  pub profile : P ≡ profile_of x.profile
   pub problem : c.problem ≡ x.problem.now
   pub rows : IsTableOf c (table x.rows.now)
   pub best : IsBestValue x.problem.now c.solutions (option_copied x.best)
 
 -- ---- what a look-up gives
 
-abbrev pub row_of : Known → Constraint
-row_of (Given x) = x.now
-row_of (Derived e) = e.now.constraint
+abbrev pub row_found : Known → Constraint
+row_found (Given x) = x.now
+row_found (Derived e) = e.now.constraint
 
 -- the assumptions that it rests on
 abbrev pub set_of : Known → set.FinSet nat_cmp
@@ -38,7 +43,7 @@ is_assumed (Derived e) = e.now.is_assumption
 
 -- it says of constraint i what the certificate does
 pub record IsKnownAs (c : Certificate) (i : ℕ) (k : Known) : Type 0 where
-  pub says : condition_of (row_of k) ≡ constraint_at c i
+  pub says : condition_of (row_found k) ≡ constraint_at c i
   pub rests : (a : ℕ) → IsTrue (set.contains (set_of k) a) ↔ RestsOn c i a
   pub is_assumption : is_assumed k ≡ is_assumption (reason_at c i)
 

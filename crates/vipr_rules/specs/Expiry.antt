@@ -32,4 +32,5 @@ pub record IsTied (next : ℕ) (m : finmap.FinMap nat_cmp Entry) (ds : List (ℕ
   pub below : All (λ (d : ℕ × ℕ). d.1 < next) ds
   pub right : All (λ (d : ℕ × ℕ). (e : Entry) → finmap.get m d.1 ≡ Some e → expiry e ≡ Some d.0) ds
   pub listed :
-      (i last : ℕ) (e : Entry) → finmap.get m i ≡ Some e → expiry e ≡ Some last → Contains ds (last, i)
+      (i last : ℕ) (e : Entry) → finmap.get m i ≡ Some e → expiry e ≡ Some last
+      → Contains ds (last, i)

@@ -1,8 +1,10 @@
 -- The table of a certificate whose derivations so far are placed.
-use Rattle.std.specs.Prelude.{◌≡◌, ◌↔◌, ℕ, ◌+◌, Bool, ◌&&◌, ◌||◌, nat_eq, nat_le, Option, Some, is_some, length, IsTrue}
+use Rattle.std.specs.Prelude.{◌≡◌, ◌↔◌, ℕ, ◌+◌, Bool, ◌&&◌, ◌||◌, nat_eq, nat_le, Option, Some}
+use Rattle.std.specs.Prelude.{is_some, length, IsTrue}
 use Rattle.std.specs.FinMap as map
 use Rattle.std.specs.FinSet as set
-use Rattle.vipr_spec.specs.Certificate.{Certificate, constraint_at, reason_at, last_at, RestsOn, is_assumption, is_live, count}
+use Rattle.vipr_spec.specs.Certificate.{Certificate, constraint_at, reason_at, last_at, RestsOn}
+use Rattle.vipr_spec.specs.Certificate.{is_assumption, is_live, count}
 use Rattle.vipr_rules.specs.declared.rows.Entry.{Entry}
 use Rattle.vipr_linear.specs.Constraint.{condition_of}
 use Rattle.vipr_rules.specs.Table.{Table}
@@ -29,7 +31,8 @@ pub record IsTableOf (c : Certificate) (t : Table) : Type 0 where
   pub held : (i : ℕ) → is_some (map.get t.entries i) ≡ is_held c i
   pub entry : (i : ℕ) (e : Entry) → map.get t.entries i ≡ Some e → IsEntryOf c i e
 
--- a look-up answers the entries of exactly the derived constraints that are live before the next derivation
-pub record Answers (c : Certificate) (i : ℕ) (found : Option Entry) : Type 0 where
+-- a look-up answers the entries of exactly the derived constraints that are live before the next
+-- derivation
+pub record FindsLive (c : Certificate) (i : ℕ) (found : Option Entry) : Type 0 where
   pub live : is_some found ≡ (is_derived c i && is_live c (count c) i)
   pub entry : (e : Entry) → found ≡ Some e → IsEntryOf c i e

@@ -5,6 +5,7 @@ pub mod TableCode
 pub mod Expiry
 pub mod KeepAll
 pub mod History
+pub mod Profile
 pub mod Context
 pub mod Soundness
 pub mod Apply

@@ -2,7 +2,8 @@
 use Rattle.std.specs.Prelude.{◌≡◌, ℕ, ◌≤◌, ◌^◌, ◌||◌, List, length, drop}
 use Rattle.vipr_rules.specs.Rising.{RisesWithin, has}
 
--- `out` has what is merged of the first i items of xs and j of ys, all below `mark`, and the items that are left are not
+-- `out` has what is merged of the first i items of xs and j of ys, all below `mark`, and the items
+-- that are left are not
 pub record Merging (xs ys : List ℕ) (i j : ℕ) (out : List ℕ) : Type 0 where
   pub i_within : i ≤ length xs
   pub j_within : j ≤ length ys
@@ -11,4 +12,5 @@ pub record Merging (xs ys : List ℕ) (i j : ℕ) (out : List ℕ) : Type 0 wher
   pub done : RisesWithin 0 mark out
   pub left : RisesWithin mark (2 ^ 32) (drop i xs)
   pub right : RisesWithin mark (2 ^ 32) (drop j ys)
-  pub members : (q : ℕ) → (has out q || (has (drop i xs) q || has (drop j ys) q)) ≡ (has xs q || has ys q)
+  pub members : (q : ℕ)
+      → (has out q || (has (drop i xs) q || has (drop j ys) q)) ≡ (has xs q || has ys q)

@@ -25,20 +25,23 @@ IsSoundRow p best says e =
     → IsTrueUnder (variables p) says e.assumptions (condition_of e.constraint) x
 
 -- so is each row to which the next derivation may refer, and `says` is what it says at its index
-pub record HasSoundRows (p : Problem) (best : Option ℚ) (t : Table) (says : ℕ → Condition) : Type 0 where
+pub record HasSoundRows (p : Problem) (best : Option ℚ) (t : Table)
+    (says : ℕ → Condition) : Type 0 where
   pub said : (i : ℕ) (e : Entry) → entry_at t i ≡ Some e → says i ≡ condition_of e.constraint
   pub sound : (i : ℕ) (e : Entry) → entry_at t i ≡ Some e → IsSoundRow p best says e
 
 -- ---- against a context whose rows are sound
 
--- `says` is what its rows state, and x a point at which no better value than its best one is reached
+-- `says` is what its rows state, and x a point at which no better value than its best one is
+-- reached
 pub record IsSoundAt {S : Type 0} (table : S → Table) (c : Context S) (says : ℕ → Condition)
     (x : Point) : Type 0 where
   pub rows : HasSoundRows c.problem.now (option_copied c.best) (table c.rows.now) says
   pub admitted : IsAdmittedBy c.problem.now (option_copied c.best) x
 
 -- d is true at every such point at which the assumptions of the set are true
-abbrev pub IsSoundUnder : {S : Type 0} → (S → Table) → Context S → set.FinSet nat_cmp → Condition → Type 0
+abbrev pub IsSoundUnder : {S : Type 0} → (S → Table) → Context S → set.FinSet nat_cmp → Condition
+    → Type 0
 IsSoundUnder table c s d =
     (says : ℕ → Condition) (x : Point) → IsSoundAt table c says x
     → IsTrueUnder (variables c.problem.now) says s d x

@@ -45,8 +45,8 @@ put_entry t e = record t { next = t.next + 1; entries = map.insert t.entries t.n
 abbrev pub entry_at : Table → ℕ → Option Entry
 entry_at t i = if_live t.next (map.get t.entries i)
 
-abbrev pub held : Table → ℕ
-held t = map.len t.entries
+abbrev pub held_count : Table → ℕ
+held_count t = map.len t.entries
 
 -- the table after the next derivation: what expires before it is forgotten, and its entry is placed
 abbrev pub step : Table → Entry → Table

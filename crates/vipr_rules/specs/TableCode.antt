@@ -9,5 +9,7 @@ use Rattle.vipr_rules.specs.Table.{Table}
 
 abbrev pub table_code : Coded Table
 table_code =
-    code_by (ℕ × (ℕ × map.FinMap nat_cmp Entry)) (coded× coded_ℕ (coded× coded_ℕ (map.code coded_ℕ entry.the_row.coded)))
-    (λ t. (t.first, (t.next, t.entries))) (λ p. record { first = p.0; next = p.1.0; entries = p.1.1 }) (λ _. refl)
+    code_by (ℕ × (ℕ × map.FinMap nat_cmp Entry))
+    (coded× coded_ℕ (coded× coded_ℕ (map.code coded_ℕ entry.the_row.coded)))
+    (λ t. (t.first, (t.next, t.entries)))
+    (λ p. record { first = p.0; next = p.1.0; entries = p.1.1 }) (λ _. refl)

@@ -2,22 +2,24 @@
 //! without them.
 
 ghost use Rattle.std.specs.Prelude.{◌≡◌, ◌⊎◌, ◌∷◌, [], ℕ, true, IfOk, OnOk, MatchResult};
-ghost use Rattle.vipr_spec.specs.Constraint.{one, condition, IsSplit};
+ghost use Rattle.vipr_spec.specs.Constraint.{Profile as ProfileMeant, condition, IsSplit};
 ghost use Rattle.vipr_spec.specs.Certificate.{Certificate, Derivation, constraint_at, uns};
 ghost use Rattle.vipr_spec.specs.Steps.{assumed, split};
 ghost use Rattle.vipr_linear.specs.Constraint.{condition_of};
+ghost use Rattle.vipr_rules.specs.Profile.{profile_of};
 ghost use Rattle.vipr_rules.specs.Context.{IsContextOf, IsKnownAs, is_assumed};
 ghost use Rattle.vipr_rules.specs.Soundness.{IsSoundUnder};
-ghost use Rattle.vipr_rules.specs.Apply.{Passes, Stops, IsRuledBy};
+ghost use Rattle.vipr_rules.specs.Apply.{PassesTestsIn, StopsIn, IsRuledBy};
 ghost use Rattle.vipr_rules.specs.declared.error.RuleError.TheVariants.{Memory};
 
 use crate::assumptions::Assumptions;
 use crate::context::{Context, Known};
 use crate::domination::check_domination;
 use crate::error::RuleError;
+use crate::profile::Profile;
 use crate::rows::Rows;
 use std::alloc::Global;
-use vipr_linear::{Constraint, Ints, is_split};
+use vipr_linear::{Constraint, Ints};
 
 /// A branch, by the indices of two constraints.
 #[derive(Clone, Copy)]
@@ -36,9 +38,10 @@ pub(crate) fn join_branches<S: Rows>(
     first: Branch,
     second: Branch,
 ) -> Result<Assumptions, RuleError>
-    ensures ruled { (c : Certificate) (d : Derivation) → IsContextOf S.table c context.now
-        → condition_of stated.now ≡ condition d.stated
-        → IsRuledBy c d (uns first.conclusion first.assumption second.conclusion second.assumption)
+    ensures ruled { (P : ProfileMeant) (c : Certificate) (d : Derivation)
+        → IsContextOf S.table P c context.now → condition_of stated.now ≡ condition d.stated
+        → IsRuledBy P c d
+        (uns first.conclusion first.assumption second.conclusion second.assumption)
         result }
     ensures sound { IfOk result (λ s.
         IsSoundUnder S.table context.now s (condition_of stated.now)) }
@@ -50,6 +53,7 @@ pub(crate) fn join_branches<S: Rows>(
     check_assumption(first.assumption, first_assumption)?;
     check_assumption(second.assumption, second_assumption)?;
     check_split(
+        context.profile,
         first_assumption.constraint(),
         second_assumption.constraint(),
         context.problem.ints(),
@@ -62,9 +66,10 @@ pub(crate) fn join_branches<S: Rows>(
 }
 
 fn check_assumption(index: u32, known: Known) -> Result<(), RuleError>
-    ensures tests { (c : Certificate) (d : Derivation) → IsKnownAs c index known.entry
-        → MatchResult result (λ _. Passes c d (assumed index ∷ []))
-        (Stops c d (assumed index ∷ [])) }
+    ensures tests { (P : ProfileMeant) (c : Certificate) (d : Derivation)
+        → IsKnownAs c index known.entry
+        → MatchResult result (λ _. PassesTestsIn P c d (assumed index ∷ []))
+        (StopsIn P c d (assumed index ∷ [])) }
     ensures ok { OnOk result (is_assumed known.entry ≡ true) }
 {
     if known.is_assumption() {
@@ -74,15 +79,21 @@ fn check_assumption(index: u32, known: Known) -> Result<(), RuleError>
     }
 }
 
-fn check_split(first: &Constraint, second: &Constraint, ints: &Ints) -> Result<(), RuleError>
-    ensures tests { (c : Certificate) (d : Derivation) (l1 l2 : ℕ) → c.problem.integers ≡ ints.now
+fn check_split(
+    profile: Profile,
+    first: &Constraint,
+    second: &Constraint,
+    ints: &Ints,
+) -> Result<(), RuleError>
+    ensures tests { (P : ProfileMeant) (c : Certificate) (d : Derivation) (l1 l2 : ℕ)
+        → P ≡ profile_of profile → c.problem.integers ≡ ints.now
         → condition_of first.now ≡ constraint_at c l1 → condition_of second.now ≡ constraint_at c l2
-        → MatchResult result (λ _. Passes c d (split l1 l2 ∷ []))
-        (λ e. (e ≡ Memory) ⊎ Stops c d (split l1 l2 ∷ []) e) }
+        → MatchResult result (λ _. PassesTestsIn P c d (split l1 l2 ∷ []))
+        (λ e. (e ≡ Memory) ⊎ StopsIn P c d (split l1 l2 ∷ []) e) }
     ensures ok { OnOk result
-        (IsSplit one ints.now (condition_of first.now) (condition_of second.now)) }
+        (IsSplit (profile_of profile) ints.now (condition_of first.now) (condition_of second.now)) }
 {
-    if is_split(first, second, ints) {
+    if profile.splits(first, second, ints) {
         return Ok(());
     }
     Err(RuleError::NotSplit(first.clone()?, second.clone()?))

@@ -2,17 +2,22 @@
 //! listed solution meets its primal bound.
 
 ghost use Rattle.std.specs.Prelude.{◌≡◌, ◌↔◌, ◌++◌, ◌∷◌, [], List, IfOk, IsTrue, option_copied};
-ghost use Rattle.vipr_spec.specs.Constraint.{Row, at};
-ghost use Rattle.vipr_spec.specs.Certificate.{Named, objective_at, objective_constraint, stays, IsAsGood, MeetsPrimal};
-ghost use Rattle.vipr_spec.specs.Certificate.{dual_bound as dual_bound_by, primal_bound as primal_bound_by};
+ghost use Rattle.vipr_spec.specs.Constraint.{two, Row, at, IsWholeRow};
+ghost use Rattle.vipr_spec.specs.Certificate.{Named, objective_at, objective_constraint, stays};
+ghost use Rattle.vipr_spec.specs.Certificate.{IsAsGood, MeetsPrimal};
+ghost use Rattle.vipr_spec.specs.Certificate.{dual_bound as dual_bound_by};
+ghost use Rattle.vipr_spec.specs.Certificate.{primal_bound as primal_bound_by};
+ghost use Rattle.vipr_spec.specs.Tests.{finite_primal};
 ghost use Rattle.vipr_spec.specs.Soundness.{IsBestValue};
 ghost use Rattle.vipr_linear.specs.Constraint.{sense_of, condition_of};
-ghost use Rattle.vipr_rules.specs.Claim.{IsMetBy, IsTargetOf};
+ghost use Rattle.vipr_rules.specs.Profile.{profile_of};
+ghost use Rattle.vipr_rules.specs.Claim.{MeetsWhole, IsMetBy, IsTargetIn, IsTargetOf};
 
+use crate::profile::Profile;
 use std::alloc::AllocError;
+use vipr_cert::{Claim, Goal, Problem};
 use vipr_frac::Frac;
-use vipr_items::{Claim, Goal, Problem};
-use vipr_linear::{Constraint, Sense};
+use vipr_linear::{Constraint, Sense, is_whole_row};
 
 /// What a constraint must say to prove the dual side of a claim.
 #[derive(Debug, Drop)]
@@ -21,6 +26,9 @@ pub enum Target {
     Absurdity,
     /// The constraint must dominate this one, the objective with the dual bound.
     Bound(Constraint),
+    /// The same where the objective is whole at each point that is whole at the integer variables:
+    /// a constraint with its row may be rounded first.
+    WholeBound(Constraint),
     /// The dual bound is infinite: nothing has to be proved.
     Nothing,
 }
@@ -34,12 +42,28 @@ impl Target {
     pub fn of_claim(p: &Problem) -> Result<Target, AllocError>
         ensures { IfOk result (IsTargetOf p.now) }
     {
+        Target::of_claim_in(Profile::One, p)
+    }
+
+    /// The same by the rules of a profile.
+    ///
+    /// # Errors
+    ///
+    /// Where a growth is refused.
+    pub fn of_claim_in(profile: Profile, p: &Problem) -> Result<Target, AllocError>
+        ensures { IfOk result (IsTargetIn (profile_of profile) p.now) }
+    {
         let Claim::Range(lower, upper) = p.claim() else {
             return Ok(Target::Absurdity);
         };
-        match dual_bound(p, lower, upper) {
-            Some(bound) => Ok(Target::Bound(no_better(p, bound)?)),
-            None => Ok(Target::Nothing),
+        let Some(bound) = dual_bound(p, lower, upper) else {
+            return Ok(Target::Nothing);
+        };
+        let goal = no_better(p, bound)?;
+        if may_round(profile, p) {
+            Ok(Target::WholeBound(goal))
+        } else {
+            Ok(Target::Bound(goal))
         }
     }
 
@@ -50,20 +74,36 @@ impl Target {
         match self {
             Target::Absurdity => constraint.is_absurd(),
             Target::Bound(bound) => constraint.dominates(bound),
+            Target::WholeBound(bound) => meets_whole(bound, constraint),
             Target::Nothing => false,
         }
     }
 }
 
-/// Whether the best value among the listed solutions, none where no solution is listed, meets the primal side of the
-/// claim.
-pub fn meets_primal(p: &Problem, best: Option<&Frac>) -> bool
-    ensures { (ss : List (Named Row)) → IsBestValue p.now ss (option_copied best.entry) → IsTrue result ↔ MeetsPrimal p.now ss p.now.claim }
+// Whether the constraint dominates the bound of a whole objective, or has its row and does so by
+// rounding.
+fn meets_whole(bound: &Constraint, constraint: &Constraint) -> bool
+    ensures { IsTrue result ↔ MeetsWhole (condition_of bound.now) (condition_of constraint.now) }
 {
-    let Claim::Range(lower, upper) = p.claim() else {
-        return true;
-    };
-    let Some(bound) = primal_bound(p, lower, upper) else {
+    constraint.dominates(bound)
+        || (constraint.row.is_same(&bound.row) && constraint.dominates_rounded(bound))
+}
+
+// Whether a bound of the objective may be rounded.
+fn may_round(profile: Profile, p: &Problem) -> bool
+    ensures { IsTrue result
+        ↔ ((profile_of profile ≡ two) × IsWholeRow p.now.integers (at p.now.objective)) }
+{
+    profile == Profile::Two && is_whole_row(p.objective(), p.ints())
+}
+
+/// Whether the best value among the listed solutions, none where no solution is listed, meets the
+/// primal side of the claim.
+pub fn meets_primal(p: &Problem, best: Option<&Frac>) -> bool
+    ensures { (ss : List (Named Row)) → IsBestValue p.now ss (option_copied best.entry)
+        → IsTrue result ↔ MeetsPrimal p.now ss p.now.claim }
+{
+    let Some(bound) = claimed_primal(p) else {
         return true;
     };
     let Some(value) = best else {
@@ -72,9 +112,20 @@ pub fn meets_primal(p: &Problem, best: Option<&Frac>) -> bool
     is_as_good(p, *value, bound)
 }
 
+/// The primal bound that is claimed, none where it is infinite or infeasibility is claimed.
+pub fn claimed_primal(p: &Problem) -> Option<Frac>
+    ensures { result ≡ finite_primal p.now p.now.claim }
+{
+    match p.claim() {
+        Claim::Infeas => None,
+        Claim::Range(lower, upper) => primal_bound(p, lower, upper),
+    }
+}
+
 /// The best value with one more solution, whose value is `value`.
 pub fn better(p: &Problem, best: Option<Frac>, value: Frac) -> Option<Frac>
-    ensures { (ss : List (Named Row)) (s : Named Row) → IsBestValue p.now ss best → value ≡ objective_at p.now (at s.item) → IsBestValue p.now (ss ++ s ∷ []) result }
+    ensures { (ss : List (Named Row)) (s : Named Row) → IsBestValue p.now ss best
+        → value ≡ objective_at p.now (at s.item) → IsBestValue p.now (ss ++ s ∷ []) result }
 {
     let Some(found) = best else {
         return Some(value);
@@ -116,7 +167,8 @@ fn primal_bound(p: &Problem, lower: Option<Frac>, upper: Option<Frac>) -> Option
 
 /// The objective that is no better than the bound.
 fn no_better(p: &Problem, bound: Frac) -> Result<Constraint, AllocError>
-    ensures { IfOk result (λ x. condition_of x ≡ objective_constraint p.now (stays p.now.direction) bound) }
+    ensures { IfOk result
+        (λ x. condition_of x ≡ objective_constraint p.now (stays p.now.direction) bound) }
 {
     let sense = match p.sense() {
         Goal::Min => Sense::G,

@@ -2,26 +2,29 @@
 
 ghost use Rattle.std.specs.Prelude.{◌≡◌, ◌∷◌, [], true, IfOk, MatchResult};
 ghost use Rattle.std.specs.FinSet as set;
-ghost use Rattle.vipr_spec.specs.Constraint.{at, NamesBelow};
+ghost use Rattle.vipr_spec.specs.Constraint.{Profile as ProfileMeant, at, NamesBelow};
 ghost use Rattle.vipr_spec.specs.Certificate.{Certificate, Derivation, variables};
 ghost use Rattle.vipr_spec.specs.Steps.{earlier};
 ghost use Rattle.vipr_linear.specs.Constraint.{condition_of};
 ghost use Rattle.vipr_rules.specs.Table.{DerivedBelow};
-ghost use Rattle.vipr_rules.specs.Context.{IsContextOf, IsKnownAs, row_of, set_of, is_assumed};
+ghost use Rattle.vipr_rules.specs.Context.{IsContextOf, IsKnownAs, row_found, set_of, is_assumed};
 ghost use Rattle.vipr_rules.specs.Soundness.{IsSoundUnder, IsStatedAt};
-ghost use Rattle.vipr_rules.specs.Apply.{index_tests, Passes, Stops};
+ghost use Rattle.vipr_rules.specs.Apply.{index_tests, PassesTestsIn, StopsIn};
 
 use crate::assumptions::Assumptions;
 use crate::error::RuleError;
+use crate::profile::Profile;
 use crate::rows::{Entry, Rows};
 use std::alloc::{AllocError, Global};
+use vipr_cert::Problem;
 use vipr_frac::Frac;
-use vipr_items::Problem;
 use vipr_linear::Constraint;
 
 /// What a derivation is tested against.
 #[derive(Drop)]
 pub(crate) struct Context<'a, S: Rows> {
+    /// The rules.
+    pub(crate) profile: Profile,
     /// The problem, whose constraints come first.
     pub(crate) problem: &'a Problem,
     /// The best objective value among the listed solutions, if one is listed.
@@ -42,7 +45,7 @@ pub(crate) enum Known<'a> {
 impl<'a> Known<'a> {
     /// What it says.
     pub(crate) fn constraint(self) -> &'a Constraint
-        ensures { result.now ≡ row_of self.entry }
+        ensures { result.now ≡ row_found self.entry }
     {
         match self {
             Known::Given(constraint) => constraint,
@@ -88,9 +91,10 @@ impl<'a> Known<'a> {
 impl<'a, S: Rows> Context<'a, S> {
     /// Tests that constraint `index` comes before the derivation.
     pub(crate) fn check_earlier(&self, index: u32) -> Result<(), RuleError>
-        ensures { (c : Certificate) (d : Derivation) → IsContextOf S.table c self.now
-            → MatchResult result (λ _. Passes c d (earlier index ∷ []))
-            (Stops c d (earlier index ∷ [])) }
+        ensures { (P : ProfileMeant) (c : Certificate) (d : Derivation)
+            → IsContextOf S.table P c self.now
+            → MatchResult result (λ _. PassesTestsIn P c d (earlier index ∷ []))
+            (StopsIn P c d (earlier index ∷ [])) }
     {
         if self.rows.next() <= index {
             return Err(RuleError::NotEarlier(index));
@@ -100,16 +104,18 @@ impl<'a, S: Rows> Context<'a, S> {
 
     /// Constraint `index`, tested to come before the derivation and to be live there.
     pub(crate) fn find(&self, index: u32) -> Result<Known<'a>, RuleError>
-        ensures known { (c : Certificate) (d : Derivation) → IsContextOf S.table c self.now
-            → MatchResult result (λ k. Passes c d (index_tests index) × IsKnownAs c index k)
-            (Stops c d (index_tests index)) }
+        ensures known { (P : ProfileMeant) (c : Certificate) (d : Derivation)
+            → IsContextOf S.table P c self.now
+            → MatchResult result
+            (λ k. PassesTestsIn P c d (index_tests index) × IsKnownAs c index k)
+            (StopsIn P c d (index_tests index)) }
         ensures below { let n = variables self.now.problem.now in
             DerivedBelow n (S.table self.now.rows.now)
-            → IfOk result (λ k. NamesBelow n (at (row_of k).row)) }
+            → IfOk result (λ k. NamesBelow n (at (row_found k).row)) }
         ensures sound { IfOk result (λ k.
-            IsSoundUnder S.table self.now (set_of k) (condition_of (row_of k))) }
+            IsSoundUnder S.table self.now (set_of k) (condition_of (row_found k))) }
         ensures stated { IfOk result (λ k.
-            is_assumed k ≡ true → IsStatedAt S.table self.now index (row_of k)) }
+            is_assumed k ≡ true → IsStatedAt S.table self.now index (row_found k)) }
     {
         self.check_earlier(index)?;
         let given = self.problem.cons();

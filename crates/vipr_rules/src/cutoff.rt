@@ -1,7 +1,7 @@
 //! The rule by which the best listed solution cuts off every point that is no better.
 
 ghost use Rattle.std.specs.Prelude.{◌≡◌, IfOk};
-ghost use Rattle.vipr_spec.specs.Constraint.{condition};
+ghost use Rattle.vipr_spec.specs.Constraint.{Profile, condition};
 ghost use Rattle.vipr_spec.specs.Certificate.{Certificate, Derivation as DerivationMeant};
 ghost use Rattle.vipr_spec.specs.Certificate.{objective_constraint, reaches, sol as by_sol};
 ghost use Rattle.vipr_linear.specs.Constraint.{condition_of};
@@ -16,8 +16,8 @@ use crate::domination::check_domination;
 use crate::error::RuleError;
 use crate::rows::Rows;
 use std::alloc::{AllocError, Global};
+use vipr_cert::{Goal, Problem};
 use vipr_frac::Frac;
-use vipr_items::{Goal, Problem};
 use vipr_linear::{Constraint, Sense};
 
 /// Tests a derivation by `sol`, which rests on no assumption.
@@ -26,8 +26,9 @@ pub(crate) fn cut_off<S: Rows>(
     context: &Context<S>,
     stated: &Constraint,
 ) -> Result<Assumptions, RuleError>
-    ensures ruled { (c : Certificate) (d : DerivationMeant) → IsContextOf S.table c context.now
-        → condition_of stated.now ≡ condition d.stated → IsRuledBy c d by_sol result }
+    ensures ruled { (P : Profile) (c : Certificate) (d : DerivationMeant)
+        → IsContextOf S.table P c context.now → condition_of stated.now ≡ condition d.stated
+        → IsRuledBy P c d by_sol result }
     ensures sound { IfOk result (λ s.
         IsSoundUnder S.table context.now s (condition_of stated.now)) }
 {

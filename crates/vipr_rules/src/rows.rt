@@ -7,7 +7,7 @@ mod live_only;
 ghost use Rattle.std.specs.Prelude.{◌≡◌, ◌+◌, ◌<◌, ◌^◌, OnOk, OnErr, IfErr, option_copied};
 ghost use Rattle.vipr_rules.specs.Table.{expiry as expiry_of, is_live_before as live_before};
 ghost use Rattle.vipr_rules.specs.Table.{Table, empty_table, advance_table, put_entry};
-ghost use Rattle.vipr_rules.specs.Table.{entry_at, held as held_in};
+ghost use Rattle.vipr_rules.specs.Table.{entry_at, held_count as held_in};
 
 use crate::assumptions::Assumptions;
 pub use keep_all::KeepAll;

@@ -1,18 +1,20 @@
 //! Derivations by their reasons.
 
 ghost use Rattle.std.specs.Prelude.{◌≡◌, ◌≢◌, ℕ, length, Some, IfOk, IfErr, option_copied};
-ghost use Rattle.vipr_spec.specs.Constraint.{Condition, Point};
+ghost use Rattle.vipr_spec.specs.Constraint.{Profile as ProfileMeant, Condition, Point};
 ghost use Rattle.vipr_spec.specs.Certificate.{Certificate, variables};
 ghost use Rattle.vipr_spec.specs.Certificate.{is_assumption as is_assumption_by};
 ghost use Rattle.vipr_spec.specs.Steps.{RefersBack};
 ghost use Rattle.vipr_spec.specs.Soundness.{IsBestValue};
 ghost use Rattle.vipr_linear.specs.Constraint.{condition_of};
-ghost use Rattle.vipr_items.specs.Items.{derivation_of, reason_of};
+ghost use Rattle.vipr_cert.specs.Items.{derivation_of, reason_of};
 ghost use Rattle.vipr_rules.specs.Table.{DerivedBelow};
 ghost use Rattle.vipr_rules.specs.History.{IsTableOf};
+ghost use Rattle.vipr_rules.specs.Profile.{profile_of};
 ghost use Rattle.vipr_rules.specs.Context.{IsContextOf};
 ghost use Rattle.vipr_rules.specs.Soundness.{HasSoundRows, IsSoundRow, IsSoundAt, IsTrueUnder};
-ghost use Rattle.vipr_rules.specs.Apply.{Judges, KeepsSound, IsRuledBy, Passes, free_tests};
+ghost use Rattle.vipr_rules.specs.Apply.{Judges, JudgesIn, KeepsSound, IsRuledBy};
+ghost use Rattle.vipr_rules.specs.Apply.{PassesTests, PassesTestsIn, free_tests};
 ghost use Rattle.vipr_rules.specs.declared.error.RuleError.TheVariants.{Memory};
 
 use crate::assumptions::Assumptions;
@@ -20,11 +22,12 @@ use crate::branches::{Branch, join_branches};
 use crate::context::Context;
 use crate::cutoff::cut_off;
 use crate::error::RuleError;
+use crate::profile::Profile;
 use crate::rows::{Entry, Rows};
 use crate::sum::{combine, combine_rounded};
 use std::alloc::Global;
+use vipr_cert::{Derivation, Problem, Reason};
 use vipr_frac::Frac;
-use vipr_items::{Derivation, Problem, Reason};
 use vipr_linear::Combination;
 
 /// Tests a derivation against the problem, the best objective value among the listed solutions and
@@ -54,7 +57,54 @@ pub fn apply<S: Rows>(
     ensures memory { (c : Certificate) → c.problem ≡ p.now → IsTableOf c (S.table rows.now)
         → IsBestValue p.now c.solutions (option_copied best.entry)
         → IfErr result (λ e. e ≡ Memory
-        → Passes c (derivation_of step.now) (free_tests (reason_of step.now.reason))) }
+        → PassesTests c (derivation_of step.now) (free_tests (reason_of step.now.reason))) }
+
+    // What is answered is sound where the live constraints before it are.
+    ensures sound { (c : Certificate) → c.problem ≡ p.now → IsTableOf c (S.table rows.now)
+        → RefersBack c → IsBestValue p.now c.solutions (option_copied best.entry)
+        → IfOk result (λ _. KeepsSound c (derivation_of step.now)) }
+    // So it is over any table and best value: `says` is what the rows state, and what is answered
+    // states at the next index.
+    ensures sound_rows { IfOk result (λ e. (says : ℕ → Condition)
+        → HasSoundRows p.now (option_copied best.entry) (S.table rows.now) says
+        → says (S.table rows.now).next ≡ condition_of e.constraint
+        → IsSoundRow p.now (option_copied best.entry) says e) }
+
+    ensures stated { IfOk result (λ e. e.constraint ≡ step.now.constraint) }
+    ensures variables { length scratch.new.sums ≡ length scratch.old.sums }
+{
+    apply_in(alloc, Profile::One, p, best, rows, scratch, step)
+}
+
+/// The same by the rules of a profile.
+///
+/// `scratch` is made for the problem's number of variables; what it holds doesn't matter.
+///
+/// # Errors
+///
+/// The first test that the derivation fails, with what there is to tell about it.
+pub fn apply_in<S: Rows>(
+    alloc: Global,
+    profile: Profile,
+    p: &Problem,
+    best: Option<&Frac>,
+    rows: &S,
+    scratch: &mut Combination,
+    step: &Derivation,
+) -> Result<Entry, RuleError>
+    requires variables { length scratch.old.sums ≡ variables p.now }
+    requires rows { DerivedBelow (variables p.now) (S.table rows.now) }
+
+    // Over the table of a certificate the answer is that of the definitions.
+    ensures judged { (c : Certificate) → c.problem ≡ p.now → IsTableOf c (S.table rows.now)
+        → RefersBack c → IsBestValue p.now c.solutions (option_copied best.entry)
+        → JudgesIn (profile_of profile) c (derivation_of step.now) result }
+    // That a growth was refused is no answer before the tests that take no memory pass.
+    ensures memory { (c : Certificate) → c.problem ≡ p.now → IsTableOf c (S.table rows.now)
+        → IsBestValue p.now c.solutions (option_copied best.entry)
+        → IfErr result (λ e. e ≡ Memory
+        → PassesTestsIn (profile_of profile) c (derivation_of step.now)
+        (free_tests (reason_of step.now.reason))) }
 
     // What is answered is sound where the live constraints before it are.
     ensures sound { (c : Certificate) → c.problem ≡ p.now → IsTableOf c (S.table rows.now)
@@ -71,6 +121,7 @@ pub fn apply<S: Rows>(
     ensures variables { length scratch.new.sums ≡ length scratch.old.sums }
 {
     let context = Context {
+        profile,
         problem: p,
         best,
         rows,
@@ -94,8 +145,8 @@ fn assumptions_of<S: Rows>(
     requires variables { length scratch.old.sums ≡ variables context.now.problem.now }
     requires rows { let n = variables context.now.problem.now in
         DerivedBelow n (S.table context.now.rows.now) }
-    ensures ruled { (c : Certificate) → IsContextOf S.table c context.now
-        → IsRuledBy c (derivation_of step.now) (reason_of step.now.reason) result }
+    ensures ruled { (P : ProfileMeant) (c : Certificate) → IsContextOf S.table P c context.now
+        → IsRuledBy P c (derivation_of step.now) (reason_of step.now.reason) result }
     ensures sound { IfOk result (λ s. (says : ℕ → Condition) (x : Point)
         → IsSoundAt S.table context.now says x
         → says (S.table context.now.rows.now).next ≡ condition_of step.now.constraint

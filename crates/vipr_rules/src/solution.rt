@@ -1,68 +1,101 @@
 //! The test of a listed solution.
 
-ghost use Rattle.std.specs.Prelude.{◌≡◌, length, map, Some, None, MatchResult};
-ghost use Rattle.vipr_spec.specs.Constraint.{at, NamesBelow};
-ghost use Rattle.vipr_spec.specs.Certificate.{Problem as Meant, variables, objective_at};
-ghost use Rattle.vipr_spec.specs.Verdict.{FirstFailing, PassesSolution, whole_at, given_at, solution_tests};
+ghost use Rattle.std.specs.Prelude.{◌≡◌, ◌<◌, ℕ, length, map, None, MatchResult};
+ghost use Rattle.vipr_spec.specs.Constraint.{Row, at, IsInteger, NamesBelow};
+ghost use Rattle.vipr_spec.specs.Certificate.{Problem as Meant, variables, integer_variables};
+ghost use Rattle.vipr_spec.specs.Certificate.{objective_at};
+ghost use Rattle.vipr_spec.specs.Steps.{FirstFailing};
+ghost use Rattle.vipr_spec.specs.Tests.{PassesSolution, whole_at, given_at, solution_tests};
 ghost use Rattle.vipr_linear.specs.Constraint.{constraint_of};
-ghost use Rattle.vipr_rules.specs.Solution.{test_of, PassesAll, FailsBy, tests_at, tests_below};
+ghost use Rattle.vipr_linear.specs.Values.{IsLaidOut};
+ghost use Rattle.vipr_rules.specs.Solution.{PassesAll, FailsBy, tests_at, tests_below};
 
+use vipr_cert::Problem;
 use vipr_frac::Frac;
-use vipr_items::Problem;
-use vipr_linear::{Constraint, Solution, holds_at, value_at};
+use vipr_linear::{Combination, Constraint, Ints, Sense, Solution, compares, first_fractional};
 
-/// Why a listed solution is refused.
+/// Why a listed solution is refused, with what there is to tell about it.
 #[derive(Clone, Copy, Debug, PartialEq, Eq)]
 pub enum SolutionError {
-    /// The coordinate of this integer variable isn't whole.
-    NotWhole(u32),
-    /// The constraint with this index is false there.
-    Breaks(u32),
+    /// An integer variable isn't whole.
+    NotWhole {
+        /// The variable, the least of those that aren't whole.
+        variable: u32,
+        /// Its value.
+        value: Frac,
+    },
+    /// A constraint is false there.
+    Breaks {
+        /// Its index, the least of those that are false.
+        constraint: u32,
+        /// The value of its row.
+        left: Frac,
+        /// How that has to compare with its right-hand side.
+        sense: Sense,
+        /// Its right-hand side.
+        right: Frac,
+    },
     /// A product or a partial sum is out of bound: of this constraint, or of the objective.
     Overflow(Option<u32>),
 }
 
-/// Tests a listed solution, and gives the objective's value there. The integer variables are tested
-/// first, in rising order, then the constraints in their order, and last whether the objective's
-/// value fits.
+/// Tests a listed solution, and gives the objective's value there. It lays the solution out in the
+/// scratch, so that each entry of the solution and of the constraints is looked at once. The
+/// integer variables are tested first, in rising order, then the constraints in their order, and
+/// last whether the objective's value fits.
 ///
 /// # Errors
 ///
-/// What the first test that fails tells: `NotWhole` with the integer variable, `Overflow` with the
-/// index of a constraint whose value doesn't fit, `Breaks` with that of a constraint that is false,
-/// or `Overflow` with `None` where the objective's value doesn't fit.
-pub fn test_solution(p: &Problem, solution: &Solution) -> Result<Frac, SolutionError>
-    ensures { MatchResult result
-        (λ v. FirstFailing (PassesSolution p.now solution.now.0) (solution_tests p.now) None × (v ≡ objective_at p.now (at solution.now.0)))
-        (λ e. FirstFailing (PassesSolution p.now solution.now.0) (solution_tests p.now) (Some (test_of e))) }
+/// What the first test that fails tells: `NotWhole` with the integer variable and its value,
+/// `Overflow` with the index of a constraint whose value doesn't fit, `Breaks` with that of a
+/// constraint that is false and with both its sides, or `Overflow` with `None` where the
+/// objective's value doesn't fit.
+pub fn test_solution(
+    p: &Problem,
+    scratch: &mut Combination,
+    solution: &Solution,
+) -> Result<Frac, SolutionError>
+    requires variables { length scratch.old.sums ≡ variables p.now }
+    ensures tested { MatchResult result
+        (λ v. FirstFailing (PassesSolution p.now solution.now.0) (solution_tests p.now) None
+        × (v ≡ objective_at p.now (at solution.now.0)))
+        (FailsBy p.now solution.now.0 (solution_tests p.now)) }
+    ensures variables { length scratch.new.sums ≡ length scratch.old.sums }
 {
     let objective = p.objective();
-    test_integers(p.ints().indices(), solution)?;
-    test_constraints(p, solution)?;
-    match value_at(objective, solution) {
+    test_integers(p.ints(), solution)?;
+    scratch.lay_out(solution);
+    test_constraints(p, scratch)?;
+    match scratch.value_of(objective) {
         Ok(value) => Ok(value),
         Err(_) => Err(SolutionError::Overflow(None)),
     }
 }
 
-// Tests whether the coordinates of these variables are whole.
-fn test_integers(variables: &[u32], solution: &Solution) -> Result<(), SolutionError>
-    ensures { (p : Meant) → MatchResult result (λ _. PassesAll p solution.now.0 (map whole_at variables.now)) (FailsBy p solution.now.0 (map whole_at variables.now)) }
+// Tests whether the coordinates of the integer variables are whole.
+fn test_integers(ints: &Ints, solution: &Solution) -> Result<(), SolutionError>
+    ensures { (p : Meant) → p.integers ≡ ints.now
+        → ((j : ℕ) → IsInteger p.integers j → j < variables p) → MatchResult result
+        (λ _. PassesAll p solution.now.0 (map whole_at (integer_variables p)))
+        (FailsBy p solution.now.0 (map whole_at (integer_variables p))) }
 {
-    for variable in variables {
-        if !solution.0.coefficient(*variable).is_whole() {
-            return Err(SolutionError::NotWhole(*variable));
-        }
+    match first_fractional(solution, ints) {
+        Some(entry) => Err(SolutionError::NotWhole {
+            variable: entry.0,
+            value: entry.1,
+        }),
+        None => Ok(()),
     }
-    Ok(())
 }
 
-// Tests all constraints in their order.
-fn test_constraints(p: &Problem, solution: &Solution) -> Result<(), SolutionError>
-    ensures { MatchResult result (λ _. PassesAll p.now solution.now.0 (tests_below (length p.now.constraints))) (FailsBy p.now solution.now.0 (tests_below (length p.now.constraints))) }
+// Tests all constraints in their order, at the solution that is laid out.
+fn test_constraints(p: &Problem, point: &Combination) -> Result<(), SolutionError>
+    ensures { (s : Row) → IsLaidOut (variables p.now) (at s) point.now.sums → MatchResult result
+        (λ _. PassesAll p.now s (tests_below (length p.now.constraints)))
+        (FailsBy p.now s (tests_below (length p.now.constraints))) }
 {
     for (i, named) in p.cons().iter().enumerate() {
-        test_constraint(i as u32, &named.item, solution)?;
+        test_constraint(i as u32, &named.item, point)?;
     }
     Ok(())
 }
@@ -71,14 +104,24 @@ fn test_constraints(p: &Problem, solution: &Solution) -> Result<(), SolutionErro
 fn test_constraint(
     index: u32,
     constraint: &Constraint,
-    solution: &Solution,
+    point: &Combination,
 ) -> Result<(), SolutionError>
-    ensures { (p : Meant) → given_at p index ≡ constraint_of constraint.now → NamesBelow (variables p) (at constraint.now.row)
-        → MatchResult result (λ _. PassesAll p solution.now.0 (tests_at index)) (FailsBy p solution.now.0 (tests_at index)) }
+    ensures { (p : Meant) (s : Row) → IsLaidOut (variables p) (at s) point.now.sums
+        → given_at p index ≡ constraint_of constraint.now
+        → NamesBelow (variables p) (at constraint.now.row)
+        → MatchResult result (λ _. PassesAll p s (tests_at index))
+        (FailsBy p s (tests_at index)) }
 {
-    match holds_at(constraint, solution) {
-        Ok(true) => Ok(()),
-        Ok(false) => Err(SolutionError::Breaks(index)),
-        Err(_) => Err(SolutionError::Overflow(Some(index))),
+    let Ok(left) = point.value_of(&constraint.row) else {
+        return Err(SolutionError::Overflow(Some(index)));
+    };
+    if compares(constraint.sense, left, constraint.rhs) {
+        return Ok(());
     }
+    Err(SolutionError::Breaks {
+        constraint: index,
+        left,
+        sense: constraint.sense,
+        right: constraint.rhs,
+    })
 }

@@ -3,7 +3,7 @@
 ghost use Rattle.std.specs.Prelude.{◌≡◌, ◌≢◌, ◌⊎◌, ◌∷◌, ◌++◌, [], List, ℕ, true, false, flat_map};
 ghost use Rattle.std.specs.Prelude.{length, IfOk, IfErr, IfSome, OnOk, MatchOption, MatchResult};
 ghost use Rattle.vipr_spec.specs.Fraction.{ℚ};
-ghost use Rattle.vipr_spec.specs.Constraint.{Entry as Summand, at, condition, NamesBelow};
+ghost use Rattle.vipr_spec.specs.Constraint.{Profile, Entry as Summand, at, condition, NamesBelow};
 ghost use Rattle.vipr_spec.specs.Constraint.{IsWholeRow, DominatesRounded};
 ghost use Rattle.vipr_spec.specs.Certificate.{Certificate, Derivation, variables};
 ghost use Rattle.vipr_spec.specs.Certificate.{lin as by_lin, rnd as by_rnd};
@@ -12,9 +12,9 @@ ghost use Rattle.vipr_spec.specs.Steps.{reference_tests, sum_tests, roundable, b
 ghost use Rattle.vipr_linear.specs.Accumulator.{Holds, HoldsSum};
 ghost use Rattle.vipr_linear.specs.Constraint.{sense_of, condition_of};
 ghost use Rattle.vipr_rules.specs.Table.{DerivedBelow};
-ghost use Rattle.vipr_rules.specs.Context.{IsContextOf, IsKnownAs, IsSetOfAll, row_of, set_of};
+ghost use Rattle.vipr_rules.specs.Context.{IsContextOf, IsKnownAs, IsSetOfAll, row_found, set_of};
 ghost use Rattle.vipr_rules.specs.Soundness.{IsSoundUnder};
-ghost use Rattle.vipr_rules.specs.Apply.{Passes, Stops, SumStops, IsRuledBy};
+ghost use Rattle.vipr_rules.specs.Apply.{PassesTestsIn, StopsIn, SumStops, IsRuledBy};
 ghost use Rattle.vipr_rules.specs.declared.error.RuleError.TheVariants.{Memory};
 
 use crate::assumptions::Assumptions;
@@ -44,8 +44,9 @@ pub(crate) fn combine<S: Rows>(
     requires variables { length scratch.old.sums ≡ variables context.now.problem.now }
     requires rows { let n = variables context.now.problem.now in
         DerivedBelow n (S.table context.now.rows.now) }
-    ensures ruled { (c : Certificate) (d : Derivation) → IsContextOf S.table c context.now
-        → condition_of stated.now ≡ condition d.stated → IsRuledBy c d (by_lin entries.now) result }
+    ensures ruled { (P : Profile) (c : Certificate) (d : Derivation)
+        → IsContextOf S.table P c context.now → condition_of stated.now ≡ condition d.stated
+        → IsRuledBy P c d (by_lin entries.now) result }
     ensures sound { IfOk result (λ s.
         IsSoundUnder S.table context.now s (condition_of stated.now)) }
     ensures variables { length scratch.new.sums ≡ length scratch.old.sums }
@@ -66,8 +67,9 @@ pub(crate) fn combine_rounded<S: Rows>(
     requires variables { length scratch.old.sums ≡ variables context.now.problem.now }
     requires rows { let n = variables context.now.problem.now in
         DerivedBelow n (S.table context.now.rows.now) }
-    ensures ruled { (c : Certificate) (d : Derivation) → IsContextOf S.table c context.now
-        → condition_of stated.now ≡ condition d.stated → IsRuledBy c d (by_rnd entries.now) result }
+    ensures ruled { (P : Profile) (c : Certificate) (d : Derivation)
+        → IsContextOf S.table P c context.now → condition_of stated.now ≡ condition d.stated
+        → IsRuledBy P c d (by_rnd entries.now) result }
     ensures sound { IfOk result (λ s.
         IsSoundUnder S.table context.now s (condition_of stated.now)) }
     ensures variables { length scratch.new.sums ≡ length scratch.old.sums }
@@ -79,11 +81,11 @@ pub(crate) fn combine_rounded<S: Rows>(
 
 // Tests that the sum can be rounded and then dominates the stated constraint.
 fn check_rounded(sum: Constraint, ints: &Ints, stated: &Constraint) -> Result<(), RuleError>
-    ensures tests { (c : Certificate) (d : Derivation) (es : List (ℕ × ℚ))
+    ensures tests { (P : Profile) (c : Certificate) (d : Derivation) (es : List (ℕ × ℚ))
         → IsSum c es (condition_of sum) → c.problem.integers ≡ ints.now
         → condition_of stated.now ≡ condition d.stated
-        → MatchResult result (λ _. Passes c d (roundable es ∷ by_rounding es ∷ []))
-        (λ e. (e ≡ Memory) ⊎ Stops c d (roundable es ∷ by_rounding es ∷ []) e) }
+        → MatchResult result (λ _. PassesTestsIn P c d (roundable es ∷ by_rounding es ∷ []))
+        (λ e. (e ≡ Memory) ⊎ StopsIn P c d (roundable es ∷ by_rounding es ∷ []) e) }
     ensures dominates { OnOk result (IsWholeRow ints.now (at sum.row)
         × DominatesRounded (condition_of sum) (condition_of stated.now)) }
 {
@@ -105,11 +107,13 @@ fn add_up<S: Rows>(
     requires variables { length scratch.old.sums ≡ variables context.now.problem.now }
     requires rows { let n = variables context.now.problem.now in
         DerivedBelow n (S.table context.now.rows.now) }
-    ensures sum { (c : Certificate) (d : Derivation) → IsContextOf S.table c context.now
+    ensures sum { (P : Profile) (c : Certificate) (d : Derivation)
+        → IsContextOf S.table P c context.now
         → MatchResult result
-        (λ s. Passes c d (sum_tests entries.now) × IsSum c entries.now (condition_of s.constraint)
+        (λ s. PassesTestsIn P c d (sum_tests entries.now)
+        × IsSum c entries.now (condition_of s.constraint)
         × IsSetOfAll c entries.now s.assumptions)
-        (λ e. (e ≡ Memory) ⊎ Stops c d (sum_tests entries.now) e) }
+        (λ e. (e ≡ Memory) ⊎ StopsIn P c d (sum_tests entries.now) e) }
     ensures sound { IfOk result (λ s.
         IsSoundUnder S.table context.now s.assumptions (condition_of s.constraint)) }
     ensures variables { length scratch.new.sums ≡ length scratch.old.sums }
@@ -173,9 +177,10 @@ fn finish(alloc: Global, scratch: &mut Combination) -> Result<Constraint, RuleEr
 
 // Tests the references of all entries in their order.
 fn check_references<S: Rows>(context: &Context<S>, entries: &[(u32, Frac)]) -> Result<(), RuleError>
-    ensures { (c : Certificate) (d : Derivation) → IsContextOf S.table c context.now
-        → MatchResult result (λ _. Passes c d (flat_map reference_tests entries.now))
-        (Stops c d (flat_map reference_tests entries.now)) }
+    ensures { (P : Profile) (c : Certificate) (d : Derivation)
+        → IsContextOf S.table P c context.now
+        → MatchResult result (λ _. PassesTestsIn P c d (flat_map reference_tests entries.now))
+        (StopsIn P c d (flat_map reference_tests entries.now)) }
 {
     for entry in entries {
         find_used(context, entry)?;
@@ -189,16 +194,17 @@ fn find_used<'a, S: Rows>(
     context: &Context<'a, S>,
     entry: &(u32, Frac),
 ) -> Result<Option<Known<'a>>, RuleError>
-    ensures known { (c : Certificate) (d : Derivation) → IsContextOf S.table c context.now
-        → MatchResult result (λ o. Passes c d (reference_tests entry.now)
+    ensures known { (P : Profile) (c : Certificate) (d : Derivation)
+        → IsContextOf S.table P c context.now
+        → MatchResult result (λ o. PassesTestsIn P c d (reference_tests entry.now)
         × MatchOption o (is_nonzero entry.now ≡ false)
         (λ k. (is_nonzero entry.now ≡ true) × IsKnownAs c entry.now.0 k))
-        (Stops c d (reference_tests entry.now)) }
+        (StopsIn P c d (reference_tests entry.now)) }
     ensures below { let n = variables context.now.problem.now in
         DerivedBelow n (S.table context.now.rows.now)
-        → IfOk result (λ o. IfSome o (λ k. NamesBelow n (at (row_of k).row))) }
+        → IfOk result (λ o. IfSome o (λ k. NamesBelow n (at (row_found k).row))) }
     ensures sound { IfOk result (λ o. IfSome o (λ k.
-        IsSoundUnder S.table context.now (set_of k) (condition_of (row_of k)))) }
+        IsSoundUnder S.table context.now (set_of k) (condition_of (row_found k)))) }
 {
     if is_used(entry) {
         Ok(Some(context.find(entry.0)?))

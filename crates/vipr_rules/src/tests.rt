@@ -2,9 +2,9 @@ use crate::{Assumptions, Entry, KeepAll, LiveOnly, Rows, SolutionError, test_sol
 use std::alloc::Global;
 use std::process::Abort;
 use std::test::Fail;
+use vipr_cert::{Claim, Goal, Name, Named, Problem};
 use vipr_frac::Frac;
-use vipr_items::{Claim, Goal, Name, Named, Problem};
-use vipr_linear::{Constraint, Ints, Row, Sense, Solution};
+use vipr_linear::{Combination, Constraint, Ints, Row, Sense, Solution};
 
 fn entry(alloc: Global, last: Option<u32>, is_assumption: bool) -> Result<Entry, Fail> {
     Ok(Entry {
@@ -129,8 +129,24 @@ fn solutions(rt: HostRuntime) -> Result<(), Fail> {
     let half = Frac::new(1, 2)?;
     for (x, y, found) in [
         (Frac::one(), half, Ok(Frac::new(3, 2)?)),
-        (half, half, Err(SolutionError::NotWhole(0))),
-        (Frac::zero(), half, Err(SolutionError::Breaks(0))),
+        (
+            half,
+            half,
+            Err(SolutionError::NotWhole {
+                variable: 0,
+                value: half,
+            }),
+        ),
+        (
+            Frac::zero(),
+            half,
+            Err(SolutionError::Breaks {
+                constraint: 0,
+                left: half,
+                sense: Sense::G,
+                right: Frac::one(),
+            }),
+        ),
         (
             Frac::one(),
             Frac::new(i128::MAX, 1)?,
@@ -138,7 +154,8 @@ fn solutions(rt: HostRuntime) -> Result<(), Fail> {
         ),
     ] {
         let solution = Solution(Row::from_pairs(alloc, vec![in alloc; (0, x), (1, y)]?)?);
-        assert_eq!(rt; test_solution(&problem, &solution), found);
+        let mut scratch = Combination::new(alloc, problem.names().len() as u32)?;
+        assert_eq!(rt; test_solution(&problem, &mut scratch, &solution), found);
     }
     Ok(())
 }

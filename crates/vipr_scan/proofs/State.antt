@@ -12,7 +12,7 @@ use Rattle.vipr_scan.specs.View.{prepend, left_of, Keeps, IsOver, next_answer, n
 use Rattle.vipr_scan.specs.Giving.{rest_of}
 use Rattle.vipr_scan.specs.declared.place.Place.{Place}
 use Rattle.vipr_scan.specs.declared.place.Place.TheVariants.{Front, Comment, Past}
-use Rattle.vipr_spec.proofs.TokenLaws.{token_cut, token_whole, token_long, run_from}
+use Rattle.vipr_spec.proofs.Laws.{token_cut, token_whole, token_long, run_from}
 
 -- what is left of an input
 abbrev pub left_at : Place → ℕ → List ℕ → Option Input → Option Rest

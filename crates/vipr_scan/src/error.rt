@@ -1,5 +1,6 @@
 use std::alloc::{AllocError, AllocFailed};
 use thiserror::Error;
+use vipr_bytes::Failed;
 
 /// Why a text was not read on.
 #[derive(Clone, Copy, Debug, PartialEq, Eq)]
@@ -34,6 +35,17 @@ impl<T: Drop> From<AllocFailed<T>> for Stop {
 
     fn from(_e: AllocFailed<T>) -> Stop {
         Stop::Memory
+    }
+}
+
+impl From<Failed> for Stop {
+    ghost use Rattle.std.specs.Prelude.{◌≡◌};
+    ghost use Rattle.vipr_scan.specs.declared.error.Stop.TheVariants.{Read};
+
+    ghost from_gives = { λ _ e. e ≡ Read };
+
+    fn from(_failed: Failed) -> Stop {
+        Stop::Read
     }
 }
 

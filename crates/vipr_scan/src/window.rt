@@ -12,7 +12,7 @@ use crate::error::Stop;
 use crate::piece::{move_to_front, read_behind};
 use crate::place::{Place, gap};
 use std::alloc::{AllocError, Global};
-use vipr_bytes::Source;
+use vipr_bytes::{Failed, Source};
 
 /// Where a token lies in the buffer.
 #[derive(Clone, Copy, Debug)]
@@ -68,20 +68,17 @@ impl<R: Source> Window<R> {
     }
 
     /// Moves the unread bytes to the front of the buffer, and reads behind them.
-    fn fill(&mut self) -> Result<(), Stop>
+    fn fill(&mut self) -> Result<(), Failed>
         requires room { length (unread self.old) < 65536 }
         requires more { self.old.ended ≡ false }
         ensures place { self.new.place ≡ self.old.place }
         ensures offset { self.new.offset ≡ self.old.offset }
         ensures kept { length (unread self.old) ≤ length (unread self.new) }
         ensures front { take (length (unread self.old)) (unread self.new) ≡ unread self.old }
-        ensures input { OnOk result
-            (IfSome (input_left R.input self.old) (λ i. input_left R.input self.new ≡ Some i)) }
         ensures left { OnOk result (Keeps (left R.input self.old) (left R.input self.new)) }
         ensures err { OnErr result
             (IfSome (input_left R.input self.old)
             (λ i. (i.bytes ≡ unread self.old) × (i.fails ≡ true))) }
-        ensures error { IfErr result (λ e. e ≡ Stop.Read) }
         ensures round { OnOk result (rounds R.reads_left self.new < rounds R.reads_left self.old) }
     {
         let held = self.end - self.start;
@@ -98,15 +95,14 @@ impl<R: Source> Window<R> {
                 self.end = held + n;
                 Ok(())
             }
-            Err(_) => Err(Stop::Read),
+            Err(failed) => Err(failed),
         }
     }
 
     /// Takes the white space and comments at hand before the next token.
     fn take_gap(&mut self)
         ensures left { Keeps (left R.input self.old) (left R.input self.new) }
-        ensures token { 0 < length (unread self.new) → IsAtToken self.new }
-        ensures length { length (unread self.new) ≡ self.new.end - self.new.start }
+        ensures token { self.new.start < self.new.end → IsAtToken self.new }
         ensures ended { self.new.ended ≡ self.old.ended }
         ensures source { self.new.source ≡ self.old.source }
     {
@@ -118,17 +114,15 @@ impl<R: Source> Window<R> {
     }
 
     /// Goes to the next token. At the end no byte is left.
-    fn skip(&mut self) -> Result<(), Stop>
+    fn skip(&mut self) -> Result<(), Failed>
         ensures left { OnOk result (Keeps (left R.input self.old) (left R.input self.new)) }
-        ensures token { OnOk result (0 < length (unread self.new) → IsAtToken self.new) }
+        ensures token { OnOk result (self.new.start < self.new.end → IsAtToken self.new) }
         ensures end { OnOk result
-            (length (unread self.new) ≡ 0 → IsOver (left R.input self.old) false) }
-        ensures length { OnOk result (length (unread self.new) ≡ self.new.end - self.new.start) }
+            (self.new.start ≡ self.new.end → IsOver (left R.input self.old) false) }
         ensures reached { OnOk result
-            (length (unread self.new) ≡ 0 →
+            (self.new.start ≡ self.new.end →
             IfSome (left R.input self.old) (λ l. self.new.offset ≡ l.length)) }
         ensures failed { OnErr result (IsOver (left R.input self.old) true) }
-        ensures error { IfErr result (λ e. e ≡ Stop.Read) }
     {
         loop {
             self.take_gap();
@@ -140,7 +134,7 @@ impl<R: Source> Window<R> {
     }
 
     /// The length of the token at the front, all of it at hand, or 65,536 if it is longer.
-    fn measure(&mut self) -> Result<usize, Stop>
+    fn measure(&mut self) -> Result<usize, Failed>
         requires { IsAtToken self.old }
         ensures left { OnOk result (Keeps (left R.input self.old) (left R.input self.new)) }
         ensures within { IfOk result (λ n. n ≤ length (unread self.new)) }
@@ -154,7 +148,6 @@ impl<R: Source> Window<R> {
             (λ n. n < 65536 → n ≡ length (unread self.new) → self.new.ended ≡ true) }
         ensures place { OnOk result (self.new.place ≡ Place.Past) }
         ensures failed { OnErr result (IsOver (left R.input self.old) true) }
-        ensures error { IfErr result (λ e. e ≡ Stop.Read) }
     {
         let mut len = 0;
         loop {

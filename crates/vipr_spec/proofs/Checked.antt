@@ -10,7 +10,7 @@ use Rattle.vipr_spec.specs.Reading.{Rest, end_read}
 use Rattle.vipr_spec.specs.Tests.{meets_dual}
 use Rattle.vipr_spec.specs.Verdict.{verified, told_by, Answers}
 use Rattle.vipr_spec.specs.Progress.{derivations_from}
-use Rattle.vipr_spec.specs.Checking.{start, IsChecked, Meets, IsFirstMet, ProvesNext, NextGoal, report_of}
+use Rattle.vipr_spec.specs.Checking.{start, IsChecked, Meets, IsFirstMet, ProvesNext, NextGoal, report_from}
 use Rattle.vipr_spec.proofs.Prefix.{count_next, known_next}
 use Rattle.vipr_spec.proofs.Held.{peak_next}
 use Rattle.vipr_spec.proofs.Steps.{good_without, good_steps_next, refers_back}
@@ -77,10 +77,10 @@ checked_next P c d goal next most_held h g n = record {
 -- ---- the end
 
 pub checked_verified : (P : Profile) (c : Certificate) (goal : Option ℕ) (most_held : ℕ) (r : Rest) → IsChecked P c goal most_held → end_read r ≡ Ok tt → (NeedsGoal c.problem c.problem.claim → IsSome goal)
-    → Answers P (derivations_from c 0 r) (verified (report_of c goal most_held))
+    → Answers P (derivations_from c 0 r) (verified (report_from c goal most_held))
 checked_verified P c goal most_held r h e s =
     let m = goal_met P c goal h.goal_is s in
-    (end_verified P c r (verified (report_of c goal most_held)) e m.0).1 (report_of c goal most_held, record { claim = refl; solutions = refl; derived = refl; peak = h.peak_is; goal = m.1 }, refl)
+    (end_verified P c r (verified (report_from c goal most_held)) e m.0).1 (report_from c goal most_held, record { claim = refl; solutions = refl; derived = refl; peak = h.peak_is; goal = m.1 }, refl)
 
 pub checked_unproved : (P : Profile) (c : Certificate) (most_held : ℕ) (r : Rest) → IsChecked P c None most_held → end_read r ≡ Ok tt → NeedsGoal c.problem c.problem.claim
     → Answers P (derivations_from c 0 r) (told_by meets_dual)

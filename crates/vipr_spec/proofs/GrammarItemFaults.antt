@@ -6,7 +6,7 @@ use Rattle.vipr_spec.specs.Causes as cause
 use Rattle.vipr_spec.specs.Tokens.{Token}
 use Rattle.vipr_spec.specs.Constraint.{Row, Constraint}
 use Rattle.vipr_spec.specs.Certificate.{Named, Problem, variables, Reason, asm, lin, rnd, uns, sol, infeasible, range}
-use Rattle.vipr_spec.specs.Reading.{most_bytes, Rest, Fault, refused, unread, ◌>>=◌, Read, first_token, judged, taken, name_of, word_of, count_of, derivation_count_of, variable_of, new_variable_of, reference_of, last_of, number_of, bound_of, sense_of, direction_of, has_range_of, rule_of, Rule, by_asm, by_lin, by_rnd, by_uns, by_sol, keyword_read, pair_read, pairs_read, row_of, counted_read, vector_read, row_read, constraint_read, version_read, names_read, integers_read, objective_read, constraints_read, range_read, claim_read, problem_read, solution_read, derivations_read, entry_read, entries_read, by_read, reason_read, derivation_read, end_of, end_read, certificate_read}
+use Rattle.vipr_spec.specs.Reading.{most_bytes, Rest, Fault, refused, unread, ◌>>=◌, Read, first_token, judged, taken, name_of, word_of, count_of, derivation_count_of, variable_of, new_variable_of, reference_of, last_of, number_of, bound_of, spelled_sense, spelled_direction, has_range_of, rule_of, Rule, by_asm, by_lin, by_rnd, by_uns, by_sol, keyword_read, pair_read, pairs_read, row_of, counted_read, vector_read, row_read, constraint_read, version_read, names_read, integers_read, objective_read, constraints_read, range_read, claim_read, problem_read, solution_read, derivations_read, entry_read, entries_read, by_read, reason_read, derivation_read, end_of, end_read, certificate_read}
 use Rattle.vipr_spec.specs.Grammar.{word, one, constraint, entry, solution, derivation, SpellsVariable}
 use Rattle.vipr_spec.specs.FaultLaws.{IsRefusedAt, EndsEarly, FaultsStand, ItemFaults}
 use Rattle.vipr_spec.proofs.GrammarTokens.{same_bytes}
@@ -123,7 +123,7 @@ module _ (n : ℕ) (objective : Row) where
   stands_constraint : FaultsStand (constraint_read n objective)
   unfolding constraint_read
   stands_constraint =
-      stands_then reads_name (stands_token name_of) _ (λ name. stands_then reads_sense (stands_token sense_of) _
+      stands_then reads_name (stands_token name_of) _ (λ name. stands_then reads_sense (stands_token spelled_sense) _
       (λ sense. stands_then reads_number (stands_token number_of) _ (λ bound. stands_then (reads_row n objective) stands_row _
       (λ row. stands_ok (record { name = name; item = record { row = row; sense = sense; bound = bound } })))))
 
@@ -153,7 +153,7 @@ stands_integers n =
 stands_objective : (n : ℕ) → FaultsStand (objective_read n)
 unfolding objective_read
 stands_objective n =
-    stands_then (reads_keyword (codes "OBJ")) (stands_keyword (codes "OBJ")) _ (λ v. stands_then reads_direction (stands_token direction_of) _
+    stands_then (reads_keyword (codes "OBJ")) (stands_keyword (codes "OBJ")) _ (λ v. stands_then reads_direction (stands_token spelled_direction) _
     (λ d. stands_then (reads_vector n) (stands_vector n) _ (λ row. stands_ok (d, row))))
 
 module _ (n : ℕ) (row : Row) where

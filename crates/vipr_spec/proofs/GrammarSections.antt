@@ -4,7 +4,7 @@ use Rattle.std.specs.FinSet.{from_list}
 use Rattle.vipr_spec.specs.Causes as cause
 use Rattle.vipr_spec.specs.Constraint.{Row, Ints, Constraint}
 use Rattle.vipr_spec.specs.Certificate.{Name, Named, Direction, Claim, infeasible, range, Problem, variables}
-use Rattle.vipr_spec.specs.Reading.{Rest, taken, variable_of, direction_of, bound_of, has_range_of, name_of, keyword_read, constraint_read, version_read, names_read, integers_read, objective_read, constraints_read, range_read, claim_read, problem_read, solution_read}
+use Rattle.vipr_spec.specs.Reading.{Rest, taken, variable_of, spelled_direction, bound_of, has_range_of, name_of, keyword_read, constraint_read, version_read, names_read, integers_read, objective_read, constraints_read, range_read, claim_read, problem_read, solution_read}
 use Rattle.vipr_spec.specs.Grammar.{SpellsCount, SpellsVariable, SpellsDirection, SpellsBound, word, one, ◌then◌, each, constraint, version, names, integers, objective, constraints, claim, solution}
 use Rattle.vipr_spec.specs.GrammarLaws.{Taken, Reads, SpellsRange, problem_and_count}
 use Rattle.vipr_spec.proofs.GrammarSteps.{bind_ok, ok_then, answer, taken_as, taken_is, taken_then, parted}
@@ -75,8 +75,8 @@ reads_integers n r s x = (integers_sound n r s x, integers_complete n r s x)
 
 -- ---- the objective
 
-pub reads_direction : Reads (taken direction_of) (one SpellsDirection)
-reads_direction = reads_one direction_of SpellsDirection kinds_of_token.direction
+pub reads_direction : Reads (taken spelled_direction) (one SpellsDirection)
+reads_direction = reads_one spelled_direction SpellsDirection kinds_of_token.direction
 
 objective_sound : (n : ℕ) (r s : Rest) (x : Direction × Row) → objective_read n r ≡ Ok (x, s) → Taken (objective n x.0 x.1) r s
 unfolding objective_read

@@ -8,7 +8,7 @@ use Rattle.vipr_spec.specs.Digits.{natural_of}
 use Rattle.vipr_spec.specs.Causes as cause
 use Rattle.vipr_spec.specs.Constraint.{Sense, at_most, equal, at_least}
 use Rattle.vipr_spec.specs.Certificate.{Direction, minimum, maximum}
-use Rattle.vipr_spec.specs.Reading.{most_count, at_most_or, word_of, count_of, derivation_count_of, below, variable_of, unless_among, new_variable_of, reference_of, some_of, last_of, sense_of, direction_of, has_range_of, Rule, by_asm, by_lin, by_rnd, by_uns, by_sol, rule_of}
+use Rattle.vipr_spec.specs.Reading.{most_count, at_most_or, word_of, count_of, derivation_count_of, below, variable_of, unless_among, new_variable_of, reference_of, some_of, last_of, spelled_sense, spelled_direction, has_range_of, Rule, by_asm, by_lin, by_rnd, by_uns, by_sol, rule_of}
 use Rattle.vipr_spec.specs.Grammar.{SpellsNatural, SpellsCount, SpellsVariable, SpellsSense, SpellsDirection, SpellsLast}
 use Rattle.vipr_spec.specs.GrammarLaws.{ReadsKind, SpellsRange, rule_word, KindsOfToken}
 use Rattle.vipr_spec.proofs.GrammarNumbers.{natural_sound, natural_complete}
@@ -39,22 +39,22 @@ fixed_sound w c t x e = same_bytes t w (guard_true (bytes_eq t w) tt x c e).0
 fixed_complete : (w : List ℕ) (c : ℕ) (t : List ℕ) (x : Unit {0}) → t ≡ w → word_of w c t ≡ Ok x
 fixed_complete w c t x e = ap (λ b. if b then Ok tt else Err c) (bytes_same t w e)
 
-sense_sound : (t : List ℕ) (s : Sense) → sense_of t ≡ Ok s → SpellsSense t s
-unfolding sense_of
+sense_sound : (t : List ℕ) (s : Sense) → spelled_sense t ≡ Ok s → SpellsSense t s
+unfolding spelled_sense
 sense_sound t s e = picks (SpellsSense t) t _ equal s _ (λ h. h) (λ e2. picks (SpellsSense t) t _ at_most s _ (λ h. h) (λ e3. picks (SpellsSense t) t _ at_least s _ (λ h. h) (none_picked _ _ s) e3) e2) e
 
-sense_complete : (t : List ℕ) (s : Sense) → SpellsSense t s → sense_of t ≡ Ok s
-unfolding sense_of
+sense_complete : (t : List ℕ) (s : Sense) → SpellsSense t s → spelled_sense t ≡ Ok s
+unfolding spelled_sense
 sense_complete t equal e = rw e
 sense_complete t at_most e = rw e
 sense_complete t at_least e = rw e
 
-direction_sound : (t : List ℕ) (s : Direction) → direction_of t ≡ Ok s → SpellsDirection t s
-unfolding direction_of
+direction_sound : (t : List ℕ) (s : Direction) → spelled_direction t ≡ Ok s → SpellsDirection t s
+unfolding spelled_direction
 direction_sound t s e = picks (SpellsDirection t) t _ minimum s _ (λ h. h) (λ e2. picks (SpellsDirection t) t _ maximum s _ (λ h. h) (none_picked _ _ s) e2) e
 
-direction_complete : (t : List ℕ) (s : Direction) → SpellsDirection t s → direction_of t ≡ Ok s
-unfolding direction_of
+direction_complete : (t : List ℕ) (s : Direction) → SpellsDirection t s → spelled_direction t ≡ Ok s
+unfolding spelled_direction
 direction_complete t minimum e = rw e
 direction_complete t maximum e = rw e
 

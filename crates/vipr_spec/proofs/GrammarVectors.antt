@@ -8,7 +8,7 @@ use Rattle.vipr_spec.specs.Tokens.{Token}
 use Rattle.vipr_spec.specs.Constraint.{Row, Constraint}
 use Rattle.vipr_spec.specs.Certificate.{Named}
 use Rattle.vipr_spec.specs.Digits.{natural_after, natural_of}
-use Rattle.vipr_spec.specs.Reading.{Rest, ◌>>=◌, Read, taken, token_read, judged, count_of, new_variable_of, number_of, sense_of, pair_read, pairs_read, row_of, counted_read, vector_read, row_read, constraint_read}
+use Rattle.vipr_spec.specs.Reading.{Rest, ◌>>=◌, Read, taken, token_read, judged, count_of, new_variable_of, number_of, spelled_sense, pair_read, pairs_read, row_of, counted_read, vector_read, row_read, constraint_read}
 use Rattle.vipr_spec.specs.Grammar.{SpellsCount, SpellsVariable, SpellsSense, word, one, ◌then◌, each, pair, vector, coefficients, constraint}
 use Rattle.vipr_spec.specs.Number.{SpellsNumber}
 use Rattle.vipr_spec.specs.GrammarLaws.{Taken, Reads}
@@ -194,8 +194,8 @@ reads_row n objective r s row = (row_sound n objective r s row, row_complete n o
 
 -- ---- constraints
 
-pub reads_sense : Reads (taken sense_of) (one SpellsSense)
-reads_sense = reads_one sense_of SpellsSense kinds_of_token.sense
+pub reads_sense : Reads (taken spelled_sense) (one SpellsSense)
+reads_sense = reads_one spelled_sense SpellsSense kinds_of_token.sense
 
 abbrev Stated : ℕ → Row → Named Constraint → List (List ℕ) → Type 0
 Stated n objective c = constraint n objective c.name c.item

@@ -6,16 +6,16 @@ use Rattle.vipr_spec.specs.Gcd.{gcd}
 use Rattle.vipr_spec.specs.Fraction.{ℚ, over, whole, zero_ℚ, ◌*ℚ◌, IsBounded, ProductFits}
 use Rattle.vipr_spec.specs.Constraint.{Profile}
 use Rattle.vipr_spec.specs.Certificate.{is_live, IsProof}
-use Rattle.vipr_spec.specs.Examples.{dropped, too_large}
+use Rattle.vipr_spec.specs.Examples.{dropped_example, too_large}
 use Rattle.vipr_spec.proofs.Fractions.{le_of_whole, le_of_eq_ℚ}
 
 one_not_zero : whole (pos 1) ≢ zero_ℚ
 one_not_zero e = let l = le_of_whole (pos 1) (pos 0) (le_of_eq_ℚ _ _ e) in omega (arith, ints)
 
-pub not_live : (P : Profile) → ¬ IsProof P dropped
+pub not_live : (P : Profile) → ¬ IsProof P dropped_example
 not_live P p = late ((p.steps 3 _ refl).references 2 (whole (pos 1), (0, lit< tt, refl), one_not_zero))
   where
-    late : IsTrue (is_live dropped 3 2) → ⊥
+    late : IsTrue (is_live dropped_example 3 2) → ⊥
     late e = cc
 
 over_most : ¬ (2 ^ 127 ≤ 2 ^ 127 - 1)

@@ -103,6 +103,14 @@ whole_read r = by (problem_read r)
         subst (λ z. Whole (problem_found (Ok p)) (z >>= λ s. derivations_read p.0.0 s.1 >>= λ d. repeated (derivation_read p.0.0) d.0 d.1
         >>= λ ds. end_read ds.1 >>= λ end. Ok (record { problem = p.0.0; solutions = s.0; derivations = ds.0 }))) (sym (repeated_is (solution_read p.0.0) p.0.1 p.1)) (solutions_whole p.0.0 items.0 items.1)
 
+found_as : (found : Found) (x : Result Certificate Fault) (c : Certificate) → Whole found x → x ≡ Ok c → found.certificate ≡ c
+found_as found (Err f) c w e = absurd (cc e)
+found_as found (Ok d) c w e = let same : d ≡ c = cc e in ap (λ (f : Found). f.certificate) w ∙ same
+
+-- where a text is read as a certificate, it is the one that was found
+pub found_read : (r : Rest) (c : Certificate) → certificate_read r ≡ Ok c → (found_in r).certificate ≡ c
+found_read r c e = found_as (found_in r) (certificate_read r) c (whole_read r) e
+
 -- ---- verified
 
 module _ (P : Profile) where

@@ -40,8 +40,8 @@ NextGoal P c d (Some goal) next = next ≡ Some goal
 NextGoal P c d None next =
     (ProvesNext P c d × (next ≡ Some (count c))) ⊎ ((¬ ProvesNext P c d) × (next ≡ None))
 
-abbrev pub report_of : Certificate → Option ℕ → ℕ → Report
-report_of c goal most_held = record {
+abbrev pub report_from : Certificate → Option ℕ → ℕ → Report
+report_from c goal most_held = record {
   claim = c.problem.claim;
   solutions = length c.solutions;
   derived = length c.derivations;

@@ -17,8 +17,24 @@ example_certificate = record {
     direction = minimum;
     objective = row_of [];
     constraints =
-        record { name = codes "a"; item = record { row = row_of ((0, over (pos 1) 1) ∷ []); sense = at_least; bound = over (pos 1) 1 } }
-        ∷ record { name = codes "b"; item = record { row = row_of ((0, over (pos 1) 1) ∷ []); sense = at_most; bound = over (pos 0) 1 } } ∷ [];
+        record {
+          name = codes "a";
+          item =
+              record {
+                row = row_of ((0, over (pos 1) 1) ∷ []);
+                sense = at_least;
+                bound = over (pos 1) 1;
+              };
+        }
+        ∷ record {
+          name = codes "b";
+          item =
+              record {
+                row = row_of ((0, over (pos 1) 1) ∷ []);
+                sense = at_most;
+                bound = over (pos 0) 1;
+              };
+        } ∷ [];
     bound_count = 0;
     claim = infeasible;
   };

@@ -65,8 +65,8 @@ assumed = record {
 }
 
 -- constraint 2 is dropped at step 2, and step 3 refers to it
-abbrev pub dropped : Certificate
-dropped = record {
+abbrev pub dropped_example : Certificate
+dropped_example = record {
   problem = apart;
   solutions = [];
   derivations =

@@ -3,11 +3,13 @@ use Rattle.std.specs.Prelude.{◌≡◌, ℕ, ◌⊎◌, true, false, List, ◌�
 use Rattle.vipr_spec.specs.Causes as cause
 use Rattle.vipr_spec.specs.Tokens.{Token}
 use Rattle.vipr_spec.specs.Certificate.{Problem}
-use Rattle.vipr_spec.specs.Reading.{Rest, Fault, refused, unread, problem_read, solution_read, derivations_read, derivation_read, end_read, certificate_read}
+use Rattle.vipr_spec.specs.Reading.{Rest, Fault, refused, unread, problem_read, solution_read}
+use Rattle.vipr_spec.specs.Reading.{derivations_read, derivation_read, end_read, certificate_read}
 
 -- A token at the offset is refused for the cause, whatever follows it, and none before it is: where
 -- a failure follows those, nothing is refused.
-pub record IsRefusedAt {A : Type 0} (read : Rest → Result A Fault) (r : Rest) (why place : ℕ) : Type 0 where
+pub record IsRefusedAt {A : Type 0} (read : Rest → Result A Fault) (r : Rest)
+    (why place : ℕ) : Type 0 where
   pub before : List Token
   pub token : Token
   pub after : List Token
@@ -21,9 +23,11 @@ pub record IsRefusedAt {A : Type 0} (read : Rest → Result A Fault) (r : Rest) 
 abbrev pub EndsEarly : Rest → ℕ → ℕ → Type 0
 EndsEarly r why place = (r.fails ≡ false) × (why ≡ cause.truncated) × (place ≡ r.length)
 
--- A refusal is that of one token, or of the end; and for want of more to read it fails only where a failure follows.
+-- A refusal is that of one token, or of the end; and for want of more to read it fails only where a
+-- failure follows.
 pub record FaultsStand {A : Type 0} (read : Rest → Result A Fault) : Type 0 where
-  pub refusal : (r : Rest) (why place : ℕ) → read r ≡ Err (refused why place) → IsRefusedAt read r why place ⊎ EndsEarly r why place
+  pub refusal : (r : Rest) (why place : ℕ) → read r ≡ Err (refused why place)
+      → IsRefusedAt read r why place ⊎ EndsEarly r why place
   pub failure : (r : Rest) → read r ≡ Err unread → r.fails ≡ true
 
 pub record ItemFaults : Type 0 where

@@ -1,13 +1,26 @@
 -- Reading and the grammar say the same
-use Rattle.std.specs.Prelude.{◌≡◌, ◌↔◌, ℕ, ◌+◌, ◌-◌, ◌≤◌, Bool, false, nat_eq, if◌then◌else◌, List, [], ◌++◌, length, map, All, Some, Result, Ok, codes}
+use Rattle.std.specs.Prelude.{◌≡◌, ◌↔◌, ℕ, ◌+◌, ◌-◌, ◌≤◌, Bool, false, nat_eq, if◌then◌else◌, List}
+use Rattle.std.specs.Prelude.{[], ◌++◌, length, map, All, Some, Result, Ok, codes}
 use Rattle.std.specs.List.{list_any}
 use Rattle.vipr_spec.specs.Constraint.{Row}
 use Rattle.vipr_spec.specs.Certificate.{Problem, variables, Certificate}
 use Rattle.vipr_spec.specs.Digits.{natural_of}
 use Rattle.vipr_spec.specs.Number.{SpellsNumber}
 use Rattle.vipr_spec.specs.Tokens.{Token, text_tokens}
-use Rattle.vipr_spec.specs.Reading.{Rest, Read, most_bytes, most_count, name_of, word_of, count_of, derivation_count_of, variable_of, new_variable_of, reference_of, last_of, number_of, bound_of, sense_of, direction_of, has_range_of, rule_of, Rule, by_asm, by_lin, by_rnd, by_uns, by_sol, vector_read, row_read, constraint_read, version_read, names_read, integers_read, objective_read, constraints_read, claim_read, problem_read, solution_read, derivations_read, entry_read, reason_read, derivation_read, end_read, certificate_read}
-use Rattle.vipr_spec.specs.Grammar.{SpellsNatural, SpellsCount, SpellsVariable, SpellsSense, SpellsDirection, SpellsBound, SpellsLast, word, one, ◌then◌, vector, coefficients, constraint, version, names, integers, objective, constraints, claim, problem, solution, entry, reason, derivation, SpelledBy, Spells}
+use Rattle.vipr_spec.specs.Reading.{Rest, Read, most_bytes, most_count, name_of, word_of, count_of}
+use Rattle.vipr_spec.specs.Reading.{derivation_count_of, variable_of, new_variable_of, reference_of}
+use Rattle.vipr_spec.specs.Reading.{last_of, number_of, bound_of, spelled_sense, spelled_direction}
+use Rattle.vipr_spec.specs.Reading.{has_range_of, rule_of, Rule, by_asm, by_lin, by_rnd, by_uns}
+use Rattle.vipr_spec.specs.Reading.{by_sol, vector_read, row_read, constraint_read, version_read}
+use Rattle.vipr_spec.specs.Reading.{names_read, integers_read, objective_read, constraints_read}
+use Rattle.vipr_spec.specs.Reading.{claim_read, problem_read, solution_read, derivations_read}
+use Rattle.vipr_spec.specs.Reading.{entry_read, reason_read, derivation_read, end_read}
+use Rattle.vipr_spec.specs.Reading.{certificate_read}
+use Rattle.vipr_spec.specs.Grammar.{SpellsNatural, SpellsCount, SpellsVariable, SpellsSense}
+use Rattle.vipr_spec.specs.Grammar.{SpellsDirection, SpellsBound, SpellsLast, word, one, ◌then◌}
+use Rattle.vipr_spec.specs.Grammar.{vector, coefficients, constraint, version, names, integers}
+use Rattle.vipr_spec.specs.Grammar.{objective, constraints, claim, problem, solution, entry, reason}
+use Rattle.vipr_spec.specs.Grammar.{derivation, SpelledBy, Spells}
 
 -- ---- tokens
 
@@ -35,13 +48,15 @@ pub record KindsOfToken : Type 0 where
   pub name : ReadsKind name_of (λ t x. t ≡ x)
   pub fixed : (text : List ℕ) (otherwise : ℕ) → ReadsKind (word_of text otherwise) (λ t x. t ≡ text)
   pub count : ReadsKind count_of SpellsCount
-  pub derivation_count : (m : ℕ) → ReadsKind (derivation_count_of m) (λ t d. SpellsNatural t d × (d ≤ most_count - m))
+  pub derivation_count : (m : ℕ)
+      → ReadsKind (derivation_count_of m) (λ t d. SpellsNatural t d × (d ≤ most_count - m))
   pub variable : (n : ℕ) → ReadsKind (variable_of n) (SpellsVariable n)
-  pub new_variable : (n : ℕ) (before : List ℕ) → ReadsKind (new_variable_of n before) (λ t i. SpellsVariable n t i × (list_any (nat_eq i) before ≡ false))
+  pub new_variable : (n : ℕ) (before : List ℕ) → ReadsKind (new_variable_of n before)
+      (λ t i. SpellsVariable n t i × (list_any (nat_eq i) before ≡ false))
   pub reference : ReadsKind reference_of SpellsCount
   pub last : ReadsKind last_of SpellsLast
-  pub sense : ReadsKind sense_of SpellsSense
-  pub direction : ReadsKind direction_of SpellsDirection
+  pub sense : ReadsKind spelled_sense SpellsSense
+  pub direction : ReadsKind spelled_direction SpellsDirection
   pub has_range : ReadsKind has_range_of SpellsRange
   pub rule : ReadsKind rule_of (λ t rule. t ≡ rule_word rule)
 
@@ -60,7 +75,8 @@ pub record Taken (P : List (List ℕ) → Type 0) (r s : Rest) : Type 0 where
   pub short : All (λ t. length t ≤ most_bytes) (map (λ t. t.bytes) front)
   pub shape : P (map (λ t. t.bytes) front)
 
--- Read is exactly what the tokens at the front spell, whatever follows them, and what follows them is left.
+-- Read is exactly what the tokens at the front spell, whatever follows them, and what follows them
+-- is left.
 abbrev pub Reads : {A : Type 0} → (Rest → Read A) → (A → List (List ℕ) → Type 0) → Type 0
 Reads {A} read S = (r s : Rest) (x : A) → (read r ≡ Ok (x, s)) ↔ Taken (S x) r s
 
@@ -68,9 +84,11 @@ Reads {A} read S = (r s : Rest) (x : A) → (read r ≡ Ok (x, s)) ↔ Taken (S 
 abbrev pub problem_and_count : Problem × ℕ → List (List ℕ) → Type 0
 problem_and_count x = problem x.0 then word (codes "SOL") then one SpellsCount x.1
 
--- the number of derivations, which with the constraints of the problem is no more than a count may be
+-- the number of derivations, which with the constraints of the problem is no more than a count may
+-- be
 abbrev pub derivation_count : Problem → ℕ → List (List ℕ) → Type 0
-derivation_count p d ts = (length p.constraints + d ≤ most_count) × (word (codes "DER") then one SpellsCount d) ts
+derivation_count p d ts = (length p.constraints + d ≤ most_count)
+    × (word (codes "DER") then one SpellsCount d) ts
 
 -- no token is left, and no failure follows
 abbrev pub EndsHere : Rest → Type 0
@@ -79,23 +97,29 @@ EndsHere r = (r.tokens ≡ []) × (r.fails ≡ false)
 -- the parts of an item
 pub record PartsOfItems : Type 0 where
   pub vector : (n : ℕ) → Reads (vector_read n) (vector n)
-  pub coefficients : (n : ℕ) (objective : Row) → Reads (row_read n objective) (coefficients n objective)
-  pub constraint : (n : ℕ) (objective : Row) → Reads (constraint_read n objective) (λ c. constraint n objective c.name c.item)
+  pub coefficients : (n : ℕ) (objective : Row)
+      → Reads (row_read n objective) (coefficients n objective)
+  pub constraint : (n : ℕ) (objective : Row)
+      → Reads (constraint_read n objective) (λ c. constraint n objective c.name c.item)
   pub version : Reads version_read (λ u. version)
   pub names : Reads names_read names
   pub integers : (n : ℕ) → Reads (integers_read n) (integers n)
   pub objective : (n : ℕ) → Reads (objective_read n) (λ x. objective n x.0 x.1)
-  pub constraints : (n : ℕ) (objective : Row) → Reads (constraints_read n objective) (λ x. constraints n objective x.0 x.1)
+  pub constraints : (n : ℕ) (objective : Row)
+      → Reads (constraints_read n objective) (λ x. constraints n objective x.0 x.1)
   pub claim : Reads claim_read claim
   pub entry : Reads entry_read entry
   pub reason : Reads reason_read (λ x. word (codes "{") then reason x then word (codes "}"))
 
--- The items of a certificate, in the order in which they stand. Counts keep the constraints of a problem that was read within `most_count`.
-pub record Items : Type 0 where
+-- The items of a certificate, in the order in which they stand. Counts keep the constraints of a
+-- problem that was read within `most_count`.
+pub record ItemReadings : Type 0 where
   pub problem : Reads problem_read problem_and_count
-  pub few_constraints : (r s : Rest) (x : Problem × ℕ) → problem_read r ≡ Ok (x, s) → length x.0.constraints ≤ most_count
+  pub few_constraints : (r s : Rest) (x : Problem × ℕ) → problem_read r ≡ Ok (x, s)
+      → length x.0.constraints ≤ most_count
   pub solution : (p : Problem) → Reads (solution_read p) (solution (variables p))
-  pub derivations : (p : Problem) → length p.constraints ≤ most_count → Reads (derivations_read p) (derivation_count p)
+  pub derivations : (p : Problem) → length p.constraints ≤ most_count
+      → Reads (derivations_read p) (derivation_count p)
   pub derivation : (p : Problem) → Reads (derivation_read p) (derivation p)
   pub end : (r : Rest) → (end_read r ≡ Ok tt) ↔ EndsHere r
 
@@ -103,14 +127,16 @@ pub record Items : Type 0 where
 
 -- A certificate is read exactly where all tokens spell it, and no failure follows them.
 abbrev pub ReadsCertificates : Type 0
-ReadsCertificates = (r : Rest) (c : Certificate) → (certificate_read r ≡ Ok c) ↔ ((r.fails ≡ false) × SpelledBy (map (λ t. t.bytes) r.tokens) c)
+ReadsCertificates = (r : Rest) (c : Certificate)
+    → (certificate_read r ≡ Ok c) ↔ ((r.fails ≡ false) × SpelledBy (map (λ t. t.bytes) r.tokens) c)
 
 -- what there is to read of a text that no failure cuts off
 abbrev pub whole_text : List ℕ → Rest
 whole_text bytes = record { tokens = text_tokens bytes; fails = false; length = length bytes }
 
 abbrev pub ReadsTexts : Type 0
-ReadsTexts = (bytes : List ℕ) (c : Certificate) → (certificate_read (whole_text bytes) ≡ Ok c) ↔ Spells bytes c
+ReadsTexts = (bytes : List ℕ) (c : Certificate)
+    → (certificate_read (whole_text bytes) ≡ Ok c) ↔ Spells bytes c
 
 abbrev pub OneCertificate : Type 0
 OneCertificate = (bytes : List ℕ) (c d : Certificate) → Spells bytes c → Spells bytes d → c ≡ d

@@ -10,21 +10,10 @@ use Rattle.vipr_spec.specs.Certificate.{NeedsGoal, IsGoal, peak}
 use Rattle.vipr_spec.specs.Causes as cause
 use Rattle.vipr_spec.specs.Reading.{Rest, Fault, refused, unread, Read, ◌>>=◌, problem_read}
 use Rattle.vipr_spec.specs.Reading.{solution_read, derivations_read, derivation_read, end_read}
-use Rattle.vipr_spec.specs.Tests.{Detail, none, Explains}
--- the words of Steps and Tests
-pub use Rattle.vipr_spec.specs.Steps.{StepTest, earlier, live, assumed, suitable, fitting}
-pub use Rattle.vipr_spec.specs.Steps.{roundable}
-pub use Rattle.vipr_spec.specs.Steps.{split, listed, by_sum, by_rounding, by_constraint, by_cutoff}
-pub use Rattle.vipr_spec.specs.Steps.{step_cause, reference_tests, sum_tests, step_tests}
-pub use Rattle.vipr_spec.specs.Steps.{FirstFailing}
-unfoldable pub use Rattle.vipr_spec.specs.Steps.{entry_tests}
-pub use Rattle.vipr_spec.specs.Tests.{SolutionTest, whole_at, value_fits, holds, objective_fits}
-pub use Rattle.vipr_spec.specs.Tests.{given_at, PassesSolution, solution_cause, solution_tests}
-pub use Rattle.vipr_spec.specs.Tests.{Test}
-pub use Rattle.vipr_spec.specs.Tests.{spelled, of_solution, meets_primal, of_step, meets_dual}
-pub use Rattle.vipr_spec.specs.Tests.{Passes}
-unfoldable pub use Rattle.vipr_spec.specs.Tests.{numbered}
-pub use Rattle.vipr_spec.specs.Tests.{tests_of_solution, tests_of_derivation}
+use Rattle.vipr_spec.specs.Steps.{step_cause, FirstFailing}
+use Rattle.vipr_spec.specs.Tests.{solution_cause, Test, spelled, of_solution, meets_primal, of_step}
+use Rattle.vipr_spec.specs.Tests.{meets_dual, Passes, numbered, tests_of_solution}
+use Rattle.vipr_spec.specs.Tests.{tests_of_derivation, Detail, none, Explains}
 
 -- ---- a text, item by item
 

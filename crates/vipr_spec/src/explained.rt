@@ -72,7 +72,8 @@ pub fn solutions_explained()
         (ss : List (Named Row)) (r : Rest)
         (n : ℕ) (s : Rest) → MeetsPrimal p ss p.claim → derivations_read p r ≡ Ok (n, s)
         → Explained P (solutions_from p ss 0 r) a x
-        ↔ Explained P (derivations_from (record { problem = p; solutions = ss; derivations = [] }) n s) a x }
+        ↔ Explained P
+        (derivations_from (record { problem = p; solutions = ss; derivations = [] }) n s) a x }
 {}
 
 /// Then the derivations, each tested in the certificate before it. The detail of one that fails is

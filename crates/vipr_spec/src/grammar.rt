@@ -3,14 +3,17 @@
 ghost use Rattle.vipr_spec.specs.Grammar.{Spells};
 ghost use Rattle.vipr_spec.specs.FaultLaws.{ItemFaults};
 ghost use Rattle.vipr_spec.specs.ExampleText.{example_text, example_certificate};
-ghost use Rattle.vipr_spec.specs.GrammarLaws.{ReadsNaturals, KindsOfToken, KindsOfNumber, PartsOfItems, Items, ReadsCertificates, ReadsTexts, OneCertificate};
+ghost use Rattle.vipr_spec.specs.GrammarLaws.{ReadsNaturals, KindsOfToken, KindsOfNumber};
+ghost use Rattle.vipr_spec.specs.GrammarLaws.{PartsOfItems, ItemReadings, ReadsCertificates};
+ghost use Rattle.vipr_spec.specs.GrammarLaws.{ReadsTexts, OneCertificate};
 
 /// Digits write the number that they spell, and nothing else writes one.
 pub fn naturals()
     ensures { ReadsNaturals }
 {}
 
-/// A token of a kind means what the grammar says that it spells, and other tokens are none of that kind.
+/// A token of a kind means what the grammar says that it spells, and other tokens are none of that
+/// kind.
 pub fn kinds_of_token()
     ensures words { KindsOfToken }
     ensures numbers { KindsOfNumber }
@@ -23,7 +26,7 @@ pub fn parts_of_items()
 
 /// An item is read exactly where the next tokens spell it, whatever follows them.
 pub fn items()
-    ensures { Items }
+    ensures { ItemReadings }
 {}
 
 /// A certificate is read exactly where the tokens of the text spell it: so it was read only if the
@@ -43,8 +46,8 @@ pub fn example()
     ensures { Spells example_text example_certificate }
 {}
 
-/// What is refused at a token is refused whatever follows it, and reading fails for want of more only
-/// where a failure follows.
+/// What is refused at a token is refused whatever follows it, and reading fails for want of more
+/// only where a failure follows.
 pub fn faults_stand()
     ensures { ItemFaults }
 {}

@@ -3,8 +3,8 @@ ghost use Rattle.std.specs.Prelude.{◌≡◌, ◌↔◌, ℕ, ◌≤◌, List, 
 ghost use Rattle.vipr_spec.specs.Fraction.{ℚ, IsBounded};
 ghost use Rattle.vipr_spec.specs.Number.{SpellsNumber, number_read, number_text};
 
-/// What is read as a number is what the bytes spell, no bytes spell two numbers, and what is written
-/// spells the number.
+/// What is read as a number is what the bytes spell, no bytes spell two numbers, and what is
+/// written spells the number.
 pub fn spelled_numbers()
     ensures read { (bs : List ℕ) (x : ℚ) → (number_read bs ≡ Ok x) ↔ SpellsNumber bs x }
     ensures one { (bs : List ℕ) (x y : ℚ) → SpellsNumber bs x → SpellsNumber bs y → x ≡ y }

@@ -9,7 +9,8 @@ ghost use Rattle.vipr_spec.specs.GrammarLaws.{whole_text};
 ghost use Rattle.vipr_spec.specs.Soundness.{IsShown};
 ghost use Rattle.vipr_spec.specs.Steps.{FirstFailing};
 ghost use Rattle.vipr_spec.specs.Tests.{Test, Passes};
-ghost use Rattle.vipr_spec.specs.Verdict.{found_in, Report, Reports, Refusal, Answer, refuses, verified};
+ghost use Rattle.vipr_spec.specs.Verdict.{found_in, Report, Reports, Refusal, Answer, refuses};
+ghost use Rattle.vipr_spec.specs.Verdict.{verified};
 ghost use Rattle.vipr_spec.specs.Verdict.{IsAnswer};
 ghost use Rattle.vipr_spec.specs.RefusalLaws.{IsRefusedBy};
 ghost use Rattle.vipr_spec.specs.Causes as cause;
@@ -17,13 +18,18 @@ ghost use Rattle.vipr_spec.specs.Causes as cause;
 /// No test fails first exactly where all pass, and only one test fails first. Of two lists, one
 /// after the other, it is that of the first list, or that of the second if all of the first pass.
 pub fn first_failing()
-    ensures none { (P : Profile) (c : Certificate) (ts : List Test) → FirstFailing (Passes P c) ts None ↔ All (Passes P c) ts }
-    ensures unique { (P : Profile) (c : Certificate) (ts : List Test) (f g : Option Test) → FirstFailing (Passes P c) ts f → FirstFailing (Passes P c) ts g → f ≡ g }
+    ensures none { (P : Profile) (c : Certificate) (ts : List Test)
+        → FirstFailing (Passes P c) ts None ↔ All (Passes P c) ts }
+    ensures unique { (P : Profile) (c : Certificate) (ts : List Test) (f g : Option Test)
+        → FirstFailing (Passes P c) ts f → FirstFailing (Passes P c) ts g → f ≡ g }
     ensures joined { (P : Profile) (c : Certificate) (a b : List Test) (f : Option Test)
-        → FirstFailing (Passes P c) (a ++ b) f ↔ ((FirstFailing (Passes P c) a None × FirstFailing (Passes P c) b f) ⊎ ((t : Test) × (f ≡ Some t) × FirstFailing (Passes P c) a (Some t))) }
+        → FirstFailing (Passes P c) (a ++ b) f
+        ↔ ((FirstFailing (Passes P c) a None × FirstFailing (Passes P c) b f)
+        ⊎ ((t : Test) × (f ≡ Some t) × FirstFailing (Passes P c) a (Some t))) }
 {}
 
-/// What is refused before the end of the text is refused whatever follows the tokens up to the place.
+/// What is refused before the end of the text is refused whatever follows the tokens up to the
+/// place.
 pub fn refusals_stand()
     ensures { (P : Profile) (r : Rest) (x : Refusal) → IsAnswer P r (refuses x)
         → x.cause ≢ cause.truncated → x.cause ≢ cause.no_proof → IsRefusedBy P found_in r x }
@@ -34,15 +40,19 @@ pub fn texts_are_answered()
     ensures { (P : Profile) (r : Rest) → ¬ ¬ ((a : Answer) × IsAnswer P r a) }
 {}
 
-/// A text is verified exactly where it spells a certificate that is a proof, and what is reported is
-/// that of the certificate. So whatever is answered for such a text is that it is verified. What the certificate claims is then true, over all points.
+/// A text is verified exactly where it spells a certificate that is a proof, and what is reported
+/// is that of the certificate. So whatever is answered for such a text is that it is verified. What
+/// the certificate claims is then true, over all points.
 pub fn verified_texts()
     ensures read { (P : Profile) (r : Rest) (report : Report) → IsAnswer P r (verified report)
         ↔ ((c : Certificate) × (certificate_read r ≡ Ok c) × IsProof P c × Reports P c report) }
-    ensures spelled { (P : Profile) (bytes : List ℕ) (report : Report) → IsAnswer P (whole_text bytes) (verified report)
+    ensures spelled { (P : Profile) (bytes : List ℕ) (report : Report)
+        → IsAnswer P (whole_text bytes) (verified report)
         ↔ ((c : Certificate) × Spells bytes c × IsProof P c × Reports P c report) }
-    ensures proved { (P : Profile) (r : Rest) (c : Certificate) (a : Answer) → certificate_read r ≡ Ok c → IsProof P c → IsAnswer P r a
+    ensures proved { (P : Profile) (r : Rest) (c : Certificate) (a : Answer)
+        → certificate_read r ≡ Ok c → IsProof P c → IsAnswer P r a
         → (report : Report) × Reports P c report × (a ≡ verified report) }
-    ensures shown { (P : Profile) (bytes : List ℕ) (report : Report) → IsAnswer P (whole_text bytes) (verified report)
+    ensures shown { (P : Profile) (bytes : List ℕ) (report : Report)
+        → IsAnswer P (whole_text bytes) (verified report)
         → (c : Certificate) × Spells bytes c × IsShown c.problem c.solutions c.problem.claim }
 {}

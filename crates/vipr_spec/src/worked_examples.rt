@@ -4,7 +4,7 @@ ghost use Rattle.std.specs.Prelude.{◌^◌, ◌-◌, pos};
 ghost use Rattle.vipr_spec.specs.Fraction.{whole, IsBounded};
 ghost use Rattle.vipr_spec.specs.Constraint.{Profile};
 ghost use Rattle.vipr_spec.specs.Certificate.{IsProof};
-ghost use Rattle.vipr_spec.specs.Examples.{example, assumed, dropped, too_large, optimum};
+ghost use Rattle.vipr_spec.specs.Examples.{example, assumed, dropped_example, too_large, optimum};
 
 /// `x >= 1` and `x <= 0` are proved to have no point.
 pub fn one_is_a_proof()
@@ -18,7 +18,7 @@ pub fn one_has_each_reason()
 
 /// A constraint that is dropped at a step is not there at the next one.
 pub fn dropped_ones_are_gone()
-    ensures { (P : Profile) → ¬ IsProof P dropped }
+    ensures { (P : Profile) → ¬ IsProof P dropped_example }
 {}
 
 /// 2^127 - 1 fits, and a sum that is 2^127 refuses the certificate.

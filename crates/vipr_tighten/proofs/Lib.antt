@@ -1,5 +1,8 @@
-pub mod Marking
-pub mod Referring
-pub mod Entries
-pub mod Renumbering
-pub mod Tightening
+mod Marking
+mod Referring
+mod Entries
+mod Renumbering
+mod Tightening
+mod Reading
+mod Held
+mod Outcomes

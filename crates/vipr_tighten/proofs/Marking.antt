@@ -11,8 +11,8 @@ use Rattle.vipr_spec.specs.Reading.{is_nonzero}
 use Rattle.vipr_spec.specs.Certificate.{asm, Derivation}
 use Rattle.vipr_spec.specs.Tightened.{refers_to, is_the_goal, is_marked}
 use Rattle.vipr_spec.specs.Laws.{marked_down}
-use Rattle.vipr_items.specs.Items.{reason_of, derivation_of}
-use Rattle.vipr_items.specs.declared.items.Derivation.{Derivation as Stored}
+use Rattle.vipr_cert.specs.Items.{reason_of, derivation_of}
+use Rattle.vipr_cert.specs.declared.items.Derivation.{Derivation as Stored}
 use Rattle.vipr_tighten.specs.Passes.{has_mark, MarksAlso, AreMarks}
 
 -- ---- tests, one after the other

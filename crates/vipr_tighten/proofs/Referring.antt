@@ -8,8 +8,8 @@ use Rattle.vipr_spec.specs.Fraction.{ℚ}
 use Rattle.vipr_spec.specs.Reading.{is_nonzero}
 use Rattle.vipr_spec.specs.Certificate.{Derivation}
 use Rattle.vipr_spec.specs.Tightened.{referred_by}
-use Rattle.vipr_items.specs.Items.{derivation_of}
-use Rattle.vipr_items.specs.declared.items.Derivation.{Derivation as Stored}
+use Rattle.vipr_cert.specs.Items.{derivation_of}
+use Rattle.vipr_cert.specs.declared.items.Derivation.{Derivation as Stored}
 
 unequal : (i n : ℕ) → ¬ (i ≡ n) → nat_eq i n ≡ false
 unequal i n h = by (nat_eq i n) refl

@@ -6,10 +6,10 @@ use Rattle.vipr_spec.specs.Shape.{CanWrite}
 use Rattle.vipr_spec.specs.Tightened.{kept_derivations, tightened}
 use Rattle.vipr_spec.specs.Laws.{can_write}
 use Rattle.vipr_linear.specs.declared.row.Solution.{Solution}
-use Rattle.vipr_items.specs.Earlier.{NameEarlierFrom}
-use Rattle.vipr_items.specs.Items.{derivation_of, certificate_with}
-use Rattle.vipr_items.specs.declared.items.Named.{Named}
-use Rattle.vipr_items.specs.declared.items.Derivation.{Derivation}
+use Rattle.vipr_cert.specs.Earlier.{NameEarlierFrom}
+use Rattle.vipr_cert.specs.Items.{derivation_of, certificate_with}
+use Rattle.vipr_cert.specs.declared.items.Named.{Named}
+use Rattle.vipr_cert.specs.declared.items.Derivation.{Derivation}
 use Rattle.vipr_tighten.specs.Passes.{AreMarks, kept_by}
 use Rattle.vipr_tighten.proofs.Renumbering.{earlier_all, tightened_is}
 

@@ -1,2 +1,5 @@
 -- what the contracts cite
 pub mod Passes
+pub mod Keeping
+pub mod Dropping
+pub mod Tightens

@@ -14,7 +14,8 @@ MarksAlso first passes old new =
     (k : ℕ) → k < length old → has_mark new k ≡ (has_mark old k || passes (first + k))
 
 -- what the goal needs has a mark, and nothing else
-pub record AreMarks (goal : Option ℕ) (first : ℕ) (ds : List Derivation) (marks : List Bool) : Type 0 where
+pub record AreMarks (goal : Option ℕ) (first : ℕ) (ds : List Derivation)
+    (marks : List Bool) : Type 0 where
   pub size : length marks ≡ length ds
   pub each : (k : ℕ) → k < length ds → has_mark marks k ≡ is_marked goal first ds (first + k)
 

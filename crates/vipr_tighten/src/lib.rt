@@ -1,13 +1,19 @@
 //! Tightens certificates: what the goal needs stays, renumbered.
 //!
-//! One pass from the end marks the derivations that the goal needs. One pass from the front gives them
-//! their new indices and last references. Rows are moved and never copied.
+//! One pass from the end marks the derivations that the goal needs. One pass from the front gives
+//! them their new indices and last references. Rows are moved and never copied.
 #![tactic(auto)]
 
+mod certificate;
 mod needed;
+mod outcome;
+mod peak;
+mod proof;
 mod renumber;
 #[cfg(test)]
 mod tests;
-mod tighten;
+mod whole;
 
-pub use tighten::tighten_certificate;
+pub use certificate::tighten_certificate;
+pub use outcome::{Outcome, TightenFault};
+pub use whole::tighten;

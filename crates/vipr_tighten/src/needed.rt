@@ -4,12 +4,12 @@ ghost use Rattle.std.specs.List.{list_any};
 ghost use Rattle.std.specs.Ordering.{int_eq};
 ghost use Rattle.vipr_spec.specs.Reading.{is_nonzero};
 ghost use Rattle.vipr_spec.specs.Tightened.{refers_to};
-ghost use Rattle.vipr_items.specs.Items.{reason_of, derivation_of};
+ghost use Rattle.vipr_cert.specs.Items.{reason_of, derivation_of};
 ghost use Rattle.vipr_tighten.specs.Passes.{MarksAlso, AreMarks};
 
 use std::alloc::{AllocError, Global};
+use vipr_cert::{Derivation, Reason};
 use vipr_frac::Frac;
-use vipr_items::{Derivation, Reason};
 
 /// For each derivation whether the goal needs it. The first derivation has the index `first`.
 pub(crate) fn needed(

@@ -6,17 +6,17 @@ ghost use Rattle.vipr_spec.specs.Certificate.{NamesEarlier};
 ghost use Rattle.vipr_spec.specs.Reading.{is_nonzero, most_count};
 ghost use Rattle.vipr_spec.specs.Tightened.{refers_to, renumbered_entries, renumbered};
 ghost use Rattle.vipr_spec.specs.Tightened.{with_new_indices, kept_derivations, referred_by};
-ghost use Rattle.vipr_items.specs.Earlier.{NameEarlierFrom};
-ghost use Rattle.vipr_items.specs.Items.{reason_of, derivation_of};
+ghost use Rattle.vipr_cert.specs.Earlier.{NameEarlierFrom};
+ghost use Rattle.vipr_cert.specs.Items.{reason_of, derivation_of};
 ghost use Rattle.vipr_tighten.specs.Passes.{kept_by, index_by};
 
 use crate::needed::is_zero;
 use std::alloc::{AllocError, Global};
+use vipr_cert::{Derivation, Reason};
 use vipr_frac::Frac;
-use vipr_items::{Derivation, Reason};
 
-/// The derivations with a mark, in their order, under their new indices and with their last references.
-/// The first derivation has the index `first`.
+/// The derivations with a mark, in their order, under their new indices and with their last
+/// references. The first derivation has the index `first`.
 pub(crate) fn renumber(
     alloc: Global,
     derivations: Vec<Derivation>,

@@ -1,4 +1,6 @@
 //! Certificates as texts, and what they become.
+mod texts;
+
 use crate::tighten_certificate;
 use std::alloc::Global;
 use std::process::Abort;

@@ -7,7 +7,7 @@ use Rattle.std.specs.FinSet.{contains-from_list_nat}
 use Rattle.vipr_spec.specs.Gcd.{gcd}
 use Rattle.vipr_spec.specs.Fraction.{over, whole}
 use Rattle.vipr_write.specs.Canonical.{canonical_text}
-use Rattle.vipr_write.specs.Example.{nothing, second, both, example, example_text}
+use Rattle.vipr_write.specs.Example.{nothing, second, two_terms, sample, sample_text}
 
 no_entries : entries nothing ≡ []
 unfolding nothing
@@ -17,10 +17,10 @@ one_entry : entries second ≡ (1, whole (pos 1)) ∷ []
 unfolding second
 one_entry = entries-from_sorted nat_cmp ((1, whole (pos 1)) ∷ []) tt
 
-two_entries : entries both ≡ (0, over (pos 2) 4) ∷ (1, whole (negsuc 2)) ∷ []
-unfolding both
+two_entries : entries two_terms ≡ (0, over (pos 2) 4) ∷ (1, whole (negsuc 2)) ∷ []
+unfolding two_terms
 two_entries = entries-from_sorted nat_cmp ((0, over (pos 2) 4) ∷ (1, whole (negsuc 2)) ∷ []) tt
 
-pub example_is : canonical_text example ≡ example_text
+pub example_is : canonical_text sample ≡ sample_text
 unfolding over gcd digits
 example_is = simp (no_entries, one_entry, two_entries, contains-from_list_nat)

@@ -1,12 +1,12 @@
-pub mod Appended
-pub mod Parts
-pub mod LineTokens
-pub mod WordTokens
-pub mod RowEntries
-pub mod SectionTokens
-pub mod WholeText
-pub mod ExampleText
-pub mod SpelledNumbers
-pub mod SpelledRows
-pub mod SpelledTokens
-pub mod SpelledSections
+mod Appended
+mod Parts
+mod LineTokens
+mod WordTokens
+mod RowEntries
+mod SectionTokens
+mod WholeText
+mod ExampleText
+mod SpelledNumbers
+mod SpelledRows
+mod SpelledTokens
+mod SpelledSections

@@ -6,8 +6,7 @@ use Rattle.std.proofs.lemmas.List.Elements.{All-head, All-tail}
 use Rattle.std.proofs.Math.Seq.{take-append_seam, drop-append_seam, get_or-append_right}
 use Rattle.std.proofs.Math.ListN.{get_or-append}
 use Rattle.vipr_spec.specs.Tokens.{Token, is_white, tokens_from, tokens_after_front, text_tokens, Begins, IsWhite, IsRun, IsToken}
-use Rattle.vipr_spec.proofs.TokenLaws.{token_whole}
-use Rattle.vipr_spec.proofs.FirstFailing.{all_parts}
+use Rattle.vipr_spec.proofs.Laws.{token_whole, all_parts}
 use Rattle.vipr_write.specs.Canonical.{spaced, line_text, lines_text}
 
 abbrev pub bytes_of : List Token → List (List ℕ)

@@ -17,7 +17,7 @@ use Rattle.vipr_spec.specs.Fraction.{ℚ, zero_ℚ}
 use Rattle.vipr_spec.specs.Constraint.{Row, at, IsInteger, NamesBelow}
 use Rattle.vipr_spec.specs.Certificate.{Problem, variables, integer_variables}
 use Rattle.vipr_spec.specs.Reading.{is_nonzero, row_of}
-use Rattle.vipr_spec.proofs.Fractions.{is_same, is_self, is_zero}
+use Rattle.vipr_spec.proofs.Laws.{is_same, is_self, is_zero}
 
 -- ---- numbers that rise
 

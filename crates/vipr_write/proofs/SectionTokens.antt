@@ -13,7 +13,7 @@ use Rattle.vipr_spec.specs.Reading.{most_count}
 use Rattle.vipr_spec.specs.Shape.{ConstraintShape, ProblemShape, SolutionShape, ReasonShape, DerivationShape, RowFits, ConstraintFits, ClaimFits, ProblemFits, EntryFits, ReasonFits, DerivationFits}
 use Rattle.vipr_spec.specs.Grammar as grammar
 use Rattle.vipr_spec.specs.Grammar.{SpellsCount, SpellsVariable, SpellsSense, SpellsDirection, SpellsBound, SpellsLast, word, one, ◌then◌, each}
-use Rattle.vipr_spec.proofs.NumberReads.{text_spelled}
+use Rattle.vipr_spec.proofs.Laws.{text_spelled}
 use Rattle.vipr_write.specs.Canonical.{pair_words, vector_words, sense_word, direction_word, bound_word, last_word, constraint_words, given_words, claim_words, solution_words, reason_words, derivation_words, problem_lines, solutions_lines, derivations_lines}
 use Rattle.vipr_write.proofs.LineTokens.{words_of}
 use Rattle.vipr_write.proofs.RowEntries.{row_entries, set_members}

@@ -10,7 +10,7 @@ use Rattle.std.specs.Ordering.{nat_cmp}
 use Rattle.vipr_spec.specs.Fraction.{ℚ, zero_ℚ, IsBounded}
 use Rattle.vipr_spec.specs.Reading.{is_nonzero, row_of}
 use Rattle.vipr_spec.specs.Shape.{RowFits}
-use Rattle.vipr_spec.proofs.PairRows.{not_zero}
+use Rattle.vipr_spec.proofs.Laws.{not_zero}
 
 -- ---- the coefficients
 module _ (P : ℚ → Type 0) where

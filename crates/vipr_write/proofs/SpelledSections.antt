@@ -10,7 +10,7 @@ use Rattle.vipr_spec.specs.Grammar.{SpellsCount, SpellsVariable, SpellsSense, Sp
 use Rattle.vipr_spec.specs.Shape.{ReasonShape, DerivationShape, RowFits, ClaimFits, EntryFits, ReasonFits, DerivationFits, CanWriteProblem, CanWrite}
 use Rattle.vipr_write.proofs.SpelledNumbers.{number_bounded, bound_bounded}
 use Rattle.vipr_write.proofs.SpelledRows.{row_fits}
-use Rattle.vipr_spec.proofs.PairRows.{row_below, set_below}
+use Rattle.vipr_spec.proofs.Laws.{row_below, set_below}
 use Rattle.vipr_write.proofs.SpelledTokens.{Gives, gives_nothing, gives_word, gives_one, gives_then, gives_each}
 
 -- ---- one token

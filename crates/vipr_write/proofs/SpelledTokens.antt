@@ -4,8 +4,7 @@ use Rattle.std.proofs.lemmas.List.Elements.{All-nil, All-cons, All-head, All-map
 use Rattle.vipr_spec.specs.Tokens.{Token, text_tokens, IsRun, IsToken, AreSpread}
 use Rattle.vipr_spec.specs.Reading.{most_bytes}
 use Rattle.vipr_spec.specs.Grammar.{word, one, ◌then◌, each}
-use Rattle.vipr_spec.proofs.FirstFailing.{all_parts}
-use Rattle.vipr_spec.proofs.TokenSplit.{split_is}
+use Rattle.vipr_spec.proofs.Laws.{all_parts, split_is}
 
 -- ---- the tokens of a text
 spread_runs : (offset : ℕ) (text : List ℕ) (ts : List Token) → AreSpread offset text ts → All (λ t. IsRun t.bytes) ts

@@ -6,7 +6,7 @@ use Rattle.vipr_spec.specs.Tokens.{text_tokens}
 use Rattle.vipr_spec.specs.Grammar as grammar
 use Rattle.vipr_spec.specs.Grammar.{◌then◌, SpelledBy, Spells}
 use Rattle.vipr_spec.specs.Shape.{CanWrite}
-use Rattle.vipr_spec.proofs.GrammarWhole.{one_certificate}
+use Rattle.vipr_spec.proofs.Laws.{one_certificate}
 use Rattle.vipr_write.specs.Canonical.{problem_lines, solutions_lines, derivations_lines, certificate_lines, canonical_text}
 use Rattle.vipr_write.specs.Laws.{SpellsItself}
 use Rattle.vipr_write.proofs.LineTokens.{bytes_of, words_of, lines_tokens, no_front}

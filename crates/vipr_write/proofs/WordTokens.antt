@@ -13,7 +13,7 @@ use Rattle.vipr_spec.specs.Number.{IsSign, under, SpellsNumber, number_text}
 use Rattle.vipr_spec.specs.Tokens.{is_white, IsToken}
 use Rattle.vipr_spec.specs.Reading.{most_count}
 use Rattle.vipr_spec.specs.Grammar.{SpellsNatural, SpellsCount, SpellsVariable, word, one, ◌then◌, each}
-use Rattle.vipr_spec.proofs.NumberReads.{text_spelled, text_short}
+use Rattle.vipr_spec.proofs.Laws.{text_spelled, text_short}
 
 -- ---- tokens
 

@@ -1,11 +1,15 @@
--- The canonical text of a certificate: its lines, each of them words with a space between them and a line feed at the end
-use Rattle.std.specs.Prelude.{ℕ, List, [], ◌∷◌, ◌++◌, length, map, flat_map, Option, Some, None, codes}
+-- The canonical text of a certificate: its lines, each of them words with a space between them and
+-- a line feed at the end
+use Rattle.std.specs.Prelude.{ℕ, List, [], ◌∷◌, ◌++◌, length, map, flat_map, Option, Some, None}
+use Rattle.std.specs.Prelude.{codes}
 use Rattle.std.specs.FinMap.{entries}
 use Rattle.std.specs.Fmt.{decimal}
 use Rattle.vipr_spec.specs.Fraction.{ℚ}
 use Rattle.vipr_spec.specs.Number.{number_text}
 use Rattle.vipr_spec.specs.Constraint.{Sense, at_most, equal, at_least, Row, Constraint}
-use Rattle.vipr_spec.specs.Certificate.{Name, Named, Direction, minimum, maximum, Claim, infeasible, range, Problem, variables, integer_variables, Reason, asm, lin, rnd, uns, sol, Derivation, Certificate}
+use Rattle.vipr_spec.specs.Certificate.{Name, Named, Direction, minimum, maximum, Claim, infeasible}
+use Rattle.vipr_spec.specs.Certificate.{range, Problem, variables, integer_variables, Reason, asm}
+use Rattle.vipr_spec.specs.Certificate.{lin, rnd, uns, sol, Derivation, Certificate}
 
 -- ---- words
 
@@ -47,7 +51,8 @@ given_words n = constraint_words n.name n.item
 
 abbrev pub claim_words : Claim → List (List ℕ)
 claim_words infeasible = codes "RTP" ∷ codes "infeas" ∷ []
-claim_words (range lower upper) = codes "RTP" ∷ codes "range" ∷ bound_word (codes "-inf") lower ∷ bound_word (codes "inf") upper ∷ []
+claim_words (range lower upper) = codes "RTP" ∷ codes "range" ∷ bound_word (codes "-inf") lower
+    ∷ bound_word (codes "inf") upper ∷ []
 
 abbrev pub solution_words : Named Row → List (List ℕ)
 solution_words s = s.name ∷ vector_words s.item
@@ -56,11 +61,13 @@ abbrev pub reason_words : Reason → List (List ℕ)
 reason_words asm = codes "asm" ∷ []
 reason_words (lin es) = codes "lin" ∷ counted_words es
 reason_words (rnd es) = codes "rnd" ∷ counted_words es
-reason_words (uns i1 l1 i2 l2) = codes "uns" ∷ decimal i1 ∷ decimal l1 ∷ decimal i2 ∷ decimal l2 ∷ []
+reason_words (uns i1 l1 i2 l2) = codes "uns" ∷ decimal i1 ∷ decimal l1 ∷ decimal i2 ∷ decimal l2
+    ∷ []
 reason_words sol = codes "sol" ∷ []
 
 abbrev pub derivation_words : Derivation → List (List ℕ)
-derivation_words d = constraint_words d.name d.stated ++ codes "{" ∷ (reason_words d.reason ++ codes "}" ∷ last_word d.last ∷ [])
+derivation_words d = constraint_words d.name d.stated ++ codes "{"
+    ∷ (reason_words d.reason ++ codes "}" ∷ last_word d.last ∷ [])
 
 -- ---- lines
 
@@ -72,13 +79,15 @@ abbrev pub variables_lines : Problem → List (List (List ℕ))
 variables_lines p =
     (codes "VER" ∷ codes "1.0" ∷ []) ∷
     heading (codes "VAR") (variables p) ∷ (map (λ name. name ∷ []) p.names ++
-    heading (codes "INT") (length (integer_variables p)) ∷ map (λ j. decimal j ∷ []) (integer_variables p))
+    heading (codes "INT") (length (integer_variables p))
+    ∷ map (λ j. decimal j ∷ []) (integer_variables p))
 
 abbrev pub problem_lines : Problem → List (List (List ℕ))
 problem_lines p =
     variables_lines p ++
     (codes "OBJ" ∷ direction_word p.direction ∷ []) ∷ vector_words p.objective ∷
-    (codes "CON" ∷ decimal (length p.constraints) ∷ decimal p.bound_count ∷ []) ∷ (map given_words p.constraints ++
+    (codes "CON" ∷ decimal (length p.constraints) ∷ decimal p.bound_count ∷ [])
+    ∷ (map given_words p.constraints ++
     claim_words p.claim ∷ [])
 
 abbrev pub solutions_lines : List (Named Row) → List (List (List ℕ))
@@ -88,7 +97,8 @@ abbrev pub derivations_lines : List Derivation → List (List (List ℕ))
 derivations_lines ds = heading (codes "DER") (length ds) ∷ map derivation_words ds
 
 abbrev pub certificate_lines : Certificate → List (List (List ℕ))
-certificate_lines c = problem_lines c.problem ++ (solutions_lines c.solutions ++ derivations_lines c.derivations)
+certificate_lines c = problem_lines c.problem
+    ++ (solutions_lines c.solutions ++ derivations_lines c.derivations)
 
 -- ---- bytes
 

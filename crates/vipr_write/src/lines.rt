@@ -2,8 +2,10 @@
 ghost use Rattle.std.specs.Prelude.{◌≡◌, ◌∷◌, ◌++◌, OnOk};
 ghost use Rattle.vipr_spec.specs.Certificate.{range, uns};
 ghost use Rattle.vipr_linear.specs.Constraint.{constraint_of};
-ghost use Rattle.vipr_write.specs.Canonical.{counted_words, constraint_words, given_words, claim_words, solution_words, reason_words, derivation_words, heading, spaced, line_text};
-ghost use Rattle.vipr_items.specs.Items.{named_of, solution_of, claim_of, reason_of, derivation_of};
+ghost use Rattle.vipr_write.specs.Canonical.{counted_words, constraint_words, given_words};
+ghost use Rattle.vipr_write.specs.Canonical.{claim_words, solution_words, reason_words};
+ghost use Rattle.vipr_write.specs.Canonical.{derivation_words, heading, spaced, line_text};
+ghost use Rattle.vipr_cert.specs.Items.{named_of, solution_of, claim_of, reason_of, derivation_of};
 ghost use Rattle.vipr_write.specs.Lines.{words_text};
 
 use crate::words::{
@@ -11,8 +13,8 @@ use crate::words::{
     append_word,
 };
 use std::alloc::AllocError;
+use vipr_cert::{Claim, Derivation, Name, Named, Reason};
 use vipr_frac::Frac;
-use vipr_items::{Claim, Derivation, Name, Named, Reason};
 use vipr_linear::{Constraint, Solution};
 
 /// A keyword and a count.
@@ -27,7 +29,8 @@ pub(crate) fn append_heading(text: &mut Vec<u8>, keyword: &[u8], n: usize) -> Re
 
 // The words of a constraint, with no line feed.
 fn append_stated(text: &mut Vec<u8>, name: &Name, constraint: &Constraint) -> Result<(), AllocError>
-    ensures { OnOk result (text.new.items ≡ text.old.items ++ words_text (constraint_words name.now (constraint_of constraint.now))) }
+    ensures { OnOk result (text.new.items ≡ text.old.items
+        ++ words_text (constraint_words name.now (constraint_of constraint.now))) }
 {
     text.extend_from_slice(name.as_bytes())?;
     append_sense(text, constraint.sense)?;
@@ -40,7 +43,8 @@ pub(crate) fn append_constraint(
     text: &mut Vec<u8>,
     constraint: &Named<Constraint>,
 ) -> Result<(), AllocError>
-    ensures { OnOk result (text.new.items ≡ text.old.items ++ line_text (given_words (named_of constraint_of constraint.now))) }
+    ensures { OnOk result (text.new.items ≡ text.old.items
+        ++ line_text (given_words (named_of constraint_of constraint.now))) }
 {
     append_stated(text, &constraint.name, &constraint.item)?;
     text.push(b'\n')?;
@@ -53,7 +57,8 @@ fn append_range(
     lower: Option<Frac>,
     upper: Option<Frac>,
 ) -> Result<(), AllocError>
-    ensures { OnOk result (text.new.items ≡ text.old.items ++ line_text (claim_words (range lower upper))) }
+    ensures { OnOk result
+        (text.new.items ≡ text.old.items ++ line_text (claim_words (range lower upper))) }
 {
     text.extend_from_slice(b"RTP range")?;
     append_bound(text, b"-inf", lower)?;
@@ -64,7 +69,8 @@ fn append_range(
 
 /// What is claimed.
 pub(crate) fn append_claim(text: &mut Vec<u8>, claim: Claim) -> Result<(), AllocError>
-    ensures { OnOk result (text.new.items ≡ text.old.items ++ line_text (claim_words (claim_of claim))) }
+    ensures { OnOk result
+        (text.new.items ≡ text.old.items ++ line_text (claim_words (claim_of claim))) }
 {
     match claim {
         Claim::Infeas => text.extend_from_slice(b"RTP infeas\n"),
@@ -77,7 +83,8 @@ pub(crate) fn append_solution(
     text: &mut Vec<u8>,
     solution: &Named<Solution>,
 ) -> Result<(), AllocError>
-    ensures { OnOk result (text.new.items ≡ text.old.items ++ line_text (solution_words (solution_of solution.now))) }
+    ensures { OnOk result
+        (text.new.items ≡ text.old.items ++ line_text (solution_words (solution_of solution.now))) }
 {
     text.extend_from_slice(solution.name.as_bytes())?;
     append_counted(text, solution.item.0.entries())?;
@@ -87,7 +94,8 @@ pub(crate) fn append_solution(
 
 // The reason of a split.
 fn append_split(text: &mut Vec<u8>, i1: u32, l1: u32, i2: u32, l2: u32) -> Result<(), AllocError>
-    ensures { OnOk result (text.new.items ≡ text.old.items ++ spaced (reason_words (uns i1 l1 i2 l2))) }
+    ensures { OnOk result
+        (text.new.items ≡ text.old.items ++ spaced (reason_words (uns i1 l1 i2 l2))) }
 {
     append_word(text, b"uns")?;
     append_index(text, i1 as usize)?;
@@ -98,7 +106,8 @@ fn append_split(text: &mut Vec<u8>, i1: u32, l1: u32, i2: u32, l2: u32) -> Resul
 
 // The keyword and the entries of a sum.
 fn append_sum(text: &mut Vec<u8>, keyword: &[u8], entries: &[(u32, Frac)]) -> Result<(), AllocError>
-    ensures { OnOk result (text.new.items ≡ text.old.items ++ spaced (keyword.now ∷ counted_words entries.now)) }
+    ensures { OnOk result
+        (text.new.items ≡ text.old.items ++ spaced (keyword.now ∷ counted_words entries.now)) }
 {
     append_word(text, keyword)?;
     append_counted(text, entries)
@@ -106,7 +115,8 @@ fn append_sum(text: &mut Vec<u8>, keyword: &[u8], entries: &[(u32, Frac)]) -> Re
 
 // Why a derived constraint holds.
 fn append_reason(text: &mut Vec<u8>, reason: &Reason) -> Result<(), AllocError>
-    ensures { OnOk result (text.new.items ≡ text.old.items ++ spaced (reason_words (reason_of reason.now))) }
+    ensures { OnOk result
+        (text.new.items ≡ text.old.items ++ spaced (reason_words (reason_of reason.now))) }
 {
     match reason {
         Reason::Asm => append_word(text, b"asm"),
@@ -122,7 +132,8 @@ pub(crate) fn append_derivation(
     text: &mut Vec<u8>,
     derivation: &Derivation,
 ) -> Result<(), AllocError>
-    ensures { OnOk result (text.new.items ≡ text.old.items ++ line_text (derivation_words (derivation_of derivation.now))) }
+    ensures { OnOk result (text.new.items ≡ text.old.items
+        ++ line_text (derivation_words (derivation_of derivation.now))) }
 {
     append_stated(text, &derivation.name, &derivation.constraint)?;
     append_word(text, b"{")?;

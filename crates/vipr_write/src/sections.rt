@@ -3,8 +3,10 @@ ghost use Rattle.std.specs.Prelude.{◌≡◌, ◌∷◌, ◌++◌, [], map, cod
 ghost use Rattle.std.specs.Fmt.{decimal};
 ghost use Rattle.vipr_spec.specs.Grammar.{SpellsOnly};
 ghost use Rattle.vipr_linear.specs.Constraint.{constraint_of};
-ghost use Rattle.vipr_write.specs.Canonical.{direction_word, vector_words, variables_lines, problem_lines, solutions_lines, derivations_lines, line_text, lines_text, canonical_text};
-ghost use Rattle.vipr_items.specs.Items.{named_of, direction_of, solution_of, derivation_of};
+ghost use Rattle.vipr_write.specs.Canonical.{direction_word, vector_words, variables_lines};
+ghost use Rattle.vipr_write.specs.Canonical.{problem_lines, solutions_lines, derivations_lines};
+ghost use Rattle.vipr_write.specs.Canonical.{line_text, lines_text, canonical_text};
+ghost use Rattle.vipr_cert.specs.Items.{named_of, direction_of, solution_of, derivation_of};
 ghost use Rattle.vipr_write.specs.Lines.{integers_lines, constraints_heading, constraints_lines};
 
 use crate::lines::{
@@ -12,12 +14,13 @@ use crate::lines::{
 };
 use crate::words::{append_decimal, append_index, append_pairs};
 use std::alloc::{AllocError, Global};
-use vipr_items::{Certificate, Derivation, Goal, Name, Named, Problem};
+use vipr_cert::{Certificate, Derivation, Goal, Name, Named, Problem};
 use vipr_linear::{Constraint, Row, Solution};
 
 // The names, each on its line.
 fn append_names(text: &mut Vec<u8>, names: &[Name]) -> Result<(), AllocError>
-    ensures { OnOk result (text.new.items ≡ text.old.items ++ lines_text (map (λ name. name ∷ []) names.now)) }
+    ensures { OnOk result
+        (text.new.items ≡ text.old.items ++ lines_text (map (λ name. name ∷ []) names.now)) }
 {
     for name in names {
         text.extend_from_slice(name.as_bytes())?;
@@ -28,7 +31,8 @@ fn append_names(text: &mut Vec<u8>, names: &[Name]) -> Result<(), AllocError>
 
 // The indices, each on its line.
 fn append_indices(text: &mut Vec<u8>, indices: &[u32]) -> Result<(), AllocError>
-    ensures { OnOk result (text.new.items ≡ text.old.items ++ lines_text (map (λ j. decimal j ∷ []) indices.now)) }
+    ensures { OnOk result
+        (text.new.items ≡ text.old.items ++ lines_text (map (λ j. decimal j ∷ []) indices.now)) }
 {
     for index in indices {
         append_decimal(text, *index as usize)?;
@@ -48,7 +52,8 @@ fn append_integers(text: &mut Vec<u8>, indices: &[u32]) -> Result<(), AllocError
 
 // The version, the variables, and which of them are integer.
 fn append_variables(text: &mut Vec<u8>, problem: &Problem) -> Result<(), AllocError>
-    ensures { OnOk result (text.new.items ≡ text.old.items ++ lines_text (variables_lines problem.now)) }
+    ensures { OnOk result
+        (text.new.items ≡ text.old.items ++ lines_text (variables_lines problem.now)) }
 {
     let names = problem.names();
     text.extend_from_slice(b"VER 1.0\n")?;
@@ -59,7 +64,8 @@ fn append_variables(text: &mut Vec<u8>, problem: &Problem) -> Result<(), AllocEr
 
 // The line of the objective's direction.
 fn append_goal(text: &mut Vec<u8>, sense: Goal) -> Result<(), AllocError>
-    ensures { OnOk result (text.new.items ≡ text.old.items ++ line_text (codes "OBJ" ∷ direction_word (direction_of sense) ∷ [])) }
+    ensures { OnOk result (text.new.items ≡ text.old.items
+        ++ line_text (codes "OBJ" ∷ direction_word (direction_of sense) ∷ [])) }
 {
     match sense {
         Goal::Min => text.extend_from_slice(b"OBJ min\n"),
@@ -80,7 +86,8 @@ fn append_coefficients(text: &mut Vec<u8>, row: &Row) -> Result<(), AllocError>
 
 // How many constraints there are, and how many of them are bounds.
 fn append_counts(text: &mut Vec<u8>, count: usize, bound_count: usize) -> Result<(), AllocError>
-    ensures { OnOk result (text.new.items ≡ text.old.items ++ line_text (constraints_heading bound_count count)) }
+    ensures { OnOk result
+        (text.new.items ≡ text.old.items ++ line_text (constraints_heading bound_count count)) }
 {
     text.extend_from_slice(b"CON")?;
     append_index(text, count)?;
@@ -95,7 +102,8 @@ fn append_constraints(
     cons: &[Named<Constraint>],
     bound_count: u32,
 ) -> Result<(), AllocError>
-    ensures { OnOk result (text.new.items ≡ text.old.items ++ lines_text (constraints_lines (map (named_of constraint_of) cons.now) bound_count)) }
+    ensures { OnOk result (text.new.items ≡ text.old.items
+        ++ lines_text (constraints_lines (map (named_of constraint_of) cons.now) bound_count)) }
 {
     append_counts(text, cons.len(), bound_count as usize)?;
     for constraint in cons {
@@ -106,7 +114,8 @@ fn append_constraints(
 
 // What a certificate is about.
 fn append_problem(text: &mut Vec<u8>, problem: &Problem) -> Result<(), AllocError>
-    ensures { OnOk result (text.new.items ≡ text.old.items ++ lines_text (problem_lines problem.now)) }
+    ensures { OnOk result
+        (text.new.items ≡ text.old.items ++ lines_text (problem_lines problem.now)) }
 {
     append_variables(text, problem)?;
     append_goal(text, problem.sense())?;
@@ -117,7 +126,8 @@ fn append_problem(text: &mut Vec<u8>, problem: &Problem) -> Result<(), AllocErro
 
 // The listed solutions.
 fn append_solutions(text: &mut Vec<u8>, solutions: &[Named<Solution>]) -> Result<(), AllocError>
-    ensures { OnOk result (text.new.items ≡ text.old.items ++ lines_text (solutions_lines (map solution_of solutions.now))) }
+    ensures { OnOk result (text.new.items ≡ text.old.items
+        ++ lines_text (solutions_lines (map solution_of solutions.now))) }
 {
     append_heading(text, b"SOL", solutions.len())?;
     for solution in solutions {
@@ -128,7 +138,8 @@ fn append_solutions(text: &mut Vec<u8>, solutions: &[Named<Solution>]) -> Result
 
 // The derivations.
 fn append_derivations(text: &mut Vec<u8>, derivations: &[Derivation]) -> Result<(), AllocError>
-    ensures { OnOk result (text.new.items ≡ text.old.items ++ lines_text (derivations_lines (map derivation_of derivations.now))) }
+    ensures { OnOk result (text.new.items ≡ text.old.items
+        ++ lines_text (derivations_lines (map derivation_of derivations.now))) }
 {
     append_heading(text, b"DER", derivations.len())?;
     for derivation in derivations {

@@ -4,8 +4,8 @@ use bstr::BString;
 use std::alloc::Global;
 use std::test::Fail;
 use vipr_bytes::{Failed, FromWrite, Sink};
+use vipr_cert::{Certificate, Claim, Derivation, Goal, Name, Named, Problem, Reason};
 use vipr_frac::Frac;
-use vipr_items::{Certificate, Claim, Derivation, Goal, Name, Named, Problem, Reason};
 use vipr_linear::{Constraint, Ints, Row, Sense, Solution};
 
 const TEXT: &[u8] = b"VER 1.0

@@ -3,7 +3,8 @@ ghost use Rattle.std.specs.Prelude.{◌≡◌, ◌∷◌, ◌++◌, flat_map, On
 ghost use Rattle.std.specs.Fmt.{decimal};
 ghost use Rattle.vipr_spec.specs.Number.{number_text};
 ghost use Rattle.vipr_linear.specs.Constraint.{sense_of};
-ghost use Rattle.vipr_write.specs.Canonical.{pair_words, counted_words, sense_word, bound_word, last_word, spaced};
+ghost use Rattle.vipr_write.specs.Canonical.{pair_words, counted_words, sense_word, bound_word};
+ghost use Rattle.vipr_write.specs.Canonical.{last_word, spaced};
 
 use itoa::Buffer;
 use std::alloc::AllocError;
@@ -44,7 +45,8 @@ pub(crate) fn append_number(text: &mut Vec<u8>, x: &Frac) -> Result<(), AllocErr
 
 /// Indices with numbers.
 pub(crate) fn append_pairs(text: &mut Vec<u8>, pairs: &[(u32, Frac)]) -> Result<(), AllocError>
-    ensures { OnOk result (text.new.items ≡ text.old.items ++ spaced (flat_map pair_words pairs.now)) }
+    ensures { OnOk result
+        (text.new.items ≡ text.old.items ++ spaced (flat_map pair_words pairs.now)) }
 {
     for pair in pairs {
         append_index(text, pair.0 as usize)?;

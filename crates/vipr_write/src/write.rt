@@ -8,7 +8,7 @@ use crate::sections::text_of;
 use std::alloc::Global;
 use thiserror::Error;
 use vipr_bytes::{Sink, WriteFailed, write_bytes};
-use vipr_items::Certificate;
+use vipr_cert::Certificate;
 
 /// Why a certificate was not written whole. Exactly the first `taken` bytes of its text were taken.
 ///

@@ -1,7 +1,7 @@
 //! What is answered, in whatever pieces a text comes, and of files.
-use super::rows::{Row, long_rows, short_rows};
+use super::rows::{Row, explained_rows, long_rows, short_rows};
 use super::texts::INFEASIBLE;
-use super::{CHECK, Pieces, SHOW, prints};
+use super::{CHECK, EXPLAIN, Pieces, SHOW, TIGHTEN, prints};
 use crate::task::Task;
 use std::io::Read;
 use std::process::Abort;
@@ -13,7 +13,9 @@ use std::{env, fs, process};
 fn answers<H: Abort + AllocGlobal + Files, R: Read + Drop>(rt: &H, row: &Row, input: R) {
     let words = match row.command {
         Task::Check => CHECK,
+        Task::Explain => EXPLAIN,
         Task::Show => SHOW,
+        Task::Tighten => TIGHTEN,
     };
     let printed = row.printed.as_str();
     prints(rt, &words, input, row.status, printed, row.complained);
@@ -65,6 +67,14 @@ fn answers_short_texts(rt: HostRuntime) -> Result<(), Fail> {
 }
 
 #[test]
+fn answers_explained_texts(rt: HostRuntime) -> Result<(), Fail> {
+    for row in explained_rows(rt.alloc())? {
+        answers_in_pieces(&rt, &row);
+    }
+    Ok(())
+}
+
+#[test]
 fn answers_long_texts(rt: HostRuntime) -> Result<(), Fail> {
     for row in long_rows(rt.alloc())? {
         answers_cut(&rt, &row);
@@ -76,7 +86,9 @@ fn answers_long_texts(rt: HostRuntime) -> Result<(), Fail> {
 fn words_on(command: Task, file: &str) -> [&str; 3] {
     match command {
         Task::Check => ["vipr", "check", file],
+        Task::Explain => ["vipr", "explain", file],
         Task::Show => ["vipr", "show", file],
+        Task::Tighten => ["vipr", "tighten", file],
     }
 }
 
@@ -87,7 +99,11 @@ fn answers_files(rt: HostRuntime) -> Result<(), Fail> {
     let folder = env::temp_dir(&rt)?;
     let id = process::id(rt.process());
     let path = format!(in alloc; "{}/vipr-{id}", folder.as_path().display())?;
-    for rows in [short_rows(alloc)?, long_rows(alloc)?] {
+    for rows in [
+        short_rows(alloc)?,
+        long_rows(alloc)?,
+        explained_rows(alloc)?,
+    ] {
         for row in rows {
             fs::write(&rt, path.as_str(), row.text.as_str())?;
             let words = words_on(row.command, path.as_str());
@@ -97,7 +113,7 @@ fn answers_files(rt: HostRuntime) -> Result<(), Fail> {
         }
     }
     fs::remove_file(&rt, path.as_str())?;
-    for command in [Task::Check, Task::Show] {
+    for command in [Task::Check, Task::Explain, Task::Show, Task::Tighten] {
         for path in [path.as_str(), "/"] {
             let words = words_on(command, path);
             prints(&rt, &words, INFEASIBLE.as_bytes(), 3, "", "fault read\n");

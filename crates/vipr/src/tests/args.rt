@@ -1,10 +1,40 @@
 //! Command lines.
-use super::{SHOW, text_of};
+use super::{EXPLAIN, SHOW, text_of};
 use crate::args::job;
 use crate::run::run;
 use crate::task::{Job, Task};
 use clap::error::ErrorKind;
+use std::process::Abort;
 use std::test::Fail;
+
+/// The words for `tighten`, with and without a file to read and one to write to.
+fn reads_out<H: Abort + AllocGlobal>(rt: &H) -> Result<(), Fail> {
+    let taken = [
+        (["vipr", "tighten"].as_slice(), None, None),
+        (["vipr", "tighten", "a"].as_slice(), Some("a"), None),
+        (
+            ["vipr", "tighten", "--out", "b"].as_slice(),
+            None,
+            Some("b"),
+        ),
+        (
+            ["vipr", "tighten", "a", "--out", "b"].as_slice(),
+            Some("a"),
+            Some("b"),
+        ),
+        (
+            ["vipr", "tighten", "--out=b", "a"].as_slice(),
+            Some("a"),
+            Some("b"),
+        ),
+    ];
+    for (words, file, out) in taken {
+        let read = job(rt.alloc(), words)?;
+        let command = Task::Tighten;
+        assert!(rt; read == Job { command, file, out });
+    }
+    Ok(())
+}
 
 #[test]
 fn reads_command_lines(rt: HostRuntime) -> Result<(), Fail> {
@@ -14,12 +44,15 @@ fn reads_command_lines(rt: HostRuntime) -> Result<(), Fail> {
             Task::Check,
             Some("a.vipr"),
         ),
+        (EXPLAIN.as_slice(), Task::Explain, None),
         (SHOW.as_slice(), Task::Show, None),
     ];
     for (words, command, file) in taken {
         let read = job(rt.alloc(), words)?;
-        assert!(rt; read == Job { command, file });
+        let out = None;
+        assert!(rt; read == Job { command, file, out });
     }
+    reads_out(&rt)?;
     let lines = [
         (["vipr"].as_slice(), ErrorKind::MissingSubcommand),
         (["vipr", "chek"].as_slice(), ErrorKind::InvalidSubcommand),
@@ -34,6 +67,27 @@ fn reads_command_lines(rt: HostRuntime) -> Result<(), Fail> {
         ),
         (["vipr", "--help"].as_slice(), ErrorKind::DisplayHelp),
         (["vipr", "show", "-h"].as_slice(), ErrorKind::DisplayHelp),
+        (
+            ["vipr", "explain", "a", "b"].as_slice(),
+            ErrorKind::UnknownArgument,
+        ),
+        (
+            ["vipr", "show", "--out", "b"].as_slice(),
+            ErrorKind::UnknownArgument,
+        ),
+        (
+            ["vipr", "explain", "--out=b"].as_slice(),
+            ErrorKind::UnknownArgument,
+        ),
+        (
+            ["vipr", "tighten", "--out"].as_slice(),
+            ErrorKind::InvalidValue,
+        ),
+        (
+            ["vipr", "tighten", "--out", "a", "--out", "b"].as_slice(),
+            ErrorKind::ArgumentConflict,
+        ),
+        (["vipr", "tighten", "-h"].as_slice(), ErrorKind::DisplayHelp),
     ];
     for (words, wanted) in lines {
         let Err(error) = job(rt.alloc(), words) else {
@@ -50,15 +104,26 @@ fn reads_command_lines(rt: HostRuntime) -> Result<(), Fail> {
             (text_of(err.as_slice()), text_of(out.as_slice()), 2)
         };
         assert_eq!(rt; status, status_wanted);
-        assert!(rt; shown.contains("Usage: vipr"));
+        // a value that is missing is told without the usage
+        let told = kind == ErrorKind::InvalidValue || shown.contains("Usage: vipr");
+        assert!(rt; told);
         assert!(rt; shown.ends_with("\n"));
         assert_eq!(rt; hidden, "");
     }
     let mut help = Vec::new(rt.alloc());
     let mut err = Vec::new(rt.alloc());
     let _ = run(&rt, &["vipr", "-h"], "".as_bytes(), &mut help, &mut err);
-    for command in ["check  Checks a certificate", "show   Writes a certificate"] {
+    for command in [
+        "check    Checks a certificate",
+        "explain  Checks a certificate",
+        "show     Writes a certificate",
+        "tighten  Writes a verified certificate",
+    ] {
         assert!(rt; text_of(help.as_slice()).contains(command));
     }
+    let mut version = Vec::new(rt.alloc());
+    let words = ["vipr", "--version"];
+    let status = run(&rt, &words, "".as_bytes(), &mut version, &mut err);
+    assert_eq!(rt; (status, text_of(version.as_slice())), (0, "vipr 0.1.0\n"));
     Ok(())
 }

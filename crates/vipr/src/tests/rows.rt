@@ -1,5 +1,6 @@
 //! What a command prints of a certificate's text.
 use super::edits::{BRANCH_EDITS, DOWN_EDITS, EDITS, SOLVED_EDITS, TEXTS, UP_EDITS};
+use super::explained::EXPLAINED;
 use super::texts::{
     BOTH_BRANCHES, CANONICAL, INFEASIBLE, LENIENT, LENIENT_SHOWN, PAST_THE_LIMIT, ROUNDED_DOWN,
     ROUNDED_UP, SOLVED,
@@ -28,6 +29,14 @@ impl Row {
             printed: format!(in alloc; "{printed}")?,
             complained: "",
             status,
+        })
+    }
+
+    fn explained(alloc: Global, text: String, printed: &str) -> Result<Row, Fail> {
+        let checked = Row::checked(alloc, text, printed)?;
+        Ok(Row {
+            command: Task::Explain,
+            ..checked
         })
     }
 
@@ -60,7 +69,7 @@ fn edited(alloc: Global, at: usize, old: &str, new: &str) -> Result<String, Fail
 }
 
 /// A text with `old` replaced where it first stands.
-fn replaced(alloc: Global, text: &str, old: &str, new: &str) -> Result<String, Fail> {
+pub(super) fn replaced(alloc: Global, text: &str, old: &str, new: &str) -> Result<String, Fail> {
     let (front, behind) = text.split_once(old).ok_or("not there")?;
     Ok(format!(in alloc; "{front}{new}{behind}")?)
 }
@@ -133,6 +142,19 @@ fn add_shown(alloc: Global, rows: &mut Vec<Row>) -> Result<(), Fail> {
     let cut = edited(alloc, 108, " -1 } -1\n", "")?;
     rows.push(Row::not_shown(alloc, cut, "refused 1 at byte 108\n"))?;
     Ok(())
+}
+
+/// Texts whose verdict is explained.
+pub(super) fn explained_rows(alloc: Global) -> Result<Vec<Row>, Fail> {
+    let mut rows = Vec::new(alloc);
+    for (text, old, new, printed) in EXPLAINED {
+        let text = replaced(alloc, text, old, new)?;
+        rows.push(Row::explained(alloc, text, printed)?)?;
+    }
+    let name = "x".repeat(alloc, 65536)?;
+    let text = edited(alloc, 14, "x", name.as_str())?;
+    rows.push(Row::explained(alloc, text, "refused 17 at byte 14\ncause TokenTooLong\n")?)?;
+    Ok(rows)
 }
 
 /// Texts with a name of 65,535 or 65,536 bytes, or with a comment of 200,000.

@@ -1,12 +1,15 @@
 //! Reads and writes that fail, or are interrupted.
-use super::texts::INFEASIBLE;
-use super::{CHECK, Pieces, SHOW, VERIFIED, prints, text_of};
+use super::texts::{CUT_OFF, CUT_OFF_TIGHTENED, INFEASIBLE};
+use super::{CHECK, Pieces, SHOW, TIGHTEN, VERIFIED, prints, text_of};
 use crate::run::run;
 use std::io;
 use std::io::{ErrorKind, Read, Write};
 use std::process::Abort;
 use std::rt::Files;
 use std::test::Fail;
+
+/// What is said where the text with a cutoff is tightened.
+const KEPT: &str = "kept 1 removed 1 peak 2 1\n";
 
 /// A writer that takes `room` bytes, one a call, and then fails or takes none.
 #[derive(Drop)]
@@ -44,6 +47,8 @@ fn reads_fail(rt: HostRuntime) -> Result<(), Fail> {
         (CHECK, misspelled.as_str(), 12, 1, refused, ""),
         (SHOW, INFEASIBLE, 118, 0, INFEASIBLE, ""),
         (SHOW, misspelled.as_str(), 12, 1, "", refused),
+        (TIGHTEN, CUT_OFF, 151, 0, CUT_OFF_TIGHTENED, KEPT),
+        (TIGHTEN, misspelled.as_str(), 12, 1, "", refused),
     ];
     for (words, text, enough, status, printed, complained) in rows {
         for reads in 0..=text.len() as u64 + 1 {
@@ -67,6 +72,7 @@ fn reads_fail(rt: HostRuntime) -> Result<(), Fail> {
 fn writes_so_far<H: Abort + AllocGlobal + Files>(
     rt: &H,
     words: &[&str],
+    input: &str,
     whole: &[u8],
     room: usize,
     fails: bool,
@@ -78,9 +84,11 @@ fn writes_so_far<H: Abort + AllocGlobal + Files>(
         room,
         fails,
     };
-    let status = run(rt, words, INFEASIBLE.as_bytes(), &mut out, &mut err);
+    let status = run(rt, words, input.as_bytes(), &mut out, &mut err);
     let wanted = if room < whole.len() {
         format!(in rt.alloc(); "fault write after {room}\n")?
+    } else if words == TIGHTEN.as_slice() {
+        format!(in rt.alloc(); "{KEPT}")?
     } else {
         String::new(rt.alloc())
     };
@@ -92,14 +100,20 @@ fn writes_so_far<H: Abort + AllocGlobal + Files>(
 
 #[test]
 fn writes_fail(rt: HostRuntime) -> Result<(), Fail> {
-    for words in [CHECK, SHOW, ["vipr", "--help"]] {
+    let rows = [
+        (CHECK, INFEASIBLE),
+        (SHOW, INFEASIBLE),
+        (TIGHTEN, CUT_OFF),
+        (["vipr", "--help"], ""),
+    ];
+    for (words, input) in rows {
         let mut whole = Vec::new(rt.alloc());
         let mut err = Vec::new(rt.alloc());
-        let status = run(&rt, &words, INFEASIBLE.as_bytes(), &mut whole, &mut err);
+        let status = run(&rt, &words, input.as_bytes(), &mut whole, &mut err);
         assert_eq!(rt; status, 0);
         for room in 0..whole.len() + 1 {
             for fails in [false, true] {
-                writes_so_far(&rt, &words, whole.as_slice(), room, fails)?;
+                writes_so_far(&rt, &words, input, whole.as_slice(), room, fails)?;
             }
         }
     }
@@ -147,7 +161,7 @@ impl<T: Write> Write for Interrupted<T> {
 /// An interrupted read is a failed one, and no other follows it.
 #[test]
 fn interrupted_reads(rt: HostRuntime) {
-    for words in [CHECK, SHOW] {
+    for words in [CHECK, SHOW, TIGHTEN] {
         for interrupted_at in 1..=118 {
             let mut input = Interrupted {
                 inner: INFEASIBLE.as_bytes(),
@@ -163,7 +177,7 @@ fn interrupted_reads(rt: HostRuntime) {
 /// An interrupted write is a failed one, and no other follows it.
 #[test]
 fn interrupted_writes(rt: HostRuntime) -> Result<(), Fail> {
-    for (words, whole) in [(CHECK, VERIFIED), (SHOW, INFEASIBLE)] {
+    for (words, whole) in [(CHECK, VERIFIED), (SHOW, INFEASIBLE), (TIGHTEN, INFEASIBLE)] {
         for taken in 0..whole.len() {
             let mut bytes = Vec::new(rt.alloc());
             let mut err = Vec::new(rt.alloc());

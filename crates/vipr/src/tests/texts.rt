@@ -211,6 +211,23 @@ g G 3 1 0 1 { rnd 2 0 1/2 1 0 } -1
 ";
 
 /// Much of the freedom in spelling.
+/// The same without the cutoff.
+pub(super) const CUT_OFF_TIGHTENED: &str = "VER 1.0
+VAR 1
+x
+INT 1
+0
+OBJ min
+1 0 1
+CON 1 0
+a G 5 1 0 2
+RTP range 3 3
+SOL 1
+s 1 0 3
+DER 1
+g G 3 1 0 1 { rnd 1 0 1/2 } -1
+";
+
 pub(super) const LENIENT: &str =
     "%a VER\r\n  %b\n VER\t1.0\r\nVAR\t1\r\nx\r\nINT 2\r\n0 00\r\nOBJ max\r\n1 0 2/4\r\nCON 2 1\r\na L +5 OBJ\r\nb G -0/7 1 0 0\r\nRTP range -inf inf\r\nSOL 0\r\nDER 0";
 

@@ -1,6 +1,7 @@
 //! When the entries of a table expire.
 
-ghost use Rattle.std.specs.Prelude.{◌≡◌, ℕ, ◌<◌, ◌≤◌, OnOk, IfSome, IfNone, All, IsPermutation, ◌∷◌, [], map};
+ghost use Rattle.std.specs.Prelude.{◌≡◌, ℕ, ◌<◌, ◌≤◌, OnOk, IfSome, IfNone, All, IsPermutation};
+ghost use Rattle.std.specs.Prelude.{◌∷◌, [], map};
 ghost use Rattle.std.specs.BinaryHeap.{IsHeap, heap_items, heap_len, heap_capacity};
 ghost use Rattle.std.proofs.Props.{props};
 ghost use Rattle.vipr_rules.specs.Expiry.{due_cmp, dues, Notes};
@@ -45,7 +46,8 @@ impl Order {
 
     /// Takes out an index whose last derivation is at most `now`.
     pub(crate) fn take_due(&mut self, now: u32) -> Option<u32>
-        ensures some { IfSome result (λ index. (last : ℕ) × (last ≤ now) × IsPermutation (dues self.old.heap) ((last, index) ∷ dues self.new.heap)) }
+        ensures some { IfSome result (λ index. (last : ℕ) × (last ≤ now)
+            × IsPermutation (dues self.old.heap) ((last, index) ∷ dues self.new.heap)) }
         ensures unchanged { IfNone result (dues self.new.heap ≡ dues self.old.heap) }
         ensures none { IfNone result (All (λ d. now < d.0) (dues self.old.heap)) }
     {

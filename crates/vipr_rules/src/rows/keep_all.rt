@@ -46,9 +46,10 @@ impl Model for KeepAll {
 
     ghost use Rattle.std.specs.FinMap as map;
     ghost use Rattle.vipr_rules.specs.Expiry.{dues};
-    ghost use Rattle.vipr_rules.specs.KeepAll.{kept_map, IsKept};
+    ghost use Rattle.vipr_rules.specs.KeepAll.{unforgotten, IsKept};
 
-    ghost view = { λ a. record { first = a.first; next = a.next; entries = kept_map a.first a.kept.items } };
+    ghost view = { λ a.
+        record { first = a.first; next = a.next; entries = unforgotten a.first a.kept.items } };
 
     ghost invariant = { λ a. IsKept a.first a.next a.kept.items a.held (dues a.order.heap) };
 }

@@ -21,7 +21,8 @@ pub struct LiveOnly {
 
 // Takes the entry at an index out, if there is one.
 fn forget(rows: &mut IndexMap<u32, Entry>, index: u32)
-    ensures { map.from_entries {R = nat_cmp} rows.new.entries ≡ map.remove (map.from_entries rows.old.entries) index }
+    ensures { map.from_entries {R = nat_cmp} rows.new.entries
+        ≡ map.remove (map.from_entries rows.old.entries) index }
 {
     rows.swap_remove(&index);
 }
@@ -37,7 +38,8 @@ impl Model for LiveOnly {
     ghost use Rattle.std.specs.FinMap as map;
     ghost use Rattle.vipr_rules.specs.Expiry.{dues, IsTied};
 
-    ghost view = { λ a. record { first = a.first; next = a.next; entries = map.from_entries a.rows.entries } };
+    ghost view = { λ a.
+        record { first = a.first; next = a.next; entries = map.from_entries a.rows.entries } };
 
     ghost invariant = { λ a. IsTied a.next (map.from_entries a.rows.entries) (dues a.order.heap) };
 }

@@ -43,6 +43,7 @@ returns-clause-ok c =
     let is = entered_is c.in_ok-matches.matches c.in-Some.name.now (rows_of (found_of c.in-Some.inner.now)) c.in-Some.ensures.name c.in-Some.ensures.rows in
     is_asked words _ _ _ (sym met ∙ is) c.in-Some-task_named.ensures.some
     (c.get_str.ensures ∙ first_value-rows (found_of c.in-Some.inner.now) (codes "file"))
+    (c.get_str-2.ensures ∙ first_value-rows (found_of c.in-Some.inner.now) (codes "out"))
 
 pub returns-clause-kinds : goal.returns-clause-kinds
 returns-clause-kinds c =

@@ -1,35 +1,37 @@
 use Rattle.std.proofs.Common.{refl, sym, subst}
-use Rattle.vipr_spec.specs.Constraint.{one}
-use Rattle.vipr_spec.specs.Progress.{Answers, solutions_from}
-use Rattle.vipr_items.specs.Items.{solution_of}
+use Rattle.vipr_spec.specs.Verdict.{Explained}
+use Rattle.vipr_spec.specs.Progress.{solutions_from}
+use Rattle.vipr_cert.specs.Items.{solution_of}
 use Rattle.vipr_scan.specs.Giving.{rest_of}
-use Rattle.vipr_check.specs.View.{Says}
-use Rattle.vipr_check.specs.Run.{GoesAmong}
+use Rattle.vipr_check.specs.Shown.{state_shown}
+use Rattle.vipr_check.specs.Run.{GoesAmong, SaysWith}
+use Rattle.vipr_check.proofs.ShownLemmas.{unshown}
 use Rattle.vipr_check.proofs.RunLemmas.{one_more, goes_among, solution_missing, solution_unspent}
 use Rattle.vipr_check.proofs.run.next_solution.Goals as goal
 
 pub solution-requires-clause-phase : goal.solution-requires-clause-phase
-solution-requires-clause-phase g c = let (p, ss, is) = c.requires.among in is.phase
+solution-requires-clause-phase g c = let (P, p, ss, is) = c.requires.among in is.phase
 
 pub solution-requires-clause-room : goal.solution-requires-clause-room
-solution-requires-clause-room g c = let (p, ss, is) = c.requires.among in one_more p ss c.args.checker.now c.args.solutions.now is c.requires.some
+solution-requires-clause-room g c = let (P, p, ss, is) = c.requires.among in one_more P p ss c.args.checker.now c.args.solutions.now is c.requires.some
 
 pub after_item-requires : goal.after_item-requires
 after_item-requires g c =
-    let (p, ss, is) = c.requires.among in
+    let (P, p, ss, is) = c.requires.among in
     solution_unspent ss (solution_of c.in-Ok-Some.solution) c.args.checker.now c.solution.new.self c.solution.result (c.solution.ensures.next ss is.runs is.has)
 
 pub returns-in-Ok-Some-clause-step : goal.returns-in-Ok-Some-clause-step
-returns-in-Ok-Some-clause-step g c = λ p ss is.
+returns-in-Ok-Some-clause-step g c = λ P p ss is.
     let h = rw c.in-Ok-Some.field-0-is at c.in-Ok-Some.ensures in
     let s = solution_of c.in-Ok-Some.solution in
     let old = c.args.solutions.now in
     let new = c.next.new.self in
-    subst (GoesAmong p ss old c.solution.new.self new) (sym c.after_item.ensures)
-    (goes_among p ss c.args.checker.now c.solution.new.self old new s is h.counted h.remembers h.working (λ told. (let r = h.read p is.knows told in (r.1, r.2))) c.solution.result (c.solution.ensures.next ss is.runs is.has))
+    subst (GoesAmong P p ss old c.solution.new.self new) (sym c.after_item.ensures)
+    (goes_among P p ss c.args.checker.now c.solution.new.self old new s is h.counted h.remembers h.working (λ told. (let r = h.read p is.knows told in (r.1, r.2))) c.solution.result (c.solution.ensures.next ss is.runs is.has))
 
 pub returns-in-Err-clause-step : goal.returns-in-Err-clause-step
-returns-in-Err-clause-step g c = λ p ss is told.
+returns-in-Err-clause-step g c = λ P p ss is told.
     let old = c.args.solutions.now in
-    subst (Says (Answers one (solutions_from p ss old.left (rest_of old.rest)))) (sym c.unread.ensures)
-    (solution_missing p ss old.left (rest_of old.rest) c.in-Err.error c.requires.some (c.in-Err.ensures.read p is.knows told))
+    let shown = state_shown c.args.checker.now in
+    subst (SaysWith (Explained P (solutions_from p ss old.left (rest_of old.rest))) shown) (sym c.unread.ensures)
+    (solution_missing P p ss old.left (rest_of old.rest) shown c.in-Err.error (unshown c.args.checker.now is.runs) c.requires.some (c.in-Err.ensures.read p is.knows told))

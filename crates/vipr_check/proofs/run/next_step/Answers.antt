@@ -1,58 +1,62 @@
 use Rattle.std.proofs.Common.{sym, subst}
-use Rattle.vipr_spec.specs.Constraint.{one, at}
-use Rattle.vipr_spec.specs.Progress.{Answers, derivations_from}
-use Rattle.vipr_items.specs.Items.{derivation_of}
+use Rattle.vipr_spec.specs.Constraint.{at}
+use Rattle.vipr_spec.specs.Verdict.{Explained}
+use Rattle.vipr_spec.specs.Progress.{derivations_from}
+use Rattle.vipr_cert.specs.Items.{derivation_of}
 use Rattle.vipr_scan.specs.Giving.{rest_of}
-use Rattle.vipr_check.specs.View.{Says}
-use Rattle.vipr_check.specs.Run.{Goes, end_answer}
+use Rattle.vipr_check.specs.Shown.{state_shown}
+use Rattle.vipr_check.specs.Run.{Goes, SaysWith, end_answer}
+use Rattle.vipr_check.proofs.ShownLemmas.{unshown}
 use Rattle.vipr_check.proofs.RunLemmas.{room_for, names_for, goes_on, finished, derivations_failed, step_unspent, finish_unspent}
 use Rattle.vipr_check.proofs.run.next_step.Goals as goal
 
 pub derivation-requires-clause-phase : goal.derivation-requires-clause-phase
-derivation-requires-clause-phase g c = c.requires.1.phase
+derivation-requires-clause-phase g c = c.requires.2.phase
 
 pub derivation-requires-clause-room : goal.derivation-requires-clause-room
 derivation-requires-clause-room g c =
     let h = rw c.in-Ok-Some.field-0-is at c.in-Ok-Some.ensures in
-    room_for c.requires.0 c.args.checker.now c.args.derivations.now c.next.new.self.left c.requires.1 h.counted
+    room_for c.requires.0 c.requires.1 c.args.checker.now c.args.derivations.now c.next.new.self.left c.requires.2 h.counted
 
 pub derivation-requires-clause-names : goal.derivation-requires-clause-names
 derivation-requires-clause-names g c =
     let h = rw c.in-Ok-Some.field-0-is at c.in-Ok-Some.ensures in
-    names_for c.requires.0 c.args.checker.now c.args.derivations.now (at c.in-Ok-Some.step.constraint.row) c.requires.1 h.shape.row
+    names_for c.requires.0 c.requires.1 c.args.checker.now c.args.derivations.now (at c.in-Ok-Some.step.constraint.row) c.requires.2 h.shape.row
 
 pub after_item-requires : goal.after_item-requires
 after_item-requires g c =
-    let is = c.requires.1 in
-    step_unspent c.requires.0 (derivation_of c.in-Ok-Some.step) c.args.checker.now c.derivation.new.self c.derivation.result (c.derivation.ensures.next c.requires.0 is.runs is.has)
+    let is = c.requires.2 in
+    step_unspent c.requires.1 (derivation_of c.in-Ok-Some.step) c.args.checker.now c.derivation.new.self c.derivation.result (c.derivation.ensures.next c.requires.1 is.runs is.has)
 
 pub finish-requires : goal.finish-requires
-finish-requires g c = c.requires.1.phase
+finish-requires g c = c.requires.2.phase
 
 pub after_end-requires : goal.after_end-requires
 after_end-requires g c =
-    let is = c.requires.1 in
-    finish_unspent c.requires.0 c.args.checker.now c.finish.new.self c.finish.result (c.finish.ensures.next c.requires.0 is.runs is.has)
+    let is = c.requires.2 in
+    finish_unspent c.requires.1 c.args.checker.now c.finish.new.self c.finish.result (c.finish.ensures.next c.requires.1 is.runs is.has)
 
 pub returns-in-Ok-Some-clause-step : goal.returns-in-Ok-Some-clause-step
-returns-in-Ok-Some-clause-step g c = λ s is.
+returns-in-Ok-Some-clause-step g c = λ P s is.
     let h = rw c.in-Ok-Some.field-0-is at c.in-Ok-Some.ensures in
     let k = c.args.checker.now in
     let old = c.args.derivations.now in
     let new = c.next.new.self in
     let d = derivation_of c.in-Ok-Some.step in
-    subst (Goes s old c.derivation.new.self new) (sym c.after_item.ensures)
-    (goes_on s k c.derivation.new.self old new d is h.counted h.remembers h.working (λ told. (let r = h.read s.problem is.knows told in (r.1, r.2))) c.derivation.result (c.derivation.ensures.next s is.runs is.has))
+    subst (Goes P s old c.derivation.new.self new) (sym c.after_item.ensures)
+    (goes_on P s k c.derivation.new.self old new d is h.shape.reason h.counted h.remembers h.working (λ told. (let r = h.read s.problem is.knows told in (r.1, r.2))) c.derivation.result (c.derivation.ensures.next s is.runs is.has))
 
 pub returns-in-Ok-None-clause-step : goal.returns-in-Ok-None-clause-step
-returns-in-Ok-None-clause-step g c = λ s is told.
+returns-in-Ok-None-clause-step g c = λ P s is told.
     let h = rw c.in-Ok-None.field-0-is at c.in-Ok-None.ensures in
     let r = h.read s.problem is.knows told in
     let left = (rest_of c.args.derivations.now.rest) in
-    let x = finished s c.args.checker.now c.finish.new.self left c.finish.result r.1 (c.finish.ensures.next s is.runs is.has) in
-    subst (λ n. Says (Answers one (derivations_from s n left)) c.after_end.result) (sym r.0) (subst (Says (Answers one (derivations_from s 0 left))) (sym c.after_end.ensures) x)
+    let l = c.finish.new.self in
+    let x = finished P s c.args.checker.now l left c.finish.result is.profile is.has.problem is.runs r.1 (c.finish.ensures.next s is.runs is.has) in
+    subst (λ n. SaysWith (Explained P (derivations_from s n left)) (state_shown l) c.after_end.result) (sym r.0) (subst (SaysWith (Explained P (derivations_from s 0 left)) (state_shown l)) (sym c.after_end.ensures) x)
 
 pub returns-in-Err-clause-step : goal.returns-in-Err-clause-step
-returns-in-Err-clause-step g c = λ s is told.
+returns-in-Err-clause-step g c = λ P s is told.
     let old = c.args.derivations.now in
-    subst (Says (Answers one (derivations_from s old.left (rest_of old.rest)))) (sym c.unread.ensures) (derivations_failed s old.left (rest_of old.rest) c.in-Err.error (c.in-Err.ensures.read s.problem is.knows told))
+    let shown = state_shown c.args.checker.now in
+    subst (SaysWith (Explained P (derivations_from s old.left (rest_of old.rest))) shown) (sym c.unread.ensures) (derivations_failed P s old.left (rest_of old.rest) shown c.in-Err.error (unshown c.args.checker.now is.runs) (c.in-Err.ensures.read s.problem is.knows told))

@@ -1,14 +1,17 @@
-use Rattle.std.proofs.Common.{◌≡◌, sym, ap, ◌∙◌}
+use Rattle.std.proofs.Common.{◌≡◌, sym, ap, ◌∙◌, inl, inr}
 use Rattle.vipr_spec.specs.Gcd.{gcd}
-use Rattle.vipr_frac.proofs.Steps.{gcd-step, gcd-end, gcd-one, gcd-some, gcd-at_most}
+use Rattle.vipr_frac.proofs.Steps.{gcd-step, gcd-end, gcd-one, one-gcd, gcd-some, gcd-at_most}
 use Rattle.vipr_frac.proofs.gcd.gcd_of.Goals as goal
 use Rattle.vipr_frac.proofs.gcd.gcd_of.Goals.{Then-y-eq0, After-word_gcd}
 
 pub loop-y-preserved : goal.loop-y-preserved
 loop-y-preserved c = sym (gcd-step c.loop-y.x c.loop-y.y) ∙ c.loop-y.invariant
 
-pub returns-then-b-eq1-clause-value : goal.returns-then-b-eq1-clause-value
-returns-then-b-eq1-clause-value c = sym (ap (gcd c.args.a) c.if-b-eq1.true ∙ gcd-one c.args.a)
+pub returns-then-a-eq1-clause-value : goal.returns-then-a-eq1-clause-value
+returns-then-a-eq1-clause-value c = elim c.then-a-eq1.either [
+  | inl a ↦ sym (ap (λ n. gcd n c.args.b) a ∙ one-gcd c.args.b)
+  | inr b ↦ sym (ap (gcd c.args.a) b.1 ∙ gcd-one c.args.a)
+]
 
 at_zero : (c : Then-y-eq0) → c.loop-y.x ≡ gcd c.args.a c.args.b
 at_zero c = sym (gcd-end _ _ c.if-y-eq0.true) ∙ c.loop-y.invariant

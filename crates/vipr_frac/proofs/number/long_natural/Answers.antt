@@ -1,7 +1,7 @@
 use Rattle.std.proofs.Common.{rules, ◌≡◌, ◌≢◌, ℕ, ◌+◌, ◌-◌, ◌*◌, min, get_or, length, Some, arith, refl, sym, ◌∙◌, ap, inl, inr}
 use Rattle.std.specs.Option.{option_map}
 use Rattle.vipr_spec.specs.Fraction.{most}
-use Rattle.vipr_spec.proofs.DigitSteps.{natural_of_empty, natural_of_some, next_digit, next_other, at_end}
+use Rattle.vipr_spec.proofs.Laws.{natural_of_empty, natural_of_some, next_digit, next_other, at_end}
 use Rattle.vipr_frac.proofs.number.long_natural.Goals as goal
 use Rattle.vipr_frac.proofs.number.long_natural.Goals.{then-b-lt48-via-then-b-lt48, then-b-lt48-via-else-b-lt48+then-b-gt57, then-value, else-value}
 

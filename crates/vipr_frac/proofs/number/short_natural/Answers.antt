@@ -1,6 +1,6 @@
 use Rattle.std.proofs.Common.{rules, ◌≡◌, ◌≢◌, ℕ, ◌+◌, ◌-◌, ◌*◌, ◌^◌, ◌<◌, ◌≤◌, get_or, length, lit<, arith, sym, ◌∙◌, inl, inr, zero-lt-suc, add-one}
 use Rattle.std.proofs.Math.Nat.{pow-le-pow_right, pow-suc}
-use Rattle.vipr_spec.proofs.DigitSteps.{natural_of_empty, natural_of_some, next_digit, next_other, at_end}
+use Rattle.vipr_spec.proofs.Laws.{natural_of_empty, natural_of_some, next_digit, next_other, at_end}
 use Rattle.vipr_frac.proofs.number.short_natural.Goals as goal
 use Rattle.vipr_frac.proofs.number.short_natural.Goals.{then-b-lt48-via-then-b-lt48, then-b-lt48-via-else-b-lt48+then-b-gt57}
 

@@ -3,7 +3,7 @@ use Rattle.std.specs.Int.{w128}
 use Rattle.std.proofs.lemmas.Int.{to_z-of_z}
 use Rattle.vipr_spec.specs.Fraction.{whole}
 use Rattle.vipr_spec.specs.Number.{signed}
-use Rattle.vipr_spec.proofs.NumberReads.{plain_number}
+use Rattle.vipr_spec.proofs.Laws.{plain_number}
 use Rattle.vipr_frac.proofs.number.short_whole.Goals as goal
 
 pub returns-in-Some : goal.returns-in-Some

@@ -1,4 +1,4 @@
-use Rattle.std.proofs.Common.{◌≡◌, ℕ, rules}
+use Rattle.std.proofs.Common.{ℕ, rules}
 use Rattle.std.proofs.lemmas.Fn.{filter_same, All-from_retain}
 use Rattle.vipr_spec.specs.Fraction.{ℚ, IsBounded}
 use Rattle.vipr_spec.specs.Reading.{is_nonzero}

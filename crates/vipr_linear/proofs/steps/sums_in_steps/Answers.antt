@@ -1,4 +1,4 @@
-use Rattle.vipr_spec.proofs.MoreEntries.{one_sense, suitable_front, fitting_front}
+use Rattle.vipr_spec.proofs.Laws.{one_sense, suitable_front, fitting_front}
 use Rattle.vipr_linear.proofs.StepByStep.{start_held, suitable_told, fits_told, step_held, sum_held}
 use Rattle.vipr_linear.proofs.steps.sums_in_steps.Goals as goal
 

@@ -1,5 +1,5 @@
-use Rattle.std.proofs.Common.{◌≡◌, ℕ, ◌<◌, ◌∙◌, ap, sym, subst, get_or, length, vec_items, All}
-use Rattle.std.proofs.lemmas.List.Elements.{All-nil, All-push}
+use Rattle.std.proofs.Common.{ℕ, ◌<◌, ◌∙◌, ap, sym, subst, get_or, length, vec_items, All}
+use Rattle.std.proofs.lemmas.List.Elements.{All-push}
 use Rattle.vipr_spec.specs.Fraction.{ℚ, IsBounded}
 use Rattle.vipr_linear.proofs.Marks.{kept, left_out, all_picked}
 use Rattle.vipr_linear.proofs.sums.nonzero_sums.Goals as goal

@@ -5,7 +5,7 @@ use Rattle.vipr_spec.specs.Certificate.{variables}
 use Rattle.vipr_spec.specs.Reading.{most_count}
 use Rattle.vipr_spec.specs.Shape.{SolutionShape, DerivationShape}
 use Rattle.vipr_linear.specs.Constraint.{constraint_of}
-use Rattle.vipr_items.specs.Items.{named_of, solution_of, derivation_of}
+use Rattle.vipr_cert.specs.Items.{named_of, solution_of, derivation_of}
 use Rattle.vipr_scan.specs.Giving.{rest_of}
 use Rattle.vipr_read.proofs.Whole.{problem_fails, solutions_fail, count_fails, derivations_fail, end_fails, all_read}
 use Rattle.vipr_read.proofs.certificate.whole.Goals as goal

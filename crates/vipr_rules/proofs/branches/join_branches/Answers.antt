@@ -1,164 +1,165 @@
 use Rattle.std.proofs.Common.{sym, ap, subst, ◌∙◌, inl, inr, refl}
 use Rattle.std.proofs.lemmas.Result.{err_from_is_err_and}
-use Rattle.vipr_spec.specs.Constraint.{one, Dominates, IsSplit}
+use Rattle.vipr_spec.specs.Constraint.{Dominates, IsSplit}
 use Rattle.vipr_spec.specs.Certificate.{Problem}
 use Rattle.vipr_linear.specs.Constraint.{condition_of}
-use Rattle.vipr_rules.specs.Context.{row_of}
+use Rattle.vipr_rules.specs.Context.{row_found}
+use Rattle.vipr_rules.specs.Profile.{profile_of}
 use Rattle.vipr_rules.proofs.BranchLemmas.{constraint_passes, constraint_stops, joined_set, stops_1, stops_2, stops_3, stops_4, stops_5, stops_6, stops_7, stops_8, stops_9, free_pass, all_pass}
 use Rattle.vipr_rules.proofs.SoundLemmas.{branches_true}
 use Rattle.vipr_rules.proofs.branches.join_branches.Goals as goal
 
 pub returns-in_err-first_conclusion-clause-ruled : goal.returns-in_err-first_conclusion-clause-ruled
-returns-in_err-first_conclusion-clause-ruled g c = λ d e is says.
+returns-in_err-first_conclusion-clause-ruled g c = λ P d e is says.
     let p = err_from_is_err_and c.from_residual.result c.from_residual.ensures.1 in
-    rw (p.1, p.2) (inr (stops_1 d e c.args.first.conclusion c.args.first.assumption c.args.second.conclusion c.args.second.assumption _ (c.in_err-first_conclusion.ensures.known d e is)))
+    rw (p.1, p.2) (inr (stops_1 P d e c.args.first.conclusion c.args.first.assumption c.args.second.conclusion c.args.second.assumption _ (c.in_err-first_conclusion.ensures.known P d e is)))
 
 pub returns-in_err-first_assumption-clause-ruled : goal.returns-in_err-first_assumption-clause-ruled
-returns-in_err-first_assumption-clause-ruled g c = λ d e is says.
+returns-in_err-first_assumption-clause-ruled g c = λ P d e is says.
     let p = err_from_is_err_and c.from_residual-in_err-first_assumption.result c.from_residual-in_err-first_assumption.ensures.1 in
-    let k1 = c.in_ok-first_conclusion.ensures.known d e is in
-    rw (p.1, p.2) (inr (stops_2 d e c.args.first.conclusion c.args.first.assumption c.args.second.conclusion c.args.second.assumption k1.0 _ (c.in_err-first_assumption.ensures.known d e is)))
+    let k1 = c.in_ok-first_conclusion.ensures.known P d e is in
+    rw (p.1, p.2) (inr (stops_2 P d e c.args.first.conclusion c.args.first.assumption c.args.second.conclusion c.args.second.assumption k1.0 _ (c.in_err-first_assumption.ensures.known P d e is)))
 
 pub returns-in_err-second_conclusion-clause-ruled : goal.returns-in_err-second_conclusion-clause-ruled
-returns-in_err-second_conclusion-clause-ruled g c = λ d e is says.
+returns-in_err-second_conclusion-clause-ruled g c = λ P d e is says.
     let p = err_from_is_err_and c.from_residual-in_err-second_conclusion.result c.from_residual-in_err-second_conclusion.ensures.1 in
-    let k1 = c.in_ok-first_conclusion.ensures.known d e is in
-    let k2 = c.in_ok-first_assumption.ensures.known d e is in
-    rw (p.1, p.2) (inr (stops_3 d e c.args.first.conclusion c.args.first.assumption c.args.second.conclusion c.args.second.assumption k1.0 k2.0 _ (c.in_err-second_conclusion.ensures.known d e is)))
+    let k1 = c.in_ok-first_conclusion.ensures.known P d e is in
+    let k2 = c.in_ok-first_assumption.ensures.known P d e is in
+    rw (p.1, p.2) (inr (stops_3 P d e c.args.first.conclusion c.args.first.assumption c.args.second.conclusion c.args.second.assumption k1.0 k2.0 _ (c.in_err-second_conclusion.ensures.known P d e is)))
 
 pub returns-in_err-second_assumption-clause-ruled : goal.returns-in_err-second_assumption-clause-ruled
-returns-in_err-second_assumption-clause-ruled g c = λ d e is says.
+returns-in_err-second_assumption-clause-ruled g c = λ P d e is says.
     let p = err_from_is_err_and c.from_residual-in_err-second_assumption.result c.from_residual-in_err-second_assumption.ensures.1 in
-    let k1 = c.in_ok-first_conclusion.ensures.known d e is in
-    let k2 = c.in_ok-first_assumption.ensures.known d e is in
-    let k3 = c.in_ok-second_conclusion.ensures.known d e is in
-    rw (p.1, p.2) (inr (stops_4 d e c.args.first.conclusion c.args.first.assumption c.args.second.conclusion c.args.second.assumption k1.0 k2.0 k3.0 _ (c.in_err-second_assumption.ensures.known d e is)))
+    let k1 = c.in_ok-first_conclusion.ensures.known P d e is in
+    let k2 = c.in_ok-first_assumption.ensures.known P d e is in
+    let k3 = c.in_ok-second_conclusion.ensures.known P d e is in
+    rw (p.1, p.2) (inr (stops_4 P d e c.args.first.conclusion c.args.first.assumption c.args.second.conclusion c.args.second.assumption k1.0 k2.0 k3.0 _ (c.in_err-second_assumption.ensures.known P d e is)))
 
 pub returns-in_err-check_assumption-clause-ruled : goal.returns-in_err-check_assumption-clause-ruled
-returns-in_err-check_assumption-clause-ruled g c = λ d e is says.
+returns-in_err-check_assumption-clause-ruled g c = λ P d e is says.
     let p = err_from_is_err_and c.from_residual-in_err-check_assumption.result c.from_residual-in_err-check_assumption.ensures.1 in
-    let k1 = c.in_ok-first_conclusion.ensures.known d e is in
-    let k2 = c.in_ok-first_assumption.ensures.known d e is in
-    let k3 = c.in_ok-second_conclusion.ensures.known d e is in
-    let k4 = c.in_ok-second_assumption.ensures.known d e is in
-    rw (p.1, p.2) (inr (stops_5 d e c.args.first.conclusion c.args.first.assumption c.args.second.conclusion c.args.second.assumption k1.0 k2.0 k3.0 k4.0 _ (c.in_err-check_assumption.ensures.tests d e k2.1)))
+    let k1 = c.in_ok-first_conclusion.ensures.known P d e is in
+    let k2 = c.in_ok-first_assumption.ensures.known P d e is in
+    let k3 = c.in_ok-second_conclusion.ensures.known P d e is in
+    let k4 = c.in_ok-second_assumption.ensures.known P d e is in
+    rw (p.1, p.2) (inr (stops_5 P d e c.args.first.conclusion c.args.first.assumption c.args.second.conclusion c.args.second.assumption k1.0 k2.0 k3.0 k4.0 _ (c.in_err-check_assumption.ensures.tests P d e k2.1)))
 
 pub returns-in_err-check_assumption-2-clause-ruled : goal.returns-in_err-check_assumption-2-clause-ruled
-returns-in_err-check_assumption-2-clause-ruled g c = λ d e is says.
+returns-in_err-check_assumption-2-clause-ruled g c = λ P d e is says.
     let p = err_from_is_err_and c.from_residual-in_err-check_assumption-2.result c.from_residual-in_err-check_assumption-2.ensures.1 in
-    let k1 = c.in_ok-first_conclusion.ensures.known d e is in
-    let k2 = c.in_ok-first_assumption.ensures.known d e is in
-    let k3 = c.in_ok-second_conclusion.ensures.known d e is in
-    let k4 = c.in_ok-second_assumption.ensures.known d e is in
-    let a1 = c.in_ok-check_assumption.ensures.tests d e k2.1 in
-    rw (p.1, p.2) (inr (stops_6 d e c.args.first.conclusion c.args.first.assumption c.args.second.conclusion c.args.second.assumption k1.0 k2.0 k3.0 k4.0 a1 _ (c.in_err-check_assumption-2.ensures.tests d e k4.1)))
+    let k1 = c.in_ok-first_conclusion.ensures.known P d e is in
+    let k2 = c.in_ok-first_assumption.ensures.known P d e is in
+    let k3 = c.in_ok-second_conclusion.ensures.known P d e is in
+    let k4 = c.in_ok-second_assumption.ensures.known P d e is in
+    let a1 = c.in_ok-check_assumption.ensures.tests P d e k2.1 in
+    rw (p.1, p.2) (inr (stops_6 P d e c.args.first.conclusion c.args.first.assumption c.args.second.conclusion c.args.second.assumption k1.0 k2.0 k3.0 k4.0 a1 _ (c.in_err-check_assumption-2.ensures.tests P d e k4.1)))
 
 pub returns-in_err-check_split-clause-ruled : goal.returns-in_err-check_split-clause-ruled
-returns-in_err-check_split-clause-ruled g c = λ d e is says.
+returns-in_err-check_split-clause-ruled g c = λ P d e is says.
     let p = err_from_is_err_and c.from_residual-in_err-check_split.result c.from_residual-in_err-check_split.ensures.1 in
-    let k1 = c.in_ok-first_conclusion.ensures.known d e is in
-    let k2 = c.in_ok-first_assumption.ensures.known d e is in
-    let k3 = c.in_ok-second_conclusion.ensures.known d e is in
-    let k4 = c.in_ok-second_assumption.ensures.known d e is in
-    let a1 = c.in_ok-check_assumption.ensures.tests d e k2.1 in
-    let a2 = c.in_ok-check_assumption-2.ensures.tests d e k4.1 in
+    let k1 = c.in_ok-first_conclusion.ensures.known P d e is in
+    let k2 = c.in_ok-first_assumption.ensures.known P d e is in
+    let k3 = c.in_ok-second_conclusion.ensures.known P d e is in
+    let k4 = c.in_ok-second_assumption.ensures.known P d e is in
+    let a1 = c.in_ok-check_assumption.ensures.tests P d e k2.1 in
+    let a2 = c.in_ok-check_assumption-2.ensures.tests P d e k4.1 in
     let ints = ap (λ (q : Problem). q.integers) is.problem ∙ sym c.ints.ensures.integers in
-    rw (p.1, p.2) (elim (c.in_err-check_split.ensures.tests d e c.args.first.assumption c.args.second.assumption ints (ap condition_of c.constraint.ensures ∙ k2.1.says) (ap condition_of c.constraint-2.ensures ∙ k4.1.says)) [
-      | inl memory ↦ inl (memory, free_pass d e c.args.first.conclusion c.args.first.assumption c.args.second.conclusion c.args.second.assumption k1.0 k2.0 k3.0 k4.0 a1 a2)
-      | inr stops ↦ inr (stops_7 d e c.args.first.conclusion c.args.first.assumption c.args.second.conclusion c.args.second.assumption k1.0 k2.0 k3.0 k4.0 a1 a2 _ stops)
+    rw (p.1, p.2) (elim (c.in_err-check_split.ensures.tests P d e c.args.first.assumption c.args.second.assumption is.profile ints (ap condition_of c.constraint.ensures ∙ k2.1.says) (ap condition_of c.constraint-2.ensures ∙ k4.1.says)) [
+      | inl memory ↦ inl (memory, free_pass P d e c.args.first.conclusion c.args.first.assumption c.args.second.conclusion c.args.second.assumption k1.0 k2.0 k3.0 k4.0 a1 a2)
+      | inr stops ↦ inr (stops_7 P d e c.args.first.conclusion c.args.first.assumption c.args.second.conclusion c.args.second.assumption k1.0 k2.0 k3.0 k4.0 a1 a2 _ stops)
     ])
 
 pub returns-in_err-check_domination-clause-ruled : goal.returns-in_err-check_domination-clause-ruled
-returns-in_err-check_domination-clause-ruled g c = λ d e is says.
+returns-in_err-check_domination-clause-ruled g c = λ P d e is says.
     let p = err_from_is_err_and c.from_residual-in_err-check_domination.result c.from_residual-in_err-check_domination.ensures.1 in
-    let k1 = c.in_ok-first_conclusion.ensures.known d e is in
-    let k2 = c.in_ok-first_assumption.ensures.known d e is in
-    let k3 = c.in_ok-second_conclusion.ensures.known d e is in
-    let k4 = c.in_ok-second_assumption.ensures.known d e is in
-    let a1 = c.in_ok-check_assumption.ensures.tests d e k2.1 in
-    let a2 = c.in_ok-check_assumption-2.ensures.tests d e k4.1 in
+    let k1 = c.in_ok-first_conclusion.ensures.known P d e is in
+    let k2 = c.in_ok-first_assumption.ensures.known P d e is in
+    let k3 = c.in_ok-second_conclusion.ensures.known P d e is in
+    let k4 = c.in_ok-second_assumption.ensures.known P d e is in
+    let a1 = c.in_ok-check_assumption.ensures.tests P d e k2.1 in
+    let a2 = c.in_ok-check_assumption-2.ensures.tests P d e k4.1 in
     let ints = ap (λ (q : Problem). q.integers) is.problem ∙ sym c.ints.ensures.integers in
-    let s = c.in_ok-check_split.ensures.tests d e c.args.first.assumption c.args.second.assumption ints (ap condition_of c.constraint.ensures ∙ k2.1.says) (ap condition_of c.constraint-2.ensures ∙ k4.1.says) in
+    let s = c.in_ok-check_split.ensures.tests P d e c.args.first.assumption c.args.second.assumption is.profile ints (ap condition_of c.constraint.ensures ∙ k2.1.says) (ap condition_of c.constraint-2.ensures ∙ k4.1.says) in
     let x1 = ap condition_of c.constraint-3.ensures ∙ k1.1.says in
     rw (p.1, p.2) (elim c.in_err-check_domination.ensures [
-      | inl memory ↦ inl (memory, free_pass d e c.args.first.conclusion c.args.first.assumption c.args.second.conclusion c.args.second.assumption k1.0 k2.0 k3.0 k4.0 a1 a2)
-      | inr told ↦ inr (stops_8 d e c.args.first.conclusion c.args.first.assumption c.args.second.conclusion c.args.second.assumption k1.0 k2.0 k3.0 k4.0 a1 a2 s _ (constraint_stops d e c.args.first.conclusion _ c.args.stated.now x1 says _ told))
+      | inl memory ↦ inl (memory, free_pass P d e c.args.first.conclusion c.args.first.assumption c.args.second.conclusion c.args.second.assumption k1.0 k2.0 k3.0 k4.0 a1 a2)
+      | inr told ↦ inr (stops_8 P d e c.args.first.conclusion c.args.first.assumption c.args.second.conclusion c.args.second.assumption k1.0 k2.0 k3.0 k4.0 a1 a2 s _ (constraint_stops P d e c.args.first.conclusion _ c.args.stated.now x1 says _ told))
     ])
 
 pub returns-in_err-check_domination-2-clause-ruled : goal.returns-in_err-check_domination-2-clause-ruled
-returns-in_err-check_domination-2-clause-ruled g c = λ d e is says.
+returns-in_err-check_domination-2-clause-ruled g c = λ P d e is says.
     let p = err_from_is_err_and c.from_residual-in_err-check_domination-2.result c.from_residual-in_err-check_domination-2.ensures.1 in
-    let k1 = c.in_ok-first_conclusion.ensures.known d e is in
-    let k2 = c.in_ok-first_assumption.ensures.known d e is in
-    let k3 = c.in_ok-second_conclusion.ensures.known d e is in
-    let k4 = c.in_ok-second_assumption.ensures.known d e is in
-    let a1 = c.in_ok-check_assumption.ensures.tests d e k2.1 in
-    let a2 = c.in_ok-check_assumption-2.ensures.tests d e k4.1 in
+    let k1 = c.in_ok-first_conclusion.ensures.known P d e is in
+    let k2 = c.in_ok-first_assumption.ensures.known P d e is in
+    let k3 = c.in_ok-second_conclusion.ensures.known P d e is in
+    let k4 = c.in_ok-second_assumption.ensures.known P d e is in
+    let a1 = c.in_ok-check_assumption.ensures.tests P d e k2.1 in
+    let a2 = c.in_ok-check_assumption-2.ensures.tests P d e k4.1 in
     let ints = ap (λ (q : Problem). q.integers) is.problem ∙ sym c.ints.ensures.integers in
-    let s = c.in_ok-check_split.ensures.tests d e c.args.first.assumption c.args.second.assumption ints (ap condition_of c.constraint.ensures ∙ k2.1.says) (ap condition_of c.constraint-2.ensures ∙ k4.1.says) in
+    let s = c.in_ok-check_split.ensures.tests P d e c.args.first.assumption c.args.second.assumption is.profile ints (ap condition_of c.constraint.ensures ∙ k2.1.says) (ap condition_of c.constraint-2.ensures ∙ k4.1.says) in
     let x1 = ap condition_of c.constraint-3.ensures ∙ k1.1.says in
-    let d1 = constraint_passes d e c.args.first.conclusion _ c.args.stated.now x1 says c.in_ok-check_domination.ensures in
+    let d1 = constraint_passes P d e c.args.first.conclusion _ c.args.stated.now x1 says c.in_ok-check_domination.ensures in
     let x2 = ap condition_of c.constraint-4.ensures ∙ k3.1.says in
     rw (p.1, p.2) (elim c.in_err-check_domination-2.ensures [
-      | inl memory ↦ inl (memory, free_pass d e c.args.first.conclusion c.args.first.assumption c.args.second.conclusion c.args.second.assumption k1.0 k2.0 k3.0 k4.0 a1 a2)
-      | inr told ↦ inr (stops_9 d e c.args.first.conclusion c.args.first.assumption c.args.second.conclusion c.args.second.assumption k1.0 k2.0 k3.0 k4.0 a1 a2 s d1 _ (constraint_stops d e c.args.second.conclusion _ c.args.stated.now x2 says _ told))
+      | inl memory ↦ inl (memory, free_pass P d e c.args.first.conclusion c.args.first.assumption c.args.second.conclusion c.args.second.assumption k1.0 k2.0 k3.0 k4.0 a1 a2)
+      | inr told ↦ inr (stops_9 P d e c.args.first.conclusion c.args.first.assumption c.args.second.conclusion c.args.second.assumption k1.0 k2.0 k3.0 k4.0 a1 a2 s d1 _ (constraint_stops P d e c.args.second.conclusion _ c.args.stated.now x2 says _ told))
     ])
 
 pub returns-in_err-from_first-clause-ruled : goal.returns-in_err-from_first-clause-ruled
-returns-in_err-from_first-clause-ruled g c = λ d e is says.
+returns-in_err-from_first-clause-ruled g c = λ P d e is says.
     let p = err_from_is_err_and c.from_residual-in_err-from_first.result c.from_residual-in_err-from_first.ensures.1 in
-    let k1 = c.in_ok-first_conclusion.ensures.known d e is in
-    let k2 = c.in_ok-first_assumption.ensures.known d e is in
-    let k3 = c.in_ok-second_conclusion.ensures.known d e is in
-    let k4 = c.in_ok-second_assumption.ensures.known d e is in
-    let a1 = c.in_ok-check_assumption.ensures.tests d e k2.1 in
-    let a2 = c.in_ok-check_assumption-2.ensures.tests d e k4.1 in
-    rw (p.1, p.2) (inl (refl, free_pass d e c.args.first.conclusion c.args.first.assumption c.args.second.conclusion c.args.second.assumption k1.0 k2.0 k3.0 k4.0 a1 a2))
+    let k1 = c.in_ok-first_conclusion.ensures.known P d e is in
+    let k2 = c.in_ok-first_assumption.ensures.known P d e is in
+    let k3 = c.in_ok-second_conclusion.ensures.known P d e is in
+    let k4 = c.in_ok-second_assumption.ensures.known P d e is in
+    let a1 = c.in_ok-check_assumption.ensures.tests P d e k2.1 in
+    let a2 = c.in_ok-check_assumption-2.ensures.tests P d e k4.1 in
+    rw (p.1, p.2) (inl (refl, free_pass P d e c.args.first.conclusion c.args.first.assumption c.args.second.conclusion c.args.second.assumption k1.0 k2.0 k3.0 k4.0 a1 a2))
 
 pub returns-in_err-from_second-clause-ruled : goal.returns-in_err-from_second-clause-ruled
-returns-in_err-from_second-clause-ruled g c = λ d e is says.
+returns-in_err-from_second-clause-ruled g c = λ P d e is says.
     let p = err_from_is_err_and c.from_residual-in_err-from_second.result c.from_residual-in_err-from_second.ensures.1 in
-    let k1 = c.in_ok-first_conclusion.ensures.known d e is in
-    let k2 = c.in_ok-first_assumption.ensures.known d e is in
-    let k3 = c.in_ok-second_conclusion.ensures.known d e is in
-    let k4 = c.in_ok-second_assumption.ensures.known d e is in
-    let a1 = c.in_ok-check_assumption.ensures.tests d e k2.1 in
-    let a2 = c.in_ok-check_assumption-2.ensures.tests d e k4.1 in
-    rw (p.1, p.2) (inl (refl, free_pass d e c.args.first.conclusion c.args.first.assumption c.args.second.conclusion c.args.second.assumption k1.0 k2.0 k3.0 k4.0 a1 a2))
+    let k1 = c.in_ok-first_conclusion.ensures.known P d e is in
+    let k2 = c.in_ok-first_assumption.ensures.known P d e is in
+    let k3 = c.in_ok-second_conclusion.ensures.known P d e is in
+    let k4 = c.in_ok-second_assumption.ensures.known P d e is in
+    let a1 = c.in_ok-check_assumption.ensures.tests P d e k2.1 in
+    let a2 = c.in_ok-check_assumption-2.ensures.tests P d e k4.1 in
+    rw (p.1, p.2) (inl (refl, free_pass P d e c.args.first.conclusion c.args.first.assumption c.args.second.conclusion c.args.second.assumption k1.0 k2.0 k3.0 k4.0 a1 a2))
 
 pub returns-in_err-union-clause-ruled : goal.returns-in_err-union-clause-ruled
-returns-in_err-union-clause-ruled g c = λ d e is says.
+returns-in_err-union-clause-ruled g c = λ P d e is says.
     let p = err_from_is_err_and c.from_residual-in_err-union.result c.from_residual-in_err-union.ensures.1 in
-    let k1 = c.in_ok-first_conclusion.ensures.known d e is in
-    let k2 = c.in_ok-first_assumption.ensures.known d e is in
-    let k3 = c.in_ok-second_conclusion.ensures.known d e is in
-    let k4 = c.in_ok-second_assumption.ensures.known d e is in
-    let a1 = c.in_ok-check_assumption.ensures.tests d e k2.1 in
-    let a2 = c.in_ok-check_assumption-2.ensures.tests d e k4.1 in
-    rw (p.1, p.2) (inl (refl, free_pass d e c.args.first.conclusion c.args.first.assumption c.args.second.conclusion c.args.second.assumption k1.0 k2.0 k3.0 k4.0 a1 a2))
+    let k1 = c.in_ok-first_conclusion.ensures.known P d e is in
+    let k2 = c.in_ok-first_assumption.ensures.known P d e is in
+    let k3 = c.in_ok-second_conclusion.ensures.known P d e is in
+    let k4 = c.in_ok-second_assumption.ensures.known P d e is in
+    let a1 = c.in_ok-check_assumption.ensures.tests P d e k2.1 in
+    let a2 = c.in_ok-check_assumption-2.ensures.tests P d e k4.1 in
+    rw (p.1, p.2) (inl (refl, free_pass P d e c.args.first.conclusion c.args.first.assumption c.args.second.conclusion c.args.second.assumption k1.0 k2.0 k3.0 k4.0 a1 a2))
 
 pub returns-clause-ruled : goal.returns-clause-ruled
-returns-clause-ruled g c = λ d e is says.
-    let k1 = c.in_ok-first_conclusion.ensures.known d e is in
-    let k2 = c.in_ok-first_assumption.ensures.known d e is in
-    let k3 = c.in_ok-second_conclusion.ensures.known d e is in
-    let k4 = c.in_ok-second_assumption.ensures.known d e is in
-    let a1 = c.in_ok-check_assumption.ensures.tests d e k2.1 in
-    let a2 = c.in_ok-check_assumption-2.ensures.tests d e k4.1 in
+returns-clause-ruled g c = λ P d e is says.
+    let k1 = c.in_ok-first_conclusion.ensures.known P d e is in
+    let k2 = c.in_ok-first_assumption.ensures.known P d e is in
+    let k3 = c.in_ok-second_conclusion.ensures.known P d e is in
+    let k4 = c.in_ok-second_assumption.ensures.known P d e is in
+    let a1 = c.in_ok-check_assumption.ensures.tests P d e k2.1 in
+    let a2 = c.in_ok-check_assumption-2.ensures.tests P d e k4.1 in
     let ints = ap (λ (q : Problem). q.integers) is.problem ∙ sym c.ints.ensures.integers in
-    let s = c.in_ok-check_split.ensures.tests d e c.args.first.assumption c.args.second.assumption ints (ap condition_of c.constraint.ensures ∙ k2.1.says) (ap condition_of c.constraint-2.ensures ∙ k4.1.says) in
+    let s = c.in_ok-check_split.ensures.tests P d e c.args.first.assumption c.args.second.assumption is.profile ints (ap condition_of c.constraint.ensures ∙ k2.1.says) (ap condition_of c.constraint-2.ensures ∙ k4.1.says) in
     let x1 = ap condition_of c.constraint-3.ensures ∙ k1.1.says in
-    let d1 = constraint_passes d e c.args.first.conclusion _ c.args.stated.now x1 says c.in_ok-check_domination.ensures in
+    let d1 = constraint_passes P d e c.args.first.conclusion _ c.args.stated.now x1 says c.in_ok-check_domination.ensures in
     let x2 = ap condition_of c.constraint-4.ensures ∙ k3.1.says in
-    let d2 = constraint_passes d e c.args.second.conclusion _ c.args.stated.now x2 says c.in_ok-check_domination-2.ensures in (
-      all_pass d e c.args.first.conclusion c.args.first.assumption c.args.second.conclusion c.args.second.assumption k1.0 k2.0 k3.0 k4.0 a1 a2 s d1 d2,
+    let d2 = constraint_passes P d e c.args.second.conclusion _ c.args.stated.now x2 says c.in_ok-check_domination-2.ensures in (
+      all_pass P d e c.args.first.conclusion c.args.first.assumption c.args.second.conclusion c.args.second.assumption k1.0 k2.0 k3.0 k4.0 a1 a2 s d1 d2,
       joined_set d c.args.first.conclusion c.args.first.assumption c.args.second.conclusion c.args.second.assumption _ _ _ _ _ k1.1 k3.1 c.in_ok-from_first.ensures c.in_ok-from_second.ensures c.in_ok-union.ensures,
     )
 
 pub returns-clause-sound : goal.returns-clause-sound
 returns-clause-sound g c = λ says x at.
-    let split = subst (λ i. IsSplit one i (condition_of c.constraint.result.now) (condition_of c.constraint-2.result.now)) c.ints.ensures.integers c.in_ok-check_split.ensures.ok in
-    branches_true _ says x _ _ _ _ _ _ c.args.first.assumption c.args.second.assumption _ _ _ _ _
+    let split = subst (λ i. IsSplit (profile_of c.args.context.now.profile) i (condition_of c.constraint.result.now) (condition_of c.constraint-2.result.now)) c.ints.ensures.integers c.in_ok-check_split.ensures.ok in
+    branches_true _ says x (profile_of c.args.context.now.profile) _ _ _ _ _ _ c.args.first.assumption c.args.second.assumption _ _ _ _ _
     (c.in_ok-first_assumption.ensures.stated c.in_ok-check_assumption.ensures.ok says x at ∙ sym (ap condition_of c.constraint.ensures))
     (c.in_ok-second_assumption.ensures.stated c.in_ok-check_assumption-2.ensures.ok says x at ∙ sym (ap condition_of c.constraint-2.ensures))
     c.in_ok-from_first.ensures c.in_ok-from_second.ensures c.in_ok-union.ensures

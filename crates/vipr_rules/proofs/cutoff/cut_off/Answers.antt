@@ -4,38 +4,38 @@ use Rattle.std.proofs.lemmas.Result.{err_from_is_err_and}
 use Rattle.vipr_spec.specs.Constraint.{IsTrueAt}
 use Rattle.vipr_spec.specs.Certificate.{Problem, variables, objective_at, objective_constraint, reaches, IsAsGood}
 use Rattle.vipr_spec.specs.Soundness.{IsBestValue}
-use Rattle.vipr_spec.proofs.Linear.{dominates_true}
+use Rattle.vipr_spec.proofs.Laws.{dominates_true}
 use Rattle.vipr_rules.proofs.CutoffLemmas.{none_listed, listed_passes, cut_passes, cut_not_dominated, reached}
 use Rattle.vipr_rules.proofs.StepLemmas.{no_set}
 use Rattle.vipr_rules.proofs.cutoff.cut_off.Goals as goal
 
 pub returns-in_err-computed-clause-ruled : goal.returns-in_err-computed-clause-ruled
-returns-in_err-computed-clause-ruled g c = λ d e is says.
+returns-in_err-computed-clause-ruled g c = λ P d e is says.
     let p = c.args.context.now.problem.now in
     let value = c.in-Some.value.now in
     let best = subst (λ p. IsBestValue p d.solutions (Some value)) (sym is.problem) (subst (IsBestValue p d.solutions) (ap option_copied c.in-Some.is) is.best) in
     let q = err_from_is_err_and c.from_residual.result c.from_residual.ensures.1 in
-    rw (q.1, q.2) (inl (refl, listed_passes d e value best))
+    rw (q.1, q.2) (inl (refl, listed_passes P d e value best))
 
 pub returns-in_err-check_domination-clause-ruled : goal.returns-in_err-check_domination-clause-ruled
-returns-in_err-check_domination-clause-ruled g c = λ d e is says.
+returns-in_err-check_domination-clause-ruled g c = λ P d e is says.
     let p = c.args.context.now.problem.now in
     let value = c.in-Some.value.now in
     let best = subst (λ p. IsBestValue p d.solutions (Some value)) (sym is.problem) (subst (IsBestValue p d.solutions) (ap option_copied c.in-Some.is) is.best) in
     let same = c.in_ok-computed.ensures ∙ ap (λ (p : Problem). objective_constraint p (reaches p.direction) value) (sym is.problem) in
     let q = err_from_is_err_and c.from_residual-in_err-check_domination.result c.from_residual-in_err-check_domination.ensures.1 in
     rw (q.1, q.2) (elim c.in_err-check_domination.ensures [
-      | inl memory ↦ inl (memory, listed_passes d e value best)
-      | inr told ↦ inr (cut_not_dominated d e value best c.in_ok-computed.computed c.args.stated.now same says _ told)
+      | inl memory ↦ inl (memory, listed_passes P d e value best)
+      | inr told ↦ inr (cut_not_dominated P d e value best c.in_ok-computed.computed c.args.stated.now same says _ told)
     ])
 
 pub returns-clause-ruled : goal.returns-clause-ruled
-returns-clause-ruled g c = λ d e is says.
+returns-clause-ruled g c = λ P d e is says.
     let p = c.args.context.now.problem.now in
     let value = c.in-Some.value.now in
     let best = subst (λ p. IsBestValue p d.solutions (Some value)) (sym is.problem) (subst (IsBestValue p d.solutions) (ap option_copied c.in-Some.is) is.best) in
     let same = c.in_ok-computed.ensures ∙ ap (λ (p : Problem). objective_constraint p (reaches p.direction) value) (sym is.problem) in
-    (cut_passes d e value best c.in_ok-computed.computed c.args.stated.now same says c.in_ok-check_domination.ensures, no_set d _ c.empty.ensures)
+    (cut_passes P d e value best c.in_ok-computed.computed c.args.stated.now same says c.in_ok-check_domination.ensures, no_set d _ c.empty.ensures)
 
 pub returns-clause-sound : goal.returns-clause-sound
 returns-clause-sound g c = λ says x at h.
@@ -46,6 +46,6 @@ returns-clause-sound g c = λ says x at h.
     (subst (λ d. IsTrueAt (variables p) d x) (sym c.in_ok-computed.ensures) (reached p.direction (objective_at p x) value unbeaten))
 
 pub returns-in_default-clause-ruled : goal.returns-in_default-clause-ruled
-returns-in_default-clause-ruled g c = λ d e is says.
+returns-in_default-clause-ruled g c = λ P d e is says.
     let none : c.args.context.now.best ≡ None = c.in_default.is in
-    inr (none_listed d e (subst (λ p. IsBestValue p d.solutions None) (sym is.problem) (subst (IsBestValue c.args.context.now.problem.now d.solutions) (ap option_copied none) is.best)))
+    inr (none_listed P d e (subst (λ p. IsBestValue p d.solutions None) (sym is.problem) (subst (IsBestValue c.args.context.now.problem.now d.solutions) (ap option_copied none) is.best)))

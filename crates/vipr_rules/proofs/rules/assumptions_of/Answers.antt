@@ -5,18 +5,18 @@ use Rattle.std.specs.Prelude.{IsTrue}
 use Rattle.vipr_spec.specs.Constraint.{IsTrueAt}
 use Rattle.vipr_spec.specs.Certificate.{variables, asm, lin, rnd, count}
 use Rattle.vipr_spec.specs.Steps.{step_tests}
-use Rattle.vipr_items.specs.Items.{reason_of, derivation_of}
+use Rattle.vipr_cert.specs.Items.{reason_of, derivation_of}
 use Rattle.vipr_rules.specs.Context.{IsSetByReason}
-use Rattle.vipr_rules.specs.Apply.{IsRuledBy, Passes}
+use Rattle.vipr_rules.specs.Apply.{IsRuledBy, PassesTestsIn}
 use Rattle.vipr_rules.proofs.StepLemmas.{own_set}
 use Rattle.vipr_rules.proofs.rules.assumptions_of.Goals as goal
 
 pub returns-in_ok-single-in-Asm-clause-ruled : goal.returns-in_ok-single-in-Asm-clause-ruled
-returns-in_ok-single-in-Asm-clause-ruled g c = λ d is.
+returns-in_ok-single-in-Asm-clause-ruled g c = λ P d is.
     let step = derivation_of c.args.step.now in
     let by = ap reason_of c.in-Asm.is in
     let own = c.in_ok-single-in-Asm.ensures ∙ ap (insert empty) (c.next.ensures ∙ is.rows.next) in
-    subst (λ r. Passes d step (step_tests r) × IsSetByReason d r c.in_ok-single-in-Asm.field-0) (sym by) (refl, subst (IsSetByReason d asm) (sym own) (own_set (count d)))
+    subst (λ r. PassesTestsIn P d step (step_tests r) × IsSetByReason d r c.in_ok-single-in-Asm.field-0) (sym by) (refl, subst (IsSetByReason d asm) (sym own) (own_set (count d)))
 
 pub returns-in_ok-single-in-Asm-clause-sound : goal.returns-in_ok-single-in-Asm-clause-sound
 returns-in_ok-single-in-Asm-clause-sound g c = λ says x at next h.
@@ -24,31 +24,31 @@ returns-in_ok-single-in-Asm-clause-sound g c = λ says x at next h.
     (h c.next.result (subst (λ s. IsTrue (contains s c.next.result)) (sym c.in_ok-single-in-Asm.ensures) ((own_set c.next.result c.next.result).1 refl)))
 
 pub returns-in-Lin-clause-ruled : goal.returns-in-Lin-clause-ruled
-returns-in-Lin-clause-ruled g c = λ d is.
+returns-in-Lin-clause-ruled g c = λ P d is.
     let by = ap reason_of c.in-Lin.is ∙ ap lin (sym c.deref.ensures.value) in
-    subst (λ r. IsRuledBy d (derivation_of c.args.step.now) r c.combine.result) (sym by) (c.combine.ensures.ruled d (derivation_of c.args.step.now) is refl)
+    subst (λ r. IsRuledBy P d (derivation_of c.args.step.now) r c.combine.result) (sym by) (c.combine.ensures.ruled P d (derivation_of c.args.step.now) is refl)
 
 pub returns-in-Lin-clause-sound : goal.returns-in-Lin-clause-sound
 returns-in-Lin-clause-sound g c = IfOk-weaker c.combine.result _ _ (λ s sound says x at next. sound says x at) c.combine.ensures.sound
 
 pub returns-in-Rnd-clause-ruled : goal.returns-in-Rnd-clause-ruled
-returns-in-Rnd-clause-ruled g c = λ d is.
+returns-in-Rnd-clause-ruled g c = λ P d is.
     let by = ap reason_of c.in-Rnd.is ∙ ap rnd (sym c.deref-in-Rnd.ensures.value) in
-    subst (λ r. IsRuledBy d (derivation_of c.args.step.now) r c.combine_rounded.result) (sym by) (c.combine_rounded.ensures.ruled d (derivation_of c.args.step.now) is refl)
+    subst (λ r. IsRuledBy P d (derivation_of c.args.step.now) r c.combine_rounded.result) (sym by) (c.combine_rounded.ensures.ruled P d (derivation_of c.args.step.now) is refl)
 
 pub returns-in-Rnd-clause-sound : goal.returns-in-Rnd-clause-sound
 returns-in-Rnd-clause-sound g c = IfOk-weaker c.combine_rounded.result _ _ (λ s sound says x at next. sound says x at) c.combine_rounded.ensures.sound
 
 pub returns-in-Uns-clause-ruled : goal.returns-in-Uns-clause-ruled
-returns-in-Uns-clause-ruled g c = λ d is.
-    subst (λ r. IsRuledBy d (derivation_of c.args.step.now) r c.join_branches.result) (sym (ap reason_of c.in-Uns.is)) (c.join_branches.ensures.ruled d (derivation_of c.args.step.now) is refl)
+returns-in-Uns-clause-ruled g c = λ P d is.
+    subst (λ r. IsRuledBy P d (derivation_of c.args.step.now) r c.join_branches.result) (sym (ap reason_of c.in-Uns.is)) (c.join_branches.ensures.ruled P d (derivation_of c.args.step.now) is refl)
 
 pub returns-in-Uns-clause-sound : goal.returns-in-Uns-clause-sound
 returns-in-Uns-clause-sound g c = IfOk-weaker c.join_branches.result _ _ (λ s sound says x at next. sound says x at) c.join_branches.ensures.sound
 
 pub returns-in-Sol-clause-ruled : goal.returns-in-Sol-clause-ruled
-returns-in-Sol-clause-ruled g c = λ d is.
-    subst (λ r. IsRuledBy d (derivation_of c.args.step.now) r c.cut_off.result) (sym (ap reason_of c.in-Sol.is)) (c.cut_off.ensures.ruled d (derivation_of c.args.step.now) is refl)
+returns-in-Sol-clause-ruled g c = λ P d is.
+    subst (λ r. IsRuledBy P d (derivation_of c.args.step.now) r c.cut_off.result) (sym (ap reason_of c.in-Sol.is)) (c.cut_off.ensures.ruled P d (derivation_of c.args.step.now) is refl)
 
 pub returns-in-Sol-clause-sound : goal.returns-in-Sol-clause-sound
 returns-in-Sol-clause-sound g c = IfOk-weaker c.cut_off.result _ _ (λ s sound says x at next. sound says x at) c.cut_off.ensures.sound

@@ -4,26 +4,26 @@ use Rattle.vipr_rules.proofs.SolutionLemmas.{as_many, given_is, given_below, tru
 use Rattle.vipr_rules.proofs.solution.test_constraints.Goals as goal
 
 pub returns-in_err-test_constraint : goal.returns-in_err-test_constraint
-returns-in_err-test_constraint c =
+returns-in_err-test_constraint c = λ s laid.
     let p = c.args.p.now in
     let cons = c.cons-named-items in
     let i = c.loop-i.i in
     let within = c.loop-i-test.true in
-    let bad = c.in_err-test_constraint.ensures p (given_is p cons.result.now cons.ensures.constraints i c.named-item.result within c.named-item.is) (given_below p cons.result.now cons.ensures.constraints i c.named-item.result within c.named-item.is cons.ensures.writes) in
+    let bad = c.in_err-test_constraint.ensures p s laid (given_is p cons.result.now cons.ensures.constraints i c.named-item.result within c.named-item.is) (given_below p cons.result.now cons.ensures.constraints i c.named-item.result within c.named-item.is cons.ensures.writes) in
     let q = err_from_is_err_and c.from_residual.result c.from_residual.ensures.1 in
-    rw (q.1, q.2) (constraint_fails p c.args.solution.now.0 i (subst (λ n. i < n) (as_many p cons.result.now cons.ensures.constraints) within) c.loop-i.invariant _ bad)
+    rw (q.1, q.2) (constraint_fails p s i (subst (λ n. i < n) (as_many p cons.result.now cons.ensures.constraints) within) (c.loop-i.invariant s laid) _ bad)
 
 pub loop-i-preserved : goal.loop-i-preserved
-loop-i-preserved c =
+loop-i-preserved c = λ s laid.
     let p = c.args.p.now in
     let cons = c.cons-named-items in
     let i = c.loop-i.i in
     let within = c.loop-i-test.true in
-    let good = c.in_ok-test_constraint.ensures p (given_is p cons.result.now cons.ensures.constraints i c.named-item.result within c.named-item.is) (given_below p cons.result.now cons.ensures.constraints i c.named-item.result within c.named-item.is cons.ensures.writes) in
-    true_next p c.args.solution.now.0 i (subst (λ n. i < n) (as_many p cons.result.now cons.ensures.constraints) within) c.loop-i.invariant good
+    let good = c.in_ok-test_constraint.ensures p s laid (given_is p cons.result.now cons.ensures.constraints i c.named-item.result within c.named-item.is) (given_below p cons.result.now cons.ensures.constraints i c.named-item.result within c.named-item.is cons.ensures.writes) in
+    true_next p s i (subst (λ n. i < n) (as_many p cons.result.now cons.ensures.constraints) within) (c.loop-i.invariant s laid) good
 
 pub returns : goal.returns
-returns c =
+returns c = λ s laid.
     let p = c.args.p.now in
     let cons = c.cons-named-items in
-    all_true p c.args.solution.now.0 c.loop-i.i (subst (λ n. n ≤ c.loop-i.i) (as_many p cons.result.now cons.ensures.constraints) c.loop-i-test.false) c.loop-i.invariant
+    all_true p s c.loop-i.i (subst (λ n. n ≤ c.loop-i.i) (as_many p cons.result.now cons.ensures.constraints) c.loop-i-test.false) (c.loop-i.invariant s laid)

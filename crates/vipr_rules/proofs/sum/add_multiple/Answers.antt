@@ -2,7 +2,7 @@ use Rattle.std.proofs.Common.{Err, ◌≡◌, false, sym, ap, subst, ◌∙◌, 
 use Rattle.vipr_spec.specs.Constraint.{at, Entry, NamesBelow}
 use Rattle.vipr_linear.specs.Accumulator.{Holds}
 use Rattle.vipr_linear.specs.Constraint.{condition_of}
-use Rattle.vipr_linear.proofs.StepByStep.{fits_told, suitable_told, step_held}
+use Rattle.vipr_linear.proofs.Laws.{fits_told, suitable_told, step_held}
 use Rattle.vipr_rules.proofs.sum.add_multiple.Goals as goal
 
 pub returns-in-Ok-clause-sum : goal.returns-in-Ok-clause-sum

@@ -5,13 +5,13 @@ use Rattle.vipr_rules.proofs.RoundLemmas.{not_roundable, rounded_dominates, roun
 use Rattle.vipr_rules.proofs.sum.check_rounded.Goals as goal
 
 pub returns-in-Ok-Row-clause-tests : goal.returns-in-Ok-Row-clause-tests
-returns-in-Ok-Row-clause-tests c = λ d e es sum ints says.
+returns-in-Ok-Row-clause-tests c = λ P d e es sum ints says.
     let whole_row = c.in-Ok-Row.ensures.ok.0 refl in
     let rounding = rw c.in-Ok-Row.field-0-is at c.in-Ok-Row.ensures.rounding in
     let dominates = rw c.in-Ok-Row.field-0-is at (c.in-Ok-Row.ensures.dominates (condition_of c.args.stated.now)) in
     MatchResult-weaker c.check_domination.result c.check_domination.ensures
-    (λ _ h. rounded_dominates d e es c.args.sum sum c.args.ints.now ints whole_row c.args.stated.now says (dominates.0 h))
-    (λ error told. rounded_refused d e es c.args.sum sum c.args.ints.now ints whole_row c.args.stated.now says c.in-Ok-Row.computed rounding dominates error told)
+    (λ _ h. rounded_dominates P d e es c.args.sum sum c.args.ints.now ints whole_row c.args.stated.now says (dominates.0 h))
+    (λ error told. rounded_refused P d e es c.args.sum sum c.args.ints.now ints whole_row c.args.stated.now says c.in-Ok-Row.computed rounding dominates error told)
 
 pub returns-in-Ok-Row-clause-dominates : goal.returns-in-Ok-Row-clause-dominates
 returns-in-Ok-Row-clause-dominates c =
@@ -20,9 +20,9 @@ returns-in-Ok-Row-clause-dominates c =
     MatchResult-weaker c.check_domination.result c.check_domination.ensures (λ _ h. (whole_row, dominates.0 h)) (λ error told. tt)
 
 pub returns-in-Ok-Absurd-clause-tests : goal.returns-in-Ok-Absurd-clause-tests
-returns-in-Ok-Absurd-clause-tests c = λ d e es sum ints says.
+returns-in-Ok-Absurd-clause-tests c = λ P d e es sum ints says.
     let dominates = rw c.in-Ok-Absurd.field-0-is at (c.in-Ok-Absurd.ensures.dominates (condition_of c.args.stated.now)) in
-    rounded_dominates d e es c.args.sum sum c.args.ints.now ints (c.in-Ok-Absurd.ensures.ok.0 refl) c.args.stated.now says (dominates.0 tt)
+    rounded_dominates P d e es c.args.sum sum c.args.ints.now ints (c.in-Ok-Absurd.ensures.ok.0 refl) c.args.stated.now says (dominates.0 tt)
 
 pub returns-in-Ok-Absurd-clause-dominates : goal.returns-in-Ok-Absurd-clause-dominates
 returns-in-Ok-Absurd-clause-dominates c =
@@ -30,5 +30,5 @@ returns-in-Ok-Absurd-clause-dominates c =
     (c.in-Ok-Absurd.ensures.ok.0 refl, dominates.0 tt)
 
 pub returns-in-Err-clause-tests : goal.returns-in-Err-clause-tests
-returns-in-Err-clause-tests c = λ d e es sum ints says.
-    rw c.in-Err.ensures.back (inr (not_roundable d e es c.args.sum sum c.args.ints.now ints (λ w. let ok = c.in-Err.ensures.ok.1 w in absurd (cc))))
+returns-in-Err-clause-tests c = λ P d e es sum ints says.
+    rw c.in-Err.ensures.back (inr (not_roundable P d e es c.args.sum sum c.args.ints.now ints (λ w. let ok = c.in-Err.ensures.ok.1 w in absurd (cc))))

@@ -3,33 +3,33 @@ use Rattle.std.proofs.lemmas.Result.{err_from_is_err_and}
 use Rattle.vipr_spec.specs.Constraint.{at, IsWholeRow}
 use Rattle.vipr_spec.specs.Certificate.{Problem, variables}
 use Rattle.vipr_spec.specs.Steps.{sum_tests, roundable, by_rounding}
-use Rattle.vipr_spec.proofs.Linear.{rounded_true, whole_value}
+use Rattle.vipr_spec.proofs.Laws.{rounded_true, whole_value}
 use Rattle.vipr_rules.proofs.StepLemmas.{stops_first, stops_second, passes_both}
 use Rattle.vipr_rules.proofs.sum.combine_rounded.Goals as goal
 
 pub returns-in_err-sum-clause-ruled : goal.returns-in_err-sum-clause-ruled
-returns-in_err-sum-clause-ruled g c = λ d e is says.
+returns-in_err-sum-clause-ruled g c = λ P d e is says.
     let p = err_from_is_err_and c.from_residual.result c.from_residual.ensures.1 in
-    rw (p.1, p.2) (elim (c.in_err-sum.ensures.sum d e is) [
+    rw (p.1, p.2) (elim (c.in_err-sum.ensures.sum P d e is) [
       | inl memory ↦ inl (memory, refl)
-      | inr stops ↦ inr (stops_first d e (sum_tests c.args.entries.now) (roundable c.args.entries.now ∷ by_rounding c.args.entries.now ∷ []) _ stops)
+      | inr stops ↦ inr (stops_first P d e (sum_tests c.args.entries.now) (roundable c.args.entries.now ∷ by_rounding c.args.entries.now ∷ []) _ stops)
     ])
 
 pub returns-in_err-check_rounded-clause-ruled : goal.returns-in_err-check_rounded-clause-ruled
-returns-in_err-check_rounded-clause-ruled g c = λ d e is says.
-    let sum = c.in_ok-sum.ensures.sum d e is in
+returns-in_err-check_rounded-clause-ruled g c = λ P d e is says.
+    let sum = c.in_ok-sum.ensures.sum P d e is in
     let ints = ap (λ (q : Problem). q.integers) is.problem ∙ sym c.ints.ensures.integers in
     let p = err_from_is_err_and c.from_residual-in_err-check_rounded.result c.from_residual-in_err-check_rounded.ensures.1 in
-    rw (p.1, p.2) (elim (c.in_err-check_rounded.ensures.tests d e c.args.entries.now sum.1 ints says) [
+    rw (p.1, p.2) (elim (c.in_err-check_rounded.ensures.tests P d e c.args.entries.now sum.1 ints says) [
       | inl memory ↦ inl (memory, refl)
-      | inr stops ↦ inr (stops_second d e (sum_tests c.args.entries.now) (roundable c.args.entries.now ∷ by_rounding c.args.entries.now ∷ []) _ sum.0 stops)
+      | inr stops ↦ inr (stops_second P d e (sum_tests c.args.entries.now) (roundable c.args.entries.now ∷ by_rounding c.args.entries.now ∷ []) _ sum.0 stops)
     ])
 
 pub returns-clause-ruled : goal.returns-clause-ruled
-returns-clause-ruled g c = λ d e is says.
-    let sum = c.in_ok-sum.ensures.sum d e is in
+returns-clause-ruled g c = λ P d e is says.
+    let sum = c.in_ok-sum.ensures.sum P d e is in
     let ints = ap (λ (q : Problem). q.integers) is.problem ∙ sym c.ints.ensures.integers in (
-      passes_both d e (sum_tests c.args.entries.now) (roundable c.args.entries.now ∷ by_rounding c.args.entries.now ∷ []) sum.0 (c.in_ok-check_rounded.ensures.tests d e c.args.entries.now sum.1 ints says),
+      passes_both P d e (sum_tests c.args.entries.now) (roundable c.args.entries.now ∷ by_rounding c.args.entries.now ∷ []) sum.0 (c.in_ok-check_rounded.ensures.tests P d e c.args.entries.now sum.1 ints says),
       sum.2,
     )
 

@@ -1,5 +1,5 @@
 use Rattle.std.proofs.Common.{map}
-use Rattle.vipr_items.specs.Items.{derivation_of}
+use Rattle.vipr_cert.specs.Items.{derivation_of}
 use Rattle.vipr_tighten.proofs.Marking.{AreMarksFrom}
 use Rattle.vipr_tighten.proofs.needed.needed.Given as goal
 

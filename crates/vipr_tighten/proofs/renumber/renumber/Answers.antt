@@ -3,7 +3,7 @@ use Rattle.std.specs.Vec.Iter.{into_iter_items}
 use Rattle.std.proofs.lemmas.Option.{MatchOption-at_some}
 use Rattle.std.proofs.lemmas.List.{with_items_is}
 use Rattle.vipr_spec.specs.Certificate.{NamesEarlier}
-use Rattle.vipr_items.specs.Items.{reason_of}
+use Rattle.vipr_cert.specs.Items.{reason_of}
 use Rattle.vipr_tighten.proofs.Marking.{mark_is}
 use Rattle.vipr_tighten.proofs.Renumbering.{few_kept, next_there, next_earlier, leave_out, take_over}
 use Rattle.vipr_tighten.proofs.renumber.renumber.Goals as goal

@@ -1,5 +1,5 @@
 use Rattle.std.proofs.Common.{map, nat_eq, inl, inr}
-use Rattle.vipr_items.specs.Items.{derivation_of}
+use Rattle.vipr_cert.specs.Items.{derivation_of}
 use Rattle.vipr_tighten.proofs.Referring.{four_referred, none_referred}
 use Rattle.vipr_tighten.proofs.renumber.set_last.Goals as goal
 

@@ -1,6 +1,6 @@
 use Rattle.std.proofs.Common.{◌≡◌, not, true, false, map, ap, sym, ◌∙◌}
 use Rattle.vipr_spec.specs.Reading.{is_nonzero}
-use Rattle.vipr_items.specs.Items.{derivation_of}
+use Rattle.vipr_cert.specs.Items.{derivation_of}
 use Rattle.vipr_tighten.proofs.Referring.{entry_referred, entry_skipped, none_referred}
 use Rattle.vipr_tighten.proofs.renumber.set_last_named.Goals as goal
 use Rattle.vipr_tighten.proofs.renumber.set_last_named.Goals.{then-not-is_zero, else-not-is_zero}

@@ -1,7 +1,7 @@
 use Rattle.std.proofs.Common.{◌∷◌, ◌++◌, sym, ap, ◌∙◌}
 use Rattle.std.specs.Prelude.{codes}
 use Rattle.vipr_write.specs.Canonical.{reason_words, last_word, spaced}
-use Rattle.vipr_items.specs.Items.{derivation_of}
+use Rattle.vipr_cert.specs.Items.{derivation_of}
 use Rattle.vipr_write.proofs.Parts.{derivation_parts}
 use Rattle.vipr_write.proofs.lines.append_derivation.Goals as goal
 

@@ -3,8 +3,8 @@ use Rattle.std.specs.List.{flat_map}
 use Rattle.vipr_linear.specs.Constraint.{constraint_of}
 use Rattle.vipr_linear.specs.declared.constraint.Constraint.{Constraint}
 use Rattle.vipr_write.specs.Canonical.{given_words, line_text}
-use Rattle.vipr_items.specs.Items.{named_of}
-use Rattle.vipr_items.specs.declared.items.Named.{Named}
+use Rattle.vipr_cert.specs.Items.{named_of}
+use Rattle.vipr_cert.specs.declared.items.Named.{Named}
 use Rattle.vipr_write.proofs.sections.append_constraints.Given as goal
 
 abbrev pub invariant-loop-constraint : goal.invariant-loop-constraint

@@ -2,8 +2,8 @@ use Rattle.std.proofs.Common.{◌++◌, sym, ap, ◌∙◌}
 use Rattle.std.specs.Prelude.{codes}
 use Rattle.std.specs.List.{flat_map}
 use Rattle.vipr_write.specs.Canonical.{heading, derivation_words, line_text}
-use Rattle.vipr_items.specs.Items.{derivation_of}
-use Rattle.vipr_items.specs.declared.items.Derivation.{Derivation}
+use Rattle.vipr_cert.specs.Items.{derivation_of}
+use Rattle.vipr_cert.specs.declared.items.Derivation.{Derivation}
 use Rattle.vipr_write.proofs.Appended.{all_done}
 use Rattle.vipr_write.proofs.Parts.{headed}
 use Rattle.vipr_write.proofs.sections.append_derivations.Goals as goal

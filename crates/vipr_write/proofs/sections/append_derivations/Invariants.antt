@@ -1,8 +1,8 @@
 use Rattle.std.proofs.Common.{◌≡◌, ◌++◌, take}
 use Rattle.std.specs.List.{flat_map}
 use Rattle.vipr_write.specs.Canonical.{derivation_words, line_text}
-use Rattle.vipr_items.specs.Items.{derivation_of}
-use Rattle.vipr_items.specs.declared.items.Derivation.{Derivation}
+use Rattle.vipr_cert.specs.Items.{derivation_of}
+use Rattle.vipr_cert.specs.declared.items.Derivation.{Derivation}
 use Rattle.vipr_write.proofs.sections.append_derivations.Given as goal
 
 abbrev pub invariant-loop-derivation : goal.invariant-loop-derivation

@@ -3,8 +3,8 @@ use Rattle.std.specs.Prelude.{codes}
 use Rattle.std.specs.List.{flat_map}
 use Rattle.vipr_linear.specs.declared.row.Solution.{Solution}
 use Rattle.vipr_write.specs.Canonical.{heading, solution_words, line_text}
-use Rattle.vipr_items.specs.Items.{solution_of}
-use Rattle.vipr_items.specs.declared.items.Named.{Named}
+use Rattle.vipr_cert.specs.Items.{solution_of}
+use Rattle.vipr_cert.specs.declared.items.Named.{Named}
 use Rattle.vipr_write.proofs.Appended.{all_done}
 use Rattle.vipr_write.proofs.Parts.{headed}
 use Rattle.vipr_write.proofs.sections.append_solutions.Goals as goal

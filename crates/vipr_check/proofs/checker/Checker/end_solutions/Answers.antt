@@ -3,17 +3,21 @@ use Rattle.vipr_spec.specs.Certificate.{MeetsPrimal}
 use Rattle.vipr_spec.specs.Checking.{start}
 use Rattle.vipr_check.specs.Progress.{Progress, HasSolutions, HasSteps}
 use Rattle.vipr_check.specs.State.{State}
+use Rattle.vipr_check.specs.Halts.{CanShowHalt}
 use Rattle.vipr_check.proofs.ProgressLemmas.{steps_start}
+use Rattle.vipr_check.proofs.CheckerLemmas.{runs_of}
 use Rattle.vipr_check.proofs.checker.Checker.end_solutions.Goals as goal
 
 pub invariant_of-self-2 : goal.invariant_of-self-2
 invariant_of-self-2 g c =
     let k = c.self.inside.progress in
+    let unstopped : c.self.inside.halt ≡ None = ap (λ v. v.halt) c.self.view_is ∙ runs_of c.args.self.now.halt _ c.in_ok-go_on.ensures in
     let phase : c.self.inside.in_solutions ≡ true = ap (λ v. v.in_solutions) c.self.view_is ∙ c.requires in record {
       solutions = λ n e. absurd (cc e);
       steps = λ n e.
           let r = c.self.invariant.solutions n phase in
           (start k.problem r.0, steps_start k r.0 r.1 ((c.meets_primal.ensures r.0 r.1).0 c.if-not-meets_primal.false));
+      shows = subst (CanShowHalt k.problem) (sym unstopped) tt;
     }
 
 pub returns-clause-next : goal.returns-clause-next

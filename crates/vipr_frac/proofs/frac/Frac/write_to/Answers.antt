@@ -1,4 +1,4 @@
-use Rattle.vipr_spec.proofs.NumberReads.{text_short}
+use Rattle.vipr_spec.proofs.Laws.{text_short}
 use Rattle.vipr_frac.proofs.frac.Frac.write_to.Goals as goal
 
 pub returns-in_err-reserve-clause-short : goal.returns-in_err-reserve-clause-short

@@ -3,7 +3,7 @@ use Rattle.std.specs.Cmp.{both_ways}
 use Rattle.std.specs.Int.{w128}
 use Rattle.std.proofs.lemmas.Bool.{eqb-true}
 use Rattle.vipr_spec.specs.Fraction.{ℚ, same_parts}
-use Rattle.vipr_spec.proofs.FractionOrders.{eq_is}
+use Rattle.vipr_spec.proofs.Laws.{eq_is}
 use Rattle.vipr_frac.proofs.Views.{facts, Facts}
 use Rattle.vipr_frac.proofs.frac.FracPartialEq.eq.Goals as goal
 

@@ -1,7 +1,7 @@
 use Rattle.std.proofs.Common.{◌≡◌, ◌≢◌, ◌∙◌, ap, sym, refl, is_some, subst, false, Some}
 use Rattle.vipr_spec.specs.Fraction.{zero_ℚ}
 use Rattle.vipr_spec.specs.MoreEntries.{joined, turned}
-use Rattle.vipr_linear.specs.Accumulator.{Accumulator, joined_with, EntryFits}
+use Rattle.vipr_linear.specs.Accumulator.{Accumulator, joined_with, AdditionFits}
 use Rattle.vipr_linear.specs.Constraint.{sense_of, condition_of}
 use Rattle.vipr_linear.proofs.Adding.{nothing_changes, told_zero, told_nonzero}
 use Rattle.vipr_linear.proofs.combination.Combination.add.Goals as goal
@@ -24,14 +24,14 @@ returns-then-is_zero-clause-overflow c = (λ e. absurd (cc), λ h. absurd (h.2 (
 pub returns-in-Ok-clause-overflow : goal.returns-in-Ok-clause-overflow
 returns-in-Ok-clause-overflow c =
     let told = rw c.deref_mut.ensures.value at c.in-Ok.ensures.fits in
-    (λ e. absurd (cc), λ h. absurd (h.2 (subst (λ (a : Accumulator). EntryFits a (c.args.multiplier, condition_of c.args.constraint.now)) c.self.view_is (λ _. told.0 refl))))
+    (λ e. absurd (cc), λ h. absurd (h.2 (subst (λ (a : Accumulator). AdditionFits a (c.args.multiplier, condition_of c.args.constraint.now)) c.self.view_is (λ _. told.0 refl))))
 
 pub returns-in-Err-clause-ok : goal.returns-in-Err-clause-ok
 returns-in-Err-clause-ok c =
     let some : c.args.multiplier ≢ zero_ℚ = told_nonzero c.args.multiplier c.is_zero.result c.is_zero.ensures.zero c.if-is_zero.false in
     let told = rw c.deref_mut.ensures.value at c.in-Err.ensures.fits in
-    let never : EntryFits c.args.self.now (c.args.multiplier, condition_of c.args.constraint.now) → ⊥ = λ fits.
-    (let f = subst (λ (a : Accumulator). EntryFits a (c.args.multiplier, condition_of c.args.constraint.now)) (sym c.self.view_is) fits some in absurd (let x = told.1 f in cc)) in
+    let never : AdditionFits c.args.self.now (c.args.multiplier, condition_of c.args.constraint.now) → ⊥ = λ fits.
+    (let f = subst (λ (a : Accumulator). AdditionFits a (c.args.multiplier, condition_of c.args.constraint.now)) (sym c.self.view_is) fits some in absurd (let x = told.1 f in cc)) in
     (λ t. absurd (cc), λ h. absurd (never h.fits))
 
 pub returns-in-Err-clause-overflow : goal.returns-in-Err-clause-overflow
@@ -41,6 +41,6 @@ returns-in-Err-clause-overflow c =
     ap (λ (a : Accumulator). joined a.sense (turned c.args.multiplier (sense_of c.args.constraint.now.sense))) (sym c.self.view_is) ∙ ap (joined (sense_of c.self.inside.sense)) (sym c.turned.ensures) ∙ c.in-Some.ensures in
     let some : c.args.multiplier ≢ zero_ℚ = told_nonzero c.args.multiplier c.is_zero.result c.is_zero.ensures.zero c.if-is_zero.false in
     let told = rw c.deref_mut.ensures.value at c.in-Err.ensures.fits in
-    let never : EntryFits c.args.self.now (c.args.multiplier, condition_of c.args.constraint.now) → ⊥ = λ fits.
-    (let f = subst (λ (a : Accumulator). EntryFits a (c.args.multiplier, condition_of c.args.constraint.now)) (sym c.self.view_is) fits some in absurd (let x = told.1 f in cc)) in
+    let never : AdditionFits c.args.self.now (c.args.multiplier, condition_of c.args.constraint.now) → ⊥ = λ fits.
+    (let f = subst (λ (a : Accumulator). AdditionFits a (c.args.multiplier, condition_of c.args.constraint.now)) (sym c.self.view_is) fits some in absurd (let x = told.1 f in cc)) in
     (λ _. (fresh, ap is_some suitable, never), λ _. refl)

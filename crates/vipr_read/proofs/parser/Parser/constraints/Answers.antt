@@ -4,7 +4,7 @@ use Rattle.vipr_spec.specs.Certificate as is
 use Rattle.vipr_spec.specs.Constraint as linear
 use Rattle.vipr_spec.specs.Shape.{ConstraintShape, ConstraintFits}
 use Rattle.vipr_linear.specs.Constraint.{constraint_of}
-use Rattle.vipr_items.specs.Items.{named_of}
+use Rattle.vipr_cert.specs.Items.{named_of}
 use Rattle.vipr_read.proofs.parser.Parser.constraints.Goals as goal
 
 pub returns-clause-shape : goal.returns-clause-shape

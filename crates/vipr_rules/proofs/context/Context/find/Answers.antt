@@ -5,21 +5,21 @@ use Rattle.vipr_spec.specs.Shape.{ConstraintShape}
 use Rattle.vipr_spec.specs.Certificate.{Problem, variables}
 use Rattle.vipr_spec.specs.Steps.{earlier, live}
 use Rattle.vipr_linear.specs.declared.constraint.Constraint.{Constraint}
-use Rattle.vipr_items.specs.declared.items.Named.{Named}
+use Rattle.vipr_cert.specs.declared.items.Named.{Named}
 use Rattle.vipr_rules.proofs.BelowLemmas.{given_below, given_true}
 use Rattle.vipr_rules.proofs.ContextLemmas.{given_is_live, given_is_known, derived_is_live, derived_is_known, dropped_is_not, live_passes, live_stops}
 use Rattle.vipr_rules.proofs.StepLemmas.{stops_first}
 use Rattle.vipr_rules.proofs.context.Context.find.Goals as goal
 
 pub returns-in_err-check_earlier-clause-known : goal.returns-in_err-check_earlier-clause-known
-returns-in_err-check_earlier-clause-known g c = λ d e is.
+returns-in_err-check_earlier-clause-known g c = λ P d e is.
     let p = err_from_is_err_and c.from_residual.result c.from_residual.ensures.1 in
-    rw (p.1, p.2) (stops_first d e (earlier c.args.index ∷ []) (live c.args.index ∷ []) _ (c.in_err-check_earlier.ensures d e is))
+    rw (p.1, p.2) (stops_first P d e (earlier c.args.index ∷ []) (live c.args.index ∷ []) _ (c.in_err-check_earlier.ensures P d e is))
 
 pub returns-then-index-given-clause-known : goal.returns-then-index-given-clause-known
-returns-then-index-given-clause-known g c = λ d e is.
+returns-then-index-given-clause-known g c = λ P d e is.
     let same = c.cons-given.ensures.constraints ∙ sym (ap (λ (q : Problem). q.constraints) is.problem) in (
-      live_passes d e c.args.index (c.in_ok-check_earlier.ensures d e is) (given_is_live d _ _ same is.rows c.args.index c.if-index-given.true),
+      live_passes P d e c.args.index (c.in_ok-check_earlier.ensures P d e is) (given_is_live d _ _ same is.rows c.args.index c.if-index-given.true),
       given_is_known d _ _ same is.rows c.args.index c.index-given-index.result _ c.if-index-given.true c.index-given-index.is (ap (λ (n : Named Constraint). n.item) (sym c.index-given-index.is)),
     )
 
@@ -36,13 +36,13 @@ returns-then-index-given-clause-sound g c = λ says x at h.
     each c.args.index c.index-given-index.result c.if-index-given.true
 
 pub returns-in-Some-clause-known : goal.returns-in-Some-clause-known
-returns-in-Some-clause-known g c = λ d e is.
+returns-in-Some-clause-known g c = λ P d e is.
     let same = c.cons-given.ensures.constraints ∙ sym (ap (λ (q : Problem). q.constraints) is.problem) in (
-      live_passes d e c.args.index (c.in_ok-check_earlier.ensures d e is) (derived_is_live d _ _ same is.rows c.args.index c.in-Some.entry.now c.if-index-given.false c.in-Some.ensures),
+      live_passes P d e c.args.index (c.in_ok-check_earlier.ensures P d e is) (derived_is_live d _ _ same is.rows c.args.index c.in-Some.entry.now c.if-index-given.false c.in-Some.ensures),
       derived_is_known d _ _ same is.rows c.args.index c.in-Some.entry c.in-Some.ensures,
     )
 
 pub returns-in-None-clause-known : goal.returns-in-None-clause-known
-returns-in-None-clause-known g c = λ d e is.
+returns-in-None-clause-known g c = λ P d e is.
     let same = c.cons-given.ensures.constraints ∙ sym (ap (λ (q : Problem). q.constraints) is.problem) in
-    live_stops d e c.args.index (c.in_ok-check_earlier.ensures d e is) (dropped_is_not d _ _ same is.rows c.args.index c.if-index-given.false c.in-None.ensures)
+    live_stops P d e c.args.index (c.in_ok-check_earlier.ensures P d e is) (dropped_is_not d _ _ same is.rows c.args.index c.if-index-given.false c.in-None.ensures)

@@ -1,4 +1,4 @@
-use Rattle.vipr_rules.proofs.KeptLemmas.{set-forget, was_shown}
+use Rattle.vipr_rules.proofs.KeepAllLemmas.{set-forget, was_shown}
 use Rattle.vipr_rules.proofs.rows.keep_all.forget.Goals as goal
 
 pub returns : goal.returns

@@ -1,10 +1,10 @@
 use Rattle.std.proofs.Common.{◌+◌, ◌∙◌, ◌≤◌, sym, ap, arith}
 use Rattle.std.proofs.lemmas.List.Sorted.{length_permutation}
-use Rattle.vipr_rules.specs.KeepAll.{kept_map}
+use Rattle.vipr_rules.specs.KeepAll.{unforgotten}
 use Rattle.vipr_rules.specs.Table.{live_part}
 use Rattle.vipr_rules.proofs.TableLemmas.{same_table}
-use Rattle.vipr_rules.proofs.TiedLemmas.{live_part-taken, live_part-none_due}
-use Rattle.vipr_rules.proofs.KeptLemmas.{due_begins, due_within, forgotten, shown_held, IsKept-taken}
+use Rattle.vipr_rules.proofs.ExpiryOrderLemmas.{live_part-taken, live_part-none_due}
+use Rattle.vipr_rules.proofs.KeepAllLemmas.{due_begins, due_within, forgotten, shown_held, IsKept-taken}
 use Rattle.vipr_rules.proofs.rows.keep_all.KeepAllRows.advance.Goals as goal
 
 pub overflow_sub-index : goal.overflow_sub-index
@@ -31,7 +31,7 @@ loop-index-preserved c =
       first = inv.first;
       next = inv.next;
       live =
-          ap (λ ks. live_part (now + 1) (kept_map c.loop-index.self-inside.first ks)) c.forget.ensures.items
+          ap (λ ks. live_part (now + 1) (unforgotten c.loop-index.self-inside.first ks)) c.forget.ensures.items
           ∙ ap (live_part (now + 1)) (forgotten _ _ _ _ _ inv.kept _ _ _ taken.2)
           ∙ live_part-taken _ now _ _ _ _ _ inv.kept.tied taken.2 due ∙ inv.live;
     }

@@ -1,7 +1,7 @@
 use Rattle.std.proofs.Common.{◌∙◌, None, Some, cond, ap, sym}
 use Rattle.vipr_rules.specs.Table.{entry_at, if_live}
 use Rattle.vipr_rules.proofs.TableLemmas.{if_live-true, if_live-false}
-use Rattle.vipr_rules.proofs.KeptLemmas.{kept_seen, none_before, none_after}
+use Rattle.vipr_rules.proofs.KeepAllLemmas.{kept_seen, none_before, none_after}
 use Rattle.vipr_rules.proofs.rows.keep_all.KeepAllRows.get.Goals as goal
 
 pub returns-then-index-self : goal.returns-then-index-self

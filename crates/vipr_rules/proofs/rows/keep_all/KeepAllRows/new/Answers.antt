@@ -1,4 +1,4 @@
-use Rattle.vipr_rules.proofs.KeptLemmas.{IsKept-empty}
+use Rattle.vipr_rules.proofs.KeepAllLemmas.{IsKept-empty}
 use Rattle.vipr_rules.proofs.rows.keep_all.KeepAllRows.new.Goals as goal
 
 pub invariant_of-result : goal.invariant_of-result

@@ -1,10 +1,10 @@
 use Rattle.std.proofs.Common.{refl, sym, ap, ◌∙◌, false, arith}
 use Rattle.vipr_rules.specs.declared.rows.keep_all.Kept.{Kept}
-use Rattle.vipr_rules.specs.KeepAll.{kept_map}
+use Rattle.vipr_rules.specs.KeepAll.{unforgotten}
 use Rattle.vipr_rules.specs.Table.{put_entry}
 use Rattle.std.specs.FinMap.{insert}
 use Rattle.vipr_rules.proofs.TableLemmas.{same_table}
-use Rattle.vipr_rules.proofs.KeptLemmas.{IsKept-put, kept_map-push, len-kept_map}
+use Rattle.vipr_rules.proofs.KeepAllLemmas.{IsKept-put, kept_map-push, len-kept_map}
 use Rattle.vipr_rules.proofs.rows.keep_all.KeepAllRows.put.Goals as goal
 
 pub overflow_add-self : goal.overflow_add-self
@@ -25,5 +25,5 @@ returns-clause-ok c =
     let kept = c.self.invariant in
     let k : Kept = record { entry = c.args.entry; is_forgotten = false } in
     same_table _ _ refl refl
-    (ap (kept_map c.self.inside.first) c.in_default-push.ensures.items ∙ kept_map-push c.self.inside.first c.self.inside.kept.items k refl ∙ ap (λ n. insert (kept_map c.self.inside.first c.self.inside.kept.items) n c.args.entry) (sym kept.placed))
+    (ap (unforgotten c.self.inside.first) c.in_default-push.ensures.items ∙ kept_map-push c.self.inside.first c.self.inside.kept.items k refl ∙ ap (λ n. insert (unforgotten c.self.inside.first c.self.inside.kept.items) n c.args.entry) (sym kept.placed))
     ∙ ap (λ t. put_entry t c.args.entry) c.self.view_is

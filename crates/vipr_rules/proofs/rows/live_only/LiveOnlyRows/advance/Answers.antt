@@ -2,7 +2,7 @@ use Rattle.std.proofs.Common.{◌+◌, ◌∙◌, ◌≤◌, sym, ap, arith}
 use Rattle.std.proofs.lemmas.List.Sorted.{length_permutation}
 use Rattle.vipr_rules.specs.Table.{live_part}
 use Rattle.vipr_rules.proofs.TableLemmas.{same_table}
-use Rattle.vipr_rules.proofs.TiedLemmas.{IsTied-taken, live_part-taken, live_part-none_due}
+use Rattle.vipr_rules.proofs.ExpiryOrderLemmas.{IsTied-taken, live_part-taken, live_part-none_due}
 use Rattle.vipr_rules.proofs.rows.live_only.LiveOnlyRows.advance.Goals as goal
 
 pub loop-index-smaller : goal.loop-index-smaller

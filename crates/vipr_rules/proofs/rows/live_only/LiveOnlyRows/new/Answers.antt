@@ -1,4 +1,4 @@
-use Rattle.vipr_rules.proofs.TiedLemmas.{IsTied-empty}
+use Rattle.vipr_rules.proofs.ExpiryOrderLemmas.{IsTied-empty}
 use Rattle.vipr_rules.proofs.rows.live_only.LiveOnlyRows.new.Goals as goal
 
 pub invariant_of-result : goal.invariant_of-result

@@ -1,7 +1,7 @@
 use Rattle.std.proofs.Common.{refl, ap, ◌∙◌}
 use Rattle.vipr_rules.specs.Table.{put_entry}
 use Rattle.vipr_rules.proofs.TableLemmas.{entries_inserted, same_table}
-use Rattle.vipr_rules.proofs.TiedLemmas.{IsTied-put}
+use Rattle.vipr_rules.proofs.ExpiryOrderLemmas.{IsTied-put}
 use Rattle.vipr_rules.proofs.rows.live_only.LiveOnlyRows.put.Goals as goal
 
 pub invariant_of-self-2 : goal.invariant_of-self-2

@@ -1,0 +1,252 @@
+#!/usr/bin/env python3
+"""Makes valid certificates of the kinds that programs write, each of about a wanted size.
+
+usage: families.py FOLDER [BYTES]     one file a family, of about 4,000,000 bytes each without BYTES
+
+  chain      derivations that follow one another, one held at a time
+  tree       a tree of branches: assumptions, sums at its leaves, branches joined up to the root
+  cuts       sums that are rounded
+  dense      sums of rows with an entry at each variable
+  wide       a problem with many short rows, and no derivation
+  long       numbers of up to 38 digits
+  held       derivations that are all held to the end
+  solutions  many listed solutions with few entries each
+
+Those of HOSTILE are made to cost more than their length, where a program does each thing on its own:
+
+  objective  constraints whose row is that of the objective, each written as `OBJ`
+  handed_on  one set of assumptions handed on along a chain that is held to the end
+  growing    sets of assumptions that grow by one from derivation to derivation
+  one_sum    one sum over many assumptions
+  integers   short solutions of a problem with many integer variables
+"""
+import random
+import sys
+from fractions import Fraction
+from pathlib import Path
+
+
+def vector(row):
+    return ' '.join([str(len(row))] + [f'{j} {row[j]}' for j in sorted(row)])
+
+
+def constraint(name, sense, bound, row):
+    return f'{name} {sense} {bound} {vector(row)}'
+
+
+def problem(variables, integers, constraints, claim='infeas', objective=None):
+    yield 'VER 1.0'
+    yield f'VAR {variables}'
+    yield from (f'x{j}' for j in range(variables))
+    yield f'INT {len(integers)}'
+    yield from map(str, integers)
+    yield 'OBJ min'
+    yield vector(objective or {})
+    yield f'CON {len(constraints)} 0'
+    yield from constraints
+    yield f'RTP {claim}'
+
+
+def proof(derivations, solutions=()):
+    yield f'SOL {len(solutions)}'
+    yield from solutions
+    yield f'DER {len(derivations)}'
+    yield from derivations
+
+
+def lin(entries, reason='lin'):
+    return f'{{ {reason} {len(entries)} ' + ''.join(f'{i} {c} ' for i, c in entries) + '}'
+
+
+def combined(rows, entries):
+    """The sum of multiples of rows (right-hand side, coefficients)."""
+    bound, row = Fraction(0), {}
+    for i, c in entries:
+        bound += c * rows[i][0]
+        for j, a in rows[i][1].items():
+            row[j] = row.get(j, 0) + c * a
+    return bound, {j: a for j, a in row.items() if a}
+
+
+def chain(size):
+    steps = max(2, size // 44)
+    yield from problem(1, [], [constraint('a', 'G', 1, {0: 1}), constraint('b', 'L', 0, {0: 1})])
+    steps_of = [f'c{k} G 1 1 0 1 {lin([(0 if k == 0 else k + 1, 1)])} {k + 3}' for k in range(steps - 1)]
+    yield from proof(steps_of + [f'end G 1 0 {lin([(steps, 1), (1, -1)])} -1'])
+
+
+def tree(size):
+    depth = 4
+    while (2 ** depth) * (9 * depth + 170) < size:
+        depth += 1
+    target = 2 * (depth // 2) + 1
+    rows = [constraint('odd', 'E', target, {j: 2 for j in range(depth)})]
+    rows += [constraint(f'low{j}', 'G', 0, {j: 1}) for j in range(depth)]
+    rows += [constraint(f'high{j}', 'L', 1, {j: 1}) for j in range(depth)]
+    steps, last = [], {}
+
+    def add(text, uses):
+        index = len(rows) + len(steps)
+        steps.append(text)
+        for use in uses:
+            last[use] = index
+        return index
+
+    def refute(fixed):
+        j = len(fixed)
+        if j == depth:
+            ones = sum(value for value, _ in fixed)
+            entries = [(0, 1 if 2 * ones < target else -1)]
+            for at, (value, index) in enumerate(fixed):
+                given = index if value == (2 * ones > target) else 1 + at + (depth if value else 0)
+                entries.append((given, 2 if 2 * ones > target else -2))
+            return add(f'leaf G 1 0 {lin(entries)}', [i for i, _ in entries])
+        down = add(f'down L 0 {vector({j: 1})} {{ asm }}', [])
+        left = refute(fixed + [(0, down)])
+        up = add(f'up G 1 {vector({j: 1})} {{ asm }}', [])
+        right = refute(fixed + [(1, up)])
+        return add(f'join G 1 0 {{ uns {left} {down} {right} {up} }}', [left, down, right, up])
+
+    refute([])
+    yield from problem(depth, range(depth), rows)
+    yield from proof([f'{text} {last.get(len(rows) + k, -1)}' for k, text in enumerate(steps)])
+
+
+def sums(size, variables, entries_of, rows, reason='lin'):
+    """Derivations that combine rows of the problem, all of sense G."""
+    texts = [constraint(f'r{i}', 'G', bound, row) for i, (bound, row) in enumerate(rows)]
+    head = list(problem(variables, range(variables), texts, 'range -inf inf'))
+    left = size - sum(map(len, head))
+    steps = []
+    while left > 0:
+        entries = entries_of()
+        bound, row = combined(rows, entries)
+        if reason == 'rnd':
+            bound = -(-bound.numerator // bound.denominator)
+        own = len(rows) + len(steps)
+        steps.append(f's{len(steps)} G {bound} {vector(row)} {lin(entries, reason)} {own}')
+        left -= len(steps[-1])
+    yield from head
+    yield from proof(steps)
+
+
+def cuts(size):
+    chance = random.Random(1)
+    rows = [(Fraction(chance.randrange(-99, 99)),
+             {j: Fraction(2 * chance.randrange(1, 9)) for j in chance.sample(range(60), 8)}) for _ in range(200)]
+
+    def entries():
+        return [(i, Fraction(1, 2)) for i in chance.sample(range(200), 2)]
+    return sums(size, 60, entries, rows, 'rnd')
+
+
+def dense(size):
+    chance = random.Random(2)
+    rows = [(Fraction(chance.randrange(-99, 99), 7),
+             {j: Fraction(chance.randrange(1, 99), chance.randrange(1, 9)) for j in range(200)}) for _ in range(20)]
+
+    def entries():
+        return [(i, Fraction(chance.randrange(1, 5), 2)) for i in chance.sample(range(20), 3)]
+    return sums(size, 200, entries, rows)
+
+
+def long(size):
+    chance = random.Random(3)
+    rows = [(Fraction(chance.randrange(10 ** 36)),
+             {j: Fraction(chance.randrange(1, 10 ** 36)) for j in chance.sample(range(30), 6)}) for _ in range(50)]
+
+    def entries():
+        return [(i, Fraction(chance.randrange(1, 9))) for i in chance.sample(range(50), 2)]
+    return sums(size, 30, entries, rows)
+
+
+def held(size):
+    steps = max(1, size // 60)
+    yield from problem(2, [], [constraint('a', 'G', 1, {0: 1}), constraint('b', 'G', 2, {1: 1})], 'range -inf inf')
+    yield from proof([f'h{k} G {k + 3} 2 0 {k + 1} 1 1 {lin([(0, k + 1), (1, 1)])} -1' for k in range(steps)])
+
+
+def wide(size):
+    chance = random.Random(4)
+    rows = size // 45
+    variables = max(3, rows // 4)
+
+    def row():
+        return {j: chance.randrange(1, 99) for j in chance.sample(range(variables), 3)}
+    texts = [constraint(f'row{i}', 'LGE'[i % 3], chance.randrange(-999, 999), row()) for i in range(rows)]
+    yield from problem(variables, range(0, variables, 2), texts, 'range -inf inf')
+    yield from proof([])
+
+
+def solutions(size):
+    chance = random.Random(5)
+    variables, rows = 300, 200
+    texts = [constraint(f'r{i}', 'G', 0, {j: chance.randrange(1, 9) for j in chance.sample(range(variables), 4)})
+             for i in range(rows)]
+    listed, best = [], None
+    while size > 0:
+        point = {j: chance.randrange(1, 99) for j in chance.sample(range(variables), 3)}
+        value = sum(point.values())
+        best = value if best is None else min(best, value)
+        listed.append(f'p{len(listed)} {vector(point)}')
+        size -= len(listed[-1])
+    yield from problem(variables, range(variables), texts, f'range -inf {best}', {j: 1 for j in range(variables)})
+    yield from proof([], listed)
+
+
+def objective(size):
+    count = size // 20
+    row = {j: 1 + j % 9 for j in range(count)}
+    texts = [f'r{i} G 0 OBJ' for i in range(count // 2)]
+    yield from problem(count, [], texts, 'range -inf inf', row)
+    yield from proof([])
+
+
+def assumed(count):
+    return [f'a{k} G 1 1 0 1 {{ asm }} -1' for k in range(count)]
+
+
+def handed_on(size):
+    count = size // 70
+    entries = lin([(k, 1) for k in range(count)])
+    steps = [f's G {count} 1 0 {count} {entries} -1']
+    steps += [f'h{k} G {count} 1 0 {count} {lin([(count + k, 1)])} -1' for k in range(count)]
+    yield from problem(1, [], [], 'range -inf inf')
+    yield from proof(assumed(count) + steps)
+
+
+def growing(size):
+    count = size // 75
+    steps = [f'g{k} G {k + 2} 1 0 {k + 2} {lin([(count + k - 1 if k else 0, 1), (k + 1, 1)])} {count + k + 1}'
+             for k in range(count - 1)]
+    yield from problem(1, [], [], 'range -inf inf')
+    yield from proof(assumed(count) + steps[:-1] + [steps[-1][:steps[-1].rindex(' ')] + ' -1'])
+
+
+def one_sum(size):
+    count = size // 36
+    entries = lin([(k, 1) for k in range(count)])
+    yield from problem(1, [], [], 'range -inf inf')
+    yield from proof(assumed(count) + [f's G {count} 1 0 {count} {entries} -1'])
+
+
+def integers(size):
+    count = size // 28
+    yield from problem(count, range(count), [], 'range -inf 1', {0: 1})
+    yield from proof([], [f's{k} 1 0 1' for k in range(count)])
+
+
+HOSTILE = [objective, handed_on, growing, one_sum, integers]
+FAMILIES = [chain, tree, cuts, dense, wide, long, held, solutions]
+
+
+def make(folder, size, which=None):
+    for family in which or FAMILIES:
+        with open(Path(folder) / f'{family.__name__}.vipr', 'w', encoding='ascii') as file:
+            file.writelines(line + '\n' for line in family(size))
+
+
+if __name__ == '__main__':
+    if len(sys.argv) < 2:
+        sys.exit(__doc__)
+    make(sys.argv[1], int(sys.argv[2]) if len(sys.argv) > 2 else 4_000_000)

@@ -1,0 +1,128 @@
+#!/usr/bin/env python3
+"""Times the program over the families of families.py, in one interleaved run.
+
+usage: measure.py [--program PATH] [--bytes N] [--runs N] [--against NAME=COMMAND].. [--svg FILE] [--growth] [--hostile]
+
+Each round runs every program once on every family: `check`, `show` and `tighten` where the program has it, `wc -w` and
+`cat` on the same file, and what --against names, whose words get the file's path behind them. Of the rounds the least
+processor time counts, and the greatest peak of memory. Prints MB/s, and memory in MB. --svg draws the throughput of
+`check` by family. --growth measures texts of 1, 2 and 4 times the size: how time and memory grow. --hostile takes the
+families that are made to cost more than their length.
+"""
+import argparse
+import os
+import shutil
+import subprocess
+import sys
+import tempfile
+from pathlib import Path
+
+import families
+
+TOP = Path(__file__).resolve().parent.parent
+GNU_TIME = shutil.which('time')
+
+
+def once(words, path):
+    """Processor seconds and peak memory in MB.
+
+    GNU time starts the program, since the peak that a process inherits from Python would hide a small one.
+    """
+    time = [GNU_TIME, '-o', '/dev/stderr', '-f', '%M'] if GNU_TIME else []
+    with open(os.devnull, 'wb') as sink:
+        child = subprocess.Popen([*time, *words, str(path)], stdout=sink, stderr=subprocess.PIPE)
+        said = child.stderr.read()
+        _, status, usage = os.wait4(child.pid, 0)
+        child.returncode = os.waitstatus_to_exitcode(status)
+    if child.returncode:
+        sys.exit(f'{" ".join(words)} {path}: status {child.returncode}')
+    peak = int(said.split()[-1]) if GNU_TIME else usage.ru_maxrss
+    return usage.ru_utime + usage.ru_stime, peak / 1024
+
+
+def measured(programs, paths, runs):
+    """(program, path) -> (least seconds, greatest memory), by rounds over all of them."""
+    found = {}
+    for _ in range(runs):
+        for path in paths:
+            for name, words in programs.items():
+                seconds, memory = once(words, path)
+                before = found.get((name, path), (seconds, memory))
+                found[name, path] = min(seconds, before[0]), max(memory, before[1])
+    return found
+
+
+def table(programs, paths, found):
+    names = list(programs)
+    print('| family | MB | ' + ' | '.join(f'{n}: MB/s, MB' for n in names) + ' |')
+    print('|---|---|' + '---|' * len(names))
+    for path in paths:
+        size = path.stat().st_size / 1e6
+        cells = []
+        for name in names:
+            seconds, memory = found[name, path]
+            cells.append(f'{size / max(seconds, 0.001):.0f}, {memory:.1f}')
+        print(f'| {path.stem} | {size:.1f} | ' + ' | '.join(cells) + ' |')
+
+
+def picture(paths, found, to):
+    """A bar for each family: MB of text that `check` takes in a second of processor time."""
+    speeds = [(path.stem, path.stat().st_size / 1e6 / max(found['check', path][0], 0.001)) for path in paths]
+    most = max(speed for _, speed in speeds)
+    lines = [f'<svg xmlns="http://www.w3.org/2000/svg" width="640" height="{40 + 28 * len(speeds)}"'
+             ' font-family="sans-serif" font-size="13">', '<rect width="100%" height="100%" fill="white"/>',
+             '<text x="12" y="20">check: MB of certificate in a second of processor time</text>']
+    for n, (name, speed) in enumerate(speeds):
+        at = 34 + 28 * n
+        lines.append(f'<text x="12" y="{at + 15}">{name}</text>')
+        lines.append(f'<rect x="100" y="{at}" width="{470 * speed / most:.0f}" height="20" fill="#4878a8"/>')
+        lines.append(f'<text x="{106 + 470 * speed / most:.0f}" y="{at + 15}">{speed:.0f}</text>')
+    Path(to).write_text('\n'.join(lines + ['</svg>', '']), encoding='utf-8')
+
+
+def growth(check, runs, size, which):
+    """How time and memory of `check` grow with the text."""
+    print('| family | time at 2 and 4 times the text | memory at 2 and 4 times the text |')
+    print('|---|---|---|')
+    with tempfile.TemporaryDirectory() as folder:
+        paths = {}
+        for times in (1, 2, 4):
+            os.mkdir(f'{folder}/{times}')
+            families.make(f'{folder}/{times}', size * times, which)
+            for path in sorted(Path(folder, str(times)).iterdir()):
+                paths[path.stem, times] = path
+        found = measured({'check': check}, list(paths.values()), runs)
+        for name in sorted({name for name, _ in paths}):
+            base = found['check', paths[name, 1]]
+            ratios = [[found['check', paths[name, t]][k] / max(base[k], 0.001) for t in (2, 4)] for k in (0, 1)]
+            print(f'| {name} | ' + ' | '.join(f'{a:.1f}, {b:.1f}' for a, b in ratios) + ' |')
+
+
+def main():
+    words = argparse.ArgumentParser(description=__doc__.split('\n', maxsplit=1)[0])
+    words.add_argument('--program', default=str(TOP / 'crates/vipr/out/vipr'))
+    words.add_argument('--bytes', type=int, default=4_000_000)
+    words.add_argument('--runs', type=int, default=3)
+    words.add_argument('--against', action='append', default=[])
+    words.add_argument('--svg')
+    words.add_argument('--growth', action='store_true')
+    words.add_argument('--hostile', action='store_true')
+    given = words.parse_args()
+    which = families.HOSTILE if given.hostile else families.FAMILIES
+    if given.growth:
+        growth([given.program, 'check'], given.runs, given.bytes, which)
+        return
+    commands = subprocess.run([given.program, '--help'], capture_output=True, text=True, check=True).stdout
+    programs = {name: [given.program, name] for name in ('check', 'show', 'tighten') if f'\n  {name} ' in commands}
+    programs |= {'wc -w': ['wc', '-w'], 'cat': ['cat']}
+    programs |= {name: command.split() for name, command in (it.split('=', 1) for it in given.against)}
+    with tempfile.TemporaryDirectory() as folder:
+        families.make(folder, given.bytes, which)
+        paths = sorted(Path(folder).iterdir())
+        found = measured(programs, paths, given.runs)
+        table(programs, paths, found)
+        if given.svg:
+            picture(paths, found, given.svg)
+
+
+main()

@@ -1,0 +1,12 @@
+# Completion of vipr for fish. Made by tests/interface.py from the program's help.
+complete -c vipr -n __fish_use_subcommand -f -a check -d 'Checks a certificate and prints the verdict'
+complete -c vipr -n __fish_use_subcommand -f -a explain -d 'Checks a certificate and prints the verdict with what shows it'
+complete -c vipr -n __fish_use_subcommand -f -a show -d 'Writes a certificate\'s canonical text'
+complete -c vipr -n __fish_use_subcommand -f -a tighten -d 'Writes a verified certificate without what its proof doesn\'t need'
+complete -c vipr -n __fish_use_subcommand -f -s h -l help -d 'Print help'
+complete -c vipr -n __fish_use_subcommand -f -s V -l version -d 'Print version'
+complete -c vipr -n '__fish_seen_subcommand_from check' -s h -l help -d 'Print help'
+complete -c vipr -n '__fish_seen_subcommand_from explain' -s h -l help -d 'Print help'
+complete -c vipr -n '__fish_seen_subcommand_from show' -s h -l help -d 'Print help'
+complete -c vipr -n '__fish_seen_subcommand_from tighten' -l out -r -F -d 'Where to write it; standard output if absent'
+complete -c vipr -n '__fish_seen_subcommand_from tighten' -s h -l help -d 'Print help'

@@ -1,0 +1,6 @@
+use Rattle.vipr.proofs.TightenLemmas.{told}
+use Rattle.vipr.proofs.tighten.write_tightened.Goals as goal
+
+pub returns-clause-told : goal.returns-clause-told
+returns-clause-told g c =
+    told (g.R.Source.input c.args.source) (g.W.Sink.output c.args.sink.now) (g.W.Sink.output c.tighten.new.sink) c.in_ok-outcome.outcome c.status_of.result c.status_of.ensures c.in_ok-outcome.ensures.exact

@@ -1,0 +1,102 @@
+//! Tightens a certificate: writes what its proof needs.
+ghost use Rattle.std.specs.Prelude.{◌≡◌, None, option_map};
+ghost use Rattle.vipr_bytes.specs.Known.{text_of, IfKnown};
+ghost use Rattle.vipr_tighten.specs.Tightens.{any_kind, kind_read};
+ghost use Rattle.vipr.specs.Run.{PrintsTightened, known_by, unknown_input};
+ghost use Rattle.vipr.specs.Tighten.{WritesTightened, outcome_status};
+
+use crate::fault::Fault;
+use crate::text::OutcomeLine;
+use std::alloc::Global;
+use std::fs::File;
+use std::io::Write;
+use std::rt::Files;
+use vipr_bytes::{Failed, Sink, Source};
+use vipr_tighten::{Outcome, tighten};
+
+/// A file that is created, or emptied, at the first write to it.
+#[derive(Drop)]
+struct LateFile<'a, H: Files> {
+    rt: &'a H,
+    path: &'a str,
+    file: Option<H::File>,
+}
+
+impl<H: Files> Sink for LateFile<'_, H> {
+    ghost output = { λ _. None };
+
+    ghost failures = { λ _. None };
+
+    fn write(&mut self, bytes: &[u8]) -> Result<usize, Failed> {
+        if self.file.is_none() {
+            self.file = File::create(self.rt, self.path).ok();
+        }
+        match &mut self.file {
+            Some(file) => match file.write(bytes) {
+                Ok(n) => Ok(n),
+                Err(_) => Err(Failed),
+            },
+            None => Err(Failed),
+        }
+    }
+}
+
+/// Prints a tightened certificate's canonical text, or writes it to the file at `path`. Tells on
+/// `err` what was kept and removed, or why there is none, and answers the exit status.
+///
+/// The file is created, or emptied, at the first byte that is written to it: not for a certificate
+/// that is refused. It may be the one that is read.
+///
+/// # Errors
+///
+/// Where a read fails and where a growth is refused: nothing was written. Where a write fails, or
+/// the file can't be created.
+pub fn print_tightened<H: AllocGlobal + Files, R: Source + Drop, O: Sink, E: Write>(
+    rt: &H,
+    source: R,
+    path: Option<&str>,
+    out: &mut O,
+    err: &mut E,
+) -> Result<u8, Fault>
+    ensures any { PrintsTightened (option_map (λ s. s.now) path.entry) unknown_input
+        (O.output out.old) (O.output out.new) result }
+    ensures told { IfKnown (R.input source)
+        (λ i. PrintsTightened (option_map (λ s. s.now) path.entry) (known_by i) (O.output out.old)
+        (O.output out.new) result) }
+{
+    match path {
+        None => write_tightened(rt.alloc(), source, out, err),
+        Some(path) => {
+            let mut file = LateFile {
+                rt,
+                path,
+                file: None,
+            };
+            write_tightened(rt.alloc(), source, &mut file, err)
+        }
+    }
+}
+
+fn write_tightened<R: Source + Drop, W: Sink, E: Write>(
+    alloc: Global,
+    source: R,
+    sink: &mut W,
+    err: &mut E,
+) -> Result<u8, Fault>
+    ensures any { WritesTightened any_kind (W.output sink.old) (W.output sink.new) result }
+    ensures told { IfKnown (R.input source) (λ i. WritesTightened (kind_read (text_of i))
+        (W.output sink.old) (W.output sink.new) result) }
+{
+    let outcome = tighten(alloc, source, sink)?;
+    let _ = write!(err, "{}", OutcomeLine(&outcome));
+    Ok(status_of(&outcome))
+}
+
+fn status_of(outcome: &Outcome) -> u8
+    ensures { result ≡ outcome_status outcome.now }
+{
+    match outcome {
+        Outcome::Tightened { .. } => 0,
+        Outcome::Refused(_) => 1,
+    }
+}

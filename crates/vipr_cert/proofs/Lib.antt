@@ -1,0 +1,5 @@
+mod Seen
+mod Within
+mod Backwards
+mod Members
+pub mod Laws

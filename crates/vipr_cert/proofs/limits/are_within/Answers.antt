@@ -1,0 +1,38 @@
+use Rattle.std.proofs.Common.{refl, sym, ◌∙◌}
+use Rattle.std.proofs.lemmas.Bool.{false≢true}
+use Rattle.vipr_cert.proofs.Seen.{none_seen, one_more, all_seen, fails_at}
+use Rattle.vipr_cert.proofs.Within.{each_of, each_from}
+use Rattle.vipr_cert.proofs.limits.are_within.Goals as goal
+
+pub loop-item-init : goal.loop-item-init
+loop-item-init g c = none_seen (λ x. g.T.Item.shape c.args.n (g.T.Item.view x) × g.T.Item.fits (g.T.Item.view x)) c.args.items.now
+
+pub loop-item-preserved : goal.loop-item-preserved
+loop-item-preserved g c =
+    one_more (λ x. g.T.Item.shape c.args.n (g.T.Item.view x) × g.T.Item.fits (g.T.Item.view x)) c.args.items.now _ _ c.loop-item-test.true c.item-item.is (c.is_within.ensures.shape.0 c.if-not-is_within.false, c.is_within.ensures.fits) c.loop-item.invariant
+
+pub returns-then-not-is_within : goal.returns-then-not-is_within
+returns-then-not-is_within g c =
+    let view = g.T.Item.view in
+    let shape = g.T.Item.shape c.args.n in
+    let items = c.args.items.now in
+    let fails : ¬ shape (view c.item-item.result) = λ h. false≢true (sym c.if-not-is_within.true ∙ c.is_within.ensures.shape.1 h) in
+    record {
+      shape = (
+        λ t. absurd (false≢true t),
+        λ all. absurd (fails_at (λ x. shape (view x)) items _ _ c.loop-item-test.true c.item-item.is fails (each_from (λ x. shape (view x)) shape view (λ x h. h) items all)),
+      );
+      fits = λ t. absurd (false≢true t);
+    }
+
+pub returns : goal.returns
+returns g c =
+    let view = g.T.Item.view in
+    let shape = g.T.Item.shape c.args.n in
+    let fits = g.T.Item.fits in
+    let items = c.args.items.now in
+    let all = all_seen (λ x. shape (view x) × fits (view x)) items _ c.loop-item-test.false c.loop-item.invariant in
+    record {
+      shape = (λ t. each_of (λ x. shape (view x) × fits (view x)) shape items all view (λ x h. h.0), λ h. refl);
+      fits = λ t. each_of (λ x. shape (view x) × fits (view x)) fits items all view (λ x h. h.1);
+    }

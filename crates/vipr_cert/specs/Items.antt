@@ -1,0 +1,67 @@
+-- The program's certificates as those of the definitions
+use Rattle.std.specs.Prelude.{ℕ, List, map}
+use Rattle.vipr_spec.specs.Certificate as is
+use Rattle.vipr_spec.specs.Constraint.{Ints, Row}
+use Rattle.vipr_linear.specs.Constraint.{constraint_of}
+use Rattle.vipr_linear.specs.declared.constraint.Constraint.{Constraint}
+use Rattle.vipr_linear.specs.declared.row.Solution.{Solution}
+use Rattle.vipr_cert.specs.declared.items.Named.{Named}
+use Rattle.vipr_cert.specs.declared.items.Claim.{Claim}
+use Rattle.vipr_cert.specs.declared.items.Claim.TheVariants.{Infeas, Range}
+use Rattle.vipr_cert.specs.declared.items.Goal.{Goal}
+use Rattle.vipr_cert.specs.declared.items.Goal.TheVariants.{Min, Max}
+use Rattle.vipr_cert.specs.declared.items.Reason.{Reason}
+use Rattle.vipr_cert.specs.declared.items.Reason.TheVariants.{Asm, Lin, Rnd, Uns, Sol}
+use Rattle.vipr_cert.specs.declared.items.Derivation.{Derivation}
+
+abbrev pub named_of : {A B : Type 0} → (A → B) → Named A → is.Named B
+named_of view n = record { name = n.name; item = view n.item }
+
+abbrev pub claim_of : Claim → is.Claim
+claim_of Infeas = is.infeasible
+claim_of (Range lower upper) = is.range lower upper
+
+abbrev pub direction_of : Goal → is.Direction
+direction_of Min = is.minimum
+direction_of Max = is.maximum
+
+-- a problem of these parts
+abbrev pub problem_with : List is.Name → Ints → Goal → Row → List (Named Constraint) → ℕ → Claim
+    → is.Problem
+problem_with names ints sense objective cons bound_count claim = record {
+  names = names;
+  integers = ints;
+  direction = direction_of sense;
+  objective = objective;
+  constraints = map (named_of constraint_of) cons;
+  bound_count = bound_count;
+  claim = claim_of claim;
+}
+
+abbrev pub solution_of : Named Solution → is.Named Row
+solution_of s = named_of (λ x. x.0) s
+
+abbrev pub reason_of : Reason → is.Reason
+reason_of Asm = is.asm
+reason_of (Lin es) = is.lin es.items
+reason_of (Rnd es) = is.rnd es.items
+reason_of (Uns i1 l1 i2 l2) = is.uns i1 l1 i2 l2
+reason_of Sol = is.sol
+
+abbrev pub derivation_of : Derivation → is.Derivation
+derivation_of d =
+    record {
+      name = d.name;
+      stated = constraint_of d.constraint;
+      reason = reason_of d.reason;
+      last = d.last;
+    }
+
+-- a certificate of these parts
+abbrev pub certificate_with : is.Problem → List (Named Solution) → List Derivation → is.Certificate
+certificate_with p solutions derivations =
+    record {
+      problem = p;
+      solutions = map solution_of solutions;
+      derivations = map derivation_of derivations;
+    }

@@ -1,0 +1,161 @@
+//! Certificates.
+ghost use Rattle.std.specs.Prelude.{◌≡◌, ◌↔◌, ◌+◌, ◌<◌, ◌≤◌, IsOk, IfOk, IsTrue, Some, All, map};
+ghost use Rattle.std.specs.Prelude.{length};
+ghost use Rattle.vipr_spec.specs.Certificate.{NamesEarlier};
+ghost use Rattle.vipr_spec.specs.Steps.{RefersBack};
+ghost use Rattle.vipr_spec.specs.Reading.{most_count};
+ghost use Rattle.vipr_spec.specs.Shape.{CertificateShape, CanWrite};
+ghost use Rattle.vipr_cert.specs.Items.{certificate_with, solution_of, reason_of, derivation_of};
+ghost use Rattle.vipr_cert.specs.Earlier.{NameEarlierFrom};
+
+use crate::items::{Derivation, Named, Reason};
+use crate::limits;
+use crate::name::BadShape;
+use crate::problem::Problem;
+use std::marker::Model;
+use vipr_frac::Frac;
+use vipr_linear::Solution;
+
+/// A problem, the solutions that are listed, and the constraints that are derived.
+#[derive(Debug, Drop)]
+pub struct Certificate {
+    problem: Problem,
+    solutions: Vec<Named<Solution>>,
+    derivations: Vec<Derivation>,
+}
+
+impl Model for Certificate {
+    ghost use Rattle.vipr_spec.specs.Certificate.{Certificate as Meant};
+    ghost use Rattle.vipr_spec.specs.Shape.{CanWrite};
+    ghost use Rattle.vipr_cert.specs.Items.{certificate_with};
+    ghost use Rattle.vipr_cert.specs.Codes.{certificate_code};
+
+    ghost Value = { Meant };
+
+    ghost coded = { certificate_code };
+
+    ghost view = { λ c. certificate_with c.problem c.solutions.items c.derivations.items };
+
+    ghost invariant = { λ c. CanWrite
+        (certificate_with c.problem c.solutions.items c.derivations.items) };
+}
+
+impl Certificate {
+    /// The certificate of these parts.
+    ///
+    /// # Errors
+    ///
+    /// `BadShape` where a variable is not one of the problem's, where there are more than
+    /// 4,294,967,295 solutions, entries of a reason, or constraints and derivations together.
+    pub fn new(
+        problem: Problem,
+        solutions: Vec<Named<Solution>>,
+        derivations: Vec<Derivation>,
+    ) -> Result<Certificate, BadShape>
+        ensures shape { IsOk result
+            ↔ CertificateShape (certificate_with problem solutions.items derivations.items) }
+        ensures parts { IfOk result
+            (λ c. c ≡ certificate_with problem solutions.items derivations.items) }
+    {
+        let variables = problem.names().len() as u32;
+        let room = u32::MAX as usize - problem.cons().len();
+        if !limits::is_count(solutions.len()) || derivations.len() > room {
+            return Err(BadShape);
+        }
+        if !limits::are_within(&solutions, variables)
+            || !limits::are_within(&derivations, variables)
+        {
+            return Err(BadShape);
+        }
+        Ok(Certificate::of_parts(problem, solutions, derivations))
+    }
+
+    /// The certificate of parts that are known to be within the limits. Nothing is tested.
+    pub fn of_parts(
+        problem: Problem,
+        solutions: Vec<Named<Solution>>,
+        derivations: Vec<Derivation>,
+    ) -> Certificate
+        requires { CanWrite (certificate_with problem solutions.items derivations.items) }
+        ensures parts { result ≡ certificate_with problem solutions.items derivations.items }
+        ensures writes { CanWrite result }
+    {
+        Self {
+            problem,
+            solutions,
+            derivations,
+        }
+    }
+
+    /// The problem, the solutions and the derivations.
+    pub fn into_parts(self) -> (Problem, Vec<Named<Solution>>, Vec<Derivation>)
+        ensures parts { self ≡ certificate_with result.0 result.1.items result.2.items }
+        ensures writes { CanWrite self }
+    {
+        (self.problem, self.solutions, self.derivations)
+    }
+
+    /// What it is about.
+    pub fn problem(&self) -> &Problem
+        ensures { result.now ≡ self.now.problem }
+    {
+        &self.problem
+    }
+
+    /// The listed solutions.
+    pub fn solutions(&self) -> &[Named<Solution>]
+        ensures { map solution_of result.now ≡ self.now.solutions }
+    {
+        self.solutions.as_slice()
+    }
+
+    /// The derivations; their indices follow those of the problem's constraints.
+    pub fn derivations(&self) -> &[Derivation]
+        ensures derivations { map derivation_of result.now ≡ self.now.derivations }
+        ensures writes { CanWrite self.now }
+    {
+        self.derivations.as_slice()
+    }
+
+    /// Whether each constraint that a reason names has a smaller index than the derivation itself.
+    pub fn refers_back(&self) -> bool
+        ensures { IsTrue result ↔ RefersBack self.now }
+    {
+        refer_back(self.derivations(), self.problem().cons().len())
+    }
+}
+
+// Whether each reason names smaller indices alone than that of its derivation, of which the first
+// has the index `from`.
+fn refer_back(derivations: &[Derivation], from: usize) -> bool
+    requires { from + length derivations.now ≤ most_count }
+    ensures { IsTrue result ↔ NameEarlierFrom from derivations.now (length derivations.now) }
+{
+    for (i, derivation) in derivations.iter().enumerate() {
+        if !names_earlier(&derivation.reason, from + i) {
+            return false;
+        }
+    }
+    true
+}
+
+// Whether a reason names smaller indices than this alone.
+fn names_earlier(reason: &Reason, index: usize) -> bool
+    ensures { IsTrue result ↔ NamesEarlier index (Some (reason_of reason.now)) }
+{
+    match reason {
+        Reason::Asm | Reason::Sol => true,
+        Reason::Lin(entries) => are_earlier(entries, index),
+        Reason::Rnd(entries) => are_earlier(entries, index),
+        Reason::Uns { i1, l1, i2, l2 } => (*i1 as usize) < index
+            && (*l1 as usize) < index
+            && (*i2 as usize) < index
+            && (*l2 as usize) < index,
+    }
+}
+
+fn are_earlier(entries: &[(u32, Frac)], index: usize) -> bool
+    ensures { IsTrue result ↔ All (λ e. e.0 < index) entries.now }
+{
+    entries.iter().all(|entry| (entry.0 as usize) < index)
+}

@@ -1,0 +1,97 @@
+//! Names.
+ghost use Rattle.std.specs.Prelude.{◌≡◌, ◌↔◌, ◌≤◌, IsOk, IfOk, IsTrue, length};
+ghost use Rattle.bstr.specs.Owned.{bstring_bytes};
+ghost use Rattle.vipr_spec.specs.Tokens.{is_white, IsToken};
+
+use bstr::BString;
+use std::alloc::{AllocError, Global};
+use std::marker::Model;
+
+/// A name, an index or a count is outside the limits of the format.
+#[derive(Clone, Copy, Debug, PartialEq, Eq)]
+pub struct BadShape;
+
+/// The name of a variable, a constraint, a solution or a derivation: the bytes of a token, which
+/// need not be text.
+#[derive(Debug, Drop)]
+pub struct Name {
+    bytes: BString,
+}
+
+impl Model for Name {
+    ghost use Rattle.std.specs.Prelude.{ℕ, List};
+    ghost use Rattle.std.specs.Coded.{coded_ℕ, coded_list};
+    ghost use Rattle.bstr.specs.Owned.{bstring_bytes};
+    ghost use Rattle.vipr_spec.specs.Tokens.{IsToken};
+
+    ghost Value = { List ℕ };
+
+    ghost coded = { coded_list coded_ℕ };
+
+    ghost view = { λ n. bstring_bytes n.bytes };
+
+    ghost invariant = { λ n. IsToken (bstring_bytes n.bytes) };
+}
+
+impl Clone for Name {
+    ghost use Rattle.std.specs.Prelude.{◌≡◌};
+
+    ghost is_clone = { λ name copy. copy ≡ name };
+
+    fn clone(&self) -> Result<Name, AllocError> {
+        Ok(Name {
+            bytes: self.bytes.clone()?,
+        })
+    }
+}
+
+impl Name {
+    /// The name of these bytes.
+    ///
+    /// # Errors
+    ///
+    /// `BadShape` where they aren't those of a token: at least one and at most 65,535, none of
+    /// which is white space.
+    pub fn new(bytes: BString) -> Result<Name, BadShape>
+        ensures shape { IsOk result ↔ IsToken (bstring_bytes bytes) }
+        ensures name { IfOk result (λ n. n ≡ bstring_bytes bytes) }
+    {
+        if !is_token(bytes.as_bytes()) {
+            return Err(BadShape);
+        }
+        Ok(Name { bytes })
+    }
+
+    /// A name of these bytes, which are those of a token.
+    pub fn of_token(alloc: Global, bytes: &[u8]) -> Result<Name, AllocError>
+        requires { IsToken bytes.now }
+        ensures { IfOk result (λ n. n ≡ bytes.now) }
+    {
+        Ok(Name {
+            bytes: BString::from_slice(alloc, bytes)?,
+        })
+    }
+
+    /// The bytes, which are those of a token.
+    pub fn as_bytes(&self) -> &[u8]
+        ensures bytes { result.now ≡ self.now }
+        ensures token { IsToken self.now }
+    {
+        self.bytes.as_bytes()
+    }
+}
+
+// Whether a byte is white space.
+#[tactic(auto, unfolding(vipr_spec::specs::Tokens::is_white))]
+fn is_white(byte: u8) -> bool
+    ensures { result ≡ is_white byte }
+{
+    (9 <= byte && byte <= 13) || byte == 32
+}
+
+// Whether the bytes are those of a token.
+fn is_token(bytes: &[u8]) -> bool
+    ensures { IsTrue result ↔ IsToken bytes.now }
+{
+    !bytes.is_empty() && bytes.len() <= 65535 && bytes.iter().all(|byte| !is_white(*byte))
+}

@@ -1,0 +1,170 @@
+//! Problems.
+ghost use Rattle.std.specs.Prelude.{◌≡◌, ◌↔◌, ◌≤◌, IsOk, IfOk, map};
+ghost use Rattle.vipr_spec.specs.Certificate.{integer_variables};
+ghost use Rattle.vipr_spec.specs.Shape.{ProblemShape, CanWriteProblem};
+ghost use Rattle.vipr_linear.specs.Constraint.{constraint_of};
+ghost use Rattle.vipr_cert.specs.Items.{problem_with, named_of, direction_of, claim_of};
+
+use crate::items::{Claim, Goal, Named};
+use crate::limits;
+use crate::name::{BadShape, Name};
+use std::marker::Model;
+use vipr_linear::{Constraint, Ints, Row};
+
+/// What a certificate is about: an objective and constraints over named variables, and a claim.
+#[derive(Debug, Drop)]
+pub struct Problem {
+    names: Vec<Name>,
+    ints: Ints,
+    sense: Goal,
+    objective: Row,
+    cons: Vec<Named<Constraint>>,
+    bound_count: u32,
+    claim: Claim,
+}
+
+impl Model for Problem {
+    ghost use Rattle.vipr_spec.specs.Certificate.{Problem as Meant};
+    ghost use Rattle.vipr_spec.specs.Shape.{CanWriteProblem};
+    ghost use Rattle.vipr_cert.specs.Items.{problem_with};
+    ghost use Rattle.vipr_cert.specs.Codes.{problem_code};
+
+    ghost Value = { Meant };
+
+    ghost coded = { problem_code };
+
+    ghost view = { λ p.
+        problem_with p.names.items p.ints p.sense p.objective p.cons.items p.bound_count p.claim };
+
+    ghost invariant = { λ p. CanWriteProblem (problem_with p.names.items p.ints p.sense p.objective
+        p.cons.items p.bound_count p.claim) };
+}
+
+impl Problem {
+    /// The problem of these parts: the variables' names (the variables are 0, 1, 2, ..), the
+    /// variables that have to be whole, whether the objective is to be small or large, its
+    /// coefficients, the constraints, how many of them are bounds (nothing depends on it), and what
+    /// is claimed.
+    ///
+    /// # Errors
+    ///
+    /// `BadShape` where there are more than 4,294,967,295 names or constraints, or where a variable
+    /// is not one of those named.
+    pub fn new(
+        names: Vec<Name>,
+        ints: Ints,
+        sense: Goal,
+        objective: Row,
+        cons: Vec<Named<Constraint>>,
+        bound_count: u32,
+        claim: Claim,
+    ) -> Result<Problem, BadShape>
+        ensures shape { IsOk result ↔ ProblemShape
+            (problem_with names.items ints sense objective cons.items bound_count claim) }
+        ensures parts { IfOk result
+            (λ p. p ≡ problem_with names.items ints sense objective cons.items bound_count claim) }
+    {
+        limits::names(&names);
+        limits::claim(&claim);
+        let _ = objective.entries();
+        if !limits::is_count(names.len()) {
+            return Err(BadShape);
+        }
+        let variables = names.len() as u32;
+        if !limits::is_count(cons.len()) || !limits::are_below(&ints, variables) {
+            return Err(BadShape);
+        }
+        if !objective.names_below(variables) || !limits::are_within(&cons, variables) {
+            return Err(BadShape);
+        }
+        Ok(Problem::of_parts(names, ints, sense, objective, cons, bound_count, claim))
+    }
+
+    /// The problem of parts that are known to be within the limits. Nothing is tested.
+    pub fn of_parts(
+        names: Vec<Name>,
+        ints: Ints,
+        sense: Goal,
+        objective: Row,
+        cons: Vec<Named<Constraint>>,
+        bound_count: u32,
+        claim: Claim,
+    ) -> Problem
+        requires { CanWriteProblem
+            (problem_with names.items ints sense objective cons.items bound_count claim) }
+        ensures parts { result
+            ≡ problem_with names.items ints sense objective cons.items bound_count claim }
+        ensures writes { CanWriteProblem result }
+    {
+        Self {
+            names,
+            ints,
+            sense,
+            objective,
+            cons,
+            bound_count,
+            claim,
+        }
+    }
+
+    /// The variables' names.
+    pub fn names(&self) -> &[Name]
+        ensures names { result.now ≡ self.now.names }
+        ensures writes { CanWriteProblem self.now }
+    {
+        self.names.as_slice()
+    }
+
+    /// The variables that have to be whole.
+    pub fn ints(&self) -> &Ints
+        ensures integers { result.now ≡ self.now.integers }
+        ensures writes { CanWriteProblem self.now }
+    {
+        &self.ints
+    }
+
+    /// The variables that have to be whole, in rising order.
+    pub fn integer_variables(&self) -> &[u32]
+        ensures variables { result.now ≡ integer_variables self.now }
+        ensures writes { CanWriteProblem self.now }
+    {
+        self.ints().indices()
+    }
+
+    /// Whether the objective is to be small or large.
+    pub fn sense(&self) -> Goal
+        ensures { direction_of result ≡ self.now.direction }
+    {
+        self.sense
+    }
+
+    /// The coefficients of the objective.
+    pub fn objective(&self) -> &Row
+        ensures objective { result.now ≡ self.now.objective }
+        ensures writes { CanWriteProblem self.now }
+    {
+        &self.objective
+    }
+
+    /// The constraints, with the indices 0, 1, 2, ..
+    pub fn cons(&self) -> &[Named<Constraint>]
+        ensures constraints { map (named_of constraint_of) result.now ≡ self.now.constraints }
+        ensures writes { CanWriteProblem self.now }
+    {
+        self.cons.as_slice()
+    }
+
+    /// How many of the constraints are bounds.
+    pub fn bound_count(&self) -> u32
+        ensures { result ≡ self.now.bound_count }
+    {
+        self.bound_count
+    }
+
+    /// What is claimed.
+    pub fn claim(&self) -> Claim
+        ensures { claim_of result ≡ self.now.claim }
+    {
+        self.claim
+    }
+}

@@ -1,0 +1,32 @@
+-- What a verdict on bytes in memory says of them.
+use Rattle.std.proofs.Common.{◌≡◌, ◌<◌, ◌^◌, ℕ, List, length, Result, Ok, Some, false, refl, subst}
+use Rattle.vipr_check.specs.Checks.{Checks}
+use Rattle.vipr_check.specs.declared.verdict.Fault.{Fault}
+use Rattle.vipr_check.specs.declared.verdict.Refusal.{Refusal}
+use Rattle.vipr_check.specs.declared.verdict.Report.{Report}
+use Rattle.vipr_check.specs.declared.verdict.Verdict.{Verdict}
+use Rattle.vipr_check.specs.declared.verdict.Verdict.TheVariants.{Verified, Refused}
+use Rattle.vipr_example.specs.Promises.{SpellsProof, SpellsTruth}
+
+abbrev pub Answers : List ℕ → Result Verdict Fault → Type 0
+Answers bytes result = Checks (Some (record { bytes = bytes; fails = false })) result
+
+-- the answer on the bytes, as the one that was matched
+abbrev pub on : (text bytes : List ℕ) (r : Result Verdict Fault) (v w : Verdict) → bytes ≡ text → r ≡ Ok v → v ≡ w
+    → Checks (Some (record { bytes = bytes; fails = false })) r → Answers text (Ok w)
+on text bytes r v w same is_v is_w c =
+    let as_v = subst (λ x. Answers bytes x) is_v c in
+    let as_w = subst (λ x. Answers bytes (Ok x)) is_w as_v in
+    subst (λ x. Answers x (Ok w)) same as_w
+
+pub verified : (bytes : List ℕ) (report : Report) → length bytes < 2 ^ 64
+    → Answers bytes (Ok (Verified report)) → SpellsProof bytes
+verified bytes report short c = let p = c.proof short refl in (p.0, p.1.this, p.2)
+
+pub true_claim : (bytes : List ℕ) (report : Report) → length bytes < 2 ^ 64
+    → Answers bytes (Ok (Verified report)) → SpellsTruth bytes
+true_claim bytes report short c = c.sound short refl
+
+pub refused : (bytes : List ℕ) (refusal : Refusal) → length bytes < 2 ^ 64
+    → Answers bytes (Ok (Refused refusal)) → SpellsProof bytes → ⊥
+refused bytes refusal short c p = c.every short refl p.0 p.1 p.2

@@ -1,0 +1,19 @@
+//! Spells a certificate in its canonical text.
+use std::alloc::Global;
+use vipr_bytes::{Bytes, FromWrite};
+use vipr_text::{TextError, WriteError, read_certificate, write_certificate};
+
+/// The canonical text of the certificate that the bytes spell.
+///
+/// # Errors
+///
+/// `Refused` where they spell none, and `Memory` where a growth is refused.
+pub fn canonical(alloc: Global, text: &[u8]) -> Result<Vec<u8>, TextError> {
+    let certificate = read_certificate(alloc, Bytes::new(text))?;
+    let mut out = Vec::new(alloc);
+    match write_certificate(alloc, &certificate, &mut FromWrite::new(&mut out)) {
+        Ok(()) => Ok(out),
+        // A vector takes each write whole, or has no memory for it.
+        Err(WriteError::Write { .. } | WriteError::Memory { .. }) => Err(TextError::Memory),
+    }
+}

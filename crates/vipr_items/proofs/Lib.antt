@@ -1,4 +1,0 @@
-pub mod Seen
-pub mod Within
-pub mod Backwards
-pub mod Members

@@ -1,0 +1,9 @@
+-- Laws: the lemmas that other crates may cite, by the file that proves them
+
+-- Lists of pairs as rows
+pub use Rattle.vipr_linear.proofs.Rows.{zero_test}
+-- A rising list of variables, as a set
+pub use Rattle.vipr_linear.proofs.Sets.{member}
+-- Adding entries one after the other gives their sum
+pub use Rattle.vipr_linear.proofs.StepByStep.{fits_told, start_held, step_held, suitable_told}
+pub use Rattle.vipr_linear.proofs.StepByStep.{sum_held}

@@ -1,0 +1,46 @@
+//! The entries that a row keeps: its own, or those that it shares with its copies.
+ghost use Rattle.std.specs.Prelude.{◌≡◌, IfOk};
+ghost use Rattle.vipr_linear.specs.Row.{kept_items};
+
+use std::alloc::{AllocError, Global};
+use std::rc::Rc;
+use vipr_frac::Frac;
+
+/// Variables with their coefficients.
+#[derive(Debug, Drop)]
+pub(crate) enum Kept {
+    Own(Vec<(u32, Frac)>),
+    Shared(Rc<Vec<(u32, Frac)>>),
+}
+
+impl Kept {
+    /// The list that is kept.
+    pub(crate) fn as_slice(&self) -> &[(u32, Frac)]
+        ensures { result.now ≡ kept_items self.now }
+    {
+        match self {
+            Kept::Own(items) => items.as_slice(),
+            Kept::Shared(items) => items.as_ref().as_slice(),
+        }
+    }
+
+    /// The same list. One that is shared takes no memory.
+    pub(crate) fn copied(&self) -> Result<Kept, AllocError>
+        ensures { IfOk result (λ copy. kept_items copy ≡ kept_items self.now) }
+    {
+        match self {
+            Kept::Own(items) => Ok(Kept::Own(items.clone()?)),
+            Kept::Shared(items) => Ok(Kept::Shared(items.clone()?)),
+        }
+    }
+
+    /// The same list, whose copies share it.
+    pub(crate) fn shared(self, alloc: Global) -> Result<Kept, AllocError>
+        ensures { IfOk result (λ shared. kept_items shared ≡ kept_items self) }
+    {
+        match self {
+            Kept::Own(items) => Ok(Kept::Shared(Rc::new(alloc, items)?)),
+            Kept::Shared(items) => Ok(Kept::Shared(items)),
+        }
+    }
+}

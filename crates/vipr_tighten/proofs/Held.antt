@@ -1,0 +1,179 @@
+-- The derived constraints that are held, counted by where each is dropped
+use Rattle.std.proofs.Common.{◌≡◌, ℕ, zero, suc, ◌+◌, ◌-◌, ◌<◌, ◌≤◌, max, cond, Bool, true, false, ◌&&◌, ◌||◌, nat_lt, nat_le, nat_eq, List, [], ◌∷◌, ◌++◌, map, length, slice_index_or, Option, Some, None, arith, refl, sym, ◌∙◌, ap, ap₂, subst, lt-ltb}
+use Rattle.std.specs.Prelude.{option_map}
+use Rattle.std.specs.List.{range_with_len, count_by, fold}
+use Rattle.std.proofs.lemmas.List.Sums.{sum_by-append, fold-append, count_by-le-length}
+use Rattle.std.proofs.lemmas.List.FromFn.{map-range_with_len_more, length-range_with_len}
+use Rattle.std.proofs.lemmas.List.{get_or-append-add, get_or-map, length-map}
+use Rattle.std.proofs.lemmas.Bool.Decides.{nat_tests}
+use Rattle.vipr_spec.specs.Constraint.{Constraint}
+use Rattle.vipr_spec.specs.Certificate.{Named, Derivation, Certificate, reason_at, last_at, is_assumption, lasts_to, is_live, held, peak}
+use Rattle.vipr_spec.specs.Laws.{reason_placed}
+use Rattle.vipr_spec.proofs.Laws.{lasts_listed}
+use Rattle.vipr_cert.specs.Items.{reason_of, derivation_of}
+use Rattle.vipr_cert.specs.declared.items.Derivation.{Derivation as Stored}
+use Rattle.vipr_tighten.specs.Dropping.{dropped_after, is_held_after, is_held_until, is_dropped_after}
+
+abbrev pub drop_at : Certificate → ℕ → Option ℕ
+drop_at c i = dropped_after i (reason_at c i) (last_at c i)
+
+-- ---- counts over ranges
+
+count_cons : (p : ℕ → Bool) (x : ℕ) (xs : List ℕ) → count_by p (x ∷ xs) ≡ cond (p x) 1 0 + count_by p xs
+count_cons p x xs = let e = sum_by-append (λ x. cond (p x) 1 0) (x ∷ []) xs in omega arith
+
+count_from : (p : ℕ → Bool) (a n b : ℕ) → a + n ≡ b → count_by p (range_with_len a (suc n)) ≡ count_by p (range_with_len a n) + cond (p b) 1 0
+count_from p a zero b e = let same : a ≡ b = omega arith in ap (λ x. 0 + cond (p x) 1 0) same
+count_from p a (suc n) b e =
+    let rest = count_from p (a + 1) n b (omega arith) in
+    let more = count_cons p a (range_with_len (a + 1) (suc n)) in
+    let one = count_cons p a (range_with_len (a + 1) n) in
+    omega arith
+
+pub count_more : (p : ℕ → Bool) (a n : ℕ) → count_by p (range_with_len a (n + 1)) ≡ count_by p (range_with_len a n) + cond (p (a + n)) 1 0
+count_more p a n = let same : n + 1 ≡ suc n = omega arith in ap (λ k. count_by p (range_with_len a k)) same ∙ count_from p a n (a + n) refl
+
+count_alike : (p q : ℕ → Bool) (a n : ℕ) → ((i : ℕ) → a ≤ i → i < a + n → p i ≡ q i) → count_by p (range_with_len a n) ≡ count_by q (range_with_len a n)
+count_alike p q a zero same = refl
+count_alike p q a (suc n) same =
+    let rest = count_alike p q (a + 1) n (λ i low up. same i (omega arith) (omega arith)) in
+    let here : cond {A = ℕ} (p a) 1 0 ≡ cond {A = ℕ} (q a) 1 0 = ap (λ (b : Bool). cond {A = ℕ} b 1 0) (same a (omega arith) (omega arith)) in
+    let left = count_cons p a (range_with_len (a + 1) n) in
+    let right = count_cons q a (range_with_len (a + 1) n) in
+    omega arith
+
+-- ---- one constraint
+
+parts_at : (k at : ℕ) → cond (nat_le k at) 1 0 ≡ cond (nat_lt k at) 1 0 + cond (nat_eq at k) 1 0
+parts_at k at = grind (arith, nat_tests)
+
+parts_one : (k : ℕ) (o : Option ℕ) → cond (is_held_until k o) 1 0 ≡ cond (is_held_after k o) 1 0 + cond (is_dropped_after k o) 1 0
+parts_one k None = refl
+parts_one k (Some at) = parts_at k at
+
+until_next : (k : ℕ) (o : Option ℕ) → is_held_until (k + 1) o ≡ is_held_after k o
+until_next k None = refl
+until_next k (Some at) = let same : k + 1 ≡ suc k = omega arith in ap (λ n. nat_le n at) same
+
+live_one : (i k l : ℕ) → i < k → nat_le (k + 1) l ≡ nat_lt k (max l (i + 1))
+live_one i k l h = grind (arith, nat_tests)
+
+live_by : (i k : ℕ) → i < k → (b : Bool) (o : Option ℕ) → (b || lasts_to (k + 1) o) ≡ is_held_after k (cond b None (option_map (λ l. max l (i + 1)) o))
+live_by i k h true o = refl
+live_by i k h false None = refl
+live_by i k h false (Some l) = live_one i k l h
+
+live_is : (c : Certificate) (k i : ℕ) → i < k → is_live c (k + 1) i ≡ is_held_after k (drop_at c i)
+live_is c k i h = ap (λ b. b && (is_assumption (reason_at c i) || lasts_to (k + 1) (last_at c i))) (lt-ltb i (k + 1) (omega arith)) ∙ live_by i k h (is_assumption (reason_at c i)) (last_at c i)
+
+-- a constraint is held until the next derivation at least
+last_one : (i : ℕ) (b : Bool) (o : Option ℕ) → is_held_until (i + 1) (cond b None (option_map (λ l. max l (i + 1)) o)) ≡ true
+last_one i true o = refl
+last_one i false None = refl
+last_one i false (Some l) = grind (arith, nat_tests)
+
+-- ---- all of them
+
+parts_all : (f : ℕ → Option ℕ) (k : ℕ) (xs : List ℕ) → count_by (λ i. is_held_until k (f i)) xs ≡ count_by (λ i. is_held_after k (f i)) xs + count_by (λ i. is_dropped_after k (f i)) xs
+parts_all f k [] = refl
+parts_all f k (x ∷ xs) =
+    let rest = parts_all f k xs in
+    let here = parts_one k (f x) in
+    let a = count_cons (λ i. is_held_until k (f i)) x xs in
+    let b = count_cons (λ i. is_held_after k (f i)) x xs in
+    let d = count_cons (λ i. is_dropped_after k (f i)) x xs in
+    omega arith
+
+module _ (c : Certificate) (m : ℕ) (is_first : length c.problem.constraints ≡ m) (p : ℕ) where
+  abbrev until_now : ℕ
+  until_now = count_by (λ i. is_held_until (m + p) (drop_at c i)) (range_with_len m p)
+
+  abbrev dropped_now : ℕ
+  dropped_now = count_by (λ i. is_dropped_after (m + p) (drop_at c i)) (range_with_len m p)
+
+  abbrev after_now : ℕ
+  after_now = count_by (λ i. is_held_after (m + p) (drop_at c i)) (range_with_len m p)
+
+  pub few_held : until_now ≤ p
+  few_held =
+      let few = count_by-le-length (λ i. is_held_until (m + p) (drop_at c i)) (range_with_len m p) in
+      let size = length-range_with_len m p in
+      omega arith
+
+  held_is : held c (m + p) ≡ 1 + after_now
+  held_is =
+      let rest : (m + p) - m ≡ p = omega arith in
+      ap (λ n. 1 + count_by (is_live c (m + p + 1)) (range_with_len n (m + p - n))) is_first
+      ∙ ap (λ n. 1 + count_by (is_live c (m + p + 1)) (range_with_len m n)) rest
+      ∙ ap (λ n. 1 + n) (count_alike (is_live c (m + p + 1)) (λ i. is_held_after (m + p) (drop_at c i)) m p (λ i low up. live_is c (m + p) i up))
+
+  pub fewer_dropped : dropped_now ≤ until_now
+  fewer_dropped = let e = parts_all (drop_at c) (m + p) (range_with_len m p) in omega arith
+
+  pub held_now : (h d : ℕ) → h ≡ until_now → d ≡ dropped_now → h + 1 - d ≡ held c (m + p)
+  held_now h d a b = let e = parts_all (drop_at c) (m + p) (range_with_len m p) in let is = held_is in omega arith
+
+  pub until_then : held c (m + p) ≡ count_by (λ i. is_held_until (m + (p + 1)) (drop_at c i)) (range_with_len m (p + 1))
+  until_then =
+      let place : m + p + 1 ≡ m + (p + 1) = omega arith in
+      let q : ℕ → Bool = λ i. is_held_until (m + p + 1) (drop_at c i) in
+      let last : q (m + p) ≡ true = last_one (m + p) (is_assumption (reason_at c (m + p))) (last_at c (m + p)) in
+      let one : cond {A = ℕ} (q (m + p)) 1 0 ≡ 1 = ap (λ (b : Bool). cond {A = ℕ} b 1 0) last in
+      let more = count_more q m p in
+      let same : count_by q (range_with_len m p) ≡ after_now = count_alike q (λ i. is_held_after (m + p) (drop_at c i)) m p (λ i low up. until_next (m + p) (drop_at c i)) in
+      let whole : held c (m + p) ≡ count_by q (range_with_len m (p + 1)) = (let is = held_is in omega arith) in
+      whole ∙ ap (λ n. count_by (λ i. is_held_until n (drop_at c i)) (range_with_len m (p + 1))) place
+
+  pub most_then : max (held c (m + p)) (fold max 0 (map (held c) (range_with_len m p))) ≡ fold max 0 (map (held c) (range_with_len m (p + 1)))
+  most_then =
+      let before = fold max 0 (map (held c) (range_with_len m p)) in
+      let turned : max (held c (m + p)) before ≡ max before (held c (m + p)) = omega arith in
+      turned ∙ sym (ap (fold max 0) (map-range_with_len_more (held c) m p (m + p) refl) ∙ fold-append max 0 (map (held c) (range_with_len m p)) (held c (m + p) ∷ []))
+
+  -- where the derivation at this place is dropped
+  pub drop_here : (ds : List Stored) → map derivation_of ds ≡ c.derivations → p < length ds → (d : Stored) → d ≡ slice_index_or ds p d → drop_at c (m + p) ≡ dropped_after (m + p) (Some (reason_of d.reason)) d.last
+  drop_here ds same h d is = ap₂ (dropped_after (m + p)) reason last
+    where
+      there : derivation_of d ≡ slice_index_or c.derivations p (derivation_of d)
+      there = ap derivation_of is ∙ sym (get_or-map derivation_of ds p d (derivation_of d) h) ∙ ap (λ l. slice_index_or l p (derivation_of d)) same
+
+      inside : p < length c.derivations
+      inside = let e = length-map ds derivation_of in let f = ap length same in omega arith
+
+      reason : reason_at c (m + p) ≡ Some (reason_of d.reason)
+      reason = ap (λ n. reason_at c (n + p)) (sym is_first) ∙ reason_placed c p ∙ get_or-map (λ (x : Derivation). Some x.reason) c.derivations p (derivation_of d) None inside ∙ ap (λ (x : Derivation). Some x.reason) (sym there)
+
+      last : last_at c (m + p) ≡ d.last
+      last =
+          let no_last : Named Constraint → Option ℕ = λ _. None in
+          let given = map no_last c.problem.constraints in
+          let derived = map (λ (x : Derivation). x.last) c.derivations in
+          let size : length given ≡ m = length-map c.problem.constraints no_last ∙ is_first in
+          lasts_listed c (m + p)
+          ∙ ap (λ n. slice_index_or (given ++ derived) (n + p) None) (sym size)
+          ∙ get_or-append-add given derived p None
+          ∙ get_or-map (λ (x : Derivation). x.last) c.derivations p (derivation_of d) None inside ∙ ap (λ (x : Derivation). x.last) (sym there)
+
+  -- the counts of what is dropped, with the derivation at this place
+  pub dropped_then : (k n : ℕ) → n ≡ count_by (λ i. is_dropped_after (m + k) (drop_at c i)) (range_with_len m p)
+      → n + cond (is_dropped_after (m + k) (drop_at c (m + p))) 1 0 ≡ count_by (λ i. is_dropped_after (m + k) (drop_at c i)) (range_with_len m (p + 1))
+  dropped_then k n e = let more = count_more (λ i. is_dropped_after (m + k) (drop_at c i)) m p in omega arith
+
+  pub few_at : (k : ℕ) → count_by (λ i. is_dropped_after (m + k) (drop_at c i)) (range_with_len m p) ≤ p
+  few_at k =
+      let few = count_by-le-length (λ i. is_dropped_after (m + k) (drop_at c i)) (range_with_len m p) in
+      let size = length-range_with_len m p in
+      omega arith
+
+  pub each_some : (k at n new : ℕ) → n ≡ count_by (λ i. is_dropped_after (m + k) (drop_at c i)) (range_with_len m p) → drop_at c (m + p) ≡ Some at → new ≡ n + cond (nat_eq at (m + k)) 1 0
+      → new ≡ count_by (λ i. is_dropped_after (m + k) (drop_at c i)) (range_with_len m (p + 1))
+  each_some k at n new e is w = w ∙ sym (ap (λ (o : Option ℕ). n + cond {A = ℕ} (is_dropped_after (m + k) o) 1 0) is) ∙ dropped_then k n e
+
+  pub each_none : (k n : ℕ) → n ≡ count_by (λ i. is_dropped_after (m + k) (drop_at c i)) (range_with_len m p) → drop_at c (m + p) ≡ None
+      → n ≡ count_by (λ i. is_dropped_after (m + k) (drop_at c i)) (range_with_len m (p + 1))
+  each_none k n e is =
+      let nothing : n ≡ n + 0 = omega arith in
+      nothing ∙ sym (ap (λ (o : Option ℕ). n + cond {A = ℕ} (is_dropped_after (m + k) o) 1 0) is) ∙ dropped_then k n e
+
+pub peak_whole : (c : Certificate) (m n : ℕ) → length c.problem.constraints ≡ m → length c.derivations ≡ n → fold max 0 (map (held c) (range_with_len m n)) ≡ peak c
+peak_whole c m n a b = sym (ap₂ (λ i j. fold max 0 (map (held c) (range_with_len i j))) a b)

@@ -1,0 +1,90 @@
+-- A checker run over a text, item by item, while the items are kept
+use Rattle.std.specs.Prelude.{◌≡◌, ⊤, ◌<◌, ◌^◌, false, List, [], None, IsSome, Result, Ok, Err}
+use Rattle.vipr_spec.specs.Constraint.{one, Row}
+use Rattle.vipr_spec.specs.Certificate.{Named, Problem, Certificate, count}
+use Rattle.vipr_spec.specs.Reading.{Rest, end_read}
+use Rattle.vipr_spec.specs.Tests.{Detail}
+use Rattle.vipr_spec.specs.Verdict.{Found, Answer, verified, refuses, cut_short, Explained}
+use Rattle.vipr_spec.specs.Progress.{solutions_from, derivations_from}
+use Rattle.vipr_scan.specs.Giving.{rest_of}
+use Rattle.vipr_read.specs.Items.{Items}
+use Rattle.vipr_check.specs.View.{refusal_of, report_of}
+use Rattle.vipr_check.specs.Progress.{HasSteps}
+use Rattle.vipr_check.specs.State.{State}
+use Rattle.vipr_check.specs.Run.{IsAmong, IsAt}
+use Rattle.vipr_check.specs.declared.verdict.Report.{Report}
+use Rattle.vipr_check.specs.declared.halt.Stop.{Stop}
+use Rattle.vipr_check.specs.declared.halt.Stop.TheVariants as stop
+use Rattle.vipr_check.specs.declared.verdict.Place.TheVariants.{Byte}
+use Rattle.vipr_scan.specs.declared.error.TextError.{TextError}
+use Rattle.vipr_scan.specs.declared.error.TextError.TheVariants as text
+use Rattle.vipr_tighten.specs.declared.proof.Unproved.{Unproved}
+use Rattle.vipr_tighten.specs.declared.proof.Unproved.TheVariants.{Refused, Read, Memory}
+
+-- ---- why no proof was read
+
+abbrev pub stop_reason : Stop → Unproved
+stop_reason (stop.Refused r) = Refused r
+stop_reason stop.Memory = Memory
+stop_reason stop.Spent = Memory
+
+abbrev pub text_reason : TextError → Unproved
+text_reason (text.Refused c offset) = Refused (record { cause = c; place = Byte offset })
+text_reason text.Read = Read
+text_reason text.Memory = Memory
+text_reason text.Spent = Read
+
+-- this is the answer for what was found in a text, with its detail
+abbrev pub HasAnswer : Found → Answer → Type 0
+HasAnswer f a = (x : Detail) × Explained one f a x
+
+-- this is why there is no proof in what was found; want of memory tells nothing of it
+abbrev pub TellsWhy : Found → Unproved → Type 0
+TellsWhy f (Refused r) = HasAnswer f (refuses (refusal_of r))
+TellsWhy f Read = HasAnswer f cut_short
+TellsWhy f Memory = ⊤
+
+-- the proof is the certificate that was found, with its report; or this is the answer
+abbrev pub TellsProof : Found → Result (Certificate × Report) Unproved → Type 0
+TellsProof f (Ok x) = (f.certificate ≡ x.0) × HasAnswer f (verified (report_of x.1))
+TellsProof f (Err e) = TellsWhy f e
+
+-- ---- what is kept
+
+-- the second has the certificate of the first, and each answer for it, with its detail, is one for
+-- the first
+pub record LeadsTo (f g : Found) : Type 0 where
+  pub same : f.certificate ≡ g.certificate
+  pub answers : (a : Answer) (x : Detail) → Explained one g a x → Explained one f a x
+
+abbrev pub solutions_left : Problem → List (Named Row) → Items → Found
+solutions_left p ss r = solutions_from p ss r.left (rest_of r.rest)
+
+abbrev pub derivations_left : Certificate → Items → Found
+derivations_left c r = derivations_from c r.left (rest_of r.rest)
+
+-- the solutions ss were read where r was left before, and the checker and the reader stand behind
+-- them
+pub record KeepsListed (p : Problem) (r : Items) (ss : List (Named Row)) (k : State)
+    (new : Items) : Type 0 where
+  pub is_among : IsAmong one p ss k new
+  pub known : IsSome r.rest → IsSome new.rest
+  pub leads : IsSome r.rest → LeadsTo (solutions_left p [] r) (solutions_left p ss new)
+
+-- the certificate c was read where r was left after the certificate s, and the checker and the
+-- reader stand behind it
+pub record KeepsDerived (s : Certificate) (r : Items) (c : Certificate) (k : State)
+    (new : Items) : Type 0 where
+  pub is_at : IsAt one c k new
+  pub known : IsSome r.rest → IsSome new.rest
+  pub leads : IsSome r.rest → LeadsTo (derivations_left s r) (derivations_left c new)
+
+-- it was read to its end
+pub record KeepsWhole (s : Certificate) (r : Items) (c : Certificate) (k : State) : Type 0 where
+  pub profile : k.progress.profile ≡ one
+  pub has : HasSteps c k.progress
+  pub few : count c < 2 ^ 32
+  pub phase : k.in_solutions ≡ false
+  pub runs : k.halt ≡ None
+  pub leads : IsSome r.rest → (end : Rest) × (end_read end ≡ Ok tt)
+      × LeadsTo (derivations_left s r) (derivations_from c 0 end)

@@ -1,0 +1,44 @@
+//! What tightening answers.
+
+use std::alloc::AllocError;
+use vipr_check::Refusal;
+
+/// What became of a certificate that was to be tightened.
+#[derive(Clone, Copy, Debug, PartialEq, Eq)]
+pub enum Outcome {
+    /// It is a proof, and the tightened one was written.
+    Tightened {
+        /// How many derivations were written.
+        kept: u32,
+        /// How many were left out.
+        removed: u32,
+        /// How many derived constraints had to be held at most.
+        peak_before: usize,
+        /// The same of the tightened certificate.
+        peak_after: usize,
+    },
+    /// It is none. Nothing was written.
+    Refused(Refusal),
+}
+
+/// Why there is no outcome.
+#[derive(Clone, Copy, Debug, PartialEq, Eq)]
+pub enum TightenFault {
+    /// A read failed. Nothing was written.
+    Read,
+    /// A growth was refused. Nothing was written, and `taken` is 0.
+    Memory { taken: u64 },
+    /// A write failed or took nothing, after exactly the first `taken` bytes were taken.
+    Write { taken: u64 },
+}
+
+impl From<AllocError> for TightenFault {
+    ghost use Rattle.std.specs.Prelude.{◌≡◌};
+    ghost use Rattle.vipr_tighten.specs.declared.outcome.TightenFault.TheVariants.{Memory};
+
+    ghost from_gives = { λ _ e. e ≡ Memory 0 };
+
+    fn from(_error: AllocError) -> TightenFault {
+        TightenFault::Memory { taken: 0 }
+    }
+}

@@ -1,0 +1,307 @@
+//! Whole texts: what is written for them, and what of it where a read or a write fails.
+use super::{IGNORED, ROUNDED, SPLIT, UNUSED};
+use crate::{Outcome, TightenFault, tighten};
+use std::alloc::Global;
+use std::process::Abort;
+use std::test::Fail;
+use vipr_bytes::{Bytes, Failed, FromWrite, Sink, Source};
+use vipr_check::{Place, Refusal, Verdict, check};
+
+// A constraint of the problem is the goal.
+const ABSURD: &[u8] = b"VER 1.0
+VAR 0
+INT 0
+OBJ min
+0
+CON 1 0
+a G 1 0
+RTP infeas
+SOL 0
+DER 0
+";
+
+// No bound is claimed.
+const UNBOUNDED: &[u8] = b"VER 1.0
+VAR 1
+x
+INT 0
+OBJ min
+1 0 1
+CON 0 0
+RTP range -inf inf
+SOL 0
+DER 0
+";
+
+// No bound is claimed, and a constraint is derived.
+const NEEDLESS: &[u8] = b"VER 1.0
+VAR 1
+x
+INT 1
+0
+OBJ max
+1 0 1
+CON 1 0
+a L 5/2 1 0 1
+RTP range -inf inf
+SOL 1
+s 1 0 2
+DER 1
+d L 2 1 0 1 { rnd 1 0 1 } -1
+";
+
+const NOTHING_DERIVED: &[u8] = b"VER 1.0
+VAR 1
+x
+INT 1
+0
+OBJ max
+1 0 1
+CON 1 0
+a L 5/2 1 0 1
+RTP range -inf inf
+SOL 1
+s 1 0 2
+DER 0
+";
+
+// A text that isn't canonical.
+const LENIENT: &[u8] = b"%a VER\r\n  %b\n VER\t1.0\r\nVAR\t1\r\nx\r\n\
+INT 2\r\n0 00\r\nOBJ max\r\n1 0 2/4\r\n\
+CON 2 1\r\na L +5 OBJ\r\nb G -0/7 1 0 0\r\n\
+RTP range -inf inf\r\nSOL 0\r\nDER 0";
+
+const CANONICAL: &[u8] = b"VER 1.0
+VAR 1
+x
+INT 1
+0
+OBJ max
+1 0 1/2
+CON 2 1
+a L 5 1 0 1/2
+b G 0 0
+RTP range -inf inf
+SOL 0
+DER 0
+";
+
+// The split, with a last reference that is too small.
+const DROPPED: &[u8] = b"VER 1.0
+VAR 1
+x
+INT 1
+0
+OBJ min
+0
+CON 2 0
+a G 1 1 0 2
+b L 1 1 0 2
+RTP infeas
+SOL 0
+DER 5
+c L 0 1 0 1 { asm } 6
+d G 1 1 0 1 { asm } 6
+e G 1 0 { lin 2 0 1 2 -2 } 5
+f G 1 0 { lin 2 3 2 1 -1 } 6
+g G 1 0 { uns 4 2 5 3 } -1
+";
+
+/// Gives one byte a read, and fails at a chosen read. It counts its reads.
+#[derive(Drop)]
+struct Single<'a> {
+    left: &'a [u8],
+    reads: usize,
+    fails_at: usize,
+}
+
+impl Source for Single<'_> {
+    ghost use Rattle.std.specs.Prelude.{None, length};
+
+    ghost reads_left = { λ s. length s.left.now };
+
+    ghost input = { λ _. None };
+
+    fn read(&mut self, buf: &mut [u8]) -> Result<usize, Failed> {
+        self.reads = self.reads.saturating_add(1);
+        if self.reads == self.fails_at {
+            return Err(Failed);
+        }
+        match self.left.split_first() {
+            None => Ok(0),
+            Some((first, rest)) => {
+                buf[0] = *first;
+                self.left = rest;
+                Ok(1)
+            }
+        }
+    }
+}
+
+/// Takes one byte a call. At a chosen call it fails, or takes none. It counts its calls.
+#[derive(Drop)]
+struct Slots {
+    taken: [u8; 512],
+    calls: usize,
+    stops_at: usize,
+    fails: bool,
+}
+
+impl Slots {
+    fn stopping_at(stops_at: usize, fails: bool) -> Slots {
+        Slots {
+            taken: [0; 512],
+            calls: 0,
+            stops_at,
+            fails,
+        }
+    }
+}
+
+impl Sink for Slots {
+    ghost use Rattle.std.specs.Prelude.{None};
+
+    ghost output = { λ _. None };
+
+    ghost failures = { λ _. None };
+
+    fn write(&mut self, bytes: &[u8]) -> Result<usize, Failed> {
+        if self.calls >= 511 {
+            return Err(Failed);
+        }
+        self.calls += 1;
+        if self.calls == self.stops_at {
+            return if self.fails { Err(Failed) } else { Ok(0) };
+        }
+        self.taken[self.calls - 1] = bytes[0];
+        Ok(1)
+    }
+}
+
+/// Checks what is written for a text, that it is a proof, and the figures.
+fn becomes(
+    rt: &impl Abort,
+    alloc: Global,
+    text: &[u8],
+    wanted: &[u8],
+    figures: (u32, u32, usize, usize),
+) -> Result<(), Fail> {
+    let mut written = Vec::new(alloc);
+    let outcome = {
+        let mut sink = FromWrite::new(&mut written);
+        tighten(alloc, Bytes::new(text), &mut sink)
+    };
+    let (kept, removed, peak_before, peak_after) = figures;
+    assert_eq!(rt;
+        outcome,
+        Ok(Outcome::Tightened {
+            kept,
+            removed,
+            peak_before,
+            peak_after,
+        })
+    );
+    assert!(rt; written.as_slice() == wanted);
+    let verdict = check(alloc, Bytes::new(written.as_slice()));
+    assert!(rt; matches!(verdict, Ok(Verdict::Verified(_))));
+    Ok(())
+}
+
+#[test]
+fn what_the_goal_needs_is_written(rt: HostRuntime) -> Result<(), Fail> {
+    let alloc = rt.alloc();
+    becomes(&rt, alloc, IGNORED, ROUNDED, (1, 1, 2, 1))?;
+    becomes(&rt, alloc, ROUNDED, ROUNDED, (1, 0, 1, 1))?;
+    becomes(&rt, alloc, UNUSED, SPLIT, (5, 1, 6, 4))?;
+    becomes(&rt, alloc, ABSURD, ABSURD, (0, 0, 0, 0))?;
+    becomes(&rt, alloc, UNBOUNDED, UNBOUNDED, (0, 0, 0, 0))?;
+    becomes(&rt, alloc, NEEDLESS, NOTHING_DERIVED, (0, 1, 1, 0))?;
+    becomes(&rt, alloc, LENIENT, CANONICAL, (0, 0, 0, 0))
+}
+
+#[test]
+fn nothing_is_written_where_it_is_refused(rt: HostRuntime) {
+    let mut slots = Slots::stopping_at(1, true);
+    assert_eq!(rt;
+        tighten(rt.alloc(), Bytes::new(DROPPED), &mut slots),
+        Ok(Outcome::Refused(Refusal {
+            cause: 32,
+            place: Place::Der(6),
+        }))
+    );
+    assert_eq!(rt; slots.calls, 0);
+}
+
+/// A chain of derivations, each of which refers to the one before, with these last references.
+fn chain(alloc: Global, length: u32, dropped: bool) -> Result<String, Fail> {
+    let mut text = format!(in alloc;
+        "VER 1.0\nVAR 1\nx\nINT 0\nOBJ min\n0\nCON 2 0\n\
+        a G 1 1 0 1\nb L 0 1 0 1\nRTP infeas\nSOL 0\nDER {length}\n"
+    )?;
+    for place in 1..length {
+        let before = if place == 1 { 0 } else { place };
+        let line = if dropped {
+            format!(in alloc; "f G 1 1 0 1 {{ lin 1 {before} 1 }} {}\n", place as u64 + 2)?
+        } else {
+            format!(in alloc; "f G 1 1 0 1 {{ lin 1 {before} 1 }} -1\n")?
+        };
+        text.push_str(line.as_str())?;
+    }
+    let last = format!(in alloc; "f G 1 0 {{ lin 2 {length} 1 1 -1 }} -1\n")?;
+    text.push_str(last.as_str())?;
+    Ok(text)
+}
+
+#[test]
+fn last_references_are_set_in_a_chain(rt: HostRuntime) -> Result<(), Fail> {
+    let alloc = rt.alloc();
+    let long = chain(alloc, 10000, false)?;
+    let short = chain(alloc, 10000, true)?;
+    becomes(
+        &rt,
+        alloc,
+        long.as_str().as_bytes(),
+        short.as_str().as_bytes(),
+        (10000, 0, 10000, 1),
+    )
+}
+
+#[test]
+fn the_bytes_before_a_failed_write_were_taken(rt: HostRuntime) {
+    let bytes = ROUNDED.len();
+    assert_eq!(rt; bytes, 123);
+    for fails in [true, false] {
+        for call in 1..=bytes {
+            let mut slots = Slots::stopping_at(call, fails);
+            let fault = TightenFault::Write {
+                taken: call as u64 - 1,
+            };
+            let outcome = tighten(rt.alloc(), Bytes::new(IGNORED), &mut slots);
+            assert_eq!(rt; outcome, Err(fault));
+            assert_eq!(rt; slots.calls, call);
+            assert!(rt; slots.taken[..call - 1] == ROUNDED[..call - 1]);
+        }
+        let mut slots = Slots::stopping_at(bytes + 1, fails);
+        let outcome = tighten(rt.alloc(), Bytes::new(IGNORED), &mut slots);
+        assert!(rt; outcome.is_ok());
+        assert_eq!(rt; slots.calls, bytes);
+        assert!(rt; &slots.taken[..bytes] == ROUNDED);
+    }
+}
+
+#[test]
+fn nothing_is_written_after_a_failed_read(rt: HostRuntime) {
+    for fails_at in 1..=IGNORED.len() + 1 {
+        let mut slots = Slots::stopping_at(1, true);
+        let source = Single {
+            left: IGNORED,
+            reads: 0,
+            fails_at,
+        };
+        assert_eq!(rt;
+            tighten(rt.alloc(), source, &mut slots),
+            Err(TightenFault::Read)
+        );
+        assert_eq!(rt; slots.calls, 0);
+    }
+}

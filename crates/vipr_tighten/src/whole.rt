@@ -1,0 +1,78 @@
+//! Tightens a whole certificate.
+ghost use Rattle.std.specs.Prelude.{◌≡◌};
+ghost use Rattle.vipr_spec.specs.Constraint.{one};
+ghost use Rattle.vipr_spec.specs.Certificate.{IsProof};
+ghost use Rattle.vipr_spec.specs.Verdict.{Reports};
+ghost use Rattle.vipr_check.specs.View.{report_of};
+ghost use Rattle.vipr_tighten.specs.Tightens.{Tightens, TightensText, kind_of, unproved_answer};
+
+use crate::certificate::tighten_certificate;
+use crate::outcome::{Outcome, TightenFault};
+use crate::peak::peak;
+use crate::proof::{Unproved, read_proof};
+use std::alloc::Global;
+use vipr_bytes::{Sink, Source};
+use vipr_cert::Certificate;
+use vipr_check::Report;
+use vipr_text::{WriteError, write_certificate};
+
+/// Reads a certificate to its end and checks it while it is read. If it is a proof, writes the
+/// canonical text of what its goal needs: the proof without the derivations that nothing needs.
+///
+/// Each item is tested before more is read than it takes, and all memory is taken before the first
+/// byte is written. Time and memory are at most in proportion to those of a check and to the size
+/// of the certificate.
+///
+/// # Errors
+///
+/// `Read` where a read fails, and `Memory` where a growth is refused: nothing was written. `Write`
+/// where a write fails or takes nothing, and the sink is asked no more.
+pub fn tighten<R: Source + Drop, W: Sink>(
+    alloc: Global,
+    source: R,
+    sink: &mut W,
+) -> Result<Outcome, TightenFault>
+    ensures { Tightens (R.input source) (W.output sink.old) (W.output sink.new) result }
+{
+    match read_proof(alloc, source) {
+        Ok((certificate, report)) => write_tightened(alloc, certificate, &report, sink),
+        Err(unproved) => without_proof(unproved),
+    }
+}
+
+// The answer where no proof was read.
+fn without_proof(unproved: Unproved) -> Result<Outcome, TightenFault>
+    ensures { result ≡ unproved_answer unproved }
+{
+    match unproved {
+        Unproved::Refused(refusal) => Ok(Outcome::Refused(refusal)),
+        Unproved::Read => Err(TightenFault::Read),
+        Unproved::Memory => Err(TightenFault::Memory { taken: 0 }),
+    }
+}
+
+// Writes the tightened certificate of a proof with this report.
+fn write_tightened<W: Sink>(
+    alloc: Global,
+    certificate: Certificate,
+    report: &Report,
+    sink: &mut W,
+) -> Result<Outcome, TightenFault>
+    requires proof { IsProof one certificate }
+    requires report { Reports one certificate (report_of report.now) }
+    ensures { TightensText (kind_of certificate) (W.output sink.old) (W.output sink.new) result }
+{
+    let tightened = tighten_certificate(alloc, certificate, report.goal)?;
+    let peak_after = peak(alloc, &tightened)?;
+    let kept = tightened.derivations().len() as u32;
+    match write_certificate(alloc, &tightened, sink) {
+        Ok(()) => Ok(Outcome::Tightened {
+            kept,
+            removed: report.derived - kept,
+            peak_before: report.peak,
+            peak_after,
+        }),
+        Err(WriteError::Memory { taken }) => Err(TightenFault::Memory { taken }),
+        Err(WriteError::Write { taken }) => Err(TightenFault::Write { taken }),
+    }
+}

@@ -1,0 +1,279 @@
+#!/usr/bin/env python3
+"""Hostile use of the built program: each growth, read and write refused in turn, and texts at the limits.
+
+usage: tests/hostile.py [PROGRAM]     crates/vipr/out/vipr without it
+
+Each command that the program has is run over the examples. What a run may answer then:
+- where a growth is refused, `fault memory` with status 3 and nothing on the output, or what the run without it answers;
+- where a read fails, `fault read`, or that answer where it was decided before; and no read follows the failed one;
+- where a write fails, `fault write after N` with exactly the first N bytes on the output; and no write follows.
+Beginnings of the examples, whole and a byte at a time, are answered as the plain model under bench/ does it; texts at
+the format's limits have the answer that the rules give, within a small limit of memory.
+
+Prints each run that answers something else, and last `hostile: N runs, F failed, S seconds of processor time`. Without
+a C compiler the runs with refused calls are left out, and a line says so. The exit status is 1 where a run failed.
+"""
+import os
+import resource
+import shutil
+import subprocess
+import sys
+import tempfile
+from concurrent.futures import ThreadPoolExecutor
+from pathlib import Path
+
+TOP = Path(__file__).resolve().parent.parent
+sys.path.insert(0, str(TOP / 'bench'))
+from plain_check import verdict  # noqa: E402
+
+PROGRAM = str(Path(sys.argv[1] if len(sys.argv) > 1 else TOP / 'crates/vipr/out/vipr').resolve())
+M = 2**127 - 1
+MEMORY = b'', b'fault memory\n', 3
+READ = b'', b'fault read\n', 3
+ROOM = 64 << 20
+failures = []
+runs = 0
+
+
+class Answer(tuple):
+    """What is on the output, what on standard error, and the status; with the calls that were counted."""
+    calls = (0, 0, 0, 0, 0)
+
+
+def answer(words, text=b'', settings=None, room=None, cwd=None):
+    """Runs the program, with the library of refused calls where there are settings."""
+    global runs
+    runs += 1
+    environment = {'PATH': '/usr/bin:/bin'}
+    report = None
+    if settings is not None:
+        file, report = tempfile.mkstemp(dir=WORK)
+        os.close(file)
+        environment |= {'LD_PRELOAD': LIBRARY, 'REPORT': report} | {k: str(v) for k, v in settings.items()}
+    limit = (lambda: resource.setrlimit(resource.RLIMIT_AS, (room, room))) if room else None
+    done = subprocess.run([PROGRAM, *words], input=text, capture_output=True, env=environment, preexec_fn=limit,
+                          cwd=cwd, timeout=120, check=False)
+    out = Answer((done.stdout, done.stderr, done.returncode))
+    if report:
+        counted = Path(report).read_text().split()
+        out.calls = tuple(map(int, counted)) if counted else out.calls
+        os.remove(report)
+    return out
+
+
+def expect(what, got, *wanted):
+    if tuple(got) not in [tuple(it) for it in wanted]:
+        failures.append(what)
+        print(f'{what}: {tuple(got)!r:.300}, wanted {tuple(wanted[0])!r:.300}')
+
+
+def each(action, items):
+    with ThreadPoolExecutor(os.cpu_count()) as pool:
+        for _ in pool.map(action, items):
+            pass
+
+
+# ---- refused calls
+
+def growths_refused(name, words, text, output=None):
+    """The nth growth refused, for each n up to a run that meets none."""
+    whole = answer(words, text, {})
+
+    def one(n):
+        if output:
+            output(n)
+        expect(f'{name} with growth {n} refused', answer(words, text, {'REFUSE_GROWTH': n}), MEMORY, whole)
+    each(one, range(1, whole.calls[0] + 2))
+
+
+def reads_fail(name, words, text):
+    """The nth read of one byte fails, for each n; the answer changes once, where the text decides it."""
+    whole = answer(words, text, {'READ_AT_MOST': 1})
+    expect(f'{name} a byte at a time', whole, answer(words, text))
+
+    def one(n):
+        for how in ('FAIL_READ', 'INTERRUPT_READ'):
+            got = answer(words, text, {'READ_AT_MOST': 1, how: n})
+            what = f'{name} with {how} {n}'
+            expect(what, got, READ if n <= whole.calls[1] else whole)
+            expect(f'{what}, reads after it', got.calls[3:4], (0,))
+    each(one, range(1, whole.calls[1] + 3))
+
+
+def writes_fail(name, words, text):
+    """The nth write of one byte fails, or takes nothing, for each n."""
+    whole = answer(words, text, {'WRITE_AT_MOST': 1})
+    expect(f'{name} written a byte at a time', whole, answer(words, text))
+    length = len(whole[0])
+
+    def one(n):
+        for how in ('FAIL_WRITE', 'NO_WRITE', 'INTERRUPT_WRITE'):
+            got = answer(words, text, {'WRITE_AT_MOST': 1, how: n})
+            what = f'{name} with {how} {n}'
+            failed = whole[0][:n - 1], b'fault write after %d\n' % (n - 1), 3
+            expect(what, got, failed if n <= length else whole)
+            expect(f'{what}, writes after it', got.calls[4:5], (0,))
+    each(one, range(1, length + 2))
+
+
+def with_refused_calls(commands, examples):
+    for words in ([], ['--help'], ['check', '--help'], ['check', 'a', 'b'], ['no-command']):
+        growths_refused('vipr ' + ' '.join(words), words, b'')
+    for path, text in examples:
+        for command in commands:
+            growths_refused(f'{command} {path.name}', [command], text)
+            growths_refused(f'{command} FILE {path.name}', [command, str(path)], b'')
+    for path, text in examples[::3]:
+        for command in commands:
+            reads_fail(f'{command} {path.name}', [command], text)
+            writes_fail(f'{command} {path.name}', [command], text)
+
+
+# ---- OUT
+
+def out_is_kept(examples):
+    """A refused text, a failed read and want of memory leave OUT as it was."""
+    for path, text in examples[::2]:
+        whole = answer(['tighten'], text, {})
+        out = Path(tempfile.mkdtemp(dir=WORK)) / 'out'
+        for n in range(1, whole.calls[0] + 20):
+            out.write_bytes(b'before')
+            got = answer(['tighten', str(path), '--out', str(out)], b'', {'REFUSE_GROWTH': n})
+            expect(f'tighten --out {path.name} with growth {n} refused', got, MEMORY, (b'', *whole[1:]))
+            kept = b'before' if got[2] else whole[0]
+            expect(f'OUT of {path.name} with growth {n} refused', (out.read_bytes(),), (kept,))
+
+
+# ---- files and streams
+
+def streams(commands):
+    text = (TOP / 'examples/infeasible.vipr').read_bytes()
+    for command in commands:
+        expect(f'{command} of a folder', answer([command, WORK]), READ)
+        expect(f'{command} of a file that is not there', answer([command, WORK + '/missing']), READ)
+        for name, words in (('a full device', '> /dev/full'), ('a closed output', '>&-')):
+            done = subprocess.run(['sh', '-c', f'exec "$0" "$1" {words}', PROGRAM, command], input=text,
+                                  capture_output=True, check=False)
+            expect(f'{command} to {name}', (done.stderr, done.returncode), (b'fault write after 0\n', 3))
+        done = subprocess.run(['sh', '-c', 'exec "$0" "$1" <&-', PROGRAM, command], capture_output=True, check=False)
+        expect(f'{command} from a closed input', (done.stdout, done.stderr, done.returncode), READ)
+        read, write = os.pipe()
+        os.close(read)
+        done = subprocess.run([PROGRAM, command], input=text, stdout=write, stderr=subprocess.PIPE, check=False)
+        os.close(write)
+        expect(f'{command} to a broken pipe', (done.stderr, done.returncode), (b'fault write after 0\n', 3))
+    if 'tighten' in commands:
+        expect('OUT in a folder that is not there', answer(['tighten', '--out', WORK + '/missing/x'], text),
+               (b'', b'fault write after 0\n', 3))
+
+
+# ---- texts
+
+def lines(verdict_text):
+    return f'{verdict_text}\n'.encode(), b'', 0 if verdict_text.startswith('verified') else 1
+
+
+def beginnings(examples):
+    """Every proper beginning, in one piece and a byte at a time."""
+    for path, text in examples:
+        def one(n):
+            wanted = lines(verdict(text[:n]))
+            expect(f'the first {n} bytes of {path.name}', answer(['check'], text[:n]), wanted)
+            if LIBRARY:
+                got = answer(['check'], text[:n], {'READ_AT_MOST': 1})
+                expect(f'the first {n} bytes of {path.name}, a byte at a time', got, wanted)
+        each(one, range(len(text)))
+
+
+def limits():
+    """Counts over an empty rest, and numbers and tokens at and past their limits, in little memory."""
+    text = (TOP / 'examples/infeasible.vipr').read_bytes()
+    at = {word: text.index(word) for word in (b'INT', b'OBJ', b'CON', b'SOL', b'DER')}
+    right_hand = text.index(b'a G 1') + 4
+    most = b'4294967295'
+
+    def put(place, length, new):
+        return text[:place] + new + text[place + length:]
+    first, last = text.rindex(b'2 0 1') + 2, text.rindex(b'-1')
+    verified = 'verified infeas\nsolutions 0 derived 1 peak 1'
+    rows = [
+        (text[:at[b'INT']] + b'INT %s\n' % most, 'refused 1 at byte'),
+        (text[:at[b'OBJ'] + 8] + most + b'\n', 'refused 1 at byte'),
+        (text[:at[b'CON']] + b'CON %s 0\n' % most, 'refused 1 at byte'),
+        (text[:at[b'SOL']] + b'SOL %s\n' % most, 'refused 1 at byte'),
+        (text[:at[b'DER']] + b'DER 4294967293\n', 'refused 1 at byte'),
+        (text[:at[b'DER']] + b'DER 4294967294\n', None),
+        (text[:first - 2] + most, 'refused 1 at byte'),
+        (put(right_hand, 1, b'0' * 65534 + b'1'), verified),
+        (put(right_hand, 1, b'9' * 65535), f'refused 5 at byte {right_hand}'),
+        (put(right_hand, 1, b'9' * 65536), f'refused 17 at byte {right_hand}'),
+        (put(right_hand, 1, b'%d' % M), verified),
+        (put(right_hand, 1, b'%d' % (M + 1)), f'refused 5 at byte {right_hand}'),
+        (put(right_hand, 1, b'%d/%d' % (M, M - 1)), verified),
+        (put(right_hand, 1, b'1/%d' % (M + 1)), f'refused 5 at byte {right_hand}'),
+        (text + b' ' + b'x' * 65536, f'refused 18 at byte {len(text) + 1}'),
+        (put(first, 1, most), 'refused 31 at DER 2'),
+        (put(first, 1, b'4294967296'), f'refused 16 at byte {first}'),
+        (put(last, 2, most), verified),
+        (put(last, 2, b'4294967296'), None),
+        (b'%' * 200000 + b'\n' + text, verified),
+    ]
+    for n, (row, wanted) in enumerate(rows):
+        model = verdict(row)
+        if wanted is not None and not model.startswith(wanted):
+            expect(f'the model at limit {n}', (model,), (wanted,))
+        expect(f'limit {n}', answer(['check'], row, room=ROOM), lines(model))
+
+
+def long_comment(length):
+    """A comment that is longer than the memory that the program may ask for."""
+    global runs
+    runs += 1
+    text = (TOP / 'examples/infeasible.vipr').read_bytes()
+    piece = b'c' * (1 << 20)
+    with subprocess.Popen([PROGRAM, 'check'], stdin=subprocess.PIPE, stdout=subprocess.PIPE,
+                          preexec_fn=lambda: resource.setrlimit(resource.RLIMIT_AS, (ROOM, ROOM))) as child:
+        child.stdin.write(b'%')
+        for _ in range(length >> 20):
+            child.stdin.write(piece)
+        child.stdin.write(b'\n' + text)
+        child.stdin.close()
+        got = child.stdout.read()
+    expect(f'a comment of {length} bytes', (got,), (b'verified infeas\nsolutions 0 derived 1 peak 1\n',))
+
+
+def library():
+    """The library of refused calls, built, or nothing."""
+    compiler = shutil.which('cc') or shutil.which('gcc') or shutil.which('clang')
+    if not compiler:
+        return ''
+    path = WORK + '/refuse.so'
+    subprocess.run([compiler, '-O1', '-shared', '-fPIC', '-o', path, str(TOP / 'tests/refuse.c')], check=True)
+    return path
+
+
+def main():
+    sys.set_int_max_str_digits(0)
+    help_text = answer(['--help'])[0].decode()
+    commands = [c for c in ('check', 'show', 'explain', 'tighten') if f'\n  {c} ' in help_text]
+    files = sorted((TOP / 'examples').rglob('*.vipr'))
+    examples = [(path, path.read_bytes()) for path in files if path.stat().st_size < 2000]
+    streams(commands)
+    limits()
+    long_comment(1 << 30)
+    beginnings(examples)
+    if LIBRARY:
+        with_refused_calls(commands, examples)
+        if 'tighten' in commands:
+            out_is_kept(examples)
+    else:
+        print('hostile: no C compiler is here, so the runs with refused calls are left out')
+    spent = sum(resource.getrusage(who)[k] for who in (resource.RUSAGE_CHILDREN, resource.RUSAGE_SELF) for k in (0, 1))
+    print(f'hostile: {runs} runs, {len(failures)} failed, {spent:.0f} seconds of processor time')
+    return 1 if failures else 0
+
+
+with tempfile.TemporaryDirectory(prefix='hostile-') as WORK:
+    LIBRARY = library()
+    status = main()
+sys.exit(status)

@@ -1,0 +1,245 @@
+#!/usr/bin/env python3
+"""Compares the man page and the completions with the program's own help, or writes them from it.
+
+usage: tests/interface.py [--write] [PROGRAM]     crates/vipr/out/vipr without it
+
+completions/vipr.bash, completions/_vipr (zsh) and completions/vipr.fish are made whole. In man/vipr.1 the parts between
+`.\\" made: WORD` and `.\\" end` are made: the synopsis and the commands from the help, the causes from docs/FORMAT.md.
+Then the bash completion is tried, the man page is laid out where `groff` is there, its examples are run, and the program
+is installed into a folder and taken away again.
+
+Prints each fault, and last `interface: N checks, F failed`; the exit status is 1 where one failed.
+"""
+import re
+import shutil
+import subprocess
+import sys
+import tempfile
+from pathlib import Path
+
+TOP = Path(__file__).resolve().parent.parent
+WORDS = [word for word in sys.argv[1:] if word != '--write']
+PROGRAM = Path(WORDS[0] if WORDS else TOP / 'crates/vipr/out/vipr').resolve()
+MAN = TOP / 'man/vipr.1'
+INSTALLED = ['bin/vipr', 'share/bash-completion/completions/vipr', 'share/fish/vendor_completions.d/vipr.fish',
+             'share/man/man1/vipr.1', 'share/zsh/site-functions/_vipr']
+checks = failed = 0
+
+
+def check(good, what):
+    global checks, failed
+    checks += 1
+    if not good:
+        failed += 1
+        print(what)
+
+
+def help_of(*words):
+    return subprocess.run([PROGRAM, *words, '--help'], capture_output=True, text=True, check=True).stdout
+
+
+def section(text, head):
+    """The rows of a part of the help: the word or the flags, and what they do."""
+    if f'\n{head}:\n' not in text:
+        return []
+    body = text.split(f'\n{head}:\n', 1)[1].split('\n\n')[0]
+    return [tuple(re.split(r'  +', row.strip(), maxsplit=1)) for row in body.split('\n') if row.strip()]
+
+
+class Command:
+    """A command as its help describes it."""
+
+    def __init__(self, name, about):
+        self.name, self.about = name, about
+        text = help_of(name)
+        # the help calls the program by the name of its file
+        self.usage = 'vipr ' + re.search(r'^Usage: \S+ (.*)$', text, re.M)[1]
+        self.arguments = section(text, 'Arguments')
+        self.options = section(text, 'Options')
+
+    def flags(self):
+        """Each option: its flags, whether a value follows, and what it does."""
+        for words, about in self.options:
+            flags = re.findall(r'--?[a-z][a-z-]*', words)
+            yield flags, '<' in words, about
+
+
+def program():
+    text = help_of()
+    return text.split('\n')[0], [Command(*row) for row in section(text, 'Commands') if row[0] != 'help'], \
+        [(re.findall(r'--?[a-zA-Z][a-z-]*', words), about) for words, about in section(text, 'Options')]
+
+
+def bash(commands, options):
+    top = ' '.join([c.name for c in commands] + [flag for flags, _ in options for flag in flags])
+    lines = ['# Completion of vipr for bash. Made by tests/interface.py from the program\'s help.',
+             '_vipr() {',
+             '    local word="${COMP_WORDS[COMP_CWORD]}" words=""',
+             '    COMPREPLY=()',
+             '    if [ "$COMP_CWORD" -eq 1 ]; then',
+             f'        COMPREPLY=($(compgen -W "{top}" -- "$word"))',
+             '        return',
+             '    fi',
+             '    case "${COMP_WORDS[1]}" in']
+    for command in commands:
+        lines.append(f'        {command.name}) words="{" ".join(flag for flags, _, _ in command.flags() for flag in flags)}" ;;')
+    lines += ['    esac',
+              '    if [ "${word#-}" != "$word" ]; then',
+              '        COMPREPLY=($(compgen -W "$words" -- "$word"))',
+              '    else',
+              '        COMPREPLY=($(compgen -f -- "$word"))',
+              '    fi',
+              '}',
+              'complete -o filenames -F _vipr vipr']
+    return '\n'.join(lines) + '\n'
+
+
+def zsh_words(text):
+    return text.replace("'", "'\\''").replace('[', '\\[').replace(']', '\\]').replace(':', '\\:')
+
+
+def zsh(commands, options):
+    lines = ['#compdef vipr', '# Completion of vipr for zsh. Made by tests/interface.py from the program\'s help.',
+             'local -a commands', 'commands=(']
+    lines += [f"    '{command.name}:{zsh_words(command.about)}'" for command in commands]
+    lines += [')', 'if (( CURRENT == 2 )); then', "    _describe command commands",
+              '    compadd -- ' + ' '.join(flag for flags, _ in options for flag in flags), '    return', 'fi',
+              'case "$words[2]" in']
+    for command in commands:
+        flags = [f"'{flag}[{zsh_words(about)}]{':file:_files' if value else ''}'"
+                 for flags, value, about in command.flags() for flag in flags]
+        files = ["'*:file:_files'"] if command.arguments else []
+        lines.append(f'    {command.name}) _arguments {" ".join(flags + files)} ;;')
+    return '\n'.join(lines + ['esac']) + '\n'
+
+
+def fish(commands, options):
+    quote = lambda text: "'" + text.replace('\\', '\\\\').replace("'", "\\'") + "'"
+    lines = ['# Completion of vipr for fish. Made by tests/interface.py from the program\'s help.']
+    for command in commands:
+        lines.append(f'complete -c vipr -n __fish_use_subcommand -f -a {command.name} -d {quote(command.about)}')
+    for flags, about in options:
+        lines.append('complete -c vipr -n __fish_use_subcommand -f ' + fish_flags(flags) + f' -d {quote(about)}')
+    for command in commands:
+        for flags, value, about in command.flags():
+            needs = ' -r -F' if value else ''
+            lines.append(f"complete -c vipr -n '__fish_seen_subcommand_from {command.name}' "
+                         f'{fish_flags(flags)}{needs} -d {quote(about)}')
+    return '\n'.join(lines) + '\n'
+
+
+def fish_flags(flags):
+    return ' '.join(f'-l {flag[2:]}' if flag.startswith('--') else f'-s {flag[1:]}' for flag in flags)
+
+
+def roff(text):
+    return text.replace('\\', '\\e').replace('-', '\\-').replace("'", "\\(aq")
+
+
+def usage_roff(usage):
+    """A usage line: what is typed in bold, what stands for something in italics."""
+    parts = []
+    for word in usage.split():
+        bare = word.strip('[]<>')
+        kind = 'I' if bare.isupper() else 'B'
+        shown = re.sub(re.escape(bare), lambda m: f'\\f{kind}{roff(bare)}\\fR', word, count=1).replace('<', '').replace('>', '')
+        parts.append(shown)
+    return ' '.join(parts)
+
+
+def man_parts(commands, options):
+    synopsis = []
+    for command in commands:
+        synopsis += [usage_roff(command.usage), '.br']
+    synopsis.append('\\fBvipr\\fR ' + ' | '.join(f'\\fB{roff(flags[-1])}\\fR' for flags, _ in options))
+    rows = []
+    for command in commands:
+        rows += ['.TP', usage_roff(command.usage), roff(command.about) + '.']
+        for words, about in command.arguments + [o for o in command.options if '--help' not in o[0]]:
+            rows += ['.RS', '.TP', usage_roff(words.replace(',', '')), roff(about) + '.', '.RE']
+    causes = []
+    page = (TOP / 'docs/FORMAT.md').read_text()
+    for number, name, when in re.findall(r'^\| (\d+) \| ([A-Z]\w*) \| ([^|]+?) \|', page, re.M):
+        plain = re.sub(r'\*\*|`', '', when)
+        causes += ['.TP', f'\\fB{number}\\fR {name}', roff(plain[0].upper() + plain[1:]) + '.']
+    return {'synopsis': synopsis[:], 'commands': rows, 'causes': causes}
+
+
+def man(parts):
+    text = MAN.read_text()
+    for word, lines in parts.items():
+        start, end = f'.\\" made: {word}\n', '.\\" end\n'
+        if start not in text:
+            check(False, f'man/vipr.1 has no part {word}')
+            continue
+        front, rest = text.split(start, 1)
+        text = front + start + '\n'.join(lines) + '\n' + end + rest.split(end, 1)[1]
+    return text
+
+
+def completed(words):
+    """What bash completes the last word to."""
+    line = ' '.join(words)
+    script = f'''source completions/vipr.bash
+COMP_WORDS=({' '.join(repr(word) for word in words)}); COMP_CWORD={len(words) - 1}; COMP_LINE={line!r}
+_vipr; printf '%s\\n' "${{COMPREPLY[@]}}"'''
+    done = subprocess.run(['bash', '-c', script], cwd=TOP, capture_output=True, text=True, check=False)
+    return sorted(done.stdout.split())
+
+
+def examples():
+    """The commands of the man page's examples print what stands below them."""
+    text = MAN.read_text()
+    for block in re.findall(r'^\.EX\n(.*?)^\.EE', text, re.M | re.S):
+        plain = re.sub(r'\\f[BIR]', '', block).replace('\\-', '-').replace('\\(aq', "'").replace('\\e', '\\')
+        command, _, wanted = plain.partition('\n')
+        words = command.removeprefix('$ ').split()
+        done = subprocess.run([PROGRAM, *words[1:]], cwd=TOP, capture_output=True, text=True, check=False)
+        check(done.stdout + done.stderr == wanted, f'man/vipr.1: {command!r} prints {done.stdout + done.stderr!r}')
+
+
+def installation():
+    """`make install` puts each file in its place, and `make uninstall` takes them all away."""
+    with tempfile.TemporaryDirectory() as name:
+        for target in ('install', 'uninstall'):
+            words = ['make', '--no-print-directory', '-o', 'build', target, f'PROGRAM={PROGRAM}', f'PREFIX={name}']
+            done = subprocess.run(words, cwd=TOP, capture_output=True, text=True, check=False)
+            check(done.returncode == 0, f'make {target}: {done.stdout}{done.stderr}')
+            there = sorted(str(path.relative_to(name)) for path in Path(name).rglob('*') if path.is_file())
+            wanted = INSTALLED if target == 'install' else []
+            check(there == wanted, f'make {target} leaves {there}')
+            if target == 'install':
+                done = subprocess.run([Path(name) / 'bin/vipr', 'check', 'examples/infeasible.vipr'], cwd=TOP, check=False,
+                                      capture_output=True, text=True)
+                check(done.stdout.startswith('verified infeas\n'), f'the installed program prints {done.stdout!r}')
+
+
+def main():
+    _, commands, options = program()
+    made = {TOP / 'completions/vipr.bash': bash(commands, options), TOP / 'completions/_vipr': zsh(commands, options),
+            TOP / 'completions/vipr.fish': fish(commands, options), MAN: man(man_parts(commands, options))}
+    for path, text in made.items():
+        if '--write' in sys.argv:
+            path.write_text(text)
+        there = path.read_text() if path.is_file() else ''
+        check(there == text, f'{path.relative_to(TOP)} is not what the help gives (tests/interface.py --write)')
+    names = sorted(command.name for command in commands)
+    check(completed(['vipr', '']) == sorted(names + [flag for flags, _ in options for flag in flags]),
+          f'bash completes a first word to {completed(["vipr", ""])}')
+    for name in names:
+        check(completed(['vipr', name[:-1]]) == [name], f'bash completes {name[:-1]} to {completed(["vipr", name[:-1]])}')
+        check('examples' in completed(['vipr', name, 'exam']), f'bash completes no file behind {name}')
+    if shutil.which('groff'):
+        done = subprocess.run(['groff', '-man', '-ww', '-Tutf8', '-z', str(MAN)], capture_output=True, text=True, check=False)
+        check(not done.stderr and done.returncode == 0, f'groff: {done.stderr}')
+    for shell, file in [('zsh', 'completions/_vipr'), ('fish', 'completions/vipr.fish')]:
+        if shutil.which(shell):
+            done = subprocess.run([shell, '-n', file], cwd=TOP, capture_output=True, text=True, check=False)
+            check(done.returncode == 0, f'{shell}: {done.stderr}')
+    examples()
+    installation()
+    print(f'interface: {checks} checks, {failed} failed')
+    return 1 if failed else 0
+
+
+sys.exit(main())

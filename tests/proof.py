@@ -1,0 +1,193 @@
+#!/usr/bin/env python3
+"""Writes the tables of docs/PROOF.md from the sources, or says whether they are current.
+
+usage: tests/proof.py [--check]
+
+A row for each public call: the call, the names of its clauses (`-` for one without a name), the definitions that they
+cite, the laws that its proof cites, and the must-fail edits of its code. Edits of what lies below the public calls, of
+definitions and of laws stand in the line below a crate's table.
+"""
+import os
+import re
+import sys
+from pathlib import Path
+
+TOP = Path(__file__).resolve().parent.parent
+PAGE = TOP / 'docs/PROOF.md'
+MARKS = '<!-- tables: written by `tests/proof.py` from the sources -->', '<!-- end of the tables -->'
+OPENS = {'{': 1, '}': -1}
+
+
+def order():
+    """The crates as crates.txt has them."""
+    lines = (TOP / 'crates.txt').read_text().split('\n')
+    return [line.split(':')[0].split()[0] for line in lines if line.split('#')[0].strip()]
+
+
+def braced(text, start):
+    """Where the brace that opens at `start` closes."""
+    depth = 0
+    for at in range(start, len(text)):
+        depth += OPENS.get(text[at], 0)
+        if depth == 0:
+            return at + 1
+    return len(text)
+
+
+def blanked(text):
+    """The text without comments, of the same length."""
+    return re.sub(r'//[^\n]*', lambda m: ' ' * len(m[0]), text)
+
+
+def imports(text):
+    """The words that `ghost use` brings in from the definitions of our crates."""
+    words = set()
+    for found in re.finditer(r'ghost use Rattle\.vipr\w*\.specs\.[\w.]+?(?:\.\{([^}]*)\}|\.(\w+) as (\w+)|;)', text):
+        for item in (found[1] or '').split(','):
+            if item.strip():
+                words.add(item.split(' as ')[-1].strip())
+        if found[3]:
+            words.add(found[3])
+    return words
+
+
+def owners(text):
+    """Where each `impl` and `trait` begins and ends, and whose it is."""
+    out = []
+    for found in re.finditer(r'^(?:pub )?(impl|trait)\b([^{;]*?)\{', text, re.M):
+        head = re.sub(r'\s+', ' ', found[2]).strip()
+        head = re.sub(r'^<[^>]*>\s*', '', head) if found[1] == 'impl' else head
+        head = head.split(' where ')[0]
+        trait = None
+        if ' for ' in head:
+            trait, head = head.split(' for ', 1)
+        name = re.match(r'(?:\w+::)*(\w+)', head)
+        out.append((found.start(), braced(text, found.end() - 1), name[1] if name else head, trait, found[1]))
+    return out
+
+
+def functions(path):
+    """The functions of a file: name, whether public, clauses, where its text begins and ends."""
+    text = blanked(path.read_text())
+    whole = owners(text)
+    for found in re.finditer(r'^( *)(pub (?:\([^)]*\) )?|pub\(crate\) )?fn (\w+)', text, re.M):
+        owner = next((o for o in whole if o[0] <= found.start() < o[1]), None)
+        at, clauses = found.end(), []
+        while at < len(text):
+            clause = re.compile(r'\s*(?:where\b[^{;]*?(?=\brequires|\bensures|\{))?\s*(requires|ensures)\*?\s*(\w*)\s*(?=\{)').match(text, at)
+            if clause:
+                end = braced(text, clause.end())
+                clauses.append((clause[1], clause[2], text[clause.end():end]))
+                at = end
+                continue
+            char = text[at]
+            if char == '{':
+                end = braced(text, at)
+                break
+            if char == ';':
+                end = at
+                break
+            at += 1
+        else:
+            end = len(text)
+        public = bool(found[2] and found[2].strip() == 'pub')
+        if owner and owner[4] == 'trait':
+            public = text[owner[0]:].startswith('pub')
+        yield found[3], owner, public, clauses, found.start(), end
+
+
+def edits(crate):
+    """Of each must-fail edit its name, file and text."""
+    for path in sorted((TOP / 'crates' / crate / 'must-fail').glob('*.edit')):
+        text = path.read_text()
+        yield path.stem, re.search(r'^file: (.*)$', text, re.M)[1].strip(), re.search(r'^old: (.*)$', text, re.M)[1]
+
+
+def laws(crate, name):
+    """The laws of definitions that the proof of a function cites."""
+    out = set()
+    for folder in (TOP / 'crates' / crate / 'proofs').rglob(name):
+        if folder.is_dir():
+            for path in sorted(folder.glob('*.antt')):
+                for found in re.finditer(r'^use Rattle\.(vipr\w*)\.proofs\.Laws\.\{([^}]*)\}', path.read_text(), re.M):
+                    out |= {item.split(' as ')[0].strip() for item in found[2].split(',')}
+    return sorted(out)
+
+
+def ticked(names):
+    return ', '.join(f'`{name}`' for name in names) or ''
+
+
+def traits(file, text, words):
+    """Rows of a file's implementations of traits, where their ghost members cite definitions."""
+    for start, end, name, trait, kind in owners(blanked(text)):
+        if kind == 'trait' or trait is None or trait.startswith('Model'):
+            continue
+        body = blanked(text)[start:end]
+        members, cited = [], []
+        for found in re.finditer(r'^ *ghost (\w+) = (?=\{)', body, re.M):
+            inner = body[found.end():braced(body, found.end())]
+            here = [word for word in re.findall(r"[A-Za-z_]\w*", inner) if word in words]
+            if here:
+                members.append(found[1])
+                cited += here
+        if members:
+            yield file, start, f'| `{trait}` for `{name}` | {", ".join(members)} | {ticked(dict.fromkeys(cited))} |  |  |'
+
+
+def table(crate):
+    """The table of one crate, as lines."""
+    rows, placed = [], set()
+    all_edits = list(edits(crate))
+    for path in sorted((TOP / 'crates' / crate / 'src').rglob('*.rt')):
+        if 'tests' in str(path.relative_to(TOP)):
+            continue
+        text = path.read_text()
+        file = str(path.relative_to(TOP / 'crates' / crate))
+        words = imports(text)
+        rows += traits(file, text, words)
+        for name, owner, public, clauses, start, end in functions(path):
+            if not public:
+                continue
+            call = f'{owner[2]}::{name}' if owner else f'{path.stem}::{name}' if crate == 'vipr_spec' else name
+            cited = []
+            for _, _, clause in clauses:
+                cited += [word for word in re.findall(r"[A-Za-z_]\w*", clause) if word in words]
+            own = [edit for edit, place, old in all_edits if place == file and old in text[start:end]]
+            placed |= set(own)
+            kinds = [clause or '-' for kind, clause, _ in clauses if kind == 'ensures']
+            needs = [clause or '-' for kind, clause, _ in clauses if kind == 'requires']
+            stated = ', '.join(kinds) + ('; needs ' + ', '.join(needs) if needs else '')
+            rows.append((file, start, f'| `{call}` | {stated} | {ticked(dict.fromkeys(cited))} | '
+                                      f'{ticked(laws(crate, name))} | {", ".join(own)} |'))
+    rest = [edit for edit, _, _ in all_edits if edit not in placed]
+    lines = [f'### `{crate}`', '']
+    if rows:
+        lines += ['| Call | Clauses | Definitions | Laws cited in its proof | Edits refused |', '|---|---|---|---|---|']
+        lines += [row for _, _, row in sorted(rows)]
+    else:
+        lines += ['No call of its own.']
+    if rest:
+        lines += ['', f'Edits below these calls that are refused: {", ".join(rest)}.']
+    return lines + ['']
+
+
+def tables():
+    lines = []
+    for crate in order():
+        lines += table(crate)
+    return '\n'.join([MARKS[0], ''] + lines + [MARKS[1]])
+
+
+def main():
+    text = PAGE.read_text()
+    new = re.sub(re.escape(MARKS[0]) + r'(?:.|\n)*' + re.escape(MARKS[1]), lambda m: tables(), text)
+    if '--check' in sys.argv:
+        print(f'{os.path.relpath(PAGE, TOP)} is {"current" if new == text else "not what tests/proof.py makes of the sources"}')
+        return int(new != text)
+    PAGE.write_text(new)
+    return 0
+
+
+if __name__ == '__main__':
+    sys.exit(main())
