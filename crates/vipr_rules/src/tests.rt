@@ -142,7 +142,7 @@ fn solutions(rt: HostRuntime) -> Result<(), Fail> {
             half,
             Err(SolutionError::Breaks {
                 constraint: 0,
-                left: half,
+                left: Frac::zero(),
                 sense: Sense::G,
                 right: Frac::one(),
             }),
