@@ -2,15 +2,19 @@
 """Times the program over the families of families.py, in one interleaved run.
 
 usage: measure.py [--program PATH] [--bytes N] [--runs N] [--against NAME=COMMAND].. [--svg FILE] [--growth] [--hostile]
+                  [--page]
 
 Each round runs every program once on every family: `check`, `show` and `tighten` where the program has it, `wc -w` and
 `cat` on the same file, and what --against names, whose words get the file's path behind them. Of the rounds the least
 processor time counts, and the greatest peak of memory. Prints MB/s, and memory in MB. --svg draws the throughput of
 `check` by family. --growth measures texts of 1, 2 and 4 times the size: how time and memory grow. --hostile takes the
-families that are made to cost more than their length.
+families that are made to cost more than their length. --page measures all of it and writes docs/BENCHMARKS.md with its
+picture.
 """
 import argparse
+import datetime
 import os
+import re
 import shutil
 import subprocess
 import sys
@@ -54,15 +58,15 @@ def measured(programs, paths, runs):
 
 def table(programs, paths, found):
     names = list(programs)
-    print('| family | MB | ' + ' | '.join(f'{n}: MB/s, MB' for n in names) + ' |')
-    print('|---|---|' + '---|' * len(names))
+    yield '| family | MB | ' + ' | '.join(f'{n}: MB/s, MB' for n in names) + ' |'
+    yield '|---|---|' + '---|' * len(names)
     for path in paths:
         size = path.stat().st_size / 1e6
         cells = []
         for name in names:
             seconds, memory = found[name, path]
             cells.append(f'{size / max(seconds, 0.001):.0f}, {memory:.1f}')
-        print(f'| {path.stem} | {size:.1f} | ' + ' | '.join(cells) + ' |')
+        yield f'| {path.stem} | {size:.1f} | ' + ' | '.join(cells) + ' |'
 
 
 def picture(paths, found, to):
@@ -82,8 +86,8 @@ def picture(paths, found, to):
 
 def growth(check, runs, size, which):
     """How time and memory of `check` grow with the text."""
-    print('| family | time at 2 and 4 times the text | memory at 2 and 4 times the text |')
-    print('|---|---|---|')
+    yield '| family | time at 2 and 4 times the text | memory at 2 and 4 times the text |'
+    yield '|---|---|---|'
     with tempfile.TemporaryDirectory() as folder:
         paths = {}
         for times in (1, 2, 4):
@@ -95,7 +99,56 @@ def growth(check, runs, size, which):
         for name in sorted({name for name, _ in paths}):
             base = found['check', paths[name, 1]]
             ratios = [[found['check', paths[name, t]][k] / max(base[k], 0.001) for t in (2, 4)] for k in (0, 1)]
-            print(f'| {name} | ' + ' | '.join(f'{a:.1f}, {b:.1f}' for a, b in ratios) + ' |')
+            yield f'| {name} | ' + ' | '.join(f'{a:.1f}, {b:.1f}' for a, b in ratios) + ' |'
+
+
+def machine():
+    """The processor and the system, in a few words."""
+    found = re.search(r'^model name\s*:\s*(.*)$', Path('/proc/cpuinfo').read_text(encoding='utf-8'), re.M)
+    name = found[1] if found else 'a processor that gives no name'
+    return f'{name}, {os.cpu_count()} processors, {os.uname().sysname} {os.uname().release}'
+
+
+PAGE = """# Benchmarks
+
+What `vipr` takes on this date and machine: {date}, {machine}. The page and its picture are written by `bench/measure.py --page`; `make bench` prints the first table.
+
+## Throughput
+
+![MB of certificate in a second of processor time, by family](benchmarks.svg)
+
+Each family of `bench/families.py` is one certificate of about {size} MB. A cell has the MB of text in a second of processor time, and the peak of memory in MB. `wc -w` and `cat` read the same files.
+
+{table}
+
+Method: each round runs every program once on every file, so that a slow moment of the machine meets all of them. Of {runs} rounds the least processor time counts, and the greatest memory. Nothing here is proved, and no test is timed.
+
+## How cost grows
+
+Texts of 1, 2 and 4 times {small} MB, and how much more the larger ones cost `check`.
+
+{growth}
+
+The same for families that are made to cost more than their length ([SECURITY.md](SECURITY.md#what-bounds-memory-and-time) says what bounds them), from {least} MB on.
+
+{hostile}
+"""
+
+
+def page(given, programs):
+    """Measures all of it, and writes the page and its picture."""
+    with tempfile.TemporaryDirectory() as folder:
+        families.make(folder, given.bytes)
+        paths = sorted(Path(folder).iterdir())
+        found = measured(programs, paths, given.runs)
+        picture(paths, found, TOP / 'docs/benchmarks.svg')
+        throughput = '\n'.join(table(programs, paths, found))
+    check, small, least = [given.program, 'check'], given.bytes // 4, given.bytes // 16
+    (TOP / 'docs/BENCHMARKS.md').write_text(PAGE.format(
+        date=datetime.date.today(), machine=machine(), size=f'{given.bytes / 1e6:g}', runs=given.runs,
+        small=f'{small / 1e6:g}', least=f'{least / 1e6:g}', table=throughput,
+        growth='\n'.join(growth(check, given.runs, small, families.FAMILIES)),
+        hostile='\n'.join(growth(check, given.runs, least, families.HOSTILE))), encoding='utf-8')
 
 
 def main():
@@ -107,20 +160,26 @@ def main():
     words.add_argument('--svg')
     words.add_argument('--growth', action='store_true')
     words.add_argument('--hostile', action='store_true')
+    words.add_argument('--page', action='store_true')
     given = words.parse_args()
     which = families.HOSTILE if given.hostile else families.FAMILIES
-    if given.growth:
-        growth([given.program, 'check'], given.runs, given.bytes, which)
-        return
     commands = subprocess.run([given.program, '--help'], capture_output=True, text=True, check=True).stdout
     programs = {name: [given.program, name] for name in ('check', 'show', 'tighten') if f'\n  {name} ' in commands}
     programs |= {'wc -w': ['wc', '-w'], 'cat': ['cat']}
     programs |= {name: command.split() for name, command in (it.split('=', 1) for it in given.against)}
+    if given.page:
+        page(given, programs)
+        return
+    if given.growth:
+        for line in growth([given.program, 'check'], given.runs, given.bytes, which):
+            print(line)
+        return
     with tempfile.TemporaryDirectory() as folder:
         families.make(folder, given.bytes, which)
         paths = sorted(Path(folder).iterdir())
         found = measured(programs, paths, given.runs)
-        table(programs, paths, found)
+        for line in table(programs, paths, found):
+            print(line)
         if given.svg:
             picture(paths, found, given.svg)
 

@@ -8,7 +8,8 @@ Each command that the program has is run over the examples. What a run may answe
 - where a read fails, `fault read`, or that answer where it was decided before; and no read follows the failed one;
 - where a write fails, `fault write after N` with exactly the first N bytes on the output; and no write follows.
 Beginnings of the examples, whole and a byte at a time, are answered as the plain model under bench/ does it; texts at
-the format's limits have the answer that the rules give, within a small limit of memory.
+the format's limits have the answer that the rules give, within a small limit of memory. Of each family of bench/families.py
+a text of four times the size asks for at most five times the bytes, all that is asked for in a run counted.
 
 Prints each run that answers something else, and last `hostile: N runs, F failed, S seconds of processor time`. Without
 a C compiler the runs with refused calls are left out, and a line says so. The exit status is 1 where a run failed.
@@ -24,6 +25,7 @@ from pathlib import Path
 
 TOP = Path(__file__).resolve().parent.parent
 sys.path.insert(0, str(TOP / 'bench'))
+import families  # noqa: E402
 from plain_check import verdict  # noqa: E402
 
 PROGRAM = str(Path(sys.argv[1] if len(sys.argv) > 1 else TOP / 'crates/vipr/out/vipr').resolve())
@@ -31,13 +33,15 @@ M = 2**127 - 1
 MEMORY = b'', b'fault memory\n', 3
 READ = b'', b'fault read\n', 3
 ROOM = 64 << 20
+# families whose sets of assumptions the rules ask for, each anew
+GROWS = {'growing'}
 failures = []
 runs = 0
 
 
 class Answer(tuple):
     """What is on the output, what on standard error, and the status; with the calls that were counted."""
-    calls = (0, 0, 0, 0, 0)
+    calls = (0, 0, 0, 0, 0, 0)
 
 
 def answer(words, text=b'', settings=None, room=None, cwd=None):
@@ -225,6 +229,17 @@ def limits():
         expect(f'limit {n}', answer(['check'], row, room=ROOM), lines(model))
 
 
+def what_is_asked_for():
+    """A family's text of four times the size asks for at most five times the bytes."""
+    def one(family):
+        small, large = (''.join(f'{line}\n' for line in family(size)).encode() for size in (60_000, 240_000))
+        before, after = (answer(['check'], text, {}).calls[5] for text in (small, large))
+        if after > 5 * before * len(large) / len(small) / 4:
+            failures.append(family)
+            print(f'{family.__name__}: {before} bytes asked for a text of {len(small)}, {after} for one of {len(large)}')
+    each(one, [it for it in families.FAMILIES + families.HOSTILE if it.__name__ not in GROWS])
+
+
 def long_comment(length):
     """A comment that is longer than the memory that the program may ask for."""
     global runs
@@ -263,6 +278,7 @@ def main():
     long_comment(1 << 30)
     beginnings(examples)
     if LIBRARY:
+        what_is_asked_for()
         with_refused_calls(commands, examples)
         if 'tighten' in commands:
             out_is_kept(examples)

@@ -9,7 +9,8 @@
  *   INTERRUPT_WRITE=N   the Nth write is interrupted
  *   NO_WRITE=N          the Nth write takes no byte
  *   WRITE_AT_MOST=N     each write takes at most N bytes
- *   REPORT=FILE         at the end FILE holds `growths reads writes reads-after-failure writes-after-failure`
+ *   REPORT=FILE         at the end FILE holds `growths reads writes reads-after-failure writes-after-failure
+ *                       bytes-asked-for`
  * Writes to standard error are left alone, so that what the program says of the failure is seen.
  */
 #define _GNU_SOURCE
@@ -26,6 +27,7 @@ extern void *__libc_realloc(void *at, size_t size);
 static long refuse_growth, fail_read, interrupt_read, read_at_most;
 static long fail_write, interrupt_write, no_write, write_at_most;
 static long growths, reads, writes, late_reads, late_writes;
+static size_t asked;
 static const char *report;
 static int is_ready;
 
@@ -51,11 +53,12 @@ __attribute__((constructor)) static void begin(void)
 
 __attribute__((destructor)) static void end(void)
 {
-    char line[128];
+    char line[160];
     is_ready = 0;
     if (!report)
         return;
-    int length = snprintf(line, sizeof line, "%ld %ld %ld %ld %ld\n", growths, reads, writes, late_reads, late_writes);
+    int length = snprintf(line, sizeof line, "%ld %ld %ld %ld %ld %zu\n", growths, reads, writes, late_reads,
+                          late_writes, asked);
     int file = syscall(SYS_openat, AT_FDCWD, report, O_WRONLY | O_CREAT | O_TRUNC, 0600);
     if (file >= 0) {
         syscall(SYS_write, file, line, (size_t)length);
@@ -63,21 +66,29 @@ __attribute__((destructor)) static void end(void)
     }
 }
 
+/* Whether this growth is the one to refuse. */
+static int is_refused(size_t size)
+{
+    if (!is_ready)
+        return 0;
+    asked += size;
+    if (++growths != refuse_growth)
+        return 0;
+    errno = ENOMEM;
+    return 1;
+}
+
 void *malloc(size_t size)
 {
-    if (is_ready && ++growths == refuse_growth) {
-        errno = ENOMEM;
+    if (is_refused(size))
         return NULL;
-    }
     return __libc_malloc(size);
 }
 
 void *realloc(void *at, size_t size)
 {
-    if (is_ready && ++growths == refuse_growth) {
-        errno = ENOMEM;
+    if (is_refused(size))
         return NULL;
-    }
     return __libc_realloc(at, size);
 }
 

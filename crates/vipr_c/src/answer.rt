@@ -1,0 +1,81 @@
+//! What a program in C is told of a verdict.
+
+ghost use Rattle.std.specs.Prelude.{◌≡◌};
+ghost use Rattle.vipr_c.specs.Told.{status_of, told_of};
+
+use vipr_check::{Fault, Place, Verdict};
+
+/// A verdict in numbers: all but those that the status asks for are 0.
+#[repr(C)]
+#[derive(Clone, Copy, Debug, PartialEq, Eq)]
+pub struct Answer {
+    /// Where it is refused: the number of its cause.
+    pub cause: u32,
+    /// Where it is refused: 1 at a byte, 2 at a solution, 3 at a derivation, 4 at the end.
+    pub place: u32,
+    /// The byte's offset, the solution's number from 0, or the index of the derivation's constraint.
+    pub number: u64,
+    /// Where it is verified: how many solutions are listed.
+    pub solutions: u32,
+    /// How many constraints are derived.
+    pub derived: u32,
+    /// How many derived constraints had to be held at most.
+    pub peak: u64,
+    /// 1 where there is a goal.
+    pub has_goal: u32,
+    /// The goal's index.
+    pub goal: u32,
+}
+
+const NOTHING: Answer = Answer {
+    cause: 0,
+    place: 0,
+    number: 0,
+    solutions: 0,
+    derived: 0,
+    peak: 0,
+    has_goal: 0,
+    goal: 0,
+};
+
+/// The status that says whether there is a verdict, and which.
+pub(crate) fn status(verdict: &Result<Verdict, Fault>) -> i32
+    ensures { result ≡ status_of verdict.now }
+{
+    match verdict {
+        Ok(Verdict::Verified(_)) => 0,
+        Ok(Verdict::Refused(_)) => 1,
+        Err(_) => 3,
+    }
+}
+
+/// The numbers of a verdict.
+pub(crate) fn told(verdict: &Result<Verdict, Fault>) -> Answer
+    ensures { result ≡ told_of verdict.now }
+{
+    match verdict {
+        Ok(Verdict::Verified(report)) => Answer {
+            solutions: report.solutions,
+            derived: report.derived,
+            peak: report.peak as u64,
+            has_goal: report.goal.is_some() as u32,
+            goal: report.goal.unwrap_or(0),
+            ..NOTHING
+        },
+        Ok(Verdict::Refused(refusal)) => {
+            let (place, number) = match refusal.place {
+                Place::Byte(offset) => (1, offset),
+                Place::Sol(number) => (2, number as u64),
+                Place::Der(index) => (3, index as u64),
+                Place::End => (4, 0),
+            };
+            Answer {
+                cause: refusal.cause as u32,
+                place,
+                number,
+                ..NOTHING
+            }
+        }
+        Err(_) => NOTHING,
+    }
+}

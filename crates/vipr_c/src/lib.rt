@@ -1,0 +1,35 @@
+//! The check for programs in C: `include/vipr.h` declares what is exported here.
+#![tactic(auto)]
+
+mod answer;
+
+ghost use Rattle.std.specs.Prelude.{◌≡◌, Some, false};
+ghost use Rattle.std.specs.Prelude.{Result};
+ghost use Rattle.vipr_check.specs.Checks.{Checks};
+ghost use Rattle.vipr_check.specs.declared.verdict.Fault.{Fault as Failure};
+ghost use Rattle.vipr_check.specs.declared.verdict.Verdict.{Verdict as Answered};
+ghost use Rattle.vipr_c.specs.Told.{status_of, told_of};
+
+use crate::answer::{Answer, status, told};
+use std::alloc::Global;
+use vipr_bytes::Bytes;
+use vipr_check::{Fault, Verdict, check};
+
+/// Checks the certificate that stands in memory, tells the verdict in `answer`, and returns 0 where
+/// it is verified, 1 where it is refused, and 3 where a growth was refused and there is no verdict.
+#[unsafe(no_mangle)]
+pub extern "C" fn vipr_check(alloc: Global, text: &[u8], answer: &mut Answer) -> i32
+    ensures { (r : Result Answered Failure)
+        × Checks (Some (record { bytes = text.now; fails = false })) r
+        × (result ≡ status_of r) × (answer.new ≡ told_of r) }
+{
+    let verdict = verdict_on(alloc, text);
+    *answer = told(&verdict);
+    status(&verdict)
+}
+
+fn verdict_on(alloc: Global, text: &[u8]) -> Result<Verdict, Fault>
+    ensures { Checks (Some (record { bytes = text.now; fails = false })) result }
+{
+    check(alloc, Bytes::new(text))
+}
