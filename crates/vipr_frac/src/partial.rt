@@ -5,11 +5,12 @@ ghost use Rattle.vipr_frac.specs.Parts.{IsLoose};
 
 use crate::frac::{Frac, Overflow, SMALL, is_small, reduced};
 use crate::gcd::{gcd_of, quotient};
+use std::alloc::AllocError;
 use std::marker::Model;
 
 /// A partial sum of products: a bounded fraction whose numerator and denominator may have a common
 /// divisor. While the numbers are small, a sum needs no division.
-#[derive(Clone, Debug, Drop)]
+#[derive(Debug, Drop)]
 pub struct Partial {
     p: i128,
     q: u128,
@@ -27,6 +28,21 @@ impl Model for Partial {
     ghost view = { λ f. over f.p f.q };
 
     ghost invariant = { λ f. IsLoose f.p f.q };
+}
+
+impl Clone for Partial {
+    ghost use Rattle.std.specs.Prelude.{◌≡◌, ⊤};
+
+    ghost is_clone = { λ sum copy. copy ≡ sum };
+
+    ghost is_infallible = { λ _. ⊤ };
+
+    fn clone(&self) -> Result<Partial, AllocError> {
+        Ok(Partial {
+            p: self.p,
+            q: self.q,
+        })
+    }
 }
 
 // The sum of two small fractions, which needn't be in lowest terms.
