@@ -10,13 +10,13 @@ use Rattle.vipr_spec.specs.Fraction.{ℚ, most}
 use Rattle.vipr_frac.specs.Parts.{IsSmall, left_part, right_part, both_parts, sum_denom, product_numer, product_denom, FitsSum, FitsProduct}
 use Rattle.vipr_frac.proofs.Views.{as-is}
 
-abs_sum : (u v : ℤ) (m : ℕ) → unsigned_abs u ≤ m → unsigned_abs v ≤ m → unsigned_abs (u +ℤ v) ≤ m + m
+pub abs_sum : (u v : ℤ) (m : ℕ) → unsigned_abs u ≤ m → unsigned_abs v ≤ m → unsigned_abs (u +ℤ v) ≤ m + m
 abs_sum u v m h k = omega (arith, ints)
 
-product_bound : (a b : ℕ) → a ≤ 2 ^ 62 → b ≤ 2 ^ 62 → a * b ≤ 2 ^ 124
+pub product_bound : (a b : ℕ) → a ≤ 2 ^ 62 → b ≤ 2 ^ 62 → a * b ≤ 2 ^ 124
 product_bound a b h k = mul-le-mul h k
 
-in_bound : (n : ℕ) → n ≤ 2 ^ 125 → n ≤ most
+pub in_bound : (n : ℕ) → n ≤ 2 ^ 125 → n ≤ most
 in_bound n h = le_trans h (lit≤ tt)
 
 word_bound : (n : ℕ) → n ≤ 2 ^ 125 → n < 2 ^ 127
@@ -25,7 +25,7 @@ word_bound n h = omega arith
 pub wider : (n : ℕ) → n ≤ 2 ^ 124 → n ≤ 2 ^ 125
 wider n h = omega arith
 
-quotient_bound : (n g : ℕ) → n ≤ 2 ^ 62 → n / g ≤ 2 ^ 62
+pub quotient_bound : (n g : ℕ) → n ≤ 2 ^ 62 → n / g ≤ 2 ^ 62
 quotient_bound n g h = le_trans (div-le_self n g) h
 
 module _ (x y : ℚ) (a : IsSmall x) (b : IsSmall y) where

@@ -1,5 +1,5 @@
 -- The numbers that a sum and a product go through, and what the fields of a `Frac` keep.
-use Rattle.std.specs.Prelude.{ℕ, ◌*◌, ◌/◌, ◌≤◌, ◌^◌, ℤ, pos, ◌+ℤ◌, ◌*ℤ◌, unsigned_abs, int_div}
+use Rattle.std.specs.Prelude.{ℕ, ◌*◌, ◌/◌, ◌<◌, ◌≤◌, ◌^◌, ℤ, pos, ◌+ℤ◌, ◌*ℤ◌, unsigned_abs, int_div}
 use Rattle.vipr_spec.specs.Fraction.{ℚ, most}
 use Rattle.vipr_spec.specs.Gcd.{gcd}
 use Rattle.vipr_spec.specs.Lowest.{IsLowest}
@@ -7,6 +7,12 @@ use Rattle.vipr_spec.specs.Lowest.{IsLowest}
 -- p / q is in lowest terms and bounded
 pub record IsReduced (p : ℤ) (q : ℕ) : Type 0 where
   pub lowest : IsLowest p q
+  pub numer_bounded : unsigned_abs p ≤ most
+  pub denom_bounded : q ≤ most
+
+-- p / q is bounded, and may have a common divisor
+pub record IsLoose (p : ℤ) (q : ℕ) : Type 0 where
+  pub some : 0 < q
   pub numer_bounded : unsigned_abs p ≤ most
   pub denom_bounded : q ≤ most
 

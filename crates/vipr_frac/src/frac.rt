@@ -14,7 +14,7 @@ use std::hash::{Hash, Hasher};
 use std::marker::Model;
 
 // Where no numerator and no denominator is larger, products of two and sums of such stay in bound.
-const SMALL: u128 = 1 << 62;
+pub(crate) const SMALL: u128 = 1 << 62;
 
 /// Why a numerator and a denominator make no bounded fraction.
 #[derive(Clone, Copy, Debug, PartialEq, Eq)]
@@ -299,7 +299,7 @@ fn product_by_parts(a: Frac, b: Frac) -> Result<Frac, Overflow>
 }
 
 #[inline(always)]
-fn is_small(a: Frac) -> bool
+pub(crate) fn is_small(a: Frac) -> bool
     ensures { IsTrue result → IsSmall a }
 {
     a.p.unsigned_abs() <= SMALL && a.q <= SMALL

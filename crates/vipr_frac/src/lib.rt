@@ -4,8 +4,10 @@
 mod frac;
 mod gcd;
 mod number;
+mod partial;
 #[cfg(test)]
 mod tests;
 
 pub use frac::{Frac, FracError, Overflow};
 pub use number::NumberError;
+pub use partial::Partial;

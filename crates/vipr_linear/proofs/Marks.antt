@@ -94,15 +94,12 @@ not_both (Err x) e o = absurd (cc)
 
 -- one turn of the loop that adds terms: what was read, the product and the sum
 module _ (first : Type 0) (sums : List ℚ) (m : ℚ) (es : List (ℕ × ℚ)) (i : ℕ) (p : ℕ × ℚ) (l : i < length es) (e : p ≡ get_or es i p) (known : first ↔ TermsFitIn sums m (drop i es)) where
-  pub product_refused : (ProductFits m p.1 → false ≡ true) → ¬ first
-  product_refused refused h = let f = (next_fits sums m es i p l e).0 (known.0 h) in absurd (let x = refused f.0.0 in cc)
-
   module _ (old product : ℚ) (w : p.0 < length sums) (o : old ≡ get_or sums p.0 old) (q : product ≡ m *ℚ p.1) where
     old_is : get_or sums p.0 zero_ℚ ≡ old
     old_is = get_or_default sums p.0 zero_ℚ old w ∙ sym o
 
-    pub sum_refused : (SumFits old product → false ≡ true) → ¬ first
-    sum_refused refused h = let f = (next_fits sums m es i p l e).0 (known.0 h) in absurd (let x = refused (subst₂ SumFits old_is (sym q) f.0.1) in cc)
+    pub term_refused : (ProductFits m p.1 × SumFits old product → false ≡ true) → ¬ first
+    term_refused refused h = let f = (next_fits sums m es i p l e).0 (known.0 h) in absurd (let x = refused (f.0.0, subst₂ SumFits old_is (sym q) f.0.1) in cc)
 
     module _ (new : ℚ) (s : new ≡ old +ℚ product) where
       term_is : slice_set sums p.0 new ≡ with_term sums m p

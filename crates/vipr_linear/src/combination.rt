@@ -20,7 +20,7 @@ use crate::values::value_in;
 use std::alloc::{AllocError, Global};
 use std::cmp::Ordering;
 use std::marker::Model;
-use vipr_frac::{Frac, Overflow};
+use vipr_frac::{Frac, Overflow, Partial};
 
 /// Why an entry can't be added, or the sum not be given.
 #[derive(Clone, Copy, Debug, PartialEq, Eq)]
@@ -40,7 +40,7 @@ pub enum CombError {
 /// too, where a solution is laid out.
 #[derive(Debug, Drop)]
 pub struct Combination {
-    sums: Vec<Frac>,
+    sums: Vec<Partial>,
     marks: Vec<bool>,
     touched: Vec<u32>,
     sense: Sense,
@@ -75,7 +75,7 @@ impl Combination {
         ensures { IfOk result (λ sum. sum ≡ nothing_added n) }
     {
         Ok(Combination {
-            sums: vec![in alloc; Frac::zero(); n as usize]?,
+            sums: vec![in alloc; Partial::zero(); n as usize]?,
             marks: vec![in alloc; false; n as usize]?,
             touched: Vec::with_capacity(alloc, n as usize)?,
             sense: Sense::E,
@@ -221,7 +221,7 @@ fn joined(a: Sense, b: Sense) -> Option<Sense>
 
 // Adds the multiple of a constraint to the sums, and gives the new right-hand side.
 fn add_multiple(
-    sums: &mut [Frac],
+    sums: &mut [Partial],
     marks: &mut [bool],
     touched: &mut Vec<u32>,
     rhs: Frac,

@@ -10,7 +10,7 @@ ghost use Rattle.vipr_linear.specs.Touched.{Touching, Covers};
 
 use crate::row::is_zero;
 use std::alloc::{AllocError, Global};
-use vipr_frac::{Frac, Overflow};
+use vipr_frac::{Frac, Overflow, Partial};
 
 // Lists a variable as touched, once.
 fn touch(marks: &mut [bool], touched: &mut Vec<u32>, variable: u32)
@@ -31,7 +31,7 @@ fn touch(marks: &mut [bool], touched: &mut Vec<u32>, variable: u32)
 
 /// Adds the multiple of each entry to the sum of its variable, in order.
 pub(crate) fn add_terms(
-    sums: &mut [Frac],
+    sums: &mut [Partial],
     marks: &mut [bool],
     touched: &mut Vec<u32>,
     entries: &[(u32, Frac)],
@@ -50,9 +50,7 @@ pub(crate) fn add_terms(
 {
     for (variable, coefficient) in entries {
         touch(marks, touched, *variable);
-        let product = multiplier.mul(*coefficient)?;
-        let place = *variable as usize;
-        sums[place] = sums[place].add(product)?;
+        sums[*variable as usize].add_product(multiplier, *coefficient)?;
     }
     Ok(())
 }
@@ -60,7 +58,7 @@ pub(crate) fn add_terms(
 /// Makes the sum of each variable that an entry names its coefficient. Entries past the last place
 /// are left out.
 pub(crate) fn set_sums(
-    sums: &mut [Frac],
+    sums: &mut [Partial],
     marks: &mut [bool],
     touched: &mut Vec<u32>,
     entries: &[(u32, Frac)],
@@ -78,13 +76,13 @@ pub(crate) fn set_sums(
         let place = *variable as usize;
         if place < sums.len() {
             touch(marks, touched, *variable);
-            sums[place] = *coefficient;
+            sums[place] = Partial::of(*coefficient);
         }
     }
 }
 
 /// Sets the sums of the touched variables to 0, and forgets that they were touched.
-pub(crate) fn reset(sums: &mut [Frac], marks: &mut [bool], touched: &mut Vec<u32>)
+pub(crate) fn reset(sums: &mut [Partial], marks: &mut [bool], touched: &mut Vec<u32>)
     requires places { length marks.old ≡ length sums.old }
     requires touching { Touching marks.old touched.old.items }
     requires covers { Covers sums.old marks.old }
@@ -93,7 +91,7 @@ pub(crate) fn reset(sums: &mut [Frac], marks: &mut [bool], touched: &mut Vec<u32
     ensures capacity { vec_capacity touched.new ≡ vec_capacity touched.old }
 {
     for variable in touched.iter() {
-        sums[*variable as usize] = Frac::zero();
+        sums[*variable as usize] = Partial::zero();
         marks[*variable as usize] = false;
     }
     touched.clear();
@@ -102,7 +100,7 @@ pub(crate) fn reset(sums: &mut [Frac], marks: &mut [bool], touched: &mut Vec<u32
 /// The touched variables whose sums are not 0, with these.
 pub(crate) fn nonzero_sums(
     alloc: Global,
-    sums: &[Frac],
+    sums: &[Partial],
     touched: &[u32],
 ) -> Result<Vec<(u32, Frac)>, AllocError>
     requires { All (λ j. j < length sums.now) touched.now }
@@ -112,7 +110,7 @@ pub(crate) fn nonzero_sums(
 {
     let mut entries = Vec::with_capacity(alloc, touched.len())?;
     for variable in touched {
-        let sum = sums[*variable as usize];
+        let sum = sums[*variable as usize].value();
         if !is_zero(sum) {
             entries.push((*variable, sum))?;
         }

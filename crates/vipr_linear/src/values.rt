@@ -11,7 +11,7 @@ ghost use Rattle.vipr_linear.specs.Values.{IsFirstFractional};
 use crate::constraint::{Constraint, compares};
 use crate::ints::Ints;
 use crate::row::{Row, Solution};
-use vipr_frac::{Frac, Overflow};
+use vipr_frac::{Frac, Overflow, Partial};
 
 /// The value of a row at a solution, summed over the row's variables in rising order.
 pub fn value_at(row: &Row, solution: &Solution) -> Result<Frac, Overflow>
@@ -63,18 +63,18 @@ pub fn first_fractional(solution: &Solution, ints: &Ints) -> Option<(u32, Frac)>
 }
 
 // The coordinate that a place holds, 0 past the last.
-fn coordinate(places: &[Frac], variable: u32) -> Frac
+fn coordinate(places: &[Partial], variable: u32) -> Frac
     ensures { result ≡ point_of places.now variable }
 {
     match places.get(variable as usize) {
-        Some(value) => *value,
+        Some(place) => place.value(),
         None => Frac::zero(),
     }
 }
 
 /// The value of a row at the point whose coordinates stand in places, summed over the row's
 /// variables in rising order.
-pub(crate) fn value_in(row: &Row, places: &[Frac]) -> Result<Frac, Overflow>
+pub(crate) fn value_in(row: &Row, places: &[Partial]) -> Result<Frac, Overflow>
     ensures fits { IsOk result ↔ ValuesFit zero_ℚ (entries row.now) (point_of places.now) }
     ensures value { IfOk result
         (λ v. v ≡ with_values zero_ℚ (entries row.now) (point_of places.now)) }

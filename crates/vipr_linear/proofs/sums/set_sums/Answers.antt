@@ -8,7 +8,7 @@ pub loop-variable-preserved : goal.loop-variable-preserved
 loop-variable-preserved c = elim c.if-place-sums.branch [
   | then-place-sums w ↦
       let within : c.loop-variable-item.result.0 < length c.loop-variable.sums = w.if-place-sums.true in
-      rw (w.sums-is, w.marks-is, w.touched-is) (record {
+      rw (w.sums-is, w.marks-is, w.touched-is, w.of.ensures) (record {
         room = omega (arith, w.touch.auto.marks, c.loop-variable.invariant.room, w.touch.ensures.capacity);
         capacity = omega (arith, c.loop-variable.invariant.capacity, w.touch.ensures.capacity);
         touching = w.touch.ensures.touching;
