@@ -127,8 +127,8 @@ fn written(rt: HostRuntime) {
         frac(&rt, -M, 1),
         frac(&rt, 1, M),
     ] {
-        assert!(rt; f.write_to(&mut out).is_ok());
-        assert!(rt; out.push(b' ').is_ok());
+        assert_eq!(rt; f.write_to(&mut out), Ok(()));
+        assert_eq!(rt; out.push(b' '), Ok(()));
     }
     assert_eq!(rt;
         out.as_slice(),
