@@ -44,7 +44,7 @@ pub struct Combination {
     marks: Vec<bool>,
     touched: Vec<u32>,
     sense: Sense,
-    rhs: Frac,
+    rhs: Partial,
     is_spent: bool,
 }
 
@@ -79,7 +79,7 @@ impl Combination {
             marks: vec![in alloc; false; n as usize]?,
             touched: Vec::with_capacity(alloc, n as usize)?,
             sense: Sense::E,
-            rhs: Frac::zero(),
+            rhs: Partial::zero(),
             is_spent: false,
         })
     }
@@ -90,7 +90,7 @@ impl Combination {
     {
         reset(&mut self.sums, &mut self.marks, &mut self.touched);
         self.sense = Sense::E;
-        self.rhs = Frac::zero();
+        self.rhs = Partial::zero();
         self.is_spent = false;
     }
 
@@ -150,12 +150,11 @@ impl Combination {
             &mut self.sums,
             &mut self.marks,
             &mut self.touched,
-            self.rhs,
+            &mut self.rhs,
             constraint,
             multiplier,
         ) {
-            Ok(rhs) => {
-                self.rhs = rhs;
+            Ok(()) => {
                 self.sense = sense;
                 Ok(())
             }
@@ -188,7 +187,7 @@ impl Combination {
         let sum = Constraint {
             row: Row::from_rising(entries),
             sense: self.sense,
-            rhs: self.rhs,
+            rhs: self.rhs.value(),
         };
         self.clear();
         Ok(sum)
@@ -219,29 +218,29 @@ fn joined(a: Sense, b: Sense) -> Option<Sense>
     }
 }
 
-// Adds the multiple of a constraint to the sums, and gives the new right-hand side.
+// Adds the multiple of a constraint to the sums and to the right-hand side.
 fn add_multiple(
     sums: &mut [Partial],
     marks: &mut [bool],
     touched: &mut Vec<u32>,
-    rhs: Frac,
+    rhs: &mut Partial,
     constraint: &Constraint,
     multiplier: Frac,
-) -> Result<Frac, Overflow>
+) -> Result<(), Overflow>
     requires places { length marks.old ≡ length sums.old }
     requires names { NamesBelow (length sums.old) (at constraint.now.row) }
     requires room { length marks.old ≤ vec_capacity touched.old }
     requires touching { Touching marks.old touched.old.items }
     requires covers { Covers sums.old marks.old }
     ensures fits { IsOk result ↔ (RowAdditionFits sums.old multiplier (at constraint.now.row)
-        × TermFits rhs multiplier constraint.now.rhs) }
+        × TermFits rhs.old multiplier constraint.now.rhs) }
     ensures sums { OnOk result (sums.new ≡ with_row sums.old multiplier (at constraint.now.row)) }
-    ensures rhs { IfOk result (λ r. r ≡ rhs +ℚ multiplier *ℚ constraint.now.rhs) }
+    ensures rhs { OnOk result (rhs.new ≡ rhs.old +ℚ multiplier *ℚ constraint.now.rhs) }
     ensures touching { Touching marks.new touched.new.items }
     ensures covers { Covers sums.new marks.new }
     ensures capacity { vec_capacity touched.old ≤ vec_capacity touched.new }
 {
     let entries = constraint.row.entries();
     add_terms(sums, marks, touched, entries, multiplier)?;
-    rhs.add(multiplier.mul(constraint.rhs)?)
+    rhs.add_product(multiplier, constraint.rhs)
 }

@@ -22,12 +22,12 @@ returns-clause-fits c =
     let list = c.entries-entries.ensures.list in
     let fit = row_terms_fit c.args.constraint.now.row c.args.sums.now c.args.multiplier (rw list at c.entries-entries.ensures.rising) in
     let told = rw list at c.in_ok-add_terms.ensures.fits in
-    let product = c.in_ok-mul.ensures in
-    (λ o. (fit.0 (told.0 refl), (product.fits.0 refl, subst (SumFits c.args.rhs) product.value (c.add.ensures.fits.0 o))), λ h. c.add.ensures.fits.1 (subst (SumFits c.args.rhs) (sym product.value) h.1.1))
+    let sum = c.add_product.ensures.fits in
+    (λ o. (fit.0 (told.0 refl), sum.0 o), λ h. sum.1 h.1)
 
 pub returns-clause-sums : goal.returns-clause-sums
 returns-clause-sums c =
     let list = c.entries-entries.ensures.list in
     let rising = rw list at c.entries-entries.ensures.rising in
     let told = rw list at c.in_ok-add_terms.ensures.sums in
-    on_ok c.add.result _ (told ∙ row_terms c.args.constraint.now.row c.args.sums.now c.args.multiplier rising (below c.args.constraint.now.row _ rising c.requires.names))
+    on_ok c.add_product.result _ (told ∙ row_terms c.args.constraint.now.row c.args.sums.now c.args.multiplier rising (below c.args.constraint.now.row _ rising c.requires.names))

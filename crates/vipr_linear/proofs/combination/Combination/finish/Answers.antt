@@ -39,5 +39,5 @@ returns-clause-sum c =
       row_is = λ j. ap (λ m. at m j) row ∙ collected_at _ _ _ kept.touching kept.covers rising j ∙ ap (λ (a : Accumulator). get_or a.sums j zero_ℚ) c.self.view_is;
       no_zeros = subst HasNoZeros (sym row) (no_zeros _ (collected_rises _ _ rising));
       sense_is = ap (λ (a : Accumulator). a.sense) c.self.view_is;
-      bound_is = ap (λ (a : Accumulator). a.bound) c.self.view_is;
+      bound_is = c.value.ensures ∙ ap (λ (a : Accumulator). a.bound) c.self.view_is;
     }
