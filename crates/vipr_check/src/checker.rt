@@ -6,6 +6,7 @@ ghost use Rattle.vipr_spec.specs.Certificate.{Named as NamedMeant, Certificate, 
 ghost use Rattle.vipr_spec.specs.Constraint.{one, Row, at, NamesBelow};
 ghost use Rattle.vipr_cert.specs.Items.{solution_of, derivation_of};
 ghost use Rattle.vipr_rules.specs.Profile.{profile_of};
+ghost use Rattle.vipr_rules.specs.Table.{held_count as held_in};
 ghost use Rattle.vipr_check.specs.Sound.{KeepsSoundness};
 ghost use Rattle.vipr_check.specs.Halts.{halt_answer, later_answer};
 ghost use Rattle.vipr_check.specs.Progress.{HasSolutions, HasSteps};
@@ -97,6 +98,27 @@ impl<S: Rows> Checker<S> {
             self.now.progress.goal }
     {
         self.in_solutions
+    }
+
+    /// The problem.
+    pub fn problem(&self) -> &Problem
+        ensures { result.now ≡ self.now.progress.problem }
+    {
+        self.progress.problem()
+    }
+
+    /// The index of the constraint that is derived next.
+    pub fn next(&self) -> u32
+        ensures { result ≡ self.now.progress.rows.next }
+    {
+        self.progress.next()
+    }
+
+    /// How many derived constraints are held.
+    pub fn held(&self) -> usize
+        ensures { result ≡ held_in self.now.progress.rows }
+    {
+        self.progress.held()
     }
 
     /// Takes the next listed solution.

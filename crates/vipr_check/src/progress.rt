@@ -165,6 +165,13 @@ impl<S: Rows> Progress<S> {
         self.rows.next()
     }
 
+    /// How many derived constraints are held.
+    pub(crate) fn held(&self) -> usize
+        ensures { result ≡ held_in self.now.rows }
+    {
+        self.rows.held()
+    }
+
     /// Tests the next listed solution, and goes on with it where it passes.
     pub(crate) fn solution(&mut self, solution: &Solution) -> Result<(), SolutionError>
         requires { self.old.solutions + 1 < 2 ^ 32 }

@@ -1,6 +1,6 @@
 -- What a reader of items has left, and what each call takes of it
-use Rattle.std.specs.Prelude.{◌≡◌, ℕ, suc, ◌<◌, ◌⊎◌, Bool, length, Option, Some, None, Result, Ok}
-use Rattle.std.specs.Prelude.{Err, IsSome}
+use Rattle.std.specs.Prelude.{◌≡◌, ℕ, suc, ◌<◌, ◌⊎◌, Bool, true, false, length, Option, Some, None}
+use Rattle.std.specs.Prelude.{Result, Ok, Err, IsSome}
 use Rattle.vipr_spec.specs.Constraint.{Row, at, NamesBelow}
 use Rattle.vipr_spec.specs.Certificate.{Problem, variables}
 use Rattle.vipr_spec.specs.Shape.{RowFits}
@@ -30,6 +30,38 @@ pub record Remembers (old new : Items) : Type 0 where
   pub variables : new.variables ≡ old.variables
   pub constraints : new.constraints ≡ old.constraints
   pub objective : new.objective ≡ old.objective
+
+-- no item is to come, and nothing was read
+pub record HasNone (old new : Items) : Type 0 where
+  pub none : old.left ≡ 0
+  pub same : new ≡ old
+
+-- no item is to come, and the end of the text was found
+pub record HasEnded (old new : Items) : Type 0 where
+  pub none : old.left ≡ 0
+  pub kept : new.left ≡ old.left
+  pub working : new.failed ≡ false
+  pub remembers : Remembers old new
+  pub same : IsSome old.rest → new ≡ old
+
+-- an item was read
+pub record HasPassed (old new : Items) : Type 0 where
+  pub counted : old.left ≡ suc new.left
+  pub working : new.failed ≡ false
+  pub remembers : Remembers old new
+
+-- an error came
+pub record HasFailed (old new : Items) : Type 0 where
+  pub kept : new.left ≡ old.left
+  pub failed : new.failed ≡ true
+  pub remembers : Remembers old new
+
+-- what a call for the next item makes of the reader
+abbrev pub Moves : {X : Type 0} → (Items → Items → Type 0) → Items → Items
+    → Result (Option X) TextError → Type 0
+Moves ended old new (Ok None) = ended old new
+Moves ended old new (Ok (Some x)) = HasPassed old new
+Moves ended old new (Err e) = HasFailed old new
 
 -- its variables are below n, and its coefficients can be written
 pub record IsObjective (n : ℕ) (row : Row) : Type 0 where

@@ -1,7 +1,6 @@
 //! Reads the items of a certificate one by one.
-ghost use Rattle.std.specs.Prelude.{◌≡◌, ◌≢◌, ◌↔◌, ◌^◌, ◌+◌, ◌<◌, suc, true, false, Ok, None};
-ghost use Rattle.std.specs.Prelude.{IfOk, IfErr, IfSome, OnOk, OnErr, IsErrOf, IsSome, MatchOption};
-ghost use Rattle.std.specs.Prelude.{MatchResult};
+ghost use Rattle.std.specs.Prelude.{◌≡◌, ◌↔◌, ◌^◌, ◌+◌, ◌<◌, true, false, Ok, IfOk, IfSome};
+ghost use Rattle.std.specs.Prelude.{IsErrOf, IsSome};
 ghost use Rattle.vipr_spec.specs.Constraint.{at, NamesBelow};
 ghost use Rattle.vipr_spec.specs.Certificate.{Problem as ProblemMeant};
 ghost use Rattle.vipr_spec.specs.Reading.{solution_read, derivations_read, derivation_read};
@@ -9,7 +8,8 @@ ghost use Rattle.vipr_spec.specs.Reading.{end_read};
 ghost use Rattle.vipr_spec.specs.Shape.{RowFits, SolutionShape, DerivationShape};
 ghost use Rattle.vipr_cert.specs.Items.{solution_of, derivation_of};
 ghost use Rattle.vipr_scan.specs.Giving.{rest_of};
-ghost use Rattle.vipr_read.specs.Items.{Items, Knows, Remembers, NextItem, GivesFrom};
+ghost use Rattle.vipr_read.specs.Items.{Items, Knows, Remembers, HasNone, HasEnded, Moves};
+ghost use Rattle.vipr_read.specs.Items.{NextItem, GivesFrom};
 
 use crate::item::{Derived, Item, Listed};
 use crate::parser::Parser;
@@ -56,12 +56,7 @@ impl<R: Source> ItemReader<R> {
     /// The next item, or `None` where no item is to come; nothing is read then.
     fn next<I: Item>(&mut self, alloc: Global, item: &I) -> Result<Option<I::Value>, TextError>
         ensures spent { IsErrOf result TextError.Spent ↔ (self.old.failed ≡ true) }
-        ensures failed { MatchResult result (λ _. self.new.failed ≡ false)
-            (λ _. self.new.failed ≡ true) }
-        ensures remembers { Remembers self.old self.new }
-        ensures counted { MatchResult result
-            (λ o. MatchOption o ((self.old.left ≡ 0) × (self.new ≡ self.old))
-            (λ _. self.old.left ≡ suc self.new.left)) (λ _. self.new.left ≡ self.old.left) }
+        ensures moves { Moves HasNone self.old self.new result }
         ensures shape { IfOk result (λ o. IfSome o (λ x. I.shape self.old.variables (I.view x))) }
         ensures read { (p : ProblemMeant) → Knows self.old p
             → NextItem I.view (I.reading p) (λ _. Ok tt) self.old self.new result }
@@ -147,13 +142,7 @@ impl<R: Source> Solutions<R> {
     /// growth was refused; after an error `Spent`.
     pub fn next(&mut self, alloc: Global) -> Result<Option<Named<Solution>>, TextError>
         ensures spent { IsErrOf result TextError.Spent ↔ (self.old.failed ≡ true) }
-        ensures failed { OnErr result (self.new.failed ≡ true) }
-        ensures kept { OnErr result (self.new.left ≡ self.old.left) }
-        ensures none { result ≡ Ok None → self.new ≡ self.old }
-        ensures remembers { Remembers self.old self.new }
-        ensures working { OnOk result (self.new.failed ≡ false) }
-        ensures counted { IfOk result (λ o.
-            MatchOption o (self.old.left ≡ 0) (λ _. self.old.left ≡ suc self.new.left)) }
+        ensures moves { Moves HasNone self.old self.new result }
         ensures shape { IfOk result (λ o.
             IfSome o (λ s. SolutionShape self.old.variables (solution_of s))) }
         ensures read { (p : ProblemMeant) → Knows self.old p
@@ -219,14 +208,7 @@ impl<R: Source> Derivations<R> {
     /// growth was refused; after an error `Spent`.
     pub fn next(&mut self, alloc: Global) -> Result<Option<Derivation>, TextError>
         ensures spent { IsErrOf result TextError.Spent ↔ (self.old.failed ≡ true) }
-        ensures failed { OnErr result (self.new.failed ≡ true) }
-        ensures kept { OnErr result (self.new.left ≡ self.old.left) }
-        ensures none { result ≡ Ok None → (self.new.left ≡ self.old.left)
-            × (IsSome self.old.rest → self.new ≡ self.old) }
-        ensures remembers { Remembers self.old self.new }
-        ensures working { OnOk result (self.new.failed ≡ false) }
-        ensures counted { IfOk result (λ o.
-            MatchOption o (self.old.left ≡ 0) (λ _. self.old.left ≡ suc self.new.left)) }
+        ensures moves { Moves HasEnded self.old self.new result }
         ensures shape { IfOk result (λ o.
             IfSome o (λ d. DerivationShape self.old.variables (derivation_of d))) }
         ensures read { (p : ProblemMeant) → Knows self.old p

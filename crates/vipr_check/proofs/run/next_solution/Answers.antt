@@ -27,7 +27,7 @@ returns-in-Ok-Some-clause-step g c = λ P p ss is.
     let old = c.args.solutions.now in
     let new = c.next.new.self in
     subst (GoesAmong P p ss old c.solution.new.self new) (sym c.after_item.ensures)
-    (goes_among P p ss c.args.checker.now c.solution.new.self old new s is h.counted h.remembers h.working (λ told. (let r = h.read p is.knows told in (r.1, r.2))) c.solution.result (c.solution.ensures.next ss is.runs is.has))
+    (goes_among P p ss c.args.checker.now c.solution.new.self old new s is h.moves.counted h.moves.remembers h.moves.working (λ told. (let r = h.read p is.knows told in (r.1, r.2))) c.solution.result (c.solution.ensures.next ss is.runs is.has))
 
 pub returns-in-Err-clause-step : goal.returns-in-Err-clause-step
 returns-in-Err-clause-step g c = λ P p ss is told.

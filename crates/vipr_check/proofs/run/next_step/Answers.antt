@@ -16,7 +16,7 @@ derivation-requires-clause-phase g c = c.requires.2.phase
 pub derivation-requires-clause-room : goal.derivation-requires-clause-room
 derivation-requires-clause-room g c =
     let h = rw c.in-Ok-Some.field-0-is at c.in-Ok-Some.ensures in
-    room_for c.requires.0 c.requires.1 c.args.checker.now c.args.derivations.now c.next.new.self.left c.requires.2 h.counted
+    room_for c.requires.0 c.requires.1 c.args.checker.now c.args.derivations.now c.next.new.self.left c.requires.2 h.moves.counted
 
 pub derivation-requires-clause-names : goal.derivation-requires-clause-names
 derivation-requires-clause-names g c =
@@ -44,7 +44,7 @@ returns-in-Ok-Some-clause-step g c = λ P s is.
     let new = c.next.new.self in
     let d = derivation_of c.in-Ok-Some.step in
     subst (Goes P s old c.derivation.new.self new) (sym c.after_item.ensures)
-    (goes_on P s k c.derivation.new.self old new d is h.shape.reason h.counted h.remembers h.working (λ told. (let r = h.read s.problem is.knows told in (r.1, r.2))) c.derivation.result (c.derivation.ensures.next s is.runs is.has))
+    (goes_on P s k c.derivation.new.self old new d is h.shape.reason h.moves.counted h.moves.remembers h.moves.working (λ told. (let r = h.read s.problem is.knows told in (r.1, r.2))) c.derivation.result (c.derivation.ensures.next s is.runs is.has))
 
 pub returns-in-Ok-None-clause-step : goal.returns-in-Ok-None-clause-step
 returns-in-Ok-None-clause-step g c = λ P s is told.

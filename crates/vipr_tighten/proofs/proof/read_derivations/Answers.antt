@@ -21,7 +21,7 @@ pub derivation-requires-clause-room : goal.derivation-requires-clause-room
 derivation-requires-clause-room g c =
     let (p, ss, is) = c.requires in
     let h = rw c.in-Ok-Some.field-0-is at c.in-Ok-Some.ensures in
-    room_for (with_more (start p ss) (map derivation_of c.steps.derived.items)) c.steps.checker c.steps.derivations c.next.new.self.left (c.steps.invariant.kept p ss is).is_at h.counted
+    room_for (with_more (start p ss) (map derivation_of c.steps.derived.items)) c.steps.checker c.steps.derivations c.next.new.self.left (c.steps.invariant.kept p ss is).is_at h.moves.counted
 
 pub derivation-requires-clause-names : goal.derivation-requires-clause-names
 derivation-requires-clause-names g c =
@@ -51,7 +51,7 @@ returns-in-Err-derivation-clause-unproved g c = λ p ss is known.
     let kept = c.steps.invariant.kept p ss is in
     let old = c.steps.derivations in
     subst (TellsWhy (derivations_left s first)) (sym c.stopped.ensures)
-    (step_stops s now c.steps.checker c.derivation.new.self first old kept c.next.new.self (derivation_of c.in-Ok-Some.step) h.counted h.remembers h.working
+    (step_stops s now c.steps.checker c.derivation.new.self first old kept c.next.new.self (derivation_of c.in-Ok-Some.step) h.moves.counted h.moves.remembers h.moves.working
     (λ t. let r = h.read p kept.is_at.knows t in (r.1, r.2)) c.in-Err-derivation.stop (c.in-Err-derivation.ensures.next now kept.is_at.runs kept.is_at.has) known)
 
 pub steps-preserved : goal.steps-preserved
@@ -65,10 +65,10 @@ steps-preserved g c =
       kept = λ p ss is.
           let kept = c.steps.invariant.kept p ss is in
           let now = with_more (start p ss) ds in
-          step_taken (start p ss) now c.steps.checker c.derivation.new.self first old kept c.next.new.self (derivation_of x) h.counted h.remembers h.working
+          step_taken (start p ss) now c.steps.checker c.derivation.new.self first old kept c.next.new.self (derivation_of x) h.moves.counted h.moves.remembers h.moves.working
           (λ t. let r = h.read p kept.is_at.knows t in (r.1, r.2)) (c.in_default.ensures.next now kept.is_at.runs kept.is_at.has);
       shape = All-push (DerivationShape first.variables) ds (derivation_of x) c.steps.invariant.shape (subst (λ n. DerivationShape n (derivation_of x)) c.steps.invariant.variables h.shape);
-      variables = h.remembers.variables ∙ c.steps.invariant.variables;
+      variables = h.moves.remembers.variables ∙ c.steps.invariant.variables;
     })
 
 pub returns-in-Ok-None-clause-kept : goal.returns-in-Ok-None-clause-kept

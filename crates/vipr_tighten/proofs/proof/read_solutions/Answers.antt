@@ -19,7 +19,7 @@ returns-in-Err-solution-clause-unproved g c = λ p is known.
     let kept = c.solutions.invariant.kept p is in
     let old = c.solutions.solutions in
     subst (TellsWhy (solutions_left p [] first)) (sym c.stopped.ensures)
-    (solution_stops p ss c.solutions.checker c.solution.new.self first old kept c.next.new.self (solution_of c.in-Ok-Some.solution) h.counted h.remembers h.working
+    (solution_stops p ss c.solutions.checker c.solution.new.self first old kept c.next.new.self (solution_of c.in-Ok-Some.solution) h.moves.counted h.moves.remembers h.moves.working
     (λ t. let r = h.read p kept.is_among.knows t in (r.1, r.2)) c.in-Err-solution.stop (c.in-Err-solution.ensures.next ss kept.is_among.runs kept.is_among.has) known)
 
 pub solutions-preserved : goal.solutions-preserved
@@ -32,10 +32,10 @@ solutions-preserved g c =
     rw (c.in_ok-push-in-Ok-Some.ensures.items, map_push solution_of c.solutions.listed.items x) (record {
       kept = λ p is.
           let kept = c.solutions.invariant.kept p is in
-          solution_taken p ss c.solutions.checker c.solution.new.self first old kept c.next.new.self (solution_of x) h.counted h.remembers h.working
+          solution_taken p ss c.solutions.checker c.solution.new.self first old kept c.next.new.self (solution_of x) h.moves.counted h.moves.remembers h.moves.working
           (λ t. let r = h.read p kept.is_among.knows t in (r.1, r.2)) (c.in_default.ensures.next ss kept.is_among.runs kept.is_among.has);
       shape = All-push (SolutionShape first.variables) ss (solution_of x) c.solutions.invariant.shape (subst (λ n. SolutionShape n (solution_of x)) c.solutions.invariant.variables h.shape);
-      variables = h.remembers.variables ∙ c.solutions.invariant.variables;
+      variables = h.moves.remembers.variables ∙ c.solutions.invariant.variables;
     })
 
 pub returns-in-Err-clause-unproved : goal.returns-in-Err-clause-unproved
