@@ -5,3 +5,4 @@ mod Small
 mod Compared
 mod Rounding
 mod Parsed
+mod Fronts

@@ -8,4 +8,4 @@ mod number;
 mod tests;
 
 pub use frac::{Frac, FracError, Overflow};
-pub use number::NumberError;
+pub use number::{NumberError, front_natural};
