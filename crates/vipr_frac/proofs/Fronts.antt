@@ -80,12 +80,12 @@ unfolding is_white
 fraction_solid bs len more digits slash below k h = elim (cases_lt k len) [
   | inl l ↦ solid (get_or bs k 0) (digits k l)
   | inr m ↦ elim (cases_eq k len) [
-      | inl e ↦ rw (e, slash) refl
-      | inr e ↦
-          let at : get_or (drop (len + 1) bs) (k - (len + 1)) 0 ≡ get_or bs (len + 1 + (k - (len + 1))) 0 = get_or-drop (len + 1) bs (k - (len + 1)) 0 in
-          let same : len + 1 + (k - (len + 1)) ≡ k = omega arith in
-          solid (get_or bs k 0) (subst (λ b. is_digit b ≡ true) (at ∙ ap (λ j. get_or bs j 0) same) (below (k - (len + 1)) (omega arith)))
-    ]
+    | inl e ↦ rw (e, slash) refl
+    | inr e ↦
+        let at : get_or (drop (len + 1) bs) (k - (len + 1)) 0 ≡ get_or bs (len + 1 + (k - (len + 1))) 0 = get_or-drop (len + 1) bs (k - (len + 1)) 0 in
+        let same : len + 1 + (k - (len + 1)) ≡ k = omega arith in
+        solid (get_or bs k 0) (subst (λ b. is_digit b ≡ true) (at ∙ ap (λ j. get_or bs j 0) same) (below (k - (len + 1)) (omega arith)))
+  ]
 ]
 
 -- their parts are the digits before and behind the slash

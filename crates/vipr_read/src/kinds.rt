@@ -60,6 +60,7 @@ fn at_most(bytes: &[u8], most: u32, absent: u8, larger: u8) -> Result<u32, Unfit
 fn front_digits(bytes: &[u8]) -> Option<(u32, usize)>
     ensures token { IfSome result (λ r. IsInFront bytes.now r.1) }
     ensures value { IfSome result (λ r. natural_of (take r.1 bytes.now) ≡ Some r.0) }
+    ensures few { IfSome result (λ r. r.0 ≤ most_count) }
 {
     let (n, len) = front_natural(bytes);
     if 0 < len && len < bytes.len() && is_white(bytes[len]) && n < OVER {
@@ -351,6 +352,7 @@ impl TokenKind for Number {
     fn read_front(&self, bytes: &[u8]) -> Option<(Frac, usize)> {
         match Frac::parse_front(bytes) {
             Some((number, len)) if len < bytes.len() && is_white(bytes[len]) => {
+                let _bounded = number.denom();
                 Some((number, len))
             }
             _ => None,
