@@ -1,5 +1,6 @@
 -- What a kind makes of the bytes of a token, against what they mean
-use Rattle.std.specs.Prelude.{◌≡◌, ℕ, ◌<◌, ⊤, true, false, List, length, slice_index, Result, Ok, Err}
+use Rattle.std.specs.Prelude.{◌≡◌, ℕ, ◌<◌, ⊤, true, false, List, length, slice_index, Result}
+use Rattle.std.specs.Prelude.{Ok, Err}
 use Rattle.vipr_spec.specs.Tokens.{is_white}
 use Rattle.vipr_scan.specs.declared.kind.Unfit.{Unfit}
 use Rattle.vipr_scan.specs.declared.kind.Unfit.TheVariants as unfit
