@@ -6,3 +6,4 @@ mod Loose
 mod Compared
 mod Rounding
 mod Parsed
+mod Fronts

@@ -9,5 +9,5 @@ mod partial;
 mod tests;
 
 pub use frac::{Frac, FracError, Overflow};
-pub use number::NumberError;
+pub use number::{NumberError, front_natural};
 pub use partial::Partial;

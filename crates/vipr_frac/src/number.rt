@@ -1,11 +1,13 @@
 //! Fractions as they are written: an optional sign, digits, and optionally a slash and digits.
 ghost use Rattle.std.specs.Prelude.{◌≡◌, ℕ, ◌+◌, ◌^◌, ◌<◌, ◌≤◌, ◌⊎◌, ◌↔◌, min, MatchOption, IfSome};
-ghost use Rattle.std.specs.Prelude.{IsOk, OnOk, OnErr, length, ◌++◌, vec_len, vec_capacity};
+ghost use Rattle.std.specs.Prelude.{IsOk, OnOk, OnErr, length, ◌++◌, vec_len, vec_capacity, take};
+ghost use Rattle.std.specs.Prelude.{true, false, Some, Ok, None, slice_index};
 ghost use Rattle.std.specs.Option.{option_map};
 ghost use Rattle.std.specs.List.{position};
 ghost use Rattle.std.specs.Str.Parse.{without_leading_sign, starts_with_minus};
 ghost use Rattle.vipr_spec.specs.Fraction.{ℚ, most};
-ghost use Rattle.vipr_spec.specs.Digits.{natural_of};
+ghost use Rattle.vipr_spec.specs.Digits.{natural_of, natural_after, is_digit};
+ghost use Rattle.vipr_spec.specs.Tokens.{is_white};
 ghost use Rattle.vipr_spec.specs.Number.{SpellsNumber, is_slash, slash_place, top_of, bottom_of};
 ghost use Rattle.vipr_spec.specs.Number.{signed, written, of_parts, number_read, number_text};
 ghost use Rattle.vipr_frac.specs.Reading.{as_read};
@@ -49,7 +51,8 @@ fn short_natural(s: &[u8]) -> Option<u64>
     Some(value)
 }
 
-// The number that digits write, or one more than the bound where it is over the bound.
+// The number that digits write, or one more than the bound where it is over the bound. As many
+// digits as fit a 64-bit word are taken at a time.
 fn long_natural(s: &[u8]) -> Option<u128>
     ensures { result ≡ option_map (min (most + 1)) (natural_of s.now) }
 {
@@ -57,14 +60,25 @@ fn long_natural(s: &[u8]) -> Option<u128>
         return None;
     }
     let mut value: u128 = 0;
-    for b in s {
-        if *b < b'0' || *b > b'9' {
+    let mut from = 0;
+    while from < s.len() && value <= MOST / 1_000_000_000_000_000_000 {
+        let (part, len) = front_natural(&s[from..]);
+        if len == 0 {
+            return None;
+        }
+        let power = 10u64.pow(len as u32);
+        value = (value * u128::from(power) + u128::from(part)).min(MOST + 1);
+        from += len;
+    }
+    for i in from..s.len() {
+        let b = s[i];
+        if b < b'0' || b > b'9' {
             return None;
         }
         value = if value > MOST / 10 {
             MOST + 1
         } else {
-            (value * 10 + u128::from(*b - b'0')).min(MOST + 1)
+            (value * 10 + u128::from(b - b'0')).min(MOST + 1)
         };
     }
     Some(value)
@@ -170,7 +184,92 @@ fn short_whole(is_negative: bool, text: &[u8]) -> Option<Frac>
     }
 }
 
+/// The number that the digits at the front write, 18 of them at most, and how many they are.
+#[inline(always)]
+pub fn front_natural(s: &[u8]) -> (u64, usize)
+    ensures within { result.1 ≤ length s.now }
+    ensures few { result.1 ≤ SHORT }
+    ensures digits { (k : ℕ) → k < result.1 → is_digit (slice_index s.now k) ≡ true }
+    ensures longest { result.1 < SHORT → result.1 < length s.now →
+        is_digit (slice_index s.now result.1) ≡ false }
+    ensures value { natural_after 0 (take result.1 s.now) ≡ Some result.0 }
+    ensures small { result.0 < 10 ^ 18 }
+{
+    let end = s.len().min(SHORT);
+    let mut value: u64 = 0;
+    for i in 0..end {
+        let b = s[i];
+        if b < b'0' || b > b'9' {
+            return (value, i);
+        }
+        value = value * 10 + u64::from(b - b'0');
+    }
+    (value, end)
+}
+
+// The fraction of a numerator and the denominator at the front, and that one's length.
+fn front_fraction(is_negative: bool, top: u64, s: &[u8]) -> Option<(Frac, usize)>
+    requires { top < 10 ^ 18 }
+    ensures within { IfSome result (λ r. r.1 ≤ length s.now) }
+    ensures digits { IfSome result
+        (λ r. (k : ℕ) → k < r.1 → is_digit (slice_index s.now k) ≡ true) }
+    ensures value { IfSome result
+        (λ r. Ok r.0 ≡ of_parts is_negative (Some top) (natural_of (take r.1 s.now))) }
+{
+    let (bottom, len) = front_natural(s);
+    if len == 0 {
+        return None;
+    }
+    match fraction(is_negative, u128::from(top), u128::from(bottom)) {
+        Ok(value) => Some((value, len)),
+        Err(_) => None,
+    }
+}
+
+// A number without its sign at the front, and its length.
+#[inline(always)]
+fn front_unsigned(is_negative: bool, s: &[u8]) -> Option<(Frac, usize)>
+    ensures within { IfSome result (λ r. r.1 ≤ length s.now) }
+    ensures digit { IfSome result
+        (λ r. (0 < r.1) × (is_digit (slice_index s.now 0) ≡ true)) }
+    ensures solid { IfSome result
+        (λ r. (k : ℕ) → k < r.1 → is_white (slice_index s.now k) ≡ false) }
+    ensures value { IfSome result
+        (λ r. Ok r.0 ≡ of_parts is_negative (natural_of (top_of (take r.1 s.now)))
+        (natural_of (bottom_of (take r.1 s.now)))) }
+{
+    let (top, len) = front_natural(s);
+    if len == 0 {
+        return None;
+    }
+    if len < s.len() && s[len] == b'/' {
+        let Some((value, more)) = front_fraction(is_negative, top, &s[len + 1..]) else {
+            return None;
+        };
+        return Some((value, len + 1 + more));
+    }
+    Some((of_whole(with_sign(is_negative, u128::from(top))), len))
+}
+
 impl Frac {
+    /// The fraction that the bytes at the front spell, and how many they are, where it begins with
+    /// a digit or a minus, and neither part has more than 18 digits. What stands behind them isn't
+    /// looked at. `None` says nothing of the bytes.
+    #[inline(always)]
+    pub fn parse_front(s: &[u8]) -> Option<(Frac, usize)>
+        ensures within { IfSome result (λ r. (0 < r.1) × (r.1 ≤ length s.now)) }
+        ensures solid { IfSome result
+            (λ r. (k : ℕ) → k < r.1 → is_white (slice_index s.now k) ≡ false) }
+        ensures read { IfSome result (λ r. number_read (take r.1 s.now) ≡ Ok r.0) }
+    {
+        let is_negative = starts_negative(s);
+        let sign = usize::from(is_negative);
+        let Some((value, len)) = front_unsigned(is_negative, &s[sign..]) else {
+            return None;
+        };
+        Some((value, sign + len))
+    }
+
     /// The fraction that the bytes spell. Leading zeros and parts with a common divisor are taken.
     pub fn parse(b: &[u8]) -> Result<Frac, NumberError>
         ensures read { as_read result ≡ number_read b.now }

@@ -1,6 +1,6 @@
 //! The kinds of token: what each means, or the cause of its refusal.
 ghost use Rattle.std.specs.Prelude.{◌≡◌, ◌+◌, ◌^◌, ◌<◌, ◌≤◌, ℕ, Bool, Option, IfSome, min, length};
-ghost use Rattle.std.specs.Prelude.{slice_index_or, false, true};
+ghost use Rattle.std.specs.Prelude.{slice_index_or, false, true, take, Some};
 ghost use Rattle.std.specs.Option.{option_map};
 ghost use Rattle.vipr_spec.specs.Digits.{natural_of};
 ghost use Rattle.vipr_spec.specs.Fraction.{ℚ, IsBounded};
@@ -11,7 +11,7 @@ ghost use Rattle.vipr_spec.specs.Reading.{Rule as RuleMeant, most_count, at_most
 ghost use Rattle.vipr_spec.specs.Reading.{count_of, derivation_count_of, reference_of, last_of};
 ghost use Rattle.vipr_spec.specs.Reading.{word_of, rule_of, number_of, spelled_sense, variable_of};
 ghost use Rattle.vipr_spec.specs.Reading.{spelled_direction, has_range_of, bound_of};
-ghost use Rattle.vipr_scan.specs.Meaning.{Means};
+ghost use Rattle.vipr_scan.specs.Meaning.{Means, IsInFront};
 ghost use Rattle.vipr_linear.specs.Constraint.{sense_of as sense_seen};
 ghost use Rattle.vipr_cert.specs.Items.{direction_of as direction_seen};
 ghost use Rattle.vipr_read.specs.Rules.{rule_seen, objective_or_count_of};
@@ -19,9 +19,9 @@ ghost use Rattle.vipr_read.specs.Marks.{unmarked_of};
 
 use std::alloc::Global;
 use vipr_cert::{Goal, Name};
-use vipr_frac::{Frac, NumberError};
+use vipr_frac::{Frac, NumberError, front_natural};
 use vipr_linear::Sense;
-use vipr_scan::{TokenKind, Unfit, cause};
+use vipr_scan::{TokenKind, Unfit, cause, is_white};
 
 /// One more than the greatest count and index.
 const OVER: u64 = 4_294_967_296;
@@ -52,6 +52,39 @@ fn at_most(bytes: &[u8], most: u32, absent: u8, larger: u8) -> Result<u32, Unfit
         Some(n) if n <= u64::from(most) => Ok(n as u32),
         Some(_) => Err(Unfit::Cause(larger)),
     }
+}
+
+/// The number that a token of digits at the front writes, and how many they are, where that is
+/// seen at once.
+#[inline(always)]
+fn front_digits(bytes: &[u8]) -> Option<(u32, usize)>
+    ensures token { IfSome result (λ r. IsInFront bytes.now r.1) }
+    ensures value { IfSome result (λ r. natural_of (take r.1 bytes.now) ≡ Some r.0) }
+    ensures few { IfSome result (λ r. r.0 ≤ most_count) }
+{
+    let (n, len) = front_natural(bytes);
+    if 0 < len && len < bytes.len() && is_white(bytes[len]) && n < OVER {
+        Some((n as u32, len))
+    } else {
+        None
+    }
+}
+
+/// Whether the word is the token at the front, with white space behind it.
+#[inline(always)]
+fn stands(word: &[u8], bytes: &[u8]) -> bool
+    ensures token { result ≡ true → IsInFront bytes.now (length word.now) }
+    ensures word { result ≡ true → take (length word.now) bytes.now ≡ word.now }
+{
+    if word.is_empty() || bytes.len() <= word.len() {
+        return false;
+    }
+    for i in 0..word.len() {
+        if bytes[i] != word[i] || is_white(word[i]) {
+            return false;
+        }
+    }
+    is_white(bytes[word.len()])
 }
 
 /// A name.
@@ -92,6 +125,12 @@ impl TokenKind for Count {
     #[tactic(auto, unfolding(vipr_spec::specs::Reading::count_of))]
     fn read(&self, bytes: &[u8]) -> Result<u32, Unfit> {
         at_most(bytes, u32::MAX, cause::BAD_COUNT, cause::COUNT_TOO_LARGE)
+    }
+
+    #[tactic(auto, unfolding(vipr_spec::specs::Reading::count_of))]
+    #[inline(always)]
+    fn read_front(&self, bytes: &[u8]) -> Option<(u32, usize)> {
+        front_digits(bytes)
     }
 }
 
@@ -178,6 +217,17 @@ impl TokenKind for NewVariable<'_> {
             _ => Err(Unfit::Cause(cause::BAD_INDEX)),
         }
     }
+
+    #[tactic(auto, unfolding(vipr_spec::specs::Reading::variable_of))]
+    #[inline(always)]
+    fn read_front(&self, bytes: &[u8]) -> Option<(u32, usize)> {
+        match front_digits(bytes) {
+            Some((i, len)) if (i as usize) < self.marks.len() && !self.marks[i as usize] => {
+                Some((i, len))
+            }
+            _ => None,
+        }
+    }
 }
 
 /// A constraint's index.
@@ -197,6 +247,12 @@ impl TokenKind for Reference {
     #[tactic(auto, unfolding(vipr_spec::specs::Reading::reference_of))]
     fn read(&self, bytes: &[u8]) -> Result<u32, Unfit> {
         at_most(bytes, u32::MAX, cause::BAD_REFERENCE, cause::BAD_REFERENCE)
+    }
+
+    #[tactic(auto, unfolding(vipr_spec::specs::Reading::reference_of))]
+    #[inline(always)]
+    fn read_front(&self, bytes: &[u8]) -> Option<(u32, usize)> {
+        front_digits(bytes)
     }
 }
 
@@ -224,6 +280,15 @@ impl TokenKind for Last {
             Err(unfit) => Err(unfit),
         }
     }
+
+    #[tactic(auto, unfolding(vipr_spec::specs::Reading::last_of))]
+    #[inline(always)]
+    fn read_front(&self, bytes: &[u8]) -> Option<(Option<u32>, usize)> {
+        match front_digits(bytes) {
+            Some((i, len)) => Some((Some(i), len)),
+            None => None,
+        }
+    }
 }
 
 /// This word, or the cause.
@@ -244,6 +309,15 @@ impl TokenKind for Word<'_> {
             Ok(())
         } else {
             Err(Unfit::Cause(self.1))
+        }
+    }
+
+    #[inline(always)]
+    fn read_front(&self, bytes: &[u8]) -> Option<((), usize)> {
+        if stands(self.0, bytes) {
+            Some(((), self.0.len()))
+        } else {
+            None
         }
     }
 }
@@ -273,6 +347,17 @@ impl TokenKind for Number {
             Err(NumberError::ZeroDenominator) => Err(Unfit::Cause(cause::ZERO_DENOMINATOR)),
         }
     }
+
+    #[inline(always)]
+    fn read_front(&self, bytes: &[u8]) -> Option<(Frac, usize)> {
+        match Frac::parse_front(bytes) {
+            Some((number, len)) if len < bytes.len() && is_white(bytes[len]) => {
+                let _bounded = number.denom();
+                Some((number, len))
+            }
+            _ => None,
+        }
+    }
 }
 
 /// A sense.
@@ -297,6 +382,20 @@ impl TokenKind for SenseKind {
             Ok(Sense::G)
         } else {
             Err(Unfit::Cause(cause::BAD_SENSE))
+        }
+    }
+
+    #[tactic(auto, unfolding(vipr_spec::specs::Reading::spelled_sense))]
+    #[inline(always)]
+    fn read_front(&self, bytes: &[u8]) -> Option<(Sense, usize)> {
+        if stands(b"E", bytes) {
+            Some((Sense::E, 1))
+        } else if stands(b"L", bytes) {
+            Some((Sense::L, 1))
+        } else if stands(b"G", bytes) {
+            Some((Sense::G, 1))
+        } else {
+            None
         }
     }
 }
@@ -414,6 +513,22 @@ impl TokenKind for RuleKind {
             Err(Unfit::Cause(cause::BAD_REASON))
         }
     }
+
+    #[tactic(auto, unfolding(vipr_spec::specs::Reading::rule_of))]
+    #[inline(always)]
+    fn read_front(&self, bytes: &[u8]) -> Option<(Rule, usize)> {
+        if stands(b"lin", bytes) {
+            Some((Rule::Lin, 3))
+        } else if stands(b"rnd", bytes) {
+            Some((Rule::Rnd, 3))
+        } else if stands(b"uns", bytes) {
+            Some((Rule::Uns, 3))
+        } else if stands(b"asm", bytes) {
+            Some((Rule::Asm, 3))
+        } else {
+            None
+        }
+    }
 }
 
 /// The token `OBJ`, for which there is no count, or a count.
@@ -435,6 +550,14 @@ impl TokenKind for ObjectiveOrCount {
         match Count.read(bytes) {
             Ok(count) => Ok(Some(count)),
             Err(unfit) => Err(unfit),
+        }
+    }
+
+    #[inline(always)]
+    fn read_front(&self, bytes: &[u8]) -> Option<(Option<u32>, usize)> {
+        match front_digits(bytes) {
+            Some((i, len)) => Some((Some(i), len)),
+            None => None,
         }
     }
 }

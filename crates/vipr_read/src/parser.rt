@@ -60,6 +60,7 @@ impl<R: Source> Parser<R> {
     }
 
     /// The next token, which is of this kind.
+    #[inline(always)]
     pub(crate) fn take<K: TokenKind>(&mut self, kind: &K) -> Result<K::Value, Stop>
         ensures read { Parses K.view (taken (K.meaning kind.now)) self.old self.new result }
         ensures bounds { IfOk result (λ x. K.bounds kind.now x) }

@@ -10,6 +10,7 @@ use Rattle.vipr_scan.specs.Places.{tokens_in}
 use Rattle.vipr_spec.specs.Reading.{Rest}
 use Rattle.vipr_scan.specs.View.{prepend, left_of, Keeps, IsOver, next_answer, next_left}
 use Rattle.vipr_scan.specs.Giving.{rest_of}
+use Rattle.vipr_scan.specs.Meaning.{IsInFront}
 use Rattle.vipr_scan.specs.declared.place.Place.{Place}
 use Rattle.vipr_scan.specs.declared.place.Place.TheVariants.{Front, Comment, Past}
 use Rattle.vipr_spec.proofs.Laws.{token_cut, token_whole, token_long, run_from}
@@ -230,3 +231,30 @@ kept (Some l) new P keeps h = rw keeps at h
 pub told_holds : (o : Option Rest) (P : Rest → Type 0) → IfSome o P → IsSome o → P (rest_of o)
 told_holds None P h some = absurd (false≢true some)
 told_holds (Some l) P h some = h
+
+-- white space and a token behind it are taken
+passed : (source : Option Input) (o o' o'' : ℕ) (un un' : List ℕ) (gap len : ℕ) → gap ≤ length un →
+    ((fails : Bool) (offset : ℕ) (rest : List ℕ) → tokens_in Past fails offset (un ++ rest) ≡ tokens_in Past fails (offset + gap) (drop gap un ++ rest)) →
+    IsInFront (drop gap un) len → length un ≤ 65536 → o' ≡ min (o + gap) (2 ^ 64 - 1) → o'' ≡ min (o' + len) (2 ^ 64 - 1) → un' ≡ drop len (drop gap un) →
+    IfSome (left_at Past o un source) (λ l. (Ok (Some (record { bytes = take len (drop gap un); offset = o'; long = false })) ≡ next_answer l) × (left_at Past o'' un' source ≡ Some (next_left l)))
+passed source o o' o'' un un' gap len within same front short at behind cut =
+    let more : len < length (drop gap un) = front.within in
+    let size : length (drop gap un) ≡ length un - gap = length-drop gap un in
+    kept _ _ _ (gap_left source Past Past o o' un (drop gap un) gap within refl at same)
+    (token_left source o' o'' (drop gap un) un' len front.some (omega arith) (omega arith) front.solid (λ h. front.white) (λ e. absurd (omega arith)) cut behind)
+
+pub passed_answer : (source : Option Input) (o o' o'' : ℕ) (un un' : List ℕ) (gap len : ℕ) → gap ≤ length un →
+    ((fails : Bool) (offset : ℕ) (rest : List ℕ) → tokens_in Past fails offset (un ++ rest) ≡ tokens_in Past fails (offset + gap) (drop gap un ++ rest)) →
+    IsInFront (drop gap un) len → length un ≤ 65536 → o' ≡ min (o + gap) (2 ^ 64 - 1) → o'' ≡ min (o' + len) (2 ^ 64 - 1) → un' ≡ drop len (drop gap un) →
+    IfSome (left_at Past o un source) (λ l. Ok (Some (record { bytes = take len (drop gap un); offset = o'; long = false })) ≡ next_answer l)
+passed_answer source o o' o'' un un' gap len within same front short at behind cut =
+    some_weaker _ _ _ (λ (l : Rest) (p : (Ok (Some (record { bytes = take len (drop gap un); offset = o'; long = false })) ≡ next_answer l) × (left_at Past o'' un' source ≡ Some (next_left l))). p.0)
+    (passed source o o' o'' un un' gap len within same front short at behind cut)
+
+pub passed_left : (source : Option Input) (o o' o'' : ℕ) (un un' : List ℕ) (gap len : ℕ) → gap ≤ length un →
+    ((fails : Bool) (offset : ℕ) (rest : List ℕ) → tokens_in Past fails offset (un ++ rest) ≡ tokens_in Past fails (offset + gap) (drop gap un ++ rest)) →
+    IsInFront (drop gap un) len → length un ≤ 65536 → o' ≡ min (o + gap) (2 ^ 64 - 1) → o'' ≡ min (o' + len) (2 ^ 64 - 1) → un' ≡ drop len (drop gap un) →
+    IfSome (left_at Past o un source) (λ l. left_at Past o'' un' source ≡ Some (next_left l))
+passed_left source o o' o'' un un' gap len within same front short at behind cut =
+    some_weaker _ _ _ (λ (l : Rest) (p : (Ok (Some (record { bytes = take len (drop gap un); offset = o'; long = false })) ≡ next_answer l) × (left_at Past o'' un' source ≡ Some (next_left l))). p.1)
+    (passed source o o' o'' un un' gap len within same front short at behind cut)

@@ -1,6 +1,7 @@
 -- What a reader of tokens has left.
-use Rattle.std.specs.Prelude.{◌≡◌, ℕ, ◌+◌, ◌^◌, ◌<◌, nat_lt, Bool, true, false, List, [], ◌∷◌, ◌++◌}
-use Rattle.std.specs.Prelude.{length, take, drop, Option, Some, None, Result, Ok, Err, slice_range}
+use Rattle.std.specs.Prelude.{◌≡◌, ℕ, ◌+◌, ◌^◌, ◌<◌, ◌≤◌, nat_lt, Bool, true, false, List, [], ◌∷◌}
+use Rattle.std.specs.Prelude.{◌++◌, length, take, drop, Option, Some, None, Result, Ok, Err}
+use Rattle.std.specs.Prelude.{slice_range}
 use Rattle.std.specs.Prelude.{slice_index, IfSome, if◌then◌else◌, option_and_then}
 use Rattle.std.specs.Option.{option_map}
 use Rattle.vipr_spec.specs.Input.{Input}
@@ -101,3 +102,11 @@ stops (Err e) = true
 -- a token that was found in the buffer
 abbrev pub found_token : List ℕ → Found → Token
 found_token buf f = record { bytes = slice_range buf f.start (f.start + f.len); offset = f.offset }
+
+-- the first n of the bytes not yet taken are white space before a token or the end
+pub record IsGap {R : Type 0} (t : Window R) (n : ℕ) : Type 0 where
+  pub place : t.place ≡ Past
+  pub within : n ≤ length (unread t)
+  pub tokens : (fails : Bool) (offset : ℕ) (rest : List ℕ) →
+      tokens_in Past fails offset (unread t ++ rest)
+      ≡ tokens_in Past fails (offset + n) (drop n (unread t) ++ rest)

@@ -1,6 +1,6 @@
-ghost use Rattle.std.specs.Prelude.{ℕ, List, Result, IfOk, ⊤};
+ghost use Rattle.std.specs.Prelude.{◌≡◌, ℕ, List, take, Result, Ok, IfOk, IfSome, ⊤};
 ghost use Rattle.vipr_spec.specs.Tokens.{IsToken};
-ghost use Rattle.vipr_scan.specs.Meaning.{Means};
+ghost use Rattle.vipr_scan.specs.Meaning.{Means, IsInFront};
 
 use std::alloc::AllocError;
 
@@ -42,4 +42,16 @@ pub trait TokenKind {
         requires { IsToken bytes.now }
         ensures meaning { Means view result (meaning self.now bytes.now) }
         ensures bounds { IfOk result (λ x. bounds self.now x) };
+
+    /// What the token at the front means, and its length, where it can be read at once and white
+    /// space stands behind it. `None` says nothing of the bytes.
+    #[inline(always)]
+    fn read_front(&self, _bytes: &[u8]) -> Option<(Self::Value, usize)>
+        ensures token { IfSome result (λ r. IsInFront _bytes.now r.1) }
+        ensures meaning { IfSome result
+            (λ r. meaning self.now (take r.1 _bytes.now) ≡ Ok (view r.0)) }
+        ensures front_bounds { IfSome result (λ r. bounds self.now r.0) }
+    {
+        None
+    }
 }

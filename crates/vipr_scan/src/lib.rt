@@ -13,6 +13,7 @@ mod tests;
 mod tokens;
 mod window;
 
+pub use bytes::is_white;
 pub use error::{Stop, TextError};
 pub use kind::{TokenKind, Unfit};
 pub use scanner::Scanner;

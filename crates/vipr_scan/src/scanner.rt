@@ -40,7 +40,23 @@ impl<R: Source> Scanner<R> {
     }
 
     /// The next token, which is of this kind. A token that the kind refuses is taken too.
+    #[inline(always)]
     pub fn take<K: TokenKind>(&mut self, kind: &K) -> Result<K::Value, Stop>
+        ensures read { Scans K.view (taken (K.meaning kind.now)) self.old self.new result }
+        ensures behind { IsBehind self.old self.new }
+        ensures bounds { IfOk result (λ x. K.bounds kind.now x) }
+    {
+        let (gap, bytes) = self.window.at_hand();
+        if let Some((value, len)) = kind.read_front(bytes) {
+            self.window.pass(gap, len);
+            return Ok(value);
+        }
+        self.take_whole(kind)
+    }
+
+    /// The same, where the kind doesn't read it at once.
+    #[inline(never)]
+    fn take_whole<K: TokenKind>(&mut self, kind: &K) -> Result<K::Value, Stop>
         ensures read { Scans K.view (taken (K.meaning kind.now)) self.old self.new result }
         ensures behind { IsBehind self.old self.new }
         ensures bounds { IfOk result (λ x. K.bounds kind.now x) }

@@ -10,7 +10,7 @@ use crate::bytes::{is_white, run_end};
 use crate::cause;
 use crate::error::Stop;
 use crate::piece::{move_to_front, read_behind};
-use crate::place::{Place, gap};
+use crate::place::{Place, gap, white};
 use std::alloc::{AllocError, Global};
 use vipr_bytes::{Failed, Source};
 
@@ -45,6 +45,8 @@ impl<R: Source> Window<R> {
     ghost use Rattle.vipr_scan.specs.View.{unread, input_left, left, rounds, Keeps, IsOver};
     ghost use Rattle.vipr_scan.specs.View.{IsAtToken, seen_found, next_answer, next_left, seen};
     ghost use Rattle.vipr_scan.specs.View.{stops, found_token};
+    ghost use Rattle.vipr_scan.specs.View.{IsGap};
+    ghost use Rattle.vipr_scan.specs.Meaning.{IsInFront};
     ghost use Rattle.vipr_scan.specs.Giving.{Scans, Ends, IsBehind};
     ghost use Rattle.vipr_spec.specs.Reading.{token_read, end_read};
 
@@ -68,6 +70,7 @@ impl<R: Source> Window<R> {
     }
 
     /// Moves the unread bytes to the front of the buffer, and reads behind them.
+    #[inline(never)]
     fn fill(&mut self) -> Result<(), Failed>
         requires room { length (unread self.old) < 65536 }
         requires more { self.old.ended ≡ false }
@@ -111,6 +114,45 @@ impl<R: Source> Window<R> {
         self.start += n;
         self.offset = self.offset.saturating_add(n as u64);
         self.place = place;
+    }
+
+    /// How much white space is at hand, and the bytes at hand behind it; none at the front of the
+    /// text.
+    #[inline(always)]
+    pub(crate) fn at_hand(&self) -> (usize, &[u8])
+        ensures gap { 0 < length result.1.now → IsGap self.now result.0 }
+        ensures bytes { 0 < length result.1.now →
+            result.1.now ≡ drop result.0 (unread self.now) }
+    {
+        if self.place != Place::Past {
+            return (0, b"");
+        }
+        let bytes = &self.buf[self.start..self.end];
+        let n = white(bytes);
+        (n, &bytes[n..])
+    }
+
+    /// Takes white space and the token behind it, of that many bytes.
+    #[inline(always)]
+    pub(crate) fn pass(&mut self, gap: usize, len: usize) -> Found
+        requires gap { IsGap self.old gap }
+        requires token { IsInFront (drop gap (unread self.old)) len }
+        ensures read { Scans (found_token self.new.buf.value) token_read
+            (left R.input self.old) (left R.input self.new) (Ok result) }
+        ensures bytes { slice_range self.new.buf.value result.start (result.start + result.len)
+            ≡ take len (drop gap (unread self.old)) }
+        ensures within { result.start + result.len ≤ 65536 }
+    {
+        let start = self.start + gap;
+        let offset = self.offset.saturating_add(gap as u64);
+        self.start = start + len;
+        self.offset = offset.saturating_add(len as u64);
+        Found {
+            start,
+            len,
+            offset,
+            long: false,
+        }
     }
 
     /// Goes to the next token. At the end no byte is left.
@@ -215,6 +257,26 @@ impl<R: Source> Window<R> {
     /// Takes the token that is wanted here.
     #[tactic(auto, unfolding(vipr_spec::specs::Reading::first_token))]
     pub(crate) fn want(&mut self) -> Result<Found, Stop>
+        ensures read { Scans (found_token self.new.buf.value) token_read
+            (left R.input self.old) (left R.input self.new) result }
+        ensures behind { IsBehind (left R.input self.old) (left R.input self.new) }
+        ensures within { IfOk result (λ f. f.start + f.len ≤ 65536) }
+        ensures token { IfOk result
+            (λ f. IsToken (slice_range self.new.buf.value f.start (f.start + f.len))) }
+        ensures error { IfErr result (λ e. e ≢ Stop.Memory) }
+    {
+        let (gap, bytes) = self.at_hand();
+        let len = run_end(bytes, 0);
+        if 0 < len && len < bytes.len() {
+            return Ok(self.pass(gap, len));
+        }
+        self.want_slowly()
+    }
+
+    /// The same, where it may not be at hand.
+    #[inline(never)]
+    #[tactic(auto, unfolding(vipr_spec::specs::Reading::first_token))]
+    fn want_slowly(&mut self) -> Result<Found, Stop>
         ensures read { Scans (found_token self.new.buf.value) token_read
             (left R.input self.old) (left R.input self.new) result }
         ensures behind { IsBehind (left R.input self.old) (left R.input self.new) }

@@ -1,6 +1,6 @@
 use Rattle.vipr_scan.specs.View.{seen_found, left}
 use Rattle.vipr_scan.proofs.Wanted.{short_known}
-use Rattle.vipr_scan.proofs.window.Window.want.Goals as goal
+use Rattle.vipr_scan.proofs.window.Window.want_slowly.Goals as goal
 
 pub returns-clause-read : goal.returns-clause-read
 returns-clause-read g c =

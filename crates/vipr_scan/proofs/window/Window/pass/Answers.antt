@@ -1,0 +1,42 @@
+use Rattle.std.proofs.Common.{◌≡◌, ℕ, ◌+◌, ◌-◌, ◌<◌, ◌≤◌, List, false, length, drop, take, refl, ap, ◌∙◌, arith, slice_range}
+use Rattle.std.proofs.lemmas.List.{length-drop}
+use Rattle.vipr_scan.specs.View.{unread, source_left, seen_found}
+use Rattle.vipr_scan.specs.declared.window.Found.{Found}
+use Rattle.vipr_scan.proofs.State.{narrowed, part_front, part_short, passed_answer, passed_left}
+use Rattle.vipr_scan.proofs.Wanted.{short_known}
+use Rattle.vipr_scan.proofs.window.Window.pass.Goals as goal
+
+-- the token's place in the buffer
+placed : (buf : List ℕ) (start end gap len : ℕ) → gap ≤ length (slice_range buf start end) → len < length (drop gap (slice_range buf start end)) →
+    slice_range buf (start + gap) (start + gap + len) ≡ take len (drop gap (slice_range buf start end))
+placed buf start end gap len within more =
+    let short : length (slice_range buf start end) ≤ end - start = part_short buf start end in
+    let size : length (drop gap (slice_range buf start end)) ≡ length (slice_range buf start end) - gap = length-drop gap (slice_range buf start end) in
+    part_front buf (start + gap) end len (omega arith) ∙ ap (take len) (narrowed buf start end gap (omega arith))
+
+-- what is left behind it
+cut : (buf : List ℕ) (start end gap len : ℕ) → gap ≤ length (slice_range buf start end) → len < length (drop gap (slice_range buf start end)) →
+    slice_range buf (start + gap + len) end ≡ drop len (drop gap (slice_range buf start end))
+cut buf start end gap len within more =
+    let short : length (slice_range buf start end) ≤ end - start = part_short buf start end in
+    let size : length (drop gap (slice_range buf start end)) ≡ length (slice_range buf start end) - gap = length-drop gap (slice_range buf start end) in
+    narrowed buf (start + gap) end len (omega arith) ∙ ap (drop len) (narrowed buf start end gap (omega arith))
+
+pub returns-clause-bytes : goal.returns-clause-bytes
+returns-clause-bytes g c = placed c.args.self.now.buf.value c.args.self.now.start c.args.self.now.end c.args.gap c.args.len c.requires.gap.within c.requires.token.within
+
+pub returns-clause-read : goal.returns-clause-read
+returns-clause-read g c =
+    let buf = c.args.self.now.buf.value in
+    let start : ℕ = c.args.self.now.start in
+    let end : ℕ = c.args.self.now.end in
+    let short : length (slice_range buf start end) ≤ end - start = part_short buf start end in
+    let found : Found = record { start = start + c.args.gap; len = c.args.len; offset = c.saturating_add-offset.result; long = false } in
+    let behind = cut buf start end c.args.gap c.args.len c.requires.gap.within c.requires.token.within in
+    let source = source_left g.R.Source.input c.args.self.now in
+    rw c.requires.gap.place (short_known _ _ (seen_found buf found)
+    (rw (placed buf start end c.args.gap c.args.len c.requires.gap.within c.requires.token.within)
+    (passed_answer source c.args.self.now.offset c.saturating_add-offset.result c.saturating_add-self.result (unread c.args.self.now) _ c.args.gap c.args.len
+    c.requires.gap.within c.requires.gap.tokens c.requires.token (omega arith) c.saturating_add-offset.ensures c.saturating_add-self.ensures behind)) refl
+    (passed_left source c.args.self.now.offset c.saturating_add-offset.result c.saturating_add-self.result (unread c.args.self.now) _ c.args.gap c.args.len
+    c.requires.gap.within c.requires.gap.tokens c.requires.token (omega arith) c.saturating_add-offset.ensures c.saturating_add-self.ensures behind))
