@@ -78,3 +78,37 @@ union_none s = sym (same_numbers _ _ (λ q. contains-union nat_cmp_total s empty
 
 pub remove_none : (k : ℕ) → empty ≡ remove {R = nat_cmp} empty k
 remove_none k = sym (same_numbers _ _ (λ q. contains-remove nat_cmp_total empty k q ∙ ap (λ b. not (eq_by_cmp nat_cmp q k) && b) (contains-empty nat_cmp q) ∙ and_false _ ∙ sym (contains-empty nat_cmp q)))
+
+-- nothing is added by what a set has already
+or_part : (a b : Bool) → (b ≡ true → a ≡ true) → a ≡ (a || b)
+or_part true b h = refl
+or_part false true h = absurd (let e = h refl in cc)
+or_part false false h = refl
+
+part_or : (a b : Bool) → (a ≡ true → b ≡ true) → b ≡ (a || b)
+part_or true true h = refl
+part_or true false h = absurd (let e = h refl in cc)
+part_or false b h = refl
+
+pub with_part : (xs ys : List ℕ) → ((q : ℕ) → has ys q ≡ true → has xs q ≡ true) → from_list {R = nat_cmp} xs ≡ union (from_list xs) (from_list ys)
+with_part xs ys within = same_numbers _ _ (λ q.
+    contains-from_list_nat xs q ∙ or_part (has xs q) (has ys q) (within q)
+    ∙ (λ t. sym (contains-from_list_nat xs q) t || sym (contains-from_list_nat ys q) t)
+    ∙ sym (contains-union nat_cmp_total (from_list xs) (from_list ys) q))
+
+pub part_with : (xs ys : List ℕ) → ((q : ℕ) → has xs q ≡ true → has ys q ≡ true) → from_list {R = nat_cmp} ys ≡ union (from_list xs) (from_list ys)
+part_with xs ys within = same_numbers _ _ (λ q.
+    contains-from_list_nat ys q ∙ part_or (has xs q) (has ys q) (within q)
+    ∙ (λ t. sym (contains-from_list_nat xs q) t || sym (contains-from_list_nat ys q) t)
+    ∙ sym (contains-union nat_cmp_total (from_list xs) (from_list ys) q))
+
+-- nothing is taken out by what a set doesn't have
+pub remove_absent : (s : FinSet nat_cmp) (k : ℕ) → contains s k ≡ false → s ≡ remove s k
+remove_absent s k absent = sym (same_numbers _ _ (λ q. contains-remove nat_cmp_total s k q ∙ ap (λ b. not b && contains s q) (sym (tied_numbers q k)) ∙ by q (nat_eq q k) refl))
+  where
+    same : (q : ℕ) → nat_eq q k ≡ true → q ≡ k
+    same q e = grind (arith, nat_tests)
+
+    by : (q : ℕ) (b : Bool) → nat_eq q k ≡ b → (not b && contains s q) ≡ contains s q
+    by q true e = sym absent ∙ ap (contains s) (sym (same q e))
+    by q false e = refl

@@ -1,42 +1,59 @@
 //! The assumptions that a derived constraint rests on.
+mod held;
 mod merge;
+mod union;
 
-ghost use Rattle.std.specs.Prelude.{◌≡◌, ◌↔◌, IfOk, IsTrue};
+ghost use Rattle.std.specs.Prelude.{◌≡◌, ◌↔◌, IfOk, IsTrue, length};
 ghost use Rattle.std.specs.FinSet as set;
 
-use crate::assumptions::merge::{all_but, join};
+use crate::assumptions::held::Held;
+use crate::assumptions::merge::{all_but, has_all, merge};
+pub(crate) use crate::assumptions::union::Union;
 use std::alloc::{AllocError, Global};
 use std::marker::Model;
 
-/// A set of the constraint indices of assumptions.
+/// A set of the constraint indices of assumptions. Its clones share the indices.
 #[derive(Debug, Drop)]
 pub struct Assumptions {
     // each index once, in rising order
-    items: Vec<u32>,
+    held: Held,
 }
 
 impl Model for Assumptions {
     ghost use Rattle.std.specs.Ordering.{nat_cmp};
     ghost use Rattle.std.specs.FinSet as set;
     ghost use Rattle.std.specs.Coded.{coded_ℕ};
+    ghost use Rattle.vipr_rules.specs.Held.{held_items};
     ghost use Rattle.vipr_rules.specs.Rising.{IsRising};
 
     ghost Value = { set.FinSet nat_cmp };
 
     ghost coded = { set.code coded_ℕ };
 
-    ghost view = { λ a. set.from_list a.items.items };
+    ghost view = { λ a. set.from_list (held_items a.held) };
 
-    ghost invariant = { λ a. IsRising a.items.items };
+    ghost invariant = { λ a. IsRising (held_items a.held) };
+}
+
+impl Clone for Assumptions {
+    ghost use Rattle.std.specs.Prelude.{◌≡◌};
+
+    ghost is_clone = { λ a copy. copy ≡ a };
+
+    fn clone(&self) -> Result<Assumptions, AllocError> {
+        Ok(Assumptions {
+            held: self.held.copied()?,
+        })
+    }
 }
 
 impl Assumptions {
     /// The set of no index. Takes no memory.
-    pub fn empty(alloc: Global) -> Self
+    pub fn empty(_alloc: Global) -> Self
         ensures { result ≡ set.empty }
     {
         Assumptions {
-            items: Vec::new(alloc),
+            held: Held::Nothing,
         }
     }
 
@@ -45,26 +62,26 @@ impl Assumptions {
     /// # Errors
     ///
     /// Where the growth is refused.
-    pub fn single(alloc: Global, index: u32) -> Result<Self, AllocError>
+    pub fn single(_alloc: Global, index: u32) -> Result<Self, AllocError>
         ensures { IfOk result (λ s. s ≡ set.insert set.empty index) }
     {
-        let mut items = Vec::new(alloc);
-        items.push(index)?;
-        Ok(Assumptions { items })
+        Ok(Assumptions {
+            held: Held::One(index),
+        })
     }
 
     /// Whether no index is in the set.
     pub fn is_empty(&self) -> bool
         ensures { IsTrue result ↔ (self.now ≡ set.empty) }
     {
-        self.items.as_slice().is_empty()
+        self.held.as_slice().is_empty()
     }
 
     /// Whether an index is in the set.
     pub fn contains(&self, index: u32) -> bool
         ensures { result ≡ set.contains self.now index }
     {
-        self.items.binary_search(&index).is_ok()
+        self.held.as_slice().binary_search(&index).is_ok()
     }
 
     /// The set of the indices of both.
@@ -75,8 +92,17 @@ impl Assumptions {
     pub fn union(&self, alloc: Global, other: &Assumptions) -> Result<Self, AllocError>
         ensures { IfOk result (λ s. s ≡ set.union self.now other.now) }
     {
-        let items = join(alloc, self.items.as_slice(), other.items.as_slice())?;
-        Ok(Assumptions { items })
+        let (ours, theirs) = (self.held.as_slice(), other.held.as_slice());
+        if has_all(ours, theirs) {
+            return self.clone();
+        }
+        if has_all(theirs, ours) {
+            return other.clone();
+        }
+        let items = merge(alloc, ours, theirs)?;
+        Ok(Assumptions {
+            held: Held::of(alloc, items)?,
+        })
     }
 
     /// The set of all indices but one.
@@ -87,7 +113,17 @@ impl Assumptions {
     pub fn without(&self, alloc: Global, index: u32) -> Result<Self, AllocError>
         ensures { IfOk result (λ s. s ≡ set.remove self.now index) }
     {
-        let items = all_but(alloc, self.items.as_slice(), index)?;
-        Ok(Assumptions { items })
+        if !self.contains(index) {
+            return self.clone();
+        }
+        let items = all_but(alloc, self.held.as_slice(), index)?;
+        Ok(Assumptions {
+            held: Held::of(alloc, items)?,
+        })
+    }
+
+    // How many indices are in the set.
+    fn len(&self) -> usize {
+        self.held.as_slice().len()
     }
 }

@@ -1,39 +1,36 @@
 //! Unions and removals on lists of numbers in rising order.
 
-ghost use Rattle.std.specs.Prelude.{◌≡◌, not, nat_eq, filter, IfOk};
-ghost use Rattle.vipr_rules.specs.Rising.{IsRising, IsUnion};
+ghost use Rattle.std.specs.Prelude.{◌≡◌, ℕ, true, not, nat_eq, filter, IfOk};
+ghost use Rattle.vipr_rules.specs.Rising.{IsRising, IsUnion, has};
 
 use std::alloc::{AllocError, Global};
 
-/// The items of two rising lists, each once, in order. One list is copied where the other adds
-/// nothing to it.
-pub(crate) fn join(alloc: Global, xs: &[u32], ys: &[u32]) -> Result<Vec<u32>, AllocError>
+/// Whether each item of `ys`, too, stands in `xs`.
+pub(crate) fn has_all(xs: &[u32], ys: &[u32]) -> bool
+    ensures { result ≡ true → (q : ℕ) → has ys.now q ≡ true → has xs.now q ≡ true }
+{
+    if xs.len() < ys.len() {
+        return false;
+    }
+    let mut i = 0;
+    for y in ys {
+        while i < xs.len() && xs[i] < *y {
+            i += 1;
+        }
+        if i == xs.len() || xs[i] != *y {
+            return false;
+        }
+    }
+    true
+}
+
+/// The items of two rising lists, each once, in order.
+pub(crate) fn merge(alloc: Global, xs: &[u32], ys: &[u32]) -> Result<Vec<u32>, AllocError>
     requires left { IsRising xs.now }
     requires right { IsRising ys.now }
     ensures { IfOk result (λ v. IsUnion xs.now ys.now v.items) }
 {
-    if xs.is_empty() {
-        return copy(alloc, ys);
-    }
-    if ys.is_empty() || xs == ys {
-        return copy(alloc, xs);
-    }
-    merge(alloc, xs, ys)
-}
-
-fn copy(alloc: Global, xs: &[u32]) -> Result<Vec<u32>, AllocError>
-    ensures { IfOk result (λ v. v.items ≡ xs.now) }
-{
-    xs.to_vec(alloc)
-}
-
-// The same, item by item.
-fn merge(alloc: Global, xs: &[u32], ys: &[u32]) -> Result<Vec<u32>, AllocError>
-    requires left { IsRising xs.now }
-    requires right { IsRising ys.now }
-    ensures { IfOk result (λ v. IsUnion xs.now ys.now v.items) }
-{
-    let mut all = Vec::new(alloc);
+    let mut all = Vec::with_capacity(alloc, xs.len() + ys.len())?;
     let mut i = 0;
     let mut j = 0;
     while i < xs.len() && j < ys.len() {
@@ -51,5 +48,7 @@ fn merge(alloc: Global, xs: &[u32], ys: &[u32]) -> Result<Vec<u32>, AllocError>
 pub(crate) fn all_but(alloc: Global, xs: &[u32], index: u32) -> Result<Vec<u32>, AllocError>
     ensures { IfOk result (λ v. v.items ≡ filter (λ x. not (nat_eq x index)) xs.now) }
 {
-    xs.iter().copied().filter(|x| *x != index).collect(alloc)
+    let mut items = xs.to_vec(alloc)?;
+    items.retain(|x| *x != index);
+    Ok(items)
 }
