@@ -1,6 +1,6 @@
 -- What is known of a constraint by its index.
-use Rattle.std.proofs.Common.{◌≡◌, ℕ, zero, suc, ◌<◌, ◌≤◌, true, ◌&&◌, ◌||◌, nat_lt, nat_le, List, [], ◌∷◌, ◌++◌, length, map, get_or, slice_index_or, Option, Some, None, is_some, Bor, refl, sym, ap, ap₂, ◌∙◌, arith}
-use Rattle.std.specs.Prelude.{IsTrue}
+use Rattle.std.proofs.Common.{◌≡◌, ℕ, zero, suc, ◌<◌, ◌≤◌, Bool, true, false, ◌&&◌, ◌||◌, nat_lt, nat_le, List, [], ◌∷◌, ◌++◌, length, map, get_or, slice_index_or, Option, Some, None, is_some, Bor, refl, sym, ap, ap₂, ◌∙◌, subst, arith}
+use Rattle.std.specs.Prelude.{◌↔◌, IsTrue, option_copied}
 use Rattle.std.specs.FinSet as set
 use Rattle.std.specs.Ordering.{nat_cmp}
 use Rattle.std.proofs.lemmas.Bool.Decides.{nat_tests}
@@ -8,7 +8,7 @@ use Rattle.std.proofs.lemmas.Simd.{map-map}
 use Rattle.std.proofs.lemmas.List.{length-map}
 use Rattle.vipr_spec.specs.Constraint.{Profile, condition}
 use Rattle.vipr_spec.specs.Steps.{earlier, live, index}
-use Rattle.vipr_spec.specs.Certificate.{Certificate, Derivation, last_at, is_assumption, lasts_to, is_live, count}
+use Rattle.vipr_spec.specs.Certificate.{Certificate, Derivation, constraint_at, reason_at, last_at, is_assumption, lasts_to, is_live, count}
 use Rattle.vipr_spec.proofs.Laws.{reason_given, constraints_listed, lasts_listed, rests_given}
 use Rattle.vipr_linear.specs.Constraint.{constraint_of, condition_of}
 use Rattle.vipr_linear.specs.declared.constraint.Constraint.{Constraint}

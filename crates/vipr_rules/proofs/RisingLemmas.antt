@@ -265,3 +265,26 @@ pointwise-same (x ∷ xs) (y ∷ ys) h = both (nat_eq x y) (pointwise nat_eq xs 
     both true true e f rest g = ap₂ (λ n ns. n ∷ ns) (same e) (rest f)
     both true false e f rest g = absurd (cc)
     both false d e f rest g = absurd (cc)
+
+or_turned : (a b : Bool) → (a || b) ≡ (b || a)
+or_turned true true = refl
+or_turned true false = refl
+or_turned false true = refl
+or_turned false false = refl
+
+-- two lists, where the last item of one is below the first of the other
+all_below : (low high i : ℕ) (xs : List ℕ) (y : ℕ) (ys : List ℕ) → i + 1 ≡ length xs → get_or xs i 0 < y → RisesWithin low high xs → RisesWithin 0 high (y ∷ ys) → RisesWithin low high (xs ++ y ∷ ys)
+all_below low high i [] y ys e lt r s = absurd (omega arith)
+all_below low high zero (x ∷ []) y ys e lt r s = (r.0, r.1, (omega arith, s.1, s.2))
+all_below low high zero (x ∷ z ∷ xs) y ys e lt r s = absurd (omega arith)
+all_below low high (suc i) (x ∷ xs) y ys e lt r s = (r.0, r.1, all_below (x + 1) high i xs y ys (omega arith) lt r.2 s)
+
+pub below_joined : (xs ys : List ℕ) → IsRising xs → IsRising ys → 0 < length xs → 0 < length ys → get_or xs (length xs - 1) 0 < get_or ys 0 0 → IsRising (xs ++ ys)
+below_joined xs [] r s h k lt = absurd (omega arith)
+below_joined xs (y ∷ ys) r s h k lt = all_below 0 (2 ^ 32) (length xs - 1) xs y ys (omega arith) lt r s
+
+pub joined_in_order : (xs ys : List ℕ) → IsRising (xs ++ ys) → IsUnion xs ys (xs ++ ys)
+joined_in_order xs ys r = record { rising = r; members = λ q. list_any-append (λ n. nat_eq n q) xs ys }
+
+pub joined_turned : (xs ys : List ℕ) → IsRising (ys ++ xs) → IsUnion xs ys (ys ++ xs)
+joined_turned xs ys r = record { rising = r; members = λ q. list_any-append (λ n. nat_eq n q) ys xs ∙ or_turned (has ys q) (has xs q) }

@@ -7,7 +7,7 @@ ghost use Rattle.std.specs.Prelude.{◌≡◌, ◌↔◌, IfOk, IsTrue, length};
 ghost use Rattle.std.specs.FinSet as set;
 
 use crate::assumptions::held::Held;
-use crate::assumptions::merge::{all_but, has_all, merge};
+use crate::assumptions::merge::{all_but, has_all, join};
 pub(crate) use crate::assumptions::union::Union;
 use std::alloc::{AllocError, Global};
 use std::marker::Model;
@@ -99,7 +99,7 @@ impl Assumptions {
         if has_all(theirs, ours) {
             return other.clone();
         }
-        let items = merge(alloc, ours, theirs)?;
+        let items = join(alloc, ours, theirs)?;
         Ok(Assumptions {
             held: Held::of(alloc, items)?,
         })

@@ -1,6 +1,6 @@
 //! Unions and removals on lists of numbers in rising order.
 
-ghost use Rattle.std.specs.Prelude.{◌≡◌, ℕ, true, not, nat_eq, filter, IfOk};
+ghost use Rattle.std.specs.Prelude.{◌≡◌, ◌++◌, ℕ, true, not, nat_eq, filter, IfOk};
 ghost use Rattle.vipr_rules.specs.Rising.{IsRising, IsUnion, has};
 
 use std::alloc::{AllocError, Global};
@@ -9,7 +9,7 @@ use std::alloc::{AllocError, Global};
 pub(crate) fn has_all(xs: &[u32], ys: &[u32]) -> bool
     ensures { result ≡ true → (q : ℕ) → has ys.now q ≡ true → has xs.now q ≡ true }
 {
-    if xs.len() < ys.len() {
+    if xs.len() < ys.len() || xs.last() < ys.last() {
         return false;
     }
     let mut i = 0;
@@ -25,7 +25,43 @@ pub(crate) fn has_all(xs: &[u32], ys: &[u32]) -> bool
 }
 
 /// The items of two rising lists, each once, in order.
-pub(crate) fn merge(alloc: Global, xs: &[u32], ys: &[u32]) -> Result<Vec<u32>, AllocError>
+pub(crate) fn join(alloc: Global, xs: &[u32], ys: &[u32]) -> Result<Vec<u32>, AllocError>
+    requires left { IsRising xs.now }
+    requires right { IsRising ys.now }
+    ensures { IfOk result (λ v. IsUnion xs.now ys.now v.items) }
+{
+    if is_below(xs, ys) {
+        return concat(alloc, xs, ys);
+    }
+    if is_below(ys, xs) {
+        return concat(alloc, ys, xs);
+    }
+    merge(alloc, xs, ys)
+}
+
+// Whether all items of one rising list come before those of another. Neither is empty then.
+fn is_below(xs: &[u32], ys: &[u32]) -> bool
+    requires left { IsRising xs.now }
+    requires right { IsRising ys.now }
+    ensures { result ≡ true → IsRising (xs.now ++ ys.now) }
+{
+    if xs.is_empty() || ys.is_empty() {
+        return false;
+    }
+    xs[xs.len() - 1] < ys[0]
+}
+
+fn concat(alloc: Global, xs: &[u32], ys: &[u32]) -> Result<Vec<u32>, AllocError>
+    ensures { IfOk result (λ v. v.items ≡ xs.now ++ ys.now) }
+{
+    let mut all = Vec::with_capacity(alloc, xs.len() + ys.len())?;
+    all.extend_from_slice(xs)?;
+    all.extend_from_slice(ys)?;
+    Ok(all)
+}
+
+// The same as `join`, item by item.
+fn merge(alloc: Global, xs: &[u32], ys: &[u32]) -> Result<Vec<u32>, AllocError>
     requires left { IsRising xs.now }
     requires right { IsRising ys.now }
     ensures { IfOk result (λ v. IsUnion xs.now ys.now v.items) }

@@ -36,6 +36,9 @@ impl Union {
     pub(crate) fn add(&mut self, alloc: Global, more: &Assumptions) -> Result<(), AllocError>
         ensures { OnOk result (gathered self.new ≡ set.union (gathered self.old) more.now) }
     {
+        if more.is_empty() {
+            return Ok(());
+        }
         if is_near(self.last.len(), more.len()) {
             self.last = self.last.union(alloc, more)?;
         } else {

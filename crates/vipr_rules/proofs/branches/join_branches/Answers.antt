@@ -3,6 +3,7 @@ use Rattle.std.proofs.lemmas.Result.{err_from_is_err_and}
 use Rattle.vipr_spec.specs.Constraint.{Dominates, IsSplit}
 use Rattle.vipr_spec.specs.Certificate.{Problem}
 use Rattle.vipr_linear.specs.Constraint.{condition_of}
+use Rattle.vipr_rules.specs.Context.{row_found}
 use Rattle.vipr_rules.specs.Profile.{profile_of}
 use Rattle.vipr_rules.proofs.BranchLemmas.{constraint_passes, constraint_stops, joined_set, stops_1, stops_2, stops_3, stops_4, stops_5, stops_6, stops_7, stops_8, stops_9, free_pass, all_pass}
 use Rattle.vipr_rules.proofs.SoundLemmas.{branches_true}

@@ -2,6 +2,7 @@ use Rattle.std.proofs.Common.{◌≡◌, ◌∙◌, ◌++◌, ◌∷◌, [], ap,
 use Rattle.std.proofs.lemmas.Result.{MatchResult-weaker}
 use Rattle.std.specs.FinSet.{union}
 use Rattle.vipr_rules.specs.Unions.{union_of_all, gathered}
+use Rattle.vipr_rules.proofs.SetLemmas.{union_none}
 use Rattle.vipr_rules.proofs.UnionsLemmas.{union_assoc, one_put}
 use Rattle.vipr_rules.proofs.assumptions.union.Union.add.Goals as goal
 use Rattle.vipr_rules.proofs.assumptions.union.Union.add.Goals.{then-is_near+in_ok-self+in-Many-1, then-is_near+in_ok-self+in-Nothing-1, else-is_near+in_ok-clone+in_ok-push}
@@ -20,3 +21,8 @@ returns c =
           ∙ one_put old.below.items old.last more
     ] in
     MatchResult-weaker c.settle.result c.settle.ensures (λ _ e. e ∙ step) (λ _ _. tt)
+
+pub returns-then-is_empty : goal.returns-then-is_empty
+returns-then-is_empty c =
+    let all = gathered c.args.self.now in
+    union_none all ∙ ap (union all) (sym (c.is_empty.ensures.0 c.if-is_empty.true))
