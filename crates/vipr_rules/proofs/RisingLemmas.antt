@@ -1,9 +1,8 @@
 -- Lists that rise: what a push, a join, a filter and a step of a merge leave.
-use Rattle.std.proofs.Common.{◌≡◌, ℕ, zero, suc, ◌+◌, ◌-◌, ◌<◌, ◌≤◌, ◌^◌, Bool, true, false, not, cond, ◌||◌, ◌&&◌, min, nat_eq, List, [], ◌∷◌, ◌++◌, length, drop, take, get_or, filter, refl, sym, ap, ◌∙◌, subst, ap₂, arith, add-zero, add-one, drop-cons, lit≤, length-drop, ◌⊎◌, inl, inr}
+use Rattle.std.proofs.Common.{◌≡◌, ℕ, zero, suc, ◌+◌, ◌-◌, ◌<◌, ◌≤◌, ◌^◌, Bool, true, false, not, cond, ◌||◌, ◌&&◌, min, nat_eq, List, [], ◌∷◌, ◌++◌, length, drop, take, get_or, filter, refl, sym, ap, ◌∙◌, subst, arith, add-zero, add-one, drop-cons, lit≤, length-drop, ◌⊎◌, inl, inr}
 use Rattle.std.proofs.lemmas.Bool.Decides.{nat_tests}
 use Rattle.std.proofs.lemmas.Bool.{cases_lt}
 use Rattle.std.proofs.lemmas.List.Folds.{list_any-append}
-use Rattle.std.specs.Cmp.Lexicographic.{pointwise}
 use Rattle.std.proofs.Math.Seq.{take-length}
 use mir.Val.{bool_byte}
 use Rattle.vipr_rules.specs.Rising.{RisesWithin, IsRising, IsUnion, has}
@@ -231,41 +230,6 @@ rises_order low high (x ∷ xs) r (suc i) (suc j) le lt = rises_order (x + 1) hi
 pub to_end : (i : ℕ) (xs : List ℕ) → take (length xs - i) (drop i xs) ≡ drop i xs
 to_end i xs = ap (λ n. take n (drop i xs)) (sym (length-drop i xs)) ∙ take-length (drop i xs)
 
-or_itself : (b : Bool) → b ≡ (b || b)
-or_itself true = refl
-or_itself false = refl
-
-or_none : (b : Bool) → b ≡ (b || false)
-or_none true = refl
-or_none false = refl
-
--- nothing is added by the empty list, and by the list itself
-pub joined_with_none : (xs ys : List ℕ) → IsRising xs → length ys ≡ 0 → IsUnion xs ys xs
-joined_with_none xs [] r e = record { rising = r; members = λ q. or_none (has xs q) }
-joined_with_none xs (y ∷ ys) r e = absurd (omega arith)
-
-pub joined_to_none : (xs ys : List ℕ) → IsRising ys → length xs ≡ 0 → IsUnion xs ys ys
-joined_to_none [] ys r e = record { rising = r; members = λ q. refl }
-joined_to_none (x ∷ xs) ys r e = absurd (omega arith)
-
-pub joined_with_itself : (xs ys : List ℕ) → IsRising xs → xs ≡ ys → IsUnion xs ys xs
-joined_with_itself xs ys r e = subst (λ zs. IsUnion xs zs xs) e (record { rising = r; members = λ q. or_itself (has xs q) })
-
--- lists that compare as equal
-pub pointwise-same : (xs ys : List ℕ) → pointwise nat_eq xs ys ≡ true → xs ≡ ys
-pointwise-same [] [] h = refl
-pointwise-same [] (y ∷ ys) h = absurd (cc)
-pointwise-same (x ∷ xs) [] h = absurd (cc)
-pointwise-same (x ∷ xs) (y ∷ ys) h = both (nat_eq x y) (pointwise nat_eq xs ys) refl refl (pointwise-same xs ys) h
-  where
-    same : nat_eq x y ≡ true → x ≡ y
-    same e = grind (arith, nat_tests)
-
-    both : (b d : Bool) → nat_eq x y ≡ b → pointwise nat_eq xs ys ≡ d → (pointwise nat_eq xs ys ≡ true → xs ≡ ys) → (b && d) ≡ true → x ∷ xs ≡ y ∷ ys
-    both true true e f rest g = ap₂ (λ n ns. n ∷ ns) (same e) (rest f)
-    both true false e f rest g = absurd (cc)
-    both false d e f rest g = absurd (cc)
-
 or_turned : (a b : Bool) → (a || b) ≡ (b || a)
 or_turned true true = refl
 or_turned true false = refl
@@ -288,3 +252,35 @@ joined_in_order xs ys r = record { rising = r; members = λ q. list_any-append (
 
 pub joined_turned : (xs ys : List ℕ) → IsRising (ys ++ xs) → IsUnion xs ys (ys ++ xs)
 joined_turned xs ys r = record { rising = r; members = λ q. list_any-append (λ n. nat_eq n q) ys xs ∙ or_turned (has ys q) (has xs q) }
+
+-- a list without its last item
+not_cond : (b : Bool) (x : ℕ) (xs : List ℕ) → b ≡ false → cond (not b) (x ∷ xs) xs ≡ x ∷ xs
+not_cond b x xs e = rw e refl
+
+but_cond : (b : Bool) (x : ℕ) (xs : List ℕ) → b ≡ true → cond (not b) (x ∷ xs) xs ≡ xs
+but_cond b x xs e = rw e refl
+
+last_out : (low high i k : ℕ) (xs : List ℕ) → i + 1 ≡ length xs → get_or xs i 0 ≡ k → RisesWithin low high xs → (take i xs ≡ filter (λ x. not (nat_eq x k)) xs) × (low ≤ k)
+last_out low high i k [] e is r = absurd (omega arith)
+last_out low high zero k (x ∷ []) e is r = (sym (but_cond (nat_eq x k) x [] (is_eq x k is)), let le : low ≤ x = r.0 in omega (arith, is, le))
+last_out low high zero k (x ∷ z ∷ xs) e is r = absurd (omega arith)
+last_out low high (suc i) k (x ∷ xs) e is r =
+    let rest = last_out (x + 1) high i k xs (omega arith) is r.2 in
+    let over : x + 1 ≤ k = rest.1 in
+    let le : low ≤ x = r.0 in
+    (ap (λ ys. x ∷ ys) rest.0 ∙ sym (not_cond (nat_eq x k) x (filter (λ y. not (nat_eq y k)) xs) (is_under x k (omega (arith, over)))), omega (arith, over, le))
+  where
+    is_under : (a b : ℕ) → a < b → nat_eq a b ≡ false
+    is_under a b h = grind (arith, nat_tests)
+
+pub without_last : (k : ℕ) (xs : List ℕ) → IsRising xs → 0 < length xs → get_or xs (length xs - 1) 0 ≡ k → take (length xs - 1) xs ≡ filter (λ x. not (nat_eq x k)) xs
+without_last k xs r some is = (last_out 0 (2 ^ 32) (length xs - 1) k xs (omega arith) is r).0
+
+-- a list has all of another one
+pub or_part : (a b : Bool) → (b ≡ true → a ≡ true) → a ≡ (a || b)
+or_part true b h = refl
+or_part false true h = absurd (let e = h refl in cc)
+or_part false false h = refl
+
+pub joined_with_part : (xs ys : List ℕ) → IsRising xs → ((q : ℕ) → has ys q ≡ true → has xs q ≡ true) → IsUnion xs ys xs
+joined_with_part xs ys r within = record { rising = r; members = λ q. or_part (has xs q) (has ys q) (within q) }

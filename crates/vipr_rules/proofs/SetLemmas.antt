@@ -10,7 +10,7 @@ use Rattle.std.specs.Cmp.{nat_cmp_total}
 use Rattle.std.specs.Ordering.{nat_cmp, eq_by_cmp}
 use Rattle.std.specs.FinSet.{FinSet, contains, empty, from_list, union, remove, same_set, nat_cmp-IsAntisymmetric, contains-from_list_nat, contains-union, contains-remove, contains-empty}
 use Rattle.vipr_rules.specs.Rising.{IsRising, IsUnion, has}
-use Rattle.vipr_rules.proofs.RisingLemmas.{has_all_but, rises_order}
+use Rattle.vipr_rules.proofs.RisingLemmas.{has_all_but, rises_order, or_part}
 
 same_numbers : (s t : FinSet nat_cmp) → ((q : ℕ) → contains s q ≡ contains t q) → s ≡ t
 same_numbers s t same = same_set nat_cmp_total nat_cmp-IsAntisymmetric s t same
@@ -80,11 +80,6 @@ pub remove_none : (k : ℕ) → empty ≡ remove {R = nat_cmp} empty k
 remove_none k = sym (same_numbers _ _ (λ q. contains-remove nat_cmp_total empty k q ∙ ap (λ b. not (eq_by_cmp nat_cmp q k) && b) (contains-empty nat_cmp q) ∙ and_false _ ∙ sym (contains-empty nat_cmp q)))
 
 -- nothing is added by what a set has already
-or_part : (a b : Bool) → (b ≡ true → a ≡ true) → a ≡ (a || b)
-or_part true b h = refl
-or_part false true h = absurd (let e = h refl in cc)
-or_part false false h = refl
-
 part_or : (a b : Bool) → (a ≡ true → b ≡ true) → b ≡ (a || b)
 part_or true true h = refl
 part_or true false h = absurd (let e = h refl in cc)

@@ -7,7 +7,7 @@ ghost use Rattle.std.specs.Prelude.{◌≡◌, ◌↔◌, IfOk, IsTrue, length};
 ghost use Rattle.std.specs.FinSet as set;
 
 use crate::assumptions::held::Held;
-use crate::assumptions::merge::{all_but, has_all, join};
+use crate::assumptions::merge::{all_but, but_last, has_all, join, join_alike};
 pub(crate) use crate::assumptions::union::Union;
 use std::alloc::{AllocError, Global};
 use std::marker::Model;
@@ -117,6 +117,29 @@ impl Assumptions {
             return self.clone();
         }
         let items = all_but(alloc, self.held.as_slice(), index)?;
+        Ok(Assumptions {
+            held: Held::of(alloc, items)?,
+        })
+    }
+
+    /// The set of the indices of both, but for one of each.
+    pub(crate) fn union_without(
+        &self,
+        alloc: Global,
+        index: u32,
+        other: &Assumptions,
+        other_index: u32,
+    ) -> Result<Self, AllocError>
+        ensures { IfOk result (λ s.
+            s ≡ set.union (set.remove self.now index) (set.remove other.now other_index)) }
+    {
+        let ours = but_last(self.held.as_slice(), index);
+        let theirs = but_last(other.held.as_slice(), other_index);
+        let (Some(ours), Some(theirs)) = (ours, theirs) else {
+            let other = other.without(alloc, other_index)?;
+            return self.without(alloc, index)?.union(alloc, &other);
+        };
+        let items = join_alike(alloc, ours, theirs)?;
         Ok(Assumptions {
             held: Held::of(alloc, items)?,
         })

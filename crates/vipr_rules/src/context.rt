@@ -84,6 +84,25 @@ impl<'a> Known<'a> {
             Known::Derived(entry) => entry.assumptions.without(alloc, index),
         }
     }
+
+    /// The assumptions that two constraints rest on, but for one of each.
+    pub(crate) fn joined_without(
+        self,
+        alloc: Global,
+        index: u32,
+        other: Known<'a>,
+        other_index: u32,
+    ) -> Result<Assumptions, AllocError>
+        ensures { IfOk result (λ s. s ≡ set.union (set.remove (set_of self.entry) index)
+            (set.remove (set_of other.entry) other_index)) }
+    {
+        if let (Known::Derived(first), Known::Derived(second)) = (self, other) {
+            let (first, second) = (&first.assumptions, &second.assumptions);
+            return first.union_without(alloc, index, second, other_index);
+        }
+        let other = other.without(alloc, other_index)?;
+        self.without(alloc, index)?.union(alloc, &other)
+    }
 }
 
 impl<'a, S: Rows> Context<'a, S> {

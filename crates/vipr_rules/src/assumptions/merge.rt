@@ -1,6 +1,6 @@
 //! Unions and removals on lists of numbers in rising order.
 
-ghost use Rattle.std.specs.Prelude.{◌≡◌, ◌++◌, ℕ, true, not, nat_eq, filter, IfOk};
+ghost use Rattle.std.specs.Prelude.{◌≡◌, ◌++◌, ℕ, true, not, nat_eq, filter, IfOk, IfSome};
 ghost use Rattle.vipr_rules.specs.Rising.{IsRising, IsUnion, has};
 
 use std::alloc::{AllocError, Global};
@@ -37,6 +37,18 @@ pub(crate) fn join(alloc: Global, xs: &[u32], ys: &[u32]) -> Result<Vec<u32>, Al
         return concat(alloc, ys, xs);
     }
     merge(alloc, xs, ys)
+}
+
+/// The same, for lists of which the first often has all items of the other.
+pub(crate) fn join_alike(alloc: Global, xs: &[u32], ys: &[u32]) -> Result<Vec<u32>, AllocError>
+    requires left { IsRising xs.now }
+    requires right { IsRising ys.now }
+    ensures { IfOk result (λ v. IsUnion xs.now ys.now v.items) }
+{
+    if has_all(xs, ys) {
+        return xs.to_vec(alloc);
+    }
+    join(alloc, xs, ys)
 }
 
 // Whether all items of one rising list come before those of another. Neither is empty then.
@@ -78,6 +90,17 @@ fn merge(alloc: Global, xs: &[u32], ys: &[u32]) -> Result<Vec<u32>, AllocError>
     all.extend_from_slice(&xs[i..])?;
     all.extend_from_slice(&ys[j..])?;
     Ok(all)
+}
+
+/// The items before the last one, where that is `index`.
+pub(crate) fn but_last(xs: &[u32], index: u32) -> Option<&[u32]>
+    requires { IsRising xs.now }
+    ensures { IfSome result (λ rest. rest.now ≡ filter (λ x. not (nat_eq x index)) xs.now) }
+{
+    if xs.is_empty() || xs[xs.len() - 1] != index {
+        return None;
+    }
+    Some(&xs[..xs.len() - 1])
 }
 
 /// The items other than `index`.
