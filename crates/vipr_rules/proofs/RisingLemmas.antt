@@ -189,12 +189,12 @@ rises_all mark out us vs o top a b none =
           (rises_append 0 (2 ^ 32) (2 ^ 32) (out ++ us) [] (omega arith) (omega arith) (rises_append 0 mark (2 ^ 32) out us (omega arith) top o a) tt)
     ]
 
+pub no_items : (zs : List ℕ) → length zs ≡ 0 → zs ≡ []
+no_items [] e = refl
+no_items (z ∷ zs) e = absurd (omega arith)
+
 none_left : (i : ℕ) (xs : List ℕ) → length xs ≤ i → drop i xs ≡ []
 none_left i xs h = no_items (drop i xs) (omega (arith, length-drop i xs))
-  where
-    no_items : (zs : List ℕ) → length zs ≡ 0 → zs ≡ []
-    no_items [] e = refl
-    no_items (z ∷ zs) e = absurd (omega arith)
 
 pub merge_end : (xs ys : List ℕ) (i j : ℕ) (out zs : List ℕ) → Merging xs ys i j out → (i < length xs → length ys ≤ j) → zs ≡ (out ++ drop i xs) ++ drop j ys → IsUnion xs ys zs
 merge_end xs ys i j out zs m over is = record {
@@ -284,3 +284,26 @@ or_part false false h = refl
 
 pub joined_with_part : (xs ys : List ℕ) → IsRising xs → ((q : ℕ) → has ys q ≡ true → has xs q ≡ true) → IsUnion xs ys xs
 joined_with_part xs ys r within = record { rising = r; members = λ q. or_part (has xs q) (has ys q) (within q) }
+
+-- the parts of a list that rises, and a list that goes on behind
+pub rises_left : (low high : ℕ) (xs ys : List ℕ) → RisesWithin low high (xs ++ ys) → RisesWithin low high xs
+rises_left low high [] ys r = tt
+rises_left low high (x ∷ xs) ys r = (r.0, r.1, rises_left (x + 1) high xs ys r.2)
+
+pub rises_right : (low high : ℕ) (xs ys : List ℕ) → RisesWithin low high (xs ++ ys) → RisesWithin low high ys
+rises_right low high [] ys r = r
+rises_right low high (x ∷ xs) ys r = rises_from (x + 1) low high ys (let le : low ≤ x = r.0 in omega arith) (rises_right (x + 1) high xs ys r.2)
+
+rises_on : (low high : ℕ) (xs : List ℕ) (y : ℕ) (ys zs : List ℕ) → RisesWithin low high (xs ++ y ∷ ys) → RisesWithin 0 high (y ∷ ys ++ zs) → RisesWithin low high (xs ++ (y ∷ ys ++ zs))
+rises_on low high [] y ys zs r s = (r.0, s.1, s.2)
+rises_on low high (x ∷ xs) y ys zs r s = (r.0, r.1, rises_on (x + 1) high xs y ys zs r.2 s)
+
+pub rises_longer : (xs ys zs : List ℕ) → IsRising (xs ++ ys) → 0 < length ys → IsRising (ys ++ zs) → IsRising (xs ++ (ys ++ zs))
+rises_longer xs [] zs r some s = absurd (omega arith)
+rises_longer xs (y ∷ ys) zs r some s = rises_on 0 (2 ^ 32) xs y ys zs r s
+
+-- a list goes on behind the last of two that has an item
+pub rises_behind : (xs ys zs last : List ℕ) → IsRising (xs ++ ys) → ((length ys ≡ 0) × (last ≡ xs)) ⊎ ((0 < length ys) × (last ≡ ys)) → IsRising (last ++ zs) → IsRising (xs ++ (ys ++ zs))
+rises_behind xs [] zs last r (inl (none, is)) s = subst (λ l. IsRising (l ++ zs)) is s
+rises_behind xs (y ∷ ys) zs last r (inl (none, is)) s = absurd (omega arith)
+rises_behind xs ys zs last r (inr (some, is)) s = rises_longer xs ys zs r some (subst (λ l. IsRising (l ++ zs)) is s)

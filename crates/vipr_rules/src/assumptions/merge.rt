@@ -5,6 +5,14 @@ ghost use Rattle.vipr_rules.specs.Rising.{IsRising, IsUnion, has};
 
 use std::alloc::{AllocError, Global};
 
+/// Whether a number stands in a rising list.
+pub(crate) fn is_in(xs: &[u32], index: u32) -> bool
+    requires { IsRising xs.now }
+    ensures { result ≡ has xs.now index }
+{
+    xs.binary_search(&index).is_ok()
+}
+
 /// Whether each item of `ys`, too, stands in `xs`.
 pub(crate) fn has_all(xs: &[u32], ys: &[u32]) -> bool
     ensures { result ≡ true → (q : ℕ) → has ys.now q ≡ true → has xs.now q ≡ true }
@@ -51,8 +59,8 @@ pub(crate) fn join_alike(alloc: Global, xs: &[u32], ys: &[u32]) -> Result<Vec<u3
     join(alloc, xs, ys)
 }
 
-// Whether all items of one rising list come before those of another. Neither is empty then.
-fn is_below(xs: &[u32], ys: &[u32]) -> bool
+/// Whether all items of one rising list come before those of another. Neither is empty then.
+pub(crate) fn is_below(xs: &[u32], ys: &[u32]) -> bool
     requires left { IsRising xs.now }
     requires right { IsRising ys.now }
     ensures { result ≡ true → IsRising (xs.now ++ ys.now) }
@@ -63,7 +71,8 @@ fn is_below(xs: &[u32], ys: &[u32]) -> bool
     xs[xs.len() - 1] < ys[0]
 }
 
-fn concat(alloc: Global, xs: &[u32], ys: &[u32]) -> Result<Vec<u32>, AllocError>
+/// The items of both, one list behind the other.
+pub(crate) fn concat(alloc: Global, xs: &[u32], ys: &[u32]) -> Result<Vec<u32>, AllocError>
     ensures { IfOk result (λ v. v.items ≡ xs.now ++ ys.now) }
 {
     let mut all = Vec::with_capacity(alloc, xs.len() + ys.len())?;
