@@ -182,7 +182,7 @@ impl Assumptions {
         if !other.behind.as_slice().is_empty() || held.len() < LONG {
             return Ok(None);
         }
-        if count == 0 || held.len() / count < count {
+        if count == 0 || held.len() / count < count / 8 {
             return Ok(None);
         }
         let last = if behind.is_empty() { held } else { behind };
