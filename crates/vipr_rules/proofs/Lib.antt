@@ -8,6 +8,7 @@ mod CountLemmas
 mod HistoryLemmas
 mod EntryTests
 mod UnionLemmas
+mod UnionsLemmas
 mod ContextLemmas
 mod SumLemmas
 mod StepLemmas

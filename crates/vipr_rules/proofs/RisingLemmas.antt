@@ -1,9 +1,8 @@
 -- Lists that rise: what a push, a join, a filter and a step of a merge leave.
-use Rattle.std.proofs.Common.{◌≡◌, ℕ, zero, suc, ◌+◌, ◌-◌, ◌<◌, ◌≤◌, ◌^◌, Bool, true, false, not, cond, ◌||◌, ◌&&◌, min, nat_eq, List, [], ◌∷◌, ◌++◌, length, drop, take, get_or, filter, refl, sym, ap, ◌∙◌, subst, ap₂, arith, add-zero, add-one, drop-cons, lit≤, length-drop, ◌⊎◌, inl, inr}
+use Rattle.std.proofs.Common.{◌≡◌, ℕ, zero, suc, ◌+◌, ◌-◌, ◌<◌, ◌≤◌, ◌^◌, Bool, true, false, not, cond, ◌||◌, ◌&&◌, min, nat_eq, List, [], ◌∷◌, ◌++◌, length, drop, take, get_or, filter, refl, sym, ap, ◌∙◌, subst, arith, add-zero, add-one, drop-cons, lit≤, length-drop, ◌⊎◌, inl, inr}
 use Rattle.std.proofs.lemmas.Bool.Decides.{nat_tests}
 use Rattle.std.proofs.lemmas.Bool.{cases_lt}
 use Rattle.std.proofs.lemmas.List.Folds.{list_any-append}
-use Rattle.std.specs.Cmp.Lexicographic.{pointwise}
 use Rattle.std.proofs.Math.Seq.{take-length}
 use mir.Val.{bool_byte}
 use Rattle.vipr_rules.specs.Rising.{RisesWithin, IsRising, IsUnion, has}
@@ -190,12 +189,12 @@ rises_all mark out us vs o top a b none =
           (rises_append 0 (2 ^ 32) (2 ^ 32) (out ++ us) [] (omega arith) (omega arith) (rises_append 0 mark (2 ^ 32) out us (omega arith) top o a) tt)
     ]
 
+pub no_items : (zs : List ℕ) → length zs ≡ 0 → zs ≡ []
+no_items [] e = refl
+no_items (z ∷ zs) e = absurd (omega arith)
+
 none_left : (i : ℕ) (xs : List ℕ) → length xs ≤ i → drop i xs ≡ []
 none_left i xs h = no_items (drop i xs) (omega (arith, length-drop i xs))
-  where
-    no_items : (zs : List ℕ) → length zs ≡ 0 → zs ≡ []
-    no_items [] e = refl
-    no_items (z ∷ zs) e = absurd (omega arith)
 
 pub merge_end : (xs ys : List ℕ) (i j : ℕ) (out zs : List ℕ) → Merging xs ys i j out → (i < length xs → length ys ≤ j) → zs ≡ (out ++ drop i xs) ++ drop j ys → IsUnion xs ys zs
 merge_end xs ys i j out zs m over is = record {
@@ -231,37 +230,80 @@ rises_order low high (x ∷ xs) r (suc i) (suc j) le lt = rises_order (x + 1) hi
 pub to_end : (i : ℕ) (xs : List ℕ) → take (length xs - i) (drop i xs) ≡ drop i xs
 to_end i xs = ap (λ n. take n (drop i xs)) (sym (length-drop i xs)) ∙ take-length (drop i xs)
 
-or_itself : (b : Bool) → b ≡ (b || b)
-or_itself true = refl
-or_itself false = refl
+or_turned : (a b : Bool) → (a || b) ≡ (b || a)
+or_turned true true = refl
+or_turned true false = refl
+or_turned false true = refl
+or_turned false false = refl
 
-or_none : (b : Bool) → b ≡ (b || false)
-or_none true = refl
-or_none false = refl
+-- two lists, where the last item of one is below the first of the other
+all_below : (low high i : ℕ) (xs : List ℕ) (y : ℕ) (ys : List ℕ) → i + 1 ≡ length xs → get_or xs i 0 < y → RisesWithin low high xs → RisesWithin 0 high (y ∷ ys) → RisesWithin low high (xs ++ y ∷ ys)
+all_below low high i [] y ys e lt r s = absurd (omega arith)
+all_below low high zero (x ∷ []) y ys e lt r s = (r.0, r.1, (omega arith, s.1, s.2))
+all_below low high zero (x ∷ z ∷ xs) y ys e lt r s = absurd (omega arith)
+all_below low high (suc i) (x ∷ xs) y ys e lt r s = (r.0, r.1, all_below (x + 1) high i xs y ys (omega arith) lt r.2 s)
 
--- nothing is added by the empty list, and by the list itself
-pub joined_with_none : (xs ys : List ℕ) → IsRising xs → length ys ≡ 0 → IsUnion xs ys xs
-joined_with_none xs [] r e = record { rising = r; members = λ q. or_none (has xs q) }
-joined_with_none xs (y ∷ ys) r e = absurd (omega arith)
+pub below_joined : (xs ys : List ℕ) → IsRising xs → IsRising ys → 0 < length xs → 0 < length ys → get_or xs (length xs - 1) 0 < get_or ys 0 0 → IsRising (xs ++ ys)
+below_joined xs [] r s h k lt = absurd (omega arith)
+below_joined xs (y ∷ ys) r s h k lt = all_below 0 (2 ^ 32) (length xs - 1) xs y ys (omega arith) lt r s
 
-pub joined_to_none : (xs ys : List ℕ) → IsRising ys → length xs ≡ 0 → IsUnion xs ys ys
-joined_to_none [] ys r e = record { rising = r; members = λ q. refl }
-joined_to_none (x ∷ xs) ys r e = absurd (omega arith)
+pub joined_in_order : (xs ys : List ℕ) → IsRising (xs ++ ys) → IsUnion xs ys (xs ++ ys)
+joined_in_order xs ys r = record { rising = r; members = λ q. list_any-append (λ n. nat_eq n q) xs ys }
 
-pub joined_with_itself : (xs ys : List ℕ) → IsRising xs → xs ≡ ys → IsUnion xs ys xs
-joined_with_itself xs ys r e = subst (λ zs. IsUnion xs zs xs) e (record { rising = r; members = λ q. or_itself (has xs q) })
+pub joined_turned : (xs ys : List ℕ) → IsRising (ys ++ xs) → IsUnion xs ys (ys ++ xs)
+joined_turned xs ys r = record { rising = r; members = λ q. list_any-append (λ n. nat_eq n q) ys xs ∙ or_turned (has ys q) (has xs q) }
 
--- lists that compare as equal
-pub pointwise-same : (xs ys : List ℕ) → pointwise nat_eq xs ys ≡ true → xs ≡ ys
-pointwise-same [] [] h = refl
-pointwise-same [] (y ∷ ys) h = absurd (cc)
-pointwise-same (x ∷ xs) [] h = absurd (cc)
-pointwise-same (x ∷ xs) (y ∷ ys) h = both (nat_eq x y) (pointwise nat_eq xs ys) refl refl (pointwise-same xs ys) h
+-- a list without its last item
+not_cond : (b : Bool) (x : ℕ) (xs : List ℕ) → b ≡ false → cond (not b) (x ∷ xs) xs ≡ x ∷ xs
+not_cond b x xs e = rw e refl
+
+but_cond : (b : Bool) (x : ℕ) (xs : List ℕ) → b ≡ true → cond (not b) (x ∷ xs) xs ≡ xs
+but_cond b x xs e = rw e refl
+
+last_out : (low high i k : ℕ) (xs : List ℕ) → i + 1 ≡ length xs → get_or xs i 0 ≡ k → RisesWithin low high xs → (take i xs ≡ filter (λ x. not (nat_eq x k)) xs) × (low ≤ k)
+last_out low high i k [] e is r = absurd (omega arith)
+last_out low high zero k (x ∷ []) e is r = (sym (but_cond (nat_eq x k) x [] (is_eq x k is)), let le : low ≤ x = r.0 in omega (arith, is, le))
+last_out low high zero k (x ∷ z ∷ xs) e is r = absurd (omega arith)
+last_out low high (suc i) k (x ∷ xs) e is r =
+    let rest = last_out (x + 1) high i k xs (omega arith) is r.2 in
+    let over : x + 1 ≤ k = rest.1 in
+    let le : low ≤ x = r.0 in
+    (ap (λ ys. x ∷ ys) rest.0 ∙ sym (not_cond (nat_eq x k) x (filter (λ y. not (nat_eq y k)) xs) (is_under x k (omega (arith, over)))), omega (arith, over, le))
   where
-    same : nat_eq x y ≡ true → x ≡ y
-    same e = grind (arith, nat_tests)
+    is_under : (a b : ℕ) → a < b → nat_eq a b ≡ false
+    is_under a b h = grind (arith, nat_tests)
 
-    both : (b d : Bool) → nat_eq x y ≡ b → pointwise nat_eq xs ys ≡ d → (pointwise nat_eq xs ys ≡ true → xs ≡ ys) → (b && d) ≡ true → x ∷ xs ≡ y ∷ ys
-    both true true e f rest g = ap₂ (λ n ns. n ∷ ns) (same e) (rest f)
-    both true false e f rest g = absurd (cc)
-    both false d e f rest g = absurd (cc)
+pub without_last : (k : ℕ) (xs : List ℕ) → IsRising xs → 0 < length xs → get_or xs (length xs - 1) 0 ≡ k → take (length xs - 1) xs ≡ filter (λ x. not (nat_eq x k)) xs
+without_last k xs r some is = (last_out 0 (2 ^ 32) (length xs - 1) k xs (omega arith) is r).0
+
+-- a list has all of another one
+pub or_part : (a b : Bool) → (b ≡ true → a ≡ true) → a ≡ (a || b)
+or_part true b h = refl
+or_part false true h = absurd (let e = h refl in cc)
+or_part false false h = refl
+
+pub joined_with_part : (xs ys : List ℕ) → IsRising xs → ((q : ℕ) → has ys q ≡ true → has xs q ≡ true) → IsUnion xs ys xs
+joined_with_part xs ys r within = record { rising = r; members = λ q. or_part (has xs q) (has ys q) (within q) }
+
+-- the parts of a list that rises, and a list that goes on behind
+pub rises_left : (low high : ℕ) (xs ys : List ℕ) → RisesWithin low high (xs ++ ys) → RisesWithin low high xs
+rises_left low high [] ys r = tt
+rises_left low high (x ∷ xs) ys r = (r.0, r.1, rises_left (x + 1) high xs ys r.2)
+
+pub rises_right : (low high : ℕ) (xs ys : List ℕ) → RisesWithin low high (xs ++ ys) → RisesWithin low high ys
+rises_right low high [] ys r = r
+rises_right low high (x ∷ xs) ys r = rises_from (x + 1) low high ys (let le : low ≤ x = r.0 in omega arith) (rises_right (x + 1) high xs ys r.2)
+
+rises_on : (low high : ℕ) (xs : List ℕ) (y : ℕ) (ys zs : List ℕ) → RisesWithin low high (xs ++ y ∷ ys) → RisesWithin 0 high (y ∷ ys ++ zs) → RisesWithin low high (xs ++ (y ∷ ys ++ zs))
+rises_on low high [] y ys zs r s = (r.0, s.1, s.2)
+rises_on low high (x ∷ xs) y ys zs r s = (r.0, r.1, rises_on (x + 1) high xs y ys zs r.2 s)
+
+pub rises_longer : (xs ys zs : List ℕ) → IsRising (xs ++ ys) → 0 < length ys → IsRising (ys ++ zs) → IsRising (xs ++ (ys ++ zs))
+rises_longer xs [] zs r some s = absurd (omega arith)
+rises_longer xs (y ∷ ys) zs r some s = rises_on 0 (2 ^ 32) xs y ys zs r s
+
+-- a list goes on behind the last of two that has an item
+pub rises_behind : (xs ys zs last : List ℕ) → IsRising (xs ++ ys) → ((length ys ≡ 0) × (last ≡ xs)) ⊎ ((0 < length ys) × (last ≡ ys)) → IsRising (last ++ zs) → IsRising (xs ++ (ys ++ zs))
+rises_behind xs [] zs last r (inl (none, is)) s = subst (λ l. IsRising (l ++ zs)) is s
+rises_behind xs (y ∷ ys) zs last r (inl (none, is)) s = absurd (omega arith)
+rises_behind xs ys zs last r (inr (some, is)) s = rises_longer xs ys zs r some (subst (λ l. IsRising (l ++ zs)) is s)

@@ -1,16 +1,16 @@
 -- A rising list, as a set.
-use Rattle.std.proofs.Common.{◌≡◌, ℕ, ◌<◌, ◌≤◌, Bool, true, false, not, ◌||◌, ◌&&◌, nat_eq, List, [], ◌∷◌, length, get_or, filter, Result, Ok, Err, is_ok, MatchResult, ◌^◌, refl, sym, ap, ◌∙◌, arith, suc, ◌⊎◌, inl, inr}
+use Rattle.std.proofs.Common.{◌≡◌, ℕ, ◌<◌, ◌≤◌, Bool, true, false, not, ◌||◌, ◌&&◌, nat_eq, List, [], ◌∷◌, length, get_or, filter, Result, Ok, Err, is_ok, MatchResult, ◌^◌, refl, sym, ap, ◌∙◌, arith, suc, ◌⊎◌, inl, inr, ◌++◌, append_assoc}
 use Rattle.std.proofs.lemmas.Bool.Decides.{nat_tests}
 use Rattle.std.proofs.lemmas.Bool.{cases_lt}
 use Rattle.std.proofs.lemmas.List.Elements.{All-from_get_or}
-use Rattle.std.proofs.lemmas.List.Folds.{list_any_at, list_any_none}
+use Rattle.std.proofs.lemmas.List.Folds.{list_any_at, list_any_none, list_any-append}
 use Rattle.std.proofs.lemmas.List.Sorted.{searched}
 use Rattle.std.specs.List.Sorted.{IsBinarySearchResult}
 use Rattle.std.specs.Cmp.{nat_cmp_total}
 use Rattle.std.specs.Ordering.{nat_cmp, eq_by_cmp}
 use Rattle.std.specs.FinSet.{FinSet, contains, empty, from_list, union, remove, same_set, nat_cmp-IsAntisymmetric, contains-from_list_nat, contains-union, contains-remove, contains-empty}
 use Rattle.vipr_rules.specs.Rising.{IsRising, IsUnion, has}
-use Rattle.vipr_rules.proofs.RisingLemmas.{has_all_but, rises_order}
+use Rattle.vipr_rules.proofs.RisingLemmas.{has_all_but, rises_order, or_part}
 
 same_numbers : (s t : FinSet nat_cmp) → ((q : ℕ) → contains s q ≡ contains t q) → s ≡ t
 same_numbers s t same = same_set nat_cmp_total nat_cmp-IsAntisymmetric s t same
@@ -78,3 +78,59 @@ union_none s = sym (same_numbers _ _ (λ q. contains-union nat_cmp_total s empty
 
 pub remove_none : (k : ℕ) → empty ≡ remove {R = nat_cmp} empty k
 remove_none k = sym (same_numbers _ _ (λ q. contains-remove nat_cmp_total empty k q ∙ ap (λ b. not (eq_by_cmp nat_cmp q k) && b) (contains-empty nat_cmp q) ∙ and_false _ ∙ sym (contains-empty nat_cmp q)))
+
+-- nothing is added by what a set has already
+part_or : (a b : Bool) → (a ≡ true → b ≡ true) → b ≡ (a || b)
+part_or true true h = refl
+part_or true false h = absurd (let e = h refl in cc)
+part_or false b h = refl
+
+pub with_part : (xs ys : List ℕ) → ((q : ℕ) → has ys q ≡ true → has xs q ≡ true) → from_list {R = nat_cmp} xs ≡ union (from_list xs) (from_list ys)
+with_part xs ys within = same_numbers _ _ (λ q.
+    contains-from_list_nat xs q ∙ or_part (has xs q) (has ys q) (within q)
+    ∙ (λ t. sym (contains-from_list_nat xs q) t || sym (contains-from_list_nat ys q) t)
+    ∙ sym (contains-union nat_cmp_total (from_list xs) (from_list ys) q))
+
+pub part_with : (xs ys : List ℕ) → ((q : ℕ) → has xs q ≡ true → has ys q ≡ true) → from_list {R = nat_cmp} ys ≡ union (from_list xs) (from_list ys)
+part_with xs ys within = same_numbers _ _ (λ q.
+    contains-from_list_nat ys q ∙ part_or (has xs q) (has ys q) (within q)
+    ∙ (λ t. sym (contains-from_list_nat xs q) t || sym (contains-from_list_nat ys q) t)
+    ∙ sym (contains-union nat_cmp_total (from_list xs) (from_list ys) q))
+
+-- nothing is taken out by what a set doesn't have
+pub remove_absent : (s : FinSet nat_cmp) (k : ℕ) → contains s k ≡ false → s ≡ remove s k
+remove_absent s k absent = sym (same_numbers _ _ (λ q. contains-remove nat_cmp_total s k q ∙ ap (λ b. not b && contains s q) (sym (tied_numbers q k)) ∙ by q (nat_eq q k) refl))
+  where
+    same : (q : ℕ) → nat_eq q k ≡ true → q ≡ k
+    same q e = grind (arith, nat_tests)
+
+    by : (q : ℕ) (b : Bool) → nat_eq q k ≡ b → (not b && contains s q) ≡ contains s q
+    by q true e = sym absent ∙ ap (contains s) (sym (same q e))
+    by q false e = refl
+
+-- ---- a list in two parts
+pub parts_have : (xs ys : List ℕ) (q : ℕ) → contains (from_list {R = nat_cmp} (xs ++ ys)) q ≡ (has xs q || has ys q)
+parts_have xs ys q = contains-from_list_nat (xs ++ ys) q ∙ list_any-append (λ n. nat_eq n q) xs ys
+
+pub first_has : (a b r : Bool) → r ≡ a → r ≡ true → r ≡ (a || b)
+first_has true b r e t = e
+first_has false b r e t = absurd (cc)
+
+pub second_has : (a b r s : Bool) → r ≡ a → r ≡ false → s ≡ b → s ≡ (a || b)
+second_has true b r s e f h = absurd (cc)
+second_has false b r s e f h = h
+
+pub second_empty : (xs ys : List ℕ) (a b : Bool) → a ≡ nat_eq (length xs) 0 → a ≡ true → b ≡ nat_eq (length ys) 0 → b ≡ nat_eq (length (xs ++ ys)) 0
+second_empty [] ys a b e t h = h
+second_empty (x ∷ xs) ys a b e t h = absurd (let none : nat_eq (length (x ∷ xs)) 0 ≡ false = grind (arith, nat_tests) in cc)
+
+pub first_some : (xs ys : List ℕ) (a : Bool) → a ≡ nat_eq (length xs) 0 → a ≡ false → a ≡ nat_eq (length (xs ++ ys)) 0
+first_some [] ys a e f = absurd (let none : nat_eq 0 0 ≡ true = grind (arith, nat_tests) in cc)
+first_some (x ∷ xs) ys a e f = f ∙ (let some : nat_eq (length ((x ∷ xs) ++ ys)) 0 ≡ false = grind (arith, nat_tests) in sym some)
+
+-- a list that goes on
+pub longer_seen : (xs ys zs : List ℕ) → from_list {R = nat_cmp} (xs ++ (ys ++ zs)) ≡ union (from_list (xs ++ ys)) (from_list zs)
+longer_seen xs ys zs = ap from_list (sym (append_assoc xs ys zs)) ∙ same_numbers _ _ (λ q.
+    parts_have (xs ++ ys) zs q
+    ∙ (λ t. sym (contains-from_list_nat (xs ++ ys) q) t || sym (contains-from_list_nat zs q) t)
+    ∙ sym (contains-union nat_cmp_total (from_list (xs ++ ys)) (from_list zs) q))

@@ -1,5 +1,7 @@
 pub mod Rising
 pub mod Merging
+pub mod Held
+pub mod Unions
 pub mod Table
 pub mod TableCode
 pub mod Expiry

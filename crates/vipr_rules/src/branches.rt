@@ -60,9 +60,9 @@ pub(crate) fn join_branches<S: Rows>(
     )?;
     check_domination(first_conclusion.constraint(), stated)?;
     check_domination(second_conclusion.constraint(), stated)?;
-    let from_first = first_conclusion.without(alloc, first.assumption)?;
-    let from_second = second_conclusion.without(alloc, second.assumption)?;
-    Ok(from_first.union(alloc, &from_second)?)
+    let (l1, l2) = (first.assumption, second.assumption);
+    let joined = first_conclusion.joined_without(alloc, l1, second_conclusion, l2)?;
+    Ok(joined)
 }
 
 fn check_assumption(index: u32, known: Known) -> Result<(), RuleError>

@@ -1,17 +1,18 @@
 //! What a derivation is tested against, and the constraints that it may refer to.
 
-ghost use Rattle.std.specs.Prelude.{◌≡◌, ◌∷◌, [], true, IfOk, MatchResult};
+ghost use Rattle.std.specs.Prelude.{◌≡◌, ◌∷◌, [], true, IfOk, OnOk, MatchResult};
 ghost use Rattle.std.specs.FinSet as set;
 ghost use Rattle.vipr_spec.specs.Constraint.{Profile as ProfileMeant, at, NamesBelow};
 ghost use Rattle.vipr_spec.specs.Certificate.{Certificate, Derivation, variables};
 ghost use Rattle.vipr_spec.specs.Steps.{earlier};
 ghost use Rattle.vipr_linear.specs.Constraint.{condition_of};
 ghost use Rattle.vipr_rules.specs.Table.{DerivedBelow};
+ghost use Rattle.vipr_rules.specs.Unions.{gathered};
 ghost use Rattle.vipr_rules.specs.Context.{IsContextOf, IsKnownAs, row_found, set_of, is_assumed};
 ghost use Rattle.vipr_rules.specs.Soundness.{IsSoundUnder, IsStatedAt};
 ghost use Rattle.vipr_rules.specs.Apply.{index_tests, PassesTestsIn, StopsIn};
 
-use crate::assumptions::Assumptions;
+use crate::assumptions::{Assumptions, Union};
 use crate::error::RuleError;
 use crate::profile::Profile;
 use crate::rows::{Entry, Rows};
@@ -63,17 +64,14 @@ impl<'a> Known<'a> {
         }
     }
 
-    /// A set together with the assumptions that it rests on.
-    pub(crate) fn joined_to(
-        self,
-        alloc: Global,
-        others: Assumptions,
-    ) -> Result<Assumptions, AllocError>
-        ensures { IfOk result (λ s. s ≡ set.union others (set_of self.entry)) }
+    /// Adds the assumptions that it rests on to those of others.
+    pub(crate) fn add_to(self, alloc: Global, others: &mut Union) -> Result<(), AllocError>
+        ensures { OnOk result
+            (gathered others.new ≡ set.union (gathered others.old) (set_of self.entry)) }
     {
         match self {
-            Known::Given(_) => Ok(others),
-            Known::Derived(entry) => others.union(alloc, &entry.assumptions),
+            Known::Given(_) => Ok(()),
+            Known::Derived(entry) => others.add(alloc, &entry.assumptions),
         }
     }
 
@@ -85,6 +83,25 @@ impl<'a> Known<'a> {
             Known::Given(_) => Ok(Assumptions::empty(alloc)),
             Known::Derived(entry) => entry.assumptions.without(alloc, index),
         }
+    }
+
+    /// The assumptions that two constraints rest on, but for one of each.
+    pub(crate) fn joined_without(
+        self,
+        alloc: Global,
+        index: u32,
+        other: Known<'a>,
+        other_index: u32,
+    ) -> Result<Assumptions, AllocError>
+        ensures { IfOk result (λ s. s ≡ set.union (set.remove (set_of self.entry) index)
+            (set.remove (set_of other.entry) other_index)) }
+    {
+        if let (Known::Derived(first), Known::Derived(second)) = (self, other) {
+            let (first, second) = (&first.assumptions, &second.assumptions);
+            return first.union_without(alloc, index, second, other_index);
+        }
+        let other = other.without(alloc, other_index)?;
+        self.without(alloc, index)?.union(alloc, &other)
     }
 }
 

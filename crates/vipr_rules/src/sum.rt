@@ -17,7 +17,7 @@ ghost use Rattle.vipr_rules.specs.Soundness.{IsSoundUnder};
 ghost use Rattle.vipr_rules.specs.Apply.{PassesTestsIn, StopsIn, SumStops, IsRuledBy};
 ghost use Rattle.vipr_rules.specs.declared.error.RuleError.TheVariants.{Memory};
 
-use crate::assumptions::Assumptions;
+use crate::assumptions::{Assumptions, Union};
 use crate::context::{Context, Known};
 use crate::domination::check_domination;
 use crate::error::RuleError;
@@ -119,7 +119,7 @@ fn add_up<S: Rows>(
     ensures variables { length scratch.new.sums ≡ length scratch.old.sums }
 {
     scratch.clear();
-    let mut assumptions = Assumptions::empty(alloc);
+    let mut assumptions = Union::new(alloc);
     for (position, entry) in entries.iter().enumerate() {
         let Some(known) = find_used(context, entry)? else {
             continue;
@@ -128,9 +128,10 @@ fn add_up<S: Rows>(
             check_references(context, &entries[position + 1..])?;
             return Err(error);
         }
-        assumptions = known.joined_to(alloc, assumptions)?;
+        known.add_to(alloc, &mut assumptions)?;
     }
     let constraint = finish(alloc, scratch)?;
+    let assumptions = assumptions.finish(alloc)?;
     Ok(Sum {
         constraint,
         assumptions,

@@ -3,7 +3,6 @@ use Rattle.std.proofs.lemmas.Result.{err_from_is_err_and}
 use Rattle.vipr_spec.specs.Constraint.{Dominates, IsSplit}
 use Rattle.vipr_spec.specs.Certificate.{Problem}
 use Rattle.vipr_linear.specs.Constraint.{condition_of}
-use Rattle.vipr_rules.specs.Context.{row_found}
 use Rattle.vipr_rules.specs.Profile.{profile_of}
 use Rattle.vipr_rules.proofs.BranchLemmas.{constraint_passes, constraint_stops, joined_set, stops_1, stops_2, stops_3, stops_4, stops_5, stops_6, stops_7, stops_8, stops_9, free_pass, all_pass}
 use Rattle.vipr_rules.proofs.SoundLemmas.{branches_true}
@@ -105,31 +104,9 @@ returns-in_err-check_domination-2-clause-ruled g c = λ P d e is says.
       | inr told ↦ inr (stops_9 P d e c.args.first.conclusion c.args.first.assumption c.args.second.conclusion c.args.second.assumption k1.0 k2.0 k3.0 k4.0 a1 a2 s d1 _ (constraint_stops P d e c.args.second.conclusion _ c.args.stated.now x2 says _ told))
     ])
 
-pub returns-in_err-from_first-clause-ruled : goal.returns-in_err-from_first-clause-ruled
-returns-in_err-from_first-clause-ruled g c = λ P d e is says.
-    let p = err_from_is_err_and c.from_residual-in_err-from_first.result c.from_residual-in_err-from_first.ensures.1 in
-    let k1 = c.in_ok-first_conclusion.ensures.known P d e is in
-    let k2 = c.in_ok-first_assumption.ensures.known P d e is in
-    let k3 = c.in_ok-second_conclusion.ensures.known P d e is in
-    let k4 = c.in_ok-second_assumption.ensures.known P d e is in
-    let a1 = c.in_ok-check_assumption.ensures.tests P d e k2.1 in
-    let a2 = c.in_ok-check_assumption-2.ensures.tests P d e k4.1 in
-    rw (p.1, p.2) (inl (refl, free_pass P d e c.args.first.conclusion c.args.first.assumption c.args.second.conclusion c.args.second.assumption k1.0 k2.0 k3.0 k4.0 a1 a2))
-
-pub returns-in_err-from_second-clause-ruled : goal.returns-in_err-from_second-clause-ruled
-returns-in_err-from_second-clause-ruled g c = λ P d e is says.
-    let p = err_from_is_err_and c.from_residual-in_err-from_second.result c.from_residual-in_err-from_second.ensures.1 in
-    let k1 = c.in_ok-first_conclusion.ensures.known P d e is in
-    let k2 = c.in_ok-first_assumption.ensures.known P d e is in
-    let k3 = c.in_ok-second_conclusion.ensures.known P d e is in
-    let k4 = c.in_ok-second_assumption.ensures.known P d e is in
-    let a1 = c.in_ok-check_assumption.ensures.tests P d e k2.1 in
-    let a2 = c.in_ok-check_assumption-2.ensures.tests P d e k4.1 in
-    rw (p.1, p.2) (inl (refl, free_pass P d e c.args.first.conclusion c.args.first.assumption c.args.second.conclusion c.args.second.assumption k1.0 k2.0 k3.0 k4.0 a1 a2))
-
-pub returns-in_err-union-clause-ruled : goal.returns-in_err-union-clause-ruled
-returns-in_err-union-clause-ruled g c = λ P d e is says.
-    let p = err_from_is_err_and c.from_residual-in_err-union.result c.from_residual-in_err-union.ensures.1 in
+pub returns-in_err-joined-clause-ruled : goal.returns-in_err-joined-clause-ruled
+returns-in_err-joined-clause-ruled g c = λ P d e is says.
+    let p = err_from_is_err_and c.from_residual-in_err-joined.result c.from_residual-in_err-joined.ensures.1 in
     let k1 = c.in_ok-first_conclusion.ensures.known P d e is in
     let k2 = c.in_ok-first_assumption.ensures.known P d e is in
     let k3 = c.in_ok-second_conclusion.ensures.known P d e is in
@@ -153,7 +130,7 @@ returns-clause-ruled g c = λ P d e is says.
     let x2 = ap condition_of c.constraint-4.ensures ∙ k3.1.says in
     let d2 = constraint_passes P d e c.args.second.conclusion _ c.args.stated.now x2 says c.in_ok-check_domination-2.ensures in (
       all_pass P d e c.args.first.conclusion c.args.first.assumption c.args.second.conclusion c.args.second.assumption k1.0 k2.0 k3.0 k4.0 a1 a2 s d1 d2,
-      joined_set d c.args.first.conclusion c.args.first.assumption c.args.second.conclusion c.args.second.assumption _ _ _ _ _ k1.1 k3.1 c.in_ok-from_first.ensures c.in_ok-from_second.ensures c.in_ok-union.ensures,
+      joined_set d c.args.first.conclusion c.args.first.assumption c.args.second.conclusion c.args.second.assumption _ _ _ _ _ k1.1 k3.1 refl refl c.in_ok-joined.ensures,
     )
 
 pub returns-clause-sound : goal.returns-clause-sound
@@ -162,7 +139,7 @@ returns-clause-sound g c = λ says x at.
     branches_true _ says x (profile_of c.args.context.now.profile) _ _ _ _ _ _ c.args.first.assumption c.args.second.assumption _ _ _ _ _
     (c.in_ok-first_assumption.ensures.stated c.in_ok-check_assumption.ensures.ok says x at ∙ sym (ap condition_of c.constraint.ensures))
     (c.in_ok-second_assumption.ensures.stated c.in_ok-check_assumption-2.ensures.ok says x at ∙ sym (ap condition_of c.constraint-2.ensures))
-    c.in_ok-from_first.ensures c.in_ok-from_second.ensures c.in_ok-union.ensures
+    refl refl c.in_ok-joined.ensures
     (c.in_ok-first_conclusion.ensures.sound says x at) (c.in_ok-second_conclusion.ensures.sound says x at)
     split
     (subst (λ r. Dominates (condition_of r) (condition_of c.args.stated.now)) c.constraint-3.ensures c.in_ok-check_domination.ensures)

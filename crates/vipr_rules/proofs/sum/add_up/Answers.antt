@@ -1,4 +1,4 @@
-use Rattle.std.proofs.Common.{◌≡◌, ◌+◌, [], ◌∷◌, ◌++◌, Some, None, take, length, sym, ◌∙◌, ap, subst, subst₂, refl, inr}
+use Rattle.std.proofs.Common.{◌+◌, [], ◌∷◌, ◌++◌, Some, None, take, length, sym, ◌∙◌, ap, subst, subst₂, refl, inr}
 use Rattle.std.specs.Prelude.{flat_map}
 use Rattle.std.proofs.lemmas.Result.{err_from_is_err_and}
 use Rattle.std.proofs.lemmas.List.{length-replicate}
@@ -17,7 +17,8 @@ use Rattle.vipr_rules.proofs.EntryTests.{one_more, take_all, entry_passes, sum_s
 use Rattle.vipr_rules.proofs.StepLemmas.{stops_first, stops_second, passes_both}
 use Rattle.vipr_rules.proofs.SumLemmas.{entries_more, unused_held, IsTrueSum, nothing_true, more_true, sum_is_true}
 use Rattle.vipr_rules.proofs.UnionLemmas.{IsSetOfAll-none, without_it, with_it}
-use Rattle.vipr_rules.proofs.SoundLemmas.{true_left, true_right}
+use Rattle.vipr_rules.specs.Unions.{gathered}
+use Rattle.vipr_rules.proofs.SoundLemmas.{AreTrue, true_left, true_right}
 use Rattle.vipr_rules.proofs.sum.add_up.Goals as goal
 
 pub loop-position-init : goal.loop-position-init
@@ -27,7 +28,7 @@ loop-position-init g c =
     record {
       places = ap (λ (a : Accumulator). length a.sums) cleared ∙ length-replicate (variables c.args.context.now.problem.now) zero_ℚ;
       fresh = ap (λ (a : Accumulator). a.spent) cleared;
-      sum = λ P d e is. (refl, refl, subst (Holds (variables c.args.context.now.problem.now) []) (sym cleared) (start_held (variables c.args.context.now.problem.now)), subst (IsSetOfAll d []) (sym c.empty-assumptions.ensures) (IsSetOfAll-none d));
+      sum = λ P d e is. (refl, refl, subst (Holds (variables c.args.context.now.problem.now) []) (sym cleared) (start_held (variables c.args.context.now.problem.now)), subst (IsSetOfAll d []) (sym c.new-assumptions.ensures) (IsSetOfAll-none d));
       sound = λ says x at h. subst (IsTrueSum (variables c.args.context.now.problem.now) x) (sym cleared) (nothing_true (variables c.args.context.now.problem.now) x);
     }
 
@@ -60,15 +61,15 @@ loop-position-preserved g c =
             references_more (PassesStep P d (condition s.stated)) _ _ _ lt item None so_far.0 found.0,
             entry_passes (PassesStep P d (condition s.stated)) _ _ _ lt item so_far.1 (new.sense, held.sense_is) held.fits,
             subst (λ l. Holds n (entries d l) new) (sym more) held,
-            subst (λ l. IsSetOfAll d l c.in_ok-assumptions.assumptions) (sym more)
-                (subst (IsSetOfAll d (take c.loop-position.position c.args.entries.now ++ e ∷ [])) (sym c.in_ok-assumptions.ensures)
-                (with_it d (take c.loop-position.position c.args.entries.now) e c.loop-position.assumptions so_far.3 (not_zero e.1 used.0) (set_of known) used.1.rests)),
+            subst (λ l. IsSetOfAll d l (gathered c.add_to.new.others)) (sym more)
+                (subst (IsSetOfAll d (take c.loop-position.position c.args.entries.now ++ e ∷ [])) (sym c.in_ok-add_to.ensures)
+                (with_it d (take c.loop-position.position c.args.entries.now) e (gathered c.loop-position.assumptions) so_far.3 (not_zero e.1 used.0) (set_of known) used.1.rests)),
           );
       sound = λ says x here h.
           let sound = rw c.in-Some.is at c.in_ok-known.ensures.sound in
-          let so_far = c.loop-position.invariant.sound says x here (true_left n says x c.loop-position.assumptions (set_of known) c.in_ok-assumptions.assumptions c.in_ok-assumptions.ensures h) in
+          let so_far = c.loop-position.invariant.sound says x here (true_left n says x (gathered c.loop-position.assumptions) (set_of known) (gathered c.add_to.new.others) c.in_ok-add_to.ensures h) in
           more_true n x c.loop-position.scratch new (e.1, condition_of c.constraint.result.now) so_far (c.in_default-add_multiple.ensures.sum n so_far.es so_far.held)
-          (subst (λ (r : Constraint). IsTrueAt n (condition_of r) x) (sym c.constraint.ensures) (sound says x here (true_right n says x c.loop-position.assumptions (set_of known) c.in_ok-assumptions.assumptions c.in_ok-assumptions.ensures h)));
+          (subst (λ (r : Constraint). IsTrueAt n (condition_of r) x) (sym c.constraint.ensures) (sound says x here (true_right n says x (gathered c.loop-position.assumptions) (set_of known) (gathered c.add_to.new.others) c.in_ok-add_to.ensures h)));
     }
 
 pub loop-position-preserved-in_default : goal.loop-position-preserved-in_default
@@ -89,7 +90,7 @@ loop-position-preserved-in_default g c =
             references_more (PassesStep P d (condition s.stated)) _ _ _ lt item None so_far.0 found.0,
             entry_passes (PassesStep P d (condition s.stated)) _ _ _ lt item so_far.1 (c.loop-position.scratch.sense, held.sense_is) held.fits,
             subst (λ l. Holds n (entries d l) c.loop-position.scratch) (sym more) held,
-            subst (λ l. IsSetOfAll d l c.loop-position.assumptions) (sym more) (without_it d (take c.loop-position.position c.args.entries.now) e c.loop-position.assumptions so_far.3 (λ m. absurd (m none))),
+            subst (λ l. IsSetOfAll d l (gathered c.loop-position.assumptions)) (sym more) (without_it d (take c.loop-position.position c.args.entries.now) e (gathered c.loop-position.assumptions) so_far.3 (λ m. absurd (m none))),
           );
       sound = c.loop-position.invariant.sound;
     }
@@ -142,9 +143,9 @@ returns-clause-sum g c = λ P d s is.
       subst (λ l. PassesTestsIn P d s (sum_tests l)) all
           (passes_both P d s (flat_map reference_tests (take c.loop-position.position c.args.entries.now)) (entry_tests [] (take c.loop-position.position c.args.entries.now)) so_far.0 so_far.1),
       subst (λ l. IsSum d l (condition_of c.in_ok-constraint.constraint)) all (_, sum.0, sum.1),
-      subst (λ l. IsSetOfAll d l c.loop-position.assumptions) all so_far.3,
+      subst (λ l. IsSetOfAll d l c.in_ok-assumptions.assumptions) all (subst (IsSetOfAll d (take c.loop-position.position c.args.entries.now)) (sym c.in_ok-assumptions.ensures) so_far.3),
     )
 
 pub returns-clause-sound : goal.returns-clause-sound
 returns-clause-sound g c = λ says x here h.
-    sum_is_true (variables c.args.context.now.problem.now) x c.loop-position.scratch c.in_ok-constraint.constraint (c.loop-position.invariant.sound says x here h) c.in_ok-constraint.ensures.sum
+    sum_is_true (variables c.args.context.now.problem.now) x c.loop-position.scratch c.in_ok-constraint.constraint (c.loop-position.invariant.sound says x here (subst (λ s. AreTrue (variables c.args.context.now.problem.now) says s x) c.in_ok-assumptions.ensures h)) c.in_ok-constraint.ensures.sum

@@ -7,6 +7,7 @@ use Rattle.vipr_linear.specs.Accumulator.{Holds}
 use Rattle.vipr_rules.specs.Context.{IsContextOf, IsSetOfAll}
 use Rattle.vipr_rules.specs.Soundness.{IsSoundAt}
 use Rattle.vipr_rules.specs.Apply.{PassesTestsIn}
+use Rattle.vipr_rules.specs.Unions.{gathered}
 use Rattle.vipr_rules.proofs.SoundLemmas.{AreTrue}
 use Rattle.vipr_rules.proofs.SumLemmas.{IsTrueSum}
 use Rattle.vipr_rules.proofs.sum.add_up.Given as goal
@@ -18,7 +19,7 @@ invariant-loop-position g l =
       fresh : l.scratch.spent ≡ false;
       sum : (P : Profile) (c : Certificate) (d : Derivation) → IsContextOf g.S.Rows.table P c l.context
           → PassesTestsIn P c d (flat_map reference_tests (take l.position l.entries)) × PassesTestsIn P c d (entry_tests [] (take l.position l.entries))
-          × Holds (variables l.context.problem.now) (entries c (take l.position l.entries)) l.scratch × IsSetOfAll c (take l.position l.entries) l.assumptions;
+          × Holds (variables l.context.problem.now) (entries c (take l.position l.entries)) l.scratch × IsSetOfAll c (take l.position l.entries) (gathered l.assumptions);
       sound : (says : ℕ → Condition) (x : Point) → IsSoundAt g.S.Rows.table l.context says x
-          → AreTrue (variables l.context.problem.now) says l.assumptions x → IsTrueSum (variables l.context.problem.now) x l.scratch;
+          → AreTrue (variables l.context.problem.now) says (gathered l.assumptions) x → IsTrueSum (variables l.context.problem.now) x l.scratch;
     }

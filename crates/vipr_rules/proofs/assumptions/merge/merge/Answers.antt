@@ -4,7 +4,7 @@ use Rattle.vipr_rules.proofs.assumptions.merge.merge.Goals as goal
 use Rattle.vipr_rules.proofs.assumptions.merge.merge.Goals.{then-loop-i-test+else-j-ys, else-loop-i-test}
 
 pub loop-i-init : goal.loop-i-init
-loop-i-init c = rw c.new-all.ensures.items (merge_start _ _ c.requires.left c.requires.right)
+loop-i-init c = rw c.in_ok-all.ensures.items (merge_start _ _ c.requires.left c.requires.right)
 
 pub loop-i-preserved : goal.loop-i-preserved
 loop-i-preserved c =
