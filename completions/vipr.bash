@@ -6,11 +6,14 @@ _vipr() {
         COMPREPLY=($(compgen -W "check explain show tighten -h --help -V --version" -- "$word"))
         return
     fi
+    case "${COMP_WORDS[COMP_CWORD-1]}" in
+        --profile) COMPREPLY=($(compgen -W "1 2" -- "$word")); return ;;
+    esac
     case "${COMP_WORDS[1]}" in
-        check) words="-h --help" ;;
-        explain) words="-h --help" ;;
+        check) words="--profile -h --help" ;;
+        explain) words="--profile -h --help" ;;
         show) words="-h --help" ;;
-        tighten) words="--out -h --help" ;;
+        tighten) words="--profile --out -h --help" ;;
     esac
     if [ "${word#-}" != "$word" ]; then
         COMPREPLY=($(compgen -W "$words" -- "$word"))

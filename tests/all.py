@@ -25,7 +25,7 @@ SCRIPTS = [
     ['tests/proof.py', '--check'],
     ['tests/interface.py'],
     ['docs/architecture.py', '--check'],
-    ['bench/compare.py', 'crates/vipr/out/vipr', '1000'],
+    ['bench/compare.py', '--profiles', 'crates/vipr/out/vipr', '1000'],
 ]
 
 

@@ -64,6 +64,12 @@ class Command:
             yield flags, '<' in words, about
 
 
+def values_in(about):
+    """The values of an option, where its help names them as `1 or 2`; a file's name otherwise."""
+    found = re.search(r', (\w+) or (\w+);', about)
+    return list(found.groups()) if found else []
+
+
 def program():
     text = help_of()
     return text.split('\n')[0], [Command(*row) for row in section(text, 'Commands') if row[0] != 'help'], \
@@ -79,8 +85,15 @@ def bash(commands, options):
              '    if [ "$COMP_CWORD" -eq 1 ]; then',
              f'        COMPREPLY=($(compgen -W "{top}" -- "$word"))',
              '        return',
-             '    fi',
-             '    case "${COMP_WORDS[1]}" in']
+             '    fi']
+    valued = {flag: values_in(about) for command in commands for flags, _, about in command.flags()
+              for flag in flags if values_in(about)}
+    if valued:
+        lines.append('    case "${COMP_WORDS[COMP_CWORD-1]}" in')
+        lines += [f'        {flag}) COMPREPLY=($(compgen -W "{" ".join(values)}" -- "$word")); return ;;'
+                  for flag, values in sorted(valued.items())]
+        lines.append('    esac')
+    lines.append('    case "${COMP_WORDS[1]}" in')
     for command in commands:
         lines.append(f'        {command.name}) words="{" ".join(flag for flags, _, _ in command.flags() for flag in flags)}" ;;')
     lines += ['    esac',
@@ -106,11 +119,17 @@ def zsh(commands, options):
               '    compadd -- ' + ' '.join(flag for flags, _ in options for flag in flags), '    return', 'fi',
               'case "$words[2]" in']
     for command in commands:
-        flags = [f"'{flag}[{zsh_words(about)}]{':file:_files' if value else ''}'"
+        flags = [f"'{flag}[{zsh_words(about)}]{zsh_value(value, about)}'"
                  for flags, value, about in command.flags() for flag in flags]
         files = ["'*:file:_files'"] if command.arguments else []
         lines.append(f'    {command.name}) _arguments {" ".join(flags + files)} ;;')
     return '\n'.join(lines + ['esac']) + '\n'
+
+
+def zsh_value(value, about):
+    if not value:
+        return ''
+    return f':value:({" ".join(values_in(about))})' if values_in(about) else ':file:_files'
 
 
 def fish(commands, options):
@@ -122,7 +141,7 @@ def fish(commands, options):
         lines.append('complete -c vipr -n __fish_use_subcommand -f ' + fish_flags(flags) + f' -d {quote(about)}')
     for command in commands:
         for flags, value, about in command.flags():
-            needs = ' -r -F' if value else ''
+            needs = '' if not value else f" -x -a '{' '.join(values_in(about))}'" if values_in(about) else ' -r -F'
             lines.append(f"complete -c vipr -n '__fish_seen_subcommand_from {command.name}' "
                          f'{fish_flags(flags)}{needs} -d {quote(about)}')
     return '\n'.join(lines) + '\n'
@@ -229,6 +248,11 @@ def main():
     for name in names:
         check(completed(['vipr', name[:-1]]) == [name], f'bash completes {name[:-1]} to {completed(["vipr", name[:-1]])}')
         check('examples' in completed(['vipr', name, 'exam']), f'bash completes no file behind {name}')
+    for command in commands:
+        for flags, value, about in command.flags():
+            if values_in(about):
+                got = completed(['vipr', command.name, flags[-1], ''])
+                check(got == values_in(about), f'bash completes a value of {flags[-1]} to {got}')
     if shutil.which('groff'):
         done = subprocess.run(['groff', '-man', '-ww', '-Tutf8', '-z', str(MAN)], capture_output=True, text=True, check=False)
         check(not done.stderr and done.returncode == 0, f'groff: {done.stderr}')

@@ -1,17 +1,20 @@
 -- What clap's parse of the line says, for `job`.
-use Rattle.std.proofs.Common.{◌≡◌, ◌∙◌, ap, refl, sym, subst, inl, inr, ◌⊎◌, List, [], ◌∷◌, Option, Some, None, Bool, true, false, codes, is_some, option_map, find, if◌then◌else◌}
+use Rattle.std.proofs.Common.{◌≡◌, ◌∙◌, ap, refl, sym, subst, inl, inr, ◌⊎◌, List, [], ◌∷◌, Option, Some, None, Bool, true, false, codes, is_some, option_map, find, if◌then◌else◌, ◌&&◌}
 use Rattle.std.specs.Prelude.{IfErr, Result, Ok, Err, IsErrAnd}
 use Rattle.clap.specs.declared.error.Error.{Error}
 use Rattle.clap.specs.Walk.{nothing_held, walk, walk_from, settled, finished}
 use Rattle.clap.specs.Faults.{walk_fault, entered_fault, settle_fault, defaults_fault}
-use Rattle.clap.specs.Kinds.{FailsBy, HasKind, Kinds, or_else}
+use Rattle.clap.specs.Kinds.{FailsBy, HasKind, IsAmong, Kinds, or_else}
+use Rattle.clap.specs.declared.error.ErrorKind.{ErrorKind}
+use Rattle.clap.specs.declared.error.ErrorKind.TheVariants.{InvalidValue}
 use Rattle.clap.specs.Faults.{check_fault}
 use Rattle.clap.specs.Walk.{answers_to}
 use Rattle.clap.specs.Simple.{argument_words, built, entered, label_of, names_of, rows_at}
-use Rattle.clap.specs.Words.{Row, Shape, Text, fault_of, first_of, has_subcommand, is_simple, is_simple_and_free, subcommand_name_of, subcommand_of, subcommand_rows_of}
+use Rattle.clap.specs.Words.{Row, Shape, Text, fault_of, first_of, has_subcommand, is_simple, is_simple_and_free, kind_of, subcommand_name_of, subcommand_of, subcommand_rows_of, takes}
 use Rattle.clap.specs.declared.parser.matches.ArgMatches.{ArgMatches}
 use Rattle.clap.specs.declared.parser.matches.ArgMatches.TheViews.{out-ArgMatches}
-use Rattle.vipr.specs.Args.{asked, asked_by, line, command_word}
+use Rattle.vipr_rules.specs.declared.profile.Profile.{Profile}
+use Rattle.vipr.specs.Args.{are_taken, asked, asked_by, command_word, line, names_profile, profile_named, words_fault}
 use Rattle.vipr.specs.declared.task.Job.{Job}
 use Rattle.vipr.specs.declared.task.Task.{Task}
 use Rattle.vipr.specs.declared.task.Task.TheVariants.{Check, Explain, Show, Tighten}
@@ -103,6 +106,51 @@ pub failed_on : {T : Type 0} (r : Result T Error) (e : Error) (kinds : Kinds) �
 failed_on (Ok x) e kinds h k = absurd h
 failed_on (Err y) e kinds h k = subst (HasKind kinds) (sym h) k
 
-pub is_asked : (words : List Text) (j : Job) (name : Text) (rows : List Row) → subcommand_of line words ≡ Some (name, rows) → command_word j.command ≡ name
+pub is_asked : (words : List Text) (j : Job) (name : Text) (rows : List Row) → subcommand_of line words ≡ Some (name, rows) → command_word j.command ≡ name → Some j.profile ≡ profile_named (first_of (codes "profile") rows)
     → option_map (λ s. s.now) j.file ≡ first_of (codes "file") rows → option_map (λ s. s.now) j.out ≡ first_of (codes "out") rows → asked_by words ≡ Some (asked j)
-is_asked words j name rows e n f o = rw (e, n, f, o) refl
+is_asked words j name rows e n p f o = rw (e, n, p, f, o) refl
+
+-- ---- the profile
+
+and_first : (a b : Bool) → (a && b) ≡ true → a ≡ true
+and_first true b h = refl
+and_first false b h = h
+
+and_second : (a b : Bool) → (a && b) ≡ true → b ≡ true
+and_second true b h = h
+and_second false b h = cc
+
+pub taken_by_clap : (words : List Text) → are_taken words ≡ true → takes line words ≡ true
+taken_by_clap words h = and_first (takes line words) (names_profile words) h
+
+pub profile_taken : (words : List Text) → are_taken words ≡ true → names_profile words ≡ true
+profile_taken words h = and_second (takes line words) (names_profile words) h
+
+among_first : (k : ErrorKind) (a b : Kinds) → IsAmong k a → IsAmong k (or_else a b)
+among_first k [] b h = absurd h
+among_first k (x ∷ xs) b h = h
+
+-- a fault of clap's parse is one of the words
+pub clap_fault : (words : List Text) (e : Error) → HasKind (fault_of line words) e → HasKind (words_fault words) e
+clap_fault words e (inl memory) = inl memory
+clap_fault words e (inr among) = inr (among_first (kind_of e) (fault_of line words) _ among)
+
+-- where clap takes the words, their fault is that of the profile
+later_fault : (a : Kinds) (b : Bool) → a ≡ [] → or_else a (if b then [] else InvalidValue ∷ []) ≡ (if b then [] else InvalidValue ∷ [])
+later_fault a b h = ap (λ x. or_else x (if b then [] else InvalidValue ∷ [])) h
+
+module _ (words : List Text) (name : Text) (rows : List Row) (e : subcommand_of line words ≡ Some (name, rows)) where
+  names_by : (o : Option Profile) → o ≡ profile_named (first_of (codes "profile") rows) → names_profile words ≡ is_some o
+  names_by o h = rw (e, h) refl
+
+  pub profile_fine : (p : Profile) → Some p ≡ profile_named (first_of (codes "profile") rows) → fault_of line words ≡ [] → words_fault words ≡ []
+  profile_fine p h f = later_fault (fault_of line words) (names_profile words) f ∙ ap (λ b. if b then [] else InvalidValue ∷ []) (names_by (Some p) h)
+
+  module _ (h : None ≡ profile_named (first_of (codes "profile") rows)) where
+    pub never_taken : are_taken words ≡ true → ⊥
+    never_taken t = let a = profile_taken words t in let b = names_by None h in let bad : true ≡ false = sym a ∙ b in cc
+
+    pub profile_wrong : fault_of line words ≡ [] → (x : Error) → kind_of x ≡ InvalidValue → HasKind (words_fault words) x
+    profile_wrong f x k =
+        let is : words_fault words ≡ InvalidValue ∷ [] = later_fault (fault_of line words) (names_profile words) f ∙ ap (λ b. if b then [] else InvalidValue ∷ []) (names_by None h) in
+        subst (λ ks. HasKind ks x) (sym is) (inr (inl k))

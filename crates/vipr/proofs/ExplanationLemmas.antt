@@ -4,6 +4,7 @@ use Rattle.std.specs.List.{flat_map}
 use Rattle.std.proofs.lemmas.List.{append-nil, take_more}
 use Rattle.std.proofs.lemmas.List.Concat.{flat_map-append}
 use Rattle.vipr_spec.specs.Fraction.{ℚ}
+use Rattle.vipr_spec.specs.Constraint.{Profile}
 use Rattle.vipr_spec.specs.Input.{Input}
 use Rattle.vipr_bytes.specs.Output.{Output}
 use Rattle.vipr_bytes.specs.Known.{IfKnown}
@@ -25,11 +26,11 @@ pub if_known : (o : Option Input) (P Q : Input → Type 0) → ((i : Input) → 
 if_known None P Q k h = tt
 if_known (Some i) P Q k h = λ short. k i (h short)
 
-module _ (k : KnownInput) (v : Verdict) (x : Detail) (explained : k.Explained (Ok (v, x))) (old new : Option Output) where
-  pub printed : (s : ℕ) → s ≡ status_for v → Prints (Some (explained_text v x)) old new (Ok tt) → PrintsExplanation k old new (Ok s)
+module _ (P : Profile) (k : KnownInput) (v : Verdict) (x : Detail) (explained : k.Explained P (Ok (v, x))) (old new : Option Output) where
+  pub printed : (s : ℕ) → s ≡ status_for v → Prints (Some (explained_text v x)) old new (Ok tt) → PrintsExplanation P k old new (Ok s)
   printed s is (text, same, took) = (v, x, explained, is, subst (λ t. Took old new t (Ok tt)) same took)
 
-  pub not_printed : (f : Fault) → Prints (Some (explained_text v x)) old new (Err f) → PrintsExplanation k old new (Err f)
+  pub not_printed : (f : Fault) → Prints (Some (explained_text v x)) old new (Err f) → PrintsExplanation P k old new (Err f)
   not_printed Read p = absurd p
   not_printed Memory p = p
   not_printed (Write n) (text, same, took) = (v, x, explained, subst (λ t. Took old new t (Err (after_first n))) same took)

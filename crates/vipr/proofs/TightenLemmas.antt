@@ -1,5 +1,6 @@
 -- What `tighten` answers, where the source tells what it gives.
 use Rattle.std.proofs.Common.{◌≡◌, Bor, ℕ, List, Option, Some, None, Result, Ok, refl, sym, subst, option_map}
+use Rattle.vipr_spec.specs.Constraint.{Profile}
 use Rattle.vipr_spec.specs.Input.{Input}
 use Rattle.vipr_bytes.specs.Output.{Output}
 use Rattle.vipr_bytes.specs.Known.{text_of, IfKnown}
@@ -10,22 +11,22 @@ use Rattle.vipr.specs.Tighten.{WritesTightened, outcome_status}
 use Rattle.vipr.specs.declared.fault.Fault.{Fault}
 use Rattle.vipr.proofs.ShowLemmas.{stays}
 
-pub told : (source : Option Input) (old new : Option Output) (x : Outcome) (s : ℕ) → s ≡ outcome_status x → IfKnown source (λ i. TightensText (kind_read (text_of i)) old new (Ok x))
-    → IfKnown source (λ i. WritesTightened (kind_read (text_of i)) old new (Ok s))
-told None old new x s is h = tt
-told (Some i) old new x s is h = λ short. subst (λ n. WritesTightened (kind_read (text_of i)) old new (Ok n)) (sym is) (Ok x, refl, h short)
+pub told : (P : Profile) (source : Option Input) (old new : Option Output) (x : Outcome) (s : ℕ) → s ≡ outcome_status x → IfKnown source (λ i. TightensText P (kind_read P (text_of i)) old new (Ok x))
+    → IfKnown source (λ i. WritesTightened P (kind_read P (text_of i)) old new (Ok s))
+told P None old new x s is h = tt
+told P (Some i) old new x s is h = λ short. subst (λ n. WritesTightened P (kind_read P (text_of i)) old new (Ok n)) (sym is) (Ok x, refl, h short)
 
 -- to standard output
-pub told_here : (path : Option (Bor (List ℕ))) (source : Option Input) (old new : Option Output) (r : Result ℕ Fault) → path ≡ None → IfKnown source (λ i. WritesTightened (kind_read (text_of i)) old new r)
-    → IfKnown source (λ i. PrintsTightened (option_map (λ s. s.now) path) (known_by i) old new r)
-told_here path source old new r is h = subst (λ p. IfKnown source (λ i. PrintsTightened (option_map (λ s. s.now) p) (known_by i) old new r)) (sym is) h
+pub told_here : (P : Profile) (path : Option (Bor (List ℕ))) (source : Option Input) (old new : Option Output) (r : Result ℕ Fault) → path ≡ None → IfKnown source (λ i. WritesTightened P (kind_read P (text_of i)) old new r)
+    → IfKnown source (λ i. PrintsTightened P (option_map (λ s. s.now) path) (known_by i) old new r)
+told_here P path source old new r is h = subst (λ p. IfKnown source (λ i. PrintsTightened P (option_map (λ s. s.now) p) (known_by i) old new r)) (sym is) h
 
 -- to a file
-told_there : (path : Bor (List ℕ)) (source : Option Input) (old : Option Output) (r : Result ℕ Fault) → IfKnown source (λ i. WritesTightened (kind_read (text_of i)) None None r)
-    → IfKnown source (λ i. PrintsTightened (Some path.now) (known_by i) old old r)
-told_there path None old r h = tt
-told_there path (Some i) old r h = λ short. (h short, stays old)
+told_there : (P : Profile) (path : Bor (List ℕ)) (source : Option Input) (old : Option Output) (r : Result ℕ Fault) → IfKnown source (λ i. WritesTightened P (kind_read P (text_of i)) None None r)
+    → IfKnown source (λ i. PrintsTightened P (Some path.now) (known_by i) old old r)
+told_there P path None old r h = tt
+told_there P path (Some i) old r h = λ short. (h short, stays old)
 
-pub told_of_file : (path : Option (Bor (List ℕ))) (p : Bor (List ℕ)) (source : Option Input) (old : Option Output) (r : Result ℕ Fault) → path ≡ Some p → IfKnown source (λ i. WritesTightened (kind_read (text_of i)) None None r)
-    → IfKnown source (λ i. PrintsTightened (option_map (λ s. s.now) path) (known_by i) old old r)
-told_of_file path p source old r is h = subst (λ q. IfKnown source (λ i. PrintsTightened (option_map (λ s. s.now) q) (known_by i) old old r)) (sym is) (told_there p source old r h)
+pub told_of_file : (P : Profile) (path : Option (Bor (List ℕ))) (p : Bor (List ℕ)) (source : Option Input) (old : Option Output) (r : Result ℕ Fault) → path ≡ Some p → IfKnown source (λ i. WritesTightened P (kind_read P (text_of i)) None None r)
+    → IfKnown source (λ i. PrintsTightened P (option_map (λ s. s.now) path) (known_by i) old old r)
+told_of_file P path p source old r is h = subst (λ q. IfKnown source (λ i. PrintsTightened P (option_map (λ s. s.now) q) (known_by i) old old r)) (sym is) (told_there P p source old r h)

@@ -1,15 +1,17 @@
 -- What the program answers, and what it prints.
 use Rattle.std.specs.Prelude.{⊤, ◌≡◌, ◌≢◌, ◌⊎◌, ℕ, List, Option, Some, None, Result, Ok, Err, codes}
 use Rattle.std.specs.Prelude.{◌++◌, decimal}
-use Rattle.clap.specs.Words.{IsAmong, Text, fault_of}
+use Rattle.clap.specs.Words.{IsAmong, Text}
 use Rattle.clap.specs.declared.error.ErrorKind.{ErrorKind}
 use Rattle.clap.specs.declared.error.ErrorKind.TheVariants as kind
-use Rattle.vipr_spec.specs.Constraint.{one}
+use Rattle.vipr_spec.specs.Constraint.{Profile}
 use Rattle.vipr_spec.specs.Input.{Input}
 use Rattle.vipr_spec.specs.Reading.{certificate_read}
 use Rattle.vipr_spec.specs.Verdict.{IsAnswer, IsExplained}
 use Rattle.vipr_bytes.specs.Output.{Output}
 use Rattle.vipr_bytes.specs.Known.{text_of}
+use Rattle.vipr_rules.specs.Profile.{profile_of}
+use Rattle.vipr_rules.specs.declared.profile.Profile as rules
 use Rattle.vipr_check.specs.View.{Says}
 use Rattle.vipr_check.specs.Run.{SaysInDetail}
 use Rattle.vipr_check.specs.declared.detail.Detail.{Detail}
@@ -21,7 +23,7 @@ use Rattle.vipr_check.specs.declared.verdict.Verdict.TheVariants.{Refused, Verif
 use Rattle.vipr_tighten.specs.Tightens.{KindOfText, any_kind, kind_read}
 use Rattle.vipr_write.specs.declared.write.WriteError.{WriteError}
 use Rattle.vipr_write.specs.declared.write.WriteError.TheVariants as write
-use Rattle.vipr.specs.Args.{asked_by, line, command_word}
+use Rattle.vipr.specs.Args.{asked_by, command_word, words_fault}
 use Rattle.vipr.specs.Text.{verdict_text}
 use Rattle.vipr.specs.Explanation.{explained_text}
 use Rattle.vipr.specs.Output.{Took, Stays, after_first}
@@ -63,51 +65,53 @@ fault_text Read = codes "fault read"
 fault_text Memory = codes "fault memory"
 fault_text (Write n) = codes "fault write after " ++ decimal n
 
--- What is known of an input: which verdict it can have, and with which detail, which certificate
--- it can spell, and of which proof it can be.
+-- What is known of an input: which verdict it can have by a profile, and with which detail, which
+-- certificate it can spell, and of which proof by a profile it can be.
 pub record KnownInput : Type 1 where
-  pub Judged : Result Verdict CheckFault → Type 0
-  pub Explained : Result (Verdict × Detail) CheckFault → Type 0
+  pub Judged : Profile → Result Verdict CheckFault → Type 0
+  pub Explained : Profile → Result (Verdict × Detail) CheckFault → Type 0
   pub kind : Kind
-  pub proof : KindOfText
+  pub proof : Profile → KindOfText
 
 -- an input of which nothing is known
 abbrev pub unknown_input : KnownInput
 unknown_input = record {
-  Judged = λ _. ⊤;
-  Explained = λ _. ⊤;
+  Judged = λ _ _. ⊤;
+  Explained = λ _ _. ⊤;
   kind = any_text;
-  proof = any_kind;
+  proof = λ _. any_kind;
 }
 
 -- one that gives these bytes
 abbrev pub known_by : Input → KnownInput
 known_by i =
     record {
-      Judged = Says (IsAnswer one (text_of i));
-      Explained = SaysInDetail (IsExplained one (text_of i));
+      Judged = λ P. Says (IsAnswer P (text_of i));
+      Explained = λ P. SaysInDetail (IsExplained P (text_of i));
       kind = text_read (certificate_read (text_of i));
-      proof = kind_read (text_of i);
+      proof = λ P. kind_read P (text_of i);
     }
 
 -- old is the output before, where it tells that, and new the one afterwards.
 -- The verdict's lines were printed, and the status is the verdict's.
-abbrev pub PrintsVerdict : KnownInput → Option Output → Option Output → Result ℕ Fault → Type 0
-PrintsVerdict k old new (Ok s) = (v : Verdict) × k.Judged (Ok v) × (s ≡ status_for v)
+abbrev pub PrintsVerdict : Profile → KnownInput → Option Output → Option Output
+    → Result ℕ Fault → Type 0
+PrintsVerdict P k old new (Ok s) = (v : Verdict) × k.Judged P (Ok v) × (s ≡ status_for v)
     × Took old new (verdict_text v) (Ok tt)
-PrintsVerdict k old new (Err Read) = k.Judged (Err CheckRead) × Stays old new
-PrintsVerdict k old new (Err Memory) = Stays old new
-PrintsVerdict k old new (Err (Write n)) = (v : Verdict) × k.Judged (Ok v)
+PrintsVerdict P k old new (Err Read) = k.Judged P (Err CheckRead) × Stays old new
+PrintsVerdict P k old new (Err Memory) = Stays old new
+PrintsVerdict P k old new (Err (Write n)) = (v : Verdict) × k.Judged P (Ok v)
     × Took old new (verdict_text v) (Err (after_first n))
 
 -- the same of the verdict's lines with those of the detail
-abbrev pub PrintsExplanation : KnownInput → Option Output → Option Output → Result ℕ Fault → Type 0
-PrintsExplanation k old new (Ok s) = (v : Verdict) × (x : Detail) × k.Explained (Ok (v, x))
+abbrev pub PrintsExplanation : Profile → KnownInput → Option Output → Option Output
+    → Result ℕ Fault → Type 0
+PrintsExplanation P k old new (Ok s) = (v : Verdict) × (x : Detail) × k.Explained P (Ok (v, x))
     × (s ≡ status_for v) × Took old new (explained_text v x) (Ok tt)
-PrintsExplanation k old new (Err Read) = k.Explained (Err CheckRead) × Stays old new
-PrintsExplanation k old new (Err Memory) = Stays old new
-PrintsExplanation k old new (Err (Write n)) = (v : Verdict) × (x : Detail)
-    × k.Explained (Ok (v, x)) × Took old new (explained_text v x) (Err (after_first n))
+PrintsExplanation P k old new (Err Read) = k.Explained P (Err CheckRead) × Stays old new
+PrintsExplanation P k old new (Err Memory) = Stays old new
+PrintsExplanation P k old new (Err (Write n)) = (v : Verdict) × (x : Detail)
+    × k.Explained P (Ok (v, x)) × Took old new (explained_text v x) (Err (after_first n))
 
 -- the canonical text was printed, or the certificate refused
 abbrev pub PrintsText : KnownInput → Option Output → Option Output → Result ℕ Fault → Type 0
@@ -116,18 +120,18 @@ PrintsText k old new (Err f) = ShowsText k.kind old new (Err f)
 
 -- the tightened certificate was written: to standard output, or else to a file, of which nothing
 -- is said, and nothing was printed
-abbrev pub PrintsTightened : Option Text → KnownInput → Option Output → Option Output
+abbrev pub PrintsTightened : Profile → Option Text → KnownInput → Option Output → Option Output
     → Result ℕ Fault → Type 0
-PrintsTightened None k old new r = WritesTightened k.proof old new r
-PrintsTightened (Some out) k old new r = WritesTightened k.proof None None r × Stays old new
+PrintsTightened P None k old new r = WritesTightened P (k.proof P) old new r
+PrintsTightened P (Some out) k old new r = WritesTightened P (k.proof P) None None r × Stays old new
 
--- the task is done, with this OUT
-abbrev pub Does : Task → Option Text → KnownInput → Option Output → Option Output
+-- the task is done by this profile, with this OUT
+abbrev pub Does : Task → Profile → Option Text → KnownInput → Option Output → Option Output
     → Result ℕ Fault → Type 0
-Does Check out k old new r = PrintsVerdict k old new r
-Does Explain out k old new r = PrintsExplanation k old new r
-Does Show out k old new r = PrintsText k old new r
-Does Tighten out k old new r = PrintsTightened out k old new r
+Does Check P out k old new r = PrintsVerdict P k old new r
+Does Explain P out k old new r = PrintsExplanation P k old new r
+Does Show P out k old new r = PrintsText k old new r
+Does Tighten P out k old new r = PrintsTightened P out k old new r
 
 -- what is read: of a file that is named nothing is known
 abbrev pub read_from : Option Text → KnownInput → KnownInput
@@ -137,9 +141,9 @@ read_from (Some file) k = unknown_input
 -- the words ask for a task, which is done
 abbrev pub DoesAsked : List Text → KnownInput → Option Output → Option Output → Result ℕ Fault
     → Type 0
-DoesAsked words k old new r = (t : Task) × (file out : Option Text)
-    × (asked_by words ≡ Some (command_word t, file, out))
-    × Does t out (read_from file k) old new r
+DoesAsked words k old new r = (t : Task) × (P : rules.Profile) × (file out : Option Text)
+    × (asked_by words ≡ Some (command_word t, Some P, file, out))
+    × Does t (profile_of P) out (read_from file k) old new r
 
 abbrev pub IsHelp : ErrorKind → Type 0
 IsHelp k = (k ≡ kind.DisplayHelp) ⊎ (k ≡ kind.DisplayVersion)
@@ -164,7 +168,7 @@ AnswersError k old new r = ((k ≢ kind.OutOfMemory) × Declines k old new r)
 
 -- the words aren't taken, or ask for help
 abbrev pub DeclinesWords : List Text → Option Output → Option Output → Result ℕ Fault → Type 0
-DeclinesWords words old new r = (k : ErrorKind) × IsAmong k (fault_of line words)
+DeclinesWords words old new r = (k : ErrorKind) × IsAmong k (words_fault words)
     × Declines k old new r
 
 -- what the words ask for is done, or they are declined, or memory ran out before that was known

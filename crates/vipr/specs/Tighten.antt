@@ -1,5 +1,6 @@
 -- What `tighten` does: how it answers, and what was written then.
 use Rattle.std.specs.Prelude.{◌≡◌, ℕ, Option, Result, Ok, Err}
+use Rattle.vipr_spec.specs.Constraint.{Profile}
 use Rattle.vipr_bytes.specs.Output.{Output}
 use Rattle.vipr_tighten.specs.Tightens.{KindOfText, TightensText}
 use Rattle.vipr_tighten.specs.declared.outcome.Outcome.{Outcome}
@@ -26,6 +27,7 @@ tighten_answer (Err e) = Err (tighten_fault_for e)
 
 -- old is the sink's output before, where it tells that, and new the one afterwards.
 -- A text of this kind was tightened to the sink, and the answer is that of what became of it.
-abbrev pub WritesTightened : KindOfText → Option Output → Option Output → Result ℕ Fault → Type 0
-WritesTightened k old new result = (r : Result Outcome TightenFault)
-    × (result ≡ tighten_answer r) × TightensText k old new r
+abbrev pub WritesTightened : Profile → KindOfText → Option Output → Option Output
+    → Result ℕ Fault → Type 0
+WritesTightened P k old new result = (r : Result Outcome TightenFault)
+    × (result ≡ tighten_answer r) × TightensText P k old new r

@@ -1,8 +1,9 @@
 //! The whole program, over what stands for the standard streams.
 ghost use Rattle.std.specs.Prelude.{◌≡◌, ◌≤◌, IfOk, IsNone, false, map, option_map};
-ghost use Rattle.clap.specs.Words.{kind_of, takes};
+ghost use Rattle.clap.specs.Words.{kind_of};
 ghost use Rattle.vipr_bytes.specs.Known.{IfKnown};
-ghost use Rattle.vipr.specs.Args.{line};
+ghost use Rattle.vipr_rules.specs.Profile.{profile_of};
+ghost use Rattle.vipr.specs.Args.{are_taken};
 ghost use Rattle.vipr.specs.Run.{AnswersError, Does, Fits, Obeys, known_by, unknown_input};
 
 use crate::args::job;
@@ -36,7 +37,7 @@ pub fn run<H: AllocGlobal + Files, R: Read + Drop, O: Write, E: Write>(
     err: &mut E,
 ) -> u8
     ensures status { result ≤ 3 }
-    ensures usage { result ≡ 2 → takes line (map (λ w. w.now) words.now) ≡ false }
+    ensures usage { result ≡ 2 → are_taken (map (λ w. w.now) words.now) ≡ false }
     // The status is one that fits what the words ask for.
     ensures fits { Fits (map (λ w. w.now) words.now) result }
 {
@@ -63,7 +64,7 @@ fn obey<H: AllocGlobal + Files, R: Source + Drop, O: Sink, E: Write>(
     err: &mut E,
 ) -> Result<u8, Fault>
     ensures status { IfOk result (λ s. s ≤ 2) }
-    ensures usage { IfOk result (λ s. s ≡ 2 → takes line (map (λ w. w.now) words.now) ≡ false) }
+    ensures usage { IfOk result (λ s. s ≡ 2 → are_taken (map (λ w. w.now) words.now) ≡ false) }
     ensures any { Obeys (map (λ w. w.now) words.now) unknown_input (O.output out.old)
         (O.output out.new) result }
     ensures told { IfKnown (R.input input) (λ i. Obeys (map (λ w. w.now) words.now) (known_by i)
@@ -102,11 +103,13 @@ fn do_job<H: AllocGlobal + Files, R: Source + Drop, O: Sink, E: Write>(
     out: &mut O,
     err: &mut E,
 ) -> Result<u8, Fault>
-    ensures any { Does job.now.command (option_map (λ s. s.now) job.now.out) unknown_input
-        (O.output out.old) (O.output out.new) result }
+    ensures any { Does job.now.command (profile_of job.now.profile)
+        (option_map (λ s. s.now) job.now.out) unknown_input (O.output out.old) (O.output out.new)
+        result }
     ensures told { IsNone job.now.file → IfKnown (R.input input)
-        (λ i. Does job.now.command (option_map (λ s. s.now) job.now.out) (known_by i)
-        (O.output out.old) (O.output out.new) result) }
+        (λ i. Does job.now.command (profile_of job.now.profile)
+        (option_map (λ s. s.now) job.now.out) (known_by i) (O.output out.old) (O.output out.new)
+        result) }
 {
     match job.file {
         None => do_task(rt, job, input, out, err),
@@ -124,17 +127,19 @@ fn do_task<H: AllocGlobal + Files, R: Source + Drop, O: Sink, E: Write>(
     out: &mut O,
     err: &mut E,
 ) -> Result<u8, Fault>
-    ensures any { Does job.now.command (option_map (λ s. s.now) job.now.out) unknown_input
-        (O.output out.old) (O.output out.new) result }
+    ensures any { Does job.now.command (profile_of job.now.profile)
+        (option_map (λ s. s.now) job.now.out) unknown_input (O.output out.old) (O.output out.new)
+        result }
     ensures told { IfKnown (R.input source)
-        (λ i. Does job.now.command (option_map (λ s. s.now) job.now.out) (known_by i)
-        (O.output out.old) (O.output out.new) result) }
+        (λ i. Does job.now.command (profile_of job.now.profile)
+        (option_map (λ s. s.now) job.now.out) (known_by i) (O.output out.old) (O.output out.new)
+        result) }
 {
     let alloc = rt.alloc();
     match job.command {
-        Task::Check => print_verdict(alloc, source, out),
-        Task::Explain => print_explanation(alloc, source, out),
+        Task::Check => print_verdict(alloc, job.profile, source, out),
+        Task::Explain => print_explanation(alloc, job.profile, source, out),
         Task::Show => print_text(alloc, source, out, err),
-        Task::Tighten => print_tightened(rt, source, job.out, out, err),
+        Task::Tighten => print_tightened(rt, job.profile, source, job.out, out, err),
     }
 }

@@ -1,5 +1,7 @@
 //! What the program can be asked for.
 
+use vipr_rules::Profile;
+
 /// What the program is to do.
 #[derive(Clone, Copy, Debug, PartialEq, Eq)]
 pub enum Task {
@@ -9,11 +11,12 @@ pub enum Task {
     Tighten,
 }
 
-/// A command line that was read: the task, the file that it names, and the one to write to. Only
-/// `Tighten` has that.
+/// A command line that was read: the task, by which rules it is done, the file that it names, and
+/// the one to write to. Only `Tighten` has that, and `Show` tests no rules.
 #[derive(Clone, Copy, Debug, PartialEq, Eq)]
 pub struct Job<'a> {
     pub command: Task,
+    pub profile: Profile,
     pub file: Option<&'a str>,
     pub out: Option<&'a str>,
 }

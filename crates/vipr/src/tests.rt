@@ -3,6 +3,7 @@ mod answers;
 mod args;
 mod edits;
 mod explained;
+mod profiles;
 mod rows;
 mod streams;
 mod text;

@@ -2,7 +2,7 @@
 use Rattle.std.proofs.Common.{◌≡◌, ℕ, ◌+◌, ◌<◌, ◌≤◌, true, false, List, length, Option, Some, None, IfSome, Result, Ok, Err, arith, refl, sym, ◌∙◌, ap, subst}
 use Rattle.std.specs.Prelude.{MatchOption}
 use Rattle.vipr_spec.specs.Input.{Input}
-use Rattle.vipr_spec.specs.Constraint.{one}
+use Rattle.vipr_spec.specs.Constraint.{Profile}
 use Rattle.vipr_spec.specs.Certificate.{Certificate, IsProof, IsGoal, GoalIs, NeedsGoal, count, peak}
 use Rattle.vipr_spec.specs.Grammar.{Spells, SpellsOnly}
 use Rattle.vipr_spec.specs.GrammarLaws.{whole_text}
@@ -23,47 +23,47 @@ use Rattle.vipr_tighten.specs.declared.outcome.Outcome.{Outcome}
 use Rattle.vipr_tighten.specs.declared.outcome.Outcome.TheVariants.{Tightened, Refused}
 use Rattle.vipr_tighten.specs.declared.outcome.TightenFault.{TightenFault}
 use Rattle.vipr_tighten.specs.declared.outcome.TightenFault.TheVariants.{Read, Memory, Write}
-use Rattle.vipr_tighten.specs.Tightens.{IsProofFor, IsTight, KindOfText, TakesNothing, TightensText, any_kind, kind_of, kind_read, kind_spelled, unproved_answer, Tightens}
+use Rattle.vipr_tighten.specs.Tightens.{IsProofFor, IsTight, KindOfText, TakesNothing, TightensText, any_kind, kind_of, kind_read, kind_spelled, unproved_answer, TightensIn}
 use Rattle.vipr_tighten.specs.Keeping.{HasAnswer, TellsWhy}
 use Rattle.vipr_tighten.specs.declared.proof.Unproved.{Unproved}
 use Rattle.vipr_tighten.specs.declared.proof.Unproved.TheVariants as unproved
 
 -- ---- a proof
 
-pub is_proof_for : (c : Certificate) (goal : Option ℕ) → IsProof one c → GoalIs one c goal → IsProofFor c goal
-is_proof_for c goal p g = record { proof = p; goal_is = g; shown = claim_shown one c p }
+pub is_proof_for : (P : Profile) (c : Certificate) (goal : Option ℕ) → IsProof P c → GoalIs P c goal → IsProofFor P c goal
+is_proof_for P c goal p g = record { proof = p; goal_is = g; shown = claim_shown P c p }
 
-pub is_tight : (c : Certificate) (goal : Option ℕ) → IsProof one c → GoalIs one c goal → SpellsOnly (canonical_text (tightened c goal)) (tightened c goal) → IsTight c goal (tightened c goal)
-is_tight c goal p g s =
-    let back = back_of_proof one c p in
+pub is_tight : (P : Profile) (c : Certificate) (goal : Option ℕ) → IsProof P c → GoalIs P c goal → SpellsOnly (canonical_text (tightened c goal)) (tightened c goal) → IsTight P c goal (tightened c goal)
+is_tight P c goal p g s =
+    let back = back_of_proof P c p in
     record {
       problem = refl;
       solutions = refl;
-      proof = is_proof_for (tightened c goal) (new_goal c goal) (tight_proof one c goal p g) (tight_goal one c goal back g);
+      proof = is_proof_for P (tightened c goal) (new_goal c goal) (tight_proof P c goal p g) (tight_goal P c goal back g);
       spells = s;
       needed = tight_needed c goal back;
       again = tight_twice c goal back;
-      peak_is = tight_peak one c goal p;
+      peak_is = tight_peak P c goal p;
     }
 
-goal_by : (c : Certificate) (goal : Option ℕ) → MatchOption goal (¬ NeedsGoal c.problem c.problem.claim) (IsGoal one c) → GoalIs one c goal
-goal_by c None n = unneeded_goal one c n
-goal_by c (Some g) is = is
+goal_by : (P : Profile) (c : Certificate) (goal : Option ℕ) → MatchOption goal (¬ NeedsGoal c.problem c.problem.claim) (IsGoal P c) → GoalIs P c goal
+goal_by P c None n = unneeded_goal P c n
+goal_by P c (Some g) is = is
 
-pub reported_goal : (c : Certificate) (r : Report) → Reports one c r → GoalIs one c r.goal
-reported_goal c r h = goal_by c r.goal h.goal
+pub reported_goal : (P : Profile) (c : Certificate) (r : Report) → Reports P c r → GoalIs P c r.goal
+reported_goal P c r h = goal_by P c r.goal h.goal
 
-pub goal_inside : (c : Certificate) (goal : Option ℕ) → GoalIs one c goal → IfSome goal (λ g. g < count c)
-goal_inside c None h = tt
-goal_inside c (Some g) h = h.0.0
+pub goal_inside : (P : Profile) (c : Certificate) (goal : Option ℕ) → GoalIs P c goal → IfSome goal (λ g. g < count c)
+goal_inside P c None h = tt
+goal_inside P c (Some g) h = h.0.0
 
 pub fewer_kept : (c : Certificate) (goal : Option ℕ) → length (tightened c goal).derivations ≤ length c.derivations
 fewer_kept c goal = let e = tight_counts c goal in omega arith
 
 -- ---- what is known of a text
 
-module _ (k l : KindOfText) (of : (c : Certificate) → k.IsOf c → IsProof one c → l.IsOf c) (by : (r : Refusal) → k.IsRefusedBy r → l.IsRefusedBy r) (cut : k.IsCutShort → l.IsCutShort) (old new : Option Output) where
-  pub tightens_by : (x : Result Outcome TightenFault) → TightensText k old new x → TightensText l old new x
+module _ (P : Profile) (k l : KindOfText) (of : (c : Certificate) → k.IsOf c → IsProof P c → l.IsOf c) (by : (r : Refusal) → k.IsRefusedBy r → l.IsRefusedBy r) (cut : k.IsCutShort → l.IsCutShort) (old new : Option Output) where
+  pub tightens_by : (x : Result Outcome TightenFault) → TightensText P k old new x → TightensText P l old new x
   tightens_by (Ok (Tightened kept removed before after)) (c, goal, is, proof, tight, w) = (c, goal, of c is proof.proof, proof, tight, w)
   tightens_by (Ok (Refused r)) h = (by r h.0, h.1)
   tightens_by (Err Read) h = (cut h.0, h.1)
@@ -74,9 +74,9 @@ pub nothing_taken : (o : Option Output) → TakesNothing o o
 nothing_taken None = tt
 nothing_taken (Some o) = refl
 
-pub certificate_is : (r : Rest) (c : Certificate) (report : Report) → (found_in r).certificate ≡ c → Answers one (found_in r) (verified report) → certificate_read r ≡ Ok c
-certificate_is r c report same h =
-    let v = (verified_read one r report).0 h in
+pub certificate_is : (P : Profile) (r : Rest) (c : Certificate) (report : Report) → (found_in r).certificate ≡ c → Answers P (found_in r) (verified report) → certificate_read r ≡ Ok c
+certificate_is P r c report same h =
+    let v = (verified_read P r report).0 h in
     subst (λ (d : Certificate). certificate_read r ≡ Ok d) (sym (found_read r v.0 v.1) ∙ same) v.1
 
 whole_is : (i : Input) → i.fails ≡ false → text_of i ≡ whole_text i.bytes
@@ -85,40 +85,40 @@ whole_is i e = subst (λ b. text_of (record { bytes = i.bytes; fails = b }) ≡ 
 spelled_only : (bytes : List ℕ) (c : Certificate) → certificate_read (whole_text bytes) ≡ Ok c → SpellsOnly bytes c
 spelled_only bytes c e = let s = (reads_texts bytes c).0 e in record { this = s; no_other = λ other o. one_certificate bytes other c o s }
 
-unproved_text : (bytes : List ℕ) (a : Answer) → ((r : Report) → ¬ (a ≡ verified r)) → IsAnswer one (whole_text bytes) a → (c : Certificate) → Spells bytes c → ¬ IsProof one c
-unproved_text bytes a other h c s p = let v = proof_answered one (whole_text bytes) c a ((reads_texts bytes c).1 s) p h in other v.0 v.2
+unproved_text : (P : Profile) (bytes : List ℕ) (a : Answer) → ((r : Report) → ¬ (a ≡ verified r)) → IsAnswer P (whole_text bytes) a → (c : Certificate) → Spells bytes c → ¬ IsProof P c
+unproved_text P bytes a other h c s p = let v = proof_answered P (whole_text bytes) c a ((reads_texts bytes c).1 s) p h in other v.0 v.2
 
-spelled_by : (i : Input) → i.fails ≡ false → (old new : Option Output) (x : Result Outcome TightenFault) → TightensText (kind_read (text_of i)) old new x → TightensText (kind_spelled i.bytes) old new x
-spelled_by i whole old new x h =
+spelled_by : (P : Profile) (i : Input) → i.fails ≡ false → (old new : Option Output) (x : Result Outcome TightenFault) → TightensText P (kind_read P (text_of i)) old new x → TightensText P (kind_spelled P i.bytes) old new x
+spelled_by P i whole old new x h =
     let r = text_of i in
-    tightens_by (kind_read r) (kind_spelled i.bytes)
+    tightens_by P (kind_read P r) (kind_spelled P i.bytes)
     (λ c e p. spelled_only i.bytes c (subst (λ s. certificate_read s ≡ Ok c) (whole_is i whole) e))
-    (λ y a. unproved_text i.bytes (refuses (refusal_of y)) (λ v e. cc) (subst (λ s. IsAnswer one s (refuses (refusal_of y))) (whole_is i whole) a))
-    (λ a. let fails = failed_read one r a in cc)
+    (λ y a. unproved_text P i.bytes (refuses (refusal_of y)) (λ v e. cc) (subst (λ s. IsAnswer P s (refuses (refusal_of y))) (whole_is i whole) a))
+    (λ a. let fails = failed_read P r a in cc)
     old new x h
 
-read_by : (i : Input) (old new : Option Output) (x : Result Outcome TightenFault) → TightensText (kind_read (text_of i)) old new x → x ≡ Err Read → i.fails ≡ true
-read_by i old new x h e = let at = subst (TightensText (kind_read (text_of i)) old new) e h in failed_read one (text_of i) at.0
+read_by : (P : Profile) (i : Input) (old new : Option Output) (x : Result Outcome TightenFault) → TightensText P (kind_read P (text_of i)) old new x → x ≡ Err Read → i.fails ≡ true
+read_by P i old new x h e = let at = subst (TightensText P (kind_read P (text_of i)) old new) e h in failed_read P (text_of i) at.0
 
-pub tightens : (source : Option Input) (old new : Option Output) (x : Result Outcome TightenFault) → TightensText any_kind old new x → IfKnown source (λ i. TightensText (kind_read (text_of i)) old new x) → Tightens source old new x
-tightens source old new x any exact = record { written = any; exact = exact; read = read source exact; spelled = spelled source exact }
+pub tightens : (P : Profile) (source : Option Input) (old new : Option Output) (x : Result Outcome TightenFault) → TightensText P any_kind old new x → IfKnown source (λ i. TightensText P (kind_read P (text_of i)) old new x) → TightensIn P source old new x
+tightens P source old new x any exact = record { written = any; exact = exact; read = read source exact; spelled = spelled source exact }
   where
-    read : (s : Option Input) → IfKnown s (λ i. TightensText (kind_read (text_of i)) old new x) → IfKnown s (λ i. x ≡ Err Read → i.fails ≡ true)
+    read : (s : Option Input) → IfKnown s (λ i. TightensText P (kind_read P (text_of i)) old new x) → IfKnown s (λ i. x ≡ Err Read → i.fails ≡ true)
     read None h = tt
-    read (Some i) h = λ short. read_by i old new x (h short)
+    read (Some i) h = λ short. read_by P i old new x (h short)
 
-    spelled : (s : Option Input) → IfKnown s (λ i. TightensText (kind_read (text_of i)) old new x) → IfWhole s (λ bytes. TightensText (kind_spelled bytes) old new x)
+    spelled : (s : Option Input) → IfKnown s (λ i. TightensText P (kind_read P (text_of i)) old new x) → IfWhole s (λ bytes. TightensText P (kind_spelled P bytes) old new x)
     spelled None h = tt
-    spelled (Some i) h = λ short whole. spelled_by i whole old new x (h short)
+    spelled (Some i) h = λ short whole. spelled_by P i whole old new x (h short)
 
 -- ---- what is written
 
-module _ (c : Certificate) (r : Report) (p : IsProof one c) (reports : Reports one c r) (t : Certificate) (e : t ≡ tightened c r.goal) (spells : SpellsOnly (canonical_text t) t) (old new : Option Output) where
-  goal_is : GoalIs one c r.goal
-  goal_is = reported_goal c r reports
+module _ (P : Profile) (c : Certificate) (r : Report) (p : IsProof P c) (reports : Reports P c r) (t : Certificate) (e : t ≡ tightened c r.goal) (spells : SpellsOnly (canonical_text t) t) (old new : Option Output) where
+  goal_is : GoalIs P c r.goal
+  goal_is = reported_goal P c r reports
 
-  tight : IsTight c r.goal (tightened c r.goal)
-  tight = is_tight c r.goal p goal_is (subst (λ (x : Certificate). SpellsOnly (canonical_text x) x) e spells)
+  tight : IsTight P c r.goal (tightened c r.goal)
+  tight = is_tight P c r.goal p goal_is (subst (λ (x : Certificate). SpellsOnly (canonical_text x) x) e spells)
 
   pub fewer : length t.derivations ≤ r.derived
   fewer =
@@ -128,12 +128,12 @@ module _ (c : Certificate) (r : Report) (p : IsProof one c) (reports : Reports o
       omega arith
 
   pub written_whole : (kept removed before after : ℕ) → kept ≡ length t.derivations → kept + removed ≡ r.derived → before ≡ r.peak → after ≡ peak t
-      → IfSome old (λ o. Wrote o new (canonical_text t) (Ok tt)) → TightensText (kind_of c) old new (Ok (Tightened kept removed before after))
+      → IfSome old (λ o. Wrote o new (canonical_text t) (Ok tt)) → TightensText P (kind_of c) old new (Ok (Tightened kept removed before after))
   written_whole kept removed before after k a b f w = (
     c,
     r.goal,
     refl,
-    is_proof_for c r.goal p goal_is,
+    is_proof_for P c r.goal p goal_is,
     tight,
     (
       record {
@@ -146,12 +146,12 @@ module _ (c : Certificate) (r : Report) (p : IsProof one c) (reports : Reports o
     ),
   )
 
-  pub written_part : (n : ℕ) → n < length (canonical_text t) → IfSome old (λ o. Wrote o new (canonical_text t) (Err (record { taken = n }))) → TightensText (kind_of c) old new (Err (Write n))
+  pub written_part : (n : ℕ) → n < length (canonical_text t) → IfSome old (λ o. Wrote o new (canonical_text t) (Err (record { taken = n }))) → TightensText P (kind_of c) old new (Err (Write n))
   written_part n l w = (
     c,
     r.goal,
     refl,
-    is_proof_for c r.goal p goal_is,
+    is_proof_for P c r.goal p goal_is,
     tight,
     (
       subst (λ (x : Certificate). n < length (canonical_text x)) e l,
@@ -159,49 +159,49 @@ module _ (c : Certificate) (r : Report) (p : IsProof one c) (reports : Reports o
     ),
   )
 
-pub written_not : (c : Certificate) (old new : Option Output) (text : List ℕ) (n : ℕ) → n ≡ 0 → IfSome old (λ o. WroteText o new text (Err (write.Memory n))) → TightensText (kind_of c) old new (Err (Memory n))
-written_not c None new text n z w = (z, tt)
-written_not c (Some o) new text n z w = (z, w.1)
+pub written_not : (P : Profile) (c : Certificate) (old new : Option Output) (text : List ℕ) (n : ℕ) → n ≡ 0 → IfSome old (λ o. WroteText o new text (Err (write.Memory n))) → TightensText P (kind_of c) old new (Err (Memory n))
+written_not P c None new text n z w = (z, tt)
+written_not P c (Some o) new text n z w = (z, w.1)
 
 -- ---- the answer for a text
 
-answered : (r : Rest) (a : Answer) → HasAnswer (found_in r) a → IsAnswer one r a
-answered r a h = answer_explained one (found_in r) a h.0 h.1
+answered : (P : Profile) (r : Rest) (a : Answer) → HasAnswer P (found_in r) a → IsAnswer P r a
+answered P r a h = answer_explained P (found_in r) a h.0 h.1
 
-pub judged_proof : (source : Option Input) (c : Certificate) (report : Report) (old new : Option Output) (x : Result Outcome TightenFault) → TightensText (kind_of c) old new x
-    → IfKnown source (λ i. ((found_in (text_of i)).certificate ≡ c) × HasAnswer (found_in (text_of i)) (verified report)) → Tightens source old new x
-judged_proof source c report old new x h found =
-    tightens source old new x (tightens_by (kind_of c) any_kind (λ d e p. tt) (λ y b. tt) (λ b. tt) old new x h) (exact source found)
+pub judged_proof : (P : Profile) (source : Option Input) (c : Certificate) (report : Report) (old new : Option Output) (x : Result Outcome TightenFault) → TightensText P (kind_of c) old new x
+    → IfKnown source (λ i. ((found_in (text_of i)).certificate ≡ c) × HasAnswer P (found_in (text_of i)) (verified report)) → TightensIn P source old new x
+judged_proof P source c report old new x h found =
+    tightens P source old new x (tightens_by P (kind_of c) any_kind (λ d e p. tt) (λ y b. tt) (λ b. tt) old new x h) (exact source found)
   where
-    exact : (s : Option Input) → IfKnown s (λ i. ((found_in (text_of i)).certificate ≡ c) × HasAnswer (found_in (text_of i)) (verified report)) → IfKnown s (λ i. TightensText (kind_read (text_of i)) old new x)
+    exact : (s : Option Input) → IfKnown s (λ i. ((found_in (text_of i)).certificate ≡ c) × HasAnswer P (found_in (text_of i)) (verified report)) → IfKnown s (λ i. TightensText P (kind_read P (text_of i)) old new x)
     exact None f = tt
     exact (Some i) f = λ short.
         let r = text_of i in
-        let is = certificate_is r c report (f short).0 (answered r (verified report) (f short).1) in
-        tightens_by (kind_of c) (kind_read r) (λ d e p. is ∙ ap Ok (sym e)) (λ y b. absurd b) (λ b. absurd b) old new x h
+        let is = certificate_is P r c report (f short).0 (answered P r (verified report) (f short).1) in
+        tightens_by P (kind_of c) (kind_read P r) (λ d e p. is ∙ ap Ok (sym e)) (λ y b. absurd b) (λ b. absurd b) old new x h
 
-pub judged_refused : (source : Option Input) (y : Refusal) (old : Option Output) → IfKnown source (λ i. HasAnswer (found_in (text_of i)) (refuses (refusal_of y))) → Tightens source old old (Ok (Refused y))
-judged_refused source y old found = tightens source old old (Ok (Refused y)) (tt, nothing_taken old) (exact source found)
+pub judged_refused : (P : Profile) (source : Option Input) (y : Refusal) (old : Option Output) → IfKnown source (λ i. HasAnswer P (found_in (text_of i)) (refuses (refusal_of y))) → TightensIn P source old old (Ok (Refused y))
+judged_refused P source y old found = tightens P source old old (Ok (Refused y)) (tt, nothing_taken old) (exact source found)
   where
-    exact : (s : Option Input) → IfKnown s (λ i. HasAnswer (found_in (text_of i)) (refuses (refusal_of y))) → IfKnown s (λ i. TightensText (kind_read (text_of i)) old old (Ok (Refused y)))
+    exact : (s : Option Input) → IfKnown s (λ i. HasAnswer P (found_in (text_of i)) (refuses (refusal_of y))) → IfKnown s (λ i. TightensText P (kind_read P (text_of i)) old old (Ok (Refused y)))
     exact None f = tt
-    exact (Some i) f = λ short. (answered (text_of i) (refuses (refusal_of y)) (f short), nothing_taken old)
+    exact (Some i) f = λ short. (answered P (text_of i) (refuses (refusal_of y)) (f short), nothing_taken old)
 
-pub judged_cut_short : (source : Option Input) (old : Option Output) → IfKnown source (λ i. HasAnswer (found_in (text_of i)) cut_short) → Tightens source old old (Err Read)
-judged_cut_short source old found = tightens source old old (Err Read) (tt, nothing_taken old) (exact source found)
+pub judged_cut_short : (P : Profile) (source : Option Input) (old : Option Output) → IfKnown source (λ i. HasAnswer P (found_in (text_of i)) cut_short) → TightensIn P source old old (Err Read)
+judged_cut_short P source old found = tightens P source old old (Err Read) (tt, nothing_taken old) (exact source found)
   where
-    exact : (s : Option Input) → IfKnown s (λ i. HasAnswer (found_in (text_of i)) cut_short) → IfKnown s (λ i. TightensText (kind_read (text_of i)) old old (Err Read))
+    exact : (s : Option Input) → IfKnown s (λ i. HasAnswer P (found_in (text_of i)) cut_short) → IfKnown s (λ i. TightensText P (kind_read P (text_of i)) old old (Err Read))
     exact None f = tt
-    exact (Some i) f = λ short. (answered (text_of i) cut_short (f short), nothing_taken old)
+    exact (Some i) f = λ short. (answered P (text_of i) cut_short (f short), nothing_taken old)
 
-pub judged_memory : (source : Option Input) (old : Option Output) → Tightens source old old (Err (Memory 0))
-judged_memory source old = tightens source old old (Err (Memory 0)) (refl, nothing_taken old) (exact source)
+pub judged_memory : (P : Profile) (source : Option Input) (old : Option Output) → TightensIn P source old old (Err (Memory 0))
+judged_memory P source old = tightens P source old old (Err (Memory 0)) (refl, nothing_taken old) (exact source)
   where
-    exact : (s : Option Input) → IfKnown s (λ i. TightensText (kind_read (text_of i)) old old (Err (Memory 0)))
+    exact : (s : Option Input) → IfKnown s (λ i. TightensText P (kind_read P (text_of i)) old old (Err (Memory 0)))
     exact None = tt
     exact (Some i) = λ short. (refl, nothing_taken old)
 
-pub judged_not : (source : Option Input) (e : Unproved) (old : Option Output) → IfKnown source (λ i. TellsWhy (found_in (text_of i)) e) → Tightens source old old (unproved_answer e)
-judged_not source (unproved.Refused y) old h = judged_refused source y old h
-judged_not source unproved.Read old h = judged_cut_short source old h
-judged_not source unproved.Memory old h = judged_memory source old
+pub judged_not : (P : Profile) (source : Option Input) (e : Unproved) (old : Option Output) → IfKnown source (λ i. TellsWhy P (found_in (text_of i)) e) → TightensIn P source old old (unproved_answer e)
+judged_not P source (unproved.Refused y) old h = judged_refused P source y old h
+judged_not P source unproved.Read old h = judged_cut_short P source old h
+judged_not P source unproved.Memory old h = judged_memory P source old

@@ -9,7 +9,7 @@ use Rattle.vipr_scan.specs.Giving.{rest_of}
 use Rattle.vipr_scan.specs.Faults.{Fails}
 use Rattle.vipr_scan.specs.declared.error.TextError.{TextError}
 use Rattle.vipr_scan.specs.declared.error.TextError.TheVariants as text
-use Rattle.vipr_spec.specs.Constraint.{one, Row, at, NamesBelow, condition}
+use Rattle.vipr_spec.specs.Constraint.{Profile, Row, at, NamesBelow, condition}
 use Rattle.vipr_spec.specs.Certificate.{Named, Problem, variables, Derivation, Certificate, MeetsPrimal, IsProof, count}
 use Rattle.vipr_spec.specs.Reading.{Rest, Read, Fault as ReadFault, refused, unread, problem_read, solution_read, derivations_read, derivation_read, end_read}
 use Rattle.vipr_spec.specs.Steps.{with_more, with_next, PassesStep, step_tests, FirstFailing}
@@ -36,80 +36,80 @@ use Rattle.vipr_tighten.specs.Keeping.{HasAnswer, TellsWhy, TellsProof, LeadsTo,
 
 -- ---- what leads to what
 
-pub leads_same : (f : Found) → LeadsTo f f
-leads_same f = record { same = refl; answers = λ a x h. h }
+pub leads_same : (P : Profile) (f : Found) → LeadsTo P f f
+leads_same P f = record { same = refl; answers = λ a x h. h }
 
-pub leads_on : (f g h : Found) → LeadsTo f g → LeadsTo g h → LeadsTo f h
-leads_on f g h x y = record { same = x.same ∙ y.same; answers = λ a z t. x.answers a z (y.answers a z t) }
+pub leads_on : (P : Profile) (f g h : Found) → LeadsTo P f g → LeadsTo P g h → LeadsTo P f h
+leads_on P f g h x y = record { same = x.same ∙ y.same; answers = λ a z t. x.answers a z (y.answers a z t) }
 
-pub tells_by : (f g : Found) → LeadsTo f g → (e : Unproved) → TellsWhy g e → TellsWhy f e
-tells_by f g x (unproved.Refused r) h = (h.0, x.answers _ h.0 h.1)
-tells_by f g x unproved.Read h = (h.0, x.answers _ h.0 h.1)
-tells_by f g x unproved.Memory h = tt
+pub tells_by : (P : Profile) (f g : Found) → LeadsTo P f g → (e : Unproved) → TellsWhy P g e → TellsWhy P f e
+tells_by P f g x (unproved.Refused r) h = (h.0, x.answers _ h.0 h.1)
+tells_by P f g x unproved.Read h = (h.0, x.answers _ h.0 h.1)
+tells_by P f g x unproved.Memory h = tt
 
 -- ---- the texts' faults
 
-text_tells : {Y : Type 0} (f : Found) (e : TextError) (r : Result Y ReadFault) → Fails e r → ((x : ReadFault) → r ≡ Err x → HasAnswer f (told_by (spelled x))) → TellsWhy f (text_reason e)
-text_tells f (text.Refused c o) r h k = k (refused c o) h
-text_tells f text.Read r h k = k unread h
-text_tells f text.Memory r h k = tt
-text_tells f text.Spent r h k = absurd h
+text_tells : {Y : Type 0} (P : Profile) (f : Found) (e : TextError) (r : Result Y ReadFault) → Fails e r → ((x : ReadFault) → r ≡ Err x → HasAnswer P f (told_by (spelled x))) → TellsWhy P f (text_reason e)
+text_tells P f (text.Refused c o) r h k = k (refused c o) h
+text_tells P f text.Read r h k = k unread h
+text_tells P f text.Memory r h k = tt
+text_tells P f text.Spent r h k = absurd h
 
-pub problem_missing : (r : Rest) (e : TextError) → Fails e (problem_read r) → TellsWhy (found_in r) (text_reason e)
-problem_missing r e h = text_tells (found_in r) e (problem_read r) h (λ f is. (none, (problem_fault one (told_by (spelled f)) none r f is).1 (refl, refl)))
+pub problem_missing : (P : Profile) (r : Rest) (e : TextError) → Fails e (problem_read r) → TellsWhy P (found_in r) (text_reason e)
+problem_missing P r e h = text_tells P (found_in r) e (problem_read r) h (λ f is. (none, (problem_fault P (told_by (spelled f)) none r f is).1 (refl, refl)))
 
-solution_fault_at : (p : Problem) (ss : List (Named Row)) (n : ℕ) (r : Rest) (e : TextError) → 0 < n → Fails e (solution_read p r) → TellsWhy (solutions_from p ss n r) (text_reason e)
-solution_fault_at p ss zero r e lt h = absurd (omega arith)
-solution_fault_at p ss (suc n) r e lt h = text_tells (solutions_from p ss (suc n) r) e (solution_read p r) h (λ f is. (none, (solution_fault one (told_by (spelled f)) none p ss n r f is).1 (refl, refl)))
+solution_fault_at : (P : Profile) (p : Problem) (ss : List (Named Row)) (n : ℕ) (r : Rest) (e : TextError) → 0 < n → Fails e (solution_read p r) → TellsWhy P (solutions_from p ss n r) (text_reason e)
+solution_fault_at P p ss zero r e lt h = absurd (omega arith)
+solution_fault_at P p ss (suc n) r e lt h = text_tells P (solutions_from p ss (suc n) r) e (solution_read p r) h (λ f is. (none, (solution_fault P (told_by (spelled f)) none p ss n r f is).1 (refl, refl)))
 
-solution_missing : (p : Problem) (ss : List (Named Row)) (n : ℕ) (r : Rest) (e : TextError) → ((n ≡ 0) × Fails {Y = Unit {0}} e (Ok tt)) ⊎ ((0 < n) × Fails e (solution_read p r)) → TellsWhy (solutions_from p ss n r) (text_reason e)
-solution_missing p ss n r (text.Refused c o) (inl h) = absurd (cc h.1)
-solution_missing p ss n r text.Read (inl h) = absurd (cc h.1)
-solution_missing p ss n r text.Memory (inl h) = tt
-solution_missing p ss n r text.Spent (inl h) = absurd h.1
-solution_missing p ss n r e (inr h) = solution_fault_at p ss n r e h.0 h.1
+solution_missing : (P : Profile) (p : Problem) (ss : List (Named Row)) (n : ℕ) (r : Rest) (e : TextError) → ((n ≡ 0) × Fails {Y = Unit {0}} e (Ok tt)) ⊎ ((0 < n) × Fails e (solution_read p r)) → TellsWhy P (solutions_from p ss n r) (text_reason e)
+solution_missing P p ss n r (text.Refused c o) (inl h) = absurd (cc h.1)
+solution_missing P p ss n r text.Read (inl h) = absurd (cc h.1)
+solution_missing P p ss n r text.Memory (inl h) = tt
+solution_missing P p ss n r text.Spent (inl h) = absurd h.1
+solution_missing P p ss n r e (inr h) = solution_fault_at P p ss n r e h.0 h.1
 
-pub count_missing : (p : Problem) (ss : List (Named Row)) (r : Rest) (e : TextError) → MeetsPrimal p ss p.claim → Fails e (derivations_read p r) → TellsWhy (solutions_from p ss 0 r) (text_reason e)
-count_missing p ss r e met h = text_tells (solutions_from p ss 0 r) e (derivations_read p r) h (λ f is. (none, (derivations_fault one (told_by (spelled f)) none p ss r f met is).1 (refl, refl)))
+pub count_missing : (P : Profile) (p : Problem) (ss : List (Named Row)) (r : Rest) (e : TextError) → MeetsPrimal p ss p.claim → Fails e (derivations_read p r) → TellsWhy P (solutions_from p ss 0 r) (text_reason e)
+count_missing P p ss r e met h = text_tells P (solutions_from p ss 0 r) e (derivations_read p r) h (λ f is. (none, (derivations_fault P (told_by (spelled f)) none p ss r f met is).1 (refl, refl)))
 
-derivation_missing : (c : Certificate) (n : ℕ) (r : Rest) (e : TextError) → ((n ≡ 0) × Fails e (end_read r)) ⊎ ((0 < n) × Fails e (derivation_read c.problem r)) → TellsWhy (derivations_from c n r) (text_reason e)
-derivation_missing c n r e (inl h) = subst (λ n. TellsWhy (derivations_from c n r) (text_reason e)) (sym h.0) (text_tells (derivations_from c 0 r) e (end_read r) h.1 (λ f is. (none, (end_fault one (told_by (spelled f)) none c r f is).1 (refl, refl))))
-derivation_missing c zero r e (inr h) = absurd (let z = h.0 in omega arith)
-derivation_missing c (suc n) r e (inr h) = text_tells (derivations_from c (suc n) r) e (derivation_read c.problem r) h.1 (λ f is. (none, (derivation_fault one (told_by (spelled f)) none c n r f is).1 (refl, refl)))
+derivation_missing : (P : Profile) (c : Certificate) (n : ℕ) (r : Rest) (e : TextError) → ((n ≡ 0) × Fails e (end_read r)) ⊎ ((0 < n) × Fails e (derivation_read c.problem r)) → TellsWhy P (derivations_from c n r) (text_reason e)
+derivation_missing P c n r e (inl h) = subst (λ n. TellsWhy P (derivations_from c n r) (text_reason e)) (sym h.0) (text_tells P (derivations_from c 0 r) e (end_read r) h.1 (λ f is. (none, (end_fault P (told_by (spelled f)) none c r f is).1 (refl, refl))))
+derivation_missing P c zero r e (inr h) = absurd (let z = h.0 in omega arith)
+derivation_missing P c (suc n) r e (inr h) = text_tells P (derivations_from c (suc n) r) e (derivation_read c.problem r) h.1 (λ f is. (none, (derivation_fault P (told_by (spelled f)) none c n r f is).1 (refl, refl)))
 
 -- ---- one item more
 
-pub problem_leads : (r : Rest) (p : Problem) (n : ℕ) (s : Rest) → problem_read r ≡ Ok ((p, n), s) → LeadsTo (found_in r) (solutions_from p [] n s)
+pub problem_leads : (P : Profile) (r : Rest) (p : Problem) (n : ℕ) (s : Rest) → problem_read r ≡ Ok ((p, n), s) → LeadsTo P (found_in r) (solutions_from p [] n s)
 unfolding found_in
-problem_leads r p n s e = record { same = ap (λ (x : Read (Problem × ℕ)). (problem_found x).certificate) e; answers = λ a x h. (problem_ok one a x r p n s e).1 h }
+problem_leads P r p n s e = record { same = ap (λ (x : Read (Problem × ℕ)). (problem_found x).certificate) e; answers = λ a x h. (problem_ok P a x r p n s e).1 h }
 
-solution_leads : (p : Problem) (ss : List (Named Row)) (n : ℕ) (r : Rest) (s : Named Row) (t : Rest) → solution_read p r ≡ Ok (s, t) → FirstFailing (PassesSolution p s.item) (solution_tests p) None
-    → LeadsTo (solutions_from p ss (suc n) r) (solutions_from p (ss ++ s ∷ []) n t)
+solution_leads : (P : Profile) (p : Problem) (ss : List (Named Row)) (n : ℕ) (r : Rest) (s : Named Row) (t : Rest) → solution_read p r ≡ Ok (s, t) → FirstFailing (PassesSolution p s.item) (solution_tests p) None
+    → LeadsTo P (solutions_from p ss (suc n) r) (solutions_from p (ss ++ s ∷ []) n t)
 unfolding items_read
-solution_leads p ss n r s t e passes =
+solution_leads P p ss n r s t e passes =
     let after = items_read (solution_read p) n t in
     let from : Read (Named Row) → Certificate = λ x. (let items = before_items (items_read (solution_read p) n) x in record { problem = p; solutions = ss ++ items.0; derivations = (ending_found p items.1).0 }) in
     record {
       same = ap from e ∙ ap (λ (l : List (Named Row)). record { problem = p; solutions = l; derivations = (ending_found p after.1).0 }) (sym (append_assoc ss (s ∷ []) after.0));
-      answers = λ a x h. (solution_passes one a x p ss n r s t e passes).1 h;
+      answers = λ a x h. (solution_passes P a x p ss n r s t e passes).1 h;
     }
 
-pub count_leads : (p : Problem) (ss : List (Named Row)) (r : Rest) (n : ℕ) (s : Rest) → MeetsPrimal p ss p.claim → derivations_read p r ≡ Ok (n, s) → LeadsTo (solutions_from p ss 0 r) (derivations_from (start p ss) n s)
+pub count_leads : (P : Profile) (p : Problem) (ss : List (Named Row)) (r : Rest) (n : ℕ) (s : Rest) → MeetsPrimal p ss p.claim → derivations_read p r ≡ Ok (n, s) → LeadsTo P (solutions_from p ss 0 r) (derivations_from (start p ss) n s)
 unfolding items_read
-count_leads p ss r n s met e = record {
+count_leads P p ss r n s met e = record {
   same = ap (λ (x : Read ℕ). record { problem = p; solutions = ss ++ []; derivations = (derivations_found p x).0 }) e
       ∙ ap (λ (l : List (Named Row)). record { problem = p; solutions = l; derivations = (items_read (derivation_read p) n s).0 }) (append-nil ss);
-  answers = λ a x h. (derivations_begin one a x p ss r n s met e).1 h;
+  answers = λ a x h. (derivations_begin P a x p ss r n s met e).1 h;
 }
 
-derivation_leads : (c : Certificate) (n : ℕ) (r : Rest) (d : Derivation) (s : Rest) → derivation_read c.problem r ≡ Ok (d, s) → FirstFailing (PassesStep one c (condition d.stated)) (step_tests d.reason) None
-    → LeadsTo (derivations_from c (suc n) r) (derivations_from (with_next c d) n s)
+derivation_leads : (P : Profile) (c : Certificate) (n : ℕ) (r : Rest) (d : Derivation) (s : Rest) → derivation_read c.problem r ≡ Ok (d, s) → FirstFailing (PassesStep P c (condition d.stated)) (step_tests d.reason) None
+    → LeadsTo P (derivations_from c (suc n) r) (derivations_from (with_next c d) n s)
 unfolding items_read
-derivation_leads c n r d s e passes =
+derivation_leads P c n r d s e passes =
     let after = items_read (derivation_read c.problem) n s in
     record {
       same = ap (λ (x : Read Derivation). with_more c (before_items (items_read (derivation_read c.problem) n) x).0) e ∙ ap (λ (l : List Derivation). record c { derivations = l }) (sym (append_assoc c.derivations (d ∷ []) after.0));
-      answers = λ a x h. (derivation_passes one a x c n r d s e passes).1 h;
+      answers = λ a x h. (derivation_passes P a x c n r d s e passes).1 h;
     }
 
 pub end_same : (c : Certificate) (r : Rest) → (derivations_from c 0 r).certificate ≡ c
@@ -130,23 +130,23 @@ first_unspent Memory e says is = cc
 
 -- ---- the solutions
 
-pub listed_first : (p : Problem) (k : State) (r : Items) → IsAmong one p [] k r → KeepsListed p r [] k r
-listed_first p k r is = record { is_among = is; known = λ t. t; leads = λ t. leads_same (solutions_left p [] r) }
+pub listed_first : (P : Profile) (p : Problem) (k : State) (r : Items) → IsAmong P p [] k r → KeepsListed P p r [] k r
+listed_first P p k r is = record { is_among = is; known = λ t. t; leads = λ t. leads_same P (solutions_left p [] r) }
 
 pub solution_unspent : (ss : List (Named Row)) (s : Named Row) (k l : State) (e : Stop) → TakesSolution ss s k l (Err e) → e ≢ stop.Spent
 solution_unspent ss s k l e h = first_unspent h.0 e h.1.answer
 
 -- there is a number for one more
-pub one_more : (p : Problem) (ss : List (Named Row)) (k : State) (old : Items) (n : ℕ) → IsAmong one p ss k old → old.left ≡ suc n → k.progress.solutions + 1 < 2 ^ 32
-one_more p ss k old n is some = let e = is.has.solutions in let r = is.room in omega (arith, e, r, some)
+pub one_more : (P : Profile) (p : Problem) (ss : List (Named Row)) (k : State) (old : Items) (n : ℕ) → IsAmong P p ss k old → old.left ≡ suc n → k.progress.solutions + 1 < 2 ^ 32
+one_more P p ss k old n is some = let e = is.has.solutions in let r = is.room in omega (arith, e, r, some)
 
-module _ (p : Problem) (ss : List (Named Row)) (k l : State) (first old : Items) (h : KeepsListed p first ss k old) where
-  pub solution_unread : (e : TextError) → ((old.left ≡ 0) × Fails {Y = Unit {0}} e (Ok tt)) ⊎ ((0 < old.left) × Fails e (solution_read p (rest_of old.rest))) → IsSome first.rest → TellsWhy (solutions_left p [] first) (text_reason e)
-  solution_unread e x known = tells_by (solutions_left p [] first) (solutions_left p ss old) (h.leads known) (text_reason e) (solution_missing p ss old.left (rest_of old.rest) e x)
+module _ (P : Profile) (p : Problem) (ss : List (Named Row)) (k l : State) (first old : Items) (h : KeepsListed P p first ss k old) where
+  pub solution_unread : (e : TextError) → ((old.left ≡ 0) × Fails {Y = Unit {0}} e (Ok tt)) ⊎ ((0 < old.left) × Fails e (solution_read p (rest_of old.rest))) → IsSome first.rest → TellsWhy P (solutions_left p [] first) (text_reason e)
+  solution_unread e x known = tells_by P (solutions_left p [] first) (solutions_left p ss old) (h.leads known) (text_reason e) (solution_missing P p ss old.left (rest_of old.rest) e x)
 
   module _ (new : Items) (s : Named Row) (fewer : old.left ≡ suc new.left) (memory : Remembers old new) (unspent : new.failed ≡ false)
       (read : IsSome old.rest → (solution_read p (rest_of old.rest) ≡ Ok (s, rest_of new.rest)) × (IsSome new.rest)) where
-    pub solution_taken : TakesSolution ss s k l (Ok tt) → KeepsListed p first (ss ++ s ∷ []) l new
+    pub solution_taken : TakesSolution ss s k l (Ok tt) → KeepsListed P p first (ss ++ s ∷ []) l new
     solution_taken t =
         let is = h.is_among in
         record {
@@ -164,43 +164,43 @@ module _ (p : Problem) (ss : List (Named Row)) (k l : State) (first old : Items)
           leads = λ known.
               let got = read (h.known known) in
               let passes = subst (λ q. FirstFailing (PassesSolution q s.item) (solution_tests q) None) is.problem t.0 in
-              leads_on (solutions_left p [] first) (solutions_left p ss old) (solutions_left p (ss ++ s ∷ []) new) (h.leads known)
-              (subst (λ n. LeadsTo (solutions_from p ss n (rest_of old.rest)) (solutions_left p (ss ++ s ∷ []) new)) (sym fewer) (solution_leads p ss new.left (rest_of old.rest) s (rest_of new.rest) got.0 passes));
+              leads_on P (solutions_left p [] first) (solutions_left p ss old) (solutions_left p (ss ++ s ∷ []) new) (h.leads known)
+              (subst (λ n. LeadsTo P (solutions_from p ss n (rest_of old.rest)) (solutions_left p (ss ++ s ∷ []) new)) (sym fewer) (solution_leads P p ss new.left (rest_of old.rest) s (rest_of new.rest) got.0 passes));
         }
 
-    solution_stopped : (halt : Halt) → StopsSolution p ss s halt → IsSome old.rest → TellsWhy (solutions_left p ss old) (stop_reason (halt_answer halt))
+    solution_stopped : (halt : Halt) → StopsSolution p ss s halt → IsSome old.rest → TellsWhy P (solutions_left p ss old) (stop_reason (halt_answer halt))
     solution_stopped Memory w known = tt
     solution_stopped (Refused r f) (e, named, fails, refusal) known =
         let a = told_by (of_solution (length ss) s.item (test_of e)) in
         let x = solution_detail p s.name s.item (test_of e) in
-        subst (HasAnswer (solutions_left p ss old)) (sym refusal) (subst (λ n. HasAnswer (solutions_from p ss n (rest_of old.rest)) a) (sym fewer)
-        (x, (solution_fails one a x p ss new.left (rest_of old.rest) s (rest_of new.rest) (test_of e) (read known).0 fails.0).1 (refl, refl)))
+        subst (HasAnswer P (solutions_left p ss old)) (sym refusal) (subst (λ n. HasAnswer P (solutions_from p ss n (rest_of old.rest)) a) (sym fewer)
+        (x, (solution_fails P a x p ss new.left (rest_of old.rest) s (rest_of new.rest) (test_of e) (read known).0 fails.0).1 (refl, refl)))
 
-    pub solution_stops : (e : Stop) → TakesSolution ss s k l (Err e) → IsSome first.rest → TellsWhy (solutions_left p [] first) (stop_reason e)
+    pub solution_stops : (e : Stop) → TakesSolution ss s k l (Err e) → IsSome first.rest → TellsWhy P (solutions_left p [] first) (stop_reason e)
     solution_stops e (halt, halts, why) known =
-        tells_by (solutions_left p [] first) (solutions_left p ss old) (h.leads known) (stop_reason e)
-        (subst (λ x. TellsWhy (solutions_left p ss old) (stop_reason x)) (sym halts.answer) (solution_stopped halt (subst (λ q. StopsSolution q ss s halt) h.is_among.problem why) (h.known known)))
+        tells_by P (solutions_left p [] first) (solutions_left p ss old) (h.leads known) (stop_reason e)
+        (subst (λ x. TellsWhy P (solutions_left p ss old) (stop_reason x)) (sym halts.answer) (solution_stopped halt (subst (λ q. StopsSolution q ss s halt) h.is_among.problem why) (h.known known)))
 
 -- ---- their end
 
 pub ending_unspent : (ss : List (Named Row)) (k l : State) (e : Stop) → EndsSolutions ss k l (Err e) → e ≢ stop.Spent
 ending_unspent ss k l e h = first_unspent h.0 e h.1.answer
 
-ending_stopped : (p : Problem) (ss : List (Named Row)) (r : Rest) (h : Halt) → StopsEnd p ss h → TellsWhy (solutions_from p ss 0 r) (stop_reason (halt_answer h))
-ending_stopped p ss r Memory w = absurd w
-ending_stopped p ss r (Refused x f) (named, fails, refusal) =
+ending_stopped : (P : Profile) (p : Problem) (ss : List (Named Row)) (r : Rest) (h : Halt) → StopsEnd p ss h → TellsWhy P (solutions_from p ss 0 r) (stop_reason (halt_answer h))
+ending_stopped P p ss r Memory w = absurd w
+ending_stopped P p ss r (Refused x f) (named, fails, refusal) =
     let bound = missed_bound p ss p.claim fails in
-    subst (HasAnswer (solutions_from p ss 0 r)) (sym refusal) (no_primal bound.0, (solutions_unmet one (told_by meets_primal) (no_primal bound.0) p ss r fails).1 (refl, (bound.0, bound.1, refl)))
+    subst (HasAnswer P (solutions_from p ss 0 r)) (sym refusal) (no_primal bound.0, (solutions_unmet P (told_by meets_primal) (no_primal bound.0) p ss r fails).1 (refl, (bound.0, bound.1, refl)))
 
-pub ending_unmet : (p : Problem) (ss : List (Named Row)) (k l : State) (r : Rest) (e : Stop) → k.progress.problem ≡ p → EndsSolutions ss k l (Err e) → TellsWhy (solutions_from p ss 0 r) (stop_reason e)
-ending_unmet p ss k l r e same (h, halts, why) = subst (λ s. TellsWhy (solutions_from p ss 0 r) (stop_reason s)) (sym halts.answer) (ending_stopped p ss r h (subst (λ q. StopsEnd q ss h) same why))
+pub ending_unmet : (P : Profile) (p : Problem) (ss : List (Named Row)) (k l : State) (r : Rest) (e : Stop) → k.progress.problem ≡ p → EndsSolutions ss k l (Err e) → TellsWhy P (solutions_from p ss 0 r) (stop_reason e)
+ending_unmet P p ss k l r e same (h, halts, why) = subst (λ s. TellsWhy P (solutions_from p ss 0 r) (stop_reason s)) (sym halts.answer) (ending_stopped P p ss r h (subst (λ q. StopsEnd q ss h) same why))
 
 pub ending_met : (p : Problem) (ss : List (Named Row)) (k l : State) → k.progress.problem ≡ p → EndsSolutions ss k l (Ok tt) → MeetsPrimal p ss p.claim
 ending_met p ss k l same h = subst (λ q. MeetsPrimal q ss q.claim) same h.0
 
-pub at_start : (p : Problem) (ss : List (Named Row)) (k l : State) (r : Items) → IsAmong one p ss k r → EndsSolutions ss k l (Ok tt) → (new : Items) → Knows new p → new.failed ≡ false → new.constraints + new.left < 2 ^ 32
-    → IsAt one (start p ss) l new
-at_start p ss k l r is h new knows unspent room = record {
+pub at_start : (P : Profile) (p : Problem) (ss : List (Named Row)) (k l : State) (r : Items) → IsAmong P p ss k r → EndsSolutions ss k l (Ok tt) → (new : Items) → Knows new p → new.failed ≡ false → new.constraints + new.left < 2 ^ 32
+    → IsAt P (start p ss) l new
+at_start P p ss k l r is h new knows unspent room = record {
   profile = ap (λ v. v.progress.profile) h.2 ∙ is.profile;
   has = subst (λ q. HasSteps (start q ss) l.progress) is.problem h.1;
   phase = ap (λ v. v.in_solutions) h.2;
@@ -212,36 +212,36 @@ at_start p ss k l r is h new knows unspent room = record {
 
 -- ---- the derivations
 
-pub derived_first : (c : Certificate) (k : State) (r : Items) → IsAt one c k r → KeepsDerived c r c k r
-derived_first c k r is = record { is_at = is; known = λ t. t; leads = λ t. leads_same (derivations_left c r) }
+pub derived_first : (P : Profile) (c : Certificate) (k : State) (r : Items) → IsAt P c k r → KeepsDerived P c r c k r
+derived_first P c k r is = record { is_at = is; known = λ t. t; leads = λ t. leads_same P (derivations_left c r) }
 
 pub step_unspent : (c : Certificate) (d : Derivation) (k l : State) (e : Stop) → TakesStep c d k l (Err e) → e ≢ stop.Spent
 step_unspent c d k l e h = first_unspent h.0 e h.1.answer
 
 -- a derivation that was read has an index, and names variables of the problem
-pub room_for : (c : Certificate) (k : State) (old : Items) (n : ℕ) → IsAt one c k old → old.left ≡ suc n → k.progress.rows.next + 1 < 2 ^ 32
-room_for c k old n is e = let r = is.room in let next = is.has.rows.next in omega (arith, r, next, e)
+pub room_for : (P : Profile) (c : Certificate) (k : State) (old : Items) (n : ℕ) → IsAt P c k old → old.left ≡ suc n → k.progress.rows.next + 1 < 2 ^ 32
+room_for P c k old n is e = let r = is.room in let next = is.has.rows.next in omega (arith, r, next, e)
 
-pub names_for : (c : Certificate) (k : State) (old : Items) (row : ℕ → _) → IsAt one c k old → NamesBelow old.variables row → NamesBelow (variables k.progress.problem) row
-names_for c k old row is names = subst (λ p. NamesBelow (variables p) row) is.has.problem (subst (λ n. NamesBelow n row) is.knows.variables names)
+pub names_for : (P : Profile) (c : Certificate) (k : State) (old : Items) (row : ℕ → _) → IsAt P c k old → NamesBelow old.variables row → NamesBelow (variables k.progress.problem) row
+names_for P c k old row is names = subst (λ p. NamesBelow (variables p) row) is.has.problem (subst (λ n. NamesBelow n row) is.knows.variables names)
 
-module _ (s c : Certificate) (k l : State) (first old : Items) (h : KeepsDerived s first c k old) where
-  pub step_unread : (e : TextError) → ((old.left ≡ 0) × Fails e (end_read (rest_of old.rest))) ⊎ ((0 < old.left) × Fails e (derivation_read c.problem (rest_of old.rest))) → IsSome first.rest → TellsWhy (derivations_left s first) (text_reason e)
-  step_unread e x known = tells_by (derivations_left s first) (derivations_left c old) (h.leads known) (text_reason e) (derivation_missing c old.left (rest_of old.rest) e x)
+module _ (P : Profile) (s c : Certificate) (k l : State) (first old : Items) (h : KeepsDerived P s first c k old) where
+  pub step_unread : (e : TextError) → ((old.left ≡ 0) × Fails e (end_read (rest_of old.rest))) ⊎ ((0 < old.left) × Fails e (derivation_read c.problem (rest_of old.rest))) → IsSome first.rest → TellsWhy P (derivations_left s first) (text_reason e)
+  step_unread e x known = tells_by P (derivations_left s first) (derivations_left c old) (h.leads known) (text_reason e) (derivation_missing P c old.left (rest_of old.rest) e x)
 
-  pub at_end : (IsSome old.rest → (old.left ≡ 0) × (end_read (rest_of old.rest) ≡ Ok tt)) → KeepsWhole s first c k
+  pub at_end : (IsSome old.rest → (old.left ≡ 0) × (end_read (rest_of old.rest) ≡ Ok tt)) → KeepsWhole P s first c k
   at_end ends = record {
     profile = h.is_at.profile;
     has = h.is_at.has;
     few = let r = h.is_at.room in omega arith;
     phase = h.is_at.phase;
     runs = h.is_at.runs;
-    leads = λ known. (rest_of old.rest, (ends (h.known known)).1, subst (λ n. LeadsTo (derivations_left s first) (derivations_from c n (rest_of old.rest))) (ends (h.known known)).0 (h.leads known));
+    leads = λ known. (rest_of old.rest, (ends (h.known known)).1, subst (λ n. LeadsTo P (derivations_left s first) (derivations_from c n (rest_of old.rest))) (ends (h.known known)).0 (h.leads known));
   }
 
   module _ (new : Items) (d : Derivation) (fewer : old.left ≡ suc new.left) (memory : Remembers old new) (unspent : new.failed ≡ false)
       (read : IsSome old.rest → (derivation_read c.problem (rest_of old.rest) ≡ Ok (d, rest_of new.rest)) × (IsSome new.rest)) where
-    pub step_taken : TakesStep c d k l (Ok tt) → KeepsDerived s first (with_next c d) l new
+    pub step_taken : TakesStep c d k l (Ok tt) → KeepsDerived P s first (with_next c d) l new
     step_taken t =
         let is = h.is_at in
         record {
@@ -258,45 +258,45 @@ module _ (s c : Certificate) (k l : State) (first old : Items) (h : KeepsDerived
           leads = λ known.
               let got = read (h.known known) in
               let passes = subst (λ Q. FirstFailing (PassesStep Q c (condition d.stated)) (step_tests d.reason) None) is.profile t.0 in
-              leads_on (derivations_left s first) (derivations_left c old) (derivations_left (with_next c d) new) (h.leads known)
-              (subst (λ n. LeadsTo (derivations_from c n (rest_of old.rest)) (derivations_left (with_next c d) new)) (sym fewer) (derivation_leads c new.left (rest_of old.rest) d (rest_of new.rest) got.0 passes));
+              leads_on P (derivations_left s first) (derivations_left c old) (derivations_left (with_next c d) new) (h.leads known)
+              (subst (λ n. LeadsTo P (derivations_from c n (rest_of old.rest)) (derivations_left (with_next c d) new)) (sym fewer) (derivation_leads P c new.left (rest_of old.rest) d (rest_of new.rest) got.0 passes));
         }
 
-    step_stopped : (halt : Halt) → StopsStep one c d halt → IsSome old.rest → TellsWhy (derivations_left c old) (stop_reason (halt_answer halt))
+    step_stopped : (halt : Halt) → StopsStep P c d halt → IsSome old.rest → TellsWhy P (derivations_left c old) (stop_reason (halt_answer halt))
     step_stopped Memory w known = tt
     step_stopped (Refused r f) (e, named, fails, refusal) known =
         let a = told_by (of_step (count c) fails.0) in
         let x = step d.name fails.2.0 in
-        subst (HasAnswer (derivations_left c old)) (sym refusal) (subst (λ n. HasAnswer (derivations_from c n (rest_of old.rest)) a) (sym fewer)
-        (x, (derivation_fails one a x c new.left (rest_of old.rest) d (rest_of new.rest) fails.0 (read known).0 fails.1).1 (refl, (fails.2.0, fails.2.2, refl))))
+        subst (HasAnswer P (derivations_left c old)) (sym refusal) (subst (λ n. HasAnswer P (derivations_from c n (rest_of old.rest)) a) (sym fewer)
+        (x, (derivation_fails P a x c new.left (rest_of old.rest) d (rest_of new.rest) fails.0 (read known).0 fails.1).1 (refl, (fails.2.0, fails.2.2, refl))))
 
-    pub step_stops : (e : Stop) → TakesStep c d k l (Err e) → IsSome first.rest → TellsWhy (derivations_left s first) (stop_reason e)
+    pub step_stops : (e : Stop) → TakesStep c d k l (Err e) → IsSome first.rest → TellsWhy P (derivations_left s first) (stop_reason e)
     step_stops e (halt, halts, why) known =
-        tells_by (derivations_left s first) (derivations_left c old) (h.leads known) (stop_reason e)
-        (subst (λ x. TellsWhy (derivations_left c old) (stop_reason x)) (sym halts.answer) (step_stopped halt (subst (λ Q. StopsStep Q c d halt) h.is_at.profile why) (h.known known)))
+        tells_by P (derivations_left s first) (derivations_left c old) (h.leads known) (stop_reason e)
+        (subst (λ x. TellsWhy P (derivations_left c old) (stop_reason x)) (sym halts.answer) (step_stopped halt (subst (λ Q. StopsStep Q c d halt) h.is_at.profile why) (h.known known)))
 
 -- ---- the end
 
 pub finish_unspent : (c : Certificate) (k l : State) (e : Stop) → Finishes c k l (Err e) → e ≢ stop.Spent
 finish_unspent c k l e h = first_unspent h.0 e h.1.answer
 
-finish_stopped : (c : Certificate) (r : Rest) (h : Halt) → end_read r ≡ Ok tt → StopsFinish one c h → TellsWhy (derivations_from c 0 r) (stop_reason (halt_answer h))
-finish_stopped c r Memory end w = absurd w
-finish_stopped c r (Refused x f) end (named, fails, refusal) =
+finish_stopped : (P : Profile) (c : Certificate) (r : Rest) (h : Halt) → end_read r ≡ Ok tt → StopsFinish P c h → TellsWhy P (derivations_from c 0 r) (stop_reason (halt_answer h))
+finish_stopped P c r Memory end w = absurd w
+finish_stopped P c r (Refused x f) end (named, fails, refusal) =
     let x = no_proof (goal_needed_by c.problem c.problem.claim) in
-    subst (HasAnswer (derivations_from c 0 r)) (sym refusal) (x, (end_unproved one (told_by meets_dual) x c r end fails).1 (refl, refl))
+    subst (HasAnswer P (derivations_from c 0 r)) (sym refusal) (x, (end_unproved P (told_by meets_dual) x c r end fails).1 (refl, refl))
 
-pub finish_stops : (c : Certificate) (k l : State) (r : Rest) (e : Stop) → k.progress.profile ≡ one → end_read r ≡ Ok tt → Finishes c k l (Err e) → TellsWhy (derivations_from c 0 r) (stop_reason e)
-finish_stops c k l r e under end (h, halts, why) = subst (λ s. TellsWhy (derivations_from c 0 r) (stop_reason s)) (sym halts.answer) (finish_stopped c r h end (subst (λ Q. StopsFinish Q c h) under why))
+pub finish_stops : (P : Profile) (c : Certificate) (k l : State) (r : Rest) (e : Stop) → k.progress.profile ≡ P → end_read r ≡ Ok tt → Finishes c k l (Err e) → TellsWhy P (derivations_from c 0 r) (stop_reason e)
+finish_stops P c k l r e under end (h, halts, why) = subst (λ s. TellsWhy P (derivations_from c 0 r) (stop_reason s)) (sym halts.answer) (finish_stopped P c r h end (subst (λ Q. StopsFinish Q c h) under why))
 
 -- ---- the whole text
 
-pub among_start : (p : Problem) (k : State) (r : Items) → k.progress.profile ≡ one → k.progress.problem ≡ p → HasSolutions [] k.progress → k.in_solutions ≡ true → k.halt ≡ None → Knows r p → r.failed ≡ false → r.left < 2 ^ 32 → IsAmong one p [] k r
-among_start p k r under same has phase runs knows unspent room = record { profile = under; problem = same; has = has; phase = phase; runs = runs; knows = knows; unspent = unspent; room = omega arith }
+pub among_start : (P : Profile) (p : Problem) (k : State) (r : Items) → k.progress.profile ≡ P → k.progress.problem ≡ p → HasSolutions [] k.progress → k.in_solutions ≡ true → k.halt ≡ None → Knows r p → r.failed ≡ false → r.left < 2 ^ 32 → IsAmong P p [] k r
+among_start P p k r under same has phase runs knows unspent room = record { profile = under; problem = same; has = has; phase = phase; runs = runs; knows = knows; unspent = unspent; room = omega arith }
 
-pub whole_shape : (p : Problem) (ss : List (Named Row)) (ds : List Derivation) (r s : Items) (k l : State) → ProblemShape p → KeepsListed p r ss k s → s.left ≡ 0 → All (SolutionShape r.variables) ss → Knows r p
-    → (t : Items) → Knows t p → KeepsWhole (start p ss) t (with_more (start p ss) ds) l → All (DerivationShape t.variables) ds → CertificateShape (with_more (start p ss) ds)
-whole_shape p ss ds r s k l problem listed all_read solutions knows t knew whole derivations = record {
+pub whole_shape : (P : Profile) (p : Problem) (ss : List (Named Row)) (ds : List Derivation) (r s : Items) (k l : State) → ProblemShape p → KeepsListed P p r ss k s → s.left ≡ 0 → All (SolutionShape r.variables) ss → Knows r p
+    → (t : Items) → Knows t p → KeepsWhole P (start p ss) t (with_more (start p ss) ds) l → All (DerivationShape t.variables) ds → CertificateShape (with_more (start p ss) ds)
+whole_shape P p ss ds r s k l problem listed all_read solutions knows t knew whole derivations = record {
   problem = problem;
   few_solutions = (let room = listed.is_among.room in omega arith);
   solutions = subst (λ n. All (SolutionShape n) ss) knows.variables solutions;
@@ -304,55 +304,55 @@ whole_shape p ss ds r s k l problem listed all_read solutions knows t knew whole
   derivations = subst (λ n. All (DerivationShape n) ds) knew.variables derivations;
 }
 
-module _ (t : Rest) (p : Problem) (r : Items) (read : problem_read t ≡ Ok ((p, r.left), rest_of r.rest)) (known : IsSome r.rest) where
-  to_solutions : LeadsTo (found_in t) (solutions_left p [] r)
-  to_solutions = problem_leads t p r.left (rest_of r.rest) read
+module _ (P : Profile) (t : Rest) (p : Problem) (r : Items) (read : problem_read t ≡ Ok ((p, r.left), rest_of r.rest)) (known : IsSome r.rest) where
+  to_solutions : LeadsTo P (found_in t) (solutions_left p [] r)
+  to_solutions = problem_leads P t p r.left (rest_of r.rest) read
 
-  pub solutions_tell : (e : Unproved) → TellsWhy (solutions_left p [] r) e → TellsWhy (found_in t) e
-  solutions_tell e h = tells_by (found_in t) (solutions_left p [] r) to_solutions e h
+  pub solutions_tell : (e : Unproved) → TellsWhy P (solutions_left p [] r) e → TellsWhy P (found_in t) e
+  solutions_tell e h = tells_by P (found_in t) (solutions_left p [] r) to_solutions e h
 
-  module _ (ss : List (Named Row)) (k : State) (s : Items) (listed : KeepsListed p r ss k s) (all_read : s.left ≡ 0) where
-    to_end : LeadsTo (found_in t) (solutions_from p ss 0 (rest_of s.rest))
-    to_end = subst (λ n. LeadsTo (found_in t) (solutions_from p ss n (rest_of s.rest))) all_read (leads_on (found_in t) (solutions_left p [] r) (solutions_left p ss s) to_solutions (listed.leads known))
+  module _ (ss : List (Named Row)) (k : State) (s : Items) (listed : KeepsListed P p r ss k s) (all_read : s.left ≡ 0) where
+    to_end : LeadsTo P (found_in t) (solutions_from p ss 0 (rest_of s.rest))
+    to_end = subst (λ n. LeadsTo P (found_in t) (solutions_from p ss n (rest_of s.rest))) all_read (leads_on P (found_in t) (solutions_left p [] r) (solutions_left p ss s) to_solutions (listed.leads known))
 
-    pub end_tells : (e : Unproved) → TellsWhy (solutions_from p ss 0 (rest_of s.rest)) e → TellsWhy (found_in t) e
-    end_tells e h = tells_by (found_in t) (solutions_from p ss 0 (rest_of s.rest)) to_end e h
+    pub end_tells : (e : Unproved) → TellsWhy P (solutions_from p ss 0 (rest_of s.rest)) e → TellsWhy P (found_in t) e
+    end_tells e h = tells_by P (found_in t) (solutions_from p ss 0 (rest_of s.rest)) to_end e h
 
     module _ (l : State) (ends : EndsSolutions ss k l (Ok tt)) (u : Items) (count : derivations_read p (rest_of s.rest) ≡ Ok (u.left, rest_of u.rest)) (more : IsSome u.rest) where
-      to_derivations : LeadsTo (found_in t) (derivations_left (start p ss) u)
+      to_derivations : LeadsTo P (found_in t) (derivations_left (start p ss) u)
       to_derivations =
           let met = ending_met p ss k l listed.is_among.problem ends in
-          leads_on (found_in t) (solutions_from p ss 0 (rest_of s.rest)) (derivations_left (start p ss) u) to_end (count_leads p ss (rest_of s.rest) u.left (rest_of u.rest) met count)
+          leads_on P (found_in t) (solutions_from p ss 0 (rest_of s.rest)) (derivations_left (start p ss) u) to_end (count_leads P p ss (rest_of s.rest) u.left (rest_of u.rest) met count)
 
-      pub derivations_tell : (e : Unproved) → TellsWhy (derivations_left (start p ss) u) e → TellsWhy (found_in t) e
-      derivations_tell e h = tells_by (found_in t) (derivations_left (start p ss) u) to_derivations e h
+      pub derivations_tell : (e : Unproved) → TellsWhy P (derivations_left (start p ss) u) e → TellsWhy P (found_in t) e
+      derivations_tell e h = tells_by P (found_in t) (derivations_left (start p ss) u) to_derivations e h
 
-      module _ (c : Certificate) (m n : State) (whole : KeepsWhole (start p ss) u c m) where
-        to_finish : LeadsTo (found_in t) (derivations_from c 0 (whole.leads more).0)
-        to_finish = leads_on (found_in t) (derivations_left (start p ss) u) (derivations_from c 0 (whole.leads more).0) to_derivations (whole.leads more).2
+      module _ (c : Certificate) (m n : State) (whole : KeepsWhole P (start p ss) u c m) where
+        to_finish : LeadsTo P (found_in t) (derivations_from c 0 (whole.leads more).0)
+        to_finish = leads_on P (found_in t) (derivations_left (start p ss) u) (derivations_from c 0 (whole.leads more).0) to_derivations (whole.leads more).2
 
-        pub finish_tells : (e : Stop) → Finishes c m n (Err e) → TellsWhy (found_in t) (stop_reason e)
-        finish_tells e h = tells_by (found_in t) (derivations_from c 0 (whole.leads more).0) to_finish (stop_reason e) (finish_stops c m n (whole.leads more).0 e whole.profile (whole.leads more).1 h)
+        pub finish_tells : (e : Stop) → Finishes c m n (Err e) → TellsWhy P (found_in t) (stop_reason e)
+        finish_tells e h = tells_by P (found_in t) (derivations_from c 0 (whole.leads more).0) to_finish (stop_reason e) (finish_stops P c m n (whole.leads more).0 e whole.profile (whole.leads more).1 h)
 
-        pub finish_found : (report : Report) → Finishes c m n (Ok report) → ((found_in t).certificate ≡ c) × HasAnswer (found_in t) (verified (report_of report))
+        pub finish_found : (report : Report) → Finishes c m n (Ok report) → ((found_in t).certificate ≡ c) × HasAnswer P (found_in t) (verified (report_of report))
         finish_found report h =
             let end = (whole.leads more).0 in
             let a = verified (report_of report) in
             let proof = subst (λ Q. IsProof Q c) whole.profile h.0 in
             let reports = subst (λ Q. Reports Q c (report_of report)) whole.profile h.1 in
-            (to_finish.same ∙ end_same c end, (none, to_finish.answers a none ((end_verified one a none c end (whole.leads more).1 proof.dual).1 ((report_of report, reports, refl), refl))))
+            (to_finish.same ∙ end_same c end, (none, to_finish.answers a none ((end_verified P a none c end (whole.leads more).1 proof.dual).1 ((report_of report, reports, refl), refl))))
 
 -- ---- the answer
 
-pub err_judges : (f : Found) (x : Result (Certificate × Report) Unproved) (e : Unproved) → IsErrAnd x (λ y. y ≡ e) → TellsWhy f e → TellsProof f x
-err_judges f (Ok x) e h t = absurd h
-err_judges f (Err y) e h t = subst (TellsWhy f) (sym h) t
+pub err_judges : (P : Profile) (f : Found) (x : Result (Certificate × Report) Unproved) (e : Unproved) → IsErrAnd x (λ y. y ≡ e) → TellsWhy P f e → TellsProof P f x
+err_judges P f (Ok x) e h t = absurd h
+err_judges P f (Err y) e h t = subst (TellsWhy P f) (sym h) t
 
-pub memory_judges : (o : Option Input) (x : Result (Certificate × Report) Unproved) → IsErrAnd x (λ y. y ≡ unproved.Memory) → IfKnown o (λ i. TellsProof (found_in (text_of i)) x)
-memory_judges None x h = tt
-memory_judges (Some i) x h = λ short. err_judges (found_in (text_of i)) x unproved.Memory h tt
+pub memory_judges : (P : Profile) (o : Option Input) (x : Result (Certificate × Report) Unproved) → IsErrAnd x (λ y. y ≡ unproved.Memory) → IfKnown o (λ i. TellsProof P (found_in (text_of i)) x)
+memory_judges P None x h = tt
+memory_judges P (Some i) x h = λ short. err_judges P (found_in (text_of i)) x unproved.Memory h tt
 
 -- what is found in what the reader has left is found in what the source gives
-pub judges_by : (o : Option Input) (reader : Option Rest) (x : Result (Certificate × Report) Unproved) → IfKnown o (λ i. reader ≡ Some (text_of i)) → (IsSome reader → TellsProof (found_in (rest_of reader)) x) → IfKnown o (λ i. TellsProof (found_in (text_of i)) x)
-judges_by None reader x h k = tt
-judges_by (Some i) reader x h k = λ short. subst (λ (s : Option Rest). TellsProof (found_in (rest_of s)) x) (h short) (k (subst IsSome (sym (h short)) refl))
+pub judges_by : (P : Profile) (o : Option Input) (reader : Option Rest) (x : Result (Certificate × Report) Unproved) → IfKnown o (λ i. reader ≡ Some (text_of i)) → (IsSome reader → TellsProof P (found_in (rest_of reader)) x) → IfKnown o (λ i. TellsProof P (found_in (text_of i)) x)
+judges_by P None reader x h k = tt
+judges_by P (Some i) reader x h k = λ short. subst (λ (s : Option Rest). TellsProof P (found_in (rest_of s)) x) (h short) (k (subst IsSome (sym (h short)) refl))

@@ -1,6 +1,6 @@
 -- A checker run over a text, item by item, while the items are kept
 use Rattle.std.specs.Prelude.{◌≡◌, ⊤, ◌<◌, ◌^◌, false, List, [], None, IsSome, Result, Ok, Err}
-use Rattle.vipr_spec.specs.Constraint.{one, Row}
+use Rattle.vipr_spec.specs.Constraint.{Profile, Row}
 use Rattle.vipr_spec.specs.Certificate.{Named, Problem, Certificate, count}
 use Rattle.vipr_spec.specs.Reading.{Rest, end_read}
 use Rattle.vipr_spec.specs.Tests.{Detail}
@@ -35,27 +35,27 @@ text_reason text.Memory = Memory
 text_reason text.Spent = Read
 
 -- this is the answer for what was found in a text, with its detail
-abbrev pub HasAnswer : Found → Answer → Type 0
-HasAnswer f a = (x : Detail) × Explained one f a x
+abbrev pub HasAnswer : Profile → Found → Answer → Type 0
+HasAnswer P f a = (x : Detail) × Explained P f a x
 
 -- this is why there is no proof in what was found; want of memory tells nothing of it
-abbrev pub TellsWhy : Found → Unproved → Type 0
-TellsWhy f (Refused r) = HasAnswer f (refuses (refusal_of r))
-TellsWhy f Read = HasAnswer f cut_short
-TellsWhy f Memory = ⊤
+abbrev pub TellsWhy : Profile → Found → Unproved → Type 0
+TellsWhy P f (Refused r) = HasAnswer P f (refuses (refusal_of r))
+TellsWhy P f Read = HasAnswer P f cut_short
+TellsWhy P f Memory = ⊤
 
 -- the proof is the certificate that was found, with its report; or this is the answer
-abbrev pub TellsProof : Found → Result (Certificate × Report) Unproved → Type 0
-TellsProof f (Ok x) = (f.certificate ≡ x.0) × HasAnswer f (verified (report_of x.1))
-TellsProof f (Err e) = TellsWhy f e
+abbrev pub TellsProof : Profile → Found → Result (Certificate × Report) Unproved → Type 0
+TellsProof P f (Ok x) = (f.certificate ≡ x.0) × HasAnswer P f (verified (report_of x.1))
+TellsProof P f (Err e) = TellsWhy P f e
 
 -- ---- what is kept
 
 -- the second has the certificate of the first, and each answer for it, with its detail, is one for
 -- the first
-pub record LeadsTo (f g : Found) : Type 0 where
+pub record LeadsTo (P : Profile) (f g : Found) : Type 0 where
   pub same : f.certificate ≡ g.certificate
-  pub answers : (a : Answer) (x : Detail) → Explained one g a x → Explained one f a x
+  pub answers : (a : Answer) (x : Detail) → Explained P g a x → Explained P f a x
 
 abbrev pub solutions_left : Problem → List (Named Row) → Items → Found
 solutions_left p ss r = solutions_from p ss r.left (rest_of r.rest)
@@ -65,26 +65,27 @@ derivations_left c r = derivations_from c r.left (rest_of r.rest)
 
 -- the solutions ss were read where r was left before, and the checker and the reader stand behind
 -- them
-pub record KeepsListed (p : Problem) (r : Items) (ss : List (Named Row)) (k : State)
-    (new : Items) : Type 0 where
-  pub is_among : IsAmong one p ss k new
+pub record KeepsListed (P : Profile) (p : Problem) (r : Items) (ss : List (Named Row))
+    (k : State) (new : Items) : Type 0 where
+  pub is_among : IsAmong P p ss k new
   pub known : IsSome r.rest → IsSome new.rest
-  pub leads : IsSome r.rest → LeadsTo (solutions_left p [] r) (solutions_left p ss new)
+  pub leads : IsSome r.rest → LeadsTo P (solutions_left p [] r) (solutions_left p ss new)
 
 -- the certificate c was read where r was left after the certificate s, and the checker and the
 -- reader stand behind it
-pub record KeepsDerived (s : Certificate) (r : Items) (c : Certificate) (k : State)
-    (new : Items) : Type 0 where
-  pub is_at : IsAt one c k new
+pub record KeepsDerived (P : Profile) (s : Certificate) (r : Items) (c : Certificate)
+    (k : State) (new : Items) : Type 0 where
+  pub is_at : IsAt P c k new
   pub known : IsSome r.rest → IsSome new.rest
-  pub leads : IsSome r.rest → LeadsTo (derivations_left s r) (derivations_left c new)
+  pub leads : IsSome r.rest → LeadsTo P (derivations_left s r) (derivations_left c new)
 
 -- it was read to its end
-pub record KeepsWhole (s : Certificate) (r : Items) (c : Certificate) (k : State) : Type 0 where
-  pub profile : k.progress.profile ≡ one
+pub record KeepsWhole (P : Profile) (s : Certificate) (r : Items) (c : Certificate)
+    (k : State) : Type 0 where
+  pub profile : k.progress.profile ≡ P
   pub has : HasSteps c k.progress
   pub few : count c < 2 ^ 32
   pub phase : k.in_solutions ≡ false
   pub runs : k.halt ≡ None
   pub leads : IsSome r.rest → (end : Rest) × (end_read end ≡ Ok tt)
-      × LeadsTo (derivations_left s r) (derivations_from c 0 end)
+      × LeadsTo P (derivations_left s r) (derivations_from c 0 end)

@@ -2,7 +2,7 @@
 use Rattle.std.specs.Prelude.{◌≡◌, ⊤, ℕ, ◌+◌, ◌<◌, ◌≤◌, true, List, length, Option, Some}
 use Rattle.std.specs.Prelude.{IfSome, Result, Ok, Err}
 use Rattle.vipr_spec.specs.Input.{Input}
-use Rattle.vipr_spec.specs.Constraint.{one}
+use Rattle.vipr_spec.specs.Constraint.{Profile, one}
 use Rattle.vipr_spec.specs.Certificate.{Certificate, IsProof, GoalIs, count, peak}
 use Rattle.vipr_spec.specs.Grammar.{Spells, SpellsOnly}
 use Rattle.vipr_spec.specs.Reading.{Rest, certificate_read}
@@ -25,18 +25,19 @@ use Rattle.vipr_tighten.specs.declared.outcome.TightenFault.TheVariants.{Read, M
 -- ---- what is written for a proof
 
 -- its goal has this index, none where its dual side needs none
-pub record IsProofFor (c : Certificate) (goal : Option ℕ) : Type 0 where
-  pub proof : IsProof one c
-  pub goal_is : GoalIs one c goal
+pub record IsProofFor (P : Profile) (c : Certificate) (goal : Option ℕ) : Type 0 where
+  pub proof : IsProof P c
+  pub goal_is : GoalIs P c goal
   -- what it claims is true at every point
   pub shown : IsShown c.problem c.solutions c.problem.claim
 
 -- what is said of the tightened certificate t of the proof c
-pub record IsTight (c : Certificate) (goal : Option ℕ) (t : Certificate) : Type 0 where
+pub record IsTight (P : Profile) (c : Certificate) (goal : Option ℕ) (t : Certificate)
+    : Type 0 where
   -- it is a proof of the same problem and claim, with the same solutions and the image of the goal
   pub problem : t.problem ≡ c.problem
   pub solutions : t.solutions ≡ c.solutions
-  pub proof : IsProofFor t (new_goal c goal)
+  pub proof : IsProofFor P t (new_goal c goal)
   -- its canonical text spells it and nothing else
   pub spells : SpellsOnly (canonical_text t) t
   -- each derivation of it is needed in it
@@ -64,11 +65,11 @@ pub record KindOfText : Type 1 where
 
 -- what is written for a proof of this kind: how much of the text of its tightened certificate is
 -- said by the last
-abbrev pub ForProof : KindOfText → (Certificate → Certificate → List ℕ → Type 0) → Type 0
-ForProof k P =
-    (c : Certificate) × (goal : Option ℕ) × k.IsOf c × IsProofFor c goal
-    × IsTight c goal (tightened c goal)
-    × P c (tightened c goal) (canonical_text (tightened c goal))
+abbrev pub ForProof : Profile → KindOfText → (Certificate → Certificate → List ℕ → Type 0) → Type 0
+ForProof P k Q =
+    (c : Certificate) × (goal : Option ℕ) × k.IsOf c × IsProofFor P c goal
+    × IsTight P c goal (tightened c goal)
+    × Q c (tightened c goal) (canonical_text (tightened c goal))
 
 -- the text was handed to the sink, with this result
 abbrev pub TakesText : Option Output → Option Output → List ℕ → Result (Unit {0}) ℕ → Type 0
@@ -84,15 +85,16 @@ TakesNothing old new = IfSome old (λ o. new ≡ Some o)
 -- Tightened: the canonical text of the tightened certificate was taken.
 -- Write: its first n bytes were taken, and no more.
 -- Else nothing was written.
-abbrev pub TightensText : KindOfText → Option Output → Option Output
+abbrev pub TightensText : Profile → KindOfText → Option Output → Option Output
     → Result Outcome TightenFault → Type 0
-TightensText k old new (Ok (Tightened kept removed before after)) =
-    ForProof k (λ c t text. AreFigures c t kept removed before after
+TightensText P k old new (Ok (Tightened kept removed before after)) =
+    ForProof P k (λ c t text. AreFigures c t kept removed before after
     × TakesText old new text (Ok tt))
-TightensText k old new (Ok (Refused r)) = k.IsRefusedBy r × TakesNothing old new
-TightensText k old new (Err Read) = k.IsCutShort × TakesNothing old new
-TightensText k old new (Err (Memory n)) = (n ≡ 0) × TakesNothing old new
-TightensText k old new (Err (Write n)) = ForProof k (λ c t text. TakesText old new text (Err n))
+TightensText P k old new (Ok (Refused r)) = k.IsRefusedBy r × TakesNothing old new
+TightensText P k old new (Err Read) = k.IsCutShort × TakesNothing old new
+TightensText P k old new (Err (Memory n)) = (n ≡ 0) × TakesNothing old new
+TightensText P k old new (Err (Write n)) =
+    ForProof P k (λ c t text. TakesText old new text (Err n))
 
 -- a text of which nothing is known
 abbrev pub any_kind : KindOfText
@@ -103,18 +105,18 @@ abbrev pub kind_of : Certificate → KindOfText
 kind_of c = record { IsOf = λ x. x ≡ c; IsRefusedBy = λ _. ⊥; IsCutShort = ⊥ }
 
 -- one that is read so, with the answer of the definitions
-abbrev pub kind_read : Rest → KindOfText
-kind_read r = record {
+abbrev pub kind_read : Profile → Rest → KindOfText
+kind_read P r = record {
   IsOf = λ c. certificate_read r ≡ Ok c;
-  IsRefusedBy = λ x. IsAnswer one r (refuses (refusal_of x));
-  IsCutShort = IsAnswer one r cut_short;
+  IsRefusedBy = λ x. IsAnswer P r (refuses (refusal_of x));
+  IsCutShort = IsAnswer P r cut_short;
 }
 
 -- one of these bytes, of which no read fails
-abbrev pub kind_spelled : List ℕ → KindOfText
-kind_spelled bytes = record {
+abbrev pub kind_spelled : Profile → List ℕ → KindOfText
+kind_spelled P bytes = record {
   IsOf = SpellsOnly bytes;
-  IsRefusedBy = λ _. (c : Certificate) → Spells bytes c → ¬ IsProof one c;
+  IsRefusedBy = λ _. (c : Certificate) → Spells bytes c → ¬ IsProof P c;
   IsCutShort = ⊥;
 }
 
@@ -124,15 +126,20 @@ unproved_answer (unproved.Refused r) = Ok (Refused r)
 unproved_answer unproved.Read = Err Read
 unproved_answer unproved.Memory = Err (Memory 0)
 
-pub record Tightens (source : Option Input) (old new : Option Output)
+pub record TightensIn (P : Profile) (source : Option Input) (old new : Option Output)
     (result : Result Outcome TightenFault) : Type 0 where
   -- Nothing is written but the canonical text of a tightened proof.
-  pub written : TightensText any_kind old new result
+  pub written : TightensText P any_kind old new result
   -- The proof, or the first fault, is that of the definitions for the bytes that the source gives,
   -- in whatever pieces.
-  pub exact : IfKnown source (λ i. TightensText (kind_read (text_of i)) old new result)
+  pub exact : IfKnown source (λ i. TightensText P (kind_read P (text_of i)) old new result)
   -- That a read failed is answered only where the source fails.
   pub read : IfKnown source (λ i. result ≡ Err Read → i.fails ≡ true)
   -- The proof is the one certificate that the text spells, and it is refused exactly where the text
   -- spells none.
-  pub spelled : IfWhole source (λ bytes. TightensText (kind_spelled bytes) old new result)
+  pub spelled : IfWhole source (λ bytes. TightensText P (kind_spelled P bytes) old new result)
+
+-- under profile one
+abbrev pub Tightens : Option Input → Option Output → Option Output → Result Outcome TightenFault
+    → Type 0
+Tightens source old new result = TightensIn one source old new result

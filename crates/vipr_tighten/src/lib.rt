@@ -16,4 +16,4 @@ mod whole;
 
 pub use certificate::tighten_certificate;
 pub use outcome::{Outcome, TightenFault};
-pub use whole::tighten;
+pub use whole::{tighten, tighten_in};

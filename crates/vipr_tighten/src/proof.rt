@@ -1,7 +1,7 @@
 //! Reads a certificate: each item is checked before the next one is read, and kept.
 
 ghost use Rattle.std.specs.Prelude.{◌≡◌, ◌≢◌, List, [], All, map, IfOk, IfErr, IsSome};
-ghost use Rattle.vipr_spec.specs.Constraint.{one, Row};
+ghost use Rattle.vipr_spec.specs.Constraint.{Profile as ProfileMeant, Row};
 ghost use Rattle.vipr_spec.specs.Certificate.{Named as NamedMeant, Problem as ProblemMeant};
 ghost use Rattle.vipr_spec.specs.Certificate.{IsProof};
 ghost use Rattle.vipr_spec.specs.Checking.{start};
@@ -12,6 +12,7 @@ ghost use Rattle.vipr_spec.specs.Verdict.{Reports, found_in};
 ghost use Rattle.vipr_bytes.specs.Known.{text_of, IfKnown};
 ghost use Rattle.vipr_cert.specs.Items.{solution_of, derivation_of};
 ghost use Rattle.vipr_scan.specs.declared.error.TextError.TheVariants as text_error;
+ghost use Rattle.vipr_rules.specs.Profile.{profile_of};
 ghost use Rattle.vipr_check.specs.View.{report_of};
 ghost use Rattle.vipr_check.specs.Run.{IsAmong, IsAt};
 ghost use Rattle.vipr_tighten.specs.Keeping.{TellsProof, TellsWhy, KeepsListed, KeepsWhole};
@@ -23,7 +24,7 @@ use vipr_bytes::Source;
 use vipr_cert::{BadShape, Certificate, Derivation, Named};
 use vipr_check::{Checker, Place, Refusal, Report, Stop};
 use vipr_linear::Solution;
-use vipr_rules::LiveOnly;
+use vipr_rules::{LiveOnly, Profile};
 use vipr_text::{CertReader, Derivations, Solutions, TextError};
 
 /// Why no proof was read.
@@ -64,20 +65,23 @@ impl<T: Drop> From<AllocFailed<T>> for Unproved {
 /// Each item is tested before more is read than it takes.
 pub(crate) fn read_proof<R: Source + Drop>(
     alloc: Global,
+    profile: Profile,
     source: R,
 ) -> Result<(Certificate, Report), Unproved>
     // Whatever is read: it is a proof, this is its report, and what it claims is true.
-    ensures proof { IfOk result (λ x. IsProof one x.0 × Reports one x.0 (report_of x.1)
+    ensures proof { IfOk result (λ x. IsProof (profile_of profile) x.0
+        × Reports (profile_of profile) x.0 (report_of x.1)
         × IsShown x.0.problem x.0.solutions x.0.problem.claim) }
     // It is the certificate that is found in the text, and the answer is that of the definitions.
-    ensures found { IfKnown (R.input source) (λ i. TellsProof (found_in (text_of i)) result) }
+    ensures found { IfKnown (R.input source)
+        (λ i. TellsProof (profile_of profile) (found_in (text_of i)) result) }
 {
     let reader = CertReader::new(alloc, source)?;
     let (problem, mut solutions) = match reader.read_problem(alloc) {
         Ok(read) => read,
         Err(error) => return Err(unread(error)),
     };
-    let mut checker: Checker<LiveOnly> = Checker::new(alloc, problem)?;
+    let mut checker: Checker<LiveOnly> = Checker::new_in(alloc, profile, problem)?;
     let listed = read_solutions(alloc, &mut checker, &mut solutions)?;
     if let Err(stop) = checker.end_solutions() {
         return Err(stopped(stop));
@@ -103,16 +107,17 @@ fn read_solutions<R: Source>(
     checker: &mut Checker<LiveOnly>,
     solutions: &mut Solutions<R>,
 ) -> Result<Vec<Named<Solution>>, Unproved>
-    requires { (p : ProblemMeant) × IsAmong one p [] checker.old solutions.old }
+    requires { (P : ProfileMeant) × (p : ProblemMeant)
+        × IsAmong P p [] checker.old solutions.old }
     ensures none { IfOk result (λ ss. solutions.new.left ≡ 0) }
     ensures shape { IfOk result (λ ss.
         All (SolutionShape solutions.old.variables) (map solution_of ss.items)) }
-    ensures kept { IfOk result (λ ss. (p : ProblemMeant)
-        → IsAmong one p [] checker.old solutions.old
-        → KeepsListed p solutions.old (map solution_of ss.items) checker.new solutions.new) }
-    ensures unproved { IfErr result (λ e. (p : ProblemMeant)
-        → IsAmong one p [] checker.old solutions.old → IsSome solutions.old.rest
-        → TellsWhy (solutions_left p [] solutions.old) e) }
+    ensures kept { IfOk result (λ ss. (P : ProfileMeant) (p : ProblemMeant)
+        → IsAmong P p [] checker.old solutions.old
+        → KeepsListed P p solutions.old (map solution_of ss.items) checker.new solutions.new) }
+    ensures unproved { IfErr result (λ e. (P : ProfileMeant) (p : ProblemMeant)
+        → IsAmong P p [] checker.old solutions.old → IsSome solutions.old.rest
+        → TellsWhy P (solutions_left p [] solutions.old) e) }
 {
     let mut listed = Vec::new(alloc);
     'solutions: loop {
@@ -135,17 +140,19 @@ fn read_derivations<R: Source>(
     checker: &mut Checker<LiveOnly>,
     derivations: &mut Derivations<R>,
 ) -> Result<Vec<Derivation>, Unproved>
-    requires { (p : ProblemMeant) × (ss : List (NamedMeant Row))
-        × IsAt one (start p ss) checker.old derivations.old }
+    requires { (P : ProfileMeant) × (p : ProblemMeant) × (ss : List (NamedMeant Row))
+        × IsAt P (start p ss) checker.old derivations.old }
     ensures shape { IfOk result (λ ds.
         All (DerivationShape derivations.old.variables) (map derivation_of ds.items)) }
-    ensures kept { IfOk result (λ ds. (p : ProblemMeant) (ss : List (NamedMeant Row))
-        → IsAt one (start p ss) checker.old derivations.old
-        → KeepsWhole (start p ss) derivations.old
+    ensures kept { IfOk result
+        (λ ds. (P : ProfileMeant) (p : ProblemMeant) (ss : List (NamedMeant Row))
+        → IsAt P (start p ss) checker.old derivations.old
+        → KeepsWhole P (start p ss) derivations.old
         (with_more (start p ss) (map derivation_of ds.items)) checker.new) }
-    ensures unproved { IfErr result (λ e. (p : ProblemMeant) (ss : List (NamedMeant Row))
-        → IsAt one (start p ss) checker.old derivations.old → IsSome derivations.old.rest
-        → TellsWhy (derivations_left (start p ss) derivations.old) e) }
+    ensures unproved { IfErr result
+        (λ e. (P : ProfileMeant) (p : ProblemMeant) (ss : List (NamedMeant Row))
+        → IsAt P (start p ss) checker.old derivations.old → IsSome derivations.old.rest
+        → TellsWhy P (derivations_left (start p ss) derivations.old) e) }
 {
     let mut derived = Vec::new(alloc);
     'steps: loop {

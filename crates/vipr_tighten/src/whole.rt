@@ -1,10 +1,12 @@
 //! Tightens a whole certificate.
 ghost use Rattle.std.specs.Prelude.{◌≡◌};
-ghost use Rattle.vipr_spec.specs.Constraint.{one};
+ghost use Rattle.vipr_spec.specs.Constraint.{Profile as ProfileMeant};
 ghost use Rattle.vipr_spec.specs.Certificate.{IsProof};
 ghost use Rattle.vipr_spec.specs.Verdict.{Reports};
+ghost use Rattle.vipr_rules.specs.Profile.{profile_of};
 ghost use Rattle.vipr_check.specs.View.{report_of};
-ghost use Rattle.vipr_tighten.specs.Tightens.{Tightens, TightensText, kind_of, unproved_answer};
+ghost use Rattle.vipr_tighten.specs.Tightens.{Tightens, TightensIn, TightensText, kind_of};
+ghost use Rattle.vipr_tighten.specs.Tightens.{unproved_answer};
 
 use crate::certificate::tighten_certificate;
 use crate::outcome::{Outcome, TightenFault};
@@ -14,6 +16,7 @@ use std::alloc::Global;
 use vipr_bytes::{Sink, Source};
 use vipr_cert::Certificate;
 use vipr_check::Report;
+use vipr_rules::Profile;
 use vipr_text::{WriteError, write_certificate};
 
 /// Reads a certificate to its end and checks it while it is read. If it is a proof, writes the
@@ -34,7 +37,25 @@ pub fn tighten<R: Source + Drop, W: Sink>(
 ) -> Result<Outcome, TightenFault>
     ensures { Tightens (R.input source) (W.output sink.old) (W.output sink.new) result }
 {
-    match read_proof(alloc, source) {
+    tighten_in(alloc, Profile::One, source, sink)
+}
+
+/// The same by the rules of a profile.
+///
+/// # Errors
+///
+/// `Read` where a read fails, and `Memory` where a growth is refused: nothing was written. `Write`
+/// where a write fails or takes nothing, and the sink is asked no more.
+pub fn tighten_in<R: Source + Drop, W: Sink>(
+    alloc: Global,
+    profile: Profile,
+    source: R,
+    sink: &mut W,
+) -> Result<Outcome, TightenFault>
+    ensures { TightensIn (profile_of profile) (R.input source) (W.output sink.old)
+        (W.output sink.new) result }
+{
+    match read_proof(alloc, profile, source) {
         Ok((certificate, report)) => write_tightened(alloc, certificate, &report, sink),
         Err(unproved) => without_proof(unproved),
     }
@@ -58,9 +79,11 @@ fn write_tightened<W: Sink>(
     report: &Report,
     sink: &mut W,
 ) -> Result<Outcome, TightenFault>
-    requires proof { IsProof one certificate }
-    requires report { Reports one certificate (report_of report.now) }
-    ensures { TightensText (kind_of certificate) (W.output sink.old) (W.output sink.new) result }
+    requires { (P : ProfileMeant) × IsProof P certificate
+        × Reports P certificate (report_of report.now) }
+    ensures { (P : ProfileMeant) → IsProof P certificate
+        → Reports P certificate (report_of report.now)
+        → TightensText P (kind_of certificate) (W.output sink.old) (W.output sink.new) result }
 {
     let tightened = tighten_certificate(alloc, certificate, report.goal)?;
     let peak_after = peak(alloc, &tightened)?;

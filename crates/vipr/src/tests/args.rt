@@ -6,6 +6,7 @@ use crate::task::{Job, Task};
 use clap::error::ErrorKind;
 use std::process::Abort;
 use std::test::Fail;
+use vipr_rules::Profile;
 
 /// The words for `tighten`, with and without a file to read and one to write to.
 fn reads_out<H: Abort + AllocGlobal>(rt: &H) -> Result<(), Fail> {
@@ -30,8 +31,44 @@ fn reads_out<H: Abort + AllocGlobal>(rt: &H) -> Result<(), Fail> {
     ];
     for (words, file, out) in taken {
         let read = job(rt.alloc(), words)?;
-        let command = Task::Tighten;
-        assert!(rt; read == Job { command, file, out });
+        let wanted = Job {
+            command: Task::Tighten,
+            profile: Profile::One,
+            file,
+            out,
+        };
+        assert!(rt; read == wanted);
+    }
+    Ok(())
+}
+
+/// The words with a profile.
+fn reads_profiles<H: Abort + AllocGlobal>(rt: &H) -> Result<(), Fail> {
+    let taken = [
+        (
+            ["vipr", "check", "--profile", "1"].as_slice(),
+            Task::Check,
+            Profile::One,
+        ),
+        (
+            ["vipr", "check", "--profile", "2"].as_slice(),
+            Task::Check,
+            Profile::Two,
+        ),
+        (
+            ["vipr", "explain", "--profile=2"].as_slice(),
+            Task::Explain,
+            Profile::Two,
+        ),
+        (
+            ["vipr", "tighten", "--profile", "2"].as_slice(),
+            Task::Tighten,
+            Profile::Two,
+        ),
+    ];
+    for (words, command, profile) in taken {
+        let read = job(rt.alloc(), words)?;
+        assert!(rt; read.command == command && read.profile == profile);
     }
     Ok(())
 }
@@ -49,10 +86,16 @@ fn reads_command_lines(rt: HostRuntime) -> Result<(), Fail> {
     ];
     for (words, command, file) in taken {
         let read = job(rt.alloc(), words)?;
-        let out = None;
-        assert!(rt; read == Job { command, file, out });
+        let wanted = Job {
+            command,
+            profile: Profile::One,
+            file,
+            out: None,
+        };
+        assert!(rt; read == wanted);
     }
     reads_out(&rt)?;
+    reads_profiles(&rt)?;
     let lines = [
         (["vipr"].as_slice(), ErrorKind::MissingSubcommand),
         (["vipr", "chek"].as_slice(), ErrorKind::InvalidSubcommand),
@@ -88,6 +131,34 @@ fn reads_command_lines(rt: HostRuntime) -> Result<(), Fail> {
             ErrorKind::ArgumentConflict,
         ),
         (["vipr", "tighten", "-h"].as_slice(), ErrorKind::DisplayHelp),
+        (
+            ["vipr", "check", "--profile", "3"].as_slice(),
+            ErrorKind::InvalidValue,
+        ),
+        (
+            ["vipr", "explain", "--profile", "01"].as_slice(),
+            ErrorKind::InvalidValue,
+        ),
+        (
+            ["vipr", "tighten", "--profile=+1"].as_slice(),
+            ErrorKind::InvalidValue,
+        ),
+        (
+            ["vipr", "check", "--profile="].as_slice(),
+            ErrorKind::InvalidValue,
+        ),
+        (
+            ["vipr", "check", "--profile"].as_slice(),
+            ErrorKind::InvalidValue,
+        ),
+        (
+            ["vipr", "check", "--profile", "1", "--profile", "2"].as_slice(),
+            ErrorKind::ArgumentConflict,
+        ),
+        (
+            ["vipr", "show", "--profile", "1"].as_slice(),
+            ErrorKind::UnknownArgument,
+        ),
     ];
     for (words, wanted) in lines {
         let Err(error) = job(rt.alloc(), words) else {

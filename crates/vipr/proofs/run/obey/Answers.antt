@@ -1,7 +1,12 @@
 use Rattle.std.proofs.Common.{map}
+use Rattle.clap.specs.Words.{kind_of}
 use Rattle.vipr.specs.Run.{unknown_input}
-use Rattle.vipr.proofs.RunLemmas.{declined, all_told, obeyed, obeyed_told}
+use Rattle.vipr.proofs.RunLemmas.{declined, all_told, obeyed, obeyed_told, wrong_words}
 use Rattle.vipr.proofs.run.obey.Goals as goal
+
+pub returns-in-Err-clause-usage : goal.returns-in-Err-clause-usage
+returns-in-Err-clause-usage g c =
+    wrong_words (map (λ w. w.now) c.args.words.now) (kind_of c.in-Err.error) (g.O.Sink.output c.args.out.now) (g.O.Sink.output c.answer.new.out) c.answer.result c.in-Err.ensures.err c.answer.ensures
 
 pub returns-in-Err-clause-any : goal.returns-in-Err-clause-any
 returns-in-Err-clause-any g c =

@@ -1,6 +1,6 @@
 use Rattle.std.proofs.Common.{◌≡◌, List, map}
 use Rattle.std.specs.List.{All}
-use Rattle.vipr_spec.specs.Constraint.{one, Row}
+use Rattle.vipr_spec.specs.Constraint.{Profile, Row}
 use Rattle.vipr_spec.specs.Certificate.{Named, Problem}
 use Rattle.vipr_spec.specs.Checking.{start}
 use Rattle.vipr_spec.specs.Steps.{with_more}
@@ -12,8 +12,8 @@ use Rattle.vipr_tighten.proofs.proof.read_derivations.Given as goal
 
 abbrev pub invariant-steps : goal.invariant-steps
 invariant-steps g l = record {
-  kept : (p : Problem) (ss : List (Named Row)) → IsAt one (start p ss) l.initial.checker l.initial.derivations
-      → KeepsDerived (start p ss) l.initial.derivations (with_more (start p ss) (map derivation_of l.derived.items)) l.checker l.derivations;
+  kept : (P : Profile) (p : Problem) (ss : List (Named Row)) → IsAt P (start p ss) l.initial.checker l.initial.derivations
+      → KeepsDerived P (start p ss) l.initial.derivations (with_more (start p ss) (map derivation_of l.derived.items)) l.checker l.derivations;
   variables : l.derivations.variables ≡ l.initial.derivations.variables;
   shape : All (DerivationShape l.initial.derivations.variables) (map derivation_of l.derived.items);
 }

@@ -9,17 +9,17 @@ use Rattle.vipr_tighten.proofs.proof.read_solutions.Goals as goal
 
 pub solutions-init : goal.solutions-init
 solutions-init g c =
-    rw c.new-listed.ensures.items (record { kept = λ p is. listed_first p c.args.checker.now c.args.solutions.now is; shape = All-nil (SolutionShape c.args.solutions.now.variables); variables = refl })
+    rw c.new-listed.ensures.items (record { kept = λ P p is. listed_first P p c.args.checker.now c.args.solutions.now is; shape = All-nil (SolutionShape c.args.solutions.now.variables); variables = refl })
 
 pub returns-in-Err-solution-clause-unproved : goal.returns-in-Err-solution-clause-unproved
-returns-in-Err-solution-clause-unproved g c = λ p is known.
+returns-in-Err-solution-clause-unproved g c = λ P p is known.
     let h = rw c.in-Ok-Some.field-0-is at c.in-Ok-Some.ensures in
     let first = c.args.solutions.now in
     let ss = map solution_of c.solutions.listed.items in
-    let kept = c.solutions.invariant.kept p is in
+    let kept = c.solutions.invariant.kept P p is in
     let old = c.solutions.solutions in
-    subst (TellsWhy (solutions_left p [] first)) (sym c.stopped.ensures)
-    (solution_stops p ss c.solutions.checker c.solution.new.self first old kept c.next.new.self (solution_of c.in-Ok-Some.solution) h.moves.counted h.moves.remembers h.moves.working
+    subst (TellsWhy P (solutions_left p [] first)) (sym c.stopped.ensures)
+    (solution_stops P p ss c.solutions.checker c.solution.new.self first old kept c.next.new.self (solution_of c.in-Ok-Some.solution) h.moves.counted h.moves.remembers h.moves.working
     (λ t. let r = h.read p kept.is_among.knows t in (r.1, r.2)) c.in-Err-solution.stop (c.in-Err-solution.ensures.next ss kept.is_among.runs kept.is_among.has) known)
 
 pub solutions-preserved : goal.solutions-preserved
@@ -30,19 +30,24 @@ solutions-preserved g c =
     let ss = map solution_of c.solutions.listed.items in
     let old = c.solutions.solutions in
     rw (c.in_ok-push-in-Ok-Some.ensures.items, map_push solution_of c.solutions.listed.items x) (record {
-      kept = λ p is.
-          let kept = c.solutions.invariant.kept p is in
-          solution_taken p ss c.solutions.checker c.solution.new.self first old kept c.next.new.self (solution_of x) h.moves.counted h.moves.remembers h.moves.working
+      kept = λ P p is.
+          let kept = c.solutions.invariant.kept P p is in
+          solution_taken P p ss c.solutions.checker c.solution.new.self first old kept c.next.new.self (solution_of x) h.moves.counted h.moves.remembers h.moves.working
           (λ t. let r = h.read p kept.is_among.knows t in (r.1, r.2)) (c.in_default.ensures.next ss kept.is_among.runs kept.is_among.has);
       shape = All-push (SolutionShape first.variables) ss (solution_of x) c.solutions.invariant.shape (subst (λ n. SolutionShape n (solution_of x)) c.solutions.invariant.variables h.shape);
       variables = h.moves.remembers.variables ∙ c.solutions.invariant.variables;
     })
 
+pub returns-in-Ok-None-clause-kept : goal.returns-in-Ok-None-clause-kept
+returns-in-Ok-None-clause-kept g c = λ P p is.
+    let h = rw c.in-Ok-None.field-0-is at c.in-Ok-None.ensures in
+    subst (KeepsListed P p c.args.solutions.now (map solution_of c.solutions.listed.items) c.solutions.checker) (sym (h.none refl)) (c.solutions.invariant.kept P p is)
+
 pub returns-in-Err-clause-unproved : goal.returns-in-Err-clause-unproved
-returns-in-Err-clause-unproved g c = λ p is known.
+returns-in-Err-clause-unproved g c = λ P p is known.
     let first = c.args.solutions.now in
     let ss = map solution_of c.solutions.listed.items in
-    let kept = c.solutions.invariant.kept p is in
+    let kept = c.solutions.invariant.kept P p is in
     let old = c.solutions.solutions in
-    subst (TellsWhy (solutions_left p [] first)) (sym c.unread.ensures)
-    (solution_unread p ss c.solutions.checker c.solutions.checker first old kept c.in-Err.error (c.in-Err.ensures.read p kept.is_among.knows (kept.known known)) known)
+    subst (TellsWhy P (solutions_left p [] first)) (sym c.unread.ensures)
+    (solution_unread P p ss c.solutions.checker c.solutions.checker first old kept c.in-Err.error (c.in-Err.ensures.read p kept.is_among.knows (kept.known known)) known)

@@ -1,6 +1,6 @@
 use Rattle.std.proofs.Common.{◌≡◌, [], map}
 use Rattle.std.specs.List.{All}
-use Rattle.vipr_spec.specs.Constraint.{one}
+use Rattle.vipr_spec.specs.Constraint.{Profile}
 use Rattle.vipr_spec.specs.Certificate.{Problem}
 use Rattle.vipr_spec.specs.Shape.{SolutionShape}
 use Rattle.vipr_cert.specs.Items.{solution_of}
@@ -10,7 +10,7 @@ use Rattle.vipr_tighten.proofs.proof.read_solutions.Given as goal
 
 abbrev pub invariant-solutions : goal.invariant-solutions
 invariant-solutions g l = record {
-  kept : (p : Problem) → IsAmong one p [] l.initial.checker l.initial.solutions → KeepsListed p l.initial.solutions (map solution_of l.listed.items) l.checker l.solutions;
+  kept : (P : Profile) (p : Problem) → IsAmong P p [] l.initial.checker l.initial.solutions → KeepsListed P p l.initial.solutions (map solution_of l.listed.items) l.checker l.solutions;
   variables : l.solutions.variables ≡ l.initial.solutions.variables;
   shape : All (SolutionShape l.initial.solutions.variables) (map solution_of l.listed.items);
 }
