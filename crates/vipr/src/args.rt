@@ -72,17 +72,25 @@ fn command_line<'a>(alloc: Global) -> Result<Command<'a>, AllocError>
         alloc,
         "check",
         "Checks a certificate and prints the verdict",
+        "Example: vipr check plan.vipr",
     )?;
     let explain = judging(
         alloc,
         "explain",
         "Checks a certificate and prints the verdict with what shows it",
+        "Example: xz -dc plan.vipr.xz | vipr explain",
     )?;
-    let show = on_file(alloc, "show", "Writes a certificate's canonical text")?;
+    let show = on_file(
+        alloc,
+        "show",
+        "Writes a certificate's canonical text",
+        "Example: vipr show plan.vipr > canonical.vipr",
+    )?;
     let tighten = with_out(
         alloc,
         "tighten",
         "Writes a verified certificate without what its proof doesn't need",
+        "Example: vipr tighten plan.vipr --out short.vipr",
     )?;
     Command::new(alloc, "vipr")
         .about("Checks VIPR 1.0 certificates")
@@ -96,30 +104,48 @@ fn command_line<'a>(alloc: Global) -> Result<Command<'a>, AllocError>
 }
 
 /// A subcommand that reads FILE.
-fn on_file<'a>(alloc: Global, name: &'a str, about: &'a str) -> Result<Command<'a>, AllocError>
+fn on_file<'a>(
+    alloc: Global,
+    name: &'a str,
+    about: &'a str,
+    example: &'a str,
+) -> Result<Command<'a>, AllocError>
     ensures app { IfOk result (λ c. app_of c ≡ with_rule (new_app name.entry.now) file_rule) }
     ensures local { IfOk result (λ c. (fields_of c).has_globals ≡ false) }
 {
-    Command::new(alloc, name).about(about).arg(file(alloc))
+    Command::new(alloc, name)
+        .about(about)
+        .after_help(example)
+        .arg(file(alloc))
 }
 
 /// A subcommand that reads FILE and takes a profile.
-fn judging<'a>(alloc: Global, name: &'a str, about: &'a str) -> Result<Command<'a>, AllocError>
+fn judging<'a>(
+    alloc: Global,
+    name: &'a str,
+    about: &'a str,
+    example: &'a str,
+) -> Result<Command<'a>, AllocError>
     ensures app { IfOk result
         (λ c. app_of c ≡ with_rule (with_rule (new_app name.entry.now) file_rule) profile_rule) }
     ensures local { IfOk result (λ c. (fields_of c).has_globals ≡ false) }
 {
-    on_file(alloc, name, about)?.arg(profile(alloc))
+    on_file(alloc, name, about, example)?.arg(profile(alloc))
 }
 
 /// A subcommand that reads FILE, takes a profile, and writes to OUT.
-fn with_out<'a>(alloc: Global, name: &'a str, about: &'a str) -> Result<Command<'a>, AllocError>
+fn with_out<'a>(
+    alloc: Global,
+    name: &'a str,
+    about: &'a str,
+    example: &'a str,
+) -> Result<Command<'a>, AllocError>
     ensures app { IfOk result (λ c. app_of c
         ≡ with_rule (with_rule (with_rule (new_app name.entry.now) file_rule) profile_rule)
         out_rule) }
     ensures local { IfOk result (λ c. (fields_of c).has_globals ≡ false) }
 {
-    judging(alloc, name, about)?.arg(out(alloc))
+    judging(alloc, name, about, example)?.arg(out(alloc))
 }
 
 fn file<'a>(alloc: Global) -> Arg<'a>

@@ -25,9 +25,9 @@ number_of_place (Sol number) = number
 number_of_place (Der index) = index
 number_of_place End = 0
 
-abbrev pub has : Option ℕ → ℕ
-has None = 0
-has (Some n) = 1
+abbrev pub one_if_some : Option ℕ → ℕ
+one_if_some None = 0
+one_if_some (Some n) = 1
 
 abbrev pub or_0 : Option ℕ → ℕ
 or_0 None = 0
@@ -42,7 +42,7 @@ told_of (Ok (Verified r)) =
       solutions = r.solutions;
       derived = r.derived;
       peak = r.peak;
-      has_goal = has r.goal;
+      has_goal = one_if_some r.goal;
       goal = or_0 r.goal;
     }
 told_of (Ok (Refused r)) =

@@ -13,7 +13,7 @@ pub struct Answer {
     pub cause: u32,
     /// Where it is refused: 1 at a byte, 2 at a solution, 3 at a derivation, 4 at the end.
     pub place: u32,
-    /// The byte's offset, the solution's number from 0, or the index of the derivation's constraint.
+    /// The byte's offset, the solution's number from 0, or the derived constraint's index.
     pub number: u64,
     /// Where it is verified: how many solutions are listed.
     pub solutions: u32,
