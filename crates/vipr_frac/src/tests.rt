@@ -3,6 +3,7 @@ use crate::number::NumberError;
 use std::cmp::Ordering;
 use std::hash::{DefaultHasher, Hash, Hasher};
 use std::process::Abort;
+use std::test::Fail;
 
 const M: i128 = i128::MAX;
 
@@ -119,7 +120,7 @@ fn read(rt: HostRuntime) {
 }
 
 #[test]
-fn written(rt: HostRuntime) {
+fn written(rt: HostRuntime) -> Result<(), Fail> {
     let mut out = Vec::new(rt.alloc());
     for f in [
         frac(&rt, -6, 4),
@@ -128,10 +129,11 @@ fn written(rt: HostRuntime) {
         frac(&rt, 1, M),
     ] {
         assert_eq!(rt; f.write_to(&mut out), Ok(()));
-        assert_eq!(rt; out.push(b' '), Ok(()));
+        out.push(b' ')?;
     }
     assert_eq!(rt;
         out.as_slice(),
         b"-3/2 0 -170141183460469231731687303715884105727 1/170141183460469231731687303715884105727 ".as_slice()
     );
+    Ok(())
 }
