@@ -41,7 +41,7 @@ solutions-preserved g c =
 pub returns-in-Ok-None-clause-kept : goal.returns-in-Ok-None-clause-kept
 returns-in-Ok-None-clause-kept g c = λ P p is.
     let h = rw c.in-Ok-None.field-0-is at c.in-Ok-None.ensures in
-    subst (KeepsListed P p c.args.solutions.now (map solution_of c.solutions.listed.items) c.solutions.checker) (sym (h.none refl)) (c.solutions.invariant.kept P p is)
+    subst (KeepsListed P p c.args.solutions.now (map solution_of c.solutions.listed.items) c.solutions.checker) (sym h.moves.same) (c.solutions.invariant.kept P p is)
 
 pub returns-in-Err-clause-unproved : goal.returns-in-Err-clause-unproved
 returns-in-Err-clause-unproved g c = λ P p is known.
