@@ -19,7 +19,6 @@ TOP = Path(__file__).resolve().parent.parent
 SCRIPTS = [
     ['tests/house.py'],
     ['tests/hostile.py'],
-    ['tests/growths.py'],
     ['tests/library.py'],
     ['tests/pages.py'],
     ['tests/proof.py', '--check'],

@@ -1,7 +1,7 @@
 #!/usr/bin/env python3
 """Refuses each growth of each crate's tests in turn.
 
-usage: tests/growths.py [CRATE..]     every crate of crates.txt whose tests are built, without one
+usage: tests/growths.py CRATE..     crates whose tests are built, by `rt test`
 
 A crate's tests, crates/NAME/out/NAME_tests, call what the crate has to offer. Each test is run with its first growth
 refused, its second, and so on up to a run that meets no refusal. It then passes, or ends at an answer that is want of
@@ -62,7 +62,7 @@ def main():
     if not compiler:
         print('growths: no C compiler, so no growth was refused')
         return 0
-    names = sys.argv[1:] or re.findall(r'^(\w+)[^:\n]*:', (TOP / 'crates.txt').read_text(), re.M)
+    names = sys.argv[1:]
     runs = failed = 0
     with tempfile.TemporaryDirectory(prefix='vipr-growths-') as room, ThreadPoolExecutor(os.cpu_count()) as pool:
         library = f'{room}/refuse.so'
