@@ -19,8 +19,10 @@ TOP = Path(__file__).resolve().parent.parent
 SCRIPTS = [
     ['tests/house.py'],
     ['tests/hostile.py'],
+    ['tests/growths.py'],
     ['tests/library.py'],
     ['tests/pages.py'],
+    ['tests/commands.py'],
     ['tests/proof.py', '--check'],
     ['tests/interface.py'],
     ['docs/architecture.py', '--check'],

@@ -1,14 +1,17 @@
 #!/usr/bin/env python3
 """Refuses each growth of each crate's tests in turn.
 
-usage: tests/growths.py CRATE..     crates whose tests are built, by `rt test`
+usage: tests/growths.py [CRATE..]     all libraries with tests, without a name; `rt ci` and `rt test` build them
 
 A crate's tests, crates/NAME/out/NAME_tests, call what the crate has to offer. Each test is run with its first growth
 refused, its second, and so on up to a run that meets no refusal. It then passes, or ends at an answer that is want of
 memory: no call may give another answer for a refused growth, end by a signal of its own, or go on as if it had room.
+A test with more than MOST growths makes them in loops: its first and last ones are refused, and some between, evenly
+spaced. The program's own growths are those of tests/hostile.py.
 
 Prints each run that ends otherwise, and last `growths: N runs, F failed`. Without a C compiler nothing is run, and a
-line says so. The exit status is 1 where a run failed, or where no test was there to run.
+line says so. The exit status is 1 where a run failed, where a library's tests aren't built, or where none was there to
+run.
 """
 import os
 import re
@@ -20,8 +23,13 @@ from concurrent.futures import ThreadPoolExecutor
 from pathlib import Path
 
 TOP = Path(__file__).resolve().parent.parent
+# crates whose growths aren't refused here: those of the program are refused through it, and reading and writing bytes
+# takes no memory of its own
+ELSEWHERE = ['vipr', 'vipr_bytes']
+# how many growths of a test are refused at most
+MOST = 400
 # what a failed test says of a call whose growth was refused
-WANT = re.compile(r'\b(AllocError|Memory|OutOfMemory|out of memory)\b')
+WANT = re.compile(r'\b(AllocError|AllocFailed|Memory|OutOfMemory|out of memory)\b')
 
 
 class Tests:
@@ -46,7 +54,7 @@ class Tests:
         return done.returncode, done.stdout + done.stderr, int(counted[0]) if counted else None
 
     def refuse_each(self, pool, name):
-        """The runs of a test with a growth refused, up to one that meets none, and those that failed."""
+        """The number of runs of a test with a growth refused, up to one that meets none, and those that failed."""
         status, said, growths = self.run(name)
         if status or growths is None:
             return 1, [f'{name} without a refusal: status {status}: {said:.300}']
@@ -54,7 +62,24 @@ class Tests:
         def one(number):
             status, said, _ = self.run(name, refused=number)
             return None if status == 0 or WANT.search(said) else f'{name}, growth {number}: status {status}: {said:.300}'
-        return growths + 2, [it for it in pool.map(one, range(1, growths + 2)) if it]
+        numbers = chosen(growths + 1)
+        return len(numbers) + 1, [it for it in pool.map(one, numbers) if it]
+
+
+def chosen(last):
+    """The growths that are refused, of those from 1 to the one past the last."""
+    if last <= MOST:
+        return range(1, last + 1)
+    part = MOST // 3
+    step = (last - 2 * part) // part + 1
+    return [*range(1, part + 1), *range(part + 1, last - part, step), *range(last - part, last + 1)]
+
+
+def libraries():
+    """The crates with tests."""
+    names = [line.split(':')[0].split()[0] for line in (TOP / 'crates.txt').read_text().split('\n') if ':' in line]
+    return [it for it in names if it not in ELSEWHERE
+            and any('#[test]' in file.read_text() for file in (TOP / 'crates' / it / 'src').rglob('*.rt'))]
 
 
 def main():
@@ -62,14 +87,15 @@ def main():
     if not compiler:
         print('growths: no C compiler, so no growth was refused')
         return 0
-    names = sys.argv[1:]
     runs = failed = 0
     with tempfile.TemporaryDirectory(prefix='vipr-growths-') as room, ThreadPoolExecutor(os.cpu_count()) as pool:
         library = f'{room}/refuse.so'
         subprocess.run([compiler, '-O1', '-shared', '-fPIC', '-o', library, TOP / 'tests/refuse.c'], check=True)
-        for crate in names:
+        for crate in sys.argv[1:] or libraries():
             program = TOP / f'crates/{crate}/out/{crate}_tests'
             if not program.exists():
+                failed += 1
+                print(f'{crate}: its tests are not built')
                 continue
             tests = Tests(program, library, room)
             for name in tests.names:

@@ -14,9 +14,9 @@ In README.md, CONTRIBUTING.md and the pages of docs/ and examples/ it looks at
   prints, or its model under bench/ where the program hasn't that command;
 - links to files of the repository: they exist, and so does the heading after a `#`.
 
-Commands that a test can't run (a clone, an installation into the system) stand in blocks marked `sh`. Of these each
-program's name is looked at alone: `make` with a target that there is, or a program of KNOWN. A block that needs a
-program that isn't installed here, as `parallel`, is counted as left out.
+Commands whose output isn't shown (a clone, an installation) stand in blocks marked `sh`. tests/commands.py runs them;
+here each program's name is looked at alone: `make` with a target that there is, or a program of KNOWN. A block that
+needs a program that isn't installed here, as `parallel`, is counted as left out.
 
 Prints each fault, and last `pages: N checks, F failed`; the exit status is 1 where one failed.
 """
@@ -95,7 +95,7 @@ def console(page, line, text, folder):
 
 
 def not_run(page, line, text):
-    """Commands that a test can't run: their names are known, and targets of make exist."""
+    """Commands that are run elsewhere: their names are known, and targets of make exist."""
     targets = re.findall(r'^([a-z]+):', (TOP / 'Makefile').read_text(), re.M)
     for row in re.sub(r'\\\n', ' ', text).split('\n'):
         for part in re.split(r'&&|\|', row.split('#')[0]):

@@ -172,7 +172,8 @@ fn tightened(
     assert!(rt; certificate.refers_back());
     assert!(rt; goal.is_none_or(|index| (index as usize) < constraints));
     let tightened = tighten_certificate(alloc, certificate, goal)?;
-    let mut bytes = Vec::new(alloc);
+    // the writer has its room before
+    let mut bytes = Vec::with_capacity(alloc, 4096)?;
     {
         let mut sink = FromWrite::new(&mut bytes);
         assert_eq!(rt; write_certificate(alloc, &tightened, &mut sink), Ok(()));

@@ -206,7 +206,8 @@ impl Sink for OneByOne {
 fn each_kind_of_line(rt: HostRuntime) -> Result<(), Fail> {
     let alloc = rt.alloc();
     for (certificate, text) in [(certificate(alloc)?, TEXT), (empty(alloc)?, SHORT)] {
-        let mut bytes = Vec::new(alloc);
+        // the writer has its room before
+        let mut bytes = Vec::with_capacity(alloc, 4096)?;
         {
             let mut sink = FromWrite::new(&mut bytes);
             assert_eq!(rt; write_certificate(alloc, &certificate, &mut sink), Ok(()));

@@ -186,7 +186,8 @@ fn becomes(
     wanted: &[u8],
     figures: (u32, u32, usize, usize),
 ) -> Result<(), Fail> {
-    let mut written = Vec::new(alloc);
+    // the writer has its room before
+    let mut written = Vec::with_capacity(alloc, 4096)?;
     let outcome = {
         let mut sink = FromWrite::new(&mut written);
         tighten(alloc, Bytes::new(text), &mut sink)

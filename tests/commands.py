@@ -1,0 +1,179 @@
+#!/usr/bin/env python3
+"""Runs the commands of the pages that stand in blocks marked `sh`, as they stand there.
+
+usage: tests/commands.py
+
+A folder is made as a reader has it: the name URL is this repository, and the home folder is empty. There the blocks of
+README.md, docs/USE.md, docs/LIBRARY.md and CONTRIBUTING.md are run in this order, those of README.md from where a reader
+begins, the others at the top of the clone that README's first command made. What was proved and built here stands in the
+clone, so that nothing is proved twice. What the pages speak of is there: a folder `certificates` with the examples,
+`certificate.vipr`, `files.txt`, and `check.sh`, which is the page's own. Left out are
+
+- `make test` and the scripts that it runs, as they are being run;
+- a command whose program isn't installed here, with a word. For `sbatch` stands a script that runs each task in turn.
+
+After each block it looks for what the block is to leave: the verdict that was printed, the files installed and taken
+away again, the statuses of many files. Prints each fault, and last `commands: N checks, F failed`; the exit status is 1
+where one failed.
+"""
+import os
+import re
+import shutil
+import subprocess
+import sys
+import tempfile
+from pathlib import Path
+
+TOP = Path(__file__).resolve().parent.parent
+PAGES = ['README.md', 'docs/USE.md', 'docs/LIBRARY.md', 'CONTRIBUTING.md']
+BLOCK = re.compile(r'^```([^\n]*)\n(.*?)^```', re.M | re.S)
+# what the test command runs by itself
+RUNNING = re.compile(r'make test|make house|python3 tests/\w+\.py')
+# what may not be installed
+WANTED = ['cc', 'man', 'parallel', 'pv']
+INSTALLED = ['bin/vipr', 'share/bash-completion/completions/vipr', 'share/fish/vendor_completions.d/vipr.fish',
+             'share/man/man1/vipr.1', 'share/zsh/site-functions/_vipr']
+TASKS = 3
+checks = failed = 0
+left_out = set()
+
+
+def check(good, what):
+    global checks, failed
+    checks += 1
+    if not good:
+        failed += 1
+        print(what)
+
+
+class Reader:
+    """A reader's folder, and the shell that runs in it."""
+
+    def __init__(self, room):
+        self.room, self.clone, self.home = room, room / 'vipr', room / 'home'
+        (room / 'URL').symlink_to(TOP)
+        self.home.mkdir()
+        stand_ins = room / 'bin'
+        stand_ins.mkdir()
+        if not shutil.which('sbatch'):
+            (stand_ins / 'sbatch').write_text(f'#!/bin/sh\nfor task in $(seq {TASKS}); do\n'
+                                              'SLURM_ARRAY_TASK_ID=$task sh "$1"\ndone\n')
+            (stand_ins / 'sbatch').chmod(0o755)
+        self.environment = dict(os.environ, HOME=str(self.home), LC_ALL='C.UTF-8', MANPAGER='cat', PAGER='cat',
+                                PATH=f'{self.home}/.local/bin:{stand_ins}:{os.environ["PATH"]}',
+                                GIT_CONFIG_COUNT='1', GIT_CONFIG_KEY_0='safe.directory', GIT_CONFIG_VALUE_0='*')
+        self.environment.pop('MAKEFLAGS', None)
+
+    def run(self, words, folder):
+        done = subprocess.run(['bash', '-ec', words], cwd=folder, env=self.environment, stdout=subprocess.PIPE,
+                              stderr=subprocess.STDOUT, stdin=subprocess.DEVNULL, text=True, errors='replace',
+                              timeout=1800, check=False)
+        return done.returncode, done.stdout
+
+    def take_work(self):
+        """Puts what differs here from the last commit into the clone, and what was proved and built."""
+        changed = subprocess.run(['git', '-c', 'safe.directory=*', 'ls-files', '-z', '-m', '-o', '--exclude-standard'],
+                                 cwd=TOP, capture_output=True, text=True, check=True).stdout.split('\0')
+        for name in filter(None, changed):
+            to = self.clone / name
+            to.parent.mkdir(parents=True, exist_ok=True)
+            if (TOP / name).is_file():
+                shutil.copy2(TOP / name, to)
+            elif to.is_file():
+                to.unlink()
+        for out in TOP.glob('crates/*/out'):
+            shutil.copytree(out, self.clone / out.relative_to(TOP), dirs_exist_ok=True)
+
+    def lay_out_files(self):
+        """What docs/USE.md speaks of."""
+        folder = self.clone / 'certificates'
+        shutil.copytree(self.clone / 'examples', folder, ignore=lambda _, names: {it for it in names if '.md' in it})
+        shutil.copy(self.clone / 'examples/infeasible.vipr', self.clone / 'certificate.vipr')
+        names = sorted(str(it.relative_to(self.clone)) for it in folder.glob('*.vipr'))[:TASKS]
+        (self.clone / 'files.txt').write_text(''.join(f'{it}\n' for it in names))
+        text = (self.clone / 'docs/USE.md').read_text()
+        [script] = [body for _, body in BLOCK.findall(text) if body.startswith('#!/bin/sh\n')]
+        (self.clone / 'check.sh').write_text(script)
+
+
+def runnable(block):
+    """The commands of a block that are run here."""
+    rows = []
+    for row in re.sub(r'\\\n', ' ', block).split('\n'):
+        if not row.strip() or RUNNING.fullmatch(row.strip()):
+            continue
+        lacking = [it for it in WANTED if re.search(rf'(^|[|&;] *){it}\b', row) and not shutil.which(it)]
+        left_out.update(lacking)
+        if not lacking:
+            rows.append(row)
+    return rows
+
+
+def status_of(reader, file):
+    return str(subprocess.run([reader.home / '.local/bin/vipr', 'check', file], cwd=reader.clone, capture_output=True,
+                              check=False).returncode)
+
+
+def look_at(reader, rows, said):
+    """What a command of a block is to leave or to print."""
+    words = '\n'.join(rows)
+    for found in re.finditer(r'make check FILE=(\S+)', words):
+        check('verified infeas' in said, f'{found[0]} prints {said!r}')
+    if 'make install' in words:
+        for name in INSTALLED:
+            check((reader.home / '.local' / name).is_file(), f'make install leaves no {name}')
+    if 'man vipr' in rows:
+        check('SYNOPSIS' in said, f'man vipr prints {said[:200]!r}')
+    if './library ' in words:
+        check('verified\nsolutions 0' in said, f'./library prints {said[-200:]!r}')
+    if 'rt test' in words:
+        check('FAILED' not in said, f'rt test prints {said[-600:]!r}')
+    if 'pv ' in words:
+        check('verified infeas' in said, f'pv certificate.vipr | vipr check prints {said!r}')
+    if 'parallel ' in words:
+        rows = [row.split('\t') for row in (reader.clone / 'statuses.tsv').read_text().split('\n')[1:] if row]
+        files = sorted((reader.clone / 'certificates').glob('*.vipr'))
+        check(len(rows) == len(files), f'statuses.tsv has {len(rows)} rows for {len(files)} files')
+        for row in rows:
+            file = re.search(r'vipr check (\S+)', row[8])[1]
+            check(row[6] == status_of(reader, file), f'parallel has the status {row[6]} of {file}')
+    if 'sbatch ' in words:
+        for name in (reader.clone / 'files.txt').read_text().split():
+            written = reader.clone / f'{name}.status'
+            text = written.read_text() if written.is_file() else 'none'
+            check(text == f'{status_of(reader, name)} {name}\n', f'{name}.status is {text!r}')
+
+
+def main():
+    with tempfile.TemporaryDirectory(prefix='vipr-commands-') as name:
+        reader = Reader(Path(name))
+        for page in PAGES:
+            for kind, block in BLOCK.findall((TOP / page).read_text()):
+                if kind.split()[:1] != ['sh']:
+                    continue
+                rows = runnable(block)
+                if rows and rows[0].startswith('git clone'):
+                    status, said = reader.run(rows[0], reader.room)
+                    check(status == 0 and reader.clone.is_dir(), f'{page}: {rows[0]!r}: status {status}: {said}')
+                    if not reader.clone.is_dir():
+                        break
+                    reader.take_work()
+                    reader.lay_out_files()
+                    rows = rows[1:]
+                if not rows:
+                    continue
+                status, said = reader.run('\n'.join(rows), reader.clone)
+                # parallel's status is the number of files that are refused
+                good = status == 0 or rows[0].startswith('parallel ')
+                check(good, f'{page}: {rows!r}: status {status}: {said[-1000:]}')
+                look_at(reader, rows, said)
+        status, said = reader.run('make uninstall PREFIX=$HOME/.local', reader.clone)
+        left = [it for it in INSTALLED if (reader.home / '.local' / it).exists()]
+        check(status == 0 and not left, f'make uninstall: status {status}, and it leaves {left}: {said}')
+    if left_out:
+        print(f'commands: left out, for want of {", ".join(sorted(left_out))}')
+    print(f'commands: {checks} checks, {failed} failed')
+    return 1 if failed else 0
+
+
+sys.exit(main())
