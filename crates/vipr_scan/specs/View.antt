@@ -5,7 +5,7 @@ use Rattle.std.specs.Prelude.{slice_range}
 use Rattle.std.specs.Prelude.{slice_index, IfSome, if◌then◌else◌, option_and_then}
 use Rattle.std.specs.Option.{option_map}
 use Rattle.vipr_spec.specs.Input.{Input}
-use Rattle.vipr_spec.specs.Tokens.{Token, is_white}
+use Rattle.vipr_spec.specs.Tokens.{Token, IsToken, is_white}
 use Rattle.vipr_spec.specs.Reading.{Rest}
 use Rattle.vipr_scan.specs.declared.place.Place.TheVariants.{Past}
 use Rattle.vipr_scan.specs.declared.window.Window.{Window}
@@ -56,6 +56,14 @@ abbrev pub IsAtToken : {R : Type 0} → Window R → Type 0
 IsAtToken t =
     (0 < length (unread t)) × (t.place ≡ Past) × (is_white (slice_index (unread t) 0) ≡ false)
 
+-- the first n of the unread bytes are all of the token there, or 65,536 bytes of it
+abbrev pub IsMeasured : {R : Type 0} → Window R → ℕ → Type 0
+IsMeasured t n =
+    (t.place ≡ Past) × (0 < n) × (n ≤ 65536) × (n ≤ length (unread t))
+    × ((k : ℕ) → k < n → is_white (slice_index (unread t) k) ≡ false)
+    × (n < length (unread t) → is_white (slice_index (unread t) n) ≡ true)
+    × (n < 65536 → n ≡ length (unread t) → t.ended ≡ true)
+
 -- the reads that may still come, and one for the end
 abbrev pub rounds : {R : Type 0} → (R → ℕ) → Window R → ℕ
 rounds reads_left t = if t.ended then 0 else reads_left t.source + 1
@@ -102,6 +110,11 @@ stops (Err e) = true
 -- a token that was found in the buffer
 abbrev pub found_token : List ℕ → Found → Token
 found_token buf f = record { bytes = slice_range buf f.start (f.start + f.len); offset = f.offset }
+
+-- it lies in the buffer, all of it without white space
+abbrev pub IsFound : List ℕ → Found → Type 0
+IsFound buf f =
+    (f.start + f.len ≤ 65536) × IsToken (slice_range buf f.start (f.start + f.len))
 
 -- the first n of the bytes not yet taken are white space before a token or the end
 pub record IsGap {R : Type 0} (t : Window R) (n : ℕ) : Type 0 where

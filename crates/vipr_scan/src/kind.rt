@@ -46,12 +46,13 @@ pub trait TokenKind {
     /// What the token at the front means, and its length, where it can be read at once and white
     /// space stands behind it. `None` says nothing of the bytes.
     #[inline(always)]
-    fn read_front(&self, _bytes: &[u8]) -> Option<(Self::Value, usize)>
-        ensures token { IfSome result (λ r. IsInFront _bytes.now r.1) }
+    fn read_front(&self, bytes: &[u8]) -> Option<(Self::Value, usize)>
+        ensures token { IfSome result (λ r. IsInFront bytes.now r.1) }
         ensures meaning { IfSome result
-            (λ r. meaning self.now (take r.1 _bytes.now) ≡ Ok (view r.0)) }
+            (λ r. meaning self.now (take r.1 bytes.now) ≡ Ok (view r.0)) }
         ensures front_bounds { IfSome result (λ r. bounds self.now r.0) }
     {
+        let _ = bytes;
         None
     }
 }

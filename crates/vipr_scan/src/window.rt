@@ -45,7 +45,7 @@ impl<R: Source> Window<R> {
     ghost use Rattle.vipr_scan.specs.View.{unread, input_left, left, rounds, Keeps, IsOver};
     ghost use Rattle.vipr_scan.specs.View.{IsAtToken, seen_found, next_answer, next_left, seen};
     ghost use Rattle.vipr_scan.specs.View.{stops, found_token};
-    ghost use Rattle.vipr_scan.specs.View.{IsGap};
+    ghost use Rattle.vipr_scan.specs.View.{IsGap, IsFound, IsMeasured};
     ghost use Rattle.vipr_scan.specs.Meaning.{IsInFront};
     ghost use Rattle.vipr_scan.specs.Giving.{Scans, Ends, IsBehind};
     ghost use Rattle.vipr_spec.specs.Reading.{token_read, end_read};
@@ -179,16 +179,7 @@ impl<R: Source> Window<R> {
     fn measure(&mut self) -> Result<usize, Failed>
         requires { IsAtToken self.old }
         ensures left { OnOk result (Keeps (left R.input self.old) (left R.input self.new)) }
-        ensures within { IfOk result (λ n. n ≤ length (unread self.new)) }
-        ensures token { IfOk result (λ n. 0 < n) }
-        ensures run { IfOk result
-            (λ n. (k : ℕ) → k < n → is_white (slice_index (unread self.new) k) ≡ false) }
-        ensures white { IfOk result
-            (λ n. n < length (unread self.new) →
-            is_white (slice_index (unread self.new) n) ≡ true) }
-        ensures whole { IfOk result
-            (λ n. n < 65536 → n ≡ length (unread self.new) → self.new.ended ≡ true) }
-        ensures place { OnOk result (self.new.place ≡ Place.Past) }
+        ensures measured { IfOk result (λ n. IsMeasured self.new n) }
         ensures failed { OnErr result (IsOver (left R.input self.old) true) }
     {
         let mut len = 0;
@@ -204,21 +195,12 @@ impl<R: Source> Window<R> {
 
     /// Takes the token at the front, of that many bytes.
     fn take_token(&mut self, n: usize) -> Found
-        requires place { self.old.place ≡ Place.Past }
-        requires within { n ≤ length (unread self.old) }
-        requires token { 0 < n }
-        requires limit { n ≤ 65536 }
-        requires run { (k : ℕ) → k < n → is_white (slice_index (unread self.old) k) ≡ false }
-        requires white { n < length (unread self.old) →
-            is_white (slice_index (unread self.old) n) ≡ true }
-        requires whole { n < 65536 → n ≡ length (unread self.old) → self.old.ended ≡ true }
+        requires { IsMeasured self.old n }
         ensures answer { IfSome (left R.input self.old)
             (λ l. Ok (Some (seen_found self.new.buf.value result)) ≡ next_answer l) }
         ensures left { result.long ≡ false →
             IfSome (left R.input self.old) (λ l. left R.input self.new ≡ Some (next_left l)) }
-        ensures within { result.start + result.len ≤ 65536 }
-        ensures token { IsToken
-            (slice_range self.new.buf.value result.start (result.start + result.len)) }
+        ensures found { IsFound self.new.buf.value result }
     {
         let found = Found {
             start: self.start,
@@ -239,10 +221,7 @@ impl<R: Source> Window<R> {
             IfSome (left R.input self.old) (λ l. left R.input self.new ≡ Some (next_left l)) }
         ensures end { result ≡ Ok None →
             IfSome (left R.input self.old) (λ l. self.new.offset ≡ l.length) }
-        ensures within { IfOk result (λ o. IfSome o (λ f. f.start + f.len ≤ 65536)) }
-        ensures token { IfOk result
-            (λ o. IfSome o
-            (λ f. IsToken (slice_range self.new.buf.value f.start (f.start + f.len)))) }
+        ensures found { IfOk result (λ o. IfSome o (IsFound self.new.buf.value)) }
         ensures error { IfErr result (λ e. e ≡ Stop.Read) }
     {
         self.skip()?;
@@ -260,9 +239,7 @@ impl<R: Source> Window<R> {
         ensures read { Scans (found_token self.new.buf.value) token_read
             (left R.input self.old) (left R.input self.new) result }
         ensures behind { IsBehind (left R.input self.old) (left R.input self.new) }
-        ensures within { IfOk result (λ f. f.start + f.len ≤ 65536) }
-        ensures token { IfOk result
-            (λ f. IsToken (slice_range self.new.buf.value f.start (f.start + f.len))) }
+        ensures found { IfOk result (IsFound self.new.buf.value) }
         ensures error { IfErr result (λ e. e ≢ Stop.Memory) }
     {
         let (gap, bytes) = self.at_hand();
@@ -280,9 +257,7 @@ impl<R: Source> Window<R> {
         ensures read { Scans (found_token self.new.buf.value) token_read
             (left R.input self.old) (left R.input self.new) result }
         ensures behind { IsBehind (left R.input self.old) (left R.input self.new) }
-        ensures within { IfOk result (λ f. f.start + f.len ≤ 65536) }
-        ensures token { IfOk result
-            (λ f. IsToken (slice_range self.new.buf.value f.start (f.start + f.len))) }
+        ensures found { IfOk result (IsFound self.new.buf.value) }
         ensures error { IfErr result (λ e. e ≢ Stop.Memory) }
     {
         let Some(found) = self.advance()? else {
