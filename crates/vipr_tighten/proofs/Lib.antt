@@ -1,6 +1,7 @@
 mod Marking
 mod Referring
 mod Entries
+mod Moving
 mod Renumbering
 mod Tightening
 mod Reading

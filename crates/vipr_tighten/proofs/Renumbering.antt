@@ -11,20 +11,17 @@ use Rattle.vipr_spec.specs.Laws.{index_le, index_same, length_kept_derivations, 
 use Rattle.vipr_cert.specs.Earlier.{reason_in, NameEarlierFrom}
 use Rattle.vipr_cert.specs.Items.{reason_of, derivation_of}
 use Rattle.vipr_cert.specs.declared.items.Derivation.{Derivation}
-use Rattle.vipr_tighten.specs.Passes.{has_mark, AreMarks, kept_by, index_by}
+use Rattle.vipr_tighten.specs.Passes.{has_mark, AreMarks, kept_by, index_by, TakesOver}
 
 -- ---- the next derivation
 
-pub next_of : (xs : List Derivation) (j : ℕ) (x : Derivation) (rest : List Derivation) → drop j xs ≡ x ∷ rest → (j < length xs) × (x ≡ get_or xs j x) × (drop (j + 1) xs ≡ rest)
+next_of : (xs : List Derivation) (j : ℕ) (x : Derivation) (rest : List Derivation) → drop j xs ≡ x ∷ rest → (j < length xs) × (x ≡ get_or xs j x) × (drop (j + 1) xs ≡ rest)
 next_of xs j x rest e =
     let size : length (drop j xs) ≡ length xs - j = length-drop j xs in
     let one : length (drop j xs) ≡ suc (length rest) = ap length e in
     let inside : j < length xs = omega arith in
     let both : x ∷ rest ≡ get_or xs j x ∷ drop (j + 1) xs = sym e ∙ drop_more xs j x inside in
     (inside, cc, cc)
-
-pub none_left : (xs : List Derivation) (j : ℕ) → j ≤ length xs → length (drop j xs) ≡ 0 → j ≡ length xs
-none_left xs j h e = let size : length (drop j xs) ≡ length xs - j = length-drop j xs in omega arith
 
 -- ---- so far
 
@@ -37,9 +34,6 @@ pub record SoFar (first : ℕ) (marks : List Bool) (all left : List Derivation) 
 
 given_kept : (first : ℕ) (marks : List Bool) (i : ℕ) → i < first → kept_by first marks i ≡ true
 given_kept first marks i h = ap (λ b. b || has_mark marks (i - first)) (lt-ltb i first h)
-
-pub nothing_yet : (first : ℕ) (marks : List Bool) (all left : List Derivation) → left ≡ all → SoFar first marks all left [] []
-nothing_yet first marks all left e = record { others = sym e; few = omega arith; indices = λ k h. absurd (omega arith); those = refl }
 
 module _ (first : ℕ) (marks : List Bool) (all left : List Derivation) (table : List ℕ) (kept : List Derivation) (so_far : SoFar first marks all left table kept) where
   abbrev keep : ℕ → Bool
@@ -62,9 +56,6 @@ module _ (first : ℕ) (marks : List Bool) (all left : List Derivation) (table :
       let there : new_index keep (first + length before) ≡ new_index keep (first + length table) = ap (λ n. new_index keep (first + n)) taken in
       omega arith
 
-  pub few_kept : length kept ≤ length table
-  few_kept = let now = index_now in let le = index_le keep (first + length table) in omega arith
-
   -- what the table says of earlier constraints
   look_up : (i : ℕ) → i < first + length table → index_by first table i ≡ new_index keep i
   look_up i h = ⊎_elim
@@ -85,10 +76,7 @@ module _ (first : ℕ) (marks : List Bool) (all left : List Derivation) (table :
     next : (length table < length all) × (x ≡ get_or all (length table) x) × (drop (length table + 1) all ≡ rest)
     next = next_of all (length table) x rest (so_far.others ∙ e)
 
-    pub next_there : length table < length all
-    next_there = next.0
-
-    pub next_earlier : NameEarlierFrom first all (length all) → NamesEarlier (first + length table) (Some (reason_of x.reason))
+    next_earlier : NameEarlierFrom first all (length all) → NamesEarlier (first + length table) (Some (reason_of x.reason))
     next_earlier earlier =
         subst (NamesEarlier (first + length table))
         (get_or-map (λ (d : Derivation). Some (reason_of d.reason)) all (length table) x None next.0 ∙ ap (λ (d : Derivation). Some (reason_of d.reason)) (sym next.1))
@@ -165,12 +153,53 @@ module _ (first : ℕ) (marks : List Bool) (all left : List Derivation) (table :
         next_reason : ℕ → Bool
         next_reason = refers_to (renumbered (new_index keep) (slice_index_or (map derivation_of all) (length table) (derivation_of x)).reason)
 
-  pub all_done : length left ≡ 0 → map derivation_of kept ≡ kept_derivations keep first (map derivation_of all)
-  all_done none =
-      let size = all_size in
-      let few = so_far.few in
-      let last = none_left all (length table) few (ap length so_far.others ∙ none) in
-      so_far.those ∙ ap (kept_derivations keep first) (take_all (length table) (map derivation_of all) (omega arith))
+-- ---- in place
+
+exists_at : {A : Type 0} (l : List A) (i : ℕ) → i < length l → (x : A) × (x ≡ get_or l i x)
+exists_at [] i h = absurd (omega arith)
+exists_at (x ∷ l) zero h = (x, refl)
+exists_at (x ∷ l) (suc i) h = exists_at l i (omega arith)
+
+pub earlier_in : (first : ℕ) (all ds : List Derivation) (table : List ℕ) (place : ℕ) → NameEarlierFrom first all (length all) → length table ≡ place → place < length all → drop (length table) all ≡ drop place ds
+    → NamesEarlier (first + length table) (reason_in ds place)
+earlier_in first all ds table place earlier at there e =
+    subst (λ n. NamesEarlier (first + n) (reason_in ds place)) (sym at)
+    (subst (NamesEarlier (first + place)) (read all ∙ ap (λ l. reason_in l 0) (ap (λ n. drop n all) (sym at) ∙ e) ∙ sym (read ds)) (earlier place there))
+  where
+    read : (l : List Derivation) → reason_in l place ≡ reason_in (drop place l) 0
+    read l = by l place
+      where
+        by : (l : List Derivation) (k : ℕ) → reason_in l k ≡ reason_in (drop k l) 0
+        by [] zero = refl
+        by [] (suc k) = refl
+        by (x ∷ l) zero = refl
+        by (x ∷ l) (suc k) = by l k
+
+-- The first `kept` are those that are kept so far, and the others follow from `place` on.
+module _ (first : ℕ) (marks : List Bool) (all ds : List Derivation) (table : List ℕ) (kept place : ℕ) (size : length ds ≡ length all) (at : length table ≡ place) (behind : kept ≤ place)
+    (so_far : SoFar first marks all (drop place ds) table (take kept ds)) (there : place < length all) where
+  next_one : (x : Derivation) × (x ≡ get_or ds place x)
+  next_one = exists_at ds place (omega arith)
+
+  is_next : drop place ds ≡ next_one.0 ∷ drop (place + 1) ds
+  is_next = drop_more ds place next_one.0 (omega arith) ∙ ap (λ x. x ∷ drop (place + 1) ds) (sym next_one.1)
+
+  index_is : first + kept ≡ first + length (take kept ds)
+  index_is = let e = length-take-le kept ds (omega arith) in omega arith
+
+  marked : (b : Bool) → has_mark marks place ≡ b → has_mark marks (length table) ≡ b
+  marked b e = ap (has_mark marks) at ∙ e
+
+  pub place_left_out : has_mark marks place ≡ false → SoFar first marks all (drop (place + 1) ds) (table ++ (first + kept) ∷ []) (take kept ds)
+  place_left_out m = leave_out first marks all (drop place ds) table (take kept ds) so_far next_one.0 (drop (place + 1) ds) is_next (first + kept) index_is (marked false m)
+
+  pub place_taken_over : has_mark marks place ≡ true → NameEarlierFrom first all (length all) → (new : List Derivation) → TakesOver first table kept place ds new
+      → SoFar first marks all (drop (place + 1) new) (table ++ (first + kept) ∷ []) (take (kept + 1) new)
+  place_taken_over m earlier new takes =
+      let (changed, moved, front, g, h) = takes.taken next_one.0 next_one.1 in
+      subst (λ l. SoFar first marks all l (table ++ (first + kept) ∷ []) (take (kept + 1) new)) (sym takes.left)
+      (subst (SoFar first marks all (drop (place + 1) ds) (table ++ (first + kept) ∷ [])) (sym front)
+      (take_over first marks all (drop place ds) table (take kept ds) so_far next_one.0 (drop (place + 1) ds) is_next (first + kept) index_is (marked true m) earlier moved g changed h))
 
 -- ---- of the certificate
 

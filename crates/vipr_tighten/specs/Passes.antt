@@ -1,8 +1,11 @@
 -- The tables of the two passes over the derivations, of which the first has the index `first`
 use Rattle.std.specs.Prelude.{◌≡◌, ℕ, ◌+◌, ◌-◌, ◌<◌, ◌||◌, Bool, false, nat_lt, if◌then◌else◌}
-use Rattle.std.specs.Prelude.{List, length, slice_index_or, Option}
+use Rattle.std.specs.Prelude.{List, [], ◌∷◌, ◌++◌, length, map, take, drop, slice_index_or}
+use Rattle.std.specs.Prelude.{Option, None}
 use Rattle.vipr_spec.specs.Certificate.{Derivation}
-use Rattle.vipr_spec.specs.Tightened.{is_marked}
+use Rattle.vipr_spec.specs.Tightened.{is_marked, refers_to, referred_by, with_new_indices}
+use Rattle.vipr_cert.specs.Items.{reason_of, derivation_of}
+use Rattle.vipr_cert.specs.declared.items.Derivation.{Derivation as Stored}
 
 -- a mark for each derivation; there is none past the end
 abbrev pub has_mark : List Bool → ℕ → Bool
@@ -26,3 +29,17 @@ kept_by first marks i = nat_lt i first || has_mark marks (i - first)
 -- The table has the new index of each derivation. The constraints of the problem keep theirs.
 abbrev pub index_by : ℕ → List ℕ → ℕ → ℕ
 index_by first table i = if nat_lt i first then i else slice_index_or table (i - first) 0
+
+-- What the place holds is taken over behind the first `kept`, under its new indices and with no
+-- last reference yet, and is now the last one that refers to those before it. What follows the
+-- place stays.
+pub record TakesOver (first : ℕ) (table : List ℕ) (kept place : ℕ) (old new : List Stored)
+    : Type 0 where
+  pub size : length new ≡ length old
+  pub left : drop (place + 1) new ≡ drop (place + 1) old
+  pub taken : (x : Stored) → x ≡ slice_index_or old place x
+      → (changed : List Stored) × (moved : Stored) × (take (kept + 1) new ≡ changed ++ moved ∷ [])
+      × (derivation_of moved
+      ≡ record (with_new_indices (index_by first table) (derivation_of x)) { last = None })
+      × (map derivation_of changed ≡ referred_by (refers_to (reason_of moved.reason))
+      (first + kept) first (map derivation_of (take kept old)))

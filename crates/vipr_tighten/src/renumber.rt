@@ -6,9 +6,9 @@ ghost use Rattle.vipr_spec.specs.Certificate.{NamesEarlier};
 ghost use Rattle.vipr_spec.specs.Reading.{is_nonzero, most_count};
 ghost use Rattle.vipr_spec.specs.Tightened.{refers_to, renumbered_entries, renumbered};
 ghost use Rattle.vipr_spec.specs.Tightened.{with_new_indices, kept_derivations, referred_by};
-ghost use Rattle.vipr_cert.specs.Earlier.{NameEarlierFrom};
+ghost use Rattle.vipr_cert.specs.Earlier.{reason_in, NameEarlierFrom};
 ghost use Rattle.vipr_cert.specs.Items.{reason_of, derivation_of};
-ghost use Rattle.vipr_tighten.specs.Passes.{kept_by, index_by};
+ghost use Rattle.vipr_tighten.specs.Passes.{kept_by, index_by, TakesOver};
 
 use crate::needed::is_zero;
 use std::alloc::{AllocError, Global};
@@ -19,7 +19,7 @@ use vipr_frac::Frac;
 /// references. The first derivation has the index `first`.
 pub(crate) fn renumber(
     alloc: Global,
-    derivations: Vec<Derivation>,
+    mut derivations: Vec<Derivation>,
     marks: &[bool],
     first: u32,
 ) -> Result<Vec<Derivation>, AllocError>
@@ -30,18 +30,34 @@ pub(crate) fn renumber(
         map derivation_of kept.items
         ≡ kept_derivations (kept_by first marks.now) first (map derivation_of derivations.items)) }
 {
-    let mut table = Vec::new(alloc);
-    let mut kept = Vec::new(alloc);
-    for derivation in derivations {
-        let index = first + kept.len() as u32;
-        if marks[table.len()] {
-            let moved = moved(derivation, first, &table);
-            set_last(&mut kept, first, &moved.reason, index);
-            kept.push(moved)?;
+    let mut table = Vec::with_capacity(alloc, derivations.len())?;
+    let mut kept = 0;
+    for place in 0..derivations.len() {
+        let index = first + kept as u32;
+        if marks[place] {
+            take_over(&mut derivations, kept, place, first, &table);
+            kept += 1;
         }
         table.push(index)?;
     }
-    Ok(kept)
+    derivations.truncate(kept);
+    Ok(derivations)
+}
+
+// Takes the derivation at a place over, behind the first `kept`: under its new indices, and as the
+// last reference of those that it refers to.
+fn take_over(derivations: &mut [Derivation], kept: usize, place: usize, first: u32, table: &[u32])
+    requires behind { kept ≤ place }
+    requires there { place < length derivations.old }
+    requires few { first + kept ≤ most_count }
+    requires earlier { NamesEarlier (first + length table.now) (reason_in derivations.old place) }
+    ensures { TakesOver first table.now kept place derivations.old derivations.new }
+{
+    derivations.swap(kept, place);
+    let (front, back) = derivations.split_at_mut(kept);
+    let taken = &mut back[0];
+    renumber_references(taken, first, table);
+    set_last(front, first, &taken.reason, first + kept as u32);
 }
 
 // The new index of a constraint. The table has those of the derivations.
@@ -56,51 +72,45 @@ fn index_of(index: u32, first: u32, table: &[u32]) -> u32
     }
 }
 
-// The entries with a nonzero multiplier, under the new indices.
-fn renumbered_entries(mut entries: Vec<(u32, Frac)>, first: u32, table: &[u32]) -> Vec<(u32, Frac)>
-    requires { All (λ e. e.0 < first + length table.now) entries.items }
-    ensures { result.items ≡ renumbered_entries (index_by first table.now) entries.items }
+// Takes out the entries with multiplier 0, and gives the others their new indices.
+fn renumber_entries(entries: &mut Vec<(u32, Frac)>, first: u32, table: &[u32])
+    requires { All (λ e. e.0 < first + length table.now) entries.old.items }
+    ensures { entries.new.items ≡ renumbered_entries (index_by first table.now) entries.old.items }
 {
     entries.retain(|entry| !is_zero(&entry.1));
     for i in 0..entries.len() {
         entries[i].0 = index_of(entries[i].0, first, table);
     }
-    entries
 }
 
-// The reason under the new indices.
-fn renumbered(reason: Reason, first: u32, table: &[u32]) -> Reason
-    requires { NamesEarlier (first + length table.now) (Some (reason_of reason)) }
-    ensures { reason_of result ≡ renumbered (index_by first table.now) (reason_of reason) }
+// Gives a reason the new indices.
+fn renumber_reason(reason: &mut Reason, first: u32, table: &[u32])
+    requires { NamesEarlier (first + length table.now) (Some (reason_of reason.old)) }
+    ensures { reason_of reason.new ≡ renumbered (index_by first table.now) (reason_of reason.old) }
 {
     match reason {
-        Reason::Asm => Reason::Asm,
-        Reason::Lin(entries) => Reason::Lin(renumbered_entries(entries, first, table)),
-        Reason::Rnd(entries) => Reason::Rnd(renumbered_entries(entries, first, table)),
-        Reason::Uns { i1, l1, i2, l2 } => Reason::Uns {
-            i1: index_of(i1, first, table),
-            l1: index_of(l1, first, table),
-            i2: index_of(i2, first, table),
-            l2: index_of(l2, first, table),
-        },
-        Reason::Sol => Reason::Sol,
+        Reason::Asm | Reason::Sol => {}
+        Reason::Lin(entries) => renumber_entries(entries, first, table),
+        Reason::Rnd(entries) => renumber_entries(entries, first, table),
+        Reason::Uns { i1, l1, i2, l2 } => {
+            *i1 = index_of(*i1, first, table);
+            *l1 = index_of(*l1, first, table);
+            *i2 = index_of(*i2, first, table);
+            *l2 = index_of(*l2, first, table);
+        }
     }
 }
 
-// The derivation under the new indices, without a last reference.
-fn moved(derivation: Derivation, first: u32, table: &[u32]) -> Derivation
-    requires { NamesEarlier (first + length table.now) (Some (reason_of derivation.reason)) }
-    ensures { derivation_of result
-        ≡ record (with_new_indices (index_by first table.now) (derivation_of derivation)) {
+// Gives a derivation the new indices, and takes its last reference away.
+fn renumber_references(derivation: &mut Derivation, first: u32, table: &[u32])
+    requires { NamesEarlier (first + length table.now) (Some (reason_of derivation.old.reason)) }
+    ensures { derivation_of derivation.new
+        ≡ record (with_new_indices (index_by first table.now) (derivation_of derivation.old)) {
           last = None;
         } }
 {
-    Derivation {
-        name: derivation.name,
-        constraint: derivation.constraint,
-        reason: renumbered(derivation.reason, first, table),
-        last: None,
-    }
+    renumber_reason(&mut derivation.reason, first, table);
+    derivation.last = None;
 }
 
 // Gives the derivations that a reason refers to this last reference.

@@ -12,7 +12,20 @@ use vipr_frac::Frac;
 use vipr_linear::Sense;
 
 /// A count or an index, with no space.
+#[tactic(auto, using(std::proofs::lemmas::Fmt::decimal_digit))]
+#[inline(always)]
 pub(crate) fn append_decimal(text: &mut Vec<u8>, n: usize) -> Result<(), AllocError>
+    ensures { OnOk result (text.new.items ≡ text.old.items ++ decimal n) }
+{
+    if n < 10 {
+        text.push(b'0' + n as u8)?;
+        return Ok(());
+    }
+    append_digits(text, n)
+}
+
+// A count or an index of any size, with no space.
+fn append_digits(text: &mut Vec<u8>, n: usize) -> Result<(), AllocError>
     ensures { OnOk result (text.new.items ≡ text.old.items ++ decimal n) }
 {
     let mut buffer = Buffer::new();
@@ -20,6 +33,7 @@ pub(crate) fn append_decimal(text: &mut Vec<u8>, n: usize) -> Result<(), AllocEr
 }
 
 /// A word.
+#[inline(always)]
 pub(crate) fn append_word(text: &mut Vec<u8>, word: &[u8]) -> Result<(), AllocError>
     ensures { OnOk result (text.new.items ≡ text.old.items ++ 32 ∷ word.now) }
 {
@@ -28,6 +42,7 @@ pub(crate) fn append_word(text: &mut Vec<u8>, word: &[u8]) -> Result<(), AllocEr
 }
 
 /// A count or an index.
+#[inline(always)]
 pub(crate) fn append_index(text: &mut Vec<u8>, n: usize) -> Result<(), AllocError>
     ensures { OnOk result (text.new.items ≡ text.old.items ++ 32 ∷ decimal n) }
 {
@@ -40,7 +55,10 @@ pub(crate) fn append_number(text: &mut Vec<u8>, x: &Frac) -> Result<(), AllocErr
     ensures { OnOk result (text.new.items ≡ text.old.items ++ 32 ∷ number_text x.now) }
 {
     text.push(b' ')?;
-    x.write_to(text)
+    match usize::try_from(x.numer()) {
+        Ok(n) if x.is_whole() => append_decimal(text, n),
+        _ => x.write_to(text),
+    }
 }
 
 /// Indices with numbers.

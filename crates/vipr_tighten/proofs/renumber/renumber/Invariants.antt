@@ -1,7 +1,11 @@
-use Rattle.std.proofs.Common.{◌≡◌}
-use Rattle.std.specs.Vec.Iter.{into_iter_items}
+use Rattle.std.proofs.Common.{◌≡◌, ◌≤◌, length, take, drop}
 use Rattle.vipr_tighten.proofs.Renumbering.{SoFar}
 use Rattle.vipr_tighten.proofs.renumber.renumber.Given as goal
 
-abbrev pub invariant-loop-derivation : goal.invariant-loop-derivation
-invariant-loop-derivation l = SoFar l.first l.marks l.fn.derivations.items (into_iter_items l.derivation-iterator) l.table.items l.kept.items
+abbrev pub invariant-loop-place : goal.invariant-loop-place
+invariant-loop-place l = record {
+  size : length l.derivations.items ≡ length l.fn.derivations.items;
+  place : length l.table.items ≡ l.place;
+  behind : l.kept ≤ l.place;
+  so_far : SoFar l.first l.marks l.fn.derivations.items (drop l.place l.derivations.items) l.table.items (take l.kept l.derivations.items);
+}

@@ -5,14 +5,14 @@ use Rattle.vipr_spec.specs.Fraction.{ℚ}
 use Rattle.vipr_spec.specs.Reading.{is_nonzero}
 use Rattle.vipr_tighten.specs.Passes.{index_by}
 use Rattle.vipr_tighten.proofs.Entries.{EntriesSoFar, under, next_below, same_entry, next_entry, all_entries}
-use Rattle.vipr_tighten.proofs.renumber.renumbered_entries.Goals as goal
+use Rattle.vipr_tighten.proofs.renumber.renumber_entries.Goals as goal
 
 pub index_of-requires : goal.index_of-requires
 index_of-requires c =
     let old = c.retain.new.self.items in
-    let kept : old ≡ filter is_nonzero c.args.entries.items = filter_same _ is_nonzero _ (λ x r f' k. search rules) _ _ c.retain.ensures.filtered in
-    let below : All (λ e. e.0 < c.args.first + length c.args.table.now) (filter is_nonzero c.args.entries.items) =
-    All-filter is_nonzero (λ (e : ℕ × ℚ). e.0 < c.args.first + length c.args.table.now) c.args.entries.items c.requires in
+    let kept : old ≡ filter is_nonzero c.args.entries.now.items = filter_same _ is_nonzero _ (λ x r f' k. search rules) _ _ c.retain.ensures.filtered in
+    let below : All (λ e. e.0 < c.args.first + length c.args.table.now) (filter is_nonzero c.args.entries.now.items) =
+    All-filter is_nonzero (λ (e : ℕ × ℚ). e.0 < c.args.first + length c.args.table.now) c.args.entries.now.items c.requires in
     let inside : c.loop-i.i < length old = omega arith in
     next_below c.args.first c.args.table.now old c.loop-i.i c.loop-i.entries.items inside c.loop-i.invariant c.index.result.now c.index.ensures
     (c.args.first + length c.args.table.now) (subst (All (λ (e : ℕ × ℚ). e.0 < c.args.first + length c.args.table.now)) (sym kept) below)
@@ -31,7 +31,7 @@ loop-i-preserved c =
 pub returns : goal.returns
 returns c =
     let old = c.retain.new.self.items in
-    let kept : old ≡ filter is_nonzero c.args.entries.items = filter_same _ is_nonzero _ (λ x r f' k. search rules) _ _ c.retain.ensures.filtered in
+    let kept : old ≡ filter is_nonzero c.args.entries.now.items = filter_same _ is_nonzero _ (λ x r f' k. search rules) _ _ c.retain.ensures.filtered in
     let past : length old < c.loop-i.i + 1 = omega arith in
     all_entries c.args.first c.args.table.now old c.loop-i.i c.loop-i.entries.items c.loop-i.invariant past
     ∙ ap (λ l. map (under c.args.first c.args.table.now) l) kept

@@ -1,0 +1,79 @@
+-- A list whose element at a place is moved behind its first `kept`
+use Rattle.std.proofs.Common.{◌≡◌, ℕ, suc, ◌+◌, ◌-◌, ◌<◌, ◌≤◌, List, [], ◌∷◌, ◌++◌, take, drop, map, length, get_or, Option, None, arith, refl, sym, ◌∙◌, ap, subst, length-append}
+use Rattle.std.proofs.Math.ListN.{set, length-set}
+use Rattle.std.proofs.Math.Seq.{get_or-append_right, take-append-add}
+use Rattle.std.proofs.lemmas.List.{get_or-take, get_or-drop, get_or-set_other, get_or_read_under, length-drop, length-take-le, same_lists}
+use Rattle.std.specs.List.{SwappedAt}
+use Rattle.vipr_spec.specs.Tightened.{refers_to, referred_by, with_new_indices}
+use Rattle.vipr_cert.specs.Items.{reason_of, derivation_of}
+use Rattle.vipr_cert.specs.declared.items.Derivation.{Derivation}
+use Rattle.vipr_tighten.specs.Passes.{index_by, TakesOver}
+
+with_first : {A : Type 0} (moved : A) (l : List A) → 0 < length l → set l 0 moved ≡ moved ∷ drop 1 l
+with_first moved [] h = absurd (omega arith)
+with_first moved (x ∷ l) h = refl
+
+module _ {A : Type 0} (old now : List A) (kept place : ℕ) (behind : kept ≤ place) (there : place < length old) (size : length now ≡ length old) (swapped : SwappedAt old now kept place) where
+  pub front_same : take kept now ≡ take kept old
+  front_same =
+      let n = length-take-le kept now (omega arith) in
+      let o = length-take-le kept old (omega arith) in
+      same_lists (take kept now) (take kept old) (n ∙ sym o) (λ k d h.
+      let l : k < kept = omega (arith, n, h) in
+      get_or-take kept now k d l ∙ swapped.2 k d (omega arith) (omega arith) ∙ sym (get_or-take kept old k d l))
+
+  pub found : (x : A) → x ≡ get_or (drop kept now) 0 x → x ≡ get_or old place x
+  found x e = e ∙ get_or-drop kept now 0 x ∙ ap (λ n. get_or now n x) {x = kept + 0} {y = kept} (omega arith) ∙ swapped.0 x
+
+  module _ (changed : List A) (moved : A) (as_long : length changed ≡ kept) where
+    abbrev after : List A
+    after = changed ++ set (drop kept now) 0 moved
+
+    some : 0 < length (drop kept now)
+    some = let e = length-drop kept now in omega arith
+
+    pub after_size : length after ≡ length old
+    after_size =
+        let a = length-append changed (set (drop kept now) 0 moved) in
+        let b = length-set (drop kept now) 0 moved in
+        let c = length-drop kept now in
+        omega arith
+
+    pub after_front : take (kept + 1) after ≡ changed ++ moved ∷ []
+    after_front =
+        ap (λ l. take (kept + 1) (changed ++ l)) (with_first moved (drop kept now) some)
+        ∙ ap (λ n. take (n + 1) (changed ++ moved ∷ drop 1 (drop kept now))) (sym as_long)
+        ∙ take-append-add changed (moved ∷ drop 1 (drop kept now)) 1
+
+    pub after_left : drop (place + 1) after ≡ drop (place + 1) old
+    after_left =
+        let s = after_size in
+        let a = length-drop (place + 1) after in
+        let o = length-drop (place + 1) old in
+        same_lists (drop (place + 1) after) (drop (place + 1) old) (omega arith) (λ k d h.
+        let there : kept + (place + 1 + k - length changed) ≡ place + 1 + k = omega arith in
+        get_or-drop (place + 1) after k d
+        ∙ get_or-append_right changed (set (drop kept now) 0 moved) (place + 1 + k) d (omega arith)
+        ∙ get_or-set_other (drop kept now) 0 (place + 1 + k - length changed) moved d (omega arith)
+        ∙ get_or-drop kept now (place + 1 + k - length changed) d
+        ∙ ap (λ n. get_or now n d) there
+        ∙ swapped.2 (place + 1 + k) d (omega arith) (omega arith)
+        ∙ sym (get_or-drop (place + 1) old k d))
+
+-- what is written of a derivation that is taken over
+pub taken_over : (first : ℕ) (table : List ℕ) (old now : List Derivation) (kept place : ℕ) → kept ≤ place → place < length old → length now ≡ length old → SwappedAt old now kept place
+    → (was moved : Derivation) → was ≡ get_or (drop kept now) 0 was → derivation_of moved ≡ record (with_new_indices (index_by first table) (derivation_of was)) { last = None }
+    → (changed : List Derivation) → length changed ≡ kept → map derivation_of changed ≡ referred_by (refers_to (reason_of moved.reason)) (first + kept) first (map derivation_of (take kept now))
+    → TakesOver first table kept place old (changed ++ set (drop kept now) 0 moved)
+taken_over first table old now kept place behind there size swapped was moved is_was d changed as_long r = record {
+  size = after_size old now kept place behind there size swapped changed moved as_long;
+  left = after_left old now kept place behind there size swapped changed moved as_long;
+  taken = λ x e.
+      let same : was ≡ x = found old now kept place behind there size swapped was is_was ∙ sym (get_or_read_under old place (length old) x was e there refl) in (
+        changed,
+        moved,
+        after_front old now kept place behind there size swapped changed moved as_long,
+        subst (λ (y : Derivation). derivation_of moved ≡ record (with_new_indices (index_by first table) (derivation_of y)) { last = None }) same d,
+        subst (λ l. map derivation_of changed ≡ referred_by (refers_to (reason_of moved.reason)) (first + kept) first (map derivation_of l)) (front_same old now kept place behind there size swapped) r,
+      );
+}
