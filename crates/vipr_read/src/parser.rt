@@ -12,6 +12,7 @@ ghost use Rattle.vipr_read.specs.Parsing.{Parses};
 
 use crate::kinds::{Count, ObjectiveOrCount};
 use crate::marks::{mark_pairs, unmark};
+use crate::parts::places;
 use std::alloc::{AllocError, Global};
 use std::marker::Model;
 use vipr_bytes::Source;
@@ -84,7 +85,7 @@ impl<R: Source> Parser<R> {
         ensures below { IfOk result (λ pairs. All (λ p. p.0 < self.old.variables) pairs.items) }
         ensures distinct { IfOk result (λ pairs. IsDistinct nat_eq (variables_of pairs.items)) }
     {
-        let mut pairs = Vec::new(alloc);
+        let mut pairs = Vec::with_capacity(alloc, places(count))?;
         let read = mark_pairs(&mut self.scanner, &mut self.marks, &mut pairs, count);
         unmark(&mut self.marks, &pairs);
         read?;
