@@ -1,9 +1,9 @@
 -- Lists that rise: what a push, a join, a filter and a step of a merge leave.
-use Rattle.std.proofs.Common.{◌≡◌, ℕ, zero, suc, ◌+◌, ◌-◌, ◌<◌, ◌≤◌, ◌^◌, Bool, true, false, not, cond, ◌||◌, ◌&&◌, min, nat_eq, List, [], ◌∷◌, ◌++◌, length, drop, take, get_or, filter, refl, sym, ap, ◌∙◌, subst, subst₂, arith, add-zero, add-one, drop-cons, lit≤, length-drop, ◌⊎◌, inl, inr}
+use Rattle.std.proofs.Common.{◌≡◌, ℕ, zero, suc, ◌+◌, ◌-◌, ◌<◌, ◌≤◌, ◌^◌, Bool, true, false, not, cond, ◌||◌, ◌&&◌, min, nat_eq, List, [], ◌∷◌, ◌++◌, length, drop, take, get_or, filter, refl, sym, ap, ◌∙◌, subst, arith, add-zero, add-one, drop-cons, lit≤, length-drop, ◌⊎◌, inl, inr}
 use Rattle.std.proofs.lemmas.Bool.Decides.{nat_tests}
 use Rattle.std.proofs.lemmas.Bool.{cases_lt}
 use Rattle.std.proofs.lemmas.List.Folds.{list_any-append}
-use Rattle.std.proofs.Math.Seq.{take-length, take-suc}
+use Rattle.std.proofs.Math.Seq.{take-length}
 use mir.Val.{bool_byte}
 use Rattle.vipr_rules.specs.Rising.{RisesWithin, IsRising, IsUnion, has}
 use Rattle.vipr_rules.specs.Merging.{Merging}
@@ -213,26 +213,6 @@ merge_end xs ys i j out zs m over is = record {
 pub merge_start : (xs ys : List ℕ) → IsRising xs → IsRising ys → Merging xs ys 0 0 []
 merge_start xs ys r s = record { i_within = omega arith; j_within = omega arith; mark = 0; mark_fits = lit≤ tt; done = tt; left = r; right = s; members = λ q. refl }
 
--- one step where both begin with the same item
-merge_both : (xs ys : List ℕ) (i : ℕ) (out : List ℕ) → Merging xs ys i i out → i < length xs → i < length ys
-    → get_or xs i 0 ≡ get_or ys i 0 → Merging xs ys (i + 1) (i + 1) (out ++ get_or xs i 0 ∷ [])
-merge_both xs ys i out m a b same =
-    let x = get_or xs i 0 in
-    let low : x ≡ min x (get_or ys i 0) = omega (arith, same) in
-    let step = merge_step xs ys i i out x m a b low in
-    let first : i + bool_byte (nat_eq x x) ≡ i + 1 = ap (λ b. i + bool_byte b) (is_eq x x refl) in
-    let second : i + bool_byte (nat_eq (get_or ys i 0) x) ≡ i + 1 = ap (λ b. i + bool_byte b) (is_eq (get_or ys i 0) x (sym same)) in
-    subst (λ j. Merging xs ys (i + 1) j (out ++ x ∷ [])) second (subst (λ k. Merging xs ys k (i + bool_byte (nat_eq (get_or ys i 0) x)) (out ++ x ∷ [])) first step)
-
--- a merge goes on behind what both have at the front
-pub merge_front : (xs ys : List ℕ) (n : ℕ) → IsRising xs → IsRising ys → n ≤ length xs → n ≤ length ys
-    → ((k : ℕ) → k < n → get_or xs k 0 ≡ get_or ys k 0) → Merging xs ys n n (take n xs)
-merge_front xs ys zero r s a b same = merge_start xs ys r s
-merge_front xs ys (suc n) r s a b same =
-    let shorter = merge_front xs ys n r s (omega arith) (omega arith) (λ k h. same k (omega arith)) in
-    let next = merge_both xs ys n (take n xs) shorter (omega arith) (omega arith) (same n (omega arith)) in
-    subst₂ (λ m out. Merging xs ys m m out) (add-one n) (sym (take-suc xs n 0 (omega arith))) next
-
 -- a list that rises is in order
 pub rises_order : (low high : ℕ) (xs : List ℕ) → RisesWithin low high xs → (i j : ℕ) → i ≤ j → j < length xs → get_or xs i 0 ≤ get_or xs j 0
 rises_order low high [] r i j le lt = absurd (omega arith)
@@ -304,6 +284,9 @@ or_part false false h = refl
 
 pub joined_with_part : (xs ys : List ℕ) → IsRising xs → ((q : ℕ) → has ys q ≡ true → has xs q ≡ true) → IsUnion xs ys xs
 joined_with_part xs ys r within = record { rising = r; members = λ q. or_part (has xs q) (has ys q) (within q) }
+
+pub joined_with_whole : (xs ys : List ℕ) → IsRising ys → ((q : ℕ) → has xs q ≡ true → has ys q ≡ true) → IsUnion xs ys ys
+joined_with_whole xs ys r within = record { rising = r; members = λ q. or_part (has ys q) (has xs q) (within q) ∙ or_turned (has ys q) (has xs q) }
 
 -- the parts of a list that rises, and a list that goes on behind
 pub rises_left : (low high : ℕ) (xs ys : List ℕ) → RisesWithin low high (xs ++ ys) → RisesWithin low high xs

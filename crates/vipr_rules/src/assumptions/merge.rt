@@ -1,7 +1,6 @@
 //! Unions and removals on lists of numbers in rising order.
 
-ghost use Rattle.std.specs.Prelude.{◌≡◌, ◌++◌, ◌<◌, ◌≤◌, ℕ, true, not, nat_eq, filter, length};
-ghost use Rattle.std.specs.Prelude.{slice_index, IfOk, IfSome};
+ghost use Rattle.std.specs.Prelude.{◌≡◌, ◌++◌, ℕ, true, not, nat_eq, filter, IfOk, IfSome};
 ghost use Rattle.vipr_rules.specs.Rising.{IsRising, IsUnion, has};
 
 use std::alloc::{AllocError, Global};
@@ -48,7 +47,7 @@ pub(crate) fn join(alloc: Global, xs: &[u32], ys: &[u32]) -> Result<Vec<u32>, Al
     merge(alloc, xs, ys)
 }
 
-/// The same, for lists of which the first often has all items of the other.
+/// The same, for lists of which one often has all items of the other.
 pub(crate) fn join_alike(alloc: Global, xs: &[u32], ys: &[u32]) -> Result<Vec<u32>, AllocError>
     requires left { IsRising xs.now }
     requires right { IsRising ys.now }
@@ -56,6 +55,9 @@ pub(crate) fn join_alike(alloc: Global, xs: &[u32], ys: &[u32]) -> Result<Vec<u3
 {
     if has_all(xs, ys) {
         return xs.to_vec(alloc);
+    }
+    if has_all(ys, xs) {
+        return ys.to_vec(alloc);
     }
     join(alloc, xs, ys)
 }
@@ -82,32 +84,15 @@ pub(crate) fn concat(alloc: Global, xs: &[u32], ys: &[u32]) -> Result<Vec<u32>, 
     Ok(all)
 }
 
-// How many items at the front are the same in both.
-fn shared_front(xs: &[u32], ys: &[u32]) -> usize
-    ensures left { result ≤ length xs.now }
-    ensures right { result ≤ length ys.now }
-    ensures same { (k : ℕ) → k < result → slice_index xs.now k ≡ slice_index ys.now k }
-{
-    let most = xs.len().min(ys.len());
-    for i in 0..most {
-        if xs[i] != ys[i] {
-            return i;
-        }
-    }
-    most
-}
-
-// The same as `join`, item by item behind what both have at the front.
+// The same as `join`, item by item.
 fn merge(alloc: Global, xs: &[u32], ys: &[u32]) -> Result<Vec<u32>, AllocError>
     requires left { IsRising xs.now }
     requires right { IsRising ys.now }
     ensures { IfOk result (λ v. IsUnion xs.now ys.now v.items) }
 {
     let mut all = Vec::with_capacity(alloc, xs.len() + ys.len())?;
-    let same = shared_front(xs, ys);
-    all.extend_from_slice(&xs[..same])?;
-    let mut i = same;
-    let mut j = same;
+    let mut i = 0;
+    let mut j = 0;
     while i < xs.len() && j < ys.len() {
         let low = xs[i].min(ys[j]);
         i += (xs[i] == low) as usize;

@@ -1,12 +1,10 @@
 use Rattle.std.proofs.Common.{◌<◌, ◌≤◌, ◌++◌, ◌∙◌, ◌-◌, length, take, drop, ap, arith}
-use Rattle.vipr_rules.proofs.RisingLemmas.{merge_front, merge_step, merge_end, to_end}
+use Rattle.vipr_rules.proofs.RisingLemmas.{merge_start, merge_step, merge_end, to_end}
 use Rattle.vipr_rules.proofs.assumptions.merge.merge.Goals as goal
 use Rattle.vipr_rules.proofs.assumptions.merge.merge.Goals.{then-loop-i-test+else-j-ys, else-loop-i-test}
 
 pub loop-i-init : goal.loop-i-init
-loop-i-init c =
-    let front = c.shared_front-same.result in
-    rw (c.in_ok-extend_from_slice.ensures.items, c.in_ok-all.ensures.items) (merge_front c.args.xs.now c.args.ys.now front c.requires.left c.requires.right c.shared_front-same.ensures.left c.shared_front-same.ensures.right c.shared_front-same.ensures.same)
+loop-i-init c = rw c.in_ok-all.ensures.items (merge_start _ _ c.requires.left c.requires.right)
 
 pub loop-i-preserved : goal.loop-i-preserved
 loop-i-preserved c =
@@ -19,4 +17,4 @@ returns c =
     elim c.loop-i-test.branch [ then-loop-i-test+else-j-ys w ↦ λ h. w.if-j-ys.false | else-loop-i-test w ↦ λ h. absurd (let past = w.loop-i-test.false in omega (arith, past, h)) ] in
     merge_end _ _ c.loop-i.i c.loop-i.j _ _ c.loop-i.invariant over
     (rw (← to_end c.loop-i.i c.args.xs.now, ← to_end c.loop-i.j c.args.ys.now)
-    (c.in_ok-extend_from_slice-3.ensures.items ∙ ap (λ l. l ++ take (length c.args.ys.now - c.loop-i.j) (drop c.loop-i.j c.args.ys.now)) c.in_ok-extend_from_slice-2.ensures.items))
+    (c.in_ok-extend_from_slice-2.ensures.items ∙ ap (λ l. l ++ take (length c.args.ys.now - c.loop-i.j) (drop c.loop-i.j c.args.ys.now)) c.in_ok-extend_from_slice.ensures.items))
