@@ -8,7 +8,7 @@ ghost use Rattle.vipr_cert.specs.Items.{solution_of, derivation_of};
 ghost use Rattle.vipr_rules.specs.Profile.{profile_of};
 ghost use Rattle.vipr_rules.specs.Table.{held_count as held_in};
 ghost use Rattle.vipr_check.specs.Sound.{KeepsSoundness};
-ghost use Rattle.vipr_check.specs.Halts.{halt_answer, later_answer};
+ghost use Rattle.vipr_check.specs.Halts.{halt_answer, later_answer, IsStepHalt};
 ghost use Rattle.vipr_check.specs.Progress.{HasSolutions, HasSteps};
 ghost use Rattle.vipr_check.specs.State.{Repeats, TakesSolution, EndsSolutions, TakesStep};
 ghost use Rattle.vipr_check.specs.State.{Finishes};
@@ -21,9 +21,9 @@ use crate::progress::Progress;
 use crate::verdict::Report;
 use std::alloc::{AllocError, Global};
 use std::marker::Model;
-use vipr_cert::{Derivation, Named, Problem};
+use vipr_cert::{Derivation, Name, Named, Problem};
 use vipr_linear::Solution;
-use vipr_rules::{Profile, Rows};
+use vipr_rules::{Profile, RuleError, Rows};
 
 /// Takes a certificate item by item: the problem, each solution, the end of the solutions, each
 /// derivation, the end. It stops at the first item that is at fault.
@@ -188,12 +188,7 @@ impl<S: Rows> Checker<S> {
         let index = self.progress.next();
         match self.progress.derivation(alloc, step) {
             Ok(()) => Ok(()),
-            Err(error) => {
-                Err(stop(
-                    &mut self.halt,
-                    Halt::at_derivation(index, &step.name, error),
-                ))
-            }
+            Err(error) => Err(stop_at_step(&mut self.halt, index, &step.name, error)),
         }
     }
 
@@ -257,4 +252,13 @@ fn stop(halt: &mut Option<Halt>, why: Halt) -> Stop
     let answer = why.first_answer();
     *halt = Some(why);
     answer
+}
+
+// Stops at a derivation, and gives what is answered.
+#[inline(never)]
+fn stop_at_step(halt: &mut Option<Halt>, index: u32, name: &Name, error: RuleError) -> Stop
+    ensures { (why : Halt) × IsStepHalt index name.now error why × (halt.new ≡ Some why)
+        × (result ≡ halt_answer why) }
+{
+    stop(halt, Halt::at_derivation(index, name, error))
 }

@@ -158,6 +158,7 @@ fn after_steps<R: Source + Drop, S: Rows>(
 }
 
 // Takes the next derivation, or gives the verdict: at the end, or at the first fault.
+#[inline(always)]
 fn next_step<R: Source, S: Rows>(
     alloc: Global,
     checker: &mut Checker<S>,

@@ -63,7 +63,7 @@ fn front_digits(bytes: &[u8]) -> Option<(u32, usize)>
     ensures few { IfSome result (λ r. r.0 ≤ most_count) }
 {
     let (n, len) = front_natural(bytes);
-    if 0 < len && len < bytes.len() && is_white(bytes[len]) && n < OVER {
+    if 0 < len && len < bytes.len() && n < OVER && is_white(bytes[len]) {
         Some((n as u32, len))
     } else {
         None

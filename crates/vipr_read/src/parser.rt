@@ -12,7 +12,6 @@ ghost use Rattle.vipr_read.specs.Parsing.{Parses};
 
 use crate::kinds::{Count, ObjectiveOrCount};
 use crate::marks::{mark_pairs, unmark};
-use crate::parts::with_room;
 use std::alloc::{AllocError, Global};
 use std::marker::Model;
 use vipr_bytes::Source;
@@ -85,7 +84,7 @@ impl<R: Source> Parser<R> {
         ensures below { IfOk result (λ pairs. All (λ p. p.0 < self.old.variables) pairs.items) }
         ensures distinct { IfOk result (λ pairs. IsDistinct nat_eq (variables_of pairs.items)) }
     {
-        let mut pairs = with_room(alloc, count)?;
+        let mut pairs = Vec::new(alloc);
         let read = mark_pairs(&mut self.scanner, &mut self.marks, &mut pairs, count);
         unmark(&mut self.marks, &pairs);
         read?;

@@ -285,6 +285,9 @@ or_part false false h = refl
 pub joined_with_part : (xs ys : List ℕ) → IsRising xs → ((q : ℕ) → has ys q ≡ true → has xs q ≡ true) → IsUnion xs ys xs
 joined_with_part xs ys r within = record { rising = r; members = λ q. or_part (has xs q) (has ys q) (within q) }
 
+pub joined_with_whole : (xs ys : List ℕ) → IsRising ys → ((q : ℕ) → has xs q ≡ true → has ys q ≡ true) → IsUnion xs ys ys
+joined_with_whole xs ys r within = record { rising = r; members = λ q. or_part (has ys q) (has xs q) (within q) ∙ or_turned (has ys q) (has xs q) }
+
 -- the parts of a list that rises, and a list that goes on behind
 pub rises_left : (low high : ℕ) (xs ys : List ℕ) → RisesWithin low high (xs ++ ys) → RisesWithin low high xs
 rises_left low high [] ys r = tt

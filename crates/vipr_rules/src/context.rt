@@ -120,6 +120,7 @@ impl<'a, S: Rows> Context<'a, S> {
     }
 
     /// Constraint `index`, tested to come before the derivation and to be live there.
+    #[inline(always)]
     pub(crate) fn find(&self, index: u32) -> Result<Known<'a>, RuleError>
         ensures known { (P : ProfileMeant) (c : Certificate) (d : Derivation)
             → IsContextOf S.table P c self.now

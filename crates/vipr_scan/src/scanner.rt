@@ -51,7 +51,19 @@ impl<R: Source> Scanner<R> {
             self.window.pass(gap, len);
             return Ok(value);
         }
-        self.take_whole(kind)
+        self.take_slowly(kind)
+    }
+
+    // What stands between `take` and `take_whole` keeps the place for the result of the one off
+    // the way of the other.
+    #[inline(always)]
+    fn take_slowly<K: TokenKind>(&mut self, kind: &K) -> Result<K::Value, Stop>
+        ensures read { Scans K.view (taken (K.meaning kind.now)) self.old self.new result }
+        ensures behind { IsBehind self.old self.new }
+        ensures bounds { IfOk result (λ x. K.bounds kind.now x) }
+    {
+        let value = self.take_whole(kind)?;
+        Ok(value)
     }
 
     /// The same, where the kind doesn't read it at once.

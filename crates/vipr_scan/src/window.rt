@@ -146,7 +146,7 @@ impl<R: Source> Window<R> {
         let start = self.start + gap;
         let offset = self.offset.saturating_add(gap as u64);
         self.start = start + len;
-        self.offset = offset.saturating_add(len as u64);
+        self.offset = self.offset.saturating_add((gap + len) as u64);
         Found {
             start,
             len,

@@ -47,7 +47,7 @@ pub(crate) fn join(alloc: Global, xs: &[u32], ys: &[u32]) -> Result<Vec<u32>, Al
     merge(alloc, xs, ys)
 }
 
-/// The same, for lists of which the first often has all items of the other.
+/// The same, for lists of which one often has all items of the other.
 pub(crate) fn join_alike(alloc: Global, xs: &[u32], ys: &[u32]) -> Result<Vec<u32>, AllocError>
     requires left { IsRising xs.now }
     requires right { IsRising ys.now }
@@ -55,6 +55,9 @@ pub(crate) fn join_alike(alloc: Global, xs: &[u32], ys: &[u32]) -> Result<Vec<u3
 {
     if has_all(xs, ys) {
         return xs.to_vec(alloc);
+    }
+    if has_all(ys, xs) {
+        return ys.to_vec(alloc);
     }
     join(alloc, xs, ys)
 }

@@ -1,4 +1,4 @@
-use Rattle.std.proofs.Common.{◌≡◌, ℕ, ◌+◌, ◌-◌, ◌<◌, ◌≤◌, List, false, length, drop, take, refl, ap, ◌∙◌, arith, slice_range}
+use Rattle.std.proofs.Common.{◌≡◌, ℕ, ◌+◌, ◌-◌, ◌<◌, ◌≤◌, List, false, length, drop, take, min, ◌^◌, refl, ap, ◌∙◌, arith, slice_range}
 use Rattle.std.proofs.lemmas.List.{length-drop}
 use Rattle.vipr_scan.specs.View.{unread, source_left, seen_found}
 use Rattle.vipr_scan.specs.declared.window.Found.{Found}
@@ -31,12 +31,16 @@ returns-clause-read g c =
     let start : ℕ = c.args.self.now.start in
     let end : ℕ = c.args.self.now.end in
     let short : length (slice_range buf start end) ≤ end - start = part_short buf start end in
+    let offset = c.saturating_add-offset.result in
+    let moved = c.saturating_add-self.result in
+    let at : offset ≡ min (c.args.self.now.offset + c.args.gap) (2 ^ 64 - 1) = c.saturating_add-offset.ensures in
+    let past : moved ≡ min (offset + c.args.len) (2 ^ 64 - 1) = omega (arith, at, c.saturating_add-self.ensures) in
     let found : Found = record { start = start + c.args.gap; len = c.args.len; offset = c.saturating_add-offset.result; long = false } in
     let behind = cut buf start end c.args.gap c.args.len c.requires.gap.within c.requires.token.within in
     let source = source_left g.R.Source.input c.args.self.now in
     rw c.requires.gap.place (short_known _ _ (seen_found buf found)
     (rw (placed buf start end c.args.gap c.args.len c.requires.gap.within c.requires.token.within)
     (passed_answer source c.args.self.now.offset c.saturating_add-offset.result c.saturating_add-self.result (unread c.args.self.now) _ c.args.gap c.args.len
-    c.requires.gap.within c.requires.gap.tokens c.requires.token (omega arith) c.saturating_add-offset.ensures c.saturating_add-self.ensures behind)) refl
+    c.requires.gap.within c.requires.gap.tokens c.requires.token (omega arith) at past behind)) refl
     (passed_left source c.args.self.now.offset c.saturating_add-offset.result c.saturating_add-self.result (unread c.args.self.now) _ c.args.gap c.args.len
-    c.requires.gap.within c.requires.gap.tokens c.requires.token (omega arith) c.saturating_add-offset.ensures c.saturating_add-self.ensures behind))
+    c.requires.gap.within c.requires.gap.tokens c.requires.token (omega arith) at past behind))
