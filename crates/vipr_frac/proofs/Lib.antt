@@ -2,7 +2,7 @@ mod Steps
 mod Views
 mod Sums
 mod Small
-mod Loose
+mod Unreduced
 mod Compared
 mod Rounding
 mod Parsed

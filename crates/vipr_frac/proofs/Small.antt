@@ -1,5 +1,5 @@
 -- Sums and products of small fractions stay in bound.
-use Rattle.std.proofs.Common.{◌≡◌, ℕ, ◌+◌, ◌*◌, ◌/◌, ◌<◌, ◌≤◌, ◌^◌, ap, ◌∙◌, arith, to_z, of_z, FitsSigned, lit≤}
+use Rattle.std.proofs.Common.{◌≡◌, ℕ, ◌+◌, ◌-◌, ◌*◌, ◌/◌, ◌<◌, ◌≤◌, ◌^◌, ap, ◌∙◌, arith, to_z, of_z, FitsSigned, lit≤}
 use Rattle.std.specs.Prelude.{ℤ, pos, ◌+ℤ◌, ◌*ℤ◌, unsigned_abs, int_div}
 use Rattle.std.specs.Int.{w128}
 use Rattle.std.proofs.Math.Nat.{le_trans, div-le_self, mul-le-mul}
@@ -13,53 +13,63 @@ use Rattle.vipr_frac.proofs.Views.{as-is}
 pub abs_sum : (u v : ℤ) (m : ℕ) → unsigned_abs u ≤ m → unsigned_abs v ≤ m → unsigned_abs (u +ℤ v) ≤ m + m
 abs_sum u v m h k = omega (arith, ints)
 
-pub product_bound : (a b : ℕ) → a ≤ 2 ^ 62 → b ≤ 2 ^ 62 → a * b ≤ 2 ^ 124
-product_bound a b h k = mul-le-mul h k
+-- the largest product of a numerator and a denominator of such size
+abbrev pub edge : ℕ
+edge = 2 ^ 126 - 2 ^ 63
 
-pub in_bound : (n : ℕ) → n ≤ 2 ^ 125 → n ≤ most
+pub product_bound : (a b : ℕ) → a ≤ 2 ^ 63 → b < 2 ^ 63 → a * b ≤ edge
+product_bound a b h k = let below : b ≤ 2 ^ 63 - 1 = omega arith in le_trans (mul-le-mul h below) (lit≤ tt)
+
+numer_bound : (a b : ℕ) → a ≤ 2 ^ 63 → b ≤ 2 ^ 63 → a * b ≤ 2 ^ 126
+numer_bound a b h k = le_trans (mul-le-mul h k) (lit≤ tt)
+
+pub in_bound : (n : ℕ) → n ≤ edge → n ≤ most
 in_bound n h = le_trans h (lit≤ tt)
 
-word_bound : (n : ℕ) → n ≤ 2 ^ 125 → n < 2 ^ 127
-word_bound n h = omega arith
+both_bound : (n : ℕ) → n ≤ edge + edge → n ≤ most
+both_bound n h = le_trans h (lit≤ tt)
 
-pub wider : (n : ℕ) → n ≤ 2 ^ 124 → n ≤ 2 ^ 125
-wider n h = omega arith
+numer_in_bound : (n : ℕ) → n ≤ 2 ^ 126 → n ≤ most
+numer_in_bound n h = le_trans h (lit≤ tt)
 
-pub quotient_bound : (n g : ℕ) → n ≤ 2 ^ 62 → n / g ≤ 2 ^ 62
+pub quotient_bound : (n g : ℕ) → n ≤ 2 ^ 63 → n / g ≤ 2 ^ 63
 quotient_bound n g h = le_trans (div-le_self n g) h
 
+pub quotient_below : (n g : ℕ) → n < 2 ^ 63 → n / g < 2 ^ 63
+quotient_below n g h = let k = div-le_self n g in omega arith
+
+at_most : (n : ℕ) → n < 2 ^ 63 → n ≤ 2 ^ 63
+at_most n h = omega arith
+
 module _ (x y : ℚ) (a : IsSmall x) (b : IsSmall y) where
-  left_small : unsigned_abs (left_part x y) ≤ 2 ^ 124
-  left_small = rw (unsigned_abs-mul x.numer (pos (y.denom / gcd x.denom y.denom))) (product_bound _ _ a.numer (quotient_bound y.denom _ b.denom))
+  left_small : unsigned_abs (left_part x y) ≤ edge
+  left_small = rw (unsigned_abs-mul x.numer (pos (y.denom / gcd x.denom y.denom))) (product_bound _ _ a.numer (quotient_below y.denom _ b.denom))
 
-  right_small : unsigned_abs (right_part x y) ≤ 2 ^ 124
-  right_small = rw (unsigned_abs-mul y.numer (pos (x.denom / gcd x.denom y.denom))) (product_bound _ _ b.numer (quotient_bound x.denom _ a.denom))
+  right_small : unsigned_abs (right_part x y) ≤ edge
+  right_small = rw (unsigned_abs-mul y.numer (pos (x.denom / gcd x.denom y.denom))) (product_bound _ _ b.numer (quotient_below x.denom _ a.denom))
 
-  both_small : unsigned_abs (both_parts x y) ≤ 2 ^ 125
-  both_small = abs_sum (left_part x y) (right_part x y) (2 ^ 124) left_small right_small
+  pub both_small : unsigned_abs (both_parts x y) ≤ most
+  both_small = both_bound _ (abs_sum (left_part x y) (right_part x y) edge left_small right_small)
 
-  pub sum_denom_small : sum_denom x y ≤ 2 ^ 124
-  sum_denom_small = product_bound _ _ (quotient_bound x.denom _ a.denom) (quotient_bound y.denom _ b.denom)
+  pub sum_denom_small : sum_denom x y ≤ most
+  sum_denom_small = in_bound _ (product_bound _ _ (quotient_bound x.denom _ (at_most _ a.denom)) (quotient_below y.denom _ b.denom))
 
   pub small_sum_fits : FitsSum x y
-  small_sum_fits = record { left = in_bound _ (wider _ left_small); right = in_bound _ (wider _ right_small); both = in_bound _ both_small; below = in_bound _ (wider _ sum_denom_small) }
+  small_sum_fits = record { left = in_bound _ left_small; right = in_bound _ right_small; both = both_small; below = sum_denom_small }
 
-  pub product_numer_small : unsigned_abs (product_numer x y) ≤ 2 ^ 124
+  pub product_numer_small : unsigned_abs (product_numer x y) ≤ most
   product_numer_small =
       rw (unsigned_abs-mul (int_div x.numer (pos (gcd (unsigned_abs x.numer) y.denom))) (int_div y.numer (pos (gcd (unsigned_abs y.numer) x.denom))), abs_div x.numer (gcd (unsigned_abs x.numer) y.denom), abs_div y.numer (gcd (unsigned_abs y.numer) x.denom))
-      (product_bound _ _ (quotient_bound (unsigned_abs x.numer) _ a.numer) (quotient_bound (unsigned_abs y.numer) _ b.numer))
+      (numer_in_bound _ (numer_bound _ _ (quotient_bound (unsigned_abs x.numer) _ a.numer) (quotient_bound (unsigned_abs y.numer) _ b.numer)))
 
-  pub product_denom_small : product_denom x y ≤ 2 ^ 124
-  product_denom_small = product_bound _ _ (quotient_bound x.denom _ a.denom) (quotient_bound y.denom _ b.denom)
+  pub product_denom_small : product_denom x y ≤ most
+  product_denom_small = in_bound _ (product_bound _ _ (quotient_bound x.denom _ (at_most _ a.denom)) (quotient_below y.denom _ b.denom))
 
   pub small_product_fits : FitsProduct x y
-  small_product_fits = record { numer = in_bound _ (wider _ product_numer_small); below = in_bound _ (wider _ product_denom_small) }
+  small_product_fits = record { numer = product_numer_small; below = product_denom_small }
 
-pub word_fits : (z : ℤ) → unsigned_abs z ≤ 2 ^ 125 → FitsSigned w128 z
-word_fits z h = fits_signed_from_abs w128 z (word_bound _ h)
-
-pub word_back : (z : ℤ) → unsigned_abs z ≤ 2 ^ 125 → to_z w128 (of_z w128 z) ≡ z
-word_back z h = as-is z (in_bound _ h)
+pub word_fits : (z : ℤ) → unsigned_abs z ≤ most → FitsSigned w128 z
+word_fits z h = fits_signed_from_abs w128 z (omega arith)
 
 -- ---- the steps of a sum
 module _ (x y : ℚ) (a : IsSmall x) (b : IsSmall y) (p r : ℤ) (q s g : ℕ) (p_is : to_z w128 (of_z w128 p) ≡ x.numer) (r_is : to_z w128 (of_z w128 r) ≡ y.numer) (q_is : q ≡ x.denom) (s_is : s ≡ y.denom) (g_value : g ≡ gcd q s) where
@@ -71,32 +81,32 @@ module _ (x y : ℚ) (a : IsSmall x) (b : IsSmall y) (p r : ℤ) (q s g : ℕ) (
     t_is = t_value ∙ rw (s_is, g_is)
 
     t_back : to_z w128 t ≡ pos t
-    t_back = as-is (pos t) (in_bound t (let h : t ≤ 2 ^ 62 = rw t_is (quotient_bound y.denom _ b.denom) in omega arith))
+    t_back = as-is (pos t) (in_bound t (let h : t < 2 ^ 63 = rw t_is (quotient_below y.denom _ b.denom) in omega arith))
 
     left_now : to_z w128 (of_z w128 p) *ℤ to_z w128 t ≡ left_part x y
     left_now = rw (p_is, t_back, t_is)
 
     pub left_fits : FitsSigned w128 (to_z w128 (of_z w128 p) *ℤ to_z w128 t)
-    left_fits = rw left_now (word_fits _ (wider _ (left_small x y a b)))
+    left_fits = rw left_now (word_fits _ (in_bound _ (left_small x y a b)))
 
     left_back : to_z w128 (of_z w128 (to_z w128 (of_z w128 p) *ℤ to_z w128 t)) ≡ left_part x y
-    left_back = ap (λ z. to_z w128 (of_z w128 z)) left_now ∙ word_back _ (wider _ (left_small x y a b))
+    left_back = ap (λ z. to_z w128 (of_z w128 z)) left_now ∙ as-is _ (in_bound _ (left_small x y a b))
 
     module _ (u : ℕ) (u_value : u ≡ q / g) where
       u_is : u ≡ x.denom / gcd x.denom y.denom
       u_is = u_value ∙ rw (q_is, g_is)
 
       u_back : to_z w128 u ≡ pos u
-      u_back = as-is (pos u) (in_bound u (let h : u ≤ 2 ^ 62 = rw u_is (quotient_bound x.denom _ a.denom) in omega arith))
+      u_back = as-is (pos u) (in_bound u (let h : u < 2 ^ 63 = rw u_is (quotient_below x.denom _ a.denom) in omega arith))
 
       right_now : to_z w128 (of_z w128 r) *ℤ to_z w128 u ≡ right_part x y
       right_now = rw (r_is, u_back, u_is)
 
       pub right_fits : FitsSigned w128 (to_z w128 (of_z w128 r) *ℤ to_z w128 u)
-      right_fits = rw right_now (word_fits _ (wider _ (right_small x y a b)))
+      right_fits = rw right_now (word_fits _ (in_bound _ (right_small x y a b)))
 
       right_back : to_z w128 (of_z w128 (to_z w128 (of_z w128 r) *ℤ to_z w128 u)) ≡ right_part x y
-      right_back = ap (λ z. to_z w128 (of_z w128 z)) right_now ∙ word_back _ (wider _ (right_small x y a b))
+      right_back = ap (λ z. to_z w128 (of_z w128 z)) right_now ∙ as-is _ (in_bound _ (right_small x y a b))
 
       both_now : to_z w128 (of_z w128 (to_z w128 (of_z w128 p) *ℤ to_z w128 t)) +ℤ to_z w128 (of_z w128 (to_z w128 (of_z w128 r) *ℤ to_z w128 u)) ≡ both_parts x y
       both_now = rw (left_back, right_back)
@@ -105,4 +115,4 @@ module _ (x y : ℚ) (a : IsSmall x) (b : IsSmall y) (p r : ℤ) (q s g : ℕ) (
       both_fits = rw both_now (word_fits _ (both_small x y a b))
 
       pub both_back : to_z w128 (of_z w128 (to_z w128 (of_z w128 (to_z w128 (of_z w128 p) *ℤ to_z w128 t)) +ℤ to_z w128 (of_z w128 (to_z w128 (of_z w128 r) *ℤ to_z w128 u)))) ≡ both_parts x y
-      both_back = ap (λ z. to_z w128 (of_z w128 z)) both_now ∙ word_back _ (both_small x y a b)
+      both_back = ap (λ z. to_z w128 (of_z w128 z)) both_now ∙ as-is _ (both_small x y a b)

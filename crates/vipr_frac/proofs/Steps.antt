@@ -1,8 +1,8 @@
 -- Euclid's steps.
-use Rattle.std.proofs.Common.{◌≡◌, ℕ, ◌%◌, ◌<◌, ◌≤◌, sym, subst}
+use Rattle.std.proofs.Common.{◌≡◌, ℕ, ◌%◌, ◌<◌, ◌≤◌, sym, subst, ◌∙◌}
 use Rattle.std.specs.Int.{IsGcd, ◌∣◌}
 use Rattle.std.proofs.Math.Nat.{one-dvd, dvd_refl, pos_of_dvd_of_pos}
-use Rattle.std.proofs.lemmas.Nat.Gcd.{IsGcd-from_zero, IsGcd-from_mod, same_from_IsGcd, le_of_dvd}
+use Rattle.std.proofs.lemmas.Nat.Gcd.{IsGcd-from_zero, IsGcd-from_mod, IsGcd-swap, same_from_IsGcd, le_of_dvd}
 use Rattle.vipr_spec.specs.Gcd.{gcd}
 use Rattle.vipr_spec.specs.GcdLaws.{gcd_is}
 
@@ -26,3 +26,10 @@ gcd-some a b g some e = pos_of_dvd_of_pos (subst (λ n. n ∣ b) (sym e) (gcd_is
 
 pub gcd-at_most : (a b g : ℕ) → 0 < b → g ≡ gcd a b → g ≤ b
 gcd-at_most a b g some e = le_of_dvd some (subst (λ n. n ∣ b) (sym e) (gcd_is a b).1)
+
+pub gcd-swap : (a b : ℕ) → gcd a b ≡ gcd b a
+gcd-swap a b = gcd-same a b _ (IsGcd-swap b a _ (gcd_is b a))
+
+-- a remainder in place of the number that it is taken of
+pub gcd-rest : (a b : ℕ) → gcd (a % b) b ≡ gcd a b
+gcd-rest a b = gcd-swap (a % b) b ∙ sym (gcd-step a b)

@@ -1,5 +1,6 @@
 -- The numbers that a sum and a product go through, and what the fields of a `Frac` keep.
-use Rattle.std.specs.Prelude.{ℕ, ◌*◌, ◌/◌, ◌<◌, ◌≤◌, ◌^◌, ℤ, pos, ◌+ℤ◌, ◌*ℤ◌, unsigned_abs, int_div}
+use Rattle.std.specs.Prelude.{ℕ, ◌*◌, ◌/◌, ◌<◌, ◌≤◌, ◌^◌, ◌⊎◌, ℤ, pos, ◌+ℤ◌, ◌*ℤ◌, unsigned_abs, int_div, FitsSigned}
+use Rattle.std.specs.Int.{w64}
 use Rattle.vipr_spec.specs.Fraction.{ℚ, most}
 use Rattle.vipr_spec.specs.Gcd.{gcd}
 use Rattle.vipr_spec.specs.Lowest.{IsLowest}
@@ -10,11 +11,17 @@ pub record IsReduced (p : ℤ) (q : ℕ) : Type 0 where
   pub numer_bounded : unsigned_abs p ≤ most
   pub denom_bounded : q ≤ most
 
--- p / q is bounded, and may have a common divisor
-pub record IsLoose (p : ℤ) (q : ℕ) : Type 0 where
+-- both are words of 64 bits with a sign
+pub record AreWords (p : ℤ) (q : ℕ) : Type 0 where
+  pub numer : FitsSigned w64 p
+  pub denom : q < 2 ^ 63
+
+-- p / q is bounded, and in lowest terms unless both are words of 64 bits
+pub record IsPartial (p : ℤ) (q : ℕ) : Type 0 where
   pub some : 0 < q
   pub numer_bounded : unsigned_abs p ≤ most
   pub denom_bounded : q ≤ most
+  pub words_or_lowest : AreWords p q ⊎ IsLowest p q
 
 -- the two parts of a sum over the least common denominator
 abbrev pub left_part : ℚ → ℚ → ℤ
@@ -61,5 +68,5 @@ pub record FitsSum (x y : ℚ) : Type 0 where
 
 -- products of two such parts, and sums of two such products, are in bound
 pub record IsSmall (x : ℚ) : Type 0 where
-  pub numer : unsigned_abs x.numer ≤ 2 ^ 62
-  pub denom : x.denom ≤ 2 ^ 62
+  pub numer : unsigned_abs x.numer ≤ 2 ^ 63
+  pub denom : x.denom < 2 ^ 63

@@ -1,6 +1,6 @@
 //! The fractions and their arithmetic.
-ghost use Rattle.std.specs.Prelude.{◌≡◌, ℕ, ℤ, pos, ◌+◌, ◌*◌, ◌<◌, ◌≤◌, ◌+ℤ◌, ◌*ℤ◌, ◌<ℤ◌, ◌≤ℤ◌};
-ghost use Rattle.std.specs.Prelude.{unsigned_abs, int_div, ◌↔◌, ◌⊎◌, IsOk, IfOk, IsTrue};
+ghost use Rattle.std.specs.Prelude.{◌≡◌, ℕ, ℤ, pos, ◌+◌, ◌*◌, ◌^◌, ◌<◌, ◌≤◌, ◌+ℤ◌, ◌*ℤ◌, ◌<ℤ◌, ◌≤ℤ◌};
+ghost use Rattle.std.specs.Prelude.{unsigned_abs, int_div, ◌↔◌, ◌⊎◌, IsOk, IfOk, IsTrue, IsSome, IfSome};
 ghost use Rattle.std.specs.Ordering.{nat_cmp, int_cmp};
 ghost use Rattle.vipr_spec.specs.Fraction.{most, over, whole, zero_ℚ, neg_ℚ, ◌+ℚ◌, ◌*ℚ◌, IsBounded};
 ghost use Rattle.vipr_spec.specs.Fraction.{IsWhole, SumFits, ProductFits};
@@ -8,13 +8,11 @@ ghost use Rattle.vipr_spec.specs.FractionOrder.{IsFloor, IsCeil, eq_ℚ};
 ghost use Rattle.vipr_spec.specs.Gcd.{gcd};
 ghost use Rattle.vipr_frac.specs.Parts.{IsReduced, FitsParts, FitsSum, both_parts, IsSmall};
 
-use crate::gcd::{gcd_of, quotient};
+use crate::gcd::{gcd_of, quotient, word_gcd};
+use crate::pairs::words;
 use std::cmp::Ordering;
 use std::hash::{Hash, Hasher};
 use std::marker::Model;
-
-// Where no numerator and no denominator is larger, products of two and sums of such stay in bound.
-pub(crate) const SMALL: u128 = 1 << 62;
 
 /// Why a numerator and a denominator make no bounded fraction.
 #[derive(Clone, Copy, Debug, PartialEq, Eq)]
@@ -209,7 +207,7 @@ fn divided(p: i128, g: u128) -> i128
     if p < 0 { -size } else { size }
 }
 
-fn of_parts(p: i128, q: u128) -> Frac
+pub(crate) fn of_parts(p: i128, q: u128) -> Frac
     requires { IsReduced p q }
     ensures { result ≡ over p q }
 {
@@ -224,6 +222,18 @@ pub(crate) fn reduced(p: i128, q: u128) -> Frac
 {
     let g = gcd_of(p.unsigned_abs(), q);
     of_parts(divided(p, g), quotient(q, g))
+}
+
+pub(crate) fn reduced_words(p: i64, q: u64) -> Frac
+    requires some { 0 < q }
+    requires denom { q < 2 ^ 63 }
+    ensures { result ≡ over p q }
+{
+    if q == 1 {
+        return of_whole(i128::from(p));
+    }
+    let g = word_gcd(p.unsigned_abs(), q);
+    of_parts(i128::from(p / g as i64), u128::from(q / g))
 }
 
 #[inline(always)]
@@ -299,10 +309,10 @@ fn product_by_parts(a: Frac, b: Frac) -> Result<Frac, Overflow>
 }
 
 #[inline(always)]
-pub(crate) fn is_small(a: Frac) -> bool
+fn is_small(a: Frac) -> bool
     ensures { IsTrue result → IsSmall a }
 {
-    a.p.unsigned_abs() <= SMALL && a.q <= SMALL
+    a.words().is_some()
 }
 
 // The sum of small fractions.
@@ -414,6 +424,16 @@ impl Frac {
         ensures bounded { unsigned_abs result ≤ most }
     {
         -self.neg().floor()
+    }
+
+    // The parts as words of 64 bits with a sign, if they are that small.
+    #[inline(always)]
+    pub(crate) fn words(self) -> Option<(i64, u64)>
+        ensures numer { IfSome result (λ r. r.0 ≡ self.numer) }
+        ensures denom { IfSome result (λ r. r.1 ≡ self.denom) }
+        ensures small { IsSome result → IsSmall self }
+    {
+        words(self.p, self.q)
     }
 
     /// The exact sum, in lowest terms. It is refused where one of the two parts over the least

@@ -4,8 +4,12 @@ ghost use Rattle.vipr_spec.specs.Gcd.{gcd};
 
 const WORD: u128 = u64::MAX as u128;
 
-fn word_gcd(a: u64, b: u64) -> u64
-    ensures { result ≡ gcd a b }
+/// The greatest common divisor of two words.
+pub(crate) fn word_gcd(a: u64, b: u64) -> u64
+    requires { 0 < b }
+    ensures value { result ≡ gcd a b }
+    ensures some { 0 < result }
+    ensures at_most { result ≤ b }
 {
     let mut x = a;
     let mut y = b;
@@ -48,7 +52,7 @@ pub(crate) fn gcd_of(a: u128, b: u128) -> u128
         return x;
     }
     let rest = remainder(x, y);
-    word_gcd(y as u64, rest as u64) as u128
+    word_gcd(rest as u64, y as u64) as u128
 }
 
 // The whole quotient.

@@ -4,6 +4,7 @@
 mod frac;
 mod gcd;
 mod number;
+mod pairs;
 mod partial;
 #[cfg(test)]
 mod tests;

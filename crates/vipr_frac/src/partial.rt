@@ -1,15 +1,15 @@
 //! Partial sums of products, which are reduced at the end alone.
-ghost use Rattle.std.specs.Prelude.{◌≡◌, ◌↔◌, ◌<◌, ◌≤◌, ◌^◌, IsOk, IfOk, OnOk, OnErr, unsigned_abs};
+ghost use Rattle.std.specs.Prelude.{◌≡◌, ◌↔◌, ◌<◌, ◌^◌, IsOk, IfOk, IfSome, IsSome, OnOk, OnErr};
 ghost use Rattle.vipr_spec.specs.Fraction.{over, zero_ℚ, ◌+ℚ◌, ◌*ℚ◌, SumFits, ProductFits};
-ghost use Rattle.vipr_frac.specs.Parts.{IsLoose};
+ghost use Rattle.vipr_frac.specs.Parts.{IsPartial};
 
-use crate::frac::{Frac, Overflow, SMALL, is_small, reduced};
-use crate::gcd::{gcd_of, quotient};
+use crate::frac::{Frac, Overflow, of_parts, reduced_words};
+use crate::pairs::{pair_product, pair_sum, words};
 use std::alloc::AllocError;
 use std::marker::Model;
 
 /// A partial sum of products: a bounded fraction whose numerator and denominator may have a common
-/// divisor. While the numbers are small, a sum needs no division.
+/// divisor while both are words of 64 bits. So long a sum needs few divisions.
 #[derive(Debug, Drop)]
 pub struct Partial {
     p: i128,
@@ -23,11 +23,11 @@ impl Model for Partial {
 
     ghost coded = { coded_ℚ };
 
-    ghost use Rattle.vipr_frac.specs.Parts.{IsLoose};
+    ghost use Rattle.vipr_frac.specs.Parts.{IsPartial};
 
     ghost view = { λ f. over f.p f.q };
 
-    ghost invariant = { λ f. IsLoose f.p f.q };
+    ghost invariant = { λ f. IsPartial f.p f.q };
 }
 
 impl Clone for Partial {
@@ -45,25 +45,21 @@ impl Clone for Partial {
     }
 }
 
-// The sum of two small fractions, which needn't be in lowest terms.
+// The sum of a fraction and a product, where all numbers on the way are words of 64 bits.
 #[inline(always)]
-fn pair_sum(p: i128, q: u128, r: i128, s: u128) -> (i128, u128)
-    requires left { unsigned_abs p ≤ 2 ^ 62 }
-    requires left_some { 0 < q }
-    requires left_below { q ≤ 2 ^ 62 }
-    requires right { unsigned_abs r ≤ 2 ^ 62 }
-    requires right_some { 0 < s }
-    requires right_below { s ≤ 2 ^ 62 }
-    ensures sum { over result.0 result.1 ≡ over p q +ℚ over r s }
-    ensures loose { IsLoose result.0 result.1 }
+fn word_sum(p: i128, q: u128, multiplier: Frac, coefficient: Frac) -> Option<(i64, u64)>
+    requires { 0 < q }
+    ensures fits { IsSome result → ProductFits multiplier coefficient
+        × SumFits (over p q) (multiplier *ℚ coefficient) }
+    ensures sum { IfSome result (λ t. over t.0 t.1 ≡ over p q +ℚ multiplier *ℚ coefficient) }
+    ensures some { IfSome result (λ t. 0 < t.1) }
+    ensures below { IfSome result (λ t. t.1 < 2 ^ 63) }
 {
-    if q == s {
-        return (p + r, q);
-    }
-    let g = gcd_of(q, s);
-    let left = quotient(s, g);
-    let right = quotient(q, g);
-    (p * left as i128 + r * right as i128, q * left)
+    let (u, v) = multiplier.words()?;
+    let (r, s) = coefficient.words()?;
+    let (r, s) = pair_product(u, v, r, s)?;
+    let (p, q) = words(p, q)?;
+    pair_sum(p, q, r, s)
 }
 
 impl Partial {
@@ -88,7 +84,10 @@ impl Partial {
     pub fn value(&self) -> Frac
         ensures { result ≡ self.now }
     {
-        reduced(self.p, self.q)
+        match words(self.p, self.q) {
+            Some((p, q)) => reduced_words(p, q),
+            None => of_parts(self.p, self.q),
+        }
     }
 
     /// Adds the product of a multiplier and a coefficient. It is refused where the product or the
@@ -100,18 +99,12 @@ impl Partial {
         ensures sum { OnOk result (self.new ≡ self.old +ℚ multiplier *ℚ coefficient) }
         ensures kept { OnErr result (self.new ≡ self.old) }
     {
-        if is_small(multiplier)
-            && is_small(coefficient)
-            && self.p.unsigned_abs() <= SMALL
-            && self.q <= SMALL
-        {
-            let p = multiplier.numer() * coefficient.numer();
-            let q = multiplier.denom() as u128 * coefficient.denom() as u128;
-            if p.unsigned_abs() <= SMALL && q <= SMALL {
-                let (p, q) = pair_sum(self.p, self.q, p, q);
-                *self = Partial { p, q };
-                return Ok(());
-            }
+        if let Some((p, q)) = word_sum(self.p, self.q, multiplier, coefficient) {
+            *self = Partial {
+                p: i128::from(p),
+                q: u128::from(q),
+            };
+            return Ok(());
         }
         let sum = exact_sum(self.value(), multiplier, coefficient)?;
         *self = Partial::of(sum);

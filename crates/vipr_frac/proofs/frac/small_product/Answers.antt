@@ -5,8 +5,8 @@ use Rattle.std.proofs.lemmas.Int.{to_z-of_z}
 use Rattle.vipr_spec.specs.Gcd.{gcd}
 use Rattle.vipr_frac.specs.Parts.{product_numer, product_denom}
 use Rattle.vipr_frac.proofs.Sums.{product-is, IsReduced-product, ProductFits-parts}
-use Rattle.vipr_frac.proofs.Small.{word_fits, word_back, small_product_fits, product_numer_small, product_denom_small, wider}
-use Rattle.vipr_frac.proofs.Views.{facts, Facts}
+use Rattle.vipr_frac.proofs.Small.{word_fits, small_product_fits, product_numer_small, product_denom_small}
+use Rattle.vipr_frac.proofs.Views.{facts, Facts, as-is}
 use Rattle.vipr_frac.proofs.frac.small_product.Goals as goal
 use Rattle.vipr_frac.proofs.frac.small_product.Goals.{After-divided-2, After-quotient-2}
 
@@ -33,14 +33,14 @@ module _ (c : After-divided-2) where
 pub overflow_mul-p : goal.overflow_mul-p
 overflow_mul-p c =
     let k = (goal.at.overflow_mul-p c).After-divided-2 in
-    rw (p_value k) (word_fits _ (wider _ (product_numer_small c.args.a c.args.b c.requires.left c.requires.right)))
+    rw (p_value k) (word_fits _ (product_numer_small c.args.a c.args.b c.requires.left c.requires.right))
 
 module _ (c : After-quotient-2) where
   abbrev d : After-divided-2
   d = (goal.at.of_parts-requires c).After-divided-2
 
   p_is : to_z w128 (of_z w128 (to_z w128 (of_z w128 c.divided.result) *ℤ to_z w128 (of_z w128 c.divided-2.result))) ≡ product_numer c.args.a c.args.b
-  p_is = ap (λ z. to_z w128 (of_z w128 z)) (p_value d) ∙ word_back _ (wider _ (product_numer_small c.args.a c.args.b c.requires.left c.requires.right))
+  p_is = ap (λ z. to_z w128 (of_z w128 z)) (p_value d) ∙ as-is _ (product_numer_small c.args.a c.args.b c.requires.left c.requires.right)
 
   q_is : c.quotient.result * c.quotient-2.result ≡ product_denom c.args.a c.args.b
   q_is = rw (c.quotient.ensures, c.quotient-2.ensures) (q_value d)

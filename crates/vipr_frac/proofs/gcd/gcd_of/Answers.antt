@@ -1,6 +1,6 @@
 use Rattle.std.proofs.Common.{◌≡◌, sym, ap, ◌∙◌, inl, inr}
 use Rattle.vipr_spec.specs.Gcd.{gcd}
-use Rattle.vipr_frac.proofs.Steps.{gcd-step, gcd-end, gcd-one, one-gcd, gcd-some, gcd-at_most}
+use Rattle.vipr_frac.proofs.Steps.{gcd-step, gcd-rest, gcd-end, gcd-one, one-gcd, gcd-some, gcd-at_most}
 use Rattle.vipr_frac.proofs.gcd.gcd_of.Goals as goal
 use Rattle.vipr_frac.proofs.gcd.gcd_of.Goals.{Then-y-eq0, After-word_gcd}
 
@@ -27,7 +27,7 @@ returns-then-y-eq0-clause-at_most c = gcd-at_most _ _ _ c.requires (at_zero c)
 
 in_words : (c : After-word_gcd) → c.word_gcd.result ≡ gcd c.args.a c.args.b
 in_words c =
-    c.word_gcd.ensures ∙ ap (gcd c.loop-y.y) c.remainder-rest.ensures ∙ sym (gcd-step c.loop-y.x c.loop-y.y) ∙ c.loop-y.invariant
+    c.word_gcd.ensures.value ∙ ap (λ n. gcd n c.loop-y.y) c.remainder-rest.ensures ∙ gcd-rest c.loop-y.x c.loop-y.y ∙ c.loop-y.invariant
 
 pub returns-clause-value : goal.returns-clause-value
 returns-clause-value c = in_words c

@@ -1,0 +1,80 @@
+-- Sums of fractions whose parts are words of 64 bits, and needn't be in lowest terms.
+use Rattle.std.proofs.Common.{◌≡◌, ℕ, ◌*◌, ◌/◌, ◌%◌, ◌<◌, ◌≤◌, ◌^◌, refl, sym, ap, ap₂, ◌∙◌, arith, FitsSigned, lit≤, pos_of_ne-zero, zero-mul}
+use Rattle.std.specs.Prelude.{ℤ, pos, ◌+ℤ◌, ◌*ℤ◌, unsigned_abs, Option, Some, None, IsSome, IfSome, MatchOption}
+use Rattle.std.specs.Int.{w64}
+use Rattle.std.proofs.Math.Nat.{le_trans, div-mul_cancel, mul_comm}
+use Rattle.std.proofs.lemmas.Int.{ints}
+use Rattle.std.proofs.lemmas.Nat.Gcd.{dvd_of_mod-eq-zero}
+use Rattle.vipr_spec.specs.Gcd.{gcd}
+use Rattle.vipr_spec.specs.GcdLaws.{gcd_is}
+use Rattle.vipr_spec.specs.Lowest.{abs_div}
+use Rattle.vipr_spec.specs.Fraction.{ℚ, over, ◌+ℚ◌, ◌*ℚ◌, IsBounded}
+use Rattle.vipr_spec.proofs.Laws.{over_common}
+use Rattle.vipr_frac.specs.Parts.{IsSmall, AreWords}
+use Rattle.vipr_frac.proofs.Small.{quotient_bound, quotient_below}
+use Rattle.vipr_frac.proofs.Views.{over-parts}
+
+-- ---- words
+pub word_abs : (z : ℤ) → FitsSigned w64 z → unsigned_abs z ≤ 2 ^ 63
+word_abs z h = let k = h.sfits in omega (arith, ints)
+
+pub some_words : (x : ℚ) (p : ℤ) (q : ℕ) (o : Option (ℤ × ℕ)) → p ≡ x.numer → q ≡ x.denom
+    → MatchOption o (¬ AreWords p q) (λ r. AreWords p q × (r.0 ≡ p) × (r.1 ≡ q))
+    → IfSome o (λ r. r.0 ≡ x.numer) × IfSome o (λ r. r.1 ≡ x.denom) × (IsSome o → IsSmall x)
+some_words x p q (Some r) e f h =
+    (h.1 ∙ e, h.2 ∙ f, λ _. record { numer = rw (← e) (word_abs p h.0.numer); denom = rw (← f) h.0.denom })
+some_words x p q None e f h = (tt, tt, λ (s : IsSome {T = ℤ × ℕ} None). cc)
+
+-- ---- a sum over a common denominator
+some_factor : (n u g : ℕ) → 0 < n → n ≡ u * g → 0 < u
+some_factor n u g some e = pos_of_ne-zero (λ z. let none : n ≡ 0 * g = e ∙ ap (λ k. k * g) z in absurd (omega (arith, zero-mul g)))
+
+module _ (q s g u v : ℕ) (q_some : 0 < q) (s_some : 0 < s) (g_some : 0 < g) (q_is : q ≡ v * g) (s_is : s ≡ u * g) where
+  pub factor_some : 0 < u
+  factor_some = some_factor s u g s_some s_is
+
+  pub common_sum : (p r : ℤ) → over (p *ℤ pos u +ℤ r *ℤ pos v) (q * u) ≡ over p q +ℚ over r s
+  common_sum p r =
+      let law = over_common p r u v g factor_some (some_factor q v g q_some q_is) g_some in
+      ap (λ n. over (p *ℤ pos u +ℤ r *ℤ pos v) (n * u)) q_is ∙ sym law ∙ ap₂ (λ m n. over p m +ℚ over r n) (sym q_is) (sym s_is)
+
+-- the second denominator is a multiple of the first
+pub raised_sum : (q s u : ℕ) → 0 < q → 0 < s → s ≡ u * q → (p r : ℤ) → over (p *ℤ pos u +ℤ r *ℤ pos 1) s ≡ over p q +ℚ over r s
+raised_sum q s u q_some s_some s_is p r =
+    let once : q ≡ 1 * q = omega arith in
+    let law = common_sum q s q u 1 q_some s_some q_some once s_is p r in
+    ap (over (p *ℤ pos u +ℤ r *ℤ pos 1)) (s_is ∙ mul_comm u q) ∙ law
+
+-- the greatest common divisor is taken out
+pub first_factor : (q s g : ℕ) → g ≡ gcd q s → q ≡ q / g * g
+first_factor q s g e = rw e (sym (div-mul_cancel (gcd q s) (gcd_is q s).0))
+
+pub second_factor : (q s g : ℕ) → g ≡ gcd q s → s ≡ s / g * g
+second_factor q s g e = rw e (sym (div-mul_cancel (gcd q s) (gcd_is q s).1))
+
+-- one divides the other
+pub whole_factor : (q s : ℕ) → s % q ≡ 0 → s ≡ s / q * q
+whole_factor q s e = sym (div-mul_cancel q (dvd_of_mod-eq-zero q e))
+
+-- ---- small parts
+pub small_over : (p : ℤ) (q : ℕ) → 0 < q → unsigned_abs p ≤ 2 ^ 63 → q < 2 ^ 63 → IsSmall (over p q)
+small_over p q some h k =
+    let parts = over-parts p q some in
+    record {
+      numer = rw (parts.0, abs_div p (gcd (unsigned_abs p) q)) (quotient_bound (unsigned_abs p) _ h);
+      denom = rw parts.1 (quotient_below q _ k);
+    }
+
+pub small_bounded : (x : ℚ) → IsSmall x → IsBounded x
+small_bounded x h = (le_trans h.numer (lit≤ tt), let k = h.denom in omega arith)
+
+pub product_over : (x y : ℚ) → x *ℚ y ≡ over (x.numer *ℤ y.numer) (x.denom * y.denom)
+unfolding ◌*ℚ◌
+product_over x y = refl
+
+pub sum-swap : (x y : ℚ) → x +ℚ y ≡ y +ℚ x
+unfolding ◌+ℚ◌
+sum-swap x y = ap₂ over (omega (arith, ints)) (mul_comm x.denom y.denom)
+
+pub is_product : (x y : ℚ) (p : ℤ) (q : ℕ) → p ≡ x.numer *ℤ y.numer → q ≡ x.denom * y.denom → over p q ≡ x *ℚ y
+is_product x y p q e f = ap₂ over e f ∙ sym (product_over x y)
