@@ -2,6 +2,7 @@
 use crate::{BadShape, Certificate, Claim, Derivation, Goal, Name, Named, Problem, Reason};
 use bstr::BString;
 use std::alloc::Global;
+use std::process::Abort;
 use std::test::Fail;
 use vipr_frac::Frac;
 use vipr_linear::{Constraint, Ints, Row, Sense, Solution};
@@ -104,49 +105,75 @@ fn names(rt: HostRuntime) -> Result<(), Fail> {
 
 #[test]
 fn problems(rt: HostRuntime) -> Result<(), Fail> {
-    let alloc = rt.alloc();
-    assert!(rt; problem(alloc, 2, 1, 1)?.is_err());
-    assert!(rt; problem(alloc, 1, 2, 1)?.is_err());
-    assert!(rt; problem(alloc, 1, 1, 2)?.is_err());
+    for (integer, objective, constrained, fits) in [
+        (2, 1, 1, false),
+        (1, 2, 1, false),
+        (1, 1, 2, false),
+        (1, 1, 1, true),
+    ] {
+        let found = problem(rt.alloc(), integer, objective, constrained)?;
+        assert_eq!(rt; found.is_ok(), fits);
+    }
+    Ok(())
+}
 
-    let found = problem(alloc, 1, 1, 1)??;
+// The parts of the problem whose variables are all the second.
+fn has_its_parts(rt: &impl Abort, found: &Problem) {
     assert_eq!(rt; found.names().len(), 2);
     assert_eq!(rt; found.ints().indices(), [1].as_slice());
     assert_eq!(rt; found.sense(), Goal::Max);
     assert_eq!(rt; found.objective().entries(), [(1, Frac::one())].as_slice());
     assert_eq!(rt; found.cons().len(), 1);
     assert_eq!(rt; found.bound_count(), 1);
-    let Claim::Range(lower, upper) = found.claim() else {
-        return Err("another claim")?;
-    };
-    assert_eq!(rt; lower, None);
-    assert_eq!(rt; upper, Some(Frac::one()));
+    let claim = found.claim();
+    assert!(rt; matches!(claim, Claim::Range(None, Some(upper)) if upper == Frac::one()));
+}
+
+#[test]
+fn problems_have_their_parts(rt: HostRuntime) -> Result<(), Fail> {
+    let found = problem(rt.alloc(), 1, 1, 1)??;
+    has_its_parts(&rt, &found);
     Ok(())
 }
 
 #[test]
 fn certificates(rt: HostRuntime) -> Result<(), Fail> {
-    let alloc = rt.alloc();
-    assert!(rt; certificate(alloc, 2, 1, Reason::Asm)?.is_err());
-    assert!(rt; certificate(alloc, 1, 2, Reason::Asm)?.is_err());
+    for (solved, derived, fits) in [(2, 1, false), (1, 2, false), (1, 1, true)] {
+        let found = certificate(rt.alloc(), solved, derived, Reason::Asm)?;
+        assert_eq!(rt; found.is_ok(), fits);
+    }
+    Ok(())
+}
 
-    let found = certificate(alloc, 1, 1, Reason::Asm)??;
+#[test]
+fn certificates_have_their_parts(rt: HostRuntime) -> Result<(), Fail> {
+    let found = certificate(rt.alloc(), 1, 1, Reason::Asm)??;
     assert_eq!(rt; found.problem().names().len(), 2);
     assert_eq!(rt; found.solutions().len(), 1);
     assert_eq!(rt; found.derivations().len(), 1);
-    assert!(rt; found.refers_back());
+    Ok(())
+}
+
+// Whether all that the only derivation refers to comes before it.
+fn refers_back(alloc: Global, reason: Reason) -> Result<bool, Fail> {
+    let found = certificate(alloc, 1, 1, reason)??;
+    Ok(found.refers_back())
+}
+
+#[test]
+fn references(rt: HostRuntime) -> Result<(), Fail> {
+    let alloc = rt.alloc();
+    assert!(rt; refers_back(alloc, Reason::Asm)?);
     for (index, back) in [(0, true), (1, false)] {
         let of_sum = Reason::Lin(vec![in alloc; (index, Frac::one())]?);
-        let found = certificate(alloc, 1, 1, of_sum)??;
-        assert_eq!(rt; found.refers_back(), back, "a sum at {index}");
+        assert_eq!(rt; refers_back(alloc, of_sum)?, back, "a sum at {index}");
         let united = Reason::Uns {
             i1: 0,
             l1: 0,
             i2: 0,
             l2: index,
         };
-        let found = certificate(alloc, 1, 1, united)??;
-        assert_eq!(rt; found.refers_back(), back, "united at {index}");
+        assert_eq!(rt; refers_back(alloc, united)?, back, "united at {index}");
     }
     Ok(())
 }

@@ -1,6 +1,7 @@
 ghost use Rattle.std.specs.Prelude.{◌≡◌, ◌<◌, length, Some};
 ghost use Rattle.vipr_spec.specs.Input.{Input};
 
+mod checkers;
 mod profiles;
 
 use crate::{
