@@ -1,5 +1,5 @@
 -- Euclid's steps.
-use Rattle.std.proofs.Common.{◌≡◌, ℕ, ◌%◌, ◌<◌, ◌≤◌, sym, subst, ◌∙◌}
+use Rattle.std.proofs.Common.{◌≡◌, ℕ, ◌%◌, ◌<◌, ◌≤◌, refl, sym, subst, ◌∙◌}
 use Rattle.std.specs.Int.{IsGcd, ◌∣◌}
 use Rattle.std.proofs.Math.Nat.{one-dvd, dvd_refl, pos_of_dvd_of_pos}
 use Rattle.std.proofs.lemmas.Nat.Gcd.{IsGcd-from_zero, IsGcd-from_mod, IsGcd-swap, same_from_IsGcd, le_of_dvd}
@@ -33,3 +33,6 @@ gcd-swap a b = gcd-same a b _ (IsGcd-swap b a _ (gcd_is b a))
 -- a remainder in place of the number that it is taken of
 pub gcd-rest : (a b : ℕ) → gcd (a % b) b ≡ gcd a b
 gcd-rest a b = gcd-swap (a % b) b ∙ sym (gcd-step a b)
+
+pub zero-gcd : (b : ℕ) → gcd 0 b ≡ b
+zero-gcd b = gcd-swap 0 b ∙ gcd-end b 0 refl

@@ -1,5 +1,6 @@
 -- The numbers that a sum and a product go through, and what the fields of a `Frac` keep.
-use Rattle.std.specs.Prelude.{ℕ, ◌*◌, ◌/◌, ◌<◌, ◌≤◌, ◌^◌, ◌⊎◌, ℤ, pos, ◌+ℤ◌, ◌*ℤ◌, unsigned_abs, int_div, FitsSigned}
+use Rattle.std.specs.Prelude.{ℕ, ◌*◌, ◌/◌, ◌<◌, ◌≤◌, ◌^◌, ◌⊎◌, ℤ, pos, ◌+ℤ◌, ◌*ℤ◌}
+use Rattle.std.specs.Prelude.{unsigned_abs, int_div, FitsSigned}
 use Rattle.std.specs.Int.{w64}
 use Rattle.vipr_spec.specs.Fraction.{ℚ, most}
 use Rattle.vipr_spec.specs.Gcd.{gcd}

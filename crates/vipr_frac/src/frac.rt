@@ -1,6 +1,7 @@
 //! The fractions and their arithmetic.
-ghost use Rattle.std.specs.Prelude.{◌≡◌, ℕ, ℤ, pos, ◌+◌, ◌*◌, ◌^◌, ◌<◌, ◌≤◌, ◌+ℤ◌, ◌*ℤ◌, ◌<ℤ◌, ◌≤ℤ◌};
-ghost use Rattle.std.specs.Prelude.{unsigned_abs, int_div, ◌↔◌, ◌⊎◌, IsOk, IfOk, IsTrue, IsSome, IfSome};
+ghost use Rattle.std.specs.Prelude.{◌≡◌, ℕ, ℤ, pos, ◌+◌, ◌*◌, ◌^◌, ◌<◌, ◌≤◌, ◌+ℤ◌, ◌*ℤ◌, ◌<ℤ◌};
+ghost use Rattle.std.specs.Prelude.{◌≤ℤ◌, unsigned_abs, int_div, ◌↔◌, ◌⊎◌, IsOk, IfOk, IsTrue};
+ghost use Rattle.std.specs.Prelude.{IsSome, IfSome};
 ghost use Rattle.std.specs.Ordering.{nat_cmp, int_cmp};
 ghost use Rattle.vipr_spec.specs.Fraction.{most, over, whole, zero_ℚ, neg_ℚ, ◌+ℚ◌, ◌*ℚ◌, IsBounded};
 ghost use Rattle.vipr_spec.specs.Fraction.{IsWhole, SumFits, ProductFits};
@@ -232,7 +233,7 @@ pub(crate) fn reduced_words(p: i64, q: u64) -> Frac
     if q == 1 {
         return of_whole(i128::from(p));
     }
-    let g = word_gcd(p.unsigned_abs(), q);
+    let g = word_gcd(p.unsigned_abs() % q, q);
     of_parts(i128::from(p / g as i64), u128::from(q / g))
 }
 
@@ -424,6 +425,16 @@ impl Frac {
         ensures bounded { unsigned_abs result ≤ most }
     {
         -self.neg().floor()
+    }
+
+    // The numerator and the denominator.
+    #[inline(always)]
+    pub(crate) fn parts(self) -> (i128, u128)
+        ensures numer { result.0 ≡ self.numer }
+        ensures denom { result.1 ≡ self.denom }
+        ensures reduced { IsReduced result.0 result.1 }
+    {
+        (self.p, self.q)
     }
 
     // The parts as words of 64 bits with a sign, if they are that small.

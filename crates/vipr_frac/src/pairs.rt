@@ -1,5 +1,5 @@
 //! Fractions whose parts are words of 64 bits, and may have a common divisor.
-ghost use Rattle.std.specs.Prelude.{◌≡◌, ◌↔◌, ◌*◌, ◌<◌, ◌^◌, ℤ, pos, ◌+ℤ◌, ◌*ℤ◌, IsTrue, IfSome};
+ghost use Rattle.std.specs.Prelude.{◌≡◌, ◌↔◌, ◌*◌, ◌<◌, ◌^◌, ℕ, ℤ, pos, ◌+ℤ◌, ◌*ℤ◌, IsTrue, IfSome};
 ghost use Rattle.std.specs.Prelude.{MatchOption};
 ghost use Rattle.vipr_spec.specs.Fraction.{over, ◌+ℚ◌, ◌*ℚ◌};
 ghost use Rattle.vipr_frac.specs.Parts.{AreWords};
@@ -12,7 +12,7 @@ const MOST: u64 = i64::MAX as u64;
 fn are_words(p: i128, q: u128) -> bool
     ensures { IsTrue result ↔ AreWords p q }
 {
-    p >= i64::MIN as i128 && p <= i64::MAX as i128 && q <= i64::MAX as u128
+    p >= i64::MIN as i128 && p <= i64::MAX as i128 && q <= MOST as u128
 }
 
 /// The two parts of a fraction as words of 64 bits with a sign, if they are that small.
@@ -51,6 +51,20 @@ fn both(p: i64, u: u64, r: i64, v: u64) -> Option<i64>
     left.checked_add(right)
 }
 
+// The sum of two fractions, where the second denominator is n times the first.
+#[inline(always)]
+fn raised_sum(p: i64, n: u64, r: i64, s: u64) -> Option<(i64, u64)>
+    requires times { n < 2 ^ 63 }
+    requires below { s < 2 ^ 63 }
+    requires some { 0 < s }
+    ensures value { (q : ℕ) → 0 < q → s ≡ n * q
+        → IfSome result (λ t. over t.0 t.1 ≡ over p q +ℚ over r s) }
+    ensures some { IfSome result (λ t. 0 < t.1) }
+    ensures below { IfSome result (λ t. t.1 < 2 ^ 63) }
+{
+    Some((both(p, n, r, 1)?, s))
+}
+
 /// The product of two fractions.
 #[inline(always)]
 pub(crate) fn pair_product(p: i64, q: u64, r: i64, s: u64) -> Option<(i64, u64)>
@@ -75,6 +89,12 @@ pub(crate) fn pair_sum(p: i64, q: u64, r: i64, s: u64) -> Option<(i64, u64)>
     if q == s {
         return Some((p.checked_add(r)?, q));
     }
+    if q == 1 {
+        return raised_sum(p, s, r, s);
+    }
+    if s == 1 {
+        return raised_sum(r, q, p, q);
+    }
     if q < s {
         mixed_sum(p, q, r, s)
     } else {
@@ -93,12 +113,9 @@ fn mixed_sum(p: i64, q: u64, r: i64, s: u64) -> Option<(i64, u64)>
     ensures some { IfSome result (λ t. 0 < t.1) }
     ensures below { IfSome result (λ t. t.1 < 2 ^ 63) }
 {
-    if q == 1 {
-        return Some((both(p, s, r, 1)?, s));
-    }
     let rest = s % q;
     if rest == 0 {
-        return Some((both(p, s / q, r, 1)?, s));
+        return raised_sum(p, s / q, r, s);
     }
     let g = word_gcd(rest, q);
     let left = s / g;

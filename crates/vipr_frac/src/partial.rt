@@ -1,7 +1,7 @@
 //! Partial sums of products, which are reduced at the end alone.
 ghost use Rattle.std.specs.Prelude.{◌≡◌, ◌↔◌, ◌<◌, ◌^◌, IsOk, IfOk, IfSome, IsSome, OnOk, OnErr};
 ghost use Rattle.vipr_spec.specs.Fraction.{over, zero_ℚ, ◌+ℚ◌, ◌*ℚ◌, SumFits, ProductFits};
-ghost use Rattle.vipr_frac.specs.Parts.{IsPartial};
+ghost use Rattle.vipr_frac.specs.Parts.{IsPartial, IsReduced};
 
 use crate::frac::{Frac, Overflow, of_parts, reduced_words};
 use crate::pairs::{pair_product, pair_sum, words};
@@ -106,14 +106,28 @@ impl Partial {
             };
             return Ok(());
         }
-        let sum = exact_sum(self.value(), multiplier, coefficient)?;
-        *self = Partial::of(sum);
-        Ok(())
+        let (p, q) = multiplier.parts();
+        let (r, s) = coefficient.parts();
+        add_exact(self, p, q, r, s)
     }
 }
 
-// The sum with a product, in lowest terms all the way.
+// Adds the product of p / q and r / s, in lowest terms all the way.
 #[inline(never)]
+fn add_exact(sum: &mut Partial, p: i128, q: u128, r: i128, s: u128) -> Result<(), Overflow>
+    requires left { IsReduced p q }
+    requires right { IsReduced r s }
+    ensures fits { IsOk result ↔ (ProductFits (over p q) (over r s)
+        × SumFits sum.old (over p q *ℚ over r s)) }
+    ensures sum { OnOk result (sum.new ≡ sum.old +ℚ over p q *ℚ over r s) }
+    ensures kept { OnErr result (sum.new ≡ sum.old) }
+{
+    let exact = exact_sum(sum.value(), of_parts(p, q), of_parts(r, s))?;
+    *sum = Partial::of(exact);
+    Ok(())
+}
+
+// The sum with a product, in lowest terms.
 fn exact_sum(sum: Frac, multiplier: Frac, coefficient: Frac) -> Result<Frac, Overflow>
     ensures fits { IsOk result ↔ (ProductFits multiplier coefficient
         × SumFits sum (multiplier *ℚ coefficient)) }

@@ -5,13 +5,14 @@ use Rattle.std.proofs.Math.Nat.{le_trans}
 use Rattle.std.proofs.lemmas.Int.{ints, to_z-of_z, quot_fits, fits_signed_from_abs}
 use Rattle.vipr_spec.specs.Gcd.{gcd}
 use Rattle.vipr_spec.specs.Fraction.{over, most}
+use Rattle.vipr_frac.proofs.Steps.{gcd-rest}
 use Rattle.vipr_frac.proofs.Unreduced.{word_abs}
 use Rattle.vipr_frac.proofs.Views.{IsReduced-over, over-parts, over-self}
 use Rattle.vipr_frac.proofs.frac.reduced_words.Goals as goal
 use Rattle.vipr_frac.proofs.frac.reduced_words.Goals.{After-from-3}
 
 g_is : (c : After-from-3) → c.word_gcd-g.result ≡ gcd (unsigned_abs c.args.p) c.args.q
-g_is c = c.word_gcd-g.ensures.value ∙ ap (λ n. gcd n c.args.q) (c.unsigned_abs.ensures.value ∙ ap unsigned_abs (to_z-of_z w64 c.args.p c.ranges.p))
+g_is c = c.word_gcd-g.ensures.value ∙ gcd-rest _ c.args.q ∙ ap (λ n. gcd n c.args.q) (c.unsigned_abs.ensures.value ∙ ap unsigned_abs (to_z-of_z w64 c.args.p c.ranges.p))
 
 g_fits : (c : After-from-3) → FitsSigned w64 (pos c.word_gcd-g.result)
 g_fits c = fits_signed_from_abs w64 (pos c.word_gcd-g.result) (let h = c.requires.denom in let k = c.word_gcd-g.ensures.at_most in omega arith)

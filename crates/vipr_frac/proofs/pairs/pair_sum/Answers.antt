@@ -1,4 +1,4 @@
-use Rattle.std.proofs.Common.{rules, ◌≡◌, ℕ, sym, ◌∙◌, FitsSigned}
+use Rattle.std.proofs.Common.{rules, ◌≡◌, ℕ, ◌*◌, sym, ◌∙◌, arith, FitsSigned}
 use Rattle.std.specs.Prelude.{ℤ, IfSome, Option, Some, None}
 use Rattle.std.specs.Int.{w64}
 use Rattle.std.proofs.lemmas.Int.{to_z-of_z}
@@ -16,6 +16,13 @@ returns-then-q-s-clause-sum c =
     let fits : FitsSigned w64 c.in_ok-checked_add.field-0 = search rules in
     let sum = rw (to_z-of_z w64 c.args.p c.ranges.p, to_z-of_z w64 c.args.r c.ranges.r) at c.in_ok-checked_add.ensures.1 in
     rw (to_z-of_z w64 _ fits, sum, ← c.if-q-s.true) (sym (over_equal c.args.p c.args.r c.args.q c.requires.left))
+
+pub returns-then-s-eq1-clause-sum : goal.returns-then-s-eq1-clause-sum
+returns-then-s-eq1-clause-sum c =
+    let times : c.args.q ≡ c.args.q * c.args.s = rw c.if-s-eq1.true (omega arith) in
+    let h = c.raised_sum-then-s-eq1.ensures.value c.args.s c.requires.right times in
+    let sum = rw (to_z-of_z w64 c.args.p c.ranges.p, to_z-of_z w64 c.args.r c.ranges.r) at h in
+    turned _ (over c.args.p c.args.q) (over c.args.r c.args.s) sum
 
 pub returns-else-q-s-2-clause-sum : goal.returns-else-q-s-2-clause-sum
 returns-else-q-s-2-clause-sum c =
