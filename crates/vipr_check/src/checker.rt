@@ -23,7 +23,7 @@ use std::alloc::{AllocError, Global};
 use std::marker::Model;
 use vipr_cert::{Derivation, Name, Named, Problem};
 use vipr_linear::Solution;
-use vipr_rules::{Profile, RuleError, Rows};
+use vipr_rules::{Profile, Rows, RuleError};
 
 /// Takes a certificate item by item: the problem, each solution, the end of the solutions, each
 /// derivation, the end. It stops at the first item that is at fault.

@@ -1,15 +1,21 @@
 -- A rising list, as a set.
-use Rattle.std.proofs.Common.{◌≡◌, ℕ, ◌<◌, ◌≤◌, Bool, true, false, not, ◌||◌, ◌&&◌, nat_eq, List, [], ◌∷◌, length, get_or, filter, Result, Ok, Err, is_ok, MatchResult, ◌^◌, refl, sym, ap, ◌∙◌, arith, suc, ◌⊎◌, inl, inr, ◌++◌, append_assoc}
-use Rattle.std.proofs.lemmas.Bool.Decides.{nat_tests}
+use Rattle.std.proofs.Common.{◌≡◌, ℕ, ◌+◌, ◌<◌, ◌≤◌, Bool, true, false, not, ◌||◌, ◌&&◌, nat_eq, List, [], ◌∷◌, length, get_or, filter, Result, Ok, Err, is_ok, MatchResult, ◌^◌, refl, sym, ap, ◌∙◌, arith, suc, ◌⊎◌, inl, inr, ◌++◌, append_assoc}
+use Rattle.std.proofs.lemmas.Bool.Decides.{nat_tests, same_from_decides, Decides-eqb}
 use Rattle.std.proofs.lemmas.Bool.{cases_lt}
 use Rattle.std.proofs.lemmas.List.Elements.{All-from_get_or}
 use Rattle.std.proofs.lemmas.List.Folds.{list_any_at, list_any_none, list_any-append}
-use Rattle.std.proofs.lemmas.List.Sorted.{searched}
-use Rattle.std.specs.List.Sorted.{IsBinarySearchResult}
-use Rattle.std.specs.Cmp.{nat_cmp_total}
+use Rattle.std.proofs.lemmas.List.Filters.{dedup_is}
+use Rattle.std.proofs.lemmas.List.Kept.{Contains-dedup_nat, Contains-from_dedup}
+use Rattle.std.proofs.lemmas.List.Sorted.{searched, Contains-permutation, IsPermutation-sym}
+use Rattle.std.proofs.lemmas.Map.Keys.{below_from_sorted, sorted_from_strictly_increasing, IsStrictlyIncreasing-dedup}
+use Rattle.std.proofs.lemmas.Map.Made.{is_member-Decides}
+use Rattle.std.specs.List.{list_any, dedup, All}
+use Rattle.std.specs.List.Retain.{IsFiltered, DiffersFromLast}
+use Rattle.std.specs.List.Sorted.{IsBinarySearchResult, IsPermutation, IsSorted, IsStrictlyIncreasing}
+use Rattle.std.specs.Cmp.{nat_cmp_total, unsigned_tied}
 use Rattle.std.specs.Ordering.{nat_cmp, eq_by_cmp}
-use Rattle.std.specs.FinSet.{FinSet, contains, empty, from_list, union, remove, same_set, nat_cmp-IsAntisymmetric, contains-from_list_nat, contains-union, contains-remove, contains-empty}
-use Rattle.vipr_rules.specs.Rising.{IsRising, IsUnion, has}
+use Rattle.std.specs.FinSet.{FinSet, contains, empty, from_list, union, remove, same_set, nat_cmp-IsAntisymmetric, contains-from_list_nat, contains-union, contains-remove, contains-empty, contains-insert}
+use Rattle.vipr_rules.specs.Rising.{IsRising, RisesWithin, IsUnion, has}
 use Rattle.vipr_rules.proofs.RisingLemmas.{has_all_but, rises_order, or_part}
 
 same_numbers : (s t : FinSet nat_cmp) → ((q : ℕ) → contains s q ≡ contains t q) → s ≡ t
@@ -134,3 +140,25 @@ longer_seen xs ys zs = ap from_list (sym (append_assoc xs ys zs)) ∙ same_numbe
     parts_have (xs ++ ys) zs q
     ∙ (λ t. sym (contains-from_list_nat (xs ++ ys) q) t || sym (contains-from_list_nat zs q) t)
     ∙ sym (contains-union nat_cmp_total (from_list (xs ++ ys)) (from_list zs) q))
+
+whether : (ks : List ℕ) (q : ℕ) → contains (from_list {R = nat_cmp} ks) q ≡ list_any (nat_eq q) ks
+whether [] q = contains-empty nat_cmp q
+whether (k ∷ ks) q = contains-insert nat_cmp_total _ k q ∙ (λ i. unsigned_tied q k i || whether ks q i)
+
+-- what a sort and the removal of repeats leave makes the same set
+pub deduped_set : (xs ys zs : List ℕ) → IsPermutation xs ys → IsFiltered (DiffersFromLast nat_eq) [] ys zs → from_list {R = nat_cmp} zs ≡ from_list xs
+deduped_set xs ys zs p f = same_numbers _ _ (λ q.
+    whether zs q
+    ∙ ap (list_any (nat_eq q)) (dedup_is nat_eq ys zs f)
+    ∙ same_from_decides _ _ (is_member-Decides Decides-eqb (dedup nat_eq ys) q) (λ t. Contains-dedup_nat ys q (Contains-permutation xs ys q p ((is_member-Decides Decides-eqb xs q).0 t)), λ h. (is_member-Decides Decides-eqb xs q).1 (Contains-permutation ys xs q (IsPermutation-sym xs ys p) (Contains-from_dedup nat_eq ys q h)))
+    ∙ sym (whether xs q))
+
+rises_at : (low : ℕ) (xs : List ℕ) → ((i j : ℕ) → i < j → j < length xs → get_or xs i 0 < get_or xs j 0) → ((k : ℕ) → k < length xs → low ≤ get_or xs k 0) → ((k : ℕ) → k < length xs → get_or xs k 0 < 2 ^ 32) → RisesWithin low (2 ^ 32) xs
+rises_at low [] s l b = tt
+rises_at low (x ∷ xs) s l b = (l 0 (omega arith), b 0 (omega arith), rises_at (x + 1) xs (λ i j lt h. s (suc i) (suc j) (omega (arith, lt)) (omega (arith, h))) (λ k h. let r = s 0 (suc k) (omega arith) (omega (arith, h)) in omega (arith, r)) (λ k h. b (suc k) (omega (arith, h))))
+
+-- and it rises
+pub deduped_rising : (ys zs : List ℕ) → IsSorted nat_cmp ys → IsFiltered (DiffersFromLast nat_eq) [] ys zs → All (λ x. x < 2 ^ 32) zs → IsRising zs
+deduped_rising ys zs s f b =
+    let rises : IsStrictlyIncreasing zs = rw (dedup_is nat_eq ys zs f) (IsStrictlyIncreasing-dedup ys s) in
+    rises_at 0 zs (λ i j lt h. below_from_sorted zs i j 0 (sorted_from_strictly_increasing zs rises) lt h) (λ k h. omega arith) (λ k h. b k 0 h)

@@ -2,9 +2,9 @@
 use Rattle.std.proofs.Common.{◌≡◌, ℕ, Bool, true, false, ◌||◌, List, [], ◌∷◌, ◌++◌, length, arith, refl, sym, ap, ◌∙◌}
 use Rattle.std.specs.Cmp.{nat_cmp_total}
 use Rattle.std.specs.Ordering.{nat_cmp}
-use Rattle.std.specs.FinSet.{FinSet, contains, empty, union, same_set, nat_cmp-IsAntisymmetric, contains-union, contains-empty}
+use Rattle.std.specs.FinSet.{FinSet, contains, empty, from_list, union, same_set, nat_cmp-IsAntisymmetric, contains-union, contains-empty}
 use Rattle.vipr_rules.specs.Unions.{union_of_all}
-use Rattle.vipr_rules.proofs.SetLemmas.{union_none}
+use Rattle.vipr_rules.proofs.SetLemmas.{union_none, longer_seen}
 
 has_of : (s t : FinSet nat_cmp) (q : ℕ) → contains (union s t) q ≡ (contains s q || contains t q)
 has_of s t q = contains-union nat_cmp_total s t q
@@ -22,8 +22,31 @@ union_assoc s t u = same_set nat_cmp_total nat_cmp-IsAntisymmetric _ _ (λ q.
 pub none_union : (s : FinSet nat_cmp) → union empty s ≡ s
 none_union s = same_set nat_cmp_total nat_cmp-IsAntisymmetric _ _ (λ q. has_of empty s q ∙ ap (λ b. b || contains s q) (contains-empty nat_cmp q))
 
-pub nothing_gathered : empty {R = nat_cmp} ≡ union empty empty
-nothing_gathered = union_none empty
+pub nothing_gathered : empty {R = nat_cmp} ≡ union (union empty empty) empty
+nothing_gathered = union_none empty ∙ ap (λ s. union s empty) (union_none empty)
+
+or_turned_last : (a b c : Bool) → ((a || b) || c) ≡ ((a || c) || b)
+or_turned_last true b c = refl
+or_turned_last false true true = refl
+or_turned_last false true false = refl
+or_turned_last false false true = refl
+or_turned_last false false false = refl
+
+-- which of two sets comes last doesn't matter
+pub last_two : (s t u : FinSet nat_cmp) → union (union s t) u ≡ union (union s u) t
+last_two s t u = same_set nat_cmp_total nat_cmp-IsAntisymmetric _ _ (λ q.
+    has_of (union s t) u q ∙ ap (λ b. b || contains u q) (has_of s t q)
+    ∙ or_turned_last (contains s q) (contains t q) (contains u q)
+    ∙ ap (λ b. b || contains t q) (sym (has_of s u q)) ∙ sym (has_of (union s u) t q))
+
+-- few more indices
+pub few_put : (s : FinSet nat_cmp) (xs ys : List ℕ) → union s (from_list (xs ++ ys)) ≡ union (union s (from_list xs)) (from_list ys)
+few_put s xs ys = ap (union s) (longer_seen [] xs ys) ∙ sym (union_assoc s (from_list xs) (from_list ys))
+
+-- where there are none
+pub no_few : (s : FinSet nat_cmp) (xs : List ℕ) → length xs ≡ 0 → s ≡ union s (from_list xs)
+no_few s [] e = union_none s
+no_few s (x ∷ xs) e = absurd (omega arith)
 
 one_below : (ss : List (FinSet nat_cmp)) (s : FinSet nat_cmp) → union_of_all (ss ++ s ∷ []) ≡ union (union_of_all ss) s
 one_below [] s = sym (union_none s) ∙ sym (none_union s)

@@ -9,4 +9,4 @@ union_of_all [] = set.empty
 union_of_all (s ∷ ss) = set.union s (union_of_all ss)
 
 abbrev pub gathered : Union → set.FinSet nat_cmp
-gathered u = set.union (union_of_all u.below.items) u.last
+gathered u = set.union (set.union (union_of_all u.below.items) u.last) (set.from_list u.few.items)

@@ -18,6 +18,9 @@ use std::marker::Model;
 // From how many indices on a list is long.
 const LONG: usize = 1024;
 
+// Up to how many indices are few.
+const FEW: usize = 8;
+
 /// A set of the constraint indices of assumptions. Its clones share the indices.
 #[derive(Debug, Drop)]
 pub struct Assumptions {
@@ -194,6 +197,32 @@ impl Assumptions {
             held: self.held.copied()?,
             behind: Held::of(alloc, behind)?,
         }))
+    }
+
+    // The set of these indices, in any order, of which some may stand twice.
+    fn of_indices(alloc: Global, indices: Vec<u32>) -> Result<Self, AllocError>
+        ensures { IfOk result (λ s. s ≡ set.from_list indices.items) }
+    {
+        let mut indices = indices;
+        indices.sort_unstable();
+        indices.dedup();
+        let _in_range = indices.as_slice();
+        Ok(Assumptions {
+            held: Held::of(alloc, indices)?,
+            behind: Held::Nothing,
+        })
+    }
+
+    // All indices, where they are few.
+    fn as_few(&self) -> Option<&[u32]>
+        ensures { IfSome result (λ few. set.from_list few.now ≡ self.now) }
+    {
+        let items = self.held.as_slice();
+        if self.behind.as_slice().is_empty() && items.len() <= FEW {
+            Some(items)
+        } else {
+            None
+        }
     }
 
     // All indices as one list.

@@ -9,11 +9,13 @@ use std::alloc::{AllocError, Global};
 use std::mem;
 
 /// The union of the sets that were added. A large one waits below the last until that has grown to
-/// about its size, so that no index is moved often.
+/// about its size, so that no index is moved often. The indices of small ones wait for the end.
 #[derive(Drop)]
 pub(crate) struct Union {
     last: Assumptions,
     below: Vec<Assumptions>,
+    // in any order, and some may stand twice
+    few: Vec<u32>,
 }
 
 // Whether a set is small enough to be joined at once to one of another size.
@@ -29,6 +31,7 @@ impl Union {
         Union {
             last: Assumptions::empty(alloc),
             below: Vec::new(alloc),
+            few: Vec::new(alloc),
         }
     }
 
@@ -38,6 +41,12 @@ impl Union {
     {
         if more.is_empty() {
             return Ok(());
+        }
+        if !self.last.is_empty() {
+            if let Some(few) = more.as_few() {
+                self.few.extend_from_slice(few)?;
+                return Ok(());
+            }
         }
         if is_near(self.last.len(), more.len()) {
             self.last = self.last.union(alloc, more)?;
@@ -67,12 +76,25 @@ impl Union {
         ensures { IfOk result (λ s. s ≡ gathered self) }
     {
         let Union {
-            mut last,
+            last,
             mut below,
+            few,
         } = self;
+        let mut all = with_few(alloc, last, few)?;
         while let Some(top) = below.pop() {
-            last = top.union(alloc, &last)?;
+            all = top.union(alloc, &all)?;
         }
-        Ok(last)
+        Ok(all)
     }
+}
+
+// A set with these indices, which may come in any order.
+fn with_few(alloc: Global, last: Assumptions, few: Vec<u32>) -> Result<Assumptions, AllocError>
+    ensures { IfOk result (λ s. s ≡ set.union last (set.from_list few.items)) }
+{
+    if few.is_empty() {
+        return Ok(last);
+    }
+    let few = Assumptions::of_indices(alloc, few)?;
+    last.union(alloc, &few)
 }

@@ -4,7 +4,7 @@ use Rattle.vipr_rules.specs.Unions.{gathered, union_of_all}
 use Rattle.vipr_rules.proofs.assumptions.union.Union.finish.Given as goal
 
 abbrev pub invariant-loop-top : goal.invariant-loop-top
-invariant-loop-top l = union (union_of_all l.below.items) l.last ≡ gathered l.fn.self
+invariant-loop-top l = union (union_of_all l.below.items) l.all ≡ gathered l.fn.self
 
 abbrev pub decreases-loop-top : goal.decreases-loop-top
 decreases-loop-top l = length l.below.items

@@ -5,4 +5,4 @@ use Rattle.vipr_rules.proofs.UnionsLemmas.{nothing_gathered}
 use Rattle.vipr_rules.proofs.assumptions.union.Union.new.Goals as goal
 
 pub returns : goal.returns
-returns c = ap₂ (λ ss s. union (union_of_all ss) s) c.new.ensures.items c.empty.ensures ∙ sym nothing_gathered
+returns c = rw (c.new.ensures.items, c.empty.ensures, c.new-2.ensures.items) (sym nothing_gathered)
