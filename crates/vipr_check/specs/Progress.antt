@@ -1,6 +1,6 @@
 -- What a checker knows of a certificate so far: the problem and solutions, or these and derivations
 use Rattle.std.specs.Prelude.{◌≡◌, ℕ, ◌<◌, ◌≤◌, Bool, true, false, List, length, Option, All}
-use Rattle.std.specs.Prelude.{refl}
+use Rattle.std.specs.Prelude.{refl, IfSome}
 use Rattle.std.specs.Coded.{Coded, code_by, coded×, coded_bool, coded_ℕ, coded_option}
 use Rattle.vipr_spec.specs.Fraction.{ℚ, coded_ℚ}
 use Rattle.vipr_spec.specs.Constraint.{Profile, one, two, Row, at, IsInteger}
@@ -13,7 +13,9 @@ use Rattle.vipr_linear.specs.Accumulator.{Accumulator}
 use Rattle.vipr_rules.specs.Table.{Table, empty_table}
 use Rattle.vipr_rules.specs.TableCode.{table_code}
 use Rattle.vipr_rules.specs.Claim.{IsTargetIn}
+use Rattle.vipr_rules.specs.Columns.{IsColumnsOf}
 use Rattle.vipr_rules.specs.declared.claim.Target.{Target}
+use Rattle.vipr_rules.specs.declared.columns.Columns.{Columns}
 use Rattle.vipr_rules.specs.Table.{DerivedBelow}
 use Rattle.vipr_rules.specs.History.{IsTableOf}
 
@@ -96,3 +98,7 @@ pub record IsReady (P : Profile) (p : Problem) (t : Target) (table : Table)
   pub next : table.first ≤ table.next
   pub own : DerivedBelow (variables p) table
   pub scratch : length a.sums ≡ variables p
+
+-- the columns are those of the problem, where there are some
+abbrev pub HasColumns : Problem → Option Columns → Type 0
+HasColumns p columns = IfSome columns (IsColumnsOf p)

@@ -166,6 +166,7 @@ impl<S: Rows> Checker<S> {
                 Halt::at_end(cause::NO_PRIMAL, Finding::Primal),
             ));
         }
+        self.progress.forget_columns();
         self.in_solutions = false;
         Ok(())
     }

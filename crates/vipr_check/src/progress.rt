@@ -2,10 +2,10 @@
 
 ghost use Rattle.std.specs.Prelude.{◌≡◌, ◌≢◌, ◌≤◌, ◌+◌, ◌<◌, ◌^◌, ◌⊎◌, ◌↔◌, IfOk, IfErr, OnOk};
 ghost use Rattle.std.specs.Prelude.{OnErr, MatchResult, MatchOption, IsTrue, Ok, List, [], ◌∷◌};
-ghost use Rattle.std.specs.Prelude.{◌++◌, None, option_map};
+ghost use Rattle.std.specs.Prelude.{◌++◌, length, None, option_map};
 ghost use Rattle.vipr_spec.specs.Certificate.{Named as NamedMeant, Derivation as DerivationMeant};
 ghost use Rattle.vipr_spec.specs.Certificate.{Certificate, variables, MeetsPrimal, NeedsGoal};
-ghost use Rattle.vipr_spec.specs.Certificate.{IsProof, count, held};
+ghost use Rattle.vipr_spec.specs.Certificate.{IsProof, count, held, objective_at};
 ghost use Rattle.vipr_spec.specs.Constraint.{Row, at, NamesBelow};
 ghost use Rattle.vipr_spec.specs.Steps.{with_next, step_tests, FirstFailing};
 ghost use Rattle.vipr_spec.specs.Tests.{PassesSolution, solution_tests, meets_dual};
@@ -21,7 +21,7 @@ ghost use Rattle.vipr_rules.specs.Solution.{FailsBy};
 ghost use Rattle.vipr_rules.specs.declared.claim.Target.TheVariants.{Nothing};
 ghost use Rattle.vipr_rules.specs.declared.error.RuleError.TheVariants.{Memory};
 ghost use Rattle.vipr_check.specs.View.{report_of};
-ghost use Rattle.vipr_check.specs.Progress.{HasSolutions, HasSteps};
+ghost use Rattle.vipr_check.specs.Progress.{HasSolutions, HasSteps, HasColumns};
 
 use crate::goal::{goal_among, goal_with};
 use crate::verdict::Report;
@@ -31,8 +31,8 @@ use vipr_cert::{Derivation, Problem};
 use vipr_frac::Frac;
 use vipr_linear::{Combination, Constraint, Solution};
 use vipr_rules::{
-    Entry, Profile, Rows, RuleError, SolutionError, Target, apply_in, better, meets_primal,
-    test_solution,
+    Columns, Entry, Profile, Rows, RuleError, SolutionError, Target, apply_in, better,
+    meets_primal, test_solution, test_solution_by_columns,
 };
 
 /// What is known of a certificate so far.
@@ -48,6 +48,9 @@ pub(crate) struct Progress<S: Rows> {
     best: Option<Frac>,
     rows: S,
     scratch: Combination,
+    /// The columns of the problem, from the second solution on, where there is memory for them.
+    columns: Option<Columns>,
+    alloc: Global,
     /// How many derived constraints were held at most.
     peak: usize,
     /// The first constraint that proves the dual side, if there is one.
@@ -56,7 +59,7 @@ pub(crate) struct Progress<S: Rows> {
 
 impl<S: Rows> Model for Progress<S> {
     ghost use Rattle.vipr_rules.specs.Profile.{profile_of};
-    ghost use Rattle.vipr_check.specs.Progress.{Progress, progress_code, IsReady};
+    ghost use Rattle.vipr_check.specs.Progress.{Progress, progress_code, IsReady, HasColumns};
 
     ghost Value = { Progress };
 
@@ -73,7 +76,7 @@ impl<S: Rows> Model for Progress<S> {
     } };
 
     ghost invariant = { λ k. IsReady (profile_of k.profile) k.problem k.target
-        (S.table k.rows) k.scratch };
+        (S.table k.rows) k.scratch × HasColumns k.problem k.columns };
 }
 
 /// Places an entry, and gives how many are held then.
@@ -95,6 +98,39 @@ fn lacks_goal(goal: Option<u32>, target: &Target) -> bool
     ensures { IsTrue result ↔ ((goal ≡ None) × (target.now ≢ Nothing)) }
 {
     goal.is_none() && !matches!(target, Target::Nothing)
+}
+
+// Lays the columns of a problem before its second solution: for one alone they don't pay.
+fn lay_columns(alloc: Global, problem: &Problem, solutions: u32, columns: &mut Option<Columns>)
+    requires { HasColumns problem.now columns.old }
+    ensures { HasColumns problem.now columns.new }
+{
+    if solutions == 1 {
+        *columns = Columns::of(alloc, problem);
+    }
+}
+
+// Tests a solution by columns, or row by row where there are none.
+fn tested(
+    problem: &Problem,
+    columns: &mut Option<Columns>,
+    scratch: &mut Combination,
+    solution: &Solution,
+) -> Result<Frac, SolutionError>
+    requires columns { HasColumns problem.now columns.old }
+    requires variables { length scratch.old.sums ≡ variables problem.now }
+    ensures tested { MatchResult result
+        (λ v. FirstFailing (PassesSolution problem.now solution.now.0)
+        (solution_tests problem.now) None
+        × (v ≡ objective_at problem.now (at solution.now.0)))
+        (FailsBy problem.now solution.now.0 (solution_tests problem.now)) }
+    ensures columns { HasColumns problem.now columns.new }
+    ensures variables { length scratch.new.sums ≡ length scratch.old.sums }
+{
+    match columns {
+        Some(columns) => test_solution_by_columns(problem, columns, scratch, solution),
+        None => test_solution(problem, scratch, solution),
+    }
 }
 
 impl<S: Rows> Progress<S> {
@@ -121,6 +157,8 @@ impl<S: Rows> Progress<S> {
             best: None,
             rows: S::new(alloc, constraints),
             scratch,
+            columns: None,
+            alloc,
             peak: 0,
             goal,
         })
@@ -184,10 +222,23 @@ impl<S: Rows> Progress<S> {
             (self.new ≡ record self.old { solutions = self.new.solutions; best = self.new.best }) }
         ensures err { OnErr result (self.new ≡ self.old) }
     {
-        let value = test_solution(&self.problem, &mut self.scratch, solution)?;
+        lay_columns(self.alloc, &self.problem, self.solutions, &mut self.columns);
+        let value = tested(
+            &self.problem,
+            &mut self.columns,
+            &mut self.scratch,
+            solution,
+        )?;
         self.best = better(&self.problem, self.best, value);
         self.solutions += 1;
         Ok(())
+    }
+
+    /// Forgets the columns, since no solution follows.
+    pub(crate) fn forget_columns(&mut self)
+        ensures { self.new ≡ self.old }
+    {
+        self.columns = None;
     }
 
     /// Whether the listed solutions meet the primal side of the claim.

@@ -37,7 +37,7 @@ at_place low (e ∷ es) (suc i) d r l =
     let h = at_least_low (e.0 + 1) es i d r.2 (omega arith) in
     coefficient_later e es (get_or es i d).0 (λ k. absurd (omega (arith, h, k))) ∙ at_place (e.0 + 1) es i d r.2 (omega arith)
 
-absent : (es : List (ℕ × ℚ)) (v : ℕ) (d : ℕ × ℚ) → ((k : ℕ) → k < length es → (get_or es k d).0 ≢ v) → coefficient es v ≡ zero_ℚ
+pub absent : (es : List (ℕ × ℚ)) (v : ℕ) (d : ℕ × ℚ) → ((k : ℕ) → k < length es → (get_or es k d).0 ≢ v) → coefficient es v ≡ zero_ℚ
 absent [] v d h = refl
 absent (e ∷ es) v d h = coefficient_later e es v (λ k. h 0 (omega arith) (sym k)) ∙ absent es v d (λ k l. h (suc k) (omega arith))
 

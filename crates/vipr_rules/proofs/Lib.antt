@@ -19,4 +19,5 @@ mod BelowLemmas
 mod CutoffLemmas
 mod ClaimLemmas
 mod SolutionLemmas
+mod ColumnLemmas
 pub mod Laws

@@ -13,3 +13,4 @@ pub mod Soundness
 pub mod Apply
 pub mod Claim
 pub mod Solution
+pub mod Columns

@@ -5,6 +5,7 @@
 mod assumptions;
 mod branches;
 mod claim;
+mod columns;
 mod context;
 mod cutoff;
 mod domination;
@@ -19,8 +20,9 @@ mod tests;
 
 pub use assumptions::Assumptions;
 pub use claim::{Target, better, claimed_primal, meets_primal};
+pub use columns::Columns;
 pub use error::RuleError;
 pub use profile::Profile;
 pub use rows::{Entry, KeepAll, LiveOnly, Rows, names_stay_below, table_holds_what_is_live};
 pub use rules::{apply, apply_in};
-pub use solution::{SolutionError, test_solution};
+pub use solution::{SolutionError, test_solution, test_solution_by_columns};

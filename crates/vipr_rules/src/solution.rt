@@ -1,18 +1,24 @@
 //! The test of a listed solution.
 
-ghost use Rattle.std.specs.Prelude.{◌≡◌, ◌<◌, ℕ, length, map, None, MatchResult};
-ghost use Rattle.vipr_spec.specs.Constraint.{Row, at, IsInteger, NamesBelow};
+ghost use Rattle.std.specs.Prelude.{◌≡◌, ◌↔◌, ◌<◌, ℕ, length, map, None, IsOk, IfOk};
+ghost use Rattle.std.specs.Prelude.{MatchResult};
+ghost use Rattle.vipr_spec.specs.Constraint.{Row as Entries, at, IsInteger, NamesBelow, value};
+ghost use Rattle.vipr_spec.specs.Constraint.{ValueFits};
 ghost use Rattle.vipr_spec.specs.Certificate.{Problem as Meant, variables, integer_variables};
 ghost use Rattle.vipr_spec.specs.Certificate.{objective_at};
 ghost use Rattle.vipr_spec.specs.Steps.{FirstFailing};
 ghost use Rattle.vipr_spec.specs.Tests.{PassesSolution, whole_at, given_at, solution_tests};
 ghost use Rattle.vipr_linear.specs.Constraint.{constraint_of};
 ghost use Rattle.vipr_linear.specs.Values.{IsLaidOut};
+ghost use Rattle.vipr_rules.specs.Columns.{IsColumnsOf};
 ghost use Rattle.vipr_rules.specs.Solution.{PassesAll, FailsBy, tests_at, tests_below};
 
+use crate::columns::Columns;
 use vipr_cert::Problem;
-use vipr_frac::Frac;
-use vipr_linear::{Combination, Constraint, Ints, Sense, Solution, compares, first_fractional};
+use vipr_frac::{Frac, Overflow, Partial};
+use vipr_linear::{
+    Combination, Constraint, Ints, Row, Sense, Solution, compares, first_fractional,
+};
 
 /// Why a listed solution is refused, with what there is to tell about it.
 #[derive(Clone, Copy, Debug, PartialEq, Eq)]
@@ -72,6 +78,52 @@ pub fn test_solution(
     }
 }
 
+/// The same by columns: it looks at the listed variables and at the entries of their columns alone.
+/// Where it isn't found so that all constraints are met, they are tested one after the other.
+///
+/// # Errors
+///
+/// As of `test_solution`.
+pub fn test_solution_by_columns(
+    p: &Problem,
+    columns: &mut Columns,
+    scratch: &mut Combination,
+    solution: &Solution,
+) -> Result<Frac, SolutionError>
+    requires columns { IsColumnsOf p.now columns.old }
+    requires variables { length scratch.old.sums ≡ variables p.now }
+    ensures tested { MatchResult result
+        (λ v. FirstFailing (PassesSolution p.now solution.now.0) (solution_tests p.now) None
+        × (v ≡ objective_at p.now (at solution.now.0)))
+        (FailsBy p.now solution.now.0 (solution_tests p.now)) }
+    ensures columns { IsColumnsOf p.now columns.new }
+    ensures variables { length scratch.new.sums ≡ length scratch.old.sums }
+{
+    let objective = p.objective();
+    test_integers(p.ints(), solution)?;
+    if !columns.find_met(p, solution) {
+        return test_solution(p, scratch, solution);
+    }
+    let Ok(value) = listed_value(objective, solution) else {
+        return Err(SolutionError::Overflow(None));
+    };
+    Ok(value)
+}
+
+// The value of a row at a solution, summed over the solution's variables in rising order.
+fn listed_value(row: &Row, solution: &Solution) -> Result<Frac, Overflow>
+    ensures fits { (n : ℕ) → NamesBelow n (at row.now)
+        → IsOk result ↔ ValueFits n (at row.now) (at solution.now.0) }
+    ensures value { (n : ℕ) → NamesBelow n (at row.now)
+        → IfOk result (λ v. v ≡ value n (at row.now) (at solution.now.0)) }
+{
+    let mut value = Partial::zero();
+    for (variable, coordinate) in solution.0.entries() {
+        value.add_product(row.coefficient(*variable), *coordinate)?;
+    }
+    Ok(value.value())
+}
+
 // Tests whether the coordinates of the integer variables are whole.
 fn test_integers(ints: &Ints, solution: &Solution) -> Result<(), SolutionError>
     ensures { (p : Meant) → p.integers ≡ ints.now
@@ -90,7 +142,7 @@ fn test_integers(ints: &Ints, solution: &Solution) -> Result<(), SolutionError>
 
 // Tests all constraints in their order, at the solution that is laid out.
 fn test_constraints(p: &Problem, point: &Combination) -> Result<(), SolutionError>
-    ensures { (s : Row) → IsLaidOut (variables p.now) (at s) point.now.sums → MatchResult result
+    ensures { (s : Entries) → IsLaidOut (variables p.now) (at s) point.now.sums → MatchResult result
         (λ _. PassesAll p.now s (tests_below (length p.now.constraints)))
         (FailsBy p.now s (tests_below (length p.now.constraints))) }
 {
@@ -106,7 +158,7 @@ fn test_constraint(
     constraint: &Constraint,
     point: &Combination,
 ) -> Result<(), SolutionError>
-    ensures { (p : Meant) (s : Row) → IsLaidOut (variables p) (at s) point.now.sums
+    ensures { (p : Meant) (s : Entries) → IsLaidOut (variables p) (at s) point.now.sums
         → given_at p index ≡ constraint_of constraint.now
         → NamesBelow (variables p) (at constraint.now.row)
         → MatchResult result (λ _. PassesAll p s (tests_at index))

@@ -1,4 +1,7 @@
-use crate::{Assumptions, Entry, KeepAll, LiveOnly, Rows, SolutionError, test_solution};
+use crate::{
+    Assumptions, Columns, Entry, KeepAll, LiveOnly, Rows, SolutionError, test_solution,
+    test_solution_by_columns,
+};
 use std::alloc::Global;
 use std::process::Abort;
 use std::test::Fail;
@@ -156,6 +159,88 @@ fn solutions(rt: HostRuntime) -> Result<(), Fail> {
         let solution = Solution(Row::from_pairs(alloc, vec![in alloc; (0, x), (1, y)]?)?);
         let mut scratch = Combination::new(alloc, problem.names().len() as u32)?;
         assert_eq!(rt; test_solution(&problem, &mut scratch, &solution), found);
+    }
+    Ok(())
+}
+
+// The constraint a x + b y + c z `sense` rhs.
+fn constraint(
+    alloc: Global,
+    coefficients: [i128; 3],
+    sense: Sense,
+    rhs: i128,
+) -> Result<Named<Constraint>, Fail> {
+    let [a, b, c] = coefficients;
+    let pairs = vec![in alloc;
+        (0, Frac::new(a, 1)?),
+        (1, Frac::new(b, 1)?),
+        (2, Frac::new(c, 1)?),
+    ]?;
+    Ok(Named {
+        name: some_name(alloc)?,
+        item: Constraint {
+            row: Row::from_pairs(alloc, pairs)?,
+            sense,
+            rhs: Frac::new(rhs, 1)?,
+        },
+    })
+}
+
+// Three variables, the first whole, under these constraints.
+fn problem_of(alloc: Global, cons: Vec<Named<Constraint>>) -> Result<Problem, Fail> {
+    let names = vec![in alloc; some_name(alloc)?, some_name(alloc)?, some_name(alloc)?]?;
+    let ints = Ints::from_indices(alloc, vec![in alloc; 0]?)?;
+    let objective = Row::from_pairs(alloc, vec![in alloc; (1, Frac::one()), (2, Frac::one())]?)?;
+    Ok(Problem::new(names, ints, Goal::Min, objective, cons, 0, Claim::Infeas)?)
+}
+
+#[test]
+fn columns_and_rows_agree(rt: HostRuntime) -> Result<(), Fail> {
+    let alloc = rt.alloc();
+    let large = i128::MAX;
+    let problems = vec![in alloc;
+        Vec::new(alloc),
+        vec![in alloc; constraint(alloc, [1, 0, 0], Sense::G, 1)?]?,
+        vec![in alloc;
+            constraint(alloc, [0, 1, 1], Sense::L, 2)?,
+            constraint(alloc, [1, 0, -1], Sense::G, 0)?,
+            constraint(alloc, [0, 0, 0], Sense::L, 0)?,
+        ]?,
+        vec![in alloc;
+            constraint(alloc, [large, 1, -large], Sense::G, 0)?,
+            constraint(alloc, [0, 0, 0], Sense::E, 1)?,
+        ]?,
+        vec![in alloc;
+            constraint(alloc, [1, 0, 0], Sense::L, 1)?,
+            constraint(alloc, [large, large, 0], Sense::G, -5)?,
+            constraint(alloc, [0, 0, 1], Sense::E, 1)?,
+        ]?,
+    ]?;
+    for cons in problems {
+        let problem = problem_of(alloc, cons)?;
+        let mut columns = Columns::of(alloc, &problem).expect(&rt, "columns");
+        let mut scratch = Combination::new(alloc, 3)?;
+        for x in 0..3 {
+            for y in 0..3 {
+                for z in 0..3 {
+                    let pairs = vec![in alloc;
+                        (0, Frac::new(x, 2)?),
+                        (1, Frac::new(y - 1, 1)?),
+                        (2, Frac::new(z - 1, 1)?),
+                        (7, Frac::one()),
+                    ]?;
+                    let solution = Solution(Row::from_pairs(alloc, pairs)?);
+                    let by_rows = test_solution(&problem, &mut scratch, &solution);
+                    let by_columns = test_solution_by_columns(
+                        &problem,
+                        &mut columns,
+                        &mut scratch,
+                        &solution,
+                    );
+                    assert_eq!(rt; by_columns, by_rows);
+                }
+            }
+        }
     }
     Ok(())
 }

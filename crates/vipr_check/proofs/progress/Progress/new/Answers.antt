@@ -14,7 +14,7 @@ invariant_of-result g c =
     let p = c.args.problem in
     let given : length c.cons.result.now ≡ length p.constraints = sym (length-map c.cons.result.now (named_of constraint_of)) ∙ ap length c.cons.ensures.constraints in
     let scratch : length c.in_ok-scratch.scratch.sums ≡ variables p = ap (λ a. length a.sums) c.in_ok-scratch.ensures ∙ length-replicate (length c.names.result.now) zero_ℚ ∙ ap length c.names.ensures.names in
-    ready_start (profile_of c.args.profile) p c.in_ok-target.target (g.S.Rows.table c.new-2.result) c.in_ok-scratch.scratch (length c.cons.result.now) c.names.ensures.writes.shape.integers c.in_ok-target.ensures c.new-2.ensures given scratch
+    (ready_start (profile_of c.args.profile) p c.in_ok-target.target (g.S.Rows.table c.new-2.result) c.in_ok-scratch.scratch (length c.cons.result.now) c.names.ensures.writes.shape.integers c.in_ok-target.ensures c.new-2.ensures given scratch, tt)
 
 pub returns-clause-start : goal.returns-clause-start
 returns-clause-start g c =

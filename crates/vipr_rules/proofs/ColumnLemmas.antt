@@ -1,0 +1,530 @@
+-- The columns of a problem, entry by entry, and sums over the listed variables of a solution
+use Rattle.std.proofs.Common.{◌≡◌, ◌≢◌, ℕ, zero, suc, ◌+◌, ◌<◌, ◌≤◌, ◌⊎◌, inl, inr, List, [], ◌∷◌, ◌++◌, length, get_or, map, Bool, false, not, Option, Some, None, unwrap_or, Vec, arith, refl, sym, ◌∙◌, ap, ap₂, subst, subst₂, add-one}
+use Rattle.std.specs.Prelude.{slice_set, OnSome, Result, Ok, Err, IsOk, IsErr}
+use Rattle.std.specs.Option.{is_some}
+use Rattle.std.specs.Global.{Global}
+use Rattle.std.specs.FinMap.{entries}
+use Rattle.std.proofs.lemmas.Bool.{cases_eq, cases_lt}
+use Rattle.std.proofs.lemmas.List.{get_or-set_same, get_or-set_other, get_or_default, get_or-map, get_or_append_left, get_or_push, length_push, length-set, length-map, map-set}
+use Rattle.vipr_spec.specs.Fraction.{ℚ, zero_ℚ, ◌+ℚ◌, ◌*ℚ◌, IsBounded}
+use Rattle.vipr_spec.specs.Constraint.{Constraint, Row, Point, at, value, ValueFits, NamesBelow, Compares}
+use Rattle.vipr_spec.specs.MoreEntries.{TermFits}
+use Rattle.vipr_spec.proofs.Laws.{nothing_more, sum_bounded, value_gap, zero_bounded, add-zero_ℚ, zero-mul_ℚ, mul-zero_ℚ}
+use Rattle.vipr_linear.specs.Row.{RisesFrom}
+use Rattle.vipr_linear.specs.Constraint.{constraint_of}
+use Rattle.vipr_linear.specs.declared.constraint.Constraint.{Constraint as Item}
+use Rattle.vipr_linear.proofs.Laws.{coefficient, coefficient_at, absent, at_place, names_told}
+use Rattle.vipr_cert.specs.declared.items.Named.{Named}
+use Rattle.std.proofs.lemmas.Simd.{map-map}
+use Rattle.vipr_spec.specs.Certificate as is
+use Rattle.vipr_spec.specs.Certificate.{Problem, variables}
+use Rattle.vipr_spec.specs.Shape.{CanWriteProblem}
+use Rattle.vipr_cert.specs.Items.{named_of}
+use Rattle.vipr_rules.specs.Solution.{PassesAll, tests_at, tests_below}
+use Rattle.vipr_rules.proofs.SolutionLemmas.{TrueUpTo, true_next, all_true, given_below}
+use Rattle.vipr_rules.specs.Columns.{given_in, nth, given_of, StandsFrom, IsPlace, ArePlaces, column_at, AreColumns, IsSummed, AreSums, AreListed, AreFalseAtZero, AreMet}
+
+-- ---- places of lists
+pub there : {A : Type 0} → (xs : List A) (k : ℕ) (d x : A) → k < length xs → x ≡ get_or xs k x → get_or xs k d ≡ x
+there xs k d x l e = get_or_default xs k d x l ∙ sym e
+
+pub each_more : (P : ℕ → Type 0) (i : ℕ) → ((k : ℕ) → k < i → P k) → P i → (k : ℕ) → k < i + 1 → P k
+each_more P i before this k l = elim (cases_lt k i) [ inl below ↦ before k below | inr past ↦ let e : i ≡ k = omega (arith, l, past) in subst P e this ]
+
+module _ {A : Type 0} (number : A → ℕ) (d : A) where
+  pub none_stand : (xs : List A) (c i : ℕ) → length xs ≤ c → StandsFrom number d c xs i → ⊥
+  none_stand xs c i past s = let a : c ≤ s.0 = s.1 in let b : s.0 < length xs = s.2 in absurd (omega (arith, past, a, b))
+
+  pub stands_later : (xs : List A) (c i : ℕ) → number (get_or xs c d) ≢ i → StandsFrom number d c xs i → StandsFrom number d (c + 1) xs i
+  stands_later xs c i n s = elim (cases_eq s.0 c) [
+    | inl e ↦ absurd (n (ap (λ k. number (get_or xs k d)) (sym e) ∙ s.3))
+    | inr apart ↦ let a : c ≤ s.0 = s.1 in (s.0, omega (arith, a, apart), s.2, s.3)
+  ]
+
+-- ---- a row's entries
+at_least_low : (low : ℕ) (es : List (ℕ × ℚ)) (k : ℕ) (d : ℕ × ℚ) → RisesFrom low es → k < length es → low + k ≤ (get_or es k d).0
+at_least_low low [] k d r l = absurd (omega arith)
+at_least_low low (e ∷ es) zero d r l = let h : low ≤ e.0 = r.0 in omega (arith, h)
+at_least_low low (e ∷ es) (suc k) d r l = let h = at_least_low (e.0 + 1) es k d r.2 (omega arith) in let m : low ≤ e.0 = r.0 in omega (arith, h, m)
+
+pub rank : (es : List (ℕ × ℚ)) (k : ℕ) (d : ℕ × ℚ) → RisesFrom 0 es → k < length es → k ≤ (get_or es k d).0
+rank es k d r l = let h = at_least_low 0 es k d r l in omega (arith, h)
+
+rising_from : (low : ℕ) (es : List (ℕ × ℚ)) (a b : ℕ) (d : ℕ × ℚ) → RisesFrom low es → a < b → b < length es → (get_or es a d).0 < (get_or es b d).0
+rising_from low [] a b d r less l = absurd (omega arith)
+rising_from low (e ∷ es) a zero d r less l = absurd (omega arith)
+rising_from low (e ∷ es) zero (suc b) d r less l = let h = at_least_low (e.0 + 1) es b d r.2 (omega arith) in omega (arith, h)
+rising_from low (e ∷ es) (suc a) (suc b) d r less l = rising_from (e.0 + 1) es a b d r.2 (omega arith) (omega arith)
+
+apart_each : (e : ℕ × ℚ) (es : List (ℕ × ℚ)) (d : ℕ × ℚ) (j : ℕ) → e.0 ≢ j → ((k : ℕ) → k < length es → (get_or es k d).0 ≢ j) → (k : ℕ) → k < length (e ∷ es) → (get_or (e ∷ es) k d).0 ≢ j
+apart_each e es d j apart h zero l = apart
+apart_each e es d j apart h (suc k) l = h k (omega arith)
+
+stands_or_not : (es : List (ℕ × ℚ)) (d : ℕ × ℚ) (j : ℕ) → StandsFrom (λ (e : ℕ × ℚ). e.0) d 0 es j ⊎ ((k : ℕ) → k < length es → (get_or es k d).0 ≢ j)
+stands_or_not [] d j = inr (λ k l. absurd (omega arith))
+stands_or_not (e ∷ es) d j = elim (cases_eq e.0 j) [
+  | inl same ↦ inl (0, omega arith, omega arith, same)
+  | inr apart ↦ elim (stands_or_not es d j) [
+    | inl s ↦ let l : s.0 < length es = s.2 in inl (suc s.0, omega arith, omega (arith, l), s.3)
+    | inr none ↦ inr (apart_each e es d j apart none)
+  ]
+]
+
+module _ (row : Row) (es : List (ℕ × ℚ)) (list : es ≡ entries row) (r : RisesFrom 0 es) where
+  listed_rise : RisesFrom 0 (entries row)
+  listed_rise = subst (RisesFrom 0) list r
+
+  coefficient_is : (j : ℕ) → coefficient es j ≡ at row j
+  coefficient_is j = ap (λ xs. coefficient xs j) list ∙ coefficient_at row listed_rise j
+
+  pub at_entry : (k : ℕ) (d : ℕ × ℚ) → k < length es → at row (get_or es k d).0 ≡ (get_or es k d).1
+  at_entry k d l = sym (coefficient_is (get_or es k d).0) ∙ at_place 0 es k d r l
+
+  pub zero_or_stands : (j : ℕ) → (at row j ≡ zero_ℚ) ⊎ StandsFrom (λ (e : ℕ × ℚ). e.0) (0, zero_ℚ) 0 es j
+  zero_or_stands j = elim (stands_or_not es (0, zero_ℚ) j) [
+    | inl s ↦ inr s
+    | inr none ↦ inl (sym (coefficient_is j) ∙ absent es j (0, zero_ℚ) none)
+  ]
+
+  pub entry_below : (n k : ℕ) (d : ℕ × ℚ) → NamesBelow n (at row) → k < length es → (get_or es k d).0 < n
+  entry_below n k d names l = subst (λ xs. (get_or xs k d).0 < n) (sym list) ((names_told row n listed_rise).1 names k d (subst (λ xs. k < length xs) list l))
+
+-- ---- where a variable stands
+later : (cs : List Constraint) (i j : ℕ) (e : ℕ × ℕ) → IsPlace cs i j e → IsPlace cs (i + 1) j e
+later cs i j e h = let l : e.0 < i = h.0 in (omega (arith, l), h.1, h.2)
+
+pub no_places : (cs : List Constraint) (j : ℕ) → ArePlaces cs 0 j []
+no_places cs j = record { found = λ k l. absurd (omega arith); rising = λ a b m l. absurd (omega arith); rest = λ i l. absurd (omega arith) }
+
+module _ (cs : List Constraint) (i j : ℕ) (places : List (ℕ × ℕ)) (is : ArePlaces cs i j places) where
+  pub places_same : at (nth cs i).row j ≡ zero_ℚ → ArePlaces cs (i + 1) j places
+  places_same none = record {
+    found = λ k l. later cs i j (get_or places k (0, 0)) (is.found k l);
+    rising = is.rising;
+    rest = λ h l. elim (cases_lt h i) [
+      | inl below ↦ is.rest h below
+      | inr past ↦ let e : h ≡ i = omega (arith, l, past) in inl (ap (λ n. at (nth cs n).row j) e ∙ none)
+    ];
+  }
+
+  module _ (k : ℕ) where
+    left : (m : ℕ) → m < length places → get_or (places ++ (i, k) ∷ []) m (0, 0) ≡ get_or places m (0, 0)
+    left m l = get_or_append_left places ((i, k) ∷ []) (0, 0) m l
+
+    last : (m : ℕ) → m < length (places ++ (i, k) ∷ []) → length places ≤ m → get_or (places ++ (i, k) ∷ []) m (0, 0) ≡ (i, k)
+    last m l past = get_or_push places (i, k) (0, 0) m (let n = length_push places (i, k) in omega (arith, n, l, past))
+
+    pub places_more : k < length (entries (nth cs i).row) → get_or (entries (nth cs i).row) k (0, zero_ℚ) ≡ (j, at (nth cs i).row j) → ArePlaces cs (i + 1) j (places ++ (i, k) ∷ [])
+    places_more l e = record {
+      found = λ m b. elim (cases_lt m (length places)) [
+        | inl below ↦ subst (IsPlace cs (i + 1) j) (sym (left m below)) (later cs i j (get_or places m (0, 0)) (is.found m below))
+        | inr past ↦ subst (IsPlace cs (i + 1) j) (sym (last m b past)) (omega arith, l, e)
+      ];
+      rising = λ a b less bound. elim (cases_lt b (length places)) [
+        | inl below ↦ subst₂ (λ (x y : ℕ × ℕ). x.0 < y.0) (sym (left a (omega (arith, less, below)))) (sym (left b below)) (is.rising a b less below)
+        | inr past ↦
+            let before : a < length places = (let n = length_push places (i, k) in omega (arith, n, less, bound, past)) in
+            subst₂ (λ (x y : ℕ × ℕ). x.0 < y.0) (sym (left a before)) (sym (last b bound past)) (is.found a before).0
+      ];
+      rest = λ h b. elim (cases_lt h i) [
+        | inl below ↦ elim (is.rest h below) [
+          | inl z ↦ inl z
+          | inr s ↦ let m : s.0 < length places = s.2 in inr (s.0, omega arith, (let n = length_push places (i, k) in omega (arith, n, m)), ap (λ (x : ℕ × ℕ). x.0) (left s.0 m) ∙ s.3)
+        ]
+        | inr past ↦
+            let n = length_push places (i, k) in
+            let m : length places < length (places ++ (i, k) ∷ []) = omega (arith, n) in
+            let same : i ≡ h = omega (arith, b, past) in
+            inr (length places, omega arith, m, ap (λ (x : ℕ × ℕ). x.0) (last (length places) m (omega arith)) ∙ same)
+      ];
+    }
+
+-- ---- columns
+abbrev pub Columns : Type 0
+Columns = List (Vec (ℕ × ℕ) Global)
+
+module _ (columns : Columns) (v : ℕ) (l : v < length columns) where
+  pub column_read : (y : Vec (ℕ × ℕ) Global) → y ≡ get_or columns v y → column_at columns v ≡ y.items
+  column_read y e = get_or-map (λ (w : Vec (ℕ × ℕ) Global). w.items) columns v y [] l ∙ ap (λ (w : Vec (ℕ × ℕ) Global). w.items) (sym e)
+
+  module _ (y : Vec (ℕ × ℕ) Global) where
+    set_is : map (λ (w : Vec (ℕ × ℕ) Global). w.items) (slice_set columns v y) ≡ slice_set (map (λ (w : Vec (ℕ × ℕ) Global). w.items) columns) v y.items
+    set_is = map-set (λ (w : Vec (ℕ × ℕ) Global). w.items) columns v y
+
+    column_here : column_at (slice_set columns v y) v ≡ y.items
+    column_here =
+        ap (λ xs. get_or xs v []) set_is
+        ∙ get_or-set_same (map (λ (w : Vec (ℕ × ℕ) Global). w.items) columns) v y.items [] (let n = length-map columns (λ (w : Vec (ℕ × ℕ) Global). w.items) in omega (arith, n, l))
+
+    column_other : (j : ℕ) → j ≢ v → column_at (slice_set columns v y) j ≡ column_at columns j
+    column_other j n = ap (λ xs. get_or xs j []) set_is ∙ get_or-set_other (map (λ (w : Vec (ℕ × ℕ) Global). w.items) columns) v j y.items [] n
+
+-- entries from place c of constraint i on are still to be added to their columns
+pub record AreHalf (cs : List Constraint) (i : ℕ) (es : List (ℕ × ℚ)) (c : ℕ) (columns : Columns) : Type 0 where
+  pub before : (k : ℕ) → c ≤ k → k < length es → ArePlaces cs i (get_or es k (0, zero_ℚ)).0 (column_at columns (get_or es k (0, zero_ℚ)).0)
+  pub after : (j : ℕ) → ArePlaces cs (i + 1) j (column_at columns j) ⊎ StandsFrom (λ (e : ℕ × ℚ). e.0) (0, zero_ℚ) c es j
+
+module _ (cs : List Constraint) (i : ℕ) (row : Row) (same : (nth cs i).row ≡ row) (es : List (ℕ × ℚ)) (list : es ≡ entries row) (r : RisesFrom 0 es) where
+  pub half_start : (columns : Columns) → AreColumns cs i columns → AreHalf cs i es 0 columns
+  half_start columns all = record {
+    before = λ k a l. all (get_or es k (0, zero_ℚ)).0;
+    after = λ j. elim (zero_or_stands row es list r j) [
+      | inl z ↦ inl (places_same cs i j (column_at columns j) (all j) (ap (λ x. at x j) same ∙ z))
+      | inr s ↦ inr s
+    ];
+  }
+
+  pub half_end : (columns : Columns) (c : ℕ) → length es ≤ c → AreHalf cs i es c columns → AreColumns cs (i + 1) columns
+  half_end columns c past half j = elim (half.after j) [
+    | inl h ↦ h
+    | inr s ↦ absurd (none_stand (λ (e : ℕ × ℚ). e.0) (0, zero_ℚ) es c j past s)
+  ]
+
+  module _ (columns : Columns) (c : ℕ) (p : ℕ × ℚ) (l : c < length es) (e : p ≡ get_or es c p) (within : p.0 < length columns) (y : Vec (ℕ × ℕ) Global) (pushed : y.items ≡ column_at columns p.0 ++ (i, c) ∷ []) where
+    here : get_or es c (0, zero_ℚ) ≡ p
+    here = there es c (0, zero_ℚ) p l e
+
+    in_row : get_or (entries (nth cs i).row) c (0, zero_ℚ) ≡ (p.0, at (nth cs i).row p.0)
+    in_row =
+        ap (λ x. get_or (entries x) c (0, zero_ℚ)) same ∙ ap (λ xs. get_or xs c (0, zero_ℚ)) (sym list) ∙ here
+        ∙ ap (λ a. (p.0, a)) (sym (ap (λ x. at x p.0) same ∙ subst (λ (q : ℕ × ℚ). at row q.0 ≡ q.1) here (at_entry row es list r c (0, zero_ℚ) l)))
+
+    in_length : c < length (entries (nth cs i).row)
+    in_length = subst (λ xs. c < length xs) (list ∙ ap entries (sym same)) l
+
+    pub half_next : AreHalf cs i es c columns → AreHalf cs i es (c + 1) (slice_set columns p.0 y)
+    half_next half = record {
+      before = λ k a b.
+          let less = rising_from 0 es c k (0, zero_ℚ) r (omega (arith, a)) b in
+          let apart : (get_or es k (0, zero_ℚ)).0 ≢ p.0 = λ q. absurd (let h = ap (λ (x : ℕ × ℚ). x.0) here in omega (arith, q, h, less)) in
+          subst (ArePlaces cs i (get_or es k (0, zero_ℚ)).0) (sym (column_other columns p.0 within y _ apart)) (half.before k (omega (arith, a)) b);
+      after = λ j. elim (cases_eq j p.0) [
+        | inl q ↦ inl (subst (λ v. ArePlaces cs (i + 1) v (column_at (slice_set columns p.0 y) v)) (sym q) now)
+        | inr apart ↦ elim (half.after j) [
+          | inl h ↦ inl (subst (ArePlaces cs (i + 1) j) (sym (column_other columns p.0 within y j apart)) h)
+          | inr s ↦ inr (stands_later (λ (x : ℕ × ℚ). x.0) (0, zero_ℚ) es c j (λ q. apart (sym (sym (ap (λ (x : ℕ × ℚ). x.0) here) ∙ q))) s)
+        ]
+      ];
+    }
+      where
+        was : ArePlaces cs i p.0 (column_at columns p.0)
+        was = subst (λ (q : ℕ × ℚ). ArePlaces cs i q.0 (column_at columns q.0)) here (half.before c (omega arith) l)
+
+        now : ArePlaces cs (i + 1) p.0 (column_at (slice_set columns p.0 y) p.0)
+        now = subst (ArePlaces cs (i + 1) p.0) (sym (column_here columns p.0 within y ∙ pushed)) (places_more cs i p.0 (column_at columns p.0) was c in_length in_row)
+
+-- ---- one more variable
+module _ (row : Row) (x : Point) where
+  value_bounded : (n : ℕ) → ValueFits n (at row) x → IsBounded (value n (at row) x)
+  value_bounded zero h = zero_bounded
+  value_bounded (suc n) h = sum_bounded (value n (at row) x) (at row n *ℚ x n) (h n (omega arith)).1
+
+  fits_next : (n : ℕ) → ValueFits n (at row) x → TermFits (value n (at row) x) (at row n) (x n) → ValueFits (suc n) (at row) x
+  fits_next n h t j l = elim (cases_eq j n) [
+    | inl e ↦ subst (λ k. TermFits (value k (at row) x) (at row k) (x k)) (sym e) t
+    | inr apart ↦ h j (omega (arith, l, apart))
+  ]
+
+  no_product : (n : ℕ) → (at row n ≡ zero_ℚ) ⊎ (x n ≡ zero_ℚ) → at row n *ℚ x n ≡ zero_ℚ
+  no_product n (inl e) = ap (λ a. a *ℚ x n) e ∙ zero-mul_ℚ (x n)
+  no_product n (inr e) = ap (λ a. at row n *ℚ a) e ∙ mul-zero_ℚ (at row n)
+
+  sum_same_suc : (n : ℕ) (sum : Option ℚ) → (at row n ≡ zero_ℚ) ⊎ (x n ≡ zero_ℚ) → IsSummed row x n sum → IsSummed row x (suc n) sum
+  sum_same_suc n sum none h = (
+    fits_next n h.0 (nothing_more (value n (at row) x) (at row n) (x n) (value_bounded n h.0) none),
+    h.1 ∙ sym (ap (λ a. value n (at row) x +ℚ a) (no_product n none) ∙ add-zero_ℚ (value n (at row) x)),
+  )
+
+  pub sum_same : (n : ℕ) (sum : Option ℚ) → (at row n ≡ zero_ℚ) ⊎ (x n ≡ zero_ℚ) → IsSummed row x n sum → IsSummed row x (n + 1) sum
+  sum_same n sum none h = subst (λ k. IsSummed row x k sum) (sym (add-one n)) (sum_same_suc n sum none h)
+
+  pub sum_more : (n : ℕ) (old new : Option ℚ) (a c : ℚ) → a ≡ at row n → x n ≡ c → TermFits (unwrap_or old zero_ℚ) a c → unwrap_or new zero_ℚ ≡ unwrap_or old zero_ℚ +ℚ a *ℚ c → IsSummed row x n old → IsSummed row x (n + 1) new
+  sum_more n old new a c same coordinate fits sum h =
+      let at_old : TermFits (value n (at row) x) a c = subst (λ s. TermFits s a c) h.1 fits in
+      let t : TermFits (value n (at row) x) (at row n) (x n) = subst₂ (λ b d. TermFits (value n (at row) x) b d) same (sym coordinate) at_old in
+      subst (λ k. IsSummed row x k new) (sym (add-one n))
+      (fits_next n h.0 t, sum ∙ ap₂ (λ s p. s +ℚ p) h.1 (ap₂ (λ b d. b *ℚ d) same (sym coordinate)))
+
+  pub sum_gap : (sum : Option ℚ) (a b : ℕ) → a ≤ b → ((j : ℕ) → a ≤ j → j < b → x j ≡ zero_ℚ) → IsSummed row x a sum → IsSummed row x b sum
+  sum_gap sum a zero le none h = let e : a ≡ 0 = omega (arith, le) in subst (λ k. IsSummed row x k sum) e h
+  sum_gap sum a (suc b) le none h = elim (cases_eq a (suc b)) [
+    | inl e ↦ subst (λ k. IsSummed row x k sum) e h
+    | inr apart ↦
+        let less : a ≤ b = omega (arith, le, apart) in
+        sum_same_suc b sum (inr (none b less (omega arith))) (sum_gap sum a b less (λ j p q. none j p (omega (arith, q))) h)
+  ]
+
+  nothing_yet : IsSummed row x 0 None
+  nothing_yet = (λ j l. absurd (omega arith), refl)
+
+pub sums_start : (cs : List Constraint) (x : Point) (sums : List (Option ℚ)) → ((i : ℕ) → get_or sums i None ≡ None) → AreSums cs x 0 sums
+sums_start cs x sums none i l = subst (IsSummed (nth cs i).row x 0) (sym (none i)) (nothing_yet (nth cs i).row x)
+
+pub sums_gap : (cs : List Constraint) (x : Point) (sums : List (Option ℚ)) (a b : ℕ) → a ≤ b → ((j : ℕ) → a ≤ j → j < b → x j ≡ zero_ℚ) → AreSums cs x a sums → AreSums cs x b sums
+sums_gap cs x sums a b le none all i l = sum_gap (nth cs i).row x (get_or sums i None) a b le none (all i l)
+
+-- ---- one more column
+-- the product is added to the sum of each constraint but of those that stand from place c on
+pub record AreHalfSums (cs : List Constraint) (x : Point) (j : ℕ) (places : List (ℕ × ℕ)) (c : ℕ) (sums : List (Option ℚ)) : Type 0 where
+  pub before : (k : ℕ) → c ≤ k → k < length places → IsSummed (nth cs (get_or places k (0, 0)).0).row x j (get_or sums (get_or places k (0, 0)).0 None)
+  pub after : (i : ℕ) → i < length cs → IsSummed (nth cs i).row x (j + 1) (get_or sums i None) ⊎ StandsFrom (λ (e : ℕ × ℕ). e.0) (0, 0) c places i
+
+module _ (cs : List Constraint) (x : Point) (j : ℕ) (places : List (ℕ × ℕ)) (is : ArePlaces cs (length cs) j places) where
+  pub half_sums_start : (sums : List (Option ℚ)) → AreSums cs x j sums → AreHalfSums cs x j places 0 sums
+  half_sums_start sums all = record {
+    before = λ k a l. all (get_or places k (0, 0)).0 (is.found k l).0;
+    after = λ i l. elim (is.rest i l) [
+      | inl z ↦ inl (sum_same (nth cs i).row x j (get_or sums i None) (inl z) (all i l))
+      | inr s ↦ inr s
+    ];
+  }
+
+  pub half_sums_end : (sums : List (Option ℚ)) (c : ℕ) → length places ≤ c → AreHalfSums cs x j places c sums → AreSums cs x (j + 1) sums
+  half_sums_end sums c past half i l = elim (half.after i l) [
+    | inl h ↦ h
+    | inr s ↦ absurd (none_stand (λ (e : ℕ × ℕ). e.0) (0, 0) places c i past s)
+  ]
+
+  module _ (sums : List (Option ℚ)) (c : ℕ) (p : ℕ × ℕ) (l : c < length places) (e : p ≡ get_or places c p) (within : p.0 < length sums) (old new : Option ℚ) (read : old ≡ get_or sums p.0 old) (a b : ℚ) (coefficient_read : a ≡ at (nth cs p.0).row j) (coordinate : x j ≡ b) (fits : TermFits (unwrap_or old zero_ℚ) a b) (sum : unwrap_or new zero_ℚ ≡ unwrap_or old zero_ℚ +ℚ a *ℚ b) where
+    here_place : get_or places c (0, 0) ≡ p
+    here_place = there places c (0, 0) p l e
+
+    pub half_sums_next : AreHalfSums cs x j places c sums → AreHalfSums cs x j places (c + 1) (slice_set sums p.0 new)
+    half_sums_next half = record {
+      before = λ k f m.
+          let less = is.rising c k (omega (arith, f)) m in
+          let apart : (get_or places k (0, 0)).0 ≢ p.0 = λ q. absurd (let h = ap (λ (y : ℕ × ℕ). y.0) here_place in omega (arith, q, h, less)) in
+          subst (IsSummed (nth cs (get_or places k (0, 0)).0).row x j) (sym (get_or-set_other sums p.0 _ new None apart)) (half.before k (omega (arith, f)) m);
+      after = λ i m. elim (cases_eq i p.0) [
+        | inl q ↦ inl (subst (λ h. IsSummed (nth cs h).row x (j + 1) (get_or (slice_set sums p.0 new) h None)) (sym q) now)
+        | inr apart ↦ elim (half.after i m) [
+          | inl h ↦ inl (subst (IsSummed (nth cs i).row x (j + 1)) (sym (get_or-set_other sums p.0 i new None apart)) h)
+          | inr s ↦ inr (stands_later (λ (y : ℕ × ℕ). y.0) (0, 0) places c i (λ q. apart (sym (sym (ap (λ (y : ℕ × ℕ). y.0) here_place) ∙ q))) s)
+        ]
+      ];
+    }
+      where
+        was : IsSummed (nth cs p.0).row x j old
+        was = subst (IsSummed (nth cs p.0).row x j) (there sums p.0 None old within read) (subst (λ (q : ℕ × ℕ). IsSummed (nth cs q.0).row x j (get_or sums q.0 None)) here_place (half.before c (omega arith) l))
+
+        now : IsSummed (nth cs p.0).row x (j + 1) (get_or (slice_set sums p.0 new) p.0 None)
+        now = subst (IsSummed (nth cs p.0).row x (j + 1)) (sym (get_or-set_same sums p.0 new None within)) (sum_more (nth cs p.0).row x j old new a b coefficient_read coordinate fits sum was)
+
+-- ---- touched constraints
+pub listed_set : (sums : List (Option ℚ)) (touched : List ℕ) (i : ℕ) (new : Option ℚ) → AreListed sums touched → StandsFrom (λ (j : ℕ). j) 0 0 touched i → AreListed (slice_set sums i new) touched
+listed_set sums touched i new is s = record {
+  within = λ k l. let h = is.within k l in let n = length-set sums i new in omega (arith, h, n);
+  listed = λ j. elim (cases_eq j i) [
+    | inl e ↦ inr (s.0, s.1, s.2, s.3 ∙ sym e)
+    | inr apart ↦ elim (is.listed j) [
+      | inl none ↦ inl (get_or-set_other sums i j new None apart ∙ none)
+      | inr t ↦ inr t
+    ]
+  ];
+}
+
+abbrev pub AreLeft : List (Option ℚ) → List ℕ → ℕ → Type 0
+AreLeft sums items c = (i : ℕ) → (get_or sums i None ≡ None) ⊎ StandsFrom (λ (j : ℕ). j) 0 c items i
+
+pub left_next : (sums : List (Option ℚ)) (items : List ℕ) (c : ℕ) → get_or items c 0 < length sums → AreLeft sums items c → AreLeft (slice_set sums (get_or items c 0) None) items (c + 1)
+left_next sums items c within is i = elim (cases_eq i (get_or items c 0)) [
+  | inl e ↦ inl (ap (λ k. get_or (slice_set sums (get_or items c 0) None) k None) e ∙ get_or-set_same sums (get_or items c 0) None None within)
+  | inr apart ↦ elim (is i) [
+    | inl none ↦ inl (get_or-set_other sums (get_or items c 0) i None None apart ∙ none)
+    | inr s ↦ inr (stands_later (λ (j : ℕ). j) 0 items c i (λ q. apart (sym q)) s)
+  ]
+]
+
+pub none_left : (sums : List (Option ℚ)) (items : List ℕ) (c : ℕ) → length items ≤ c → AreLeft sums items c → (i : ℕ) → get_or sums i None ≡ None
+none_left sums items c past is i = elim (is i) [ inl none ↦ none | inr s ↦ absurd (none_stand (λ (j : ℕ). j) 0 items c i past s) ]
+
+pub none_pushed : (sums : List (Option ℚ)) → ((i : ℕ) → get_or sums i None ≡ None) → (i : ℕ) → get_or (sums ++ None ∷ []) i None ≡ None
+none_pushed [] all zero = refl
+none_pushed [] all (suc i) = refl
+none_pushed (o ∷ sums) all zero = all 0
+none_pushed (o ∷ sums) all (suc i) = none_pushed sums (λ k. all (suc k)) i
+
+-- ---- the listed variables of a solution, one after the other
+-- the variables from low on are 0 or listed from place c on
+pub record IsReached (s : Row) (es : List (ℕ × ℚ)) (c low : ℕ) : Type 0 where
+  pub above : (k : ℕ) → c ≤ k → k < length es → low ≤ (get_or es k (0, zero_ℚ)).0
+  pub rest : (j : ℕ) → low ≤ j → (at s j ≡ zero_ℚ) ⊎ StandsFrom (λ (e : ℕ × ℚ). e.0) (0, zero_ℚ) c es j
+
+module _ (s : Row) (es : List (ℕ × ℚ)) (list : es ≡ entries s) (r : RisesFrom 0 es) where
+  pub reached_start : IsReached s es 0 0
+  reached_start = record { above = λ k a l. omega arith; rest = λ j a. zero_or_stands s es list r j }
+
+  pub reached_end : (c low : ℕ) → length es ≤ c → IsReached s es c low → (j : ℕ) → low ≤ j → at s j ≡ zero_ℚ
+  reached_end c low past h j a = elim (h.rest j a) [ inl z ↦ z | inr t ↦ absurd (none_stand (λ (e : ℕ × ℚ). e.0) (0, zero_ℚ) es c j past t) ]
+
+  module _ (c : ℕ) (p : ℕ × ℚ) (l : c < length es) (e : p ≡ get_or es c p) where
+    here_entry : get_or es c (0, zero_ℚ) ≡ p
+    here_entry = there es c (0, zero_ℚ) p l e
+
+    first_here : (get_or es c (0, zero_ℚ)).0 ≡ p.0
+    first_here = ap (λ (y : ℕ × ℚ). y.0) here_entry
+
+    pub coordinate_is : at s p.0 ≡ p.1
+    coordinate_is = subst (λ (q : ℕ × ℚ). at s q.0 ≡ q.1) here_entry (at_entry s es list r c (0, zero_ℚ) l)
+
+    -- the entries that are left are of this variable and later ones
+    pub left_from : (k : ℕ) → c ≤ k → k < length es → p.0 ≤ (get_or es k (0, zero_ℚ)).0
+    left_from k a b = elim (cases_eq k c) [
+      | inl q ↦ let h = ap (λ (y : ℕ × ℚ). y.0) (ap (λ m. get_or es m (0, zero_ℚ)) q ∙ here_entry) in omega (arith, h)
+      | inr apart ↦ let less = rising_from 0 es c k (0, zero_ℚ) r (omega (arith, a, apart)) b in let h = first_here in omega (arith, h, less)
+    ]
+
+    module _ (low : ℕ) (h : IsReached s es c low) where
+      pub reached_low : low ≤ p.0
+      reached_low = let b = h.above c (omega arith) l in let q = first_here in omega (arith, b, q)
+
+      pub reached_zeros : (j : ℕ) → low ≤ j → j < p.0 → at s j ≡ zero_ℚ
+      reached_zeros j a m = elim (h.rest j a) [ inl z ↦ z | inr t ↦ absurd (let f = left_from t.0 t.1 t.2 in let q = t.3 in omega (arith, f, q, m)) ]
+
+      pub reached_next : IsReached s es (c + 1) (p.0 + 1)
+      reached_next = record {
+        above = λ k a b. let less = rising_from 0 es c k (0, zero_ℚ) r (omega (arith, a)) b in let q = first_here in omega (arith, q, less);
+        rest = λ j a. elim (h.rest j (let b = reached_low in omega (arith, a, b))) [
+          | inl z ↦ inl z
+          | inr t ↦ inr (stands_later (λ (e : ℕ × ℚ). e.0) (0, zero_ℚ) es c j (λ q. absurd (let f = first_here in omega (arith, q, f, a))) t)
+        ];
+      }
+
+-- the sums over the variables below some number up to n, from which on the others are listed
+abbrev pub Summed : List Constraint → Row → ℕ → List (ℕ × ℚ) → ℕ → List (Option ℚ) → Type 0
+Summed cs s n es c sums = (low : ℕ) × (low ≤ n) × IsReached s es c low × AreSums cs (at s) low sums
+
+module _ (cs : List Constraint) (s : Row) (n : ℕ) (es : List (ℕ × ℚ)) (list : es ≡ entries s) (r : RisesFrom 0 es) where
+  pub summed_start : (sums : List (Option ℚ)) → ((i : ℕ) → get_or sums i None ≡ None) → Summed cs s n es 0 sums
+  summed_start sums none = (0, omega arith, reached_start s es list r, sums_start cs (at s) sums none)
+
+  -- no listed variable is left below n
+  pub summed_end : (sums : List (Option ℚ)) (c : ℕ) → ((k : ℕ) → c ≤ k → k < length es → n ≤ (get_or es k (0, zero_ℚ)).0) → Summed cs s n es c sums → AreSums cs (at s) n sums
+  summed_end sums c past h = sums_gap cs (at s) sums h.0 n h.1 (λ j a l. elim (h.2.rest j a) [ inl z ↦ z | inr t ↦ absurd (let f = past t.0 t.1 t.2 in let q = t.3 in omega (arith, f, l, q)) ]) h.3
+
+  module _ (c : ℕ) (p : ℕ × ℚ) (l : c < length es) (e : p ≡ get_or es c p) where
+    pub rest_past : n ≤ p.0 → (k : ℕ) → c ≤ k → k < length es → n ≤ (get_or es k (0, zero_ℚ)).0
+    rest_past past k a b = let h = left_from s es list r c p l e k a b in omega (arith, h, past)
+
+    pub summed_here : (sums : List (Option ℚ)) → Summed cs s n es c sums → AreSums cs (at s) p.0 sums
+    summed_here sums h = sums_gap cs (at s) sums h.0 p.0 (reached_low s es list r c p l e h.0 h.2) (reached_zeros s es list r c p l e h.0 h.2) h.3
+
+    pub summed_next : (old sums : List (Option ℚ)) → p.0 < n → Summed cs s n es c old → AreSums cs (at s) (p.0 + 1) sums → Summed cs s n es (c + 1) sums
+    summed_next old sums within h all = (p.0 + 1, omega (arith, within), reached_next s es list r c p l e h.0 h.2, all)
+
+-- ---- the value of a row, over the listed variables
+abbrev pub SummedRow : Row → Row → List (ℕ × ℚ) → ℕ → ℚ → Type 0
+SummedRow row s es c v = (low : ℕ) × IsReached s es c low × IsSummed row (at s) low (Some v)
+
+module _ (row s : Row) (es : List (ℕ × ℚ)) (list : es ≡ entries s) (r : RisesFrom 0 es) where
+  pub row_start : (v : ℚ) → v ≡ zero_ℚ → SummedRow row s es 0 v
+  row_start v e = (0, reached_start s es list r, ((λ j l. absurd (omega arith)), e))
+
+  module _ (c : ℕ) (p : ℕ × ℚ) (l : c < length es) (e : p ≡ get_or es c p) (v a : ℚ) (read : a ≡ at row p.0) (h : SummedRow row s es c v) where
+    row_here : IsSummed row (at s) p.0 (Some v)
+    row_here = sum_gap row (at s) (Some v) h.0 p.0 (reached_low s es list r c p l e h.0 h.1) (reached_zeros s es list r c p l e h.0 h.1) h.2
+
+    pub row_next : (new : ℚ) → TermFits v a p.1 → new ≡ v +ℚ a *ℚ p.1 → SummedRow row s es (c + 1) new
+    row_next new fits sum = (p.0 + 1, reached_next s es list r c p l e h.0 h.1, sum_more row (at s) p.0 (Some v) (Some new) a p.1 read (coordinate_is s es list r c p l e) fits sum row_here)
+
+    pub row_refused : (n : ℕ) → NamesBelow n (at row) → ValueFits n (at row) (at s) → TermFits v a p.1
+    row_refused n names fits =
+        subst (λ w. TermFits w a p.1) (sym row_here.1) (subst₂ (λ b d. TermFits (value p.0 (at row) (at s)) b d) (sym read) (coordinate_is s es list r c p l e) (elim (cases_lt p.0 n) [
+          | inl below ↦ fits p.0 below
+          | inr past ↦ nothing_more (value p.0 (at row) (at s)) (at row p.0) (at s p.0) (value_bounded row (at s) p.0 row_here.0) (inl (names p.0 past))
+        ]))
+
+  pub row_end : (c : ℕ) (v : ℚ) (n : ℕ) → length es ≤ c → NamesBelow n (at row) → SummedRow row s es c v → IsSummed row (at s) n (Some v)
+  row_end c v n past names h = elim (cases_lt n h.0) [
+    | inl over ↦
+        (λ j l. h.2.0 j (omega (arith, l, over)), h.2.1 ∙ value_gap n h.0 (at row) (at s) (omega (arith, over)) (λ j a b. names j a))
+    | inr within ↦ sum_gap row (at s) (Some v) h.0 n within (λ j a b. reached_end s es list r c h.0 past h.1 j a) h.2
+  ]
+
+-- ---- constraints of a problem
+pub given_nth : (cons : List (Named Item)) (i : ℕ) (n : Named Item) → i < length cons → n ≡ get_or cons i n → nth (given_of cons) i ≡ constraint_of n.item
+given_nth cons i n l e = get_or-map (λ (m : Named Item). constraint_of m.item) cons i n _ l ∙ ap (λ (m : Named Item). constraint_of m.item) (sym e)
+
+-- ---- constraints that are false at 0
+pub false_next : (cs : List Constraint) (n : ℕ) (indices : List ℕ) → AreFalseAtZero cs n indices → Compares (nth cs n).sense zero_ℚ (nth cs n).bound → AreFalseAtZero cs (n + 1) indices
+false_next cs n indices is true_there = record {
+  within = λ k l. let h = is.within k l in omega (arith, h);
+  listed = λ i l. elim (cases_lt i n) [
+    | inl below ↦ is.listed i below
+    | inr past ↦ let e : n ≡ i = omega (arith, l, past) in inl (subst (λ k. Compares (nth cs k).sense zero_ℚ (nth cs k).bound) e true_there)
+  ];
+}
+
+pub false_more : (cs : List Constraint) (n : ℕ) (indices : List ℕ) → AreFalseAtZero cs n indices → AreFalseAtZero cs (n + 1) (indices ++ n ∷ [])
+false_more cs n indices is = record {
+  within = λ k l. elim (cases_lt k (length indices)) [
+    | inl below ↦ let h = is.within k below in let e = get_or_append_left indices (n ∷ []) 0 k below in omega (arith, h, e)
+    | inr past ↦ let e = get_or_push indices n 0 k (let m = length_push indices n in omega (arith, m, l, past)) in omega (arith, e)
+  ];
+  listed = λ i l. elim (cases_lt i n) [
+    | inl below ↦ elim (is.listed i below) [
+      | inl t ↦ inl t
+      | inr s ↦ let m : s.0 < length indices = s.2 in inr (s.0, s.1, (let q = length_push indices n in omega (arith, m, q)), get_or_append_left indices (n ∷ []) 0 s.0 m ∙ s.3)
+    ]
+    | inr past ↦ inr (length indices, omega arith, (let q = length_push indices n in omega (arith, q)), get_or_push indices n 0 (length indices) refl ∙ (let e : n ≡ i = omega (arith, l, past) in e))
+  ];
+}
+
+pub given_entries : (cons : List (Named Item)) (i : ℕ) (n : Named Item) → i < length cons → n ≡ get_or cons i n → (es : List (ℕ × ℚ)) → es ≡ entries (get_or cons i n).item.row → entries (nth (given_of cons) i).row ≡ es
+given_entries cons i n l e es list = ap (λ (c : Constraint). entries c.row) (given_nth cons i n l e) ∙ ap (λ (m : Named Item). entries m.item.row) e ∙ sym list
+
+pub place_read : (cs : List Constraint) (n j : ℕ) (e : ℕ × ℕ) → IsPlace cs n j e → (es : List (ℕ × ℚ)) → entries (nth cs e.0).row ≡ es → (p : ℕ × ℚ) → p ≡ get_or es e.1 p → p.1 ≡ at (nth cs e.0).row j
+place_read cs n j e h es same p is =
+    let l : e.1 < length es = subst (λ xs. e.1 < length xs) same h.1 in
+    ap (λ (q : ℕ × ℚ). q.1) (sym (there es e.1 (0, zero_ℚ) p l is) ∙ ap (λ xs. get_or xs e.1 (0, zero_ℚ)) (sym same) ∙ h.2)
+
+pub as_many : (cons : List (Named Item)) → length (given_of cons) ≡ length cons
+as_many cons = length-map cons (λ (m : Named Item). constraint_of m.item)
+
+pub given_places : (cons : List (Named Item)) (j : ℕ) (places : List (ℕ × ℕ)) → ArePlaces (given_of cons) (length cons) j places → ArePlaces (given_of cons) (length (given_of cons)) j places
+given_places cons j places is = subst (λ n. ArePlaces (given_of cons) n j places) (sym (as_many cons)) is
+
+-- ---- all constraints
+module _ (cs : List Constraint) (n : ℕ) (x : Point) (sums : List (Option ℚ)) (touched indices : List ℕ) where
+  pub met : AreSums cs x n sums → AreListed sums touched → AreFalseAtZero cs (length cs) indices → ((k : ℕ) → k < length indices → get_or sums (get_or indices k 0) None ≢ None)
+      → ((k : ℕ) → k < length touched → Compares (nth cs (get_or touched k 0)).sense (unwrap_or (get_or sums (get_or touched k 0) None) zero_ℚ) (nth cs (get_or touched k 0)).bound) → AreMet cs n x
+  met all listed at_zero summed true_there i l = (
+    (all i l).0,
+    elim (listed.listed i) [
+      | inl none ↦ elim (at_zero.listed i l) [
+        | inl t ↦ subst (λ v. Compares (nth cs i).sense v (nth cs i).bound) (ap (λ o. unwrap_or o zero_ℚ) (sym none) ∙ (all i l).1) t
+        | inr s ↦ absurd (summed s.0 s.2 (ap (λ k. get_or sums k None) s.3 ∙ none))
+      ]
+      | inr s ↦ subst (λ v. Compares (nth cs i).sense v (nth cs i).bound) (all i l).1 (subst (λ k. Compares (nth cs k).sense (unwrap_or (get_or sums k None) zero_ℚ) (nth cs k).bound) s.3 (true_there s.0 s.2))
+    ],
+  )
+
+pub told_some : {A : Type 0} → (o : Option A) (P : Type 0) (b : Bool) → is_some o ≡ not b → b ≡ false → OnSome o P → P
+told_some None P b e f h = absurd (cc)
+told_some (Some x) P b e f h = h
+
+pub refused_or_ok : {A E : Type 0} → (r : Result A E) → IsErr r → IsOk r → ⊥
+refused_or_ok (Ok x) e o = absurd (cc)
+refused_or_ok (Err x) e o = absurd (cc)
+
+-- ---- a problem and its constraints
+module _ (p : Problem) (cons : List (Named Item)) (same : map (named_of constraint_of) cons ≡ p.constraints) where
+  pub given_same : given_of cons ≡ given_in p
+  given_same = sym (map-map (λ (n : is.Named Constraint). n.item) (named_of constraint_of) cons) ∙ ap (map (λ (n : is.Named Constraint). n.item)) same
+
+  pub count_same : length cons ≡ length p.constraints
+  count_same = sym (length-map cons (named_of constraint_of)) ∙ ap length same
+
+  pub names_within : CanWriteProblem p → (k : ℕ) (d : Named Item) → k < length cons → NamesBelow (variables p) (at (get_or cons k d).item.row)
+  names_within writes k d l = given_below p cons same k (get_or cons k d) l (get_or_default cons k d (get_or cons k d) l) writes
+
+module _ (p : Problem) (s : Row) (meets : AreMet (given_in p) (variables p) (at s)) where
+  met_here : (i : ℕ) → i < length p.constraints → PassesAll p s (tests_at i)
+  met_here i l = let h = meets i (subst (λ n. i < n) (sym (length-map p.constraints (λ (n : is.Named Constraint). n.item))) l) in inl (h.0, inl (h.1, refl))
+
+  met_up_to : (i : ℕ) → i ≤ length p.constraints → TrueUpTo p s i
+  met_up_to zero l = refl
+  met_up_to (suc i) l = subst (TrueUpTo p s) (add-one i) (true_next p s i (omega arith) (met_up_to i (omega arith)) (met_here i (omega arith)))
+
+  pub all_met : PassesAll p s (tests_below (length p.constraints))
+  all_met = all_true p s (length p.constraints) (omega arith) (met_up_to (length p.constraints) (omega arith))

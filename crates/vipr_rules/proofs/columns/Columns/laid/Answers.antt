@@ -1,0 +1,25 @@
+use Rattle.std.proofs.Common.{ap, sym, subst, subst₂, ◌∙◌, length, slice_index_or}
+use Rattle.vipr_spec.specs.Constraint.{at, NamesBelow}
+use Rattle.vipr_rules.specs.Columns.{AreColumns, AreFalseAtZero}
+use Rattle.vipr_rules.proofs.ColumnLemmas.{given_same, count_same, names_within}
+use Rattle.vipr_rules.proofs.columns.Columns.laid.Goals as goal
+
+pub columns_of-requires-clause-names : goal.columns_of-requires-clause-names
+columns_of-requires-clause-names c = λ k d l.
+    let p = c.args.problem.now in
+    let below = names_within p c.cons-cons.result.now c.cons-cons.ensures.constraints c.cons-cons.ensures.writes k d l in
+    subst (λ n. NamesBelow n (at (slice_index_or c.cons-cons.result.now k d).item.row)) (sym (ap length c.names.ensures.names)) below
+
+pub returns : goal.returns
+returns c =
+    let p = c.args.problem.now in
+    let given = given_same p c.cons-cons.result.now c.cons-cons.ensures.constraints in
+    let count = count_same p c.cons-cons.result.now c.cons-cons.ensures.constraints in
+    record {
+      variables = c.in_ok-columns_of.ensures.variables ∙ ap length c.names.ensures.names;
+      columns = subst₂ (λ cs n. AreColumns cs n c.in_ok-columns_of.field-0.items) given count c.in_ok-columns_of.ensures.columns;
+      false_at_zero = subst₂ (λ cs n. AreFalseAtZero cs n c.in_ok-false_at_zero.field-0.items) given count c.in_ok-false_at_zero.ensures;
+      sums = c.in_ok-nothing_summed.ensures.constraints ∙ count;
+      empty = c.in_ok-nothing_summed.ensures.empty;
+      untouched = c.new.ensures.items;
+    }

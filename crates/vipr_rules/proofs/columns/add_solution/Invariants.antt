@@ -1,0 +1,10 @@
+use Rattle.std.proofs.Common.{length}
+use Rattle.vipr_rules.specs.Columns.{given_of, AreListed}
+use Rattle.vipr_rules.proofs.ColumnLemmas.{Summed}
+use Rattle.vipr_rules.proofs.columns.add_solution.Given as goal
+
+abbrev pub invariant-loop-variable : goal.invariant-loop-variable
+invariant-loop-variable l = record {
+  sums : Summed (given_of l.cons) l.solution.0 (length l.columns) l.variable-items l.variable-index l.sums;
+  listed : AreListed l.sums l.touched.items;
+}

@@ -1,0 +1,327 @@
+//! The constraints of a problem by their variables, to test many short solutions.
+
+ghost use Rattle.std.specs.Prelude.{◌≡◌, ◌≢◌, ◌+◌, ◌<◌, ℕ, All, IsTrue, IfOk, OnOk, IfSome, OnSome};
+ghost use Rattle.std.specs.Prelude.{List, None, length, slice_index_or, unwrap_or};
+ghost use Rattle.vipr_spec.specs.Fraction.{zero_ℚ, ◌+ℚ◌, ◌*ℚ◌};
+ghost use Rattle.vipr_spec.specs.Constraint.{Constraint as Meant, Point, at, Compares, NamesBelow};
+ghost use Rattle.vipr_spec.specs.MoreEntries.{TermFits};
+ghost use Rattle.vipr_linear.specs.Constraint.{sense_of};
+ghost use Rattle.vipr_rules.specs.Columns.{nth, given_of, StandsFrom, AreColumns, ArePlaces};
+ghost use Rattle.vipr_rules.specs.Columns.{AreSums, AreListed, AreFalseAtZero, AreMet};
+ghost use Rattle.vipr_rules.specs.Columns.{IsColumnsOf};
+ghost use Rattle.vipr_rules.specs.Solution.{PassesAll, tests_below};
+
+use std::alloc::{AllocError, Global};
+use vipr_cert::{Named, Problem};
+use vipr_frac::{Frac, Partial};
+use vipr_linear::{Constraint, Row, Solution, compares};
+
+/// The constraints of a problem by their variables, with a place for the sum of each constraint.
+/// An entry takes 8 bytes: its coefficient is looked up in the problem.
+#[derive(Debug, Drop)]
+pub struct Columns {
+    /// For each variable the constraints in which it stands, and its place among their entries.
+    columns: Vec<Vec<(u32, u32)>>,
+    /// The constraints that are false where all variables are 0.
+    false_at_zero: Vec<u32>,
+    /// The sums of the touched constraints.
+    sums: Vec<Option<Partial>>,
+    touched: Vec<u32>,
+}
+
+impl Columns {
+    /// The columns of a problem. There are none where a growth is refused, or where its constraints
+    /// repeat the objective so often that columns would take far more memory than was read: they
+    /// share the objective's entries.
+    pub fn of(alloc: Global, problem: &Problem) -> Option<Columns>
+        ensures { IfSome result (IsColumnsOf problem.now) }
+    {
+        if !repeats_little(problem) {
+            return None;
+        }
+        Columns::laid(alloc, problem).ok()
+    }
+
+    fn laid(alloc: Global, problem: &Problem) -> Result<Columns, AllocError>
+        ensures { IfOk result (IsColumnsOf problem.now) }
+    {
+        let cons = problem.cons();
+        Ok(Columns {
+            columns: columns_of(alloc, problem.names().len(), cons)?,
+            false_at_zero: false_at_zero(alloc, cons)?,
+            sums: nothing_summed(alloc, cons.len())?,
+            touched: Vec::new(alloc),
+        })
+    }
+
+    /// Whether it is found that a solution meets all constraints. The columns of its variables
+    /// alone are looked at. Where a value doesn't fit, or memory is refused, it isn't found.
+    pub(crate) fn find_met(&mut self, problem: &Problem, solution: &Solution) -> bool
+        requires { IsColumnsOf problem.now self.old }
+        ensures met { IsTrue result
+            → PassesAll problem.now solution.now.0 (tests_below (length problem.now.constraints)) }
+        ensures columns { IsColumnsOf problem.now self.new }
+    {
+        let cons = problem.cons();
+        let Columns {
+            columns,
+            false_at_zero,
+            sums,
+            touched,
+        } = self;
+        let met = are_met(cons, columns, false_at_zero, solution, sums, touched);
+        clear(sums, touched);
+        met
+    }
+}
+
+// ---- building
+
+// Whether the constraints repeat the objective's entries at most eight times as often as there are
+// variables and other entries.
+fn repeats_little(problem: &Problem) -> bool {
+    let objective = problem.objective();
+    let mut repeated: usize = 0;
+    let mut others = problem.names().len();
+    for named in problem.cons() {
+        let row = &named.item.row;
+        let entries = row.entries().len();
+        if row.is_same(objective) {
+            repeated = repeated.saturating_add(entries);
+        } else {
+            others = others.saturating_add(entries);
+        }
+    }
+    repeated / 8 <= others
+}
+
+fn columns_of(
+    alloc: Global,
+    variables: usize,
+    cons: &[Named<Constraint>],
+) -> Result<Vec<Vec<(u32, u32)>>, AllocError>
+    requires names { All (λ n. NamesBelow variables (at n.item.row)) cons.now }
+    requires room { length cons.now < 4294967296 }
+    ensures columns { IfOk result
+        (λ v. AreColumns (given_of cons.now) (length cons.now) v.items) }
+    ensures variables { IfOk result (λ v. length v.items ≡ variables) }
+{
+    let mut columns = empty_columns(alloc, variables)?;
+    for (index, named) in cons.iter().enumerate() {
+        add_row(&mut columns, index as u32, &named.item.row)?;
+    }
+    Ok(columns)
+}
+
+fn empty_columns(alloc: Global, variables: usize) -> Result<Vec<Vec<(u32, u32)>>, AllocError>
+    ensures empty { IfOk result (λ v. (cs : List Meant) → AreColumns cs 0 v.items) }
+    ensures variables { IfOk result (λ v. length v.items ≡ variables) }
+{
+    let mut columns = Vec::with_capacity(alloc, variables)?;
+    for _ in 0..variables {
+        columns.push(Vec::new(alloc))?;
+    }
+    Ok(columns)
+}
+
+// Adds the entries of a constraint to the columns of their variables.
+fn add_row(columns: &mut [Vec<(u32, u32)>], index: u32, row: &Row) -> Result<(), AllocError>
+    requires { NamesBelow (length columns.old) (at row.now) }
+    ensures { (cs : List Meant) → (nth cs index).row ≡ row.now → AreColumns cs index columns.old
+        → OnOk result (AreColumns cs (index + 1) columns.new) }
+{
+    for (place, entry) in row.entries().iter().enumerate() {
+        columns[entry.0 as usize].push((index, place as u32))?;
+    }
+    Ok(())
+}
+
+fn false_at_zero(alloc: Global, cons: &[Named<Constraint>]) -> Result<Vec<u32>, AllocError>
+    requires { length cons.now < 4294967296 }
+    ensures { IfOk result
+        (λ v. AreFalseAtZero (given_of cons.now) (length cons.now) v.items) }
+{
+    let mut indices = Vec::new(alloc);
+    for (index, named) in cons.iter().enumerate() {
+        if !compares(named.item.sense, Frac::zero(), named.item.rhs) {
+            indices.push(index as u32)?;
+        }
+    }
+    Ok(indices)
+}
+
+fn nothing_summed(alloc: Global, constraints: usize) -> Result<Vec<Option<Partial>>, AllocError>
+    ensures empty { IfOk result (λ v. (i : ℕ) → slice_index_or v.items i None ≡ None) }
+    ensures constraints { IfOk result (λ v. length v.items ≡ constraints) }
+{
+    let mut sums = Vec::with_capacity(alloc, constraints)?;
+    for _ in 0..constraints {
+        sums.push(None)?;
+    }
+    Ok(sums)
+}
+
+// ---- summing
+
+// Adds a solution to the sums, variable by variable. Nothing is told where a sum doesn't fit or
+// memory is refused.
+fn add_solution(
+    cons: &[Named<Constraint>],
+    columns: &[Vec<(u32, u32)>],
+    solution: &Solution,
+    sums: &mut [Option<Partial>],
+    touched: &mut Vec<u32>,
+) -> Option<()>
+    requires columns { AreColumns (given_of cons.now) (length cons.now) columns.now }
+    requires constraints { length sums.old ≡ length cons.now }
+    requires empty { (i : ℕ) → slice_index_or sums.old i None ≡ None }
+    requires listed { AreListed sums.old touched.old.items }
+    ensures sums { OnSome result (AreSums (given_of cons.now) (at solution.now.0)
+        (length columns.now) sums.new) }
+    ensures listed { AreListed sums.new touched.new.items }
+{
+    for (variable, coordinate) in solution.0.entries() {
+        let Some(column) = columns.get(*variable as usize) else {
+            return Some(());
+        };
+        add_column(cons, column, *coordinate, sums, touched)?;
+    }
+    Some(())
+}
+
+// Adds the multiple of a column to the sums.
+fn add_column(
+    cons: &[Named<Constraint>],
+    places: &[(u32, u32)],
+    coordinate: Frac,
+    sums: &mut [Option<Partial>],
+    touched: &mut Vec<u32>,
+) -> Option<()>
+    requires places { (j : ℕ) × ArePlaces (given_of cons.now) (length cons.now) j places.now }
+    requires constraints { length sums.old ≡ length cons.now }
+    requires listed { AreListed sums.old touched.old.items }
+    ensures sums { (j : ℕ) (x : Point)
+        → ArePlaces (given_of cons.now) (length cons.now) j places.now → x j ≡ coordinate
+        → AreSums (given_of cons.now) x j sums.old
+        → OnSome result (AreSums (given_of cons.now) x (j + 1) sums.new) }
+    ensures listed { AreListed sums.new touched.new.items }
+{
+    for (index, place) in places {
+        let coefficient = cons[*index as usize].item.row.entries()[*place as usize].1;
+        touch(sums, touched, *index)?;
+        add_term(&mut sums[*index as usize], coefficient, coordinate)?;
+    }
+    Some(())
+}
+
+// Lists a constraint as touched where nothing was summed yet.
+fn touch(sums: &[Option<Partial>], touched: &mut Vec<u32>, index: u32) -> Option<()>
+    requires within { index < length sums.now }
+    requires listed { AreListed sums.now touched.old.items }
+    ensures listed { AreListed sums.now touched.new.items }
+    ensures stands { OnSome result (StandsFrom (λ (j : ℕ). j) 0 0 touched.new.items index) }
+{
+    if sums[index as usize].is_none() {
+        touched.push(index).ok()?;
+    }
+    Some(())
+}
+
+// Adds a product to a sum.
+fn add_term(sum: &mut Option<Partial>, coefficient: Frac, coordinate: Frac) -> Option<()>
+    ensures fits { OnSome result (TermFits (unwrap_or sum.old zero_ℚ) coefficient coordinate) }
+    ensures sum { OnSome result (unwrap_or sum.new zero_ℚ
+        ≡ unwrap_or sum.old zero_ℚ +ℚ coefficient *ℚ coordinate) }
+{
+    match sum {
+        Some(sum) => sum.add_product(coefficient, coordinate).ok(),
+        None => {
+            let mut first = Partial::zero();
+            first.add_product(coefficient, coordinate).ok()?;
+            *sum = Some(first);
+            Some(())
+        }
+    }
+}
+
+// ---- testing
+
+// Whether all constraints are found to be met by a solution.
+fn are_met(
+    cons: &[Named<Constraint>],
+    columns: &[Vec<(u32, u32)>],
+    false_at_zero: &[u32],
+    solution: &Solution,
+    sums: &mut [Option<Partial>],
+    touched: &mut Vec<u32>,
+) -> bool
+    requires columns { AreColumns (given_of cons.now) (length cons.now) columns.now }
+    requires false_at_zero { AreFalseAtZero (given_of cons.now) (length cons.now)
+        false_at_zero.now }
+    requires constraints { length sums.old ≡ length cons.now }
+    requires empty { (i : ℕ) → slice_index_or sums.old i None ≡ None }
+    requires listed { AreListed sums.old touched.old.items }
+    ensures met { IsTrue result
+        → AreMet (given_of cons.now) (length columns.now) (at solution.now.0) }
+    ensures listed { AreListed sums.new touched.new.items }
+{
+    if add_solution(cons, columns, solution, sums, touched).is_none() {
+        return false;
+    }
+    all_summed(false_at_zero, sums) && all_true(cons, sums, touched)
+}
+
+// Whether something was summed for each of these constraints.
+fn all_summed(indices: &[u32], sums: &[Option<Partial>]) -> bool
+    requires { (k : ℕ) → k < length indices.now
+        → slice_index_or indices.now k 0 < length sums.now }
+    ensures { IsTrue result → (k : ℕ) → k < length indices.now
+        → slice_index_or sums.now (slice_index_or indices.now k 0) None ≢ None }
+{
+    for index in indices {
+        if sums[*index as usize].is_none() {
+            return false;
+        }
+    }
+    true
+}
+
+// Whether the touched constraints are true.
+fn all_true(cons: &[Named<Constraint>], sums: &[Option<Partial>], touched: &[u32]) -> bool
+    requires constraints { length sums.now ≡ length cons.now }
+    requires listed { AreListed sums.now touched.now }
+    ensures { IsTrue result → (k : ℕ) → k < length touched.now
+        → Compares (nth (given_of cons.now) (slice_index_or touched.now k 0)).sense
+        (unwrap_or (slice_index_or sums.now (slice_index_or touched.now k 0) None) zero_ℚ)
+        (nth (given_of cons.now) (slice_index_or touched.now k 0)).bound }
+{
+    for index in touched {
+        if !is_true(&cons[*index as usize].item, &sums[*index as usize]) {
+            return false;
+        }
+    }
+    true
+}
+
+// Whether a constraint is true where its row has this value.
+fn is_true(constraint: &Constraint, sum: &Option<Partial>) -> bool
+    ensures { IsTrue result → Compares (sense_of constraint.now.sense)
+        (unwrap_or sum.now zero_ℚ) constraint.now.rhs }
+{
+    match sum {
+        Some(sum) => compares(constraint.sense, sum.value(), constraint.rhs),
+        None => false,
+    }
+}
+
+// Forgets the sums.
+fn clear(sums: &mut [Option<Partial>], touched: &mut Vec<u32>)
+    requires { AreListed sums.old touched.old.items }
+    ensures empty { (i : ℕ) → slice_index_or sums.new i None ≡ None }
+    ensures untouched { length touched.new.items ≡ 0 }
+{
+    for index in touched.iter() {
+        sums[*index as usize] = None;
+    }
+    touched.clear();
+}
