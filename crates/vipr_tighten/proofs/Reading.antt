@@ -1,5 +1,5 @@
 -- A text item by item: what is found in what is left, once so much was read and kept
-use Rattle.std.proofs.Common.{◌≡◌, ◌≢◌, ℕ, zero, suc, ◌+◌, ◌<◌, ◌^◌, true, false, List, [], ◌∷◌, ◌++◌, length, None, Result, Ok, Err, inl, inr, arith, refl, sym, ◌∙◌, ap, subst, append-nil, append_assoc, length-append}
+use Rattle.std.proofs.Common.{◌≡◌, ◌≢◌, ℕ, zero, suc, ◌+◌, ◌<◌, ◌≤◌, ◌^◌, true, false, List, [], ◌∷◌, ◌++◌, length, None, Result, Ok, Err, inl, inr, arith, refl, sym, ◌∙◌, ap, subst, append-nil, append_assoc, length-append}
 use Rattle.std.specs.Prelude.{◌⊎◌, IsSome, IsErrAnd, All, Option, Some}
 use Rattle.vipr_spec.specs.Input.{Input}
 use Rattle.vipr_bytes.specs.Known.{text_of, IfKnown}
@@ -11,7 +11,7 @@ use Rattle.vipr_scan.specs.declared.error.TextError.{TextError}
 use Rattle.vipr_scan.specs.declared.error.TextError.TheVariants as text
 use Rattle.vipr_spec.specs.Constraint.{Profile, Row, at, NamesBelow, condition}
 use Rattle.vipr_spec.specs.Certificate.{Named, Problem, variables, Derivation, Certificate, MeetsPrimal, IsProof, count}
-use Rattle.vipr_spec.specs.Reading.{Rest, Read, Fault as ReadFault, refused, unread, problem_read, solution_read, derivations_read, derivation_read, end_read}
+use Rattle.vipr_spec.specs.Reading.{Rest, Read, Fault as ReadFault, refused, unread, problem_read, solution_read, derivations_read, derivation_read, end_read, most_count}
 use Rattle.vipr_spec.specs.Steps.{with_more, with_next, PassesStep, step_tests, FirstFailing}
 use Rattle.vipr_spec.specs.Tests.{spelled, of_solution, meets_primal, meets_dual, of_step, PassesSolution, solution_tests, none, step, no_proof, no_primal, solution_detail, goal_needed_by}
 use Rattle.vipr_spec.specs.Checking.{start}
@@ -294,15 +294,37 @@ finish_stops P c k l r e under end (h, halts, why) = subst (λ s. TellsWhy P (de
 pub among_start : (P : Profile) (p : Problem) (k : State) (r : Items) → k.progress.profile ≡ P → k.progress.problem ≡ p → HasSolutions [] k.progress → k.in_solutions ≡ true → k.halt ≡ None → Knows r p → r.failed ≡ false → r.left < 2 ^ 32 → IsAmong P p [] k r
 among_start P p k r under same has phase runs knows unspent room = record { profile = under; problem = same; has = has; phase = phase; runs = runs; knows = knows; unspent = unspent; room = omega arith }
 
-pub whole_shape : (P : Profile) (p : Problem) (ss : List (Named Row)) (ds : List Derivation) (r s : Items) (k l : State) → ProblemShape p → KeepsListed P p r ss k s → s.left ≡ 0 → All (SolutionShape r.variables) ss → Knows r p
-    → (t : Items) → Knows t p → KeepsWhole P (start p ss) t (with_more (start p ss) ds) l → All (DerivationShape t.variables) ds → CertificateShape (with_more (start p ss) ds)
-whole_shape P p ss ds r s k l problem listed all_read solutions knows t knew whole derivations = record {
+pub few_listed : (P : Profile) (p : Problem) (ss : List (Named Row)) (r s : Items) (k : State) → KeepsListed P p r ss k s → s.left ≡ 0 → length ss ≤ most_count
+few_listed P p ss r s k listed all_read = let room = listed.is_among.room in omega arith
+
+pub whole_shape : (P : Profile) (p : Problem) (ss : List (Named Row)) (ds : List Derivation) (l : State) → ProblemShape p → length ss ≤ most_count → (t : Items) → All (SolutionShape t.variables) ss → Knows t p
+    → KeepsWhole P (start p ss) t (with_more (start p ss) ds) l → All (DerivationShape t.variables) ds → CertificateShape (with_more (start p ss) ds)
+whole_shape P p ss ds l problem few t solutions knows whole derivations = record {
   problem = problem;
-  few_solutions = (let room = listed.is_among.room in omega arith);
+  few_solutions = few;
   solutions = subst (λ n. All (SolutionShape n) ss) knows.variables solutions;
   few_derivations = (let few = whole.few in omega arith);
-  derivations = subst (λ n. All (DerivationShape n) ds) knew.variables derivations;
+  derivations = subst (λ n. All (DerivationShape n) ds) knows.variables derivations;
 }
+
+module _ (P : Profile) (s : Certificate) (u : Items) (c : Certificate) (m n : State) (whole : KeepsWhole P s u c m) (known : IsSome u.rest) where
+  pub finish_tells : (e : Stop) → Finishes c m n (Err e) → TellsWhy P (derivations_left s u) (stop_reason e)
+  finish_tells e h =
+      let (end, ended, leads) = whole.leads known in
+      tells_by P (derivations_left s u) (derivations_from c 0 end) leads (stop_reason e) (finish_stops P c m n end e whole.profile ended h)
+
+  pub finish_found : (report : Report) → Finishes c m n (Ok report) → ((derivations_left s u).certificate ≡ c) × HasAnswer P (derivations_left s u) (verified (report_of report))
+  finish_found report h =
+      let (end, ended, leads) = whole.leads known in
+      let a = verified (report_of report) in
+      let proof = subst (λ Q. IsProof Q c) whole.profile h.0 in
+      let reports = subst (λ Q. Reports Q c (report_of report)) whole.profile h.1 in
+      (leads.same ∙ end_same c end, (none, leads.answers a none ((end_verified P a none c end ended proof.dual).1 ((report_of report, reports, refl), refl))))
+
+-- what is found in the second is found in the first
+pub proof_by : (P : Profile) (f g : Found) → LeadsTo P f g → (x : Result (Certificate × Report) Unproved) → TellsProof P g x → TellsProof P f x
+proof_by P f g leads (Ok x) h = (leads.same ∙ h.0, (h.1.0, leads.answers _ h.1.0 h.1.1))
+proof_by P f g leads (Err e) h = tells_by P f g leads e h
 
 module _ (P : Profile) (t : Rest) (p : Problem) (r : Items) (read : problem_read t ≡ Ok ((p, r.left), rest_of r.rest)) (known : IsSome r.rest) where
   to_solutions : LeadsTo P (found_in t) (solutions_left p [] r)
@@ -319,28 +341,10 @@ module _ (P : Profile) (t : Rest) (p : Problem) (r : Items) (read : problem_read
     end_tells e h = tells_by P (found_in t) (solutions_from p ss 0 (rest_of s.rest)) to_end e h
 
     module _ (l : State) (ends : EndsSolutions ss k l (Ok tt)) (u : Items) (count : derivations_read p (rest_of s.rest) ≡ Ok (u.left, rest_of u.rest)) (more : IsSome u.rest) where
-      to_derivations : LeadsTo P (found_in t) (derivations_left (start p ss) u)
+      pub to_derivations : LeadsTo P (found_in t) (derivations_left (start p ss) u)
       to_derivations =
           let met = ending_met p ss k l listed.is_among.problem ends in
           leads_on P (found_in t) (solutions_from p ss 0 (rest_of s.rest)) (derivations_left (start p ss) u) to_end (count_leads P p ss (rest_of s.rest) u.left (rest_of u.rest) met count)
-
-      pub derivations_tell : (e : Unproved) → TellsWhy P (derivations_left (start p ss) u) e → TellsWhy P (found_in t) e
-      derivations_tell e h = tells_by P (found_in t) (derivations_left (start p ss) u) to_derivations e h
-
-      module _ (c : Certificate) (m n : State) (whole : KeepsWhole P (start p ss) u c m) where
-        to_finish : LeadsTo P (found_in t) (derivations_from c 0 (whole.leads more).0)
-        to_finish = leads_on P (found_in t) (derivations_left (start p ss) u) (derivations_from c 0 (whole.leads more).0) to_derivations (whole.leads more).2
-
-        pub finish_tells : (e : Stop) → Finishes c m n (Err e) → TellsWhy P (found_in t) (stop_reason e)
-        finish_tells e h = tells_by P (found_in t) (derivations_from c 0 (whole.leads more).0) to_finish (stop_reason e) (finish_stops P c m n (whole.leads more).0 e whole.profile (whole.leads more).1 h)
-
-        pub finish_found : (report : Report) → Finishes c m n (Ok report) → ((found_in t).certificate ≡ c) × HasAnswer P (found_in t) (verified (report_of report))
-        finish_found report h =
-            let end = (whole.leads more).0 in
-            let a = verified (report_of report) in
-            let proof = subst (λ Q. IsProof Q c) whole.profile h.0 in
-            let reports = subst (λ Q. Reports Q c (report_of report)) whole.profile h.1 in
-            (to_finish.same ∙ end_same c end, (none, to_finish.answers a none ((end_verified P a none c end (whole.leads more).1 proof.dual).1 ((report_of report, reports, refl), refl))))
 
 -- ---- the answer
 

@@ -1,11 +1,12 @@
 //! Reads a certificate: each item is checked before the next one is read, and kept.
 
-ghost use Rattle.std.specs.Prelude.{◌≡◌, ◌≢◌, List, [], All, map, IfOk, IfErr, IsSome};
+ghost use Rattle.std.specs.Prelude.{◌≡◌, ◌≢◌, ◌≤◌, List, [], All, map, length, IfOk, IfErr, IsSome};
 ghost use Rattle.vipr_spec.specs.Constraint.{Profile as ProfileMeant, Row};
 ghost use Rattle.vipr_spec.specs.Certificate.{Named as NamedMeant, Problem as ProblemMeant};
 ghost use Rattle.vipr_spec.specs.Certificate.{IsProof};
 ghost use Rattle.vipr_spec.specs.Checking.{start};
-ghost use Rattle.vipr_spec.specs.Shape.{SolutionShape, DerivationShape};
+ghost use Rattle.vipr_spec.specs.Reading.{most_count};
+ghost use Rattle.vipr_spec.specs.Shape.{ProblemShape, SolutionShape, DerivationShape};
 ghost use Rattle.vipr_spec.specs.Soundness.{IsShown};
 ghost use Rattle.vipr_spec.specs.Steps.{with_more};
 ghost use Rattle.vipr_spec.specs.Verdict.{Reports, found_in};
@@ -86,10 +87,33 @@ pub(crate) fn read_proof<R: Source + Drop>(
     if let Err(stop) = checker.end_solutions() {
         return Err(stopped(stop));
     }
-    let mut derivations = match solutions.finish() {
-        Ok(derivations) => derivations,
-        Err(error) => return Err(unread(error)),
-    };
+    match solutions.finish() {
+        Ok(derivations) => read_rest(alloc, checker, listed, derivations),
+        Err(error) => Err(unread(error)),
+    }
+}
+
+// The proof that has these solutions, and the derivations that follow, and its report.
+fn read_rest<R: Source + Drop>(
+    alloc: Global,
+    mut checker: Checker<LiveOnly>,
+    listed: Vec<Named<Solution>>,
+    mut derivations: Derivations<R>,
+) -> Result<(Certificate, Report), Unproved>
+    requires few { length (map solution_of listed.items) ≤ most_count }
+    requires shape { All (SolutionShape derivations.variables) (map solution_of listed.items) }
+    requires begins { (P : ProfileMeant) × (p : ProblemMeant) × ProblemShape p
+        × IsAt P (start p (map solution_of listed.items)) checker derivations }
+    ensures proof { (P : ProfileMeant) (p : ProblemMeant)
+        → IsAt P (start p (map solution_of listed.items)) checker derivations
+        → IfOk result (λ x. IsProof P x.0 × Reports P x.0 (report_of x.1)
+        × IsShown x.0.problem x.0.solutions x.0.problem.claim) }
+    ensures found { (P : ProfileMeant) (p : ProblemMeant)
+        → IsAt P (start p (map solution_of listed.items)) checker derivations
+        → IsSome derivations.rest
+        → TellsProof P (derivations_left (start p (map solution_of listed.items)) derivations)
+        result }
+{
     let derived = read_derivations(alloc, &mut checker, &mut derivations)?;
     let report = match checker.finish() {
         Ok(report) => report,

@@ -1,17 +1,13 @@
-use Rattle.std.proofs.Common.{◌≡◌, Ok, Err, map, sym, ◌∙◌, ap, subst}
-use Rattle.vipr_spec.specs.Certificate.{Problem, Certificate, IsProof}
+use Rattle.std.proofs.Common.{Err, map, sym, ◌∙◌, subst}
+use Rattle.std.specs.List.{All}
 use Rattle.vipr_spec.specs.Checking.{start}
-use Rattle.vipr_spec.specs.Shape.{CertificateShape}
-use Rattle.vipr_spec.specs.Soundness.{IsShown}
-use Rattle.vipr_spec.specs.Steps.{with_more}
-use Rattle.vipr_spec.specs.Verdict.{Reports, found_in}
+use Rattle.vipr_spec.specs.Shape.{SolutionShape}
+use Rattle.vipr_spec.specs.Verdict.{found_in}
 use Rattle.vipr_scan.specs.Giving.{rest_of}
-use Rattle.vipr_cert.specs.Items.{certificate_with, solution_of, derivation_of}
+use Rattle.vipr_cert.specs.Items.{solution_of}
 use Rattle.vipr_rules.specs.Profile.{profile_of}
-use Rattle.vipr_check.specs.State.{State}
-use Rattle.vipr_check.specs.View.{report_of}
-use Rattle.vipr_tighten.specs.Keeping.{TellsWhy, stop_reason, text_reason}
-use Rattle.vipr_tighten.proofs.Reading.{memory_judges, judges_by, err_judges, problem_missing, among_start, solutions_tell, end_tells, ending_unmet, ending_unspent, ending_met, count_missing, at_start, knows_still, derivations_tell, finish_unspent, finish_tells, finish_found, whole_shape}
+use Rattle.vipr_tighten.specs.Keeping.{TellsWhy, stop_reason, text_reason, derivations_left}
+use Rattle.vipr_tighten.proofs.Reading.{memory_judges, judges_by, err_judges, proof_by, problem_missing, among_start, few_listed, solutions_tell, end_tells, ending_unmet, ending_unspent, ending_met, count_missing, at_start, knows_still, to_derivations}
 use Rattle.vipr_tighten.proofs.proof.read_proof.Goals as goal
 
 pub returns-in_err-reader-clause-found : goal.returns-in_err-reader-clause-found
@@ -102,108 +98,8 @@ returns-in-Err-finish-clause-found g c =
     (end_tells P (rest_of reader) p r read.0 read.1 ss k s listed c.in_ok-listed.ensures.none (text_reason c.in-Err-finish.error)
     (count_missing P p ss (rest_of s.rest) c.in-Err-finish.error (ending_met p ss k c.end_solutions.new.self listed.is_among.problem ends) (c.in-Err-finish.ensures.read p listed.is_among.knows (listed.known read.1)))))
 
-pub read_derivations-requires : goal.read_derivations-requires
-read_derivations-requires g c =
-    let P = profile_of c.args.profile in
-    let p = c.in-Ok.read.0 in
-    let r = c.in-Ok.read.1 in
-    let e = c.in_ok-checker.ensures in
-    let among = among_start P p c.in_ok-checker.checker r e.profile e.problem e.start e.phase e.runs c.in-Ok.ensures.knows c.in-Ok.ensures.working c.in-Ok.ensures.counted in
-    let ss = map solution_of c.in_ok-listed.listed.items in
-    let k = c.read_solutions.new.checker in
-    let s = c.read_solutions.new.solutions in
-    let listed = c.in_ok-listed.ensures.kept P p among in
-    let ends = c.in_default.ensures.next ss listed.is_among.runs listed.is_among.has in
-    let f = c.in-Ok-finish.ensures in
-    let u = c.in-Ok-finish.derivations in
-    (P, p, ss, at_start P p ss k c.end_solutions.new.self s listed.is_among ends u (knows_still p s u listed.is_among.knows f.remembers) f.working f.counted)
-
-pub returns-in_err-derived-clause-found : goal.returns-in_err-derived-clause-found
-returns-in_err-derived-clause-found g c =
-    let P = profile_of c.args.profile in
-    let reader = c.in_ok-reader.reader in
-    let p = c.in-Ok.read.0 in
-    let r = c.in-Ok.read.1 in
-    let e = c.in_ok-checker.ensures in
-    let among = among_start P p c.in_ok-checker.checker r e.profile e.problem e.start e.phase e.runs c.in-Ok.ensures.knows c.in-Ok.ensures.working c.in-Ok.ensures.counted in
-    let ss = map solution_of c.in_ok-listed.listed.items in
-    let k = c.read_solutions.new.checker in
-    let s = c.read_solutions.new.solutions in
-    let l = c.end_solutions.new.self in
-    let listed = c.in_ok-listed.ensures.kept P p among in
-    let ends = c.in_default.ensures.next ss listed.is_among.runs listed.is_among.has in
-    let f = c.in-Ok-finish.ensures in
-    let u = c.in-Ok-finish.derivations in
-    let at = at_start P p ss k l s listed.is_among ends u (knows_still p s u listed.is_among.knows f.remembers) f.working f.counted in
-    judges_by P (g.R.Source.input c.args.source) reader c.from_residual-in_err-derived.result c.in_ok-reader.ensures
-    (λ known.
-    let read = c.in-Ok.ensures.read known in
-    let count = f.read p listed.is_among.knows (listed.known read.1) in
-    err_judges P (found_in (rest_of reader)) c.from_residual-in_err-derived.result c.in_err-derived.field-0.0 c.from_residual-in_err-derived.ensures.1
-    (derivations_tell P (rest_of reader) p r read.0 read.1 ss k s listed c.in_ok-listed.ensures.none l ends u count.0 count.1 c.in_err-derived.field-0.0 (c.in_err-derived.ensures.unproved P p ss at count.1)))
-
-pub finish-requires-2 : goal.finish-requires-2
-finish-requires-2 g c =
-    let P = profile_of c.args.profile in
-    let p = c.in-Ok.read.0 in
-    let r = c.in-Ok.read.1 in
-    let e = c.in_ok-checker.ensures in
-    let among = among_start P p c.in_ok-checker.checker r e.profile e.problem e.start e.phase e.runs c.in-Ok.ensures.knows c.in-Ok.ensures.working c.in-Ok.ensures.counted in
-    let ss = map solution_of c.in_ok-listed.listed.items in
-    let k = c.read_solutions.new.checker in
-    let s = c.read_solutions.new.solutions in
-    let listed = c.in_ok-listed.ensures.kept P p among in
-    let ends = c.in_default.ensures.next ss listed.is_among.runs listed.is_among.has in
-    let f = c.in-Ok-finish.ensures in
-    let u = c.in-Ok-finish.derivations in
-    (c.in_ok-derived.ensures.kept P p ss (at_start P p ss k c.end_solutions.new.self s listed.is_among ends u (knows_still p s u listed.is_among.knows f.remembers) f.working f.counted)).phase
-
-pub stopped-requires-in-Err-finish-2 : goal.stopped-requires-in-Err-finish-2
-stopped-requires-in-Err-finish-2 g c =
-    let P = profile_of c.args.profile in
-    let p = c.in-Ok.read.0 in
-    let r = c.in-Ok.read.1 in
-    let e = c.in_ok-checker.ensures in
-    let among = among_start P p c.in_ok-checker.checker r e.profile e.problem e.start e.phase e.runs c.in-Ok.ensures.knows c.in-Ok.ensures.working c.in-Ok.ensures.counted in
-    let ss = map solution_of c.in_ok-listed.listed.items in
-    let k = c.read_solutions.new.checker in
-    let s = c.read_solutions.new.solutions in
-    let listed = c.in_ok-listed.ensures.kept P p among in
-    let ends = c.in_default.ensures.next ss listed.is_among.runs listed.is_among.has in
-    let f = c.in-Ok-finish.ensures in
-    let u = c.in-Ok-finish.derivations in
-    let whole = c.in_ok-derived.ensures.kept P p ss (at_start P p ss k c.end_solutions.new.self s listed.is_among ends u (knows_still p s u listed.is_among.knows f.remembers) f.working f.counted) in
-    let d = with_more (start p ss) (map derivation_of c.in_ok-derived.derived.items) in
-    finish_unspent d c.read_derivations.new.checker c.finish-2.new.self c.in-Err-finish-2.stop (c.in-Err-finish-2.ensures.next d whole.runs whole.has)
-
-pub returns-in-Err-finish-2-clause-found : goal.returns-in-Err-finish-2-clause-found
-returns-in-Err-finish-2-clause-found g c =
-    let P = profile_of c.args.profile in
-    let reader = c.in_ok-reader.reader in
-    let p = c.in-Ok.read.0 in
-    let r = c.in-Ok.read.1 in
-    let e = c.in_ok-checker.ensures in
-    let among = among_start P p c.in_ok-checker.checker r e.profile e.problem e.start e.phase e.runs c.in-Ok.ensures.knows c.in-Ok.ensures.working c.in-Ok.ensures.counted in
-    let ss = map solution_of c.in_ok-listed.listed.items in
-    let k = c.read_solutions.new.checker in
-    let s = c.read_solutions.new.solutions in
-    let l = c.end_solutions.new.self in
-    let listed = c.in_ok-listed.ensures.kept P p among in
-    let ends = c.in_default.ensures.next ss listed.is_among.runs listed.is_among.has in
-    let f = c.in-Ok-finish.ensures in
-    let u = c.in-Ok-finish.derivations in
-    let whole = c.in_ok-derived.ensures.kept P p ss (at_start P p ss k l s listed.is_among ends u (knows_still p s u listed.is_among.knows f.remembers) f.working f.counted) in
-    let d = with_more (start p ss) (map derivation_of c.in_ok-derived.derived.items) in
-    let m = c.read_derivations.new.checker in
-    judges_by P (g.R.Source.input c.args.source) reader (Err c.stopped-in-Err-finish-2.result) c.in_ok-reader.ensures
-    (λ known.
-    let read = c.in-Ok.ensures.read known in
-    let count = f.read p listed.is_among.knows (listed.known read.1) in
-    subst (TellsWhy P (found_in (rest_of reader))) (sym c.stopped-in-Err-finish-2.ensures)
-    (finish_tells P (rest_of reader) p r read.0 read.1 ss k s listed c.in_ok-listed.ensures.none l ends u count.0 count.1 d m c.finish-2.new.self whole c.in-Err-finish-2.stop (c.in-Err-finish-2.ensures.next d whole.runs whole.has)))
-
-pub unreachable-requires : goal.unreachable-requires
-unreachable-requires g c =
+pub read_rest-requires-clause-few : goal.read_rest-requires-clause-few
+read_rest-requires-clause-few g c =
     let P = profile_of c.args.profile in
     let p = c.in-Ok.read.0 in
     let r = c.in-Ok.read.1 in
@@ -217,18 +113,11 @@ unreachable-requires g c =
     let f = c.in-Ok-finish.ensures in
     let u = c.in-Ok-finish.derivations in
     let knows = knows_still p s u listed.is_among.knows f.remembers in
-    let whole = c.in_ok-derived.ensures.kept P p ss (at_start P p ss k c.end_solutions.new.self s listed.is_among ends u knows f.working f.counted) in
-    let ds = map derivation_of c.in_ok-derived.derived.items in
-    let d = with_more (start p ss) ds in
-    let m = c.read_derivations.new.checker in
-    let done = c.in-Ok-finish-2.ensures.next d whole.runs whole.has in
-    let same : c.into_problem.result ≡ p = c.into_problem.ensures ∙ ap (λ (v : State). v.progress.problem) done.3 ∙ sym whole.has.problem in
-    let shape = whole_shape P p ss ds r s k m c.in-Ok.ensures.shape listed c.in_ok-listed.ensures.none c.in_ok-listed.ensures.shape c.in-Ok.ensures.knows u knows whole c.in_ok-derived.ensures.shape in
-    let bad = c.in-Err-new.ensures.shape.1 (subst (λ (q : Problem). CertificateShape (certificate_with q c.in_ok-listed.listed.items c.in_ok-derived.derived.items)) (sym same) shape) in
-    cc
+    let at = at_start P p ss k c.end_solutions.new.self s listed.is_among ends u knows f.working f.counted in
+    few_listed P p ss r s k listed c.in_ok-listed.ensures.none
 
-pub returns-clause-proof : goal.returns-clause-proof
-returns-clause-proof g c =
+pub read_rest-requires-clause-shape : goal.read_rest-requires-clause-shape
+read_rest-requires-clause-shape g c =
     let P = profile_of c.args.profile in
     let p = c.in-Ok.read.0 in
     let r = c.in-Ok.read.1 in
@@ -241,38 +130,67 @@ returns-clause-proof g c =
     let ends = c.in_default.ensures.next ss listed.is_among.runs listed.is_among.has in
     let f = c.in-Ok-finish.ensures in
     let u = c.in-Ok-finish.derivations in
-    let whole = c.in_ok-derived.ensures.kept P p ss (at_start P p ss k c.end_solutions.new.self s listed.is_among ends u (knows_still p s u listed.is_among.knows f.remembers) f.working f.counted) in
-    let d = with_more (start p ss) (map derivation_of c.in_ok-derived.derived.items) in
-    let done = c.in-Ok-finish-2.ensures.next d whole.runs whole.has in
-    let same : c.into_problem.result ≡ p = c.into_problem.ensures ∙ ap (λ (v : State). v.progress.problem) done.3 ∙ sym whole.has.problem in
-    let is : c.in-Ok-new.certificate ≡ d = c.in-Ok-new.ensures.parts ∙ ap (λ (q : Problem). certificate_with q c.in_ok-listed.listed.items c.in_ok-derived.derived.items) same in
-    subst (λ (x : Certificate). IsProof P x × Reports P x (report_of c.in-Ok-finish-2.report) × IsShown x.problem x.solutions x.problem.claim) (sym is) (subst (λ Q. IsProof Q d) whole.profile done.0, subst (λ Q. Reports Q d (report_of c.in-Ok-finish-2.report)) whole.profile done.1, done.2)
+    let knows = knows_still p s u listed.is_among.knows f.remembers in
+    let at = at_start P p ss k c.end_solutions.new.self s listed.is_among ends u knows f.working f.counted in
+    subst (λ n. All (SolutionShape n) ss) (c.in-Ok.ensures.knows.variables ∙ sym knows.variables) c.in_ok-listed.ensures.shape
 
-pub returns-clause-found : goal.returns-clause-found
-returns-clause-found g c =
+pub read_rest-requires-clause-begins : goal.read_rest-requires-clause-begins
+read_rest-requires-clause-begins g c =
     let P = profile_of c.args.profile in
+    let p = c.in-Ok.read.0 in
+    let r = c.in-Ok.read.1 in
+    let e = c.in_ok-checker.ensures in
+    let among = among_start P p c.in_ok-checker.checker r e.profile e.problem e.start e.phase e.runs c.in-Ok.ensures.knows c.in-Ok.ensures.working c.in-Ok.ensures.counted in
+    let ss = map solution_of c.in_ok-listed.listed.items in
+    let k = c.read_solutions.new.checker in
+    let s = c.read_solutions.new.solutions in
+    let listed = c.in_ok-listed.ensures.kept P p among in
+    let ends = c.in_default.ensures.next ss listed.is_among.runs listed.is_among.has in
+    let f = c.in-Ok-finish.ensures in
+    let u = c.in-Ok-finish.derivations in
+    let knows = knows_still p s u listed.is_among.knows f.remembers in
+    let at = at_start P p ss k c.end_solutions.new.self s listed.is_among ends u knows f.working f.counted in
+    (P, p, c.in-Ok.ensures.shape, at)
+
+pub returns-in-Ok-finish-clause-proof : goal.returns-in-Ok-finish-clause-proof
+returns-in-Ok-finish-clause-proof g c =
+    let P = profile_of c.args.profile in
+    let p = c.in-Ok.read.0 in
+    let r = c.in-Ok.read.1 in
+    let e = c.in_ok-checker.ensures in
+    let among = among_start P p c.in_ok-checker.checker r e.profile e.problem e.start e.phase e.runs c.in-Ok.ensures.knows c.in-Ok.ensures.working c.in-Ok.ensures.counted in
+    let ss = map solution_of c.in_ok-listed.listed.items in
+    let k = c.read_solutions.new.checker in
+    let s = c.read_solutions.new.solutions in
+    let listed = c.in_ok-listed.ensures.kept P p among in
+    let ends = c.in_default.ensures.next ss listed.is_among.runs listed.is_among.has in
+    let f = c.in-Ok-finish.ensures in
+    let u = c.in-Ok-finish.derivations in
+    let knows = knows_still p s u listed.is_among.knows f.remembers in
+    let at = at_start P p ss k c.end_solutions.new.self s listed.is_among ends u knows f.working f.counted in
+    c.read_rest.ensures.proof P p at
+
+pub returns-in-Ok-finish-clause-found : goal.returns-in-Ok-finish-clause-found
+returns-in-Ok-finish-clause-found g c =
+    let P = profile_of c.args.profile in
+    let p = c.in-Ok.read.0 in
+    let r = c.in-Ok.read.1 in
+    let e = c.in_ok-checker.ensures in
+    let among = among_start P p c.in_ok-checker.checker r e.profile e.problem e.start e.phase e.runs c.in-Ok.ensures.knows c.in-Ok.ensures.working c.in-Ok.ensures.counted in
+    let ss = map solution_of c.in_ok-listed.listed.items in
+    let k = c.read_solutions.new.checker in
+    let s = c.read_solutions.new.solutions in
+    let listed = c.in_ok-listed.ensures.kept P p among in
+    let ends = c.in_default.ensures.next ss listed.is_among.runs listed.is_among.has in
+    let f = c.in-Ok-finish.ensures in
+    let u = c.in-Ok-finish.derivations in
+    let knows = knows_still p s u listed.is_among.knows f.remembers in
+    let at = at_start P p ss k c.end_solutions.new.self s listed.is_among ends u knows f.working f.counted in
     let reader = c.in_ok-reader.reader in
-    let p = c.in-Ok.read.0 in
-    let r = c.in-Ok.read.1 in
-    let e = c.in_ok-checker.ensures in
-    let among = among_start P p c.in_ok-checker.checker r e.profile e.problem e.start e.phase e.runs c.in-Ok.ensures.knows c.in-Ok.ensures.working c.in-Ok.ensures.counted in
-    let ss = map solution_of c.in_ok-listed.listed.items in
-    let k = c.read_solutions.new.checker in
-    let s = c.read_solutions.new.solutions in
-    let l = c.end_solutions.new.self in
-    let listed = c.in_ok-listed.ensures.kept P p among in
-    let ends = c.in_default.ensures.next ss listed.is_among.runs listed.is_among.has in
-    let f = c.in-Ok-finish.ensures in
-    let u = c.in-Ok-finish.derivations in
-    let whole = c.in_ok-derived.ensures.kept P p ss (at_start P p ss k l s listed.is_among ends u (knows_still p s u listed.is_among.knows f.remembers) f.working f.counted) in
-    let d = with_more (start p ss) (map derivation_of c.in_ok-derived.derived.items) in
-    let m = c.read_derivations.new.checker in
-    let done = c.in-Ok-finish-2.ensures.next d whole.runs whole.has in
-    let same : c.into_problem.result ≡ p = c.into_problem.ensures ∙ ap (λ (v : State). v.progress.problem) done.3 ∙ sym whole.has.problem in
-    let is : c.in-Ok-new.certificate ≡ d = c.in-Ok-new.ensures.parts ∙ ap (λ (q : Problem). certificate_with q c.in_ok-listed.listed.items c.in_ok-derived.derived.items) same in
-    judges_by P (g.R.Source.input c.args.source) reader (Ok (c.in-Ok-new.certificate, c.in-Ok-finish-2.report)) c.in_ok-reader.ensures
+    judges_by P (g.R.Source.input c.args.source) reader c.read_rest.result c.in_ok-reader.ensures
     (λ known.
     let read = c.in-Ok.ensures.read known in
     let count = f.read p listed.is_among.knows (listed.known read.1) in
-    let found = finish_found P (rest_of reader) p r read.0 read.1 ss k s listed c.in_ok-listed.ensures.none l ends u count.0 count.1 d m c.finish-2.new.self whole c.in-Ok-finish-2.report done in
-    (found.0 ∙ sym is, found.1))
+    proof_by P (found_in (rest_of reader)) (derivations_left (start p ss) u)
+    (to_derivations P (rest_of reader) p r read.0 read.1 ss k s listed c.in_ok-listed.ensures.none c.end_solutions.new.self ends u count.0 count.1) c.read_rest.result
+    (c.read_rest.ensures.found P p at count.1))
