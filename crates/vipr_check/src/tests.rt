@@ -13,7 +13,7 @@ use std::cell::Cell;
 use std::process::Abort;
 use std::test::Fail;
 use vipr_bytes::{Bytes, Failed, Source};
-use vipr_read::CertReader;
+use vipr_read::{CertReader, Derivations, Solutions};
 use vipr_rules::{KeepAll, LiveOnly};
 use vipr_scan::TextError;
 
@@ -326,30 +326,27 @@ fn long_names_are_read_as_they_are_needed(rt: HostRuntime) -> Result<(), Fail> {
     Ok(())
 }
 
-/// Each reader stops behind its item, and the last one at the end.
-#[test]
-fn readers_stop_behind_their_items(rt: HostRuntime) -> Result<(), Fail> {
-    let alloc = rt.alloc();
-    let reads = Cell::new(0);
-    let reader = CertReader::new(
-        alloc,
-        Counting {
-            left: SOLVED,
-            piece: 1,
-            fails: false,
-            reads: &reads,
-        },
-    )?;
-    assert_eq!(rt; reads.get(), 0);
-    let (_, mut solutions) = reader.read_problem(alloc)?;
-    assert_eq!(rt; reads.get(), 73);
+// The only solution is read, and then nothing.
+fn stops_behind_solutions(
+    rt: &impl Abort,
+    alloc: Global,
+    reads: &Cell<usize>,
+    solutions: &mut Solutions<Counting<'_>>,
+) -> Result<(), Fail> {
     assert!(rt; solutions.next(alloc)?.is_some());
     assert_eq!(rt; reads.get(), 81);
     assert!(rt; solutions.next(alloc)?.is_none());
-    assert_eq!(rt; solutions.left(), 0);
     assert_eq!(rt; reads.get(), 81);
-    let mut derivations = solutions.finish()?;
-    assert_eq!(rt; reads.get(), 87);
+    Ok(())
+}
+
+// The only derivation is read, and then the end, once.
+fn stops_behind_derivations(
+    rt: &impl Abort,
+    alloc: Global,
+    reads: &Cell<usize>,
+    derivations: &mut Derivations<Counting<'_>>,
+) -> Result<(), Fail> {
     assert!(rt; derivations.next(alloc)?.is_some());
     assert_eq!(rt; reads.get(), 110);
     for _ in 0..2 {
@@ -357,6 +354,28 @@ fn readers_stop_behind_their_items(rt: HostRuntime) -> Result<(), Fail> {
         assert_eq!(rt; reads.get(), 111);
     }
     Ok(())
+}
+
+/// Each reader stops behind its item, and the last one at the end.
+#[test]
+fn readers_stop_behind_their_items(rt: HostRuntime) -> Result<(), Fail> {
+    let alloc = rt.alloc();
+    let reads = Cell::new(0);
+    let source = Counting {
+        left: SOLVED,
+        piece: 1,
+        fails: false,
+        reads: &reads,
+    };
+    let reader = CertReader::new(alloc, source)?;
+    assert_eq!(rt; reads.get(), 0);
+    let (_, mut solutions) = reader.read_problem(alloc)?;
+    assert_eq!(rt; reads.get(), 73);
+    stops_behind_solutions(&rt, alloc, &reads, &mut solutions)?;
+    assert_eq!(rt; solutions.left(), 0);
+    let mut derivations = solutions.finish()?;
+    assert_eq!(rt; reads.get(), 87);
+    stops_behind_derivations(&rt, alloc, &reads, &mut derivations)
 }
 
 /// A reader whose source failed reads no more.

@@ -2,12 +2,11 @@
 
 use super::{BRANCHES, BRANCHES_AND_MORE, MIXED, UNPROVED, UNSOLVED};
 use crate::{Checker, Place, Refusal, Stop};
-use std::alloc::Global;
-use std::process::Abort;
+use std::alloc::{AllocError, Global};
 use std::test::Fail;
 use vipr_bytes::Bytes;
 use vipr_cert::Derivation;
-use vipr_read::{CertReader, Derivations};
+use vipr_read::read_certificate;
 use vipr_rules::{KeepAll, LiveOnly, Rows};
 
 // The calls behind the solutions, each made where it may be, and else without a refusal.
@@ -44,48 +43,65 @@ fn finish<S: Rows>(checker: &mut Checker<S>) -> Result<(), Stop> {
     }
 }
 
-// A checker and the reader of the derivations, where no solution is listed.
-fn at_derivations<S: Rows>(
+type Answer = (Result<(), Stop>, usize);
+
+// What is answered to each derivation and to the end, and how many constraints are held then.
+fn answers<S: Rows>(
     alloc: Global,
-    text: &'static [u8],
-) -> Result<(Checker<S>, Derivations<Bytes<'static>>), Fail> {
-    let (problem, solutions) = CertReader::new(alloc, Bytes::new(text))?.read_problem(alloc)?;
-    let mut checker = Checker::new(alloc, problem)?;
-    if solutions.left() > 0 || end_solutions(&mut checker).is_err() {
-        return Err(Fail::from("a solution is needed"));
+    checker: &mut Checker<S>,
+    derivations: &[Derivation],
+) -> Result<Vec<Answer>, AllocError> {
+    let mut answers = Vec::new(alloc);
+    for step in derivations {
+        let answer = derivation(alloc, checker, step);
+        answers.push((answer, checker.held()))?;
     }
-    Ok((checker, solutions.finish()?))
+    let answer = finish(checker);
+    answers.push((answer, checker.held()))?;
+    Ok(answers)
 }
 
-// How many constraints are held after each of the first six derivations.
-fn held<S: Rows>(alloc: Global, text: &'static [u8]) -> Result<Vec<usize>, Fail> {
-    let (mut checker, mut derivations) = at_derivations::<S>(alloc, text)?;
+// The same where all was answered so many times before.
+fn answers_after<S: Rows>(
+    alloc: Global,
+    checker: &mut Checker<S>,
+    derivations: &[Derivation],
+    times: u32,
+) -> Result<Vec<Answer>, AllocError> {
+    for _ in 0..times {
+        answers(alloc, checker, derivations)?;
+    }
+    answers(alloc, checker, derivations)
+}
+
+// The same behind the solutions of a certificate that lists none.
+fn answers_to<S: Rows>(alloc: Global, text: &[u8], times: u32) -> Result<Vec<Answer>, Fail> {
+    let (problem, _, derivations) = read_certificate(alloc, Bytes::new(text))?.into_parts();
+    let mut checker: Checker<S> = Checker::new(alloc, problem)?;
+    let _ = end_solutions(&mut checker);
+    Ok(answers_after(alloc, &mut checker, derivations.as_slice(), times)?)
+}
+
+fn held<S: Rows>(alloc: Global, text: &[u8]) -> Result<Vec<usize>, Fail> {
     let mut held = Vec::new(alloc);
-    for _ in 0..6 {
-        if let Some(step) = derivations.next(alloc)? {
-            if derivation(alloc, &mut checker, &step).is_ok() {
-                held.push(checker.held())?;
-            }
-        }
+    for (_, number) in answers_to::<S>(alloc, text, 0)?.iter() {
+        held.push(*number)?;
     }
     Ok(held)
-}
-
-fn holds<S: Rows>(rt: &impl Abort, alloc: Global) -> Result<(), Fail> {
-    assert_eq!(rt;
-        held::<S>(alloc, BRANCHES)?.as_slice(),
-        [1, 2, 3, 4, 3].as_slice()
-    );
-    let all = held::<S>(alloc, BRANCHES_AND_MORE)?;
-    assert_eq!(rt; all.as_slice(), [1, 2, 3, 4, 5, 6].as_slice());
-    Ok(())
 }
 
 /// The assumptions stay to the end, and any table says how many are not forgotten.
 #[test]
 fn what_may_be_referred_to_is_held(rt: HostRuntime) -> Result<(), Fail> {
-    holds::<LiveOnly>(&rt, rt.alloc())?;
-    holds::<KeepAll>(&rt, rt.alloc())
+    let alloc = rt.alloc();
+    for (text, wanted) in [
+        (BRANCHES, [1, 2, 3, 4, 3, 3].as_slice()),
+        (BRANCHES_AND_MORE, [1, 2, 3, 4, 5, 6, 6].as_slice()),
+    ] {
+        assert_eq!(rt; held::<LiveOnly>(alloc, text)?.as_slice(), wanted);
+        assert_eq!(rt; held::<KeepAll>(alloc, text)?.as_slice(), wanted);
+    }
+    Ok(())
 }
 
 fn refused(cause: u8, place: Place) -> Result<(), Stop> {
@@ -93,40 +109,37 @@ fn refused(cause: u8, place: Place) -> Result<(), Stop> {
 }
 
 #[test]
-fn a_refused_derivation_is_answered_again(rt: HostRuntime) -> Result<(), Fail> {
+fn refusals_are_answered_again(rt: HostRuntime) -> Result<(), Fail> {
     let alloc = rt.alloc();
-    let (mut checker, mut derivations) = at_derivations::<LiveOnly>(alloc, MIXED)?;
-    let step = derivations.next(alloc)?.ok_or("no derivation")?;
-    let refusal = refused(34, Place::Der(2));
-    for _ in 0..2 {
-        assert_eq!(rt; derivation(alloc, &mut checker, &step), refusal);
-        assert_eq!(rt; finish(&mut checker), refusal);
+    let derived = (refused(34, Place::Der(2)), 0);
+    let ended = (refused(51, Place::End), 0);
+    for (text, wanted) in [
+        (MIXED, [derived, derived].as_slice()),
+        (UNPROVED, [ended].as_slice()),
+    ] {
+        for times in 0..3 {
+            let answers = answers_to::<LiveOnly>(alloc, text, times)?;
+            assert_eq!(rt; answers.as_slice(), wanted);
+        }
     }
     Ok(())
 }
 
-#[test]
-fn a_refused_end_is_answered_again(rt: HostRuntime) -> Result<(), Fail> {
-    let alloc = rt.alloc();
-    let (mut checker, _) = at_derivations::<LiveOnly>(alloc, UNPROVED)?;
-    for _ in 0..2 {
-        assert_eq!(rt; finish(&mut checker), refused(51, Place::End));
-    }
-    Ok(())
+fn answers_to_solution(alloc: Global, text: &[u8]) -> Result<[Result<(), Stop>; 3], Fail> {
+    let (problem, solutions, _) = read_certificate(alloc, Bytes::new(text))?.into_parts();
+    let mut checker: Checker<LiveOnly> = Checker::new(alloc, problem)?;
+    let first = match solutions.first() {
+        Some(solution) => checker.solution(solution),
+        None => Ok(()),
+    };
+    let second = end_solutions(&mut checker);
+    Ok([first, second, end_solutions(&mut checker)])
 }
 
 #[test]
 fn a_refused_solution_is_answered_again(rt: HostRuntime) -> Result<(), Fail> {
-    let alloc = rt.alloc();
-    let (problem, mut solutions) = CertReader::new(alloc, Bytes::new(UNSOLVED))?.read_problem(
-        alloc,
-    )?;
-    let solution = solutions.next(alloc)?.ok_or("no solution")?;
-    let mut checker: Checker<LiveOnly> = Checker::new(alloc, problem)?;
     let refusal = refused(22, Place::Sol(0));
-    assert_eq!(rt; checker.solution(&solution), refusal);
-    for _ in 0..2 {
-        assert_eq!(rt; end_solutions(&mut checker), refusal);
-    }
+    let answers = answers_to_solution(rt.alloc(), UNSOLVED)?;
+    assert_eq!(rt; answers, [refusal, refusal, refusal]);
     Ok(())
 }
