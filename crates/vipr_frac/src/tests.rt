@@ -1,5 +1,6 @@
 use crate::frac::{Frac, FracError, Overflow};
 use crate::number::NumberError;
+use crate::partial::Partial;
 use std::cmp::Ordering;
 use std::hash::{DefaultHasher, Hash, Hasher};
 use std::process::Abort;
@@ -47,6 +48,32 @@ fn products(rt: HostRuntime) {
         frac(&rt, -6, 35).mul(frac(&rt, 14, 15)),
         Ok(frac(&rt, -4, 25))
     );
+}
+
+#[test]
+fn partial_sums(rt: HostRuntime) {
+    let mut sum = Partial::zero();
+    for (multiplier, coefficient, want) in [
+        ((1, 2), (1, 3), Ok((1, 6))),
+        ((5, 1), (1, 12), Ok((7, 12))),
+        ((-7, 12), (1, 1), Ok((0, 1))),
+        ((M, 1), (1, 1), Ok((M, 1))),
+        ((1, 1), (1, 1), Err(Overflow)),
+        ((-M, 1), (1, 1), Ok((0, 1))),
+        ((1, 6), (1, 10), Ok((1, 60))),
+        ((1, 9), (1, 10), Ok((1, 36))),
+    ] {
+        let (p, q) = multiplier;
+        let (r, s) = coefficient;
+        let added = sum.add_product(frac(&rt, p, q), frac(&rt, r, s));
+        match want {
+            Ok((p, q)) => {
+                assert_eq!(rt; added, Ok(()));
+                assert_eq!(rt; sum.value(), frac(&rt, p, q));
+            }
+            Err(error) => assert_eq!(rt; added, Err(error)),
+        }
+    }
 }
 
 #[test]
