@@ -106,20 +106,41 @@ fn columns_of(
         (λ v. AreColumns (given_of cons.now) (length cons.now) v.items) }
     ensures variables { IfOk result (λ v. length v.items ≡ variables) }
 {
-    let mut columns = empty_columns(alloc, variables)?;
+    let counts = entry_counts(alloc, variables, cons)?;
+    let mut columns = empty_columns(alloc, &counts)?;
     for (index, named) in cons.iter().enumerate() {
         add_row(&mut columns, index as u32, &named.item.row)?;
     }
     Ok(columns)
 }
 
-fn empty_columns(alloc: Global, variables: usize) -> Result<Vec<Vec<(u32, u32)>>, AllocError>
-    ensures empty { IfOk result (λ v. (cs : List Meant) → AreColumns cs 0 v.items) }
-    ensures variables { IfOk result (λ v. length v.items ≡ variables) }
+// How many entries each column will have.
+fn entry_counts(
+    alloc: Global,
+    variables: usize,
+    cons: &[Named<Constraint>],
+) -> Result<Vec<u32>, AllocError>
+    ensures { IfOk result (λ v. length v.items ≡ variables) }
 {
-    let mut columns = Vec::with_capacity(alloc, variables)?;
-    for _ in 0..variables {
-        columns.push(Vec::new(alloc))?;
+    let mut counts = vec![in alloc; 0; variables]?;
+    for named in cons {
+        for (variable, _) in named.item.row.entries() {
+            if let Some(count) = counts.get_mut(*variable as usize) {
+                *count = u32::saturating_add(*count, 1);
+            }
+        }
+    }
+    Ok(counts)
+}
+
+// Empty columns with room for so many entries.
+fn empty_columns(alloc: Global, counts: &[u32]) -> Result<Vec<Vec<(u32, u32)>>, AllocError>
+    ensures empty { IfOk result (λ v. (cs : List Meant) → AreColumns cs 0 v.items) }
+    ensures variables { IfOk result (λ v. length v.items ≡ length counts.now) }
+{
+    let mut columns = Vec::with_capacity(alloc, counts.len())?;
+    for count in counts {
+        columns.push(Vec::with_capacity(alloc, *count as usize)?)?;
     }
     Ok(columns)
 }
