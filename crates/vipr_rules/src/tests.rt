@@ -125,40 +125,44 @@ fn problem(alloc: Global) -> Result<Problem, Fail> {
     Ok(Problem::new(names, ints, Goal::Min, objective, cons, 0, Claim::Infeas)?)
 }
 
+// What is found of the solution with these two values.
+fn found(
+    alloc: Global,
+    problem: &Problem,
+    x: Frac,
+    y: Frac,
+) -> Result<Result<Frac, SolutionError>, Fail> {
+    let solution = Solution(Row::from_pairs(alloc, vec![in alloc; (0, x), (1, y)]?)?);
+    let mut scratch = Combination::new(alloc, problem.names().len() as u32)?;
+    Ok(test_solution(problem, &mut scratch, &solution))
+}
+
 #[test]
 fn solutions(rt: HostRuntime) -> Result<(), Fail> {
     let alloc = rt.alloc();
     let problem = problem(alloc)?;
     let half = Frac::new(1, 2)?;
-    for (x, y, found) in [
+    let not_whole = SolutionError::NotWhole {
+        variable: 0,
+        value: half,
+    };
+    let breaks = SolutionError::Breaks {
+        constraint: 0,
+        left: Frac::zero(),
+        sense: Sense::G,
+        right: Frac::one(),
+    };
+    for (x, y, wanted) in [
         (Frac::one(), half, Ok(Frac::new(3, 2)?)),
-        (
-            half,
-            half,
-            Err(SolutionError::NotWhole {
-                variable: 0,
-                value: half,
-            }),
-        ),
-        (
-            Frac::zero(),
-            half,
-            Err(SolutionError::Breaks {
-                constraint: 0,
-                left: Frac::zero(),
-                sense: Sense::G,
-                right: Frac::one(),
-            }),
-        ),
+        (half, half, Err(not_whole)),
+        (Frac::zero(), half, Err(breaks)),
         (
             Frac::one(),
             Frac::new(i128::MAX, 1)?,
             Err(SolutionError::Overflow(None)),
         ),
     ] {
-        let solution = Solution(Row::from_pairs(alloc, vec![in alloc; (0, x), (1, y)]?)?);
-        let mut scratch = Combination::new(alloc, problem.names().len() as u32)?;
-        assert_eq!(rt; test_solution(&problem, &mut scratch, &solution), found);
+        assert_eq!(rt; found(alloc, &problem, x, y)?, wanted);
     }
     Ok(())
 }
