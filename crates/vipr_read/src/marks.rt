@@ -8,6 +8,8 @@ ghost use Rattle.vipr_linear.specs.Row.{variables_of};
 ghost use Rattle.vipr_read.specs.Marks.{AreMarked};
 
 use crate::kinds::{NewVariable, Number};
+use crate::parts::push_among;
+use std::alloc::Global;
 use vipr_bytes::Source;
 use vipr_frac::Frac;
 use vipr_scan::{Scanner, Stop};
@@ -28,6 +30,7 @@ fn pair<R: Source>(scanner: &mut Scanner<R>, marks: &[bool]) -> Result<(u32, Fra
 
 /// So many pairs, behind none. Their variables are marked, also after an error.
 pub(crate) fn mark_pairs<R: Source>(
+    alloc: Global,
     scanner: &mut Scanner<R>,
     marks: &mut [bool],
     pairs: &mut Vec<(u32, Frac)>,
@@ -45,7 +48,7 @@ pub(crate) fn mark_pairs<R: Source>(
 {
     for _ in 0..count {
         let (variable, coefficient) = pair(scanner, marks)?;
-        pairs.push((variable, coefficient))?;
+        push_among(alloc, pairs, (variable, coefficient), count)?;
         marks[variable as usize] = true;
     }
     Ok(())

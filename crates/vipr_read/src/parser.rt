@@ -85,7 +85,7 @@ impl<R: Source> Parser<R> {
         ensures distinct { IfOk result (λ pairs. IsDistinct nat_eq (variables_of pairs.items)) }
     {
         let mut pairs = Vec::new(alloc);
-        let read = mark_pairs(&mut self.scanner, &mut self.marks, &mut pairs, count);
+        let read = mark_pairs(alloc, &mut self.scanner, &mut self.marks, &mut pairs, count);
         unmark(&mut self.marks, &pairs);
         read?;
         Ok(pairs)
