@@ -167,84 +167,118 @@ fn solutions(rt: HostRuntime) -> Result<(), Fail> {
     Ok(())
 }
 
-// The constraint a x + b y + c z `sense` rhs.
-fn constraint(
-    alloc: Global,
-    coefficients: [i128; 3],
-    sense: Sense,
-    rhs: i128,
-) -> Result<Named<Constraint>, Fail> {
-    let [a, b, c] = coefficients;
-    let pairs = vec![in alloc;
-        (0, Frac::new(a, 1)?),
-        (1, Frac::new(b, 1)?),
-        (2, Frac::new(c, 1)?),
-    ]?;
+// A constraint of three variables: their coefficients, the sense and the right-hand side.
+type Stated = ([i128; 3], Sense, i128);
+
+fn pairs_of(alloc: Global, numbers: [i128; 3], denominator: i128) -> Result<Row, Fail> {
+    let mut pairs = Vec::new(alloc);
+    for (variable, number) in numbers.iter().enumerate() {
+        pairs.push((variable as u32, Frac::new(*number, denominator)?))?;
+    }
+    Ok(Row::from_pairs(alloc, pairs)?)
+}
+
+fn constraint(alloc: Global, stated: &Stated) -> Result<Named<Constraint>, Fail> {
+    let (coefficients, sense, rhs) = *stated;
+    let row = pairs_of(alloc, coefficients, 1)?;
+    let rhs = Frac::new(rhs, 1)?;
     Ok(Named {
         name: some_name(alloc)?,
-        item: Constraint {
-            row: Row::from_pairs(alloc, pairs)?,
-            sense,
-            rhs: Frac::new(rhs, 1)?,
-        },
+        item: Constraint { row, sense, rhs },
     })
 }
 
+fn constraints(alloc: Global, stated: &[Stated]) -> Result<Vec<Named<Constraint>>, Fail> {
+    let mut cons = Vec::new(alloc);
+    for one in stated {
+        cons.push(constraint(alloc, one)?)?;
+    }
+    Ok(cons)
+}
+
+fn three_names(alloc: Global) -> Result<Vec<Name>, Fail> {
+    let mut names = Vec::new(alloc);
+    for _ in 0..3 {
+        names.push(some_name(alloc)?)?;
+    }
+    Ok(names)
+}
+
 // Three variables, the first whole, under these constraints.
-fn problem_of(alloc: Global, cons: Vec<Named<Constraint>>) -> Result<Problem, Fail> {
-    let names = vec![in alloc; some_name(alloc)?, some_name(alloc)?, some_name(alloc)?]?;
+fn problem_of(alloc: Global, stated: &[Stated]) -> Result<Problem, Fail> {
+    let cons = constraints(alloc, stated)?;
+    let objective = pairs_of(alloc, [0, 1, 1], 1)?;
+    let names = three_names(alloc)?;
     let ints = Ints::from_indices(alloc, vec![in alloc; 0]?)?;
-    let objective = Row::from_pairs(alloc, vec![in alloc; (1, Frac::one()), (2, Frac::one())]?)?;
     Ok(Problem::new(names, ints, Goal::Min, objective, cons, 0, Claim::Infeas)?)
+}
+
+// Rows and columns give the same answer, also columns that were used before.
+fn agree_at(
+    rt: &impl Abort,
+    alloc: Global,
+    problem: &Problem,
+    solution: &Solution,
+) -> Result<(), Fail> {
+    let mut scratch = Combination::new(alloc, problem.names().len() as u32)?;
+    let mut columns = Columns::of(alloc, problem).expect(rt, "columns");
+    let by_rows = test_solution(problem, &mut scratch, solution);
+    let first = test_solution_by_columns(problem, &mut columns, &mut scratch, solution);
+    let second = test_solution_by_columns(problem, &mut columns, &mut scratch, solution);
+    assert!(rt; first == by_rows);
+    assert!(rt; second == by_rows);
+    Ok(())
+}
+
+// Numerators, and the denominator of all.
+const POINTS: [([i128; 3], i128); 9] = [
+    ([0, 0, 0], 1),
+    ([1, 0, 0], 1),
+    ([0, 0, 1], 1),
+    ([1, 0, 1], 1),
+    ([2, 2, 0], 2),
+    ([1, 1, 1], 2),
+    ([2, -1, 1], 1),
+    ([0, 2, -1], 1),
+    ([-1, 1, 3], 1),
+];
+
+fn agree(rt: &impl Abort, alloc: Global, stated: &[Stated]) -> Result<(), Fail> {
+    let problem = problem_of(alloc, stated)?;
+    for (numbers, denominator) in &POINTS {
+        let solution = Solution(pairs_of(alloc, *numbers, *denominator)?);
+        agree_at(rt, alloc, &problem, &solution)?;
+    }
+    Ok(())
 }
 
 #[test]
 fn columns_and_rows_agree(rt: HostRuntime) -> Result<(), Fail> {
     let alloc = rt.alloc();
     let large = i128::MAX;
-    let problems = vec![in alloc;
-        Vec::new(alloc),
-        vec![in alloc; constraint(alloc, [1, 0, 0], Sense::G, 1)?]?,
-        vec![in alloc;
-            constraint(alloc, [0, 1, 1], Sense::L, 2)?,
-            constraint(alloc, [1, 0, -1], Sense::G, 0)?,
-            constraint(alloc, [0, 0, 0], Sense::L, 0)?,
-        ]?,
-        vec![in alloc;
-            constraint(alloc, [large, 1, -large], Sense::G, 0)?,
-            constraint(alloc, [0, 0, 0], Sense::E, 1)?,
-        ]?,
-        vec![in alloc;
-            constraint(alloc, [1, 0, 0], Sense::L, 1)?,
-            constraint(alloc, [large, large, 0], Sense::G, -5)?,
-            constraint(alloc, [0, 0, 1], Sense::E, 1)?,
-        ]?,
-    ]?;
-    for cons in problems {
-        let problem = problem_of(alloc, cons)?;
-        let mut columns = Columns::of(alloc, &problem).expect(&rt, "columns");
-        let mut scratch = Combination::new(alloc, 3)?;
-        for x in 0..3 {
-            for y in 0..3 {
-                for z in 0..3 {
-                    let pairs = vec![in alloc;
-                        (0, Frac::new(x, 2)?),
-                        (1, Frac::new(y - 1, 1)?),
-                        (2, Frac::new(z - 1, 1)?),
-                        (7, Frac::one()),
-                    ]?;
-                    let solution = Solution(Row::from_pairs(alloc, pairs)?);
-                    let by_rows = test_solution(&problem, &mut scratch, &solution);
-                    let by_columns = test_solution_by_columns(
-                        &problem,
-                        &mut columns,
-                        &mut scratch,
-                        &solution,
-                    );
-                    assert_eq!(rt; by_columns, by_rows);
-                }
-            }
-        }
-    }
-    Ok(())
+    agree(&rt, alloc, &[])?;
+    agree(&rt, alloc, &[([1, 0, 0], Sense::G, 1)])?;
+    agree(
+        &rt,
+        alloc,
+        &[
+            ([0, 1, 1], Sense::L, 2),
+            ([1, 0, -1], Sense::G, 0),
+            ([0, 0, 0], Sense::L, 0),
+        ],
+    )?;
+    agree(
+        &rt,
+        alloc,
+        &[([large, 1, -large], Sense::G, 0), ([0, 0, 0], Sense::E, 1)],
+    )?;
+    agree(
+        &rt,
+        alloc,
+        &[
+            ([1, 0, 0], Sense::L, 1),
+            ([large, large, 0], Sense::G, -5),
+            ([0, 0, 1], Sense::E, 1),
+        ],
+    )
 }
