@@ -1,7 +1,7 @@
 -- What a call gave, against what the reading of the rest gives, where the rest is known
-use Rattle.std.specs.Prelude.{◌≡◌, false, [], Option, Some, None, Result, Ok, Err, IsSome, IfSome}
-use Rattle.std.specs.Prelude.{IfOk}
-use Rattle.vipr_spec.specs.Reading.{Rest, Fault, Read, token_read}
+use Rattle.std.specs.Prelude.{◌≡◌, ℕ, false, List, [], Option, Some, None, Result, Ok, Err}
+use Rattle.std.specs.Prelude.{IsSome, IfSome, IfOk}
+use Rattle.vipr_spec.specs.Reading.{Rest, Fault, Read, token_read, taken}
 use Rattle.vipr_scan.specs.Faults.{IsFaultOf}
 use Rattle.vipr_scan.specs.declared.error.Stop.{Stop}
 
@@ -29,3 +29,9 @@ Ends (Err e) r = IsFaultOf e r
 -- behind it
 abbrev pub IsBehind : Option Rest → Option Rest → Type 0
 IsBehind old new = IfSome old (λ l. IfOk (token_read l) (λ t. new ≡ Some t.1))
+
+-- a token is taken that means this
+abbrev pub Takes : {X Y : Type 0} → (X → Y) → (List ℕ → Result Y ℕ) → (X → Type 0) → Option Rest
+    → Option Rest → Result X Stop → Type 0
+Takes view meaning bounds old new result =
+    Scans view (taken meaning) old new result × IsBehind old new × IfOk result bounds

@@ -2,7 +2,7 @@ ghost use Rattle.std.specs.Prelude.{◌≡◌, ◌≢◌, ◌^◌, ◌<◌, leng
 ghost use Rattle.std.specs.Prelude.{IsSome};
 ghost use Rattle.vipr_bytes.specs.Known.{IfKnown, text_of};
 ghost use Rattle.vipr_spec.specs.Reading.{taken, end_read};
-ghost use Rattle.vipr_scan.specs.Giving.{Scans, Ends, IsBehind, rest_of};
+ghost use Rattle.vipr_scan.specs.Giving.{Scans, Ends, IsBehind, rest_of, Takes};
 
 use crate::error::Stop;
 use crate::kind::{TokenKind, Unfit};
@@ -58,9 +58,7 @@ impl<R: Source> Scanner<R> {
     // the way of the other.
     #[inline(always)]
     fn take_slowly<K: TokenKind>(&mut self, kind: &K) -> Result<K::Value, Stop>
-        ensures read { Scans K.view (taken (K.meaning kind.now)) self.old self.new result }
-        ensures behind { IsBehind self.old self.new }
-        ensures bounds { IfOk result (λ x. K.bounds kind.now x) }
+        ensures { Takes K.view (K.meaning kind.now) (K.bounds kind.now) self.old self.new result }
     {
         let value = self.take_whole(kind)?;
         Ok(value)
@@ -69,9 +67,7 @@ impl<R: Source> Scanner<R> {
     /// The same, where the kind doesn't read it at once.
     #[inline(never)]
     fn take_whole<K: TokenKind>(&mut self, kind: &K) -> Result<K::Value, Stop>
-        ensures read { Scans K.view (taken (K.meaning kind.now)) self.old self.new result }
-        ensures behind { IsBehind self.old self.new }
-        ensures bounds { IfOk result (λ x. K.bounds kind.now x) }
+        ensures { Takes K.view (K.meaning kind.now) (K.bounds kind.now) self.old self.new result }
     {
         let found = self.window.want()?;
         let bytes = &self.window.buf[found.start..found.start + found.len];
