@@ -221,7 +221,7 @@ fn agree_at(
     solution: &Solution,
 ) -> Result<(), Fail> {
     let mut scratch = Combination::new(alloc, problem.names().len() as u32)?;
-    let mut columns = Columns::of(alloc, problem).expect(rt, "columns");
+    let mut columns = Columns::of(alloc, problem).expect(rt, "out of memory");
     let by_rows = test_solution(problem, &mut scratch, solution);
     let first = test_solution_by_columns(problem, &mut columns, &mut scratch, solution);
     let second = test_solution_by_columns(problem, &mut columns, &mut scratch, solution);
