@@ -7,7 +7,7 @@ A crate's tests, crates/NAME/out/NAME_tests, call what the crate has to offer. E
 refused, its second, and so on up to a run that meets no refusal. It then passes, or ends at an answer that is want of
 memory: no call may give another answer for a refused growth, end by a signal of its own, or go on as if it had room.
 A test with more than MOST growths makes them in loops: its first and last ones are refused, and some between, evenly
-spaced. The program's own growths are those of tests/hostile.py.
+spaced. The growths of checking and tightening are refused by tests/hostile.py.
 
 Prints each run that ends otherwise, and last `growths: N runs, F failed`. Without a C compiler nothing is run, and a
 line says so. The exit status is 1 where a run failed, where a library's tests aren't built, or where none was there to
@@ -23,9 +23,9 @@ from concurrent.futures import ThreadPoolExecutor
 from pathlib import Path
 
 TOP = Path(__file__).resolve().parent.parent
-# crates whose growths aren't refused here: those of the program are refused through it, and reading and writing bytes
-# takes no memory of its own
-ELSEWHERE = ['vipr', 'vipr_bytes']
+# crates whose growths aren't refused here: those of the checker and of the tightener are refused through the program,
+# whose commands tell what they answer, and reading and writing bytes takes no memory of its own
+ELSEWHERE = ['vipr', 'vipr_bytes', 'vipr_check', 'vipr_tighten']
 # how many growths of a test are refused at most
 MOST = 400
 # what a failed test says of a call whose growth was refused
