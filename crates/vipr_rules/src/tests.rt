@@ -34,7 +34,8 @@ fn placed<S: Rows>(
     for (last, is_assumption) in derivations {
         rows.advance();
         assert!(rt; rows.next() < 100);
-        assert!(rt; rows.put(entry(alloc, *last, *is_assumption)?).is_ok());
+        let put = rows.put(entry(alloc, *last, *is_assumption)?);
+        put.ok().expect(rt, "out of memory");
         held.push(rows.held())?;
     }
     Ok((rows, held))
