@@ -51,8 +51,9 @@ class Reader:
 
     def __init__(self, room):
         self.room, self.clone, self.home = room, room / 'vipr', room / 'home'
-        (room / 'URL').symlink_to(TOP)
         self.home.mkdir()
+        # the repository may be another user's
+        (self.home / '.gitconfig').write_text('[safe]\n\tdirectory = *\n')
         stand_ins = room / 'bin'
         stand_ins.mkdir()
         if not shutil.which('sbatch'):
@@ -60,9 +61,20 @@ class Reader:
                                               'SLURM_ARRAY_TASK_ID=$task sh "$1"\ndone\n')
             (stand_ins / 'sbatch').chmod(0o755)
         self.environment = dict(os.environ, HOME=str(self.home), LC_ALL='C.UTF-8', MANPAGER='cat', PAGER='cat',
-                                PATH=f'{self.home}/.local/bin:{stand_ins}:{os.environ["PATH"]}',
-                                GIT_CONFIG_COUNT='1', GIT_CONFIG_KEY_0='safe.directory', GIT_CONFIG_VALUE_0='*')
+                                PATH=f'{self.home}/.local/bin:{stand_ins}:{os.environ["PATH"]}')
         self.environment.pop('MAKEFLAGS', None)
+        self.has_history = self.run('git rev-parse HEAD', TOP)[0] == 0
+        self.place_source()
+
+    def place_source(self):
+        """The repository that is cloned: this one, or a copy where this folder has no history."""
+        source = self.room / 'URL'
+        if self.has_history:
+            source.symlink_to(TOP)
+            return
+        shutil.copytree(TOP, source, symlinks=True, ignore=shutil.ignore_patterns('out', '.git'))
+        self.run('git init -q . && git add -A && git -c user.name=reader -c user.email=reader@example commit -qm copy',
+                 source)
 
     def run(self, words, folder):
         done = subprocess.run(['bash', '-ec', words], cwd=folder, env=self.environment, stdout=subprocess.PIPE,
@@ -72,9 +84,8 @@ class Reader:
 
     def take_work(self):
         """Puts what differs here from the last commit into the clone, and what was proved and built."""
-        changed = subprocess.run(['git', '-c', 'safe.directory=*', 'ls-files', '-z', '-m', '-o', '--exclude-standard'],
-                                 cwd=TOP, capture_output=True, text=True, check=True).stdout.split('\0')
-        for name in filter(None, changed):
+        changed = self.run('git ls-files -m -o --exclude-standard', TOP)[1] if self.has_history else ''
+        for name in filter(None, changed.split('\n')):
             to = self.clone / name
             to.parent.mkdir(parents=True, exist_ok=True)
             if (TOP / name).is_file():
@@ -145,6 +156,9 @@ def look_at(reader, rows, said):
 
 
 def main():
+    if not shutil.which('git'):
+        print('commands: no git, so no command was run')
+        return 0
     with tempfile.TemporaryDirectory(prefix='vipr-commands-') as name:
         reader = Reader(Path(name))
         for page in PAGES:
