@@ -1,5 +1,6 @@
 //! Partial sums of products, which are reduced at the end alone.
-ghost use Rattle.std.specs.Prelude.{◌≡◌, ◌↔◌, ◌<◌, ◌^◌, IsOk, IfOk, IfSome, IsSome, OnOk, OnErr};
+ghost use Rattle.std.specs.Prelude.{◌≡◌, ◌↔◌, ◌<◌, ◌^◌, IsTrue, IsOk, IfOk, IfSome, IsSome, OnOk};
+ghost use Rattle.std.specs.Prelude.{OnErr};
 ghost use Rattle.vipr_spec.specs.Fraction.{over, zero_ℚ, ◌+ℚ◌, ◌*ℚ◌, SumFits, ProductFits};
 ghost use Rattle.vipr_frac.specs.Parts.{IsPartial, IsReduced};
 
@@ -88,6 +89,23 @@ impl Partial {
             Some((p, q)) => reduced_words(p, q),
             None => of_parts(self.p, self.q),
         }
+    }
+
+    /// Whether it is 0.
+    #[inline(always)]
+    pub fn is_zero(&self) -> bool
+        ensures { IsTrue result ↔ (self.now ≡ zero_ℚ) }
+    {
+        self.p == 0
+    }
+
+    /// Whether it is this fraction.
+    #[inline(always)]
+    pub fn is(&self, fraction: Frac) -> bool
+        ensures { IsTrue result ↔ (self.now ≡ fraction) }
+    {
+        let (p, q) = fraction.parts();
+        (self.p == p && self.q == q) || self.value() == fraction
     }
 
     /// Adds the product of a multiplier and a coefficient. It is refused where the product or the

@@ -9,4 +9,4 @@ pub use Rattle.vipr_linear.proofs.Adding.{coefficient, coefficient_at, names_tol
 pub use Rattle.vipr_linear.proofs.Searching.{absent, at_place}
 -- Adding entries one after the other gives their sum
 pub use Rattle.vipr_linear.proofs.StepByStep.{fits_told, start_held, step_held, suitable_told}
-pub use Rattle.vipr_linear.proofs.StepByStep.{sum_held}
+pub use Rattle.vipr_linear.proofs.StepByStep.{sum_held, held_sum, laid_out}

@@ -1,6 +1,7 @@
 mod Rows
 mod Sets
 mod Marks
+mod Matching
 mod Adding
 mod Collecting
 mod StepByStep

@@ -257,7 +257,7 @@ same_entry a b = (there (nat_eq a.0 b.0) refl, back)
     back : a ≡ b → (nat_eq a.0 b.0 && eq_ℚ a.1 b.1) ≡ true
     back e = let k : nat_eq a.0 b.0 ≡ true = let f = ap (λ (p : ℕ × ℚ). p.0) e in grind (arith, nat_tests) in ap (λ t. t && eq_ℚ a.1 b.1) k ∙ (eq_is a.1 b.1).1 (ap (λ (p : ℕ × ℚ). p.1) e)
 
-same_lists : (xs ys : List (ℕ × ℚ)) → RisesFrom 0 xs → RisesFrom 0 ys → ((j : ℕ) → at (from_sorted xs) j ≡ at (from_sorted ys) j) → xs ≡ ys
+pub same_lists : (xs ys : List (ℕ × ℚ)) → RisesFrom 0 xs → RisesFrom 0 ys → ((j : ℕ) → at (from_sorted xs) j ≡ at (from_sorted ys) j) → xs ≡ ys
 same_lists xs ys r s e =
     sym (entries-from_sorted nat_cmp xs (rises_sorted 0 xs r))
     ∙ ap entries (same_rows (from_sorted xs) (from_sorted ys) (no_zeros xs r) (no_zeros ys s) e)
@@ -273,7 +273,7 @@ same_told xs ys b r s h =
 pub row_again : (m : Row) → from_sorted {R = nat_cmp} (entries m) ≡ m
 row_again m = same_entries_map _ m (entries-from_sorted nat_cmp (entries m) (entries_sorted m))
 
-at-nothing : (j : ℕ) → at (from_sorted []) j ≡ zero_ℚ
+pub at-nothing : (j : ℕ) → at (from_sorted []) j ≡ zero_ℚ
 at-nothing j = ap (λ o. unwrap_or o zero_ℚ) (get-from_sorted nat_cmp [] j tt)
 
 pub empty_told : (xs : List (ℕ × ℚ)) (b : Bool) → RisesFrom 0 xs → b ≡ (length xs == 0) → (b ≡ true) ↔ ((j : ℕ) → at (from_sorted xs) j ≡ zero_ℚ)

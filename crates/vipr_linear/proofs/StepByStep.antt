@@ -9,7 +9,7 @@ use Rattle.vipr_spec.specs.Fraction.{ℚ, zero_ℚ, ◌+ℚ◌, ◌*ℚ◌, IsBo
 use Rattle.vipr_spec.specs.Constraint.{Sense, equal, Row, at, Entry, HasSense, sum_of, SumOfFits, NamesBelow}
 use Rattle.vipr_spec.specs.MoreEntries.{turned, TermFits}
 use Rattle.vipr_spec.proofs.Laws.{zero-add_ℚ, mul-zero_ℚ, zero_or_not, no_sense, turned_sense, joined_sense, clashing_senses, sum_more, fits_more, sums_bounded, nothing_more}
-use Rattle.vipr_linear.specs.Accumulator.{Accumulator, sum_at, nothing_added, joined_with, AdditionFits, with_entry, Holds, IsSuitable, HoldsSum}
+use Rattle.vipr_linear.specs.Accumulator.{Accumulator, held_condition, sum_at, nothing_added, joined_with, AdditionFits, with_entry, Holds, IsSuitable, HoldsSum}
 
 -- ---- what fits
 module _ (n : ℕ) (es : List Entry) (e : Entry) (a : Accumulator) (h : Holds n es a) where
@@ -88,3 +88,11 @@ sum_held n es a row s b h k = (
   subst (HasSense es) (sym k.sense_is) h.sense_is,
   λ i. record { row = λ j. (k.row_is j ∙ h.row_is j) i; sense = s; bound = (k.bound_is ∙ h.bound_is) i },
 )
+
+-- what the sum says is the sum of the entries that it holds
+pub held_sum : (n : ℕ) (es : List Entry) (a : Accumulator) → Holds n es a → HasSense es a.sense × (held_condition a ≡ sum_of es a.sense)
+held_sum n es a h = (h.sense_is, λ i. record { row = λ j. h.row_is j i; sense = a.sense; bound = h.bound_is i })
+
+-- and so does a constraint that it is laid out as
+pub laid_out : (a : Accumulator) (row : Row) (s : Sense) (b : ℚ) → HoldsSum a row s b → record { row = at row; sense = s; bound = b } ≡ held_condition a
+laid_out a row s b k = λ i. record { row = λ j. k.row_is j i; sense = k.sense_is i; bound = k.bound_is i }

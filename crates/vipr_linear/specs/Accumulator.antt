@@ -6,7 +6,7 @@ use Rattle.std.specs.Coded.{Coded, code_by, coded_ℕ, coded×, coded_list, code
 use Rattle.std.proofs.Common.{refl}
 use Rattle.vipr_spec.specs.Fraction.{ℚ, coded_ℚ, zero_ℚ, ◌+ℚ◌, ◌*ℚ◌}
 use Rattle.vipr_spec.specs.Constraint.{Sense, at_most, equal, at_least, Row, at, Entry, sum_over}
-use Rattle.vipr_spec.specs.Constraint.{HasSense, SumOfFits}
+use Rattle.vipr_spec.specs.Constraint.{HasSense, SumOfFits, Condition}
 use Rattle.vipr_spec.specs.MoreEntries.{turned, joined, TermFits}
 use Rattle.vipr_spec.specs.Constraint.{HasNoZeros}
 
@@ -61,6 +61,13 @@ with_entry a e = record {
 
 abbrev pub IsSuitable : List Entry → Type 0
 IsSuitable es = (s : Sense) × HasSense es s
+
+-- what the sum says
+abbrev pub summed : List ℚ → Sense → ℚ → Condition
+summed sums s b = record { row = λ j. slice_index_or sums j zero_ℚ; sense = s; bound = b }
+
+abbrev pub held_condition : Accumulator → Condition
+held_condition a = summed a.sums a.sense a.bound
 
 -- the entries were added to nothing, in this order
 pub record Holds (n : ℕ) (es : List Entry) (a : Accumulator) : Type 0 where

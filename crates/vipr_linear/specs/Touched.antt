@@ -2,6 +2,7 @@
 use Rattle.std.specs.Prelude.{◌≡◌, ◌≢◌, ℕ, ◌≤◌, Bool, true, false, nat_eq, List, length}
 use Rattle.std.specs.Prelude.{slice_index_or}
 use Rattle.std.specs.List.{IsDistinct, list_any}
+use Rattle.std.specs.List.Sorted.{IsStrictlyIncreasing}
 use Rattle.vipr_spec.specs.Fraction.{ℚ, zero_ℚ}
 
 -- the list has the marked variables, each once
@@ -20,3 +21,11 @@ pub record AreTouched (sums : List ℚ) (marks : List Bool) (touched : List ℕ)
   pub room : length marks ≤ capacity
   pub touching : Touching marks touched
   pub covers : Covers sums marks
+
+-- the touched variables rise, and a sum that is not 0 is that of one of them
+pub record AreInOrder (sums : List ℚ) (touched : List ℕ) : Type 0 where
+  pub marks : List Bool
+  pub places : length marks ≡ length sums
+  pub touching : Touching marks touched
+  pub covers : Covers sums marks
+  pub rising : IsStrictlyIncreasing touched

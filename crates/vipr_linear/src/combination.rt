@@ -1,21 +1,22 @@
 //! Sums of multiples of constraints.
 ghost use Rattle.std.specs.Prelude.{◌≡◌, ◌≢◌, ◌↔◌, ◌⊎◌, ◌<◌, ◌≤◌, ℕ, true, false, length, All};
-ghost use Rattle.std.specs.Prelude.{IsOk, IsSome, IsNone, IfOk, IfErr, OnOk, OnErr, MatchOption};
+ghost use Rattle.std.specs.Prelude.{IsTrue, IsOk, IsSome, IsNone, IfOk, IfErr, OnOk, OnErr, MatchOption};
 ghost use Rattle.std.specs.Prelude.{vec_capacity, Some, None};
 ghost use Rattle.vipr_spec.specs.Fraction.{◌+ℚ◌, ◌*ℚ◌};
 ghost use Rattle.vipr_spec.specs.Constraint.{Point, at, NamesBelow, value, ValueFits};
+ghost use Rattle.vipr_spec.specs.Constraint.{IsAbsurd, Dominates};
 ghost use Rattle.vipr_spec.specs.MoreEntries as combined;
 ghost use Rattle.vipr_spec.specs.MoreEntries.{TermFits};
 ghost use Rattle.vipr_linear.specs.Accumulator.{with_row, RowAdditionFits, CanAdd, AdditionFits};
 ghost use Rattle.vipr_linear.specs.Accumulator.{HoldsSum, IsSpent, joined_with, with_entry};
-ghost use Rattle.vipr_linear.specs.Accumulator.{nothing_added};
-ghost use Rattle.vipr_linear.specs.Constraint.{sense_of, condition_of};
-ghost use Rattle.vipr_linear.specs.Touched.{Touching, Covers};
+ghost use Rattle.vipr_linear.specs.Accumulator.{nothing_added, summed, held_condition};
+ghost use Rattle.vipr_linear.specs.Constraint.{sense_of, condition_of, SaysAsMuch};
+ghost use Rattle.vipr_linear.specs.Touched.{Touching, Covers, AreInOrder};
 ghost use Rattle.vipr_linear.specs.Values.{IsLaidOut};
 
-use crate::constraint::{Constraint, Sense};
+use crate::constraint::{Constraint, Sense, compares};
 use crate::row::{Row, Solution, is_zero};
-use crate::sums::{add_terms, nonzero_sums, reset, set_sums};
+use crate::sums::{add_terms, are_zero, have_row, nonzero_sums, reset, set_sums};
 use crate::values::value_in;
 use std::alloc::{AllocError, Global};
 use std::cmp::Ordering;
@@ -165,6 +166,18 @@ impl Combination {
         }
     }
 
+    /// Whether the sum dominates a constraint: it is absurd, or has the constraint's row and says
+    /// as much. It takes no memory, and the sum stays as it is.
+    pub fn dominates(&mut self, other: &Constraint) -> bool
+        ensures dominates { IsTrue result ↔ Dominates (held_condition self.old) (condition_of other.now) }
+        ensures kept { self.new ≡ self.old }
+    {
+        self.touched.sort_unstable();
+        let (sums, touched) = (self.sums.as_slice(), self.touched.as_slice());
+        let bound = self.rhs.value();
+        dominate(sums, touched, self.sense, bound, other)
+    }
+
     /// Gives the sum, and makes it empty. After an error it is spent.
     pub fn finish(&mut self, alloc: Global) -> Result<Constraint, CombError>
         ensures sum { IfOk result (λ sum. HoldsSum self.old sum.row (sense_of sum.sense) sum.rhs) }
@@ -216,6 +229,46 @@ fn joined(a: Sense, b: Sense) -> Option<Sense>
         (Sense::G, Sense::G) | (Sense::L, Sense::L) => Some(a),
         (Sense::G, Sense::L) | (Sense::L, Sense::G) => None,
     }
+}
+
+// Whether sums with this sense and this right-hand side are absurd.
+fn are_absurd(sums: &[Partial], touched: &[u32], sense: Sense, bound: Frac) -> bool
+    requires { AreInOrder sums.now touched.now }
+    ensures { IsTrue result ↔ IsAbsurd (summed sums.now (sense_of sense) bound) }
+{
+    !compares(sense, Frac::zero(), bound) && are_zero(sums, touched)
+}
+
+// Whether sums with this sense and this right-hand side have a constraint's row, and say as much.
+fn say_as_much(
+    sums: &[Partial],
+    touched: &[u32],
+    sense: Sense,
+    bound: Frac,
+    other: &Constraint,
+) -> bool
+    requires { AreInOrder sums.now touched.now }
+    ensures { IsTrue result
+        ↔ SaysAsMuch (summed sums.now (sense_of sense) bound) (condition_of other.now) }
+{
+    (sense == other.sense || sense == Sense::E)
+        && compares(other.sense, bound, other.rhs)
+        && have_row(sums, touched, &other.row)
+}
+
+// Whether sums with this sense and this right-hand side dominate a constraint.
+fn dominate(
+    sums: &[Partial],
+    touched: &[u32],
+    sense: Sense,
+    bound: Frac,
+    other: &Constraint,
+) -> bool
+    requires { AreInOrder sums.now touched.now }
+    ensures { IsTrue result
+        ↔ Dominates (summed sums.now (sense_of sense) bound) (condition_of other.now) }
+{
+    say_as_much(sums, touched, sense, bound, other) || are_absurd(sums, touched, sense, bound)
 }
 
 // Adds the multiple of a constraint to the sums and to the right-hand side.

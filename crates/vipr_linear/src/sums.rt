@@ -1,14 +1,15 @@
 //! Partial sums of variables, one place for each, with a list of the touched ones.
-ghost use Rattle.std.specs.Prelude.{◌≡◌, ◌↔◌, ◌<◌, ◌≤◌, ℕ, Bool, true, false, IsOk, IfOk, OnOk};
-ghost use Rattle.std.specs.Prelude.{All, [], filter, map, length, slice_index_or, vec_capacity};
+ghost use Rattle.std.specs.Prelude.{◌≡◌, ◌↔◌, ◌<◌, ◌≤◌, ℕ, Bool, true, false, IsTrue, IsOk, IfOk};
+ghost use Rattle.std.specs.Prelude.{OnOk, All, [], filter, map, length, slice_index_or, vec_capacity};
 ghost use Rattle.std.specs.Prelude.{vec_len};
 ghost use Rattle.vipr_spec.specs.Fraction.{zero_ℚ, IsBounded};
 ghost use Rattle.vipr_spec.specs.Reading.{is_nonzero};
 ghost use Rattle.vipr_linear.specs.Accumulator.{with_terms, TermsFitIn};
 ghost use Rattle.vipr_linear.specs.Values.{with_set};
-ghost use Rattle.vipr_linear.specs.Touched.{Touching, Covers};
+ghost use Rattle.vipr_spec.specs.Constraint.{at};
+ghost use Rattle.vipr_linear.specs.Touched.{Touching, Covers, AreInOrder};
 
-use crate::row::is_zero;
+use crate::row::{Row, is_zero};
 use std::alloc::{AllocError, Global};
 use vipr_frac::{Frac, Overflow, Partial};
 
@@ -116,4 +117,40 @@ pub(crate) fn nonzero_sums(
         }
     }
     Ok(entries)
+}
+
+// Whether the touched variables whose sums are not 0, with these, are the entries.
+fn are_sums(sums: &[Partial], touched: &[u32], entries: &[(u32, Frac)]) -> bool
+    requires { All (λ j. j < length sums.now) touched.now }
+    ensures { IsTrue result
+        ↔ (filter is_nonzero (map (λ j. (j, slice_index_or sums.now j zero_ℚ)) touched.now)
+        ≡ entries.now) }
+{
+    let mut met = 0;
+    for variable in touched {
+        let sum = &sums[*variable as usize];
+        if !sum.is_zero() {
+            if met == entries.len() || entries[met].0 != *variable || !sum.is(entries[met].1) {
+                return false;
+            }
+            met += 1;
+        }
+    }
+    met == entries.len()
+}
+
+/// Whether the sums are the coefficients of a row.
+pub(crate) fn have_row(sums: &[Partial], touched: &[u32], row: &Row) -> bool
+    requires { AreInOrder sums.now touched.now }
+    ensures { IsTrue result ↔ ((j : ℕ) → slice_index_or sums.now j zero_ℚ ≡ at row.now j) }
+{
+    are_sums(sums, touched, row.entries())
+}
+
+/// Whether the sums are 0.
+pub(crate) fn are_zero(sums: &[Partial], touched: &[u32]) -> bool
+    requires { AreInOrder sums.now touched.now }
+    ensures { IsTrue result ↔ ((j : ℕ) → slice_index_or sums.now j zero_ℚ ≡ zero_ℚ) }
+{
+    are_sums(sums, touched, &[])
 }

@@ -1,13 +1,13 @@
 -- What the parts of a derivation's tests say of all of them, and what is kept of it.
 use Rattle.std.proofs.Common.{◌≡◌, ℕ, ◌<◌, ◌≤◌, length, IsTrue, true, false, ◌||◌, nat_eq, ap₂, arith, List, [], ◌∷◌, ◌++◌, map, Some, None, refl, sym, ◌∙◌, ap, subst, inl, inr}
-use Rattle.std.specs.Prelude.{◌↔◌, ◌⊎◌}
+use Rattle.std.specs.Prelude.{◌↔◌, ◌⊎◌, Result, Ok, Err, MatchResult}
 use Rattle.std.proofs.lemmas.Bool.{cases_lt}
 use Rattle.std.specs.FinSet.{FinSet, contains, empty, insert, contains-insert, contains-empty}
 use Rattle.std.specs.Cmp.{nat_cmp_total, unsigned_tied}
 use Rattle.std.proofs.lemmas.Bool.Decides.{nat_tests}
 use Rattle.std.specs.Ordering.{nat_cmp}
 use Rattle.vipr_spec.specs.Fraction.{ℚ}
-use Rattle.vipr_spec.specs.Constraint.{Profile, condition, sum_of, Dominates, Combines}
+use Rattle.vipr_spec.specs.Constraint.{Condition, Profile, condition, sum_of, Dominates, Combines}
 use Rattle.vipr_spec.specs.Certificate.{Certificate, Derivation, Reason, asm, lin, rnd, uns, sol, entries, count, is_assumption, is_live}
 use Rattle.vipr_spec.specs.Steps.{PassesStep, with_next, RefersBack, StepTest, by_sum, split, listed, by_constraint, by_cutoff, step_tests, step_cause, compared, IsSum}
 use Rattle.vipr_spec.proofs.Laws.{failing_first, failing_second, one_sense, constraint_next, reason_next, last_next, rests_next, sound_given, sound_next, next_good}
@@ -55,19 +55,30 @@ free_of_all P c d (uns i1 l1 i2 l2) p = (passing_parts (PassesStep P c (conditio
 free_of_all P c d sol p = (passing_parts (PassesStep P c (condition d.stated)) (listed ∷ []) (by_cutoff ∷ []) p).0
 
 -- ---- by `lin`
-module _ (P : Profile) (c : Certificate) (d : Derivation) (es : List (ℕ × ℚ)) (computed stated : Constraint) (summed : IsSum c es (condition_of computed)) (says : condition_of stated ≡ condition d.stated) where
-  combines : Dominates (condition_of computed) (condition_of stated) → Combines (entries c es) (condition d.stated)
-  combines h = (summed.0, summed.1, subst (λ x. Dominates x (condition d.stated)) summed.2 (subst (Dominates (condition_of computed)) says h))
+module _ (P : Profile) (c : Certificate) (d : Derivation) (es : List (ℕ × ℚ)) (computed : Condition) (stated : Constraint) (summed : IsSum c es computed) (says : condition_of stated ≡ condition d.stated) where
+  combines : Dominates computed (condition_of stated) → Combines (entries c es) (condition d.stated)
+  combines h = (summed.0, summed.1, subst (λ x. Dominates x (condition d.stated)) summed.2 (subst (Dominates computed) says h))
 
-  combines_not : ¬ Dominates (condition_of computed) (condition_of stated) → ¬ Combines (entries c es) (condition d.stated)
+  combines_not : ¬ Dominates computed (condition_of stated) → ¬ Combines (entries c es) (condition d.stated)
   combines_not bad (s, h, dom) =
-      bad (subst (Dominates (condition_of computed)) (sym says) (subst (λ x. Dominates x (condition d.stated)) (ap (sum_of (entries c es)) (one_sense (entries c es) s summed.0 h summed.1) ∙ sym summed.2) dom))
+      bad (subst (Dominates computed) (sym says) (subst (λ x. Dominates x (condition d.stated)) (ap (sum_of (entries c es)) (one_sense (entries c es) s summed.0 h summed.1) ∙ sym summed.2) dom))
 
-  pub dominated : Dominates (condition_of computed) (condition_of stated) → PassesTestsIn P c d (by_sum es ∷ [])
+  pub dominated : Dominates computed (condition_of stated) → PassesTestsIn P c d (by_sum es ∷ [])
   dominated h = passes_one P c d (by_sum es) (combines h)
 
-  pub not_dominated : (e : RuleError) → IsNotDominated computed stated e → StopsIn P c d (by_sum es ∷ []) e
-  not_dominated e (is, bad) = stops_one P c d (by_sum es) e (combines_not bad) (compared (condition_of computed) (condition_of stated), ap shown_by is, (condition_of computed, summed, ap (compared (condition_of computed)) says))
+  -- the sum is laid out for what is told
+  pub not_dominated : (sum : Constraint) → condition_of sum ≡ computed → (e : RuleError) → IsNotDominated sum stated e → StopsIn P c d (by_sum es ∷ []) e
+  not_dominated sum same e (is, bad) =
+      stops_one P c d (by_sum es) e (combines_not (λ h. bad (subst (λ x. Dominates x (condition_of stated)) (sym same) h)))
+      (compared (condition_of sum) (condition_of stated), ap shown_by is, (computed, summed, ap₂ compared same says))
+
+-- the same of a constraint that says what the sum says
+pub laid_out_told : (r : Result (Unit {0}) RuleError) (sum stated : Constraint) (computed : Condition) → condition_of sum ≡ computed
+    → MatchResult r (λ _. Dominates (condition_of sum) (condition_of stated)) (λ e. (e ≡ Memory) ⊎ IsNotDominated sum stated e)
+    → MatchResult r (λ _. Dominates computed (condition_of stated)) (λ e. (e ≡ Memory) ⊎ ((x : Constraint) × (condition_of x ≡ computed) × IsNotDominated x stated e))
+laid_out_told (Ok u) sum stated computed same h = subst (λ x. Dominates x (condition_of stated)) same h
+laid_out_told (Err e) sum stated computed same (inl memory) = inl memory
+laid_out_told (Err e) sum stated computed same (inr told) = inr (sum, same, told)
 
 -- ---- what an assumption rests on
 pub own_set : (n a : ℕ) → IsTrue (contains (insert {R = nat_cmp} empty n) a) ↔ (n ≡ a)

@@ -6,10 +6,10 @@ use Rattle.vipr_spec.specs.Constraint.{equal, Condition, Entry, Point, sum_over,
 use Rattle.vipr_spec.proofs.Laws.{add-zero_ℚ, zero-mul_ℚ, joined_sense, turned_sense, sum_more, IsTrueEntry, sum_true, turned_zero, joined_equal}
 use Rattle.std.proofs.lemmas.List.{map-append}
 use Rattle.vipr_spec.specs.Certificate.{Certificate, constraint_at, entries}
-use Rattle.vipr_linear.specs.Accumulator.{Accumulator, nothing_added, Holds, HoldsSum}
+use Rattle.vipr_linear.specs.Accumulator.{Accumulator, nothing_added, Holds, held_condition}
 use Rattle.vipr_linear.specs.Constraint.{sense_of, condition_of}
 use Rattle.vipr_linear.specs.declared.constraint.Constraint.{Constraint}
-use Rattle.vipr_linear.proofs.Laws.{fits_told, start_held, sum_held}
+use Rattle.vipr_linear.proofs.Laws.{fits_told, start_held, held_sum}
 
 nothing : (s x : ℚ) → s +ℚ zero_ℚ *ℚ x ≡ s
 nothing s x = ap (λ y. s +ℚ y) (zero-mul_ℚ x) ∙ add-zero_ℚ s
@@ -48,5 +48,5 @@ more_true n x a b e s held t = record {
   each = All-append (IsTrueEntry n x) s.es (e ∷ []) s.each (All-cons (IsTrueEntry n x) e [] (λ m. t) (All-nil (IsTrueEntry n x)));
 }
 
-pub sum_is_true : (n : ℕ) (x : Point) (a : Accumulator) (c : Constraint) → IsTrueSum n x a → HoldsSum a c.row (sense_of c.sense) c.rhs → IsTrueAt n (condition_of c) x
-sum_is_true n x a c s h = let k = sum_held n s.es a c.row (sense_of c.sense) c.rhs s.held h in subst (λ d. IsTrueAt n d x) (sym k.1) (sum_true n x s.es (sense_of c.sense) k.0 s.each)
+pub sum_is_true : (n : ℕ) (x : Point) (a : Accumulator) → IsTrueSum n x a → IsTrueAt n (held_condition a) x
+sum_is_true n x a s = let k = held_sum n s.es a s.held in subst (λ d. IsTrueAt n d x) (sym k.1) (sum_true n x s.es a.sense k.0 s.each)

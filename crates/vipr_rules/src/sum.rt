@@ -4,17 +4,19 @@ ghost use Rattle.std.specs.Prelude.{◌≡◌, ◌≢◌, ◌⊎◌, ◌∷◌, 
 ghost use Rattle.std.specs.Prelude.{length, IfOk, IfErr, IfSome, OnOk, MatchOption, MatchResult};
 ghost use Rattle.vipr_spec.specs.Fraction.{ℚ};
 ghost use Rattle.vipr_spec.specs.Constraint.{Profile, Entry as Summand, at, condition, NamesBelow};
-ghost use Rattle.vipr_spec.specs.Constraint.{IsWholeRow, DominatesRounded};
+ghost use Rattle.vipr_spec.specs.Constraint.{IsWholeRow, Dominates, DominatesRounded};
 ghost use Rattle.vipr_spec.specs.Certificate.{Certificate, Derivation, variables};
 ghost use Rattle.vipr_spec.specs.Certificate.{lin as by_lin, rnd as by_rnd};
 ghost use Rattle.vipr_spec.specs.Reading.{is_nonzero};
 ghost use Rattle.vipr_spec.specs.Steps.{reference_tests, sum_tests, roundable, by_rounding, IsSum};
-ghost use Rattle.vipr_linear.specs.Accumulator.{Holds, HoldsSum};
-ghost use Rattle.vipr_linear.specs.Constraint.{sense_of, condition_of};
+ghost use Rattle.vipr_linear.specs.Accumulator.{Holds, held_condition};
+ghost use Rattle.vipr_linear.specs.Constraint.{condition_of};
+ghost use Rattle.vipr_linear.specs.declared.constraint.Constraint.{Constraint as LinearConstraint};
 ghost use Rattle.vipr_rules.specs.Table.{DerivedBelow};
 ghost use Rattle.vipr_rules.specs.Context.{IsContextOf, IsKnownAs, IsSetOfAll, row_found, set_of};
 ghost use Rattle.vipr_rules.specs.Soundness.{IsSoundUnder};
 ghost use Rattle.vipr_rules.specs.Apply.{PassesTestsIn, StopsIn, SumStops, IsRuledBy};
+ghost use Rattle.vipr_rules.specs.Apply.{IsNotDominated};
 ghost use Rattle.vipr_rules.specs.declared.error.RuleError.TheVariants.{Memory};
 
 use crate::assumptions::{Assumptions, Union};
@@ -25,13 +27,6 @@ use crate::rows::Rows;
 use std::alloc::Global;
 use vipr_frac::Frac;
 use vipr_linear::{CombError, Combination, Constraint, Ints, NotRoundable, Rounded};
-
-/// A sum of constraints, and the assumptions that these rest on.
-#[derive(Drop)]
-struct Sum {
-    constraint: Constraint,
-    assumptions: Assumptions,
-}
 
 /// Tests a derivation by `lin`, and gives the assumptions that it rests on.
 pub(crate) fn combine<S: Rows>(
@@ -51,9 +46,9 @@ pub(crate) fn combine<S: Rows>(
         IsSoundUnder S.table context.now s (condition_of stated.now)) }
     ensures variables { length scratch.new.sums ≡ length scratch.old.sums }
 {
-    let sum = add_up(alloc, context, scratch, entries)?;
-    check_domination(&sum.constraint, stated)?;
-    Ok(sum.assumptions)
+    let assumptions = add_up(alloc, context, scratch, entries)?;
+    check_sum(alloc, scratch, stated)?;
+    Ok(assumptions)
 }
 
 /// Tests a derivation by `rnd`, and gives the assumptions that it rests on.
@@ -74,9 +69,31 @@ pub(crate) fn combine_rounded<S: Rows>(
         IsSoundUnder S.table context.now s (condition_of stated.now)) }
     ensures variables { length scratch.new.sums ≡ length scratch.old.sums }
 {
-    let sum = add_up(alloc, context, scratch, entries)?;
-    check_rounded(sum.constraint, context.problem.ints(), stated)?;
-    Ok(sum.assumptions)
+    let assumptions = add_up(alloc, context, scratch, entries)?;
+    let sum = finish(alloc, scratch)?;
+    check_rounded(sum, context.problem.ints(), stated)?;
+    Ok(assumptions)
+}
+
+// Tests that the sum dominates the stated constraint. It becomes a constraint only where it
+// doesn't, for what is told then.
+fn check_sum(
+    alloc: Global,
+    scratch: &mut Combination,
+    stated: &Constraint,
+) -> Result<(), RuleError>
+    requires fresh { scratch.old.spent ≡ false }
+    ensures dominates { MatchResult result
+        (λ _. Dominates (held_condition scratch.old) (condition_of stated.now))
+        (λ e. (e ≡ Memory) ⊎ ((sum : LinearConstraint)
+        × (condition_of sum ≡ held_condition scratch.old) × IsNotDominated sum stated.now e)) }
+    ensures variables { length scratch.new.sums ≡ length scratch.old.sums }
+{
+    if scratch.dominates(stated) {
+        return Ok(());
+    }
+    let sum = finish(alloc, scratch)?;
+    check_domination(&sum, stated)
 }
 
 // Tests that the sum can be rounded and then dominates the stated constraint.
@@ -96,14 +113,15 @@ fn check_rounded(sum: Constraint, ints: &Ints, stated: &Constraint) -> Result<()
     }
 }
 
-// The sum of the entries in their order, those with the multiplier 0 left out. Each reference is
-// looked up once; where an entry can't be added, the references behind it are tested first.
+// Adds the entries in their order, those with the multiplier 0 left out, and gives the assumptions
+// that they rest on. Each reference is looked up once; where an entry can't be added, the references
+// behind it are tested first.
 fn add_up<S: Rows>(
     alloc: Global,
     context: &Context<S>,
     scratch: &mut Combination,
     entries: &[(u32, Frac)],
-) -> Result<Sum, RuleError>
+) -> Result<Assumptions, RuleError>
     requires variables { length scratch.old.sums ≡ variables context.now.problem.now }
     requires rows { let n = variables context.now.problem.now in
         DerivedBelow n (S.table context.now.rows.now) }
@@ -111,11 +129,12 @@ fn add_up<S: Rows>(
         → IsContextOf S.table P c context.now
         → MatchResult result
         (λ s. PassesTestsIn P c d (sum_tests entries.now)
-        × IsSum c entries.now (condition_of s.constraint)
-        × IsSetOfAll c entries.now s.assumptions)
+        × IsSum c entries.now (held_condition scratch.new)
+        × IsSetOfAll c entries.now s)
         (λ e. (e ≡ Memory) ⊎ StopsIn P c d (sum_tests entries.now) e) }
+    ensures fresh { OnOk result (scratch.new.spent ≡ false) }
     ensures sound { IfOk result (λ s.
-        IsSoundUnder S.table context.now s.assumptions (condition_of s.constraint)) }
+        IsSoundUnder S.table context.now s (held_condition scratch.new)) }
     ensures variables { length scratch.new.sums ≡ length scratch.old.sums }
 {
     scratch.clear();
@@ -130,12 +149,8 @@ fn add_up<S: Rows>(
         }
         known.add_to(alloc, &mut assumptions)?;
     }
-    let constraint = finish(alloc, scratch)?;
     let assumptions = assumptions.finish(alloc)?;
-    Ok(Sum {
-        constraint,
-        assumptions,
-    })
+    Ok(assumptions)
 }
 
 // Adds the multiple of a constraint, that of the entry at a position.
@@ -165,7 +180,7 @@ fn add_multiple(
 // Gives the sum that is held.
 fn finish(alloc: Global, scratch: &mut Combination) -> Result<Constraint, RuleError>
     requires { scratch.old.spent ≡ false }
-    ensures sum { IfOk result (λ sum. HoldsSum scratch.old sum.row (sense_of sum.sense) sum.rhs) }
+    ensures sum { IfOk result (λ sum. condition_of sum ≡ held_condition scratch.old) }
     ensures memory { IfErr result (λ e. e ≡ Memory) }
     ensures variables { length scratch.new.sums ≡ length scratch.old.sums }
 {

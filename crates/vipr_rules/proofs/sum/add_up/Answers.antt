@@ -7,10 +7,10 @@ use Rattle.vipr_spec.specs.Constraint.{condition, at, NamesBelow, IsTrueAt}
 use Rattle.vipr_spec.specs.Certificate.{variables, entries}
 use Rattle.vipr_spec.specs.Steps.{PassesStep, FirstFailing, reference_tests, entry_tests, sum_tests, IsSum}
 use Rattle.vipr_spec.proofs.Laws.{not_zero}
-use Rattle.vipr_linear.specs.Accumulator.{Accumulator, Holds, nothing_added}
+use Rattle.vipr_linear.specs.Accumulator.{Accumulator, Holds, nothing_added, held_condition}
 use Rattle.vipr_linear.specs.Constraint.{condition_of}
 use Rattle.vipr_linear.specs.declared.constraint.Constraint.{Constraint}
-use Rattle.vipr_linear.proofs.Laws.{zero_test, start_held, sum_held}
+use Rattle.vipr_linear.proofs.Laws.{zero_test, start_held, held_sum}
 use Rattle.vipr_rules.specs.Context.{IsSetOfAll, set_of}
 use Rattle.vipr_rules.specs.Apply.{PassesTestsIn, SumStops}
 use Rattle.vipr_rules.proofs.EntryTests.{one_more, take_all, entry_passes, sum_stops, references_more, reference_fails, references_rest, to_end}
@@ -139,13 +139,13 @@ pub returns-clause-sum : goal.returns-clause-sum
 returns-clause-sum g c = λ P d s is.
     let so_far = c.loop-position.invariant.sum P d s is in
     let all = take_all c.args.entries.now c.loop-position.position c.loop-position-test.false in
-    let sum = sum_held (variables c.args.context.now.problem.now) (entries d (take c.loop-position.position c.args.entries.now)) c.loop-position.scratch _ _ _ so_far.2 c.in_ok-constraint.ensures.sum in (
+    let sum = held_sum (variables c.args.context.now.problem.now) (entries d (take c.loop-position.position c.args.entries.now)) c.loop-position.scratch so_far.2 in (
       subst (λ l. PassesTestsIn P d s (sum_tests l)) all
           (passes_both P d s (flat_map reference_tests (take c.loop-position.position c.args.entries.now)) (entry_tests [] (take c.loop-position.position c.args.entries.now)) so_far.0 so_far.1),
-      subst (λ l. IsSum d l (condition_of c.in_ok-constraint.constraint)) all (_, sum.0, sum.1),
+      subst (λ l. IsSum d l (held_condition c.loop-position.scratch)) all (_, sum.0, sum.1),
       subst (λ l. IsSetOfAll d l c.in_ok-assumptions.assumptions) all (subst (IsSetOfAll d (take c.loop-position.position c.args.entries.now)) (sym c.in_ok-assumptions.ensures) so_far.3),
     )
 
 pub returns-clause-sound : goal.returns-clause-sound
 returns-clause-sound g c = λ says x here h.
-    sum_is_true (variables c.args.context.now.problem.now) x c.loop-position.scratch c.in_ok-constraint.constraint (c.loop-position.invariant.sound says x here (subst (λ s. AreTrue (variables c.args.context.now.problem.now) says s x) c.in_ok-assumptions.ensures h)) c.in_ok-constraint.ensures.sum
+    sum_is_true (variables c.args.context.now.problem.now) x c.loop-position.scratch (c.loop-position.invariant.sound says x here (subst (λ s. AreTrue (variables c.args.context.now.problem.now) says s x) c.in_ok-assumptions.ensures h))

@@ -1,35 +1,42 @@
 use Rattle.std.proofs.Common.{[], ◌∷◌, refl, sym, ap, subst, ◌∙◌, inl, inr}
 use Rattle.std.proofs.lemmas.Result.{err_from_is_err_and}
-use Rattle.vipr_spec.specs.Constraint.{at, IsWholeRow}
+use Rattle.vipr_spec.specs.Constraint.{at, IsWholeRow, IsTrueAt}
 use Rattle.vipr_spec.specs.Certificate.{Problem, variables}
-use Rattle.vipr_spec.specs.Steps.{sum_tests, roundable, by_rounding}
+use Rattle.vipr_spec.specs.Steps.{sum_tests, roundable, by_rounding, IsSum}
 use Rattle.vipr_spec.proofs.Laws.{rounded_true, whole_value}
 use Rattle.vipr_rules.proofs.StepLemmas.{stops_first, stops_second, passes_both}
 use Rattle.vipr_rules.proofs.sum.combine_rounded.Goals as goal
 
-pub returns-in_err-sum-clause-ruled : goal.returns-in_err-sum-clause-ruled
-returns-in_err-sum-clause-ruled g c = λ P d e is says.
+pub returns-in_err-assumptions-clause-ruled : goal.returns-in_err-assumptions-clause-ruled
+returns-in_err-assumptions-clause-ruled g c = λ P d e is says.
     let p = err_from_is_err_and c.from_residual.result c.from_residual.ensures.1 in
-    rw (p.1, p.2) (elim (c.in_err-sum.ensures.sum P d e is) [
+    rw (p.1, p.2) (elim (c.in_err-assumptions.ensures.sum P d e is) [
       | inl memory ↦ inl (memory, refl)
       | inr stops ↦ inr (stops_first P d e (sum_tests c.args.entries.now) (roundable c.args.entries.now ∷ by_rounding c.args.entries.now ∷ []) _ stops)
     ])
 
+pub returns-in_err-sum-clause-ruled : goal.returns-in_err-sum-clause-ruled
+returns-in_err-sum-clause-ruled g c = λ P d e is says.
+    let p = err_from_is_err_and c.from_residual-in_err-sum.result c.from_residual-in_err-sum.ensures.1 in
+    rw (p.1, p.2) (inl (c.in_err-sum.ensures.memory, refl))
+
 pub returns-in_err-check_rounded-clause-ruled : goal.returns-in_err-check_rounded-clause-ruled
 returns-in_err-check_rounded-clause-ruled g c = λ P d e is says.
-    let sum = c.in_ok-sum.ensures.sum P d e is in
+    let sum = c.in_ok-assumptions.ensures.sum P d e is in
+    let laid = subst (IsSum d c.args.entries.now) (sym c.in_ok-sum.ensures.sum) sum.1 in
     let ints = ap (λ (q : Problem). q.integers) is.problem ∙ sym c.ints.ensures.integers in
     let p = err_from_is_err_and c.from_residual-in_err-check_rounded.result c.from_residual-in_err-check_rounded.ensures.1 in
-    rw (p.1, p.2) (elim (c.in_err-check_rounded.ensures.tests P d e c.args.entries.now sum.1 ints says) [
+    rw (p.1, p.2) (elim (c.in_err-check_rounded.ensures.tests P d e c.args.entries.now laid ints says) [
       | inl memory ↦ inl (memory, refl)
       | inr stops ↦ inr (stops_second P d e (sum_tests c.args.entries.now) (roundable c.args.entries.now ∷ by_rounding c.args.entries.now ∷ []) _ sum.0 stops)
     ])
 
 pub returns-clause-ruled : goal.returns-clause-ruled
 returns-clause-ruled g c = λ P d e is says.
-    let sum = c.in_ok-sum.ensures.sum P d e is in
+    let sum = c.in_ok-assumptions.ensures.sum P d e is in
+    let laid = subst (IsSum d c.args.entries.now) (sym c.in_ok-sum.ensures.sum) sum.1 in
     let ints = ap (λ (q : Problem). q.integers) is.problem ∙ sym c.ints.ensures.integers in (
-      passes_both P d e (sum_tests c.args.entries.now) (roundable c.args.entries.now ∷ by_rounding c.args.entries.now ∷ []) sum.0 (c.in_ok-check_rounded.ensures.tests P d e c.args.entries.now sum.1 ints says),
+      passes_both P d e (sum_tests c.args.entries.now) (roundable c.args.entries.now ∷ by_rounding c.args.entries.now ∷ []) sum.0 (c.in_ok-check_rounded.ensures.tests P d e c.args.entries.now laid ints says),
       sum.2,
     )
 
@@ -37,5 +44,6 @@ pub returns-clause-sound : goal.returns-clause-sound
 returns-clause-sound g c = λ says x here h.
     let n = variables c.args.context.now.problem.now in
     let rounds = c.in_ok-check_rounded.ensures.dominates in
-    let whole = subst (λ i. IsWholeRow i (at c.in_ok-sum.sum.constraint.row)) c.ints.ensures.integers rounds.0 in
-    rounded_true n x _ _ (whole_value _ n x _ whole here.admitted.feasible.whole) rounds.1 (c.in_ok-sum.ensures.sound says x here h)
+    let whole = subst (λ i. IsWholeRow i (at c.in_ok-sum.sum.row)) c.ints.ensures.integers rounds.0 in
+    let held = subst (λ d. IsTrueAt n d x) (sym c.in_ok-sum.ensures.sum) (c.in_ok-assumptions.ensures.sound says x here h) in
+    rounded_true n x _ _ (whole_value _ n x _ whole here.admitted.feasible.whole) rounds.1 held
