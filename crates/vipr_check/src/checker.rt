@@ -193,6 +193,29 @@ impl<S: Rows> Checker<S> {
         }
     }
 
+    /// The same of a derivation that is needed no more: what is kept of it isn't cloned.
+    ///
+    /// # Errors
+    ///
+    /// Those of `derivation`.
+    pub fn take(&mut self, alloc: Global, step: Derivation) -> Result<(), Stop>
+        requires phase { self.old.in_solutions ≡ false }
+        requires room { self.old.progress.rows.next + 1 < 2 ^ 32 }
+        requires names { NamesBelow (variables self.old.progress.problem)
+            (at step.constraint.row) }
+        ensures again { Repeats self.old self.new result }
+        ensures next { (c : Certificate) → self.old.halt ≡ None → HasSteps c self.old.progress
+            → TakesStep c (derivation_of step) self.old self.new result }
+    {
+        let mut step = step;
+        self.go_on()?;
+        let index = self.progress.next();
+        match self.progress.take(alloc, &mut step) {
+            Ok(()) => Ok(()),
+            Err(error) => Err(stop_at_step(&mut self.halt, index, &step.name, error)),
+        }
+    }
+
     /// The report, where the certificate ends here.
     ///
     /// # Errors

@@ -31,8 +31,8 @@ use vipr_cert::{Derivation, Problem};
 use vipr_frac::Frac;
 use vipr_linear::{Combination, Constraint, Solution};
 use vipr_rules::{
-    Columns, Entry, Profile, Rows, RuleError, SolutionError, Target, apply_in, better,
-    meets_primal, test_solution, test_solution_by_columns,
+    Columns, Entry, Profile, Rows, RuleError, SolutionError, Target, apply_in, apply_taking,
+    better, meets_primal, test_solution, test_solution_by_columns,
 };
 
 /// What is known of a certificate so far.
@@ -275,6 +275,55 @@ impl<S: Rows> Progress<S> {
             &mut self.scratch,
             step,
         )?;
+        self.keep(entry)?;
+        Ok(())
+    }
+
+    /// The same, and takes the constraint out of the derivation where it passes.
+    pub(crate) fn take(&mut self, alloc: Global, step: &mut Derivation) -> Result<(), RuleError>
+        requires room { self.old.rows.next + 1 < 2 ^ 32 }
+        requires names { NamesBelow (variables self.old.problem) (at step.old.constraint.row) }
+        ensures next { (c : Certificate) → HasSteps c self.old
+            → MatchResult result (λ _. PassesTestsIn self.old.profile c (derivation_of step.old)
+            (step_tests (derivation_of step.old).reason)
+            × HasSteps (with_next c (derivation_of step.old)) self.new)
+            (λ e. (e ≡ Memory)
+            ⊎ StopsIn self.old.profile c (derivation_of step.old)
+            (step_tests (derivation_of step.old).reason) e) }
+        ensures ok { OnOk result (self.new ≡ record
+            self.old { rows = self.new.rows; peak = self.new.peak; goal = self.new.goal }) }
+        ensures named { step.new.name ≡ step.old.name }
+        ensures peak { OnOk result (held_in self.new.rows ≤ self.new.peak) }
+        ensures err { IfErr result (λ e. (self.new ≡ self.old) ⊎ ((e ≡ Memory)
+            × (self.new ≡ record self.old { rows = advance_table self.old.rows }))) }
+    {
+        let entry = apply_taking(
+            alloc,
+            self.profile,
+            &self.problem,
+            self.best.as_ref(),
+            &self.rows,
+            &mut self.scratch,
+            step,
+        )?;
+        self.keep(entry)?;
+        Ok(())
+    }
+
+    // Goes on with what is to be kept of a derivation that passed.
+    fn keep(&mut self, entry: Entry) -> Result<(), AllocError>
+        requires room { self.old.rows.next + 1 < 2 ^ 32 }
+        requires names { NamesBelow (variables self.old.problem) (at entry.constraint.row) }
+        ensures next { (c : Certificate) (d : DerivationMeant) → HasSteps c self.old
+            → PassesTestsIn self.old.profile c d (step_tests d.reason)
+            → IsEntryOf (with_next c d) (count c) entry
+            → OnOk result (HasSteps (with_next c d) self.new) }
+        ensures ok { OnOk result (self.new ≡ record
+            self.old { rows = self.new.rows; peak = self.new.peak; goal = self.new.goal }) }
+        ensures peak { OnOk result (held_in self.new.rows ≤ self.new.peak) }
+        ensures err { OnErr result
+            (self.new ≡ record self.old { rows = advance_table self.old.rows }) }
+    {
         let goal = goal_with(&self.target, self.goal, self.rows.next(), &entry);
         let held = place(&mut self.rows, entry)?;
         self.goal = goal;

@@ -170,7 +170,7 @@ fn next_step<R: Source, S: Rows>(
         → Goes P c derivations.old checker.new derivations.new result }
 {
     match derivations.next(alloc) {
-        Ok(Some(step)) => after_item(checker.derivation(alloc, &step)),
+        Ok(Some(step)) => after_item(checker.take(alloc, step)),
         Ok(None) => Some(after_end(checker.finish())),
         Err(error) => Some(unread(error)),
     }

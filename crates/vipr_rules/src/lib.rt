@@ -24,5 +24,5 @@ pub use columns::Columns;
 pub use error::RuleError;
 pub use profile::Profile;
 pub use rows::{Entry, KeepAll, LiveOnly, Rows, names_stay_below, table_holds_what_is_live};
-pub use rules::{apply, apply_in};
+pub use rules::{apply, apply_in, apply_taking};
 pub use solution::{SolutionError, test_solution, test_solution_by_columns};

@@ -1,6 +1,7 @@
 //! Derivations by their reasons.
 
-ghost use Rattle.std.specs.Prelude.{◌≡◌, ◌≢◌, ℕ, length, Some, IfOk, IfErr, option_copied};
+ghost use Rattle.std.specs.Prelude.{◌≡◌, ◌≢◌, ℕ, length, Some, IfOk, IfErr, OnErr};
+ghost use Rattle.std.specs.Prelude.{option_copied};
 ghost use Rattle.vipr_spec.specs.Constraint.{Profile as ProfileMeant, Condition, Point};
 ghost use Rattle.vipr_spec.specs.Certificate.{Certificate, variables};
 ghost use Rattle.vipr_spec.specs.Certificate.{is_assumption as is_assumption_by};
@@ -26,9 +27,10 @@ use crate::profile::Profile;
 use crate::rows::{Entry, Rows};
 use crate::sum::{combine, combine_rounded};
 use std::alloc::Global;
+use std::mem::replace;
 use vipr_cert::{Derivation, Problem, Reason};
 use vipr_frac::Frac;
-use vipr_linear::Combination;
+use vipr_linear::{Combination, Constraint, Row, Sense};
 
 /// Tests a derivation against the problem, the best objective value among the listed solutions and
 /// the table of earlier derivations, and gives what is to be kept of it.
@@ -133,6 +135,76 @@ pub fn apply_in<S: Rows>(
         is_assumption: is_assumption(&step.reason),
         last: step.last,
     })
+}
+
+/// The same, and takes the constraint out of the derivation where it passes.
+///
+/// `scratch` is made for the problem's number of variables; what it holds doesn't matter.
+///
+/// # Errors
+///
+/// The first test that the derivation fails, with what there is to tell about it.
+pub fn apply_taking<S: Rows>(
+    alloc: Global,
+    profile: Profile,
+    p: &Problem,
+    best: Option<&Frac>,
+    rows: &S,
+    scratch: &mut Combination,
+    step: &mut Derivation,
+) -> Result<Entry, RuleError>
+    requires variables { length scratch.old.sums ≡ variables p.now }
+    requires rows { DerivedBelow (variables p.now) (S.table rows.now) }
+
+    // Over the table of a certificate the answer is that of the definitions.
+    ensures judged { (c : Certificate) → c.problem ≡ p.now → IsTableOf c (S.table rows.now)
+        → RefersBack c → IsBestValue p.now c.solutions (option_copied best.entry)
+        → JudgesIn (profile_of profile) c (derivation_of step.old) result }
+    // That a growth was refused is no answer before the tests that take no memory pass.
+    ensures memory { (c : Certificate) → c.problem ≡ p.now → IsTableOf c (S.table rows.now)
+        → IsBestValue p.now c.solutions (option_copied best.entry)
+        → IfErr result (λ e. e ≡ Memory
+        → PassesTestsIn (profile_of profile) c (derivation_of step.old)
+        (free_tests (reason_of step.old.reason))) }
+
+    // What is answered is sound where the live constraints before it are.
+    ensures sound { (c : Certificate) → c.problem ≡ p.now → IsTableOf c (S.table rows.now)
+        → RefersBack c → IsBestValue p.now c.solutions (option_copied best.entry)
+        → IfOk result (λ _. KeepsSound c (derivation_of step.old)) }
+    // So it is over any table and best value: `says` is what the rows state, and what is answered
+    // states at the next index.
+    ensures sound_rows { IfOk result (λ e. (says : ℕ → Condition)
+        → HasSoundRows p.now (option_copied best.entry) (S.table rows.now) says
+        → says (S.table rows.now).next ≡ condition_of e.constraint
+        → IsSoundRow p.now (option_copied best.entry) says e) }
+
+    ensures stated { IfOk result (λ e. e.constraint ≡ step.old.constraint) }
+    ensures named { step.new.name ≡ step.old.name }
+    ensures err { OnErr result (step.new ≡ step.old) }
+    ensures variables { length scratch.new.sums ≡ length scratch.old.sums }
+{
+    let context = Context {
+        profile,
+        problem: p,
+        best,
+        rows,
+    };
+    let assumptions = assumptions_of(alloc, &context, scratch, step)?;
+    Ok(Entry {
+        constraint: replace(&mut step.constraint, nothing_stated(alloc)),
+        assumptions,
+        is_assumption: is_assumption(&step.reason),
+        last: step.last,
+    })
+}
+
+// A constraint without variables. Takes no memory.
+fn nothing_stated(alloc: Global) -> Constraint {
+    Constraint {
+        row: Row::from_distinct(Vec::new(alloc)),
+        sense: Sense::E,
+        rhs: Frac::zero(),
+    }
 }
 
 /// Tests a derivation by the rule of its reason, and gives the assumptions that it rests on.
