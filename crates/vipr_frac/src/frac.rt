@@ -297,7 +297,6 @@ fn sum_of_parts(a: Frac, b: Frac, g: u128) -> Result<i128, Overflow>
     bounded_sum(left, right)
 }
 
-#[inline(never)]
 fn sum_by_parts(a: Frac, b: Frac) -> Result<Frac, Overflow>
     ensures fits { IsOk result ↔ FitsSum a b }
     ensures value { IfOk result (λ f. f ≡ a +ℚ b) }
@@ -311,7 +310,6 @@ fn sum_by_parts(a: Frac, b: Frac) -> Result<Frac, Overflow>
     Ok(of_parts(divided(both, h), below))
 }
 
-#[inline(never)]
 fn product_by_parts(a: Frac, b: Frac) -> Result<Frac, Overflow>
     ensures fits { IsOk result ↔ ProductFits a b }
     ensures value { IfOk result (λ f. f ≡ a *ℚ b) }
@@ -323,6 +321,28 @@ fn product_by_parts(a: Frac, b: Frac) -> Result<Frac, Overflow>
     let above = bounded_product(divided(p, g), divided(r, h))?;
     let below = bounded_denominator(quotient(q, h), quotient(s, g))?;
     Ok(of_parts(above, below))
+}
+
+// The sum of p / q and r / s, whose parts need not lie in memory for a call.
+#[inline(never)]
+fn exact_sum(p: i128, q: u128, r: i128, s: u128) -> Result<Frac, Overflow>
+    requires left { IsReduced p q }
+    requires right { IsReduced r s }
+    ensures fits { IsOk result ↔ FitsSum (over p q) (over r s) }
+    ensures value { IfOk result (λ f. f ≡ over p q +ℚ over r s) }
+{
+    sum_by_parts(of_parts(p, q), of_parts(r, s))
+}
+
+// Their product.
+#[inline(never)]
+fn exact_product(p: i128, q: u128, r: i128, s: u128) -> Result<Frac, Overflow>
+    requires left { IsReduced p q }
+    requires right { IsReduced r s }
+    ensures fits { IsOk result ↔ ProductFits (over p q) (over r s) }
+    ensures value { IfOk result (λ f. f ≡ over p q *ℚ over r s) }
+{
+    product_by_parts(of_parts(p, q), of_parts(r, s))
 }
 
 #[inline(always)]
@@ -481,7 +501,7 @@ impl Frac {
         if is_small(self) && is_small(other) {
             return Ok(small_sum(self, other));
         }
-        sum_by_parts(self, other)
+        exact_sum(p, q, r, s)
     }
 
     /// The exact product, in lowest terms. It is refused where that is out of bound.
@@ -498,6 +518,6 @@ impl Frac {
         if is_small(self) && is_small(other) {
             return Ok(small_product(self, other));
         }
-        product_by_parts(self, other)
+        exact_product(p, q, r, s)
     }
 }

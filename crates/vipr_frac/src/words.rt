@@ -46,8 +46,8 @@ impl Half {
     }
 
     #[inline(always)]
-    fn value(self) -> u64
-        ensures { result ≡ self }
+    fn value(&self) -> u64
+        ensures { result ≡ self.now }
     {
         u64::from(self.high) * HALF + u64::from(self.low)
     }
@@ -91,8 +91,8 @@ impl Wide {
     }
 
     #[inline(always)]
-    pub(crate) fn value(self) -> u128
-        ensures { result ≡ self }
+    pub(crate) fn value(&self) -> u128
+        ensures { result ≡ self.now }
     {
         u128::from(self.high.value()) * WHOLE + u128::from(self.low.value())
     }
@@ -141,8 +141,8 @@ impl SignedWide {
     }
 
     #[inline(always)]
-    pub(crate) fn value(self) -> i128
-        ensures { result ≡ self }
+    pub(crate) fn value(&self) -> i128
+        ensures { result ≡ self.now }
     {
         self.bits.value().cast_signed()
     }
