@@ -12,8 +12,10 @@ half_low high low h = omega arith
 half_high : (high low : ℕ) → low < 2 ^ 32 → (high * 2 ^ 32 + low) / 2 ^ 32 ≡ high
 half_high high low h = omega arith
 
-pub half_is : (h : HalfInside) → h.low < 2 ^ 32
-    → record { low = (h.high * 2 ^ 32 + h.low) % 2 ^ 32; high = (h.high * 2 ^ 32 + h.low) / 2 ^ 32 } ≡ h
+abbrev pub half_of : ℕ → HalfInside
+half_of n = record { low = n % 2 ^ 32; high = n / 2 ^ 32 }
+
+pub half_is : (h : HalfInside) → h.low < 2 ^ 32 → half_of (h.high * 2 ^ 32 + h.low) ≡ h
 half_is h e =
     ap (λ (n : ℕ). record { low = n; high = (h.high * 2 ^ 32 + h.low) / 2 ^ 32 })
     (half_low h.high h.low e) ∙ ap (λ (n : ℕ). record { low = h.low; high = n })
@@ -25,8 +27,10 @@ wide_low high low h = omega arith
 wide_high : (high low : ℕ) → low < 2 ^ 64 → (high * 2 ^ 64 + low) / 2 ^ 64 ≡ high
 wide_high high low h = omega arith
 
-pub wide_is : (w : WideInside) → w.low < 2 ^ 64
-    → record { low = (w.high * 2 ^ 64 + w.low) % 2 ^ 64; high = (w.high * 2 ^ 64 + w.low) / 2 ^ 64 } ≡ w
+abbrev pub wide_of : ℕ → WideInside
+wide_of n = record { low = n % 2 ^ 64; high = n / 2 ^ 64 }
+
+pub wide_is : (w : WideInside) → w.low < 2 ^ 64 → wide_of (w.high * 2 ^ 64 + w.low) ≡ w
 wide_is w e =
     ap (λ (n : ℕ). record { low = n; high = (w.high * 2 ^ 64 + w.low) / 2 ^ 64 })
     (wide_low w.high w.low e) ∙ ap (λ (n : ℕ). record { low = w.low; high = n })

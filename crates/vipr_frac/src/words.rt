@@ -16,20 +16,20 @@ struct Half {
 }
 
 impl Model for Half {
-    ghost use Rattle.std.specs.Prelude.{ℕ, ◌+◌, ◌*◌, ◌^◌, ◌<◌, ◌/◌, ◌%◌};
+    ghost use Rattle.std.specs.Prelude.{ℕ, ◌+◌, ◌*◌, ◌^◌, ◌<◌};
     ghost use Rattle.std.specs.Coded.{coded_ℕ};
 
     ghost Value = { ℕ };
 
     ghost coded = { coded_ℕ };
 
-    ghost use Rattle.vipr_frac.specs.Words.{half_is};
+    ghost use Rattle.vipr_frac.specs.Words.{half_of, half_is};
 
     ghost view = { λ h. h.high * 2 ^ 32 + h.low };
 
     ghost invariant = { λ h. h.low < 2 ^ 32 };
 
-    ghost inverse = { λ n. record { low = n % 2 ^ 32; high = n / 2 ^ 32 } };
+    ghost inverse = { half_of };
 
     ghost inverse_ok = { λ h e. half_is h e };
 }
@@ -61,20 +61,20 @@ pub(crate) struct Wide {
 }
 
 impl Model for Wide {
-    ghost use Rattle.std.specs.Prelude.{ℕ, ◌+◌, ◌*◌, ◌^◌, ◌<◌, ◌/◌, ◌%◌};
+    ghost use Rattle.std.specs.Prelude.{ℕ, ◌+◌, ◌*◌, ◌^◌, ◌<◌};
     ghost use Rattle.std.specs.Coded.{coded_ℕ};
 
     ghost Value = { ℕ };
 
     ghost coded = { coded_ℕ };
 
-    ghost use Rattle.vipr_frac.specs.Words.{wide_is};
+    ghost use Rattle.vipr_frac.specs.Words.{wide_of, wide_is};
 
     ghost view = { λ w. w.high * 2 ^ 64 + w.low };
 
     ghost invariant = { λ w. (w.low < 2 ^ 64) × (w.high < 2 ^ 64) };
 
-    ghost inverse = { λ n. record { low = n % 2 ^ 64; high = n / 2 ^ 64 } };
+    ghost inverse = { wide_of };
 
     ghost inverse_ok = { λ w e. wide_is w e.0 };
 }
