@@ -48,6 +48,14 @@ over-parts p (suc q) h = (refl, refl)
 pub over-self : (x : ℚ) → over x.numer x.denom ≡ x
 over-self x = is_one _ _ _ _ (is_over x.numer x.denom x.lowest.positive) (record { some = x.lowest.positive; cross = refl })
 
+-- the same of the parts that a call gives
+pub facts_of : (x : ℚ) (p : ℤ) (q : ℕ) → p ≡ x.numer → q ≡ x.denom → IsReduced p q → Facts x p q
+facts_of x p q e f h = facts x p q (rw (e, f) (over-self x)) h
+
+-- the fraction of parts that are passed on
+pub passed-on : (x : ℚ) (p : ℤ) (q : ℕ) → p ≡ x.numer → q ≡ x.denom → IsReduced p q → over (to_z w128 (of_z w128 p)) q ≡ x
+passed-on x p q e f h = rw (as-is p h.numer_bounded, e, f) (over-self x)
+
 -- reduction keeps the bound
 pub IsReduced-over : (p : ℤ) (q : ℕ) → 0 < q → unsigned_abs p ≤ most → q ≤ most → IsReduced (over p q).numer (over p q).denom
 IsReduced-over p q some h k =

@@ -11,6 +11,7 @@ ghost use Rattle.vipr_frac.specs.Parts.{IsReduced, FitsParts, FitsSum, both_part
 
 use crate::gcd::{gcd_of, quotient, word_gcd};
 use crate::pairs::words;
+use crate::words::{SignedWide, Wide};
 use std::cmp::Ordering;
 use std::hash::{Hash, Hasher};
 use std::marker::Model;
@@ -33,8 +34,8 @@ pub struct Overflow;
 /// values.
 #[derive(Clone, Copy, Debug)]
 pub struct Frac {
-    p: i128,
-    q: u128,
+    p: SignedWide,
+    q: Wide,
 }
 
 impl Model for Frac {
@@ -69,7 +70,9 @@ impl PartialEq for Frac {
         ensures tested { result ≡ eq_ℚ self.now other.now }
         ensures same { IsTrue result ↔ (self.now ≡ other.now) }
     {
-        self.p == other.p && self.q == other.q
+        let (p, q) = self.parts();
+        let (r, s) = other.parts();
+        p == r && q == s
     }
 }
 
@@ -90,8 +93,9 @@ impl Hash for Frac {
     ghost respects_eq = { hash_input_respects };
 
     fn hash<H: Hasher>(&self, state: &mut H) {
-        self.p.hash(state);
-        self.q.hash(state);
+        let (p, q) = self.parts();
+        p.hash(state);
+        q.hash(state);
     }
 }
 
@@ -109,7 +113,9 @@ impl Ord for Frac {
     ghost matches_eq = { λ x y. refl };
 
     fn cmp(&self, other: &Frac) -> Ordering {
-        compare_fractions(self.p, self.q, other.p, other.q)
+        let (p, q) = self.parts();
+        let (r, s) = other.parts();
+        compare_fractions(p, q, r, s)
     }
 }
 
@@ -208,11 +214,15 @@ fn divided(p: i128, g: u128) -> i128
     if p < 0 { -size } else { size }
 }
 
+#[inline(always)]
 pub(crate) fn of_parts(p: i128, q: u128) -> Frac
     requires { IsReduced p q }
     ensures { result ≡ over p q }
 {
-    Frac { p, q }
+    Frac {
+        p: SignedWide::of(p),
+        q: Wide::of(q),
+    }
 }
 
 pub(crate) fn reduced(p: i128, q: u128) -> Frac
@@ -242,7 +252,7 @@ pub(crate) fn of_whole(p: i128) -> Frac
     requires { unsigned_abs p ≤ most }
     ensures { result ≡ whole p }
 {
-    Frac { p, q: 1 }
+    of_parts(p, 1)
 }
 
 #[inline(always)]
@@ -280,33 +290,59 @@ fn sum_of_parts(a: Frac, b: Frac, g: u128) -> Result<i128, Overflow>
     ensures fits { IsOk result ↔ FitsParts a b }
     ensures value { IfOk result (λ t. t ≡ both_parts a b) }
 {
-    let left = scaled(a.p, quotient(b.q, g))?;
-    let right = scaled(b.p, quotient(a.q, g))?;
+    let (p, q) = a.parts();
+    let (r, s) = b.parts();
+    let left = scaled(p, quotient(s, g))?;
+    let right = scaled(r, quotient(q, g))?;
     bounded_sum(left, right)
 }
 
-#[inline(never)]
 fn sum_by_parts(a: Frac, b: Frac) -> Result<Frac, Overflow>
     ensures fits { IsOk result ↔ FitsSum a b }
     ensures value { IfOk result (λ f. f ≡ a +ℚ b) }
 {
-    let g = gcd_of(a.q, b.q);
+    let (_, q) = a.parts();
+    let (_, s) = b.parts();
+    let g = gcd_of(q, s);
     let both = sum_of_parts(a, b, g)?;
     let h = gcd_of(both.unsigned_abs(), g);
-    let q = bounded_denominator(quotient(a.q, g), quotient(b.q, h))?;
-    Ok(of_parts(divided(both, h), q))
+    let below = bounded_denominator(quotient(q, g), quotient(s, h))?;
+    Ok(of_parts(divided(both, h), below))
 }
 
-#[inline(never)]
 fn product_by_parts(a: Frac, b: Frac) -> Result<Frac, Overflow>
     ensures fits { IsOk result ↔ ProductFits a b }
     ensures value { IfOk result (λ f. f ≡ a *ℚ b) }
 {
-    let g = gcd_of(a.p.unsigned_abs(), b.q);
-    let h = gcd_of(b.p.unsigned_abs(), a.q);
-    let p = bounded_product(divided(a.p, g), divided(b.p, h))?;
-    let q = bounded_denominator(quotient(a.q, h), quotient(b.q, g))?;
-    Ok(of_parts(p, q))
+    let (p, q) = a.parts();
+    let (r, s) = b.parts();
+    let g = gcd_of(p.unsigned_abs(), s);
+    let h = gcd_of(r.unsigned_abs(), q);
+    let above = bounded_product(divided(p, g), divided(r, h))?;
+    let below = bounded_denominator(quotient(q, h), quotient(s, g))?;
+    Ok(of_parts(above, below))
+}
+
+// The sum of p / q and r / s, whose parts need not lie in memory for a call.
+#[inline(never)]
+fn exact_sum(p: i128, q: u128, r: i128, s: u128) -> Result<Frac, Overflow>
+    requires left { IsReduced p q }
+    requires right { IsReduced r s }
+    ensures fits { IsOk result ↔ FitsSum (over p q) (over r s) }
+    ensures value { IfOk result (λ f. f ≡ over p q +ℚ over r s) }
+{
+    sum_by_parts(of_parts(p, q), of_parts(r, s))
+}
+
+// Their product.
+#[inline(never)]
+fn exact_product(p: i128, q: u128, r: i128, s: u128) -> Result<Frac, Overflow>
+    requires left { IsReduced p q }
+    requires right { IsReduced r s }
+    ensures fits { IsOk result ↔ ProductFits (over p q) (over r s) }
+    ensures value { IfOk result (λ f. f ≡ over p q *ℚ over r s) }
+{
+    product_by_parts(of_parts(p, q), of_parts(r, s))
 }
 
 #[inline(always)]
@@ -324,12 +360,14 @@ fn small_sum(a: Frac, b: Frac) -> Frac
     ensures fits { FitsSum a b }
     ensures value { result ≡ a +ℚ b }
 {
-    let g = gcd_of(a.q, b.q);
-    let left = a.p * quotient(b.q, g) as i128;
-    let right = b.p * quotient(a.q, g) as i128;
+    let (p, q) = a.parts();
+    let (r, s) = b.parts();
+    let g = gcd_of(q, s);
+    let left = p * quotient(s, g) as i128;
+    let right = r * quotient(q, g) as i128;
     let both = left + right;
     let h = gcd_of(both.unsigned_abs(), g);
-    of_parts(divided(both, h), quotient(a.q, g) * quotient(b.q, h))
+    of_parts(divided(both, h), quotient(q, g) * quotient(s, h))
 }
 
 // The product of small fractions.
@@ -340,10 +378,12 @@ fn small_product(a: Frac, b: Frac) -> Frac
     ensures fits { ProductFits a b }
     ensures value { result ≡ a *ℚ b }
 {
-    let g = gcd_of(a.p.unsigned_abs(), b.q);
-    let h = gcd_of(b.p.unsigned_abs(), a.q);
-    let p = divided(a.p, g) * divided(b.p, h);
-    of_parts(p, quotient(a.q, h) * quotient(b.q, g))
+    let (p, q) = a.parts();
+    let (r, s) = b.parts();
+    let g = gcd_of(p.unsigned_abs(), s);
+    let h = gcd_of(r.unsigned_abs(), q);
+    let above = divided(p, g) * divided(r, h);
+    of_parts(above, quotient(q, h) * quotient(s, g))
 }
 
 impl Frac {
@@ -367,14 +407,14 @@ impl Frac {
     pub fn zero() -> Frac
         ensures { result ≡ zero_ℚ }
     {
-        Frac { p: 0, q: 1 }
+        of_whole(0)
     }
 
     /// 1.
     pub fn one() -> Frac
         ensures { result ≡ whole (pos 1) }
     {
-        Frac { p: 1, q: 1 }
+        of_whole(1)
     }
 
     /// The numerator in lowest terms.
@@ -382,7 +422,7 @@ impl Frac {
         ensures value { result ≡ self.numer }
         ensures bounded { IsBounded self }
     {
-        self.p
+        self.parts().0
     }
 
     /// The denominator in lowest terms, at least 1.
@@ -390,17 +430,15 @@ impl Frac {
         ensures value { result ≡ pos self.denom }
         ensures bounded { IsBounded self }
     {
-        self.q as i128
+        self.parts().1 as i128
     }
 
     /// The fraction with the other sign.
     pub fn neg(self) -> Frac
         ensures { result ≡ neg_ℚ self }
     {
-        Frac {
-            p: -self.p,
-            q: self.q,
-        }
+        let (p, q) = self.parts();
+        of_parts(-p, q)
     }
 
     /// Whether it is a whole number.
@@ -408,7 +446,7 @@ impl Frac {
         ensures denominator { IsTrue result ↔ (self.denom ≡ 1) }
         ensures value { IsTrue result ↔ IsWhole self }
     {
-        self.q == 1
+        self.parts().1 == 1
     }
 
     /// The greatest whole number that is not above it.
@@ -416,7 +454,7 @@ impl Frac {
         ensures floor { IsFloor self result }
         ensures bounded { unsigned_abs result ≤ most }
     {
-        self.p.div_euclid(self.q as i128)
+        self.numer().div_euclid(self.denom())
     }
 
     /// The least whole number that is not below it.
@@ -434,7 +472,7 @@ impl Frac {
         ensures denom { result.1 ≡ self.denom }
         ensures reduced { IsReduced result.0 result.1 }
     {
-        (self.p, self.q)
+        (self.p.value(), self.q.value())
     }
 
     // The parts as words of 64 bits with a sign, if they are that small.
@@ -444,7 +482,8 @@ impl Frac {
         ensures denom { IfSome result (λ r. r.1 ≡ self.denom) }
         ensures small { IsSome result → IsSmall self }
     {
-        words(self.p, self.q)
+        let (p, q) = self.parts();
+        words(p, q)
     }
 
     /// The exact sum, in lowest terms. It is refused where one of the two parts over the least
@@ -454,13 +493,15 @@ impl Frac {
         ensures fits { IsOk result ↔ SumFits self other }
         ensures value { IfOk result (λ f. f ≡ self +ℚ other) }
     {
-        if self.q == 1 && other.q == 1 {
-            return whole_sum(self.p, other.p);
+        let (p, q) = self.parts();
+        let (r, s) = other.parts();
+        if q == 1 && s == 1 {
+            return whole_sum(p, r);
         }
         if is_small(self) && is_small(other) {
             return Ok(small_sum(self, other));
         }
-        sum_by_parts(self, other)
+        exact_sum(p, q, r, s)
     }
 
     /// The exact product, in lowest terms. It is refused where that is out of bound.
@@ -469,12 +510,14 @@ impl Frac {
         ensures fits { IsOk result ↔ ProductFits self other }
         ensures value { IfOk result (λ f. f ≡ self *ℚ other) }
     {
-        if self.q == 1 && other.q == 1 {
-            return whole_product(self.p, other.p);
+        let (p, q) = self.parts();
+        let (r, s) = other.parts();
+        if q == 1 && s == 1 {
+            return whole_product(p, r);
         }
         if is_small(self) && is_small(other) {
             return Ok(small_product(self, other));
         }
-        product_by_parts(self, other)
+        exact_product(p, q, r, s)
     }
 }

@@ -8,6 +8,7 @@ mod pairs;
 mod partial;
 #[cfg(test)]
 mod tests;
+mod words;
 
 pub use frac::{Frac, FracError, Overflow};
 pub use number::{NumberError, front_natural};

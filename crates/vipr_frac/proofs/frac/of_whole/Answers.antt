@@ -1,5 +1,10 @@
+use Rattle.std.proofs.Common.{ap, ◌∙◌}
+use Rattle.vipr_spec.specs.Fraction.{over}
 use Rattle.vipr_frac.proofs.Views.{as-is, IsReduced-whole}
 use Rattle.vipr_frac.proofs.frac.of_whole.Goals as goal
 
-pub invariant_of-result : goal.invariant_of-result
-invariant_of-result c = rw (as-is c.args.p c.requires) (IsReduced-whole c.args.p c.requires)
+pub of_parts-requires : goal.of_parts-requires
+of_parts-requires c = rw (as-is c.args.p c.requires) (IsReduced-whole c.args.p c.requires)
+
+pub returns : goal.returns
+returns c = c.of_parts.ensures ∙ ap (λ z. over z 1) (as-is c.args.p c.requires)

@@ -6,16 +6,16 @@ use Rattle.vipr_spec.specs.Gcd.{gcd}
 use Rattle.vipr_frac.specs.Parts.{product_numer, product_denom}
 use Rattle.vipr_frac.proofs.Sums.{product-is, IsReduced-product, ProductFits-parts}
 use Rattle.vipr_frac.proofs.Small.{word_fits, small_product_fits, product_numer_small, product_denom_small}
-use Rattle.vipr_frac.proofs.Views.{facts, Facts, as-is}
+use Rattle.vipr_frac.proofs.Views.{facts_of, Facts, as-is}
 use Rattle.vipr_frac.proofs.frac.small_product.Goals as goal
 use Rattle.vipr_frac.proofs.frac.small_product.Goals.{After-divided-2, After-quotient-2}
 
 module _ (c : After-divided-2) where
-  a : Facts c.args.a c.a.inside.p c.a.inside.q
-  a = facts _ _ _ c.a.view_is c.a.invariant
+  a : Facts c.args.a c.parts-p.result.0 c.parts-p.result.1
+  a = facts_of _ _ _ c.parts-p.ensures.numer c.parts-p.ensures.denom c.parts-p.ensures.reduced
 
-  b : Facts c.args.b c.b.inside.p c.b.inside.q
-  b = facts _ _ _ c.b.view_is c.b.invariant
+  b : Facts c.args.b c.parts-r.result.0 c.parts-r.result.1
+  b = facts_of _ _ _ c.parts-r.ensures.numer c.parts-r.ensures.denom c.parts-r.ensures.reduced
 
   g_is : c.gcd_of-g.result ≡ gcd (unsigned_abs c.args.a.numer) c.args.b.denom
   g_is = c.gcd_of-g.ensures.value ∙ rw (c.unsigned_abs.ensures.value, a.back, b.denom)
@@ -27,12 +27,12 @@ module _ (c : After-divided-2) where
   p_value =
       rw (to_z-of_z w128 c.divided.result (record { sfits = c.divided.type_inv }), to_z-of_z w128 c.divided-2.result (record { sfits = c.divided-2.type_inv }), c.divided.ensures, c.divided-2.ensures, a.back, b.back, g_is, h_is)
 
-  q_value : c.a.inside.q / c.gcd_of-h.result * (c.b.inside.q / c.gcd_of-g.result) ≡ product_denom c.args.a c.args.b
+  q_value : c.parts-p.result.1 / c.gcd_of-h.result * (c.parts-r.result.1 / c.gcd_of-g.result) ≡ product_denom c.args.a c.args.b
   q_value = rw (a.denom, b.denom, g_is, h_is)
 
-pub overflow_mul-p : goal.overflow_mul-p
-overflow_mul-p c =
-    let k = (goal.at.overflow_mul-p c).After-divided-2 in
+pub overflow_mul-above : goal.overflow_mul-above
+overflow_mul-above c =
+    let k = (goal.at.overflow_mul-above c).After-divided-2 in
     rw (p_value k) (word_fits _ (product_numer_small c.args.a c.args.b c.requires.left c.requires.right))
 
 module _ (c : After-quotient-2) where

@@ -5,28 +5,28 @@ use Rattle.std.proofs.lemmas.Int.{to_z-of_z}
 use Rattle.vipr_spec.specs.Gcd.{gcd}
 use Rattle.vipr_frac.specs.Parts.{both_parts, sum_gcd, sum_denom, FitsParts, FitsSum}
 use Rattle.vipr_frac.proofs.Sums.{sum-is, IsReduced-sum}
-use Rattle.vipr_frac.proofs.Views.{as-is, facts, Facts, refused}
+use Rattle.vipr_frac.proofs.Views.{as-is, facts_of, Facts, refused}
 use Rattle.vipr_frac.proofs.frac.sum_by_parts.Goals as goal
 use Rattle.vipr_frac.proofs.frac.sum_by_parts.Goals.{After-quotient-2, After-divided}
 
 pub sum_of_parts-requires : goal.sum_of_parts-requires
 sum_of_parts-requires c =
-    let a : Facts c.args.a c.a.inside.p c.a.inside.q = facts _ _ _ c.a.view_is c.a.invariant in
-    let b : Facts c.args.b c.b.inside.p c.b.inside.q = facts _ _ _ c.b.view_is c.b.invariant in
+    let a : Facts c.args.a c.parts-q.result.0 c.parts-q.result.1 = facts_of _ _ _ c.parts-q.ensures.numer c.parts-q.ensures.denom c.parts-q.ensures.reduced in
+    let b : Facts c.args.b c.parts-s.result.0 c.parts-s.result.1 = facts_of _ _ _ c.parts-s.ensures.numer c.parts-s.ensures.denom c.parts-s.ensures.reduced in
     c.gcd_of-g.ensures.value ∙ rw (a.denom, b.denom)
 
 module _ (c : After-quotient-2) where
-  a : Facts c.args.a c.a-2.inside.p c.a-2.inside.q
-  a = facts _ _ _ c.a-2.view_is c.a-2.invariant
+  a : Facts c.args.a c.parts-q.result.0 c.parts-q.result.1
+  a = facts_of _ _ _ c.parts-q.ensures.numer c.parts-q.ensures.denom c.parts-q.ensures.reduced
 
-  b : Facts c.args.b c.b-2.inside.p c.b-2.inside.q
-  b = facts _ _ _ c.b-2.view_is c.b-2.invariant
+  b : Facts c.args.b c.parts-s.result.0 c.parts-s.result.1
+  b = facts_of _ _ _ c.parts-s.ensures.numer c.parts-s.ensures.denom c.parts-s.ensures.reduced
 
-  a_first : Facts c.args.a c.a.inside.p c.a.inside.q
-  a_first = facts _ _ _ c.a.view_is c.a.invariant
+  a_first : Facts c.args.a c.parts-q.result.0 c.parts-q.result.1
+  a_first = facts_of _ _ _ c.parts-q.ensures.numer c.parts-q.ensures.denom c.parts-q.ensures.reduced
 
-  b_first : Facts c.args.b c.b.inside.p c.b.inside.q
-  b_first = facts _ _ _ c.b.view_is c.b.invariant
+  b_first : Facts c.args.b c.parts-s.result.0 c.parts-s.result.1
+  b_first = facts_of _ _ _ c.parts-s.ensures.numer c.parts-s.ensures.denom c.parts-s.ensures.reduced
 
   parts : FitsParts c.args.a c.args.b
   parts = c.in_ok-both.ensures.fits.0 refl
@@ -47,15 +47,15 @@ module _ (c : After-divided) where
   abbrev d : After-quotient-2
   d = (goal.at.of_parts-requires c).After-quotient-2
 
-  q_is : c.in_ok-q.q ≡ sum_denom c.args.a c.args.b
-  q_is = c.in_ok-q.ensures.value ∙ q_value d
+  q_is : c.in_ok-below.below ≡ sum_denom c.args.a c.args.b
+  q_is = c.in_ok-below.ensures.value ∙ q_value d
 
   p_is : to_z w128 (of_z w128 c.divided.result) ≡ int_div (both_parts c.args.a c.args.b) (pos (sum_gcd c.args.a c.args.b))
   p_is =
       to_z-of_z w128 c.divided.result (record { sfits = c.divided.type_inv }) ∙ c.divided.ensures ∙ rw (both_is d, h_is d)
 
   fits : FitsSum c.args.a c.args.b
-  fits = let parts = parts d in record { left = parts.left; right = parts.right; both = parts.both; below = rw (q_value d) at (c.in_ok-q.ensures.fits.0 refl) }
+  fits = let parts = parts d in record { left = parts.left; right = parts.right; both = parts.both; below = rw (q_value d) at (c.in_ok-below.ensures.fits.0 refl) }
 
 pub of_parts-requires : goal.of_parts-requires
 of_parts-requires c = rw (p_is c, q_is c) (IsReduced-sum c.args.a c.args.b (fits c))
@@ -68,9 +68,9 @@ returns-clause-value c =
     let d = (goal.at.returns-clause-value c).After-divided in
     c.of_parts.ensures ∙ rw (p_is d, q_is d, sum-is c.args.a c.args.b)
 
-pub returns-in_err-q-clause-fits : goal.returns-in_err-q-clause-fits
-returns-in_err-q-clause-fits c =
-    let d = (goal.at.returns-in_err-q-clause-fits c).After-quotient-2 in (
-      λ ok. refused _ c.from_residual-in_err-q.ensures.0 ok,
-      λ f. let e : false ≡ true = c.in_err-q.ensures.fits.1 (rw (q_value d) f.below) in cc,
+pub returns-in_err-below-clause-fits : goal.returns-in_err-below-clause-fits
+returns-in_err-below-clause-fits c =
+    let d = (goal.at.returns-in_err-below-clause-fits c).After-quotient-2 in (
+      λ ok. refused _ c.from_residual-in_err-below.ensures.0 ok,
+      λ f. let e : false ≡ true = c.in_err-below.ensures.fits.1 (rw (q_value d) f.below) in cc,
     )

@@ -5,7 +5,7 @@ use Rattle.vipr_spec.specs.Fraction.{ℚ, most}
 use Rattle.vipr_spec.specs.Gcd.{gcd}
 use Rattle.vipr_frac.specs.Parts.{left_part, right_part, both_parts}
 use Rattle.vipr_frac.proofs.Steps.{gcd-some}
-use Rattle.vipr_frac.proofs.Views.{as-is, facts, Facts, refused}
+use Rattle.vipr_frac.proofs.Views.{as-is, facts_of, Facts, refused}
 use Rattle.vipr_frac.proofs.frac.sum_of_parts.Goals as goal
 
 pub quotient-requires : goal.quotient-requires
@@ -23,28 +23,28 @@ right_is x y p g r s e f h k = rw (e, k, f, h)
 
 pub returns-in_err-left-clause-fits : goal.returns-in_err-left-clause-fits
 returns-in_err-left-clause-fits c =
-    let a : Facts c.args.a c.a.inside.p c.a.inside.q = facts _ _ _ c.a.view_is c.a.invariant in
-    let b : Facts c.args.b c.b.inside.p c.b.inside.q = facts _ _ _ c.b.view_is c.b.invariant in
-    let left = left_is c.args.a c.args.b c.a.inside.p c.args.g c.quotient.result c.b.inside.q a.back b.denom c.requires c.quotient.ensures in (
+    let a : Facts c.args.a c.parts-p.result.0 c.parts-p.result.1 = facts_of _ _ _ c.parts-p.ensures.numer c.parts-p.ensures.denom c.parts-p.ensures.reduced in
+    let b : Facts c.args.b c.parts-r.result.0 c.parts-r.result.1 = facts_of _ _ _ c.parts-r.ensures.numer c.parts-r.ensures.denom c.parts-r.ensures.reduced in
+    let left = left_is c.args.a c.args.b c.parts-p.result.0 c.args.g c.quotient.result c.parts-r.result.1 a.back b.denom c.requires c.quotient.ensures in (
       λ ok. refused _ c.from_residual.ensures.0 ok,
       λ f. let e : false ≡ true = c.in_err-left.ensures.fits.1 (rw left f.left) in cc,
     )
 
 pub returns-in_err-right-clause-fits : goal.returns-in_err-right-clause-fits
 returns-in_err-right-clause-fits c =
-    let a : Facts c.args.a c.a.inside.p c.a.inside.q = facts _ _ _ c.a.view_is c.a.invariant in
-    let b : Facts c.args.b c.b.inside.p c.b.inside.q = facts _ _ _ c.b.view_is c.b.invariant in
-    let right = right_is c.args.a c.args.b c.b.inside.p c.args.g c.quotient-2.result c.a.inside.q b.back a.denom c.requires c.quotient-2.ensures in (
+    let a : Facts c.args.a c.parts-p.result.0 c.parts-p.result.1 = facts_of _ _ _ c.parts-p.ensures.numer c.parts-p.ensures.denom c.parts-p.ensures.reduced in
+    let b : Facts c.args.b c.parts-r.result.0 c.parts-r.result.1 = facts_of _ _ _ c.parts-r.ensures.numer c.parts-r.ensures.denom c.parts-r.ensures.reduced in
+    let right = right_is c.args.a c.args.b c.parts-r.result.0 c.args.g c.quotient-2.result c.parts-p.result.1 b.back a.denom c.requires c.quotient-2.ensures in (
       λ ok. refused _ c.from_residual-in_err-right.ensures.0 ok,
       λ f. let e : false ≡ true = c.in_err-right.ensures.fits.1 (rw right f.right) in cc,
     )
 
 pub returns-clause-fits : goal.returns-clause-fits
 returns-clause-fits c =
-    let a : Facts c.args.a c.a.inside.p c.a.inside.q = facts _ _ _ c.a.view_is c.a.invariant in
-    let b : Facts c.args.b c.b.inside.p c.b.inside.q = facts _ _ _ c.b.view_is c.b.invariant in
-    let left = left_is c.args.a c.args.b c.a.inside.p c.args.g c.quotient.result c.b.inside.q a.back b.denom c.requires c.quotient.ensures in
-    let right = right_is c.args.a c.args.b c.b.inside.p c.args.g c.quotient-2.result c.a.inside.q b.back a.denom c.requires c.quotient-2.ensures in
+    let a : Facts c.args.a c.parts-p.result.0 c.parts-p.result.1 = facts_of _ _ _ c.parts-p.ensures.numer c.parts-p.ensures.denom c.parts-p.ensures.reduced in
+    let b : Facts c.args.b c.parts-r.result.0 c.parts-r.result.1 = facts_of _ _ _ c.parts-r.ensures.numer c.parts-r.ensures.denom c.parts-r.ensures.reduced in
+    let left = left_is c.args.a c.args.b c.parts-p.result.0 c.args.g c.quotient.result c.parts-r.result.1 a.back b.denom c.requires c.quotient.ensures in
+    let right = right_is c.args.a c.args.b c.parts-r.result.0 c.args.g c.quotient-2.result c.parts-p.result.1 b.back a.denom c.requires c.quotient-2.ensures in
     let left_value : c.in_ok-left.left ≡ left_part c.args.a c.args.b = c.in_ok-left.ensures.value ∙ left in
     let right_value : c.in_ok-right.right ≡ right_part c.args.a c.args.b = c.in_ok-right.ensures.value ∙ right in
     let left_small : unsigned_abs (left_part c.args.a c.args.b) ≤ most = subst (λ z. unsigned_abs z ≤ most) left (c.in_ok-left.ensures.fits.0 refl) in
@@ -57,10 +57,10 @@ returns-clause-fits c =
 
 pub returns-clause-value : goal.returns-clause-value
 returns-clause-value c =
-    let a : Facts c.args.a c.a.inside.p c.a.inside.q = facts _ _ _ c.a.view_is c.a.invariant in
-    let b : Facts c.args.b c.b.inside.p c.b.inside.q = facts _ _ _ c.b.view_is c.b.invariant in
-    let left = left_is c.args.a c.args.b c.a.inside.p c.args.g c.quotient.result c.b.inside.q a.back b.denom c.requires c.quotient.ensures in
-    let right = right_is c.args.a c.args.b c.b.inside.p c.args.g c.quotient-2.result c.a.inside.q b.back a.denom c.requires c.quotient-2.ensures in
+    let a : Facts c.args.a c.parts-p.result.0 c.parts-p.result.1 = facts_of _ _ _ c.parts-p.ensures.numer c.parts-p.ensures.denom c.parts-p.ensures.reduced in
+    let b : Facts c.args.b c.parts-r.result.0 c.parts-r.result.1 = facts_of _ _ _ c.parts-r.ensures.numer c.parts-r.ensures.denom c.parts-r.ensures.reduced in
+    let left = left_is c.args.a c.args.b c.parts-p.result.0 c.args.g c.quotient.result c.parts-r.result.1 a.back b.denom c.requires c.quotient.ensures in
+    let right = right_is c.args.a c.args.b c.parts-r.result.0 c.args.g c.quotient-2.result c.parts-p.result.1 b.back a.denom c.requires c.quotient-2.ensures in
     let left_value : c.in_ok-left.left ≡ left_part c.args.a c.args.b = c.in_ok-left.ensures.value ∙ left in
     let right_value : c.in_ok-right.right ≡ right_part c.args.a c.args.b = c.in_ok-right.ensures.value ∙ right in
     let left_small : unsigned_abs (left_part c.args.a c.args.b) ≤ most = subst (λ z. unsigned_abs z ≤ most) left (c.in_ok-left.ensures.fits.0 refl) in

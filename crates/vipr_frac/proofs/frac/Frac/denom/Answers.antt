@@ -1,12 +1,12 @@
 use Rattle.std.proofs.Common.{ap, pos, ◌∙◌}
-use Rattle.vipr_frac.proofs.Views.{facts, Facts, as-is}
+use Rattle.vipr_frac.proofs.Views.{facts_of, Facts, as-is}
 use Rattle.vipr_frac.proofs.frac.Frac.denom.Goals as goal
 
 pub returns-clause-value : goal.returns-clause-value
 returns-clause-value c =
-    let f : Facts c.args.self c.self.inside.p c.self.inside.q = facts _ _ _ c.self.view_is c.self.invariant in
-    as-is (pos c.self.inside.q) c.self.invariant.denom_bounded ∙ ap pos f.denom
+    let f : Facts c.args.self c.parts.result.0 c.parts.result.1 = facts_of _ _ _ c.parts.ensures.numer c.parts.ensures.denom c.parts.ensures.reduced in
+    as-is (pos c.parts.result.1) c.parts.ensures.reduced.denom_bounded ∙ ap pos f.denom
 
 pub returns-clause-bounded : goal.returns-clause-bounded
 returns-clause-bounded c =
-    let f : Facts c.args.self c.self.inside.p c.self.inside.q = facts _ _ _ c.self.view_is c.self.invariant in f.bounded
+    let f : Facts c.args.self c.parts.result.0 c.parts.result.1 = facts_of _ _ _ c.parts.ensures.numer c.parts.ensures.denom c.parts.ensures.reduced in f.bounded

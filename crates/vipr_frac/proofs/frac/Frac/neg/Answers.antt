@@ -1,12 +1,16 @@
-use Rattle.std.proofs.Common.{ap, ◌∙◌}
+use Rattle.std.proofs.Common.{ap, ap₂, ◌∙◌}
 use Rattle.vipr_spec.specs.Fraction.{over, neg_ℚ}
-use Rattle.vipr_frac.proofs.Views.{IsReduced-negated, negated-word, over-negated}
+use Rattle.vipr_frac.proofs.Views.{IsReduced-negated, negated-word, negated-fits, over-negated, over-self}
 use Rattle.vipr_frac.proofs.frac.Frac.neg.Goals as goal
 
-pub invariant_of-result : goal.invariant_of-result
-invariant_of-result c = rw (negated-word c.self.inside.p c.self.invariant.numer_bounded) (IsReduced-negated _ _ c.self.invariant)
+pub overflow_sub-p : goal.overflow_sub-p
+overflow_sub-p c = negated-fits c.parts-p.result.0 c.parts-p.ensures.reduced.numer_bounded
+
+pub of_parts-requires : goal.of_parts-requires
+of_parts-requires c = rw (negated-word c.parts-p.result.0 c.parts-p.ensures.reduced.numer_bounded) (IsReduced-negated _ _ c.parts-p.ensures.reduced)
 
 pub returns : goal.returns
 returns c =
-    ap (λ z. over z c.self.inside.q) (negated-word c.self.inside.p c.self.invariant.numer_bounded)
-    ∙ over-negated _ _ c.self.invariant.lowest.positive ∙ ap neg_ℚ c.self.view_is
+    c.of_parts.ensures ∙ ap (λ z. over z c.parts-p.result.1) (negated-word c.parts-p.result.0 c.parts-p.ensures.reduced.numer_bounded)
+    ∙ over-negated _ _ c.parts-p.ensures.reduced.lowest.positive
+    ∙ ap neg_ℚ (ap₂ over c.parts-p.ensures.numer c.parts-p.ensures.denom ∙ over-self c.args.self)

@@ -1,6 +1,5 @@
-use Rattle.std.proofs.Common.{pos, lit≤}
-use Rattle.vipr_frac.proofs.Views.{IsReduced-whole}
+use Rattle.std.proofs.Common.{lit≤}
 use Rattle.vipr_frac.proofs.frac.Frac.zero.Goals as goal
 
-pub invariant_of-result : goal.invariant_of-result
-invariant_of-result c = IsReduced-whole (pos 0) (lit≤ tt)
+pub of_whole-requires : goal.of_whole-requires
+of_whole-requires c = lit≤ tt
