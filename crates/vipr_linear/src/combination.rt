@@ -4,7 +4,7 @@ ghost use Rattle.std.specs.Prelude.{IsTrue, IsOk, IsSome, IsNone, IfOk, IfErr, O
 ghost use Rattle.std.specs.Prelude.{vec_capacity, Some, None};
 ghost use Rattle.vipr_spec.specs.Fraction.{◌+ℚ◌, ◌*ℚ◌};
 ghost use Rattle.vipr_spec.specs.Constraint.{Point, at, NamesBelow, value, ValueFits};
-ghost use Rattle.vipr_spec.specs.Constraint.{IsAbsurd, Dominates};
+ghost use Rattle.vipr_spec.specs.Constraint.{IsAbsurd, Dominates, IsWholeRow, DominatesRounded};
 ghost use Rattle.vipr_spec.specs.MoreEntries as combined;
 ghost use Rattle.vipr_spec.specs.MoreEntries.{TermFits};
 ghost use Rattle.vipr_linear.specs.Accumulator.{with_row, RowAdditionFits, CanAdd, AdditionFits};
@@ -15,6 +15,8 @@ ghost use Rattle.vipr_linear.specs.Touched.{Touching, Covers, AreInOrder};
 ghost use Rattle.vipr_linear.specs.Values.{IsLaidOut};
 
 use crate::constraint::{Constraint, Sense, compares};
+use crate::ints::Ints;
+use crate::rounding::{is_whole_row, rounded_rhs};
 use crate::row::{Row, Solution, is_zero};
 use crate::sums::{add_terms, are_zero, have_row, nonzero_sums, reset, set_sums};
 use crate::values::value_in;
@@ -178,6 +180,20 @@ impl Combination {
         dominate(sums, touched, self.sense, bound, other)
     }
 
+    /// Whether the sum has the row of a constraint, whose coefficients are whole and at integer
+    /// variables, and says as much once its right-hand side is rounded. It takes no memory, and the
+    /// sum stays as it is.
+    pub fn rounds_to(&mut self, ints: &Ints, other: &Constraint) -> bool
+        ensures whole { IsTrue result → IsWholeRow ints.now (held_condition self.old).row }
+        ensures dominates { IsTrue result
+            → DominatesRounded (held_condition self.old) (condition_of other.now) }
+        ensures kept { self.new ≡ self.old }
+    {
+        self.touched.sort_unstable();
+        let (sums, touched) = (self.sums.as_slice(), self.touched.as_slice());
+        round_to(sums, touched, self.sense, self.rhs.value(), ints, other)
+    }
+
     /// Gives the sum, and makes it empty. After an error it is spent.
     pub fn finish(&mut self, alloc: Global) -> Result<Constraint, CombError>
         ensures sum { IfOk result (λ sum. HoldsSum self.old sum.row (sense_of sum.sense) sum.rhs) }
@@ -269,6 +285,30 @@ fn dominate(
         ↔ Dominates (summed sums.now (sense_of sense) bound) (condition_of other.now) }
 {
     say_as_much(sums, touched, sense, bound, other) || are_absurd(sums, touched, sense, bound)
+}
+
+// Whether sums with this sense have a constraint's row, which is whole, and say as much once this
+// right-hand side is rounded.
+fn round_to(
+    sums: &[Partial],
+    touched: &[u32],
+    sense: Sense,
+    bound: Frac,
+    ints: &Ints,
+    other: &Constraint,
+) -> bool
+    requires { AreInOrder sums.now touched.now }
+    ensures whole { IsTrue result
+        → IsWholeRow ints.now (summed sums.now (sense_of sense) bound).row }
+    ensures dominates { IsTrue result
+        → DominatesRounded (summed sums.now (sense_of sense) bound) (condition_of other.now) }
+{
+    match rounded_rhs(sense, bound) {
+        Some(rounded) => {
+            say_as_much(sums, touched, sense, rounded, other) && is_whole_row(&other.row, ints)
+        }
+        None => false,
+    }
 }
 
 // Adds the multiple of a constraint to the sums and to the right-hand side.

@@ -64,7 +64,8 @@ impl Constraint {
     }
 }
 
-fn rounded_rhs(sense: Sense, rhs: Frac) -> Option<Frac>
+/// The right-hand side rounded, or none for an equation's that isn't whole.
+pub(crate) fn rounded_rhs(sense: Sense, rhs: Frac) -> Option<Frac>
     ensures { MatchOption result ((sense_of sense ≡ equal) × ¬ IsWhole rhs)
         (λ r. (k : ℤ) × RoundsTo (sense_of sense) rhs k × (r ≡ whole k)) }
 {

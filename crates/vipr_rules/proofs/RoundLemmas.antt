@@ -2,7 +2,7 @@
 use Rattle.std.proofs.Common.{◌≡◌, ℕ, List, [], ◌∷◌, refl, sym, ◌∙◌, ap, subst, inl, inr}
 use Rattle.std.specs.Prelude.{◌↔◌, ◌⊎◌}
 use Rattle.vipr_spec.specs.Fraction.{ℚ, whole}
-use Rattle.vipr_spec.specs.Constraint.{Profile, at, condition, Ints, sum_of, IsWholeRow, Dominates, DominatesRounded, CombinesRounded}
+use Rattle.vipr_spec.specs.Constraint.{Condition, Profile, at, condition, Ints, sum_of, IsWholeRow, Dominates, DominatesRounded, CombinesRounded}
 use Rattle.vipr_spec.specs.Certificate.{Certificate, Derivation, entries}
 use Rattle.vipr_spec.specs.Steps.{PassesStep, roundable, by_rounding, sum, compared, IsSum}
 use Rattle.vipr_spec.proofs.Laws.{one_sense}
@@ -13,6 +13,14 @@ use Rattle.vipr_linear.specs.declared.rounding.Rounded.TheVariants.{Row}
 use Rattle.vipr_rules.specs.declared.error.RuleError.{RuleError}
 use Rattle.vipr_rules.specs.declared.error.RuleError.TheVariants.{NotRoundable, Memory}
 use Rattle.vipr_rules.specs.Apply.{StopsIn, PassesTestsIn, IsNotDominated, shown_by}
+
+-- x is the sum of the entries, and can be rounded
+pub sum_rounded : (P : Profile) (c : Certificate) (d : Derivation) (es : List (ℕ × ℚ)) (x stated : Condition) → IsSum c es x → (ints : Ints) → c.problem.integers ≡ ints
+    → stated ≡ condition d.stated → IsWholeRow ints x.row → DominatesRounded x stated → PassesTestsIn P c d (roundable es ∷ by_rounding es ∷ [])
+sum_rounded P c d es x stated summed ints same says w h =
+    let whole = subst (λ y. IsWholeRow c.problem.integers y.row) summed.2 (subst (λ i. IsWholeRow i x.row) (sym same) w) in
+    let dominates = subst (λ y. DominatesRounded y (condition d.stated)) summed.2 (subst (DominatesRounded x) says h) in
+    inl ((summed.0, summed.1, whole), inl ((summed.0, summed.1, whole, dominates), refl))
 
 -- x is the sum of the entries
 module _ (P : Profile) (c : Certificate) (d : Derivation) (es : List (ℕ × ℚ)) (x : Constraint) (summed : IsSum c es (condition_of x)) (ints : Ints) (same : c.problem.integers ≡ ints) where
@@ -30,15 +38,12 @@ module _ (P : Profile) (c : Certificate) (d : Derivation) (es : List (ℕ × ℚ
   not_roundable bad = (roundable es, inr (cannot_round bad, refl), (sum (condition_of x), refl, (condition_of x, summed, refl)))
 
   module _ (w : IsWholeRow ints (at x.row)) (stated : Constraint) (says : condition_of stated ≡ condition d.stated) where
-    combines : DominatesRounded (condition_of x) (condition_of stated) → CombinesRounded c.problem.integers (entries c es) (condition d.stated)
-    combines h = (summed.0, summed.1, whole_row w, subst (λ y. DominatesRounded y (condition d.stated)) summed.2 (subst (DominatesRounded (condition_of x)) says h))
-
     combines_not : ¬ DominatesRounded (condition_of x) (condition_of stated) → ¬ CombinesRounded c.problem.integers (entries c es) (condition d.stated)
     combines_not bad (s, h, _, dom) =
         bad (subst (DominatesRounded (condition_of x)) (sym says) (subst (λ y. DominatesRounded y (condition d.stated)) (ap (sum_of (entries c es)) (one_sense (entries c es) s summed.0 h summed.1) ∙ sym summed.2) dom))
 
     pub rounded_dominates : DominatesRounded (condition_of x) (condition_of stated) → PassesTestsIn P c d (roundable es ∷ by_rounding es ∷ [])
-    rounded_dominates h = inl (can_round w, inl (combines h, refl))
+    rounded_dominates h = sum_rounded P c d es (condition_of x) (condition_of stated) summed ints same says w h
 
     module _ (computed : Constraint) (r : IsRounding x (Row computed)) where
       rounded : condition_of computed ≡ record (condition_of x) { bound = whole r.2.0 }

@@ -183,13 +183,13 @@ pub fn apply_taking<S: Rows>(
     ensures err { OnErr result (step.new ≡ step.old) }
     ensures variables { length scratch.new.sums ≡ length scratch.old.sums }
 {
-    let context = Context {
+    let against = Context {
         profile,
         problem: p,
         best,
         rows,
     };
-    let assumptions = assumptions_of(alloc, &context, scratch, step)?;
+    let assumptions = assumptions_of(alloc, &against, scratch, step)?;
     Ok(Entry {
         constraint: replace(&mut step.constraint, nothing_stated(alloc)),
         assumptions,

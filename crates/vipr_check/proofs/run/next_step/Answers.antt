@@ -10,23 +10,23 @@ use Rattle.vipr_check.proofs.ShownLemmas.{unshown}
 use Rattle.vipr_check.proofs.RunLemmas.{room_for, names_for, goes_on, finished, derivations_failed, step_unspent, finish_unspent}
 use Rattle.vipr_check.proofs.run.next_step.Goals as goal
 
-pub derivation-requires-clause-phase : goal.derivation-requires-clause-phase
-derivation-requires-clause-phase g c = c.requires.2.phase
+pub take-requires-clause-phase : goal.take-requires-clause-phase
+take-requires-clause-phase g c = c.requires.2.phase
 
-pub derivation-requires-clause-room : goal.derivation-requires-clause-room
-derivation-requires-clause-room g c =
+pub take-requires-clause-room : goal.take-requires-clause-room
+take-requires-clause-room g c =
     let h = rw c.in-Ok-Some.field-0-is at c.in-Ok-Some.ensures in
     room_for c.requires.0 c.requires.1 c.args.checker.now c.args.derivations.now c.next.new.self.left c.requires.2 h.moves.counted
 
-pub derivation-requires-clause-names : goal.derivation-requires-clause-names
-derivation-requires-clause-names g c =
+pub take-requires-clause-names : goal.take-requires-clause-names
+take-requires-clause-names g c =
     let h = rw c.in-Ok-Some.field-0-is at c.in-Ok-Some.ensures in
     names_for c.requires.0 c.requires.1 c.args.checker.now c.args.derivations.now (at c.in-Ok-Some.step.constraint.row) c.requires.2 h.shape.row
 
 pub after_item-requires : goal.after_item-requires
 after_item-requires g c =
     let is = c.requires.2 in
-    step_unspent c.requires.1 (derivation_of c.in-Ok-Some.step) c.args.checker.now c.derivation.new.self c.derivation.result (c.derivation.ensures.next c.requires.1 is.runs is.has)
+    step_unspent c.requires.1 (derivation_of c.in-Ok-Some.step) c.args.checker.now c.take.new.self c.take.result (c.take.ensures.next c.requires.1 is.runs is.has)
 
 pub finish-requires : goal.finish-requires
 finish-requires g c = c.requires.2.phase
@@ -43,8 +43,8 @@ returns-in-Ok-Some-clause-step g c = λ P s is.
     let old = c.args.derivations.now in
     let new = c.next.new.self in
     let d = derivation_of c.in-Ok-Some.step in
-    subst (Goes P s old c.derivation.new.self new) (sym c.after_item.ensures)
-    (goes_on P s k c.derivation.new.self old new d is h.shape.reason h.moves.counted h.moves.remembers h.moves.working (λ told. (let r = h.read s.problem is.knows told in (r.1, r.2))) c.derivation.result (c.derivation.ensures.next s is.runs is.has))
+    subst (Goes P s old c.take.new.self new) (sym c.after_item.ensures)
+    (goes_on P s k c.take.new.self old new d is h.shape.reason h.moves.counted h.moves.remembers h.moves.working (λ told. (let r = h.read s.problem is.knows told in (r.1, r.2))) c.take.result (c.take.ensures.next s is.runs is.has))
 
 pub returns-in-Ok-None-clause-step : goal.returns-in-Ok-None-clause-step
 returns-in-Ok-None-clause-step g c = λ P s is told.

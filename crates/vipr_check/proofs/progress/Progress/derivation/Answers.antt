@@ -23,19 +23,10 @@ returns-in_err-entry-clause-next g c = λ s has.
     let same = ap (λ (v : Known). v.profile) c.self.view_is in
     rw (p.1, p.2) (subst (λ Q. (c.in_err-entry.field-0.0 ≡ Memory) ⊎ StopsIn Q s (derivation_of c.args.step.now) (step_tests (derivation_of c.args.step.now).reason) c.in_err-entry.field-0.0) same (map_right (refusal_stops (profile_of k.profile) s (derivation_of c.args.step.now) c.in_err-entry.field-0.0) judged))
 
-pub invariant_of-self-in_err-held : goal.invariant_of-self-in_err-held
-invariant_of-self-in_err-held g c =
-    let k = c.self.inside in
-    (ready_advance (profile_of k.profile) k.problem k.target (g.S.Rows.table k.rows) k.scratch c.self.invariant.0 (g.S.Rows.table c.place.new.rows) c.apply_in.new.scratch c.in_err-held.ensures.err c.apply_in.ensures.variables, c.self.invariant.1)
-
-pub invariant_of-self-2 : goal.invariant_of-self-2
-invariant_of-self-2 g c =
-    let k = c.self.inside in
-    let names : NamesBelow (variables k.problem) (at c.args.step.now.constraint.row) = subst (λ (v : Known). NamesBelow (variables v.problem) (at c.args.step.now.constraint.row)) (sym c.self.view_is) c.requires.names in (
-      ready_step (profile_of k.profile) k.problem k.target (g.S.Rows.table k.rows) k.scratch c.self.invariant.0 c.in_ok-entry.entry (g.S.Rows.table c.place.new.rows) c.apply_in.new.scratch c.in_ok-held.ensures.table c.apply_in.ensures.variables
-          (subst (λ (x : Constraint). NamesBelow (variables k.problem) (at x.row)) (sym c.in_ok-entry.ensures.stated) names),
-      c.self.invariant.1,
-    )
+pub keep-requires-clause-names : goal.keep-requires-clause-names
+keep-requires-clause-names g c =
+    let names = subst (λ (v : Known). NamesBelow (variables v.problem) (at c.args.step.now.constraint.row)) (sym c.self.view_is) c.requires.names in
+    subst (λ (x : Constraint). NamesBelow (variables c.self.inside.problem) (at x.row)) (sym c.in_ok-entry.ensures.stated) names
 
 pub returns-clause-next : goal.returns-clause-next
 returns-clause-next g c = λ s has.
@@ -43,8 +34,5 @@ returns-clause-next g c = λ s has.
     let k = c.self.inside in
     let d = derivation_of c.args.step.now in
     let judged = c.in_ok-entry.ensures.judged s is.problem is.rows (back s _ is) (best_here s.problem k.problem s.solutions k.best _ is.problem c.as_ref.ensures.value is.best) in
-    let next = c.goal_with-goal.ensures (profile_of k.profile) s d (subst (λ p. IsTargetIn (profile_of k.profile) p k.target) (sym is.problem) c.self.invariant.0.target) (sym (c.next.ensures ∙ is.rows.next)) judged.1 in (
-      subst (λ Q. PassesTestsIn Q s d (step_tests d.reason)) (ap (λ (v : Known). v.profile) c.self.view_is) judged.0,
-      steps_next s d c.in_ok-entry.entry _ (g.S.Rows.table c.place.new.rows) c.max-self-inside.result c.goal_with-goal.result is judged.0 judged.1 c.in_ok-held.ensures.table
-          (c.max-self-inside.ensures ∙ ap (max k.peak) c.in_ok-held.ensures.held) next,
-    )
+    let passes = subst (λ Q. PassesTestsIn Q s d (step_tests d.reason)) (ap (λ (v : Known). v.profile) c.self.view_is) judged.0 in
+    (passes, c.in_ok-keep.ensures.next s d is judged.0 judged.1)

@@ -1,0 +1,48 @@
+use Rattle.std.proofs.Common.{◌≡◌, true, false, None, refl, sym, ◌∙◌, ap, subst}
+use Rattle.vipr_spec.specs.Steps.{with_next, step_tests}
+use Rattle.vipr_cert.specs.Items.{derivation_of}
+use Rattle.vipr_check.specs.Halts.{CanShowHalt, IsStepHalt}
+use Rattle.vipr_check.specs.Progress.{Progress, HasSteps}
+use Rattle.vipr_check.proofs.ProgressLemmas.{held_next}
+use Rattle.vipr_check.proofs.CheckerLemmas.{runs_of, derived_frame, kept_or_advanced, stops_step, reached_after}
+use Rattle.vipr_check.specs.State.{StopsStep}
+use Rattle.vipr_rules.specs.Apply.{PassesTestsIn}
+use Rattle.vipr_check.proofs.checker.Checker.take.Goals as goal
+
+pub invariant_of-self : goal.invariant_of-self
+invariant_of-self g c =
+    let d = derivation_of c.args.step in
+    let unstopped : c.self.inside.halt ≡ None = ap (λ v. v.halt) c.self.view_is ∙ runs_of c.args.self.now.halt _ c.in_ok-go_on.ensures in
+    let phase : c.self.inside.in_solutions ≡ false = ap (λ v. v.in_solutions) c.self.view_is ∙ c.requires.phase in record {
+      solutions = λ n e. absurd (cc (phase, e));
+      steps = λ n e. (let r = c.self.invariant.steps n e in (with_next r.0 d, (c.in-Ok.ensures.next r.0 r.1).1));
+      shows = subst (CanShowHalt c.take.new.self.problem) (sym unstopped) tt;
+    }
+
+pub invariant_of-self-in-Err : goal.invariant_of-self-in-Err
+invariant_of-self-in-Err g c =
+    let unstopped : c.self.inside.halt ≡ None = ap (λ v. v.halt) c.self.view_is ∙ runs_of c.args.self.now.halt _ c.in_ok-go_on.ensures in
+    let h = c.stop_at_step.ensures in
+    reached_after c.self.inside.progress c.take.new.self c.self.inside.in_solutions c.self.inside.halt c.stop_at_step.new.halt h.0 c.next-index.result _ c.in-Err.error
+    unstopped c.self.invariant h.1 c.in-Err.ensures.err h.2
+
+pub returns-in-Ok-clause-next : goal.returns-in-Ok-clause-next
+returns-in-Ok-clause-next g c = λ s halted has.
+    let d = derivation_of c.args.step in
+    let same = ap (λ v. v.progress) c.self.view_is in
+    let t = c.in-Ok.ensures.next s (subst (HasSteps s) (sym same) has) in
+    let new = c.take.new.self in
+    (subst (λ (x : Progress). PassesTestsIn x.profile s d (step_tests d.reason)) same t.0, t.1, held_next s d new t.1, c.in-Ok.ensures.peak, derived_frame _ c.args.self.now new new.rows new.peak new.goal c.self.view_is c.in-Ok.ensures.ok)
+
+pub returns-clause-next : goal.returns-clause-next
+returns-clause-next g c = λ s halted has.
+    let d = derivation_of c.args.step in
+    let same = ap (λ v. v.progress) c.self.view_is in
+    let is = subst (HasSteps s) (sym same) has in
+    let stopped = c.stop_at_step.ensures in
+    let h = stopped.0 in
+    let named = subst (λ n. IsStepHalt c.next-index.result n c.in-Err.error h) c.take.ensures.named stopped.1 in (
+      h,
+      kept_or_advanced _ c.args.self.now c.take.new.self c.stop_at_step.new.halt h c.stop_at_step.result c.next-index.result _ c.in-Err.error c.self.view_is stopped.1 c.in-Err.ensures.err stopped.2 stopped.3,
+      subst (λ (x : Progress). StopsStep x.profile s d h) same (stops_step c.self.inside.progress.profile s d c.next-index.result c.in-Err.error h (sym (c.next-index.ensures ∙ is.rows.next)) named (c.in-Err.ensures.next s is)),
+    )
