@@ -70,9 +70,7 @@ impl PartialEq for Frac {
         ensures tested { result ≡ eq_ℚ self.now other.now }
         ensures same { IsTrue result ↔ (self.now ≡ other.now) }
     {
-        let (p, q) = self.parts();
-        let (r, s) = other.parts();
-        p == r && q == s
+        self.p.same(&other.p) && self.q.same(&other.q)
     }
 }
 

@@ -1,5 +1,5 @@
 //! Numbers of 128 bits in words of 32 bits: so a fraction beside an index leaves no gap.
-ghost use Rattle.std.specs.Prelude.{◌≡◌};
+ghost use Rattle.std.specs.Prelude.{◌≡◌, ◌↔◌, IsTrue};
 
 use std::fmt;
 use std::marker::Model;
@@ -96,6 +96,13 @@ impl Wide {
     {
         u128::from(self.high.value()) * WHOLE + u128::from(self.low.value())
     }
+
+    #[inline(always)]
+    pub(crate) fn same(&self, other: &Wide) -> bool
+        ensures { IsTrue result ↔ (self.now ≡ other.now) }
+    {
+        self.low.value() == other.low.value() && self.high.value() == other.high.value()
+    }
 }
 
 impl fmt::Debug for Wide {
@@ -145,6 +152,13 @@ impl SignedWide {
         ensures { result ≡ self.now }
     {
         self.bits.value().cast_signed()
+    }
+
+    #[inline(always)]
+    pub(crate) fn same(&self, other: &SignedWide) -> bool
+        ensures { IsTrue result ↔ (self.now ≡ other.now) }
+    {
+        self.bits.same(&other.bits)
     }
 }
 
