@@ -1,11 +1,12 @@
 #!/usr/bin/env python3
-"""Refuses each growth of each crate's tests in turn.
+"""Refuses each growth of the tests of the libraries in turn.
 
 usage: tests/growths.py [CRATE..]     all libraries with tests, without a name; `rt ci` and `rt test` build them
 
-A crate's tests, crates/NAME/out/NAME_tests, call what the crate has to offer. Each test is run with its first growth
-refused, its second, and so on up to a run that meets no refusal. It then passes, or ends at an answer that is want of
-memory: no call may give another answer for a refused growth, end by a signal of its own, or go on as if it had room.
+The tests of a library, those of crates/vipr_tests or its own, call what it has to offer. Each is run with its first
+growth refused, its second, and so on up to a run that meets no refusal. It then passes, or ends at an answer that is
+want of memory: no call may give another answer for a refused growth, end by a signal of its own, or go on as if it had
+room.
 A test with more than MOST growths makes them in loops: its first and last ones are refused, and some between, evenly
 spaced. The growths of checking and tightening are refused by tests/hostile.py.
 
@@ -23,9 +24,10 @@ from concurrent.futures import ThreadPoolExecutor
 from pathlib import Path
 
 TOP = Path(__file__).resolve().parent.parent
-# crates whose growths aren't refused here: those of the checker and of the tightener are refused through the program,
+# tests whose growths aren't refused here: those of the checker and of the tightener are refused through the program,
 # whose commands tell what they answer, and reading and writing bytes takes no memory of its own
-ELSEWHERE = ['vipr', 'vipr_bytes', 'vipr_check', 'vipr_tighten']
+PROGRAM = 'vipr'
+ELSEWHERE = re.compile(r'tests::(bytes|check|tighten)::')
 # how many growths of a test are refused at most
 MOST = 400
 # what a failed test says of a call whose growth was refused
@@ -38,7 +40,7 @@ class Tests:
     def __init__(self, program, library, room):
         self.program, self.library, self.room = program, library, room
         said = self.run('--list')[1]
-        self.names = re.findall(r'^(\S+): test$', said, re.M)
+        self.names = [it for it in re.findall(r'^(\S+): test$', said, re.M) if not ELSEWHERE.match(it)]
 
     def run(self, *words, refused=None):
         """The status, what was said, and how many growths there were."""
@@ -76,9 +78,9 @@ def chosen(last):
 
 
 def libraries():
-    """The crates with tests."""
+    """The libraries with tests."""
     names = [line.split(':')[0].split()[0] for line in (TOP / 'crates.txt').read_text().split('\n') if ':' in line]
-    return [it for it in names if it not in ELSEWHERE
+    return [it for it in names if it != PROGRAM
             and any('#[test]' in file.read_text() for file in (TOP / 'crates' / it / 'src').rglob('*.rt'))]
 
 

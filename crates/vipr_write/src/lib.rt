@@ -8,8 +8,6 @@
 mod canonical;
 mod lines;
 mod sections;
-#[cfg(test)]
-mod tests;
 mod words;
 mod write;
 

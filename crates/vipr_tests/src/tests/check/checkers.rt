@@ -1,11 +1,11 @@
 //! A checker between its calls: how many constraints it holds, and what it answers after a refusal.
 
 use super::{BRANCHES, BRANCHES_AND_MORE, MIXED, UNPROVED, UNSOLVED};
-use crate::{Checker, Place, Refusal, Stop};
 use std::alloc::{AllocError, Global};
 use std::test::Fail;
 use vipr_bytes::Bytes;
 use vipr_cert::Derivation;
+use vipr_check::{Checker, Place, Refusal, Stop};
 use vipr_read::read_certificate;
 use vipr_rules::{KeepAll, LiveOnly, Rows};
 

@@ -1,11 +1,11 @@
 //! Whole texts: what is written for them, and what of it where a read or a write fails.
 use super::{IGNORED, ROUNDED, SPLIT, UNUSED};
-use crate::{Outcome, TightenFault, tighten};
 use std::alloc::Global;
 use std::process::Abort;
 use std::test::Fail;
 use vipr_bytes::{Bytes, Failed, FromWrite, Sink, Source};
 use vipr_check::{Place, Refusal, Verdict, check};
+use vipr_tighten::{Outcome, TightenFault, tighten};
 
 // A constraint of the problem is the goal.
 const ABSURD: &[u8] = b"VER 1.0

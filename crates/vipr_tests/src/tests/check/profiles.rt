@@ -1,10 +1,10 @@
 //! The two profiles of the rules: splits that cover, and a whole objective.
 
 use super::{at, report_of};
-use crate::{Detail, Place, Refusal, Verdict, check_in, explain_in};
 use std::alloc::Global;
 use std::test::Fail;
 use vipr_bytes::Bytes;
+use vipr_check::{Detail, Place, Refusal, Verdict, check_in, explain_in};
 use vipr_rules::{LiveOnly, Profile};
 
 // The branches x <= 1/4 and x >= 3/4 of a whole x.

@@ -4,15 +4,15 @@ ghost use Rattle.vipr_spec.specs.Input.{Input};
 mod checkers;
 mod profiles;
 
-use crate::{
-    Checker, Detail, Fault, Place, Refusal, Report, StepDetail, Stop, Verdict, check, check_with,
-    explain,
-};
 use std::alloc::Global;
 use std::cell::Cell;
 use std::process::Abort;
 use std::test::Fail;
 use vipr_bytes::{Bytes, Failed, Source};
+use vipr_check::{
+    Checker, Detail, Fault, Place, Refusal, Report, StepDetail, Stop, Verdict, check, check_with,
+    explain,
+};
 use vipr_read::{CertReader, Derivations, Solutions};
 use vipr_rules::{KeepAll, LiveOnly};
 use vipr_scan::TextError;

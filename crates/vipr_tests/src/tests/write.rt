@@ -1,5 +1,4 @@
 //! A certificate with each kind of line, byte by byte, and writers that take little.
-use crate::{WriteError, write_certificate};
 use bstr::BString;
 use std::alloc::Global;
 use std::test::Fail;
@@ -7,6 +6,7 @@ use vipr_bytes::{Failed, FromWrite, Sink};
 use vipr_cert::{Certificate, Claim, Derivation, Goal, Name, Named, Problem, Reason};
 use vipr_frac::Frac;
 use vipr_linear::{Constraint, Ints, Row, Sense, Solution};
+use vipr_write::{WriteError, write_certificate};
 
 const TEXT: &[u8] = b"VER 1.0
 VAR 2
