@@ -6,6 +6,7 @@
 #![tactic(auto)]
 
 mod canonical;
+mod growing;
 mod lines;
 mod sections;
 #[cfg(test)]
@@ -14,4 +15,5 @@ mod words;
 mod write;
 
 pub use canonical::{canonical_texts, spelled_ones, worked_example};
+pub use growing::GrowingText;
 pub use write::{WriteError, write_certificate};
