@@ -28,11 +28,7 @@ impl Model for GrowingText {
 
 impl GrowingText {
     /// The problem, and how many solutions are to follow.
-    pub fn new(
-        alloc: Global,
-        problem: &Problem,
-        solutions: u32,
-    ) -> Result<GrowingText, AllocError>
+    pub fn new(alloc: Global, problem: &Problem, solutions: u32) -> Result<GrowingText, AllocError>
         ensures { IfOk result (λ t. t ≡ lines_text (problem_lines problem.now)
             ++ line_text (heading (codes "SOL") solutions)) }
     {
