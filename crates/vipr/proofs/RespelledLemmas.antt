@@ -3,7 +3,7 @@ use Rattle.std.proofs.Common.{◌≡◌, ◌≢◌, ◌⊎◌, ◌↔◌, Bool, 
 use Rattle.std.proofs.lemmas.List.{append-nil, length-append, map_push}
 use Rattle.std.proofs.lemmas.Grind.{flat_map-append}
 use Rattle.vipr_spec.specs.Constraint.{Row}
-use Rattle.vipr_spec.specs.Certificate.{Named, Problem, Derivation, Certificate}
+use Rattle.vipr_spec.specs.Certificate.{Named, Problem, Derivation}
 use Rattle.vipr_spec.specs.Reading.{Rest, Fault, Read, ◌>>=◌, repeated, problem_read, solution_read, derivations_read, derivation_read, end_read, certificate_read}
 use Rattle.vipr_spec.specs.Input.{Input}
 use Rattle.vipr_bytes.specs.Known.{text_of, IfKnown}
@@ -13,7 +13,7 @@ use Rattle.vipr_scan.specs.declared.error.TextError.{TextError}
 use Rattle.vipr_scan.specs.declared.error.TextError.TheVariants as error
 use Rattle.vipr_read.specs.Items.{Items, Knows, Remembers, HasEnded}
 use Rattle.vipr_read.specs.Parsing.{with_front}
-use Rattle.vipr_write.specs.Canonical.{problem_lines, solutions_lines, derivations_lines, solution_words, derivation_words, heading, line_text, lines_text, canonical_text}
+use Rattle.vipr_write.specs.Canonical.{problem_lines, solution_words, derivation_words, heading, line_text, lines_text, canonical_text}
 use Rattle.vipr.specs.Respelled.{HasAppended, Respells, RespellsText}
 
 -- a fault is that of what goes on after it

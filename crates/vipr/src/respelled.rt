@@ -25,10 +25,7 @@ pub(crate) fn respelled<R: Source + Drop>(alloc: Global, source: R) -> Result<Ve
 }
 
 // The canonical text of the certificate that the reader is at the start of.
-fn text_from<R: Source + Drop>(
-    alloc: Global,
-    reader: CertReader<R>,
-) -> Result<Vec<u8>, TextError>
+fn text_from<R: Source + Drop>(alloc: Global, reader: CertReader<R>) -> Result<Vec<u8>, TextError>
     ensures { Respells (λ text. text.items) reader result }
 {
     let (text, mut solutions) = problem_text(alloc, reader)?;

@@ -2,7 +2,7 @@ use Rattle.std.proofs.lemmas.Result.{err_from_is_err_and}
 use Rattle.vipr_spec.specs.Reading.{derivation_read, end_read}
 use Rattle.vipr_cert.specs.Items.{derivation_of}
 use Rattle.vipr_write.specs.Canonical.{derivation_words}
-use Rattle.vipr.proofs.RespelledLemmas.{at_end, none_yet, one_more, still_knows, stops, unspent}
+use Rattle.vipr.proofs.RespelledLemmas.{none_yet, one_more, still_knows, stops, unspent}
 use Rattle.vipr.proofs.respelled.derivation_lines.Goals as goal
 
 pub loop-text-init : goal.loop-text-init
