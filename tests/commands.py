@@ -24,6 +24,8 @@ import sys
 import tempfile
 from pathlib import Path
 
+import proved
+
 TOP = Path(__file__).resolve().parent.parent
 PAGES = ['README.md', 'docs/USE.md', 'docs/LIBRARY.md', 'CONTRIBUTING.md']
 BLOCK = re.compile(r'^```([^\n]*)\n(.*?)^```', re.M | re.S)
@@ -94,6 +96,7 @@ class Reader:
                 to.unlink()
         for out in TOP.glob('crates/*/out'):
             shutil.copytree(out, self.clone / out.relative_to(TOP), dirs_exist_ok=True)
+        proved.take_over(TOP, self.clone)
 
     def lay_out_files(self):
         """What docs/USE.md speaks of."""

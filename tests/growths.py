@@ -1,17 +1,19 @@
 #!/usr/bin/env python3
-"""Refuses each growth of each crate's tests in turn.
+"""Refuses each growth of the tests of the libraries in turn.
 
 usage: tests/growths.py [CRATE..]     all libraries with tests, without a name; `rt ci` and `rt test` build them
 
-A crate's tests, crates/NAME/out/NAME_tests, call what the crate has to offer. Each test is run with its first growth
-refused, its second, and so on up to a run that meets no refusal. It then passes, or ends at an answer that is want of
-memory: no call may give another answer for a refused growth, end by a signal of its own, or go on as if it had room.
+The tests of a library, those of crates/vipr_tests or its own, call what it has to offer. Each is run with its first
+growth refused, its second, and so on up to a run that meets no refusal. It then passes, or ends at an answer that is
+want of memory: no call may give another answer for a refused growth, end by a signal of its own, or go on as if it had
+room.
 A test with more than MOST growths makes them in loops: its first and last ones are refused, and some between, evenly
-spaced. The growths of checking and tightening are refused by tests/hostile.py.
+spaced. A test named `spent_..` calls again where a call ended at want of memory, and tells that both calls after it
+answered `Spent`: one of its runs at least has to tell so. The growths of the program are refused by tests/hostile.py.
 
-Prints each run that ends otherwise, and last `growths: N runs, F failed`. Without a C compiler nothing is run, and a
-line says so. The exit status is 1 where a run failed, where a library's tests aren't built, or where none was there to
-run.
+Prints each run that ends otherwise, how many runs each crate has, and last `growths: N runs, F failed`. Without a C
+compiler nothing is run, and a line says so. The exit status is 1 where a run failed, where a library's tests aren't
+built, or where none was there to run.
 """
 import os
 import re
@@ -23,13 +25,17 @@ from concurrent.futures import ThreadPoolExecutor
 from pathlib import Path
 
 TOP = Path(__file__).resolve().parent.parent
-# crates whose growths aren't refused here: those of the checker and of the tightener are refused through the program,
-# whose commands tell what they answer, and reading and writing bytes takes no memory of its own
-ELSEWHERE = ['vipr', 'vipr_bytes', 'vipr_check', 'vipr_tighten']
+# its growths are refused by tests/hostile.py
+PROGRAM = 'vipr'
+# tests whose growths aren't refused: reading and writing bytes takes no memory of its own
+ELSEWHERE = re.compile(r'tests::bytes::')
 # how many growths of a test are refused at most
 MOST = 400
 # what a failed test says of a call whose growth was refused
 WANT = re.compile(r'\b(AllocError|AllocFailed|Memory|OutOfMemory|out of memory)\b')
+# the tests that call again after it, and what they say then
+CALLS_AGAIN = re.compile(r'\bspent_\w+$')
+SPENT = 'Memory, then Spent'
 
 
 class Tests:
@@ -38,7 +44,7 @@ class Tests:
     def __init__(self, program, library, room):
         self.program, self.library, self.room = program, library, room
         said = self.run('--list')[1]
-        self.names = re.findall(r'^(\S+): test$', said, re.M)
+        self.names = [it for it in re.findall(r'^(\S+): test$', said, re.M) if not ELSEWHERE.match(it)]
 
     def run(self, *words, refused=None):
         """The status, what was said, and how many growths there were."""
@@ -60,10 +66,13 @@ class Tests:
             return 1, [f'{name} without a refusal: status {status}: {said:.300}']
 
         def one(number):
-            status, said, _ = self.run(name, refused=number)
-            return None if status == 0 or WANT.search(said) else f'{name}, growth {number}: status {status}: {said:.300}'
-        numbers = chosen(growths + 1)
-        return len(numbers) + 1, [it for it in pool.map(one, numbers) if it]
+            return number, *self.run(name, refused=number)
+        ended = list(pool.map(one, chosen(growths + 1)))
+        bad = [f'{name}, growth {number}: status {status}: {said:.300}' for number, status, said, _ in ended
+               if status and not WANT.search(said)]
+        if CALLS_AGAIN.search(name) and not any(SPENT in said for _, _, said, _ in ended):
+            bad.append(f'{name}: no run says `{SPENT}`')
+        return len(ended) + 1, bad
 
 
 def chosen(last):
@@ -76,9 +85,9 @@ def chosen(last):
 
 
 def libraries():
-    """The crates with tests."""
+    """The libraries with tests."""
     names = [line.split(':')[0].split()[0] for line in (TOP / 'crates.txt').read_text().split('\n') if ':' in line]
-    return [it for it in names if it not in ELSEWHERE
+    return [it for it in names if it != PROGRAM
             and any('#[test]' in file.read_text() for file in (TOP / 'crates' / it / 'src').rglob('*.rt'))]
 
 
@@ -98,11 +107,12 @@ def main():
                 print(f'{crate}: its tests are not built')
                 continue
             tests = Tests(program, library, room)
-            for name in tests.names:
-                tried, bad = tests.refuse_each(pool, name)
-                runs, failed = runs + tried, failed + len(bad)
-                for it in bad:
-                    print(f'{crate} {it}')
+            of_crate = [tests.refuse_each(pool, name) for name in tests.names]
+            tried, bad = sum(it[0] for it in of_crate), [line for it in of_crate for line in it[1]]
+            runs, failed = runs + tried, failed + len(bad)
+            for it in bad:
+                print(f'{crate} {it}')
+            print(f'{crate}: {tried} runs, {len(bad)} failed')
     print(f'growths: {runs} runs, {failed} failed')
     return 1 if failed or not runs else 0
 

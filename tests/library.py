@@ -13,18 +13,32 @@ import sys
 import tempfile
 from pathlib import Path
 
+import proved
+
 TOP = Path(__file__).resolve().parent.parent
 PROGRAM = Path(sys.argv[1] if len(sys.argv) > 1 else TOP / 'crates/vipr/out/vipr').resolve()
 RT = os.environ.get('RT', 'rt')
 
 
+def folder(room):
+    """Where to build the library: in a copy that takes over what `rt ci` proved, where there is such, and else here."""
+    if not proved.is_of_one_run(TOP):
+        return TOP
+    copy = Path(room) / 'vipr'
+    copy.mkdir()
+    shutil.copy(TOP / 'crates.txt', copy)
+    shutil.copytree(TOP / 'crates', copy / 'crates', ignore=shutil.ignore_patterns('incremental'))
+    return copy if proved.take_over(TOP, copy) else TOP
+
+
 def build(compiler, room):
     """The program in C, built as docs/LIBRARY.md says."""
-    subprocess.run([RT, 'lib'], cwd=TOP / 'crates/vipr_c', check=True, stdout=subprocess.DEVNULL)
+    top = folder(room)
+    subprocess.run([RT, 'lib'], cwd=top / 'crates/vipr_c', check=True, stdout=subprocess.DEVNULL)
     page = subprocess.run([RT, 'doc'], capture_output=True, text=True, check=True).stdout.strip()
     program = f'{room}/library'
     subprocess.run([compiler, '-std=c99', '-Wall', '-Wextra', '-Werror', '-O1', '-I', TOP / 'include',
-                    TOP / 'tests/library.c', TOP / 'crates/vipr_c/out/libvipr_c.a',
+                    TOP / 'tests/library.c', top / 'crates/vipr_c/out/libvipr_c.a',
                     Path(page).parent / 'c/liblibc_c.a', '-o', program], check=True)
     return program
 

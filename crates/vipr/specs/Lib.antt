@@ -2,6 +2,7 @@ pub mod Args
 pub mod Text
 pub mod Explanation
 pub mod Output
+pub mod Respelled
 pub mod Show
 pub mod Tighten
 pub mod Run

@@ -9,6 +9,7 @@ mod explain;
 mod explanation;
 mod fault;
 mod output;
+mod respelled;
 mod run;
 mod show;
 mod task;

@@ -5,13 +5,13 @@ ghost use Rattle.vipr.specs.Run.{PrintsText, known_by, unknown_input};
 ghost use Rattle.vipr.specs.Show.{ShowsText, any_text, text_spelling, text_read};
 
 use crate::fault::Fault;
+use crate::respelled::respelled;
 use crate::text::RefusalLine;
 use std::alloc::Global;
 use std::io::Write;
-use vipr_bytes::{Sink, Source};
+use vipr_bytes::{Sink, Source, write_bytes};
 use vipr_check::{Place, Refusal};
-use vipr_text::{TextError, read_certificate};
-use vipr_write::write_certificate;
+use vipr_text::TextError;
 
 /// What became of a certificate that was to be shown.
 #[derive(Clone, Copy, Debug, PartialEq, Eq)]
@@ -22,8 +22,8 @@ pub enum Shown {
     Refused(Refusal),
 }
 
-/// Reads a certificate to the end of its text, and then writes its canonical text. What it means
-/// isn't tested.
+/// Reads a certificate to the end of its text, and then writes its canonical text, which is made
+/// while it is read. What it means isn't tested.
 ///
 /// # Errors
 ///
@@ -44,9 +44,9 @@ pub fn show<R: Source + Drop, W: Sink>(
     ensures spelled { IfWhole (R.input source) (λ bytes. ShowsText (text_spelling bytes)
         (W.output writer.old) (W.output writer.new) result) }
 {
-    match read_certificate(alloc, source) {
-        Ok(certificate) => {
-            write_certificate(alloc, &certificate, writer)?;
+    match respelled(alloc, source) {
+        Ok(text) => {
+            write_bytes(writer, &text)?;
             Ok(Shown::Whole)
         }
         Err(TextError::Refused { cause, offset }) => Ok(Shown::Refused(Refusal {

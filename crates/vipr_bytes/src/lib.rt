@@ -7,8 +7,6 @@
 
 mod sink;
 mod source;
-#[cfg(test)]
-mod tests;
 mod write;
 
 pub use sink::{FromWrite, Sink};

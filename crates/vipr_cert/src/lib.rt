@@ -6,8 +6,6 @@ mod items;
 mod limits;
 mod name;
 mod problem;
-#[cfg(test)]
-mod tests;
 
 pub use certificate::Certificate;
 pub use items::{Claim, Derivation, Goal, Named, Reason};

@@ -6,8 +6,6 @@ mod gcd;
 mod number;
 mod pairs;
 mod partial;
-#[cfg(test)]
-mod tests;
 mod words;
 
 pub use frac::{Frac, FracError, Overflow};

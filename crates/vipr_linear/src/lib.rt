@@ -10,8 +10,6 @@ mod row;
 mod split;
 mod steps;
 mod sums;
-#[cfg(test)]
-mod tests;
 mod values;
 
 pub use combination::{CombError, Combination};

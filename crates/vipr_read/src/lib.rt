@@ -11,8 +11,6 @@ mod parser;
 mod parts;
 mod problem;
 mod reader;
-#[cfg(test)]
-mod tests;
 
 pub use cert_reader::CertReader;
 pub use certificate::read_certificate;

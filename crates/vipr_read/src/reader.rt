@@ -200,6 +200,14 @@ impl<R: Source> Model for Derivations<R> {
 }
 
 impl<R: Source> Derivations<R> {
+    /// How many derivations are still to come.
+    pub fn left(&self) -> u32
+        ensures { result ≡ self.now.left }
+    {
+        let items = &self.items;
+        items.left
+    }
+
     /// The next derivation, or `None` where all were read and only white space followed.
     ///
     /// # Errors

@@ -15,8 +15,6 @@ mod rows;
 mod rules;
 mod solution;
 mod sum;
-#[cfg(test)]
-mod tests;
 
 pub use assumptions::Assumptions;
 pub use claim::{Target, better, claimed_primal, meets_primal};

@@ -8,8 +8,6 @@ mod kind;
 mod piece;
 mod place;
 mod scanner;
-#[cfg(test)]
-mod tests;
 mod tokens;
 mod window;
 

@@ -10,8 +10,6 @@ mod outcome;
 mod peak;
 mod proof;
 mod renumber;
-#[cfg(test)]
-mod tests;
 mod whole;
 
 pub use certificate::tighten_certificate;

@@ -6,12 +6,12 @@
 #![tactic(auto)]
 
 mod canonical;
+mod growing;
 mod lines;
 mod sections;
-#[cfg(test)]
-mod tests;
 mod words;
 mod write;
 
 pub use canonical::{canonical_texts, spelled_ones, worked_example};
+pub use growing::GrowingText;
 pub use write::{WriteError, write_certificate};

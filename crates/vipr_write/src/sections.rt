@@ -112,8 +112,8 @@ fn append_constraints(
     Ok(())
 }
 
-// What a certificate is about.
-fn append_problem(text: &mut Vec<u8>, problem: &Problem) -> Result<(), AllocError>
+/// What a certificate is about.
+pub(crate) fn append_problem(text: &mut Vec<u8>, problem: &Problem) -> Result<(), AllocError>
     ensures { OnOk result
         (text.new.items ≡ text.old.items ++ lines_text (problem_lines problem.now)) }
 {

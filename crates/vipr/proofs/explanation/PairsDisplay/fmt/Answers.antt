@@ -1,4 +1,4 @@
-use Rattle.std.proofs.Common.{take, ap, rules}
+use Rattle.std.proofs.Common.{ap, rules}
 use Rattle.std.proofs.Output.{has_written_append, has_written_of_eq}
 use Rattle.std.proofs.lemmas.List.{take_all}
 use Rattle.vipr.specs.Explanation.{pairs_text}

@@ -1,12 +1,12 @@
 //! A certificate with each kind of line, byte by byte, and writers that take little.
-use crate::{WriteError, write_certificate};
 use bstr::BString;
-use std::alloc::Global;
+use std::alloc::{AllocError, Global};
 use std::test::Fail;
 use vipr_bytes::{Failed, FromWrite, Sink};
 use vipr_cert::{Certificate, Claim, Derivation, Goal, Name, Named, Problem, Reason};
 use vipr_frac::Frac;
 use vipr_linear::{Constraint, Ints, Row, Sense, Solution};
+use vipr_write::{GrowingText, WriteError, write_certificate};
 
 const TEXT: &[u8] = b"VER 1.0
 VAR 2
@@ -214,6 +214,26 @@ fn each_kind_of_line(rt: HostRuntime) -> Result<(), Fail> {
         }
         assert_eq!(rt; bytes.as_slice(), text);
     }
+    Ok(())
+}
+
+/// The text of a certificate with two solutions and five derivations, item by item.
+fn grown(alloc: Global, certificate: &Certificate) -> Result<Vec<u8>, AllocError> {
+    let mut text = GrowingText::new(alloc, certificate.problem(), 2)?;
+    for solution in certificate.solutions() {
+        text = text.solution(solution)?;
+    }
+    text = text.derivation_count(5)?;
+    for derivation in certificate.derivations() {
+        text = text.derivation(derivation)?;
+    }
+    Ok(text.into_bytes())
+}
+
+#[test]
+fn item_by_item(rt: HostRuntime) -> Result<(), Fail> {
+    let text = grown(rt.alloc(), &certificate(rt.alloc())?)?;
+    assert_eq!(rt; text.as_slice(), TEXT);
     Ok(())
 }
 

@@ -1,6 +1,6 @@
 use Rattle.std.proofs.Common.{◌≡◌, ℕ, zero, suc, ◌<◌, false, [], ◌∷◌, refl, slice_index, arith}
 use Rattle.vipr_spec.specs.Tokens.{is_white}
-use Rattle.vipr_rules.proofs.tests.some_name.Goals as goal
+use Rattle.vipr_tests.proofs.tests.rules.some_name.Goals as goal
 
 solid : (k : ℕ) → k < 1 → is_white (slice_index (120 ∷ []) k) ≡ false
 unfolding is_white

@@ -1,10 +1,8 @@
-use crate::frac::{Frac, FracError, Overflow};
-use crate::number::NumberError;
-use crate::partial::Partial;
 use std::cmp::Ordering;
 use std::hash::{DefaultHasher, Hash, Hasher};
 use std::process::Abort;
 use std::test::Fail;
+use vipr_frac::{Frac, FracError, NumberError, Overflow, Partial};
 
 const M: i128 = i128::MAX;
 

@@ -1,12 +1,12 @@
 //! Certificates as texts, and what they become.
 mod texts;
 
-use crate::tighten_certificate;
 use std::alloc::Global;
 use std::process::Abort;
 use std::test::Fail;
 use vipr_bytes::{Bytes, FromWrite};
 use vipr_text::{read_certificate, write_certificate};
+use vipr_tighten::tighten_certificate;
 
 // The constraint `x >= 3`, a solution that attains it, and the cutoff there.
 const CUTOFF: &[u8] = b"VER 1.0

@@ -1,17 +1,17 @@
 //! A checker between its calls: how many constraints it holds, and what it answers after a refusal.
 
 use super::{BRANCHES, BRANCHES_AND_MORE, MIXED, UNPROVED, UNSOLVED};
-use crate::{Checker, Place, Refusal, Stop};
-use std::alloc::{AllocError, Global};
+use std::alloc::Global;
 use std::test::Fail;
 use vipr_bytes::Bytes;
 use vipr_cert::Derivation;
+use vipr_check::{Checker, Place, Refusal, Stop};
 use vipr_read::read_certificate;
 use vipr_rules::{KeepAll, LiveOnly, Rows};
 
 // The calls behind the solutions, each made where it may be, and else without a refusal.
 
-fn end_solutions<S: Rows>(checker: &mut Checker<S>) -> Result<(), Stop> {
+pub(super) fn end_solutions<S: Rows>(checker: &mut Checker<S>) -> Result<(), Stop> {
     if checker.in_solutions() {
         checker.end_solutions()
     } else {
@@ -19,7 +19,7 @@ fn end_solutions<S: Rows>(checker: &mut Checker<S>) -> Result<(), Stop> {
     }
 }
 
-fn derivation<S: Rows>(
+pub(super) fn derivation<S: Rows>(
     alloc: Global,
     checker: &mut Checker<S>,
     step: &Derivation,
@@ -33,13 +33,21 @@ fn derivation<S: Rows>(
     }
 }
 
-fn finish<S: Rows>(checker: &mut Checker<S>) -> Result<(), Stop> {
+pub(super) fn finish<S: Rows>(checker: &mut Checker<S>) -> Result<(), Stop> {
     if checker.in_solutions() {
         return Ok(());
     }
     match checker.finish() {
         Ok(_) => Ok(()),
         Err(stop) => Err(stop),
+    }
+}
+
+// An answer that isn't want of memory.
+fn with_room(answer: Result<(), Stop>) -> Result<Result<(), Stop>, Stop> {
+    match answer {
+        Err(Stop::Memory) => Err(Stop::Memory),
+        _ => Ok(answer),
     }
 }
 
@@ -50,10 +58,10 @@ fn answers<S: Rows>(
     alloc: Global,
     checker: &mut Checker<S>,
     derivations: &[Derivation],
-) -> Result<Vec<Answer>, AllocError> {
+) -> Result<Vec<Answer>, Fail> {
     let mut answers = Vec::new(alloc);
     for step in derivations {
-        let answer = derivation(alloc, checker, step);
+        let answer = with_room(derivation(alloc, checker, step))?;
         answers.push((answer, checker.held()))?;
     }
     let answer = finish(checker);
@@ -67,7 +75,7 @@ fn answers_after<S: Rows>(
     checker: &mut Checker<S>,
     derivations: &[Derivation],
     times: u32,
-) -> Result<Vec<Answer>, AllocError> {
+) -> Result<Vec<Answer>, Fail> {
     for _ in 0..times {
         answers(alloc, checker, derivations)?;
     }
@@ -79,7 +87,7 @@ fn answers_to<S: Rows>(alloc: Global, text: &[u8], times: u32) -> Result<Vec<Ans
     let (problem, _, derivations) = read_certificate(alloc, Bytes::new(text))?.into_parts();
     let mut checker: Checker<S> = Checker::new(alloc, problem)?;
     let _ = end_solutions(&mut checker);
-    Ok(answers_after(alloc, &mut checker, derivations.as_slice(), times)?)
+    answers_after(alloc, &mut checker, derivations.as_slice(), times)
 }
 
 fn held<S: Rows>(alloc: Global, text: &[u8]) -> Result<Vec<usize>, Fail> {
@@ -104,7 +112,7 @@ fn what_may_be_referred_to_is_held(rt: HostRuntime) -> Result<(), Fail> {
     Ok(())
 }
 
-fn refused(cause: u8, place: Place) -> Result<(), Stop> {
+pub(super) fn refused(cause: u8, place: Place) -> Result<(), Stop> {
     Err(Stop::Refused(Refusal { cause, place }))
 }
 

@@ -1,10 +1,10 @@
 //! Tokens of short texts, a token that a failed read cuts short, and one that is too long.
 ghost use Rattle.std.specs.Prelude.{ℕ, Ok, length};
 
-use super::*;
 use std::io::{self, Read};
 use std::test::Fail;
 use vipr_bytes::{Bytes, FromRead};
+use vipr_scan::{Scanner, Stop, TextError, TokenKind, Tokens, Unfit, cause};
 
 /// Gives at most two bytes a read, and fails after so many reads.
 #[derive(Drop)]

@@ -2,13 +2,13 @@
 //! ample memory.
 ghost use Rattle.std.specs.Prelude.{◌≡◌, length};
 
-use crate::{
-    CombError, Combination, Constraint, Ints, Rounded, Row, RowError, Sense, Solution, covers,
-    holds_at, is_split, is_whole_row, value_at,
-};
 use std::alloc::Global;
 use std::test::Fail;
 use vipr_frac::Frac;
+use vipr_linear::{
+    CombError, Combination, Constraint, Ints, Rounded, Row, RowError, Sense, Solution, covers,
+    holds_at, is_split, is_whole_row, value_at,
+};
 
 const MOST: i128 = i128::MAX;
 

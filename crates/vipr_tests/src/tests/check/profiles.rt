@@ -1,10 +1,10 @@
 //! The two profiles of the rules: splits that cover, and a whole objective.
 
 use super::{at, report_of};
-use crate::{Detail, Place, Refusal, Verdict, check_in, explain_in};
 use std::alloc::Global;
 use std::test::Fail;
 use vipr_bytes::Bytes;
+use vipr_check::{Detail, Fault, Place, Refusal, Verdict, check_in, explain_in};
 use vipr_rules::{LiveOnly, Profile};
 
 // The branches x <= 1/4 and x >= 3/4 of a whole x.
@@ -34,10 +34,12 @@ const NOWHERE: &[u8] = b"VER 1.0 VAR 1 x INT 1 0 OBJ min 1 0 1 CON 1 0 a E 1/2 1
 const ASSUMED: &[u8] = b"VER 1.0 VAR 1 x INT 1 0 OBJ min 1 0 1 CON 0 0
     RTP range 1 inf SOL 0 DER 1 a G 1/2 1 0 1 { asm } -1";
 
-fn refusal(alloc: Global, profile: Profile, text: &'static [u8]) -> Option<Refusal> {
+// What is answered by the rules of a profile: none where it is verified.
+fn refusal(alloc: Global, profile: Profile, text: &'static [u8]) -> Result<Option<Refusal>, Fault> {
     match check_in::<Bytes, LiveOnly>(alloc, profile, Bytes::new(text)) {
-        Ok(Verdict::Refused(refusal)) => Some(refusal),
-        Ok(Verdict::Verified(_)) | Err(_) => None,
+        Ok(Verdict::Refused(refusal)) => Ok(Some(refusal)),
+        Ok(Verdict::Verified(_)) => Ok(None),
+        Err(fault) => Err(fault),
     }
 }
 
@@ -51,9 +53,9 @@ fn goal(alloc: Global, text: &'static [u8]) -> Result<Option<u32>, Fail> {
 fn splits_cover(rt: HostRuntime) -> Result<(), Fail> {
     let alloc = rt.alloc();
     let no_split = at(37, Place::Der(6));
-    assert_eq!(rt; refusal(alloc, Profile::One, COVERING), no_split);
+    assert_eq!(rt; refusal(alloc, Profile::One, COVERING)?, no_split);
     assert_eq!(rt; goal(alloc, COVERING)?, Some(6));
-    assert_eq!(rt; refusal(alloc, Profile::Two, WITH_GAP), no_split);
+    assert_eq!(rt; refusal(alloc, Profile::Two, WITH_GAP)?, no_split);
     Ok(())
 }
 
@@ -69,13 +71,13 @@ fn objectives_are_rounded(rt: HostRuntime) -> Result<(), Fail> {
     let alloc = rt.alloc();
     let no_proof = at(51, Place::End);
     for text in [WHOLE, NOT_WHOLE, HALVED, WHOLE_MAX, NOWHERE, ASSUMED] {
-        assert_eq!(rt; refusal(alloc, Profile::One, text), no_proof);
+        assert_eq!(rt; refusal(alloc, Profile::One, text)?, no_proof);
     }
     for text in [WHOLE, WHOLE_MAX, NOWHERE] {
         assert_eq!(rt; goal(alloc, text)?, Some(0));
     }
     for text in [NOT_WHOLE, HALVED, ASSUMED] {
-        assert_eq!(rt; refusal(alloc, Profile::Two, text), no_proof);
+        assert_eq!(rt; refusal(alloc, Profile::Two, text)?, no_proof);
     }
     Ok(())
 }

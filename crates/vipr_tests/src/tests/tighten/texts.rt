@@ -1,11 +1,12 @@
 //! Whole texts: what is written for them, and what of it where a read or a write fails.
 use super::{IGNORED, ROUNDED, SPLIT, UNUSED};
-use crate::{Outcome, TightenFault, tighten};
 use std::alloc::Global;
 use std::process::Abort;
 use std::test::Fail;
 use vipr_bytes::{Bytes, Failed, FromWrite, Sink, Source};
 use vipr_check::{Place, Refusal, Verdict, check};
+use vipr_rules::Profile;
+use vipr_tighten::{Outcome, TightenFault, tighten, tighten_in};
 
 // A constraint of the problem is the goal.
 const ABSURD: &[u8] = b"VER 1.0
@@ -83,6 +84,38 @@ a L 5 1 0 1/2
 b G 0 0
 RTP range -inf inf
 SOL 0
+DER 0
+";
+
+// x >= 1/2 for a whole x that is to be small, and what nothing needs.
+const WHOLE: &[u8] = b"VER 1.0
+VAR 1
+x
+INT 1
+0
+OBJ min
+1 0 1
+CON 1 0
+a G 1/2 1 0 1
+RTP range 1 1
+SOL 1
+s 1 0 1
+DER 1
+d L 7 1 0 1 { asm } -1
+";
+
+const WHOLE_ALONE: &[u8] = b"VER 1.0
+VAR 1
+x
+INT 1
+0
+OBJ min
+1 0 1
+CON 1 0
+a G 1/2 1 0 1
+RTP range 1 1
+SOL 1
+s 1 0 1
 DER 0
 ";
 
@@ -178,6 +211,13 @@ impl Sink for Slots {
     }
 }
 
+// Nothing is written where a growth is refused.
+fn holds_back(rt: &impl Abort, outcome: Result<Outcome, TightenFault>, is_written: bool) {
+    if let Err(TightenFault::Memory { taken }) = outcome {
+        assert!(rt; taken == 0 && !is_written, "it writes before it has room");
+    }
+}
+
 /// Checks what is written for a text, that it is a proof, and the figures.
 fn becomes(
     rt: &impl Abort,
@@ -187,11 +227,12 @@ fn becomes(
     figures: (u32, u32, usize, usize),
 ) -> Result<(), Fail> {
     // the writer has its room before
-    let mut written = Vec::with_capacity(alloc, 4096)?;
+    let mut written = Vec::with_capacity(alloc, wanted.len())?;
     let outcome = {
         let mut sink = FromWrite::new(&mut written);
         tighten(alloc, Bytes::new(text), &mut sink)
     };
+    holds_back(rt, outcome, !written.is_empty());
     let (kept, removed, peak_before, peak_after) = figures;
     assert_eq!(rt;
         outcome,
@@ -203,8 +244,8 @@ fn becomes(
         })
     );
     assert!(rt; written.as_slice() == wanted);
-    let verdict = check(alloc, Bytes::new(written.as_slice()));
-    assert!(rt; matches!(verdict, Ok(Verdict::Verified(_))));
+    let verdict = check(alloc, Bytes::new(written.as_slice()))?;
+    assert!(rt; matches!(verdict, Verdict::Verified(_)));
     Ok(())
 }
 
@@ -223,14 +264,44 @@ fn what_the_goal_needs_is_written(rt: HostRuntime) -> Result<(), Fail> {
 #[test]
 fn nothing_is_written_where_it_is_refused(rt: HostRuntime) {
     let mut slots = Slots::stopping_at(1, true);
+    let outcome = tighten(rt.alloc(), Bytes::new(DROPPED), &mut slots);
+    assert_eq!(rt; slots.calls, 0);
     assert_eq!(rt;
-        tighten(rt.alloc(), Bytes::new(DROPPED), &mut slots),
+        outcome,
         Ok(Outcome::Refused(Refusal {
             cause: 32,
             place: Place::Der(6),
         }))
     );
+}
+
+/// The profile decides what is a proof, and so whether anything is written.
+#[test]
+fn profiles_tighten(rt: HostRuntime) {
+    let mut slots = Slots::stopping_at(0, false);
+    let outcome = tighten_in(rt.alloc(), Profile::One, Bytes::new(WHOLE), &mut slots);
     assert_eq!(rt; slots.calls, 0);
+    assert_eq!(rt;
+        outcome,
+        Ok(Outcome::Refused(Refusal {
+            cause: 51,
+            place: Place::End,
+        }))
+    );
+    let outcome = tighten_in(rt.alloc(), Profile::Two, Bytes::new(WHOLE), &mut slots);
+    holds_back(&rt, outcome, slots.calls > 0);
+    assert_eq!(rt;
+        outcome,
+        Ok(Outcome::Tightened {
+            kept: 0,
+            removed: 1,
+            peak_before: 1,
+            peak_after: 0,
+        })
+    );
+    assert_eq!(rt; WHOLE_ALONE.len(), 94);
+    assert_eq!(rt; slots.calls, 94);
+    assert!(rt; &slots.taken[..94] == WHOLE_ALONE);
 }
 
 /// A chain of derivations, each of which refers to the one before, with these last references.
@@ -278,13 +349,15 @@ fn the_bytes_before_a_failed_write_were_taken(rt: HostRuntime) {
                 taken: call as u64 - 1,
             };
             let outcome = tighten(rt.alloc(), Bytes::new(IGNORED), &mut slots);
+            holds_back(&rt, outcome, slots.calls > 0);
             assert_eq!(rt; outcome, Err(fault));
             assert_eq!(rt; slots.calls, call);
             assert!(rt; slots.taken[..call - 1] == ROUNDED[..call - 1]);
         }
         let mut slots = Slots::stopping_at(bytes + 1, fails);
         let outcome = tighten(rt.alloc(), Bytes::new(IGNORED), &mut slots);
-        assert!(rt; outcome.is_ok());
+        holds_back(&rt, outcome, slots.calls > 0);
+        assert_eq!(rt; outcome.err(), None);
         assert_eq!(rt; slots.calls, bytes);
         assert!(rt; &slots.taken[..bytes] == ROUNDED);
     }
@@ -299,10 +372,8 @@ fn nothing_is_written_after_a_failed_read(rt: HostRuntime) {
             reads: 0,
             fails_at,
         };
-        assert_eq!(rt;
-            tighten(rt.alloc(), source, &mut slots),
-            Err(TightenFault::Read)
-        );
+        let outcome = tighten(rt.alloc(), source, &mut slots);
         assert_eq!(rt; slots.calls, 0);
+        assert_eq!(rt; outcome, Err(TightenFault::Read));
     }
 }

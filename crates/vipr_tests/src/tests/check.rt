@@ -2,17 +2,19 @@ ghost use Rattle.std.specs.Prelude.{◌≡◌, ◌<◌, length, Some};
 ghost use Rattle.vipr_spec.specs.Input.{Input};
 
 mod checkers;
+mod explained;
 mod profiles;
+mod spent;
 
-use crate::{
-    Checker, Detail, Fault, Place, Refusal, Report, StepDetail, Stop, Verdict, check, check_with,
-    explain,
-};
 use std::alloc::Global;
 use std::cell::Cell;
 use std::process::Abort;
 use std::test::Fail;
 use vipr_bytes::{Bytes, Failed, Source};
+use vipr_check::{
+    Checker, Detail, Fault, Place, Refusal, Report, StepDetail, Stop, Verdict, check, check_with,
+    explain,
+};
 use vipr_read::{CertReader, Derivations, Solutions};
 use vipr_rules::{KeepAll, LiveOnly};
 use vipr_scan::TextError;
@@ -87,10 +89,11 @@ fn report_of(verdict: Verdict) -> Option<Report> {
     }
 }
 
-fn refusal<R: Source + Drop>(alloc: Global, source: R) -> Option<Refusal> {
-    match check(alloc, source) {
-        Ok(Verdict::Refused(refusal)) => Some(refusal),
-        Ok(Verdict::Verified(_)) | Err(_) => None,
+/// What is answered: `None` where the certificate is verified.
+fn answered<R: Source + Drop>(alloc: Global, source: R) -> Result<Option<Refusal>, Fault> {
+    match check(alloc, source)? {
+        Verdict::Verified(_) => Ok(None),
+        Verdict::Refused(refusal) => Ok(Some(refusal)),
     }
 }
 
@@ -180,31 +183,28 @@ fn a_refusal_is_answered_again(rt: HostRuntime) -> Result<(), Fail> {
 }
 
 #[test]
-fn others_are_refused(rt: HostRuntime) {
-    let alloc = rt.alloc();
-    assert_eq!(rt; refusal(alloc, Bytes::new(b"")), at(1, Place::Byte(0)));
-    assert_eq!(rt;
-        refusal(alloc, Bytes::new(TRAILING)),
-        at(18, Place::Byte(69))
-    );
-    assert_eq!(rt; refusal(alloc, Bytes::new(LATE)), at(31, Place::Der(2)));
-    assert_eq!(rt; refusal(alloc, Bytes::new(MIXED)), at(34, Place::Der(2)));
-    assert_eq!(rt;
-        refusal(alloc, Bytes::new(OVERFLOWING)),
-        at(35, Place::Der(1))
-    );
-    assert_eq!(rt;
-        refusal(alloc, Bytes::new(UNDOMINATED)),
-        at(38, Place::Der(2))
-    );
-    assert_eq!(rt; refusal(alloc, Bytes::new(UNPROVED)), at(51, Place::End));
-    assert_eq!(rt; refusal(alloc, Bytes::new(BOUNDED)), at(51, Place::End));
-    assert_eq!(rt; refusal(alloc, Bytes::new(LISTED)), at(51, Place::End));
-    assert_eq!(rt; refusal(alloc, Bytes::new(UNMET)), at(52, Place::End));
-    assert_eq!(rt; refusal(alloc, Bytes::new(UNSOLVED)), at(22, Place::Sol(0)));
-    assert_eq!(rt; refusal(alloc, Bytes::new(CUT_OFF)), at(39, Place::Der(0)));
-    // what is assumed is no goal
-    assert_eq!(rt; refusal(alloc, Bytes::new(ASSUMED)), at(51, Place::End));
+fn others_are_refused(rt: HostRuntime) -> Result<(), Fail> {
+    let rows = [
+        (b"".as_slice(), 1, Place::Byte(0)),
+        (TRAILING, 18, Place::Byte(69)),
+        (LATE, 31, Place::Der(2)),
+        (MIXED, 34, Place::Der(2)),
+        (OVERFLOWING, 35, Place::Der(1)),
+        (UNDOMINATED, 38, Place::Der(2)),
+        (UNPROVED, 51, Place::End),
+        (BOUNDED, 51, Place::End),
+        (LISTED, 51, Place::End),
+        (UNMET, 52, Place::End),
+        (UNSOLVED, 22, Place::Sol(0)),
+        (CUT_OFF, 39, Place::Der(0)),
+        // what is assumed is no goal
+        (ASSUMED, 51, Place::End),
+    ];
+    for (text, cause, place) in rows {
+        let answer = answered(rt.alloc(), Bytes::new(text))?;
+        assert_eq!(rt; answer, at(cause, place));
+    }
+    Ok(())
 }
 
 /// Gives its bytes in pieces, then the end or a failure, and counts the reads.
@@ -232,14 +232,6 @@ impl Source for Counting<'_> {
         buf[..n].copy_from_slice(front);
         self.left = rest;
         Ok(n)
-    }
-}
-
-/// What is answered: `None` where the certificate is verified.
-fn answered<R: Source + Drop>(alloc: Global, source: R) -> Result<Option<Refusal>, Fault> {
-    match check(alloc, source)? {
-        Verdict::Verified(_) => Ok(None),
-        Verdict::Refused(refusal) => Ok(Some(refusal)),
     }
 }
 

@@ -1,6 +1,6 @@
-use super::*;
 use std::io::{self, ErrorKind, Read, Write};
 use std::test::Fail;
+use vipr_bytes::{Bytes, Failed, FromRead, FromWrite, Sink, Source, WriteFailed, write_bytes};
 
 /// Moves at most two bytes a call, and fails at a chosen call.
 #[derive(Drop)]

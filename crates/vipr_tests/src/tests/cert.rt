@@ -1,9 +1,9 @@
 //! Each constructor once within its limits, and past those that are cheap to reach.
-use crate::{BadShape, Certificate, Claim, Derivation, Goal, Name, Named, Problem, Reason};
 use bstr::BString;
 use std::alloc::Global;
 use std::process::Abort;
 use std::test::Fail;
+use vipr_cert::{BadShape, Certificate, Claim, Derivation, Goal, Name, Named, Problem, Reason};
 use vipr_frac::Frac;
 use vipr_linear::{Constraint, Ints, Row, Sense, Solution};
 

@@ -1,13 +1,13 @@
-use crate::{
-    Assumptions, Columns, Entry, KeepAll, LiveOnly, Rows, SolutionError, test_solution,
-    test_solution_by_columns,
-};
 use std::alloc::Global;
 use std::process::Abort;
 use std::test::Fail;
 use vipr_cert::{Claim, Goal, Name, Named, Problem};
 use vipr_frac::Frac;
 use vipr_linear::{Combination, Constraint, Ints, Row, Sense, Solution};
+use vipr_rules::{
+    Assumptions, Columns, Entry, KeepAll, LiveOnly, Rows, SolutionError, test_solution,
+    test_solution_by_columns,
+};
 
 fn entry(alloc: Global, last: Option<u32>, is_assumption: bool) -> Result<Entry, Fail> {
     Ok(Entry {

@@ -1,0 +1,10 @@
+mod bytes;
+mod cert;
+mod check;
+mod frac;
+mod linear;
+mod read;
+mod rules;
+mod scan;
+mod tighten;
+mod write;

@@ -1,0 +1,109 @@
+//! A checker that is refused a growth: it answers that once, and is spent then.
+//!
+//! A run by itself has room. `tests/growths.py` refuses each growth, and asks that each of these
+//! tests has a run that ends at such a checker.
+
+use super::checkers::{derivation, end_solutions, finish, refused};
+use super::{BRANCHES, MIXED, SOLVED, UNDOMINATED, UNSOLVED};
+use std::alloc::Global;
+use std::process::Abort;
+use std::test::Fail;
+use vipr_bytes::Bytes;
+use vipr_cert::{Named, Problem};
+use vipr_check::{Checker, Place, Stop};
+use vipr_linear::Solution;
+use vipr_read::read_certificate;
+use vipr_rules::{KeepAll, LiveOnly, Rows};
+
+// 2 x >= 5 for a whole x, rounded.
+const ROUNDED: &[u8] = b"VER 1.0 VAR 1 x INT 1 0 OBJ min 1 0 1 CON 1 0 a G 5 1 0 2
+    RTP range 3 inf SOL 0 DER 1 g G 3 1 0 1 { rnd 1 0 1/2 } -1";
+
+// What is told of a checker that was refused a growth, by its answers since.
+fn spent(rt: &impl Abort, since: [Result<(), Stop>; 2]) -> Fail {
+    let spent = Err(Stop::Spent);
+    assert!(rt;
+        since == [spent, spent],
+        "it goes on after a refused growth"
+    );
+    Fail::new("Memory, then Spent")
+}
+
+// The solution is refused, so its name is kept.
+fn of_solution<S: Rows>(rt: &impl Abort, alloc: Global) -> Result<(), Fail> {
+    let (problem, solutions, _) = read_certificate(alloc, Bytes::new(UNSOLVED))?.into_parts();
+    let solution = solutions.first().ok_or("no solution")?;
+    let mut checker: Checker<S> = Checker::new(alloc, problem)?;
+    let answer = checker.solution(solution);
+    if answer == Err(Stop::Memory) {
+        let again = checker.solution(solution);
+        return Err(spent(rt, [again, end_solutions(&mut checker)]));
+    }
+    assert_eq!(rt; answer, refused(22, Place::Sol(0)));
+    Ok(())
+}
+
+#[test]
+fn spent_at_a_solution_over_live_rows(rt: HostRuntime) -> Result<(), Fail> {
+    of_solution::<LiveOnly>(&rt, rt.alloc())
+}
+
+#[test]
+fn spent_at_a_solution_over_all_rows(rt: HostRuntime) -> Result<(), Fail> {
+    of_solution::<KeepAll>(&rt, rt.alloc())
+}
+
+// A checker behind the only solution, if there is one.
+fn behind_solutions<S: Rows>(
+    alloc: Global,
+    problem: Problem,
+    solutions: &[Named<Solution>],
+) -> Result<Checker<S>, Fail> {
+    let mut checker: Checker<S> = Checker::new(alloc, problem)?;
+    if let Some(solution) = solutions.first() {
+        checker.solution(solution)?;
+    }
+    end_solutions(&mut checker)?;
+    Ok(checker)
+}
+
+// What is answered at the end of a text.
+fn at_the_end<S: Rows>(
+    rt: &impl Abort,
+    alloc: Global,
+    text: &[u8],
+) -> Result<Result<(), Stop>, Fail> {
+    let (problem, solutions, steps) = read_certificate(alloc, Bytes::new(text))?.into_parts();
+    let mut checker: Checker<S> = behind_solutions(alloc, problem, solutions.as_slice())?;
+    for step in steps.as_slice() {
+        if derivation(alloc, &mut checker, step) == Err(Stop::Memory) {
+            let again = derivation(alloc, &mut checker, step);
+            return Err(spent(rt, [again, finish(&mut checker)]));
+        }
+    }
+    Ok(finish(&mut checker))
+}
+
+// Each kind of reason, and refusals that keep a name and constraints.
+fn of_derivations<S: Rows>(rt: &impl Abort, alloc: Global) -> Result<(), Fail> {
+    for (text, wanted) in [
+        (BRANCHES, Ok(())),
+        (ROUNDED, Ok(())),
+        (SOLVED, refused(51, Place::End)),
+        (MIXED, refused(34, Place::Der(2))),
+        (UNDOMINATED, refused(38, Place::Der(2))),
+    ] {
+        assert_eq!(rt; at_the_end::<S>(rt, alloc, text)?, wanted);
+    }
+    Ok(())
+}
+
+#[test]
+fn spent_at_a_derivation_over_live_rows(rt: HostRuntime) -> Result<(), Fail> {
+    of_derivations::<LiveOnly>(&rt, rt.alloc())
+}
+
+#[test]
+fn spent_at_a_derivation_over_all_rows(rt: HostRuntime) -> Result<(), Fail> {
+    of_derivations::<KeepAll>(&rt, rt.alloc())
+}
