@@ -49,7 +49,8 @@ module _ (sums : List ℚ) (touched : List ℕ) (es : List (ℕ × ℚ)) (i met 
   pub next : x ≢ zero_ℚ → filter is_nonzero (map (pick sums) touched) ≡ es → (met < length es) × ((d : ℕ × ℚ) → get_or es met d ≡ (get_or touched i 0, x))
   next f e = (
     (let n = ap length whole in let k = length-append (take met es) (one ∷ rest) in let t = length-take-le met es within in omega (arith, n, k, t)),
-    λ d. sym (ap (λ ys. get_or ys met d) whole) ∙ ap (λ n. get_or (take met es ++ one ∷ rest) n d) (sym (length-take-le met es within)) ∙ get_or-append_seam (take met es) one rest d)
+    λ d. sym (ap (λ ys. get_or ys met d) whole) ∙ ap (λ n. get_or (take met es ++ one ∷ rest) n d) (sym (length-take-le met es within)) ∙ get_or-append_seam (take met es) one rest d,
+  )
     where
       whole : take met es ++ one ∷ rest ≡ es
       whole =
@@ -64,4 +65,5 @@ module _ (sums : List ℚ) (xs : List ℕ) (o : AreInOrder sums xs) (es : List (
   pub picked_row : (filter is_nonzero (map (pick sums) xs) ≡ es) ↔ ((j : ℕ) → get_or sums j zero_ℚ ≡ at (from_sorted es) j)
   picked_row = (
     λ e j. sym (collected_at sums o.marks xs o.touching o.covers o.rising j) ∙ ap (λ ys. at (from_sorted ys) j) e,
-    λ h. same_lists _ es (collected_rises sums xs o.rising) r (λ j. collected_at sums o.marks xs o.touching o.covers o.rising j ∙ h j))
+    λ h. same_lists _ es (collected_rises sums xs o.rising) r (λ j. collected_at sums o.marks xs o.touching o.covers o.rising j ∙ h j),
+  )

@@ -1,7 +1,7 @@
 //! Sums of multiples of constraints.
 ghost use Rattle.std.specs.Prelude.{◌≡◌, ◌≢◌, ◌↔◌, ◌⊎◌, ◌<◌, ◌≤◌, ℕ, true, false, length, All};
-ghost use Rattle.std.specs.Prelude.{IsTrue, IsOk, IsSome, IsNone, IfOk, IfErr, OnOk, OnErr, MatchOption};
-ghost use Rattle.std.specs.Prelude.{vec_capacity, Some, None};
+ghost use Rattle.std.specs.Prelude.{IsTrue, IsOk, IsSome, IsNone, IfOk, IfErr, OnOk, OnErr};
+ghost use Rattle.std.specs.Prelude.{MatchOption, vec_capacity, Some, None};
 ghost use Rattle.vipr_spec.specs.Fraction.{◌+ℚ◌, ◌*ℚ◌};
 ghost use Rattle.vipr_spec.specs.Constraint.{Point, at, NamesBelow, value, ValueFits};
 ghost use Rattle.vipr_spec.specs.Constraint.{IsAbsurd, Dominates, IsWholeRow, DominatesRounded};
@@ -171,7 +171,8 @@ impl Combination {
     /// Whether the sum dominates a constraint: it is absurd, or has the constraint's row and says
     /// as much. It takes no memory, and the sum stays as it is.
     pub fn dominates(&mut self, other: &Constraint) -> bool
-        ensures dominates { IsTrue result ↔ Dominates (held_condition self.old) (condition_of other.now) }
+        ensures dominates { IsTrue result
+            ↔ Dominates (held_condition self.old) (condition_of other.now) }
         ensures kept { self.new ≡ self.old }
     {
         self.touched.sort_unstable();

@@ -1,7 +1,7 @@
 //! Partial sums of variables, one place for each, with a list of the touched ones.
-ghost use Rattle.std.specs.Prelude.{◌≡◌, ◌↔◌, ◌<◌, ◌≤◌, ℕ, Bool, true, false, IsTrue, IsOk, IfOk};
-ghost use Rattle.std.specs.Prelude.{OnOk, All, [], filter, map, length, slice_index_or, vec_capacity};
-ghost use Rattle.std.specs.Prelude.{vec_len};
+ghost use Rattle.std.specs.Prelude.{◌≡◌, ◌↔◌, ◌<◌, ◌≤◌, ℕ, Bool, true, false};
+ghost use Rattle.std.specs.Prelude.{IsTrue, IsOk, IfOk, OnOk, All, [], filter, map, length};
+ghost use Rattle.std.specs.Prelude.{slice_index_or, vec_capacity, vec_len};
 ghost use Rattle.vipr_spec.specs.Fraction.{zero_ℚ, IsBounded};
 ghost use Rattle.vipr_spec.specs.Reading.{is_nonzero};
 ghost use Rattle.vipr_linear.specs.Accumulator.{with_terms, TermsFitIn};

@@ -80,11 +80,7 @@ pub(crate) fn combine_rounded<S: Rows>(
 
 // Tests that the sum dominates the stated constraint. It becomes a constraint only where it
 // doesn't, for what is told then.
-fn check_sum(
-    alloc: Global,
-    scratch: &mut Combination,
-    stated: &Constraint,
-) -> Result<(), RuleError>
+fn check_sum(alloc: Global, scratch: &mut Combination, stated: &Constraint) -> Result<(), RuleError>
     requires fresh { scratch.old.spent ≡ false }
     ensures dominates { MatchResult result
         (λ _. Dominates (held_condition scratch.old) (condition_of stated.now))
@@ -117,8 +113,8 @@ fn check_rounded(sum: Constraint, ints: &Ints, stated: &Constraint) -> Result<()
 }
 
 // Adds the entries in their order, those with the multiplier 0 left out, and gives the assumptions
-// that they rest on. Each reference is looked up once; where an entry can't be added, the references
-// behind it are tested first.
+// that they rest on. Each reference is looked up once; where an entry can't be added, those behind
+// it are tested first.
 fn add_up<S: Rows>(
     alloc: Global,
     context: &Context<S>,

@@ -14,13 +14,15 @@ returns-then-met-entries c =
     let at = get_or c.args.touched.now i 0 in
     let within : at < length c.args.sums.now = c.requires i 0 c.loop-variable-test.true in
     let some : c.index-sums-variable.result ≢ zero_ℚ = λ z. (let t = (c.is_zero.ensures.1 z) in let f = c.if-not-is_zero.true in cc) in
-    let next_is = next c.args.sums.now c.args.touched.now c.args.entries.now i c.loop-variable.met c.index-sums-variable.result c.loop-variable-test.true within c.index-sums-variable.is c.loop-variable.invariant.within c.loop-variable.invariant.met some in
-    (λ t. absurd (let e = t in cc), λ e. absurd (elim c.then-met-entries.branch [
-      | then-met-entries-via-then-met-entries w ↦ let h = (next_is e).0 in let k = w.if-met-entries.true in omega (arith, k, h)
-      | then-met-entries-via-else-met-entries+then-entries-met w ↦ w.if-entries-met.true (ap (λ (p : ℕ × ℚ). p.0) ((next_is e).1 _))
-      | then-met-entries-via-else-met-entries+else-entries-met+then-not-is w ↦
-          let t = w.is.ensures.1 (sym (ap (λ (p : ℕ × ℚ). p.1) ((next_is e).1 _))) in let f = w.if-not-is.true in (cc)
-    ]))
+    let next_is = next c.args.sums.now c.args.touched.now c.args.entries.now i c.loop-variable.met c.index-sums-variable.result c.loop-variable-test.true within c.index-sums-variable.is c.loop-variable.invariant.within c.loop-variable.invariant.met some in (
+      λ t. absurd (let e = t in cc),
+      λ e. absurd (elim c.then-met-entries.branch [
+        | then-met-entries-via-then-met-entries w ↦ let h = (next_is e).0 in let k = w.if-met-entries.true in omega (arith, k, h)
+        | then-met-entries-via-else-met-entries+then-entries-met w ↦ w.if-entries-met.true (ap (λ (p : ℕ × ℚ). p.0) ((next_is e).1 _))
+        | then-met-entries-via-else-met-entries+else-entries-met+then-not-is w ↦
+            let t = w.is.ensures.1 (sym (ap (λ (p : ℕ × ℚ). p.1) ((next_is e).1 _))) in let f = w.if-not-is.true in (cc)
+      ]),
+    )
 
 pub loop-variable-preserved : goal.loop-variable-preserved
 loop-variable-preserved c =

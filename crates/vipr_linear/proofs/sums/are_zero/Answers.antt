@@ -9,6 +9,7 @@ are_sums-requires c = touched_within _ _ _ c.requires.places c.requires.touching
 
 pub returns : goal.returns
 returns c =
-    let same = picked_row c.args.sums.now c.args.touched.now c.requires [] tt in
-    (λ t j. same.0 (c.are_sums.ensures.0 t) j ∙ at-nothing j,
-     λ h. c.are_sums.ensures.1 (same.1 (λ j. h j ∙ sym (at-nothing j))))
+    let same = picked_row c.args.sums.now c.args.touched.now c.requires [] tt in (
+      λ t j. same.0 (c.are_sums.ensures.0 t) j ∙ at-nothing j,
+      λ h. c.are_sums.ensures.1 (same.1 (λ j. h j ∙ sym (at-nothing j))),
+    )

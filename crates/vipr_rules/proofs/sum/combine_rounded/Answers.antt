@@ -23,7 +23,7 @@ returns-then-rounds_to-clause-ruled g c = λ P d e is says.
     let sum = c.in_ok-assumptions.ensures.sum P d e is in
     let ints = ap (λ (q : Problem). q.integers) is.problem ∙ sym c.ints.ensures.integers in (
       passes_both P d e (sum_tests c.args.entries.now) (roundable c.args.entries.now ∷ by_rounding c.args.entries.now ∷ []) sum.0
-      (sum_rounded P d e c.args.entries.now (held_condition c.add_up.new.scratch) (condition_of c.args.stated.now) sum.1 c.ints.result.now ints says (c.rounds_to.ensures.whole c.if-rounds_to.true) (c.rounds_to.ensures.dominates c.if-rounds_to.true)),
+          (sum_rounded P d e c.args.entries.now (held_condition c.add_up.new.scratch) (condition_of c.args.stated.now) sum.1 c.ints.result.now ints says (c.rounds_to.ensures.whole c.if-rounds_to.true) (c.rounds_to.ensures.dominates c.if-rounds_to.true)),
       sum.2,
     )
 

@@ -26,6 +26,7 @@ returns c =
     let p = c.self.inside.p in
     let some = c.self.invariant.some in
     let back : to_z w128 (of_z w128 p) ≡ p = as-is p c.self.invariant.numer_bounded in
-    let view : over p c.self.inside.q ≡ c.args.self.now = c.self.view_is in
-    (λ t. sym view ∙ zero_of p c.self.inside.q some (let e = t in grind (arith, ints, e, back)),
-     λ e. let z : p ≡ pos 0 = none_of p c.self.inside.q some (view ∙ e) in rw z refl)
+    let view : over p c.self.inside.q ≡ c.args.self.now = c.self.view_is in (
+      λ t. sym view ∙ zero_of p c.self.inside.q some (let e = t in grind (arith, ints, e, back)),
+      λ e. let z : p ≡ pos 0 = none_of p c.self.inside.q some (view ∙ e) in rw z refl,
+    )
