@@ -57,7 +57,7 @@ def take_over(top, copy):
         if not is_of_one_run(top):
             return False
         stamp(copy)
-    except (AttributeError, OSError, TypeError, SystemExit) as fault:
+    except (Exception, SystemExit) as fault:
         print(f'proved: {fault}: what rt ci proved is proved once more')
         return False
     return True
