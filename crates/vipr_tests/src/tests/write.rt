@@ -1,6 +1,7 @@
 //! A certificate with each kind of line, byte by byte, and writers that take little.
 use bstr::BString;
 use std::alloc::{AllocError, Global};
+use std::process::Abort;
 use std::test::Fail;
 use vipr_bytes::{Failed, FromWrite, Sink};
 use vipr_cert::{Certificate, Claim, Derivation, Goal, Name, Named, Problem, Reason};
@@ -98,11 +99,12 @@ fn solutions(alloc: Global) -> Result<Vec<Named<Solution>>, Fail> {
 fn derivation(
     alloc: Global,
     bytes: &[u8],
-    constraint: Constraint,
+    (entries, sense, rhs): (&[(u32, i128, i128)], Sense, i128),
     reason: Reason,
     last: Option<u32>,
 ) -> Result<Derivation, Fail> {
     let name = name(alloc, bytes)?;
+    let constraint = constraint(row(alloc, entries)?, sense, rhs, 1)?;
     Ok(Derivation {
         name,
         constraint,
@@ -111,29 +113,37 @@ fn derivation(
     })
 }
 
-fn derivations(alloc: Global) -> Result<Vec<Derivation>, Fail> {
-    let second = [(1, 1, 1)];
-    let c = constraint(row(alloc, &second)?, Sense::L, 12, 1)?;
-    let d = constraint(row(alloc, &second)?, Sense::G, 13, 1)?;
-    let e = constraint(row(alloc, &[])?, Sense::L, 0, 1)?;
-    let f = constraint(row(alloc, &[])?, Sense::L, 0, 1)?;
-    let g = constraint(row(alloc, &[])?, Sense::E, 0, 1)?;
+fn lin(alloc: Global) -> Result<Reason, Fail> {
     let mut sum = Vec::new(alloc);
     sum.push((0, Frac::zero()))?;
     sum.push((1, Frac::new(-5, 10)?))?;
-    let lin = Reason::Lin(sum);
+    Ok(Reason::Lin(sum))
+}
+
+// The derivations that have entries.
+fn bounds(alloc: Global) -> Result<Vec<Derivation>, Fail> {
+    let second = [(1, 1, 1)].as_slice();
+    let c = (second, Sense::L, 12);
+    let d = (second, Sense::G, 13);
+    let mut bounds = Vec::new(alloc);
+    bounds.push(derivation(alloc, b"c", c, Reason::Asm, Some(6))?)?;
+    bounds.push(derivation(alloc, b"d", d, lin(alloc)?, None)?)?;
+    Ok(bounds)
+}
+
+fn derivations(alloc: Global) -> Result<Vec<Derivation>, Fail> {
+    let none = [].as_slice();
+    let mut derivations = bounds(alloc)?;
     let rnd = Reason::Rnd(Vec::new(alloc));
+    derivations.push(derivation(alloc, b"e", (none, Sense::L, 0), rnd, None)?)?;
     let uns = Reason::Uns {
         i1: 4,
         l1: 2,
         i2: 5,
         l2: 3,
     };
-    let mut derivations = Vec::new(alloc);
-    derivations.push(derivation(alloc, b"c", c, Reason::Asm, Some(6))?)?;
-    derivations.push(derivation(alloc, b"d", d, lin, None)?)?;
-    derivations.push(derivation(alloc, b"e", e, rnd, None)?)?;
-    derivations.push(derivation(alloc, b"f", f, uns, None)?)?;
+    derivations.push(derivation(alloc, b"f", (none, Sense::L, 0), uns, None)?)?;
+    let g = (none, Sense::E, 0);
     derivations.push(derivation(alloc, b"g", g, Reason::Sol, None)?)?;
     Ok(derivations)
 }
@@ -202,19 +212,27 @@ impl Sink for OneByOne {
     }
 }
 
+// What is written for a certificate is that text.
+fn is_written(
+    rt: &impl Abort,
+    alloc: Global,
+    certificate: &Certificate,
+    text: &[u8],
+) -> Result<(), Fail> {
+    // the writer has its room before
+    let mut bytes = Vec::with_capacity(alloc, 4096)?;
+    {
+        let mut sink = FromWrite::new(&mut bytes);
+        assert_eq!(rt; write_certificate(alloc, certificate, &mut sink), Ok(()));
+    }
+    assert_eq!(rt; bytes.as_slice(), text);
+    Ok(())
+}
+
 #[test]
 fn each_kind_of_line(rt: HostRuntime) -> Result<(), Fail> {
-    let alloc = rt.alloc();
-    for (certificate, text) in [(certificate(alloc)?, TEXT), (empty(alloc)?, SHORT)] {
-        // the writer has its room before
-        let mut bytes = Vec::with_capacity(alloc, 4096)?;
-        {
-            let mut sink = FromWrite::new(&mut bytes);
-            assert_eq!(rt; write_certificate(alloc, &certificate, &mut sink), Ok(()));
-        }
-        assert_eq!(rt; bytes.as_slice(), text);
-    }
-    Ok(())
+    is_written(&rt, rt.alloc(), &certificate(rt.alloc())?, TEXT)?;
+    is_written(&rt, rt.alloc(), &empty(rt.alloc())?, SHORT)
 }
 
 /// The text of a certificate with two solutions and five derivations, item by item.

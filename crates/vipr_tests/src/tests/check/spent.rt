@@ -9,7 +9,7 @@ use std::alloc::Global;
 use std::process::Abort;
 use std::test::Fail;
 use vipr_bytes::Bytes;
-use vipr_cert::{Named, Problem};
+use vipr_cert::{Derivation, Named, Problem};
 use vipr_check::{Checker, Place, Stop};
 use vipr_linear::Solution;
 use vipr_read::read_certificate;
@@ -67,6 +67,33 @@ fn behind_solutions<S: Rows>(
     Ok(checker)
 }
 
+// A derivation more, after which the checker goes on.
+fn taken<S: Rows>(
+    rt: &impl Abort,
+    alloc: Global,
+    checker: &mut Checker<S>,
+    step: &Derivation,
+) -> Result<(), Fail> {
+    if derivation(alloc, checker, step) == Err(Stop::Memory) {
+        let again = derivation(alloc, checker, step);
+        return Err(spent(rt, [again, finish(checker)]));
+    }
+    Ok(())
+}
+
+// What is answered behind these derivations.
+fn behind_derivations<S: Rows>(
+    rt: &impl Abort,
+    alloc: Global,
+    checker: &mut Checker<S>,
+    steps: &[Derivation],
+) -> Result<Result<(), Stop>, Fail> {
+    for step in steps {
+        taken(rt, alloc, checker, step)?;
+    }
+    Ok(finish(checker))
+}
+
 // What is answered at the end of a text.
 fn at_the_end<S: Rows>(
     rt: &impl Abort,
@@ -75,13 +102,7 @@ fn at_the_end<S: Rows>(
 ) -> Result<Result<(), Stop>, Fail> {
     let (problem, solutions, steps) = read_certificate(alloc, Bytes::new(text))?.into_parts();
     let mut checker: Checker<S> = behind_solutions(alloc, problem, solutions.as_slice())?;
-    for step in steps.as_slice() {
-        if derivation(alloc, &mut checker, step) == Err(Stop::Memory) {
-            let again = derivation(alloc, &mut checker, step);
-            return Err(spent(rt, [again, finish(&mut checker)]));
-        }
-    }
-    Ok(finish(&mut checker))
+    behind_derivations(rt, alloc, &mut checker, steps.as_slice())
 }
 
 // Each kind of reason, and refusals that keep a name and constraints.
