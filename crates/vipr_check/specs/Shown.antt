@@ -47,9 +47,10 @@ rule_shown (rule.Dropped i) = step.index i
 rule_shown (rule.NotAssumption l) = step.index l
 rule_shown (rule.MixedSigns n) = step.position (min n most_count)
 rule_shown (rule.Overflow n) = step.position (min n most_count)
-rule_shown (rule.NotRoundable x) = step.sum (condition_of x)
-rule_shown (rule.NotSplit x y) = step.both (condition_of x) (condition_of y)
-rule_shown (rule.NotDominated x y) = step.compared (condition_of x) (condition_of y)
+rule_shown (rule.NotRoundable x) = step.sum (condition_of x.value)
+rule_shown (rule.NotSplit x y) = step.both (condition_of x.value) (condition_of y.value)
+rule_shown (rule.NotDominated x y) =
+    step.compared (condition_of x.value) (condition_of y.value)
 rule_shown rule.NoSolution = step.nothing
 rule_shown rule.Memory = step.nothing
 

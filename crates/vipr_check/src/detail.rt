@@ -182,9 +182,14 @@ fn of_rule(error: RuleError) -> StepDetail
         RuleError::NotAssumption(index) => StepDetail::Index(index),
         RuleError::MixedSigns(position) => StepDetail::Entry(entry_at(position)),
         RuleError::Overflow(position) => StepDetail::Entry(entry_at(position)),
-        RuleError::NotRoundable(sum) => StepDetail::Sum(sum),
-        RuleError::NotSplit(first, second) => StepDetail::Pair(first, second),
-        RuleError::NotDominated { computed, stated } => StepDetail::Rows { computed, stated },
+        RuleError::NotRoundable(sum) => StepDetail::Sum(Box::into_inner(sum)),
+        RuleError::NotSplit(first, second) => {
+            StepDetail::Pair(Box::into_inner(first), Box::into_inner(second))
+        }
+        RuleError::NotDominated { computed, stated } => StepDetail::Rows {
+            computed: Box::into_inner(computed),
+            stated: Box::into_inner(stated),
+        },
         RuleError::NoSolution | RuleError::Memory => StepDetail::Nothing,
     }
 }

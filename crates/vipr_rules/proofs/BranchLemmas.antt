@@ -7,11 +7,12 @@ use Rattle.std.specs.Ordering.{nat_cmp}
 use Rattle.std.specs.FinSet.{FinSet, contains, union, remove, contains-remove}
 use Rattle.vipr_spec.specs.Constraint.{Profile, Condition, condition, Ints, IsSplit, Dominates}
 use Rattle.vipr_spec.specs.Certificate.{Certificate, Derivation, Reason, asm, lin, rnd, uns, sol, constraint_at, reason_at, is_assumption, RestsOn}
+use Rattle.vipr_spec.specs.Causes as cause
 use Rattle.vipr_spec.specs.Steps.{StepTest, assumed, split, by_constraint, step_tests, index, both, compared}
 use Rattle.vipr_linear.specs.Constraint.{condition_of}
 use Rattle.vipr_linear.specs.declared.constraint.Constraint.{Constraint}
 use Rattle.vipr_rules.specs.declared.error.RuleError.{RuleError}
-use Rattle.vipr_rules.specs.declared.error.RuleError.TheVariants.{NotAssumption, NotSplit}
+use Rattle.vipr_rules.specs.declared.error.RuleError.TheVariants.{NotAssumption}
 use Rattle.vipr_rules.specs.declared.context.Known.{Known}
 use Rattle.vipr_rules.specs.Context.{IsKnownAs, IsSetWithout, IsSetByReason, row_found, set_of, is_assumed}
 use Rattle.vipr_rules.specs.Apply.{index_tests, free_tests, PassesTestsIn, StopsIn, IsNotDominated, shown_by}
@@ -70,8 +71,8 @@ module _ (P : Profile) (c : Certificate) (d : Derivation) where
     pub split_passes : IsSplit P ints (condition_of x) (condition_of y) → PassesTestsIn P c d (split l1 l2 ∷ [])
     split_passes h = passes_one P c d (split l1 l2) (splits ints c.problem.integers _ _ _ _ (sym same) says_x says_y h)
 
-    pub split_stops : ¬ IsSplit P ints (condition_of x) (condition_of y) → StopsIn P c d (split l1 l2 ∷ []) (NotSplit x y)
-    split_stops bad = stops_one P c d (split l1 l2) (NotSplit x y) (λ h. bad (splits c.problem.integers ints _ _ _ _ same (sym says_x) (sym says_y) h)) (both (condition_of x) (condition_of y), refl, ap₂ both says_x says_y)
+    pub split_stops : ¬ IsSplit P ints (condition_of x) (condition_of y) → (e : RuleError) → shown_by e ≡ Some (cause.not_split, both (condition_of x) (condition_of y)) → StopsIn P c d (split l1 l2 ∷ []) e
+    split_stops bad e is = stops_one P c d (split l1 l2) e (λ h. bad (splits c.problem.integers ints _ _ _ _ same (sym says_x) (sym says_y) h)) (both (condition_of x) (condition_of y), is, ap₂ both says_x says_y)
 
   module _ (i : ℕ) (x y : Constraint) (says_x : condition_of x ≡ constraint_at c i) (says_y : condition_of y ≡ condition d.stated) where
     dominates : (a a' b b' : Condition) → a ≡ a' → b ≡ b' → Dominates a b → Dominates a' b'
@@ -82,7 +83,7 @@ module _ (P : Profile) (c : Certificate) (d : Derivation) where
 
     pub constraint_stops : (e : RuleError) → IsNotDominated x y e → StopsIn P c d (by_constraint i ∷ []) e
     constraint_stops e (is, bad) =
-        stops_one P c d (by_constraint i) e (λ h. bad (dominates _ _ _ _ (sym says_x) (sym says_y) h)) (compared (condition_of x) (condition_of y), ap shown_by is, ap₂ compared says_x says_y)
+        stops_one P c d (by_constraint i) e (λ h. bad (dominates _ _ _ _ (sym says_x) (sym says_y) h)) (compared (condition_of x) (condition_of y), is, ap₂ compared says_x says_y)
 
 -- ---- all tests
 module _ (P : Profile) (c : Certificate) (d : Derivation) (i1 l1 i2 l2 : ℕ) where

@@ -38,7 +38,7 @@ module _ (P : Profile) (c : Certificate) (d : Derivation) (best : ℚ) (is : IsB
       inl (some_listed, inr ((λ v. bad (subst (λ x. Dominates x (condition_of stated)) (sym same) (subst (Dominates bound) (sym says) ((cuts_off c (Some best) (condition d.stated) is).0 v)))), refl)),
       (
         compared (condition_of computed) (condition_of stated),
-        ap shown_by this,
+        this,
         (
           is.0.0,
           (is.0.1, subst (λ w. All (λ t. IsAsGood c.problem.direction w (objective_at c.problem (at t.item))) c.solutions) (sym is.0.2) is.1),

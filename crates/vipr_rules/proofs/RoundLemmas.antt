@@ -1,9 +1,10 @@
 -- What the tests of a rounded sum say.
-use Rattle.std.proofs.Common.{◌≡◌, ℕ, List, [], ◌∷◌, refl, sym, ◌∙◌, ap, subst, inl, inr}
+use Rattle.std.proofs.Common.{◌≡◌, ℕ, List, [], ◌∷◌, Some, refl, sym, ◌∙◌, ap, subst, inl, inr}
 use Rattle.std.specs.Prelude.{◌↔◌, ◌⊎◌}
 use Rattle.vipr_spec.specs.Fraction.{ℚ, whole}
 use Rattle.vipr_spec.specs.Constraint.{Condition, Profile, at, condition, Ints, sum_of, IsWholeRow, Dominates, DominatesRounded, CombinesRounded}
 use Rattle.vipr_spec.specs.Certificate.{Certificate, Derivation, entries}
+use Rattle.vipr_spec.specs.Causes as cause
 use Rattle.vipr_spec.specs.Steps.{PassesStep, roundable, by_rounding, sum, compared, IsSum}
 use Rattle.vipr_spec.proofs.Laws.{one_sense}
 use Rattle.vipr_linear.specs.Constraint.{sense_of, condition_of}
@@ -11,7 +12,7 @@ use Rattle.vipr_linear.specs.Rounding.{IsRounding}
 use Rattle.vipr_linear.specs.declared.constraint.Constraint.{Constraint}
 use Rattle.vipr_linear.specs.declared.rounding.Rounded.TheVariants.{Row}
 use Rattle.vipr_rules.specs.declared.error.RuleError.{RuleError}
-use Rattle.vipr_rules.specs.declared.error.RuleError.TheVariants.{NotRoundable, Memory}
+use Rattle.vipr_rules.specs.declared.error.RuleError.TheVariants.{Memory}
 use Rattle.vipr_rules.specs.Apply.{StopsIn, PassesTestsIn, IsNotDominated, shown_by}
 
 -- x is the sum of the entries, and can be rounded
@@ -34,8 +35,8 @@ module _ (P : Profile) (c : Certificate) (d : Derivation) (es : List (ℕ × ℚ
   cannot_round : ¬ IsWholeRow ints (at x.row) → ¬ PassesStep P c (condition d.stated) (roundable es)
   cannot_round bad (s, h, w) = bad (subst (λ i. IsWholeRow i (at x.row)) same (subst (λ y. IsWholeRow c.problem.integers y.row) (sym summed.2) w))
 
-  pub not_roundable : ¬ IsWholeRow ints (at x.row) → StopsIn P c d (roundable es ∷ by_rounding es ∷ []) (NotRoundable x)
-  not_roundable bad = (roundable es, inr (cannot_round bad, refl), (sum (condition_of x), refl, (condition_of x, summed, refl)))
+  pub not_roundable : ¬ IsWholeRow ints (at x.row) → (e : RuleError) → shown_by e ≡ Some (cause.not_roundable, sum (condition_of x)) → StopsIn P c d (roundable es ∷ by_rounding es ∷ []) e
+  not_roundable bad e is = (roundable es, inr (cannot_round bad, refl), (sum (condition_of x), is, (condition_of x, summed, refl)))
 
   module _ (w : IsWholeRow ints (at x.row)) (stated : Constraint) (says : condition_of stated ≡ condition d.stated) where
     combines_not : ¬ DominatesRounded (condition_of x) (condition_of stated) → ¬ CombinesRounded c.problem.integers (entries c es) (condition d.stated)
@@ -53,7 +54,7 @@ module _ (P : Profile) (c : Certificate) (d : Derivation) (es : List (ℕ × ℚ
       not_dominated e told bad = (
         by_rounding es,
         inl (can_round w, inr (combines_not bad, refl)),
-        (compared (condition_of computed) (condition_of stated), ap shown_by told.0, (condition_of x, r.2.0, summed, r.2.1, λ i. compared (rounded i) (says i))),
+        (compared (condition_of computed) (condition_of stated), told.0, (condition_of x, r.2.0, summed, r.2.1, λ i. compared (rounded i) (says i))),
       )
 
       pub rounded_refused : Dominates (condition_of computed) (condition_of stated) ↔ DominatesRounded (condition_of x) (condition_of stated)

@@ -70,7 +70,7 @@ module _ (P : Profile) (c : Certificate) (d : Derivation) (es : List (ℕ × ℚ
   pub not_dominated : (sum : Constraint) → condition_of sum ≡ computed → (e : RuleError) → IsNotDominated sum stated e → StopsIn P c d (by_sum es ∷ []) e
   not_dominated sum same e (is, bad) =
       stops_one P c d (by_sum es) e (combines_not (λ h. bad (subst (λ x. Dominates x (condition_of stated)) (sym same) h)))
-      (compared (condition_of sum) (condition_of stated), ap shown_by is, (computed, summed, ap₂ compared same says))
+      (compared (condition_of sum) (condition_of stated), is, (computed, summed, ap₂ compared same says))
 
 -- the same of a constraint that says what the sum says
 pub laid_out_told : (r : Result (Unit {0}) RuleError) (sum stated : Constraint) (computed : Condition) → condition_of sum ≡ computed

@@ -34,10 +34,11 @@ shown_by (Dropped i) = Some (cause.dropped, index i)
 shown_by (NotAssumption l) = Some (cause.not_assumption, index l)
 shown_by (MixedSigns n) = Some (cause.mixed_signs, position n)
 shown_by (Overflow n) = Some (cause.overflow, position n)
-shown_by (NotRoundable x) = Some (cause.not_roundable, sum (condition_of x))
-shown_by (NotSplit x y) = Some (cause.not_split, both (condition_of x) (condition_of y))
+shown_by (NotRoundable x) = Some (cause.not_roundable, sum (condition_of x.value))
+shown_by (NotSplit x y) =
+    Some (cause.not_split, both (condition_of x.value) (condition_of y.value))
 shown_by (NotDominated x y) =
-    Some (cause.not_dominated, compared (condition_of x) (condition_of y))
+    Some (cause.not_dominated, compared (condition_of x.value) (condition_of y.value))
 shown_by NoSolution = Some (cause.no_solution, nothing)
 shown_by Memory = None
 
@@ -88,7 +89,9 @@ SumStops es n e =
 -- the error says that the one doesn't dominate the other, as it is
 abbrev pub IsNotDominated : Constraint → Constraint → RuleError → Type 0
 IsNotDominated computed stated e =
-    (e ≡ NotDominated computed stated) × ¬ Dominates (condition_of computed) (condition_of stated)
+    (shown_by e
+        ≡ Some (cause.not_dominated, compared (condition_of computed) (condition_of stated)))
+    × ¬ Dominates (condition_of computed) (condition_of stated)
 
 -- the first tests, which take no memory
 abbrev pub free_tests : Reason → List StepTest

@@ -15,7 +15,7 @@ ghost use Rattle.vipr_rules.specs.declared.error.RuleError.TheVariants.{Memory};
 use crate::assumptions::Assumptions;
 use crate::context::{Context, Known};
 use crate::domination::check_domination;
-use crate::error::RuleError;
+use crate::error::{RuleError, not_split};
 use crate::profile::Profile;
 use crate::rows::Rows;
 use std::alloc::Global;
@@ -53,13 +53,14 @@ pub(crate) fn join_branches<S: Rows>(
     check_assumption(first.assumption, first_assumption)?;
     check_assumption(second.assumption, second_assumption)?;
     check_split(
+        alloc,
         context.profile,
         first_assumption.constraint(),
         second_assumption.constraint(),
         context.problem.ints(),
     )?;
-    check_domination(first_conclusion.constraint(), stated)?;
-    check_domination(second_conclusion.constraint(), stated)?;
+    check_domination(alloc, first_conclusion.constraint(), stated)?;
+    check_domination(alloc, second_conclusion.constraint(), stated)?;
     let (l1, l2) = (first.assumption, second.assumption);
     let joined = first_conclusion.joined_without(alloc, l1, second_conclusion, l2)?;
     Ok(joined)
@@ -80,6 +81,7 @@ fn check_assumption(index: u32, known: Known) -> Result<(), RuleError>
 }
 
 fn check_split(
+    alloc: Global,
     profile: Profile,
     first: &Constraint,
     second: &Constraint,
@@ -96,5 +98,5 @@ fn check_split(
     if profile.splits(first, second, ints) {
         return Ok(());
     }
-    Err(RuleError::NotSplit(first.clone()?, second.clone()?))
+    Err(not_split(alloc, first, second)?)
 }

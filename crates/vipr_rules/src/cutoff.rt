@@ -36,7 +36,7 @@ pub(crate) fn cut_off<S: Rows>(
         return Err(RuleError::NoSolution);
     };
     let computed = cutoff(context.problem, *value)?;
-    check_domination(&computed, stated)?;
+    check_domination(alloc, &computed, stated)?;
     Ok(Assumptions::empty(alloc))
 }
 

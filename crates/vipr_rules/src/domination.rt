@@ -6,11 +6,16 @@ ghost use Rattle.vipr_linear.specs.Constraint.{condition_of};
 ghost use Rattle.vipr_rules.specs.Apply.{IsNotDominated};
 ghost use Rattle.vipr_rules.specs.declared.error.RuleError.TheVariants.{Memory};
 
-use crate::error::RuleError;
+use crate::error::{RuleError, not_dominated};
+use std::alloc::Global;
 use vipr_linear::Constraint;
 
 /// Tests that the computed constraint dominates the stated one.
-pub(crate) fn check_domination(computed: &Constraint, stated: &Constraint) -> Result<(), RuleError>
+pub(crate) fn check_domination(
+    alloc: Global,
+    computed: &Constraint,
+    stated: &Constraint,
+) -> Result<(), RuleError>
     ensures { MatchResult result
         (λ _. Dominates (condition_of computed.now) (condition_of stated.now))
         (λ e. (e ≡ Memory) ⊎ IsNotDominated computed.now stated.now e) }
@@ -18,8 +23,5 @@ pub(crate) fn check_domination(computed: &Constraint, stated: &Constraint) -> Re
     if computed.dominates(stated) {
         return Ok(());
     }
-    Err(RuleError::NotDominated {
-        computed: computed.clone()?,
-        stated: stated.clone()?,
-    })
+    Err(not_dominated(alloc, computed, stated)?)
 }

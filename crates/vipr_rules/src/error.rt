@@ -1,6 +1,12 @@
 //! Why a derivation is refused.
 
-use std::alloc::AllocError;
+ghost use Rattle.std.specs.Prelude.{◌≡◌, IfOk, Some};
+ghost use Rattle.vipr_spec.specs.Causes as cause;
+ghost use Rattle.vipr_spec.specs.Steps.{sum as shown_sum, both, compared};
+ghost use Rattle.vipr_linear.specs.Constraint.{condition_of};
+ghost use Rattle.vipr_rules.specs.Apply.{shown_by};
+
+use std::alloc::{AllocError, Global};
 use vipr_linear::Constraint;
 
 /// Why a derivation is refused, with what there is to tell about it.
@@ -17,15 +23,15 @@ pub enum RuleError {
     /// With the entry at this position, counted from 0, a product or a partial sum is out of bound.
     Overflow(usize),
     /// This sum can't be rounded.
-    NotRoundable(Constraint),
+    NotRoundable(Box<Constraint>),
     /// These two assumptions are no split.
-    NotSplit(Constraint, Constraint),
+    NotSplit(Box<Constraint>, Box<Constraint>),
     /// What was computed doesn't dominate the stated constraint.
     NotDominated {
         /// What was computed.
-        computed: Constraint,
+        computed: Box<Constraint>,
         /// What is stated.
-        stated: Constraint,
+        stated: Box<Constraint>,
     },
     /// No solution is listed.
     NoSolution,
@@ -43,4 +49,40 @@ impl From<AllocError> for RuleError {
     fn from(_error: AllocError) -> RuleError {
         RuleError::Memory
     }
+}
+
+/// The error that says that this sum can't be rounded.
+pub(crate) fn not_roundable(alloc: Global, sum: Constraint) -> Result<RuleError, AllocError>
+    ensures { IfOk result (λ e.
+        shown_by e ≡ Some (cause.not_roundable, shown_sum (condition_of sum))) }
+{
+    Ok(RuleError::NotRoundable(Box::new(alloc, sum)?))
+}
+
+/// The error that says that these are no split.
+pub(crate) fn not_split(
+    alloc: Global,
+    first: &Constraint,
+    second: &Constraint,
+) -> Result<RuleError, AllocError>
+    ensures { IfOk result (λ e. shown_by e
+        ≡ Some (cause.not_split, both (condition_of first.now) (condition_of second.now))) }
+{
+    let first = Box::new(alloc, first.clone()?)?;
+    let second = Box::new(alloc, second.clone()?)?;
+    Ok(RuleError::NotSplit(first, second))
+}
+
+/// The error that says that the one doesn't dominate the other.
+pub(crate) fn not_dominated(
+    alloc: Global,
+    computed: &Constraint,
+    stated: &Constraint,
+) -> Result<RuleError, AllocError>
+    ensures { IfOk result (λ e. shown_by e ≡ Some (cause.not_dominated,
+        compared (condition_of computed.now) (condition_of stated.now))) }
+{
+    let computed = Box::new(alloc, computed.clone()?)?;
+    let stated = Box::new(alloc, stated.clone()?)?;
+    Ok(RuleError::NotDominated { computed, stated })
 }

@@ -22,7 +22,7 @@ ghost use Rattle.vipr_rules.specs.declared.error.RuleError.TheVariants.{Memory};
 use crate::assumptions::{Assumptions, Union};
 use crate::context::{Context, Known};
 use crate::domination::check_domination;
-use crate::error::RuleError;
+use crate::error::{RuleError, not_roundable};
 use crate::rows::Rows;
 use std::alloc::Global;
 use vipr_frac::Frac;
@@ -74,7 +74,7 @@ pub(crate) fn combine_rounded<S: Rows>(
         return Ok(assumptions);
     }
     let sum = finish(alloc, scratch)?;
-    check_rounded(sum, context.problem.ints(), stated)?;
+    check_rounded(alloc, sum, context.problem.ints(), stated)?;
     Ok(assumptions)
 }
 
@@ -92,11 +92,16 @@ fn check_sum(alloc: Global, scratch: &mut Combination, stated: &Constraint) -> R
         return Ok(());
     }
     let sum = finish(alloc, scratch)?;
-    check_domination(&sum, stated)
+    check_domination(alloc, &sum, stated)
 }
 
 // Tests that the sum can be rounded and then dominates the stated constraint.
-fn check_rounded(sum: Constraint, ints: &Ints, stated: &Constraint) -> Result<(), RuleError>
+fn check_rounded(
+    alloc: Global,
+    sum: Constraint,
+    ints: &Ints,
+    stated: &Constraint,
+) -> Result<(), RuleError>
     ensures tests { (P : Profile) (c : Certificate) (d : Derivation) (es : List (ℕ × ℚ))
         → IsSum c es (condition_of sum) → c.problem.integers ≡ ints.now
         → condition_of stated.now ≡ condition d.stated
@@ -106,9 +111,9 @@ fn check_rounded(sum: Constraint, ints: &Ints, stated: &Constraint) -> Result<()
         × DominatesRounded (condition_of sum) (condition_of stated.now)) }
 {
     match sum.round(ints) {
-        Ok(Rounded::Row(computed)) => check_domination(&computed, stated),
+        Ok(Rounded::Row(computed)) => check_domination(alloc, &computed, stated),
         Ok(Rounded::Absurd) => Ok(()),
-        Err(NotRoundable(sum)) => Err(RuleError::NotRoundable(sum)),
+        Err(NotRoundable(sum)) => Err(not_roundable(alloc, sum)?),
     }
 }
 

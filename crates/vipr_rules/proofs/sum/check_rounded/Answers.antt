@@ -1,5 +1,7 @@
-use Rattle.std.proofs.Common.{refl, inr}
+use Rattle.std.proofs.Common.{Some, refl, inr, ap, ◌∙◌}
 use Rattle.std.proofs.lemmas.Result.{MatchResult-weaker}
+use Rattle.vipr_spec.specs.Causes as cause
+use Rattle.vipr_spec.specs.Steps.{sum as shown_sum}
 use Rattle.vipr_linear.specs.Constraint.{condition_of}
 use Rattle.vipr_rules.proofs.RoundLemmas.{not_roundable, rounded_dominates, rounded_refused}
 use Rattle.vipr_rules.proofs.sum.check_rounded.Goals as goal
@@ -29,6 +31,6 @@ returns-in-Ok-Absurd-clause-dominates c =
     let dominates = rw c.in-Ok-Absurd.field-0-is at (c.in-Ok-Absurd.ensures.dominates (condition_of c.args.stated.now)) in
     (c.in-Ok-Absurd.ensures.ok.0 refl, dominates.0 tt)
 
-pub returns-in-Err-clause-tests : goal.returns-in-Err-clause-tests
-returns-in-Err-clause-tests c = λ P d e es sum ints says.
-    rw c.in-Err.ensures.back (inr (not_roundable P d e es c.args.sum sum c.args.ints.now ints (λ w. let ok = c.in-Err.ensures.ok.1 w in absurd (cc))))
+pub returns-in_ok-not_roundable-in-Err-clause-tests : goal.returns-in_ok-not_roundable-in-Err-clause-tests
+returns-in_ok-not_roundable-in-Err-clause-tests c = λ P d e es sum ints says.
+    inr (not_roundable P d e es c.args.sum sum c.args.ints.now ints (λ w. let ok = c.in-Err.ensures.ok.1 w in absurd (cc)) _ (c.in_ok-not_roundable-in-Err.ensures ∙ ap (λ x. Some (cause.not_roundable, shown_sum (condition_of x))) c.in-Err.ensures.back))
