@@ -4,6 +4,7 @@
 # make install PREFIX=.. builds it if needed, and installs it with its man page and completions (/usr/local)
 # make uninstall PREFIX=.. takes them away again
 # make house             checks the repository's text: laws, names, lengths, the tables and pages made from the files
+# make wrong             tries more wrong versions of the code, which the prover has to refuse (an hour and more)
 # make bench             times the program over certificates that a script makes, beside wc -w and cat
 # make statement         writes docs/STATEMENT.md, docs/PROOF.md, the crate graph, the man page and the completions anew
 RT ?= rt
@@ -17,7 +18,7 @@ SHARE = $(DESTDIR)$(PREFIX)/share
 INSTALLED = $(BIN)/vipr $(SHARE)/man/man1/vipr.1 $(SHARE)/bash-completion/completions/vipr \
 	$(SHARE)/zsh/site-functions/_vipr $(SHARE)/fish/vendor_completions.d/vipr.fish
 
-.PHONY: check test build install uninstall house statement bench
+.PHONY: check test build install uninstall house statement wrong bench
 
 build:
 	@RT="$(RT)" $(PYTHON) tools/build.py
@@ -48,6 +49,9 @@ statement: build
 	@$(PYTHON) tests/proof.py
 	@$(PYTHON) tests/interface.py --write
 	@$(PYTHON) docs/architecture.py
+
+wrong: build
+	@RT="$(RT)" $(PYTHON) tools/wrong.py $(CRATES)
 
 bench: build
 	@$(PYTHON) bench/measure.py

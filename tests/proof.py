@@ -97,8 +97,8 @@ def functions(path):
 
 
 def edits(crate):
-    """Of each must-fail edit its name, file and text."""
-    for path in sorted((TOP / 'crates' / crate / 'must-fail').glob('*.edit')):
+    """Of each edit of must-fail/ and wrong/ its name, file and text."""
+    for path in sorted((TOP / 'crates' / crate).glob('*/*.edit'), key=lambda it: it.name):
         text = path.read_text()
         yield path.stem, re.search(r'^file: (.*)$', text, re.M)[1].strip(), re.search(r'^old: (.*)$', text, re.M)[1]
 

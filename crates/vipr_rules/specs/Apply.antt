@@ -90,7 +90,7 @@ SumStops es n e =
 abbrev pub IsNotDominated : Constraint → Constraint → RuleError → Type 0
 IsNotDominated computed stated e =
     (shown_by e
-        ≡ Some (cause.not_dominated, compared (condition_of computed) (condition_of stated)))
+    ≡ Some (cause.not_dominated, compared (condition_of computed) (condition_of stated)))
     × ¬ Dominates (condition_of computed) (condition_of stated)
 
 -- the first tests, which take no memory

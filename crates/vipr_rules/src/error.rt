@@ -79,8 +79,10 @@ pub(crate) fn not_dominated(
     computed: &Constraint,
     stated: &Constraint,
 ) -> Result<RuleError, AllocError>
-    ensures { IfOk result (λ e. shown_by e ≡ Some (cause.not_dominated,
-        compared (condition_of computed.now) (condition_of stated.now))) }
+    ensures { IfOk result (λ e. shown_by e ≡ Some (
+      cause.not_dominated,
+      compared (condition_of computed.now) (condition_of stated.now),
+    )) }
 {
     let computed = Box::new(alloc, computed.clone()?)?;
     let stated = Box::new(alloc, stated.clone()?)?;
