@@ -22,8 +22,8 @@ pub enum Sense {
 #[derive(Debug, Drop)]
 pub struct Constraint {
     pub row: Row,
-    pub sense: Sense,
     pub rhs: Frac,
+    pub sense: Sense,
 }
 
 impl Clone for Constraint {

@@ -89,6 +89,7 @@ impl Row {
 
     /// The row of these coefficients, in any order, where the variables differ. Coefficients 0 are
     /// dropped. It takes no memory.
+    #[inline(always)]
     pub fn from_distinct(pairs: Vec<(u32, Frac)>) -> Row
         requires { IsDistinct nat_eq (variables_of pairs.items) }
         ensures row { result ≡ row_of pairs.items }
@@ -239,6 +240,7 @@ fn sort_by_variable(pairs: &mut Vec<(u32, Frac)>)
     pairs.sort_unstable_by_key(|pair| pair.0);
 }
 
+#[inline(never)]
 fn drop_zeros(pairs: &mut Vec<(u32, Frac)>)
     ensures kept { pairs.new.items ≡ filter is_nonzero pairs.old.items }
     ensures bounded { All (λ p. IsBounded p.1) pairs.new.items }
