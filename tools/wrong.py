@@ -1,7 +1,7 @@
 #!/usr/bin/env python3
 """Tries the wrong versions of the code under crates/*/wrong, which the prover has to refuse.
 
-usage: tools/wrong.py [CRATE..]
+usage: tools/wrong.py [CRATE | CRATE/EDIT ..]
 
 `make test` tries those of `must-fail/`, at least one for each public call. These are more of the same kind, and take
 longer than everything else together. Each is checked over what the crate's last check proved, in a folder that is thrown
@@ -37,8 +37,9 @@ def main(names):
     rt.rtlib.guarded()
     refused = others = 0
     for crate in rt.rtlib.crates_below(str(TOP)):
-        paths = sorted(Path(crate.folder, 'wrong').glob('*.edit'))
-        if paths and (not names or crate.name in names):
+        paths = [path for path in sorted(Path(crate.folder, 'wrong').glob('*.edit'))
+                 if not names or {crate.name, f'{crate.name}/{path.stem}'} & set(names)]
+        if paths:
             for is_refused in tried(rt, crate, paths):
                 refused, others = refused + is_refused, others + (not is_refused)
     print(f'{refused} refused, {others} not')
