@@ -3,7 +3,7 @@
 
 usage: tools/wrong.py [CRATE | CRATE/EDIT ..]
 
-`make test` tries those of `must-fail/`, at least one for each public call. These are more of the same kind, and take
+`make test` tries those of `must-fail/`, which turn the public calls. These are more of the same kind, and take
 longer than everything else together. Each is checked over what the crate's last check proved, in a folder that is thrown
 away. The last line is `N refused, M not`; the exit status is 1 where one isn't.
 """
