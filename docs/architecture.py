@@ -13,7 +13,7 @@ TOP = Path(__file__).resolve().parent.parent
 PICTURE = TOP / 'docs/architecture.svg'
 LIFE = [('bytes', 'a file, or standard input', 'vipr_bytes'), ('tokens', 'each with its offset', 'vipr_scan'),
         ('items', 'problem, solutions, derivations', 'vipr_read'),
-        ('tests', 'the first that fails stops', 'vipr_rules, vipr_check'), ('verdict', 'two lines, or one', 'vipr')]
+        ('tests', 'the first that fails stops', 'vipr_rules, vipr_check'), ('verdict', 'two lines, or one', 'vipr_command')]
 WIDTH, BOX, HIGH, STEP = 1000, 150, 34, 92
 STYLE = ('text{font:14px sans-serif;fill:#222}.s{font-size:11px;fill:#555}.h{font-weight:bold}'
          'rect{fill:#eef3fa;stroke:#345;rx:5}.d{fill:#f7f1e3}.g{fill:#fff}path{stroke:#678;fill:none}'

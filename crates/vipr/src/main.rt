@@ -3,25 +3,13 @@
 
 ghost use Rattle.std.specs.Prelude.{◌≤◌, IfOk};
 
-mod args;
-mod check;
-mod explain;
-mod explanation;
-mod fault;
-mod output;
-mod respelled;
-mod run;
-mod show;
-mod task;
 #[cfg(test)]
 mod tests;
-mod text;
-mod tighten;
 
-use fault::Fault;
 use std::io::{ErrorKind, Write};
 use std::process::ExitCode;
 use std::{env, io};
+use vipr_command::{Fault, run};
 
 fn main(rt: HostRuntime) -> ExitCode {
     ExitCode::from(status(&rt))
@@ -53,7 +41,7 @@ fn on_arguments(rt: &HostRuntime) -> io::Result<u8>
     let alloc = rt.alloc();
     let arguments: Vec<String> = env::args(rt)?.collect(alloc)?;
     let words: Vec<&str> = arguments.iter().map(|word| word.as_str()).collect(alloc)?;
-    Ok(run::run(
+    Ok(run(
         rt,
         words.as_slice(),
         rt.stdin(),

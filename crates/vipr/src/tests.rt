@@ -10,11 +10,11 @@ mod text;
 mod texts;
 mod tightened;
 
-use crate::run::run;
 use std::io;
 use std::io::Read;
 use std::process::Abort;
 use std::rt::Files;
+use vipr_command::run;
 
 const CHECK: [&str; 2] = ["vipr", "check"];
 

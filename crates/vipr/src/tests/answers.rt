@@ -2,12 +2,12 @@
 use super::rows::{Row, explained_rows, long_rows, short_rows};
 use super::texts::INFEASIBLE;
 use super::{CHECK, EXPLAIN, Pieces, SHOW, TIGHTEN, prints};
-use crate::task::Task;
 use std::io::Read;
 use std::process::Abort;
 use std::rt::Files;
 use std::test::Fail;
 use std::{env, fs, process};
+use vipr_command::Task;
 
 /// Checks what a row's command answers.
 fn answers<H: Abort + AllocGlobal + Files, R: Read + Drop>(rt: &H, row: &Row, input: R) {

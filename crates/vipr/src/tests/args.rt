@@ -1,11 +1,9 @@
 //! Command lines.
 use super::{EXPLAIN, SHOW, text_of};
-use crate::args::job;
-use crate::run::run;
-use crate::task::{Job, Task};
 use clap::error::ErrorKind;
 use std::process::Abort;
 use std::test::Fail;
+use vipr_command::{Job, Task, job, run};
 use vipr_rules::Profile;
 
 /// The words for `tighten`, with and without a file to read and one to write to.

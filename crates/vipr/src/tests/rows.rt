@@ -6,9 +6,9 @@ use super::texts::{
     ROUNDED_UP, SOLVED,
 };
 use super::{TOO_LARGE, VERIFIED};
-use crate::task::Task;
 use std::alloc::Global;
 use std::test::Fail;
+use vipr_command::Task;
 
 /// A command, a certificate's text, what is printed of it on both outputs, and the exit status.
 #[derive(Drop)]

@@ -1,12 +1,12 @@
 //! Reads and writes that fail, or are interrupted.
 use super::texts::{CUT_OFF, CUT_OFF_TIGHTENED, INFEASIBLE};
 use super::{CHECK, Pieces, SHOW, TIGHTEN, VERIFIED, prints, text_of};
-use crate::run::run;
 use std::io;
 use std::io::{ErrorKind, Read, Write};
 use std::process::Abort;
 use std::rt::Files;
 use std::test::Fail;
+use vipr_command::run;
 
 /// What is said where the text with a cutoff is tightened.
 const KEPT: &str = "kept 1 removed 1 peak 2 1\n";

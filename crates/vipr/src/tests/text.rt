@@ -1,7 +1,7 @@
 //! A verdict's lines.
-use crate::text::Lines;
 use std::test::Fail;
 use vipr_check::{Place, Refusal, Report, Verdict};
+use vipr_command::Lines;
 use vipr_frac::Frac;
 use vipr_text::Claim;
 

@@ -5,12 +5,12 @@ use super::texts::{
     NO_VARIABLES, ROUNDED_DOWN,
 };
 use super::{TIGHTEN, prints};
-use crate::run::run;
 use std::alloc::Global;
 use std::process::Abort;
 use std::rt::Files;
 use std::test::Fail;
 use std::{env, fs, process};
+use vipr_command::run;
 
 /// What a refused certificate says: the split, with a last reference that is too small.
 const DROPPED: &str = "refused 32 at DER 6\n";

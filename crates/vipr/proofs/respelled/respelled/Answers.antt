@@ -1,5 +1,0 @@
-use Rattle.vipr.proofs.RespelledLemmas.{told}
-use Rattle.vipr.proofs.respelled.respelled.Goals as goal
-
-pub returns : goal.returns
-returns g c = told (λ text. text.items) (g.R.Source.input c.args.source) c.in_ok-reader.reader c.text_from.result c.in_ok-reader.ensures c.text_from.ensures

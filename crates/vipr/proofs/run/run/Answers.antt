@@ -1,9 +1,0 @@
-use Rattle.std.proofs.Common.{Ok, Err}
-use Rattle.vipr.proofs.RunLemmas.{fits}
-use Rattle.vipr.proofs.run.run.Goals as goal
-
-pub returns-in-Ok-clause-fits : goal.returns-in-Ok-clause-fits
-returns-in-Ok-clause-fits g c = fits _ _ _ (Ok c.in-Ok.status) c.in-Ok.ensures.any
-
-pub returns-in-Err-clause-fits : goal.returns-in-Err-clause-fits
-returns-in-Err-clause-fits g c = fits _ _ _ (Err c.in-Err.fault) c.in-Err.ensures.any

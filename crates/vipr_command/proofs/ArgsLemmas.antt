@@ -1,0 +1,156 @@
+-- What clap's parse of the line says, for `job`.
+use Rattle.std.proofs.Common.{◌≡◌, ◌∙◌, ap, refl, sym, subst, inl, inr, ◌⊎◌, List, [], ◌∷◌, Option, Some, None, Bool, true, false, codes, is_some, option_map, find, if◌then◌else◌, ◌&&◌}
+use Rattle.std.specs.Prelude.{IfErr, Result, Ok, Err, IsErrAnd}
+use Rattle.clap.specs.declared.error.Error.{Error}
+use Rattle.clap.specs.Walk.{nothing_held, walk, walk_from, settled, finished}
+use Rattle.clap.specs.Faults.{walk_fault, entered_fault, settle_fault, defaults_fault}
+use Rattle.clap.specs.Kinds.{FailsBy, HasKind, IsAmong, Kinds, or_else}
+use Rattle.clap.specs.declared.error.ErrorKind.{ErrorKind}
+use Rattle.clap.specs.declared.error.ErrorKind.TheVariants.{InvalidValue}
+use Rattle.clap.specs.Faults.{check_fault}
+use Rattle.clap.specs.Walk.{answers_to}
+use Rattle.clap.specs.Simple.{argument_words, built, entered, label_of, names_of, rows_at}
+use Rattle.clap.specs.Words.{Row, Shape, Text, fault_of, first_of, has_subcommand, is_simple, is_simple_and_free, kind_of, subcommand_name_of, subcommand_of, subcommand_rows_of, takes}
+use Rattle.clap.specs.declared.parser.matches.ArgMatches.{ArgMatches}
+use Rattle.clap.specs.declared.parser.matches.ArgMatches.TheViews.{out-ArgMatches}
+use Rattle.vipr_rules.specs.declared.profile.Profile.{Profile}
+use Rattle.vipr_command.specs.Args.{are_taken, asked, asked_by, command_word, line, names_profile, profile_named, words_fault}
+use Rattle.vipr_command.specs.declared.task.Job.{Job}
+use Rattle.vipr_command.specs.declared.task.Task.{Task}
+use Rattle.vipr_command.specs.declared.task.Task.TheVariants.{Check, Explain, Show, Tighten}
+
+pub is_simple_line : is_simple line ≡ true
+unfolding line
+is_simple_line = refl
+
+pub is_free_line : is_simple_and_free line ≡ true
+unfolding line
+is_free_line = refl
+
+-- the error that a `?` hands on
+pub handed_on : {T E : Type 0} (r : Result T E) (e : E) (P : E → Type 0) → IsErrAnd r (λ y. y ≡ e) → P e → IfErr r P
+handed_on (Ok x) e P h p = absurd h
+handed_on (Err y) e P h p = subst P (sym h) p
+
+later_none : (a b : Kinds) → or_else a b ≡ [] → b ≡ []
+later_none [] b h = h
+later_none (k ∷ ks) b h = cc
+
+required : (rows : List Row) (b : Bool) → check_fault (built line).top rows b ≡ [] → b ≡ true
+unfolding line
+required rows true h = refl
+required rows false h = cc
+
+-- of what fails in turn, the last
+last_none : (a b c d e : Kinds) → or_else a (or_else b (or_else c (or_else d e))) ≡ [] → e ≡ []
+last_none a b c d e h = later_none d e (later_none c _ (later_none b _ (later_none a _ h)))
+
+-- a line with no fault names a subcommand
+names_one : (words : List Text) → fault_of line words ≡ [] → is_some (subcommand_of line words) ≡ true
+names_one words h =
+    let end = walk (built line).top.rules (names_of (built line)) nothing_held (argument_words line words) in
+    required (finished (built line).top.rules end.held) _ (last_none
+    (walk_fault (built line).top (names_of (built line)) (walk_from nothing_held) (argument_words line words))
+    (entered_fault (built line) end.stopped) (settle_fault (built line).top.rules (built line).top.args_override_self end.held)
+    (defaults_fault (settled (built line).top.rules end.held).rows (built line).top.rules) _ h)
+
+is_some-map : {X Y : Type 0} (f : X → Y) (o : Option X) → is_some (option_map f o) ≡ is_some o
+is_some-map f None = refl
+is_some-map f (Some x) = refl
+
+pub never_without : (m : ArgMatches) (words : List Text) → subcommand_rows_of m ≡ subcommand_of line words → fault_of line words ≡ [] → has_subcommand m ≡ true
+never_without m words e h = sym (is_some-map _ (out-ArgMatches m).subcommand) ∙ (ap is_some e ∙ names_one words h)
+
+-- the subcommand that was entered, from its parts
+parts : {X : Type 0} (f : X → Text × List Row) (o : Option X) (name : Text) (rows : List Row) → Some name ≡ option_map (λ x. (f x).0) o
+    → Some rows ≡ option_map (λ p. p.1) (option_map f o) → option_map f o ≡ Some (name, rows)
+parts f None name rows n r = cc
+parts f (Some x) name rows n r = let h : name ≡ (f x).0 = cc in let k : rows ≡ (f x).1 = cc in rw (h, k) refl
+
+pub entered_is : (m : ArgMatches) (name : Text) (rows : List Row) → Some name ≡ subcommand_name_of m → Some rows ≡ option_map (λ p. p.1) (subcommand_rows_of m)
+    → subcommand_rows_of m ≡ Some (name, rows)
+entered_is m name rows n r = parts _ (out-ArgMatches m).subcommand name rows n r
+
+abbrev IsNamed : List Shape → Text → Type 0
+IsNamed [] name = ⊥
+IsNamed (s ∷ ss) name = (s.name ≡ name) ⊎ IsNamed ss name
+
+named_in : (subs : List Shape) (p : Text × List Text) (q : Text × List Row)
+    → option_map (λ s. rows_at s p.1) (find (λ s. answers_to p.0 (label_of s)) subs) ≡ Some q → IsNamed subs q.0
+named_in [] p q h = cc
+named_in (s ∷ ss) p q h = elim (answers_to p.0 (label_of s)) as (λ b. option_map (λ s. rows_at s p.1) (if b then Some s else find (λ s. answers_to p.0 (label_of s)) ss) ≡ Some q → IsNamed (s ∷ ss) q.0) [
+  | true ↦ λ e. inl (first e)
+  | false ↦ λ e. inr (named_in ss p q e)
+] h
+  where
+    first : Some (rows_at s p.1) ≡ Some q → s.name ≡ q.0
+    first e = let k : rows_at s p.1 ≡ q = cc in ap (λ (x : Text × List Row). x.0) k
+
+stop_named : (stop : Option (Text × List Text)) (q : Text × List Row) → entered (built line) stop ≡ Some q → IsNamed (built line).subs q.0
+stop_named None q h = cc
+stop_named (Some p) q h = named_in (built line).subs p q h
+
+one_of : (name : Text) → IsNamed (built line).subs name → ((t : Task) → command_word t ≡ name → ⊥) → ⊥
+unfolding line
+one_of name (inl h) none = none Check h
+one_of name (inr (inl h)) none = none Explain h
+one_of name (inr (inr (inl h))) none = none Show h
+one_of name (inr (inr (inr (inl h)))) none = none Tighten h
+one_of name (inr (inr (inr (inr h)))) none = h
+
+-- a subcommand that was entered is one of the tasks
+pub never_other : (words : List Text) (q : Text × List Row) → subcommand_of line words ≡ Some q → ((t : Task) → command_word t ≡ q.0 → ⊥) → ⊥
+never_other words q e none = one_of q.0 (stop_named _ q e) none
+
+pub failed_on : {T : Type 0} (r : Result T Error) (e : Error) (kinds : Kinds) → IsErrAnd r (λ y. y ≡ e) → HasKind kinds e → FailsBy kinds r
+failed_on (Ok x) e kinds h k = absurd h
+failed_on (Err y) e kinds h k = subst (HasKind kinds) (sym h) k
+
+pub is_asked : (words : List Text) (j : Job) (name : Text) (rows : List Row) → subcommand_of line words ≡ Some (name, rows) → command_word j.command ≡ name → Some j.profile ≡ profile_named (first_of (codes "profile") rows)
+    → option_map (λ s. s.now) j.file ≡ first_of (codes "file") rows → option_map (λ s. s.now) j.out ≡ first_of (codes "out") rows → asked_by words ≡ Some (asked j)
+is_asked words j name rows e n p f o = rw (e, n, p, f, o) refl
+
+-- ---- the profile
+
+and_first : (a b : Bool) → (a && b) ≡ true → a ≡ true
+and_first true b h = refl
+and_first false b h = h
+
+and_second : (a b : Bool) → (a && b) ≡ true → b ≡ true
+and_second true b h = h
+and_second false b h = cc
+
+pub taken_by_clap : (words : List Text) → are_taken words ≡ true → takes line words ≡ true
+taken_by_clap words h = and_first (takes line words) (names_profile words) h
+
+pub profile_taken : (words : List Text) → are_taken words ≡ true → names_profile words ≡ true
+profile_taken words h = and_second (takes line words) (names_profile words) h
+
+among_first : (k : ErrorKind) (a b : Kinds) → IsAmong k a → IsAmong k (or_else a b)
+among_first k [] b h = absurd h
+among_first k (x ∷ xs) b h = h
+
+-- a fault of clap's parse is one of the words
+pub clap_fault : (words : List Text) (e : Error) → HasKind (fault_of line words) e → HasKind (words_fault words) e
+clap_fault words e (inl memory) = inl memory
+clap_fault words e (inr among) = inr (among_first (kind_of e) (fault_of line words) _ among)
+
+-- where clap takes the words, their fault is that of the profile
+later_fault : (a : Kinds) (b : Bool) → a ≡ [] → or_else a (if b then [] else InvalidValue ∷ []) ≡ (if b then [] else InvalidValue ∷ [])
+later_fault a b h = ap (λ x. or_else x (if b then [] else InvalidValue ∷ [])) h
+
+module _ (words : List Text) (name : Text) (rows : List Row) (e : subcommand_of line words ≡ Some (name, rows)) where
+  names_by : (o : Option Profile) → o ≡ profile_named (first_of (codes "profile") rows) → names_profile words ≡ is_some o
+  names_by o h = rw (e, h) refl
+
+  pub profile_fine : (p : Profile) → Some p ≡ profile_named (first_of (codes "profile") rows) → fault_of line words ≡ [] → words_fault words ≡ []
+  profile_fine p h f = later_fault (fault_of line words) (names_profile words) f ∙ ap (λ b. if b then [] else InvalidValue ∷ []) (names_by (Some p) h)
+
+  module _ (h : None ≡ profile_named (first_of (codes "profile") rows)) where
+    pub never_taken : are_taken words ≡ true → ⊥
+    never_taken t = let a = profile_taken words t in let b = names_by None h in let bad : true ≡ false = sym a ∙ b in cc
+
+    pub profile_wrong : fault_of line words ≡ [] → (x : Error) → kind_of x ≡ InvalidValue → HasKind (words_fault words) x
+    profile_wrong f x k =
+        let is : words_fault words ≡ InvalidValue ∷ [] = later_fault (fault_of line words) (names_profile words) f ∙ ap (λ b. if b then [] else InvalidValue ∷ []) (names_by None h) in
+        subst (λ ks. HasKind ks x) (sym is) (inr (inl k))

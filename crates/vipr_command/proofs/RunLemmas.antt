@@ -1,0 +1,122 @@
+-- What the program answers, where the words aren't taken and where nothing is told of the output.
+use Rattle.std.proofs.Common.{◌≡◌, Bor, IsNone, option_map, ℕ, List, Option, Some, None, Result, Ok, Err, Bool, true, false, inl, inr, refl}
+use Rattle.std.specs.Prelude.{IfOk}
+use Rattle.clap.specs.Words.{HasKind, Text, kind_of}
+use Rattle.clap.specs.declared.error.Error.{Error}
+use Rattle.clap.specs.declared.error.ErrorKind.{ErrorKind}
+use Rattle.clap.specs.declared.error.ErrorKind.TheVariants.{OutOfMemory}
+use Rattle.vipr_spec.specs.Constraint.{Profile}
+use Rattle.vipr_spec.specs.Input.{Input}
+use Rattle.vipr_bytes.specs.Output.{Output}
+use Rattle.vipr_bytes.specs.Known.{IfKnown}
+use Rattle.vipr_rules.specs.Profile.{profile_of}
+use Rattle.vipr_tighten.specs.Tightens.{KindOfText, TightensText}
+use Rattle.vipr_tighten.specs.declared.outcome.Outcome.{Outcome}
+use Rattle.vipr_tighten.specs.declared.outcome.Outcome.TheVariants.{Tightened, Refused}
+use Rattle.vipr_tighten.specs.declared.outcome.TightenFault.{TightenFault}
+use Rattle.vipr_tighten.specs.declared.outcome.TightenFault.TheVariants as tighten
+use Rattle.vipr_command.specs.Args.{are_taken, asked, asked_by, words_fault}
+use Rattle.vipr_command.specs.Run.{AnswersError, Declines, Does, Fits, KnownInput, Obeys, exit_status, known_by, read_from, unknown_input}
+use Rattle.vipr_command.specs.Show.{Kind, ShowsText}
+use Rattle.vipr_command.proofs.ShowLemmas.{stays}
+use Rattle.vipr_command.specs.declared.fault.Fault.{Fault}
+use Rattle.vipr_command.specs.declared.fault.Fault.TheVariants.{Memory, Read, Write}
+use Rattle.vipr_command.specs.declared.show.Shown.{Shown}
+use Rattle.vipr_command.specs.declared.show.Shown.TheVariants as shown
+use Rattle.vipr_command.specs.declared.task.Job.{Job}
+use Rattle.vipr_command.specs.declared.task.Task.{Task}
+use Rattle.vipr_command.specs.declared.task.Task.TheVariants.{Check, Explain, Show, Tighten}
+
+pub declined : (words : List Text) (k : KnownInput) (e : Error) (old new : Option Output) (r : Result ℕ Fault) → HasKind (words_fault words) e → AnswersError (kind_of e) old new r → Obeys words k old new r
+declined words k e old new r (inl memory) (inl (other, d)) = absurd (other memory)
+declined words k e old new r (inr among) (inl (other, d)) = inr (inl (kind_of e, among, d))
+declined words k e old new r has (inr (memory, l)) = inr (inr l)
+
+not_true : (b : Bool) → (b ≡ true → ⊥) → b ≡ false
+not_true true n = absurd (n refl)
+not_true false n = refl
+
+-- status 2 is for words that aren't taken
+pub wrong_words : (words : List Text) (k : ErrorKind) (old new : Option Output) (r : Result ℕ Fault) → (are_taken words ≡ true → k ≡ OutOfMemory) → AnswersError k old new r → IfOk r (λ s. s ≡ 2 → are_taken words ≡ false)
+wrong_words words k old new (Err f) h a = tt
+wrong_words words k old new (Ok s) h (inl (other, d)) = λ two. not_true (are_taken words) (λ t. other (h t))
+wrong_words words k old new (Ok s) h (inr (memory, (is, stays))) = λ two. let bad : Ok s ≡ Err Memory = is in cc
+
+pub all_told : (source : Option Input) (words : List Text) (old new : Option Output) (r : Result ℕ Fault) → ((k : KnownInput) → Obeys words k old new r) → IfKnown source (λ i. Obeys words (known_by i) old new r)
+all_told None words old new r given = tt
+all_told (Some i) words old new r given = λ short. given (known_by i)
+
+declines_untold : (k : ErrorKind) (old new : Option Output) (r : Result ℕ Fault) → Declines k old new r → Declines k None None r
+declines_untold k old new (Ok s) (inl (help, is, (text, took))) = inl (help, is, (text, tt))
+declines_untold k old new (Ok s) (inr (other, is, stays)) = inr (other, is, tt)
+declines_untold k old new (Err Read) d = d
+declines_untold k old new (Err Memory) d = tt
+declines_untold k old new (Err (Write n)) (help, (text, took)) = (help, (text, tt))
+
+shows_untold : (k : Kind) (old new : Option Output) (r : Result Shown Fault) → ShowsText k old new r → ShowsText k None None r
+shows_untold k old new (Ok shown.Whole) (c, is, took) = (c, is, tt)
+shows_untold k old new (Ok (shown.Refused x)) (is, stays) = (is, tt)
+shows_untold k old new (Err Read) (is, stays) = (is, tt)
+shows_untold k old new (Err Memory) stays = tt
+shows_untold k old new (Err (Write n)) (c, is, took) = (c, is, tt)
+
+tightens_untold : (P : Profile) (k : KindOfText) (old new : Option Output) (r : Result Outcome TightenFault) → TightensText P k old new r → TightensText P k None None r
+tightens_untold P k old new (Ok (Tightened a b p q)) (c, goal, is, proof, tight, (figures, taken)) = (c, goal, is, proof, tight, (figures, tt))
+tightens_untold P k old new (Ok (Refused x)) (is, stays) = (is, tt)
+tightens_untold P k old new (Err tighten.Read) (is, stays) = (is, tt)
+tightens_untold P k old new (Err (tighten.Memory n)) (is, stays) = (is, tt)
+tightens_untold P k old new (Err (tighten.Write n)) (c, goal, is, proof, tight, (less, taken)) = (c, goal, is, proof, tight, (less, tt))
+
+does_untold : (t : Task) (P : Profile) (out : Option Text) (k : KnownInput) (old new : Option Output) (r : Result ℕ Fault) → Does t P out k old new r → Does t P out k None None r
+does_untold Check P out k old new (Ok s) (v, judged, is, took) = (v, judged, is, tt)
+does_untold Check P out k old new (Err Read) (judged, stays) = (judged, tt)
+does_untold Check P out k old new (Err Memory) stays = tt
+does_untold Check P out k old new (Err (Write n)) (v, judged, took) = (v, judged, tt)
+does_untold Explain P out k old new (Ok s) (v, x, explained, is, took) = (v, x, explained, is, tt)
+does_untold Explain P out k old new (Err Read) (explained, stays) = (explained, tt)
+does_untold Explain P out k old new (Err Memory) stays = tt
+does_untold Explain P out k old new (Err (Write n)) (v, x, explained, took) = (v, x, explained, tt)
+does_untold Show P out k old new (Ok s) (x, is, shows) = (x, is, shows_untold k.kind old new (Ok x) shows)
+does_untold Show P out k old new (Err f) shows = shows_untold k.kind old new (Err f) shows
+does_untold Tighten P None k old new r (x, is, tightens) = (x, is, tightens_untold P (k.proof P) old new x tightens)
+does_untold Tighten P (Some out) k old new r (tightened, stays) = (tightened, tt)
+
+untold : (words : List Text) (k : KnownInput) (old new : Option Output) (r : Result ℕ Fault) → Obeys words k old new r → Obeys words k None None r
+untold words k old new r (inl (t, P, file, out, asked, does)) = inl (t, P, file, out, asked, does_untold t (profile_of P) out (read_from file k) old new r does)
+untold words k old new r (inr (inl (e, among, declines))) = inr (inl (e, among, declines_untold e old new r declines))
+untold words k old new r (inr (inr (is, stays))) = inr (inr (is, tt))
+
+pub fits : (words : List Text) (old new : Option Output) (r : Result ℕ Fault) → Obeys words unknown_input old new r → Fits words (exit_status r)
+fits words old new r obeys = (r, refl, untold words unknown_input old new r obeys)
+
+-- a file that can't be opened
+pub unread : (t : Task) (P : Profile) (out : Option Text) (old : Option Output) → Does t P out unknown_input old old (Err Read)
+unread Check P out old = (tt, stays old)
+unread Explain P out old = (tt, stays old)
+unread Show P out old = (tt, stays old)
+unread Tighten P None old = (Err tighten.Read, refl, (tt, stays old))
+unread Tighten P (Some out) old = ((Err tighten.Read, refl, (tt, tt)), stays old)
+
+abbrev named : Option (Bor (List ℕ)) → Option Text
+named o = option_map (λ s. s.now) o
+
+-- nothing is known of what is read, of a file or not
+of_unknown : (file : Option (Bor (List ℕ))) (P : KnownInput → Type 0) → P unknown_input → P (read_from (named file) unknown_input)
+of_unknown None P p = p
+of_unknown (Some f) P p = p
+
+-- where no file is named, what is so of the input
+of_known : (file : Option (Bor (List ℕ))) (k : KnownInput) (P : KnownInput → Type 0) → P unknown_input → (IsNone file → P k) → P (read_from (named file) k)
+of_known None k P p q = q refl
+of_known (Some f) k P p q = p
+
+module _ (words : List Text) (j : Job) (is : asked_by words ≡ Some (asked j)) (old new : Option Output) (r : Result ℕ Fault) where
+  abbrev DoesJob : KnownInput → Type 0
+  DoesJob k = Does j.command (profile_of j.profile) (named j.out) k old new r
+
+  pub obeyed : DoesJob unknown_input → Obeys words unknown_input old new r
+  obeyed does = inl (j.command, j.profile, named j.file, named j.out, is, of_unknown j.file DoesJob does)
+
+  pub obeyed_told : (source : Option Input) → DoesJob unknown_input → (IsNone j.file → IfKnown source (λ i. DoesJob (known_by i))) → IfKnown source (λ i. Obeys words (known_by i) old new r)
+  obeyed_told None does told = tt
+  obeyed_told (Some i) does told = λ short. inl (j.command, j.profile, named j.file, named j.out, is, of_known j.file (known_by i) DoesJob does (λ none. told none short))

@@ -1,0 +1,69 @@
+-- What `show` answers, from the text that was made and what is written.
+use Rattle.std.proofs.Common.{◌≡◌, Option, Some, None, Result, Ok, Err, ℕ, List, true, false, refl, sym, ap, subst, ◌∙◌}
+use Rattle.vipr_spec.specs.Certificate.{Certificate}
+use Rattle.vipr_spec.specs.Grammar.{Spells}
+use Rattle.vipr_spec.specs.GrammarLaws.{whole_text}
+use Rattle.vipr_spec.specs.Input.{Input}
+use Rattle.vipr_spec.specs.Reading.{certificate_read, refused}
+use Rattle.vipr_spec.proofs.Laws.{item_faults, reads_texts}
+use Rattle.vipr_bytes.specs.Output.{Output}
+use Rattle.vipr_write.specs.Canonical.{canonical_text}
+use Rattle.vipr_scan.specs.Faults.{Fails}
+use Rattle.vipr_bytes.specs.Known.{text_of, IfKnown, IfWhole}
+use Rattle.vipr_scan.specs.declared.error.TextError.{TextError}
+use Rattle.vipr_scan.specs.declared.error.TextError.TheVariants as error
+use Rattle.vipr_check.specs.declared.verdict.Place.TheVariants.{Byte}
+use Rattle.vipr_command.specs.Output.{Stays, Took, after_first}
+use Rattle.vipr_command.specs.Show.{Kind, ShowsText, text_spelling, text_read}
+use Rattle.vipr_command.specs.declared.fault.Fault.{Fault}
+use Rattle.vipr_command.specs.declared.fault.Fault.TheVariants.{Read, Write}
+use Rattle.vipr_command.specs.declared.show.Shown.{Shown}
+use Rattle.vipr_command.specs.declared.show.Shown.TheVariants.{Refused, Whole}
+
+true_not_false : true ≡ false → ⊥
+true_not_false h = cc
+
+-- the text was written
+pub shown_whole : (old new : Option Output) (text : List ℕ) (c : Certificate) → text ≡ canonical_text c → Took old new text (Ok tt) → (k : Kind) → k.Spelled c → ShowsText k old new (Ok Whole)
+shown_whole old new text c is w k s = (c, s, subst (λ t. Took old new t (Ok tt)) is w)
+
+-- the writing stopped
+pub cut_short : (old new : Option Output) (text : List ℕ) (c : Certificate) → text ≡ canonical_text c → (n : ℕ) → Took old new text (Err (after_first n)) → (k : Kind) → k.Spelled c → ShowsText k old new (Err (Write n))
+cut_short old new text c is n w k s = (c, s, subst (λ t. Took old new t (Err (after_first n))) is w)
+
+-- of a certificate that was read
+pub exact_by : (old new : Option Output) (source : Option Input) (c : Certificate) (r : Result Shown Fault) → ((k : Kind) → k.Spelled c → ShowsText k old new r)
+    → IfKnown source (λ i. certificate_read (text_of i) ≡ Ok c) → IfKnown source (λ i. ShowsText (text_read (certificate_read (text_of i))) old new r)
+exact_by old new None c r given h = tt
+exact_by old new (Some i) c r given h = λ short. given (text_read (certificate_read (text_of i))) (h short)
+
+whole_is : (i : Input) → i.fails ≡ false → text_of i ≡ whole_text i.bytes
+whole_is i e = ap (λ b. text_of (record { bytes = i.bytes; fails = b })) e
+
+pub spelled_by : (old new : Option Output) (source : Option Input) (c : Certificate) (r : Result Shown Fault) → ((k : Kind) → k.Spelled c → ShowsText k old new r)
+    → IfKnown source (λ i. certificate_read (text_of i) ≡ Ok c) → IfWhole source (λ bytes. ShowsText (text_spelling bytes) old new r)
+spelled_by old new None c r given h = tt
+spelled_by old new (Some i) c r given h = λ short whole. given (text_spelling i.bytes) ((reads_texts i.bytes c).0 (subst (λ r. certificate_read r ≡ Ok c) (whole_is i whole) (h short)))
+
+-- nothing was written
+pub stays : (old : Option Output) → Stays old old
+stays None = tt
+stays (Some o) = refl
+
+-- a text with a refusal is that of no certificate
+pub none_spelled : (old : Option Output) (source : Option Input) (cause offset : ℕ) → IfKnown source (λ i. certificate_read (text_of i) ≡ Err (refused cause offset))
+    → IfWhole source (λ bytes. ShowsText (text_spelling bytes) old old (Ok (Refused (record { cause = cause; place = Byte offset }))))
+none_spelled old None cause offset h = tt
+none_spelled old (Some i) cause offset h = λ short whole. ((λ c s. never c whole (h short) s), stays old)
+  where
+    never : (c : Certificate) → i.fails ≡ false → certificate_read (text_of i) ≡ Err (refused cause offset) → Spells i.bytes c → ⊥
+    never c whole failed s = let read : certificate_read (text_of i) ≡ Ok c = ap certificate_read (whole_is i whole) ∙ (reads_texts i.bytes c).1 s in let both = sym failed ∙ read in absurd (cc)
+
+-- where no read fails, the text is read to its end
+pub never_unread : (old : Option Output) (source : Option Input) (e : TextError) → e ≡ error.Read → IfKnown source (λ i. Fails e (certificate_read (text_of i)))
+    → IfWhole source (λ bytes. ShowsText (text_spelling bytes) old old (Err Read))
+never_unread old None e is h = tt
+never_unread old (Some i) e is h = λ short whole. (true_not_false (sym (failed (h short)) ∙ whole), stays old)
+  where
+    failed : Fails e (certificate_read (text_of i)) → i.fails ≡ true
+    failed f = item_faults.certificate.failure (text_of i) (subst (λ y. Fails y (certificate_read (text_of i))) is f)

@@ -1,0 +1,15 @@
+use Rattle.std.proofs.Common.{◌++◌, ap, ◌∙◌}
+use Rattle.std.specs.Prelude.{codes}
+use Rattle.vipr_write.specs.Canonical.{problem_lines, heading, line_text, lines_text}
+use Rattle.vipr_command.proofs.respelled.problem_text.Goals as goal
+
+pub returns : goal.returns
+returns g c =
+    let problem = c.in_ok-problem in
+    record {
+      problem = problem.problem;
+      lines = c.in_ok-text.ensures ∙ ap (λ n. lines_text (problem_lines problem.problem) ++ line_text (heading (codes "SOL") n)) c.left.ensures;
+      knows = problem.ensures.knows;
+      working = problem.ensures.working;
+      read = problem.ensures.read;
+    }

@@ -1,0 +1,33 @@
+-- What a writer took of what was to be printed.
+use Rattle.std.specs.Prelude.{◌≡◌, ℕ, List, Option, Some, IfSome, Result, Ok, Err}
+use Rattle.vipr_bytes.specs.Output.{Output}
+use Rattle.vipr_bytes.specs.Written.{Wrote}
+use Rattle.vipr_bytes.specs.declared.write.WriteFailed.{WriteFailed}
+use Rattle.vipr_command.specs.declared.fault.Fault.{Fault}
+use Rattle.vipr_command.specs.declared.fault.Fault.TheVariants.{Memory, Read, Write}
+
+-- old is the writer's output before, where it tells that, and new the one afterwards.
+-- The text was handed to it, with this result.
+abbrev pub Took : Option Output → Option Output → List ℕ → Result (Unit {0}) WriteFailed → Type 0
+Took old new text r = IfSome old (λ o. Wrote o new text r)
+
+-- only the first n bytes were taken
+abbrev pub after_first : ℕ → WriteFailed
+after_first n = record { taken = n }
+
+-- nothing was handed to it
+abbrev pub Stays : Option Output → Option Output → Type 0
+Stays old new = IfSome old (λ o. new ≡ Some o)
+
+-- the text in question, where it is known
+abbrev pub IsText : Option (List ℕ) → List ℕ → Type 0
+IsText known text = IfSome known (λ t. text ≡ t)
+
+-- Ok: the text was taken whole. Write: its first n bytes were, and no more. Memory: nothing was.
+abbrev pub Prints : Option (List ℕ) → Option Output → Option Output → Result (Unit {0}) Fault
+    → Type 0
+Prints known old new (Ok u) = (text : List ℕ) × IsText known text × Took old new text (Ok tt)
+Prints known old new (Err Read) = ⊥
+Prints known old new (Err Memory) = Stays old new
+Prints known old new (Err (Write n)) = (text : List ℕ) × IsText known text
+    × Took old new text (Err (after_first n))

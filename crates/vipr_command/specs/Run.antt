@@ -1,0 +1,182 @@
+-- What the program answers, and what it prints.
+use Rattle.std.specs.Prelude.{⊤, ◌≡◌, ◌≢◌, ◌⊎◌, ℕ, List, Option, Some, None, Result, Ok, Err, codes}
+use Rattle.std.specs.Prelude.{◌++◌, decimal}
+use Rattle.clap.specs.Words.{IsAmong, Text}
+use Rattle.clap.specs.declared.error.ErrorKind.{ErrorKind}
+use Rattle.clap.specs.declared.error.ErrorKind.TheVariants as kind
+use Rattle.vipr_spec.specs.Constraint.{Profile}
+use Rattle.vipr_spec.specs.Input.{Input}
+use Rattle.vipr_spec.specs.Reading.{certificate_read}
+use Rattle.vipr_spec.specs.Verdict.{IsAnswer, IsExplained}
+use Rattle.vipr_bytes.specs.Output.{Output}
+use Rattle.vipr_bytes.specs.Known.{text_of}
+use Rattle.vipr_rules.specs.Profile.{profile_of}
+use Rattle.vipr_rules.specs.declared.profile.Profile as rules
+use Rattle.vipr_check.specs.View.{Says}
+use Rattle.vipr_check.specs.Run.{SaysInDetail}
+use Rattle.vipr_check.specs.declared.detail.Detail.{Detail}
+use Rattle.vipr_check.specs.declared.verdict.Fault.{Fault as CheckFault}
+use Rattle.vipr_check.specs.declared.verdict.Fault.TheVariants.{Memory as CheckMemory}
+use Rattle.vipr_check.specs.declared.verdict.Fault.TheVariants.{Read as CheckRead}
+use Rattle.vipr_check.specs.declared.verdict.Verdict.{Verdict}
+use Rattle.vipr_check.specs.declared.verdict.Verdict.TheVariants.{Refused, Verified}
+use Rattle.vipr_tighten.specs.Tightens.{KindOfText, any_kind, kind_read}
+use Rattle.vipr_write.specs.declared.write.WriteError.{WriteError}
+use Rattle.vipr_write.specs.declared.write.WriteError.TheVariants as write
+use Rattle.vipr_command.specs.Args.{asked_by, command_word, words_fault}
+use Rattle.vipr_command.specs.Text.{verdict_text}
+use Rattle.vipr_command.specs.Explanation.{explained_text}
+use Rattle.vipr_command.specs.Output.{Took, Stays, after_first}
+use Rattle.vipr_command.specs.Show.{Kind, ShowsText, any_text, text_read}
+use Rattle.vipr_command.specs.Tighten.{WritesTightened}
+use Rattle.vipr_command.specs.declared.fault.Fault.{Fault}
+use Rattle.vipr_command.specs.declared.fault.Fault.TheVariants.{Memory, Read, Write}
+use Rattle.vipr_command.specs.declared.show.Shown.{Shown}
+use Rattle.vipr_command.specs.declared.show.Shown.TheVariants as shown
+use Rattle.vipr_command.specs.declared.task.Task.{Task}
+use Rattle.vipr_command.specs.declared.task.Task.TheVariants.{Check, Explain, Show, Tighten}
+
+-- 0 where the certificate is verified, 1 where it is refused
+abbrev pub status_for : Verdict → ℕ
+status_for (Verified _) = 0
+status_for (Refused _) = 1
+
+-- 0 where the certificate is shown, 1 where its text is refused
+abbrev pub shown_status : Shown → ℕ
+shown_status shown.Whole = 0
+shown_status (shown.Refused _) = 1
+
+-- 3 for every fault
+abbrev pub exit_status : Result ℕ Fault → ℕ
+exit_status (Ok s) = s
+exit_status (Err f) = 3
+
+abbrev pub fault_for : CheckFault → Fault
+fault_for CheckRead = Read
+fault_for CheckMemory = Memory
+
+abbrev pub write_fault_for : WriteError → Fault
+write_fault_for (write.Write n) = Write n
+write_fault_for (write.Memory n) = Memory
+
+-- what is printed for a fault, without the line feed
+abbrev pub fault_text : Fault → List ℕ
+fault_text Read = codes "fault read"
+fault_text Memory = codes "fault memory"
+fault_text (Write n) = codes "fault write after " ++ decimal n
+
+-- What is known of an input: which verdict it can have by a profile, and with which detail, which
+-- certificate it can spell, and of which proof by a profile it can be.
+pub record KnownInput : Type 1 where
+  pub Judged : Profile → Result Verdict CheckFault → Type 0
+  pub Explained : Profile → Result (Verdict × Detail) CheckFault → Type 0
+  pub kind : Kind
+  pub proof : Profile → KindOfText
+
+-- an input of which nothing is known
+abbrev pub unknown_input : KnownInput
+unknown_input = record {
+  Judged = λ _ _. ⊤;
+  Explained = λ _ _. ⊤;
+  kind = any_text;
+  proof = λ _. any_kind;
+}
+
+-- one that gives these bytes
+abbrev pub known_by : Input → KnownInput
+known_by i =
+    record {
+      Judged = λ P. Says (IsAnswer P (text_of i));
+      Explained = λ P. SaysInDetail (IsExplained P (text_of i));
+      kind = text_read (certificate_read (text_of i));
+      proof = λ P. kind_read P (text_of i);
+    }
+
+-- old is the output before, where it tells that, and new the one afterwards.
+-- The verdict's lines were printed, and the status is the verdict's.
+abbrev pub PrintsVerdict : Profile → KnownInput → Option Output → Option Output
+    → Result ℕ Fault → Type 0
+PrintsVerdict P k old new (Ok s) = (v : Verdict) × k.Judged P (Ok v) × (s ≡ status_for v)
+    × Took old new (verdict_text v) (Ok tt)
+PrintsVerdict P k old new (Err Read) = k.Judged P (Err CheckRead) × Stays old new
+PrintsVerdict P k old new (Err Memory) = Stays old new
+PrintsVerdict P k old new (Err (Write n)) = (v : Verdict) × k.Judged P (Ok v)
+    × Took old new (verdict_text v) (Err (after_first n))
+
+-- the same of the verdict's lines with those of the detail
+abbrev pub PrintsExplanation : Profile → KnownInput → Option Output → Option Output
+    → Result ℕ Fault → Type 0
+PrintsExplanation P k old new (Ok s) = (v : Verdict) × (x : Detail) × k.Explained P (Ok (v, x))
+    × (s ≡ status_for v) × Took old new (explained_text v x) (Ok tt)
+PrintsExplanation P k old new (Err Read) = k.Explained P (Err CheckRead) × Stays old new
+PrintsExplanation P k old new (Err Memory) = Stays old new
+PrintsExplanation P k old new (Err (Write n)) = (v : Verdict) × (x : Detail)
+    × k.Explained P (Ok (v, x)) × Took old new (explained_text v x) (Err (after_first n))
+
+-- the canonical text was printed, or the certificate refused
+abbrev pub PrintsText : KnownInput → Option Output → Option Output → Result ℕ Fault → Type 0
+PrintsText k old new (Ok s) = (x : Shown) × (s ≡ shown_status x) × ShowsText k.kind old new (Ok x)
+PrintsText k old new (Err f) = ShowsText k.kind old new (Err f)
+
+-- the tightened certificate was written: to standard output, or else to a file, of which nothing
+-- is said, and nothing was printed
+abbrev pub PrintsTightened : Profile → Option Text → KnownInput → Option Output → Option Output
+    → Result ℕ Fault → Type 0
+PrintsTightened P None k old new r = WritesTightened P (k.proof P) old new r
+PrintsTightened P (Some out) k old new r = WritesTightened P (k.proof P) None None r × Stays old new
+
+-- the task is done by this profile, with this OUT
+abbrev pub Does : Task → Profile → Option Text → KnownInput → Option Output → Option Output
+    → Result ℕ Fault → Type 0
+Does Check P out k old new r = PrintsVerdict P k old new r
+Does Explain P out k old new r = PrintsExplanation P k old new r
+Does Show P out k old new r = PrintsText k old new r
+Does Tighten P out k old new r = PrintsTightened P out k old new r
+
+-- what is read: of a file that is named nothing is known
+abbrev pub read_from : Option Text → KnownInput → KnownInput
+read_from None k = k
+read_from (Some file) k = unknown_input
+
+-- the words ask for a task, which is done
+abbrev pub DoesAsked : List Text → KnownInput → Option Output → Option Output → Result ℕ Fault
+    → Type 0
+DoesAsked words k old new r = (t : Task) × (P : rules.Profile) × (file out : Option Text)
+    × (asked_by words ≡ Some (command_word t, Some P, file, out))
+    × Does t (profile_of P) out (read_from file k) old new r
+
+abbrev pub IsHelp : ErrorKind → Type 0
+IsHelp k = (k ≡ kind.DisplayHelp) ⊎ (k ≡ kind.DisplayVersion)
+
+-- help was printed, or the words are wrong and nothing was
+abbrev pub Declines : ErrorKind → Option Output → Option Output → Result ℕ Fault → Type 0
+Declines k old new (Ok s) = (IsHelp k × (s ≡ 0) × ((text : List ℕ) × Took old new text (Ok tt)))
+    ⊎ ((¬ IsHelp k) × (s ≡ 2) × Stays old new)
+Declines k old new (Err Read) = ⊥
+Declines k old new (Err Memory) = Stays old new
+Declines k old new (Err (Write n)) = IsHelp k
+    × ((text : List ℕ) × Took old new text (Err (after_first n)))
+
+-- memory ran out
+abbrev pub LacksMemory : Option Output → Option Output → Result ℕ Fault → Type 0
+LacksMemory old new r = (r ≡ Err Memory) × Stays old new
+
+-- the same of any error of a command line
+abbrev pub AnswersError : ErrorKind → Option Output → Option Output → Result ℕ Fault → Type 0
+AnswersError k old new r = ((k ≢ kind.OutOfMemory) × Declines k old new r)
+    ⊎ ((k ≡ kind.OutOfMemory) × LacksMemory old new r)
+
+-- the words aren't taken, or ask for help
+abbrev pub DeclinesWords : List Text → Option Output → Option Output → Result ℕ Fault → Type 0
+DeclinesWords words old new r = (k : ErrorKind) × IsAmong k (words_fault words)
+    × Declines k old new r
+
+-- what the words ask for is done, or they are declined, or memory ran out before that was known
+abbrev pub Obeys : List Text → KnownInput → Option Output → Option Output → Result ℕ Fault → Type 0
+Obeys words k old new r = DoesAsked words k old new r ⊎ DeclinesWords words old new r
+    ⊎ LacksMemory old new r
+
+-- an exit status for these words, whatever is read and printed
+abbrev pub Fits : List Text → ℕ → Type 0
+Fits words status = (r : Result ℕ Fault) × (status ≡ exit_status r)
+    × Obeys words unknown_input None None r

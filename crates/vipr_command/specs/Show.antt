@@ -1,0 +1,55 @@
+-- What `show` answers, and what was written then.
+use Rattle.std.specs.Prelude.{⊤, ◌≡◌, ℕ, List, Option, Result, Ok, Err}
+use Rattle.vipr_spec.specs.Certificate.{Certificate}
+use Rattle.vipr_spec.specs.Grammar.{Spells}
+use Rattle.vipr_spec.specs.Reading.{Fault as TextFault, refused, unread}
+use Rattle.vipr_write.specs.Canonical.{canonical_text}
+use Rattle.vipr_bytes.specs.Output.{Output}
+use Rattle.vipr_check.specs.declared.verdict.Place.TheVariants.{Byte}
+use Rattle.vipr_check.specs.declared.verdict.Refusal.{Refusal}
+use Rattle.vipr_command.specs.Output.{Took, Stays, after_first}
+use Rattle.vipr_command.specs.declared.fault.Fault.{Fault}
+use Rattle.vipr_command.specs.declared.fault.Fault.TheVariants.{Memory, Read, Write}
+use Rattle.vipr_command.specs.declared.show.Shown.{Shown}
+use Rattle.vipr_command.specs.declared.show.Shown.TheVariants.{Refused, Whole}
+
+-- What a text may be: that of such a certificate, one with such a refusal, or one whose reading
+-- fails in this case.
+pub record Kind : Type 1 where
+  pub Spelled : Certificate → Type 0
+  pub Unspelled : Refusal → Type 0
+  pub Unread : Type 0
+
+-- old is the writer's output before, where it tells that, and new the one afterwards.
+-- Whole: the canonical text of the certificate was taken.
+-- Write: its first n bytes were taken, and no more.
+-- Else nothing was written.
+abbrev pub ShowsText : Kind → Option Output → Option Output → Result Shown Fault → Type 0
+ShowsText k old new (Ok Whole) = (c : Certificate) × k.Spelled c
+    × Took old new (canonical_text c) (Ok tt)
+ShowsText k old new (Ok (Refused r)) = k.Unspelled r × Stays old new
+ShowsText k old new (Err Read) = k.Unread × Stays old new
+ShowsText k old new (Err Memory) = Stays old new
+ShowsText k old new (Err (Write n)) = (c : Certificate) × k.Spelled c
+    × Took old new (canonical_text c) (Err (after_first n))
+
+-- a text of which nothing is known
+abbrev pub any_text : Kind
+any_text = record { Spelled = λ _. ⊤; Unspelled = λ _. ⊤; Unread = ⊤ }
+
+-- a text that is read so
+abbrev pub text_read : Result Certificate TextFault → Kind
+text_read r = record {
+  Spelled = λ c. r ≡ Ok c;
+  Unspelled = λ x. (cause offset : ℕ) × (r ≡ Err (refused cause offset))
+      × (x ≡ record { cause = cause; place = Byte offset });
+  Unread = r ≡ Err unread;
+}
+
+-- a text of which no read fails
+abbrev pub text_spelling : List ℕ → Kind
+text_spelling bytes = record {
+  Spelled = λ c. Spells bytes c;
+  Unspelled = λ _. (c : Certificate) → Spells bytes c → ⊥;
+  Unread = ⊥;
+}

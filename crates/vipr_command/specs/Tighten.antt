@@ -1,0 +1,33 @@
+-- What `tighten` does: how it answers, and what was written then.
+use Rattle.std.specs.Prelude.{◌≡◌, ℕ, Option, Result, Ok, Err}
+use Rattle.vipr_spec.specs.Constraint.{Profile}
+use Rattle.vipr_bytes.specs.Output.{Output}
+use Rattle.vipr_tighten.specs.Tightens.{KindOfText, TightensText}
+use Rattle.vipr_tighten.specs.declared.outcome.Outcome.{Outcome}
+use Rattle.vipr_tighten.specs.declared.outcome.Outcome.TheVariants.{Tightened, Refused}
+use Rattle.vipr_tighten.specs.declared.outcome.TightenFault.{TightenFault}
+use Rattle.vipr_tighten.specs.declared.outcome.TightenFault.TheVariants as tighten
+use Rattle.vipr_command.specs.declared.fault.Fault.{Fault}
+use Rattle.vipr_command.specs.declared.fault.Fault.TheVariants.{Memory, Read, Write}
+
+-- 0 where the certificate is tightened, 1 where it is refused
+abbrev pub outcome_status : Outcome → ℕ
+outcome_status (Tightened kept removed before after) = 0
+outcome_status (Refused _) = 1
+
+abbrev pub tighten_fault_for : TightenFault → Fault
+tighten_fault_for tighten.Read = Read
+tighten_fault_for (tighten.Memory n) = Memory
+tighten_fault_for (tighten.Write n) = Write n
+
+-- the status, or the fault
+abbrev pub tighten_answer : Result Outcome TightenFault → Result ℕ Fault
+tighten_answer (Ok x) = Ok (outcome_status x)
+tighten_answer (Err e) = Err (tighten_fault_for e)
+
+-- old is the sink's output before, where it tells that, and new the one afterwards.
+-- A text of this kind was tightened to the sink, and the answer is that of what became of it.
+abbrev pub WritesTightened : Profile → KindOfText → Option Output → Option Output
+    → Result ℕ Fault → Type 0
+WritesTightened P k old new result = (r : Result Outcome TightenFault)
+    × (result ≡ tighten_answer r) × TightensText P k old new r

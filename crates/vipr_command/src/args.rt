@@ -1,0 +1,179 @@
+//! The command line, read by `clap`.
+ghost use Rattle.std.specs.Prelude.{◌≡◌, Some, IfErr, IfOk, IfSome, IsNone, true, false, map};
+ghost use Rattle.std.specs.Prelude.{option_map};
+ghost use Rattle.clap.specs.Words.{FailsBy, app_of, kind_of, new_app, rule_of, with_rule};
+ghost use Rattle.clap.specs.declared.builder.command.Command.TheViews.{out-Command as fields_of};
+ghost use Rattle.vipr_command.specs.Args.{are_taken, asked, asked_by, command_word, file_rule};
+ghost use Rattle.vipr_command.specs.Args.{line};
+ghost use Rattle.vipr_command.specs.Args.{out_rule, profile_named, profile_rule, words_fault};
+ghost use Rattle.vipr_command.specs.declared.task.Task.{Task};
+
+use crate::task::{Job, Task};
+use clap::error::ErrorKind;
+use clap::{Arg, Command, Error};
+use std::alloc::{AllocError, Global};
+use vipr_rules::Profile;
+
+/// Reads a command line, the program's name first.
+///
+/// The error is `clap`'s: help that was asked for, words that aren't taken, or want of memory.
+pub fn job<'a>(alloc: Global, words: &'a [&'a str]) -> Result<Job<'a>, Error>
+    ensures ok { IfOk result (λ j. asked_by (map (λ w. w.now) words.entry.now) ≡ Some (asked j)) }
+    ensures err { IfErr result (λ e. are_taken (map (λ w. w.now) words.entry.now) ≡ true
+        → kind_of e ≡ ErrorKind.OutOfMemory) }
+    ensures kinds { FailsBy (words_fault (map (λ w. w.now) words.entry.now)) result }
+{
+    let mut line = command_line(alloc)?;
+    let matches = line.try_get_matches_from_mut(words)?;
+    let Some((name, inner)) = matches.subcommand() else {
+        unreachable!()
+    };
+    let Some(command) = task_named(name) else {
+        unreachable!()
+    };
+    let Some(profile) = profile_named(inner.get_str("profile")) else {
+        return Err(line.error(ErrorKind::InvalidValue, "the profiles are 1 and 2")?);
+    };
+    Ok(Job {
+        command,
+        profile,
+        file: inner.get_str("file"),
+        out: inner.get_str("out"),
+    })
+}
+
+fn task_named(name: &str) -> Option<Task>
+    ensures some { IfSome result (λ t. command_word t ≡ name.now) }
+    ensures none { IsNone result → (t : Task) → command_word t ≡ name.now → ⊥ }
+{
+    match name {
+        "check" => Some(Task::Check),
+        "explain" => Some(Task::Explain),
+        "show" => Some(Task::Show),
+        "tighten" => Some(Task::Tighten),
+        _ => None,
+    }
+}
+
+fn profile_named(word: Option<&str>) -> Option<Profile>
+    ensures { result ≡ profile_named (option_map (λ s. s.now) word.entry) }
+{
+    match word {
+        None | Some("1") => Some(Profile::One),
+        Some("2") => Some(Profile::Two),
+        Some(_) => None,
+    }
+}
+
+/// The program's commands and their arguments.
+fn command_line<'a>(alloc: Global) -> Result<Command<'a>, AllocError>
+    ensures { IfOk result (λ c. app_of c ≡ line) }
+{
+    let check = judging(
+        alloc,
+        "check",
+        "Checks a certificate and prints the verdict",
+        "Example: vipr check plan.vipr",
+    )?;
+    let explain = judging(
+        alloc,
+        "explain",
+        "Checks a certificate and prints the verdict with what shows it",
+        "Example: xz -dc plan.vipr.xz | vipr explain",
+    )?;
+    let show = on_file(
+        alloc,
+        "show",
+        "Writes a certificate's canonical text",
+        "Example: vipr show plan.vipr > canonical.vipr",
+    )?;
+    let tighten = with_out(
+        alloc,
+        "tighten",
+        "Writes a verified certificate without what its proof doesn't need",
+        "Example: vipr tighten plan.vipr --out short.vipr",
+    )?;
+    Command::new(alloc, "vipr")
+        .about("Checks VIPR 1.0 certificates")
+        .version("0.1.0")
+        .subcommand_required(true)
+        .disable_help_subcommand(true)
+        .subcommand(check)?
+        .subcommand(explain)?
+        .subcommand(show)?
+        .subcommand(tighten)
+}
+
+/// A subcommand that reads FILE.
+fn on_file<'a>(
+    alloc: Global,
+    name: &'a str,
+    about: &'a str,
+    example: &'a str,
+) -> Result<Command<'a>, AllocError>
+    ensures app { IfOk result (λ c. app_of c ≡ with_rule (new_app name.entry.now) file_rule) }
+    ensures local { IfOk result (λ c. (fields_of c).has_globals ≡ false) }
+{
+    Command::new(alloc, name)
+        .about(about)
+        .after_help(example)
+        .arg(file(alloc))
+}
+
+/// A subcommand that reads FILE and takes a profile.
+fn judging<'a>(
+    alloc: Global,
+    name: &'a str,
+    about: &'a str,
+    example: &'a str,
+) -> Result<Command<'a>, AllocError>
+    ensures app { IfOk result
+        (λ c. app_of c ≡ with_rule (with_rule (new_app name.entry.now) file_rule) profile_rule) }
+    ensures local { IfOk result (λ c. (fields_of c).has_globals ≡ false) }
+{
+    on_file(alloc, name, about, example)?.arg(profile(alloc))
+}
+
+/// A subcommand that reads FILE, takes a profile, and writes to OUT.
+fn with_out<'a>(
+    alloc: Global,
+    name: &'a str,
+    about: &'a str,
+    example: &'a str,
+) -> Result<Command<'a>, AllocError>
+    ensures app { IfOk result (λ c. app_of c
+        ≡ with_rule (with_rule (with_rule (new_app name.entry.now) file_rule) profile_rule)
+        out_rule) }
+    ensures local { IfOk result (λ c. (fields_of c).has_globals ≡ false) }
+{
+    judging(alloc, name, about, example)?.arg(out(alloc))
+}
+
+fn file<'a>(alloc: Global) -> Arg<'a>
+    ensures rule { rule_of result ≡ file_rule }
+    ensures local { result.global ≡ false }
+{
+    Arg::new(alloc, "file")
+        .value_name("FILE")
+        .help("The certificate; standard input if absent")
+}
+
+fn profile<'a>(alloc: Global) -> Arg<'a>
+    ensures rule { rule_of result ≡ profile_rule }
+    ensures local { result.global ≡ false }
+{
+    Arg::new(alloc, "profile")
+        .long("profile")
+        .value_name("PROFILE")
+        .help("The profile of the rules, 1 or 2; 1 if absent")
+}
+
+fn out<'a>(alloc: Global) -> Arg<'a>
+    ensures rule { rule_of result ≡ out_rule }
+    ensures local { result.global ≡ false }
+{
+    Arg::new(alloc, "out")
+        .long("out")
+        .value_name("OUT")
+        .help("Where to write it; standard output if absent")
+}

@@ -1,0 +1,40 @@
+//! Checks a certificate and prints the verdict.
+ghost use Rattle.std.specs.Prelude.{◌≡◌};
+ghost use Rattle.vipr_bytes.specs.Known.{IfKnown};
+ghost use Rattle.vipr_rules.specs.Profile.{profile_of};
+ghost use Rattle.vipr_command.specs.Run.{PrintsVerdict, known_by, status_for, unknown_input};
+
+use crate::fault::Fault;
+use crate::output::print;
+use crate::text::Lines;
+use std::alloc::Global;
+use vipr_bytes::{Sink, Source};
+use vipr_check::{Verdict, check_in};
+use vipr_rules::{LiveOnly, Profile};
+
+/// Prints the verdict on a certificate by the rules of a profile, and answers the exit status.
+pub fn print_verdict<R: Source + Drop, O: Sink>(
+    alloc: Global,
+    profile: Profile,
+    source: R,
+    out: &mut O,
+) -> Result<u8, Fault>
+    ensures any { PrintsVerdict (profile_of profile) unknown_input (O.output out.old)
+        (O.output out.new) result }
+    ensures told { IfKnown (R.input source) (λ i. PrintsVerdict (profile_of profile) (known_by i)
+        (O.output out.old) (O.output out.new) result) }
+{
+    let verdict = check_in::<R, LiveOnly>(alloc, profile, source)?;
+    print(alloc, &Lines(&verdict), out)?;
+    Ok(status_of(&verdict))
+}
+
+/// The exit status of a verdict.
+pub fn status_of(verdict: &Verdict) -> u8
+    ensures { result ≡ status_for verdict.now }
+{
+    match verdict {
+        Verdict::Verified(_) => 0,
+        Verdict::Refused(_) => 1,
+    }
+}

@@ -1,0 +1,145 @@
+//! The whole program, over what stands for the standard streams.
+ghost use Rattle.std.specs.Prelude.{◌≡◌, ◌≤◌, IfOk, IsNone, false, map, option_map};
+ghost use Rattle.clap.specs.Words.{kind_of};
+ghost use Rattle.vipr_bytes.specs.Known.{IfKnown};
+ghost use Rattle.vipr_rules.specs.Profile.{profile_of};
+ghost use Rattle.vipr_command.specs.Args.{are_taken};
+ghost use Rattle.vipr_command.specs.Run.{AnswersError, Does, Fits, Obeys, known_by, unknown_input};
+
+use crate::args::job;
+use crate::check::print_verdict;
+use crate::explain::print_explanation;
+use crate::fault::Fault;
+use crate::output::print;
+use crate::show::print_text;
+use crate::task::{Job, Task};
+use crate::tighten::print_tightened;
+use clap::Error;
+use clap::error::ErrorKind;
+use std::alloc::Global;
+use std::fs::File;
+use std::io::{Read, Write};
+use std::rt::Files;
+use vipr_bytes::{FromRead, FromWrite, Sink, Source};
+
+/// Does what the words ask for, the program's name first, and answers the exit status: 0 where the
+/// certificate is verified, shown or tightened, or help was asked for, 1 where it is refused, 2 for
+/// words that aren't taken, 3 for a fault.
+///
+/// A verdict, an explanation, a certificate and help go to `out`; what is wrong with the words, a
+/// fault, the refusal of a certificate that was to be shown or tightened, and what was removed, to
+/// `err`. A tightened certificate goes to a file where the words name one.
+pub fn run<H: AllocGlobal + Files, R: Read + Drop, O: Write, E: Write>(
+    rt: &H,
+    words: &[&str],
+    input: R,
+    out: &mut O,
+    err: &mut E,
+) -> u8
+    ensures status { result ≤ 3 }
+    ensures usage { result ≡ 2 → are_taken (map (λ w. w.now) words.now) ≡ false }
+    // The status is one that fits what the words ask for.
+    ensures fits { Fits (map (λ w. w.now) words.now) result }
+{
+    let source = FromRead::new(input);
+    match obey(rt, words, source, &mut FromWrite::new(out), err) {
+        Ok(status) => status,
+        Err(fault) => {
+            let _ = writeln!(err, "{fault}");
+            3
+        }
+    }
+}
+
+/// The same over any source and sink, but that a fault is not told.
+///
+/// # Errors
+///
+/// Where a file can't be opened or a read fails, a growth is refused, or a write fails.
+fn obey<H: AllocGlobal + Files, R: Source + Drop, O: Sink, E: Write>(
+    rt: &H,
+    words: &[&str],
+    input: R,
+    out: &mut O,
+    err: &mut E,
+) -> Result<u8, Fault>
+    ensures status { IfOk result (λ s. s ≤ 2) }
+    ensures usage { IfOk result (λ s. s ≡ 2 → are_taken (map (λ w. w.now) words.now) ≡ false) }
+    ensures any { Obeys (map (λ w. w.now) words.now) unknown_input (O.output out.old)
+        (O.output out.new) result }
+    ensures told { IfKnown (R.input input) (λ i. Obeys (map (λ w. w.now) words.now) (known_by i)
+        (O.output out.old) (O.output out.new) result) }
+{
+    match job(rt.alloc(), words) {
+        Ok(job) => do_job(rt, &job, input, out, err),
+        Err(error) => answer(rt.alloc(), &error, out, err),
+    }
+}
+
+/// Prints help, or what is wrong with the words.
+fn answer<O: Sink, E: Write>(
+    alloc: Global,
+    error: &Error,
+    out: &mut O,
+    err: &mut E,
+) -> Result<u8, Fault>
+    ensures { AnswersError (kind_of error.now) (O.output out.old) (O.output out.new) result }
+{
+    if error.kind() == ErrorKind::OutOfMemory {
+        return Err(Fault::Memory);
+    }
+    if error.use_stderr() {
+        let _ = write!(err, "{error}");
+        return Ok(2);
+    }
+    print(alloc, error, out)?;
+    Ok(0)
+}
+
+fn do_job<H: AllocGlobal + Files, R: Source + Drop, O: Sink, E: Write>(
+    rt: &H,
+    job: &Job<'_>,
+    input: R,
+    out: &mut O,
+    err: &mut E,
+) -> Result<u8, Fault>
+    ensures any { Does job.now.command (profile_of job.now.profile)
+        (option_map (λ s. s.now) job.now.out) unknown_input (O.output out.old) (O.output out.new)
+        result }
+    ensures told { IsNone job.now.file → IfKnown (R.input input)
+        (λ i. Does job.now.command (profile_of job.now.profile)
+        (option_map (λ s. s.now) job.now.out) (known_by i) (O.output out.old) (O.output out.new)
+        result) }
+{
+    match job.file {
+        None => do_task(rt, job, input, out, err),
+        Some(path) => match File::open(rt, path) {
+            Ok(file) => do_task(rt, job, FromRead::new(file), out, err),
+            Err(_) => Err(Fault::Read),
+        },
+    }
+}
+
+fn do_task<H: AllocGlobal + Files, R: Source + Drop, O: Sink, E: Write>(
+    rt: &H,
+    job: &Job<'_>,
+    source: R,
+    out: &mut O,
+    err: &mut E,
+) -> Result<u8, Fault>
+    ensures any { Does job.now.command (profile_of job.now.profile)
+        (option_map (λ s. s.now) job.now.out) unknown_input (O.output out.old) (O.output out.new)
+        result }
+    ensures told { IfKnown (R.input source)
+        (λ i. Does job.now.command (profile_of job.now.profile)
+        (option_map (λ s. s.now) job.now.out) (known_by i) (O.output out.old) (O.output out.new)
+        result) }
+{
+    let alloc = rt.alloc();
+    match job.command {
+        Task::Check => print_verdict(alloc, job.profile, source, out),
+        Task::Explain => print_explanation(alloc, job.profile, source, out),
+        Task::Show => print_text(alloc, source, out, err),
+        Task::Tighten => print_tightened(rt, job.profile, source, job.out, out, err),
+    }
+}

@@ -1,0 +1,37 @@
+//! Checks a certificate, and prints the verdict with what shows why it is so.
+ghost use Rattle.std.specs.Prelude.{◌≡◌};
+ghost use Rattle.vipr_bytes.specs.Known.{IfKnown};
+ghost use Rattle.vipr_rules.specs.Profile.{profile_of};
+ghost use Rattle.vipr_command.specs.Run.{PrintsExplanation, known_by, unknown_input};
+
+use crate::check::status_of;
+use crate::explanation::Explanation;
+use crate::fault::Fault;
+use crate::output::print;
+use std::alloc::Global;
+use vipr_bytes::{Sink, Source};
+use vipr_check::explain_in;
+use vipr_rules::Profile;
+
+/// Prints the verdict on a certificate by the rules of a profile and what there is to show of it,
+/// and answers the exit status.
+pub fn print_explanation<R: Source + Drop, O: Sink>(
+    alloc: Global,
+    profile: Profile,
+    source: R,
+    out: &mut O,
+) -> Result<u8, Fault>
+    ensures any { PrintsExplanation (profile_of profile) unknown_input (O.output out.old)
+        (O.output out.new) result }
+    ensures told { IfKnown (R.input source)
+        (λ i. PrintsExplanation (profile_of profile) (known_by i) (O.output out.old)
+        (O.output out.new) result) }
+{
+    let (verdict, detail) = explain_in(alloc, profile, source)?;
+    let explanation = Explanation {
+        verdict: &verdict,
+        detail: &detail,
+    };
+    print(alloc, &explanation, out)?;
+    Ok(status_of(&verdict))
+}

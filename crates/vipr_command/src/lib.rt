@@ -1,0 +1,23 @@
+//! The program's commands: what its words ask for, what is done and printed, and the exit status.
+//!
+//! [`run`] is the whole program but for where its streams come from.
+#![tactic(auto)]
+
+mod args;
+mod check;
+mod command;
+mod explain;
+mod explanation;
+mod fault;
+mod output;
+mod respelled;
+mod show;
+mod task;
+mod text;
+mod tighten;
+
+pub use args::job;
+pub use command::run;
+pub use fault::Fault;
+pub use task::{Job, Task};
+pub use text::Lines;

@@ -1,0 +1,20 @@
+//! How a text is printed.
+ghost use Rattle.vipr_command.specs.Output.{Prints};
+
+use crate::fault::Fault;
+use std::alloc::Global;
+use std::fmt::Display;
+use vipr_bytes::{Sink, write_bytes};
+
+/// Makes the whole text, and then hands it to the writer until that took all of it.
+///
+/// # Errors
+///
+/// Where a growth is refused: nothing was written. Where a write fails or takes nothing.
+pub fn print<T: Display, W: Sink>(alloc: Global, text: &T, writer: &mut W) -> Result<(), Fault>
+    ensures { Prints (T.output text.now) (W.output writer.old) (W.output writer.new) result }
+{
+    let text = text.to_string(alloc)?;
+    write_bytes(writer, text.as_bytes())?;
+    Ok(())
+}

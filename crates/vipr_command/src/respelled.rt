@@ -1,0 +1,84 @@
+//! Makes a certificate's canonical text while it is read.
+ghost use Rattle.std.specs.Prelude.{◌≡◌, false, Ok, IfOk};
+ghost use Rattle.vipr_spec.specs.Certificate.{Problem as ProblemMeant};
+ghost use Rattle.vipr_spec.specs.Reading.{solution_read, derivation_read, end_read};
+ghost use Rattle.vipr_read.specs.Items.{Knows};
+ghost use Rattle.vipr_write.specs.Canonical.{solution_words, derivation_words};
+ghost use Rattle.vipr_command.specs.Respelled.{BeginsText, Appends, Respells, RespellsText};
+
+use std::alloc::Global;
+use vipr_bytes::Source;
+use vipr_text::{CertReader, Derivations, GrowingText, Solutions, TextError};
+
+/// The canonical text of the certificate that `source` gives, which is read to its end. No item is
+/// kept once its line is made.
+///
+/// # Errors
+///
+/// `Refused` where the text spells no certificate, `Read` where a read fails before that is known,
+/// and `Memory` where a growth is refused.
+pub(crate) fn respelled<R: Source + Drop>(alloc: Global, source: R) -> Result<Vec<u8>, TextError>
+    ensures { RespellsText (λ text. text.items) (R.input source) result }
+{
+    let reader = CertReader::new(alloc, source)?;
+    text_from(alloc, reader)
+}
+
+// The canonical text of the certificate that the reader is at the start of.
+fn text_from<R: Source + Drop>(alloc: Global, reader: CertReader<R>) -> Result<Vec<u8>, TextError>
+    ensures { Respells (λ text. text.items) reader result }
+{
+    let (text, mut solutions) = problem_text(alloc, reader)?;
+    let text = solution_lines(alloc, text, &mut solutions)?;
+    let mut derivations = solutions.finish()?;
+    let text = text.derivation_count(derivations.left())?;
+    let text = derivation_lines(alloc, text, &mut derivations)?;
+    Ok(text.into_bytes())
+}
+
+// The text of the problem, up to and with the number of solutions.
+fn problem_text<R: Source + Drop>(
+    alloc: Global,
+    reader: CertReader<R>,
+) -> Result<(GrowingText, Solutions<R>), TextError>
+    ensures { BeginsText (λ x. x.0) (λ x. x.1) reader result }
+{
+    let (problem, solutions) = reader.read_problem(alloc)?;
+    let text = GrowingText::new(alloc, &problem, solutions.left())?;
+    Ok((text, solutions))
+}
+
+// The text with a line for each solution that follows.
+fn solution_lines<R: Source>(
+    alloc: Global,
+    mut text: GrowingText,
+    solutions: &mut Solutions<R>,
+) -> Result<GrowingText, TextError>
+    requires { solutions.old.failed ≡ false }
+    ensures none { IfOk result (λ _. solutions.new.left ≡ 0) }
+    ensures lines { (p : ProblemMeant) → Knows solutions.old p
+        → Appends (solution_read p) (λ _. Ok tt) solution_words solutions.old solutions.new text
+        (λ t. t) result }
+{
+    while let Some(solution) = solutions.next(alloc)? {
+        text = text.solution(&solution)?;
+    }
+    Ok(text)
+}
+
+// The text with a line for each derivation that follows, up to the end of the text that is read.
+fn derivation_lines<R: Source>(
+    alloc: Global,
+    mut text: GrowingText,
+    derivations: &mut Derivations<R>,
+) -> Result<GrowingText, TextError>
+    requires { derivations.old.failed ≡ false }
+    ensures { (p : ProblemMeant) → Knows derivations.old p
+        → Appends (derivation_read p) end_read derivation_words derivations.old derivations.new
+        text (λ t. t) result }
+{
+    while let Some(derivation) = derivations.next(alloc)? {
+        text = text.derivation(&derivation)?;
+    }
+    Ok(text)
+}

@@ -1,0 +1,81 @@
+//! Shows a certificate: writes its canonical text.
+ghost use Rattle.vipr_spec.specs.Reading.{certificate_read};
+ghost use Rattle.vipr_bytes.specs.Known.{text_of, IfKnown, IfWhole};
+ghost use Rattle.vipr_command.specs.Run.{PrintsText, known_by, unknown_input};
+ghost use Rattle.vipr_command.specs.Show.{ShowsText, any_text, text_spelling, text_read};
+
+use crate::fault::Fault;
+use crate::respelled::respelled;
+use crate::text::RefusalLine;
+use std::alloc::Global;
+use std::io::Write;
+use vipr_bytes::{Sink, Source, write_bytes};
+use vipr_check::{Place, Refusal};
+use vipr_text::TextError;
+
+/// What became of a certificate that was to be shown.
+#[derive(Clone, Copy, Debug, PartialEq, Eq)]
+pub enum Shown {
+    /// Its canonical text was written.
+    Whole,
+    /// The text spells none. Nothing was written.
+    Refused(Refusal),
+}
+
+/// Reads a certificate to the end of its text, and then writes its canonical text, which is made
+/// while it is read. What it means isn't tested.
+///
+/// # Errors
+///
+/// Where a read fails and where a growth is refused: nothing was written. Where a write fails.
+pub fn show<R: Source + Drop, W: Sink>(
+    alloc: Global,
+    source: R,
+    writer: &mut W,
+) -> Result<Shown, Fault>
+    // Nothing is written but a certificate's text.
+    ensures written { ShowsText any_text (W.output writer.old) (W.output writer.new) result }
+    // The certificate, or the refusal, is that of the definitions for the bytes that the source
+    // gives, in whatever pieces.
+    ensures exact { IfKnown (R.input source) (λ i. ShowsText
+        (text_read (certificate_read (text_of i))) (W.output writer.old)
+        (W.output writer.new) result) }
+    // The certificate is what the text spells, and it is refused where it spells none.
+    ensures spelled { IfWhole (R.input source) (λ bytes. ShowsText (text_spelling bytes)
+        (W.output writer.old) (W.output writer.new) result) }
+{
+    match respelled(alloc, source) {
+        Ok(text) => {
+            write_bytes(writer, &text)?;
+            Ok(Shown::Whole)
+        }
+        Err(TextError::Refused { cause, offset }) => Ok(Shown::Refused(Refusal {
+            cause,
+            place: Place::Byte(offset),
+        })),
+        Err(TextError::Read) => Err(Fault::Read),
+        Err(TextError::Memory) => Err(Fault::Memory),
+        Err(TextError::Spent) => unreachable!(),
+    }
+}
+
+/// Prints a certificate's canonical text, or on `err` why there is none, and answers the exit
+/// status.
+pub fn print_text<R: Source + Drop, O: Sink, E: Write>(
+    alloc: Global,
+    source: R,
+    out: &mut O,
+    err: &mut E,
+) -> Result<u8, Fault>
+    ensures any { PrintsText unknown_input (O.output out.old) (O.output out.new) result }
+    ensures told { IfKnown (R.input source)
+        (λ i. PrintsText (known_by i) (O.output out.old) (O.output out.new) result) }
+{
+    match show(alloc, source, out)? {
+        Shown::Whole => Ok(0),
+        Shown::Refused(refusal) => {
+            let _ = write!(err, "{}", RefusalLine(&refusal));
+            Ok(1)
+        }
+    }
+}
