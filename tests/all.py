@@ -5,9 +5,6 @@ usage: tests/all.py
 
 First `rt ci`: every proof, the must-fail edits, the tests. Then each script of SCRIPTS, which counts as one. Prints
 what each took, and last `N passed, M failed`; the exit status is 1 where one failed.
-
-RT_JOBS says how many proofs run side by side, one process for each. Without it there are as many as there are
-processors, and memory for at MEMORY bytes each: that takes less processor time than several processes for one proof.
 """
 import os
 import re
@@ -18,8 +15,6 @@ import time
 from pathlib import Path
 
 TOP = Path(__file__).resolve().parent.parent
-# what a proof takes at most: the largest seen is 2.3 GB
-MEMORY = 3_000_000_000
 # what to run once the program is built, in the repository's folder
 SCRIPTS = [
     ['tests/house.py'],
@@ -40,12 +35,6 @@ def spent():
     return usage.ru_utime + usage.ru_stime
 
 
-def jobs():
-    """How many proofs to run side by side."""
-    free = 1024 * int(re.search(r'^MemAvailable: *(\d+) kB', Path('/proc/meminfo').read_text(), re.M)[1])
-    return max(1, min(len(os.sched_getaffinity(0)), free // MEMORY))
-
-
 def timed(words):
     """Runs a command, hands its output on, and gives its last line and its status."""
     start, before, last = time.monotonic(), spent(), ''
@@ -60,7 +49,6 @@ def timed(words):
 
 
 def main():
-    os.environ.setdefault('RT_JOBS', str(jobs()))
     last, status = timed([os.environ.get('RT', 'rt'), 'ci'])
     counted = re.fullmatch(r'(\d+) passed, (\d+) failed', last)
     passed, failed = map(int, counted.groups()) if counted else (0, 1)
