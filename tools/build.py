@@ -63,7 +63,7 @@ def main():
     crates = needed()
     if not (TOP / 'crates' / PROGRAM / 'out' / PROGRAM).is_file():
         print(f'Every function of {len(crates)} crates is proved before the program is built. That is done once, and takes\n'
-              'some 10 to 25 minutes (an estimate: one to three for 1,000 lines) and 4 GB of memory or more.', flush=True)
+              'some 15 to 30 minutes on four cores (an estimate) and 4 GB of memory or more.', flush=True)
     for number, crate in enumerate(crates, 1):
         if not build(crate, number, len(crates)):
             return 1
