@@ -8,7 +8,7 @@ use Rattle.vipr_spec.specs.Verdict.{Answer, refuses, told_by, at_solution, at_de
 use Rattle.vipr_spec.specs.Steps.{step_tests, StepTest, step_cause, FirstFailing}
 use Rattle.vipr_spec.specs.Tests.{PassesSolution, solution_tests, solution_cause, Passes as PassesTest, meets_primal, meets_dual, of_solution, of_step}
 use Rattle.vipr_rules.specs.Apply.{Tells, StopsIn}
-use Rattle.vipr_rules.specs.Table.{Table, advance_table}
+use Rattle.vipr_table.specs.Table.{Table, advance_table}
 use Rattle.vipr_rules.specs.Solution.{test_of, FailsBy}
 use Rattle.vipr_rules.specs.declared.solution.SolutionError.{SolutionError}
 use Rattle.vipr_rules.specs.declared.error.RuleError.{RuleError}

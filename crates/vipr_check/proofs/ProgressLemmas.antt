@@ -21,14 +21,14 @@ use Rattle.vipr_cert.specs.declared.items.Named.{Named as NamedItem}
 use Rattle.vipr_rules.specs.Claim.{IsTargetIn}
 use Rattle.vipr_rules.specs.declared.claim.Target.{Target}
 use Rattle.vipr_rules.specs.declared.claim.Target.TheVariants.{Nothing}
-use Rattle.vipr_rules.specs.Table.{Table, empty_table, advance_table, step, held_count}
-use Rattle.vipr_rules.specs.History.{IsTableOf, IsEntryOf}
-use Rattle.vipr_rules.specs.Table.{DerivedBelow}
+use Rattle.vipr_table.specs.Table.{Table, empty_table, advance_table, step, held_count}
+use Rattle.vipr_table.specs.History.{IsTableOf, IsEntryOf}
+use Rattle.vipr_table.specs.Table.{DerivedBelow}
 use Rattle.vipr_rules.specs.Apply.{PassesTestsIn}
 use Rattle.vipr_rules.specs.Solution.{FailsBy}
 use Rattle.vipr_rules.specs.declared.solution.SolutionError.{SolutionError}
-use Rattle.vipr_rules.specs.declared.rows.Entry.{Entry}
-use Rattle.vipr_rules.proofs.Laws.{DerivedBelow-empty, DerivedBelow-step, get-live_part, if_live_of, IsTableOf-empty, IsTableOf-step, IsTableOf-held}
+use Rattle.vipr_table.specs.declared.rows.Entry.{Entry}
+use Rattle.vipr_table.proofs.Laws.{DerivedBelow-empty, DerivedBelow-step, get-live_part, if_live_of, IsTableOf-empty, IsTableOf-step, IsTableOf-held}
 use Rattle.vipr_check.specs.Goal.{IsFirstHit}
 use Rattle.vipr_check.specs.Progress.{Progress, AreFeasible, HasSolutions, HasSteps, IsReady}
 use Rattle.vipr_check.proofs.GoalLemmas.{first_met}

@@ -25,7 +25,7 @@ use Rattle.vipr_check.specs.declared.halt.Halt.{Halt}
 use Rattle.vipr_check.specs.declared.halt.Halt.TheVariants.{Refused, Memory}
 use Rattle.vipr_check.specs.Halts.{IsTestOf}
 use Rattle.vipr_check.specs.Shown.{rule_shown, primal_shown, halt_shown, state_shown}
-use Rattle.vipr_rules.specs.Table.{advance_table}
+use Rattle.vipr_table.specs.Table.{advance_table}
 use Rattle.vipr_check.specs.State.{State, HaltsBy}
 use Rattle.vipr_check.proofs.Failures.{failing_has}
 

@@ -13,10 +13,10 @@ use Rattle.vipr_spec.specs.Checking.{start, IsChecked}
 use Rattle.vipr_spec.specs.Soundness.{IsAdmitted, IsTrueOf, IsBestValue, IsAdmittedBy}
 use Rattle.vipr_spec.proofs.Laws.{reason_past, reason_given, absurd_false, as_good_refl, as_good_trans, as_good_total, all_sound, bound_true, admitted_by, checked_start}
 use Rattle.vipr_linear.specs.Constraint.{condition_of}
-use Rattle.vipr_rules.specs.declared.rows.Entry.{Entry}
-use Rattle.vipr_rules.specs.Table.{Table}
-use Rattle.vipr_rules.specs.History.{IsTableOf, is_held}
-use Rattle.vipr_rules.proofs.Laws.{IsTableOf-empty}
+use Rattle.vipr_table.specs.declared.rows.Entry.{Entry}
+use Rattle.vipr_table.specs.Table.{Table}
+use Rattle.vipr_table.specs.History.{IsTableOf, is_held}
+use Rattle.vipr_table.proofs.Laws.{IsTableOf-empty}
 use Rattle.vipr_check.specs.Progress.{Progress, AreFeasible, HasSolutions, HasSteps}
 use Rattle.vipr_check.specs.Sound.{IsDualTrue, RestsOnTrue, KeepsSoundness}
 use Rattle.vipr_check.specs.State.{State, IsReached}

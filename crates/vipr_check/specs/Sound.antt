@@ -8,8 +8,8 @@ use Rattle.vipr_spec.specs.Certificate.{Problem, variables, Claim, infeasible, r
 use Rattle.vipr_spec.specs.Certificate.{objective_at, IsAsGood, dual_bound}
 use Rattle.vipr_spec.specs.Soundness.{IsAdmittedBy}
 use Rattle.vipr_linear.specs.Constraint.{condition_of}
-use Rattle.vipr_rules.specs.declared.rows.Entry.{Entry}
-use Rattle.vipr_rules.specs.Table.{Table}
+use Rattle.vipr_table.specs.declared.rows.Entry.{Entry}
+use Rattle.vipr_table.specs.Table.{Table}
 
 -- the dual side of the claim holds at every feasible point
 abbrev pub IsDualTrue : Problem → Claim → Type 0

@@ -12,7 +12,7 @@ use Rattle.vipr_spec.specs.Tests.{Test, of_solution, of_step, meets_primal, meet
 use Rattle.vipr_spec.specs.Tests.{Passes as PassesTest, PassesSolution, solution_tests}
 use Rattle.vipr_spec.specs.Verdict.{Reports, Answer, refuses, told_by}
 use Rattle.vipr_rules.specs.Apply.{PassesTestsIn, StopsIn}
-use Rattle.vipr_rules.specs.Table.{advance_table, held_count as held_in}
+use Rattle.vipr_table.specs.Table.{advance_table, held_count as held_in}
 use Rattle.vipr_rules.specs.Solution.{test_of, FailsBy}
 use Rattle.vipr_rules.specs.declared.solution.SolutionError.{SolutionError}
 use Rattle.vipr_rules.specs.declared.error.RuleError.{RuleError}

@@ -6,7 +6,7 @@ ghost use Rattle.vipr_spec.specs.Certificate.{Named as NamedMeant, Certificate, 
 ghost use Rattle.vipr_spec.specs.Constraint.{one, Row, at, NamesBelow};
 ghost use Rattle.vipr_cert.specs.Items.{solution_of, derivation_of};
 ghost use Rattle.vipr_rules.specs.Profile.{profile_of};
-ghost use Rattle.vipr_rules.specs.Table.{held_count as held_in};
+ghost use Rattle.vipr_table.specs.Table.{held_count as held_in};
 ghost use Rattle.vipr_check.specs.Sound.{KeepsSoundness};
 ghost use Rattle.vipr_check.specs.Halts.{halt_answer, later_answer, IsStepHalt};
 ghost use Rattle.vipr_check.specs.Progress.{HasSolutions, HasSteps};

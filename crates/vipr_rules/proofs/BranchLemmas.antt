@@ -1,12 +1,12 @@
 -- What the parts of the tests of two joined branches say of all of them, and what the joined constraint rests on.
 use Rattle.std.proofs.Common.{◌≡◌, ◌≢◌, ℕ, Bool, true, false, not, ◌&&◌, nat_eq, List, [], ◌∷◌, ◌++◌, Option, Some, None, refl, sym, ap, ap₂, ◌∙◌, subst, inl, inr, arith}
-use Rattle.std.specs.Prelude.{◌↔◌, ◌⊎◌, IsTrue}
+use Rattle.std.specs.Prelude.{◌↔◌, IsTrue}
 use Rattle.std.proofs.lemmas.Bool.Decides.{nat_tests}
 use Rattle.std.specs.Cmp.{nat_cmp_total}
 use Rattle.std.specs.Ordering.{nat_cmp}
 use Rattle.std.specs.FinSet.{FinSet, contains, union, remove, contains-remove}
 use Rattle.vipr_spec.specs.Constraint.{Profile, Condition, condition, Ints, IsSplit, Dominates}
-use Rattle.vipr_spec.specs.Certificate.{Certificate, Derivation, Reason, asm, lin, rnd, uns, sol, constraint_at, reason_at, is_assumption, RestsOn}
+use Rattle.vipr_spec.specs.Certificate.{Certificate, Derivation, Reason, asm, lin, rnd, uns, sol, constraint_at, reason_at, is_assumption}
 use Rattle.vipr_spec.specs.Causes as cause
 use Rattle.vipr_spec.specs.Steps.{StepTest, assumed, split, by_constraint, step_tests, index, both, compared}
 use Rattle.vipr_linear.specs.Constraint.{condition_of}
@@ -14,9 +14,9 @@ use Rattle.vipr_linear.specs.declared.constraint.Constraint.{Constraint}
 use Rattle.vipr_rules.specs.declared.error.RuleError.{RuleError}
 use Rattle.vipr_rules.specs.declared.error.RuleError.TheVariants.{NotAssumption}
 use Rattle.vipr_rules.specs.declared.context.Known.{Known}
-use Rattle.vipr_rules.specs.Context.{IsKnownAs, IsSetWithout, IsSetByReason, row_found, set_of, is_assumed}
+use Rattle.vipr_rules.specs.Context.{IsKnownAs, IsSetWithout, IsSetByReason, set_of, is_assumed}
 use Rattle.vipr_rules.specs.Apply.{index_tests, free_tests, PassesTestsIn, StopsIn, IsNotDominated, shown_by}
-use Rattle.vipr_rules.proofs.SetLemmas.{tied_numbers}
+use Rattle.vipr_table.proofs.Laws.{tied_numbers}
 use Rattle.vipr_rules.proofs.StepLemmas.{stops_first, stops_second, passes_both, passes_one, stops_one}
 use Rattle.vipr_rules.proofs.UnionLemmas.{in_union}
 

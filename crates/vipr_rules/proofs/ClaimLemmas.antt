@@ -4,7 +4,7 @@ use Rattle.std.specs.Prelude.{◌↔◌}
 use Rattle.std.proofs.lemmas.List.Elements.{All-contains}
 use Rattle.vipr_spec.specs.Fraction.{ℚ}
 use Rattle.vipr_spec.specs.Constraint.{Profile, one, two, Condition, Row, at, Dominates, IsWholeRow}
-use Rattle.vipr_spec.specs.Certificate.{Named, Problem, Claim, infeasible, range, objective_at, objective_constraint, stays, IsAsGood, dual_bound, primal_bound, MeetsBound, MeetsDual, NeedsGoal, MeetsPrimal}
+use Rattle.vipr_spec.specs.Certificate.{Named, Problem, Claim, infeasible, range, objective_at, objective_constraint, stays, IsAsGood, dual_bound, MeetsBound, MeetsDual, NeedsGoal, MeetsPrimal}
 use Rattle.vipr_spec.specs.Tests.{goal_needed_by, finite_primal}
 use Rattle.vipr_spec.specs.Soundness.{IsBestValue}
 use Rattle.vipr_spec.proofs.Laws.{as_good_trans, best_first}

@@ -1,6 +1,6 @@
 -- What is known of a constraint by its index.
-use Rattle.std.proofs.Common.{◌≡◌, ℕ, zero, suc, ◌<◌, ◌≤◌, Bool, true, false, ◌&&◌, ◌||◌, nat_lt, nat_le, List, [], ◌∷◌, ◌++◌, length, map, get_or, slice_index_or, Option, Some, None, is_some, Bor, refl, sym, ap, ap₂, ◌∙◌, subst, arith}
-use Rattle.std.specs.Prelude.{◌↔◌, IsTrue, option_copied}
+use Rattle.std.proofs.Common.{◌≡◌, ℕ, zero, suc, ◌<◌, ◌≤◌, true, ◌&&◌, ◌||◌, nat_lt, nat_le, List, [], ◌∷◌, ◌++◌, length, map, get_or, slice_index_or, Option, Some, None, is_some, Bor, refl, sym, ap, ap₂, ◌∙◌, arith}
+use Rattle.std.specs.Prelude.{IsTrue}
 use Rattle.std.specs.FinSet as set
 use Rattle.std.specs.Ordering.{nat_cmp}
 use Rattle.std.proofs.lemmas.Bool.Decides.{nat_tests}
@@ -8,21 +8,21 @@ use Rattle.std.proofs.lemmas.Simd.{map-map}
 use Rattle.std.proofs.lemmas.List.{length-map}
 use Rattle.vipr_spec.specs.Constraint.{Profile, condition}
 use Rattle.vipr_spec.specs.Steps.{earlier, live, index}
-use Rattle.vipr_spec.specs.Certificate.{Certificate, Derivation, constraint_at, reason_at, last_at, is_assumption, lasts_to, is_live, count}
+use Rattle.vipr_spec.specs.Certificate.{Certificate, Derivation, last_at, is_assumption, lasts_to, is_live, count}
 use Rattle.vipr_spec.proofs.Laws.{reason_given, constraints_listed, lasts_listed, rests_given}
 use Rattle.vipr_linear.specs.Constraint.{constraint_of, condition_of}
 use Rattle.vipr_linear.specs.declared.constraint.Constraint.{Constraint}
 use Rattle.vipr_cert.specs.declared.items.Named.{Named}
 use Rattle.vipr_cert.specs.Items.{named_of}
-use Rattle.vipr_rules.specs.declared.rows.Entry.{Entry}
+use Rattle.vipr_table.specs.declared.rows.Entry.{Entry}
 use Rattle.vipr_rules.specs.declared.context.Known.TheVariants.{Given, Derived}
-use Rattle.vipr_rules.specs.Table.{Table, entry_at}
-use Rattle.vipr_rules.specs.History.{is_derived, IsTableOf}
+use Rattle.vipr_table.specs.Table.{Table, entry_at}
+use Rattle.vipr_table.specs.History.{is_derived, IsTableOf}
 use Rattle.vipr_rules.specs.declared.error.RuleError.TheVariants.{NotEarlier, Dropped}
 use Rattle.vipr_rules.specs.Context.{IsKnownAs}
 use Rattle.vipr_rules.specs.Apply.{index_tests, PassesTestsIn, StopsIn}
 use Rattle.vipr_rules.proofs.StepLemmas.{stops_second, passes_both, passes_one, stops_one}
-use Rattle.vipr_rules.proofs.HistoryLemmas.{IsTableOf-answers}
+use Rattle.vipr_table.proofs.Laws.{IsTableOf-answers}
 
 -- ---- the constraints of the problem
 none_front : {X Y : Type 0} (xs : List X) (ys : List (Option Y)) (i : ℕ) → i < length xs → slice_index_or (map (λ a. None) xs ++ ys) i None ≡ None

@@ -10,7 +10,7 @@ use Rattle.vipr_linear.specs.Constraint.{condition_of}
 use Rattle.vipr_linear.specs.declared.constraint.Constraint.{Constraint}
 use Rattle.vipr_rules.specs.declared.error.RuleError.{RuleError}
 use Rattle.vipr_rules.specs.declared.error.RuleError.TheVariants.{NoSolution}
-use Rattle.vipr_rules.specs.Apply.{StopsIn, PassesTestsIn, IsNotDominated, shown_by}
+use Rattle.vipr_rules.specs.Apply.{StopsIn, PassesTestsIn, IsNotDominated}
 
 none_below : (ss : List (Named Row)) → ss ≡ [] → ¬ (0 < length ss)
 none_below ss e h = let n = ap length e in omega (arith, n)

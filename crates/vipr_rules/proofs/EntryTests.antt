@@ -1,5 +1,5 @@
 -- The tests of a sum's entries, one entry after another.
-use Rattle.std.proofs.Common.{◌≡◌, ℕ, zero, suc, ◌+◌, ◌-◌, ◌<◌, ◌≤◌, Bool, true, false, List, [], ◌∷◌, ◌++◌, length, length-drop, take, drop, get_or, Option, Some, None, refl, sym, ap, ◌∙◌, subst, append_assoc, inl, inr, arith}
+use Rattle.std.proofs.Common.{◌≡◌, ℕ, zero, suc, ◌+◌, ◌-◌, ◌<◌, ◌≤◌, true, false, List, [], ◌∷◌, ◌++◌, length, length-drop, take, drop, get_or, Option, Some, None, refl, sym, ap, ◌∙◌, subst, append_assoc, inl, inr, arith}
 use Rattle.std.specs.List.{flat_map}
 use Rattle.std.proofs.Math.Seq.{take-suc, take-length}
 use Rattle.std.proofs.lemmas.List.{append-nil, take-append-drop, length-take-le}
@@ -13,7 +13,6 @@ use Rattle.std.specs.Prelude.{if◌then◌else◌}
 use Rattle.vipr_spec.specs.Reading.{is_nonzero}
 use Rattle.vipr_spec.specs.Steps.{PassesStep, StepTest, earlier, live, suitable, fitting, FirstFailing, reference_tests, entry_tests, position}
 use Rattle.vipr_spec.proofs.Laws.{failing_first, failing_second, failing_parts}
-use Rattle.std.proofs.lemmas.List.Concat.{flat_map-cons}
 
 pub entry_tests-append : (before xs ys : List (ℕ × ℚ)) → entry_tests before (xs ++ ys) ≡ entry_tests before xs ++ entry_tests (before ++ xs) ys
 unfolding entry_tests

@@ -1,23 +1,13 @@
-mod RisingLemmas
-mod SetLemmas
-mod ExpiryLemmas
-mod TableLemmas
-mod ExpiryOrderLemmas
-mod KeepAllLemmas
-mod CountLemmas
-mod HistoryLemmas
 mod EntryTests
 mod UnionLemmas
-mod UnionsLemmas
+mod GivenLemmas
 mod ContextLemmas
 mod SumLemmas
 mod StepLemmas
 mod BranchLemmas
 mod SoundLemmas
 mod RoundLemmas
-mod BelowLemmas
 mod CutoffLemmas
 mod ClaimLemmas
 mod SolutionLemmas
 mod ColumnLemmas
-pub mod Laws

@@ -1,5 +1,5 @@
 -- What the parts of a derivation's tests say of all of them, and what is kept of it.
-use Rattle.std.proofs.Common.{◌≡◌, ℕ, ◌<◌, ◌≤◌, length, IsTrue, true, false, ◌||◌, nat_eq, ap₂, arith, List, [], ◌∷◌, ◌++◌, map, Some, None, refl, sym, ◌∙◌, ap, subst, inl, inr}
+use Rattle.std.proofs.Common.{◌≡◌, ℕ, ◌<◌, ◌≤◌, length, IsTrue, true, false, ◌||◌, nat_eq, ap₂, arith, List, [], ◌∷◌, ◌++◌, Some, None, refl, sym, ◌∙◌, ap, subst, inl, inr}
 use Rattle.std.specs.Prelude.{◌↔◌, ◌⊎◌, Result, Ok, Err, MatchResult}
 use Rattle.std.proofs.lemmas.Bool.{cases_lt}
 use Rattle.std.specs.FinSet.{FinSet, contains, empty, insert, contains-insert, contains-empty}
@@ -15,8 +15,8 @@ use Rattle.vipr_spec.specs.Soundness.{IsSound}
 use Rattle.vipr_linear.specs.Constraint.{condition_of}
 use Rattle.vipr_linear.specs.declared.constraint.Constraint.{Constraint}
 use Rattle.vipr_rules.specs.declared.error.RuleError.{RuleError}
-use Rattle.vipr_rules.specs.declared.rows.Entry.{Entry}
-use Rattle.vipr_rules.specs.History.{IsEntryOf}
+use Rattle.vipr_table.specs.declared.rows.Entry.{Entry}
+use Rattle.vipr_table.specs.History.{IsEntryOf}
 use Rattle.vipr_rules.specs.Context.{IsSetByReason}
 use Rattle.vipr_rules.specs.declared.error.RuleError.TheVariants.{Memory}
 use Rattle.vipr_rules.specs.Apply.{StopsIn, PassesTestsIn, Tells, KeepsSound, IsRefusalIn, IsNotDominated, shown_by, free_tests}

@@ -7,8 +7,6 @@ use Rattle.vipr_spec.proofs.Laws.{add-zero_ℚ, zero-mul_ℚ, joined_sense, turn
 use Rattle.std.proofs.lemmas.List.{map-append}
 use Rattle.vipr_spec.specs.Certificate.{Certificate, constraint_at, entries}
 use Rattle.vipr_linear.specs.Accumulator.{Accumulator, nothing_added, Holds, held_condition}
-use Rattle.vipr_linear.specs.Constraint.{sense_of, condition_of}
-use Rattle.vipr_linear.specs.declared.constraint.Constraint.{Constraint}
 use Rattle.vipr_linear.proofs.Laws.{fits_told, start_held, held_sum}
 
 nothing : (s x : ℚ) → s +ℚ zero_ℚ *ℚ x ≡ s

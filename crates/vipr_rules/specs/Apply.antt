@@ -21,8 +21,8 @@ use Rattle.vipr_rules.specs.declared.error.RuleError.TheVariants.{NotAssumption,
 use Rattle.vipr_rules.specs.declared.error.RuleError.TheVariants.{Overflow, NotRoundable}
 use Rattle.vipr_rules.specs.declared.error.RuleError.TheVariants.{NotSplit, NotDominated}
 use Rattle.vipr_rules.specs.declared.error.RuleError.TheVariants.{NoSolution, Memory}
-use Rattle.vipr_rules.specs.declared.rows.Entry.{Entry}
-use Rattle.vipr_rules.specs.History.{IsEntryOf}
+use Rattle.vipr_table.specs.declared.rows.Entry.{Entry}
+use Rattle.vipr_table.specs.History.{IsEntryOf}
 use Rattle.vipr_rules.specs.Context.{IsSetByReason}
 
 -- ---- what an error says

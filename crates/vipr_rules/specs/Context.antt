@@ -1,5 +1,5 @@
 -- What a derivation is tested against, and the constraints before it
-use Rattle.std.specs.Prelude.{◌≡◌, ◌≢◌, ◌⊎◌, ◌↔◌, ℕ, Bool, false, List, Some, IsTrue, option_copied}
+use Rattle.std.specs.Prelude.{◌≡◌, ◌≢◌, ◌↔◌, ℕ, Bool, false, List, Some, IsTrue, option_copied}
 use Rattle.std.specs.FinSet as set
 use Rattle.std.specs.Ordering.{nat_cmp}
 use Rattle.vipr_spec.specs.Fraction.{ℚ}
@@ -14,8 +14,8 @@ use Rattle.vipr_rules.specs.declared.context.Context.{Context}
 use Rattle.vipr_rules.specs.declared.context.Known.{Known}
 use Rattle.vipr_rules.specs.declared.context.Known.TheVariants.{Given, Derived}
 use Rattle.vipr_rules.specs.Profile.{profile_of}
-use Rattle.vipr_rules.specs.Table.{Table}
-use Rattle.vipr_rules.specs.History.{IsTableOf}
+use Rattle.vipr_table.specs.Table.{Table}
+use Rattle.vipr_table.specs.History.{IsTableOf}
 
 -- the profile is P; the problem, the best objective value and the table are those of the
 -- certificate so far

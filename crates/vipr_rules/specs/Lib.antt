@@ -1,12 +1,3 @@
-pub mod Rising
-pub mod Merging
-pub mod Held
-pub mod Unions
-pub mod Table
-pub mod TableCode
-pub mod Expiry
-pub mod KeepAll
-pub mod History
 pub mod Profile
 pub mod Context
 pub mod Soundness

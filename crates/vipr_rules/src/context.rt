@@ -6,16 +6,16 @@ ghost use Rattle.vipr_spec.specs.Constraint.{Profile as ProfileMeant, at, NamesB
 ghost use Rattle.vipr_spec.specs.Certificate.{Certificate, Derivation, variables};
 ghost use Rattle.vipr_spec.specs.Steps.{earlier};
 ghost use Rattle.vipr_linear.specs.Constraint.{condition_of};
-ghost use Rattle.vipr_rules.specs.Table.{DerivedBelow};
-ghost use Rattle.vipr_rules.specs.Unions.{gathered};
+ghost use Rattle.vipr_table.specs.Table.{DerivedBelow};
+ghost use Rattle.vipr_table.specs.Unions.{gathered};
 ghost use Rattle.vipr_rules.specs.Context.{IsContextOf, IsKnownAs, row_found, set_of, is_assumed};
 ghost use Rattle.vipr_rules.specs.Soundness.{IsSoundUnder, IsStatedAt};
 ghost use Rattle.vipr_rules.specs.Apply.{index_tests, PassesTestsIn, StopsIn};
 
-use crate::assumptions::{Assumptions, Union};
+use vipr_table::{Assumptions, Union};
 use crate::error::RuleError;
 use crate::profile::Profile;
-use crate::rows::{Entry, Rows};
+use vipr_table::{Entry, Rows};
 use std::alloc::{AllocError, Global};
 use vipr_cert::Problem;
 use vipr_frac::Frac;

@@ -9,12 +9,12 @@ ghost use Rattle.vipr_rules.specs.Context.{IsContextOf};
 ghost use Rattle.vipr_rules.specs.Soundness.{IsSoundUnder};
 ghost use Rattle.vipr_rules.specs.Apply.{IsRuledBy};
 
-use crate::assumptions::Assumptions;
+use vipr_table::Assumptions;
 use crate::claim::objective_with;
 use crate::context::Context;
 use crate::domination::check_domination;
 use crate::error::RuleError;
-use crate::rows::Rows;
+use vipr_table::Rows;
 use std::alloc::{AllocError, Global};
 use vipr_cert::{Goal, Problem};
 use vipr_frac::Frac;

@@ -1,8 +1,6 @@
-//! The rules of derivations: the test of one derivation, the assumptions that a derived constraint
-//! rests on, and the table of the derived constraints that later derivations may still refer to.
+//! The rules of derivations: the test of one derivation, of a listed solution, and of a claim.
 #![tactic(auto)]
 
-mod assumptions;
 mod branches;
 mod claim;
 mod columns;
@@ -11,16 +9,14 @@ mod cutoff;
 mod domination;
 mod error;
 mod profile;
-mod rows;
 mod rules;
 mod solution;
 mod sum;
 
-pub use assumptions::Assumptions;
 pub use claim::{Target, better, claimed_primal, meets_primal};
 pub use columns::Columns;
 pub use error::RuleError;
 pub use profile::Profile;
-pub use rows::{Entry, KeepAll, LiveOnly, Rows, names_stay_below, table_holds_what_is_live};
 pub use rules::{apply, apply_in, apply_taking};
 pub use solution::{SolutionError, test_solution, test_solution_by_columns};
+pub use vipr_table::{Assumptions, Entry, KeepAll, LiveOnly, Rows};

@@ -9,8 +9,8 @@ ghost use Rattle.vipr_spec.specs.Steps.{RefersBack};
 ghost use Rattle.vipr_spec.specs.Soundness.{IsBestValue};
 ghost use Rattle.vipr_linear.specs.Constraint.{condition_of};
 ghost use Rattle.vipr_cert.specs.Items.{derivation_of, reason_of};
-ghost use Rattle.vipr_rules.specs.Table.{DerivedBelow};
-ghost use Rattle.vipr_rules.specs.History.{IsTableOf};
+ghost use Rattle.vipr_table.specs.Table.{DerivedBelow};
+ghost use Rattle.vipr_table.specs.History.{IsTableOf};
 ghost use Rattle.vipr_rules.specs.Profile.{profile_of};
 ghost use Rattle.vipr_rules.specs.Context.{IsContextOf};
 ghost use Rattle.vipr_rules.specs.Soundness.{HasSoundRows, IsSoundRow, IsSoundAt, IsTrueUnder};
@@ -18,13 +18,13 @@ ghost use Rattle.vipr_rules.specs.Apply.{Judges, JudgesIn, KeepsSound, IsRuledBy
 ghost use Rattle.vipr_rules.specs.Apply.{PassesTests, PassesTestsIn, free_tests};
 ghost use Rattle.vipr_rules.specs.declared.error.RuleError.TheVariants.{Memory};
 
-use crate::assumptions::Assumptions;
+use vipr_table::Assumptions;
 use crate::branches::{Branch, join_branches};
 use crate::context::Context;
 use crate::cutoff::cut_off;
 use crate::error::RuleError;
 use crate::profile::Profile;
-use crate::rows::{Entry, Rows};
+use vipr_table::{Entry, Rows};
 use crate::sum::{combine, combine_rounded};
 use std::alloc::Global;
 use std::mem::replace;

@@ -12,18 +12,18 @@ ghost use Rattle.vipr_spec.specs.Steps.{reference_tests, sum_tests, roundable, b
 ghost use Rattle.vipr_linear.specs.Accumulator.{Holds, held_condition};
 ghost use Rattle.vipr_linear.specs.Constraint.{condition_of};
 ghost use Rattle.vipr_linear.specs.declared.constraint.Constraint.{Constraint as LinearConstraint};
-ghost use Rattle.vipr_rules.specs.Table.{DerivedBelow};
+ghost use Rattle.vipr_table.specs.Table.{DerivedBelow};
 ghost use Rattle.vipr_rules.specs.Context.{IsContextOf, IsKnownAs, IsSetOfAll, row_found, set_of};
 ghost use Rattle.vipr_rules.specs.Soundness.{IsSoundUnder};
 ghost use Rattle.vipr_rules.specs.Apply.{PassesTestsIn, StopsIn, SumStops, IsRuledBy};
 ghost use Rattle.vipr_rules.specs.Apply.{IsNotDominated};
 ghost use Rattle.vipr_rules.specs.declared.error.RuleError.TheVariants.{Memory};
 
-use crate::assumptions::{Assumptions, Union};
+use vipr_table::{Assumptions, Union};
 use crate::context::{Context, Known};
 use crate::domination::check_domination;
 use crate::error::{RuleError, not_roundable};
-use crate::rows::Rows;
+use vipr_table::Rows;
 use std::alloc::Global;
 use vipr_frac::Frac;
 use vipr_linear::{CombError, Combination, Constraint, Ints, NotRoundable, Rounded};

@@ -1,9 +1,7 @@
-use Rattle.std.proofs.Common.{sym, ap, subst, ◌∙◌, refl, inl, inr}
+use Rattle.std.proofs.Common.{ap, refl, inl, inr}
 use Rattle.std.proofs.lemmas.Result.{err_from_is_err_and}
-use Rattle.vipr_spec.specs.Constraint.{IsTrueAt}
-use Rattle.vipr_spec.specs.Certificate.{variables}
 use Rattle.vipr_linear.specs.Constraint.{condition_of}
-use Rattle.vipr_cert.specs.Items.{derivation_of, reason_of}
+use Rattle.vipr_cert.specs.Items.{derivation_of}
 use Rattle.vipr_rules.specs.Profile.{profile_of}
 use Rattle.vipr_rules.proofs.StepLemmas.{kept_entry, keeps_sound, refusal}
 use Rattle.vipr_rules.proofs.rules.apply_taking.Goals as goal

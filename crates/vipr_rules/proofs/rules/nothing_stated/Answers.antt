@@ -1,4 +1,4 @@
-use Rattle.std.proofs.Common.{◌≡◌, ℕ, nat_eq, [], map, sym, subst}
+use Rattle.std.proofs.Common.{ℕ, nat_eq, [], map, sym, subst}
 use Rattle.std.specs.List.{IsDistinct}
 use Rattle.vipr_spec.specs.Fraction.{ℚ}
 use Rattle.vipr_rules.proofs.rules.nothing_stated.Goals as goal

@@ -1,4 +1,4 @@
-use Rattle.std.proofs.Common.{◌≡◌, ℕ, ◌<◌, Some, None, inl, inr, ◌∙◌, refl, sym, ap, subst}
+use Rattle.std.proofs.Common.{Some, None, inl, inr, ◌∙◌, refl, sym, ap, subst}
 use Rattle.std.proofs.lemmas.Result.{err_from_is_err_and}
 use Rattle.vipr_spec.specs.Constraint.{at, value, ValueFits}
 use Rattle.vipr_spec.specs.Certificate.{variables}

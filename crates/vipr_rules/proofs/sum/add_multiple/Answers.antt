@@ -1,4 +1,4 @@
-use Rattle.std.proofs.Common.{Err, ◌≡◌, false, sym, ap, subst, ◌∙◌, refl, inl, inr, ◌++◌, ◌∷◌, [], length, IsSome, IsNone}
+use Rattle.std.proofs.Common.{Err, sym, ap, subst, ◌∙◌, refl, inl, inr, ◌++◌, ◌∷◌, []}
 use Rattle.vipr_spec.specs.Constraint.{at, Entry, NamesBelow}
 use Rattle.vipr_linear.specs.Accumulator.{Holds}
 use Rattle.vipr_linear.specs.Constraint.{condition_of}

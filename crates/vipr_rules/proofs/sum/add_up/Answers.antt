@@ -17,7 +17,7 @@ use Rattle.vipr_rules.proofs.EntryTests.{one_more, take_all, entry_passes, sum_s
 use Rattle.vipr_rules.proofs.StepLemmas.{stops_first, stops_second, passes_both}
 use Rattle.vipr_rules.proofs.SumLemmas.{entries_more, unused_held, IsTrueSum, nothing_true, more_true, sum_is_true}
 use Rattle.vipr_rules.proofs.UnionLemmas.{IsSetOfAll-none, without_it, with_it}
-use Rattle.vipr_rules.specs.Unions.{gathered}
+use Rattle.vipr_table.specs.Unions.{gathered}
 use Rattle.vipr_rules.proofs.SoundLemmas.{AreTrue, true_left, true_right}
 use Rattle.vipr_rules.proofs.sum.add_up.Goals as goal
 

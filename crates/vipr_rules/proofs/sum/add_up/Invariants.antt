@@ -7,7 +7,7 @@ use Rattle.vipr_linear.specs.Accumulator.{Holds}
 use Rattle.vipr_rules.specs.Context.{IsContextOf, IsSetOfAll}
 use Rattle.vipr_rules.specs.Soundness.{IsSoundAt}
 use Rattle.vipr_rules.specs.Apply.{PassesTestsIn}
-use Rattle.vipr_rules.specs.Unions.{gathered}
+use Rattle.vipr_table.specs.Unions.{gathered}
 use Rattle.vipr_rules.proofs.SoundLemmas.{AreTrue}
 use Rattle.vipr_rules.proofs.SumLemmas.{IsTrueSum}
 use Rattle.vipr_rules.proofs.sum.add_up.Given as goal

@@ -1,4 +1,4 @@
-use Rattle.std.proofs.Common.{◌≡◌, ◌∙◌, ap}
+use Rattle.std.proofs.Common.{◌∙◌, ap}
 use Rattle.vipr_linear.specs.Accumulator.{held_condition}
 use Rattle.vipr_rules.proofs.StepLemmas.{laid_out_told}
 use Rattle.vipr_rules.proofs.sum.check_sum.Goals as goal

@@ -4,7 +4,7 @@ use Rattle.vipr_spec.specs.Fraction.{zero_ℚ}
 use Rattle.vipr_spec.specs.Certificate.{variables}
 use Rattle.vipr_linear.specs.Constraint.{constraint_of}
 use Rattle.vipr_cert.specs.Items.{named_of}
-use Rattle.vipr_rules.specs.Table.{empty_table}
+use Rattle.vipr_table.specs.Table.{empty_table}
 use Rattle.vipr_check.proofs.ProgressLemmas.{solutions_start, ready_start}
 use Rattle.vipr_rules.specs.Profile.{profile_of}
 use Rattle.vipr_check.proofs.progress.Progress.new.Goals as goal

@@ -6,7 +6,7 @@ use Rattle.vipr_spec.specs.Certificate.{Problem, variables}
 use Rattle.vipr_spec.specs.Steps.{earlier, live}
 use Rattle.vipr_linear.specs.declared.constraint.Constraint.{Constraint}
 use Rattle.vipr_cert.specs.declared.items.Named.{Named}
-use Rattle.vipr_rules.proofs.BelowLemmas.{given_below, given_true}
+use Rattle.vipr_rules.proofs.GivenLemmas.{given_below, given_true}
 use Rattle.vipr_rules.proofs.ContextLemmas.{given_is_live, given_is_known, derived_is_live, derived_is_known, dropped_is_not, live_passes, live_stops}
 use Rattle.vipr_rules.proofs.StepLemmas.{stops_first}
 use Rattle.vipr_rules.proofs.context.Context.find.Goals as goal

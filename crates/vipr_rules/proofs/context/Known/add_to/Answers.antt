@@ -1,8 +1,8 @@
 use Rattle.std.proofs.Common.{sym, ap, ◌∙◌}
 use Rattle.std.specs.FinSet.{union}
 use Rattle.vipr_rules.specs.Context.{set_of}
-use Rattle.vipr_rules.specs.Unions.{gathered}
-use Rattle.vipr_rules.proofs.SetLemmas.{union_none}
+use Rattle.vipr_table.specs.Unions.{gathered}
+use Rattle.vipr_table.proofs.Laws.{union_none}
 use Rattle.vipr_rules.proofs.context.Known.add_to.Goals as goal
 
 pub returns-in-Given : goal.returns-in-Given

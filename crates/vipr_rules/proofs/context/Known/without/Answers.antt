@@ -1,7 +1,7 @@
 use Rattle.std.proofs.Common.{sym, ap, ◌∙◌}
 use Rattle.std.specs.FinSet.{remove}
 use Rattle.vipr_rules.specs.Context.{set_of}
-use Rattle.vipr_rules.proofs.SetLemmas.{remove_none}
+use Rattle.vipr_table.proofs.Laws.{remove_none}
 use Rattle.vipr_rules.proofs.context.Known.without.Goals as goal
 
 pub returns-in-Given : goal.returns-in-Given

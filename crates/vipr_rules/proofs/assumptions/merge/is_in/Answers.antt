@@ -1,7 +1,0 @@
-use Rattle.std.proofs.Common.{◌∙◌}
-use Rattle.std.specs.FinSet.{contains-from_list_nat}
-use Rattle.vipr_rules.proofs.SetLemmas.{found}
-use Rattle.vipr_rules.proofs.assumptions.merge.is_in.Goals as goal
-
-pub returns : goal.returns
-returns c = c.is_ok.ensures.value ∙ found c.args.xs.now c.args.index _ c.requires c.binary_search.ensures.position ∙ contains-from_list_nat c.args.xs.now c.args.index

@@ -1,9 +1,0 @@
-use Rattle.std.proofs.Common.{◌≡◌, length}
-use Rattle.vipr_rules.specs.Unions.{gathered}
-use Rattle.vipr_rules.proofs.assumptions.union.Union.settle.Given as goal
-
-abbrev pub invariant-loop-top : goal.invariant-loop-top
-invariant-loop-top l = gathered l.self ≡ gathered l.initial.self
-
-abbrev pub decreases-loop-top : goal.decreases-loop-top
-decreases-loop-top l = length l.self.below.items

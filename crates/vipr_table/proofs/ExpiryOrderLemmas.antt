@@ -1,0 +1,157 @@
+-- What keeps a table and the order of its expiries together, and what the order says of the live part.
+use Rattle.std.proofs.Common.{◌≡◌, ℕ, ◌+◌, ◌<◌, ◌≤◌, true, false, cond, nat_eq, nat_le, Option, Some, None, List, [], ◌∷◌, All, Contains, IsPermutation, refl, sym, ap, ◌∙◌, subst, arith, ◌⊎◌, inl, inr}
+use Rattle.std.proofs.lemmas.Bool.Decides.{nat_tests}
+use Rattle.std.proofs.lemmas.List.Elements.{All-cons, All-head, All-tail, All-weaker, All-contains, Contains-append_right, Contains-append_cases}
+use Rattle.std.proofs.lemmas.List.Sorted.{All-permutation, Contains-permutation}
+use Rattle.std.specs.Ordering.{nat_cmp}
+use Rattle.std.specs.FinMap.{FinMap, get, insert, remove, empty, get-empty}
+use Rattle.vipr_spec.specs.Certificate.{lasts_to}
+use Rattle.vipr_table.specs.Expiry.{Notes}
+use Rattle.vipr_table.specs.declared.rows.Entry.{Entry}
+use Rattle.vipr_table.specs.Table.{expiry, if_live, live_part}
+use Rattle.vipr_table.specs.Expiry.{IsTied}
+use Rattle.vipr_table.proofs.TableLemmas.{get-insert_at, get-remove_at, get-live_part, same_numbers, if_live-true, if_live-false}
+
+ahead_cases : (x y : ℕ × ℕ) (ds : List (ℕ × ℕ)) → Contains (x ∷ ds) y → (y ≡ x) ⊎ Contains ds y
+ahead_cases x y ds h =
+    elim (Contains-append_cases (x ∷ []) ds y h) [
+      | inl one ↦ inl (All-contains (λ z. z ≡ x) (x ∷ []) y (All-cons (λ z. z ≡ x) x [] refl (λ k d lt. absurd (omega arith))) one)
+      | inr rest ↦ inr rest
+    ]
+
+eq_cases : (i j : ℕ) → ((i ≡ j) × (nat_eq i j ≡ true)) ⊎ ((i ≡ j → ⊥) × (nat_eq i j ≡ false))
+eq_cases i j = grind (arith, nat_tests)
+
+module _ (m : FinMap nat_cmp Entry) (i : ℕ) where
+  -- what is left after a removal was there before, at another index
+  left_over : (j : ℕ) (e : Entry) → get (remove m i) j ≡ Some e → (get m j ≡ Some e) × (j ≡ i → ⊥)
+  left_over j e h =
+      elim (eq_cases j i) [
+        | inl here ↦ absurd (let gone = get-remove_at m i j ∙ ap (λ b. cond b None (get m j)) here.1 in cc (gone, h))
+        | inr apart ↦ (sym (get-remove_at m i j ∙ ap (λ b. cond b None (get m j)) apart.1) ∙ h, apart.0)
+      ]
+
+module _ (m : FinMap nat_cmp Entry) (next : ℕ) (new : Entry) where
+  put_cases : (j : ℕ) (e : Entry) → get (insert m next new) j ≡ Some e → ((j ≡ next) × (e ≡ new)) ⊎ ((j ≡ next → ⊥) × (get m j ≡ Some e))
+  put_cases j e h =
+      elim (eq_cases j next) [
+        | inl here ↦ inl (here.0, let at_next = get-insert_at m next new j ∙ ap (λ b. cond b (Some new) (get m j)) here.1 in cc (at_next, h))
+        | inr apart ↦ inr (apart.0, sym (get-insert_at m next new j ∙ ap (λ b. cond b (Some new) (get m j)) apart.1) ∙ h)
+      ]
+
+-- the pair is taken out of the order, and its index out of the map
+pub IsTied-taken : (next : ℕ) (m : FinMap nat_cmp Entry) (ds es : List (ℕ × ℕ)) (last i : ℕ)
+    → IsTied next m ds → IsPermutation ds ((last, i) ∷ es) → IsTied next (remove m i) es
+IsTied-taken next m ds es last i t p = record {
+  below = All-tail (λ d. d.1 < next) (last, i) es (All-permutation (λ d. d.1 < next) ds _ p t.below);
+  right = All-weaker (λ d. (e : Entry) → get m d.1 ≡ Some e → expiry e ≡ Some d.0) (λ d. (e : Entry) → get (remove m i) d.1 ≡ Some e → expiry e ≡ Some d.0)
+      (λ d h e is. h e (left_over m i d.1 e is).0) es
+      (All-tail (λ d. (e : Entry) → get m d.1 ≡ Some e → expiry e ≡ Some d.0) (last, i) es (All-permutation (λ d. (e : Entry) → get m d.1 ≡ Some e → expiry e ≡ Some d.0) ds _ p t.right));
+  listed = λ j l e is expires.
+      let was = left_over m i j e is in
+      elim (ahead_cases (last, i) (l, j) es (Contains-permutation ds _ (l, j) p (t.listed j l e was.0 expires))) [
+        | inl here ↦ absurd (was.1 (ap (λ d. d.1) here))
+        | inr rest ↦ rest
+      ];
+}
+
+-- an entry that is taken out when it is due was not live
+pub live_part-taken : (next now : ℕ) (m : FinMap nat_cmp Entry) (ds es : List (ℕ × ℕ)) (last i : ℕ)
+    → IsTied next m ds → IsPermutation ds ((last, i) ∷ es) → last ≤ now → live_part (now + 1) (remove m i) ≡ live_part (now + 1) m
+live_part-taken next now m ds es last i t p due = same_numbers _ _ (λ q. get-live_part (now + 1) (remove m i) q ∙ at q ∙ sym (get-live_part (now + 1) m q))
+  where
+    expired : (e : Entry) → get m i ≡ Some e → if_live (now + 1) (Some e) ≡ None
+    expired e is =
+        let expires = All-head (λ d. (e : Entry) → get m d.1 ≡ Some e → expiry e ≡ Some d.0) (last, i) es
+        (All-permutation (λ d. (e : Entry) → get m d.1 ≡ Some e → expiry e ≡ Some d.0) ds _ p t.right) e is in
+        if_live-false (now + 1) e (ap (lasts_to (now + 1)) expires ∙ past last due)
+      where
+        past : (last : ℕ) → last ≤ now → nat_le (now + 1) last ≡ false
+        past last due = grind (arith, nat_tests)
+
+    gone : (o : Option Entry) → get m i ≡ o → None ≡ if_live (now + 1) o
+    gone None is = refl
+    gone (Some e) is = sym (expired e is)
+
+    at : (q : ℕ) → if_live (now + 1) (get (remove m i) q) ≡ if_live (now + 1) (get m q)
+    at q =
+        elim (eq_cases q i) [
+          | inl here ↦ ap (if_live (now + 1)) (get-remove_at m i q ∙ ap (λ b. cond b None (get m q)) here.1) ∙ gone (get m i) refl ∙ ap (λ j. if_live (now + 1) (get m j)) (sym here.0)
+          | inr apart ↦ ap (if_live (now + 1)) (get-remove_at m i q ∙ ap (λ b. cond b None (get m q)) apart.1)
+        ]
+
+-- where nothing is due, all is live
+pub live_part-none_due : (next now : ℕ) (m : FinMap nat_cmp Entry) (ds : List (ℕ × ℕ))
+    → IsTied next m ds → All (λ (d : ℕ × ℕ). now < d.0) ds → live_part (now + 1) m ≡ m
+live_part-none_due next now m ds t none = same_numbers _ _ (λ q. get-live_part (now + 1) m q ∙ at q (get m q) refl)
+  where
+    ahead : (last : ℕ) → now < last → nat_le (now + 1) last ≡ true
+    ahead last h = grind (arith, nat_tests)
+
+    stays : (q : ℕ) (e : Entry) → get m q ≡ Some e → (o : Option ℕ) → expiry e ≡ o → lasts_to (now + 1) o ≡ true
+    stays q e is None expires = refl
+    stays q e is (Some last) expires = ahead last (All-contains (λ d. now < d.0) ds (last, q) none (t.listed q last e is expires))
+
+    at : (q : ℕ) (o : Option Entry) → get m q ≡ o → if_live (now + 1) o ≡ o
+    at q None is = refl
+    at q (Some e) is = if_live-true (now + 1) e (stays q e is (expiry e) refl)
+
+still_right : (next : ℕ) (m : FinMap nat_cmp Entry) (ds : List (ℕ × ℕ)) (e : Entry)
+    → IsTied next m ds → All (λ (d : ℕ × ℕ). (f : Entry) → get (insert m next e) d.1 ≡ Some f → expiry f ≡ Some d.0) ds
+still_right next m ds e t k d lt f is =
+    elim (put_cases m next e _ f is) [
+      | inl new ↦ absurd (let b = t.below k d lt in omega (arith, b, new.0))
+      | inr old ↦ t.right k d lt f old.1
+    ]
+
+first : (x : ℕ × ℕ) (ds : List (ℕ × ℕ)) → Contains (x ∷ ds) x
+first x ds = (0, omega arith, refl)
+
+-- an entry that never expires
+IsTied-kept : (next : ℕ) (m : FinMap nat_cmp Entry) (ds : List (ℕ × ℕ)) (e : Entry)
+    → IsTied next m ds → expiry e ≡ None → IsTied (next + 1) (insert m next e) ds
+IsTied-kept next m ds e t never = record {
+  below = All-weaker (λ d. d.1 < next) (λ d. d.1 < next + 1) (λ d h. omega arith) ds t.below;
+  right = still_right next m ds e t;
+  listed = λ j l f is expires.
+      elim (put_cases m next e j f is) [
+        | inl new ↦ absurd (cc (never, expires, new.1))
+        | inr old ↦ t.listed j l f old.1 expires
+      ];
+}
+
+-- an entry that expires
+IsTied-added : (next : ℕ) (m : FinMap nat_cmp Entry) (ds es : List (ℕ × ℕ)) (e : Entry) (last : ℕ)
+    → IsTied next m ds → expiry e ≡ Some last → IsPermutation ((last, next) ∷ ds) es → IsTied (next + 1) (insert m next e) es
+IsTied-added next m ds es e last t expires p = record {
+  below = All-permutation (λ d. d.1 < next + 1) ((last, next) ∷ ds) es p
+      (All-cons (λ d. d.1 < next + 1) (last, next) ds (omega arith) (All-weaker (λ d. d.1 < next) (λ d. d.1 < next + 1) (λ d h. omega arith) ds t.below));
+  right = All-permutation (λ d. (f : Entry) → get (insert m next e) d.1 ≡ Some f → expiry f ≡ Some d.0) ((last, next) ∷ ds) es p
+      (All-cons (λ d. (f : Entry) → get (insert m next e) d.1 ≡ Some f → expiry f ≡ Some d.0) (last, next) ds
+      (λ f is. elim (put_cases m next e next f is) [ inl new ↦ ap expiry new.1 ∙ expires | inr old ↦ absurd (old.0 refl) ])
+      (still_right next m ds e t));
+  listed = λ j l f is says.
+      Contains-permutation ((last, next) ∷ ds) es (l, j) p
+      (elim (put_cases m next e j f is) [
+        | inl new ↦
+            let same : l ≡ last = cc (says, expires, new.1) in
+            subst (Contains ((last, next) ∷ ds)) (λ k. (sym same k, sym new.0 k)) (first (last, next) ds)
+        | inr old ↦ Contains-append_right ((last, next) ∷ []) ds (l, j) (t.listed j l f old.1 says)
+      ]);
+}
+
+pub IsTied-put : (next : ℕ) (m : FinMap nat_cmp Entry) (ds es : List (ℕ × ℕ)) (e : Entry)
+    → IsTied next m ds → Notes (expiry e) next ds es → IsTied (next + 1) (insert m next e) es
+IsTied-put next m ds es e t notes = by (expiry e) refl notes
+  where
+    by : (o : Option ℕ) → expiry e ≡ o → Notes o next ds es → IsTied (next + 1) (insert m next e) es
+    by None never n = subst (IsTied (next + 1) (insert m next e)) (sym n) (IsTied-kept next m ds e t never)
+    by (Some last) expires n = IsTied-added next m ds es e last t expires n
+
+-- nothing is in the table yet
+pub IsTied-empty : (next : ℕ) → IsTied next empty []
+IsTied-empty next = record {
+  below = λ k d lt. absurd (omega arith);
+  right = λ k d lt. absurd (omega arith);
+  listed = λ i last e is. absurd (let none = get-empty {X = Entry} nat_cmp i in cc (none, is));
+}

@@ -1,0 +1,11 @@
+mod RisingLemmas
+mod SetLemmas
+mod ExpiryLemmas
+mod TableLemmas
+mod ExpiryOrderLemmas
+mod KeepAllLemmas
+mod CountLemmas
+mod HistoryLemmas
+mod UnionsLemmas
+mod BelowLemmas
+pub mod Laws

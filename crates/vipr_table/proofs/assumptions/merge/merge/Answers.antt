@@ -1,0 +1,20 @@
+use Rattle.std.proofs.Common.{◌<◌, ◌≤◌, ◌++◌, ◌∙◌, ◌-◌, length, take, drop, ap, arith}
+use Rattle.vipr_table.proofs.RisingLemmas.{merge_start, merge_step, merge_end, to_end}
+use Rattle.vipr_table.proofs.assumptions.merge.merge.Goals as goal
+use Rattle.vipr_table.proofs.assumptions.merge.merge.Goals.{then-loop-i-test+else-j-ys, else-loop-i-test}
+
+pub loop-i-init : goal.loop-i-init
+loop-i-init c = rw c.in_ok-all.ensures.items (merge_start _ _ c.requires.left c.requires.right)
+
+pub loop-i-preserved : goal.loop-i-preserved
+loop-i-preserved c =
+    rw c.in_ok-push.ensures.items
+    (merge_step _ _ _ _ _ c.min-low.result c.loop-i.invariant c.loop-i-test.true c.if-j-ys.true c.min-low.ensures)
+
+pub returns : goal.returns
+returns c =
+    let over : c.loop-i.i < length c.args.xs.now → length c.args.ys.now ≤ c.loop-i.j =
+    elim c.loop-i-test.branch [ then-loop-i-test+else-j-ys w ↦ λ h. w.if-j-ys.false | else-loop-i-test w ↦ λ h. absurd (let past = w.loop-i-test.false in omega (arith, past, h)) ] in
+    merge_end _ _ c.loop-i.i c.loop-i.j _ _ c.loop-i.invariant over
+    (rw (← to_end c.loop-i.i c.args.xs.now, ← to_end c.loop-i.j c.args.ys.now)
+    (c.in_ok-extend_from_slice-2.ensures.items ∙ ap (λ l. l ++ take (length c.args.ys.now - c.loop-i.j) (drop c.loop-i.j c.args.ys.now)) c.in_ok-extend_from_slice.ensures.items))

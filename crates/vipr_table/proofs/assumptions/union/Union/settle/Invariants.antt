@@ -1,0 +1,9 @@
+use Rattle.std.proofs.Common.{◌≡◌, length}
+use Rattle.vipr_table.specs.Unions.{gathered}
+use Rattle.vipr_table.proofs.assumptions.union.Union.settle.Given as goal
+
+abbrev pub invariant-loop-top : goal.invariant-loop-top
+invariant-loop-top l = gathered l.self ≡ gathered l.initial.self
+
+abbrev pub decreases-loop-top : goal.decreases-loop-top
+decreases-loop-top l = length l.self.below.items

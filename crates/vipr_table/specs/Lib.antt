@@ -1,0 +1,10 @@
+pub mod Rising
+pub mod Merging
+pub mod Held
+pub mod Unions
+pub mod Table
+pub mod TableCode
+pub mod Hashing
+pub mod Expiry
+pub mod KeepAll
+pub mod History

@@ -1,0 +1,12 @@
+-- The union of sets that were added one after another
+use Rattle.std.specs.Prelude.{List, [], ◌∷◌}
+use Rattle.std.specs.FinSet as set
+use Rattle.std.specs.Ordering.{nat_cmp}
+use Rattle.vipr_table.specs.declared.assumptions.union.Union.{Union}
+
+abbrev pub union_of_all : List (set.FinSet nat_cmp) → set.FinSet nat_cmp
+union_of_all [] = set.empty
+union_of_all (s ∷ ss) = set.union s (union_of_all ss)
+
+abbrev pub gathered : Union → set.FinSet nat_cmp
+gathered u = set.union (set.union (union_of_all u.below.items) u.last) (set.from_list u.few.items)

@@ -1,0 +1,125 @@
+//! Unions and removals on lists of numbers in rising order.
+
+ghost use Rattle.std.specs.Prelude.{◌≡◌, ◌++◌, ℕ, true, not, nat_eq, filter, IfOk, IfSome};
+ghost use Rattle.vipr_table.specs.Rising.{IsRising, IsUnion, has};
+
+use std::alloc::{AllocError, Global};
+
+/// Whether a number stands in a rising list.
+pub(crate) fn is_in(xs: &[u32], index: u32) -> bool
+    requires { IsRising xs.now }
+    ensures { result ≡ has xs.now index }
+{
+    xs.binary_search(&index).is_ok()
+}
+
+/// Whether each item of `ys`, too, stands in `xs`.
+pub(crate) fn has_all(xs: &[u32], ys: &[u32]) -> bool
+    ensures { result ≡ true → (q : ℕ) → has ys.now q ≡ true → has xs.now q ≡ true }
+{
+    if xs.len() < ys.len() || xs.last() < ys.last() {
+        return false;
+    }
+    let mut i = 0;
+    for y in ys {
+        while i < xs.len() && xs[i] < *y {
+            i += 1;
+        }
+        if i == xs.len() || xs[i] != *y {
+            return false;
+        }
+    }
+    true
+}
+
+/// The items of two rising lists, each once, in order.
+pub(crate) fn join(alloc: Global, xs: &[u32], ys: &[u32]) -> Result<Vec<u32>, AllocError>
+    requires left { IsRising xs.now }
+    requires right { IsRising ys.now }
+    ensures { IfOk result (λ v. IsUnion xs.now ys.now v.items) }
+{
+    if is_below(xs, ys) {
+        return concat(alloc, xs, ys);
+    }
+    if is_below(ys, xs) {
+        return concat(alloc, ys, xs);
+    }
+    merge(alloc, xs, ys)
+}
+
+/// The same, for lists of which one often has all items of the other.
+pub(crate) fn join_alike(alloc: Global, xs: &[u32], ys: &[u32]) -> Result<Vec<u32>, AllocError>
+    requires left { IsRising xs.now }
+    requires right { IsRising ys.now }
+    ensures { IfOk result (λ v. IsUnion xs.now ys.now v.items) }
+{
+    if has_all(xs, ys) {
+        return xs.to_vec(alloc);
+    }
+    if has_all(ys, xs) {
+        return ys.to_vec(alloc);
+    }
+    join(alloc, xs, ys)
+}
+
+/// Whether all items of one rising list come before those of another. Neither is empty then.
+pub(crate) fn is_below(xs: &[u32], ys: &[u32]) -> bool
+    requires left { IsRising xs.now }
+    requires right { IsRising ys.now }
+    ensures { result ≡ true → IsRising (xs.now ++ ys.now) }
+{
+    if xs.is_empty() || ys.is_empty() {
+        return false;
+    }
+    xs[xs.len() - 1] < ys[0]
+}
+
+/// The items of both, one list behind the other.
+pub(crate) fn concat(alloc: Global, xs: &[u32], ys: &[u32]) -> Result<Vec<u32>, AllocError>
+    ensures { IfOk result (λ v. v.items ≡ xs.now ++ ys.now) }
+{
+    let mut all = Vec::with_capacity(alloc, xs.len() + ys.len())?;
+    all.extend_from_slice(xs)?;
+    all.extend_from_slice(ys)?;
+    Ok(all)
+}
+
+// The same as `join`, item by item.
+fn merge(alloc: Global, xs: &[u32], ys: &[u32]) -> Result<Vec<u32>, AllocError>
+    requires left { IsRising xs.now }
+    requires right { IsRising ys.now }
+    ensures { IfOk result (λ v. IsUnion xs.now ys.now v.items) }
+{
+    let mut all = Vec::with_capacity(alloc, xs.len() + ys.len())?;
+    let mut i = 0;
+    let mut j = 0;
+    while i < xs.len() && j < ys.len() {
+        let low = xs[i].min(ys[j]);
+        i += (xs[i] == low) as usize;
+        j += (ys[j] == low) as usize;
+        all.push(low)?;
+    }
+    all.extend_from_slice(&xs[i..])?;
+    all.extend_from_slice(&ys[j..])?;
+    Ok(all)
+}
+
+/// The items before the last one, where that is `index`.
+pub(crate) fn but_last(xs: &[u32], index: u32) -> Option<&[u32]>
+    requires { IsRising xs.now }
+    ensures { IfSome result (λ rest. rest.now ≡ filter (λ x. not (nat_eq x index)) xs.now) }
+{
+    if xs.is_empty() || xs[xs.len() - 1] != index {
+        return None;
+    }
+    Some(&xs[..xs.len() - 1])
+}
+
+/// The items other than `index`.
+pub(crate) fn all_but(alloc: Global, xs: &[u32], index: u32) -> Result<Vec<u32>, AllocError>
+    ensures { IfOk result (λ v. v.items ≡ filter (λ x. not (nat_eq x index)) xs.now) }
+{
+    let mut items = xs.to_vec(alloc)?;
+    items.retain(|x| *x != index);
+    Ok(items)
+}

@@ -1,0 +1,100 @@
+//! The union of sets that come one after another.
+
+ghost use Rattle.std.specs.Prelude.{◌≡◌, IfOk, OnOk};
+ghost use Rattle.std.specs.FinSet as set;
+ghost use Rattle.vipr_table.specs.Unions.{gathered};
+
+use crate::assumptions::Assumptions;
+use std::alloc::{AllocError, Global};
+use std::mem;
+
+/// The union of the sets that were added. A large one waits below the last until that has grown to
+/// about its size, so that no index is moved often. The indices of small ones wait for the end.
+#[derive(Drop)]
+pub struct Union {
+    last: Assumptions,
+    below: Vec<Assumptions>,
+    // in any order, and some may stand twice
+    few: Vec<u32>,
+}
+
+// Whether a set is small enough to be joined at once to one of another size.
+fn is_near(len: usize, other: usize) -> bool {
+    len < 32 || len / 2 <= other
+}
+
+impl Union {
+    /// The union of no sets. Takes no memory.
+    pub fn new(alloc: Global) -> Union
+        ensures { gathered result ≡ set.empty }
+    {
+        Union {
+            last: Assumptions::empty(alloc),
+            below: Vec::new(alloc),
+            few: Vec::new(alloc),
+        }
+    }
+
+    /// Adds a set.
+    pub fn add(&mut self, alloc: Global, more: &Assumptions) -> Result<(), AllocError>
+        ensures { OnOk result (gathered self.new ≡ set.union (gathered self.old) more.now) }
+    {
+        if more.is_empty() {
+            return Ok(());
+        }
+        if !self.last.is_empty() {
+            if let Some(few) = more.as_few() {
+                self.few.extend_from_slice(few)?;
+                return Ok(());
+            }
+        }
+        if is_near(self.last.len(), more.len()) {
+            self.last = self.last.union(alloc, more)?;
+        } else {
+            let last = mem::replace(&mut self.last, more.clone()?);
+            self.below.push(last)?;
+        }
+        self.settle(alloc)
+    }
+
+    // Joins what waits to the last set, as far as it isn't much larger.
+    fn settle(&mut self, alloc: Global) -> Result<(), AllocError>
+        ensures { OnOk result (gathered self.new ≡ gathered self.old) }
+    {
+        while let Some(top) = self.below.pop() {
+            if !is_near(top.len(), self.last.len()) {
+                self.below.push(top)?;
+                return Ok(());
+            }
+            self.last = top.union(alloc, &self.last)?;
+        }
+        Ok(())
+    }
+
+    /// The union of all.
+    pub fn finish(self, alloc: Global) -> Result<Assumptions, AllocError>
+        ensures { IfOk result (λ s. s ≡ gathered self) }
+    {
+        let Union {
+            last,
+            mut below,
+            few,
+        } = self;
+        let mut all = with_few(alloc, last, few)?;
+        while let Some(top) = below.pop() {
+            all = top.union(alloc, &all)?;
+        }
+        Ok(all)
+    }
+}
+
+// A set with these indices, which may come in any order.
+fn with_few(alloc: Global, last: Assumptions, few: Vec<u32>) -> Result<Assumptions, AllocError>
+    ensures { IfOk result (λ s. s ≡ set.union last (set.from_list few.items)) }
+{
+    if few.is_empty() {
+        return Ok(last);
+    }
+    let few = Assumptions::of_indices(alloc, few)?;
+    last.union(alloc, &few)
+}
