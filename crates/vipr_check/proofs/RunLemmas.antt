@@ -1,16 +1,16 @@
 -- A text item by item: what is answered for what is left is the answer for what was left before
-use Rattle.std.proofs.Common.{◌≡◌, ◌≢◌, ℕ, zero, suc, ◌+◌, ◌<◌, ◌^◌, true, false, List, [], ◌∷◌, ◌++◌, length, Option, Some, None, Result, Ok, Err, inl, inr, arith, refl, sym, ◌∙◌, ap, subst}
-use Rattle.std.specs.Prelude.{◌⊎◌, OnErr, IsErrOf, ◌↔◌, IsSome}
+use Rattle.std.proofs.Common.{◌≡◌, ◌≢◌, ℕ, zero, suc, ◌+◌, ◌<◌, ◌^◌, true, false, List, [], ◌∷◌, ◌++◌, Some, None, Result, Ok, Err, inl, inr, arith, refl, sym, ◌∙◌, ap, subst}
+use Rattle.std.specs.Prelude.{◌⊎◌, IsSome}
 use Rattle.vipr_scan.specs.Giving.{rest_of}
 use Rattle.std.proofs.lemmas.List.{length-append}
-use Rattle.vipr_spec.specs.Constraint.{condition, Profile, Row, at, NamesBelow}
-use Rattle.vipr_spec.specs.Certificate.{Named, Problem, variables, Derivation, Certificate, MeetsPrimal, IsProof, count}
-use Rattle.vipr_spec.specs.Reading.{Rest, Read, problem_read, solution_read, derivations_read, derivation_read, end_read}
+use Rattle.vipr_spec.specs.Constraint.{condition, Profile, Row, NamesBelow}
+use Rattle.vipr_spec.specs.Certificate.{Named, Problem, variables, Derivation, Certificate, MeetsPrimal, IsProof}
+use Rattle.vipr_spec.specs.Reading.{Rest, problem_read, solution_read, derivations_read, derivation_read, end_read}
 use Rattle.vipr_spec.specs.Steps.{step_tests, PassesStep, with_next, FirstFailing}
 use Rattle.vipr_spec.specs.Checking.{start}
-use Rattle.vipr_spec.specs.Tests.{spelled, of_solution, meets_primal, meets_dual, of_step, Passes as PassesTest, PassesSolution, solution_tests, Detail, none, step, no_proof, no_primal, solution_detail, goal_needed_by}
+use Rattle.vipr_spec.specs.Tests.{spelled, PassesSolution, solution_tests, Detail, none, step, no_proof, no_primal, solution_detail, goal_needed_by}
 use Rattle.vipr_spec.specs.Steps.{FirstFailing}
-use Rattle.vipr_spec.specs.Verdict.{Reports, Answer, verified, refuses, told_by, Explained, IsExplained, IsAnswer}
+use Rattle.vipr_spec.specs.Verdict.{Reports, Answer, verified, refuses, told_by, Explained, IsExplained}
 use Rattle.vipr_spec.specs.Shape.{ReasonShape}
 use Rattle.vipr_spec.specs.Progress.{derivations_from, solutions_from}
 use Rattle.vipr_spec.proofs.Laws.{count_next, problem_fault, problem_ok, solution_fault, solution_passes, solution_fails, solutions_unmet, derivations_fault, derivations_begin, derivation_fault, derivation_passes, derivation_fails, end_fault, end_unproved, end_verified}
@@ -18,21 +18,19 @@ use Rattle.vipr_scan.specs.Faults.{Fails}
 use Rattle.vipr_scan.specs.declared.error.TextError.{TextError}
 use Rattle.vipr_read.specs.Items.{Items, Knows, Remembers}
 use Rattle.vipr_rules.specs.Solution.{test_of}
-use Rattle.vipr_check.specs.declared.verdict.Refusal.{Refusal}
 use Rattle.vipr_check.specs.declared.verdict.Report.{Report}
 use Rattle.vipr_check.specs.declared.verdict.Verdict.{Verdict}
 use Rattle.vipr_check.specs.declared.verdict.Fault.{Fault}
-use Rattle.vipr_check.specs.declared.verdict.Fault.TheVariants as fault
 use Rattle.vipr_check.specs.declared.halt.Stop.{Stop}
 use Rattle.vipr_check.specs.declared.halt.Stop.TheVariants as stop
 use Rattle.vipr_check.specs.declared.halt.Halt.{Halt}
 use Rattle.vipr_check.specs.declared.halt.Halt.TheVariants.{Refused, Memory}
-use Rattle.vipr_check.specs.View.{answer_of, report_of, refusal_of}
+use Rattle.vipr_check.specs.View.{report_of, refusal_of}
 use Rattle.vipr_check.specs.Shown.{finding_shown, primal_shown, halt_shown, state_shown}
 use Rattle.vipr_check.specs.Halts.{halt_answer}
-use Rattle.vipr_check.specs.Progress.{Progress, HasSolutions, HasSteps}
+use Rattle.vipr_check.specs.Progress.{HasSolutions, HasSteps}
 use Rattle.vipr_check.specs.State.{State, HaltsBy, StopsSolution, TakesSolution, StopsEnd, EndsSolutions, StopsStep, TakesStep, StopsFinish, Finishes}
-use Rattle.vipr_check.specs.Run.{text_answer, stop_answer, step_answer, end_answer, IsAmong, HasListed, GoesAmong, IsAt, Leads, HasReached, Goes, SaysWith, SaysAtEnd}
+use Rattle.vipr_check.specs.Run.{text_answer, stop_answer, step_answer, end_answer, IsAmong, HasListed, GoesAmong, IsAt, HasReached, Goes, SaysWith}
 use Rattle.vipr_check.proofs.Answering.{SaysWith-by, text_says}
 use Rattle.vipr_check.proofs.ShownLemmas.{missed_bound, stop_shown, halted_shown, unshown}
 
@@ -247,11 +245,6 @@ pub ending_shown : (P : Profile) (p : Problem) (ss : List (Named Row)) (k l : St
 ending_shown P p ss k l r is h = ap state_shown h.2 ∙ unshown k is.runs
 
 -- ---- the problem
-
--- where there is no verdict, nothing is shown
-pub fault_ends : (P : Answer → Detail → Type 0) (x : Detail) (f : Fault) → SaysWith P x (Err f) → SaysAtEnd P (Err f)
-fault_ends P x fault.Read h = h
-fault_ends P x fault.Memory h = tt
 
 pub among_start : (P : Profile) (p : Problem) (k : State) (r : Items) → k.progress.profile ≡ P → k.progress.problem ≡ p → HasSolutions [] k.progress → k.in_solutions ≡ true → k.halt ≡ None → Knows r p → r.failed ≡ false → r.left < 2 ^ 32 → IsAmong P p [] k r
 among_start P p k r runs_by same has phase runs knows unspent room = record { profile = runs_by; problem = same; has = has; phase = phase; runs = runs; knows = knows; unspent = unspent; room = omega arith }

@@ -54,11 +54,9 @@ SaysWith P x (Err Read) = P cut_short none
 SaysWith P x (Err Memory) = ⊤
 
 -- the same where a checker may be left, which knows what is shown
-abbrev pub SaysAtEnd : (Answer → DetailMeant → Type 0) → Result (Verdict × Option State) Fault
+abbrev pub SaysAtEnd : (Answer → DetailMeant → Type 0) → Result Verdict Fault × Option State
     → Type 0
-SaysAtEnd P (Ok e) = P (answer_of e.0) (last_shown e.1)
-SaysAtEnd P (Err Read) = P cut_short none
-SaysAtEnd P (Err Memory) = ⊤
+SaysAtEnd P e = SaysWith P (last_shown e.1) e.0
 
 -- the same of a detail
 abbrev pub SaysInDetail : (Answer → DetailMeant → Type 0) → Result (Verdict × Detail) Fault → Type 0

@@ -15,7 +15,7 @@ ghost use Rattle.vipr_check.specs.State.{Finishes};
 ghost use Rattle.vipr_check.specs.Shown.{detail_of, state_shown};
 
 use crate::cause;
-use crate::detail::{Detail, of_finding};
+use crate::detail::{Detail, of_halt};
 use crate::halt::{Finding, Halt, Stop};
 use crate::progress::Progress;
 use crate::verdict::Report;
@@ -208,12 +208,7 @@ impl<S: Rows> Checker<S> {
             → TakesStep c (derivation_of step) self.old self.new result }
     {
         let mut step = step;
-        self.go_on()?;
-        let index = self.progress.next();
-        match self.progress.take(alloc, &mut step) {
-            Ok(()) => Ok(()),
-            Err(error) => Err(stop_at_step(&mut self.halt, index, &step.name, error)),
-        }
+        self.take_from(alloc, &mut step)
     }
 
     /// The report, where the certificate ends here.
@@ -243,7 +238,9 @@ impl<S: Rows> Checker<S> {
     pub fn into_problem(self) -> Problem
         ensures { result ≡ self.progress.problem }
     {
-        self.progress.into_problem()
+        let Checker { progress, halt, .. } = self;
+        drop(halt);
+        progress.into_problem()
     }
 
     /// What there is to show of the refusal at which it stopped, and nothing where it didn't.
@@ -251,9 +248,24 @@ impl<S: Rows> Checker<S> {
         ensures { IfOk result (λ d. detail_of d ≡ state_shown self) }
     {
         let Checker { progress, halt, .. } = self;
-        match halt {
-            Some(Halt::Refused(_, finding)) => of_finding(progress, finding),
-            Some(Halt::Memory) | None => Ok(Detail::None),
+        of_halt(progress, halt)
+    }
+
+    // Takes the next derivation, and the constraint out of it where it passes.
+    fn take_from(&mut self, alloc: Global, step: &mut Derivation) -> Result<(), Stop>
+        requires phase { self.old.in_solutions ≡ false }
+        requires room { self.old.progress.rows.next + 1 < 2 ^ 32 }
+        requires names { NamesBelow (variables self.old.progress.problem)
+            (at step.old.constraint.row) }
+        ensures again { Repeats self.old self.new result }
+        ensures next { (c : Certificate) → self.old.halt ≡ None → HasSteps c self.old.progress
+            → TakesStep c (derivation_of step.old) self.old self.new result }
+    {
+        self.go_on()?;
+        let index = self.progress.next();
+        match self.progress.take(alloc, step) {
+            Ok(()) => Ok(()),
+            Err(error) => Err(stop_at_step(&mut self.halt, index, &step.name, error)),
         }
     }
 

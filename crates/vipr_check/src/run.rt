@@ -33,17 +33,16 @@ pub(crate) fn run<R: Source + Drop, S: Rows>(
     alloc: Global,
     profile: Profile,
     source: R,
-) -> Result<(Verdict, Option<Checker<S>>), Fault>
+) -> (Result<Verdict, Fault>, Option<Checker<S>>)
     ensures { IfKnown (R.input source)
         (λ i. SaysAtEnd (IsExplained (profile_of profile) (text_of i)) result) }
 {
-    let reader = CertReader::new(alloc, source)?;
+    let Ok(reader) = CertReader::new(alloc, source) else {
+        return (Err(Fault::Memory), None);
+    };
     match reader.read_problem(alloc) {
         Ok((problem, solutions)) => after_problem::<R, S>(alloc, profile, problem, solutions),
-        Err(error) => match unread(error) {
-            Ok(verdict) => Ok((verdict, None)),
-            Err(fault) => Err(fault),
-        },
+        Err(error) => (unread(error), None),
     }
 }
 
@@ -53,7 +52,7 @@ fn after_problem<R: Source + Drop, S: Rows>(
     profile: Profile,
     problem: Problem,
     solutions: Solutions<R>,
-) -> Result<(Verdict, Option<Checker<S>>), Fault>
+) -> (Result<Verdict, Fault>, Option<Checker<S>>)
     requires knows { Knows solutions problem }
     requires unspent { solutions.failed ≡ false }
     requires counted { solutions.left < 2 ^ 32 }
@@ -61,10 +60,15 @@ fn after_problem<R: Source + Drop, S: Rows>(
         → problem_read r ≡ Ok ((problem, solutions.left), (rest_of solutions.rest))
         → SaysAtEnd (IsExplained (profile_of profile) r) result }
 {
-    let mut checker: Checker<S> = Checker::new_in(alloc, profile, problem)?;
-    match after_solutions(alloc, &mut checker, solutions) {
-        Ok(verdict) => Ok((verdict, Some(checker))),
-        Err(fault) => Err(fault),
+    match Checker::new_in(alloc, profile, problem) {
+        Ok(mut checker) => {
+            let verdict = after_solutions(alloc, &mut checker, solutions);
+            (verdict, Some(checker))
+        }
+        Err(_) => {
+            drop(solutions);
+            (Err(Fault::Memory), None)
+        }
     }
 }
 
@@ -84,7 +88,10 @@ fn after_solutions<R: Source + Drop, S: Rows>(
 {
     'solutions: while solutions.left() > 0 {
         match next_solution(alloc, checker, &mut solutions) {
-            Some(verdict) => return verdict,
+            Some(verdict) => {
+                drop(solutions);
+                return verdict;
+            }
             None => continue 'solutions,
         }
     }
@@ -106,7 +113,11 @@ fn next_solution<R: Source, S: Rows>(
         → GoesAmong P p ss solutions.old checker.new solutions.new result }
 {
     match solutions.next(alloc) {
-        Ok(Some(solution)) => after_item(checker.solution(&solution)),
+        Ok(Some(solution)) => {
+            let outcome = checker.solution(&solution);
+            drop(solution);
+            after_item(outcome)
+        }
         Ok(None) => unreachable!(),
         Err(error) => Some(unread(error)),
     }
@@ -128,6 +139,7 @@ fn after_last_solution<R: Source + Drop, S: Rows>(
         (state_shown checker.new) result }
 {
     if let Err(stop) = checker.end_solutions() {
+        drop(solutions);
         return stopped(stop);
     }
     match solutions.finish() {
@@ -151,7 +163,10 @@ fn after_steps<R: Source + Drop, S: Rows>(
 {
     'steps: loop {
         match next_step(alloc, checker, &mut derivations) {
-            Some(verdict) => return verdict,
+            Some(verdict) => {
+                drop(derivations);
+                return verdict;
+            }
             None => continue 'steps,
         }
     }

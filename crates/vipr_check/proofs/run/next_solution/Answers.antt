@@ -1,4 +1,4 @@
-use Rattle.std.proofs.Common.{refl, sym, subst}
+use Rattle.std.proofs.Common.{sym, subst}
 use Rattle.vipr_spec.specs.Verdict.{Explained}
 use Rattle.vipr_spec.specs.Progress.{solutions_from}
 use Rattle.vipr_cert.specs.Items.{solution_of}
@@ -9,16 +9,16 @@ use Rattle.vipr_check.proofs.ShownLemmas.{unshown}
 use Rattle.vipr_check.proofs.RunLemmas.{one_more, goes_among, solution_missing, solution_unspent}
 use Rattle.vipr_check.proofs.run.next_solution.Goals as goal
 
-pub solution-requires-clause-phase : goal.solution-requires-clause-phase
-solution-requires-clause-phase g c = let (P, p, ss, is) = c.requires.among in is.phase
+pub solution-outcome-requires-clause-phase : goal.solution-outcome-requires-clause-phase
+solution-outcome-requires-clause-phase g c = let (P, p, ss, is) = c.requires.among in is.phase
 
-pub solution-requires-clause-room : goal.solution-requires-clause-room
-solution-requires-clause-room g c = let (P, p, ss, is) = c.requires.among in one_more P p ss c.args.checker.now c.args.solutions.now is c.requires.some
+pub solution-outcome-requires-clause-room : goal.solution-outcome-requires-clause-room
+solution-outcome-requires-clause-room g c = let (P, p, ss, is) = c.requires.among in one_more P p ss c.args.checker.now c.args.solutions.now is c.requires.some
 
 pub after_item-requires : goal.after_item-requires
 after_item-requires g c =
     let (P, p, ss, is) = c.requires.among in
-    solution_unspent ss (solution_of c.in-Ok-Some.solution) c.args.checker.now c.solution.new.self c.solution.result (c.solution.ensures.next ss is.runs is.has)
+    solution_unspent ss (solution_of c.in-Ok-Some.solution) c.args.checker.now c.solution-outcome.new.self c.solution-outcome.result (c.solution-outcome.ensures.next ss is.runs is.has)
 
 pub returns-in-Ok-Some-clause-step : goal.returns-in-Ok-Some-clause-step
 returns-in-Ok-Some-clause-step g c = λ P p ss is.
@@ -26,8 +26,8 @@ returns-in-Ok-Some-clause-step g c = λ P p ss is.
     let s = solution_of c.in-Ok-Some.solution in
     let old = c.args.solutions.now in
     let new = c.next.new.self in
-    subst (GoesAmong P p ss old c.solution.new.self new) (sym c.after_item.ensures)
-    (goes_among P p ss c.args.checker.now c.solution.new.self old new s is h.moves.counted h.moves.remembers h.moves.working (λ told. (let r = h.read p is.knows told in (r.1, r.2))) c.solution.result (c.solution.ensures.next ss is.runs is.has))
+    subst (GoesAmong P p ss old c.solution-outcome.new.self new) (sym c.after_item.ensures)
+    (goes_among P p ss c.args.checker.now c.solution-outcome.new.self old new s is h.moves.counted h.moves.remembers h.moves.working (λ told. (let r = h.read p is.knows told in (r.1, r.2))) c.solution-outcome.result (c.solution-outcome.ensures.next ss is.runs is.has))
 
 pub returns-in-Err-clause-step : goal.returns-in-Err-clause-step
 returns-in-Err-clause-step g c = λ P p ss is told.
