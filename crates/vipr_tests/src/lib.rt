@@ -1,5 +1,5 @@
-//! The tests of the libraries, through their public calls. A crate with tests is proved twice, with
-//! them and without, so they stand in a crate of their own.
+//! The tests of the rules, the checker and the tightener, through their public calls. A crate with
+//! tests is proved twice, with them and without, so they stand in crates of their own.
 #![tactic(auto)]
 
 #[cfg(test)]

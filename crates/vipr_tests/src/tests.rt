@@ -1,10 +1,3 @@
-mod bytes;
-mod cert;
 mod check;
-mod frac;
-mod linear;
-mod read;
 mod rules;
-mod scan;
 mod tighten;
-mod write;

@@ -1,5 +1,5 @@
 use std::io::{self, ErrorKind, Read, Write};
-use std::test::Fail;
+use std::process::Abort;
 use vipr_bytes::{Bytes, Failed, FromRead, FromWrite, Sink, Source, WriteFailed, write_bytes};
 
 /// Moves at most two bytes a call, and fails at a chosen call.
@@ -43,12 +43,17 @@ fn first<R: Source>(source: &mut R) -> Result<(usize, u8), Failed> {
     Ok((n, buf[0]))
 }
 
+/// Reads once, and compares how many bytes came and the first of the buffer.
+fn gives<R: Source>(rt: &impl Abort, source: &mut R, wanted: Result<(usize, u8), Failed>) {
+    assert_eq!(rt; first(source), wanted);
+}
+
 #[test]
 fn a_slice_is_read_to_its_end(rt: HostRuntime) {
     let mut source = Bytes::new(b"abcde");
-    assert_eq!(rt; first(&mut source), Ok((4, b'a')));
-    assert_eq!(rt; first(&mut source), Ok((1, b'e')));
-    assert_eq!(rt; first(&mut source), Ok((0, 0)));
+    for wanted in [(4, b'a'), (1, b'e'), (0, 0)] {
+        gives(&rt, &mut source, Ok(wanted));
+    }
 }
 
 #[test]
@@ -57,30 +62,31 @@ fn a_reader_is_read_and_its_errors_are_failures(rt: HostRuntime) {
         inner: b"abc".as_slice(),
         calls_left: 3,
     });
-    assert_eq!(rt; first(&mut source), Ok((2, b'a')));
-    assert_eq!(rt; first(&mut source), Ok((1, b'c')));
-    assert_eq!(rt; first(&mut source), Ok((0, 0)));
-    assert_eq!(rt; first(&mut source), Err(Failed));
+    for wanted in [Ok((2, b'a')), Ok((1, b'c')), Ok((0, 0)), Err(Failed)] {
+        gives(&rt, &mut source, wanted);
+    }
 }
 
-fn written<W: Sink>(sink: &mut W) -> Result<usize, Failed> {
-    sink.write(b"abc")
+/// Writes three bytes once, and compares how many were taken.
+fn takes<W: Sink>(rt: &impl Abort, sink: &mut W, wanted: Result<usize, Failed>) {
+    assert_eq!(rt; sink.write(b"abc"), wanted);
+}
+
+fn takes_two_of_three_and_fails<W: Write + Drop>(rt: &impl Abort, inner: W) {
+    let mut sink = FromWrite::new(Halting {
+        inner,
+        calls_left: 2,
+    });
+    for wanted in [Ok(2), Ok(2), Err(Failed)] {
+        takes(rt, &mut sink, wanted);
+    }
 }
 
 #[test]
-fn a_writer_is_written_and_its_errors_are_failures(rt: HostRuntime) -> Result<(), Fail> {
+fn a_writer_is_written_and_its_errors_are_failures(rt: HostRuntime) {
     let mut bytes = Vec::new(rt.alloc());
-    {
-        let mut sink = FromWrite::new(Halting {
-            inner: &mut bytes,
-            calls_left: 2,
-        });
-        assert_eq!(rt; written(&mut sink), Ok(2));
-        assert_eq!(rt; written(&mut sink), Ok(2));
-        assert_eq!(rt; written(&mut sink), Err(Failed));
-    }
+    takes_two_of_three_and_fails(&rt, &mut bytes);
     assert_eq!(rt; bytes.as_slice(), b"abab".as_slice());
-    Ok(())
 }
 
 /// Is interrupted at one call and goes on at the next. It counts its calls.
@@ -129,40 +135,46 @@ fn an_interrupted_read_fails_and_is_not_asked_for_again(rt: HostRuntime) {
     };
     {
         let mut source = FromRead::new(&mut reader);
-        assert_eq!(rt; first(&mut source), Ok((2, b'a')));
-        assert_eq!(rt; first(&mut source), Err(Failed));
+        for wanted in [Ok((2, b'a')), Err(Failed)] {
+            gives(&rt, &mut source, wanted);
+        }
     }
     assert_eq!(rt; reader.calls, 2);
 }
 
-#[test]
-fn bytes_are_handed_over_until_all_are_taken(rt: HostRuntime) -> Result<(), Fail> {
-    let mut bytes = Vec::new(rt.alloc());
-    {
-        let mut sink = FromWrite::new(&mut bytes);
-        assert_eq!(rt; write_bytes(&mut sink, b"abcde"), Ok(()));
-        assert_eq!(rt; write_bytes(&mut sink, b""), Ok(()));
-    }
-    assert_eq!(rt; bytes.as_slice(), b"abcde".as_slice());
-    Ok(())
+/// Hands bytes over, and compares the answer.
+fn hands_over<W: Write>(
+    rt: &impl Abort,
+    writer: &mut W,
+    bytes: &[u8],
+    wanted: Result<(), WriteFailed>,
+) {
+    let mut sink = FromWrite::new(writer);
+    assert_eq!(rt; write_bytes(&mut sink, bytes), wanted);
 }
 
 #[test]
-fn an_interrupted_write_ends_the_call(rt: HostRuntime) -> Result<(), Fail> {
+fn bytes_are_handed_over_until_all_are_taken(rt: HostRuntime) {
     let mut bytes = Vec::new(rt.alloc());
+    hands_over(&rt, &mut bytes, b"abcde", Ok(()));
+    hands_over(&rt, &mut bytes, b"", Ok(()));
+    assert_eq!(rt; bytes.as_slice(), b"abcde".as_slice());
+}
+
+/// The number of calls that a writer gets for five bytes, the second of which is interrupted.
+fn calls_for_five<W: Write + Drop>(rt: &impl Abort, inner: W) -> usize {
     let mut writer = Interrupted {
-        inner: &mut bytes,
+        inner,
         calls: 0,
         interrupted_at: 2,
     };
-    {
-        let mut sink = FromWrite::new(&mut writer);
-        assert_eq!(rt;
-            write_bytes(&mut sink, b"abcde"),
-            Err(WriteFailed { taken: 2 })
-        );
-    }
-    assert_eq!(rt; writer.calls, 2);
+    hands_over(rt, &mut writer, b"abcde", Err(WriteFailed { taken: 2 }));
+    writer.calls
+}
+
+#[test]
+fn an_interrupted_write_ends_the_call(rt: HostRuntime) {
+    let mut bytes = Vec::new(rt.alloc());
+    assert_eq!(rt; calls_for_five(&rt, &mut bytes), 2);
     assert_eq!(rt; bytes.as_slice(), b"ab".as_slice());
-    Ok(())
 }

@@ -1,0 +1,7 @@
+mod bytes;
+mod cert;
+mod frac;
+mod linear;
+mod read;
+mod scan;
+mod write;

@@ -1,0 +1,134 @@
+//! Tokens of short texts, a token that a failed read cuts short, and one that is too long.
+ghost use Rattle.std.specs.Prelude.{ℕ, Ok, length};
+
+use std::alloc::{AllocError, Global};
+use std::io::{self, Read};
+use std::process::Abort;
+use std::test::Fail;
+use vipr_bytes::{Bytes, FromRead, Source};
+use vipr_scan::{Scanner, Stop, TextError, TokenKind, Tokens, Unfit, cause};
+
+/// Gives at most two bytes a read, and fails after so many reads.
+#[derive(Drop)]
+struct Halting<'a> {
+    text: &'a [u8],
+    reads_left: u8,
+}
+
+impl Read for Halting<'_> {
+    fn read(&mut self, buf: &mut [u8]) -> io::Result<usize> {
+        if self.reads_left == 0 {
+            return Err(io::Error::from(io::ErrorKind::Interrupted));
+        }
+        self.reads_left -= 1;
+        let len = buf.len().min(2);
+        self.text.read(&mut buf[..len])
+    }
+}
+
+/// Asks for a token, and compares its bytes and its offset.
+fn gives<R: Source>(
+    rt: &impl Abort,
+    tokens: &mut Tokens<R>,
+    wanted: Option<(&[u8], u64)>,
+) -> Result<(), TextError> {
+    let token = tokens.next()?;
+    assert_eq!(rt; token.map(|token| (token.bytes, token.offset)), wanted);
+    Ok(())
+}
+
+#[test]
+fn tokens_come_with_their_offsets(rt: HostRuntime) -> Result<(), Fail> {
+    let mut tokens = Tokens::new(rt.alloc(), Bytes::new(b"% no token\n ab\tc"))?;
+    gives(&rt, &mut tokens, Some((b"ab", 12)))?;
+    gives(&rt, &mut tokens, Some((b"c", 15)))?;
+    gives(&rt, &mut tokens, None)?;
+    gives(&rt, &mut tokens, None)?;
+    Ok(())
+}
+
+/// Asks for a token, and compares the error.
+fn fails<R: Source>(rt: &impl Abort, tokens: &mut Tokens<R>, wanted: TextError) {
+    assert_eq!(rt; tokens.next().err(), Some(wanted));
+}
+
+#[test]
+fn a_token_before_a_failed_read_is_not_given(rt: HostRuntime) -> Result<(), Fail> {
+    let source = FromRead::new(Halting {
+        text: b"ab cd",
+        reads_left: 2,
+    });
+    let mut tokens = Tokens::new(rt.alloc(), source)?;
+    gives(&rt, &mut tokens, Some((b"ab", 0)))?;
+    fails(&rt, &mut tokens, TextError::Read);
+    fails(&rt, &mut tokens, TextError::Spent);
+    Ok(())
+}
+
+/// Asks for a token, and compares its length and whether it is cut.
+fn has_length<R: Source>(
+    rt: &impl Abort,
+    tokens: &mut Tokens<R>,
+    wanted: (usize, bool),
+) -> Result<(), TextError> {
+    let token = tokens.next()?;
+    assert_eq!(rt;
+        token.map(|token| (token.bytes.len(), token.long)),
+        Some(wanted)
+    );
+    Ok(())
+}
+
+#[test]
+fn a_token_of_65536_bytes_is_too_long(rt: HostRuntime) -> Result<(), Fail> {
+    let text = [b'a'; 65536];
+    let mut tokens = Tokens::new(rt.alloc(), Bytes::new(&text))?;
+    has_length(&rt, &mut tokens, (65535, true))?;
+    fails(&rt, &mut tokens, TextError::Spent);
+    drop(tokens);
+    let mut shorter = Tokens::new(rt.alloc(), Bytes::new(&text[1..]))?;
+    has_length(&rt, &mut shorter, (65535, false))?;
+    Ok(())
+}
+
+/// Any bytes.
+struct Any;
+
+impl TokenKind for Any {
+    type Value = usize;
+
+    ghost Meant = { ℕ };
+
+    ghost view = { λ n. n };
+
+    ghost meaning = { λ _ bytes. Ok (length bytes) };
+
+    fn read(&self, bytes: &[u8]) -> Result<usize, Unfit> {
+        Ok(bytes.len())
+    }
+}
+
+fn is_refused(rt: &impl Abort, alloc: Global, text: &[u8], wanted: Stop) -> Result<(), AllocError> {
+    let mut scanner = Scanner::new(alloc, Bytes::new(text))?;
+    assert_eq!(rt; scanner.take(&Any).err(), Some(wanted));
+    Ok(())
+}
+
+fn is_taken(rt: &impl Abort, alloc: Global, text: &[u8], wanted: usize) -> Result<(), AllocError> {
+    let mut scanner = Scanner::new(alloc, Bytes::new(text))?;
+    assert_eq!(rt; scanner.take(&Any), Ok(wanted));
+    assert_eq!(rt; scanner.end(), Ok(()));
+    Ok(())
+}
+
+#[test]
+fn a_token_of_65536_bytes_is_refused(rt: HostRuntime) -> Result<(), Fail> {
+    let text = [b'a'; 65536];
+    let refused = Stop::Refused {
+        cause: cause::TOKEN_TOO_LONG,
+        offset: 0,
+    };
+    is_refused(&rt, rt.alloc(), &text, refused)?;
+    is_taken(&rt, rt.alloc(), &text[1..], 65535)?;
+    Ok(())
+}
