@@ -18,6 +18,7 @@ TOP = Path(__file__).resolve().parent.parent
 # what to run once the program is built, in the repository's folder
 SCRIPTS = [
     ['tests/house.py'],
+    ['tests/answers.py'],
     ['tests/hostile.py'],
     ['tests/growths.py'],
     ['tests/library.py'],

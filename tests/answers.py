@@ -1,0 +1,559 @@
+#!/usr/bin/env python3
+"""What the built program answers on small certificates, on copies with a part replaced, and on command lines.
+
+usage: tests/answers.py [PROGRAM]     crates/vipr/out/vipr without it
+
+Each text is checked and explained: from a file, from standard input as a whole, and from a pipe in pieces of a few
+bytes, of which each is read before the next is written. Then texts are shown and tightened, to standard output and to
+files, and the words of command lines are tried. Looked at is all that is printed on both outputs, the exit status, and
+the files that are written. Streams that fail are tried by tests/hostile.py and by the tests in crates/vipr.
+
+Prints each fault, and last `answers: N checks, F failed`; the exit status is 1 where one failed.
+"""
+import array
+import fcntl
+import itertools
+import multiprocessing
+import os
+import subprocess
+import sys
+import tempfile
+import termios
+import time
+from pathlib import Path
+
+TOP = Path(__file__).resolve().parent.parent
+PROGRAM = Path(sys.argv[1] if len(sys.argv) > 1 else TOP / 'crates/vipr/out/vipr').resolve()
+COMMANDS = ['check', 'explain', 'show', 'tighten']
+# the largest number
+M = 2**127 - 1
+
+# The partial sums M, M - 1 and M.
+UP_AND_DOWN = f'''VER 1.0
+VAR 1
+x
+INT 0
+OBJ min
+0
+CON 3 0
+a G 0 1 0 {M}
+b G 0 1 0 1
+c E 0 1 0 1
+RTP range -inf inf
+SOL 0
+DER 1
+f G 0 1 0 {M} {{ lin 3 0 1 2 -1 1 1 }} -1
+'''
+
+# For each certificate of examples/, and the one above: what stands there, what is put in its place, and what `explain`
+# prints then; and what it prints by the second profile, where that is something else. `check` prints the verdict alone.
+EDITS = {
+    'infeasible': [
+        ('', '', 'verified infeas\nsolutions 0 derived 1 peak 1\ngoal 2'),
+        ('1.0', '1.1', 'refused 3 at byte 4\ncause UnsupportedVersion'),
+        ('VAR', 'VAX', 'refused 2 at byte 8\ncause WrongKeyword'),
+        ('VAR 1', 'VAR -1', 'refused 7 at byte 12\ncause BadCount'),
+        ('min', 'mid', 'refused 12 at byte 26\ncause BadObjectiveSense'),
+        ('a G', 'a g', 'refused 11 at byte 42\ncause BadSense'),
+        ('a G 1', 'a G 1/0', 'refused 6 at byte 44\ncause ZeroDenominator'),
+        ('a G 1', 'a G 1/-2', 'refused 4 at byte 44\ncause BadNumber'),
+        ('a G 1', 'a G 0.5', 'refused 4 at byte 44\ncause BadNumber'),
+        ('a G 1', f'a G {M + 1}', 'refused 5 at byte 44\ncause NumberTooLarge'),
+        ('a G 1 1 0 1', 'a G 1 2 0 1 0 2', 'refused 10 at byte 52\ncause RepeatedIndex'),
+        ('a G 1 1 0', 'a G 1 1 1', 'refused 9 at byte 48\ncause BadIndex'),
+        ('a G 1 1 0 1', f'a G 1 1 0 {M + 1}', 'refused 5 at byte 50\ncause NumberTooLarge'),
+        ('infeas', 'feas', 'refused 13 at byte 68\ncause BadClaim'),
+        ('DER 1', 'DER 4294967294', 'refused 8 at byte 85\ncause CountTooLarge'),
+        ('DER 1', 'DER 4294967293', 'refused 1 at byte 126\ncause Truncated'),
+        ('{ lin', '{lin', 'refused 15 at byte 95\ncause BadBrace'),
+        ('lin', 'sum', 'refused 14 at byte 97\ncause BadReason'),
+        ('lin 2 0', 'lin 2 -1', 'refused 16 at byte 103\ncause BadReference'),
+        ('lin 2 0 1 1 -1', 'lin 2 9 1 1 q', 'refused 4 at byte 109\ncause BadNumber'),
+        (' -1 } -1\n', '', 'refused 1 at byte 108\ncause Truncated'),
+        ('} -1', '} -2', 'refused 16 at byte 114\ncause BadReference'),
+        ('} -1\n', '} -1\n x', 'refused 18 at byte 118\ncause TrailingText'),
+        ('a G 1 1 0 1', f'a G 1 1 0 {M}',
+         f'refused 38 at DER 2\ncause NotDominated\nderivation 2 f\ncomputed G 1 1 0 {M - 1}\nstated G 1 0'),
+        ('1 1 -1 }', '1 2 -1 }', 'refused 31 at DER 2\ncause NotEarlier\nderivation 2 f\nindex 2'),
+        ('1 -1 }', '1 1 }', 'refused 34 at DER 2\ncause MixedSigns\nderivation 2 f\nentry 1'),
+        ('1 -1 } -1\n', '1 1 } -1\n x', 'refused 34 at DER 2\ncause MixedSigns\nderivation 2 f\nentry 1'),
+    ],
+    'both_branches': [
+        ('', '', 'verified infeas\nsolutions 0 derived 5 peak 4\ngoal 6'),
+        ('uns 4 2 5 3', 'uns 5 3 4 2', 'verified infeas\nsolutions 0 derived 5 peak 4\ngoal 6'),
+        ('} 6\nf', '} 5\nf', 'refused 32 at DER 6\ncause Dropped\nderivation 6 g\nindex 4'),
+        ('uns 4 2 5 3', 'uns 5 2 4 3', 'refused 51 at end\ncause NoProof\ngoal absurdity'),
+        ('uns 4 2 5 3', 'uns 4 0 5 3', 'refused 33 at DER 6\ncause NotAssumption\nderivation 6 g\nindex 0'),
+        ('uns 4 2 5 3', 'uns 4 2 5 4', 'refused 33 at DER 6\ncause NotAssumption\nderivation 6 g\nindex 4'),
+        ('uns 4 2 5 3', 'uns 4 2 5 2',
+         'refused 37 at DER 6\ncause NotSplit\nderivation 6 g\nfirst L 0 1 0 1\nsecond L 0 1 0 1'),
+        ('d G 1 1 0 1', 'd G 2 1 0 1',
+         'refused 37 at DER 6\ncause NotSplit\nderivation 6 g\nfirst L 0 1 0 1\nsecond G 2 1 0 1'),
+        ('INT 1\n0\n', 'INT 0\n',
+         'refused 37 at DER 6\ncause NotSplit\nderivation 6 g\nfirst L 0 1 0 1\nsecond G 1 1 0 1'),
+        ('e G 1 0 {', 'e G 0 0 {',
+         'refused 38 at DER 6\ncause NotDominated\nderivation 6 g\ncomputed G 0 0\nstated G 1 0'),
+        ('f G 1 0 {', 'f G 1/2 0 {', 'verified infeas\nsolutions 0 derived 5 peak 4\ngoal 6'),
+        ('f G 1 0 {', 'f G -3/2 0 {',
+         'refused 38 at DER 6\ncause NotDominated\nderivation 6 g\ncomputed G -3/2 0\nstated G 1 0'),
+        ('DER 5', 'DER 3', 'refused 18 at byte 162\ncause TrailingText'),
+    ],
+    'both_branches_loose': [
+        ('', '', 'verified infeas\nsolutions 0 derived 6 peak 6\ngoal 7'),
+    ],
+    'covering_split': [
+        ('', '',
+         'refused 37 at DER 6\ncause NotSplit\nderivation 6 g\nfirst L 1/4 1 0 1\nsecond G 3/4 1 0 1',
+         'verified infeas\nsolutions 0 derived 5 peak 4\ngoal 6'),
+    ],
+    'rounding_min': [
+        ('', '',
+         'verified range 1 1\nsolutions 1 derived 1 peak 1\ngoal 1',
+         'verified range 1 1\nsolutions 1 derived 1 peak 1\ngoal 0'),
+        ('INT 1\n0\n', 'INT 0\n', 'refused 36 at DER 1\ncause NotRoundable\nderivation 1 d\nsum G 1/2 1 0 1'),
+        ('s 1 0 1', 's 1 0 1/2', 'refused 21 at SOL 0\ncause SolutionNotWhole\nsolution 0 s\nvariable 0 x\nvalue 1/2'),
+        ('range 1 1', 'range 1 0', 'refused 52 at end\ncause NoPrimal\nbound 0'),
+        ('range 1 1', 'range 3/2 1', 'refused 51 at end\ncause NoProof\ngoal G 3/2 1 0 1'),
+        ('range 1 1', 'range -2/4 6/3', 'verified range -1/2 2\nsolutions 1 derived 1 peak 1\ngoal 0'),
+        ('range 1 1\nSOL 1\ns 1 0 1\n', 'range 1 inf\nSOL 0\n',
+         'verified range 1 inf\nsolutions 0 derived 1 peak 1\ngoal 1',
+         'verified range 1 inf\nsolutions 0 derived 1 peak 1\ngoal 0'),
+        ('range 1 1\nSOL 1\ns 1 0 1\n', 'range 1 7/2\nSOL 2\ns 1 0 3\nt 1 0 2\n',
+         'verified range 1 7/2\nsolutions 2 derived 1 peak 1\ngoal 1',
+         'verified range 1 7/2\nsolutions 2 derived 1 peak 1\ngoal 0'),
+        ('d G 1 1 0 1', 'd G 2 1 0 1',
+         'refused 38 at DER 1\ncause NotDominated\nderivation 1 d\ncomputed G 1 1 0 1\nstated G 2 1 0 1'),
+    ],
+    'rounding_max': [
+        ('', '',
+         'verified range 2 2\nsolutions 1 derived 1 peak 1\ngoal 1',
+         'verified range 2 2\nsolutions 1 derived 1 peak 1\ngoal 0'),
+        ('range 2 2', 'range 3 2', 'refused 52 at end\ncause NoPrimal\nbound 3'),
+        ('range 2 2', 'range 5/2 2', 'refused 52 at end\ncause NoPrimal\nbound 5/2'),
+        ('range 2 2', 'range 2 1', 'refused 51 at end\ncause NoProof\ngoal L 1 1 0 1'),
+        ('range 2 2', 'range -inf inf', 'verified range -inf inf\nsolutions 1 derived 1 peak 1\ngoal none'),
+        ('d L 2', 'd L 1',
+         'refused 38 at DER 1\ncause NotDominated\nderivation 1 d\ncomputed L 2 1 0 1\nstated L 1 1 0 1'),
+        ('DER 1\nd L 2 1 0 1 { rnd 1 0 1 } -1\n', 'DER 0\n',
+         'refused 51 at end\ncause NoProof\ngoal L 2 1 0 1',
+         'verified range 2 2\nsolutions 1 derived 0 peak 0\ngoal 0'),
+    ],
+    'rounding_equation': [
+        ('', '', 'verified infeas\nsolutions 0 derived 1 peak 1\ngoal 1'),
+        ('INT 1\n0\n', 'INT 0\n', 'refused 36 at DER 1\ncause NotRoundable\nderivation 1 f\nsum E 1/2 1 0 1'),
+    ],
+    'whole_objective': [
+        ('', '',
+         'refused 51 at end\ncause NoProof\ngoal G 1 1 0 1',
+         'verified range 1 1\nsolutions 1 derived 0 peak 0\ngoal 0'),
+        ('INT 1\n0', 'INT 0', 'refused 51 at end\ncause NoProof\ngoal G 1 1 0 1'),
+        ('a G 1/2 1 0 1\nRTP range 1 1\nSOL 1\ns 1 0 1', 'a E 1/2 1 0 1\nRTP range 7 inf\nSOL 0',
+         'refused 51 at end\ncause NoProof\ngoal G 7 1 0 1',
+         'verified range 7 inf\nsolutions 0 derived 0 peak 0\ngoal 0'),
+        ('1 0 1\nCON 1 0\na G 1/2 1 0 1\nRTP range 1 1', '1 0 1/2\nCON 1 0\na G 1/2 1 0 1\nRTP range 1/2 1/2',
+         'refused 51 at end\ncause NoProof\ngoal G 1/2 1 0 1/2'),
+    ],
+    'cutoff_alone': [
+        ('', '', 'refused 51 at end\ncause NoProof\ngoal absurdity'),
+        ('s 1 0 3', 's 1 0 2',
+         'refused 22 at SOL 0\ncause SolutionBreaks\nsolution 0 s\nconstraint 0 a\nleft 2 G right 3'),
+        ('SOL 1\ns 1 0 3\n', 'SOL 2\ns 1 0 3\nt 1 0 2\n',
+         'refused 22 at SOL 1\ncause SolutionBreaks\nsolution 1 t\nconstraint 0 a\nleft 2 G right 3'),
+        ('SOL 1\ns 1 0 3\n', 'SOL 3\ns 1 0 3\nt 1 0 4\nu 1 0 2\n',
+         'refused 22 at SOL 2\ncause SolutionBreaks\nsolution 2 u\nconstraint 0 a\nleft 2 G right 3'),
+        ('CON 1 0\na G 3 1 0 1\nRTP infeas\nSOL 1\n',
+         'CON 2 0\na G 3 1 0 1\nb L 7/2 1 0 2\nRTP infeas\nSOL 2\nt 1 0 7/4\n',
+         'refused 22 at SOL 0\ncause SolutionBreaks\nsolution 0 t\nconstraint 0 a\nleft 7/4 G right 3'),
+        ('CON 1 0\na G 3 1 0 1\nRTP infeas\nSOL 1\ns 1 0 3\n',
+         'CON 2 0\na G 3 1 0 1\nb L 7 1 0 2\nRTP infeas\nSOL 2\ns 1 0 3\nt 1 0 4\n',
+         'refused 22 at SOL 1\ncause SolutionBreaks\nsolution 1 t\nconstraint 1 b\nleft 8 L right 7'),
+        ('c L 3', 'c L 2',
+         'refused 38 at DER 1\ncause NotDominated\nderivation 1 c\ncomputed L 3 1 0 1\nstated L 2 1 0 1'),
+        ('c L 3', 'c L 4', 'refused 51 at end\ncause NoProof\ngoal absurdity'),
+        ('SOL 1\ns 1 0 3\n', 'SOL 2\ns 1 0 3\nt 1 0 7/2\n', 'refused 51 at end\ncause NoProof\ngoal absurdity'),
+        ('SOL 1\ns 1 0 3\n', 'SOL 0\n', 'refused 39 at DER 1\ncause NoSolution\nderivation 1 c'),
+    ],
+    'cutoff_loose': [
+        ('', '', 'verified range 3 3\nsolutions 1 derived 2 peak 2\ngoal 2'),
+    ],
+    'overflow': [
+        ('', '', 'refused 35 at DER 1\ncause Overflow\nderivation 1 f\nentry 0'),
+        ('SOL 0\n', 'SOL 1\ns 1 0 2\n', 'refused 23 at SOL 0\ncause SolutionOverflow\nsolution 0 s\nconstraint 0 a'),
+    ],
+    'up_and_down': [
+        ('', '', 'verified range -inf inf\nsolutions 0 derived 1 peak 1\ngoal none'),
+        ('lin 3 0 1 2 -1 1 1', 'lin 3 0 1 1 1 2 -1', 'refused 35 at DER 3\ncause Overflow\nderivation 3 f\nentry 1'),
+    ],
+    'no_variables': [
+        ('', '', 'verified infeas\nsolutions 0 derived 0 peak 0\ngoal 0'),
+    ],
+    'no_bounds': [
+        ('', '', 'verified range -inf inf\nsolutions 0 derived 0 peak 0\ngoal none'),
+        ('1 0 1\nCON 0 0\nRTP range -inf inf\nSOL 0\n', f'1 0 {2**126}\nCON 0 0\nRTP range -inf inf\nSOL 1\ns 1 0 2\n',
+         'refused 23 at SOL 0\ncause SolutionOverflow\nsolution 0 s\nobjective'),
+    ],
+    'lenient': [
+        ('', '', 'verified range -inf inf\nsolutions 0 derived 0 peak 0\ngoal none'),
+    ],
+}
+
+# Other texts, and what `explain` prints.
+BEGINNINGS = [
+    ('', 'refused 1 at byte 0\ncause Truncated'),
+    ('%x', 'refused 1 at byte 2\ncause Truncated'),
+    ('VER 1.1', 'refused 3 at byte 4\ncause UnsupportedVersion'),
+    ('VER 1.0\nVAR 4294967295\n', 'refused 1 at byte 23\ncause Truncated'),
+    ('VER 1.0\nVAR 4294967296\n', 'refused 8 at byte 12\ncause CountTooLarge'),
+]
+
+# The name of a derivation, and how it is printed: as it is where its bytes can be seen, and escaped elsewhere.
+NAMES = [
+    (b'Az_0.-9', 'Az_0.-9'),
+    (b'say"hi"', 'say"hi"'),
+    (b'a\\b', r'a\\b'),
+    (b'\xff', r'\xFF'),
+    (b'x\x80y', r'x\x80y'),
+    ('\u00e9t\u00e9'.encode(), '\u00e9t\u00e9'),
+    (b'\0', r'\0'),
+    (b'\x1b[1m', r'\x1B[1m'),
+    (b'\x7f', r'\x7F'),
+]
+
+# Words for `tighten`: whether they name the file `a` to read, and the file `b` to write.
+FILES = [
+    ('tighten', False, False),
+    ('tighten a', True, False),
+    ('tighten --out b', False, True),
+    ('tighten a --out b', True, True),
+    ('tighten --out=b a', True, True),
+    ('tighten --profile=1 a', True, False),
+]
+
+# Words that aren't taken, and what is wrong with them.
+WRONG = [
+    ('', "'vipr' requires a subcommand but one was not provided"),
+    ('chek', "unrecognized subcommand 'chek'"),
+    ('help', "unrecognized subcommand 'help'"),
+    ('check a b', "unexpected argument 'b' found"),
+    ('explain a b', "unexpected argument 'b' found"),
+    ('check --out b', "unexpected argument '--out' found"),
+    ('show --out b', "unexpected argument '--out' found"),
+    ('explain --out=b', "unexpected argument '--out' found"),
+    ('show --profile 1', "unexpected argument '--profile' found"),
+    ('tighten --out', "a value is required for '--out <OUT>' but none was supplied"),
+    ('check --profile', "a value is required for '--profile <PROFILE>' but none was supplied"),
+    ('tighten --out a --out b', "the argument '--out <OUT>' cannot be used multiple times"),
+    ('check --profile 1 --profile 2', "the argument '--profile <PROFILE>' cannot be used multiple times"),
+    ('check --profile 3', 'the profiles are 1 and 2'),
+    ('explain --profile 01', 'the profiles are 1 and 2'),
+    ('tighten --profile=+1', 'the profiles are 1 and 2'),
+    ('check --profile=', 'the profiles are 1 and 2'),
+]
+
+HELP = ['check    Checks a certificate', 'explain  Checks a certificate', 'show     Writes a certificate',
+        'tighten  Writes a verified certificate']
+
+results = []
+numbers = itertools.count()
+
+
+def check(good, what):
+    results.append(good)
+    if not good:
+        print(what, flush=True)
+
+
+# ---- runs
+
+def is_unread(pipe):
+    """Whether bytes that were written to a pipe wait to be read."""
+    count = array.array('i', [0])
+    fcntl.ioctl(pipe, termios.FIONREAD, count)
+    return count[0] > 0
+
+
+def answer(words, *pieces, folder=None):
+    """What is printed on both outputs, and the exit status, where standard input comes in these pieces."""
+    read, write = os.pipe()
+    with subprocess.Popen(['vipr', *words], executable=PROGRAM, stdin=read, stdout=subprocess.PIPE,
+                          stderr=subprocess.PIPE, cwd=folder) as child:
+        os.close(read)
+        try:
+            for piece in pieces:
+                while is_unread(write) and child.poll() is None:
+                    time.sleep(0)
+                os.write(write, piece)
+        except BrokenPipeError:
+            pass
+        os.close(write)
+        printed, complained = child.communicate()
+    return printed, complained, child.returncode
+
+
+def expect(what, wanted, words, *pieces, folder=None):
+    got = answer(words, *pieces, folder=folder)
+    check(got == wanted, f'vipr {" ".join(words)}: {what}: {got!r:.400}, wanted {wanted!r:.400}')
+
+
+def judged(lines):
+    """The answer that is these lines."""
+    return f'{lines}\n'.encode(), b'', int(lines.startswith('refused'))
+
+
+def verdict(lines):
+    """Of what `explain` prints, what `check` does."""
+    return '\n'.join(lines.split('\n')[:1 if lines.startswith('refused') else 2])
+
+
+def new_path():
+    return f'{ROOM}/{os.getpid()}-{next(numbers)}'
+
+
+def written(text):
+    path = new_path()
+    Path(path).write_bytes(text)
+    return path
+
+
+def from_both(what, wanted, text, command, *options):
+    """From standard input as a whole, and from a file."""
+    expect(what, wanted, [command, *options], text)
+    expect(f'{what}, from a file', wanted, [command, written(text), *options], b'other')
+
+
+def in_pieces(what, wanted, text, command, sizes):
+    for size in sizes:
+        pieces = [text[at:at + size] for at in range(0, len(text), size)]
+        expect(f'{what}, {size} bytes at a time', wanted, [command], *pieces)
+
+
+def cut(what, wanted, text, command, places):
+    for place in places:
+        expect(f'{what}, cut at {place}', wanted, [command], text[:place], text[place:])
+
+
+# ---- texts
+
+def certificate(name):
+    return UP_AND_DOWN.encode() if name == 'up_and_down' else (TOP / f'examples/{name}.vipr').read_bytes()
+
+
+def edited(name, old, new):
+    """A certificate with `old` replaced where it first stands."""
+    text = certificate(name)
+    check(old.encode() in text, f'{name} has no {old!r}')
+    return text.replace(old.encode(), new.encode(), 1)
+
+
+def explained_texts():
+    """The texts, with what `explain` prints of each by the first profile, and by the second where that differs."""
+    for name, rows in EDITS.items():
+        for old, new, *lines in rows:
+            yield f'{name} with {new!r} for {old!r}', edited(name, old, new), lines
+    for text, lines in BEGINNINGS:
+        yield repr(text), text.encode(), [lines]
+    first_branch = edited('both_branches', 'DER 5', 'DER 3').split(b'f G')[0]
+    yield 'the first branch alone', first_branch, ['refused 51 at end\ncause NoProof\ngoal absurdity']
+    front = certificate('infeasible').split(b'f G')[0]
+    for name, shown in NAMES:
+        lines = f'refused 34 at DER 2\ncause MixedSigns\nderivation 2 {shown}\nentry 1'
+        yield f'the name {name}', front + name + b' G 1 0 { lin 2 0 1 1 1 } -1\n', [lines]
+
+
+def explains(what, text, lines):
+    """Checks and explains a text, in pieces too, and by both profiles."""
+    for command, printed in ('explain', lines), ('check', [verdict(it) for it in lines]):
+        first, second = judged(printed[0]), judged(printed[-1])
+        from_both(what, first, text, command)
+        in_pieces(what, first, text, command, [1, 2, 3, 7])
+        from_both(what, second, text, command, '--profile', '2')
+        if len(printed) > 1:
+            from_both(what, first, text, command, '--profile', '1')
+
+
+def long_texts():
+    """Names of 65,535 and 65,536 bytes, and comments of 200,000."""
+    verified = EDITS['infeasible'][0][2]
+    yield 'a long name', edited('infeasible', '\nx\n', f'\n{"x" * 65535}\n'), verified
+    yield 'a name that is too long', edited('infeasible', '\nx\n', f'\n{"x" * 65536}\n'), \
+        'refused 17 at byte 14\ncause TokenTooLong'
+    comment = b'%' + b'c' * 200000 + b'\n'
+    yield 'a long comment', comment + certificate('infeasible'), verified
+    yield 'a number behind a comment', comment + edited('infeasible', 'a G 1 1 0 1', f'a G 1 1 0 {M + 1}'), \
+        'refused 5 at byte 200052\ncause NumberTooLarge'
+
+
+def explains_long(what, text, lines):
+    for command, printed in ('explain', lines), ('check', verdict(lines)):
+        from_both(what, judged(printed), text, command)
+        in_pieces(what, judged(printed), text, command, [4999])
+    in_pieces(what, judged(verdict(lines)), text, 'check', [7])
+    # where a buffer ends, and near the end
+    places = [it for it in range(1, len(text)) if it % 65536 < 3 or it % 65536 > 65533 or it > len(text) - 20]
+    cut(what, judged(verdict(lines)), text, 'check', places)
+
+
+def shows(what, text, wanted):
+    from_both(what, wanted, text, 'show')
+    in_pieces(what, wanted, text, 'show', [1, 2, 3, 7])
+
+
+def shown_texts():
+    """The texts that are shown, with the answers. Canonical ones are shown as they are, proofs and others."""
+    for name in [*EDITS, 'cutoff_tight']:
+        text = certificate(name)
+        yield name, text, (certificate('lenient_canonical') if name == 'lenient' else text, b'', 0)
+    yield 'lenient_canonical', certificate('lenient_canonical'), (certificate('lenient_canonical'), b'', 0)
+    # a last reference that comes before the derivation that refers
+    early = edited('both_branches', '} 6\nf', '} 5\nf')
+    yield 'an early last reference', early, (early, b'', 0)
+    cut_off = edited('infeasible', ' -1 } -1\n', '')
+    yield 'a text that ends early', cut_off, (b'', b'refused 1 at byte 108\n', 1)
+
+
+def cut_anywhere():
+    cut('infeasible', judged(verdict(EDITS['infeasible'][0][2])), certificate('infeasible'), 'check', range(1, 117))
+    lenient = certificate('lenient')
+    cut('lenient', (certificate('lenient_canonical'), b'', 0), lenient, 'show', range(1, len(lenient)))
+
+
+# ---- tightening
+
+def chain(length, drops):
+    """A chain of derivations, each of which refers to the one before, and is dropped there or kept to the end."""
+    lines = ['VER 1.0\nVAR 1\nx\nINT 0\nOBJ min\n0\nCON 2 0\na G 1 1 0 1\nb L 0 1 0 1\nRTP infeas\nSOL 0',
+             f'DER {length}']
+    for place in range(1, length):
+        last = place + 2 if drops else -1
+        lines.append(f'f G 1 1 0 1 {{ lin 1 {place if place > 1 else 0} 1 }} {last}')
+    lines.append(f'f G 1 0 {{ lin 2 {length} 1 1 -1 }} -1\n')
+    return '\n'.join(lines).encode()
+
+
+def tightened_texts():
+    """Texts, what each becomes, what is said, and the options."""
+    needless = edited('rounding_max', 'range 2 2', 'range -inf inf')
+    underived = needless.split(b'DER')[0] + b'DER 0\n'
+    long, short = chain(10000, False), chain(10000, True)
+    for text, becomes, kept, removed, before, after, *options in [
+            (certificate('cutoff_loose'), certificate('cutoff_tight'), 1, 1, 2, 1),
+            (certificate('both_branches_loose'), certificate('both_branches'), 5, 1, 6, 4),
+            (certificate('no_variables'), certificate('no_variables'), 0, 0, 0, 0),
+            (certificate('no_bounds'), certificate('no_bounds'), 0, 0, 0, 0),
+            (needless, underived, 0, 1, 1, 0),
+            (certificate('lenient'), certificate('lenient_canonical'), 0, 0, 0, 0),
+            (long, short, 10000, 0, 10000, 1),
+            (certificate('rounding_min'), certificate('rounding_min'), 1, 0, 1, 1),
+            (certificate('rounding_min'), certificate('rounding_min'), 1, 0, 1, 1, '--profile=1'),
+            # a proof by the second profile, and none by the first
+            (certificate('covering_split'), certificate('covering_split'), 5, 0, 4, 4, '--profile', '2'),
+            (certificate('rounding_min'), certificate('whole_objective'), 0, 1, 1, 0, '--profile', '2')]:
+        yield text, becomes, f'kept {kept} removed {removed} peak {before} {after}\n', options
+        if text != becomes:
+            # tightened once more it stays as it is
+            yield becomes, becomes, f'kept {kept} removed 0 peak {after} {after}\n', options
+
+
+def tightens(text, becomes, said, options):
+    """To standard output and to a file, a new one, a longer one, and the one that is read; and it is a proof."""
+    said = said.encode()
+    what = f'{text!r:.200}'
+    from_both(what, (becomes, said, 0), text, 'tighten', *options)
+    read, out = written(text), new_path()
+    expect(f'{what} to a new file', (b'', said, 0), ['tighten', '--out', out, *options], text)
+    check(Path(out).read_bytes() == becomes, f'{what} is not what stands in a new file')
+    longer = written(becomes + text)
+    for file in longer, read:
+        expect(f'{what} to a file', (b'', said, 0), ['tighten', read, *options, '--out', file], b'other')
+        check(Path(file).read_bytes() == becomes, f'{what} is not what stands in the file')
+    got = answer(['check', read, *options], b'other')
+    check(got[1:] == (b'', 0), f'{what} becomes what is answered by {got}')
+
+
+def files_stay():
+    """Where a certificate is refused or can't be read no file is written to, nor created; or it can't be created."""
+    refused, early = (b'', b'refused 32 at DER 6\n', 1), edited('both_branches', '} 6\nf', '} 5\nf')
+    from_both('an early last reference', refused, early, 'tighten')
+    for options in [], ['--profile=1']:
+        expect('a split of the second profile', (b'', b'refused 37 at DER 6\n', 1), ['tighten', *options],
+               certificate('covering_split'))
+    read, missing, there = written(early), new_path(), written(b'as it was')
+    expect('a refused text', refused, ['tighten', read, '--out', missing], b'other')
+    expect('a folder', (b'', b'fault read\n', 3), ['tighten', '/', '--out', missing], b'other')
+    check(not Path(missing).exists(), 'a file was created without a proof')
+    for file, text in (there, b'as it was'), (read, early):
+        expect('a refused text', refused, ['tighten', read, '--out', file], b'other')
+        check(Path(file).read_bytes() == text, 'a file was written to without a proof')
+    for path in f'{missing}/x', '/':
+        expect('a proof', (b'', b'fault write after 0\n', 3), ['tighten', '--out', path], certificate('cutoff_loose'))
+        expect('a refused text', refused, ['tighten', '--out', path], early)
+
+
+# ---- command lines
+
+def words_are_read(words, named, out):
+    """What `tighten` reads and where it writes."""
+    with tempfile.TemporaryDirectory(dir=ROOM) as folder:
+        (Path(folder) / 'a').write_bytes(certificate('cutoff_loose'))
+        text, said = (certificate('cutoff_tight'), b'kept 1 removed 1 peak 2 1\n') if named else \
+            (certificate('rounding_min'), b'kept 1 removed 0 peak 1 1\n')
+        expect('words', (b'' if out else text, said, 0), words.split(), certificate('rounding_min'), folder=folder)
+        if out:
+            check((Path(folder) / 'b').read_bytes() == text, f'vipr {words} leaves another text in b')
+        else:
+            check(os.listdir(folder) == ['a'], f'vipr {words} leaves {os.listdir(folder)}')
+
+
+def words_are_wrong(words, message):
+    printed, complained, status = answer(words.split())
+    complained = complained.decode()
+    check((printed, status) == (b'', 2), f'vipr {words}: {printed!r}, status {status}')
+    check(complained.startswith(f'error: {message}\n'), f'vipr {words}: {complained}')
+    # a value that is missing is told without the usage
+    check('Usage: vipr' in complained or 'a value is required' in message, f'vipr {words}: no usage')
+    check(complained.endswith('\n'), f'vipr {words}: no end of the line')
+
+
+def other_words():
+    """Help, the version, an equals sign before the profile, and files that can't be read."""
+    for words in ['--help'], ['-h'], ['show', '-h'], ['tighten', '-h']:
+        printed, complained, status = answer(words)
+        check((complained, status) == (b'', 0), f'vipr {words}: {complained!r}, status {status}')
+        check(b'Usage: vipr' in printed and printed.endswith(b'\n'), f'vipr {words}: {printed!r}')
+        if len(words) == 1:
+            for row in HELP:
+                check(row in printed.decode(), f'vipr {words} has no {row!r}')
+    expect('the version', (b'vipr 0.1.0\n', b'', 0), ['--version'])
+    expect('whole_objective', judged(EDITS['whole_objective'][0][3]), ['explain', '--profile=2'],
+           certificate('whole_objective'))
+    for command in COMMANDS:
+        for path in new_path(), '/':
+            expect('what cannot be read', (b'', b'fault read\n', 3), [command, path], certificate('infeasible'))
+
+
+def done(task):
+    """Does a task in a process of its own, and gives its results."""
+    results.clear()
+    task[0](*task[1:])
+    return results
+
+
+def main():
+    tasks = [(explains_long, *row) for row in long_texts()] + [(cut_anywhere,)]
+    tasks += [(tightens, *row) for row in tightened_texts()]
+    tasks += [(explains, *row) for row in explained_texts()]
+    tasks += [(shows, *row) for row in shown_texts()]
+    tasks += [(words_are_read, *row) for row in FILES]
+    tasks += [(words_are_wrong, *row) for row in WRONG]
+    tasks += [(files_stay,), (other_words,)]
+    with multiprocessing.get_context('fork').Pool(os.cpu_count()) as pool:
+        for more in pool.imap_unordered(done, tasks):
+            results.extend(more)
+    failed = results.count(False)
+    print(f'answers: {len(results)} checks, {failed} failed')
+    return 1 if failed else 0
+
+
+with tempfile.TemporaryDirectory(prefix='vipr-answers-') as ROOM:
+    STATUS = main()
+sys.exit(STATUS)
