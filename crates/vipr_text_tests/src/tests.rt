@@ -5,3 +5,11 @@ mod linear;
 mod read;
 mod scan;
 mod write;
+
+use std::fmt::Debug;
+use std::process::Abort;
+
+/// What `assert_eq!` does, proved once for all its callers.
+fn same<T: Debug + PartialEq + Drop>(rt: &impl Abort, found: T, wanted: T) {
+    assert_eq!(rt; found, wanted);
+}

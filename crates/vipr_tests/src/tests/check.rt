@@ -6,17 +6,19 @@ mod explained;
 mod profiles;
 mod spent;
 
+use super::same;
 use std::alloc::Global;
 use std::cell::Cell;
 use std::process::Abort;
 use std::test::Fail;
 use vipr_bytes::{Bytes, Failed, Source};
+use vipr_cert::Problem;
 use vipr_check::{
     Checker, Detail, Fault, Place, Refusal, Report, StepDetail, Stop, Verdict, check, check_with,
     explain,
 };
 use vipr_read::{CertReader, Derivations, Solutions};
-use vipr_rules::{KeepAll, LiveOnly};
+use vipr_rules::{KeepAll, LiveOnly, Rows};
 use vipr_scan::TextError;
 
 // x >= 1 and x <= 0.
@@ -89,12 +91,26 @@ fn report_of(verdict: Verdict) -> Option<Report> {
     }
 }
 
+fn refusal_of(verdict: Verdict) -> Option<Refusal> {
+    match verdict {
+        Verdict::Verified(_) => None,
+        Verdict::Refused(refusal) => Some(refusal),
+    }
+}
+
 /// What is answered: `None` where the certificate is verified.
 fn answered<R: Source + Drop>(alloc: Global, source: R) -> Result<Option<Refusal>, Fault> {
-    match check(alloc, source)? {
-        Verdict::Verified(_) => Ok(None),
-        Verdict::Refused(refusal) => Ok(Some(refusal)),
+    match check(alloc, source) {
+        Ok(verdict) => Ok(refusal_of(verdict)),
+        Err(fault) => Err(fault),
     }
+}
+
+/// The peak of a proof, and its goal.
+fn reported<S: Rows>(alloc: Global, text: &[u8]) -> Result<(usize, Option<u32>), Fail> {
+    let verdict = check_with::<Bytes, S>(alloc, Bytes::new(text))?;
+    let report = report_of(verdict).ok_or("it is a proof")?;
+    Ok((report.peak, report.goal))
 }
 
 fn at(cause: u8, place: Place) -> Option<Refusal> {
@@ -103,106 +119,162 @@ fn at(cause: u8, place: Place) -> Option<Refusal> {
 
 #[test]
 fn proofs_are_verified(rt: HostRuntime) -> Result<(), Fail> {
-    let report = report_of(check(rt.alloc(), Bytes::new(INFEASIBLE))?).ok_or("it is a proof")?;
-    assert_eq!(rt; report.solutions, 0);
-    assert_eq!(rt; report.derived, 1);
-    assert_eq!(rt; report.peak, 1);
-    assert_eq!(rt; report.goal, Some(2));
-    let report = report_of(check(rt.alloc(), Bytes::new(ABSURD))?).ok_or("it is a proof")?;
-    assert_eq!(rt; report.derived, 0);
-    assert_eq!(rt; report.peak, 0);
-    assert_eq!(rt; report.goal, Some(0));
+    for (text, derived, peak, goal) in [(INFEASIBLE, 1, 1, 2), (ABSURD, 0, 0, 0)] {
+        let verdict = check(rt.alloc(), Bytes::new(text))?;
+        let report = report_of(verdict).ok_or("it is a proof")?;
+        same(&rt, report.solutions, 0);
+        same(&rt, (report.derived, report.peak), (derived, peak));
+        same(&rt, report.goal, Some(goal));
+    }
     Ok(())
 }
 
 #[test]
 fn any_table_serves(rt: HostRuntime) -> Result<(), Fail> {
-    let verdict = check_with::<Bytes, KeepAll>(rt.alloc(), Bytes::new(INFEASIBLE))?;
-    let report = report_of(verdict).ok_or("it is a proof")?;
-    assert_eq!(rt; report.goal, Some(2));
+    same(
+        &rt,
+        reported::<KeepAll>(rt.alloc(), INFEASIBLE)?,
+        (1, Some(2)),
+    );
     Ok(())
 }
 
 #[test]
 fn both_tables_have_the_same_peak(rt: HostRuntime) -> Result<(), Fail> {
-    let alloc = rt.alloc();
     for (text, peak) in [(BRANCHES, 4), (BRANCHES_AND_MORE, 6)] {
-        let kept = report_of(check_with::<Bytes, KeepAll>(alloc, Bytes::new(text))?);
-        let live = report_of(check_with::<Bytes, LiveOnly>(alloc, Bytes::new(text))?);
-        assert_eq!(rt; kept.ok_or("it is a proof")?.peak, peak);
-        assert_eq!(rt; live.ok_or("it is a proof")?.peak, peak);
+        same(&rt, reported::<KeepAll>(rt.alloc(), text)?.0, peak);
+        same(&rt, reported::<LiveOnly>(rt.alloc(), text)?.0, peak);
     }
     Ok(())
 }
+
+/// What a detail shows.
+enum Shown {
+    Nothing,
+    /// A derivation with this name, and this entry of its sum.
+    Entry(&'static [u8], u32),
+    /// A constraint with this name, and the numerators of both sides.
+    Broken(&'static [u8], i128, i128),
+    /// No proof, as nothing is derived.
+    NoProof,
+}
+
+fn is_shown(detail: &Detail, wanted: &Shown) -> bool {
+    match (detail, wanted) {
+        (Detail::None, Shown::Nothing) | (Detail::NoProof(None), Shown::NoProof) => true,
+        (
+            Detail::Step {
+                name,
+                what: StepDetail::Entry(entry),
+            },
+            Shown::Entry(its, place),
+        ) => name.as_bytes() == *its && entry == place,
+        (
+            Detail::Breaks {
+                name,
+                left,
+                right,
+                ..
+            },
+            Shown::Broken(its, p, q),
+        ) => name.as_bytes() == *its && left.numer() == *p && right.numer() == *q,
+        _ => false,
+    }
+}
+
+fn detail_of(alloc: Global, text: &[u8]) -> Result<Detail, Fault> {
+    match explain(alloc, Bytes::new(text)) {
+        Ok((_, detail)) => Ok(detail),
+        Err(fault) => Err(fault),
+    }
+}
+
+fn shows(alloc: Global, text: &[u8], wanted: &Shown) -> Result<bool, Fault> {
+    let detail = detail_of(alloc, text)?;
+    let shown = is_shown(&detail, wanted);
+    drop(detail);
+    Ok(shown)
+}
+
+// What is said of a proof beside its detail.
+fn explained_report(alloc: Global, text: &[u8]) -> Result<Option<Report>, Fault> {
+    match explain(alloc, Bytes::new(text)) {
+        Ok((verdict, detail)) => {
+            drop(detail);
+            Ok(report_of(verdict))
+        }
+        Err(fault) => Err(fault),
+    }
+}
+
+const DETAILS: [(&[u8], Shown); 5] = [
+    (INFEASIBLE, Shown::Nothing),
+    (MISSPELLED, Shown::Nothing),
+    (MIXED, Shown::Entry(b"f", 1)),
+    (UNSOLVED, Shown::Broken(b"a", 2, 3)),
+    (UNPROVED, Shown::NoProof),
+];
 
 /// The detail is that of the first test that fails, and a proof has none.
 #[test]
 fn refusals_are_explained(rt: HostRuntime) -> Result<(), Fail> {
     let alloc = rt.alloc();
-    let (verdict, detail) = explain(alloc, Bytes::new(INFEASIBLE))?;
-    assert_eq!(rt; report_of(verdict).ok_or("it is a proof")?.goal, Some(2));
-    assert!(rt; matches!(&detail, Detail::None));
-    let (_, detail) = explain(alloc, Bytes::new(MISSPELLED))?;
-    assert!(rt; matches!(&detail, Detail::None));
-    let (_, detail) = explain(alloc, Bytes::new(MIXED))?;
-    let Detail::Step { name, what } = &detail else {
-        return Err(Fail::from("no derivation"));
-    };
-    assert_eq!(rt; name.as_bytes(), b"f".as_slice());
-    assert!(rt; matches!(what, StepDetail::Entry(1)));
-    let (_, detail) = explain(alloc, Bytes::new(UNSOLVED))?;
-    let Detail::Breaks {
-        name,
-        left,
-        right,
-        ..
-    } = &detail
-    else {
-        return Err(Fail::from("no solution"));
-    };
-    assert_eq!(rt; name.as_bytes(), b"a".as_slice());
-    assert!(rt; left.numer() == 2 && right.numer() == 3);
-    let (_, detail) = explain(alloc, Bytes::new(UNPROVED))?;
-    assert!(rt; matches!(&detail, Detail::NoProof(None)));
+    let report = explained_report(alloc, INFEASIBLE)?.ok_or("it is a proof")?;
+    same(&rt, report.goal, Some(2));
+    for (text, wanted) in &DETAILS {
+        assert!(rt; shows(alloc, text, wanted)?);
+    }
     Ok(())
+}
+
+fn problem_of(alloc: Global, text: &[u8]) -> Result<Problem, Fail> {
+    let reader = CertReader::new(alloc, Bytes::new(text))?;
+    let (problem, solutions) = reader.read_problem(alloc)?;
+    drop(solutions);
+    Ok(problem)
+}
+
+fn refuses_thrice(rt: &impl Abort, checker: &mut Checker<LiveOnly>) {
+    let place = Place::End;
+    let refusal = Stop::Refused(Refusal { cause: 52, place });
+    for _ in 0..3 {
+        assert!(rt; checker.in_solutions());
+        same(rt, checker.end_solutions(), Err(refusal));
+    }
 }
 
 /// A stop leaves the phase, and every call after it answers the same.
 #[test]
 fn a_refusal_is_answered_again(rt: HostRuntime) -> Result<(), Fail> {
-    let alloc = rt.alloc();
-    let (problem, _) = CertReader::new(alloc, Bytes::new(UNMET))?.read_problem(alloc)?;
-    let mut checker: Checker<LiveOnly> = Checker::new(alloc, problem)?;
-    let place = Place::End;
-    let refusal = Stop::Refused(Refusal { cause: 52, place });
-    for _ in 0..3 {
-        assert!(rt; checker.in_solutions());
-        assert_eq!(rt; checker.end_solutions(), Err(refusal));
-    }
+    let problem = problem_of(rt.alloc(), UNMET)?;
+    let mut checker: Checker<LiveOnly> = Checker::new(rt.alloc(), problem)?;
+    refuses_thrice(&rt, &mut checker);
+    drop(checker);
     Ok(())
 }
 
+const OTHERS: [(&[u8], u8, Place); 13] = [
+    (b"", 1, Place::Byte(0)),
+    (TRAILING, 18, Place::Byte(69)),
+    (LATE, 31, Place::Der(2)),
+    (MIXED, 34, Place::Der(2)),
+    (OVERFLOWING, 35, Place::Der(1)),
+    (UNDOMINATED, 38, Place::Der(2)),
+    (UNPROVED, 51, Place::End),
+    (BOUNDED, 51, Place::End),
+    (LISTED, 51, Place::End),
+    (UNMET, 52, Place::End),
+    (UNSOLVED, 22, Place::Sol(0)),
+    (CUT_OFF, 39, Place::Der(0)),
+    // what is assumed is no goal
+    (ASSUMED, 51, Place::End),
+];
+
 #[test]
 fn others_are_refused(rt: HostRuntime) -> Result<(), Fail> {
-    let rows = [
-        (b"".as_slice(), 1, Place::Byte(0)),
-        (TRAILING, 18, Place::Byte(69)),
-        (LATE, 31, Place::Der(2)),
-        (MIXED, 34, Place::Der(2)),
-        (OVERFLOWING, 35, Place::Der(1)),
-        (UNDOMINATED, 38, Place::Der(2)),
-        (UNPROVED, 51, Place::End),
-        (BOUNDED, 51, Place::End),
-        (LISTED, 51, Place::End),
-        (UNMET, 52, Place::End),
-        (UNSOLVED, 22, Place::Sol(0)),
-        (CUT_OFF, 39, Place::Der(0)),
-        // what is assumed is no goal
-        (ASSUMED, 51, Place::End),
-    ];
-    for (text, cause, place) in rows {
+    for (text, cause, place) in &OTHERS {
         let answer = answered(rt.alloc(), Bytes::new(text))?;
-        assert_eq!(rt; answer, at(cause, place));
+        same(&rt, answer, at(*cause, *place));
     }
     Ok(())
 }
@@ -258,18 +330,36 @@ fn reads_what_it_needs<H: Abort + AllocGlobal>(
     let answer = answered(rt.alloc(), source);
     let len = given.len();
     let pieces = len.min(needed).div_ceil(piece);
-    if len >= needed {
-        assert_eq!(rt; answer, Ok(wanted), "{len} bytes by {piece}");
-        assert_eq!(rt; reads.get(), pieces, "{len} bytes by {piece}");
+    let whole = len >= needed;
+    let wanted = if fails && !whole {
+        Err(Fault::Read)
     } else {
-        let wanted = if fails { Err(Fault::Read) } else { Ok(wanted) };
-        assert_eq!(rt; answer, wanted, "{len} bytes by {piece}");
-        assert_eq!(rt;
-            reads.get(),
-            pieces.saturating_add(1),
-            "{len} bytes by {piece}"
-        );
+        Ok(wanted)
+    };
+    let calls = if whole {
+        pieces
+    } else {
+        pieces.saturating_add(1)
+    };
+    let case = (len, piece);
+    same(rt, (case, answer, reads.get()), (case, wanted, calls));
+}
+
+/// The same for each beginning before a failure, and for the whole before its end.
+fn reads_by_pieces<H: Abort + AllocGlobal>(
+    rt: &H,
+    text: &[u8],
+    piece: usize,
+    needed: usize,
+    wanted: Option<Refusal>,
+)
+    requires { 0 < piece }
+{
+    for given in 0..=text.len() {
+        let (front, _) = text.split_at(given);
+        reads_what_it_needs(rt, front, true, piece, needed, wanted);
     }
+    reads_what_it_needs(rt, text, false, piece, needed, wanted);
 }
 
 /// A read is made only where the bytes at hand don't decide, and none after a failure or the end.
@@ -289,11 +379,7 @@ fn reads_are_made_as_they_are_needed(rt: HostRuntime) {
     ];
     for (text, needed, wanted) in rows {
         for piece in 1..8 {
-            for given in 0..=text.len() {
-                let (front, _) = text.split_at(given);
-                reads_what_it_needs(&rt, front, true, piece, needed, wanted);
-            }
-            reads_what_it_needs(&rt, text, false, piece, needed, wanted);
+            reads_by_pieces(&rt, text, piece, needed, wanted);
         }
     }
 }
@@ -302,20 +388,24 @@ fn reads_are_made_as_they_are_needed(rt: HostRuntime) {
 /// pieces of 50.
 #[test]
 fn long_names_are_read_as_they_are_needed(rt: HostRuntime) -> Result<(), Fail> {
-    let alloc = rt.alloc();
-    let (front, behind) = INFEASIBLE.split_at_checked(14).ok_or("too short")?;
-    let rows = [
+    for (more, needed, wanted) in [
         (65534, 65534 + 117 + 1, None),
         (65535, 65536 + 14, at(17, Place::Byte(14))),
         (65540, 65536 + 14, at(17, Place::Byte(14))),
-    ];
-    for (more, needed, wanted) in rows {
-        let mut text = front.to_vec(alloc)?;
-        text.resize(14 + more, b'x')?;
-        text.extend_from_slice(behind)?;
+    ] {
+        let text = with_long_name(rt.alloc(), more)?;
         reads_what_it_needs(&rt, text.as_slice(), false, 50, needed, wanted);
     }
     Ok(())
+}
+
+// A certificate whose variable has so many bytes more in its name.
+fn with_long_name(alloc: Global, more: u32) -> Result<Vec<u8>, Fail> {
+    let (front, behind) = INFEASIBLE.split_at_checked(14).ok_or("too short")?;
+    let mut text = front.to_vec(alloc)?;
+    text.resize(14 + more as usize, b'x')?;
+    text.extend_from_slice(behind)?;
+    Ok(text)
 }
 
 // The only solution is read, and then nothing.
@@ -326,9 +416,9 @@ fn stops_behind_solutions(
     solutions: &mut Solutions<Counting<'_>>,
 ) -> Result<(), Fail> {
     assert!(rt; solutions.next(alloc)?.is_some());
-    assert_eq!(rt; reads.get(), 81);
+    same(rt, reads.get(), 81);
     assert!(rt; solutions.next(alloc)?.is_none());
-    assert_eq!(rt; reads.get(), 81);
+    same(rt, reads.get(), 81);
     Ok(())
 }
 
@@ -340,10 +430,10 @@ fn stops_behind_derivations(
     derivations: &mut Derivations<Counting<'_>>,
 ) -> Result<(), Fail> {
     assert!(rt; derivations.next(alloc)?.is_some());
-    assert_eq!(rt; reads.get(), 110);
+    same(rt, reads.get(), 110);
     for _ in 0..2 {
         assert!(rt; derivations.next(alloc)?.is_none());
-        assert_eq!(rt; reads.get(), 111);
+        same(rt, reads.get(), 111);
     }
     Ok(())
 }
@@ -360,78 +450,121 @@ fn readers_stop_behind_their_items(rt: HostRuntime) -> Result<(), Fail> {
         reads: &reads,
     };
     let reader = CertReader::new(alloc, source)?;
-    assert_eq!(rt; reads.get(), 0);
+    same(&rt, reads.get(), 0);
     let (_, mut solutions) = reader.read_problem(alloc)?;
-    assert_eq!(rt; reads.get(), 73);
+    same(&rt, reads.get(), 73);
     stops_behind_solutions(&rt, alloc, &reads, &mut solutions)?;
-    assert_eq!(rt; solutions.left(), 0);
+    assert!(rt; solutions.left() == 0);
     let mut derivations = solutions.finish()?;
-    assert_eq!(rt; reads.get(), 87);
+    same(&rt, reads.get(), 87);
     stops_behind_derivations(&rt, alloc, &reads, &mut derivations)
+}
+
+// The source fails in the only solution.
+fn fails_in_solutions(rt: &impl Abort, alloc: Global, solutions: &mut Solutions<Counting<'_>>) {
+    same(rt, solutions.next(alloc).err(), Some(TextError::Read));
+    same(rt, solutions.next(alloc).err(), Some(TextError::Spent));
+    same(rt, solutions.left(), 1);
+}
+
+fn fails_in_derivations(
+    rt: &impl Abort,
+    alloc: Global,
+    derivations: &mut Derivations<Counting<'_>>,
+) {
+    same(rt, derivations.next(alloc).err(), Some(TextError::Read));
+    same(rt, derivations.next(alloc).err(), Some(TextError::Spent));
+}
+
+// The source fails behind the only solution: where the derivations begin, or among them.
+fn fails_behind_solutions(
+    rt: &impl Abort,
+    alloc: Global,
+    mut solutions: Solutions<Counting<'_>>,
+    given: usize,
+) -> Result<(), Fail> {
+    assert!(rt; solutions.next(alloc)?.is_some());
+    assert!(rt; solutions.left() == 0);
+    match solutions.finish() {
+        Ok(mut derivations) => fails_in_derivations(rt, alloc, &mut derivations),
+        Err(error) => same(rt, (error, given < 87), (TextError::Read, true)),
+    }
+    Ok(())
+}
+
+fn fails_after<H: Abort + AllocGlobal>(
+    rt: &H,
+    left: &[u8],
+    reads: &Cell<usize>,
+) -> Result<(), Fail> {
+    let alloc = rt.alloc();
+    let source = Counting {
+        left,
+        piece: 1,
+        fails: true,
+        reads,
+    };
+    let (problem, mut solutions) = CertReader::new(alloc, source)?.read_problem(alloc)?;
+    drop(problem);
+    if left.len() < 81 {
+        fails_in_solutions(rt, alloc, &mut solutions);
+        return Ok(());
+    }
+    fails_behind_solutions(rt, alloc, solutions, left.len())
 }
 
 /// A reader whose source failed reads no more.
 #[test]
 fn readers_stop_at_a_failure(rt: HostRuntime) -> Result<(), Fail> {
-    let alloc = rt.alloc();
     for given in 73..SOLVED.len() {
         let reads = Cell::new(0);
         let (left, _) = SOLVED.split_at(given);
-        let source = Counting {
-            left,
-            piece: 1,
-            fails: true,
-            reads: &reads,
-        };
-        let (_, mut solutions) = CertReader::new(alloc, source)?.read_problem(alloc)?;
-        if given < 81 {
-            assert_eq!(rt; solutions.next(alloc).err(), Some(TextError::Read));
-            assert_eq!(rt; solutions.next(alloc).err(), Some(TextError::Spent));
-            assert_eq!(rt; solutions.left(), 1);
-        } else {
-            assert!(rt; solutions.next(alloc)?.is_some());
-            assert_eq!(rt; solutions.left(), 0);
-            match solutions.finish() {
-                Ok(mut derivations) => {
-                    assert_eq!(rt; derivations.next(alloc).err(), Some(TextError::Read));
-                    assert_eq!(rt; derivations.next(alloc).err(), Some(TextError::Spent));
-                }
-                Err(error) => assert_eq!(rt; (error, given < 87), (TextError::Read, true)),
-            }
-        }
-        assert_eq!(rt; reads.get(), given + 1);
+        fails_after(&rt, left, &reads)?;
+        same(&rt, reads.get(), given + 1);
     }
     Ok(())
+}
+
+// What is answered to a beginning of a proof, a byte at a time and at once.
+fn answer_to(rt: &impl Abort, alloc: Global, beginning: &[u8]) -> Result<Option<Refusal>, Fault> {
+    let reads = Cell::new(0);
+    let source = Counting {
+        left: beginning,
+        piece: 1,
+        fails: false,
+        reads: &reads,
+    };
+    let answer = answered(alloc, source);
+    same(rt, answered(alloc, Bytes::new(beginning)), answer);
+    answer
+}
+
+// The cause, 0 where it is verified, which stands at the end of the beginning where that is missing.
+fn cause_of(rt: &impl Abort, alloc: Global, beginning: &[u8]) -> u8 {
+    let len = beginning.len();
+    let answer = answer_to(rt, alloc, beginning);
+    let cause = match answer {
+        Ok(Some(refusal)) => refusal.cause,
+        Ok(None) | Err(_) => 0,
+    };
+    match cause {
+        0 => same(rt, (answer, len), (Ok(None), 116)),
+        1 => same(rt, answer, Ok(at(1, Place::Byte(len as u64)))),
+        _ => {}
+    }
+    cause
 }
 
 /// How many of a certificate's beginnings have each cause, 0 standing for those that are verified.
 #[test]
 fn beginnings_are_refused(rt: HostRuntime) {
-    let alloc = rt.alloc();
     let mut counts = [0u8; 256];
     for len in 0..INFEASIBLE.len() {
         let (beginning, _) = INFEASIBLE.split_at(len);
-        let reads = Cell::new(0);
-        let source = Counting {
-            left: beginning,
-            piece: 1,
-            fails: false,
-            reads: &reads,
-        };
-        let answer = answered(alloc, source);
-        assert_eq!(rt; answered(alloc, Bytes::new(beginning)), answer);
-        let cause = match answer {
-            Ok(Some(refusal)) => refusal.cause,
-            Ok(None) | Err(_) => 0,
-        };
-        match cause {
-            0 => assert_eq!(rt; (answer, len), (Ok(None), 116)),
-            1 => assert_eq!(rt; answer, Ok(at(1, Place::Byte(len as u64)))),
-            _ => {}
-        }
-        counts[cause as usize] = counts[cause as usize].saturating_add(1);
+        let cause = cause_of(&rt, rt.alloc(), beginning) as usize;
+        counts[cause] = counts[cause].saturating_add(1);
     }
-    let rows = [
+    for (cause, wanted) in [
         (0, 1),
         (1, 87),
         (2, 16),
@@ -441,8 +574,7 @@ fn beginnings_are_refused(rt: HostRuntime) {
         (13, 5),
         (14, 2),
         (16, 1),
-    ];
-    for (cause, wanted) in rows {
-        assert_eq!(rt; counts[cause as usize], wanted, "cause {cause}");
+    ] {
+        same(&rt, (cause, counts[cause as usize]), (cause, wanted));
     }
 }

@@ -1,11 +1,12 @@
 //! Certificates as texts, and what they become.
 mod texts;
 
+use super::same;
 use std::alloc::Global;
 use std::process::Abort;
 use std::test::Fail;
 use vipr_bytes::{Bytes, FromWrite};
-use vipr_text::{read_certificate, write_certificate};
+use vipr_text::{Certificate, read_certificate, write_certificate};
 use vipr_tighten::tighten_certificate;
 
 // The constraint `x >= 3`, a solution that attains it, and the cutoff there.
@@ -119,64 +120,59 @@ g G 1 0 { uns 4 2 5 3 } -1
 
 #[test]
 fn a_cutoff_stays_for_itself_alone(rt: HostRuntime) -> Result<(), Fail> {
-    assert_eq!(rt;
-        tightened(&rt, rt.alloc(), CUTOFF, Some(0))?.as_slice(),
-        UNDERIVED
-    );
-    assert_eq!(rt;
-        tightened(&rt, rt.alloc(), CUTOFF, Some(1))?.as_slice(),
-        CUTOFF
-    );
-    assert_eq!(rt;
-        tightened(&rt, rt.alloc(), CUTOFF, None)?.as_slice(),
-        UNDERIVED
-    );
+    for (goal, wanted) in [(Some(0), UNDERIVED), (Some(1), CUTOFF), (None, UNDERIVED)] {
+        is_tightened(&rt, rt.alloc(), CUTOFF, goal, wanted)?;
+    }
     Ok(())
 }
 
 #[test]
 fn entries_with_multiplier_0_go(rt: HostRuntime) -> Result<(), Fail> {
-    assert_eq!(rt;
-        tightened(&rt, rt.alloc(), IGNORED, Some(2))?.as_slice(),
-        ROUNDED
-    );
-    assert_eq!(rt;
-        tightened(&rt, rt.alloc(), ROUNDED, Some(1))?.as_slice(),
-        ROUNDED
-    );
+    for (text, goal) in [(IGNORED, 2), (ROUNDED, 1)] {
+        is_tightened(&rt, rt.alloc(), text, Some(goal), ROUNDED)?;
+    }
     Ok(())
 }
 
 #[test]
 fn indices_and_last_references_follow(rt: HostRuntime) -> Result<(), Fail> {
-    assert_eq!(rt;
-        tightened(&rt, rt.alloc(), UNUSED, Some(7))?.as_slice(),
-        SPLIT
-    );
-    assert_eq!(rt;
-        tightened(&rt, rt.alloc(), SPLIT, Some(6))?.as_slice(),
-        SPLIT
-    );
+    for (text, goal) in [(UNUSED, 7), (SPLIT, 6)] {
+        is_tightened(&rt, rt.alloc(), text, Some(goal), SPLIT)?;
+    }
     Ok(())
 }
 
-// The text of the tightened certificate.
 fn tightened(
     rt: &impl Abort,
     alloc: Global,
     text: &[u8],
     goal: Option<u32>,
-) -> Result<Vec<u8>, Fail> {
+) -> Result<Certificate, Fail> {
     let certificate = read_certificate(alloc, Bytes::new(text))?;
     let constraints = certificate.problem().cons().len() + certificate.derivations().len();
     assert!(rt; certificate.refers_back());
     assert!(rt; goal.is_none_or(|index| (index as usize) < constraints));
-    let tightened = tighten_certificate(alloc, certificate, goal)?;
+    Ok(tighten_certificate(alloc, certificate, goal)?)
+}
+
+fn write_into(rt: &impl Abort, alloc: Global, certificate: &Certificate, bytes: &mut Vec<u8>) {
+    let mut sink = FromWrite::new(bytes);
+    same(rt, write_certificate(alloc, certificate, &mut sink), Ok(()));
+}
+
+// The text of the tightened certificate is this one.
+fn is_tightened(
+    rt: &impl Abort,
+    alloc: Global,
+    text: &[u8],
+    goal: Option<u32>,
+    wanted: &[u8],
+) -> Result<(), Fail> {
+    let certificate = tightened(rt, alloc, text, goal)?;
     // the writer has its room before
     let mut bytes = Vec::with_capacity(alloc, 4096)?;
-    {
-        let mut sink = FromWrite::new(&mut bytes);
-        assert_eq!(rt; write_certificate(alloc, &tightened, &mut sink), Ok(()));
-    }
-    Ok(bytes)
+    write_into(rt, alloc, &certificate, &mut bytes);
+    drop(certificate);
+    same(rt, bytes.as_slice(), wanted);
+    Ok(())
 }

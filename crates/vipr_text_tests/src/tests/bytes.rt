@@ -1,3 +1,4 @@
+use super::same;
 use std::io::{self, ErrorKind, Read, Write};
 use std::process::Abort;
 use vipr_bytes::{Bytes, Failed, FromRead, FromWrite, Sink, Source, WriteFailed, write_bytes};
@@ -45,7 +46,7 @@ fn first<R: Source>(source: &mut R) -> Result<(usize, u8), Failed> {
 
 /// Reads once, and compares how many bytes came and the first of the buffer.
 fn gives<R: Source>(rt: &impl Abort, source: &mut R, wanted: Result<(usize, u8), Failed>) {
-    assert_eq!(rt; first(source), wanted);
+    same(rt, first(source), wanted);
 }
 
 #[test]
@@ -69,7 +70,7 @@ fn a_reader_is_read_and_its_errors_are_failures(rt: HostRuntime) {
 
 /// Writes three bytes once, and compares how many were taken.
 fn takes<W: Sink>(rt: &impl Abort, sink: &mut W, wanted: Result<usize, Failed>) {
-    assert_eq!(rt; sink.write(b"abc"), wanted);
+    same(rt, sink.write(b"abc"), wanted);
 }
 
 fn takes_two_of_three_and_fails<W: Write + Drop>(rt: &impl Abort, inner: W) {
@@ -86,7 +87,7 @@ fn takes_two_of_three_and_fails<W: Write + Drop>(rt: &impl Abort, inner: W) {
 fn a_writer_is_written_and_its_errors_are_failures(rt: HostRuntime) {
     let mut bytes = Vec::new(rt.alloc());
     takes_two_of_three_and_fails(&rt, &mut bytes);
-    assert_eq!(rt; bytes.as_slice(), b"abab".as_slice());
+    same(&rt, bytes.as_slice(), b"abab".as_slice());
 }
 
 /// Is interrupted at one call and goes on at the next. It counts its calls.
@@ -139,7 +140,7 @@ fn an_interrupted_read_fails_and_is_not_asked_for_again(rt: HostRuntime) {
             gives(&rt, &mut source, wanted);
         }
     }
-    assert_eq!(rt; reader.calls, 2);
+    same(&rt, reader.calls, 2);
 }
 
 /// Hands bytes over, and compares the answer.
@@ -150,7 +151,7 @@ fn hands_over<W: Write>(
     wanted: Result<(), WriteFailed>,
 ) {
     let mut sink = FromWrite::new(writer);
-    assert_eq!(rt; write_bytes(&mut sink, bytes), wanted);
+    same(rt, write_bytes(&mut sink, bytes), wanted);
 }
 
 #[test]
@@ -158,7 +159,7 @@ fn bytes_are_handed_over_until_all_are_taken(rt: HostRuntime) {
     let mut bytes = Vec::new(rt.alloc());
     hands_over(&rt, &mut bytes, b"abcde", Ok(()));
     hands_over(&rt, &mut bytes, b"", Ok(()));
-    assert_eq!(rt; bytes.as_slice(), b"abcde".as_slice());
+    same(&rt, bytes.as_slice(), b"abcde".as_slice());
 }
 
 /// The number of calls that a writer gets for five bytes, the second of which is interrupted.
@@ -175,6 +176,6 @@ fn calls_for_five<W: Write + Drop>(rt: &impl Abort, inner: W) -> usize {
 #[test]
 fn an_interrupted_write_ends_the_call(rt: HostRuntime) {
     let mut bytes = Vec::new(rt.alloc());
-    assert_eq!(rt; calls_for_five(&rt, &mut bytes), 2);
-    assert_eq!(rt; bytes.as_slice(), b"ab".as_slice());
+    same(&rt, calls_for_five(&rt, &mut bytes), 2);
+    same(&rt, bytes.as_slice(), b"ab".as_slice());
 }

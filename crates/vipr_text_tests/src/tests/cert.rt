@@ -1,4 +1,5 @@
 //! Each constructor once within its limits, and past those that are cheap to reach.
+use super::same;
 use bstr::BString;
 use std::alloc::{AllocError, Global};
 use std::process::Abort;
@@ -126,9 +127,9 @@ fn may_have(alloc: Global, byte: u8) -> Result<bool, AllocError> {
 
 fn is_kept(rt: &impl Abort, alloc: Global) -> Result<(), Fail> {
     let token = name(alloc, b"x#1")?;
-    assert_eq!(rt; token.as_bytes(), b"x#1".as_slice());
+    same(rt, token.as_bytes(), b"x#1".as_slice());
     let again = Name::of_token(alloc, token.as_bytes())?;
-    assert_eq!(rt; again.as_bytes(), b"x#1".as_slice());
+    same(rt, again.as_bytes(), b"x#1".as_slice());
     Ok(())
 }
 
@@ -136,7 +137,7 @@ fn is_kept(rt: &impl Abort, alloc: Global) -> Result<(), Fail> {
 fn names(rt: HostRuntime) -> Result<(), Fail> {
     let alloc = rt.alloc();
     for (len, fits) in [(0, false), (1, true), (65_535, true), (65_536, false)] {
-        assert_eq!(rt; has_length(alloc, len)?, fits, "at {len}");
+        same(&rt, (len, has_length(alloc, len)?), (len, fits));
     }
     for (byte, fits) in [
         (0, true),
@@ -148,7 +149,7 @@ fn names(rt: HostRuntime) -> Result<(), Fail> {
         (33, true),
         (255, true),
     ] {
-        assert_eq!(rt; may_have(alloc, byte)?, fits, "at {byte}");
+        same(&rt, (byte, may_have(alloc, byte)?), (byte, fits));
     }
     is_kept(&rt, alloc)
 }
@@ -161,22 +162,30 @@ fn problems(rt: HostRuntime) -> Result<(), Fail> {
         (1, 1, 2, false),
         (1, 1, 1, true),
     ] {
-        assert_eq!(rt; fits(rt.alloc(), integer, objective, constrained)?, wanted);
+        same(
+            &rt,
+            fits(rt.alloc(), integer, objective, constrained)?,
+            wanted,
+        );
     }
     Ok(())
 }
 
 // The parts of the problem whose variables are all the second.
 fn has_its_lists(rt: &impl Abort, found: &Problem) {
-    assert_eq!(rt; found.names().len(), 2);
-    assert_eq!(rt; found.ints().indices(), [1].as_slice());
-    assert_eq!(rt; found.cons().len(), 1);
-    assert_eq!(rt; found.bound_count(), 1);
+    same(rt, found.names().len(), 2);
+    same(rt, found.ints().indices(), [1].as_slice());
+    same(rt, found.cons().len(), 1);
+    same(rt, found.bound_count(), 1);
 }
 
 fn has_its_aim(rt: &impl Abort, found: &Problem) {
-    assert_eq!(rt; found.sense(), Goal::Max);
-    assert_eq!(rt; found.objective().entries(), [(1, Frac::one())].as_slice());
+    same(rt, found.sense(), Goal::Max);
+    same(
+        rt,
+        found.objective().entries(),
+        [(1, Frac::one())].as_slice(),
+    );
     let claim = found.claim();
     assert!(rt; matches!(claim, Claim::Range(None, Some(upper)) if upper == Frac::one()));
 }
@@ -192,7 +201,7 @@ fn problems_have_their_parts(rt: HostRuntime) -> Result<(), Fail> {
 #[test]
 fn certificates(rt: HostRuntime) -> Result<(), Fail> {
     for (solved, derived, wanted) in [(2, 1, false), (1, 2, false), (1, 1, true)] {
-        assert_eq!(rt; has_shape(rt.alloc(), solved, derived)?, wanted);
+        same(&rt, has_shape(rt.alloc(), solved, derived)?, wanted);
     }
     Ok(())
 }
@@ -209,7 +218,7 @@ fn lengths(found: &Certificate) -> (usize, usize, usize) {
 #[test]
 fn certificates_have_their_parts(rt: HostRuntime) -> Result<(), Fail> {
     let found = certificate_by(rt.alloc(), Reason::Asm)?;
-    assert_eq!(rt; lengths(&found), (2, 1, 1));
+    same(&rt, lengths(&found), (2, 1, 1));
     Ok(())
 }
 
@@ -238,11 +247,11 @@ fn references(rt: HostRuntime) -> Result<(), Fail> {
     let alloc = rt.alloc();
     assert!(rt; refers_back(alloc, Reason::Asm)?);
     for (index, back) in [(0, true), (1, false)] {
-        assert_eq!(rt; sum_refers_back(alloc, index)?, back, "a sum at {index}");
-        assert_eq!(rt;
-            united_refers_back(alloc, index)?,
-            back,
-            "united at {index}"
+        same(&rt, (index, sum_refers_back(alloc, index)?), (index, back));
+        same(
+            &rt,
+            (index, united_refers_back(alloc, index)?),
+            (index, back),
         );
     }
     Ok(())

@@ -1,3 +1,4 @@
+use super::same;
 use std::alloc::AllocError;
 use std::cmp::Ordering;
 use std::hash::{DefaultHasher, Hash, Hasher};
@@ -35,7 +36,7 @@ fn refused_parts(rt: HostRuntime) {
         (1, 0, Err(FracError::ZeroDenominator)),
         (-M, M, Ok(Frac::one().neg())),
     ] {
-        assert_eq!(rt; Frac::new(p, q), wanted);
+        same(&rt, Frac::new(p, q), wanted);
     }
 }
 
@@ -43,7 +44,7 @@ type Sum = Result<Parts, Overflow>;
 
 fn sum_is(rt: &impl Abort, left: Parts, right: Parts, wanted: Sum) {
     let sum = frac(rt, left).add(frac(rt, right));
-    assert_eq!(rt; sum, answer(rt, wanted));
+    same(rt, sum, answer(rt, wanted));
 }
 
 const SUMS: [(Parts, Parts, Sum); 6] = [
@@ -64,7 +65,7 @@ fn sums(rt: HostRuntime) {
 
 fn product_is(rt: &impl Abort, left: Parts, right: Parts, wanted: Sum) {
     let product = frac(rt, left).mul(frac(rt, right));
-    assert_eq!(rt; product, answer(rt, wanted));
+    same(rt, product, answer(rt, wanted));
 }
 
 const PRODUCTS: [(Parts, Parts, Sum); 4] = [
@@ -85,10 +86,10 @@ fn becomes(rt: &impl Abort, sum: &mut Partial, factors: (Parts, Parts), wanted: 
     let added = sum.add_product(frac(rt, factors.0), frac(rt, factors.1));
     match wanted {
         Ok(parts) => {
-            assert_eq!(rt; added, Ok(()));
-            assert_eq!(rt; sum.value(), frac(rt, parts));
+            same(rt, added, Ok(()));
+            same(rt, sum.value(), frac(rt, parts));
         }
-        Err(error) => assert_eq!(rt; added, Err(error)),
+        Err(error) => same(rt, added, Err(error)),
     }
 }
 
@@ -112,7 +113,7 @@ fn partial_sums(rt: HostRuntime) {
 }
 
 fn compares(rt: &impl Abort, left: Frac, right: Frac, wanted: Ordering) {
-    assert_eq!(rt; left.cmp(&right), wanted);
+    same(rt, left.cmp(&right), wanted);
 }
 
 #[test]
@@ -127,19 +128,16 @@ fn order(rt: HostRuntime) {
 #[test]
 fn equal_ones(rt: HostRuntime) {
     let half = frac(&rt, (1, 2));
-    let same = frac(&rt, (2, 4));
-    compares(&rt, same, half, Ordering::Equal);
-    assert_eq!(rt; same, half);
-    assert_eq!(rt; hash(same), hash(half));
+    let other = frac(&rt, (2, 4));
+    compares(&rt, other, half, Ordering::Equal);
+    same(&rt, other, half);
+    same(&rt, hash(other), hash(half));
 }
 
 fn rounds(rt: &impl Abort, (p, q): Parts, floor: i128, ceil: i128) {
     let f = frac(rt, (p, q));
-    assert_eq!(rt;
-        (f.floor(), f.ceil(), f.is_whole()),
-        (floor, ceil, floor == ceil),
-        "{p}/{q}"
-    );
+    let found = (f.floor(), f.ceil(), f.is_whole());
+    same(rt, (p, q, found), (p, q, (floor, ceil, floor == ceil)));
 }
 
 #[test]
@@ -150,7 +148,8 @@ fn whole_numbers(rt: HostRuntime) {
 }
 
 fn is_read(rt: &impl Abort, text: &str, wanted: Result<Parts, NumberError>) {
-    assert_eq!(rt; Frac::parse(text.as_bytes()), answer(rt, wanted), "{text}");
+    let found = Frac::parse(text.as_bytes());
+    same(rt, (text, found), (text, answer(rt, wanted)));
 }
 
 const TEXTS: [(&str, Result<Parts, NumberError>); 21] = [
@@ -200,7 +199,7 @@ fn read(rt: HostRuntime) {
 }
 
 fn append(rt: &impl Abort, out: &mut Vec<u8>, parts: Parts) -> Result<(), AllocError> {
-    assert_eq!(rt; frac(rt, parts).write_to(out), Ok(()));
+    same(rt, frac(rt, parts).write_to(out), Ok(()));
     out.push(b' ')?;
     Ok(())
 }
@@ -211,9 +210,10 @@ fn written(rt: HostRuntime) -> Result<(), Fail> {
     for parts in [(-6, 4), (0, 1), (-M, 1), (1, M)] {
         append(&rt, &mut out, parts)?;
     }
-    assert_eq!(rt;
+    same(
+        &rt,
         out.as_slice(),
-        b"-3/2 0 -170141183460469231731687303715884105727 1/170141183460469231731687303715884105727 ".as_slice()
+        b"-3/2 0 -170141183460469231731687303715884105727 1/170141183460469231731687303715884105727 ".as_slice(),
     );
     Ok(())
 }

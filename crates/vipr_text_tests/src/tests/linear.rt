@@ -2,6 +2,7 @@
 //! ample memory.
 ghost use Rattle.std.specs.Prelude.{◌≡◌, length};
 
+use super::same;
 use std::alloc::Global;
 use std::process::Abort;
 use std::test::Fail;
@@ -74,10 +75,10 @@ const DOMINATED: [(Parts, Parts, bool); 5] = [
 fn dominates(rt: HostRuntime) -> Result<(), Fail> {
     let alloc = rt.alloc();
     for (stated, wanted) in [((NONE, Sense::G, 1), true), ((NONE, Sense::E, 0), false)] {
-        assert_eq!(rt; is_absurd(alloc, stated)?, wanted);
+        same(&rt, is_absurd(alloc, stated)?, wanted);
     }
     for (by, other, wanted) in &DOMINATED {
-        assert_eq!(rt; is_dominated(alloc, *by, *other)?, *wanted);
+        same(&rt, is_dominated(alloc, *by, *other)?, *wanted);
     }
     Ok(())
 }
@@ -109,7 +110,7 @@ fn first(alloc: Global) -> Result<Ints, Fail> {
 fn whole_variables(rt: HostRuntime) -> Result<(), Fail> {
     let ints = first(rt.alloc())?;
     assert!(rt; ints.contains(0));
-    assert_eq!(rt; ints.indices(), [0].as_slice());
+    same(&rt, ints.indices(), [0].as_slice());
     Ok(())
 }
 
@@ -130,7 +131,7 @@ const SPLIT: [(Bound, Bound, bool); 4] = [
 fn split(rt: HostRuntime) -> Result<(), Fail> {
     let ints = first(rt.alloc())?;
     for (left, right, wanted) in &SPLIT {
-        assert_eq!(rt; splits(rt.alloc(), &ints, *left, *right)?, *wanted);
+        same(&rt, splits(rt.alloc(), &ints, *left, *right)?, *wanted);
     }
     Ok(())
 }
@@ -158,7 +159,7 @@ const COVERED: [(Bound, Bound, bool); 10] = [
 fn covered(rt: HostRuntime) -> Result<(), Fail> {
     let ints = first(rt.alloc())?;
     for (left, right, wanted) in &COVERED {
-        assert_eq!(rt; covers_with(rt.alloc(), &ints, *left, *right)?, *wanted);
+        same(&rt, covers_with(rt.alloc(), &ints, *left, *right)?, *wanted);
     }
     Ok(())
 }
@@ -192,10 +193,10 @@ const ROUNDED: [(Bound, Bound, bool); 3] = [
 fn rounded(rt: HostRuntime) -> Result<(), Fail> {
     let alloc = rt.alloc();
     for (variable, wanted) in [(0, true), (1, false)] {
-        assert_eq!(rt; is_whole(alloc, &[(variable, 1)])?, wanted);
+        same(&rt, is_whole(alloc, &[(variable, 1)])?, wanted);
     }
     for (by, other, wanted) in &ROUNDED {
-        assert_eq!(rt; dominates_rounded(alloc, *by, *other)?, *wanted);
+        same(&rt, dominates_rounded(alloc, *by, *other)?, *wanted);
     }
     Ok(())
 }
@@ -205,7 +206,7 @@ fn rows(rt: HostRuntime) -> Result<(), Fail> {
     let alloc = rt.alloc();
     let one = Frac::one();
     let sorted = row(alloc, &[(7, 1), (2, 0), (3, 1)])?;
-    assert_eq!(rt; sorted.entries(), [(3, one), (7, one)].as_slice());
+    same(&rt, sorted.entries(), [(3, one), (7, one)].as_slice());
     Ok(())
 }
 
@@ -214,9 +215,10 @@ fn repeated(rt: HostRuntime) -> Result<(), Fail> {
     let alloc = rt.alloc();
     let one = Frac::one();
     let pairs = vec![in alloc; (4, one), (1, one), (4, Frac::zero()), (1, one)]?;
-    assert_eq!(rt;
+    same(
+        &rt,
         Row::from_pairs(alloc, pairs).err(),
-        Some(RowError::Repeated(4))
+        Some(RowError::Repeated(4)),
     );
     Ok(())
 }
@@ -244,9 +246,9 @@ fn at_least_half(alloc: Global) -> Result<Constraint, Fail> {
 }
 
 fn is_at_least_half(rt: &impl Abort, found: &Constraint, half: Frac) {
-    assert_eq!(rt; found.row.entries(), [(2, Frac::one())].as_slice());
-    assert_eq!(rt; found.sense, Sense::G);
-    assert_eq!(rt; found.rhs, half);
+    same(rt, found.row.entries(), [(2, Frac::one())].as_slice());
+    same(rt, found.sense, Sense::G);
+    same(rt, found.rhs, half);
 }
 
 #[test]
@@ -267,7 +269,7 @@ fn values_of_sums(rt: HostRuntime) -> Result<(), Fail> {
     let five = Frac::new(5, 1)?;
     let found = at_least_half(rt.alloc())?;
     let solution = Solution(row(rt.alloc(), &[(2, 5)])?);
-    assert_eq!(rt; at(&found, &solution)?, (five, true));
+    same(&rt, at(&found, &solution)?, (five, true));
     Ok(())
 }
 
@@ -282,7 +284,7 @@ fn rounded_side(alloc: Global, found: Constraint) -> Result<Frac, Fail> {
 #[test]
 fn sums_are_rounded(rt: HostRuntime) -> Result<(), Fail> {
     let found = at_least_half(rt.alloc())?;
-    assert_eq!(rt; rounded_side(rt.alloc(), found)?, Frac::one());
+    same(&rt, rounded_side(rt.alloc(), found)?, Frac::one());
     Ok(())
 }
 
@@ -299,7 +301,7 @@ fn adds(
 {
     let (given, multiplier) = term;
     let added = add(sum, &bound(alloc, given)?, multiplier)?;
-    assert_eq!(rt; added, wanted);
+    same(rt, added, wanted);
     Ok(())
 }
 

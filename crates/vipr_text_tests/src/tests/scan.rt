@@ -1,6 +1,7 @@
 //! Tokens of short texts, a token that a failed read cuts short, and one that is too long.
 ghost use Rattle.std.specs.Prelude.{ℕ, Ok, length};
 
+use super::same;
 use std::alloc::{AllocError, Global};
 use std::io::{self, Read};
 use std::process::Abort;
@@ -33,7 +34,7 @@ fn gives<R: Source>(
     wanted: Option<(&[u8], u64)>,
 ) -> Result<(), TextError> {
     let token = tokens.next()?;
-    assert_eq!(rt; token.map(|token| (token.bytes, token.offset)), wanted);
+    same(rt, token.map(|token| (token.bytes, token.offset)), wanted);
     Ok(())
 }
 
@@ -49,7 +50,7 @@ fn tokens_come_with_their_offsets(rt: HostRuntime) -> Result<(), Fail> {
 
 /// Asks for a token, and compares the error.
 fn fails<R: Source>(rt: &impl Abort, tokens: &mut Tokens<R>, wanted: TextError) {
-    assert_eq!(rt; tokens.next().err(), Some(wanted));
+    same(rt, tokens.next().err(), Some(wanted));
 }
 
 #[test]
@@ -72,9 +73,10 @@ fn has_length<R: Source>(
     wanted: (usize, bool),
 ) -> Result<(), TextError> {
     let token = tokens.next()?;
-    assert_eq!(rt;
+    same(
+        rt,
         token.map(|token| (token.bytes.len(), token.long)),
-        Some(wanted)
+        Some(wanted),
     );
     Ok(())
 }
@@ -110,14 +112,14 @@ impl TokenKind for Any {
 
 fn is_refused(rt: &impl Abort, alloc: Global, text: &[u8], wanted: Stop) -> Result<(), AllocError> {
     let mut scanner = Scanner::new(alloc, Bytes::new(text))?;
-    assert_eq!(rt; scanner.take(&Any).err(), Some(wanted));
+    same(rt, scanner.take(&Any).err(), Some(wanted));
     Ok(())
 }
 
 fn is_taken(rt: &impl Abort, alloc: Global, text: &[u8], wanted: usize) -> Result<(), AllocError> {
     let mut scanner = Scanner::new(alloc, Bytes::new(text))?;
-    assert_eq!(rt; scanner.take(&Any), Ok(wanted));
-    assert_eq!(rt; scanner.end(), Ok(()));
+    same(rt, scanner.take(&Any), Ok(wanted));
+    same(rt, scanner.end(), Ok(()));
     Ok(())
 }
 

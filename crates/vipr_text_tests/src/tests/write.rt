@@ -1,4 +1,5 @@
 //! A certificate with each kind of line, byte by byte, and writers that take little.
+use super::same;
 use bstr::BString;
 use std::alloc::{AllocError, Global};
 use std::process::Abort;
@@ -259,7 +260,7 @@ impl Sink for OneByOne {
 
 fn write_into(rt: &impl Abort, alloc: Global, certificate: &Certificate, bytes: &mut Vec<u8>) {
     let mut sink = FromWrite::new(bytes);
-    assert_eq!(rt; write_certificate(alloc, certificate, &mut sink), Ok(()));
+    same(rt, write_certificate(alloc, certificate, &mut sink), Ok(()));
 }
 
 // What is written for a certificate is that text.
@@ -272,7 +273,7 @@ fn is_written(
     // the writer has its room before
     let mut bytes = Vec::with_capacity(alloc, 4096)?;
     write_into(rt, alloc, certificate, &mut bytes);
-    assert_eq!(rt; bytes.as_slice(), text);
+    same(rt, bytes.as_slice(), text);
     Ok(())
 }
 
@@ -308,7 +309,7 @@ fn item_by_item(rt: HostRuntime) -> Result<(), Fail> {
     let certificate = certificate(rt.alloc())?;
     let text = grown(rt.alloc(), &certificate)?;
     drop(certificate);
-    assert_eq!(rt; text.as_slice(), TEXT);
+    same(&rt, text.as_slice(), TEXT);
     Ok(())
 }
 
@@ -320,9 +321,9 @@ fn takes(
     sink: &mut OneByOne,
     wanted: (Result<(), WriteError>, &[u8], usize),
 ) {
-    assert_eq!(rt; write_certificate(alloc, certificate, sink), wanted.0);
-    assert_eq!(rt; sink.taken(), wanted.1);
-    assert_eq!(rt; sink.calls, wanted.2);
+    same(rt, write_certificate(alloc, certificate, sink), wanted.0);
+    same(rt, sink.taken(), wanted.1);
+    same(rt, sink.calls, wanted.2);
 }
 
 #[test]

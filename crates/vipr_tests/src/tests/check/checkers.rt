@@ -1,11 +1,14 @@
 //! A checker between its calls: how many constraints it holds, and what it answers after a refusal.
 
 use super::{BRANCHES, BRANCHES_AND_MORE, MIXED, UNPROVED, UNSOLVED};
-use std::alloc::Global;
+use crate::tests::same;
+use std::alloc::{AllocError, Global};
+use std::process::Abort;
 use std::test::Fail;
 use vipr_bytes::Bytes;
-use vipr_cert::Derivation;
+use vipr_cert::{Derivation, Named, Problem};
 use vipr_check::{Checker, Place, Refusal, Stop};
+use vipr_linear::Solution;
 use vipr_read::read_certificate;
 use vipr_rules::{KeepAll, LiveOnly, Rows};
 
@@ -43,73 +46,103 @@ pub(super) fn finish<S: Rows>(checker: &mut Checker<S>) -> Result<(), Stop> {
     }
 }
 
-// An answer that isn't want of memory.
-fn with_room(answer: Result<(), Stop>) -> Result<Result<(), Stop>, Stop> {
-    match answer {
-        Err(Stop::Memory) => Err(Stop::Memory),
-        _ => Ok(answer),
-    }
-}
-
+/// What is answered, and how many constraints are held then.
 type Answer = (Result<(), Stop>, usize);
 
-// What is answered to each derivation and to the end, and how many constraints are held then.
+// Each derivation and then the end are answered so.
 fn answers<S: Rows>(
+    rt: &impl Abort,
     alloc: Global,
     checker: &mut Checker<S>,
     derivations: &[Derivation],
-) -> Result<Vec<Answer>, Fail> {
-    let mut answers = Vec::new(alloc);
+    wanted: &[Answer],
+) -> Result<(), Stop> {
+    let mut left = wanted.iter();
     for step in derivations {
-        let answer = with_room(derivation(alloc, checker, step))?;
-        answers.push((answer, checker.held()))?;
+        let answer = derivation(alloc, checker, step);
+        if answer == Err(Stop::Memory) {
+            return answer;
+        }
+        same(rt, Some(&(answer, checker.held())), left.next());
     }
     let answer = finish(checker);
-    answers.push((answer, checker.held()))?;
-    Ok(answers)
+    same(rt, Some(&(answer, checker.held())), left.next());
+    assert!(rt; left.next().is_none());
+    Ok(())
 }
 
-// The same where all was answered so many times before.
-fn answers_after<S: Rows>(
+fn answers_again<S: Rows>(
+    rt: &impl Abort,
     alloc: Global,
     checker: &mut Checker<S>,
     derivations: &[Derivation],
     times: u32,
-) -> Result<Vec<Answer>, Fail> {
+    wanted: &[Answer],
+) -> Result<(), Stop> {
+    let _ = end_solutions(checker);
     for _ in 0..times {
-        answers(alloc, checker, derivations)?;
+        answers(rt, alloc, checker, derivations, wanted)?;
     }
-    answers(alloc, checker, derivations)
+    Ok(())
 }
 
-// The same behind the solutions of a certificate that lists none.
-fn answers_to<S: Rows>(alloc: Global, text: &[u8], times: u32) -> Result<Vec<Answer>, Fail> {
-    let (problem, _, derivations) = read_certificate(alloc, Bytes::new(text))?.into_parts();
+// All that is derived is answered so, each time that it is asked.
+fn answers_behind<S: Rows>(
+    rt: &impl Abort,
+    alloc: Global,
+    problem: Problem,
+    derivations: &[Derivation],
+    times: u32,
+    wanted: &[Answer],
+) -> Result<(), Fail> {
     let mut checker: Checker<S> = Checker::new(alloc, problem)?;
-    let _ = end_solutions(&mut checker);
-    answers_after(alloc, &mut checker, derivations.as_slice(), times)
+    let answer = answers_again(rt, alloc, &mut checker, derivations, times, wanted);
+    drop(checker);
+    Ok(answer?)
 }
 
-fn held<S: Rows>(alloc: Global, text: &[u8]) -> Result<Vec<usize>, Fail> {
-    let mut held = Vec::new(alloc);
-    for (_, number) in answers_to::<S>(alloc, text, 0)?.iter() {
-        held.push(*number)?;
-    }
-    Ok(held)
+// The same for a certificate that lists no solution.
+fn answers_to<S: Rows>(
+    rt: &impl Abort,
+    alloc: Global,
+    text: &[u8],
+    times: u32,
+    wanted: &[Answer],
+) -> Result<(), Fail> {
+    let (problem, solutions, steps) = read_certificate(alloc, Bytes::new(text))?.into_parts();
+    drop(solutions);
+    answers_behind::<S>(rt, alloc, problem, steps.as_slice(), times, wanted)
+}
+
+const HELD: [Answer; 6] = [
+    (Ok(()), 1),
+    (Ok(()), 2),
+    (Ok(()), 3),
+    (Ok(()), 4),
+    (Ok(()), 3),
+    (Ok(()), 3),
+];
+
+const HELD_MORE: [Answer; 7] = [
+    (Ok(()), 1),
+    (Ok(()), 2),
+    (Ok(()), 3),
+    (Ok(()), 4),
+    (Ok(()), 5),
+    (Ok(()), 6),
+    (Ok(()), 6),
+];
+
+fn holds<S: Rows>(rt: &impl Abort, alloc: Global) -> Result<(), Fail> {
+    answers_to::<S>(rt, alloc, BRANCHES, 1, &HELD)?;
+    answers_to::<S>(rt, alloc, BRANCHES_AND_MORE, 1, &HELD_MORE)
 }
 
 /// The assumptions stay to the end, and any table says how many are not forgotten.
 #[test]
 fn what_may_be_referred_to_is_held(rt: HostRuntime) -> Result<(), Fail> {
-    let alloc = rt.alloc();
-    for (text, wanted) in [
-        (BRANCHES, [1, 2, 3, 4, 3, 3].as_slice()),
-        (BRANCHES_AND_MORE, [1, 2, 3, 4, 5, 6, 6].as_slice()),
-    ] {
-        assert_eq!(rt; held::<LiveOnly>(alloc, text)?.as_slice(), wanted);
-        assert_eq!(rt; held::<KeepAll>(alloc, text)?.as_slice(), wanted);
-    }
-    Ok(())
+    holds::<LiveOnly>(&rt, rt.alloc())?;
+    holds::<KeepAll>(&rt, rt.alloc())
 }
 
 pub(super) fn refused(cause: u8, place: Place) -> Result<(), Stop> {
@@ -121,33 +154,34 @@ fn refusals_are_answered_again(rt: HostRuntime) -> Result<(), Fail> {
     let alloc = rt.alloc();
     let derived = (refused(34, Place::Der(2)), 0);
     let ended = (refused(51, Place::End), 0);
-    for (text, wanted) in [
-        (MIXED, [derived, derived].as_slice()),
-        (UNPROVED, [ended].as_slice()),
-    ] {
-        for times in 0..3 {
-            let answers = answers_to::<LiveOnly>(alloc, text, times)?;
-            assert_eq!(rt; answers.as_slice(), wanted);
-        }
-    }
-    Ok(())
+    answers_to::<LiveOnly>(&rt, alloc, MIXED, 3, &[derived, derived])?;
+    answers_to::<LiveOnly>(&rt, alloc, UNPROVED, 3, &[ended])
 }
 
-fn answers_to_solution(alloc: Global, text: &[u8]) -> Result<[Result<(), Stop>; 3], Fail> {
-    let (problem, solutions, _) = read_certificate(alloc, Bytes::new(text))?.into_parts();
+// The first solution and twice their end.
+fn answers_to_solutions(
+    alloc: Global,
+    problem: Problem,
+    solutions: &[Named<Solution>],
+) -> Result<[Result<(), Stop>; 3], AllocError> {
     let mut checker: Checker<LiveOnly> = Checker::new(alloc, problem)?;
     let first = match solutions.first() {
         Some(solution) => checker.solution(solution),
         None => Ok(()),
     };
     let second = end_solutions(&mut checker);
-    Ok([first, second, end_solutions(&mut checker)])
+    let third = end_solutions(&mut checker);
+    drop(checker);
+    Ok([first, second, third])
 }
 
 #[test]
 fn a_refused_solution_is_answered_again(rt: HostRuntime) -> Result<(), Fail> {
+    let alloc = rt.alloc();
     let refusal = refused(22, Place::Sol(0));
-    let answers = answers_to_solution(rt.alloc(), UNSOLVED)?;
-    assert_eq!(rt; answers, [refusal, refusal, refusal]);
+    let (problem, solutions, steps) = read_certificate(alloc, Bytes::new(UNSOLVED))?.into_parts();
+    drop(steps);
+    let answers = answers_to_solutions(alloc, problem, solutions.as_slice())?;
+    same(&rt, answers, [refusal, refusal, refusal]);
     Ok(())
 }

@@ -2,11 +2,13 @@
 
 use super::{
     BOUNDED, CUT_OFF, INFEASIBLE, LATE, MIXED, UNDOMINATED, UNMET, UNPROVED, UNSOLVED, at,
+    refusal_of,
 };
+use crate::tests::same;
 use std::alloc::Global;
 use std::test::Fail;
 use vipr_bytes::Bytes;
-use vipr_check::{Fault, Place, Refusal, Verdict, explain_in};
+use vipr_check::{Fault, Place, Refusal, explain_in};
 use vipr_rules::Profile;
 
 // A value that is to be whole, and isn't.
@@ -23,32 +25,31 @@ const NOT_ROUNDABLE: &[u8] = b"VER 1.0 VAR 1 x INT 1 0 OBJ min 0 CON 1 0 a G 1 1
 
 // What is answered: none where it is verified.
 fn refusal(alloc: Global, text: &[u8]) -> Result<Option<Refusal>, Fault> {
-    match explain_in(alloc, Profile::Two, Bytes::new(text)) {
-        Ok((Verdict::Refused(refusal), _)) => Ok(Some(refusal)),
-        Ok((Verdict::Verified(_), _)) => Ok(None),
-        Err(fault) => Err(fault),
-    }
+    let (verdict, detail) = explain_in(alloc, Profile::Two, Bytes::new(text))?;
+    drop(detail);
+    Ok(refusal_of(verdict))
 }
+
+const ROWS: [(&[u8], u8, Place); 12] = [
+    (HALF, 21, Place::Sol(0)),
+    (UNSOLVED, 22, Place::Sol(0)),
+    (LARGE_ROW, 23, Place::Sol(0)),
+    (LARGE_OBJECTIVE, 23, Place::Sol(0)),
+    (LATE, 31, Place::Der(2)),
+    (MIXED, 34, Place::Der(2)),
+    (NOT_ROUNDABLE, 36, Place::Der(1)),
+    (UNDOMINATED, 38, Place::Der(2)),
+    (CUT_OFF, 39, Place::Der(0)),
+    (UNPROVED, 51, Place::End),
+    (BOUNDED, 51, Place::End),
+    (UNMET, 52, Place::End),
+];
 
 #[test]
 fn each_kind_is_shown(rt: HostRuntime) -> Result<(), Fail> {
-    let rows = [
-        (INFEASIBLE, None),
-        (HALF, at(21, Place::Sol(0))),
-        (UNSOLVED, at(22, Place::Sol(0))),
-        (LARGE_ROW, at(23, Place::Sol(0))),
-        (LARGE_OBJECTIVE, at(23, Place::Sol(0))),
-        (LATE, at(31, Place::Der(2))),
-        (MIXED, at(34, Place::Der(2))),
-        (NOT_ROUNDABLE, at(36, Place::Der(1))),
-        (UNDOMINATED, at(38, Place::Der(2))),
-        (CUT_OFF, at(39, Place::Der(0))),
-        (UNPROVED, at(51, Place::End)),
-        (BOUNDED, at(51, Place::End)),
-        (UNMET, at(52, Place::End)),
-    ];
-    for (text, wanted) in rows {
-        assert_eq!(rt; refusal(rt.alloc(), text)?, wanted);
+    same(&rt, refusal(rt.alloc(), INFEASIBLE)?, None);
+    for (text, cause, place) in &ROWS {
+        same(&rt, refusal(rt.alloc(), text)?, at(*cause, *place));
     }
     Ok(())
 }

@@ -5,7 +5,8 @@
 
 use super::checkers::{derivation, end_solutions, finish, refused};
 use super::{BRANCHES, MIXED, SOLVED, UNDOMINATED, UNSOLVED};
-use std::alloc::Global;
+use crate::tests::same;
+use std::alloc::{AllocError, Global};
 use std::process::Abort;
 use std::test::Fail;
 use vipr_bytes::Bytes;
@@ -29,18 +30,45 @@ fn spent(rt: &impl Abort, since: [Result<(), Stop>; 2]) -> Fail {
     Fail::new("Memory, then Spent")
 }
 
-// The solution is refused, so its name is kept.
-fn of_solution<S: Rows>(rt: &impl Abort, alloc: Global) -> Result<(), Fail> {
-    let (problem, solutions, _) = read_certificate(alloc, Bytes::new(UNSOLVED))?.into_parts();
-    let solution = solutions.first().ok_or("no solution")?;
+// What is answered to a solution, and since where that is want of memory.
+fn answers<S: Rows>(
+    alloc: Global,
+    problem: Problem,
+    solution: &Named<Solution>,
+) -> Result<(Result<(), Stop>, [Result<(), Stop>; 2]), AllocError> {
     let mut checker: Checker<S> = Checker::new(alloc, problem)?;
     let answer = checker.solution(solution);
+    let mut since = [Ok(()), Ok(())];
     if answer == Err(Stop::Memory) {
         let again = checker.solution(solution);
-        return Err(spent(rt, [again, end_solutions(&mut checker)]));
+        since = [again, end_solutions(&mut checker)];
     }
-    assert_eq!(rt; answer, refused(22, Place::Sol(0)));
+    drop(checker);
+    Ok((answer, since))
+}
+
+// The solution is refused, so its name is kept.
+fn refuses<S: Rows>(
+    rt: &impl Abort,
+    alloc: Global,
+    problem: Problem,
+    solution: &Named<Solution>,
+) -> Result<(), Fail> {
+    let (answer, since) = answers::<S>(alloc, problem, solution)?;
+    if answer == Err(Stop::Memory) {
+        return Err(spent(rt, since));
+    }
+    same(rt, answer, refused(22, Place::Sol(0)));
     Ok(())
+}
+
+fn of_solution<S: Rows>(rt: &impl Abort, alloc: Global) -> Result<(), Fail> {
+    let (problem, solutions, steps) = read_certificate(alloc, Bytes::new(UNSOLVED))?.into_parts();
+    drop(steps);
+    match solutions.first() {
+        Some(solution) => refuses::<S>(rt, alloc, problem, solution),
+        None => Err(Fail::new("no solution")),
+    }
 }
 
 #[test]
@@ -60,11 +88,21 @@ fn behind_solutions<S: Rows>(
     solutions: &[Named<Solution>],
 ) -> Result<Checker<S>, Fail> {
     let mut checker: Checker<S> = Checker::new(alloc, problem)?;
-    if let Some(solution) = solutions.first() {
-        checker.solution(solution)?;
+    let first = match solutions.first() {
+        Some(solution) => checker.solution(solution),
+        None => Ok(()),
+    };
+    let answer = match first {
+        Ok(()) => end_solutions(&mut checker),
+        Err(stop) => Err(stop),
+    };
+    match answer {
+        Ok(()) => Ok(checker),
+        Err(stop) => {
+            drop(checker);
+            Err(Fail::from(stop))
+        }
     }
-    end_solutions(&mut checker)?;
-    Ok(checker)
 }
 
 // A derivation more, after which the checker goes on.
@@ -94,6 +132,21 @@ fn behind_derivations<S: Rows>(
     Ok(finish(checker))
 }
 
+// What is answered at the end of a certificate in parts.
+fn at_its_end<S: Rows>(
+    rt: &impl Abort,
+    alloc: Global,
+    problem: Problem,
+    solutions: Vec<Named<Solution>>,
+    steps: &[Derivation],
+) -> Result<Result<(), Stop>, Fail> {
+    let mut checker: Checker<S> = behind_solutions(alloc, problem, solutions.as_slice())?;
+    drop(solutions);
+    let answer = behind_derivations(rt, alloc, &mut checker, steps);
+    drop(checker);
+    answer
+}
+
 // What is answered at the end of a text.
 fn at_the_end<S: Rows>(
     rt: &impl Abort,
@@ -101,8 +154,7 @@ fn at_the_end<S: Rows>(
     text: &[u8],
 ) -> Result<Result<(), Stop>, Fail> {
     let (problem, solutions, steps) = read_certificate(alloc, Bytes::new(text))?.into_parts();
-    let mut checker: Checker<S> = behind_solutions(alloc, problem, solutions.as_slice())?;
-    behind_derivations(rt, alloc, &mut checker, steps.as_slice())
+    at_its_end::<S>(rt, alloc, problem, solutions, steps.as_slice())
 }
 
 // Each kind of reason, and refusals that keep a name and constraints.
@@ -114,7 +166,7 @@ fn of_derivations<S: Rows>(rt: &impl Abort, alloc: Global) -> Result<(), Fail> {
         (MIXED, refused(34, Place::Der(2))),
         (UNDOMINATED, refused(38, Place::Der(2))),
     ] {
-        assert_eq!(rt; at_the_end::<S>(rt, alloc, text)?, wanted);
+        same(rt, at_the_end::<S>(rt, alloc, text)?, wanted);
     }
     Ok(())
 }

@@ -1,10 +1,11 @@
 //! Whole texts: what is written for them, and what of it where a read or a write fails.
 use super::{IGNORED, ROUNDED, SPLIT, UNUSED};
-use std::alloc::Global;
+use crate::tests::same;
+use std::alloc::{AllocError, Global};
 use std::process::Abort;
 use std::test::Fail;
 use vipr_bytes::{Bytes, Failed, FromWrite, Sink, Source};
-use vipr_check::{Place, Refusal, Verdict, check};
+use vipr_check::{Fault, Place, Refusal, Verdict, check};
 use vipr_rules::Profile;
 use vipr_tighten::{Outcome, TightenFault, tighten, tighten_in};
 
@@ -189,6 +190,10 @@ impl Slots {
             fails,
         }
     }
+
+    fn front(&self, len: usize) -> &[u8] {
+        &self.taken[..len.min(512)]
+    }
 }
 
 impl Sink for Slots {
@@ -218,61 +223,87 @@ fn holds_back(rt: &impl Abort, outcome: Result<Outcome, TightenFault>, is_writte
     }
 }
 
+/// Derivations kept and removed, and both peaks.
+type Figures = (u32, u32, usize, usize);
+
+fn tightened((kept, removed, peak_before, peak_after): Figures) -> Result<Outcome, TightenFault> {
+    Ok(Outcome::Tightened {
+        kept,
+        removed,
+        peak_before,
+        peak_after,
+    })
+}
+
+fn tighten_into(
+    alloc: Global,
+    text: &[u8],
+    written: &mut Vec<u8>,
+) -> Result<Outcome, TightenFault> {
+    let mut sink = FromWrite::new(written);
+    tighten(alloc, Bytes::new(text), &mut sink)
+}
+
+fn is_verified(alloc: Global, text: &[u8]) -> Result<bool, Fault> {
+    match check(alloc, Bytes::new(text)) {
+        Ok(Verdict::Verified(_)) => Ok(true),
+        Ok(Verdict::Refused(_)) => Ok(false),
+        Err(fault) => Err(fault),
+    }
+}
+
 /// Checks what is written for a text, that it is a proof, and the figures.
 fn becomes(
     rt: &impl Abort,
     alloc: Global,
     text: &[u8],
     wanted: &[u8],
-    figures: (u32, u32, usize, usize),
+    figures: Figures,
 ) -> Result<(), Fail> {
     // the writer has its room before
     let mut written = Vec::with_capacity(alloc, wanted.len())?;
-    let outcome = {
-        let mut sink = FromWrite::new(&mut written);
-        tighten(alloc, Bytes::new(text), &mut sink)
-    };
+    let outcome = tighten_into(alloc, text, &mut written);
     holds_back(rt, outcome, !written.is_empty());
-    let (kept, removed, peak_before, peak_after) = figures;
-    assert_eq!(rt;
-        outcome,
-        Ok(Outcome::Tightened {
-            kept,
-            removed,
-            peak_before,
-            peak_after,
-        })
-    );
+    same(rt, outcome, tightened(figures));
     assert!(rt; written.as_slice() == wanted);
-    let verdict = check(alloc, Bytes::new(written.as_slice()))?;
-    assert!(rt; matches!(verdict, Verdict::Verified(_)));
+    assert!(rt; is_verified(alloc, written.as_slice())?);
     Ok(())
 }
 
+const BECOMES: [(&[u8], &[u8], Figures); 7] = [
+    (IGNORED, ROUNDED, (1, 1, 2, 1)),
+    (ROUNDED, ROUNDED, (1, 0, 1, 1)),
+    (UNUSED, SPLIT, (5, 1, 6, 4)),
+    (ABSURD, ABSURD, (0, 0, 0, 0)),
+    (UNBOUNDED, UNBOUNDED, (0, 0, 0, 0)),
+    (NEEDLESS, NOTHING_DERIVED, (0, 1, 1, 0)),
+    (LENIENT, CANONICAL, (0, 0, 0, 0)),
+];
+
 #[test]
 fn what_the_goal_needs_is_written(rt: HostRuntime) -> Result<(), Fail> {
-    let alloc = rt.alloc();
-    becomes(&rt, alloc, IGNORED, ROUNDED, (1, 1, 2, 1))?;
-    becomes(&rt, alloc, ROUNDED, ROUNDED, (1, 0, 1, 1))?;
-    becomes(&rt, alloc, UNUSED, SPLIT, (5, 1, 6, 4))?;
-    becomes(&rt, alloc, ABSURD, ABSURD, (0, 0, 0, 0))?;
-    becomes(&rt, alloc, UNBOUNDED, UNBOUNDED, (0, 0, 0, 0))?;
-    becomes(&rt, alloc, NEEDLESS, NOTHING_DERIVED, (0, 1, 1, 0))?;
-    becomes(&rt, alloc, LENIENT, CANONICAL, (0, 0, 0, 0))
+    for (text, wanted, figures) in &BECOMES {
+        becomes(&rt, rt.alloc(), text, wanted, *figures)?;
+    }
+    Ok(())
+}
+
+fn refused(cause: u8, place: Place) -> Result<Outcome, TightenFault> {
+    Ok(Outcome::Refused(Refusal { cause, place }))
 }
 
 #[test]
 fn nothing_is_written_where_it_is_refused(rt: HostRuntime) {
     let mut slots = Slots::stopping_at(1, true);
     let outcome = tighten(rt.alloc(), Bytes::new(DROPPED), &mut slots);
-    assert_eq!(rt; slots.calls, 0);
-    assert_eq!(rt;
-        outcome,
-        Ok(Outcome::Refused(Refusal {
-            cause: 32,
-            place: Place::Der(6),
-        }))
-    );
+    same(&rt, slots.calls, 0);
+    same(&rt, outcome, refused(32, Place::Der(6)));
+}
+
+/// So many calls were made, and these bytes were taken first.
+fn took(rt: &impl Abort, slots: &Slots, calls: usize, front: &[u8]) {
+    same(rt, slots.calls, calls);
+    assert!(rt; slots.front(front.len()) == front);
 }
 
 /// The profile decides what is a proof, and so whether anything is written.
@@ -280,47 +311,51 @@ fn nothing_is_written_where_it_is_refused(rt: HostRuntime) {
 fn profiles_tighten(rt: HostRuntime) {
     let mut slots = Slots::stopping_at(0, false);
     let outcome = tighten_in(rt.alloc(), Profile::One, Bytes::new(WHOLE), &mut slots);
-    assert_eq!(rt; slots.calls, 0);
-    assert_eq!(rt;
-        outcome,
-        Ok(Outcome::Refused(Refusal {
-            cause: 51,
-            place: Place::End,
-        }))
-    );
+    same(&rt, slots.calls, 0);
+    same(&rt, outcome, refused(51, Place::End));
     let outcome = tighten_in(rt.alloc(), Profile::Two, Bytes::new(WHOLE), &mut slots);
     holds_back(&rt, outcome, slots.calls > 0);
-    assert_eq!(rt;
-        outcome,
-        Ok(Outcome::Tightened {
-            kept: 0,
-            removed: 1,
-            peak_before: 1,
-            peak_after: 0,
-        })
-    );
-    assert_eq!(rt; WHOLE_ALONE.len(), 94);
-    assert_eq!(rt; slots.calls, 94);
-    assert!(rt; &slots.taken[..94] == WHOLE_ALONE);
+    same(&rt, outcome, tightened((0, 1, 1, 0)));
+    same(&rt, WHOLE_ALONE.len(), 94);
+    took(&rt, &slots, WHOLE_ALONE.len(), WHOLE_ALONE);
+}
+
+/// A derivation that refers to one other, with its last reference.
+fn link(alloc: Global, before: u32, last: Option<u64>) -> Result<String, AllocError> {
+    match last {
+        Some(last) => format!(in alloc; "f G 1 1 0 1 {{ lin 1 {before} 1 }} {last}\n"),
+        None => format!(in alloc; "f G 1 1 0 1 {{ lin 1 {before} 1 }} -1\n"),
+    }
+}
+
+fn front(alloc: Global, length: u32) -> Result<String, AllocError> {
+    format!(in alloc;
+        "VER 1.0\nVAR 1\nx\nINT 0\nOBJ min\n0\nCON 2 0\n\
+        a G 1 1 0 1\nb L 0 1 0 1\nRTP infeas\nSOL 0\nDER {length}\n"
+    )
+}
+
+fn end(alloc: Global, length: u32) -> Result<String, AllocError> {
+    format!(in alloc; "f G 1 0 {{ lin 2 {length} 1 1 -1 }} -1\n")
+}
+
+fn add(text: &mut String, line: String) -> Result<(), AllocError> {
+    text.push_str(line.as_str())
 }
 
 /// A chain of derivations, each of which refers to the one before, with these last references.
-fn chain(alloc: Global, length: u32, dropped: bool) -> Result<String, Fail> {
-    let mut text = format!(in alloc;
-        "VER 1.0\nVAR 1\nx\nINT 0\nOBJ min\n0\nCON 2 0\n\
-        a G 1 1 0 1\nb L 0 1 0 1\nRTP infeas\nSOL 0\nDER {length}\n"
-    )?;
+fn chain(alloc: Global, length: u32, dropped: bool) -> Result<String, AllocError> {
+    let mut text = front(alloc, length)?;
     for place in 1..length {
         let before = if place == 1 { 0 } else { place };
-        let line = if dropped {
-            format!(in alloc; "f G 1 1 0 1 {{ lin 1 {before} 1 }} {}\n", place as u64 + 2)?
+        let last = if dropped {
+            Some(place as u64 + 2)
         } else {
-            format!(in alloc; "f G 1 1 0 1 {{ lin 1 {before} 1 }} -1\n")?
+            None
         };
-        text.push_str(line.as_str())?;
+        add(&mut text, link(alloc, before, last)?)?;
     }
-    let last = format!(in alloc; "f G 1 0 {{ lin 2 {length} 1 1 -1 }} -1\n")?;
-    text.push_str(last.as_str())?;
+    add(&mut text, end(alloc, length)?)?;
     Ok(text)
 }
 
@@ -329,51 +364,60 @@ fn last_references_are_set_in_a_chain(rt: HostRuntime) -> Result<(), Fail> {
     let alloc = rt.alloc();
     let long = chain(alloc, 10000, false)?;
     let short = chain(alloc, 10000, true)?;
-    becomes(
-        &rt,
-        alloc,
-        long.as_str().as_bytes(),
-        short.as_str().as_bytes(),
-        (10000, 0, 10000, 1),
-    )
+    let (text, wanted) = (long.as_str().as_bytes(), short.as_str().as_bytes());
+    becomes(&rt, alloc, text, wanted, (10000, 0, 10000, 1))
+}
+
+/// The call behind these bytes is the last.
+fn stops_behind(rt: &impl Abort, alloc: Global, front: &[u8], fails: bool) {
+    let calls = front.len() + 1;
+    let fault = TightenFault::Write {
+        taken: front.len() as u64,
+    };
+    let mut slots = Slots::stopping_at(calls, fails);
+    let outcome = tighten(alloc, Bytes::new(IGNORED), &mut slots);
+    holds_back(rt, outcome, slots.calls > 0);
+    same(rt, outcome, Err(fault));
+    took(rt, &slots, calls, front);
+}
+
+/// The call that would be the last is not made.
+fn takes_all(rt: &impl Abort, alloc: Global, fails: bool) {
+    let mut slots = Slots::stopping_at(ROUNDED.len() + 1, fails);
+    let outcome = tighten(alloc, Bytes::new(IGNORED), &mut slots);
+    holds_back(rt, outcome, slots.calls > 0);
+    same(rt, outcome.err(), None);
+    took(rt, &slots, ROUNDED.len(), ROUNDED);
 }
 
 #[test]
 fn the_bytes_before_a_failed_write_were_taken(rt: HostRuntime) {
     let bytes = ROUNDED.len();
-    assert_eq!(rt; bytes, 123);
+    same(&rt, bytes, 123);
     for fails in [true, false] {
-        for call in 1..=bytes {
-            let mut slots = Slots::stopping_at(call, fails);
-            let fault = TightenFault::Write {
-                taken: call as u64 - 1,
-            };
-            let outcome = tighten(rt.alloc(), Bytes::new(IGNORED), &mut slots);
-            holds_back(&rt, outcome, slots.calls > 0);
-            assert_eq!(rt; outcome, Err(fault));
-            assert_eq!(rt; slots.calls, call);
-            assert!(rt; slots.taken[..call - 1] == ROUNDED[..call - 1]);
+        for before in 0..bytes {
+            let (front, _) = ROUNDED.split_at(before);
+            stops_behind(&rt, rt.alloc(), front, fails);
         }
-        let mut slots = Slots::stopping_at(bytes + 1, fails);
-        let outcome = tighten(rt.alloc(), Bytes::new(IGNORED), &mut slots);
-        holds_back(&rt, outcome, slots.calls > 0);
-        assert_eq!(rt; outcome.err(), None);
-        assert_eq!(rt; slots.calls, bytes);
-        assert!(rt; &slots.taken[..bytes] == ROUNDED);
+        takes_all(&rt, rt.alloc(), fails);
     }
+}
+
+fn writes_nothing(rt: &impl Abort, alloc: Global, fails_at: usize) {
+    let mut slots = Slots::stopping_at(1, true);
+    let source = Single {
+        left: IGNORED,
+        reads: 0,
+        fails_at,
+    };
+    let outcome = tighten(alloc, source, &mut slots);
+    same(rt, slots.calls, 0);
+    same(rt, outcome, Err(TightenFault::Read));
 }
 
 #[test]
 fn nothing_is_written_after_a_failed_read(rt: HostRuntime) {
     for fails_at in 1..=IGNORED.len() + 1 {
-        let mut slots = Slots::stopping_at(1, true);
-        let source = Single {
-            left: IGNORED,
-            reads: 0,
-            fails_at,
-        };
-        let outcome = tighten(rt.alloc(), source, &mut slots);
-        assert_eq!(rt; slots.calls, 0);
-        assert_eq!(rt; outcome, Err(TightenFault::Read));
+        writes_nothing(&rt, rt.alloc(), fails_at);
     }
 }
