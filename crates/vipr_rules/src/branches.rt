@@ -12,14 +12,13 @@ ghost use Rattle.vipr_rules.specs.Soundness.{IsSoundUnder};
 ghost use Rattle.vipr_rules.specs.Apply.{PassesTestsIn, StopsIn, IsRuledBy};
 ghost use Rattle.vipr_rules.specs.declared.error.RuleError.TheVariants.{Memory};
 
-use vipr_table::Assumptions;
 use crate::context::{Context, Known};
 use crate::domination::check_domination;
 use crate::error::{RuleError, not_split};
 use crate::profile::Profile;
-use vipr_table::Rows;
 use std::alloc::Global;
 use vipr_linear::{Constraint, Ints};
+use vipr_table::{Assumptions, Rows};
 
 /// A branch, by the indices of two constraints.
 #[derive(Clone, Copy)]

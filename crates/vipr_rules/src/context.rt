@@ -12,14 +12,13 @@ ghost use Rattle.vipr_rules.specs.Context.{IsContextOf, IsKnownAs, row_found, se
 ghost use Rattle.vipr_rules.specs.Soundness.{IsSoundUnder, IsStatedAt};
 ghost use Rattle.vipr_rules.specs.Apply.{index_tests, PassesTestsIn, StopsIn};
 
-use vipr_table::{Assumptions, Union};
 use crate::error::RuleError;
 use crate::profile::Profile;
-use vipr_table::{Entry, Rows};
 use std::alloc::{AllocError, Global};
 use vipr_cert::Problem;
 use vipr_frac::Frac;
 use vipr_linear::Constraint;
+use vipr_table::{Assumptions, Entry, Rows, Union};
 
 /// What a derivation is tested against.
 #[derive(Drop)]

@@ -9,16 +9,15 @@ ghost use Rattle.vipr_rules.specs.Context.{IsContextOf};
 ghost use Rattle.vipr_rules.specs.Soundness.{IsSoundUnder};
 ghost use Rattle.vipr_rules.specs.Apply.{IsRuledBy};
 
-use vipr_table::Assumptions;
 use crate::claim::objective_with;
 use crate::context::Context;
 use crate::domination::check_domination;
 use crate::error::RuleError;
-use vipr_table::Rows;
 use std::alloc::{AllocError, Global};
 use vipr_cert::{Goal, Problem};
 use vipr_frac::Frac;
 use vipr_linear::{Constraint, Sense};
+use vipr_table::{Assumptions, Rows};
 
 /// Tests a derivation by `sol`, which rests on no assumption.
 pub(crate) fn cut_off<S: Rows>(

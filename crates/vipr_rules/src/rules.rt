@@ -18,19 +18,18 @@ ghost use Rattle.vipr_rules.specs.Apply.{Judges, JudgesIn, KeepsSound, IsRuledBy
 ghost use Rattle.vipr_rules.specs.Apply.{PassesTests, PassesTestsIn, free_tests};
 ghost use Rattle.vipr_rules.specs.declared.error.RuleError.TheVariants.{Memory};
 
-use vipr_table::Assumptions;
 use crate::branches::{Branch, join_branches};
 use crate::context::Context;
 use crate::cutoff::cut_off;
 use crate::error::RuleError;
 use crate::profile::Profile;
-use vipr_table::{Entry, Rows};
 use crate::sum::{combine, combine_rounded};
 use std::alloc::Global;
 use std::mem::replace;
 use vipr_cert::{Derivation, Problem, Reason};
 use vipr_frac::Frac;
 use vipr_linear::{Combination, Constraint, Row, Sense};
+use vipr_table::{Assumptions, Entry, Rows};
 
 /// Tests a derivation against the problem, the best objective value among the listed solutions and
 /// the table of earlier derivations, and gives what is to be kept of it.

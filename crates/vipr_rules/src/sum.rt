@@ -19,14 +19,13 @@ ghost use Rattle.vipr_rules.specs.Apply.{PassesTestsIn, StopsIn, SumStops, IsRul
 ghost use Rattle.vipr_rules.specs.Apply.{IsNotDominated};
 ghost use Rattle.vipr_rules.specs.declared.error.RuleError.TheVariants.{Memory};
 
-use vipr_table::{Assumptions, Union};
 use crate::context::{Context, Known};
 use crate::domination::check_domination;
 use crate::error::{RuleError, not_roundable};
-use vipr_table::Rows;
 use std::alloc::Global;
 use vipr_frac::Frac;
 use vipr_linear::{CombError, Combination, Constraint, Ints, NotRoundable, Rounded};
+use vipr_table::{Assumptions, Rows, Union};
 
 /// Tests a derivation by `lin`, and gives the assumptions that it rests on.
 pub(crate) fn combine<S: Rows>(
