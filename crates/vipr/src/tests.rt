@@ -188,7 +188,7 @@ fn ends_at<H: Abort + AllocGlobal + Files>(
         assert_eq!(rt; out.calls, fails_at.min(whole.len()));
         if fails_at <= whole.len() {
             assert!(rt; is_fault(rt.alloc(), err.as_slice(), taken.len()));
-            assert_eq!(rt; taken.as_slice(), &whole[..fails_at - 1]);
+            assert_eq!(rt; taken.as_slice(), &whole[..fails_at.saturating_sub(1)]);
             assert_eq!(rt; status, 3);
         } else {
             assert_eq!(rt; text_of(err.as_slice()), said);
