@@ -1,9 +1,11 @@
 //! The command line, read by `clap`.
 ghost use Rattle.std.specs.Prelude.{◌≡◌, Some, IfErr, IfOk, IfSome, IsNone, true, false, map};
-ghost use Rattle.std.specs.Prelude.{option_map};
+ghost use Rattle.std.specs.Prelude.{option_map, IsOkAnd};
 ghost use Rattle.clap.specs.Words.{FailsBy, app_of, kind_of, new_app, rule_of, with_rule};
+ghost use Rattle.clap.specs.Words.{with_subcommand};
 ghost use Rattle.clap.specs.declared.builder.command.Command.TheViews.{out-Command as fields_of};
-ghost use Rattle.vipr_command.specs.Args.{are_taken, asked, asked_by, command_word, file_rule};
+ghost use Rattle.vipr_command.specs.Args.{are_taken, asked, asked_by, bare, command_word};
+ghost use Rattle.vipr_command.specs.Args.{file_rule};
 ghost use Rattle.vipr_command.specs.Args.{line};
 ghost use Rattle.vipr_command.specs.Args.{out_rule, profile_named, profile_rule, words_fault};
 ghost use Rattle.vipr_command.specs.declared.task.Task.{Task};
@@ -74,34 +76,52 @@ fn command_line<'a>(alloc: Global) -> Result<Command<'a>, AllocError>
         "check",
         "Checks a certificate and prints the verdict",
         "Example: vipr check plan.vipr",
-    )?;
+    );
+    let line = with_command(no_commands(alloc), check)?;
     let explain = judging(
         alloc,
         "explain",
         "Checks a certificate and prints the verdict with what shows it",
         "Example: xz -dc plan.vipr.xz | vipr explain",
-    )?;
+    );
+    let line = with_command(line, explain)?;
     let show = on_file(
         alloc,
         "show",
         "Writes a certificate's canonical text",
         "Example: vipr show plan.vipr > canonical.vipr",
-    )?;
+    );
+    let line = with_command(line, show)?;
     let tighten = with_out(
         alloc,
         "tighten",
         "Writes a verified certificate without what its proof doesn't need",
         "Example: vipr tighten plan.vipr --out short.vipr",
-    )?;
+    );
+    with_command(line, tighten)
+}
+
+/// The program's name and version, before any command.
+fn no_commands<'a>(alloc: Global) -> Command<'a>
+    ensures { app_of result ≡ bare }
+{
     Command::new(alloc, "vipr")
         .about("Checks VIPR 1.0 certificates")
         .version("0.1.0")
         .subcommand_required(true)
         .disable_help_subcommand(true)
-        .subcommand(check)?
-        .subcommand(explain)?
-        .subcommand(show)?
-        .subcommand(tighten)
+}
+
+/// The command line with one more command, where that was made.
+fn with_command<'a>(
+    line: Command<'a>,
+    made: Result<Command<'a>, AllocError>,
+) -> Result<Command<'a>, AllocError>
+    requires { IfOk made (λ m. (fields_of m).has_globals ≡ false) }
+    ensures { IfOk result (λ c. IsOkAnd made.entry
+        (λ m. app_of c ≡ with_subcommand (app_of line.entry) (app_of m).top)) }
+{
+    line.subcommand(made?)
 }
 
 /// A subcommand that reads FILE.

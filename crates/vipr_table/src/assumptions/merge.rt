@@ -28,6 +28,7 @@ pub(crate) fn has_all(xs: &[u32], ys: &[u32]) -> bool
         if i == xs.len() || xs[i] != *y {
             return false;
         }
+        i += 1;
     }
     true
 }

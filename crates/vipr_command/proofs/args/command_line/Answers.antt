@@ -1,29 +1,26 @@
-use Rattle.std.proofs.Common.{ap, ap₂, ◌≡◌, ◌∙◌, true}
+use Rattle.std.proofs.Common.{ap, ◌≡◌, ◌∙◌}
 use Rattle.std.proofs.lemmas.Result.{IfOk-weaker}
+use Rattle.std.specs.Prelude.{IfOk, IsOkAnd, Result, Ok, Err}
 use Rattle.clap.specs.Words.{App, app_of, with_subcommand}
-use Rattle.clap.specs.Simple.{app_of_fields}
-use Rattle.vipr_command.specs.Args.{bare, line}
+use Rattle.clap.specs.declared.builder.command.Command.{Command}
+use Rattle.vipr_command.specs.Args.{bare, line, with_file, with_profile, with_out}
+use Rattle.vipr_command.specs.declared.task.Task.TheVariants.{Check, Explain, Show, Tighten}
 use Rattle.vipr_command.proofs.args.command_line.Goals as goal
 
--- `subcommand_required` and `disable_help_subcommand`
-abbrev with_required : App → App
-with_required a = record a { top = record a.top { subcommand_required = true } }
-
-abbrev without_help : App → App
-without_help a = record a { top = record a.top { disable_help_subcommand = true } }
-
--- `version`
-abbrev with_version : App → App
-with_version a = record a { top = record a.top { has_version = true } }
+-- the line with a command that was made
+joins : {E : Type 0} (r : Result Command E) (l x a : App) → IsOkAnd r (λ m. x ≡ with_subcommand l (app_of m).top) → IfOk r (λ m. app_of m ≡ a)
+    → x ≡ with_subcommand l a.top
+joins (Ok m) l x a e p = e ∙ ap (λ (b : App). with_subcommand l b.top) p
+joins (Err y) l x a e p = absurd e
 
 pub returns : goal.returns
 unfolding line
 returns c =
-    let bare_is : app_of c.disable_help_subcommand.result ≡ bare = ap app_of_fields c.disable_help_subcommand.ensures
-    ∙ ap without_help (ap app_of_fields c.subcommand_required.ensures
-    ∙ ap with_required (ap app_of_fields c.version.ensures
-    ∙ ap with_version (ap app_of_fields c.about.ensures ∙ c.new.ensures.app))) in
-    let checks = c.in_ok-subcommand.ensures.shape c.in_ok-check.ensures.local ∙ ap₂ with_subcommand bare_is (ap (λ (a : App). a.top) c.in_ok-check.ensures.app) in
-    let explains = c.in_ok-subcommand-2.ensures.shape c.in_ok-explain.ensures.local ∙ ap₂ with_subcommand checks (ap (λ (a : App). a.top) c.in_ok-explain.ensures.app) in
-    let shows = c.in_ok-subcommand-3.ensures.shape c.in_ok-show.ensures.local ∙ ap₂ with_subcommand explains (ap (λ (a : App). a.top) c.in_ok-show.ensures.app) in
-    IfOk-weaker c.subcommand-4.result _ _ (λ r h. h.shape c.in_ok-tighten.ensures.local ∙ ap₂ with_subcommand shows (ap (λ (a : App). a.top) c.in_ok-tighten.ensures.app)) c.subcommand-4.ensures
+    let checks = joins c.judging-check.result (app_of c.no_commands.result) _ (with_profile Check) c.in_ok-line.ensures c.judging-check.ensures.app
+    ∙ ap (λ (l : App). with_subcommand l (with_profile Check).top) c.no_commands.ensures in
+    let explains = joins c.judging-explain.result (app_of c.in_ok-line.line) _ (with_profile Explain) c.in_ok-line-2.ensures c.judging-explain.ensures.app
+    ∙ ap (λ (l : App). with_subcommand l (with_profile Explain).top) checks in
+    let shows = joins c.on_file-show.result (app_of c.in_ok-line-2.line) _ (with_file Show) c.in_ok-line-3.ensures c.on_file-show.ensures.app
+    ∙ ap (λ (l : App). with_subcommand l (with_file Show).top) explains in
+    IfOk-weaker c.with_command-4.result _ _ (λ r h. joins c.with_out-tighten.result (app_of c.in_ok-line-3.line) _ (with_out Tighten) h c.with_out-tighten.ensures.app
+    ∙ ap (λ (l : App). with_subcommand l (with_out Tighten).top) shows) c.with_command-4.ensures
