@@ -1,9 +1,9 @@
 //! Reads a certificate item by item.
-ghost use Rattle.std.specs.Prelude.{◌≢◌, IfErr};
+ghost use Rattle.std.specs.Prelude.{◌≡◌, ◌≢◌, IfErr, IfOk, false};
 
 use std::alloc::Global;
-use vipr_bytes::Bytes;
-use vipr_text::{CertReader, Reason, TextError};
+use vipr_bytes::{Bytes, Source};
+use vipr_text::{CertReader, Derivations, Problem, Reason, Solutions, TextError};
 
 /// What stands in a certificate.
 #[derive(Clone, Copy, Debug, Default, PartialEq, Eq)]
@@ -32,22 +32,56 @@ pub fn count_items(alloc: Global, text: &[u8]) -> Result<Counts, TextError>
 {
     let reader = CertReader::new(alloc, Bytes::new(text))?;
     let (problem, mut solutions) = reader.read_problem(alloc)?;
-    let mut counts = Counts {
-        variables: problem.names().len(),
-        constraints: problem.cons().len(),
-        ..Counts::default()
-    };
-    while let Some(_solution) = solutions.next(alloc)? {
-        counts.solutions = counts.solutions.saturating_add(1);
-    }
+    let mut counts = Counts::of_problem(&problem);
+    drop(problem);
+    counts.count_solutions(alloc, &mut solutions)?;
     let mut derivations = solutions.finish()?;
-    while let Some(derivation) = derivations.next(alloc)? {
-        counts.count(&derivation.reason);
-    }
+    counts.count_derivations(alloc, &mut derivations)?;
     Ok(counts)
 }
 
 impl Counts {
+    // The counts before any item is read.
+    fn of_problem(problem: &Problem) -> Counts {
+        Counts {
+            variables: problem.names().len(),
+            constraints: problem.cons().len(),
+            ..Counts::default()
+        }
+    }
+
+    // Counts the solutions that follow.
+    fn count_solutions<R: Source>(
+        &mut self,
+        alloc: Global,
+        solutions: &mut Solutions<R>,
+    ) -> Result<(), TextError>
+        requires { solutions.old.failed ≡ false }
+        ensures read { IfOk result (λ _. (solutions.new.failed ≡ false)
+            × (solutions.new.left ≡ 0)) }
+        ensures error { IfErr result (λ error. error ≢ TextError.Spent) }
+    {
+        while let Some(_solution) = solutions.next(alloc)? {
+            self.solutions = self.solutions.saturating_add(1);
+        }
+        Ok(())
+    }
+
+    // Counts the derivations that follow.
+    fn count_derivations<R: Source>(
+        &mut self,
+        alloc: Global,
+        derivations: &mut Derivations<R>,
+    ) -> Result<(), TextError>
+        requires { derivations.old.failed ≡ false }
+        ensures { IfErr result (λ error. error ≢ TextError.Spent) }
+    {
+        while let Some(derivation) = derivations.next(alloc)? {
+            self.count(&derivation.reason);
+        }
+        Ok(())
+    }
+
     // Counts a derivation with this reason.
     fn count(&mut self, reason: &Reason) {
         let counter = match reason {
