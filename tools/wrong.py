@@ -27,9 +27,9 @@ def tried(rt, crate, paths):
             shutil.copytree(last, kept)
         kept.mkdir(exist_ok=True)
         for path in paths:
-            is_refused, text = rt.must_fail(crate, str(path), ['--jobs', '1'], str(kept))
+            found, text = rt.must_fail(crate, str(path), ['--jobs', '1'], str(kept))
             print(text, flush=True)
-            yield is_refused
+            yield found in (rt.REFUSED, rt.AT_LIMIT)
 
 
 def main(names):
