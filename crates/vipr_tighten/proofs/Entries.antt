@@ -1,5 +1,5 @@
 -- Entries under new indices, one after the other
-use Rattle.std.proofs.Common.{◌≡◌, ℕ, zero, suc, ◌+◌, ◌<◌, List, [], ◌∷◌, ◌++◌, take, drop, map, length, get_or, All, arith, refl, sym, ◌∙◌, ap, ap₂, add-one, append-nil}
+use Rattle.std.proofs.Common.{◌≡◌, ℕ, zero, suc, ◌+◌, ◌<◌, List, [], ◌∷◌, ◌++◌, take, drop, map, length, get_or, All, arith, refl, sym, ◌∙◌, ap, ap₂, append-nil}
 use Rattle.std.proofs.Math.ListN.{set}
 use Rattle.std.proofs.lemmas.List.{drop_all, get_or_read_under, take_all}
 use Rattle.std.proofs.lemmas.List.Elements.{All-get_or}

@@ -1,6 +1,6 @@
 -- A text item by item: what is found in what is left, once so much was read and kept
 use Rattle.std.proofs.Common.{◌≡◌, ◌≢◌, ℕ, zero, suc, ◌+◌, ◌<◌, ◌≤◌, ◌^◌, true, false, List, [], ◌∷◌, ◌++◌, length, None, Result, Ok, Err, inl, inr, arith, refl, sym, ◌∙◌, ap, subst, append-nil, append_assoc, length-append}
-use Rattle.std.specs.Prelude.{◌⊎◌, IsSome, IsErrAnd, All, Option, Some}
+use Rattle.std.specs.Prelude.{◌⊎◌, IsSome, IfOk, IfErr, IsErrAnd, MatchResult, All, Option, Some}
 use Rattle.vipr_spec.specs.Input.{Input}
 use Rattle.vipr_bytes.specs.Known.{text_of, IfKnown}
 use Rattle.vipr_spec.specs.Shape.{ProblemShape, SolutionShape, DerivationShape, CertificateShape}
@@ -9,13 +9,13 @@ use Rattle.vipr_scan.specs.Giving.{rest_of}
 use Rattle.vipr_scan.specs.Faults.{Fails}
 use Rattle.vipr_scan.specs.declared.error.TextError.{TextError}
 use Rattle.vipr_scan.specs.declared.error.TextError.TheVariants as text
-use Rattle.vipr_spec.specs.Constraint.{Profile, Row, at, NamesBelow, condition}
+use Rattle.vipr_spec.specs.Constraint.{Profile, Row, NamesBelow, condition}
 use Rattle.vipr_spec.specs.Certificate.{Named, Problem, variables, Derivation, Certificate, MeetsPrimal, IsProof, count}
 use Rattle.vipr_spec.specs.Reading.{Rest, Read, Fault as ReadFault, refused, unread, problem_read, solution_read, derivations_read, derivation_read, end_read, most_count}
 use Rattle.vipr_spec.specs.Steps.{with_more, with_next, PassesStep, step_tests, FirstFailing}
 use Rattle.vipr_spec.specs.Tests.{spelled, of_solution, meets_primal, meets_dual, of_step, PassesSolution, solution_tests, none, step, no_proof, no_primal, solution_detail, goal_needed_by}
 use Rattle.vipr_spec.specs.Checking.{start}
-use Rattle.vipr_spec.specs.Verdict.{before_items, items_read, derivations_found, ending_found, problem_found, found_in, Found, Answer, Reports, verified, told_by}
+use Rattle.vipr_spec.specs.Verdict.{before_items, items_read, derivations_found, ending_found, problem_found, found_in, Found, Reports, verified, told_by}
 use Rattle.vipr_spec.specs.Progress.{derivations_from, solutions_from}
 use Rattle.vipr_spec.proofs.Laws.{count_next, problem_fault, problem_ok, solution_fault, solution_passes, solution_fails, solutions_unmet, derivations_fault, derivations_begin, derivation_fault, derivation_passes, derivation_fails, end_fault, end_unproved, end_verified}
 use Rattle.vipr_read.specs.Items.{Items, Knows, Remembers}
@@ -32,7 +32,7 @@ use Rattle.vipr_check.specs.Run.{IsAmong, IsAt}
 use Rattle.vipr_check.proofs.Laws.{missed_bound}
 use Rattle.vipr_tighten.specs.declared.proof.Unproved.{Unproved}
 use Rattle.vipr_tighten.specs.declared.proof.Unproved.TheVariants as unproved
-use Rattle.vipr_tighten.specs.Keeping.{HasAnswer, TellsWhy, TellsProof, LeadsTo, stop_reason, text_reason, solutions_left, derivations_left, KeepsListed, KeepsDerived, KeepsWhole}
+use Rattle.vipr_tighten.specs.Keeping.{HasAnswer, TellsWhy, TellsProof, LeadsTo, stop_reason, text_reason, solutions_left, derivations_left, KeepsListed, KeepsMet, KeepsDerived, KeepsWhole, KeepsFinished, KeepsProof}
 
 -- ---- what leads to what
 
@@ -321,30 +321,94 @@ module _ (P : Profile) (s : Certificate) (u : Items) (c : Certificate) (m n : St
       let reports = subst (λ Q. Reports Q c (report_of report)) whole.profile h.1 in
       (leads.same ∙ end_same c end, (none, leads.answers a none ((end_verified P a none c end ended proof.dual).1 ((report_of report, reports, refl), refl))))
 
--- what is found in the second is found in the first
-pub proof_by : (P : Profile) (f g : Found) → LeadsTo P f g → (x : Result (Certificate × Report) Unproved) → TellsProof P g x → TellsProof P f x
-proof_by P f g leads (Ok x) h = (leads.same ∙ h.0, (h.1.0, leads.answers _ h.1.0 h.1.1))
-proof_by P f g leads (Err e) h = tells_by P f g leads e h
+-- ---- all items
 
-module _ (P : Profile) (t : Rest) (p : Problem) (r : Items) (read : problem_read t ≡ Ok ((p, r.left), rest_of r.rest)) (known : IsSome r.rest) where
+-- what tells of the text where an error is handed on
+pub err_given : {T : Type 0} (Q : Unproved → Type 0) (x : Result T Unproved) (e : Unproved) → IsErrAnd x (λ y. y ≡ e) → Q e → IfErr x Q
+err_given Q (Ok x) e h t = absurd h
+err_given Q (Err y) e h t = subst Q (sym h) t
+
+-- a proof that is put together of what was read
+pub ok_on : {T E : Type 0} (F G : T → Type 0) (x : Result T E) → ((t : T) → F t → G t) → IfOk x F → IfOk x G
+ok_on F G (Ok t) h y = h t y
+ok_on F G (Err e) h y = tt
+
+pub err_on : {T E : Type 0} (F G : E → Type 0) (x : Result T E) → ((e : E) → F e → G e) → IfErr x F → IfErr x G
+err_on F G (Ok t) h y = tt
+err_on F G (Err e) h y = h e y
+
+pub made_kept : {T : Type 0} (x : Result T Unproved) (y : Result (Certificate × Report) Unproved) (view : T → Certificate) (report : T → Report) (F : Certificate → Report → Type 0)
+    → MatchResult x (λ t. y ≡ Ok (view t, report t)) (λ e. y ≡ Err e) → IfOk x (λ t. F (view t) (report t)) → IfOk y (λ z. F z.0 z.1)
+made_kept (Ok t) y view report F is h = subst (λ y. IfOk y (λ z. F z.0 z.1)) (sym is) h
+made_kept (Err e) y view report F is h = subst (λ y. IfOk y (λ z. F z.0 z.1)) (sym is) tt
+
+pub made_unproved : {T : Type 0} (x : Result T Unproved) (y : Result (Certificate × Report) Unproved) (view : T → Certificate) (report : T → Report) (Q : Unproved → Type 0)
+    → MatchResult x (λ t. y ≡ Ok (view t, report t)) (λ e. y ≡ Err e) → IfErr x Q → IfErr y Q
+made_unproved (Ok t) y view report Q is h = subst (λ y. IfErr y Q) (sym is) tt
+made_unproved (Err e) y view report Q is h = subst (λ y. IfErr y Q) (sym is) h
+
+-- the end of the solutions
+module _ (P : Profile) (p : Problem) (r : Items) (ss : List (Named Row)) (k : State) (s : Items) (listed : KeepsListed P p r ss k s) (all_read : s.left ≡ 0) (known : IsSome r.rest) where
+  to_end : LeadsTo P (solutions_left p [] r) (solutions_from p ss 0 (rest_of s.rest))
+  to_end = subst (λ n. LeadsTo P (solutions_left p [] r) (solutions_from p ss n (rest_of s.rest))) all_read (listed.leads known)
+
+  pub end_tells : (e : Unproved) → TellsWhy P (solutions_from p ss 0 (rest_of s.rest)) e → TellsWhy P (solutions_left p [] r) e
+  end_tells e h = tells_by P (solutions_left p [] r) (solutions_from p ss 0 (rest_of s.rest)) to_end e h
+
+-- the number of derivations, and what follows it
+module _ (P : Profile) (p : Problem) (r : Items) (ss : List (Named Row)) (k : State) (s : Items) (met : KeepsMet P p r ss k s) (all_read : s.left ≡ 0) where
+  pub unread_tells : (e : TextError) → (IsSome s.rest → Fails e (derivations_read p (rest_of s.rest))) → IsSome r.rest → TellsWhy P (solutions_left p [] r) (text_reason e)
+  unread_tells e fails known =
+      end_tells P p r ss met.before s met.listed all_read known (text_reason e)
+      (count_missing P p ss (rest_of s.rest) e (ending_met p ss met.before k met.listed.is_among.problem met.ends) (fails (met.listed.known known)))
+
+  module _ (u : Items) (remembers : Remembers s u) (working : u.failed ≡ false) (counted : u.constraints + u.left < 2 ^ 32) where
+    knows_then : Knows u p
+    knows_then = knows_still p s u met.listed.is_among.knows remembers
+
+    pub at_then : IsAt P (start p ss) k u
+    at_then = at_start P p ss met.before k s met.listed.is_among met.ends u knows_then working counted
+
+    module _ (read : IsSome s.rest → (derivations_read p (rest_of s.rest) ≡ Ok (u.left, rest_of u.rest)) × (IsSome u.rest)) where
+      to_derivations : IsSome r.rest → LeadsTo P (solutions_left p [] r) (derivations_left (start p ss) u)
+      to_derivations known =
+          let count = read (met.listed.known known) in
+          leads_on P (solutions_left p [] r) (solutions_from p ss 0 (rest_of s.rest)) (derivations_left (start p ss) u) (to_end P p r ss met.before s met.listed all_read known)
+          (count_leads P p ss (rest_of s.rest) u.left (rest_of u.rest) (ending_met p ss met.before k met.listed.is_among.problem met.ends) count.0)
+
+      pub later_tells : (e : Unproved) → (IsSome u.rest → TellsWhy P (derivations_left (start p ss) u) e) → IsSome r.rest → TellsWhy P (solutions_left p [] r) e
+      later_tells e h known = tells_by P (solutions_left p [] r) (derivations_left (start p ss) u) (to_derivations known) e (h (read (met.listed.known known)).1)
+
+      pub proof_kept : (ds : List Derivation) (report : Report) (l : State) → Knows r p → All (SolutionShape r.variables) ss → All (DerivationShape u.variables) ds
+          → KeepsFinished P (start p ss) u (with_more (start p ss) ds) report l
+          → (l.progress.problem ≡ p) × (ProblemShape p → CertificateShape (with_more (start p ss) ds)) × KeepsProof P p r (with_more (start p ss) ds) report
+      proof_kept ds report l knows solutions derivations h =
+          let c = with_more (start p ss) ds in
+          let same : u.variables ≡ r.variables = knows_then.variables ∙ sym knows.variables in (
+            ap (λ (v : State). v.progress.problem) h.done.3 ∙ sym h.whole.has.problem,
+            (λ problem. whole_shape P p ss ds h.before problem (few_listed P p ss r s met.before met.listed all_read) u (subst (λ n. All (SolutionShape n) ss) (sym same) solutions) knows_then h.whole derivations),
+            record {
+              proof = subst (λ Q. IsProof Q c) h.whole.profile h.done.0;
+              reports = subst (λ Q. Reports Q c (report_of report)) h.whole.profile h.done.1;
+              shown = h.done.2;
+              found = λ known.
+                  let leads = to_derivations known in
+                  let found = finish_found P (start p ss) u c h.before l h.whole (read (met.listed.known known)).1 report h.done in
+                  (leads.same ∙ found.0, (found.1.0, leads.answers (verified (report_of report)) found.1.0 found.1.1));
+            },
+          )
+
+-- ---- the whole text
+
+module _ (P : Profile) (t : Rest) (p : Problem) (r : Items) (read : problem_read t ≡ Ok ((p, r.left), rest_of r.rest)) where
   to_solutions : LeadsTo P (found_in t) (solutions_left p [] r)
   to_solutions = problem_leads P t p r.left (rest_of r.rest) read
 
-  pub solutions_tell : (e : Unproved) → TellsWhy P (solutions_left p [] r) e → TellsWhy P (found_in t) e
-  solutions_tell e h = tells_by P (found_in t) (solutions_left p [] r) to_solutions e h
-
-  module _ (ss : List (Named Row)) (k : State) (s : Items) (listed : KeepsListed P p r ss k s) (all_read : s.left ≡ 0) where
-    to_end : LeadsTo P (found_in t) (solutions_from p ss 0 (rest_of s.rest))
-    to_end = subst (λ n. LeadsTo P (found_in t) (solutions_from p ss n (rest_of s.rest))) all_read (leads_on P (found_in t) (solutions_left p [] r) (solutions_left p ss s) to_solutions (listed.leads known))
-
-    pub end_tells : (e : Unproved) → TellsWhy P (solutions_from p ss 0 (rest_of s.rest)) e → TellsWhy P (found_in t) e
-    end_tells e h = tells_by P (found_in t) (solutions_from p ss 0 (rest_of s.rest)) to_end e h
-
-    module _ (l : State) (ends : EndsSolutions ss k l (Ok tt)) (u : Items) (count : derivations_read p (rest_of s.rest) ≡ Ok (u.left, rest_of u.rest)) (more : IsSome u.rest) where
-      pub to_derivations : LeadsTo P (found_in t) (derivations_left (start p ss) u)
-      to_derivations =
-          let met = ending_met p ss k l listed.is_among.problem ends in
-          leads_on P (found_in t) (solutions_from p ss 0 (rest_of s.rest)) (derivations_left (start p ss) u) to_end (count_leads P p ss (rest_of s.rest) u.left (rest_of u.rest) met count)
+  pub rest_tells : (x : Result (Certificate × Report) Unproved) → IfOk x (λ y. KeepsProof P p r y.0 y.1) → IfErr x (λ e. IsSome r.rest → TellsWhy P (solutions_left p [] r) e) → IsSome r.rest → TellsProof P (found_in t) x
+  rest_tells (Ok (c, report)) h e known =
+      let found = h.found known in
+      (to_solutions.same ∙ found.0, (found.1.0, to_solutions.answers (verified (report_of report)) found.1.0 found.1.1))
+  rest_tells (Err y) h e known = tells_by P (found_in t) (solutions_left p [] r) to_solutions y (e known)
 
 -- ---- the answer
 

@@ -1,13 +1,13 @@
 -- One pass from the front: what is kept so far, and the table of new indices
-use Rattle.std.proofs.Common.{◌≡◌, ℕ, zero, suc, ◌+◌, ◌-◌, ◌<◌, ◌≤◌, ◌⊎◌, Bool, true, false, cond, ◌||◌, nat_lt, List, [], ◌∷◌, ◌++◌, take, drop, map, length, slice_index_or, get_or, Option, Some, None, IfSome, arith, refl, sym, ◌∙◌, ap, ap₂, subst, ⊎_elim, lt-ltb, ltb-true, eqb-true, nat_eq}
-use Rattle.std.proofs.lemmas.Bool.{cases_lt, cases_order}
-use Rattle.std.proofs.lemmas.List.{drop_more, get_or-map, get_or_append_left, get_or_past, length-append, length-drop, length-map, length-take-le, map_push, take_all}
+use Rattle.std.proofs.Common.{◌≡◌, ℕ, zero, suc, ◌+◌, ◌-◌, ◌<◌, ◌≤◌, Bool, true, false, cond, ◌||◌, nat_lt, List, [], ◌∷◌, ◌++◌, take, drop, map, length, slice_index_or, get_or, Option, Some, None, IfSome, arith, refl, sym, ◌∙◌, ap, ap₂, subst, ⊎_elim, lt-ltb, ltb-true, eqb-true, nat_eq}
+use Rattle.std.proofs.lemmas.Bool.{cases_lt}
+use Rattle.std.proofs.lemmas.List.{drop_more, get_or-map, get_or_append_left, get_or_past, length-append, length-drop, length-map, length-take-le, map_push}
 use Rattle.std.proofs.Math.Seq.{get_or-append_right}
 use Rattle.vipr_spec.specs.Certificate as is
 use Rattle.vipr_spec.specs.Certificate.{NamesEarlier}
 use Rattle.vipr_spec.specs.Steps.{RefersBack}
 use Rattle.vipr_spec.specs.Tightened.{refers_to, is_the_goal, is_marked, is_kept, new_index, renumbered, with_new_indices, kept_derivations, referred_by, tightened}
-use Rattle.vipr_spec.specs.Laws.{index_le, index_same, length_kept_derivations, reason_placed, marked_past, next_kept, next_left_out, renumbered_alike}
+use Rattle.vipr_spec.specs.Laws.{index_same, length_kept_derivations, reason_placed, marked_past, next_kept, next_left_out, renumbered_alike}
 use Rattle.vipr_cert.specs.Earlier.{reason_in, NameEarlierFrom}
 use Rattle.vipr_cert.specs.Items.{reason_of, derivation_of}
 use Rattle.vipr_cert.specs.declared.items.Derivation.{Derivation}

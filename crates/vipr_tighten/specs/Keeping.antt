@@ -1,16 +1,17 @@
 -- A checker run over a text, item by item, while the items are kept
 use Rattle.std.specs.Prelude.{◌≡◌, ⊤, ◌<◌, ◌^◌, false, List, [], None, IsSome, Result, Ok, Err}
 use Rattle.vipr_spec.specs.Constraint.{Profile, Row}
-use Rattle.vipr_spec.specs.Certificate.{Named, Problem, Certificate, count}
+use Rattle.vipr_spec.specs.Certificate.{Named, Problem, Certificate, count, IsProof}
 use Rattle.vipr_spec.specs.Reading.{Rest, end_read}
+use Rattle.vipr_spec.specs.Soundness.{IsShown}
 use Rattle.vipr_spec.specs.Tests.{Detail}
-use Rattle.vipr_spec.specs.Verdict.{Found, Answer, verified, refuses, cut_short, Explained}
+use Rattle.vipr_spec.specs.Verdict.{Found, Answer, Reports, verified, refuses, cut_short, Explained}
 use Rattle.vipr_spec.specs.Progress.{solutions_from, derivations_from}
 use Rattle.vipr_scan.specs.Giving.{rest_of}
 use Rattle.vipr_read.specs.Items.{Items}
 use Rattle.vipr_check.specs.View.{refusal_of, report_of}
 use Rattle.vipr_check.specs.Progress.{HasSteps}
-use Rattle.vipr_check.specs.State.{State}
+use Rattle.vipr_check.specs.State.{State, EndsSolutions, Finishes}
 use Rattle.vipr_check.specs.Run.{IsAmong, IsAt}
 use Rattle.vipr_check.specs.declared.verdict.Report.{Report}
 use Rattle.vipr_check.specs.declared.halt.Stop.{Stop}
@@ -71,6 +72,13 @@ pub record KeepsListed (P : Profile) (p : Problem) (r : Items) (ss : List (Named
   pub known : IsSome r.rest → IsSome new.rest
   pub leads : IsSome r.rest → LeadsTo P (solutions_left p [] r) (solutions_left p ss new)
 
+-- they were all taken, and meet the primal side of the claim
+pub record KeepsMet (P : Profile) (p : Problem) (r : Items) (ss : List (Named Row))
+    (k : State) (new : Items) : Type 0 where
+  pub before : State
+  pub listed : KeepsListed P p r ss before new
+  pub ends : EndsSolutions ss before k (Ok tt)
+
 -- the certificate c was read where r was left after the certificate s, and the checker and the
 -- reader stand behind it
 pub record KeepsDerived (P : Profile) (s : Certificate) (r : Items) (c : Certificate)
@@ -89,3 +97,20 @@ pub record KeepsWhole (P : Profile) (s : Certificate) (r : Items) (c : Certifica
   pub runs : k.halt ≡ None
   pub leads : IsSome r.rest → (end : Rest) × (end_read end ≡ Ok tt)
       × LeadsTo P (derivations_left s r) (derivations_from c 0 end)
+
+-- it is a proof, and this is its report
+pub record KeepsFinished (P : Profile) (s : Certificate) (r : Items) (c : Certificate)
+    (report : Report) (k : State) : Type 0 where
+  pub before : State
+  pub whole : KeepsWhole P s r c before
+  pub done : Finishes c before k (Ok report)
+
+-- the certificate c was read where r was left before the solutions of the problem p, and it is a
+-- proof with this report
+pub record KeepsProof (P : Profile) (p : Problem) (r : Items) (c : Certificate)
+    (report : Report) : Type 0 where
+  pub proof : IsProof P c
+  pub reports : Reports P c (report_of report)
+  pub shown : IsShown c.problem c.solutions c.problem.claim
+  pub found : IsSome r.rest → ((solutions_left p [] r).certificate ≡ c)
+      × HasAnswer P (solutions_left p [] r) (verified (report_of report))

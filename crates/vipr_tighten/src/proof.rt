@@ -1,28 +1,31 @@
 //! Reads a certificate: each item is checked before the next one is read, and kept.
 
-ghost use Rattle.std.specs.Prelude.{◌≡◌, ◌≢◌, ◌≤◌, List, [], All, map, length, IfOk, IfErr, IsSome};
+ghost use Rattle.std.specs.Prelude.{◌≡◌, ◌≢◌, ◌<◌, ◌^◌, false, List, [], All, map, IfOk, IfErr};
+ghost use Rattle.std.specs.Prelude.{IsSome, MatchResult, Ok, Err};
 ghost use Rattle.vipr_spec.specs.Constraint.{Profile as ProfileMeant, Row};
 ghost use Rattle.vipr_spec.specs.Certificate.{Named as NamedMeant, Problem as ProblemMeant};
 ghost use Rattle.vipr_spec.specs.Certificate.{IsProof};
 ghost use Rattle.vipr_spec.specs.Checking.{start};
-ghost use Rattle.vipr_spec.specs.Reading.{most_count};
 ghost use Rattle.vipr_spec.specs.Shape.{ProblemShape, SolutionShape, DerivationShape};
+ghost use Rattle.vipr_spec.specs.Shape.{CertificateShape};
 ghost use Rattle.vipr_spec.specs.Soundness.{IsShown};
 ghost use Rattle.vipr_spec.specs.Steps.{with_more};
 ghost use Rattle.vipr_spec.specs.Verdict.{Reports, found_in};
 ghost use Rattle.vipr_bytes.specs.Known.{text_of, IfKnown};
-ghost use Rattle.vipr_cert.specs.Items.{solution_of, derivation_of};
+ghost use Rattle.vipr_cert.specs.Items.{solution_of, derivation_of, certificate_with};
+ghost use Rattle.vipr_read.specs.Items.{Knows};
 ghost use Rattle.vipr_scan.specs.declared.error.TextError.TheVariants as text_error;
 ghost use Rattle.vipr_rules.specs.Profile.{profile_of};
 ghost use Rattle.vipr_check.specs.View.{report_of};
 ghost use Rattle.vipr_check.specs.Run.{IsAmong, IsAt};
-ghost use Rattle.vipr_tighten.specs.Keeping.{TellsProof, TellsWhy, KeepsListed, KeepsWhole};
+ghost use Rattle.vipr_tighten.specs.Keeping.{TellsProof, TellsWhy, KeepsListed, KeepsMet};
+ghost use Rattle.vipr_tighten.specs.Keeping.{KeepsWhole, KeepsFinished, KeepsProof};
 ghost use Rattle.vipr_tighten.specs.Keeping.{solutions_left, derivations_left, stop_reason};
 ghost use Rattle.vipr_tighten.specs.Keeping.{text_reason};
 
 use std::alloc::{AllocError, AllocFailed, Global};
 use vipr_bytes::Source;
-use vipr_cert::{BadShape, Certificate, Derivation, Named};
+use vipr_cert::{BadShape, Certificate, Derivation, Named, Problem};
 use vipr_check::{Checker, Place, Refusal, Report, Stop};
 use vipr_linear::Solution;
 use vipr_rules::{LiveOnly, Profile};
@@ -78,50 +81,127 @@ pub(crate) fn read_proof<R: Source + Drop>(
         (λ i. TellsProof (profile_of profile) (found_in (text_of i)) result) }
 {
     let reader = CertReader::new(alloc, source)?;
-    let (problem, mut solutions) = match reader.read_problem(alloc) {
-        Ok(read) => read,
-        Err(error) => return Err(unread(error)),
-    };
-    let mut checker: Checker<LiveOnly> = Checker::new_in(alloc, profile, problem)?;
-    let listed = read_solutions(alloc, &mut checker, &mut solutions)?;
-    if let Err(stop) = checker.end_solutions() {
-        return Err(stopped(stop));
-    }
-    match solutions.finish() {
-        Ok(derivations) => read_rest(alloc, checker, listed, derivations),
+    match reader.read_problem(alloc) {
+        Ok((problem, solutions)) => read_rest(alloc, profile, problem, solutions),
         Err(error) => Err(unread(error)),
     }
 }
 
-// The proof that has these solutions, and the derivations that follow, and its report.
+// The proof of this problem that follows, and its report.
 fn read_rest<R: Source + Drop>(
     alloc: Global,
-    mut checker: Checker<LiveOnly>,
-    listed: Vec<Named<Solution>>,
-    mut derivations: Derivations<R>,
+    profile: Profile,
+    problem: Problem,
+    solutions: Solutions<R>,
 ) -> Result<(Certificate, Report), Unproved>
-    requires few { length (map solution_of listed.items) ≤ most_count }
-    requires shape { All (SolutionShape derivations.variables) (map solution_of listed.items) }
-    requires begins { (P : ProfileMeant) × (p : ProblemMeant) × ProblemShape p
-        × IsAt P (start p (map solution_of listed.items)) checker derivations }
-    ensures proof { (P : ProfileMeant) (p : ProblemMeant)
-        → IsAt P (start p (map solution_of listed.items)) checker derivations
-        → IfOk result (λ x. IsProof P x.0 × Reports P x.0 (report_of x.1)
-        × IsShown x.0.problem x.0.solutions x.0.problem.claim) }
-    ensures found { (P : ProfileMeant) (p : ProblemMeant)
-        → IsAt P (start p (map solution_of listed.items)) checker derivations
-        → IsSome derivations.rest
-        → TellsProof P (derivations_left (start p (map solution_of listed.items)) derivations)
-        result }
+    requires shape { ProblemShape problem }
+    requires knows { Knows solutions problem }
+    requires working { solutions.failed ≡ false }
+    requires counted { solutions.left < 2 ^ 32 }
+    ensures kept { IfOk result
+        (λ x. KeepsProof (profile_of profile) problem solutions x.0 x.1) }
+    ensures unproved { IfErr result (λ e. IsSome solutions.rest
+        → TellsWhy (profile_of profile) (solutions_left problem [] solutions) e) }
 {
-    let derived = read_derivations(alloc, &mut checker, &mut derivations)?;
-    let report = match checker.finish() {
-        Ok(report) => report,
-        Err(stop) => return Err(stopped(stop)),
-    };
-    match Certificate::new(checker.into_problem(), listed, derived) {
+    let mut checker: Checker<LiveOnly> = Checker::new_in(alloc, profile, problem)?;
+    let read = read_items(alloc, &mut checker, solutions);
+    proof_of(checker.into_problem(), read)
+}
+
+// The proof of a problem, of the solutions and derivations that were read, with its report.
+fn proof_of(
+    problem: Problem,
+    read: Result<(Vec<Named<Solution>>, Vec<Derivation>, Report), Unproved>,
+) -> Result<(Certificate, Report), Unproved>
+    requires { IfOk read
+        (λ x. CertificateShape (certificate_with problem x.0.items x.1.items)) }
+    ensures { MatchResult read
+        (λ x. result ≡ Ok (certificate_with problem x.0.items x.1.items, x.2))
+        (λ e. result ≡ Err e) }
+{
+    let (listed, derived, report) = read?;
+    match Certificate::new(problem, listed, derived) {
         Ok(certificate) => Ok((certificate, report)),
         Err(BadShape) => unreachable!(),
+    }
+}
+
+// The solutions and the derivations that follow, up to the end of the text, and the report of the
+// proof that they make.
+fn read_items<R: Source + Drop>(
+    alloc: Global,
+    checker: &mut Checker<LiveOnly>,
+    mut solutions: Solutions<R>,
+) -> Result<(Vec<Named<Solution>>, Vec<Derivation>, Report), Unproved>
+    requires { (P : ProfileMeant) × (p : ProblemMeant) × IsAmong P p [] checker.old solutions }
+    ensures kept { IfOk result (λ x. (P : ProfileMeant) (p : ProblemMeant)
+        → IsAmong P p [] checker.old solutions
+        → (checker.new.progress.problem ≡ p) × (ProblemShape p → CertificateShape
+        (with_more (start p (map solution_of x.0.items)) (map derivation_of x.1.items)))
+        × KeepsProof P p solutions (with_more (start p (map solution_of x.0.items))
+        (map derivation_of x.1.items)) x.2) }
+    ensures unproved { IfErr result (λ e. (P : ProfileMeant) (p : ProblemMeant)
+        → IsAmong P p [] checker.old solutions → IsSome solutions.rest
+        → TellsWhy P (solutions_left p [] solutions) e) }
+{
+    let listed = read_listed(alloc, checker, &mut solutions)?;
+    let mut derivations = match solutions.finish() {
+        Ok(derivations) => derivations,
+        Err(error) => return Err(unread(error)),
+    };
+    let (derived, report) = read_derived(alloc, checker, &mut derivations)?;
+    Ok((listed, derived, report))
+}
+
+// All solutions that follow, where they meet the primal side of the claim.
+fn read_listed<R: Source>(
+    alloc: Global,
+    checker: &mut Checker<LiveOnly>,
+    solutions: &mut Solutions<R>,
+) -> Result<Vec<Named<Solution>>, Unproved>
+    requires { (P : ProfileMeant) × (p : ProblemMeant)
+        × IsAmong P p [] checker.old solutions.old }
+    ensures none { IfOk result (λ ss. solutions.new.left ≡ 0) }
+    ensures shape { IfOk result (λ ss.
+        All (SolutionShape solutions.old.variables) (map solution_of ss.items)) }
+    ensures kept { IfOk result (λ ss. (P : ProfileMeant) (p : ProblemMeant)
+        → IsAmong P p [] checker.old solutions.old
+        → KeepsMet P p solutions.old (map solution_of ss.items) checker.new solutions.new) }
+    ensures unproved { IfErr result (λ e. (P : ProfileMeant) (p : ProblemMeant)
+        → IsAmong P p [] checker.old solutions.old → IsSome solutions.old.rest
+        → TellsWhy P (solutions_left p [] solutions.old) e) }
+{
+    let listed = read_solutions(alloc, checker, solutions)?;
+    match checker.end_solutions() {
+        Ok(()) => Ok(listed),
+        Err(stop) => Err(stopped(stop)),
+    }
+}
+
+// All derivations that follow, up to the end of the text, and the report, where they make a proof.
+fn read_derived<R: Source>(
+    alloc: Global,
+    checker: &mut Checker<LiveOnly>,
+    derivations: &mut Derivations<R>,
+) -> Result<(Vec<Derivation>, Report), Unproved>
+    requires { (P : ProfileMeant) × (p : ProblemMeant) × (ss : List (NamedMeant Row))
+        × IsAt P (start p ss) checker.old derivations.old }
+    ensures shape { IfOk result (λ x.
+        All (DerivationShape derivations.old.variables) (map derivation_of x.0.items)) }
+    ensures kept { IfOk result
+        (λ x. (P : ProfileMeant) (p : ProblemMeant) (ss : List (NamedMeant Row))
+        → IsAt P (start p ss) checker.old derivations.old
+        → KeepsFinished P (start p ss) derivations.old
+        (with_more (start p ss) (map derivation_of x.0.items)) x.1 checker.new) }
+    ensures unproved { IfErr result
+        (λ e. (P : ProfileMeant) (p : ProblemMeant) (ss : List (NamedMeant Row))
+        → IsAt P (start p ss) checker.old derivations.old → IsSome derivations.old.rest
+        → TellsWhy P (derivations_left (start p ss) derivations.old) e) }
+{
+    let derived = read_derivations(alloc, checker, derivations)?;
+    match checker.finish() {
+        Ok(report) => Ok((derived, report)),
+        Err(stop) => Err(stopped(stop)),
     }
 }
 

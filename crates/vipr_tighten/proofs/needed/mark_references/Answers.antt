@@ -1,1 +1,0 @@
-use Rattle.vipr_tighten.proofs.needed.mark_references.Goals as goal

@@ -1,4 +1,4 @@
-use Rattle.std.proofs.Common.{◌≡◌, map, refl, sym, ◌∙◌, ap, subst}
+use Rattle.std.proofs.Common.{map, refl, sym, ◌∙◌, subst}
 use Rattle.std.proofs.lemmas.List.{map_push}
 use Rattle.std.proofs.lemmas.List.Elements.{All-push, All-nil}
 use Rattle.vipr_spec.specs.Constraint.{at}
@@ -6,7 +6,7 @@ use Rattle.vipr_spec.specs.Checking.{start}
 use Rattle.vipr_spec.specs.Steps.{with_more}
 use Rattle.vipr_spec.specs.Shape.{DerivationShape}
 use Rattle.vipr_cert.specs.Items.{derivation_of}
-use Rattle.vipr_tighten.specs.Keeping.{TellsWhy, KeepsDerived, derivations_left}
+use Rattle.vipr_tighten.specs.Keeping.{TellsWhy, derivations_left}
 use Rattle.vipr_tighten.proofs.Reading.{derived_first, step_taken, step_stops, step_unspent, step_unread, at_end, room_for, names_for}
 use Rattle.vipr_tighten.proofs.proof.read_derivations.Goals as goal
 

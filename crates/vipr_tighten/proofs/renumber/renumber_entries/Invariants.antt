@@ -1,4 +1,3 @@
-use Rattle.std.proofs.Common.{◌≡◌}
 use Rattle.vipr_tighten.proofs.Entries.{EntriesSoFar}
 use Rattle.vipr_tighten.proofs.renumber.renumber_entries.Given as goal
 
