@@ -4,3 +4,4 @@ pub mod Parsing
 pub mod Items
 pub mod ItemsCode
 pub mod Whole
+pub mod Sections

@@ -1,17 +1,21 @@
 //! Reads a whole certificate.
-ghost use Rattle.std.specs.Prelude.{◌≡◌, ◌≢◌, ◌⊎◌, Ok, Err, IfOk, IfErr, IsSome};
-ghost use Rattle.vipr_spec.specs.Certificate.{Certificate as CertificateMeant};
+ghost use Rattle.std.specs.Prelude.{◌≡◌, ◌≢◌, ◌⊎◌, ◌+◌, ◌≤◌, Ok, Err, IfOk, IfErr, IsSome, All};
+ghost use Rattle.std.specs.Prelude.{map, length};
+ghost use Rattle.vipr_spec.specs.Certificate.{Certificate as CertificateMeant, variables};
 ghost use Rattle.vipr_spec.specs.Grammar.{Spells};
-ghost use Rattle.vipr_spec.specs.Reading.{certificate_read};
+ghost use Rattle.vipr_spec.specs.Reading.{certificate_read, most_count};
+ghost use Rattle.vipr_spec.specs.Shape.{DerivationShape, DerivationFits, CanWrite};
+ghost use Rattle.vipr_cert.specs.Items.{certificate_with, derivation_of};
 ghost use Rattle.vipr_bytes.specs.Known.{text_of, IfKnown, IfWhole};
 ghost use Rattle.vipr_scan.specs.Giving.{rest_of};
-ghost use Rattle.vipr_read.specs.Whole.{IsParsed, IsRead};
+ghost use Rattle.vipr_read.specs.Whole.{IsParsed, IsRead, items_read, derived_read};
 
 use crate::item::{Derived, Listed, all};
 use crate::parser::Parser;
 use std::alloc::Global;
 use vipr_bytes::Source;
-use vipr_cert::Certificate;
+use vipr_cert::{Certificate, Derivation, Named, Problem};
+use vipr_linear::Solution;
 use vipr_scan::{Scanner, Stop, TextError};
 
 /// The certificate that `source` gives, which is read to its end.
@@ -44,15 +48,59 @@ pub fn read_certificate<R: Source + Drop>(
 }
 
 // The certificate that the parser is at the start of.
-#[tactic(auto, unfolding(vipr_spec::specs::Reading::certificate_read))]
 fn whole<R: Source + Drop>(alloc: Global, mut parser: Parser<R>) -> Result<Certificate, Stop>
     ensures { IsSome parser.rest
         → IsParsed (λ c. c) result (certificate_read (rest_of parser.rest)) }
 {
+    parts(alloc, &mut parser)
+}
+
+// The same; the parser is the caller's.
+fn parts<R: Source>(alloc: Global, parser: &mut Parser<R>) -> Result<Certificate, Stop>
+    ensures { IsSome parser.old.rest
+        → IsParsed (λ c. c) result (certificate_read (rest_of parser.old.rest)) }
+{
     let (problem, count) = parser.problem(alloc)?;
-    let solutions = all(&mut parser, alloc, &Listed, problem.objective(), count)?;
-    let count = parser.derivation_count(problem.cons().len() as u32)?;
-    let derivations = all(&mut parser, alloc, &Derived, problem.objective(), count)?;
-    parser.end()?;
+    let (solutions, derivations) = items(alloc, parser, &problem, count)?;
     Ok(Certificate::of_parts(problem, solutions, derivations))
+}
+
+// The solutions, of which there are so many, and the derivations.
+fn items<R: Source>(
+    alloc: Global,
+    parser: &mut Parser<R>,
+    problem: &Problem,
+    count: u32,
+) -> Result<(Vec<Named<Solution>>, Vec<Derivation>), Stop>
+    requires { parser.old.variables ≡ variables problem.now }
+    ensures read { IsSome parser.old.rest
+        → IsParsed (λ x. certificate_with problem.now x.0.items x.1.items) result
+        (items_read problem.now count (rest_of parser.old.rest)) }
+    ensures writes { IfOk result
+        (λ x. CanWrite (certificate_with problem.now x.0.items x.1.items)) }
+{
+    let solutions = all(parser, alloc, &Listed, problem.objective(), count)?;
+    let derivations = derivations(alloc, parser, problem)?;
+    Ok((solutions, derivations))
+}
+
+// The derivations, and the end of the text behind them.
+fn derivations<R: Source>(
+    alloc: Global,
+    parser: &mut Parser<R>,
+    problem: &Problem,
+) -> Result<Vec<Derivation>, Stop>
+    requires { parser.old.variables ≡ variables problem.now }
+    ensures read { IsSome parser.old.rest → IsParsed (λ v. map derivation_of v.items) result
+        (derived_read problem.now (rest_of parser.old.rest)) }
+    ensures few { IfOk result (λ v.
+        length problem.now.constraints + length (map derivation_of v.items) ≤ most_count) }
+    ensures shape { IfOk result (λ v.
+        All (DerivationShape (variables problem.now)) (map derivation_of v.items)) }
+    ensures fits { IfOk result (λ v. All DerivationFits (map derivation_of v.items)) }
+{
+    let count = parser.derivation_count(problem.cons().len() as u32)?;
+    let derivations = all(parser, alloc, &Derived, problem.objective(), count)?;
+    parser.end()?;
+    Ok(derivations)
 }

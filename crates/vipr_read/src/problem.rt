@@ -13,6 +13,8 @@ ghost use Rattle.vipr_linear.specs.Constraint.{constraint_of};
 ghost use Rattle.vipr_cert.specs.Items.{named_of, direction_of, claim_of};
 ghost use Rattle.vipr_scan.specs.Giving.{Scans};
 ghost use Rattle.vipr_read.specs.Parsing.{Parses};
+ghost use Rattle.vipr_read.specs.Sections.{variables_read, sections_read, sections_of};
+ghost use Rattle.vipr_read.specs.Sections.{claimed_read};
 
 use crate::kinds::{Bound, Count, GoalKind, HasRange, NameKind, Number, SenseKind, Variable, Word};
 use crate::parser::Parser;
@@ -57,6 +59,16 @@ impl Part for Stated<'_> {
             item: Constraint { row, sense, rhs },
         })
     }
+}
+
+/// What stands between the names and the claim.
+#[derive(Drop)]
+struct Sections {
+    ints: Ints,
+    goal: Goal,
+    objective: Row,
+    bound_count: u32,
+    constraints: Vec<Named<Constraint>>,
 }
 
 impl<R: Source> Parser<R> {
@@ -158,31 +170,80 @@ impl<R: Source> Parser<R> {
         self.range(has_range)
     }
 
+    /// The version and the names of the variables, which the parser knows then.
+    #[tactic(auto, unfolding(crate::specs::Sections::variables_read))]
+    fn variables(&mut self, alloc: Global) -> Result<Vec<Name>, Stop>
+        ensures read { Scans (λ names. names.items) variables_read
+            self.old.rest self.new.rest result }
+        ensures variables { IfOk result (λ names. self.new.variables ≡ length names.items) }
+        ensures tokens { IfOk result (λ names. All IsToken names.items) }
+        ensures few { IfOk result (λ names. length names.items ≤ most_count) }
+    {
+        self.version()?;
+        let names = self.names(alloc)?;
+        self.set_variables(alloc, names.len() as u32)?;
+        Ok(names)
+    }
+
+    /// What stands between the names and the claim.
+    #[tactic(auto, unfolding(crate::specs::Sections::sections_read))]
+    fn sections(&mut self, alloc: Global, variables: u32) -> Result<Sections, Stop>
+        requires { self.old.variables ≡ variables }
+        ensures read { Parses sections_of (sections_read variables) self.old self.new result }
+        ensures integers { IfOk result (λ s. (j : ℕ) → IsInteger s.ints j → j < variables) }
+        ensures objective { IfOk result (λ s. NamesBelow variables (at s.objective)) }
+        ensures objective_fits { IfOk result (λ s. RowFits s.objective) }
+        ensures bounds { IfOk result (λ s. s.bound_count ≤ most_count) }
+        ensures few { IfOk result
+            (λ s. length (map (named_of constraint_of) s.constraints.items) ≤ most_count) }
+        ensures shape { IfOk result (λ s.
+            All (ConstraintShape variables) (map (named_of constraint_of) s.constraints.items)) }
+        ensures fit { IfOk result (λ s.
+            All (λ c. ConstraintFits c.item) (map (named_of constraint_of) s.constraints.items)) }
+    {
+        let ints = self.integers(alloc, variables)?;
+        let (goal, objective) = self.objective(alloc)?;
+        let (bound_count, constraints) = self.constraints(alloc, &objective)?;
+        Ok(Sections {
+            ints,
+            goal,
+            objective,
+            bound_count,
+            constraints,
+        })
+    }
+
+    /// The claim, and the number of solutions.
+    #[tactic(auto, unfolding(crate::specs::Sections::claimed_read))]
+    fn claimed(&mut self) -> Result<(Claim, u32), Stop>
+        ensures read { Parses (λ x. (claim_of x.0, x.1)) claimed_read self.old self.new result }
+        ensures fits { IfOk result (λ x. ClaimFits (claim_of x.0)) }
+        ensures counted { IfOk result (λ x. x.1 < 2 ^ 32) }
+    {
+        let claim = self.claim()?;
+        self.take(&Word(b"SOL", cause::WRONG_KEYWORD))?;
+        let solutions = self.take(&Count)?;
+        Ok((claim, solutions))
+    }
+
     /// The problem, and the number of solutions. Its variables are those of the parser then.
-    #[tactic(auto, unfolding(vipr_spec::specs::Reading::problem_read))]
+    #[tactic(auto, using(crate::proofs::Sections::problem_parts))]
     pub(crate) fn problem(&mut self, alloc: Global) -> Result<(Problem, u32), Stop>
         ensures read { Scans (λ x. x) problem_read self.old.rest self.new.rest result }
         ensures variables { IfOk result (λ x. self.new.variables ≡ variables x.0) }
         ensures shape { IfOk result (λ x. ProblemShape x.0) }
         ensures counted { IfOk result (λ x. x.1 < 2 ^ 32) }
     {
-        self.version()?;
-        let names = self.names(alloc)?;
-        let variables = names.len() as u32;
-        self.set_variables(alloc, variables)?;
-        let ints = self.integers(alloc, variables)?;
-        let (goal, objective) = self.objective(alloc)?;
-        let (bound_count, constraints) = self.constraints(alloc, &objective)?;
-        let claim = self.claim()?;
-        self.take(&Word(b"SOL", cause::WRONG_KEYWORD))?;
-        let solutions = self.take(&Count)?;
+        let names = self.variables(alloc)?;
+        let sections = self.sections(alloc, names.len() as u32)?;
+        let (claim, solutions) = self.claimed()?;
         let problem = Problem::of_parts(
             names,
-            ints,
-            goal,
-            objective,
-            constraints,
-            bound_count,
+            sections.ints,
+            sections.goal,
+            sections.objective,
+            sections.constraints,
+            sections.bound_count,
             claim,
         );
         Ok((problem, solutions))

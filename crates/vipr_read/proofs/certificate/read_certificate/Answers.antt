@@ -1,4 +1,4 @@
-use Rattle.std.proofs.Common.{rules, List, ℕ, Result, IfOk, Ok, Err, ◌≡◌, ◌⊎◌}
+use Rattle.std.proofs.Common.{rules, Result, IfOk, Ok, Err, ◌≡◌, ◌⊎◌}
 use Rattle.vipr_bytes.specs.Known.{text_of, IfKnown}
 use Rattle.vipr_spec.specs.Reading.{certificate_read}
 use Rattle.vipr_spec.specs.Certificate.{Certificate}
