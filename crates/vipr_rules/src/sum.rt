@@ -2,6 +2,7 @@
 
 ghost use Rattle.std.specs.Prelude.{◌≡◌, ◌≢◌, ◌⊎◌, ◌∷◌, ◌++◌, [], List, ℕ, true, false, flat_map};
 ghost use Rattle.std.specs.Prelude.{length, IfOk, IfErr, IfSome, OnOk, MatchOption, MatchResult};
+ghost use Rattle.std.specs.FinSet as set;
 ghost use Rattle.vipr_spec.specs.Fraction.{ℚ};
 ghost use Rattle.vipr_spec.specs.Constraint.{Profile, Entry as Summand, at, condition, NamesBelow};
 ghost use Rattle.vipr_spec.specs.Constraint.{IsWholeRow, Dominates, DominatesRounded};
@@ -13,6 +14,7 @@ ghost use Rattle.vipr_linear.specs.Accumulator.{Holds, held_condition};
 ghost use Rattle.vipr_linear.specs.Constraint.{condition_of};
 ghost use Rattle.vipr_linear.specs.declared.constraint.Constraint.{Constraint as LinearConstraint};
 ghost use Rattle.vipr_table.specs.Table.{DerivedBelow};
+ghost use Rattle.vipr_table.specs.Unions.{gathered};
 ghost use Rattle.vipr_rules.specs.Context.{IsContextOf, IsKnownAs, IsSetOfAll, row_found, set_of};
 ghost use Rattle.vipr_rules.specs.Soundness.{IsSoundUnder};
 ghost use Rattle.vipr_rules.specs.Apply.{PassesTestsIn, StopsIn, SumStops, IsRuledBy};
@@ -140,8 +142,37 @@ fn add_up<S: Rows>(
         IsSoundUnder S.table context.now s (held_condition scratch.new)) }
     ensures variables { length scratch.new.sums ≡ length scratch.old.sums }
 {
-    scratch.clear();
     let mut assumptions = Union::new(alloc);
+    add_each(alloc, context, scratch, entries, &mut assumptions)?;
+    let joined = assumptions.finish(alloc)?;
+    Ok(joined)
+}
+
+// The same, and adds the assumptions to none.
+fn add_each<S: Rows>(
+    alloc: Global,
+    context: &Context<S>,
+    scratch: &mut Combination,
+    entries: &[(u32, Frac)],
+    assumptions: &mut Union,
+) -> Result<(), RuleError>
+    requires variables { length scratch.old.sums ≡ variables context.now.problem.now }
+    requires rows { let n = variables context.now.problem.now in
+        DerivedBelow n (S.table context.now.rows.now) }
+    requires none { gathered assumptions.old ≡ set.empty }
+    ensures sum { (P : Profile) (c : Certificate) (d : Derivation)
+        → IsContextOf S.table P c context.now
+        → MatchResult result
+        (λ _. PassesTestsIn P c d (sum_tests entries.now)
+        × IsSum c entries.now (held_condition scratch.new)
+        × IsSetOfAll c entries.now (gathered assumptions.new))
+        (λ e. (e ≡ Memory) ⊎ StopsIn P c d (sum_tests entries.now) e) }
+    ensures fresh { OnOk result (scratch.new.spent ≡ false) }
+    ensures sound { OnOk result (IsSoundUnder S.table context.now (gathered assumptions.new)
+        (held_condition scratch.new)) }
+    ensures variables { length scratch.new.sums ≡ length scratch.old.sums }
+{
+    scratch.clear();
     for (position, entry) in entries.iter().enumerate() {
         let Some(known) = find_used(context, entry)? else {
             continue;
@@ -150,10 +181,9 @@ fn add_up<S: Rows>(
             check_references(context, &entries[position + 1..])?;
             return Err(error);
         }
-        known.add_to(alloc, &mut assumptions)?;
+        known.add_to(alloc, assumptions)?;
     }
-    let assumptions = assumptions.finish(alloc)?;
-    Ok(assumptions)
+    Ok(())
 }
 
 // Adds the multiple of a constraint, that of the entry at a position.
