@@ -3,3 +3,6 @@ use Rattle.vipr_frac.proofs.frac.Frac.zero.Goals as goal
 
 pub of_whole-requires : goal.of_whole-requires
 of_whole-requires c = lit≤ tt
+
+pub returns : goal.returns
+returns c = c.of_whole.ensures
