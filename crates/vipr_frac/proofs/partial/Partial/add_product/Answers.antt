@@ -17,3 +17,11 @@ returns-clause-fits c =
     let right : over _ c.parts-r.result.1 ≡ c.args.coefficient =
     ap₂ over (as-is c.parts-r.result.0 c.parts-r.ensures.reduced.numer_bounded ∙ c.parts-r.ensures.numer) c.parts-r.ensures.denom ∙ over-self c.args.coefficient in
     rw (left, right) at c.add_exact.ensures.fits
+
+pub returns-clause-sum : goal.returns-clause-sum
+returns-clause-sum c =
+    let left : over _ c.parts-p.result.1 ≡ c.args.multiplier =
+    ap₂ over (as-is c.parts-p.result.0 c.parts-p.ensures.reduced.numer_bounded ∙ c.parts-p.ensures.numer) c.parts-p.ensures.denom ∙ over-self c.args.multiplier in
+    let right : over _ c.parts-r.result.1 ≡ c.args.coefficient =
+    ap₂ over (as-is c.parts-r.result.0 c.parts-r.ensures.reduced.numer_bounded ∙ c.parts-r.ensures.numer) c.parts-r.ensures.denom ∙ over-self c.args.coefficient in
+    rw (left, right) at c.add_exact.ensures.sum
