@@ -13,11 +13,24 @@ pub(crate) fn is_in(xs: &[u32], index: u32) -> bool
     xs.binary_search(&index).is_ok()
 }
 
-/// Whether each item of `ys`, too, stands in `xs`.
+/// Whether each item of `ys`, too, stands in `xs`. Mostly `xs` begins with them.
 pub(crate) fn has_all(xs: &[u32], ys: &[u32]) -> bool
     ensures { result ≡ true → (q : ℕ) → has ys.now q ≡ true → has xs.now q ≡ true }
 {
-    if xs.len() < ys.len() || xs.last() < ys.last() {
+    if xs.len() < ys.len() {
+        return false;
+    }
+    if &xs[..ys.len()] == ys {
+        return true;
+    }
+    has_each(xs, ys)
+}
+
+// The same, item by item.
+fn has_each(xs: &[u32], ys: &[u32]) -> bool
+    ensures { result ≡ true → (q : ℕ) → has ys.now q ≡ true → has xs.now q ≡ true }
+{
+    if xs.last() < ys.last() {
         return false;
     }
     let mut i = 0;

@@ -1,6 +1,6 @@
 use Rattle.std.proofs.Common.{◌≡◌, ℕ, ◌-◌, ◌≤◌, true, take, length}
 use Rattle.vipr_table.specs.Rising.{has}
-use Rattle.vipr_table.proofs.assumptions.merge.has_all.Given as goal
+use Rattle.vipr_table.proofs.assumptions.merge.has_each.Given as goal
 
 abbrev pub invariant-loop-y : goal.invariant-loop-y
 invariant-loop-y l = record {
