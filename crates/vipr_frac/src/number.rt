@@ -1,5 +1,5 @@
 //! Fractions as they are written: an optional sign, digits, and optionally a slash and digits.
-ghost use Rattle.std.specs.Prelude.{◌≡◌, ℕ, ◌+◌, ◌^◌, ◌<◌, ◌≤◌, ◌⊎◌, ◌↔◌, min, MatchOption, IfSome};
+ghost use Rattle.std.specs.Prelude.{◌≡◌, ℕ, ◌+◌, ◌-◌, ◌^◌, ◌<◌, ◌≤◌, ◌⊎◌, ◌↔◌, min, MatchOption, IfSome};
 ghost use Rattle.std.specs.Prelude.{IsOk, OnOk, OnErr, length, ◌++◌, vec_len, vec_capacity, take};
 ghost use Rattle.std.specs.Prelude.{true, false, Some, Ok, None, slice_index};
 ghost use Rattle.std.specs.Option.{option_map};
@@ -184,6 +184,15 @@ fn short_whole(is_negative: bool, text: &[u8]) -> Option<Frac>
     }
 }
 
+// The digit that a byte is, or a number above 9.
+#[inline(always)]
+fn digit_of(b: u8) -> u8
+    ensures digit { result ≤ 9 → (48 ≤ b) × (b ≤ 57) × (result ≡ b - 48) }
+    ensures other { 9 < result → is_digit b ≡ false }
+{
+    b.wrapping_sub(b'0')
+}
+
 /// The number that the digits at the front write, 18 of them at most, and how many they are.
 #[inline(always)]
 pub fn front_natural(s: &[u8]) -> (u64, usize)
@@ -198,11 +207,11 @@ pub fn front_natural(s: &[u8]) -> (u64, usize)
     let end = s.len().min(SHORT);
     let mut value: u64 = 0;
     for i in 0..end {
-        let b = s[i];
-        if b < b'0' || b > b'9' {
+        let digit = digit_of(s[i]);
+        if digit > 9 {
             return (value, i);
         }
-        value = value * 10 + u64::from(b - b'0');
+        value = value * 10 + u64::from(digit);
     }
     (value, end)
 }

@@ -1,5 +1,5 @@
 -- Lists of pairs as rows: order, look-ups, and that the order of the pairs makes no difference
-use Rattle.std.proofs.Common.{◌≡◌, ◌≢◌, ℕ, zero, suc, ◌+◌, ◌-◌, ◌<◌, ◌≤◌, take, drop, Bool, true, false, not, cond, nat_eq, List, [], ◌∷◌, ◌++◌, length, get_or, filter, All, Contains, Option, Some, None, IfSome, ℤ, pos, ◌*ℤ◌, T, arith, refl, sym, ◌∙◌, ap, subst, append_assoc, ◌||◌, ◌&&◌, unwrap_or, inl, inr, ◌⊎◌}
+use Rattle.std.proofs.Common.{◌≡◌, ◌≢◌, ℕ, zero, suc, ◌+◌, ◌-◌, ◌<◌, ◌≤◌, take, drop, Bool, true, false, not, cond, nat_eq, List, [], ◌∷◌, ◌++◌, length, get_or, filter, All, Contains, Option, Some, None, IfSome, ℤ, pos, ◌*ℤ◌, T, arith, refl, sym, ◌∙◌, ap, subst, append_assoc, ◌||◌, ◌&&◌, unwrap_or, inl, inr, ◌⊎◌, rules}
 use Rattle.std.specs.Prelude.{◌↔◌}
 use Rattle.std.proofs.lemmas.Bool.{cases_eq}
 use Rattle.std.proofs.lemmas.Bool.Decides.{nat_tests, Decides-int_eq}
@@ -10,7 +10,7 @@ use Rattle.std.proofs.lemmas.Int.{ints}
 use Rattle.std.proofs.lemmas.List.{get_or-map, length-map, take_more, take-append-drop}
 use Rattle.std.proofs.lemmas.List.Elements.{All-nil, All-cons, All-contains, All-filter, Contains-get_or, filter_passes}
 use Rattle.std.proofs.lemmas.List.Folds.{list_any-append}
-use Rattle.std.proofs.lemmas.List.Sorted.{Contains-permutation, IsPermutation-map}
+use Rattle.std.proofs.lemmas.List.Sorted.{Contains-permutation, IsPermutation-map, IsPermutation-refl}
 use Rattle.std.proofs.lemmas.Map.Keys.{IsDistinct-push, IsDistinct-from_apart, below_from_sorted, sorted_head, sorted_tail, sorted_from_strictly_increasing, IsDistinct-IsPermutation, IsStrictlyIncreasing-from_distinct}
 use Rattle.std.proofs.lemmas.Map.Made.{IsDistinct-keys_filter}
 use Rattle.std.proofs.lemmas.Map.Views.{Contains-from_any, Contains-from_lookup, lookup-from_Contains}
@@ -279,3 +279,21 @@ at-nothing j = ap (λ o. unwrap_or o zero_ℚ) (get-from_sorted nat_cmp [] j tt)
 pub empty_told : (xs : List (ℕ × ℚ)) (b : Bool) → RisesFrom 0 xs → b ≡ (length xs == 0) → (b ≡ true) ↔ ((j : ℕ) → at (from_sorted xs) j ≡ zero_ℚ)
 empty_told [] b r h = (λ t j. at-nothing j, λ e. h)
 empty_told (x ∷ xs) b r h = (λ t. absurd (grind (arith, nat_tests)), λ e. let is = same_lists (x ∷ xs) [] r tt (λ j. e j ∙ sym (at-nothing j)) in absurd (cc))
+
+-- ---- the row of one pair
+one_rises : (v : ℕ) → IsStrictlyIncreasing (v ∷ [])
+one_rises v = search rules
+
+pub one_seen : (e : ℕ × ℚ) → from_sorted {R = nat_cmp} (filter is_nonzero (e ∷ [])) ≡ row_of (e ∷ [])
+one_seen e =
+    let one = e ∷ [] in
+    row_seen one one (IsPermutation-refl one) (IsPermutation-refl one) (distinct_of_rising _ (one_rises e.0)) (one_rises e.0)
+
+pub one_passes : (e : ℕ × ℚ) → is_nonzero e ≡ true → filter is_nonzero (e ∷ []) ≡ e ∷ []
+one_passes e t = ap (λ b. cond b (e ∷ []) []) t
+
+pub one_fails : (e : ℕ × ℚ) → is_nonzero e ≡ false → filter is_nonzero (e ∷ []) ≡ []
+one_fails e t = ap (λ b. cond b (e ∷ []) []) t
+
+pub one_kept : (e : ℕ × ℚ) → is_nonzero e ≡ true → IsBounded e.1 → AreEntries (e ∷ [])
+one_kept e t b = record { rising = subst (RisesFrom 0) (one_passes e t) (row_kept (e ∷ []) (one_rises e.0)); bounded = search (rules, b) }

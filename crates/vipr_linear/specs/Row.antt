@@ -6,7 +6,7 @@ use Rattle.std.specs.FinMap.{get}
 use Rattle.vipr_spec.specs.Fraction.{ℚ, zero_ℚ, IsBounded}
 use Rattle.vipr_spec.specs.Constraint.{Row}
 use Rattle.vipr_linear.specs.declared.kept.Kept.{Kept}
-use Rattle.vipr_linear.specs.declared.kept.Kept.TheVariants.{Own, Shared}
+use Rattle.vipr_linear.specs.declared.kept.Kept.TheVariants.{One, Own, Shared}
 
 -- the variables rise from `low` on, and no coefficient is 0
 abbrev pub RisesFrom : ℕ → List (ℕ × ℚ) → Type 0
@@ -31,5 +31,6 @@ pub record IsFirstRepeated (variables : List ℕ) (v : ℕ) : Type 0 where
 
 -- the list that a row keeps
 abbrev pub kept_items : Kept → List (ℕ × ℚ)
+kept_items (One item) = item ∷ []
 kept_items (Own items) = items.items
 kept_items (Shared items) = items.value.items

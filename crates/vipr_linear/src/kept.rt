@@ -4,11 +4,13 @@ ghost use Rattle.vipr_linear.specs.Row.{kept_items};
 
 use std::alloc::{AllocError, Global};
 use std::rc::Rc;
+use std::slice;
 use vipr_frac::Frac;
 
-/// Variables with their coefficients.
+/// Variables with their coefficients. One alone takes no memory of its own.
 #[derive(Debug, Drop)]
 pub(crate) enum Kept {
+    One((u32, Frac)),
     Own(Vec<(u32, Frac)>),
     Shared(Rc<Vec<(u32, Frac)>>),
 }
@@ -19,16 +21,18 @@ impl Kept {
         ensures { result.now ≡ kept_items self.now }
     {
         match self {
+            Kept::One(item) => slice::from_ref(item),
             Kept::Own(items) => items.as_slice(),
             Kept::Shared(items) => items.as_ref().as_slice(),
         }
     }
 
-    /// The same list. One that is shared takes no memory.
+    /// The same list. One that is shared, or has one entry, takes no memory.
     pub(crate) fn copied(&self) -> Result<Kept, AllocError>
         ensures { IfOk result (λ copy. kept_items copy ≡ kept_items self.now) }
     {
         match self {
+            Kept::One(item) => Ok(Kept::One(*item)),
             Kept::Own(items) => Ok(Kept::Own(items.clone()?)),
             Kept::Shared(items) => Ok(Kept::Shared(items.clone()?)),
         }
@@ -39,6 +43,7 @@ impl Kept {
         ensures { IfOk result (λ shared. kept_items shared ≡ kept_items self) }
     {
         match self {
+            Kept::One(item) => Ok(Kept::One(item)),
             Kept::Own(items) => Ok(Kept::Shared(Rc::new(alloc, items)?)),
             Kept::Shared(items) => Ok(Kept::Shared(items)),
         }

@@ -1,6 +1,6 @@
 //! Rows: the nonzero coefficients of a constraint.
 ghost use Rattle.std.specs.Prelude.{All, ◌≡◌, ◌≢◌, ◌↔◌, ◌+◌, ◌<◌, nat_eq, IsTrue, IsOk, IfOk};
-ghost use Rattle.std.specs.Prelude.{IfErr, OnOk, MatchOption, filter, pos, length, ℕ};
+ghost use Rattle.std.specs.Prelude.{IfErr, OnOk, MatchOption, filter, pos, length, ℕ, ◌∷◌, []};
 ghost use Rattle.std.specs.Ordering.{int_eq};
 ghost use Rattle.std.specs.List.{IsDistinct};
 ghost use Rattle.std.specs.List.Sorted.{IsPermutation, IsNonDecreasingBy, IsStrictlyIncreasing};
@@ -99,6 +99,22 @@ impl Row {
         drop_zeros(&mut entries);
         Row {
             kept: Kept::Own(entries),
+        }
+    }
+
+    /// The row of one coefficient, or of none where that is 0. It takes no memory.
+    #[inline(always)]
+    pub fn of_one(alloc: Global, variable: u32, coefficient: Frac) -> Row
+        ensures row { result ≡ row_of ((variable, coefficient) ∷ []) }
+        ensures fits { RowFits result }
+    {
+        if is_zero(coefficient) {
+            return Row {
+                kept: Kept::Own(Vec::new(alloc)),
+            };
+        }
+        Row {
+            kept: Kept::One((variable, coefficient)),
         }
     }
 

@@ -21,10 +21,13 @@ use std::alloc::Global;
 use vipr_cert::{Goal, Name};
 use vipr_frac::{Frac, NumberError, front_natural};
 use vipr_linear::Sense;
-use vipr_scan::{TokenKind, Unfit, cause, is_white};
+use vipr_scan::{TokenKind, Unfit, cause, is_white, run_end};
 
 /// One more than the greatest count and index.
 const OVER: u64 = 4_294_967_296;
+
+/// The most bytes of a token.
+const MOST_BYTES: usize = 65_535;
 
 /// The number that digits write, or `OVER` where it is larger.
 fn natural(bytes: &[u8]) -> Option<u64>
@@ -105,6 +108,18 @@ impl TokenKind for NameKind {
     fn read(&self, bytes: &[u8]) -> Result<Name, Unfit> {
         let name = Name::of_token(self.0, bytes)?;
         Ok(name)
+    }
+
+    #[inline(always)]
+    fn read_front(&self, bytes: &[u8]) -> Option<(Name, usize)> {
+        let len = run_end(bytes, 0);
+        if len == 0 || len == bytes.len() || len > MOST_BYTES {
+            return None;
+        }
+        match Name::of_token(self.0, &bytes[..len]) {
+            Ok(name) => Some((name, len)),
+            Err(_) => None,
+        }
     }
 }
 
@@ -284,6 +299,9 @@ impl TokenKind for Last {
     #[tactic(auto, unfolding(vipr_spec::specs::Reading::last_of))]
     #[inline(always)]
     fn read_front(&self, bytes: &[u8]) -> Option<(Option<u32>, usize)> {
+        if stands(b"-1", bytes) {
+            return Some((None, 2));
+        }
         match front_digits(bytes) {
             Some((i, len)) => Some((Some(i), len)),
             None => None,
@@ -555,6 +573,9 @@ impl TokenKind for ObjectiveOrCount {
 
     #[inline(always)]
     fn read_front(&self, bytes: &[u8]) -> Option<(Option<u32>, usize)> {
+        if stands(b"OBJ", bytes) {
+            return Some((None, 3));
+        }
         match front_digits(bytes) {
             Some((i, len)) => Some((Some(i), len)),
             None => None,

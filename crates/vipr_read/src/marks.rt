@@ -16,7 +16,7 @@ use vipr_scan::{Scanner, Stop};
 
 /// A variable that isn't marked, and its coefficient.
 #[tactic(auto, using(crate::proofs::Marking::new_of_unmarked), unfolding(vipr_spec::specs::Reading::pair_read))]
-fn pair<R: Source>(scanner: &mut Scanner<R>, marks: &[bool]) -> Result<(u32, Frac), Stop>
+pub(crate) fn pair<R: Source>(scanner: &mut Scanner<R>, marks: &[bool]) -> Result<(u32, Frac), Stop>
     requires { length marks.now < 2 ^ 32 }
     ensures read { (before : List ℕ) → AreMarked marks.now before →
         Scans (λ p. p) (pair_read (length marks.now) before) scanner.old scanner.new result }

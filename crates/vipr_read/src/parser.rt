@@ -11,7 +11,7 @@ ghost use Rattle.vipr_scan.specs.Giving.{Ends, rest_of};
 ghost use Rattle.vipr_read.specs.Parsing.{Parses};
 
 use crate::kinds::{Count, ObjectiveOrCount};
-use crate::marks::{mark_pairs, unmark};
+use crate::marks::{mark_pairs, pair, unmark};
 use std::alloc::{AllocError, Global};
 use std::marker::Model;
 use vipr_bytes::Source;
@@ -91,6 +91,19 @@ impl<R: Source> Parser<R> {
         Ok(pairs)
     }
 
+    /// The row of one pair.
+    #[inline(always)]
+    #[tactic(auto, using(vipr_spec::proofs::Laws::row_below), unfolding(vipr_spec::specs::Reading::counted_read, vipr_spec::specs::Reading::pairs_read))]
+    fn single(&mut self, alloc: Global) -> Result<Row, Stop>
+        ensures read { Parses (λ row. row) (λ l. counted_read self.old.variables (1, l))
+            self.old self.new result }
+        ensures below { IfOk result (λ row. NamesBelow self.old.variables (at row)) }
+        ensures fits { IfOk result (λ row. RowFits row) }
+    {
+        let (variable, coefficient) = pair(&mut self.scanner, &self.marks)?;
+        Ok(Row::of_one(alloc, variable, coefficient))
+    }
+
     /// The row of so many pairs.
     #[tactic(auto, using(vipr_spec::proofs::Laws::row_below), unfolding(vipr_spec::specs::Reading::counted_read))]
     fn counted(&mut self, alloc: Global, count: u32) -> Result<Row, Stop>
@@ -99,6 +112,9 @@ impl<R: Source> Parser<R> {
         ensures below { IfOk result (λ row. NamesBelow self.old.variables (at row)) }
         ensures fits { IfOk result (λ row. RowFits row) }
     {
+        if count == 1 {
+            return self.single(alloc);
+        }
         let pairs = self.pairs(alloc, count)?;
         Ok(Row::from_distinct(pairs))
     }

@@ -200,7 +200,7 @@ pub fn apply_taking<S: Rows>(
 // A constraint without variables. Takes no memory.
 fn nothing_stated(alloc: Global) -> Constraint {
     Constraint {
-        row: Row::from_distinct(Vec::new(alloc)),
+        row: Row::of_one(alloc, 0, Frac::zero()),
         sense: Sense::E,
         rhs: Frac::zero(),
     }

@@ -11,7 +11,7 @@ mod scanner;
 mod tokens;
 mod window;
 
-pub use bytes::is_white;
+pub use bytes::{is_white, run_end};
 pub use error::{Stop, TextError};
 pub use kind::{TokenKind, Unfit};
 pub use scanner::Scanner;

@@ -29,11 +29,11 @@ next value i j bs within more low high =
 digit : (b : ℕ) → 48 ≤ b → b ≤ 57 → is_digit b ≡ true
 digit b low high = grind (arith, nat_tests)
 
-pub returns-then-b-lt48-clause-value : goal.returns-then-b-lt48-clause-value
-returns-then-b-lt48-clause-value c = reached c.loop-i.value c.loop-i.i c.args.s.now c.loop-i.invariant.value
+pub returns-then-digit-gt9-clause-value : goal.returns-then-digit-gt9-clause-value
+returns-then-digit-gt9-clause-value c = reached c.loop-i.value c.loop-i.i c.args.s.now c.loop-i.invariant.value
 
-pub returns-then-b-lt48-clause-small : goal.returns-then-b-lt48-clause-small
-returns-then-b-lt48-clause-small c = small c.loop-i.value c.loop-i.i c.loop-i.invariant.small (omega arith)
+pub returns-then-digit-gt9-clause-small : goal.returns-then-digit-gt9-clause-small
+returns-then-digit-gt9-clause-small c = small c.loop-i.value c.loop-i.i c.loop-i.invariant.small (omega arith)
 
 pub overflow_mul-value : goal.overflow_mul-value
 overflow_mul-value c = let b = below c.loop-i.value c.loop-i.i c.loop-i.invariant.small (omega arith) in omega arith
@@ -48,13 +48,14 @@ loop-i-preserved c =
     let n : ℕ = c.loop-i.value in
     let power : 10 ^ (i + 1) ≡ 10 ^ i * 10 = rw add-one (pow-suc 10 i) in
     let within : i < length bs = omega arith in
+    let d = c.digit_of-digit.ensures.digit c.if-digit-gt9.false in
     let smaller = c.loop-i.invariant.small in record {
       small = omega arith;
       digits = λ k h. elim (cases_lt k i) [
         | inl l ↦ c.loop-i.invariant.digits k l
-        | inr m ↦ let e : k ≡ i = omega arith in subst (λ j. is_digit (get_or bs j 0) ≡ true) (sym e) (digit (get_or bs i 0) (omega arith) (omega arith))
+        | inr m ↦ let e : k ≡ i = omega arith in subst (λ j. is_digit (get_or bs j 0) ≡ true) (sym e) (digit (get_or bs i 0) d.0 d.1)
       ];
-      value = λ j h. rw c.from.ensures (next n i j bs within (omega arith) (omega arith) (omega arith) ∙ c.loop-i.invariant.value j (omega arith));
+      value = λ j h. rw (c.from.ensures, d.2) (next n i j bs within (omega arith) d.0 d.1 ∙ c.loop-i.invariant.value j (omega arith));
     }
 
 pub returns-clause-value : goal.returns-clause-value
