@@ -1,7 +1,7 @@
 //! Fractions as they are written: an optional sign, digits, and optionally a slash and digits.
-ghost use Rattle.std.specs.Prelude.{◌≡◌, ℕ, ◌+◌, ◌-◌, ◌^◌, ◌<◌, ◌≤◌, ◌⊎◌, ◌↔◌, min, MatchOption, IfSome};
-ghost use Rattle.std.specs.Prelude.{IsOk, OnOk, OnErr, length, ◌++◌, vec_len, vec_capacity, take};
-ghost use Rattle.std.specs.Prelude.{true, false, Some, Ok, None, slice_index};
+ghost use Rattle.std.specs.Prelude.{◌≡◌, ℕ, ◌+◌, ◌-◌, ◌^◌, ◌<◌, ◌≤◌, ◌⊎◌, ◌↔◌, min, MatchOption};
+ghost use Rattle.std.specs.Prelude.{IfSome, IsOk, OnOk, OnErr, length, ◌++◌, vec_len, vec_capacity};
+ghost use Rattle.std.specs.Prelude.{take, true, false, Some, Ok, None, slice_index};
 ghost use Rattle.std.specs.Option.{option_map};
 ghost use Rattle.std.specs.List.{position};
 ghost use Rattle.std.specs.Str.Parse.{without_leading_sign, starts_with_minus};

@@ -8,7 +8,7 @@ use Rattle.vipr_spec.specs.GrammarLaws.{whole_text}
 use Rattle.vipr_spec.proofs.Laws.{reads_texts}
 use Rattle.vipr_bytes.specs.Known.{text_of, IfKnown, IfWhole}
 use Rattle.vipr_read.proofs.Binding.{bind_assoc}
-use Rattle.vipr_read.specs.Whole.{IsRead, items_read}
+use Rattle.vipr_read.specs.Whole.{IsRead, items_behind}
 use Rattle.vipr_scan.specs.Faults.{IsFaultOf}
 use Rattle.vipr_scan.specs.declared.error.Stop.{Stop}
 use Rattle.vipr_scan.specs.declared.error.Stop.TheVariants as stop
@@ -51,6 +51,6 @@ fails_first stop.Read r f h = rw h refl
 fails_first stop.Memory r f h = tt
 
 -- a certificate is a problem, and what stands behind it
-pub certificate_parts : (r : Rest) → certificate_read r ≡ problem_read r >>= λ p. items_read p.0.0 p.0.1 p.1
+pub certificate_parts : (r : Rest) → certificate_read r ≡ problem_read r >>= λ p. items_behind p.0.0 p.0.1 p.1
 unfolding certificate_read
 certificate_parts r = simp bind_assoc

@@ -26,8 +26,8 @@ derived_read p r = do
   Ok derivations.0
 
 -- what stands behind a problem with so many solutions
-abbrev pub items_read : Problem → ℕ → Rest → Result Certificate Fault
-items_read p n r = do
+abbrev pub items_behind : Problem → ℕ → Rest → Result Certificate Fault
+items_behind p n r = do
   solutions ← repeated (solution_read p) n r
   derivations ← derived_read p solutions.1
   Ok (record { problem = p; solutions = solutions.0; derivations = derivations })

@@ -8,7 +8,7 @@ ghost use Rattle.vipr_spec.specs.Shape.{DerivationShape, DerivationFits, CanWrit
 ghost use Rattle.vipr_cert.specs.Items.{certificate_with, derivation_of};
 ghost use Rattle.vipr_bytes.specs.Known.{text_of, IfKnown, IfWhole};
 ghost use Rattle.vipr_scan.specs.Giving.{rest_of};
-ghost use Rattle.vipr_read.specs.Whole.{IsParsed, IsRead, items_read, derived_read};
+ghost use Rattle.vipr_read.specs.Whole.{IsParsed, IsRead, items_behind, derived_read};
 
 use crate::item::{Derived, Listed, all};
 use crate::parser::Parser;
@@ -75,7 +75,7 @@ fn items<R: Source>(
     requires { parser.old.variables ≡ variables problem.now }
     ensures read { IsSome parser.old.rest
         → IsParsed (λ x. certificate_with problem.now x.0.items x.1.items) result
-        (items_read problem.now count (rest_of parser.old.rest)) }
+        (items_behind problem.now count (rest_of parser.old.rest)) }
     ensures writes { IfOk result
         (λ x. CanWrite (certificate_with problem.now x.0.items x.1.items)) }
 {
