@@ -32,6 +32,9 @@ pub fn print_explanation<R: Source + Drop, O: Sink>(
         verdict: &verdict,
         detail: &detail,
     };
-    print(alloc, &explanation, out)?;
+    let printed = print(alloc, &explanation, out);
+    // Dropped at this one place, whatever print answers.
+    drop(detail);
+    printed?;
     Ok(status_of(&verdict))
 }

@@ -8,34 +8,34 @@ use Rattle.vipr_command.specs.Run.{PrintsExplanation, known_by, unknown_input}
 use Rattle.vipr_command.proofs.ExplanationLemmas.{if_known, printed, not_printed}
 use Rattle.vipr_command.proofs.explain.print_explanation.Goals as goal
 
-pub returns-in_err-print-clause-told : goal.returns-in_err-print-clause-told
-returns-in_err-print-clause-told g c =
+pub returns-in_err-printed-clause-told : goal.returns-in_err-printed-clause-told
+returns-in_err-printed-clause-told g c =
     let P = profile_of c.args.profile in
     let old = g.O.Sink.output c.args.out.now in
-    let new = g.O.Sink.output c.print.new.writer in
+    let new = g.O.Sink.output c.print-printed.new.writer in
     let v = c.in_ok-verdict.verdict in
     let x = c.in_ok-verdict.detail in
-    let f = c.in_err-print.field-0.0 in
-    let p = err_from_is_err_and c.from_residual-in_err-print.result c.from_residual-in_err-print.ensures.1 in
-    rw (p.1, p.2) (if_known (g.R.Source.input c.args.source) (λ i. SaysInDetail (IsExplained P (text_of i)) (Ok (v, x))) (λ i. PrintsExplanation P (known_by i) old new (Err f)) (λ i explained. not_printed P (known_by i) v x explained old new f c.in_err-print.ensures) c.in_ok-verdict.ensures.detail)
+    let f = c.in_err-printed.field-0.0 in
+    let p = err_from_is_err_and c.from_residual-in_err-printed.result c.from_residual-in_err-printed.ensures.1 in
+    rw (p.1, p.2) (if_known (g.R.Source.input c.args.source) (λ i. SaysInDetail (IsExplained P (text_of i)) (Ok (v, x))) (λ i. PrintsExplanation P (known_by i) old new (Err f)) (λ i explained. not_printed P (known_by i) v x explained old new f c.in_err-printed.ensures) c.in_ok-verdict.ensures.detail)
 
 pub returns-clause-told : goal.returns-clause-told
 returns-clause-told g c =
     let P = profile_of c.args.profile in
     let old = g.O.Sink.output c.args.out.now in
-    let new = g.O.Sink.output c.print.new.writer in
+    let new = g.O.Sink.output c.print-printed.new.writer in
     let v = c.in_ok-verdict.verdict in
     let x = c.in_ok-verdict.detail in
     if_known (g.R.Source.input c.args.source) (λ i. SaysInDetail (IsExplained P (text_of i)) (Ok (v, x))) (λ i. PrintsExplanation P (known_by i) old new (Ok c.status_of.result))
-    (λ i explained. printed P (known_by i) v x explained old new c.status_of.result c.status_of.ensures c.in_ok-print.ensures) c.in_ok-verdict.ensures.detail
+    (λ i explained. printed P (known_by i) v x explained old new c.status_of.result c.status_of.ensures c.in_ok-printed.ensures) c.in_ok-verdict.ensures.detail
 
-pub returns-in_err-print-clause-any : goal.returns-in_err-print-clause-any
-returns-in_err-print-clause-any g c =
+pub returns-in_err-printed-clause-any : goal.returns-in_err-printed-clause-any
+returns-in_err-printed-clause-any g c =
     let P = profile_of c.args.profile in
     let old = g.O.Sink.output c.args.out.now in
-    let new = g.O.Sink.output c.print.new.writer in
+    let new = g.O.Sink.output c.print-printed.new.writer in
     let v = c.in_ok-verdict.verdict in
     let x = c.in_ok-verdict.detail in
-    let f = c.in_err-print.field-0.0 in
-    let p = err_from_is_err_and c.from_residual-in_err-print.result c.from_residual-in_err-print.ensures.1 in
-    rw (p.1, p.2) (not_printed P unknown_input v x tt old new f c.in_err-print.ensures)
+    let f = c.in_err-printed.field-0.0 in
+    let p = err_from_is_err_and c.from_residual-in_err-printed.result c.from_residual-in_err-printed.ensures.1 in
+    rw (p.1, p.2) (not_printed P unknown_input v x tt old new f c.in_err-printed.ensures)
