@@ -26,7 +26,21 @@ pub fn job<'a>(alloc: Global, words: &'a [&'a str]) -> Result<Job<'a>, Error>
     ensures kinds { FailsBy (words_fault (map (λ w. w.now) words.entry.now)) result }
 {
     let mut line = command_line(alloc)?;
-    let matches = line.try_get_matches_from_mut(words)?;
+    let read = job_by(&mut line, words);
+    // Dropped at this one place, whatever was read.
+    drop(line);
+    read
+}
+
+/// The same by the program's commands.
+fn job_by<'a>(commands: &mut Command<'a>, words: &'a [&'a str]) -> Result<Job<'a>, Error>
+    requires { app_of commands.old ≡ line }
+    ensures ok { IfOk result (λ j. asked_by (map (λ w. w.now) words.entry.now) ≡ Some (asked j)) }
+    ensures err { IfErr result (λ e. are_taken (map (λ w. w.now) words.entry.now) ≡ true
+        → kind_of e ≡ ErrorKind.OutOfMemory) }
+    ensures kinds { FailsBy (words_fault (map (λ w. w.now) words.entry.now)) result }
+{
+    let matches = commands.try_get_matches_from_mut(words)?;
     let Some((name, inner)) = matches.subcommand() else {
         unreachable!()
     };
@@ -34,7 +48,7 @@ pub fn job<'a>(alloc: Global, words: &'a [&'a str]) -> Result<Job<'a>, Error>
         unreachable!()
     };
     let Some(profile) = profile_named(inner.get_str("profile")) else {
-        return Err(line.error(ErrorKind::InvalidValue, "the profiles are 1 and 2")?);
+        return Err(commands.error(ErrorKind::InvalidValue, "the profiles are 1 and 2")?);
     };
     Ok(Job {
         command,

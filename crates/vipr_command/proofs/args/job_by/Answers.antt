@@ -3,44 +3,44 @@ use Rattle.clap.specs.Words.{App, Kinds, HasKind, fault_of, found_of, is_simple,
 use Rattle.clap.proofs.WalkLemmas.{first_value-rows}
 use Rattle.vipr_command.specs.Args.{profile_named}
 use Rattle.vipr_command.proofs.ArgsLemmas.{clap_fault, entered_is, failed_on, handed_on, is_asked, is_free_line, is_simple_line, never_other, never_taken, never_without, profile_fine, profile_wrong, taken_by_clap}
-use Rattle.vipr_command.proofs.args.job.Goals as goal
+use Rattle.vipr_command.proofs.args.job_by.Goals as goal
 
 pub returns-in_err-matches-clause-err : goal.returns-in_err-matches-clause-err
 returns-in_err-matches-clause-err c =
     let words = map (λ w. w.now) c.args.words.now in
-    handed_on _ _ _ c.from_residual-in_err-matches.ensures.1
-    (λ t. c.in_err-matches.ensures.passes (ap (λ (a : App). takes a words) c.in_ok-line.ensures ∙ taken_by_clap words t))
+    handed_on _ _ _ c.from_residual.ensures.1
+    (λ t. c.in_err-matches.ensures.passes (ap (λ (a : App). takes a words) c.requires ∙ taken_by_clap words t))
 
 pub returns-in_err-matches-clause-kinds : goal.returns-in_err-matches-clause-kinds
 returns-in_err-matches-clause-kinds c =
     let words = map (λ w. w.now) c.args.words.now in
     let K : Kinds → Type 0 = λ k. HasKind k c.in_err-matches.field-0.0 in
-    failed_on _ _ _ c.from_residual-in_err-matches.ensures.1
-    (clap_fault words c.in_err-matches.field-0.0 (subst K (ap (λ (a : App). fault_of a words) c.in_ok-line.ensures)
-    (c.in_err-matches.ensures.kinds (ap is_simple_and_free c.in_ok-line.ensures ∙ is_free_line))))
+    failed_on _ _ _ c.from_residual.ensures.1
+    (clap_fault words c.in_err-matches.field-0.0 (subst K (ap (λ (a : App). fault_of a words) c.requires)
+    (c.in_err-matches.ensures.kinds (ap is_simple_and_free c.requires ∙ is_free_line))))
 
 pub unreachable-requires : goal.unreachable-requires
 unreachable-requires c =
     let words = map (λ w. w.now) c.args.words.now in
-    let met = (c.in_ok-matches.ensures.ok.2 (ap is_simple c.in_ok-line.ensures ∙ is_simple_line)).1
-    ∙ ap (λ (a : App). subcommand_of a words) c.in_ok-line.ensures in
-    let fault = ap (λ (a : App). fault_of a words) (sym c.in_ok-line.ensures)
-    ∙ c.in_ok-matches.ensures.kinds (ap is_simple_and_free c.in_ok-line.ensures ∙ is_free_line) in
+    let met = (c.in_ok-matches.ensures.ok.2 (ap is_simple c.requires ∙ is_simple_line)).1
+    ∙ ap (λ (a : App). subcommand_of a words) c.requires in
+    let fault = ap (λ (a : App). fault_of a words) (sym c.requires)
+    ∙ c.in_ok-matches.ensures.kinds (ap is_simple_and_free c.requires ∙ is_free_line) in
     let bad : false ≡ true = c.in_default.ensures.variant ∙ never_without _ words met fault in cc
 
 pub unreachable-requires-in_default-task_named : goal.unreachable-requires-in_default-task_named
 unreachable-requires-in_default-task_named c =
     let words = map (λ w. w.now) c.args.words.now in
-    let met = (c.in_ok-matches.ensures.ok.2 (ap is_simple c.in_ok-line.ensures ∙ is_simple_line)).1
-    ∙ ap (λ (a : App). subcommand_of a words) c.in_ok-line.ensures in
+    let met = (c.in_ok-matches.ensures.ok.2 (ap is_simple c.requires ∙ is_simple_line)).1
+    ∙ ap (λ (a : App). subcommand_of a words) c.requires in
     let is = entered_is c.in_ok-matches.matches c.in-Some.name.now (rows_of (found_of c.in-Some.inner.now)) c.in-Some.ensures.name c.in-Some.ensures.rows in
     never_other words _ (sym met ∙ is) (c.in_default-task_named.ensures.none refl)
 
 pub returns-in_default-profile_named-clause-err : goal.returns-in_default-profile_named-clause-err
 returns-in_default-profile_named-clause-err c =
     let words = map (λ w. w.now) c.args.words.now in
-    let met = (c.in_ok-matches.ensures.ok.2 (ap is_simple c.in_ok-line.ensures ∙ is_simple_line)).1
-    ∙ ap (λ (a : App). subcommand_of a words) c.in_ok-line.ensures in
+    let met = (c.in_ok-matches.ensures.ok.2 (ap is_simple c.requires ∙ is_simple_line)).1
+    ∙ ap (λ (a : App). subcommand_of a words) c.requires in
     let is = entered_is c.in_ok-matches.matches c.in-Some.name.now (rows_of (found_of c.in-Some.inner.now)) c.in-Some.ensures.name c.in-Some.ensures.rows in
     λ t. absurd (never_taken words _ _ (sym met ∙ is)
     (c.in_default-profile_named.ensures ∙ ap profile_named (c.get_str.ensures ∙ first_value-rows (found_of c.in-Some.inner.now) (codes "profile"))) t)
@@ -48,20 +48,20 @@ returns-in_default-profile_named-clause-err c =
 pub returns-in_default-profile_named-clause-kinds : goal.returns-in_default-profile_named-clause-kinds
 returns-in_default-profile_named-clause-kinds c =
     let words = map (λ w. w.now) c.args.words.now in
-    let met = (c.in_ok-matches.ensures.ok.2 (ap is_simple c.in_ok-line.ensures ∙ is_simple_line)).1
-    ∙ ap (λ (a : App). subcommand_of a words) c.in_ok-line.ensures in
+    let met = (c.in_ok-matches.ensures.ok.2 (ap is_simple c.requires ∙ is_simple_line)).1
+    ∙ ap (λ (a : App). subcommand_of a words) c.requires in
     let is = entered_is c.in_ok-matches.matches c.in-Some.name.now (rows_of (found_of c.in-Some.inner.now)) c.in-Some.ensures.name c.in-Some.ensures.rows in
     profile_wrong words _ _ (sym met ∙ is)
     (c.in_default-profile_named.ensures ∙ ap profile_named (c.get_str.ensures ∙ first_value-rows (found_of c.in-Some.inner.now) (codes "profile")))
-    (ap (λ (a : App). fault_of a words) (sym c.in_ok-line.ensures)
-    ∙ c.in_ok-matches.ensures.kinds (ap is_simple_and_free c.in_ok-line.ensures ∙ is_free_line))
+    (ap (λ (a : App). fault_of a words) (sym c.requires)
+    ∙ c.in_ok-matches.ensures.kinds (ap is_simple_and_free c.requires ∙ is_free_line))
     c.in_ok-error.field-0 c.in_ok-error.ensures.kind
 
 pub returns-clause-ok : goal.returns-clause-ok
 returns-clause-ok c =
     let words = map (λ w. w.now) c.args.words.now in
-    let met = (c.in_ok-matches.ensures.ok.2 (ap is_simple c.in_ok-line.ensures ∙ is_simple_line)).1
-    ∙ ap (λ (a : App). subcommand_of a words) c.in_ok-line.ensures in
+    let met = (c.in_ok-matches.ensures.ok.2 (ap is_simple c.requires ∙ is_simple_line)).1
+    ∙ ap (λ (a : App). subcommand_of a words) c.requires in
     let is = entered_is c.in_ok-matches.matches c.in-Some.name.now (rows_of (found_of c.in-Some.inner.now)) c.in-Some.ensures.name c.in-Some.ensures.rows in
     is_asked words _ _ _ (sym met ∙ is) c.in-Some-task_named.ensures.some
     (c.in-Some-profile_named.ensures ∙ ap profile_named (c.get_str.ensures ∙ first_value-rows (found_of c.in-Some.inner.now) (codes "profile")))
@@ -71,10 +71,10 @@ returns-clause-ok c =
 pub returns-clause-kinds : goal.returns-clause-kinds
 returns-clause-kinds c =
     let words = map (λ w. w.now) c.args.words.now in
-    let met = (c.in_ok-matches.ensures.ok.2 (ap is_simple c.in_ok-line.ensures ∙ is_simple_line)).1
-    ∙ ap (λ (a : App). subcommand_of a words) c.in_ok-line.ensures in
+    let met = (c.in_ok-matches.ensures.ok.2 (ap is_simple c.requires ∙ is_simple_line)).1
+    ∙ ap (λ (a : App). subcommand_of a words) c.requires in
     let is = entered_is c.in_ok-matches.matches c.in-Some.name.now (rows_of (found_of c.in-Some.inner.now)) c.in-Some.ensures.name c.in-Some.ensures.rows in
     profile_fine words _ _ (sym met ∙ is) _
     (c.in-Some-profile_named.ensures ∙ ap profile_named (c.get_str.ensures ∙ first_value-rows (found_of c.in-Some.inner.now) (codes "profile")))
-    (ap (λ (a : App). fault_of a words) (sym c.in_ok-line.ensures)
-    ∙ c.in_ok-matches.ensures.kinds (ap is_simple_and_free c.in_ok-line.ensures ∙ is_free_line))
+    (ap (λ (a : App). fault_of a words) (sym c.requires)
+    ∙ c.in_ok-matches.ensures.kinds (ap is_simple_and_free c.requires ∙ is_free_line))
