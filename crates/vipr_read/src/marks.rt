@@ -15,6 +15,7 @@ use vipr_frac::Frac;
 use vipr_scan::{Scanner, Stop};
 
 /// A variable that isn't marked, and its coefficient.
+#[inline(always)]
 #[tactic(auto, using(crate::proofs::Marking::new_of_unmarked), unfolding(vipr_spec::specs::Reading::pair_read))]
 pub(crate) fn pair<R: Source>(scanner: &mut Scanner<R>, marks: &[bool]) -> Result<(u32, Frac), Stop>
     requires { length marks.now < 2 ^ 32 }
