@@ -151,8 +151,13 @@ fn tightened(
     let certificate = read_certificate(alloc, Bytes::new(text))?;
     let constraints = certificate.problem().cons().len() + certificate.derivations().len();
     assert!(rt; certificate.refers_back());
-    assert!(rt; goal.is_none_or(|index| (index as usize) < constraints));
-    Ok(tighten_certificate(alloc, certificate, goal)?)
+    match goal {
+        None => Ok(tighten_certificate(alloc, certificate, None)?),
+        Some(index) => {
+            assert!(rt; (index as usize) < constraints);
+            Ok(tighten_certificate(alloc, certificate, Some(index))?)
+        }
+    }
 }
 
 fn write_into(rt: &impl Abort, alloc: Global, certificate: &Certificate, bytes: &mut Vec<u8>) {
