@@ -5,3 +5,4 @@ pub mod Items
 pub mod ItemsCode
 pub mod Whole
 pub mod Sections
+pub mod Limits

@@ -1,13 +1,13 @@
 //! Reads a whole certificate.
-ghost use Rattle.std.specs.Prelude.{◌≡◌, ◌≢◌, ◌⊎◌, ◌+◌, ◌≤◌, Ok, Err, IfOk, IfErr, IsSome, All};
-ghost use Rattle.std.specs.Prelude.{map, length};
+ghost use Rattle.std.specs.Prelude.{◌≡◌, ◌≢◌, ◌⊎◌, Ok, Err, IfOk, IfErr, IsSome, map};
 ghost use Rattle.vipr_spec.specs.Certificate.{Certificate as CertificateMeant, variables};
 ghost use Rattle.vipr_spec.specs.Grammar.{Spells};
-ghost use Rattle.vipr_spec.specs.Reading.{certificate_read, most_count};
-ghost use Rattle.vipr_spec.specs.Shape.{DerivationShape, DerivationFits, CanWrite};
+ghost use Rattle.vipr_spec.specs.Reading.{certificate_read};
+ghost use Rattle.vipr_spec.specs.Shape.{CanWrite};
 ghost use Rattle.vipr_cert.specs.Items.{certificate_with, derivation_of};
 ghost use Rattle.vipr_bytes.specs.Known.{text_of, IfKnown, IfWhole};
 ghost use Rattle.vipr_scan.specs.Giving.{rest_of};
+ghost use Rattle.vipr_read.specs.Limits.{CanWriteDerivations};
 ghost use Rattle.vipr_read.specs.Whole.{IsParsed, IsRead, items_behind, derived_read};
 
 use crate::item::{Derived, Listed, all};
@@ -93,11 +93,8 @@ fn derivations<R: Source>(
     requires { parser.old.variables ≡ variables problem.now }
     ensures read { IsSome parser.old.rest → IsParsed (λ v. map derivation_of v.items) result
         (derived_read problem.now (rest_of parser.old.rest)) }
-    ensures few { IfOk result (λ v.
-        length problem.now.constraints + length (map derivation_of v.items) ≤ most_count) }
-    ensures shape { IfOk result (λ v.
-        All (DerivationShape (variables problem.now)) (map derivation_of v.items)) }
-    ensures fits { IfOk result (λ v. All DerivationFits (map derivation_of v.items)) }
+    ensures derivations { IfOk result
+        (λ v. CanWriteDerivations problem.now (map derivation_of v.items)) }
 {
     let count = parser.derivation_count(problem.cons().len() as u32)?;
     let derivations = all(parser, alloc, &Derived, problem.objective(), count)?;

@@ -1,12 +1,13 @@
 //! The items of a certificate whose problem is known: its listed solutions and its derivations.
 ghost use Rattle.std.specs.Prelude.{◌≡◌, ℕ, map, length, All, IfOk};
-ghost use Rattle.vipr_spec.specs.Constraint.{Row as RowMeant, at, NamesBelow};
+ghost use Rattle.vipr_spec.specs.Constraint.{Row as RowMeant};
 ghost use Rattle.vipr_spec.specs.Certificate.{Problem as ProblemMeant, variables as variables_in};
 ghost use Rattle.vipr_spec.specs.Certificate.{Named as NamedMeant, Derivation as DerivationMeant};
 ghost use Rattle.vipr_spec.specs.Reading.{Rest, Read, repeated, solution_read, derivation_read};
 ghost use Rattle.vipr_spec.specs.Shape.{RowFits, SolutionShape, DerivationShape, DerivationFits};
 ghost use Rattle.vipr_cert.specs.Items.{solution_of, derivation_of};
 ghost use Rattle.vipr_read.specs.Parsing.{Parses};
+ghost use Rattle.vipr_read.specs.Limits.{CanWriteRow};
 
 use crate::parser::Parser;
 use std::alloc::Global;
@@ -38,13 +39,12 @@ pub(crate) trait Item {
         alloc: Global,
         objective: &Row,
     ) -> Result<Self::Value, Stop>
-        requires below { NamesBelow parser.old.variables (at objective.now) }
-        requires fits { RowFits objective.now }
+        requires objective { CanWriteRow parser.old.variables objective.now }
         ensures read { (p : ProblemMeant) → parser.old.variables ≡ variables_in p
             → objective.now ≡ p.objective → Parses view (reading p) parser.old parser.new result }
         ensures variables { parser.new.variables ≡ parser.old.variables }
-        ensures shape { IfOk result (λ x. shape parser.old.variables (view x)) }
-        ensures fits { IfOk result (λ x. fits (view x)) };
+        ensures item { IfOk result
+            (λ x. shape parser.old.variables (view x) × fits (view x)) };
 }
 
 /// Listed solutions.
@@ -107,15 +107,14 @@ pub(crate) fn all<R: Source, I: Item>(
     objective: &Row,
     count: u32,
 ) -> Result<Vec<I::Value>, Stop>
-    requires below { NamesBelow parser.old.variables (at objective.now) }
-    requires fits { RowFits objective.now }
+    requires objective { CanWriteRow parser.old.variables objective.now }
     ensures read { (p : ProblemMeant) → parser.old.variables ≡ variables_in p
         → objective.now ≡ p.objective → Parses (λ v. map I.view v.items)
         (repeated (I.reading p) count) parser.old parser.new result }
     ensures variables { parser.new.variables ≡ parser.old.variables }
     ensures count { IfOk result (λ v. length v.items ≡ count) }
-    ensures shape { IfOk result (λ v. All (I.shape parser.old.variables) (map I.view v.items)) }
-    ensures fits { IfOk result (λ v. All I.fits (map I.view v.items)) }
+    ensures items { IfOk result (λ v. All (I.shape parser.old.variables) (map I.view v.items)
+        × All I.fits (map I.view v.items)) }
 {
     let mut items = Vec::new(alloc);
     for _ in 0..count {

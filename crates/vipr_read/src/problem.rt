@@ -1,12 +1,11 @@
 //! Reads the problem, section by section.
-ghost use Rattle.std.specs.Prelude.{◌≡◌, ℕ, ◌^◌, ◌<◌, ◌≤◌, length, map, All, OnOk, IfOk, IsSome};
+ghost use Rattle.std.specs.Prelude.{◌≡◌, ℕ, ◌^◌, ◌<◌, length, map, IfOk};
 ghost use Rattle.vipr_spec.specs.Constraint.{at, IsInteger, NamesBelow};
 ghost use Rattle.vipr_spec.specs.Constraint.{Constraint as ConstraintMeant};
 ghost use Rattle.vipr_spec.specs.Certificate.{Named as NamedMeant, variables};
-ghost use Rattle.vipr_spec.specs.Tokens.{IsToken};
 ghost use Rattle.vipr_spec.specs.Shape.{ConstraintShape, RowFits, ConstraintFits, ClaimFits};
 ghost use Rattle.vipr_spec.specs.Shape.{ProblemShape};
-ghost use Rattle.vipr_spec.specs.Reading.{most_count, version_read, names_read, integers_read};
+ghost use Rattle.vipr_spec.specs.Reading.{version_read, names_read, integers_read};
 ghost use Rattle.vipr_spec.specs.Reading.{objective_read, constraint_read, constraints_read};
 ghost use Rattle.vipr_spec.specs.Reading.{range_read, claim_read, problem_read};
 ghost use Rattle.vipr_linear.specs.Constraint.{constraint_of};
@@ -14,7 +13,8 @@ ghost use Rattle.vipr_cert.specs.Items.{named_of, direction_of, claim_of};
 ghost use Rattle.vipr_scan.specs.Giving.{Scans};
 ghost use Rattle.vipr_read.specs.Parsing.{Parses};
 ghost use Rattle.vipr_read.specs.Sections.{variables_read, sections_read, sections_of};
-ghost use Rattle.vipr_read.specs.Sections.{claimed_read};
+ghost use Rattle.vipr_read.specs.Sections.{claimed_read, CanWriteSections};
+ghost use Rattle.vipr_read.specs.Limits.{CanWriteRow, AreNames, AreConstraints};
 
 use crate::kinds::{Bound, Count, GoalKind, HasRange, NameKind, Number, SenseKind, Variable, Word};
 use crate::parser::Parser;
@@ -85,8 +85,7 @@ impl<R: Source> Parser<R> {
     #[tactic(auto, unfolding(vipr_spec::specs::Reading::names_read))]
     fn names(&mut self, alloc: Global) -> Result<Vec<Name>, Stop>
         ensures read { Parses (λ names. names.items) names_read self.old self.new result }
-        ensures tokens { IfOk result (λ names. All IsToken names.items) }
-        ensures few { IfOk result (λ names. length names.items ≤ most_count) }
+        ensures names { IfOk result (λ names. AreNames names.items) }
     {
         self.take(&Word(b"VAR", cause::WRONG_KEYWORD))?;
         let count = self.take(&Count)?;
@@ -110,8 +109,7 @@ impl<R: Source> Parser<R> {
     fn objective(&mut self, alloc: Global) -> Result<(Goal, Row), Stop>
         ensures read { Parses (λ x. (direction_of x.0, x.1)) (objective_read self.old.variables)
             self.old self.new result }
-        ensures below { IfOk result (λ x. NamesBelow self.old.variables (at x.1)) }
-        ensures fits { IfOk result (λ x. RowFits x.1) }
+        ensures objective { IfOk result (λ x. CanWriteRow self.old.variables x.1) }
     {
         self.take(&Word(b"OBJ", cause::WRONG_KEYWORD))?;
         let goal = self.take(&GoalKind)?;
@@ -126,17 +124,11 @@ impl<R: Source> Parser<R> {
         alloc: Global,
         objective: &Row,
     ) -> Result<(u32, Vec<Named<Constraint>>), Stop>
-        requires below { NamesBelow self.old.variables (at objective.now) }
-        requires fits { RowFits objective.now }
+        requires objective { CanWriteRow self.old.variables objective.now }
         ensures read { Parses (λ x. (x.0, map (named_of constraint_of) x.1.items))
             (constraints_read self.old.variables objective.now) self.old self.new result }
-        ensures bounds { IfOk result (λ x. x.0 ≤ most_count) }
-        ensures few { IfOk result
-            (λ x. length (map (named_of constraint_of) x.1.items) ≤ most_count) }
-        ensures shape { IfOk result (λ x.
-            All (ConstraintShape self.old.variables) (map (named_of constraint_of) x.1.items)) }
-        ensures fit { IfOk result (λ x.
-            All (λ c. ConstraintFits c.item) (map (named_of constraint_of) x.1.items)) }
+        ensures constraints { IfOk result (λ x. AreConstraints self.old.variables x.0
+            (map (named_of constraint_of) x.1.items)) }
     {
         self.take(&Word(b"CON", cause::WRONG_KEYWORD))?;
         let count = self.take(&Count)?;
@@ -176,8 +168,7 @@ impl<R: Source> Parser<R> {
         ensures read { Scans (λ names. names.items) variables_read
             self.old.rest self.new.rest result }
         ensures variables { IfOk result (λ names. self.new.variables ≡ length names.items) }
-        ensures tokens { IfOk result (λ names. All IsToken names.items) }
-        ensures few { IfOk result (λ names. length names.items ≤ most_count) }
+        ensures names { IfOk result (λ names. AreNames names.items) }
     {
         self.version()?;
         let names = self.names(alloc)?;
@@ -190,16 +181,7 @@ impl<R: Source> Parser<R> {
     fn sections(&mut self, alloc: Global, variables: u32) -> Result<Sections, Stop>
         requires { self.old.variables ≡ variables }
         ensures read { Parses sections_of (sections_read variables) self.old self.new result }
-        ensures integers { IfOk result (λ s. (j : ℕ) → IsInteger s.ints j → j < variables) }
-        ensures objective { IfOk result (λ s. NamesBelow variables (at s.objective)) }
-        ensures objective_fits { IfOk result (λ s. RowFits s.objective) }
-        ensures bounds { IfOk result (λ s. s.bound_count ≤ most_count) }
-        ensures few { IfOk result
-            (λ s. length (map (named_of constraint_of) s.constraints.items) ≤ most_count) }
-        ensures shape { IfOk result (λ s.
-            All (ConstraintShape variables) (map (named_of constraint_of) s.constraints.items)) }
-        ensures fit { IfOk result (λ s.
-            All (λ c. ConstraintFits c.item) (map (named_of constraint_of) s.constraints.items)) }
+        ensures sections { IfOk result (λ s. CanWriteSections variables s) }
     {
         let ints = self.integers(alloc, variables)?;
         let (goal, objective) = self.objective(alloc)?;

@@ -1,15 +1,15 @@
 //! Reads the items of a certificate one by one.
 ghost use Rattle.std.specs.Prelude.{◌≡◌, ◌↔◌, ◌^◌, ◌+◌, ◌<◌, true, false, Ok, IfOk, IfSome};
 ghost use Rattle.std.specs.Prelude.{IsErrOf, IsSome};
-ghost use Rattle.vipr_spec.specs.Constraint.{at, NamesBelow};
 ghost use Rattle.vipr_spec.specs.Certificate.{Problem as ProblemMeant};
 ghost use Rattle.vipr_spec.specs.Reading.{solution_read, derivations_read, derivation_read};
 ghost use Rattle.vipr_spec.specs.Reading.{end_read};
-ghost use Rattle.vipr_spec.specs.Shape.{RowFits, SolutionShape, DerivationShape};
+ghost use Rattle.vipr_spec.specs.Shape.{SolutionShape, DerivationShape};
 ghost use Rattle.vipr_cert.specs.Items.{solution_of, derivation_of};
 ghost use Rattle.vipr_scan.specs.Giving.{rest_of};
 ghost use Rattle.vipr_read.specs.Items.{Items, Knows, Remembers, HasNone, HasEnded, Moves};
 ghost use Rattle.vipr_read.specs.Items.{NextItem, GivesFrom};
+ghost use Rattle.vipr_read.specs.Limits.{CanWriteRow};
 
 use crate::item::{Derived, Item, Listed};
 use crate::parser::Parser;
@@ -33,7 +33,8 @@ struct ItemReader<R: Source> {
 
 impl<R: Source> Model for ItemReader<R> {
     ghost use Rattle.std.specs.Prelude.{None, if◌then◌else◌};
-    ghost use Rattle.vipr_read.specs.Items.{Items, IsObjective};
+    ghost use Rattle.vipr_read.specs.Items.{Items};
+    ghost use Rattle.vipr_read.specs.Limits.{CanWriteRow};
     ghost use Rattle.vipr_read.specs.ItemsCode.{items_code};
 
     ghost Value = { Items };
@@ -49,7 +50,7 @@ impl<R: Source> Model for ItemReader<R> {
       objective = r.objective;
     } };
 
-    ghost invariant = { λ r. IsObjective r.parser.variables r.objective };
+    ghost invariant = { λ r. CanWriteRow r.parser.variables r.objective };
 }
 
 impl<R: Source> ItemReader<R> {
@@ -105,8 +106,7 @@ impl<R: Source> Solutions<R> {
         constraints: u32,
         objective: Row,
     ) -> Solutions<R>
-        requires below { NamesBelow parser.variables (at objective) }
-        requires fits { RowFits objective }
+        requires { CanWriteRow parser.variables objective }
         ensures { result ≡ record {
           failed = false;
           rest = parser.rest;

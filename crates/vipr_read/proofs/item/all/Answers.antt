@@ -1,15 +1,15 @@
-use Rattle.std.proofs.Common.{◌∷◌, [], length-append, arith, ◌∙◌, map, ap, sym, subst}
+use Rattle.std.proofs.Common.{◌∷◌, [], length-append, arith, ◌∙◌, map, sym, subst}
 use Rattle.std.proofs.lemmas.Result.{err_from_is_err_and}
 use Rattle.std.proofs.lemmas.List.{map_push}
 use Rattle.std.proofs.lemmas.List.Elements.{All-push}
-use Rattle.vipr_spec.specs.Constraint.{at, NamesBelow}
 use Rattle.vipr_spec.specs.Reading.{repeated}
 use Rattle.vipr_scan.specs.Giving.{rest_of}
+use Rattle.vipr_read.specs.Limits.{CanWriteRow}
 use Rattle.vipr_read.proofs.Repeating.{goes_on, ends, is_done}
 use Rattle.vipr_read.proofs.item.all.Goals as goal
 
-pub parse-requires-clause-below : goal.parse-requires-clause-below
-parse-requires-clause-below g c = subst (λ n. NamesBelow n (at c.args.objective.now)) (sym c.loop.invariant.variables) c.requires.below
+pub parse-requires : goal.parse-requires
+parse-requires g c = record { objective = subst (λ n. CanWriteRow n c.args.objective.now) (sym c.loop.invariant.variables) c.requires.objective }
 
 pub returns-in_err-next-clause-read : goal.returns-in_err-next-clause-read
 returns-in_err-next-clause-read g c p variables objective =
@@ -30,12 +30,12 @@ loop-preserved g c =
     let n = c.args.parser.now.variables in
     let pushed = c.in_ok-push.ensures.items in
     let more = map_push view c.loop.items.items x in
-    let fits = subst (λ n. g.I.Item.shape n (view x)) c.loop.invariant.variables c.in_ok-next.ensures.shape in
+    let fits = subst (λ n. g.I.Item.shape n (view x)) c.loop.invariant.variables c.in_ok-next.ensures.item.0 in
     record {
       variables = c.in_ok-next.ensures.variables ∙ c.loop.invariant.variables;
       so_many = rw pushed (omega (arith, length-append c.loop.items.items (x ∷ []), c.loop.invariant.so_many));
       shape = rw (pushed, more) (All-push (g.I.Item.shape n) (map view c.loop.items.items) (view x) c.loop.invariant.shape fits);
-      fits = rw (pushed, more) (All-push g.I.Item.fits (map view c.loop.items.items) (view x) c.loop.invariant.fits c.in_ok-next.ensures.fits);
+      fits = rw (pushed, more) (All-push g.I.Item.fits (map view c.loop.items.items) (view x) c.loop.invariant.fits c.in_ok-next.ensures.item.1);
       known = λ known p variables objective.
           ((c.in_ok-next.ensures.read p (c.loop.invariant.variables ∙ variables) objective).1 (c.loop.invariant.known known p variables objective)).1;
       read = λ known p variables objective.
