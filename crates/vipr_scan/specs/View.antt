@@ -1,12 +1,13 @@
 -- What a reader of tokens has left.
 use Rattle.std.specs.Prelude.{◌≡◌, ℕ, ◌+◌, ◌^◌, ◌<◌, ◌≤◌, nat_lt, Bool, true, false, List, [], ◌∷◌}
 use Rattle.std.specs.Prelude.{◌++◌, length, take, drop, Option, Some, None, Result, Ok, Err}
-use Rattle.std.specs.Prelude.{slice_range}
+use Rattle.std.specs.Prelude.{slice_range, ◌≢◌, IfOk, IfErr}
 use Rattle.std.specs.Prelude.{slice_index, IfSome, if◌then◌else◌, option_and_then}
 use Rattle.std.specs.Option.{option_map}
 use Rattle.vipr_spec.specs.Input.{Input}
 use Rattle.vipr_spec.specs.Tokens.{Token, IsToken, is_white}
-use Rattle.vipr_spec.specs.Reading.{Rest}
+use Rattle.vipr_spec.specs.Reading.{Rest, token_read}
+use Rattle.vipr_scan.specs.Giving.{Scans, IsBehind}
 use Rattle.vipr_scan.specs.declared.place.Place.TheVariants.{Past}
 use Rattle.vipr_scan.specs.declared.window.Window.{Window}
 use Rattle.vipr_scan.specs.declared.place.Place.{Place}
@@ -18,6 +19,13 @@ use Rattle.vipr_scan.specs.declared.window.Found.{Found}
 -- the bytes that were read and not yet taken
 abbrev pub unread : {R : Type 0} → Window R → List ℕ
 unread t = slice_range t.buf.value t.start t.end
+
+-- it stands where it stood, and what was unread is in front of what is unread now
+pub record HoldsUnread {R : Type 0} (old new : Window R) : Type 0 where
+  pub place : new.place ≡ old.place
+  pub offset : new.offset ≡ old.offset
+  pub kept : length (unread old) ≤ length (unread new)
+  pub front : take (length (unread old)) (unread new) ≡ unread old
 
 -- the input with bytes in front
 abbrev pub prepend : List ℕ → Input → Input
@@ -115,6 +123,15 @@ found_token buf f = record { bytes = slice_range buf f.start (f.start + f.len); 
 abbrev pub IsFound : List ℕ → Found → Type 0
 IsFound buf f =
     (f.start + f.len ≤ 65536) × IsToken (slice_range buf f.start (f.start + f.len))
+
+-- the token that is wanted is taken, and lies in the buffer; or the fault is that of the reading
+-- there, and not that memory ran out
+pub record TakesToken {R : Type 0} (input : R → Option Input) (old new : Window R)
+    (result : Result Found Stop) : Type 0 where
+  pub read : Scans (found_token new.buf.value) token_read (left input old) (left input new) result
+  pub behind : IsBehind (left input old) (left input new)
+  pub found : IfOk result (IsFound new.buf.value)
+  pub error : IfErr result (λ e. e ≢ stop.Memory)
 
 -- the first n of the bytes not yet taken are white space before a token or the end
 pub record IsGap {R : Type 0} (t : Window R) (n : ℕ) : Type 0 where

@@ -1,4 +1,4 @@
-ghost use Rattle.std.specs.Prelude.{◌≡◌, ◌⊎◌, ◌↔◌, ◌+◌, ◌≤◌, true, false, slice_range, IfOk};
+ghost use Rattle.std.specs.Prelude.{◌≡◌, ◌⊎◌, ◌↔◌, true, false, IfOk};
 ghost use Rattle.std.specs.Prelude.{IfSome, IfErr, IsErrOf, IsSome, Some};
 ghost use Rattle.std.specs.Borrow.{sem};
 ghost use Rattle.std.specs.Io.BufRead.{Rests};
@@ -34,7 +34,7 @@ struct Reader<R> {
 }
 
 impl<R: Source> Reader<R> {
-    ghost use Rattle.vipr_scan.specs.View.{left, seen_found, next_left};
+    ghost use Rattle.vipr_scan.specs.View.{left, seen_found, next_left, IsFound};
 
     /// Finds the next token, and takes it.
     fn advance(&mut self) -> Result<Option<Found>, TextError>
@@ -46,9 +46,7 @@ impl<R: Source> Reader<R> {
             (λ l. seen (seen_found self.new.window.buf.value) result ≡ public_answer l) }
         ensures left { self.new.failed ≡ false → IfSome (left R.input self.old.window)
             (λ l. left R.input self.new.window ≡ Some (next_left l)) }
-        ensures within { IfOk result (λ o. IfSome o (λ f. f.start + f.len ≤ 65536)) }
-        ensures token { IfOk result (λ o. IfSome o (λ f.
-            IsToken (slice_range self.new.window.buf.value f.start (f.start + f.len)))) }
+        ensures found { IfOk result (λ o. IfSome o (IsFound self.new.window.buf.value)) }
         ensures error { IfErr result (λ e. (e ≡ TextError.Read) ⊎ (e ≡ TextError.Spent)) }
     {
         if self.failed {

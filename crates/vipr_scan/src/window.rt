@@ -45,7 +45,7 @@ impl<R: Source> Window<R> {
     ghost use Rattle.vipr_scan.specs.View.{unread, input_left, left, rounds, Keeps, IsOver};
     ghost use Rattle.vipr_scan.specs.View.{IsAtToken, seen_found, next_answer, next_left, seen};
     ghost use Rattle.vipr_scan.specs.View.{stops, found_token};
-    ghost use Rattle.vipr_scan.specs.View.{IsGap, IsFound, IsMeasured};
+    ghost use Rattle.vipr_scan.specs.View.{IsGap, IsFound, IsMeasured, HoldsUnread, TakesToken};
     ghost use Rattle.vipr_scan.specs.Meaning.{IsInFront};
     ghost use Rattle.vipr_scan.specs.Giving.{Scans, Ends, IsBehind};
     ghost use Rattle.vipr_spec.specs.Reading.{token_read, end_read};
@@ -74,10 +74,7 @@ impl<R: Source> Window<R> {
     fn fill(&mut self) -> Result<(), Failed>
         requires room { length (unread self.old) < 65536 }
         requires more { self.old.ended ≡ false }
-        ensures place { self.new.place ≡ self.old.place }
-        ensures offset { self.new.offset ≡ self.old.offset }
-        ensures kept { length (unread self.old) ≤ length (unread self.new) }
-        ensures front { take (length (unread self.old)) (unread self.new) ≡ unread self.old }
+        ensures held { HoldsUnread self.old self.new }
         ensures left { OnOk result (Keeps (left R.input self.old) (left R.input self.new)) }
         ensures err { OnErr result
             (IfSome (input_left R.input self.old)
@@ -236,11 +233,7 @@ impl<R: Source> Window<R> {
     /// Takes the token that is wanted here.
     #[tactic(auto, unfolding(vipr_spec::specs::Reading::first_token))]
     pub(crate) fn want(&mut self) -> Result<Found, Stop>
-        ensures read { Scans (found_token self.new.buf.value) token_read
-            (left R.input self.old) (left R.input self.new) result }
-        ensures behind { IsBehind (left R.input self.old) (left R.input self.new) }
-        ensures found { IfOk result (IsFound self.new.buf.value) }
-        ensures error { IfErr result (λ e. e ≢ Stop.Memory) }
+        ensures { TakesToken R.input self.old self.new result }
     {
         let (gap, bytes) = self.at_hand();
         let len = run_end(bytes, 0);
@@ -254,11 +247,7 @@ impl<R: Source> Window<R> {
     #[inline(never)]
     #[tactic(auto, unfolding(vipr_spec::specs::Reading::first_token))]
     fn want_slowly(&mut self) -> Result<Found, Stop>
-        ensures read { Scans (found_token self.new.buf.value) token_read
-            (left R.input self.old) (left R.input self.new) result }
-        ensures behind { IsBehind (left R.input self.old) (left R.input self.new) }
-        ensures found { IfOk result (IsFound self.new.buf.value) }
-        ensures error { IfErr result (λ e. e ≢ Stop.Memory) }
+        ensures { TakesToken R.input self.old self.new result }
     {
         let Some(found) = self.advance()? else {
             return Err(Stop::Refused {
