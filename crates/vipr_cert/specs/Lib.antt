@@ -2,3 +2,4 @@
 pub mod Items
 pub mod Codes
 pub mod Earlier
+pub mod Names

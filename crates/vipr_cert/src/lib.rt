@@ -1,11 +1,13 @@
 //! What certificates are made of.
 #![tactic(auto)]
 
+mod bytes;
 mod certificate;
 mod items;
 mod limits;
 mod name;
 mod problem;
+mod short;
 
 pub use certificate::Certificate;
 pub use items::{Claim, Derivation, Goal, Named, Reason};

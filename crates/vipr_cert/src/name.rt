@@ -3,8 +3,10 @@ ghost use Rattle.std.specs.Prelude.{◌≡◌, ◌↔◌, ◌≤◌, IsOk, IfOk,
 ghost use Rattle.bstr.specs.Owned.{bstring_bytes};
 ghost use Rattle.vipr_spec.specs.Tokens.{is_white, IsToken};
 
-use bstr::BString;
+use crate::bytes::Bytes;
+use bstr::{BStr, BString};
 use std::alloc::{AllocError, Global};
+use std::fmt;
 use std::marker::Model;
 
 /// A name, an index or a count is outside the limits of the format.
@@ -13,24 +15,34 @@ pub struct BadShape;
 
 /// The name of a variable, a constraint, a solution or a derivation: the bytes of a token, which
 /// need not be text.
-#[derive(Debug, Drop)]
+#[derive(Drop)]
 pub struct Name {
-    bytes: BString,
+    bytes: Bytes,
 }
 
 impl Model for Name {
     ghost use Rattle.std.specs.Prelude.{ℕ, List};
     ghost use Rattle.std.specs.Coded.{coded_ℕ, coded_list};
-    ghost use Rattle.bstr.specs.Owned.{bstring_bytes};
     ghost use Rattle.vipr_spec.specs.Tokens.{IsToken};
+    ghost use Rattle.vipr_cert.specs.Names.{name_bytes};
 
     ghost Value = { List ℕ };
 
     ghost coded = { coded_list coded_ℕ };
 
-    ghost view = { λ n. bstring_bytes n.bytes };
+    ghost view = { λ n. name_bytes n.bytes };
 
-    ghost invariant = { λ n. IsToken (bstring_bytes n.bytes) };
+    ghost invariant = { λ n. IsToken (name_bytes n.bytes) };
+}
+
+impl fmt::Debug for Name {
+    ghost use Rattle.bstr.specs.Show.{debug_text};
+
+    ghost debug_output = { λ name. debug_text name };
+
+    fn fmt<W: fmt::Write>(&self, formatter: &mut fmt::Formatter<W>) -> fmt::Result {
+        fmt::Debug::fmt(&BStr::new(self.as_bytes()), formatter)
+    }
 }
 
 impl Clone for Name {
@@ -40,7 +52,7 @@ impl Clone for Name {
 
     fn clone(&self) -> Result<Name, AllocError> {
         Ok(Name {
-            bytes: self.bytes.clone()?,
+            bytes: self.bytes.copied()?,
         })
     }
 }
@@ -59,25 +71,29 @@ impl Name {
         if !is_token(bytes.as_bytes()) {
             return Err(BadShape);
         }
-        Ok(Name { bytes })
+        Ok(Name {
+            bytes: Bytes::of_owned(bytes),
+        })
     }
 
     /// A name of these bytes, which are those of a token.
+    #[inline(always)]
     pub fn of_token(alloc: Global, bytes: &[u8]) -> Result<Name, AllocError>
         requires { IsToken bytes.now }
         ensures { IfOk result (λ n. n ≡ bytes.now) }
     {
         Ok(Name {
-            bytes: BString::from_slice(alloc, bytes)?,
+            bytes: Bytes::of(alloc, bytes)?,
         })
     }
 
     /// The bytes, which are those of a token.
+    #[inline(always)]
     pub fn as_bytes(&self) -> &[u8]
         ensures bytes { result.now ≡ self.now }
         ensures token { IsToken self.now }
     {
-        self.bytes.as_bytes()
+        self.bytes.as_slice()
     }
 }
 
