@@ -1,143 +1,148 @@
 //! Each constructor once within its limits, and past those that are cheap to reach.
 use super::same;
 use bstr::BString;
-use std::alloc::{AllocError, Global};
+use std::alloc::Global;
 use std::process::Abort;
-use std::test::Fail;
 use vipr_cert::{BadShape, Certificate, Claim, Derivation, Goal, Name, Named, Problem, Reason};
 use vipr_frac::Frac;
 use vipr_linear::{Constraint, Ints, Row, Sense, Solution};
 
-fn name(alloc: Global, bytes: &[u8]) -> Result<Name, Fail> {
-    Ok(Name::new(BString::from_slice(alloc, bytes)?)?)
+fn name(rt: &impl Abort, alloc: Global, bytes: &[u8]) -> Name {
+    let bytes = BString::from_slice(alloc, bytes).expect(rt, "bytes");
+    Name::new(bytes).expect(rt, "a name")
 }
 
 // The row with the coefficient 1 at a variable.
-fn row(alloc: Global, variable: u32) -> Result<Row, Fail> {
-    Ok(Row::from_pairs(alloc, only(alloc, (variable, Frac::one()))?)?)
+fn row(rt: &impl Abort, alloc: Global, variable: u32) -> Row {
+    let pairs = only(rt, alloc, (variable, Frac::one()));
+    Row::from_pairs(alloc, pairs).expect(rt, "a row")
 }
 
 // That the variable is at least 1.
-fn at_least_one(alloc: Global, variable: u32) -> Result<Constraint, Fail> {
-    Ok(Constraint {
-        row: row(alloc, variable)?,
+fn at_least_one(rt: &impl Abort, alloc: Global, variable: u32) -> Constraint {
+    Constraint {
+        row: row(rt, alloc, variable),
         sense: Sense::G,
         rhs: Frac::one(),
-    })
+    }
 }
 
-fn named<T: Drop>(alloc: Global, bytes: &[u8], item: T) -> Result<Named<T>, Fail> {
-    let name = name(alloc, bytes)?;
-    Ok(Named { name, item })
+fn named<T: Drop>(rt: &impl Abort, alloc: Global, bytes: &[u8], item: T) -> Named<T> {
+    Named {
+        name: name(rt, alloc, bytes),
+        item,
+    }
 }
 
-fn only<T: Drop>(alloc: Global, item: T) -> Result<Vec<T>, Fail> {
+fn only<T: Drop>(rt: &impl Abort, alloc: Global, item: T) -> Vec<T> {
     let mut list = Vec::new(alloc);
-    list.push(item)?;
-    Ok(list)
+    list.push(item).expect(rt, "a list");
+    list
 }
 
-fn two_names(alloc: Global) -> Result<Vec<Name>, Fail> {
-    let mut names = only(alloc, name(alloc, b"x")?)?;
-    names.push(name(alloc, b"y")?)?;
-    Ok(names)
+fn two_names(rt: &impl Abort, alloc: Global) -> Vec<Name> {
+    let mut names = only(rt, alloc, name(rt, alloc, b"x"));
+    names.push(name(rt, alloc, b"y")).expect(rt, "names");
+    names
 }
 
-fn one_constraint(alloc: Global, variable: u32) -> Result<Vec<Named<Constraint>>, Fail> {
-    let stated = at_least_one(alloc, variable)?;
-    only(alloc, named(alloc, b"C0", stated)?)
+fn one_constraint(rt: &impl Abort, alloc: Global, variable: u32) -> Vec<Named<Constraint>> {
+    let stated = at_least_one(rt, alloc, variable);
+    only(rt, alloc, named(rt, alloc, b"C0", stated))
 }
 
 // A problem over two variables.
 fn problem(
+    rt: &impl Abort,
     alloc: Global,
     integer: u32,
     objective: u32,
     constrained: u32,
-) -> Result<Result<Problem, BadShape>, Fail> {
-    let ints = Ints::from_indices(alloc, only(alloc, integer)?)?;
-    let objective = row(alloc, objective)?;
-    let names = two_names(alloc)?;
-    let cons = one_constraint(alloc, constrained)?;
+) -> Result<Problem, BadShape> {
+    let ints = Ints::from_indices(alloc, only(rt, alloc, integer)).expect(rt, "indices");
+    let objective = row(rt, alloc, objective);
+    let names = two_names(rt, alloc);
+    let cons = one_constraint(rt, alloc, constrained);
     let claim = Claim::Range(None, Some(Frac::one()));
-    Ok(Problem::new(names, ints, Goal::Max, objective, cons, 1, claim))
+    Problem::new(names, ints, Goal::Max, objective, cons, 1, claim)
 }
 
 // The problem whose variables are all the same.
-fn problem_at(alloc: Global, variable: u32) -> Result<Problem, Fail> {
-    Ok(problem(alloc, variable, variable, variable)??)
+fn problem_at(rt: &impl Abort, alloc: Global, variable: u32) -> Problem {
+    problem(rt, alloc, variable, variable, variable).expect(rt, "a problem")
 }
 
-fn fits(alloc: Global, integer: u32, objective: u32, constrained: u32) -> Result<bool, Fail> {
-    Ok(problem(alloc, integer, objective, constrained)?.is_ok())
+fn fits(rt: &impl Abort, alloc: Global, integer: u32, objective: u32, constrained: u32) -> bool {
+    problem(rt, alloc, integer, objective, constrained).is_ok()
 }
 
-fn one_solution(alloc: Global, variable: u32) -> Result<Vec<Named<Solution>>, Fail> {
-    let solution = Solution(row(alloc, variable)?);
-    only(alloc, named(alloc, b"S", solution)?)
+fn one_solution(rt: &impl Abort, alloc: Global, variable: u32) -> Vec<Named<Solution>> {
+    let solution = Solution(row(rt, alloc, variable));
+    only(rt, alloc, named(rt, alloc, b"S", solution))
 }
 
-fn one_derivation(alloc: Global, variable: u32, reason: Reason) -> Result<Vec<Derivation>, Fail> {
-    let constraint = at_least_one(alloc, variable)?;
-    let name = name(alloc, b"C1")?;
-    only(
-        alloc,
-        Derivation {
-            name,
-            constraint,
-            reason,
-            last: None,
-        },
-    )
+fn one_derivation(
+    rt: &impl Abort,
+    alloc: Global,
+    variable: u32,
+    reason: Reason,
+) -> Vec<Derivation> {
+    let derivation = Derivation {
+        name: name(rt, alloc, b"C1"),
+        constraint: at_least_one(rt, alloc, variable),
+        reason,
+        last: None,
+    };
+    only(rt, alloc, derivation)
 }
 
 // A certificate over two variables, with one constraint and one derivation.
 fn certificate(
+    rt: &impl Abort,
     alloc: Global,
     solved: u32,
     derived: u32,
     reason: Reason,
-) -> Result<Result<Certificate, BadShape>, Fail> {
-    let derivations = one_derivation(alloc, derived, reason)?;
-    let solutions = one_solution(alloc, solved)?;
-    let problem = problem_at(alloc, 0)?;
-    Ok(Certificate::new(problem, solutions, derivations))
+) -> Result<Certificate, BadShape> {
+    let derivations = one_derivation(rt, alloc, derived, reason);
+    let solutions = one_solution(rt, alloc, solved);
+    let problem = problem_at(rt, alloc, 0);
+    Certificate::new(problem, solutions, derivations)
 }
 
 // The certificate whose solution and derivation are of the second variable.
-fn certificate_by(alloc: Global, reason: Reason) -> Result<Certificate, Fail> {
-    Ok(certificate(alloc, 1, 1, reason)??)
+fn certificate_by(rt: &impl Abort, alloc: Global, reason: Reason) -> Certificate {
+    certificate(rt, alloc, 1, 1, reason).expect(rt, "a certificate")
 }
 
-fn has_shape(alloc: Global, solved: u32, derived: u32) -> Result<bool, Fail> {
-    Ok(certificate(alloc, solved, derived, Reason::Asm)?.is_ok())
+fn has_shape(rt: &impl Abort, alloc: Global, solved: u32, derived: u32) -> bool {
+    certificate(rt, alloc, solved, derived, Reason::Asm).is_ok()
 }
 
 fn is_name(bytes: Vec<u8>) -> bool {
     Name::new(BString::new(bytes)).is_ok()
 }
 
-fn has_length(alloc: Global, len: usize) -> Result<bool, AllocError> {
-    Ok(is_name(vec![in alloc; b'x'; len]?))
+fn has_length(rt: &impl Abort, alloc: Global, len: usize) -> bool {
+    is_name(vec![in alloc; b'x'; len].expect(rt, "bytes"))
 }
 
-fn may_have(alloc: Global, byte: u8) -> Result<bool, AllocError> {
-    Ok(is_name(vec![in alloc; b'x', byte]?))
+fn may_have(rt: &impl Abort, alloc: Global, byte: u8) -> bool {
+    is_name(vec![in alloc; b'x', byte].expect(rt, "bytes"))
 }
 
-fn is_kept(rt: &impl Abort, alloc: Global) -> Result<(), Fail> {
-    let token = name(alloc, b"x#1")?;
+fn is_kept(rt: &impl Abort, alloc: Global) {
+    let token = name(rt, alloc, b"x#1");
     same(rt, token.as_bytes(), b"x#1".as_slice());
-    let again = Name::of_token(alloc, token.as_bytes())?;
+    let again = Name::of_token(alloc, token.as_bytes()).expect(rt, "a name");
     same(rt, again.as_bytes(), b"x#1".as_slice());
-    Ok(())
 }
 
 #[test]
-fn names(rt: HostRuntime) -> Result<(), Fail> {
+fn names(rt: HostRuntime) {
     let alloc = rt.alloc();
     for (len, fits) in [(0, false), (1, true), (65_535, true), (65_536, false)] {
-        same(&rt, (len, has_length(alloc, len)?), (len, fits));
+        same(&rt, (len, has_length(&rt, alloc, len)), (len, fits));
     }
     for (byte, fits) in [
         (0, true),
@@ -149,26 +154,22 @@ fn names(rt: HostRuntime) -> Result<(), Fail> {
         (33, true),
         (255, true),
     ] {
-        same(&rt, (byte, may_have(alloc, byte)?), (byte, fits));
+        same(&rt, (byte, may_have(&rt, alloc, byte)), (byte, fits));
     }
-    is_kept(&rt, alloc)
+    is_kept(&rt, alloc);
 }
 
 #[test]
-fn problems(rt: HostRuntime) -> Result<(), Fail> {
+fn problems(rt: HostRuntime) {
     for (integer, objective, constrained, wanted) in [
         (2, 1, 1, false),
         (1, 2, 1, false),
         (1, 1, 2, false),
         (1, 1, 1, true),
     ] {
-        same(
-            &rt,
-            fits(rt.alloc(), integer, objective, constrained)?,
-            wanted,
-        );
+        let fit = fits(&rt, rt.alloc(), integer, objective, constrained);
+        same(&rt, fit, wanted);
     }
-    Ok(())
 }
 
 // The parts of the problem whose variables are all the second.
@@ -191,19 +192,17 @@ fn has_its_aim(rt: &impl Abort, found: &Problem) {
 }
 
 #[test]
-fn problems_have_their_parts(rt: HostRuntime) -> Result<(), Fail> {
-    let found = problem_at(rt.alloc(), 1)?;
+fn problems_have_their_parts(rt: HostRuntime) {
+    let found = problem_at(&rt, rt.alloc(), 1);
     has_its_lists(&rt, &found);
     has_its_aim(&rt, &found);
-    Ok(())
 }
 
 #[test]
-fn certificates(rt: HostRuntime) -> Result<(), Fail> {
+fn certificates(rt: HostRuntime) {
     for (solved, derived, wanted) in [(2, 1, false), (1, 2, false), (1, 1, true)] {
-        same(&rt, has_shape(rt.alloc(), solved, derived)?, wanted);
+        same(&rt, has_shape(&rt, rt.alloc(), solved, derived), wanted);
     }
-    Ok(())
 }
 
 fn lengths(found: &Certificate) -> (usize, usize, usize) {
@@ -216,43 +215,38 @@ fn lengths(found: &Certificate) -> (usize, usize, usize) {
 }
 
 #[test]
-fn certificates_have_their_parts(rt: HostRuntime) -> Result<(), Fail> {
-    let found = certificate_by(rt.alloc(), Reason::Asm)?;
+fn certificates_have_their_parts(rt: HostRuntime) {
+    let found = certificate_by(&rt, rt.alloc(), Reason::Asm);
     same(&rt, lengths(&found), (2, 1, 1));
-    Ok(())
 }
 
 // Whether all that the only derivation refers to comes before it.
-fn refers_back(alloc: Global, reason: Reason) -> Result<bool, Fail> {
-    Ok(certificate_by(alloc, reason)?.refers_back())
+fn refers_back(rt: &impl Abort, alloc: Global, reason: Reason) -> bool {
+    certificate_by(rt, alloc, reason).refers_back()
 }
 
-fn sum_refers_back(alloc: Global, index: u32) -> Result<bool, Fail> {
-    let of_sum = Reason::Lin(only(alloc, (index, Frac::one()))?);
-    refers_back(alloc, of_sum)
+fn sum_refers_back(rt: &impl Abort, alloc: Global, index: u32) -> bool {
+    let of_sum = Reason::Lin(only(rt, alloc, (index, Frac::one())));
+    refers_back(rt, alloc, of_sum)
 }
 
-fn united_refers_back(alloc: Global, index: u32) -> Result<bool, Fail> {
+fn united_refers_back(rt: &impl Abort, alloc: Global, index: u32) -> bool {
     let united = Reason::Uns {
         i1: 0,
         l1: 0,
         i2: 0,
         l2: index,
     };
-    refers_back(alloc, united)
+    refers_back(rt, alloc, united)
 }
 
 #[test]
-fn references(rt: HostRuntime) -> Result<(), Fail> {
+fn references(rt: HostRuntime) {
     let alloc = rt.alloc();
-    assert!(rt; refers_back(alloc, Reason::Asm)?);
+    assert!(rt; refers_back(&rt, alloc, Reason::Asm));
     for (index, back) in [(0, true), (1, false)] {
-        same(&rt, (index, sum_refers_back(alloc, index)?), (index, back));
-        same(
-            &rt,
-            (index, united_refers_back(alloc, index)?),
-            (index, back),
-        );
+        let of_sum = sum_refers_back(&rt, alloc, index);
+        let united = united_refers_back(&rt, alloc, index);
+        same(&rt, (index, of_sum, united), (index, back, back));
     }
-    Ok(())
 }

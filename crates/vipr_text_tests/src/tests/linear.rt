@@ -5,7 +5,6 @@ ghost use Rattle.std.specs.Prelude.{◌≡◌, length};
 use super::same;
 use std::alloc::Global;
 use std::process::Abort;
-use std::test::Fail;
 use vipr_frac::Frac;
 use vipr_linear::{
     CombError, Combination, Constraint, Ints, Rounded, Row, RowError, Sense, Solution, covers,
@@ -14,36 +13,42 @@ use vipr_linear::{
 
 const MOST: i128 = i128::MAX;
 
-fn row(alloc: Global, pairs: &[(u32, i128)]) -> Result<Row, Fail> {
+fn frac(rt: &impl Abort, p: i128, q: i128) -> Frac {
+    Frac::new(p, q).expect(rt, "a fraction")
+}
+
+fn row(rt: &impl Abort, alloc: Global, pairs: &[(u32, i128)]) -> Row {
     let mut entries = Vec::new(alloc);
     for (variable, coefficient) in pairs {
-        entries.push((*variable, Frac::new(*coefficient, 1)?))?;
+        let entry = (*variable, frac(rt, *coefficient, 1));
+        entries.push(entry).expect(rt, "entries");
     }
-    Ok(Row::from_pairs(alloc, entries)?)
+    Row::from_pairs(alloc, entries).expect(rt, "a row")
 }
 
 // Variables with their coefficients, the sense and the right-hand side.
 type Parts = (&'static [(u32, i128)], Sense, i128);
 
-fn constraint(alloc: Global, (pairs, sense, rhs): Parts) -> Result<Constraint, Fail> {
-    let rhs = Frac::new(rhs, 1)?;
-    let row = row(alloc, pairs)?;
-    Ok(Constraint { row, sense, rhs })
+fn constraint(rt: &impl Abort, alloc: Global, (pairs, sense, rhs): Parts) -> Constraint {
+    Constraint {
+        row: row(rt, alloc, pairs),
+        sense,
+        rhs: frac(rt, rhs, 1),
+    }
 }
 
 // Adds to a sum over three variables.
 fn add(
+    rt: &impl Abort,
     sum: &mut Combination,
     constraint: &Constraint,
     multiplier: Frac,
-) -> Result<Result<(), CombError>, Fail>
+) -> Result<(), CombError>
     requires { length sum.old.sums ≡ 3 }
     ensures { length sum.new.sums ≡ 3 }
 {
-    if !constraint.row.names_below(3) {
-        return Err("a variable past the third")?;
-    }
-    Ok(sum.add(constraint, multiplier))
+    assert!(rt; constraint.row.names_below(3), "a variable past the third");
+    sum.add(constraint, multiplier)
 }
 
 // Sums over the first variable.
@@ -53,14 +58,13 @@ const ONCE: &[(u32, i128)] = &[(0, 1)];
 
 const TWICE: &[(u32, i128)] = &[(0, 2)];
 
-fn is_absurd(alloc: Global, stated: Parts) -> Result<bool, Fail> {
-    Ok(constraint(alloc, stated)?.is_absurd())
+fn is_absurd(rt: &impl Abort, alloc: Global, stated: Parts) -> bool {
+    constraint(rt, alloc, stated).is_absurd()
 }
 
-fn is_dominated(alloc: Global, by: Parts, other: Parts) -> Result<bool, Fail> {
-    let by = constraint(alloc, by)?;
-    let other = constraint(alloc, other)?;
-    Ok(by.dominates(&other))
+fn is_dominated(rt: &impl Abort, alloc: Global, by: Parts, other: Parts) -> bool {
+    let by = constraint(rt, alloc, by);
+    by.dominates(&constraint(rt, alloc, other))
 }
 
 const DOMINATED: [(Parts, Parts, bool); 5] = [
@@ -72,22 +76,22 @@ const DOMINATED: [(Parts, Parts, bool); 5] = [
 ];
 
 #[test]
-fn dominates(rt: HostRuntime) -> Result<(), Fail> {
+fn dominates(rt: HostRuntime) {
     let alloc = rt.alloc();
-    for (stated, wanted) in [((NONE, Sense::G, 1), true), ((NONE, Sense::E, 0), false)] {
-        same(&rt, is_absurd(alloc, stated)?, wanted);
-    }
+    assert!(rt; is_absurd(&rt, alloc, (NONE, Sense::G, 1)));
+    assert!(rt; !is_absurd(&rt, alloc, (NONE, Sense::E, 0)));
     for (by, other, wanted) in &DOMINATED {
-        same(&rt, is_dominated(alloc, *by, *other)?, *wanted);
+        same(&rt, is_dominated(&rt, alloc, *by, *other), *wanted);
     }
-    Ok(())
 }
 
 // A bound of the first variable: `p` over `q`.
-fn bound(alloc: Global, (sense, p, q): Bound) -> Result<Constraint, Fail> {
-    let rhs = Frac::new(p, q)?;
-    let row = row(alloc, ONCE)?;
-    Ok(Constraint { row, sense, rhs })
+fn bound(rt: &impl Abort, alloc: Global, (sense, p, q): Bound) -> Constraint {
+    Constraint {
+        row: row(rt, alloc, ONCE),
+        sense,
+        rhs: frac(rt, p, q),
+    }
 }
 
 type Bound = (Sense, i128, i128);
@@ -101,23 +105,21 @@ fn at_least(p: i128, q: i128) -> Bound {
 }
 
 // The first variable alone is whole.
-fn first(alloc: Global) -> Result<Ints, Fail> {
-    let indices = vec![in alloc; 0, 0]?;
-    Ok(Ints::from_indices(alloc, indices)?)
+fn first(rt: &impl Abort, alloc: Global) -> Ints {
+    let indices = vec![in alloc; 0, 0].expect(rt, "indices");
+    Ints::from_indices(alloc, indices).expect(rt, "whole variables")
 }
 
 #[test]
-fn whole_variables(rt: HostRuntime) -> Result<(), Fail> {
-    let ints = first(rt.alloc())?;
+fn whole_variables(rt: HostRuntime) {
+    let ints = first(&rt, rt.alloc());
     assert!(rt; ints.contains(0));
     same(&rt, ints.indices(), [0].as_slice());
-    Ok(())
 }
 
-fn splits(alloc: Global, ints: &Ints, left: Bound, right: Bound) -> Result<bool, Fail> {
-    let left = bound(alloc, left)?;
-    let right = bound(alloc, right)?;
-    Ok(is_split(&left, &right, ints))
+fn splits(rt: &impl Abort, alloc: Global, ints: &Ints, left: Bound, right: Bound) -> bool {
+    let left = bound(rt, alloc, left);
+    is_split(&left, &bound(rt, alloc, right), ints)
 }
 
 const SPLIT: [(Bound, Bound, bool); 4] = [
@@ -128,18 +130,17 @@ const SPLIT: [(Bound, Bound, bool); 4] = [
 ];
 
 #[test]
-fn split(rt: HostRuntime) -> Result<(), Fail> {
-    let ints = first(rt.alloc())?;
+fn split(rt: HostRuntime) {
+    let ints = first(&rt, rt.alloc());
     for (left, right, wanted) in &SPLIT {
-        same(&rt, splits(rt.alloc(), &ints, *left, *right)?, *wanted);
+        let found = splits(&rt, rt.alloc(), &ints, *left, *right);
+        same(&rt, found, *wanted);
     }
-    Ok(())
 }
 
-fn covers_with(alloc: Global, ints: &Ints, left: Bound, right: Bound) -> Result<bool, Fail> {
-    let left = bound(alloc, left)?;
-    let right = bound(alloc, right)?;
-    Ok(covers(&left, &right, ints))
+fn covers_with(rt: &impl Abort, alloc: Global, ints: &Ints, left: Bound, right: Bound) -> bool {
+    let left = bound(rt, alloc, left);
+    covers(&left, &bound(rt, alloc, right), ints)
 }
 
 const COVERED: [(Bound, Bound, bool); 10] = [
@@ -156,31 +157,29 @@ const COVERED: [(Bound, Bound, bool); 10] = [
 ];
 
 #[test]
-fn covered(rt: HostRuntime) -> Result<(), Fail> {
-    let ints = first(rt.alloc())?;
+fn covered(rt: HostRuntime) {
+    let ints = first(&rt, rt.alloc());
     for (left, right, wanted) in &COVERED {
-        same(&rt, covers_with(rt.alloc(), &ints, *left, *right)?, *wanted);
+        let found = covers_with(&rt, rt.alloc(), &ints, *left, *right);
+        same(&rt, found, *wanted);
     }
-    Ok(())
 }
 
 #[test]
-fn not_covered_unless_whole(rt: HostRuntime) -> Result<(), Fail> {
+fn not_covered_unless_whole(rt: HostRuntime) {
     let alloc = rt.alloc();
-    let none = Ints::from_indices(alloc, Vec::new(alloc))?;
-    assert!(rt; !covers_with(alloc, &none, at_most(1, 1), at_least(0, 1))?);
-    Ok(())
+    let none = Ints::from_indices(alloc, Vec::new(alloc)).expect(&rt, "no whole variables");
+    assert!(rt; !covers_with(&rt, alloc, &none, at_most(1, 1), at_least(0, 1)));
 }
 
-fn is_whole(alloc: Global, pairs: &[(u32, i128)]) -> Result<bool, Fail> {
-    let ints = first(alloc)?;
-    Ok(is_whole_row(&row(alloc, pairs)?, &ints))
+fn is_whole(rt: &impl Abort, alloc: Global, pairs: &[(u32, i128)]) -> bool {
+    let ints = first(rt, alloc);
+    is_whole_row(&row(rt, alloc, pairs), &ints)
 }
 
-fn dominates_rounded(alloc: Global, by: Bound, other: Bound) -> Result<bool, Fail> {
-    let by = bound(alloc, by)?;
-    let other = bound(alloc, other)?;
-    Ok(by.dominates_rounded(&other))
+fn dominates_rounded(rt: &impl Abort, alloc: Global, by: Bound, other: Bound) -> bool {
+    let by = bound(rt, alloc, by);
+    by.dominates_rounded(&bound(rt, alloc, other))
 }
 
 const ROUNDED: [(Bound, Bound, bool); 3] = [
@@ -190,59 +189,53 @@ const ROUNDED: [(Bound, Bound, bool); 3] = [
 ];
 
 #[test]
-fn rounded(rt: HostRuntime) -> Result<(), Fail> {
+fn rounded(rt: HostRuntime) {
     let alloc = rt.alloc();
-    for (variable, wanted) in [(0, true), (1, false)] {
-        same(&rt, is_whole(alloc, &[(variable, 1)])?, wanted);
-    }
+    assert!(rt; is_whole(&rt, alloc, &[(0, 1)]));
+    assert!(rt; !is_whole(&rt, alloc, &[(1, 1)]));
     for (by, other, wanted) in &ROUNDED {
-        same(&rt, dominates_rounded(alloc, *by, *other)?, *wanted);
+        same(&rt, dominates_rounded(&rt, alloc, *by, *other), *wanted);
     }
-    Ok(())
 }
 
 #[test]
-fn rows(rt: HostRuntime) -> Result<(), Fail> {
-    let alloc = rt.alloc();
+fn rows(rt: HostRuntime) {
     let one = Frac::one();
-    let sorted = row(alloc, &[(7, 1), (2, 0), (3, 1)])?;
+    let sorted = row(&rt, rt.alloc(), &[(7, 1), (2, 0), (3, 1)]);
     same(&rt, sorted.entries(), [(3, one), (7, one)].as_slice());
-    Ok(())
 }
 
 #[test]
-fn repeated(rt: HostRuntime) -> Result<(), Fail> {
+fn repeated(rt: HostRuntime) {
     let alloc = rt.alloc();
     let one = Frac::one();
-    let pairs = vec![in alloc; (4, one), (1, one), (4, Frac::zero()), (1, one)]?;
-    same(
-        &rt,
-        Row::from_pairs(alloc, pairs).err(),
-        Some(RowError::Repeated(4)),
-    );
-    Ok(())
+    let pairs = [(4, one), (1, one), (4, Frac::zero()), (1, one)];
+    let pairs = Vec::from_array(alloc, pairs).expect(&rt, "pairs");
+    let error = Row::from_pairs(alloc, pairs).err();
+    same(&rt, error, Some(RowError::Repeated(4)));
 }
 
 fn add_multiple(
+    rt: &impl Abort,
     alloc: Global,
     sum: &mut Combination,
     stated: Parts,
     multiplier: Frac,
-) -> Result<(), Fail>
+)
     requires { length sum.old.sums ≡ 3 }
     ensures { length sum.new.sums ≡ 3 }
 {
-    let added = add(sum, &constraint(alloc, stated)?, multiplier)?;
-    Ok(added?)
+    let added = add(rt, sum, &constraint(rt, alloc, stated), multiplier);
+    added.expect(rt, "a sum");
 }
 
 // The third variable is at least 1/2, as a sum of two constraints.
-fn at_least_half(alloc: Global) -> Result<Constraint, Fail> {
-    let half = Frac::new(1, 2)?;
-    let mut sum = Combination::new(alloc, 3)?;
-    add_multiple(alloc, &mut sum, (&[(2, 2), (0, 4)], Sense::G, 3), half)?;
-    add_multiple(alloc, &mut sum, (TWICE, Sense::L, 1), Frac::one().neg())?;
-    Ok(sum.finish(alloc)?)
+fn at_least_half(rt: &impl Abort, alloc: Global) -> Constraint {
+    let mut sum = Combination::new(alloc, 3).expect(rt, "a sum");
+    let stated: Parts = (&[(2, 2), (0, 4)], Sense::G, 3);
+    add_multiple(rt, alloc, &mut sum, stated, frac(rt, 1, 2));
+    add_multiple(rt, alloc, &mut sum, (TWICE, Sense::L, 1), Frac::one().neg());
+    sum.finish(alloc).expect(rt, "a sum")
 }
 
 fn is_at_least_half(rt: &impl Abort, found: &Constraint, half: Frac) {
@@ -252,40 +245,42 @@ fn is_at_least_half(rt: &impl Abort, found: &Constraint, half: Frac) {
 }
 
 #[test]
-fn sums(rt: HostRuntime) -> Result<(), Fail> {
-    let half = Frac::new(1, 2)?;
-    let found = at_least_half(rt.alloc())?;
-    is_at_least_half(&rt, &found, half);
-    Ok(())
+fn sums(rt: HostRuntime) {
+    let found = at_least_half(&rt, rt.alloc());
+    is_at_least_half(&rt, &found, frac(&rt, 1, 2));
 }
 
 // What a constraint is at a solution.
-fn at(found: &Constraint, solution: &Solution) -> Result<(Frac, bool), Fail> {
-    Ok((value_at(&found.row, solution)?, holds_at(found, solution)?))
+fn at(rt: &impl Abort, found: &Constraint, solution: &Solution) -> (Frac, bool) {
+    let value = value_at(&found.row, solution).expect(rt, "a value");
+    (value, holds_at(found, solution).expect(rt, "a value"))
 }
 
 #[test]
-fn values_of_sums(rt: HostRuntime) -> Result<(), Fail> {
-    let five = Frac::new(5, 1)?;
-    let found = at_least_half(rt.alloc())?;
-    let solution = Solution(row(rt.alloc(), &[(2, 5)])?);
-    same(&rt, at(&found, &solution)?, (five, true));
-    Ok(())
+fn values_of_sums(rt: HostRuntime) {
+    let found = at_least_half(&rt, rt.alloc());
+    let solution = Solution(row(&rt, rt.alloc(), &[(2, 5)]));
+    same(&rt, at(&rt, &found, &solution), (frac(&rt, 5, 1), true));
 }
 
-fn rounded_side(alloc: Global, found: Constraint) -> Result<Frac, Fail> {
-    let ints = Ints::from_indices(alloc, vec![in alloc; 2]?)?;
-    match found.round(&ints) {
-        Ok(Rounded::Row(rounded)) => Ok(rounded.rhs),
-        _ => Err(Fail::new("not rounded")),
+fn side(rounded: Rounded) -> Option<Frac> {
+    match rounded {
+        Rounded::Row(rounded) => Some(rounded.rhs),
+        _ => None,
     }
 }
 
+fn rounded_side(rt: &impl Abort, alloc: Global, found: Constraint) -> Option<Frac> {
+    let third = vec![in alloc; 2].expect(rt, "indices");
+    let ints = Ints::from_indices(alloc, third).expect(rt, "whole variables");
+    side(found.round(&ints).expect(rt, "a rounded one"))
+}
+
 #[test]
-fn sums_are_rounded(rt: HostRuntime) -> Result<(), Fail> {
-    let found = at_least_half(rt.alloc())?;
-    same(&rt, rounded_side(rt.alloc(), found)?, Frac::one());
-    Ok(())
+fn sums_are_rounded(rt: HostRuntime) {
+    let found = at_least_half(&rt, rt.alloc());
+    let side = rounded_side(&rt, rt.alloc(), found);
+    same(&rt, side, Some(Frac::one()));
 }
 
 // Adds a bound, and compares the answer.
@@ -295,27 +290,26 @@ fn adds(
     sum: &mut Combination,
     term: (Bound, Frac),
     wanted: Result<(), CombError>,
-) -> Result<(), Fail>
+)
     requires { length sum.old.sums ≡ 3 }
     ensures { length sum.new.sums ≡ 3 }
 {
     let (given, multiplier) = term;
-    let added = add(sum, &bound(alloc, given)?, multiplier)?;
+    let added = add(rt, sum, &bound(rt, alloc, given), multiplier);
     same(rt, added, wanted);
-    Ok(())
 }
 
 #[test]
-fn mixed_signs(rt: HostRuntime) -> Result<(), Fail> {
+fn mixed_signs(rt: HostRuntime) {
     let alloc = rt.alloc();
     let one = Frac::one();
-    let mut sum = Combination::new(alloc, 3)?;
-    adds(&rt, alloc, &mut sum, (at_most(0, 1), one), Ok(()))?;
+    let mut sum = Combination::new(alloc, 3).expect(&rt, "a sum");
+    adds(&rt, alloc, &mut sum, (at_most(0, 1), one), Ok(()));
     let mixed = Err(CombError::MixedSigns);
-    adds(&rt, alloc, &mut sum, (at_least(1, 1), one), mixed)?;
+    adds(&rt, alloc, &mut sum, (at_least(1, 1), one), mixed);
     let spent = Err(CombError::Spent);
-    adds(&rt, alloc, &mut sum, (at_least(1, 1), Frac::zero()), spent)?;
+    adds(&rt, alloc, &mut sum, (at_least(1, 1), Frac::zero()), spent);
     sum.clear();
-    assert!(rt; sum.finish(alloc)?.row.is_empty());
-    Ok(())
+    let empty = sum.finish(alloc).expect(&rt, "no sum");
+    assert!(rt; empty.row.is_empty());
 }

@@ -2,10 +2,9 @@
 ghost use Rattle.std.specs.Prelude.{ℕ, Ok, length};
 
 use super::same;
-use std::alloc::{AllocError, Global};
+use std::alloc::Global;
 use std::io::{self, Read};
 use std::process::Abort;
-use std::test::Fail;
 use vipr_bytes::{Bytes, FromRead, Source};
 use vipr_scan::{Scanner, Stop, TextError, TokenKind, Tokens, Unfit, cause};
 
@@ -28,24 +27,19 @@ impl Read for Halting<'_> {
 }
 
 /// Asks for a token, and compares its bytes and its offset.
-fn gives<R: Source>(
-    rt: &impl Abort,
-    tokens: &mut Tokens<R>,
-    wanted: Option<(&[u8], u64)>,
-) -> Result<(), TextError> {
-    let token = tokens.next()?;
+fn gives<R: Source>(rt: &impl Abort, tokens: &mut Tokens<R>, wanted: Option<(&[u8], u64)>) {
+    let token = tokens.next().expect(rt, "a token");
     same(rt, token.map(|token| (token.bytes, token.offset)), wanted);
-    Ok(())
 }
 
 #[test]
-fn tokens_come_with_their_offsets(rt: HostRuntime) -> Result<(), Fail> {
-    let mut tokens = Tokens::new(rt.alloc(), Bytes::new(b"% no token\n ab\tc"))?;
-    gives(&rt, &mut tokens, Some((b"ab", 12)))?;
-    gives(&rt, &mut tokens, Some((b"c", 15)))?;
-    gives(&rt, &mut tokens, None)?;
-    gives(&rt, &mut tokens, None)?;
-    Ok(())
+fn tokens_come_with_their_offsets(rt: HostRuntime) {
+    let text = Bytes::new(b"% no token\n ab\tc");
+    let mut tokens = Tokens::new(rt.alloc(), text).expect(&rt, "tokens");
+    gives(&rt, &mut tokens, Some((b"ab", 12)));
+    gives(&rt, &mut tokens, Some((b"c", 15)));
+    gives(&rt, &mut tokens, None);
+    gives(&rt, &mut tokens, None);
 }
 
 /// Asks for a token, and compares the error.
@@ -54,43 +48,33 @@ fn fails<R: Source>(rt: &impl Abort, tokens: &mut Tokens<R>, wanted: TextError) 
 }
 
 #[test]
-fn a_token_before_a_failed_read_is_not_given(rt: HostRuntime) -> Result<(), Fail> {
+fn a_token_before_a_failed_read_is_not_given(rt: HostRuntime) {
     let source = FromRead::new(Halting {
         text: b"ab cd",
         reads_left: 2,
     });
-    let mut tokens = Tokens::new(rt.alloc(), source)?;
-    gives(&rt, &mut tokens, Some((b"ab", 0)))?;
+    let mut tokens = Tokens::new(rt.alloc(), source).expect(&rt, "tokens");
+    gives(&rt, &mut tokens, Some((b"ab", 0)));
     fails(&rt, &mut tokens, TextError::Read);
     fails(&rt, &mut tokens, TextError::Spent);
-    Ok(())
 }
 
 /// Asks for a token, and compares its length and whether it is cut.
-fn has_length<R: Source>(
-    rt: &impl Abort,
-    tokens: &mut Tokens<R>,
-    wanted: (usize, bool),
-) -> Result<(), TextError> {
-    let token = tokens.next()?;
-    same(
-        rt,
-        token.map(|token| (token.bytes.len(), token.long)),
-        Some(wanted),
-    );
-    Ok(())
+fn has_length<R: Source>(rt: &impl Abort, tokens: &mut Tokens<R>, wanted: (usize, bool)) {
+    let token = tokens.next().expect(rt, "a token");
+    let token = token.expect(rt, "no end");
+    same(rt, (token.bytes.len(), token.long), wanted);
 }
 
 #[test]
-fn a_token_of_65536_bytes_is_too_long(rt: HostRuntime) -> Result<(), Fail> {
+fn a_token_of_65536_bytes_is_too_long(rt: HostRuntime) {
     let text = [b'a'; 65536];
-    let mut tokens = Tokens::new(rt.alloc(), Bytes::new(&text))?;
-    has_length(&rt, &mut tokens, (65535, true))?;
+    let mut tokens = Tokens::new(rt.alloc(), Bytes::new(&text)).expect(&rt, "tokens");
+    has_length(&rt, &mut tokens, (65535, true));
     fails(&rt, &mut tokens, TextError::Spent);
     drop(tokens);
-    let mut shorter = Tokens::new(rt.alloc(), Bytes::new(&text[1..]))?;
-    has_length(&rt, &mut shorter, (65535, false))?;
-    Ok(())
+    let mut shorter = Tokens::new(rt.alloc(), Bytes::new(&text[1..])).expect(&rt, "tokens");
+    has_length(&rt, &mut shorter, (65535, false));
 }
 
 /// Any bytes.
@@ -110,27 +94,24 @@ impl TokenKind for Any {
     }
 }
 
-fn is_refused(rt: &impl Abort, alloc: Global, text: &[u8], wanted: Stop) -> Result<(), AllocError> {
-    let mut scanner = Scanner::new(alloc, Bytes::new(text))?;
+fn is_refused(rt: &impl Abort, alloc: Global, text: &[u8], wanted: Stop) {
+    let mut scanner = Scanner::new(alloc, Bytes::new(text)).expect(rt, "a scanner");
     same(rt, scanner.take(&Any).err(), Some(wanted));
-    Ok(())
 }
 
-fn is_taken(rt: &impl Abort, alloc: Global, text: &[u8], wanted: usize) -> Result<(), AllocError> {
-    let mut scanner = Scanner::new(alloc, Bytes::new(text))?;
+fn is_taken(rt: &impl Abort, alloc: Global, text: &[u8], wanted: usize) {
+    let mut scanner = Scanner::new(alloc, Bytes::new(text)).expect(rt, "a scanner");
     same(rt, scanner.take(&Any), Ok(wanted));
     same(rt, scanner.end(), Ok(()));
-    Ok(())
 }
 
 #[test]
-fn a_token_of_65536_bytes_is_refused(rt: HostRuntime) -> Result<(), Fail> {
+fn a_token_of_65536_bytes_is_refused(rt: HostRuntime) {
     let text = [b'a'; 65536];
     let refused = Stop::Refused {
         cause: cause::TOKEN_TOO_LONG,
         offset: 0,
     };
-    is_refused(&rt, rt.alloc(), &text, refused)?;
-    is_taken(&rt, rt.alloc(), &text[1..], 65535)?;
-    Ok(())
+    is_refused(&rt, rt.alloc(), &text, refused);
+    is_taken(&rt, rt.alloc(), &text[1..], 65535);
 }

@@ -1,9 +1,8 @@
 //! A certificate with each kind of line, byte by byte, and writers that take little.
 use super::same;
 use bstr::BString;
-use std::alloc::{AllocError, Global};
+use std::alloc::Global;
 use std::process::Abort;
-use std::test::Fail;
 use vipr_bytes::{Failed, FromWrite, Sink};
 use vipr_cert::{Certificate, Claim, Derivation, Goal, Name, Named, Problem, Reason};
 use vipr_frac::Frac;
@@ -44,8 +43,13 @@ SOL 0
 DER 0
 ";
 
-fn name(alloc: Global, bytes: &[u8]) -> Result<Name, Fail> {
-    Ok(Name::new(BString::from_slice(alloc, bytes)?)?)
+fn name(rt: &impl Abort, alloc: Global, bytes: &[u8]) -> Name {
+    let bytes = BString::from_slice(alloc, bytes).expect(rt, "bytes");
+    Name::new(bytes).expect(rt, "a name")
+}
+
+fn frac(rt: &impl Abort, p: i128, q: i128) -> Frac {
+    Frac::new(p, q).expect(rt, "a fraction")
 }
 
 type Entries = &'static [(u32, i128, i128)];
@@ -56,160 +60,153 @@ const SECOND: Entries = &[(1, 1, 1)];
 
 const BOTH: Entries = &[(1, -3, 1), (0, 2, 4)];
 
-fn row(alloc: Global, entries: Entries) -> Result<Row, Fail> {
+fn pairs(rt: &impl Abort, alloc: Global, entries: Entries) -> Vec<(u32, Frac)> {
     let mut pairs = Vec::new(alloc);
     for (variable, p, q) in entries {
-        pairs.push((*variable, Frac::new(*p, *q)?))?;
+        pairs
+            .push((*variable, frac(rt, *p, *q)))
+            .expect(rt, "pairs");
     }
-    Ok(Row::from_pairs(alloc, pairs)?)
+    pairs
+}
+
+fn row(rt: &impl Abort, alloc: Global, entries: Entries) -> Row {
+    Row::from_pairs(alloc, pairs(rt, alloc, entries)).expect(rt, "a row")
 }
 
 /// A constraint: its entries, its sense, and its right-hand side.
 type Stated = (Entries, Sense, i128, i128);
 
-fn constraint(alloc: Global, (entries, sense, p, q): Stated) -> Result<Constraint, Fail> {
-    let rhs = Frac::new(p, q)?;
-    let row = row(alloc, entries)?;
-    Ok(Constraint { row, sense, rhs })
-}
-
-fn named<T: Drop>(alloc: Global, bytes: &[u8], item: T) -> Result<Named<T>, Fail> {
-    let name = name(alloc, bytes)?;
-    Ok(Named { name, item })
-}
-
-fn names(alloc: Global) -> Result<Vec<Name>, Fail> {
-    let mut names = Vec::new(alloc);
-    for bytes in [b"x".as_slice(), b"y".as_slice()] {
-        names.push(name(alloc, bytes)?)?;
+fn constraint(rt: &impl Abort, alloc: Global, (entries, sense, p, q): Stated) -> Constraint {
+    Constraint {
+        row: row(rt, alloc, entries),
+        sense,
+        rhs: frac(rt, p, q),
     }
-    Ok(names)
 }
 
-fn constraints(alloc: Global) -> Result<Vec<Named<Constraint>>, Fail> {
-    let mut cons = Vec::new(alloc);
-    for (name, stated) in [
-        (b"a".as_slice(), (NONE, Sense::G, -1, 3)),
-        (b"b".as_slice(), (BOTH, Sense::E, 0, 1)),
-    ] {
-        cons.push(named(alloc, name, constraint(alloc, stated)?)?)?;
+fn named<T: Drop>(rt: &impl Abort, alloc: Global, bytes: &[u8], item: T) -> Named<T> {
+    Named {
+        name: name(rt, alloc, bytes),
+        item,
     }
-    Ok(cons)
 }
 
-fn second_is_whole(alloc: Global) -> Result<Ints, Fail> {
-    let mut indices = Vec::new(alloc);
-    for index in [1, 1] {
-        indices.push(index)?;
-    }
-    Ok(Ints::from_indices(alloc, indices)?)
+fn list<T: Drop, const N: usize>(rt: &impl Abort, alloc: Global, items: [T; N]) -> Vec<T> {
+    Vec::from_array(alloc, items).expect(rt, "a list")
 }
 
-fn problem(alloc: Global) -> Result<Problem, Fail> {
-    let claim = Claim::Range(None, Some(Frac::new(7, 2)?));
-    let ints = second_is_whole(alloc)?;
-    let objective = row(alloc, BOTH)?;
-    let names = names(alloc)?;
-    let cons = constraints(alloc)?;
-    Ok(Problem::new(names, ints, Goal::Max, objective, cons, 1, claim)?)
+fn names(rt: &impl Abort, alloc: Global) -> Vec<Name> {
+    list(rt, alloc, [name(rt, alloc, b"x"), name(rt, alloc, b"y")])
 }
 
-fn solutions(alloc: Global) -> Result<Vec<Named<Solution>>, Fail> {
-    let mut solutions = Vec::new(alloc);
-    for (name, entries) in [(b"s".as_slice(), SECOND), (b"t".as_slice(), NONE)] {
-        solutions.push(named(alloc, name, Solution(row(alloc, entries)?))?)?;
-    }
-    Ok(solutions)
+fn stated(rt: &impl Abort, alloc: Global, name: &[u8], stated: Stated) -> Named<Constraint> {
+    named(rt, alloc, name, constraint(rt, alloc, stated))
+}
+
+fn constraints(rt: &impl Abort, alloc: Global) -> Vec<Named<Constraint>> {
+    let first = stated(rt, alloc, b"a", (NONE, Sense::G, -1, 3));
+    let second = stated(rt, alloc, b"b", (BOTH, Sense::E, 0, 1));
+    list(rt, alloc, [first, second])
+}
+
+fn second_is_whole(rt: &impl Abort, alloc: Global) -> Ints {
+    Ints::from_indices(alloc, list(rt, alloc, [1, 1])).expect(rt, "indices")
+}
+
+fn problem(rt: &impl Abort, alloc: Global) -> Problem {
+    let claim = Claim::Range(None, Some(frac(rt, 7, 2)));
+    let ints = second_is_whole(rt, alloc);
+    let objective = row(rt, alloc, BOTH);
+    let names = names(rt, alloc);
+    let cons = constraints(rt, alloc);
+    let problem = Problem::new(names, ints, Goal::Max, objective, cons, 1, claim);
+    problem.expect(rt, "a problem")
+}
+
+fn solution(rt: &impl Abort, alloc: Global, name: &[u8], entries: Entries) -> Named<Solution> {
+    named(rt, alloc, name, Solution(row(rt, alloc, entries)))
+}
+
+fn solutions(rt: &impl Abort, alloc: Global) -> Vec<Named<Solution>> {
+    let first = solution(rt, alloc, b"s", SECOND);
+    list(rt, alloc, [first, solution(rt, alloc, b"t", NONE)])
 }
 
 fn derivation(
+    rt: &impl Abort,
     alloc: Global,
     bytes: &[u8],
     stated: Stated,
     reason: Reason,
     last: Option<u32>,
-) -> Result<Derivation, Fail> {
-    let name = name(alloc, bytes)?;
-    let constraint = constraint(alloc, stated)?;
-    Ok(Derivation {
-        name,
-        constraint,
+) -> Derivation {
+    Derivation {
+        name: name(rt, alloc, bytes),
+        constraint: constraint(rt, alloc, stated),
         reason,
         last,
-    })
-}
-
-fn lin(alloc: Global) -> Result<Reason, Fail> {
-    let mut sum = Vec::new(alloc);
-    for (index, p, q) in [(0, 0, 1), (1, -5, 10)] {
-        sum.push((index, Frac::new(p, q)?))?;
     }
-    Ok(Reason::Lin(sum))
 }
 
-fn assumed(alloc: Global) -> Result<Derivation, Fail> {
+fn assumed(rt: &impl Abort, alloc: Global) -> Derivation {
     let stated = (SECOND, Sense::L, 12, 1);
-    derivation(alloc, b"c", stated, Reason::Asm, Some(6))
+    derivation(rt, alloc, b"c", stated, Reason::Asm, Some(6))
 }
 
-fn summed(alloc: Global) -> Result<Derivation, Fail> {
-    let stated = (SECOND, Sense::G, 13, 1);
-    derivation(alloc, b"d", stated, lin(alloc)?, None)
+fn summed(rt: &impl Abort, alloc: Global) -> Derivation {
+    let sum = Reason::Lin(pairs(rt, alloc, &[(0, 0, 1), (1, -5, 10)]));
+    derivation(rt, alloc, b"d", (SECOND, Sense::G, 13, 1), sum, None)
 }
 
-fn rounded(alloc: Global) -> Result<Derivation, Fail> {
+fn rounded(rt: &impl Abort, alloc: Global) -> Derivation {
     let reason = Reason::Rnd(Vec::new(alloc));
-    derivation(alloc, b"e", (NONE, Sense::L, 0, 1), reason, None)
+    derivation(rt, alloc, b"e", (NONE, Sense::L, 0, 1), reason, None)
 }
 
-fn united(alloc: Global) -> Result<Derivation, Fail> {
+fn united(rt: &impl Abort, alloc: Global) -> Derivation {
     let reason = Reason::Uns {
         i1: 4,
         l1: 2,
         i2: 5,
         l2: 3,
     };
-    derivation(alloc, b"f", (NONE, Sense::L, 0, 1), reason, None)
+    derivation(rt, alloc, b"f", (NONE, Sense::L, 0, 1), reason, None)
 }
 
-fn cut_off(alloc: Global) -> Result<Derivation, Fail> {
+fn cut_off(rt: &impl Abort, alloc: Global) -> Derivation {
     let stated = (NONE, Sense::E, 0, 1);
-    derivation(alloc, b"g", stated, Reason::Sol, None)
+    derivation(rt, alloc, b"g", stated, Reason::Sol, None)
 }
 
-fn derivations(alloc: Global) -> Result<Vec<Derivation>, Fail> {
-    let mut derivations = Vec::new(alloc);
-    derivations.push(assumed(alloc)?)?;
-    derivations.push(summed(alloc)?)?;
-    derivations.push(rounded(alloc)?)?;
-    derivations.push(united(alloc)?)?;
-    derivations.push(cut_off(alloc)?)?;
-    Ok(derivations)
+fn derivations(rt: &impl Abort, alloc: Global) -> Vec<Derivation> {
+    let assumed = assumed(rt, alloc);
+    let summed = summed(rt, alloc);
+    let rounded = rounded(rt, alloc);
+    let united = united(rt, alloc);
+    let cut_off = cut_off(rt, alloc);
+    list(rt, alloc, [assumed, summed, rounded, united, cut_off])
 }
 
-fn certificate(alloc: Global) -> Result<Certificate, Fail> {
-    let solutions = solutions(alloc)?;
-    let derivations = derivations(alloc)?;
-    let problem = problem(alloc)?;
-    Ok(Certificate::new(problem, solutions, derivations)?)
+fn certificate(rt: &impl Abort, alloc: Global) -> Certificate {
+    let solutions = solutions(rt, alloc);
+    let derivations = derivations(rt, alloc);
+    let problem = problem(rt, alloc);
+    Certificate::new(problem, solutions, derivations).expect(rt, "a certificate")
 }
 
-fn empty_problem(alloc: Global) -> Result<Problem, Fail> {
-    let ints = Ints::from_indices(alloc, Vec::new(alloc))?;
-    let objective = row(alloc, NONE)?;
-    Ok(Problem::new(
-        Vec::new(alloc),
-        ints,
-        Goal::Min,
-        objective,
-        Vec::new(alloc),
-        0,
-        Claim::Infeas,
-    )?)
+fn empty_problem(rt: &impl Abort, alloc: Global) -> Problem {
+    let ints = Ints::from_indices(alloc, Vec::new(alloc)).expect(rt, "indices");
+    let objective = row(rt, alloc, NONE);
+    let (names, cons) = (Vec::new(alloc), Vec::new(alloc));
+    let problem = Problem::new(names, ints, Goal::Min, objective, cons, 0, Claim::Infeas);
+    problem.expect(rt, "a problem")
 }
 
-fn empty(alloc: Global) -> Result<Certificate, Fail> {
-    Ok(Certificate::new(empty_problem(alloc)?, Vec::new(alloc), Vec::new(alloc))?)
+fn empty(rt: &impl Abort, alloc: Global) -> Certificate {
+    let problem = empty_problem(rt, alloc);
+    let empty = Certificate::new(problem, Vec::new(alloc), Vec::new(alloc));
+    empty.expect(rt, "a certificate")
 }
 
 /// Takes one byte a call, and fails or takes none at a chosen call.
@@ -264,53 +261,38 @@ fn write_into(rt: &impl Abort, alloc: Global, certificate: &Certificate, bytes: 
 }
 
 // What is written for a certificate is that text.
-fn is_written(
-    rt: &impl Abort,
-    alloc: Global,
-    certificate: &Certificate,
-    text: &[u8],
-) -> Result<(), AllocError> {
+fn is_written(rt: &impl Abort, alloc: Global, certificate: &Certificate, text: &[u8]) {
     // the writer has its room before
-    let mut bytes = Vec::with_capacity(alloc, 4096)?;
+    let mut bytes = Vec::with_capacity(alloc, 4096).expect(rt, "room");
     write_into(rt, alloc, certificate, &mut bytes);
     same(rt, bytes.as_slice(), text);
-    Ok(())
-}
-
-fn short_is_written(rt: &impl Abort, alloc: Global) -> Result<(), Fail> {
-    let certificate = empty(alloc)?;
-    is_written(rt, alloc, &certificate, SHORT)?;
-    Ok(())
 }
 
 #[test]
-fn each_kind_of_line(rt: HostRuntime) -> Result<(), Fail> {
-    short_is_written(&rt, rt.alloc())?;
-    let certificate = certificate(rt.alloc())?;
-    is_written(&rt, rt.alloc(), &certificate, TEXT)?;
-    Ok(())
+fn each_kind_of_line(rt: HostRuntime) {
+    let alloc = rt.alloc();
+    is_written(&rt, alloc, &empty(&rt, alloc), SHORT);
+    is_written(&rt, alloc, &certificate(&rt, alloc), TEXT);
 }
 
 /// The text of a certificate with two solutions and five derivations, item by item.
-fn grown(alloc: Global, certificate: &Certificate) -> Result<Vec<u8>, AllocError> {
-    let mut text = GrowingText::new(alloc, certificate.problem(), 2)?;
+fn grown(rt: &impl Abort, alloc: Global, certificate: &Certificate) -> Vec<u8> {
+    let mut text = GrowingText::new(alloc, certificate.problem(), 2).expect(rt, "the problem");
     for solution in certificate.solutions() {
-        text = text.solution(solution)?;
+        text = text.solution(solution).expect(rt, "a solution");
     }
-    text = text.derivation_count(5)?;
+    text = text.derivation_count(5).expect(rt, "a count");
     for derivation in certificate.derivations() {
-        text = text.derivation(derivation)?;
+        text = text.derivation(derivation).expect(rt, "a derivation");
     }
-    Ok(text.into_bytes())
+    text.into_bytes()
 }
 
 #[test]
-fn item_by_item(rt: HostRuntime) -> Result<(), Fail> {
-    let certificate = certificate(rt.alloc())?;
-    let text = grown(rt.alloc(), &certificate)?;
-    drop(certificate);
+fn item_by_item(rt: HostRuntime) {
+    let certificate = certificate(&rt, rt.alloc());
+    let text = grown(&rt, rt.alloc(), &certificate);
     same(&rt, text.as_slice(), TEXT);
-    Ok(())
 }
 
 /// Writes a certificate to a sink, and compares the answer, what was taken, and the calls.
@@ -327,12 +309,11 @@ fn takes(
 }
 
 #[test]
-fn one_byte_a_call(rt: HostRuntime) -> Result<(), Fail> {
-    let certificate = certificate(rt.alloc())?;
+fn one_byte_a_call(rt: HostRuntime) {
+    let certificate = certificate(&rt, rt.alloc());
     let mut sink = OneByOne::new(0, false);
     let wanted = (Ok(()), TEXT, TEXT.len());
     takes(&rt, rt.alloc(), &certificate, &mut sink, wanted);
-    Ok(())
 }
 
 /// The call behind these bytes is the last.
@@ -358,13 +339,12 @@ fn stops_behind(
 }
 
 #[test]
-fn each_call_the_last(rt: HostRuntime) -> Result<(), Fail> {
-    let certificate = certificate(rt.alloc())?;
+fn each_call_the_last(rt: HostRuntime) {
+    let certificate = certificate(&rt, rt.alloc());
     for before in 0..TEXT.len() {
         let (front, _) = TEXT.split_at(before);
         for fails in [false, true] {
             stops_behind(&rt, rt.alloc(), &certificate, front, fails);
         }
     }
-    Ok(())
 }
