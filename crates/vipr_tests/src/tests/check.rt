@@ -10,7 +10,6 @@ use super::same;
 use std::alloc::Global;
 use std::cell::Cell;
 use std::process::Abort;
-use std::test::Fail;
 use vipr_bytes::{Bytes, Failed, Source};
 use vipr_cert::Problem;
 use vipr_check::{
@@ -107,10 +106,18 @@ fn answered<R: Source + Drop>(alloc: Global, source: R) -> Result<Option<Refusal
 }
 
 /// The peak of a proof, and its goal.
-fn reported<S: Rows>(alloc: Global, text: &[u8]) -> Result<(usize, Option<u32>), Fail> {
-    let verdict = check_with::<Bytes, S>(alloc, Bytes::new(text))?;
-    let report = report_of(verdict).ok_or("it is a proof")?;
-    Ok((report.peak, report.goal))
+fn reported<S: Rows>(rt: &impl Abort, alloc: Global, text: &[u8]) -> (usize, Option<u32>) {
+    let verdict = check_with::<Bytes, S>(alloc, Bytes::new(text)).expect(rt, "a verdict");
+    let report = report_of(verdict).expect(rt, "a proof");
+    (report.peak, report.goal)
+}
+
+/// Of a proof the solutions, what is derived and the peak, and its goal.
+fn figures(rt: &impl Abort, alloc: Global, text: &[u8]) -> ((u32, u32, usize), Option<u32>) {
+    let verdict = check(alloc, Bytes::new(text)).expect(rt, "a verdict");
+    let report = report_of(verdict).expect(rt, "a proof");
+    let counts = (report.solutions, report.derived, report.peak);
+    (counts, report.goal)
 }
 
 fn at(cause: u8, place: Place) -> Option<Refusal> {
@@ -118,34 +125,25 @@ fn at(cause: u8, place: Place) -> Option<Refusal> {
 }
 
 #[test]
-fn proofs_are_verified(rt: HostRuntime) -> Result<(), Fail> {
+fn proofs_are_verified(rt: HostRuntime) {
     for (text, derived, peak, goal) in [(INFEASIBLE, 1, 1, 2), (ABSURD, 0, 0, 0)] {
-        let verdict = check(rt.alloc(), Bytes::new(text))?;
-        let report = report_of(verdict).ok_or("it is a proof")?;
-        same(&rt, report.solutions, 0);
-        same(&rt, (report.derived, report.peak), (derived, peak));
-        same(&rt, report.goal, Some(goal));
+        let found = figures(&rt, rt.alloc(), text);
+        same(&rt, found, ((0, derived, peak), Some(goal)));
     }
-    Ok(())
 }
 
 #[test]
-fn any_table_serves(rt: HostRuntime) -> Result<(), Fail> {
-    same(
-        &rt,
-        reported::<KeepAll>(rt.alloc(), INFEASIBLE)?,
-        (1, Some(2)),
-    );
-    Ok(())
+fn any_table_serves(rt: HostRuntime) {
+    let found = reported::<KeepAll>(&rt, rt.alloc(), INFEASIBLE);
+    same(&rt, found, (1, Some(2)));
 }
 
 #[test]
-fn both_tables_have_the_same_peak(rt: HostRuntime) -> Result<(), Fail> {
+fn both_tables_have_the_same_peak(rt: HostRuntime) {
     for (text, peak) in [(BRANCHES, 4), (BRANCHES_AND_MORE, 6)] {
-        same(&rt, reported::<KeepAll>(rt.alloc(), text)?.0, peak);
-        same(&rt, reported::<LiveOnly>(rt.alloc(), text)?.0, peak);
+        same(&rt, reported::<KeepAll>(&rt, rt.alloc(), text).0, peak);
+        same(&rt, reported::<LiveOnly>(&rt, rt.alloc(), text).0, peak);
     }
-    Ok(())
 }
 
 /// What a detail shows.
@@ -182,29 +180,22 @@ fn is_shown(detail: &Detail, wanted: &Shown) -> bool {
     }
 }
 
-fn detail_of(alloc: Global, text: &[u8]) -> Result<Detail, Fault> {
-    match explain(alloc, Bytes::new(text)) {
-        Ok((_, detail)) => Ok(detail),
-        Err(fault) => Err(fault),
-    }
+fn explanation(rt: &impl Abort, alloc: Global, text: &[u8]) -> (Verdict, Detail) {
+    explain(alloc, Bytes::new(text)).expect(rt, "a verdict")
 }
 
-fn shows(alloc: Global, text: &[u8], wanted: &Shown) -> Result<bool, Fault> {
-    let detail = detail_of(alloc, text)?;
+fn shows(rt: &impl Abort, alloc: Global, text: &[u8], wanted: &Shown) -> bool {
+    let (_, detail) = explanation(rt, alloc, text);
     let shown = is_shown(&detail, wanted);
     drop(detail);
-    Ok(shown)
+    shown
 }
 
-// What is said of a proof beside its detail.
-fn explained_report(alloc: Global, text: &[u8]) -> Result<Option<Report>, Fault> {
-    match explain(alloc, Bytes::new(text)) {
-        Ok((verdict, detail)) => {
-            drop(detail);
-            Ok(report_of(verdict))
-        }
-        Err(fault) => Err(fault),
-    }
+// The goal of a proof, beside its detail.
+fn explained_goal(rt: &impl Abort, alloc: Global, text: &[u8]) -> Option<u32> {
+    let (verdict, detail) = explanation(rt, alloc, text);
+    drop(detail);
+    report_of(verdict).expect(rt, "a proof").goal
 }
 
 const DETAILS: [(&[u8], Shown); 5] = [
@@ -217,21 +208,18 @@ const DETAILS: [(&[u8], Shown); 5] = [
 
 /// The detail is that of the first test that fails, and a proof has none.
 #[test]
-fn refusals_are_explained(rt: HostRuntime) -> Result<(), Fail> {
-    let alloc = rt.alloc();
-    let report = explained_report(alloc, INFEASIBLE)?.ok_or("it is a proof")?;
-    same(&rt, report.goal, Some(2));
+fn refusals_are_explained(rt: HostRuntime) {
+    same(&rt, explained_goal(&rt, rt.alloc(), INFEASIBLE), Some(2));
     for (text, wanted) in &DETAILS {
-        assert!(rt; shows(alloc, text, wanted)?);
+        assert!(rt; shows(&rt, rt.alloc(), text, wanted));
     }
-    Ok(())
 }
 
-fn problem_of(alloc: Global, text: &[u8]) -> Result<Problem, Fail> {
-    let reader = CertReader::new(alloc, Bytes::new(text))?;
-    let (problem, solutions) = reader.read_problem(alloc)?;
+fn problem_of(rt: &impl Abort, alloc: Global, text: &[u8]) -> Problem {
+    let reader = CertReader::new(alloc, Bytes::new(text)).expect(rt, "a reader");
+    let (problem, solutions) = reader.read_problem(alloc).expect(rt, "a problem");
     drop(solutions);
-    Ok(problem)
+    problem
 }
 
 fn refuses_thrice(rt: &impl Abort, checker: &mut Checker<LiveOnly>) {
@@ -245,12 +233,12 @@ fn refuses_thrice(rt: &impl Abort, checker: &mut Checker<LiveOnly>) {
 
 /// A stop leaves the phase, and every call after it answers the same.
 #[test]
-fn a_refusal_is_answered_again(rt: HostRuntime) -> Result<(), Fail> {
-    let problem = problem_of(rt.alloc(), UNMET)?;
-    let mut checker: Checker<LiveOnly> = Checker::new(rt.alloc(), problem)?;
+fn a_refusal_is_answered_again(rt: HostRuntime) {
+    let problem = problem_of(&rt, rt.alloc(), UNMET);
+    let checker = Checker::new(rt.alloc(), problem);
+    let mut checker: Checker<LiveOnly> = checker.expect(&rt, "a checker");
     refuses_thrice(&rt, &mut checker);
     drop(checker);
-    Ok(())
 }
 
 const OTHERS: [(&[u8], u8, Place); 13] = [
@@ -271,12 +259,11 @@ const OTHERS: [(&[u8], u8, Place); 13] = [
 ];
 
 #[test]
-fn others_are_refused(rt: HostRuntime) -> Result<(), Fail> {
+fn others_are_refused(rt: HostRuntime) {
     for (text, cause, place) in &OTHERS {
-        let answer = answered(rt.alloc(), Bytes::new(text))?;
-        same(&rt, answer, at(*cause, *place));
+        let answer = answered(rt.alloc(), Bytes::new(text));
+        same(&rt, answer, Ok(at(*cause, *place)));
     }
-    Ok(())
 }
 
 /// Gives its bytes in pieces, then the end or a failure, and counts the reads.
@@ -387,25 +374,30 @@ fn reads_are_made_as_they_are_needed(rt: HostRuntime) {
 /// Of a name, no more than 65,536 bytes are read before it is known to be too long: with the 14 bytes in front, 1311
 /// pieces of 50.
 #[test]
-fn long_names_are_read_as_they_are_needed(rt: HostRuntime) -> Result<(), Fail> {
+fn long_names_are_read_as_they_are_needed(rt: HostRuntime) {
     for (more, needed, wanted) in [
         (65534, 65534 + 117 + 1, None),
         (65535, 65536 + 14, at(17, Place::Byte(14))),
         (65540, 65536 + 14, at(17, Place::Byte(14))),
     ] {
-        let text = with_long_name(rt.alloc(), more)?;
+        let text = with_long_name(&rt, rt.alloc(), more);
         reads_what_it_needs(&rt, text.as_slice(), false, 50, needed, wanted);
     }
-    Ok(())
 }
 
 // A certificate whose variable has so many bytes more in its name.
-fn with_long_name(alloc: Global, more: u32) -> Result<Vec<u8>, Fail> {
-    let (front, behind) = INFEASIBLE.split_at_checked(14).ok_or("too short")?;
-    let mut text = front.to_vec(alloc)?;
-    text.resize(14 + more as usize, b'x')?;
-    text.extend_from_slice(behind)?;
-    Ok(text)
+fn with_long_name(rt: &impl Abort, alloc: Global, more: u32) -> Vec<u8> {
+    let (front, behind) = INFEASIBLE.split_at_checked(14).expect(rt, "14 bytes");
+    let mut text = front.to_vec(alloc).expect(rt, "a text");
+    text.resize(14 + more as usize, b'x').expect(rt, "a name");
+    text.extend_from_slice(behind).expect(rt, "its end");
+    text
+}
+
+fn is_given<T: Drop>(item: Option<T>) -> bool {
+    let is_given = item.is_some();
+    drop(item);
+    is_given
 }
 
 // The only solution is read, and then nothing.
@@ -414,12 +406,11 @@ fn stops_behind_solutions(
     alloc: Global,
     reads: &Cell<usize>,
     solutions: &mut Solutions<Counting<'_>>,
-) -> Result<(), Fail> {
-    assert!(rt; solutions.next(alloc)?.is_some());
-    same(rt, reads.get(), 81);
-    assert!(rt; solutions.next(alloc)?.is_none());
-    same(rt, reads.get(), 81);
-    Ok(())
+) {
+    for wanted in [true, false] {
+        let next = solutions.next(alloc).expect(rt, "an answer");
+        same(rt, (is_given(next), reads.get()), (wanted, 81));
+    }
 }
 
 // The only derivation is read, and then the end, once.
@@ -428,19 +419,16 @@ fn stops_behind_derivations(
     alloc: Global,
     reads: &Cell<usize>,
     derivations: &mut Derivations<Counting<'_>>,
-) -> Result<(), Fail> {
-    assert!(rt; derivations.next(alloc)?.is_some());
-    same(rt, reads.get(), 110);
-    for _ in 0..2 {
-        assert!(rt; derivations.next(alloc)?.is_none());
-        same(rt, reads.get(), 111);
+) {
+    for wanted in [(true, 110), (false, 111), (false, 111)] {
+        let next = derivations.next(alloc).expect(rt, "an answer");
+        same(rt, (is_given(next), reads.get()), wanted);
     }
-    Ok(())
 }
 
 /// Each reader stops behind its item, and the last one at the end.
 #[test]
-fn readers_stop_behind_their_items(rt: HostRuntime) -> Result<(), Fail> {
+fn readers_stop_behind_their_items(rt: HostRuntime) {
     let alloc = rt.alloc();
     let reads = Cell::new(0);
     let source = Counting {
@@ -449,15 +437,17 @@ fn readers_stop_behind_their_items(rt: HostRuntime) -> Result<(), Fail> {
         fails: false,
         reads: &reads,
     };
-    let reader = CertReader::new(alloc, source)?;
+    let reader = CertReader::new(alloc, source).expect(&rt, "a reader");
     same(&rt, reads.get(), 0);
-    let (_, mut solutions) = reader.read_problem(alloc)?;
+    let (problem, mut solutions) = reader.read_problem(alloc).expect(&rt, "a problem");
+    drop(problem);
     same(&rt, reads.get(), 73);
-    stops_behind_solutions(&rt, alloc, &reads, &mut solutions)?;
+    stops_behind_solutions(&rt, alloc, &reads, &mut solutions);
     assert!(rt; solutions.left() == 0);
-    let mut derivations = solutions.finish()?;
+    let mut derivations = solutions.finish().expect(&rt, "their end");
     same(&rt, reads.get(), 87);
-    stops_behind_derivations(&rt, alloc, &reads, &mut derivations)
+    stops_behind_derivations(&rt, alloc, &reads, &mut derivations);
+    drop(derivations);
 }
 
 // The source fails in the only solution.
@@ -470,10 +460,11 @@ fn fails_in_solutions(rt: &impl Abort, alloc: Global, solutions: &mut Solutions<
 fn fails_in_derivations(
     rt: &impl Abort,
     alloc: Global,
-    derivations: &mut Derivations<Counting<'_>>,
+    mut derivations: Derivations<Counting<'_>>,
 ) {
     same(rt, derivations.next(alloc).err(), Some(TextError::Read));
     same(rt, derivations.next(alloc).err(), Some(TextError::Spent));
+    drop(derivations);
 }
 
 // The source fails behind the only solution: where the derivations begin, or among them.
@@ -482,21 +473,17 @@ fn fails_behind_solutions(
     alloc: Global,
     mut solutions: Solutions<Counting<'_>>,
     given: usize,
-) -> Result<(), Fail> {
-    assert!(rt; solutions.next(alloc)?.is_some());
+) {
+    let solution = solutions.next(alloc).expect(rt, "an answer");
+    assert!(rt; is_given(solution));
     assert!(rt; solutions.left() == 0);
     match solutions.finish() {
-        Ok(mut derivations) => fails_in_derivations(rt, alloc, &mut derivations),
+        Ok(derivations) => fails_in_derivations(rt, alloc, derivations),
         Err(error) => same(rt, (error, given < 87), (TextError::Read, true)),
     }
-    Ok(())
 }
 
-fn fails_after<H: Abort + AllocGlobal>(
-    rt: &H,
-    left: &[u8],
-    reads: &Cell<usize>,
-) -> Result<(), Fail> {
+fn fails_after<H: Abort + AllocGlobal>(rt: &H, left: &[u8], reads: &Cell<usize>) {
     let alloc = rt.alloc();
     let source = Counting {
         left,
@@ -504,25 +491,25 @@ fn fails_after<H: Abort + AllocGlobal>(
         fails: true,
         reads,
     };
-    let (problem, mut solutions) = CertReader::new(alloc, source)?.read_problem(alloc)?;
+    let reader = CertReader::new(alloc, source).expect(rt, "a reader");
+    let (problem, mut solutions) = reader.read_problem(alloc).expect(rt, "a problem");
     drop(problem);
     if left.len() < 81 {
         fails_in_solutions(rt, alloc, &mut solutions);
-        return Ok(());
+    } else {
+        fails_behind_solutions(rt, alloc, solutions, left.len());
     }
-    fails_behind_solutions(rt, alloc, solutions, left.len())
 }
 
 /// A reader whose source failed reads no more.
 #[test]
-fn readers_stop_at_a_failure(rt: HostRuntime) -> Result<(), Fail> {
+fn readers_stop_at_a_failure(rt: HostRuntime) {
     for given in 73..SOLVED.len() {
         let reads = Cell::new(0);
         let (left, _) = SOLVED.split_at(given);
-        fails_after(&rt, left, &reads)?;
+        fails_after(&rt, left, &reads);
         same(&rt, reads.get(), given + 1);
     }
-    Ok(())
 }
 
 // What is answered to a beginning of a proof, a byte at a time and at once.

@@ -4,7 +4,6 @@ mod texts;
 use super::same;
 use std::alloc::Global;
 use std::process::Abort;
-use std::test::Fail;
 use vipr_bytes::{Bytes, FromWrite};
 use vipr_text::{Certificate, read_certificate, write_certificate};
 use vipr_tighten::tighten_certificate;
@@ -119,45 +118,39 @@ g G 1 0 { uns 4 2 5 3 } -1
 ";
 
 #[test]
-fn a_cutoff_stays_for_itself_alone(rt: HostRuntime) -> Result<(), Fail> {
+fn a_cutoff_stays_for_itself_alone(rt: HostRuntime) {
     for (goal, wanted) in [(Some(0), UNDERIVED), (Some(1), CUTOFF), (None, UNDERIVED)] {
-        is_tightened(&rt, rt.alloc(), CUTOFF, goal, wanted)?;
+        is_tightened(&rt, rt.alloc(), CUTOFF, goal, wanted);
     }
-    Ok(())
 }
 
 #[test]
-fn entries_with_multiplier_0_go(rt: HostRuntime) -> Result<(), Fail> {
+fn entries_with_multiplier_0_go(rt: HostRuntime) {
     for (text, goal) in [(IGNORED, 2), (ROUNDED, 1)] {
-        is_tightened(&rt, rt.alloc(), text, Some(goal), ROUNDED)?;
+        is_tightened(&rt, rt.alloc(), text, Some(goal), ROUNDED);
     }
-    Ok(())
 }
 
 #[test]
-fn indices_and_last_references_follow(rt: HostRuntime) -> Result<(), Fail> {
+fn indices_and_last_references_follow(rt: HostRuntime) {
     for (text, goal) in [(UNUSED, 7), (SPLIT, 6)] {
-        is_tightened(&rt, rt.alloc(), text, Some(goal), SPLIT)?;
+        is_tightened(&rt, rt.alloc(), text, Some(goal), SPLIT);
     }
-    Ok(())
 }
 
-fn tightened(
-    rt: &impl Abort,
-    alloc: Global,
-    text: &[u8],
-    goal: Option<u32>,
-) -> Result<Certificate, Fail> {
-    let certificate = read_certificate(alloc, Bytes::new(text))?;
+fn tightened(rt: &impl Abort, alloc: Global, text: &[u8], goal: Option<u32>) -> Certificate {
+    let read = read_certificate(alloc, Bytes::new(text));
+    let certificate = read.expect(rt, "a certificate");
     let constraints = certificate.problem().cons().len() + certificate.derivations().len();
     assert!(rt; certificate.refers_back());
-    match goal {
-        None => Ok(tighten_certificate(alloc, certificate, None)?),
+    let tightened = match goal {
+        None => tighten_certificate(alloc, certificate, None),
         Some(index) => {
             assert!(rt; (index as usize) < constraints);
-            Ok(tighten_certificate(alloc, certificate, Some(index))?)
+            tighten_certificate(alloc, certificate, Some(index))
         }
-    }
+    };
+    tightened.expect(rt, "a tightened one")
 }
 
 fn write_into(rt: &impl Abort, alloc: Global, certificate: &Certificate, bytes: &mut Vec<u8>) {
@@ -166,18 +159,10 @@ fn write_into(rt: &impl Abort, alloc: Global, certificate: &Certificate, bytes: 
 }
 
 // The text of the tightened certificate is this one.
-fn is_tightened(
-    rt: &impl Abort,
-    alloc: Global,
-    text: &[u8],
-    goal: Option<u32>,
-    wanted: &[u8],
-) -> Result<(), Fail> {
-    let certificate = tightened(rt, alloc, text, goal)?;
+fn is_tightened(rt: &impl Abort, alloc: Global, text: &[u8], goal: Option<u32>, wanted: &[u8]) {
+    let certificate = tightened(rt, alloc, text, goal);
     // the writer has its room before
-    let mut bytes = Vec::with_capacity(alloc, 4096)?;
+    let mut bytes = Vec::with_capacity(alloc, 4096).expect(rt, "room");
     write_into(rt, alloc, &certificate, &mut bytes);
-    drop(certificate);
     same(rt, bytes.as_slice(), wanted);
-    Ok(())
 }

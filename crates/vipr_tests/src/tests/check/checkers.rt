@@ -2,9 +2,8 @@
 
 use super::{BRANCHES, BRANCHES_AND_MORE, MIXED, UNPROVED, UNSOLVED};
 use crate::tests::same;
-use std::alloc::{AllocError, Global};
+use std::alloc::Global;
 use std::process::Abort;
-use std::test::Fail;
 use vipr_bytes::Bytes;
 use vipr_cert::{Derivation, Named, Problem};
 use vipr_check::{Checker, Place, Refusal, Stop};
@@ -56,19 +55,15 @@ fn answers<S: Rows>(
     checker: &mut Checker<S>,
     derivations: &[Derivation],
     wanted: &[Answer],
-) -> Result<(), Stop> {
+) {
     let mut left = wanted.iter();
     for step in derivations {
         let answer = derivation(alloc, checker, step);
-        if answer == Err(Stop::Memory) {
-            return answer;
-        }
         same(rt, Some(&(answer, checker.held())), left.next());
     }
     let answer = finish(checker);
     same(rt, Some(&(answer, checker.held())), left.next());
     assert!(rt; left.next().is_none());
-    Ok(())
 }
 
 fn answers_again<S: Rows>(
@@ -78,12 +73,11 @@ fn answers_again<S: Rows>(
     derivations: &[Derivation],
     times: u32,
     wanted: &[Answer],
-) -> Result<(), Stop> {
+) {
     let _ = end_solutions(checker);
     for _ in 0..times {
-        answers(rt, alloc, checker, derivations, wanted)?;
+        answers(rt, alloc, checker, derivations, wanted);
     }
-    Ok(())
 }
 
 // All that is derived is answered so, each time that it is asked.
@@ -94,24 +88,19 @@ fn answers_behind<S: Rows>(
     derivations: &[Derivation],
     times: u32,
     wanted: &[Answer],
-) -> Result<(), Fail> {
-    let mut checker: Checker<S> = Checker::new(alloc, problem)?;
-    let answer = answers_again(rt, alloc, &mut checker, derivations, times, wanted);
+) {
+    let checker = Checker::new(alloc, problem);
+    let mut checker: Checker<S> = checker.expect(rt, "a checker");
+    answers_again(rt, alloc, &mut checker, derivations, times, wanted);
     drop(checker);
-    Ok(answer?)
 }
 
 // The same for a certificate that lists no solution.
-fn answers_to<S: Rows>(
-    rt: &impl Abort,
-    alloc: Global,
-    text: &[u8],
-    times: u32,
-    wanted: &[Answer],
-) -> Result<(), Fail> {
-    let (problem, solutions, steps) = read_certificate(alloc, Bytes::new(text))?.into_parts();
+fn answers_to<S: Rows>(rt: &impl Abort, alloc: Global, text: &[u8], times: u32, wanted: &[Answer]) {
+    let read = read_certificate(alloc, Bytes::new(text));
+    let (problem, solutions, steps) = read.expect(rt, "a certificate").into_parts();
     drop(solutions);
-    answers_behind::<S>(rt, alloc, problem, steps.as_slice(), times, wanted)
+    answers_behind::<S>(rt, alloc, problem, steps.as_slice(), times, wanted);
 }
 
 const HELD: [Answer; 6] = [
@@ -133,16 +122,16 @@ const HELD_MORE: [Answer; 7] = [
     (Ok(()), 6),
 ];
 
-fn holds<S: Rows>(rt: &impl Abort, alloc: Global) -> Result<(), Fail> {
-    answers_to::<S>(rt, alloc, BRANCHES, 1, &HELD)?;
-    answers_to::<S>(rt, alloc, BRANCHES_AND_MORE, 1, &HELD_MORE)
+fn holds<S: Rows>(rt: &impl Abort, alloc: Global) {
+    answers_to::<S>(rt, alloc, BRANCHES, 1, &HELD);
+    answers_to::<S>(rt, alloc, BRANCHES_AND_MORE, 1, &HELD_MORE);
 }
 
 /// The assumptions stay to the end, and any table says how many are not forgotten.
 #[test]
-fn what_may_be_referred_to_is_held(rt: HostRuntime) -> Result<(), Fail> {
-    holds::<LiveOnly>(&rt, rt.alloc())?;
-    holds::<KeepAll>(&rt, rt.alloc())
+fn what_may_be_referred_to_is_held(rt: HostRuntime) {
+    holds::<LiveOnly>(&rt, rt.alloc());
+    holds::<KeepAll>(&rt, rt.alloc());
 }
 
 pub(super) fn refused(cause: u8, place: Place) -> Result<(), Stop> {
@@ -150,38 +139,37 @@ pub(super) fn refused(cause: u8, place: Place) -> Result<(), Stop> {
 }
 
 #[test]
-fn refusals_are_answered_again(rt: HostRuntime) -> Result<(), Fail> {
+fn refusals_are_answered_again(rt: HostRuntime) {
     let alloc = rt.alloc();
     let derived = (refused(34, Place::Der(2)), 0);
     let ended = (refused(51, Place::End), 0);
-    answers_to::<LiveOnly>(&rt, alloc, MIXED, 3, &[derived, derived])?;
-    answers_to::<LiveOnly>(&rt, alloc, UNPROVED, 3, &[ended])
+    answers_to::<LiveOnly>(&rt, alloc, MIXED, 3, &[derived, derived]);
+    answers_to::<LiveOnly>(&rt, alloc, UNPROVED, 3, &[ended]);
 }
 
-// The first solution and twice their end.
-fn answers_to_solutions(
+// A solution and twice their end.
+fn answers_to_solution(
+    rt: &impl Abort,
     alloc: Global,
     problem: Problem,
-    solutions: &[Named<Solution>],
-) -> Result<[Result<(), Stop>; 3], AllocError> {
-    let mut checker: Checker<LiveOnly> = Checker::new(alloc, problem)?;
-    let first = match solutions.first() {
-        Some(solution) => checker.solution(solution),
-        None => Ok(()),
-    };
+    solution: &Named<Solution>,
+) -> [Result<(), Stop>; 3] {
+    let checker = Checker::new(alloc, problem);
+    let mut checker: Checker<LiveOnly> = checker.expect(rt, "a checker");
+    let first = checker.solution(solution);
     let second = end_solutions(&mut checker);
     let third = end_solutions(&mut checker);
     drop(checker);
-    Ok([first, second, third])
+    [first, second, third]
 }
 
 #[test]
-fn a_refused_solution_is_answered_again(rt: HostRuntime) -> Result<(), Fail> {
-    let alloc = rt.alloc();
+fn a_refused_solution_is_answered_again(rt: HostRuntime) {
     let refusal = refused(22, Place::Sol(0));
-    let (problem, solutions, steps) = read_certificate(alloc, Bytes::new(UNSOLVED))?.into_parts();
+    let read = read_certificate(rt.alloc(), Bytes::new(UNSOLVED));
+    let (problem, solutions, steps) = read.expect(&rt, "a certificate").into_parts();
     drop(steps);
-    let answers = answers_to_solutions(alloc, problem, solutions.as_slice())?;
+    let solution = solutions.first().expect(&rt, "a solution");
+    let answers = answers_to_solution(&rt, rt.alloc(), problem, solution);
     same(&rt, answers, [refusal, refusal, refusal]);
-    Ok(())
 }

@@ -6,9 +6,9 @@ use super::{
 };
 use crate::tests::same;
 use std::alloc::Global;
-use std::test::Fail;
+use std::process::Abort;
 use vipr_bytes::Bytes;
-use vipr_check::{Fault, Place, Refusal, explain_in};
+use vipr_check::{Place, Refusal, explain_in};
 use vipr_rules::Profile;
 
 // A value that is to be whole, and isn't.
@@ -24,10 +24,11 @@ const NOT_ROUNDABLE: &[u8] = b"VER 1.0 VAR 1 x INT 1 0 OBJ min 0 CON 1 0 a G 1 1
     RTP infeas SOL 0 DER 1 f G 1 0 { rnd 1 0 1 } -1";
 
 // What is answered: none where it is verified.
-fn refusal(alloc: Global, text: &[u8]) -> Result<Option<Refusal>, Fault> {
-    let (verdict, detail) = explain_in(alloc, Profile::Two, Bytes::new(text))?;
+fn refusal(rt: &impl Abort, alloc: Global, text: &[u8]) -> Option<Refusal> {
+    let explained = explain_in(alloc, Profile::Two, Bytes::new(text));
+    let (verdict, detail) = explained.expect(rt, "a verdict");
     drop(detail);
-    Ok(refusal_of(verdict))
+    refusal_of(verdict)
 }
 
 const ROWS: [(&[u8], u8, Place); 12] = [
@@ -46,10 +47,9 @@ const ROWS: [(&[u8], u8, Place); 12] = [
 ];
 
 #[test]
-fn each_kind_is_shown(rt: HostRuntime) -> Result<(), Fail> {
-    same(&rt, refusal(rt.alloc(), INFEASIBLE)?, None);
+fn each_kind_is_shown(rt: HostRuntime) {
+    same(&rt, refusal(&rt, rt.alloc(), INFEASIBLE), None);
     for (text, cause, place) in &ROWS {
-        same(&rt, refusal(rt.alloc(), text)?, at(*cause, *place));
+        same(&rt, refusal(&rt, rt.alloc(), text), at(*cause, *place));
     }
-    Ok(())
 }

@@ -3,9 +3,9 @@
 use super::{at, refusal_of, report_of};
 use crate::tests::same;
 use std::alloc::Global;
-use std::test::Fail;
+use std::process::Abort;
 use vipr_bytes::Bytes;
-use vipr_check::{Detail, Fault, Place, Refusal, check_in, explain_in};
+use vipr_check::{Detail, Place, Refusal, check_in, explain_in};
 use vipr_rules::{LiveOnly, Profile};
 
 // The branches x <= 1/4 and x >= 3/4 of a whole x.
@@ -36,57 +36,47 @@ const ASSUMED: &[u8] = b"VER 1.0 VAR 1 x INT 1 0 OBJ min 1 0 1 CON 0 0
     RTP range 1 inf SOL 0 DER 1 a G 1/2 1 0 1 { asm } -1";
 
 // What is answered by the rules of a profile: none where it is verified.
-fn refusal(alloc: Global, profile: Profile, text: &[u8]) -> Result<Option<Refusal>, Fault> {
-    match check_in::<Bytes, LiveOnly>(alloc, profile, Bytes::new(text)) {
-        Ok(verdict) => Ok(refusal_of(verdict)),
-        Err(fault) => Err(fault),
-    }
+fn refusal(rt: &impl Abort, alloc: Global, profile: Profile, text: &[u8]) -> Option<Refusal> {
+    let verdict = check_in::<Bytes, LiveOnly>(alloc, profile, Bytes::new(text));
+    refusal_of(verdict.expect(rt, "a verdict"))
 }
 
 // The goal of a proof by the second profile.
-fn goal(alloc: Global, text: &[u8]) -> Result<Option<u32>, Fail> {
-    let verdict = check_in::<Bytes, LiveOnly>(alloc, Profile::Two, Bytes::new(text))?;
-    Ok(report_of(verdict).ok_or("it is a proof")?.goal)
+fn goal(rt: &impl Abort, alloc: Global, text: &[u8]) -> Option<u32> {
+    let verdict = check_in::<Bytes, LiveOnly>(alloc, Profile::Two, Bytes::new(text));
+    let report = report_of(verdict.expect(rt, "a verdict"));
+    report.expect(rt, "a proof").goal
 }
 
 #[test]
-fn splits_cover(rt: HostRuntime) -> Result<(), Fail> {
+fn splits_cover(rt: HostRuntime) {
     let no_split = at(37, Place::Der(6));
     for (profile, text) in [(Profile::One, COVERING), (Profile::Two, WITH_GAP)] {
-        same(&rt, refusal(rt.alloc(), profile, text)?, no_split);
+        same(&rt, refusal(&rt, rt.alloc(), profile, text), no_split);
     }
-    same(&rt, goal(rt.alloc(), COVERING)?, Some(6));
-    Ok(())
-}
-
-fn detail_of(alloc: Global, text: &[u8]) -> Result<Detail, Fault> {
-    match explain_in(alloc, Profile::Two, Bytes::new(text)) {
-        Ok((_, detail)) => Ok(detail),
-        Err(fault) => Err(fault),
-    }
+    same(&rt, goal(&rt, rt.alloc(), COVERING), Some(6));
 }
 
 #[test]
-fn what_splits_not_is_shown(rt: HostRuntime) -> Result<(), Fail> {
-    let detail = detail_of(rt.alloc(), WITH_GAP)?;
+fn what_splits_not_is_shown(rt: HostRuntime) {
+    let found = explain_in(rt.alloc(), Profile::Two, Bytes::new(WITH_GAP));
+    let (_, detail) = found.expect(&rt, "a verdict");
     let is_step = matches!(&detail, Detail::Step { .. });
     drop(detail);
     assert!(rt; is_step);
-    Ok(())
 }
 
 #[test]
-fn objectives_are_rounded(rt: HostRuntime) -> Result<(), Fail> {
+fn objectives_are_rounded(rt: HostRuntime) {
     let alloc = rt.alloc();
     let no_proof = at(51, Place::End);
     for text in [WHOLE, NOT_WHOLE, HALVED, WHOLE_MAX, NOWHERE, ASSUMED] {
-        same(&rt, refusal(alloc, Profile::One, text)?, no_proof);
+        same(&rt, refusal(&rt, alloc, Profile::One, text), no_proof);
     }
     for text in [WHOLE, WHOLE_MAX, NOWHERE] {
-        same(&rt, goal(alloc, text)?, Some(0));
+        same(&rt, goal(&rt, alloc, text), Some(0));
     }
     for text in [NOT_WHOLE, HALVED, ASSUMED] {
-        same(&rt, refusal(alloc, Profile::Two, text)?, no_proof);
+        same(&rt, refusal(&rt, alloc, Profile::Two, text), no_proof);
     }
-    Ok(())
 }

@@ -6,9 +6,8 @@
 use super::checkers::{derivation, end_solutions, finish, refused};
 use super::{BRANCHES, MIXED, SOLVED, UNDOMINATED, UNSOLVED};
 use crate::tests::same;
-use std::alloc::{AllocError, Global};
+use std::alloc::Global;
 use std::process::Abort;
-use std::test::Fail;
 use vipr_bytes::Bytes;
 use vipr_cert::{Derivation, Named, Problem};
 use vipr_check::{Checker, Place, Stop};
@@ -21,102 +20,75 @@ const ROUNDED: &[u8] = b"VER 1.0 VAR 1 x INT 1 0 OBJ min 1 0 1 CON 1 0 a G 5 1 0
     RTP range 3 inf SOL 0 DER 1 g G 3 1 0 1 { rnd 1 0 1/2 } -1";
 
 // What is told of a checker that was refused a growth, by its answers since.
-fn spent(rt: &impl Abort, since: [Result<(), Stop>; 2]) -> Fail {
+fn spent(rt: &impl Abort, since: [Result<(), Stop>; 2]) {
     let spent = Err(Stop::Spent);
     assert!(rt;
         since == [spent, spent],
         "it goes on after a refused growth"
     );
-    Fail::new("Memory, then Spent")
+    panic!(rt; "Memory, then Spent")
 }
 
 // What is answered to a solution, and since where that is want of memory.
-fn answers<S: Rows>(
-    alloc: Global,
-    problem: Problem,
-    solution: &Named<Solution>,
-) -> Result<(Result<(), Stop>, [Result<(), Stop>; 2]), AllocError> {
-    let mut checker: Checker<S> = Checker::new(alloc, problem)?;
-    let answer = checker.solution(solution);
-    let mut since = [Ok(()), Ok(())];
-    if answer == Err(Stop::Memory) {
-        let again = checker.solution(solution);
-        since = [again, end_solutions(&mut checker)];
-    }
-    drop(checker);
-    Ok((answer, since))
-}
-
-// The solution is refused, so its name is kept.
-fn refuses<S: Rows>(
+fn answer<S: Rows>(
     rt: &impl Abort,
     alloc: Global,
     problem: Problem,
     solution: &Named<Solution>,
-) -> Result<(), Fail> {
-    let (answer, since) = answers::<S>(alloc, problem, solution)?;
+) -> Result<(), Stop> {
+    let checker = Checker::new(alloc, problem);
+    let mut checker: Checker<S> = checker.expect(rt, "a checker");
+    let answer = checker.solution(solution);
     if answer == Err(Stop::Memory) {
-        return Err(spent(rt, since));
+        let again = checker.solution(solution);
+        spent(rt, [again, end_solutions(&mut checker)]);
     }
-    same(rt, answer, refused(22, Place::Sol(0)));
-    Ok(())
+    drop(checker);
+    answer
 }
 
-fn of_solution<S: Rows>(rt: &impl Abort, alloc: Global) -> Result<(), Fail> {
-    let (problem, solutions, steps) = read_certificate(alloc, Bytes::new(UNSOLVED))?.into_parts();
+// The solution is refused, so its name is kept.
+fn of_solution<S: Rows>(rt: &impl Abort, alloc: Global) {
+    let read = read_certificate(alloc, Bytes::new(UNSOLVED));
+    let (problem, solutions, steps) = read.expect(rt, "a certificate").into_parts();
     drop(steps);
-    match solutions.first() {
-        Some(solution) => refuses::<S>(rt, alloc, problem, solution),
-        None => Err(Fail::new("no solution")),
-    }
+    let solution = solutions.first().expect(rt, "a solution");
+    let answer = answer::<S>(rt, alloc, problem, solution);
+    same(rt, answer, refused(22, Place::Sol(0)));
 }
 
 #[test]
-fn spent_at_a_solution_over_live_rows(rt: HostRuntime) -> Result<(), Fail> {
-    of_solution::<LiveOnly>(&rt, rt.alloc())
+fn spent_at_a_solution_over_live_rows(rt: HostRuntime) {
+    of_solution::<LiveOnly>(&rt, rt.alloc());
 }
 
 #[test]
-fn spent_at_a_solution_over_all_rows(rt: HostRuntime) -> Result<(), Fail> {
-    of_solution::<KeepAll>(&rt, rt.alloc())
+fn spent_at_a_solution_over_all_rows(rt: HostRuntime) {
+    of_solution::<KeepAll>(&rt, rt.alloc());
 }
 
 // A checker behind the only solution, if there is one.
 fn behind_solutions<S: Rows>(
+    rt: &impl Abort,
     alloc: Global,
     problem: Problem,
     solutions: &[Named<Solution>],
-) -> Result<Checker<S>, Fail> {
-    let mut checker: Checker<S> = Checker::new(alloc, problem)?;
-    let first = match solutions.first() {
-        Some(solution) => checker.solution(solution),
-        None => Ok(()),
-    };
-    let answer = match first {
-        Ok(()) => end_solutions(&mut checker),
-        Err(stop) => Err(stop),
-    };
-    match answer {
-        Ok(()) => Ok(checker),
-        Err(stop) => {
-            drop(checker);
-            Err(Fail::from(stop))
-        }
+) -> Checker<S> {
+    let checker = Checker::new(alloc, problem);
+    let mut checker: Checker<S> = checker.expect(rt, "a checker");
+    if let Some(solution) = solutions.first() {
+        checker.solution(solution).expect(rt, "a solution");
     }
+    end_solutions(&mut checker).expect(rt, "their end");
+    checker
 }
 
 // A derivation more, after which the checker goes on.
-fn taken<S: Rows>(
-    rt: &impl Abort,
-    alloc: Global,
-    checker: &mut Checker<S>,
-    step: &Derivation,
-) -> Result<(), Fail> {
+fn taken<S: Rows>(rt: &impl Abort, alloc: Global, checker: &mut Checker<S>, step: &Derivation) {
     if derivation(alloc, checker, step) == Err(Stop::Memory) {
         let again = derivation(alloc, checker, step);
-        return Err(spent(rt, [again, finish(checker)]));
+        spent(rt, [again, finish(checker)]);
     }
-    Ok(())
 }
 
 // What is answered behind these derivations.
@@ -125,11 +97,11 @@ fn behind_derivations<S: Rows>(
     alloc: Global,
     checker: &mut Checker<S>,
     steps: &[Derivation],
-) -> Result<Result<(), Stop>, Fail> {
+) -> Result<(), Stop> {
     for step in steps {
-        taken(rt, alloc, checker, step)?;
+        taken(rt, alloc, checker, step);
     }
-    Ok(finish(checker))
+    finish(checker)
 }
 
 // What is answered at the end of a certificate in parts.
@@ -137,28 +109,24 @@ fn at_its_end<S: Rows>(
     rt: &impl Abort,
     alloc: Global,
     problem: Problem,
-    solutions: Vec<Named<Solution>>,
+    solutions: &[Named<Solution>],
     steps: &[Derivation],
-) -> Result<Result<(), Stop>, Fail> {
-    let mut checker: Checker<S> = behind_solutions(alloc, problem, solutions.as_slice())?;
-    drop(solutions);
+) -> Result<(), Stop> {
+    let mut checker: Checker<S> = behind_solutions(rt, alloc, problem, solutions);
     let answer = behind_derivations(rt, alloc, &mut checker, steps);
     drop(checker);
     answer
 }
 
 // What is answered at the end of a text.
-fn at_the_end<S: Rows>(
-    rt: &impl Abort,
-    alloc: Global,
-    text: &[u8],
-) -> Result<Result<(), Stop>, Fail> {
-    let (problem, solutions, steps) = read_certificate(alloc, Bytes::new(text))?.into_parts();
-    at_its_end::<S>(rt, alloc, problem, solutions, steps.as_slice())
+fn at_the_end<S: Rows>(rt: &impl Abort, alloc: Global, text: &[u8]) -> Result<(), Stop> {
+    let read = read_certificate(alloc, Bytes::new(text));
+    let (problem, solutions, steps) = read.expect(rt, "a certificate").into_parts();
+    at_its_end::<S>(rt, alloc, problem, solutions.as_slice(), steps.as_slice())
 }
 
 // Each kind of reason, and refusals that keep a name and constraints.
-fn of_derivations<S: Rows>(rt: &impl Abort, alloc: Global) -> Result<(), Fail> {
+fn of_derivations<S: Rows>(rt: &impl Abort, alloc: Global) {
     for (text, wanted) in [
         (BRANCHES, Ok(())),
         (ROUNDED, Ok(())),
@@ -166,17 +134,16 @@ fn of_derivations<S: Rows>(rt: &impl Abort, alloc: Global) -> Result<(), Fail> {
         (MIXED, refused(34, Place::Der(2))),
         (UNDOMINATED, refused(38, Place::Der(2))),
     ] {
-        same(rt, at_the_end::<S>(rt, alloc, text)?, wanted);
+        same(rt, at_the_end::<S>(rt, alloc, text), wanted);
     }
-    Ok(())
 }
 
 #[test]
-fn spent_at_a_derivation_over_live_rows(rt: HostRuntime) -> Result<(), Fail> {
-    of_derivations::<LiveOnly>(&rt, rt.alloc())
+fn spent_at_a_derivation_over_live_rows(rt: HostRuntime) {
+    of_derivations::<LiveOnly>(&rt, rt.alloc());
 }
 
 #[test]
-fn spent_at_a_derivation_over_all_rows(rt: HostRuntime) -> Result<(), Fail> {
-    of_derivations::<KeepAll>(&rt, rt.alloc())
+fn spent_at_a_derivation_over_all_rows(rt: HostRuntime) {
+    of_derivations::<KeepAll>(&rt, rt.alloc());
 }

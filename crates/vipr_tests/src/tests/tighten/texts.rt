@@ -3,9 +3,8 @@ use super::{IGNORED, ROUNDED, SPLIT, UNUSED};
 use crate::tests::same;
 use std::alloc::{AllocError, Global};
 use std::process::Abort;
-use std::test::Fail;
 use vipr_bytes::{Bytes, Failed, FromWrite, Sink, Source};
-use vipr_check::{Fault, Place, Refusal, Verdict, check};
+use vipr_check::{Place, Refusal, Verdict, check};
 use vipr_rules::Profile;
 use vipr_tighten::{Outcome, TightenFault, tighten, tighten_in};
 
@@ -244,30 +243,20 @@ fn tighten_into(
     tighten(alloc, Bytes::new(text), &mut sink)
 }
 
-fn is_verified(alloc: Global, text: &[u8]) -> Result<bool, Fault> {
-    match check(alloc, Bytes::new(text)) {
-        Ok(Verdict::Verified(_)) => Ok(true),
-        Ok(Verdict::Refused(_)) => Ok(false),
-        Err(fault) => Err(fault),
-    }
+fn is_verified(rt: &impl Abort, alloc: Global, text: &[u8]) -> bool {
+    let verdict = check(alloc, Bytes::new(text)).expect(rt, "a verdict");
+    matches!(verdict, Verdict::Verified(_))
 }
 
 /// Checks what is written for a text, that it is a proof, and the figures.
-fn becomes(
-    rt: &impl Abort,
-    alloc: Global,
-    text: &[u8],
-    wanted: &[u8],
-    figures: Figures,
-) -> Result<(), Fail> {
+fn becomes(rt: &impl Abort, alloc: Global, text: &[u8], wanted: &[u8], figures: Figures) {
     // the writer has its room before
-    let mut written = Vec::with_capacity(alloc, wanted.len())?;
+    let mut written = Vec::with_capacity(alloc, wanted.len()).expect(rt, "room");
     let outcome = tighten_into(alloc, text, &mut written);
     holds_back(rt, outcome, !written.is_empty());
     same(rt, outcome, tightened(figures));
     assert!(rt; written.as_slice() == wanted);
-    assert!(rt; is_verified(alloc, written.as_slice())?);
-    Ok(())
+    assert!(rt; is_verified(rt, alloc, written.as_slice()));
 }
 
 const BECOMES: [(&[u8], &[u8], Figures); 7] = [
@@ -281,11 +270,10 @@ const BECOMES: [(&[u8], &[u8], Figures); 7] = [
 ];
 
 #[test]
-fn what_the_goal_needs_is_written(rt: HostRuntime) -> Result<(), Fail> {
+fn what_the_goal_needs_is_written(rt: HostRuntime) {
     for (text, wanted, figures) in &BECOMES {
-        becomes(&rt, rt.alloc(), text, wanted, *figures)?;
+        becomes(&rt, rt.alloc(), text, wanted, *figures);
     }
-    Ok(())
 }
 
 fn refused(cause: u8, place: Place) -> Result<Outcome, TightenFault> {
@@ -339,33 +327,38 @@ fn end(alloc: Global, length: u32) -> Result<String, AllocError> {
     format!(in alloc; "f G 1 0 {{ lin 2 {length} 1 1 -1 }} -1\n")
 }
 
-fn add(text: &mut String, line: String) -> Result<(), AllocError> {
-    text.push_str(line.as_str())
+fn add(rt: &impl Abort, text: &mut String, line: Result<String, AllocError>) {
+    let line = line.expect(rt, "a line");
+    text.push_str(line.as_str()).expect(rt, "a text");
+}
+
+fn last_reference(place: u32, dropped: bool) -> Option<u64> {
+    if dropped {
+        Some(place as u64 + 2)
+    } else {
+        None
+    }
 }
 
 /// A chain of derivations, each of which refers to the one before, with these last references.
-fn chain(alloc: Global, length: u32, dropped: bool) -> Result<String, AllocError> {
-    let mut text = front(alloc, length)?;
+fn chain(rt: &impl Abort, alloc: Global, length: u32, dropped: bool) -> String {
+    let mut text = front(alloc, length).expect(rt, "a text");
     for place in 1..length {
         let before = if place == 1 { 0 } else { place };
-        let last = if dropped {
-            Some(place as u64 + 2)
-        } else {
-            None
-        };
-        add(&mut text, link(alloc, before, last)?)?;
+        let last = last_reference(place, dropped);
+        add(rt, &mut text, link(alloc, before, last));
     }
-    add(&mut text, end(alloc, length)?)?;
-    Ok(text)
+    add(rt, &mut text, end(alloc, length));
+    text
 }
 
 #[test]
-fn last_references_are_set_in_a_chain(rt: HostRuntime) -> Result<(), Fail> {
+fn last_references_are_set_in_a_chain(rt: HostRuntime) {
     let alloc = rt.alloc();
-    let long = chain(alloc, 10000, false)?;
-    let short = chain(alloc, 10000, true)?;
+    let long = chain(&rt, alloc, 10000, false);
+    let short = chain(&rt, alloc, 10000, true);
     let (text, wanted) = (long.as_str().as_bytes(), short.as_str().as_bytes());
-    becomes(&rt, alloc, text, wanted, (10000, 0, 10000, 1))
+    becomes(&rt, alloc, text, wanted, (10000, 0, 10000, 1));
 }
 
 /// The call behind these bytes is the last.

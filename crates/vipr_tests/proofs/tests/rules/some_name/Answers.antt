@@ -8,4 +8,4 @@ solid zero h = refl
 solid (suc k) h = absurd (omega arith)
 
 pub of_token-requires : goal.of_token-requires
-of_token-requires c = record { run = record { some = omega arith; solid = solid }; short = omega arith }
+of_token-requires c _ = record { run = record { some = omega arith; solid = solid }; short = omega arith }
