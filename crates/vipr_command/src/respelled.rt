@@ -32,7 +32,10 @@ fn text_from<R: Source + Drop>(alloc: Global, reader: CertReader<R>) -> Result<V
     let text = solution_lines(alloc, text, &mut solutions)?;
     let mut derivations = solutions.finish()?;
     let text = text.derivation_count(derivations.left())?;
-    let text = derivation_lines(alloc, text, &mut derivations)?;
+    let lines = derivation_lines(alloc, text, &mut derivations);
+    // Dropped at this one place, whatever was answered.
+    drop(derivations);
+    let text = lines?;
     Ok(text.into_bytes())
 }
 
@@ -44,7 +47,10 @@ fn problem_text<R: Source + Drop>(
     ensures { BeginsText (λ x. x.0) (λ x. x.1) reader result }
 {
     let (problem, solutions) = reader.read_problem(alloc)?;
-    let text = GrowingText::new(alloc, &problem, solutions.left())?;
+    let lines = GrowingText::new(alloc, &problem, solutions.left());
+    // Dropped at this one place, whatever was answered.
+    drop(problem);
+    let text = lines?;
     Ok((text, solutions))
 }
 
@@ -61,7 +67,10 @@ fn solution_lines<R: Source>(
         (λ t. t) result }
 {
     while let Some(solution) = solutions.next(alloc)? {
-        text = text.solution(&solution)?;
+        let longer = text.solution(&solution);
+        // Dropped at this one place, whatever was answered.
+        drop(solution);
+        text = longer?;
     }
     Ok(text)
 }
@@ -78,7 +87,10 @@ fn derivation_lines<R: Source>(
         text (λ t. t) result }
 {
     while let Some(derivation) = derivations.next(alloc)? {
-        text = text.derivation(&derivation)?;
+        let longer = text.derivation(&derivation);
+        // Dropped at this one place, whatever was answered.
+        drop(derivation);
+        text = longer?;
     }
     Ok(text)
 }

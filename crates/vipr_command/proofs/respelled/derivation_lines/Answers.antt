@@ -22,30 +22,6 @@ returns-in_err-derivation g c p knows =
       stops (derivation_read p) derivation_words end_read e c.args.derivations.now mid c.args.text c.loop-text.text h (c.in_err-derivation.ensures.read p (still_knows p c.args.derivations.now mid knows h.remembers)),
     )
 
-pub loop-text-preserved-in_ok-text : goal.loop-text-preserved-in_ok-text
-loop-text-preserved-in_ok-text g c =
-    let r = rw c.in-Some.is at c.in_ok-derivation.ensures in
-    let mid = c.loop-text.derivations in
-    record {
-      working = r.moves.working;
-      lines = λ p knows.
-          let h = c.loop-text.invariant.lines p knows in
-          one_more (derivation_read p) derivation_words c.args.derivations.now mid c.next.new.self c.args.text c.loop-text.text c.in_ok-text.text (derivation_of c.in-Some.derivation) h r.moves.counted r.moves.remembers r.moves.working
-          (λ known. let next = r.read p (still_knows p c.args.derivations.now mid knows h.remembers) known in (next.1, next.2)) c.in_ok-text.ensures;
-    }
-
-pub loop-text-preserved-in_ok-text-2 : goal.loop-text-preserved-in_ok-text-2
-loop-text-preserved-in_ok-text-2 g c =
-    let r = rw c.in-Some.is at c.in_ok-derivation.ensures in
-    let mid = c.loop-text.derivations in
-    record {
-      working = r.moves.working;
-      lines = λ p knows.
-          let h = c.loop-text.invariant.lines p knows in
-          one_more (derivation_read p) derivation_words c.args.derivations.now mid c.next.new.self c.args.text c.loop-text.text c.in_ok-text.text (derivation_of c.in-Some.derivation) h r.moves.counted r.moves.remembers r.moves.working
-          (λ known. let next = r.read p (still_knows p c.args.derivations.now mid knows h.remembers) known in (next.1, next.2)) c.in_ok-text.ensures;
-    }
-
 pub loop-text-preserved : goal.loop-text-preserved
 loop-text-preserved g c =
     let r = rw c.in-Some.is at c.in_ok-derivation.ensures in

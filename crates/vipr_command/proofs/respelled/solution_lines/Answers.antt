@@ -22,30 +22,6 @@ returns-in_err-solution-clause-lines g c p knows =
       stops (solution_read p) solution_words no_ending e c.args.solutions.now mid c.args.text c.loop-text.text h (c.in_err-solution.ensures.read p (still_knows p c.args.solutions.now mid knows h.remembers)),
     )
 
-pub loop-text-preserved-in_ok-text : goal.loop-text-preserved-in_ok-text
-loop-text-preserved-in_ok-text g c =
-    let r = rw c.in-Some.is at c.in_ok-solution.ensures in
-    let mid = c.loop-text.solutions in
-    record {
-      working = r.moves.working;
-      lines = λ p knows.
-          let h = c.loop-text.invariant.lines p knows in
-          one_more (solution_read p) solution_words c.args.solutions.now mid c.next.new.self c.args.text c.loop-text.text c.in_ok-text.text (solution_of c.in-Some.solution) h r.moves.counted r.moves.remembers r.moves.working
-          (λ known. let next = r.read p (still_knows p c.args.solutions.now mid knows h.remembers) known in (next.1, next.2)) c.in_ok-text.ensures;
-    }
-
-pub loop-text-preserved-in_ok-text-2 : goal.loop-text-preserved-in_ok-text-2
-loop-text-preserved-in_ok-text-2 g c =
-    let r = rw c.in-Some.is at c.in_ok-solution.ensures in
-    let mid = c.loop-text.solutions in
-    record {
-      working = r.moves.working;
-      lines = λ p knows.
-          let h = c.loop-text.invariant.lines p knows in
-          one_more (solution_read p) solution_words c.args.solutions.now mid c.next.new.self c.args.text c.loop-text.text c.in_ok-text.text (solution_of c.in-Some.solution) h r.moves.counted r.moves.remembers r.moves.working
-          (λ known. let next = r.read p (still_knows p c.args.solutions.now mid knows h.remembers) known in (next.1, next.2)) c.in_ok-text.ensures;
-    }
-
 pub loop-text-preserved : goal.loop-text-preserved
 loop-text-preserved g c =
     let r = rw c.in-Some.is at c.in_ok-solution.ensures in
