@@ -4,7 +4,7 @@
 //! tests has a run that ends at such a checker.
 
 use super::checkers::{derivation, end_solutions, finish, refused};
-use super::{BRANCHES, MIXED, SOLVED, UNDOMINATED, UNSOLVED};
+use super::{BRANCHES, MIXED, SOLVED, UNDOMINATED};
 use crate::tests::same;
 use std::alloc::Global;
 use std::process::Abort;
@@ -18,6 +18,10 @@ use vipr_rules::{KeepAll, LiveOnly, Rows};
 // 2 x >= 5 for a whole x, rounded.
 const ROUNDED: &[u8] = b"VER 1.0 VAR 1 x INT 1 0 OBJ min 1 0 1 CON 1 0 a G 5 1 0 2
     RTP range 3 inf SOL 0 DER 1 g G 3 1 0 1 { rnd 1 0 1/2 } -1";
+
+// The solution is refused, and its name is longer than those that lie in place.
+const LONG_NAME: &[u8] = b"VER 1.0 VAR 1 x INT 0 OBJ min 1 0 1 CON 1 0 a G 3 1 0 1 RTP infeas
+    SOL 1 a_solution_with_a_name_of_many_bytes 1 0 2 DER 1 c L 3 1 0 1 { sol } -1";
 
 // What is told of a checker that was refused a growth, by its answers since.
 fn spent(rt: &impl Abort, since: [Result<(), Stop>; 2]) {
@@ -47,9 +51,9 @@ fn answer<S: Rows>(
     answer
 }
 
-// The solution is refused, so its name is kept.
+// The solution is refused, so its name is kept, which takes memory.
 fn of_solution<S: Rows>(rt: &impl Abort, alloc: Global) {
-    let read = read_certificate(alloc, Bytes::new(UNSOLVED));
+    let read = read_certificate(alloc, Bytes::new(LONG_NAME));
     let (problem, solutions, steps) = read.expect(rt, "a certificate").into_parts();
     drop(steps);
     let solution = solutions.first().expect(rt, "a solution");
