@@ -98,6 +98,20 @@ def names_twice():
             yield '%s is defined %d times: %s' % (name, len(places[name]), ', '.join(places[name]))
 
 
+# spec files that prove what their own definitions need: divisibility, lowest terms, and that a value fits a word
+PROVING_SPECS = {'Lowest.antt', 'GcdLaws.antt', 'Words.antt'}
+
+
+def proofs_in_specs():
+    """Spec files define; lemmas are proved in `proofs/`."""
+    for crate, part, path in files(('specs',), ('.antt',)):
+        if os.path.basename(path) not in PROVING_SPECS:
+            for n, line in enumerate(read(path).split('\n'), 1):
+                word = re.search(r'\b(omega|grind|subst|absurd)\b|(?<![\w-])rw \(', line.split('--')[0])
+                if word:
+                    yield '%s:%d: %s' % (shown(path), n, word[0])
+
+
 def long_lines():
     """Lines of src and specs have at most 100 columns, but for tests, long strings, and what rt fmt joins."""
     for crate, part, path in files(('src', 'specs'), ('.rt', '.antt')):
@@ -248,7 +262,7 @@ def edits_stand():
                 old = None
 
 
-CHECKS = [foreign_proofs, private_lemmas, names_twice, long_lines, long_files, crates_are_there, graph_is_current,
+CHECKS = [foreign_proofs, private_lemmas, names_twice, proofs_in_specs, long_lines, long_files, crates_are_there, graph_is_current,
           statement_is_current, examples_are_there, causes_agree, edits_stand]
 
 

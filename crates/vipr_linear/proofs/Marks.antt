@@ -56,13 +56,6 @@ module _ (marks : List Bool) (touched : List ℕ) (v : ℕ) (l : v < length mark
       let all = length-le_from_distinct_below (touched ++ v ∷ []) (length (slice_set marks v true)) distinct_more (λ q h. marked_below (slice_set marks v true) q (listed_more q ∙ h)) in
       omega (arith, all, length_push touched v, length-set marks v true)
 
-pub still_marked : (marks : List Bool) (v j : ℕ) → v < length marks → get_or marks j false ≡ true → get_or (slice_set marks v true) j false ≡ true
-still_marked marks v j l t = by (cases_eq j v)
-  where
-    by : (j ≡ v) ⊎ (j ≢ v) → get_or (slice_set marks v true) j false ≡ true
-    by (inl e) = ap (λ k. get_or (slice_set marks v true) k false) e ∙ get_or-set_same marks v true false l
-    by (inr n) = get_or-set_other marks v j true false n ∙ t
-
 -- ---- terms, in their order
 pub next : {A : Type 0} (es : List A) (i : ℕ) (p : A) → i < length es → p ≡ get_or es i p → drop i es ≡ p ∷ drop (i + 1) es
 next es i p l e = rw add-one (drop-cons es i p l ∙ ap (λ x. x ∷ drop (suc i) es) (sym e))

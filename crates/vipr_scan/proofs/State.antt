@@ -115,9 +115,6 @@ input_keeps p o un un' source source' h =
 pub part_short : (xs : List ℕ) (start end : ℕ) → length (slice_range xs start end) ≤ end - start
 part_short xs start end = omega (arith, length-take (end - start) (drop start xs))
 
-pub part_length : (xs : List ℕ) (start end : ℕ) → end ≤ length xs → length (slice_range xs start end) ≡ end - start
-part_length xs start end h = omega (arith, length-take (end - start) (drop start xs), length-drop start xs)
-
 -- a token at the front, which ends where white space follows or the text does
 pub token_left : (source : Option Input) (o o' : ℕ) (un un' : List ℕ) (n : ℕ) → 0 < n → n ≤ length un → n ≤ 65535 →
     ((k : ℕ) → k < n → is_white (get_or un k 0) ≡ false) → (n < length un → is_white (get_or un n 0) ≡ true) →
@@ -226,11 +223,6 @@ token_part buf start end n len shown some within solid =
 pub kept : (old new : Option Rest) (P : Rest → Type 0) → Keeps old new → IfSome new P → IfSome old P
 kept None new P keeps h = tt
 kept (Some l) new P keeps h = rw keeps at h
-
--- what holds of what is left, where it is told
-pub told_holds : (o : Option Rest) (P : Rest → Type 0) → IfSome o P → IsSome o → P (rest_of o)
-told_holds None P h some = absurd (false≢true some)
-told_holds (Some l) P h some = h
 
 -- white space and a token behind it are taken
 passed : (source : Option Input) (o o' o'' : ℕ) (un un' : List ℕ) (gap len : ℕ) → gap ≤ length un →

@@ -80,3 +80,9 @@ pub use Rattle.vipr_spec.proofs.TokenSplit.{split_is}
 -- A text is verified exactly where it is read as a proof
 pub use Rattle.vipr_spec.proofs.WholeText.{ended, found_read, proof_answered, repeated_is}
 pub use Rattle.vipr_spec.proofs.WholeText.{verified_read, verified_text}
+-- What is kept of a list, its new indices, and the two passes of the tightener
+pub use Rattle.vipr_spec.proofs.Kept.{index_le, index_same, length_kept_derivations}
+pub use Rattle.vipr_spec.proofs.Placed.{reason_placed}
+pub use Rattle.vipr_spec.proofs.TightenLimits.{can_write}
+pub use Rattle.vipr_spec.proofs.TightenPasses.{marked_down, marked_past, next_kept}
+pub use Rattle.vipr_spec.proofs.TightenPasses.{next_left_out, renumbered_alike}

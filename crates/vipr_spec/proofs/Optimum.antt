@@ -29,7 +29,7 @@ later j = grind (arith, nat_tests)
 past : (q : ℚ) (j : ℕ) → at (insert {R = nat_cmp} empty 0 q) (suc j) ≡ zero_ℚ
 past q j = at_is q (suc j) ∙ ap (λ b. unwrap_or (cond b (Some q) None) zero_ℚ) (later j)
 
-row_first : at row 0 ≡ whole (pos 1)
+pub row_first : at row 0 ≡ whole (pos 1)
 unfolding row
 row_first = at_is (whole (pos 1)) 0
 
@@ -53,7 +53,7 @@ is_integer : IsInteger first_variable 0
 unfolding first_variable
 is_integer = contains-insert nat_cmp_total set.empty 0 0 ∙ ap (λ b. b || set.contains (set.empty {R = nat_cmp}) 0) (unsigned_tied 0 0)
 
-whole_row : IsWholeRow first_variable (at row)
+pub whole_row : IsWholeRow first_variable (at row)
 whole_row zero n = (whole_at 0, is_integer)
 whole_row (suc j) n = absurd (n (row_past j))
 

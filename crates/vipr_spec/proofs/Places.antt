@@ -7,11 +7,11 @@ use Rattle.vipr_spec.specs.Constraint.{condition}
 use Rattle.vipr_spec.specs.Certificate.{Reason, asm, lin, rnd, uns, sol, Derivation, Certificate, constraint_at, reason_at, last_at, unknown, is_assumption, lasts_to, is_live, RefersTo, count}
 use Rattle.vipr_spec.specs.Tightened.{kept_of, new_index, renumbered_entries, renumbered, renumbered_at, with_new_indices, with_last_references, with_kept}
 use Rattle.vipr_spec.specs.Reading.{is_nonzero}
-use Rattle.vipr_spec.specs.Laws.Kept.{map_with, length_with, index_mono, index_same, old_index, kept_map, length_kept, kept_at}
+use Rattle.vipr_spec.proofs.Kept.{map_with, length_with, index_mono, index_same, old_index, kept_map, length_kept, kept_at}
 use Rattle.vipr_spec.proofs.Prefix.{constraints_listed, reasons_listed, lasts_listed}
 use Rattle.vipr_spec.proofs.SmallerSums.{Contains-filter, Contains-filter_back, Contains-map, Contains-map_back, is_not_zero, not_zero_is}
 use Rattle.vipr_spec.proofs.References.{reason_in, last_in, last_then, last_names}
-use Rattle.vipr_spec.specs.Laws.Placed.{at_place, reason_placed}
+use Rattle.vipr_spec.proofs.Placed.{at_place, reason_placed}
 
 -- ---- reasons under new indices
 

@@ -8,7 +8,7 @@ use Rattle.vipr_spec.specs.Certificate.{Reason, asm, lin, rnd, uns, sol, Derivat
 use Rattle.vipr_spec.specs.Tightened.{refers_to, or_else, last_reference, with_last_references}
 use Rattle.vipr_spec.specs.Reading.{is_nonzero}
 use Rattle.vipr_spec.proofs.SmallerSums.{is_not_zero, not_zero_is, Any-contains, Any-of}
-use Rattle.vipr_spec.specs.Laws.Kept.{map_with}
+use Rattle.vipr_spec.proofs.Kept.{map_with}
 use Rattle.std.proofs.lemmas.List.Elements.{All-contains}
 
 -- ---- the test

@@ -1,5 +1,5 @@
 -- A proof with what is kept alone is a proof, where what is referred to is kept
-use Rattle.std.proofs.Common.{◌≡◌, ◌≢◌, ℕ, ◌<◌, ◌≤◌, ◌⊎◌, Bool, true, false, List, [], ◌∷◌, map, length, filter, Option, Some, None, All, Contains, arith, refl, sym, ◌∙◌, ap, ap₂, subst, subst₂, inl, inr, ⊎_elim}
+use Rattle.std.proofs.Common.{◌≡◌, ◌≢◌, ℕ, ◌<◌, ◌≤◌, ◌⊎◌, Bool, true, false, List, [], ◌∷◌, map, length, filter, Option, Some, None, All, Contains, arith, refl, sym, ◌∙◌, ap, ap₂, subst, inl, inr, ⊎_elim}
 use Rattle.std.proofs.lemmas.Bool.{cases_Bool, cases_lt}
 use Rattle.std.proofs.lemmas.List.Elements.{All-contains, Contains-get_or}
 use Rattle.vipr_spec.specs.Fraction.{ℚ, zero_ℚ}
@@ -9,7 +9,7 @@ use Rattle.vipr_spec.specs.Steps.{RefersBack}
 use Rattle.vipr_spec.specs.Tightened.{new_index, renumbered_entries, renumbered, renumbered_at, with_kept}
 use Rattle.vipr_spec.specs.Reading.{is_nonzero}
 use Rattle.vipr_spec.proofs.Prefix.{reason_past, is_derived}
-use Rattle.vipr_spec.specs.Laws.Kept.{index_lt, index_injective}
+use Rattle.vipr_spec.proofs.Kept.{index_lt, index_injective}
 use Rattle.vipr_spec.proofs.SmallerSums.{is_there, is_not_zero, not_zero_is, filter_yes, filter_no, Contains-head, Contains-tail, smaller_combines, smaller_rounds, smaller_fits}
 use Rattle.vipr_spec.proofs.References.{refers_earlier}
 use Rattle.vipr_spec.proofs.Places.{entry_new, entry_old, refers_new, refers_old, constraint_new, reason_new, count_new, old_of, live_new}

@@ -9,10 +9,10 @@ use Rattle.vipr_spec.specs.Certificate.{Problem, Claim, infeasible, range, dual_
 use Rattle.vipr_spec.specs.Steps.{RefersBack}
 use Rattle.vipr_spec.specs.Tightened.{is_kept, kept_of, new_index, renumbered_entries, renumbered, renumbered_at, with_new_indices, with_last_references, tightened, new_goal, IsNeededFor}
 use Rattle.vipr_spec.specs.Reading.{is_nonzero}
-use Rattle.vipr_spec.specs.Laws.Kept.{index_mono, index_same, kept_all}
+use Rattle.vipr_spec.proofs.Kept.{index_mono, index_same, kept_all}
 use Rattle.vipr_spec.proofs.SmallerSums.{filter_yes, filter_no}
 use Rattle.vipr_spec.proofs.References.{reason_in, with_again}
-use Rattle.vipr_spec.specs.Laws.Placed.{reason_placed}
+use Rattle.vipr_spec.proofs.Placed.{reason_placed}
 use Rattle.vipr_spec.proofs.Marked.{none_marked, needed_derived, kept_given, kept_derived, kept_closed, kept_needed, needed_kept, goal_kept}
 use Rattle.vipr_spec.proofs.Places.{new_given, new_derived, old_derived, reason_new, old_of}
 use Rattle.vipr_spec.proofs.Smaller.{back_new, refers_at_new, proves_new, proves_old, smaller_proof}

@@ -6,7 +6,7 @@ use Rattle.std.proofs.lemmas.Bool.{cases_Bool, cases_lt, and_parts, and_from, or
 use Rattle.vipr_spec.specs.Constraint.{Profile}
 use Rattle.vipr_spec.specs.Certificate.{Reason, asm, lin, rnd, uns, sol, Certificate, reason_at, last_at, is_assumption, lasts_to, is_live, held, peak, RefersTo, IsProof, IsNeeded}
 use Rattle.vipr_spec.specs.Tightened.{is_kept, new_index, renumbered_at, tightened}
-use Rattle.vipr_spec.specs.Laws.Kept.{index_yes, index_no, index_mono, index_lt, index_lt_back, index_injective}
+use Rattle.vipr_spec.proofs.Kept.{index_yes, index_no, index_mono, index_lt, index_lt_back, index_injective}
 use Rattle.vipr_spec.proofs.Marked.{back_at, needed_cases, needed_below, kept_given, kept_closed, kept_needed, needed_kept}
 use Rattle.vipr_spec.proofs.Places.{new_given, new_derived, old_derived, reason_new, length_new, old_of, last_then_new, last_is_new}
 use Rattle.vipr_spec.proofs.Smaller.{refers_at_new, refers_at_old}

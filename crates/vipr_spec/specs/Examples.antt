@@ -167,3 +167,61 @@ optimum = record {
         last = None;
       } ∷ [];
 }
+
+-- x whole and x ≥ 1/2, of which min x is at least 1: the bound of the whole objective is rounded
+abbrev pub rounded_bound : Certificate
+rounded_bound = record {
+  problem = record {
+    names = [] ∷ [];
+    integers = first_variable;
+    direction = minimum;
+    objective = row;
+    constraints =
+        record {
+          name = [];
+          item = record { row = row; sense = at_least; bound = over (pos 1) 2 };
+        } ∷ [];
+    bound_count = 0;
+    claim = range (Some (whole (pos 1))) None;
+  };
+  solutions = [];
+  derivations = [];
+}
+
+-- 0 ≥ 1 once more, from the branches x ≤ 1/2 and x ≥ 1/2 of a whole x
+abbrev pub split_at_half : Certificate
+split_at_half = record {
+  problem = record {
+    names = [] ∷ [];
+    integers = first_variable;
+    direction = minimum;
+    objective = empty;
+    constraints =
+        record {
+          name = [];
+          item = record { row = empty; sense = at_least; bound = whole (pos 1) };
+        } ∷ [];
+    bound_count = 0;
+    claim = infeasible;
+  };
+  solutions = [];
+  derivations =
+      record {
+        name = [];
+        stated = record { row = row; sense = at_most; bound = over (pos 1) 2 };
+        reason = asm;
+        last = None;
+      }
+      ∷ record {
+        name = [];
+        stated = record { row = row; sense = at_least; bound = over (pos 1) 2 };
+        reason = asm;
+        last = None;
+      }
+      ∷ record {
+        name = [];
+        stated = record { row = empty; sense = at_least; bound = whole (pos 1) };
+        reason = uns 0 1 0 2;
+        last = None;
+      } ∷ [];
+}

@@ -16,6 +16,7 @@ pub mod numbers;
 pub mod profiles;
 pub mod progress;
 pub mod proof_tests;
+pub mod refusals;
 pub mod renumbering;
 pub mod step_by_step;
 pub mod sums;

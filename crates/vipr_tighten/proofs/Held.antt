@@ -8,7 +8,7 @@ use Rattle.std.proofs.lemmas.List.{get_or-append-add, get_or-map, length-map}
 use Rattle.std.proofs.lemmas.Bool.Decides.{nat_tests}
 use Rattle.vipr_spec.specs.Constraint.{Constraint}
 use Rattle.vipr_spec.specs.Certificate.{Named, Derivation, Certificate, reason_at, last_at, is_assumption, lasts_to, is_live, held, peak}
-use Rattle.vipr_spec.specs.Laws.{reason_placed}
+use Rattle.vipr_spec.proofs.Laws.{reason_placed}
 use Rattle.vipr_spec.proofs.Laws.{lasts_listed}
 use Rattle.vipr_cert.specs.Items.{reason_of, derivation_of}
 use Rattle.vipr_cert.specs.declared.items.Derivation.{Derivation as Stored}

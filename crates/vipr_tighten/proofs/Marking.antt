@@ -10,7 +10,7 @@ use Rattle.vipr_spec.specs.Constraint.{equal}
 use Rattle.vipr_spec.specs.Reading.{is_nonzero}
 use Rattle.vipr_spec.specs.Certificate.{asm, Derivation}
 use Rattle.vipr_spec.specs.Tightened.{refers_to, is_the_goal, is_marked}
-use Rattle.vipr_spec.specs.Laws.{marked_down}
+use Rattle.vipr_spec.proofs.Laws.{marked_down}
 use Rattle.vipr_cert.specs.Items.{reason_of, derivation_of}
 use Rattle.vipr_cert.specs.declared.items.Derivation.{Derivation as Stored}
 use Rattle.vipr_tighten.specs.Passes.{has_mark, MarksAlso, AreMarks}
@@ -62,11 +62,6 @@ module _ (first : ℕ) (es : List (ℕ × ℚ)) (n : ℕ) (e : ℕ × ℚ) (h : 
       by : (u : Bool) → (u && false) ≡ false
       by true = refl
       by false = refl
-
-pub also_four : (first : ℕ) (p q r s : ℕ → Bool) (m0 m1 m2 m3 m4 : List Bool) → length m1 ≡ length m0 → length m2 ≡ length m1 → length m3 ≡ length m2
-    → MarksAlso first p m0 m1 → MarksAlso first q m1 m2 → MarksAlso first r m2 m3 → MarksAlso first s m3 m4 → MarksAlso first (λ i. p i || (q i || (r i || s i))) m0 m4
-also_four first p q r s m0 m1 m2 m3 m4 e1 e2 e3 a b c d =
-    also_both first p (λ i. q i || (r i || s i)) m0 m1 m4 e1 a (also_both first q (λ i. r i || s i) m1 m2 m4 e2 b (also_both first r s m2 m3 m4 e3 c d))
 
 -- ---- derivation by derivation
 
@@ -157,6 +152,3 @@ module _ (goal : Option ℕ) (first : ℕ) (ds : List Stored) (j : ℕ) (h : j <
 -- what was read there
 pub mark_read : (marks : List Bool) (j : ℕ) (read b : Bool) → j < length marks → read ≡ get_or marks j read → read ≡ b → has_mark marks j ≡ b
 mark_read marks j read b h is e = sym (get_or_read_under marks j (length marks) read false is h refl) ∙ e
-
-pub mark_is : (marks : List Bool) (j k : ℕ) (d b : Bool) → j ≡ k → k < length marks → get_or marks j d ≡ b → has_mark marks k ≡ b
-mark_is marks j k d b e h is = get_or_default marks k false d h ∙ ap (λ n. get_or marks n d) (sym e) ∙ is

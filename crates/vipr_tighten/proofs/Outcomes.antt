@@ -53,10 +53,6 @@ goal_by P c (Some g) is = is
 pub reported_goal : (P : Profile) (c : Certificate) (r : Report) → Reports P c r → GoalIs P c r.goal
 reported_goal P c r h = goal_by P c r.goal h.goal
 
-pub goal_inside : (P : Profile) (c : Certificate) (goal : Option ℕ) → GoalIs P c goal → IfSome goal (λ g. g < count c)
-goal_inside P c None h = tt
-goal_inside P c (Some g) h = h.0.0
-
 pub fewer_kept : (c : Certificate) (goal : Option ℕ) → length (tightened c goal).derivations ≤ length c.derivations
 fewer_kept c goal = let e = tight_counts c goal in omega arith
 

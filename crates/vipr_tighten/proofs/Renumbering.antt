@@ -7,7 +7,7 @@ use Rattle.vipr_spec.specs.Certificate as is
 use Rattle.vipr_spec.specs.Certificate.{NamesEarlier}
 use Rattle.vipr_spec.specs.Steps.{RefersBack}
 use Rattle.vipr_spec.specs.Tightened.{refers_to, is_the_goal, is_marked, is_kept, new_index, renumbered, with_new_indices, kept_derivations, referred_by, tightened}
-use Rattle.vipr_spec.specs.Laws.{index_same, length_kept_derivations, reason_placed, marked_past, next_kept, next_left_out, renumbered_alike}
+use Rattle.vipr_spec.proofs.Laws.{index_same, length_kept_derivations, reason_placed, marked_past, next_kept, next_left_out, renumbered_alike}
 use Rattle.vipr_cert.specs.Earlier.{reason_in, NameEarlierFrom}
 use Rattle.vipr_cert.specs.Items.{reason_of, derivation_of}
 use Rattle.vipr_cert.specs.declared.items.Derivation.{Derivation}

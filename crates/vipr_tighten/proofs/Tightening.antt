@@ -4,7 +4,7 @@ use Rattle.vipr_spec.specs.Certificate as is
 use Rattle.vipr_spec.specs.Steps.{RefersBack}
 use Rattle.vipr_spec.specs.Shape.{CanWrite}
 use Rattle.vipr_spec.specs.Tightened.{kept_derivations, tightened}
-use Rattle.vipr_spec.specs.Laws.{can_write}
+use Rattle.vipr_spec.proofs.Laws.{can_write}
 use Rattle.vipr_linear.specs.declared.row.Solution.{Solution}
 use Rattle.vipr_cert.specs.Earlier.{NameEarlierFrom}
 use Rattle.vipr_cert.specs.Items.{derivation_of, certificate_with}

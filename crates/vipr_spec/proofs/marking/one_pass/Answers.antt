@@ -1,5 +1,5 @@
 use Rattle.std.proofs.Common.{refl}
-use Rattle.vipr_spec.specs.Laws.TightenPasses.{marked_down}
+use Rattle.vipr_spec.proofs.TightenPasses.{marked_down}
 use Rattle.vipr_spec.proofs.marking.one_pass.Goals as goal
 
 pub returns : goal.returns

@@ -1,5 +1,5 @@
 use Rattle.std.proofs.Common.{refl}
-use Rattle.vipr_spec.specs.Laws.TightenPasses.{next_kept, next_left_out}
+use Rattle.vipr_spec.proofs.TightenPasses.{next_kept, next_left_out}
 use Rattle.vipr_spec.proofs.renumbering.one_pass.Goals as goal
 
 pub returns : goal.returns

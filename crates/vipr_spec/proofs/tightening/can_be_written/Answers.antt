@@ -1,4 +1,4 @@
-use Rattle.vipr_spec.specs.Laws.TightenLimits.{can_write}
+use Rattle.vipr_spec.proofs.TightenLimits.{can_write}
 use Rattle.vipr_spec.proofs.tightening.can_be_written.Goals as goal
 
 pub returns : goal.returns

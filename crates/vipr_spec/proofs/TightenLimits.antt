@@ -18,7 +18,7 @@ use Rattle.vipr_spec.specs.Certificate.{Certificate, count}
 use Rattle.vipr_spec.specs.Tightened.{is_kept, kept_of, new_index, renumbered_entries, refers_to}
 use Rattle.vipr_spec.specs.Tightened.{or_else, renumbered, with_new_indices, last_reference}
 use Rattle.vipr_spec.specs.Tightened.{with_last_references, tightened}
-use Rattle.vipr_spec.specs.Laws.Kept.{index_le, index_same, length_kept, length_kept_derivations}
+use Rattle.vipr_spec.proofs.Kept.{index_le, index_same, length_kept, length_kept_derivations}
 
 All-kept : {A : Type 0} (P : A → Type 0) (keep : ℕ → Bool) (k : ℕ) (xs : List A) → All P xs
     → All P (kept_of keep k xs)

@@ -17,7 +17,7 @@ use Rattle.vipr_spec.specs.Certificate.{Reason, asm, lin, rnd, uns, sol, Derivat
 use Rattle.vipr_spec.specs.Tightened.{refers_to, is_the_goal, is_marked, renumbered, kept_of}
 use Rattle.vipr_spec.specs.Tightened.{new_index, with_new_indices, or_else, last_reference}
 use Rattle.vipr_spec.specs.Tightened.{with_last_references, kept_derivations, referred_by}
-use Rattle.vipr_spec.specs.Laws.Kept.{index_same, length_kept}
+use Rattle.vipr_spec.proofs.Kept.{index_same, length_kept}
 
 pub kept_more : {A : Type 0} (keep : ℕ → Bool) (k : ℕ) (xs : List A) (x : A)
     → kept_of keep k (xs ++ x ∷ []) ≡ kept_of keep k xs ++ cond (keep (k + length xs)) (x ∷ []) []

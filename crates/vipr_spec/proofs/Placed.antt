@@ -1,8 +1,8 @@
 -- Derivations by their index
 use Rattle.std.proofs.Common.{◌≡◌, ℕ, zero, suc, ◌+◌, List, [], ◌∷◌, ◌++◌, map, length}
-use Rattle.std.proofs.Common.{slice_index_or, Option, Some, None, refl, sym, ◌∙◌, ap}
+use Rattle.std.proofs.Common.{slice_index_or, Some, None, refl, sym, ◌∙◌, ap}
 use Rattle.std.proofs.lemmas.List.{get_or-append-add, length-map}
-use Rattle.vipr_spec.specs.Certificate.{Reason, Derivation, Certificate, Known, given, derived}
+use Rattle.vipr_spec.specs.Certificate.{Derivation, Certificate, Known, given, derived}
 use Rattle.vipr_spec.specs.Certificate.{unknown, reason_at}
 
 pub at_place : {A X : Type 0} (f : A → X) (cs : List A) (ys : List X) (j : ℕ) (d : X)

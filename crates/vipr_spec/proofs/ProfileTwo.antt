@@ -1,0 +1,127 @@
+-- Two certificates that are proofs under profile two, and none under profile one
+use Rattle.std.proofs.Common.{◌≡◌, ◌≢◌, ℕ, zero, suc, Some, ℤ, pos, ◌+ℤ◌, ◌≤ℤ◌, ◌⊎◌, IsTrue, arith, refl, sym, ◌∙◌, ap, subst, inl, inr, lit<, unwrap_or}
+use Rattle.std.specs.Ordering.{nat_cmp}
+use Rattle.std.specs.FinMap.{get-empty}
+use Rattle.std.proofs.lemmas.List.Elements.{All-nil}
+use Rattle.std.proofs.lemmas.Int.{ints}
+use Rattle.vipr_spec.specs.Fraction.{over, whole, zero_ℚ, ◌≤ℚ◌}
+use Rattle.vipr_spec.specs.Constraint.{one, two, at_most, at_least, Condition, RoundsTo, IsAbsurd, IsSplit}
+use Rattle.vipr_spec.specs.Certificate.{Reason, asm, uns, constraint_at, IsProof, IsGoodStep, HasGoodSteps, is_live, RestsOnNothing, MeetsBound}
+use Rattle.vipr_spec.specs.Examples.{first_variable, rounded_bound, split_at_half}
+use Rattle.vipr_spec.proofs.Fractions.{over-le, le_of_whole, le_of_eq_ℚ, le_refl_ℚ}
+use Rattle.vipr_spec.proofs.Optimum.{whole_row, row_first}
+use Rattle.vipr_spec.proofs.Rests.{rests_given}
+
+-- ---- one half
+
+half_up : RoundsTo at_least (over (pos 1) 2) (pos 1)
+half_up = (
+  (over-le (pos 1) (pos 1) 2 1 (lit< tt) (lit< tt)).1 (omega (arith, ints)),
+  λ m h. let l = (over-le (pos 1) m 2 1 (lit< tt) (lit< tt)).0 h in omega (arith, ints),
+)
+
+half_down : RoundsTo at_most (over (pos 1) 2) (pos 0)
+half_down = (
+  (over-le (pos 0) (pos 1) 1 2 (lit< tt) (lit< tt)).1 (omega (arith, ints)),
+  λ m h. let l = (over-le m (pos 1) 1 2 (lit< tt) (lit< tt)).0 h in omega (arith, ints),
+)
+
+half_not_whole : (k : ℤ) → over (pos 1) 2 ≢ whole k
+half_not_whole k e =
+    let l = (over-le (pos 1) k 2 1 (lit< tt) (lit< tt)).0 (le_of_eq_ℚ _ _ e) in
+    let m = (over-le k (pos 1) 1 2 (lit< tt) (lit< tt)).0 (le_of_eq_ℚ _ _ (sym e)) in
+    omega (arith, ints)
+
+one_above_half : ¬ (whole (pos 1) ≤ℚ over (pos 1) 2)
+one_above_half h = let l = (over-le (pos 1) (pos 1) 1 2 (lit< tt) (lit< tt)).0 h in omega (arith, ints)
+
+one_not_zero : whole (pos 1) ≢ zero_ℚ
+one_not_zero e = let l = le_of_whole (pos 1) (pos 0) (le_of_eq_ℚ _ _ e) in omega (arith, ints)
+
+not_one : ¬ (whole (pos 1) ≤ℚ zero_ℚ)
+not_one h = let l = le_of_whole (pos 1) (pos 0) h in omega (arith, ints)
+
+-- ---- the bound of a whole objective
+
+bound_nothing : RestsOnNothing rounded_bound 0
+bound_nothing a r = rests_given rounded_bound 0 a refl r
+
+pub bound_two : IsProof two rounded_bound
+bound_two = record {
+  solutions = All-nil _;
+  solutions_fit = All-nil _;
+  steps = no_steps;
+  primal = tt;
+  dual = λ _. (0, (lit< tt, bound_nothing, inr (whole_row, λ j. refl, inr (pos 1, half_up, inr (λ j. refl, inl refl, le_refl_ℚ _)))));
+}
+  where
+    no_steps : HasGoodSteps two rounded_bound
+    no_steps zero r e = absurd (cc)
+    no_steps (suc k) r e = absurd (cc)
+
+not_dominated : ¬ MeetsBound one rounded_bound.problem (constraint_at rounded_bound 0) (whole (pos 1))
+not_dominated (inl a) = one_not_zero (sym row_first ∙ a.0 0)
+not_dominated (inr d) = one_above_half d.2
+
+pub bound_one : ¬ IsProof one rounded_bound
+bound_one p =
+    let d = p.dual refl in
+    let e : d.0 ≡ 0 = omega (arith, d.1.0) in
+    not_dominated (subst (λ k. MeetsBound one rounded_bound.problem (constraint_at rounded_bound k) (whole (pos 1))) e d.1.2)
+
+-- ---- the split
+
+absurdity : IsAbsurd (constraint_at split_at_half 0)
+absurdity = (λ j. ap (λ o. unwrap_or o zero_ℚ) (get-empty nat_cmp j), not_one)
+
+splits : IsSplit two first_variable (constraint_at split_at_half 1) (constraint_at split_at_half 2)
+splits = inl (record { row = λ j. refl; whole_row = whole_row; senses = (refl, refl); bounds = (pos 0, pos 1, half_down, half_up, whole_bounds) })
+  where
+    whole_bounds : pos 1 ≤ℤ (pos 0 +ℤ pos 1)
+    whole_bounds = omega (arith, ints)
+
+live : (i : ℕ) → (i ≡ 0) ⊎ (i ≡ 1) ⊎ (i ≡ 0) ⊎ (i ≡ 2) → IsTrue (is_live split_at_half 3 i)
+live i (inl e) = subst (λ n. IsTrue (is_live split_at_half 3 n)) (sym e) refl
+live i (inr (inl e)) = subst (λ n. IsTrue (is_live split_at_half 3 n)) (sym e) refl
+live i (inr (inr (inl e))) = subst (λ n. IsTrue (is_live split_at_half 3 n)) (sym e) refl
+live i (inr (inr (inr e))) = subst (λ n. IsTrue (is_live split_at_half 3 n)) (sym e) refl
+
+joined : IsGoodStep two split_at_half 3 (uns 0 1 0 2) (constraint_at split_at_half 3)
+joined = record {
+  earlier = (lit< tt, lit< tt, lit< tt, lit< tt);
+  follows = (refl, refl, (splits, inl absurdity, inl absurdity));
+  fits = tt;
+  references = live;
+}
+
+assumes : (k : ℕ) (d : Condition) → IsGoodStep two split_at_half k asm d
+assumes k d = record { earlier = tt; follows = tt; fits = tt; references = λ i h. absurd h }
+
+by_reason : (k : ℕ) (q r : Reason) → IsGoodStep two split_at_half k q (constraint_at split_at_half k) → Some q ≡ Some r → IsGoodStep two split_at_half k r (constraint_at split_at_half k)
+by_reason k q r g e = let same : q ≡ r = ap (λ o. unwrap_or o r) e in subst (λ r. IsGoodStep two split_at_half k r (constraint_at split_at_half k)) same g
+
+steps : HasGoodSteps two split_at_half
+steps zero r e = absurd (cc)
+steps (suc zero) r e = by_reason 1 _ r (assumes 1 _) e
+steps (suc (suc zero)) r e = by_reason 2 _ r (assumes 2 _) e
+steps (suc (suc (suc zero))) r e = by_reason 3 _ r joined e
+steps (suc (suc (suc (suc k)))) r e = absurd (cc)
+
+given_nothing : RestsOnNothing split_at_half 0
+given_nothing a r = rests_given split_at_half 0 a refl r
+
+pub split_two : IsProof two split_at_half
+split_two = record {
+  solutions = All-nil _;
+  solutions_fit = All-nil _;
+  steps = steps;
+  primal = tt;
+  dual = λ _. (0, (lit< tt, given_nothing, absurdity));
+}
+
+not_split : ¬ IsSplit one first_variable (constraint_at split_at_half 1) (constraint_at split_at_half 2)
+not_split (inl c) = half_not_whole c.bounds.0 c.bounds.1
+not_split (inr c) = half_not_whole c.bounds.0 c.bounds.1
+
+pub split_one : ¬ IsProof one split_at_half
+split_one p = not_split (p.steps 3 (uns 0 1 0 2) refl).follows.2.0
