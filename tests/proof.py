@@ -5,7 +5,8 @@ usage: tests/proof.py [--check]
 
 A row for each public call: the call, the names of its clauses (`-` for one without a name), the definitions that they
 cite, the laws that its proof cites, and the must-fail edits of its code. Edits of what lies below the public calls, of
-definitions and of laws stand in the line below a crate's table.
+definitions and of laws stand in the line below a crate's table. Of the table by hand it says which row is missing, and
+which names a clause that its calls don't have.
 """
 import os
 import re
@@ -179,14 +180,42 @@ def tables():
     return '\n'.join([MARKS[0], ''] + lines + [MARKS[1]])
 
 
+def clauses_of(crate):
+    """By the name of a function of the crate, or of a trait's member, the names of its clauses."""
+    named = {}
+    for path in sorted((TOP / 'crates' / crate / 'src').rglob('*.rt')):
+        for name, _, _, clauses, _, _ in functions(path):
+            named.setdefault(name, set()).update(clause for _, clause, _ in clauses if clause)
+    return named
+
+
+def faults_of_rows(text):
+    """The table by hand: each crate has one row, and a clause in brackets is one of the calls before them."""
+    by_hand = re.findall(r'^\| `(vipr\w*)` \|[^|]*\|([^|]*)\|', text.split(MARKS[0])[0], re.M)
+    for crate in order():
+        count = sum(crate == name for name, _ in by_hand)
+        if count != 1:
+            yield f'{crate} has {count} rows'
+    for crate, cited in by_hand:
+        named = clauses_of(crate)
+        for calls, clauses in re.findall(r'((?:`[\w:]+`(?:, | and )?)+) \(((?:`\w+`(?:, )?)+)\)', cited):
+            known = [named[name] for name in re.findall(r'(?:\w+::)?(\w+)`', calls) if name in named]
+            for clause in re.findall(r'`(\w+)`', clauses):
+                if clause.islower() and known and not any(clause in names for names in known):
+                    yield f'{crate}: {calls} has no clause {clause}'
+
+
 def main():
     text = PAGE.read_text()
+    faults = list(faults_of_rows(text))
+    for fault in faults:
+        print(f'{os.path.relpath(PAGE, TOP)}: {fault}')
     new = re.sub(re.escape(MARKS[0]) + r'(?:.|\n)*' + re.escape(MARKS[1]), lambda m: tables(), text)
     if '--check' in sys.argv:
         print(f'{os.path.relpath(PAGE, TOP)} is {"current" if new == text else "not what tests/proof.py makes of the sources"}')
-        return int(new != text)
+        return int(new != text or bool(faults))
     PAGE.write_text(new)
-    return 0
+    return int(bool(faults))
 
 
 if __name__ == '__main__':

@@ -12,7 +12,7 @@ ghost use Rattle.vipr_spec.specs.Tests.{Test, Passes};
 ghost use Rattle.vipr_spec.specs.Verdict.{found_in, Report, Reports, Refusal, Answer, refuses};
 ghost use Rattle.vipr_spec.specs.Verdict.{verified};
 ghost use Rattle.vipr_spec.specs.Verdict.{IsAnswer};
-ghost use Rattle.vipr_spec.specs.RefusalLaws.{IsRefusedBy};
+ghost use Rattle.vipr_spec.specs.RefusalLaws.{EndsAt, IsRefusedBy};
 ghost use Rattle.vipr_spec.specs.Causes as cause;
 
 /// No test fails first exactly where all pass, and only one test fails first. Of two lists, one
@@ -28,11 +28,13 @@ pub fn first_failing()
         ⊎ ((t : Test) × (f ≡ Some t) × FirstFailing (Passes P c) a (Some t))) }
 {}
 
-/// What is refused before the end of the text is refused whatever follows the tokens up to the
-/// place.
+/// What is refused before the end of the text is refused by the tokens up to the place, whatever
+/// follows them. They end with the token at the place, with the solution or derivation there, or,
+/// if the primal bound isn't met, with the last solution.
 pub fn refusals_stand()
     ensures { (P : Profile) (r : Rest) (x : Refusal) → IsAnswer P r (refuses x)
-        → x.cause ≢ cause.truncated → x.cause ≢ cause.no_proof → IsRefusedBy P found_in r x }
+        → x.cause ≢ cause.truncated → x.cause ≢ cause.no_proof
+        → IsRefusedBy P found_in EndsAt r x }
 {}
 
 /// Each text has an answer: it can't be that it has none.
