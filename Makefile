@@ -3,6 +3,8 @@
 # make build             proves and builds the program, crates/vipr/out/vipr, and says how far it is
 # make install PREFIX=.. builds it if needed, and installs it with its man page and completions (/usr/local)
 # make uninstall PREFIX=.. takes them away again
+# make lib               the library for C: libvipr.a and a shared one in crates/vipr_c/out
+# make install-lib PREFIX=.. installs it, with include/vipr.h and vipr.pc; make uninstall-lib removes it
 # make house             checks the repository's text: laws, names, lengths, the tables and pages made from the files
 # make wrong             tries more wrong versions of the code, which the prover has to refuse (an hour and more)
 # make bench             times the program over certificates that a script makes, beside wc -w and cat
@@ -18,28 +20,67 @@ SHARE = $(DESTDIR)$(PREFIX)/share
 INSTALLED = $(BIN)/vipr $(SHARE)/man/man1/vipr.1 $(SHARE)/bash-completion/completions/vipr \
 	$(SHARE)/zsh/site-functions/_vipr $(SHARE)/fish/vendor_completions.d/vipr.fish
 
-.PHONY: check test build install uninstall house statement wrong bench
+# the library for C: its version is the program's
+VERSION = $(shell sed -n 's/.*\.version("\(.*\)").*/\1/p' crates/vipr_command/src/args.rt)
+MADE = crates/vipr_c/out
+SHARED = libvipr.so.$(VERSION)
+SONAME = libvipr.so.$(firstword $(subst ., ,$(VERSION)))
+LIBDIR ?= $(PREFIX)/lib
+LIB = $(DESTDIR)$(LIBDIR)
+INCLUDE = $(DESTDIR)$(PREFIX)/include
+INSTALLED_LIB = $(INCLUDE)/vipr.h $(LIB)/pkgconfig/vipr.pc \
+	$(foreach name,libvipr.a $(SHARED) $(SONAME) libvipr.so,$(LIB)/$(name))
+
+.PHONY: check test build install uninstall lib install-lib uninstall-lib house statement wrong bench
+
+# what the program is made from: check, install and bench build it if it isn't there or one of these is newer
+SOURCES = crates.txt $(shell find crates -name out -prune -o \( -name '*.rt' -o -name '*.antt' \) -print)
 
 build:
-	@RT="$(RT)" $(PYTHON) tools/build.py
+	@RT="$(RT)" $(PYTHON) tools/build.py && touch $(PROGRAM)
 
-check: build
+$(PROGRAM): $(SOURCES)
+	@RT="$(RT)" $(PYTHON) tools/build.py && touch $@
+
+check: $(PROGRAM)
 	@$(PROGRAM) check "$(FILE)"
 
 test:
 	@RT="$(RT)" $(PYTHON) tests/all.py
 
-install: build
+install: $(PROGRAM)
 	@install -D -m 755 $(PROGRAM) "$(BIN)/vipr"
 	@install -D -m 644 man/vipr.1 "$(SHARE)/man/man1/vipr.1"
 	@install -D -m 644 completions/vipr.bash "$(SHARE)/bash-completion/completions/vipr"
 	@install -D -m 644 completions/_vipr "$(SHARE)/zsh/site-functions/_vipr"
 	@install -D -m 644 completions/vipr.fish "$(SHARE)/fish/vendor_completions.d/vipr.fish"
 	@echo "vipr is installed in $(BIN)"
+	@$(if $(filter /usr /usr/local,$(PREFIX)),,echo "for zsh, in ~/.zshrc before compinit: fpath+=($(PREFIX)/share/zsh/site-functions)")
 
 uninstall:
 	@rm -f $(foreach file,$(INSTALLED),"$(file)")
 	@echo "vipr is taken out of $(BIN)"
+
+$(MADE)/libvipr.a: $(SOURCES) include/vipr.map tools/library.py
+	@RT="$(RT)" $(PYTHON) tools/library.py $(VERSION) $(MADE)
+
+lib: $(MADE)/libvipr.a
+	@echo "libvipr.a and $(SHARED) are in $(MADE)"
+
+install-lib: $(MADE)/libvipr.a
+	@install -D -m 644 include/vipr.h "$(INCLUDE)/vipr.h"
+	@install -D -m 644 $(MADE)/libvipr.a "$(LIB)/libvipr.a"
+	@install -D -m 755 $(MADE)/$(SHARED) "$(LIB)/$(SHARED)"
+	@ln -sf $(SHARED) "$(LIB)/$(SONAME)"
+	@ln -sf $(SONAME) "$(LIB)/libvipr.so"
+	@install -d "$(LIB)/pkgconfig"
+	@sed 's|@PREFIX@|$(PREFIX)|; s|@LIBDIR@|$(LIBDIR)|; s|@VERSION@|$(VERSION)|' include/vipr.pc.in > "$(LIB)/pkgconfig/vipr.pc"
+	@chmod 644 "$(LIB)/pkgconfig/vipr.pc"
+	@echo "the library is installed in $(LIB)"
+
+uninstall-lib:
+	@rm -f $(foreach file,$(INSTALLED_LIB),"$(file)")
+	@echo "the library is removed from $(LIB)"
 
 house:
 	@$(PYTHON) tests/house.py
@@ -53,5 +94,5 @@ statement: build
 wrong: build
 	@RT="$(RT)" $(PYTHON) tools/wrong.py $(CRATES)
 
-bench: build
+bench: $(PROGRAM)
 	@$(PYTHON) bench/measure.py

@@ -9,6 +9,8 @@
 #include <stddef.h>
 #include <stdint.h>
 
+#define VIPR_VERSION "0.1.0"
+
 #ifdef __cplusplus
 extern "C" {
 #endif
@@ -41,7 +43,8 @@ struct vipr_answer {
     uint32_t goal;      /* the least index of one that does */
 };
 
-/* Checks the text of a certificate. Neither pointer may be null, also where the length is 0; the text isn't changed. */
+/* Checks the text of a certificate. Neither pointer may be null, also where the length is 0 (in C++ the data of an empty
+ * vector or string_view may be null); the text isn't changed. */
 int32_t vipr_check(const uint8_t *text, size_t length, struct vipr_answer *answer);
 
 #ifdef __cplusplus

@@ -35,6 +35,7 @@ RUNNING = re.compile(r'make test|make house|python3 tests/\w+\.py')
 WANTED = ['cc', 'man', 'parallel', 'pv']
 INSTALLED = ['bin/vipr', 'share/bash-completion/completions/vipr', 'share/fish/vendor_completions.d/vipr.fish',
              'share/man/man1/vipr.1', 'share/zsh/site-functions/_vipr']
+LIBRARY = ['include/vipr.h', 'lib/libvipr.a', 'lib/libvipr.so', 'lib/pkgconfig/vipr.pc']
 TASKS = 3
 checks = failed = 0
 left_out = set()
@@ -138,8 +139,11 @@ def look_at(reader, rows, said):
             check((reader.home / '.local' / name).is_file(), f'make install leaves no {name}')
     if 'man vipr' in rows:
         check('SYNOPSIS' in said, f'man vipr prints {said[:200]!r}')
-    if './library ' in words:
-        check('verified\nsolutions 0' in said, f'./library prints {said[-200:]!r}')
+    if 'make install-lib' in words:
+        for name in LIBRARY:
+            check((reader.home / '.local' / name).is_file(), f'make install-lib leaves no {name}')
+        callers = words.count('/check ') + words.count('/check.py ')
+        check(callers and said.count('infeasible.vipr: verified, solutions 0') == callers, f'the callers print {said[-400:]!r}')
     if 'rt test' in words:
         check('FAILED' not in said, f'rt test prints {said[-600:]!r}')
     if 'pv ' in words:
@@ -184,8 +188,8 @@ def main():
                 good = status == 0 or rows[0].startswith('parallel ')
                 check(good, f'{page}: {rows!r}: status {status}: {said[-1000:]}')
                 look_at(reader, rows, said)
-        status, said = reader.run('make uninstall PREFIX=$HOME/.local', reader.clone)
-        left = [it for it in INSTALLED if (reader.home / '.local' / it).exists()]
+        status, said = reader.run('make uninstall uninstall-lib PREFIX=$HOME/.local', reader.clone)
+        left = [it for it in INSTALLED + LIBRARY if (reader.home / '.local' / it).exists()]
         check(status == 0 and not left, f'make uninstall: status {status}, and it leaves {left}: {said}')
     if left_out:
         print(f'commands: left out, for want of {", ".join(sorted(left_out))}')

@@ -271,7 +271,8 @@ def main():
     sys.set_int_max_str_digits(0)
     help_text = answer(['--help'])[0].decode()
     commands = [c for c in ('check', 'show', 'explain', 'tighten') if f'\n  {c} ' in help_text]
-    files = sorted((TOP / 'examples').rglob('*.vipr'))
+    # those of problems/ have nothing that the others lack
+    files = sorted(it for it in (TOP / 'examples').rglob('*.vipr') if it.parent.name != 'problems')
     examples = [(path, path.read_bytes()) for path in files if path.stat().st_size < 2000]
     streams(commands)
     limits()

@@ -5,16 +5,19 @@ usage: tests/interface.py [--write] [PROGRAM]     crates/vipr/out/vipr without i
 
 completions/vipr.bash, completions/_vipr (zsh) and completions/vipr.fish are made whole. In man/vipr.1 the parts between
 `.\\" made: WORD` and `.\\" end` are made: the synopsis and the commands from the help, the causes from docs/FORMAT.md.
-Then the bash completion is tried, the man page is laid out where `groff` is there, its examples are run, and the program
-is installed into a folder and taken away again.
+Then the bash completion is tried, also in a terminal, the man page is laid out where `groff` is there, its examples are
+run, and the program is installed into a folder and removed again.
 
 Prints each fault, and last `interface: N checks, F failed`; the exit status is 1 where one failed.
 """
+import os
+import pty
 import re
 import shutil
 import subprocess
 import sys
 import tempfile
+import threading
 from pathlib import Path
 
 TOP = Path(__file__).resolve().parent.parent
@@ -79,17 +82,27 @@ def program():
 def bash(commands, options):
     top = ' '.join([c.name for c in commands] + [flag for flags, _ in options for flag in flags])
     lines = ['# Completion of vipr for bash. Made by tests/interface.py from the program\'s help.',
+             '# Files are completed by bash itself, also names with spaces.',
              '_vipr() {',
-             '    local word="${COMP_WORDS[COMP_CWORD]}" words=""',
+             '    local word="${COMP_WORDS[COMP_CWORD]}" before="${COMP_WORDS[COMP_CWORD-1]}" words=""',
              '    COMPREPLY=()',
              '    if [ "$COMP_CWORD" -eq 1 ]; then',
+             '        compopt +o bashdefault +o default 2> /dev/null',
              f'        COMPREPLY=($(compgen -W "{top}" -- "$word"))',
              '        return',
-             '    fi']
+             '    fi',
+             '    # behind -- there are files alone',
+             '    [[ " ${COMP_WORDS[*]:1:COMP_CWORD-1} " == *" -- "* ]] && return']
     valued = {flag: values_in(about) for command in commands for flags, _, about in command.flags()
               for flag in flags if values_in(about)}
     if valued:
-        lines.append('    case "${COMP_WORDS[COMP_CWORD-1]}" in')
+        lines += ['    # bash takes --profile=1 for three words',
+                  '    if [ "$word" = "=" ]; then',
+                  '        word=""',
+                  '    elif [ "$before" = "=" ]; then',
+                  '        before="${COMP_WORDS[COMP_CWORD-2]}"',
+                  '    fi',
+                  '    case "$before" in']
         lines += [f'        {flag}) COMPREPLY=($(compgen -W "{" ".join(values)}" -- "$word")); return ;;'
                   for flag, values in sorted(valued.items())]
         lines.append('    esac')
@@ -99,11 +112,9 @@ def bash(commands, options):
     lines += ['    esac',
               '    if [ "${word#-}" != "$word" ]; then',
               '        COMPREPLY=($(compgen -W "$words" -- "$word"))',
-              '    else',
-              '        COMPREPLY=($(compgen -f -- "$word"))',
               '    fi',
               '}',
-              'complete -o filenames -F _vipr vipr']
+              'complete -o bashdefault -o default -F _vipr vipr']
     return '\n'.join(lines) + '\n'
 
 
@@ -117,11 +128,11 @@ def zsh(commands, options):
     lines += [f"    '{command.name}:{zsh_words(command.about)}'" for command in commands]
     lines += [')', 'if (( CURRENT == 2 )); then', "    _describe command commands",
               '    compadd -- ' + ' '.join(flag for flags, _ in options for flag in flags), '    return', 'fi',
-              'case "$words[2]" in']
+              'local command="$words[2]"', 'shift words', '(( CURRENT-- ))', 'case "$command" in']
     for command in commands:
-        flags = [f"'{flag}[{zsh_words(about)}]{zsh_value(value, about)}'"
+        flags = [f"'{flag}{'=' if value else ''}[{zsh_words(about)}]{zsh_value(value, about)}'"
                  for flags, value, about in command.flags() for flag in flags]
-        files = ["'*:file:_files'"] if command.arguments else []
+        files = ["'1:file:_files'"] if command.arguments else []
         lines.append(f'    {command.name}) _arguments {" ".join(flags + files)} ;;')
     return '\n'.join(lines + ['esac']) + '\n'
 
@@ -180,7 +191,9 @@ def man_parts(commands, options):
     page = (TOP / 'docs/FORMAT.md').read_text()
     for number, name, when in re.findall(r'^\| (\d+) \| ([A-Z]\w*) \| ([^|]+?) \|', page, re.M):
         plain = re.sub(r'\*\*|`', '', when)
-        causes += ['.TP', f'\\fB{number}\\fR {name}', roff(plain[0].upper() + plain[1:]) + '.']
+        # a word of the format keeps its letters
+        shown = plain[0].upper() + plain[1:] if re.match(r'[a-z]+ ', when) else plain
+        causes += ['.TP', f'\\fB{number}\\fR {name}', roff(shown) + '.']
     return {'synopsis': synopsis[:], 'commands': rows, 'causes': causes}
 
 
@@ -206,6 +219,67 @@ _vipr; printf '%s\\n' "${{COMPREPLY[@]}}"'''
     return sorted(done.stdout.split())
 
 
+# what is typed in a terminal, a tab at its end, and the words of the command that comes of it
+TYPED = [
+    ('vipr ti\t', ['tighten']),
+    ('vipr check plain\t', ['check', 'plain.vipr']),
+    ('vipr check two\t', ['check', 'two words.vipr']),
+    ('vipr check "two\t', ['check', 'two words.vipr']),
+    ('vipr check folder/in\t', ['check', 'folder/inner.vipr']),
+    ('vipr check --pro\t2 plain\t', ['check', '--profile', '2', 'plain.vipr']),
+    ('vipr check --profile=2 two\t', ['check', '--profile=2', 'two words.vipr']),
+    ('vipr check -- --pro\t', ['check', '--', '--pro']),
+    ('vipr tighten two\t--out pla\t', ['tighten', 'two words.vipr', '--out', 'plain.vipr']),
+    ('vipr tighten --out=two\t', ['tighten', '--out=two words.vipr']),
+    ('vipr plain\t', ['plain']),
+]
+
+
+def typed():
+    """The lines of TYPED in a bash with a terminal, in a folder with such names: each has the words that are wanted."""
+    with tempfile.TemporaryDirectory() as name:
+        (Path(name) / 'folder').mkdir()
+        for file in ('plain.vipr', 'two words.vipr', 'folder/inner.vipr'):
+            (Path(name) / file).touch()
+        words = f'{name}/.words'
+        lines = [f"bind 'set enable-bracketed-paste off'; source '{TOP}/completions/vipr.bash'; PS1=",
+                 f"vipr() {{ printf '%s\\037' \"$@\" >> {words}; printf '\\036' >> {words}; }}"]
+        lines += [line for line, _ in TYPED] + ['exit']
+        ours, theirs = pty.openpty()
+        with subprocess.Popen(['bash', '--noprofile', '--norc', '-i'], stdin=theirs, stdout=theirs, stderr=theirs,
+                              cwd=name, start_new_session=True, env=dict(os.environ, TERM='dumb')) as child:
+            os.close(theirs)
+            threading.Thread(target=drain, args=[ours], daemon=True).start()
+            for line in lines:
+                os.write(ours, line.encode() + b'\n')
+            try:
+                child.wait(timeout=60)
+            except subprocess.TimeoutExpired:
+                child.kill()
+        there = Path(words).read_text().split('\036')[:-1] if Path(words).is_file() else []
+        got = [it.split('\037')[:-1] for it in there]
+    for number, (line, wanted) in enumerate(TYPED):
+        made = got[number] if number < len(got) else None
+        check(made == wanted, f'in a terminal {line!r} becomes {made}, wanted {wanted}')
+
+
+def drain(descriptor):
+    """Reads what a terminal shows, so that the shell isn't kept waiting."""
+    try:
+        while os.read(descriptor, 4096):
+            pass
+    except OSError:
+        pass
+
+
+def heading():
+    """The man page names the program's version and a day."""
+    version = subprocess.run([PROGRAM, '--version'], capture_output=True, text=True, check=True).stdout.split()[-1]
+    first = re.search(r'^\.TH .*$', MAN.read_text(), re.M)[0]
+    check(re.fullmatch(rf'\.TH VIPR 1 \d{{4}}-\d\d-\d\d "vipr {re.escape(version)}" "User commands"', first),
+          f'man/vipr.1 begins with {first}')
+
+
 def examples():
     """The commands of the man page's examples print what stands below them."""
     text = MAN.read_text()
@@ -221,7 +295,7 @@ def installation():
     """`make install` puts each file in its place, and `make uninstall` takes them all away."""
     with tempfile.TemporaryDirectory() as name:
         for target in ('install', 'uninstall'):
-            words = ['make', '--no-print-directory', '-o', 'build', target, f'PROGRAM={PROGRAM}', f'PREFIX={name}']
+            words = ['make', '--no-print-directory', '-o', str(PROGRAM), target, f'PROGRAM={PROGRAM}', f'PREFIX={name}']
             done = subprocess.run(words, cwd=TOP, capture_output=True, text=True, check=False)
             check(done.returncode == 0, f'make {target}: {done.stdout}{done.stderr}')
             there = sorted(str(path.relative_to(name)) for path in Path(name).rglob('*') if path.is_file())
@@ -231,6 +305,31 @@ def installation():
                 done = subprocess.run([Path(name) / 'bin/vipr', 'check', 'examples/infeasible.vipr'], cwd=TOP, check=False,
                                       capture_output=True, text=True)
                 check(done.stdout.startswith('verified infeas\n'), f'the installed program prints {done.stdout!r}')
+
+
+def make(*words):
+    environment = {name: value for name, value in os.environ.items() if name not in ('MAKEFLAGS', 'MFLAGS', 'RT')}
+    done = subprocess.run(['make', '--no-print-directory', *words], cwd=TOP, env=environment, stdout=subprocess.PIPE,
+                          stderr=subprocess.STDOUT, text=True, check=False)
+    return done.returncode, done.stdout
+
+
+def first_commands():
+    """A program that is newer than its sources isn't built again, and a toolchain that is missing is named in two lines."""
+    with tempfile.TemporaryDirectory() as name:
+        program = Path(name) / 'vipr'
+        shutil.copy(PROGRAM, program)
+        for target in ('check', 'install'):
+            program.touch()
+            _, said = make('-n', target, f'PROGRAM={program}', f'PREFIX={name}')
+            check('build.py' not in said and str(program) in said, f'make {target} over a built program would do {said!r}')
+            os.utime(program, (0, 0))
+            _, said = make('-n', target, f'PROGRAM={program}', f'PREFIX={name}')
+            check('build.py' in said, f'make {target} over a program older than its sources would do {said!r}')
+    status, said = make('build', 'RT=/nowhere/rt')
+    lines = [line for line in said.split('\n') if line and not line.startswith('make: ')]
+    check(status and len(lines) == 2 and lines[0].startswith("'/nowhere/rt' isn't on the path") and 'README' in lines[1],
+          f'make build without rt: status {status}: {said}')
 
 
 def main():
@@ -247,12 +346,16 @@ def main():
           f'bash completes a first word to {completed(["vipr", ""])}')
     for name in names:
         check(completed(['vipr', name[:-1]]) == [name], f'bash completes {name[:-1]} to {completed(["vipr", name[:-1]])}')
-        check('examples' in completed(['vipr', name, 'exam']), f'bash completes no file behind {name}')
+        got = completed(['vipr', name, '--', '--'])
+        check(got == [], f'behind -- bash completes --, of {name}, to {got}')
     for command in commands:
         for flags, value, about in command.flags():
             if values_in(about):
                 got = completed(['vipr', command.name, flags[-1], ''])
                 check(got == values_in(about), f'bash completes a value of {flags[-1]} to {got}')
+                got = completed(['vipr', command.name, flags[-1], '=', ''])
+                check(got == values_in(about), f'bash completes a value of {flags[-1]}= to {got}')
+    typed()
     if shutil.which('groff'):
         done = subprocess.run(['groff', '-man', '-ww', '-Tutf8', '-z', str(MAN)], capture_output=True, text=True, check=False)
         check(not done.stderr and done.returncode == 0, f'groff: {done.stderr}')
@@ -260,8 +363,10 @@ def main():
         if shutil.which(shell):
             done = subprocess.run([shell, '-n', file], cwd=TOP, capture_output=True, text=True, check=False)
             check(done.returncode == 0, f'{shell}: {done.stderr}')
+    heading()
     examples()
     installation()
+    first_commands()
     print(f'interface: {checks} checks, {failed} failed')
     return 1 if failed else 0
 

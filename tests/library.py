@@ -1,12 +1,16 @@
 #!/usr/bin/env python3
-"""Builds the library for C, links it to a program in C, and compares what that says with what `vipr check` does.
+"""Builds and installs the library for C, links programs to it, and compares what they say with what `vipr check` does.
 
 usage: tests/library.py [PROGRAM]     crates/vipr/out/vipr without it
 
-The texts are all examples and beginnings of each. Prints each difference, and last `library: N texts, F different`.
-Without a C compiler nothing is built, and a line says so. The exit status is 1 where a text differs.
+`make install-lib` installs it into a folder. tests/library.c, with the archive alone, checks all examples and beginnings
+of each; the callers of examples/c, cpp, python and rust check all examples with the shared library, and so do those in C,
+C++ and Rust with the archive. `make uninstall-lib` removes all of it. Prints each difference, and last
+`library: N texts, F different`. What isn't built for want of a compiler is named. The exit status is 1 if a text or a
+file differs.
 """
 import os
+import re
 import shutil
 import subprocess
 import sys
@@ -17,30 +21,122 @@ import proved
 
 TOP = Path(__file__).resolve().parent.parent
 PROGRAM = Path(sys.argv[1] if len(sys.argv) > 1 else TOP / 'crates/vipr/out/vipr').resolve()
-RT = os.environ.get('RT', 'rt')
+COMPILERS = {'c': ('CC', 'cc', 'gcc'), 'cpp': ('CXX', 'c++', 'g++'), 'rust': ('RUSTC', 'rustc')}
+different = 0
+
+
+def fail(what):
+    global different
+    different += 1
+    print(what)
+
+
+def compiler(language):
+    """The compiler of a language, or None."""
+    variable, *names = COMPILERS[language]
+    return os.environ.get(variable) or next(filter(None, map(shutil.which, names)), None)
 
 
 def folder(room):
     """Where to build the library: in a copy that takes over what `rt ci` proved, where there is such, and else here."""
     if not proved.is_of_one_run(TOP):
         return TOP
-    copy = Path(room) / 'vipr'
-    copy.mkdir()
-    shutil.copy(TOP / 'crates.txt', copy)
-    shutil.copytree(TOP / 'crates', copy / 'crates', ignore=shutil.ignore_patterns('incremental'))
+    copy = room / 'vipr'
+    for name in ('Makefile', 'crates.txt'):
+        copy.mkdir(exist_ok=True)
+        shutil.copy(TOP / name, copy)
+    for name in ('crates', 'include', 'tools'):
+        shutil.copytree(TOP / name, copy / name, ignore=shutil.ignore_patterns('incremental'))
     return copy if proved.take_over(TOP, copy) else TOP
 
 
-def build(compiler, room):
-    """The program in C, built as docs/LIBRARY.md says."""
-    top = folder(room)
-    subprocess.run([RT, 'lib'], cwd=top / 'crates/vipr_c', check=True, stdout=subprocess.DEVNULL)
-    page = subprocess.run([RT, 'doc'], capture_output=True, text=True, check=True).stdout.strip()
-    program = f'{room}/library'
-    subprocess.run([compiler, '-std=c99', '-Wall', '-Wextra', '-Werror', '-O1', '-I', TOP / 'include',
-                    TOP / 'tests/library.c', top / 'crates/vipr_c/out/libvipr_c.a',
-                    Path(page).parent / 'c/liblibc_c.a', '-o', program], check=True)
-    return program
+def make(target, top, prefix):
+    environment = {name: value for name, value in os.environ.items() if name not in ('MAKEFLAGS', 'MFLAGS', 'DESTDIR')}
+    done = subprocess.run(['make', '--no-print-directory', target, f'PREFIX={prefix}', f'PYTHON={sys.executable}'], cwd=top,
+                          env=environment, stdout=subprocess.PIPE, stderr=subprocess.STDOUT, text=True, check=False)
+    if done.returncode:
+        fail(f'make {target}: {done.stdout}')
+    return done.returncode == 0
+
+
+def installed(prefix):
+    return sorted(str(it.relative_to(prefix)) for it in prefix.rglob('*') if it.is_file() or it.is_symlink())
+
+
+def version():
+    return re.search(r'define VIPR_VERSION "(.*)"', (TOP / 'include/vipr.h').read_text())[1]
+
+
+def look_at_files(prefix):
+    """What is installed, and that each place that names a version names the program's."""
+    number = version()
+    libraries = ['libvipr.a', 'libvipr.so', f'libvipr.so.{number.split(".")[0]}', f'libvipr.so.{number}']
+    wanted = ['include/vipr.h', *(f'lib/{name}' for name in libraries), 'lib/pkgconfig/vipr.pc']
+    if installed(prefix) != sorted(wanted):
+        fail(f'make install-lib leaves {installed(prefix)}')
+    said = subprocess.run([PROGRAM, '--version'], capture_output=True, text=True, check=True).stdout
+    if said != f'vipr {number}\n':
+        fail(f'include/vipr.h has the version {number}, and the program says {said!r}')
+    if shutil.which('pkg-config'):
+        environment = dict(os.environ, PKG_CONFIG_PATH=str(prefix / 'lib/pkgconfig'))
+        said = [word for flags in (['--modversion'], ['--cflags', '--libs']) for word in subprocess.run(
+            ['pkg-config', *flags, 'vipr'], env=environment, check=False, capture_output=True, text=True).stdout.split()]
+        if said != [number, f'-I{prefix}/include', f'-L{prefix}/lib', '-lvipr']:
+            fail(f'pkg-config says {said}')
+
+
+def build(words):
+    done = subprocess.run(list(map(str, words)), stdout=subprocess.PIPE, stderr=subprocess.STDOUT, text=True, check=False)
+    if done.returncode:
+        fail(f'{" ".join(map(str, words))}: {done.stdout}')
+    return done.returncode == 0
+
+
+def look_at_header(prefix, room):
+    """The header alone, in the oldest C and C++ that it is for, without a warning."""
+    for language, standard, name in (('c', 'c89', 'header.c'), ('cpp', 'c++98', 'header.cpp')):
+        if compiler(language):
+            (room / name).write_text('#include "vipr.h"\n')
+            build([compiler(language), f'-std={standard}', '-pedantic-errors', '-Wall', '-Wextra', '-Werror', '-fsyntax-only',
+                   f'-I{prefix}/include', room / name])
+
+
+def callers(prefix, room):
+    """The callers of examples/, built where their compilers are there: what each is called, and its command."""
+    header, lib = f'-I{prefix}/include', prefix / 'lib'
+    strict = ['-Wall', '-Wextra', '-Werror', '-O1', header]
+    missing = [language for language in COMPILERS if not compiler(language)]
+    for linked in ('shared', 'archive'):
+        end = [lib / 'libvipr.a'] if linked == 'archive' else [f'-L{lib}', '-lvipr']
+        rust = ['-L', f'native={lib}'] + (['-l', 'static=vipr'] if linked == 'archive' else [])
+        sources = TOP / 'examples'
+        words = {'c': [sources / 'c/check.c', '-std=c99', '-D_POSIX_C_SOURCE=200809L', *strict, *end],
+                 'cpp': [sources / 'cpp/check.cpp', '-std=c++17', '-pthread', *strict, *end],
+                 'rust': [sources / 'rust/check.rs', '-O', '--edition', '2021', '-D', 'warnings', *rust]}
+        for language in COMPILERS:
+            program = room / f'{language}_{linked}'
+            if language not in missing and build([compiler(language), *words[language], '-o', program]):
+                yield f'{language}, {linked}', [program]
+    yield 'python', [sys.executable, TOP / 'examples/python/check.py']
+    if missing:
+        print(f'library: left out, for want of a compiler: {", ".join(missing)}')
+
+
+def look_at_callers(prefix, room):
+    """Each caller prints of all examples what `vipr check` does."""
+    names = sorted((TOP / 'examples').rglob('*.vipr'))
+    lines = [', '.join(wanted(path).rstrip('\n').split('\n')) for path in names]
+    expected = ''.join(f'{path}: {line}\n' for path, line in zip(names, lines))
+    environment = dict(os.environ, LD_LIBRARY_PATH=str(prefix / 'lib'), PYTHONDONTWRITEBYTECODE='1',
+                       VIPR_LIBRARY=str(prefix / f'lib/libvipr.so.{version().split(".")[0]}'))
+    count = 0
+    for name, words in callers(prefix, room):
+        for files, status, text in ((names, 1, expected), (names[:1], int(lines[0].startswith('refused')), None)):
+            done = subprocess.run([*words, *files], env=environment, capture_output=True, text=True, check=False)
+            count += len(files)
+            if done.returncode != status or text not in (None, done.stdout):
+                fail(f'the caller in {name} answers {done.returncode}: {done.stdout}{done.stderr}')
+    return count
 
 
 def texts(room):
@@ -49,7 +145,7 @@ def texts(room):
         yield path
         whole = path.read_bytes()
         for length in range(0, len(whole), 1 + len(whole) // 12):
-            part = Path(room) / f'{path.stem}.{length}'
+            part = room / f'{path.stem}.{length}'
             part.write_bytes(whole[:length])
             yield part
 
@@ -60,20 +156,33 @@ def wanted(path):
     return '\n'.join(['verified' if lines[0].startswith('verified ') else lines[0], *lines[1:]])
 
 
+def look_at_texts(prefix, room):
+    program, count = room / 'library', 0
+    if not build([compiler('c'), '-std=c99', '-Wall', '-Wextra', '-Werror', '-O1', f'-I{prefix}/include',
+                  TOP / 'tests/library.c', prefix / 'lib/libvipr.a', '-o', program]):
+        return 0
+    for path in texts(room):
+        said = subprocess.run([program, path], capture_output=True, text=True, check=False)
+        count += 1
+        if said.returncode or said.stdout != wanted(path):
+            fail(f'{path.name}: {said.stdout!r}, wanted {wanted(path)!r}')
+    return count
+
+
 def main():
-    compiler = os.environ.get('CC') or shutil.which('cc') or shutil.which('gcc')
-    if not compiler:
+    if not compiler('c'):
         print('library: no C compiler, so the library was not linked')
         return 0
-    count = different = 0
-    with tempfile.TemporaryDirectory(prefix='vipr-library-') as room:
-        program = build(compiler, room)
-        for path in texts(room):
-            said = subprocess.run([program, path], capture_output=True, text=True, check=False)
-            count += 1
-            if said.returncode or said.stdout != wanted(path):
-                different += 1
-                print(f'{path.name}: {said.stdout!r}, wanted {wanted(path)!r}')
+    count = 0
+    with tempfile.TemporaryDirectory(prefix='vipr-library-') as name:
+        room, prefix = Path(name), Path(name) / 'installed'
+        top = folder(room)
+        if make('install-lib', top, prefix):
+            look_at_files(prefix)
+            look_at_header(prefix, room)
+            count = look_at_texts(prefix, room) + look_at_callers(prefix, room)
+            if make('uninstall-lib', top, prefix) and installed(prefix):
+                fail(f'make uninstall-lib leaves {installed(prefix)}')
     print(f'library: {count} texts, {different} different')
     return 1 if different or not count else 0
 

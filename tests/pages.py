@@ -10,8 +10,8 @@ In README.md, CONTRIBUTING.md and the pages of docs/ and examples/ it looks at
 - blocks marked with a file's name, as `vipr examples/infeasible.vipr`: they are that file, or a part of it, line by line;
 - tables below a line `Changes of [..](..):`, with the columns `In place of`, `Write` and `Printed` last: each row changes
   one piece of the file that the line names, and `check` prints the last column as its first line;
-- the table of examples/README.md: each file has a row, with the verdict that `check` prints, and behind it what `explain`
-  prints, or its model under bench/ where the program hasn't that command;
+- the tables of examples/README.md: each file has a row, with the verdict that `check` prints, and behind it what `explain`
+  prints, or its model under bench/ where the program hasn't that command; a file that a script makes is what it makes;
 - links to files of the repository: they exist, and so does the heading after a `#`.
 
 Commands whose output isn't shown (a clone, an installation) stand in blocks marked `sh`. tests/commands.py runs them;
@@ -37,7 +37,7 @@ PAGES = ['README.md', 'CONTRIBUTING.md', 'CHANGELOG.md', 'docs/FORMAT.md', 'docs
          'docs/PROOF.md', 'docs/SECURITY.md', 'docs/BENCHMARKS.md', 'docs/ARCHITECTURE.md', 'docs/DECISIONS.md', 'docs/DEFINITIONS.md', 'docs/GLOSSARY.md',
          'examples/README.md']
 # what may stand in a block that isn't run
-KNOWN = {'git', 'cd', 'make', 'man', 'vipr', 'rt', 'python3', 'source', 'parallel', 'sbatch', 'export', 'sudo', 'pv', 'cc', './library'}
+KNOWN = {'git', 'cd', 'make', 'man', 'vipr', 'rt', 'python3', 'source', 'parallel', 'sbatch', 'export', 'sudo', 'pv', 'cc', './check'}
 BLOCK = re.compile(r'^```([^\n]*)\n(.*?)^```', re.M | re.S)
 checks = failed = 0
 left_out = set()
@@ -96,7 +96,7 @@ def console(page, line, text, folder):
 
 def not_run(page, line, text):
     """Commands that are run elsewhere: their names are known, and targets of make exist."""
-    targets = re.findall(r'^([a-z]+):', (TOP / 'Makefile').read_text(), re.M)
+    targets = re.findall(r'^([a-z-]+):', (TOP / 'Makefile').read_text(), re.M)
     for row in re.sub(r'\\\n', ' ', text).split('\n'):
         for part in re.split(r'&&|\|', row.split('#')[0]):
             words = part.split()
@@ -173,7 +173,7 @@ def examples(commands):
     for line, text in enumerate((TOP / page).read_text().split('\n'), 1):
         found = re.match(r'\| `([^`]*\.vipr)` \|', text)
         if found:
-            there = [p for p in (folder / found[1], folder / 'false_claims' / found[1]) if p.is_file()]
+            there = sorted(folder.rglob(found[1]))
             check(len(there) == 1, page, line, f'there is no example {found[1]}')
             if there:
                 rows[there[0]] = line, [cell.strip() for cell in text.strip('|').split('|')]
@@ -191,6 +191,10 @@ def examples(commands):
         first = 2 if told.startswith('verified') else 1
         shown = '; '.join(f'`{text}`' for text in told.rstrip('\n').split('\n')[first:])
         check(cells[3:4] == [shown], page, line, f'explain prints {shown} for {name}')
+        maker = re.search(r'made by `(bench/\w+\.py)`', cells[1])
+        if maker:
+            made = subprocess.run([sys.executable, TOP / maker[1]], capture_output=True, check=False).stdout
+            check(made == path.read_bytes(), page, line, f'{maker[1]} makes another text than {name}')
 
 
 def main():

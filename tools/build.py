@@ -7,6 +7,7 @@ What was proved before isn't proved again. The program is crates/vipr/out/vipr a
 toolchain, `rt` without it. The exit status is 1 where a crate isn't proved or can't be built; its output is printed.
 """
 import os
+import shutil
 import subprocess
 import sys
 import time
@@ -60,6 +61,10 @@ def build(crate, number, count):
 
 
 def main():
+    if shutil.which(RT) is None:
+        print(f"'{RT}' isn't on the path. vipr is written in Rattle (Rust with contracts); the Rattle kit proves and builds it:\n"
+              'README.md, "Install and use", says what it is. RT=/path/to/rt make check names another command.')
+        return 1
     crates = needed()
     if not (TOP / 'crates' / PROGRAM / 'out' / PROGRAM).is_file():
         print(f'Every function of {len(crates)} crates is proved before the program is built. That is done once, and takes\n'
