@@ -6,7 +6,7 @@
 # make lib               the library for C: libvipr.a and a shared one in crates/vipr_c/out
 # make install-lib PREFIX=.. installs it, with include/vipr.h and vipr.pc; make uninstall-lib removes it
 # make house             checks the repository's text: laws, names, lengths, the tables and pages made from the files
-# make wrong             tries more wrong versions of the code, which the prover has to refuse (an hour and more)
+# make wrong             tries more wrong versions of the code, which the prover has to refuse (hours), CRATES=NAME those of one crate
 # make bench             times the program over certificates that a script makes, beside wc -w and cat
 # make statement         writes docs/STATEMENT.md, docs/PROOF.md, the crate graph, the man page and the completions anew
 RT ?= rt

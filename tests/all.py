@@ -4,20 +4,27 @@
 usage: tests/all.py
 
 First `rt ci`: every proof, the must-fail edits, the tests. Then each script of SCRIPTS, which counts as one. Prints
-what each took, and last `N passed, M failed`; the exit status is 1 where one failed.
+what each took, and what of the processor time went into each crate's proof, tests and edits, found by looking at the
+processes once a second. The last line is `N passed, M failed`; the exit status is 1 if one failed. `tests/gate.py`
+makes a page of this output.
 """
+import datetime
 import os
 import re
 import resource
 import subprocess
 import sys
+import threading
 import time
+from collections import defaultdict
 from pathlib import Path
 
 TOP = Path(__file__).resolve().parent.parent
+RT = os.environ.get('RT', 'rt')
 # what to run once the program is built, in the repository's folder
 SCRIPTS = [
     ['tests/house.py'],
+    ['tools/wrong.py', '--sample', '10'],
     ['tests/answers.py'],
     ['tests/hostile.py'],
     ['tests/growths.py'],
@@ -29,6 +36,82 @@ SCRIPTS = [
     ['docs/architecture.py', '--check'],
     ['bench/compare.py', '--profiles', 'crates/vipr/out/vipr', '1000'],
 ]
+TICKS = os.sysconf('SC_CLK_TCK')
+SECONDS_BETWEEN = 1
+
+
+def machine():
+    """What this run is of: the machine, the kit, the commit and the day, a line each."""
+    model = re.search(r'^model name\s*: (.*)$', Path('/proc/cpuinfo').read_text(), re.M)
+    memory = re.search(r'^MemTotal:\s+(\d+)', Path('/proc/meminfo').read_text(), re.M)
+
+    def said(*words):
+        try:
+            return subprocess.run(words, cwd=TOP, capture_output=True, text=True, check=False).stdout.strip()
+        except OSError:
+            return ''
+    yield f'machine: {model[1] if model else "unknown"}, {os.cpu_count()} cores, {int(memory[1]) / 2 ** 20:.0f} GiB'
+    yield f'kit: {said(RT, "version")}'
+    yield f'commit: {said("git", "rev-parse", "--short=7", "HEAD") or "none"}'
+    yield f'date: {datetime.date.today()}'
+
+
+class Watch:
+    """Adds up the processor time of the checks below this process, by crate and kind."""
+
+    def __init__(self):
+        self.spent, self.ended = {}, threading.Event()
+        self.thread = threading.Thread(target=self.look_on, daemon=True)
+
+    def __enter__(self):
+        self.thread.start()
+        return self
+
+    def __exit__(self, *_):
+        self.ended.set()
+        self.thread.join()
+
+    def look_on(self):
+        while not self.ended.wait(SECONDS_BETWEEN):
+            self.look()
+
+    def look(self):
+        """Notes of each check the processor time of it and of the processes below it so far."""
+        processes = {}
+        for folder in Path('/proc').glob('[0-9]*'):
+            try:
+                fields = (folder / 'stat').read_text().rpartition(')')[2].split()
+                words = (folder / 'cmdline').read_text(errors='replace').split('\0')
+                place = os.readlink(folder / 'cwd')
+            except OSError:
+                continue
+            # (the parent, when it began, and own time with that of the processes that have ended below)
+            processes[int(folder.name)] = int(fields[1]), fields[19], sum(map(int, fields[11:15])), words, place
+        checks = defaultdict(int)
+        for pid, (_, _, ticks, _, _) in processes.items():
+            above, check = pid, None
+            while above in processes:
+                if '--crate-name' in processes[above][3]:
+                    check = above
+                if above == os.getpid():
+                    break
+                above = processes[above][0]
+            if check and above == os.getpid():
+                checks[check] += ticks
+        for check, ticks in checks.items():
+            _, began, _, words, place = processes[check]
+            crate = words[words.index('--crate-name') + 1]
+            kind = 'edits' if '/rt-edit' in place else 'tests' if '--test' in words else 'proof'
+            key = check, began, crate, kind
+            self.spent[key] = max(self.spent.get(key, 0), ticks / TICKS)
+
+    def lines(self):
+        total = defaultdict(float)
+        for (_, _, crate, kind), seconds in self.spent.items():
+            total[crate, kind] += seconds / 60
+        for crate in sorted({crate for crate, _ in total}):
+            parts = ', '.join(f'{kind} {total[crate, kind]:.1f}' for kind in ('proof', 'tests', 'edits'))
+            yield f'{crate}: {parts} minutes of processor time'
 
 
 def spent():
@@ -45,12 +128,16 @@ def timed(words):
             print(line, end='', flush=True)
             last = line.strip() or last
     minutes, processor = (time.monotonic() - start) / 60, (spent() - before) / 60
-    print(f'{" ".join(words)}: {minutes:.1f} minutes, {processor:.1f} of processor time', flush=True)
+    shown = ' '.join(words[1:] if words[0] == sys.executable else words)
+    print(f'{shown}: {minutes:.1f} minutes, {processor:.1f} of processor time', flush=True)
     return last, child.returncode
 
 
 def main():
-    last, status = timed([os.environ.get('RT', 'rt'), 'ci'])
+    print(*machine(), sep='\n', flush=True)
+    with Watch() as watch:
+        last, status = timed([RT, 'ci'])
+    print(*watch.lines(), sep='\n', flush=True)
     counted = re.fullmatch(r'(\d+) passed, (\d+) failed', last)
     passed, failed = map(int, counted.groups()) if counted else (0, 1)
     failed += bool(status and not failed)
@@ -61,4 +148,5 @@ def main():
     return 1 if failed else 0
 
 
-sys.exit(main())
+if __name__ == '__main__':
+    sys.exit(main())

@@ -4,9 +4,10 @@
 usage: tests/proof.py [--check]
 
 A row for each public call: the call, the names of its clauses (`-` for one without a name), the definitions that they
-cite, the laws that its proof cites, and the must-fail edits of its code. Edits of what lies below the public calls, of
-definitions and of laws stand in the line below a crate's table. Of the table by hand it says which row is missing, and
-which names a clause that its calls don't have.
+cite, the laws that its proof cites, and the edits of its code: those of must-fail/, which `make test` tries, and those
+of wrong/, which `make wrong` tries. Edits of what lies below the public calls, of definitions and of laws stand in the
+lines below a crate's table. Of the table by hand it says which row is missing, and which names a clause that its calls
+don't have.
 """
 import os
 import re
@@ -97,9 +98,13 @@ def functions(path):
         yield found[3], owner, public, clauses, found.start(), end
 
 
-def edits(crate):
-    """Of each edit of must-fail/ and wrong/ its name, file and text."""
-    for path in sorted((TOP / 'crates' / crate).glob('*/*.edit'), key=lambda it: it.name):
+# the folders of edits, and which command tries those
+FOLDERS = {'must-fail': 'make test', 'wrong': 'make wrong'}
+
+
+def edits(crate, folder):
+    """Of each edit in one of a crate's folders its name, file and text."""
+    for path in sorted((TOP / 'crates' / crate / folder).glob('*.edit')):
         text = path.read_text()
         yield path.stem, re.search(r'^file: (.*)$', text, re.M)[1].strip(), re.search(r'^old: (.*)$', text, re.M)[1]
 
@@ -133,13 +138,13 @@ def traits(file, text, words):
                 members.append(found[1])
                 cited += here
         if members:
-            yield file, start, f'| `{trait}` for `{name}` | {", ".join(members)} | {ticked(dict.fromkeys(cited))} |  |  |'
+            yield file, start, f'| `{trait}` for `{name}` | {", ".join(members)} | {ticked(dict.fromkeys(cited))} |  |  |  |'
 
 
 def table(crate):
     """The table of one crate, as lines."""
     rows, placed = [], set()
-    all_edits = list(edits(crate))
+    all_edits = {folder: list(edits(crate, folder)) for folder in FOLDERS}
     for path in sorted((TOP / 'crates' / crate / 'src').rglob('*.rt')):
         if 'tests' in str(path.relative_to(TOP)):
             continue
@@ -154,22 +159,26 @@ def table(crate):
             cited = []
             for _, _, clause in clauses:
                 cited += [word for word in re.findall(r"[A-Za-z_]\w*", clause) if word in words]
-            own = [edit for edit, place, old in all_edits if place == file and old in text[start:end]]
-            placed |= set(own)
+            own = {folder: [edit for edit, place, old in there if place == file and old in text[start:end]]
+                   for folder, there in all_edits.items()}
+            placed |= {edit for there in own.values() for edit in there}
             kinds = [clause or '-' for kind, clause, _ in clauses if kind == 'ensures']
             needs = [clause or '-' for kind, clause, _ in clauses if kind == 'requires']
             stated = ', '.join(kinds) + ('; needs ' + ', '.join(needs) if needs else '')
             rows.append((file, start, f'| `{call}` | {stated} | {ticked(dict.fromkeys(cited))} | '
-                                      f'{ticked(laws(crate, name))} | {", ".join(own)} |'))
-    rest = [edit for edit, _, _ in all_edits if edit not in placed]
+                                      f'{ticked(laws(crate, name))} | '
+                                      f'{" | ".join(", ".join(there) for there in own.values())} |'))
     lines = [f'### `{crate}`', '']
     if rows:
-        lines += ['| Call | Clauses | Definitions | Laws cited in its proof | Edits refused |', '|---|---|---|---|---|']
+        commands = ' | '.join(f'Edits of `{command}`' for command in FOLDERS.values())
+        lines += [f'| Call | Clauses | Definitions | Laws cited in its proof | {commands} |', '|---|---|---|---|---|---|']
         lines += [row for _, _, row in sorted(rows)]
     else:
         lines += ['No call of its own.']
-    if rest:
-        lines += ['', f'Edits below these calls that are refused: {", ".join(rest)}.']
+    for folder, command in FOLDERS.items():
+        rest = [edit for edit, _, _ in all_edits[folder] if edit not in placed]
+        if rest:
+            lines += ['', f'Edits below these calls, of `{command}`: {", ".join(rest)}.']
     return lines + ['']
 
 

@@ -3,61 +3,143 @@
 
 usage: tools/build.py
 
-What was proved before isn't proved again. The program is crates/vipr/out/vipr afterwards. RT names the command of the
-toolchain, `rt` without it. The exit status is 1 where a crate isn't proved or can't be built; its output is printed.
+A crate begins once those below it are built; two of which neither is below the other are built side by side, if there are
+four cores and 8 GB of memory free. What was proved before isn't proved again. The program is crates/vipr/out/vipr
+afterwards. RT names the command of the toolchain, `rt` without it. The exit status is 1 if a crate isn't proved or
+can't be built; its output is printed.
 """
 import os
+import re
 import shutil
 import subprocess
 import sys
+import threading
 import time
+from concurrent.futures import FIRST_COMPLETED, ThreadPoolExecutor, wait
 from pathlib import Path
 
 TOP = Path(__file__).resolve().parent.parent
+sys.path.insert(0, str(TOP / 'tests'))
+import proved  # noqa: E402
+
 RT = os.environ.get('RT', 'rt')
 PROGRAM = 'vipr'
 # a crate that takes no longer than this is built without a word
 QUIET_SECONDS = 3
+# what has to be free, in kB, for a second crate
+FREE = 8_000_000
+# how this script calls itself for one command of the toolchain, under its own lock
+UNLOCKED = '--unlocked'
 
 
 def needed():
-    """The program's crates, each behind those that it stands on."""
+    """The program's crates, each with those of them that it uses."""
     deps = {}
     for line in (TOP / 'crates.txt').read_text().split('\n'):
         head, _, tail = line.split('#')[0].partition(':')
         if head.strip():
             deps[head.split()[0]] = tail.split()
-    order = []
+    found = {}
 
     def visit(crate):
-        if crate in deps and crate not in order:
+        if crate in deps and crate not in found:
+            found[crate] = {dep for dep in deps[crate] if dep in deps}
             for dep in deps[crate]:
                 visit(dep)
-            order.append(crate)
     visit(PROGRAM)
-    return order
+    return found
 
 
-def build(crate, number, count):
-    words = [RT, 'run', '--', '--help'] if crate == PROGRAM else [RT, 'lib']
-    start = time.monotonic()
-    with subprocess.Popen(words, cwd=TOP / 'crates' / crate, stdout=subprocess.PIPE, stderr=subprocess.STDOUT,
-                          text=True, errors='replace') as child:
-        said = False
-        while True:
-            try:
-                out, _ = child.communicate(timeout=QUIET_SECONDS)
-                break
-            except subprocess.TimeoutExpired:
-                if not said:
-                    print(f'[{number} of {count}] {crate} ..', end='', flush=True)
-                    said = True
-    if said:
-        print(f' {time.monotonic() - start:.0f} s', flush=True)
-    if child.returncode:
-        print(out, end='')
-        print(f'{crate} is not built')
-    return child.returncode == 0
+def heights(below):
+    """Of each crate how many bytes of text the longest chain from it up to the program has."""
+    height = {}
+
+    def of(crate):
+        if crate not in height:
+            folder = TOP / 'crates' / crate
+            own = sum(it.stat().st_size for part in proved.PARTS for it in (folder / part).rglob('*') if it.is_file())
+            height[crate] = own + max((of(it) for it in below if crate in below[it]), default=0)
+        return height[crate]
+    for crate in below:
+        of(crate)
+    return height
+
+
+def has_room():
+    """Whether a second crate can be built beside one."""
+    free = re.search(r'^MemAvailable:\s+(\d+)', Path('/proc/meminfo').read_text(), re.M)
+    return len(os.sched_getaffinity(0)) >= 4 and free is not None and int(free[1]) > FREE
+
+
+def locked():
+    """Keeps other commands of the toolchain out of the crates, as each does for itself; None if that can't be done."""
+    try:
+        rtlib = proved.toolchain().rtlib
+        return rtlib.lock(rtlib.crates_below(str(TOP)))
+    except (Exception, SystemExit):
+        return None
+
+
+def unlocked(words):
+    """One command of the toolchain, without a lock of its own."""
+    rt = proved.toolchain()
+    rt.rtlib.lock = lambda crates: []
+    return rt.main(words)
+
+
+def say(line):
+    print(f'{line}\n', end='', flush=True)
+
+
+class Build:
+    """The crates that are built, and those that wait."""
+
+    def __init__(self):
+        self.below = needed()
+        self.locks = locked()
+        self.to_come, self.started, self.spoke, self.seconds = len(self.below), 0, False, 0.0
+
+    def build(self, crate, number, jobs):
+        """Builds a crate and gives whether that went well."""
+        verb = ['run', *jobs, '--', '--help'] if crate == PROGRAM else ['lib', *jobs]
+        words = [RT, *verb] if self.locks is None else [sys.executable, __file__, UNLOCKED, *verb]
+        start, label = time.monotonic(), f'[{number} of {len(self.below)}] {crate}'
+        clock = threading.Timer(QUIET_SECONDS, lambda: say(f'{label} ..'))
+        clock.start()
+        with subprocess.Popen(words, cwd=TOP / 'crates' / crate, stdout=subprocess.PIPE, stderr=subprocess.STDOUT,
+                              text=True, errors='replace', pass_fds=self.locks or ()) as child:
+            out = child.stdout.read()
+            _, status, usage = os.wait4(child.pid, 0)
+            child.returncode = os.waitstatus_to_exitcode(status)
+        clock.cancel()
+        took, spent = time.monotonic() - start, usage.ru_utime + usage.ru_stime
+        self.to_come -= child.returncode == 0
+        self.seconds += spent
+        if took >= QUIET_SECONDS:
+            self.spoke = True
+            say(f'{label} {took:.0f} s, {spent:.0f} s of processor time, {self.to_come} to come')
+        if child.returncode:
+            say(f'{out}{crate} is not built')
+        return child.returncode == 0
+
+    def all(self):
+        """Builds all crates, those first that have the most text above them, and gives whether that went well."""
+        height, waiting, done, running, well = heights(self.below), set(self.below), set(), {}, True
+        with ThreadPoolExecutor(2) as pool:
+            while True:
+                ready = sorted((it for it in waiting if self.below[it] <= done), key=height.get, reverse=True)
+                beside = self.locks is not None and has_room()
+                while well and ready and len(running) < (2 if beside else 1):
+                    crate = ready.pop(0)
+                    waiting.remove(crate)
+                    self.started += 1
+                    jobs = ['--jobs', '2'] if beside and (running or ready) else []
+                    running[pool.submit(self.build, crate, self.started, jobs)] = crate
+                if not running:
+                    return well
+                for it in wait(running, return_when=FIRST_COMPLETED)[0]:
+                    well = it.result() and well
+                    done.add(running.pop(it))
 
 
 def main():
@@ -65,14 +147,15 @@ def main():
         print(f"'{RT}' isn't on the path. vipr is written in Rattle (Rust with contracts); the Rattle kit proves and builds it:\n"
               'README.md, "Install and use", says what it is. RT=/path/to/rt make check names another command.')
         return 1
-    crates = needed()
+    start, build = time.monotonic(), Build()
     if not (TOP / 'crates' / PROGRAM / 'out' / PROGRAM).is_file():
-        print(f'Every function of {len(crates)} crates is proved before the program is built. That is done once, and takes\n'
-              'some 15 to 30 minutes on four cores (an estimate) and 4 GB of memory or more.', flush=True)
-    for number, crate in enumerate(crates, 1):
-        if not build(crate, number, len(crates)):
-            return 1
-    return 0
+        say(f'Every function of {len(build.below)} crates is proved before the program is built. That is done once, and takes\n'
+            '4 GB of memory or more; docs/GATE.md says how long it took.')
+    well = build.all()
+    if well and build.spoke:
+        say(f'built: {(time.monotonic() - start) / 60:.1f} minutes, {build.seconds / 60:.1f} of processor time')
+    return 0 if well else 1
 
 
-sys.exit(main())
+if __name__ == '__main__':
+    sys.exit(unlocked(sys.argv[2:]) if sys.argv[1:2] == [UNLOCKED] else main())

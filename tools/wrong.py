@@ -2,48 +2,155 @@
 """Tries the wrong versions of the code under crates/*/wrong, which the prover has to refuse.
 
 usage: tools/wrong.py [CRATE | CRATE/EDIT ..]
+       tools/wrong.py --sample N
 
-`make test` tries those of `must-fail/`, which turn the public calls. These are more of the same kind, and take
-longer than everything else together. Each is checked over what the crate's last check proved, in a folder that is thrown
-away. The last line is `N refused, M not`; the exit status is 1 where one isn't.
+`make test` tries those of `must-fail/`, which turn the main promises. These are more of the same kind, and take longer
+than everything else together. Each is checked on a copy, over what the crate's last check proved, and once more from
+nothing if it is still proved then. Crates are tried side by side, as many as memory allows.
+
+Without words all are tried, and the day, the commit and the result are written into docs/PROOF.md. --sample tries N
+that follow one another in the list of all, from a place that the commit chooses (outside of a git checkout the text of
+the crates does), so that each run names other ones. It takes over what `rt ci` proved, if nothing changed since.
+
+Prints what each came to, and last `N refused, M not`; the exit status is 1 if one isn't refused, or if a crate
+isn't proved without an edit.
 """
+import datetime
+import hashlib
+import os
+import re
 import shutil
+import subprocess
 import sys
 import tempfile
+from concurrent.futures import ThreadPoolExecutor
 from pathlib import Path
 
 TOP = Path(__file__).resolve().parent.parent
 sys.path.insert(0, str(TOP / 'tests'))
 import proved  # noqa: E402
 
-
-def tried(rt, crate, paths):
-    """Whether each edit of a crate is refused."""
-    crate.build_rlib(['--jobs', '1'], anew=False)
-    with tempfile.TemporaryDirectory(prefix='vipr-wrong-') as room:
-        kept = Path(room, 'kept')
-        last = Path(crate.folder, 'out', 'incremental')
-        if last.is_dir():
-            shutil.copytree(last, kept)
-        kept.mkdir(exist_ok=True)
-        for path in paths:
-            found, text = rt.must_fail(crate, str(path), ['--jobs', '1'], str(kept))
-            print(text, flush=True)
-            yield found in (rt.REFUSED, rt.AT_LIMIT)
+PAGE = TOP / 'docs/PROOF.md'
+MARKS = '<!-- last run: written by `make wrong` -->', '<!-- end of the last run -->'
+# what one check may take of the memory, in kB
+ROOM = 6_000_000
 
 
-def main(names):
+def git(*words):
+    """What git says of this folder, if it is the top of a checkout."""
+    try:
+        said = subprocess.run(['git', *words], cwd=TOP, capture_output=True, text=True, check=False)
+    except OSError:
+        return None
+    return said.stdout.strip() if (TOP / '.git').exists() and said.returncode == 0 else None
+
+
+def text_sum():
+    """A sum of the text of all crates."""
+    total = hashlib.sha256()
+    for path in sorted(it for part in ('src', 'specs', 'proofs', 'must-fail', 'wrong')
+                       for it in TOP.glob(f'crates/*/{part}/**/*') if it.is_file()):
+        total.update(f'{path.relative_to(TOP)}\n'.encode() + path.read_bytes())
+    return total.hexdigest()
+
+
+def sample(paths, count):
+    """That many edits in a row; the tens (for a count of 10) begin at fixed places, so that they cover the list."""
+    commit = git('rev-parse', 'HEAD')
+    parts = max(1, -(-len(paths) // count))
+    part = int(commit or text_sum(), 16) % parts
+    by = f'by the commit {commit[:7]}' if commit else 'by the text of the crates'
+    print(f'part {part + 1} of {parts} of the {len(paths)} wrong versions, chosen {by}', flush=True)
+    return (paths + paths)[part * count:part * count + min(count, len(paths))]
+
+
+def copied(room):
+    """A copy of the crates that takes over what `rt ci` proved here, if all libraries are of one run of it."""
+    if not proved.is_of_one_run(TOP):
+        return TOP
+    copy = Path(room, 'vipr')
+    copy.mkdir()
+    for name in ('crates.txt', 'HANDLES'):
+        shutil.copy(TOP / name, copy)
+    shutil.copytree(TOP / 'crates', copy / 'crates', ignore=shutil.ignore_patterns('incremental'))
+    return copy if proved.take_over(TOP, copy) else TOP
+
+
+def tried(rt, crate, paths, kept):
+    """Of each edit of a crate its name and whether it is refused; none is, if the crate isn't proved without an edit."""
+    one = ['--jobs', '1']
+    last = Path(crate.folder, 'out', 'incremental')
+    if last.is_dir():
+        shutil.copytree(last, kept)
+    kept.mkdir(exist_ok=True)
+    if not crate.is_built() and rt.checked(crate, {}, one, str(kept)).returncode:
+        print(f'{crate.name} is not proved', flush=True)
+        return [(f'{crate.name}/{path.stem}', False) for path in paths]
+    out = []
+    for path in paths:
+        found, text = rt.must_fail(crate, str(path), one, str(kept))
+        if found in (rt.MISSED, rt.UNSURE):
+            found, text = rt.must_fail(crate, str(path), one)
+        print(text, flush=True)
+        out.append((f'{crate.name}/{path.stem}', found in (rt.REFUSED, rt.AT_LIMIT)))
+    shutil.rmtree(kept, ignore_errors=True)
+    return out
+
+
+def at_once():
+    """How many crates to try side by side."""
+    free = re.search(r'^MemAvailable:\s+(\d+)', Path('/proc/meminfo').read_text(), re.M)
+    return max(1, min(len(os.sched_getaffinity(0)), int(free[1]) // ROOM if free else 1))
+
+
+def record(results):
+    """Writes what a whole run came to into docs/PROOF.md."""
+    commit = git('rev-parse', '--short=7', 'HEAD')
+    tree = f'at commit {commit}' if commit else f'of the text with the sum {text_sum()[:12]}'
+    tree += ' with changes' if git('status', '--porcelain', '--', 'crates') else ''
+    lost = [name for name, refused in results if not refused]
+    said = f'all {len(results)} were refused' if not lost else (
+        f'{len(results) - len(lost)} of {len(results)} were refused, and not: {", ".join(lost)}')
+    line = f'`make wrong` was last run whole on {datetime.date.today()}, {tree}: {said}.'
+    text = PAGE.read_text()
+    new = re.sub(re.escape(MARKS[0]) + r'(?:.|\n)*?' + re.escape(MARKS[1]),
+                 lambda m: f'{MARKS[0]}\n{line}\n{MARKS[1]}', text)
+    PAGE.write_text(new)
+
+
+def main(words):
+    if '--sample' in words and not (len(words) == 2 and words[0] == '--sample' and words[1].isdigit() and int(words[1])):
+        print(__doc__.split('\n\n')[1])
+        return 2
     rt = proved.toolchain()
     rt.rtlib.guarded()
-    refused = others = 0
-    for crate in rt.rtlib.crates_below(str(TOP)):
-        paths = [path for path in sorted(Path(crate.folder, 'wrong').glob('*.edit'))
-                 if not names or {crate.name, f'{crate.name}/{path.stem}'} & set(names)]
-        if paths:
-            for is_refused in tried(rt, crate, paths):
-                refused, others = refused + is_refused, others + (not is_refused)
-    print(f'{refused} refused, {others} not')
-    return 1 if others else 0
+    with tempfile.TemporaryDirectory(prefix='vipr-wrong-') as room:
+        is_sample = words[:1] == ['--sample']
+        crates = {it.name: it for it in rt.rtlib.crates_below(str(copied(room) if is_sample else TOP))}
+        paths = [path for name, it in crates.items() for path in sorted(Path(it.folder, 'wrong').glob('*.edit'))
+                 if is_sample or not words or {name, f'{name}/{path.stem}'} & set(words)]
+        if is_sample:
+            paths = sample(paths, int(words[1]))
+        by_crate = {}
+        for path in paths:
+            by_crate.setdefault(path.parent.parent.name, []).append(path)
+        for name, there in by_crate.items():
+            print(f'{name}: {", ".join(path.stem for path in there)}', flush=True)
+        # (one after the other, since crates share those below them)
+        if any(dep.build_rlib(['--jobs', '1'], anew=False) for name in by_crate for dep in crates[name].below()):
+            print('a crate below is not proved, so nothing was tried')
+            return 1
+        with ThreadPoolExecutor(at_once()) as pool:
+            runs = [pool.submit(tried, rt, crates[name], there, Path(room, f'kept-{name}'))
+                    for name, there in by_crate.items()]
+            results = [it for run in runs for it in run.result()]
+    lost = [name for name, refused in results if not refused]
+    if not words:
+        record(results)
+    for name in lost:
+        print(f'not refused: {name}')
+    print(f'{len(results) - len(lost)} refused, {len(lost)} not')
+    return 1 if lost or not results else 0
 
 
 sys.exit(main(sys.argv[1:]))

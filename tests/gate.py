@@ -1,0 +1,100 @@
+#!/usr/bin/env python3
+"""Writes docs/GATE.md, what the first build and the test command took, from the output of a run of both.
+
+usage: (make build; make test) > LOG 2>&1     in a clone without a build
+       tests/gate.py LOG
+
+The exit status is 1, and nothing is written, if LOG has no whole run of `make test`.
+"""
+import re
+import sys
+from pathlib import Path
+
+TOP = Path(__file__).resolve().parent.parent
+PAGE = TOP / 'docs/GATE.md'
+HEAD = """# What the gate takes
+
+This page is written by `tests/gate.py` from the output of one run of `(make build; make test)`, in a clone without a build. Other pages name no such figures and link here.
+"""
+STUB = 'No run is written here yet.\n'
+# the crate whose build shows how fast a machine is: no crate is below it, and none is built beside it
+YARDSTICK = 'vipr_spec'
+KINDS = ('proof', 'tests', 'edits')
+
+
+def number(text):
+    return float(text or 0)
+
+
+class Run:
+    """What a log says."""
+
+    def __init__(self, text):
+        self.said = dict(re.findall(r'^(machine|kit|commit|date): (.*)$', text, re.M))
+        self.built = {crate: (number(wall), number(spent)) for crate, wall, spent in re.findall(
+            r'^\[\d+ of \d+\] (\w+) (\d+) s, (\d+) s of processor time', text, re.M)}
+        self.build = re.search(r'^built: ([\d.]+) minutes, ([\d.]+) of processor time$', text, re.M)
+        self.crates = {crate: tuple(map(number, rest)) for crate, *rest in re.findall(
+            r'^(\w+): proof ([\d.]+), tests ([\d.]+), edits ([\d.]+) minutes of processor time$', text, re.M)}
+        self.steps = [(name, number(wall), number(spent)) for name, wall, spent in re.findall(
+            r'^(\S.*): ([\d.]+) minutes, ([\d.]+) of processor time$', text, re.M)
+            if name.endswith('rt ci') or '.py' in name]
+        ends = re.findall(r'^\d+ passed, \d+ failed$', text, re.M)
+        self.result = ends[-1] if ends else ''
+        shares = re.findall(r'^(?:rt: )?ok; handles allowed: .*; (.*)$', text, re.M)
+        self.share = shares[-1] if shares else 'not said'
+        edits = re.findall(r'must-fail edits: (\d+) refused', text)
+        sample = re.findall(r'^(\d+) refused, (\d+) not$', text, re.M)
+        self.edits = f'{edits[-1] if edits else 0} of `must-fail/`'
+        self.edits += f', {sample[-1][0]} of {sum(map(int, sample[-1]))} tried of `wrong/`' if sample else ''
+
+    def is_whole(self):
+        return bool(self.said and self.result and any(name.endswith('rt ci') for name, _, _ in self.steps))
+
+
+def row(*cells):
+    return '| ' + ' | '.join(f'{cell:.1f}' if isinstance(cell, float) else str(cell) for cell in cells) + ' |'
+
+
+def page(run):
+    """The page of a run, as lines."""
+    lines = ['| Run | |', '|---|---|', row('Day', run.said.get('date', '')), row('Commit', f'`{run.said.get("commit", "")}`'),
+             row('Kit', f'`{run.said.get("kit", "")}`'), row('Machine', run.said.get('machine', '')),
+             row('Result', f'`{run.result}`'), row('Wrong versions refused', run.edits), row('Proved here', run.share)]
+    if YARDSTICK in run.built:
+        wall, spent = run.built[YARDSTICK]
+        lines.append(row('Yardstick', f'`{YARDSTICK}` alone: {wall:.0f} seconds, {spent:.0f} of processor time'))
+    lines += ['', 'A machine on which the build of the yardstick takes half as long takes about half of each figure below.', '',
+              '| Command | Minutes | Processor minutes |', '|---|---|---|']
+    if run.build:
+        lines.append(row('`make build`', *map(number, run.build.groups())))
+    else:
+        lines.append(row('`make build`', 'not in this run', ''))
+    lines.append(row('`make test`', *[sum(step[at] for step in run.steps) for at in (1, 2)]))
+    lines += [row(f'of it `{name}`', wall, spent) for name, wall, spent in run.steps]
+    lines += ['', 'The same by crates, in processor minutes. `make test` proves a crate with its tests once more, and a crate '
+              'with wrong versions once more before it tries those, which counts with them here.', '',
+              '| Crate | `make build` | `make test`: proof | tests | wrong versions |', '|---|---|---|---|---|']
+    for crate in sorted(run.crates | run.built):
+        built = run.built[crate][1] / 60 if crate in run.built else ''
+        lines.append(row(f'`{crate}`', built, *run.crates.get(crate, [''] * len(KINDS))))
+    sums = [float(sum(it[at] for it in run.crates.values())) for at in range(len(KINDS))]
+    lines.append(row('all', sum(it[1] for it in run.built.values()) / 60, *sums))
+    return '\n'.join(lines) + '\n'
+
+
+def main(words):
+    if len(words) != 1:
+        print(__doc__.split('\n\n')[1])
+        return 2
+    run = Run(Path(words[0]).read_text(errors='replace'))
+    if not run.is_whole():
+        print(f'{words[0]} has no whole run of make test')
+        return 1
+    PAGE.write_text(f'{HEAD}\n{page(run)}')
+    print(f'{PAGE.relative_to(TOP)} is written')
+    return 0
+
+
+if __name__ == '__main__':
+    sys.exit(main(sys.argv[1:]))
