@@ -19,6 +19,31 @@ Those of HOSTILE are made to cost more than their length, where a program does e
   growing    sets of assumptions that grow by one from derivation to derivation
   one_sum    one sum over many assumptions
   integers   short solutions of a problem with many integer variables
+
+Those of PRODUCTS have a product of large factors in a short text, which a program may work off factor by factor:
+
+  objective_tested       constraints written `OBJ`, and solutions to test them with
+  columns_and_objective  short constraints and solutions, and a few constraints written `OBJ`
+  objective_stated       derivations that state `OBJ`, each dropped at once
+  objective_kept         derivations that state `OBJ`, kept to the end
+  weak_goals             derivations with the objective's row that are too weak for the claim
+  split_on_objective     two assumptions `OBJ`, split on again and again
+  same_set               a sum that names one large set of assumptions again and again
+  alternating_sets       a sum that names two large sets of assumptions in turn
+
+Those of KEPT are texts of which much is kept:
+
+  names                  variables with names of one byte
+  names_and_solutions    variables with names of one byte, and two solutions
+  empty_constraints      constraints without entries, and two solutions
+  long_named             constraints with names of 31 bytes
+  short_constraints      constraints of two entries
+  long_constraint        a constraint with an entry at each variable
+  integer_indices        one integer variable, listed again and again
+  empty_solutions        solutions without entries
+  empty_sums             derivations by empty sums, kept to the end
+  assumptions            assumptions
+  long_sum               a derivation by a sum of many constraints
 """
 import random
 import sys
@@ -236,6 +261,133 @@ def integers(size):
     yield from proof([], [f's{k} 1 0 1' for k in range(count)])
 
 
+def unit(count):
+    """A row with the coefficient 1 at each variable."""
+    return {j: 1 for j in range(count)}
+
+
+def objective_tested(size):
+    count = size // 17
+    yield from problem(count, [], ['c L 1 OBJ'] * (count // 2), 'range -inf inf', unit(count))
+    yield from proof([], ['s 0'] * count)
+
+
+def columns_and_objective(size):
+    count = size // 32
+    texts = ['c L 9 OBJ'] * 18 + [constraint('c', 'L', 1, {j: 1}) for j in range(count)]
+    yield from problem(count, [], texts, 'range -inf inf', unit(count))
+    yield from proof([], [f's {vector({j: 1})}' for j in range(count)])
+
+
+def objective_stated(size, last=0):
+    count = size // 30
+    yield from problem(count, [], [], 'range -inf inf', unit(count))
+    yield from proof([f'c L 1 OBJ {{ sol }} {last}'] * count, ['s 0'])
+
+
+def objective_kept(size):
+    return objective_stated(size, -1)
+
+
+def weak_goals(size):
+    count = size // 38
+    yield from problem(count, range(count), ['c G 0 OBJ', 'c G -9 OBJ'], 'range 0 inf', unit(count))
+    yield from proof(['f L 7 OBJ { sol } 0'] * count, ['s 0'])
+
+
+def split_on_objective(size):
+    count = size // 44
+    both = ['l L 0 OBJ { asm } -1', 'g G 1 OBJ { asm } -1', 'z G 0 0 { lin 0 } -1']
+    yield from problem(count, range(count), [], 'range -inf inf', unit(count))
+    yield from proof(both + ['u G 0 0 { uns 2 0 2 1 } 0'] * count)
+
+
+def gathered(count, start=0):
+    """Assumptions, and sums of two by two of them, as they stand from the index on; the last one rests on all."""
+    steps, level = ['a G 0 0 { asm } -1'] * count, list(range(start, start + count))
+    while len(level) > 1:
+        pairs = [level[k:k + 2] for k in range(0, len(level), 2)]
+        level = [start + len(steps) + k for k in range(len(pairs))]
+        steps += [f't G 0 0 {lin([(i, 1) for i in pair])} -1' for pair in pairs]
+    return steps
+
+
+def same_set(size):
+    count = size // 64
+    steps = gathered(count)
+    yield from problem(1, [], [], 'range -inf inf')
+    yield from proof(steps + [f'f G 0 0 {lin([(len(steps) - 1, 1)] * count)} -1'])
+
+
+def alternating_sets(size):
+    count = size // 128
+    steps = gathered(count)
+    tops = [len(steps) - 1]
+    steps += gathered(count, len(steps))
+    tops.append(len(steps) - 1)
+    yield from problem(1, [], [], 'range -inf inf')
+    yield from proof(steps + [f'f G 0 0 {lin([(i, 1) for i in tops] * count)} -1'])
+
+
+def names(size, solutions=()):
+    yield from (line[:1] if line[0] == 'x' else line for line in problem(size // 2, [], [], 'range -inf inf'))
+    yield from proof([], solutions)
+
+
+def names_and_solutions(size):
+    return names(size, ['s 0', 's 0'])
+
+
+def empty_constraints(size):
+    yield from problem(1, [], ['c E 0 0'] * (size // 8), 'range -inf inf')
+    yield from proof([], ['s 0', 's 0'])
+
+
+def long_named(size):
+    yield from problem(1, [], [f'{"c" * 31} E 0 0'] * (size // 38), 'range -inf inf')
+    yield from proof([])
+
+
+def short_constraints(size):
+    yield from problem(2, [], ['c E 0 2 0 1 1 1'] * (size // 16), 'range -inf inf')
+    yield from proof([])
+
+
+def long_constraint(size):
+    count = size // 11
+    yield from problem(count, [], [constraint('c', 'E', 0, unit(count))], 'range -inf inf')
+    yield from proof([])
+
+
+def integer_indices(size):
+    yield from problem(1, [0] * (size // 2), [], 'range -inf inf')
+    yield from proof([])
+
+
+def empty_solutions(size):
+    yield from problem(1, [], [], 'range -inf inf')
+    yield from proof([], ['s 0'] * (size // 4))
+
+
+def empty_sums(size):
+    yield from problem(1, [], [], 'range -inf inf')
+    yield from proof(['d E 0 0 { lin 0 } -1'] * (size // 21))
+
+
+def assumptions(size):
+    yield from problem(1, [], [], 'range -inf inf')
+    yield from proof(['d E 0 0 { asm } 0'] * (size // 18))
+
+
+def long_sum(size):
+    yield from problem(1, [], ['c E 0 0'], 'range -inf inf')
+    yield from proof([f'd E 0 0 {lin([(0, 1)] * (size // 4))} 0'])
+
+
+PRODUCTS = [objective_tested, columns_and_objective, objective_stated, objective_kept, weak_goals, split_on_objective,
+            same_set, alternating_sets]
+KEPT = [names, names_and_solutions, empty_constraints, long_named, short_constraints, long_constraint, integer_indices,
+        empty_solutions, empty_sums, assumptions, long_sum]
 HOSTILE = [objective, handed_on, growing, one_sum, integers]
 FAMILIES = [chain, tree, cuts, dense, wide, long, held, solutions]
 

@@ -163,7 +163,7 @@ def readable(name):
                 character = name[:size].decode()
             except UnicodeDecodeError:
                 continue
-            if len(character) == 1:
+            if len(character) == 1 and character > "\x7F":
                 break
         else:
             size, byte = 1, name[0]

@@ -2,7 +2,8 @@
  *
  * crates/vipr_c proves what vipr_check answers; docs/LIBRARY.md says how to build and link it.
  * It keeps nothing between calls and may be called from several threads at once. Its memory comes from malloc, realloc
- * and free, and all of it is given back before the call returns. */
+ * and free, and all of it is given back before the call returns. It takes less than 64 kB of stack, whatever the text.
+ * Its time has no bound that is promised, and a call can't be stopped: check a stranger's text in a process of its own. */
 #ifndef VIPR_H
 #define VIPR_H
 

@@ -23,6 +23,9 @@ import time
 from pathlib import Path
 
 TOP = Path(__file__).resolve().parent.parent
+sys.path.insert(0, str(TOP / 'bench'))
+from plain_check import readable  # noqa: E402
+
 PROGRAM = Path(sys.argv[1] if len(sys.argv) > 1 else TOP / 'crates/vipr/out/vipr').resolve()
 COMMANDS = ['check', 'explain', 'show', 'tighten']
 # the largest number
@@ -217,6 +220,8 @@ NAMES = [
     (b'\0', r'\0'),
     (b'\x1b[1m', r'\x1B[1m'),
     (b'\x7f', r'\x7F'),
+    (b'\xc3\xa9\\', '\u00e9\\\\'),
+    (b'\xc3', r'\xC3'),
 ]
 
 # Words for `tighten`: whether they name the file `a` to read, and the file `b` to write.
@@ -356,8 +361,18 @@ def explained_texts():
     yield 'the first branch alone', first_branch, ['refused 51 at end\ncause NoProof\ngoal absurdity']
     front = certificate('infeasible').split(b'f G')[0]
     for name, shown in NAMES:
+        check(readable(name) == shown, f'the model prints the name {name} as {readable(name)!r}')
         lines = f'refused 34 at DER 2\ncause MixedSigns\nderivation 2 {shown}\nentry 1'
         yield f'the name {name}', front + name + b' G 1 0 { lin 2 0 1 1 1 } -1\n', [lines]
+
+
+def names_end_in(byte):
+    """Names that end in the byte: the program prints them as the model does."""
+    front, behind = certificate('infeasible').split(b'f G')[0], b' G 1 0 { lin 2 0 1 1 1 } -1\n'
+    for start in b'', b'x', b'\xc3\xa9', b'\xe2\x82':
+        name = start + bytes([byte])
+        lines = f'refused 34 at DER 2\ncause MixedSigns\nderivation 2 {readable(name)}\nentry 1'
+        expect(f'the name {name}', judged(lines), ['explain'], front + name + behind)
 
 
 def explains(what, text, lines):
@@ -542,6 +557,7 @@ def main():
     tasks = [(explains_long, *row) for row in long_texts()] + [(cut_anywhere,)]
     tasks += [(tightens, *row) for row in tightened_texts()]
     tasks += [(explains, *row) for row in explained_texts()]
+    tasks += [(names_end_in, byte) for byte in range(256) if byte not in b'\t\n\v\f\r %']
     tasks += [(shows, *row) for row in shown_texts()]
     tasks += [(words_are_read, *row) for row in FILES]
     tasks += [(words_are_wrong, *row) for row in WRONG]

@@ -6,7 +6,8 @@ usage: tests/hostile.py [PROGRAM]     crates/vipr/out/vipr without it
 Each command that the program has is run over the examples. What a run may answer then:
 - where a growth is refused, `fault memory` with status 3 and nothing on the output, or what the run without it answers;
 - where a read fails, `fault read`, or that answer where it was decided before; and no read follows the failed one;
-- where a write fails, `fault write after N` with exactly the first N bytes on the output; and no write follows.
+- where a write fails, `fault write after N` with exactly the first N bytes on the output; and no write follows;
+- with any of the three streams closed, past a limit on the length of files, and where a stream doesn't wait, the same.
 Beginnings of the examples, whole and a byte at a time, are answered as the plain model under bench/ does it; texts at
 the format's limits have the answer that the rules give, within a small limit of memory. Of each family of bench/families.py
 a text of four times the size asks for at most five times the bytes, all that is asked for in a run counted.
@@ -14,9 +15,12 @@ a text of four times the size asks for at most five times the bytes, all that is
 Prints each run that answers something else, and last `hostile: N runs, F failed, S seconds of processor time`. Without
 a C compiler the runs with refused calls are left out, and a line says so. The exit status is 1 where a run failed.
 """
+import fcntl
+import itertools
 import os
 import resource
 import shutil
+import signal
 import subprocess
 import sys
 import tempfile
@@ -33,6 +37,7 @@ M = 2**127 - 1
 MEMORY = b'', b'fault memory\n', 3
 READ = b'', b'fault read\n', 3
 ROOM = 64 << 20
+STACK = 64 << 10
 # families whose sets of assumptions the rules ask for, each anew
 GROWS = {'growing'}
 failures = []
@@ -171,6 +176,93 @@ def streams(commands):
                (b'', b'fault write after 0\n', 3))
 
 
+def closed(*numbers):
+    """What closes streams in a process that begins."""
+    return lambda: [os.close(number) for number in numbers]
+
+
+def streams_closed(commands):
+    """Each set of the three streams is closed, and a text comes from a file or from standard input."""
+    global runs
+    texts = [TOP / 'examples/cutoff_loose.vipr', TOP / 'examples/false_claims/gap.vipr', TOP / 'examples/lenient.vipr']
+    sets = [which for size in (1, 2, 3) for which in itertools.combinations((0, 1, 2), size)]
+    for command, path, which, is_file in itertools.product(commands, texts, sets, (True, False)):
+        runs += 1
+        words, text = [command, str(path)] if is_file else [command], path.read_bytes()
+        printed, said, status = whole = answer([command], text)
+        if 0 in which and not is_file:
+            whole = READ
+        elif 1 in which and printed:
+            whole = b'', b'fault write after 0\n', 3
+        wanted = b'' if 1 in which else whole[0], b'' if 2 in which else whole[1], whole[2]
+        with tempfile.TemporaryFile() as file:
+            file.write(text)
+            file.seek(0)
+            done = subprocess.run([PROGRAM, *words], stdin=file, capture_output=True, preexec_fn=closed(*which),
+                                  check=False)
+        got = done.stdout, done.stderr, done.returncode
+        expect(f'{" ".join(words)} with {which} closed', got, wanted)
+        expect(f'{path} with {which} closed', (path.read_bytes(),), (text,))
+
+
+def limit_of_files(command, most):
+    """A limit on the length of files: the signal ends a run, or the write fails where the caller ignores it."""
+    global runs
+    path = TOP / 'examples/long_chain.vipr'
+    printed = answer([command, str(path)])[0]
+    for ignores in (False, True):
+        runs += 1
+
+        def limit():
+            signal.signal(signal.SIGXFSZ, signal.SIG_IGN if ignores else signal.SIG_DFL)
+            resource.setrlimit(resource.RLIMIT_FSIZE, (most, most))
+        with tempfile.TemporaryFile() as output:
+            done = subprocess.run([PROGRAM, command, str(path)], stdout=output, stderr=subprocess.PIPE,
+                                  preexec_fn=limit, check=False)
+            output.seek(0)
+            got = output.read(), done.stderr, done.returncode
+        wanted = printed[:most], b'', -signal.SIGXFSZ
+        if ignores:
+            wanted = printed[:most], b'fault write after %d\n' % most, 3
+        expect(f'{command} in files of at most {most} bytes, {"ignored" if ignores else "by the signal"}', got, wanted)
+
+
+def streams_that_do_not_wait(commands):
+    """An input without a byte, and an output without room, that give an error in place of waiting."""
+    global runs
+    for command in commands:
+        runs += 1
+        read, write = os.pipe2(os.O_NONBLOCK)
+        done = subprocess.run([PROGRAM, command], stdin=read, capture_output=True, check=False)
+        os.close(read), os.close(write)
+        expect(f'{command} of an input that does not wait', (done.stdout, done.stderr, done.returncode), READ)
+    if 'show' in commands:
+        runs += 1
+        text = ''.join(f'{line}\n' for line in families.chain(200_000)).encode()
+        read, write = os.pipe2(os.O_NONBLOCK)
+        room = fcntl.fcntl(write, fcntl.F_GETPIPE_SZ)
+        done = subprocess.run([PROGRAM, 'show'], input=text, stdout=write, stderr=subprocess.PIPE, check=False)
+        os.close(write)
+        with open(read, 'rb') as rest:
+            printed = rest.read()
+        expect('show to an output that does not wait', (printed, done.stderr, done.returncode),
+               (answer(['show'], text)[0][:room], b'fault write after %d\n' % room, 3))
+
+
+def little_stack(commands):
+    """Texts of each family in 64 kB of stack."""
+    def one(task):
+        global runs
+        runs += 1
+        family, command = task
+        text = ''.join(f'{line}\n' for line in family(20_000)).encode()
+        done = subprocess.run([PROGRAM, command], input=text, capture_output=True, timeout=120, check=False,
+                              preexec_fn=lambda: resource.setrlimit(resource.RLIMIT_STACK, (STACK, STACK)))
+        expect(f'{command} of {family.__name__} in {STACK} bytes of stack', (done.returncode,), (0,))
+    every = families.FAMILIES + families.HOSTILE + families.KEPT
+    each(one, itertools.product(every, commands))
+
+
 # ---- texts
 
 def lines(verdict_text):
@@ -275,6 +367,11 @@ def main():
     files = sorted(it for it in (TOP / 'examples').rglob('*.vipr') if it.parent.name != 'problems')
     examples = [(path, path.read_bytes()) for path in files if path.stat().st_size < 2000]
     streams(commands)
+    streams_closed(commands)
+    for command in commands:
+        limit_of_files(command, 10)
+    streams_that_do_not_wait(commands)
+    little_stack(commands)
     limits()
     long_comment(1 << 30)
     beginnings(examples)

@@ -1,0 +1,147 @@
+#!/usr/bin/env python3
+"""What a text of four times the length costs: no short text takes hours, and memory has a bound in the text's length.
+
+usage: tests/costs.py [--write] [PROGRAM]     crates/vipr/out/vipr without it
+
+Of each family of PRODUCTS and HOSTILE (bench/families.py) a text and one of four times its length are checked;
+instructions and the peak of memory may grow by five times at most. Each command may have no more memory than MOST bytes for a byte of
+text, whatever it writes, beside what an empty run has and ROOM; that is tried with the families of KEPT, and with
+constraints written `OBJ`, which are much longer in the canonical text.
+
+Instructions are counted by valgrind and memory is measured by GNU time; what isn't there is left out, and a line says
+so. --write writes the figures into docs/SECURITY.md. Prints each fault, and last `costs: N checks, F failed, S seconds
+of processor time`; the exit status is 1 if one failed.
+"""
+import os
+import re
+import sys
+import tempfile
+from concurrent.futures import ThreadPoolExecutor
+from pathlib import Path
+
+from texts import GNU_TIME, TOP, VALGRIND, described, instructions, peak, program, spent, text_of
+import families
+
+# what doesn't meet its bound yet: pairs of a family's name and a command
+OPEN = {('objective_tested', 'check'), ('objective_tested', 'explain'), ('columns_and_objective', 'check'),
+        ('objective_stated', 'check'), ('objective_kept', 'check'), ('weak_goals', 'check'), ('same_set', 'check'),
+        ('split_on_objective', 'check'), ('alternating_sets', 'check'), ('objective', 'show'), ('objective', 'tighten')}
+# how much more a text of four times the length may cost
+GROWTH = 5
+# bytes of memory for a byte of text, and what is free beside them
+MOST = {'check': 50, 'explain': 50, 'show': 50, 'tighten': 50}
+ROOM = 2 << 20
+# the lengths of the shorter texts; sets show what they cost in longer ones
+LENGTH, LONG = 8_000, {'same_set': 400_000, 'alternating_sets': 400_000, 'growing': 100_000}
+MEMORY_LENGTH, KEPT_LENGTH, WRITTEN_LENGTH = 200_000, 500_000, 100_000
+# processor time that a run may take, in seconds
+SECONDS = 10
+PAGE = TOP / 'docs/SECURITY.md'
+MARKS = '<!-- costs: written by `tests/costs.py --write` -->', '<!-- end of the costs -->'
+results, unmet = [], set()
+
+
+def check(good, name, command, what):
+    is_open = (name, command) in OPEN
+    results.append(good or is_open)
+    unmet.update([(name, command)] if not good else [])
+    if not good:
+        print(f'{name}: {command}: {what}' + (' (open)' if is_open else ''))
+
+
+def file_of(family, command, length):
+    path = f'{ROOM_FOR_FILES}/{family.__name__}.{command}.{length}'
+    Path(path).write_bytes(text_of(family, length))
+    return path, os.path.getsize(path)
+
+
+def growth(task):
+    """How much more four times the text costs: instructions, and memory; None for what isn't known."""
+    family, command = task
+    least, found = LONG.get(family.__name__, LENGTH), []
+    for measure, is_there, length, free in ((instructions, VALGRIND, least, 0),
+                                            (peak, GNU_TIME, max(least, MEMORY_LENGTH), EMPTY)):
+        files = [file_of(family, command, it) for it in (length, 4 * length)]
+        known = [is_there and measure([PROGRAM, command, path], SECONDS) for path, _ in files]
+        times = files[1][1] / files[0][1] / 4
+        found.append((known[1] - free) / (known[0] - free) / times if all(known) else None if is_there else 0)
+    return found
+
+
+def kept(task):
+    """How many bytes of memory there are for a byte of text, beside those of an empty run."""
+    family, command, length = task
+    path, size = file_of(family, command, length)
+    found = peak([PROGRAM, command, path], SECONDS)
+    return found and max(0, found - EMPTY) / size, found and found - EMPTY <= MOST[command] * size + ROOM
+
+
+def figure(number):
+    return f'over {SECONDS} seconds' if number is None else f'{number:.1f}' if number else 'not measured'
+
+
+def growths(pool):
+    """Checks the families of PRODUCTS and HOSTILE, and gives the rows of their table."""
+    tasks = [(family, 'check') for family in families.PRODUCTS + families.HOSTILE]
+    tasks += [(families.objective_tested, 'explain')]
+    for (family, command), found in zip(tasks, pool.map(growth, tasks)):
+        name = family.__name__
+        for what, times in zip(('instructions', 'memory'), found):
+            check(times is not None, name, command, f'{what}: not verified within {SECONDS} seconds')
+            check((times or 0) <= GROWTH, name, command, f'{what}: {times or 0:.1f} times for 4 times the text')
+        yield f'| {ABOUT[name]} | `{command}` | {figure(found[0])} | {figure(found[1])} |'
+
+
+def memory(pool):
+    """Checks the families of KEPT and those with `OBJ`, and gives the rows of their table."""
+    chosen = [(family, KEPT_LENGTH) for family in families.KEPT] + [(families.objective, WRITTEN_LENGTH)]
+    commands = ['check', 'show', 'tighten']
+    tasks = [(family, command, length) for family, length in chosen for command in commands]
+    found = dict(zip(tasks, pool.map(kept, tasks)))
+    for family, length in chosen:
+        cells = []
+        for command in commands:
+            times, good = found[family, command, length]
+            check(good, family.__name__, command, f'{figure(times)} bytes of memory for a byte of text')
+            cells.append(figure(times))
+        yield f'| {ABOUT[family.__name__]} | ' + ' | '.join(cells) + ' |'
+
+
+def beyond():
+    """A sentence that names what doesn't meet its bound yet."""
+    named = [f'`{command}` of {ABOUT[name]}' for name, command in sorted(OPEN)]
+    return ['', f'Not yet within these bounds: {"; ".join(named)}.'] if named else []
+
+
+def table(first, second):
+    return '\n'.join([
+        MARKS[0], '| Texts | Command | Instructions for 4 times the text | Memory for 4 times the text |',
+        '|---|---|---|---|', *first, '', 'Bytes of memory for a byte of text, beside what an empty run has:', '',
+        '| Texts | `check` | `show` | `tighten` |', '|---|---|---|---|', *second, *beyond(), MARKS[1]])
+
+
+def main():
+    for tool, what in ((VALGRIND, 'valgrind, so instructions are not counted'),
+                       (GNU_TIME, 'GNU time, so memory is not measured')):
+        if not tool:
+            print(f'costs: no {what}')
+    with ThreadPoolExecutor(os.cpu_count()) as pool:
+        first = list(growths(pool))
+        second = list(memory(pool)) if GNU_TIME else []
+    if WRITES:
+        text = PAGE.read_text(encoding='utf-8')
+        between = re.escape(MARKS[0]) + '.*?' + re.escape(MARKS[1])
+        PAGE.write_text(re.sub(between, lambda _: table(first, second), text, flags=re.S), encoding='utf-8')
+    for name, command in sorted(OPEN - unmet):
+        print(f'{name}: {command}: meets its bound, and is in OPEN')
+    print(f'costs: {len(results)} checks, {results.count(False)} failed, {spent():.0f} seconds of processor time')
+    return int(False in results)
+
+
+WRITES = '--write' in sys.argv
+PROGRAM = program([word for word in sys.argv[1:] if word != '--write'])
+ABOUT = described(families)
+EMPTY = GNU_TIME and peak([PROGRAM, '--version'], SECONDS)
+with tempfile.TemporaryDirectory(prefix='vipr-costs-') as ROOM_FOR_FILES:
+    STATUS = main()
+sys.exit(STATUS)
