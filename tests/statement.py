@@ -50,6 +50,12 @@ feasible and attains it.
 **The premises**: the source gives the bytes of the text that is meant, with no failed read and fewer than 2^64 of \
 them; the definitions below say what one means by a problem, a claim and a text; and the tools keep their word, that \
 is, the prover, the compiler, the machine and its C library.
+
+**Files and standard input**: a slice tells its bytes, so each fact of `ChecksIn` holds of it. A file or standard input \
+doesn't. Of these the contract says `any`: what is verified is the report of a certificate that is a proof, and what \
+that claims is true. That it is the certificate which the bytes of the file spell is a premise, and no theorem. It rests \
+on this: `check` has one body for all sources, that body can't ask which source it has, and what it answers is a \
+function of what its reads gave. A slice that holds what a file's reads gave gets the same answer.
 '''
 
 

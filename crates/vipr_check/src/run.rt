@@ -1,7 +1,7 @@
 //! Runs a checker over a text: each item is taken before the next one is read.
 
 ghost use Rattle.std.specs.Prelude.{◌≡◌, ◌≢◌, ◌+◌, ◌<◌, ◌^◌, false, suc, List, Ok, Err, IfNone};
-ghost use Rattle.std.specs.Prelude.{IsSome};
+ghost use Rattle.std.specs.Prelude.{IfSome, IsSome};
 ghost use Rattle.vipr_scan.specs.Giving.{rest_of};
 ghost use Rattle.vipr_spec.specs.Constraint.{Profile as ProfileMeant, Row};
 ghost use Rattle.vipr_spec.specs.Certificate.{Named as NamedMeant, Problem as ProblemMeant};
@@ -16,6 +16,7 @@ ghost use Rattle.vipr_scan.specs.declared.error.TextError.TheVariants as text_er
 ghost use Rattle.vipr_check.specs.Shown.{state_shown};
 ghost use Rattle.vipr_check.specs.Run.{text_answer, stop_answer, step_answer, end_answer, IsAmong};
 ghost use Rattle.vipr_check.specs.Run.{GoesAmong, IsAt, Goes, SaysWith, SaysAtEnd};
+ghost use Rattle.vipr_check.specs.View.{IfVerified, IsOfProof};
 
 use crate::checker::Checker;
 use crate::halt::Stop;
@@ -34,8 +35,9 @@ pub(crate) fn run<R: Source + Drop, S: Rows>(
     profile: Profile,
     source: R,
 ) -> (Result<Verdict, Fault>, Option<Checker<S>>)
-    ensures { IfKnown (R.input source)
+    ensures explained { IfKnown (R.input source)
         (λ i. SaysAtEnd (IsExplained (profile_of profile) (text_of i)) result) }
+    ensures any { IfVerified result.0 (IsOfProof (profile_of profile)) }
 {
     let Ok(reader) = CertReader::new(alloc, source) else {
         return (Err(Fault::Memory), None);
@@ -56,9 +58,10 @@ fn after_problem<R: Source + Drop, S: Rows>(
     requires knows { Knows solutions problem }
     requires unspent { solutions.failed ≡ false }
     requires counted { solutions.left < 2 ^ 32 }
-    ensures { IsSome solutions.rest → (r : Rest)
+    ensures explained { IsSome solutions.rest → (r : Rest)
         → problem_read r ≡ Ok ((problem, solutions.left), (rest_of solutions.rest))
         → SaysAtEnd (IsExplained (profile_of profile) r) result }
+    ensures any { IfVerified result.0 (IsOfProof (profile_of profile)) }
 {
     match Checker::new_in(alloc, profile, problem) {
         Ok(mut checker) => {
@@ -80,11 +83,13 @@ fn after_solutions<R: Source + Drop, S: Rows>(
 ) -> Result<Verdict, Fault>
     requires { (P : ProfileMeant) × (p : ProblemMeant) × (ss : List (NamedMeant Row))
         × IsAmong P p ss checker.old solutions }
-    ensures { (P : ProfileMeant) (p : ProblemMeant) (ss : List (NamedMeant Row))
+    ensures explained { (P : ProfileMeant) (p : ProblemMeant) (ss : List (NamedMeant Row))
         → IsAmong P p ss checker.old solutions
         → IsSome solutions.rest
         → SaysWith (Explained P (solutions_from p ss solutions.left (rest_of solutions.rest)))
         (state_shown checker.new) result }
+    ensures any { (P : ProfileMeant) (p : ProblemMeant) (ss : List (NamedMeant Row))
+        → IsAmong P p ss checker.old solutions → IfVerified result (IsOfProof P) }
 {
     'solutions: while solutions.left() > 0 {
         match next_solution(alloc, checker, &mut solutions) {
@@ -111,6 +116,7 @@ fn next_solution<R: Source, S: Rows>(
     ensures step { (P : ProfileMeant) (p : ProblemMeant) (ss : List (NamedMeant Row))
         → IsAmong P p ss checker.old solutions.old
         → GoesAmong P p ss solutions.old checker.new solutions.new result }
+    ensures any { IfSome result (λ verdict. IfVerified verdict (λ report. ⊥)) }
 {
     match solutions.next(alloc) {
         Ok(Some(solution)) => {
@@ -132,11 +138,13 @@ fn after_last_solution<R: Source + Drop, S: Rows>(
     requires none { solutions.left ≡ 0 }
     requires among { (P : ProfileMeant) × (p : ProblemMeant) × (ss : List (NamedMeant Row))
         × IsAmong P p ss checker.old solutions }
-    ensures { (P : ProfileMeant) (p : ProblemMeant) (ss : List (NamedMeant Row))
+    ensures explained { (P : ProfileMeant) (p : ProblemMeant) (ss : List (NamedMeant Row))
         → IsAmong P p ss checker.old solutions
         → IsSome solutions.rest
         → SaysWith (Explained P (solutions_from p ss 0 (rest_of solutions.rest)))
         (state_shown checker.new) result }
+    ensures any { (P : ProfileMeant) (p : ProblemMeant) (ss : List (NamedMeant Row))
+        → IsAmong P p ss checker.old solutions → IfVerified result (IsOfProof P) }
 {
     if let Err(stop) = checker.end_solutions() {
         drop(solutions);
@@ -155,11 +163,13 @@ fn after_steps<R: Source + Drop, S: Rows>(
     mut derivations: Derivations<R>,
 ) -> Result<Verdict, Fault>
     requires { (P : ProfileMeant) × (c : Certificate) × IsAt P c checker.old derivations }
-    ensures { (P : ProfileMeant) (c : Certificate) → IsAt P c checker.old derivations
+    ensures explained { (P : ProfileMeant) (c : Certificate) → IsAt P c checker.old derivations
         → IsSome derivations.rest
         → SaysWith
         (Explained P (derivations_from c derivations.left (rest_of derivations.rest)))
         (state_shown checker.new) result }
+    ensures any { (P : ProfileMeant) (c : Certificate) → IsAt P c checker.old derivations
+        → IfVerified result (IsOfProof P) }
 {
     'steps: loop {
         match next_step(alloc, checker, &mut derivations) {
@@ -183,6 +193,8 @@ fn next_step<R: Source, S: Rows>(
     ensures fewer { IfNone result (derivations.old.left ≡ suc derivations.new.left) }
     ensures step { (P : ProfileMeant) (c : Certificate) → IsAt P c checker.old derivations.old
         → Goes P c derivations.old checker.new derivations.new result }
+    ensures any { (P : ProfileMeant) (c : Certificate) → IsAt P c checker.old derivations.old
+        → IfSome result (λ verdict. IfVerified verdict (IsOfProof P)) }
 {
     match derivations.next(alloc) {
         Ok(Some(step)) => after_item(checker.take(alloc, step)),

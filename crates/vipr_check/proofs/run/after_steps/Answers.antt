@@ -14,7 +14,12 @@ steps-preserved g c = λ P s is.
     let new = c.next_step.new in
     reached_later P s c.steps.checker new.checker c.args.derivations c.steps.derivations new.derivations h (c.in-None.ensures.step P h.now h.is_at)
 
-pub returns-in-Some : goal.returns-in-Some
-returns-in-Some g c = λ P s is told.
+pub returns-in-Some-clause-explained : goal.returns-in-Some-clause-explained
+returns-in-Some-clause-explained g c = λ P s is told.
     let h = c.steps.invariant P s is in
     ended_later P s c.steps.checker c.args.derivations c.steps.derivations (state_shown c.next_step.new.checker) c.in-Some.verdict h told (c.in-Some.ensures.step P h.now h.is_at)
+
+pub returns-in-Some-clause-any : goal.returns-in-Some-clause-any
+returns-in-Some-clause-any g c = λ P s is.
+    let h = c.steps.invariant P s is in
+    c.in-Some.ensures.any P h.now h.is_at

@@ -7,6 +7,9 @@ use Rattle.vipr_check.specs.Shown.{state_shown}
 use Rattle.vipr_check.specs.Run.{GoesAmong, SaysWith}
 use Rattle.vipr_check.proofs.ShownLemmas.{unshown}
 use Rattle.vipr_check.proofs.RunLemmas.{one_more, goes_among, solution_missing, solution_unspent}
+use Rattle.std.specs.Prelude.{IfSome}
+use Rattle.vipr_check.specs.View.{IfVerified}
+use Rattle.vipr_check.proofs.Verifying.{step_unverified, text_unverified}
 use Rattle.vipr_check.proofs.run.next_solution.Goals as goal
 
 pub solution-outcome-requires-clause-phase : goal.solution-outcome-requires-clause-phase
@@ -35,3 +38,9 @@ returns-in-Err-clause-step g c = λ P p ss is told.
     let shown = state_shown c.args.checker.now in
     subst (SaysWith (Explained P (solutions_from p ss old.left (rest_of old.rest))) shown) (sym c.unread.ensures)
     (solution_missing P p ss old.left (rest_of old.rest) shown c.in-Err.error (unshown c.args.checker.now is.runs) c.requires.some (c.in-Err.ensures.read p is.knows told))
+
+pub returns-in-Ok-Some-clause-any : goal.returns-in-Ok-Some-clause-any
+returns-in-Ok-Some-clause-any g c = subst (λ o. IfSome o (λ v. IfVerified v (λ r. ⊥))) (sym c.after_item.ensures) (step_unverified (λ r. ⊥) c.solution-outcome.result)
+
+pub returns-in-Err-clause-any : goal.returns-in-Err-clause-any
+returns-in-Err-clause-any g c = subst (λ v. IfVerified v (λ r. ⊥)) (sym c.unread.ensures) (text_unverified (λ r. ⊥) c.in-Err.error)

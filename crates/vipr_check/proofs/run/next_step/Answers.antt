@@ -8,6 +8,9 @@ use Rattle.vipr_check.specs.Shown.{state_shown}
 use Rattle.vipr_check.specs.Run.{Goes, SaysWith, end_answer}
 use Rattle.vipr_check.proofs.ShownLemmas.{unshown}
 use Rattle.vipr_check.proofs.RunLemmas.{room_for, names_for, goes_on, finished, derivations_failed, step_unspent, finish_unspent}
+use Rattle.std.specs.Prelude.{IfSome}
+use Rattle.vipr_check.specs.View.{IfVerified, IsOfProof}
+use Rattle.vipr_check.proofs.Verifying.{step_unverified, end_is_verified, text_unverified}
 use Rattle.vipr_check.proofs.run.next_step.Goals as goal
 
 pub take-requires-clause-phase : goal.take-requires-clause-phase
@@ -60,3 +63,14 @@ returns-in-Err-clause-step g c = λ P s is told.
     let old = c.args.derivations.now in
     let shown = state_shown c.args.checker.now in
     subst (SaysWith (Explained P (derivations_from s old.left (rest_of old.rest))) shown) (sym c.unread.ensures) (derivations_failed P s old.left (rest_of old.rest) shown c.in-Err.error (unshown c.args.checker.now is.runs) (c.in-Err.ensures.read s.problem is.knows told))
+
+pub returns-in-Ok-Some-clause-any : goal.returns-in-Ok-Some-clause-any
+returns-in-Ok-Some-clause-any g c = λ P s is. subst (λ o. IfSome o (λ v. IfVerified v (IsOfProof P))) (sym c.after_item.ensures) (step_unverified (IsOfProof P) c.take.result)
+
+pub returns-in-Ok-None-clause-any : goal.returns-in-Ok-None-clause-any
+returns-in-Ok-None-clause-any g c = λ P s is.
+    subst (λ v. IfVerified v (IsOfProof P)) (sym c.after_end.ensures)
+    (end_is_verified P s c.args.checker.now c.finish.new.self c.finish.result is.profile (c.finish.ensures.next s is.runs is.has))
+
+pub returns-in-Err-clause-any : goal.returns-in-Err-clause-any
+returns-in-Err-clause-any g c = λ P s is. subst (λ v. IfVerified v (IsOfProof P)) (sym c.unread.ensures) (text_unverified (IsOfProof P) c.in-Err.error)
