@@ -22,7 +22,9 @@ use Rattle.vipr_spec.specs.Shape.{CanWriteProblem}
 use Rattle.vipr_cert.specs.Items.{named_of}
 use Rattle.vipr_rules.specs.Solution.{PassesAll, tests_at, tests_below}
 use Rattle.vipr_rules.proofs.SolutionLemmas.{TrueUpTo, true_next, all_true, given_below}
-use Rattle.vipr_rules.specs.Columns.{given_in, nth, given_of, StandsFrom, IsPlace, ArePlaces, column_at, AreColumns, IsSummed, AreSums, AreListed, AreFalseAtZero, AreMet}
+use Rattle.vipr_rules.specs.declared.bounds.Bounds.{Bounds}
+use Rattle.vipr_rules.proofs.ValueLemmas.{value_same, fits_same}
+use Rattle.vipr_rules.specs.Columns.{given_in, nth, given_of, StandsFrom, HasRow, IsPlace, ArePlaces, column_at, AreColumns, IsSummed, IsCounted, AreSums, AreListed, AreFalseAtZero, IsMet, AreMet, LiesWithin, AreBounds}
 
 -- ---- places of lists
 pub there : {A : Type 0} → (xs : List A) (k : ℕ) (d x : A) → k < length xs → x ≡ get_or xs k x → get_or xs k d ≡ x
@@ -93,17 +95,19 @@ module _ (row : Row) (es : List (ℕ × ℚ)) (list : es ≡ entries row) (r : R
 later : (cs : List Constraint) (i j : ℕ) (e : ℕ × ℕ) → IsPlace cs i j e → IsPlace cs (i + 1) j e
 later cs i j e h = let l : e.0 < i = h.0 in (omega (arith, l), h.1, h.2)
 
-pub no_places : (cs : List Constraint) (j : ℕ) → ArePlaces cs 0 j []
-no_places cs j = record { found = λ k l. absurd (omega arith); rising = λ a b m l. absurd (omega arith); rest = λ i l. absurd (omega arith) }
+pub no_places : (o : Row) (cs : List Constraint) (j : ℕ) → ArePlaces o cs 0 j []
+no_places o cs j = record { found = λ k l. absurd (omega arith); rising = λ a b m l. absurd (omega arith); rest = λ i l. absurd (omega arith) }
 
-module _ (cs : List Constraint) (i j : ℕ) (places : List (ℕ × ℕ)) (is : ArePlaces cs i j places) where
-  pub places_same : at (nth cs i).row j ≡ zero_ℚ → ArePlaces cs (i + 1) j places
+module _ (o : Row) (cs : List Constraint) (i j : ℕ) (places : List (ℕ × ℕ)) (is : ArePlaces o cs i j places) where
+  pub places_same : HasRow o (nth cs i) ⊎ (at (nth cs i).row j ≡ zero_ℚ) → ArePlaces o cs (i + 1) j places
   places_same none = record {
     found = λ k l. later cs i j (get_or places k (0, 0)) (is.found k l);
     rising = is.rising;
     rest = λ h l. elim (cases_lt h i) [
       | inl below ↦ is.rest h below
-      | inr past ↦ let e : h ≡ i = omega (arith, l, past) in inl (ap (λ n. at (nth cs n).row j) e ∙ none)
+      | inr past ↦
+          let e : i ≡ h = omega (arith, l, past) in
+          elim none [ inl same ↦ inl (subst (λ n. HasRow o (nth cs n)) e same) | inr z ↦ inr (inl (ap (λ n. at (nth cs n).row j) (sym e) ∙ z)) ]
     ];
   }
 
@@ -114,7 +118,7 @@ module _ (cs : List Constraint) (i j : ℕ) (places : List (ℕ × ℕ)) (is : A
     last : (m : ℕ) → m < length (places ++ (i, k) ∷ []) → length places ≤ m → get_or (places ++ (i, k) ∷ []) m (0, 0) ≡ (i, k)
     last m l past = get_or_push places (i, k) (0, 0) m (let n = length_push places (i, k) in omega (arith, n, l, past))
 
-    pub places_more : k < length (entries (nth cs i).row) → get_or (entries (nth cs i).row) k (0, zero_ℚ) ≡ (j, at (nth cs i).row j) → ArePlaces cs (i + 1) j (places ++ (i, k) ∷ [])
+    pub places_more : k < length (entries (nth cs i).row) → get_or (entries (nth cs i).row) k (0, zero_ℚ) ≡ (j, at (nth cs i).row j) → ArePlaces o cs (i + 1) j (places ++ (i, k) ∷ [])
     places_more l e = record {
       found = λ m b. elim (cases_lt m (length places)) [
         | inl below ↦ subst (IsPlace cs (i + 1) j) (sym (left m below)) (later cs i j (get_or places m (0, 0)) (is.found m below))
@@ -128,14 +132,17 @@ module _ (cs : List Constraint) (i j : ℕ) (places : List (ℕ × ℕ)) (is : A
       ];
       rest = λ h b. elim (cases_lt h i) [
         | inl below ↦ elim (is.rest h below) [
-          | inl z ↦ inl z
-          | inr s ↦ let m : s.0 < length places = s.2 in inr (s.0, omega arith, (let n = length_push places (i, k) in omega (arith, n, m)), ap (λ (x : ℕ × ℕ). x.0) (left s.0 m) ∙ s.3)
+          | inl same ↦ inl same
+          | inr some ↦ elim some [
+            | inl z ↦ inr (inl z)
+            | inr s ↦ let m : s.0 < length places = s.2 in inr (inr (s.0, omega arith, (let n = length_push places (i, k) in omega (arith, n, m)), ap (λ (x : ℕ × ℕ). x.0) (left s.0 m) ∙ s.3))
+          ]
         ]
         | inr past ↦
             let n = length_push places (i, k) in
             let m : length places < length (places ++ (i, k) ∷ []) = omega (arith, n) in
             let same : i ≡ h = omega (arith, b, past) in
-            inr (length places, omega arith, m, ap (λ (x : ℕ × ℕ). x.0) (last (length places) m (omega arith)) ∙ same)
+            inr (inr (length places, omega arith, m, ap (λ (x : ℕ × ℕ). x.0) (last (length places) m (omega arith)) ∙ same))
       ];
     }
 
@@ -160,21 +167,25 @@ module _ (columns : Columns) (v : ℕ) (l : v < length columns) where
     column_other j n = ap (λ xs. get_or xs j []) set_is ∙ get_or-set_other (map (λ (w : Vec (ℕ × ℕ) Global). w.items) columns) v j y.items [] n
 
 -- entries from place c of constraint i on are still to be added to their columns
-pub record AreHalf (cs : List Constraint) (i : ℕ) (es : List (ℕ × ℚ)) (c : ℕ) (columns : Columns) : Type 0 where
-  pub before : (k : ℕ) → c ≤ k → k < length es → ArePlaces cs i (get_or es k (0, zero_ℚ)).0 (column_at columns (get_or es k (0, zero_ℚ)).0)
-  pub after : (j : ℕ) → ArePlaces cs (i + 1) j (column_at columns j) ⊎ StandsFrom (λ (e : ℕ × ℚ). e.0) (0, zero_ℚ) c es j
+pub record AreHalf (o : Row) (cs : List Constraint) (i : ℕ) (es : List (ℕ × ℚ)) (c : ℕ) (columns : Columns) : Type 0 where
+  pub before : (k : ℕ) → c ≤ k → k < length es → ArePlaces o cs i (get_or es k (0, zero_ℚ)).0 (column_at columns (get_or es k (0, zero_ℚ)).0)
+  pub after : (j : ℕ) → ArePlaces o cs (i + 1) j (column_at columns j) ⊎ StandsFrom (λ (e : ℕ × ℚ). e.0) (0, zero_ℚ) c es j
 
-module _ (cs : List Constraint) (i : ℕ) (row : Row) (same : (nth cs i).row ≡ row) (es : List (ℕ × ℚ)) (list : es ≡ entries row) (r : RisesFrom 0 es) where
-  pub half_start : (columns : Columns) → AreColumns cs i columns → AreHalf cs i es 0 columns
+-- no entry of a constraint that has the row o is added
+pub columns_same : (o : Row) (cs : List Constraint) (i : ℕ) (columns : Columns) → HasRow o (nth cs i) → AreColumns o cs i columns → AreColumns o cs (i + 1) columns
+columns_same o cs i columns same all j = places_same o cs i j (column_at columns j) (all j) (inl same)
+
+module _ (o : Row) (cs : List Constraint) (i : ℕ) (row : Row) (same : (nth cs i).row ≡ row) (es : List (ℕ × ℚ)) (list : es ≡ entries row) (r : RisesFrom 0 es) where
+  pub half_start : (columns : Columns) → AreColumns o cs i columns → AreHalf o cs i es 0 columns
   half_start columns all = record {
     before = λ k a l. all (get_or es k (0, zero_ℚ)).0;
     after = λ j. elim (zero_or_stands row es list r j) [
-      | inl z ↦ inl (places_same cs i j (column_at columns j) (all j) (ap (λ x. at x j) same ∙ z))
+      | inl z ↦ inl (places_same o cs i j (column_at columns j) (all j) (inr (ap (λ x. at x j) same ∙ z)))
       | inr s ↦ inr s
     ];
   }
 
-  pub half_end : (columns : Columns) (c : ℕ) → length es ≤ c → AreHalf cs i es c columns → AreColumns cs (i + 1) columns
+  pub half_end : (columns : Columns) (c : ℕ) → length es ≤ c → AreHalf o cs i es c columns → AreColumns o cs (i + 1) columns
   half_end columns c past half j = elim (half.after j) [
     | inl h ↦ h
     | inr s ↦ absurd (none_stand (λ (e : ℕ × ℚ). e.0) (0, zero_ℚ) es c j past s)
@@ -192,26 +203,26 @@ module _ (cs : List Constraint) (i : ℕ) (row : Row) (same : (nth cs i).row ≡
     in_length : c < length (entries (nth cs i).row)
     in_length = subst (λ xs. c < length xs) (list ∙ ap entries (sym same)) l
 
-    pub half_next : AreHalf cs i es c columns → AreHalf cs i es (c + 1) (slice_set columns p.0 y)
+    pub half_next : AreHalf o cs i es c columns → AreHalf o cs i es (c + 1) (slice_set columns p.0 y)
     half_next half = record {
       before = λ k a b.
           let less = rising_from 0 es c k (0, zero_ℚ) r (omega (arith, a)) b in
           let apart : (get_or es k (0, zero_ℚ)).0 ≢ p.0 = λ q. absurd (let h = ap (λ (x : ℕ × ℚ). x.0) here in omega (arith, q, h, less)) in
-          subst (ArePlaces cs i (get_or es k (0, zero_ℚ)).0) (sym (column_other columns p.0 within y _ apart)) (half.before k (omega (arith, a)) b);
+          subst (ArePlaces o cs i (get_or es k (0, zero_ℚ)).0) (sym (column_other columns p.0 within y _ apart)) (half.before k (omega (arith, a)) b);
       after = λ j. elim (cases_eq j p.0) [
-        | inl q ↦ inl (subst (λ v. ArePlaces cs (i + 1) v (column_at (slice_set columns p.0 y) v)) (sym q) now)
+        | inl q ↦ inl (subst (λ v. ArePlaces o cs (i + 1) v (column_at (slice_set columns p.0 y) v)) (sym q) now)
         | inr apart ↦ elim (half.after j) [
-          | inl h ↦ inl (subst (ArePlaces cs (i + 1) j) (sym (column_other columns p.0 within y j apart)) h)
+          | inl h ↦ inl (subst (ArePlaces o cs (i + 1) j) (sym (column_other columns p.0 within y j apart)) h)
           | inr s ↦ inr (stands_later (λ (x : ℕ × ℚ). x.0) (0, zero_ℚ) es c j (λ q. apart (sym (sym (ap (λ (x : ℕ × ℚ). x.0) here) ∙ q))) s)
         ]
       ];
     }
       where
-        was : ArePlaces cs i p.0 (column_at columns p.0)
-        was = subst (λ (q : ℕ × ℚ). ArePlaces cs i q.0 (column_at columns q.0)) here (half.before c (omega arith) l)
+        was : ArePlaces o cs i p.0 (column_at columns p.0)
+        was = subst (λ (q : ℕ × ℚ). ArePlaces o cs i q.0 (column_at columns q.0)) here (half.before c (omega arith) l)
 
-        now : ArePlaces cs (i + 1) p.0 (column_at (slice_set columns p.0 y) p.0)
-        now = subst (ArePlaces cs (i + 1) p.0) (sym (column_here columns p.0 within y ∙ pushed)) (places_more cs i p.0 (column_at columns p.0) was c in_length in_row)
+        now : ArePlaces o cs (i + 1) p.0 (column_at (slice_set columns p.0 y) p.0)
+        now = subst (ArePlaces o cs (i + 1) p.0) (sym (column_here columns p.0 within y ∙ pushed)) (places_more o cs i p.0 (column_at columns p.0) was c in_length in_row)
 
 -- ---- one more variable
 module _ (row : Row) (x : Point) where
@@ -257,29 +268,36 @@ module _ (row : Row) (x : Point) where
   nothing_yet : IsSummed row x 0 None
   nothing_yet = (λ j l. absurd (omega arith), refl)
 
-pub sums_start : (cs : List Constraint) (x : Point) (sums : List (Option ℚ)) → ((i : ℕ) → get_or sums i None ≡ None) → AreSums cs x 0 sums
-sums_start cs x sums none i l = subst (IsSummed (nth cs i).row x 0) (sym (none i)) (nothing_yet (nth cs i).row x)
+pub sums_start : (o : Row) (cs : List Constraint) (x : Point) (sums : List (Option ℚ)) → ((i : ℕ) → get_or sums i None ≡ None) → AreSums o cs x 0 sums
+sums_start o cs x sums none i l = inr (subst (IsSummed (nth cs i).row x 0) (sym (none i)) (nothing_yet (nth cs i).row x))
 
-pub sums_gap : (cs : List Constraint) (x : Point) (sums : List (Option ℚ)) (a b : ℕ) → a ≤ b → ((j : ℕ) → a ≤ j → j < b → x j ≡ zero_ℚ) → AreSums cs x a sums → AreSums cs x b sums
-sums_gap cs x sums a b le none all i l = sum_gap (nth cs i).row x (get_or sums i None) a b le none (all i l)
+-- a sum that is counted moves on by what is so of each sum
+pub counted_by : (o : Row) (cs : List Constraint) (x : Point) (a b i : ℕ) (old new : List (Option ℚ)) → (IsSummed (nth cs i).row x a (get_or old i None) → IsSummed (nth cs i).row x b (get_or new i None)) → IsCounted o cs x a old i → IsCounted o cs x b new i
+counted_by o cs x a b i old new f h = elim h [ inl same ↦ inl same | inr is ↦ inr (f is) ]
+
+pub sums_gap : (o : Row) (cs : List Constraint) (x : Point) (sums : List (Option ℚ)) (a b : ℕ) → a ≤ b → ((j : ℕ) → a ≤ j → j < b → x j ≡ zero_ℚ) → AreSums o cs x a sums → AreSums o cs x b sums
+sums_gap o cs x sums a b le none all i l = counted_by o cs x a b i sums sums (sum_gap (nth cs i).row x (get_or sums i None) a b le none) (all i l)
 
 -- ---- one more column
 -- the product is added to the sum of each constraint but of those that stand from place c on
-pub record AreHalfSums (cs : List Constraint) (x : Point) (j : ℕ) (places : List (ℕ × ℕ)) (c : ℕ) (sums : List (Option ℚ)) : Type 0 where
-  pub before : (k : ℕ) → c ≤ k → k < length places → IsSummed (nth cs (get_or places k (0, 0)).0).row x j (get_or sums (get_or places k (0, 0)).0 None)
-  pub after : (i : ℕ) → i < length cs → IsSummed (nth cs i).row x (j + 1) (get_or sums i None) ⊎ StandsFrom (λ (e : ℕ × ℕ). e.0) (0, 0) c places i
+pub record AreHalfSums (o : Row) (cs : List Constraint) (x : Point) (j : ℕ) (places : List (ℕ × ℕ)) (c : ℕ) (sums : List (Option ℚ)) : Type 0 where
+  pub before : (k : ℕ) → c ≤ k → k < length places → IsCounted o cs x j sums (get_or places k (0, 0)).0
+  pub after : (i : ℕ) → i < length cs → IsCounted o cs x (j + 1) sums i ⊎ StandsFrom (λ (e : ℕ × ℕ). e.0) (0, 0) c places i
 
-module _ (cs : List Constraint) (x : Point) (j : ℕ) (places : List (ℕ × ℕ)) (is : ArePlaces cs (length cs) j places) where
-  pub half_sums_start : (sums : List (Option ℚ)) → AreSums cs x j sums → AreHalfSums cs x j places 0 sums
+module _ (o : Row) (cs : List Constraint) (x : Point) (j : ℕ) (places : List (ℕ × ℕ)) (is : ArePlaces o cs (length cs) j places) where
+  pub half_sums_start : (sums : List (Option ℚ)) → AreSums o cs x j sums → AreHalfSums o cs x j places 0 sums
   half_sums_start sums all = record {
     before = λ k a l. all (get_or places k (0, 0)).0 (is.found k l).0;
     after = λ i l. elim (is.rest i l) [
-      | inl z ↦ inl (sum_same (nth cs i).row x j (get_or sums i None) (inl z) (all i l))
-      | inr s ↦ inr s
+      | inl same ↦ inl (inl same)
+      | inr some ↦ elim some [
+        | inl z ↦ inl (counted_by o cs x j (j + 1) i sums sums (sum_same (nth cs i).row x j (get_or sums i None) (inl z)) (all i l))
+        | inr s ↦ inr s
+      ]
     ];
   }
 
-  pub half_sums_end : (sums : List (Option ℚ)) (c : ℕ) → length places ≤ c → AreHalfSums cs x j places c sums → AreSums cs x (j + 1) sums
+  pub half_sums_end : (sums : List (Option ℚ)) (c : ℕ) → length places ≤ c → AreHalfSums o cs x j places c sums → AreSums o cs x (j + 1) sums
   half_sums_end sums c past half i l = elim (half.after i l) [
     | inl h ↦ h
     | inr s ↦ absurd (none_stand (λ (e : ℕ × ℕ). e.0) (0, 0) places c i past s)
@@ -289,26 +307,30 @@ module _ (cs : List Constraint) (x : Point) (j : ℕ) (places : List (ℕ × ℕ
     here_place : get_or places c (0, 0) ≡ p
     here_place = there places c (0, 0) p l e
 
-    pub half_sums_next : AreHalfSums cs x j places c sums → AreHalfSums cs x j places (c + 1) (slice_set sums p.0 new)
+    other : (i : ℕ) → i ≢ p.0 → (n : ℕ) → IsCounted o cs x n sums i → IsCounted o cs x n (slice_set sums p.0 new) i
+    other i apart n h = counted_by o cs x n n i sums (slice_set sums p.0 new) (subst (IsSummed (nth cs i).row x n) (sym (get_or-set_other sums p.0 i new None apart))) h
+
+    pub half_sums_next : AreHalfSums o cs x j places c sums → AreHalfSums o cs x j places (c + 1) (slice_set sums p.0 new)
     half_sums_next half = record {
       before = λ k f m.
           let less = is.rising c k (omega (arith, f)) m in
           let apart : (get_or places k (0, 0)).0 ≢ p.0 = λ q. absurd (let h = ap (λ (y : ℕ × ℕ). y.0) here_place in omega (arith, q, h, less)) in
-          subst (IsSummed (nth cs (get_or places k (0, 0)).0).row x j) (sym (get_or-set_other sums p.0 _ new None apart)) (half.before k (omega (arith, f)) m);
+          other (get_or places k (0, 0)).0 apart j (half.before k (omega (arith, f)) m);
       after = λ i m. elim (cases_eq i p.0) [
-        | inl q ↦ inl (subst (λ h. IsSummed (nth cs h).row x (j + 1) (get_or (slice_set sums p.0 new) h None)) (sym q) now)
+        | inl q ↦ inl (subst (IsCounted o cs x (j + 1) (slice_set sums p.0 new)) (sym q) now)
         | inr apart ↦ elim (half.after i m) [
-          | inl h ↦ inl (subst (IsSummed (nth cs i).row x (j + 1)) (sym (get_or-set_other sums p.0 i new None apart)) h)
+          | inl h ↦ inl (other i apart (j + 1) h)
           | inr s ↦ inr (stands_later (λ (y : ℕ × ℕ). y.0) (0, 0) places c i (λ q. apart (sym (sym (ap (λ (y : ℕ × ℕ). y.0) here_place) ∙ q))) s)
         ]
       ];
     }
       where
-        was : IsSummed (nth cs p.0).row x j old
-        was = subst (IsSummed (nth cs p.0).row x j) (there sums p.0 None old within read) (subst (λ (q : ℕ × ℕ). IsSummed (nth cs q.0).row x j (get_or sums q.0 None)) here_place (half.before c (omega arith) l))
+        was : IsCounted o cs x j sums p.0
+        was = subst (λ (q : ℕ × ℕ). IsCounted o cs x j sums q.0) here_place (half.before c (omega arith) l)
 
-        now : IsSummed (nth cs p.0).row x (j + 1) (get_or (slice_set sums p.0 new) p.0 None)
-        now = subst (IsSummed (nth cs p.0).row x (j + 1)) (sym (get_or-set_same sums p.0 new None within)) (sum_more (nth cs p.0).row x j old new a b coefficient_read coordinate fits sum was)
+        now : IsCounted o cs x (j + 1) (slice_set sums p.0 new) p.0
+        now = counted_by o cs x j (j + 1) p.0 sums (slice_set sums p.0 new) (λ h. subst (IsSummed (nth cs p.0).row x (j + 1)) (sym (get_or-set_same sums p.0 new None within))
+            (sum_more (nth cs p.0).row x j old new a b coefficient_read coordinate fits sum (subst (IsSummed (nth cs p.0).row x j) (there sums p.0 None old within read) h))) was
 
 -- ---- touched constraints
 pub listed_set : (sums : List (Option ℚ)) (touched : List ℕ) (i : ℕ) (new : Option ℚ) → AreListed sums touched → StandsFrom (λ (j : ℕ). j) 0 0 touched i → AreListed (slice_set sums i new) touched
@@ -391,25 +413,25 @@ module _ (s : Row) (es : List (ℕ × ℚ)) (list : es ≡ entries s) (r : Rises
       }
 
 -- the sums over the variables below some number up to n, from which on the others are listed
-abbrev pub Summed : List Constraint → Row → ℕ → List (ℕ × ℚ) → ℕ → List (Option ℚ) → Type 0
-Summed cs s n es c sums = (low : ℕ) × (low ≤ n) × IsReached s es c low × AreSums cs (at s) low sums
+abbrev pub Summed : Row → List Constraint → Row → ℕ → List (ℕ × ℚ) → ℕ → List (Option ℚ) → Type 0
+Summed o cs s n es c sums = (low : ℕ) × (low ≤ n) × IsReached s es c low × AreSums o cs (at s) low sums
 
-module _ (cs : List Constraint) (s : Row) (n : ℕ) (es : List (ℕ × ℚ)) (list : es ≡ entries s) (r : RisesFrom 0 es) where
-  pub summed_start : (sums : List (Option ℚ)) → ((i : ℕ) → get_or sums i None ≡ None) → Summed cs s n es 0 sums
-  summed_start sums none = (0, omega arith, reached_start s es list r, sums_start cs (at s) sums none)
+module _ (o : Row) (cs : List Constraint) (s : Row) (n : ℕ) (es : List (ℕ × ℚ)) (list : es ≡ entries s) (r : RisesFrom 0 es) where
+  pub summed_start : (sums : List (Option ℚ)) → ((i : ℕ) → get_or sums i None ≡ None) → Summed o cs s n es 0 sums
+  summed_start sums none = (0, omega arith, reached_start s es list r, sums_start o cs (at s) sums none)
 
   -- no listed variable is left below n
-  pub summed_end : (sums : List (Option ℚ)) (c : ℕ) → ((k : ℕ) → c ≤ k → k < length es → n ≤ (get_or es k (0, zero_ℚ)).0) → Summed cs s n es c sums → AreSums cs (at s) n sums
-  summed_end sums c past h = sums_gap cs (at s) sums h.0 n h.1 (λ j a l. elim (h.2.rest j a) [ inl z ↦ z | inr t ↦ absurd (let f = past t.0 t.1 t.2 in let q = t.3 in omega (arith, f, l, q)) ]) h.3
+  pub summed_end : (sums : List (Option ℚ)) (c : ℕ) → ((k : ℕ) → c ≤ k → k < length es → n ≤ (get_or es k (0, zero_ℚ)).0) → Summed o cs s n es c sums → AreSums o cs (at s) n sums
+  summed_end sums c past h = sums_gap o cs (at s) sums h.0 n h.1 (λ j a l. elim (h.2.rest j a) [ inl z ↦ z | inr t ↦ absurd (let f = past t.0 t.1 t.2 in let q = t.3 in omega (arith, f, l, q)) ]) h.3
 
   module _ (c : ℕ) (p : ℕ × ℚ) (l : c < length es) (e : p ≡ get_or es c p) where
     pub rest_past : n ≤ p.0 → (k : ℕ) → c ≤ k → k < length es → n ≤ (get_or es k (0, zero_ℚ)).0
     rest_past past k a b = let h = left_from s es list r c p l e k a b in omega (arith, h, past)
 
-    pub summed_here : (sums : List (Option ℚ)) → Summed cs s n es c sums → AreSums cs (at s) p.0 sums
-    summed_here sums h = sums_gap cs (at s) sums h.0 p.0 (reached_low s es list r c p l e h.0 h.2) (reached_zeros s es list r c p l e h.0 h.2) h.3
+    pub summed_here : (sums : List (Option ℚ)) → Summed o cs s n es c sums → AreSums o cs (at s) p.0 sums
+    summed_here sums h = sums_gap o cs (at s) sums h.0 p.0 (reached_low s es list r c p l e h.0 h.2) (reached_zeros s es list r c p l e h.0 h.2) h.3
 
-    pub summed_next : (old sums : List (Option ℚ)) → p.0 < n → Summed cs s n es c old → AreSums cs (at s) (p.0 + 1) sums → Summed cs s n es (c + 1) sums
+    pub summed_next : (old sums : List (Option ℚ)) → p.0 < n → Summed o cs s n es c old → AreSums o cs (at s) (p.0 + 1) sums → Summed o cs s n es (c + 1) sums
     summed_next old sums within h all = (p.0 + 1, omega (arith, within), reached_next s es list r c p l e h.0 h.2, all)
 
 -- ---- the value of a row, over the listed variables
@@ -446,29 +468,35 @@ pub given_nth : (cons : List (Named Item)) (i : ℕ) (n : Named Item) → i < le
 given_nth cons i n l e = get_or-map (λ (m : Named Item). constraint_of m.item) cons i n _ l ∙ ap (λ (m : Named Item). constraint_of m.item) (sym e)
 
 -- ---- constraints that are false at 0
-pub false_next : (cs : List Constraint) (n : ℕ) (indices : List ℕ) → AreFalseAtZero cs n indices → Compares (nth cs n).sense zero_ℚ (nth cs n).bound → AreFalseAtZero cs (n + 1) indices
-false_next cs n indices is true_there = record {
-  within = λ k l. let h = is.within k l in omega (arith, h);
-  listed = λ i l. elim (cases_lt i n) [
-    | inl below ↦ is.listed i below
-    | inr past ↦ let e : n ≡ i = omega (arith, l, past) in inl (subst (λ k. Compares (nth cs k).sense zero_ℚ (nth cs k).bound) e true_there)
-  ];
-}
+module _ (o : Row) (cs : List Constraint) (n : ℕ) (indices : List ℕ) (is : AreFalseAtZero o cs n indices) where
+  pub false_next : HasRow o (nth cs n) ⊎ Compares (nth cs n).sense zero_ℚ (nth cs n).bound → AreFalseAtZero o cs (n + 1) indices
+  false_next there_or_same = record {
+    within = λ k l. let h = is.within k l in omega (arith, h);
+    listed = λ i l. elim (cases_lt i n) [
+      | inl below ↦ is.listed i below
+      | inr past ↦
+          let e : n ≡ i = omega (arith, l, past) in
+          elim there_or_same [ inl same ↦ inl (subst (λ k. HasRow o (nth cs k)) e same) | inr t ↦ inr (inl (subst (λ k. Compares (nth cs k).sense zero_ℚ (nth cs k).bound) e t)) ]
+    ];
+  }
 
-pub false_more : (cs : List Constraint) (n : ℕ) (indices : List ℕ) → AreFalseAtZero cs n indices → AreFalseAtZero cs (n + 1) (indices ++ n ∷ [])
-false_more cs n indices is = record {
-  within = λ k l. elim (cases_lt k (length indices)) [
-    | inl below ↦ let h = is.within k below in let e = get_or_append_left indices (n ∷ []) 0 k below in omega (arith, h, e)
-    | inr past ↦ let e = get_or_push indices n 0 k (let m = length_push indices n in omega (arith, m, l, past)) in omega (arith, e)
-  ];
-  listed = λ i l. elim (cases_lt i n) [
-    | inl below ↦ elim (is.listed i below) [
-      | inl t ↦ inl t
-      | inr s ↦ let m : s.0 < length indices = s.2 in inr (s.0, s.1, (let q = length_push indices n in omega (arith, m, q)), get_or_append_left indices (n ∷ []) 0 s.0 m ∙ s.3)
-    ]
-    | inr past ↦ inr (length indices, omega arith, (let q = length_push indices n in omega (arith, q)), get_or_push indices n 0 (length indices) refl ∙ (let e : n ≡ i = omega (arith, l, past) in e))
-  ];
-}
+  pub false_more : AreFalseAtZero o cs (n + 1) (indices ++ n ∷ [])
+  false_more = record {
+    within = λ k l. elim (cases_lt k (length indices)) [
+      | inl below ↦ let h = is.within k below in let e = get_or_append_left indices (n ∷ []) 0 k below in omega (arith, h, e)
+      | inr past ↦ let e = get_or_push indices n 0 k (let m = length_push indices n in omega (arith, m, l, past)) in omega (arith, e)
+    ];
+    listed = λ i l. elim (cases_lt i n) [
+      | inl below ↦ elim (is.listed i below) [
+        | inl same ↦ inl same
+        | inr some ↦ elim some [
+          | inl t ↦ inr (inl t)
+          | inr s ↦ let m : s.0 < length indices = s.2 in inr (inr (s.0, s.1, (let q = length_push indices n in omega (arith, m, q)), get_or_append_left indices (n ∷ []) 0 s.0 m ∙ s.3))
+        ]
+      ]
+      | inr past ↦ inr (inr (length indices, omega arith, (let q = length_push indices n in omega (arith, q)), get_or_push indices n 0 (length indices) refl ∙ (let e : n ≡ i = omega (arith, l, past) in e)))
+    ];
+  }
 
 pub given_entries : (cons : List (Named Item)) (i : ℕ) (n : Named Item) → i < length cons → n ≡ get_or cons i n → (es : List (ℕ × ℚ)) → es ≡ entries (get_or cons i n).item.row → entries (nth (given_of cons) i).row ≡ es
 given_entries cons i n l e es list = ap (λ (c : Constraint). entries c.row) (given_nth cons i n l e) ∙ ap (λ (m : Named Item). entries m.item.row) e ∙ sym list
@@ -481,23 +509,26 @@ place_read cs n j e h es same p is =
 pub as_many : (cons : List (Named Item)) → length (given_of cons) ≡ length cons
 as_many cons = length-map cons (λ (m : Named Item). constraint_of m.item)
 
-pub given_places : (cons : List (Named Item)) (j : ℕ) (places : List (ℕ × ℕ)) → ArePlaces (given_of cons) (length cons) j places → ArePlaces (given_of cons) (length (given_of cons)) j places
-given_places cons j places is = subst (λ n. ArePlaces (given_of cons) n j places) (sym (as_many cons)) is
+pub given_places : (o : Row) (cons : List (Named Item)) (j : ℕ) (places : List (ℕ × ℕ)) → ArePlaces o (given_of cons) (length cons) j places → ArePlaces o (given_of cons) (length (given_of cons)) j places
+given_places o cons j places is = subst (λ n. ArePlaces o (given_of cons) n j places) (sym (as_many cons)) is
 
 -- ---- all constraints
-module _ (cs : List Constraint) (n : ℕ) (x : Point) (sums : List (Option ℚ)) (touched indices : List ℕ) where
-  pub met : AreSums cs x n sums → AreListed sums touched → AreFalseAtZero cs (length cs) indices → ((k : ℕ) → k < length indices → get_or sums (get_or indices k 0) None ≢ None)
-      → ((k : ℕ) → k < length touched → Compares (nth cs (get_or touched k 0)).sense (unwrap_or (get_or sums (get_or touched k 0) None) zero_ℚ) (nth cs (get_or touched k 0)).bound) → AreMet cs n x
-  met all listed at_zero summed true_there i l = (
-    (all i l).0,
-    elim (listed.listed i) [
+module _ (o : Row) (cs : List Constraint) (n : ℕ) (x : Point) (sums : List (Option ℚ)) (touched indices : List ℕ) where
+  pub met : AreSums o cs x n sums → AreListed sums touched → AreFalseAtZero o cs (length cs) indices → ((k : ℕ) → k < length indices → get_or sums (get_or indices k 0) None ≢ None)
+      → ((k : ℕ) → k < length touched → Compares (nth cs (get_or touched k 0)).sense (unwrap_or (get_or sums (get_or touched k 0) None) zero_ℚ) (nth cs (get_or touched k 0)).bound) → AreMet o cs n x
+  met all listed at_zero summed true_there i l = elim (all i l) [
+    | inl same ↦ inl same
+    | inr sum ↦ elim (listed.listed i) [
       | inl none ↦ elim (at_zero.listed i l) [
-        | inl t ↦ subst (λ v. Compares (nth cs i).sense v (nth cs i).bound) (ap (λ o. unwrap_or o zero_ℚ) (sym none) ∙ (all i l).1) t
-        | inr s ↦ absurd (summed s.0 s.2 (ap (λ k. get_or sums k None) s.3 ∙ none))
+        | inl same ↦ inl same
+        | inr some ↦ elim some [
+          | inl t ↦ inr (sum.0, subst (λ v. Compares (nth cs i).sense v (nth cs i).bound) (ap (λ o. unwrap_or o zero_ℚ) (sym none) ∙ sum.1) t)
+          | inr s ↦ absurd (summed s.0 s.2 (ap (λ k. get_or sums k None) s.3 ∙ none))
+        ]
       ]
-      | inr s ↦ subst (λ v. Compares (nth cs i).sense v (nth cs i).bound) (all i l).1 (subst (λ k. Compares (nth cs k).sense (unwrap_or (get_or sums k None) zero_ℚ) (nth cs k).bound) s.3 (true_there s.0 s.2))
-    ],
-  )
+      | inr s ↦ inr (sum.0, subst (λ v. Compares (nth cs i).sense v (nth cs i).bound) sum.1 (subst (λ k. Compares (nth cs k).sense (unwrap_or (get_or sums k None) zero_ℚ) (nth cs k).bound) s.3 (true_there s.0 s.2)))
+    ]
+  ]
 
 pub told_some : {A : Type 0} → (o : Option A) (P : Type 0) (b : Bool) → is_some o ≡ not b → b ≡ false → OnSome o P → P
 told_some None P b e f h = absurd (cc)
@@ -518,9 +549,19 @@ module _ (p : Problem) (cons : List (Named Item)) (same : map (named_of constrai
   pub names_within : CanWriteProblem p → (k : ℕ) (d : Named Item) → k < length cons → NamesBelow (variables p) (at (get_or cons k d).item.row)
   names_within writes k d l = given_below p cons same k (get_or cons k d) l (get_or_default cons k d (get_or cons k d) l) writes
 
-module _ (p : Problem) (s : Row) (meets : AreMet (given_in p) (variables p) (at s)) where
+module _ (p : Problem) (s : Row) (meets : AreMet p.objective (given_in p) (variables p) (at s)) (fits : ValueFits (variables p) (at p.objective) (at s)) (b : Bounds) (bounds : AreBounds p.objective (given_in p) (length p.constraints) b)
+    (within : LiesWithin b (value (variables p) (at p.objective) (at s))) where
+  each : (i : ℕ) → i < length p.constraints → IsMet (variables p) (at s) (nth (given_in p) i)
+  each i l = elim (meets i (subst (λ n. i < n) (sym (length-map p.constraints (λ (n : is.Named Constraint). n.item))) l)) [
+    | inl same ↦ (
+      fits_same (variables p) (at s) (at p.objective) (at (nth (given_in p) i).row) (λ j. sym (same j)) fits,
+      subst (λ v. Compares (nth (given_in p) i).sense v (nth (given_in p) i).bound) (value_same (variables p) (at s) (at p.objective) (at (nth (given_in p) i).row) (λ j. sym (same j))) ((bounds _).0 within i l same),
+    )
+    | inr h ↦ h
+  ]
+
   met_here : (i : ℕ) → i < length p.constraints → PassesAll p s (tests_at i)
-  met_here i l = let h = meets i (subst (λ n. i < n) (sym (length-map p.constraints (λ (n : is.Named Constraint). n.item))) l) in inl (h.0, inl (h.1, refl))
+  met_here i l = let h = each i l in inl (h.0, inl (h.1, refl))
 
   met_up_to : (i : ℕ) → i ≤ length p.constraints → TrueUpTo p s i
   met_up_to zero l = refl

@@ -9,5 +9,7 @@ mod SoundLemmas
 mod RoundLemmas
 mod CutoffLemmas
 mod ClaimLemmas
+mod ValueLemmas
 mod SolutionLemmas
 mod ColumnLemmas
+mod BoundLemmas

@@ -1,15 +1,16 @@
 -- The constraints of a problem by their variables, and sums over the listed variables of a solution
-use Rattle.std.specs.Prelude.{◌≡◌, ℕ, ◌<◌, ◌≤◌, ◌⊎◌, List, [], map, length, Vec}
-use Rattle.std.specs.Prelude.{Option, None, unwrap_or, slice_index_or}
+use Rattle.std.specs.Prelude.{◌≡◌, ◌↔◌, ℕ, ◌<◌, ◌≤◌, ◌⊎◌, List, [], map, length, Vec}
+use Rattle.std.specs.Prelude.{Option, None, IfSome, unwrap_or, slice_index_or}
 use Rattle.std.specs.Global.{Global}
 use Rattle.std.specs.FinMap.{empty, entries}
-use Rattle.vipr_spec.specs.Fraction.{ℚ, zero_ℚ}
+use Rattle.vipr_spec.specs.Fraction.{ℚ, zero_ℚ, ◌≤ℚ◌}
 use Rattle.vipr_spec.specs.Constraint.{Constraint, Row, Point, at, equal, value, ValueFits}
 use Rattle.vipr_spec.specs.Constraint.{Compares, IsTrueAt, condition}
 use Rattle.vipr_spec.specs.Certificate.{Problem, variables}
 use Rattle.vipr_linear.specs.Constraint.{constraint_of}
 use Rattle.vipr_linear.specs.declared.constraint.Constraint.{Constraint as Item}
 use Rattle.vipr_cert.specs.declared.items.Named.{Named}
+use Rattle.vipr_rules.specs.declared.bounds.Bounds.{Bounds}
 use Rattle.vipr_rules.specs.declared.columns.Columns.{Columns}
 
 -- constraint i of a list
@@ -27,7 +28,30 @@ abbrev pub StandsFrom : {A : Type 0} → (A → ℕ) → A → ℕ → List A �
 StandsFrom number d c xs i =
     (k : ℕ) × (c ≤ k) × (k < length xs) × (number (slice_index_or xs k d) ≡ i)
 
--- ---- columns
+-- the constraint has this row
+abbrev pub HasRow : Row → Constraint → Type 0
+HasRow row c = (j : ℕ) → at c.row j ≡ at row j
+
+-- ---- the constraints that have the objective's row, as bounds of its value
+
+-- the value reaches the lower bound, if there is one
+abbrev pub IsFrom : Option ℚ → ℚ → Type 0
+IsFrom least v = IfSome least (λ b. b ≤ℚ v)
+
+-- the value doesn't exceed the upper bound, if there is one
+abbrev pub IsUpTo : Option ℚ → ℚ → Type 0
+IsUpTo most v = IfSome most (λ b. v ≤ℚ b)
+
+abbrev pub LiesWithin : Bounds → ℚ → Type 0
+LiesWithin b v = IsFrom b.least v × IsUpTo b.most v
+
+-- the values within are exactly those at which each of the first n constraints is true that has
+-- this row
+abbrev pub AreBounds : Row → List Constraint → ℕ → Bounds → Type 0
+AreBounds row cs n b = (v : ℚ) → LiesWithin b v ↔ ((i : ℕ) → i < n → HasRow row (nth cs i)
+    → Compares (nth cs i).sense v (nth cs i).bound)
+
+-- ---- columns of the constraints that don't have the objective's row
 
 -- entry e.1 of constraint e.0 is that of the variable j
 abbrev pub IsPlace : List Constraint → ℕ → ℕ → ℕ × ℕ → Type 0
@@ -35,20 +59,21 @@ IsPlace cs n j e =
     (e.0 < n) × (e.1 < length (entries (nth cs e.0).row))
     × (slice_index_or (entries (nth cs e.0).row) e.1 (0, zero_ℚ) ≡ (j, at (nth cs e.0).row j))
 
--- where the variable j stands in the first n constraints
-pub record ArePlaces (cs : List Constraint) (n j : ℕ) (places : List (ℕ × ℕ)) : Type 0 where
-  pub found : (k : ℕ) → k < length places → IsPlace cs n j (slice_index_or places k (0, 0))
-  pub rising : (a b : ℕ) → a < b → b < length places
-      → (slice_index_or places a (0, 0)).0 < (slice_index_or places b (0, 0)).0
-  pub rest : (i : ℕ) → i < n
-      → (at (nth cs i).row j ≡ zero_ℚ) ⊎ StandsFrom (λ (e : ℕ × ℕ). e.0) (0, 0) 0 places i
+-- where the variable j stands in the first n constraints, those with the row o aside
+pub record ArePlaces (o : Row) (cs : List Constraint) (n j : ℕ) (places : List (ℕ × ℕ)) : Type 0
+  where
+    pub found : (k : ℕ) → k < length places → IsPlace cs n j (slice_index_or places k (0, 0))
+    pub rising : (a b : ℕ) → a < b → b < length places
+        → (slice_index_or places a (0, 0)).0 < (slice_index_or places b (0, 0)).0
+    pub rest : (i : ℕ) → i < n → HasRow o (nth cs i) ⊎ ((at (nth cs i).row j ≡ zero_ℚ)
+        ⊎ StandsFrom (λ (e : ℕ × ℕ). e.0) (0, 0) 0 places i)
 
 abbrev pub column_at : List (Vec (ℕ × ℕ) Global) → ℕ → List (ℕ × ℕ)
 column_at columns j = slice_index_or (map (λ v. v.items) columns) j []
 
--- the columns of the first n constraints
-abbrev pub AreColumns : List Constraint → ℕ → List (Vec (ℕ × ℕ) Global) → Type 0
-AreColumns cs n columns = (j : ℕ) → ArePlaces cs n j (column_at columns j)
+-- the columns of the first n constraints, those with the row o aside
+abbrev pub AreColumns : Row → List Constraint → ℕ → List (Vec (ℕ × ℕ) Global) → Type 0
+AreColumns o cs n columns = (j : ℕ) → ArePlaces o cs n j (column_at columns j)
 
 -- ---- sums
 
@@ -56,14 +81,21 @@ AreColumns cs n columns = (j : ℕ) → ArePlaces cs n j (column_at columns j)
 abbrev pub IsSummed : Row → Point → ℕ → Option ℚ → Type 0
 IsSummed row x n sum = ValueFits n (at row) x × (unwrap_or sum zero_ℚ ≡ value n (at row) x)
 
-abbrev pub AreSums : List Constraint → Point → ℕ → List (Option ℚ) → Type 0
-AreSums cs x n sums =
-    (i : ℕ) → i < length cs → IsSummed (nth cs i).row x n (slice_index_or sums i None)
+-- so of the constraint i, or it has the row o
+abbrev pub IsCounted : Row → List Constraint → Point → ℕ → List (Option ℚ) → ℕ → Type 0
+IsCounted o cs x n sums i =
+    HasRow o (nth cs i) ⊎ IsSummed (nth cs i).row x n (slice_index_or sums i None)
 
--- at a point the constraints are true, and their values fit
-abbrev pub AreMet : List Constraint → ℕ → Point → Type 0
-AreMet cs n x = (i : ℕ) → i < length cs
-    → ValueFits n (at (nth cs i).row) x × IsTrueAt n (condition (nth cs i)) x
+abbrev pub AreSums : Row → List Constraint → Point → ℕ → List (Option ℚ) → Type 0
+AreSums o cs x n sums = (i : ℕ) → i < length cs → IsCounted o cs x n sums i
+
+-- at a point the constraint is true, and its value fits
+abbrev pub IsMet : ℕ → Point → Constraint → Type 0
+IsMet n x c = ValueFits n (at c.row) x × IsTrueAt n (condition c) x
+
+-- so are the constraints, those with the row o aside
+abbrev pub AreMet : Row → List Constraint → ℕ → Point → Type 0
+AreMet o cs n x = (i : ℕ) → i < length cs → HasRow o (nth cs i) ⊎ IsMet n x (nth cs i)
 
 -- whatever is summed is listed as touched
 pub record AreListed (sums : List (Option ℚ)) (touched : List ℕ) : Type 0 where
@@ -71,17 +103,21 @@ pub record AreListed (sums : List (Option ℚ)) (touched : List ℕ) : Type 0 wh
   pub listed : (i : ℕ) → (slice_index_or sums i None ≡ None)
       ⊎ StandsFrom (λ (j : ℕ). j) 0 0 touched i
 
--- a constraint is true where all variables are 0, or it is listed
-pub record AreFalseAtZero (cs : List Constraint) (n : ℕ) (indices : List ℕ) : Type 0 where
-  pub within : (k : ℕ) → k < length indices → slice_index_or indices k 0 < n
-  pub listed : (i : ℕ) → i < n → Compares (nth cs i).sense zero_ℚ (nth cs i).bound
-      ⊎ StandsFrom (λ (j : ℕ). j) 0 0 indices i
+-- a constraint has the row o, or is true where all variables are 0, or is listed
+pub record AreFalseAtZero (o : Row) (cs : List Constraint) (n : ℕ) (indices : List ℕ) : Type 0
+  where
+    pub within : (k : ℕ) → k < length indices → slice_index_or indices k 0 < n
+    pub listed : (i : ℕ) → i < n
+        → HasRow o (nth cs i) ⊎ (Compares (nth cs i).sense zero_ℚ (nth cs i).bound
+        ⊎ StandsFrom (λ (j : ℕ). j) 0 0 indices i)
 
--- the columns of the constraints of a problem, with nothing summed
+-- the columns of the constraints of a problem and the bounds of its objective, with nothing summed
 pub record IsColumnsOf (p : Problem) (c : Columns) : Type 0 where
   pub variables : length c.columns.items ≡ variables p
-  pub columns : AreColumns (given_in p) (length p.constraints) c.columns.items
-  pub false_at_zero : AreFalseAtZero (given_in p) (length p.constraints) c.false_at_zero.items
+  pub columns : AreColumns p.objective (given_in p) (length p.constraints) c.columns.items
+  pub false_at_zero : AreFalseAtZero p.objective (given_in p) (length p.constraints)
+      c.false_at_zero.items
+  pub bounds : AreBounds p.objective (given_in p) (length p.constraints) c.bounds
   pub sums : length c.sums.items ≡ length p.constraints
   pub empty : (i : ℕ) → slice_index_or c.sums.items i None ≡ None
   pub untouched : c.touched.items ≡ []

@@ -1,7 +1,8 @@
 -- The test of a listed solution.
-use Rattle.std.specs.Prelude.{◌≡◌, ℕ, List, [], ◌∷◌, flat_map, Some, None}
+use Rattle.std.specs.Prelude.{◌≡◌, ℕ, List, [], ◌∷◌, flat_map, Option, Some, None, SomeIff}
+use Rattle.vipr_spec.specs.Fraction.{ℚ}
 use Rattle.std.specs.List.{range_with_len}
-use Rattle.vipr_spec.specs.Constraint.{Row}
+use Rattle.vipr_spec.specs.Constraint.{Row, Point, value, ValueFits}
 use Rattle.vipr_spec.specs.Certificate.{Name, Problem}
 use Rattle.vipr_spec.specs.Tests.{Detail, not_whole, breaks, overflows, name_at, names_of}
 use Rattle.vipr_spec.specs.Tests.{solution_detail, SolutionTest, whole_at, value_fits, holds}
@@ -35,6 +36,10 @@ PassesAll p s ts = FirstFailing (PassesSolution p s) ts None
 abbrev pub FailsBy : Problem → Row → List SolutionTest → SolutionError → Type 0
 FailsBy p s ts e = FirstFailing (PassesSolution p s) ts (Some (test_of e))
     × ((name : Name) → solution_shown p name e ≡ solution_detail p name s (test_of e))
+
+-- this is the value of a row at a point, none where it doesn't fit
+abbrev pub IsValueOf : ℕ → (ℕ → ℚ) → Point → Option ℚ → Type 0
+IsValueOf n row x v = SomeIff v (ValueFits n row x) (value n row x)
 
 -- the tests of constraint i
 abbrev pub tests_at : ℕ → List SolutionTest

@@ -1,23 +1,28 @@
 //! The constraints of a problem by their variables, to test many short solutions.
 
-ghost use Rattle.std.specs.Prelude.{◌≡◌, ◌≢◌, ◌+◌, ◌<◌, ℕ, All, IsTrue, IfOk, OnOk, IfSome, OnSome};
+ghost use Rattle.std.specs.Prelude.{◌≡◌, ◌≢◌, ◌⊎◌, ◌+◌, ◌<◌, ℕ, All, IsTrue, IsFalse, IfOk, OnOk};
+ghost use Rattle.std.specs.Prelude.{IfSome, OnSome};
 ghost use Rattle.std.specs.Prelude.{List, None, length, slice_index_or, unwrap_or};
 ghost use Rattle.vipr_spec.specs.Fraction.{zero_ℚ, ◌+ℚ◌, ◌*ℚ◌};
-ghost use Rattle.vipr_spec.specs.Constraint.{Constraint as Meant, Point, at, Compares, NamesBelow};
+ghost use Rattle.vipr_spec.specs.Constraint.{Constraint as Meant, Row as Entries, Point, at};
+ghost use Rattle.vipr_spec.specs.Constraint.{Compares, NamesBelow, ValueFits};
+ghost use Rattle.vipr_spec.specs.Certificate.{variables, objective_at};
 ghost use Rattle.vipr_spec.specs.MoreEntries.{TermFits};
-ghost use Rattle.vipr_linear.specs.Constraint.{sense_of};
+ghost use Rattle.vipr_linear.specs.Constraint.{sense_of, constraint_of};
 ghost use Rattle.vipr_rules.specs.Columns.{nth, given_of, StandsFrom, AreColumns, ArePlaces};
 ghost use Rattle.vipr_rules.specs.Columns.{AreSums, AreListed, AreFalseAtZero, AreMet};
-ghost use Rattle.vipr_rules.specs.Columns.{IsColumnsOf};
+ghost use Rattle.vipr_rules.specs.Columns.{HasRow, IsColumnsOf};
 ghost use Rattle.vipr_rules.specs.Solution.{PassesAll, tests_below};
 
+use crate::bounds::Bounds;
 use std::alloc::{AllocError, Global};
 use vipr_cert::{Named, Problem};
 use vipr_frac::{Frac, Partial};
 use vipr_linear::{Constraint, Row, Solution, compares};
 
-/// The constraints of a problem by their variables, with a place for the sum of each constraint.
-/// An entry takes 8 bytes: its coefficient is looked up in the problem.
+/// The constraints of a problem by their variables, with a place for the sum of each constraint. An
+/// entry takes 8 bytes: its coefficient is looked up in the problem. The constraints that have the
+/// objective's row are in no column: they bound the objective's value.
 #[derive(Debug, Drop)]
 pub struct Columns {
     /// For each variable the constraints in which it stands, and its place among their entries.
@@ -27,18 +32,15 @@ pub struct Columns {
     /// The sums of the touched constraints.
     sums: Vec<Option<Partial>>,
     touched: Vec<u32>,
+    /// The bounds of the objective's value by the constraints that have its row.
+    bounds: Bounds,
 }
 
 impl Columns {
-    /// The columns of a problem. There are none where a growth is refused, or where its constraints
-    /// repeat the objective so often that columns would take far more memory than was read: they
-    /// share the objective's entries.
+    /// The columns of a problem. There are none where a growth is refused.
     pub fn of(alloc: Global, problem: &Problem) -> Option<Columns>
         ensures { IfSome result (IsColumnsOf problem.now) }
     {
-        if !repeats_little(problem) {
-            return None;
-        }
         Columns::laid(alloc, problem).ok()
     }
 
@@ -46,28 +48,38 @@ impl Columns {
         ensures { IfOk result (IsColumnsOf problem.now) }
     {
         let cons = problem.cons();
+        let objective = problem.objective();
         Ok(Columns {
-            columns: columns_of(alloc, problem.names().len(), cons)?,
-            false_at_zero: false_at_zero(alloc, cons)?,
+            columns: columns_of(alloc, problem.names().len(), cons, objective)?,
+            false_at_zero: false_at_zero(alloc, cons, objective)?,
             sums: nothing_summed(alloc, cons.len())?,
             touched: Vec::new(alloc),
+            bounds: Bounds::of(cons, objective),
         })
     }
 
-    /// Whether it is found that a solution meets all constraints. The columns of its variables
-    /// alone are looked at. Where a value doesn't fit, or memory is refused, it isn't found.
-    pub(crate) fn find_met(&mut self, problem: &Problem, solution: &Solution) -> bool
-        requires { IsColumnsOf problem.now self.old }
+    /// Whether it is found that a solution meets all constraints, where the objective has this
+    /// value there. The columns of its variables alone are looked at. Where a constraint's value
+    /// doesn't fit, or memory is refused, it isn't found.
+    pub(crate) fn find_met(&mut self, problem: &Problem, solution: &Solution, value: Frac) -> bool
+        requires columns { IsColumnsOf problem.now self.old }
+        requires room { ValueFits (variables problem.now) (at problem.now.objective)
+            (at solution.now.0) }
+        requires value { value ≡ objective_at problem.now (at solution.now.0) }
         ensures met { IsTrue result
             → PassesAll problem.now solution.now.0 (tests_below (length problem.now.constraints)) }
         ensures columns { IsColumnsOf problem.now self.new }
     {
+        if !self.bounds.admit(value) {
+            return false;
+        }
         let cons = problem.cons();
         let Columns {
             columns,
             false_at_zero,
             sums,
             touched,
+            ..
         } = self;
         let met = are_met(cons, columns, false_at_zero, solution, sums, touched);
         clear(sums, touched);
@@ -77,39 +89,22 @@ impl Columns {
 
 // ---- building
 
-// Whether the constraints repeat the objective's entries at most eight times as often as there are
-// variables and other entries.
-fn repeats_little(problem: &Problem) -> bool {
-    let objective = problem.objective();
-    let mut repeated: usize = 0;
-    let mut others = problem.names().len();
-    for named in problem.cons() {
-        let row = &named.item.row;
-        let entries = row.entries().len();
-        if row.is_same(objective) {
-            repeated = repeated.saturating_add(entries);
-        } else {
-            others = others.saturating_add(entries);
-        }
-    }
-    repeated / 8 <= others
-}
-
 fn columns_of(
     alloc: Global,
     variables: usize,
     cons: &[Named<Constraint>],
+    objective: &Row,
 ) -> Result<Vec<Vec<(u32, u32)>>, AllocError>
     requires names { All (λ n. NamesBelow variables (at n.item.row)) cons.now }
     requires room { length cons.now < 4294967296 }
     ensures columns { IfOk result
-        (λ v. AreColumns (given_of cons.now) (length cons.now) v.items) }
+        (λ v. AreColumns objective.now (given_of cons.now) (length cons.now) v.items) }
     ensures variables { IfOk result (λ v. length v.items ≡ variables) }
 {
-    let counts = entry_counts(alloc, variables, cons)?;
+    let counts = entry_counts(alloc, variables, cons, objective)?;
     let mut columns = empty_columns(alloc, &counts)?;
     for (index, named) in cons.iter().enumerate() {
-        add_row(&mut columns, index as u32, &named.item.row)?;
+        add_row(&mut columns, index as u32, &named.item.row, objective)?;
     }
     Ok(columns)
 }
@@ -119,11 +114,15 @@ fn entry_counts(
     alloc: Global,
     variables: usize,
     cons: &[Named<Constraint>],
+    objective: &Row,
 ) -> Result<Vec<u32>, AllocError>
     ensures { IfOk result (λ v. length v.items ≡ variables) }
 {
     let mut counts = vec![in alloc; 0; variables]?;
     for named in cons {
+        if named.item.row.is_same(objective) {
+            continue;
+        }
         for (variable, _) in named.item.row.entries() {
             if let Some(count) = counts.get_mut(*variable as usize) {
                 *count = u32::saturating_add(*count, 1);
@@ -135,7 +134,8 @@ fn entry_counts(
 
 // Empty columns with room for so many entries.
 fn empty_columns(alloc: Global, counts: &[u32]) -> Result<Vec<Vec<(u32, u32)>>, AllocError>
-    ensures empty { IfOk result (λ v. (cs : List Meant) → AreColumns cs 0 v.items) }
+    ensures empty { IfOk result (λ v. (o : Entries) (cs : List Meant)
+        → AreColumns o cs 0 v.items) }
     ensures variables { IfOk result (λ v. length v.items ≡ length counts.now) }
 {
     let mut columns = Vec::with_capacity(alloc, counts.len())?;
@@ -145,30 +145,55 @@ fn empty_columns(alloc: Global, counts: &[u32]) -> Result<Vec<Vec<(u32, u32)>>, 
     Ok(columns)
 }
 
-// Adds the entries of a constraint to the columns of their variables.
-fn add_row(columns: &mut [Vec<(u32, u32)>], index: u32, row: &Row) -> Result<(), AllocError>
+// Adds the entries of a constraint to the columns of their variables, but none if it has the
+// objective's row.
+fn add_row(
+    columns: &mut [Vec<(u32, u32)>],
+    index: u32,
+    row: &Row,
+    objective: &Row,
+) -> Result<(), AllocError>
     requires { NamesBelow (length columns.old) (at row.now) }
-    ensures { (cs : List Meant) → (nth cs index).row ≡ row.now → AreColumns cs index columns.old
-        → OnOk result (AreColumns cs (index + 1) columns.new) }
+    ensures { (cs : List Meant) → (nth cs index).row ≡ row.now
+        → AreColumns objective.now cs index columns.old
+        → OnOk result (AreColumns objective.now cs (index + 1) columns.new) }
 {
+    if row.is_same(objective) {
+        return Ok(());
+    }
     for (place, entry) in row.entries().iter().enumerate() {
         columns[entry.0 as usize].push((index, place as u32))?;
     }
     Ok(())
 }
 
-fn false_at_zero(alloc: Global, cons: &[Named<Constraint>]) -> Result<Vec<u32>, AllocError>
+fn false_at_zero(
+    alloc: Global,
+    cons: &[Named<Constraint>],
+    objective: &Row,
+) -> Result<Vec<u32>, AllocError>
     requires { length cons.now < 4294967296 }
     ensures { IfOk result
-        (λ v. AreFalseAtZero (given_of cons.now) (length cons.now) v.items) }
+        (λ v. AreFalseAtZero objective.now (given_of cons.now) (length cons.now) v.items) }
 {
     let mut indices = Vec::new(alloc);
     for (index, named) in cons.iter().enumerate() {
-        if !compares(named.item.sense, Frac::zero(), named.item.rhs) {
+        if is_false_at_zero(&named.item, objective) {
             indices.push(index as u32)?;
         }
     }
     Ok(indices)
+}
+
+// Whether a constraint is false where all variables are 0, and hasn't the objective's row.
+fn is_false_at_zero(constraint: &Constraint, objective: &Row) -> bool
+    ensures { IsFalse result → HasRow objective.now (constraint_of constraint.now)
+        ⊎ Compares (sense_of constraint.now.sense) zero_ℚ constraint.now.rhs }
+{
+    if compares(constraint.sense, Frac::zero(), constraint.rhs) {
+        return false;
+    }
+    !constraint.row.is_same(objective)
 }
 
 fn nothing_summed(alloc: Global, constraints: usize) -> Result<Vec<Option<Partial>>, AllocError>
@@ -193,12 +218,14 @@ fn add_solution(
     sums: &mut [Option<Partial>],
     touched: &mut Vec<u32>,
 ) -> Option<()>
-    requires columns { AreColumns (given_of cons.now) (length cons.now) columns.now }
+    requires columns { (o : Entries) × AreColumns o (given_of cons.now) (length cons.now)
+        columns.now }
     requires constraints { length sums.old ≡ length cons.now }
     requires empty { (i : ℕ) → slice_index_or sums.old i None ≡ None }
     requires listed { AreListed sums.old touched.old.items }
-    ensures sums { OnSome result (AreSums (given_of cons.now) (at solution.now.0)
-        (length columns.now) sums.new) }
+    ensures sums { (o : Entries) → AreColumns o (given_of cons.now) (length cons.now) columns.now
+        → OnSome result (AreSums o (given_of cons.now) (at solution.now.0) (length columns.now)
+        sums.new) }
     ensures listed { AreListed sums.new touched.new.items }
 {
     for (variable, coordinate) in solution.0.entries() {
@@ -218,13 +245,14 @@ fn add_column(
     sums: &mut [Option<Partial>],
     touched: &mut Vec<u32>,
 ) -> Option<()>
-    requires places { (j : ℕ) × ArePlaces (given_of cons.now) (length cons.now) j places.now }
+    requires places { (o : Entries) × (j : ℕ)
+        × ArePlaces o (given_of cons.now) (length cons.now) j places.now }
     requires constraints { length sums.old ≡ length cons.now }
     requires listed { AreListed sums.old touched.old.items }
-    ensures sums { (j : ℕ) (x : Point)
-        → ArePlaces (given_of cons.now) (length cons.now) j places.now → x j ≡ coordinate
-        → AreSums (given_of cons.now) x j sums.old
-        → OnSome result (AreSums (given_of cons.now) x (j + 1) sums.new) }
+    ensures sums { (o : Entries) (j : ℕ) (x : Point)
+        → ArePlaces o (given_of cons.now) (length cons.now) j places.now → x j ≡ coordinate
+        → AreSums o (given_of cons.now) x j sums.old
+        → OnSome result (AreSums o (given_of cons.now) x (j + 1) sums.new) }
     ensures listed { AreListed sums.new touched.new.items }
 {
     for (index, place) in places {
@@ -267,7 +295,7 @@ fn add_term(sum: &mut Option<Partial>, coefficient: Frac, coordinate: Frac) -> O
 
 // ---- testing
 
-// Whether all constraints are found to be met by a solution.
+// Whether all constraints that stand in columns are found to be met by a solution.
 fn are_met(
     cons: &[Named<Constraint>],
     columns: &[Vec<(u32, u32)>],
@@ -276,14 +304,17 @@ fn are_met(
     sums: &mut [Option<Partial>],
     touched: &mut Vec<u32>,
 ) -> bool
-    requires columns { AreColumns (given_of cons.now) (length cons.now) columns.now }
-    requires false_at_zero { AreFalseAtZero (given_of cons.now) (length cons.now)
-        false_at_zero.now }
+    requires columns { (o : Entries) × AreColumns o (given_of cons.now) (length cons.now)
+        columns.now }
+    requires false_at_zero { (o : Entries) × AreFalseAtZero o (given_of cons.now)
+        (length cons.now) false_at_zero.now }
     requires constraints { length sums.old ≡ length cons.now }
     requires empty { (i : ℕ) → slice_index_or sums.old i None ≡ None }
     requires listed { AreListed sums.old touched.old.items }
-    ensures met { IsTrue result
-        → AreMet (given_of cons.now) (length columns.now) (at solution.now.0) }
+    ensures met { (o : Entries) → AreColumns o (given_of cons.now) (length cons.now) columns.now
+        → AreFalseAtZero o (given_of cons.now) (length cons.now) false_at_zero.now
+        → IsTrue result → AreMet o (given_of cons.now) (length columns.now)
+        (at solution.now.0) }
     ensures listed { AreListed sums.new touched.new.items }
 {
     if add_solution(cons, columns, solution, sums, touched).is_none() {

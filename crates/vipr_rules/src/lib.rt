@@ -1,6 +1,7 @@
 //! The rules of derivations: the test of one derivation, of a listed solution, and of a claim.
 #![tactic(auto)]
 
+mod bounds;
 mod branches;
 mod claim;
 mod columns;

@@ -2,8 +2,8 @@
 
 ghost use Rattle.std.specs.Prelude.{◌≡◌, ◌↔◌, ◌<◌, ℕ, length, map, None, IsOk, IfOk};
 ghost use Rattle.std.specs.Prelude.{MatchResult};
-ghost use Rattle.vipr_spec.specs.Constraint.{Row as Entries, at, IsInteger, NamesBelow, value};
-ghost use Rattle.vipr_spec.specs.Constraint.{ValueFits};
+ghost use Rattle.vipr_spec.specs.Constraint.{Row as Entries, Point, at, IsInteger, NamesBelow};
+ghost use Rattle.vipr_spec.specs.Constraint.{value, ValueFits};
 ghost use Rattle.vipr_spec.specs.Certificate.{Problem as Meant, variables, integer_variables};
 ghost use Rattle.vipr_spec.specs.Certificate.{objective_at};
 ghost use Rattle.vipr_spec.specs.Steps.{FirstFailing};
@@ -11,7 +11,8 @@ ghost use Rattle.vipr_spec.specs.Tests.{PassesSolution, whole_at, given_at, solu
 ghost use Rattle.vipr_linear.specs.Constraint.{constraint_of};
 ghost use Rattle.vipr_linear.specs.Values.{IsLaidOut};
 ghost use Rattle.vipr_rules.specs.Columns.{IsColumnsOf};
-ghost use Rattle.vipr_rules.specs.Solution.{PassesAll, FailsBy, tests_at, tests_below};
+ghost use Rattle.vipr_rules.specs.Solution.{PassesAll, FailsBy, IsValueOf, tests_at};
+ghost use Rattle.vipr_rules.specs.Solution.{tests_below};
 
 use crate::columns::Columns;
 use vipr_cert::Problem;
@@ -46,9 +47,10 @@ pub enum SolutionError {
 }
 
 /// Tests a listed solution, and gives the objective's value there. It lays the solution out in the
-/// scratch, so that each entry of the solution and of the constraints is looked at once. The
-/// integer variables are tested first, in rising order, then the constraints in their order, and
-/// last whether the objective's value fits.
+/// scratch, so that each entry of the solution and of the constraints is looked at once. Those of
+/// the objective are looked at once also where many constraints have its row. The integer variables
+/// are tested first, in rising order, then the constraints in their order, and last whether the
+/// objective's value fits.
 ///
 /// # Errors
 ///
@@ -71,10 +73,11 @@ pub fn test_solution(
     let objective = p.objective();
     test_integers(p.ints(), solution)?;
     scratch.lay_out(solution);
-    test_constraints(p, scratch)?;
-    match scratch.value_of(objective) {
-        Ok(value) => Ok(value),
-        Err(_) => Err(SolutionError::Overflow(None)),
+    let value = laid_value(objective, scratch);
+    test_constraints(p, scratch, &value)?;
+    match &value {
+        Some(value) => Ok(*value),
+        None => Err(SolutionError::Overflow(None)),
     }
 }
 
@@ -101,12 +104,12 @@ pub fn test_solution_by_columns(
 {
     let objective = p.objective();
     test_integers(p.ints(), solution)?;
-    if !columns.find_met(p, solution) {
+    let Ok(value) = listed_value(objective, solution) else {
+        return test_solution(p, scratch, solution);
+    };
+    if !columns.find_met(p, solution, value) {
         return test_solution(p, scratch, solution);
     }
-    let Ok(value) = listed_value(objective, solution) else {
-        return Err(SolutionError::Overflow(None));
-    };
     Ok(value)
 }
 
@@ -140,31 +143,69 @@ fn test_integers(ints: &Ints, solution: &Solution) -> Result<(), SolutionError>
     }
 }
 
-// Tests all constraints in their order, at the solution that is laid out.
-fn test_constraints(p: &Problem, point: &Combination) -> Result<(), SolutionError>
-    ensures { (s : Entries) → IsLaidOut (variables p.now) (at s) point.now.sums → MatchResult result
+// The value of a row at the solution that is laid out, none where it doesn't fit.
+fn laid_value(row: &Row, point: &Combination) -> Option<Frac>
+    ensures { (n : ℕ) (x : Point) → IsLaidOut n x point.now.sums → NamesBelow n (at row.now)
+        → IsValueOf n (at row.now) x result }
+{
+    match point.value_of(row) {
+        Ok(value) => Some(value),
+        Err(_) => None,
+    }
+}
+
+// The same, where the value of the objective is known.
+fn value_beside(
+    row: &Row,
+    objective: &Row,
+    value: &Option<Frac>,
+    point: &Combination,
+) -> Option<Frac>
+    ensures { (n : ℕ) (x : Point) → IsLaidOut n x point.now.sums → NamesBelow n (at row.now)
+        → IsValueOf n (at objective.now) x value.now → IsValueOf n (at row.now) x result }
+{
+    if row.is_same(objective) {
+        return match value {
+            Some(value) => Some(*value),
+            None => None,
+        };
+    }
+    laid_value(row, point)
+}
+
+// Tests all constraints in their order, at the solution that is laid out, where the objective has
+// this value, or none that fits.
+fn test_constraints(
+    p: &Problem,
+    point: &Combination,
+    value: &Option<Frac>,
+) -> Result<(), SolutionError>
+    ensures { (s : Entries) → IsLaidOut (variables p.now) (at s) point.now.sums
+        → IsValueOf (variables p.now) (at p.now.objective) (at s) value.now → MatchResult result
         (λ _. PassesAll p.now s (tests_below (length p.now.constraints)))
         (FailsBy p.now s (tests_below (length p.now.constraints))) }
 {
+    let objective = p.objective();
     for (i, named) in p.cons().iter().enumerate() {
-        test_constraint(i as u32, &named.item, point)?;
+        let row_value = value_beside(&named.item.row, objective, value, point);
+        test_constraint(i as u32, &named.item, row_value)?;
     }
     Ok(())
 }
 
-// Tests the constraint with this index: its value fits, and it is true.
+// Tests the constraint with this index, whose row has this value: it fits, and the constraint is
+// true.
 fn test_constraint(
     index: u32,
     constraint: &Constraint,
-    point: &Combination,
+    value: Option<Frac>,
 ) -> Result<(), SolutionError>
-    ensures { (p : Meant) (s : Entries) → IsLaidOut (variables p) (at s) point.now.sums
-        → given_at p index ≡ constraint_of constraint.now
-        → NamesBelow (variables p) (at constraint.now.row)
+    ensures { (p : Meant) (s : Entries) → given_at p index ≡ constraint_of constraint.now
+        → IsValueOf (variables p) (at constraint.now.row) (at s) value
         → MatchResult result (λ _. PassesAll p s (tests_at index))
         (FailsBy p s (tests_at index)) }
 {
-    let Ok(left) = point.value_of(&constraint.row) else {
+    let Some(left) = value else {
         return Err(SolutionError::Overflow(Some(index)));
     };
     if compares(constraint.sense, left, constraint.rhs) {

@@ -1,9 +1,13 @@
 use Rattle.std.proofs.Common.{arith, ap, sym, ◌∙◌, ◌<◌, ◌++◌, ◌∷◌, [], length, rules}
-use Rattle.vipr_rules.proofs.ColumnLemmas.{rank, entry_below, half_start, half_next, half_end, column_read}
+use Rattle.vipr_spec.specs.Constraint.{at}
+use Rattle.vipr_rules.proofs.ColumnLemmas.{columns_same, rank, entry_below, half_start, half_next, half_end, column_read}
 use Rattle.vipr_rules.proofs.columns.add_row.Goals as goal
 
+pub returns-then-is_same : goal.returns-then-is_same
+returns-then-is_same c = λ cs same all. columns_same c.args.objective.now cs c.args.index c.args.columns.now (λ j. ap (λ x. at x j) same ∙ c.is_same.ensures.0 c.if-is_same.true j) all
+
 pub loop-place-init : goal.loop-place-init
-loop-place-init c = λ cs same all. half_start cs c.args.index c.args.row.now same c.entries-entry-items.result.now c.entries-entry-items.ensures.list c.entries-entry-items.ensures.rising c.args.columns.now all
+loop-place-init c = λ cs same all. half_start c.args.objective.now cs c.args.index c.args.row.now same c.entries-entry-items.result.now c.entries-entry-items.ensures.list c.entries-entry-items.ensures.rising c.args.columns.now all
 
 pub bounds-columns-entry : goal.bounds-columns-entry
 bounds-columns-entry c =
@@ -27,7 +31,7 @@ loop-place-preserved c = λ cs same all.
     let within : c.entry-item.result.0 < length c.loop-place.columns = omega (arith, e, below, c.loop-place.auto.columns) in
     let read = column_read c.loop-place.columns c.entry-item.result.0 within c.index-columns-entry.result c.index-columns-entry.is in
     let pushed = c.in_ok-push.ensures.items ∙ ap (λ w. w.items ++ (c.args.index, c.loop-place.place) ∷ []) (sym c.index-columns-entry.is) ∙ ap (λ xs. xs ++ (c.args.index, c.loop-place.place) ∷ []) (sym read) in
-    half_next cs c.args.index c.args.row.now same es list rising c.loop-place.columns c.loop-place.place c.entry-item.result c.loop-place-test.true c.entry-item.is within c.push.new.self pushed (c.loop-place.invariant cs same all)
+    half_next c.args.objective.now cs c.args.index c.args.row.now same es list rising c.loop-place.columns c.loop-place.place c.entry-item.result c.loop-place-test.true c.entry-item.is within c.push.new.self pushed (c.loop-place.invariant cs same all)
 
 pub returns : goal.returns
-returns c = λ cs same all. half_end cs c.args.index c.args.row.now same c.entries-entry-items.result.now c.entries-entry-items.ensures.list c.entries-entry-items.ensures.rising c.loop-place.columns c.loop-place.place c.loop-place-test.false (c.loop-place.invariant cs same all)
+returns c = λ cs same all. half_end c.args.objective.now cs c.args.index c.args.row.now same c.entries-entry-items.result.now c.entries-entry-items.ensures.list c.entries-entry-items.ensures.rising c.loop-place.columns c.loop-place.place c.loop-place-test.false (c.loop-place.invariant cs same all)

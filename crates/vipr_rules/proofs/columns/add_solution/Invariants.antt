@@ -1,10 +1,11 @@
 use Rattle.std.proofs.Common.{length}
-use Rattle.vipr_rules.specs.Columns.{given_of, AreListed}
+use Rattle.vipr_spec.specs.Constraint.{Row}
+use Rattle.vipr_rules.specs.Columns.{given_of, AreColumns, AreListed}
 use Rattle.vipr_rules.proofs.ColumnLemmas.{Summed}
 use Rattle.vipr_rules.proofs.columns.add_solution.Given as goal
 
 abbrev pub invariant-loop-variable : goal.invariant-loop-variable
 invariant-loop-variable l = record {
-  sums : Summed (given_of l.cons) l.solution.0 (length l.columns) l.variable-items l.variable-index l.sums;
+  sums : (o : Row) → AreColumns o (given_of l.cons) (length l.cons) l.columns → Summed o (given_of l.cons) l.solution.0 (length l.columns) l.variable-items l.variable-index l.sums;
   listed : AreListed l.sums l.touched.items;
 }

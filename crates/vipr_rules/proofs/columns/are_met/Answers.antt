@@ -5,14 +5,14 @@ use Rattle.vipr_rules.proofs.ColumnLemmas.{as_many, met, told_some}
 use Rattle.vipr_rules.proofs.columns.are_met.Goals as goal
 
 pub returns-then-all_summed-clause-met : goal.returns-then-all_summed-clause-met
-returns-then-all_summed-clause-met c = λ t.
+returns-then-all_summed-clause-met c = λ o all at_zero t.
     let cs = given_of c.args.cons.now in
     let n = length c.args.columns.now in
     let x = at c.args.solution.now.0 in
     let sums = c.add_solution.new.sums in
-    met cs n x sums c.deref.result.now c.args.false_at_zero.now
-    (told_some c.add_solution.result (AreSums cs x n sums) c.is_none.result c.is_none.ensures c.if-is_none.false c.add_solution.ensures.sums)
+    met o cs n x sums c.deref.result.now c.args.false_at_zero.now
+    (told_some c.add_solution.result (AreSums o cs x n sums) c.is_none.result c.is_none.ensures c.if-is_none.false (c.add_solution.ensures.sums o all))
     (subst (AreListed sums) (sym c.deref.ensures.value) c.add_solution.ensures.listed)
-    (subst (λ k. AreFalseAtZero cs k c.args.false_at_zero.now) (sym (as_many c.args.cons.now)) c.requires.false_at_zero)
+    (subst (λ k. AreFalseAtZero o cs k c.args.false_at_zero.now) (sym (as_many c.args.cons.now)) at_zero)
     (c.all_summed.ensures c.if-all_summed.true)
     (c.all_true.ensures t)

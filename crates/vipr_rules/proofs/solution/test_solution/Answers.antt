@@ -1,9 +1,10 @@
-use Rattle.std.proofs.Common.{Some, None, inl, inr, ◌∙◌, refl, sym, ap, subst}
+use Rattle.std.proofs.Common.{Some, None, inl, inr, refl, sym, subst}
 use Rattle.std.proofs.lemmas.Result.{err_from_is_err_and}
-use Rattle.vipr_spec.specs.Constraint.{at, value, ValueFits}
+use Rattle.vipr_spec.specs.Constraint.{at, ValueFits}
 use Rattle.vipr_spec.specs.Certificate.{variables}
 use Rattle.vipr_spec.specs.Tests.{objective_fits}
 use Rattle.vipr_linear.specs.Values.{IsLaidOut}
+use Rattle.vipr_rules.specs.Solution.{IsValueOf}
 use Rattle.vipr_rules.proofs.SolutionLemmas.{integers_fail, constraints_fail, objective_last, objective_below}
 use Rattle.vipr_rules.proofs.solution.test_solution.Goals as goal
 
@@ -18,27 +19,30 @@ returns-in_err-test_constraints-clause-tested c =
     let p = c.args.p.now in
     let s = c.args.solution.now.0 in
     let laid = subst (λ n. IsLaidOut n (at s) c.lay_out.new.self.sums) c.requires.variables c.lay_out.ensures in
+    let told = c.objective-objective.ensures in
+    let below = objective_below p c.objective-objective.result.now told.objective told.writes in
+    let is = subst (λ r. IsValueOf (variables p) (at r) (at s) c.laid_value-value.result) told.objective (c.laid_value-value.ensures (variables p) (at s) laid below) in
     let q = err_from_is_err_and c.from_residual-in_err-test_constraints.result c.from_residual-in_err-test_constraints.ensures.1 in
-    rw (q.1, q.2) (constraints_fail p s _ (c.in_ok-test_integers.ensures p (sym c.ints.ensures.integers) c.objective-objective.ensures.writes.shape.integers) (c.in_err-test_constraints.ensures s laid))
+    rw (q.1, q.2) (constraints_fail p s _ (c.in_ok-test_integers.ensures p (sym c.ints.ensures.integers) c.objective-objective.ensures.writes.shape.integers) (c.in_err-test_constraints.ensures s laid is))
 
-pub returns-in-Ok-clause-tested : goal.returns-in-Ok-clause-tested
-returns-in-Ok-clause-tested c =
+pub returns-in-Some-clause-tested : goal.returns-in-Some-clause-tested
+returns-in-Some-clause-tested c =
     let p = c.args.p.now in
     let s = c.args.solution.now.0 in
     let told = c.objective-objective.ensures in
     let laid = subst (λ n. IsLaidOut n (at s) c.lay_out.new.self.sums) c.requires.variables c.lay_out.ensures in
     let below = objective_below p c.objective-objective.result.now told.objective told.writes in
-    let fits = subst (λ r. ValueFits (variables p) (at r) (at s)) told.objective ((c.in-Ok.ensures.fits (variables p) (at s) laid below).0 refl) in (
-      objective_last p s None (c.in_ok-test_integers.ensures p (sym c.ints.ensures.integers) told.writes.shape.integers) (c.in_ok-test_constraints.ensures s laid) (inl (fits, refl)),
-      c.in-Ok.ensures.value (variables p) (at s) laid below ∙ ap (λ r. value (variables p) (at r) (at s)) told.objective,
-    )
+    let is = subst (λ r. IsValueOf (variables p) (at r) (at s) c.laid_value-value.result) told.objective (c.laid_value-value.ensures (variables p) (at s) laid below) in
+    let good = subst (IsValueOf (variables p) (at p.objective) (at s)) c.in-Some.is is in
+    (objective_last p s None (c.in_ok-test_integers.ensures p (sym c.ints.ensures.integers) told.writes.shape.integers) (c.in_ok-test_constraints.ensures s laid is) (inl (good.0, refl)), good.1)
 
-pub returns-in-Err-clause-tested : goal.returns-in-Err-clause-tested
-returns-in-Err-clause-tested c =
+pub returns-in-None-clause-tested : goal.returns-in-None-clause-tested
+returns-in-None-clause-tested c =
     let p = c.args.p.now in
     let s = c.args.solution.now.0 in
     let told = c.objective-objective.ensures in
     let laid = subst (λ n. IsLaidOut n (at s) c.lay_out.new.self.sums) c.requires.variables c.lay_out.ensures in
     let below = objective_below p c.objective-objective.result.now told.objective told.writes in
-    let bad : ¬ ValueFits (variables p) (at p.objective) (at s) = λ h. let ok = (c.in-Err.ensures.fits (variables p) (at s) laid below).1 (subst (λ r. ValueFits (variables p) (at r) (at s)) (sym told.objective) h) in absurd (cc) in
-    (objective_last p s (Some objective_fits) (c.in_ok-test_integers.ensures p (sym c.ints.ensures.integers) told.writes.shape.integers) (c.in_ok-test_constraints.ensures s laid) (inr (bad, refl)), λ name. refl)
+    let is = subst (λ r. IsValueOf (variables p) (at r) (at s) c.laid_value-value.result) told.objective (c.laid_value-value.ensures (variables p) (at s) laid below) in
+    let bad : ¬ ValueFits (variables p) (at p.objective) (at s) = subst (IsValueOf (variables p) (at p.objective) (at s)) c.in-None.is is in
+    (objective_last p s (Some objective_fits) (c.in_ok-test_integers.ensures p (sym c.ints.ensures.integers) told.writes.shape.integers) (c.in_ok-test_constraints.ensures s laid is) (inr (bad, refl)), λ name. refl)

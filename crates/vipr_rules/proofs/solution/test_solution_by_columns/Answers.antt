@@ -1,8 +1,7 @@
-use Rattle.std.proofs.Common.{Some, None, inl, inr, ◌∙◌, refl, sym, ap, subst}
+use Rattle.std.proofs.Common.{None, inl, ◌∙◌, refl, sym, ap, subst}
 use Rattle.std.proofs.lemmas.Result.{err_from_is_err_and}
 use Rattle.vipr_spec.specs.Constraint.{at, value, ValueFits}
 use Rattle.vipr_spec.specs.Certificate.{variables}
-use Rattle.vipr_spec.specs.Tests.{objective_fits}
 use Rattle.vipr_rules.proofs.SolutionLemmas.{integers_fail, objective_last, objective_below}
 use Rattle.vipr_rules.proofs.solution.test_solution_by_columns.Goals as goal
 
@@ -12,22 +11,27 @@ returns-in_err-test_integers-clause-tested c =
     let q = err_from_is_err_and c.from_residual.result c.from_residual.ensures.1 in
     rw (q.1, q.2) (integers_fail p c.args.solution.now.0 _ (c.in_err-test_integers.ensures p (sym c.ints.ensures.integers) c.objective-objective.ensures.writes.shape.integers))
 
+pub find_met-requires-clause-room : goal.find_met-requires-clause-room
+find_met-requires-clause-room c =
+    let p = c.args.p.now in
+    let told = c.objective-objective.ensures in
+    let below = objective_below p c.objective-objective.result.now told.objective told.writes in
+    subst (λ r. ValueFits (variables p) (at r) (at c.args.solution.now.0)) told.objective ((c.in-Ok.ensures.fits (variables p) below).0 refl)
+
+pub find_met-requires-clause-value : goal.find_met-requires-clause-value
+find_met-requires-clause-value c =
+    let p = c.args.p.now in
+    let told = c.objective-objective.ensures in
+    let below = objective_below p c.objective-objective.result.now told.objective told.writes in
+    c.in-Ok.ensures.value (variables p) below ∙ ap (λ r. value (variables p) (at r) (at c.args.solution.now.0)) told.objective
+
 pub returns-clause-tested : goal.returns-clause-tested
 returns-clause-tested c =
     let p = c.args.p.now in
     let s = c.args.solution.now.0 in
     let told = c.objective-objective.ensures in
     let below = objective_below p c.objective-objective.result.now told.objective told.writes in
-    let fits = subst (λ r. ValueFits (variables p) (at r) (at s)) told.objective ((c.in-Ok.ensures.fits (variables p) below).0 refl) in (
-      objective_last p s None (c.in_ok-test_integers.ensures p (sym c.ints.ensures.integers) told.writes.shape.integers) (c.find_met.ensures.met c.if-not-find_met.false) (inl (fits, refl)),
+    let room = subst (λ r. ValueFits (variables p) (at r) (at s)) told.objective ((c.in-Ok.ensures.fits (variables p) below).0 refl) in (
+      objective_last p s None (c.in_ok-test_integers.ensures p (sym c.ints.ensures.integers) told.writes.shape.integers) (c.find_met.ensures.met c.if-not-find_met.false) (inl (room, refl)),
       c.in-Ok.ensures.value (variables p) below ∙ ap (λ r. value (variables p) (at r) (at s)) told.objective,
     )
-
-pub returns-in_default-clause-tested : goal.returns-in_default-clause-tested
-returns-in_default-clause-tested c =
-    let p = c.args.p.now in
-    let s = c.args.solution.now.0 in
-    let told = c.objective-objective.ensures in
-    let below = objective_below p c.objective-objective.result.now told.objective told.writes in
-    let bad : ¬ ValueFits (variables p) (at p.objective) (at s) = λ h. let ok = (c.in_default.ensures.fits (variables p) below).1 (subst (λ r. ValueFits (variables p) (at r) (at s)) (sym told.objective) h) in absurd (cc) in
-    (objective_last p s (Some objective_fits) (c.in_ok-test_integers.ensures p (sym c.ints.ensures.integers) told.writes.shape.integers) (c.find_met.ensures.met c.if-not-find_met.false) (inr (bad, refl)), λ name. refl)
