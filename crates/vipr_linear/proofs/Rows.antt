@@ -8,7 +8,7 @@ use Rattle.std.specs.Bool.{Decides, ◌==◌}
 use Rattle.std.specs.Cmp.Lexicographic.{pointwise}
 use Rattle.std.proofs.lemmas.Int.{ints}
 use Rattle.std.proofs.lemmas.List.{get_or-map, length-map, take_more, take-append-drop}
-use Rattle.std.proofs.lemmas.List.Elements.{All-nil, All-cons, All-contains, All-filter, Contains-get_or, filter_passes}
+use Rattle.std.proofs.lemmas.List.Elements.{All-nil, All-cons, All-head, All-contains, All-filter, Contains-get_or, filter_passes}
 use Rattle.std.proofs.lemmas.List.Folds.{list_any-append}
 use Rattle.std.proofs.lemmas.List.Sorted.{Contains-permutation, IsPermutation-map, IsPermutation-refl}
 use Rattle.std.proofs.lemmas.Map.Keys.{IsDistinct-push, IsDistinct-from_apart, below_from_sorted, sorted_head, sorted_tail, sorted_from_strictly_increasing, IsDistinct-IsPermutation, IsStrictlyIncreasing-from_distinct}
@@ -180,6 +180,19 @@ pub rising_of_sorted : (pairs es : List (ℕ × ℚ)) → IsPermutation pairs es
 rising_of_sorted pairs es p n d = IsStrictlyIncreasing-from_distinct (variables_of es) (non_decreasing_keys es n) (IsDistinct-IsPermutation nat_eq (λ x y. grind (arith, nat_tests)) (variables_of pairs) (variables_of es) (IsPermutation-map (λ p. p.0) pairs es p) d)
 
 -- ---- the test whether variables rise
+-- the last variable of a row is the greatest
+pub ends_greatest : (low : ℕ) (es : List (ℕ × ℚ)) (n i : ℕ) (p : ℕ × ℚ) → RisesFrom low es → i + 1 ≡ length es → (get_or es i p).0 < n → All (λ (e : ℕ × ℚ). e.0 < n) es
+ends_greatest low [] n i p r h l = absurd (omega arith)
+ends_greatest low (e ∷ []) n zero p r h l = All-cons (λ (e : ℕ × ℚ). e.0 < n) e [] l (All-nil (λ (e : ℕ × ℚ). e.0 < n))
+ends_greatest low (e ∷ []) n (suc i) p r h l = absurd (omega arith)
+ends_greatest low (e ∷ f ∷ es) n zero p r h l = absurd (omega arith)
+ends_greatest low (e ∷ f ∷ es) n (suc i) p r h l =
+    let rest = ends_greatest (e.0 + 1) (f ∷ es) n i p r.2 (omega arith) l in
+    let next : f.0 < n = All-head (λ (e : ℕ × ℚ). e.0 < n) f es rest in
+    let rises : e.0 + 1 ≤ f.0 = r.2.0 in
+    let less : e.0 < n = omega arith in
+    All-cons (λ (e : ℕ × ℚ). e.0 < n) e (f ∷ es) less rest
+
 key_at : (es : List (ℕ × ℚ)) (k : ℕ) (p : ℕ × ℚ) → k < length es → get_or (variables_of es) k 0 ≡ (get_or es k p).0
 key_at es k p l = get_or-map (λ (p : ℕ × ℚ). p.0) es k p 0 l
 

@@ -162,7 +162,7 @@ impl Row {
     pub fn names_below(&self, n: u32) -> bool
         ensures { IsTrue result ↔ NamesBelow n (at self.now) }
     {
-        all_below(self.entries(), n)
+        ends_below(self.entries(), n)
     }
 
     /// Whether the coefficients are the same.
@@ -184,10 +184,15 @@ impl Row {
 #[derive(Debug, Drop)]
 pub struct Solution(pub Row);
 
-fn all_below(entries: &[(u32, Frac)], n: u32) -> bool
+// Whether all variables are below `n`, by the last, which is the greatest.
+fn ends_below(entries: &[(u32, Frac)], n: u32) -> bool
+    requires { RisesFrom 0 entries.now }
     ensures { IsTrue result ↔ All (λ e. e.0 < n) entries.now }
 {
-    entries.iter().all(|entry| entry.0 < n)
+    if entries.is_empty() {
+        return true;
+    }
+    entries[entries.len() - 1].0 < n
 }
 
 // The pairs in rising order of their variables.

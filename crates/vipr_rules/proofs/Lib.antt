@@ -13,3 +13,4 @@ mod ValueLemmas
 mod SolutionLemmas
 mod ColumnLemmas
 mod BoundLemmas
+mod JoinedLemmas

@@ -1,9 +1,11 @@
 -- What a derivation is tested against, and the constraints before it
-use Rattle.std.specs.Prelude.{◌≡◌, ◌≢◌, ◌↔◌, ℕ, Bool, false, List, Some, IsTrue, option_copied}
+use Rattle.std.specs.Prelude.{◌≡◌, ◌≢◌, ◌↔◌, ℕ, ◌<◌, Bool, true, false, cond, List, length, get_or}
+use Rattle.std.specs.Prelude.{Option, None, Some, IsTrue, nat_lt, option_copied}
 use Rattle.std.specs.FinSet as set
 use Rattle.std.specs.Ordering.{nat_cmp}
 use Rattle.vipr_spec.specs.Fraction.{ℚ}
 use Rattle.vipr_spec.specs.Constraint.{Profile}
+use Rattle.vipr_spec.specs.Reading.{is_nonzero}
 use Rattle.vipr_spec.specs.Soundness.{IsBestValue}
 use Rattle.vipr_spec.specs.Steps.{SomeRestsOn, RestsBy}
 use Rattle.vipr_spec.specs.Certificate.{Certificate, Reason, constraint_at, reason_at, count}
@@ -14,7 +16,8 @@ use Rattle.vipr_rules.specs.declared.context.Context.{Context}
 use Rattle.vipr_rules.specs.declared.context.Known.{Known}
 use Rattle.vipr_rules.specs.declared.context.Known.TheVariants.{Given, Derived}
 use Rattle.vipr_rules.specs.Profile.{profile_of}
-use Rattle.vipr_table.specs.Table.{Table}
+use Rattle.vipr_table.specs.declared.rows.Entry.{Entry}
+use Rattle.vipr_table.specs.Table.{Table, entry_at}
 use Rattle.vipr_table.specs.History.{IsTableOf}
 
 -- the profile is P; the problem, the best objective value and the table are those of the
@@ -36,6 +39,15 @@ row_found (Derived e) = e.now.constraint
 abbrev pub set_of : Known → set.FinSet nat_cmp
 set_of (Given x) = set.empty
 set_of (Derived e) = e.now.assumptions
+
+abbrev pub assumptions_at : Option Entry → set.FinSet nat_cmp
+assumptions_at None = set.empty
+assumptions_at (Some e) = e.assumptions
+
+-- the assumptions of what a look-up gives at an index
+abbrev pub set_found : {S : Type 0} → (S → Table) → Context S → ℕ → set.FinSet nat_cmp
+set_found table x i = cond (nat_lt i (length x.problem.now.constraints)) set.empty
+    (assumptions_at (entry_at (table x.rows.now) i))
 
 abbrev pub is_assumed : Known → Bool
 is_assumed (Given x) = false
@@ -60,3 +72,9 @@ IsSetWithout c i l s = (a : ℕ) → IsTrue (set.contains s a) ↔ (RestsOn c i 
 -- the set has what a derivation by this reason rests on, that comes after the certificate c
 abbrev pub IsSetByReason : Certificate → Reason → set.FinSet nat_cmp → Type 0
 IsSetByReason c r s = (a : ℕ) → IsTrue (set.contains s a) ↔ RestsBy c (count c) (Some r) a
+
+-- the set has the assumptions that are found for each of the first n entries, those with the
+-- multiplier 0 left out
+abbrev pub AreJoined : (ℕ → set.FinSet nat_cmp) → List (ℕ × ℚ) → ℕ → set.FinSet nat_cmp → Type 0
+AreJoined found es n s = (k : ℕ) (d : ℕ × ℚ) → k < n → d ≡ get_or es k d → is_nonzero d ≡ true
+    → (a : ℕ) → IsTrue (set.contains (found d.0) a) → IsTrue (set.contains s a)

@@ -1,6 +1,6 @@
 //! What a derivation is tested against, and the constraints that it may refer to.
 
-ghost use Rattle.std.specs.Prelude.{◌≡◌, ◌∷◌, [], true, IfOk, OnOk, MatchResult};
+ghost use Rattle.std.specs.Prelude.{◌≡◌, ◌↔◌, ◌∷◌, [], true, IsTrue, IfOk, OnOk, MatchResult};
 ghost use Rattle.std.specs.FinSet as set;
 ghost use Rattle.vipr_spec.specs.Constraint.{Profile as ProfileMeant, at, NamesBelow};
 ghost use Rattle.vipr_spec.specs.Certificate.{Certificate, Derivation, variables};
@@ -8,7 +8,8 @@ ghost use Rattle.vipr_spec.specs.Steps.{earlier};
 ghost use Rattle.vipr_linear.specs.Constraint.{condition_of};
 ghost use Rattle.vipr_table.specs.Table.{DerivedBelow};
 ghost use Rattle.vipr_table.specs.Unions.{gathered};
-ghost use Rattle.vipr_rules.specs.Context.{IsContextOf, IsKnownAs, row_found, set_of, is_assumed};
+ghost use Rattle.vipr_rules.specs.Context.{IsContextOf, IsKnownAs, row_found, set_of, set_found};
+ghost use Rattle.vipr_rules.specs.Context.{is_assumed};
 ghost use Rattle.vipr_rules.specs.Soundness.{IsSoundUnder, IsStatedAt};
 ghost use Rattle.vipr_rules.specs.Apply.{index_tests, PassesTestsIn, StopsIn};
 
@@ -60,6 +61,16 @@ impl<'a> Known<'a> {
         match self {
             Known::Given(_) => false,
             Known::Derived(entry) => entry.is_assumption,
+        }
+    }
+
+    /// Whether it rests on no assumption.
+    pub(crate) fn is_unconditional(self) -> bool
+        ensures { IsTrue result ↔ (set_of self.entry ≡ set.empty) }
+    {
+        match self {
+            Known::Given(_) => true,
+            Known::Derived(entry) => entry.assumptions.is_empty(),
         }
     }
 
@@ -133,6 +144,7 @@ impl<'a, S: Rows> Context<'a, S> {
             IsSoundUnder S.table self.now (set_of k) (condition_of (row_found k))) }
         ensures stated { IfOk result (λ k.
             is_assumed k ≡ true → IsStatedAt S.table self.now index (row_found k)) }
+        ensures set { IfOk result (λ k. set_of k ≡ set_found S.table self.now index) }
     {
         self.check_earlier(index)?;
         let given = self.problem.cons();

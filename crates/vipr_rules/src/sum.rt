@@ -1,7 +1,8 @@
 //! The rules by which a sum of constraints, or its rounding, dominates the stated one.
 
-ghost use Rattle.std.specs.Prelude.{◌≡◌, ◌≢◌, ◌⊎◌, ◌∷◌, ◌++◌, [], List, ℕ, true, false, flat_map};
-ghost use Rattle.std.specs.Prelude.{length, IfOk, IfErr, IfSome, OnOk, MatchOption, MatchResult};
+ghost use Rattle.std.specs.Prelude.{◌≡◌, ◌≢◌, ◌↔◌, ◌⊎◌, ◌<◌, ◌∷◌, ◌++◌, [], List, ℕ, true, false};
+ghost use Rattle.std.specs.Prelude.{flat_map, length, get_or, IsTrue, IfOk, IfErr, IfSome, OnOk};
+ghost use Rattle.std.specs.Prelude.{MatchOption, MatchResult};
 ghost use Rattle.std.specs.FinSet as set;
 ghost use Rattle.vipr_spec.specs.Fraction.{ℚ};
 ghost use Rattle.vipr_spec.specs.Constraint.{Profile, Entry as Summand, at, condition, NamesBelow};
@@ -16,6 +17,7 @@ ghost use Rattle.vipr_linear.specs.declared.constraint.Constraint.{Constraint as
 ghost use Rattle.vipr_table.specs.Table.{DerivedBelow};
 ghost use Rattle.vipr_table.specs.Unions.{gathered};
 ghost use Rattle.vipr_rules.specs.Context.{IsContextOf, IsKnownAs, IsSetOfAll, row_found, set_of};
+ghost use Rattle.vipr_rules.specs.Context.{set_found, AreJoined};
 ghost use Rattle.vipr_rules.specs.Soundness.{IsSoundUnder};
 ghost use Rattle.vipr_rules.specs.Apply.{PassesTestsIn, StopsIn, SumStops, IsRuledBy};
 ghost use Rattle.vipr_rules.specs.Apply.{IsNotDominated};
@@ -24,10 +26,13 @@ ghost use Rattle.vipr_rules.specs.declared.error.RuleError.TheVariants.{Memory};
 use crate::context::{Context, Known};
 use crate::domination::check_domination;
 use crate::error::{RuleError, not_roundable};
-use std::alloc::Global;
+use std::alloc::{AllocError, Global};
 use vipr_frac::Frac;
 use vipr_linear::{CombError, Combination, Constraint, Ints, NotRoundable, Rounded};
 use vipr_table::{Assumptions, Rows, Union};
+
+// In how many entries before it an index is looked for.
+const FEW_BEFORE: usize = 8;
 
 /// Tests a derivation by `lin`, and gives the assumptions that it rests on.
 pub(crate) fn combine<S: Rows>(
@@ -181,9 +186,66 @@ fn add_each<S: Rows>(
             check_references(context, &entries[position + 1..])?;
             return Err(error);
         }
-        known.add_to(alloc, assumptions)?;
+        join(
+            alloc,
+            context,
+            known,
+            entries,
+            position,
+            entry.0,
+            assumptions,
+        )?;
     }
     Ok(())
+}
+
+// Adds the assumptions of the constraint of the entry at a position, unless an entry shortly before
+// has named it.
+fn join<S: Rows>(
+    alloc: Global,
+    context: &Context<S>,
+    known: Known,
+    entries: &[(u32, Frac)],
+    position: usize,
+    index: u32,
+    assumptions: &mut Union,
+) -> Result<(), AllocError>
+    requires place { position < length entries.now }
+    requires found { set_of known ≡ set_found S.table context.now index }
+    requires joined { AreJoined (set_found S.table context.now) entries.now position
+        (gathered assumptions.old) }
+    ensures { OnOk result
+        (gathered assumptions.new ≡ set.union (gathered assumptions.old) (set_of known.entry)) }
+{
+    if known.is_unconditional() {
+        return known.add_to(alloc, assumptions);
+    }
+    if is_repeated(entries, position, index) {
+        return Ok(());
+    }
+    known.add_to(alloc, assumptions)
+}
+
+// Whether one of the few entries before a position names constraint `index`, with a multiplier that
+// isn't 0.
+fn is_repeated(entries: &[(u32, Frac)], position: usize, index: u32) -> bool
+    requires { position < length entries.now }
+    ensures { IsTrue result → (k : ℕ) × (e : ℕ × ℚ) × (k < position) × (e ≡ get_or entries.now k e)
+        × (is_nonzero e ≡ true) × (e.0 ≡ index) }
+{
+    for k in position.saturating_sub(FEW_BEFORE)..position {
+        if uses(&entries[k], index) {
+            return true;
+        }
+    }
+    false
+}
+
+// Whether an entry names constraint `index`, with a multiplier that isn't 0.
+fn uses(entry: &(u32, Frac), index: u32) -> bool
+    ensures { IsTrue result ↔ (is_nonzero entry.now ≡ true) × (entry.now.0 ≡ index) }
+{
+    entry.0 == index && is_used(entry)
 }
 
 // Adds the multiple of a constraint, that of the entry at a position.
@@ -254,6 +316,10 @@ fn find_used<'a, S: Rows>(
         → IfOk result (λ o. IfSome o (λ k. NamesBelow n (at (row_found k).row))) }
     ensures sound { IfOk result (λ o. IfSome o (λ k.
         IsSoundUnder S.table context.now (set_of k) (condition_of (row_found k)))) }
+    ensures set { IfOk result (λ o. IfSome o (λ k.
+        set_of k ≡ set_found S.table context.now entry.now.0)) }
+    ensures used { IfOk result (λ o. MatchOption o (is_nonzero entry.now ≡ false)
+        (λ _. is_nonzero entry.now ≡ true)) }
 {
     if is_used(entry) {
         Ok(Some(context.find(entry.0)?))

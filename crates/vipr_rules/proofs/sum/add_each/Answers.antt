@@ -1,4 +1,4 @@
-use Rattle.std.proofs.Common.{◌+◌, [], ◌∷◌, ◌++◌, Some, None, take, length, sym, ◌∙◌, ap, subst, subst₂, refl, inr}
+use Rattle.std.proofs.Common.{◌+◌, [], ◌∷◌, ◌++◌, Some, None, take, length, sym, ◌∙◌, ap, subst, subst₂, refl, inr, arith}
 use Rattle.std.specs.Prelude.{flat_map}
 use Rattle.std.proofs.lemmas.Result.{err_from_is_err_and}
 use Rattle.std.proofs.lemmas.List.{length-replicate}
@@ -11,7 +11,7 @@ use Rattle.vipr_linear.specs.Accumulator.{Accumulator, Holds, nothing_added, hel
 use Rattle.vipr_linear.specs.Constraint.{condition_of}
 use Rattle.vipr_linear.specs.declared.constraint.Constraint.{Constraint}
 use Rattle.vipr_linear.proofs.Laws.{zero_test, start_held, held_sum}
-use Rattle.vipr_rules.specs.Context.{IsSetOfAll, set_of}
+use Rattle.vipr_rules.specs.Context.{IsSetOfAll, set_of, set_found}
 use Rattle.vipr_rules.specs.Apply.{PassesTestsIn, SumStops}
 use Rattle.vipr_rules.proofs.EntryTests.{one_more, take_all, entry_passes, sum_stops, references_more, reference_fails, references_rest, to_end}
 use Rattle.vipr_rules.proofs.StepLemmas.{stops_first, stops_second, passes_both}
@@ -19,6 +19,7 @@ use Rattle.vipr_rules.proofs.SumLemmas.{entries_more, unused_held, IsTrueSum, no
 use Rattle.vipr_rules.proofs.UnionLemmas.{IsSetOfAll-none, without_it, with_it}
 use Rattle.vipr_table.specs.Unions.{gathered}
 use Rattle.vipr_rules.proofs.SoundLemmas.{true_left, true_right}
+use Rattle.vipr_rules.proofs.JoinedLemmas.{joined_more, joined_unused}
 use Rattle.vipr_rules.proofs.sum.add_each.Goals as goal
 
 pub loop-position-init : goal.loop-position-init
@@ -30,6 +31,7 @@ loop-position-init g c =
       fresh = ap (λ (a : Accumulator). a.spent) cleared;
       sum = λ P d e is. (refl, refl, subst (Holds (variables c.args.context.now.problem.now) []) (sym cleared) (start_held (variables c.args.context.now.problem.now)), subst (IsSetOfAll d []) (sym c.requires.none) (IsSetOfAll-none d));
       sound = λ says x at h. subst (IsTrueSum (variables c.args.context.now.problem.now) x) (sym cleared) (nothing_true (variables c.args.context.now.problem.now) x);
+      joined = λ k d less. absurd (omega arith);
     }
 
 pub add_multiple-requires : goal.add_multiple-requires
@@ -61,16 +63,24 @@ loop-position-preserved g c =
             references_more (PassesStep P d (condition s.stated)) _ _ _ lt item None so_far.0 found.0,
             entry_passes (PassesStep P d (condition s.stated)) _ _ _ lt item so_far.1 (new.sense, held.sense_is) held.fits,
             subst (λ l. Holds n (entries d l) new) (sym more) held,
-            subst (λ l. IsSetOfAll d l (gathered c.add_to.new.others)) (sym more)
-                (subst (IsSetOfAll d (take c.loop-position.position c.args.entries.now ++ e ∷ [])) (sym c.in_ok-add_to.ensures)
+            subst (λ l. IsSetOfAll d l (gathered c.join.new.assumptions)) (sym more)
+                (subst (IsSetOfAll d (take c.loop-position.position c.args.entries.now ++ e ∷ [])) (sym c.in_ok-join.ensures)
                 (with_it d (take c.loop-position.position c.args.entries.now) e (gathered c.loop-position.assumptions) so_far.3 (not_zero e.1 used.0) (set_of known) used.1.rests)),
           );
       sound = λ says x here h.
           let sound = rw c.in-Some.is at c.in_ok-known.ensures.sound in
-          let so_far = c.loop-position.invariant.sound says x here (true_left n says x (gathered c.loop-position.assumptions) (set_of known) (gathered c.add_to.new.others) c.in_ok-add_to.ensures h) in
+          let so_far = c.loop-position.invariant.sound says x here (true_left n says x (gathered c.loop-position.assumptions) (set_of known) (gathered c.join.new.assumptions) c.in_ok-join.ensures h) in
           more_true n x c.loop-position.scratch new (e.1, condition_of c.constraint.result.now) so_far (c.in_default-add_multiple.ensures.sum n so_far.es so_far.held)
-          (subst (λ (r : Constraint). IsTrueAt n (condition_of r) x) (sym c.constraint.ensures) (sound says x here (true_right n says x (gathered c.loop-position.assumptions) (set_of known) (gathered c.add_to.new.others) c.in_ok-add_to.ensures h)));
+          (subst (λ (r : Constraint). IsTrueAt n (condition_of r) x) (sym c.constraint.ensures) (sound says x here (true_right n says x (gathered c.loop-position.assumptions) (set_of known) (gathered c.join.new.assumptions) c.in_ok-join.ensures h)));
+      joined = joined_more (set_found g.S.Rows.table c.args.context.now) c.args.entries.now c.loop-position.position e lt item (gathered c.loop-position.assumptions) (set_of known) (gathered c.join.new.assumptions) c.loop-position.invariant.joined (rw c.in-Some.is at c.in_ok-known.ensures.set) c.in_ok-join.ensures;
     }
+
+pub join-requires : goal.join-requires
+join-requires g c = record {
+  place = c.loop-position-test.true;
+  found = rw c.in-Some.is at c.in_ok-known.ensures.set;
+  joined = c.loop-position.invariant.joined;
+}
 
 pub loop-position-preserved-in_default : goal.loop-position-preserved-in_default
 loop-position-preserved-in_default g c =
@@ -93,6 +103,7 @@ loop-position-preserved-in_default g c =
             subst (λ l. IsSetOfAll d l (gathered c.loop-position.assumptions)) (sym more) (without_it d (take c.loop-position.position c.args.entries.now) e (gathered c.loop-position.assumptions) so_far.3 (λ m. absurd (m none))),
           );
       sound = c.loop-position.invariant.sound;
+      joined = joined_unused (set_found g.S.Rows.table c.args.context.now) c.args.entries.now c.loop-position.position e lt item (gathered c.loop-position.assumptions) c.loop-position.invariant.joined (rw c.in_default.is at c.in_ok-known.ensures.used);
     }
 
 pub returns-in_err-known-clause-sum : goal.returns-in_err-known-clause-sum

@@ -4,7 +4,7 @@ use Rattle.vipr_spec.specs.Constraint.{Profile, Condition, Point}
 use Rattle.vipr_spec.specs.Certificate.{Certificate, Derivation, variables, entries}
 use Rattle.vipr_spec.specs.Steps.{reference_tests, entry_tests}
 use Rattle.vipr_linear.specs.Accumulator.{Holds}
-use Rattle.vipr_rules.specs.Context.{IsContextOf, IsSetOfAll}
+use Rattle.vipr_rules.specs.Context.{IsContextOf, IsSetOfAll, set_found, AreJoined}
 use Rattle.vipr_rules.specs.Soundness.{IsSoundAt}
 use Rattle.vipr_rules.specs.Apply.{PassesTestsIn}
 use Rattle.vipr_table.specs.Unions.{gathered}
@@ -22,4 +22,5 @@ invariant-loop-position g l =
           × Holds (variables l.context.problem.now) (entries c (take l.position l.entries)) l.scratch × IsSetOfAll c (take l.position l.entries) (gathered l.assumptions);
       sound : (says : ℕ → Condition) (x : Point) → IsSoundAt g.S.Rows.table l.context says x
           → AreTrue (variables l.context.problem.now) says (gathered l.assumptions) x → IsTrueSum (variables l.context.problem.now) x l.scratch;
+      joined : AreJoined (set_found g.S.Rows.table l.context) l.entries l.position (gathered l.assumptions);
     }
