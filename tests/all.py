@@ -27,6 +27,7 @@ SCRIPTS = [
     ['tools/wrong.py', '--sample', '10'],
     ['tests/answers.py'],
     ['tests/hostile.py'],
+    ['tests/output.py'],
     ['tests/growths.py'],
     ['tests/costs.py'],
     ['tests/fuzz.py'],

@@ -95,7 +95,7 @@ unread Check P out old = (tt, stays old)
 unread Explain P out old = (tt, stays old)
 unread Show P out old = (tt, stays old)
 unread Tighten P None old = (Err tighten.Read, refl, (tt, stays old))
-unread Tighten P (Some out) old = ((Err tighten.Read, refl, (tt, tt)), stays old)
+unread Tighten P (Some out) old = (inl (Err tighten.Read, refl, (tt, tt)), stays old)
 
 abbrev named : Option (Bor (List ℕ)) → Option Text
 named o = option_map (λ s. s.now) o

@@ -28,7 +28,7 @@ use Rattle.vipr_command.specs.Text.{verdict_text}
 use Rattle.vipr_command.specs.Explanation.{explained_text}
 use Rattle.vipr_command.specs.Output.{Took, Stays, after_first}
 use Rattle.vipr_command.specs.Show.{Kind, ShowsText, any_text, text_read}
-use Rattle.vipr_command.specs.Tighten.{WritesTightened}
+use Rattle.vipr_command.specs.Tighten.{WritesFile, WritesTightened}
 use Rattle.vipr_command.specs.declared.fault.Fault.{Fault}
 use Rattle.vipr_command.specs.declared.fault.Fault.TheVariants.{Memory, Read, Write}
 use Rattle.vipr_command.specs.declared.show.Shown.{Shown}
@@ -123,7 +123,7 @@ PrintsText k old new (Err f) = ShowsText k.kind old new (Err f)
 abbrev pub PrintsTightened : Profile → Option Text → KnownInput → Option Output → Option Output
     → Result ℕ Fault → Type 0
 PrintsTightened P None k old new r = WritesTightened P (k.proof P) old new r
-PrintsTightened P (Some out) k old new r = WritesTightened P (k.proof P) None None r × Stays old new
+PrintsTightened P (Some out) k old new r = WritesFile P (k.proof P) r × Stays old new
 
 -- the task is done by this profile, with this OUT
 abbrev pub Does : Task → Profile → Option Text → KnownInput → Option Output → Option Output

@@ -1,5 +1,5 @@
 -- What `tighten` does: how it answers, and what was written then.
-use Rattle.std.specs.Prelude.{◌≡◌, ℕ, Option, Result, Ok, Err}
+use Rattle.std.specs.Prelude.{◌≡◌, ◌⊎◌, ℕ, Option, None, Result, Ok, Err}
 use Rattle.vipr_spec.specs.Constraint.{Profile}
 use Rattle.vipr_bytes.specs.Output.{Output}
 use Rattle.vipr_tighten.specs.Tightens.{KindOfText, TightensText}
@@ -31,3 +31,18 @@ abbrev pub WritesTightened : Profile → KindOfText → Option Output → Option
     → Result ℕ Fault → Type 0
 WritesTightened P k old new result = (r : Result Outcome TightenFault)
     × (result ≡ tighten_answer r) × TightensText P k old new r
+
+-- What is answered of a text that was tightened to a file. Once it was written, the file may still
+-- fail to keep it, and then that is a failed write. All else is answered as it is.
+abbrev pub Settles : Result Outcome TightenFault → Result Outcome Fault → Type 0
+Settles (Ok (Tightened kept removed before after)) r =
+    (r ≡ Ok (Tightened kept removed before after)) ⊎ ((n : ℕ) × (r ≡ Err (Write n)))
+Settles (Ok (Refused x)) r = r ≡ Ok (Refused x)
+Settles (Err e) r = r ≡ Err (tighten_fault_for e)
+
+-- A text of this kind was tightened to a file, of which nothing is said, and the answer is that of
+-- what became of it; or the whole text of a tightened certificate was written, and the file failed
+-- to keep it.
+abbrev pub WritesFile : Profile → KindOfText → Result ℕ Fault → Type 0
+WritesFile P k result = WritesTightened P k None None result
+    ⊎ ((n : ℕ) × (result ≡ Err (Write n)) × WritesTightened P k None None (Ok 0))

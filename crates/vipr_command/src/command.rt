@@ -10,6 +10,7 @@ use crate::args::job;
 use crate::check::print_verdict;
 use crate::explain::print_explanation;
 use crate::fault::Fault;
+use crate::line::{say, say_at_length};
 use crate::output::print;
 use crate::show::print_text;
 use crate::task::{Job, Task};
@@ -45,7 +46,7 @@ pub fn run<H: AllocGlobal + Files, R: Read + Drop, O: Write, E: Write>(
     match obey(rt, words, source, &mut FromWrite::new(out), err) {
         Ok(status) => status,
         Err(fault) => {
-            let _ = writeln!(err, "{fault}");
+            say(err, &format_args!("{fault}\n"));
             3
         }
     }
@@ -89,7 +90,7 @@ fn answer<O: Sink, E: Write>(
         return Err(Fault::Memory);
     }
     if error.use_stderr() {
-        let _ = write!(err, "{error}");
+        say_at_length(alloc, err, error);
         return Ok(2);
     }
     print(alloc, error, out)?;

@@ -5,6 +5,7 @@ ghost use Rattle.vipr_command.specs.Run.{PrintsText, known_by, unknown_input};
 ghost use Rattle.vipr_command.specs.Show.{ShowsText, any_text, text_spelling, text_read};
 
 use crate::fault::Fault;
+use crate::line::say;
 use crate::respelled::respelled;
 use crate::text::RefusalLine;
 use std::alloc::Global;
@@ -74,7 +75,7 @@ pub fn print_text<R: Source + Drop, O: Sink, E: Write>(
     match show(alloc, source, out)? {
         Shown::Whole => Ok(0),
         Shown::Refused(refusal) => {
-            let _ = write!(err, "{}", RefusalLine(&refusal));
+            say(err, &RefusalLine(&refusal));
             Ok(1)
         }
     }

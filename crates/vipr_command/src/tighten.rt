@@ -1,59 +1,35 @@
 //! Tightens a certificate: writes what its proof needs.
-ghost use Rattle.std.specs.Prelude.{◌≡◌, None, option_map};
+ghost use Rattle.std.specs.Prelude.{◌≡◌, option_map};
 ghost use Rattle.vipr_bytes.specs.Known.{text_of, IfKnown};
 ghost use Rattle.vipr_rules.specs.Profile.{profile_of};
 ghost use Rattle.vipr_tighten.specs.Tightens.{any_kind, kind_read};
 ghost use Rattle.vipr_command.specs.Run.{PrintsTightened, known_by, unknown_input};
-ghost use Rattle.vipr_command.specs.Tighten.{WritesTightened, outcome_status};
+ghost use Rattle.vipr_command.specs.Tighten.{Settles, WritesFile, WritesTightened, outcome_status};
 
 use crate::fault::Fault;
+use crate::line::say;
+use crate::place::Place;
 use crate::text::OutcomeLine;
 use std::alloc::Global;
-use std::fs::File;
 use std::io::Write;
 use std::rt::Files;
-use vipr_bytes::{Failed, Sink, Source};
+use vipr_bytes::{Sink, Source};
 use vipr_rules::Profile;
-use vipr_tighten::{Outcome, tighten_in};
-
-/// A file that is created, or emptied, at the first write to it.
-#[derive(Drop)]
-struct LateFile<'a, H: Files> {
-    rt: &'a H,
-    path: &'a str,
-    file: Option<H::File>,
-}
-
-impl<H: Files> Sink for LateFile<'_, H> {
-    ghost output = { λ _. None };
-
-    ghost failures = { λ _. None };
-
-    fn write(&mut self, bytes: &[u8]) -> Result<usize, Failed> {
-        if self.file.is_none() {
-            self.file = File::create(self.rt, self.path).ok();
-        }
-        match &mut self.file {
-            Some(file) => match file.write(bytes) {
-                Ok(n) => Ok(n),
-                Err(_) => Err(Failed),
-            },
-            None => Err(Failed),
-        }
-    }
-}
+use vipr_tighten::{Outcome, TightenFault, tighten_in};
 
 /// Prints a certificate's canonical text, tightened by the rules of a profile, or writes it to the
 /// file at `path`. Tells on `err` what was kept and removed, or why there is none, and answers the
 /// exit status.
 ///
-/// The file is created, or emptied, at the first byte that is written to it: not for a certificate
-/// that is refused. It may be the one that is read.
+/// The file is opened at the first byte that is written to it: not for a certificate that is
+/// refused. It may be the one that is read. A regular file that is there already is replaced once
+/// the whole text is written beside it, and else stays as it was. Any other file is written in
+/// place. It is closed before `err` is written to.
 ///
 /// # Errors
 ///
-/// Where a read fails and where a growth is refused: nothing was written. Where a write fails, or
-/// the file can't be created.
+/// A read fails or a growth is refused: nothing was written. A write fails, the file can't be
+/// opened, or the system can't keep what it took.
 pub fn print_tightened<H: AllocGlobal + Files, R: Source + Drop, O: Sink, E: Write>(
     rt: &H,
     profile: Profile,
@@ -70,13 +46,47 @@ pub fn print_tightened<H: AllocGlobal + Files, R: Source + Drop, O: Sink, E: Wri
 {
     match path {
         None => write_tightened(rt.alloc(), profile, source, out, err),
-        Some(path) => {
-            let mut file = LateFile {
-                rt,
-                path,
-                file: None,
-            };
-            write_tightened(rt.alloc(), profile, source, &mut file, err)
+        Some(path) => write_file(rt, profile, source, path, err),
+    }
+}
+
+fn write_file<H: AllocGlobal + Files, R: Source + Drop, E: Write>(
+    rt: &H,
+    profile: Profile,
+    source: R,
+    path: &str,
+    err: &mut E,
+) -> Result<u8, Fault>
+    ensures any { WritesFile (profile_of profile) any_kind result }
+    ensures known { IfKnown (R.input source) (λ i. WritesFile (profile_of profile)
+        (kind_read (profile_of profile) (text_of i)) result) }
+{
+    let mut place = Place::new(rt, path)?;
+    let tightened = tighten_in(rt.alloc(), profile, source, &mut place);
+    let outcome = settle(place, tightened)?;
+    say(err, &OutcomeLine(&outcome));
+    Ok(status_of(&outcome))
+}
+
+/// Keeps what was written of a certificate that was tightened, and nothing else.
+fn settle<H: Files>(
+    place: Place<'_, H>,
+    tightened: Result<Outcome, TightenFault>,
+) -> Result<Outcome, Fault>
+    ensures { Settles tightened result }
+{
+    match tightened {
+        Ok(Outcome::Refused(refusal)) => {
+            place.abandon();
+            Ok(Outcome::Refused(refusal))
+        }
+        Ok(outcome) => {
+            place.keep()?;
+            Ok(outcome)
+        }
+        Err(fault) => {
+            place.abandon();
+            Err(Fault::from(fault))
         }
     }
 }
@@ -95,7 +105,7 @@ fn write_tightened<R: Source + Drop, W: Sink, E: Write>(
         result) }
 {
     let outcome = tighten_in(alloc, profile, source, sink)?;
-    let _ = write!(err, "{}", OutcomeLine(&outcome));
+    say(err, &OutcomeLine(&outcome));
     Ok(status_of(&outcome))
 }
 
