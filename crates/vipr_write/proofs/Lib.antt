@@ -1,4 +1,8 @@
 mod Appended
+mod Expanding
+mod Folding
+mod Gathering
+mod Writing
 mod Parts
 mod LineTokens
 mod WordTokens

@@ -4,3 +4,5 @@ pub mod Laws
 pub mod Example
 pub mod Lines
 pub mod WrittenText
+pub mod Folded
+pub mod Gathered

@@ -6,6 +6,9 @@
 #![tactic(auto)]
 
 mod canonical;
+mod compact;
+mod folded;
+mod gathered;
 mod growing;
 mod lines;
 mod sections;
@@ -13,5 +16,6 @@ mod words;
 mod write;
 
 pub use canonical::{canonical_texts, spelled_ones, worked_example};
+pub use compact::CompactText;
 pub use growing::GrowingText;
 pub use write::{WriteError, write_certificate};

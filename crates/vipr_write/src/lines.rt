@@ -114,7 +114,7 @@ fn append_sum(text: &mut Vec<u8>, keyword: &[u8], entries: &[(u32, Frac)]) -> Re
 }
 
 // Why a derived constraint holds.
-fn append_reason(text: &mut Vec<u8>, reason: &Reason) -> Result<(), AllocError>
+pub(crate) fn append_reason(text: &mut Vec<u8>, reason: &Reason) -> Result<(), AllocError>
     ensures { OnOk result
         (text.new.items ≡ text.old.items ++ spaced (reason_words (reason_of reason.now))) }
 {

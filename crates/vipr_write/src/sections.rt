@@ -51,7 +51,7 @@ fn append_integers(text: &mut Vec<u8>, indices: &[u32]) -> Result<(), AllocError
 }
 
 // The version, the variables, and which of them are integer.
-fn append_variables(text: &mut Vec<u8>, problem: &Problem) -> Result<(), AllocError>
+pub(crate) fn append_variables(text: &mut Vec<u8>, problem: &Problem) -> Result<(), AllocError>
     ensures { OnOk result
         (text.new.items ≡ text.old.items ++ lines_text (variables_lines problem.now)) }
 {
@@ -63,7 +63,7 @@ fn append_variables(text: &mut Vec<u8>, problem: &Problem) -> Result<(), AllocEr
 }
 
 // The line of the objective's direction.
-fn append_goal(text: &mut Vec<u8>, sense: Goal) -> Result<(), AllocError>
+pub(crate) fn append_goal(text: &mut Vec<u8>, sense: Goal) -> Result<(), AllocError>
     ensures { OnOk result (text.new.items ≡ text.old.items
         ++ line_text (codes "OBJ" ∷ direction_word (direction_of sense) ∷ [])) }
 {
@@ -74,7 +74,7 @@ fn append_goal(text: &mut Vec<u8>, sense: Goal) -> Result<(), AllocError>
 }
 
 // The coefficients of the objective.
-fn append_coefficients(text: &mut Vec<u8>, row: &Row) -> Result<(), AllocError>
+pub(crate) fn append_coefficients(text: &mut Vec<u8>, row: &Row) -> Result<(), AllocError>
     ensures { OnOk result (text.new.items ≡ text.old.items ++ line_text (vector_words row.now)) }
 {
     let entries = row.entries();
@@ -85,7 +85,11 @@ fn append_coefficients(text: &mut Vec<u8>, row: &Row) -> Result<(), AllocError>
 }
 
 // How many constraints there are, and how many of them are bounds.
-fn append_counts(text: &mut Vec<u8>, count: usize, bound_count: usize) -> Result<(), AllocError>
+pub(crate) fn append_counts(
+    text: &mut Vec<u8>,
+    count: usize,
+    bound_count: usize,
+) -> Result<(), AllocError>
     ensures { OnOk result
         (text.new.items ≡ text.old.items ++ line_text (constraints_heading bound_count count)) }
 {
