@@ -112,14 +112,8 @@ IsRuledBy P c d r (Err e) =
 
 -- ---- under profile one
 
-abbrev pub IsRefusal : Certificate → Derivation → RuleError → Type 0
-IsRefusal c d e = IsRefusalIn one c d e
-
 abbrev pub Judges : Certificate → Derivation → Result Entry RuleError → Type 0
 Judges c d result = JudgesIn one c d result
 
 abbrev pub PassesTests : Certificate → Derivation → List StepTest → Type 0
 PassesTests c d ts = PassesTestsIn one c d ts
-
-abbrev pub Stops : Certificate → Derivation → List StepTest → RuleError → Type 0
-Stops c d ts e = StopsIn one c d ts e

@@ -2,6 +2,7 @@ mod bytes;
 mod cert;
 mod frac;
 mod linear;
+mod pieces;
 mod read;
 mod scan;
 mod write;

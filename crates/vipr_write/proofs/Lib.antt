@@ -4,11 +4,13 @@ mod Folding
 mod Gathering
 mod Writing
 mod Parts
+mod Handing
 mod LineTokens
 mod WordTokens
 mod RowEntries
 mod SectionTokens
 mod WholeText
+mod Weighing
 mod ExampleText
 mod SpelledNumbers
 mod SpelledRows

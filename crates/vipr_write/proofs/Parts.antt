@@ -5,10 +5,10 @@ use Rattle.std.specs.List.{flat_map}
 use Rattle.std.proofs.lemmas.List.{append-nil, length-map}
 use Rattle.std.proofs.lemmas.List.Folds.{flat_map-map}
 use Rattle.std.proofs.lemmas.Grind.{flat_map-append}
-use Rattle.vipr_spec.specs.Certificate.{Problem, Derivation, Certificate}
+use Rattle.vipr_spec.specs.Certificate.{Problem, integer_variables, Derivation, Certificate}
 use Rattle.vipr_spec.specs.Number.{number_text}
-use Rattle.vipr_write.specs.Canonical.{sense_word, constraint_words, reason_words, last_word, derivation_words, direction_word, vector_words, given_words, claim_words, variables_lines, problem_lines, solutions_lines, derivations_lines, certificate_lines, spaced, line_text, lines_text}
-use Rattle.vipr_write.specs.Lines.{words_text, constraints_heading, constraints_lines}
+use Rattle.vipr_write.specs.Canonical.{sense_word, constraint_words, reason_words, last_word, derivation_words, direction_word, vector_words, given_words, claim_words, variables_lines, problem_lines, solutions_lines, derivations_lines, certificate_lines, spaced, heading, line_text, lines_text}
+use Rattle.vipr_write.specs.Lines.{words_text, integers_lines, constraints_heading, constraints_lines}
 
 spaced-append : (ws us : List (List ℕ)) → spaced (ws ++ us) ≡ spaced ws ++ spaced us
 spaced-append ws us = flat_map-append (λ w. 32 ∷ w) ws us
@@ -31,6 +31,13 @@ section_parts : (start : List ℕ) (front cons : List (List (List ℕ))) (direct
 section_parts start front cons direction vector con claim =
     ap (λ t. start ++ t) (lines_text-append front (direction ∷ vector ∷ con ∷ (cons ++ claim ∷ [])) ∙ ap (λ t. lines_text front ++ (line_text direction ++ (line_text vector ++ (line_text con ++ t)))) (lines_text-append cons (claim ∷ [])))
     ∙ simp (append_assoc, append-nil)
+
+pub variables_parts : (p : Problem) (names : List (List ℕ)) (js : List ℕ) → names ≡ p.names → js ≡ integer_variables p →
+    codes "VER 1.0\n" ++ (line_text (heading (codes "VAR") (length names)) ++ (lines_text (map (λ name. name ∷ []) names) ++ lines_text (integers_lines js))) ≡ lines_text (variables_lines p)
+variables_parts p names js same members =
+    ap (λ ns. codes "VER 1.0\n" ++ (line_text (heading (codes "VAR") (length ns)) ++ (lines_text (map (λ name. name ∷ []) ns) ++ lines_text (integers_lines js)))) same
+    ∙ ap (λ ks. codes "VER 1.0\n" ++ (line_text (heading (codes "VAR") (length p.names)) ++ (lines_text (map (λ name. name ∷ []) p.names) ++ lines_text (integers_lines ks)))) members
+    ∙ ap (λ t. codes "VER 1.0\n" ++ (line_text (heading (codes "VAR") (length p.names)) ++ t)) (sym (lines_text-append (map (λ name. name ∷ []) p.names) (integers_lines (integer_variables p))))
 
 pub problem_parts : (start : List ℕ) (p : Problem) →
     start ++ lines_text (problem_lines p) ≡

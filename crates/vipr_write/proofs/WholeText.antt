@@ -1,8 +1,8 @@
 -- The canonical text of a certificate spells it
-use Rattle.std.proofs.Common.{◌≡◌, ℕ, List, ◌++◌, sym, ap, ◌∙◌, subst}
+use Rattle.std.proofs.Common.{◌≡◌, ℕ, List, ◌++◌, All, sym, ap, ◌∙◌, subst}
 use Rattle.std.proofs.lemmas.Grind.{flat_map-append}
 use Rattle.vipr_spec.specs.Certificate.{variables, Certificate}
-use Rattle.vipr_spec.specs.Tokens.{text_tokens}
+use Rattle.vipr_spec.specs.Tokens.{IsToken, text_tokens}
 use Rattle.vipr_spec.specs.Grammar as grammar
 use Rattle.vipr_spec.specs.Grammar.{◌then◌, SpelledBy, Spells}
 use Rattle.vipr_spec.specs.Shape.{CanWrite}
@@ -28,6 +28,10 @@ written c w =
     (then_written (solutions_written (variables c.problem) few c.solutions w.shape.few_solutions w.shape.solutions w.fits.solutions)
     (derivations_written c.problem c.derivations few w.shape.few_derivations w.shape.derivations w.fits.derivations)) in
     subst (Written (Sections c)) (sym (joined c)) body
+
+-- each word is a token
+pub tokens_all : (c : Certificate) → CanWrite c → All IsToken (words_of (certificate_lines c))
+tokens_all c w = (written c w).tokens
 
 tokens_are : (c : Certificate) → CanWrite c → bytes_of (text_tokens (canonical_text c)) ≡ words_of (certificate_lines c)
 tokens_are c w = ap bytes_of (no_front _) ∙ lines_tokens (certificate_lines c) (written c w).tokens 0

@@ -6,3 +6,6 @@ pub mod Lines
 pub mod WrittenText
 pub mod Folded
 pub mod Gathered
+pub mod Weight
+pub mod Hands
+pub mod Carried

@@ -1,8 +1,8 @@
 //! Writes the canonical text of a certificate. That it spells the certificate and no other is a law
 //! of its definition, which stands in `specs/`.
 //!
-//! The whole text is made first, so that want of memory comes before the first byte. Then it is
-//! handed to the sink, until that took all of it.
+//! The text goes to the sink through one buffer, which is made first, so that want of memory comes
+//! before the first byte.
 #![tactic(auto)]
 
 mod canonical;
@@ -10,7 +10,12 @@ mod compact;
 mod folded;
 mod gathered;
 mod growing;
+mod length;
 mod lines;
+mod pending;
+mod put_lines;
+mod put_sections;
+mod put_words;
 mod sections;
 mod words;
 mod write;

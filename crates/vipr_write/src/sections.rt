@@ -1,21 +1,17 @@
-//! The sections of a certificate.
-ghost use Rattle.std.specs.Prelude.{◌≡◌, ◌∷◌, ◌++◌, [], map, codes, OnOk, IfOk};
+//! The section of a problem, in a text that grows.
+ghost use Rattle.std.specs.Prelude.{◌≡◌, ◌∷◌, ◌++◌, [], map, codes, OnOk};
 ghost use Rattle.std.specs.Fmt.{decimal};
-ghost use Rattle.vipr_spec.specs.Grammar.{SpellsOnly};
 ghost use Rattle.vipr_linear.specs.Constraint.{constraint_of};
 ghost use Rattle.vipr_write.specs.Canonical.{direction_word, vector_words, variables_lines};
-ghost use Rattle.vipr_write.specs.Canonical.{problem_lines, solutions_lines, derivations_lines};
-ghost use Rattle.vipr_write.specs.Canonical.{line_text, lines_text, canonical_text};
-ghost use Rattle.vipr_cert.specs.Items.{named_of, direction_of, solution_of, derivation_of};
+ghost use Rattle.vipr_write.specs.Canonical.{problem_lines, line_text, lines_text};
+ghost use Rattle.vipr_cert.specs.Items.{named_of, direction_of};
 ghost use Rattle.vipr_write.specs.Lines.{integers_lines, constraints_heading, constraints_lines};
 
-use crate::lines::{
-    append_claim, append_constraint, append_derivation, append_heading, append_solution,
-};
+use crate::lines::{append_claim, append_constraint, append_heading};
 use crate::words::{append_decimal, append_index, append_pairs};
-use std::alloc::{AllocError, Global};
-use vipr_cert::{Certificate, Derivation, Goal, Name, Named, Problem};
-use vipr_linear::{Constraint, Row, Solution};
+use std::alloc::AllocError;
+use vipr_cert::{Goal, Name, Named, Problem};
+use vipr_linear::{Constraint, Row};
 
 // The names, each on its line.
 fn append_names(text: &mut Vec<u8>, names: &[Name]) -> Result<(), AllocError>
@@ -126,42 +122,4 @@ pub(crate) fn append_problem(text: &mut Vec<u8>, problem: &Problem) -> Result<()
     append_coefficients(text, problem.objective())?;
     append_constraints(text, problem.cons(), problem.bound_count())?;
     append_claim(text, problem.claim())
-}
-
-// The listed solutions.
-fn append_solutions(text: &mut Vec<u8>, solutions: &[Named<Solution>]) -> Result<(), AllocError>
-    ensures { OnOk result (text.new.items ≡ text.old.items
-        ++ lines_text (solutions_lines (map solution_of solutions.now))) }
-{
-    append_heading(text, b"SOL", solutions.len())?;
-    for solution in solutions {
-        append_solution(text, solution)?;
-    }
-    Ok(())
-}
-
-// The derivations.
-fn append_derivations(text: &mut Vec<u8>, derivations: &[Derivation]) -> Result<(), AllocError>
-    ensures { OnOk result (text.new.items ≡ text.old.items
-        ++ lines_text (derivations_lines (map derivation_of derivations.now))) }
-{
-    append_heading(text, b"DER", derivations.len())?;
-    for derivation in derivations {
-        append_derivation(text, derivation)?;
-    }
-    Ok(())
-}
-
-/// The canonical text, which spells the certificate and no other.
-#[tactic(auto, using(crate::proofs::WholeText::canonical_spells))]
-pub(crate) fn text_of(alloc: Global, certificate: &Certificate) -> Result<Vec<u8>, AllocError>
-    ensures text { IfOk result (λ text. text.items ≡ canonical_text certificate.now) }
-    ensures law { SpellsOnly (canonical_text certificate.now) certificate.now }
-{
-    let derivations = certificate.derivations();
-    let mut text = Vec::new(alloc);
-    append_problem(&mut text, certificate.problem())?;
-    append_solutions(&mut text, certificate.solutions())?;
-    append_derivations(&mut text, derivations)?;
-    Ok(text)
 }

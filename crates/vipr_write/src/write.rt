@@ -1,19 +1,23 @@
 //! Writes the canonical text of a certificate.
-ghost use Rattle.std.specs.Prelude.{◌≡◌, IfErr, IfSome};
+ghost use Rattle.std.specs.Prelude.{◌≡◌, ◌^◌, ◌<◌, [], length, IfErr, IfSome};
 ghost use Rattle.vipr_spec.specs.Grammar.{SpellsOnly};
+ghost use Rattle.vipr_bytes.specs.Written.{Wrote, EndsAtFailure};
 ghost use Rattle.vipr_write.specs.Canonical.{canonical_text};
+ghost use Rattle.vipr_write.specs.Hands.{Start};
+ghost use Rattle.vipr_write.specs.Carried.{Carries};
 ghost use Rattle.vipr_write.specs.WrittenText.{WroteText, IsWithin, LeavesFailures, write_error};
 
-use crate::sections::text_of;
+use crate::length::is_countable;
+use crate::pending::Pending;
+use crate::put_sections::put_certificate;
 use std::alloc::Global;
 use thiserror::Error;
-use vipr_bytes::{Sink, WriteFailed, write_bytes};
+use vipr_bytes::{Sink, WriteFailed};
 use vipr_cert::Certificate;
 
 /// Why a certificate was not written whole. Exactly the first `taken` bytes of its text were taken.
 ///
-/// The whole text is made before its first byte is written, so it is shorter than 2^64 bytes, and
-/// the number is exact.
+/// A text that might have 2^64 bytes or more isn't begun, so the number is exact.
 #[derive(Clone, Copy, Debug, PartialEq, Eq, Error)]
 pub enum WriteError {
     /// A write failed or took nothing.
@@ -37,12 +41,14 @@ impl From<WriteFailed> for WriteError {
 
 /// Writes the canonical text of a certificate, which spells that certificate and no other.
 ///
-/// All memory is taken before the first byte.
+/// It is handed over in pieces of at most 65,536 bytes, from one buffer that is made before the
+/// first byte, so memory doesn't grow with the text.
 ///
 /// # Errors
 ///
-/// `Memory` where a growth is refused: nothing was written. `Write` where a write fails or takes
-/// nothing, and the sink is asked no more.
+/// `Memory` where that buffer is refused, or where there are 2^48 words and lines or more: nothing
+/// was written. `Write` where a write fails or takes nothing, and the sink is asked no more.
+#[tactic(auto, using(crate::proofs::WholeText::canonical_spells))]
 pub fn write_certificate<W: Sink>(
     alloc: Global,
     certificate: &Certificate,
@@ -55,8 +61,29 @@ pub fn write_certificate<W: Sink>(
         (λ n. LeavesFailures n (W.failures sink.new) result) }
     ensures law { SpellsOnly (canonical_text certificate.now) certificate.now }
 {
-    match text_of(alloc, certificate) {
-        Ok(text) => Ok(write_bytes(sink, &text)?),
+    if !is_countable(certificate) {
+        return Err(WriteError::Memory { taken: 0 });
+    }
+    match Pending::new(alloc) {
+        Ok(text) => Ok(write_text(text, certificate, sink)?),
         Err(_) => Err(WriteError::Memory { taken: 0 }),
     }
+}
+
+// Writes the text of a certificate, of which nothing is written yet.
+fn write_text<W: Sink>(
+    mut text: Pending,
+    certificate: &Certificate,
+    sink: &mut W,
+) -> Result<(), WriteFailed>
+    requires nothing { (start : Start) → Carries start start text [] }
+    requires short { length (canonical_text certificate.now) < 2 ^ 64 }
+    ensures output { IfSome (W.output sink.old)
+        (λ o. Wrote o (W.output sink.new) (canonical_text certificate.now) result) }
+    ensures part { IfErr result (λ e. e.taken < length (canonical_text certificate.now)) }
+    ensures failures { IfSome (W.failures sink.old)
+        (λ n. EndsAtFailure n (W.failures sink.new) result) }
+{
+    put_certificate(&mut text, sink, certificate);
+    text.finish(sink)
 }

@@ -1,0 +1,139 @@
+-- A text of few words is short
+use Rattle.std.proofs.Common.{◌≡◌, ℕ, suc, ◌+◌, ◌*◌, ◌^◌, ◌<◌, ◌≤◌, List, [], ◌∷◌, ◌++◌, length, map, take, get_or, All, refl, sym, ap, ◌∙◌, arith}
+use Rattle.std.specs.Prelude.{codes}
+use Rattle.std.specs.List.{flat_map, sum_by}
+use Rattle.std.specs.FinMap.{entries}
+use Rattle.std.specs.Fmt.{decimal}
+use Rattle.std.proofs.lemmas.List.{length-append, take_all, take_more}
+use Rattle.std.proofs.lemmas.List.Sums.{sum_by-append, sum_by-cons}
+use Rattle.std.proofs.lemmas.List.Elements.{All-head, All-tail}
+use Rattle.vipr_spec.specs.Fraction.{ℚ}
+use Rattle.vipr_spec.specs.Tokens.{IsToken}
+use Rattle.vipr_spec.specs.Constraint.{Row, Constraint}
+use Rattle.vipr_spec.specs.Certificate.{Name, Named, Claim, Derivation, Certificate, Problem, integer_variables}
+use Rattle.vipr_spec.specs.Shape.{CanWrite}
+use Rattle.vipr_spec.proofs.Laws.{all_parts}
+use Rattle.vipr_write.specs.Canonical.{pair_words, constraint_words, given_words, claim_words, solution_words, reason_words, derivation_words, last_word, direction_word, vector_words, heading, variables_lines, problem_lines, spaced, line_text, lines_text, certificate_lines, canonical_text}
+use Rattle.vipr_write.specs.Hands.{counted}
+use Rattle.vipr_write.specs.Weight.{weight}
+use Rattle.vipr_write.proofs.LineTokens.{words_of}
+use Rattle.vipr_write.proofs.WholeText.{tokens_all}
+
+-- ---- how long a text is
+spaced_short : (ws : List (List ℕ)) → All IsToken ws → length (spaced ws) ≤ 65536 * length ws
+spaced_short [] a = omega arith
+spaced_short (w ∷ ws) a =
+    let first = (All-head IsToken w ws a).short in
+    let rest = spaced_short ws (All-tail IsToken w ws a) in
+    omega (arith, length-append w (spaced ws), first, rest)
+
+line_short : (ws : List (List ℕ)) → All IsToken ws → length (line_text ws) ≤ 65536 * suc (length ws)
+line_short [] a = omega arith
+line_short (w ∷ ws) a =
+    let first = (All-head IsToken w ws a).short in
+    let rest = spaced_short ws (All-tail IsToken w ws a) in
+    omega (arith, length-append w (spaced ws ++ 10 ∷ []), length-append (spaced ws) (10 ∷ []), first, rest)
+
+lines_short : (ls : List (List (List ℕ))) → All IsToken (words_of ls) → length (lines_text ls) ≤ 65536 * weight ls
+lines_short [] a = omega arith
+lines_short (l ∷ ls) a =
+    let parts = all_parts IsToken l (words_of ls) a in
+    let first = line_short l parts.0 in
+    let rest = lines_short ls parts.1 in
+    omega (arith, length-append (line_text l) (lines_text ls), sum_by-cons (λ (ws : List (List ℕ)). suc (length ws)) l ls, first, rest)
+
+pub text_short : (c : Certificate) → CanWrite c → weight (certificate_lines c) < 2 ^ 48 → length (canonical_text c) < 2 ^ 64
+text_short c w few = let short = lines_short (certificate_lines c) (tokens_all c w) in omega (arith, few, short)
+
+-- ---- how many words and ends of lines there are
+pub pairs_length : (ps : List (ℕ × ℚ)) → length (flat_map pair_words ps) ≡ 2 * length ps
+pairs_length [] = refl
+pairs_length (p ∷ ps) = let rest = pairs_length ps in omega (arith, rest)
+
+pub weight-append : (ls ms : List (List (List ℕ))) → weight (ls ++ ms) ≡ weight ls + weight ms
+weight-append ls ms = sum_by-append (λ (ws : List (List ℕ)). suc (length ws)) ls ms
+
+-- the lines that are made of the items
+weight-map : {X : Type 0} (f : X → List (List ℕ)) (xs : List X) → weight (map f xs) ≡ sum_by (λ x. suc (length (f x))) xs
+weight-map f [] = refl
+weight-map f (x ∷ xs) = sum_by-cons (λ (ws : List (List ℕ)). suc (length ws)) (f x) (map f xs) ∙ ap (λ n. suc (length (f x)) + n) (weight-map f xs) ∙ sym (sum_by-cons (λ x. suc (length (f x))) x xs)
+
+sum_next : {X : Type 0} (f : X → ℕ) (xs : List X) (i : ℕ) (d : X) → i < length xs → sum_by f (take (i + 1) xs) ≡ sum_by f (take i xs) + f (get_or xs i d)
+sum_next f xs i d l =
+    let one : sum_by f (get_or xs i d ∷ []) ≡ f (get_or xs i d) = omega (arith, sum_by-cons f (get_or xs i d) []) in
+    ap (sum_by f) (take_more xs i d l) ∙ sum_by-append f (take i xs) (get_or xs i d ∷ []) ∙ ap (λ n. sum_by f (take i xs) + n) one
+
+-- as many as the first items have, and start before
+abbrev pub Weighs : {X : Type 0} → (X → ℕ) → List X → ℕ → ℕ → ℕ → Type 0
+Weighs f xs i start total = total ≡ counted (start + sum_by f (take i xs))
+
+pub weighs_next : {X : Type 0} (f : X → ℕ) (xs : List X) (i : ℕ) (x : X) (start total now more : ℕ) → i < length xs → x ≡ get_or xs i x → Weighs f xs i start total → f x ≡ more → now ≡ counted (total + more) → Weighs f xs (i + 1) start now
+weighs_next f xs i x start total now more l is before same after = let e = sum_next f xs i x l in let here = ap f is in omega (arith, e, here, before, same, after)
+
+pub weighs_all : {X Y : Type 0} (view : X → Y) (words : Y → List (List ℕ)) (xs : List X) (i start total : ℕ) → length xs ≤ i → Weighs (λ x. suc (length (words (view x)))) xs i start total → total ≡ counted (start + weight (map words (map view xs)))
+weighs_all view words xs i start total l w = w ∙ ap (λ n. counted (start + n)) (ap (sum_by (λ x. suc (length (words (view x))))) (take_all i xs l) ∙ sym (two_maps view words xs))
+  where
+    two_maps : {X Y : Type 0} (view : X → Y) (words : Y → List (List ℕ)) (xs : List X) → weight (map words (map view xs)) ≡ sum_by (λ x. suc (length (words (view x)))) xs
+    two_maps view words [] = refl
+    two_maps view words (x ∷ xs) = sum_by-cons (λ (ws : List (List ℕ)). suc (length ws)) (words (view x)) (map words (map view xs)) ∙ ap (λ n. suc (length (words (view x))) + n) (two_maps view words xs) ∙ sym (sum_by-cons (λ x. suc (length (words (view x)))) x xs)
+
+-- lines of one word
+pub ones_weight : {X : Type 0} (f : X → List ℕ) (xs : List X) → weight (map (λ x. f x ∷ []) xs) ≡ 2 * length xs
+ones_weight f [] = refl
+ones_weight f (x ∷ xs) = let rest = ones_weight f xs in omega (arith, rest, sum_by-cons (λ (ws : List (List ℕ)). suc (length ws)) (f x ∷ []) (map (λ x. f x ∷ []) xs))
+
+-- ---- the lines of items
+same_entries : (es fs : List (ℕ × ℚ)) → es ≡ fs → length (flat_map pair_words fs) ≡ 2 * length es
+same_entries es fs e = ap (λ gs. length (flat_map pair_words gs)) (sym e) ∙ pairs_length es
+
+pub constraint_weight : (name : Name) (c : Constraint) (es : List (ℕ × ℚ)) → es ≡ entries c.row → suc (length (constraint_words name c)) ≡ 5 + 2 * length es
+constraint_weight name c es e = let h = same_entries es (entries c.row) e in omega (arith, h)
+
+pub solution_weight : (s : Named Row) (es : List (ℕ × ℚ)) → es ≡ entries s.item → suc (length (solution_words s)) ≡ 3 + 2 * length es
+solution_weight s es e = let h = same_entries es (entries s.item) e in omega (arith, h)
+
+pub derivation_weight : (d : Derivation) (es : List (ℕ × ℚ)) → es ≡ entries d.stated.row → suc (length (derivation_words d)) ≡ 8 + 2 * length es + length (reason_words d.reason)
+derivation_weight d es e =
+    let stated = constraint_weight d.name d.stated es e in
+    let first = length-append (constraint_words d.name d.stated) (codes "{" ∷ (reason_words d.reason ++ codes "}" ∷ last_word d.last ∷ [])) in
+    let second = length-append (reason_words d.reason) (codes "}" ∷ last_word d.last ∷ []) in
+    omega (arith, stated, first, second)
+
+pub in_turn : (total more reason middle now : ℕ) → middle ≡ counted (total + more) → now ≡ counted (middle + reason) → now ≡ counted (total + (more + reason))
+in_turn total more reason middle now first second = omega (arith, first, second)
+
+-- ---- the lines of a problem
+weight-cons : (l : List (List ℕ)) (ls : List (List (List ℕ))) → weight (l ∷ ls) ≡ suc (length l) + weight ls
+weight-cons l ls = sum_by-cons (λ (ws : List (List ℕ)). suc (length ws)) l ls
+
+front_weight : (v w i : List (List ℕ)) (ns js : List (List (List ℕ))) → weight (v ∷ w ∷ (ns ++ i ∷ js)) ≡ suc (length v) + (suc (length w) + (weight ns + (suc (length i) + weight js)))
+front_weight v w i ns js =
+    weight-cons v (w ∷ (ns ++ i ∷ js)) ∙ ap (λ n. suc (length v) + n) (weight-cons w (ns ++ i ∷ js) ∙ ap (λ n. suc (length w) + n) (weight-append ns (i ∷ js) ∙ ap (λ n. weight ns + n) (weight-cons i js)))
+
+back_weight : (o v c k : List (List ℕ)) (cs : List (List (List ℕ))) → weight (o ∷ v ∷ c ∷ (cs ++ k ∷ [])) ≡ suc (length o) + (suc (length v) + (suc (length c) + (weight cs + weight (k ∷ []))))
+back_weight o v c k cs =
+    weight-cons o (v ∷ c ∷ (cs ++ k ∷ [])) ∙ ap (λ n. suc (length o) + n) (weight-cons v (c ∷ (cs ++ k ∷ [])) ∙ ap (λ n. suc (length v) + n) (weight-cons c (cs ++ k ∷ []) ∙ ap (λ n. suc (length c) + n) (weight-append cs (k ∷ []))))
+
+problem_is : (p : Problem) → weight (problem_lines p) ≡ 18 + weight (claim_words p.claim ∷ []) + 2 * length p.names + 2 * length (integer_variables p) + 2 * length (entries p.objective) + weight (map given_words p.constraints)
+problem_is p =
+    let back = (codes "OBJ" ∷ direction_word p.direction ∷ []) ∷ vector_words p.objective ∷ (codes "CON" ∷ decimal (length p.constraints) ∷ decimal p.bound_count ∷ []) ∷ (map given_words p.constraints ++ claim_words p.claim ∷ []) in
+    let all = weight-append (variables_lines p) back in
+    let first = front_weight (codes "VER" ∷ codes "1.0" ∷ []) (heading (codes "VAR") (length p.names)) (heading (codes "INT") (length (integer_variables p))) (map (λ name. name ∷ []) p.names) (map (λ j. decimal j ∷ []) (integer_variables p)) in
+    let second = back_weight (codes "OBJ" ∷ direction_word p.direction ∷ []) (vector_words p.objective) (codes "CON" ∷ decimal (length p.constraints) ∷ decimal p.bound_count ∷ []) (claim_words p.claim) (map given_words p.constraints) in
+    let names = ones_weight (λ name. name) p.names in
+    let members = ones_weight decimal (integer_variables p) in
+    let terms = pairs_length (entries p.objective) in
+    let sum = all ∙ (λ i. first i + second i) in
+    omega (arith, sum, names, members, terms)
+
+pub problem_counted : (p : Problem) (names : List (List ℕ)) (js : List ℕ) (objective : Row) (es : List (ℕ × ℚ)) (cons : List (Named Constraint)) (claim : Claim) (k first second third total : ℕ) →
+    names ≡ p.names → js ≡ integer_variables p → objective ≡ p.objective → es ≡ entries objective → cons ≡ p.constraints → claim ≡ p.claim → k ≡ weight (claim_words claim ∷ []) →
+    first ≡ counted (18 + (k + 2 * length names)) → second ≡ counted (first + (0 + 2 * length js)) → third ≡ counted (second + (0 + 2 * length es)) → total ≡ counted (third + weight (map given_words cons)) → total ≡ counted (weight (problem_lines p))
+problem_counted p names js objective es cons claim k first second third total a b c d e f g h i j l =
+    let sum = problem_is p in
+    let names_are = ap length a in
+    let members_are = ap length b in
+    let terms_are = ap length (d ∙ ap entries c) in
+    let constraints_are = ap (λ cs. weight (map given_words cs)) e in
+    let claim_is = g ∙ ap (λ x. weight (claim_words x ∷ [])) f in
+    omega (arith, sum, names_are, members_are, terms_are, constraints_are, claim_is, h, i, j, l)

@@ -1,9 +1,0 @@
-use Rattle.std.proofs.Common.{◌≡◌, ◌++◌, take}
-use Rattle.std.specs.List.{flat_map}
-use Rattle.vipr_write.specs.Canonical.{derivation_words, line_text}
-use Rattle.vipr_cert.specs.Items.{derivation_of}
-use Rattle.vipr_cert.specs.declared.items.Derivation.{Derivation}
-use Rattle.vipr_write.proofs.sections.append_derivations.Given as goal
-
-abbrev pub invariant-loop-derivation : goal.invariant-loop-derivation
-invariant-loop-derivation l = l.text.items ≡ l.initial.text.items ++ flat_map (λ (d : Derivation). line_text (derivation_words (derivation_of d))) (take l.derivation-index l.derivations)
