@@ -14,22 +14,22 @@ use Rattle.vipr_scan.specs.declared.error.TextError.{TextError}
 use Rattle.vipr_scan.specs.declared.error.TextError.TheVariants as error
 use Rattle.vipr_check.specs.declared.verdict.Place.TheVariants.{Byte}
 use Rattle.vipr_command.specs.Output.{Stays, Took, after_first}
-use Rattle.vipr_command.specs.Show.{Kind, ShowsText, text_spelling, text_read}
+use Rattle.vipr_command.specs.Show.{Kind, ShowsText, WritesText, text_spelling, text_read}
 use Rattle.vipr_command.specs.declared.fault.Fault.{Fault}
-use Rattle.vipr_command.specs.declared.fault.Fault.TheVariants.{Read, Write}
+use Rattle.vipr_command.specs.declared.fault.Fault.TheVariants.{Memory, Read, Write}
 use Rattle.vipr_command.specs.declared.show.Shown.{Shown}
 use Rattle.vipr_command.specs.declared.show.Shown.TheVariants.{Refused, Whole}
 
 true_not_false : true ≡ false → ⊥
 true_not_false h = cc
 
--- the text was written
-pub shown_whole : (old new : Option Output) (text : List ℕ) (c : Certificate) → text ≡ canonical_text c → Took old new text (Ok tt) → (k : Kind) → k.Spelled c → ShowsText k old new (Ok Whole)
-shown_whole old new text c is w k s = (c, s, subst (λ t. Took old new t (Ok tt)) is w)
-
--- the writing stopped
-pub cut_short : (old new : Option Output) (text : List ℕ) (c : Certificate) → text ≡ canonical_text c → (n : ℕ) → Took old new text (Err (after_first n)) → (k : Kind) → k.Spelled c → ShowsText k old new (Err (Write n))
-cut_short old new text c is n w k s = (c, s, subst (λ t. Took old new t (Err (after_first n))) is w)
+-- what was written is the certificate's text
+pub shown_by : (old new : Option Output) (text : List ℕ) (c : Certificate) (r : Result Shown Fault) → text ≡ canonical_text c → WritesText old new text r → (k : Kind) → k.Spelled c → ShowsText k old new r
+shown_by old new text c (Ok Whole) is w k s = (c, s, subst (λ t. Took old new t (Ok tt)) is w)
+shown_by old new text c (Ok (Refused r)) is w k s = absurd w
+shown_by old new text c (Err Read) is w k s = absurd w
+shown_by old new text c (Err Memory) is w k s = w
+shown_by old new text c (Err (Write n)) is w k s = (c, s, subst (λ t. Took old new t (Err (after_first n))) is w)
 
 -- of a certificate that was read
 pub exact_by : (old new : Option Output) (source : Option Input) (c : Certificate) (r : Result Shown Fault) → ((k : Kind) → k.Spelled c → ShowsText k old new r)

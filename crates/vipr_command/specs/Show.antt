@@ -33,6 +33,14 @@ ShowsText k old new (Err Memory) = Stays old new
 ShowsText k old new (Err (Write n)) = (c : Certificate) × k.Spelled c
     × Took old new (canonical_text c) (Err (after_first n))
 
+-- The text was written, or its first n bytes were, or nothing.
+abbrev pub WritesText : Option Output → Option Output → List ℕ → Result Shown Fault → Type 0
+WritesText old new text (Ok Whole) = Took old new text (Ok tt)
+WritesText old new text (Ok (Refused r)) = ⊥
+WritesText old new text (Err Read) = ⊥
+WritesText old new text (Err Memory) = Stays old new
+WritesText old new text (Err (Write n)) = Took old new text (Err (after_first n))
+
 -- a text of which nothing is known
 abbrev pub any_text : Kind
 any_text = record { Spelled = λ _. ⊤; Unspelled = λ _. ⊤; Unread = ⊤ }

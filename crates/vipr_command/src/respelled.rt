@@ -8,7 +8,8 @@ ghost use Rattle.vipr_command.specs.Respelled.{BeginsText, Appends, Respells, Re
 
 use std::alloc::Global;
 use vipr_bytes::Source;
-use vipr_text::{CertReader, Derivations, GrowingText, Solutions, TextError};
+use vipr_text::{CertReader, Derivations, Solutions, TextError};
+use vipr_write::CompactText;
 
 /// The canonical text of the certificate that `source` gives, which is read to its end. No item is
 /// kept once its line is made.
@@ -17,16 +18,22 @@ use vipr_text::{CertReader, Derivations, GrowingText, Solutions, TextError};
 ///
 /// `Refused` where the text spells no certificate, `Read` where a read fails before that is known,
 /// and `Memory` where a growth is refused.
-pub(crate) fn respelled<R: Source + Drop>(alloc: Global, source: R) -> Result<Vec<u8>, TextError>
-    ensures { RespellsText (λ text. text.items) (R.input source) result }
+pub(crate) fn respelled<R: Source + Drop>(
+    alloc: Global,
+    source: R,
+) -> Result<CompactText, TextError>
+    ensures { RespellsText (λ text. text) (R.input source) result }
 {
     let reader = CertReader::new(alloc, source)?;
     text_from(alloc, reader)
 }
 
 // The canonical text of the certificate that the reader is at the start of.
-fn text_from<R: Source + Drop>(alloc: Global, reader: CertReader<R>) -> Result<Vec<u8>, TextError>
-    ensures { Respells (λ text. text.items) reader result }
+fn text_from<R: Source + Drop>(
+    alloc: Global,
+    reader: CertReader<R>,
+) -> Result<CompactText, TextError>
+    ensures { Respells (λ text. text) reader result }
 {
     let (text, mut solutions) = problem_text(alloc, reader)?;
     let text = solution_lines(alloc, text, &mut solutions)?;
@@ -36,18 +43,18 @@ fn text_from<R: Source + Drop>(alloc: Global, reader: CertReader<R>) -> Result<V
     // Dropped at this one place, whatever was answered.
     drop(derivations);
     let text = lines?;
-    Ok(text.into_bytes())
+    Ok(text)
 }
 
 // The text of the problem, up to and with the number of solutions.
 fn problem_text<R: Source + Drop>(
     alloc: Global,
     reader: CertReader<R>,
-) -> Result<(GrowingText, Solutions<R>), TextError>
+) -> Result<(CompactText, Solutions<R>), TextError>
     ensures { BeginsText (λ x. x.0) (λ x. x.1) reader result }
 {
     let (problem, solutions) = reader.read_problem(alloc)?;
-    let lines = GrowingText::new(alloc, &problem, solutions.left());
+    let lines = CompactText::new(alloc, &problem, solutions.left());
     // Dropped at this one place, whatever was answered.
     drop(problem);
     let text = lines?;
@@ -57,9 +64,9 @@ fn problem_text<R: Source + Drop>(
 // The text with a line for each solution that follows.
 fn solution_lines<R: Source>(
     alloc: Global,
-    mut text: GrowingText,
+    mut text: CompactText,
     solutions: &mut Solutions<R>,
-) -> Result<GrowingText, TextError>
+) -> Result<CompactText, TextError>
     requires { solutions.old.failed ≡ false }
     ensures none { IfOk result (λ _. solutions.new.left ≡ 0) }
     ensures lines { (p : ProblemMeant) → Knows solutions.old p
@@ -78,9 +85,9 @@ fn solution_lines<R: Source>(
 // The text with a line for each derivation that follows, up to the end of the text that is read.
 fn derivation_lines<R: Source>(
     alloc: Global,
-    mut text: GrowingText,
+    mut text: CompactText,
     derivations: &mut Derivations<R>,
-) -> Result<GrowingText, TextError>
+) -> Result<CompactText, TextError>
     requires { derivations.old.failed ≡ false }
     ensures { (p : ProblemMeant) → Knows derivations.old p
         → Appends (derivation_read p) end_read derivation_words derivations.old derivations.new

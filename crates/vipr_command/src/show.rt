@@ -2,7 +2,8 @@
 ghost use Rattle.vipr_spec.specs.Reading.{certificate_read};
 ghost use Rattle.vipr_bytes.specs.Known.{text_of, IfKnown, IfWhole};
 ghost use Rattle.vipr_command.specs.Run.{PrintsText, known_by, unknown_input};
-ghost use Rattle.vipr_command.specs.Show.{ShowsText, any_text, text_spelling, text_read};
+ghost use Rattle.vipr_command.specs.Show.{ShowsText, WritesText, any_text, text_spelling};
+ghost use Rattle.vipr_command.specs.Show.{text_read};
 
 use crate::fault::Fault;
 use crate::line::say;
@@ -10,9 +11,10 @@ use crate::respelled::respelled;
 use crate::text::RefusalLine;
 use std::alloc::Global;
 use std::io::Write;
-use vipr_bytes::{Sink, Source, write_bytes};
+use vipr_bytes::{Sink, Source};
 use vipr_check::{Place, Refusal};
 use vipr_text::TextError;
+use vipr_write::{CompactText, WriteError};
 
 /// What became of a certificate that was to be shown.
 #[derive(Clone, Copy, Debug, PartialEq, Eq)]
@@ -46,10 +48,7 @@ pub fn show<R: Source + Drop, W: Sink>(
         (W.output writer.old) (W.output writer.new) result) }
 {
     match respelled(alloc, source) {
-        Ok(text) => {
-            write_bytes(writer, &text)?;
-            Ok(Shown::Whole)
-        }
+        Ok(text) => write_text(alloc, &text, writer),
         Err(TextError::Refused { cause, offset }) => Ok(Shown::Refused(Refusal {
             cause,
             place: Place::Byte(offset),
@@ -57,6 +56,17 @@ pub fn show<R: Source + Drop, W: Sink>(
         Err(TextError::Read) => Err(Fault::Read),
         Err(TextError::Memory) => Err(Fault::Memory),
         Err(TextError::Spent) => unreachable!(),
+    }
+}
+
+// Writes a text.
+fn write_text<W: Sink>(alloc: Global, text: &CompactText, writer: &mut W) -> Result<Shown, Fault>
+    ensures { WritesText (W.output writer.old) (W.output writer.new) text.now result }
+{
+    match text.write_to(alloc, writer) {
+        Ok(()) => Ok(Shown::Whole),
+        Err(WriteError::Write { taken }) => Err(Fault::Write { taken }),
+        Err(WriteError::Memory { taken: _ }) => Err(Fault::Memory),
     }
 }
 

@@ -70,24 +70,24 @@ pub next_gap : (part ns text xs t p : List ℕ) (i at : ℕ) → xs ≡ ns → t
     × (at + slice_index_or xs i 0 + sum (drop (i + 1) ns) ≤ length text)
 next_gap part ns text xs t p i at e s q l h =
     rw (e, s, q) (
-      let gap = get_or ns i 0 in
-      let inside = rw e at l in
-      let following : suc i ≡ i + 1 = omega arith in
-      let cons : drop i ns ≡ gap ∷ drop (i + 1) ns = drop-cons ns i 0 inside ∙ ap (λ k. gap ∷ drop k ns) following in
-      let front : take gap (drop at text) ≡ slice_range text at (at + gap) = ap (λ k. take k (drop at text)) (omega arith) in
-      let rest : drop gap (drop at text) ≡ drop (at + gap) text = drop-drop gap at text in
-      let listed = sum_by-cons (λ x. x) gap (drop (i + 1) ns) in
-      let cut = ap sum cons in (
-        ap (λ ks. expanded part ks (drop at text)) cons ∙ ap (λ u. u ++ (part ++ expanded part (drop (i + 1) ns) (drop gap (drop at text)))) front ∙ ap (λ u. slice_range text at (at + gap) ++ (part ++ expanded part (drop (i + 1) ns) u)) rest,
-        omega arith,
-      )
+    let gap = get_or ns i 0 in
+    let inside = rw e at l in
+    let following : suc i ≡ i + 1 = omega arith in
+    let cons : drop i ns ≡ gap ∷ drop (i + 1) ns = drop-cons ns i 0 inside ∙ ap (λ k. gap ∷ drop k ns) following in
+    let front : take gap (drop at text) ≡ slice_range text at (at + gap) = ap (λ k. take k (drop at text)) (omega arith) in
+    let rest : drop gap (drop at text) ≡ drop (at + gap) text = drop-drop gap at text in
+    let listed = sum_by-cons (λ x. x) gap (drop (i + 1) ns) in
+    let cut = ap sum cons in (
+      ap (λ ks. expanded part ks (drop at text)) cons ∙ ap (λ u. u ++ (part ++ expanded part (drop (i + 1) ns) (drop gap (drop at text)))) front ∙ ap (λ u. slice_range text at (at + gap) ++ (part ++ expanded part (drop (i + 1) ns) u)) rest,
+      omega arith,
+    )
     )
 
 -- the text behind the last mark
 pub last_piece : (part ns text xs t : List ℕ) (i at : ℕ) → xs ≡ ns → t ≡ text → length xs ≤ i → expanded part (drop i ns) (drop at text) ≡ slice_range t at (length t) ++ []
 last_piece part ns text xs t i at e s l =
     rw s (
-      let none : drop i ns ≡ [] = drop_all i ns (rw e at l) in
-      let whole : take (length text - at) (drop at text) ≡ drop at text = take_all (length text - at) (drop at text) (omega (arith, length-drop at text)) in
-      ap (λ ks. expanded part ks (drop at text)) none ∙ sym whole ∙ sym (append-nil (take (length text - at) (drop at text)))
+    let none : drop i ns ≡ [] = drop_all i ns (rw e at l) in
+    let whole : take (length text - at) (drop at text) ≡ drop at text = take_all (length text - at) (drop at text) (omega (arith, length-drop at text)) in
+    ap (λ ks. expanded part ks (drop at text)) none ∙ sym whole ∙ sym (append-nil (take (length text - at) (drop at text)))
     )

@@ -31,8 +31,8 @@ pub record IsBuffer (g : Gathered) : Type 0 where
   pub within : length g.bytes.items ≤ 65536
 
 -- a piece was added: some bytes were handed on, and the others are kept
-pub record HasGathered (o o' : Option Output) (n n' : Option ℕ) (old new : Gathered) (piece : List ℕ) :
-    Type 0 where
+pub record HasGathered (o o' : Option Output) (n n' : Option ℕ) (old new : Gathered)
+    (piece : List ℕ) : Type 0 where
   pub sent : List ℕ
   pub parts : old.bytes.items ++ piece ≡ sent ++ new.bytes.items
   pub taken : Sent o o' n n' sent

@@ -119,7 +119,11 @@ fn takes(
 fn whole(rt: &impl Abort, alloc: Global, first: usize, second: usize, calls: usize) {
     let mut sink = Pieces::new(rt, alloc, usize::MAX, usize::MAX);
     takes(rt, alloc, (first, second), &mut sink, Ok(()));
-    same(rt, sink.taken.len(), first.saturating_add(second).saturating_add(OTHERS));
+    same(
+        rt,
+        sink.taken.len(),
+        first.saturating_add(second).saturating_add(OTHERS),
+    );
     same(rt, sink.calls, calls);
 }
 

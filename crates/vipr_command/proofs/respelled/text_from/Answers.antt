@@ -74,8 +74,7 @@ returns g c =
     let derived = c.in_ok-text-4.ensures p (still_knows p mid steps knows c.in_ok-derivations.ensures.remembers) in
     let headed = c.in_ok-text-3.ensures ∙ ap (λ n. c.in_ok-text-2.text ++ line_text (heading (codes "DER") n)) c.left.ensures in (
       record { problem = p; solutions = listed.0.items; derivations = derived.0.items },
-      c.into_bytes.ensures
-          ∙ all_lines p listed.0.items derived.0.items old.left steps.left mid.left new.left c.in_ok-text.text c.in_ok-text-2.text c.in_ok-text-3.text c.in_ok-text-4.text
+      all_lines p listed.0.items derived.0.items old.left steps.left mid.left new.left c.in_ok-text.text c.in_ok-text-2.text c.in_ok-text-3.text c.in_ok-text-4.text
           listed.0.counted listed.1 derived.0.counted derived.1 begun.lines listed.0.lines headed derived.0.lines,
       λ known.
           let r = begun.read known in
