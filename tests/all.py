@@ -34,6 +34,7 @@ SCRIPTS = [
     ['tests/calls.py'],
     ['tests/library.py'],
     ['tests/pages.py'],
+    ['tests/language.py'],
     ['tests/commands.py'],
     ['tests/proof.py', '--check'],
     ['tests/interface.py'],

@@ -16,7 +16,7 @@ ROOT = os.path.dirname(os.path.dirname(os.path.abspath(__file__)))
 CRATES = os.path.join(ROOT, 'crates')
 TARGET = os.path.join(ROOT, 'docs', 'STATEMENT.md')
 EXAMPLES = os.path.join(ROOT, 'tests', 'statement_examples.md')
-SPEC_CRATES = ['vipr_spec', 'vipr_bytes', 'vipr_check']
+SPEC_CRATES = ['vipr_spec', 'vipr_bytes', 'vipr_cert', 'vipr_check']
 
 # Each part: its title, what it is for, and the definitions at its top. A root that isn't there is left out.
 PARTS = [
@@ -34,8 +34,9 @@ PARTS = [
      ['IsAnswer', 'Reports', 'IsExplained', 'cause_name']),
     ('What is proved of the program',
      'The record is the contract of `check_in`, and under profile one of `check`: each of its fields is a clause, in the '
-     'words of the parts before. A result is what the call answers for a source.',
-     ['Checks']),
+     'words of the parts before. A result is what the call answers for a source. A slice (`Bytes`) is a known source: its '
+     'input has the bytes of the slice, and no failure. `ReadsBytes` is the contract of each read of a known source.',
+     ['Checks', 'ReadsBytes']),
 ]
 
 HEAD = '''# The statement
@@ -222,6 +223,11 @@ def count(definitions):
     return sum(1 for d in definitions for l in d.lines if l.strip() and not l.strip().startswith('--'))
 
 
+def capital(comment):
+    """A comment as a sentence begins; a variable that it begins with stays small."""
+    return comment if re.match(r'(?:[b-z]|a [a-z]) ', comment) else comment[0].upper() + comment[1:]
+
+
 def contract_of_check():
     """The signature and the clauses of the public call `check`."""
     folder = os.path.join(CRATES, 'vipr_check', 'src')
@@ -254,7 +260,7 @@ def text():
                 here = [d for d in here if d not in numbers]
             for d in here:
                 if d.comment:
-                    body.append(d.comment[0].upper() + d.comment[1:] + ('' if d.comment.endswith(('.', ':')) else '.') + '\n')
+                    body.append(capital(d.comment) + ('' if d.comment.endswith(('.', ':')) else '.') + '\n')
                 body.append('```text\n%s\n```\n' % '\n'.join(d.lines))
                 example = next((shown[n] for n in d.names if n in shown), None)
                 used |= {n for n in d.names if n in shown}
