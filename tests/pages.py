@@ -34,7 +34,7 @@ from plain_check import explained  # noqa: E402
 
 PROGRAM = Path(sys.argv[1] if len(sys.argv) > 1 else TOP / 'crates/vipr/out/vipr').resolve()
 PAGES = ['README.md', 'CONTRIBUTING.md', 'CHANGELOG.md', 'docs/FORMAT.md', 'docs/USE.md', 'docs/LIBRARY.md',
-         'docs/PROOF.md', 'docs/SECURITY.md', 'docs/BENCHMARKS.md', 'docs/ARCHITECTURE.md', 'docs/DECISIONS.md', 'docs/DEFINITIONS.md', 'docs/GLOSSARY.md',
+         'docs/PROOF.md', 'docs/SECURITY.md', 'docs/BENCHMARKS.md', 'docs/ARCHITECTURE.md', 'docs/DECISIONS.md', 'docs/WHY.md', 'docs/GLOSSARY.md',
          'examples/README.md']
 # what may stand in a block that isn't run
 KNOWN = {'git', 'cd', 'make', 'man', 'vipr', 'rt', 'python3', 'source', 'parallel', 'sbatch', 'export', 'sudo', 'pv', 'cc', './check'}
