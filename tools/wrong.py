@@ -76,6 +76,11 @@ def copied(room):
     return copy if proved.take_over(TOP, copy) else TOP
 
 
+def is_refused(rt, found):
+    """Whether the toolchain's answer of an edit says that it was refused: some kits answer yes or no, others one of four."""
+    return found if isinstance(found, bool) else found in (rt.REFUSED, rt.AT_LIMIT)
+
+
 def tried(rt, crate, paths, kept):
     """Of each edit of a crate its name and whether it is refused; none is, if the crate isn't proved without an edit."""
     one = ['--jobs', '1']
@@ -89,10 +94,10 @@ def tried(rt, crate, paths, kept):
     out = []
     for path in paths:
         found, text = rt.must_fail(crate, str(path), one, str(kept))
-        if found in (rt.MISSED, rt.UNSURE):
+        if not is_refused(rt, found):
             found, text = rt.must_fail(crate, str(path), one)
         print(text, flush=True)
-        out.append((f'{crate.name}/{path.stem}', found in (rt.REFUSED, rt.AT_LIMIT)))
+        out.append((f'{crate.name}/{path.stem}', is_refused(rt, found)))
     shutil.rmtree(kept, ignore_errors=True)
     return out
 
