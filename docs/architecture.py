@@ -15,6 +15,8 @@ LIFE = [('bytes', 'a file, or standard input', 'vipr_bytes'), ('tokens', 'each w
         ('items', 'problem, solutions, derivations', 'vipr_read'),
         ('tests', 'the first that fails stops', 'vipr_rules, vipr_check'), ('verdict', 'two lines, or one', 'vipr_command')]
 WIDTH, BOX, HIGH, STEP = 1000, 150, 34, 92
+# what of a box's width an edge takes that passes a level, and how often the levels are put in order
+PASSING, SWEEPS = 0.35, 24
 STYLE = ('text{font:14px sans-serif;fill:#222}.s{font-size:11px;fill:#555}.h{font-weight:bold}'
          'rect{fill:#eef3fa;stroke:#345;rx:5}.d{fill:#f7f1e3}.g{fill:#fff}path{stroke:#678;fill:none}'
          '@media(prefers-color-scheme:dark){svg{background:#fff}}')
@@ -47,6 +49,50 @@ def levels(deps):
     return level, direct
 
 
+def layers(level, direct):
+    """The nodes of each level in their order, and of each edge its crate and the nodes on its way down. An edge that
+    passes a level has a node of its own there, a pair of its ends and the level, so that it passes beside the boxes."""
+    rows = [sorted(crate for crate in level if level[crate] == number) for number in range(max(level.values()) + 1)]
+    links = []
+    for crate in sorted(direct):
+        for dep in direct[crate]:
+            passed = [(crate, dep, number) for number in range(level[crate] - 1, level[dep], -1)]
+            for node in passed:
+                rows[node[2]].append(node)
+            links.append((crate, [*passed, dep]))
+    near = {node: [] for row in rows for node in row}
+    for crate, nodes in links:
+        for above, node in zip([crate, *nodes], nodes):
+            near[above].append(node)
+            near[node].append(above)
+    best = list(map(list, rows))
+    for number in range(SWEEPS):
+        for row in rows[::-1] if number % 2 else rows:
+            x = {node: at for other in rows for node, at in placed(other)}
+            row.sort(key=lambda node: (sum(x[it] for it in near[node]) / len(near[node]) if near[node] else x[node], str(node)))
+        if crossings(rows, links) < crossings(best, links):
+            best = list(map(list, rows))
+    return best, links
+
+
+def placed(row):
+    """Each node of a level with its place from the left: boxes share the width, passing edges take a little of it."""
+    shares = [1 if isinstance(node, str) else PASSING for node in row]
+    at = 0
+    for node, share in zip(row, shares):
+        yield node, WIDTH * (at + share / 2) / sum(shares)
+        at += share
+
+
+def crossings(rows, links):
+    """How many pairs of edges between two levels cross."""
+    x = {node: at for row in rows for node, at in placed(row)}
+    of_level = {node: number for number, row in enumerate(rows) for node in row}
+    steps = [(of_level[above], x[above], x[node]) for crate, nodes in links for above, node in zip([crate, *nodes], nodes)]
+    return sum(one[0] == other[0] and (one[1] - other[1]) * (one[2] - other[2]) < 0
+               for number, one in enumerate(steps) for other in steps[:number])
+
+
 def classed(kind):
     return f' class="{kind}"' if kind else ''
 
@@ -75,19 +121,19 @@ def picture():
         out += [box(x, 20, BOX, 'd'), text(x, 42, what, 'h'), text(x, 72, how, 's'), text(x, 88, where, 's')]
         if number:
             out.append(f'<path d="M{x - wide + BOX / 2 + 4:.0f},37 L{x - BOX / 2 - 4:.0f},37" marker-end="url(#a)"/>')
-    place = {}
-    for number in range(top + 1):
-        row = sorted(crate for crate in deps if level[crate] == number)
-        for index, crate in enumerate(row):
-            place[crate] = WIDTH * (index + 0.5) / len(row), graph + (top - number) * STEP
-    for crate in sorted(deps):
-        x, y = place[crate]
-        for dep in direct[crate]:
-            to_x, to_y = place[dep]
+    rows, links = layers(level, direct)
+    place = {node: (x, graph + (top - number) * STEP) for number, row in enumerate(rows) for node, x in placed(row)}
+    for crate, nodes in links:
+        path = [f'M{place[crate][0]:.0f},{place[crate][1] + HIGH:.0f}']
+        for above, node in zip([crate, *nodes], nodes):
+            (x, y), (to_x, to_y) = place[above], place[node]
+            end = to_y - 2 if node in deps else to_y
             middle = (y + HIGH + to_y) / 2
-            out.append(f'<path d="M{x:.0f},{y + HIGH:.0f} C{x:.0f},{middle:.0f} {to_x:.0f},{middle:.0f} {to_x:.0f},{to_y - 2:.0f}" '
-                       'marker-end="url(#a)"/>')
-    for crate, (x, y) in sorted(place.items()):
+            path.append(f'C{x:.0f},{middle:.0f} {to_x:.0f},{middle:.0f} {to_x:.0f},{end:.0f}')
+            if node not in deps:
+                path.append(f'L{to_x:.0f},{to_y + HIGH:.0f}')
+        out.append(f'<path d="{" ".join(path)}" marker-end="url(#a)"/>')
+    for crate, (x, y) in sorted((node, place[node]) for node in deps):
         out += [box(x, y, BOX), text(x, y + 22, crate)]
     return '\n'.join(out + ['</svg>']) + '\n'
 
