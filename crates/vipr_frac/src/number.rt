@@ -12,7 +12,7 @@ ghost use Rattle.vipr_spec.specs.Number.{SpellsNumber, is_slash, slash_place, to
 ghost use Rattle.vipr_spec.specs.Number.{signed, written, of_parts, number_read, number_text};
 ghost use Rattle.vipr_frac.specs.Reading.{as_read};
 
-use crate::frac::{Frac, of_whole, reduced};
+use crate::frac::{Frac, of_whole, reduced, reduced_words};
 use itoa::Buffer;
 use std::alloc::AllocError;
 
@@ -216,7 +216,18 @@ pub fn front_natural(s: &[u8]) -> (u64, usize)
     (value, end)
 }
 
-// The fraction of a numerator and the denominator at the front, and that one's length.
+// A number of 18 digits at most with its sign.
+#[inline(always)]
+fn short_signed(is_negative: bool, size: u64) -> i64
+    requires { size < 10 ^ 18 }
+    ensures { result ≡ signed is_negative size }
+{
+    let size = size as i64;
+    if is_negative { -size } else { size }
+}
+
+// The fraction of a numerator and the denominator at the front, and that one's length. Both fit a
+// word, so their common divisor needs no step of 128 bits.
 fn front_fraction(is_negative: bool, top: u64, s: &[u8]) -> Option<(Frac, usize)>
     requires { top < 10 ^ 18 }
     ensures within { IfSome result (λ r. r.1 ≤ length s.now) }
@@ -226,13 +237,11 @@ fn front_fraction(is_negative: bool, top: u64, s: &[u8]) -> Option<(Frac, usize)
         (λ r. Ok r.0 ≡ of_parts is_negative (Some top) (natural_of (take r.1 s.now))) }
 {
     let (bottom, len) = front_natural(s);
-    if len == 0 {
+    if len == 0 || bottom == 0 {
         return None;
     }
-    match fraction(is_negative, u128::from(top), u128::from(bottom)) {
-        Ok(value) => Some((value, len)),
-        Err(_) => None,
-    }
+    let value = reduced_words(short_signed(is_negative, top), bottom);
+    Some((value, len))
 }
 
 // A number without its sign at the front, and its length.
