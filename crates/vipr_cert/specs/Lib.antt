@@ -3,3 +3,4 @@ pub mod Items
 pub mod Codes
 pub mod Earlier
 pub mod Names
+pub mod Text

@@ -3,6 +3,7 @@
 
 mod bytes;
 mod certificate;
+mod display;
 mod items;
 mod limits;
 mod name;

@@ -1,6 +1,7 @@
 //! Bounded fractions: exact arithmetic on numerators and denominators of at most 2^127 - 1.
 #![tactic(auto)]
 
+mod display;
 mod frac;
 mod gcd;
 mod number;

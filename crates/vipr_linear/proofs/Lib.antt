@@ -9,4 +9,5 @@ mod Roundings
 mod Valuing
 mod Searching
 mod Points
+mod Printing
 pub mod Laws

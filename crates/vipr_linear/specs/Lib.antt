@@ -5,3 +5,4 @@ pub mod Touched
 pub mod Rounding
 pub mod Values
 pub mod Split
+pub mod Text

@@ -3,6 +3,7 @@
 
 mod combination;
 mod constraint;
+mod display;
 mod ints;
 mod kept;
 mod rounding;
