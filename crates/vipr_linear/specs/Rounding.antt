@@ -1,7 +1,10 @@
 -- What a sum becomes by rounding
-use Rattle.std.specs.Prelude.{◌≡◌, ℤ}
+use Rattle.std.specs.Prelude.{◌≡◌, ℕ, ℤ, List, Option, IfSome}
+use Rattle.std.specs.FinSet.{from_list}
+use Rattle.std.specs.List.Sorted.{IsStrictlyIncreasing}
 use Rattle.vipr_spec.specs.Fraction.{whole, IsWhole}
-use Rattle.vipr_spec.specs.Constraint.{Condition, equal, RoundsTo, Dominates}
+use Rattle.vipr_spec.specs.Constraint.{Row as Entries, at, Condition, equal, RoundsTo}
+use Rattle.vipr_spec.specs.Constraint.{IsWholeRow, Dominates}
 use Rattle.vipr_linear.specs.Constraint.{sense_of, condition_of}
 use Rattle.vipr_linear.specs.declared.constraint.Constraint.{Constraint}
 use Rattle.vipr_linear.specs.declared.rounding.Rounded.{Rounded}
@@ -17,3 +20,8 @@ IsRounding c Absurd = (sense_of c.sense ≡ equal) × ¬ IsWhole c.rhs
 abbrev pub RoundedDominates : Rounded → Condition → Type 0
 RoundedDominates (Row c) d = Dominates (condition_of c) d
 RoundedDominates Absurd d = Unit {0}
+
+-- variables in rising order, and a row that is whole over them, if there is one
+pub record AreIntegers (indices : List ℕ) (row : Option Entries) : Type 0 where
+  pub rising : IsStrictlyIncreasing indices
+  pub whole : IfSome row (λ r. IsWholeRow (from_list indices) (at r))

@@ -33,4 +33,4 @@ pub record IsFirstRepeated (variables : List ℕ) (v : ℕ) : Type 0 where
 abbrev pub kept_items : Kept → List (ℕ × ℚ)
 kept_items (One item) = item ∷ []
 kept_items (Own items) = items.items
-kept_items (Shared items) = items.value.items
+kept_items (Shared items) = items.items

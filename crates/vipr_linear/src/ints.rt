@@ -2,8 +2,9 @@
 ghost use Rattle.std.specs.Prelude.{◌≡◌, ◌↔◌, IsTrue, IfOk};
 ghost use Rattle.std.specs.FinSet.{from_list};
 ghost use Rattle.std.specs.List.Sorted.{IsStrictlyIncreasing};
-ghost use Rattle.vipr_spec.specs.Constraint.{IsInteger};
+ghost use Rattle.vipr_spec.specs.Constraint.{at, IsInteger, IsWholeRow};
 
+use crate::row::Row;
 use std::alloc::{AllocError, Global};
 use std::marker::Model;
 
@@ -11,13 +12,15 @@ use std::marker::Model;
 #[derive(Debug, Drop)]
 pub struct Ints {
     indices: Vec<u32>,
+    // a row that is known to have whole coefficients at these variables alone
+    whole: Option<Row>,
 }
 
 impl Model for Ints {
     ghost use Rattle.std.specs.Coded.{coded_ℕ};
     ghost use Rattle.std.specs.FinSet.{FinSet, code, from_list};
-    ghost use Rattle.std.specs.List.Sorted.{IsStrictlyIncreasing};
     ghost use Rattle.std.specs.Ordering.{nat_cmp};
+    ghost use Rattle.vipr_linear.specs.Rounding.{AreIntegers};
 
     ghost Value = { FinSet nat_cmp };
 
@@ -25,7 +28,7 @@ impl Model for Ints {
 
     ghost view = { λ a. from_list a.indices.items };
 
-    ghost invariant = { λ a. IsStrictlyIncreasing a.indices.items };
+    ghost invariant = { λ a. AreIntegers a.indices.items a.whole };
 }
 
 impl Ints {
@@ -36,7 +39,10 @@ impl Ints {
         let mut indices = indices;
         indices.sort_unstable();
         indices.dedup();
-        Ok(Ints { indices })
+        Ok(Ints {
+            indices,
+            whole: None,
+        })
     }
 
     /// Whether a variable is one of them.
@@ -52,5 +58,24 @@ impl Ints {
         ensures rising { IsStrictlyIncreasing result.now }
     {
         self.indices.as_slice()
+    }
+
+    /// Keeps a row whose coefficients are whole and at these variables.
+    pub(crate) fn set_whole(&mut self, row: Row)
+        requires { IsWholeRow self.old (at row) }
+        ensures { self.new ≡ self.old }
+    {
+        self.whole = Some(row);
+    }
+
+    /// Whether a row shares its entries with the one that is kept. `true` says that its
+    /// coefficients are whole and at these variables.
+    pub(crate) fn knows(&self, row: &Row) -> bool
+        ensures { IsTrue result → IsWholeRow self.now (at row.now) }
+    {
+        match &self.whole {
+            Some(whole) => whole.is_one(row),
+            None => false,
+        }
     }
 }

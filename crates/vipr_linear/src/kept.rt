@@ -1,18 +1,18 @@
 //! The entries that a row keeps: its own, or those that it shares with its copies.
-ghost use Rattle.std.specs.Prelude.{◌≡◌, IfOk};
+ghost use Rattle.std.specs.Prelude.{◌≡◌, IfOk, IsTrue};
 ghost use Rattle.vipr_linear.specs.Row.{kept_items};
 
 use std::alloc::{AllocError, Global};
-use std::rc::Rc;
 use std::slice;
 use vipr_frac::Frac;
+use vipr_shared::Shared;
 
 /// Variables with their coefficients. One alone takes no memory of its own.
 #[derive(Debug, Drop)]
 pub(crate) enum Kept {
     One((u32, Frac)),
     Own(Vec<(u32, Frac)>),
-    Shared(Rc<Vec<(u32, Frac)>>),
+    Shared(Shared<Vec<(u32, Frac)>>),
 }
 
 impl Kept {
@@ -24,6 +24,16 @@ impl Kept {
             Kept::One(item) => slice::from_ref(item),
             Kept::Own(items) => items.as_slice(),
             Kept::Shared(items) => items.as_ref().as_slice(),
+        }
+    }
+
+    /// Whether both share one list. `true` says that their lists are equal.
+    pub(crate) fn is_one(&self, other: &Kept) -> bool
+        ensures { IsTrue result → kept_items self.now ≡ kept_items other.now }
+    {
+        match (self, other) {
+            (Kept::Shared(items), Kept::Shared(others)) => items.is_one(others),
+            _ => false,
         }
     }
 
@@ -44,7 +54,7 @@ impl Kept {
     {
         match self {
             Kept::One(item) => Ok(Kept::One(item)),
-            Kept::Own(items) => Ok(Kept::Shared(Rc::new(alloc, items)?)),
+            Kept::Own(items) => Ok(Kept::Shared(Shared::new(alloc, items)?)),
             Kept::Shared(items) => Ok(Kept::Shared(items)),
         }
     }

@@ -9,7 +9,25 @@ ghost use Rattle.vipr_linear.specs.Constraint.{sense_of, condition_of};
 use crate::constraint::{Constraint, Sense};
 use crate::ints::Ints;
 use crate::row::Row;
+use std::alloc::AllocError;
 use vipr_frac::Frac;
+
+impl Ints {
+    /// Remembers a row, if all its coefficients are whole and at these variables. That is known at
+    /// once then of each row that shares its entries.
+    ///
+    /// # Errors
+    ///
+    /// If the row can't be cloned.
+    pub fn remember(&mut self, row: &Row) -> Result<(), AllocError>
+        ensures { self.new ≡ self.old }
+    {
+        if is_whole_row(row, self) {
+            self.set_whole(row.clone()?);
+        }
+        Ok(())
+    }
+}
 
 /// What a constraint becomes by rounding its right-hand side: up for at least, down for at most.
 #[derive(Debug, Drop)]
@@ -88,6 +106,9 @@ fn whole(k: i128) -> Frac
 pub fn is_whole_row(row: &Row, ints: &Ints) -> bool
     ensures { IsTrue result ↔ IsWholeRow ints.now (at row.now) }
 {
+    if ints.knows(row) {
+        return true;
+    }
     for (variable, coefficient) in row.entries() {
         if !is_whole_at(ints, *variable, *coefficient) {
             return false;

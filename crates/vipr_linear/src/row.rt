@@ -165,11 +165,19 @@ impl Row {
         ends_below(self.entries(), n)
     }
 
+    /// Whether both share their entries, as a row and its clones do. `true` says that the rows are
+    /// equal.
+    pub(crate) fn is_one(&self, other: &Row) -> bool
+        ensures { IsTrue result → self.now ≡ other.now }
+    {
+        self.kept.is_one(&other.kept)
+    }
+
     /// Whether the coefficients are the same.
     pub fn is_same(&self, other: &Row) -> bool
         ensures { IsTrue result ↔ ((j : ℕ) → at self.now j ≡ at other.now j) }
     {
-        self.entries() == other.entries()
+        self.is_one(other) || self.entries() == other.entries()
     }
 
     /// Whether it has no variable.

@@ -4,7 +4,8 @@ ghost use Rattle.std.specs.Prelude.{IsErrOf, IsSome};
 ghost use Rattle.vipr_spec.specs.Certificate.{Problem as ProblemMeant};
 ghost use Rattle.vipr_spec.specs.Reading.{solution_read, derivations_read, derivation_read};
 ghost use Rattle.vipr_spec.specs.Reading.{end_read};
-ghost use Rattle.vipr_spec.specs.Shape.{SolutionShape, DerivationShape};
+ghost use Rattle.vipr_spec.specs.Shape.{RowFits, SolutionShape, DerivationShape};
+ghost use Rattle.vipr_spec.specs.Shape.{DerivationFits};
 ghost use Rattle.vipr_cert.specs.Items.{solution_of, derivation_of};
 ghost use Rattle.vipr_scan.specs.Giving.{rest_of};
 ghost use Rattle.vipr_read.specs.Items.{Items, Knows, Remembers, HasNone, HasEnded, Moves};
@@ -58,7 +59,8 @@ impl<R: Source> ItemReader<R> {
     fn next<I: Item>(&mut self, alloc: Global, item: &I) -> Result<Option<I::Value>, TextError>
         ensures spent { IsErrOf result TextError.Spent ↔ (self.old.failed ≡ true) }
         ensures moves { Moves HasNone self.old self.new result }
-        ensures shape { IfOk result (λ o. IfSome o (λ x. I.shape self.old.variables (I.view x))) }
+        ensures item { IfOk result (λ o. IfSome o
+            (λ x. I.shape self.old.variables (I.view x) × I.fits (I.view x))) }
         ensures read { (p : ProblemMeant) → Knows self.old p
             → NextItem I.view (I.reading p) (λ _. Ok tt) self.old self.new result }
     {
@@ -145,6 +147,7 @@ impl<R: Source> Solutions<R> {
         ensures moves { Moves HasNone self.old self.new result }
         ensures shape { IfOk result (λ o.
             IfSome o (λ s. SolutionShape self.old.variables (solution_of s))) }
+        ensures fits { IfOk result (λ o. IfSome o (λ s. RowFits (solution_of s).item)) }
         ensures read { (p : ProblemMeant) → Knows self.old p
             → NextItem solution_of (solution_read p) (λ _. Ok tt) self.old self.new result }
     {
@@ -219,6 +222,7 @@ impl<R: Source> Derivations<R> {
         ensures moves { Moves HasEnded self.old self.new result }
         ensures shape { IfOk result (λ o.
             IfSome o (λ d. DerivationShape self.old.variables (derivation_of d))) }
+        ensures fits { IfOk result (λ o. IfSome o (λ d. DerivationFits (derivation_of d))) }
         ensures read { (p : ProblemMeant) → Knows self.old p
             → NextItem derivation_of (derivation_read p) end_read self.old self.new result }
     {

@@ -1,9 +1,9 @@
 -- A text item by item: what is found in what is left, once so much was read and kept
 use Rattle.std.proofs.Common.{◌≡◌, ◌≢◌, ℕ, zero, suc, ◌+◌, ◌<◌, ◌≤◌, ◌^◌, true, false, List, [], ◌∷◌, ◌++◌, length, None, Result, Ok, Err, inl, inr, arith, refl, sym, ◌∙◌, ap, subst, append-nil, append_assoc, length-append}
-use Rattle.std.specs.Prelude.{◌⊎◌, IsSome, IfOk, IfErr, IsErrAnd, MatchResult, All, Option, Some}
+use Rattle.std.specs.Prelude.{◌⊎◌, IsSome, IfOk, IfErr, IsErrAnd, All, Option, Some}
 use Rattle.vipr_spec.specs.Input.{Input}
 use Rattle.vipr_bytes.specs.Known.{text_of, IfKnown}
-use Rattle.vipr_spec.specs.Shape.{ProblemShape, SolutionShape, DerivationShape, CertificateShape}
+use Rattle.vipr_spec.specs.Shape.{RowFits, SolutionShape, DerivationShape, DerivationFits, CanWriteProblem, CanWrite}
 use Rattle.vipr_check.specs.View.{report_of}
 use Rattle.vipr_scan.specs.Giving.{rest_of}
 use Rattle.vipr_scan.specs.Faults.{Fails}
@@ -297,14 +297,17 @@ among_start P p k r under same has phase runs knows unspent room = record { prof
 pub few_listed : (P : Profile) (p : Problem) (ss : List (Named Row)) (r s : Items) (k : State) → KeepsListed P p r ss k s → s.left ≡ 0 → length ss ≤ most_count
 few_listed P p ss r s k listed all_read = let room = listed.is_among.room in omega arith
 
-pub whole_shape : (P : Profile) (p : Problem) (ss : List (Named Row)) (ds : List Derivation) (l : State) → ProblemShape p → length ss ≤ most_count → (t : Items) → All (SolutionShape t.variables) ss → Knows t p
-    → KeepsWhole P (start p ss) t (with_more (start p ss) ds) l → All (DerivationShape t.variables) ds → CertificateShape (with_more (start p ss) ds)
-whole_shape P p ss ds l problem few t solutions knows whole derivations = record {
-  problem = problem;
-  few_solutions = few;
-  solutions = subst (λ n. All (SolutionShape n) ss) knows.variables solutions;
-  few_derivations = (let few = whole.few in omega arith);
-  derivations = subst (λ n. All (DerivationShape n) ds) knows.variables derivations;
+pub whole_writes : (P : Profile) (p : Problem) (ss : List (Named Row)) (ds : List Derivation) (l : State) → CanWriteProblem p → length ss ≤ most_count → (t : Items) → All (SolutionShape t.variables) ss × All (λ (s : Named Row). RowFits s.item) ss
+    → Knows t p → KeepsWhole P (start p ss) t (with_more (start p ss) ds) l → All (DerivationShape t.variables) ds × All DerivationFits ds → CanWrite (with_more (start p ss) ds)
+whole_writes P p ss ds l problem few t solutions knows whole derivations = record {
+  shape = record {
+    problem = problem.shape;
+    few_solutions = few;
+    solutions = subst (λ n. All (SolutionShape n) ss) knows.variables solutions.0;
+    few_derivations = (let few = whole.few in omega arith);
+    derivations = subst (λ n. All (DerivationShape n) ds) knows.variables derivations.0;
+  };
+  fits = record { problem = problem.fits; solutions = solutions.1; derivations = derivations.1 };
 }
 
 module _ (P : Profile) (s : Certificate) (u : Items) (c : Certificate) (m n : State) (whole : KeepsWhole P s u c m) (known : IsSome u.rest) where
@@ -328,24 +331,9 @@ pub err_given : {T : Type 0} (Q : Unproved → Type 0) (x : Result T Unproved) (
 err_given Q (Ok x) e h t = absurd h
 err_given Q (Err y) e h t = subst Q (sym h) t
 
--- a proof that is put together of what was read
 pub ok_on : {T E : Type 0} (F G : T → Type 0) (x : Result T E) → ((t : T) → F t → G t) → IfOk x F → IfOk x G
 ok_on F G (Ok t) h y = h t y
 ok_on F G (Err e) h y = tt
-
-pub err_on : {T E : Type 0} (F G : E → Type 0) (x : Result T E) → ((e : E) → F e → G e) → IfErr x F → IfErr x G
-err_on F G (Ok t) h y = tt
-err_on F G (Err e) h y = h e y
-
-pub made_kept : {T : Type 0} (x : Result T Unproved) (y : Result (Certificate × Report) Unproved) (view : T → Certificate) (report : T → Report) (F : Certificate → Report → Type 0)
-    → MatchResult x (λ t. y ≡ Ok (view t, report t)) (λ e. y ≡ Err e) → IfOk x (λ t. F (view t) (report t)) → IfOk y (λ z. F z.0 z.1)
-made_kept (Ok t) y view report F is h = subst (λ y. IfOk y (λ z. F z.0 z.1)) (sym is) h
-made_kept (Err e) y view report F is h = subst (λ y. IfOk y (λ z. F z.0 z.1)) (sym is) tt
-
-pub made_unproved : {T : Type 0} (x : Result T Unproved) (y : Result (Certificate × Report) Unproved) (view : T → Certificate) (report : T → Report) (Q : Unproved → Type 0)
-    → MatchResult x (λ t. y ≡ Ok (view t, report t)) (λ e. y ≡ Err e) → IfErr x Q → IfErr y Q
-made_unproved (Ok t) y view report Q is h = subst (λ y. IfErr y Q) (sym is) tt
-made_unproved (Err e) y view report Q is h = subst (λ y. IfErr y Q) (sym is) h
 
 -- the end of the solutions
 module _ (P : Profile) (p : Problem) (r : Items) (ss : List (Named Row)) (k : State) (s : Items) (listed : KeepsListed P p r ss k s) (all_read : s.left ≡ 0) (known : IsSome r.rest) where
@@ -379,14 +367,14 @@ module _ (P : Profile) (p : Problem) (r : Items) (ss : List (Named Row)) (k : St
       pub later_tells : (e : Unproved) → (IsSome u.rest → TellsWhy P (derivations_left (start p ss) u) e) → IsSome r.rest → TellsWhy P (solutions_left p [] r) e
       later_tells e h known = tells_by P (solutions_left p [] r) (derivations_left (start p ss) u) (to_derivations known) e (h (read (met.listed.known known)).1)
 
-      pub proof_kept : (ds : List Derivation) (report : Report) (l : State) → Knows r p → All (SolutionShape r.variables) ss → All (DerivationShape u.variables) ds
+      pub proof_kept : (ds : List Derivation) (report : Report) (l : State) → Knows r p → All (SolutionShape r.variables) ss × All (λ (s : Named Row). RowFits s.item) ss → All (DerivationShape u.variables) ds × All DerivationFits ds
           → KeepsFinished P (start p ss) u (with_more (start p ss) ds) report l
-          → (l.progress.problem ≡ p) × (ProblemShape p → CertificateShape (with_more (start p ss) ds)) × KeepsProof P p r (with_more (start p ss) ds) report
+          → (l.progress.problem ≡ p) × (CanWriteProblem p → CanWrite (with_more (start p ss) ds)) × KeepsProof P p r (with_more (start p ss) ds) report
       proof_kept ds report l knows solutions derivations h =
           let c = with_more (start p ss) ds in
           let same : u.variables ≡ r.variables = knows_then.variables ∙ sym knows.variables in (
             ap (λ (v : State). v.progress.problem) h.done.3 ∙ sym h.whole.has.problem,
-            (λ problem. whole_shape P p ss ds h.before problem (few_listed P p ss r s met.before met.listed all_read) u (subst (λ n. All (SolutionShape n) ss) (sym same) solutions) knows_then h.whole derivations),
+            (λ problem. whole_writes P p ss ds h.before problem (few_listed P p ss r s met.before met.listed all_read) u (subst (λ n. All (SolutionShape n) ss) (sym same) solutions.0, solutions.1) knows_then h.whole derivations),
             record {
               proof = subst (λ Q. IsProof Q c) h.whole.profile h.done.0;
               reports = subst (λ Q. Reports Q c (report_of report)) h.whole.profile h.done.1;

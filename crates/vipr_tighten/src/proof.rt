@@ -1,18 +1,18 @@
 //! Reads a certificate: each item is checked before the next one is read, and kept.
 
 ghost use Rattle.std.specs.Prelude.{◌≡◌, ◌≢◌, ◌<◌, ◌^◌, false, List, [], All, map, IfOk, IfErr};
-ghost use Rattle.std.specs.Prelude.{IsSome, MatchResult, Ok, Err};
+ghost use Rattle.std.specs.Prelude.{IsSome, Ok, Err};
 ghost use Rattle.vipr_spec.specs.Constraint.{Profile as ProfileMeant, Row};
 ghost use Rattle.vipr_spec.specs.Certificate.{Named as NamedMeant, Problem as ProblemMeant};
 ghost use Rattle.vipr_spec.specs.Certificate.{IsProof};
 ghost use Rattle.vipr_spec.specs.Checking.{start};
-ghost use Rattle.vipr_spec.specs.Shape.{ProblemShape, SolutionShape, DerivationShape};
-ghost use Rattle.vipr_spec.specs.Shape.{CertificateShape};
+ghost use Rattle.vipr_spec.specs.Shape.{RowFits, SolutionShape, DerivationShape, DerivationFits};
+ghost use Rattle.vipr_spec.specs.Shape.{CanWriteProblem, CanWrite};
 ghost use Rattle.vipr_spec.specs.Soundness.{IsShown};
 ghost use Rattle.vipr_spec.specs.Steps.{with_more};
 ghost use Rattle.vipr_spec.specs.Verdict.{Reports, found_in};
 ghost use Rattle.vipr_bytes.specs.Known.{text_of, IfKnown};
-ghost use Rattle.vipr_cert.specs.Items.{solution_of, derivation_of, certificate_with};
+ghost use Rattle.vipr_cert.specs.Items.{solution_of, derivation_of};
 ghost use Rattle.vipr_read.specs.Items.{Knows};
 ghost use Rattle.vipr_scan.specs.declared.error.TextError.TheVariants as text_error;
 ghost use Rattle.vipr_rules.specs.Profile.{profile_of};
@@ -25,7 +25,7 @@ ghost use Rattle.vipr_tighten.specs.Keeping.{text_reason};
 
 use std::alloc::{AllocError, AllocFailed, Global};
 use vipr_bytes::Source;
-use vipr_cert::{BadShape, Certificate, Derivation, Named, Problem};
+use vipr_cert::{Certificate, Derivation, Named, Problem};
 use vipr_check::{Checker, Place, Refusal, Report, Stop};
 use vipr_linear::Solution;
 use vipr_rules::{LiveOnly, Profile};
@@ -94,7 +94,7 @@ fn read_rest<R: Source + Drop>(
     problem: Problem,
     solutions: Solutions<R>,
 ) -> Result<(Certificate, Report), Unproved>
-    requires shape { ProblemShape problem }
+    requires writes { CanWriteProblem problem }
     requires knows { Knows solutions problem }
     requires working { solutions.failed ≡ false }
     requires counted { solutions.left < 2 ^ 32 }
@@ -104,26 +104,9 @@ fn read_rest<R: Source + Drop>(
         → TellsWhy (profile_of profile) (solutions_left problem [] solutions) e) }
 {
     let mut checker: Checker<LiveOnly> = Checker::new_in(alloc, profile, problem)?;
-    let read = read_items(alloc, &mut checker, solutions);
-    proof_of(checker.into_problem(), read)
-}
-
-// The proof of a problem, of the solutions and derivations that were read, with its report.
-fn proof_of(
-    problem: Problem,
-    read: Result<(Vec<Named<Solution>>, Vec<Derivation>, Report), Unproved>,
-) -> Result<(Certificate, Report), Unproved>
-    requires { IfOk read
-        (λ x. CertificateShape (certificate_with problem x.0.items x.1.items)) }
-    ensures { MatchResult read
-        (λ x. result ≡ Ok (certificate_with problem x.0.items x.1.items, x.2))
-        (λ e. result ≡ Err e) }
-{
-    let (listed, derived, report) = read?;
-    match Certificate::new(problem, listed, derived) {
-        Ok(certificate) => Ok((certificate, report)),
-        Err(BadShape) => unreachable!(),
-    }
+    let (listed, derived, report) = read_items(alloc, &mut checker, solutions)?;
+    let certificate = Certificate::of_parts(checker.into_problem(), listed, derived);
+    Ok((certificate, report))
 }
 
 // The solutions and the derivations that follow, up to the end of the text, and the report of the
@@ -136,7 +119,7 @@ fn read_items<R: Source + Drop>(
     requires { (P : ProfileMeant) × (p : ProblemMeant) × IsAmong P p [] checker.old solutions }
     ensures kept { IfOk result (λ x. (P : ProfileMeant) (p : ProblemMeant)
         → IsAmong P p [] checker.old solutions
-        → (checker.new.progress.problem ≡ p) × (ProblemShape p → CertificateShape
+        → (checker.new.progress.problem ≡ p) × (CanWriteProblem p → CanWrite
         (with_more (start p (map solution_of x.0.items)) (map derivation_of x.1.items)))
         × KeepsProof P p solutions (with_more (start p (map solution_of x.0.items))
         (map derivation_of x.1.items)) x.2) }
@@ -162,8 +145,9 @@ fn read_listed<R: Source>(
     requires { (P : ProfileMeant) × (p : ProblemMeant)
         × IsAmong P p [] checker.old solutions.old }
     ensures none { IfOk result (λ ss. solutions.new.left ≡ 0) }
-    ensures shape { IfOk result (λ ss.
-        All (SolutionShape solutions.old.variables) (map solution_of ss.items)) }
+    ensures items { IfOk result (λ ss.
+        All (SolutionShape solutions.old.variables) (map solution_of ss.items)
+        × All (λ s. RowFits s.item) (map solution_of ss.items)) }
     ensures kept { IfOk result (λ ss. (P : ProfileMeant) (p : ProblemMeant)
         → IsAmong P p [] checker.old solutions.old
         → KeepsMet P p solutions.old (map solution_of ss.items) checker.new solutions.new) }
@@ -186,8 +170,9 @@ fn read_derived<R: Source>(
 ) -> Result<(Vec<Derivation>, Report), Unproved>
     requires { (P : ProfileMeant) × (p : ProblemMeant) × (ss : List (NamedMeant Row))
         × IsAt P (start p ss) checker.old derivations.old }
-    ensures shape { IfOk result (λ x.
-        All (DerivationShape derivations.old.variables) (map derivation_of x.0.items)) }
+    ensures items { IfOk result (λ x.
+        All (DerivationShape derivations.old.variables) (map derivation_of x.0.items)
+        × All DerivationFits (map derivation_of x.0.items)) }
     ensures kept { IfOk result
         (λ x. (P : ProfileMeant) (p : ProblemMeant) (ss : List (NamedMeant Row))
         → IsAt P (start p ss) checker.old derivations.old
@@ -214,8 +199,9 @@ fn read_solutions<R: Source>(
     requires { (P : ProfileMeant) × (p : ProblemMeant)
         × IsAmong P p [] checker.old solutions.old }
     ensures none { IfOk result (λ ss. solutions.new.left ≡ 0) }
-    ensures shape { IfOk result (λ ss.
-        All (SolutionShape solutions.old.variables) (map solution_of ss.items)) }
+    ensures items { IfOk result (λ ss.
+        All (SolutionShape solutions.old.variables) (map solution_of ss.items)
+        × All (λ s. RowFits s.item) (map solution_of ss.items)) }
     ensures kept { IfOk result (λ ss. (P : ProfileMeant) (p : ProblemMeant)
         → IsAmong P p [] checker.old solutions.old
         → KeepsListed P p solutions.old (map solution_of ss.items) checker.new solutions.new) }
@@ -246,8 +232,9 @@ fn read_derivations<R: Source>(
 ) -> Result<Vec<Derivation>, Unproved>
     requires { (P : ProfileMeant) × (p : ProblemMeant) × (ss : List (NamedMeant Row))
         × IsAt P (start p ss) checker.old derivations.old }
-    ensures shape { IfOk result (λ ds.
-        All (DerivationShape derivations.old.variables) (map derivation_of ds.items)) }
+    ensures items { IfOk result (λ ds.
+        All (DerivationShape derivations.old.variables) (map derivation_of ds.items)
+        × All DerivationFits (map derivation_of ds.items)) }
     ensures kept { IfOk result
         (λ ds. (P : ProfileMeant) (p : ProblemMeant) (ss : List (NamedMeant Row))
         → IsAt P (start p ss) checker.old derivations.old

@@ -4,7 +4,7 @@ use Rattle.std.proofs.lemmas.List.Elements.{All-push, All-nil}
 use Rattle.vipr_spec.specs.Constraint.{at}
 use Rattle.vipr_spec.specs.Checking.{start}
 use Rattle.vipr_spec.specs.Steps.{with_more}
-use Rattle.vipr_spec.specs.Shape.{DerivationShape}
+use Rattle.vipr_spec.specs.Shape.{DerivationShape, DerivationFits}
 use Rattle.vipr_cert.specs.Items.{derivation_of}
 use Rattle.vipr_tighten.specs.Keeping.{TellsWhy, derivations_left}
 use Rattle.vipr_tighten.proofs.Reading.{derived_first, step_taken, step_stops, step_unspent, step_unread, at_end, room_for, names_for}
@@ -12,7 +12,7 @@ use Rattle.vipr_tighten.proofs.proof.read_derivations.Goals as goal
 
 pub steps-init : goal.steps-init
 steps-init g c =
-    rw c.new-derived.ensures.items (record { kept = λ P p ss is. derived_first P (start p ss) c.args.checker.now c.args.derivations.now is; shape = All-nil (DerivationShape c.args.derivations.now.variables); variables = refl })
+    rw c.new-derived.ensures.items (record { kept = λ P p ss is. derived_first P (start p ss) c.args.checker.now c.args.derivations.now is; items = (All-nil (DerivationShape c.args.derivations.now.variables), All-nil DerivationFits); variables = refl })
 
 pub derivation-requires-clause-phase : goal.derivation-requires-clause-phase
 derivation-requires-clause-phase g c = let (P, p, ss, is) = c.requires in (c.steps.invariant.kept P p ss is).is_at.phase
@@ -67,7 +67,10 @@ steps-preserved g c =
           let now = with_more (start p ss) ds in
           step_taken P (start p ss) now c.steps.checker c.derivation.new.self first old kept c.next.new.self (derivation_of x) h.moves.counted h.moves.remembers h.moves.working
           (λ t. let r = h.read p kept.is_at.knows t in (r.1, r.2)) (c.in_default.ensures.next now kept.is_at.runs kept.is_at.has);
-      shape = All-push (DerivationShape first.variables) ds (derivation_of x) c.steps.invariant.shape (subst (λ n. DerivationShape n (derivation_of x)) c.steps.invariant.variables h.shape);
+      items = (
+        All-push (DerivationShape first.variables) ds (derivation_of x) c.steps.invariant.items.0 (subst (λ n. DerivationShape n (derivation_of x)) c.steps.invariant.variables h.shape),
+        All-push DerivationFits ds (derivation_of x) c.steps.invariant.items.1 h.fits,
+      );
       variables = h.moves.remembers.variables ∙ c.steps.invariant.variables;
     })
 

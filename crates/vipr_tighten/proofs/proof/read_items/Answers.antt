@@ -62,4 +62,4 @@ returns-clause-kept g c = λ P p is.
     let met = c.in_ok-listed.ensures.kept P p is in
     let at = at_then P p r ss k s met c.in_ok-listed.ensures.none u f.remembers f.working f.counted in
     proof_kept P p r ss k s met c.in_ok-listed.ensures.none u f.remembers f.working f.counted (f.read p met.listed.is_among.knows)
-    (map derivation_of c.in_ok-derived.derived.items) c.in_ok-derived.report c.read_derived.new.checker is.knows c.in_ok-listed.ensures.shape c.in_ok-derived.ensures.shape (c.in_ok-derived.ensures.kept P p ss at)
+    (map derivation_of c.in_ok-derived.derived.items) c.in_ok-derived.report c.read_derived.new.checker is.knows c.in_ok-listed.ensures.items c.in_ok-derived.ensures.items (c.in_ok-derived.ensures.kept P p ss at)

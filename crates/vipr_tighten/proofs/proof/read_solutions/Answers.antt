@@ -1,7 +1,9 @@
 use Rattle.std.proofs.Common.{[], map, refl, sym, ◌∙◌, subst}
 use Rattle.std.proofs.lemmas.List.{map_push}
 use Rattle.std.proofs.lemmas.List.Elements.{All-push, All-nil}
-use Rattle.vipr_spec.specs.Shape.{SolutionShape}
+use Rattle.vipr_spec.specs.Shape.{RowFits, SolutionShape}
+use Rattle.vipr_spec.specs.Constraint.{Row}
+use Rattle.vipr_spec.specs.Certificate.{Named}
 use Rattle.vipr_cert.specs.Items.{solution_of}
 use Rattle.vipr_tighten.specs.Keeping.{TellsWhy, KeepsListed, solutions_left}
 use Rattle.vipr_tighten.proofs.Reading.{listed_first, solution_taken, solution_stops, solution_unread}
@@ -9,7 +11,7 @@ use Rattle.vipr_tighten.proofs.proof.read_solutions.Goals as goal
 
 pub solutions-init : goal.solutions-init
 solutions-init g c =
-    rw c.new-listed.ensures.items (record { kept = λ P p is. listed_first P p c.args.checker.now c.args.solutions.now is; shape = All-nil (SolutionShape c.args.solutions.now.variables); variables = refl })
+    rw c.new-listed.ensures.items (record { kept = λ P p is. listed_first P p c.args.checker.now c.args.solutions.now is; items = (All-nil (SolutionShape c.args.solutions.now.variables), All-nil (λ (s : Named Row). RowFits s.item)); variables = refl })
 
 pub returns-in-Err-solution-clause-unproved : goal.returns-in-Err-solution-clause-unproved
 returns-in-Err-solution-clause-unproved g c = λ P p is known.
@@ -34,7 +36,10 @@ solutions-preserved g c =
           let kept = c.solutions.invariant.kept P p is in
           solution_taken P p ss c.solutions.checker c.solution.new.self first old kept c.next.new.self (solution_of x) h.moves.counted h.moves.remembers h.moves.working
           (λ t. let r = h.read p kept.is_among.knows t in (r.1, r.2)) (c.in_default.ensures.next ss kept.is_among.runs kept.is_among.has);
-      shape = All-push (SolutionShape first.variables) ss (solution_of x) c.solutions.invariant.shape (subst (λ n. SolutionShape n (solution_of x)) c.solutions.invariant.variables h.shape);
+      items = (
+        All-push (SolutionShape first.variables) ss (solution_of x) c.solutions.invariant.items.0 (subst (λ n. SolutionShape n (solution_of x)) c.solutions.invariant.variables h.shape),
+        All-push (λ (s : Named Row). RowFits s.item) ss (solution_of x) c.solutions.invariant.items.1 h.fits,
+      );
       variables = h.moves.remembers.variables ∙ c.solutions.invariant.variables;
     })
 

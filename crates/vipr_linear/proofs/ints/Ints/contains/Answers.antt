@@ -6,6 +6,6 @@ use Rattle.vipr_linear.proofs.ints.Ints.contains.Goals as goal
 pub returns : goal.returns
 returns c =
     let e = c.is_ok.ensures.value
-    ∙ found c.self.inside.indices.items c.args.variable _ c.self.invariant (rw c.deref.ensures.value at c.binary_search.ensures.position)
+    ∙ found c.self.inside.indices.items c.args.variable _ c.self.invariant.rising (rw c.deref.ensures.value at c.binary_search.ensures.position)
     ∙ ap (λ s. contains s c.args.variable) c.self.view_is in
     (λ t. sym e ∙ t, λ t. e ∙ t)
