@@ -19,8 +19,8 @@ returns-in_err-listed-clause-unproved g c =
     let among = among_start P c.args.problem c.in_ok-checker.checker c.args.solutions e.profile e.problem e.start e.phase e.runs c.requires.knows c.requires.working c.requires.counted in
     err_given _ c.from_residual-in_err-listed.result c.in_err-listed.field-0.0 c.from_residual-in_err-listed.ensures.1 (c.in_err-listed.ensures.unproved P c.args.problem among)
 
-pub of_parts-requires : goal.of_parts-requires
-of_parts-requires g c =
+pub of_parts-certificate-requires : goal.of_parts-certificate-requires
+of_parts-certificate-requires g c =
     let P = profile_of c.args.profile in
     let e = c.in_ok-checker.ensures in
     let among = among_start P c.args.problem c.in_ok-checker.checker c.args.solutions e.profile e.problem e.start e.phase e.runs c.requires.knows c.requires.working c.requires.counted in
@@ -34,5 +34,5 @@ returns-clause-kept g c =
     let among = among_start P c.args.problem c.in_ok-checker.checker c.args.solutions e.profile e.problem e.start e.phase e.runs c.requires.knows c.requires.working c.requires.counted in
     let kept = c.in_ok-listed.ensures.kept P c.args.problem among in
     let report = c.in_ok-listed.report in
-    subst (λ d. KeepsProof P c.args.problem c.args.solutions d report) (sym c.of_parts.ensures.parts)
+    subst (λ d. KeepsProof P c.args.problem c.args.solutions d report) (sym c.of_parts-certificate.ensures.parts)
     (subst (λ q. KeepsProof P c.args.problem c.args.solutions (certificate_with q c.in_ok-listed.listed.items c.in_ok-listed.derived.items) report) (sym (c.into_problem.ensures ∙ kept.0)) kept.2)
