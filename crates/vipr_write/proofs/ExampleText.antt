@@ -1,4 +1,4 @@
--- The canonical text of the example
+-- The texts of the example
 use Rattle.std.proofs.Common.{◌≡◌, [], ◌∷◌, pos, negsuc}
 use Rattle.std.specs.Ordering.{nat_cmp}
 use Rattle.std.specs.Fmt.{digits}
@@ -7,7 +7,8 @@ use Rattle.std.specs.FinSet.{contains-from_list_nat}
 use Rattle.vipr_spec.specs.Gcd.{gcd}
 use Rattle.vipr_spec.specs.Fraction.{over, whole}
 use Rattle.vipr_write.specs.Canonical.{canonical_text}
-use Rattle.vipr_write.specs.Example.{nothing, second, two_terms, sample, sample_text}
+use Rattle.vipr_write.specs.Forms.{compact_text}
+use Rattle.vipr_write.specs.Example.{nothing, second, two_terms, sample, sample_text, sample_compact}
 
 no_entries : entries nothing ≡ []
 unfolding nothing
@@ -24,3 +25,7 @@ two_entries = entries-from_sorted nat_cmp ((0, over (pos 2) 4) ∷ (1, whole (ne
 pub example_is : canonical_text sample ≡ sample_text
 unfolding over gcd digits
 example_is = simp (no_entries, one_entry, two_entries, contains-from_list_nat)
+
+pub compact_is : compact_text sample ≡ sample_compact
+unfolding over gcd digits
+compact_is = simp (no_entries, one_entry, two_entries, contains-from_list_nat)

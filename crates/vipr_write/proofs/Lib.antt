@@ -7,6 +7,7 @@ mod Parts
 mod Handing
 mod LineTokens
 mod WordTokens
+mod SameRows
 mod RowEntries
 mod SectionTokens
 mod WholeText

@@ -5,10 +5,13 @@ use Rattle.std.specs.List.{flat_map}
 use Rattle.std.proofs.lemmas.List.{append-nil, length-map}
 use Rattle.std.proofs.lemmas.List.Folds.{flat_map-map}
 use Rattle.std.proofs.lemmas.Grind.{flat_map-append}
+use Rattle.vipr_spec.specs.Constraint.{Row}
 use Rattle.vipr_spec.specs.Certificate.{Problem, integer_variables, Derivation, Certificate}
 use Rattle.vipr_spec.specs.Number.{number_text}
-use Rattle.vipr_write.specs.Canonical.{sense_word, constraint_words, reason_words, last_word, derivation_words, direction_word, vector_words, given_words, claim_words, variables_lines, problem_lines, solutions_lines, derivations_lines, certificate_lines, spaced, heading, line_text, lines_text}
-use Rattle.vipr_write.specs.Lines.{words_text, integers_lines, constraints_heading, constraints_lines}
+use Rattle.vipr_write.specs.Canonical.{sense_word, constraint_words, reason_words, last_word, derivation_words, direction_word, vector_words, given_words, claim_words, variables_lines, problem_lines, solutions_lines, spaced, heading, line_text, lines_text}
+use Rattle.vipr_write.specs.Forms.{row_words, constraint_words_in, derivation_words_in, given_words_in, problem_lines_in, derivations_lines_in, certificate_lines_in}
+use Rattle.vipr_write.specs.Lines.{words_text, integers_lines, constraints_heading, constraints_lines, constraints_lines_in}
+use Rattle.vipr_write.specs.declared.form.Form.{Form}
 
 spaced-append : (ws us : List (List ℕ)) → spaced (ws ++ us) ≡ spaced ws ++ spaced us
 spaced-append ws us = flat_map-append (λ w. 32 ∷ w) ws us
@@ -25,6 +28,11 @@ line_parts start name front back last ws us =
 pub derivation_parts : (start : List ℕ) (d : Derivation) →
     start ++ line_text (derivation_words d) ≡ (((((start ++ words_text (constraint_words d.name d.stated)) ++ codes " {") ++ spaced (reason_words d.reason)) ++ codes " }") ++ 32 ∷ last_word d.last) ++ codes "\n"
 derivation_parts start d = line_parts start d.name (codes "{") (codes "}") (last_word d.last) (sense_word d.stated.sense ∷ number_text d.stated.bound ∷ vector_words d.stated.row) (reason_words d.reason)
+
+-- the same in a form
+pub derivation_parts_in : (form : Form) (objective : Row) (start : List ℕ) (d : Derivation) →
+    start ++ line_text (derivation_words_in form objective d) ≡ (((((start ++ words_text (constraint_words_in form objective d.name d.stated)) ++ codes " {") ++ spaced (reason_words d.reason)) ++ codes " }") ++ 32 ∷ last_word d.last) ++ codes "\n"
+derivation_parts_in form objective start d = line_parts start d.name (codes "{") (codes "}") (last_word d.last) (sense_word d.stated.sense ∷ number_text d.stated.bound ∷ row_words form objective d.stated.row) (reason_words d.reason)
 
 section_parts : (start : List ℕ) (front cons : List (List (List ℕ))) (direction vector con claim : List (List ℕ)) →
     start ++ lines_text (front ++ direction ∷ vector ∷ con ∷ (cons ++ claim ∷ [])) ≡ ((((start ++ lines_text front) ++ line_text direction) ++ line_text vector) ++ lines_text (con ∷ cons)) ++ line_text claim
@@ -44,11 +52,16 @@ pub problem_parts : (start : List ℕ) (p : Problem) →
     ((((start ++ lines_text (variables_lines p)) ++ line_text (codes "OBJ" ∷ direction_word p.direction ∷ [])) ++ line_text (vector_words p.objective)) ++ lines_text (constraints_lines p.constraints p.bound_count)) ++ line_text (claim_words p.claim)
 problem_parts start p = section_parts start (variables_lines p) (map given_words p.constraints) (codes "OBJ" ∷ direction_word p.direction ∷ []) (vector_words p.objective) (constraints_heading p.bound_count (length p.constraints)) (claim_words p.claim)
 
+pub problem_parts_in : (form : Form) (start : List ℕ) (p : Problem) →
+    start ++ lines_text (problem_lines_in form p) ≡
+    ((((start ++ lines_text (variables_lines p)) ++ line_text (codes "OBJ" ∷ direction_word p.direction ∷ [])) ++ line_text (vector_words p.objective)) ++ lines_text (constraints_lines_in form p.objective p.constraints p.bound_count)) ++ line_text (claim_words p.claim)
+problem_parts_in form start p = section_parts start (variables_lines p) (map (given_words_in form p.objective) p.constraints) (codes "OBJ" ∷ direction_word p.direction ∷ []) (vector_words p.objective) (constraints_heading p.bound_count (length p.constraints)) (claim_words p.claim)
+
 three_parts : (ls ms ns : List (List (List ℕ))) → lines_text (ls ++ (ms ++ ns)) ≡ (lines_text ls ++ lines_text ms) ++ lines_text ns
 three_parts ls ms ns = lines_text-append ls (ms ++ ns) ∙ ap (λ t. lines_text ls ++ t) (lines_text-append ms ns) ∙ sym (append_assoc (lines_text ls) (lines_text ms) (lines_text ns))
 
-pub certificate_parts : (c : Certificate) → lines_text (certificate_lines c) ≡ (lines_text (problem_lines c.problem) ++ lines_text (solutions_lines c.solutions)) ++ lines_text (derivations_lines c.derivations)
-certificate_parts c = three_parts (problem_lines c.problem) (solutions_lines c.solutions) (derivations_lines c.derivations)
+pub certificate_parts : (form : Form) (c : Certificate) → lines_text (certificate_lines_in form c) ≡ (lines_text (problem_lines_in form c.problem) ++ lines_text (solutions_lines c.solutions)) ++ lines_text (derivations_lines_in form c.problem.objective c.derivations)
+certificate_parts form c = three_parts (problem_lines_in form c.problem) (solutions_lines c.solutions) (derivations_lines_in form c.problem.objective c.derivations)
 
 -- a heading that says how many items there are, and a line for each of them
 pub headed : {X Y : Type 0} (start : List ℕ) (heading : ℕ → List (List ℕ)) (words : Y → List (List ℕ)) (view : X → Y) (xs : List X) →

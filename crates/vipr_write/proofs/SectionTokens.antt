@@ -1,5 +1,5 @@
 -- The words of each part of a certificate are tokens, and spell the part
-use Rattle.std.proofs.Common.{◌≡◌, ℕ, ◌+◌, ◌<◌, ◌≤◌, inl, List, [], ◌∷◌, ◌++◌, length, All, Option, Some, None, IfSome, codes, arith, refl, sym, subst, append_assoc, append-nil}
+use Rattle.std.proofs.Common.{◌≡◌, ℕ, ◌+◌, ◌<◌, ◌≤◌, inl, inr, Bool, true, false, if◌then◌else◌, List, [], ◌∷◌, ◌++◌, length, All, Option, Some, None, IfSome, codes, arith, refl, sym, subst, append_assoc, append-nil}
 use Rattle.std.specs.List.{flat_map}
 use Rattle.std.specs.Fmt.{decimal}
 use Rattle.std.specs.FinMap.{entries}
@@ -14,7 +14,11 @@ use Rattle.vipr_spec.specs.Shape.{ConstraintShape, ProblemShape, SolutionShape, 
 use Rattle.vipr_spec.specs.Grammar as grammar
 use Rattle.vipr_spec.specs.Grammar.{SpellsCount, SpellsVariable, SpellsSense, SpellsDirection, SpellsBound, SpellsLast, word, one, ◌then◌, each}
 use Rattle.vipr_spec.proofs.Laws.{text_spelled}
-use Rattle.vipr_write.specs.Canonical.{pair_words, vector_words, sense_word, direction_word, bound_word, last_word, constraint_words, given_words, claim_words, solution_words, reason_words, derivation_words, problem_lines, solutions_lines, derivations_lines}
+use Rattle.vipr_write.specs.Canonical.{pair_words, vector_words, sense_word, direction_word, bound_word, last_word, claim_words, solution_words, reason_words, solutions_lines}
+use Rattle.vipr_write.specs.Forms.{is_objective, row_words, constraint_words_in, given_words_in, derivation_words_in, problem_lines_in, derivations_lines_in}
+use Rattle.vipr_write.specs.declared.form.Form.{Form}
+use Rattle.vipr_write.specs.declared.form.Form.TheVariants.{Canonical, Compact}
+use Rattle.vipr_write.proofs.SameRows.{objective_is}
 use Rattle.vipr_write.proofs.LineTokens.{words_of}
 use Rattle.vipr_write.proofs.RowEntries.{row_entries, set_members}
 use Rattle.vipr_write.proofs.WordTokens.{Written, plain_token, decimal_token, decimal_natural, number_token, word_written, fixed_written, one_written, then_written, each_written, count_written, variable_written, number_written}
@@ -76,10 +80,20 @@ module _ (n : ℕ) (few : n ≤ most_count) where
       then_written (count_written (length (entries row)) count) (each_written (grammar.pair n) pair_words (entries row) (λ k d h. pair_written _ (es.below k d h) (fits k d h).1)) in
       record { tokens = body.tokens; shape = (entries row, es.distinct, es.again, body.shape) }
 
-  pub constraint_written : (objective : Row) (name : Name) (c : Constraint) → IsToken name → NamesBelow n (at c.row) → ConstraintFits c → Written (grammar.constraint n objective name c) (constraint_words name c)
-  constraint_written objective name c token names fits =
-      let v = vector_written c.row names fits.0 in
-      let row : Written (grammar.coefficients n objective c.row) (vector_words c.row) = record { tokens = v.tokens; shape = inl v.shape } in
+  spelled_out : (objective row : Row) → NamesBelow n (at row) → RowFits row → Written (grammar.coefficients n objective row) (vector_words row)
+  spelled_out objective row names fits = let v = vector_written row names fits in record { tokens = v.tokens; shape = inl v.shape }
+
+  row_written : (form : Form) (objective row : Row) → NamesBelow n (at row) → RowFits row → Written (grammar.coefficients n objective row) (row_words form objective row)
+  row_written Canonical objective row names fits = spelled_out objective row names fits
+  row_written Compact objective row names fits = by (is_objective objective row) refl
+    where
+      by : (b : Bool) → is_objective objective row ≡ b → Written (grammar.coefficients n objective row) (if b then codes "OBJ" ∷ [] else vector_words row)
+      by true e = let w = fixed_written (codes "OBJ") refl in record { tokens = w.tokens; shape = inr (w.shape, objective_is objective row e) }
+      by false e = spelled_out objective row names fits
+
+  pub constraint_written : (form : Form) (objective : Row) (name : Name) (c : Constraint) → IsToken name → NamesBelow n (at c.row) → ConstraintFits c → Written (grammar.constraint n objective name c) (constraint_words_in form objective name c)
+  constraint_written form objective name c token names fits =
+      let row = row_written form objective c.row names fits.0 in
       then_written (word_written name token) (then_written (sense_written c.sense) (then_written (number_written c.bound fits.1) row))
 
   -- ---- sections
@@ -93,13 +107,13 @@ module _ (n : ℕ) (few : n ≤ most_count) where
       then_written (fixed_written (codes "SOL") refl) (then_written (count_written (length ss) count) (each_written (grammar.solution n) solution_words ss (λ k d l. solution_written _ (shapes k d l) (fits k d l)))) in
       subst (λ ws. Written (grammar.solutions n ss) (codes "SOL" ∷ decimal (length ss) ∷ ws)) (sym (flat_map-map (λ l. l) solution_words ss)) body
 
-  constraints_written : (objective : Row) (bound_count : ℕ) (cs : List (Named Constraint)) → bound_count ≤ most_count → length cs ≤ most_count → All (ConstraintShape n) cs → All (λ c. ConstraintFits c.item) cs
-      → Written (grammar.constraints n objective bound_count cs) (codes "CON" ∷ decimal (length cs) ∷ decimal bound_count ∷ flat_map given_words cs)
-  constraints_written objective bound_count cs bounds count shapes fits =
+  constraints_written : (form : Form) (objective : Row) (bound_count : ℕ) (cs : List (Named Constraint)) → bound_count ≤ most_count → length cs ≤ most_count → All (ConstraintShape n) cs → All (λ c. ConstraintFits c.item) cs
+      → Written (grammar.constraints n objective bound_count cs) (codes "CON" ∷ decimal (length cs) ∷ decimal bound_count ∷ flat_map (given_words_in form objective) cs)
+  constraints_written form objective bound_count cs bounds count shapes fits =
       then_written (fixed_written (codes "CON") refl)
       (then_written (count_written (length cs) count)
       (then_written (count_written bound_count bounds)
-      (each_written (λ c. grammar.constraint n objective c.name c.item) given_words cs (λ k d l. constraint_written objective _ _ (shapes k d l).name (shapes k d l).row (fits k d l)))))
+      (each_written (λ c. grammar.constraint n objective c.name c.item) (given_words_in form objective) cs (λ k d l. constraint_written form objective _ _ (shapes k d l).name (shapes k d l).row (fits k d l)))))
 
 names_written : (ns : List Name) → length ns ≤ most_count → All IsToken ns → Written (grammar.names ns) (codes "VAR" ∷ decimal (length ns) ∷ flat_map (λ name. name ∷ []) ns)
 names_written ns few h =
@@ -120,42 +134,42 @@ integers_written p few h =
 
 -- ---- problems
 
-abbrev problem_words : Problem → List (List ℕ)
-problem_words p =
+abbrev problem_words : Form → Problem → List (List ℕ)
+problem_words form p =
     codes "VER" ∷ codes "1.0" ∷ ((codes "VAR" ∷ decimal (variables p) ∷ flat_map (λ name. name ∷ []) p.names)
     ++ ((codes "INT" ∷ decimal (length (integer_variables p)) ∷ flat_map (λ j. decimal j ∷ []) (integer_variables p))
     ++ ((codes "OBJ" ∷ direction_word p.direction ∷ vector_words p.objective)
-    ++ ((codes "CON" ∷ decimal (length p.constraints) ∷ decimal p.bound_count ∷ flat_map given_words p.constraints)
+    ++ ((codes "CON" ∷ decimal (length p.constraints) ∷ decimal p.bound_count ∷ flat_map (given_words_in form p.objective) p.constraints)
     ++ claim_words p.claim))))
 
-problem_joined : (p : Problem) → words_of (problem_lines p) ≡ problem_words p
-problem_joined p = simp (flat_map-append, flat_map-map, append_assoc, append-nil)
+problem_joined : (form : Form) (p : Problem) → words_of (problem_lines_in form p) ≡ problem_words form p
+problem_joined form p = simp (flat_map-append, flat_map-map, append_assoc, append-nil)
 
-pub problem_written : (p : Problem) → ProblemShape p → ProblemFits p → Written (grammar.problem p) (words_of (problem_lines p))
-problem_written p shape fits =
+pub problem_written : (form : Form) (p : Problem) → ProblemShape p → ProblemFits p → Written (grammar.problem p) (words_of (problem_lines_in form p))
+problem_written form p shape fits =
     let n : ℕ = variables p in
-    let body : Written (grammar.problem p) (problem_words p) =
+    let body : Written (grammar.problem p) (problem_words form p) =
     then_written (then_written (fixed_written (codes "VER") refl) (fixed_written (codes "1.0") refl))
     (then_written (names_written p.names shape.few_names shape.names)
     (then_written (integers_written p shape.few_names shape.integers)
     (then_written (then_written (fixed_written (codes "OBJ") refl) (then_written (direction_written p.direction) (vector_written n shape.few_names p.objective shape.objective fits.objective)))
-    (then_written (constraints_written n shape.few_names p.objective p.bound_count p.constraints fits.bound_count shape.few_constraints shape.constraints fits.constraints)
+    (then_written (constraints_written n shape.few_names form p.objective p.bound_count p.constraints fits.bound_count shape.few_constraints shape.constraints fits.constraints)
     (claim_written p.claim fits.claim))))) in
-    subst (Written (grammar.problem p)) (sym (problem_joined p)) body
+    subst (Written (grammar.problem p)) (sym (problem_joined form p)) body
 
 -- ---- derivations
 
-derivation_written : (p : Problem) (d : Derivation) → variables p ≤ most_count → DerivationShape (variables p) d → DerivationFits d → Written (grammar.derivation p d) (derivation_words d)
-derivation_written p d few shape fits =
-    then_written (constraint_written (variables p) few p.objective d.name d.stated shape.name shape.row fits.stated)
+derivation_written : (form : Form) (p : Problem) (d : Derivation) → variables p ≤ most_count → DerivationShape (variables p) d → DerivationFits d → Written (grammar.derivation p d) (derivation_words_in form p.objective d)
+derivation_written form p d few shape fits =
+    then_written (constraint_written (variables p) few form p.objective d.name d.stated shape.name shape.row fits.stated)
     (then_written (fixed_written (codes "{") refl)
     (then_written (reason_written d.reason shape.reason fits.reason) (then_written (fixed_written (codes "}") refl) (last_written d.last fits.last))))
 
-pub derivations_written : (p : Problem) (ds : List Derivation) → variables p ≤ most_count → length p.constraints + length ds ≤ most_count → All (DerivationShape (variables p)) ds → All DerivationFits ds
-    → Written (grammar.derivations p ds) (words_of (derivations_lines ds))
-derivations_written p ds few count shapes fits =
+pub derivations_written : (form : Form) (p : Problem) (ds : List Derivation) → variables p ≤ most_count → length p.constraints + length ds ≤ most_count → All (DerivationShape (variables p)) ds → All DerivationFits ds
+    → Written (grammar.derivations p ds) (words_of (derivations_lines_in form p.objective ds))
+derivations_written form p ds few count shapes fits =
     let small : length ds ≤ most_count = omega arith in
-    let body : Written (word (codes "DER") then one SpellsCount (length ds) then each (grammar.derivation p) ds) (codes "DER" ∷ decimal (length ds) ∷ flat_map derivation_words ds) =
-    then_written (fixed_written (codes "DER") refl) (then_written (count_written (length ds) small) (each_written (grammar.derivation p) derivation_words ds (λ k d l. derivation_written p _ few (shapes k d l) (fits k d l)))) in
-    let all : Written (grammar.derivations p ds) (codes "DER" ∷ decimal (length ds) ∷ flat_map derivation_words ds) = record { tokens = body.tokens; shape = (count, body.shape) } in
-    subst (λ ws. Written (grammar.derivations p ds) (codes "DER" ∷ decimal (length ds) ∷ ws)) (sym (flat_map-map (λ l. l) derivation_words ds)) all
+    let body : Written (word (codes "DER") then one SpellsCount (length ds) then each (grammar.derivation p) ds) (codes "DER" ∷ decimal (length ds) ∷ flat_map (derivation_words_in form p.objective) ds) =
+    then_written (fixed_written (codes "DER") refl) (then_written (count_written (length ds) small) (each_written (grammar.derivation p) (derivation_words_in form p.objective) ds (λ k d l. derivation_written form p _ few (shapes k d l) (fits k d l)))) in
+    let all : Written (grammar.derivations p ds) (codes "DER" ∷ decimal (length ds) ∷ flat_map (derivation_words_in form p.objective) ds) = record { tokens = body.tokens; shape = (count, body.shape) } in
+    subst (λ ws. Written (grammar.derivations p ds) (codes "DER" ∷ decimal (length ds) ∷ ws)) (sym (flat_map-map (λ l. l) (derivation_words_in form p.objective) ds)) all

@@ -1,6 +1,6 @@
 -- A text of few words is short
 use Rattle.std.proofs.Common.{◌≡◌, ℕ, suc, ◌+◌, ◌*◌, ◌^◌, ◌<◌, ◌≤◌, List, [], ◌∷◌, ◌++◌, length, map, take, get_or, All, refl, sym, ap, ◌∙◌, arith}
-use Rattle.std.specs.Prelude.{codes}
+use Rattle.std.specs.Prelude.{codes, Bool, true, false, if◌then◌else◌}
 use Rattle.std.specs.List.{flat_map, sum_by}
 use Rattle.std.specs.FinMap.{entries}
 use Rattle.std.specs.Fmt.{decimal}
@@ -13,7 +13,10 @@ use Rattle.vipr_spec.specs.Constraint.{Row, Constraint}
 use Rattle.vipr_spec.specs.Certificate.{Name, Named, Claim, Derivation, Certificate, Problem, integer_variables}
 use Rattle.vipr_spec.specs.Shape.{CanWrite}
 use Rattle.vipr_spec.proofs.Laws.{all_parts}
-use Rattle.vipr_write.specs.Canonical.{pair_words, constraint_words, given_words, claim_words, solution_words, reason_words, derivation_words, last_word, direction_word, vector_words, heading, variables_lines, problem_lines, spaced, line_text, lines_text, certificate_lines, canonical_text}
+use Rattle.vipr_write.specs.Canonical.{pair_words, constraint_words, given_words, claim_words, solution_words, reason_words, derivation_words, last_word, direction_word, vector_words, heading, variables_lines, problem_lines, solutions_lines, derivations_lines, spaced, line_text, lines_text, certificate_lines}
+use Rattle.vipr_write.specs.Forms.{is_objective, row_words, constraint_words_in, given_words_in, derivation_words_in, problem_lines_in, derivations_lines_in, certificate_lines_in, text_in}
+use Rattle.vipr_write.specs.declared.form.Form.{Form}
+use Rattle.vipr_write.specs.declared.form.Form.TheVariants.{Canonical, Compact}
 use Rattle.vipr_write.specs.Hands.{counted}
 use Rattle.vipr_write.specs.Weight.{weight}
 use Rattle.vipr_write.proofs.LineTokens.{words_of}
@@ -41,9 +44,6 @@ lines_short (l ∷ ls) a =
     let first = line_short l parts.0 in
     let rest = lines_short ls parts.1 in
     omega (arith, length-append (line_text l) (lines_text ls), sum_by-cons (λ (ws : List (List ℕ)). suc (length ws)) l ls, first, rest)
-
-pub text_short : (c : Certificate) → CanWrite c → weight (certificate_lines c) < 2 ^ 48 → length (canonical_text c) < 2 ^ 64
-text_short c w few = let short = lines_short (certificate_lines c) (tokens_all c w) in omega (arith, few, short)
 
 -- ---- how many words and ends of lines there are
 pub pairs_length : (ps : List (ℕ × ℚ)) → length (flat_map pair_words ps) ≡ 2 * length ps
@@ -137,3 +137,57 @@ problem_counted p names js objective es cons claim k first second third total a 
     let constraints_are = ap (λ cs. weight (map given_words cs)) e in
     let claim_is = g ∙ ap (λ x. weight (claim_words x ∷ [])) f in
     omega (arith, sum, names_are, members_are, terms_are, constraints_are, claim_is, h, i, j, l)
+
+-- ---- in the compact form there are no more of them
+row_fewer : (form : Form) (objective row : Row) → length (row_words form objective row) ≤ length (vector_words row)
+row_fewer Canonical objective row = omega arith
+row_fewer Compact objective row = by (is_objective objective row)
+  where
+    by : (b : Bool) → length (if b then codes "OBJ" ∷ [] else vector_words row) ≤ length (vector_words row)
+    by true = omega arith
+    by false = omega arith
+
+constraint_fewer : (form : Form) (objective : Row) (name : Name) (c : Constraint) → length (constraint_words_in form objective name c) ≤ length (constraint_words name c)
+constraint_fewer form objective name c = let row = row_fewer form objective c.row in omega (arith, row)
+
+derivation_fewer : (form : Form) (objective : Row) (d : Derivation) → length (derivation_words_in form objective d) ≤ length (derivation_words d)
+derivation_fewer form objective d =
+    let end = codes "{" ∷ (reason_words d.reason ++ codes "}" ∷ last_word d.last ∷ []) in
+    omega (arith, constraint_fewer form objective d.name d.stated, length-append (constraint_words_in form objective d.name d.stated) end, length-append (constraint_words d.name d.stated) end)
+
+lines_fewer : {X : Type 0} (f g : X → List (List ℕ)) → ((x : X) → length (f x) ≤ length (g x)) → (xs : List X) → weight (map f xs) ≤ weight (map g xs)
+lines_fewer f g h [] = omega arith
+lines_fewer f g h (x ∷ xs) = omega (arith, h x, lines_fewer f g h xs, weight-cons (f x) (map f xs), weight-cons (g x) (map g xs))
+
+problem_fewer : (form : Form) (p : Problem) → weight (problem_lines_in form p) ≤ weight (problem_lines p)
+problem_fewer form p =
+    let start = codes "OBJ" ∷ direction_word p.direction ∷ [] in
+    let counts = codes "CON" ∷ decimal (length p.constraints) ∷ decimal p.bound_count ∷ [] in
+    let given = map given_words p.constraints in
+    let given_in = map (given_words_in form p.objective) p.constraints in
+    let end = claim_words p.claim in
+    omega (
+      arith,
+      lines_fewer (given_words_in form p.objective) given_words (λ n. constraint_fewer form p.objective n.name n.item) p.constraints,
+      weight-append (variables_lines p) (start ∷ vector_words p.objective ∷ counts ∷ (given ++ end ∷ [])),
+      weight-append (variables_lines p) (start ∷ vector_words p.objective ∷ counts ∷ (given_in ++ end ∷ [])),
+      back_weight start (vector_words p.objective) counts end given,
+      back_weight start (vector_words p.objective) counts end given_in,
+    )
+
+steps_fewer : (form : Form) (objective : Row) (ds : List Derivation) → weight (derivations_lines_in form objective ds) ≤ weight (derivations_lines ds)
+steps_fewer form objective ds =
+    let head = heading (codes "DER") (length ds) in
+    omega (arith, lines_fewer (derivation_words_in form objective) derivation_words (derivation_fewer form objective) ds, weight-cons head (map (derivation_words_in form objective) ds), weight-cons head (map derivation_words ds))
+
+certificate_fewer : (form : Form) (c : Certificate) → weight (certificate_lines_in form c) ≤ weight (certificate_lines c)
+certificate_fewer form c =
+    let p = problem_lines c.problem in
+    let q = problem_lines_in form c.problem in
+    let ss = solutions_lines c.solutions in
+    let ds = derivations_lines c.derivations in
+    let es = derivations_lines_in form c.problem.objective c.derivations in
+    omega (arith, problem_fewer form c.problem, steps_fewer form c.problem.objective c.derivations, weight-append p (ss ++ ds), weight-append ss ds, weight-append q (ss ++ es), weight-append ss es)
+
+pub text_short : (form : Form) (c : Certificate) → CanWrite c → weight (certificate_lines c) < 2 ^ 48 → length (text_in form c) < 2 ^ 64
+text_short form c w few = let short = lines_short (certificate_lines_in form c) (tokens_all form c w) in omega (arith, few, short, certificate_fewer form c)

@@ -1,9 +1,11 @@
 -- Parts of the canonical text
 use Rattle.std.specs.Prelude.{ℕ, List, [], ◌∷◌, ◌++◌, length, map, codes}
 use Rattle.std.specs.Fmt.{decimal}
-use Rattle.vipr_spec.specs.Constraint.{Constraint}
+use Rattle.vipr_spec.specs.Constraint.{Row, Constraint}
 use Rattle.vipr_spec.specs.Certificate.{Named}
 use Rattle.vipr_write.specs.Canonical.{heading, given_words, spaced}
+use Rattle.vipr_write.specs.Forms.{given_words_in}
+use Rattle.vipr_write.specs.declared.form.Form.{Form}
 
 -- a line without its line feed
 abbrev pub words_text : List (List ℕ) → List ℕ
@@ -20,3 +22,7 @@ constraints_heading bound_count n = codes "CON" ∷ decimal n ∷ decimal bound_
 
 abbrev pub constraints_lines : List (Named Constraint) → ℕ → List (List (List ℕ))
 constraints_lines cs bound_count = constraints_heading bound_count (length cs) ∷ map given_words cs
+
+abbrev pub constraints_lines_in : Form → Row → List (Named Constraint) → ℕ → List (List (List ℕ))
+constraints_lines_in form objective cs bound_count =
+    constraints_heading bound_count (length cs) ∷ map (given_words_in form objective) cs

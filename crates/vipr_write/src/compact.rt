@@ -1,14 +1,15 @@
-//! A canonical text that grows item by item, and keeps the objective's row once.
+//! A text that grows item by item, and keeps what is written for the objective's row once.
 ghost use Rattle.std.specs.Prelude.{◌≡◌, ◌++◌, ◌<◌, ◌+◌, ◌^◌, length, IsTrue, codes, IfOk, IfErr};
 ghost use Rattle.std.specs.Prelude.{IfSome, []};
-ghost use Rattle.vipr_write.specs.Canonical.{problem_lines, solution_words, derivation_words};
-ghost use Rattle.vipr_write.specs.Canonical.{heading, line_text, lines_text};
-ghost use Rattle.vipr_write.specs.Folded.{IsFolded, full};
+ghost use Rattle.vipr_write.specs.Canonical.{solution_words, heading, line_text, lines_text};
+ghost use Rattle.vipr_write.specs.Forms.{problem_lines_in, derivation_words_in};
+ghost use Rattle.vipr_write.specs.Folded.{IsFolded, full, with_more_bytes};
 ghost use Rattle.vipr_write.specs.Gathered.{IsBuffer, HandsOn};
 ghost use Rattle.vipr_write.specs.WrittenText.{WroteText, IsWithin, LeavesFailures};
 ghost use Rattle.vipr_cert.specs.Items.{solution_of, derivation_of};
 
 use crate::folded::{Folded, append_derivation, append_problem, empty_text};
+use crate::form::Form;
 use crate::gathered::{Gathered, buffer, flush, gather};
 use crate::lines::{append_heading, append_solution};
 use crate::write::WriteError;
@@ -18,7 +19,7 @@ use vipr_bytes::{Sink, WriteFailed};
 use vipr_cert::{Derivation, Named, Problem};
 use vipr_linear::Solution;
 
-/// The beginning of a canonical text, which takes the items that follow one by one, to be written
+/// The beginning of a text in a form, which takes the items that follow one by one, to be written
 /// to a sink at the end.
 ///
 /// A row that is the objective's takes 4 bytes of memory at most, however long it is. Where a
@@ -29,23 +30,34 @@ pub struct CompactText {
 }
 
 impl Model for CompactText {
-    ghost use Rattle.std.specs.Prelude.{ℕ, List};
-    ghost use Rattle.vipr_write.specs.Folded.{IsFolded, full};
+    ghost use Rattle.vipr_write.specs.Folded.{IsFolded, Begun, begun};
+    ghost use Rattle.vipr_write.specs.BegunCode.{begun_code};
 
-    ghost Value = { List ℕ };
+    ghost Value = { Begun };
 
-    ghost view = { λ t. full t.folded };
+    ghost coded = { begun_code };
+
+    ghost view = { λ t. begun t.folded };
 
     ghost invariant = { λ t. IsFolded t.folded };
 }
 
 impl CompactText {
     /// The problem, and how many solutions are to follow.
-    pub fn new(alloc: Global, problem: &Problem, solutions: u32) -> Result<CompactText, AllocError>
-        ensures { IfOk result (λ t. t ≡ lines_text (problem_lines problem.now)
-            ++ line_text (heading (codes "SOL") solutions)) }
+    pub fn new(
+        alloc: Global,
+        form: Form,
+        problem: &Problem,
+        solutions: u32,
+    ) -> Result<CompactText, AllocError>
+        ensures { IfOk result (λ t. t ≡ record {
+          form = form;
+          objective = problem.now.objective;
+          bytes = lines_text (problem_lines_in form problem.now)
+              ++ line_text (heading (codes "SOL") solutions);
+        }) }
     {
-        let mut folded = empty_text(alloc, problem.objective())?;
+        let mut folded = empty_text(alloc, form, problem.objective())?;
         append_problem(&mut folded, problem)?;
         append_heading(&mut folded.text, b"SOL", solutions as usize)?;
         Ok(CompactText { folded })
@@ -54,7 +66,8 @@ impl CompactText {
     /// A listed solution more.
     pub fn solution(self, solution: &Named<Solution>) -> Result<CompactText, AllocError>
         ensures { IfOk result
-            (λ t. t ≡ self ++ line_text (solution_words (solution_of solution.now))) }
+            (λ t. t ≡ with_more_bytes self
+            (line_text (solution_words (solution_of solution.now)))) }
     {
         let CompactText { mut folded } = self;
         append_solution(&mut folded.text, solution)?;
@@ -63,7 +76,8 @@ impl CompactText {
 
     /// How many derivations are to follow.
     pub fn derivation_count(self, derivations: u32) -> Result<CompactText, AllocError>
-        ensures { IfOk result (λ t. t ≡ self ++ line_text (heading (codes "DER") derivations)) }
+        ensures { IfOk result
+            (λ t. t ≡ with_more_bytes self (line_text (heading (codes "DER") derivations))) }
     {
         let CompactText { mut folded } = self;
         append_heading(&mut folded.text, b"DER", derivations as usize)?;
@@ -73,14 +87,15 @@ impl CompactText {
     /// A derivation more.
     pub fn derivation(self, derivation: &Derivation) -> Result<CompactText, AllocError>
         ensures { IfOk result
-            (λ t. t ≡ self ++ line_text (derivation_words (derivation_of derivation.now))) }
+            (λ t. t ≡ with_more_bytes self (line_text
+            (derivation_words_in self.form self.objective (derivation_of derivation.now)))) }
     {
         let CompactText { mut folded } = self;
         append_derivation(&mut folded, derivation)?;
         Ok(CompactText { folded })
     }
 
-    /// HandsOn the text to a sink, until that took all of it. All memory is asked for before the
+    /// Hands the text on to a sink, until that took all of it. All memory is asked for before the
     /// first byte: a fixed buffer, through which short pieces are handed on together.
     ///
     /// # Errors
@@ -89,8 +104,8 @@ impl CompactText {
     /// written. `Write` where a write fails or takes nothing, and the sink is asked no more.
     pub fn write_to<W: Sink>(&self, alloc: Global, sink: &mut W) -> Result<(), WriteError>
         ensures output { IfSome (W.output sink.old)
-            (λ o. WroteText o (W.output sink.new) self.now result) }
-        ensures part { IfErr result (IsWithin self.now) }
+            (λ o. WroteText o (W.output sink.new) self.now.bytes result) }
+        ensures part { IfErr result (IsWithin self.now.bytes) }
         ensures failures { IfSome (W.failures sink.old)
             (λ n. LeavesFailures n (W.failures sink.new) result) }
     {
@@ -125,7 +140,7 @@ fn ready(alloc: Global, folded: &Folded) -> Option<Gathered>
     buffer(alloc).ok()
 }
 
-// HandsOn the text on, with the row at each mark.
+// Hands the text on, with what each mark stands for.
 fn write_all<W: Sink>(
     sink: &mut W,
     gathered: &mut Gathered,

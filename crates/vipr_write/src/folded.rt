@@ -1,17 +1,19 @@
-//! A text that keeps the objective's row once.
+//! A text that keeps what is written for the objective's row once.
 ghost use Rattle.std.specs.Prelude.{◌≡◌, ◌<◌, ◌-◌, ◌^◌, ◌++◌, [], length, IsTrue, IfOk, OnOk};
 ghost use Rattle.vipr_linear.specs.Constraint.{constraint_of};
 ghost use Rattle.vipr_cert.specs.Items.{derivation_of, named_of, solution_of};
-ghost use Rattle.vipr_write.specs.Canonical.{constraint_words, derivation_words, given_words};
-ghost use Rattle.vipr_write.specs.Canonical.{problem_lines, vector_words, spaced, line_text};
-ghost use Rattle.vipr_write.specs.Canonical.{lines_text};
+ghost use Rattle.vipr_write.specs.Canonical.{spaced, line_text, lines_text};
+ghost use Rattle.vipr_write.specs.Forms.{row_words, constraint_words_in, given_words_in};
+ghost use Rattle.vipr_write.specs.Forms.{derivation_words_in, problem_lines_in};
 ghost use Rattle.vipr_write.specs.Lines.{words_text};
-ghost use Rattle.vipr_write.specs.Folded.{IsFolded, Extends, full, opening, stated_words};
+ghost use Rattle.vipr_write.specs.Folded.{IsFolded, Extends, begun, opening, stated_words};
 ghost use Rattle.vipr_write.specs.Folded.{constraints_text, derivation_end};
 
+use crate::form::Form;
 use crate::lines::{append_claim, append_reason};
+use crate::rows;
 use crate::sections::{append_coefficients, append_counts, append_goal, append_variables};
-use crate::words::{append_counted, append_last, append_number, append_sense, append_word};
+use crate::words::{append_last, append_number, append_sense, append_word};
 use std::alloc::{AllocError, Global};
 use vipr_cert::{Derivation, Name, Named, Problem};
 use vipr_linear::{Constraint, Row};
@@ -19,9 +21,10 @@ use vipr_linear::{Constraint, Row};
 // How many bytes a mark takes.
 const MARK: usize = 4;
 
-/// A text, and marks in it, each of which stands for the objective's row.
+/// A text, and marks in it, each of which stands for what is written for the objective's row.
 #[derive(Drop)]
 pub(crate) struct Folded {
+    pub(crate) form: Form,
     pub(crate) text: Vec<u8>,
     /// How many bytes of the text come after one mark and before the next.
     pub(crate) gaps: Vec<u32>,
@@ -33,12 +36,15 @@ pub(crate) struct Folded {
 }
 
 /// An empty text.
-pub(crate) fn empty_text(alloc: Global, objective: &Row) -> Result<Folded, AllocError>
-    ensures { IfOk result (λ f. IsFolded f × (full f ≡ [])) }
+pub(crate) fn empty_text(alloc: Global, form: Form, objective: &Row) -> Result<Folded, AllocError>
+    ensures { IfOk result (λ f. IsFolded f
+        × (begun f ≡ record { form = form; objective = objective.now; bytes = [] })) }
 {
+    let _entries = objective.entries();
     let mut spelled = Vec::new(alloc);
-    append_counted(&mut spelled, objective.entries())?;
+    rows::append_row(&mut spelled, form, objective, objective)?;
     Ok(Folded {
+        form,
         text: Vec::new(alloc),
         gaps: Vec::new(alloc),
         marked: 0,
@@ -50,7 +56,8 @@ pub(crate) fn empty_text(alloc: Global, objective: &Row) -> Result<Folded, Alloc
 // Whether a row is the objective's, and a mark in its place is shorter.
 fn can_mark(folded: &Folded, row: &Row) -> bool
     requires { IsFolded folded.now }
-    ensures row { IsTrue result → spaced (vector_words row.now) ≡ folded.now.spelled.items }
+    ensures row { IsTrue result → spaced (row_words folded.now.form folded.now.objective row.now)
+        ≡ folded.now.spelled.items }
     ensures gap { IsTrue result → length folded.now.text.items - folded.now.marked < 2 ^ 32 }
 {
     if folded.spelled.len() <= MARK || folded.text.len() - folded.marked > u32::MAX as usize {
@@ -75,12 +82,13 @@ fn mark(folded: &mut Folded) -> Result<(), AllocError>
 // The words of a row.
 fn append_row(folded: &mut Folded, row: &Row) -> Result<(), AllocError>
     requires { IsFolded folded.old }
-    ensures { OnOk result (Extends folded.old folded.new (spaced (vector_words row.now))) }
+    ensures { OnOk result (Extends folded.old folded.new
+        (spaced (row_words folded.old.form folded.old.objective row.now))) }
 {
     if can_mark(folded, row) {
         return mark(folded);
     }
-    append_counted(&mut folded.text, row.entries())
+    rows::append_row(&mut folded.text, folded.form, &folded.objective, row)
 }
 
 // The words of a constraint up to its row.
@@ -101,7 +109,8 @@ fn append_stated(
 ) -> Result<(), AllocError>
     requires { IsFolded folded.old }
     ensures { OnOk result (Extends folded.old folded.new
-        (words_text (constraint_words name.now (constraint_of constraint.now)))) }
+        (words_text (constraint_words_in folded.old.form folded.old.objective name.now
+        (constraint_of constraint.now)))) }
 {
     append_start(&mut folded.text, name, constraint)?;
     append_row(folded, &constraint.row)
@@ -111,7 +120,8 @@ fn append_stated(
 fn append_constraint(folded: &mut Folded, constraint: &Named<Constraint>) -> Result<(), AllocError>
     requires { IsFolded folded.old }
     ensures { OnOk result (Extends folded.old folded.new
-        (line_text (given_words (named_of constraint_of constraint.now)))) }
+        (line_text (given_words_in folded.old.form folded.old.objective
+        (named_of constraint_of constraint.now)))) }
 {
     append_stated(folded, &constraint.name, &constraint.item)?;
     folded.text.push(b'\n')?;
@@ -132,7 +142,7 @@ fn append_opening(text: &mut Vec<u8>, problem: &Problem) -> Result<(), AllocErro
 fn append_constraints(folded: &mut Folded, cons: &[Named<Constraint>]) -> Result<(), AllocError>
     requires { IsFolded folded.old }
     ensures { OnOk result (Extends folded.old folded.new
-        (constraints_text cons.now)) }
+        (constraints_text folded.old.form folded.old.objective cons.now)) }
 {
     for constraint in cons {
         append_constraint(folded, constraint)?;
@@ -142,8 +152,10 @@ fn append_constraints(folded: &mut Folded, cons: &[Named<Constraint>]) -> Result
 
 /// What a certificate is about.
 pub(crate) fn append_problem(folded: &mut Folded, problem: &Problem) -> Result<(), AllocError>
-    requires { IsFolded folded.old }
-    ensures { OnOk result (Extends folded.old folded.new (lines_text (problem_lines problem.now))) }
+    requires folded { IsFolded folded.old }
+    requires objective { folded.old.objective ≡ problem.now.objective }
+    ensures { OnOk result (Extends folded.old folded.new
+        (lines_text (problem_lines_in folded.old.form problem.now))) }
 {
     append_opening(&mut folded.text, problem)?;
     append_constraints(folded, problem.cons())?;
@@ -170,7 +182,8 @@ pub(crate) fn append_derivation(
 ) -> Result<(), AllocError>
     requires { IsFolded folded.old }
     ensures { OnOk result (Extends folded.old folded.new
-        (line_text (derivation_words (derivation_of derivation.now)))) }
+        (line_text (derivation_words_in folded.old.form folded.old.objective
+        (derivation_of derivation.now)))) }
 {
     append_stated(folded, &derivation.name, &derivation.constraint)?;
     append_end(&mut folded.text, derivation)

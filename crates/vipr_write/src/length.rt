@@ -6,7 +6,9 @@ ghost use Rattle.vipr_linear.specs.Constraint.{constraint_of};
 ghost use Rattle.vipr_cert.specs.Items.{named_of, solution_of, reason_of, derivation_of, claim_of};
 ghost use Rattle.vipr_write.specs.Canonical.{given_words, claim_words, solution_words};
 ghost use Rattle.vipr_write.specs.Canonical.{reason_words, derivation_words, problem_lines};
-ghost use Rattle.vipr_write.specs.Canonical.{certificate_lines, canonical_text};
+ghost use Rattle.vipr_write.specs.Canonical.{certificate_lines};
+ghost use Rattle.vipr_write.specs.Forms.{text_in};
+ghost use Rattle.vipr_write.specs.declared.form.Form.{Form};
 ghost use Rattle.vipr_write.specs.Hands.{counted};
 ghost use Rattle.vipr_write.specs.Weight.{weight};
 
@@ -108,7 +110,8 @@ fn word_count(certificate: &Certificate) -> u64
 /// Whether the text has fewer than 2^48 words and lines, each of at most 65,536 bytes.
 pub(crate) fn is_countable(certificate: &Certificate) -> bool
     ensures words { IsTrue result ↔ (weight (certificate_lines certificate.now) < 2 ^ 48) }
-    ensures bytes { IsTrue result → length (canonical_text certificate.now) < 2 ^ 64 }
+    ensures bytes { IsTrue result
+        → (form : Form) → length (text_in form certificate.now) < 2 ^ 64 }
     ensures writes { CanWrite certificate.now }
 {
     let words = word_count(certificate);

@@ -1,5 +1,6 @@
-//! Writes the canonical text of a certificate. That it spells the certificate and no other is a law
-//! of its definition, which stands in `specs/`.
+//! Writes the canonical text of a certificate, or its compact one, in which `OBJ` stands for rows
+//! that are the objective's. That each spells the certificate and no other is a law of its
+//! definition, which stands in `specs/`.
 //!
 //! The text goes to the sink through one buffer, which is made first, so that want of memory comes
 //! before the first byte.
@@ -8,6 +9,7 @@
 mod canonical;
 mod compact;
 mod folded;
+mod form;
 mod gathered;
 mod growing;
 mod length;
@@ -16,11 +18,13 @@ mod pending;
 mod put_lines;
 mod put_sections;
 mod put_words;
+mod rows;
 mod sections;
 mod words;
 mod write;
 
-pub use canonical::{canonical_texts, spelled_ones, worked_example};
+pub use canonical::{canonical_form, canonical_texts, compact_texts, spelled_ones, worked_example};
 pub use compact::CompactText;
+pub use form::Form;
 pub use growing::GrowingText;
-pub use write::{WriteError, write_certificate};
+pub use write::{WriteError, write_certificate, write_certificate_in};

@@ -2,20 +2,22 @@
 ghost use Rattle.std.specs.Prelude.{◌≤◌, ◌∷◌, [], codes, length};
 ghost use Rattle.vipr_spec.specs.Certificate.{range, uns};
 ghost use Rattle.vipr_linear.specs.Constraint.{constraint_of};
-ghost use Rattle.vipr_write.specs.Canonical.{counted_words, constraint_words, given_words};
-ghost use Rattle.vipr_write.specs.Canonical.{claim_words, solution_words, reason_words};
-ghost use Rattle.vipr_write.specs.Canonical.{derivation_words, heading, spaced, line_text};
+ghost use Rattle.vipr_write.specs.Canonical.{counted_words, claim_words, solution_words};
+ghost use Rattle.vipr_write.specs.Canonical.{reason_words, heading, spaced, line_text};
 ghost use Rattle.vipr_write.specs.Canonical.{direction_word, vector_words};
+ghost use Rattle.vipr_write.specs.Forms.{constraint_words_in, given_words_in, derivation_words_in};
 ghost use Rattle.vipr_cert.specs.Items.{named_of, solution_of, claim_of, reason_of, derivation_of};
 ghost use Rattle.vipr_cert.specs.Items.{direction_of};
 ghost use Rattle.vipr_write.specs.Lines.{words_text, constraints_heading};
 ghost use Rattle.vipr_write.specs.Carried.{Puts};
 
+use crate::form::Form;
 use crate::pending::Pending;
 use crate::put_words::{
     put_bound, put_counted, put_decimal, put_index, put_last, put_number, put_pairs, put_sense,
     put_word,
 };
+use crate::rows::put_row;
 use vipr_bytes::Sink;
 use vipr_cert::{Claim, Derivation, Goal, Name, Named, Reason};
 use vipr_frac::Frac;
@@ -78,29 +80,46 @@ pub(crate) fn put_counts<W: Sink>(
 }
 
 // The words of a constraint, with no line feed.
-fn put_stated<W: Sink>(text: &mut Pending, sink: &mut W, name: &Name, constraint: &Constraint)
+fn put_stated<W: Sink>(
+    text: &mut Pending,
+    sink: &mut W,
+    form: Form,
+    objective: &Row,
+    name: &Name,
+    constraint: &Constraint,
+)
     ensures { Puts W.output W.failures sink.old sink.new text.old text.new
-        (words_text (constraint_words name.now (constraint_of constraint.now))) }
+        (words_text (constraint_words_in form objective.now name.now
+        (constraint_of constraint.now))) }
 {
     put_name(text, sink, name);
     put_sense(text, sink, constraint.sense);
     put_number(text, sink, &constraint.rhs);
-    put_counted(text, sink, constraint.row.entries());
+    put_row(text, sink, form, objective, &constraint.row);
 }
 
 /// A constraint, unless a write has failed.
 pub(crate) fn put_constraint<W: Sink>(
     text: &mut Pending,
     sink: &mut W,
+    form: Form,
+    objective: &Row,
     constraint: &Named<Constraint>,
 )
     ensures { Puts W.output W.failures sink.old sink.new text.old text.new
-        (line_text (given_words (named_of constraint_of constraint.now))) }
+        (line_text (given_words_in form objective.now (named_of constraint_of constraint.now))) }
 {
     if text.failed {
         return;
     }
-    put_stated(text, sink, &constraint.name, &constraint.item);
+    put_stated(
+        text,
+        sink,
+        form,
+        objective,
+        &constraint.name,
+        &constraint.item,
+    );
     text.push(sink, b'\n');
 }
 
@@ -176,14 +195,27 @@ fn put_reason<W: Sink>(text: &mut Pending, sink: &mut W, reason: &Reason)
 }
 
 /// A derivation, unless a write has failed.
-pub(crate) fn put_derivation<W: Sink>(text: &mut Pending, sink: &mut W, derivation: &Derivation)
+pub(crate) fn put_derivation<W: Sink>(
+    text: &mut Pending,
+    sink: &mut W,
+    form: Form,
+    objective: &Row,
+    derivation: &Derivation,
+)
     ensures { Puts W.output W.failures sink.old sink.new text.old text.new
-        (line_text (derivation_words (derivation_of derivation.now))) }
+        (line_text (derivation_words_in form objective.now (derivation_of derivation.now))) }
 {
     if text.failed {
         return;
     }
-    put_stated(text, sink, &derivation.name, &derivation.constraint);
+    put_stated(
+        text,
+        sink,
+        form,
+        objective,
+        &derivation.name,
+        &derivation.constraint,
+    );
     put_word(text, sink, b"{");
     put_reason(text, sink, &derivation.reason);
     put_word(text, sink, b"}");

@@ -2,12 +2,13 @@
 ghost use Rattle.std.specs.Prelude.{◌∷◌, [], map};
 ghost use Rattle.std.specs.Fmt.{decimal};
 ghost use Rattle.vipr_linear.specs.Constraint.{constraint_of};
-ghost use Rattle.vipr_write.specs.Canonical.{variables_lines, problem_lines, solutions_lines};
-ghost use Rattle.vipr_write.specs.Canonical.{derivations_lines, lines_text, canonical_text};
+ghost use Rattle.vipr_write.specs.Canonical.{variables_lines, solutions_lines, lines_text};
+ghost use Rattle.vipr_write.specs.Forms.{problem_lines_in, derivations_lines_in, text_in};
 ghost use Rattle.vipr_cert.specs.Items.{named_of, solution_of, derivation_of};
-ghost use Rattle.vipr_write.specs.Lines.{integers_lines, constraints_lines};
+ghost use Rattle.vipr_write.specs.Lines.{integers_lines, constraints_lines_in};
 ghost use Rattle.vipr_write.specs.Carried.{Puts};
 
+use crate::form::Form;
 use crate::pending::Pending;
 use crate::put_lines::{
     put_claim, put_coefficients, put_constraint, put_counts, put_derivation, put_goal, put_heading,
@@ -16,7 +17,7 @@ use crate::put_lines::{
 use crate::put_words::put_decimal;
 use vipr_bytes::Sink;
 use vipr_cert::{Certificate, Derivation, Name, Named, Problem};
-use vipr_linear::{Constraint, Solution};
+use vipr_linear::{Constraint, Row, Solution};
 
 // The names, each on its line.
 fn put_names<W: Sink>(text: &mut Pending, sink: &mut W, names: &[Name])
@@ -65,27 +66,38 @@ fn put_variables<W: Sink>(text: &mut Pending, sink: &mut W, problem: &Problem)
 fn put_constraints<W: Sink>(
     text: &mut Pending,
     sink: &mut W,
+    form: Form,
+    objective: &Row,
     cons: &[Named<Constraint>],
     bound_count: u32,
 )
     ensures { Puts W.output W.failures sink.old sink.new text.old text.new
-        (lines_text (constraints_lines (map (named_of constraint_of) cons.now) bound_count)) }
+        (lines_text (constraints_lines_in form objective.now
+        (map (named_of constraint_of) cons.now) bound_count)) }
 {
     put_counts(text, sink, cons.len(), bound_count as usize);
     for constraint in cons {
-        put_constraint(text, sink, constraint);
+        put_constraint(text, sink, form, objective, constraint);
     }
 }
 
 // What a certificate is about.
-fn put_problem<W: Sink>(text: &mut Pending, sink: &mut W, problem: &Problem)
+fn put_problem<W: Sink>(text: &mut Pending, sink: &mut W, form: Form, problem: &Problem)
     ensures { Puts W.output W.failures sink.old sink.new text.old text.new
-        (lines_text (problem_lines problem.now)) }
+        (lines_text (problem_lines_in form problem.now)) }
 {
+    let objective = problem.objective();
     put_variables(text, sink, problem);
     put_goal(text, sink, problem.sense());
-    put_coefficients(text, sink, problem.objective());
-    put_constraints(text, sink, problem.cons(), problem.bound_count());
+    put_coefficients(text, sink, objective);
+    put_constraints(
+        text,
+        sink,
+        form,
+        objective,
+        problem.cons(),
+        problem.bound_count(),
+    );
     put_claim(text, sink, problem.claim());
 }
 
@@ -101,22 +113,41 @@ fn put_solutions<W: Sink>(text: &mut Pending, sink: &mut W, solutions: &[Named<S
 }
 
 // The derivations.
-fn put_derivations<W: Sink>(text: &mut Pending, sink: &mut W, derivations: &[Derivation])
+fn put_derivations<W: Sink>(
+    text: &mut Pending,
+    sink: &mut W,
+    form: Form,
+    objective: &Row,
+    derivations: &[Derivation],
+)
     ensures { Puts W.output W.failures sink.old sink.new text.old text.new
-        (lines_text (derivations_lines (map derivation_of derivations.now))) }
+        (lines_text (derivations_lines_in form objective.now
+        (map derivation_of derivations.now))) }
 {
     put_heading(text, sink, b"DER", derivations.len());
     for derivation in derivations {
-        put_derivation(text, sink, derivation);
+        put_derivation(text, sink, form, objective, derivation);
     }
 }
 
-/// The canonical text. Rows that share the objective's are written from that row.
-pub(crate) fn put_certificate<W: Sink>(text: &mut Pending, sink: &mut W, certificate: &Certificate)
+/// The text of a certificate in a form.
+pub(crate) fn put_certificate<W: Sink>(
+    text: &mut Pending,
+    sink: &mut W,
+    form: Form,
+    certificate: &Certificate,
+)
     ensures { Puts W.output W.failures sink.old sink.new text.old text.new
-        (canonical_text certificate.now) }
+        (text_in form certificate.now) }
 {
-    put_problem(text, sink, certificate.problem());
+    let problem = certificate.problem();
+    put_problem(text, sink, form, problem);
     put_solutions(text, sink, certificate.solutions());
-    put_derivations(text, sink, certificate.derivations());
+    put_derivations(
+        text,
+        sink,
+        form,
+        problem.objective(),
+        certificate.derivations(),
+    );
 }

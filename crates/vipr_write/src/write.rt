@@ -3,10 +3,13 @@ ghost use Rattle.std.specs.Prelude.{◌≡◌, ◌^◌, ◌<◌, [], length, IfE
 ghost use Rattle.vipr_spec.specs.Grammar.{SpellsOnly};
 ghost use Rattle.vipr_bytes.specs.Written.{Wrote, EndsAtFailure};
 ghost use Rattle.vipr_write.specs.Canonical.{canonical_text};
+ghost use Rattle.vipr_write.specs.Forms.{text_in};
+ghost use Rattle.vipr_write.specs.declared.form.Form.{Form};
 ghost use Rattle.vipr_write.specs.Hands.{Start};
 ghost use Rattle.vipr_write.specs.Carried.{Carries};
 ghost use Rattle.vipr_write.specs.WrittenText.{WroteText, IsWithin, LeavesFailures, write_error};
 
+use crate::form::Form;
 use crate::length::is_countable;
 use crate::pending::Pending;
 use crate::put_sections::put_certificate;
@@ -48,7 +51,6 @@ impl From<WriteFailed> for WriteError {
 ///
 /// `Memory` where that buffer is refused, or where there are 2^48 words and lines or more: nothing
 /// was written. `Write` where a write fails or takes nothing, and the sink is asked no more.
-#[tactic(auto, using(crate::proofs::WholeText::canonical_spells))]
 pub fn write_certificate<W: Sink>(
     alloc: Global,
     certificate: &Certificate,
@@ -61,11 +63,34 @@ pub fn write_certificate<W: Sink>(
         (λ n. LeavesFailures n (W.failures sink.new) result) }
     ensures law { SpellsOnly (canonical_text certificate.now) certificate.now }
 {
+    write_certificate_in(alloc, Form::Canonical, certificate, sink)
+}
+
+/// The same of the text in a form.
+///
+/// # Errors
+///
+/// `Memory` where that buffer is refused, or where there are 2^48 words and lines or more: nothing
+/// was written. `Write` where a write fails or takes nothing, and the sink is asked no more.
+pub fn write_certificate_in<W: Sink>(
+    alloc: Global,
+    form: Form,
+    certificate: &Certificate,
+    sink: &mut W,
+) -> Result<(), WriteError>
+    ensures output { IfSome (W.output sink.old)
+        (λ o. WroteText o (W.output sink.new) (text_in form certificate.now) result) }
+    ensures part { IfErr result (IsWithin (text_in form certificate.now)) }
+    ensures failures { IfSome (W.failures sink.old)
+        (λ n. LeavesFailures n (W.failures sink.new) result) }
+    // Of every form.
+    ensures law { (f : Form) → SpellsOnly (text_in f certificate.now) certificate.now }
+{
     if !is_countable(certificate) {
         return Err(WriteError::Memory { taken: 0 });
     }
     match Pending::new(alloc) {
-        Ok(text) => Ok(write_text(text, certificate, sink)?),
+        Ok(text) => Ok(write_text(text, form, certificate, sink)?),
         Err(_) => Err(WriteError::Memory { taken: 0 }),
     }
 }
@@ -73,17 +98,18 @@ pub fn write_certificate<W: Sink>(
 // Writes the text of a certificate, of which nothing is written yet.
 fn write_text<W: Sink>(
     mut text: Pending,
+    form: Form,
     certificate: &Certificate,
     sink: &mut W,
 ) -> Result<(), WriteFailed>
     requires nothing { (start : Start) → Carries start start text [] }
-    requires short { length (canonical_text certificate.now) < 2 ^ 64 }
+    requires short { length (text_in form certificate.now) < 2 ^ 64 }
     ensures output { IfSome (W.output sink.old)
-        (λ o. Wrote o (W.output sink.new) (canonical_text certificate.now) result) }
-    ensures part { IfErr result (λ e. e.taken < length (canonical_text certificate.now)) }
+        (λ o. Wrote o (W.output sink.new) (text_in form certificate.now) result) }
+    ensures part { IfErr result (λ e. e.taken < length (text_in form certificate.now)) }
     ensures failures { IfSome (W.failures sink.old)
         (λ n. EndsAtFailure n (W.failures sink.new) result) }
 {
-    put_certificate(&mut text, sink, certificate);
+    put_certificate(&mut text, sink, form, certificate);
     text.finish(sink)
 }

@@ -2,9 +2,10 @@ use Rattle.std.proofs.Common.{take}
 use Rattle.std.specs.List.{flat_map}
 use Rattle.vipr_cert.specs.Items.{derivation_of}
 use Rattle.vipr_cert.specs.declared.items.Derivation.{Derivation}
-use Rattle.vipr_write.specs.Canonical.{derivation_words, line_text}
+use Rattle.vipr_write.specs.Canonical.{line_text}
+use Rattle.vipr_write.specs.Forms.{derivation_words_in}
 use Rattle.vipr_write.specs.Carried.{Puts}
 use Rattle.vipr_write.proofs.put_sections.put_derivations.Given as goal
 
 abbrev pub invariant-loop-derivation : goal.invariant-loop-derivation
-invariant-loop-derivation g l = Puts g.W.Sink.output g.W.Sink.failures l.initial.sink l.sink l.initial.text l.text (flat_map (λ (d : Derivation). line_text (derivation_words (derivation_of d))) (take l.derivation-index l.derivations))
+invariant-loop-derivation g l = Puts g.W.Sink.output g.W.Sink.failures l.initial.sink l.sink l.initial.text l.text (flat_map (λ (d : Derivation). line_text (derivation_words_in l.form l.objective (derivation_of d))) (take l.derivation-index l.derivations))
