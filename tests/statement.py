@@ -3,10 +3,13 @@
 
 usage: tests/statement.py [--check] [--missing]
 
-From the roots of each part every definition that they rest on is found, in whatever file it stands, and quoted in
-the order in which the files are to be read, with its example of tests/statement_examples.md. Proofs aren't quoted:
-the check believes none of them. --check compares with the file, and fails where it isn't current. --missing lists the
-definitions without an example, and the examples without a definition.
+Each part of the page is made from clauses of the contract of `check`: every definition that they rest on is found, in
+whatever file it is, and quoted once, in the order in which the files are to be read, with its example. Proofs aren't
+quoted: the check believes none of them. Nor is, in the three parts, a definition that a law hides: the law is quoted
+instead, and its proof is part of the check. What no clause needs is in the appendix.
+
+--check compares with the file, and fails if it isn't current or too long, or if a part has more lines to believe than
+it may. --missing lists the definitions without an example, and the examples without a definition.
 """
 import os
 import re
@@ -17,46 +20,132 @@ CRATES = os.path.join(ROOT, 'crates')
 TARGET = os.path.join(ROOT, 'docs', 'STATEMENT.md')
 EXAMPLES = os.path.join(ROOT, 'tests', 'statement_examples.md')
 SPEC_CRATES = ['vipr_spec', 'vipr_bytes', 'vipr_cert', 'vipr_check']
+MOST_LINES = 1700
+# the columns of a line that is quoted with its comment, and of an item of examples
+WIDTH, ITEM = 118, 320
 
-# Each part: its title, what it is for, and the definitions at its top. A root that isn't there is left out.
+
+# ---- what the page is made of
+
+# The law that says what fractions are: who believes it needn't believe how they are computed.
+FRACTIONS = ('vipr_spec/src/arithmetic.rt', 'cross_products')
+COMPUTED = {'over', '◌+ℚ◌', '◌*ℚ◌', '◌≤ℚ◌'}
+
+# Each part: its title, clauses of `ChecksIn`, the most lines to believe for it, the definitions that a law hides, what
+# it says, and what a reader knows behind it.
 PARTS = [
-    ('What is claimed',
-     'Who reads this part knows what `verified` says of the problem: which points are feasible, and what the claim of '
-     'a certificate says of all of them. Nothing in it speaks of derivations, texts or programs.',
-     ['IsTrueClaim', 'IsShown']),
-    ('What a proof is, and what spells it',
-     'With this part one knows when a text is verified: exactly where it spells a certificate that is a proof. The '
-     'rules say what a derivation may conclude, the grammar which tokens spell which certificate.',
-     ['IfKnown', 'IfWhole', 'AreTokens', 'SpellsOnly', 'IsProof', 'IfVerified', 'IsVerified']),
-    ('Which answer is given',
-     'With this part one knows the whole answer: the report of a proof, and of any other text the first cause, in the '
-     'order of the tests, with its place.',
-     ['IsAnswer', 'Reports', 'IsExplained', 'cause_name']),
-    ('What is proved of the program',
-     'The record is the contract of `check_in`, and under profile one of `check`: each of its fields is a clause, in the '
-     'words of the parts before. A result is what the call answers for a source. A slice (`Bytes`) is a known source: its '
-     'input has the bytes of the slice, and no failure. `ReadsBytes` is the contract of each read of a known source.',
-     ['Checks', 'ReadsBytes']),
+    {'title': 'What is claimed is true', 'clauses': ['sound'], 'most': 286,
+     'hidden': COMPUTED | {'gcd', 'euclid', 'IsLowest', 'ℚ'},
+     'what': 'What `verified` promises of the problem in the text.',
+     'known': 'If `check` answers verified for bytes in memory, they spell one certificate, and what it claims is true '
+              'of the problem in it. Under `infeas` each rational point that is whole at the integer variables breaks '
+              'a constraint. Under `range` the dual bound holds at each such point that meets all constraints; and if '
+              'a primal bound is claimed, a listed solution is feasible and attains it. Nothing here speaks of rules, '
+              'so no mistake in a rule can make it false. Stop here if a false `verified` is all that you fear.'},
+    {'title': 'Verified in both directions', 'clauses': ['proof', 'every', 'second'], 'most': 526, 'hidden': COMPUTED | {'Reports', 'report_of'},
+     'what': 'Which texts are verified: this part adds what a proof is. What the clauses say of the report, `Reports`, is '
+             'left to part 3: the rest of each clause stands without it.',
+     'known': 'As long as memory suffices and no read fails, a text is verified exactly if it spells a certificate that '
+              'is a proof by these rules. So no proof is refused. A proof by profile one is one by profile two as well.'},
+    {'title': 'The exact answer', 'clauses': ['any', 'exact', 'only', 'read', 'ended'], 'most': 1070, 'hidden': COMPUTED,
+     'what': 'What is answered for every text, and what is known of a file.',
+     'known': 'You know the whole answer for all bytes: the report of a proof; of any other text the first cause, in '
+              'the order of the tests, with its place; and that a failed read is answered only if one failed. Of a file '
+              'you know that what is verified is the report of a proof whose claim is true.'},
 ]
+
+# Sections, by the spec files that they quote.
+TOPICS = [
+    ('Fractions', ['Gcd', 'Lowest', 'Fraction']),
+    ('Constraints', ['Constraint']),
+    ('Problem, claim and certificate', ['Certificate', 'Soundness']),
+    ('Numbers in a text', ['Digits', 'Number']),
+    ('Tokens', ['Input', 'Tokens']),
+    ('Causes', ['Causes']),
+    ('Reading', ['Reading']),
+    ('The grammar', ['Grammar']),
+    ('The tests of a derivation', ['Steps']),
+    ('The tests of a text', ['Tests']),
+    ('The first test that fails', ['Verdict']),
+    ('What the call answers', ['Known', 'Reads', 'Items', 'View', 'Checks']),
+]
+# What is in another section in a part: of the reading, part 1 has the limits that the grammar cites.
+JOINED = {(1, 'Reading'): 'The grammar'}
+
+# What is said at the head of a section.
+NOTES = {
+    (3, 'Reading'):
+        'The reading goes through the grammar of part 1 from left to right, up to the first fault. '
+        '`reading_is_the_grammar` proves that it reads exactly the texts that spell a certificate, as that certificate.',
+    (3, 'The tests of a derivation'):
+        'The tests are the rules of part 2, in the order in which they are tried: `FollowsBy`, `StepFits`, `NamesEarlier` '
+        'and `RefersTo` say the same at once. `tests_are_the_rules` proves that no test fails exactly if `IsGoodStep` '
+        'holds.',
+}
+
+# What no clause of `Checks` cites, and why it is quoted.
+APPENDIX = ['over', '◌+ℚ◌', '◌*ℚ◌', '◌≤ℚ◌', 'IsTrueClaim', 'AreTokens', 'PassesSteps', 'IsExplained']
+
+# Definitions that say the same, and the law that proves it: its file and function.
+SAME = [
+    ('`over`, and sum, product and order of fractions, by whole numbers', 'vipr_spec/src/arithmetic.rt', 'cross_products'),
+    ('`text_tokens` and `AreTokens`: a text has one way to be split', 'vipr_spec/src/texts.rt', 'tokens_are_one'),
+    ('digits, as they are read (`natural_of`) and as they are spelled (`SpellsNatural`)', 'vipr_spec/src/grammar.rt', 'naturals'),
+    ('a number, as it is read (`number_read`) and as it is spelled (`SpellsNumber`)', 'vipr_spec/src/numbers.rt', 'spelled_numbers'),
+    ('a token of each kind, as it is read and as it is spelled', 'vipr_spec/src/grammar.rt', 'kinds_of_token'),
+    ('the items of a text, as they are read and as the grammar has them', 'vipr_spec/src/grammar.rt', 'items'),
+    ('a certificate, as it is read (`certificate_read`) and as it is spelled (`Spells`)', 'vipr_spec/src/grammar.rt', 'reading_is_the_grammar'),
+    ('the tests of a derivation (`PassesSteps`), and the rules (`IsGoodStep`)', 'vipr_spec/src/step_by_step.rt', 'tests_are_the_rules'),
+    ('a verified answer, and a text that spells a proof', 'vipr_spec/src/verdict.rt', 'verified_texts'),
+    ('`IsTrueClaim`, over all points, of a proof', 'vipr_spec/src/claims.rt', 'proofs_are_true'),
+    ('`IsShown`, over points of one denominator, of a proof', 'vipr_spec/src/claims.rt', 'proofs_show'),
+]
+
+# Two clauses that imply all others, and the most lines to believe for them by themselves. Laws put the definitions of
+# the second list for those of the first, which hide more.
+BY_THEMSELVES = {'clauses': ['any', 'exact'], 'most': 900, 'hidden': COMPUTED | {'HasGoodSteps', 'natural_of'},
+                 'instead': ['PassesSteps', 'SpellsNatural']}
+
+FRACTIONS_SAID = (
+    'What fractions are is said by a law. `over p q` is p / q; `x.numer` and `x.denom` are the parts of x. Who believes '
+    'the law needs none of the definitions by which they are computed ([appendix](#appendix)).')
 
 HEAD = '''# The statement
 
 <!-- written by tests/statement.py from the spec files; `make statement` writes it anew -->
 
-**Verified** means that the bytes read spell a certificate that is a proof by the rules below, and hence that what the \
-certificate claims is true of every point, whole at the integer variables, of the problem that it states: no such \
-point is feasible, or its dual bound holds at all feasible ones, and where it has a primal bound a listed solution is \
-feasible and attains it.
+**Verified** means that the bytes read spell a certificate that is a proof by the rules below. Hence what the certificate \
+claims is true of every point, whole at the integer variables, of the problem that it states. No such point is feasible; \
+or the dual bound holds at all feasible ones, and if a primal bound is claimed, a listed solution is feasible and attains it.
 
 **The premises**: the source gives the bytes of the text that is meant, with no failed read and fewer than 2^64 of \
-them; the definitions below say what one means by a problem, a claim and a text; and the tools keep their word, that \
-is, the prover, the compiler, the machine and its C library.
+them. The definitions below say what one means by a problem, a claim and a text. The tools keep their word: the prover, \
+the compiler, the machine and its C library.
 
-**Files and standard input**: a slice tells its bytes, so each fact of `ChecksIn` holds of it. A file or standard input \
+**Files and standard input**: a slice tells its bytes, so each clause holds of it. A file or standard input \
 doesn't. Of these the contract says `any`: what is verified is the report of a certificate that is a proof, and what \
 that claims is true. That it is the certificate which the bytes of the file spell is a premise, and no theorem. It rests \
 on this: `check` has one body for all sources, that body can't ask which source it has, and what it answers is a \
 function of what its reads gave. A slice that holds what a file's reads gave gets the same answer.
+
+**How to read it.** The page has three parts, by the clauses of the contract, and an appendix. You can stop behind each \
+part: it says what you know by then. A part quotes the definitions that its clauses rest on, as they stand in the spec \
+files, and then an example of each. `T : A → Type 0` is a property of A's, `(x : A) × P` means that there is an x with P, \
+`(x : A) → P` that P holds for all x, `⊎` is or, `⊤` true, `⊥` false, and `IsTrue b` says that a `Bool` is true.
+'''
+
+COUNTED = '''
+Lines are those to believe: clauses, definitions and the law on fractions, without comments and imports. The code that is \
+quoted, and the words of the standard library (numbers, lists, finite maps and sets), aren't counted. `any` and `exact` \
+imply all other clauses, which is how those are proved. By themselves they have %d lines. They need no grammar, since a \
+law says that it and the reading are the same; and laws put the tests of derivations for their rules (`PassesSteps`), and \
+the digits of a number for how they are read (`SpellsNatural`).
+'''
+
+APPENDIX_HEAD = '''## Appendix
+
+No clause of `Checks` needs what follows. It is quoted since other calls cite it, or since a law says that it is the same \
+in other words.
 '''
 
 
@@ -66,9 +155,10 @@ def read(path):
 
 
 class Definition:
-    def __init__(self, crate, path, order, comment, lines, names, is_proof):
-        self.crate, self.path, self.order = crate, path, order
+    def __init__(self, path, order, comment, lines, names, is_proof):
+        self.path, self.order = path, order
         self.comment, self.lines, self.names, self.is_proof = comment, lines, names, is_proof
+        self.module = os.path.basename(path)[:-5]
 
     def words(self):
         """The words that can mean a definition: no fields of records, and of a dotted path the whole."""
@@ -85,7 +175,6 @@ class Definition:
 
 
 NAME = r"[^\s:({]+"
-TOP = re.compile(r'^(?:(?:abbrev|unfoldable) )?(?:pub )?(?:(record|data) (?:pub )?)?(%s)(?= |$)' % NAME)
 
 
 def paragraphs(text):
@@ -165,9 +254,9 @@ def load():
                     continue
                 order += 1
                 first = next(i for i, l in enumerate(lines) if not l.startswith('--'))
-                comment = [l[2:].strip() for l in lines[:first] if not l.startswith('-- ----')]
+                comment = [l for l in lines[:first] if not l.startswith('-- ----')]
                 is_proof = all(kind == 'proof' for _, kind in names)
-                d = Definition(crate, path, order, ' '.join(comment), lines[first:], [n for n, _ in names], is_proof)
+                d = Definition(path, order, comment, lines[first:], [n for n, _ in names], is_proof)
                 d.home = file
                 for name, _ in names:
                     for word in [name] + operators(name):
@@ -194,11 +283,27 @@ def meant(files, file, word):
     return None
 
 
-def closure(files, roots, known):
-    found, todo = set(), [f.own[r] for r in roots for f in files.values() if r in f.own]
+def record_fields(definition):
+    """The fields of a record by name, each with its comment, as lines."""
+    out, comment, name = {}, [], None
+    for line in definition.lines[1:]:
+        field = re.match(r'  pub (\w+) :', line)
+        if field:
+            name, comment = field[1], comment + [line]
+            out[name], comment = comment, []
+        elif line.startswith('  --'):
+            comment.append(line)
+        elif name:
+            out[name].append(line)
+    return out
+
+
+def closure(files, start, hidden, known):
+    """What these definitions rest on, in the order of reading, without what is hidden or known."""
+    found, todo = set(), list(start)
     while todo:
         d = todo.pop()
-        if d in found or d in known or d.is_proof:
+        if d in found or d in known or d.is_proof or hidden & set(d.names):
             continue
         found.add(d)
         for word in sorted(d.words()):
@@ -208,10 +313,38 @@ def closure(files, roots, known):
     return sorted(found, key=lambda d: d.order)
 
 
-def examples():
+def cited(files, home, lines):
+    """The definitions that these lines of a file mean."""
+    words = Definition('', 0, [], lines, [], False).words()
+    return [d for d in (meant(files, home, word) for word in sorted(words)) if d is not None]
+
+
+def believed(lines):
+    return sum(1 for line in lines if line.strip() and not line.strip().startswith('--'))
+
+
+def is_number(d):
+    """A definition of a number by its name alone, as those of the causes."""
+    return d.module == 'Causes' and re.match(r'abbrev pub \S+ : ℕ$', d.lines[0]) and len(d.lines) == 2
+
+
+def quoted(d):
+    """A definition's lines below its comment, or with the comment at the first line's end if there is room; a cause's
+    number in one line."""
+    comment, lines = ' '.join(l[2:].strip() for l in d.comment), d.lines[1:] if is_number(d) else d.lines
+    if comment and len(lines[0]) + len(comment) + 4 <= WIDTH:
+        return [lines[0] + ' -- ' + comment] + lines[1:]
+    return d.comment + lines
+
+
+def count(definitions):
+    return sum(1 if is_number(d) else believed(d.lines) for d in definitions)
+
+
+# ---- examples
+
+def sentences():
     out = {}
-    if not os.path.isfile(EXAMPLES):
-        return out
     for block in re.split(r'^## ', read(EXAMPLES), flags=re.M)[1:]:
         names, _, text = block.partition('\n')
         for name in names.split(','):
@@ -219,80 +352,181 @@ def examples():
     return out
 
 
-def count(definitions):
-    return sum(1 for d in definitions for l in d.lines if l.strip() and not l.strip().startswith('--'))
+class Examples:
+    def __init__(self):
+        self.sentences, self.used, self.without = sentences(), set(), []
+
+    def of(self, d):
+        names = [n for n in d.names if n in self.sentences]
+        if not names:
+            self.without.append('%s (%s)' % (d.names[0], d.module))
+            return None
+        self.used |= set(names)
+        return self.sentences[names[0]]
+
+    def items(self, definitions):
+        """The list behind a section: each definition with its example, and those with the same one together."""
+        out = []
+        for d in definitions:
+            example = None if is_number(d) else self.of(d)
+            if example is None:
+                continue
+            name = '`%s`' % d.names[0].replace('◌', '')
+            if out and out[-1][1] == example:
+                out[-1][0].append(name)
+            else:
+                out.append(([name], example))
+        items = []
+        for names, example in out:
+            words = '%s: %s' % (', '.join(names), example)
+            if items and len(items[-1]) + len(words) < ITEM:
+                items[-1] += ' ' + words
+            else:
+                items.append('- ' + words)
+        return items
+
+    def unused(self):
+        return sorted(set(self.sentences) - self.used)
 
 
-def capital(comment):
-    """A comment as a sentence begins; a variable that it begins with stays small."""
-    return comment if re.match(r'(?:[b-z]|a [a-z]) ', comment) else comment[0].upper() + comment[1:]
+# ---- what is quoted of the code
+
+def item(path, head):
+    """An item of a source file from its head on, without attributes and documentation: a type with its body, a call up
+    to its body."""
+    text = read(os.path.join(CRATES, path))
+    m = re.search(r'^%s(?:.|\n)*?^\}$' % head, text, re.M)
+    lines = m[0].split('\n')
+    if not re.match(r'pub (?:enum|struct|trait)', lines[0]):
+        lines = lines[:next(i for i, l in enumerate(lines) if l == '{')]
+    return [l for l in lines if not re.match(r'\s*(?:///|#\[)', l) and l.strip()]
 
 
-def contract_of_check():
-    """The signature and the clauses of the public call `check`."""
-    folder = os.path.join(CRATES, 'vipr_check', 'src')
-    for name in sorted(os.listdir(folder)):
-        if name.endswith('.rt') and not name.startswith('tests'):
-            m = re.search(r'^pub fn check(?:<[^\n]*)?\((?:.|\n)*?^\{', read(os.path.join(folder, name)), re.M)
-            if m:
-                return name, m[0].rsplit('\n', 1)[0]
-    return None
+def law(path, function):
+    """The clauses of a law."""
+    m = re.search(r'^pub fn %s\(\)\n((?:.|\n)*?)^\{\}$' % function, read(os.path.join(CRATES, path)), re.M)
+    return ['pub fn %s()' % function] + m[1].rstrip('\n').split('\n')
 
 
-def text():
-    files, shown, total = load(), examples(), 0
-    out, known, without, used = [HEAD], set(), [], set()
-    sizes, body = [], []
-    for number, (title, what, roots) in enumerate(PARTS, 1):
-        part = closure(files, roots, known)
-        known |= set(part)
-        lines = count(part)
-        total += lines
-        sizes.append((number, title, len(part), lines, total))
-        body.append('## %d. %s\n\n%s\n' % (number, title, what))
-        for where in list(dict.fromkeys(os.path.relpath(d.path, CRATES) for d in part)):
-            here = [d for d in part if os.path.relpath(d.path, CRATES) == where]
-            body.append('### `%s`\n' % where)
-            numbers = [d for d in here if re.match(r'abbrev pub \S+ : ℕ$', d.lines[0]) and len(d.lines) == 2]
-            if len(numbers) > 5:
-                body.append('```text\n%s\n```\n' % '\n'.join(l for d in numbers for l in (['-- ' + d.comment] if d.comment else []) + d.lines))
-                body.append('*Example.* %s\n' % shown.get(os.path.basename(where), 'The table in [FORMAT.md](FORMAT.md) says when each comes.'))
-                here = [d for d in here if d not in numbers]
+def line_of(path, start):
+    return next(l for l in read(os.path.join(CRATES, path)).split('\n') if l.strip().startswith(start))
+
+
+def fenced(lines):
+    return '```text\n%s\n```\n' % '\n'.join(lines)
+
+
+def the_call(files, examples):
+    """What is quoted of the code before the parts, and the definitions that it quotes."""
+    source, home, reads = 'vipr_bytes/src/source.rt', files[('vipr_check', 'Checks')].own, files[('vipr_bytes', 'Reads')].own
+    verdict = 'vipr_check/src/verdict.rt'
+    code = item('vipr_check/src/whole.rt', r'pub fn check<')
+    code += [l for head in ('enum Verdict', 'enum Fault') for l in item(verdict, r'pub %s ' % head)]
+    record = home['ChecksIn'].lines[:2] + ['  -- the clauses at the head of each part'] + quoted(home['Checks'])
+    slices = ["impl<'a> Bytes<'a> {", line_of(source, "pub fn new(bytes: &'a [u8])"), line_of(source, 'ensures { result ≡ bytes.now }'), '}',
+              "impl Source for Bytes<'_> {", line_of(source, 'ghost input = { λ bytes.'), '}']
+    out = ['## The call and its source\n',
+           'The contract of `check` is the record `ChecksIn` for profile one; that of `check_in` is the record for the '
+           'profile that is handed in.\n', fenced(code + record),
+           'What is read, `R.input source`, is what the source says of its reads. A slice in memory is the source '
+           '`Bytes`: its input has the bytes of the slice, and no failure. Each read keeps the promise `ReadsBytes`.\n',
+           fenced(item(source, r'pub trait Source ') + slices + quoted(reads['after']) + quoted(reads['ReadsBytes']))]
+    definitions = [home['ChecksIn'], home['Checks'], reads['after'], reads['ReadsBytes']]
+    return out + ['\n'.join(examples.items(definitions)) + '\n'], definitions
+
+
+def topic_of(module, number):
+    title = next((title for title, modules in TOPICS if module in modules), module)
+    return JOINED.get((number, title), title)
+
+
+def sections(number, definitions, examples, laws):
+    """A section for each topic: the laws that stand for definitions, one block of definitions, and their examples."""
+    out = []
+    titles = list(dict.fromkeys([title for title, _, _ in laws] + [topic_of(d.module, number) for d in definitions]))
+    for k, title in enumerate(titles, 1):
+        paths = dict.fromkeys('`%s`' % os.path.relpath(d.path, CRATES).replace('/specs', '') for d in definitions if topic_of(d.module, number) == title)
+        out.append('### %s.%d %s\n' % (number, k, title + (' (%s)' % ', '.join(paths) if paths else '')))
+        if (number, title) in NOTES:
+            out.append(NOTES[(number, title)] + '\n')
+        for said, place in ((said, place) for topic, said, place in laws if topic == title):
+            out += ['%s\n' % said, fenced(law(*place))]
+        here = [d for d in definitions if topic_of(d.module, number) == title]
+        if here:
+            lines = []
             for d in here:
-                if d.comment:
-                    body.append(capital(d.comment) + ('' if d.comment.endswith(('.', ':')) else '.') + '\n')
-                body.append('```text\n%s\n```\n' % '\n'.join(d.lines))
-                example = next((shown[n] for n in d.names if n in shown), None)
-                used |= {n for n in d.names if n in shown}
-                if example:
-                    body.append('*Example.* %s\n' % example)
-                else:
-                    without.append('%s (%s)' % (d.names[0], where))
-    out.append('| Part | Definitions | Lines | Lines up to here |\n|---|---|---|---|')
-    out += ['| %d. %s | %d | %d | %d |' % s for s in sizes]
-    out.append('\nLines are counted without comments and imports. The words of the standard library that the definitions '
-               'use (numbers, lists, finite maps and sets, and, or, for all) stand as in its documents.\n')
-    found = contract_of_check()
-    if found:
-        out.append('The call of which all this is proved, with its clauses (`vipr_check/src/%s`):\n\n```text\n%s\n```\n' % found)
-    return '\n'.join(out + body).rstrip('\n') + '\n', without, sorted(set(shown) - used)
+                if is_number(d) and '-- each is a number, of the type ℕ' not in lines:
+                    lines.append('-- each is a number, of the type ℕ')
+                lines += quoted(d)
+            items = examples.items(here)
+            out += [fenced(lines), '\n'.join(items) + '\n' if items else 'The table in [FORMAT.md](FORMAT.md#5-causes) says when each comes.\n']
+    return out
+
+
+def page():
+    """The page, its faults, and what has no example or no definition."""
+    files, examples, faults = load(), Examples(), []
+    home = files[('vipr_check', 'Checks')]
+    fields = record_fields(home.own['ChecksIn'])
+    call, known = the_call(files, examples)
+    missing = set(fields) ^ {name for part in PARTS for name in part['clauses']}
+    faults += ['docs/STATEMENT.md: the clause %s of ChecksIn is in no part' % name for name in sorted(missing)]
+    known, body, rows, up_to = set(known), [], [], 0
+    fractions = law(*FRACTIONS)
+    for number, part in enumerate(PARTS, 1):
+        clauses = [fields[name] for name in part['clauses']]
+        new = closure(files, [d for lines in clauses for d in cited(files, home, lines)], part['hidden'], known)
+        known |= set(new)
+        laws = [('Fractions', FRACTIONS_SAID, FRACTIONS)] if number == 1 else []
+        lines = count(new) + sum(believed(lines) for lines in clauses) + (believed(fractions) if laws else 0)
+        up_to += lines
+        rows.append('| [%d. %s](#%s) | %s | %d | %d | %d |' % (
+            number, part['title'], anchor('%d. %s' % (number, part['title'])), ', '.join('`%s`' % name for name in part['clauses']), len(new), lines, up_to))
+        if part['most'] and up_to > part['most']:
+            faults.append('docs/STATEMENT.md: up to part %d there are %d lines to believe, more than %d' % (number, up_to, part['most']))
+        body += ['## %d. %s\n' % (number, part['title']), part['what'] + '\n', fenced([line for lines in clauses for line in lines])]
+        body += sections(number, new, examples, laws)
+        body.append('**What you know now.** %s\n' % part['known'])
+    two = BY_THEMSELVES
+    instead = [f.own[name] for name in two['instead'] for f in files.values() if name in f.own]
+    alone = closure(files, instead + [d for name in two['clauses'] for d in cited(files, home, fields[name])], two['hidden'], set())
+    by_themselves = count(alone) + sum(believed(fields[name]) for name in two['clauses']) + believed(fractions)
+    if by_themselves > two['most']:
+        faults.append('docs/STATEMENT.md: `any` and `exact` have %d lines to believe, more than %d' % (by_themselves, two['most']))
+    rest = closure(files, [f.own[name] for name in APPENDIX for f in files.values() if name in f.own and name in f.own[name].names], set(), known)
+    body += [APPENDIX_HEAD] + sections('A', rest, examples, [])
+    body += ['### A.%d Laws by which definitions say the same\n' % (1 + len(dict.fromkeys(topic_of(d.module, 'A') for d in rest)))]
+    body.append('Each is the contract of a function without code, proved for all values: [PROOF.md](PROOF.md#vipr_spec) has its clauses.\n')
+    body.append('| Law | File | What it says |\n|---|---|---|\n' + '\n'.join('| `%s` | `%s` | %s |' % (function, path, said) for said, path, function in SAME) + '\n')
+    for _, path, function in SAME:
+        if not re.search(r'^pub fn %s\(\)$' % function, read(os.path.join(CRATES, path)), re.M):
+            faults.append('docs/STATEMENT.md: there is no law %s in %s' % (function, path))
+    table = ['| Part | Clauses | Definitions | Lines | Lines up to here |\n|---|---|---|---|---|'] + rows
+    text = '\n'.join([HEAD] + table + [COUNTED % by_themselves] + call + body).rstrip('\n') + '\n'
+    if text.count('\n') > MOST_LINES:
+        faults.append('docs/STATEMENT.md has %d lines, more than %d' % (text.count('\n'), MOST_LINES))
+    return text, faults, examples
+
+
+def anchor(heading):
+    return re.sub(r'[^\w -]', '', heading.lower()).replace(' ', '-')
 
 
 def main():
-    new, without, unused = text()
+    new, faults, examples = page()
     if '--missing' in sys.argv:
-        print('\n'.join(['no example: ' + w for w in without] + ['no definition: ' + u for u in unused]))
+        print('\n'.join(['no example: ' + w for w in examples.without] + ['no definition: ' + u for u in examples.unused()]))
         return 0
     if '--check' in sys.argv:
         old = read(TARGET) if os.path.isfile(TARGET) else ''
         if old != new:
-            print('docs/STATEMENT.md is not current: run tests/statement.py')
-            return 1
-        return 0
+            faults.append('docs/STATEMENT.md is not current: run tests/statement.py')
+        print('\n'.join(faults))
+        return 1 if faults else 0
     with open(TARGET, 'w', encoding='utf-8') as f:
         f.write(new)
-    print('docs/STATEMENT.md: %d lines; definitions without an example: %d' % (new.count('\n'), len(without)))
-    return 0
+    print('\n'.join(faults + ['docs/STATEMENT.md: %d lines; definitions without an example: %d' % (new.count('\n'), len(examples.without))]))
+    return 1 if faults else 0
 
 
 sys.exit(main())
