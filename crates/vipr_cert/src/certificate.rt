@@ -1,4 +1,8 @@
-//! Certificates.
+//! Whole certificates.
+//!
+//! A [`Certificate`] has a problem, the solutions that are listed for it, and the constraints that
+//! are derived from it. The indices of the derived constraints follow those of the problem's. Being
+//! a `Certificate` says that the text could spell it, and nothing about whether it is a proof.
 ghost use Rattle.std.specs.Prelude.{◌≡◌, ◌↔◌, ◌+◌, ◌<◌, ◌≤◌, IsOk, IfOk, IsTrue, Some, All, map};
 ghost use Rattle.std.specs.Prelude.{length};
 ghost use Rattle.vipr_spec.specs.Certificate.{NamesEarlier};

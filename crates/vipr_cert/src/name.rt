@@ -1,4 +1,7 @@
-//! Names.
+//! Names of variables, constraints, solutions and derivations.
+//!
+//! A [`Name`] is the bytes of a token: between 1 and 65,535, of which none is white space. They
+//! need not be text. A name of at most 30 bytes takes no memory of its own.
 ghost use Rattle.std.specs.Prelude.{◌≡◌, ◌↔◌, ◌≤◌, IsOk, IfOk, IsTrue, length};
 ghost use Rattle.bstr.specs.Owned.{bstring_bytes};
 ghost use Rattle.vipr_spec.specs.Tokens.{is_white, IsToken};

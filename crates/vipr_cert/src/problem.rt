@@ -1,4 +1,9 @@
-//! Problems.
+//! The problem that a certificate is about.
+//!
+//! A [`Problem`] has named variables, the set of those that have to be whole, an objective, named
+//! constraints and a claim. Variables and constraints are known by their index, from 0. `new` tests
+//! the limits of the format. `of_parts` tests nothing, and its caller proves that the parts are
+//! within them.
 ghost use Rattle.std.specs.Prelude.{◌≡◌, ◌↔◌, ◌≤◌, IsOk, IfOk, map};
 ghost use Rattle.vipr_spec.specs.Certificate.{integer_variables};
 ghost use Rattle.vipr_spec.specs.Shape.{ProblemShape, CanWriteProblem};

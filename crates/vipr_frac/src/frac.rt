@@ -1,4 +1,9 @@
-//! The fractions and their arithmetic.
+//! Fractions: their arithmetic, order and rounding.
+//!
+//! A [`Frac`] is in lowest terms, and both its parts are at most 2^127 - 1 in absolute value. So
+//! there is one `Frac` for each number, and equality compares parts. A sum or a product is exact or
+//! refused with [`Overflow`], and its contract says exactly when. Comparison, `floor` and `ceil`
+//! are exact and never refused. In contracts a `Frac` is the fraction itself.
 ghost use Rattle.std.specs.Prelude.{◌≡◌, ℕ, ℤ, pos, ◌+◌, ◌*◌, ◌^◌, ◌<◌, ◌≤◌, ◌+ℤ◌, ◌*ℤ◌, ◌<ℤ◌};
 ghost use Rattle.std.specs.Prelude.{◌≤ℤ◌, unsigned_abs, int_div, ◌↔◌, ◌⊎◌, IsOk, IfOk, IsTrue};
 ghost use Rattle.std.specs.Prelude.{IsSome, IfSome};

@@ -1,4 +1,10 @@
 //! Sums of multiples of constraints.
+//!
+//! A [`Combination`] is made once for a number of variables, and is used for one sum after another.
+//! `add` adds a multiple of a constraint, and refuses a product or a partial sum that is out of
+//! bound, and senses that don't go together. `finish` gives the sum as a constraint; `dominates`
+//! and `rounds_to` compare it in place. `clear` makes it empty again, and takes time for the
+//! variables that were touched alone.
 ghost use Rattle.std.specs.Prelude.{◌≡◌, ◌≢◌, ◌↔◌, ◌⊎◌, ◌<◌, ◌≤◌, ℕ, true, false, length, All};
 ghost use Rattle.std.specs.Prelude.{IsTrue, IsOk, IsSome, IsNone, IfOk, IfErr, OnOk, OnErr};
 ghost use Rattle.std.specs.Prelude.{MatchOption, vec_capacity, Some, None};

@@ -1,4 +1,8 @@
-//! Constraints, and which says as much as another.
+//! Constraints, and which of two says as much as the other.
+//!
+//! A [`Constraint`] compares a row with its right-hand side: equal, at most or at least. It
+//! dominates another one if it is absurd, that is false without any variable, or if it has the same
+//! row, and its sense and right-hand side say at least as much.
 ghost use Rattle.std.specs.Prelude.{◌≡◌, ◌↔◌, IsTrue};
 ghost use Rattle.vipr_spec.specs.Constraint.{Compares, IsAbsurd, Dominates};
 ghost use Rattle.vipr_linear.specs.Constraint.{sense_of, condition_of, with_bound, SaysAsMuch};

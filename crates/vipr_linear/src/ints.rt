@@ -1,4 +1,7 @@
-//! Sets of variables.
+//! The set of variables that have to be whole.
+//!
+//! [`Ints`] keeps the variables in rising order, each once. It answers whether a variable is in the
+//! set, and lists them all.
 ghost use Rattle.std.specs.Prelude.{◌≡◌, ◌↔◌, IsTrue, IfOk};
 ghost use Rattle.std.specs.FinSet.{from_list};
 ghost use Rattle.std.specs.List.Sorted.{IsStrictlyIncreasing};

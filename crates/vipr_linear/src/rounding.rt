@@ -1,4 +1,7 @@
-//! Rounding of sums over integer variables.
+//! Rounding of constraints over integer variables.
+//!
+//! If all coefficients are whole and at integer variables, then the row is whole at each point that
+//! counts. So its right-hand side may be rounded: up for at least, down for at most.
 ghost use Rattle.std.specs.Prelude.{◌≡◌, ◌↔◌, ◌≤◌, ℤ, unsigned_abs, IsTrue, IsOk, IfOk, IfErr};
 ghost use Rattle.std.specs.Prelude.{MatchOption};
 ghost use Rattle.vipr_spec.specs.Fraction.{most, whole, IsWhole};

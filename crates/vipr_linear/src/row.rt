@@ -1,4 +1,8 @@
 //! Rows: the nonzero coefficients of a constraint.
+//!
+//! A [`Row`] lists its variables in rising order with their coefficients, none of which is 0. In
+//! contracts it is a finite map from variables to coefficients, so rows with the same coefficients
+//! are equal however they were made. A row can share its entries with its clones.
 ghost use Rattle.std.specs.Prelude.{All, ◌≡◌, ◌≢◌, ◌↔◌, ◌+◌, ◌<◌, nat_eq, IsTrue, IsOk, IfOk};
 ghost use Rattle.std.specs.Prelude.{IfErr, OnOk, MatchOption, filter, pos, length, ℕ, ◌∷◌, []};
 ghost use Rattle.std.specs.Ordering.{int_eq};

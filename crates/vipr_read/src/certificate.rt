@@ -1,4 +1,7 @@
-//! Reads a whole certificate.
+//! Reads a whole certificate into memory.
+//!
+//! [`read_certificate`] is for callers that need all items at once, as to write or to change them.
+//! A check needs one item at a time, and reads them by [`crate::CertReader`].
 ghost use Rattle.std.specs.Prelude.{◌≡◌, ◌≢◌, ◌⊎◌, Ok, Err, IfOk, IfErr, IsSome, map};
 ghost use Rattle.vipr_spec.specs.Certificate.{Certificate as CertificateMeant, variables};
 ghost use Rattle.vipr_spec.specs.Grammar.{Spells};
@@ -24,6 +27,12 @@ use vipr_scan::{Scanner, Stop, TextError};
 ///
 /// `Refused` where the text spells no certificate, `Read` where a read fails before that is known,
 /// and `Memory` where a growth is refused.
+///
+/// # Example
+///
+/// ```rust crates/vipr_example/src/text.rt
+/// let certificate = read_certificate(alloc, Bytes::new(text))?;
+/// ```
 pub fn read_certificate<R: Source + Drop>(
     alloc: Global,
     source: R,

@@ -1,4 +1,8 @@
-//! Reads the items of a certificate one by one.
+//! Readers of the items of a certificate, one by one.
+//!
+//! [`Solutions`] and [`Derivations`] read an item a call and keep none. Their contracts say that
+//! the items are those of the text, and that an error is the text's first fault. After an error a
+//! reader answers nothing but that it is spent.
 ghost use Rattle.std.specs.Prelude.{◌≡◌, ◌↔◌, ◌^◌, ◌+◌, ◌<◌, true, false, Ok, IfOk, IfSome};
 ghost use Rattle.std.specs.Prelude.{IsErrOf, IsSome};
 ghost use Rattle.vipr_spec.specs.Certificate.{Problem as ProblemMeant};

@@ -1,4 +1,8 @@
 //! Why a derivation is refused.
+//!
+//! A [`RuleError`] names the first test that a derivation fails, and has what shows it: an index,
+//! the position of an entry, or the constraints that don't go together. `Memory` is the one variant
+//! that says nothing about the derivation.
 
 ghost use Rattle.std.specs.Prelude.{◌≡◌, IfOk, Some};
 ghost use Rattle.vipr_spec.specs.Causes as cause;

@@ -1,4 +1,16 @@
-//! Derivations by their reasons.
+//! The test of a derivation, by the rule of its reason.
+//!
+//! A derivation states a constraint and gives a reason for it. `asm` assumes it. `lin` adds up
+//! multiples of earlier constraints, and `rnd` rounds that sum. `uns` joins two branches: what
+//! follows from each of two assumptions that split holds without them. `sol` cuts off each point
+//! that is no better than the best listed solution. What is computed, and under `uns` both
+//! conclusions, must dominate the stated constraint.
+//!
+//! [`apply`] tests a derivation against the problem, the best value of the listed solutions and the
+//! table of earlier constraints. It gives the [`Entry`] to be kept: the constraint with the
+//! assumptions that it rests on and its last reference. [`apply_in`] does so by the rules of a
+//! [`Profile`], and [`apply_taking`] moves the constraint out of the derivation. An error is the
+//! first test that fails, with what shows it.
 
 ghost use Rattle.std.specs.Prelude.{◌≡◌, ◌≢◌, ℕ, length, Some, IfOk, IfErr, OnErr};
 ghost use Rattle.std.specs.Prelude.{option_copied};

@@ -1,4 +1,9 @@
 //! The test of a listed solution.
+//!
+//! A listed solution has to be whole at the integer variables and to meet each constraint, and the
+//! values that are computed at it have to be within the bound. [`test_solution`] tests row by row,
+//! and gives the objective's value. [`test_solution_by_columns`] gives the same answer over the
+//! [`Columns`] of the problem, in less time where the solution lists few of many variables.
 
 ghost use Rattle.std.specs.Prelude.{◌≡◌, ◌↔◌, ◌<◌, ℕ, length, map, None, IsOk, IfOk};
 ghost use Rattle.std.specs.Prelude.{MatchResult};

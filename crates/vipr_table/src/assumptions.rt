@@ -1,4 +1,8 @@
 //! The assumptions that a derived constraint rests on.
+//!
+//! [`Assumptions`] is a set of indices. A sum rests on the union of the sets of its constraints,
+//! and a split takes one assumption out of each of its branches. Clones share their indices, so a
+//! long set that many constraints rest on is in memory once.
 mod held;
 mod merge;
 mod union;

@@ -1,4 +1,10 @@
 //! Tables of derived constraints by index.
+//!
+//! A [`Rows`] keeps an [`Entry`] for each derived constraint that a later derivation may refer to.
+//! Derivations come in the order of their indices, and each has a last reference: `advance` forgets
+//! what no derivation after the next may refer to, and `put` places an entry at the next index. In
+//! contracts a table is the function from an index to its live entry. The crate has two tables: one
+//! drops what is forgotten, the other keeps it and hides it.
 mod expiry;
 mod hasher;
 mod keep_all;

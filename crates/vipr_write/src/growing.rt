@@ -1,5 +1,8 @@
 //! A canonical text that grows item by item.
-ghost use Rattle.std.specs.Prelude.{◌≡◌, ◌++◌, codes, IfOk};
+//!
+//! A [`GrowingText`] begins with a problem and the number of solutions. Then the caller pushes each
+//! solution, the number of derivations, and each derivation. The items themselves aren't kept.
+ghost use Rattle.std.specs.Prelude.{◌≡◌, ◌++◌, [], codes, IfOk, OnErr, OnOk};
 ghost use Rattle.vipr_write.specs.Canonical.{problem_lines, solution_words, derivation_words};
 ghost use Rattle.vipr_write.specs.Canonical.{heading, line_text, lines_text};
 ghost use Rattle.vipr_cert.specs.Items.{solution_of, derivation_of};
@@ -12,7 +15,7 @@ use vipr_cert::{Derivation, Named, Problem};
 use vipr_linear::Solution;
 
 /// The beginning of a canonical text, which takes the items that follow one by one and keeps none
-/// of them. Where a growth is refused, it is given up.
+/// of them. If a growth is refused, the text is given up: it is empty then.
 #[derive(Drop)]
 pub struct GrowingText {
     text: Vec<u8>,
@@ -38,30 +41,58 @@ impl GrowingText {
         Ok(GrowingText { text })
     }
 
-    /// A listed solution more.
-    pub fn solution(mut self, solution: &Named<Solution>) -> Result<GrowingText, AllocError>
-        ensures { IfOk result
-            (λ t. t ≡ self ++ line_text (solution_words (solution_of solution.now))) }
+    /// Appends a listed solution.
+    ///
+    /// # Errors
+    ///
+    /// A growth is refused.
+    pub fn push_solution(&mut self, solution: &Named<Solution>) -> Result<(), AllocError>
+        ensures ok { OnOk result (self.new
+            ≡ self.old ++ line_text (solution_words (solution_of solution.now))) }
+        ensures err { OnErr result (self.new ≡ []) }
     {
-        append_solution(&mut self.text, solution)?;
-        Ok(self)
+        let pushed = append_solution(&mut self.text, solution);
+        self.or_empty(pushed)
     }
 
-    /// How many derivations are to follow.
-    pub fn derivation_count(mut self, derivations: u32) -> Result<GrowingText, AllocError>
-        ensures { IfOk result (λ t. t ≡ self ++ line_text (heading (codes "DER") derivations)) }
+    /// Appends how many derivations are to follow.
+    ///
+    /// # Errors
+    ///
+    /// A growth is refused.
+    pub fn push_derivation_count(&mut self, derivations: u32) -> Result<(), AllocError>
+        ensures ok { OnOk result (self.new
+            ≡ self.old ++ line_text (heading (codes "DER") derivations)) }
+        ensures err { OnErr result (self.new ≡ []) }
     {
-        append_heading(&mut self.text, b"DER", derivations as usize)?;
-        Ok(self)
+        let pushed = append_heading(&mut self.text, b"DER", derivations as usize);
+        self.or_empty(pushed)
     }
 
-    /// A derivation more.
-    pub fn derivation(mut self, derivation: &Derivation) -> Result<GrowingText, AllocError>
-        ensures { IfOk result
-            (λ t. t ≡ self ++ line_text (derivation_words (derivation_of derivation.now))) }
+    /// Appends a derivation.
+    ///
+    /// # Errors
+    ///
+    /// A growth is refused.
+    pub fn push_derivation(&mut self, derivation: &Derivation) -> Result<(), AllocError>
+        ensures ok { OnOk result (self.new
+            ≡ self.old ++ line_text (derivation_words (derivation_of derivation.now))) }
+        ensures err { OnErr result (self.new ≡ []) }
     {
-        append_derivation(&mut self.text, derivation)?;
-        Ok(self)
+        let pushed = append_derivation(&mut self.text, derivation);
+        self.or_empty(pushed)
+    }
+
+    // Empties the text if what was to be pushed wasn't.
+    fn or_empty(&mut self, pushed: Result<(), AllocError>) -> Result<(), AllocError>
+        ensures answer { result ≡ pushed }
+        ensures ok { OnOk result (self.new ≡ self.old) }
+        ensures err { OnErr result (self.new ≡ []) }
+    {
+        if pushed.is_err() {
+            self.text.clear();
+        }
+        pushed
     }
 
     /// The bytes so far.

@@ -1,4 +1,5 @@
-//! Lines.
+//! The lines of a certificate's items, in a text that grows: a constraint, a claim, a solution, a
+//! derivation.
 ghost use Rattle.std.specs.Prelude.{◌≡◌, ◌∷◌, ◌++◌, OnOk};
 ghost use Rattle.vipr_spec.specs.Certificate.{range, uns};
 ghost use Rattle.vipr_linear.specs.Constraint.{constraint_of};

@@ -51,6 +51,17 @@ impl From<WriteFailed> for WriteError {
 ///
 /// `Memory` where that buffer is refused, or where there are 2^48 words and lines or more: nothing
 /// was written. `Write` where a write fails or takes nothing, and the sink is asked no more.
+///
+/// # Example
+///
+/// ```rust crates/vipr_example/src/text.rt
+/// let mut out = Vec::new(alloc);
+/// match write_certificate(alloc, &certificate, &mut FromWrite::new(&mut out)) {
+///     Ok(()) => Ok(out),
+///     // A vector takes each write whole, or has no memory for it.
+///     Err(WriteError::Write { .. } | WriteError::Memory { .. }) => Err(TextError::Memory),
+/// }
+/// ```
 pub fn write_certificate<W: Sink>(
     alloc: Global,
     certificate: &Certificate,

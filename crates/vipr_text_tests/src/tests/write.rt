@@ -279,11 +279,11 @@ fn each_kind_of_line(rt: HostRuntime) {
 fn grown(rt: &impl Abort, alloc: Global, certificate: &Certificate) -> Vec<u8> {
     let mut text = GrowingText::new(alloc, certificate.problem(), 2).expect(rt, "the problem");
     for solution in certificate.solutions() {
-        text = text.solution(solution).expect(rt, "a solution");
+        text.push_solution(solution).expect(rt, "a solution");
     }
-    text = text.derivation_count(5).expect(rt, "a count");
+    text.push_derivation_count(5).expect(rt, "a count");
     for derivation in certificate.derivations() {
-        text = text.derivation(derivation).expect(rt, "a derivation");
+        text.push_derivation(derivation).expect(rt, "a derivation");
     }
     text.into_bytes()
 }
