@@ -7,6 +7,7 @@ Each command that the program has is run over the examples. What a run may answe
 - where a growth is refused, `fault memory` with status 3 and nothing on the output, or what the run without it answers;
 - where a read fails, `fault read`, or that answer where it was decided before; and no read follows the failed one;
 - where a write fails, `fault write after N` with exactly the first N bytes on the output; and no write follows;
+- the same of OUT, which gets each byte once: one that is new holds the first N bytes then, and any other what it held;
 - with any of the three streams closed, past a limit on the length of files, and where a stream doesn't wait, the same.
 Beginnings of the examples, whole and a byte at a time, are answered as the plain model under bench/ does it; texts at
 the format's limits have the answer that the rules give, within a small limit of memory. Of each family of bench/families.py
@@ -125,6 +126,15 @@ def writes_fail(name, words, text):
     each(one, range(1, length + 2))
 
 
+def reads_of_a_byte(commands):
+    """A text of over 200,000 bytes, a byte a read: as many reads as it has bytes, and one that gives none."""
+    text = b'%' + b'c' * 200_000 + b'\n' + (TOP / 'examples/infeasible.vipr').read_bytes()
+    for command in commands:
+        got = answer([command], text, {'READ_AT_MOST': 1})
+        expect(f'{command} of a long text a byte at a time', got, answer([command], text))
+        expect(f'{command} of a long text, its reads', got.calls[1:2], (len(text) + 1,))
+
+
 def with_refused_calls(commands, examples):
     for words in ([], ['--help'], ['check', '--help'], ['check', 'a', 'b'], ['no-command']):
         growths_refused('vipr ' + ' '.join(words), words, b'')
@@ -139,6 +149,45 @@ def with_refused_calls(commands, examples):
 
 
 # ---- OUT
+
+def writes_to_out(path, text):
+    """Each write of a byte to OUT fails, takes nothing or is interrupted: OUT is new, there before, or FILE itself."""
+    printed, said, _ = answer(['tighten'], text)
+
+    def one(task):
+        n, how, kind = task
+        folder = Path(tempfile.mkdtemp(dir=WORK))
+        file = folder / 'a.vipr'
+        file.write_bytes(text)
+        out = file if kind == 'FILE' else folder / 'out'
+        if kind == 'there':
+            out.write_bytes(b'before')
+        before = out.read_bytes() if out.exists() else printed[:n - 1]
+        got = answer(['tighten', str(file), '--out', str(out)], b'', {'WRITE_AT_MOST': 1, how: n})
+        fails = n <= len(printed)
+        what = f'tighten {path.name} to OUT ({kind}) with {how} {n}'
+        expect(what, got, (b'', b'fault write after %d\n' % (n - 1), 3) if fails else (b'', said, 0))
+        expect(f'{what}, writes and those after it', got.calls[2:5:2], (min(n, len(printed)), 0))
+        expect(f'{what}: OUT', (out.read_bytes(),), (before if fails else printed,))
+        expect(f'{what}: names', (sorted(it.name for it in folder.iterdir()),), (sorted({'a.vipr', out.name}),))
+        shutil.rmtree(folder)
+    each(one, itertools.product(range(1, len(printed) + 2), ('FAIL_WRITE', 'NO_WRITE', 'INTERRUPT_WRITE'),
+                                ('new', 'there', 'FILE')))
+
+
+def short_writes_to_out(path, text):
+    """OUT takes a few bytes a write: each byte once, by as few writes as there can be."""
+    printed, said, _ = answer(['tighten'], text)
+    for most, kind in itertools.product((1, 2, 7, 64, len(printed) - 1), ('new', 'there')):
+        out = Path(tempfile.mkdtemp(dir=WORK)) / 'out'
+        if kind == 'there':
+            out.write_bytes(b'x' * 3 * len(printed))
+        got = answer(['tighten', '--out', str(out)], text, {'WRITE_AT_MOST': most})
+        what = f'tighten {path.name} to OUT ({kind}) by writes of at most {most}'
+        expect(what, got, (b'', said, 0))
+        expect(f'{what}: their number', got.calls[2:3], (-(-len(printed) // most),))
+        expect(f'{what}: OUT', (out.read_bytes(),), (printed,))
+
 
 def out_is_kept(examples):
     """A refused text, a failed read and want of memory leave OUT as it was."""
@@ -378,8 +427,12 @@ def main():
     if LIBRARY:
         what_is_asked_for()
         with_refused_calls(commands, examples)
+        reads_of_a_byte(commands)
         if 'tighten' in commands:
             out_is_kept(examples)
+            loose = TOP / 'examples/cutoff_loose.vipr'
+            writes_to_out(loose, loose.read_bytes())
+            short_writes_to_out(loose, loose.read_bytes())
     else:
         print('hostile: no C compiler is here, so the runs with refused calls are left out')
     spent = sum(resource.getrusage(who)[k] for who in (resource.RUSAGE_CHILDREN, resource.RUSAGE_SELF) for k in (0, 1))

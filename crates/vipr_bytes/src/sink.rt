@@ -2,7 +2,7 @@ ghost use Rattle.std.specs.Prelude.{◌≡◌, ℕ, ◌+◌, ◌<◌, ◌≤◌,
 ghost use Rattle.std.specs.Prelude.{IfSome};
 ghost use Rattle.vipr_bytes.specs.Output.{Output, Writes, output_of, failure_of};
 
-use crate::source::Failed;
+use crate::source::{Failed, answer};
 use std::io::Write;
 use std::marker::Model;
 
@@ -59,9 +59,6 @@ impl<W: Write> Sink for FromWrite<W> {
     ghost failures = { λ _. None };
 
     fn write(&mut self, bytes: &[u8]) -> Result<usize, Failed> {
-        match self.writer.write(bytes) {
-            Ok(n) => Ok(n),
-            Err(_) => Err(Failed),
-        }
+        answer(self.writer.write(bytes))
     }
 }

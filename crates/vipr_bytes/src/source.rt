@@ -1,10 +1,10 @@
 ghost use Rattle.std.specs.Prelude.{◌≡◌, ℕ, ◌+◌, ◌-◌, ◌^◌, ◌<◌, ◌≤◌, List, length, Option, Some};
-ghost use Rattle.std.specs.Prelude.{None, false, IfOk, IfSome};
+ghost use Rattle.std.specs.Prelude.{None, Ok, false, IfOk, IfSome, IsErr, OnOk, MatchResult, ◌↔◌};
 ghost use Rattle.std.specs.Io.KnownBytes.{ReadConsumes};
 ghost use Rattle.vipr_spec.specs.Input.{Input};
 ghost use Rattle.vipr_bytes.specs.Reads.{ReadsBytes};
 
-use std::io::Read;
+use std::io::{self, Read};
 use std::marker::Model;
 
 /// A read or a write failed.
@@ -84,6 +84,21 @@ impl<R: Read> FromRead<R> {
     {
         FromRead { reader, reads: 0 }
     }
+
+    // Counts a read. The 2^64th is refused, and no other.
+    fn count(&mut self) -> Result<(), Failed>
+        ensures limit { IsErr result ↔ (self.old.reads ≡ 2 ^ 64 - 1) }
+        ensures counted { OnOk result (self.new.reads ≡ self.old.reads + 1) }
+        ensures bound { OnOk result
+            (2 ^ 64 - 1 - self.new.reads < 2 ^ 64 - 1 - self.old.reads) }
+        ensures reader { self.new.reader ≡ self.old.reader }
+    {
+        if self.reads == u64::MAX {
+            return Err(Failed);
+        }
+        self.reads += 1;
+        Ok(())
+    }
 }
 
 impl<R: Read> Source for FromRead<R> {
@@ -99,13 +114,18 @@ impl<R: Read> Source for FromRead<R> {
         ensures given { ReadConsumes (R.remaining self.old.reader)
             (R.remaining self.new.reader) result buf.new }
     {
-        if self.reads == u64::MAX {
-            return Err(Failed);
-        }
-        self.reads += 1;
-        match self.reader.read(buf) {
-            Ok(n) => Ok(n),
-            Err(_) => Err(Failed),
-        }
+        self.count()?;
+        answer(self.reader.read(buf))
+    }
+}
+
+/// What is answered where a reader or a writer of std gave this: each of its errors is a failure,
+/// and nothing else is.
+pub(crate) fn answer(given: io::Result<usize>) -> Result<usize, Failed>
+    ensures { MatchResult given (λ n. result ≡ Ok n) (λ _. IsErr result) }
+{
+    match given {
+        Ok(n) => Ok(n),
+        Err(_) => Err(Failed),
     }
 }

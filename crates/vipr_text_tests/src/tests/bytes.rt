@@ -68,6 +68,32 @@ fn a_reader_is_read_and_its_errors_are_failures(rt: HostRuntime) {
     }
 }
 
+/// Gives a space at each of so many reads, and nothing behind them.
+#[derive(Drop)]
+struct Spaces {
+    left: u32,
+}
+
+impl Read for Spaces {
+    fn read(&mut self, buf: &mut [u8]) -> io::Result<usize> {
+        if self.left == 0 || buf.is_empty() {
+            return Ok(0);
+        }
+        self.left -= 1;
+        buf[0] = b' ';
+        Ok(1)
+    }
+}
+
+#[test]
+fn two_hundred_thousand_reads_may_give_a_byte_each(rt: HostRuntime) {
+    let mut source = FromRead::new(Spaces { left: 200_000 });
+    for _ in 0..200_000 {
+        gives(&rt, &mut source, Ok((1, b' ')));
+    }
+    gives(&rt, &mut source, Ok((0, 0)));
+}
+
 /// Writes three bytes once, and compares how many were taken.
 fn takes<W: Sink>(rt: &impl Abort, sink: &mut W, wanted: Result<usize, Failed>) {
     same(rt, sink.write(b"abc"), wanted);
