@@ -14,6 +14,7 @@ it may. --missing lists the definitions without an example, and the examples wit
 import os
 import re
 import sys
+import textwrap
 
 ROOT = os.path.dirname(os.path.dirname(os.path.abspath(__file__)))
 CRATES = os.path.join(ROOT, 'crates')
@@ -22,32 +23,50 @@ EXAMPLES = os.path.join(ROOT, 'tests', 'statement_examples.md')
 SPEC_CRATES = ['vipr_spec', 'vipr_bytes', 'vipr_cert', 'vipr_check']
 MOST_LINES = 1700
 # the columns of a line that is quoted with its comment, and of an item of examples
-WIDTH, ITEM = 118, 320
+WIDTH, ITEM = 122, 520
 
 
 # ---- what the page is made of
 
-# The law that says what fractions are: who believes it needn't believe how they are computed.
-FRACTIONS = ('vipr_spec/src/arithmetic.rt', 'cross_products')
+# The laws that are quoted in place of definitions: by its name the section, the file, what is said of it, and the
+# definitions for which it stands.
 COMPUTED = {'over', '◌+ℚ◌', '◌*ℚ◌', '◌≤ℚ◌'}
+LAWS = {
+    'cross_products': (
+        'Fractions', 'vipr_spec/src/arithmetic.rt',
+        'What fractions are is said by a law. `over p q` is p / q; `x.numer` and `x.denom` are the parts of x. Who '
+        'believes the law needs none of the definitions by which they are computed ([appendix](#appendix)).', COMPUTED),
+    'one_problem': (
+        'The grammar', 'vipr_spec/src/grammar.rt',
+        'The clause speaks of a certificate c that the text spells. By a law the text then states the problem '
+        '`c.problem` and the listed solutions `c.solutions`, and no others: its first tokens spell them. So nothing has '
+        'to be believed of derivations, not even how they are spelled.', {'SpellsOnly'}),
+}
+# clauses of them that say nothing new: IsWhole is quoted
+NEEDLESS = ['whole']
+BY_LAW = COMPUTED
 
-# Each part: its title, clauses of `ChecksIn`, the most lines to believe for it, the definitions that a law hides, what
-# it says, and what a reader knows behind it.
+# Each part: its title, its clauses of `ChecksIn`, those that imply the others, the most lines to believe for these by
+# themselves, the laws that stand for definitions, those that they hide, those that they cite instead, what the part
+# says, and what a reader knows behind it.
 PARTS = [
-    {'title': 'What is claimed is true', 'clauses': ['sound'], 'most': 286,
-     'hidden': COMPUTED | {'gcd', 'euclid', 'IsLowest', 'ℚ'},
+    {'title': 'What is claimed is true', 'clauses': ['sound'], 'core': ['sound'], 'most': 260,
+     'laws': ['cross_products', 'one_problem'], 'instead': ['StatesOnly'],
+     'hidden': COMPUTED | {'gcd', 'euclid', 'IsLowest', 'ℚ', 'SpellsOnly', 'Certificate'},
      'what': 'What `verified` promises of the problem in the text.',
-     'known': 'If `check` answers verified for bytes in memory, they spell one certificate, and what it claims is true '
-              'of the problem in it. Under `infeas` each rational point that is whole at the integer variables breaks '
+     'known': 'If `check` answers verified for bytes in memory, they state one problem, and what they claim of it is '
+              'true. Under `infeas` each rational point that is whole at the integer variables breaks '
               'a constraint. Under `range` the dual bound holds at each such point that meets all constraints; and if '
-              'a primal bound is claimed, a listed solution is feasible and attains it. Nothing here speaks of rules, '
-              'so no mistake in a rule can make it false. Stop here if a false `verified` is all that you fear.'},
-    {'title': 'Verified in both directions', 'clauses': ['proof', 'every', 'second'], 'most': 526, 'hidden': COMPUTED | {'Reports', 'report_of'},
-     'what': 'Which texts are verified: this part adds what a proof is. What the clauses say of the report, `Reports`, is '
-             'left to part 3: the rest of each clause stands without it.',
+              'a primal bound is claimed, a listed solution is feasible and attains it. Nothing here speaks of rules '
+              'or derivations, so no mistake in a rule can make it false. Stop here if a false `verified` is all that you fear.'},
+    {'title': 'Verified in both directions', 'clauses': ['proof', 'every'], 'core': ['proof', 'every'], 'most': 488, 'laws': [], 'instead': [],
+     'hidden': BY_LAW | {'Reports', 'report_of', 'Profile'},
+     'what': 'Which texts are verified: this part adds what a proof is. P is profile one, `one`, which `check` uses. What '
+             'the clauses say of the report, `Reports`, is left to part 3: the rest of each clause stands without it.',
      'known': 'As long as memory suffices and no read fails, a text is verified exactly if it spells a certificate that '
-              'is a proof by these rules. So no proof is refused. A proof by profile one is one by profile two as well.'},
-    {'title': 'The exact answer', 'clauses': ['any', 'exact', 'only', 'read', 'ended'], 'most': 1070, 'hidden': COMPUTED,
+              'is a proof by these rules. So no proof is refused. Under profile two, which `check` doesn\'t use, two definitions have one more equation '
+              'each: part 3 has them.'},
+    {'title': 'The exact answer', 'clauses': ['any', 'exact', 'only', 'read', 'ended', 'second'], 'core': ['any', 'exact'], 'most': 900, 'laws': [], 'instead': [], 'hidden': BY_LAW,
      'what': 'What is answered for every text, and what is known of a file.',
      'known': 'You know the whole answer for all bytes: the report of a proof; of any other text the first cause, in '
               'the order of the tests, with its place; and that a failed read is answered only if one failed. Of a file '
@@ -58,12 +77,12 @@ PARTS = [
 TOPICS = [
     ('Fractions', ['Gcd', 'Lowest', 'Fraction']),
     ('Constraints', ['Constraint']),
-    ('Problem, claim and certificate', ['Certificate', 'Soundness']),
+    ('Problem, claim and certificate', ['Certificate', 'Soundness', 'Rules']),
     ('Numbers in a text', ['Digits', 'Number']),
     ('Tokens', ['Input', 'Tokens']),
     ('Causes', ['Causes']),
     ('Reading', ['Reading']),
-    ('The grammar', ['Grammar']),
+    ('The grammar', ['Grammar', 'Stated']),
     ('The tests of a derivation', ['Steps']),
     ('The tests of a text', ['Tests']),
     ('The first test that fails', ['Verdict']),
@@ -78,9 +97,8 @@ NOTES = {
         'The reading goes through the grammar of part 1 from left to right, up to the first fault. '
         '`reading_is_the_grammar` proves that it reads exactly the texts that spell a certificate, as that certificate.',
     (3, 'The tests of a derivation'):
-        'The tests are the rules of part 2, in the order in which they are tried: `FollowsBy`, `StepFits`, `NamesEarlier` '
-        'and `RefersTo` say the same at once. `tests_are_the_rules` proves that no test fails exactly if `IsGoodStep` '
-        'holds.',
+        'The tests are the rules of part 2, one by one, in the order in which they are tried. `tests_are_the_rules` '
+        'proves that no test fails exactly if the derivation is good (`IsGoodStep`).',
 }
 
 # What no clause of `Checks` cites, and why it is quoted.
@@ -96,19 +114,15 @@ SAME = [
     ('the items of a text, as they are read and as the grammar has them', 'vipr_spec/src/grammar.rt', 'items'),
     ('a certificate, as it is read (`certificate_read`) and as it is spelled (`Spells`)', 'vipr_spec/src/grammar.rt', 'reading_is_the_grammar'),
     ('the tests of a derivation (`PassesSteps`), and the rules (`IsGoodStep`)', 'vipr_spec/src/step_by_step.rt', 'tests_are_the_rules'),
+    ('constraints by their index, and the lists of the certificate', 'vipr_spec/src/step_by_step.rt', 'field_by_field'),
+    ('what a text spells, and the problem that it states (`StatesOnly`)', 'vipr_spec/src/grammar.rt', 'one_problem'),
     ('a verified answer, and a text that spells a proof', 'vipr_spec/src/verdict.rt', 'verified_texts'),
     ('`IsTrueClaim`, over all points, of a proof', 'vipr_spec/src/claims.rt', 'proofs_are_true'),
     ('`IsShown`, over points of one denominator, of a proof', 'vipr_spec/src/claims.rt', 'proofs_show'),
 ]
 
-# Two clauses that imply all others, and the most lines to believe for them by themselves. Laws put the definitions of
-# the second list for those of the first, which hide more.
-BY_THEMSELVES = {'clauses': ['any', 'exact'], 'most': 900, 'hidden': COMPUTED | {'HasGoodSteps', 'natural_of'},
-                 'instead': ['PassesSteps', 'SpellsNatural']}
-
-FRACTIONS_SAID = (
-    'What fractions are is said by a law. `over p q` is p / q; `x.numer` and `x.denom` are the parts of x. Who believes '
-    'the law needs none of the definitions by which they are computed ([appendix](#appendix)).')
+# Definitions that part 3 by itself puts for others, by the laws of SAME.
+INSTEAD = {'hidden': {'HasGoodSteps', 'natural_of'}, 'instead': ['PassesSteps', 'SpellsNatural']}
 
 HEAD = '''# The statement
 
@@ -135,11 +149,12 @@ files, and then an example of each. `T : A → Type 0` is a property of A's, `(x
 '''
 
 COUNTED = '''
-Lines are those to believe: clauses, definitions and the law on fractions, without comments and imports. The code that is \
-quoted, and the words of the standard library (numbers, lists, finite maps and sets), aren't counted. `any` and `exact` \
-imply all other clauses, which is how those are proved. By themselves they have %d lines. They need no grammar, since a \
-law says that it and the reading are the same; and laws put the tests of derivations for their rules (`PassesSteps`), and \
-the digits of a number for how they are read (`SpellsNatural`).
+Lines are those to believe: clauses, definitions, and laws that are quoted instead of definitions, without comments and \
+imports. The code that is quoted, and the words of the standard library (numbers, lists, finite maps and sets), aren't \
+counted. The last column is a part without the parts before it: what `sound` needs; what `proof` and `every` need; what \
+`any` and `exact` need, which imply all other clauses. These two need no grammar, since a law says that it and the reading \
+are the same. Laws also put the tests of derivations for their rules there (`PassesSteps`), and how digits are spelled for \
+how they are read (`SpellsNatural`).
 '''
 
 APPENDIX_HEAD = '''## Appendix
@@ -313,10 +328,26 @@ def closure(files, start, hidden, known):
     return sorted(found, key=lambda d: d.order)
 
 
+def named(files, names):
+    """The definitions of these names."""
+    return [f.own[name] for name in names for f in files.values() if name in f.own and name in f.own[name].names]
+
+
 def cited(files, home, lines):
     """The definitions that these lines of a file mean."""
     words = Definition('', 0, [], lines, [], False).words()
     return [d for d in (meant(files, home, word) for word in sorted(words)) if d is not None]
+
+
+def split(d):
+    """A definition for profile one, and its equations for profile two, if it has some."""
+    starts = [i for i, line in enumerate(d.lines) if re.match(re.escape(d.names[0]) + ' two ', line)]
+    if not starts:
+        return d, None
+    end = next((i for i in range(starts[0] + 1, len(d.lines)) if d.lines[i][0] != ' '), len(d.lines))
+    one = Definition(d.path, d.order, d.comment, d.lines[:starts[0]] + d.lines[end:], d.names, False)
+    two = Definition(d.path, d.order, ['-- for profile two'], d.lines[starts[0]:end], ['%s two' % d.names[0]], False)
+    return one, two
 
 
 def believed(lines):
@@ -334,7 +365,7 @@ def quoted(d):
     comment, lines = ' '.join(l[2:].strip() for l in d.comment), d.lines[1:] if is_number(d) else d.lines
     if comment and len(lines[0]) + len(comment) + 4 <= WIDTH:
         return [lines[0] + ' -- ' + comment] + lines[1:]
-    return d.comment + lines
+    return textwrap.wrap(comment, WIDTH, initial_indent='-- ', subsequent_indent='-- ') + lines
 
 
 def count(definitions):
@@ -353,16 +384,18 @@ def sentences():
 
 
 class Examples:
+    """What is said of each definition. Knows which were used, and which definitions have none."""
+
     def __init__(self):
-        self.sentences, self.used, self.without = sentences(), set(), []
+        self.said, self.used, self.without = sentences(), set(), []
 
     def of(self, d):
-        names = [n for n in d.names if n in self.sentences]
+        names = [n for n in d.names if n in self.said]
         if not names:
             self.without.append('%s (%s)' % (d.names[0], d.module))
             return None
         self.used |= set(names)
-        return self.sentences[names[0]]
+        return self.said[names[0]]
 
     def items(self, definitions):
         """The list behind a section: each definition with its example, and those with the same one together."""
@@ -386,7 +419,7 @@ class Examples:
         return items
 
     def unused(self):
-        return sorted(set(self.sentences) - self.used)
+        return sorted(set(self.said) - self.used)
 
 
 # ---- what is quoted of the code
@@ -402,10 +435,12 @@ def item(path, head):
     return [l for l in lines if not re.match(r'\s*(?:///|#\[)', l) and l.strip()]
 
 
-def law(path, function):
-    """The clauses of a law."""
-    m = re.search(r'^pub fn %s\(\)\n((?:.|\n)*?)^\{\}$' % function, read(os.path.join(CRATES, path)), re.M)
-    return ['pub fn %s()' % function] + m[1].rstrip('\n').split('\n')
+def law(function):
+    """The clauses of a law, but for those that aren't needed."""
+    m = re.search(r'^pub fn %s\(\)\n((?:.|\n)*?)^\{\}$' % function, read(os.path.join(CRATES, LAWS[function][1])), re.M)
+    clauses = re.split(r'^(?=    ensures )', m[1], flags=re.M)[1:]
+    needed = [c for c in clauses if not re.match(r'    ensures (?:%s) ' % '|'.join(NEEDLESS), c)]
+    return ['pub fn %s()' % function] + [line for c in needed for line in c.rstrip('\n').split('\n')]
 
 
 def line_of(path, start):
@@ -443,14 +478,16 @@ def topic_of(module, number):
 def sections(number, definitions, examples, laws):
     """A section for each topic: the laws that stand for definitions, one block of definitions, and their examples."""
     out = []
-    titles = list(dict.fromkeys([title for title, _, _ in laws] + [topic_of(d.module, number) for d in definitions]))
+    titles = list(dict.fromkeys(topic_of(d.module, number) for d in definitions))
     for k, title in enumerate(titles, 1):
         paths = dict.fromkeys('`%s`' % os.path.relpath(d.path, CRATES).replace('/specs', '') for d in definitions if topic_of(d.module, number) == title)
         out.append('### %s.%d %s\n' % (number, k, title + (' (%s)' % ', '.join(paths) if paths else '')))
         if (number, title) in NOTES:
             out.append(NOTES[(number, title)] + '\n')
-        for said, place in ((said, place) for topic, said, place in laws if topic == title):
-            out += ['%s\n' % said, fenced(law(*place))]
+        for function in laws:
+            topic, _, said, _ = LAWS[function]
+            if topic == title:
+                out += [said + '\n', fenced(law(function))]
         here = [d for d in definitions if topic_of(d.module, number) == title]
         if here:
             lines = []
@@ -463,6 +500,18 @@ def sections(number, definitions, examples, laws):
     return out
 
 
+def alone(files, home, fields, number):
+    """The lines to believe for a part by itself, for profile one: the clauses that imply its others, the definitions
+    that they rest on, and the laws that stand for some."""
+    part, last = PARTS[number - 1], number == len(PARTS)
+    hidden, instead = part['hidden'] | (INSTEAD['hidden'] if last else set()), part['instead'] + (INSTEAD['instead'] if last else [])
+    clauses = [fields[name] for name in part['core']]
+    found = closure(files, [d for lines in clauses for d in cited(files, home, lines)] + named(files, instead), hidden, set())
+    needed = {w for d in found for w in d.words()} | {w for lines in clauses for d in cited(files, home, lines) for w in d.names}
+    laws = [function for function, (_, _, _, stands_for) in LAWS.items() if stands_for & needed and stands_for & hidden]
+    return count([split(d)[0] for d in found]) + sum(believed(lines) for lines in clauses + [law(f) for f in laws])
+
+
 def page():
     """The page, its faults, and what has no example or no definition."""
     files, examples, faults = load(), Examples(), []
@@ -471,29 +520,30 @@ def page():
     call, known = the_call(files, examples)
     missing = set(fields) ^ {name for part in PARTS for name in part['clauses']}
     faults += ['docs/STATEMENT.md: the clause %s of ChecksIn is in no part' % name for name in sorted(missing)]
-    known, body, rows, up_to = set(known), [], [], 0
-    fractions = law(*FRACTIONS)
+    known, body, rows, up_to, later = set(known), [], [], 0, []
     for number, part in enumerate(PARTS, 1):
         clauses = [fields[name] for name in part['clauses']]
-        new = closure(files, [d for lines in clauses for d in cited(files, home, lines)], part['hidden'], known)
+        start = [d for lines in clauses for d in cited(files, home, lines)] + named(files, part['instead'])
+        new = closure(files, start, part['hidden'], known)
         known |= set(new)
-        laws = [('Fractions', FRACTIONS_SAID, FRACTIONS)] if number == 1 else []
-        lines = count(new) + sum(believed(lines) for lines in clauses) + (believed(fractions) if laws else 0)
+        quoted_laws = [law(function) for function in part['laws']]
+        halves = [split(d) for d in new]
+        shown = [one for one, _ in halves]
+        later += [two for _, two in halves if two]
+        if 'second' in part['clauses']:
+            shown = sorted(shown + later, key=lambda d: d.order)
+        lines = count(shown) + sum(believed(lines) for lines in clauses + quoted_laws)
         up_to += lines
-        rows.append('| [%d. %s](#%s) | %s | %d | %d | %d |' % (
-            number, part['title'], anchor('%d. %s' % (number, part['title'])), ', '.join('`%s`' % name for name in part['clauses']), len(new), lines, up_to))
-        if part['most'] and up_to > part['most']:
-            faults.append('docs/STATEMENT.md: up to part %d there are %d lines to believe, more than %d' % (number, up_to, part['most']))
-        body += ['## %d. %s\n' % (number, part['title']), part['what'] + '\n', fenced([line for lines in clauses for line in lines])]
-        body += sections(number, new, examples, laws)
+        by_itself = alone(files, home, fields, number)
+        if by_itself > part['most']:
+            faults.append('docs/STATEMENT.md: part %d has %d lines to believe by itself, more than %d' % (number, by_itself, part['most']))
+        title = '%d. %s' % (number, part['title'])
+        clauses_named = ', '.join('`%s`' % name for name in part['clauses'])
+        rows.append('| [%s](#%s) | %s | %d | %d | %d | %d |' % (title, anchor(title), clauses_named, len(new), lines, up_to, by_itself))
+        body += ['## %s\n' % title, part['what'] + '\n', fenced([line for lines in clauses for line in lines])]
+        body += sections(number, shown, examples, part['laws'])
         body.append('**What you know now.** %s\n' % part['known'])
-    two = BY_THEMSELVES
-    instead = [f.own[name] for name in two['instead'] for f in files.values() if name in f.own]
-    alone = closure(files, instead + [d for name in two['clauses'] for d in cited(files, home, fields[name])], two['hidden'], set())
-    by_themselves = count(alone) + sum(believed(fields[name]) for name in two['clauses']) + believed(fractions)
-    if by_themselves > two['most']:
-        faults.append('docs/STATEMENT.md: `any` and `exact` have %d lines to believe, more than %d' % (by_themselves, two['most']))
-    rest = closure(files, [f.own[name] for name in APPENDIX for f in files.values() if name in f.own and name in f.own[name].names], set(), known)
+    rest = closure(files, named(files, APPENDIX), set(), known)
     body += [APPENDIX_HEAD] + sections('A', rest, examples, [])
     body += ['### A.%d Laws by which definitions say the same\n' % (1 + len(dict.fromkeys(topic_of(d.module, 'A') for d in rest)))]
     body.append('Each is the contract of a function without code, proved for all values: [PROOF.md](PROOF.md#vipr_spec) has its clauses.\n')
@@ -501,8 +551,8 @@ def page():
     for _, path, function in SAME:
         if not re.search(r'^pub fn %s\(\)$' % function, read(os.path.join(CRATES, path)), re.M):
             faults.append('docs/STATEMENT.md: there is no law %s in %s' % (function, path))
-    table = ['| Part | Clauses | Definitions | Lines | Lines up to here |\n|---|---|---|---|---|'] + rows
-    text = '\n'.join([HEAD] + table + [COUNTED % by_themselves] + call + body).rstrip('\n') + '\n'
+    table = ['| Part | Clauses | Definitions | Lines | Up to here | By itself |\n|---|---|---|---|---|---|'] + rows
+    text = '\n'.join([HEAD] + table + [COUNTED] + call + body).rstrip('\n') + '\n'
     if text.count('\n') > MOST_LINES:
         faults.append('docs/STATEMENT.md has %d lines, more than %d' % (text.count('\n'), MOST_LINES))
     return text, faults, examples

@@ -4,6 +4,7 @@ mod GivenLemmas
 mod ContextLemmas
 mod SumLemmas
 mod StepLemmas
+mod Applying
 mod BranchLemmas
 mod SoundLemmas
 mod RoundLemmas

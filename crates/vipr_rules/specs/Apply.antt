@@ -1,20 +1,23 @@
 -- What `apply` answers of the derivation that comes next
 use Rattle.std.specs.Prelude.{◌≡◌, ℕ, ◌≤◌, ◌⊎◌, IsTrue, length, List, [], ◌∷◌}
-use Rattle.std.specs.Prelude.{Option, Some, None, Result, Ok, Err}
+use Rattle.std.specs.Prelude.{Option, Some, None, Result, Ok, Err, IfOk, IfErr}
 use Rattle.std.specs.FinSet as set
 use Rattle.std.specs.Ordering.{nat_cmp}
-use Rattle.vipr_spec.specs.Constraint.{Profile, one, condition, Entry as Summand, SumOfFits}
+use Rattle.vipr_spec.specs.Fraction.{ℚ}
+use Rattle.vipr_spec.specs.Constraint.{Profile, Condition, condition, Entry as Summand, SumOfFits}
 use Rattle.vipr_spec.specs.Constraint.{Dominates}
-use Rattle.vipr_spec.specs.Certificate.{Reason, uns, sol, Derivation, Certificate, is_live, count}
+use Rattle.vipr_spec.specs.Certificate.{Problem, Reason, uns, sol, Derivation, Certificate}
+use Rattle.vipr_spec.specs.Certificate.{is_live, count}
 use Rattle.vipr_spec.specs.Causes as cause
 use Rattle.vipr_spec.specs.Steps.{PassesStep, with_next, StepTest, earlier, live, assumed, listed}
-use Rattle.vipr_spec.specs.Steps.{step_tests}
-use Rattle.vipr_spec.specs.Steps.{FirstFailing, step_cause, Shows, Refuses}
+use Rattle.vipr_spec.specs.Steps.{step_tests, RefersBack, FirstFailing, step_cause, Shows, Refuses}
 use Rattle.vipr_spec.specs.Steps.{StepDetail, index, position, sum, both, compared, nothing}
-use Rattle.vipr_spec.specs.Soundness.{IsSound}
+use Rattle.vipr_spec.specs.Soundness.{IsSound, IsBestValue}
 use Rattle.vipr_linear.specs.Accumulator.{IsSuitable}
 use Rattle.vipr_linear.specs.Constraint.{condition_of}
 use Rattle.vipr_linear.specs.declared.constraint.Constraint.{Constraint}
+use Rattle.vipr_cert.specs.Items.{reason_of, derivation_of}
+use Rattle.vipr_cert.specs.declared.items.Derivation.{Derivation as Step}
 use Rattle.vipr_rules.specs.declared.error.RuleError.{RuleError}
 use Rattle.vipr_rules.specs.declared.error.RuleError.TheVariants.{NotEarlier, Dropped}
 use Rattle.vipr_rules.specs.declared.error.RuleError.TheVariants.{NotAssumption, MixedSigns}
@@ -22,8 +25,10 @@ use Rattle.vipr_rules.specs.declared.error.RuleError.TheVariants.{Overflow, NotR
 use Rattle.vipr_rules.specs.declared.error.RuleError.TheVariants.{NotSplit, NotDominated}
 use Rattle.vipr_rules.specs.declared.error.RuleError.TheVariants.{NoSolution, Memory}
 use Rattle.vipr_table.specs.declared.rows.Entry.{Entry}
-use Rattle.vipr_table.specs.History.{IsEntryOf}
+use Rattle.vipr_table.specs.Table.{Table}
+use Rattle.vipr_table.specs.History.{IsEntryOf, IsTableOf}
 use Rattle.vipr_rules.specs.Context.{IsSetByReason}
+use Rattle.vipr_rules.specs.Soundness.{HasSoundRows, IsSoundRow}
 
 -- ---- what an error says
 
@@ -110,10 +115,25 @@ IsRuledBy P c d r (Ok s) = PassesTestsIn P c d (step_tests r) × IsSetByReason c
 IsRuledBy P c d r (Err e) =
     ((e ≡ Memory) × PassesTestsIn P c d (free_tests r)) ⊎ StopsIn P c d (step_tests r) e
 
--- ---- under profile one
+-- ---- what a call answers
 
-abbrev pub Judges : Certificate → Derivation → Result Entry RuleError → Type 0
-Judges c d result = JudgesIn one c d result
-
-abbrev pub PassesTests : Certificate → Derivation → List StepTest → Type 0
-PassesTests c d ts = PassesTestsIn one c d ts
+-- of the derivation `step`, by a profile, against a problem, the best objective value among the
+-- listed solutions and the table of earlier derivations
+pub record Applies (P : Profile) (p : Problem) (best : Option ℚ) (table : Table) (step : Step)
+    (result : Result Entry RuleError) : Type 0 where
+  -- Over the table of a certificate the answer is that of the definitions.
+  pub judged : (c : Certificate) → c.problem ≡ p → IsTableOf c table → RefersBack c
+      → IsBestValue p c.solutions best → JudgesIn P c (derivation_of step) result
+  -- That a growth was refused is no answer before the tests that take no memory pass.
+  pub memory : (c : Certificate) → c.problem ≡ p → IsTableOf c table
+      → IsBestValue p c.solutions best
+      → IfErr result (λ e. e ≡ Memory
+      → PassesTestsIn P c (derivation_of step) (free_tests (reason_of step.reason)))
+  -- What is answered is sound where the live constraints before it are.
+  pub sound : (c : Certificate) → c.problem ≡ p → IsTableOf c table → RefersBack c
+      → IsBestValue p c.solutions best → IfOk result (λ _. KeepsSound c (derivation_of step))
+  -- So it is over any table and best value: `says` is what the rows state, and what is answered
+  -- states at the next index.
+  pub sound_rows : IfOk result (λ e. (says : ℕ → Condition) → HasSoundRows p best table says
+      → says table.next ≡ condition_of e.constraint → IsSoundRow p best says e)
+  pub stated : IfOk result (λ e. e.constraint ≡ step.constraint)

@@ -12,23 +12,18 @@
 //! [`Profile`], and [`apply_taking`] moves the constraint out of the derivation. An error is the
 //! first test that fails, with what shows it.
 
-ghost use Rattle.std.specs.Prelude.{◌≡◌, ◌≢◌, ℕ, length, Some, IfOk, IfErr, OnErr};
+ghost use Rattle.std.specs.Prelude.{◌≡◌, ℕ, length, Some, IfOk, OnErr};
 ghost use Rattle.std.specs.Prelude.{option_copied};
-ghost use Rattle.vipr_spec.specs.Constraint.{Profile as ProfileMeant, Condition, Point};
+ghost use Rattle.vipr_spec.specs.Constraint.{Profile as ProfileMeant, one, Condition, Point};
 ghost use Rattle.vipr_spec.specs.Certificate.{Certificate, variables};
 ghost use Rattle.vipr_spec.specs.Certificate.{is_assumption as is_assumption_by};
-ghost use Rattle.vipr_spec.specs.Steps.{RefersBack};
-ghost use Rattle.vipr_spec.specs.Soundness.{IsBestValue};
 ghost use Rattle.vipr_linear.specs.Constraint.{condition_of};
 ghost use Rattle.vipr_cert.specs.Items.{derivation_of, reason_of};
 ghost use Rattle.vipr_table.specs.Table.{DerivedBelow};
-ghost use Rattle.vipr_table.specs.History.{IsTableOf};
 ghost use Rattle.vipr_rules.specs.Profile.{profile_of};
 ghost use Rattle.vipr_rules.specs.Context.{IsContextOf};
-ghost use Rattle.vipr_rules.specs.Soundness.{HasSoundRows, IsSoundRow, IsSoundAt, IsTrueUnder};
-ghost use Rattle.vipr_rules.specs.Apply.{Judges, JudgesIn, KeepsSound, IsRuledBy};
-ghost use Rattle.vipr_rules.specs.Apply.{PassesTests, PassesTestsIn, free_tests};
-ghost use Rattle.vipr_rules.specs.declared.error.RuleError.TheVariants.{Memory};
+ghost use Rattle.vipr_rules.specs.Soundness.{IsSoundAt, IsTrueUnder};
+ghost use Rattle.vipr_rules.specs.Apply.{IsRuledBy, Applies};
 
 use crate::branches::{Branch, join_branches};
 use crate::context::Context;
@@ -61,29 +56,8 @@ pub fn apply<S: Rows>(
 ) -> Result<Entry, RuleError>
     requires variables { length scratch.old.sums ≡ variables p.now }
     requires rows { DerivedBelow (variables p.now) (S.table rows.now) }
-
-    // Over the table of a certificate the answer is that of the definitions.
-    ensures judged { (c : Certificate) → c.problem ≡ p.now → IsTableOf c (S.table rows.now)
-        → RefersBack c → IsBestValue p.now c.solutions (option_copied best.entry)
-        → Judges c (derivation_of step.now) result }
-    // That a growth was refused is no answer before the tests that take no memory pass.
-    ensures memory { (c : Certificate) → c.problem ≡ p.now → IsTableOf c (S.table rows.now)
-        → IsBestValue p.now c.solutions (option_copied best.entry)
-        → IfErr result (λ e. e ≡ Memory
-        → PassesTests c (derivation_of step.now) (free_tests (reason_of step.now.reason))) }
-
-    // What is answered is sound where the live constraints before it are.
-    ensures sound { (c : Certificate) → c.problem ≡ p.now → IsTableOf c (S.table rows.now)
-        → RefersBack c → IsBestValue p.now c.solutions (option_copied best.entry)
-        → IfOk result (λ _. KeepsSound c (derivation_of step.now)) }
-    // So it is over any table and best value: `says` is what the rows state, and what is answered
-    // states at the next index.
-    ensures sound_rows { IfOk result (λ e. (says : ℕ → Condition)
-        → HasSoundRows p.now (option_copied best.entry) (S.table rows.now) says
-        → says (S.table rows.now).next ≡ condition_of e.constraint
-        → IsSoundRow p.now (option_copied best.entry) says e) }
-
-    ensures stated { IfOk result (λ e. e.constraint ≡ step.now.constraint) }
+    ensures applies { Applies one p.now (option_copied best.entry)
+        (S.table rows.now) step.now result }
     ensures variables { length scratch.new.sums ≡ length scratch.old.sums }
 {
     apply_in(alloc, Profile::One, p, best, rows, scratch, step)
@@ -107,30 +81,8 @@ pub fn apply_in<S: Rows>(
 ) -> Result<Entry, RuleError>
     requires variables { length scratch.old.sums ≡ variables p.now }
     requires rows { DerivedBelow (variables p.now) (S.table rows.now) }
-
-    // Over the table of a certificate the answer is that of the definitions.
-    ensures judged { (c : Certificate) → c.problem ≡ p.now → IsTableOf c (S.table rows.now)
-        → RefersBack c → IsBestValue p.now c.solutions (option_copied best.entry)
-        → JudgesIn (profile_of profile) c (derivation_of step.now) result }
-    // That a growth was refused is no answer before the tests that take no memory pass.
-    ensures memory { (c : Certificate) → c.problem ≡ p.now → IsTableOf c (S.table rows.now)
-        → IsBestValue p.now c.solutions (option_copied best.entry)
-        → IfErr result (λ e. e ≡ Memory
-        → PassesTestsIn (profile_of profile) c (derivation_of step.now)
-        (free_tests (reason_of step.now.reason))) }
-
-    // What is answered is sound where the live constraints before it are.
-    ensures sound { (c : Certificate) → c.problem ≡ p.now → IsTableOf c (S.table rows.now)
-        → RefersBack c → IsBestValue p.now c.solutions (option_copied best.entry)
-        → IfOk result (λ _. KeepsSound c (derivation_of step.now)) }
-    // So it is over any table and best value: `says` is what the rows state, and what is answered
-    // states at the next index.
-    ensures sound_rows { IfOk result (λ e. (says : ℕ → Condition)
-        → HasSoundRows p.now (option_copied best.entry) (S.table rows.now) says
-        → says (S.table rows.now).next ≡ condition_of e.constraint
-        → IsSoundRow p.now (option_copied best.entry) says e) }
-
-    ensures stated { IfOk result (λ e. e.constraint ≡ step.now.constraint) }
+    ensures applies { Applies (profile_of profile) p.now (option_copied best.entry)
+        (S.table rows.now) step.now result }
     ensures variables { length scratch.new.sums ≡ length scratch.old.sums }
 {
     let context = Context {
@@ -166,30 +118,8 @@ pub fn apply_taking<S: Rows>(
 ) -> Result<Entry, RuleError>
     requires variables { length scratch.old.sums ≡ variables p.now }
     requires rows { DerivedBelow (variables p.now) (S.table rows.now) }
-
-    // Over the table of a certificate the answer is that of the definitions.
-    ensures judged { (c : Certificate) → c.problem ≡ p.now → IsTableOf c (S.table rows.now)
-        → RefersBack c → IsBestValue p.now c.solutions (option_copied best.entry)
-        → JudgesIn (profile_of profile) c (derivation_of step.old) result }
-    // That a growth was refused is no answer before the tests that take no memory pass.
-    ensures memory { (c : Certificate) → c.problem ≡ p.now → IsTableOf c (S.table rows.now)
-        → IsBestValue p.now c.solutions (option_copied best.entry)
-        → IfErr result (λ e. e ≡ Memory
-        → PassesTestsIn (profile_of profile) c (derivation_of step.old)
-        (free_tests (reason_of step.old.reason))) }
-
-    // What is answered is sound where the live constraints before it are.
-    ensures sound { (c : Certificate) → c.problem ≡ p.now → IsTableOf c (S.table rows.now)
-        → RefersBack c → IsBestValue p.now c.solutions (option_copied best.entry)
-        → IfOk result (λ _. KeepsSound c (derivation_of step.old)) }
-    // So it is over any table and best value: `says` is what the rows state, and what is answered
-    // states at the next index.
-    ensures sound_rows { IfOk result (λ e. (says : ℕ → Condition)
-        → HasSoundRows p.now (option_copied best.entry) (S.table rows.now) says
-        → says (S.table rows.now).next ≡ condition_of e.constraint
-        → IsSoundRow p.now (option_copied best.entry) says e) }
-
-    ensures stated { IfOk result (λ e. e.constraint ≡ step.old.constraint) }
+    ensures applies { Applies (profile_of profile) p.now (option_copied best.entry)
+        (S.table rows.now) step.old result }
     ensures named { step.new.name ≡ step.old.name }
     ensures err { OnErr result (step.new ≡ step.old) }
     ensures variables { length scratch.new.sums ≡ length scratch.old.sums }

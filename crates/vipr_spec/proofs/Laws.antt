@@ -86,3 +86,5 @@ pub use Rattle.vipr_spec.proofs.Placed.{reason_placed}
 pub use Rattle.vipr_spec.proofs.TightenLimits.{can_write}
 pub use Rattle.vipr_spec.proofs.TightenPasses.{marked_down, marked_past, next_kept}
 pub use Rattle.vipr_spec.proofs.TightenPasses.{next_left_out, renumbered_alike}
+-- A text states one problem
+pub use Rattle.vipr_spec.proofs.Stated.{spelled_only}

@@ -1,6 +1,9 @@
 //! Laws of the format: what is read from a text is what the grammar says that it spells.
 
+ghost use Rattle.std.specs.Prelude.{ℕ, List};
+ghost use Rattle.vipr_spec.specs.Certificate.{Certificate};
 ghost use Rattle.vipr_spec.specs.Grammar.{Spells};
+ghost use Rattle.vipr_spec.specs.Stated.{StatesOnly};
 ghost use Rattle.vipr_spec.specs.FaultLaws.{ItemFaults};
 ghost use Rattle.vipr_spec.specs.ExampleText.{example_text, example_certificate};
 ghost use Rattle.vipr_spec.specs.GrammarLaws.{ReadsNaturals, KindsOfToken, KindsOfNumber};
@@ -50,4 +53,10 @@ pub fn example()
 /// only where a failure follows.
 pub fn faults_stand()
     ensures { ItemFaults }
+{}
+
+/// A text that spells a certificate states its problem and its listed solutions, and no others.
+pub fn one_problem()
+    ensures { (bytes : List ℕ) (c : Certificate) → Spells bytes c
+        → StatesOnly bytes c.problem c.solutions }
 {}

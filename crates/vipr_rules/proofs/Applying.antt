@@ -1,0 +1,70 @@
+-- What is answered of a derivation, by what the rule of its reason says
+use Rattle.std.proofs.Common.{◌≡◌, ℕ, Some, Ok, Err, Result, Option, refl, sym, ◌∙◌, ap, subst, inl, inr}
+use Rattle.std.specs.Prelude.{IsTrue}
+use Rattle.std.specs.FinSet.{FinSet, contains}
+use Rattle.std.specs.Ordering.{nat_cmp}
+use Rattle.vipr_spec.specs.Fraction.{ℚ}
+use Rattle.vipr_spec.specs.Constraint.{Profile, Condition, Point, IsTrueAt}
+use Rattle.vipr_spec.specs.Certificate.{Problem, variables, Certificate, is_assumption}
+use Rattle.vipr_spec.specs.Soundness.{IsAdmittedBy, IsBestValue}
+use Rattle.vipr_linear.specs.Constraint.{condition_of}
+use Rattle.vipr_cert.specs.Items.{reason_of, derivation_of}
+use Rattle.vipr_cert.specs.declared.items.Derivation.{Derivation as Step}
+use Rattle.vipr_table.specs.Table.{Table}
+use Rattle.vipr_table.specs.History.{IsTableOf}
+use Rattle.vipr_table.specs.declared.rows.Entry.{Entry}
+use Rattle.vipr_rules.specs.declared.error.RuleError.{RuleError}
+use Rattle.vipr_rules.specs.declared.error.RuleError.TheVariants.{Memory}
+use Rattle.vipr_rules.specs.Context.{IsSetByReason}
+use Rattle.vipr_rules.specs.Soundness.{HasSoundRows, IsTrueUnder}
+use Rattle.vipr_rules.specs.Apply.{IsRuledBy, Applies}
+use Rattle.vipr_rules.proofs.StepLemmas.{kept_entry, keeps_sound, refusal, told_is_not_memory, free_of_all}
+
+module _ (P : Profile) (p : Problem) (best : Option ℚ) (table : Table) (step : Step) where
+  -- the rule of the derivation's reason says so
+  abbrev Rules : Result (FinSet nat_cmp) RuleError → Type 0
+  Rules x = (c : Certificate) → c.problem ≡ p → IsTableOf c table → IsBestValue p c.solutions best → IsRuledBy P c (derivation_of step) (reason_of step.reason) x
+
+  -- a test fails, or a growth is refused
+  pub applies_not : (e : RuleError) → Rules (Err e) → Applies P p best table step (Err e)
+  applies_not e ruled = record {
+    judged = λ c is of back value. elim (ruled c is of value) [
+      | inl memory ↦ inl memory.0
+      | inr stops ↦ inr (refusal P c (derivation_of step) e stops)
+    ];
+    memory = λ c is of value memory. elim (ruled c is of value) [
+      | inl first ↦ first.1
+      | inr stops ↦ absurd (told_is_not_memory P c (derivation_of step) _ e stops memory)
+    ];
+    sound = λ c is of back value. tt;
+    sound_rows = tt;
+    stated = tt;
+  }
+
+  -- all tests pass, and then a growth is refused
+  pub applies_full : (s : FinSet nat_cmp) → Rules (Ok s) → Applies P p best table step (Err Memory)
+  applies_full s ruled = record {
+    judged = λ c is of back value. inl refl;
+    memory = λ c is of value memory. free_of_all P c (derivation_of step) (reason_of step.reason) (ruled c is of value).0;
+    sound = λ c is of back value. tt;
+    sound_rows = tt;
+    stated = tt;
+  }
+
+  -- all tests pass, and what rests on these assumptions is kept
+  pub applies : (s : FinSet nat_cmp) → Rules (Ok s)
+      → ((says : ℕ → Condition) (x : Point) → HasSoundRows p best table says → IsAdmittedBy p best x → says table.next ≡ condition_of step.constraint → IsTrueUnder (variables p) says s (condition_of step.constraint) x)
+      → (e : Entry) → e.constraint ≡ step.constraint → e.assumptions ≡ s → e.is_assumption ≡ is_assumption (Some (reason_of step.reason)) → e.last ≡ step.last → Applies P p best table step (Ok e)
+  applies s ruled follows e states rests assumed last =
+      let copy : condition_of e.constraint ≡ condition_of step.constraint = ap condition_of states in
+      record {
+        judged = λ c is of back value.
+            let r = ruled c is of value in
+            (r.0, kept_entry P c (derivation_of step) e back r.0 copy (subst (IsSetByReason c (reason_of step.reason)) (sym rests) r.1) assumed last);
+        memory = λ c is of value. tt;
+        sound = λ c is of back value. keeps_sound P c (derivation_of step) back (ruled c is of value).0;
+        sound_rows = λ says rows next x admitted h.
+            subst (λ d. IsTrueAt (variables p) d x) (sym copy)
+            (follows says x rows admitted (next ∙ copy) (λ a t. h a (subst (λ z. IsTrue (contains z a)) (sym rests) t)));
+        stated = states;
+      }
