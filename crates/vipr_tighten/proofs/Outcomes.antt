@@ -15,7 +15,9 @@ use Rattle.vipr_bytes.specs.Output.{Output}
 use Rattle.vipr_bytes.specs.Written.{Wrote}
 use Rattle.vipr_write.specs.WrittenText.{WroteText}
 use Rattle.vipr_write.specs.declared.write.WriteError.TheVariants as write
-use Rattle.vipr_write.specs.Canonical.{canonical_text}
+use Rattle.vipr_write.specs.Forms.{text_in}
+use Rattle.vipr_write.specs.declared.form.Form.{Form}
+use Rattle.vipr_write.specs.declared.form.Form.TheVariants.{Canonical, Compact}
 use Rattle.vipr_check.specs.declared.verdict.Refusal.{Refusal}
 use Rattle.vipr_check.specs.View.{refusal_of}
 use Rattle.vipr_check.proofs.Laws.{failed_read}
@@ -23,7 +25,7 @@ use Rattle.vipr_tighten.specs.declared.outcome.Outcome.{Outcome}
 use Rattle.vipr_tighten.specs.declared.outcome.Outcome.TheVariants.{Tightened, Refused}
 use Rattle.vipr_tighten.specs.declared.outcome.TightenFault.{TightenFault}
 use Rattle.vipr_tighten.specs.declared.outcome.TightenFault.TheVariants.{Read, Memory, Write}
-use Rattle.vipr_tighten.specs.Tightens.{IsProofFor, IsTight, KindOfText, TakesNothing, TightensText, any_kind, kind_of, kind_read, kind_spelled, unproved_answer, TightensIn}
+use Rattle.vipr_tighten.specs.Tightens.{IsProofFor, IsTight, KindOfText, TakesNothing, TightensText, any_kind, kind_of, kind_read, kind_spelled, unproved_answer, TightensAs}
 use Rattle.vipr_tighten.specs.Keeping.{HasAnswer, TellsWhy}
 use Rattle.vipr_tighten.specs.declared.proof.Unproved.{Unproved}
 use Rattle.vipr_tighten.specs.declared.proof.Unproved.TheVariants as unproved
@@ -33,14 +35,15 @@ use Rattle.vipr_tighten.specs.declared.proof.Unproved.TheVariants as unproved
 pub is_proof_for : (P : Profile) (c : Certificate) (goal : Option ℕ) → IsProof P c → GoalIs P c goal → IsProofFor P c goal
 is_proof_for P c goal p g = record { proof = p; goal_is = g; shown = claim_shown P c p }
 
-pub is_tight : (P : Profile) (c : Certificate) (goal : Option ℕ) → IsProof P c → GoalIs P c goal → SpellsOnly (canonical_text (tightened c goal)) (tightened c goal) → IsTight P c goal (tightened c goal)
+pub is_tight : (P : Profile) (c : Certificate) (goal : Option ℕ) → IsProof P c → GoalIs P c goal → ((G : Form) → SpellsOnly (text_in G (tightened c goal)) (tightened c goal)) → IsTight P c goal (tightened c goal)
 is_tight P c goal p g s =
     let back = back_of_proof P c p in
     record {
       problem = refl;
       solutions = refl;
       proof = is_proof_for P (tightened c goal) (new_goal c goal) (tight_proof P c goal p g) (tight_goal P c goal back g);
-      spells = s;
+      spells = s Canonical;
+      spells_compact = s Compact;
       needed = tight_needed c goal back;
       again = tight_twice c goal back;
       peak_is = tight_peak P c goal p;
@@ -58,8 +61,8 @@ fewer_kept c goal = let e = tight_counts c goal in omega arith
 
 -- ---- what is known of a text
 
-module _ (P : Profile) (k l : KindOfText) (of : (c : Certificate) → k.IsOf c → IsProof P c → l.IsOf c) (by : (r : Refusal) → k.IsRefusedBy r → l.IsRefusedBy r) (cut : k.IsCutShort → l.IsCutShort) (old new : Option Output) where
-  pub tightens_by : (x : Result Outcome TightenFault) → TightensText P k old new x → TightensText P l old new x
+module _ (P : Profile) (F : Form) (k l : KindOfText) (of : (c : Certificate) → k.IsOf c → IsProof P c → l.IsOf c) (by : (r : Refusal) → k.IsRefusedBy r → l.IsRefusedBy r) (cut : k.IsCutShort → l.IsCutShort) (old new : Option Output) where
+  pub tightens_by : (x : Result Outcome TightenFault) → TightensText P F k old new x → TightensText P F l old new x
   tightens_by (Ok (Tightened kept removed before after)) (c, goal, is, proof, tight, w) = (c, goal, of c is proof.proof, proof, tight, w)
   tightens_by (Ok (Refused r)) h = (by r h.0, h.1)
   tightens_by (Err Read) h = (cut h.0, h.1)
@@ -84,37 +87,37 @@ spelled_only bytes c e = let s = (reads_texts bytes c).0 e in record { this = s;
 unproved_text : (P : Profile) (bytes : List ℕ) (a : Answer) → ((r : Report) → ¬ (a ≡ verified r)) → IsAnswer P (whole_text bytes) a → (c : Certificate) → Spells bytes c → ¬ IsProof P c
 unproved_text P bytes a other h c s p = let v = proof_answered P (whole_text bytes) c a ((reads_texts bytes c).1 s) p h in other v.0 v.2
 
-spelled_by : (P : Profile) (i : Input) → i.fails ≡ false → (old new : Option Output) (x : Result Outcome TightenFault) → TightensText P (kind_read P (text_of i)) old new x → TightensText P (kind_spelled P i.bytes) old new x
-spelled_by P i whole old new x h =
+spelled_by : (P : Profile) (F : Form) (i : Input) → i.fails ≡ false → (old new : Option Output) (x : Result Outcome TightenFault) → TightensText P F (kind_read P (text_of i)) old new x → TightensText P F (kind_spelled P i.bytes) old new x
+spelled_by P F i whole old new x h =
     let r = text_of i in
-    tightens_by P (kind_read P r) (kind_spelled P i.bytes)
+    tightens_by P F (kind_read P r) (kind_spelled P i.bytes)
     (λ c e p. spelled_only i.bytes c (subst (λ s. certificate_read s ≡ Ok c) (whole_is i whole) e))
     (λ y a. unproved_text P i.bytes (refuses (refusal_of y)) (λ v e. cc) (subst (λ s. IsAnswer P s (refuses (refusal_of y))) (whole_is i whole) a))
     (λ a. let fails = failed_read P r a in cc)
     old new x h
 
-read_by : (P : Profile) (i : Input) (old new : Option Output) (x : Result Outcome TightenFault) → TightensText P (kind_read P (text_of i)) old new x → x ≡ Err Read → i.fails ≡ true
-read_by P i old new x h e = let at = subst (TightensText P (kind_read P (text_of i)) old new) e h in failed_read P (text_of i) at.0
+read_by : (P : Profile) (F : Form) (i : Input) (old new : Option Output) (x : Result Outcome TightenFault) → TightensText P F (kind_read P (text_of i)) old new x → x ≡ Err Read → i.fails ≡ true
+read_by P F i old new x h e = let at = subst (TightensText P F (kind_read P (text_of i)) old new) e h in failed_read P (text_of i) at.0
 
-pub tightens : (P : Profile) (source : Option Input) (old new : Option Output) (x : Result Outcome TightenFault) → TightensText P any_kind old new x → IfKnown source (λ i. TightensText P (kind_read P (text_of i)) old new x) → TightensIn P source old new x
-tightens P source old new x any exact = record { written = any; exact = exact; read = read source exact; spelled = spelled source exact }
+pub tightens : (P : Profile) (F : Form) (source : Option Input) (old new : Option Output) (x : Result Outcome TightenFault) → TightensText P F any_kind old new x → IfKnown source (λ i. TightensText P F (kind_read P (text_of i)) old new x) → TightensAs P F source old new x
+tightens P F source old new x any exact = record { written = any; exact = exact; read = read source exact; spelled = spelled source exact }
   where
-    read : (s : Option Input) → IfKnown s (λ i. TightensText P (kind_read P (text_of i)) old new x) → IfKnown s (λ i. x ≡ Err Read → i.fails ≡ true)
+    read : (s : Option Input) → IfKnown s (λ i. TightensText P F (kind_read P (text_of i)) old new x) → IfKnown s (λ i. x ≡ Err Read → i.fails ≡ true)
     read None h = tt
-    read (Some i) h = λ short. read_by P i old new x (h short)
+    read (Some i) h = λ short. read_by P F i old new x (h short)
 
-    spelled : (s : Option Input) → IfKnown s (λ i. TightensText P (kind_read P (text_of i)) old new x) → IfWhole s (λ bytes. TightensText P (kind_spelled P bytes) old new x)
+    spelled : (s : Option Input) → IfKnown s (λ i. TightensText P F (kind_read P (text_of i)) old new x) → IfWhole s (λ bytes. TightensText P F (kind_spelled P bytes) old new x)
     spelled None h = tt
-    spelled (Some i) h = λ short whole. spelled_by P i whole old new x (h short)
+    spelled (Some i) h = λ short whole. spelled_by P F i whole old new x (h short)
 
 -- ---- what is written
 
-module _ (P : Profile) (c : Certificate) (r : Report) (p : IsProof P c) (reports : Reports P c r) (t : Certificate) (e : t ≡ tightened c r.goal) (spells : SpellsOnly (canonical_text t) t) (old new : Option Output) where
+module _ (P : Profile) (F : Form) (c : Certificate) (r : Report) (p : IsProof P c) (reports : Reports P c r) (t : Certificate) (e : t ≡ tightened c r.goal) (spells : (G : Form) → SpellsOnly (text_in G t) t) (old new : Option Output) where
   goal_is : GoalIs P c r.goal
   goal_is = reported_goal P c r reports
 
   tight : IsTight P c r.goal (tightened c r.goal)
-  tight = is_tight P c r.goal p goal_is (subst (λ (x : Certificate). SpellsOnly (canonical_text x) x) e spells)
+  tight = is_tight P c r.goal p goal_is (λ G. subst (λ (x : Certificate). SpellsOnly (text_in G x) x) e (spells G))
 
   pub fewer : length t.derivations ≤ r.derived
   fewer =
@@ -124,7 +127,7 @@ module _ (P : Profile) (c : Certificate) (r : Report) (p : IsProof P c) (reports
       omega arith
 
   pub written_whole : (kept removed before after : ℕ) → kept ≡ length t.derivations → kept + removed ≡ r.derived → before ≡ r.peak → after ≡ peak t
-      → IfSome old (λ o. Wrote o new (canonical_text t) (Ok tt)) → TightensText P (kind_of c) old new (Ok (Tightened kept removed before after))
+      → IfSome old (λ o. Wrote o new (text_in F t) (Ok tt)) → TightensText P F (kind_of c) old new (Ok (Tightened kept removed before after))
   written_whole kept removed before after k a b f w = (
     c,
     r.goal,
@@ -138,11 +141,11 @@ module _ (P : Profile) (c : Certificate) (r : Report) (p : IsProof P c) (reports
         before_is = b ∙ reports.peak;
         after_is = f ∙ ap peak e;
       },
-      subst (λ (x : Certificate). IfSome old (λ o. Wrote o new (canonical_text x) (Ok tt))) e w,
+      subst (λ (x : Certificate). IfSome old (λ o. Wrote o new (text_in F x) (Ok tt))) e w,
     ),
   )
 
-  pub written_part : (n : ℕ) → n < length (canonical_text t) → IfSome old (λ o. Wrote o new (canonical_text t) (Err (record { taken = n }))) → TightensText P (kind_of c) old new (Err (Write n))
+  pub written_part : (n : ℕ) → n < length (text_in F t) → IfSome old (λ o. Wrote o new (text_in F t) (Err (record { taken = n }))) → TightensText P F (kind_of c) old new (Err (Write n))
   written_part n l w = (
     c,
     r.goal,
@@ -150,54 +153,54 @@ module _ (P : Profile) (c : Certificate) (r : Report) (p : IsProof P c) (reports
     is_proof_for P c r.goal p goal_is,
     tight,
     (
-      subst (λ (x : Certificate). n < length (canonical_text x)) e l,
-      subst (λ (x : Certificate). IfSome old (λ o. Wrote o new (canonical_text x) (Err (record { taken = n })))) e w,
+      subst (λ (x : Certificate). n < length (text_in F x)) e l,
+      subst (λ (x : Certificate). IfSome old (λ o. Wrote o new (text_in F x) (Err (record { taken = n })))) e w,
     ),
   )
 
-pub written_not : (P : Profile) (c : Certificate) (old new : Option Output) (text : List ℕ) (n : ℕ) → n ≡ 0 → IfSome old (λ o. WroteText o new text (Err (write.Memory n))) → TightensText P (kind_of c) old new (Err (Memory n))
-written_not P c None new text n z w = (z, tt)
-written_not P c (Some o) new text n z w = (z, w.1)
+pub written_not : (P : Profile) (F : Form) (c : Certificate) (old new : Option Output) (text : List ℕ) (n : ℕ) → n ≡ 0 → IfSome old (λ o. WroteText o new text (Err (write.Memory n))) → TightensText P F (kind_of c) old new (Err (Memory n))
+written_not P F c None new text n z w = (z, tt)
+written_not P F c (Some o) new text n z w = (z, w.1)
 
 -- ---- the answer for a text
 
 answered : (P : Profile) (r : Rest) (a : Answer) → HasAnswer P (found_in r) a → IsAnswer P r a
 answered P r a h = answer_explained P (found_in r) a h.0 h.1
 
-pub judged_proof : (P : Profile) (source : Option Input) (c : Certificate) (report : Report) (old new : Option Output) (x : Result Outcome TightenFault) → TightensText P (kind_of c) old new x
-    → IfKnown source (λ i. ((found_in (text_of i)).certificate ≡ c) × HasAnswer P (found_in (text_of i)) (verified report)) → TightensIn P source old new x
-judged_proof P source c report old new x h found =
-    tightens P source old new x (tightens_by P (kind_of c) any_kind (λ d e p. tt) (λ y b. tt) (λ b. tt) old new x h) (exact source found)
+pub judged_proof : (P : Profile) (F : Form) (source : Option Input) (c : Certificate) (report : Report) (old new : Option Output) (x : Result Outcome TightenFault) → TightensText P F (kind_of c) old new x
+    → IfKnown source (λ i. ((found_in (text_of i)).certificate ≡ c) × HasAnswer P (found_in (text_of i)) (verified report)) → TightensAs P F source old new x
+judged_proof P F source c report old new x h found =
+    tightens P F source old new x (tightens_by P F (kind_of c) any_kind (λ d e p. tt) (λ y b. tt) (λ b. tt) old new x h) (exact source found)
   where
-    exact : (s : Option Input) → IfKnown s (λ i. ((found_in (text_of i)).certificate ≡ c) × HasAnswer P (found_in (text_of i)) (verified report)) → IfKnown s (λ i. TightensText P (kind_read P (text_of i)) old new x)
+    exact : (s : Option Input) → IfKnown s (λ i. ((found_in (text_of i)).certificate ≡ c) × HasAnswer P (found_in (text_of i)) (verified report)) → IfKnown s (λ i. TightensText P F (kind_read P (text_of i)) old new x)
     exact None f = tt
     exact (Some i) f = λ short.
         let r = text_of i in
         let is = certificate_is P r c report (f short).0 (answered P r (verified report) (f short).1) in
-        tightens_by P (kind_of c) (kind_read P r) (λ d e p. is ∙ ap Ok (sym e)) (λ y b. absurd b) (λ b. absurd b) old new x h
+        tightens_by P F (kind_of c) (kind_read P r) (λ d e p. is ∙ ap Ok (sym e)) (λ y b. absurd b) (λ b. absurd b) old new x h
 
-pub judged_refused : (P : Profile) (source : Option Input) (y : Refusal) (old : Option Output) → IfKnown source (λ i. HasAnswer P (found_in (text_of i)) (refuses (refusal_of y))) → TightensIn P source old old (Ok (Refused y))
-judged_refused P source y old found = tightens P source old old (Ok (Refused y)) (tt, nothing_taken old) (exact source found)
+pub judged_refused : (P : Profile) (F : Form) (source : Option Input) (y : Refusal) (old : Option Output) → IfKnown source (λ i. HasAnswer P (found_in (text_of i)) (refuses (refusal_of y))) → TightensAs P F source old old (Ok (Refused y))
+judged_refused P F source y old found = tightens P F source old old (Ok (Refused y)) (tt, nothing_taken old) (exact source found)
   where
-    exact : (s : Option Input) → IfKnown s (λ i. HasAnswer P (found_in (text_of i)) (refuses (refusal_of y))) → IfKnown s (λ i. TightensText P (kind_read P (text_of i)) old old (Ok (Refused y)))
+    exact : (s : Option Input) → IfKnown s (λ i. HasAnswer P (found_in (text_of i)) (refuses (refusal_of y))) → IfKnown s (λ i. TightensText P F (kind_read P (text_of i)) old old (Ok (Refused y)))
     exact None f = tt
     exact (Some i) f = λ short. (answered P (text_of i) (refuses (refusal_of y)) (f short), nothing_taken old)
 
-pub judged_cut_short : (P : Profile) (source : Option Input) (old : Option Output) → IfKnown source (λ i. HasAnswer P (found_in (text_of i)) cut_short) → TightensIn P source old old (Err Read)
-judged_cut_short P source old found = tightens P source old old (Err Read) (tt, nothing_taken old) (exact source found)
+pub judged_cut_short : (P : Profile) (F : Form) (source : Option Input) (old : Option Output) → IfKnown source (λ i. HasAnswer P (found_in (text_of i)) cut_short) → TightensAs P F source old old (Err Read)
+judged_cut_short P F source old found = tightens P F source old old (Err Read) (tt, nothing_taken old) (exact source found)
   where
-    exact : (s : Option Input) → IfKnown s (λ i. HasAnswer P (found_in (text_of i)) cut_short) → IfKnown s (λ i. TightensText P (kind_read P (text_of i)) old old (Err Read))
+    exact : (s : Option Input) → IfKnown s (λ i. HasAnswer P (found_in (text_of i)) cut_short) → IfKnown s (λ i. TightensText P F (kind_read P (text_of i)) old old (Err Read))
     exact None f = tt
     exact (Some i) f = λ short. (answered P (text_of i) cut_short (f short), nothing_taken old)
 
-pub judged_memory : (P : Profile) (source : Option Input) (old : Option Output) → TightensIn P source old old (Err (Memory 0))
-judged_memory P source old = tightens P source old old (Err (Memory 0)) (refl, nothing_taken old) (exact source)
+pub judged_memory : (P : Profile) (F : Form) (source : Option Input) (old : Option Output) → TightensAs P F source old old (Err (Memory 0))
+judged_memory P F source old = tightens P F source old old (Err (Memory 0)) (refl, nothing_taken old) (exact source)
   where
-    exact : (s : Option Input) → IfKnown s (λ i. TightensText P (kind_read P (text_of i)) old old (Err (Memory 0)))
+    exact : (s : Option Input) → IfKnown s (λ i. TightensText P F (kind_read P (text_of i)) old old (Err (Memory 0)))
     exact None = tt
     exact (Some i) = λ short. (refl, nothing_taken old)
 
-pub judged_not : (P : Profile) (source : Option Input) (e : Unproved) (old : Option Output) → IfKnown source (λ i. TellsWhy P (found_in (text_of i)) e) → TightensIn P source old old (unproved_answer e)
-judged_not P source (unproved.Refused y) old h = judged_refused P source y old h
-judged_not P source unproved.Read old h = judged_cut_short P source old h
-judged_not P source unproved.Memory old h = judged_memory P source old
+pub judged_not : (P : Profile) (F : Form) (source : Option Input) (e : Unproved) (old : Option Output) → IfKnown source (λ i. TellsWhy P (found_in (text_of i)) e) → TightensAs P F source old old (unproved_answer e)
+judged_not P F source (unproved.Refused y) old h = judged_refused P F source y old h
+judged_not P F source unproved.Read old h = judged_cut_short P F source old h
+judged_not P F source unproved.Memory old h = judged_memory P F source old

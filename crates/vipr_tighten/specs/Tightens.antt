@@ -13,6 +13,9 @@ use Rattle.vipr_bytes.specs.Known.{text_of, IfKnown, IfWhole}
 use Rattle.vipr_bytes.specs.Output.{Output}
 use Rattle.vipr_bytes.specs.Written.{Wrote}
 use Rattle.vipr_write.specs.Canonical.{canonical_text}
+use Rattle.vipr_write.specs.Forms.{compact_text, text_in}
+use Rattle.vipr_write.specs.declared.form.Form.{Form}
+use Rattle.vipr_write.specs.declared.form.Form.TheVariants.{Canonical}
 use Rattle.vipr_check.specs.declared.verdict.Refusal.{Refusal}
 use Rattle.vipr_check.specs.View.{refusal_of}
 use Rattle.vipr_tighten.specs.declared.proof.Unproved.{Unproved}
@@ -38,8 +41,9 @@ pub record IsTight (P : Profile) (c : Certificate) (goal : Option ℕ) (t : Cert
   pub problem : t.problem ≡ c.problem
   pub solutions : t.solutions ≡ c.solutions
   pub proof : IsProofFor P t (new_goal c goal)
-  -- its canonical text spells it and nothing else
+  -- its canonical text spells it and nothing else, and so does its compact text
   pub spells : SpellsOnly (canonical_text t) t
+  pub spells_compact : SpellsOnly (compact_text t) t
   -- each derivation of it is needed in it
   pub needed : (k : ℕ) → length t.problem.constraints ≤ k → k < count t
       → IsNeededFor t (new_goal c goal) k
@@ -63,13 +67,14 @@ pub record KindOfText : Type 1 where
   pub IsRefusedBy : Refusal → Type 0
   pub IsCutShort : Type 0
 
--- what is written for a proof of this kind: how much of the text of its tightened certificate is
--- said by the last
-abbrev pub ForProof : Profile → KindOfText → (Certificate → Certificate → List ℕ → Type 0) → Type 0
-ForProof P k Q =
+-- what is written for a proof of this kind: how much of the text of its tightened certificate, in a
+-- form, is said by the last
+abbrev pub ForProof : Profile → Form → KindOfText → (Certificate → Certificate → List ℕ → Type 0)
+    → Type 0
+ForProof P F k Q =
     (c : Certificate) × (goal : Option ℕ) × k.IsOf c × IsProofFor P c goal
     × IsTight P c goal (tightened c goal)
-    × Q c (tightened c goal) (canonical_text (tightened c goal))
+    × Q c (tightened c goal) (text_in F (tightened c goal))
 
 -- the text was handed to the sink, with this result
 abbrev pub TakesText : Option Output → Option Output → List ℕ → Result (Unit {0}) ℕ → Type 0
@@ -82,19 +87,19 @@ abbrev pub TakesNothing : Option Output → Option Output → Type 0
 TakesNothing old new = IfSome old (λ o. new ≡ Some o)
 
 -- old is the sink's output before, where it tells that, and new the one afterwards.
--- Tightened: the canonical text of the tightened certificate was taken.
+-- Tightened: the text of the tightened certificate was taken, in this form.
 -- Write: its first n bytes were taken, and no more.
 -- Else nothing was written.
-abbrev pub TightensText : Profile → KindOfText → Option Output → Option Output
+abbrev pub TightensText : Profile → Form → KindOfText → Option Output → Option Output
     → Result Outcome TightenFault → Type 0
-TightensText P k old new (Ok (Tightened kept removed before after)) =
-    ForProof P k (λ c t text. AreFigures c t kept removed before after
+TightensText P F k old new (Ok (Tightened kept removed before after)) =
+    ForProof P F k (λ c t text. AreFigures c t kept removed before after
     × TakesText old new text (Ok tt))
-TightensText P k old new (Ok (Refused r)) = k.IsRefusedBy r × TakesNothing old new
-TightensText P k old new (Err Read) = k.IsCutShort × TakesNothing old new
-TightensText P k old new (Err (Memory n)) = (n ≡ 0) × TakesNothing old new
-TightensText P k old new (Err (Write n)) =
-    ForProof P k (λ c t text. TakesText old new text (Err n))
+TightensText P F k old new (Ok (Refused r)) = k.IsRefusedBy r × TakesNothing old new
+TightensText P F k old new (Err Read) = k.IsCutShort × TakesNothing old new
+TightensText P F k old new (Err (Memory n)) = (n ≡ 0) × TakesNothing old new
+TightensText P F k old new (Err (Write n)) =
+    ForProof P F k (λ c t text. TakesText old new text (Err n))
 
 -- a text of which nothing is known
 abbrev pub any_kind : KindOfText
@@ -126,18 +131,23 @@ unproved_answer (unproved.Refused r) = Ok (Refused r)
 unproved_answer unproved.Read = Err Read
 unproved_answer unproved.Memory = Err (Memory 0)
 
-pub record TightensIn (P : Profile) (source : Option Input) (old new : Option Output)
+pub record TightensAs (P : Profile) (F : Form) (source : Option Input) (old new : Option Output)
     (result : Result Outcome TightenFault) : Type 0 where
-  -- Nothing is written but the canonical text of a tightened proof.
-  pub written : TightensText P any_kind old new result
+  -- Nothing is written but the text of a tightened proof.
+  pub written : TightensText P F any_kind old new result
   -- The proof, or the first fault, is that of the definitions for the bytes that the source gives,
   -- in whatever pieces.
-  pub exact : IfKnown source (λ i. TightensText P (kind_read P (text_of i)) old new result)
+  pub exact : IfKnown source (λ i. TightensText P F (kind_read P (text_of i)) old new result)
   -- That a read failed is answered only where the source fails.
   pub read : IfKnown source (λ i. result ≡ Err Read → i.fails ≡ true)
   -- The proof is the one certificate that the text spells, and it is refused exactly where the text
   -- spells none.
-  pub spelled : IfWhole source (λ bytes. TightensText P (kind_spelled P bytes) old new result)
+  pub spelled : IfWhole source (λ bytes. TightensText P F (kind_spelled P bytes) old new result)
+
+-- in the canonical form
+abbrev pub TightensIn : Profile → Option Input → Option Output → Option Output
+    → Result Outcome TightenFault → Type 0
+TightensIn P source old new result = TightensAs P Canonical source old new result
 
 -- under profile one
 abbrev pub Tightens : Option Input → Option Output → Option Output → Result Outcome TightenFault

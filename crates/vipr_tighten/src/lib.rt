@@ -14,4 +14,4 @@ mod whole;
 
 pub use certificate::tighten_certificate;
 pub use outcome::{Outcome, TightenFault};
-pub use whole::{tighten, tighten_in};
+pub use whole::{tighten, tighten_as, tighten_in};

@@ -5,8 +5,8 @@ ghost use Rattle.vipr_spec.specs.Certificate.{IsProof};
 ghost use Rattle.vipr_spec.specs.Verdict.{Reports};
 ghost use Rattle.vipr_rules.specs.Profile.{profile_of};
 ghost use Rattle.vipr_check.specs.View.{report_of};
-ghost use Rattle.vipr_tighten.specs.Tightens.{Tightens, TightensIn, TightensText, kind_of};
-ghost use Rattle.vipr_tighten.specs.Tightens.{unproved_answer};
+ghost use Rattle.vipr_tighten.specs.Tightens.{Tightens, TightensAs, TightensIn, TightensText};
+ghost use Rattle.vipr_tighten.specs.Tightens.{kind_of, unproved_answer};
 
 use crate::certificate::tighten_certificate;
 use crate::outcome::{Outcome, TightenFault};
@@ -17,7 +17,7 @@ use vipr_bytes::{Sink, Source};
 use vipr_cert::Certificate;
 use vipr_check::Report;
 use vipr_rules::Profile;
-use vipr_text::{WriteError, write_certificate};
+use vipr_text::{Form, WriteError, write_certificate_in};
 
 /// Reads a certificate to its end and checks it while it is read. If it is a proof, writes the
 /// canonical text of what its goal needs: the proof without the derivations that nothing needs.
@@ -55,8 +55,27 @@ pub fn tighten_in<R: Source + Drop, W: Sink>(
     ensures { TightensIn (profile_of profile) (R.input source) (W.output sink.old)
         (W.output sink.new) result }
 {
+    tighten_as(alloc, profile, Form::Canonical, source, sink)
+}
+
+/// The same, and the text is written in a form.
+///
+/// # Errors
+///
+/// `Read` where a read fails, and `Memory` where a growth is refused: nothing was written. `Write`
+/// where a write fails or takes nothing, and the sink is asked no more.
+pub fn tighten_as<R: Source + Drop, W: Sink>(
+    alloc: Global,
+    profile: Profile,
+    form: Form,
+    source: R,
+    sink: &mut W,
+) -> Result<Outcome, TightenFault>
+    ensures { TightensAs (profile_of profile) form (R.input source) (W.output sink.old)
+        (W.output sink.new) result }
+{
     match read_proof(alloc, profile, source) {
-        Ok((certificate, report)) => write_tightened(alloc, certificate, &report, sink),
+        Ok((certificate, report)) => write_tightened(alloc, form, certificate, &report, sink),
         Err(unproved) => without_proof(unproved),
     }
 }
@@ -75,6 +94,7 @@ fn without_proof(unproved: Unproved) -> Result<Outcome, TightenFault>
 // Writes the tightened certificate of a proof with this report.
 fn write_tightened<W: Sink>(
     alloc: Global,
+    form: Form,
     certificate: Certificate,
     report: &Report,
     sink: &mut W,
@@ -83,12 +103,12 @@ fn write_tightened<W: Sink>(
         × Reports P certificate (report_of report.now) }
     ensures { (P : ProfileMeant) → IsProof P certificate
         → Reports P certificate (report_of report.now)
-        → TightensText P (kind_of certificate) (W.output sink.old) (W.output sink.new) result }
+        → TightensText P form (kind_of certificate) (W.output sink.old) (W.output sink.new) result }
 {
     let tightened = tighten_certificate(alloc, certificate, report.goal)?;
     let peak_after = peak(alloc, &tightened)?;
     let kept = tightened.derivations().len() as u32;
-    match write_certificate(alloc, &tightened, sink) {
+    match write_certificate_in(alloc, form, &tightened, sink) {
         Ok(()) => Ok(Outcome::Tightened {
             kept,
             removed: report.derived - kept,
