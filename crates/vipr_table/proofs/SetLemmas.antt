@@ -82,6 +82,14 @@ and_false false = refl
 pub union_none : (s : FinSet nat_cmp) → s ≡ union s empty
 union_none s = sym (same_numbers _ _ (λ q. contains-union nat_cmp_total s empty q ∙ ap (λ b. contains s q || b) (contains-empty nat_cmp q) ∙ or_false (contains s q)))
 
+or_same : (b : Bool) → (b || b) ≡ b
+or_same true = refl
+or_same false = refl
+
+-- a set with itself
+pub union_same : (s : FinSet nat_cmp) → s ≡ union s s
+union_same s = sym (same_numbers _ _ (λ q. contains-union nat_cmp_total s s q ∙ or_same (contains s q)))
+
 pub remove_none : (k : ℕ) → empty ≡ remove {R = nat_cmp} empty k
 remove_none k = sym (same_numbers _ _ (λ q. contains-remove nat_cmp_total empty k q ∙ ap (λ b. not (eq_by_cmp nat_cmp q k) && b) (contains-empty nat_cmp q) ∙ and_false _ ∙ sym (contains-empty nat_cmp q)))
 

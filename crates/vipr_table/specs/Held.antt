@@ -9,7 +9,7 @@ use Rattle.vipr_table.specs.declared.assumptions.held.Held.TheVariants.{Nothing,
 abbrev pub held_items : Held → List ℕ
 held_items Nothing = []
 held_items (One index) = index ∷ []
-held_items (Many items) = items.value.items
+held_items (Many items) = items.items
 
 -- the list has in rising order what the set has
 pub record IsListOf (s : set.FinSet nat_cmp) (xs : List ℕ) : Type 0 where

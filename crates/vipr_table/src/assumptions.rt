@@ -117,6 +117,9 @@ impl Assumptions {
         if self.is_empty() {
             return other.clone();
         }
+        if self.is_one(other) {
+            return self.clone();
+        }
         if let Some(longer) = self.longer_by(alloc, other)? {
             return Ok(longer);
         }
@@ -176,6 +179,13 @@ impl Assumptions {
             held: Held::of(alloc, items)?,
             behind: Held::Nothing,
         })
+    }
+
+    // Whether both share their indices. `true` says that the sets are equal.
+    fn is_one(&self, other: &Assumptions) -> bool
+        ensures { IsTrue result → self.now ≡ other.now }
+    {
+        self.held.is_one(&other.held) && self.behind.is_one(&other.behind)
     }
 
     // The union, where all indices of the other come behind and a short list takes them. Lists that

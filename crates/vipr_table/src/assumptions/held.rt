@@ -1,18 +1,18 @@
 //! A list of indices that its copies share.
 
-ghost use Rattle.std.specs.Prelude.{◌≡◌, IfOk};
+ghost use Rattle.std.specs.Prelude.{◌≡◌, IfOk, IsTrue};
 ghost use Rattle.vipr_table.specs.Held.{held_items};
 
 use std::alloc::{AllocError, Global};
-use std::rc::Rc;
 use std::slice;
+use vipr_shared::Shared;
 
 /// Indices in a fixed order. Only more than one take memory, and a copy takes none.
 #[derive(Debug, Drop)]
 pub(crate) enum Held {
     Nothing,
     One(u32),
-    Many(Rc<Vec<u32>>),
+    Many(Shared<Vec<u32>>),
 }
 
 impl Held {
@@ -23,7 +23,7 @@ impl Held {
         match items.as_slice() {
             [] => Ok(Held::Nothing),
             [index] => Ok(Held::One(*index)),
-            _ => Ok(Held::Many(Rc::new(alloc, items)?)),
+            _ => Ok(Held::Many(Shared::new(alloc, items)?)),
         }
     }
 
@@ -35,6 +35,18 @@ impl Held {
             Held::Nothing => &[],
             Held::One(index) => slice::from_ref(index),
             Held::Many(items) => items.as_ref().as_slice(),
+        }
+    }
+
+    /// Whether both hold one list, as a value and its copies do. `true` says that their lists are
+    /// equal.
+    pub(crate) fn is_one(&self, other: &Held) -> bool
+        ensures { IsTrue result → held_items self.now ≡ held_items other.now }
+    {
+        match (self, other) {
+            (Held::Nothing, Held::Nothing) => true,
+            (Held::Many(items), Held::Many(others)) => items.is_one(others),
+            _ => false,
         }
     }
 

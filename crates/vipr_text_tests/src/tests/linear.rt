@@ -199,6 +199,17 @@ fn rounded(rt: HostRuntime) {
 }
 
 #[test]
+fn a_whole_row_is_remembered(rt: HostRuntime) {
+    let alloc = rt.alloc();
+    let mut ints = first(&rt, alloc);
+    let shared = row(&rt, alloc, &[(0, 1)]).shared(alloc).expect(&rt, "a shared row");
+    ints.remember(&shared).expect(&rt, "a row that is kept");
+    let clone = shared.clone().expect(&rt, "a clone");
+    assert!(rt; is_whole_row(&clone, &ints));
+    assert!(rt; !is_whole_row(&row(&rt, alloc, &[(1, 1)]), &ints));
+}
+
+#[test]
 fn rows(rt: HostRuntime) {
     let one = Frac::one();
     let sorted = row(&rt, rt.alloc(), &[(7, 1), (2, 0), (3, 1)]);

@@ -3,7 +3,7 @@ use Rattle.std.proofs.lemmas.List.{append-nil}
 use Rattle.std.proofs.lemmas.Result.{MatchResult-weaker}
 use Rattle.std.specs.FinSet.{union, from_list}
 use Rattle.vipr_table.specs.Held.{held_items}
-use Rattle.vipr_table.proofs.SetLemmas.{union_none, union_seen, with_part, part_with}
+use Rattle.vipr_table.proofs.SetLemmas.{union_none, union_same, union_seen, with_part, part_with}
 use Rattle.vipr_table.proofs.UnionsLemmas.{none_union}
 use Rattle.vipr_table.proofs.assumptions.Assumptions.union.Goals as goal
 
@@ -16,6 +16,11 @@ pub returns-then-is_empty-2 : goal.returns-then-is_empty-2
 returns-then-is_empty-2 c =
     let same = sym (none_union c.args.other.now) ∙ ap (λ s. union s c.args.other.now) (sym (c.is_empty-2.ensures.0 c.if-is_empty-2.true)) in
     MatchResult-weaker c.clone-then-is_empty-2.result c.clone-then-is_empty-2.ensures.cases (λ s e. e ∙ same) (λ _ _. tt)
+
+pub returns-then-is_one : goal.returns-then-is_one
+returns-then-is_one c =
+    let same = union_same c.args.self.now ∙ ap (union c.args.self.now) (c.is_one.ensures c.if-is_one.true) in
+    MatchResult-weaker c.clone-then-is_one.result c.clone-then-is_one.ensures.cases (λ s e. e ∙ same) (λ _ _. tt)
 
 pub returns-then-has_all : goal.returns-then-has_all
 returns-then-has_all c =
