@@ -3,3 +3,4 @@ pub mod Passes
 pub mod Keeping
 pub mod Dropping
 pub mod Tightens
+pub mod Text

@@ -5,6 +5,7 @@
 #![tactic(auto)]
 
 mod certificate;
+mod display;
 mod needed;
 mod outcome;
 mod peak;

@@ -1,4 +1,7 @@
-//! What tightening answers.
+//! What tightening answers: an [`Outcome`], or a [`TightenFault`] if there is none.
+//!
+//! A proof is tightened, with counts of what was kept and removed. A certificate that is no proof
+//! is refused as a check refuses it. A fault says how many bytes of the text were taken.
 
 use std::alloc::AllocError;
 use vipr_check::Refusal;

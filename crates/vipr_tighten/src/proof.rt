@@ -28,8 +28,9 @@ use vipr_bytes::Source;
 use vipr_cert::{Certificate, Derivation, Named, Problem};
 use vipr_check::{Checker, Place, Refusal, Report, Stop};
 use vipr_linear::Solution;
+use vipr_read::{CertReader, Derivations, Solutions};
 use vipr_rules::{LiveOnly, Profile};
-use vipr_text::{CertReader, Derivations, Solutions, TextError};
+use vipr_scan::TextError;
 
 /// Why no proof was read.
 #[derive(Clone, Copy, Debug, PartialEq, Eq)]

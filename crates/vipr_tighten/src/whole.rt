@@ -1,4 +1,8 @@
-//! Tightens a whole certificate.
+//! Tightens a whole certificate, from a source to a sink.
+//!
+//! [`tighten`] checks the certificate while it is read. Only once it is verified does it remove
+//! what the goal doesn't need, and write the rest. What is written is a proof of the same claim,
+//! with the same problem and the same solutions. [`tighten_in`] does so by the rules of a profile.
 ghost use Rattle.std.specs.Prelude.{◌≡◌};
 ghost use Rattle.vipr_spec.specs.Constraint.{Profile as ProfileMeant};
 ghost use Rattle.vipr_spec.specs.Certificate.{IsProof};
@@ -17,7 +21,7 @@ use vipr_bytes::{Sink, Source};
 use vipr_cert::Certificate;
 use vipr_check::Report;
 use vipr_rules::Profile;
-use vipr_text::{Form, WriteError, write_certificate_in};
+use vipr_write::{Form, WriteError, write_certificate_in};
 
 /// Reads a certificate to its end and checks it while it is read. If it is a proof, writes the
 /// canonical text of what its goal needs: the proof without the derivations that nothing needs.
@@ -30,6 +34,16 @@ use vipr_text::{Form, WriteError, write_certificate_in};
 ///
 /// `Read` where a read fails, and `Memory` where a growth is refused: nothing was written. `Write`
 /// where a write fails or takes nothing, and the sink is asked no more.
+///
+/// # Example
+///
+/// ```rust crates/vipr_example/src/tighten.rt
+/// let mut out = Vec::new(alloc);
+/// match tighten(alloc, Bytes::new(text), &mut FromWrite::new(&mut out))? {
+///     Outcome::Tightened { .. } => Ok(Some(out)),
+///     Outcome::Refused(_) => Ok(None),
+/// }
+/// ```
 pub fn tighten<R: Source + Drop, W: Sink>(
     alloc: Global,
     source: R,

@@ -1,0 +1,19 @@
+-- How an outcome is printed. The text has no line feed at its end
+use Rattle.std.specs.Prelude.{ℕ, List, ◌++◌, codes, decimal}
+use Rattle.vipr_check.specs.Text.{refusal_text}
+use Rattle.vipr_tighten.specs.declared.outcome.Outcome.{Outcome}
+use Rattle.vipr_tighten.specs.declared.outcome.Outcome.TheVariants.{Tightened, Refused}
+use Rattle.vipr_tighten.specs.declared.outcome.TightenFault.{TightenFault}
+use Rattle.vipr_tighten.specs.declared.outcome.TightenFault.TheVariants as fault
+
+abbrev pub outcome_text : Outcome → List ℕ
+outcome_text (Tightened kept removed before after) = codes "kept " ++ (decimal kept
+    ++ (codes " removed " ++ (decimal removed ++ (codes " peak " ++ (decimal before
+    ++ (codes " " ++ decimal after))))))
+outcome_text (Refused refusal) = refusal_text refusal
+
+-- why there is no outcome
+abbrev pub no_outcome_text : TightenFault → List ℕ
+no_outcome_text fault.Read = codes "fault read"
+no_outcome_text (fault.Memory taken) = codes "fault memory"
+no_outcome_text (fault.Write taken) = codes "fault write after " ++ decimal taken
