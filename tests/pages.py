@@ -14,6 +14,9 @@ In README.md, CONTRIBUTING.md and the pages of docs/ and examples/ it looks at
   prints, or its model under bench/ where the program hasn't that command; a file that a script makes is what it makes;
 - links to files of the repository: they exist, and so does the heading after a `#`.
 
+In the sources it looks at blocks in doc comments that are marked with a file's name: they are a part of that file, at
+whatever indentation. Each call of DOCUMENTED has one.
+
 Commands whose output isn't shown (a clone, an installation) stand in blocks marked `sh`. tests/commands.py runs them;
 here each program's name is looked at alone: `make` with a target that there is, or a program of KNOWN. A block that
 needs a program that isn't installed here, as `parallel`, is counted as left out.
@@ -26,6 +29,7 @@ import shutil
 import subprocess
 import sys
 import tempfile
+import textwrap
 from pathlib import Path
 
 TOP = Path(__file__).resolve().parent.parent
@@ -38,6 +42,9 @@ PAGES = ['README.md', 'CONTRIBUTING.md', 'CHANGELOG.md', 'docs/FORMAT.md', 'docs
          'examples/README.md']
 # what may stand in a block that isn't run
 KNOWN = {'git', 'cd', 'make', 'man', 'vipr', 'rt', 'python3', 'source', 'parallel', 'sbatch', 'export', 'sudo', 'pv', 'cc', './check'}
+# public calls whose documentation shows an example
+DOCUMENTED = ['check', 'explain', 'read_certificate', 'tighten', 'write_certificate']
+COMMENT = re.compile(r'(?:^ *//[/!][^\n]*\n)+', re.M)
 BLOCK = re.compile(r'^```([^\n]*)\n(.*?)^```', re.M | re.S)
 checks = failed = 0
 left_out = set()
@@ -149,6 +156,29 @@ def quoted(page, line, text, name):
     check(text in path.read_text(), page, line, f'the block is no part of {name}')
 
 
+def documented():
+    """Examples in doc comments are parts of files, and the calls of DOCUMENTED have one."""
+    shown = set()
+    for path in sorted((TOP / 'crates').glob('*/src/**/*.rt')):
+        text, page = path.read_text(), path.relative_to(TOP)
+        for comment in COMMENT.finditer(text):
+            words = re.sub(r'^ *//[/!] ?', '', comment[0], flags=re.M)
+            call = re.match(r'(?: *#\[[^\n]*\n)* *pub fn (\w+)', text[comment.end():])
+            for found in BLOCK.finditer(words):
+                name = found[1].split()[1:]
+                if not name:
+                    continue
+                file = TOP / name[0]
+                source = file.read_text() if file.is_file() else ''
+                parts = [textwrap.indent(found[2], ' ' * depth) for depth in range(0, 20, 4)]
+                line = text[:comment.start()].count('\n') + 1
+                check(any(part in source for part in parts), page, line, f'the example is no part of {name[0]}')
+                if call:
+                    shown.add(call[1])
+    for name in DOCUMENTED:
+        check(name in shown, 'crates', '', f'the documentation of {name} has no example')
+
+
 def links(page, text):
     """Files and headings that a page names are there."""
     bare = BLOCK.sub('', text)
@@ -217,6 +247,7 @@ def main():
             changes(page, text)
             links(page, text)
         examples(commands)
+        documented()
     if left_out:
         print(f'pages: left out, for want of {", ".join(sorted(left_out))}')
     print(f'pages: {checks} checks, {failed} failed')

@@ -9,9 +9,9 @@ use std::io::{ErrorKind, Read, Write};
 use std::process::Abort;
 use std::rt::Files;
 use std::test::Fail;
+use vipr_cert::Claim;
 use vipr_check::{Place, Refusal, Report, Verdict};
-use vipr_command::{Lines, run};
-use vipr_text::Claim;
+use vipr_command::run;
 
 const INFEASIBLE: &str = "VER 1.0
 VAR 1
@@ -233,7 +233,7 @@ fn greatest_counts(rt: HostRuntime) -> Result<(), Fail> {
         cause: 23,
         place: Place::Byte(18446744073709551615),
     });
-    let shown = format!(in rt.alloc(); "{}{}", Lines(&verified), Lines(&refused))?;
+    let shown = format!(in rt.alloc(); "{verified}\n{refused}\n")?;
     let wanted = "verified infeas\nsolutions 3 derived 4294967295 peak 7\n\
         refused 23 at byte 18446744073709551615\n";
     assert_eq!(rt; shown.as_str(), wanted);

@@ -1,24 +1,16 @@
--- The words of a row, pair by pair, and what is printed of a verdict and its detail
-use Rattle.std.proofs.Common.{◌≡◌, ℕ, ◌+◌, ◌<◌, List, [], ◌∷◌, ◌++◌, length, take, get_or, Option, Some, None, Ok, Err, sym, ap, subst, ◌∙◌}
-use Rattle.std.proofs.lemmas.List.{append-nil, take_more}
-use Rattle.std.proofs.lemmas.List.Concat.{flat_map-append}
-use Rattle.vipr_spec.specs.Fraction.{ℚ}
+-- What is printed of a verdict and its detail
+use Rattle.std.proofs.Common.{◌≡◌, ℕ, Option, Some, None, Ok, Err, subst}
 use Rattle.vipr_spec.specs.Constraint.{Profile}
 use Rattle.vipr_spec.specs.Input.{Input}
 use Rattle.vipr_bytes.specs.Output.{Output}
 use Rattle.vipr_bytes.specs.Known.{IfKnown}
+use Rattle.vipr_check.specs.Explanation.{explained_text}
 use Rattle.vipr_check.specs.declared.detail.Detail.{Detail}
 use Rattle.vipr_check.specs.declared.verdict.Verdict.{Verdict}
 use Rattle.vipr_command.specs.declared.fault.Fault.{Fault}
 use Rattle.vipr_command.specs.declared.fault.Fault.TheVariants.{Memory, Read, Write}
-use Rattle.vipr_command.specs.Explanation.{pair_text, pairs_text, explained_text}
 use Rattle.vipr_command.specs.Output.{Took, Prints, after_first}
 use Rattle.vipr_command.specs.Run.{KnownInput, PrintsExplanation, status_for}
-
-pub pairs_more : (ps : List (ℕ × ℚ)) (n : ℕ) (p d : ℕ × ℚ) → n < length ps → p ≡ get_or ps n d → pairs_text (take n ps) ++ pair_text p ≡ pairs_text (take (n + 1) ps)
-pairs_more ps n p d within this = sym (
-    ap pairs_text (take_more ps n d within ∙ ap (λ y. take n ps ++ y ∷ []) (sym this)) ∙ flat_map-append pair_text (take n ps) (p ∷ [])
-    ∙ ap (λ l. pairs_text (take n ps) ++ l) (append-nil (pair_text p)))
 
 -- what is so of each input is so of the one that is known
 pub if_known : (o : Option Input) (P Q : Input → Type 0) → ((i : Input) → P i → Q i) → IfKnown o P → IfKnown o Q

@@ -1,6 +1,5 @@
 pub mod Args
 pub mod Text
-pub mod Explanation
 pub mod Output
 pub mod Respelled
 pub mod Show

@@ -12,6 +12,7 @@ use Rattle.vipr_bytes.specs.Output.{Output}
 use Rattle.vipr_bytes.specs.Known.{text_of}
 use Rattle.vipr_rules.specs.Profile.{profile_of}
 use Rattle.vipr_rules.specs.declared.profile.Profile as rules
+use Rattle.vipr_check.specs.Explanation.{explained_text}
 use Rattle.vipr_check.specs.View.{Says}
 use Rattle.vipr_check.specs.Run.{SaysInDetail}
 use Rattle.vipr_check.specs.declared.detail.Detail.{Detail}
@@ -24,8 +25,7 @@ use Rattle.vipr_tighten.specs.Tightens.{KindOfText, any_kind, kind_read}
 use Rattle.vipr_write.specs.declared.write.WriteError.{WriteError}
 use Rattle.vipr_write.specs.declared.write.WriteError.TheVariants as write
 use Rattle.vipr_command.specs.Args.{asked_by, command_word, words_fault}
-use Rattle.vipr_command.specs.Text.{verdict_text}
-use Rattle.vipr_command.specs.Explanation.{explained_text}
+use Rattle.vipr_command.specs.Text.{verdict_lines}
 use Rattle.vipr_command.specs.Output.{Took, Stays, after_first}
 use Rattle.vipr_command.specs.Show.{Kind, ShowsText, any_text, text_read}
 use Rattle.vipr_command.specs.Tighten.{WritesFile, WritesTightened}
@@ -97,11 +97,11 @@ known_by i =
 abbrev pub PrintsVerdict : Profile → KnownInput → Option Output → Option Output
     → Result ℕ Fault → Type 0
 PrintsVerdict P k old new (Ok s) = (v : Verdict) × k.Judged P (Ok v) × (s ≡ status_for v)
-    × Took old new (verdict_text v) (Ok tt)
+    × Took old new (verdict_lines v) (Ok tt)
 PrintsVerdict P k old new (Err Read) = k.Judged P (Err CheckRead) × Stays old new
 PrintsVerdict P k old new (Err Memory) = Stays old new
 PrintsVerdict P k old new (Err (Write n)) = (v : Verdict) × k.Judged P (Ok v)
-    × Took old new (verdict_text v) (Err (after_first n))
+    × Took old new (verdict_lines v) (Err (after_first n))
 
 -- the same of the verdict's lines with those of the detail
 abbrev pub PrintsExplanation : Profile → KnownInput → Option Output → Option Output

@@ -6,7 +6,6 @@ ghost use Rattle.vipr_command.specs.Run.{PrintsVerdict, known_by, status_for, un
 
 use crate::fault::Fault;
 use crate::output::print;
-use crate::text::Lines;
 use std::alloc::Global;
 use vipr_bytes::{Sink, Source};
 use vipr_check::{Verdict, check_in};
@@ -25,7 +24,7 @@ pub fn print_verdict<R: Source + Drop, O: Sink>(
         (O.output out.old) (O.output out.new) result) }
 {
     let verdict = check_in::<R, LiveOnly>(alloc, profile, source)?;
-    print(alloc, &Lines(&verdict), out)?;
+    print(alloc, &format_args!("{verdict}\n"), out)?;
     Ok(status_of(&verdict))
 }
 

@@ -5,12 +5,11 @@ ghost use Rattle.vipr_rules.specs.Profile.{profile_of};
 ghost use Rattle.vipr_command.specs.Run.{PrintsExplanation, known_by, unknown_input};
 
 use crate::check::status_of;
-use crate::explanation::Explanation;
 use crate::fault::Fault;
 use crate::output::print;
 use std::alloc::Global;
 use vipr_bytes::{Sink, Source};
-use vipr_check::explain_in;
+use vipr_check::{Explanation, explain_in};
 use vipr_rules::Profile;
 
 /// Prints the verdict on a certificate by the rules of a profile and what there is to show of it,

@@ -8,7 +8,8 @@ ghost use Rattle.vipr_command.specs.Respelled.{BeginsText, Appends, Respells, Re
 
 use std::alloc::Global;
 use vipr_bytes::Source;
-use vipr_text::{CertReader, Derivations, Solutions, TextError};
+use vipr_read::{CertReader, Derivations, Solutions};
+use vipr_scan::TextError;
 use vipr_write::CompactText;
 
 /// The canonical text of the certificate that `source` gives, which is read to its end. No item is

@@ -8,12 +8,11 @@ ghost use Rattle.vipr_command.specs.Show.{text_read};
 use crate::fault::Fault;
 use crate::line::say;
 use crate::respelled::respelled;
-use crate::text::RefusalLine;
 use std::alloc::Global;
 use std::io::Write;
 use vipr_bytes::{Sink, Source};
 use vipr_check::{Place, Refusal};
-use vipr_text::TextError;
+use vipr_scan::TextError;
 use vipr_write::{CompactText, WriteError};
 
 /// What became of a certificate that was to be shown.
@@ -85,7 +84,7 @@ pub fn print_text<R: Source + Drop, O: Sink, E: Write>(
     match show(alloc, source, out)? {
         Shown::Whole => Ok(0),
         Shown::Refused(refusal) => {
-            say(err, &RefusalLine(&refusal));
+            say(err, &format_args!("{refusal}\n"));
             Ok(1)
         }
     }

@@ -9,7 +9,6 @@ ghost use Rattle.vipr_command.specs.Tighten.{Settles, WritesFile, WritesTightene
 use crate::fault::Fault;
 use crate::line::say;
 use crate::place::Place;
-use crate::text::OutcomeLine;
 use std::alloc::Global;
 use std::io::Write;
 use std::rt::Files;
@@ -64,7 +63,7 @@ fn write_file<H: AllocGlobal + Files, R: Source + Drop, E: Write>(
     let mut place = Place::new(rt, path)?;
     let tightened = tighten_in(rt.alloc(), profile, source, &mut place);
     let outcome = settle(place, tightened)?;
-    say(err, &OutcomeLine(&outcome));
+    say(err, &format_args!("{outcome}\n"));
     Ok(status_of(&outcome))
 }
 
@@ -105,7 +104,7 @@ fn write_tightened<R: Source + Drop, W: Sink, E: Write>(
         result) }
 {
     let outcome = tighten_in(alloc, profile, source, sink)?;
-    say(err, &OutcomeLine(&outcome));
+    say(err, &format_args!("{outcome}\n"));
     Ok(status_of(&outcome))
 }
 

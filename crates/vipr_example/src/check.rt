@@ -1,12 +1,9 @@
-//! Checks bytes in memory.
+//! Checks bytes in memory, and prints what comes of it.
 ghost use Rattle.std.specs.Prelude.{◌≡◌, ◌↔◌, IfErr, IfOk, IsTrue};
 ghost use Rattle.vipr_example.specs.Promises.{SpellsProof, SpellsTruth};
 
 use std::alloc::{AllocError, Global};
-use std::fmt;
-use std::fmt::{Display, Formatter, Write};
-use vipr_bytes::Bytes;
-use vipr_check::{Fault, Place, Refusal, Report, Verdict, check};
+use vipr_lib::{Bytes, Explanation, Fault, Verdict, check, explain};
 
 /// Whether the bytes are a certificate that is a proof.
 ///
@@ -26,34 +23,28 @@ pub fn is_proof(alloc: Global, text: &[u8]) -> Result<bool, Fault>
     }
 }
 
-/// What a person is told of an answer, in one line.
-#[derive(Clone, Copy)]
-pub struct Line<'a>(pub &'a Result<Verdict, Fault>);
-
-impl Display for Line<'_> {
-    fn fmt<W: Write>(&self, f: &mut Formatter<W>) -> fmt::Result {
-        match self.0 {
-            Ok(Verdict::Verified(report)) => {
-                let Report { derived, peak, .. } = report;
-                write!(f, "a proof: {derived} derivations, at most {peak} held")
-            }
-            Ok(Verdict::Refused(Refusal { cause, place })) => match place {
-                Place::Byte(offset) => write!(f, "no proof: cause {cause} at byte {offset}"),
-                Place::Sol(number) => write!(f, "no proof: cause {cause} at solution {number}"),
-                Place::Der(index) => write!(f, "no proof: cause {cause} at derivation {index}"),
-                Place::End => write!(f, "no proof: cause {cause} at the end"),
-            },
-            Err(Fault::Read) => f.write_str("no answer: a read failed"),
-            Err(Fault::Memory) => f.write_str("no answer: out of memory"),
-        }
-    }
-}
-
-/// That line for bytes in memory.
+/// What a person is told of the bytes: the verdict, or why there is none.
 ///
 /// # Errors
 ///
-/// Where there is no memory for the line.
-pub fn verdict_line(alloc: Global, text: &[u8]) -> Result<String, AllocError> {
-    Line(&check(alloc, Bytes::new(text))).to_string(alloc)
+/// Where there is no memory for the text.
+pub fn verdict_text(alloc: Global, text: &[u8]) -> Result<String, AllocError> {
+    match check(alloc, Bytes::new(text)) {
+        Ok(verdict) => format!(in alloc; "{verdict}"),
+        Err(fault) => format!(in alloc; "no verdict: {fault}"),
+    }
+}
+
+/// The verdict on the bytes, and why it is so.
+///
+/// # Errors
+///
+/// `Fault::Memory` where a growth is refused.
+pub fn explanation(alloc: Global, text: &[u8]) -> Result<String, Fault> {
+    let (verdict, detail) = explain(alloc, Bytes::new(text))?;
+    let explanation = Explanation {
+        verdict: &verdict,
+        detail: &detail,
+    };
+    Ok(explanation.to_string(alloc)?)
 }

@@ -2,8 +2,7 @@
 ghost use Rattle.std.specs.Prelude.{◌≡◌, ◌≢◌, IfErr, IfOk, false};
 
 use std::alloc::Global;
-use vipr_bytes::{Bytes, Source};
-use vipr_text::{CertReader, Derivations, Problem, Reason, Solutions, TextError};
+use vipr_lib::{Bytes, CertReader, Derivations, Problem, Reason, Solutions, Source, TextError};
 
 /// What stands in a certificate.
 #[derive(Clone, Copy, Debug, Default, PartialEq, Eq)]

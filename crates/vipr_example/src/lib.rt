@@ -7,7 +7,9 @@ mod items;
 #[cfg(test)]
 mod tests;
 mod text;
+mod tighten;
 
-pub use check::{Line, is_proof, verdict_line};
+pub use check::{explanation, is_proof, verdict_text};
 pub use items::{Counts, count_items};
 pub use text::canonical;
+pub use tighten::tightened;

@@ -1,6 +1,6 @@
-use crate::{Counts, canonical, count_items, is_proof, verdict_line};
+use crate::{Counts, canonical, count_items, explanation, is_proof, tightened, verdict_text};
 use std::test::Fail;
-use vipr_text::TextError;
+use vipr_lib::{Place, Refusal, TextError};
 
 // x >= 1 and x <= 0, and 1 times the first and -1 times the second.
 const PROOF: &[u8] = b"VER 1.0
@@ -39,19 +39,52 @@ fn bytes_in_memory_are_checked(rt: HostRuntime) -> Result<(), Fail> {
     let alloc = rt.alloc();
     assert_eq!(rt; is_proof(alloc, PROOF), Ok(true));
     assert_eq!(rt; is_proof(alloc, NO_PROOF), Ok(false));
+    Ok(())
+}
+
+#[test]
+fn answers_are_printed(rt: HostRuntime) -> Result<(), Fail> {
+    let alloc = rt.alloc();
     assert_eq!(rt;
-        verdict_line(alloc, PROOF)?.as_str(),
-        "a proof: 1 derivations, at most 1 held"
+        verdict_text(alloc, PROOF)?.as_str(),
+        "verified infeas\nsolutions 0 derived 1 peak 1"
     );
     assert_eq!(rt;
-        verdict_line(alloc, NO_PROOF)?.as_str(),
-        "no proof: cause 38 at derivation 2"
+        verdict_text(alloc, NO_PROOF)?.as_str(),
+        "refused 38 at DER 2"
     );
     assert_eq!(rt;
-        verdict_line(alloc, b"VER 1.1")?.as_str(),
-        "no proof: cause 3 at byte 4"
+        verdict_text(alloc, b"VER 1.1")?.as_str(),
+        "refused 3 at byte 4"
+    );
+    assert_eq!(rt;
+        explanation(alloc, NO_PROOF).expect(&rt, "memory").as_str(),
+        "refused 38 at DER 2\ncause NotDominated\nderivation 2 f\ncomputed G 2 1 0 1\nstated G 1 0\n"
     );
     Ok(())
+}
+
+// Numbers and names are those of the table of causes.
+#[test]
+fn refusals_answer(rt: HostRuntime) {
+    for (cause, name, is_of_text, is_overflow) in [
+        (0, "", false, false),
+        (1, "Truncated", true, false),
+        (5, "NumberTooLarge", true, true),
+        (18, "TrailingText", true, false),
+        (21, "SolutionNotWhole", false, false),
+        (23, "SolutionOverflow", false, true),
+        (35, "Overflow", false, true),
+        (52, "NoPrimal", false, false),
+    ] {
+        let refusal = Refusal {
+            cause,
+            place: Place::End,
+        };
+        assert_eq!(rt; refusal.name(), name);
+        assert_eq!(rt; refusal.is_of_text(), is_of_text);
+        assert_eq!(rt; refusal.is_overflow(), is_overflow);
+    }
 }
 
 #[test]
@@ -83,5 +116,15 @@ fn the_canonical_text_is_written(rt: HostRuntime) -> Result<(), Fail> {
         offset: 4,
     };
     assert_eq!(rt; canonical(alloc, b"VER 1.1").err(), Some(refused));
+    Ok(())
+}
+
+#[test]
+fn what_the_goal_needs_is_kept(rt: HostRuntime) -> Result<(), Fail> {
+    let alloc = rt.alloc();
+    let kept = tightened(alloc, PROOF).expect(&rt, "memory");
+    assert_eq!(rt; kept.as_ref().map(|text| text.as_slice()), Some(PROOF));
+    let none = tightened(alloc, NO_PROOF).expect(&rt, "memory");
+    assert_eq!(rt; none.is_none(), true);
     Ok(())
 }

@@ -1,7 +1,6 @@
 //! Spells a certificate in its canonical text.
 use std::alloc::Global;
-use vipr_bytes::{Bytes, FromWrite};
-use vipr_text::{TextError, WriteError, read_certificate, write_certificate};
+use vipr_lib::{Bytes, FromWrite, TextError, WriteError, read_certificate, write_certificate};
 
 /// The canonical text of the certificate that the bytes spell.
 ///

@@ -5,8 +5,10 @@ use super::same;
 use std::alloc::Global;
 use std::process::Abort;
 use vipr_bytes::{Bytes, FromWrite};
-use vipr_text::{Certificate, read_certificate, write_certificate};
+use vipr_cert::Certificate;
+use vipr_read::read_certificate;
 use vipr_tighten::tighten_certificate;
+use vipr_write::write_certificate;
 
 // The constraint `x >= 3`, a solution that attains it, and the cutoff there.
 const CUTOFF: &[u8] = b"VER 1.0

@@ -1,0 +1,17 @@
+//! Keeps of a certificate what its proof needs.
+
+use std::alloc::Global;
+use vipr_lib::{Bytes, FromWrite, Outcome, TightenFault, tighten};
+
+/// The canonical text of the tightened certificate, `None` where the bytes are no proof.
+///
+/// # Errors
+///
+/// `TightenFault::Memory` where a growth is refused.
+pub fn tightened(alloc: Global, text: &[u8]) -> Result<Option<Vec<u8>>, TightenFault> {
+    let mut out = Vec::new(alloc);
+    match tighten(alloc, Bytes::new(text), &mut FromWrite::new(&mut out))? {
+        Outcome::Tightened { .. } => Ok(Some(out)),
+        Outcome::Refused(_) => Ok(None),
+    }
+}
