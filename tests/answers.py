@@ -232,31 +232,48 @@ FILES = [
     ('tighten a --out b', True, True),
     ('tighten --out=b a', True, True),
     ('tighten --profile=1 a', True, False),
+    ('tighten --compact', False, False),
+    ('tighten a --compact --out b', True, True),
+    ('tighten -o b', False, True),
+    ('tighten a -o b', True, True),
+    ('tighten a -ob', True, True),
+    ('tighten -', False, False),
+    ('tighten - --out b', False, True),
+    ('tighten a --out -', True, False),
+    ('tighten -o - -', False, False),
+    ('tighten -- -', False, False),
 ]
 
 # Words that aren't taken, and what is wrong with them.
 WRONG = [
     ('', "'vipr' requires a subcommand but one was not provided"),
     ('chek', "unrecognized subcommand 'chek'"),
-    ('help', "unrecognized subcommand 'help'"),
+    ('help chek', "unrecognized subcommand 'chek'"),
+    ('help check a', "unrecognized subcommand 'a'"),
     ('check a b', "unexpected argument 'b' found"),
     ('explain a b', "unexpected argument 'b' found"),
     ('check --out b', "unexpected argument '--out' found"),
     ('show --out b', "unexpected argument '--out' found"),
     ('explain --out=b', "unexpected argument '--out' found"),
     ('show --profile 1', "unexpected argument '--profile' found"),
+    ('check --compact', "unexpected argument '--compact' found"),
+    ('explain a --compact', "unexpected argument '--compact' found"),
+    ('show --compact --compact', "the argument '--compact' cannot be used multiple times"),
+    ('show --compact=true', "unexpected value 'true' for '--compact' found; no more were expected"),
     ('tighten --out', "a value is required for '--out <OUT>' but none was supplied"),
     ('check --profile', "a value is required for '--profile <PROFILE>' but none was supplied"),
     ('tighten --out a --out b', "the argument '--out <OUT>' cannot be used multiple times"),
     ('check --profile 1 --profile 2', "the argument '--profile <PROFILE>' cannot be used multiple times"),
-    ('check --profile 3', 'the profiles are 1 and 2'),
-    ('explain --profile 01', 'the profiles are 1 and 2'),
-    ('tighten --profile=+1', 'the profiles are 1 and 2'),
-    ('check --profile=', 'the profiles are 1 and 2'),
+    ('check --profile 3', "invalid value '3' for '--profile <PROFILE>' of 'vipr check'"),
+    ('explain --profile 01', "invalid value '01' for '--profile <PROFILE>' of 'vipr explain'"),
+    ('tighten --profile=+1', "invalid value '+1' for '--profile <PROFILE>' of 'vipr tighten'"),
+    ('check --profile=', "invalid value '' for '--profile <PROFILE>' of 'vipr check'"),
+    ('check -o b', "unexpected argument '-o' found"),
+    ('tighten -o a --out b', "the argument '--out <OUT>' cannot be used multiple times"),
 ]
 
 HELP = ['check    Checks a certificate', 'explain  Checks a certificate', 'show     Writes a certificate',
-        'tighten  Writes a verified certificate']
+        'tighten  Writes a verified certificate', 'help     Print this message']
 
 results = []
 numbers = itertools.count()
@@ -408,9 +425,29 @@ def explains_long(what, text, lines):
     cut(what, judged(verdict(lines)), text, 'check', places)
 
 
+def compact(text):
+    """The compact text of a canonical one: OBJ for the rows of constraints and derivations that are the objective's."""
+    lines = text.split(b'\n')
+    start = next(at for at, line in enumerate(lines) if line in (b'OBJ min', b'OBJ max')) + 1
+    objective, given = lines[start], int(lines[start + 1].split()[1])
+    if objective == b'0':
+        return text
+    derived = start + 2 + next(at for at, line in enumerate(lines[start + 2:]) if line.startswith(b'DER '))
+    for at in [*range(start + 2, start + 2 + given), *range(derived + 1, len(lines) - 1)]:
+        *words, rest = lines[at].split(b' ', 3)
+        if rest == objective or rest.startswith(objective + b' {'):
+            lines[at] = b' '.join([*words, b'OBJ' + rest[len(objective):]])
+    return b'\n'.join(lines)
+
+
 def shows(what, text, wanted):
     from_both(what, wanted, text, 'show')
     in_pieces(what, wanted, text, 'show', [1, 2, 3, 7])
+    short = compact(wanted[0]) if wanted[2] == 0 else b''
+    from_both(f'{what}, compact', (short, *wanted[1:]), text, 'show', '--compact')
+    if wanted[2] == 0:
+        expect(f'{what}, compact and then not', wanted, ['show'], short)
+        expect(f'{what}, compact twice', (short, *wanted[1:]), ['show', '--compact'], short)
 
 
 def shown_texts():
@@ -478,6 +515,11 @@ def tightens(text, becomes, said, options):
     expect(f'{what} to a new file', (b'', said, 0), ['tighten', '--out', out, *options], text)
     check(Path(out).read_bytes() == becomes, f'{what} is not what stands in a new file')
     longer = written(becomes + text)
+    short = compact(becomes)
+    from_both(f'{what}, compact', (short, said, 0), text, 'tighten', '--compact', *options)
+    check(len(short) <= len(becomes), f'{what} is longer in the compact form')
+    again = answer(['tighten', '--compact', *options], short)
+    check((again[0], again[2]) == (short, 0), f'{what} becomes another compact text, tightened once more')
     for file in longer, read:
         expect(f'{what} to a file', (b'', said, 0), ['tighten', read, *options, '--out', file], b'other')
         check(Path(file).read_bytes() == becomes, f'{what} is not what stands in the file')
@@ -538,6 +580,9 @@ def other_words():
         if len(words) == 1:
             for row in HELP:
                 check(row in printed.decode(), f'vipr {words} has no {row!r}')
+    check(b'[possible values: 1, 2]\n' in answer(['check', '--profile', '3'])[1], 'the profiles are not told')
+    for words in ['help'], ['help', 'check'], ['help', 'explain'], ['help', 'show'], ['help', 'tighten']:
+        expect('help', answer([*words[1:], '--help']), words)
     expect('the version', (b'vipr 0.1.0\n', b'', 0), ['--version'])
     expect('whole_objective', judged(EDITS['whole_objective'][0][3]), ['explain', '--profile=2'],
            certificate('whole_objective'))

@@ -1,8 +1,8 @@
 -- What clap's parse of the line says, for `job`.
-use Rattle.std.proofs.Common.{◌≡◌, ◌∙◌, ap, refl, sym, subst, inl, inr, ◌⊎◌, List, [], ◌∷◌, Option, Some, None, Bool, true, false, codes, is_some, option_map, find, if◌then◌else◌, ◌&&◌}
+use Rattle.std.proofs.Common.{◌≡◌, ◌∙◌, ap, refl, sym, subst, true≢false, inl, inr, ◌⊎◌, List, [], ◌∷◌, Option, Some, None, Bool, true, false, codes, is_some, option_map, find, if◌then◌else◌, ◌&&◌}
 use Rattle.std.specs.Prelude.{IfErr, Result, Ok, Err, IsErrAnd}
 use Rattle.clap.specs.declared.error.Error.{Error}
-use Rattle.clap.specs.Walk.{nothing_held, walk, walk_from, settled, finished}
+use Rattle.clap.specs.Walk.{idle, nothing_held, stop_after, walk, walk_from, settled, finished}
 use Rattle.clap.specs.Faults.{walk_fault, entered_fault, settle_fault, defaults_fault}
 use Rattle.clap.specs.Kinds.{FailsBy, HasKind, IsAmong, Kinds, or_else}
 use Rattle.clap.specs.declared.error.ErrorKind.{ErrorKind}
@@ -13,8 +13,10 @@ use Rattle.clap.specs.Simple.{argument_words, built, entered, label_of, names_of
 use Rattle.clap.specs.Words.{Row, Shape, Text, fault_of, first_of, has_subcommand, is_simple, is_simple_and_free, kind_of, subcommand_name_of, subcommand_of, subcommand_rows_of, takes}
 use Rattle.clap.specs.declared.parser.matches.ArgMatches.{ArgMatches}
 use Rattle.clap.specs.declared.parser.matches.ArgMatches.TheViews.{out-ArgMatches}
+use Rattle.std.specs.Str.{bytes_eq}
+use Rattle.vipr_command.proofs.HelpLemmas.{NotHelp, met_help, never_met}
 use Rattle.vipr_rules.specs.declared.profile.Profile.{Profile}
-use Rattle.vipr_command.specs.Args.{are_taken, asked, asked_by, command_word, line, names_profile, profile_named, words_fault}
+use Rattle.vipr_command.specs.Args.{are_taken, asked, asked_by, command_word, file_named, form_asked, line, names_profile, profile_named, words_fault}
 use Rattle.vipr_command.specs.declared.task.Job.{Job}
 use Rattle.vipr_command.specs.declared.task.Task.{Task}
 use Rattle.vipr_command.specs.declared.task.Task.TheVariants.{Check, Explain, Show, Tighten}
@@ -31,6 +33,10 @@ is_free_line = refl
 pub handed_on : {T E : Type 0} (r : Result T E) (e : E) (P : E → Type 0) → IsErrAnd r (λ y. y ≡ e) → P e → IfErr r P
 handed_on (Ok x) e P h p = absurd h
 handed_on (Err y) e P h p = subst P (sym h) p
+
+first_none : (a b : Kinds) → or_else a b ≡ [] → a ≡ []
+first_none [] b h = refl
+first_none (k ∷ ks) b h = cc
 
 later_none : (a b : Kinds) → or_else a b ≡ [] → b ≡ []
 later_none [] b h = h
@@ -54,6 +60,14 @@ names_one words h =
     (entered_fault (built line) end.stopped) (settle_fault (built line).top.rules (built line).top.args_override_self end.held)
     (defaults_fault (settled (built line).top.rules end.held).rows (built line).top.rules) _ h)
 
+enabled : (built line).top.disable_help_subcommand ≡ false
+unfolding line
+enabled = refl
+
+-- nor does a line with no fault ask for help
+never_help : (words : List Text) → fault_of line words ≡ [] → NotHelp (stop_after (built line).top.rules (names_of (built line)) (argument_words line words))
+never_help words h = never_met (built line).top (names_of (built line)) enabled nothing_held idle 1 false None (argument_words line words) tt (first_none _ _ h)
+
 is_some-map : {X Y : Type 0} (f : X → Y) (o : Option X) → is_some (option_map f o) ≡ is_some o
 is_some-map f None = refl
 is_some-map f (Some x) = refl
@@ -71,44 +85,49 @@ pub entered_is : (m : ArgMatches) (name : Text) (rows : List Row) → Some name 
     → subcommand_rows_of m ≡ Some (name, rows)
 entered_is m name rows n r = parts _ (out-ArgMatches m).subcommand name rows n r
 
-abbrev IsNamed : List Shape → Text → Type 0
-IsNamed [] name = ⊥
-IsNamed (s ∷ ss) name = (s.name ≡ name) ⊎ IsNamed ss name
+-- the name is that of one of these, which the word names
+abbrev IsNamed : List Shape → Text → Text → Type 0
+IsNamed [] word name = ⊥
+IsNamed (s ∷ ss) word name = ((s.name ≡ name) × (answers_to word (label_of s) ≡ true)) ⊎ IsNamed ss word name
 
 named_in : (subs : List Shape) (p : Text × List Text) (q : Text × List Row)
-    → option_map (λ s. rows_at s p.1) (find (λ s. answers_to p.0 (label_of s)) subs) ≡ Some q → IsNamed subs q.0
+    → option_map (λ s. rows_at s p.1) (find (λ s. answers_to p.0 (label_of s)) subs) ≡ Some q → IsNamed subs p.0 q.0
 named_in [] p q h = cc
-named_in (s ∷ ss) p q h = elim (answers_to p.0 (label_of s)) as (λ b. option_map (λ s. rows_at s p.1) (if b then Some s else find (λ s. answers_to p.0 (label_of s)) ss) ≡ Some q → IsNamed (s ∷ ss) q.0) [
-  | true ↦ λ e. inl (first e)
-  | false ↦ λ e. inr (named_in ss p q e)
-] h
+named_in (s ∷ ss) p q h = go (answers_to p.0 (label_of s)) refl h
   where
     first : Some (rows_at s p.1) ≡ Some q → s.name ≡ q.0
     first e = let k : rows_at s p.1 ≡ q = cc in ap (λ (x : Text × List Row). x.0) k
 
-stop_named : (stop : Option (Text × List Text)) (q : Text × List Row) → entered (built line) stop ≡ Some q → IsNamed (built line).subs q.0
-stop_named None q h = cc
-stop_named (Some p) q h = named_in (built line).subs p q h
+    go : (b : Bool) → b ≡ answers_to p.0 (label_of s) → option_map (λ s. rows_at s p.1) (if b then Some s else find (λ s. answers_to p.0 (label_of s)) ss) ≡ Some q → IsNamed (s ∷ ss) p.0 q.0
+    go true b e = inl (first e, sym b)
+    go false b e = inr (named_in ss p q e)
 
-one_of : (name : Text) → IsNamed (built line).subs name → ((t : Task) → command_word t ≡ name → ⊥) → ⊥
+-- of the subcommands, `help` is the one that is no task
+one_of : (word name : Text) → IsNamed (built line).subs word name → bytes_eq word (codes "help") ≡ false → ((t : Task) → command_word t ≡ name → ⊥) → ⊥
 unfolding line
-one_of name (inl h) none = none Check h
-one_of name (inr (inl h)) none = none Explain h
-one_of name (inr (inr (inl h))) none = none Show h
-one_of name (inr (inr (inr (inl h)))) none = none Tighten h
-one_of name (inr (inr (inr (inr h)))) none = h
+one_of word name (inl (h, met)) other none = none Check h
+one_of word name (inr (inl (h, met))) other none = none Explain h
+one_of word name (inr (inr (inl (h, met)))) other none = none Show h
+one_of word name (inr (inr (inr (inl (h, met))))) other none = none Tighten h
+one_of word name (inr (inr (inr (inr (inl (h, met)))))) other none = let bad = sym (met_help word met) ∙ other in true≢false bad
+one_of word name (inr (inr (inr (inr (inr h))))) other none = h
+
+stop_named : (stop : Option (Text × List Text)) (q : Text × List Row) → entered (built line) stop ≡ Some q → NotHelp stop → ((t : Task) → command_word t ≡ q.0 → ⊥) → ⊥
+stop_named None q h other none = cc
+stop_named (Some p) q h other none = one_of p.0 q.0 (named_in (built line).subs p q h) other none
 
 -- a subcommand that was entered is one of the tasks
-pub never_other : (words : List Text) (q : Text × List Row) → subcommand_of line words ≡ Some q → ((t : Task) → command_word t ≡ q.0 → ⊥) → ⊥
-never_other words q e none = one_of q.0 (stop_named _ q e) none
+pub never_other : (words : List Text) (q : Text × List Row) → fault_of line words ≡ [] → subcommand_of line words ≡ Some q → ((t : Task) → command_word t ≡ q.0 → ⊥) → ⊥
+never_other words q f e none = stop_named _ q e (never_help words f) none
 
 pub failed_on : {T : Type 0} (r : Result T Error) (e : Error) (kinds : Kinds) → IsErrAnd r (λ y. y ≡ e) → HasKind kinds e → FailsBy kinds r
 failed_on (Ok x) e kinds h k = absurd h
 failed_on (Err y) e kinds h k = subst (HasKind kinds) (sym h) k
 
-pub is_asked : (words : List Text) (j : Job) (name : Text) (rows : List Row) → subcommand_of line words ≡ Some (name, rows) → command_word j.command ≡ name → Some j.profile ≡ profile_named (first_of (codes "profile") rows)
-    → option_map (λ s. s.now) j.file ≡ first_of (codes "file") rows → option_map (λ s. s.now) j.out ≡ first_of (codes "out") rows → asked_by words ≡ Some (asked j)
-is_asked words j name rows e n p f o = rw (e, n, p, f, o) refl
+pub is_asked : (words : List Text) (j : Job) (name : Text) (rows : List Row) → subcommand_of line words ≡ Some (name, rows) → command_word j.command ≡ name → Some j.profile ≡ profile_named (first_of (codes "profile") rows) → j.form ≡ form_asked (first_of (codes "compact") rows)
+    → option_map (λ s. s.now) j.file ≡ file_named (first_of (codes "file") rows) → option_map (λ s. s.now) j.out ≡ file_named (first_of (codes "out") rows)
+    → asked_by words ≡ Some (asked j)
+is_asked words j name rows e n p g f o = rw (e, n, p, g, f, o) refl
 
 -- ---- the profile
 

@@ -1,4 +1,4 @@
--- A certificate's canonical text, made while the certificate is read
+-- A certificate's text, made while the certificate is read
 use Rattle.std.proofs.Common.{◌≡◌, ◌≢◌, ◌⊎◌, ◌↔◌, Bool, true, false, None, Some, IsErrOf, ℕ, zero, suc, ◌+◌, ◌<◌, List, [], ◌∷◌, ◌++◌, length, map, codes, Option, Result, Ok, Err, IsSome, inl, inr, refl, sym, ap, subst, ◌∙◌, append_assoc, arith}
 use Rattle.std.proofs.lemmas.List.{append-nil, length-append, map_push}
 use Rattle.std.proofs.lemmas.Grind.{flat_map-append}
@@ -13,7 +13,10 @@ use Rattle.vipr_scan.specs.declared.error.TextError.{TextError}
 use Rattle.vipr_scan.specs.declared.error.TextError.TheVariants as error
 use Rattle.vipr_read.specs.Items.{Items, Knows, Remembers, HasEnded}
 use Rattle.vipr_read.specs.Parsing.{with_front}
-use Rattle.vipr_write.specs.Canonical.{problem_lines, solution_words, derivation_words, heading, line_text, lines_text, canonical_text}
+use Rattle.vipr_write.specs.Canonical.{solution_words, heading, line_text, lines_text}
+use Rattle.vipr_write.specs.Folded.{Begun, with_more_bytes}
+use Rattle.vipr_write.specs.Forms.{problem_lines_in, derivation_words_in, text_in}
+use Rattle.vipr_write.specs.declared.form.Form.{Form}
 use Rattle.vipr_command.specs.Respelled.{HasAppended, Respells, RespellsText}
 
 -- a fault is that of what goes on after it
@@ -45,11 +48,11 @@ module _ {Y : Type 0} (item : Rest → Read Y) (words : Y → List (List ℕ)) w
   begins (Ok xs) = refl
   begins (Err e) = refl
 
-  pub none_yet : (r : Items) (text : List ℕ) → r.failed ≡ false → HasAppended item words r r text text
+  pub none_yet : (r : Items) (text : Begun) → r.failed ≡ false → HasAppended item words r r text text
   none_yet r text working = record {
     items = [];
     counted = omega arith;
-    lines = sym (append-nil text);
+    lines = ap (λ bs. let b : Begun = record text { bytes = bs } in b) (sym (append-nil text.bytes));
     remembers = record { variables = refl; constraints = refl; objective = refl };
     working = working;
     known = λ k. k;
@@ -64,14 +67,15 @@ module _ {Y : Type 0} (item : Rest → Read Y) (words : Y → List (List ℕ)) w
   unfolding repeated
   goes_on front k l l' x h = rw h (sym (regroup front x (repeated item k l')))
 
-  more_lines : (before text after : List ℕ) (ys : List Y) (y : Y) → text ≡ before ++ lines_text (map words ys) → after ≡ text ++ line_text (words y) → after ≡ before ++ lines_text (map words (ys ++ y ∷ []))
+  more_lines : (before text after : Begun) (ys : List Y) (y : Y) → text ≡ with_more_bytes before (lines_text (map words ys)) → after ≡ with_more_bytes text (line_text (words y)) → after ≡ with_more_bytes before (lines_text (map words (ys ++ y ∷ [])))
   more_lines before text after ys y h more =
-      more ∙ ap (λ t. t ++ line_text (words y)) h ∙ append_assoc before (lines_text (map words ys)) (line_text (words y))
-      ∙ ap (λ t. before ++ t) (sym (rw (map_push words ys y) (flat_map-append line_text (map words ys) (words y ∷ []) ∙ ap (λ t. lines_text (map words ys) ++ t) (append-nil (line_text (words y))))))
+      more ∙ ap (λ (t : Begun). with_more_bytes t (line_text (words y))) h
+      ∙ ap (λ bs. let b : Begun = record before { bytes = bs } in b) (append_assoc before.bytes (lines_text (map words ys)) (line_text (words y))
+      ∙ ap (λ t. before.bytes ++ t) (sym (rw (map_push words ys y) (flat_map-append line_text (map words ys) (words y ∷ []) ∙ ap (λ t. lines_text (map words ys) ++ t) (append-nil (line_text (words y)))))))
 
   -- one more item was read, and its line appended
-  pub one_more : (old mid new : Items) (before text after : List ℕ) (y : Y) → HasAppended item words old mid before text → mid.left ≡ suc new.left → Remembers mid new → new.failed ≡ false
-      → (IsSome mid.rest → (item (rest_of mid.rest) ≡ Ok (y, rest_of new.rest)) × IsSome new.rest) → after ≡ text ++ line_text (words y) → HasAppended item words old new before after
+  pub one_more : (old mid new : Items) (before text after : Begun) (y : Y) → HasAppended item words old mid before text → mid.left ≡ suc new.left → Remembers mid new → new.failed ≡ false
+      → (IsSome mid.rest → (item (rest_of mid.rest) ≡ Ok (y, rest_of new.rest)) × IsSome new.rest) → after ≡ with_more_bytes text (line_text (words y)) → HasAppended item words old new before after
   one_more old mid new before text after y h counted remembers working read more = record {
     items = h.items ++ y ∷ [];
     counted = omega (arith, length-append h.items (y ∷ []), h.counted, counted);
@@ -101,7 +105,7 @@ module _ {Y : Type 0} (item : Rest → Read Y) (words : Y → List (List ℕ)) w
   fails_at ending e front zero l (inr h) = absurd (omega (arith, h.0))
   fails_at ending e front (suc k) l (inr h) = fails_item ending e front k l h.1
 
-  pub stops : (ending : Rest → Result (Unit {0}) Fault) (e : TextError) (old mid : Items) (before text : List ℕ) → HasAppended item words old mid before text
+  pub stops : (ending : Rest → Result (Unit {0}) Fault) (e : TextError) (old mid : Items) (before text : Begun) → HasAppended item words old mid before text
       → (IsSome mid.rest → ((mid.left ≡ 0) × Fails e (ending (rest_of mid.rest))) ⊎ ((0 < mid.left) × Fails e (item (rest_of mid.rest))))
       → IsSome old.rest → Fails e (repeated item old.left (rest_of old.rest) >>= λ x. ending x.1)
   stops ending e old mid before text h fault known =
@@ -112,11 +116,11 @@ module _ {Y : Type 0} (item : Rest → Read Y) (words : Y → List (List ℕ)) w
   all_read front n l h = rw h (ap (λ (xs : List Y). Ok (xs, l)) (append-nil front))
 
   -- all items were read
-  pub were_read : (old new : Items) (before text : List ℕ) (h : HasAppended item words old new before text) → new.left ≡ 0 → IsSome old.rest → repeated item old.left (rest_of old.rest) ≡ Ok (h.items, rest_of new.rest)
+  pub were_read : (old new : Items) (before text : Begun) (h : HasAppended item words old new before text) → new.left ≡ 0 → IsSome old.rest → repeated item old.left (rest_of old.rest) ≡ Ok (h.items, rest_of new.rest)
   were_read old new before text h none known = sym (h.read known) ∙ all_read h.items new.left (rest_of new.rest) none
 
   -- the end of the text was found
-  pub at_end : (old mid new : Items) (before text : List ℕ) → HasAppended item words old mid before text → HasEnded mid new → HasAppended item words old new before text
+  pub at_end : (old mid new : Items) (before text : Begun) → HasAppended item words old mid before text → HasEnded mid new → HasAppended item words old new before text
   at_end old mid new before text h e = record {
     items = h.items;
     counted = ap (λ n. length h.items + n) e.kept ∙ h.counted;
@@ -188,26 +192,37 @@ in_sections ls ms ns h k =
     ∙ sym (flat_map-append line_text ls ((h ∷ ms) ++ (k ∷ ns)) ∙ ap (λ t. lines_text ls ++ t) (flat_map-append line_text (h ∷ ms) (k ∷ ns)))
 
 -- the lines that were appended are those of the certificate
-pub appended_text : (p : Problem) (ss : List (Named Row)) (ds : List Derivation) →
-    (((lines_text (problem_lines p) ++ line_text (heading (codes "SOL") (length ss))) ++ lines_text (map solution_words ss)) ++ line_text (heading (codes "DER") (length ds))) ++ lines_text (map derivation_words ds)
-    ≡ canonical_text (record { problem = p; solutions = ss; derivations = ds })
-appended_text p ss ds = in_sections (problem_lines p) (map solution_words ss) (map derivation_words ds) (heading (codes "SOL") (length ss)) (heading (codes "DER") (length ds))
+pub appended_text : (F : Form) (p : Problem) (ss : List (Named Row)) (ds : List Derivation) →
+    (((lines_text (problem_lines_in F p) ++ line_text (heading (codes "SOL") (length ss))) ++ lines_text (map solution_words ss)) ++ line_text (heading (codes "DER") (length ds))) ++ lines_text (map (derivation_words_in F p.objective) ds)
+    ≡ text_in F (record { problem = p; solutions = ss; derivations = ds })
+appended_text F p ss ds = in_sections (problem_lines_in F p) (map solution_words ss) (map (derivation_words_in F p.objective) ds) (heading (codes "SOL") (length ss)) (heading (codes "DER") (length ds))
 
 -- the same of a text that was made line by line
-pub all_lines : (p : Problem) (ss : List (Named Row)) (ds : List Derivation) (n m left over : ℕ) (t1 t2 t3 t4 : List ℕ) → length ss + left ≡ n → left ≡ 0 → length ds + over ≡ m → over ≡ 0
-    → t1 ≡ lines_text (problem_lines p) ++ line_text (heading (codes "SOL") n) → t2 ≡ t1 ++ lines_text (map solution_words ss) → t3 ≡ t2 ++ line_text (heading (codes "DER") m) → t4 ≡ t3 ++ lines_text (map derivation_words ds)
-    → t4 ≡ canonical_text (record { problem = p; solutions = ss; derivations = ds })
-all_lines p ss ds n m left over t1 t2 t3 t4 some no_more steps none e1 e2 e3 e4 =
+all_bytes : (F : Form) (p : Problem) (ss : List (Named Row)) (ds : List Derivation) (n m left over : ℕ) (t1 t2 t3 t4 : List ℕ) → length ss + left ≡ n → left ≡ 0 → length ds + over ≡ m → over ≡ 0
+    → t1 ≡ lines_text (problem_lines_in F p) ++ line_text (heading (codes "SOL") n) → t2 ≡ t1 ++ lines_text (map solution_words ss) → t3 ≡ t2 ++ line_text (heading (codes "DER") m) → t4 ≡ t3 ++ lines_text (map (derivation_words_in F p.objective) ds)
+    → t4 ≡ text_in F (record { problem = p; solutions = ss; derivations = ds })
+all_bytes F p ss ds n m left over t1 t2 t3 t4 some no_more steps none e1 e2 e3 e4 =
     let listed : n ≡ length ss = omega (arith, some, no_more) in
     let derived : m ≡ length ds = omega (arith, steps, none) in
-    let first = e1 ∙ ap (λ k. lines_text (problem_lines p) ++ line_text (heading (codes "SOL") k)) listed in
+    let first = e1 ∙ ap (λ k. lines_text (problem_lines_in F p) ++ line_text (heading (codes "SOL") k)) listed in
     let second = e2 ∙ ap (λ t. t ++ lines_text (map solution_words ss)) first in
     let third = e3 ∙ ap (λ k. t2 ++ line_text (heading (codes "DER") k)) derived ∙ ap (λ t. t ++ line_text (heading (codes "DER") (length ds))) second in
-    e4 ∙ ap (λ t. t ++ lines_text (map derivation_words ds)) third ∙ appended_text p ss ds
+    e4 ∙ ap (λ t. t ++ lines_text (map (derivation_words_in F p.objective) ds)) third ∙ appended_text F p ss ds
+
+pub all_lines : (F : Form) (p : Problem) (ss : List (Named Row)) (ds : List Derivation) (n m left over : ℕ) (t1 t2 t3 t4 : Begun) → length ss + left ≡ n → left ≡ 0 → length ds + over ≡ m → over ≡ 0
+    → t1 ≡ record { form = F; objective = p.objective; bytes = lines_text (problem_lines_in F p) ++ line_text (heading (codes "SOL") n) } → t2 ≡ with_more_bytes t1 (lines_text (map solution_words ss)) → t3 ≡ with_more_bytes t2 (line_text (heading (codes "DER") m))
+    → t4 ≡ with_more_bytes t3 (lines_text (map (derivation_words_in t3.form t3.objective) ds))
+    → t4.bytes ≡ text_in F (record { problem = p; solutions = ss; derivations = ds })
+all_lines F p ss ds n m left over t1 t2 t3 t4 some no_more steps none e1 e2 e3 e4 =
+    let form : t3.form ≡ F = ap (λ (b : Begun). b.form) e3 ∙ ap (λ (b : Begun). b.form) e2 ∙ ap (λ (b : Begun). b.form) e1 in
+    let objective : t3.objective ≡ p.objective = ap (λ (b : Begun). b.objective) e3 ∙ ap (λ (b : Begun). b.objective) e2 ∙ ap (λ (b : Begun). b.objective) e1 in
+    let last : t4.bytes ≡ t3.bytes ++ lines_text (map (derivation_words_in F p.objective) ds) =
+    ap (λ (b : Begun). b.bytes) e4 ∙ ap (λ f. t3.bytes ++ lines_text (map (derivation_words_in f t3.objective) ds)) form ∙ ap (λ o. t3.bytes ++ lines_text (map (derivation_words_in F o) ds)) objective in
+    all_bytes F p ss ds n m left over t1.bytes t2.bytes t3.bytes t4.bytes some no_more steps none (ap (λ (b : Begun). b.bytes) e1) (ap (λ (b : Begun). b.bytes) e2) (ap (λ (b : Begun). b.bytes) e3) last
 
 -- what a source gives, as the rest that a reader starts with
-pub told : {X : Type 0} (bytes : X → List ℕ) (source : Option Input) (rest : Option Rest) (r : Result X TextError) → IfKnown source (λ i. rest ≡ Some (text_of i)) → Respells bytes rest r → RespellsText bytes source r
-told bytes None rest (Ok x) k h = (h.0, h.1, tt)
-told bytes (Some i) rest (Ok x) k h = (h.0, h.1, λ short. subst (λ (l : Option Rest). IsSome l → certificate_read (rest_of l) ≡ Ok h.0) (k short) h.2 refl)
-told bytes None rest (Err e) k h = (h.0, tt)
-told bytes (Some i) rest (Err e) k h = (h.0, λ short. subst (λ (l : Option Rest). IsSome l → Fails e (certificate_read (rest_of l))) (k short) h.1 refl)
+pub told : {X : Type 0} (F : Form) (bytes : X → List ℕ) (source : Option Input) (rest : Option Rest) (r : Result X TextError) → IfKnown source (λ i. rest ≡ Some (text_of i)) → Respells F bytes rest r → RespellsText F bytes source r
+told F bytes None rest (Ok x) k h = (h.0, h.1, tt)
+told F bytes (Some i) rest (Ok x) k h = (h.0, h.1, λ short. subst (λ (l : Option Rest). IsSome l → certificate_read (rest_of l) ≡ Ok h.0) (k short) h.2 refl)
+told F bytes None rest (Err e) k h = (h.0, tt)
+told F bytes (Some i) rest (Err e) k h = (h.0, λ short. subst (λ (l : Option Rest). IsSome l → Fails e (certificate_read (rest_of l))) (k short) h.1 refl)

@@ -11,6 +11,7 @@ use Rattle.vipr_bytes.specs.Output.{Output}
 use Rattle.vipr_bytes.specs.Known.{IfKnown}
 use Rattle.vipr_rules.specs.Profile.{profile_of}
 use Rattle.vipr_tighten.specs.Tightens.{KindOfText, TightensText}
+use Rattle.vipr_write.specs.declared.form.Form.{Form}
 use Rattle.vipr_tighten.specs.declared.outcome.Outcome.{Outcome}
 use Rattle.vipr_tighten.specs.declared.outcome.Outcome.TheVariants.{Tightened, Refused}
 use Rattle.vipr_tighten.specs.declared.outcome.TightenFault.{TightenFault}
@@ -53,36 +54,36 @@ declines_untold k old new (Err Read) d = d
 declines_untold k old new (Err Memory) d = tt
 declines_untold k old new (Err (Write n)) (help, (text, took)) = (help, (text, tt))
 
-shows_untold : (k : Kind) (old new : Option Output) (r : Result Shown Fault) → ShowsText k old new r → ShowsText k None None r
-shows_untold k old new (Ok shown.Whole) (c, is, took) = (c, is, tt)
-shows_untold k old new (Ok (shown.Refused x)) (is, stays) = (is, tt)
-shows_untold k old new (Err Read) (is, stays) = (is, tt)
-shows_untold k old new (Err Memory) stays = tt
-shows_untold k old new (Err (Write n)) (c, is, took) = (c, is, tt)
+shows_untold : (F : Form) (k : Kind) (old new : Option Output) (r : Result Shown Fault) → ShowsText F k old new r → ShowsText F k None None r
+shows_untold F k old new (Ok shown.Whole) (c, is, took) = (c, is, tt)
+shows_untold F k old new (Ok (shown.Refused x)) (is, stays) = (is, tt)
+shows_untold F k old new (Err Read) (is, stays) = (is, tt)
+shows_untold F k old new (Err Memory) stays = tt
+shows_untold F k old new (Err (Write n)) (c, is, took) = (c, is, tt)
 
-tightens_untold : (P : Profile) (k : KindOfText) (old new : Option Output) (r : Result Outcome TightenFault) → TightensText P k old new r → TightensText P k None None r
-tightens_untold P k old new (Ok (Tightened a b p q)) (c, goal, is, proof, tight, (figures, taken)) = (c, goal, is, proof, tight, (figures, tt))
-tightens_untold P k old new (Ok (Refused x)) (is, stays) = (is, tt)
-tightens_untold P k old new (Err tighten.Read) (is, stays) = (is, tt)
-tightens_untold P k old new (Err (tighten.Memory n)) (is, stays) = (is, tt)
-tightens_untold P k old new (Err (tighten.Write n)) (c, goal, is, proof, tight, (less, taken)) = (c, goal, is, proof, tight, (less, tt))
+tightens_untold : (P : Profile) (F : Form) (k : KindOfText) (old new : Option Output) (r : Result Outcome TightenFault) → TightensText P F k old new r → TightensText P F k None None r
+tightens_untold P F k old new (Ok (Tightened a b p q)) (c, goal, is, proof, tight, (figures, taken)) = (c, goal, is, proof, tight, (figures, tt))
+tightens_untold P F k old new (Ok (Refused x)) (is, stays) = (is, tt)
+tightens_untold P F k old new (Err tighten.Read) (is, stays) = (is, tt)
+tightens_untold P F k old new (Err (tighten.Memory n)) (is, stays) = (is, tt)
+tightens_untold P F k old new (Err (tighten.Write n)) (c, goal, is, proof, tight, (less, taken)) = (c, goal, is, proof, tight, (less, tt))
 
-does_untold : (t : Task) (P : Profile) (out : Option Text) (k : KnownInput) (old new : Option Output) (r : Result ℕ Fault) → Does t P out k old new r → Does t P out k None None r
-does_untold Check P out k old new (Ok s) (v, judged, is, took) = (v, judged, is, tt)
-does_untold Check P out k old new (Err Read) (judged, stays) = (judged, tt)
-does_untold Check P out k old new (Err Memory) stays = tt
-does_untold Check P out k old new (Err (Write n)) (v, judged, took) = (v, judged, tt)
-does_untold Explain P out k old new (Ok s) (v, x, explained, is, took) = (v, x, explained, is, tt)
-does_untold Explain P out k old new (Err Read) (explained, stays) = (explained, tt)
-does_untold Explain P out k old new (Err Memory) stays = tt
-does_untold Explain P out k old new (Err (Write n)) (v, x, explained, took) = (v, x, explained, tt)
-does_untold Show P out k old new (Ok s) (x, is, shows) = (x, is, shows_untold k.kind old new (Ok x) shows)
-does_untold Show P out k old new (Err f) shows = shows_untold k.kind old new (Err f) shows
-does_untold Tighten P None k old new r (x, is, tightens) = (x, is, tightens_untold P (k.proof P) old new x tightens)
-does_untold Tighten P (Some out) k old new r (tightened, stays) = (tightened, tt)
+does_untold : (t : Task) (P : Profile) (F : Form) (out : Option Text) (k : KnownInput) (old new : Option Output) (r : Result ℕ Fault) → Does t P F out k old new r → Does t P F out k None None r
+does_untold Check P F out k old new (Ok s) (v, judged, is, took) = (v, judged, is, tt)
+does_untold Check P F out k old new (Err Read) (judged, stays) = (judged, tt)
+does_untold Check P F out k old new (Err Memory) stays = tt
+does_untold Check P F out k old new (Err (Write n)) (v, judged, took) = (v, judged, tt)
+does_untold Explain P F out k old new (Ok s) (v, x, explained, is, took) = (v, x, explained, is, tt)
+does_untold Explain P F out k old new (Err Read) (explained, stays) = (explained, tt)
+does_untold Explain P F out k old new (Err Memory) stays = tt
+does_untold Explain P F out k old new (Err (Write n)) (v, x, explained, took) = (v, x, explained, tt)
+does_untold Show P F out k old new (Ok s) (x, is, shows) = (x, is, shows_untold F k.kind old new (Ok x) shows)
+does_untold Show P F out k old new (Err f) shows = shows_untold F k.kind old new (Err f) shows
+does_untold Tighten P F None k old new r (x, is, tightens) = (x, is, tightens_untold P F (k.proof P) old new x tightens)
+does_untold Tighten P F (Some out) k old new r (tightened, stays) = (tightened, tt)
 
 untold : (words : List Text) (k : KnownInput) (old new : Option Output) (r : Result ℕ Fault) → Obeys words k old new r → Obeys words k None None r
-untold words k old new r (inl (t, P, file, out, asked, does)) = inl (t, P, file, out, asked, does_untold t (profile_of P) out (read_from file k) old new r does)
+untold words k old new r (inl (t, P, F, file, out, asked, does)) = inl (t, P, F, file, out, asked, does_untold t (profile_of P) F out (read_from file k) old new r does)
 untold words k old new r (inr (inl (e, among, declines))) = inr (inl (e, among, declines_untold e old new r declines))
 untold words k old new r (inr (inr (is, stays))) = inr (inr (is, tt))
 
@@ -90,12 +91,12 @@ pub fits : (words : List Text) (old new : Option Output) (r : Result ℕ Fault) 
 fits words old new r obeys = (r, refl, untold words unknown_input old new r obeys)
 
 -- a file that can't be opened
-pub unread : (t : Task) (P : Profile) (out : Option Text) (old : Option Output) → Does t P out unknown_input old old (Err Read)
-unread Check P out old = (tt, stays old)
-unread Explain P out old = (tt, stays old)
-unread Show P out old = (tt, stays old)
-unread Tighten P None old = (Err tighten.Read, refl, (tt, stays old))
-unread Tighten P (Some out) old = (inl (Err tighten.Read, refl, (tt, tt)), stays old)
+pub unread : (t : Task) (P : Profile) (F : Form) (out : Option Text) (old : Option Output) → Does t P F out unknown_input old old (Err Read)
+unread Check P F out old = (tt, stays old)
+unread Explain P F out old = (tt, stays old)
+unread Show P F out old = (tt, stays old)
+unread Tighten P F None old = (Err tighten.Read, refl, (tt, stays old))
+unread Tighten P F (Some out) old = (inl (Err tighten.Read, refl, (tt, tt)), stays old)
 
 abbrev named : Option (Bor (List ℕ)) → Option Text
 named o = option_map (λ s. s.now) o
@@ -112,11 +113,11 @@ of_known (Some f) k P p q = p
 
 module _ (words : List Text) (j : Job) (is : asked_by words ≡ Some (asked j)) (old new : Option Output) (r : Result ℕ Fault) where
   abbrev DoesJob : KnownInput → Type 0
-  DoesJob k = Does j.command (profile_of j.profile) (named j.out) k old new r
+  DoesJob k = Does j.command (profile_of j.profile) j.form (named j.out) k old new r
 
   pub obeyed : DoesJob unknown_input → Obeys words unknown_input old new r
-  obeyed does = inl (j.command, j.profile, named j.file, named j.out, is, of_unknown j.file DoesJob does)
+  obeyed does = inl (j.command, j.profile, j.form, named j.file, named j.out, is, of_unknown j.file DoesJob does)
 
   pub obeyed_told : (source : Option Input) → DoesJob unknown_input → (IsNone j.file → IfKnown source (λ i. DoesJob (known_by i))) → IfKnown source (λ i. Obeys words (known_by i) old new r)
   obeyed_told None does told = tt
-  obeyed_told (Some i) does told = λ short. inl (j.command, j.profile, named j.file, named j.out, is, of_known j.file (known_by i) DoesJob does (λ none. told none short))
+  obeyed_told (Some i) does told = λ short. inl (j.command, j.profile, j.form, named j.file, named j.out, is, of_known j.file (known_by i) DoesJob does (λ none. told none short))

@@ -6,9 +6,12 @@ use Rattle.std.specs.Str.{bytes_eq}
 use Rattle.clap.specs.Words.{App, Kinds, Rule, Text, fault_of, first_of, new_app, new_rule}
 use Rattle.clap.specs.Words.{subcommand_of, takes, with_rule, with_subcommand}
 use Rattle.clap.specs.Kinds.{or_else}
+use Rattle.clap.specs.declared.builder.action.ArgAction.TheVariants.{SetTrue}
 use Rattle.clap.specs.declared.error.ErrorKind.TheVariants.{InvalidValue}
 use Rattle.vipr_rules.specs.declared.profile.Profile.{Profile}
 use Rattle.vipr_rules.specs.declared.profile.Profile.TheVariants.{One, Two}
+use Rattle.vipr_write.specs.declared.form.Form.{Form}
+use Rattle.vipr_write.specs.declared.form.Form.TheVariants.{Canonical, Compact}
 use Rattle.vipr_command.specs.declared.task.Job.{Job}
 use Rattle.vipr_command.specs.declared.task.Task.{Task}
 use Rattle.vipr_command.specs.declared.task.Task.TheVariants.{Check, Explain, Show, Tighten}
@@ -24,9 +27,20 @@ profile_rule = record (new_rule (codes "profile")) {
   value_names = 1;
 }
 
--- `[--out OUT]`
+-- `[-o OUT]` or `[--out OUT]`
 abbrev pub out_rule : Rule
-out_rule = record (new_rule (codes "out")) { long = Some (codes "out"); value_names = 1 }
+out_rule = record (new_rule (codes "out")) {
+  short = Some 111;
+  long = Some (codes "out");
+  value_names = 1;
+}
+
+-- `[--compact]`
+abbrev pub compact_rule : Rule
+compact_rule = record (new_rule (codes "compact")) {
+  long = Some (codes "compact");
+  action = Some SetTrue;
+}
 
 abbrev pub command_word : Task → Text
 command_word Check = codes "check"
@@ -38,21 +52,24 @@ command_word Tighten = codes "tighten"
 abbrev pub with_file : Task → App
 with_file t = with_rule (new_app (command_word t)) file_rule
 
--- the same with `[--profile PROFILE]`
+-- the same with `[--compact]`
+abbrev pub with_compact : Task → App
+with_compact t = with_rule (with_file t) compact_rule
+
+-- a subcommand with `[FILE]` and `[--profile PROFILE]`
 abbrev pub with_profile : Task → App
 with_profile t = with_rule (with_file t) profile_rule
 
--- the same with `[--out OUT]`
+-- the same with `[-o OUT]` and `[--compact]`
 abbrev pub with_out : Task → App
-with_out t = with_rule (with_profile t) out_rule
+with_out t = with_rule (with_rule (with_profile t) out_rule) compact_rule
 
--- the name and a version, with a subcommand required
+-- the name and a version, with a subcommand required; clap adds the subcommand `help`
 abbrev pub bare : App
 bare = record (new_app (codes "vipr")) {
   top = record (new_app (codes "vipr")).top {
     has_version = true;
     subcommand_required = true;
-    disable_help_subcommand = true;
   };
 }
 
@@ -60,7 +77,7 @@ unfoldable pub line : App
 line =
     with_subcommand (with_subcommand (with_subcommand
     (with_subcommand bare (with_profile Check).top) (with_profile Explain).top)
-    (with_file Show).top) (with_out Tighten).top
+    (with_compact Show).top) (with_out Tighten).top
 
 -- the profile of this value of PROFILE, the first where it is absent
 abbrev pub profile_named : Option Text → Option Profile
@@ -68,23 +85,36 @@ profile_named None = Some One
 profile_named (Some word) = if bytes_eq word (codes "1") then Some One
     else (if bytes_eq word (codes "2") then Some Two else None)
 
--- a subcommand's name, the profile, if PROFILE names one, and the first values of FILE and OUT
+-- the file that a value of FILE or OUT names: none where it is absent or `-`
+abbrev pub file_named : Option Text → Option Text
+file_named None = None
+file_named (Some word) = if bytes_eq word (codes "-") then None else Some word
+
+-- the form by the value of the flag `--compact`, which is `true` where it is among the words
+abbrev pub form_asked : Option Text → Form
+form_asked None = Canonical
+form_asked (Some word) = if bytes_eq word (codes "true") then Compact else Canonical
+
+-- a subcommand's name, the profile, if PROFILE names one, the form, and the files that FILE and
+-- OUT name
 abbrev pub Request : Type 0
-Request = Text × Option Profile × Option Text × Option Text
+Request = Text × Option Profile × Form × Option Text × Option Text
 
 -- what clap's matches of the words are
 abbrev pub asked_by : List Text → Option Request
 asked_by words = option_map (λ p. (
   p.0,
   profile_named (first_of (codes "profile") p.1),
-  first_of (codes "file") p.1,
-  first_of (codes "out") p.1,
+  form_asked (first_of (codes "compact") p.1),
+  file_named (first_of (codes "file") p.1),
+  file_named (first_of (codes "out") p.1),
 )) (subcommand_of line words)
 
 abbrev pub asked : Job → Request
 asked j = (
   command_word j.command,
   Some j.profile,
+  j.form,
   option_map (λ s. s.now) j.file,
   option_map (λ s. s.now) j.out,
 )

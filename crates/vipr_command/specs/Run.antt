@@ -22,6 +22,7 @@ use Rattle.vipr_check.specs.declared.verdict.Fault.TheVariants.{Read as CheckRea
 use Rattle.vipr_check.specs.declared.verdict.Verdict.{Verdict}
 use Rattle.vipr_check.specs.declared.verdict.Verdict.TheVariants.{Refused, Verified}
 use Rattle.vipr_tighten.specs.Tightens.{KindOfText, any_kind, kind_read}
+use Rattle.vipr_write.specs.declared.form.Form.{Form}
 use Rattle.vipr_write.specs.declared.write.WriteError.{WriteError}
 use Rattle.vipr_write.specs.declared.write.WriteError.TheVariants as write
 use Rattle.vipr_command.specs.Args.{asked_by, command_word, words_fault}
@@ -113,25 +114,26 @@ PrintsExplanation P k old new (Err Memory) = Stays old new
 PrintsExplanation P k old new (Err (Write n)) = (v : Verdict) × (x : Detail)
     × k.Explained P (Ok (v, x)) × Took old new (explained_text v x) (Err (after_first n))
 
--- the canonical text was printed, or the certificate refused
-abbrev pub PrintsText : KnownInput → Option Output → Option Output → Result ℕ Fault → Type 0
-PrintsText k old new (Ok s) = (x : Shown) × (s ≡ shown_status x) × ShowsText k.kind old new (Ok x)
-PrintsText k old new (Err f) = ShowsText k.kind old new (Err f)
+-- the text was printed in this form, or the certificate refused
+abbrev pub PrintsText : Form → KnownInput → Option Output → Option Output → Result ℕ Fault → Type 0
+PrintsText F k old new (Ok s) = (x : Shown) × (s ≡ shown_status x)
+    × ShowsText F k.kind old new (Ok x)
+PrintsText F k old new (Err f) = ShowsText F k.kind old new (Err f)
 
 -- the tightened certificate was written: to standard output, or else to a file, of which nothing
 -- is said, and nothing was printed
-abbrev pub PrintsTightened : Profile → Option Text → KnownInput → Option Output → Option Output
-    → Result ℕ Fault → Type 0
-PrintsTightened P None k old new r = WritesTightened P (k.proof P) old new r
-PrintsTightened P (Some out) k old new r = WritesFile P (k.proof P) r × Stays old new
+abbrev pub PrintsTightened : Profile → Form → Option Text → KnownInput → Option Output
+    → Option Output → Result ℕ Fault → Type 0
+PrintsTightened P F None k old new r = WritesTightened P F (k.proof P) old new r
+PrintsTightened P F (Some out) k old new r = WritesFile P F (k.proof P) r × Stays old new
 
--- the task is done by this profile, with this OUT
-abbrev pub Does : Task → Profile → Option Text → KnownInput → Option Output → Option Output
+-- the task is done by this profile, in this form, with this OUT
+abbrev pub Does : Task → Profile → Form → Option Text → KnownInput → Option Output → Option Output
     → Result ℕ Fault → Type 0
-Does Check P out k old new r = PrintsVerdict P k old new r
-Does Explain P out k old new r = PrintsExplanation P k old new r
-Does Show P out k old new r = PrintsText k old new r
-Does Tighten P out k old new r = PrintsTightened P out k old new r
+Does Check P F out k old new r = PrintsVerdict P k old new r
+Does Explain P F out k old new r = PrintsExplanation P k old new r
+Does Show P F out k old new r = PrintsText F k old new r
+Does Tighten P F out k old new r = PrintsTightened P F out k old new r
 
 -- what is read: of a file that is named nothing is known
 abbrev pub read_from : Option Text → KnownInput → KnownInput
@@ -141,9 +143,10 @@ read_from (Some file) k = unknown_input
 -- the words ask for a task, which is done
 abbrev pub DoesAsked : List Text → KnownInput → Option Output → Option Output → Result ℕ Fault
     → Type 0
-DoesAsked words k old new r = (t : Task) × (P : rules.Profile) × (file out : Option Text)
-    × (asked_by words ≡ Some (command_word t, Some P, file, out))
-    × Does t (profile_of P) out (read_from file k) old new r
+DoesAsked words k old new r = (t : Task) × (P : rules.Profile) × (F : Form)
+    × (file out : Option Text)
+    × (asked_by words ≡ Some (command_word t, Some P, F, file, out))
+    × Does t (profile_of P) F out (read_from file k) old new r
 
 abbrev pub IsHelp : ErrorKind → Type 0
 IsHelp k = (k ≡ kind.DisplayHelp) ⊎ (k ≡ kind.DisplayVersion)

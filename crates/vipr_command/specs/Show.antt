@@ -3,7 +3,8 @@ use Rattle.std.specs.Prelude.{⊤, ◌≡◌, ℕ, List, Option, Result, Ok, Err
 use Rattle.vipr_spec.specs.Certificate.{Certificate}
 use Rattle.vipr_spec.specs.Grammar.{Spells}
 use Rattle.vipr_spec.specs.Reading.{Fault as TextFault, refused, unread}
-use Rattle.vipr_write.specs.Canonical.{canonical_text}
+use Rattle.vipr_write.specs.Forms.{text_in}
+use Rattle.vipr_write.specs.declared.form.Form.{Form}
 use Rattle.vipr_bytes.specs.Output.{Output}
 use Rattle.vipr_check.specs.declared.verdict.Place.TheVariants.{Byte}
 use Rattle.vipr_check.specs.declared.verdict.Refusal.{Refusal}
@@ -21,17 +22,17 @@ pub record Kind : Type 1 where
   pub Unread : Type 0
 
 -- old is the writer's output before, where it tells that, and new the one afterwards.
--- Whole: the canonical text of the certificate was taken.
+-- Whole: the text of the certificate was taken, in this form.
 -- Write: its first n bytes were taken, and no more.
 -- Else nothing was written.
-abbrev pub ShowsText : Kind → Option Output → Option Output → Result Shown Fault → Type 0
-ShowsText k old new (Ok Whole) = (c : Certificate) × k.Spelled c
-    × Took old new (canonical_text c) (Ok tt)
-ShowsText k old new (Ok (Refused r)) = k.Unspelled r × Stays old new
-ShowsText k old new (Err Read) = k.Unread × Stays old new
-ShowsText k old new (Err Memory) = Stays old new
-ShowsText k old new (Err (Write n)) = (c : Certificate) × k.Spelled c
-    × Took old new (canonical_text c) (Err (after_first n))
+abbrev pub ShowsText : Form → Kind → Option Output → Option Output → Result Shown Fault → Type 0
+ShowsText F k old new (Ok Whole) = (c : Certificate) × k.Spelled c
+    × Took old new (text_in F c) (Ok tt)
+ShowsText F k old new (Ok (Refused r)) = k.Unspelled r × Stays old new
+ShowsText F k old new (Err Read) = k.Unread × Stays old new
+ShowsText F k old new (Err Memory) = Stays old new
+ShowsText F k old new (Err (Write n)) = (c : Certificate) × k.Spelled c
+    × Took old new (text_in F c) (Err (after_first n))
 
 -- The text was written, or its first n bytes were, or nothing.
 abbrev pub WritesText : Option Output → Option Output → List ℕ → Result Shown Fault → Type 0

@@ -3,6 +3,7 @@ use Rattle.std.specs.Prelude.{◌≡◌, ◌⊎◌, ℕ, Option, None, Result, O
 use Rattle.vipr_spec.specs.Constraint.{Profile}
 use Rattle.vipr_bytes.specs.Output.{Output}
 use Rattle.vipr_tighten.specs.Tightens.{KindOfText, TightensText}
+use Rattle.vipr_write.specs.declared.form.Form.{Form}
 use Rattle.vipr_tighten.specs.declared.outcome.Outcome.{Outcome}
 use Rattle.vipr_tighten.specs.declared.outcome.Outcome.TheVariants.{Tightened, Refused}
 use Rattle.vipr_tighten.specs.declared.outcome.TightenFault.{TightenFault}
@@ -27,10 +28,10 @@ tighten_answer (Err e) = Err (tighten_fault_for e)
 
 -- old is the sink's output before, where it tells that, and new the one afterwards.
 -- A text of this kind was tightened to the sink, and the answer is that of what became of it.
-abbrev pub WritesTightened : Profile → KindOfText → Option Output → Option Output
+abbrev pub WritesTightened : Profile → Form → KindOfText → Option Output → Option Output
     → Result ℕ Fault → Type 0
-WritesTightened P k old new result = (r : Result Outcome TightenFault)
-    × (result ≡ tighten_answer r) × TightensText P k old new r
+WritesTightened P F k old new result = (r : Result Outcome TightenFault)
+    × (result ≡ tighten_answer r) × TightensText P F k old new r
 
 -- What is answered of a text that was tightened to a file. Once it was written, the file may still
 -- fail to keep it, and then that is a failed write. All else is answered as it is.
@@ -43,6 +44,6 @@ Settles (Err e) r = r ≡ Err (tighten_fault_for e)
 -- A text of this kind was tightened to a file, of which nothing is said, and the answer is that of
 -- what became of it; or the whole text of a tightened certificate was written, and the file failed
 -- to keep it.
-abbrev pub WritesFile : Profile → KindOfText → Result ℕ Fault → Type 0
-WritesFile P k result = WritesTightened P k None None result
-    ⊎ ((n : ℕ) × (result ≡ Err (Write n)) × WritesTightened P k None None (Ok 0))
+abbrev pub WritesFile : Profile → Form → KindOfText → Result ℕ Fault → Type 0
+WritesFile P F k result = WritesTightened P F k None None result
+    ⊎ ((n : ℕ) × (result ≡ Err (Write n)) × WritesTightened P F k None None (Ok 0))

@@ -5,16 +5,17 @@ ghost use Rattle.clap.specs.Words.{FailsBy, app_of, kind_of, new_app, rule_of, w
 ghost use Rattle.clap.specs.Words.{with_subcommand};
 ghost use Rattle.clap.specs.declared.builder.command.Command.TheViews.{out-Command as fields_of};
 ghost use Rattle.vipr_command.specs.Args.{are_taken, asked, asked_by, bare, command_word};
-ghost use Rattle.vipr_command.specs.Args.{file_rule};
+ghost use Rattle.vipr_command.specs.Args.{compact_rule, file_named, file_rule, form_asked};
 ghost use Rattle.vipr_command.specs.Args.{line};
 ghost use Rattle.vipr_command.specs.Args.{out_rule, profile_named, profile_rule, words_fault};
 ghost use Rattle.vipr_command.specs.declared.task.Task.{Task};
 
 use crate::task::{Job, Task};
 use clap::error::ErrorKind;
-use clap::{Arg, Command, Error};
+use clap::{Arg, ArgAction, Command, Error};
 use std::alloc::{AllocError, Global};
 use vipr_rules::Profile;
+use vipr_write::Form;
 
 /// Reads a command line, the program's name first.
 ///
@@ -26,14 +27,18 @@ pub fn job<'a>(alloc: Global, words: &'a [&'a str]) -> Result<Job<'a>, Error>
     ensures kinds { FailsBy (words_fault (map (λ w. w.now) words.entry.now)) result }
 {
     let mut line = command_line(alloc)?;
-    let read = job_by(&mut line, words);
+    let read = job_by(alloc, &mut line, words);
     // Dropped at this one place, whatever was read.
     drop(line);
     read
 }
 
 /// The same by the program's commands.
-fn job_by<'a>(commands: &mut Command<'a>, words: &'a [&'a str]) -> Result<Job<'a>, Error>
+fn job_by<'a>(
+    alloc: Global,
+    commands: &mut Command<'a>,
+    words: &'a [&'a str],
+) -> Result<Job<'a>, Error>
     requires { app_of commands.old ≡ line }
     ensures ok { IfOk result (λ j. asked_by (map (λ w. w.now) words.entry.now) ≡ Some (asked j)) }
     ensures err { IfErr result (λ e. are_taken (map (λ w. w.now) words.entry.now) ≡ true
@@ -48,14 +53,43 @@ fn job_by<'a>(commands: &mut Command<'a>, words: &'a [&'a str]) -> Result<Job<'a
         unreachable!()
     };
     let Some(profile) = profile_named(inner.get_str("profile")) else {
-        return Err(commands.error(ErrorKind::InvalidValue, "the profiles are 1 and 2")?);
+        return Err(no_profile(alloc, commands, name, inner.get_str("profile"))?);
     };
     Ok(Job {
         command,
         profile,
-        file: inner.get_str("file"),
-        out: inner.get_str("out"),
+        form: form_asked(inner.get_str("compact")),
+        file: file_named(inner.get_str("file")),
+        out: file_named(inner.get_str("out")),
     })
+}
+
+/// The error of a value that names no profile, at this command.
+fn no_profile(
+    alloc: Global,
+    commands: &mut Command<'_>,
+    command: &str,
+    word: Option<&str>,
+) -> Result<Error, AllocError>
+    ensures { IfOk result (λ e. kind_of e ≡ ErrorKind.InvalidValue) }
+{
+    let word = word.unwrap_or("");
+    let message = format!(in alloc;
+        "invalid value '{word}' for '--profile <PROFILE>' of 'vipr {command}'\n  [possible values: 1, 2]"
+    )?;
+    let error = commands.error(ErrorKind::InvalidValue, message.as_str());
+    drop(message);
+    error
+}
+
+/// The file that a word names: `-` names none, but standard input or output.
+fn file_named<'a>(word: Option<&'a str>) -> Option<&'a str>
+    ensures { option_map (λ s. s.now) result ≡ file_named (option_map (λ s. s.now) word.entry) }
+{
+    match word {
+        None | Some("-") => None,
+        Some(name) => Some(name),
+    }
 }
 
 fn task_named(name: &str) -> Option<Task>
@@ -81,6 +115,16 @@ fn profile_named(word: Option<&str>) -> Option<Profile>
     }
 }
 
+// The flag's value is `true` where it is among the words.
+fn form_asked(flag: Option<&str>) -> Form
+    ensures { result ≡ form_asked (option_map (λ s. s.now) flag.entry) }
+{
+    match flag {
+        Some("true") => Form::Compact,
+        _ => Form::Canonical,
+    }
+}
+
 /// The program's commands and their arguments.
 fn command_line<'a>(alloc: Global) -> Result<Command<'a>, AllocError>
     ensures { IfOk result (λ c. app_of c ≡ line) }
@@ -99,7 +143,7 @@ fn command_line<'a>(alloc: Global) -> Result<Command<'a>, AllocError>
         "Example: xz -dc plan.vipr.xz | vipr explain",
     );
     let line = with_command(line, explain)?;
-    let show = on_file(
+    let show = showing(
         alloc,
         "show",
         "Writes a certificate's canonical text",
@@ -123,7 +167,6 @@ fn no_commands<'a>(alloc: Global) -> Command<'a>
         .about("Checks VIPR 1.0 certificates")
         .version("0.1.0")
         .subcommand_required(true)
-        .disable_help_subcommand(true)
 }
 
 /// The command line with one more command, where that was made.
@@ -154,6 +197,20 @@ fn on_file<'a>(
         .arg(file(alloc))
 }
 
+/// A subcommand that reads FILE and writes a text in either form.
+fn showing<'a>(
+    alloc: Global,
+    name: &'a str,
+    about: &'a str,
+    example: &'a str,
+) -> Result<Command<'a>, AllocError>
+    ensures app { IfOk result
+        (λ c. app_of c ≡ with_rule (with_rule (new_app name.entry.now) file_rule) compact_rule) }
+    ensures local { IfOk result (λ c. (fields_of c).has_globals ≡ false) }
+{
+    on_file(alloc, name, about, example)?.arg(compact(alloc))
+}
+
 /// A subcommand that reads FILE and takes a profile.
 fn judging<'a>(
     alloc: Global,
@@ -168,7 +225,7 @@ fn judging<'a>(
     on_file(alloc, name, about, example)?.arg(profile(alloc))
 }
 
-/// A subcommand that reads FILE, takes a profile, and writes to OUT.
+/// A subcommand that reads FILE, takes a profile, and writes to OUT a text in either form.
 fn with_out<'a>(
     alloc: Global,
     name: &'a str,
@@ -176,11 +233,13 @@ fn with_out<'a>(
     example: &'a str,
 ) -> Result<Command<'a>, AllocError>
     ensures app { IfOk result (λ c. app_of c
-        ≡ with_rule (with_rule (with_rule (new_app name.entry.now) file_rule) profile_rule)
-        out_rule) }
+        ≡ with_rule (with_rule (with_rule (with_rule (new_app name.entry.now) file_rule)
+        profile_rule) out_rule) compact_rule) }
     ensures local { IfOk result (λ c. (fields_of c).has_globals ≡ false) }
 {
-    judging(alloc, name, about, example)?.arg(out(alloc))
+    judging(alloc, name, about, example)?
+        .arg(out(alloc))?
+        .arg(compact(alloc))
 }
 
 fn file<'a>(alloc: Global) -> Arg<'a>
@@ -189,7 +248,7 @@ fn file<'a>(alloc: Global) -> Arg<'a>
 {
     Arg::new(alloc, "file")
         .value_name("FILE")
-        .help("The certificate; standard input if absent")
+        .help("The certificate; standard input if absent or -")
 }
 
 fn profile<'a>(alloc: Global) -> Arg<'a>
@@ -207,7 +266,18 @@ fn out<'a>(alloc: Global) -> Arg<'a>
     ensures local { result.global ≡ false }
 {
     Arg::new(alloc, "out")
+        .short('o')
         .long("out")
         .value_name("OUT")
-        .help("Where to write it; standard output if absent")
+        .help("Where to write it; standard output if absent or -")
+}
+
+fn compact<'a>(alloc: Global) -> Arg<'a>
+    ensures rule { rule_of result ≡ compact_rule }
+    ensures local { result.global ≡ false }
+{
+    Arg::new(alloc, "compact")
+        .long("compact")
+        .action(ArgAction::SetTrue)
+        .help("Writes OBJ for rows that are the objective's")
 }

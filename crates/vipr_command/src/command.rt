@@ -104,11 +104,11 @@ fn do_job<H: AllocGlobal + Files, R: Source + Drop, O: Sink, E: Write>(
     out: &mut O,
     err: &mut E,
 ) -> Result<u8, Fault>
-    ensures any { Does job.now.command (profile_of job.now.profile)
+    ensures any { Does job.now.command (profile_of job.now.profile) job.now.form
         (option_map (λ s. s.now) job.now.out) unknown_input (O.output out.old) (O.output out.new)
         result }
     ensures told { IsNone job.now.file → IfKnown (R.input input)
-        (λ i. Does job.now.command (profile_of job.now.profile)
+        (λ i. Does job.now.command (profile_of job.now.profile) job.now.form
         (option_map (λ s. s.now) job.now.out) (known_by i) (O.output out.old) (O.output out.new)
         result) }
 {
@@ -128,11 +128,11 @@ fn do_task<H: AllocGlobal + Files, R: Source + Drop, O: Sink, E: Write>(
     out: &mut O,
     err: &mut E,
 ) -> Result<u8, Fault>
-    ensures any { Does job.now.command (profile_of job.now.profile)
+    ensures any { Does job.now.command (profile_of job.now.profile) job.now.form
         (option_map (λ s. s.now) job.now.out) unknown_input (O.output out.old) (O.output out.new)
         result }
     ensures told { IfKnown (R.input source)
-        (λ i. Does job.now.command (profile_of job.now.profile)
+        (λ i. Does job.now.command (profile_of job.now.profile) job.now.form
         (option_map (λ s. s.now) job.now.out) (known_by i) (O.output out.old) (O.output out.new)
         result) }
 {
@@ -140,7 +140,9 @@ fn do_task<H: AllocGlobal + Files, R: Source + Drop, O: Sink, E: Write>(
     match job.command {
         Task::Check => print_verdict(alloc, job.profile, source, out),
         Task::Explain => print_explanation(alloc, job.profile, source, out),
-        Task::Show => print_text(alloc, source, out, err),
-        Task::Tighten => print_tightened(rt, job.profile, source, job.out, out, err),
+        Task::Show => print_text(alloc, job.form, source, out, err),
+        Task::Tighten => {
+            print_tightened(rt, job.profile, job.form, source, job.out, out, err)
+        }
     }
 }

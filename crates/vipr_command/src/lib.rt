@@ -17,6 +17,10 @@ mod task;
 mod tighten;
 
 pub use args::job;
+pub use check::print_verdict;
 pub use command::run;
+pub use explain::print_explanation;
 pub use fault::Fault;
+pub use show::print_text;
 pub use task::{Job, Task};
+pub use tighten::write_tightened;

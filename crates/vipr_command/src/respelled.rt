@@ -3,17 +3,18 @@ ghost use Rattle.std.specs.Prelude.{◌≡◌, false, Ok, IfOk};
 ghost use Rattle.vipr_spec.specs.Certificate.{Problem as ProblemMeant};
 ghost use Rattle.vipr_spec.specs.Reading.{solution_read, derivation_read, end_read};
 ghost use Rattle.vipr_read.specs.Items.{Knows};
-ghost use Rattle.vipr_write.specs.Canonical.{solution_words, derivation_words};
+ghost use Rattle.vipr_write.specs.Canonical.{solution_words};
+ghost use Rattle.vipr_write.specs.Forms.{derivation_words_in};
 ghost use Rattle.vipr_command.specs.Respelled.{BeginsText, Appends, Respells, RespellsText};
 
 use std::alloc::Global;
 use vipr_bytes::Source;
 use vipr_read::{CertReader, Derivations, Solutions};
 use vipr_scan::TextError;
-use vipr_write::CompactText;
+use vipr_write::{CompactText, Form};
 
-/// The canonical text of the certificate that `source` gives, which is read to its end. No item is
-/// kept once its line is made.
+/// The text of the certificate that `source` gives, in a form. The source is read to its end. No
+/// item is kept once its line is made.
 ///
 /// # Errors
 ///
@@ -21,22 +22,24 @@ use vipr_write::CompactText;
 /// and `Memory` where a growth is refused.
 pub(crate) fn respelled<R: Source + Drop>(
     alloc: Global,
+    form: Form,
     source: R,
 ) -> Result<CompactText, TextError>
-    ensures { RespellsText (λ text. text) (R.input source) result }
+    ensures { RespellsText form (λ text. text.bytes) (R.input source) result }
 {
     let reader = CertReader::new(alloc, source)?;
-    text_from(alloc, reader)
+    text_from(alloc, form, reader)
 }
 
-// The canonical text of the certificate that the reader is at the start of.
+// The text of the certificate that the reader is at the start of.
 fn text_from<R: Source + Drop>(
     alloc: Global,
+    form: Form,
     reader: CertReader<R>,
 ) -> Result<CompactText, TextError>
-    ensures { Respells (λ text. text) reader result }
+    ensures { Respells form (λ text. text.bytes) reader result }
 {
-    let (text, mut solutions) = problem_text(alloc, reader)?;
+    let (text, mut solutions) = problem_text(alloc, form, reader)?;
     let text = solution_lines(alloc, text, &mut solutions)?;
     let mut derivations = solutions.finish()?;
     let text = text.derivation_count(derivations.left())?;
@@ -50,12 +53,13 @@ fn text_from<R: Source + Drop>(
 // The text of the problem, up to and with the number of solutions.
 fn problem_text<R: Source + Drop>(
     alloc: Global,
+    form: Form,
     reader: CertReader<R>,
 ) -> Result<(CompactText, Solutions<R>), TextError>
-    ensures { BeginsText (λ x. x.0) (λ x. x.1) reader result }
+    ensures { BeginsText form (λ x. x.0) (λ x. x.1) reader result }
 {
     let (problem, solutions) = reader.read_problem(alloc)?;
-    let lines = CompactText::new(alloc, &problem, solutions.left());
+    let lines = CompactText::new(alloc, form, &problem, solutions.left());
     // Dropped at this one place, whatever was answered.
     drop(problem);
     let text = lines?;
@@ -91,8 +95,8 @@ fn derivation_lines<R: Source>(
 ) -> Result<CompactText, TextError>
     requires { derivations.old.failed ≡ false }
     ensures { (p : ProblemMeant) → Knows derivations.old p
-        → Appends (derivation_read p) end_read derivation_words derivations.old derivations.new
-        text (λ t. t) result }
+        → Appends (derivation_read p) end_read (derivation_words_in text.form text.objective)
+        derivations.old derivations.new text (λ t. t) result }
 {
     while let Some(derivation) = derivations.next(alloc)? {
         let longer = text.derivation(&derivation);

@@ -1,4 +1,4 @@
-//! Shows a certificate: writes its canonical text.
+//! Shows a certificate: writes its text in a form.
 ghost use Rattle.vipr_spec.specs.Reading.{certificate_read};
 ghost use Rattle.vipr_bytes.specs.Known.{text_of, IfKnown, IfWhole};
 ghost use Rattle.vipr_command.specs.Run.{PrintsText, known_by, unknown_input};
@@ -13,18 +13,18 @@ use std::io::Write;
 use vipr_bytes::{Sink, Source};
 use vipr_check::{Place, Refusal};
 use vipr_scan::TextError;
-use vipr_write::{CompactText, WriteError};
+use vipr_write::{CompactText, Form, WriteError};
 
 /// What became of a certificate that was to be shown.
 #[derive(Clone, Copy, Debug, PartialEq, Eq)]
 pub enum Shown {
-    /// Its canonical text was written.
+    /// Its text was written.
     Whole,
     /// The text spells none. Nothing was written.
     Refused(Refusal),
 }
 
-/// Reads a certificate to the end of its text, and then writes its canonical text, which is made
+/// Reads a certificate to the end of its text, and then writes its text in a form, which is made
 /// while it is read. What it means isn't tested.
 ///
 /// # Errors
@@ -32,21 +32,22 @@ pub enum Shown {
 /// Where a read fails and where a growth is refused: nothing was written. Where a write fails.
 pub fn show<R: Source + Drop, W: Sink>(
     alloc: Global,
+    form: Form,
     source: R,
     writer: &mut W,
 ) -> Result<Shown, Fault>
     // Nothing is written but a certificate's text.
-    ensures written { ShowsText any_text (W.output writer.old) (W.output writer.new) result }
+    ensures written { ShowsText form any_text (W.output writer.old) (W.output writer.new) result }
     // The certificate, or the refusal, is that of the definitions for the bytes that the source
     // gives, in whatever pieces.
-    ensures exact { IfKnown (R.input source) (λ i. ShowsText
+    ensures exact { IfKnown (R.input source) (λ i. ShowsText form
         (text_read (certificate_read (text_of i))) (W.output writer.old)
         (W.output writer.new) result) }
     // The certificate is what the text spells, and it is refused where it spells none.
-    ensures spelled { IfWhole (R.input source) (λ bytes. ShowsText (text_spelling bytes)
+    ensures spelled { IfWhole (R.input source) (λ bytes. ShowsText form (text_spelling bytes)
         (W.output writer.old) (W.output writer.new) result) }
 {
-    match respelled(alloc, source) {
+    match respelled(alloc, form, source) {
         Ok(text) => write_text(alloc, &text, writer),
         Err(TextError::Refused { cause, offset }) => Ok(Shown::Refused(Refusal {
             cause,
@@ -60,7 +61,7 @@ pub fn show<R: Source + Drop, W: Sink>(
 
 // Writes a text.
 fn write_text<W: Sink>(alloc: Global, text: &CompactText, writer: &mut W) -> Result<Shown, Fault>
-    ensures { WritesText (W.output writer.old) (W.output writer.new) text.now result }
+    ensures { WritesText (W.output writer.old) (W.output writer.new) text.now.bytes result }
 {
     match text.write_to(alloc, writer) {
         Ok(()) => Ok(Shown::Whole),
@@ -69,19 +70,20 @@ fn write_text<W: Sink>(alloc: Global, text: &CompactText, writer: &mut W) -> Res
     }
 }
 
-/// Prints a certificate's canonical text, or on `err` why there is none, and answers the exit
+/// Prints a certificate's text in a form, or on `err` why there is none, and answers the exit
 /// status.
 pub fn print_text<R: Source + Drop, O: Sink, E: Write>(
     alloc: Global,
+    form: Form,
     source: R,
     out: &mut O,
     err: &mut E,
 ) -> Result<u8, Fault>
-    ensures any { PrintsText unknown_input (O.output out.old) (O.output out.new) result }
+    ensures any { PrintsText form unknown_input (O.output out.old) (O.output out.new) result }
     ensures told { IfKnown (R.input source)
-        (λ i. PrintsText (known_by i) (O.output out.old) (O.output out.new) result) }
+        (λ i. PrintsText form (known_by i) (O.output out.old) (O.output out.new) result) }
 {
-    match show(alloc, source, out)? {
+    match show(alloc, form, source, out)? {
         Shown::Whole => Ok(0),
         Shown::Refused(refusal) => {
             say(err, &format_args!("{refusal}\n"));

@@ -14,9 +14,10 @@ use std::io::Write;
 use std::rt::Files;
 use vipr_bytes::{Sink, Source};
 use vipr_rules::Profile;
-use vipr_tighten::{Outcome, TightenFault, tighten_in};
+use vipr_tighten::{Outcome, TightenFault, tighten_as};
+use vipr_write::Form;
 
-/// Prints a certificate's canonical text, tightened by the rules of a profile, or writes it to the
+/// Prints a certificate's text in a form, tightened by the rules of a profile, or writes it to the
 /// file at `path`. Tells on `err` what was kept and removed, or why there is none, and answers the
 /// exit status.
 ///
@@ -32,36 +33,38 @@ use vipr_tighten::{Outcome, TightenFault, tighten_in};
 pub fn print_tightened<H: AllocGlobal + Files, R: Source + Drop, O: Sink, E: Write>(
     rt: &H,
     profile: Profile,
+    form: Form,
     source: R,
     path: Option<&str>,
     out: &mut O,
     err: &mut E,
 ) -> Result<u8, Fault>
-    ensures any { PrintsTightened (profile_of profile) (option_map (λ s. s.now) path.entry)
+    ensures any { PrintsTightened (profile_of profile) form (option_map (λ s. s.now) path.entry)
         unknown_input (O.output out.old) (O.output out.new) result }
     ensures told { IfKnown (R.input source)
-        (λ i. PrintsTightened (profile_of profile) (option_map (λ s. s.now) path.entry) (known_by i)
-        (O.output out.old) (O.output out.new) result) }
+        (λ i. PrintsTightened (profile_of profile) form (option_map (λ s. s.now) path.entry)
+        (known_by i) (O.output out.old) (O.output out.new) result) }
 {
     match path {
-        None => write_tightened(rt.alloc(), profile, source, out, err),
-        Some(path) => write_file(rt, profile, source, path, err),
+        None => write_tightened(rt.alloc(), profile, form, source, out, err),
+        Some(path) => write_file(rt, profile, form, source, path, err),
     }
 }
 
 fn write_file<H: AllocGlobal + Files, R: Source + Drop, E: Write>(
     rt: &H,
     profile: Profile,
+    form: Form,
     source: R,
     path: &str,
     err: &mut E,
 ) -> Result<u8, Fault>
-    ensures any { WritesFile (profile_of profile) any_kind result }
-    ensures known { IfKnown (R.input source) (λ i. WritesFile (profile_of profile)
+    ensures any { WritesFile (profile_of profile) form any_kind result }
+    ensures known { IfKnown (R.input source) (λ i. WritesFile (profile_of profile) form
         (kind_read (profile_of profile) (text_of i)) result) }
 {
     let mut place = Place::new(rt, path)?;
-    let tightened = tighten_in(rt.alloc(), profile, source, &mut place);
+    let tightened = tighten_as(rt.alloc(), profile, form, source, &mut place);
     let outcome = settle(place, tightened)?;
     say(err, &format_args!("{outcome}\n"));
     Ok(status_of(&outcome))
@@ -90,20 +93,27 @@ fn settle<H: Files>(
     }
 }
 
-fn write_tightened<R: Source + Drop, W: Sink, E: Write>(
+/// Writes a certificate's text in a form, tightened by the rules of a profile, to a sink. Tells on
+/// `err` what was kept and removed, or why there is none, and answers the exit status.
+///
+/// # Errors
+///
+/// A read fails or a growth is refused: nothing was written. A write fails.
+pub fn write_tightened<R: Source + Drop, W: Sink, E: Write>(
     alloc: Global,
     profile: Profile,
+    form: Form,
     source: R,
     sink: &mut W,
     err: &mut E,
 ) -> Result<u8, Fault>
-    ensures any { WritesTightened (profile_of profile) any_kind (W.output sink.old)
+    ensures any { WritesTightened (profile_of profile) form any_kind (W.output sink.old)
         (W.output sink.new) result }
-    ensures told { IfKnown (R.input source) (λ i. WritesTightened (profile_of profile)
+    ensures told { IfKnown (R.input source) (λ i. WritesTightened (profile_of profile) form
         (kind_read (profile_of profile) (text_of i)) (W.output sink.old) (W.output sink.new)
         result) }
 {
-    let outcome = tighten_in(alloc, profile, source, sink)?;
+    let outcome = tighten_as(alloc, profile, form, source, sink)?;
     say(err, &format_args!("{outcome}\n"));
     Ok(status_of(&outcome))
 }

@@ -25,5 +25,9 @@ pub use vipr_linear::{Constraint, Ints, Row, RowError, Sense, Solution};
 pub use vipr_read::{CertReader, Derivations, Solutions, read_certificate};
 pub use vipr_rules::{LiveOnly, Profile, Rows};
 pub use vipr_scan::{TextError, Token, Tokens};
-pub use vipr_tighten::{Outcome, TightenFault, tighten, tighten_certificate, tighten_in};
-pub use vipr_write::{CompactText, GrowingText, WriteError, write_certificate};
+pub use vipr_tighten::{
+    Outcome, TightenFault, tighten, tighten_as, tighten_certificate, tighten_in,
+};
+pub use vipr_write::{
+    CompactText, Form, GrowingText, WriteError, write_certificate, write_certificate_in,
+};

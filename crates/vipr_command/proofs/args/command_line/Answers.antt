@@ -3,7 +3,7 @@ use Rattle.std.proofs.lemmas.Result.{IfOk-weaker}
 use Rattle.std.specs.Prelude.{IfOk, IsOkAnd, Result, Ok, Err}
 use Rattle.clap.specs.Words.{App, app_of, with_subcommand}
 use Rattle.clap.specs.declared.builder.command.Command.{Command}
-use Rattle.vipr_command.specs.Args.{bare, line, with_file, with_profile, with_out}
+use Rattle.vipr_command.specs.Args.{bare, line, with_compact, with_profile, with_out}
 use Rattle.vipr_command.specs.declared.task.Task.TheVariants.{Check, Explain, Show, Tighten}
 use Rattle.vipr_command.proofs.args.command_line.Goals as goal
 
@@ -20,7 +20,7 @@ returns c =
     ∙ ap (λ (l : App). with_subcommand l (with_profile Check).top) c.no_commands.ensures in
     let explains = joins c.judging-explain.result (app_of c.in_ok-line.line) _ (with_profile Explain) c.in_ok-line-2.ensures c.judging-explain.ensures.app
     ∙ ap (λ (l : App). with_subcommand l (with_profile Explain).top) checks in
-    let shows = joins c.on_file-show.result (app_of c.in_ok-line-2.line) _ (with_file Show) c.in_ok-line-3.ensures c.on_file-show.ensures.app
-    ∙ ap (λ (l : App). with_subcommand l (with_file Show).top) explains in
+    let shows = joins c.showing-show.result (app_of c.in_ok-line-2.line) _ (with_compact Show) c.in_ok-line-3.ensures c.showing-show.ensures.app
+    ∙ ap (λ (l : App). with_subcommand l (with_compact Show).top) explains in
     IfOk-weaker c.with_command-4.result _ _ (λ r h. joins c.with_out-tighten.result (app_of c.in_ok-line-3.line) _ (with_out Tighten) h c.with_out-tighten.ensures.app
     ∙ ap (λ (l : App). with_subcommand l (with_out Tighten).top) shows) c.with_command-4.ensures

@@ -1,7 +1,7 @@
 use Rattle.std.proofs.Common.{◌≡◌, ◌∙◌, ap, subst, sym, map, true, false, codes, refl}
 use Rattle.clap.specs.Words.{App, Kinds, HasKind, fault_of, found_of, is_simple, is_simple_and_free, rows_of, subcommand_of, takes}
 use Rattle.clap.proofs.WalkLemmas.{first_value-rows}
-use Rattle.vipr_command.specs.Args.{profile_named}
+use Rattle.vipr_command.specs.Args.{file_named, form_asked, profile_named}
 use Rattle.vipr_command.proofs.ArgsLemmas.{clap_fault, entered_is, failed_on, handed_on, is_asked, is_free_line, is_simple_line, never_other, never_taken, never_without, profile_fine, profile_wrong, taken_by_clap}
 use Rattle.vipr_command.proofs.args.job_by.Goals as goal
 
@@ -34,7 +34,9 @@ unreachable-requires-in_default-task_named c =
     let met = (c.in_ok-matches.ensures.ok.2 (ap is_simple c.requires ∙ is_simple_line)).1
     ∙ ap (λ (a : App). subcommand_of a words) c.requires in
     let is = entered_is c.in_ok-matches.matches c.in-Some.name.now (rows_of (found_of c.in-Some.inner.now)) c.in-Some.ensures.name c.in-Some.ensures.rows in
-    never_other words _ (sym met ∙ is) (c.in_default-task_named.ensures.none refl)
+    let fault = ap (λ (a : App). fault_of a words) (sym c.requires)
+    ∙ c.in_ok-matches.ensures.kinds (ap is_simple_and_free c.requires ∙ is_free_line) in
+    never_other words _ fault (sym met ∙ is) (c.in_default-task_named.ensures.none refl)
 
 pub returns-in_default-profile_named-clause-err : goal.returns-in_default-profile_named-clause-err
 returns-in_default-profile_named-clause-err c =
@@ -65,8 +67,9 @@ returns-clause-ok c =
     let is = entered_is c.in_ok-matches.matches c.in-Some.name.now (rows_of (found_of c.in-Some.inner.now)) c.in-Some.ensures.name c.in-Some.ensures.rows in
     is_asked words _ _ _ (sym met ∙ is) c.in-Some-task_named.ensures.some
     (c.in-Some-profile_named.ensures ∙ ap profile_named (c.get_str.ensures ∙ first_value-rows (found_of c.in-Some.inner.now) (codes "profile")))
-    (c.get_str-2.ensures ∙ first_value-rows (found_of c.in-Some.inner.now) (codes "file"))
-    (c.get_str-3.ensures ∙ first_value-rows (found_of c.in-Some.inner.now) (codes "out"))
+    (c.form_asked.ensures ∙ ap form_asked (c.get_str-2.ensures ∙ first_value-rows (found_of c.in-Some.inner.now) (codes "compact")))
+    (c.file_named.ensures ∙ ap file_named (c.get_str-3.ensures ∙ first_value-rows (found_of c.in-Some.inner.now) (codes "file")))
+    (c.file_named-2.ensures ∙ ap file_named (c.get_str-4.ensures ∙ first_value-rows (found_of c.in-Some.inner.now) (codes "out")))
 
 pub returns-clause-kinds : goal.returns-clause-kinds
 returns-clause-kinds c =

@@ -3,19 +3,15 @@ use Rattle.clap.specs.Words.{App}
 use Rattle.clap.specs.Simple.{app_of_fields}
 use Rattle.vipr_command.proofs.args.no_commands.Goals as goal
 
--- `subcommand_required` and `disable_help_subcommand`
+-- `subcommand_required`
 abbrev with_required : App → App
 with_required a = record a { top = record a.top { subcommand_required = true } }
-
-abbrev without_help : App → App
-without_help a = record a { top = record a.top { disable_help_subcommand = true } }
 
 -- `version`
 abbrev with_version : App → App
 with_version a = record a { top = record a.top { has_version = true } }
 
 pub returns : goal.returns
-returns c = ap app_of_fields c.disable_help_subcommand.ensures
-    ∙ ap without_help (ap app_of_fields c.subcommand_required.ensures
+returns c = ap app_of_fields c.subcommand_required.ensures
     ∙ ap with_required (ap app_of_fields c.version.ensures
-    ∙ ap with_version (ap app_of_fields c.about.ensures ∙ c.new.ensures.app)))
+    ∙ ap with_version (ap app_of_fields c.about.ensures ∙ c.new.ensures.app))

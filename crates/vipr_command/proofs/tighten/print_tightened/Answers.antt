@@ -4,12 +4,12 @@ use Rattle.vipr_command.proofs.tighten.print_tightened.Goals as goal
 
 pub returns-in-None-clause-told : goal.returns-in-None-clause-told
 returns-in-None-clause-told g c =
-    told_here (profile_of c.args.profile) c.args.path (g.R.Source.input c.args.source) (g.O.Sink.output c.args.out.now) (g.O.Sink.output c.write_tightened.new.sink) c.write_tightened.result c.in-None.is c.write_tightened.ensures.told
+    told_here (profile_of c.args.profile) c.args.form c.args.path (g.R.Source.input c.args.source) (g.O.Sink.output c.args.out.now) (g.O.Sink.output c.write_tightened.new.sink) c.write_tightened.result c.in-None.is c.write_tightened.ensures.told
 
 pub returns-in-Some-clause-any : goal.returns-in-Some-clause-any
 returns-in-Some-clause-any g c =
-    of_file (profile_of c.args.profile) c.args.path c.in-Some.path (g.O.Sink.output c.args.out.now) c.write_file.result c.in-Some.is c.write_file.ensures.any
+    of_file (profile_of c.args.profile) c.args.form c.args.path c.in-Some.path (g.O.Sink.output c.args.out.now) c.write_file.result c.in-Some.is c.write_file.ensures.any
 
 pub returns-in-Some-clause-told : goal.returns-in-Some-clause-told
 returns-in-Some-clause-told g c =
-    told_of_file (profile_of c.args.profile) c.args.path c.in-Some.path (g.R.Source.input c.args.source) (g.O.Sink.output c.args.out.now) c.write_file.result c.in-Some.is c.write_file.ensures.known
+    told_of_file (profile_of c.args.profile) c.args.form c.args.path c.in-Some.path (g.R.Source.input c.args.source) (g.O.Sink.output c.args.out.now) c.write_file.result c.in-Some.is c.write_file.ensures.known

@@ -14,18 +14,18 @@ returns-in_err-place-clause-any g c =
 pub returns-in_err-place-clause-known : goal.returns-in_err-place-clause-known
 returns-in_err-place-clause-known g c =
     let q = err_from_is_err_and c.from_residual.result c.from_residual.ensures.1 in
-    rw (q.1, q.2) (nameless (profile_of c.args.profile) (g.R.Source.input c.args.source))
+    rw (q.1, q.2) (nameless (profile_of c.args.profile) c.args.form (g.R.Source.input c.args.source))
 
 pub returns-in_err-outcome-clause-any : goal.returns-in_err-outcome-clause-any
 returns-in_err-outcome-clause-any g c =
     let q = err_from_is_err_and c.from_residual-in_err-outcome.result c.from_residual-in_err-outcome.ensures.1 in
-    rw (q.1, q.2) (failed (profile_of c.args.profile) any_kind c.tighten_in-tightened.result c.in_err-outcome.field-0.0 c.in_err-outcome.ensures c.tighten_in-tightened.ensures.written)
+    rw (q.1, q.2) (failed (profile_of c.args.profile) c.args.form any_kind c.tighten_as-tightened.result c.in_err-outcome.field-0.0 c.in_err-outcome.ensures c.tighten_as-tightened.ensures.written)
 
 pub returns-in_err-outcome-clause-known : goal.returns-in_err-outcome-clause-known
 returns-in_err-outcome-clause-known g c =
     let q = err_from_is_err_and c.from_residual-in_err-outcome.result c.from_residual-in_err-outcome.ensures.1 in
-    rw (q.1, q.2) (failed_known (profile_of c.args.profile) (g.R.Source.input c.args.source) c.tighten_in-tightened.result c.in_err-outcome.field-0.0 c.in_err-outcome.ensures c.tighten_in-tightened.ensures.exact)
+    rw (q.1, q.2) (failed_known (profile_of c.args.profile) c.args.form (g.R.Source.input c.args.source) c.tighten_as-tightened.result c.in_err-outcome.field-0.0 c.in_err-outcome.ensures c.tighten_as-tightened.ensures.exact)
 
 pub returns-clause-known : goal.returns-clause-known
 returns-clause-known g c =
-    kept_known (profile_of c.args.profile) (g.R.Source.input c.args.source) c.tighten_in-tightened.result c.in_ok-outcome.outcome c.status_of.result c.status_of.ensures c.in_ok-outcome.ensures c.tighten_in-tightened.ensures.exact
+    kept_known (profile_of c.args.profile) c.args.form (g.R.Source.input c.args.source) c.tighten_as-tightened.result c.in_ok-outcome.outcome c.status_of.result c.status_of.ensures c.in_ok-outcome.ensures c.tighten_as-tightened.ensures.exact

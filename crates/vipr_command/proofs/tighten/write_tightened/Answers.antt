@@ -4,4 +4,4 @@ use Rattle.vipr_command.proofs.tighten.write_tightened.Goals as goal
 
 pub returns-clause-told : goal.returns-clause-told
 returns-clause-told g c =
-    told (profile_of c.args.profile) (g.R.Source.input c.args.source) (g.W.Sink.output c.args.sink.now) (g.W.Sink.output c.tighten_in.new.sink) c.in_ok-outcome.outcome c.status_of.result c.status_of.ensures c.in_ok-outcome.ensures.exact
+    told (profile_of c.args.profile) c.args.form (g.R.Source.input c.args.source) (g.W.Sink.output c.args.sink.now) (g.W.Sink.output c.tighten_as.new.sink) c.in_ok-outcome.outcome c.status_of.result c.status_of.ensures c.in_ok-outcome.ensures.exact
