@@ -22,8 +22,8 @@ _vipr() {
     case "${COMP_WORDS[1]}" in
         check) words="--profile -h --help" ;;
         explain) words="--profile -h --help" ;;
-        show) words="-h --help" ;;
-        tighten) words="--profile --out -h --help" ;;
+        show) words="--compact -h --help" ;;
+        tighten) words="--profile -o --out --compact -h --help" ;;
     esac
     if [ "${word#-}" != "$word" ]; then
         COMPREPLY=($(compgen -W "$words" -- "$word"))

@@ -10,8 +10,9 @@ Each command that the program has is run over the examples. What a run may answe
 - the same of OUT, which gets each byte once: one that is new holds the first N bytes then, and any other what it held;
 - with any of the three streams closed, past a limit on the length of files, and where a stream doesn't wait, the same.
 Beginnings of the examples, whole and a byte at a time, are answered as the plain model under bench/ does it; texts at
-the format's limits have the answer that the rules give, within a small limit of memory. Of each family of bench/families.py
-a text of four times the size asks for at most five times the bytes, all that is asked for in a run counted.
+the format's limits have the answer that the rules give, within a small limit of memory. Each family of bench/families.py
+has the plain model's answer, and a text of four times the size asks for at most five times the bytes, all that is asked
+for in a run counted. A solution or a derivation that is refused may have a long name.
 
 Prints each run that answers something else, and last `hostile: N runs, F failed, S seconds of processor time`. Without
 a C compiler the runs with refused calls are left out, and a line says so. The exit status is 1 where a run failed.
@@ -381,6 +382,25 @@ def what_is_asked_for():
     each(one, [it for it in families.FAMILIES + families.HOSTILE if it.__name__ not in GROWS])
 
 
+def families_are_answered():
+    """Each family's text, with sums over many assumptions among them, has the plain model's answer."""
+    def one(family):
+        text = ''.join(f'{line}\n' for line in family(12_000)).encode()
+        expect(f'check of {family.__name__}', answer(['check'], text), lines(verdict(text)))
+    each(one, families.FAMILIES + families.HOSTILE + families.PRODUCTS + families.KEPT)
+
+
+def names_at_a_refusal():
+    """What is refused has a short name or a long one, and each growth is refused."""
+    front = 'VER 1.0\nVAR 1\nx\nINT 0\nOBJ min\n0\nCON 1 0\na G 1 1 0 1\nRTP range -inf inf\n'
+    for place, back in (('SOL', 'SOL 1\n%s 0\nDER 0\n'), ('DER', 'SOL 0\nDER 1\n%s G 2 1 0 1 { lin 1 0 1 } -1\n')):
+        for length in (1, 30, 31, 3000):
+            row = (front + back % ('n' * length)).encode()
+            what = f'check of a refusal at {place} with a name of {length} bytes'
+            expect(what, answer(['check'], row), lines(verdict(row)))
+            growths_refused(what, ['check'], row)
+
+
 def long_comment(length):
     """A comment that is longer than the memory that the program may ask for."""
     global runs
@@ -424,9 +444,11 @@ def main():
     limits()
     long_comment(1 << 30)
     beginnings(examples)
+    families_are_answered()
     if LIBRARY:
         what_is_asked_for()
         with_refused_calls(commands, examples)
+        names_at_a_refusal()
         reads_of_a_byte(commands)
         if 'tighten' in commands:
             out_is_kept(examples)

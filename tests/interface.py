@@ -130,7 +130,9 @@ def zsh(commands, options):
               '    compadd -- ' + ' '.join(flag for flags, _ in options for flag in flags), '    return', 'fi',
               'local command="$words[2]"', 'shift words', '(( CURRENT-- ))', 'case "$command" in']
     for command in commands:
-        flags = [f"'{flag}{'=' if value else ''}[{zsh_words(about)}]{zsh_value(value, about)}'"
+        # a value follows --out=, and -o in the same word or the next one
+        flags = [f"'{flag}{('=' if flag.startswith('--') else '+') if value else ''}"
+                 f"[{zsh_words(about)}]{zsh_value(value, about)}'"
                  for flags, value, about in command.flags() for flag in flags]
         files = ["'1:file:_files'"] if command.arguments else []
         lines.append(f'    {command.name}) _arguments {" ".join(flags + files)} ;;')
