@@ -6,7 +6,8 @@ usage: tests/statement.py [--check] [--missing]
 Each part of the page is made from clauses of the contract of `check`: every definition that they rest on is found, in
 whatever file it is, and quoted once, in the order in which the files are to be read, with its example. Proofs aren't
 quoted: the check believes none of them. Nor is, in the three parts, a definition that a law hides: the law is quoted
-instead, and its proof is part of the check. What no clause needs is in the appendix.
+instead, and its proof is part of the check. What no clause needs is in the appendix. The example of a definition X is
+the clause `X_is` of the crate vipr_worked, which the prover computes, or a sentence of tests/statement_examples.md.
 
 --check compares with the file, and fails if it isn't current or too long, or if a part has more lines to believe than
 it may. --missing lists the definitions without an example, and the examples without a definition.
@@ -20,6 +21,7 @@ ROOT = os.path.dirname(os.path.dirname(os.path.abspath(__file__)))
 CRATES = os.path.join(ROOT, 'crates')
 TARGET = os.path.join(ROOT, 'docs', 'STATEMENT.md')
 EXAMPLES = os.path.join(ROOT, 'tests', 'statement_examples.md')
+WORKED = os.path.join(CRATES, 'vipr_worked', 'src')
 SPEC_CRATES = ['vipr_spec', 'vipr_bytes', 'vipr_cert', 'vipr_check']
 MOST_LINES = 1700
 # the columns of a line that is quoted with its comment, and of an item of examples
@@ -31,6 +33,7 @@ WIDTH, ITEM = 122, 520
 # The laws that are quoted in place of definitions: by its name the section, the file, what is said of it, and the
 # definitions for which it stands.
 COMPUTED = {'over', '◌+ℚ◌', '◌*ℚ◌', '◌≤ℚ◌'}
+LISTED = {'constraint_at', 'reason_at', 'last_at'}
 LAWS = {
     'cross_products': (
         'Fractions', 'vipr_spec/src/arithmetic.rt',
@@ -41,10 +44,19 @@ LAWS = {
         'The clause speaks of a certificate c that the text spells. By a law the text then states the problem '
         '`c.problem` and the listed solutions `c.solutions`, and no others: its first tokens spell them. So nothing has '
         'to be believed of derivations, not even how they are spelled.', {'SpellsOnly'}),
+    'field_by_field': (
+        'Problem, claim and certificate', 'vipr_spec/src/step_by_step.rt',
+        'A reason names constraints by an index: those of the problem come first, and then the derivations; past the '
+        'end there is 0 = 0. A law says so of what constraint i states, of its reason and of its last reference.', LISTED),
+    'rules_by_reason': (
+        'Problem, claim and certificate', 'vipr_spec/src/rules.rt',
+        'The rules, reason by reason: when a derivation of index k that states d is good. The law says it all of '
+        '`IsGoodStep`, whose parts in `Certificate.antt` (`NamesEarlier`, `FollowsBy`, `StepFits`, `RefersTo`) needn\'t be '
+        'believed.', {'IsGoodStep'}),
 }
 # clauses of them that say nothing new: IsWhole is quoted
 NEEDLESS = ['whole']
-BY_LAW = COMPUTED
+BY_LAW = COMPUTED | LISTED | {'IsGoodStep'}
 
 # Each part: its title, its clauses of `ChecksIn`, those that imply the others, the most lines to believe for these by
 # themselves, the laws that stand for definitions, those that they hide, those that they cite instead, what the part
@@ -59,7 +71,9 @@ PARTS = [
               'a constraint. Under `range` the dual bound holds at each such point that meets all constraints; and if '
               'a primal bound is claimed, a listed solution is feasible and attains it. Nothing here speaks of rules '
               'or derivations, so no mistake in a rule can make it false. Stop here if a false `verified` is all that you fear.'},
-    {'title': 'Verified in both directions', 'clauses': ['proof', 'every'], 'core': ['proof', 'every'], 'most': 488, 'laws': [], 'instead': [],
+    {'title': 'Verified in both directions', 'clauses': ['proof', 'every'], 'core': ['proof', 'every'], 'most': 450, 'laws': ['field_by_field', 'rules_by_reason'],
+     'instead': ['AreUsable', 'is_live', 'SumOfFits', 'entries', 'HasSense', 'sum_of', 'Dominates', 'DominatesRounded', 'IsWholeRow', 'IsSplit',
+                 'IsBest', 'cutoff'],
      'hidden': BY_LAW | {'Reports', 'report_of', 'Profile'},
      'what': 'Which texts are verified: this part adds what a proof is. P is profile one, `one`, which `check` uses. What '
              'the clauses say of the report, `Reports`, is left to part 3: the rest of each clause stands without it.',
@@ -114,6 +128,7 @@ SAME = [
     ('the items of a text, as they are read and as the grammar has them', 'vipr_spec/src/grammar.rt', 'items'),
     ('a certificate, as it is read (`certificate_read`) and as it is spelled (`Spells`)', 'vipr_spec/src/grammar.rt', 'reading_is_the_grammar'),
     ('the tests of a derivation (`PassesSteps`), and the rules (`IsGoodStep`)', 'vipr_spec/src/step_by_step.rt', 'tests_are_the_rules'),
+    ('the rules (`IsGoodStep`), reason by reason', 'vipr_spec/src/rules.rt', 'rules_by_reason'),
     ('constraints by their index, and the lists of the certificate', 'vipr_spec/src/step_by_step.rt', 'field_by_field'),
     ('what a text spells, and the problem that it states (`StatesOnly`)', 'vipr_spec/src/grammar.rt', 'one_problem'),
     ('a verified answer, and a text that spells a proof', 'vipr_spec/src/verdict.rt', 'verified_texts'),
@@ -383,11 +398,32 @@ def sentences():
     return out
 
 
+# definitions whose names can't be a clause's
+OPERATORS = {'sum': '◌+ℚ◌', 'product': '◌*ℚ◌', 'order': '◌≤ℚ◌', 'zero': 'zero_ℚ', 'neg': 'neg_ℚ', 'lowest': 'IsLowest'}
+
+
+def worked():
+    """The examples that are proved, by the definition that they are of."""
+    out = {}
+    for name in sorted(os.listdir(WORKED)):
+        text = read(os.path.join(WORKED, name))
+        for m in re.finditer(r'^    ensures (\w+)_is \{', text, re.M):
+            end, depth = m.end(), 1
+            while depth:
+                depth += {'{': 1, '}': -1}.get(text[end], 0)
+                end += 1
+            out[OPERATORS.get(m[1], m[1])] = ' '.join(text[m.end():end - 1].split())
+    return out
+
+
 class Examples:
-    """What is said of each definition. Knows which were used, and which definitions have none."""
+    """What is said of each definition: its example that is proved, and its sentence. Knows which were used, and which
+    definitions have none."""
 
     def __init__(self):
         self.said, self.used, self.without = sentences(), set(), []
+        for name, term in worked().items():
+            self.said[name] = ('`%s`. %s' % (term, self.said.get(name, ''))).rstrip()
 
     def of(self, d):
         names = [n for n in d.names if n in self.said]

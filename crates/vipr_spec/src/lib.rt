@@ -18,6 +18,7 @@ pub mod progress;
 pub mod proof_tests;
 pub mod refusals;
 pub mod renumbering;
+pub mod rules;
 pub mod step_by_step;
 pub mod sums;
 pub mod texts;

@@ -2,8 +2,9 @@
 
 ghost use Rattle.std.specs.Prelude.{◌≡◌, ◌↔◌, ℕ, ◌+◌, ◌<◌, ◌≤◌, ◌⊎◌, max, List, [], ◌∷◌, ◌++◌, map};
 ghost use Rattle.std.specs.Prelude.{length, slice_index_or, Option, Some, None, All};
-ghost use Rattle.vipr_spec.specs.Constraint.{Profile, Condition, condition};
-ghost use Rattle.vipr_spec.specs.Certificate.{Reason, Derivation, Certificate, derived, unknown};
+ghost use Rattle.vipr_spec.specs.Fraction.{zero_ℚ};
+ghost use Rattle.vipr_spec.specs.Constraint.{equal, Profile, Condition, condition};
+ghost use Rattle.vipr_spec.specs.Certificate.{Reason, Derivation, Certificate, derived};
 ghost use Rattle.vipr_spec.specs.Certificate.{known_at, constraint_at, reason_at, last_at, is_live};
 ghost use Rattle.vipr_spec.specs.Certificate.{held, peak, count, IsGoodStep, HasGoodSteps};
 ghost use Rattle.vipr_spec.specs.Steps.{StepTest, PassesStep, step_tests, FirstFailing, with_more};
@@ -67,14 +68,14 @@ pub fn next_one()
 pub fn field_by_field()
     ensures stated { (c : Certificate) (i : ℕ) → constraint_at c i
         ≡ slice_index_or (map (λ n. condition n.item) c.problem.constraints
-        ++ map (λ d. condition d.stated) c.derivations) i unknown.stated }
+        ++ map (λ d. condition d.stated) c.derivations) i
+        (record { row = λ j. zero_ℚ; sense = equal; bound = zero_ℚ }) }
     ensures reason { (c : Certificate) (i : ℕ) → reason_at c i
-        ≡ slice_index_or
-        (map (λ a. None) c.problem.constraints ++ map (λ d. Some d.reason) c.derivations) i
-        None }
+        ≡ slice_index_or (map (λ a. None) c.problem.constraints
+        ++ map (λ d. Some d.reason) c.derivations) i None }
     ensures last { (c : Certificate) (i : ℕ) → last_at c i
-        ≡ slice_index_or
-        (map (λ a. None) c.problem.constraints ++ map (λ d. d.last) c.derivations) i None }
+        ≡ slice_index_or (map (λ a. None) c.problem.constraints
+        ++ map (λ d. d.last) c.derivations) i None }
 {}
 
 /// No test of a step fails exactly where it names what is there, is valid, fits, and refers to live

@@ -1,0 +1,36 @@
+//! A certificate of two constraints and one derivation (`example` of `Examples.antt`),
+//! computed.
+
+ghost use Rattle.std.specs.Prelude.{None, Some, [], false, true, ◌≡◌};
+ghost use Rattle.vipr_spec.specs.Certificate.{NamesEarlier, RefersTo, asm, constraint_at, count};
+ghost use Rattle.vipr_spec.specs.Certificate.{held, is_assumption, is_live, known_at, last_at};
+ghost use Rattle.vipr_spec.specs.Certificate.{lasts_to, lin, peak, reason_at, sol, unknown, uns};
+ghost use Rattle.vipr_spec.specs.Constraint.{at_least};
+ghost use Rattle.vipr_spec.specs.Examples.{both, dropped_example, example};
+ghost use Rattle.vipr_spec.specs.Steps.{before};
+
+/// What is known by index.
+pub fn by_index()
+    ensures count_is { count example ≡ 3 }
+    ensures constraint_at_is { (constraint_at example 2).sense ≡ at_least }
+    ensures reason_at_is { (reason_at example 0 ≡ None) × (reason_at example 2
+        ≡ Some (lin both)) }
+    ensures last_at_is { (last_at example 2 ≡ None) × (last_at dropped_example 2 ≡ Some 2) }
+    ensures known_at_is { (known_at example 2).reason ≡ Some (lin both) }
+    ensures unknown_is { known_at example 3 ≡ unknown }
+    ensures before_is { (before example 2).derivations ≡ [] }
+    ensures held_is { held example 2 ≡ 1 }
+    ensures peak_is { peak example ≡ 1 }
+{}
+
+/// What is live.
+pub fn alive()
+    ensures is_assumption_is { (is_assumption (Some asm) ≡ true) × (is_assumption (Some sol)
+        ≡ false) }
+    ensures lasts_to_is { (lasts_to 6 (Some 6) ≡ true) × (lasts_to 7 (Some 6) ≡ false)
+        × (lasts_to 7 None ≡ true) }
+    ensures is_live_is { (is_live dropped_example 3 0 ≡ true) × (is_live dropped_example 3 2
+        ≡ false) }
+    ensures NamesEarlier_is { NamesEarlier 5 (Some (uns 4 2 3 1)) }
+    ensures RefersTo_is { RefersTo (Some (uns 4 2 5 3)) 5 }
+{}
