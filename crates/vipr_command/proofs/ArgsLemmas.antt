@@ -93,14 +93,15 @@ IsNamed (s ∷ ss) word name = ((s.name ≡ name) × (answers_to word (label_of 
 named_in : (subs : List Shape) (p : Text × List Text) (q : Text × List Row)
     → option_map (λ s. rows_at s p.1) (find (λ s. answers_to p.0 (label_of s)) subs) ≡ Some q → IsNamed subs p.0 q.0
 named_in [] p q h = cc
-named_in (s ∷ ss) p q h = go (answers_to p.0 (label_of s)) refl h
+named_in (s ∷ ss) p q h = go (answers_to p.0 (label_of s)) refl (named_in ss p q) h
   where
     first : Some (rows_at s p.1) ≡ Some q → s.name ≡ q.0
     first e = let k : rows_at s p.1 ≡ q = cc in ap (λ (x : Text × List Row). x.0) k
 
-    go : (b : Bool) → b ≡ answers_to p.0 (label_of s) → option_map (λ s. rows_at s p.1) (if b then Some s else find (λ s. answers_to p.0 (label_of s)) ss) ≡ Some q → IsNamed (s ∷ ss) p.0 q.0
-    go true b e = inl (first e, sym b)
-    go false b e = inr (named_in ss p q e)
+    go : (b : Bool) → b ≡ answers_to p.0 (label_of s) → (option_map (λ s. rows_at s p.1) (find (λ s. answers_to p.0 (label_of s)) ss) ≡ Some q → IsNamed ss p.0 q.0)
+        → option_map (λ s. rows_at s p.1) (if b then Some s else find (λ s. answers_to p.0 (label_of s)) ss) ≡ Some q → IsNamed (s ∷ ss) p.0 q.0
+    go true b rest e = inl (first e, sym b)
+    go false b rest e = inr (rest e)
 
 -- of the subcommands, `help` is the one that is no task
 one_of : (word name : Text) → IsNamed (built line).subs word name → bytes_eq word (codes "help") ≡ false → ((t : Task) → command_word t ≡ name → ⊥) → ⊥

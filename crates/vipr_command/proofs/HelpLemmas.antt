@@ -72,10 +72,10 @@ module _ (s : Shape) (names : Names) (enabled : s.disable_help_subcommand ≡ fa
   positional_fine (Some a) word w h fine = tt
 
   step_fine : (word : Text) (w : Walk) (h : Held) (x : Step) → NotHelp w.stopped → NoHelp x → NotHelp (after_step s.rules word w h x).stopped
-  step_fine word w h (next waiting) fine no = fine
-  step_fine word w h (trailing position) fine no = fine
-  step_fine word w h (subcommand name) fine no = no
-  step_fine word w h value fine no = positional_fine (arg_by_index s.rules w.position) word w h fine
+  step_fine word w h (next waiting) fine quiet = fine
+  step_fine word w h (trailing position) fine quiet = fine
+  step_fine word w h (subcommand name) fine quiet = quiet
+  step_fine word w h value fine quiet = positional_fine (arg_by_index s.rules w.position) word w h fine
 
   pub never_met : (h : Held) (waiting : Waiting) (position : ℕ) (is_trailing : Bool) (stopped : Option (Text × List Text)) (words : List Text) → NotHelp stopped
       → walk_fault s names (at h waiting position is_trailing stopped) words ≡ [] → NotHelp (fold (walked s.rules names) (at h waiting position is_trailing stopped) words).stopped

@@ -57,7 +57,7 @@ returns-in_default-profile_named-clause-kinds c =
     (c.in_default-profile_named.ensures ∙ ap profile_named (c.get_str.ensures ∙ first_value-rows (found_of c.in-Some.inner.now) (codes "profile")))
     (ap (λ (a : App). fault_of a words) (sym c.requires)
     ∙ c.in_ok-matches.ensures.kinds (ap is_simple_and_free c.requires ∙ is_free_line))
-    c.in_ok-error.field-0 c.in_ok-error.ensures.kind
+    c.in_ok-no_profile.field-0 c.in_ok-no_profile.ensures
 
 pub returns-clause-ok : goal.returns-clause-ok
 returns-clause-ok c =
