@@ -554,6 +554,7 @@ def words_are_read(words, named, out):
         (Path(folder) / 'a').write_bytes(certificate('cutoff_loose'))
         text, said = (certificate('cutoff_tight'), b'kept 1 removed 1 peak 2 1\n') if named else \
             (certificate('rounding_min'), b'kept 1 removed 0 peak 1 1\n')
+        text = compact(text) if '--compact' in words.split() else text
         expect('words', (b'' if out else text, said, 0), words.split(), certificate('rounding_min'), folder=folder)
         if out:
             check((Path(folder) / 'b').read_bytes() == text, f'vipr {words} leaves another text in b')
