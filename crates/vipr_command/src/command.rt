@@ -141,8 +141,6 @@ fn do_task<H: AllocGlobal + Files, R: Source + Drop, O: Sink, E: Write>(
         Task::Check => print_verdict(alloc, job.profile, source, out),
         Task::Explain => print_explanation(alloc, job.profile, source, out),
         Task::Show => print_text(alloc, job.form, source, out, err),
-        Task::Tighten => {
-            print_tightened(rt, job.profile, job.form, source, job.out, out, err)
-        }
+        Task::Tighten => print_tightened(rt, job.profile, job.form, source, job.out, out, err),
     }
 }

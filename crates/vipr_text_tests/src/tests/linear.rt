@@ -202,7 +202,9 @@ fn rounded(rt: HostRuntime) {
 fn a_whole_row_is_remembered(rt: HostRuntime) {
     let alloc = rt.alloc();
     let mut ints = first(&rt, alloc);
-    let shared = row(&rt, alloc, &[(0, 1)]).shared(alloc).expect(&rt, "a shared row");
+    let shared = row(&rt, alloc, &[(0, 1)])
+        .shared(alloc)
+        .expect(&rt, "a shared row");
     ints.remember(&shared).expect(&rt, "a row that is kept");
     let clone = shared.clone().expect(&rt, "a clone");
     assert!(rt; is_whole_row(&clone, &ints));
