@@ -31,8 +31,8 @@ PROGRAM = 'vipr'
 ELSEWHERE = re.compile(r'tests::bytes::')
 # how many growths of a test are refused at most
 MOST = 400
-# what a failed test says of a call whose growth was refused
-WANT = re.compile(r'\b(AllocError|AllocFailed|Memory|OutOfMemory|out of memory)\b')
+# what a failed test says of a call whose growth was refused; a vector that is written to fails a write then
+WANT = re.compile(r'\b(AllocError|AllocFailed|Memory|OutOfMemory|out of memory|fault memory|memory: Write)\b')
 # the tests that call again after it, and what they say then
 CALLS_AGAIN = re.compile(r'\bspent_\w+$')
 SPENT = 'Memory, then Spent'
