@@ -98,6 +98,68 @@ def names_twice():
             yield '%s is defined %d times: %s' % (name, len(places[name]), ', '.join(places[name]))
 
 
+TYPE = re.compile(r'^(?:pub(?:\([a-z]+\))? )?(?:struct|enum|trait|type) (\w+)')
+
+
+def types_twice():
+    """One type, one name: no two types of the sources have the same."""
+    places = collections.defaultdict(list)
+    for crate, part, path in files(('src',), ('.rt',)):
+        if not is_test(path):
+            for n, line in enumerate(read(path).split('\n'), 1):
+                m = TYPE.match(line)
+                if m:
+                    places[m[1]].append('%s:%d' % (shown(path), n))
+    for name in sorted(places):
+        if len(places[name]) > 1:
+            yield '%s is the name of %d types: %s' % (name, len(places[name]), ', '.join(places[name]))
+
+
+# words that say nothing of what they name, and the fixed names that have one of them
+BANNED = re.compile(r'(?<![\w-])(told|tells|judged|taken|obey|obeys)(?![\w-])')
+FIXED = re.compile(r'\b(Write|Memory) \{ taken|\btaken: u64\b|\btaken: (failed\.accepted|0|front\.len\(\))|after \{taken\}')
+
+
+def plain_words():
+    """Code, definitions and comments say reported, known, read, accepted and tested."""
+    for crate, part, path in files(('src', 'specs'), ('.rt', '.antt')):
+        for n, line in enumerate(read(path).split('\n'), 1):
+            word = BANNED.search(line)
+            if word and not is_test(path) and not (word[0] == 'taken' and FIXED.search(line)):
+                yield '%s:%d: %s' % (shown(path), n, word[0])
+
+
+def comments_stand_alone():
+    """No doc comment begins with "The same": an index of functions shows it without the one before."""
+    for crate, part, path in files(('src',), ('.rt',)):
+        lines = read(path).split('\n')
+        for n, line in enumerate(lines, 1):
+            begins = re.match(r'\s*//[/!] The same\b', line)
+            if begins and not is_test(path) and not (n > 1 and re.match(r'\s*//[/!] \S', lines[n - 2])):
+                yield '%s:%d' % (shown(path), n)
+
+
+IMPORT = re.compile(r'^\s*(?:ghost )?(?:unfoldable )?(pub )?use Rattle[^\s{]+\.\{([^}]*)\};?$', re.M)
+
+
+def unused_imports():
+    """Each name that a file of definitions or lemmas imports occurs in it."""
+    for crate, part, path in files(('specs', 'proofs'), ('.antt',)):
+        text = read(path)
+        rest = IMPORT.sub('', text)
+        words = set(re.findall(r"[^\s(){}\[\];,.λ]+", rest))
+        for m in IMPORT.finditer(text):
+            if m[1]:
+                continue
+            for item in m[2].split(','):
+                name = item.split(' as ')[-1].strip()
+                pieces = [piece for piece in name.split('◌') if piece]
+                used = name in ('◌>>=◌', '[]', 'if◌then◌else◌') or all(piece in words or piece in rest and '◌' in name for piece in pieces or [name])
+                if name and not used:
+                    line = text[:m.start()].count('\n') + 1
+                    yield '%s:%d: %s' % (shown(path), line, name)
+
+
 # spec files that prove what their own definitions need: divisibility, lowest terms, and that a value fits a word
 PROVING_SPECS = {'Lowest.antt', 'GcdLaws.antt', 'Words.antt'}
 
@@ -262,7 +324,7 @@ def edits_stand():
                 old = None
 
 
-CHECKS = [foreign_proofs, private_lemmas, names_twice, proofs_in_specs, long_lines, long_files, crates_are_there, graph_is_current,
+CHECKS = [foreign_proofs, private_lemmas, names_twice, types_twice, plain_words, comments_stand_alone, unused_imports, proofs_in_specs, long_lines, long_files, crates_are_there, graph_is_current,
           statement_is_current, examples_are_there, causes_agree, edits_stand]
 
 

@@ -491,7 +491,7 @@ def the_call(files, examples):
     """What is quoted of the code before the parts, and the definitions that it quotes."""
     source, home, reads = 'vipr_bytes/src/source.rt', files[('vipr_check', 'Checks')].own, files[('vipr_bytes', 'Reads')].own
     verdict = 'vipr_check/src/verdict.rt'
-    code = item('vipr_check/src/whole.rt', r'pub fn check<')
+    code = item('vipr_check/src/checks.rt', r'pub fn check<')
     code += [l for head in ('enum Verdict', 'enum Fault') for l in item(verdict, r'pub %s ' % head)]
     record = home['ChecksIn'].lines[:2] + ['  -- the clauses at the head of each part'] + quoted(home['Checks'])
     slices = ["impl<'a> Bytes<'a> {", line_of(source, "pub fn new(bytes: &'a [u8])"), line_of(source, 'ensures { result ≡ bytes.now }'), '}',

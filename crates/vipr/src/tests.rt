@@ -176,10 +176,10 @@ fn ends_at<H: Abort + AllocGlobal + Files>(
         Some(ErrorKind::Interrupted),
         None,
     ] {
-        let mut taken = Vec::new(rt.alloc());
+        let mut accepted = Vec::new(rt.alloc());
         let mut err = Vec::new(rt.alloc());
         let mut out = Failing {
-            inner: &mut taken,
+            inner: &mut accepted,
             calls: 0,
             fails_at,
             error,
@@ -187,12 +187,12 @@ fn ends_at<H: Abort + AllocGlobal + Files>(
         let status = run(rt, words, text.as_bytes(), &mut out, &mut err);
         assert_eq!(rt; out.calls, fails_at.min(whole.len()));
         if fails_at <= whole.len() {
-            assert!(rt; is_fault(rt.alloc(), err.as_slice(), taken.len()));
-            assert_eq!(rt; taken.as_slice(), &whole[..fails_at.saturating_sub(1)]);
+            assert!(rt; is_fault(rt.alloc(), err.as_slice(), accepted.len()));
+            assert_eq!(rt; accepted.as_slice(), &whole[..fails_at.saturating_sub(1)]);
             assert_eq!(rt; status, 3);
         } else {
             assert_eq!(rt; text_of(err.as_slice()), said);
-            assert_eq!(rt; taken.as_slice(), whole);
+            assert_eq!(rt; accepted.as_slice(), whole);
             assert_eq!(rt; status, 0);
         }
     }

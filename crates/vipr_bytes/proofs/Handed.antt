@@ -15,22 +15,22 @@ left_from n text = slice_range text n (length text)
 left_is : (n : ℕ) (text : List ℕ) → left_from n text ≡ drop n text
 left_is n text = take_all (length text - n) (drop n text) (omega (arith, length-drop n text))
 
-output : (taken taken' : List ℕ) (room room' : Option ℕ) → taken ≡ taken' → room ≡ room' → Some (let o : Output = record { taken = taken; room = room } in o) ≡ Some (let o : Output = record { taken = taken'; room = room' } in o)
-output taken taken' room room' t r = λ i. Some (let o : Output = record { taken = t i; room = r i } in o)
+output : (accepted taken' : List ℕ) (room room' : Option ℕ) → accepted ≡ taken' → room ≡ room' → Some (let o : Output = record { accepted = accepted; room = room } in o) ≡ Some (let o : Output = record { accepted = taken'; room = room' } in o)
+output accepted taken' room room' t r = λ i. Some (let o : Output = record { accepted = t i; room = r i } in o)
 
-both : (taken n : ℕ) (room : Option ℕ) → IfSome room (λ r. taken ≤ r) → IfSome (option_map (λ r. r - taken) room) (λ r. (n ≤ r) × (0 < r → 0 < n)) → IfSome room (λ r. taken + n ≤ r)
-both taken n None before now = tt
-both taken n (Some r) before now = let within = now.0 in omega arith
+both : (accepted n : ℕ) (room : Option ℕ) → IfSome room (λ r. accepted ≤ r) → IfSome (option_map (λ r. r - accepted) room) (λ r. (n ≤ r) × (0 < r → 0 < n)) → IfSome room (λ r. accepted + n ≤ r)
+both accepted n None before now = tt
+both accepted n (Some r) before now = let within = now.0 in omega arith
 
-room_after : (taken n : ℕ) (room : Option ℕ) → option_map (λ r. r - n) (option_map (λ r. r - taken) room) ≡ option_map (λ r. r - (taken + n)) room
-room_after taken n None = refl
-room_after taken n (Some r) = ap Some (omega arith)
+room_after : (accepted n : ℕ) (room : Option ℕ) → option_map (λ r. r - n) (option_map (λ r. r - accepted) room) ≡ option_map (λ r. r - (accepted + n)) room
+room_after accepted n None = refl
+room_after accepted n (Some r) = ap Some (omega arith)
 
-pub more_handed : (before now after : Option Output) (text : List ℕ) (taken n : ℕ) → IfSome before (TookFirst taken text now) → IfSome now (λ o. Writes o after (Ok n) (left_from taken text)) → IfSome before (TookFirst (taken + n) text after)
-more_handed None now after text taken n told wrote = tt
-more_handed (Some o) now after text taken n told wrote =
-    let w = subst (λ s. IfSome s (λ p. Writes p after (Ok n) (left_from taken text))) told.1 wrote in
-    (both taken n o.room told.0 w.0, w.1 ∙ output _ _ _ _ (ap (λ bytes. (o.taken ++ take taken text) ++ take n bytes) (left_is taken text) ∙ append_assoc o.taken (take taken text) (take n (drop taken text)) ∙ ap (λ bytes. o.taken ++ bytes) (sym (take-add taken n text))) (room_after taken n o.room))
+pub more_handed : (before now after : Option Output) (text : List ℕ) (accepted n : ℕ) → IfSome before (TookFirst accepted text now) → IfSome now (λ o. Writes o after (Ok n) (left_from accepted text)) → IfSome before (TookFirst (accepted + n) text after)
+more_handed None now after text accepted n known wrote = tt
+more_handed (Some o) now after text accepted n known wrote =
+    let w = subst (λ s. IfSome s (λ p. Writes p after (Ok n) (left_from accepted text))) known.1 wrote in
+    (both accepted n o.room known.0 w.0, w.1 ∙ output _ _ _ _ (ap (λ bytes. (o.accepted ++ take accepted text) ++ take n bytes) (left_is accepted text) ∙ append_assoc o.accepted (take accepted text) (take n (drop accepted text)) ∙ ap (λ bytes. o.accepted ++ bytes) (sym (take-add accepted n text))) (room_after accepted n o.room))
 
 -- ---- the writes that failed or took nothing
 pub none_failed : (before now after : Option ℕ) (k : ℕ) → 0 < k → IfSome before (λ n. now ≡ Some n) → IfSome now (λ n. after ≡ Some (n + failure_of (Ok k))) → IfSome before (λ n. after ≡ Some n)

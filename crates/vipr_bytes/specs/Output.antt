@@ -1,21 +1,21 @@
--- The law of a writer that tells what it took.
+-- The law of a writer whose accepted bytes are known.
 use Rattle.std.specs.Prelude.{◌≡◌, ℕ, zero, suc, ◌+◌, ◌-◌, ◌<◌, ◌≤◌, List, ◌++◌, take, Option, Some}
 use Rattle.std.specs.Prelude.{None, option_map, IfSome, Result, Ok, Err}
 use Rattle.vipr_bytes.specs.declared.source.Failed.{Failed}
 
--- the bytes that were taken, and where that is known how many more there is room for
+-- the bytes that were accepted, and if that is known how many more there is room for
 pub record Output : Type 0 where
-  pub taken : List ℕ
+  pub accepted : List ℕ
   pub room : Option ℕ
 
 -- the output of a writer of std that holds these bytes, where they are known
 abbrev pub output_of : Option (List ℕ) → Option Output
-output_of bytes = option_map (λ taken. record { taken = taken; room = None }) bytes
+output_of bytes = option_map (λ accepted. record { accepted = accepted; room = None }) bytes
 
 -- the output after the first n of these bytes
 abbrev pub with_first : ℕ → List ℕ → Output → Output
 with_first n bytes o =
-    record { taken = o.taken ++ take n bytes; room = option_map (λ room. room - n) o.room }
+    record { accepted = o.accepted ++ take n bytes; room = option_map (λ room. room - n) o.room }
 
 -- a write of n bytes took the first n, within the room, and some where there was room; a write
 -- fails only without room, and takes nothing then

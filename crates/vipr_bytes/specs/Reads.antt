@@ -1,4 +1,4 @@
--- The law of a reader that tells its bytes.
+-- The law of a reader whose bytes are known.
 use Rattle.std.specs.Prelude.{◌≡◌, ℕ, ◌≤◌, true, false, List, [], length, take, drop, Option, Some}
 use Rattle.std.specs.Prelude.{Result, Ok, Err}
 use Rattle.vipr_spec.specs.Input.{Input}

@@ -5,6 +5,9 @@
 //! handed.
 #![tactic(auto)]
 
+/// How many bytes a reader or a writer over a buffer of its own holds at most.
+pub const BUFFER_BYTES: usize = 65_536;
+
 mod sink;
 mod source;
 mod write;

@@ -11,7 +11,7 @@ use std::marker::Model;
 /// A write takes the first bytes that it is handed, at least one where there is room. Only where no
 /// room is left it takes none or fails.
 pub trait Sink {
-    // Where the writer tells: the bytes that it took, and where that is known how many more it has
+    // If it is known: the bytes that it accepted, and if that is known how many more it has
     // room for.
     ghost output: { Self → Option Output };
 
@@ -22,14 +22,14 @@ pub trait Sink {
     fn write(&mut self, bytes: &[u8]) -> Result<usize, Failed>
         requires { 0 < length bytes.now }
         ensures count { IfOk result (λ n. n ≤ length bytes.now) }
-        ensures taken { IfSome (output self.old)
+        ensures accepted { IfSome (output self.old)
             (λ o. Writes o (output self.new) result bytes.now) }
         ensures failed { IfSome (failures self.old)
             (λ n. failures self.new ≡ Some (n + failure_of result)) };
 }
 
-/// Writes to a writer of std. It tells what that took where the writer does, and never how much
-/// room is left.
+/// Writes to a writer of std. The bytes that it accepted are known if the writer exposes them, and
+/// never how much room is left.
 ///
 /// It fails on every error of the writer, an interrupted write too.
 #[derive(Drop)]

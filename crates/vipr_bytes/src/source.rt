@@ -19,7 +19,7 @@ pub trait Source {
     // At most so many reads still give bytes.
     ghost reads_left: { Self → ℕ };
 
-    // Where the reader tells: the bytes that are left, and what follows them.
+    // If it is known: the remaining bytes, and what follows them.
     ghost input: { Self → Option Input };
 
     /// Writes the next bytes to the front of `buf`, and answers how many; 0 comes only at the end.
@@ -31,7 +31,7 @@ pub trait Source {
             (λ i. ReadsBytes i (input self.new) result buf.new) };
 }
 
-/// Reads a slice. It tells its bytes, and never fails.
+/// Reads a slice. Its bytes are known, and it never fails.
 #[derive(Drop)]
 pub struct Bytes<'a> {
     left: &'a [u8],
@@ -67,7 +67,7 @@ impl Source for Bytes<'_> {
     }
 }
 
-/// Reads a reader of std. It tells nothing of the bytes to come.
+/// Reads a reader of std. The bytes to come aren't known.
 ///
 /// It fails on every error of the reader, an interrupted read too, and at its 2^64th read.
 #[derive(Drop)]

@@ -1,7 +1,7 @@
-//! What a program in C is told of a verdict.
+//! What a program in C gets of a verdict.
 
 ghost use Rattle.std.specs.Prelude.{◌≡◌};
-ghost use Rattle.vipr_c.specs.Told.{status_of, told_of};
+ghost use Rattle.vipr_c.specs.AnswerOf.{status_of, answer_of_verdict};
 
 use vipr_check::{Fault, Place, Verdict};
 
@@ -50,8 +50,8 @@ pub(crate) fn status(verdict: &Result<Verdict, Fault>) -> i32
 }
 
 /// The numbers of a verdict.
-pub(crate) fn told(verdict: &Result<Verdict, Fault>) -> Answer
-    ensures { result ≡ told_of verdict.now }
+pub(crate) fn answer_of(verdict: &Result<Verdict, Fault>) -> Answer
+    ensures { result ≡ answer_of_verdict verdict.now }
 {
     match verdict {
         Ok(Verdict::Verified(report)) => Answer {

@@ -8,23 +8,23 @@ ghost use Rattle.std.specs.Prelude.{Result};
 ghost use Rattle.vipr_check.specs.Checks.{Checks};
 ghost use Rattle.vipr_check.specs.declared.verdict.Fault.{Fault as Failure};
 ghost use Rattle.vipr_check.specs.declared.verdict.Verdict.{Verdict as Answered};
-ghost use Rattle.vipr_c.specs.Told.{status_of, told_of};
+ghost use Rattle.vipr_c.specs.AnswerOf.{status_of, answer_of_verdict};
 
-use crate::answer::{Answer, status, told};
+use crate::answer::{Answer, answer_of, status};
 use std::alloc::Global;
 use vipr_bytes::Bytes;
 use vipr_check::{Fault, Verdict, check};
 
-/// Checks the certificate that stands in memory, tells the verdict in `answer`, and returns 0 where
+/// Checks the certificate in memory, writes the verdict to `answer`, and returns 0 if
 /// it is verified, 1 where it is refused, and 3 where a growth was refused and there is no verdict.
 #[unsafe(no_mangle)]
 pub extern "C" fn vipr_check(alloc: Global, text: &[u8], answer: &mut Answer) -> i32
     ensures { (r : Result Answered Failure)
         × Checks (Some (record { bytes = text.now; fails = false })) r
-        × (result ≡ status_of r) × (answer.new ≡ told_of r) }
+        × (result ≡ status_of r) × (answer.new ≡ answer_of_verdict r) }
 {
     let verdict = verdict_on(alloc, text);
-    *answer = told(&verdict);
+    *answer = answer_of(&verdict);
     status(&verdict)
 }
 

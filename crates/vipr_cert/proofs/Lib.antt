@@ -1,4 +1,4 @@
-mod Seen
+mod Viewing
 mod Within
 mod Backwards
 mod Members

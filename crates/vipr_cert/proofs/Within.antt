@@ -23,9 +23,9 @@ each_from P Q f gives [] h = All-nil P
 each_from P Q f gives (x ∷ xs) h = All-cons P x xs (gives x (All-head Q (f x) (map f xs) h)) (each_from P Q f gives xs (All-tail Q (f x) (map f xs) h))
 
 -- a test of what P says of each item tests what Q says of it as it is seen, where N is known
-pub told : {A B : Type 0} (N P : A → Type 0) (Q : B → Type 0) (f : A → B) (xs : List A) (b : Bool) → ((x : A) → N x → P x → Q (f x)) → ((x : A) → Q (f x) → P x)
+pub tests_known : {A B : Type 0} (N P : A → Type 0) (Q : B → Type 0) (f : A → B) (xs : List A) (b : Bool) → ((x : A) → N x → P x → Q (f x)) → ((x : A) → Q (f x) → P x)
     → All N xs → IsTrue b ↔ All P xs → IsTrue b ↔ All Q (map f xs)
-told N P Q f xs b to from known t = (λ h. each_of (λ x. N x × P x) Q xs (both N P xs known (t.0 h)) f (λ x p. to x p.0 p.1), λ h. t.1 (each_from P Q f from xs h))
+tests_known N P Q f xs b to from known t = (λ h. each_of (λ x. N x × P x) Q xs (both N P xs known (t.0 h)) f (λ x p. to x p.0 p.1), λ h. t.1 (each_from P Q f from xs h))
 
 pub nonzero_from : (low : ℕ) (es : List (ℕ × ℚ)) → RisesFrom low es → All (λ (e : ℕ × ℚ). e.1 ≢ zero_ℚ) es
 nonzero_from low [] r = All-nil (λ (e : ℕ × ℚ). e.1 ≢ zero_ℚ)

@@ -9,32 +9,32 @@ use std::alloc::{AllocError, Global};
 
 /// Bytes. A few take no memory of their own.
 #[derive(Drop)]
-pub(crate) enum Bytes {
+pub(crate) enum NameBytes {
     Short(Short),
     Long(BString),
 }
 
-impl Bytes {
+impl NameBytes {
     /// These bytes.
     #[inline(always)]
-    pub(crate) fn of(alloc: Global, bytes: &[u8]) -> Result<Bytes, AllocError>
+    pub(crate) fn of(alloc: Global, bytes: &[u8]) -> Result<NameBytes, AllocError>
         ensures { IfOk result (λ b. name_bytes b ≡ bytes.now) }
     {
         if bytes.len() <= MOST_IN_PLACE {
-            return Ok(Bytes::Short(Short::of(bytes)));
+            return Ok(NameBytes::Short(Short::of(bytes)));
         }
-        Ok(Bytes::Long(BString::from_slice(alloc, bytes)?))
+        Ok(NameBytes::Long(BString::from_slice(alloc, bytes)?))
     }
 
-    /// The same bytes.
-    pub(crate) fn of_owned(bytes: BString) -> Bytes
+    /// These bytes, in place if there are few.
+    pub(crate) fn of_owned(bytes: BString) -> NameBytes
         ensures { name_bytes result ≡ bstring_bytes bytes }
     {
-        let seen = bytes.as_bytes();
-        if seen.len() <= MOST_IN_PLACE {
-            return Bytes::Short(Short::of(seen));
+        let slice = bytes.as_bytes();
+        if slice.len() <= MOST_IN_PLACE {
+            return NameBytes::Short(Short::of(slice));
         }
-        Bytes::Long(bytes)
+        NameBytes::Long(bytes)
     }
 
     /// The bytes.
@@ -43,18 +43,18 @@ impl Bytes {
         ensures { result.now ≡ name_bytes self.now }
     {
         match self {
-            Bytes::Short(short) => short.as_slice(),
-            Bytes::Long(bytes) => bytes.as_bytes(),
+            NameBytes::Short(short) => short.as_slice(),
+            NameBytes::Long(bytes) => bytes.as_bytes(),
         }
     }
 
-    /// The same bytes once more.
-    pub(crate) fn copied(&self) -> Result<Bytes, AllocError>
+    /// A copy of the bytes.
+    pub(crate) fn try_copy(&self) -> Result<NameBytes, AllocError>
         ensures { IfOk result (λ copy. name_bytes copy ≡ name_bytes self.now) }
     {
         match self {
-            Bytes::Short(short) => Ok(Bytes::Short(*short)),
-            Bytes::Long(bytes) => Ok(Bytes::Long(bytes.clone()?)),
+            NameBytes::Short(short) => Ok(NameBytes::Short(*short)),
+            NameBytes::Long(bytes) => Ok(NameBytes::Long(bytes.clone()?)),
         }
     }
 }

@@ -17,5 +17,5 @@ mod short;
 
 pub use certificate::Certificate;
 pub use items::{Claim, Derivation, Goal, Named, Reason};
-pub use name::{BadShape, Name};
+pub use name::{BadShape, MOST_BYTES, Name};
 pub use problem::Problem;

@@ -13,7 +13,7 @@ use vipr_frac::Frac;
 use vipr_linear::{Constraint, Ints, Solution};
 
 /// An item that names variables.
-pub(crate) trait Item {
+pub(crate) trait NamesVariables {
     /// What the definitions say that it is.
     ghost Meant: { Type 0 };
 
@@ -31,7 +31,7 @@ pub(crate) trait Item {
         ensures fits { fits (view self.now) };
 }
 
-impl Item for Named<Constraint> {
+impl NamesVariables for Named<Constraint> {
     ghost use Rattle.vipr_spec.specs.Certificate.{Named as NamedMeant};
     ghost use Rattle.vipr_spec.specs.Constraint.{Constraint as ConstraintMeant};
     ghost use Rattle.vipr_spec.specs.Shape.{ConstraintShape, ConstraintFits};
@@ -56,7 +56,7 @@ impl Item for Named<Constraint> {
     }
 }
 
-impl Item for Named<Solution> {
+impl NamesVariables for Named<Solution> {
     ghost use Rattle.vipr_spec.specs.Certificate.{Named as NamedMeant};
     ghost use Rattle.vipr_spec.specs.Constraint.{Row};
     ghost use Rattle.vipr_spec.specs.Shape.{SolutionShape, RowFits};
@@ -76,7 +76,7 @@ impl Item for Named<Solution> {
     }
 }
 
-impl Item for Derivation {
+impl NamesVariables for Derivation {
     ghost use Rattle.vipr_spec.specs.Certificate.{Derivation as DerivationMeant};
     ghost use Rattle.vipr_spec.specs.Shape.{DerivationShape, DerivationFits};
     ghost use Rattle.vipr_cert.specs.Items.{derivation_of};
@@ -98,7 +98,7 @@ impl Item for Derivation {
 }
 
 /// Whether each item names variables below `n` alone, and has no more entries than a count may be.
-pub(crate) fn are_within<T: Item>(items: &[T], n: u32) -> bool
+pub(crate) fn are_within<T: NamesVariables>(items: &[T], n: u32) -> bool
     ensures shape { IsTrue result ↔ All (T.shape n) (map T.view items.now) }
     ensures fits { IsTrue result → All T.fits (map T.view items.now) }
 {

@@ -6,7 +6,7 @@ ghost use Rattle.std.specs.Prelude.{◌≡◌, ◌↔◌, ◌≤◌, IsOk, IfOk,
 ghost use Rattle.bstr.specs.Owned.{bstring_bytes};
 ghost use Rattle.vipr_spec.specs.Tokens.{is_white, IsToken};
 
-use crate::bytes::Bytes;
+use crate::bytes::NameBytes;
 use bstr::{BStr, BString};
 use std::alloc::{AllocError, Global};
 use std::fmt;
@@ -20,7 +20,7 @@ pub struct BadShape;
 /// need not be text.
 #[derive(Drop)]
 pub struct Name {
-    bytes: Bytes,
+    bytes: NameBytes,
 }
 
 impl Model for Name {
@@ -55,7 +55,7 @@ impl Clone for Name {
 
     fn clone(&self) -> Result<Name, AllocError> {
         Ok(Name {
-            bytes: self.bytes.copied()?,
+            bytes: self.bytes.try_copy()?,
         })
     }
 }
@@ -75,7 +75,7 @@ impl Name {
             return Err(BadShape);
         }
         Ok(Name {
-            bytes: Bytes::of_owned(bytes),
+            bytes: NameBytes::of_owned(bytes),
         })
     }
 
@@ -86,7 +86,7 @@ impl Name {
         ensures { IfOk result (λ n. n ≡ bytes.now) }
     {
         Ok(Name {
-            bytes: Bytes::of(alloc, bytes)?,
+            bytes: NameBytes::of(alloc, bytes)?,
         })
     }
 
@@ -108,9 +108,12 @@ fn is_white(byte: u8) -> bool
     (9 <= byte && byte <= 13) || byte == 32
 }
 
+/// The most bytes of a token, and so of a name.
+pub const MOST_BYTES: usize = 65_535;
+
 // Whether the bytes are those of a token.
 fn is_token(bytes: &[u8]) -> bool
     ensures { IsTrue result ↔ IsToken bytes.now }
 {
-    !bytes.is_empty() && bytes.len() <= 65535 && bytes.iter().all(|byte| !is_white(*byte))
+    !bytes.is_empty() && bytes.len() <= MOST_BYTES && bytes.iter().all(|byte| !is_white(*byte))
 }

@@ -1,27 +1,25 @@
 -- A checker's state, call by call
-use Rattle.std.proofs.Common.{◌≡◌, ◌≢◌, ℕ, Bool, true, false, List, ◌∷◌, ◌++◌, [], length, Option, Some, None, Result, Ok, Err, refl, sym, ◌∙◌, ap, subst, inl, inr}
+use Rattle.std.proofs.Common.{◌≡◌, ℕ, Bool, List, [], length, Option, Some, None, Result, Ok, Err, refl, sym, ◌∙◌, ap, subst, inl, inr}
 use Rattle.std.specs.Prelude.{◌⊎◌, MatchOption}
 use Rattle.vipr_spec.specs.Fraction.{ℚ}
 use Rattle.vipr_spec.specs.Constraint.{Profile, Row}
-use Rattle.vipr_spec.specs.Certificate.{Named, Problem, Derivation, Certificate, IsProof, MeetsPrimal, count}
-use Rattle.vipr_spec.specs.Verdict.{Answer, refuses, told_by, at_solution, at_derivation}
-use Rattle.vipr_spec.specs.Steps.{step_tests, StepTest, step_cause, FirstFailing}
-use Rattle.vipr_spec.specs.Tests.{PassesSolution, solution_tests, solution_cause, Passes as PassesTest, meets_primal, meets_dual, of_solution, of_step}
-use Rattle.vipr_rules.specs.Apply.{Tells, StopsIn}
+use Rattle.vipr_spec.specs.Certificate.{Named, Problem, Derivation, Certificate, IsProof, count}
+use Rattle.vipr_spec.specs.Verdict.{refuses, at_solution, at_derivation}
+use Rattle.vipr_spec.specs.Steps.{step_tests}
+use Rattle.vipr_spec.specs.Tests.{solution_tests, solution_cause, Passes as PassesTest, meets_dual}
+use Rattle.vipr_rules.specs.Apply.{StopsIn}
 use Rattle.vipr_table.specs.Table.{Table, advance_table}
 use Rattle.vipr_rules.specs.Solution.{test_of, FailsBy}
 use Rattle.vipr_rules.specs.declared.solution.SolutionError.{SolutionError}
 use Rattle.vipr_rules.specs.declared.error.RuleError.{RuleError}
 use Rattle.vipr_rules.specs.declared.error.RuleError.TheVariants as rule
-use Rattle.vipr_check.specs.declared.verdict.Refusal.{Refusal}
 use Rattle.vipr_check.specs.declared.halt.Stop.{Stop}
-use Rattle.vipr_check.specs.declared.halt.Finding.{Finding}
 use Rattle.vipr_check.specs.declared.halt.Halt.{Halt}
 use Rattle.vipr_check.specs.declared.halt.Halt.TheVariants.{Refused, Memory}
 use Rattle.vipr_check.specs.View.{refusal_of, place_of}
 use Rattle.vipr_check.specs.Halts.{halt_answer, later_answer, rule_cause, IsSolutionHalt, IsStepHalt, CanShow, CanShowHalt}
-use Rattle.vipr_check.specs.Progress.{Progress, HasSolutions, HasSteps}
-use Rattle.vipr_check.specs.State.{State, IsReached, HaltsBy, IsRefusalBy, StopsSolution, StopsStep}
+use Rattle.vipr_check.specs.Progress.{Progress, HasSteps}
+use Rattle.vipr_check.specs.State.{State, IsReached, HaltsBy, StopsSolution, StopsStep}
 use Rattle.vipr_check.proofs.CauseLemmas.{cause_is}
 use Rattle.vipr_check.proofs.ShownLemmas.{failing_within}
 
@@ -116,7 +114,7 @@ solution_can_show p s n name e (Refused r f) fails is = subst (CanShow p) (sym i
 -- after a derivation that failed a test all is as it was
 pub reached_after : (k new : Progress) (b : Bool) (old o : Option Halt) (h : Halt) (n : ℕ) (name : List ℕ) (e : RuleError) → old ≡ None → IsReached k b old → IsStepHalt n name e h
     → (new ≡ k) ⊎ ((e ≡ rule.Memory) × (new ≡ record k { rows = advance_table k.rows })) → o ≡ Some h → IsReached new b o
-reached_after k new b old o h n name e none is tells (inl f) g = subst (λ x. IsReached x b o) (sym f) (reached_still k b old o none (subst (CanShowHalt k.problem) (sym g) (step_can_show k.problem n name e h tells)) is)
-reached_after k new b old o h n name e none is tells (inr f) g =
-    let m : o ≡ Some Memory = g ∙ ap Some (memory_stops n name e h f.0 tells) in
+reached_after k new b old o h n name e none is answers (inl f) g = subst (λ x. IsReached x b o) (sym f) (reached_still k b old o none (subst (CanShowHalt k.problem) (sym g) (step_can_show k.problem n name e h answers)) is)
+reached_after k new b old o h n name e none is answers (inr f) g =
+    let m : o ≡ Some Memory = g ∙ ap Some (memory_stops n name e h f.0 answers) in
     record { solutions = λ not p. absurd (not m); steps = λ not p. absurd (not m); shows = subst (CanShowHalt new.problem) (sym m) tt }

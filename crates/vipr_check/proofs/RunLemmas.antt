@@ -10,7 +10,7 @@ use Rattle.vipr_spec.specs.Steps.{step_tests, PassesStep, with_next, FirstFailin
 use Rattle.vipr_spec.specs.Checking.{start}
 use Rattle.vipr_spec.specs.Tests.{spelled, PassesSolution, solution_tests, Detail, none, step, no_proof, no_primal, solution_detail, goal_needed_by}
 use Rattle.vipr_spec.specs.Steps.{FirstFailing}
-use Rattle.vipr_spec.specs.Verdict.{Reports, Answer, verified, refuses, told_by, Explained, IsExplained}
+use Rattle.vipr_spec.specs.Verdict.{Reports, Answer, verified, refuses, answer_of_test, Explained, IsExplained}
 use Rattle.vipr_spec.specs.Shape.{ReasonShape}
 use Rattle.vipr_spec.specs.Progress.{derivations_from, solutions_from}
 use Rattle.vipr_spec.proofs.Laws.{count_next, problem_fault, problem_ok, solution_fault, solution_passes, solution_fails, solutions_unmet, derivations_fault, derivations_begin, derivation_fault, derivation_passes, derivation_fails, end_fault, end_unproved, end_verified}
@@ -83,18 +83,18 @@ at_start P p ss k l r is h new knows unspent room = record {
 }
 
 pub reached_now : (P : Profile) (c : Certificate) (k : State) (old : Items) → IsAt P c k old → HasReached P c old k old
-reached_now P c k old is = record { now = c; is_at = is; leads = λ told. record { told = told; answers = λ a x h. h } }
+reached_now P c k old is = record { now = c; is_at = is; leads = λ known. record { known = known; answers = λ a x h. h } }
 
 pub reached_later : (P : Profile) (c : Certificate) (k l : State) (old mid new : Items) → (h : HasReached P c old k mid) → HasReached P h.now mid l new → HasReached P c old l new
 reached_later P c k l old mid new h i = record {
   now = i.now;
   is_at = i.is_at;
-  leads = λ told. let a = h.leads told in let b = i.leads a.told in record { told = b.told; answers = λ x z y. a.answers x z (b.answers x z y) };
+  leads = λ known. let a = h.leads known in let b = i.leads a.known in record { known = b.known; answers = λ x z y. a.answers x z (b.answers x z y) };
 }
 
 pub ended_later : (P : Profile) (c : Certificate) (k : State) (old mid : Items) (y : Detail) (x : Result Verdict Fault) → (h : HasReached P c old k mid) → IsSome old.rest
     → (IsSome mid.rest → SaysWith (Explained P (derivations_from h.now mid.left (rest_of mid.rest))) y x) → SaysWith (Explained P (derivations_from c old.left (rest_of old.rest))) y x
-ended_later P c k old mid y x h told s = let a = h.leads told in SaysWith-by (Explained P (derivations_from h.now mid.left (rest_of mid.rest))) (Explained P (derivations_from c old.left (rest_of old.rest))) y x a.answers (s a.told)
+ended_later P c k old mid y x h known s = let a = h.leads known in SaysWith-by (Explained P (derivations_from h.now mid.left (rest_of mid.rest))) (Explained P (derivations_from c old.left (rest_of old.rest))) y x a.answers (s a.known)
 
 module _ (P : Profile) (c : Certificate) (k l : State) (old new : Items) (d : Derivation) (is : IsAt P c k old) (few : ReasonShape d.reason) (fewer : old.left ≡ suc new.left) (memory : Remembers old new) (unspent : new.failed ≡ false)
     (read : IsSome old.rest → (derivation_read c.problem (rest_of old.rest) ≡ Ok (d, (rest_of new.rest))) × (IsSome new.rest)) where
@@ -102,13 +102,13 @@ module _ (P : Profile) (c : Certificate) (k l : State) (old new : Items) (d : De
   Left a x = Explained P (derivations_from c old.left (rest_of old.rest)) a x
 
   step_stopped : (p : Problem) (h : Halt) → StopsStep P c d h → IsSome old.rest → SaysWith Left (halt_shown p (Some h)) (stop_answer (halt_answer h))
-  step_stopped p Memory w told = tt
-  step_stopped p (Refused r f) (e, named, fails, refusal) told =
+  step_stopped p Memory w known = tt
+  step_stopped p (Refused r f) (e, named, fails, refusal) known =
       let a = refuses (refusal_of r) in
       let x = finding_shown p f in
       let shown : x ≡ step d.name fails.2.0 = ap (finding_shown p) named ∙ ap (step d.name) (stop_shown P c d e few fails) in
       subst (λ n. Explained P (derivations_from c n (rest_of old.rest)) a x) (sym fewer)
-      ((derivation_fails P a x c new.left (rest_of old.rest) d (rest_of new.rest) fails.0 (read told).0 fails.1).1 (refusal, (fails.2.0, fails.2.2, shown)))
+      ((derivation_fails P a x c new.left (rest_of old.rest) d (rest_of new.rest) fails.0 (read known).0 fails.1).1 (refusal, (fails.2.0, fails.2.2, shown)))
 
   pub goes_on : (x : Result (Unit {0}) Stop) → TakesStep c d k l x → Goes P c old l new (step_answer x)
   goes_on (Ok done) h = record {
@@ -122,17 +122,17 @@ module _ (P : Profile) (c : Certificate) (k l : State) (old new : Items) (d : De
       unspent = unspent;
       room = (let e = count_next c d in let r = is.room in omega arith);
     };
-    leads = λ told. record {
-      told = (read told).1;
-      answers = λ a x y. subst (λ n. Explained P (derivations_from c n (rest_of old.rest)) a x) (sym fewer) ((derivation_passes P a x c new.left (rest_of old.rest) d (rest_of new.rest) (read told).0 (subst (λ Q. FirstFailing (PassesStep Q c (condition d.stated)) (step_tests d.reason) None) is.profile h.0)).1 y);
+    leads = λ known. record {
+      known = (read known).1;
+      answers = λ a x y. subst (λ n. Explained P (derivations_from c n (rest_of old.rest)) a x) (sym fewer) ((derivation_passes P a x c new.left (rest_of old.rest) d (rest_of new.rest) (read known).0 (subst (λ Q. FirstFailing (PassesStep Q c (condition d.stated)) (step_tests d.reason) None) is.profile h.0)).1 y);
     };
   }
-  goes_on (Err e) (h, halts, why) = λ told. stopped_says Left k l h e halts (step_stopped k.progress.problem h (subst (λ Q. StopsStep Q c d h) is.profile why) told)
+  goes_on (Err e) (h, halts, why) = λ known. stopped_says Left k l h e halts (step_stopped k.progress.problem h (subst (λ Q. StopsStep Q c d h) is.profile why) known)
 
 pub derivations_failed : (P : Profile) (c : Certificate) (n : ℕ) (r : Rest) (x : Detail) (e : TextError) → x ≡ none → ((n ≡ 0) × Fails e (end_read r)) ⊎ ((0 < n) × Fails e (derivation_read c.problem r)) → SaysWith (Explained P (derivations_from c n r)) x (text_answer e)
-derivations_failed P c n r x e shown (inl h) = subst (λ n. SaysWith (Explained P (derivations_from c n r)) x (text_answer e)) (sym h.0) (text_says (Explained P (derivations_from c 0 r)) x e (end_read r) shown h.1 (λ f is. (end_fault P (told_by (spelled f)) none c r f is).1 (refl, refl)))
+derivations_failed P c n r x e shown (inl h) = subst (λ n. SaysWith (Explained P (derivations_from c n r)) x (text_answer e)) (sym h.0) (text_says (Explained P (derivations_from c 0 r)) x e (end_read r) shown h.1 (λ f is. (end_fault P (answer_of_test (spelled f)) none c r f is).1 (refl, refl)))
 derivations_failed P c zero r x e shown (inr h) = absurd (let z = h.0 in omega arith)
-derivations_failed P c (suc n) r x e shown (inr h) = text_says (Explained P (derivations_from c (suc n) r)) x e (derivation_read c.problem r) shown h.1 (λ f is. (derivation_fault P (told_by (spelled f)) none c n r f is).1 (refl, refl))
+derivations_failed P c (suc n) r x e shown (inr h) = text_says (Explained P (derivations_from c (suc n) r)) x e (derivation_read c.problem r) shown h.1 (λ f is. (derivation_fault P (answer_of_test (spelled f)) none c n r f is).1 (refl, refl))
 
 -- ---- the end
 
@@ -155,19 +155,19 @@ solution_unspent ss s k l (Ok done) h = λ e. cc
 solution_unspent ss s k l (Err e) h = some_stop e (first_unspent h.0 e h.1.answer)
 
 pub listed_now : (P : Profile) (p : Problem) (ss : List (Named Row)) (k : State) (old : Items) → IsAmong P p ss k old → HasListed P p ss old k old
-listed_now P p ss k old is = record { now = ss; is_among = is; told = λ t. t; answers = λ t a x h. h }
+listed_now P p ss k old is = record { now = ss; is_among = is; known = λ t. t; answers = λ t a x h. h }
 
 pub listed_later : (P : Profile) (p : Problem) (ss : List (Named Row)) (k l : State) (old mid new : Items) → (h : HasListed P p ss old k mid) → HasListed P p h.now mid l new → HasListed P p ss old l new
 listed_later P p ss k l old mid new h i = record {
   now = i.now;
   is_among = i.is_among;
-  told = λ t. i.told (h.told t);
-  answers = λ t a x y. h.answers t a x (i.answers (h.told t) a x y);
+  known = λ t. i.known (h.known t);
+  answers = λ t a x y. h.answers t a x (i.answers (h.known t) a x y);
 }
 
 pub answered_later : (P : Profile) (p : Problem) (ss : List (Named Row)) (k : State) (old mid : Items) (y : Detail) (x : Result Verdict Fault) → (h : HasListed P p ss old k mid) → IsSome old.rest
     → (IsSome mid.rest → SaysWith (Explained P (solutions_from p h.now mid.left (rest_of mid.rest))) y x) → SaysWith (Explained P (solutions_from p ss old.left (rest_of old.rest))) y x
-answered_later P p ss k old mid y x h told s = SaysWith-by (Explained P (solutions_from p h.now mid.left (rest_of mid.rest))) (Explained P (solutions_from p ss old.left (rest_of old.rest))) y x (h.answers told) (s (h.told told))
+answered_later P p ss k old mid y x h known s = SaysWith-by (Explained P (solutions_from p h.now mid.left (rest_of mid.rest))) (Explained P (solutions_from p ss old.left (rest_of old.rest))) y x (h.answers known) (s (h.known known))
 
 -- there is a number for one more
 pub one_more : (P : Profile) (p : Problem) (ss : List (Named Row)) (k : State) (old : Items) → IsAmong P p ss k old → 0 < old.left → k.progress.solutions + 1 < 2 ^ 32
@@ -179,13 +179,13 @@ module _ (P : Profile) (p : Problem) (ss : List (Named Row)) (k l : State) (old 
   Remaining a x = Explained P (solutions_from p ss old.left (rest_of old.rest)) a x
 
   solution_stopped : (h : Halt) → StopsSolution p ss s h → IsSome old.rest → SaysWith Remaining (halt_shown p (Some h)) (stop_answer (halt_answer h))
-  solution_stopped Memory w told = tt
-  solution_stopped (Refused r f) (e, named, fails, refusal) told =
+  solution_stopped Memory w known = tt
+  solution_stopped (Refused r f) (e, named, fails, refusal) known =
       let a = refuses (refusal_of r) in
       let x = finding_shown p f in
       let shown : x ≡ solution_detail p s.name s.item (test_of e) = ap (finding_shown p) named ∙ fails.1 s.name in
       subst (λ n. Explained P (solutions_from p ss n (rest_of old.rest)) a x) (sym fewer)
-      ((solution_fails P a x p ss new.left (rest_of old.rest) s (rest_of new.rest) (test_of e) (read told).0 fails.0).1 (refusal, shown))
+      ((solution_fails P a x p ss new.left (rest_of old.rest) s (rest_of new.rest) (test_of e) (read known).0 fails.0).1 (refusal, shown))
 
   pub goes_among : (x : Result (Unit {0}) Stop) → TakesSolution ss s k l x → GoesAmong P p ss old l new (step_answer x)
   goes_among (Ok done) h = record {
@@ -200,16 +200,16 @@ module _ (P : Profile) (p : Problem) (ss : List (Named Row)) (k l : State) (old 
       unspent = unspent;
       room = (let e = length-append ss (s ∷ []) in let r = is.room in omega (arith, e, r, fewer));
     };
-    told = λ told. (read told).1;
-    answers = λ told a x y. subst (λ n. Explained P (solutions_from p ss n (rest_of old.rest)) a x) (sym fewer)
-        ((solution_passes P a x p ss new.left (rest_of old.rest) s (rest_of new.rest) (read told).0 (subst (λ q. FirstFailing (PassesSolution q s.item) (solution_tests q) None) is.problem h.0)).1 y);
+    known = λ known. (read known).1;
+    answers = λ known a x y. subst (λ n. Explained P (solutions_from p ss n (rest_of old.rest)) a x) (sym fewer)
+        ((solution_passes P a x p ss new.left (rest_of old.rest) s (rest_of new.rest) (read known).0 (subst (λ q. FirstFailing (PassesSolution q s.item) (solution_tests q) None) is.problem h.0)).1 y);
   }
-  goes_among (Err e) (h, halts, why) = λ told. stopped_says Remaining k l h e halts
-      (subst (λ q. SaysWith Remaining (halt_shown q (Some h)) (stop_answer (halt_answer h))) (sym is.problem) (solution_stopped h (subst (λ q. StopsSolution q ss s h) is.problem why) told))
+  goes_among (Err e) (h, halts, why) = λ known. stopped_says Remaining k l h e halts
+      (subst (λ q. SaysWith Remaining (halt_shown q (Some h)) (stop_answer (halt_answer h))) (sym is.problem) (solution_stopped h (subst (λ q. StopsSolution q ss s h) is.problem why) known))
 
 solution_fault_at : (P : Profile) (p : Problem) (ss : List (Named Row)) (n : ℕ) (r : Rest) (x : Detail) (e : TextError) → x ≡ none → 0 < n → Fails e (solution_read p r) → SaysWith (Explained P (solutions_from p ss n r)) x (text_answer e)
 solution_fault_at P p ss zero r x e shown lt h = absurd (omega arith)
-solution_fault_at P p ss (suc n) r x e shown lt h = text_says (Explained P (solutions_from p ss (suc n) r)) x e (solution_read p r) shown h (λ f is. (solution_fault P (told_by (spelled f)) none p ss n r f is).1 (refl, refl))
+solution_fault_at P p ss (suc n) r x e shown lt h = text_says (Explained P (solutions_from p ss (suc n) r)) x e (solution_read p r) shown h (λ f is. (solution_fault P (answer_of_test (spelled f)) none p ss n r f is).1 (refl, refl))
 
 pub solution_missing : (P : Profile) (p : Problem) (ss : List (Named Row)) (n : ℕ) (r : Rest) (x : Detail) (e : TextError) → x ≡ none → 0 < n → ((n ≡ 0) × Fails {Y = Unit {0}} e (Ok tt)) ⊎ ((0 < n) × Fails e (solution_read p r)) → SaysWith (Explained P (solutions_from p ss n r)) x (text_answer e)
 solution_missing P p ss n r x e shown lt (inl h) = absurd (let z = h.0 in omega arith)
@@ -235,7 +235,7 @@ pub ending_met : (p : Problem) (ss : List (Named Row)) (k l : State) → k.progr
 ending_met p ss k l same h = subst (λ q. MeetsPrimal q ss q.claim) same h.0
 
 pub ending_failed : (P : Profile) (p : Problem) (ss : List (Named Row)) (r : Rest) (x : Detail) (e : TextError) → x ≡ none → MeetsPrimal p ss p.claim → Fails e (derivations_read p r) → SaysWith (Explained P (solutions_from p ss 0 r)) x (text_answer e)
-ending_failed P p ss r x e shown met h = text_says (Explained P (solutions_from p ss 0 r)) x e (derivations_read p r) shown h (λ f is. (derivations_fault P (told_by (spelled f)) none p ss r f met is).1 (refl, refl))
+ending_failed P p ss r x e shown met h = text_says (Explained P (solutions_from p ss 0 r)) x e (derivations_read p r) shown h (λ f is. (derivations_fault P (answer_of_test (spelled f)) none p ss r f met is).1 (refl, refl))
 
 pub ending_read : (P : Profile) (p : Problem) (ss : List (Named Row)) (m : ℕ) (r s : Rest) (y : Detail) (x : Result Verdict Fault) → MeetsPrimal p ss p.claim → derivations_read p r ≡ Ok (m, s) → SaysWith (Explained P (derivations_from (start p ss) m s)) y x → SaysWith (Explained P (solutions_from p ss 0 r)) y x
 ending_read P p ss m r s y x met is h = SaysWith-by (Explained P (derivations_from (start p ss) m s)) (Explained P (solutions_from p ss 0 r)) y x (λ a z. (derivations_begin P a z p ss r m s met is).1) h
@@ -250,7 +250,7 @@ pub among_start : (P : Profile) (p : Problem) (k : State) (r : Items) → k.prog
 among_start P p k r runs_by same has phase runs knows unspent room = record { profile = runs_by; problem = same; has = has; phase = phase; runs = runs; knows = knows; unspent = unspent; room = omega arith }
 
 pub problem_failed : (P : Profile) (r : Rest) (e : TextError) → Fails e (problem_read r) → SaysWith (IsExplained P r) none (text_answer e)
-problem_failed P r e h = text_says (IsExplained P r) none e (problem_read r) refl h (λ f is. (problem_fault P (told_by (spelled f)) none r f is).1 (refl, refl))
+problem_failed P r e h = text_says (IsExplained P r) none e (problem_read r) refl h (λ f is. (problem_fault P (answer_of_test (spelled f)) none r f is).1 (refl, refl))
 
 pub problem_read_on : (P : Profile) (r : Rest) (p : Problem) (n : ℕ) (s : Rest) (y : Detail) (x : Result Verdict Fault) → problem_read r ≡ Ok ((p, n), s) → SaysWith (Explained P (solutions_from p [] n s)) y x → SaysWith (IsExplained P r) y x
 problem_read_on P r p n s y x is h = SaysWith-by (Explained P (solutions_from p [] n s)) (IsExplained P r) y x (λ a z. (problem_ok P a z r p n s is).1) h

@@ -1,6 +1,6 @@
 -- What a checker keeps is true over all points
-use Rattle.std.proofs.Common.{◌≡◌, ◌≢◌, ℕ, ◌+◌, ◌<◌, ◌≤◌, Bool, true, false, ◌&&◌, ◌||◌, nat_le, nat_lt, nat_eq, List, length, Option, Some, None, is_some, IfSome, All, get_or, inl, inr, ⊎_elim, arith, refl, sym, ◌∙◌, ap, subst}
-use Rattle.std.specs.Prelude.{IsSome, IsSomeAnd, IsTrue}
+use Rattle.std.proofs.Common.{◌≡◌, ◌≢◌, ℕ, ◌+◌, ◌<◌, ◌≤◌, Bool, true, false, ◌&&◌, ◌||◌, nat_le, nat_lt, nat_eq, List, length, Option, Some, None, is_some, IfSome, All, get_or, ⊎_elim, arith, refl, sym, ◌∙◌, ap, subst}
+use Rattle.std.specs.Prelude.{IsSome, IsSomeAnd}
 use Rattle.std.proofs.lemmas.Bool.Decides.{nat_tests}
 use Rattle.std.proofs.lemmas.Bool.{cases_lt}
 use Rattle.std.proofs.lemmas.List.Elements.{All-nil, All-contains}
@@ -10,7 +10,7 @@ use Rattle.vipr_spec.specs.Fraction.{ℚ}
 use Rattle.vipr_spec.specs.Constraint.{Profile, Row, at, Point, Condition, IsTrueAt}
 use Rattle.vipr_spec.specs.Certificate.{Named, Problem, variables, Claim, infeasible, range, asm, Certificate, IsFeasible, SolutionFits, objective_at, IsAsGood, IsAsGoodAt, dual_bound, constraint_at, reason_at, last_at, is_assumption, lasts_to, RestsOn, itself, brought, RestsOnNothing, MeetsBound, MeetsDual, GoalIs, count}
 use Rattle.vipr_spec.specs.Checking.{start, IsChecked}
-use Rattle.vipr_spec.specs.Soundness.{IsAdmitted, IsTrueOf, IsBestValue, IsAdmittedBy}
+use Rattle.vipr_spec.specs.Soundness.{IsTrueOf, IsBestValue, IsAdmittedBy}
 use Rattle.vipr_spec.proofs.Laws.{reason_past, reason_given, absurd_false, as_good_refl, as_good_trans, as_good_total, all_sound, bound_true, admitted_by, checked_start}
 use Rattle.vipr_linear.specs.Constraint.{condition_of}
 use Rattle.vipr_table.specs.declared.rows.Entry.{Entry}

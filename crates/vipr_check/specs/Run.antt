@@ -38,7 +38,7 @@ stop_answer (stop.Refused r) = Ok (Refused r)
 stop_answer stop.Memory = Err Memory
 stop_answer stop.Spent = Err Memory
 
--- none where the item was taken
+-- none if the item was accepted
 abbrev pub step_answer : Result (Unit {0}) Stop → Option (Result Verdict Fault)
 step_answer (Ok done) = None
 step_answer (Err e) = Some (stop_answer e)
@@ -70,7 +70,7 @@ verdict_in (Err f) = Err f
 
 -- ---- the solutions
 
--- the checker stands behind the problem and these solutions, and the reader before the solution
+-- the checker has the problem and these solutions, and the reader is before the solution
 -- that comes next
 pub record IsAmong (P : Profile) (p : Problem) (ss : List (Named Row)) (k : State)
     (r : Items) : Type 0 where
@@ -83,17 +83,17 @@ pub record IsAmong (P : Profile) (p : Problem) (ss : List (Named Row)) (k : Stat
   pub unspent : r.failed ≡ false
   pub room : length ss + r.left < 2 ^ 32
 
--- so much was read since these solutions that the checker now stands behind more of them
+-- so much was read since these solutions that the checker now has more of them
 pub record HasListed (P : Profile) (p : Problem) (ss : List (Named Row)) (old : Items) (k : State)
     (new : Items) : Type 0 where
   pub now : List (Named Row)
   pub is_among : IsAmong P p now k new
-  pub told : IsSome old.rest → IsSome new.rest
+  pub known : IsSome old.rest → IsSome new.rest
   pub answers : IsSome old.rest → (a : Answer) (x : DetailMeant)
       → Explained P (solutions_from p now new.left (rest_of new.rest)) a x
       → Explained P (solutions_from p ss old.left (rest_of old.rest)) a x
 
--- a solution more was taken, or the answer is that for what was left
+-- a solution more was accepted, or the answer is that for what remained
 abbrev pub GoesAmong : Profile → Problem → List (Named Row) → Items → State → Items
     → Option (Result Verdict Fault) → Type 0
 GoesAmong P p ss old k new None = HasListed P p ss old k new
@@ -103,7 +103,7 @@ GoesAmong P p ss old k new (Some answer) = IsSome old.rest
 
 -- ---- the derivations
 
--- the checker stands behind the certificate c, and the reader before the derivation that comes next
+-- the checker has the certificate c, and the reader is before the derivation that comes next
 pub record IsAt (P : Profile) (c : Certificate) (k : State) (r : Items) : Type 0 where
   pub profile : k.progress.profile ≡ P
   pub has : HasSteps c k.progress
@@ -117,19 +117,19 @@ pub record IsAt (P : Profile) (c : Certificate) (k : State) (r : Items) : Type 0
 -- left before
 pub record Leads (P : Profile) (c : Certificate) (old : Items) (d : Certificate)
     (new : Items) : Type 0 where
-  pub told : IsSome new.rest
+  pub known : IsSome new.rest
   pub answers : (a : Answer) (x : DetailMeant)
       → Explained P (derivations_from d new.left (rest_of new.rest)) a x
       → Explained P (derivations_from c old.left (rest_of old.rest)) a x
 
--- so much was read since the certificate c that the checker now stands behind another one
+-- so much was read since the certificate c that the checker now has another one
 pub record HasReached (P : Profile) (c : Certificate) (old : Items) (k : State)
     (new : Items) : Type 0 where
   pub now : Certificate
   pub is_at : IsAt P now k new
   pub leads : IsSome old.rest → Leads P c old now new
 
--- a derivation more was taken, or the answer is that for what was left
+-- a derivation more was accepted, or the answer is that for what remained
 abbrev pub Goes : Profile → Certificate → Items → State → Items → Option (Result Verdict Fault)
     → Type 0
 Goes P c old k new None = HasReached P c old k new

@@ -1,5 +1,5 @@
 -- What is shown of a verdict, as the detail of the definitions
-use Rattle.std.specs.Prelude.{ℕ, min, Option, Some, None, option_map}
+use Rattle.std.specs.Prelude.{min, Option, Some, None, option_map}
 use Rattle.vipr_spec.specs.Fraction.{ℚ}
 use Rattle.vipr_spec.specs.Certificate.{Problem}
 use Rattle.vipr_spec.specs.Reading.{most_count}
@@ -40,7 +40,7 @@ detail_of (detail.NoPrimal bound) = is.no_primal bound
 
 -- ---- what there is to show where a checker stopped
 
--- a position is told as far as a count can be
+-- a position is reported as far as a count can be
 abbrev pub rule_shown : RuleError → step.StepDetail
 rule_shown (rule.NotEarlier i) = step.index i
 rule_shown (rule.Dropped i) = step.index i

@@ -1,16 +1,16 @@
 -- What a checker holds, and what each of its calls makes of it
-use Rattle.std.specs.Prelude.{◌≡◌, ◌≢◌, ◌⊎◌, ℕ, ◌≤◌, Bool, true, false, List, ◌∷◌, ◌++◌, [], length}
+use Rattle.std.specs.Prelude.{◌≡◌, ◌≢◌, ◌⊎◌, ◌≤◌, Bool, true, false, List, ◌∷◌, ◌++◌, [], length}
 use Rattle.std.specs.Prelude.{Option, Some, None, Result, Ok, Err, refl}
 use Rattle.std.specs.Coded.{Coded, code_by, coded×, coded_bool, coded_option}
 use Rattle.vipr_spec.specs.Constraint.{Profile, Row}
 use Rattle.vipr_spec.specs.Certificate.{Named, Problem, MeetsPrimal, Derivation, Certificate}
-use Rattle.vipr_spec.specs.Certificate.{IsProof, count, held}
+use Rattle.vipr_spec.specs.Certificate.{IsProof, count, count_held}
 use Rattle.vipr_spec.specs.Steps.{with_next, step_tests, FirstFailing}
 use Rattle.vipr_spec.specs.Checking.{start}
 use Rattle.vipr_spec.specs.Soundness.{IsShown}
 use Rattle.vipr_spec.specs.Tests.{Test, of_solution, of_step, meets_primal, meets_dual}
 use Rattle.vipr_spec.specs.Tests.{Passes as PassesTest, PassesSolution, solution_tests}
-use Rattle.vipr_spec.specs.Verdict.{Reports, Answer, refuses, told_by}
+use Rattle.vipr_spec.specs.Verdict.{Reports, refuses, answer_of_test}
 use Rattle.vipr_rules.specs.Apply.{PassesTestsIn, StopsIn}
 use Rattle.vipr_table.specs.Table.{advance_table, held_count as held_in}
 use Rattle.vipr_rules.specs.Solution.{test_of, FailsBy}
@@ -19,7 +19,6 @@ use Rattle.vipr_rules.specs.declared.error.RuleError.{RuleError}
 use Rattle.vipr_check.specs.declared.verdict.Refusal.{Refusal}
 use Rattle.vipr_check.specs.declared.verdict.Report.{Report}
 use Rattle.vipr_check.specs.declared.halt.Stop.{Stop}
-use Rattle.vipr_check.specs.declared.halt.Finding.{Finding}
 use Rattle.vipr_check.specs.declared.halt.Finding.TheVariants.{Solution, Primal, Derived, Proof}
 use Rattle.vipr_check.specs.declared.halt.Halt.{Halt}
 use Rattle.vipr_check.specs.declared.halt.Halt.TheVariants.{Refused, Memory}
@@ -69,7 +68,7 @@ Repeats old new result = (h : Halt) → old.halt ≡ Some h
 
 -- the refusal is that of the test
 abbrev pub IsRefusalBy : Refusal → Test → Type 0
-IsRefusalBy r t = refuses (refusal_of r) ≡ told_by t
+IsRefusalBy r t = refuses (refusal_of r) ≡ answer_of_test t
 
 -- ---- a solution
 
@@ -123,7 +122,7 @@ abbrev pub TakesStep : Certificate → Derivation → State → State → Result
 TakesStep c d old new (Ok done) =
     PassesTestsIn old.progress.profile c d (step_tests d.reason)
     × HasSteps (with_next c d) new.progress
-    × (held_in new.progress.rows ≡ held (with_next c d) (count c))
+    × (held_in new.progress.rows ≡ count_held (with_next c d) (count c))
     × (held_in new.progress.rows ≤ new.progress.peak)
     × (new ≡ record old {
       progress = record old.progress {

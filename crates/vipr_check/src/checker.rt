@@ -17,7 +17,7 @@ ghost use Rattle.vipr_check.specs.Shown.{detail_of, state_shown};
 use crate::cause;
 use crate::detail::{Detail, of_halt};
 use crate::halt::{Finding, Halt, Stop};
-use crate::progress::Progress;
+use crate::so_far::Progress;
 use crate::verdict::Report;
 use std::alloc::{AllocError, Global};
 use std::marker::Model;
@@ -63,7 +63,7 @@ impl<S: Rows> Checker<S> {
         Checker::new_in(alloc, Profile::One, problem)
     }
 
-    /// The same by the rules of a profile.
+    /// A checker of this problem's certificates by the rules of `profile`.
     ///
     /// # Errors
     ///
@@ -193,7 +193,7 @@ impl<S: Rows> Checker<S> {
         }
     }
 
-    /// The same of a derivation that is needed no more: what is kept of it isn't cloned.
+    /// Checks the next derivation and takes its constraint, so that nothing of it is cloned.
     ///
     /// # Errors
     ///

@@ -16,10 +16,10 @@ use Rattle.clap.specs.declared.parser.matches.ArgMatches.TheViews.{out-ArgMatche
 use Rattle.std.specs.Str.{bytes_eq}
 use Rattle.vipr_command.proofs.HelpLemmas.{NotHelp, met_help, never_met}
 use Rattle.vipr_rules.specs.declared.profile.Profile.{Profile}
-use Rattle.vipr_command.specs.Args.{are_taken, asked, asked_by, command_word, file_named, form_asked, line, names_profile, profile_named, words_fault}
-use Rattle.vipr_command.specs.declared.task.Job.{Job}
-use Rattle.vipr_command.specs.declared.task.Task.{Task}
-use Rattle.vipr_command.specs.declared.task.Task.TheVariants.{Check, Explain, Show, Tighten}
+use Rattle.vipr_command.specs.Args.{are_accepted, request_of, asked_by, command_word, file_named, form_asked, line, names_profile, profile_named, words_fault}
+use Rattle.vipr_command.specs.declared.request.Job.{Job}
+use Rattle.vipr_command.specs.declared.request.Task.{Task}
+use Rattle.vipr_command.specs.declared.request.Task.TheVariants.{Check, Explain, Show, Tighten}
 
 pub is_simple_line : is_simple line ≡ true
 unfolding line
@@ -127,7 +127,7 @@ failed_on (Err y) e kinds h k = subst (HasKind kinds) (sym h) k
 
 pub is_asked : (words : List Text) (j : Job) (name : Text) (rows : List Row) → subcommand_of line words ≡ Some (name, rows) → command_word j.command ≡ name → Some j.profile ≡ profile_named (first_of (codes "profile") rows) → j.form ≡ form_asked (first_of (codes "compact") rows)
     → option_map (λ s. s.now) j.file ≡ file_named (first_of (codes "file") rows) → option_map (λ s. s.now) j.out ≡ file_named (first_of (codes "out") rows)
-    → asked_by words ≡ Some (asked j)
+    → asked_by words ≡ Some (request_of j)
 is_asked words j name rows e n p g f o = rw (e, n, p, g, f, o) refl
 
 -- ---- the profile
@@ -140,11 +140,11 @@ and_second : (a b : Bool) → (a && b) ≡ true → b ≡ true
 and_second true b h = h
 and_second false b h = cc
 
-pub taken_by_clap : (words : List Text) → are_taken words ≡ true → takes line words ≡ true
-taken_by_clap words h = and_first (takes line words) (names_profile words) h
+pub accepted_by_clap : (words : List Text) → are_accepted words ≡ true → takes line words ≡ true
+accepted_by_clap words h = and_first (takes line words) (names_profile words) h
 
-pub profile_taken : (words : List Text) → are_taken words ≡ true → names_profile words ≡ true
-profile_taken words h = and_second (takes line words) (names_profile words) h
+pub profile_accepted : (words : List Text) → are_accepted words ≡ true → names_profile words ≡ true
+profile_accepted words h = and_second (takes line words) (names_profile words) h
 
 among_first : (k : ErrorKind) (a b : Kinds) → IsAmong k a → IsAmong k (or_else a b)
 among_first k [] b h = absurd h
@@ -167,8 +167,8 @@ module _ (words : List Text) (name : Text) (rows : List Row) (e : subcommand_of 
   profile_fine p h f = later_fault (fault_of line words) (names_profile words) f ∙ ap (λ b. if b then [] else InvalidValue ∷ []) (names_by (Some p) h)
 
   module _ (h : None ≡ profile_named (first_of (codes "profile") rows)) where
-    pub never_taken : are_taken words ≡ true → ⊥
-    never_taken t = let a = profile_taken words t in let b = names_by None h in let bad : true ≡ false = sym a ∙ b in cc
+    pub never_accepted : are_accepted words ≡ true → ⊥
+    never_accepted t = let a = profile_accepted words t in let b = names_by None h in let bad : true ≡ false = sym a ∙ b in cc
 
     pub profile_wrong : fault_of line words ≡ [] → (x : Error) → kind_of x ≡ InvalidValue → HasKind (words_fault words) x
     profile_wrong f x k =

@@ -7,8 +7,8 @@ use Rattle.vipr_bytes.specs.Known.{IfKnown}
 use Rattle.vipr_check.specs.Explanation.{explained_text}
 use Rattle.vipr_check.specs.declared.detail.Detail.{Detail}
 use Rattle.vipr_check.specs.declared.verdict.Verdict.{Verdict}
-use Rattle.vipr_command.specs.declared.fault.Fault.{Fault}
-use Rattle.vipr_command.specs.declared.fault.Fault.TheVariants.{Memory, Read, Write}
+use Rattle.vipr_command.specs.declared.fault.CommandFault.{CommandFault}
+use Rattle.vipr_command.specs.declared.fault.CommandFault.TheVariants.{Memory, Read, Write}
 use Rattle.vipr_command.specs.Output.{Took, Prints, after_first}
 use Rattle.vipr_command.specs.Run.{KnownInput, PrintsExplanation, status_for}
 
@@ -21,7 +21,7 @@ module _ (P : Profile) (k : KnownInput) (v : Verdict) (x : Detail) (explained : 
   pub printed : (s : ℕ) → s ≡ status_for v → Prints (Some (explained_text v x)) old new (Ok tt) → PrintsExplanation P k old new (Ok s)
   printed s is (text, same, took) = (v, x, explained, is, subst (λ t. Took old new t (Ok tt)) same took)
 
-  pub not_printed : (f : Fault) → Prints (Some (explained_text v x)) old new (Err f) → PrintsExplanation P k old new (Err f)
+  pub not_printed : (f : CommandFault) → Prints (Some (explained_text v x)) old new (Err f) → PrintsExplanation P k old new (Err f)
   not_printed Read p = absurd p
   not_printed Memory p = p
   not_printed (Write n) (text, same, took) = (v, x, explained, subst (λ t. Took old new t (Err (after_first n))) same took)

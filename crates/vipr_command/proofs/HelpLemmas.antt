@@ -1,14 +1,14 @@
 -- No walk over words that are at no fault stops at clap's own subcommand `help`.
-use Rattle.std.proofs.Common.{◌≡◌, ◌∙◌, ap, refl, sym, true≢false, ℕ, List, [], ◌∷◌, ◌++◌, Option, Some, None, Bool, true, false, codes, if◌then◌else◌, ◌&&◌, ◌||◌, not, fold, is_some}
+use Rattle.std.proofs.Common.{◌≡◌, ◌∙◌, ap, refl, sym, ℕ, List, [], ◌∷◌, ◌++◌, Option, Some, None, Bool, true, false, codes, if◌then◌else◌, ◌&&◌, ◌||◌, not, fold}
 use Rattle.std.specs.Prelude.{⊤}
 use Rattle.std.specs.Str.{bytes_eq}
 use Rattle.std.proofs.lemmas.Slice.Eq.{bytes_eq-Decides}
-use Rattle.clap.specs.Faults.{other_fault, step_fault, turn_fault, walk_fault, word_fault}
+use Rattle.clap.specs.Faults.{other_fault, turn_fault, walk_fault, word_fault}
 use Rattle.clap.specs.Kinds.{Kinds, or_else}
 use Rattle.clap.specs.declared.error.ErrorKind.TheVariants.{DisplayHelp, InvalidSubcommand}
 use Rattle.clap.specs.Lexer.{long_of, short_of}
 use Rattle.clap.specs.Simple.{Shape}
-use Rattle.clap.specs.Walk.{Held, Names, Outcome, Rule, Step, Text, Waiting, Walk, after_flag, after_step, answers_to, arg_by_index, bundle, idle, long_or_other, long_met, long_word, next, option, plain_word, positional, short_or_plain, short_word, subcommand, subcommand_met, subcommand_or_other, to_positional, trailing, value, walked, word_met, done, waits, plain, refused, arg_by_long}
+use Rattle.clap.specs.Walk.{Held, Names, Outcome, Rule, Step, Text, Waiting, Walk, after_flag, after_step, answers_to, arg_by_index, bundle, idle, long_or_other, long_met, next, option, plain_word, positional, short_or_plain, subcommand, subcommand_met, subcommand_or_other, to_positional, trailing, value, walked, word_met, done, waits, plain, refused, arg_by_long}
 
 -- a walk that stopped didn't stop at `help`
 abbrev pub NotHelp : Option (Text × List Text) → Type 0

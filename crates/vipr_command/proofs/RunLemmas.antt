@@ -16,19 +16,19 @@ use Rattle.vipr_tighten.specs.declared.outcome.Outcome.{Outcome}
 use Rattle.vipr_tighten.specs.declared.outcome.Outcome.TheVariants.{Tightened, Refused}
 use Rattle.vipr_tighten.specs.declared.outcome.TightenFault.{TightenFault}
 use Rattle.vipr_tighten.specs.declared.outcome.TightenFault.TheVariants as tighten
-use Rattle.vipr_command.specs.Args.{are_taken, asked, asked_by, words_fault}
-use Rattle.vipr_command.specs.Run.{AnswersError, Declines, Does, Fits, KnownInput, Obeys, exit_status, known_by, read_from, unknown_input}
+use Rattle.vipr_command.specs.Args.{are_accepted, request_of, asked_by, words_fault}
+use Rattle.vipr_command.specs.Run.{AnswersError, Declines, Does, IsStatusFor, KnownInput, RunsOver, exit_status, known_by, read_from, unknown_input}
 use Rattle.vipr_command.specs.Show.{Kind, ShowsText}
 use Rattle.vipr_command.proofs.ShowLemmas.{stays}
-use Rattle.vipr_command.specs.declared.fault.Fault.{Fault}
-use Rattle.vipr_command.specs.declared.fault.Fault.TheVariants.{Memory, Read, Write}
+use Rattle.vipr_command.specs.declared.fault.CommandFault.{CommandFault}
+use Rattle.vipr_command.specs.declared.fault.CommandFault.TheVariants.{Memory, Read, Write}
 use Rattle.vipr_command.specs.declared.show.Shown.{Shown}
 use Rattle.vipr_command.specs.declared.show.Shown.TheVariants as shown
-use Rattle.vipr_command.specs.declared.task.Job.{Job}
-use Rattle.vipr_command.specs.declared.task.Task.{Task}
-use Rattle.vipr_command.specs.declared.task.Task.TheVariants.{Check, Explain, Show, Tighten}
+use Rattle.vipr_command.specs.declared.request.Job.{Job}
+use Rattle.vipr_command.specs.declared.request.Task.{Task}
+use Rattle.vipr_command.specs.declared.request.Task.TheVariants.{Check, Explain, Show, Tighten}
 
-pub declined : (words : List Text) (k : KnownInput) (e : Error) (old new : Option Output) (r : Result ℕ Fault) → HasKind (words_fault words) e → AnswersError (kind_of e) old new r → Obeys words k old new r
+pub declined : (words : List Text) (k : KnownInput) (e : Error) (old new : Option Output) (r : Result ℕ CommandFault) → HasKind (words_fault words) e → AnswersError (kind_of e) old new r → RunsOver words k old new r
 declined words k e old new r (inl memory) (inl (other, d)) = absurd (other memory)
 declined words k e old new r (inr among) (inl (other, d)) = inr (inl (kind_of e, among, d))
 declined words k e old new r has (inr (memory, l)) = inr (inr l)
@@ -38,23 +38,23 @@ not_true true n = absurd (n refl)
 not_true false n = refl
 
 -- status 2 is for words that aren't taken
-pub wrong_words : (words : List Text) (k : ErrorKind) (old new : Option Output) (r : Result ℕ Fault) → (are_taken words ≡ true → k ≡ OutOfMemory) → AnswersError k old new r → IfOk r (λ s. s ≡ 2 → are_taken words ≡ false)
+pub wrong_words : (words : List Text) (k : ErrorKind) (old new : Option Output) (r : Result ℕ CommandFault) → (are_accepted words ≡ true → k ≡ OutOfMemory) → AnswersError k old new r → IfOk r (λ s. s ≡ 2 → are_accepted words ≡ false)
 wrong_words words k old new (Err f) h a = tt
-wrong_words words k old new (Ok s) h (inl (other, d)) = λ two. not_true (are_taken words) (λ t. other (h t))
+wrong_words words k old new (Ok s) h (inl (other, d)) = λ two. not_true (are_accepted words) (λ t. other (h t))
 wrong_words words k old new (Ok s) h (inr (memory, (is, stays))) = λ two. let bad : Ok s ≡ Err Memory = is in cc
 
-pub all_told : (source : Option Input) (words : List Text) (old new : Option Output) (r : Result ℕ Fault) → ((k : KnownInput) → Obeys words k old new r) → IfKnown source (λ i. Obeys words (known_by i) old new r)
-all_told None words old new r given = tt
-all_told (Some i) words old new r given = λ short. given (known_by i)
+pub all_known : (source : Option Input) (words : List Text) (old new : Option Output) (r : Result ℕ CommandFault) → ((k : KnownInput) → RunsOver words k old new r) → IfKnown source (λ i. RunsOver words (known_by i) old new r)
+all_known None words old new r given = tt
+all_known (Some i) words old new r given = λ short. given (known_by i)
 
-declines_untold : (k : ErrorKind) (old new : Option Output) (r : Result ℕ Fault) → Declines k old new r → Declines k None None r
+declines_untold : (k : ErrorKind) (old new : Option Output) (r : Result ℕ CommandFault) → Declines k old new r → Declines k None None r
 declines_untold k old new (Ok s) (inl (help, is, (text, took))) = inl (help, is, (text, tt))
 declines_untold k old new (Ok s) (inr (other, is, stays)) = inr (other, is, tt)
 declines_untold k old new (Err Read) d = d
 declines_untold k old new (Err Memory) d = tt
 declines_untold k old new (Err (Write n)) (help, (text, took)) = (help, (text, tt))
 
-shows_untold : (F : Form) (k : Kind) (old new : Option Output) (r : Result Shown Fault) → ShowsText F k old new r → ShowsText F k None None r
+shows_untold : (F : Form) (k : Kind) (old new : Option Output) (r : Result Shown CommandFault) → ShowsText F k old new r → ShowsText F k None None r
 shows_untold F k old new (Ok shown.Whole) (c, is, took) = (c, is, tt)
 shows_untold F k old new (Ok (shown.Refused x)) (is, stays) = (is, tt)
 shows_untold F k old new (Err Read) (is, stays) = (is, tt)
@@ -62,17 +62,17 @@ shows_untold F k old new (Err Memory) stays = tt
 shows_untold F k old new (Err (Write n)) (c, is, took) = (c, is, tt)
 
 tightens_untold : (P : Profile) (F : Form) (k : KindOfText) (old new : Option Output) (r : Result Outcome TightenFault) → TightensText P F k old new r → TightensText P F k None None r
-tightens_untold P F k old new (Ok (Tightened a b p q)) (c, goal, is, proof, tight, (figures, taken)) = (c, goal, is, proof, tight, (figures, tt))
+tightens_untold P F k old new (Ok (Tightened a b p q)) (c, goal, is, proof, tight, (figures, accepted)) = (c, goal, is, proof, tight, (figures, tt))
 tightens_untold P F k old new (Ok (Refused x)) (is, stays) = (is, tt)
 tightens_untold P F k old new (Err tighten.Read) (is, stays) = (is, tt)
 tightens_untold P F k old new (Err (tighten.Memory n)) (is, stays) = (is, tt)
-tightens_untold P F k old new (Err (tighten.Write n)) (c, goal, is, proof, tight, (less, taken)) = (c, goal, is, proof, tight, (less, tt))
+tightens_untold P F k old new (Err (tighten.Write n)) (c, goal, is, proof, tight, (less, accepted)) = (c, goal, is, proof, tight, (less, tt))
 
-does_untold : (t : Task) (P : Profile) (F : Form) (out : Option Text) (k : KnownInput) (old new : Option Output) (r : Result ℕ Fault) → Does t P F out k old new r → Does t P F out k None None r
-does_untold Check P F out k old new (Ok s) (v, judged, is, took) = (v, judged, is, tt)
-does_untold Check P F out k old new (Err Read) (judged, stays) = (judged, tt)
+does_untold : (t : Task) (P : Profile) (F : Form) (out : Option Text) (k : KnownInput) (old new : Option Output) (r : Result ℕ CommandFault) → Does t P F out k old new r → Does t P F out k None None r
+does_untold Check P F out k old new (Ok s) (v, decided, is, took) = (v, decided, is, tt)
+does_untold Check P F out k old new (Err Read) (decided, stays) = (decided, tt)
 does_untold Check P F out k old new (Err Memory) stays = tt
-does_untold Check P F out k old new (Err (Write n)) (v, judged, took) = (v, judged, tt)
+does_untold Check P F out k old new (Err (Write n)) (v, decided, took) = (v, decided, tt)
 does_untold Explain P F out k old new (Ok s) (v, x, explained, is, took) = (v, x, explained, is, tt)
 does_untold Explain P F out k old new (Err Read) (explained, stays) = (explained, tt)
 does_untold Explain P F out k old new (Err Memory) stays = tt
@@ -82,12 +82,12 @@ does_untold Show P F out k old new (Err f) shows = shows_untold F k.kind old new
 does_untold Tighten P F None k old new r (x, is, tightens) = (x, is, tightens_untold P F (k.proof P) old new x tightens)
 does_untold Tighten P F (Some out) k old new r (tightened, stays) = (tightened, tt)
 
-untold : (words : List Text) (k : KnownInput) (old new : Option Output) (r : Result ℕ Fault) → Obeys words k old new r → Obeys words k None None r
-untold words k old new r (inl (t, P, F, file, out, asked, does)) = inl (t, P, F, file, out, asked, does_untold t (profile_of P) F out (read_from file k) old new r does)
+untold : (words : List Text) (k : KnownInput) (old new : Option Output) (r : Result ℕ CommandFault) → RunsOver words k old new r → RunsOver words k None None r
+untold words k old new r (inl (t, P, F, file, out, request_of, does)) = inl (t, P, F, file, out, request_of, does_untold t (profile_of P) F out (read_from file k) old new r does)
 untold words k old new r (inr (inl (e, among, declines))) = inr (inl (e, among, declines_untold e old new r declines))
 untold words k old new r (inr (inr (is, stays))) = inr (inr (is, tt))
 
-pub fits : (words : List Text) (old new : Option Output) (r : Result ℕ Fault) → Obeys words unknown_input old new r → Fits words (exit_status r)
+pub fits : (words : List Text) (old new : Option Output) (r : Result ℕ CommandFault) → RunsOver words unknown_input old new r → IsStatusFor words (exit_status r)
 fits words old new r obeys = (r, refl, untold words unknown_input old new r obeys)
 
 -- a file that can't be opened
@@ -111,13 +111,13 @@ of_known : (file : Option (Bor (List ℕ))) (k : KnownInput) (P : KnownInput →
 of_known None k P p q = q refl
 of_known (Some f) k P p q = p
 
-module _ (words : List Text) (j : Job) (is : asked_by words ≡ Some (asked j)) (old new : Option Output) (r : Result ℕ Fault) where
+module _ (words : List Text) (j : Job) (is : asked_by words ≡ Some (request_of j)) (old new : Option Output) (r : Result ℕ CommandFault) where
   abbrev DoesJob : KnownInput → Type 0
   DoesJob k = Does j.command (profile_of j.profile) j.form (named j.out) k old new r
 
-  pub obeyed : DoesJob unknown_input → Obeys words unknown_input old new r
+  pub obeyed : DoesJob unknown_input → RunsOver words unknown_input old new r
   obeyed does = inl (j.command, j.profile, j.form, named j.file, named j.out, is, of_unknown j.file DoesJob does)
 
-  pub obeyed_told : (source : Option Input) → DoesJob unknown_input → (IsNone j.file → IfKnown source (λ i. DoesJob (known_by i))) → IfKnown source (λ i. Obeys words (known_by i) old new r)
-  obeyed_told None does told = tt
-  obeyed_told (Some i) does told = λ short. inl (j.command, j.profile, j.form, named j.file, named j.out, is, of_known j.file (known_by i) DoesJob does (λ none. told none short))
+  pub ran_known : (source : Option Input) → DoesJob unknown_input → (IsNone j.file → IfKnown source (λ i. DoesJob (known_by i))) → IfKnown source (λ i. RunsOver words (known_by i) old new r)
+  ran_known None does known = tt
+  ran_known (Some i) does known = λ short. inl (j.command, j.profile, j.form, named j.file, named j.out, is, of_known j.file (known_by i) DoesJob does (λ none. known none short))

@@ -16,8 +16,8 @@ use Rattle.vipr_scan.specs.declared.error.TextError.TheVariants as error
 use Rattle.vipr_check.specs.declared.verdict.Place.TheVariants.{Byte}
 use Rattle.vipr_command.specs.Output.{Stays, Took, after_first}
 use Rattle.vipr_command.specs.Show.{Kind, ShowsText, WritesText, text_spelling, text_read}
-use Rattle.vipr_command.specs.declared.fault.Fault.{Fault}
-use Rattle.vipr_command.specs.declared.fault.Fault.TheVariants.{Memory, Read, Write}
+use Rattle.vipr_command.specs.declared.fault.CommandFault.{CommandFault}
+use Rattle.vipr_command.specs.declared.fault.CommandFault.TheVariants.{Memory, Read, Write}
 use Rattle.vipr_command.specs.declared.show.Shown.{Shown}
 use Rattle.vipr_command.specs.declared.show.Shown.TheVariants.{Refused, Whole}
 
@@ -25,7 +25,7 @@ true_not_false : true ≡ false → ⊥
 true_not_false h = cc
 
 -- what was written is the certificate's text
-pub shown_by : (F : Form) (old new : Option Output) (text : List ℕ) (c : Certificate) (r : Result Shown Fault) → text ≡ text_in F c → WritesText old new text r → (k : Kind) → k.Spelled c → ShowsText F k old new r
+pub shown_by : (F : Form) (old new : Option Output) (text : List ℕ) (c : Certificate) (r : Result Shown CommandFault) → text ≡ text_in F c → WritesText old new text r → (k : Kind) → k.Spelled c → ShowsText F k old new r
 shown_by F old new text c (Ok Whole) is w k s = (c, s, subst (λ t. Took old new t (Ok tt)) is w)
 shown_by F old new text c (Ok (Refused r)) is w k s = absurd w
 shown_by F old new text c (Err Read) is w k s = absurd w
@@ -33,7 +33,7 @@ shown_by F old new text c (Err Memory) is w k s = w
 shown_by F old new text c (Err (Write n)) is w k s = (c, s, subst (λ t. Took old new t (Err (after_first n))) is w)
 
 -- of a certificate that was read
-pub exact_by : (F : Form) (old new : Option Output) (source : Option Input) (c : Certificate) (r : Result Shown Fault) → ((k : Kind) → k.Spelled c → ShowsText F k old new r)
+pub exact_by : (F : Form) (old new : Option Output) (source : Option Input) (c : Certificate) (r : Result Shown CommandFault) → ((k : Kind) → k.Spelled c → ShowsText F k old new r)
     → IfKnown source (λ i. certificate_read (text_of i) ≡ Ok c) → IfKnown source (λ i. ShowsText F (text_read (certificate_read (text_of i))) old new r)
 exact_by F old new None c r given h = tt
 exact_by F old new (Some i) c r given h = λ short. given (text_read (certificate_read (text_of i))) (h short)
@@ -41,7 +41,7 @@ exact_by F old new (Some i) c r given h = λ short. given (text_read (certificat
 whole_is : (i : Input) → i.fails ≡ false → text_of i ≡ whole_text i.bytes
 whole_is i e = ap (λ b. text_of (record { bytes = i.bytes; fails = b })) e
 
-pub spelled_by : (F : Form) (old new : Option Output) (source : Option Input) (c : Certificate) (r : Result Shown Fault) → ((k : Kind) → k.Spelled c → ShowsText F k old new r)
+pub spelled_by : (F : Form) (old new : Option Output) (source : Option Input) (c : Certificate) (r : Result Shown CommandFault) → ((k : Kind) → k.Spelled c → ShowsText F k old new r)
     → IfKnown source (λ i. certificate_read (text_of i) ≡ Ok c) → IfWhole source (λ bytes. ShowsText F (text_spelling bytes) old new r)
 spelled_by F old new None c r given h = tt
 spelled_by F old new (Some i) c r given h = λ short whole. given (text_spelling i.bytes) ((reads_texts i.bytes c).0 (subst (λ r. certificate_read r ≡ Ok c) (whole_is i whole) (h short)))

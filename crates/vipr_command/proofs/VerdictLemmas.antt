@@ -3,17 +3,17 @@ use Rattle.std.proofs.Common.{◌≡◌, ℕ, Option, Some, Ok, Err, subst}
 use Rattle.vipr_spec.specs.Constraint.{Profile}
 use Rattle.vipr_bytes.specs.Output.{Output}
 use Rattle.vipr_check.specs.declared.verdict.Verdict.{Verdict}
-use Rattle.vipr_command.specs.declared.fault.Fault.{Fault}
-use Rattle.vipr_command.specs.declared.fault.Fault.TheVariants.{Memory, Read, Write}
+use Rattle.vipr_command.specs.declared.fault.CommandFault.{CommandFault}
+use Rattle.vipr_command.specs.declared.fault.CommandFault.TheVariants.{Memory, Read, Write}
 use Rattle.vipr_command.specs.Text.{verdict_lines}
 use Rattle.vipr_command.specs.Output.{Took, Prints, after_first}
 use Rattle.vipr_command.specs.Run.{KnownInput, PrintsVerdict, status_for}
 
-module _ (P : Profile) (k : KnownInput) (v : Verdict) (is_verdict : k.Judged P (Ok v)) (old new : Option Output) where
+module _ (P : Profile) (k : KnownInput) (v : Verdict) (is_verdict : k.Checked P (Ok v)) (old new : Option Output) where
   pub verdict_printed : (s : ℕ) → s ≡ status_for v → Prints (Some (verdict_lines v)) old new (Ok tt) → PrintsVerdict P k old new (Ok s)
   verdict_printed s is (text, same, took) = (v, is_verdict, is, subst (λ t. Took old new t (Ok tt)) same took)
 
-  pub verdict_not_printed : (f : Fault) → Prints (Some (verdict_lines v)) old new (Err f) → PrintsVerdict P k old new (Err f)
+  pub verdict_not_printed : (f : CommandFault) → Prints (Some (verdict_lines v)) old new (Err f) → PrintsVerdict P k old new (Err f)
   verdict_not_printed Read p = absurd p
   verdict_not_printed Memory p = p
   verdict_not_printed (Write n) (text, same, took) = (v, is_verdict, subst (λ t. Took old new t (Err (after_first n))) same took)

@@ -12,9 +12,9 @@ use Rattle.vipr_rules.specs.declared.profile.Profile.{Profile}
 use Rattle.vipr_rules.specs.declared.profile.Profile.TheVariants.{One, Two}
 use Rattle.vipr_write.specs.declared.form.Form.{Form}
 use Rattle.vipr_write.specs.declared.form.Form.TheVariants.{Canonical, Compact}
-use Rattle.vipr_command.specs.declared.task.Job.{Job}
-use Rattle.vipr_command.specs.declared.task.Task.{Task}
-use Rattle.vipr_command.specs.declared.task.Task.TheVariants.{Check, Explain, Show, Tighten}
+use Rattle.vipr_command.specs.declared.request.Job.{Job}
+use Rattle.vipr_command.specs.declared.request.Task.{Task}
+use Rattle.vipr_command.specs.declared.request.Task.TheVariants.{Check, Explain, Show, Tighten}
 
 -- `[FILE]`
 abbrev pub file_rule : Rule
@@ -110,8 +110,8 @@ asked_by words = option_map (λ p. (
   file_named (first_of (codes "out") p.1),
 )) (subcommand_of line words)
 
-abbrev pub asked : Job → Request
-asked j = (
+abbrev pub request_of : Job → Request
+request_of j = (
   command_word j.command,
   Some j.profile,
   j.form,
@@ -124,8 +124,8 @@ abbrev pub names_profile : List Text → Bool
 names_profile words = option_map_or (λ r. is_some r.1) (asked_by words) true
 
 -- clap takes the words, and their profile is one
-abbrev pub are_taken : List Text → Bool
-are_taken words = takes line words && names_profile words
+abbrev pub are_accepted : List Text → Bool
+are_accepted words = takes line words && names_profile words
 
 -- the kinds of error that the words may give: those of clap's parse, and then that of a wrong
 -- profile

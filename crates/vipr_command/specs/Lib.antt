@@ -1,7 +1,7 @@
 pub mod Args
 pub mod Text
 pub mod Output
-pub mod Respelled
+pub mod Spelling
 pub mod Show
 pub mod Tighten
 pub mod Run

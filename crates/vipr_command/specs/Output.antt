@@ -3,17 +3,17 @@ use Rattle.std.specs.Prelude.{◌≡◌, ℕ, List, Option, Some, IfSome, Result
 use Rattle.vipr_bytes.specs.Output.{Output}
 use Rattle.vipr_bytes.specs.Written.{Wrote}
 use Rattle.vipr_bytes.specs.declared.write.WriteFailed.{WriteFailed}
-use Rattle.vipr_command.specs.declared.fault.Fault.{Fault}
-use Rattle.vipr_command.specs.declared.fault.Fault.TheVariants.{Memory, Read, Write}
+use Rattle.vipr_command.specs.declared.fault.CommandFault.{CommandFault}
+use Rattle.vipr_command.specs.declared.fault.CommandFault.TheVariants.{Memory, Read, Write}
 
--- old is the writer's output before, where it tells that, and new the one afterwards.
+-- old is the writer's output before, if that is known, and new the one afterwards.
 -- The text was handed to it, with this result.
 abbrev pub Took : Option Output → Option Output → List ℕ → Result (Unit {0}) WriteFailed → Type 0
 Took old new text r = IfSome old (λ o. Wrote o new text r)
 
--- only the first n bytes were taken
+-- only the first n bytes were accepted
 abbrev pub after_first : ℕ → WriteFailed
-after_first n = record { taken = n }
+after_first n = record { accepted = n }
 
 -- nothing was handed to it
 abbrev pub Stays : Option Output → Option Output → Type 0
@@ -23,8 +23,8 @@ Stays old new = IfSome old (λ o. new ≡ Some o)
 abbrev pub IsText : Option (List ℕ) → List ℕ → Type 0
 IsText known text = IfSome known (λ t. text ≡ t)
 
--- Ok: the text was taken whole. Write: its first n bytes were, and no more. Memory: nothing was.
-abbrev pub Prints : Option (List ℕ) → Option Output → Option Output → Result (Unit {0}) Fault
+-- Ok: the text was accepted whole. Write: its first n bytes were, and no more. Memory: nothing was.
+abbrev pub Prints : Option (List ℕ) → Option Output → Option Output → Result (Unit {0}) CommandFault
     → Type 0
 Prints known old new (Ok u) = (text : List ℕ) × IsText known text × Took old new text (Ok tt)
 Prints known old new (Err Read) = ⊥

@@ -30,12 +30,12 @@ use Rattle.vipr_command.specs.Text.{verdict_lines}
 use Rattle.vipr_command.specs.Output.{Took, Stays, after_first}
 use Rattle.vipr_command.specs.Show.{Kind, ShowsText, any_text, text_read}
 use Rattle.vipr_command.specs.Tighten.{WritesFile, WritesTightened}
-use Rattle.vipr_command.specs.declared.fault.Fault.{Fault}
-use Rattle.vipr_command.specs.declared.fault.Fault.TheVariants.{Memory, Read, Write}
+use Rattle.vipr_command.specs.declared.fault.CommandFault.{CommandFault}
+use Rattle.vipr_command.specs.declared.fault.CommandFault.TheVariants.{Memory, Read, Write}
 use Rattle.vipr_command.specs.declared.show.Shown.{Shown}
 use Rattle.vipr_command.specs.declared.show.Shown.TheVariants as shown
-use Rattle.vipr_command.specs.declared.task.Task.{Task}
-use Rattle.vipr_command.specs.declared.task.Task.TheVariants.{Check, Explain, Show, Tighten}
+use Rattle.vipr_command.specs.declared.request.Task.{Task}
+use Rattle.vipr_command.specs.declared.request.Task.TheVariants.{Check, Explain, Show, Tighten}
 
 -- 0 where the certificate is verified, 1 where it is refused
 abbrev pub status_for : Verdict → ℕ
@@ -48,20 +48,20 @@ shown_status shown.Whole = 0
 shown_status (shown.Refused _) = 1
 
 -- 3 for every fault
-abbrev pub exit_status : Result ℕ Fault → ℕ
+abbrev pub exit_status : Result ℕ CommandFault → ℕ
 exit_status (Ok s) = s
 exit_status (Err f) = 3
 
-abbrev pub fault_for : CheckFault → Fault
+abbrev pub fault_for : CheckFault → CommandFault
 fault_for CheckRead = Read
 fault_for CheckMemory = Memory
 
-abbrev pub write_fault_for : WriteError → Fault
+abbrev pub write_fault_for : WriteError → CommandFault
 write_fault_for (write.Write n) = Write n
 write_fault_for (write.Memory n) = Memory
 
 -- what is printed for a fault, without the line feed
-abbrev pub fault_text : Fault → List ℕ
+abbrev pub fault_text : CommandFault → List ℕ
 fault_text Read = codes "fault read"
 fault_text Memory = codes "fault memory"
 fault_text (Write n) = codes "fault write after " ++ decimal n
@@ -69,7 +69,7 @@ fault_text (Write n) = codes "fault write after " ++ decimal n
 -- What is known of an input: which verdict it can have by a profile, and with which detail, which
 -- certificate it can spell, and of which proof by a profile it can be.
 pub record KnownInput : Type 1 where
-  pub Judged : Profile → Result Verdict CheckFault → Type 0
+  pub Checked : Profile → Result Verdict CheckFault → Type 0
   pub Explained : Profile → Result (Verdict × Detail) CheckFault → Type 0
   pub kind : Kind
   pub proof : Profile → KindOfText
@@ -77,7 +77,7 @@ pub record KnownInput : Type 1 where
 -- an input of which nothing is known
 abbrev pub unknown_input : KnownInput
 unknown_input = record {
-  Judged = λ _ _. ⊤;
+  Checked = λ _ _. ⊤;
   Explained = λ _ _. ⊤;
   kind = any_text;
   proof = λ _. any_kind;
@@ -87,26 +87,26 @@ unknown_input = record {
 abbrev pub known_by : Input → KnownInput
 known_by i =
     record {
-      Judged = λ P. Says (IsAnswer P (text_of i));
+      Checked = λ P. Says (IsAnswer P (text_of i));
       Explained = λ P. SaysInDetail (IsExplained P (text_of i));
       kind = text_read (certificate_read (text_of i));
       proof = λ P. kind_read P (text_of i);
     }
 
--- old is the output before, where it tells that, and new the one afterwards.
+-- old is the output before, if that is known, and new the one afterwards.
 -- The verdict's lines were printed, and the status is the verdict's.
 abbrev pub PrintsVerdict : Profile → KnownInput → Option Output → Option Output
-    → Result ℕ Fault → Type 0
-PrintsVerdict P k old new (Ok s) = (v : Verdict) × k.Judged P (Ok v) × (s ≡ status_for v)
+    → Result ℕ CommandFault → Type 0
+PrintsVerdict P k old new (Ok s) = (v : Verdict) × k.Checked P (Ok v) × (s ≡ status_for v)
     × Took old new (verdict_lines v) (Ok tt)
-PrintsVerdict P k old new (Err Read) = k.Judged P (Err CheckRead) × Stays old new
+PrintsVerdict P k old new (Err Read) = k.Checked P (Err CheckRead) × Stays old new
 PrintsVerdict P k old new (Err Memory) = Stays old new
-PrintsVerdict P k old new (Err (Write n)) = (v : Verdict) × k.Judged P (Ok v)
+PrintsVerdict P k old new (Err (Write n)) = (v : Verdict) × k.Checked P (Ok v)
     × Took old new (verdict_lines v) (Err (after_first n))
 
 -- the same of the verdict's lines with those of the detail
 abbrev pub PrintsExplanation : Profile → KnownInput → Option Output → Option Output
-    → Result ℕ Fault → Type 0
+    → Result ℕ CommandFault → Type 0
 PrintsExplanation P k old new (Ok s) = (v : Verdict) × (x : Detail) × k.Explained P (Ok (v, x))
     × (s ≡ status_for v) × Took old new (explained_text v x) (Ok tt)
 PrintsExplanation P k old new (Err Read) = k.Explained P (Err CheckRead) × Stays old new
@@ -115,7 +115,8 @@ PrintsExplanation P k old new (Err (Write n)) = (v : Verdict) × (x : Detail)
     × k.Explained P (Ok (v, x)) × Took old new (explained_text v x) (Err (after_first n))
 
 -- the text was printed in this form, or the certificate refused
-abbrev pub PrintsText : Form → KnownInput → Option Output → Option Output → Result ℕ Fault → Type 0
+abbrev pub PrintsText : Form → KnownInput → Option Output → Option Output → Result ℕ CommandFault
+    → Type 0
 PrintsText F k old new (Ok s) = (x : Shown) × (s ≡ shown_status x)
     × ShowsText F k.kind old new (Ok x)
 PrintsText F k old new (Err f) = ShowsText F k.kind old new (Err f)
@@ -123,13 +124,13 @@ PrintsText F k old new (Err f) = ShowsText F k.kind old new (Err f)
 -- the tightened certificate was written: to standard output, or else to a file, of which nothing
 -- is said, and nothing was printed
 abbrev pub PrintsTightened : Profile → Form → Option Text → KnownInput → Option Output
-    → Option Output → Result ℕ Fault → Type 0
+    → Option Output → Result ℕ CommandFault → Type 0
 PrintsTightened P F None k old new r = WritesTightened P F (k.proof P) old new r
 PrintsTightened P F (Some out) k old new r = WritesFile P F (k.proof P) r × Stays old new
 
 -- the task is done by this profile, in this form, with this OUT
 abbrev pub Does : Task → Profile → Form → Option Text → KnownInput → Option Output → Option Output
-    → Result ℕ Fault → Type 0
+    → Result ℕ CommandFault → Type 0
 Does Check P F out k old new r = PrintsVerdict P k old new r
 Does Explain P F out k old new r = PrintsExplanation P k old new r
 Does Show P F out k old new r = PrintsText F k old new r
@@ -141,7 +142,8 @@ read_from None k = k
 read_from (Some file) k = unknown_input
 
 -- the words ask for a task, which is done
-abbrev pub DoesAsked : List Text → KnownInput → Option Output → Option Output → Result ℕ Fault
+abbrev pub DoesAsked : List Text → KnownInput → Option Output → Option Output
+    → Result ℕ CommandFault
     → Type 0
 DoesAsked words k old new r = (t : Task) × (P : rules.Profile) × (F : Form)
     × (file out : Option Text)
@@ -152,7 +154,7 @@ abbrev pub IsHelp : ErrorKind → Type 0
 IsHelp k = (k ≡ kind.DisplayHelp) ⊎ (k ≡ kind.DisplayVersion)
 
 -- help was printed, or the words are wrong and nothing was
-abbrev pub Declines : ErrorKind → Option Output → Option Output → Result ℕ Fault → Type 0
+abbrev pub Declines : ErrorKind → Option Output → Option Output → Result ℕ CommandFault → Type 0
 Declines k old new (Ok s) = (IsHelp k × (s ≡ 0) × ((text : List ℕ) × Took old new text (Ok tt)))
     ⊎ ((¬ IsHelp k) × (s ≡ 2) × Stays old new)
 Declines k old new (Err Read) = ⊥
@@ -161,25 +163,27 @@ Declines k old new (Err (Write n)) = IsHelp k
     × ((text : List ℕ) × Took old new text (Err (after_first n)))
 
 -- memory ran out
-abbrev pub LacksMemory : Option Output → Option Output → Result ℕ Fault → Type 0
+abbrev pub LacksMemory : Option Output → Option Output → Result ℕ CommandFault → Type 0
 LacksMemory old new r = (r ≡ Err Memory) × Stays old new
 
 -- the same of any error of a command line
-abbrev pub AnswersError : ErrorKind → Option Output → Option Output → Result ℕ Fault → Type 0
+abbrev pub AnswersError : ErrorKind → Option Output → Option Output → Result ℕ CommandFault → Type 0
 AnswersError k old new r = ((k ≢ kind.OutOfMemory) × Declines k old new r)
     ⊎ ((k ≡ kind.OutOfMemory) × LacksMemory old new r)
 
--- the words aren't taken, or ask for help
-abbrev pub DeclinesWords : List Text → Option Output → Option Output → Result ℕ Fault → Type 0
+-- the words aren't accepted, or ask for help
+abbrev pub DeclinesWords : List Text → Option Output → Option Output → Result ℕ CommandFault
+    → Type 0
 DeclinesWords words old new r = (k : ErrorKind) × IsAmong k (words_fault words)
     × Declines k old new r
 
 -- what the words ask for is done, or they are declined, or memory ran out before that was known
-abbrev pub Obeys : List Text → KnownInput → Option Output → Option Output → Result ℕ Fault → Type 0
-Obeys words k old new r = DoesAsked words k old new r ⊎ DeclinesWords words old new r
+abbrev pub RunsOver : List Text → KnownInput → Option Output → Option Output → Result ℕ CommandFault
+    → Type 0
+RunsOver words k old new r = DoesAsked words k old new r ⊎ DeclinesWords words old new r
     ⊎ LacksMemory old new r
 
 -- an exit status for these words, whatever is read and printed
-abbrev pub Fits : List Text → ℕ → Type 0
-Fits words status = (r : Result ℕ Fault) × (status ≡ exit_status r)
-    × Obeys words unknown_input None None r
+abbrev pub IsStatusFor : List Text → ℕ → Type 0
+IsStatusFor words status = (r : Result ℕ CommandFault) × (status ≡ exit_status r)
+    × RunsOver words unknown_input None None r

@@ -9,8 +9,8 @@ use Rattle.vipr_bytes.specs.Output.{Output}
 use Rattle.vipr_check.specs.declared.verdict.Place.TheVariants.{Byte}
 use Rattle.vipr_check.specs.declared.verdict.Refusal.{Refusal}
 use Rattle.vipr_command.specs.Output.{Took, Stays, after_first}
-use Rattle.vipr_command.specs.declared.fault.Fault.{Fault}
-use Rattle.vipr_command.specs.declared.fault.Fault.TheVariants.{Memory, Read, Write}
+use Rattle.vipr_command.specs.declared.fault.CommandFault.{CommandFault}
+use Rattle.vipr_command.specs.declared.fault.CommandFault.TheVariants.{Memory, Read, Write}
 use Rattle.vipr_command.specs.declared.show.Shown.{Shown}
 use Rattle.vipr_command.specs.declared.show.Shown.TheVariants.{Refused, Whole}
 
@@ -21,11 +21,12 @@ pub record Kind : Type 1 where
   pub Unspelled : Refusal → Type 0
   pub Unread : Type 0
 
--- old is the writer's output before, where it tells that, and new the one afterwards.
--- Whole: the text of the certificate was taken, in this form.
--- Write: its first n bytes were taken, and no more.
+-- old is the writer's output before, if that is known, and new the one afterwards.
+-- Whole: the text of the certificate was accepted, in this form.
+-- Write: its first n bytes were accepted, and no more.
 -- Else nothing was written.
-abbrev pub ShowsText : Form → Kind → Option Output → Option Output → Result Shown Fault → Type 0
+abbrev pub ShowsText : Form → Kind → Option Output → Option Output → Result Shown CommandFault
+    → Type 0
 ShowsText F k old new (Ok Whole) = (c : Certificate) × k.Spelled c
     × Took old new (text_in F c) (Ok tt)
 ShowsText F k old new (Ok (Refused r)) = k.Unspelled r × Stays old new
@@ -35,7 +36,7 @@ ShowsText F k old new (Err (Write n)) = (c : Certificate) × k.Spelled c
     × Took old new (text_in F c) (Err (after_first n))
 
 -- The text was written, or its first n bytes were, or nothing.
-abbrev pub WritesText : Option Output → Option Output → List ℕ → Result Shown Fault → Type 0
+abbrev pub WritesText : Option Output → Option Output → List ℕ → Result Shown CommandFault → Type 0
 WritesText old new text (Ok Whole) = Took old new text (Ok tt)
 WritesText old new text (Ok (Refused r)) = ⊥
 WritesText old new text (Err Read) = ⊥

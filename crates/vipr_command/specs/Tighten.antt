@@ -8,34 +8,34 @@ use Rattle.vipr_tighten.specs.declared.outcome.Outcome.{Outcome}
 use Rattle.vipr_tighten.specs.declared.outcome.Outcome.TheVariants.{Tightened, Refused}
 use Rattle.vipr_tighten.specs.declared.outcome.TightenFault.{TightenFault}
 use Rattle.vipr_tighten.specs.declared.outcome.TightenFault.TheVariants as tighten
-use Rattle.vipr_command.specs.declared.fault.Fault.{Fault}
-use Rattle.vipr_command.specs.declared.fault.Fault.TheVariants.{Memory, Read, Write}
+use Rattle.vipr_command.specs.declared.fault.CommandFault.{CommandFault}
+use Rattle.vipr_command.specs.declared.fault.CommandFault.TheVariants.{Memory, Read, Write}
 
 -- 0 where the certificate is tightened, 1 where it is refused
 abbrev pub outcome_status : Outcome → ℕ
 outcome_status (Tightened kept removed before after) = 0
 outcome_status (Refused _) = 1
 
-abbrev pub tighten_fault_for : TightenFault → Fault
+abbrev pub tighten_fault_for : TightenFault → CommandFault
 tighten_fault_for tighten.Read = Read
 tighten_fault_for (tighten.Memory n) = Memory
 tighten_fault_for (tighten.Write n) = Write n
 
 -- the status, or the fault
-abbrev pub tighten_answer : Result Outcome TightenFault → Result ℕ Fault
+abbrev pub tighten_answer : Result Outcome TightenFault → Result ℕ CommandFault
 tighten_answer (Ok x) = Ok (outcome_status x)
 tighten_answer (Err e) = Err (tighten_fault_for e)
 
--- old is the sink's output before, where it tells that, and new the one afterwards.
+-- old is the sink's output before, if that is known, and new the one afterwards.
 -- A text of this kind was tightened to the sink, and the answer is that of what became of it.
 abbrev pub WritesTightened : Profile → Form → KindOfText → Option Output → Option Output
-    → Result ℕ Fault → Type 0
+    → Result ℕ CommandFault → Type 0
 WritesTightened P F k old new result = (r : Result Outcome TightenFault)
     × (result ≡ tighten_answer r) × TightensText P F k old new r
 
 -- What is answered of a text that was tightened to a file. Once it was written, the file may still
 -- fail to keep it, and then that is a failed write. All else is answered as it is.
-abbrev pub Settles : Result Outcome TightenFault → Result Outcome Fault → Type 0
+abbrev pub Settles : Result Outcome TightenFault → Result Outcome CommandFault → Type 0
 Settles (Ok (Tightened kept removed before after)) r =
     (r ≡ Ok (Tightened kept removed before after)) ⊎ ((n : ℕ) × (r ≡ Err (Write n)))
 Settles (Ok (Refused x)) r = r ≡ Ok (Refused x)
@@ -44,6 +44,6 @@ Settles (Err e) r = r ≡ Err (tighten_fault_for e)
 -- A text of this kind was tightened to a file, of which nothing is said, and the answer is that of
 -- what became of it; or the whole text of a tightened certificate was written, and the file failed
 -- to keep it.
-abbrev pub WritesFile : Profile → Form → KindOfText → Result ℕ Fault → Type 0
+abbrev pub WritesFile : Profile → Form → KindOfText → Result ℕ CommandFault → Type 0
 WritesFile P F k result = WritesTightened P F k None None result
     ⊎ ((n : ℕ) × (result ≡ Err (Write n)) × WritesTightened P F k None None (Ok 0))

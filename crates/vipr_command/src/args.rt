@@ -4,13 +4,13 @@ ghost use Rattle.std.specs.Prelude.{option_map, IsOkAnd};
 ghost use Rattle.clap.specs.Words.{FailsBy, app_of, kind_of, new_app, rule_of, with_rule};
 ghost use Rattle.clap.specs.Words.{with_subcommand};
 ghost use Rattle.clap.specs.declared.builder.command.Command.TheViews.{out-Command as fields_of};
-ghost use Rattle.vipr_command.specs.Args.{are_taken, asked, asked_by, bare, command_word};
+ghost use Rattle.vipr_command.specs.Args.{are_accepted, request_of, asked_by, bare, command_word};
 ghost use Rattle.vipr_command.specs.Args.{compact_rule, file_named, file_rule, form_asked};
 ghost use Rattle.vipr_command.specs.Args.{line};
 ghost use Rattle.vipr_command.specs.Args.{out_rule, profile_named, profile_rule, words_fault};
-ghost use Rattle.vipr_command.specs.declared.task.Task.{Task};
+ghost use Rattle.vipr_command.specs.declared.request.Task.{Task};
 
-use crate::task::{Job, Task};
+use crate::request::{Job, Task};
 use clap::error::ErrorKind;
 use clap::{Arg, ArgAction, Command, Error};
 use std::alloc::{AllocError, Global};
@@ -19,10 +19,11 @@ use vipr_write::Form;
 
 /// Reads a command line, the program's name first.
 ///
-/// The error is `clap`'s: help that was asked for, words that aren't taken, or want of memory.
+/// The error is `clap`'s: help that was asked for, words that aren't accepted, or want of memory.
 pub fn job<'a>(alloc: Global, words: &'a [&'a str]) -> Result<Job<'a>, Error>
-    ensures ok { IfOk result (λ j. asked_by (map (λ w. w.now) words.entry.now) ≡ Some (asked j)) }
-    ensures err { IfErr result (λ e. are_taken (map (λ w. w.now) words.entry.now) ≡ true
+    ensures ok { IfOk result
+        (λ j. asked_by (map (λ w. w.now) words.entry.now) ≡ Some (request_of j)) }
+    ensures err { IfErr result (λ e. are_accepted (map (λ w. w.now) words.entry.now) ≡ true
         → kind_of e ≡ ErrorKind.OutOfMemory) }
     ensures kinds { FailsBy (words_fault (map (λ w. w.now) words.entry.now)) result }
 {
@@ -33,15 +34,16 @@ pub fn job<'a>(alloc: Global, words: &'a [&'a str]) -> Result<Job<'a>, Error>
     read
 }
 
-/// The same by the program's commands.
+/// Reads a command line by the program's commands.
 fn job_by<'a>(
     alloc: Global,
     commands: &mut Command<'a>,
     words: &'a [&'a str],
 ) -> Result<Job<'a>, Error>
     requires { app_of commands.old ≡ line }
-    ensures ok { IfOk result (λ j. asked_by (map (λ w. w.now) words.entry.now) ≡ Some (asked j)) }
-    ensures err { IfErr result (λ e. are_taken (map (λ w. w.now) words.entry.now) ≡ true
+    ensures ok { IfOk result
+        (λ j. asked_by (map (λ w. w.now) words.entry.now) ≡ Some (request_of j)) }
+    ensures err { IfErr result (λ e. are_accepted (map (λ w. w.now) words.entry.now) ≡ true
         → kind_of e ≡ ErrorKind.OutOfMemory) }
     ensures kinds { FailsBy (words_fault (map (λ w. w.now) words.entry.now)) result }
 {
@@ -129,14 +131,14 @@ fn form_asked(flag: Option<&str>) -> Form
 fn command_line<'a>(alloc: Global) -> Result<Command<'a>, AllocError>
     ensures { IfOk result (λ c. app_of c ≡ line) }
 {
-    let check = judging(
+    let check = checking_command(
         alloc,
         "check",
         "Checks a certificate and prints the verdict",
         "Example: vipr check plan.vipr",
     );
     let line = with_command(no_commands(alloc), check)?;
-    let explain = judging(
+    let explain = checking_command(
         alloc,
         "explain",
         "Checks a certificate and prints the verdict with what shows it",
@@ -212,7 +214,7 @@ fn showing<'a>(
 }
 
 /// A subcommand that reads FILE and takes a profile.
-fn judging<'a>(
+fn checking_command<'a>(
     alloc: Global,
     name: &'a str,
     about: &'a str,
@@ -237,7 +239,7 @@ fn with_out<'a>(
         profile_rule) out_rule) compact_rule) }
     ensures local { IfOk result (λ c. (fields_of c).has_globals ≡ false) }
 {
-    judging(alloc, name, about, example)?
+    checking_command(alloc, name, about, example)?
         .arg(out(alloc))?
         .arg(compact(alloc))
 }

@@ -4,12 +4,12 @@ ghost use Rattle.vipr_bytes.specs.Known.{IfKnown};
 ghost use Rattle.vipr_rules.specs.Profile.{profile_of};
 ghost use Rattle.vipr_command.specs.Run.{PrintsVerdict, known_by, status_for, unknown_input};
 
-use crate::fault::Fault;
+use crate::fault::CommandFault;
 use crate::output::print;
 use std::alloc::Global;
 use vipr_bytes::{Sink, Source};
-use vipr_check::{Verdict, check_in};
-use vipr_rules::{LiveOnly, Profile};
+use vipr_check::{Table, Verdict, check_in};
+use vipr_rules::Profile;
 
 /// Prints the verdict on a certificate by the rules of a profile, and answers the exit status.
 pub fn print_verdict<R: Source + Drop, O: Sink>(
@@ -17,13 +17,13 @@ pub fn print_verdict<R: Source + Drop, O: Sink>(
     profile: Profile,
     source: R,
     out: &mut O,
-) -> Result<u8, Fault>
+) -> Result<u8, CommandFault>
     ensures any { PrintsVerdict (profile_of profile) unknown_input (O.output out.old)
         (O.output out.new) result }
-    ensures told { IfKnown (R.input source) (λ i. PrintsVerdict (profile_of profile) (known_by i)
+    ensures known { IfKnown (R.input source) (λ i. PrintsVerdict (profile_of profile) (known_by i)
         (O.output out.old) (O.output out.new) result) }
 {
-    let verdict = check_in::<R, LiveOnly>(alloc, profile, source)?;
+    let verdict = check_in::<R, Table>(alloc, profile, source)?;
     print(alloc, &format_args!("{verdict}\n"), out)?;
     Ok(status_of(&verdict))
 }

@@ -1,19 +1,20 @@
-//! The whole program, over what stands for the standard streams.
+//! The whole program, over any source and sinks in place of the standard streams.
 ghost use Rattle.std.specs.Prelude.{◌≡◌, ◌≤◌, IfOk, IsNone, false, map, option_map};
 ghost use Rattle.clap.specs.Words.{kind_of};
 ghost use Rattle.vipr_bytes.specs.Known.{IfKnown};
 ghost use Rattle.vipr_rules.specs.Profile.{profile_of};
-ghost use Rattle.vipr_command.specs.Args.{are_taken};
-ghost use Rattle.vipr_command.specs.Run.{AnswersError, Does, Fits, Obeys, known_by, unknown_input};
+ghost use Rattle.vipr_command.specs.Args.{are_accepted};
+ghost use Rattle.vipr_command.specs.Run.{AnswersError, Does, IsStatusFor, RunsOver, known_by};
+ghost use Rattle.vipr_command.specs.Run.{unknown_input};
 
 use crate::args::job;
 use crate::check::print_verdict;
 use crate::explain::print_explanation;
-use crate::fault::Fault;
+use crate::fault::CommandFault;
 use crate::line::{say, say_at_length};
 use crate::output::print;
+use crate::request::{Job, Task};
 use crate::show::print_text;
-use crate::task::{Job, Task};
 use crate::tighten::print_tightened;
 use clap::Error;
 use clap::error::ErrorKind;
@@ -25,7 +26,7 @@ use vipr_bytes::{FromRead, FromWrite, Sink, Source};
 
 /// Does what the words ask for, the program's name first, and answers the exit status: 0 where the
 /// certificate is verified, shown or tightened, or help was asked for, 1 where it is refused, 2 for
-/// words that aren't taken, 3 for a fault.
+/// words that aren't accepted, 3 for a fault.
 ///
 /// A verdict, an explanation, a certificate and help go to `out`; what is wrong with the words, a
 /// fault, the refusal of a certificate that was to be shown or tightened, and what was removed, to
@@ -38,12 +39,12 @@ pub fn run<H: AllocGlobal + Files, R: Read + Drop, O: Write, E: Write>(
     err: &mut E,
 ) -> u8
     ensures status { result ≤ 3 }
-    ensures usage { result ≡ 2 → are_taken (map (λ w. w.now) words.now) ≡ false }
+    ensures usage { result ≡ 2 → are_accepted (map (λ w. w.now) words.now) ≡ false }
     // The status is one that fits what the words ask for.
-    ensures fits { Fits (map (λ w. w.now) words.now) result }
+    ensures fits { IsStatusFor (map (λ w. w.now) words.now) result }
 {
     let source = FromRead::new(input);
-    match obey(rt, words, source, &mut FromWrite::new(out), err) {
+    match run_over(rt, words, source, &mut FromWrite::new(out), err) {
         Ok(status) => status,
         Err(fault) => {
             say(err, &format_args!("{fault}\n"));
@@ -52,23 +53,23 @@ pub fn run<H: AllocGlobal + Files, R: Read + Drop, O: Write, E: Write>(
     }
 }
 
-/// The same over any source and sink, but that a fault is not told.
+/// Runs a command over any source and sink; returns a fault instead of printing it.
 ///
 /// # Errors
 ///
 /// Where a file can't be opened or a read fails, a growth is refused, or a write fails.
-fn obey<H: AllocGlobal + Files, R: Source + Drop, O: Sink, E: Write>(
+fn run_over<H: AllocGlobal + Files, R: Source + Drop, O: Sink, E: Write>(
     rt: &H,
     words: &[&str],
     input: R,
     out: &mut O,
     err: &mut E,
-) -> Result<u8, Fault>
+) -> Result<u8, CommandFault>
     ensures status { IfOk result (λ s. s ≤ 2) }
-    ensures usage { IfOk result (λ s. s ≡ 2 → are_taken (map (λ w. w.now) words.now) ≡ false) }
-    ensures any { Obeys (map (λ w. w.now) words.now) unknown_input (O.output out.old)
+    ensures usage { IfOk result (λ s. s ≡ 2 → are_accepted (map (λ w. w.now) words.now) ≡ false) }
+    ensures any { RunsOver (map (λ w. w.now) words.now) unknown_input (O.output out.old)
         (O.output out.new) result }
-    ensures told { IfKnown (R.input input) (λ i. Obeys (map (λ w. w.now) words.now) (known_by i)
+    ensures known { IfKnown (R.input input) (λ i. RunsOver (map (λ w. w.now) words.now) (known_by i)
         (O.output out.old) (O.output out.new) result) }
 {
     match job(rt.alloc(), words) {
@@ -83,11 +84,11 @@ fn answer<O: Sink, E: Write>(
     error: &Error,
     out: &mut O,
     err: &mut E,
-) -> Result<u8, Fault>
+) -> Result<u8, CommandFault>
     ensures { AnswersError (kind_of error.now) (O.output out.old) (O.output out.new) result }
 {
     if error.kind() == ErrorKind::OutOfMemory {
-        return Err(Fault::Memory);
+        return Err(CommandFault::Memory);
     }
     if error.use_stderr() {
         say_at_length(alloc, err, error);
@@ -103,11 +104,11 @@ fn do_job<H: AllocGlobal + Files, R: Source + Drop, O: Sink, E: Write>(
     input: R,
     out: &mut O,
     err: &mut E,
-) -> Result<u8, Fault>
+) -> Result<u8, CommandFault>
     ensures any { Does job.now.command (profile_of job.now.profile) job.now.form
         (option_map (λ s. s.now) job.now.out) unknown_input (O.output out.old) (O.output out.new)
         result }
-    ensures told { IsNone job.now.file → IfKnown (R.input input)
+    ensures known { IsNone job.now.file → IfKnown (R.input input)
         (λ i. Does job.now.command (profile_of job.now.profile) job.now.form
         (option_map (λ s. s.now) job.now.out) (known_by i) (O.output out.old) (O.output out.new)
         result) }
@@ -116,7 +117,7 @@ fn do_job<H: AllocGlobal + Files, R: Source + Drop, O: Sink, E: Write>(
         None => do_task(rt, job, input, out, err),
         Some(path) => match File::open(rt, path) {
             Ok(file) => do_task(rt, job, FromRead::new(file), out, err),
-            Err(_) => Err(Fault::Read),
+            Err(_) => Err(CommandFault::Read),
         },
     }
 }
@@ -127,11 +128,11 @@ fn do_task<H: AllocGlobal + Files, R: Source + Drop, O: Sink, E: Write>(
     source: R,
     out: &mut O,
     err: &mut E,
-) -> Result<u8, Fault>
+) -> Result<u8, CommandFault>
     ensures any { Does job.now.command (profile_of job.now.profile) job.now.form
         (option_map (λ s. s.now) job.now.out) unknown_input (O.output out.old) (O.output out.new)
         result }
-    ensures told { IfKnown (R.input source)
+    ensures known { IfKnown (R.input source)
         (λ i. Does job.now.command (profile_of job.now.profile) job.now.form
         (option_map (λ s. s.now) job.now.out) (known_by i) (O.output out.old) (O.output out.new)
         result) }

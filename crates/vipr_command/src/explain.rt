@@ -5,7 +5,7 @@ ghost use Rattle.vipr_rules.specs.Profile.{profile_of};
 ghost use Rattle.vipr_command.specs.Run.{PrintsExplanation, known_by, unknown_input};
 
 use crate::check::status_of;
-use crate::fault::Fault;
+use crate::fault::CommandFault;
 use crate::output::print;
 use std::alloc::Global;
 use vipr_bytes::{Sink, Source};
@@ -19,10 +19,10 @@ pub fn print_explanation<R: Source + Drop, O: Sink>(
     profile: Profile,
     source: R,
     out: &mut O,
-) -> Result<u8, Fault>
+) -> Result<u8, CommandFault>
     ensures any { PrintsExplanation (profile_of profile) unknown_input (O.output out.old)
         (O.output out.new) result }
-    ensures told { IfKnown (R.input source)
+    ensures known { IfKnown (R.input source)
         (λ i. PrintsExplanation (profile_of profile) (known_by i) (O.output out.old)
         (O.output out.new) result) }
 {

@@ -2,7 +2,7 @@
 ghost use Rattle.std.specs.Prelude.{◌≡◌, Some};
 ghost use Rattle.vipr_command.specs.Run.{fault_for, fault_text, write_fault_for};
 ghost use Rattle.vipr_command.specs.Tighten.{tighten_fault_for};
-ghost use Rattle.vipr_command.specs.declared.fault.Fault.TheVariants.{Memory, Write};
+ghost use Rattle.vipr_command.specs.declared.fault.CommandFault.TheVariants.{Memory, Write};
 
 use std::alloc::AllocError;
 use std::fmt;
@@ -13,73 +13,73 @@ use vipr_write::WriteError;
 
 /// Why a command was cut short.
 #[derive(Clone, Copy, Debug, PartialEq, Eq)]
-pub enum Fault {
+pub enum CommandFault {
     Read,
     Memory,
     /// The output refused more bytes than these.
     Write { taken: u64 },
 }
 
-impl Display for Fault {
+impl Display for CommandFault {
     ghost output = { λ fault. Some (fault_text fault) };
 
     fn fmt<W: fmt::Write>(&self, f: &mut Formatter<W>) -> fmt::Result {
         match self {
-            Fault::Read => f.write_str("fault read"),
-            Fault::Memory => f.write_str("fault memory"),
-            Fault::Write { taken } => write!(f, "fault write after {taken}"),
+            CommandFault::Read => f.write_str("fault read"),
+            CommandFault::Memory => f.write_str("fault memory"),
+            CommandFault::Write { taken } => write!(f, "fault write after {taken}"),
         }
     }
 }
 
-impl From<AllocError> for Fault {
-    ghost from_gives = { λ _ told. told ≡ Memory };
+impl From<AllocError> for CommandFault {
+    ghost from_gives = { λ _ answer. answer ≡ Memory };
 
-    fn from(_error: AllocError) -> Fault {
-        Fault::Memory
+    fn from(_error: AllocError) -> CommandFault {
+        CommandFault::Memory
     }
 }
 
-impl From<vipr_check::Fault> for Fault {
-    ghost from_gives = { λ fault told. told ≡ fault_for fault };
+impl From<vipr_check::Fault> for CommandFault {
+    ghost from_gives = { λ fault answer. answer ≡ fault_for fault };
 
-    fn from(fault: vipr_check::Fault) -> Fault {
+    fn from(fault: vipr_check::Fault) -> CommandFault {
         match fault {
-            vipr_check::Fault::Read => Fault::Read,
-            vipr_check::Fault::Memory => Fault::Memory,
+            vipr_check::Fault::Read => CommandFault::Read,
+            vipr_check::Fault::Memory => CommandFault::Memory,
         }
     }
 }
 
-impl From<WriteError> for Fault {
-    ghost from_gives = { λ error told. told ≡ write_fault_for error };
+impl From<WriteError> for CommandFault {
+    ghost from_gives = { λ error answer. answer ≡ write_fault_for error };
 
-    fn from(error: WriteError) -> Fault {
+    fn from(error: WriteError) -> CommandFault {
         match error {
-            WriteError::Write { taken } => Fault::Write { taken },
-            WriteError::Memory { taken: _ } => Fault::Memory,
+            WriteError::Write { taken } => CommandFault::Write { taken },
+            WriteError::Memory { taken: _ } => CommandFault::Memory,
         }
     }
 }
 
-impl From<TightenFault> for Fault {
-    ghost from_gives = { λ fault told. told ≡ tighten_fault_for fault };
+impl From<TightenFault> for CommandFault {
+    ghost from_gives = { λ fault answer. answer ≡ tighten_fault_for fault };
 
-    fn from(fault: TightenFault) -> Fault {
+    fn from(fault: TightenFault) -> CommandFault {
         match fault {
-            TightenFault::Read => Fault::Read,
-            TightenFault::Memory { taken: _ } => Fault::Memory,
-            TightenFault::Write { taken } => Fault::Write { taken },
+            TightenFault::Read => CommandFault::Read,
+            TightenFault::Memory { taken: _ } => CommandFault::Memory,
+            TightenFault::Write { taken } => CommandFault::Write { taken },
         }
     }
 }
 
-impl From<WriteFailed> for Fault {
-    ghost from_gives = { λ failed told. told ≡ Write failed.taken };
+impl From<WriteFailed> for CommandFault {
+    ghost from_gives = { λ failed answer. answer ≡ Write failed.accepted };
 
-    fn from(failed: WriteFailed) -> Fault {
-        Fault::Write {
-            taken: failed.taken,
+    fn from(failed: WriteFailed) -> CommandFault {
+        CommandFault::Write {
+            taken: failed.accepted,
         }
     }
 }

@@ -4,23 +4,23 @@
 #![tactic(auto)]
 
 mod args;
+mod canonical;
 mod check;
 mod command;
 mod explain;
 mod fault;
 mod line;
+mod out_file;
 mod output;
-mod place;
-mod respelled;
+mod request;
 mod show;
-mod task;
 mod tighten;
 
 pub use args::job;
 pub use check::print_verdict;
 pub use command::run;
 pub use explain::print_explanation;
-pub use fault::Fault;
+pub use fault::CommandFault;
+pub use request::{Job, Task};
 pub use show::print_text;
-pub use task::{Job, Task};
 pub use tighten::write_tightened;

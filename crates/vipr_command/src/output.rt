@@ -1,7 +1,7 @@
 //! How a text is printed.
 ghost use Rattle.vipr_command.specs.Output.{Prints};
 
-use crate::fault::Fault;
+use crate::fault::CommandFault;
 use std::alloc::Global;
 use std::fmt::Display;
 use vipr_bytes::{Sink, write_bytes};
@@ -11,7 +11,11 @@ use vipr_bytes::{Sink, write_bytes};
 /// # Errors
 ///
 /// Where a growth is refused: nothing was written. Where a write fails or takes nothing.
-pub fn print<T: Display, W: Sink>(alloc: Global, text: &T, writer: &mut W) -> Result<(), Fault>
+pub fn print<T: Display, W: Sink>(
+    alloc: Global,
+    text: &T,
+    writer: &mut W,
+) -> Result<(), CommandFault>
     ensures { Prints (T.output text.now) (W.output writer.old) (W.output writer.new) result }
 {
     let text = text.to_string(alloc)?;

@@ -5,9 +5,9 @@ ghost use Rattle.vipr_command.specs.Run.{PrintsText, known_by, unknown_input};
 ghost use Rattle.vipr_command.specs.Show.{ShowsText, WritesText, any_text, text_spelling};
 ghost use Rattle.vipr_command.specs.Show.{text_read};
 
-use crate::fault::Fault;
+use crate::canonical::respelled;
+use crate::fault::CommandFault;
 use crate::line::say;
-use crate::respelled::respelled;
 use std::alloc::Global;
 use std::io::Write;
 use vipr_bytes::{Sink, Source};
@@ -35,7 +35,7 @@ pub fn show<R: Source + Drop, W: Sink>(
     form: Form,
     source: R,
     writer: &mut W,
-) -> Result<Shown, Fault>
+) -> Result<Shown, CommandFault>
     // Nothing is written but a certificate's text.
     ensures written { ShowsText form any_text (W.output writer.old) (W.output writer.new) result }
     // The certificate, or the refusal, is that of the definitions for the bytes that the source
@@ -53,20 +53,24 @@ pub fn show<R: Source + Drop, W: Sink>(
             cause,
             place: Place::Byte(offset),
         })),
-        Err(TextError::Read) => Err(Fault::Read),
-        Err(TextError::Memory) => Err(Fault::Memory),
+        Err(TextError::Read) => Err(CommandFault::Read),
+        Err(TextError::Memory) => Err(CommandFault::Memory),
         Err(TextError::Spent) => unreachable!(),
     }
 }
 
 // Writes a text.
-fn write_text<W: Sink>(alloc: Global, text: &CompactText, writer: &mut W) -> Result<Shown, Fault>
+fn write_text<W: Sink>(
+    alloc: Global,
+    text: &CompactText,
+    writer: &mut W,
+) -> Result<Shown, CommandFault>
     ensures { WritesText (W.output writer.old) (W.output writer.new) text.now.bytes result }
 {
     match text.write_to(alloc, writer) {
         Ok(()) => Ok(Shown::Whole),
-        Err(WriteError::Write { taken }) => Err(Fault::Write { taken }),
-        Err(WriteError::Memory { taken: _ }) => Err(Fault::Memory),
+        Err(WriteError::Write { taken }) => Err(CommandFault::Write { taken }),
+        Err(WriteError::Memory { taken: _ }) => Err(CommandFault::Memory),
     }
 }
 
@@ -78,9 +82,9 @@ pub fn print_text<R: Source + Drop, O: Sink, E: Write>(
     source: R,
     out: &mut O,
     err: &mut E,
-) -> Result<u8, Fault>
+) -> Result<u8, CommandFault>
     ensures any { PrintsText form unknown_input (O.output out.old) (O.output out.new) result }
-    ensures told { IfKnown (R.input source)
+    ensures known { IfKnown (R.input source)
         (λ i. PrintsText form (known_by i) (O.output out.old) (O.output out.new) result) }
 {
     match show(alloc, form, source, out)? {

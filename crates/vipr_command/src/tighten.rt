@@ -6,9 +6,9 @@ ghost use Rattle.vipr_tighten.specs.Tightens.{any_kind, kind_read};
 ghost use Rattle.vipr_command.specs.Run.{PrintsTightened, known_by, unknown_input};
 ghost use Rattle.vipr_command.specs.Tighten.{Settles, WritesFile, WritesTightened, outcome_status};
 
-use crate::fault::Fault;
+use crate::fault::CommandFault;
 use crate::line::say;
-use crate::place::Place;
+use crate::out_file::OutFile;
 use std::alloc::Global;
 use std::io::Write;
 use std::rt::Files;
@@ -38,10 +38,10 @@ pub fn print_tightened<H: AllocGlobal + Files, R: Source + Drop, O: Sink, E: Wri
     path: Option<&str>,
     out: &mut O,
     err: &mut E,
-) -> Result<u8, Fault>
+) -> Result<u8, CommandFault>
     ensures any { PrintsTightened (profile_of profile) form (option_map (λ s. s.now) path.entry)
         unknown_input (O.output out.old) (O.output out.new) result }
-    ensures told { IfKnown (R.input source)
+    ensures known { IfKnown (R.input source)
         (λ i. PrintsTightened (profile_of profile) form (option_map (λ s. s.now) path.entry)
         (known_by i) (O.output out.old) (O.output out.new) result) }
 {
@@ -58,12 +58,12 @@ fn write_file<H: AllocGlobal + Files, R: Source + Drop, E: Write>(
     source: R,
     path: &str,
     err: &mut E,
-) -> Result<u8, Fault>
+) -> Result<u8, CommandFault>
     ensures any { WritesFile (profile_of profile) form any_kind result }
     ensures known { IfKnown (R.input source) (λ i. WritesFile (profile_of profile) form
         (kind_read (profile_of profile) (text_of i)) result) }
 {
-    let mut place = Place::new(rt, path)?;
+    let mut place = OutFile::new(rt, path)?;
     let tightened = tighten_as(rt.alloc(), profile, form, source, &mut place);
     let outcome = settle(place, tightened)?;
     say(err, &format_args!("{outcome}\n"));
@@ -72,9 +72,9 @@ fn write_file<H: AllocGlobal + Files, R: Source + Drop, E: Write>(
 
 /// Keeps what was written of a certificate that was tightened, and nothing else.
 fn settle<H: Files>(
-    place: Place<'_, H>,
+    place: OutFile<'_, H>,
     tightened: Result<Outcome, TightenFault>,
-) -> Result<Outcome, Fault>
+) -> Result<Outcome, CommandFault>
     ensures { Settles tightened result }
 {
     match tightened {
@@ -88,7 +88,7 @@ fn settle<H: Files>(
         }
         Err(fault) => {
             place.abandon();
-            Err(Fault::from(fault))
+            Err(CommandFault::from(fault))
         }
     }
 }
@@ -106,10 +106,10 @@ pub fn write_tightened<R: Source + Drop, W: Sink, E: Write>(
     source: R,
     sink: &mut W,
     err: &mut E,
-) -> Result<u8, Fault>
+) -> Result<u8, CommandFault>
     ensures any { WritesTightened (profile_of profile) form any_kind (W.output sink.old)
         (W.output sink.new) result }
-    ensures told { IfKnown (R.input source) (λ i. WritesTightened (profile_of profile) form
+    ensures known { IfKnown (R.input source) (λ i. WritesTightened (profile_of profile) form
         (kind_read (profile_of profile) (text_of i)) (W.output sink.old) (W.output sink.new)
         result) }
 {

@@ -23,7 +23,7 @@ pub fn is_proof(alloc: Global, text: &[u8]) -> Result<bool, Fault>
     }
 }
 
-/// What a person is told of the bytes: the verdict, or why there is none.
+/// What a person reads of the bytes: the verdict, or why there is none.
 ///
 /// # Errors
 ///

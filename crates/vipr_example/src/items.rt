@@ -4,7 +4,7 @@ ghost use Rattle.std.specs.Prelude.{◌≡◌, ◌≢◌, IfErr, IfOk, false};
 use std::alloc::Global;
 use vipr_lib::{Bytes, CertReader, Derivations, Problem, Reason, Solutions, Source, TextError};
 
-/// What stands in a certificate.
+/// The items of a certificate.
 #[derive(Clone, Copy, Debug, Default, PartialEq, Eq)]
 pub struct Counts {
     pub variables: usize,
@@ -20,7 +20,7 @@ pub struct Counts {
     pub cutoffs: u64,
 }
 
-/// Counts what stands in a certificate. No more of it is held than one item and the problem, and
+/// Counts the items of a certificate. No more of it is held than one item and the problem, and
 /// whether it is a proof isn't tested.
 ///
 /// # Errors

@@ -1,4 +1,4 @@
--- What the fields of a `Frac` have to do with the fraction that they stand for, and what it is
+-- What the fields of a `Frac` have to do with the fraction that they mean, and what it is
 -- hashed by.
 use Rattle.std.proofs.Common.{◌≡◌, ℕ, ap, ◌∙◌, true}
 use Rattle.std.specs.Prelude.{◌++◌}

@@ -390,7 +390,7 @@ fn small_product(a: Frac, b: Frac) -> Frac
 }
 
 impl Frac {
-    /// p / q. The parts are tested as they are given, before common divisors are taken out.
+    /// p / q. The parts are tested as they are given, before common divisors are removed.
     pub fn new(p: i128, q: i128) -> Result<Frac, FracError>
         ensures range { (result ≡ Err FracError.Range) ↔ ((most < unsigned_abs p) ⊎ (q <ℤ pos 0)) }
         ensures zero { (result ≡ Err FracError.ZeroDenominator)

@@ -9,7 +9,8 @@ ghost use Rattle.vipr_spec.specs.Fraction.{ℚ, most};
 ghost use Rattle.vipr_spec.specs.Digits.{natural_of, natural_after, is_digit};
 ghost use Rattle.vipr_spec.specs.Tokens.{is_white};
 ghost use Rattle.vipr_spec.specs.Number.{SpellsNumber, is_slash, slash_place, top_of, bottom_of};
-ghost use Rattle.vipr_spec.specs.Number.{signed, written, of_parts, number_read, number_text};
+ghost use Rattle.vipr_spec.specs.Number.{signed_integer, written_fraction, of_parts, number_read};
+ghost use Rattle.vipr_spec.specs.Number.{number_text};
 ghost use Rattle.vipr_frac.specs.Reading.{as_read};
 
 use crate::frac::{Frac, of_whole, reduced, reduced_words};
@@ -52,7 +53,7 @@ fn short_natural(s: &[u8]) -> Option<u64>
 }
 
 // The number that digits write, or one more than the bound where it is over the bound. As many
-// digits as fit a 64-bit word are taken at a time.
+// digits as fit a 64-bit word are read at a time.
 fn long_natural(s: &[u8]) -> Option<u128>
     ensures { result ≡ option_map (min (most + 1)) (natural_of s.now) }
 {
@@ -138,7 +139,7 @@ fn bottom(s: &[u8], place: usize) -> &[u8]
 
 fn with_sign(is_negative: bool, size: u128) -> i128
     requires { size ≤ most }
-    ensures { result ≡ signed is_negative size }
+    ensures { result ≡ signed_integer is_negative size }
 {
     let size = size as i128;
     if is_negative { -size } else { size }
@@ -146,7 +147,7 @@ fn with_sign(is_negative: bool, size: u128) -> i128
 
 // The fraction of a numerator's size and a denominator as they are written.
 fn fraction(is_negative: bool, top: u128, bottom: u128) -> Result<Frac, NumberError>
-    ensures { as_read result ≡ written is_negative top bottom }
+    ensures { as_read result ≡ written_fraction is_negative top bottom }
 {
     if top > MOST || bottom > MOST {
         return Err(NumberError::TooLarge);
@@ -220,7 +221,7 @@ pub fn front_natural(s: &[u8]) -> (u64, usize)
 #[inline(always)]
 fn short_signed(is_negative: bool, size: u64) -> i64
     requires { size < 10 ^ 18 }
-    ensures { result ≡ signed is_negative size }
+    ensures { result ≡ signed_integer is_negative size }
 {
     let size = size as i64;
     if is_negative { -size } else { size }
@@ -271,7 +272,7 @@ fn front_unsigned(is_negative: bool, s: &[u8]) -> Option<(Frac, usize)>
 
 impl Frac {
     /// The fraction that the bytes at the front spell, and how many they are, where it begins with
-    /// a digit or a minus, and neither part has more than 18 digits. What stands behind them isn't
+    /// a digit or a minus, and neither part has more than 18 digits. What follows them isn't
     /// looked at. `None` says nothing of the bytes.
     #[inline(always)]
     pub fn parse_front(s: &[u8]) -> Option<(Frac, usize)>
@@ -288,7 +289,8 @@ impl Frac {
         Some((value, sign + len))
     }
 
-    /// The fraction that the bytes spell. Leading zeros and parts with a common divisor are taken.
+    /// The fraction that the bytes spell. Leading zeros and parts with a common divisor are
+    /// accepted.
     pub fn parse(b: &[u8]) -> Result<Frac, NumberError>
         ensures read { as_read result ≡ number_read b.now }
         ensures spelled { (x : ℚ) → (result ≡ Ok x) ↔ SpellsNumber b.now x }

@@ -12,7 +12,7 @@ use Rattle.std.specs.Ordering.{nat_cmp, int_eq, eq_by_cmp}
 use Rattle.vipr_spec.specs.Fraction.{ℚ, zero_ℚ, ◌+ℚ◌, ◌*ℚ◌}
 use Rattle.vipr_spec.specs.Constraint.{Row, at, equal, Entry, NamesBelow}
 use Rattle.vipr_spec.proofs.Laws.{add-zero_ℚ, mul-zero_ℚ, zero-mul_ℚ, zero_or_not, turned_zero, joined_equal, zero_numer, zero_from_numer}
-use Rattle.vipr_spec.specs.MoreEntries.{joined, TermFits}
+use Rattle.vipr_spec.specs.MoreEntries.{sense_of_both, TermFits}
 use Rattle.vipr_linear.specs.Accumulator.{Accumulator, sum_at, with_entry, with_term, with_terms, TermsFitIn}
 use Rattle.vipr_linear.specs.Row.{RisesFrom}
 use Rattle.vipr_linear.proofs.Rows.{row_again, rises_sorted}
@@ -147,8 +147,8 @@ module _ (row : Row) where
         λ h. each.1 (λ j n. subst (P j) (sym (coefficient_at r j)) (h j (λ z. n (coefficient_at r j ∙ z)))),
       )
 
-  pub names_told : (n : ℕ) → RisesFrom 0 (entries row) → All (λ e. e.0 < n) (entries row) ↔ NamesBelow n (at row)
-  names_told n r = (λ all j past. zero (zero_or_not (at row j)) past ((row_each (λ j x. j < n) r).0 all j), λ names. below n r names)
+  pub names_known : (n : ℕ) → RisesFrom 0 (entries row) → All (λ e. e.0 < n) (entries row) ↔ NamesBelow n (at row)
+  names_known n r = (λ all j past. zero (zero_or_not (at row j)) past ((row_each (λ j x. j < n) r).0 all j), λ names. below n r names)
     where
       zero : {j : ℕ} → (at row j ≡ zero_ℚ) ⊎ ¬ (at row j ≡ zero_ℚ) → n ≤ j → (at row j ≢ zero_ℚ → j < n) → at row j ≡ zero_ℚ
       zero (inl e) past h = e
@@ -173,7 +173,7 @@ nothing_changes a e fresh z =
     λ i. record {
       sums = sums i;
       bound = sym (adds a.bound e.1.bound) i;
-      sense = sym (ap (λ o. unwrap_or o equal) (ap (joined a.sense) (turned_zero e.0 e.1.sense z) ∙ joined_equal a.sense)) i;
+      sense = sym (ap (λ o. unwrap_or o equal) (ap (sense_of_both a.sense) (turned_zero e.0 e.1.sense z) ∙ joined_equal a.sense)) i;
       spent = fresh i;
     }
   where
@@ -189,8 +189,8 @@ pub zeros : (sums : List ℚ) (n : ℕ) → length sums ≡ n → ((j : ℕ) →
 zeros sums n e all = same_lists _ _ (e ∙ sym (length-replicate n zero_ℚ)) (λ k d l. get_or_default sums k d zero_ℚ l ∙ all k ∙ sym (get_or-replicate n k zero_ℚ d (omega (arith, e, l))))
 
 -- ---- whether a multiplier is 0, by its test
-pub told_zero : (x : ℚ) (b : Bool) → b ≡ int_eq x.numer (pos 0) → b ≡ true → x ≡ zero_ℚ
-told_zero x b e t = zero_from_numer x ((Decides-int_eq x.numer (pos 0)).0 (sym e ∙ t))
+pub known_zero : (x : ℚ) (b : Bool) → b ≡ int_eq x.numer (pos 0) → b ≡ true → x ≡ zero_ℚ
+known_zero x b e t = zero_from_numer x ((Decides-int_eq x.numer (pos 0)).0 (sym e ∙ t))
 
-pub told_nonzero : (x : ℚ) (b : Bool) → b ≡ int_eq x.numer (pos 0) → b ≡ false → x ≢ zero_ℚ
-told_nonzero x b e f z = let t = (Decides-int_eq x.numer (pos 0)).1 (ap (λ (y : ℚ). y.numer) z ∙ zero_numer) in absurd (cc)
+pub known_nonzero : (x : ℚ) (b : Bool) → b ≡ int_eq x.numer (pos 0) → b ≡ false → x ≢ zero_ℚ
+known_nonzero x b e f z = let t = (Decides-int_eq x.numer (pos 0)).1 (ap (λ (y : ℚ). y.numer) z ∙ zero_numer) in absurd (cc)

@@ -1,5 +1,5 @@
 -- The sums that are not 0 are matched with the entries of a row, one after another
-use Rattle.std.proofs.Common.{◌≡◌, ◌≢◌, ℕ, ◌+◌, ◌<◌, ◌≤◌, take, drop, List, [], ◌∷◌, ◌++◌, length, get_or, arith, refl, sym, ◌∙◌, ap, ap₂, subst, map, filter, add-one, false, true, Bool, not, pos, ◌⊎◌, inl, inr}
+use Rattle.std.proofs.Common.{◌≡◌, ◌≢◌, ℕ, ◌+◌, ◌<◌, ◌≤◌, take, drop, List, [], ◌∷◌, ◌++◌, length, get_or, arith, refl, sym, ◌∙◌, ap, map, filter, add-one, false, true, Bool, not, pos}
 use Rattle.std.proofs.Math.Seq.{take-suc, get_or-append_seam}
 use Rattle.std.proofs.lemmas.List.{take-append-drop, length-append, length-take-le, append_assoc}
 use Rattle.std.proofs.lemmas.List.Elements.{filter-append}

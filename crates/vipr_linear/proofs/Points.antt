@@ -1,5 +1,5 @@
 -- A solution laid out over places, and its coordinates that aren't whole
-use Rattle.std.proofs.Common.{◌≡◌, ◌≢◌, ℕ, zero, suc, ◌+◌, ◌<◌, ◌≤◌, replicate, drop, true, List, [], ◌∷◌, length, get_or, pos, arith, refl, sym, ◌∙◌, ap, ap₂, subst, subst₂, ◌⊎◌, inl, inr}
+use Rattle.std.proofs.Common.{◌≡◌, ◌≢◌, ℕ, zero, suc, ◌+◌, ◌<◌, ◌≤◌, replicate, drop, List, [], ◌∷◌, length, get_or, pos, arith, refl, sym, ◌∙◌, ap, ap₂, subst, subst₂, ◌⊎◌, inl, inr}
 use Rattle.std.specs.Prelude.{◌↔◌, slice_set}
 use Rattle.std.proofs.lemmas.Bool.{cases_eq, cases_lt}
 use Rattle.std.proofs.lemmas.List.{get_or-set_same, get_or-set_other, get_or-replicate, get_or_past, length-set, length-replicate, set_past, drop_all}

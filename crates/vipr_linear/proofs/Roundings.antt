@@ -20,8 +20,8 @@ antisymmetric j k h l = omega (arith, ints)
 same_whole : (j k : ℤ) → whole j ≡ whole k → j ≡ k
 same_whole j k e = antisymmetric j k (le_of_whole j k (le_of_eq_ℚ _ _ e)) (le_of_whole k j (le_of_eq_ℚ _ _ (sym e)))
 
-pub next_told : (low high : ℚ) (b : Bool) → low.denom ≡ 1 → high.denom ≡ 1 → (b ≡ true) ↔ (high.numer ≡ low.numer +ℤ pos 1) → (b ≡ true) ↔ ((k : ℤ) × (low ≡ whole k) × (high ≡ whole (k +ℤ pos 1)))
-next_told low high b e f t = (
+pub next_known : (low high : ℚ) (b : Bool) → low.denom ≡ 1 → high.denom ≡ 1 → (b ≡ true) ↔ (high.numer ≡ low.numer +ℤ pos 1) → (b ≡ true) ↔ ((k : ℤ) × (low ≡ whole k) × (high ≡ whole (k +ℤ pos 1)))
+next_known low high b e f t = (
   λ h. (low.numer, whole_of low e, whole_of high f ∙ ap whole (t.0 h)),
   λ s. t.1 (same_whole high.numer (s.0 +ℤ pos 1) (sym (whole_of high f) ∙ s.2) ∙ ap (λ k. k +ℤ pos 1) (same_whole s.0 low.numer (sym s.1 ∙ whole_of low e))),
 )
@@ -51,8 +51,8 @@ rounded_with c b d h = rounding_dominates c (Row (record c { rhs = b })) d (refl
 
 -- ---- splits that cover
 pub none_left : (low high : ℚ) (floor ceiling : ℤ) (b : Bool) → RoundsTo at_most low floor → RoundsTo at_least high ceiling → (b ≡ true) ↔ (ceiling ≤ℤ (floor +ℤ pos 1)) → (b ≡ true) ↔ LeavesNone two low high
-none_left low high floor ceiling b down up told = (
-  λ t. (floor, ceiling, down, up, told.0 t),
-  λ h. told.1 (subst (λ k. k ≤ℤ (floor +ℤ pos 1)) (rounds_once at_least high h.1 ceiling h.3 up)
+none_left low high floor ceiling b down up known = (
+  λ t. (floor, ceiling, down, up, known.0 t),
+  λ h. known.1 (subst (λ k. k ≤ℤ (floor +ℤ pos 1)) (rounds_once at_least high h.1 ceiling h.3 up)
       (subst (λ m. h.1 ≤ℤ (m +ℤ pos 1)) (rounds_once at_most low h.0 floor h.2 down) h.4)),
 )

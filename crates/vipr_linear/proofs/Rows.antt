@@ -1,12 +1,11 @@
 -- Lists of pairs as rows: order, look-ups, and that the order of the pairs makes no difference
-use Rattle.std.proofs.Common.{◌≡◌, ◌≢◌, ℕ, zero, suc, ◌+◌, ◌-◌, ◌<◌, ◌≤◌, take, drop, Bool, true, false, not, cond, nat_eq, List, [], ◌∷◌, ◌++◌, length, get_or, filter, All, Contains, Option, Some, None, IfSome, ℤ, pos, ◌*ℤ◌, T, arith, refl, sym, ◌∙◌, ap, subst, append_assoc, ◌||◌, ◌&&◌, unwrap_or, inl, inr, ◌⊎◌, rules}
+use Rattle.std.proofs.Common.{◌≡◌, ◌≢◌, ℕ, zero, suc, ◌+◌, ◌-◌, ◌<◌, ◌≤◌, take, drop, Bool, true, false, not, cond, nat_eq, List, [], ◌∷◌, ◌++◌, length, get_or, filter, All, Contains, Option, Some, None, IfSome, pos, T, arith, refl, sym, ◌∙◌, ap, subst, append_assoc, ◌||◌, ◌&&◌, unwrap_or, inl, inr, ◌⊎◌, rules}
 use Rattle.std.specs.Prelude.{◌↔◌}
 use Rattle.std.proofs.lemmas.Bool.{cases_eq}
 use Rattle.std.proofs.lemmas.Bool.Decides.{nat_tests, Decides-int_eq}
 use Rattle.std.proofs.lemmas.Slice.Eq.{slice_eq-Decides}
 use Rattle.std.specs.Bool.{Decides, ◌==◌}
 use Rattle.std.specs.Cmp.Lexicographic.{pointwise}
-use Rattle.std.proofs.lemmas.Int.{ints}
 use Rattle.std.proofs.lemmas.List.{get_or-map, length-map, take_more, take-append-drop}
 use Rattle.std.proofs.lemmas.List.Elements.{All-nil, All-cons, All-head, All-contains, All-filter, Contains-get_or, filter_passes}
 use Rattle.std.proofs.lemmas.List.Folds.{list_any-append}
@@ -23,13 +22,12 @@ use Rattle.std.specs.List.Sorted.{IsPermutation, IsNonDecreasing, IsNonDecreasin
 use Rattle.std.specs.Map.{lookup}
 use Rattle.std.specs.BTreeMap.{is_at}
 use Rattle.std.specs.Ordering.{nat_cmp, int_eq, eq_by_cmp}
-use Rattle.vipr_spec.specs.Fraction.{ℚ, zero_ℚ, over, IsBounded}
+use Rattle.vipr_spec.specs.Fraction.{ℚ, zero_ℚ, IsBounded}
 use Rattle.vipr_spec.specs.FractionOrder.{eq_ℚ}
-use Rattle.vipr_spec.specs.Gcd.{gcd}
 use Rattle.vipr_spec.specs.Shape.{RowFits}
 use Rattle.vipr_spec.specs.Constraint.{Row, at}
 use Rattle.vipr_spec.specs.Reading.{is_nonzero, row_of}
-use Rattle.vipr_spec.proofs.Laws.{same_ℚ, eq_is, same_rows, zero_from_numer, not_zero}
+use Rattle.vipr_spec.proofs.Laws.{eq_is, same_rows, zero_from_numer, not_zero}
 use Rattle.vipr_linear.specs.Row.{RisesFrom, AreEntries, variables_of, IsFirstRepeated}
 use Rattle.vipr_spec.specs.Constraint.{HasNoZeros}
 
@@ -277,8 +275,8 @@ same_lists xs ys r s e =
     ∙ entries-from_sorted nat_cmp ys (rises_sorted 0 ys s)
 
 -- a test of the lists tells whether the coefficients are the same
-pub same_told : (xs ys : List (ℕ × ℚ)) (b : Bool) → RisesFrom 0 xs → RisesFrom 0 ys → b ≡ pointwise (λ (x y : ℕ × ℚ). nat_eq x.0 y.0 && eq_ℚ x.1 y.1) xs ys → (b ≡ true) ↔ ((j : ℕ) → at (from_sorted xs) j ≡ at (from_sorted ys) j)
-same_told xs ys b r s h =
+pub same_known : (xs ys : List (ℕ × ℚ)) (b : Bool) → RisesFrom 0 xs → RisesFrom 0 ys → b ≡ pointwise (λ (x y : ℕ × ℚ). nat_eq x.0 y.0 && eq_ℚ x.1 y.1) xs ys → (b ≡ true) ↔ ((j : ℕ) → at (from_sorted xs) j ≡ at (from_sorted ys) j)
+same_known xs ys b r s h =
     let d = slice_eq-Decides same_entry xs ys b h in
     (λ t j. ap (λ es. at (from_sorted es) j) (d.0 t), λ e. d.1 (same_lists xs ys r s e))
 
@@ -289,9 +287,9 @@ row_again m = same_entries_map _ m (entries-from_sorted nat_cmp (entries m) (ent
 pub at-nothing : (j : ℕ) → at (from_sorted []) j ≡ zero_ℚ
 at-nothing j = ap (λ o. unwrap_or o zero_ℚ) (get-from_sorted nat_cmp [] j tt)
 
-pub empty_told : (xs : List (ℕ × ℚ)) (b : Bool) → RisesFrom 0 xs → b ≡ (length xs == 0) → (b ≡ true) ↔ ((j : ℕ) → at (from_sorted xs) j ≡ zero_ℚ)
-empty_told [] b r h = (λ t j. at-nothing j, λ e. h)
-empty_told (x ∷ xs) b r h = (λ t. absurd (grind (arith, nat_tests)), λ e. let is = same_lists (x ∷ xs) [] r tt (λ j. e j ∙ sym (at-nothing j)) in absurd (cc))
+pub empty_known : (xs : List (ℕ × ℚ)) (b : Bool) → RisesFrom 0 xs → b ≡ (length xs == 0) → (b ≡ true) ↔ ((j : ℕ) → at (from_sorted xs) j ≡ zero_ℚ)
+empty_known [] b r h = (λ t j. at-nothing j, λ e. h)
+empty_known (x ∷ xs) b r h = (λ t. absurd (grind (arith, nat_tests)), λ e. let is = same_lists (x ∷ xs) [] r tt (λ j. e j ∙ sym (at-nothing j)) in absurd (cc))
 
 -- ---- the row of one pair
 one_rises : (v : ℕ) → IsStrictlyIncreasing (v ∷ [])

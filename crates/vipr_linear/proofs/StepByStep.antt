@@ -7,14 +7,14 @@ use Rattle.std.proofs.lemmas.List.FromFn.{get_or-map-range_with_len, length-map-
 use Rattle.std.proofs.lemmas.Bool.{cases_lt}
 use Rattle.vipr_spec.specs.Fraction.{ℚ, zero_ℚ, ◌+ℚ◌, ◌*ℚ◌, IsBounded, ProductFits}
 use Rattle.vipr_spec.specs.Constraint.{Sense, equal, Row, at, Entry, HasSense, sum_of, SumOfFits, NamesBelow}
-use Rattle.vipr_spec.specs.MoreEntries.{turned, TermFits}
+use Rattle.vipr_spec.specs.MoreEntries.{sense_of_multiple, TermFits}
 use Rattle.vipr_spec.proofs.Laws.{zero-add_ℚ, mul-zero_ℚ, zero_or_not, no_sense, turned_sense, joined_sense, clashing_senses, sum_more, fits_more, sums_bounded, nothing_more}
 use Rattle.vipr_linear.specs.Accumulator.{Accumulator, held_condition, sum_at, nothing_added, joined_with, AdditionFits, with_entry, Holds, IsSuitable, HoldsSum}
 
 -- ---- what fits
 module _ (n : ℕ) (es : List Entry) (e : Entry) (a : Accumulator) (h : Holds n es a) where
-  terms_told : (((j : ℕ) → TermFits (sum_at a j) e.0 (e.1.row j)) × TermFits a.bound e.0 e.1.bound) ↔ SumOfFits (es ++ e ∷ [])
-  terms_told =
+  terms_known : (((j : ℕ) → TermFits (sum_at a j) e.0 (e.1.row j)) × TermFits a.bound e.0 e.1.bound) ↔ SumOfFits (es ++ e ∷ [])
+  terms_known =
       let more = fits_more es e in (
         λ k. more.1 (h.fits, λ j. subst (λ s. TermFits s e.0 (e.1.row j)) (h.row_is j) (k.0 j), subst (λ s. TermFits s e.0 e.1.bound) h.bound_is k.1),
         λ k. let m = more.0 k in (λ j. subst (λ s. TermFits s e.0 (e.1.row j)) (sym (h.row_is j)) (m.1 j), subst (λ s. TermFits s e.0 e.1.bound) (sym h.bound_is) m.2),
@@ -26,8 +26,8 @@ module _ (n : ℕ) (es : List Entry) (e : Entry) (a : Accumulator) (h : Holds n 
   bound_bounded : IsBounded a.bound
   bound_bounded = subst IsBounded (sym h.bound_is) (sums_bounded es h.fits).1
 
-  pub fits_told : AdditionFits a e ↔ SumOfFits (es ++ e ∷ [])
-  fits_told = (λ f. terms_told.0 (all_terms f (zero_or_not e.0)), λ k m. let t = terms_told.1 k in (λ j some. t.0 j, t.1))
+  pub fits_known : AdditionFits a e ↔ SumOfFits (es ++ e ∷ [])
+  fits_known = (λ f. terms_known.0 (all_terms f (zero_or_not e.0)), λ k m. let t = terms_known.1 k in (λ j some. t.0 j, t.1))
     where
       all_terms : AdditionFits a e → (e.0 ≡ zero_ℚ) ⊎ ¬ (e.0 ≡ zero_ℚ) → ((j : ℕ) → TermFits (sum_at a j) e.0 (e.1.row j)) × TermFits a.bound e.0 e.1.bound
       all_terms f (inl z) = (λ j. nothing_more (sum_at a j) e.0 (e.1.row j) (sum_bounded j) (inl z), nothing_more a.bound e.0 e.1.bound bound_bounded (inl z))
@@ -40,10 +40,10 @@ module _ (n : ℕ) (es : List Entry) (e : Entry) (a : Accumulator) (h : Holds n 
 -- ---- one step
 module _ (n : ℕ) (es : List Entry) (e : Entry) (a : Accumulator) (h : Holds n es a) where
   new_sense : (t : Sense) → joined_with a e ≡ Some t → HasSense (es ++ e ∷ []) t
-  new_sense t is = joined_sense es (e ∷ []) a.sense (turned e.0 e.1.sense) t h.sense_is (turned_sense e.0 e.1) is
+  new_sense t is = joined_sense es (e ∷ []) a.sense (sense_of_multiple e.0 e.1.sense) t h.sense_is (turned_sense e.0 e.1) is
 
-  pub suitable_told : IsSome (joined_with a e) ↔ IsSuitable (es ++ e ∷ [])
-  suitable_told = (by (joined_with a e) refl, λ k. let is = clashing_senses es (e ∷ []) a.sense (turned e.0 e.1.sense) k.0 h.sense_is (turned_sense e.0 e.1) k.1 in ap is_some is)
+  pub suitable_known : IsSome (joined_with a e) ↔ IsSuitable (es ++ e ∷ [])
+  suitable_known = (by (joined_with a e) refl, λ k. let is = clashing_senses es (e ∷ []) a.sense (sense_of_multiple e.0 e.1.sense) k.0 h.sense_is (turned_sense e.0 e.1) k.1 in ap is_some is)
     where
       by : (o : Option Sense) → joined_with a e ≡ o → IsSome o → IsSuitable (es ++ e ∷ [])
       by (Some t) is some = (t, new_sense t is)
@@ -60,7 +60,7 @@ module _ (n : ℕ) (es : List Entry) (e : Entry) (a : Accumulator) (h : Holds n 
     row_is = λ j. new_row j (cases_lt j (length a.sums)) ∙ ap (λ s. s +ℚ e.0 *ℚ e.1.row j) (h.row_is j) ∙ sym (sum_more (λ e. e.0 *ℚ e.1.row j) es e);
     bound_is = ap (λ s. s +ℚ e.0 *ℚ e.1.bound) h.bound_is ∙ sym (sum_more (λ e. e.0 *ℚ e.1.bound) es e);
     sense_is = sense_held (joined_with a e) refl some;
-    fits = (fits_told n es e a h).0 fit;
+    fits = (fits_known n es e a h).0 fit;
   }
     where
       new_row : (j : ℕ) → (j < length a.sums) ⊎ (length a.sums ≤ j) → sum_at (with_entry a e) j ≡ sum_at a j +ℚ e.0 *ℚ e.1.row j

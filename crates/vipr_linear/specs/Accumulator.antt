@@ -7,7 +7,7 @@ use Rattle.std.proofs.Common.{refl}
 use Rattle.vipr_spec.specs.Fraction.{ℚ, coded_ℚ, zero_ℚ, ◌+ℚ◌, ◌*ℚ◌}
 use Rattle.vipr_spec.specs.Constraint.{Sense, at_most, equal, at_least, Row, at, Entry, sum_over}
 use Rattle.vipr_spec.specs.Constraint.{HasSense, SumOfFits, Condition}
-use Rattle.vipr_spec.specs.MoreEntries.{turned, joined, TermFits}
+use Rattle.vipr_spec.specs.MoreEntries.{sense_of_multiple, sense_of_both, TermFits}
 use Rattle.vipr_spec.specs.Constraint.{HasNoZeros}
 
 -- the partial sum of each variable and of the right-hand sides, the sense of the sum so far, and
@@ -29,9 +29,9 @@ nothing_added n = record { sums = replicate n zero_ℚ; bound = zero_ℚ; sense 
 -- ---- one more entry
 
 abbrev pub joined_with : Accumulator → Entry → Option Sense
-joined_with a e = joined a.sense (turned e.0 e.1.sense)
+joined_with a e = sense_of_both a.sense (sense_of_multiple e.0 e.1.sense)
 
--- at the variables that stand in the row
+-- at the variables in the row
 abbrev pub RowAdditionFits : List ℚ → ℚ → (ℕ → ℚ) → Type 0
 RowAdditionFits sums m row = (j : ℕ) → row j ≢ zero_ℚ
     → TermFits (slice_index_or sums j zero_ℚ) m (row j)
@@ -63,11 +63,11 @@ abbrev pub IsSuitable : List Entry → Type 0
 IsSuitable es = (s : Sense) × HasSense es s
 
 -- what the sum says
-abbrev pub summed : List ℚ → Sense → ℚ → Condition
-summed sums s b = record { row = λ j. slice_index_or sums j zero_ℚ; sense = s; bound = b }
+abbrev pub summed_condition : List ℚ → Sense → ℚ → Condition
+summed_condition sums s b = record { row = λ j. slice_index_or sums j zero_ℚ; sense = s; bound = b }
 
 abbrev pub held_condition : Accumulator → Condition
-held_condition a = summed a.sums a.sense a.bound
+held_condition a = summed_condition a.sums a.sense a.bound
 
 -- the entries were added to nothing, in this order
 pub record Holds (n : ℕ) (es : List Entry) (a : Accumulator) : Type 0 where

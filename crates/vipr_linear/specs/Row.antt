@@ -1,12 +1,10 @@
 -- Rows as lists of variables with coefficients
 use Rattle.std.specs.Prelude.{◌≡◌, ◌≢◌, ℕ, ◌+◌, ◌≤◌, nat_eq, List, [], ◌∷◌, ◌++◌, map, Contains}
-use Rattle.std.specs.Prelude.{IfSome, All}
+use Rattle.std.specs.Prelude.{All}
 use Rattle.std.specs.List.{IsDistinct}
-use Rattle.std.specs.FinMap.{get}
 use Rattle.vipr_spec.specs.Fraction.{ℚ, zero_ℚ, IsBounded}
-use Rattle.vipr_spec.specs.Constraint.{Row}
-use Rattle.vipr_linear.specs.declared.kept.Kept.{Kept}
-use Rattle.vipr_linear.specs.declared.kept.Kept.TheVariants.{One, Own, Shared}
+use Rattle.vipr_linear.specs.declared.row_entries.RowEntries.{RowEntries}
+use Rattle.vipr_linear.specs.declared.row_entries.RowEntries.TheVariants.{One, Own, Shared}
 
 -- the variables rise from `low` on, and no coefficient is 0
 abbrev pub RisesFrom : ℕ → List (ℕ × ℚ) → Type 0
@@ -30,7 +28,7 @@ pub record IsFirstRepeated (variables : List ℕ) (v : ℕ) : Type 0 where
   pub repeated : Contains before v
 
 -- the list that a row keeps
-abbrev pub kept_items : Kept → List (ℕ × ℚ)
+abbrev pub kept_items : RowEntries → List (ℕ × ℚ)
 kept_items (One item) = item ∷ []
 kept_items (Own items) = items.items
 kept_items (Shared items) = items.items

@@ -15,7 +15,7 @@ ghost use Rattle.vipr_spec.specs.MoreEntries as combined;
 ghost use Rattle.vipr_spec.specs.MoreEntries.{TermFits};
 ghost use Rattle.vipr_linear.specs.Accumulator.{with_row, RowAdditionFits, CanAdd, AdditionFits};
 ghost use Rattle.vipr_linear.specs.Accumulator.{HoldsSum, IsSpent, joined_with, with_entry};
-ghost use Rattle.vipr_linear.specs.Accumulator.{nothing_added, summed, held_condition};
+ghost use Rattle.vipr_linear.specs.Accumulator.{nothing_added, summed_condition, held_condition};
 ghost use Rattle.vipr_linear.specs.Constraint.{sense_of, condition_of, SaysAsMuch};
 ghost use Rattle.vipr_linear.specs.Touched.{Touching, Covers, AreInOrder};
 ghost use Rattle.vipr_linear.specs.Values.{IsLaidOut};
@@ -232,7 +232,7 @@ impl Combination {
 
 // The sense of the multiple of a constraint.
 fn turned(multiplier: Frac, sense: Sense) -> Sense
-    ensures { sense_of result ≡ combined.turned multiplier (sense_of sense) }
+    ensures { sense_of result ≡ combined.sense_of_multiple multiplier (sense_of sense) }
 {
     match (sense, multiplier.numer().cmp(&0)) {
         (Sense::E, _) | (_, Ordering::Equal) => Sense::E,
@@ -243,8 +243,8 @@ fn turned(multiplier: Frac, sense: Sense) -> Sense
 
 // The sense of a sum of two, if they go together.
 fn joined(a: Sense, b: Sense) -> Option<Sense>
-    ensures { MatchOption result (combined.joined (sense_of a) (sense_of b) ≡ None)
-        (λ s. combined.joined (sense_of a) (sense_of b) ≡ Some (sense_of s)) }
+    ensures { MatchOption result (combined.sense_of_both (sense_of a) (sense_of b) ≡ None)
+        (λ s. combined.sense_of_both (sense_of a) (sense_of b) ≡ Some (sense_of s)) }
 {
     match (a, b) {
         (Sense::E, _) => Some(b),
@@ -257,7 +257,7 @@ fn joined(a: Sense, b: Sense) -> Option<Sense>
 // Whether sums with this sense and this right-hand side are absurd.
 fn are_absurd(sums: &[Partial], touched: &[u32], sense: Sense, bound: Frac) -> bool
     requires { AreInOrder sums.now touched.now }
-    ensures { IsTrue result ↔ IsAbsurd (summed sums.now (sense_of sense) bound) }
+    ensures { IsTrue result ↔ IsAbsurd (summed_condition sums.now (sense_of sense) bound) }
 {
     !compares(sense, Frac::zero(), bound) && are_zero(sums, touched)
 }
@@ -272,7 +272,7 @@ fn say_as_much(
 ) -> bool
     requires { AreInOrder sums.now touched.now }
     ensures { IsTrue result
-        ↔ SaysAsMuch (summed sums.now (sense_of sense) bound) (condition_of other.now) }
+        ↔ SaysAsMuch (summed_condition sums.now (sense_of sense) bound) (condition_of other.now) }
 {
     (sense == other.sense || sense == Sense::E)
         && compares(other.sense, bound, other.rhs)
@@ -289,7 +289,7 @@ fn dominate(
 ) -> bool
     requires { AreInOrder sums.now touched.now }
     ensures { IsTrue result
-        ↔ Dominates (summed sums.now (sense_of sense) bound) (condition_of other.now) }
+        ↔ Dominates (summed_condition sums.now (sense_of sense) bound) (condition_of other.now) }
 {
     say_as_much(sums, touched, sense, bound, other) || are_absurd(sums, touched, sense, bound)
 }
@@ -306,9 +306,10 @@ fn round_to(
 ) -> bool
     requires { AreInOrder sums.now touched.now }
     ensures whole { IsTrue result
-        → IsWholeRow ints.now (summed sums.now (sense_of sense) bound).row }
+        → IsWholeRow ints.now (summed_condition sums.now (sense_of sense) bound).row }
     ensures dominates { IsTrue result
-        → DominatesRounded (summed sums.now (sense_of sense) bound) (condition_of other.now) }
+        → DominatesRounded (summed_condition sums.now (sense_of sense) bound)
+        (condition_of other.now) }
 {
     match rounded_rhs(sense, bound) {
         Some(rounded) => {

@@ -35,7 +35,7 @@ impl Model for Ints {
 }
 
 impl Ints {
-    /// The set of these variables, in any order, of which some may stand twice.
+    /// The set of these variables, in any order, of which some may occur twice.
     pub fn from_indices(_alloc: Global, indices: Vec<u32>) -> Result<Ints, AllocError>
         ensures { IfOk result (λ ints. ints ≡ from_list indices.items) }
     {

@@ -40,7 +40,7 @@ pub enum Rounded {
     Absurd,
 }
 
-/// The constraint, some coefficient of which isn't whole or stands at a variable that isn't an
+/// The constraint, some coefficient of which isn't whole or is that of a variable that isn't an
 /// integer.
 #[derive(Debug, Drop)]
 pub struct NotRoundable(pub Constraint);

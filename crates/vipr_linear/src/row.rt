@@ -16,7 +16,7 @@ ghost use Rattle.vipr_spec.specs.Shape.{RowFits};
 ghost use Rattle.vipr_linear.specs.Row.{RisesFrom, AreEntries, variables_of, IsFirstRepeated};
 ghost use Rattle.vipr_spec.specs.Constraint.{HasNoZeros};
 
-use crate::kept::Kept;
+use crate::row_entries::RowEntries;
 use std::alloc::{AllocError, Global};
 use std::collections::BTreeSet;
 use std::marker::Model;
@@ -25,7 +25,7 @@ use vipr_frac::Frac;
 /// A finite map from variables to nonzero coefficients.
 #[derive(Debug, Drop)]
 pub struct Row {
-    kept: Kept,
+    kept: RowEntries,
 }
 
 impl Model for Row {
@@ -51,7 +51,7 @@ impl Clone for Row {
 
     fn clone(&self) -> Result<Row, AllocError> {
         Ok(Row {
-            kept: self.kept.copied()?,
+            kept: self.kept.try_copy()?,
         })
     }
 }
@@ -87,7 +87,7 @@ impl Row {
         let mut entries = in_order(alloc, pairs)?;
         drop_zeros(&mut entries);
         Ok(Row {
-            kept: Kept::Own(entries),
+            kept: RowEntries::Own(entries),
         })
     }
 
@@ -102,7 +102,7 @@ impl Row {
         let mut entries = distinct_in_order(pairs);
         drop_zeros(&mut entries);
         Row {
-            kept: Kept::Own(entries),
+            kept: RowEntries::Own(entries),
         }
     }
 
@@ -114,11 +114,11 @@ impl Row {
     {
         if is_zero(coefficient) {
             return Row {
-                kept: Kept::Own(Vec::new(alloc)),
+                kept: RowEntries::Own(Vec::new(alloc)),
             };
         }
         Row {
-            kept: Kept::One((variable, coefficient)),
+            kept: RowEntries::One((variable, coefficient)),
         }
     }
 
@@ -128,11 +128,11 @@ impl Row {
         ensures { result ≡ from_sorted entries.items }
     {
         Row {
-            kept: Kept::Own(entries),
+            kept: RowEntries::Own(entries),
         }
     }
 
-    /// The same row, whose clones share its entries: a clone takes no memory then.
+    /// This row in a form whose clones share its entries: a clone then takes no memory.
     pub fn shared(self, alloc: Global) -> Result<Row, AllocError>
         ensures { IfOk result (λ row. row ≡ self) }
     {
@@ -151,7 +151,7 @@ impl Row {
         self.kept.as_slice()
     }
 
-    /// The coefficient of a variable, 0 where it doesn't stand in the row.
+    /// The coefficient of a variable, 0 if it isn't in the row.
     pub fn coefficient(&self, variable: u32) -> Frac
         ensures { result ≡ at self.now variable }
     {

@@ -72,7 +72,7 @@ fn coordinate(places: &[Partial], variable: u32) -> Frac
     }
 }
 
-/// The value of a row at the point whose coordinates stand in places, summed over the row's
+/// The value of a row at the point whose coordinates are in places, summed over the row's
 /// variables in rising order.
 pub(crate) fn value_in(row: &Row, places: &[Partial]) -> Result<Frac, Overflow>
     ensures fits { IsOk result ↔ ValuesFit zero_ℚ (entries row.now) (point_of places.now) }

@@ -10,8 +10,8 @@ use Rattle.vipr_bytes.specs.Known.{text_of, IfKnown, IfWhole}
 use Rattle.vipr_read.proofs.Binding.{bind_assoc}
 use Rattle.vipr_read.specs.Whole.{IsRead, items_behind}
 use Rattle.vipr_scan.specs.Faults.{IsFaultOf}
-use Rattle.vipr_scan.specs.declared.error.Stop.{Stop}
-use Rattle.vipr_scan.specs.declared.error.Stop.TheVariants as stop
+use Rattle.vipr_scan.specs.declared.error.ScanError.{ScanError}
+use Rattle.vipr_scan.specs.declared.error.ScanError.TheVariants as stop
 use Rattle.vipr_scan.specs.declared.error.TextError.{TextError}
 use Rattle.vipr_scan.specs.declared.error.TextError.TheVariants as error
 
@@ -45,7 +45,7 @@ only_by i x h e c s = one_read (certificate_read (text_of i)) x c (ap certificat
 -- ---- the parts of a certificate, one after the other
 
 -- a fault is that of what goes on after it
-pub fails_first : {X Y : Type 0} (e : Stop) (r : Result X Fault) (f : X → Result Y Fault) → IsFaultOf e r → IsFaultOf e (r >>= f)
+pub fails_first : {X Y : Type 0} (e : ScanError) (r : Result X Fault) (f : X → Result Y Fault) → IsFaultOf e r → IsFaultOf e (r >>= f)
 fails_first (stop.Refused c o) r f h = rw h refl
 fails_first stop.Read r f h = rw h refl
 fails_first stop.Memory r f h = tt

@@ -1,4 +1,4 @@
--- What is so of the parts that were read, whether or not the source tells its bytes: they are
+-- What is so of the parts that were read, whether or not the source's bytes are known: they are
 -- within the limits, and their numbers can be written
 use Rattle.std.specs.Prelude.{◌≡◌, ℕ, ◌+◌, ◌<◌, ◌≤◌, Bool, false, List, nat_eq, length, All}
 use Rattle.std.specs.Prelude.{slice_index_or}
@@ -17,7 +17,7 @@ pub record IsUnmarked (marks : List Bool) (i : ℕ) : Type 0 where
   pub below : i < length marks
   pub new : slice_index_or marks i false ≡ false
 
--- their variables are below n, and none stands twice
+-- their variables are below n, and none occurs twice
 pub record ArePairs (n : ℕ) (pairs : List (ℕ × ℚ)) : Type 0 where
   pub below : All (λ p. p.0 < n) pairs
   pub distinct : IsDistinct nat_eq (variables_of pairs)

@@ -1,14 +1,14 @@
 -- Reading a whole text
 use Rattle.std.specs.Prelude.{◌≡◌, ℕ, List, Result, Ok, Err}
 use Rattle.vipr_spec.specs.Certificate.{Problem, Derivation, Certificate}
-use Rattle.vipr_spec.specs.Reading.{Rest, Fault, ◌>>=◌, repeated, solution_read, derivations_read}
+use Rattle.vipr_spec.specs.Reading.{Rest, Fault, ◌>>=◌, read_each, solution_read, derivations_read}
 use Rattle.vipr_spec.specs.Reading.{derivation_read, end_read}
 use Rattle.vipr_scan.specs.Faults.{IsFaultOf, Fails}
-use Rattle.vipr_scan.specs.declared.error.Stop.{Stop}
+use Rattle.vipr_scan.specs.declared.error.ScanError.{ScanError}
 use Rattle.vipr_scan.specs.declared.error.TextError.{TextError}
 
--- the value that the reading gives, as it is seen, or its fault
-abbrev pub IsParsed : {X Y : Type 0} → (X → Y) → Result X Stop → Result Y Fault → Type 0
+-- the value that the reading gives, as a contract sees it, or its fault
+abbrev pub IsParsed : {X Y : Type 0} → (X → Y) → Result X ScanError → Result Y Fault → Type 0
 IsParsed view (Ok x) r = r ≡ Ok (view x)
 IsParsed view (Err e) r = IsFaultOf e r
 
@@ -17,17 +17,17 @@ abbrev pub IsRead : {X Y : Type 0} → (X → Y) → Result X TextError → Resu
 IsRead view (Ok x) r = r ≡ Ok (view x)
 IsRead view (Err e) r = Fails e r
 
--- what stands behind the solutions of a problem: the derivations, and the end of the text
+-- what follows the solutions of a problem: the derivations, and the end of the text
 abbrev pub derived_read : Problem → Rest → Result (List Derivation) Fault
 derived_read p r = do
   d ← derivations_read p r
-  derivations ← repeated (derivation_read p) d.0 d.1
+  derivations ← read_each (derivation_read p) d.0 d.1
   end ← end_read derivations.1
   Ok derivations.0
 
--- what stands behind a problem with so many solutions
+-- what follows a problem with so many solutions
 abbrev pub items_behind : Problem → ℕ → Rest → Result Certificate Fault
 items_behind p n r = do
-  solutions ← repeated (solution_read p) n r
+  solutions ← read_each (solution_read p) n r
   derivations ← derived_read p solutions.1
   Ok (record { problem = p; solutions = solutions.0; derivations = derivations })

@@ -19,7 +19,7 @@ use std::alloc::Global;
 use vipr_bytes::Source;
 use vipr_cert::{Certificate, Derivation, Named, Problem};
 use vipr_linear::Solution;
-use vipr_scan::{Scanner, Stop, TextError};
+use vipr_scan::{ScanError, Scanner, TextError};
 
 /// The certificate that `source` gives, which is read to its end.
 ///
@@ -57,15 +57,15 @@ pub fn read_certificate<R: Source + Drop>(
 }
 
 // The certificate that the parser is at the start of.
-fn whole<R: Source + Drop>(alloc: Global, mut parser: Parser<R>) -> Result<Certificate, Stop>
+fn whole<R: Source + Drop>(alloc: Global, mut parser: Parser<R>) -> Result<Certificate, ScanError>
     ensures { IsSome parser.rest
         → IsParsed (λ c. c) result (certificate_read (rest_of parser.rest)) }
 {
     parts(alloc, &mut parser)
 }
 
-// The same; the parser is the caller's.
-fn parts<R: Source>(alloc: Global, parser: &mut Parser<R>) -> Result<Certificate, Stop>
+// The certificate that the caller's parser reads.
+fn parts<R: Source>(alloc: Global, parser: &mut Parser<R>) -> Result<Certificate, ScanError>
     ensures { IsSome parser.old.rest
         → IsParsed (λ c. c) result (certificate_read (rest_of parser.old.rest)) }
 {
@@ -80,7 +80,7 @@ fn items<R: Source>(
     parser: &mut Parser<R>,
     problem: &Problem,
     count: u32,
-) -> Result<(Vec<Named<Solution>>, Vec<Derivation>), Stop>
+) -> Result<(Vec<Named<Solution>>, Vec<Derivation>), ScanError>
     requires { parser.old.variables ≡ variables problem.now }
     ensures read { IsSome parser.old.rest
         → IsParsed (λ x. certificate_with problem.now x.0.items x.1.items) result
@@ -98,7 +98,7 @@ fn derivations<R: Source>(
     alloc: Global,
     parser: &mut Parser<R>,
     problem: &Problem,
-) -> Result<Vec<Derivation>, Stop>
+) -> Result<Vec<Derivation>, ScanError>
     requires { parser.old.variables ≡ variables problem.now }
     ensures read { IsSome parser.old.rest → IsParsed (λ v. map derivation_of v.items) result
         (derived_read problem.now (rest_of parser.old.rest)) }

@@ -3,7 +3,7 @@ ghost use Rattle.std.specs.Prelude.{◌≡◌, ℕ, map, length, All, IfOk};
 ghost use Rattle.vipr_spec.specs.Constraint.{Row as RowMeant};
 ghost use Rattle.vipr_spec.specs.Certificate.{Problem as ProblemMeant, variables as variables_in};
 ghost use Rattle.vipr_spec.specs.Certificate.{Named as NamedMeant, Derivation as DerivationMeant};
-ghost use Rattle.vipr_spec.specs.Reading.{Rest, Read, repeated, solution_read, derivation_read};
+ghost use Rattle.vipr_spec.specs.Reading.{Rest, Read, read_each, solution_read, derivation_read};
 ghost use Rattle.vipr_spec.specs.Shape.{RowFits, SolutionShape, DerivationShape, DerivationFits};
 ghost use Rattle.vipr_cert.specs.Items.{solution_of, derivation_of};
 ghost use Rattle.vipr_read.specs.Parsing.{Parses};
@@ -14,10 +14,10 @@ use std::alloc::Global;
 use vipr_bytes::Source;
 use vipr_cert::{Derivation, Named};
 use vipr_linear::{Row, Solution};
-use vipr_scan::Stop;
+use vipr_scan::ScanError;
 
 /// A kind of item, as a parser reads it where the problem is known.
-pub(crate) trait Item {
+pub(crate) trait ItemKind {
     type Value: Drop;
 
     /// What the definitions say that such an item is.
@@ -38,7 +38,7 @@ pub(crate) trait Item {
         parser: &mut Parser<R>,
         alloc: Global,
         objective: &Row,
-    ) -> Result<Self::Value, Stop>
+    ) -> Result<Self::Value, ScanError>
         requires objective { CanWriteRow parser.old.variables objective.now }
         ensures read { (p : ProblemMeant) → parser.old.variables ≡ variables_in p
             → objective.now ≡ p.objective → Parses view (reading p) parser.old parser.new result }
@@ -50,7 +50,7 @@ pub(crate) trait Item {
 /// Listed solutions.
 pub(crate) struct Listed;
 
-impl Item for Listed {
+impl ItemKind for Listed {
     type Value = Named<Solution>;
 
     ghost Meant = { NamedMeant RowMeant };
@@ -68,7 +68,7 @@ impl Item for Listed {
         parser: &mut Parser<R>,
         alloc: Global,
         _objective: &Row,
-    ) -> Result<Named<Solution>, Stop> {
+    ) -> Result<Named<Solution>, ScanError> {
         parser.solution(alloc)
     }
 }
@@ -76,7 +76,7 @@ impl Item for Listed {
 /// Derivations.
 pub(crate) struct Derived;
 
-impl Item for Derived {
+impl ItemKind for Derived {
     type Value = Derivation;
 
     ghost Meant = { DerivationMeant };
@@ -94,23 +94,23 @@ impl Item for Derived {
         parser: &mut Parser<R>,
         alloc: Global,
         objective: &Row,
-    ) -> Result<Derivation, Stop> {
+    ) -> Result<Derivation, ScanError> {
         parser.derivation(alloc, objective)
     }
 }
 
 /// So many items in a row.
-pub(crate) fn all<R: Source, I: Item>(
+pub(crate) fn all<R: Source, I: ItemKind>(
     parser: &mut Parser<R>,
     alloc: Global,
     item: &I,
     objective: &Row,
     count: u32,
-) -> Result<Vec<I::Value>, Stop>
+) -> Result<Vec<I::Value>, ScanError>
     requires objective { CanWriteRow parser.old.variables objective.now }
     ensures read { (p : ProblemMeant) → parser.old.variables ≡ variables_in p
         → objective.now ≡ p.objective → Parses (λ v. map I.view v.items)
-        (repeated (I.reading p) count) parser.old parser.new result }
+        (read_each (I.reading p) count) parser.old parser.new result }
     ensures variables { parser.new.variables ≡ parser.old.variables }
     ensures count { IfOk result (λ v. length v.items ≡ count) }
     ensures items { IfOk result (λ v. All (I.shape parser.old.variables) (map I.view v.items)

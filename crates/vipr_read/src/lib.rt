@@ -8,9 +8,9 @@ mod item;
 mod kinds;
 mod marks;
 mod parser;
-mod parts;
 mod problem;
 mod reader;
+mod repeat;
 
 pub use cert_reader::CertReader;
 pub use certificate::read_certificate;

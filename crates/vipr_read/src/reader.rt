@@ -16,7 +16,7 @@ ghost use Rattle.vipr_read.specs.Items.{Items, Knows, Remembers, HasNone, HasEnd
 ghost use Rattle.vipr_read.specs.Items.{NextItem, GivesFrom};
 ghost use Rattle.vipr_read.specs.Limits.{CanWriteRow};
 
-use crate::item::{Derived, Item, Listed};
+use crate::item::{Derived, ItemKind, Listed};
 use crate::parser::Parser;
 use std::alloc::Global;
 use std::marker::Model;
@@ -60,7 +60,7 @@ impl<R: Source> Model for ItemReader<R> {
 
 impl<R: Source> ItemReader<R> {
     /// The next item, or `None` where no item is to come; nothing is read then.
-    fn next<I: Item>(&mut self, alloc: Global, item: &I) -> Result<Option<I::Value>, TextError>
+    fn next<I: ItemKind>(&mut self, alloc: Global, item: &I) -> Result<Option<I::Value>, TextError>
         ensures spent { IsErrOf result TextError.Spent ↔ (self.old.failed ≡ true) }
         ensures moves { Moves HasNone self.old self.new result }
         ensures item { IfOk result (λ o. IfSome o
@@ -170,7 +170,7 @@ impl<R: Source> Solutions<R> {
         ensures spent { IsErrOf result TextError.Spent ↔ (self.failed ≡ true) }
         ensures remembers { IfOk result (λ d. Remembers self d) }
         ensures working { IfOk result (λ d. d.failed ≡ false) }
-        ensures counted { IfOk result (λ d. d.constraints + d.left < 2 ^ 32) }
+        ensures row_of_count { IfOk result (λ d. d.constraints + d.left < 2 ^ 32) }
         ensures read { (p : ProblemMeant) → Knows self p → IsSome self.rest
             → GivesFrom (λ d. d.left) (λ d. d.rest) result
             (derivations_read p (rest_of self.rest)) }

@@ -18,7 +18,7 @@ use Rattle.vipr_rules.specs.declared.error.RuleError.TheVariants.{Memory}
 use Rattle.vipr_rules.specs.Context.{IsSetByReason}
 use Rattle.vipr_rules.specs.Soundness.{HasSoundRows, IsTrueUnder}
 use Rattle.vipr_rules.specs.Apply.{IsRuledBy, Applies}
-use Rattle.vipr_rules.proofs.StepLemmas.{kept_entry, keeps_sound, refusal, told_is_not_memory, free_of_all}
+use Rattle.vipr_rules.proofs.StepLemmas.{kept_entry, keeps_sound, refusal, known_is_not_memory, free_of_all}
 
 module _ (P : Profile) (p : Problem) (best : Option ℚ) (table : Table) (step : Step) where
   -- the rule of the derivation's reason says so
@@ -28,13 +28,13 @@ module _ (P : Profile) (p : Problem) (best : Option ℚ) (table : Table) (step :
   -- a test fails, or a growth is refused
   pub applies_not : (e : RuleError) → Rules (Err e) → Applies P p best table step (Err e)
   applies_not e ruled = record {
-    judged = λ c is of back value. elim (ruled c is of value) [
+    decided = λ c is of back value. elim (ruled c is of value) [
       | inl memory ↦ inl memory.0
       | inr stops ↦ inr (refusal P c (derivation_of step) e stops)
     ];
     memory = λ c is of value memory. elim (ruled c is of value) [
       | inl first ↦ first.1
-      | inr stops ↦ absurd (told_is_not_memory P c (derivation_of step) _ e stops memory)
+      | inr stops ↦ absurd (known_is_not_memory P c (derivation_of step) _ e stops memory)
     ];
     sound = λ c is of back value. tt;
     sound_rows = tt;
@@ -44,7 +44,7 @@ module _ (P : Profile) (p : Problem) (best : Option ℚ) (table : Table) (step :
   -- all tests pass, and then a growth is refused
   pub applies_full : (s : FinSet nat_cmp) → Rules (Ok s) → Applies P p best table step (Err Memory)
   applies_full s ruled = record {
-    judged = λ c is of back value. inl refl;
+    decided = λ c is of back value. inl refl;
     memory = λ c is of value memory. free_of_all P c (derivation_of step) (reason_of step.reason) (ruled c is of value).0;
     sound = λ c is of back value. tt;
     sound_rows = tt;
@@ -58,7 +58,7 @@ module _ (P : Profile) (p : Problem) (best : Option ℚ) (table : Table) (step :
   applies s ruled follows e states rests assumed last =
       let copy : condition_of e.constraint ≡ condition_of step.constraint = ap condition_of states in
       record {
-        judged = λ c is of back value.
+        decided = λ c is of back value.
             let r = ruled c is of value in
             (r.0, kept_entry P c (derivation_of step) e back r.0 copy (subst (IsSetByReason c (reason_of step.reason)) (sym rests) r.1) assumed last);
         memory = λ c is of value. tt;

@@ -99,26 +99,26 @@ module _ (P : Profile) (c : Certificate) (d : Derivation) (i1 l1 i2 l2 : ℕ) wh
   abbrev ends : List StepTest
   ends = assumptions ++ split l1 l2 ∷ conclusions
 
-  pub stops_1 : (e : RuleError) → StopsIn P c d (index_tests i1) e → StopsIn P c d (step_tests reason) e
-  stops_1 e s = stops_first P c d (index_tests i1) (index_tests l1 ++ index_tests i2 ++ index_tests l2 ++ ends) e s
+  pub stops_at_first_conclusion : (e : RuleError) → StopsIn P c d (index_tests i1) e → StopsIn P c d (step_tests reason) e
+  stops_at_first_conclusion e s = stops_first P c d (index_tests i1) (index_tests l1 ++ index_tests i2 ++ index_tests l2 ++ ends) e s
 
   module _ (p1 : PassesTestsIn P c d (index_tests i1)) where
-    pub stops_2 : (e : RuleError) → StopsIn P c d (index_tests l1) e → StopsIn P c d (step_tests reason) e
-    stops_2 e s = stops_second P c d (index_tests i1) (index_tests l1 ++ index_tests i2 ++ index_tests l2 ++ ends) e p1 (stops_first P c d (index_tests l1) (index_tests i2 ++ index_tests l2 ++ ends) e s)
+    pub stops_at_first_assumption : (e : RuleError) → StopsIn P c d (index_tests l1) e → StopsIn P c d (step_tests reason) e
+    stops_at_first_assumption e s = stops_second P c d (index_tests i1) (index_tests l1 ++ index_tests i2 ++ index_tests l2 ++ ends) e p1 (stops_first P c d (index_tests l1) (index_tests i2 ++ index_tests l2 ++ ends) e s)
 
     module _ (p2 : PassesTestsIn P c d (index_tests l1)) where
       first : PassesTestsIn P c d (index_tests i1 ++ index_tests l1)
       first = passes_both P c d (index_tests i1) (index_tests l1) p1 p2
 
-      pub stops_3 : (e : RuleError) → StopsIn P c d (index_tests i2) e → StopsIn P c d (step_tests reason) e
-      stops_3 e s = stops_second P c d (index_tests i1 ++ index_tests l1) (index_tests i2 ++ index_tests l2 ++ ends) e first (stops_first P c d (index_tests i2) (index_tests l2 ++ ends) e s)
+      pub stops_at_second_conclusion : (e : RuleError) → StopsIn P c d (index_tests i2) e → StopsIn P c d (step_tests reason) e
+      stops_at_second_conclusion e s = stops_second P c d (index_tests i1 ++ index_tests l1) (index_tests i2 ++ index_tests l2 ++ ends) e first (stops_first P c d (index_tests i2) (index_tests l2 ++ ends) e s)
 
       module _ (p3 : PassesTestsIn P c d (index_tests i2)) where
         second : PassesTestsIn P c d (index_tests i1 ++ index_tests l1 ++ index_tests i2)
         second = passes_both P c d (index_tests i1 ++ index_tests l1) (index_tests i2) first p3
 
-        pub stops_4 : (e : RuleError) → StopsIn P c d (index_tests l2) e → StopsIn P c d (step_tests reason) e
-        stops_4 e s = stops_second P c d (index_tests i1 ++ index_tests l1 ++ index_tests i2) (index_tests l2 ++ ends) e second (stops_first P c d (index_tests l2) ends e s)
+        pub stops_at_second_assumption : (e : RuleError) → StopsIn P c d (index_tests l2) e → StopsIn P c d (step_tests reason) e
+        stops_at_second_assumption e s = stops_second P c d (index_tests i1 ++ index_tests l1 ++ index_tests i2) (index_tests l2 ++ ends) e second (stops_first P c d (index_tests l2) ends e s)
 
         module _ (p4 : PassesTestsIn P c d (index_tests l2)) where
           abbrev indices : List StepTest
@@ -127,12 +127,12 @@ module _ (P : Profile) (c : Certificate) (d : Derivation) (i1 l1 i2 l2 : ℕ) wh
           found : PassesTestsIn P c d indices
           found = passes_both P c d (index_tests i1 ++ index_tests l1 ++ index_tests i2) (index_tests l2) second p4
 
-          pub stops_5 : (e : RuleError) → StopsIn P c d (assumed l1 ∷ []) e → StopsIn P c d (step_tests reason) e
-          stops_5 e s = stops_second P c d indices ends e found (stops_first P c d (assumed l1 ∷ []) (assumed l2 ∷ split l1 l2 ∷ conclusions) e s)
+          pub stops_unless_first_assumed : (e : RuleError) → StopsIn P c d (assumed l1 ∷ []) e → StopsIn P c d (step_tests reason) e
+          stops_unless_first_assumed e s = stops_second P c d indices ends e found (stops_first P c d (assumed l1 ∷ []) (assumed l2 ∷ split l1 l2 ∷ conclusions) e s)
 
           module _ (p5 : PassesTestsIn P c d (assumed l1 ∷ [])) where
-            pub stops_6 : (e : RuleError) → StopsIn P c d (assumed l2 ∷ []) e → StopsIn P c d (step_tests reason) e
-            stops_6 e s = stops_second P c d indices ends e found (stops_second P c d (assumed l1 ∷ []) (assumed l2 ∷ split l1 l2 ∷ conclusions) e p5 (stops_first P c d (assumed l2 ∷ []) (split l1 l2 ∷ conclusions) e s))
+            pub stops_unless_second_assumed : (e : RuleError) → StopsIn P c d (assumed l2 ∷ []) e → StopsIn P c d (step_tests reason) e
+            stops_unless_second_assumed e s = stops_second P c d indices ends e found (stops_second P c d (assumed l1 ∷ []) (assumed l2 ∷ split l1 l2 ∷ conclusions) e p5 (stops_first P c d (assumed l2 ∷ []) (split l1 l2 ∷ conclusions) e s))
 
             module _ (p6 : PassesTestsIn P c d (assumed l2 ∷ [])) where
               assuming : PassesTestsIn P c d assumptions
@@ -141,16 +141,16 @@ module _ (P : Profile) (c : Certificate) (d : Derivation) (i1 l1 i2 l2 : ℕ) wh
               pub free_pass : PassesTestsIn P c d (free_tests reason)
               free_pass = passes_both P c d indices assumptions found assuming
 
-              pub stops_7 : (e : RuleError) → StopsIn P c d (split l1 l2 ∷ []) e → StopsIn P c d (step_tests reason) e
-              stops_7 e s = stops_second P c d (indices ++ assumptions) (split l1 l2 ∷ conclusions) e free_pass (stops_first P c d (split l1 l2 ∷ []) conclusions e s)
+              pub stops_unless_split : (e : RuleError) → StopsIn P c d (split l1 l2 ∷ []) e → StopsIn P c d (step_tests reason) e
+              stops_unless_split e s = stops_second P c d (indices ++ assumptions) (split l1 l2 ∷ conclusions) e free_pass (stops_first P c d (split l1 l2 ∷ []) conclusions e s)
 
               module _ (p7 : PassesTestsIn P c d (split l1 l2 ∷ [])) where
-                pub stops_8 : (e : RuleError) → StopsIn P c d (by_constraint i1 ∷ []) e → StopsIn P c d (step_tests reason) e
-                stops_8 e s = stops_second P c d (indices ++ assumptions) (split l1 l2 ∷ conclusions) e free_pass (stops_second P c d (split l1 l2 ∷ []) conclusions e p7 (stops_first P c d (by_constraint i1 ∷ []) (by_constraint i2 ∷ []) e s))
+                pub stops_unless_first_dominates : (e : RuleError) → StopsIn P c d (by_constraint i1 ∷ []) e → StopsIn P c d (step_tests reason) e
+                stops_unless_first_dominates e s = stops_second P c d (indices ++ assumptions) (split l1 l2 ∷ conclusions) e free_pass (stops_second P c d (split l1 l2 ∷ []) conclusions e p7 (stops_first P c d (by_constraint i1 ∷ []) (by_constraint i2 ∷ []) e s))
 
                 module _ (p8 : PassesTestsIn P c d (by_constraint i1 ∷ [])) where
-                  pub stops_9 : (e : RuleError) → StopsIn P c d (by_constraint i2 ∷ []) e → StopsIn P c d (step_tests reason) e
-                  stops_9 e s =
+                  pub stops_unless_second_dominates : (e : RuleError) → StopsIn P c d (by_constraint i2 ∷ []) e → StopsIn P c d (step_tests reason) e
+                  stops_unless_second_dominates e s =
                       stops_second P c d (indices ++ assumptions) (split l1 l2 ∷ conclusions) e free_pass
                       (stops_second P c d (split l1 l2 ∷ []) conclusions e p7 (stops_second P c d (by_constraint i1 ∷ []) (by_constraint i2 ∷ []) e p8 s))
 

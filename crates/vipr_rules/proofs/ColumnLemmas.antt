@@ -13,7 +13,7 @@ use Rattle.vipr_spec.proofs.Laws.{nothing_more, sum_bounded, value_gap, zero_bou
 use Rattle.vipr_linear.specs.Row.{RisesFrom}
 use Rattle.vipr_linear.specs.Constraint.{constraint_of}
 use Rattle.vipr_linear.specs.declared.constraint.Constraint.{Constraint as Item}
-use Rattle.vipr_linear.proofs.Laws.{coefficient, coefficient_at, absent, at_place, names_told}
+use Rattle.vipr_linear.proofs.Laws.{coefficient, coefficient_at, absent, at_place, names_known}
 use Rattle.vipr_cert.specs.declared.items.Named.{Named}
 use Rattle.std.proofs.lemmas.Simd.{map-map}
 use Rattle.vipr_spec.specs.Certificate as is
@@ -24,7 +24,7 @@ use Rattle.vipr_rules.specs.Solution.{PassesAll, tests_at, tests_below}
 use Rattle.vipr_rules.proofs.SolutionLemmas.{TrueUpTo, true_next, all_true, given_below}
 use Rattle.vipr_rules.specs.declared.bounds.Bounds.{Bounds}
 use Rattle.vipr_rules.proofs.ValueLemmas.{value_same, fits_same}
-use Rattle.vipr_rules.specs.Columns.{given_in, nth, given_of, StandsFrom, HasRow, IsPlace, ArePlaces, column_at, AreColumns, IsSummed, IsCounted, AreSums, AreListed, AreFalseAtZero, IsMet, AreMet, LiesWithin, AreBounds}
+use Rattle.vipr_rules.specs.Columns.{given_in, nth, given_of, OccursFrom, HasRow, IsPlace, ArePlaces, column_at, AreColumns, IsSummed, IsCounted, AreSums, AreListed, AreFalseAtZero, IsMet, AreMet, LiesWithin, AreBounds}
 
 -- ---- places of lists
 pub there : {A : Type 0} → (xs : List A) (k : ℕ) (d x : A) → k < length xs → x ≡ get_or xs k x → get_or xs k d ≡ x
@@ -34,11 +34,11 @@ pub each_more : (P : ℕ → Type 0) (i : ℕ) → ((k : ℕ) → k < i → P k)
 each_more P i before this k l = elim (cases_lt k i) [ inl below ↦ before k below | inr past ↦ let e : i ≡ k = omega (arith, l, past) in subst P e this ]
 
 module _ {A : Type 0} (number : A → ℕ) (d : A) where
-  pub none_stand : (xs : List A) (c i : ℕ) → length xs ≤ c → StandsFrom number d c xs i → ⊥
-  none_stand xs c i past s = let a : c ≤ s.0 = s.1 in let b : s.0 < length xs = s.2 in absurd (omega (arith, past, a, b))
+  pub none_occur : (xs : List A) (c i : ℕ) → length xs ≤ c → OccursFrom number d c xs i → ⊥
+  none_occur xs c i past s = let a : c ≤ s.0 = s.1 in let b : s.0 < length xs = s.2 in absurd (omega (arith, past, a, b))
 
-  pub stands_later : (xs : List A) (c i : ℕ) → number (get_or xs c d) ≢ i → StandsFrom number d c xs i → StandsFrom number d (c + 1) xs i
-  stands_later xs c i n s = elim (cases_eq s.0 c) [
+  pub occurs_later : (xs : List A) (c i : ℕ) → number (get_or xs c d) ≢ i → OccursFrom number d c xs i → OccursFrom number d (c + 1) xs i
+  occurs_later xs c i n s = elim (cases_eq s.0 c) [
     | inl e ↦ absurd (n (ap (λ k. number (get_or xs k d)) (sym e) ∙ s.3))
     | inr apart ↦ let a : c ≤ s.0 = s.1 in (s.0, omega (arith, a, apart), s.2, s.3)
   ]
@@ -62,11 +62,11 @@ apart_each : (e : ℕ × ℚ) (es : List (ℕ × ℚ)) (d : ℕ × ℚ) (j : ℕ
 apart_each e es d j apart h zero l = apart
 apart_each e es d j apart h (suc k) l = h k (omega arith)
 
-stands_or_not : (es : List (ℕ × ℚ)) (d : ℕ × ℚ) (j : ℕ) → StandsFrom (λ (e : ℕ × ℚ). e.0) d 0 es j ⊎ ((k : ℕ) → k < length es → (get_or es k d).0 ≢ j)
-stands_or_not [] d j = inr (λ k l. absurd (omega arith))
-stands_or_not (e ∷ es) d j = elim (cases_eq e.0 j) [
+occurs_or_not : (es : List (ℕ × ℚ)) (d : ℕ × ℚ) (j : ℕ) → OccursFrom (λ (e : ℕ × ℚ). e.0) d 0 es j ⊎ ((k : ℕ) → k < length es → (get_or es k d).0 ≢ j)
+occurs_or_not [] d j = inr (λ k l. absurd (omega arith))
+occurs_or_not (e ∷ es) d j = elim (cases_eq e.0 j) [
   | inl same ↦ inl (0, omega arith, omega arith, same)
-  | inr apart ↦ elim (stands_or_not es d j) [
+  | inr apart ↦ elim (occurs_or_not es d j) [
     | inl s ↦ let l : s.0 < length es = s.2 in inl (suc s.0, omega arith, omega (arith, l), s.3)
     | inr none ↦ inr (apart_each e es d j apart none)
   ]
@@ -82,14 +82,14 @@ module _ (row : Row) (es : List (ℕ × ℚ)) (list : es ≡ entries row) (r : R
   pub at_entry : (k : ℕ) (d : ℕ × ℚ) → k < length es → at row (get_or es k d).0 ≡ (get_or es k d).1
   at_entry k d l = sym (coefficient_is (get_or es k d).0) ∙ at_place 0 es k d r l
 
-  pub zero_or_stands : (j : ℕ) → (at row j ≡ zero_ℚ) ⊎ StandsFrom (λ (e : ℕ × ℚ). e.0) (0, zero_ℚ) 0 es j
-  zero_or_stands j = elim (stands_or_not es (0, zero_ℚ) j) [
+  pub zero_or_occurs : (j : ℕ) → (at row j ≡ zero_ℚ) ⊎ OccursFrom (λ (e : ℕ × ℚ). e.0) (0, zero_ℚ) 0 es j
+  zero_or_occurs j = elim (occurs_or_not es (0, zero_ℚ) j) [
     | inl s ↦ inr s
     | inr none ↦ inl (sym (coefficient_is j) ∙ absent es j (0, zero_ℚ) none)
   ]
 
   pub entry_below : (n k : ℕ) (d : ℕ × ℚ) → NamesBelow n (at row) → k < length es → (get_or es k d).0 < n
-  entry_below n k d names l = subst (λ xs. (get_or xs k d).0 < n) (sym list) ((names_told row n listed_rise).1 names k d (subst (λ xs. k < length xs) list l))
+  entry_below n k d names l = subst (λ xs. (get_or xs k d).0 < n) (sym list) ((names_known row n listed_rise).1 names k d (subst (λ xs. k < length xs) list l))
 
 -- ---- where a variable stands
 later : (cs : List Constraint) (i j : ℕ) (e : ℕ × ℕ) → IsPlace cs i j e → IsPlace cs (i + 1) j e
@@ -169,7 +169,7 @@ module _ (columns : Columns) (v : ℕ) (l : v < length columns) where
 -- entries from place c of constraint i on are still to be added to their columns
 pub record AreHalf (o : Row) (cs : List Constraint) (i : ℕ) (es : List (ℕ × ℚ)) (c : ℕ) (columns : Columns) : Type 0 where
   pub before : (k : ℕ) → c ≤ k → k < length es → ArePlaces o cs i (get_or es k (0, zero_ℚ)).0 (column_at columns (get_or es k (0, zero_ℚ)).0)
-  pub after : (j : ℕ) → ArePlaces o cs (i + 1) j (column_at columns j) ⊎ StandsFrom (λ (e : ℕ × ℚ). e.0) (0, zero_ℚ) c es j
+  pub after : (j : ℕ) → ArePlaces o cs (i + 1) j (column_at columns j) ⊎ OccursFrom (λ (e : ℕ × ℚ). e.0) (0, zero_ℚ) c es j
 
 -- no entry of a constraint that has the row o is added
 pub columns_same : (o : Row) (cs : List Constraint) (i : ℕ) (columns : Columns) → HasRow o (nth cs i) → AreColumns o cs i columns → AreColumns o cs (i + 1) columns
@@ -179,7 +179,7 @@ module _ (o : Row) (cs : List Constraint) (i : ℕ) (row : Row) (same : (nth cs 
   pub half_start : (columns : Columns) → AreColumns o cs i columns → AreHalf o cs i es 0 columns
   half_start columns all = record {
     before = λ k a l. all (get_or es k (0, zero_ℚ)).0;
-    after = λ j. elim (zero_or_stands row es list r j) [
+    after = λ j. elim (zero_or_occurs row es list r j) [
       | inl z ↦ inl (places_same o cs i j (column_at columns j) (all j) (inr (ap (λ x. at x j) same ∙ z)))
       | inr s ↦ inr s
     ];
@@ -188,7 +188,7 @@ module _ (o : Row) (cs : List Constraint) (i : ℕ) (row : Row) (same : (nth cs 
   pub half_end : (columns : Columns) (c : ℕ) → length es ≤ c → AreHalf o cs i es c columns → AreColumns o cs (i + 1) columns
   half_end columns c past half j = elim (half.after j) [
     | inl h ↦ h
-    | inr s ↦ absurd (none_stand (λ (e : ℕ × ℚ). e.0) (0, zero_ℚ) es c j past s)
+    | inr s ↦ absurd (none_occur (λ (e : ℕ × ℚ). e.0) (0, zero_ℚ) es c j past s)
   ]
 
   module _ (columns : Columns) (c : ℕ) (p : ℕ × ℚ) (l : c < length es) (e : p ≡ get_or es c p) (within : p.0 < length columns) (y : Vec (ℕ × ℕ) Global) (pushed : y.items ≡ column_at columns p.0 ++ (i, c) ∷ []) where
@@ -213,7 +213,7 @@ module _ (o : Row) (cs : List Constraint) (i : ℕ) (row : Row) (same : (nth cs 
         | inl q ↦ inl (subst (λ v. ArePlaces o cs (i + 1) v (column_at (slice_set columns p.0 y) v)) (sym q) now)
         | inr apart ↦ elim (half.after j) [
           | inl h ↦ inl (subst (ArePlaces o cs (i + 1) j) (sym (column_other columns p.0 within y j apart)) h)
-          | inr s ↦ inr (stands_later (λ (x : ℕ × ℚ). x.0) (0, zero_ℚ) es c j (λ q. apart (sym (sym (ap (λ (x : ℕ × ℚ). x.0) here) ∙ q))) s)
+          | inr s ↦ inr (occurs_later (λ (x : ℕ × ℚ). x.0) (0, zero_ℚ) es c j (λ q. apart (sym (sym (ap (λ (x : ℕ × ℚ). x.0) here) ∙ q))) s)
         ]
       ];
     }
@@ -282,7 +282,7 @@ sums_gap o cs x sums a b le none all i l = counted_by o cs x a b i sums sums (su
 -- the product is added to the sum of each constraint but of those that stand from place c on
 pub record AreHalfSums (o : Row) (cs : List Constraint) (x : Point) (j : ℕ) (places : List (ℕ × ℕ)) (c : ℕ) (sums : List (Option ℚ)) : Type 0 where
   pub before : (k : ℕ) → c ≤ k → k < length places → IsCounted o cs x j sums (get_or places k (0, 0)).0
-  pub after : (i : ℕ) → i < length cs → IsCounted o cs x (j + 1) sums i ⊎ StandsFrom (λ (e : ℕ × ℕ). e.0) (0, 0) c places i
+  pub after : (i : ℕ) → i < length cs → IsCounted o cs x (j + 1) sums i ⊎ OccursFrom (λ (e : ℕ × ℕ). e.0) (0, 0) c places i
 
 module _ (o : Row) (cs : List Constraint) (x : Point) (j : ℕ) (places : List (ℕ × ℕ)) (is : ArePlaces o cs (length cs) j places) where
   pub half_sums_start : (sums : List (Option ℚ)) → AreSums o cs x j sums → AreHalfSums o cs x j places 0 sums
@@ -300,7 +300,7 @@ module _ (o : Row) (cs : List Constraint) (x : Point) (j : ℕ) (places : List (
   pub half_sums_end : (sums : List (Option ℚ)) (c : ℕ) → length places ≤ c → AreHalfSums o cs x j places c sums → AreSums o cs x (j + 1) sums
   half_sums_end sums c past half i l = elim (half.after i l) [
     | inl h ↦ h
-    | inr s ↦ absurd (none_stand (λ (e : ℕ × ℕ). e.0) (0, 0) places c i past s)
+    | inr s ↦ absurd (none_occur (λ (e : ℕ × ℕ). e.0) (0, 0) places c i past s)
   ]
 
   module _ (sums : List (Option ℚ)) (c : ℕ) (p : ℕ × ℕ) (l : c < length places) (e : p ≡ get_or places c p) (within : p.0 < length sums) (old new : Option ℚ) (read : old ≡ get_or sums p.0 old) (a b : ℚ) (coefficient_read : a ≡ at (nth cs p.0).row j) (coordinate : x j ≡ b) (fits : TermFits (unwrap_or old zero_ℚ) a b) (sum : unwrap_or new zero_ℚ ≡ unwrap_or old zero_ℚ +ℚ a *ℚ b) where
@@ -320,7 +320,7 @@ module _ (o : Row) (cs : List Constraint) (x : Point) (j : ℕ) (places : List (
         | inl q ↦ inl (subst (IsCounted o cs x (j + 1) (slice_set sums p.0 new)) (sym q) now)
         | inr apart ↦ elim (half.after i m) [
           | inl h ↦ inl (other i apart (j + 1) h)
-          | inr s ↦ inr (stands_later (λ (y : ℕ × ℕ). y.0) (0, 0) places c i (λ q. apart (sym (sym (ap (λ (y : ℕ × ℕ). y.0) here_place) ∙ q))) s)
+          | inr s ↦ inr (occurs_later (λ (y : ℕ × ℕ). y.0) (0, 0) places c i (λ q. apart (sym (sym (ap (λ (y : ℕ × ℕ). y.0) here_place) ∙ q))) s)
         ]
       ];
     }
@@ -333,7 +333,7 @@ module _ (o : Row) (cs : List Constraint) (x : Point) (j : ℕ) (places : List (
             (sum_more (nth cs p.0).row x j old new a b coefficient_read coordinate fits sum (subst (IsSummed (nth cs p.0).row x j) (there sums p.0 None old within read) h))) was
 
 -- ---- touched constraints
-pub listed_set : (sums : List (Option ℚ)) (touched : List ℕ) (i : ℕ) (new : Option ℚ) → AreListed sums touched → StandsFrom (λ (j : ℕ). j) 0 0 touched i → AreListed (slice_set sums i new) touched
+pub listed_set : (sums : List (Option ℚ)) (touched : List ℕ) (i : ℕ) (new : Option ℚ) → AreListed sums touched → OccursFrom (λ (j : ℕ). j) 0 0 touched i → AreListed (slice_set sums i new) touched
 listed_set sums touched i new is s = record {
   within = λ k l. let h = is.within k l in let n = length-set sums i new in omega (arith, h, n);
   listed = λ j. elim (cases_eq j i) [
@@ -346,19 +346,19 @@ listed_set sums touched i new is s = record {
 }
 
 abbrev pub AreLeft : List (Option ℚ) → List ℕ → ℕ → Type 0
-AreLeft sums items c = (i : ℕ) → (get_or sums i None ≡ None) ⊎ StandsFrom (λ (j : ℕ). j) 0 c items i
+AreLeft sums items c = (i : ℕ) → (get_or sums i None ≡ None) ⊎ OccursFrom (λ (j : ℕ). j) 0 c items i
 
 pub left_next : (sums : List (Option ℚ)) (items : List ℕ) (c : ℕ) → get_or items c 0 < length sums → AreLeft sums items c → AreLeft (slice_set sums (get_or items c 0) None) items (c + 1)
 left_next sums items c within is i = elim (cases_eq i (get_or items c 0)) [
   | inl e ↦ inl (ap (λ k. get_or (slice_set sums (get_or items c 0) None) k None) e ∙ get_or-set_same sums (get_or items c 0) None None within)
   | inr apart ↦ elim (is i) [
     | inl none ↦ inl (get_or-set_other sums (get_or items c 0) i None None apart ∙ none)
-    | inr s ↦ inr (stands_later (λ (j : ℕ). j) 0 items c i (λ q. apart (sym q)) s)
+    | inr s ↦ inr (occurs_later (λ (j : ℕ). j) 0 items c i (λ q. apart (sym q)) s)
   ]
 ]
 
 pub none_left : (sums : List (Option ℚ)) (items : List ℕ) (c : ℕ) → length items ≤ c → AreLeft sums items c → (i : ℕ) → get_or sums i None ≡ None
-none_left sums items c past is i = elim (is i) [ inl none ↦ none | inr s ↦ absurd (none_stand (λ (j : ℕ). j) 0 items c i past s) ]
+none_left sums items c past is i = elim (is i) [ inl none ↦ none | inr s ↦ absurd (none_occur (λ (j : ℕ). j) 0 items c i past s) ]
 
 pub none_pushed : (sums : List (Option ℚ)) → ((i : ℕ) → get_or sums i None ≡ None) → (i : ℕ) → get_or (sums ++ None ∷ []) i None ≡ None
 none_pushed [] all zero = refl
@@ -370,14 +370,14 @@ none_pushed (o ∷ sums) all (suc i) = none_pushed sums (λ k. all (suc k)) i
 -- the variables from low on are 0 or listed from place c on
 pub record IsReached (s : Row) (es : List (ℕ × ℚ)) (c low : ℕ) : Type 0 where
   pub above : (k : ℕ) → c ≤ k → k < length es → low ≤ (get_or es k (0, zero_ℚ)).0
-  pub rest : (j : ℕ) → low ≤ j → (at s j ≡ zero_ℚ) ⊎ StandsFrom (λ (e : ℕ × ℚ). e.0) (0, zero_ℚ) c es j
+  pub rest : (j : ℕ) → low ≤ j → (at s j ≡ zero_ℚ) ⊎ OccursFrom (λ (e : ℕ × ℚ). e.0) (0, zero_ℚ) c es j
 
 module _ (s : Row) (es : List (ℕ × ℚ)) (list : es ≡ entries s) (r : RisesFrom 0 es) where
   pub reached_start : IsReached s es 0 0
-  reached_start = record { above = λ k a l. omega arith; rest = λ j a. zero_or_stands s es list r j }
+  reached_start = record { above = λ k a l. omega arith; rest = λ j a. zero_or_occurs s es list r j }
 
   pub reached_end : (c low : ℕ) → length es ≤ c → IsReached s es c low → (j : ℕ) → low ≤ j → at s j ≡ zero_ℚ
-  reached_end c low past h j a = elim (h.rest j a) [ inl z ↦ z | inr t ↦ absurd (none_stand (λ (e : ℕ × ℚ). e.0) (0, zero_ℚ) es c j past t) ]
+  reached_end c low past h j a = elim (h.rest j a) [ inl z ↦ z | inr t ↦ absurd (none_occur (λ (e : ℕ × ℚ). e.0) (0, zero_ℚ) es c j past t) ]
 
   module _ (c : ℕ) (p : ℕ × ℚ) (l : c < length es) (e : p ≡ get_or es c p) where
     here_entry : get_or es c (0, zero_ℚ) ≡ p
@@ -408,7 +408,7 @@ module _ (s : Row) (es : List (ℕ × ℚ)) (list : es ≡ entries s) (r : Rises
         above = λ k a b. let less = rising_from 0 es c k (0, zero_ℚ) r (omega (arith, a)) b in let q = first_here in omega (arith, q, less);
         rest = λ j a. elim (h.rest j (let b = reached_low in omega (arith, a, b))) [
           | inl z ↦ inl z
-          | inr t ↦ inr (stands_later (λ (e : ℕ × ℚ). e.0) (0, zero_ℚ) es c j (λ q. absurd (let f = first_here in omega (arith, q, f, a))) t)
+          | inr t ↦ inr (occurs_later (λ (e : ℕ × ℚ). e.0) (0, zero_ℚ) es c j (λ q. absurd (let f = first_here in omega (arith, q, f, a))) t)
         ];
       }
 
@@ -530,9 +530,9 @@ module _ (o : Row) (cs : List Constraint) (n : ℕ) (x : Point) (sums : List (Op
     ]
   ]
 
-pub told_some : {A : Type 0} → (o : Option A) (P : Type 0) (b : Bool) → is_some o ≡ not b → b ≡ false → OnSome o P → P
-told_some None P b e f h = absurd (cc)
-told_some (Some x) P b e f h = h
+pub known_some : {A : Type 0} → (o : Option A) (P : Type 0) (b : Bool) → is_some o ≡ not b → b ≡ false → OnSome o P → P
+known_some None P b e f h = absurd (cc)
+known_some (Some x) P b e f h = h
 
 pub refused_or_ok : {A E : Type 0} → (r : Result A E) → IsErr r → IsOk r → ⊥
 refused_or_ok (Ok x) e o = absurd (cc)

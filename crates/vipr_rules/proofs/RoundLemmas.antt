@@ -51,13 +51,13 @@ module _ (P : Profile) (c : Certificate) (d : Derivation) (es : List (ℕ × ℚ
       rounded = λ i. record { row = at (r.0 i); sense = sense_of (r.1 i); bound = r.2.2 i }
 
       not_dominated : (e : RuleError) → IsNotDominated computed stated e → ¬ DominatesRounded (condition_of x) (condition_of stated) → StopsIn P c d (roundable es ∷ by_rounding es ∷ []) e
-      not_dominated e told bad = (
+      not_dominated e known bad = (
         by_rounding es,
         inl (can_round w, inr (combines_not bad, refl)),
-        (compared (condition_of computed) (condition_of stated), told.0, (condition_of x, r.2.0, summed, r.2.1, λ i. compared (rounded i) (says i))),
+        (compared (condition_of computed) (condition_of stated), known.0, (condition_of x, r.2.0, summed, r.2.1, λ i. compared (rounded i) (says i))),
       )
 
       pub rounded_refused : Dominates (condition_of computed) (condition_of stated) ↔ DominatesRounded (condition_of x) (condition_of stated)
           → (e : RuleError) → (e ≡ Memory) ⊎ IsNotDominated computed stated e → (e ≡ Memory) ⊎ StopsIn P c d (roundable es ∷ by_rounding es ∷ []) e
       rounded_refused same_as e (inl memory) = inl memory
-      rounded_refused same_as e (inr told) = inr (not_dominated e told (λ h. told.1 (same_as.1 h)))
+      rounded_refused same_as e (inr known) = inr (not_dominated e known (λ h. known.1 (same_as.1 h)))

@@ -19,15 +19,15 @@ use Rattle.vipr_table.specs.declared.rows.Entry.{Entry}
 use Rattle.vipr_table.specs.History.{IsEntryOf}
 use Rattle.vipr_rules.specs.Context.{IsSetByReason}
 use Rattle.vipr_rules.specs.declared.error.RuleError.TheVariants.{Memory}
-use Rattle.vipr_rules.specs.Apply.{StopsIn, PassesTestsIn, Tells, KeepsSound, IsRefusalIn, IsNotDominated, shown_by, free_tests}
+use Rattle.vipr_rules.specs.Apply.{StopsIn, PassesTestsIn, ReportsTest, KeepsSound, IsRefusalIn, IsNotDominated, shown_by, free_tests}
 use Rattle.vipr_rules.proofs.EntryTests.{passing_parts}
 
 -- ---- one list of tests after another
 pub stops_first : (P : Profile) (c : Certificate) (d : Derivation) (xs ys : List StepTest) (e : RuleError) → StopsIn P c d xs e → StopsIn P c d (xs ++ ys) e
-stops_first P c d xs ys e (t, f, told) = (t, failing_first (PassesStep P c (condition d.stated)) xs ys t f, told)
+stops_first P c d xs ys e (t, f, known) = (t, failing_first (PassesStep P c (condition d.stated)) xs ys t f, known)
 
 pub stops_second : (P : Profile) (c : Certificate) (d : Derivation) (xs ys : List StepTest) (e : RuleError) → PassesTestsIn P c d xs → StopsIn P c d ys e → StopsIn P c d (xs ++ ys) e
-stops_second P c d xs ys e p (t, f, told) = (t, failing_second (PassesStep P c (condition d.stated)) xs ys (Some t) p f, told)
+stops_second P c d xs ys e p (t, f, known) = (t, failing_second (PassesStep P c (condition d.stated)) xs ys (Some t) p f, known)
 
 pub passes_both : (P : Profile) (c : Certificate) (d : Derivation) (xs ys : List StepTest) → PassesTestsIn P c d xs → PassesTestsIn P c d ys → PassesTestsIn P c d (xs ++ ys)
 passes_both P c d xs ys p q = failing_second (PassesStep P c (condition d.stated)) xs ys None p q
@@ -36,15 +36,15 @@ module _ (P : Profile) (c : Certificate) (d : Derivation) where
   pub passes_one : (t : StepTest) → PassesStep P c (condition d.stated) t → PassesTestsIn P c d (t ∷ [])
   passes_one t h = inl (h, refl)
 
-  pub stops_one : (t : StepTest) (e : RuleError) → ¬ PassesStep P c (condition d.stated) t → Tells c d e t → StopsIn P c d (t ∷ []) e
-  stops_one t e bad told = (t, inr (bad, refl), told)
+  pub stops_one : (t : StepTest) (e : RuleError) → ¬ PassesStep P c (condition d.stated) t → ReportsTest c d e t → StopsIn P c d (t ∷ []) e
+  stops_one t e bad known = (t, inr (bad, refl), known)
 
 pub refusal : (P : Profile) (c : Certificate) (d : Derivation) (e : RuleError) → StopsIn P c d (step_tests d.reason) e → IsRefusalIn P c d e
-refusal P c d e (t, f, told) = (step_cause t, told.0, told.1, (t, f, refl, told.2))
+refusal P c d e (t, f, known) = (step_cause t, known.0, known.1, (t, f, refl, known.2))
 
 -- an error that says which test fails isn't want of memory
-pub told_is_not_memory : (P : Profile) (c : Certificate) (d : Derivation) (ts : List StepTest) (e : RuleError) → StopsIn P c d ts e → ¬ (e ≡ Memory)
-told_is_not_memory P c d ts e (t, f, told) is = let none = sym (ap shown_by is) ∙ told.1 in cc
+pub known_is_not_memory : (P : Profile) (c : Certificate) (d : Derivation) (ts : List StepTest) (e : RuleError) → StopsIn P c d ts e → ¬ (e ≡ Memory)
+known_is_not_memory P c d ts e (t, f, known) is = let none = sym (ap shown_by is) ∙ known.1 in cc
 
 -- where all tests pass, those that take no memory do
 pub free_of_all : (P : Profile) (c : Certificate) (d : Derivation) (r : Reason) → PassesTestsIn P c d (step_tests r) → PassesTestsIn P c d (free_tests r)
@@ -73,12 +73,12 @@ module _ (P : Profile) (c : Certificate) (d : Derivation) (es : List (ℕ × ℚ
       (compared (condition_of sum) (condition_of stated), is, (computed, summed, ap₂ compared same says))
 
 -- the same of a constraint that says what the sum says
-pub laid_out_told : (r : Result (Unit {0}) RuleError) (sum stated : Constraint) (computed : Condition) → condition_of sum ≡ computed
+pub laid_out_known : (r : Result (Unit {0}) RuleError) (sum stated : Constraint) (computed : Condition) → condition_of sum ≡ computed
     → MatchResult r (λ _. Dominates (condition_of sum) (condition_of stated)) (λ e. (e ≡ Memory) ⊎ IsNotDominated sum stated e)
     → MatchResult r (λ _. Dominates computed (condition_of stated)) (λ e. (e ≡ Memory) ⊎ ((x : Constraint) × (condition_of x ≡ computed) × IsNotDominated x stated e))
-laid_out_told (Ok u) sum stated computed same h = subst (λ x. Dominates x (condition_of stated)) same h
-laid_out_told (Err e) sum stated computed same (inl memory) = inl memory
-laid_out_told (Err e) sum stated computed same (inr told) = inr (sum, same, told)
+laid_out_known (Ok u) sum stated computed same h = subst (λ x. Dominates x (condition_of stated)) same h
+laid_out_known (Err e) sum stated computed same (inl memory) = inl memory
+laid_out_known (Err e) sum stated computed same (inr known) = inr (sum, same, known)
 
 -- ---- what an assumption rests on
 pub own_set : (n a : ℕ) → IsTrue (contains (insert {R = nat_cmp} empty n) a) ↔ (n ≡ a)

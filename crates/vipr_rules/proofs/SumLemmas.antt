@@ -7,7 +7,7 @@ use Rattle.vipr_spec.proofs.Laws.{add-zero_ℚ, zero-mul_ℚ, joined_sense, turn
 use Rattle.std.proofs.lemmas.List.{map-append}
 use Rattle.vipr_spec.specs.Certificate.{Certificate, constraint_at, entries}
 use Rattle.vipr_linear.specs.Accumulator.{Accumulator, nothing_added, Holds, held_condition}
-use Rattle.vipr_linear.proofs.Laws.{fits_told, start_held, held_sum}
+use Rattle.vipr_linear.proofs.Laws.{fits_known, start_held, held_sum}
 
 nothing : (s x : ℚ) → s +ℚ zero_ℚ *ℚ x ≡ s
 nothing s x = ap (λ y. s +ℚ y) (zero-mul_ℚ x) ∙ add-zero_ℚ s
@@ -19,7 +19,7 @@ held_without n es e a is z = record {
   row_is = λ j. is.row_is j ∙ sym (sum_more (λ e. e.0 *ℚ e.1.row j) es e ∙ ap (λ m. sum_over (λ e. e.0 *ℚ e.1.row j) es +ℚ m *ℚ e.1.row j) z ∙ nothing _ (e.1.row j));
   bound_is = is.bound_is ∙ sym (sum_more (λ e. e.0 *ℚ e.1.bound) es e ∙ ap (λ m. sum_over (λ e. e.0 *ℚ e.1.bound) es +ℚ m *ℚ e.1.bound) z ∙ nothing _ e.1.bound);
   sense_is = joined_sense es (e ∷ []) a.sense equal a.sense is.sense_is (subst (HasSense (e ∷ [])) (turned_zero e.0 e.1.sense z) (turned_sense e.0 e.1)) (joined_equal a.sense);
-  fits = (fits_told n es e a is).0 (λ m. absurd (m z));
+  fits = (fits_known n es e a is).0 (λ m. absurd (m z));
 }
 
 -- ---- an entry by its index

@@ -54,11 +54,11 @@ IsRefusalIn P c d e =
 
 -- of the derivation d, that comes after the certificate c: it passes all tests, and this is kept of
 -- it; or a test fails; or a growth was refused
-abbrev pub JudgesIn : Profile → Certificate → Derivation → Result Entry RuleError → Type 0
-JudgesIn P c d (Ok e) =
+abbrev pub DecidesIn : Profile → Certificate → Derivation → Result Entry RuleError → Type 0
+DecidesIn P c d (Ok e) =
     FirstFailing (PassesStep P c (condition d.stated)) (step_tests d.reason) None
     × IsEntryOf (with_next c d) (count c) e
-JudgesIn P c d (Err e) = (e ≡ Memory) ⊎ IsRefusalIn P c d e
+DecidesIn P c d (Err e) = (e ≡ Memory) ⊎ IsRefusalIn P c d e
 
 -- Where each derived constraint that is live before it is true at every admitted point at which the
 -- assumptions are true that it rests on, the derivation that comes next is, too.
@@ -73,14 +73,14 @@ abbrev pub PassesTestsIn : Profile → Certificate → Derivation → List StepT
 PassesTestsIn P c d ts = FirstFailing (PassesStep P c (condition d.stated)) ts None
 
 -- the error says that this test fails
-abbrev pub Tells : Certificate → Derivation → RuleError → StepTest → Type 0
-Tells c d e t =
+abbrev pub ReportsTest : Certificate → Derivation → RuleError → StepTest → Type 0
+ReportsTest c d e t =
     (x : StepDetail) × (shown_by e ≡ Some (step_cause t, x)) × Shows c (condition d.stated) t x
 
 -- of these tests one fails first, and the error says which
 abbrev pub StopsIn : Profile → Certificate → Derivation → List StepTest → RuleError → Type 0
 StopsIn P c d ts e = (t : StepTest) × FirstFailing (PassesStep P c (condition d.stated)) ts (Some t)
-    × Tells c d e t
+    × ReportsTest c d e t
 
 -- constraint i comes before, and is live
 abbrev pub index_tests : ℕ → List StepTest
@@ -122,8 +122,8 @@ IsRuledBy P c d r (Err e) =
 pub record Applies (P : Profile) (p : Problem) (best : Option ℚ) (table : Table) (step : Step)
     (result : Result Entry RuleError) : Type 0 where
   -- Over the table of a certificate the answer is that of the definitions.
-  pub judged : (c : Certificate) → c.problem ≡ p → IsTableOf c table → RefersBack c
-      → IsBestValue p c.solutions best → JudgesIn P c (derivation_of step) result
+  pub decided : (c : Certificate) → c.problem ≡ p → IsTableOf c table → RefersBack c
+      → IsBestValue p c.solutions best → DecidesIn P c (derivation_of step) result
   -- That a growth was refused is no answer before the tests that take no memory pass.
   pub memory : (c : Certificate) → c.problem ≡ p → IsTableOf c table
       → IsBestValue p c.solutions best

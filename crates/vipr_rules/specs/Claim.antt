@@ -1,6 +1,6 @@
 -- What a constraint must say to prove the dual side of a claim.
 use Rattle.std.specs.Prelude.{◌≡◌, ◌≢◌, ◌↔◌, Option, Some, None, ◌⊎◌, ℕ}
-use Rattle.vipr_spec.specs.Constraint.{one, Condition, IsAbsurd, Dominates, Profile}
+use Rattle.vipr_spec.specs.Constraint.{Condition, IsAbsurd, Dominates, Profile}
 use Rattle.vipr_spec.specs.Constraint.{DominatesRounded}
 use Rattle.vipr_spec.specs.Certificate.{Problem, MeetsDual, NeedsGoal}
 use Rattle.vipr_spec.specs.Tests.{goal_needed_by}
@@ -32,7 +32,3 @@ pub record IsTargetIn (P : Profile) (p : Problem) (t : Target) : Type 0 where
   pub met : (d : Condition) → IsMetBy t d ↔ MeetsDual P p p.claim d
   pub bound : target_bound t ≡ goal_needed_by p p.claim
   pub needed : NeedsGoal p p.claim ↔ (t ≢ Nothing)
-
--- under profile one
-abbrev pub IsTargetOf : Problem → Target → Type 0
-IsTargetOf p t = IsTargetIn one p t

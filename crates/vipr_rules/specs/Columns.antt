@@ -24,8 +24,8 @@ abbrev pub given_in : Problem → List Constraint
 given_in p = map (λ n. n.item) p.constraints
 
 -- i is the number of an element from place c on
-abbrev pub StandsFrom : {A : Type 0} → (A → ℕ) → A → ℕ → List A → ℕ → Type 0
-StandsFrom number d c xs i =
+abbrev pub OccursFrom : {A : Type 0} → (A → ℕ) → A → ℕ → List A → ℕ → Type 0
+OccursFrom number d c xs i =
     (k : ℕ) × (c ≤ k) × (k < length xs) × (number (slice_index_or xs k d) ≡ i)
 
 -- the constraint has this row
@@ -59,14 +59,14 @@ IsPlace cs n j e =
     (e.0 < n) × (e.1 < length (entries (nth cs e.0).row))
     × (slice_index_or (entries (nth cs e.0).row) e.1 (0, zero_ℚ) ≡ (j, at (nth cs e.0).row j))
 
--- where the variable j stands in the first n constraints, those with the row o aside
+-- where the variable j is in the first n constraints, those with the row o aside
 pub record ArePlaces (o : Row) (cs : List Constraint) (n j : ℕ) (places : List (ℕ × ℕ)) : Type 0
   where
     pub found : (k : ℕ) → k < length places → IsPlace cs n j (slice_index_or places k (0, 0))
     pub rising : (a b : ℕ) → a < b → b < length places
         → (slice_index_or places a (0, 0)).0 < (slice_index_or places b (0, 0)).0
     pub rest : (i : ℕ) → i < n → HasRow o (nth cs i) ⊎ ((at (nth cs i).row j ≡ zero_ℚ)
-        ⊎ StandsFrom (λ (e : ℕ × ℕ). e.0) (0, 0) 0 places i)
+        ⊎ OccursFrom (λ (e : ℕ × ℕ). e.0) (0, 0) 0 places i)
 
 abbrev pub column_at : List (Vec (ℕ × ℕ) Global) → ℕ → List (ℕ × ℕ)
 column_at columns j = slice_index_or (map (λ v. v.items) columns) j []
@@ -101,7 +101,7 @@ AreMet o cs n x = (i : ℕ) → i < length cs → HasRow o (nth cs i) ⊎ IsMet 
 pub record AreListed (sums : List (Option ℚ)) (touched : List ℕ) : Type 0 where
   pub within : (k : ℕ) → k < length touched → slice_index_or touched k 0 < length sums
   pub listed : (i : ℕ) → (slice_index_or sums i None ≡ None)
-      ⊎ StandsFrom (λ (j : ℕ). j) 0 0 touched i
+      ⊎ OccursFrom (λ (j : ℕ). j) 0 0 touched i
 
 -- a constraint has the row o, or is true where all variables are 0, or is listed
 pub record AreFalseAtZero (o : Row) (cs : List Constraint) (n : ℕ) (indices : List ℕ) : Type 0
@@ -109,7 +109,7 @@ pub record AreFalseAtZero (o : Row) (cs : List Constraint) (n : ℕ) (indices : 
     pub within : (k : ℕ) → k < length indices → slice_index_or indices k 0 < n
     pub listed : (i : ℕ) → i < n
         → HasRow o (nth cs i) ⊎ (Compares (nth cs i).sense zero_ℚ (nth cs i).bound
-        ⊎ StandsFrom (λ (j : ℕ). j) 0 0 indices i)
+        ⊎ OccursFrom (λ (j : ℕ). j) 0 0 indices i)
 
 -- the columns of the constraints of a problem and the bounds of its objective, with nothing summed
 pub record IsColumnsOf (p : Problem) (c : Columns) : Type 0 where

@@ -32,7 +32,7 @@ solution_shown p name (Overflow None) = overflows name None
 abbrev pub PassesAll : Problem → Row → List SolutionTest → Type 0
 PassesAll p s ts = FirstFailing (PassesSolution p s) ts None
 
--- this error tells the first of them that fails, and shows what there is to show of it
+-- this error says which of them fails first, and shows what there is to show of it
 abbrev pub FailsBy : Problem → Row → List SolutionTest → SolutionError → Type 0
 FailsBy p s ts e = FirstFailing (PassesSolution p s) ts (Some (test_of e))
     × ((name : Name) → solution_shown p name e ≡ solution_detail p name s (test_of e))

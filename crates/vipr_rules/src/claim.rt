@@ -11,7 +11,7 @@ ghost use Rattle.vipr_spec.specs.Tests.{finite_primal};
 ghost use Rattle.vipr_spec.specs.Soundness.{IsBestValue};
 ghost use Rattle.vipr_linear.specs.Constraint.{sense_of, condition_of};
 ghost use Rattle.vipr_rules.specs.Profile.{profile_of};
-ghost use Rattle.vipr_rules.specs.Claim.{MeetsWhole, IsMetBy, IsTargetIn, IsTargetOf};
+ghost use Rattle.vipr_rules.specs.Claim.{MeetsWhole, IsMetBy, IsTargetIn};
 
 use crate::profile::Profile;
 use std::alloc::AllocError;
@@ -26,30 +26,19 @@ pub enum Target {
     Absurdity,
     /// The constraint must dominate this one, the objective with the dual bound.
     Bound(Constraint),
-    /// The same where the objective is whole at each point that is whole at the integer variables:
-    /// a constraint with its row may be rounded first.
+    /// The constraint must dominate this one. The objective is whole at each point that is whole at
+    /// the integer variables, so a constraint with its row may be rounded first.
     WholeBound(Constraint),
     /// The dual bound is infinite: nothing has to be proved.
     Nothing,
 }
 
 impl Target {
-    /// The target of a problem's claim.
+    /// The target of a problem's claim by the rules of `profile`.
     ///
     /// # Errors
     ///
-    /// Where a growth is refused.
-    pub fn of_claim(p: &Problem) -> Result<Target, AllocError>
-        ensures { IfOk result (IsTargetOf p.now) }
-    {
-        Target::of_claim_in(Profile::One, p)
-    }
-
-    /// The same by the rules of a profile.
-    ///
-    /// # Errors
-    ///
-    /// Where a growth is refused.
+    /// A growth is refused.
     pub fn of_claim_in(profile: Profile, p: &Problem) -> Result<Target, AllocError>
         ensures { IfOk result (IsTargetIn (profile_of profile) p.now) }
     {

@@ -9,7 +9,7 @@ ghost use Rattle.vipr_spec.specs.Constraint.{Compares, NamesBelow, ValueFits};
 ghost use Rattle.vipr_spec.specs.Certificate.{variables, objective_at};
 ghost use Rattle.vipr_spec.specs.MoreEntries.{TermFits};
 ghost use Rattle.vipr_linear.specs.Constraint.{sense_of, constraint_of};
-ghost use Rattle.vipr_rules.specs.Columns.{nth, given_of, StandsFrom, AreColumns, ArePlaces};
+ghost use Rattle.vipr_rules.specs.Columns.{nth, given_of, OccursFrom, AreColumns, ArePlaces};
 ghost use Rattle.vipr_rules.specs.Columns.{AreSums, AreListed, AreFalseAtZero, AreMet};
 ghost use Rattle.vipr_rules.specs.Columns.{HasRow, IsColumnsOf};
 ghost use Rattle.vipr_rules.specs.Solution.{PassesAll, tests_below};
@@ -25,7 +25,7 @@ use vipr_linear::{Constraint, Row, Solution, compares};
 /// objective's row are in no column: they bound the objective's value.
 #[derive(Debug, Drop)]
 pub struct Columns {
-    /// For each variable the constraints in which it stands, and its place among their entries.
+    /// For each variable the constraints that name it, and its place among their entries.
     columns: Vec<Vec<(u32, u32)>>,
     /// The constraints that are false where all variables are 0.
     false_at_zero: Vec<u32>,
@@ -41,10 +41,10 @@ impl Columns {
     pub fn of(alloc: Global, problem: &Problem) -> Option<Columns>
         ensures { IfSome result (IsColumnsOf problem.now) }
     {
-        Columns::laid(alloc, problem).ok()
+        Columns::columns_for(alloc, problem).ok()
     }
 
-    fn laid(alloc: Global, problem: &Problem) -> Result<Columns, AllocError>
+    fn columns_for(alloc: Global, problem: &Problem) -> Result<Columns, AllocError>
         ensures { IfOk result (IsColumnsOf problem.now) }
     {
         let cons = problem.cons();
@@ -209,7 +209,7 @@ fn nothing_summed(alloc: Global, constraints: usize) -> Result<Vec<Option<Partia
 
 // ---- summing
 
-// Adds a solution to the sums, variable by variable. Nothing is told where a sum doesn't fit or
+// Adds a solution to the sums, variable by variable. Nothing is answered if a sum doesn't fit or
 // memory is refused.
 fn add_solution(
     cons: &[Named<Constraint>],
@@ -268,7 +268,7 @@ fn touch(sums: &[Option<Partial>], touched: &mut Vec<u32>, index: u32) -> Option
     requires within { index < length sums.now }
     requires listed { AreListed sums.now touched.old.items }
     ensures listed { AreListed sums.now touched.new.items }
-    ensures stands { OnSome result (StandsFrom (λ (j : ℕ). j) 0 0 touched.new.items index) }
+    ensures occurs { OnSome result (OccursFrom (λ (j : ℕ). j) 0 0 touched.new.items index) }
 {
     if sums[index as usize].is_none() {
         touched.push(index).ok()?;
@@ -295,7 +295,7 @@ fn add_term(sum: &mut Option<Partial>, coefficient: Frac, coordinate: Frac) -> O
 
 // ---- testing
 
-// Whether all constraints that stand in columns are found to be met by a solution.
+// Whether all constraints with columns are found to be met by a solution.
 fn are_met(
     cons: &[Named<Constraint>],
     columns: &[Vec<(u32, u32)>],

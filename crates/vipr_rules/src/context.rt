@@ -7,7 +7,7 @@ ghost use Rattle.vipr_spec.specs.Certificate.{Certificate, Derivation, variables
 ghost use Rattle.vipr_spec.specs.Steps.{earlier};
 ghost use Rattle.vipr_linear.specs.Constraint.{condition_of};
 ghost use Rattle.vipr_table.specs.Table.{DerivedBelow};
-ghost use Rattle.vipr_table.specs.Unions.{gathered};
+ghost use Rattle.vipr_table.specs.Unions.{union_so_far};
 ghost use Rattle.vipr_rules.specs.Context.{IsContextOf, IsKnownAs, row_found, set_of, set_found};
 ghost use Rattle.vipr_rules.specs.Context.{is_assumed};
 ghost use Rattle.vipr_rules.specs.Soundness.{IsSoundUnder, IsStatedAt};
@@ -77,7 +77,7 @@ impl<'a> Known<'a> {
     /// Adds the assumptions that it rests on to those of others.
     pub(crate) fn add_to(self, alloc: Global, others: &mut Union) -> Result<(), AllocError>
         ensures { OnOk result
-            (gathered others.new ≡ set.union (gathered others.old) (set_of self.entry)) }
+            (union_so_far others.new ≡ set.union (union_so_far others.old) (set_of self.entry)) }
     {
         match self {
             Known::Given(_) => Ok(()),

@@ -45,7 +45,7 @@ use vipr_table::{Assumptions, Entry, Rows};
 ///
 /// # Errors
 ///
-/// The first test that the derivation fails, with what there is to tell about it.
+/// The first test that the derivation fails, with what shows it.
 pub fn apply<S: Rows>(
     alloc: Global,
     p: &Problem,
@@ -63,13 +63,13 @@ pub fn apply<S: Rows>(
     apply_in(alloc, Profile::One, p, best, rows, scratch, step)
 }
 
-/// The same by the rules of a profile.
+/// Applies a derivation's reason by the rules of `profile`.
 ///
 /// `scratch` is made for the problem's number of variables; what it holds doesn't matter.
 ///
 /// # Errors
 ///
-/// The first test that the derivation fails, with what there is to tell about it.
+/// The first test that the derivation fails, with what shows it.
 pub fn apply_in<S: Rows>(
     alloc: Global,
     profile: Profile,
@@ -100,13 +100,13 @@ pub fn apply_in<S: Rows>(
     })
 }
 
-/// The same, and takes the constraint out of the derivation where it passes.
+/// Applies a derivation's reason, and takes the constraint out of the derivation if it passes.
 ///
 /// `scratch` is made for the problem's number of variables; what it holds doesn't matter.
 ///
 /// # Errors
 ///
-/// The first test that the derivation fails, with what there is to tell about it.
+/// The first test that the derivation fails, with what shows it.
 pub fn apply_taking<S: Rows>(
     alloc: Global,
     profile: Profile,

@@ -59,7 +59,7 @@ pub enum SolutionError {
 ///
 /// # Errors
 ///
-/// What the first test that fails tells: `NotWhole` with the integer variable and its value,
+/// What the first test that fails reports: `NotWhole` with the integer variable and its value,
 /// `Overflow` with the index of a constraint whose value doesn't fit, `Breaks` with that of a
 /// constraint that is false and with both its sides, or `Overflow` with `None` where the
 /// objective's value doesn't fit.
@@ -86,7 +86,7 @@ pub fn test_solution(
     }
 }
 
-/// The same by columns: it looks at the listed variables and at the entries of their columns alone.
+/// Tests a listed solution by columns: only at its variables and the entries of their columns.
 /// Where it isn't found so that all constraints are met, they are tested one after the other.
 ///
 /// # Errors
@@ -159,7 +159,7 @@ fn laid_value(row: &Row, point: &Combination) -> Option<Frac>
     }
 }
 
-// The same, where the value of the objective is known.
+// Tests the constraints, given the value of the objective.
 fn value_beside(
     row: &Row,
     objective: &Row,

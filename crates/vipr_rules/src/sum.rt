@@ -15,7 +15,7 @@ ghost use Rattle.vipr_linear.specs.Accumulator.{Holds, held_condition};
 ghost use Rattle.vipr_linear.specs.Constraint.{condition_of};
 ghost use Rattle.vipr_linear.specs.declared.constraint.Constraint.{Constraint as LinearConstraint};
 ghost use Rattle.vipr_table.specs.Table.{DerivedBelow};
-ghost use Rattle.vipr_table.specs.Unions.{gathered};
+ghost use Rattle.vipr_table.specs.Unions.{union_so_far};
 ghost use Rattle.vipr_rules.specs.Context.{IsContextOf, IsKnownAs, IsSetOfAll, row_found, set_of};
 ghost use Rattle.vipr_rules.specs.Context.{set_found, AreJoined};
 ghost use Rattle.vipr_rules.specs.Soundness.{IsSoundUnder};
@@ -85,7 +85,7 @@ pub(crate) fn combine_rounded<S: Rows>(
 }
 
 // Tests that the sum dominates the stated constraint. It becomes a constraint only where it
-// doesn't, for what is told then.
+// doesn't, for what is reported then.
 fn check_sum(alloc: Global, scratch: &mut Combination, stated: &Constraint) -> Result<(), RuleError>
     requires fresh { scratch.old.spent ≡ false }
     ensures dominates { MatchResult result
@@ -153,7 +153,7 @@ fn add_up<S: Rows>(
     Ok(joined)
 }
 
-// The same, and adds the assumptions to none.
+// Adds the multiple, and no assumptions.
 fn add_each<S: Rows>(
     alloc: Global,
     context: &Context<S>,
@@ -164,16 +164,16 @@ fn add_each<S: Rows>(
     requires variables { length scratch.old.sums ≡ variables context.now.problem.now }
     requires rows { let n = variables context.now.problem.now in
         DerivedBelow n (S.table context.now.rows.now) }
-    requires none { gathered assumptions.old ≡ set.empty }
+    requires none { union_so_far assumptions.old ≡ set.empty }
     ensures sum { (P : Profile) (c : Certificate) (d : Derivation)
         → IsContextOf S.table P c context.now
         → MatchResult result
         (λ _. PassesTestsIn P c d (sum_tests entries.now)
         × IsSum c entries.now (held_condition scratch.new)
-        × IsSetOfAll c entries.now (gathered assumptions.new))
+        × IsSetOfAll c entries.now (union_so_far assumptions.new))
         (λ e. (e ≡ Memory) ⊎ StopsIn P c d (sum_tests entries.now) e) }
     ensures fresh { OnOk result (scratch.new.spent ≡ false) }
-    ensures sound { OnOk result (IsSoundUnder S.table context.now (gathered assumptions.new)
+    ensures sound { OnOk result (IsSoundUnder S.table context.now (union_so_far assumptions.new)
         (held_condition scratch.new)) }
     ensures variables { length scratch.new.sums ≡ length scratch.old.sums }
 {
@@ -213,9 +213,10 @@ fn join<S: Rows>(
     requires place { position < length entries.now }
     requires found { set_of known ≡ set_found S.table context.now index }
     requires joined { AreJoined (set_found S.table context.now) entries.now position
-        (gathered assumptions.old) }
+        (union_so_far assumptions.old) }
     ensures { OnOk result
-        (gathered assumptions.new ≡ set.union (gathered assumptions.old) (set_of known.entry)) }
+        (union_so_far assumptions.new
+        ≡ set.union (union_so_far assumptions.old) (set_of known.entry)) }
 {
     if known.is_unconditional() {
         return known.add_to(alloc, assumptions);

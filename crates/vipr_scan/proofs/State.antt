@@ -1,54 +1,53 @@
 -- What is left, through a step of the reader.
-use Rattle.std.proofs.Common.{◌≡◌, ℕ, ◌+◌, ◌-◌, ◌^◌, ◌<◌, ◌≤◌, min, Bool, true, List, [], ◌∷◌, ◌++◌, length, take, drop, get_or, Option, Some, None, Result, Ok, Err, OnErr, IfSome, IsSome, refl, sym, ap, ◌∙◌, arith, slice_range, nat_lt, if◌then◌else◌, option_and_then}
+use Rattle.std.proofs.Common.{◌≡◌, ℕ, ◌+◌, ◌-◌, ◌^◌, ◌<◌, ◌≤◌, min, Bool, true, List, [], ◌∷◌, ◌++◌, length, take, drop, get_or, Option, Some, None, Result, Ok, Err, OnErr, IfSome, refl, sym, ap, ◌∙◌, arith, slice_range, nat_lt, if◌then◌else◌, option_and_then}
 use Rattle.std.specs.Option.{option_map}
 use Rattle.std.proofs.Common.{inl, inr, false, nat_eq}
 use Rattle.std.proofs.lemmas.List.{get_or-take, get_or_append_left, take-append-le, length-take-le, take_all, length-append, length-take, take-take, length-drop, drop-append-le, nil_from_length, drop-drop, drop-take}
-use Rattle.std.proofs.lemmas.Bool.{false≢true, ltb-true, lt-ltb, le-ltb, cases_lt, cases_eq, eq-eqb, ne_eqb}
+use Rattle.std.proofs.lemmas.Bool.{ltb-true, lt-ltb, le-ltb, cases_lt, cases_eq, eq-eqb, ne_eqb}
 use Rattle.vipr_spec.specs.Input.{Input}
 use Rattle.vipr_spec.specs.Tokens.{IsToken, is_white, tokens_from, tokens_after_front, run}
 use Rattle.vipr_scan.specs.Places.{tokens_in}
 use Rattle.vipr_spec.specs.Reading.{Rest}
 use Rattle.vipr_scan.specs.View.{prepend, left_of, Keeps, IsOver, next_answer, next_left}
-use Rattle.vipr_scan.specs.Giving.{rest_of}
 use Rattle.vipr_scan.specs.Meaning.{IsInFront}
-use Rattle.vipr_scan.specs.declared.place.Place.{Place}
-use Rattle.vipr_scan.specs.declared.place.Place.TheVariants.{Front, Comment, Past}
+use Rattle.vipr_scan.specs.declared.place.Position.{Position}
+use Rattle.vipr_scan.specs.declared.place.Position.TheVariants.{Front, Comment, Past}
 use Rattle.vipr_spec.proofs.Laws.{token_cut, token_whole, token_long, run_from}
 
 -- what is left of an input
-abbrev pub left_at : Place → ℕ → List ℕ → Option Input → Option Rest
+abbrev pub left_at : Position → ℕ → List ℕ → Option Input → Option Rest
 left_at place offset un source = option_and_then (left_of place offset) (option_map (prepend un) source)
 
-abbrev pub left_is : Place → ℕ → List ℕ → Input → Rest
+abbrev pub left_is : Position → ℕ → List ℕ → Input → Rest
 left_is place offset un r = record { tokens = tokens_in place r.fails offset (un ++ r.bytes); fails = r.fails; length = offset + length (un ++ r.bytes) }
 
-if_told : (b : Bool) (l : Rest) (Q : Rest → Type 0) → (b ≡ true → Q l) → IfSome (if b then Some l else None) Q
-if_told true l Q h = h refl
-if_told false l Q h = tt
+if_known : (b : Bool) (l : Rest) (Q : Rest → Type 0) → (b ≡ true → Q l) → IfSome (if b then Some l else None) Q
+if_known true l Q h = h refl
+if_known false l Q h = tt
 
 -- to show a fact of what is left, show it of each input that may be
-pub told : (place : Place) (offset : ℕ) (un : List ℕ) (source : Option Input) (Q : Rest → Type 0) →
+pub known : (place : Position) (offset : ℕ) (un : List ℕ) (source : Option Input) (Q : Rest → Type 0) →
     ((r : Input) → source ≡ Some r → offset + length (un ++ r.bytes) < 2 ^ 64 → Q (left_is place offset un r)) →
     IfSome (left_at place offset un source) Q
-told place offset un None Q h = tt
-told place offset un (Some r) Q h =
-    if_told (nat_lt (offset + length (un ++ r.bytes)) (2 ^ 64)) (left_is place offset un r) Q (λ b. h r refl (ltb-true _ _ b))
+known place offset un None Q h = tt
+known place offset un (Some r) Q h =
+    if_known (nat_lt (offset + length (un ++ r.bytes)) (2 ^ 64)) (left_is place offset un r) Q (λ b. h r refl (ltb-true _ _ b))
 
-pub tells : (place : Place) (offset : ℕ) (un : List ℕ) (r : Input) → offset + length (un ++ r.bytes) < 2 ^ 64 →
+pub answers : (place : Position) (offset : ℕ) (un : List ℕ) (r : Input) → offset + length (un ++ r.bytes) < 2 ^ 64 →
     left_at place offset un (Some r) ≡ Some (left_is place offset un r)
-tells place offset un r short = rw (lt-ltb (offset + length (un ++ r.bytes)) (2 ^ 64) short) refl
+answers place offset un r short = rw (lt-ltb (offset + length (un ++ r.bytes)) (2 ^ 64) short) refl
 
 -- n bytes at hand are taken
-pub gap_left : (source : Option Input) (p p' : Place) (o o' : ℕ) (un un' : List ℕ) (n : ℕ) → n ≤ length un → un' ≡ drop n un → o' ≡ min (o + n) (2 ^ 64 - 1) →
+pub gap_left : (source : Option Input) (p p' : Position) (o o' : ℕ) (un un' : List ℕ) (n : ℕ) → n ≤ length un → un' ≡ drop n un → o' ≡ min (o + n) (2 ^ 64 - 1) →
     ((fails : Bool) (offset : ℕ) (rest : List ℕ) → tokens_in p fails offset (un ++ rest) ≡ tokens_in p' fails (offset + n) (drop n un ++ rest)) →
     Keeps (left_at p o un source) (left_at p' o' un' source)
 gap_left source p p' o o' un un' n within cut at same =
-    told p o un source (λ l. left_at p' o' un' source ≡ Some l) (λ r is short.
+    known p o un source (λ l. left_at p' o' un' source ≡ Some l) (λ r is short.
     let a : length (un ++ r.bytes) ≡ length un + length r.bytes = length-append un r.bytes in
     let b : length (un' ++ r.bytes) ≡ length un' + length r.bytes = length-append un' r.bytes in
     let d : length un' ≡ length un - n = ap length cut ∙ length-drop n un in
     let e : o' ≡ o + n = omega arith in
-    let t : left_at p' o' un' (Some r) ≡ Some (left_is p' o' un' r) = tells p' o' un' r (omega arith) in
+    let t : left_at p' o' un' (Some r) ≡ Some (left_is p' o' un' r) = answers p' o' un' r (omega arith) in
     let s : left_is p' o' un' r ≡ left_is p o un r =
     let z : o' + length (un' ++ r.bytes) ≡ o + length (un ++ r.bytes) = omega arith in
     let v : tokens_in p' r.fails o' (un' ++ r.bytes) ≡ tokens_in p r.fails o (un ++ r.bytes) = rw (cut, e) (sym (same r.fails o r.bytes)) in
@@ -61,17 +60,17 @@ narrowed xs start end n within =
     let e : end - start ≡ n + (end - (start + n)) = omega arith in
     rw (e, drop-take, drop-drop) refl
 
-nothing : (fails : Bool) (p : Place) (o : ℕ) → tokens_in p fails o [] ≡ []
+nothing : (fails : Bool) (p : Position) (o : ℕ) → tokens_in p fails o [] ≡ []
 unfolding tokens_from tokens_after_front
 nothing fails Front o = refl
 nothing fails Comment o = refl
 nothing fails Past o = refl
 
 -- no byte is left before a failure
-pub over_gap : (source : Option Input) (p : Place) (o : ℕ) (un : List ℕ) → length un ≡ 0 →
+pub over_gap : (source : Option Input) (p : Position) (o : ℕ) (un : List ℕ) → length un ≡ 0 →
     IfSome (option_map (prepend un) source) (λ i. (i.bytes ≡ un) × (i.fails ≡ true)) → IsOver (left_at p o un source) true
 over_gap source p o un none h =
-    told p o un source (λ l. (l.tokens ≡ []) × (l.fails ≡ true)) (λ r is short.
+    known p o un source (λ l. (l.tokens ≡ []) × (l.fails ≡ true)) (λ r is short.
     let i : (un ++ r.bytes ≡ un) × (r.fails ≡ true) = rw is at h in
     rw (i.0, i.1, nil_from_length un none, nothing true p o) (refl, refl))
 
@@ -80,15 +79,15 @@ pub over_cut : (source : Option Input) (o : ℕ) (un : List ℕ) → 0 < length 
     ((k : ℕ) → k < length un → is_white (get_or un k 0) ≡ false) →
     IfSome (option_map (prepend un) source) (λ i. (i.bytes ≡ un) × (i.fails ≡ true)) → IsOver (left_at Past o un source) true
 over_cut source o un some short solid h =
-    told Past o un source (λ l. (l.tokens ≡ []) × (l.fails ≡ true)) (λ r is _.
+    known Past o un source (λ l. (l.tokens ≡ []) × (l.fails ≡ true)) (λ r is _.
     let i : (un ++ r.bytes ≡ un) × (r.fails ≡ true) = rw is at h in
     rw (i.0, i.1, token_cut o un some short solid) (refl, refl))
 
 -- at the end nothing is left
-pub over_end : (source : Option Input) (p : Place) (o : ℕ) (un : List ℕ) → length un ≡ 0 → source ≡ Some (record { bytes = []; fails = false }) →
+pub over_end : (source : Option Input) (p : Position) (o : ℕ) (un : List ℕ) → length un ≡ 0 → source ≡ Some (record { bytes = []; fails = false }) →
     IsOver (left_at p o un source) false
 over_end source p o un none end =
-    told p o un source (λ l. (l.tokens ≡ []) × (l.fails ≡ false)) (λ r is _.
+    known p o un source (λ l. (l.tokens ≡ []) × (l.fails ≡ false)) (λ r is _.
     let over : Input = record { bytes = []; fails = false } in
     let e : r ≡ over = (cc) in
     rw (e, nil_from_length un none, nothing false p o) (refl, refl))
@@ -103,13 +102,13 @@ on_err (Ok x) P p = tt
 on_err (Err e) P p = p
 
 -- what is told of the input decides what is left
-pub input_keeps : (p : Place) (o : ℕ) (un un' : List ℕ) (source source' : Option Input) →
+pub input_keeps : (p : Position) (o : ℕ) (un un' : List ℕ) (source source' : Option Input) →
     IfSome (option_map (prepend un) source) (λ i. option_map (prepend un') source' ≡ Some i) →
     Keeps (left_at p o un source) (left_at p o un' source')
 input_keeps p o un un' source source' h =
-    told p o un source (λ l. left_at p o un' source' ≡ Some l) (λ r is short.
+    known p o un source (λ l. left_at p o un' source' ≡ Some l) (λ r is short.
     let e : option_map (prepend un') source' ≡ Some (prepend un r) = rw is at h in
-    rw e (tells p o un r short))
+    rw e (answers p o un r short))
 
 -- a part is no longer than its bounds say
 pub part_short : (xs : List ℕ) (start end : ℕ) → length (slice_range xs start end) ≤ end - start
@@ -123,7 +122,7 @@ pub token_left : (source : Option Input) (o o' : ℕ) (un un' : List ℕ) (n : �
     IfSome (left_at Past o un source) (λ l.
     (Ok (Some (record { bytes = take n un; offset = o; long = false })) ≡ next_answer l) × (left_at Past o' un' source ≡ Some (next_left l)))
 token_left source o o' un un' n some within short solid white ends cut at =
-    told Past o un source (λ l. (Ok (Some (record { bytes = take n un; offset = o; long = false })) ≡ next_answer l) × (left_at Past o' un' source ≡ Some (next_left l))) (λ r is fits.
+    known Past o un source (λ l. (Ok (Some (record { bytes = take n un; offset = o; long = false })) ≡ next_answer l) × (left_at Past o' un' source ≡ Some (next_left l))) (λ r is fits.
     let a : length (un ++ r.bytes) ≡ length un + length r.bytes = length-append un r.bytes in
     let b : length (un' ++ r.bytes) ≡ length un' + length r.bytes = length-append un' r.bytes in
     let d : length un' ≡ length un - n = ap length cut ∙ length-drop n un in
@@ -142,7 +141,7 @@ token_left source o o' un un' n some within short solid white ends cut at =
     let f : drop n (un ++ r.bytes) ≡ un' ++ r.bytes = drop-append-le n un r.bytes within ∙ ap (λ (xs : List ℕ). xs ++ r.bytes) (sym cut) in
     let v : tokens_from r.fails false o (un ++ r.bytes) ≡ record { bytes = take n un; offset = o } ∷ tokens_from r.fails false o' (un' ++ r.bytes) =
     rw (w, t, f, e) refl in
-    let u : left_at Past o' un' (Some r) ≡ Some (left_is Past o' un' r) = tells Past o' un' r (omega arith) in
+    let u : left_at Past o' un' (Some r) ≡ Some (left_is Past o' un' r) = answers Past o' un' r (omega arith) in
     let len : length (take n un) ≡ n = length-take-le n un within in
     let all : take 65535 (take n un) ≡ take n un = take_all 65535 (take n un) (omega arith) in
     let no : nat_lt 65535 (length (take n un)) ≡ false = le-ltb 65535 (length (take n un)) (omega arith) in
@@ -154,7 +153,7 @@ pub long_left : (source : Option Input) (o : ℕ) (un : List ℕ) → 65536 ≤ 
     ((k : ℕ) → k < 65536 → is_white (get_or un k 0) ≡ false) →
     IfSome (left_at Past o un source) (λ l. Ok (Some (record { bytes = take 65535 un; offset = o; long = true })) ≡ next_answer l)
 long_left source o un within solid =
-    told Past o un source (λ l. Ok (Some (record { bytes = take 65535 un; offset = o; long = true })) ≡ next_answer l) (λ r is fits.
+    known Past o un source (λ l. Ok (Some (record { bytes = take 65535 un; offset = o; long = true })) ≡ next_answer l) (λ r is fits.
     let a : length (un ++ r.bytes) ≡ length un + length r.bytes = length-append un r.bytes in
     let solid' : (k : ℕ) → k < 65536 → is_white (get_or (un ++ r.bytes) k 0) ≡ false =
     λ k h. rw (get_or_append_left un r.bytes 0 k (omega arith)) (solid k h) in
@@ -176,12 +175,12 @@ part_front xs start end n within =
     rw (e, take-take n (end - start) (drop start xs) within) refl
 
 -- the answer where n bytes are taken, or 65,536 for more
-pub taken_answer : (source : Option Input) (o : ℕ) (buf : List ℕ) (start end n len : ℕ) → len ≡ min n 65535 → 0 < n → n ≤ 65536 → n ≤ length (slice_range buf start end) →
+pub read_answer : (source : Option Input) (o : ℕ) (buf : List ℕ) (start end n len : ℕ) → len ≡ min n 65535 → 0 < n → n ≤ 65536 → n ≤ length (slice_range buf start end) →
     ((k : ℕ) → k < n → is_white (get_or (slice_range buf start end) k 0) ≡ false) →
     (n < length (slice_range buf start end) → is_white (get_or (slice_range buf start end) n 0) ≡ true) →
     (n < 65536 → n ≡ length (slice_range buf start end) → source ≡ Some (record { bytes = []; fails = false })) →
     IfSome (left_at Past o (slice_range buf start end) source) (λ l. Ok (Some (record { bytes = slice_range buf start (start + len); offset = o; long = nat_eq n 65536 })) ≡ next_answer l)
-taken_answer source o buf start end n len shown some limit within solid white ends =
+read_answer source o buf start end n len shown some limit within solid white ends =
     let un : List ℕ = slice_range buf start end in
     let short : length (slice_range buf start end) ≤ end - start = part_short buf start end in
     let front : slice_range buf start (start + len) ≡ take len (slice_range buf start end) = part_front buf start end len (omega arith) in
@@ -197,12 +196,12 @@ taken_answer source o buf start end n len shown some limit within solid white en
     ]
 
 -- the tokens left behind it
-pub taken_left : (source : Option Input) (o o' : ℕ) (un un' : List ℕ) (n : ℕ) → 0 < n → n ≤ length un → n ≤ 65535 →
+pub read_left : (source : Option Input) (o o' : ℕ) (un un' : List ℕ) (n : ℕ) → 0 < n → n ≤ length un → n ≤ 65535 →
     ((k : ℕ) → k < n → is_white (get_or un k 0) ≡ false) → (n < length un → is_white (get_or un n 0) ≡ true) →
     (n ≡ length un → source ≡ Some (record { bytes = []; fails = false })) →
     un' ≡ drop n un → o' ≡ min (o + n) (2 ^ 64 - 1) →
     IfSome (left_at Past o un source) (λ l. left_at Past o' un' source ≡ Some (next_left l))
-taken_left source o o' un un' n some within short solid white ends cut at =
+read_left source o o' un un' n some within short solid white ends cut at =
     some_weaker _ _ _ (λ (l : Rest) (p : (Ok (Some (record { bytes = take n un; offset = o; long = false })) ≡ next_answer l) × (left_at Past o' un' source ≡ Some (next_left l))). p.1)
     (token_left source o o' un un' n some within short solid white ends cut at)
 

@@ -5,15 +5,15 @@ use Rattle.std.proofs.lemmas.Bool.{ltb-false}
 use Rattle.vipr_spec.specs.Tokens.{Token}
 use Rattle.vipr_spec.specs.Reading.{Rest, token_read, first_token}
 use Rattle.vipr_scan.specs.Giving.{rest_of, IsBehind}
-use Rattle.vipr_scan.specs.View.{Seen, next_answer, first_answer, seen_of, next_left, stops}
-use Rattle.vipr_scan.specs.declared.error.Stop.{Stop}
+use Rattle.vipr_scan.specs.View.{TokenView, next_answer, first_answer, view_of_read, next_left, stops}
+use Rattle.vipr_scan.specs.declared.error.ScanError.{ScanError}
 
 -- what was seen, as a token
-abbrev pub token_seen : Seen → Token
+abbrev pub token_seen : TokenView → Token
 token_seen s = record { bytes = s.bytes; offset = s.offset }
 
 -- a token that isn't too long
-pub short_token : (l : Rest) (s : Seen) → Ok (Some s) ≡ next_answer l → s.long ≡ false → token_read l ≡ Ok (token_seen s, next_left l)
+pub short_token : (l : Rest) (s : TokenView) → Ok (Some s) ≡ next_answer l → s.long ≡ false → token_read l ≡ Ok (token_seen s, next_left l)
 unfolding first_token
 short_token l s h short = go l.tokens l.fails h
   where
@@ -21,21 +21,21 @@ short_token l s h short = go l.tokens l.fails h
     go [] false e = cc
     go [] true e = cc
     go (t ∷ ts) fails e =
-        let q : s ≡ seen_of t = (cc) in
-        let no : nat_lt 65535 (length t.bytes) ≡ false = sym (ap (λ (x : Seen). x.long) q) ∙ short in
+        let q : s ≡ view_of_read t = (cc) in
+        let no : nat_lt 65535 (length t.bytes) ≡ false = sym (ap (λ (x : TokenView). x.long) q) ∙ short in
         let fits : length t.bytes ≤ 65535 = ltb-false 65535 (length t.bytes) no in
-        let all : s.bytes ≡ t.bytes = ap (λ (x : Seen). x.bytes) q ∙ take_all 65535 t.bytes fits in
-        let at : s.offset ≡ t.offset = ap (λ (x : Seen). x.offset) q in
+        let all : s.bytes ≡ t.bytes = ap (λ (x : TokenView). x.bytes) q ∙ take_all 65535 t.bytes fits in
+        let at : s.offset ≡ t.offset = ap (λ (x : TokenView). x.offset) q in
         rw (no, all, at) refl
 
 -- the same where the rest is known, with the rest behind it
-pub short_known : (old new : Option Rest) (s : Seen) → IfSome old (λ l. Ok (Some s) ≡ next_answer l) → s.long ≡ false → IfSome old (λ l. new ≡ Some (next_left l))
+pub short_known : (old new : Option Rest) (s : TokenView) → IfSome old (λ l. Ok (Some s) ≡ next_answer l) → s.long ≡ false → IfSome old (λ l. new ≡ Some (next_left l))
     → IsSome old → (token_read (rest_of old) ≡ Ok (token_seen s, rest_of new)) × IsSome new
 short_known (Some l) new s answer short left known = rw left (short_token l s answer short, refl)
 short_known None new s answer short left known = absurd (cc)
 
 -- what an answer leaves, where the next token is whole
-pub behind_of : (old new : Option Rest) (answer : Result (Option Seen) Stop) → IfSome old (λ l. answer ≡ next_answer l)
+pub behind_of : (old new : Option Rest) (answer : Result (Option TokenView) ScanError) → IfSome old (λ l. answer ≡ next_answer l)
     → (stops answer ≡ false → IfSome old (λ l. new ≡ Some (next_left l))) → IsBehind old new
 unfolding first_token
 behind_of None new answer is left = tt

@@ -11,7 +11,7 @@ Means view (Ok x) m = m ≡ Ok (view x)
 Means view (Err (unfit.Cause c)) m = m ≡ Err c
 Means view (Err unfit.Memory) m = ⊤
 
--- the first n bytes are a token, behind which white space stands
+-- the first n bytes are a token, which white space follows
 pub record IsInFront (bytes : List ℕ) (n : ℕ) : Type 0 where
   pub some : 0 < n
   pub within : n < length bytes

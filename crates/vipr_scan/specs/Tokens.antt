@@ -4,8 +4,8 @@ use Rattle.vipr_spec.specs.Input.{Input}
 use Rattle.vipr_spec.specs.Reading.{Rest}
 use Rattle.vipr_scan.specs.Giving.{rest_of}
 use Rattle.vipr_scan.specs.Faults.{error_of}
-use Rattle.vipr_scan.specs.View.{Seen, left, next_answer, next_left}
-use Rattle.vipr_scan.specs.declared.error.Stop.{Stop}
+use Rattle.vipr_scan.specs.View.{TokenView, rest_of_window, next_answer, next_left}
+use Rattle.vipr_scan.specs.declared.error.ScanError.{ScanError}
 use Rattle.vipr_scan.specs.declared.error.TextError.{TextError}
 use Rattle.vipr_scan.specs.declared.tokens.Token.{Token}
 use Rattle.vipr_scan.specs.declared.tokens.Reader.{Reader}
@@ -16,27 +16,27 @@ pub record Reading : Type 0 where
   pub rest : Option Rest
 
 abbrev pub reading : {R : Type 0} → (R → Option Input) → Reader R → Reading
-reading input t = record { failed = t.failed; rest = left input t.window }
+reading input t = record { failed = t.failed; rest = rest_of_window input t.window }
 
-abbrev pub seen_token : Token → Seen
-seen_token t = record { bytes = t.bytes.now; offset = t.offset; long = t.long }
+abbrev pub view_of_token : Token → TokenView
+view_of_token t = record { bytes = t.bytes.now; offset = t.offset; long = t.long }
 
 -- an answer with the public error
-abbrev pub public_of : {X : Type 0} → Result X Stop → Result X TextError
+abbrev pub public_of : {X : Type 0} → Result X ScanError → Result X TextError
 public_of (Ok x) = Ok x
 public_of (Err e) = Err (error_of e)
 
-abbrev pub public_answer : Rest → Result (Option Seen) TextError
+abbrev pub public_answer : Rest → Result (Option TokenView) TextError
 public_answer l = public_of (next_answer l)
 
 -- an error and a token that is too long end the reading
-abbrev pub ends_reading : Result (Option Seen) TextError → Bool
+abbrev pub ends_reading : Result (Option TokenView) TextError → Bool
 ends_reading (Ok None) = false
 ends_reading (Ok (Some s)) = s.long
 ends_reading (Err e) = true
 
 -- it failed where that ended the reading, else the other tokens are left
-pub record Follows (old : Reading) (answer : Result (Option Seen) TextError) (new : Reading)
+pub record Follows (old : Reading) (answer : Result (Option TokenView) TextError) (new : Reading)
     : Type 0 where
   pub failed : old.failed ≡ false → new.failed ≡ ends_reading answer
   pub stays : old.failed ≡ true → new ≡ old

@@ -8,19 +8,19 @@ use Rattle.vipr_spec.specs.Input.{Input}
 use Rattle.vipr_spec.specs.Tokens.{Token, IsToken, is_white}
 use Rattle.vipr_spec.specs.Reading.{Rest, token_read}
 use Rattle.vipr_scan.specs.Giving.{Scans, IsBehind}
-use Rattle.vipr_scan.specs.declared.place.Place.TheVariants.{Past}
+use Rattle.vipr_scan.specs.declared.place.Position.TheVariants.{Past}
 use Rattle.vipr_scan.specs.declared.window.Window.{Window}
-use Rattle.vipr_scan.specs.declared.place.Place.{Place}
+use Rattle.vipr_scan.specs.declared.place.Position.{Position}
 use Rattle.vipr_scan.specs.Places.{tokens_in}
-use Rattle.vipr_scan.specs.declared.error.Stop.{Stop}
-use Rattle.vipr_scan.specs.declared.error.Stop.TheVariants as stop
+use Rattle.vipr_scan.specs.declared.error.ScanError.{ScanError}
+use Rattle.vipr_scan.specs.declared.error.ScanError.TheVariants as stop
 use Rattle.vipr_scan.specs.declared.window.Found.{Found}
 
--- the bytes that were read and not yet taken
+-- the bytes that were read and not yet consumed
 abbrev pub unread : {R : Type 0} → Window R → List ℕ
 unread t = slice_range t.buf.value t.start t.end
 
--- it stands where it stood, and what was unread is in front of what is unread now
+-- it is where it was, and what was unread is in front of what is unread now
 pub record HoldsUnread {R : Type 0} (old new : Window R) : Type 0 where
   pub place : new.place ≡ old.place
   pub offset : new.offset ≡ old.offset
@@ -36,20 +36,20 @@ abbrev pub source_left : {R : Type 0} → (R → Option Input) → Window R → 
 source_left input t =
     if t.ended then Some (record { bytes = []; fails = false }) else input t.source
 
--- the input from the first byte not yet taken on, where it is known
+-- the input from the first byte not yet consumed on, if it is known
 abbrev pub input_left : {R : Type 0} → (R → Option Input) → Window R → Option Input
 input_left input t = option_map (prepend (unread t)) (source_left input t)
 
 -- of an input that ends at an offset below 2^64
-abbrev pub left_of : Place → ℕ → Input → Option Rest
+abbrev pub left_of : Position → ℕ → Input → Option Rest
 left_of place offset i =
     let end = offset + length i.bytes in
     let tokens = tokens_in place i.fails offset i.bytes in
     let rest : Rest = record { tokens = tokens; fails = i.fails; length = end } in
     if nat_lt end (2 ^ 64) then Some rest else None
 
-abbrev pub left : {R : Type 0} → (R → Option Input) → Window R → Option Rest
-left input t = option_and_then (left_of t.place t.offset) (input_left input t)
+abbrev pub rest_of_window : {R : Type 0} → (R → Option Input) → Window R → Option Rest
+rest_of_window input t = option_and_then (left_of t.place t.offset) (input_left input t)
 
 -- what was known stays so
 abbrev pub Keeps : Option Rest → Option Rest → Type 0
@@ -59,7 +59,7 @@ Keeps old new = IfSome old (λ l. new ≡ Some l)
 abbrev pub IsOver : Option Rest → Bool → Type 0
 IsOver old fails = IfSome old (λ l. (l.tokens ≡ []) × (l.fails ≡ fails))
 
--- a token stands at the front of the unread bytes
+-- a token is at the front of the unread bytes
 abbrev pub IsAtToken : {R : Type 0} → Window R → Type 0
 IsAtToken t =
     (0 < length (unread t)) × (t.place ≡ Past) × (is_white (slice_index (unread t) 0) ≡ false)
@@ -77,40 +77,41 @@ abbrev pub rounds : {R : Type 0} → (R → ℕ) → Window R → ℕ
 rounds reads_left t = if t.ended then 0 else reads_left t.source + 1
 
 -- what a caller sees of a token: at most 65,535 of its bytes
-pub record Seen : Type 0 where
+pub record TokenView : Type 0 where
   pub bytes : List ℕ
   pub offset : ℕ
   pub long : Bool
 
-abbrev pub seen_of : Token → Seen
-seen_of w =
+abbrev pub view_of_read : Token → TokenView
+view_of_read w =
     record { bytes = take 65535 w.bytes; offset = w.offset; long = nat_lt 65535 (length w.bytes) }
 
-abbrev pub seen_found : List ℕ → Found → Seen
-seen_found buf f =
+abbrev pub view_of_found : List ℕ → Found → TokenView
+view_of_found buf f =
     record { bytes = slice_range buf f.start (f.start + f.len); offset = f.offset; long = f.long }
 
 -- the answer where these tokens are left
-abbrev pub first_answer : List Token → Bool → Result (Option Seen) Stop
-first_answer (w ∷ ws) fails = Ok (Some (seen_of w))
+abbrev pub first_answer : List Token → Bool → Result (Option TokenView) ScanError
+first_answer (w ∷ ws) fails = Ok (Some (view_of_read w))
 first_answer [] false = Ok None
 first_answer [] true = Err stop.Read
 
-abbrev pub next_answer : Rest → Result (Option Seen) Stop
+abbrev pub next_answer : Rest → Result (Option TokenView) ScanError
 next_answer l = first_answer l.tokens l.fails
 
 -- the tokens after the first
 abbrev pub next_left : Rest → Rest
 next_left l = record l { tokens = drop 1 l.tokens }
 
--- an answer, as it is seen
-abbrev pub seen : {X E : Type 0} → (X → Seen) → Result (Option X) E → Result (Option Seen) E
-seen view (Ok None) = Ok None
-seen view (Ok (Some x)) = Ok (Some (view x))
-seen view (Err e) = Err e
+-- an answer, as a contract sees it
+abbrev pub view_of_answer : {X E : Type 0} → (X → TokenView) → Result (Option X) E
+    → Result (Option TokenView) E
+view_of_answer view (Ok None) = Ok None
+view_of_answer view (Ok (Some x)) = Ok (Some (view x))
+view_of_answer view (Err e) = Err e
 
 -- an error and a token that is too long end the reading
-abbrev pub stops : Result (Option Seen) Stop → Bool
+abbrev pub stops : Result (Option TokenView) ScanError → Bool
 stops (Ok None) = false
 stops (Ok (Some s)) = s.long
 stops (Err e) = true
@@ -124,16 +125,17 @@ abbrev pub IsFound : List ℕ → Found → Type 0
 IsFound buf f =
     (f.start + f.len ≤ 65536) × IsToken (slice_range buf f.start (f.start + f.len))
 
--- the token that is wanted is taken, and lies in the buffer; or the fault is that of the reading
+-- the token that is wanted is read, and lies in the buffer; or the fault is that of the reading
 -- there, and not that memory ran out
 pub record TakesToken {R : Type 0} (input : R → Option Input) (old new : Window R)
-    (result : Result Found Stop) : Type 0 where
-  pub read : Scans (found_token new.buf.value) token_read (left input old) (left input new) result
-  pub behind : IsBehind (left input old) (left input new)
+    (result : Result Found ScanError) : Type 0 where
+  pub read : Scans (found_token new.buf.value) token_read (rest_of_window input old)
+      (rest_of_window input new) result
+  pub behind : IsBehind (rest_of_window input old) (rest_of_window input new)
   pub found : IfOk result (IsFound new.buf.value)
   pub error : IfErr result (λ e. e ≢ stop.Memory)
 
--- the first n of the bytes not yet taken are white space before a token or the end
+-- the first n of the bytes not yet consumed are white space before a token or the end
 pub record IsGap {R : Type 0} (t : Window R) (n : ℕ) : Type 0 where
   pub place : t.place ≡ Past
   pub within : n ≤ length (unread t)

@@ -4,7 +4,7 @@ use vipr_bytes::Failed;
 
 /// Why a text was not read on.
 #[derive(Clone, Copy, Debug, PartialEq, Eq)]
-pub enum Stop {
+pub enum ScanError {
     /// The text is refused: the number of the cause, and the offset of the first byte of the token
     /// that is at fault.
     Refused { cause: u8, offset: u64 },
@@ -16,36 +16,36 @@ pub enum Stop {
     Memory,
 }
 
-impl From<AllocError> for Stop {
+impl From<AllocError> for ScanError {
     ghost use Rattle.std.specs.Prelude.{◌≡◌};
-    ghost use Rattle.vipr_scan.specs.declared.error.Stop.TheVariants.{Memory};
+    ghost use Rattle.vipr_scan.specs.declared.error.ScanError.TheVariants.{Memory};
 
     ghost from_gives = { λ _ e. e ≡ Memory };
 
-    fn from(_e: AllocError) -> Stop {
-        Stop::Memory
+    fn from(_e: AllocError) -> ScanError {
+        ScanError::Memory
     }
 }
 
-impl<T: Drop> From<AllocFailed<T>> for Stop {
+impl<T: Drop> From<AllocFailed<T>> for ScanError {
     ghost use Rattle.std.specs.Prelude.{◌≡◌};
-    ghost use Rattle.vipr_scan.specs.declared.error.Stop.TheVariants.{Memory};
+    ghost use Rattle.vipr_scan.specs.declared.error.ScanError.TheVariants.{Memory};
 
     ghost from_gives = { λ _ e. e ≡ Memory };
 
-    fn from(_e: AllocFailed<T>) -> Stop {
-        Stop::Memory
+    fn from(_e: AllocFailed<T>) -> ScanError {
+        ScanError::Memory
     }
 }
 
-impl From<Failed> for Stop {
+impl From<Failed> for ScanError {
     ghost use Rattle.std.specs.Prelude.{◌≡◌};
-    ghost use Rattle.vipr_scan.specs.declared.error.Stop.TheVariants.{Read};
+    ghost use Rattle.vipr_scan.specs.declared.error.ScanError.TheVariants.{Read};
 
     ghost from_gives = { λ _ e. e ≡ Read };
 
-    fn from(_failed: Failed) -> Stop {
-        Stop::Read
+    fn from(_failed: Failed) -> ScanError {
+        ScanError::Read
     }
 }
 
@@ -70,17 +70,17 @@ pub enum TextError {
     Spent,
 }
 
-impl From<Stop> for TextError {
+impl From<ScanError> for TextError {
     ghost use Rattle.std.specs.Prelude.{◌≡◌};
     ghost use Rattle.vipr_scan.specs.Faults.{error_of};
 
     ghost from_gives = { λ stop e. e ≡ error_of stop };
 
-    fn from(stop: Stop) -> TextError {
+    fn from(stop: ScanError) -> TextError {
         match stop {
-            Stop::Refused { cause, offset } => TextError::Refused { cause, offset },
-            Stop::Read => TextError::Read,
-            Stop::Memory => TextError::Memory,
+            ScanError::Refused { cause, offset } => TextError::Refused { cause, offset },
+            ScanError::Read => TextError::Read,
+            ScanError::Memory => TextError::Memory,
         }
     }
 }

@@ -35,7 +35,7 @@ pub trait TokenKind {
 
     ghost meaning: { Self → List ℕ → Result Meant ℕ };
 
-    /// What is so of each value, whether or not the source tells its bytes.
+    /// What is so of each value, whether or not the source's bytes are known.
     ghost bounds: { Self → Self.Value → Type 0 } = { λ _ _. ⊤ };
 
     fn read(&self, bytes: &[u8]) -> Result<Self::Value, Unfit>
@@ -44,7 +44,7 @@ pub trait TokenKind {
         ensures bounds { IfOk result (λ x. bounds self.now x) };
 
     /// What the token at the front means, and its length, where it can be read at once and white
-    /// space stands behind it. `None` says nothing of the bytes.
+    /// space follows it. `None` says nothing of the bytes.
     #[inline(always)]
     fn read_front(&self, bytes: &[u8]) -> Option<(Self::Value, usize)>
         ensures token { IfSome result (λ r. IsInFront bytes.now r.1) }

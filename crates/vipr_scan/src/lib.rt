@@ -1,18 +1,18 @@
 //! The scanner of a text: one call takes a token of any kind, over a fixed buffer.
 #![tactic(auto)]
 
+mod buffer;
 mod bytes;
 pub mod cause;
 mod error;
 mod kind;
-mod piece;
 mod place;
 mod scanner;
 mod tokens;
 mod window;
 
 pub use bytes::{is_white, run_end};
-pub use error::{Stop, TextError};
+pub use error::{ScanError, TextError};
 pub use kind::{TokenKind, Unfit};
 pub use scanner::Scanner;
 pub use tokens::{Token, Tokens};

@@ -1,10 +1,10 @@
 ghost use Rattle.std.specs.Prelude.{◌≡◌, ◌≢◌, ◌^◌, ◌<◌, length, Some, IfOk, IfSome, IfErr, OnOk};
 ghost use Rattle.std.specs.Prelude.{IsSome};
 ghost use Rattle.vipr_bytes.specs.Known.{IfKnown, text_of};
-ghost use Rattle.vipr_spec.specs.Reading.{taken, end_read};
+ghost use Rattle.vipr_spec.specs.Reading.{token_of, end_read};
 ghost use Rattle.vipr_scan.specs.Giving.{Scans, Ends, IsBehind, rest_of, Takes};
 
-use crate::error::Stop;
+use crate::error::ScanError;
 use crate::kind::{TokenKind, Unfit};
 use crate::window::Window;
 use std::alloc::{AllocError, Global};
@@ -21,11 +21,11 @@ pub struct Scanner<R: Source> {
 impl<R: Source> Model for Scanner<R> {
     ghost use Rattle.std.specs.Prelude.{Option};
     ghost use Rattle.vipr_spec.specs.Reading.{Rest};
-    ghost use Rattle.vipr_scan.specs.View.{left};
+    ghost use Rattle.vipr_scan.specs.View.{rest_of_window};
 
     ghost Value = { Option Rest };
 
-    ghost view = { λ s. left R.input s.window };
+    ghost view = { λ s. rest_of_window R.input s.window };
 }
 
 impl<R: Source> Scanner<R> {
@@ -39,10 +39,10 @@ impl<R: Source> Scanner<R> {
         Ok(Scanner { window })
     }
 
-    /// The next token, which is of this kind. A token that the kind refuses is taken too.
+    /// The next token, which is of this kind. A token that the kind refuses is consumed too.
     #[inline(always)]
-    pub fn take<K: TokenKind>(&mut self, kind: &K) -> Result<K::Value, Stop>
-        ensures read { Scans K.view (taken (K.meaning kind.now)) self.old self.new result }
+    pub fn take<K: TokenKind>(&mut self, kind: &K) -> Result<K::Value, ScanError>
+        ensures read { Scans K.view (token_of (K.meaning kind.now)) self.old self.new result }
         ensures behind { IsBehind self.old self.new }
         ensures bounds { IfOk result (λ x. K.bounds kind.now x) }
     {
@@ -54,39 +54,39 @@ impl<R: Source> Scanner<R> {
         self.take_slowly(kind)
     }
 
-    // What stands between `take` and `take_whole` keeps the place for the result of the one off
+    // What is between `take` and `take_whole` keeps the place for the result of the one off
     // the way of the other.
     #[inline(always)]
-    fn take_slowly<K: TokenKind>(&mut self, kind: &K) -> Result<K::Value, Stop>
+    fn take_slowly<K: TokenKind>(&mut self, kind: &K) -> Result<K::Value, ScanError>
         ensures { Takes K.view (K.meaning kind.now) (K.bounds kind.now) self.old self.new result }
     {
         let value = self.take_whole(kind)?;
         Ok(value)
     }
 
-    /// The same, where the kind doesn't read it at once.
+    /// The next token, of a kind that doesn't read it at once.
     #[inline(never)]
-    fn take_whole<K: TokenKind>(&mut self, kind: &K) -> Result<K::Value, Stop>
+    fn take_whole<K: TokenKind>(&mut self, kind: &K) -> Result<K::Value, ScanError>
         ensures { Takes K.view (K.meaning kind.now) (K.bounds kind.now) self.old self.new result }
     {
         let found = self.window.want()?;
         let bytes = &self.window.buf[found.start..found.start + found.len];
         match kind.read(bytes) {
             Ok(value) => Ok(value),
-            Err(Unfit::Cause(cause)) => Err(Stop::Refused {
+            Err(Unfit::Cause(cause)) => Err(ScanError::Refused {
                 cause,
                 offset: found.offset,
             }),
-            Err(Unfit::Memory) => Err(Stop::Memory),
+            Err(Unfit::Memory) => Err(ScanError::Memory),
         }
     }
 
-    /// The end of the text. A token that stands there is taken.
-    pub fn end(&mut self) -> Result<(), Stop>
+    /// The end of the text. A token there is consumed.
+    pub fn end(&mut self) -> Result<(), ScanError>
         ensures read { IsSome self.old → Ends result (end_read (rest_of self.old)) }
         ensures kept { OnOk result (IsSome self.old → self.new ≡ self.old) }
         ensures behind { IsBehind self.old self.new }
-        ensures error { IfErr result (λ e. e ≢ Stop.Memory) }
+        ensures error { IfErr result (λ e. e ≢ ScanError.Memory) }
     {
         self.window.end()
     }

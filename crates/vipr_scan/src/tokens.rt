@@ -5,8 +5,8 @@ ghost use Rattle.std.specs.Io.BufRead.{Rests};
 ghost use Rattle.vipr_bytes.specs.Known.{IfKnown, text_of};
 ghost use Rattle.vipr_spec.specs.Tokens.{IsToken};
 ghost use Rattle.vipr_scan.specs.Giving.{rest_of};
-ghost use Rattle.vipr_scan.specs.View.{seen};
-ghost use Rattle.vipr_scan.specs.Tokens.{seen_token, ends_reading, public_answer, Follows};
+ghost use Rattle.vipr_scan.specs.View.{view_of_answer};
+ghost use Rattle.vipr_scan.specs.Tokens.{view_of_token, ends_reading, public_answer, Follows};
 ghost use Rattle.vipr_scan.specs.contracts.tokens.Tokens.{the_row};
 
 use crate::error::TextError;
@@ -34,18 +34,19 @@ struct Reader<R> {
 }
 
 impl<R: Source> Reader<R> {
-    ghost use Rattle.vipr_scan.specs.View.{left, seen_found, next_left, IsFound};
+    ghost use Rattle.vipr_scan.specs.View.{rest_of_window, view_of_found, next_left, IsFound};
 
     /// Finds the next token, and takes it.
     fn advance(&mut self) -> Result<Option<Found>, TextError>
         ensures spent { IsErrOf result TextError.Spent ↔ (self.old.failed ≡ true) }
         ensures failed { self.new.failed ≡
-            ends_reading (seen (seen_found self.new.window.buf.value) result) }
+            ends_reading (view_of_answer (view_of_found self.new.window.buf.value) result) }
         ensures unchanged { self.old.failed ≡ true → self.new ≡ self.old }
-        ensures answer { self.old.failed ≡ false → IfSome (left R.input self.old.window)
-            (λ l. seen (seen_found self.new.window.buf.value) result ≡ public_answer l) }
-        ensures left { self.new.failed ≡ false → IfSome (left R.input self.old.window)
-            (λ l. left R.input self.new.window ≡ Some (next_left l)) }
+        ensures answer { self.old.failed ≡ false → IfSome (rest_of_window R.input self.old.window)
+            (λ l. view_of_answer (view_of_found self.new.window.buf.value) result
+            ≡ public_answer l) }
+        ensures left { self.new.failed ≡ false → IfSome (rest_of_window R.input self.old.window)
+            (λ l. rest_of_window R.input self.new.window ≡ Some (next_left l)) }
         ensures found { IfOk result (λ o. IfSome o (IsFound self.new.window.buf.value)) }
         ensures error { IfErr result (λ e. (e ≡ TextError.Read) ⊎ (e ≡ TextError.Spent)) }
     {
@@ -108,9 +109,9 @@ impl<R: Source> Tokens<R> {
         ensures token { IfOk result (λ o. IfSome o (λ t. IsToken t.bytes.now)) }
         ensures error { IfErr result (λ e. (e ≡ TextError.Read) ⊎ (e ≡ TextError.Spent)) }
         ensures answer { self.old.failed ≡ false → IsSome self.old.rest →
-            seen seen_token result ≡ public_answer (rest_of self.old.rest) }
+            view_of_answer view_of_token result ≡ public_answer (rest_of self.old.rest) }
         ensures* after { sem 𝓛 (Rests (the_row R.row R.Source) self.entry
-            (λ new. Follows self.old (seen seen_token result) new)) }
+            (λ new. Follows self.old (view_of_answer view_of_token result) new)) }
     {
         let reader = &mut self.reader;
         let Some(found) = reader.advance()? else {

@@ -6,13 +6,13 @@ ghost use Rattle.vipr_spec.specs.Input.{Input};
 ghost use Rattle.vipr_spec.specs.Tokens.{is_white, IsToken};
 ghost use Rattle.vipr_bytes.specs.Known.{IfKnown, text_of};
 
+use crate::buffer::{move_to_front, read_behind};
 use crate::bytes::{is_white, run_end};
 use crate::cause;
-use crate::error::Stop;
-use crate::piece::{move_to_front, read_behind};
-use crate::place::{Place, gap, white};
+use crate::error::ScanError;
+use crate::place::{Position, gap, white};
 use std::alloc::{AllocError, Global};
-use vipr_bytes::{Failed, Source};
+use vipr_bytes::{BUFFER_BYTES, Failed, Source};
 
 /// Where a token lies in the buffer.
 #[derive(Clone, Copy, Debug)]
@@ -27,11 +27,11 @@ pub(crate) struct Found {
 #[derive(Drop)]
 pub(crate) struct Window<R> {
     source: R,
-    pub(crate) buf: Box<[u8; 65536]>,
+    pub(crate) buf: Box<[u8; BUFFER_BYTES]>,
     start: usize,
     end: usize,
     offset: u64,
-    place: Place,
+    place: Position,
     ended: bool,
     ghost ordered: { start ≤ end },
     ghost within: { end ≤ 65536 },
@@ -42,8 +42,10 @@ impl<R: Source> Window<R> {
     ghost use Rattle.std.specs.Io.BufRead.{Rests};
     ghost use Rattle.vipr_scan.specs.contracts.window.Window.{the_row};
     ghost use Rattle.vipr_scan.specs.Places.{tokens_in};
-    ghost use Rattle.vipr_scan.specs.View.{unread, input_left, left, rounds, Keeps, IsOver};
-    ghost use Rattle.vipr_scan.specs.View.{IsAtToken, seen_found, next_answer, next_left, seen};
+    ghost use Rattle.vipr_scan.specs.View.{unread, input_left, rest_of_window, rounds, Keeps};
+    ghost use Rattle.vipr_scan.specs.View.{IsOver};
+    ghost use Rattle.vipr_scan.specs.View.{IsAtToken, view_of_found, next_answer, next_left};
+    ghost use Rattle.vipr_scan.specs.View.{view_of_answer};
     ghost use Rattle.vipr_scan.specs.View.{stops, found_token};
     ghost use Rattle.vipr_scan.specs.View.{IsGap, IsFound, IsMeasured, HoldsUnread, TakesToken};
     ghost use Rattle.vipr_scan.specs.Meaning.{IsInFront};
@@ -55,16 +57,16 @@ impl<R: Source> Window<R> {
     where
         R: Drop,
         ensures left { IfOk result (λ t. IfKnown (R.input source) (λ i.
-            left R.input t ≡ Some (text_of i))) }
+            rest_of_window R.input t ≡ Some (text_of i))) }
     {
-        let buf = Box::new(alloc, [0; 65536])?;
+        let buf = Box::new(alloc, [0; BUFFER_BYTES])?;
         Ok(Window {
             source,
             buf,
             start: 0,
             end: 0,
             offset: 0,
-            place: Place::Front,
+            place: Position::Front,
             ended: false,
         })
     }
@@ -75,14 +77,15 @@ impl<R: Source> Window<R> {
         requires room { length (unread self.old) < 65536 }
         requires more { self.old.ended ≡ false }
         ensures held { HoldsUnread self.old self.new }
-        ensures left { OnOk result (Keeps (left R.input self.old) (left R.input self.new)) }
+        ensures left { OnOk result
+            (Keeps (rest_of_window R.input self.old) (rest_of_window R.input self.new)) }
         ensures err { OnErr result
             (IfSome (input_left R.input self.old)
             (λ i. (i.bytes ≡ unread self.old) × (i.fails ≡ true))) }
         ensures round { OnOk result (rounds R.reads_left self.new < rounds R.reads_left self.old) }
     {
         let held = self.end - self.start;
-        let buf: &mut [u8; 65536] = &mut self.buf;
+        let buf: &mut [u8; BUFFER_BYTES] = &mut self.buf;
         move_to_front(buf, self.start, self.end);
         self.start = 0;
         self.end = held;
@@ -101,7 +104,7 @@ impl<R: Source> Window<R> {
 
     /// Takes the white space and comments at hand before the next token.
     fn take_gap(&mut self)
-        ensures left { Keeps (left R.input self.old) (left R.input self.new) }
+        ensures left { Keeps (rest_of_window R.input self.old) (rest_of_window R.input self.new) }
         ensures token { self.new.start < self.new.end → IsAtToken self.new }
         ensures ended { self.new.ended ≡ self.old.ended }
         ensures source { self.new.source ≡ self.old.source }
@@ -121,7 +124,7 @@ impl<R: Source> Window<R> {
         ensures bytes { 0 < length result.1.now →
             result.1.now ≡ drop result.0 (unread self.now) }
     {
-        if self.place != Place::Past {
+        if self.place != Position::Past {
             return (0, b"");
         }
         let bytes = &self.buf[self.start..self.end];
@@ -135,7 +138,7 @@ impl<R: Source> Window<R> {
         requires gap { IsGap self.old gap }
         requires token { IsInFront (drop gap (unread self.old)) len }
         ensures read { Scans (found_token self.new.buf.value) token_read
-            (left R.input self.old) (left R.input self.new) (Ok result) }
+            (rest_of_window R.input self.old) (rest_of_window R.input self.new) (Ok result) }
         ensures bytes { slice_range self.new.buf.value result.start (result.start + result.len)
             ≡ take len (drop gap (unread self.old)) }
         ensures within { result.start + result.len ≤ 65536 }
@@ -154,14 +157,15 @@ impl<R: Source> Window<R> {
 
     /// Goes to the next token. At the end no byte is left.
     fn skip(&mut self) -> Result<(), Failed>
-        ensures left { OnOk result (Keeps (left R.input self.old) (left R.input self.new)) }
+        ensures left { OnOk result
+            (Keeps (rest_of_window R.input self.old) (rest_of_window R.input self.new)) }
         ensures token { OnOk result (self.new.start < self.new.end → IsAtToken self.new) }
         ensures end { OnOk result
-            (self.new.start ≡ self.new.end → IsOver (left R.input self.old) false) }
+            (self.new.start ≡ self.new.end → IsOver (rest_of_window R.input self.old) false) }
         ensures reached { OnOk result
             (self.new.start ≡ self.new.end →
-            IfSome (left R.input self.old) (λ l. self.new.offset ≡ l.length)) }
-        ensures failed { OnErr result (IsOver (left R.input self.old) true) }
+            IfSome (rest_of_window R.input self.old) (λ l. self.new.offset ≡ l.length)) }
+        ensures failed { OnErr result (IsOver (rest_of_window R.input self.old) true) }
     {
         loop {
             self.take_gap();
@@ -175,15 +179,16 @@ impl<R: Source> Window<R> {
     /// The length of the token at the front, all of it at hand, or 65,536 if it is longer.
     fn measure(&mut self) -> Result<usize, Failed>
         requires { IsAtToken self.old }
-        ensures left { OnOk result (Keeps (left R.input self.old) (left R.input self.new)) }
+        ensures left { OnOk result
+            (Keeps (rest_of_window R.input self.old) (rest_of_window R.input self.new)) }
         ensures measured { IfOk result (λ n. IsMeasured self.new n) }
-        ensures failed { OnErr result (IsOver (left R.input self.old) true) }
+        ensures failed { OnErr result (IsOver (rest_of_window R.input self.old) true) }
     {
         let mut len = 0;
         loop {
             let bytes = &self.buf[self.start..self.end];
             len = run_end(bytes, len);
-            if len < bytes.len() || len == 65536 || self.ended {
+            if len < bytes.len() || len == BUFFER_BYTES || self.ended {
                 return Ok(len);
             }
             self.fill()?;
@@ -193,17 +198,18 @@ impl<R: Source> Window<R> {
     /// Takes the token at the front, of that many bytes.
     fn take_token(&mut self, n: usize) -> Found
         requires { IsMeasured self.old n }
-        ensures answer { IfSome (left R.input self.old)
-            (λ l. Ok (Some (seen_found self.new.buf.value result)) ≡ next_answer l) }
+        ensures answer { IfSome (rest_of_window R.input self.old)
+            (λ l. Ok (Some (view_of_found self.new.buf.value result)) ≡ next_answer l) }
         ensures left { result.long ≡ false →
-            IfSome (left R.input self.old) (λ l. left R.input self.new ≡ Some (next_left l)) }
+            IfSome (rest_of_window R.input self.old)
+            (λ l. rest_of_window R.input self.new ≡ Some (next_left l)) }
         ensures found { IsFound self.new.buf.value result }
     {
         let found = Found {
             start: self.start,
-            len: n.min(65535),
+            len: n.min(BUFFER_BYTES - 1),
             offset: self.offset,
-            long: n == 65536,
+            long: n == BUFFER_BYTES,
         };
         self.start += n;
         self.offset = self.offset.saturating_add(n as u64);
@@ -211,15 +217,16 @@ impl<R: Source> Window<R> {
     }
 
     /// Finds the next token, and takes it.
-    pub(crate) fn advance(&mut self) -> Result<Option<Found>, Stop>
-        ensures answer { IfSome (left R.input self.old)
-            (λ l. seen (seen_found self.new.buf.value) result ≡ next_answer l) }
-        ensures left { stops (seen (seen_found self.new.buf.value) result) ≡ false →
-            IfSome (left R.input self.old) (λ l. left R.input self.new ≡ Some (next_left l)) }
+    pub(crate) fn advance(&mut self) -> Result<Option<Found>, ScanError>
+        ensures answer { IfSome (rest_of_window R.input self.old)
+            (λ l. view_of_answer (view_of_found self.new.buf.value) result ≡ next_answer l) }
+        ensures left { stops (view_of_answer (view_of_found self.new.buf.value) result) ≡ false →
+            IfSome (rest_of_window R.input self.old)
+            (λ l. rest_of_window R.input self.new ≡ Some (next_left l)) }
         ensures end { result ≡ Ok None →
-            IfSome (left R.input self.old) (λ l. self.new.offset ≡ l.length) }
+            IfSome (rest_of_window R.input self.old) (λ l. self.new.offset ≡ l.length) }
         ensures found { IfOk result (λ o. IfSome o (IsFound self.new.buf.value)) }
-        ensures error { IfErr result (λ e. e ≡ Stop.Read) }
+        ensures error { IfErr result (λ e. e ≡ ScanError.Read) }
     {
         self.skip()?;
         if self.start == self.end {
@@ -232,7 +239,7 @@ impl<R: Source> Window<R> {
 
     /// Takes the token that is wanted here.
     #[tactic(auto, unfolding(vipr_spec::specs::Reading::first_token))]
-    pub(crate) fn want(&mut self) -> Result<Found, Stop>
+    pub(crate) fn want(&mut self) -> Result<Found, ScanError>
         ensures { TakesToken R.input self.old self.new result }
     {
         let (gap, bytes) = self.at_hand();
@@ -243,20 +250,20 @@ impl<R: Source> Window<R> {
         self.want_slowly()
     }
 
-    /// The same, where it may not be at hand.
+    /// The next token, which may not be at hand.
     #[inline(never)]
     #[tactic(auto, unfolding(vipr_spec::specs::Reading::first_token))]
-    fn want_slowly(&mut self) -> Result<Found, Stop>
+    fn want_slowly(&mut self) -> Result<Found, ScanError>
         ensures { TakesToken R.input self.old self.new result }
     {
         let Some(found) = self.advance()? else {
-            return Err(Stop::Refused {
+            return Err(ScanError::Refused {
                 cause: cause::TRUNCATED,
                 offset: self.offset,
             });
         };
         if found.long {
-            return Err(Stop::Refused {
+            return Err(ScanError::Refused {
                 cause: cause::TOKEN_TOO_LONG,
                 offset: found.offset,
             });
@@ -265,15 +272,17 @@ impl<R: Source> Window<R> {
     }
 
     /// Takes the end of the text.
-    pub(crate) fn end(&mut self) -> Result<(), Stop>
-        ensures read { IfSome (left R.input self.old) (λ l. Ends result (end_read l)) }
-        ensures behind { IsBehind (left R.input self.old) (left R.input self.new) }
-        ensures kept { OnOk result (Keeps (left R.input self.old) (left R.input self.new)) }
-        ensures error { IfErr result (λ e. e ≢ Stop.Memory) }
+    pub(crate) fn end(&mut self) -> Result<(), ScanError>
+        ensures read { IfSome (rest_of_window R.input self.old) (λ l. Ends result (end_read l)) }
+        ensures behind { IsBehind (rest_of_window R.input self.old)
+            (rest_of_window R.input self.new) }
+        ensures kept { OnOk result
+            (Keeps (rest_of_window R.input self.old) (rest_of_window R.input self.new)) }
+        ensures error { IfErr result (λ e. e ≢ ScanError.Memory) }
     {
         match self.advance()? {
             None => Ok(()),
-            Some(found) => Err(Stop::Refused {
+            Some(found) => Err(ScanError::Refused {
                 cause: cause::TRAILING_TEXT,
                 offset: found.offset,
             }),

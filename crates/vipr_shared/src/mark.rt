@@ -6,7 +6,7 @@ ghost use Rattle.vipr_shared.specs.Ownership.{is_zero, behind_a_ref};
 use std::marker::{Move, Owns, PhantomData};
 
 /// A word that is 0, but for the time of a call of `is_one`. Its value is that of the type that it
-/// stands beside.
+/// is beside.
 #[derive(Drop)]
 pub(crate) struct Mark<T> {
     word: usize,

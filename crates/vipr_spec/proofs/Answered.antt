@@ -9,7 +9,7 @@ use Rattle.vipr_spec.specs.Certificate.{Problem, variables, Claim, infeasible, r
 use Rattle.vipr_spec.specs.Reading.{Rest, Fault, certificate_read}
 use Rattle.vipr_spec.specs.Steps.{FirstFailing}
 use Rattle.vipr_spec.specs.Tests.{Test, spelled, meets_dual, Passes}
-use Rattle.vipr_spec.specs.Verdict.{Found, found_in, Report, Reports, Answer, verified, told_by, IsAnswer}
+use Rattle.vipr_spec.specs.Verdict.{Found, found_in, Report, Reports, Answer, verified, answer_of_test, IsAnswer}
 use Rattle.vipr_spec.proofs.FirstFailing.{failing_some, none_all}
 use Rattle.vipr_spec.proofs.AllTests.{proof_of_tests}
 use Rattle.vipr_spec.proofs.GrammarWhole.{integers_read_below}
@@ -52,6 +52,6 @@ module _ (P : Profile) where
   some_answer r n = failing_some (Passes P (found_in r).certificate) (found_in r).tests (λ h. by h.0 h.1)
     where
       by : (f : Option Test) → FirstFailing (Passes P (found_in r).certificate) (found_in r).tests f → ⊥
-      by (Some t) q = n (told_by t, (Some t, q, refl))
+      by (Some t) q = n (answer_of_test t, (Some t, q, refl))
       by None q = some_report (found_in r).certificate (λ m. m (dual_passes (found_in r) (certificate_read r) (integers_read_below r) (whole_read r) (none_all (Passes P (found_in r).certificate) (found_in r).tests q)))
           (λ s. n (verified s.0, (None, q, (s.0, s.1, refl))))

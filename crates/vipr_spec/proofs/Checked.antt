@@ -4,11 +4,11 @@ use Rattle.std.specs.Prelude.{◌↔◌, IsSome}
 use Rattle.std.specs.List.{HoldsAt}
 use Rattle.std.proofs.lemmas.Bool.{cases_lt}
 use Rattle.vipr_spec.specs.Constraint.{Profile, Row, Constraint, condition}
-use Rattle.vipr_spec.specs.Certificate.{Named, Problem, Derivation, Certificate, Known, given, constraint_at, MeetsDual, NeedsGoal, ProvesDual, GoalIs, held, count}
+use Rattle.vipr_spec.specs.Certificate.{Named, Problem, Derivation, Certificate, Known, given_constraint, constraint_at, MeetsDual, NeedsGoal, ProvesDual, GoalIs, count_held, count}
 use Rattle.vipr_spec.specs.Steps.{with_next, IsGoodNext, RefersBack}
 use Rattle.vipr_spec.specs.Reading.{Rest, end_read}
 use Rattle.vipr_spec.specs.Tests.{meets_dual}
-use Rattle.vipr_spec.specs.Verdict.{verified, told_by, Answers}
+use Rattle.vipr_spec.specs.Verdict.{verified, answer_of_test, Answers}
 use Rattle.vipr_spec.specs.Progress.{derivations_from}
 use Rattle.vipr_spec.specs.Checking.{start, IsChecked, Meets, IsFirstMet, ProvesNext, NextGoal, report_from}
 use Rattle.vipr_spec.proofs.Prefix.{count_next, known_next}
@@ -20,7 +20,7 @@ use Rattle.vipr_spec.proofs.Goals.{dual_given, goal_stays, goal_found, goal_miss
 
 -- ---- the constraints of the problem
 
-got : (xs : List (Named Constraint)) (i : ℕ) (d : Named Constraint) (none : Known) → i < length xs → slice_index_or (map given xs ++ []) i none ≡ given (slice_index_or xs i d)
+got : (xs : List (Named Constraint)) (i : ℕ) (d : Named Constraint) (none : Known) → i < length xs → slice_index_or (map given_constraint xs ++ []) i none ≡ given_constraint (slice_index_or xs i d)
 got [] i d none h = absurd (omega arith)
 got (x ∷ xs) zero d none h = refl
 got (x ∷ xs) (suc i) d none h = got xs i d none (omega arith)
@@ -67,11 +67,11 @@ next_goal P c d None next b h (inl n) = subst (GoalIs P (with_next c d)) (sym n.
 next_goal P c d None next b h (inr n) = subst (GoalIs P (with_next c d)) (sym n.1) (goal_missing P c d b h (λ q. n.0 ((proves_next P c d).0 q)))
 
 pub checked_next : (P : Profile) (c : Certificate) (d : Derivation) (goal next : Option ℕ) (most_held : ℕ) → IsChecked P c goal most_held → IsGoodNext P c d → NextGoal P c d goal next
-    → IsChecked P (with_next c d) next (max most_held (held (with_next c d) (count c)))
+    → IsChecked P (with_next c d) next (max most_held (count_held (with_next c d) (count c)))
 checked_next P c d goal next most_held h g n = record {
   steps = (good_steps_next P c d).1 (h.steps, g);
   goal_is = next_goal P c d goal next (refers_back P c h.steps) h.goal_is n;
-  peak_is = ap (λ k. max k (held (with_next c d) (count c))) h.peak_is ∙ sym (peak_next c d);
+  peak_is = ap (λ k. max k (count_held (with_next c d) (count c))) h.peak_is ∙ sym (peak_next c d);
 }
 
 -- ---- the end
@@ -83,5 +83,5 @@ checked_verified P c goal most_held r h e s =
     (end_verified P c r (verified (report_from c goal most_held)) e m.0).1 (report_from c goal most_held, record { claim = refl; solutions = refl; derived = refl; peak = h.peak_is; goal = m.1 }, refl)
 
 pub checked_unproved : (P : Profile) (c : Certificate) (most_held : ℕ) (r : Rest) → IsChecked P c None most_held → end_read r ≡ Ok tt → NeedsGoal c.problem c.problem.claim
-    → Answers P (derivations_from c 0 r) (told_by meets_dual)
-checked_unproved P c most_held r h e s = (end_unproved P c r (told_by meets_dual) e (goal_missed P c h.goal_is s)).1 refl
+    → Answers P (derivations_from c 0 r) (answer_of_test meets_dual)
+checked_unproved P c most_held r h e s = (end_unproved P c r (answer_of_test meets_dual) e (goal_missed P c h.goal_is s)).1 refl

@@ -4,19 +4,19 @@ use Rattle.std.specs.Str.{bytes_eq}
 use Rattle.vipr_spec.specs.Fraction.{ℚ}
 use Rattle.vipr_spec.specs.Digits.{natural_after, natural_of}
 use Rattle.vipr_spec.specs.Number.{SpellsNumber, NumberFault, not_a_number, number_read}
-use Rattle.vipr_spec.specs.Reading.{some_of, caused, number_of, bound_of}
+use Rattle.vipr_spec.specs.Reading.{some_of, or_cause, number_of, bound_of}
 use Rattle.vipr_spec.specs.Grammar.{SpellsBound}
 use Rattle.vipr_spec.specs.GrammarLaws.{ReadsKind, KindsOfNumber}
 use Rattle.vipr_spec.proofs.NumberReads.{number_sound, number_complete}
 use Rattle.vipr_spec.proofs.GrammarSteps.{same_ok}
 use Rattle.vipr_spec.proofs.GrammarTokens.{same_bytes, bytes_same, picks, some_sound}
 
-caused_ok : (r : Result ℚ NumberFault) (x : ℚ) → caused r ≡ Ok x → r ≡ Ok x
+caused_ok : (r : Result ℚ NumberFault) (x : ℚ) → or_cause r ≡ Ok x → r ≡ Ok x
 caused_ok (Ok y) x e = ap Ok (same_ok e)
 caused_ok (Err c) x e = absurd (cc)
 
 pub number_is : ReadsKind number_of SpellsNumber
-number_is t x = (λ e. number_sound t x (caused_ok (number_read t) x e), λ h. ap caused (number_complete t x h))
+number_is t x = (λ e. number_sound t x (caused_ok (number_read t) x e), λ h. ap or_cause (number_complete t x h))
 
 -- what is no number
 abbrev pub IsNoNumber : List ℕ → Type 0

@@ -6,11 +6,11 @@ use Rattle.vipr_spec.specs.Causes as cause
 use Rattle.vipr_spec.specs.Tokens.{Token}
 use Rattle.vipr_spec.specs.Constraint.{Row, Constraint}
 use Rattle.vipr_spec.specs.Certificate.{Named, Problem, variables, Reason, asm, lin, rnd, uns, sol, infeasible, range}
-use Rattle.vipr_spec.specs.Reading.{most_bytes, Rest, Fault, refused, unread, ◌>>=◌, Read, first_token, judged, taken, name_of, word_of, count_of, derivation_count_of, variable_of, new_variable_of, reference_of, last_of, number_of, bound_of, spelled_sense, spelled_direction, has_range_of, rule_of, Rule, by_asm, by_lin, by_rnd, by_uns, by_sol, keyword_read, pair_read, pairs_read, row_of, counted_read, vector_read, row_read, constraint_read, version_read, names_read, integers_read, objective_read, constraints_read, range_read, claim_read, problem_read, solution_read, derivations_read, entry_read, entries_read, by_read, reason_read, derivation_read, end_of, end_read, certificate_read}
+use Rattle.vipr_spec.specs.Reading.{most_bytes, Rest, Fault, refused, unread, ◌>>=◌, Read, first_token, checked_token, token_of, name_of, word_of, count_of, derivation_count_of, variable_of, new_variable_of, reference_of, last_of, number_of, bound_of, spelled_sense, spelled_direction, has_range_of, rule_of, Rule, by_asm, by_lin, by_rnd, by_uns, by_sol, keyword_read, pair_read, pairs_read, row_of, counted_read, vector_read, row_read, constraint_read, version_read, names_read, integers_read, objective_read, constraints_read, range_read, claim_read, problem_read, solution_read, derivations_read, entry_read, entries_read, by_read, reason_read, derivation_read, end_of, end_read, certificate_read}
 use Rattle.vipr_spec.specs.Grammar.{word, one, constraint, entry, solution, derivation, SpellsVariable}
-use Rattle.vipr_spec.specs.FaultLaws.{IsRefusedAt, EndsEarly, FaultsStand, ItemFaults}
+use Rattle.vipr_spec.specs.FaultLaws.{IsRefusedAt, EndsEarly, FaultsRemain, ItemFaults}
 use Rattle.vipr_spec.proofs.GrammarTokens.{same_bytes}
-use Rattle.vipr_spec.proofs.GrammarFaults.{fault, never, stands_ok, stands_then, stands_same, stands_named, stands_token, reads_repeated, stands_repeated}
+use Rattle.vipr_spec.proofs.GrammarFaults.{fault, never, remains_ok, remains_then, remains_same, remains_named, remains_token, reads_repeated, remains_repeated}
 use Rattle.vipr_spec.proofs.GrammarParts.{reads_name, reads_fixed, reads_count}
 use Rattle.vipr_spec.proofs.GrammarVectors.{reads_number, reads_variable, reads_pair, reads_pairs, reads_vector, reads_row, reads_sense, reads_constraint}
 use Rattle.vipr_spec.proofs.GrammarSections.{reads_keyword, reads_version, reads_names, reads_index, reads_integers, reads_direction, reads_objective, reads_constraints, reads_has_range, reads_lower, reads_upper, reads_claim, reads_problem, reads_solution}
@@ -18,18 +18,18 @@ use Rattle.vipr_spec.proofs.GrammarDerivations.{reads_reference, reads_rule, rea
 
 -- ---- vectors
 
-stands_pair : (n : ℕ) (before : List ℕ) → FaultsStand (pair_read n before)
+remains_pair : (n : ℕ) (before : List ℕ) → FaultsRemain (pair_read n before)
 unfolding pair_read
-stands_pair n before = stands_then (reads_variable n before) (stands_token (new_variable_of n before)) _ (λ i. stands_then reads_number (stands_token number_of) _ (λ a. stands_ok (i, a)))
+remains_pair n before = remains_then (reads_variable n before) (remains_token (new_variable_of n before)) _ (λ i. remains_then reads_number (remains_token number_of) _ (λ a. remains_ok (i, a)))
 
-stands_pairs : (n : ℕ) (before : List ℕ) (k : ℕ) → FaultsStand (pairs_read n before k)
+remains_pairs : (n : ℕ) (before : List ℕ) (k : ℕ) → FaultsRemain (pairs_read n before k)
 unfolding pairs_read
-stands_pairs n before zero = stands_ok []
-stands_pairs n before (suc k) = stands_then (reads_pair n before) (stands_pair n before) _ (λ p. stands_then (reads_pairs n (p.0 ∷ before) k) (stands_pairs n (p.0 ∷ before) k) _ (λ ps. stands_ok (p ∷ ps)))
+remains_pairs n before zero = remains_ok []
+remains_pairs n before (suc k) = remains_then (reads_pair n before) (remains_pair n before) _ (λ p. remains_then (reads_pairs n (p.0 ∷ before) k) (remains_pairs n (p.0 ∷ before) k) _ (λ ps. remains_ok (p ∷ ps)))
 
-stands_vector : (n : ℕ) → FaultsStand (vector_read n)
+remains_vector : (n : ℕ) → FaultsRemain (vector_read n)
 unfolding vector_read counted_read
-stands_vector n = stands_then reads_count (stands_token count_of) (counted_read n) (λ k. stands_then (reads_pairs n [] k) (stands_pairs n [] k) _ (λ ps. stands_ok (row_of ps)))
+remains_vector n = remains_then reads_count (remains_token count_of) (counted_read n) (λ k. remains_then (reads_pairs n [] k) (remains_pairs n [] k) _ (λ ps. remains_ok (row_of ps)))
 
 -- ---- a vector, or OBJ
 
@@ -53,13 +53,13 @@ still_other (b ∷ bs) t after more h = h
 
 module _ (n : ℕ) (objective : Row) where
   abbrev chosen_by : Bool → Token × Rest → Read Row
-  chosen_by b t = if b then Ok (objective, t.1) else (judged (count_of t.0.bytes) t >>= counted_read n)
+  chosen_by b t = if b then Ok (objective, t.1) else (checked_token (count_of t.0.bytes) t >>= counted_read n)
 
   abbrev row_with : Result (Token × Rest) Fault → Read Row
   row_with first = first >>= λ t. chosen_by (is_objective t.0) t
 
   abbrev vector_with : Result (Token × Rest) Fault → Read Row
-  vector_with first = (first >>= λ t. judged (count_of t.0.bytes) t) >>= counted_read n
+  vector_with first = (first >>= λ t. checked_token (count_of t.0.bytes) t) >>= counted_read n
 
   abbrev none : Bool → ℕ → Result (Token × Rest) Fault
   none fails size = if fails then Err unread else Err (refused cause.truncated size)
@@ -111,85 +111,85 @@ module _ (n : ℕ) (objective : Row) where
         after = k.after;
         joined = k.joined;
         here = k.here;
-        stands = λ q more i. row_is_vector q (subst IsOther (sym i) (still_other k.before k.token k.after more (subst IsOther k.joined h))) ∙ k.stands q more i;
+        remains = λ q more i. row_is_vector q (subst IsOther (sym i) (still_other k.before k.token k.after more (subst IsOther k.joined h))) ∙ k.remains q more i;
         first = λ q i l. row_is_vector q (subst IsOther (sym i) (front_other k.before k.token k.after (subst IsOther k.joined h))) ∙ k.first q i l;
       }))
       inr
-      ((stands_vector n).refusal r c o (sym (row_is_vector r h) ∙ e))
+      ((remains_vector n).refusal r c o (sym (row_is_vector r h) ∙ e))
 
-  stands_row : FaultsStand (row_read n objective)
-  stands_row = record { refusal = row_refusal; failure = λ r e. (stands_vector n).failure r (sym (row_is_vector r (other r unread e)) ∙ e) }
+  remains_row : FaultsRemain (row_read n objective)
+  remains_row = record { refusal = row_refusal; failure = λ r e. (remains_vector n).failure r (sym (row_is_vector r (other r unread e)) ∙ e) }
 
-  stands_constraint : FaultsStand (constraint_read n objective)
+  remains_constraint : FaultsRemain (constraint_read n objective)
   unfolding constraint_read
-  stands_constraint =
-      stands_then reads_name (stands_token name_of) _ (λ name. stands_then reads_sense (stands_token spelled_sense) _
-      (λ sense. stands_then reads_number (stands_token number_of) _ (λ bound. stands_then (reads_row n objective) stands_row _
-      (λ row. stands_ok (record { name = name; item = record { row = row; sense = sense; bound = bound } })))))
+  remains_constraint =
+      remains_then reads_name (remains_token name_of) _ (λ name. remains_then reads_sense (remains_token spelled_sense) _
+      (λ sense. remains_then reads_number (remains_token number_of) _ (λ bound. remains_then (reads_row n objective) remains_row _
+      (λ row. remains_ok (record { name = name; item = record { row = row; sense = sense; bound = bound } })))))
 
 -- ---- the sections of a problem
 
-stands_keyword : (w : List ℕ) → FaultsStand (keyword_read w)
-stands_keyword w = stands_token (word_of w cause.wrong_keyword)
+remains_keyword : (w : List ℕ) → FaultsRemain (keyword_read w)
+remains_keyword w = remains_token (word_of w cause.wrong_keyword)
 
-stands_count : FaultsStand (taken count_of)
-stands_count = stands_token count_of
+remains_count : FaultsRemain (token_of count_of)
+remains_count = remains_token count_of
 
-stands_version : FaultsStand version_read
+remains_version : FaultsRemain version_read
 unfolding version_read
-stands_version = stands_then (reads_keyword (codes "VER")) (stands_keyword (codes "VER")) _ (λ v. stands_token (word_of (codes "1.0") cause.unsupported_version))
+remains_version = remains_then (reads_keyword (codes "VER")) (remains_keyword (codes "VER")) _ (λ v. remains_token (word_of (codes "1.0") cause.unsupported_version))
 
-stands_names : FaultsStand names_read
+remains_names : FaultsRemain names_read
 unfolding names_read
-stands_names = stands_then (reads_keyword (codes "VAR")) (stands_keyword (codes "VAR")) _ (λ v. stands_then reads_count stands_count _ (λ n. stands_repeated (taken name_of) word reads_name (stands_token name_of) n))
+remains_names = remains_then (reads_keyword (codes "VAR")) (remains_keyword (codes "VAR")) _ (λ v. remains_then reads_count remains_count _ (λ n. remains_repeated (token_of name_of) word reads_name (remains_token name_of) n))
 
-stands_integers : (n : ℕ) → FaultsStand (integers_read n)
+remains_integers : (n : ℕ) → FaultsRemain (integers_read n)
 unfolding integers_read
-stands_integers n =
-    let index = taken (variable_of n) in let S = one (SpellsVariable n) in
-    stands_then (reads_keyword (codes "INT")) (stands_keyword (codes "INT")) _ (λ v. stands_then reads_count stands_count _
-    (λ i. stands_then (reads_repeated index S (reads_index n) (stands_token (variable_of n)) i) (stands_repeated index S (reads_index n) (stands_token (variable_of n)) i) _ (λ is. stands_ok (from_list is))))
+remains_integers n =
+    let index = token_of (variable_of n) in let S = one (SpellsVariable n) in
+    remains_then (reads_keyword (codes "INT")) (remains_keyword (codes "INT")) _ (λ v. remains_then reads_count remains_count _
+    (λ i. remains_then (reads_repeated index S (reads_index n) (remains_token (variable_of n)) i) (remains_repeated index S (reads_index n) (remains_token (variable_of n)) i) _ (λ is. remains_ok (from_list is))))
 
-stands_objective : (n : ℕ) → FaultsStand (objective_read n)
+remains_objective : (n : ℕ) → FaultsRemain (objective_read n)
 unfolding objective_read
-stands_objective n =
-    stands_then (reads_keyword (codes "OBJ")) (stands_keyword (codes "OBJ")) _ (λ v. stands_then reads_direction (stands_token spelled_direction) _
-    (λ d. stands_then (reads_vector n) (stands_vector n) _ (λ row. stands_ok (d, row))))
+remains_objective n =
+    remains_then (reads_keyword (codes "OBJ")) (remains_keyword (codes "OBJ")) _ (λ v. remains_then reads_direction (remains_token spelled_direction) _
+    (λ d. remains_then (reads_vector n) (remains_vector n) _ (λ row. remains_ok (d, row))))
 
 module _ (n : ℕ) (row : Row) where
   abbrev Stated : Named Constraint → List (List ℕ) → Type 0
   Stated c = constraint n row c.name c.item
 
-  stands_constraints : FaultsStand (constraints_read n row)
+  remains_constraints : FaultsRemain (constraints_read n row)
   unfolding constraints_read
-  stands_constraints =
+  remains_constraints =
       let one = constraint_read n row in
-      stands_then (reads_keyword (codes "CON")) (stands_keyword (codes "CON")) _ (λ v. stands_then reads_count stands_count _ (λ m. stands_then reads_count stands_count _
-      (λ b. stands_then (reads_repeated one Stated (reads_constraint n row) (stands_constraint n row) m) (stands_repeated one Stated (reads_constraint n row) (stands_constraint n row) m) _ (λ cs. stands_ok (b, cs)))))
+      remains_then (reads_keyword (codes "CON")) (remains_keyword (codes "CON")) _ (λ v. remains_then reads_count remains_count _ (λ m. remains_then reads_count remains_count _
+      (λ b. remains_then (reads_repeated one Stated (reads_constraint n row) (remains_constraint n row) m) (remains_repeated one Stated (reads_constraint n row) (remains_constraint n row) m) _ (λ cs. remains_ok (b, cs)))))
 
-stands_range : (b : Bool) → FaultsStand (range_read b)
+remains_range : (b : Bool) → FaultsRemain (range_read b)
 unfolding range_read
-stands_range false = stands_ok infeasible
-stands_range true =
-    stands_then reads_lower (stands_token (bound_of (codes "-inf"))) _
-    (λ lower. stands_then reads_upper (stands_token (bound_of (codes "inf"))) _ (λ upper. stands_ok (range lower upper)))
+remains_range false = remains_ok infeasible
+remains_range true =
+    remains_then reads_lower (remains_token (bound_of (codes "-inf"))) _
+    (λ lower. remains_then reads_upper (remains_token (bound_of (codes "inf"))) _ (λ upper. remains_ok (range lower upper)))
 
-stands_claim : FaultsStand claim_read
+remains_claim : FaultsRemain claim_read
 unfolding claim_read
-stands_claim = stands_then (reads_keyword (codes "RTP")) (stands_keyword (codes "RTP")) _ (λ v. stands_then reads_has_range (stands_token has_range_of) _ (λ b. stands_range b))
+remains_claim = remains_then (reads_keyword (codes "RTP")) (remains_keyword (codes "RTP")) _ (λ v. remains_then reads_has_range (remains_token has_range_of) _ (λ b. remains_range b))
 
-stands_problem : FaultsStand problem_read
+remains_problem : FaultsRemain problem_read
 unfolding problem_read
-stands_problem =
-    stands_then reads_version stands_version _
-    (λ v. stands_then reads_names stands_names _
-    (λ names. stands_then (reads_integers (length names)) (stands_integers (length names)) _
-    (λ integers. stands_then (reads_objective (length names)) (stands_objective (length names)) _
-    (λ objective. stands_then (reads_constraints (length names) objective.1) (stands_constraints (length names) objective.1) _
-    (λ constraints. stands_then reads_claim stands_claim _
-    (λ claim. stands_then (reads_keyword (codes "SOL")) (stands_keyword (codes "SOL")) _
-    (λ k. stands_then reads_count stands_count _
-    (λ s. stands_ok (
+remains_problem =
+    remains_then reads_version remains_version _
+    (λ v. remains_then reads_names remains_names _
+    (λ names. remains_then (reads_integers (length names)) (remains_integers (length names)) _
+    (λ integers. remains_then (reads_objective (length names)) (remains_objective (length names)) _
+    (λ objective. remains_then (reads_constraints (length names) objective.1) (remains_constraints (length names) objective.1) _
+    (λ constraints. remains_then reads_claim remains_claim _
+    (λ claim. remains_then (reads_keyword (codes "SOL")) (remains_keyword (codes "SOL")) _
+    (λ k. remains_then reads_count remains_count _
+    (λ s. remains_ok (
       record {
         names = names;
         integers = integers;
@@ -204,67 +204,67 @@ stands_problem =
 
 -- ---- solutions and derivations
 
-stands_solution : (p : Problem) → FaultsStand (solution_read p)
+remains_solution : (p : Problem) → FaultsRemain (solution_read p)
 unfolding solution_read
-stands_solution p = stands_then reads_name (stands_token name_of) _ (λ name. stands_then (reads_vector (variables p)) (stands_vector (variables p)) _ (λ row. stands_ok (record { name = name; item = row })))
+remains_solution p = remains_then reads_name (remains_token name_of) _ (λ name. remains_then (reads_vector (variables p)) (remains_vector (variables p)) _ (λ row. remains_ok (record { name = name; item = row })))
 
-stands_derivations : (p : Problem) → FaultsStand (derivations_read p)
+remains_derivations : (p : Problem) → FaultsRemain (derivations_read p)
 unfolding derivations_read
-stands_derivations p = stands_then (reads_keyword (codes "DER")) (stands_keyword (codes "DER")) _ (λ v. stands_token (derivation_count_of (length p.constraints)))
+remains_derivations p = remains_then (reads_keyword (codes "DER")) (remains_keyword (codes "DER")) _ (λ v. remains_token (derivation_count_of (length p.constraints)))
 
-stands_entry : FaultsStand entry_read
+remains_entry : FaultsRemain entry_read
 unfolding entry_read
-stands_entry = stands_then reads_reference (stands_token reference_of) _ (λ i. stands_then reads_number (stands_token number_of) _ (λ m. stands_ok (i, m)))
+remains_entry = remains_then reads_reference (remains_token reference_of) _ (λ i. remains_then reads_number (remains_token number_of) _ (λ m. remains_ok (i, m)))
 
-stands_entries : FaultsStand entries_read
+remains_entries : FaultsRemain entries_read
 unfolding entries_read
-stands_entries = stands_then reads_count stands_count _ (λ p. stands_repeated entry_read entry reads_entry stands_entry p)
+remains_entries = remains_then reads_count remains_count _ (λ p. remains_repeated entry_read entry reads_entry remains_entry p)
 
-stands_by : (rule : Rule) → FaultsStand (by_read rule)
+remains_by : (rule : Rule) → FaultsRemain (by_read rule)
 unfolding by_read
-stands_by by_asm = stands_ok asm
-stands_by by_lin = stands_then reads_entries stands_entries _ (λ es. stands_ok (lin es))
-stands_by by_rnd = stands_then reads_entries stands_entries _ (λ es. stands_ok (rnd es))
-stands_by by_uns =
-    let index = stands_token reference_of in
-    stands_then reads_reference index _ (λ i1. stands_then reads_reference index _ (λ l1. stands_then reads_reference index _ (λ i2. stands_then reads_reference index _ (λ l2. stands_ok (uns i1 l1 i2 l2)))))
-stands_by by_sol = stands_ok sol
+remains_by by_asm = remains_ok asm
+remains_by by_lin = remains_then reads_entries remains_entries _ (λ es. remains_ok (lin es))
+remains_by by_rnd = remains_then reads_entries remains_entries _ (λ es. remains_ok (rnd es))
+remains_by by_uns =
+    let index = remains_token reference_of in
+    remains_then reads_reference index _ (λ i1. remains_then reads_reference index _ (λ l1. remains_then reads_reference index _ (λ i2. remains_then reads_reference index _ (λ l2. remains_ok (uns i1 l1 i2 l2)))))
+remains_by by_sol = remains_ok sol
 
-stands_ruled : FaultsStand ruled
-stands_ruled = stands_then reads_rule (stands_token rule_of) _ (λ rule. stands_by rule)
+remains_ruled : FaultsRemain ruled
+remains_ruled = remains_then reads_rule (remains_token rule_of) _ (λ rule. remains_by rule)
 
 regrouped : {A B C : Type 0} (first : Result A Fault) (f : A → Result B Fault) (g : B → Result C Fault) → (first >>= λ x. f x >>= g) ≡ ((first >>= f) >>= g)
 regrouped (Ok x) f g = refl
 regrouped (Err d) f g = refl
 
 abbrev closing : Reason × Rest → Read Reason
-closing given = taken (word_of (codes "}") cause.bad_brace) given.1 >>= λ closed. Ok (given.0, closed.1)
+closing given = token_of (word_of (codes "}") cause.bad_brace) given.1 >>= λ closed. Ok (given.0, closed.1)
 
 abbrev opening : Rest → Read (Unit {0})
-opening r = taken (word_of (codes "{") cause.bad_brace) r
+opening r = token_of (word_of (codes "{") cause.bad_brace) r
 
 abbrev reason_by_parts : Rest → Read Reason
 reason_by_parts r = opening r >>= λ opened. ruled opened.1 >>= closing
 
-stands_parts : FaultsStand reason_by_parts
-stands_parts =
-    stands_then (reads_fixed (codes "{") cause.bad_brace) (stands_token (word_of (codes "{") cause.bad_brace)) _
-    (λ opened. stands_then reads_ruled stands_ruled closing
-    (λ given. stands_then (reads_fixed (codes "}") cause.bad_brace) (stands_token (word_of (codes "}") cause.bad_brace)) _ (λ closed. stands_ok given)))
+remains_parts : FaultsRemain reason_by_parts
+remains_parts =
+    remains_then (reads_fixed (codes "{") cause.bad_brace) (remains_token (word_of (codes "{") cause.bad_brace)) _
+    (λ opened. remains_then reads_ruled remains_ruled closing
+    (λ given. remains_then (reads_fixed (codes "}") cause.bad_brace) (remains_token (word_of (codes "}") cause.bad_brace)) _ (λ closed. remains_ok given)))
 
-braced_same : (first : Result (Unit {0} × Rest) Fault) → (first >>= λ opened. taken rule_of opened.1 >>= λ rule. by_read rule.0 rule.1 >>= closing) ≡ (first >>= λ opened. ruled opened.1 >>= closing)
-braced_same (Ok opened) = regrouped (taken rule_of opened.1) (λ rule. by_read rule.0 rule.1) closing
+braced_same : (first : Result (Unit {0} × Rest) Fault) → (first >>= λ opened. token_of rule_of opened.1 >>= λ rule. by_read rule.0 rule.1 >>= closing) ≡ (first >>= λ opened. ruled opened.1 >>= closing)
+braced_same (Ok opened) = regrouped (token_of rule_of opened.1) (λ rule. by_read rule.0 rule.1) closing
 braced_same (Err d) = refl
 
-stands_reason : FaultsStand reason_read
+remains_reason : FaultsRemain reason_read
 unfolding reason_read
-stands_reason = stands_same reason_by_parts reason_read (λ r. braced_same (opening r)) stands_parts
+remains_reason = remains_same reason_by_parts reason_read (λ r. braced_same (opening r)) remains_parts
 
-stands_derivation : (p : Problem) → FaultsStand (derivation_read p)
+remains_derivation : (p : Problem) → FaultsRemain (derivation_read p)
 unfolding derivation_read
-stands_derivation p =
-    stands_then (reads_constraint (variables p) p.objective) (stands_constraint (variables p) p.objective) _ (λ c. stands_then reads_reason stands_reason _
-    (λ why. stands_then reads_last (stands_token last_of) _ (λ last. stands_ok (record { name = c.name; stated = c.item; reason = why; last = last }))))
+remains_derivation p =
+    remains_then (reads_constraint (variables p) p.objective) (remains_constraint (variables p) p.objective) _ (λ c. remains_then reads_reason remains_reason _
+    (λ why. remains_then reads_last (remains_token last_of) _ (λ last. remains_ok (record { name = c.name; stated = c.item; reason = why; last = last }))))
 
 -- ---- the end, and the whole
 
@@ -275,7 +275,7 @@ no_end false c o e = cc
 end_refusal : (ts : List Token) (r : Rest) (c o : ℕ) → r.tokens ≡ ts → end_of ts r ≡ Err (refused c o) → IsRefusedAt end_read r c o ⊎ EndsEarly r c o
 unfolding end_of
 end_refusal [] r c o h e = absurd (no_end r.fails c o e)
-end_refusal (t ∷ ts) r c o h e = inl (record { before = []; token = t; after = ts; joined = h; here = cc; stands = λ q more i. ap (λ us. end_of us q) i ∙ e; first = λ q i l. ap (λ us. end_of us q) i ∙ ap (λ b. if b then Err unread else Ok tt) l })
+end_refusal (t ∷ ts) r c o h e = inl (record { before = []; token = t; after = ts; joined = h; here = cc; remains = λ q more i. ap (λ us. end_of us q) i ∙ e; first = λ q i l. ap (λ us. end_of us q) i ∙ ap (λ b. if b then Err unread else Ok tt) l })
 
 end_failure : (ts : List Token) (r : Rest) → end_of ts r ≡ Err unread → r.fails ≡ true
 unfolding end_of
@@ -286,21 +286,21 @@ end_failure [] r e = failed r.fails e
     failed false e = absurd (cc)
 end_failure (t ∷ ts) r e = absurd (cc)
 
-stands_end : FaultsStand end_read
-stands_end = record { refusal = λ r c o e. end_refusal r.tokens r c o refl e; failure = λ r e. end_failure r.tokens r e }
+remains_end : FaultsRemain end_read
+remains_end = record { refusal = λ r c o e. end_refusal r.tokens r c o refl e; failure = λ r e. end_failure r.tokens r e }
 
-stands_certificate : FaultsStand certificate_read
+remains_certificate : FaultsRemain certificate_read
 unfolding certificate_read
-stands_certificate =
-    stands_then reads_problem stands_problem _
+remains_certificate =
+    remains_then reads_problem remains_problem _
     (λ p.
-    let one = solution_read p.0 in let S = solution (variables p.0) in let law = reads_solution p.0 in let k = stands_solution p.0 in
-    stands_then (reads_repeated one S law k p.1) (stands_repeated one S law k p.1) _
-    (λ solutions. stands_then (reads_any_count p.0) (stands_derivations p.0) _
+    let one = solution_read p.0 in let S = solution (variables p.0) in let law = reads_solution p.0 in let k = remains_solution p.0 in
+    remains_then (reads_repeated one S law k p.1) (remains_repeated one S law k p.1) _
+    (λ solutions. remains_then (reads_any_count p.0) (remains_derivations p.0) _
     (λ d.
-    let step = derivation_read p.0 in let T = derivation p.0 in let rule = reads_derivation p.0 in let j = stands_derivation p.0 in
-    stands_then (reads_repeated step T rule j d) (stands_repeated step T rule j d) _
-    (λ derivations. stands_named (λ end. record { problem = p.0; solutions = solutions; derivations = derivations }) stands_end))))
+    let step = derivation_read p.0 in let T = derivation p.0 in let rule = reads_derivation p.0 in let j = remains_derivation p.0 in
+    remains_then (reads_repeated step T rule j d) (remains_repeated step T rule j d) _
+    (λ derivations. remains_named (λ end. record { problem = p.0; solutions = solutions; derivations = derivations }) remains_end))))
 
 pub item_faults : ItemFaults
-item_faults = record { problem = stands_problem; solution = stands_solution; derivations = stands_derivations; derivation = stands_derivation; end = stands_end; certificate = stands_certificate }
+item_faults = record { problem = remains_problem; solution = remains_solution; derivations = remains_derivations; derivation = remains_derivation; end = remains_end; certificate = remains_certificate }

@@ -3,15 +3,15 @@ use Rattle.std.proofs.Common.{◌≡◌, false, nat_lt, if◌then◌else◌, ℕ
 use Rattle.std.proofs.lemmas.Bool.Decides.{nat_tests}
 use Rattle.std.proofs.lemmas.List.Elements.{All-nil, All-cons, All-head}
 use Rattle.vipr_spec.specs.Tokens.{Token}
-use Rattle.vipr_spec.specs.Reading.{Rest, refused, Read, most_bytes, first_token, token_read, judged, taken, repeated, name_of, word_of, count_of}
+use Rattle.vipr_spec.specs.Reading.{Rest, refused, Read, most_bytes, first_token, token_read, checked_token, token_of, read_each, name_of, word_of, count_of}
 use Rattle.vipr_spec.specs.Grammar.{one, ◌then◌, each, SpellsCount, word}
-use Rattle.vipr_spec.specs.GrammarLaws.{ReadsKind, Taken, Reads}
+use Rattle.vipr_spec.specs.GrammarLaws.{ReadsKind, ReadsFront, Reads}
 use Rattle.vipr_spec.proofs.GrammarTokens.{kinds_of_token}
-use Rattle.vipr_spec.proofs.GrammarSteps.{bind_ok, ok_then, same_ok, bytes_of, IsShort, taken_is, taken_nothing, nothing_taken, taken_then, parted, Next, next_sound, taken_as}
+use Rattle.vipr_spec.proofs.GrammarSteps.{bind_ok, ok_then, same_ok, bytes_of, IsShort, read_is, read_nothing, nothing_read, read_then, parted, Next, next_sound, read_as}
 
 -- ---- one token
 
-pub one_token : {r s : Rest} {t : Token} (P : List (List ℕ) → Type 0) → Next r t s → P (t.bytes ∷ []) → Taken P r s
+pub one_token : {r s : Rest} {t : Token} (P : List (List ℕ) → Type 0) → Next r t s → P (t.bytes ∷ []) → ReadsFront P r s
 one_token {t = t} P n h = record { front = t ∷ []; joined = n.joined; short = All-cons IsShort t.bytes [] n.short (All-nil IsShort); shape = h }
 
 pub record FirstOf (P : List (List ℕ) → Type 0) (r s : Rest) : Type 0 where
@@ -32,60 +32,60 @@ unfolding first_token
 next_complete {r} {t} {s} n =
     ap token_read n.joined ∙ ap (λ b. if b then Err (refused 17 t.offset) else Ok (t, s)) (within_size (length t.bytes) most_bytes n.short)
 
-judged_ok : {A : Type 0} (k : Result A ℕ) (t : Token × Rest) (x : A) (s : Rest) → judged k t ≡ Ok (x, s) → (k ≡ Ok x) × (t.1 ≡ s)
-judged_ok (Ok y) t x s e = let both = same_ok e in (ap (λ p. Ok p.0) both, ap (λ p. p.1) both)
-judged_ok (Err c) t x s e = absurd (cc)
+checked_ok : {A : Type 0} (k : Result A ℕ) (t : Token × Rest) (x : A) (s : Rest) → checked_token k t ≡ Ok (x, s) → (k ≡ Ok x) × (t.1 ≡ s)
+checked_ok (Ok y) t x s e = let both = same_ok e in (ap (λ p. Ok p.0) both, ap (λ p. p.1) both)
+checked_ok (Err c) t x s e = absurd (cc)
 
 module _ {A : Type 0} (kind : List ℕ → Result A ℕ) (P : List ℕ → A → Type 0) (law : ReadsKind kind P) where
-  taken_sound : (r s : Rest) (x : A) → taken kind r ≡ Ok (x, s) → Taken (one P x) r s
-  taken_sound r s x e =
+  read_sound : (r s : Rest) (x : A) → token_of kind r ≡ Ok (x, s) → ReadsFront (one P x) r s
+  read_sound r s x e =
       let t = bind_ok e in
-      let k = judged_ok (kind t.0.0.bytes) t.0 x s t.2 in
+      let k = checked_ok (kind t.0.0.bytes) t.0 x s t.2 in
       let n = next_sound t.1 in
       one_token (one P x) (subst (λ q. Next r t.0.0 q) k.1 n) (t.0.0.bytes, refl, (law t.0.0.bytes x).0 k.0)
 
-  taken_complete : (r s : Rest) (x : A) → Taken (one P x) r s → taken kind r ≡ Ok (x, s)
-  taken_complete r s x t =
+  read_complete : (r s : Rest) (x : A) → ReadsFront (one P x) r s → token_of kind r ≡ Ok (x, s)
+  read_complete r s x t =
       let f = first_of_front (one P x) r s t.front t.shape.0 t.joined t.short t.shape.1 t.shape in
       let same : f.shape.0 ≡ f.token.bytes = cc in
       let means : kind f.token.bytes ≡ Ok x = subst (λ b. kind b ≡ Ok x) same ((law f.shape.0 x).1 f.shape.2) in
-      ok_then _ (next_complete f.next) (ap (λ k. judged k (f.token, s)) means)
+      ok_then _ (next_complete f.next) (ap (λ k. checked_token k (f.token, s)) means)
 
-  pub reads_one : Reads (taken kind) (one P)
-  reads_one r s x = (taken_sound r s x, taken_complete r s x)
+  pub reads_one : Reads (token_of kind) (one P)
+  reads_one r s x = (read_sound r s x, read_complete r s x)
 
 pub reads_like : {A : Type 0} {read : Rest → Read A} {S T : A → List (List ℕ) → Type 0} → Reads read S → ((x : A) (ts : List (List ℕ)) → S x ts → T x ts) → ((x : A) (ts : List (List ℕ)) → T x ts → S x ts) → Reads read T
 reads_like {S = S} {T = T} law to from r s x = (
-  λ e. let t = (law r s x).0 e in taken_as (T x) t (to x (bytes_of t.front) t.shape),
-  λ t. (law r s x).1 (taken_as (S x) t (from x (bytes_of t.front) t.shape)),
+  λ e. let t = (law r s x).0 e in read_as (T x) t (to x (bytes_of t.front) t.shape),
+  λ t. (law r s x).1 (read_as (S x) t (from x (bytes_of t.front) t.shape)),
 )
 
-pub reads_name : Reads (taken name_of) word
+pub reads_name : Reads (token_of name_of) word
 reads_name = reads_like (reads_one name_of (λ t x. t ≡ x) kinds_of_token.name) (λ x ts h. h.1 ∙ ap (λ b. b ∷ []) h.2) (λ x ts h. (x, h, refl))
 
-pub reads_fixed : (w : List ℕ) (c : ℕ) → Reads (taken (word_of w c)) (λ u. word w)
+pub reads_fixed : (w : List ℕ) (c : ℕ) → Reads (token_of (word_of w c)) (λ u. word w)
 reads_fixed w c = reads_like (reads_one (word_of w c) (λ t x. t ≡ w) (kinds_of_token.fixed w c)) (λ x ts h. h.1 ∙ ap (λ b. b ∷ []) h.2) (λ x ts h. (w, h, refl))
 
-pub reads_count : Reads (taken count_of) (one SpellsCount)
+pub reads_count : Reads (token_of count_of) (one SpellsCount)
 reads_count = reads_one count_of SpellsCount kinds_of_token.count
 
 -- ---- so many in a row
 
 module _ {A : Type 0} (read : Rest → Read A) (S : A → List (List ℕ) → Type 0) (law : Reads read S) where
-  pub repeated_sound : (n : ℕ) (r s : Rest) (xs : List A) → repeated read n r ≡ Ok (xs, s) → (length xs ≡ n) × Taken (each S xs) r s
-  unfolding repeated
+  pub repeated_sound : (n : ℕ) (r s : Rest) (xs : List A) → read_each read n r ≡ Ok (xs, s) → (length xs ≡ n) × ReadsFront (each S xs) r s
+  unfolding read_each
   repeated_sound zero r s xs e =
       let both = same_ok e in
       let none : [] ≡ xs = ap (λ p. p.0) both in
-      (ap length (sym none), taken_is (each S) e (taken_nothing r))
+      (ap length (sym none), read_is (each S) e (read_nothing r))
   repeated_sound (suc n) r s xs e =
       let x = bind_ok e in
       let ys = bind_ok x.2 in
       let k = repeated_sound n x.0.1 ys.0.1 ys.0.0 ys.1 in
       let both = same_ok ys.2 in
-      (ap (λ p. length p.0) (sym both) ∙ ap suc k.0, taken_is (each S) ys.2 (taken_then ((law r x.0.1 x.0.0).0 x.1) k.1))
+      (ap (λ p. length p.0) (sym both) ∙ ap suc k.0, read_is (each S) ys.2 (read_then ((law r x.0.1 x.0.0).0 x.1) k.1))
 
-  pub repeated_complete : (xs : List A) (r s : Rest) → Taken (each S xs) r s → repeated read (length xs) r ≡ Ok (xs, s)
-  unfolding repeated
-  repeated_complete [] r s t = ap (λ q. Ok ([], q)) (nothing_taken t)
+  pub repeated_complete : (xs : List A) (r s : Rest) → ReadsFront (each S xs) r s → read_each read (length xs) r ≡ Ok (xs, s)
+  unfolding read_each
+  repeated_complete [] r s t = ap (λ q. Ok ([], q)) (nothing_read t)
   repeated_complete (x ∷ xs) r s t = let p = parted t in ok_then _ ((law r p.at x).1 p.before) (ok_then _ (repeated_complete xs p.at s p.after) refl)

@@ -4,10 +4,10 @@ use Rattle.std.specs.FinSet.{from_list}
 use Rattle.vipr_spec.specs.Causes as cause
 use Rattle.vipr_spec.specs.Constraint.{Row, Ints, Constraint}
 use Rattle.vipr_spec.specs.Certificate.{Name, Named, Direction, Claim, infeasible, range, Problem, variables}
-use Rattle.vipr_spec.specs.Reading.{Rest, taken, variable_of, spelled_direction, bound_of, has_range_of, name_of, keyword_read, constraint_read, version_read, names_read, integers_read, objective_read, constraints_read, range_read, claim_read, problem_read, solution_read}
+use Rattle.vipr_spec.specs.Reading.{Rest, token_of, variable_of, spelled_direction, bound_of, has_range_of, name_of, keyword_read, constraint_read, version_read, names_read, integers_read, objective_read, constraints_read, range_read, claim_read, problem_read, solution_read}
 use Rattle.vipr_spec.specs.Grammar.{SpellsCount, SpellsVariable, SpellsDirection, SpellsBound, word, one, ◌then◌, each, constraint, version, names, integers, objective, constraints, claim, solution}
-use Rattle.vipr_spec.specs.GrammarLaws.{Taken, Reads, SpellsRange, problem_and_count}
-use Rattle.vipr_spec.proofs.GrammarSteps.{bind_ok, ok_then, answer, taken_as, taken_is, taken_then, parted}
+use Rattle.vipr_spec.specs.GrammarLaws.{ReadsFront, Reads, SpellsRange, problem_and_count}
+use Rattle.vipr_spec.proofs.GrammarSteps.{bind_ok, ok_then, answer, read_as, read_is, read_then, parted}
 use Rattle.vipr_spec.proofs.GrammarTokens.{kinds_of_token}
 use Rattle.vipr_spec.proofs.GrammarBounds.{bound_is, no_lower, no_upper}
 use Rattle.vipr_spec.proofs.GrammarParts.{reads_one, reads_name, reads_fixed, reads_count, repeated_sound, repeated_complete}
@@ -16,11 +16,11 @@ use Rattle.vipr_spec.proofs.GrammarVectors.{reads_vector, reads_constraint}
 pub reads_keyword : (w : List ℕ) → Reads (keyword_read w) (λ u. word w)
 reads_keyword w = reads_fixed w cause.wrong_keyword
 
-version_sound : (r s : Rest) (u : Unit {0}) → version_read r ≡ Ok (u, s) → Taken version r s
+version_sound : (r s : Rest) (u : Unit {0}) → version_read r ≡ Ok (u, s) → ReadsFront version r s
 unfolding version_read
-version_sound r s u e = let v = bind_ok e in taken_then ((reads_keyword _ r v.0.1 tt).0 v.1) ((reads_fixed _ _ v.0.1 s tt).0 v.2)
+version_sound r s u e = let v = bind_ok e in read_then ((reads_keyword _ r v.0.1 tt).0 v.1) ((reads_fixed _ _ v.0.1 s tt).0 v.2)
 
-version_complete : (r s : Rest) (u : Unit {0}) → Taken version r s → version_read r ≡ Ok (u, s)
+version_complete : (r s : Rest) (u : Unit {0}) → ReadsFront version r s → version_read r ≡ Ok (u, s)
 unfolding version_read
 version_complete r s u t = let v = parted t in ok_then _ ((reads_keyword _ r v.at tt).1 v.before) ((reads_fixed _ _ v.at s tt).1 v.after)
 
@@ -29,64 +29,64 @@ reads_version r s u = (version_sound r s u, version_complete r s u)
 
 -- ---- names
 
-names_sound : (r s : Rest) (ns : List Name) → names_read r ≡ Ok (ns, s) → Taken (names ns) r s
+names_sound : (r s : Rest) (ns : List Name) → names_read r ≡ Ok (ns, s) → ReadsFront (names ns) r s
 unfolding names_read
 names_sound r s ns e =
     let v = bind_ok e in let n = bind_ok v.2 in
-    let all = repeated_sound (taken name_of) word reads_name n.0.0 n.0.1 s ns n.2 in
-    let count = subst (λ k. Taken (one SpellsCount k) v.0.1 n.0.1) (sym all.0) ((reads_count v.0.1 n.0.1 n.0.0).0 n.1) in
-    taken_then ((reads_keyword _ r v.0.1 tt).0 v.1) (taken_then count all.1)
+    let all = repeated_sound (token_of name_of) word reads_name n.0.0 n.0.1 s ns n.2 in
+    let count = subst (λ k. ReadsFront (one SpellsCount k) v.0.1 n.0.1) (sym all.0) ((reads_count v.0.1 n.0.1 n.0.0).0 n.1) in
+    read_then ((reads_keyword _ r v.0.1 tt).0 v.1) (read_then count all.1)
 
-names_complete : (r s : Rest) (ns : List Name) → Taken (names ns) r s → names_read r ≡ Ok (ns, s)
+names_complete : (r s : Rest) (ns : List Name) → ReadsFront (names ns) r s → names_read r ≡ Ok (ns, s)
 unfolding names_read
 names_complete r s ns t =
     let v = parted t in let n = parted v.after in
-    ok_then _ ((reads_keyword _ r v.at tt).1 v.before) (ok_then _ ((reads_count v.at n.at (length ns)).1 n.before) (repeated_complete (taken name_of) word reads_name ns n.at s n.after))
+    ok_then _ ((reads_keyword _ r v.at tt).1 v.before) (ok_then _ ((reads_count v.at n.at (length ns)).1 n.before) (repeated_complete (token_of name_of) word reads_name ns n.at s n.after))
 
 pub reads_names : Reads names_read names
 reads_names r s ns = (names_sound r s ns, names_complete r s ns)
 
 -- ---- integer variables
 
-pub reads_index : (n : ℕ) → Reads (taken (variable_of n)) (one (SpellsVariable n))
+pub reads_index : (n : ℕ) → Reads (token_of (variable_of n)) (one (SpellsVariable n))
 reads_index n = reads_one (variable_of n) (SpellsVariable n) (kinds_of_token.variable n)
 
-integers_sound : (n : ℕ) (r s : Rest) (x : Ints) → integers_read n r ≡ Ok (x, s) → Taken (integers n x) r s
+integers_sound : (n : ℕ) (r s : Rest) (x : Ints) → integers_read n r ≡ Ok (x, s) → ReadsFront (integers n x) r s
 unfolding integers_read
 integers_sound n r s x e =
     let v = bind_ok e in let i = bind_ok v.2 in let is = bind_ok i.2 in
-    let all = repeated_sound (taken (variable_of n)) (one (SpellsVariable n)) (reads_index n) i.0.0 i.0.1 is.0.1 is.0.0 is.1 in
-    let count = subst (λ k. Taken (one SpellsCount k) v.0.1 i.0.1) (sym all.0) ((reads_count v.0.1 i.0.1 i.0.0).0 i.1) in
-    let t = taken_then ((reads_keyword (codes "INT") r v.0.1 tt).0 v.1) (taken_then count all.1) in
-    taken_is (integers n) is.2 (taken_as (integers n (from_list is.0.0)) t (is.0.0, refl, t.shape))
+    let all = repeated_sound (token_of (variable_of n)) (one (SpellsVariable n)) (reads_index n) i.0.0 i.0.1 is.0.1 is.0.0 is.1 in
+    let count = subst (λ k. ReadsFront (one SpellsCount k) v.0.1 i.0.1) (sym all.0) ((reads_count v.0.1 i.0.1 i.0.0).0 i.1) in
+    let t = read_then ((reads_keyword (codes "INT") r v.0.1 tt).0 v.1) (read_then count all.1) in
+    read_is (integers n) is.2 (read_as (integers n (from_list is.0.0)) t (is.0.0, refl, t.shape))
 
-integers_complete : (n : ℕ) (r s : Rest) (x : Ints) → Taken (integers n x) r s → integers_read n r ≡ Ok (x, s)
+integers_complete : (n : ℕ) (r s : Rest) (x : Ints) → ReadsFront (integers n x) r s → integers_read n r ≡ Ok (x, s)
 unfolding integers_read
 integers_complete n r s x t =
     let is = t.shape.0 in
-    let v = parted (taken_as (word (codes "INT") then one SpellsCount (length is) then each (one (SpellsVariable n)) is) t t.shape.2) in
+    let v = parted (read_as (word (codes "INT") then one SpellsCount (length is) then each (one (SpellsVariable n)) is) t t.shape.2) in
     let i = parted v.after in
     ok_then _ ((reads_keyword _ r v.at tt).1 v.before)
     (ok_then _ ((reads_count v.at i.at (length is)).1 i.before)
-    (ok_then _ (repeated_complete (taken (variable_of n)) (one (SpellsVariable n)) (reads_index n) is i.at s i.after) (ap (λ q. answer q s) (sym t.shape.1))))
+    (ok_then _ (repeated_complete (token_of (variable_of n)) (one (SpellsVariable n)) (reads_index n) is i.at s i.after) (ap (λ q. answer q s) (sym t.shape.1))))
 
 pub reads_integers : (n : ℕ) → Reads (integers_read n) (integers n)
 reads_integers n r s x = (integers_sound n r s x, integers_complete n r s x)
 
 -- ---- the objective
 
-pub reads_direction : Reads (taken spelled_direction) (one SpellsDirection)
+pub reads_direction : Reads (token_of spelled_direction) (one SpellsDirection)
 reads_direction = reads_one spelled_direction SpellsDirection kinds_of_token.direction
 
-objective_sound : (n : ℕ) (r s : Rest) (x : Direction × Row) → objective_read n r ≡ Ok (x, s) → Taken (objective n x.0 x.1) r s
+objective_sound : (n : ℕ) (r s : Rest) (x : Direction × Row) → objective_read n r ≡ Ok (x, s) → ReadsFront (objective n x.0 x.1) r s
 unfolding objective_read
 objective_sound n r s x e =
     let v = bind_ok e in let d = bind_ok v.2 in let row = bind_ok d.2 in
-    taken_is (λ (y : Direction × Row). objective n y.0 y.1) row.2
-    (taken_then ((reads_keyword (codes "OBJ") r v.0.1 tt).0 v.1)
-    (taken_then ((reads_direction v.0.1 d.0.1 d.0.0).0 d.1) ((reads_vector n d.0.1 row.0.1 row.0.0).0 row.1)))
+    read_is (λ (y : Direction × Row). objective n y.0 y.1) row.2
+    (read_then ((reads_keyword (codes "OBJ") r v.0.1 tt).0 v.1)
+    (read_then ((reads_direction v.0.1 d.0.1 d.0.0).0 d.1) ((reads_vector n d.0.1 row.0.1 row.0.0).0 row.1)))
 
-objective_complete : (n : ℕ) (r s : Rest) (x : Direction × Row) → Taken (objective n x.0 x.1) r s → objective_read n r ≡ Ok (x, s)
+objective_complete : (n : ℕ) (r s : Rest) (x : Direction × Row) → ReadsFront (objective n x.0 x.1) r s → objective_read n r ≡ Ok (x, s)
 unfolding objective_read
 objective_complete n r s x t =
     let v = parted t in let d = parted v.after in
@@ -107,15 +107,15 @@ module _ (n : ℕ) (row : Row) where
   abbrev Stated : Named Constraint → List (List ℕ) → Type 0
   Stated c = constraint n row c.name c.item
 
-  constraints_sound : (r s : Rest) (x : Bounded) → constraints_read n row r ≡ Ok (x, s) → Taken (Listed x) r s
+  constraints_sound : (r s : Rest) (x : Bounded) → constraints_read n row r ≡ Ok (x, s) → ReadsFront (Listed x) r s
   unfolding constraints_read
   constraints_sound r s x e =
       let v = bind_ok e in let m = bind_ok v.2 in let b = bind_ok m.2 in let cs = bind_ok b.2 in
       let all = repeated_sound (constraint_read n row) Stated (reads_constraint n row) m.0.0 b.0.1 cs.0.1 cs.0.0 cs.1 in
-      let count = subst (λ k. Taken (one SpellsCount k) v.0.1 m.0.1) (sym all.0) ((reads_count v.0.1 m.0.1 m.0.0).0 m.1) in
-      taken_is Listed cs.2 (taken_then ((reads_keyword (codes "CON") r v.0.1 tt).0 v.1) (taken_then count (taken_then ((reads_count m.0.1 b.0.1 b.0.0).0 b.1) all.1)))
+      let count = subst (λ k. ReadsFront (one SpellsCount k) v.0.1 m.0.1) (sym all.0) ((reads_count v.0.1 m.0.1 m.0.0).0 m.1) in
+      read_is Listed cs.2 (read_then ((reads_keyword (codes "CON") r v.0.1 tt).0 v.1) (read_then count (read_then ((reads_count m.0.1 b.0.1 b.0.0).0 b.1) all.1)))
 
-  constraints_complete : (r s : Rest) (x : Bounded) → Taken (Listed x) r s → constraints_read n row r ≡ Ok (x, s)
+  constraints_complete : (r s : Rest) (x : Bounded) → ReadsFront (Listed x) r s → constraints_read n row r ≡ Ok (x, s)
   unfolding constraints_read
   constraints_complete r s x t =
       let v = parted t in let m = parted v.after in let b = parted m.after in
@@ -128,40 +128,40 @@ module _ (n : ℕ) (row : Row) where
 
 -- ---- the claim
 
-pub reads_has_range : Reads (taken has_range_of) (one SpellsRange)
+pub reads_has_range : Reads (token_of has_range_of) (one SpellsRange)
 reads_has_range = reads_one has_range_of SpellsRange kinds_of_token.has_range
 
-pub reads_lower : Reads (taken (bound_of (codes "-inf"))) (one (SpellsBound (codes "-inf")))
+pub reads_lower : Reads (token_of (bound_of (codes "-inf"))) (one (SpellsBound (codes "-inf")))
 reads_lower = reads_one (bound_of (codes "-inf")) (SpellsBound (codes "-inf")) (bound_is (codes "-inf") no_lower)
 
-pub reads_upper : Reads (taken (bound_of (codes "inf"))) (one (SpellsBound (codes "inf")))
+pub reads_upper : Reads (token_of (bound_of (codes "inf"))) (one (SpellsBound (codes "inf")))
 reads_upper = reads_one (bound_of (codes "inf")) (SpellsBound (codes "inf")) (bound_is (codes "inf") no_upper)
 
-range_sound : (b : Bool) (q r u s : Rest) (x : Claim) → Taken (word (codes "RTP")) q r → Taken (one SpellsRange b) r u → range_read b u ≡ Ok (x, s) → Taken (claim x) q s
+range_sound : (b : Bool) (q r u s : Rest) (x : Claim) → ReadsFront (word (codes "RTP")) q r → ReadsFront (one SpellsRange b) r u → range_read b u ≡ Ok (x, s) → ReadsFront (claim x) q s
 unfolding range_read
-range_sound false q r u s x k h e = taken_is claim e (taken_then k (taken_as (word (codes "infeas")) h (h.shape.1 ∙ ap (λ t. t ∷ []) h.shape.2)))
+range_sound false q r u s x k h e = read_is claim e (read_then k (read_as (word (codes "infeas")) h (h.shape.1 ∙ ap (λ t. t ∷ []) h.shape.2)))
 range_sound true q r u s x k h e =
     let lower = bind_ok e in let upper = bind_ok lower.2 in
-    taken_is claim upper.2
-    (taken_then k
-    (taken_then (taken_as (word (codes "range")) h (h.shape.1 ∙ ap (λ t. t ∷ []) h.shape.2))
-    (taken_then ((reads_lower u lower.0.1 lower.0.0).0 lower.1) ((reads_upper lower.0.1 upper.0.1 upper.0.0).0 upper.1))))
+    read_is claim upper.2
+    (read_then k
+    (read_then (read_as (word (codes "range")) h (h.shape.1 ∙ ap (λ t. t ∷ []) h.shape.2))
+    (read_then ((reads_lower u lower.0.1 lower.0.0).0 lower.1) ((reads_upper lower.0.1 upper.0.1 upper.0.0).0 upper.1))))
 
-claim_sound : (r s : Rest) (x : Claim) → claim_read r ≡ Ok (x, s) → Taken (claim x) r s
+claim_sound : (r s : Rest) (x : Claim) → claim_read r ≡ Ok (x, s) → ReadsFront (claim x) r s
 unfolding claim_read
 claim_sound r s x e =
     let v = bind_ok e in let h = bind_ok v.2 in
     range_sound h.0.0 r v.0.1 h.0.1 s x ((reads_keyword _ r v.0.1 tt).0 v.1) ((reads_has_range v.0.1 h.0.1 h.0.0).0 h.1) h.2
 
-claim_complete : (r s : Rest) (x : Claim) → Taken (claim x) r s → claim_read r ≡ Ok (x, s)
+claim_complete : (r s : Rest) (x : Claim) → ReadsFront (claim x) r s → claim_read r ≡ Ok (x, s)
 unfolding claim_read range_read
 claim_complete r s infeasible t =
     let v = parted t in let h = v.after in
-    ok_then _ ((reads_keyword _ r v.at tt).1 v.before) (ok_then _ ((reads_has_range v.at s false).1 (taken_as (one SpellsRange false) h (codes "infeas", h.shape, refl))) refl)
+    ok_then _ ((reads_keyword _ r v.at tt).1 v.before) (ok_then _ ((reads_has_range v.at s false).1 (read_as (one SpellsRange false) h (codes "infeas", h.shape, refl))) refl)
 claim_complete r s (range lower upper) t =
     let v = parted t in let h = parted v.after in let l = parted h.after in
     ok_then _ ((reads_keyword _ r v.at tt).1 v.before)
-    (ok_then _ ((reads_has_range v.at h.at true).1 (taken_as (one SpellsRange true) h.before (codes "range", h.before.shape, refl)))
+    (ok_then _ ((reads_has_range v.at h.at true).1 (read_as (one SpellsRange true) h.before (codes "range", h.before.shape, refl)))
     (ok_then _ ((reads_lower h.at l.at lower).1 l.before) (ok_then _ ((reads_upper l.at s upper).1 l.after) refl)))
 
 pub reads_claim : Reads claim_read claim
@@ -169,21 +169,21 @@ reads_claim r s x = (claim_sound r s x, claim_complete r s x)
 
 -- ---- the problem, and the number of solutions
 
-problem_sound : (r s : Rest) (x : Problem × ℕ) → problem_read r ≡ Ok (x, s) → Taken (problem_and_count x) r s
+problem_sound : (r s : Rest) (x : Problem × ℕ) → problem_read r ≡ Ok (x, s) → ReadsFront (problem_and_count x) r s
 unfolding problem_read
 problem_sound r s x e =
     let v = bind_ok e in let ns = bind_ok v.2 in let is = bind_ok ns.2 in let o = bind_ok is.2 in let cs = bind_ok o.2 in
     let c = bind_ok cs.2 in let k = bind_ok c.2 in let n = bind_ok k.2 in
-    taken_is problem_and_count n.2
-    (taken_then
-    (taken_then ((reads_version r v.0.1 tt).0 v.1)
-    (taken_then ((reads_names v.0.1 ns.0.1 ns.0.0).0 ns.1)
-    (taken_then ((reads_integers (length ns.0.0) ns.0.1 is.0.1 is.0.0).0 is.1)
-    (taken_then ((reads_objective (length ns.0.0) is.0.1 o.0.1 o.0.0).0 o.1)
-    (taken_then ((reads_constraints (length ns.0.0) o.0.0.1 o.0.1 cs.0.1 cs.0.0).0 cs.1) ((reads_claim cs.0.1 c.0.1 c.0.0).0 c.1))))))
-    (taken_then ((reads_keyword _ c.0.1 k.0.1 tt).0 k.1) ((reads_count k.0.1 n.0.1 n.0.0).0 n.1)))
+    read_is problem_and_count n.2
+    (read_then
+    (read_then ((reads_version r v.0.1 tt).0 v.1)
+    (read_then ((reads_names v.0.1 ns.0.1 ns.0.0).0 ns.1)
+    (read_then ((reads_integers (length ns.0.0) ns.0.1 is.0.1 is.0.0).0 is.1)
+    (read_then ((reads_objective (length ns.0.0) is.0.1 o.0.1 o.0.0).0 o.1)
+    (read_then ((reads_constraints (length ns.0.0) o.0.0.1 o.0.1 cs.0.1 cs.0.0).0 cs.1) ((reads_claim cs.0.1 c.0.1 c.0.0).0 c.1))))))
+    (read_then ((reads_keyword _ c.0.1 k.0.1 tt).0 k.1) ((reads_count k.0.1 n.0.1 n.0.0).0 n.1)))
 
-problem_complete : (r s : Rest) (x : Problem × ℕ) → Taken (problem_and_count x) r s → problem_read r ≡ Ok (x, s)
+problem_complete : (r s : Rest) (x : Problem × ℕ) → ReadsFront (problem_and_count x) r s → problem_read r ≡ Ok (x, s)
 unfolding problem_read
 problem_complete r s x t =
     let p = x.0 in
@@ -201,13 +201,13 @@ reads_problem r s x = (problem_sound r s x, problem_complete r s x)
 
 -- ---- solutions
 
-solution_sound : (p : Problem) (r s : Rest) (x : Named Row) → solution_read p r ≡ Ok (x, s) → Taken (solution (variables p) x) r s
+solution_sound : (p : Problem) (r s : Rest) (x : Named Row) → solution_read p r ≡ Ok (x, s) → ReadsFront (solution (variables p) x) r s
 unfolding solution_read
 solution_sound p r s x e =
     let name = bind_ok e in let row = bind_ok name.2 in
-    taken_is (solution (variables p)) row.2 (taken_then ((reads_name r name.0.1 name.0.0).0 name.1) ((reads_vector (variables p) name.0.1 row.0.1 row.0.0).0 row.1))
+    read_is (solution (variables p)) row.2 (read_then ((reads_name r name.0.1 name.0.0).0 name.1) ((reads_vector (variables p) name.0.1 row.0.1 row.0.0).0 row.1))
 
-solution_complete : (p : Problem) (r s : Rest) (x : Named Row) → Taken (solution (variables p) x) r s → solution_read p r ≡ Ok (x, s)
+solution_complete : (p : Problem) (r s : Rest) (x : Named Row) → ReadsFront (solution (variables p) x) r s → solution_read p r ≡ Ok (x, s)
 unfolding solution_read
 solution_complete p r s x t = let name = parted t in ok_then _ ((reads_name r name.at x.name).1 name.before) (ok_then _ ((reads_vector (variables p) name.at s x.item).1 name.after) refl)
 

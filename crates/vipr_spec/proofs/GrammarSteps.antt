@@ -6,7 +6,7 @@ use Rattle.std.proofs.lemmas.Bool.Decides.{nat_tests}
 use Rattle.vipr_spec.specs.Tokens.{Token}
 use Rattle.vipr_spec.specs.Reading.{Rest, Fault, refused, unread, ◌>>=◌, Read, most_bytes, first_token, token_read}
 use Rattle.vipr_spec.specs.Grammar.{◌then◌}
-use Rattle.vipr_spec.specs.GrammarLaws.{Taken}
+use Rattle.vipr_spec.specs.GrammarLaws.{ReadsFront}
 
 -- ---- results
 
@@ -44,33 +44,33 @@ abbrev pub IsShort : List ℕ → Type 0
 IsShort b = length b ≤ most_bytes
 
 -- the same tokens, of another shape
-pub taken_as : {P : List (List ℕ) → Type 0} (Q : List (List ℕ) → Type 0) {r s : Rest} (t : Taken P r s) → Q (bytes_of t.front) → Taken Q r s
-taken_as Q t q = record { front = t.front; joined = t.joined; short = t.short; shape = q }
+pub read_as : {P : List (List ℕ) → Type 0} (Q : List (List ℕ) → Type 0) {r s : Rest} (t : ReadsFront P r s) → Q (bytes_of t.front) → ReadsFront Q r s
+read_as Q t q = record { front = t.front; joined = t.joined; short = t.short; shape = q }
 
 abbrev pub answer : {A : Type 0} → A → Rest → Read A
 answer x s = Ok (x, s)
 
 -- what was read is this
-pub taken_is : {A : Type 0} (S : A → List (List ℕ) → Type 0) {r q s : Rest} {v x : A} → answer v q ≡ answer x s → Taken (S v) r q → Taken (S x) r s
-taken_is S {r} {q} {s} {v} {x} e t =
+pub read_is : {A : Type 0} (S : A → List (List ℕ) → Type 0) {r q s : Rest} {v x : A} → answer v q ≡ answer x s → ReadsFront (S v) r q → ReadsFront (S x) r s
+read_is S {r} {q} {s} {v} {x} e t =
     let both = same_ok e in let same : v ≡ x = ap (λ p. p.0) both in let left : q ≡ s = ap (λ p. p.1) both in
-    subst (λ y. Taken (S y) r s) same (subst (λ p. Taken (S v) r p) left t)
+    subst (λ y. ReadsFront (S y) r s) same (subst (λ p. ReadsFront (S v) r p) left t)
 
 pub is_answer : {A : Type 0} (P : A → Rest → Type 0) {q s : Rest} {v x : A} → answer v q ≡ answer x s → P v q → P x s
 is_answer P e p = subst (λ y. P y.0 y.1) (same_ok e) p
 
-pub taken_nothing : (r : Rest) → Taken (λ ts. ts ≡ []) r r
-taken_nothing r = record { front = []; joined = refl; short = All-nil _; shape = refl }
+pub read_nothing : (r : Rest) → ReadsFront (λ ts. ts ≡ []) r r
+read_nothing r = record { front = []; joined = refl; short = All-nil _; shape = refl }
 
 no_tokens : (ts : List Token) → bytes_of ts ≡ [] → ts ≡ []
 no_tokens [] e = refl
 no_tokens (t ∷ ts) e = absurd (cc)
 
-pub nothing_taken : {r s : Rest} → Taken (λ ts. ts ≡ []) r s → r ≡ s
-nothing_taken {r} {s} t = t.joined ∙ ap (λ l. record s { tokens = l ++ s.tokens }) (no_tokens t.front t.shape)
+pub nothing_read : {r s : Rest} → ReadsFront (λ ts. ts ≡ []) r s → r ≡ s
+nothing_read {r} {s} t = t.joined ∙ ap (λ l. record s { tokens = l ++ s.tokens }) (no_tokens t.front t.shape)
 
-pub taken_then : {P Q : List (List ℕ) → Type 0} {r s t : Rest} → Taken P r s → Taken Q s t → Taken (P then Q) r t
-taken_then {t = t} a b = record {
+pub read_then : {P Q : List (List ℕ) → Type 0} {r s t : Rest} → ReadsFront P r s → ReadsFront Q s t → ReadsFront (P then Q) r t
+read_then {t = t} a b = record {
   front = a.front ++ b.front;
   joined = a.joined ∙ ap (λ (u : Rest). record u { tokens = a.front ++ u.tokens }) b.joined ∙ ap (λ l. record t { tokens = l }) (sym (append_assoc a.front b.front t.tokens));
   short = subst (All IsShort) (sym (map-append _ a.front b.front)) (All-append IsShort (bytes_of a.front) (bytes_of b.front) a.short b.short);
@@ -103,10 +103,10 @@ all_back P (x ∷ xs) ys h = all_back P xs ys (All-tail P x (xs ++ ys) h)
 -- the place between the two
 pub record Parted (P Q : List (List ℕ) → Type 0) (r t : Rest) : Type 0 where
   pub at : Rest
-  pub before : Taken P r at
-  pub after : Taken Q at t
+  pub before : ReadsFront P r at
+  pub after : ReadsFront Q at t
 
-pub parted : {P Q : List (List ℕ) → Type 0} {r t : Rest} → Taken (P then Q) r t → Parted P Q r t
+pub parted : {P Q : List (List ℕ) → Type 0} {r t : Rest} → ReadsFront (P then Q) r t → Parted P Q r t
 parted {P} {Q} {r} {t} a =
     let k = split a.front a.shape.0 a.shape.1 a.shape.2 in
     let all : All IsShort (bytes_of k.front ++ bytes_of k.back) = subst (All IsShort) (ap bytes_of k.joined ∙ map-append _ k.front k.back) a.short in

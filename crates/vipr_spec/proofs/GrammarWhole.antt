@@ -4,11 +4,11 @@ use Rattle.std.proofs.lemmas.List.Elements.{All-nil, All-cons}
 use Rattle.vipr_spec.specs.Constraint.{IsInteger, Row}
 use Rattle.vipr_spec.specs.Tokens.{Token}
 use Rattle.vipr_spec.specs.Certificate.{Named, Problem, variables, Derivation, Certificate}
-use Rattle.vipr_spec.specs.Reading.{Rest, Fault, unread, ◌>>=◌, most_count, repeated, end_of, end_read, problem_read, solution_read, derivations_read, derivation_read, certificate_read}
+use Rattle.vipr_spec.specs.Reading.{Rest, Fault, unread, ◌>>=◌, most_count, read_each, end_of, end_read, problem_read, solution_read, derivations_read, derivation_read, certificate_read}
 use Rattle.vipr_spec.specs.Grammar.{SpellsCount, SpellsVariable, word, one, ◌then◌, each, problem, solution, solutions, derivation, derivations, SpelledBy}
-use Rattle.vipr_spec.specs.GrammarLaws.{Taken, derivation_count, whole_text, EndsHere, ReadsCertificates, ReadsTexts, OneCertificate}
+use Rattle.vipr_spec.specs.GrammarLaws.{ReadsFront, derivation_count, whole_text, EndsHere, ReadsCertificates, ReadsTexts, OneCertificate}
 use Rattle.vipr_spec.proofs.PairRows.{set_below}
-use Rattle.vipr_spec.proofs.GrammarSteps.{bind_ok, ok_then, same_ok, success, bytes_of, IsShort, taken_as, taken_then, parted}
+use Rattle.vipr_spec.proofs.GrammarSteps.{bind_ok, ok_then, same_ok, success, bytes_of, IsShort, read_as, read_then, parted}
 use Rattle.vipr_spec.proofs.GrammarParts.{repeated_sound, repeated_complete}
 use Rattle.vipr_spec.proofs.GrammarSections.{reads_problem, reads_solution}
 use Rattle.vipr_spec.proofs.GrammarDerivations.{reads_derivation, reads_derivations}
@@ -45,7 +45,7 @@ sections c = problem c.problem then solutions (variables c.problem) c.solutions 
 -- all tokens up to the end, where there is no failure
 pub record Whole (r : Rest) (c : Certificate) : Type 0 where
   pub end : Rest
-  pub tokens : Taken (sections c) r end
+  pub tokens : ReadsFront (sections c) r end
   pub ends : EndsHere end
 
 whole_is : {r : Rest} {x y : Certificate} → success Fault x ≡ success Fault y → Whole r x → Whole r y
@@ -56,15 +56,15 @@ abbrev closed : Problem → List (Named Row) → List Derivation × Rest → Res
 closed p ss ds = end_read ds.1 >>= λ end. Ok (record { problem = p; solutions = ss; derivations = ds.0 })
 
 abbrev derived : Problem → List (Named Row) → ℕ × Rest → Result Certificate Fault
-derived p ss d = repeated (derivation_read p) d.0 d.1 >>= closed p ss
+derived p ss d = read_each (derivation_read p) d.0 d.1 >>= closed p ss
 
 abbrev headed : Problem → List (Named Row) × Rest → Result Certificate Fault
 headed p ss = derivations_read p ss.1 >>= derived p ss.0
 
 abbrev solved : (Problem × ℕ) × Rest → Result Certificate Fault
-solved p = repeated (solution_read p.0.0) p.0.1 p.1 >>= headed p.0.0
+solved p = read_each (solution_read p.0.0) p.0.1 p.1 >>= headed p.0.0
 
-few_constraints : (p : Problem) {r s : Rest} → Taken (problem p) r s → length p.constraints ≤ most_count
+few_constraints : (p : Problem) {r s : Rest} → ReadsFront (problem p) r s → length p.constraints ≤ most_count
 few_constraints p t =
     let names = (parted t).after in let integers = (parted names).after in let objective = (parted integers).after in let constraints = (parted objective).after in
     let count = parted (parted (parted constraints).before).after in
@@ -74,7 +74,7 @@ variables_below : (n : ℕ) (is : List ℕ) (ts : List (List ℕ)) → each (one
 variables_below n [] ts e = All-nil (λ i. i < n)
 variables_below n (i ∷ is) ts e = All-cons (λ i. i < n) i is e.3.2.1 (variables_below n is e.1 e.4)
 
-integers_below : (p : Problem) {r s : Rest} → Taken (problem p) r s → (j : ℕ) → IsInteger p.integers j → j < variables p
+integers_below : (p : Problem) {r s : Rest} → ReadsFront (problem p) r s → (j : ℕ) → IsInteger p.integers j → j < variables p
 integers_below p t j h =
     let integers = (parted (parted (parted t).after).after).before.shape in
     set_below (variables p) integers.0 (variables_below (variables p) integers.0 integers.2.4.1 integers.2.4.4) j (subst (λ is. IsInteger is j) integers.1 h)
@@ -83,7 +83,7 @@ pub few_constraints_read : (r s : Rest) (x : Problem × ℕ) → problem_read r 
 few_constraints_read r s x e = few_constraints x.0 (parted ((reads_problem r s x).0 e)).before
 
 module _ (r : Rest) (c : Certificate) where
-  closed_sound : (p : Problem) (ss : List (Named Row)) (ds : List Derivation × Rest) → Taken (sections (record { problem = p; solutions = ss; derivations = ds.0 })) r ds.1 → closed p ss ds ≡ Ok c → Whole r c
+  closed_sound : (p : Problem) (ss : List (Named Row)) (ds : List Derivation × Rest) → ReadsFront (sections (record { problem = p; solutions = ss; derivations = ds.0 })) r ds.1 → closed p ss ds ≡ Ok c → Whole r c
   closed_sound p ss ds t e = let end = bind_ok e in whole_is end.2 (record { end = ds.1; tokens = t; ends = end_sound ds.1 end.1 })
 
   certificate_sound : certificate_read r ≡ Ok c → Whole r c
@@ -91,21 +91,21 @@ module _ (r : Rest) (c : Certificate) where
   certificate_sound e =
       let p = bind_ok {f = solved} e in
       let problem = p.0.0.0 in
-      let ss = bind_ok {r = repeated (solution_read problem) p.0.0.1 p.0.1} {f = headed problem} p.2 in
+      let ss = bind_ok {r = read_each (solution_read problem) p.0.0.1 p.0.1} {f = headed problem} p.2 in
       let d = bind_ok {r = derivations_read problem ss.0.1} {f = derived problem ss.0.0} ss.2 in
-      let ds = bind_ok {r = repeated (derivation_read problem) d.0.0 d.0.1} {f = closed problem ss.0.0} d.2 in
+      let ds = bind_ok {r = read_each (derivation_read problem) d.0.0 d.0.1} {f = closed problem ss.0.0} d.2 in
       let start = parted ((reads_problem r p.0.1 p.0.0).0 p.1) in
       let head = parted start.after in
       let few = few_constraints problem start.before in
       let listed = repeated_sound (solution_read problem) (solution (variables problem)) (reads_solution problem) p.0.0.1 p.0.1 ss.0.1 ss.0.0 ss.1 in
       let room = (reads_derivations problem few ss.0.1 d.0.1 d.0.0).0 d.1 in
       let derived_rows = repeated_sound (derivation_read problem) (derivation problem) (reads_derivation problem) d.0.0 d.0.1 ds.0.1 ds.0.0 ds.1 in
-      let solutions_taken = taken_then head.before (taken_then (subst (λ k. Taken (one SpellsCount k) head.at p.0.1) (sym listed.0) head.after) listed.1) in
-      let room_for = subst (λ k. Taken (derivation_count problem k) ss.0.1 d.0.1) (sym derived_rows.0) room in
-      let header = parted (taken_as (word (codes "DER") then one SpellsCount (length ds.0.0)) room_for room_for.shape.1) in
-      let steps = taken_then header.before (taken_then header.after derived_rows.1) in
-      let steps_taken = taken_as (derivations problem ds.0.0) steps (room_for.shape.0, steps.shape) in
-      closed_sound problem ss.0.0 ds.0 (taken_then start.before (taken_then solutions_taken steps_taken)) ds.2
+      let solutions_read = read_then head.before (read_then (subst (λ k. ReadsFront (one SpellsCount k) head.at p.0.1) (sym listed.0) head.after) listed.1) in
+      let room_for = subst (λ k. ReadsFront (derivation_count problem k) ss.0.1 d.0.1) (sym derived_rows.0) room in
+      let header = parted (read_as (word (codes "DER") then one SpellsCount (length ds.0.0)) room_for room_for.shape.1) in
+      let steps = read_then header.before (read_then header.after derived_rows.1) in
+      let steps_read = read_as (derivations problem ds.0.0) steps (room_for.shape.0, steps.shape) in
+      closed_sound problem ss.0.0 ds.0 (read_then start.before (read_then solutions_read steps_read)) ds.2
 
   pub certificate_complete : Whole r c → certificate_read r ≡ Ok c
   unfolding certificate_read
@@ -114,12 +114,12 @@ module _ (r : Rest) (c : Certificate) where
       let sol = parted b.before in let count = parted sol.after in
       let few = few_constraints c.problem a.before in
       let m = length c.derivations in
-      let der = parted (taken_as (word (codes "DER") then one SpellsCount m then each (derivation c.problem) c.derivations) b.after b.after.shape.1) in
+      let der = parted (read_as (word (codes "DER") then one SpellsCount m then each (derivation c.problem) c.derivations) b.after b.after.shape.1) in
       let room = parted der.after in
-      let header = taken_then der.before room.before in
-      ok_then solved ((reads_problem r count.at (c.problem, length c.solutions)).1 (taken_then a.before (taken_then sol.before count.before)))
+      let header = read_then der.before room.before in
+      ok_then solved ((reads_problem r count.at (c.problem, length c.solutions)).1 (read_then a.before (read_then sol.before count.before)))
       (ok_then (headed c.problem) (repeated_complete (solution_read c.problem) (solution (variables c.problem)) (reads_solution c.problem) c.solutions count.at b.at count.after)
-      (ok_then (derived c.problem c.solutions) ((reads_derivations c.problem few b.at room.at m).1 (taken_as (derivation_count c.problem m) header (b.after.shape.0, header.shape)))
+      (ok_then (derived c.problem c.solutions) ((reads_derivations c.problem few b.at room.at m).1 (read_as (derivation_count c.problem m) header (b.after.shape.0, header.shape)))
       (ok_then (closed c.problem c.solutions) (repeated_complete (derivation_read c.problem) (derivation c.problem) (reads_derivation c.problem) c.derivations room.at w.end room.after)
       (ok_then _ (end_complete w.end w.ends) refl))))
 

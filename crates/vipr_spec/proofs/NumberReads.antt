@@ -12,7 +12,7 @@ use Rattle.vipr_spec.specs.Fraction.{ℚ, over, most, IsBounded}
 use Rattle.vipr_spec.proofs.GrammarNumbers.{natural_sound, natural_complete}
 use Rattle.vipr_spec.proofs.Points.{over_parts}
 use Rattle.vipr_spec.specs.Digits.{natural_after, natural_of}
-use Rattle.vipr_spec.specs.Number.{SpellsNumber, IsSign, signed, under, denominator, too_large, zero_denominator, is_slash, slash_place, top_of, bottom_of, written, of_parts, number_read, number_text}
+use Rattle.vipr_spec.specs.Number.{SpellsNumber, IsSign, signed_integer, under, denominator, too_large, zero_denominator, is_slash, slash_place, top_of, bottom_of, written_fraction, of_parts, number_read, number_text}
 
 -- ---- the sign
 pub record Signed (bs : List ℕ) : Type 0 where
@@ -115,18 +115,18 @@ record Fits (is_negative : Bool) (p q : ℕ) (x : ℚ) : Type 0 where
   pub top : p ≤ most
   pub bottom : q ≤ most
   pub divides : 1 ≤ q
-  pub value : x ≡ over (signed is_negative p) q
+  pub value : x ≡ over (signed_integer is_negative p) q
 
-fits_by : (is_negative : Bool) (p q : ℕ) (x : ℚ) (large wide none : Bool) → nat_lt most p ≡ large → nat_lt most q ≡ wide → (q == 0) ≡ none → (if large || wide then Err too_large else (if none then Err zero_denominator else Ok (over (signed is_negative p) q))) ≡ Ok x → Fits is_negative p q x
+fits_by : (is_negative : Bool) (p q : ℕ) (x : ℚ) (large wide none : Bool) → nat_lt most p ≡ large → nat_lt most q ≡ wide → (q == 0) ≡ none → (if large || wide then Err too_large else (if none then Err zero_denominator else Ok (over (signed_integer is_negative p) q))) ≡ Ok x → Fits is_negative p q x
 fits_by is_negative p q x true w n e f g h = absurd (cc)
 fits_by is_negative p q x false true n e f g h = absurd (cc)
 fits_by is_negative p q x false false true e f g h = absurd (cc)
 fits_by is_negative p q x false false false e f g h = record { top = grind (arith, nat_tests); bottom = grind (arith, nat_tests); divides = grind (arith, nat_tests); value = cc }
 
-written_sound : (is_negative : Bool) (p q : ℕ) (x : ℚ) → written is_negative p q ≡ Ok x → Fits is_negative p q x
+written_sound : (is_negative : Bool) (p q : ℕ) (x : ℚ) → written_fraction is_negative p q ≡ Ok x → Fits is_negative p q x
 written_sound is_negative p q x h = fits_by is_negative p q x (nat_lt most p) (nat_lt most q) (q == 0) refl refl refl h
 
-written_complete : (is_negative : Bool) (p q : ℕ) → p ≤ most → q ≤ most → 1 ≤ q → written is_negative p q ≡ Ok (over (signed is_negative p) q)
+written_complete : (is_negative : Bool) (p q : ℕ) → p ≤ most → q ≤ most → 1 ≤ q → written_fraction is_negative p q ≡ Ok (over (signed_integer is_negative p) q)
 written_complete is_negative p q h k l =
     let e : nat_lt most p ≡ false = grind (arith, nat_tests) in
     let f : nat_lt most q ≡ false = grind (arith, nat_tests) in
@@ -193,7 +193,7 @@ module _ (n : ℕ) (h : n ≤ most) where
   digits_of : IsNumeral 10 (decimal n) × (digits_value 10 (decimal n) ≡ n)
   digits_of = decimal_is_IsNumeral_wide n (omega arith)
 
-text_of : (x : ℚ) (sign : List ℕ) (is_negative : Bool) (n : ℕ) (bottom : Option (List ℕ)) → IsSign sign is_negative → n ≤ most → signed is_negative n ≡ x.numer → IfSome bottom (IsNumeral 10) → denominator bottom ≡ x.denom → x.denom ≤ most → SpellsNumber (sign ++ decimal n ++ under bottom) x
+text_of : (x : ℚ) (sign : List ℕ) (is_negative : Bool) (n : ℕ) (bottom : Option (List ℕ)) → IsSign sign is_negative → n ≤ most → signed_integer is_negative n ≡ x.numer → IfSome bottom (IsNumeral 10) → denominator bottom ≡ x.denom → x.denom ≤ most → SpellsNumber (sign ++ decimal n ++ under bottom) x
 text_of x sign is_negative n bottom s h e k d b =
     let top = digits_of n h in
     record {
@@ -249,7 +249,7 @@ pub text_short : (x : ℚ) → IsBounded x → length (number_text x) ≤ 80
 text_short x b = text_length x x.numer (x.denom == 1) b.0 b.1
 
 -- digits alone are a whole number
-pub plain_number : (is_negative : Bool) (bs : List ℕ) (n : ℕ) → natural_of bs ≡ Some n → n ≤ most → of_parts is_negative (natural_of (top_of bs)) (natural_of (bottom_of bs)) ≡ Ok (over (signed is_negative n) 1)
+pub plain_number : (is_negative : Bool) (bs : List ℕ) (n : ℕ) → natural_of bs ≡ Some n → n ≤ most → of_parts is_negative (natural_of (top_of bs)) (natural_of (bottom_of bs)) ≡ Ok (over (signed_integer is_negative n) 1)
 unfolding natural_of natural_after
 plain_number is_negative bs n e h =
     let k = natural_sound bs n e in

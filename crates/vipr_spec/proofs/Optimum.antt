@@ -10,7 +10,7 @@ use Rattle.std.proofs.lemmas.List.Elements.{All-nil, All-cons}
 use Rattle.std.proofs.lemmas.Int.{ints}
 use Rattle.vipr_spec.specs.Gcd.{gcd}
 use Rattle.vipr_spec.specs.Fraction.{ℚ, over, whole, zero_ℚ, ◌+ℚ◌, ◌*ℚ◌, neg_ℚ, ◌≤ℚ◌, IsWhole, ProductFits, SumFits}
-use Rattle.vipr_spec.specs.Constraint.{Profile, one, two, at_most, at_least, at, Row, Constraint, Condition, condition, IsTrueAt, Entry, pull, IsInteger, IsWholeRow, HasSense, sum_of, RoundsTo, Dominates, CombinesRounded, TermsFit, SumOfFits, value, ValueFits}
+use Rattle.vipr_spec.specs.Constraint.{Profile, one, two, at_most, at_least, at, Row, Constraint, Condition, condition, IsTrueAt, Entry, pull, IsInteger, IsWholeRow, HasSense, sum_of, RoundsTo, CombinesRounded, TermsFit, SumOfFits, value, ValueFits}
 use Rattle.vipr_spec.specs.Certificate.{Named, maximum, objective_at, Reason, rnd, uns, sol, asm, constraint_at, reason_at, IsBest, IsAsGoodAt, IsFeasible, SolutionFits, IsProof, IsGoodStep, HasGoodSteps, is_live, RestsOnNothing}
 use Rattle.vipr_spec.specs.Examples.{row, twice, first_variable, optimum}
 use Rattle.vipr_spec.proofs.Fractions.{whole-mul, whole-le, over-mul, over-le, over_same, is_neg, is_over, is_zero, le_in, le_out, le_refl_ℚ, le_of_eq_ℚ, zero-add_ℚ, add-zero_ℚ, mul-zero_ℚ, IsWhole-zero}

@@ -2,15 +2,15 @@
 use Rattle.std.proofs.Common.{◌≡◌, ℕ, zero, suc, ◌+◌, List, [], ◌∷◌, ◌++◌, map, length}
 use Rattle.std.proofs.Common.{slice_index_or, Some, None, refl, sym, ◌∙◌, ap}
 use Rattle.std.proofs.lemmas.List.{get_or-append-add, length-map}
-use Rattle.vipr_spec.specs.Certificate.{Derivation, Certificate, Known, given, derived}
-use Rattle.vipr_spec.specs.Certificate.{unknown, reason_at}
+use Rattle.vipr_spec.specs.Certificate.{Derivation, Certificate, Known, given_constraint, derived_constraint}
+use Rattle.vipr_spec.specs.Certificate.{no_constraint, reason_at}
 
 pub at_place : {A X : Type 0} (f : A → X) (cs : List A) (ys : List X) (j : ℕ) (d : X)
     → slice_index_or (map f cs ++ ys) (length cs + j) d ≡ slice_index_or ys j d
 at_place f cs ys j d = ap (λ n. slice_index_or (map f cs ++ ys) (n + j) d) (sym (length-map cs f))
     ∙ get_or-append-add (map f cs) ys j d
 
-reasons : (ds : List Derivation) (j : ℕ) → (slice_index_or (map derived ds) j unknown).reason
+reasons : (ds : List Derivation) (j : ℕ) → (slice_index_or (map derived_constraint ds) j no_constraint).reason
     ≡ slice_index_or (map (λ d. Some d.reason) ds) j None
 reasons [] j = refl
 reasons (d ∷ ds) zero = refl
@@ -20,5 +20,5 @@ pub reason_placed : (c : Certificate) (j : ℕ) → reason_at c (length c.proble
     ≡ slice_index_or (map (λ d. Some d.reason) c.derivations) j None
 reason_placed c j =
     ap (λ (x : Known). x.reason)
-    (at_place given c.problem.constraints (map derived c.derivations) j unknown)
+    (at_place given_constraint c.problem.constraints (map derived_constraint c.derivations) j no_constraint)
     ∙ reasons c.derivations j

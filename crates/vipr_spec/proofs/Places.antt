@@ -4,8 +4,8 @@ use Rattle.std.proofs.lemmas.Bool.{and_from, or_right, cases_lt}
 use Rattle.std.proofs.lemmas.List.{get_or_append_left, length-map}
 use Rattle.vipr_spec.specs.Fraction.{ℚ, zero_ℚ}
 use Rattle.vipr_spec.specs.Constraint.{condition}
-use Rattle.vipr_spec.specs.Certificate.{Reason, asm, lin, rnd, uns, sol, Derivation, Certificate, constraint_at, reason_at, last_at, unknown, is_assumption, lasts_to, is_live, RefersTo, count}
-use Rattle.vipr_spec.specs.Tightened.{kept_of, new_index, renumbered_entries, renumbered, renumbered_at, with_new_indices, with_last_references, with_kept}
+use Rattle.vipr_spec.specs.Certificate.{Reason, asm, lin, rnd, uns, sol, Derivation, Certificate, constraint_at, reason_at, last_at, no_constraint, is_assumption, lasts_to, is_live, RefersTo, count}
+use Rattle.vipr_spec.specs.Tightened.{kept_of, new_index, renumbered_entries, renumbered_reason, renumbered_at, with_new_indices, with_last_references, with_kept}
 use Rattle.vipr_spec.specs.Reading.{is_nonzero}
 use Rattle.vipr_spec.proofs.Kept.{map_with, length_with, index_mono, index_same, old_index, kept_map, length_kept, kept_at}
 use Rattle.vipr_spec.proofs.Prefix.{constraints_listed, reasons_listed, lasts_listed}
@@ -72,7 +72,7 @@ at_new keep f d cs ys zs given e i k = ⊎_elim
     (cases_lt i (length cs))
 
 option_out : (new : ℕ → ℕ) (A : Type 0) (cs : List A) (ds : List Derivation) (i : ℕ)
-    → slice_index_or (map (λ (a : A). None) cs ++ map (λ d. Some (renumbered new d.reason)) ds) i None ≡ renumbered_at new (slice_index_or (map (λ a. None) cs ++ map (λ d. Some d.reason) ds) i None)
+    → slice_index_or (map (λ (a : A). None) cs ++ map (λ d. Some (renumbered_reason new d.reason)) ds) i None ≡ renumbered_at new (slice_index_or (map (λ a. None) cs ++ map (λ d. Some d.reason) ds) i None)
 option_out new A [] [] i = refl
 option_out new A [] (d ∷ ds) zero = refl
 option_out new A [] (d ∷ ds) (suc i) = option_out new A [] ds i
@@ -111,15 +111,15 @@ module _ (c : Certificate) (keep : ℕ → Bool) (given : (i : ℕ) → i < leng
   pub constraint_new : (i : ℕ) → keep i ≡ true → constraint_at (with_kept c keep) (new_index keep i) ≡ constraint_at c i
   constraint_new i k =
       constraints_listed (with_kept c keep) (new_index keep i)
-      ∙ at_new keep (λ n. condition n.item) unknown.stated c.problem.constraints (map (λ d. condition d.stated) (with_kept c keep).derivations) (map (λ d. condition d.stated) c.derivations) given
+      ∙ at_new keep (λ n. condition n.item) no_constraint.stated c.problem.constraints (map (λ d. condition d.stated) (with_kept c keep).derivations) (map (λ d. condition d.stated) c.derivations) given
       (kept_values (λ d. condition d.stated) (λ d. condition d.stated) (λ d l. refl) (λ d. refl)) i k
       ∙ sym (constraints_listed c i)
 
   pub reason_new : (i : ℕ) → keep i ≡ true → reason_at (with_kept c keep) (new_index keep i) ≡ renumbered_at (new_index keep) (reason_at c i)
   reason_new i k =
       reasons_listed (with_kept c keep) (new_index keep i)
-      ∙ at_new keep (λ a. None) None c.problem.constraints (map (λ d. Some d.reason) (with_kept c keep).derivations) (map (λ d. Some (renumbered (new_index keep) d.reason)) c.derivations) given
-      (kept_values (λ d. Some (renumbered (new_index keep) d.reason)) (λ d. Some d.reason) (λ d l. refl) (λ d. refl)) i k
+      ∙ at_new keep (λ a. None) None c.problem.constraints (map (λ d. Some d.reason) (with_kept c keep).derivations) (map (λ d. Some (renumbered_reason (new_index keep) d.reason)) c.derivations) given
+      (kept_values (λ d. Some (renumbered_reason (new_index keep) d.reason)) (λ d. Some d.reason) (λ d l. refl) (λ d. refl)) i k
       ∙ option_out (new_index keep) _ c.problem.constraints c.derivations i
       ∙ ap (renumbered_at (new_index keep)) (sym (reasons_listed c i))
 

@@ -6,7 +6,7 @@ use Rattle.vipr_spec.specs.Certificate.{Derivation, Certificate, known_at, const
 use Rattle.vipr_spec.specs.Reading.{Rest, Fault, refused, unread}
 use Rattle.vipr_spec.specs.Steps.{before, PassesStep, step_tests, FirstFailing, IsGoodNext}
 use Rattle.vipr_spec.specs.Tests.{Test, spelled, of_solution, meets_primal, of_step, meets_dual, Passes, Detail, step, no_primal, Explains}
-use Rattle.vipr_spec.specs.Verdict.{Found, found_in, Report, Reports, Answer, verified, told_by, IsToldBy, Answers, IsAnswer, IsExplainedBy, Explained, IsExplained}
+use Rattle.vipr_spec.specs.Verdict.{Found, found_in, Report, Reports, Answer, verified, answer_of_test, IsAnswerOfTest, Answers, IsAnswer, IsExplainedBy, Explained, IsExplained}
 use Rattle.vipr_spec.proofs.Details.{shows_once}
 use Rattle.vipr_spec.proofs.Goals.{goal_needed}
 use Rattle.vipr_spec.proofs.FirstFailing.{failing_unique}
@@ -41,9 +41,9 @@ one_report P c x y p q =
 -- ---- one answer
 
 pub one_answer_found : (P : Profile) (f : Found) (a b : Answer) → Answers P f a → Answers P f b → a ≡ b
-one_answer_found P f a b p q = by p.0 p.2 (subst (λ t. IsToldBy P f.certificate t b) (failing_unique (Passes P f.certificate) f.tests q.0 p.0 q.1 p.1) q.2)
+one_answer_found P f a b p q = by p.0 p.2 (subst (λ t. IsAnswerOfTest P f.certificate t b) (failing_unique (Passes P f.certificate) f.tests q.0 p.0 q.1 p.1) q.2)
   where
-    by : (t : Option Test) → IsToldBy P f.certificate t a → IsToldBy P f.certificate t b → a ≡ b
+    by : (t : Option Test) → IsAnswerOfTest P f.certificate t a → IsAnswerOfTest P f.certificate t b → a ≡ b
     by None h k = h.2 ∙ ap verified (one_report P f.certificate h.0 k.0 h.1 k.1) ∙ sym k.2
     by (Some t) h k = h ∙ sym k
 
@@ -79,16 +79,16 @@ one_detail P r a b x y p q = (
 
 -- ---- a test that fails tells no verified text
 
-fault_told : (f : Fault) (report : Report) → ¬ (told_by (spelled f) ≡ verified report)
-fault_told (refused c o) report e = cc
-fault_told unread report e = cc
+fault_known : (f : Fault) (report : Report) → ¬ (answer_of_test (spelled f) ≡ verified report)
+fault_known (refused c o) report e = cc
+fault_known unread report e = cc
 
-pub told_not_verified : (t : Test) (report : Report) → ¬ (told_by t ≡ verified report)
-told_not_verified (spelled f) report e = fault_told f report e
-told_not_verified (of_solution i s t) report e = cc
-told_not_verified meets_primal report e = cc
-told_not_verified (of_step k t) report e = cc
-told_not_verified meets_dual report e = cc
+pub known_not_verified : (t : Test) (report : Report) → ¬ (answer_of_test t ≡ verified report)
+known_not_verified (spelled f) report e = fault_known f report e
+known_not_verified (of_solution i s t) report e = cc
+known_not_verified meets_primal report e = cc
+known_not_verified (of_step k t) report e = cc
+known_not_verified meets_dual report e = cc
 
 -- ---- the next derivation
 

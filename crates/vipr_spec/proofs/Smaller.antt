@@ -6,7 +6,7 @@ use Rattle.vipr_spec.specs.Fraction.{ℚ, zero_ℚ}
 use Rattle.vipr_spec.specs.Constraint.{Profile, Condition, SumOfFits, Combines, CombinesRounded}
 use Rattle.vipr_spec.specs.Certificate.{Reason, asm, lin, rnd, uns, sol, Certificate, constraint_at, reason_at, Brings, RestsOn, itself, brought, entries, NamesEarlier, FollowsBy, StepFits, IsGoodStep, HasGoodSteps, RefersTo, MeetsDual, NeedsGoal, count, ProvesDual, IsProof}
 use Rattle.vipr_spec.specs.Steps.{RefersBack}
-use Rattle.vipr_spec.specs.Tightened.{new_index, renumbered_entries, renumbered, renumbered_at, with_kept}
+use Rattle.vipr_spec.specs.Tightened.{new_index, renumbered_entries, renumbered_reason, renumbered_at, with_kept}
 use Rattle.vipr_spec.specs.Reading.{is_nonzero}
 use Rattle.vipr_spec.proofs.Prefix.{reason_past, is_derived}
 use Rattle.vipr_spec.proofs.Kept.{index_lt, index_injective}
@@ -27,7 +27,7 @@ asm_back new (Some (rnd es)) e = absurd (cc)
 asm_back new (Some (uns i1 l1 i2 l2)) e = absurd (cc)
 asm_back new (Some sol) e = absurd (cc)
 
-some_back : (new : ℕ → ℕ) (q : Option Reason) (r : Reason) → renumbered_at new q ≡ Some r → (o : Reason) × (q ≡ Some o) × (renumbered new o ≡ r)
+some_back : (new : ℕ → ℕ) (q : Option Reason) (r : Reason) → renumbered_at new q ≡ Some r → (o : Reason) × (q ≡ Some o) × (renumbered_reason new o ≡ r)
 some_back new None r e = absurd (cc)
 some_back new (Some o) r e = (o, refl, cc)
 
@@ -95,7 +95,7 @@ module _ (c : Certificate) (keep : ℕ → Bool) (given : (i : ℕ) → i < leng
       (λ (l : count (with_kept c keep) ≤ p). subst (NamesEarlier p) (sym (reason_past (with_kept c keep) p l)) tt)
       (cases_lt p (count (with_kept c keep)))
 
-  follows_new : (P : Profile) (k : ℕ) (r : Reason) (d : Condition) → keep k ≡ true → reason_at c k ≡ Some r → FollowsBy P c r d → FollowsBy P (with_kept c keep) (renumbered (new_index keep) r) d
+  follows_new : (P : Profile) (k : ℕ) (r : Reason) (d : Condition) → keep k ≡ true → reason_at c k ≡ Some r → FollowsBy P c r d → FollowsBy P (with_kept c keep) (renumbered_reason (new_index keep) r) d
   follows_new P k asm d h q v = tt
   follows_new P k (lin es) d h q v = subst (λ l. Combines l d) (sym (entries_new es (kept_lin k es h q))) (smaller_combines (entries c es) d v)
   follows_new P k (rnd es) d h q v = subst (λ l. CombinesRounded c.problem.integers l d) (sym (entries_new es (kept_rnd k es h q))) (smaller_rounds c.problem.integers (entries c es) d v)
@@ -109,7 +109,7 @@ module _ (c : Certificate) (keep : ℕ → Bool) (given : (i : ℕ) → i < leng
       )
   follows_new P k sol d h q v = v
 
-  fits_new : (k : ℕ) (r : Reason) → keep k ≡ true → reason_at c k ≡ Some r → StepFits c r → StepFits (with_kept c keep) (renumbered (new_index keep) r)
+  fits_new : (k : ℕ) (r : Reason) → keep k ≡ true → reason_at c k ≡ Some r → StepFits c r → StepFits (with_kept c keep) (renumbered_reason (new_index keep) r)
   fits_new k asm h q v = tt
   fits_new k (lin es) h q v = subst SumOfFits (sym (entries_new es (kept_lin k es h q))) (smaller_fits (entries c es) v)
   fits_new k (rnd es) h q v = subst SumOfFits (sym (entries_new es (kept_rnd k es h q))) (smaller_fits (entries c es) v)
@@ -117,11 +117,11 @@ module _ (c : Certificate) (keep : ℕ → Bool) (given : (i : ℕ) → i < leng
   fits_new k sol h q v = tt
 
   good_new : (P : Profile) (k : ℕ) (r : Reason) → keep k ≡ true → reason_at c k ≡ Some r → IsGoodStep P c k r (constraint_at c k)
-      → IsGoodStep P (with_kept c keep) (new_index keep k) (renumbered (new_index keep) r) (constraint_at (with_kept c keep) (new_index keep k))
+      → IsGoodStep P (with_kept c keep) (new_index keep k) (renumbered_reason (new_index keep) r) (constraint_at (with_kept c keep) (new_index keep k))
   good_new P k r h q g =
       let t = with_kept c keep in
       let p = new_index keep k in
-      let s = renumbered (new_index keep) r in
+      let s = renumbered_reason (new_index keep) r in
       let there : reason_at t p ≡ Some s = reason_new c keep given k h ∙ ap (renumbered_at (new_index keep)) q in
       let earlier : NamesEarlier p (Some s) = names_new k (Some r) h q g.earlier in
       record {

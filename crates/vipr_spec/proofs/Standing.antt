@@ -7,10 +7,10 @@ use Rattle.vipr_spec.specs.Certificate.{Named, Problem, Derivation, Certificate,
 use Rattle.vipr_spec.specs.Tokens.{Token}
 use Rattle.vipr_spec.specs.Reading.{Rest, Fault, refused, unread, Read, ◌>>=◌, most_count, problem_read, solution_read, derivations_read, derivation_read, end_read}
 use Rattle.vipr_spec.specs.GrammarLaws.{Reads}
-use Rattle.vipr_spec.specs.FaultLaws.{IsRefusedAt, EndsEarly, FaultsStand}
+use Rattle.vipr_spec.specs.FaultLaws.{IsRefusedAt, EndsEarly, FaultsRemain}
 use Rattle.vipr_spec.specs.Steps.{with_more, with_next, StepTest, PassesStep, step_tests, step_cause, FirstFailing}
-use Rattle.vipr_spec.specs.Tests.{SolutionTest, PassesSolution, solution_tests, solution_cause, of_solution, Test, spelled, meets_primal, of_step, meets_dual, Passes, numbered, tests_of_solution, tests_of_derivation}
-use Rattle.vipr_spec.specs.Verdict.{items_read, before_items, Found, last_tests, derivations_found, ending_found, found_in, Place, at_byte, at_solution, at_derivation, at_end, Refusal, Answer, refuses, cut_short, told_by, IsToldBy, Answers, IsAnswer}
+use Rattle.vipr_spec.specs.Tests.{SolutionTest, PassesSolution, solution_tests, solution_cause, of_solution, Test, spelled, meets_primal, of_step, meets_dual, Passes, numbered_tests, tests_of_solution, tests_of_derivation}
+use Rattle.vipr_spec.specs.Verdict.{items_read, before_items, Found, last_tests, derivations_found, ending_found, found_in, Place, at_byte, at_solution, at_derivation, at_end, Refusal, Answer, refuses, cut_short, answer_of_test, IsAnswerOfTest, Answers, IsAnswer}
 use Rattle.vipr_spec.specs.RefusalLaws.{EndsAtByte, EndsInDerivations, EndsInSolutions, EndsAt, IsRefusedBy}
 use Rattle.vipr_spec.specs.Progress.{derivations_from, solutions_from}
 use Rattle.vipr_spec.proofs.FirstFailing.{failing_parts, failing_unmap}
@@ -19,7 +19,7 @@ use Rattle.vipr_spec.proofs.GrammarSections.{reads_problem, reads_solution}
 use Rattle.vipr_spec.proofs.GrammarDerivations.{reads_derivations, reads_derivation}
 use Rattle.vipr_spec.proofs.GrammarWhole.{few_constraints_read}
 use Rattle.vipr_spec.proofs.GrammarItemFaults.{item_faults}
-use Rattle.vipr_spec.proofs.Told as told
+use Rattle.vipr_spec.proofs.Told as known
 use Rattle.vipr_spec.proofs.Remains.{problem_fault, problem_ok, solution_fault, solution_passes, solution_fails, solutions_unmet, derivations_fault, derivations_begin, derivation_fault, derivation_passes, derivation_fails, end_fault}
 
 -- ---- an item is read from its own tokens
@@ -96,10 +96,10 @@ problem_later p n q t front at_end j e h = (p, n, t, e, h)
 
 module _ (P : Profile) where
   -- a fault of a token
-  fault_stands : {A : Type 0} (read : Rest → Result A Fault) (found : Rest → Found) (Ends : Rest → Place → Type 0) → ((q : Rest) (o : ℕ) → EndsAtByte q.tokens o → Ends q (at_byte o)) → FaultsStand read → ((q : Rest) (f : Fault) (a : Answer) → read q ≡ Err f → Answers P (found q) a ↔ (a ≡ told_by (spelled f)))
+  fault_remains : {A : Type 0} (read : Rest → Result A Fault) (found : Rest → Found) (Ends : Rest → Place → Type 0) → ((q : Rest) (o : ℕ) → EndsAtByte q.tokens o → Ends q (at_byte o)) → FaultsRemain read → ((q : Rest) (f : Fault) (a : Answer) → read q ≡ Err f → Answers P (found q) a ↔ (a ≡ answer_of_test (spelled f)))
       → (r : Rest) (f : Fault) (x : Refusal) → IsBeforeEnd x → read r ≡ Err f → Answers P (found r) (refuses x) → IsRefusedBy P found Ends r x
-  fault_stands read found Ends bytes faults law r unread x b e h = let t : refuses x ≡ cut_short = (law r unread (refuses x) e).0 h in absurd (cc)
-  fault_stands read found Ends bytes faults law r (refused why place) x b e h = by (faults.refusal r why place e)
+  fault_remains read found Ends bytes faults law r unread x b e h = let t : refuses x ≡ cut_short = (law r unread (refuses x) e).0 h in absurd (cc)
+  fault_remains read found Ends bytes faults law r (refused why place) x b e h = by (faults.refusal r why place e)
     where
       is : x ≡ record { cause = why; place = at_byte place }
       is = same_refusal x _ ((law r (refused why place) (refuses x) e).0 h)
@@ -111,7 +111,7 @@ module _ (P : Profile) where
         after = at.after;
         joined = at.joined ∙ sym (append_assoc at.before (at.token ∷ []) at.after);
         ends = λ q j. subst (λ (x : Refusal). Ends q x.place) (sym is) (bytes q place (at.before, at.token, j, at.here));
-        refused = λ s more j. (law s (refused why place) (refuses x) (at.stands s more (j ∙ append_assoc at.before (at.token ∷ []) more))).1 (ap refuses is);
+        refused = λ s more j. (law s (refused why place) (refuses x) (at.remains s more (j ∙ append_assoc at.before (at.token ∷ []) more))).1 (ap refuses is);
       }
 
   -- what is refused after an item that is read
@@ -129,9 +129,9 @@ module _ (P : Profile) where
   }
 
   -- an item that is read and refused, at a place that is no byte
-  item_stands : {A : Type 0} {read : Rest → Read A} {r s : Rest} {x : A} (found : Rest → Found) (Ends : Rest → Place → Type 0) (why : ℕ) (place : Place) (y : Refusal) → ((q t : Rest) → t.tokens ≡ [] → read q ≡ Ok (x, t) → Ends q place) → IsRead read r s x
+  item_remains : {A : Type 0} {read : Rest → Read A} {r s : Rest} {x : A} (found : Rest → Found) (Ends : Rest → Place → Type 0) (why : ℕ) (place : Place) (y : Refusal) → ((q t : Rest) → t.tokens ≡ [] → read q ≡ Ok (x, t) → Ends q place) → IsRead read r s x
       → ((q t : Rest) → read q ≡ Ok (x, t) → Answers P (found q) (refuses y) ↔ (refuses y ≡ refuses (record { cause = why; place = place }))) → refuses y ≡ refuses (record { cause = why; place = place }) → IsRefusedBy P found Ends r y
-  item_stands {s = s} found Ends why place y alone item law is = record {
+  item_remains {s = s} found Ends why place y alone item law is = record {
     front = item.front;
     after = s.tokens;
     joined = item.joined;
@@ -154,31 +154,31 @@ module _ (P : Profile) where
 
       g : Answers P (record {
         certificate = after;
-        tests = tests_of_derivation (count c) d ++ (numbered tests_of_derivation (suc (count c)) ds ++ last_tests ((items_read (derivation_read c.problem) n s).1 >>= end_read));
+        tests = tests_of_derivation (count c) d ++ (numbered_tests tests_of_derivation (suc (count c)) ds ++ last_tests ((items_read (derivation_read c.problem) n s).1 >>= end_read));
       }) a
-      g = subst (λ f. Answers P f a) (told.derivation_next c n r d s e) h
+      g = subst (λ f. Answers P f a) (known.derivation_next c n r d s e) h
 
       own : (f : Option Test) → FirstFailing (Passes P after) (tests_of_derivation (count c) d) f → (f : Option StepTest) × FirstFailing (PassesStep P c (condition d.stated)) (step_tests d.reason) f
       own f q = let k = failing_unmap (of_step (count c)) (Passes P after) (step_tests d.reason) f q in (k.0, (tests_next P c d ds k.0).0 k.2)
 
-  derivations_stand : (n : ℕ) (c : Certificate) (r : Rest) (x : Refusal) → IsBeforeEnd x → Answers P (derivations_from c n r) (refuses x) → IsRefusedBy P (derivations_from c n) (EndsInDerivations c n) r x
-  derivations_stand zero c r x b h = by (end_read r) refl
+  derivations_remain : (n : ℕ) (c : Certificate) (r : Rest) (x : Refusal) → IsBeforeEnd x → Answers P (derivations_from c n r) (refuses x) → IsRefusedBy P (derivations_from c n) (EndsInDerivations c n) r x
+  derivations_remain zero c r x b h = by (end_read r) refl
     where
       by : (y : Result (Unit {0}) Fault) → end_read r ≡ y → IsRefusedBy P (derivations_from c 0) (EndsInDerivations c 0) r x
-      by (Err f) e = fault_stands end_read (derivations_from c 0) (EndsInDerivations c 0) (λ q o h. h) item_faults.end (λ q f a e. end_fault P c q f a e) r f x b e h
+      by (Err f) e = fault_remains end_read (derivations_from c 0) (EndsInDerivations c 0) (λ q o h. h) item_faults.end (λ q f a e. end_fault P c q f a e) r f x b e h
       by (Ok done) e = absurd (last g.0 g.1 g.2)
         where
           g : Answers P (record { certificate = c; tests = meets_dual ∷ [] }) (refuses x)
-          g = subst (λ f. Answers P f (refuses x)) (told.at_the_end c r ∙ ap (λ y. record { certificate = c; tests = last_tests y }) e) h
+          g = subst (λ f. Answers P f (refuses x)) (known.at_the_end c r ∙ ap (λ y. record { certificate = c; tests = last_tests y }) e) h
 
-          last : (f : Option Test) → FirstFailing (Passes P c) (meets_dual ∷ []) f → IsToldBy P c f (refuses x) → ⊥
+          last : (f : Option Test) → FirstFailing (Passes P c) (meets_dual ∷ []) f → IsAnswerOfTest P c f (refuses x) → ⊥
           last None q t = cc t.2
           last (Some t) (inl q) u = cc q.1
-          last (Some t) (inr q) u = b.1 (ap (λ (x : Refusal). x.cause) (same_refusal x _ (subst (λ o. IsToldBy P c o (refuses x)) q.1 u)))
-  derivations_stand (suc n) c r x b h = by (λ d s g. derivations_stand n (with_next c d) s x b g) (derivation_read c.problem r) refl
+          last (Some t) (inr q) u = b.1 (ap (λ (x : Refusal). x.cause) (same_refusal x _ (subst (λ o. IsAnswerOfTest P c o (refuses x)) q.1 u)))
+  derivations_remain (suc n) c r x b h = by (λ d s g. derivations_remain n (with_next c d) s x b g) (derivation_read c.problem r) refl
     where
       by : ((d : Derivation) (s : Rest) → Answers P (derivations_from (with_next c d) n s) (refuses x) → IsRefusedBy P (derivations_from (with_next c d) n) (EndsInDerivations (with_next c d) n) s x) → (y : Read Derivation) → derivation_read c.problem r ≡ y → IsRefusedBy P (derivations_from c (suc n)) (EndsInDerivations c (suc n)) r x
-      by on (Err f) e = fault_stands (derivation_read c.problem) (derivations_from c (suc n)) (EndsInDerivations c (suc n)) (λ q o h. h) (item_faults.derivation c.problem) (λ q f a e. derivation_fault P c n q f a e) r f x b e h
+      by on (Err f) e = fault_remains (derivation_read c.problem) (derivations_from c (suc n)) (EndsInDerivations c (suc n)) (λ q o h. h) (item_faults.derivation c.problem) (λ q f a e. derivation_fault P c n q f a e) r f x b e h
       by on (Ok (d, s)) e = tested k.0 k.1
         where
           item : IsRead (derivation_read c.problem) r s d
@@ -190,7 +190,7 @@ module _ (P : Profile) where
           tested : (f : Option StepTest) → FirstFailing (PassesStep P c (condition d.stated)) (step_tests d.reason) f → IsRefusedBy P (derivations_from c (suc n)) (EndsInDerivations c (suc n)) r x
           tested None g = after_item (derivations_from c (suc n)) (derivations_from (with_next c d) n) (EndsInDerivations c (suc n)) (EndsInDerivations (with_next c d) n) x (derivation_later c d n) item (λ q t e. (derivation_passes P c n q d t (refuses x) e g).1)
               (on d s ((derivation_passes P c n r d s (refuses x) e g).0 h))
-          tested (Some u) g = item_stands (derivations_from c (suc n)) (EndsInDerivations c (suc n)) (step_cause u) (at_derivation (count c)) x (λ q t z e. (0, omega arith, omega arith, (d ∷ [], t, item_more (derivation_read c.problem) 0 q t d [] t e (no_items (derivation_read c.problem) t), z))) item (λ q t e. derivation_fails P c n q d t u (refuses x) e g) ((derivation_fails P c n r d s u (refuses x) e g).0 h)
+          tested (Some u) g = item_remains (derivations_from c (suc n)) (EndsInDerivations c (suc n)) (step_cause u) (at_derivation (count c)) x (λ q t z e. (0, omega arith, omega arith, (d ∷ [], t, item_more (derivation_read c.problem) 0 q t d [] t e (no_items (derivation_read c.problem) t), z))) item (λ q t e. derivation_fails P c n q d t u (refuses x) e g) ((derivation_fails P c n r d s u (refuses x) e g).0 h)
 
   -- ---- the solutions
 
@@ -206,28 +206,28 @@ module _ (P : Profile) where
 
       g : Answers P (record {
         certificate = after;
-        tests = tests_of_solution p (length ss) s ++ (numbered (tests_of_solution p) (suc (length ss)) items.0 ++ (ending_found p items.1).1);
+        tests = tests_of_solution p (length ss) s ++ (numbered_tests (tests_of_solution p) (suc (length ss)) items.0 ++ (ending_found p items.1).1);
       }) a
-      g = subst (λ f. Answers P f a) (told.solution_next p ss n r s t e) h
+      g = subst (λ f. Answers P f a) (known.solution_next p ss n r s t e) h
 
       own : (f : Option Test) → FirstFailing (Passes P after) (tests_of_solution p (length ss) s) f → (f : Option SolutionTest) × FirstFailing (PassesSolution p s.item) (solution_tests p) f
       own f q = let k = failing_unmap (of_solution (length ss) s.item) (Passes P after) (solution_tests p) f q in (k.0, k.2)
 
-  solutions_stand : (n : ℕ) (p : Problem) → length p.constraints ≤ most_count → (ss : List (Named Row)) (r : Rest) (x : Refusal) → IsBeforeEnd x → Answers P (solutions_from p ss n r) (refuses x) → IsRefusedBy P (solutions_from p ss n) (EndsInSolutions p (length ss) n) r x
-  solutions_stand zero p few ss r x b h = first g.0 g.1
+  solutions_remain : (n : ℕ) (p : Problem) → length p.constraints ≤ most_count → (ss : List (Named Row)) (r : Rest) (x : Refusal) → IsBeforeEnd x → Answers P (solutions_from p ss n r) (refuses x) → IsRefusedBy P (solutions_from p ss n) (EndsInSolutions p (length ss) n) r x
+  solutions_remain zero p few ss r x b h = first g.0 g.1
     where
       after : Certificate
       after = record { problem = p; solutions = ss; derivations = (derivations_found p (derivations_read p r)).0 }
 
       g : Answers P (record { certificate = after; tests = meets_primal ∷ (derivations_found p (derivations_read p r)).1 }) (refuses x)
-      g = subst (λ f. Answers P f (refuses x)) (told.no_more_solutions p ss r (derivations_read p r) refl) h
+      g = subst (λ f. Answers P f (refuses x)) (known.no_more_solutions p ss r (derivations_read p r) refl) h
 
       met_by : MeetsPrimal p ss p.claim → (y : Read ℕ) → derivations_read p r ≡ y → IsRefusedBy P (solutions_from p ss 0) (EndsInSolutions p (length ss) 0) r x
-      met_by met (Err f) e = fault_stands (derivations_read p) (solutions_from p ss 0) (EndsInSolutions p (length ss) 0) (λ q o h. h) (item_faults.derivations p) (λ q f a e. derivations_fault P p ss q f a met e) r f x b e h
+      met_by met (Err f) e = fault_remains (derivations_read p) (solutions_from p ss 0) (EndsInSolutions p (length ss) 0) (λ q o h. h) (item_faults.derivations p) (λ q f a e. derivations_fault P p ss q f a met e) r f x b e h
       met_by met (Ok (m, s)) e =
           let start : Certificate = record { problem = p; solutions = ss; derivations = [] } in
           after_item (solutions_from p ss 0) (derivations_from start m) (EndsInSolutions p (length ss) 0) (EndsInDerivations start m) x (derivations_later p ss (length ss) m) (is_read (reads_derivations p few) r s m e) (λ q t e. (derivations_begin P p ss q m t (refuses x) met e).1)
-          (derivations_stand m start s x b ((derivations_begin P p ss r m s (refuses x) met e).0 h))
+          (derivations_remain m start s x b ((derivations_begin P p ss r m s (refuses x) met e).0 h))
 
       first : (f : Option Test) → FirstFailing (Passes P after) (meets_primal ∷ (derivations_found p (derivations_read p r)).1) f → IsRefusedBy P (solutions_from p ss 0) (EndsInSolutions p (length ss) 0) r x
       first f (inl q) = met_by q.0 (derivations_read p r) refl
@@ -239,10 +239,10 @@ module _ (P : Profile) where
             ends = λ q j. subst (λ (x : Refusal). EndsInSolutions p (length ss) 0 q x.place) (sym (same_refusal x _ is)) ([], q, no_items (solution_read p) q, j);
             refused = λ s more j. (solutions_unmet P p ss s (refuses x) q.0).1 is;
           }
-  solutions_stand (suc n) p few ss r x b h = by (λ s t g. solutions_stand n p few (ss ++ s ∷ []) t x b g) (solution_read p r) refl
+  solutions_remain (suc n) p few ss r x b h = by (λ s t g. solutions_remain n p few (ss ++ s ∷ []) t x b g) (solution_read p r) refl
     where
       by : ((s : Named Row) (t : Rest) → Answers P (solutions_from p (ss ++ s ∷ []) n t) (refuses x) → IsRefusedBy P (solutions_from p (ss ++ s ∷ []) n) (EndsInSolutions p (length (ss ++ s ∷ [])) n) t x) → (y : Read (Named Row)) → solution_read p r ≡ y → IsRefusedBy P (solutions_from p ss (suc n)) (EndsInSolutions p (length ss) (suc n)) r x
-      by on (Err f) e = fault_stands (solution_read p) (solutions_from p ss (suc n)) (EndsInSolutions p (length ss) (suc n)) (λ q o h. h) (item_faults.solution p) (λ q f a e. solution_fault P p ss n q f a e) r f x b e h
+      by on (Err f) e = fault_remains (solution_read p) (solutions_from p ss (suc n)) (EndsInSolutions p (length ss) (suc n)) (λ q o h. h) (item_faults.solution p) (λ q f a e. solution_fault P p ss n q f a e) r f x b e h
       by on (Ok (s, t)) e = tested k.0 k.1
         where
           item : IsRead (solution_read p) r t s
@@ -258,14 +258,14 @@ module _ (P : Profile) where
           tested None g = after_item (solutions_from p ss (suc n)) (solutions_from p (ss ++ s ∷ []) n) (EndsInSolutions p (length ss) (suc n)) (EndsInSolutions p (length (ss ++ s ∷ [])) n) x
               (λ q t front place j e h. solution_later p s (length ss) n q t front place j e (subst (λ i. EndsInSolutions p i n t place) one_more h)) item (λ q t e. (solution_passes P p ss n q s t (refuses x) e g).1)
               (on s t ((solution_passes P p ss n r s t (refuses x) e g).0 h))
-          tested (Some u) g = item_stands (solutions_from p ss (suc n)) (EndsInSolutions p (length ss) (suc n)) (solution_cause u) (at_solution (length ss)) x (λ q t z e. (0, omega arith, omega arith, (s ∷ [], t, item_more (solution_read p) 0 q t s [] t e (no_items (solution_read p) t), z))) item (λ q t e. solution_fails P p ss n q s t u (refuses x) e g) ((solution_fails P p ss n r s t u (refuses x) e g).0 h)
+          tested (Some u) g = item_remains (solutions_from p ss (suc n)) (EndsInSolutions p (length ss) (suc n)) (solution_cause u) (at_solution (length ss)) x (λ q t z e. (0, omega arith, omega arith, (s ∷ [], t, item_more (solution_read p) 0 q t s [] t e (no_items (solution_read p) t), z))) item (λ q t e. solution_fails P p ss n q s t u (refuses x) e g) ((solution_fails P p ss n r s t u (refuses x) e g).0 h)
 
   -- ---- the whole text
 
-  pub refusal_stands : (r : Rest) (x : Refusal) → IsBeforeEnd x → IsAnswer P r (refuses x) → IsRefusedBy P found_in EndsAt r x
-  refusal_stands r x b h = by (problem_read r) refl
+  pub refusal_remains : (r : Rest) (x : Refusal) → IsBeforeEnd x → IsAnswer P r (refuses x) → IsRefusedBy P found_in EndsAt r x
+  refusal_remains r x b h = by (problem_read r) refl
     where
       by : (y : Read (Problem × ℕ)) → problem_read r ≡ y → IsRefusedBy P found_in EndsAt r x
-      by (Err f) e = fault_stands problem_read found_in EndsAt (λ q o h. h) item_faults.problem (λ q f a e. problem_fault P q f a e) r f x b e h
+      by (Err f) e = fault_remains problem_read found_in EndsAt (λ q o h. h) item_faults.problem (λ q f a e. problem_fault P q f a e) r f x b e h
       by (Ok ((p, n), s)) e = after_item found_in (solutions_from p [] n) EndsAt (EndsInSolutions p 0 n) x (problem_later p n) (is_read reads_problem r s (p, n) e) (λ q t e. (problem_ok P q p n t (refuses x) e).1)
-          (solutions_stand n p (few_constraints_read r s (p, n) e) [] s x b ((problem_ok P r p n s (refuses x) e).0 h))
+          (solutions_remain n p (few_constraints_read r s (p, n) e) [] s x b ((problem_ok P r p n s (refuses x) e).0 h))

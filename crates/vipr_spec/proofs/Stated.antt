@@ -1,42 +1,42 @@
 -- A text states one problem, with one list of solutions
-use Rattle.std.proofs.Common.{◌≡◌, ℕ, ◌≤◌, List, [], ◌++◌, length, map, Result, Ok, Err, All, codes, refl, sym, ◌∙◌, ap, append-nil}
+use Rattle.std.proofs.Common.{◌≡◌, ℕ, List, [], length, Ok, refl, sym, ◌∙◌, ap, append-nil}
 use Rattle.vipr_spec.specs.Constraint.{Row}
-use Rattle.vipr_spec.specs.Tokens.{Token, text_tokens}
+use Rattle.vipr_spec.specs.Tokens.{text_tokens}
 use Rattle.vipr_spec.specs.Certificate.{Named, Problem, variables, Certificate}
-use Rattle.vipr_spec.specs.Reading.{Rest, Read, Fault, ◌>>=◌, repeated, problem_read, solution_read}
-use Rattle.vipr_spec.specs.Grammar.{word, one, ◌then◌, each, problem, solution, solutions, SpellsCount, Spells}
-use Rattle.vipr_spec.specs.GrammarLaws.{Taken, whole_text}
+use Rattle.vipr_spec.specs.Reading.{Rest, Read, ◌>>=◌, read_each, problem_read, solution_read}
+use Rattle.vipr_spec.specs.Grammar.{one, ◌then◌, problem, solution, solutions, Spells}
+use Rattle.vipr_spec.specs.GrammarLaws.{ReadsFront, whole_text}
 use Rattle.vipr_spec.specs.Stated.{States, StatesOnly}
-use Rattle.vipr_spec.proofs.GrammarSteps.{ok_then, same_ok, taken_then, parted}
+use Rattle.vipr_spec.proofs.GrammarSteps.{ok_then, same_ok, read_then, parted}
 use Rattle.vipr_spec.proofs.GrammarParts.{repeated_complete}
 use Rattle.vipr_spec.proofs.GrammarSections.{reads_problem, reads_solution}
 use Rattle.vipr_spec.proofs.GrammarWhole.{sections}
 
 abbrev listed : (Problem × ℕ) × Rest → Read (Problem × List (Named Row))
-listed p = repeated (solution_read p.0.0) p.0.1 p.1 >>= λ ss. Ok ((p.0.0, ss.0), ss.1)
+listed p = read_each (solution_read p.0.0) p.0.1 p.1 >>= λ ss. Ok ((p.0.0, ss.0), ss.1)
 
-front_read : (r s : Rest) (p : Problem) (ss : List (Named Row)) → Taken (problem p then solutions (variables p) ss) r s
+front_read : (r s : Rest) (p : Problem) (ss : List (Named Row)) → ReadsFront (problem p then solutions (variables p) ss) r s
     → (problem_read r >>= listed) ≡ Ok ((p, ss), s)
 front_read r s p ss t =
     let a = parted t in let sol = parted a.after in let count = parted sol.after in
-    ok_then listed ((reads_problem r count.at (p, length ss)).1 (taken_then a.before (taken_then sol.before count.before)))
+    ok_then listed ((reads_problem r count.at (p, length ss)).1 (read_then a.before (read_then sol.before count.before)))
     (ok_then _ (repeated_complete (solution_read p) (solution (variables p)) (reads_solution p) ss count.at s count.after) refl)
 
-stated_taken : (bytes : List ℕ) (p : Problem) (ss : List (Named Row)) (st : States bytes p ss)
-    → Taken (problem p then solutions (variables p) ss) (whole_text bytes) (record (whole_text bytes) { tokens = st.1 })
-stated_taken bytes p ss st = record { front = st.0; joined = ap (λ ts. record (whole_text bytes) { tokens = ts }) st.2; short = st.3; shape = st.4 }
+stated_read : (bytes : List ℕ) (p : Problem) (ss : List (Named Row)) (st : States bytes p ss)
+    → ReadsFront (problem p then solutions (variables p) ss) (whole_text bytes) (record (whole_text bytes) { tokens = st.1 })
+stated_read bytes p ss st = record { front = st.0; joined = ap (λ ts. record (whole_text bytes) { tokens = ts }) st.2; short = st.3; shape = st.4 }
 
 pub one_problem : (bytes : List ℕ) (p q : Problem) (ss tt : List (Named Row)) → States bytes p ss → States bytes q tt → (q ≡ p) × (tt ≡ ss)
 one_problem bytes p q ss tt h k =
-    let e = same_ok (sym (front_read _ _ p ss (stated_taken bytes p ss h)) ∙ front_read _ _ q tt (stated_taken bytes q tt k)) in
+    let e = same_ok (sym (front_read _ _ p ss (stated_read bytes p ss h)) ∙ front_read _ _ q tt (stated_read bytes q tt k)) in
     (ap (λ x. x.0.0) (sym e), ap (λ x. x.0.1) (sym e))
 
 pub spelled_states : (bytes : List ℕ) (c : Certificate) → Spells bytes c → States bytes c.problem c.solutions
 spelled_states bytes c s =
-    let t : Taken (sections c) (whole_text bytes) (record (whole_text bytes) { tokens = [] }) =
+    let t : ReadsFront (sections c) (whole_text bytes) (record (whole_text bytes) { tokens = [] }) =
     record { front = text_tokens bytes; joined = ap (λ ts. record (whole_text bytes) { tokens = ts }) (sym (append-nil (text_tokens bytes))); short = s.short; shape = s.sections } in
     let a = parted t in let b = parted a.after in
-    let f = taken_then a.before b.before in
+    let f = read_then a.before b.before in
     (f.front, b.at.tokens, ap (λ (q : Rest). q.tokens) f.joined, f.short, f.shape)
 
 -- what a text spells is of the problem that it states

@@ -4,8 +4,8 @@ use Rattle.std.specs.List.{range_with_len, count_by, fold}
 use Rattle.std.proofs.lemmas.List.Sums.{sum_by-append}
 use Rattle.std.proofs.lemmas.Bool.{cases_Bool, cases_lt, and_parts, and_from, or_cases, or_left, or_right}
 use Rattle.vipr_spec.specs.Constraint.{Profile}
-use Rattle.vipr_spec.specs.Certificate.{Reason, asm, lin, rnd, uns, sol, Certificate, reason_at, last_at, is_assumption, lasts_to, is_live, held, peak, RefersTo, IsProof, IsNeeded}
-use Rattle.vipr_spec.specs.Tightened.{is_kept, new_index, renumbered_at, tightened}
+use Rattle.vipr_spec.specs.Certificate.{Reason, asm, lin, rnd, uns, sol, Certificate, reason_at, last_at, is_assumption, lasts_to, is_live, count_held, peak, RefersTo, IsProof, IsNeeded}
+use Rattle.vipr_spec.specs.Tightened.{is_kept, new_index, renumbered_at, tightened_certificate}
 use Rattle.vipr_spec.proofs.Kept.{index_yes, index_no, index_mono, index_lt, index_lt_back, index_injective}
 use Rattle.vipr_spec.proofs.Marked.{back_at, needed_cases, needed_below, kept_given, kept_closed, kept_needed, needed_kept}
 use Rattle.vipr_spec.proofs.Places.{new_given, new_derived, old_derived, reason_new, length_new, old_of, last_then_new, last_is_new}
@@ -121,7 +121,7 @@ lasts_sooner k j (Some l) h e = let b = leb-true j l e in le-leb k l (omega arit
 module _ (P : Profile) (c : Certificate) (g : ℕ) (proof : IsProof P c) where
   -- constraint i is needed, and derivation k after it is
   lasts_old : (i k : ℕ) → length c.problem.constraints ≤ i → i < k → is_kept c (Some g) i ≡ true → is_kept c (Some g) k ≡ true
-      → (o : Option ℕ) → last_at (tightened c (Some g)) (new_index (is_kept c (Some g)) i) ≡ o → lasts_to (new_index (is_kept c (Some g)) k + 1) o ≡ true
+      → (o : Option ℕ) → last_at (tightened_certificate c (Some g)) (new_index (is_kept c (Some g)) i) ≡ o → lasts_to (new_index (is_kept c (Some g)) k + 1) o ≡ true
       → (is_assumption (reason_at c i) || lasts_to (k + 1) (last_at c i)) ≡ true
   lasts_old i k low h ki kk None e l =
       let keep = is_kept c (Some g) in
@@ -143,7 +143,7 @@ module _ (P : Profile) (c : Certificate) (g : ℕ) (proof : IsProof P c) where
       let last = last_is_new c keep given (new_index keep i) l (new_derived c keep given i low) e in
       let past : new_index keep k + 1 ≤ l = leb-true (new_index keep k + 1) l le in
       let o = old_of c keep given l last.1 in
-      let there : RefersTo (reason_at (tightened c (Some g)) (new_index keep o.0)) (new_index keep i) = subst (λ n. RefersTo (reason_at (tightened c (Some g)) n) (new_index keep i)) (sym o.3) last.2 in
+      let there : RefersTo (reason_at (tightened_certificate c (Some g)) (new_index keep o.0)) (new_index keep i) = subst (λ n. RefersTo (reason_at (tightened_certificate c (Some g)) n) (new_index keep i)) (sym o.3) last.2 in
       let r = refers_at_old c keep given closed o.0 (new_index keep i) o.2 there in
       let same : r.0 ≡ i = index_injective keep r.0 i (closed o.0 r.0 o.2 r.1) ki r.2 in
       let later : k < o.0 = index_lt_back keep k o.0 (let f = o.3 in omega arith) in
@@ -154,51 +154,51 @@ module _ (P : Profile) (c : Certificate) (g : ℕ) (proof : IsProof P c) where
       (or_cases (is_assumption (reason_at c i)) (lasts_to o.0 (last_at c i)) (and_parts (nat_lt i o.0) _ live).1)
 
   live_old : (i k : ℕ) → length c.problem.constraints ≤ i → i < k → is_kept c (Some g) i ≡ true → is_kept c (Some g) k ≡ true
-      → is_live (tightened c (Some g)) (new_index (is_kept c (Some g)) k + 1) (new_index (is_kept c (Some g)) i) ≡ true → is_live c (k + 1) i ≡ true
+      → is_live (tightened_certificate c (Some g)) (new_index (is_kept c (Some g)) k + 1) (new_index (is_kept c (Some g)) i) ≡ true → is_live c (k + 1) i ≡ true
   live_old i k low h ki kk l =
       let keep = is_kept c (Some g) in
-      let t = tightened c (Some g) in
+      let t = tightened_certificate c (Some g) in
       and_from (nat_lt i (k + 1)) _ (lt-ltb i (k + 1) (omega arith)) (⊎_elim
       (λ (a : is_assumption (reason_at t (new_index keep i)) ≡ true).
       or_left (is_assumption (reason_at c i)) _ (sym (ap is_assumption (reason_new c keep (kept_given c (Some g)) i ki) ∙ assumption_new (new_index keep) (reason_at c i)) ∙ a))
       (λ (a : lasts_to (new_index keep k + 1) (last_at t (new_index keep i)) ≡ true). lasts_old i k low h ki kk (last_at t (new_index keep i)) refl a)
       (or_cases (is_assumption (reason_at t (new_index keep i))) (lasts_to (new_index keep k + 1) (last_at t (new_index keep i))) (and_parts (nat_lt (new_index keep i) (new_index keep k + 1)) _ l).1))
 
-  pub held_old : (k : ℕ) → length c.problem.constraints ≤ k → is_kept c (Some g) k ≡ true → held (tightened c (Some g)) (new_index (is_kept c (Some g)) k) ≤ held c k
+  pub held_old : (k : ℕ) → length c.problem.constraints ≤ k → is_kept c (Some g) k ≡ true → count_held (tightened_certificate c (Some g)) (new_index (is_kept c (Some g)) k) ≤ count_held c k
   held_old k low kk =
       let keep = is_kept c (Some g) in
       let m = length c.problem.constraints in
       let place : m + (k - m) ≡ k = omega arith in
-      let counted = count_new_old keep (is_live c (k + 1)) (is_live (tightened c (Some g)) (new_index keep k + 1)) m (new_given c keep (kept_given c (Some g)) m (omega arith)) (k - m)
+      let counted = count_new_old keep (is_live c (k + 1)) (is_live (tightened_certificate c (Some g)) (new_index keep k + 1)) m (new_given c keep (kept_given c (Some g)) m (omega arith)) (k - m)
       (λ i a b ki l. live_old i k a (omega arith) ki kk l) in
       let same : new_index keep (m + (k - m)) ≡ new_index keep k = ap (new_index keep) place in
-      let moved = subst (λ n. count_by (is_live (tightened c (Some g)) (new_index keep k + 1)) (range_with_len m (n - m)) ≤ count_by (is_live c (k + 1)) (range_with_len m (k - m))) same counted in
+      let moved = subst (λ n. count_by (is_live (tightened_certificate c (Some g)) (new_index keep k + 1)) (range_with_len m (n - m)) ≤ count_by (is_live c (k + 1)) (range_with_len m (k - m))) same counted in
       omega arith
 
-  pub some_peak : peak (tightened c (Some g)) ≤ peak c
+  pub some_peak : peak (tightened_certificate c (Some g)) ≤ peak c
   some_peak =
       let keep = is_kept c (Some g) in
       let m = length c.problem.constraints in
-      max_le (held (tightened c (Some g))) 0 m (length (tightened c (Some g)).derivations) (peak c) (omega arith) (λ p a b.
+      max_le (count_held (tightened_certificate c (Some g))) 0 m (length (tightened_certificate c (Some g)).derivations) (peak c) (omega arith) (λ p a b.
       let o = old_of c keep (kept_given c (Some g)) p (omega arith) in
       let e = o.3 in
       let low = old_derived c keep (kept_given c (Some g)) o.0 (omega arith) in
       let here = held_old o.0 low o.2 in
-      let most = value_le_max (held c) 0 m (length c.derivations) o.0 low o.1 in
-      let same : held (tightened c (Some g)) (new_index keep o.0) ≡ held (tightened c (Some g)) p = ap (held (tightened c (Some g))) e in
+      let most = value_le_max (count_held c) 0 m (length c.derivations) o.0 low o.1 in
+      let same : count_held (tightened_certificate c (Some g)) (new_index keep o.0) ≡ count_held (tightened_certificate c (Some g)) p = ap (count_held (tightened_certificate c (Some g))) e in
       omega arith)
 
-pub tight_peak : (P : Profile) (c : Certificate) (goal : Option ℕ) → IsProof P c → peak (tightened c goal) ≤ peak c
+pub tight_peak : (P : Profile) (c : Certificate) (goal : Option ℕ) → IsProof P c → peak (tightened_certificate c goal) ≤ peak c
 tight_peak P c None p =
     let none = tight_none c (back_of_proof P c p) in
-    let same : peak (tightened c None) ≡ peak (record c { derivations = [] }) = ap (λ ds. peak (record c { derivations = ds })) none in
+    let same : peak (tightened_certificate c None) ≡ peak (record c { derivations = [] }) = ap (λ ds. peak (record c { derivations = ds })) none in
     omega arith
 tight_peak P c (Some g) p = some_peak P c g p
 
 -- ---- how many are kept
 
 pub tight_counts : (c : Certificate) (goal : Option ℕ)
-    → length (tightened c goal).derivations + count_by (λ i. not (is_kept c goal i)) (range_with_len (length c.problem.constraints) (length c.derivations)) ≡ length c.derivations
+    → length (tightened_certificate c goal).derivations + count_by (λ i. not (is_kept c goal i)) (range_with_len (length c.problem.constraints) (length c.derivations)) ≡ length c.derivations
 tight_counts c goal =
     let m = length c.problem.constraints in
     let keep = is_kept c goal in

@@ -16,8 +16,8 @@ use Rattle.vipr_spec.specs.Shape.{DerivationFits, CanWrite}
 use Rattle.vipr_spec.specs.Certificate.{variables, Reason, asm, lin, rnd, uns, sol, Derivation}
 use Rattle.vipr_spec.specs.Certificate.{Certificate, count}
 use Rattle.vipr_spec.specs.Tightened.{is_kept, kept_of, new_index, renumbered_entries, refers_to}
-use Rattle.vipr_spec.specs.Tightened.{or_else, renumbered, with_new_indices, last_reference}
-use Rattle.vipr_spec.specs.Tightened.{with_last_references, tightened}
+use Rattle.vipr_spec.specs.Tightened.{or_else, renumbered_reason, with_new_indices, last_reference}
+use Rattle.vipr_spec.specs.Tightened.{with_last_references, tightened_certificate}
 use Rattle.vipr_spec.proofs.Kept.{index_le, index_same, length_kept, length_kept_derivations}
 
 All-kept : {A : Type 0} (P : A → Type 0) (keep : ℕ → Bool) (k : ℕ) (xs : List A) → All P xs
@@ -63,11 +63,11 @@ given_is_kept c goal i h =
     or_left (nat_lt i (length c.problem.constraints)) _ (lt-ltb i (length c.problem.constraints) h)
 
 count_kept : (c : Certificate) (goal : Option ℕ)
-    → count (tightened c goal) ≡ new_index (is_kept c goal) (count c)
+    → count (tightened_certificate c goal) ≡ new_index (is_kept c goal) (count c)
 count_kept c goal =
     let m = length c.problem.constraints in
     let keep = is_kept c goal in
-    let few : length (tightened c goal).derivations + new_index keep m ≡ new_index keep (count c) =
+    let few : length (tightened_certificate c goal).derivations + new_index keep m ≡ new_index keep (count c) =
     length_kept_derivations keep m c.derivations in
     let first : new_index keep m ≡ m = index_same keep m (given_is_kept c goal) m (omega arith) in
     omega arith
@@ -75,8 +75,8 @@ count_kept c goal =
 limits_stay : (c : Certificate) (goal : Option ℕ) (P : Derivation → Type 0)
     → ((d : Derivation) (new : ℕ → ℕ) (l : Option ℕ) → ((i : ℕ) → new i ≤ i)
     → IfSome l (λ i. i < count c) → P d
-    → P (record d { reason = renumbered new d.reason; last = l }))
-    → All P c.derivations → All P (tightened c goal).derivations
+    → P (record d { reason = renumbered_reason new d.reason; last = l }))
+    → All P c.derivations → All P (tightened_certificate c goal).derivations
 limits_stay c goal P stays a =
     let m = length c.problem.constraints in
     let keep = is_kept c goal in
@@ -103,7 +103,7 @@ fewer new es =
     let c = count_by-le-length is_nonzero es in
     omega arith
 
-shape_stays : (new : ℕ → ℕ) (r : Reason) → ReasonShape r → ReasonShape (renumbered new r)
+shape_stays : (new : ℕ → ℕ) (r : Reason) → ReasonShape r → ReasonShape (renumbered_reason new r)
 shape_stays new asm h = tt
 shape_stays new (lin es) h = le_trans (fewer new es) h
 shape_stays new (rnd es) h = le_trans (fewer new es) h
@@ -118,7 +118,7 @@ entries_fit new low es a =
     (filter is_nonzero es) (All-filter is_nonzero EntryFits es a))
 
 reason_fits : (new : ℕ → ℕ) → ((i : ℕ) → new i ≤ i) → (r : Reason) → ReasonFits r
-    → ReasonFits (renumbered new r)
+    → ReasonFits (renumbered_reason new r)
 reason_fits new low asm h = tt
 reason_fits new low (lin es) h = entries_fit new low es h
 reason_fits new low (rnd es) h = entries_fit new low es h
@@ -131,7 +131,7 @@ below_most : (n : ℕ) → n ≤ most_count → (o : Option ℕ) → IfSome o (�
 below_most n h None l = tt
 below_most n h (Some i) l = le_trans (le_of_lt l) h
 
-pub can_write : (c : Certificate) (goal : Option ℕ) → CanWrite c → CanWrite (tightened c goal)
+pub can_write : (c : Certificate) (goal : Option ℕ) → CanWrite c → CanWrite (tightened_certificate c goal)
 can_write c goal w =
     let n = variables c.problem in
     let size = count_kept c goal in

@@ -14,7 +14,7 @@ use Rattle.vipr_spec.specs.Certificate.{NamesEarlier}
 use Rattle.vipr_spec.specs.Constraint.{equal}
 use Rattle.std.specs.FinMap.{empty}
 use Rattle.vipr_spec.specs.Certificate.{Reason, asm, lin, rnd, uns, sol, Derivation}
-use Rattle.vipr_spec.specs.Tightened.{refers_to, is_the_goal, is_marked, renumbered, kept_of}
+use Rattle.vipr_spec.specs.Tightened.{refers_to, is_the_goal, is_marked, renumbered_reason, kept_of}
 use Rattle.vipr_spec.specs.Tightened.{new_index, with_new_indices, or_else, last_reference}
 use Rattle.vipr_spec.specs.Tightened.{with_last_references, kept_derivations, referred_by}
 use Rattle.vipr_spec.proofs.Kept.{index_same, length_kept}
@@ -204,7 +204,7 @@ pairs_alike f g k same (e ∷ es) a =
 
 -- those alone that are named
 pub renumbered_alike : (f g : ℕ → ℕ) (k : ℕ) → ((i : ℕ) → i < k → f i ≡ g i) → (r : Reason)
-    → NamesEarlier k (Some r) → renumbered f r ≡ renumbered g r
+    → NamesEarlier k (Some r) → renumbered_reason f r ≡ renumbered_reason g r
 renumbered_alike f g k same asm n = refl
 renumbered_alike f g k same (lin es) n =
     ap lin (pairs_alike f g k same (filter is_nonzero es)

@@ -6,7 +6,7 @@ use Rattle.vipr_spec.specs.Constraint.{Profile, Row, condition}
 use Rattle.vipr_spec.specs.Certificate.{Named, Problem, Derivation, Certificate, MeetsPrimal, count}
 use Rattle.vipr_spec.specs.Reading.{Rest, Fault, ◌>>=◌, problem_read, solution_read, derivations_read, derivation_read, end_read}
 use Rattle.vipr_spec.specs.Steps.{with_more, with_next, StepTest, PassesStep, step_tests, FirstFailing}
-use Rattle.vipr_spec.specs.Tests.{SolutionTest, PassesSolution, solution_tests, of_solution, Test, spelled, meets_primal, of_step, meets_dual, Passes, numbered, tests_of_solution, tests_of_derivation}
+use Rattle.vipr_spec.specs.Tests.{SolutionTest, PassesSolution, solution_tests, of_solution, Test, spelled, meets_primal, of_step, meets_dual, Passes, numbered_tests, tests_of_solution, tests_of_derivation}
 use Rattle.vipr_spec.specs.Verdict.{before_items, items_read, Found, last_tests, derivations_found, ending_found, problem_found, found_in}
 use Rattle.vipr_spec.specs.Progress.{derivations_from, solutions_from}
 use Rattle.vipr_spec.proofs.FirstFailing.{failing_unique, failing_first, failing_second, failing_after, failing_map}
@@ -22,36 +22,36 @@ Told P Q f = (failing : Option Test) × FirstFailing (Passes P f.certificate) f.
 pub derivation_next : (c : Certificate) (n : ℕ) (r : Rest) (d : Derivation) (s : Rest) → derivation_read c.problem r ≡ Ok (d, s)
     → derivations_from c (suc n) r ≡ (let items = items_read (derivation_read c.problem) n s in record {
       certificate = with_more c (d ∷ items.0);
-      tests = tests_of_derivation (count c) d ++ (numbered tests_of_derivation (suc (count c)) items.0 ++ last_tests (items.1 >>= end_read));
+      tests = tests_of_derivation (count c) d ++ (numbered_tests tests_of_derivation (suc (count c)) items.0 ++ last_tests (items.1 >>= end_read));
     })
-unfolding items_read numbered
+unfolding items_read numbered_tests
 derivation_next c n r d s e =
-    ap (λ x. let items = before_items (items_read (derivation_read c.problem) n) x in record { certificate = with_more c items.0; tests = numbered tests_of_derivation (count c) items.0 ++ last_tests (items.1 >>= end_read) }) e
+    ap (λ x. let items = before_items (items_read (derivation_read c.problem) n) x in record { certificate = with_more c items.0; tests = numbered_tests tests_of_derivation (count c) items.0 ++ last_tests (items.1 >>= end_read) }) e
     ∙ (let items = items_read (derivation_read c.problem) n s in ap (λ ts. record { certificate = with_more c (d ∷ items.0); tests = ts }) (append_assoc (tests_of_derivation (count c) d) _ _))
 
 pub derivation_then : (c : Certificate) (n : ℕ) (d : Derivation) (s : Rest)
     → (let items = items_read (derivation_read c.problem) n s in record {
       certificate = with_more c (d ∷ items.0);
-      tests = numbered tests_of_derivation (suc (count c)) items.0 ++ last_tests (items.1 >>= end_read);
+      tests = numbered_tests tests_of_derivation (suc (count c)) items.0 ++ last_tests (items.1 >>= end_read);
     }) ≡ derivations_from (with_next c d) n s
 derivation_then c n d s =
     let items = items_read (derivation_read c.problem) n s in
-    ap₂ (λ x k. record { certificate = x; tests = numbered tests_of_derivation k items.0 ++ last_tests (items.1 >>= end_read) }) (sym (more_next c d items.0)) (let e = count_next c d in omega arith)
+    ap₂ (λ x k. record { certificate = x; tests = numbered_tests tests_of_derivation k items.0 ++ last_tests (items.1 >>= end_read) }) (sym (more_next c d items.0)) (let e = count_next c d in omega arith)
 
 pub at_the_end : (c : Certificate) (r : Rest) → derivations_from c 0 r ≡ record { certificate = c; tests = last_tests (end_read r) }
-unfolding items_read numbered
+unfolding items_read numbered_tests
 at_the_end c r = ap (λ l. record { certificate = record c { derivations = l }; tests = last_tests (end_read r) }) (append-nil c.derivations)
 
 pub solution_next : (p : Problem) (ss : List (Named Row)) (n : ℕ) (r : Rest) (s : Named Row) (t : Rest) → solution_read p r ≡ Ok (s, t)
     → solutions_from p ss (suc n) r ≡ (let items = items_read (solution_read p) n t in let ending = ending_found p items.1 in record {
       certificate = record { problem = p; solutions = ss ++ s ∷ items.0; derivations = ending.0 };
-      tests = tests_of_solution p (length ss) s ++ (numbered (tests_of_solution p) (suc (length ss)) items.0 ++ ending.1);
+      tests = tests_of_solution p (length ss) s ++ (numbered_tests (tests_of_solution p) (suc (length ss)) items.0 ++ ending.1);
     })
-unfolding items_read numbered
+unfolding items_read numbered_tests
 solution_next p ss n r s t e =
     ap (λ x. let items = before_items (items_read (solution_read p) n) x in let ending = ending_found p items.1 in record {
       certificate = record { problem = p; solutions = ss ++ items.0; derivations = ending.0 };
-      tests = numbered (tests_of_solution p) (length ss) items.0 ++ ending.1;
+      tests = numbered_tests (tests_of_solution p) (length ss) items.0 ++ ending.1;
     }) e
     ∙ (let items = items_read (solution_read p) n t in let ending = ending_found p items.1 in
     ap (λ ts. record { certificate = record { problem = p; solutions = ss ++ s ∷ items.0; derivations = ending.0 }; tests = ts }) (append_assoc (tests_of_solution p (length ss) s) _ _))
@@ -59,16 +59,16 @@ solution_next p ss n r s t e =
 pub solution_then : (p : Problem) (ss : List (Named Row)) (n : ℕ) (s : Named Row) (t : Rest)
     → (let items = items_read (solution_read p) n t in let ending = ending_found p items.1 in record {
       certificate = record { problem = p; solutions = ss ++ s ∷ items.0; derivations = ending.0 };
-      tests = numbered (tests_of_solution p) (suc (length ss)) items.0 ++ ending.1;
+      tests = numbered_tests (tests_of_solution p) (suc (length ss)) items.0 ++ ending.1;
     }) ≡ solutions_from p (ss ++ s ∷ []) n t
 solution_then p ss n s t =
     let items = items_read (solution_read p) n t in let ending = ending_found p items.1 in
-    ap₂ (λ l k. record { certificate = record { problem = p; solutions = l; derivations = ending.0 }; tests = numbered (tests_of_solution p) k items.0 ++ ending.1 })
+    ap₂ (λ l k. record { certificate = record { problem = p; solutions = l; derivations = ending.0 }; tests = numbered_tests (tests_of_solution p) k items.0 ++ ending.1 })
     (sym (append_assoc ss (s ∷ []) items.0)) (let e = length-append ss (s ∷ []) in omega arith)
 
 pub no_more_solutions : (p : Problem) (ss : List (Named Row)) (r : Rest) (x : Result (ℕ × Rest) Fault) → derivations_read p r ≡ x
     → solutions_from p ss 0 r ≡ (let found = derivations_found p x in record { certificate = record { problem = p; solutions = ss; derivations = found.0 }; tests = meets_primal ∷ found.1 })
-unfolding items_read numbered
+unfolding items_read numbered_tests
 no_more_solutions p ss r x e = ap₂ (λ l y. let found = derivations_found p y in record { certificate = record { problem = p; solutions = l; derivations = found.0 }; tests = meets_primal ∷ found.1 }) (append-nil ss) e
 
 module _ (P : Profile) (Q : Certificate → Option Test → Type 0) where
@@ -116,7 +116,7 @@ module _ (P : Profile) (Q : Certificate → Option Test → Type 0) where
       let items = items_read (derivation_read c.problem) n s in
       moved _ _ _ (derivation_next c n r d s e) (subst (λ x. Says (record {
         certificate = with_more c (d ∷ items.0);
-        tests = tests_of_derivation (count c) d ++ (numbered tests_of_derivation (suc (count c)) items.0 ++ last_tests (items.1 >>= end_read));
+        tests = tests_of_derivation (count c) d ++ (numbered_tests tests_of_derivation (suc (count c)) items.0 ++ last_tests (items.1 >>= end_read));
       }) ↔ Says x) (derivation_then c n d s) (passed _ _ _
       (failing_map (of_step (count c)) (Passes P (with_more c (d ∷ items.0))) (step_tests d.reason) None ((tests_next P c d items.0 None).1 h))))
 
@@ -128,9 +128,9 @@ module _ (P : Profile) (Q : Certificate → Option Test → Type 0) where
       (failing_map (of_step (count c)) (Passes P (with_more c (d ∷ items.0))) (step_tests d.reason) (Some t) ((tests_next P c d items.0 (Some t)).1 h)))
 
   pub derivation_fault : (c : Certificate) (n : ℕ) (r : Rest) (f : Fault) → derivation_read c.problem r ≡ Err f → Says (derivations_from c (suc n) r) ↔ Q (derivations_from c (suc n) r).certificate (Some (spelled f))
-  unfolding items_read numbered
+  unfolding items_read numbered_tests
   derivation_fault c n r f e =
-      moved_first _ _ _ (ap (λ x. let items = before_items (items_read (derivation_read c.problem) n) x in record { certificate = with_more c items.0; tests = numbered tests_of_derivation (count c) items.0 ++ last_tests (items.1 >>= end_read) }) e)
+      moved_first _ _ _ (ap (λ x. let items = before_items (items_read (derivation_read c.problem) n) x in record { certificate = with_more c items.0; tests = numbered_tests tests_of_derivation (count c) items.0 ++ last_tests (items.1 >>= end_read) }) e)
       (failed_now (with_more c []) [] (spelled f) (λ h. h))
 
   -- ---- the end
@@ -149,11 +149,11 @@ module _ (P : Profile) (Q : Certificate → Option Test → Type 0) where
   -- ---- the solutions
 
   pub solution_fault : (p : Problem) (ss : List (Named Row)) (n : ℕ) (r : Rest) (f : Fault) → solution_read p r ≡ Err f → Says (solutions_from p ss (suc n) r) ↔ Q (solutions_from p ss (suc n) r).certificate (Some (spelled f))
-  unfolding items_read numbered
+  unfolding items_read numbered_tests
   solution_fault p ss n r f e =
       moved_first _ _ _ (ap (λ x. let items = before_items (items_read (solution_read p) n) x in let ending = ending_found p items.1 in record {
         certificate = record { problem = p; solutions = ss ++ items.0; derivations = ending.0 };
-        tests = numbered (tests_of_solution p) (length ss) items.0 ++ ending.1;
+        tests = numbered_tests (tests_of_solution p) (length ss) items.0 ++ ending.1;
       }) e) (failed_now _ [] (spelled f) (λ h. h))
 
   pub solution_passes : (p : Problem) (ss : List (Named Row)) (n : ℕ) (r : Rest) (s : Named Row) (t : Rest) → solution_read p r ≡ Ok (s, t) → FirstFailing (PassesSolution p s.item) (solution_tests p) None
@@ -163,7 +163,7 @@ module _ (P : Profile) (Q : Certificate → Option Test → Type 0) where
       let c : Certificate = record { problem = p; solutions = ss ++ s ∷ items.0; derivations = ending.0 } in
       moved _ _ _ (solution_next p ss n r s t e) (subst (λ x. Says (record {
         certificate = c;
-        tests = tests_of_solution p (length ss) s ++ (numbered (tests_of_solution p) (suc (length ss)) items.0 ++ ending.1);
+        tests = tests_of_solution p (length ss) s ++ (numbered_tests (tests_of_solution p) (suc (length ss)) items.0 ++ ending.1);
       }) ↔ Says x) (solution_then p ss n s t) (passed _ _ _ (failing_map (of_solution (length ss) s.item) (Passes P c) (solution_tests p) None h)))
 
   pub solution_fails : (p : Problem) (ss : List (Named Row)) (n : ℕ) (r : Rest) (s : Named Row) (t : Rest) (x : SolutionTest) → solution_read p r ≡ Ok (s, t) → FirstFailing (PassesSolution p s.item) (solution_tests p) (Some x)
@@ -189,8 +189,8 @@ module _ (P : Profile) (Q : Certificate → Option Test → Type 0) where
       let items = items_read (derivation_read p) n s in
       let k : length p.constraints ≡ length p.constraints + 0 = omega arith in
       moved _ _ _ (no_more_solutions p ss r (Ok (n, s)) e)
-      (subst (λ i. Says (record { certificate = record { problem = p; solutions = ss; derivations = items.0 }; tests = meets_primal ∷ (numbered tests_of_derivation (length p.constraints) items.0 ++ last_tests (items.1 >>= end_read)) })
-      ↔ Says (record { certificate = record { problem = p; solutions = ss; derivations = items.0 }; tests = numbered tests_of_derivation i items.0 ++ last_tests (items.1 >>= end_read) })) k
+      (subst (λ i. Says (record { certificate = record { problem = p; solutions = ss; derivations = items.0 }; tests = meets_primal ∷ (numbered_tests tests_of_derivation (length p.constraints) items.0 ++ last_tests (items.1 >>= end_read)) })
+      ↔ Says (record { certificate = record { problem = p; solutions = ss; derivations = items.0 }; tests = numbered_tests tests_of_derivation i items.0 ++ last_tests (items.1 >>= end_read) })) k
       (passed_now _ _ meets_primal m))
 
   -- ---- the problem

@@ -4,16 +4,16 @@ use Rattle.std.specs.Prelude.{◌↔◌}
 use Rattle.std.proofs.lemmas.List.Elements.{All-contains, Contains-append_right}
 use Rattle.vipr_spec.specs.Constraint.{Profile, IsInteger, Row}
 use Rattle.vipr_spec.specs.Certificate.{Named, Problem, variables, Derivation, Certificate, IsProof}
-use Rattle.vipr_spec.specs.Reading.{Rest, Fault, Read, ◌>>=◌, repeated, problem_read, solution_read, derivations_read, derivation_read, end_read, certificate_read}
+use Rattle.vipr_spec.specs.Reading.{Rest, Fault, Read, ◌>>=◌, read_each, problem_read, solution_read, derivations_read, derivation_read, end_read, certificate_read}
 use Rattle.vipr_spec.specs.Grammar.{Spells}
 use Rattle.vipr_spec.specs.GrammarLaws.{whole_text}
 use Rattle.vipr_spec.specs.Steps.{FirstFailing}
-use Rattle.vipr_spec.specs.Tests.{Test, spelled, meets_primal, meets_dual, Passes, numbered, tests_of_solution, tests_of_derivation}
-use Rattle.vipr_spec.specs.Verdict.{before_items, items_read, Found, last_tests, derivations_found, ending_found, problem_found, found_in, Report, Reports, Answer, verified, IsToldBy, IsAnswer}
+use Rattle.vipr_spec.specs.Tests.{Test, spelled, meets_primal, meets_dual, Passes, numbered_tests, tests_of_solution, tests_of_derivation}
+use Rattle.vipr_spec.specs.Verdict.{before_items, items_read, Found, last_tests, derivations_found, ending_found, problem_found, found_in, Report, Reports, Answer, verified, IsAnswerOfTest, IsAnswer}
 use Rattle.vipr_spec.proofs.FirstFailing.{none_all, all_none, failing_unique}
 use Rattle.vipr_spec.proofs.AllTests.{proof_of_tests, tests_of_proof}
 use Rattle.vipr_spec.proofs.GrammarWhole.{reads_texts, integers_read_below}
-use Rattle.vipr_spec.proofs.Reported.{told_not_verified}
+use Rattle.vipr_spec.proofs.Reported.{known_not_verified}
 
 -- ---- reading all items, and reading them up to a fault
 
@@ -25,22 +25,22 @@ more_ended : {A : Type 0} (x : A) (xs : List A) (e : Result Rest Fault) → (end
 more_ended x xs (Ok s) = refl
 more_ended x xs (Err f) = refl
 
-pub repeated_is : {A : Type 0} (item : Rest → Read A) (n : ℕ) (r : Rest) → repeated item n r ≡ ended (items_read item n r).0 (items_read item n r).1
-unfolding repeated items_read
+pub repeated_is : {A : Type 0} (item : Rest → Read A) (n : ℕ) (r : Rest) → read_each item n r ≡ ended (items_read item n r).0 (items_read item n r).1
+unfolding read_each items_read
 repeated_is item zero r = refl
 repeated_is {A} item (suc n) r = by (λ s. repeated_is item n s) (item r)
   where
-    by : ((s : Rest) → repeated item n s ≡ ended (items_read item n s).0 (items_read item n s).1) → (y : Read A) → (y >>= λ x. repeated item n x.1 >>= λ xs. Ok (x.0 ∷ xs.0, xs.1)) ≡ ended (before_items (items_read item n) y).0 (before_items (items_read item n) y).1
+    by : ((s : Rest) → read_each item n s ≡ ended (items_read item n s).0 (items_read item n s).1) → (y : Read A) → (y >>= λ x. read_each item n x.1 >>= λ xs. Ok (x.0 ∷ xs.0, xs.1)) ≡ ended (before_items (items_read item n) y).0 (before_items (items_read item n) y).1
     by others (Err f) = refl
     by others (Ok x) = ap (λ z. z >>= λ xs. Ok (x.0 ∷ xs.0, xs.1)) (others x.1) ∙ more_ended x.0 _ _
 
 -- ---- what was found, where the text was read to its end
 
 abbrev pub opening_tests : Problem → List (Named Row) → List Test
-opening_tests p ss = numbered (tests_of_solution p) 0 ss
+opening_tests p ss = numbered_tests (tests_of_solution p) 0 ss
 
 abbrev pub all_tests : Certificate → List Test
-all_tests c = opening_tests c.problem c.solutions ++ (meets_primal ∷ (numbered tests_of_derivation (length c.problem.constraints) c.derivations ++ (meets_dual ∷ [])))
+all_tests c = opening_tests c.problem c.solutions ++ (meets_primal ∷ (numbered_tests tests_of_derivation (length c.problem.constraints) c.derivations ++ (meets_dual ∷ [])))
 
 -- either the whole was read, or the fault is among the tests
 abbrev pub Whole : Found → Result Certificate Fault → Type 0
@@ -57,15 +57,15 @@ module _ (p : Problem) (ss : List (Named Row)) where
   at_end_whole : (ds : List Derivation) (x : Result (Unit {0}) Fault)
       → Whole (record {
         certificate = record { problem = p; solutions = ss; derivations = ds };
-        tests = opening_tests p ss ++ (meets_primal ∷ (numbered tests_of_derivation (length p.constraints) ds ++ last_tests x));
+        tests = opening_tests p ss ++ (meets_primal ∷ (numbered_tests tests_of_derivation (length p.constraints) ds ++ last_tests x));
       }) (x >>= λ end. Ok (record { problem = p; solutions = ss; derivations = ds }))
   at_end_whole ds (Ok done) = refl
-  at_end_whole ds (Err f) = Contains-append_right (opening_tests p ss) _ _ (after_one _ _ _ (Contains-append_right (numbered tests_of_derivation (length p.constraints) ds) _ _ (last_one (spelled f))))
+  at_end_whole ds (Err f) = Contains-append_right (opening_tests p ss) _ _ (after_one _ _ _ (Contains-append_right (numbered_tests tests_of_derivation (length p.constraints) ds) _ _ (last_one (spelled f))))
 
   derivations_whole : (ds : List Derivation) (x : Result Rest Fault)
       → Whole (record {
         certificate = record { problem = p; solutions = ss; derivations = ds };
-        tests = opening_tests p ss ++ (meets_primal ∷ (numbered tests_of_derivation (length p.constraints) ds ++ last_tests (x >>= end_read)));
+        tests = opening_tests p ss ++ (meets_primal ∷ (numbered_tests tests_of_derivation (length p.constraints) ds ++ last_tests (x >>= end_read)));
       }) (ended ds x >>= λ d. end_read d.1 >>= λ end. Ok (record { problem = p; solutions = ss; derivations = d.0 }))
   derivations_whole ds (Ok s) = at_end_whole ds (end_read s)
   derivations_whole ds (Err f) = at_end_whole ds (Err f)
@@ -74,20 +74,20 @@ module _ (p : Problem) (ss : List (Named Row)) where
       → Whole (record {
         certificate = record { problem = p; solutions = ss; derivations = (derivations_found p x).0 };
         tests = opening_tests p ss ++ (meets_primal ∷ (derivations_found p x).1);
-      }) (x >>= λ d. repeated (derivation_read p) d.0 d.1 >>= λ ds. end_read ds.1 >>= λ end. Ok (record { problem = p; solutions = ss; derivations = ds.0 }))
+      }) (x >>= λ d. read_each (derivation_read p) d.0 d.1 >>= λ ds. end_read ds.1 >>= λ end. Ok (record { problem = p; solutions = ss; derivations = ds.0 }))
   count_whole (Err f) = Contains-append_right (opening_tests p ss) (meets_primal ∷ spelled f ∷ []) (spelled f) (after_one (spelled f) meets_primal (spelled f ∷ []) (last_one (spelled f)))
   count_whole (Ok d) =
       let items = items_read (derivation_read p) d.0 d.1 in
       subst (λ z. Whole (record {
         certificate = record { problem = p; solutions = ss; derivations = items.0 };
-        tests = opening_tests p ss ++ (meets_primal ∷ (numbered tests_of_derivation (length p.constraints) items.0 ++ last_tests (items.1 >>= end_read)));
+        tests = opening_tests p ss ++ (meets_primal ∷ (numbered_tests tests_of_derivation (length p.constraints) items.0 ++ last_tests (items.1 >>= end_read)));
       }) (z >>= λ ds. end_read ds.1 >>= λ end. Ok (record { problem = p; solutions = ss; derivations = ds.0 }))) (sym (repeated_is (derivation_read p) d.0 d.1)) (derivations_whole items.0 items.1)
 
 solutions_whole : (p : Problem) (ss : List (Named Row)) (x : Result Rest Fault)
     → Whole (record {
       certificate = record { problem = p; solutions = ss; derivations = (ending_found p x).0 };
       tests = opening_tests p ss ++ (ending_found p x).1;
-    }) (ended ss x >>= λ s. derivations_read p s.1 >>= λ d. repeated (derivation_read p) d.0 d.1 >>= λ ds. end_read ds.1 >>= λ end. Ok (record { problem = p; solutions = s.0; derivations = ds.0 }))
+    }) (ended ss x >>= λ s. derivations_read p s.1 >>= λ d. read_each (derivation_read p) d.0 d.1 >>= λ ds. end_read ds.1 >>= λ end. Ok (record { problem = p; solutions = s.0; derivations = ds.0 }))
 solutions_whole p ss (Ok s) = count_whole p ss (derivations_read p s)
 solutions_whole p ss (Err f) = Contains-append_right (opening_tests p ss) _ _ (last_one (spelled f))
 
@@ -95,12 +95,12 @@ pub whole_read : (r : Rest) → Whole (found_in r) (certificate_read r)
 unfolding found_in certificate_read
 whole_read r = by (problem_read r)
   where
-    by : (x : Read (Problem × ℕ)) → Whole (problem_found x) (x >>= λ p. repeated (solution_read p.0.0) p.0.1 p.1 >>= λ s. derivations_read p.0.0 s.1 >>= λ d. repeated (derivation_read p.0.0) d.0 d.1
+    by : (x : Read (Problem × ℕ)) → Whole (problem_found x) (x >>= λ p. read_each (solution_read p.0.0) p.0.1 p.1 >>= λ s. derivations_read p.0.0 s.1 >>= λ d. read_each (derivation_read p.0.0) d.0 d.1
         >>= λ ds. end_read ds.1 >>= λ end. Ok (record { problem = p.0.0; solutions = s.0; derivations = ds.0 }))
     by (Err f) = last_one (spelled f)
     by (Ok p) =
         let items = items_read (solution_read p.0.0) p.0.1 p.1 in
-        subst (λ z. Whole (problem_found (Ok p)) (z >>= λ s. derivations_read p.0.0 s.1 >>= λ d. repeated (derivation_read p.0.0) d.0 d.1
+        subst (λ z. Whole (problem_found (Ok p)) (z >>= λ s. derivations_read p.0.0 s.1 >>= λ d. read_each (derivation_read p.0.0) d.0 d.1
         >>= λ ds. end_read ds.1 >>= λ end. Ok (record { problem = p.0.0; solutions = s.0; derivations = ds.0 }))) (sym (repeated_is (solution_read p.0.0) p.0.1 p.1)) (solutions_whole p.0.0 items.0 items.1)
 
 found_as : (found : Found) (x : Result Certificate Fault) (c : Certificate) → Whole found x → x ≡ Ok c → found.certificate ≡ c
@@ -120,9 +120,9 @@ module _ (P : Profile) where
   all_passed : (r : Rest) (report : Report) → IsAnswer P r (verified report) → All (Passes P (found_in r).certificate) (found_in r).tests × Reports P (found_in r).certificate report
   all_passed r report h = by h.0 h.1 h.2
     where
-      by : (f : Option Test) → FirstFailing (Passes P (found_in r).certificate) (found_in r).tests f → IsToldBy P (found_in r).certificate f (verified report) → All (Passes P (found_in r).certificate) (found_in r).tests × Reports P (found_in r).certificate report
+      by : (f : Option Test) → FirstFailing (Passes P (found_in r).certificate) (found_in r).tests f → IsAnswerOfTest P (found_in r).certificate f (verified report) → All (Passes P (found_in r).certificate) (found_in r).tests × Reports P (found_in r).certificate report
       by None p q = (none_all (Passes P (found_in r).certificate) (found_in r).tests p, (let e : q.0 ≡ report = cc q.2 in subst (Reports P (found_in r).certificate) e q.1))
-      by (Some t) p q = absurd (told_not_verified t report (sym q))
+      by (Some t) p q = absurd (known_not_verified t report (sym q))
 
   verified_out : (found : Found) (x : Result Certificate Fault) (report : Report) → ((c : Certificate) → x ≡ Ok c → (j : ℕ) → IsInteger c.problem.integers j → j < variables c.problem) → Whole found x → All (Passes P found.certificate) found.tests → Reports P found.certificate report → IsVerified x report
   verified_out found (Err f) report below w a s = absurd (All-contains (Passes P found.certificate) found.tests (spelled f) a w)
@@ -154,11 +154,11 @@ module _ (P : Profile) where
   pub proof_answered : (r : Rest) (c : Certificate) (a : Answer) → certificate_read r ≡ Ok c → IsProof P c → IsAnswer P r a → (report : Report) × Reports P c report × (a ≡ verified report)
   proof_answered r c a e p h = by (found_in r) (certificate_read r) (whole_read r) e h.0 h.1 h.2
     where
-      by : (found : Found) (x : Result Certificate Fault) → Whole found x → x ≡ Ok c → (f : Option Test) → FirstFailing (Passes P found.certificate) found.tests f → IsToldBy P found.certificate f a → (report : Report) × Reports P c report × (a ≡ verified report)
-      by found (Err f) w x t g told = absurd (cc x)
-      by found (Ok d) w x t g told =
+      by : (found : Found) (x : Result Certificate Fault) → Whole found x → x ≡ Ok c → (f : Option Test) → FirstFailing (Passes P found.certificate) found.tests f → IsAnswerOfTest P found.certificate f a → (report : Report) × Reports P c report × (a ≡ verified report)
+      by found (Err f) w x t g known = absurd (cc x)
+      by found (Ok d) w x t g known =
           let same : d ≡ c = cc x in
           let is : found ≡ record { certificate = c; tests = all_tests c } = w ∙ ap (λ c. record { certificate = c; tests = all_tests c }) same in
           let none = all_none (Passes P c) (all_tests c) (tests_of_proof P c p) in
           let first = subst (λ f. FirstFailing (Passes P f.certificate) f.tests t) is g in
-          subst (λ f. IsToldBy P c f a) (failing_unique (Passes P c) (all_tests c) t None first none) (subst (λ f. IsToldBy P f.certificate t a) is told)
+          subst (λ f. IsAnswerOfTest P c f a) (failing_unique (Passes P c) (all_tests c) t None first none) (subst (λ f. IsAnswerOfTest P f.certificate t a) is known)

@@ -15,7 +15,7 @@ pub record IsRefusedAt {A : Type 0} (read : Rest → Result A Fault) (r : Rest)
   pub after : List Token
   pub joined : r.tokens ≡ before ++ token ∷ after
   pub here : token.offset ≡ place
-  pub stands : (s : Rest) (more : List Token) → s.tokens ≡ before ++ token ∷ more
+  pub remains : (s : Rest) (more : List Token) → s.tokens ≡ before ++ token ∷ more
       → read s ≡ Err (refused why place)
   pub first : (s : Rest) → s.tokens ≡ before → s.fails ≡ true → read s ≡ Err unread
 
@@ -25,15 +25,15 @@ EndsEarly r why place = (r.fails ≡ false) × (why ≡ cause.truncated) × (pla
 
 -- A refusal is that of one token, or of the end; and for want of more to read it fails only where a
 -- failure follows.
-pub record FaultsStand {A : Type 0} (read : Rest → Result A Fault) : Type 0 where
+pub record FaultsRemain {A : Type 0} (read : Rest → Result A Fault) : Type 0 where
   pub refusal : (r : Rest) (why place : ℕ) → read r ≡ Err (refused why place)
       → IsRefusedAt read r why place ⊎ EndsEarly r why place
   pub failure : (r : Rest) → read r ≡ Err unread → r.fails ≡ true
 
 pub record ItemFaults : Type 0 where
-  pub problem : FaultsStand problem_read
-  pub solution : (p : Problem) → FaultsStand (solution_read p)
-  pub derivations : (p : Problem) → FaultsStand (derivations_read p)
-  pub derivation : (p : Problem) → FaultsStand (derivation_read p)
-  pub end : FaultsStand end_read
-  pub certificate : FaultsStand certificate_read
+  pub problem : FaultsRemain problem_read
+  pub solution : (p : Problem) → FaultsRemain (solution_read p)
+  pub derivations : (p : Problem) → FaultsRemain (derivations_read p)
+  pub derivation : (p : Problem) → FaultsRemain (derivation_read p)
+  pub end : FaultsRemain end_read
+  pub certificate : FaultsRemain certificate_read

@@ -91,7 +91,7 @@ version = word (codes "VER") then word (codes "1.0")
 abbrev pub names : List Name → List (List ℕ) → Type 0
 names ns = word (codes "VAR") then one SpellsCount (length ns) then each word ns
 
--- indices of variables; one that stands twice is kept once
+-- indices of variables; one that occurs twice is kept once
 abbrev pub integers : ℕ → Ints → List (List ℕ) → Type 0
 integers n ints ts = (is : List ℕ) × (ints ≡ from_list is)
     × (word (codes "INT") then one SpellsCount (length is) then each (one (SpellsVariable n)) is) ts

@@ -68,8 +68,8 @@ pub record KindsOfNumber : Type 0 where
 
 -- ---- parts
 
--- The tokens that stand from r up to s have the shape P, and are short enough.
-pub record Taken (P : List (List ℕ) → Type 0) (r s : Rest) : Type 0 where
+-- The tokens from r up to s have the shape P, and are short enough.
+pub record ReadsFront (P : List (List ℕ) → Type 0) (r s : Rest) : Type 0 where
   pub front : List Token
   pub joined : r ≡ record s { tokens = front ++ s.tokens }
   pub short : All (λ t. length t ≤ most_bytes) (map (λ t. t.bytes) front)
@@ -78,7 +78,7 @@ pub record Taken (P : List (List ℕ) → Type 0) (r s : Rest) : Type 0 where
 -- Read is exactly what the tokens at the front spell, whatever follows them, and what follows them
 -- is left.
 abbrev pub Reads : {A : Type 0} → (Rest → Read A) → (A → List (List ℕ) → Type 0) → Type 0
-Reads {A} read S = (r s : Rest) (x : A) → (read r ≡ Ok (x, s)) ↔ Taken (S x) r s
+Reads {A} read S = (r s : Rest) (x : A) → (read r ≡ Ok (x, s)) ↔ ReadsFront (S x) r s
 
 -- a problem, and the number of solutions behind it
 abbrev pub problem_and_count : Problem × ℕ → List (List ℕ) → Type 0
@@ -111,7 +111,7 @@ pub record PartsOfItems : Type 0 where
   pub entry : Reads entry_read entry
   pub reason : Reads reason_read (λ x. word (codes "{") then reason x then word (codes "}"))
 
--- The items of a certificate, in the order in which they stand. Counts keep the constraints of a
+-- The items of a certificate, in their order. Counts keep the constraints of a
 -- problem that was read within `most_count`.
 pub record ItemReadings : Type 0 where
   pub problem : Reads problem_read problem_and_count

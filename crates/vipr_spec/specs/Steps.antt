@@ -1,4 +1,4 @@
--- The tests of a step in the certificate before it, and what the first of them that fails tells
+-- The tests of a step in the certificate before it, and what the first of them that fails answers
 use Rattle.std.specs.Prelude.{◌≡◌, ◌≢◌, ℕ, ◌-◌, ◌<◌, ◌⊎◌, ℤ, if◌then◌else◌, IsTrue, List, [], ◌∷◌}
 use Rattle.std.specs.Prelude.{◌++◌, length, take, flat_map, Option, Some, None, Contains}
 use Rattle.vipr_spec.specs.Fraction.{ℚ, zero_ℚ, whole}

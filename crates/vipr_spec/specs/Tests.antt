@@ -77,9 +77,9 @@ Passes P c (of_step k t) = PassesStep P (before c k) (constraint_at c k) t
 Passes P c meets_dual = NeedsGoal c.problem c.problem.claim → (goal : ℕ) × ProvesDual P c goal
 
 -- the tests of items, numbered from i on
-unfoldable pub numbered : {A : Type 0} → (ℕ → A → List Test) → ℕ → List A → List Test
-numbered tests i [] = []
-numbered tests i (x ∷ xs) = tests i x ++ numbered tests (suc i) xs
+unfoldable pub numbered_tests : {A : Type 0} → (ℕ → A → List Test) → ℕ → List A → List Test
+numbered_tests tests i [] = []
+numbered_tests tests i (x ∷ xs) = tests i x ++ numbered_tests tests (suc i) xs
 
 abbrev pub tests_of_solution : Problem → ℕ → Named Row → List Test
 tests_of_solution p i s = map (of_solution i s.item) (solution_tests p)
@@ -90,8 +90,9 @@ tests_of_derivation k d = map (of_step k) (step_tests d.reason)
 -- of each solution, of the primal bound, of each derivation, of the dual side
 abbrev pub proof_tests : Certificate → List Test
 proof_tests c =
-    numbered (tests_of_solution c.problem) 0 c.solutions
-    ++ (meets_primal ∷ (numbered tests_of_derivation (length c.problem.constraints) c.derivations
+    numbered_tests (tests_of_solution c.problem) 0 c.solutions
+    ++ (meets_primal
+    ∷ (numbered_tests tests_of_derivation (length c.problem.constraints) c.derivations
     ++ meets_dual ∷ []))
 
 -- ---- what is shown of a test that fails, beside its cause and place

@@ -54,19 +54,19 @@ new_index keep (suc i) = new_index keep i + cond (keep i) 1 0
 abbrev pub renumbered_entries : (ℕ → ℕ) → List (ℕ × ℚ) → List (ℕ × ℚ)
 renumbered_entries new es = map (λ e. (new e.0, e.1)) (filter is_nonzero es)
 
-abbrev pub renumbered : (ℕ → ℕ) → Reason → Reason
-renumbered new asm = asm
-renumbered new (lin es) = lin (renumbered_entries new es)
-renumbered new (rnd es) = rnd (renumbered_entries new es)
-renumbered new (uns i1 l1 i2 l2) = uns (new i1) (new l1) (new i2) (new l2)
-renumbered new sol = sol
+abbrev pub renumbered_reason : (ℕ → ℕ) → Reason → Reason
+renumbered_reason new asm = asm
+renumbered_reason new (lin es) = lin (renumbered_entries new es)
+renumbered_reason new (rnd es) = rnd (renumbered_entries new es)
+renumbered_reason new (uns i1 l1 i2 l2) = uns (new i1) (new l1) (new i2) (new l2)
+renumbered_reason new sol = sol
 
 abbrev pub renumbered_at : (ℕ → ℕ) → Option Reason → Option Reason
 renumbered_at new None = None
-renumbered_at new (Some r) = Some (renumbered new r)
+renumbered_at new (Some r) = Some (renumbered_reason new r)
 
 abbrev pub with_new_indices : (ℕ → ℕ) → Derivation → Derivation
-with_new_indices new d = record d { reason = renumbered new d.reason }
+with_new_indices new d = record d { reason = renumbered_reason new d.reason }
 
 -- ---- last references
 
@@ -100,8 +100,8 @@ with_kept c keep =
     let m = length c.problem.constraints in
     record c { derivations = kept_derivations keep m c.derivations }
 
-abbrev pub tightened : Certificate → Option ℕ → Certificate
-tightened c goal = with_kept c (is_kept c goal)
+abbrev pub tightened_certificate : Certificate → Option ℕ → Certificate
+tightened_certificate c goal = with_kept c (is_kept c goal)
 
 -- the new index of constraint i, if it is kept
 abbrev pub tightened_index : Certificate → Option ℕ → ℕ → ℕ

@@ -1,4 +1,4 @@
--- The verdict on a text: what is tested, in which order, and what the first test that fails tells
+-- The verdict on a text: what is tested, in which order, and what the first test that fails answers
 use Rattle.std.specs.Prelude.{◌≡◌, ℕ, zero, suc, List, [], ◌∷◌, ◌++◌, length, Option, Some, None}
 use Rattle.std.specs.Prelude.{MatchOption, Result, Ok, Err}
 use Rattle.std.specs.FinSet as set
@@ -12,7 +12,7 @@ use Rattle.vipr_spec.specs.Reading.{Rest, Fault, refused, unread, Read, ◌>>=�
 use Rattle.vipr_spec.specs.Reading.{solution_read, derivations_read, derivation_read, end_read}
 use Rattle.vipr_spec.specs.Steps.{step_cause, FirstFailing}
 use Rattle.vipr_spec.specs.Tests.{solution_cause, Test, spelled, of_solution, meets_primal, of_step}
-use Rattle.vipr_spec.specs.Tests.{meets_dual, Passes, numbered, tests_of_solution}
+use Rattle.vipr_spec.specs.Tests.{meets_dual, Passes, numbered_tests, tests_of_solution}
 use Rattle.vipr_spec.specs.Tests.{tests_of_derivation, Detail, none, Explains}
 
 -- ---- a text, item by item
@@ -42,7 +42,7 @@ derivations_found p (Err f) = ([], spelled f ∷ [])
 derivations_found p (Ok d) =
     let items = items_read (derivation_read p) d.0 d.1 in (
       items.0,
-      numbered tests_of_derivation (length p.constraints) items.0
+      numbered_tests tests_of_derivation (length p.constraints) items.0
           ++ last_tests (items.1 >>= end_read),
     )
 
@@ -73,7 +73,7 @@ problem_found (Ok p) =
     let items = items_read (solution_read p.0.0) p.0.1 p.1 in
     let ending = ending_found p.0.0 items.1 in record {
       certificate = record { problem = p.0.0; solutions = items.0; derivations = ending.0 };
-      tests = numbered (tests_of_solution p.0.0) 0 items.0 ++ ending.1;
+      tests = numbered_tests (tests_of_solution p.0.0) 0 items.0 ++ ending.1;
     }
 
 unfoldable pub found_in : Rest → Found
@@ -112,25 +112,26 @@ pub data Answer : Type 0 where
   -- a read failed
   cut_short : Answer
 
--- what a test that fails tells
-abbrev pub told_by : Test → Answer
-told_by (spelled (refused c offset)) = refuses (record { cause = c; place = at_byte offset })
-told_by (spelled unread) = cut_short
-told_by (of_solution i s t) = refuses (record { cause = solution_cause t; place = at_solution i })
-told_by meets_primal = refuses (record { cause = cause.no_primal; place = at_end })
-told_by (of_step k t) = refuses (record { cause = step_cause t; place = at_derivation k })
-told_by meets_dual = refuses (record { cause = cause.no_proof; place = at_end })
+-- what a test that fails answers
+abbrev pub answer_of_test : Test → Answer
+answer_of_test (spelled (refused c offset)) = refuses (record { cause = c; place = at_byte offset })
+answer_of_test (spelled unread) = cut_short
+answer_of_test (of_solution i s t) =
+    refuses (record { cause = solution_cause t; place = at_solution i })
+answer_of_test meets_primal = refuses (record { cause = cause.no_primal; place = at_end })
+answer_of_test (of_step k t) = refuses (record { cause = step_cause t; place = at_derivation k })
+answer_of_test meets_dual = refuses (record { cause = cause.no_proof; place = at_end })
 
--- the first test that fails tells the answer, and where none does the text is verified
-abbrev pub IsToldBy : Profile → Certificate → Option Test → Answer → Type 0
-IsToldBy P c None answer = (report : Report) × Reports P c report × (answer ≡ verified report)
-IsToldBy P c (Some t) answer = answer ≡ told_by t
+-- the first test that fails decides the answer, and if none does the text is verified
+abbrev pub IsAnswerOfTest : Profile → Certificate → Option Test → Answer → Type 0
+IsAnswerOfTest P c None answer = (report : Report) × Reports P c report × (answer ≡ verified report)
+IsAnswerOfTest P c (Some t) answer = answer ≡ answer_of_test t
 
--- the first test that fails tells the answer
+-- the first test that fails decides the answer
 abbrev pub Answers : Profile → Found → Answer → Type 0
 Answers P f answer =
     (failing : Option Test) × FirstFailing (Passes P f.certificate) f.tests failing
-    × IsToldBy P f.certificate failing answer
+    × IsAnswerOfTest P f.certificate failing answer
 
 abbrev pub IsAnswer : Profile → Rest → Answer → Type 0
 IsAnswer P r answer = Answers P (found_in r) answer
@@ -138,8 +139,8 @@ IsAnswer P r answer = Answers P (found_in r) answer
 -- ---- the answer with its detail
 
 abbrev pub IsExplainedBy : Profile → Certificate → Option Test → Answer → Detail → Type 0
-IsExplainedBy P c None answer detail = IsToldBy P c None answer × (detail ≡ none)
-IsExplainedBy P c (Some t) answer detail = IsToldBy P c (Some t) answer × Explains c t detail
+IsExplainedBy P c None answer detail = IsAnswerOfTest P c None answer × (detail ≡ none)
+IsExplainedBy P c (Some t) answer detail = IsAnswerOfTest P c (Some t) answer × Explains c t detail
 
 -- the same, with what is shown of the test that fails
 abbrev pub Explained : Profile → Found → Answer → Detail → Type 0

@@ -16,7 +16,8 @@ ghost use Rattle.vipr_spec.specs.Tests.{spelled, meets_primal, of_step, meets_du
 ghost use Rattle.vipr_spec.specs.Tests.{none};
 ghost use Rattle.vipr_spec.specs.Tests.{step, no_proof, no_primal, solution_detail, goal_needed_by};
 ghost use Rattle.vipr_spec.specs.Tests.{finite_primal};
-ghost use Rattle.vipr_spec.specs.Verdict.{Report, Reports, Answer, verified, told_by, IsAnswer};
+ghost use Rattle.vipr_spec.specs.Verdict.{Report, Reports, Answer, verified, answer_of_test};
+ghost use Rattle.vipr_spec.specs.Verdict.{IsAnswer};
 ghost use Rattle.vipr_spec.specs.Verdict.{Explained, IsExplained};
 ghost use Rattle.vipr_spec.specs.Progress.{derivations_from, solutions_from};
 
@@ -32,7 +33,7 @@ pub fn explained_answer()
 pub fn problem_explained()
     ensures fault { (P : Profile) (a : Answer) (x : Detail) (r : Rest) (f : Fault)
         → problem_read r ≡ Err f
-        → IsExplained P r a x ↔ ((a ≡ told_by (spelled f)) × (x ≡ none)) }
+        → IsExplained P r a x ↔ ((a ≡ answer_of_test (spelled f)) × (x ≡ none)) }
     ensures passes { (P : Profile) (a : Answer) (x : Detail) (r : Rest) (p : Problem)
         (n : ℕ) (s : Rest)
         → problem_read r ≡ Ok ((p, n), s)
@@ -44,7 +45,7 @@ pub fn solutions_explained()
     ensures fault { (P : Profile) (a : Answer) (x : Detail) (p : Problem)
         (ss : List (Named Row)) (n : ℕ)
         (r : Rest) (f : Fault) → solution_read p r ≡ Err f
-        → Explained P (solutions_from p ss (suc n) r) a x ↔ ((a ≡ told_by (spelled f))
+        → Explained P (solutions_from p ss (suc n) r) a x ↔ ((a ≡ answer_of_test (spelled f))
         × (x ≡ none)) }
     ensures passes { (P : Profile) (a : Answer) (x : Detail) (p : Problem)
         (ss : List (Named Row)) (n : ℕ)
@@ -57,17 +58,18 @@ pub fn solutions_explained()
         (r : Rest) (s : Named Row) (t : Rest) (y : SolutionTest) → solution_read p r ≡ Ok (s, t)
         → FirstFailing (PassesSolution p s.item) (solution_tests p) (Some y)
         → Explained P (solutions_from p ss (suc n) r) a x
-        ↔ ((a ≡ told_by (of_solution (length ss) s.item y))
+        ↔ ((a ≡ answer_of_test (of_solution (length ss) s.item y))
         × (x ≡ solution_detail p s.name s.item y)) }
     ensures unmet { (P : Profile) (a : Answer) (x : Detail) (p : Problem)
         (ss : List (Named Row)) (r : Rest)
         → ¬ MeetsPrimal p ss p.claim
-        → Explained P (solutions_from p ss 0 r) a x ↔ ((a ≡ told_by meets_primal)
+        → Explained P (solutions_from p ss 0 r) a x ↔ ((a ≡ answer_of_test meets_primal)
         × ((bound : ℚ) × (finite_primal p p.claim ≡ Some bound) × (x ≡ no_primal bound))) }
     ensures end_fault { (P : Profile) (a : Answer) (x : Detail) (p : Problem)
         (ss : List (Named Row))
         (r : Rest) (f : Fault) → MeetsPrimal p ss p.claim → derivations_read p r ≡ Err f
-        → Explained P (solutions_from p ss 0 r) a x ↔ ((a ≡ told_by (spelled f)) × (x ≡ none)) }
+        → Explained P (solutions_from p ss 0 r) a x
+        ↔ ((a ≡ answer_of_test (spelled f)) × (x ≡ none)) }
     ensures end { (P : Profile) (a : Answer) (x : Detail) (p : Problem)
         (ss : List (Named Row)) (r : Rest)
         (n : ℕ) (s : Rest) → MeetsPrimal p ss p.claim → derivations_read p r ≡ Ok (n, s)
@@ -82,7 +84,7 @@ pub fn derivations_explained()
     ensures fault { (P : Profile) (a : Answer) (x : Detail) (c : Certificate) (n : ℕ)
         (r : Rest) (f : Fault)
         → derivation_read c.problem r ≡ Err f
-        → Explained P (derivations_from c (suc n) r) a x ↔ ((a ≡ told_by (spelled f))
+        → Explained P (derivations_from c (suc n) r) a x ↔ ((a ≡ answer_of_test (spelled f))
         × (x ≡ none)) }
     ensures passes { (P : Profile) (a : Answer) (x : Detail) (c : Certificate) (n : ℕ) (r : Rest)
         (d : Derivation) (s : Rest) → derivation_read c.problem r ≡ Ok (d, s)
@@ -92,7 +94,8 @@ pub fn derivations_explained()
     ensures fails { (P : Profile) (a : Answer) (x : Detail) (c : Certificate) (n : ℕ) (r : Rest)
         (d : Derivation) (s : Rest) (t : StepTest) → derivation_read c.problem r ≡ Ok (d, s)
         → FirstFailing (PassesStep P c (condition d.stated)) (step_tests d.reason) (Some t)
-        → Explained P (derivations_from c (suc n) r) a x ↔ ((a ≡ told_by (of_step (count c) t))
+        → Explained P (derivations_from c (suc n) r) a x
+        ↔ ((a ≡ answer_of_test (of_step (count c) t))
         × ((what : StepDetail) × Shows c (condition d.stated) t what × (x ≡ step d.name what))) }
 {}
 
@@ -100,11 +103,13 @@ pub fn derivations_explained()
 pub fn end_explained()
     ensures fault { (P : Profile) (a : Answer) (x : Detail) (c : Certificate) (r : Rest) (f : Fault)
         → end_read r ≡ Err f
-        → Explained P (derivations_from c 0 r) a x ↔ ((a ≡ told_by (spelled f)) × (x ≡ none)) }
+        → Explained P (derivations_from c 0 r) a x
+        ↔ ((a ≡ answer_of_test (spelled f)) × (x ≡ none)) }
     ensures fails { (P : Profile) (a : Answer) (x : Detail) (c : Certificate) (r : Rest)
         → end_read r ≡ Ok tt → ¬ Passes P c meets_dual
         → Explained P (derivations_from c 0 r) a x
-        ↔ ((a ≡ told_by meets_dual) × (x ≡ no_proof (goal_needed_by c.problem c.problem.claim))) }
+        ↔ ((a ≡ answer_of_test meets_dual)
+        × (x ≡ no_proof (goal_needed_by c.problem c.problem.claim))) }
     ensures passes { (P : Profile) (a : Answer) (x : Detail) (c : Certificate) (r : Rest)
         → end_read r ≡ Ok tt → Passes P c meets_dual
         → Explained P (derivations_from c 0 r) a x

@@ -51,7 +51,7 @@ pub fn example()
 
 /// What is refused at a token is refused whatever follows it, and reading fails for want of more
 /// only where a failure follows.
-pub fn faults_stand()
+pub fn faults_remain()
     ensures { ItemFaults }
 {}
 

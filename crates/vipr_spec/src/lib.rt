@@ -1,5 +1,5 @@
 //! Laws of certificates: functions without code, each of which says by its contract what is so for
-//! all certificates, constraints, points or fractions. What their words mean stands in `specs/`.
+//! all certificates, constraints, points or fractions. Their words are defined in `specs/`.
 #![tactic(auto)]
 
 pub mod arithmetic;

@@ -1,4 +1,4 @@
-//! The answer for a text, item by item: what the items read so far leave open, the rest tells.
+//! The answer for a text, item by item: what the items read so far leave open, the rest decides.
 
 ghost use Rattle.std.specs.Prelude.{◌≡◌, ◌↔◌, ℕ, suc, List, [], ◌∷◌, ◌++◌, length, Option, Some};
 ghost use Rattle.std.specs.Prelude.{None, IsSome, MatchOption, Ok, Err};
@@ -11,14 +11,15 @@ ghost use Rattle.vipr_spec.specs.Steps.{with_next, IsGoodNext, StepTest, PassesS
 ghost use Rattle.vipr_spec.specs.Steps.{FirstFailing};
 ghost use Rattle.vipr_spec.specs.Tests.{SolutionTest, PassesSolution, solution_tests, of_solution};
 ghost use Rattle.vipr_spec.specs.Tests.{spelled, meets_primal, of_step, meets_dual, Passes, Detail};
-ghost use Rattle.vipr_spec.specs.Verdict.{Report, Reports, Answer, verified, told_by, Answers};
+ghost use Rattle.vipr_spec.specs.Verdict.{Report, Reports, Answer, verified, answer_of_test};
+ghost use Rattle.vipr_spec.specs.Verdict.{Answers};
 ghost use Rattle.vipr_spec.specs.Verdict.{IsAnswer, IsExplained};
 ghost use Rattle.vipr_spec.specs.Progress.{derivations_from, solutions_from};
 
 /// The problem comes first.
 pub fn problem_first()
     ensures fault { (P : Profile) (r : Rest) (f : Fault) (a : Answer) → problem_read r ≡ Err f
-        → IsAnswer P r a ↔ (a ≡ told_by (spelled f)) }
+        → IsAnswer P r a ↔ (a ≡ answer_of_test (spelled f)) }
     ensures passes { (P : Profile) (r : Rest) (p : Problem) (n : ℕ) (s : Rest) (a : Answer)
         → problem_read r ≡ Ok ((p, n), s)
         → IsAnswer P r a ↔ Answers P (solutions_from p [] n s) a }
@@ -28,7 +29,7 @@ pub fn problem_first()
 pub fn solutions_next()
     ensures fault { (P : Profile) (p : Problem) (ss : List (Named Row)) (n : ℕ) (r : Rest)
         (f : Fault) (a : Answer) → solution_read p r ≡ Err f
-        → Answers P (solutions_from p ss (suc n) r) a ↔ (a ≡ told_by (spelled f)) }
+        → Answers P (solutions_from p ss (suc n) r) a ↔ (a ≡ answer_of_test (spelled f)) }
     ensures passes { (P : Profile) (p : Problem) (ss : List (Named Row)) (n : ℕ) (r : Rest)
         (s : Named Row) (t : Rest) (a : Answer) → solution_read p r ≡ Ok (s, t)
         → FirstFailing (PassesSolution p s.item) (solution_tests p) None
@@ -38,13 +39,13 @@ pub fn solutions_next()
         (s : Named Row) (t : Rest) (x : SolutionTest) (a : Answer) → solution_read p r ≡ Ok (s, t)
         → FirstFailing (PassesSolution p s.item) (solution_tests p) (Some x)
         → Answers P (solutions_from p ss (suc n) r) a
-        ↔ (a ≡ told_by (of_solution (length ss) s.item x)) }
+        ↔ (a ≡ answer_of_test (of_solution (length ss) s.item x)) }
     ensures unmet { (P : Profile) (p : Problem) (ss : List (Named Row)) (r : Rest) (a : Answer)
         → ¬ MeetsPrimal p ss p.claim
-        → Answers P (solutions_from p ss 0 r) a ↔ (a ≡ told_by meets_primal) }
+        → Answers P (solutions_from p ss 0 r) a ↔ (a ≡ answer_of_test meets_primal) }
     ensures end_fault { (P : Profile) (p : Problem) (ss : List (Named Row)) (r : Rest) (f : Fault)
         (a : Answer) → MeetsPrimal p ss p.claim → derivations_read p r ≡ Err f
-        → Answers P (solutions_from p ss 0 r) a ↔ (a ≡ told_by (spelled f)) }
+        → Answers P (solutions_from p ss 0 r) a ↔ (a ≡ answer_of_test (spelled f)) }
     ensures end { (P : Profile) (p : Problem) (ss : List (Named Row)) (r : Rest) (n : ℕ) (s : Rest)
         (a : Answer) → MeetsPrimal p ss p.claim → derivations_read p r ≡ Ok (n, s)
         → Answers P (solutions_from p ss 0 r) a ↔ Answers P
@@ -55,7 +56,7 @@ pub fn solutions_next()
 pub fn derivations_next()
     ensures fault { (P : Profile) (c : Certificate) (n : ℕ) (r : Rest) (f : Fault) (a : Answer)
         → derivation_read c.problem r ≡ Err f
-        → Answers P (derivations_from c (suc n) r) a ↔ (a ≡ told_by (spelled f)) }
+        → Answers P (derivations_from c (suc n) r) a ↔ (a ≡ answer_of_test (spelled f)) }
     ensures passes { (P : Profile) (c : Certificate) (n : ℕ) (r : Rest) (d : Derivation) (s : Rest)
         (a : Answer) → derivation_read c.problem r ≡ Ok (d, s)
         → FirstFailing (PassesStep P c (condition d.stated)) (step_tests d.reason) None
@@ -64,16 +65,17 @@ pub fn derivations_next()
     ensures fails { (P : Profile) (c : Certificate) (n : ℕ) (r : Rest) (d : Derivation) (s : Rest)
         (t : StepTest) (a : Answer) → derivation_read c.problem r ≡ Ok (d, s)
         → FirstFailing (PassesStep P c (condition d.stated)) (step_tests d.reason) (Some t)
-        → Answers P (derivations_from c (suc n) r) a ↔ (a ≡ told_by (of_step (count c) t)) }
+        → Answers P (derivations_from c (suc n) r) a ↔ (a ≡ answer_of_test (of_step (count c) t)) }
 {}
 
 /// And the end.
 pub fn end_last()
     ensures fault { (P : Profile) (c : Certificate) (r : Rest) (f : Fault) (a : Answer)
-        → end_read r ≡ Err f → Answers P (derivations_from c 0 r) a ↔ (a ≡ told_by (spelled f)) }
+        → end_read r ≡ Err f
+        → Answers P (derivations_from c 0 r) a ↔ (a ≡ answer_of_test (spelled f)) }
     ensures fails { (P : Profile) (c : Certificate) (r : Rest) (a : Answer) → end_read r ≡ Ok tt
         → ¬ Passes P c meets_dual
-        → Answers P (derivations_from c 0 r) a ↔ (a ≡ told_by meets_dual) }
+        → Answers P (derivations_from c 0 r) a ↔ (a ≡ answer_of_test meets_dual) }
     ensures passes { (P : Profile) (c : Certificate) (r : Rest) (a : Answer) → end_read r ≡ Ok tt
         → Passes P c meets_dual
         → Answers P (derivations_from c 0 r) a

@@ -18,7 +18,7 @@ ghost use Rattle.vipr_spec.specs.Tests.{meets_dual, not_whole, breaks, overflows
 ghost use Rattle.vipr_spec.specs.Tests.{name_at, names_of, solution_detail, solution_cause};
 ghost use Rattle.vipr_spec.specs.Tests.{goal_needed_by, finite_primal, Explains, none};
 ghost use Rattle.vipr_spec.specs.Verdict.{at_byte, at_solution, at_derivation, at_end, refuses};
-ghost use Rattle.vipr_spec.specs.Verdict.{cut_short, told_by};
+ghost use Rattle.vipr_spec.specs.Verdict.{cut_short, answer_of_test};
 
 /// The numbers of the causes that a token has.
 pub fn causes_of_tokens()
@@ -67,15 +67,15 @@ pub fn causes_of_items()
 /// The place of each cause: the token, the solution, the derivation, or the end. A failed read is
 /// no refusal.
 pub fn places_of_causes()
-    ensures token { (c offset : ℕ) → told_by (spelled (refused c offset))
+    ensures token { (c offset : ℕ) → answer_of_test (spelled (refused c offset))
         ≡ refuses (record { cause = c; place = at_byte offset }) }
-    ensures unread { told_by (spelled unread) ≡ cut_short }
-    ensures solution { (i : ℕ) (s : Row) (t : SolutionTest) → told_by (of_solution i s t)
+    ensures unread { answer_of_test (spelled unread) ≡ cut_short }
+    ensures solution { (i : ℕ) (s : Row) (t : SolutionTest) → answer_of_test (of_solution i s t)
         ≡ refuses (record { cause = solution_cause t; place = at_solution i }) }
-    ensures derivation { (k : ℕ) (t : StepTest) → told_by (of_step k t)
+    ensures derivation { (k : ℕ) (t : StepTest) → answer_of_test (of_step k t)
         ≡ refuses (record { cause = step_cause t; place = at_derivation k }) }
-    ensures dual { told_by meets_dual ≡ refuses (record { cause = 51; place = at_end }) }
-    ensures primal { told_by meets_primal ≡ refuses (record { cause = 52; place = at_end }) }
+    ensures dual { answer_of_test meets_dual ≡ refuses (record { cause = 51; place = at_end }) }
+    ensures primal { answer_of_test meets_primal ≡ refuses (record { cause = 52; place = at_end }) }
 {}
 
 /// What is shown of a listed solution that is refused: the variable and its value, or the

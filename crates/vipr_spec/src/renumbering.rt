@@ -8,7 +8,8 @@ ghost use Rattle.vipr_spec.specs.Certificate.{last_at, RestsOn, RefersTo, count}
 ghost use Rattle.vipr_spec.specs.Steps.{RefersBack};
 ghost use Rattle.vipr_spec.specs.Tightened.{refers_to, is_kept, kept_of, new_index};
 ghost use Rattle.vipr_spec.specs.Tightened.{tightened_index, renumbered_at, with_new_indices};
-ghost use Rattle.vipr_spec.specs.Tightened.{kept_derivations, tightened, new_goal, referred_by};
+ghost use Rattle.vipr_spec.specs.Tightened.{kept_derivations, tightened_certificate, new_goal};
+ghost use Rattle.vipr_spec.specs.Tightened.{referred_by};
 
 /// New indices rise, leave no gap, and are the old ones for the constraints of the problem.
 pub fn new_indices()
@@ -18,25 +19,27 @@ pub fn new_indices()
         → IsTrue (is_kept c goal i) → i < j
         → tightened_index c goal i < tightened_index c goal j }
     ensures count { (c : Certificate) (goal : Option ℕ)
-        → count (tightened c goal) ≡ tightened_index c goal (count c) }
-    ensures no_gap { (c : Certificate) (goal : Option ℕ) (k : ℕ) → k < count (tightened c goal)
+        → count (tightened_certificate c goal) ≡ tightened_index c goal (count c) }
+    ensures no_gap { (c : Certificate) (goal : Option ℕ) (k : ℕ)
+        → k < count (tightened_certificate c goal)
         → (i : ℕ) × (i < count c) × IsTrue (is_kept c goal i) × (tightened_index c goal i ≡ k) }
 {}
 
 /// Names and constraints are as they were, and reasons are renumbered.
 pub fn names_and_constraints()
     ensures names { (c : Certificate) (goal : Option ℕ)
-        → map (λ d. d.name) (tightened c goal).derivations
+        → map (λ d. d.name) (tightened_certificate c goal).derivations
         ≡ kept_of (is_kept c goal) (length c.problem.constraints)
         (map (λ d. d.name) c.derivations) }
     ensures stated { (c : Certificate) (goal : Option ℕ)
-        → map (λ d. d.stated) (tightened c goal).derivations
+        → map (λ d. d.stated) (tightened_certificate c goal).derivations
         ≡ kept_of (is_kept c goal) (length c.problem.constraints)
         (map (λ d. d.stated) c.derivations) }
     ensures constraint { (c : Certificate) (goal : Option ℕ) (i : ℕ) → IsTrue (is_kept c goal i)
-        → constraint_at (tightened c goal) (tightened_index c goal i) ≡ constraint_at c i }
+        → constraint_at (tightened_certificate c goal) (tightened_index c goal i)
+        ≡ constraint_at c i }
     ensures reason { (c : Certificate) (goal : Option ℕ) (i : ℕ) → IsTrue (is_kept c goal i)
-        → reason_at (tightened c goal) (tightened_index c goal i)
+        → reason_at (tightened_certificate c goal) (tightened_index c goal i)
         ≡ renumbered_at (tightened_index c goal) (reason_at c i) }
 {}
 
@@ -45,10 +48,11 @@ pub fn assumption_sets()
     ensures new { (c : Certificate) (goal : Option ℕ) (i a : ℕ)
         → RefersBack c → IsTrue (is_kept c goal i) → RestsOn c i a
         → IsTrue (is_kept c goal a)
-        × RestsOn (tightened c goal) (tightened_index c goal i) (tightened_index c goal a) }
+        × RestsOn (tightened_certificate c goal) (tightened_index c goal i)
+        (tightened_index c goal a) }
     ensures old { (c : Certificate) (goal : Option ℕ) (i b : ℕ)
         → RefersBack c → IsTrue (is_kept c goal i)
-        → RestsOn (tightened c goal) (tightened_index c goal i) b
+        → RestsOn (tightened_certificate c goal) (tightened_index c goal i) b
         → (a : ℕ) × RestsOn c i a × (tightened_index c goal a ≡ b) }
 {}
 
@@ -56,15 +60,15 @@ pub fn assumption_sets()
 /// none.
 pub fn last_references()
     ensures one { (c : Certificate) (goal : Option ℕ) (i last : ℕ)
-        → length c.problem.constraints ≤ i → last_at (tightened c goal) i ≡ Some last
-        → RefersTo (reason_at (tightened c goal) last) i }
+        → length c.problem.constraints ≤ i → last_at (tightened_certificate c goal) i ≡ Some last
+        → RefersTo (reason_at (tightened_certificate c goal) last) i }
     ensures greatest { (c : Certificate) (goal : Option ℕ) (k i : ℕ)
         → RefersBack c → length c.problem.constraints ≤ i
-        → RefersTo (reason_at (tightened c goal) k) i
-        → (last : ℕ) × (last_at (tightened c goal) i ≡ Some last) × (k ≤ last) }
+        → RefersTo (reason_at (tightened_certificate c goal) k) i
+        → (last : ℕ) × (last_at (tightened_certificate c goal) i ≡ Some last) × (k ≤ last) }
     ensures goal { (c : Certificate) (goal : Option ℕ) (i : ℕ)
-        → RefersBack c → length c.problem.constraints ≤ i → i < count (tightened c goal)
-        → (last_at (tightened c goal) i ≡ None) ↔ (new_goal c goal ≡ Some i) }
+        → RefersBack c → length c.problem.constraints ≤ i → i < count (tightened_certificate c goal)
+        → (last_at (tightened_certificate c goal) i ≡ None) ↔ (new_goal c goal ≡ Some i) }
 {}
 
 /// One pass from the front: a derivation that is kept comes to the end, without a last reference,

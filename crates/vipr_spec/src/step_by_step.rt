@@ -4,9 +4,9 @@ ghost use Rattle.std.specs.Prelude.{◌≡◌, ◌↔◌, ℕ, ◌+◌, ◌<◌,
 ghost use Rattle.std.specs.Prelude.{length, slice_index_or, Option, Some, None, All};
 ghost use Rattle.vipr_spec.specs.Fraction.{zero_ℚ};
 ghost use Rattle.vipr_spec.specs.Constraint.{equal, Profile, Condition, condition};
-ghost use Rattle.vipr_spec.specs.Certificate.{Reason, Derivation, Certificate, derived};
+ghost use Rattle.vipr_spec.specs.Certificate.{Reason, Derivation, Certificate, derived_constraint};
 ghost use Rattle.vipr_spec.specs.Certificate.{known_at, constraint_at, reason_at, last_at, is_live};
-ghost use Rattle.vipr_spec.specs.Certificate.{held, peak, count, IsGoodStep, HasGoodSteps};
+ghost use Rattle.vipr_spec.specs.Certificate.{count_held, peak, count, IsGoodStep, HasGoodSteps};
 ghost use Rattle.vipr_spec.specs.Steps.{StepTest, PassesStep, step_tests, FirstFailing, with_more};
 ghost use Rattle.vipr_spec.specs.Steps.{with_next, before, IsGoodNext, PassesSteps, RefersBack};
 ghost use Rattle.vipr_spec.specs.Steps.{StepDetail, Refuses};
@@ -34,7 +34,7 @@ pub fn earlier_ones_stay()
     ensures live { (c : Certificate) (ds : List Derivation) (k i : ℕ) → k ≤ count c
         → is_live (with_more c ds) k i ≡ is_live c k i }
     ensures held { (c : Certificate) (ds : List Derivation) (k : ℕ) → k < count c
-        → held (with_more c ds) k ≡ held c k }
+        → count_held (with_more c ds) k ≡ count_held c k }
     ensures before { (c : Certificate) (ds : List Derivation) (k : ℕ) → k ≤ count c
         → before (with_more c ds) k ≡ before c k }
     ensures step { (P : Profile) (c : Certificate) (ds : List Derivation) (k : ℕ) (r : Reason)
@@ -46,17 +46,17 @@ pub fn earlier_ones_stay()
     ensures past { (c : Certificate) (i : ℕ) → count c ≤ i → reason_at c i ≡ None }
 {}
 
-/// The next derivation stands at the count of the constraints before it, and raises the peak to
-/// what is held after it.
+/// The index of the next derivation is the count of the constraints before it, and raises the peak
+/// to what is held after it.
 pub fn next_one()
     ensures count { (c : Certificate) (d : Derivation) → count (with_next c d) ≡ count c + 1 }
     ensures known { (c : Certificate) (d : Derivation) (ds : List Derivation)
-        → known_at (with_more c (d ∷ ds)) (count c) ≡ derived d }
+        → known_at (with_more c (d ∷ ds)) (count c) ≡ derived_constraint d }
     ensures step { (P : Profile) (c : Certificate) (d : Derivation) (r : Reason)
         → IsGoodStep P (with_next c d) (count c) r (constraint_at (with_next c d) (count c))
         ↔ IsGoodStep P c (count c) r (condition d.stated) }
     ensures peak { (c : Certificate) (d : Derivation)
-        → peak (with_next c d) ≡ max (peak c) (held (with_next c d) (count c)) }
+        → peak (with_next c d) ≡ max (peak c) (count_held (with_next c d) (count c)) }
     ensures none { (P : Profile) (c : Certificate) → c.derivations ≡ [] → HasGoodSteps P c }
     ensures steps { (P : Profile) (c : Certificate) (d : Derivation)
         → HasGoodSteps P (with_next c d) ↔ (HasGoodSteps P c × IsGoodNext P c d) }
@@ -94,7 +94,7 @@ pub fn tests_are_the_rules()
 {}
 
 /// With more derivations the first test that fails is the same, and for the next derivation it can
-/// be told from the certificate before it.
+/// be read off the certificate before it.
 pub fn tests_look_back()
     ensures stay { (P : Profile) (c : Certificate) (ds : List Derivation) (k : ℕ) (r : Reason)
         (f : Option StepTest) → k < count c

@@ -31,7 +31,7 @@ pub fn first_failing()
 /// What is refused before the end of the text is refused by the tokens up to the place, whatever
 /// follows them. They end with the token at the place, with the solution or derivation there, or,
 /// if the primal bound isn't met, with the last solution.
-pub fn refusals_stand()
+pub fn refusals_remain()
     ensures { (P : Profile) (r : Rest) (x : Refusal) → IsAnswer P r (refuses x)
         → x.cause ≢ cause.truncated → x.cause ≢ cause.no_proof
         → IsRefusedBy P found_in EndsAt r x }

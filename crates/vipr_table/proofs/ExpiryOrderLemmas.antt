@@ -40,9 +40,9 @@ module _ (m : FinMap nat_cmp Entry) (next : ℕ) (new : Entry) where
       ]
 
 -- the pair is taken out of the order, and its index out of the map
-pub IsTied-taken : (next : ℕ) (m : FinMap nat_cmp Entry) (ds es : List (ℕ × ℕ)) (last i : ℕ)
+pub IsTied-removed : (next : ℕ) (m : FinMap nat_cmp Entry) (ds es : List (ℕ × ℕ)) (last i : ℕ)
     → IsTied next m ds → IsPermutation ds ((last, i) ∷ es) → IsTied next (remove m i) es
-IsTied-taken next m ds es last i t p = record {
+IsTied-removed next m ds es last i t p = record {
   below = All-tail (λ d. d.1 < next) (last, i) es (All-permutation (λ d. d.1 < next) ds _ p t.below);
   right = All-weaker (λ d. (e : Entry) → get m d.1 ≡ Some e → expiry e ≡ Some d.0) (λ d. (e : Entry) → get (remove m i) d.1 ≡ Some e → expiry e ≡ Some d.0)
       (λ d h e is. h e (left_over m i d.1 e is).0) es
@@ -56,9 +56,9 @@ IsTied-taken next m ds es last i t p = record {
 }
 
 -- an entry that is taken out when it is due was not live
-pub live_part-taken : (next now : ℕ) (m : FinMap nat_cmp Entry) (ds es : List (ℕ × ℕ)) (last i : ℕ)
+pub live_part-removed : (next now : ℕ) (m : FinMap nat_cmp Entry) (ds es : List (ℕ × ℕ)) (last i : ℕ)
     → IsTied next m ds → IsPermutation ds ((last, i) ∷ es) → last ≤ now → live_part (now + 1) (remove m i) ≡ live_part (now + 1) m
-live_part-taken next now m ds es last i t p due = same_numbers _ _ (λ q. get-live_part (now + 1) (remove m i) q ∙ at q ∙ sym (get-live_part (now + 1) m q))
+live_part-removed next now m ds es last i t p due = same_numbers _ _ (λ q. get-live_part (now + 1) (remove m i) q ∙ at q ∙ sym (get-live_part (now + 1) m q))
   where
     expired : (e : Entry) → get m i ≡ Some e → if_live (now + 1) (Some e) ≡ None
     expired e is =

@@ -192,7 +192,7 @@ module _ (c : Certificate) (t : Table) (is : IsTableOf c t) where
       at None there = sym (not_live (length c.problem.constraints) (count c) i (lasts c (count c) i) (sym (is.held i) ∙ ap is_some there))
 
   -- as many are held as the certificate says
-  pub IsTableOf-held : (k : ℕ) → k + 1 ≡ count c → length c.problem.constraints ≤ k → held_count t ≡ spec.held c k
+  pub IsTableOf-held : (k : ℕ) → k + 1 ≡ count c → length c.problem.constraints ≤ k → held_count t ≡ spec.count_held c k
   IsTableOf-held k last derived =
       let m = length c.problem.constraints in
       let n = k - m in

@@ -8,15 +8,15 @@ use Rattle.vipr_table.specs.declared.rows.keep_all.Kept.{Kept}
 use Rattle.vipr_table.specs.Expiry.{IsTied}
 
 -- the entries that are not forgotten, by index from `first` on
-abbrev pub unforgotten : ℕ → List Kept → map.FinMap nat_cmp Entry
-unforgotten first [] = map.empty
-unforgotten first (k ∷ ks) =
-    cond k.is_forgotten (unforgotten (first + 1) ks)
-    (map.insert (unforgotten (first + 1) ks) first k.entry)
+abbrev pub entries_not_forgotten : ℕ → List Kept → map.FinMap nat_cmp Entry
+entries_not_forgotten first [] = map.empty
+entries_not_forgotten first (k ∷ ks) =
+    cond k.is_forgotten (entries_not_forgotten (first + 1) ks)
+    (map.insert (entries_not_forgotten (first + 1) ks) first k.entry)
 
-abbrev pub shown : Option Kept → Option Entry
-shown None = None
-shown (Some k) = cond k.is_forgotten None (Some k.entry)
+abbrev pub entry_if_kept : Option Kept → Option Entry
+entry_if_kept None = None
+entry_if_kept (Some k) = cond k.is_forgotten None (Some k.entry)
 
 -- the list, with the entry at a place marked
 abbrev pub forget_at : List Kept → ℕ → List Kept
@@ -28,6 +28,6 @@ forget_at (k ∷ ks) (suc i) = k ∷ forget_at ks i
 -- are not forgotten
 pub record IsKept (first next : ℕ) (ks : List Kept) (held : ℕ) (ds : List (ℕ × ℕ)) : Type 0 where
   pub placed : next ≡ first + length ks
-  pub tied : IsTied next (unforgotten first ks) ds
+  pub tied : IsTied next (entries_not_forgotten first ks) ds
   pub begins : All (λ (d : ℕ × ℕ). first ≤ d.1) ds
-  pub count : held ≡ map.len (unforgotten first ks)
+  pub count : held ≡ map.len (entries_not_forgotten first ks)

@@ -1,6 +1,6 @@
 pub mod Rising
 pub mod Merging
-pub mod Held
+pub mod IndexList
 pub mod Unions
 pub mod Table
 pub mod TableCode

@@ -8,5 +8,6 @@ abbrev pub union_of_all : List (set.FinSet nat_cmp) → set.FinSet nat_cmp
 union_of_all [] = set.empty
 union_of_all (s ∷ ss) = set.union s (union_of_all ss)
 
-abbrev pub gathered : Union → set.FinSet nat_cmp
-gathered u = set.union (set.union (union_of_all u.below.items) u.last) (set.from_list u.few.items)
+abbrev pub union_so_far : Union → set.FinSet nat_cmp
+union_so_far u =
+    set.union (set.union (union_of_all u.below.items) u.last) (set.from_list u.few.items)

@@ -3,15 +3,15 @@
 //! [`Assumptions`] is a set of indices. A sum rests on the union of the sets of its constraints,
 //! and a split takes one assumption out of each of its branches. Clones share their indices, so a
 //! long set that many constraints rest on is in memory once.
-mod held;
+mod list;
 mod merge;
 mod union;
 
 ghost use Rattle.std.specs.Prelude.{◌≡◌, ◌↔◌, IfOk, IfSome, IsTrue, length};
 ghost use Rattle.std.specs.FinSet as set;
-ghost use Rattle.vipr_table.specs.Held.{held_items, IsListOf};
+ghost use Rattle.vipr_table.specs.IndexList.{listed_items, IsListOf};
 
-use crate::assumptions::held::Held;
+use crate::assumptions::list::IndexList;
 use crate::assumptions::merge::{
     all_but, but_last, concat, has_all, is_below, is_in, join, join_alike,
 };
@@ -30,8 +30,8 @@ const FEW: usize = 8;
 pub struct Assumptions {
     // each index once, in rising order: those of one list, and then those of another, which is
     // short where the first is long
-    held: Held,
-    behind: Held,
+    held: IndexList,
+    behind: IndexList,
 }
 
 impl Model for Assumptions {
@@ -39,16 +39,16 @@ impl Model for Assumptions {
     ghost use Rattle.std.specs.Ordering.{nat_cmp};
     ghost use Rattle.std.specs.FinSet as set;
     ghost use Rattle.std.specs.Coded.{coded_ℕ};
-    ghost use Rattle.vipr_table.specs.Held.{held_items};
+    ghost use Rattle.vipr_table.specs.IndexList.{listed_items};
     ghost use Rattle.vipr_table.specs.Rising.{IsRising};
 
     ghost Value = { set.FinSet nat_cmp };
 
     ghost coded = { set.code coded_ℕ };
 
-    ghost view = { λ a. set.from_list (held_items a.held ++ held_items a.behind) };
+    ghost view = { λ a. set.from_list (listed_items a.held ++ listed_items a.behind) };
 
-    ghost invariant = { λ a. IsRising (held_items a.held ++ held_items a.behind) };
+    ghost invariant = { λ a. IsRising (listed_items a.held ++ listed_items a.behind) };
 }
 
 impl Clone for Assumptions {
@@ -58,8 +58,8 @@ impl Clone for Assumptions {
 
     fn clone(&self) -> Result<Assumptions, AllocError> {
         Ok(Assumptions {
-            held: self.held.copied()?,
-            behind: self.behind.copied()?,
+            held: self.held.try_copy()?,
+            behind: self.behind.try_copy()?,
         })
     }
 }
@@ -70,8 +70,8 @@ impl Assumptions {
         ensures { result ≡ set.empty }
     {
         Assumptions {
-            held: Held::Nothing,
-            behind: Held::Nothing,
+            held: IndexList::Nothing,
+            behind: IndexList::Nothing,
         }
     }
 
@@ -84,8 +84,8 @@ impl Assumptions {
         ensures { IfOk result (λ s. s ≡ set.insert set.empty index) }
     {
         Ok(Assumptions {
-            held: Held::One(index),
-            behind: Held::Nothing,
+            held: IndexList::One(index),
+            behind: IndexList::Nothing,
         })
     }
 
@@ -133,8 +133,8 @@ impl Assumptions {
         }
         let items = join(alloc, ours, theirs)?;
         Ok(Assumptions {
-            held: Held::of(alloc, items)?,
-            behind: Held::Nothing,
+            held: IndexList::of(alloc, items)?,
+            behind: IndexList::Nothing,
         })
     }
 
@@ -151,8 +151,8 @@ impl Assumptions {
         }
         let items = all_but(alloc, self.flat(alloc)?.as_slice(), index)?;
         Ok(Assumptions {
-            held: Held::of(alloc, items)?,
-            behind: Held::Nothing,
+            held: IndexList::of(alloc, items)?,
+            behind: IndexList::Nothing,
         })
     }
 
@@ -176,8 +176,8 @@ impl Assumptions {
         };
         let items = join_alike(alloc, ours, theirs)?;
         Ok(Assumptions {
-            held: Held::of(alloc, items)?,
-            behind: Held::Nothing,
+            held: IndexList::of(alloc, items)?,
+            behind: IndexList::Nothing,
         })
     }
 
@@ -208,12 +208,12 @@ impl Assumptions {
         }
         let behind = concat(alloc, behind, more)?;
         Ok(Some(Assumptions {
-            held: self.held.copied()?,
-            behind: Held::of(alloc, behind)?,
+            held: self.held.try_copy()?,
+            behind: IndexList::of(alloc, behind)?,
         }))
     }
 
-    // The set of these indices, in any order, of which some may stand twice.
+    // The set of these indices, in any order, of which some may occur twice.
     fn of_indices(alloc: Global, indices: Vec<u32>) -> Result<Self, AllocError>
         ensures { IfOk result (λ s. s ≡ set.from_list indices.items) }
     {
@@ -222,8 +222,8 @@ impl Assumptions {
         indices.dedup();
         let _in_range = indices.as_slice();
         Ok(Assumptions {
-            held: Held::of(alloc, indices)?,
-            behind: Held::Nothing,
+            held: IndexList::of(alloc, indices)?,
+            behind: IndexList::Nothing,
         })
     }
 
@@ -240,14 +240,14 @@ impl Assumptions {
     }
 
     // All indices as one list.
-    fn flat(&self, alloc: Global) -> Result<Held, AllocError>
-        ensures { IfOk result (λ h. IsListOf self.now (held_items h)) }
+    fn flat(&self, alloc: Global) -> Result<IndexList, AllocError>
+        ensures { IfOk result (λ h. IsListOf self.now (listed_items h)) }
     {
         let behind = self.behind.as_slice();
         if behind.is_empty() {
-            return self.held.copied();
+            return self.held.try_copy();
         }
-        Held::of(alloc, concat(alloc, self.held.as_slice(), behind)?)
+        IndexList::of(alloc, concat(alloc, self.held.as_slice(), behind)?)
     }
 
     // How many indices are in the set.

@@ -7,7 +7,7 @@ use Rattle.std.proofs.lemmas.List.FromFn.{map-range_with_len_more, length-range_
 use Rattle.std.proofs.lemmas.List.{get_or-append-add, get_or-map, length-map}
 use Rattle.std.proofs.lemmas.Bool.Decides.{nat_tests}
 use Rattle.vipr_spec.specs.Constraint.{Constraint}
-use Rattle.vipr_spec.specs.Certificate.{Named, Derivation, Certificate, reason_at, last_at, is_assumption, lasts_to, is_live, held, peak}
+use Rattle.vipr_spec.specs.Certificate.{Named, Derivation, Certificate, reason_at, last_at, is_assumption, lasts_to, is_live, count_held, peak}
 use Rattle.vipr_spec.proofs.Laws.{reason_placed}
 use Rattle.vipr_spec.proofs.Laws.{lasts_listed}
 use Rattle.vipr_cert.specs.Items.{reason_of, derivation_of}
@@ -100,7 +100,7 @@ module _ (c : Certificate) (m : ℕ) (is_first : length c.problem.constraints �
       let size = length-range_with_len m p in
       omega arith
 
-  held_is : held c (m + p) ≡ 1 + after_now
+  held_is : count_held c (m + p) ≡ 1 + after_now
   held_is =
       let rest : (m + p) - m ≡ p = omega arith in
       ap (λ n. 1 + count_by (is_live c (m + p + 1)) (range_with_len n (m + p - n))) is_first
@@ -110,10 +110,10 @@ module _ (c : Certificate) (m : ℕ) (is_first : length c.problem.constraints �
   pub fewer_dropped : dropped_now ≤ until_now
   fewer_dropped = let e = parts_all (drop_at c) (m + p) (range_with_len m p) in omega arith
 
-  pub held_now : (h d : ℕ) → h ≡ until_now → d ≡ dropped_now → h + 1 - d ≡ held c (m + p)
+  pub held_now : (h d : ℕ) → h ≡ until_now → d ≡ dropped_now → h + 1 - d ≡ count_held c (m + p)
   held_now h d a b = let e = parts_all (drop_at c) (m + p) (range_with_len m p) in let is = held_is in omega arith
 
-  pub until_then : held c (m + p) ≡ count_by (λ i. is_held_until (m + (p + 1)) (drop_at c i)) (range_with_len m (p + 1))
+  pub until_then : count_held c (m + p) ≡ count_by (λ i. is_held_until (m + (p + 1)) (drop_at c i)) (range_with_len m (p + 1))
   until_then =
       let place : m + p + 1 ≡ m + (p + 1) = omega arith in
       let q : ℕ → Bool = λ i. is_held_until (m + p + 1) (drop_at c i) in
@@ -121,14 +121,14 @@ module _ (c : Certificate) (m : ℕ) (is_first : length c.problem.constraints �
       let one : cond {A = ℕ} (q (m + p)) 1 0 ≡ 1 = ap (λ (b : Bool). cond {A = ℕ} b 1 0) last in
       let more = count_more q m p in
       let same : count_by q (range_with_len m p) ≡ after_now = count_alike q (λ i. is_held_after (m + p) (drop_at c i)) m p (λ i low up. until_next (m + p) (drop_at c i)) in
-      let whole : held c (m + p) ≡ count_by q (range_with_len m (p + 1)) = (let is = held_is in omega arith) in
+      let whole : count_held c (m + p) ≡ count_by q (range_with_len m (p + 1)) = (let is = held_is in omega arith) in
       whole ∙ ap (λ n. count_by (λ i. is_held_until n (drop_at c i)) (range_with_len m (p + 1))) place
 
-  pub most_then : max (held c (m + p)) (fold max 0 (map (held c) (range_with_len m p))) ≡ fold max 0 (map (held c) (range_with_len m (p + 1)))
+  pub most_then : max (count_held c (m + p)) (fold max 0 (map (count_held c) (range_with_len m p))) ≡ fold max 0 (map (count_held c) (range_with_len m (p + 1)))
   most_then =
-      let before = fold max 0 (map (held c) (range_with_len m p)) in
-      let turned : max (held c (m + p)) before ≡ max before (held c (m + p)) = omega arith in
-      turned ∙ sym (ap (fold max 0) (map-range_with_len_more (held c) m p (m + p) refl) ∙ fold-append max 0 (map (held c) (range_with_len m p)) (held c (m + p) ∷ []))
+      let before = fold max 0 (map (count_held c) (range_with_len m p)) in
+      let turned : max (count_held c (m + p)) before ≡ max before (count_held c (m + p)) = omega arith in
+      turned ∙ sym (ap (fold max 0) (map-range_with_len_more (count_held c) m p (m + p) refl) ∙ fold-append max 0 (map (count_held c) (range_with_len m p)) (count_held c (m + p) ∷ []))
 
   -- where the derivation at this place is dropped
   pub drop_here : (ds : List Stored) → map derivation_of ds ≡ c.derivations → p < length ds → (d : Stored) → d ≡ slice_index_or ds p d → drop_at c (m + p) ≡ dropped_after (m + p) (Some (reason_of d.reason)) d.last
@@ -175,5 +175,5 @@ module _ (c : Certificate) (m : ℕ) (is_first : length c.problem.constraints �
       let nothing : n ≡ n + 0 = omega arith in
       nothing ∙ sym (ap (λ (o : Option ℕ). n + cond {A = ℕ} (is_dropped_after (m + k) o) 1 0) is) ∙ dropped_then k n e
 
-pub peak_whole : (c : Certificate) (m n : ℕ) → length c.problem.constraints ≡ m → length c.derivations ≡ n → fold max 0 (map (held c) (range_with_len m n)) ≡ peak c
-peak_whole c m n a b = sym (ap₂ (λ i j. fold max 0 (map (held c) (range_with_len i j))) a b)
+pub peak_whole : (c : Certificate) (m n : ℕ) → length c.problem.constraints ≡ m → length c.derivations ≡ n → fold max 0 (map (count_held c) (range_with_len m n)) ≡ peak c
+peak_whole c m n a b = sym (ap₂ (λ i j. fold max 0 (map (count_held c) (range_with_len i j))) a b)

@@ -2,7 +2,7 @@
 use Rattle.std.proofs.Common.{◌≡◌, ℕ, ◌+◌, ◌<◌, Bool, true, false, ◌&&◌, ◌||◌, nat_eq, List, [], take, drop, map, replicate, length, slice_index_or, get_or, Option, Some, None, arith, refl, sym, ◌∙◌, ap, ap₂, subst}
 use Rattle.std.specs.List.{list_any}
 use Rattle.std.proofs.Math.Bool.{or_assoc}
-use Rattle.std.proofs.lemmas.List.{drop_all, get_or-map, get_or-replicate, get_or_default, get_or_read_under, length-map, length-replicate}
+use Rattle.std.proofs.lemmas.List.{drop_all, get_or-map, get_or-replicate, get_or_read_under, length-map, length-replicate}
 use Rattle.std.proofs.lemmas.List.Folds.{list_any_more}
 use Rattle.std.specs.FinMap.{empty}
 use Rattle.vipr_spec.specs.Fraction.{ℚ, zero_ℚ}

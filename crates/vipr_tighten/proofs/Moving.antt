@@ -61,14 +61,14 @@ module _ {A : Type 0} (old now : List A) (kept place : ℕ) (behind : kept ≤ p
         ∙ sym (get_or-drop (place + 1) old k d))
 
 -- what is written of a derivation that is taken over
-pub taken_over : (first : ℕ) (table : List ℕ) (old now : List Derivation) (kept place : ℕ) → kept ≤ place → place < length old → length now ≡ length old → SwappedAt old now kept place
+pub accepted_over : (first : ℕ) (table : List ℕ) (old now : List Derivation) (kept place : ℕ) → kept ≤ place → place < length old → length now ≡ length old → SwappedAt old now kept place
     → (was moved : Derivation) → was ≡ get_or (drop kept now) 0 was → derivation_of moved ≡ record (with_new_indices (index_by first table) (derivation_of was)) { last = None }
     → (changed : List Derivation) → length changed ≡ kept → map derivation_of changed ≡ referred_by (refers_to (reason_of moved.reason)) (first + kept) first (map derivation_of (take kept now))
     → TakesOver first table kept place old (changed ++ set (drop kept now) 0 moved)
-taken_over first table old now kept place behind there size swapped was moved is_was d changed as_long r = record {
+accepted_over first table old now kept place behind there size swapped was moved is_was d changed as_long r = record {
   size = after_size old now kept place behind there size swapped changed moved as_long;
   left = after_left old now kept place behind there size swapped changed moved as_long;
-  taken = λ x e.
+  moved_item = λ x e.
       let same : was ≡ x = found old now kept place behind there size swapped was is_was ∙ sym (get_or_read_under old place (length old) x was e there refl) in (
         changed,
         moved,

@@ -3,11 +3,11 @@ use Rattle.std.proofs.Common.{◌≡◌, ℕ, ◌+◌, ◌<◌, ◌≤◌, true,
 use Rattle.std.specs.Prelude.{MatchOption}
 use Rattle.vipr_spec.specs.Input.{Input}
 use Rattle.vipr_spec.specs.Constraint.{Profile}
-use Rattle.vipr_spec.specs.Certificate.{Certificate, IsProof, IsGoal, GoalIs, NeedsGoal, count, peak}
+use Rattle.vipr_spec.specs.Certificate.{Certificate, IsProof, IsGoal, GoalIs, NeedsGoal, peak}
 use Rattle.vipr_spec.specs.Grammar.{Spells, SpellsOnly}
 use Rattle.vipr_spec.specs.GrammarLaws.{whole_text}
 use Rattle.vipr_spec.specs.Reading.{Rest, certificate_read}
-use Rattle.vipr_spec.specs.Tightened.{tightened, new_goal}
+use Rattle.vipr_spec.specs.Tightened.{tightened_certificate, new_goal}
 use Rattle.vipr_spec.specs.Verdict.{Report, Reports, Answer, Answers, verified, refuses, cut_short, found_in, IsAnswer}
 use Rattle.vipr_spec.proofs.Laws.{back_of_proof, claim_shown, found_read, one_certificate, proof_answered, reads_texts, tight_counts, tight_goal, tight_needed, tight_peak, tight_proof, tight_twice, unneeded_goal, verified_read, answer_explained}
 use Rattle.vipr_bytes.specs.Known.{text_of, IfKnown, IfWhole}
@@ -26,22 +26,22 @@ use Rattle.vipr_tighten.specs.declared.outcome.Outcome.TheVariants.{Tightened, R
 use Rattle.vipr_tighten.specs.declared.outcome.TightenFault.{TightenFault}
 use Rattle.vipr_tighten.specs.declared.outcome.TightenFault.TheVariants.{Read, Memory, Write}
 use Rattle.vipr_tighten.specs.Tightens.{IsProofFor, IsTight, KindOfText, TakesNothing, TightensText, any_kind, kind_of, kind_read, kind_spelled, unproved_answer, TightensAs}
-use Rattle.vipr_tighten.specs.Keeping.{HasAnswer, TellsWhy}
-use Rattle.vipr_tighten.specs.declared.proof.Unproved.{Unproved}
-use Rattle.vipr_tighten.specs.declared.proof.Unproved.TheVariants as unproved
+use Rattle.vipr_tighten.specs.Keeping.{HasAnswer, AnswersWhy}
+use Rattle.vipr_tighten.specs.declared.proof_reader.Unproved.{Unproved}
+use Rattle.vipr_tighten.specs.declared.proof_reader.Unproved.TheVariants as unproved
 
 -- ---- a proof
 
 pub is_proof_for : (P : Profile) (c : Certificate) (goal : Option ℕ) → IsProof P c → GoalIs P c goal → IsProofFor P c goal
 is_proof_for P c goal p g = record { proof = p; goal_is = g; shown = claim_shown P c p }
 
-pub is_tight : (P : Profile) (c : Certificate) (goal : Option ℕ) → IsProof P c → GoalIs P c goal → ((G : Form) → SpellsOnly (text_in G (tightened c goal)) (tightened c goal)) → IsTight P c goal (tightened c goal)
+pub is_tight : (P : Profile) (c : Certificate) (goal : Option ℕ) → IsProof P c → GoalIs P c goal → ((G : Form) → SpellsOnly (text_in G (tightened_certificate c goal)) (tightened_certificate c goal)) → IsTight P c goal (tightened_certificate c goal)
 is_tight P c goal p g s =
     let back = back_of_proof P c p in
     record {
       problem = refl;
       solutions = refl;
-      proof = is_proof_for P (tightened c goal) (new_goal c goal) (tight_proof P c goal p g) (tight_goal P c goal back g);
+      proof = is_proof_for P (tightened_certificate c goal) (new_goal c goal) (tight_proof P c goal p g) (tight_goal P c goal back g);
       spells = s Canonical;
       spells_compact = s Compact;
       needed = tight_needed c goal back;
@@ -56,7 +56,7 @@ goal_by P c (Some g) is = is
 pub reported_goal : (P : Profile) (c : Certificate) (r : Report) → Reports P c r → GoalIs P c r.goal
 reported_goal P c r h = goal_by P c r.goal h.goal
 
-pub fewer_kept : (c : Certificate) (goal : Option ℕ) → length (tightened c goal).derivations ≤ length c.derivations
+pub fewer_kept : (c : Certificate) (goal : Option ℕ) → length (tightened_certificate c goal).derivations ≤ length c.derivations
 fewer_kept c goal = let e = tight_counts c goal in omega arith
 
 -- ---- what is known of a text
@@ -69,9 +69,9 @@ module _ (P : Profile) (F : Form) (k l : KindOfText) (of : (c : Certificate) →
   tightens_by (Err (Memory n)) h = h
   tightens_by (Err (Write n)) (c, goal, is, proof, tight, w) = (c, goal, of c is proof.proof, proof, tight, w)
 
-pub nothing_taken : (o : Option Output) → TakesNothing o o
-nothing_taken None = tt
-nothing_taken (Some o) = refl
+pub nothing_accepted : (o : Option Output) → TakesNothing o o
+nothing_accepted None = tt
+nothing_accepted (Some o) = refl
 
 pub certificate_is : (P : Profile) (r : Rest) (c : Certificate) (report : Report) → (found_in r).certificate ≡ c → Answers P (found_in r) (verified report) → certificate_read r ≡ Ok c
 certificate_is P r c report same h =
@@ -112,17 +112,17 @@ tightens P F source old new x any exact = record { written = any; exact = exact;
 
 -- ---- what is written
 
-module _ (P : Profile) (F : Form) (c : Certificate) (r : Report) (p : IsProof P c) (reports : Reports P c r) (t : Certificate) (e : t ≡ tightened c r.goal) (spells : (G : Form) → SpellsOnly (text_in G t) t) (old new : Option Output) where
+module _ (P : Profile) (F : Form) (c : Certificate) (r : Report) (p : IsProof P c) (reports : Reports P c r) (t : Certificate) (e : t ≡ tightened_certificate c r.goal) (spells : (G : Form) → SpellsOnly (text_in G t) t) (old new : Option Output) where
   goal_is : GoalIs P c r.goal
   goal_is = reported_goal P c r reports
 
-  tight : IsTight P c r.goal (tightened c r.goal)
+  tight : IsTight P c r.goal (tightened_certificate c r.goal)
   tight = is_tight P c r.goal p goal_is (λ G. subst (λ (x : Certificate). SpellsOnly (text_in G x) x) e (spells G))
 
   pub fewer : length t.derivations ≤ r.derived
   fewer =
       let few = fewer_kept c r.goal in
-      let same : length t.derivations ≡ length (tightened c r.goal).derivations = ap (λ (x : Certificate). length x.derivations) e in
+      let same : length t.derivations ≡ length (tightened_certificate c r.goal).derivations = ap (λ (x : Certificate). length x.derivations) e in
       let all = reports.derived in
       omega arith
 
@@ -145,7 +145,7 @@ module _ (P : Profile) (F : Form) (c : Certificate) (r : Report) (p : IsProof P 
     ),
   )
 
-  pub written_part : (n : ℕ) → n < length (text_in F t) → IfSome old (λ o. Wrote o new (text_in F t) (Err (record { taken = n }))) → TightensText P F (kind_of c) old new (Err (Write n))
+  pub written_part : (n : ℕ) → n < length (text_in F t) → IfSome old (λ o. Wrote o new (text_in F t) (Err (record { accepted = n }))) → TightensText P F (kind_of c) old new (Err (Write n))
   written_part n l w = (
     c,
     r.goal,
@@ -154,7 +154,7 @@ module _ (P : Profile) (F : Form) (c : Certificate) (r : Report) (p : IsProof P 
     tight,
     (
       subst (λ (x : Certificate). n < length (text_in F x)) e l,
-      subst (λ (x : Certificate). IfSome old (λ o. Wrote o new (text_in F x) (Err (record { taken = n })))) e w,
+      subst (λ (x : Certificate). IfSome old (λ o. Wrote o new (text_in F x) (Err (record { accepted = n })))) e w,
     ),
   )
 
@@ -167,9 +167,9 @@ written_not P F c (Some o) new text n z w = (z, w.1)
 answered : (P : Profile) (r : Rest) (a : Answer) → HasAnswer P (found_in r) a → IsAnswer P r a
 answered P r a h = answer_explained P (found_in r) a h.0 h.1
 
-pub judged_proof : (P : Profile) (F : Form) (source : Option Input) (c : Certificate) (report : Report) (old new : Option Output) (x : Result Outcome TightenFault) → TightensText P F (kind_of c) old new x
+pub decided_proof : (P : Profile) (F : Form) (source : Option Input) (c : Certificate) (report : Report) (old new : Option Output) (x : Result Outcome TightenFault) → TightensText P F (kind_of c) old new x
     → IfKnown source (λ i. ((found_in (text_of i)).certificate ≡ c) × HasAnswer P (found_in (text_of i)) (verified report)) → TightensAs P F source old new x
-judged_proof P F source c report old new x h found =
+decided_proof P F source c report old new x h found =
     tightens P F source old new x (tightens_by P F (kind_of c) any_kind (λ d e p. tt) (λ y b. tt) (λ b. tt) old new x h) (exact source found)
   where
     exact : (s : Option Input) → IfKnown s (λ i. ((found_in (text_of i)).certificate ≡ c) × HasAnswer P (found_in (text_of i)) (verified report)) → IfKnown s (λ i. TightensText P F (kind_read P (text_of i)) old new x)
@@ -179,28 +179,28 @@ judged_proof P F source c report old new x h found =
         let is = certificate_is P r c report (f short).0 (answered P r (verified report) (f short).1) in
         tightens_by P F (kind_of c) (kind_read P r) (λ d e p. is ∙ ap Ok (sym e)) (λ y b. absurd b) (λ b. absurd b) old new x h
 
-pub judged_refused : (P : Profile) (F : Form) (source : Option Input) (y : Refusal) (old : Option Output) → IfKnown source (λ i. HasAnswer P (found_in (text_of i)) (refuses (refusal_of y))) → TightensAs P F source old old (Ok (Refused y))
-judged_refused P F source y old found = tightens P F source old old (Ok (Refused y)) (tt, nothing_taken old) (exact source found)
+pub decided_refused : (P : Profile) (F : Form) (source : Option Input) (y : Refusal) (old : Option Output) → IfKnown source (λ i. HasAnswer P (found_in (text_of i)) (refuses (refusal_of y))) → TightensAs P F source old old (Ok (Refused y))
+decided_refused P F source y old found = tightens P F source old old (Ok (Refused y)) (tt, nothing_accepted old) (exact source found)
   where
     exact : (s : Option Input) → IfKnown s (λ i. HasAnswer P (found_in (text_of i)) (refuses (refusal_of y))) → IfKnown s (λ i. TightensText P F (kind_read P (text_of i)) old old (Ok (Refused y)))
     exact None f = tt
-    exact (Some i) f = λ short. (answered P (text_of i) (refuses (refusal_of y)) (f short), nothing_taken old)
+    exact (Some i) f = λ short. (answered P (text_of i) (refuses (refusal_of y)) (f short), nothing_accepted old)
 
-pub judged_cut_short : (P : Profile) (F : Form) (source : Option Input) (old : Option Output) → IfKnown source (λ i. HasAnswer P (found_in (text_of i)) cut_short) → TightensAs P F source old old (Err Read)
-judged_cut_short P F source old found = tightens P F source old old (Err Read) (tt, nothing_taken old) (exact source found)
+pub decided_cut_short : (P : Profile) (F : Form) (source : Option Input) (old : Option Output) → IfKnown source (λ i. HasAnswer P (found_in (text_of i)) cut_short) → TightensAs P F source old old (Err Read)
+decided_cut_short P F source old found = tightens P F source old old (Err Read) (tt, nothing_accepted old) (exact source found)
   where
     exact : (s : Option Input) → IfKnown s (λ i. HasAnswer P (found_in (text_of i)) cut_short) → IfKnown s (λ i. TightensText P F (kind_read P (text_of i)) old old (Err Read))
     exact None f = tt
-    exact (Some i) f = λ short. (answered P (text_of i) cut_short (f short), nothing_taken old)
+    exact (Some i) f = λ short. (answered P (text_of i) cut_short (f short), nothing_accepted old)
 
-pub judged_memory : (P : Profile) (F : Form) (source : Option Input) (old : Option Output) → TightensAs P F source old old (Err (Memory 0))
-judged_memory P F source old = tightens P F source old old (Err (Memory 0)) (refl, nothing_taken old) (exact source)
+pub decided_memory : (P : Profile) (F : Form) (source : Option Input) (old : Option Output) → TightensAs P F source old old (Err (Memory 0))
+decided_memory P F source old = tightens P F source old old (Err (Memory 0)) (refl, nothing_accepted old) (exact source)
   where
     exact : (s : Option Input) → IfKnown s (λ i. TightensText P F (kind_read P (text_of i)) old old (Err (Memory 0)))
     exact None = tt
-    exact (Some i) = λ short. (refl, nothing_taken old)
+    exact (Some i) = λ short. (refl, nothing_accepted old)
 
-pub judged_not : (P : Profile) (F : Form) (source : Option Input) (e : Unproved) (old : Option Output) → IfKnown source (λ i. TellsWhy P (found_in (text_of i)) e) → TightensAs P F source old old (unproved_answer e)
-judged_not P F source (unproved.Refused y) old h = judged_refused P F source y old h
-judged_not P F source unproved.Read old h = judged_cut_short P F source old h
-judged_not P F source unproved.Memory old h = judged_memory P F source old
+pub decided_not : (P : Profile) (F : Form) (source : Option Input) (e : Unproved) (old : Option Output) → IfKnown source (λ i. AnswersWhy P (found_in (text_of i)) e) → TightensAs P F source old old (unproved_answer e)
+decided_not P F source (unproved.Refused y) old h = decided_refused P F source y old h
+decided_not P F source unproved.Read old h = decided_cut_short P F source old h
+decided_not P F source unproved.Memory old h = decided_memory P F source old

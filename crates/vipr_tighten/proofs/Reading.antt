@@ -15,7 +15,7 @@ use Rattle.vipr_spec.specs.Reading.{Rest, Read, Fault as ReadFault, refused, unr
 use Rattle.vipr_spec.specs.Steps.{with_more, with_next, PassesStep, step_tests, FirstFailing}
 use Rattle.vipr_spec.specs.Tests.{spelled, of_solution, meets_primal, meets_dual, of_step, PassesSolution, solution_tests, none, step, no_proof, no_primal, solution_detail, goal_needed_by}
 use Rattle.vipr_spec.specs.Checking.{start}
-use Rattle.vipr_spec.specs.Verdict.{before_items, items_read, derivations_found, ending_found, problem_found, found_in, Found, Reports, verified, told_by}
+use Rattle.vipr_spec.specs.Verdict.{before_items, items_read, derivations_found, ending_found, problem_found, found_in, Found, Reports, verified, answer_of_test}
 use Rattle.vipr_spec.specs.Progress.{derivations_from, solutions_from}
 use Rattle.vipr_spec.proofs.Laws.{count_next, problem_fault, problem_ok, solution_fault, solution_passes, solution_fails, solutions_unmet, derivations_fault, derivations_begin, derivation_fault, derivation_passes, derivation_fails, end_fault, end_unproved, end_verified}
 use Rattle.vipr_read.specs.Items.{Items, Knows, Remembers}
@@ -30,9 +30,9 @@ use Rattle.vipr_check.specs.Progress.{HasSolutions, HasSteps}
 use Rattle.vipr_check.specs.State.{State, StopsSolution, TakesSolution, StopsEnd, EndsSolutions, StopsStep, TakesStep, StopsFinish, Finishes}
 use Rattle.vipr_check.specs.Run.{IsAmong, IsAt}
 use Rattle.vipr_check.proofs.Laws.{missed_bound}
-use Rattle.vipr_tighten.specs.declared.proof.Unproved.{Unproved}
-use Rattle.vipr_tighten.specs.declared.proof.Unproved.TheVariants as unproved
-use Rattle.vipr_tighten.specs.Keeping.{HasAnswer, TellsWhy, TellsProof, LeadsTo, stop_reason, text_reason, solutions_left, derivations_left, KeepsListed, KeepsMet, KeepsDerived, KeepsWhole, KeepsFinished, KeepsProof}
+use Rattle.vipr_tighten.specs.declared.proof_reader.Unproved.{Unproved}
+use Rattle.vipr_tighten.specs.declared.proof_reader.Unproved.TheVariants as unproved
+use Rattle.vipr_tighten.specs.Keeping.{HasAnswer, AnswersWhy, AnswersProof, LeadsTo, stop_reason, text_reason, solutions_left, derivations_left, KeepsListed, KeepsMet, KeepsDerived, KeepsWhole, KeepsFinished, KeepsProof}
 
 -- ---- what leads to what
 
@@ -42,40 +42,40 @@ leads_same P f = record { same = refl; answers = λ a x h. h }
 pub leads_on : (P : Profile) (f g h : Found) → LeadsTo P f g → LeadsTo P g h → LeadsTo P f h
 leads_on P f g h x y = record { same = x.same ∙ y.same; answers = λ a z t. x.answers a z (y.answers a z t) }
 
-pub tells_by : (P : Profile) (f g : Found) → LeadsTo P f g → (e : Unproved) → TellsWhy P g e → TellsWhy P f e
-tells_by P f g x (unproved.Refused r) h = (h.0, x.answers _ h.0 h.1)
-tells_by P f g x unproved.Read h = (h.0, x.answers _ h.0 h.1)
-tells_by P f g x unproved.Memory h = tt
+pub answers_by : (P : Profile) (f g : Found) → LeadsTo P f g → (e : Unproved) → AnswersWhy P g e → AnswersWhy P f e
+answers_by P f g x (unproved.Refused r) h = (h.0, x.answers _ h.0 h.1)
+answers_by P f g x unproved.Read h = (h.0, x.answers _ h.0 h.1)
+answers_by P f g x unproved.Memory h = tt
 
 -- ---- the texts' faults
 
-text_tells : {Y : Type 0} (P : Profile) (f : Found) (e : TextError) (r : Result Y ReadFault) → Fails e r → ((x : ReadFault) → r ≡ Err x → HasAnswer P f (told_by (spelled x))) → TellsWhy P f (text_reason e)
-text_tells P f (text.Refused c o) r h k = k (refused c o) h
-text_tells P f text.Read r h k = k unread h
-text_tells P f text.Memory r h k = tt
-text_tells P f text.Spent r h k = absurd h
+text_answers : {Y : Type 0} (P : Profile) (f : Found) (e : TextError) (r : Result Y ReadFault) → Fails e r → ((x : ReadFault) → r ≡ Err x → HasAnswer P f (answer_of_test (spelled x))) → AnswersWhy P f (text_reason e)
+text_answers P f (text.Refused c o) r h k = k (refused c o) h
+text_answers P f text.Read r h k = k unread h
+text_answers P f text.Memory r h k = tt
+text_answers P f text.Spent r h k = absurd h
 
-pub problem_missing : (P : Profile) (r : Rest) (e : TextError) → Fails e (problem_read r) → TellsWhy P (found_in r) (text_reason e)
-problem_missing P r e h = text_tells P (found_in r) e (problem_read r) h (λ f is. (none, (problem_fault P (told_by (spelled f)) none r f is).1 (refl, refl)))
+pub problem_missing : (P : Profile) (r : Rest) (e : TextError) → Fails e (problem_read r) → AnswersWhy P (found_in r) (text_reason e)
+problem_missing P r e h = text_answers P (found_in r) e (problem_read r) h (λ f is. (none, (problem_fault P (answer_of_test (spelled f)) none r f is).1 (refl, refl)))
 
-solution_fault_at : (P : Profile) (p : Problem) (ss : List (Named Row)) (n : ℕ) (r : Rest) (e : TextError) → 0 < n → Fails e (solution_read p r) → TellsWhy P (solutions_from p ss n r) (text_reason e)
+solution_fault_at : (P : Profile) (p : Problem) (ss : List (Named Row)) (n : ℕ) (r : Rest) (e : TextError) → 0 < n → Fails e (solution_read p r) → AnswersWhy P (solutions_from p ss n r) (text_reason e)
 solution_fault_at P p ss zero r e lt h = absurd (omega arith)
-solution_fault_at P p ss (suc n) r e lt h = text_tells P (solutions_from p ss (suc n) r) e (solution_read p r) h (λ f is. (none, (solution_fault P (told_by (spelled f)) none p ss n r f is).1 (refl, refl)))
+solution_fault_at P p ss (suc n) r e lt h = text_answers P (solutions_from p ss (suc n) r) e (solution_read p r) h (λ f is. (none, (solution_fault P (answer_of_test (spelled f)) none p ss n r f is).1 (refl, refl)))
 
-solution_missing : (P : Profile) (p : Problem) (ss : List (Named Row)) (n : ℕ) (r : Rest) (e : TextError) → ((n ≡ 0) × Fails {Y = Unit {0}} e (Ok tt)) ⊎ ((0 < n) × Fails e (solution_read p r)) → TellsWhy P (solutions_from p ss n r) (text_reason e)
+solution_missing : (P : Profile) (p : Problem) (ss : List (Named Row)) (n : ℕ) (r : Rest) (e : TextError) → ((n ≡ 0) × Fails {Y = Unit {0}} e (Ok tt)) ⊎ ((0 < n) × Fails e (solution_read p r)) → AnswersWhy P (solutions_from p ss n r) (text_reason e)
 solution_missing P p ss n r (text.Refused c o) (inl h) = absurd (cc h.1)
 solution_missing P p ss n r text.Read (inl h) = absurd (cc h.1)
 solution_missing P p ss n r text.Memory (inl h) = tt
 solution_missing P p ss n r text.Spent (inl h) = absurd h.1
 solution_missing P p ss n r e (inr h) = solution_fault_at P p ss n r e h.0 h.1
 
-pub count_missing : (P : Profile) (p : Problem) (ss : List (Named Row)) (r : Rest) (e : TextError) → MeetsPrimal p ss p.claim → Fails e (derivations_read p r) → TellsWhy P (solutions_from p ss 0 r) (text_reason e)
-count_missing P p ss r e met h = text_tells P (solutions_from p ss 0 r) e (derivations_read p r) h (λ f is. (none, (derivations_fault P (told_by (spelled f)) none p ss r f met is).1 (refl, refl)))
+pub count_missing : (P : Profile) (p : Problem) (ss : List (Named Row)) (r : Rest) (e : TextError) → MeetsPrimal p ss p.claim → Fails e (derivations_read p r) → AnswersWhy P (solutions_from p ss 0 r) (text_reason e)
+count_missing P p ss r e met h = text_answers P (solutions_from p ss 0 r) e (derivations_read p r) h (λ f is. (none, (derivations_fault P (answer_of_test (spelled f)) none p ss r f met is).1 (refl, refl)))
 
-derivation_missing : (P : Profile) (c : Certificate) (n : ℕ) (r : Rest) (e : TextError) → ((n ≡ 0) × Fails e (end_read r)) ⊎ ((0 < n) × Fails e (derivation_read c.problem r)) → TellsWhy P (derivations_from c n r) (text_reason e)
-derivation_missing P c n r e (inl h) = subst (λ n. TellsWhy P (derivations_from c n r) (text_reason e)) (sym h.0) (text_tells P (derivations_from c 0 r) e (end_read r) h.1 (λ f is. (none, (end_fault P (told_by (spelled f)) none c r f is).1 (refl, refl))))
+derivation_missing : (P : Profile) (c : Certificate) (n : ℕ) (r : Rest) (e : TextError) → ((n ≡ 0) × Fails e (end_read r)) ⊎ ((0 < n) × Fails e (derivation_read c.problem r)) → AnswersWhy P (derivations_from c n r) (text_reason e)
+derivation_missing P c n r e (inl h) = subst (λ n. AnswersWhy P (derivations_from c n r) (text_reason e)) (sym h.0) (text_answers P (derivations_from c 0 r) e (end_read r) h.1 (λ f is. (none, (end_fault P (answer_of_test (spelled f)) none c r f is).1 (refl, refl))))
 derivation_missing P c zero r e (inr h) = absurd (let z = h.0 in omega arith)
-derivation_missing P c (suc n) r e (inr h) = text_tells P (derivations_from c (suc n) r) e (derivation_read c.problem r) h.1 (λ f is. (none, (derivation_fault P (told_by (spelled f)) none c n r f is).1 (refl, refl)))
+derivation_missing P c (suc n) r e (inr h) = text_answers P (derivations_from c (suc n) r) e (derivation_read c.problem r) h.1 (λ f is. (none, (derivation_fault P (answer_of_test (spelled f)) none c n r f is).1 (refl, refl)))
 
 -- ---- one item more
 
@@ -141,13 +141,13 @@ pub one_more : (P : Profile) (p : Problem) (ss : List (Named Row)) (k : State) (
 one_more P p ss k old n is some = let e = is.has.solutions in let r = is.room in omega (arith, e, r, some)
 
 module _ (P : Profile) (p : Problem) (ss : List (Named Row)) (k l : State) (first old : Items) (h : KeepsListed P p first ss k old) where
-  pub solution_unread : (e : TextError) → ((old.left ≡ 0) × Fails {Y = Unit {0}} e (Ok tt)) ⊎ ((0 < old.left) × Fails e (solution_read p (rest_of old.rest))) → IsSome first.rest → TellsWhy P (solutions_left p [] first) (text_reason e)
-  solution_unread e x known = tells_by P (solutions_left p [] first) (solutions_left p ss old) (h.leads known) (text_reason e) (solution_missing P p ss old.left (rest_of old.rest) e x)
+  pub solution_unread : (e : TextError) → ((old.left ≡ 0) × Fails {Y = Unit {0}} e (Ok tt)) ⊎ ((0 < old.left) × Fails e (solution_read p (rest_of old.rest))) → IsSome first.rest → AnswersWhy P (solutions_left p [] first) (text_reason e)
+  solution_unread e x known = answers_by P (solutions_left p [] first) (solutions_left p ss old) (h.leads known) (text_reason e) (solution_missing P p ss old.left (rest_of old.rest) e x)
 
   module _ (new : Items) (s : Named Row) (fewer : old.left ≡ suc new.left) (memory : Remembers old new) (unspent : new.failed ≡ false)
       (read : IsSome old.rest → (solution_read p (rest_of old.rest) ≡ Ok (s, rest_of new.rest)) × (IsSome new.rest)) where
-    pub solution_taken : TakesSolution ss s k l (Ok tt) → KeepsListed P p first (ss ++ s ∷ []) l new
-    solution_taken t =
+    pub solution_accepted : TakesSolution ss s k l (Ok tt) → KeepsListed P p first (ss ++ s ∷ []) l new
+    solution_accepted t =
         let is = h.is_among in
         record {
           is_among = record {
@@ -168,32 +168,32 @@ module _ (P : Profile) (p : Problem) (ss : List (Named Row)) (k l : State) (firs
               (subst (λ n. LeadsTo P (solutions_from p ss n (rest_of old.rest)) (solutions_left p (ss ++ s ∷ []) new)) (sym fewer) (solution_leads P p ss new.left (rest_of old.rest) s (rest_of new.rest) got.0 passes));
         }
 
-    solution_stopped : (halt : Halt) → StopsSolution p ss s halt → IsSome old.rest → TellsWhy P (solutions_left p ss old) (stop_reason (halt_answer halt))
+    solution_stopped : (halt : Halt) → StopsSolution p ss s halt → IsSome old.rest → AnswersWhy P (solutions_left p ss old) (stop_reason (halt_answer halt))
     solution_stopped Memory w known = tt
     solution_stopped (Refused r f) (e, named, fails, refusal) known =
-        let a = told_by (of_solution (length ss) s.item (test_of e)) in
+        let a = answer_of_test (of_solution (length ss) s.item (test_of e)) in
         let x = solution_detail p s.name s.item (test_of e) in
         subst (HasAnswer P (solutions_left p ss old)) (sym refusal) (subst (λ n. HasAnswer P (solutions_from p ss n (rest_of old.rest)) a) (sym fewer)
         (x, (solution_fails P a x p ss new.left (rest_of old.rest) s (rest_of new.rest) (test_of e) (read known).0 fails.0).1 (refl, refl)))
 
-    pub solution_stops : (e : Stop) → TakesSolution ss s k l (Err e) → IsSome first.rest → TellsWhy P (solutions_left p [] first) (stop_reason e)
+    pub solution_stops : (e : Stop) → TakesSolution ss s k l (Err e) → IsSome first.rest → AnswersWhy P (solutions_left p [] first) (stop_reason e)
     solution_stops e (halt, halts, why) known =
-        tells_by P (solutions_left p [] first) (solutions_left p ss old) (h.leads known) (stop_reason e)
-        (subst (λ x. TellsWhy P (solutions_left p ss old) (stop_reason x)) (sym halts.answer) (solution_stopped halt (subst (λ q. StopsSolution q ss s halt) h.is_among.problem why) (h.known known)))
+        answers_by P (solutions_left p [] first) (solutions_left p ss old) (h.leads known) (stop_reason e)
+        (subst (λ x. AnswersWhy P (solutions_left p ss old) (stop_reason x)) (sym halts.answer) (solution_stopped halt (subst (λ q. StopsSolution q ss s halt) h.is_among.problem why) (h.known known)))
 
 -- ---- their end
 
 pub ending_unspent : (ss : List (Named Row)) (k l : State) (e : Stop) → EndsSolutions ss k l (Err e) → e ≢ stop.Spent
 ending_unspent ss k l e h = first_unspent h.0 e h.1.answer
 
-ending_stopped : (P : Profile) (p : Problem) (ss : List (Named Row)) (r : Rest) (h : Halt) → StopsEnd p ss h → TellsWhy P (solutions_from p ss 0 r) (stop_reason (halt_answer h))
+ending_stopped : (P : Profile) (p : Problem) (ss : List (Named Row)) (r : Rest) (h : Halt) → StopsEnd p ss h → AnswersWhy P (solutions_from p ss 0 r) (stop_reason (halt_answer h))
 ending_stopped P p ss r Memory w = absurd w
 ending_stopped P p ss r (Refused x f) (named, fails, refusal) =
     let bound = missed_bound p ss p.claim fails in
-    subst (HasAnswer P (solutions_from p ss 0 r)) (sym refusal) (no_primal bound.0, (solutions_unmet P (told_by meets_primal) (no_primal bound.0) p ss r fails).1 (refl, (bound.0, bound.1, refl)))
+    subst (HasAnswer P (solutions_from p ss 0 r)) (sym refusal) (no_primal bound.0, (solutions_unmet P (answer_of_test meets_primal) (no_primal bound.0) p ss r fails).1 (refl, (bound.0, bound.1, refl)))
 
-pub ending_unmet : (P : Profile) (p : Problem) (ss : List (Named Row)) (k l : State) (r : Rest) (e : Stop) → k.progress.problem ≡ p → EndsSolutions ss k l (Err e) → TellsWhy P (solutions_from p ss 0 r) (stop_reason e)
-ending_unmet P p ss k l r e same (h, halts, why) = subst (λ s. TellsWhy P (solutions_from p ss 0 r) (stop_reason s)) (sym halts.answer) (ending_stopped P p ss r h (subst (λ q. StopsEnd q ss h) same why))
+pub ending_unmet : (P : Profile) (p : Problem) (ss : List (Named Row)) (k l : State) (r : Rest) (e : Stop) → k.progress.problem ≡ p → EndsSolutions ss k l (Err e) → AnswersWhy P (solutions_from p ss 0 r) (stop_reason e)
+ending_unmet P p ss k l r e same (h, halts, why) = subst (λ s. AnswersWhy P (solutions_from p ss 0 r) (stop_reason s)) (sym halts.answer) (ending_stopped P p ss r h (subst (λ q. StopsEnd q ss h) same why))
 
 pub ending_met : (p : Problem) (ss : List (Named Row)) (k l : State) → k.progress.problem ≡ p → EndsSolutions ss k l (Ok tt) → MeetsPrimal p ss p.claim
 ending_met p ss k l same h = subst (λ q. MeetsPrimal q ss q.claim) same h.0
@@ -226,8 +226,8 @@ pub names_for : (P : Profile) (c : Certificate) (k : State) (old : Items) (row :
 names_for P c k old row is names = subst (λ p. NamesBelow (variables p) row) is.has.problem (subst (λ n. NamesBelow n row) is.knows.variables names)
 
 module _ (P : Profile) (s c : Certificate) (k l : State) (first old : Items) (h : KeepsDerived P s first c k old) where
-  pub step_unread : (e : TextError) → ((old.left ≡ 0) × Fails e (end_read (rest_of old.rest))) ⊎ ((0 < old.left) × Fails e (derivation_read c.problem (rest_of old.rest))) → IsSome first.rest → TellsWhy P (derivations_left s first) (text_reason e)
-  step_unread e x known = tells_by P (derivations_left s first) (derivations_left c old) (h.leads known) (text_reason e) (derivation_missing P c old.left (rest_of old.rest) e x)
+  pub step_unread : (e : TextError) → ((old.left ≡ 0) × Fails e (end_read (rest_of old.rest))) ⊎ ((0 < old.left) × Fails e (derivation_read c.problem (rest_of old.rest))) → IsSome first.rest → AnswersWhy P (derivations_left s first) (text_reason e)
+  step_unread e x known = answers_by P (derivations_left s first) (derivations_left c old) (h.leads known) (text_reason e) (derivation_missing P c old.left (rest_of old.rest) e x)
 
   pub at_end : (IsSome old.rest → (old.left ≡ 0) × (end_read (rest_of old.rest) ≡ Ok tt)) → KeepsWhole P s first c k
   at_end ends = record {
@@ -241,8 +241,8 @@ module _ (P : Profile) (s c : Certificate) (k l : State) (first old : Items) (h 
 
   module _ (new : Items) (d : Derivation) (fewer : old.left ≡ suc new.left) (memory : Remembers old new) (unspent : new.failed ≡ false)
       (read : IsSome old.rest → (derivation_read c.problem (rest_of old.rest) ≡ Ok (d, rest_of new.rest)) × (IsSome new.rest)) where
-    pub step_taken : TakesStep c d k l (Ok tt) → KeepsDerived P s first (with_next c d) l new
-    step_taken t =
+    pub step_accepted : TakesStep c d k l (Ok tt) → KeepsDerived P s first (with_next c d) l new
+    step_accepted t =
         let is = h.is_at in
         record {
           is_at = record {
@@ -262,32 +262,32 @@ module _ (P : Profile) (s c : Certificate) (k l : State) (first old : Items) (h 
               (subst (λ n. LeadsTo P (derivations_from c n (rest_of old.rest)) (derivations_left (with_next c d) new)) (sym fewer) (derivation_leads P c new.left (rest_of old.rest) d (rest_of new.rest) got.0 passes));
         }
 
-    step_stopped : (halt : Halt) → StopsStep P c d halt → IsSome old.rest → TellsWhy P (derivations_left c old) (stop_reason (halt_answer halt))
+    step_stopped : (halt : Halt) → StopsStep P c d halt → IsSome old.rest → AnswersWhy P (derivations_left c old) (stop_reason (halt_answer halt))
     step_stopped Memory w known = tt
     step_stopped (Refused r f) (e, named, fails, refusal) known =
-        let a = told_by (of_step (count c) fails.0) in
+        let a = answer_of_test (of_step (count c) fails.0) in
         let x = step d.name fails.2.0 in
         subst (HasAnswer P (derivations_left c old)) (sym refusal) (subst (λ n. HasAnswer P (derivations_from c n (rest_of old.rest)) a) (sym fewer)
         (x, (derivation_fails P a x c new.left (rest_of old.rest) d (rest_of new.rest) fails.0 (read known).0 fails.1).1 (refl, (fails.2.0, fails.2.2, refl))))
 
-    pub step_stops : (e : Stop) → TakesStep c d k l (Err e) → IsSome first.rest → TellsWhy P (derivations_left s first) (stop_reason e)
+    pub step_stops : (e : Stop) → TakesStep c d k l (Err e) → IsSome first.rest → AnswersWhy P (derivations_left s first) (stop_reason e)
     step_stops e (halt, halts, why) known =
-        tells_by P (derivations_left s first) (derivations_left c old) (h.leads known) (stop_reason e)
-        (subst (λ x. TellsWhy P (derivations_left c old) (stop_reason x)) (sym halts.answer) (step_stopped halt (subst (λ Q. StopsStep Q c d halt) h.is_at.profile why) (h.known known)))
+        answers_by P (derivations_left s first) (derivations_left c old) (h.leads known) (stop_reason e)
+        (subst (λ x. AnswersWhy P (derivations_left c old) (stop_reason x)) (sym halts.answer) (step_stopped halt (subst (λ Q. StopsStep Q c d halt) h.is_at.profile why) (h.known known)))
 
 -- ---- the end
 
 pub finish_unspent : (c : Certificate) (k l : State) (e : Stop) → Finishes c k l (Err e) → e ≢ stop.Spent
 finish_unspent c k l e h = first_unspent h.0 e h.1.answer
 
-finish_stopped : (P : Profile) (c : Certificate) (r : Rest) (h : Halt) → end_read r ≡ Ok tt → StopsFinish P c h → TellsWhy P (derivations_from c 0 r) (stop_reason (halt_answer h))
+finish_stopped : (P : Profile) (c : Certificate) (r : Rest) (h : Halt) → end_read r ≡ Ok tt → StopsFinish P c h → AnswersWhy P (derivations_from c 0 r) (stop_reason (halt_answer h))
 finish_stopped P c r Memory end w = absurd w
 finish_stopped P c r (Refused x f) end (named, fails, refusal) =
     let x = no_proof (goal_needed_by c.problem c.problem.claim) in
-    subst (HasAnswer P (derivations_from c 0 r)) (sym refusal) (x, (end_unproved P (told_by meets_dual) x c r end fails).1 (refl, refl))
+    subst (HasAnswer P (derivations_from c 0 r)) (sym refusal) (x, (end_unproved P (answer_of_test meets_dual) x c r end fails).1 (refl, refl))
 
-pub finish_stops : (P : Profile) (c : Certificate) (k l : State) (r : Rest) (e : Stop) → k.progress.profile ≡ P → end_read r ≡ Ok tt → Finishes c k l (Err e) → TellsWhy P (derivations_from c 0 r) (stop_reason e)
-finish_stops P c k l r e under end (h, halts, why) = subst (λ s. TellsWhy P (derivations_from c 0 r) (stop_reason s)) (sym halts.answer) (finish_stopped P c r h end (subst (λ Q. StopsFinish Q c h) under why))
+pub finish_stops : (P : Profile) (c : Certificate) (k l : State) (r : Rest) (e : Stop) → k.progress.profile ≡ P → end_read r ≡ Ok tt → Finishes c k l (Err e) → AnswersWhy P (derivations_from c 0 r) (stop_reason e)
+finish_stops P c k l r e under end (h, halts, why) = subst (λ s. AnswersWhy P (derivations_from c 0 r) (stop_reason s)) (sym halts.answer) (finish_stopped P c r h end (subst (λ Q. StopsFinish Q c h) under why))
 
 -- ---- the whole text
 
@@ -311,10 +311,10 @@ whole_writes P p ss ds l problem few t solutions knows whole derivations = recor
 }
 
 module _ (P : Profile) (s : Certificate) (u : Items) (c : Certificate) (m n : State) (whole : KeepsWhole P s u c m) (known : IsSome u.rest) where
-  pub finish_tells : (e : Stop) → Finishes c m n (Err e) → TellsWhy P (derivations_left s u) (stop_reason e)
-  finish_tells e h =
+  pub finish_answers : (e : Stop) → Finishes c m n (Err e) → AnswersWhy P (derivations_left s u) (stop_reason e)
+  finish_answers e h =
       let (end, ended, leads) = whole.leads known in
-      tells_by P (derivations_left s u) (derivations_from c 0 end) leads (stop_reason e) (finish_stops P c m n end e whole.profile ended h)
+      answers_by P (derivations_left s u) (derivations_from c 0 end) leads (stop_reason e) (finish_stops P c m n end e whole.profile ended h)
 
   pub finish_found : (report : Report) → Finishes c m n (Ok report) → ((derivations_left s u).certificate ≡ c) × HasAnswer P (derivations_left s u) (verified (report_of report))
   finish_found report h =
@@ -340,14 +340,14 @@ module _ (P : Profile) (p : Problem) (r : Items) (ss : List (Named Row)) (k : St
   to_end : LeadsTo P (solutions_left p [] r) (solutions_from p ss 0 (rest_of s.rest))
   to_end = subst (λ n. LeadsTo P (solutions_left p [] r) (solutions_from p ss n (rest_of s.rest))) all_read (listed.leads known)
 
-  pub end_tells : (e : Unproved) → TellsWhy P (solutions_from p ss 0 (rest_of s.rest)) e → TellsWhy P (solutions_left p [] r) e
-  end_tells e h = tells_by P (solutions_left p [] r) (solutions_from p ss 0 (rest_of s.rest)) to_end e h
+  pub end_answers : (e : Unproved) → AnswersWhy P (solutions_from p ss 0 (rest_of s.rest)) e → AnswersWhy P (solutions_left p [] r) e
+  end_answers e h = answers_by P (solutions_left p [] r) (solutions_from p ss 0 (rest_of s.rest)) to_end e h
 
 -- the number of derivations, and what follows it
 module _ (P : Profile) (p : Problem) (r : Items) (ss : List (Named Row)) (k : State) (s : Items) (met : KeepsMet P p r ss k s) (all_read : s.left ≡ 0) where
-  pub unread_tells : (e : TextError) → (IsSome s.rest → Fails e (derivations_read p (rest_of s.rest))) → IsSome r.rest → TellsWhy P (solutions_left p [] r) (text_reason e)
-  unread_tells e fails known =
-      end_tells P p r ss met.before s met.listed all_read known (text_reason e)
+  pub unread_answers : (e : TextError) → (IsSome s.rest → Fails e (derivations_read p (rest_of s.rest))) → IsSome r.rest → AnswersWhy P (solutions_left p [] r) (text_reason e)
+  unread_answers e fails known =
+      end_answers P p r ss met.before s met.listed all_read known (text_reason e)
       (count_missing P p ss (rest_of s.rest) e (ending_met p ss met.before k met.listed.is_among.problem met.ends) (fails (met.listed.known known)))
 
   module _ (u : Items) (remembers : Remembers s u) (working : u.failed ≡ false) (counted : u.constraints + u.left < 2 ^ 32) where
@@ -364,8 +364,8 @@ module _ (P : Profile) (p : Problem) (r : Items) (ss : List (Named Row)) (k : St
           leads_on P (solutions_left p [] r) (solutions_from p ss 0 (rest_of s.rest)) (derivations_left (start p ss) u) (to_end P p r ss met.before s met.listed all_read known)
           (count_leads P p ss (rest_of s.rest) u.left (rest_of u.rest) (ending_met p ss met.before k met.listed.is_among.problem met.ends) count.0)
 
-      pub later_tells : (e : Unproved) → (IsSome u.rest → TellsWhy P (derivations_left (start p ss) u) e) → IsSome r.rest → TellsWhy P (solutions_left p [] r) e
-      later_tells e h known = tells_by P (solutions_left p [] r) (derivations_left (start p ss) u) (to_derivations known) e (h (read (met.listed.known known)).1)
+      pub later_answers : (e : Unproved) → (IsSome u.rest → AnswersWhy P (derivations_left (start p ss) u) e) → IsSome r.rest → AnswersWhy P (solutions_left p [] r) e
+      later_answers e h known = answers_by P (solutions_left p [] r) (derivations_left (start p ss) u) (to_derivations known) e (h (read (met.listed.known known)).1)
 
       pub proof_kept : (ds : List Derivation) (report : Report) (l : State) → Knows r p → All (SolutionShape r.variables) ss × All (λ (s : Named Row). RowFits s.item) ss → All (DerivationShape u.variables) ds × All DerivationFits ds
           → KeepsFinished P (start p ss) u (with_more (start p ss) ds) report l
@@ -392,23 +392,23 @@ module _ (P : Profile) (t : Rest) (p : Problem) (r : Items) (read : problem_read
   to_solutions : LeadsTo P (found_in t) (solutions_left p [] r)
   to_solutions = problem_leads P t p r.left (rest_of r.rest) read
 
-  pub rest_tells : (x : Result (Certificate × Report) Unproved) → IfOk x (λ y. KeepsProof P p r y.0 y.1) → IfErr x (λ e. IsSome r.rest → TellsWhy P (solutions_left p [] r) e) → IsSome r.rest → TellsProof P (found_in t) x
-  rest_tells (Ok (c, report)) h e known =
+  pub rest_answers : (x : Result (Certificate × Report) Unproved) → IfOk x (λ y. KeepsProof P p r y.0 y.1) → IfErr x (λ e. IsSome r.rest → AnswersWhy P (solutions_left p [] r) e) → IsSome r.rest → AnswersProof P (found_in t) x
+  rest_answers (Ok (c, report)) h e known =
       let found = h.found known in
       (to_solutions.same ∙ found.0, (found.1.0, to_solutions.answers (verified (report_of report)) found.1.0 found.1.1))
-  rest_tells (Err y) h e known = tells_by P (found_in t) (solutions_left p [] r) to_solutions y (e known)
+  rest_answers (Err y) h e known = answers_by P (found_in t) (solutions_left p [] r) to_solutions y (e known)
 
 -- ---- the answer
 
-pub err_judges : (P : Profile) (f : Found) (x : Result (Certificate × Report) Unproved) (e : Unproved) → IsErrAnd x (λ y. y ≡ e) → TellsWhy P f e → TellsProof P f x
-err_judges P f (Ok x) e h t = absurd h
-err_judges P f (Err y) e h t = subst (TellsWhy P f) (sym h) t
+pub err_decides : (P : Profile) (f : Found) (x : Result (Certificate × Report) Unproved) (e : Unproved) → IsErrAnd x (λ y. y ≡ e) → AnswersWhy P f e → AnswersProof P f x
+err_decides P f (Ok x) e h t = absurd h
+err_decides P f (Err y) e h t = subst (AnswersWhy P f) (sym h) t
 
-pub memory_judges : (P : Profile) (o : Option Input) (x : Result (Certificate × Report) Unproved) → IsErrAnd x (λ y. y ≡ unproved.Memory) → IfKnown o (λ i. TellsProof P (found_in (text_of i)) x)
-memory_judges P None x h = tt
-memory_judges P (Some i) x h = λ short. err_judges P (found_in (text_of i)) x unproved.Memory h tt
+pub memory_decides : (P : Profile) (o : Option Input) (x : Result (Certificate × Report) Unproved) → IsErrAnd x (λ y. y ≡ unproved.Memory) → IfKnown o (λ i. AnswersProof P (found_in (text_of i)) x)
+memory_decides P None x h = tt
+memory_decides P (Some i) x h = λ short. err_decides P (found_in (text_of i)) x unproved.Memory h tt
 
 -- what is found in what the reader has left is found in what the source gives
-pub judges_by : (P : Profile) (o : Option Input) (reader : Option Rest) (x : Result (Certificate × Report) Unproved) → IfKnown o (λ i. reader ≡ Some (text_of i)) → (IsSome reader → TellsProof P (found_in (rest_of reader)) x) → IfKnown o (λ i. TellsProof P (found_in (text_of i)) x)
-judges_by P None reader x h k = tt
-judges_by P (Some i) reader x h k = λ short. subst (λ (s : Option Rest). TellsProof P (found_in (rest_of s)) x) (h short) (k (subst IsSome (sym (h short)) refl))
+pub decides_by : (P : Profile) (o : Option Input) (reader : Option Rest) (x : Result (Certificate × Report) Unproved) → IfKnown o (λ i. reader ≡ Some (text_of i)) → (IsSome reader → AnswersProof P (found_in (rest_of reader)) x) → IfKnown o (λ i. AnswersProof P (found_in (text_of i)) x)
+decides_by P None reader x h k = tt
+decides_by P (Some i) reader x h k = λ short. subst (λ (s : Option Rest). AnswersProof P (found_in (rest_of s)) x) (h short) (k (subst IsSome (sym (h short)) refl))

@@ -6,7 +6,7 @@ use Rattle.std.proofs.Math.Seq.{get_or-append_right}
 use Rattle.vipr_spec.specs.Certificate as is
 use Rattle.vipr_spec.specs.Certificate.{NamesEarlier}
 use Rattle.vipr_spec.specs.Steps.{RefersBack}
-use Rattle.vipr_spec.specs.Tightened.{refers_to, is_the_goal, is_marked, is_kept, new_index, renumbered, with_new_indices, kept_derivations, referred_by, tightened}
+use Rattle.vipr_spec.specs.Tightened.{refers_to, is_the_goal, is_marked, is_kept, new_index, renumbered_reason, with_new_indices, kept_derivations, referred_by, tightened_certificate}
 use Rattle.vipr_spec.proofs.Laws.{index_same, length_kept_derivations, reason_placed, marked_past, next_kept, next_left_out, renumbered_alike}
 use Rattle.vipr_cert.specs.Earlier.{reason_in, NameEarlierFrom}
 use Rattle.vipr_cert.specs.Items.{reason_of, derivation_of}
@@ -48,12 +48,12 @@ module _ (first : ℕ) (marks : List Bool) (all left : List Derivation) (table :
       let before = take (length table) (map derivation_of all) in
       let few = so_far.few in
       let size = all_size in
-      let taken : length before ≡ length table = length-take-le (length table) (map derivation_of all) (omega arith) in
+      let moved_item : length before ≡ length table = length-take-le (length table) (map derivation_of all) (omega arith) in
       let own : length (map derivation_of kept) ≡ length kept = length-map kept derivation_of in
       let same : length (map derivation_of kept) ≡ length (kept_derivations keep first before) = ap length so_far.those in
       let many : length (kept_derivations keep first before) + new_index keep first ≡ new_index keep (first + length before) = length_kept_derivations keep first before in
       let start : new_index keep first ≡ first = index_same keep first (given_kept first marks) first (omega arith) in
-      let there : new_index keep (first + length before) ≡ new_index keep (first + length table) = ap (λ n. new_index keep (first + n)) taken in
+      let there : new_index keep (first + length before) ≡ new_index keep (first + length table) = ap (λ n. new_index keep (first + n)) moved_item in
       omega arith
 
   -- what the table says of earlier constraints
@@ -131,12 +131,12 @@ module _ (first : ℕ) (marks : List Bool) (all left : List Derivation) (table :
         let l = next.0 in
         let here : slice_index_or (map derivation_of all) (length table) (derivation_of x) ≡ derivation_of x =
         get_or-map derivation_of all (length table) x (derivation_of x) next.0 ∙ ap derivation_of (sym next.1) in
-        let reason : renumbered (index_by first table) (reason_of x.reason) ≡ renumbered (new_index keep) (reason_of x.reason) =
+        let reason : renumbered_reason (index_by first table) (reason_of x.reason) ≡ renumbered_reason (new_index keep) (reason_of x.reason) =
         renumbered_alike (index_by first table) (new_index keep) (first + length table) look_up (reason_of x.reason) (next_earlier earlier) in
         let now : record (with_new_indices (index_by first table) (derivation_of x)) { last = None } ≡ record (with_new_indices (new_index keep) (derivation_of x)) { last = None } =
         ap (λ r. record (derivation_of x) { reason = r; last = None }) reason in
-        let of_moved : reason_of moved.reason ≡ renumbered (new_index keep) (reason_of x.reason) = ap (λ (d : is.Derivation). d.reason) (g ∙ now) in
-        let one : next_reason ≡ refers_to (reason_of moved.reason) = ap refers_to (ap (λ (d : is.Derivation). renumbered (new_index keep) d.reason) here ∙ sym of_moved) in
+        let of_moved : reason_of moved.reason ≡ renumbered_reason (new_index keep) (reason_of x.reason) = ap (λ (d : is.Derivation). d.reason) (g ∙ now) in
+        let one : next_reason ≡ refers_to (reason_of moved.reason) = ap refers_to (ap (λ (d : is.Derivation). renumbered_reason (new_index keep) d.reason) here ∙ sym of_moved) in
         record {
           others = ap (λ n. drop n all) size ∙ next.2;
           few = omega arith;
@@ -151,7 +151,7 @@ module _ (first : ℕ) (marks : List Bool) (all left : List Derivation) (table :
         }
       where
         next_reason : ℕ → Bool
-        next_reason = refers_to (renumbered (new_index keep) (slice_index_or (map derivation_of all) (length table) (derivation_of x)).reason)
+        next_reason = refers_to (renumbered_reason (new_index keep) (slice_index_or (map derivation_of all) (length table) (derivation_of x)).reason)
 
 -- ---- in place
 
@@ -193,10 +193,10 @@ module _ (first : ℕ) (marks : List Bool) (all ds : List Derivation) (table : L
   pub place_left_out : has_mark marks place ≡ false → SoFar first marks all (drop (place + 1) ds) (table ++ (first + kept) ∷ []) (take kept ds)
   place_left_out m = leave_out first marks all (drop place ds) table (take kept ds) so_far next_one.0 (drop (place + 1) ds) is_next (first + kept) index_is (marked false m)
 
-  pub place_taken_over : has_mark marks place ≡ true → NameEarlierFrom first all (length all) → (new : List Derivation) → TakesOver first table kept place ds new
+  pub place_accepted_over : has_mark marks place ≡ true → NameEarlierFrom first all (length all) → (new : List Derivation) → TakesOver first table kept place ds new
       → SoFar first marks all (drop (place + 1) new) (table ++ (first + kept) ∷ []) (take (kept + 1) new)
-  place_taken_over m earlier new takes =
-      let (changed, moved, front, g, h) = takes.taken next_one.0 next_one.1 in
+  place_accepted_over m earlier new takes =
+      let (changed, moved, front, g, h) = takes.moved_item next_one.0 next_one.1 in
       subst (λ l. SoFar first marks all l (table ++ (first + kept) ∷ []) (take (kept + 1) new)) (sym takes.left)
       (subst (SoFar first marks all (drop (place + 1) ds) (table ++ (first + kept) ∷ [])) (sym front)
       (take_over first marks all (drop place ds) table (take kept ds) so_far next_one.0 (drop (place + 1) ds) is_next (first + kept) index_is (marked true m) earlier moved g changed h))
@@ -241,7 +241,7 @@ module _ (c : is.Certificate) (ds : List Derivation) (seen : c.derivations ≡ m
         (cases_lt i (is.count c))))
         (cases_lt i m)
 
-    pub tightened_is : (kept : List Derivation) → map derivation_of kept ≡ kept_derivations (kept_by m marks) m (map derivation_of ds) → map derivation_of kept ≡ (tightened c goal).derivations
+    pub tightened_is : (kept : List Derivation) → map derivation_of kept ≡ kept_derivations (kept_by m marks) m (map derivation_of ds) → map derivation_of kept ≡ (tightened_certificate c goal).derivations
     tightened_is kept e =
         let same : kept_by m marks ≡ is_kept c goal = λ i. λ k. kept_alike k i in
         e ∙ ap₂ (λ keep l. kept_derivations keep m l) same (sym seen)

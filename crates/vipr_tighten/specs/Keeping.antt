@@ -19,8 +19,8 @@ use Rattle.vipr_check.specs.declared.halt.Stop.TheVariants as stop
 use Rattle.vipr_check.specs.declared.verdict.Place.TheVariants.{Byte}
 use Rattle.vipr_scan.specs.declared.error.TextError.{TextError}
 use Rattle.vipr_scan.specs.declared.error.TextError.TheVariants as text
-use Rattle.vipr_tighten.specs.declared.proof.Unproved.{Unproved}
-use Rattle.vipr_tighten.specs.declared.proof.Unproved.TheVariants.{Refused, Read, Memory}
+use Rattle.vipr_tighten.specs.declared.proof_reader.Unproved.{Unproved}
+use Rattle.vipr_tighten.specs.declared.proof_reader.Unproved.TheVariants.{Refused, Read, Memory}
 
 -- ---- why no proof was read
 
@@ -39,16 +39,16 @@ text_reason text.Spent = Read
 abbrev pub HasAnswer : Profile → Found → Answer → Type 0
 HasAnswer P f a = (x : Detail) × Explained P f a x
 
--- this is why there is no proof in what was found; want of memory tells nothing of it
-abbrev pub TellsWhy : Profile → Found → Unproved → Type 0
-TellsWhy P f (Refused r) = HasAnswer P f (refuses (refusal_of r))
-TellsWhy P f Read = HasAnswer P f cut_short
-TellsWhy P f Memory = ⊤
+-- this is why there is no proof in what was found; want of memory says nothing of it
+abbrev pub AnswersWhy : Profile → Found → Unproved → Type 0
+AnswersWhy P f (Refused r) = HasAnswer P f (refuses (refusal_of r))
+AnswersWhy P f Read = HasAnswer P f cut_short
+AnswersWhy P f Memory = ⊤
 
 -- the proof is the certificate that was found, with its report; or this is the answer
-abbrev pub TellsProof : Profile → Found → Result (Certificate × Report) Unproved → Type 0
-TellsProof P f (Ok x) = (f.certificate ≡ x.0) × HasAnswer P f (verified (report_of x.1))
-TellsProof P f (Err e) = TellsWhy P f e
+abbrev pub AnswersProof : Profile → Found → Result (Certificate × Report) Unproved → Type 0
+AnswersProof P f (Ok x) = (f.certificate ≡ x.0) × HasAnswer P f (verified (report_of x.1))
+AnswersProof P f (Err e) = AnswersWhy P f e
 
 -- ---- what is kept
 
@@ -64,7 +64,7 @@ solutions_left p ss r = solutions_from p ss r.left (rest_of r.rest)
 abbrev pub derivations_left : Certificate → Items → Found
 derivations_left c r = derivations_from c r.left (rest_of r.rest)
 
--- the solutions ss were read where r was left before, and the checker and the reader stand behind
+-- the solutions ss were read from r on, and the checker and the reader are behind
 -- them
 pub record KeepsListed (P : Profile) (p : Problem) (r : Items) (ss : List (Named Row))
     (k : State) (new : Items) : Type 0 where
@@ -72,7 +72,7 @@ pub record KeepsListed (P : Profile) (p : Problem) (r : Items) (ss : List (Named
   pub known : IsSome r.rest → IsSome new.rest
   pub leads : IsSome r.rest → LeadsTo P (solutions_left p [] r) (solutions_left p ss new)
 
--- they were all taken, and meet the primal side of the claim
+-- they were all accepted, and meet the primal side of the claim
 pub record KeepsMet (P : Profile) (p : Problem) (r : Items) (ss : List (Named Row))
     (k : State) (new : Items) : Type 0 where
   pub before : State
@@ -80,7 +80,7 @@ pub record KeepsMet (P : Profile) (p : Problem) (r : Items) (ss : List (Named Ro
   pub ends : EndsSolutions ss before k (Ok tt)
 
 -- the certificate c was read where r was left after the certificate s, and the checker and the
--- reader stand behind it
+-- reader are behind it
 pub record KeepsDerived (P : Profile) (s : Certificate) (r : Items) (c : Certificate)
     (k : State) (new : Items) : Type 0 where
   pub is_at : IsAt P c k new

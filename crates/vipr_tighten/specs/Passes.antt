@@ -30,14 +30,14 @@ kept_by first marks i = nat_lt i first || has_mark marks (i - first)
 abbrev pub index_by : ℕ → List ℕ → ℕ → ℕ
 index_by first table i = if nat_lt i first then i else slice_index_or table (i - first) 0
 
--- What the place holds is taken over behind the first `kept`, under its new indices and with no
+-- What the place holds moves behind the first `kept`, under its new indices and with no
 -- last reference yet, and is now the last one that refers to those before it. What follows the
 -- place stays.
 pub record TakesOver (first : ℕ) (table : List ℕ) (kept place : ℕ) (old new : List Stored)
     : Type 0 where
   pub size : length new ≡ length old
   pub left : drop (place + 1) new ≡ drop (place + 1) old
-  pub taken : (x : Stored) → x ≡ slice_index_or old place x
+  pub moved_item : (x : Stored) → x ≡ slice_index_or old place x
       → (changed : List Stored) × (moved : Stored) × (take (kept + 1) new ≡ changed ++ moved ∷ [])
       × (derivation_of moved
       ≡ record (with_new_indices (index_by first table) (derivation_of x)) { last = None })

@@ -15,5 +15,5 @@ outcome_text (Refused refusal) = refusal_text refusal
 -- why there is no outcome
 abbrev pub no_outcome_text : TightenFault → List ℕ
 no_outcome_text fault.Read = codes "fault read"
-no_outcome_text (fault.Memory taken) = codes "fault memory"
-no_outcome_text (fault.Write taken) = codes "fault write after " ++ decimal taken
+no_outcome_text (fault.Memory accepted) = codes "fault memory"
+no_outcome_text (fault.Write accepted) = codes "fault write after " ++ decimal accepted

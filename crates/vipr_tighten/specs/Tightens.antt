@@ -7,7 +7,7 @@ use Rattle.vipr_spec.specs.Certificate.{Certificate, IsProof, GoalIs, count, pea
 use Rattle.vipr_spec.specs.Grammar.{Spells, SpellsOnly}
 use Rattle.vipr_spec.specs.Reading.{Rest, certificate_read}
 use Rattle.vipr_spec.specs.Soundness.{IsShown}
-use Rattle.vipr_spec.specs.Tightened.{tightened, new_goal, IsNeededFor}
+use Rattle.vipr_spec.specs.Tightened.{tightened_certificate, new_goal, IsNeededFor}
 use Rattle.vipr_spec.specs.Verdict.{refuses, cut_short, IsAnswer}
 use Rattle.vipr_bytes.specs.Known.{text_of, IfKnown, IfWhole}
 use Rattle.vipr_bytes.specs.Output.{Output}
@@ -18,8 +18,8 @@ use Rattle.vipr_write.specs.declared.form.Form.{Form}
 use Rattle.vipr_write.specs.declared.form.Form.TheVariants.{Canonical}
 use Rattle.vipr_check.specs.declared.verdict.Refusal.{Refusal}
 use Rattle.vipr_check.specs.View.{refusal_of}
-use Rattle.vipr_tighten.specs.declared.proof.Unproved.{Unproved}
-use Rattle.vipr_tighten.specs.declared.proof.Unproved.TheVariants as unproved
+use Rattle.vipr_tighten.specs.declared.proof_reader.Unproved.{Unproved}
+use Rattle.vipr_tighten.specs.declared.proof_reader.Unproved.TheVariants as unproved
 use Rattle.vipr_tighten.specs.declared.outcome.Outcome.{Outcome}
 use Rattle.vipr_tighten.specs.declared.outcome.Outcome.TheVariants.{Tightened, Refused}
 use Rattle.vipr_tighten.specs.declared.outcome.TightenFault.{TightenFault}
@@ -48,7 +48,7 @@ pub record IsTight (P : Profile) (c : Certificate) (goal : Option ℕ) (t : Cert
   pub needed : (k : ℕ) → length t.problem.constraints ≤ k → k < count t
       → IsNeededFor t (new_goal c goal) k
   -- tightened once more it stays as it is
-  pub again : tightened t (new_goal c goal) ≡ t
+  pub again : tightened_certificate t (new_goal c goal) ≡ t
   pub peak_is : peak t ≤ peak c
 
 -- how many derivations were kept and removed, and the peaks before and after
@@ -73,22 +73,22 @@ abbrev pub ForProof : Profile → Form → KindOfText → (Certificate → Certi
     → Type 0
 ForProof P F k Q =
     (c : Certificate) × (goal : Option ℕ) × k.IsOf c × IsProofFor P c goal
-    × IsTight P c goal (tightened c goal)
-    × Q c (tightened c goal) (text_in F (tightened c goal))
+    × IsTight P c goal (tightened_certificate c goal)
+    × Q c (tightened_certificate c goal) (text_in F (tightened_certificate c goal))
 
 -- the text was handed to the sink, with this result
 abbrev pub TakesText : Option Output → Option Output → List ℕ → Result (Unit {0}) ℕ → Type 0
 TakesText old new text (Ok u) = IfSome old (λ o. Wrote o new text (Ok u))
 TakesText old new text (Err n) = (n < length text)
-    × IfSome old (λ o. Wrote o new text (Err (record { taken = n })))
+    × IfSome old (λ o. Wrote o new text (Err (record { accepted = n })))
 
 -- nothing was written
 abbrev pub TakesNothing : Option Output → Option Output → Type 0
 TakesNothing old new = IfSome old (λ o. new ≡ Some o)
 
--- old is the sink's output before, where it tells that, and new the one afterwards.
--- Tightened: the text of the tightened certificate was taken, in this form.
--- Write: its first n bytes were taken, and no more.
+-- old is the sink's output before, if that is known, and new the one afterwards.
+-- Tightened: the text of the tightened certificate was accepted, in this form.
+-- Write: its first n bytes were accepted, and no more.
 -- Else nothing was written.
 abbrev pub TightensText : Profile → Form → KindOfText → Option Output → Option Output
     → Result Outcome TightenFault → Type 0

@@ -2,7 +2,7 @@
 ghost use Rattle.std.specs.Prelude.{◌≡◌, ◌<◌, IfOk, IfSome};
 ghost use Rattle.vipr_spec.specs.Certificate.{count};
 ghost use Rattle.vipr_spec.specs.Steps.{RefersBack};
-ghost use Rattle.vipr_spec.specs.Tightened.{tightened};
+ghost use Rattle.vipr_spec.specs.Tightened.{tightened_certificate};
 
 use crate::needed::needed;
 use crate::renumber::renumber;
@@ -10,7 +10,7 @@ use std::alloc::{AllocError, Global};
 use vipr_cert::Certificate;
 
 /// The certificate with the derivations alone that a goal needs, in their order. They are
-/// renumbered without gaps, entries with multiplier 0 are taken out, and the last reference of each
+/// renumbered without gaps, entries with multiplier 0 are removed, and the last reference of each
 /// is the greatest index that refers to it, none at the goal. All else stays. Without a goal, and
 /// where the goal is a constraint of the problem, no derivation stays.
 ///
@@ -26,7 +26,7 @@ pub fn tighten_certificate(
 ) -> Result<Certificate, AllocError>
     requires back { RefersBack certificate }
     requires goal { IfSome goal (λ g. g < count certificate) }
-    ensures { IfOk result (λ t. t ≡ tightened certificate goal) }
+    ensures { IfOk result (λ t. t ≡ tightened_certificate certificate goal) }
 {
     let (problem, solutions, derivations) = certificate.into_parts();
     let first = problem.cons().len();

@@ -27,7 +27,7 @@ impl Display for Outcome {
     }
 }
 
-/// `fault read`, `fault memory`, or `fault write after` and how many bytes were taken.
+/// `fault read`, `fault memory`, or `fault write after` and how many bytes were accepted.
 impl Display for TightenFault {
     ghost output = { λ fault. Some (no_outcome_text fault) };
 

@@ -9,10 +9,10 @@ mod display;
 mod needed;
 mod outcome;
 mod peak;
-mod proof;
+mod proof_reader;
 mod renumber;
-mod whole;
+mod tightening;
 
 pub use certificate::tighten_certificate;
 pub use outcome::{Outcome, TightenFault};
-pub use whole::{tighten, tighten_as, tighten_in};
+pub use tightening::{tighten, tighten_as, tighten_in};

@@ -1,7 +1,7 @@
 //! What tightening answers: an [`Outcome`], or a [`TightenFault`] if there is none.
 //!
 //! A proof is tightened, with counts of what was kept and removed. A certificate that is no proof
-//! is refused as a check refuses it. A fault says how many bytes of the text were taken.
+//! is refused as a check refuses it. A fault says how many bytes of the text were accepted.
 
 use std::alloc::AllocError;
 use vipr_check::Refusal;
@@ -17,7 +17,7 @@ pub enum Outcome {
         removed: u32,
         /// How many derived constraints had to be held at most.
         peak_before: usize,
-        /// The same of the tightened certificate.
+        /// How many of the tightened certificate's derived constraints have to be held at most.
         peak_after: usize,
     },
     /// It is none. Nothing was written.
@@ -29,9 +29,9 @@ pub enum Outcome {
 pub enum TightenFault {
     /// A read failed. Nothing was written.
     Read,
-    /// A growth was refused. Nothing was written, and `taken` is 0.
+    /// A growth was refused. Nothing was written, and the count is 0.
     Memory { taken: u64 },
-    /// A write failed or took nothing, after exactly the first `taken` bytes were taken.
+    /// A write failed or accepted nothing, after exactly so many bytes were accepted.
     Write { taken: u64 },
 }
 

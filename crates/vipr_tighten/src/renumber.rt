@@ -4,7 +4,7 @@ ghost use Rattle.std.specs.Prelude.{length};
 ghost use Rattle.std.specs.List.{list_any};
 ghost use Rattle.vipr_spec.specs.Certificate.{NamesEarlier};
 ghost use Rattle.vipr_spec.specs.Reading.{is_nonzero, most_count};
-ghost use Rattle.vipr_spec.specs.Tightened.{refers_to, renumbered_entries, renumbered};
+ghost use Rattle.vipr_spec.specs.Tightened.{refers_to, renumbered_entries, renumbered_reason};
 ghost use Rattle.vipr_spec.specs.Tightened.{with_new_indices, kept_derivations, referred_by};
 ghost use Rattle.vipr_cert.specs.Earlier.{reason_in, NameEarlierFrom};
 ghost use Rattle.vipr_cert.specs.Items.{reason_of, derivation_of};
@@ -55,9 +55,9 @@ fn take_over(derivations: &mut [Derivation], kept: usize, place: usize, first: u
 {
     derivations.swap(kept, place);
     let (front, back) = derivations.split_at_mut(kept);
-    let taken = &mut back[0];
-    renumber_references(taken, first, table);
-    set_last(front, first, &taken.reason, first + kept as u32);
+    let moved_item = &mut back[0];
+    renumber_references(moved_item, first, table);
+    set_last(front, first, &moved_item.reason, first + kept as u32);
 }
 
 // The new index of a constraint. The table has those of the derivations.
@@ -86,7 +86,8 @@ fn renumber_entries(entries: &mut Vec<(u32, Frac)>, first: u32, table: &[u32])
 // Gives a reason the new indices.
 fn renumber_reason(reason: &mut Reason, first: u32, table: &[u32])
     requires { NamesEarlier (first + length table.now) (Some (reason_of reason.old)) }
-    ensures { reason_of reason.new ≡ renumbered (index_by first table.now) (reason_of reason.old) }
+    ensures { reason_of reason.new
+        ≡ renumbered_reason (index_by first table.now) (reason_of reason.old) }
 {
     match reason {
         Reason::Asm | Reason::Sol => {}

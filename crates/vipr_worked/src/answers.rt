@@ -11,7 +11,7 @@ ghost use Rattle.vipr_spec.specs.Steps.{step_cause, step_tests};
 ghost use Rattle.vipr_spec.specs.Tests.{finite_primal, meets_dual, name_at, of_step};
 ghost use Rattle.vipr_spec.specs.Tests.{solution_cause, spelled, whole_at};
 ghost use Rattle.vipr_spec.specs.Verdict.{at_derivation, found_in, items_read, last_tests};
-ghost use Rattle.vipr_spec.specs.Verdict.{refuses, told_by};
+ghost use Rattle.vipr_spec.specs.Verdict.{refuses, answer_of_test};
 
 /// The tests of an item.
 pub fn tests()
@@ -23,8 +23,8 @@ pub fn tests()
 {}
 
 /// What is answered.
-pub fn told()
-    ensures told_by_is { told_by (of_step 6 (live 4))
+pub fn answers_of_tests()
+    ensures answer_of_test_is { answer_of_test (of_step 6 (live 4))
         ≡ refuses (record { cause = 32; place = at_derivation 6 }) }
     ensures last_tests_is { (last_tests (Ok tt) ≡ meets_dual ∷ []) × (last_tests (Err unread)
         ≡ spelled unread ∷ []) }

@@ -3,8 +3,10 @@
 
 ghost use Rattle.std.specs.Prelude.{None, Some, [], false, true, ◌≡◌};
 ghost use Rattle.vipr_spec.specs.Certificate.{NamesEarlier, RefersTo, asm, constraint_at, count};
-ghost use Rattle.vipr_spec.specs.Certificate.{held, is_assumption, is_live, known_at, last_at};
-ghost use Rattle.vipr_spec.specs.Certificate.{lasts_to, lin, peak, reason_at, sol, unknown, uns};
+ghost use Rattle.vipr_spec.specs.Certificate.{count_held, is_assumption, is_live, known_at};
+ghost use Rattle.vipr_spec.specs.Certificate.{last_at};
+ghost use Rattle.vipr_spec.specs.Certificate.{lasts_to, lin, peak, reason_at, sol, no_constraint};
+ghost use Rattle.vipr_spec.specs.Certificate.{uns};
 ghost use Rattle.vipr_spec.specs.Constraint.{at_least};
 ghost use Rattle.vipr_spec.specs.Examples.{both, dropped_example, example};
 ghost use Rattle.vipr_spec.specs.Steps.{before};
@@ -17,9 +19,9 @@ pub fn by_index()
         ≡ Some (lin both)) }
     ensures last_at_is { (last_at example 2 ≡ None) × (last_at dropped_example 2 ≡ Some 2) }
     ensures known_at_is { (known_at example 2).reason ≡ Some (lin both) }
-    ensures unknown_is { known_at example 3 ≡ unknown }
+    ensures no_constraint_is { known_at example 3 ≡ no_constraint }
     ensures before_is { (before example 2).derivations ≡ [] }
-    ensures held_is { held example 2 ≡ 1 }
+    ensures count_held_is { count_held example 2 ≡ 1 }
     ensures peak_is { peak example ≡ 1 }
 {}
 

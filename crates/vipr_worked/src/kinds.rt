@@ -6,7 +6,7 @@ ghost use Rattle.vipr_spec.specs.Certificate.{maximum};
 ghost use Rattle.vipr_spec.specs.Constraint.{at_least};
 ghost use Rattle.vipr_spec.specs.Fraction.{over, zero_ℚ};
 ghost use Rattle.vipr_spec.specs.Number.{too_large, zero_denominator};
-ghost use Rattle.vipr_spec.specs.Reading.{at_most_or, below, bound_of, by_lin, caused, count_of};
+ghost use Rattle.vipr_spec.specs.Reading.{at_most_or, below, bound_of, by_lin, or_cause, count_of};
 ghost use Rattle.vipr_spec.specs.Reading.{derivation_count_of, has_range_of, is_nonzero, last_of};
 ghost use Rattle.vipr_spec.specs.Reading.{name_of, new_variable_of, number_cause, number_of};
 ghost use Rattle.vipr_spec.specs.Reading.{reference_of, rule_of, some_of, spelled_direction};
@@ -38,7 +38,7 @@ pub fn meant()
 /// Tokens that choose.
 pub fn choices()
     ensures number_cause_is { number_cause too_large ≡ 5 }
-    ensures caused_is { caused (Err zero_denominator) ≡ Err 6 }
+    ensures or_cause_is { or_cause (Err zero_denominator) ≡ Err 6 }
     ensures number_of_is { (number_of (codes "1/2") ≡ Ok (over (pos 1) 2))
         × (number_of (codes "1.5") ≡ Err 4) }
     ensures bound_of_is { (bound_of (codes "-inf") (codes "-inf") ≡ Ok None)

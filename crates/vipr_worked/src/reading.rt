@@ -14,7 +14,7 @@ ghost use Rattle.vipr_spec.specs.Reading.{derivation_read, derivations_read, end
 ghost use Rattle.vipr_spec.specs.Reading.{entries_read, entry_read, first_token, integers_read};
 ghost use Rattle.vipr_spec.specs.Reading.{keyword_read, names_read, objective_read, pair_read};
 ghost use Rattle.vipr_spec.specs.Reading.{pairs_read, problem_read, range_read, reason_read};
-ghost use Rattle.vipr_spec.specs.Reading.{refused, row_read, solution_read, taken, vector_read};
+ghost use Rattle.vipr_spec.specs.Reading.{refused, row_read, solution_read, token_of, vector_read};
 ghost use Rattle.vipr_spec.specs.Reading.{version_read};
 
 /// The sections of a problem.
@@ -23,7 +23,7 @@ pub fn heads()
         ≡ Err (refused 1 9) }
     ensures keyword_read_is { keyword_read (codes "DER") (whole_text (codes "SOL"))
         ≡ Err (refused 2 0) }
-    ensures taken_is { taken count_of (whole_text (codes "x")) ≡ Err (refused 7 0) }
+    ensures token_of_is { token_of count_of (whole_text (codes "x")) ≡ Err (refused 7 0) }
     ensures version_read_is { version_read (whole_text (codes "VER 1.1")) ≡ Err (refused 3 4) }
     ensures names_read_is { names_read (whole_text (codes "VAR 2 x")) ≡ Err (refused 1 7) }
     ensures integers_read_is { integers_read 1 (whole_text (codes "INT 2 0 0")) ≡ Ok (

@@ -1,5 +1,5 @@
 -- A text with marks that grows
-use Rattle.std.proofs.Common.{◌≡◌, ℕ, ◌+◌, ◌-◌, ◌≤◌, List, [], ◌∷◌, ◌++◌, length, map, sum, Result, Ok, Err, OnOk, refl, sym, ap, ◌∙◌, append_assoc, length-append, arith}
+use Rattle.std.proofs.Common.{◌≡◌, ℕ, ◌+◌, ◌-◌, List, [], ◌∷◌, ◌++◌, length, map, sum, Result, Ok, Err, OnOk, refl, sym, ap, ◌∙◌, append_assoc, length-append, arith}
 use Rattle.std.specs.Prelude.{codes}
 use Rattle.std.proofs.lemmas.List.{append-nil}
 use Rattle.std.proofs.lemmas.List.Folds.{flat_map-map}
@@ -10,10 +10,10 @@ use Rattle.vipr_linear.specs.Constraint.{constraint_of}
 use Rattle.vipr_linear.specs.declared.constraint.Constraint.{Constraint}
 use Rattle.vipr_cert.specs.Items.{named_of}
 use Rattle.vipr_cert.specs.declared.items.Named.{Named}
-use Rattle.vipr_write.specs.Canonical.{direction_word, vector_words, variables_lines, claim_words, lines_text, reason_words, last_word, spaced, line_text}
+use Rattle.vipr_write.specs.Canonical.{direction_word, vector_words, variables_lines, claim_words, lines_text, reason_words, last_word, words_after_spaces, line_text}
 use Rattle.vipr_write.specs.Forms.{given_words_in, problem_lines_in, derivation_words_in, constraint_words_in}
 use Rattle.vipr_write.specs.Lines.{words_text, constraints_heading}
-use Rattle.vipr_write.specs.Folded.{IsFolded, Extends, Begun, begun, with_more_bytes, expanded, full, opening, constraints_text, derivation_end}
+use Rattle.vipr_write.specs.Folded.{IsFolded, Extends, Begun, begun, with_more_bytes, full, opening, constraints_text, derivation_end}
 use Rattle.vipr_write.specs.declared.folded.Folded.{Folded}
 use Rattle.vipr_write.specs.declared.form.Form.{Form}
 use Rattle.vipr_write.proofs.Expanding.{behind, marked_here}
@@ -74,7 +74,7 @@ tail_parts : (start mid word : List ℕ) → ((((start ++ codes " {") ++ mid) ++
 tail_parts start mid word = simp append_assoc
 
 pub derivation_is : (form : Form) (objective : Row) (d : Derivation) → words_text (constraint_words_in form objective d.name d.stated) ++ derivation_end d ≡ line_text (derivation_words_in form objective d)
-derivation_is form objective d = sym (derivation_parts_in form objective [] d ∙ tail_parts (words_text (constraint_words_in form objective d.name d.stated)) (spaced (reason_words d.reason)) (last_word d.last))
+derivation_is form objective d = sym (derivation_parts_in form objective [] d ∙ tail_parts (words_text (constraint_words_in form objective d.name d.stated)) (words_after_spaces (reason_words d.reason)) (last_word d.last))
 
 pub five_parts : (s a b c d : List ℕ) → (((s ++ a) ++ b) ++ c) ++ d ≡ s ++ (a ++ (b ++ (c ++ d)))
 five_parts s a b c d = simp append_assoc

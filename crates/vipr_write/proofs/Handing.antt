@@ -12,23 +12,23 @@ use Rattle.vipr_write.specs.Hands.{Start, start_of, counted, IsEnd, Flows, Stops
 use Rattle.vipr_write.specs.Carried.{Puts}
 use Rattle.vipr_write.specs.declared.pending.Pending.{Pending}
 
-output : (taken taken' : List ℕ) (room room' : Option ℕ) → taken ≡ taken' → room ≡ room' → (let o : Output = record { taken = taken; room = room } in o) ≡ (let o : Output = record { taken = taken'; room = room' } in o)
-output taken taken' room room' t r = λ i. (let o : Output = record { taken = t i; room = r i } in o)
+output : (accepted taken' : List ℕ) (room room' : Option ℕ) → accepted ≡ taken' → room ≡ room' → (let o : Output = record { accepted = accepted; room = room } in o) ≡ (let o : Output = record { accepted = taken'; room = room' } in o)
+output accepted taken' room room' t r = λ i. (let o : Output = record { accepted = t i; room = r i } in o)
 
 room_after : (a b c : ℕ) (room : Option ℕ) → a + b ≡ c → option_map (λ r. r - b) (option_map (λ r. r - a) room) ≡ option_map (λ r. r - c) room
 room_after a b c None e = refl
 room_after a b c (Some r) e = ap Some (omega (arith, e))
 
 all_behind : (front bytes : List ℕ) (o : Output) → with_all bytes (with_all front o) ≡ with_all (front ++ bytes) o
-all_behind front bytes o = output _ _ _ _ (append_assoc o.taken front bytes) (room_after (length front) (length bytes) (length (front ++ bytes)) o.room (sym (length-append front bytes)))
+all_behind front bytes o = output _ _ _ _ (append_assoc o.accepted front bytes) (room_after (length front) (length bytes) (length (front ++ bytes)) o.room (sym (length-append front bytes)))
 
 first_behind : (front bytes : List ℕ) (k : ℕ) (o : Output) → with_first k bytes (with_all front o) ≡ with_first (length front + k) (front ++ bytes) o
-first_behind front bytes k o = output _ _ _ _ (append_assoc o.taken front (take k bytes) ∙ ap (λ t. o.taken ++ t) (sym (take-append-add front bytes k))) (room_after (length front) k (length front + k) o.room refl)
+first_behind front bytes k o = output _ _ _ _ (append_assoc o.accepted front (take k bytes) ∙ ap (λ t. o.accepted ++ t) (sym (take-append-add front bytes k))) (room_after (length front) k (length front + k) o.room refl)
 
 -- the answer with so many bytes before
 abbrev pub behind : ℕ → Result (Unit {0}) WriteFailed → Result (Unit {0}) WriteFailed
 behind n (Ok u) = Ok u
-behind n (Err e) = Err (record { taken = n + e.taken })
+behind n (Err e) = Err (record { accepted = n + e.accepted })
 
 room_whole : (a b c : ℕ) (room : Option ℕ) → a + b ≡ c → IfSome room (λ r. a ≤ r) → IfSome (option_map (λ r. r - a) room) (λ r. b ≤ r) → IfSome room (λ r. c ≤ r)
 room_whole a b c None e first second = tt
@@ -40,7 +40,7 @@ room_met a b (Some r) first second = omega (arith, first, second)
 
 wrote_more : (o : Output) (new : Option Output) (front bytes : List ℕ) (r : Result (Unit {0}) WriteFailed) → IfSome o.room (λ room. length front ≤ room) → Wrote (with_all front o) new bytes r → Wrote o new (front ++ bytes) (behind (length front) r)
 wrote_more o new front bytes (Ok u) first w = (room_whole (length front) (length bytes) (length (front ++ bytes)) o.room (sym (length-append front bytes)) first w.0, w.1 ∙ ap Some (all_behind front bytes o))
-wrote_more o new front bytes (Err e) first w = (omega (arith, length-append front bytes, w.0), room_met (length front) e.taken o.room first w.1, w.2 ∙ ap Some (first_behind front bytes e.taken o))
+wrote_more o new front bytes (Err e) first w = (omega (arith, length-append front bytes, w.0), room_met (length front) e.accepted o.room first w.1, w.2 ∙ ap Some (first_behind front bytes e.accepted o))
 
 output_more : (start now new : Option Output) (front bytes : List ℕ) (r : Result (Unit {0}) WriteFailed) → IfSome start (λ o. Wrote o now front (Ok tt)) → IfSome now (λ o. Wrote o new bytes r) → IfSome start (λ o. Wrote o new (front ++ bytes) (behind (length front) r))
 output_more None now new front bytes r first second = tt
@@ -51,7 +51,7 @@ failures_more None now new n r first second = tt
 failures_more (Some k) now new n (Ok u) first second = subst (λ s. IfSome s (λ j. new ≡ Some j)) first second
 failures_more (Some k) now new n (Err e) first second = subst (λ s. IfSome s (λ j. new ≡ Some (suc j))) first second
 
-part_more : (front bytes : List ℕ) (r : Result (Unit {0}) WriteFailed) → IfErr r (λ e. e.taken < length bytes) → IfErr (behind (length front) r) (λ e. e.taken < length (front ++ bytes))
+part_more : (front bytes : List ℕ) (r : Result (Unit {0}) WriteFailed) → IfErr r (λ e. e.accepted < length bytes) → IfErr (behind (length front) r) (λ e. e.accepted < length (front ++ bytes))
 part_more front bytes (Ok u) p = tt
 part_more front bytes (Err e) p = omega (arith, length-append front bytes, p)
 
@@ -63,41 +63,41 @@ end_more start now new front bytes r first second = record {
 }
 
 -- what follows a failed write changes nothing
-cut_output : (start now : Option Output) (text more : List ℕ) (n : ℕ) → n < length text → IfSome start (λ o. Wrote o now text (Err (record { taken = n }))) → IfSome start (λ o. Wrote o now (text ++ more) (Err (record { taken = n })))
+cut_output : (start now : Option Output) (text more : List ℕ) (n : ℕ) → n < length text → IfSome start (λ o. Wrote o now text (Err (record { accepted = n }))) → IfSome start (λ o. Wrote o now (text ++ more) (Err (record { accepted = n })))
 cut_output None now text more n l w = tt
-cut_output (Some o) now text more n l w = (omega (arith, length-append text more, l), w.1, w.2 ∙ ap Some (output _ _ _ _ (ap (λ t. o.taken ++ t) (sym (take-append-le n text more (omega (arith, l))))) refl))
+cut_output (Some o) now text more n l w = (omega (arith, length-append text more, l), w.1, w.2 ∙ ap Some (output _ _ _ _ (ap (λ t. o.accepted ++ t) (sym (take-append-le n text more (omega (arith, l))))) refl))
 
-end_cut : (start now : Start) (text more : List ℕ) (n : ℕ) → IsEnd start now text (Err (record { taken = n })) → IsEnd start now (text ++ more) (Err (record { taken = n }))
+end_cut : (start now : Start) (text more : List ℕ) (n : ℕ) → IsEnd start now text (Err (record { accepted = n })) → IsEnd start now (text ++ more) (Err (record { accepted = n }))
 end_cut start now text more n w = record {
   output = cut_output start.output now.output text more n w.part w.output;
   part = omega (arith, length-append text more, w.part);
   failures = w.failures;
 }
 
-pub stops_more : (start now : Start) (taken : ℕ) (text more : List ℕ) → Stops start now taken text → Stops start now taken (text ++ more)
-stops_more start now taken text more s = record { n = s.n; count = s.count; writes = end_cut start now text more s.n s.writes }
+pub stops_more : (start now : Start) (accepted : ℕ) (text more : List ℕ) → Stops start now accepted text → Stops start now accepted (text ++ more)
+stops_more start now accepted text more s = record { n = s.n; count = s.count; writes = end_cut start now text more s.n s.writes }
 
 -- ---- what is pending
-pub carries_more : (failed : Bool) (start now : Start) (taken : ℕ) (pending text more : List ℕ) → Carries_by failed start now taken pending text → Carries_by failed start now taken (pending ++ more) (text ++ more)
-carries_more false start now taken pending text more c = record { front = c.front; parts = sym (append_assoc c.front pending more) ∙ ap (λ t. t ++ more) c.parts; count = c.count; writes = c.writes }
-carries_more true start now taken pending text more c = stops_more start now taken text more c
+pub carries_more : (failed : Bool) (start now : Start) (accepted : ℕ) (pending text more : List ℕ) → Carries_by failed start now accepted pending text → Carries_by failed start now accepted (pending ++ more) (text ++ more)
+carries_more false start now accepted pending text more c = record { front = c.front; parts = sym (append_assoc c.front pending more) ∙ ap (λ t. t ++ more) c.parts; count = c.count; writes = c.writes }
+carries_more true start now accepted pending text more c = stops_more start now accepted text more c
 
-counts : (a b c taken : ℕ) → a + b ≡ c → taken ≡ counted a → counted (taken + b) ≡ counted c
-counts a b c taken e t = omega (arith, e, t)
+counts : (a b c accepted : ℕ) → a + b ≡ c → accepted ≡ counted a → counted (accepted + b) ≡ counted c
+counts a b c accepted e t = omega (arith, e, t)
 
-pub flows_on : (start now new : Start) (taken : ℕ) (pending text : List ℕ) → Flows start now taken pending text → IsEnd now new pending (Ok tt) → Flows start new (counted (taken + length pending)) [] (text ++ [])
-flows_on start now new taken pending text c w = record {
+pub flows_on : (start now new : Start) (accepted : ℕ) (pending text : List ℕ) → Flows start now accepted pending text → IsEnd now new pending (Ok tt) → Flows start new (counted (accepted + length pending)) [] (text ++ [])
+flows_on start now new accepted pending text c w = record {
   front = c.front ++ pending;
   parts = ap (λ t. t ++ []) c.parts;
-  count = counts (length c.front) (length pending) (length (c.front ++ pending)) taken (sym (length-append c.front pending)) c.count;
+  count = counts (length c.front) (length pending) (length (c.front ++ pending)) accepted (sym (length-append c.front pending)) c.count;
   writes = end_more start now new c.front pending (Ok tt) c.writes w;
 }
 
-pub flow_stops : (start now new : Start) (taken : ℕ) (pending text : List ℕ) (e : WriteFailed) → Flows start now taken pending text → IsEnd now new pending (Err e) → Stops start new (counted (taken + e.taken)) (text ++ [])
-flow_stops start now new taken pending text e c w = stops_more start new _ text [] (record {
-  n = length c.front + e.taken;
-  count = counts (length c.front) e.taken (length c.front + e.taken) taken refl c.count;
-  writes = subst (λ t. IsEnd start new t (Err (record { taken = length c.front + e.taken }))) c.parts (end_more start now new c.front pending (Err e) c.writes w);
+pub flow_stops : (start now new : Start) (accepted : ℕ) (pending text : List ℕ) (e : WriteFailed) → Flows start now accepted pending text → IsEnd now new pending (Err e) → Stops start new (counted (accepted + e.accepted)) (text ++ [])
+flow_stops start now new accepted pending text e c w = stops_more start new _ text [] (record {
+  n = length c.front + e.accepted;
+  count = counts (length c.front) e.accepted (length c.front + e.accepted) accepted refl c.count;
+  writes = subst (λ t. IsEnd start new t (Err (record { accepted = length c.front + e.accepted }))) c.parts (end_more start now new c.front pending (Err e) c.writes w);
 })
 
 pub hands_all : {S : Type 0} (f : S → Option Output) (g : S → Option ℕ) (s t : S) (before total : ℕ) (bytes : List ℕ) → total ≡ counted (before + length bytes) → IfSome (f s) (λ o. Wrote o (f t) bytes (Ok tt)) → IfSome (g s) (λ n. EndsAtFailure n (g t) (let r : Result (Unit {0}) WriteFailed = Ok tt in r)) → Hands f g s t before bytes (total, false)
@@ -105,51 +105,51 @@ hands_all f g s t before total bytes e wrote ended = record {
   law = λ start text c. subst (λ n. Flows start (start_of f g t) n [] (text ++ [])) (sym e) (flows_on start (start_of f g s) (start_of f g t) before bytes text c (record { output = wrote; part = tt; failures = ended }));
 }
 
-pub hands_front : {S : Type 0} (f : S → Option Output) (g : S → Option ℕ) (s t : S) (before total : ℕ) (bytes : List ℕ) (failed : WriteFailed) → total ≡ counted (before + failed.taken) → IfSome (f s) (λ o. Wrote o (f t) bytes (Err failed)) → failed.taken < length bytes → IfSome (g s) (λ n. EndsAtFailure n (g t) (let r : Result (Unit {0}) WriteFailed = Err failed in r)) → Hands f g s t before bytes (total, true)
+pub hands_front : {S : Type 0} (f : S → Option Output) (g : S → Option ℕ) (s t : S) (before total : ℕ) (bytes : List ℕ) (failed : WriteFailed) → total ≡ counted (before + failed.accepted) → IfSome (f s) (λ o. Wrote o (f t) bytes (Err failed)) → failed.accepted < length bytes → IfSome (g s) (λ n. EndsAtFailure n (g t) (let r : Result (Unit {0}) WriteFailed = Err failed in r)) → Hands f g s t before bytes (total, true)
 hands_front f g s t before total bytes failed e wrote part ended = record {
   law = λ start text c. subst (λ n. Stops start (start_of f g t) n (text ++ [])) (sym e) (flow_stops start (start_of f g s) (start_of f g t) before bytes text failed c (record { output = wrote; part = part; failures = ended }));
 }
 
 -- ---- what is pending is handed over, grows, or is forgotten
-pub puts_handed : {S : Type 0} {f : S → Option Output} {g : S → Option ℕ} {s t : S} (p q : Pending) (bytes : List ℕ) → p.failed ≡ false → bytes ≡ p.bytes.items → Hands f g s t p.taken bytes (q.taken, q.failed) → q.bytes.items ≡ [] → Puts f g s t p q []
+pub puts_handed : {S : Type 0} {f : S → Option Output} {g : S → Option ℕ} {s t : S} (p q : Pending) (bytes : List ℕ) → p.failed ≡ false → bytes ≡ p.bytes.items → Hands f g s t p.accepted bytes (q.accepted, q.failed) → q.bytes.items ≡ [] → Puts f g s t p q []
 puts_handed {S} {f} {g} {s} {t} p q bytes flows same hands none = record {
   law = λ start text c.
-      let now = subst (λ b. Carries_by b start (start_of f g s) p.taken p.bytes.items text) flows c in
-      let after = hands.law start text (subst (λ b. Flows start (start_of f g s) p.taken b text) (sym same) now) in
-      subst (λ b. Carries_by q.failed start (start_of f g t) q.taken b (text ++ [])) (sym none) after;
+      let now = subst (λ b. Carries_by b start (start_of f g s) p.accepted p.bytes.items text) flows c in
+      let after = hands.law start text (subst (λ b. Flows start (start_of f g s) p.accepted b text) (sym same) now) in
+      subst (λ b. Carries_by q.failed start (start_of f g t) q.accepted b (text ++ [])) (sym none) after;
 }
 
-pub puts_bytes : {S : Type 0} {f : S → Option Output} {g : S → Option ℕ} {s : S} (p q : Pending) (more : List ℕ) → q.failed ≡ p.failed → q.taken ≡ p.taken → q.bytes.items ≡ p.bytes.items ++ more → Puts f g s s p q more
-puts_bytes {S} {f} {g} {s} p q more failed taken bytes = record {
-  law = λ start text c. subst (λ b. Carries_by b start (start_of f g s) q.taken q.bytes.items (text ++ more)) (sym failed)
-      (subst (λ n. Carries_by p.failed start (start_of f g s) n q.bytes.items (text ++ more)) (sym taken)
-      (subst (λ b. Carries_by p.failed start (start_of f g s) p.taken b (text ++ more)) (sym bytes)
-      (carries_more p.failed start (start_of f g s) p.taken p.bytes.items text more c)));
+pub puts_bytes : {S : Type 0} {f : S → Option Output} {g : S → Option ℕ} {s : S} (p q : Pending) (more : List ℕ) → q.failed ≡ p.failed → q.accepted ≡ p.accepted → q.bytes.items ≡ p.bytes.items ++ more → Puts f g s s p q more
+puts_bytes {S} {f} {g} {s} p q more failed accepted bytes = record {
+  law = λ start text c. subst (λ b. Carries_by b start (start_of f g s) q.accepted q.bytes.items (text ++ more)) (sym failed)
+      (subst (λ n. Carries_by p.failed start (start_of f g s) n q.bytes.items (text ++ more)) (sym accepted)
+      (subst (λ b. Carries_by p.failed start (start_of f g s) p.accepted b (text ++ more)) (sym bytes)
+      (carries_more p.failed start (start_of f g s) p.accepted p.bytes.items text more c)));
 }
 
-pub puts_none : {S : Type 0} {f : S → Option Output} {g : S → Option ℕ} {s : S} (p q : Pending) → p.failed ≡ true → q.failed ≡ p.failed → q.taken ≡ p.taken → Puts f g s s p q []
-puts_none {S} {f} {g} {s} p q stopped failed taken = record {
+pub puts_none : {S : Type 0} {f : S → Option Output} {g : S → Option ℕ} {s : S} (p q : Pending) → p.failed ≡ true → q.failed ≡ p.failed → q.accepted ≡ p.accepted → Puts f g s s p q []
+puts_none {S} {f} {g} {s} p q stopped failed accepted = record {
   law = λ start text c.
-      let now = subst (λ b. Carries_by b start (start_of f g s) p.taken p.bytes.items text) stopped c in
-      subst (λ b. Carries_by b start (start_of f g s) q.taken q.bytes.items (text ++ [])) (sym (failed ∙ stopped))
-      (subst (λ n. Stops start (start_of f g s) n (text ++ [])) (sym taken) (stops_more start (start_of f g s) p.taken text [] now));
+      let now = subst (λ b. Carries_by b start (start_of f g s) p.accepted p.bytes.items text) stopped c in
+      subst (λ b. Carries_by b start (start_of f g s) q.accepted q.bytes.items (text ++ [])) (sym (failed ∙ stopped))
+      (subst (λ n. Stops start (start_of f g s) n (text ++ [])) (sym accepted) (stops_more start (start_of f g s) p.accepted text [] now));
 }
 
 -- ---- the whole text
-pub whole_end : (start now : Start) (taken : ℕ) (text : List ℕ) → Flows start now taken [] (text ++ []) → IsEnd start now text (Ok tt)
-whole_end start now taken text c = subst (λ t. IsEnd start now t (Ok tt)) (sym (append-nil c.front) ∙ c.parts ∙ append-nil text) c.writes
+pub whole_end : (start now : Start) (accepted : ℕ) (text : List ℕ) → Flows start now accepted [] (text ++ []) → IsEnd start now text (Ok tt)
+whole_end start now accepted text c = subst (λ t. IsEnd start now t (Ok tt)) (sym (append-nil c.front) ∙ c.parts ∙ append-nil text) c.writes
 
-pub cut_end : (start now : Start) (taken : ℕ) (text : List ℕ) → length text < 2 ^ 64 → Stops start now taken (text ++ []) → IsEnd start now text (Err (record { taken = taken }))
-cut_end start now taken text l s =
-    let w : IsEnd start now text (Err (record { taken = s.n })) = subst (λ t. IsEnd start now t (Err (record { taken = s.n }))) (append-nil text) s.writes in
+pub cut_end : (start now : Start) (accepted : ℕ) (text : List ℕ) → length text < 2 ^ 64 → Stops start now accepted (text ++ []) → IsEnd start now text (Err (record { accepted = accepted }))
+cut_end start now accepted text l s =
+    let w : IsEnd start now text (Err (record { accepted = s.n })) = subst (λ t. IsEnd start now t (Err (record { accepted = s.n }))) (append-nil text) s.writes in
     let within = w.part in
-    let e : taken ≡ s.n = omega (arith, l, s.count, within) in
-    subst (λ n. IsEnd start now text (Err (record { taken = n }))) (sym e) w
+    let e : accepted ≡ s.n = omega (arith, l, s.count, within) in
+    subst (λ n. IsEnd start now text (Err (record { accepted = n }))) (sym e) w
 
 -- ---- one piece behind another
 pub puts_then : {S : Type 0} {f : S → Option Output} {g : S → Option ℕ} {s t u : S} {p q r : Pending} {a b : List ℕ} → Puts f g s t p q a → Puts f g t u q r b → Puts f g s u p r (a ++ b)
 puts_then {S} {f} {g} {s} {t} {u} {p} {q} {r} {a} {b} first second = record {
-  law = λ start text c. subst (λ x. Carries_by r.failed start (start_of f g u) r.taken r.bytes.items x) (append_assoc text a b) (second.law start (text ++ a) (first.law start text c));
+  law = λ start text c. subst (λ x. Carries_by r.failed start (start_of f g u) r.accepted r.bytes.items x) (append_assoc text a b) (second.law start (text ++ a) (first.law start text c));
 }
 
 -- the same bytes
@@ -159,7 +159,7 @@ puts_same {S} {f} {g} {s} {t} {p} {q} {a} {b} e m = subst (λ x. Puts f g s t p 
 -- once a write has failed, nothing need be done
 pub puts_failed : {S : Type 0} (f : S → Option Output) (g : S → Option ℕ) (s : S) (p : Pending) (a : List ℕ) → p.failed ≡ true → Puts f g s s p p a
 puts_failed f g s p a e = record {
-  law = λ start text c. subst (λ b. Carries_by b start (start_of f g s) p.taken p.bytes.items (text ++ a)) (sym e) (stops_more start (start_of f g s) p.taken text a (subst (λ b. Carries_by b start (start_of f g s) p.taken p.bytes.items text) e c));
+  law = λ start text c. subst (λ b. Carries_by b start (start_of f g s) p.accepted p.bytes.items (text ++ a)) (sym e) (stops_more start (start_of f g s) p.accepted text a (subst (λ b. Carries_by b start (start_of f g s) p.accepted p.bytes.items text) e c));
 }
 
 -- a part for each item of a list

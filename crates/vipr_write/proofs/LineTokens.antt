@@ -7,7 +7,7 @@ use Rattle.std.proofs.Math.Seq.{take-append_seam, drop-append_seam, get_or-appen
 use Rattle.std.proofs.Math.ListN.{get_or-append}
 use Rattle.vipr_spec.specs.Tokens.{Token, is_white, tokens_from, tokens_after_front, text_tokens, Begins, IsWhite, IsRun, IsToken}
 use Rattle.vipr_spec.proofs.Laws.{token_whole, all_parts}
-use Rattle.vipr_write.specs.Canonical.{spaced, line_text, lines_text}
+use Rattle.vipr_write.specs.Canonical.{words_after_spaces, line_text, lines_text}
 
 abbrev pub bytes_of : List Token → List (List ℕ)
 bytes_of ts = map (λ t. t.bytes) ts
@@ -43,7 +43,7 @@ word_first w after ws solid begins h offset =
     ap bytes_of f ∙ ap (λ us. w ∷ us) (h (offset + length w))
 
 -- the rest of a line, and what follows it
-spaced_begin : (ws : List (List ℕ)) (text : List ℕ) → Begins IsWhite (spaced ws ++ 10 ∷ text)
+spaced_begin : (ws : List (List ℕ)) (text : List ℕ) → Begins IsWhite (words_after_spaces ws ++ 10 ∷ text)
 unfolding is_white
 spaced_begin [] text = refl
 spaced_begin (w ∷ ws) text = refl
@@ -56,21 +56,21 @@ is_line_feed : IsWhite 10
 unfolding is_white
 is_line_feed = refl
 
-words_behind : (ws : List (List ℕ)) (text : List ℕ) (us : List (List ℕ)) → All IsToken ws → HasTokens text us → HasTokens (spaced ws ++ 10 ∷ text) (ws ++ us)
+words_behind : (ws : List (List ℕ)) (text : List ℕ) (us : List (List ℕ)) → All IsToken ws → HasTokens text us → HasTokens (words_after_spaces ws ++ 10 ∷ text) (ws ++ us)
 words_behind [] text us tokens h = white_first 10 text us is_line_feed h
 words_behind (w ∷ ws) text us tokens h =
     let first : IsToken w = All-head IsToken w ws tokens in
     let rest = words_behind ws text us (All-tail IsToken w ws tokens) h in
-    let all = white_first 32 _ _ is_space (word_first w (spaced ws ++ 10 ∷ text) (ws ++ us) first.run (spaced_begin ws text) rest) in
-    subst (λ t. HasTokens (32 ∷ t) (w ∷ (ws ++ us))) (sym (append_assoc w (spaced ws) (10 ∷ text))) all
+    let all = white_first 32 _ _ is_space (word_first w (words_after_spaces ws ++ 10 ∷ text) (ws ++ us) first.run (spaced_begin ws text) rest) in
+    subst (λ t. HasTokens (32 ∷ t) (w ∷ (ws ++ us))) (sym (append_assoc w (words_after_spaces ws) (10 ∷ text))) all
 
 line_first : (ws : List (List ℕ)) (text : List ℕ) (us : List (List ℕ)) → All IsToken ws → HasTokens text us → HasTokens (line_text ws ++ text) (ws ++ us)
 line_first [] text us tokens h = white_first 10 text us is_line_feed h
 line_first (w ∷ ws) text us tokens h =
     let first : IsToken w = All-head IsToken w ws tokens in
     let rest = words_behind ws text us (All-tail IsToken w ws tokens) h in
-    let e : (w ++ (spaced ws ++ 10 ∷ [])) ++ text ≡ w ++ (spaced ws ++ 10 ∷ text) = simp append_assoc in
-    subst (λ t. HasTokens t (w ∷ (ws ++ us))) (sym e) (word_first w (spaced ws ++ 10 ∷ text) (ws ++ us) first.run (spaced_begin ws text) rest)
+    let e : (w ++ (words_after_spaces ws ++ 10 ∷ [])) ++ text ≡ w ++ (words_after_spaces ws ++ 10 ∷ text) = simp append_assoc in
+    subst (λ t. HasTokens t (w ∷ (ws ++ us))) (sym e) (word_first w (words_after_spaces ws ++ 10 ∷ text) (ws ++ us) first.run (spaced_begin ws text) rest)
 
 abbrev pub words_of : List (List (List ℕ)) → List (List ℕ)
 words_of ls = flat_map (λ l. l) ls

@@ -8,30 +8,30 @@ use Rattle.std.proofs.lemmas.Grind.{flat_map-append}
 use Rattle.vipr_spec.specs.Constraint.{Row}
 use Rattle.vipr_spec.specs.Certificate.{Problem, integer_variables, Derivation, Certificate}
 use Rattle.vipr_spec.specs.Number.{number_text}
-use Rattle.vipr_write.specs.Canonical.{sense_word, constraint_words, reason_words, last_word, derivation_words, direction_word, vector_words, given_words, claim_words, variables_lines, problem_lines, solutions_lines, spaced, heading, line_text, lines_text}
+use Rattle.vipr_write.specs.Canonical.{sense_word, constraint_words, reason_words, last_word, derivation_words, direction_word, vector_words, given_words, claim_words, variables_lines, problem_lines, solutions_lines, words_after_spaces, heading, line_text, lines_text}
 use Rattle.vipr_write.specs.Forms.{row_words, constraint_words_in, derivation_words_in, given_words_in, problem_lines_in, derivations_lines_in, certificate_lines_in}
 use Rattle.vipr_write.specs.Lines.{words_text, integers_lines, constraints_heading, constraints_lines, constraints_lines_in}
 use Rattle.vipr_write.specs.declared.form.Form.{Form}
 
-spaced-append : (ws us : List (List ℕ)) → spaced (ws ++ us) ≡ spaced ws ++ spaced us
-spaced-append ws us = flat_map-append (λ w. 32 ∷ w) ws us
+words_after_spaces-append : (ws us : List (List ℕ)) → words_after_spaces (ws ++ us) ≡ words_after_spaces ws ++ words_after_spaces us
+words_after_spaces-append ws us = flat_map-append (λ w. 32 ∷ w) ws us
 
 lines_text-append : (ls ms : List (List (List ℕ))) → lines_text (ls ++ ms) ≡ lines_text ls ++ lines_text ms
 lines_text-append ls ms = flat_map-append line_text ls ms
 
 line_parts : (start name front back last : List ℕ) (ws us : List (List ℕ)) →
-    start ++ line_text ((name ∷ ws) ++ front ∷ (us ++ back ∷ last ∷ [])) ≡ (((((start ++ words_text (name ∷ ws)) ++ 32 ∷ front) ++ spaced us) ++ 32 ∷ back) ++ 32 ∷ last) ++ 10 ∷ []
+    start ++ line_text ((name ∷ ws) ++ front ∷ (us ++ back ∷ last ∷ [])) ≡ (((((start ++ words_text (name ∷ ws)) ++ 32 ∷ front) ++ words_after_spaces us) ++ 32 ∷ back) ++ 32 ∷ last) ++ 10 ∷ []
 line_parts start name front back last ws us =
-    ap (λ t. start ++ (name ++ (t ++ 10 ∷ []))) (spaced-append ws (front ∷ (us ++ back ∷ last ∷ [])) ∙ ap (λ t. spaced ws ++ ((32 ∷ front) ++ t)) (spaced-append us (back ∷ last ∷ [])))
+    ap (λ t. start ++ (name ++ (t ++ 10 ∷ []))) (words_after_spaces-append ws (front ∷ (us ++ back ∷ last ∷ [])) ∙ ap (λ t. words_after_spaces ws ++ ((32 ∷ front) ++ t)) (words_after_spaces-append us (back ∷ last ∷ [])))
     ∙ simp (append_assoc, append-nil)
 
 pub derivation_parts : (start : List ℕ) (d : Derivation) →
-    start ++ line_text (derivation_words d) ≡ (((((start ++ words_text (constraint_words d.name d.stated)) ++ codes " {") ++ spaced (reason_words d.reason)) ++ codes " }") ++ 32 ∷ last_word d.last) ++ codes "\n"
+    start ++ line_text (derivation_words d) ≡ (((((start ++ words_text (constraint_words d.name d.stated)) ++ codes " {") ++ words_after_spaces (reason_words d.reason)) ++ codes " }") ++ 32 ∷ last_word d.last) ++ codes "\n"
 derivation_parts start d = line_parts start d.name (codes "{") (codes "}") (last_word d.last) (sense_word d.stated.sense ∷ number_text d.stated.bound ∷ vector_words d.stated.row) (reason_words d.reason)
 
 -- the same in a form
 pub derivation_parts_in : (form : Form) (objective : Row) (start : List ℕ) (d : Derivation) →
-    start ++ line_text (derivation_words_in form objective d) ≡ (((((start ++ words_text (constraint_words_in form objective d.name d.stated)) ++ codes " {") ++ spaced (reason_words d.reason)) ++ codes " }") ++ 32 ∷ last_word d.last) ++ codes "\n"
+    start ++ line_text (derivation_words_in form objective d) ≡ (((((start ++ words_text (constraint_words_in form objective d.name d.stated)) ++ codes " {") ++ words_after_spaces (reason_words d.reason)) ++ codes " }") ++ 32 ∷ last_word d.last) ++ codes "\n"
 derivation_parts_in form objective start d = line_parts start d.name (codes "{") (codes "}") (last_word d.last) (sense_word d.stated.sense ∷ number_text d.stated.bound ∷ row_words form objective d.stated.row) (reason_words d.reason)
 
 section_parts : (start : List ℕ) (front cons : List (List (List ℕ))) (direction vector con claim : List (List ℕ)) →

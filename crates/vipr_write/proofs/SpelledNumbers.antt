@@ -5,7 +5,7 @@ use Rattle.std.proofs.Math.Nat.{div-le_self, le_trans}
 use Rattle.vipr_spec.specs.Gcd.{gcd}
 use Rattle.vipr_spec.specs.Lowest.{abs_div}
 use Rattle.vipr_spec.specs.Fraction.{ℚ, over, most, IsBounded}
-use Rattle.vipr_spec.specs.Number.{signed, denominator, SpellsNumber}
+use Rattle.vipr_spec.specs.Number.{signed_integer, denominator, SpellsNumber}
 use Rattle.vipr_spec.specs.Grammar.{SpellsBound}
 
 -- reduction keeps the bound
@@ -14,7 +14,7 @@ unfolding over
 over_bounded p zero h a b = absurd (omega arith)
 over_bounded p (suc q) h a b = let g = gcd (nat_abs p) (suc q) in (rw (abs_div p g) (le_trans (div-le_self (nat_abs p) g) a), le_trans (div-le_self (suc q) g) b)
 
-signed_abs : (is_negative : Bool) (p : ℕ) → nat_abs (signed is_negative p) ≡ p
+signed_abs : (is_negative : Bool) (p : ℕ) → nat_abs (signed_integer is_negative p) ≡ p
 signed_abs true p = omega (arith, ints)
 signed_abs false p = refl
 

@@ -13,7 +13,7 @@ use Rattle.vipr_spec.specs.Constraint.{Row, Constraint}
 use Rattle.vipr_spec.specs.Certificate.{Name, Named, Claim, Derivation, Certificate, Problem, integer_variables}
 use Rattle.vipr_spec.specs.Shape.{CanWrite}
 use Rattle.vipr_spec.proofs.Laws.{all_parts}
-use Rattle.vipr_write.specs.Canonical.{pair_words, constraint_words, given_words, claim_words, solution_words, reason_words, derivation_words, last_word, direction_word, vector_words, heading, variables_lines, problem_lines, solutions_lines, derivations_lines, spaced, line_text, lines_text, certificate_lines}
+use Rattle.vipr_write.specs.Canonical.{pair_words, constraint_words, given_words, claim_words, solution_words, reason_words, derivation_words, last_word, direction_word, vector_words, heading, variables_lines, problem_lines, solutions_lines, derivations_lines, words_after_spaces, line_text, lines_text, certificate_lines}
 use Rattle.vipr_write.specs.Forms.{is_objective, row_words, constraint_words_in, given_words_in, derivation_words_in, problem_lines_in, derivations_lines_in, certificate_lines_in, text_in}
 use Rattle.vipr_write.specs.declared.form.Form.{Form}
 use Rattle.vipr_write.specs.declared.form.Form.TheVariants.{Canonical, Compact}
@@ -23,19 +23,19 @@ use Rattle.vipr_write.proofs.LineTokens.{words_of}
 use Rattle.vipr_write.proofs.WholeText.{tokens_all}
 
 -- ---- how long a text is
-spaced_short : (ws : List (List ℕ)) → All IsToken ws → length (spaced ws) ≤ 65536 * length ws
+spaced_short : (ws : List (List ℕ)) → All IsToken ws → length (words_after_spaces ws) ≤ 65536 * length ws
 spaced_short [] a = omega arith
 spaced_short (w ∷ ws) a =
     let first = (All-head IsToken w ws a).short in
     let rest = spaced_short ws (All-tail IsToken w ws a) in
-    omega (arith, length-append w (spaced ws), first, rest)
+    omega (arith, length-append w (words_after_spaces ws), first, rest)
 
 line_short : (ws : List (List ℕ)) → All IsToken ws → length (line_text ws) ≤ 65536 * suc (length ws)
 line_short [] a = omega arith
 line_short (w ∷ ws) a =
     let first = (All-head IsToken w ws a).short in
     let rest = spaced_short ws (All-tail IsToken w ws a) in
-    omega (arith, length-append w (spaced ws ++ 10 ∷ []), length-append (spaced ws) (10 ∷ []), first, rest)
+    omega (arith, length-append w (words_after_spaces ws ++ 10 ∷ []), length-append (words_after_spaces ws) (10 ∷ []), first, rest)
 
 lines_short : (ls : List (List (List ℕ))) → All IsToken (words_of ls) → length (lines_text ls) ≤ 65536 * weight ls
 lines_short [] a = omega arith

@@ -7,7 +7,7 @@ use Rattle.vipr_spec.specs.Grammar as grammar
 use Rattle.vipr_spec.specs.Grammar.{◌then◌, SpelledBy, Spells, SpellsOnly}
 use Rattle.vipr_spec.specs.Shape.{CanWrite}
 use Rattle.vipr_spec.proofs.Laws.{one_certificate}
-use Rattle.vipr_write.specs.Canonical.{solutions_lines, canonical_text}
+use Rattle.vipr_write.specs.Canonical.{solutions_lines}
 use Rattle.vipr_write.specs.Forms.{problem_lines_in, derivations_lines_in, certificate_lines_in, text_in}
 use Rattle.vipr_write.specs.Laws.{SpellsItself, CompactSpellsItself}
 use Rattle.vipr_write.specs.declared.form.Form.{Form}

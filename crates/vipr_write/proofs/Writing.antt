@@ -1,5 +1,5 @@
 -- A text with marks that is handed to a sink
-use Rattle.std.proofs.Common.{◌≡◌, ℕ, suc, ◌+◌, ◌*◌, ◌-◌, ◌<◌, ◌≤◌, List, [], ◌∷◌, ◌++◌, length, take, drop, sum, get_or, slice_range, Option, Result, Ok, Err, refl, sym, ap, subst, ◌∙◌, append_assoc, length-append, drop-cons, arith}
+use Rattle.std.proofs.Common.{◌≡◌, ℕ, suc, ◌+◌, ◌*◌, ◌-◌, ◌<◌, ◌≤◌, List, [], ◌∷◌, ◌++◌, length, take, drop, sum, get_or, slice_range, Option, Result, Ok, Err, sym, ap, subst, ◌∙◌, append_assoc, length-append, drop-cons, arith}
 use Rattle.std.proofs.lemmas.List.{append-nil, drop-drop, drop_all, take_all, length-drop}
 use Rattle.std.proofs.lemmas.List.Sums.{sum_by-cons}
 use Rattle.std.specs.Prelude.{slice_index_or}
@@ -21,11 +21,11 @@ pub record Writing (o p : Option Output) (n m : Option ℕ) (g : Gathered) (tail
   pub buffer : IsBuffer g
   pub sent : List ℕ
   pub parts : sent ++ (g.bytes.items ++ tail) ≡ whole
-  pub taken : Sent o p n m sent
+  pub accepted : Sent o p n m sent
   pub counted : g.handed ≡ length sent
 
 pub writing_none : (o : Option Output) (n : Option ℕ) (g : Gathered) (whole : List ℕ) → IsBuffer g → g.bytes.items ≡ [] → g.handed ≡ 0 → Writing o o n n g whole whole
-writing_none o n g whole buffer empty none = record { buffer = buffer; sent = []; parts = ap (λ t. t ++ whole) empty; taken = sent_none o n; counted = none }
+writing_none o n g whole buffer empty none = record { buffer = buffer; sent = []; parts = ap (λ t. t ++ whole) empty; accepted = sent_none o n; counted = none }
 
 -- there is room to count a piece more
 pub room_for : (o p : Option Output) (n m : Option ℕ) (g : Gathered) (piece tail whole : List ℕ) → Writing o p n m g (piece ++ tail) whole → length whole < 18446744073709551616 → g.handed + length g.bytes.items + length piece < 18446744073709551616
@@ -43,7 +43,7 @@ one_piece o p q n m k g h piece tail whole w put =
       buffer = put.buffer;
       sent = w.sent ++ put.sent;
       parts = append_assoc w.sent put.sent (h.bytes.items ++ tail) ∙ ap (λ t. w.sent ++ t) (sym (append_assoc put.sent h.bytes.items tail) ∙ ap (λ t. t ++ tail) (sym put.parts) ∙ append_assoc g.bytes.items piece tail) ∙ w.parts;
-      taken = sent_more o p q n m k w.sent put.sent w.taken put.taken;
+      accepted = sent_more o p q n m k w.sent put.sent w.accepted put.accepted;
       counted = let a = w.counted in let b = put.counted in let l = length-append w.sent put.sent in omega arith;
     }
 
@@ -52,17 +52,17 @@ pub piece_stopped : (o p q : Option Output) (n m k : Option ℕ) (g h : Gathered
 piece_stopped o p q n m k g h handed piece tail whole e w put =
     let i = put.0 in
     let all : (w.sent ++ (g.bytes.items ++ piece)) ++ tail ≡ whole = append_assoc w.sent (g.bytes.items ++ piece) tail ∙ ap (λ t. w.sent ++ t) (append_assoc g.bytes.items piece tail) ∙ w.parts in
-    let stopped = stopped_within o q n k (w.sent ++ (g.bytes.items ++ piece)) tail (length w.sent + i) (stopped_after o p q n m k w.sent (g.bytes.items ++ piece) i w.taken put.2) in
+    let stopped = stopped_within o q n k (w.sent ++ (g.bytes.items ++ piece)) tail (length w.sent + i) (stopped_after o p q n m k w.sent (g.bytes.items ++ piece) i w.accepted put.2) in
     (length w.sent + i, (let a = w.counted in let b = put.1 in omega arith), subst (λ t. Stopped o q n k t (length w.sent + i)) all stopped)
 
 -- the rest of the buffer was handed on
 pub at_end : (o p q : Option Output) (n m k : Option ℕ) (g : Gathered) (handed : ℕ) (whole : List ℕ) (r : Result (Unit {0}) WriteFailed) → Writing o p n m g [] whole → HandsOn p q m k g.handed handed g.bytes.items r → HandsOn o q n k 0 handed whole r
 at_end o p q n m k g handed whole (Ok u) w put =
     let all : w.sent ++ g.bytes.items ≡ whole = ap (λ t. w.sent ++ t) (sym (append-nil g.bytes.items)) ∙ w.parts in
-    (subst (λ t. Sent o q n k t) all (sent_more o p q n m k w.sent g.bytes.items w.taken put.0), let a = w.counted in let b = put.1 in let l = sym (ap length all) ∙ length-append w.sent g.bytes.items in omega arith)
+    (subst (λ t. Sent o q n k t) all (sent_more o p q n m k w.sent g.bytes.items w.accepted put.0), let a = w.counted in let b = put.1 in let l = sym (ap length all) ∙ length-append w.sent g.bytes.items in omega arith)
 at_end o p q n m k g handed whole (Err e) w put =
     let all : w.sent ++ g.bytes.items ≡ whole = ap (λ t. w.sent ++ t) (sym (append-nil g.bytes.items)) ∙ w.parts in
-    (length w.sent + put.0, (let a = w.counted in let b = put.1 in omega arith), subst (λ t. Stopped o q n k t (length w.sent + put.0)) all (stopped_after o p q n m k w.sent g.bytes.items put.0 w.taken put.2))
+    (length w.sent + put.0, (let a = w.counted in let b = put.1 in omega arith), subst (λ t. Stopped o q n k t (length w.sent + put.0)) all (stopped_after o p q n m k w.sent g.bytes.items put.0 w.accepted put.2))
 
 -- the text up to the next mark, and the row
 pub next_gap : (part ns text xs t p : List ℕ) (i at : ℕ) → xs ≡ ns → t ≡ text → p ≡ part → i < length xs → at + sum (drop i ns) ≤ length text →

@@ -103,12 +103,12 @@ certificate_lines c = problem_lines c.problem
 -- ---- bytes
 
 -- each word behind a space
-abbrev pub spaced : List (List ℕ) → List ℕ
-spaced ws = flat_map (λ w. 32 ∷ w) ws
+abbrev pub words_after_spaces : List (List ℕ) → List ℕ
+words_after_spaces ws = flat_map (λ w. 32 ∷ w) ws
 
 abbrev pub line_text : List (List ℕ) → List ℕ
 line_text [] = 10 ∷ []
-line_text (w ∷ ws) = w ++ (spaced ws ++ 10 ∷ [])
+line_text (w ∷ ws) = w ++ (words_after_spaces ws ++ 10 ∷ [])
 
 abbrev pub lines_text : List (List (List ℕ)) → List ℕ
 lines_text ls = flat_map line_text ls

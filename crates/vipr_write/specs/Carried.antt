@@ -6,7 +6,7 @@ use Rattle.vipr_write.specs.declared.pending.Pending.{Pending}
 
 -- a text from the start on, up to now
 abbrev pub Carries : Start → Start → Pending → List ℕ → Type 0
-Carries start now p text = Carries_by p.failed start now p.taken p.bytes.items text
+Carries start now p text = Carries_by p.failed start now p.accepted p.bytes.items text
 
 -- the text gets these bytes more
 pub record Puts {S : Type 0} (output : S → Option Output) (failures : S → Option ℕ) (old new : S)

@@ -1,4 +1,5 @@
--- A text in which the words of the objective's row stand once, with marks in place of their copies
+-- A text in which the words of the objective's row are there once, with marks in place of their
+-- copies
 use Rattle.std.specs.Prelude.{◌≡◌, ℕ, ◌≤◌, List, [], ◌∷◌, ◌++◌, length, take, drop, sum, codes}
 use Rattle.std.specs.List.{flat_map}
 use Rattle.vipr_spec.specs.Number.{number_text}
@@ -9,7 +10,8 @@ use Rattle.vipr_linear.specs.declared.constraint.Constraint.{Constraint as State
 use Rattle.vipr_cert.specs.Items.{named_of}
 use Rattle.vipr_cert.specs.declared.items.Named.{Named}
 use Rattle.vipr_write.specs.Canonical.{sense_word, reason_words, last_word}
-use Rattle.vipr_write.specs.Canonical.{direction_word, vector_words, variables_lines, spaced}
+use Rattle.vipr_write.specs.Canonical.{direction_word, vector_words, variables_lines}
+use Rattle.vipr_write.specs.Canonical.{words_after_spaces}
 use Rattle.vipr_write.specs.Canonical.{line_text, lines_text}
 use Rattle.vipr_write.specs.Forms.{row_words, given_words_in}
 use Rattle.vipr_write.specs.Lines.{constraints_heading}
@@ -25,11 +27,11 @@ expanded part (n ∷ ns) text = take n text ++ (part ++ expanded part ns (drop n
 abbrev pub full : Folded → List ℕ
 full f = expanded f.spelled.items f.gaps.items f.text.items
 
--- the marks are within the text, and stand for what is written for the objective's row
+-- the marks are within the text, and mean what is written for the objective's row
 pub record IsFolded (f : Folded) : Type 0 where
   pub marks : sum f.gaps.items ≡ f.marked
   pub within : f.marked ≤ length f.text.items
-  pub row : f.spelled.items ≡ spaced (row_words f.form f.objective f.objective)
+  pub row : f.spelled.items ≡ words_after_spaces (row_words f.form f.objective f.objective)
   pub no_zeros : HasNoZeros f.objective
 
 -- it was extended by these bytes
@@ -67,5 +69,5 @@ stated_words name c = name ∷ sense_word c.sense ∷ number_text c.bound ∷ []
 
 -- what follows the constraint of a derivation
 abbrev pub derivation_end : Derivation → List ℕ
-derivation_end d = codes " {" ++ (spaced (reason_words d.reason)
+derivation_end d = codes " {" ++ (words_after_spaces (reason_words d.reason)
     ++ (codes " }" ++ (32 ∷ last_word d.last ++ codes "\n")))

@@ -1,4 +1,4 @@
--- The text of a certificate in either form. In the compact one the word OBJ stands for a row of a
+-- The text of a certificate in either form. In the compact one the word OBJ means a row of a
 -- constraint or a derivation that is the objective's; an empty row is 0 in both
 use Rattle.std.specs.Prelude.{ℕ, ◌&&◌, Bool, nat_eq, nat_lt, if◌then◌else◌, List, [], ◌∷◌, ◌++◌}
 use Rattle.std.specs.Prelude.{length, map, codes}

@@ -7,7 +7,7 @@ use Rattle.vipr_bytes.specs.declared.write.WriteFailed.{WriteFailed}
 use Rattle.vipr_write.specs.declared.gathered.Gathered.{Gathered}
 
 -- o and n are the output and the count of failures before, where they are known, and o' and n'
--- those afterwards: all of the bytes were taken
+-- those afterwards: all of the bytes were accepted
 pub record Sent (o o' : Option Output) (n n' : Option ℕ) (bytes : List ℕ) : Type 0 where
   pub output : IfSome o (λ x. Wrote x o' bytes (Ok tt))
   pub failures : IfSome n (λ k. n' ≡ Some k)
@@ -15,7 +15,7 @@ pub record Sent (o o' : Option Output) (n n' : Option ℕ) (bytes : List ℕ) : 
 -- only the first k were, and that was the last write
 pub record Stopped (o o' : Option Output) (n n' : Option ℕ) (bytes : List ℕ) (k : ℕ) : Type 0 where
   pub part : k < length bytes
-  pub output : IfSome o (λ x. Wrote x o' bytes (Err (record { taken = k })))
+  pub output : IfSome o (λ x. Wrote x o' bytes (Err (record { accepted = k })))
   pub failures : IfSome n (λ m. n' ≡ Some (suc m))
 
 -- `before` bytes had been handed on, and now the bytes are
@@ -23,7 +23,7 @@ abbrev pub HandsOn : Option Output → Option Output → Option ℕ → Option �
     → Result (Unit {0}) WriteFailed → Type 0
 HandsOn o o' n n' before after bytes (Ok u) = Sent o o' n n' bytes × (after ≡ before + length bytes)
 HandsOn o o' n n' before after bytes (Err e) =
-    (k : ℕ) × (e.taken ≡ before + k) × Stopped o o' n n' bytes k
+    (k : ℕ) × (e.accepted ≡ before + k) × Stopped o o' n n' bytes k
 
 -- a buffer with room for 65,536 bytes
 pub record IsBuffer (g : Gathered) : Type 0 where
@@ -35,7 +35,7 @@ pub record HasGathered (o o' : Option Output) (n n' : Option ℕ) (old new : Gat
     (piece : List ℕ) : Type 0 where
   pub sent : List ℕ
   pub parts : old.bytes.items ++ piece ≡ sent ++ new.bytes.items
-  pub taken : Sent o o' n n' sent
+  pub accepted : Sent o o' n n' sent
   pub counted : new.handed ≡ old.handed + length sent
   pub buffer : IsBuffer new
 
@@ -43,4 +43,4 @@ abbrev pub Gathers : Option Output → Option Output → Option ℕ → Option �
     → List ℕ → Result (Unit {0}) WriteFailed → Type 0
 Gathers o o' n n' old new piece (Ok u) = HasGathered o o' n n' old new piece
 Gathers o o' n n' old new piece (Err e) =
-    (k : ℕ) × (e.taken ≡ old.handed + k) × Stopped o o' n n' (old.bytes.items ++ piece) k
+    (k : ℕ) × (e.accepted ≡ old.handed + k) × Stopped o o' n n' (old.bytes.items ++ piece) k

@@ -5,7 +5,7 @@ use Rattle.vipr_bytes.specs.Output.{Output}
 use Rattle.vipr_bytes.specs.Written.{Wrote, EndsAtFailure}
 use Rattle.vipr_bytes.specs.declared.write.WriteFailed.{WriteFailed}
 
--- what a sink tells: its output, and how many writes have failed or taken nothing
+-- what is known of a sink: its output, and how many writes have failed or accepted nothing
 pub record Start : Type 0 where
   pub output : Option Output
   pub failures : Option ℕ
@@ -21,25 +21,25 @@ counted n = min n (2 ^ 64 - 1)
 pub record IsEnd (start now : Start) (text : List ℕ) (result : Result (Unit {0}) WriteFailed)
     : Type 0 where
   pub output : IfSome start.output (λ o. Wrote o now.output text result)
-  pub part : IfErr result (λ e. e.taken < length text)
+  pub part : IfErr result (λ e. e.accepted < length text)
   pub failures : IfSome start.failures (λ n. EndsAtFailure n now.failures result)
 
 -- no write has failed: the text is what the sink took, and what is pending
-pub record Flows (start now : Start) (taken : ℕ) (pending text : List ℕ) : Type 0 where
+pub record Flows (start now : Start) (accepted : ℕ) (pending text : List ℕ) : Type 0 where
   pub front : List ℕ
   pub parts : front ++ pending ≡ text
-  pub count : taken ≡ counted (length front)
+  pub count : accepted ≡ counted (length front)
   pub writes : IsEnd start now front (Ok tt)
 
 -- the last write has failed: the sink took the first n bytes of the text
-pub record Stops (start now : Start) (taken : ℕ) (text : List ℕ) : Type 0 where
+pub record Stops (start now : Start) (accepted : ℕ) (text : List ℕ) : Type 0 where
   pub n : ℕ
-  pub count : taken ≡ counted n
-  pub writes : IsEnd start now text (Err (record { taken = n }))
+  pub count : accepted ≡ counted n
+  pub writes : IsEnd start now text (Err (record { accepted = n }))
 
 abbrev pub Carries_by : Bool → Start → Start → ℕ → List ℕ → List ℕ → Type 0
-Carries_by false start now taken pending text = Flows start now taken pending text
-Carries_by true start now taken pending text = Stops start now taken text
+Carries_by false start now accepted pending text = Flows start now accepted pending text
+Carries_by true start now accepted pending text = Stops start now accepted text
 
 -- the pending bytes of a text are handed over, of which so many were before
 pub record Hands {S : Type 0} (output : S → Option Output) (failures : S → Option ℕ) (old new : S)

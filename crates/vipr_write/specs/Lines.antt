@@ -3,14 +3,14 @@ use Rattle.std.specs.Prelude.{ℕ, List, [], ◌∷◌, ◌++◌, length, map, c
 use Rattle.std.specs.Fmt.{decimal}
 use Rattle.vipr_spec.specs.Constraint.{Row, Constraint}
 use Rattle.vipr_spec.specs.Certificate.{Named}
-use Rattle.vipr_write.specs.Canonical.{heading, given_words, spaced}
+use Rattle.vipr_write.specs.Canonical.{heading, given_words, words_after_spaces}
 use Rattle.vipr_write.specs.Forms.{given_words_in}
 use Rattle.vipr_write.specs.declared.form.Form.{Form}
 
 -- a line without its line feed
 abbrev pub words_text : List (List ℕ) → List ℕ
 words_text [] = []
-words_text (w ∷ ws) = w ++ spaced ws
+words_text (w ∷ ws) = w ++ words_after_spaces ws
 
 -- how many integer variables there are, and then each of them
 abbrev pub integers_lines : List ℕ → List (List (List ℕ))

@@ -7,22 +7,22 @@ use Rattle.vipr_write.specs.declared.write.WriteError.{WriteError}
 use Rattle.vipr_write.specs.declared.write.WriteError.TheVariants.{Write, Memory}
 
 abbrev pub write_error : WriteFailed → WriteError
-write_error e = Write e.taken
+write_error e = Write e.accepted
 
 -- o is the output before, and new the one afterwards.
--- Ok: the text was taken whole. Write: its first n bytes were, as many as there was room for.
+-- Ok: the text was accepted whole. Write: its first n bytes were, as many as there was room for.
 -- Memory: nothing was written.
 abbrev pub WroteText : Output → Option Output → List ℕ → Result (Unit {0}) WriteError → Type 0
 WroteText o new text (Ok u) = Wrote o new text (Ok u)
-WroteText o new text (Err (Write n)) = Wrote o new text (Err (record { taken = n }))
+WroteText o new text (Err (Write n)) = Wrote o new text (Err (record { accepted = n }))
 WroteText o new text (Err (Memory n)) = (n ≡ 0) × (new ≡ Some o)
 
--- Of every sink: a part of the text was taken, and nothing where memory was refused.
+-- Of every sink: a part of the text was accepted, and nothing where memory was refused.
 abbrev pub IsWithin : List ℕ → WriteError → Type 0
 IsWithin text (Write n) = n < length text
 IsWithin text (Memory n) = n ≡ 0
 
--- n writes had failed or taken nothing before. Such a write is the last one; where memory was
+-- n writes had failed or accepted nothing before. Such a write is the last one; where memory was
 -- refused there was none.
 abbrev pub LeavesFailures : ℕ → Option ℕ → Result (Unit {0}) WriteError → Type 0
 LeavesFailures n new (Ok u) = new ≡ Some n

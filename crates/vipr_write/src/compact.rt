@@ -140,7 +140,7 @@ fn ready(alloc: Global, folded: &Folded) -> Option<Gathered>
     buffer(alloc).ok()
 }
 
-// Hands the text on, with what each mark stands for.
+// Hands the text on, with what each mark means.
 fn write_all<W: Sink>(
     sink: &mut W,
     gathered: &mut Gathered,

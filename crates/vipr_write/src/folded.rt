@@ -2,7 +2,7 @@
 ghost use Rattle.std.specs.Prelude.{◌≡◌, ◌<◌, ◌-◌, ◌^◌, ◌++◌, [], length, IsTrue, IfOk, OnOk};
 ghost use Rattle.vipr_linear.specs.Constraint.{constraint_of};
 ghost use Rattle.vipr_cert.specs.Items.{derivation_of, named_of, solution_of};
-ghost use Rattle.vipr_write.specs.Canonical.{spaced, line_text, lines_text};
+ghost use Rattle.vipr_write.specs.Canonical.{words_after_spaces, line_text, lines_text};
 ghost use Rattle.vipr_write.specs.Forms.{row_words, constraint_words_in, given_words_in};
 ghost use Rattle.vipr_write.specs.Forms.{derivation_words_in, problem_lines_in};
 ghost use Rattle.vipr_write.specs.Lines.{words_text};
@@ -21,7 +21,7 @@ use vipr_linear::{Constraint, Row};
 // How many bytes a mark takes.
 const MARK: usize = 4;
 
-/// A text, and marks in it, each of which stands for what is written for the objective's row.
+/// A text, and marks in it, each of which means what is written for the objective's row.
 #[derive(Drop)]
 pub(crate) struct Folded {
     pub(crate) form: Form,
@@ -31,7 +31,7 @@ pub(crate) struct Folded {
     /// How many bytes of the text come before the last mark.
     pub(crate) marked: usize,
     pub(crate) objective: Row,
-    /// What a mark stands for.
+    /// What a mark means.
     pub(crate) spelled: Vec<u8>,
 }
 
@@ -56,7 +56,8 @@ pub(crate) fn empty_text(alloc: Global, form: Form, objective: &Row) -> Result<F
 // Whether a row is the objective's, and a mark in its place is shorter.
 fn can_mark(folded: &Folded, row: &Row) -> bool
     requires { IsFolded folded.now }
-    ensures row { IsTrue result → spaced (row_words folded.now.form folded.now.objective row.now)
+    ensures row { IsTrue result
+        → words_after_spaces (row_words folded.now.form folded.now.objective row.now)
         ≡ folded.now.spelled.items }
     ensures gap { IsTrue result → length folded.now.text.items - folded.now.marked < 2 ^ 32 }
 {
@@ -83,7 +84,7 @@ fn mark(folded: &mut Folded) -> Result<(), AllocError>
 fn append_row(folded: &mut Folded, row: &Row) -> Result<(), AllocError>
     requires { IsFolded folded.old }
     ensures { OnOk result (Extends folded.old folded.new
-        (spaced (row_words folded.old.form folded.old.objective row.now))) }
+        (words_after_spaces (row_words folded.old.form folded.old.objective row.now))) }
 {
     if can_mark(folded, row) {
         return mark(folded);

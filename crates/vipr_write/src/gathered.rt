@@ -3,10 +3,7 @@ ghost use Rattle.std.specs.Prelude.{◌≡◌, ◌+◌, ◌<◌, ◌≤◌, ◌^
 ghost use Rattle.vipr_write.specs.Gathered.{HandsOn, IsBuffer, Gathers};
 
 use std::alloc::{AllocError, Global};
-use vipr_bytes::{Sink, WriteFailed, write_bytes};
-
-// How many bytes it has room for.
-const ROOM: usize = 65536;
+use vipr_bytes::{BUFFER_BYTES, Sink, WriteFailed, write_bytes};
 
 /// Bytes that are not handed on yet, and how many were before them.
 #[derive(Drop)]
@@ -20,7 +17,7 @@ pub(crate) fn buffer(alloc: Global) -> Result<Gathered, AllocError>
     ensures { IfOk result (λ g. IsBuffer g × (g.bytes.items ≡ []) × (g.handed ≡ 0)) }
 {
     Ok(Gathered {
-        bytes: Vec::with_capacity(alloc, ROOM)?,
+        bytes: Vec::with_capacity(alloc, BUFFER_BYTES)?,
         handed: 0,
     })
 }
@@ -37,7 +34,7 @@ fn hand<W: Sink>(sink: &mut W, handed: &mut u64, bytes: &[u8]) -> Result<(), Wri
             Ok(())
         }
         Err(failed) => Err(WriteFailed {
-            taken: *handed + failed.taken,
+            accepted: *handed + failed.accepted,
         }),
     }
 }
@@ -84,7 +81,7 @@ fn gather_past<W: Sink>(
         (W.failures sink.new) gathered.old gathered.new piece.now result }
 {
     flush(sink, gathered)?;
-    if piece.len() > ROOM {
+    if piece.len() > BUFFER_BYTES {
         return hand(sink, &mut gathered.handed, piece);
     }
     keep(gathered, piece);
@@ -103,7 +100,7 @@ pub(crate) fn gather<W: Sink>(
     ensures { Gathers (W.output sink.old) (W.output sink.new) (W.failures sink.old)
         (W.failures sink.new) gathered.old gathered.new piece.now result }
 {
-    if piece.len() > ROOM - gathered.bytes.len() {
+    if piece.len() > BUFFER_BYTES - gathered.bytes.len() {
         return gather_past(sink, gathered, piece);
     }
     keep(gathered, piece);

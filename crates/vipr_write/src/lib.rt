@@ -1,6 +1,6 @@
-//! Writes the canonical text of a certificate, or its compact one, in which `OBJ` stands for rows
+//! Writes the canonical text of a certificate, or its compact one, in which `OBJ` means rows
 //! that are the objective's. That each spells the certificate and no other is a law of its
-//! definition, which stands in `specs/`.
+//! definition, which is in `specs/`.
 //!
 //! The text goes to the sink through one buffer, which is made first, so that want of memory comes
 //! before the first byte.

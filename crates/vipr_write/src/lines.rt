@@ -5,7 +5,8 @@ ghost use Rattle.vipr_spec.specs.Certificate.{range, uns};
 ghost use Rattle.vipr_linear.specs.Constraint.{constraint_of};
 ghost use Rattle.vipr_write.specs.Canonical.{counted_words, constraint_words, given_words};
 ghost use Rattle.vipr_write.specs.Canonical.{claim_words, solution_words, reason_words};
-ghost use Rattle.vipr_write.specs.Canonical.{derivation_words, heading, spaced, line_text};
+ghost use Rattle.vipr_write.specs.Canonical.{derivation_words, heading, words_after_spaces};
+ghost use Rattle.vipr_write.specs.Canonical.{line_text};
 ghost use Rattle.vipr_cert.specs.Items.{named_of, solution_of, claim_of, reason_of, derivation_of};
 ghost use Rattle.vipr_write.specs.Lines.{words_text};
 
@@ -96,7 +97,7 @@ pub(crate) fn append_solution(
 // The reason of a split.
 fn append_split(text: &mut Vec<u8>, i1: u32, l1: u32, i2: u32, l2: u32) -> Result<(), AllocError>
     ensures { OnOk result
-        (text.new.items ≡ text.old.items ++ spaced (reason_words (uns i1 l1 i2 l2))) }
+        (text.new.items ≡ text.old.items ++ words_after_spaces (reason_words (uns i1 l1 i2 l2))) }
 {
     append_word(text, b"uns")?;
     append_index(text, i1 as usize)?;
@@ -108,7 +109,8 @@ fn append_split(text: &mut Vec<u8>, i1: u32, l1: u32, i2: u32, l2: u32) -> Resul
 // The keyword and the entries of a sum.
 fn append_sum(text: &mut Vec<u8>, keyword: &[u8], entries: &[(u32, Frac)]) -> Result<(), AllocError>
     ensures { OnOk result
-        (text.new.items ≡ text.old.items ++ spaced (keyword.now ∷ counted_words entries.now)) }
+        (text.new.items ≡ text.old.items
+        ++ words_after_spaces (keyword.now ∷ counted_words entries.now)) }
 {
     append_word(text, keyword)?;
     append_counted(text, entries)
@@ -117,7 +119,8 @@ fn append_sum(text: &mut Vec<u8>, keyword: &[u8], entries: &[(u32, Frac)]) -> Re
 // Why a derived constraint holds.
 pub(crate) fn append_reason(text: &mut Vec<u8>, reason: &Reason) -> Result<(), AllocError>
     ensures { OnOk result
-        (text.new.items ≡ text.old.items ++ spaced (reason_words (reason_of reason.now))) }
+        (text.new.items ≡ text.old.items
+        ++ words_after_spaces (reason_words (reason_of reason.now))) }
 {
     match reason {
         Reason::Asm => append_word(text, b"asm"),

@@ -3,17 +3,14 @@ ghost use Rattle.std.specs.Prelude.{◌≤◌, length, vec_capacity};
 ghost use Rattle.vipr_write.specs.Hands.{Hands};
 
 use std::alloc::{AllocError, Global};
-use vipr_bytes::{Sink, WriteFailed, write_bytes};
-
-/// So many bytes are handed over by one call at most, and so long is the longest piece.
-const SIZE: usize = 65536;
+use vipr_bytes::{BUFFER_BYTES, Sink, WriteFailed, write_bytes};
 
 /// The bytes of a text that its sink does not have yet, in a buffer whose memory is there from the
 /// start. Once a write has failed, nothing more is handed over.
 #[derive(Drop)]
 pub(crate) struct Pending {
     bytes: Vec<u8>,
-    taken: u64,
+    accepted: u64,
     pub(crate) failed: bool,
     ghost within: { length bytes.items ≤ 65536 },
     ghost room: { 65536 ≤ vec_capacity bytes },
@@ -25,7 +22,7 @@ fn hand<W: Sink>(sink: &mut W, bytes: &[u8], before: u64) -> (u64, bool)
 {
     match write_bytes(sink, bytes) {
         Ok(()) => (before.saturating_add(bytes.len() as u64), false),
-        Err(error) => (before.saturating_add(error.taken), true),
+        Err(error) => (before.saturating_add(error.accepted), true),
     }
 }
 
@@ -39,8 +36,8 @@ impl Pending {
         ensures { IfOk result (λ p. (start : Start) → Carries start start p []) }
     {
         Ok(Pending {
-            bytes: Vec::with_capacity(alloc, SIZE)?,
-            taken: 0,
+            bytes: Vec::with_capacity(alloc, BUFFER_BYTES)?,
+            accepted: 0,
             failed: false,
         })
     }
@@ -55,8 +52,8 @@ impl Pending {
             self.bytes.clear();
             return;
         }
-        let (taken, failed) = hand(sink, &self.bytes, self.taken);
-        self.taken = taken;
+        let (accepted, failed) = hand(sink, &self.bytes, self.accepted);
+        self.accepted = accepted;
         self.failed = failed;
         self.bytes.clear();
     }
@@ -68,7 +65,7 @@ impl Pending {
         ensures text { Puts W.output W.failures sink.old sink.new self.old self.new [] }
         ensures room { length self.new.bytes.items + n ≤ 65536 }
     {
-        if n > SIZE - self.bytes.len() {
+        if n > BUFFER_BYTES - self.bytes.len() {
             self.flush(sink);
         }
     }
@@ -104,7 +101,9 @@ impl Pending {
     {
         self.flush(sink);
         if self.failed {
-            return Err(WriteFailed { taken: self.taken });
+            return Err(WriteFailed {
+                accepted: self.accepted,
+            });
         }
         Ok(())
     }

@@ -3,7 +3,7 @@ ghost use Rattle.std.specs.Prelude.{◌≤◌, ◌∷◌, [], codes, length};
 ghost use Rattle.vipr_spec.specs.Certificate.{range, uns};
 ghost use Rattle.vipr_linear.specs.Constraint.{constraint_of};
 ghost use Rattle.vipr_write.specs.Canonical.{counted_words, claim_words, solution_words};
-ghost use Rattle.vipr_write.specs.Canonical.{reason_words, heading, spaced, line_text};
+ghost use Rattle.vipr_write.specs.Canonical.{reason_words, heading, words_after_spaces, line_text};
 ghost use Rattle.vipr_write.specs.Canonical.{direction_word, vector_words};
 ghost use Rattle.vipr_write.specs.Forms.{constraint_words_in, given_words_in, derivation_words_in};
 ghost use Rattle.vipr_cert.specs.Items.{named_of, solution_of, claim_of, reason_of, derivation_of};
@@ -161,7 +161,7 @@ pub(crate) fn put_solution<W: Sink>(text: &mut Pending, sink: &mut W, solution: 
 // The reason of a split.
 fn put_split<W: Sink>(text: &mut Pending, sink: &mut W, i1: u32, l1: u32, i2: u32, l2: u32)
     ensures { Puts W.output W.failures sink.old sink.new text.old text.new
-        (spaced (reason_words (uns i1 l1 i2 l2))) }
+        (words_after_spaces (reason_words (uns i1 l1 i2 l2))) }
 {
     put_word(text, sink, b"uns");
     put_index(text, sink, i1 as usize);
@@ -174,7 +174,7 @@ fn put_split<W: Sink>(text: &mut Pending, sink: &mut W, i1: u32, l1: u32, i2: u3
 fn put_sum<W: Sink>(text: &mut Pending, sink: &mut W, keyword: &[u8], entries: &[(u32, Frac)])
     requires { length keyword.now ≤ 65536 }
     ensures { Puts W.output W.failures sink.old sink.new text.old text.new
-        (spaced (keyword.now ∷ counted_words entries.now)) }
+        (words_after_spaces (keyword.now ∷ counted_words entries.now)) }
 {
     put_word(text, sink, keyword);
     put_counted(text, sink, entries);
@@ -183,7 +183,7 @@ fn put_sum<W: Sink>(text: &mut Pending, sink: &mut W, keyword: &[u8], entries: &
 // Why a derived constraint holds.
 fn put_reason<W: Sink>(text: &mut Pending, sink: &mut W, reason: &Reason)
     ensures { Puts W.output W.failures sink.old sink.new text.old text.new
-        (spaced (reason_words (reason_of reason.now))) }
+        (words_after_spaces (reason_words (reason_of reason.now))) }
 {
     match reason {
         Reason::Asm => put_word(text, sink, b"asm"),

@@ -4,7 +4,7 @@ ghost use Rattle.std.specs.Fmt.{decimal};
 ghost use Rattle.vipr_spec.specs.Number.{number_text};
 ghost use Rattle.vipr_linear.specs.Constraint.{sense_of};
 ghost use Rattle.vipr_write.specs.Canonical.{pair_words, counted_words, sense_word, bound_word};
-ghost use Rattle.vipr_write.specs.Canonical.{last_word, spaced};
+ghost use Rattle.vipr_write.specs.Canonical.{last_word, words_after_spaces};
 ghost use Rattle.vipr_write.specs.Carried.{Puts};
 
 use crate::pending::Pending;
@@ -81,7 +81,7 @@ fn put_fraction<W: Sink>(text: &mut Pending, sink: &mut W, x: &Frac)
 /// Indices with numbers.
 pub(crate) fn put_pairs<W: Sink>(text: &mut Pending, sink: &mut W, pairs: &[(u32, Frac)])
     ensures { Puts W.output W.failures sink.old sink.new text.old text.new
-        (spaced (flat_map pair_words pairs.now)) }
+        (words_after_spaces (flat_map pair_words pairs.now)) }
 {
     for pair in pairs {
         put_index(text, sink, pair.0 as usize);
@@ -92,7 +92,7 @@ pub(crate) fn put_pairs<W: Sink>(text: &mut Pending, sink: &mut W, pairs: &[(u32
 /// How many indices with numbers there are, and then each of them.
 pub(crate) fn put_counted<W: Sink>(text: &mut Pending, sink: &mut W, pairs: &[(u32, Frac)])
     ensures { Puts W.output W.failures sink.old sink.new text.old text.new
-        (spaced (counted_words pairs.now)) }
+        (words_after_spaces (counted_words pairs.now)) }
 {
     put_index(text, sink, pairs.len());
     put_pairs(text, sink, pairs);

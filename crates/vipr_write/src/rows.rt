@@ -1,6 +1,6 @@
 //! Rows in either form.
 ghost use Rattle.std.specs.Prelude.{◌≡◌, ◌∷◌, [], ◌++◌, codes, if◌then◌else◌, OnOk};
-ghost use Rattle.vipr_write.specs.Canonical.{vector_words, spaced};
+ghost use Rattle.vipr_write.specs.Canonical.{vector_words, words_after_spaces};
 ghost use Rattle.vipr_write.specs.Forms.{row_words};
 ghost use Rattle.vipr_write.specs.Carried.{Puts};
 
@@ -34,7 +34,7 @@ pub(crate) fn append_row(
     row: &Row,
 ) -> Result<(), AllocError>
     ensures { OnOk result (text.new.items ≡ text.old.items
-        ++ spaced (row_words form objective.now row.now)) }
+        ++ words_after_spaces (row_words form objective.now row.now)) }
 {
     if is_named(form, objective, row) {
         return append_word(text, b"OBJ");
@@ -51,7 +51,7 @@ pub(crate) fn put_row<W: Sink>(
     row: &Row,
 )
     ensures { Puts W.output W.failures sink.old sink.new text.old text.new
-        (spaced (row_words form objective.now row.now)) }
+        (words_after_spaces (row_words form objective.now row.now)) }
 {
     if is_named(form, objective, row) {
         put_word(text, sink, b"OBJ");

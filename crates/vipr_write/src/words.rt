@@ -4,7 +4,7 @@ ghost use Rattle.std.specs.Fmt.{decimal};
 ghost use Rattle.vipr_spec.specs.Number.{number_text};
 ghost use Rattle.vipr_linear.specs.Constraint.{sense_of};
 ghost use Rattle.vipr_write.specs.Canonical.{pair_words, counted_words, sense_word, bound_word};
-ghost use Rattle.vipr_write.specs.Canonical.{last_word, spaced};
+ghost use Rattle.vipr_write.specs.Canonical.{last_word, words_after_spaces};
 
 use itoa::Buffer;
 use std::alloc::AllocError;
@@ -64,7 +64,7 @@ pub(crate) fn append_number(text: &mut Vec<u8>, x: &Frac) -> Result<(), AllocErr
 /// Indices with numbers.
 pub(crate) fn append_pairs(text: &mut Vec<u8>, pairs: &[(u32, Frac)]) -> Result<(), AllocError>
     ensures { OnOk result
-        (text.new.items ≡ text.old.items ++ spaced (flat_map pair_words pairs.now)) }
+        (text.new.items ≡ text.old.items ++ words_after_spaces (flat_map pair_words pairs.now)) }
 {
     for pair in pairs {
         append_index(text, pair.0 as usize)?;
@@ -75,7 +75,8 @@ pub(crate) fn append_pairs(text: &mut Vec<u8>, pairs: &[(u32, Frac)]) -> Result<
 
 /// How many indices with numbers there are, and then each of them.
 pub(crate) fn append_counted(text: &mut Vec<u8>, pairs: &[(u32, Frac)]) -> Result<(), AllocError>
-    ensures { OnOk result (text.new.items ≡ text.old.items ++ spaced (counted_words pairs.now)) }
+    ensures { OnOk result
+        (text.new.items ≡ text.old.items ++ words_after_spaces (counted_words pairs.now)) }
 {
     append_index(text, pairs.len())?;
     append_pairs(text, pairs)

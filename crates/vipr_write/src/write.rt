@@ -18,7 +18,8 @@ use thiserror::Error;
 use vipr_bytes::{Sink, WriteFailed};
 use vipr_cert::Certificate;
 
-/// Why a certificate was not written whole. Exactly the first `taken` bytes of its text were taken.
+/// Why a certificate was not written whole. The count says how many bytes of its text, the first
+/// ones, were accepted.
 ///
 /// A text that might have 2^64 bytes or more isn't begun, so the number is exact.
 #[derive(Clone, Copy, Debug, PartialEq, Eq, Error)]
@@ -27,7 +28,7 @@ pub enum WriteError {
     #[error("a write failed after {taken} bytes")]
     Write { taken: u64 },
 
-    /// A growth was refused. Nothing was written, and `taken` is 0.
+    /// A growth was refused. Nothing was written, and the count is 0.
     #[error("out of memory after {taken} bytes")]
     Memory { taken: u64 },
 }
@@ -37,7 +38,7 @@ impl From<WriteFailed> for WriteError {
 
     fn from(failed: WriteFailed) -> WriteError {
         WriteError::Write {
-            taken: failed.taken,
+            taken: failed.accepted,
         }
     }
 }
@@ -77,7 +78,7 @@ pub fn write_certificate<W: Sink>(
     write_certificate_in(alloc, Form::Canonical, certificate, sink)
 }
 
-/// The same of the text in a form.
+/// Writes the text of a certificate in `form`.
 ///
 /// # Errors
 ///
@@ -117,7 +118,7 @@ fn write_text<W: Sink>(
     requires short { length (text_in form certificate.now) < 2 ^ 64 }
     ensures output { IfSome (W.output sink.old)
         (λ o. Wrote o (W.output sink.new) (text_in form certificate.now) result) }
-    ensures part { IfErr result (λ e. e.taken < length (text_in form certificate.now)) }
+    ensures part { IfErr result (λ e. e.accepted < length (text_in form certificate.now)) }
     ensures failures { IfSome (W.failures sink.old)
         (λ n. EndsAtFailure n (W.failures sink.new) result) }
 {

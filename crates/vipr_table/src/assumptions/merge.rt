@@ -5,7 +5,7 @@ ghost use Rattle.vipr_table.specs.Rising.{IsRising, IsUnion, has};
 
 use std::alloc::{AllocError, Global};
 
-/// Whether a number stands in a rising list.
+/// Whether a number is in a rising list.
 pub(crate) fn is_in(xs: &[u32], index: u32) -> bool
     requires { IsRising xs.now }
     ensures { result ≡ has xs.now index }
@@ -13,7 +13,7 @@ pub(crate) fn is_in(xs: &[u32], index: u32) -> bool
     xs.binary_search(&index).is_ok()
 }
 
-/// Whether each item of `ys`, too, stands in `xs`. Mostly `xs` begins with them.
+/// Whether each item of `ys` is in `xs`, too. Mostly `xs` begins with them.
 pub(crate) fn has_all(xs: &[u32], ys: &[u32]) -> bool
     ensures { result ≡ true → (q : ℕ) → has ys.now q ≡ true → has xs.now q ≡ true }
 {
@@ -26,7 +26,7 @@ pub(crate) fn has_all(xs: &[u32], ys: &[u32]) -> bool
     has_each(xs, ys)
 }
 
-// The same, item by item.
+// Whether each item of `ys` is in `xs`, item by item.
 fn has_each(xs: &[u32], ys: &[u32]) -> bool
     ensures { result ≡ true → (q : ℕ) → has ys.now q ≡ true → has xs.now q ≡ true }
 {
@@ -61,7 +61,7 @@ pub(crate) fn join(alloc: Global, xs: &[u32], ys: &[u32]) -> Result<Vec<u32>, Al
     merge(alloc, xs, ys)
 }
 
-/// The same, for lists of which one often has all items of the other.
+/// Joins two rising lists, of which one often has all items of the other.
 pub(crate) fn join_alike(alloc: Global, xs: &[u32], ys: &[u32]) -> Result<Vec<u32>, AllocError>
     requires left { IsRising xs.now }
     requires right { IsRising ys.now }
@@ -98,7 +98,7 @@ pub(crate) fn concat(alloc: Global, xs: &[u32], ys: &[u32]) -> Result<Vec<u32>, 
     Ok(all)
 }
 
-// The same as `join`, item by item.
+// Joins two rising lists, item by item.
 fn merge(alloc: Global, xs: &[u32], ys: &[u32]) -> Result<Vec<u32>, AllocError>
     requires left { IsRising xs.now }
     requires right { IsRising ys.now }

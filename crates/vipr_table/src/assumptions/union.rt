@@ -2,7 +2,7 @@
 
 ghost use Rattle.std.specs.Prelude.{◌≡◌, IfOk, OnOk};
 ghost use Rattle.std.specs.FinSet as set;
-ghost use Rattle.vipr_table.specs.Unions.{gathered};
+ghost use Rattle.vipr_table.specs.Unions.{union_so_far};
 
 use crate::assumptions::Assumptions;
 use std::alloc::{AllocError, Global};
@@ -14,7 +14,7 @@ use std::mem;
 pub struct Union {
     last: Assumptions,
     below: Vec<Assumptions>,
-    // in any order, and some may stand twice
+    // in any order, and some may occur twice
     few: Vec<u32>,
 }
 
@@ -26,7 +26,7 @@ fn is_near(len: usize, other: usize) -> bool {
 impl Union {
     /// The union of no sets. Takes no memory.
     pub fn new(alloc: Global) -> Union
-        ensures { gathered result ≡ set.empty }
+        ensures { union_so_far result ≡ set.empty }
     {
         Union {
             last: Assumptions::empty(alloc),
@@ -37,7 +37,7 @@ impl Union {
 
     /// Adds a set.
     pub fn add(&mut self, alloc: Global, more: &Assumptions) -> Result<(), AllocError>
-        ensures { OnOk result (gathered self.new ≡ set.union (gathered self.old) more.now) }
+        ensures { OnOk result (union_so_far self.new ≡ set.union (union_so_far self.old) more.now) }
     {
         if more.is_empty() {
             return Ok(());
@@ -59,7 +59,7 @@ impl Union {
 
     // Joins what waits to the last set, as far as it isn't much larger.
     fn settle(&mut self, alloc: Global) -> Result<(), AllocError>
-        ensures { OnOk result (gathered self.new ≡ gathered self.old) }
+        ensures { OnOk result (union_so_far self.new ≡ union_so_far self.old) }
     {
         while let Some(top) = self.below.pop() {
             if !is_near(top.len(), self.last.len()) {
@@ -73,7 +73,7 @@ impl Union {
 
     /// The union of all.
     pub fn finish(self, alloc: Global) -> Result<Assumptions, AllocError>
-        ensures { IfOk result (λ s. s ≡ gathered self) }
+        ensures { IfOk result (λ s. s ≡ union_so_far self) }
     {
         let Union {
             last,

@@ -28,7 +28,7 @@ impl Hasher for IndexHasher {
     ghost finish = { λ h. hash h.0 };
 
     // Indices are mostly dense, or come at equal distances. Four that follow each other share a
-    // place, so that they stand side by side in the table; blocks of four are spread by a product.
+    // place, so that they are side by side in the table; blocks of four are spread by a product.
     #[inline(always)]
     fn finish(&self) -> u64 {
         let spread = (self.0 / 4).wrapping_mul(0x9E37_79B9_7F4A_7C15);

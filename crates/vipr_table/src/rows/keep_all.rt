@@ -1,7 +1,7 @@
 //! A table that keeps every entry.
 
 ghost use Rattle.std.specs.Prelude.{◌≡◌, ◌<◌, length, is_some, slice_get, if◌then◌else◌};
-ghost use Rattle.vipr_table.specs.KeepAll.{forget_at, shown};
+ghost use Rattle.vipr_table.specs.KeepAll.{forget_at, entry_if_kept};
 
 use crate::rows::expiry::Order;
 use crate::rows::{Entry, Rows};
@@ -24,11 +24,12 @@ struct Kept {
     is_forgotten: bool,
 }
 
-// Marks the entry at a place, and tells how many entries it was that were not marked.
+// Marks the entry at a place. The answer is 1 if it wasn't marked before, and else 0.
 fn forget(kept: &mut Vec<Kept>, at: usize) -> usize
     requires { at < length kept.old.items }
     ensures items { kept.new.items ≡ forget_at kept.old.items at }
-    ensures count { result ≡ (if is_some (shown (slice_get kept.old.items at)) then 1 else 0) }
+    ensures count { result
+        ≡ (if is_some (entry_if_kept (slice_get kept.old.items at)) then 1 else 0) }
 {
     let kept = &mut kept[at];
     let was_shown = !kept.is_forgotten;
@@ -46,10 +47,14 @@ impl Model for KeepAll {
 
     ghost use Rattle.std.specs.FinMap as map;
     ghost use Rattle.vipr_table.specs.Expiry.{dues};
-    ghost use Rattle.vipr_table.specs.KeepAll.{unforgotten, IsKept};
+    ghost use Rattle.vipr_table.specs.KeepAll.{entries_not_forgotten, IsKept};
 
     ghost view = { λ a.
-        record { first = a.first; next = a.next; entries = unforgotten a.first a.kept.items } };
+        record {
+          first = a.first;
+          next = a.next;
+          entries = entries_not_forgotten a.first a.kept.items;
+        } };
 
     ghost invariant = { λ a. IsKept a.first a.next a.kept.items a.held (dues a.order.heap) };
 }

@@ -1,7 +1,8 @@
 //! Laws of the table of rows.
 
 ghost use Rattle.std.specs.Prelude.{◌≡◌, ℕ, ◌+◌, ◌≤◌, [], length};
-ghost use Rattle.vipr_spec.specs.Certificate.{Certificate, Derivation, count, held as held_after};
+ghost use Rattle.vipr_spec.specs.Certificate.{Certificate, Derivation, count};
+ghost use Rattle.vipr_spec.specs.Certificate.{count_held as held_after};
 ghost use Rattle.vipr_spec.specs.Steps.{with_next, RefersBack};
 ghost use Rattle.vipr_spec.specs.Constraint.{at, NamesBelow};
 ghost use Rattle.vipr_table.specs.Table.{DerivedBelow};

@@ -1,20 +1,20 @@
 use Rattle.std.proofs.Common.{refl, sym, ◌∙◌}
 use Rattle.std.proofs.lemmas.Bool.{false≢true}
-use Rattle.vipr_cert.proofs.Seen.{none_seen, one_more, all_seen, fails_at}
+use Rattle.vipr_cert.proofs.Viewing.{none_seen, one_more, all_seen, fails_at}
 use Rattle.vipr_cert.proofs.Within.{each_of, each_from}
 use Rattle.vipr_cert.proofs.limits.are_within.Goals as goal
 
 pub loop-item-init : goal.loop-item-init
-loop-item-init g c = none_seen (λ x. g.T.Item.shape c.args.n (g.T.Item.view x) × g.T.Item.fits (g.T.Item.view x)) c.args.items.now
+loop-item-init g c = none_seen (λ x. g.T.NamesVariables.shape c.args.n (g.T.NamesVariables.view x) × g.T.NamesVariables.fits (g.T.NamesVariables.view x)) c.args.items.now
 
 pub loop-item-preserved : goal.loop-item-preserved
 loop-item-preserved g c =
-    one_more (λ x. g.T.Item.shape c.args.n (g.T.Item.view x) × g.T.Item.fits (g.T.Item.view x)) c.args.items.now _ _ c.loop-item-test.true c.item-item.is (c.is_within.ensures.shape.0 c.if-not-is_within.false, c.is_within.ensures.fits) c.loop-item.invariant
+    one_more (λ x. g.T.NamesVariables.shape c.args.n (g.T.NamesVariables.view x) × g.T.NamesVariables.fits (g.T.NamesVariables.view x)) c.args.items.now _ _ c.loop-item-test.true c.item-item.is (c.is_within.ensures.shape.0 c.if-not-is_within.false, c.is_within.ensures.fits) c.loop-item.invariant
 
 pub returns-then-not-is_within : goal.returns-then-not-is_within
 returns-then-not-is_within g c =
-    let view = g.T.Item.view in
-    let shape = g.T.Item.shape c.args.n in
+    let view = g.T.NamesVariables.view in
+    let shape = g.T.NamesVariables.shape c.args.n in
     let items = c.args.items.now in
     let fails : ¬ shape (view c.item-item.result) = λ h. false≢true (sym c.if-not-is_within.true ∙ c.is_within.ensures.shape.1 h) in
     record {
@@ -27,9 +27,9 @@ returns-then-not-is_within g c =
 
 pub returns : goal.returns
 returns g c =
-    let view = g.T.Item.view in
-    let shape = g.T.Item.shape c.args.n in
-    let fits = g.T.Item.fits in
+    let view = g.T.NamesVariables.view in
+    let shape = g.T.NamesVariables.shape c.args.n in
+    let fits = g.T.NamesVariables.fits in
     let items = c.args.items.now in
     let all = all_seen (λ x. shape (view x) × fits (view x)) items _ c.loop-item-test.false c.loop-item.invariant in
     record {

@@ -1,5 +1,5 @@
 use Rattle.vipr_spec.specs.Shape.{EntryFits}
-use Rattle.vipr_cert.proofs.Seen.{none_seen, one_more, all_seen}
+use Rattle.vipr_cert.proofs.Viewing.{none_seen, one_more, all_seen}
 use Rattle.vipr_cert.proofs.limits.entries.Goals as goal
 
 pub loop-each-init : goal.loop-each-init

@@ -1,5 +1,5 @@
 use Rattle.vipr_spec.specs.Tokens.{IsToken}
-use Rattle.vipr_cert.proofs.Seen.{none_seen, one_more, all_seen}
+use Rattle.vipr_cert.proofs.Viewing.{none_seen, one_more, all_seen}
 use Rattle.vipr_cert.proofs.limits.names.Goals as goal
 
 pub loop-name-init : goal.loop-name-init

@@ -2,14 +2,14 @@ use Rattle.std.proofs.Common.{◌≡◌, ◌∙◌, ap, subst, sym, map, true, f
 use Rattle.clap.specs.Words.{App, Kinds, HasKind, fault_of, found_of, is_simple, is_simple_and_free, rows_of, subcommand_of, takes}
 use Rattle.clap.proofs.WalkLemmas.{first_value-rows}
 use Rattle.vipr_command.specs.Args.{file_named, form_asked, profile_named}
-use Rattle.vipr_command.proofs.ArgsLemmas.{clap_fault, entered_is, failed_on, handed_on, is_asked, is_free_line, is_simple_line, never_other, never_taken, never_without, profile_fine, profile_wrong, taken_by_clap}
+use Rattle.vipr_command.proofs.ArgsLemmas.{clap_fault, entered_is, failed_on, handed_on, is_asked, is_free_line, is_simple_line, never_other, never_accepted, never_without, profile_fine, profile_wrong, accepted_by_clap}
 use Rattle.vipr_command.proofs.args.job_by.Goals as goal
 
 pub returns-in_err-matches-clause-err : goal.returns-in_err-matches-clause-err
 returns-in_err-matches-clause-err c =
     let words = map (λ w. w.now) c.args.words.now in
     handed_on _ _ _ c.from_residual.ensures.1
-    (λ t. c.in_err-matches.ensures.passes (ap (λ (a : App). takes a words) c.requires ∙ taken_by_clap words t))
+    (λ t. c.in_err-matches.ensures.passes (ap (λ (a : App). takes a words) c.requires ∙ accepted_by_clap words t))
 
 pub returns-in_err-matches-clause-kinds : goal.returns-in_err-matches-clause-kinds
 returns-in_err-matches-clause-kinds c =
@@ -44,7 +44,7 @@ returns-in_default-profile_named-clause-err c =
     let met = (c.in_ok-matches.ensures.ok.2 (ap is_simple c.requires ∙ is_simple_line)).1
     ∙ ap (λ (a : App). subcommand_of a words) c.requires in
     let is = entered_is c.in_ok-matches.matches c.in-Some.name.now (rows_of (found_of c.in-Some.inner.now)) c.in-Some.ensures.name c.in-Some.ensures.rows in
-    λ t. absurd (never_taken words _ _ (sym met ∙ is)
+    λ t. absurd (never_accepted words _ _ (sym met ∙ is)
     (c.in_default-profile_named.ensures ∙ ap profile_named (c.get_str.ensures ∙ first_value-rows (found_of c.in-Some.inner.now) (codes "profile"))) t)
 
 pub returns-in_default-profile_named-clause-kinds : goal.returns-in_default-profile_named-clause-kinds

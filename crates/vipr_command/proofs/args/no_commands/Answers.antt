@@ -1,4 +1,4 @@
-use Rattle.std.proofs.Common.{ap, ◌≡◌, ◌∙◌, true}
+use Rattle.std.proofs.Common.{ap, ◌∙◌, true}
 use Rattle.clap.specs.Words.{App}
 use Rattle.clap.specs.Simple.{app_of_fields}
 use Rattle.vipr_command.proofs.args.no_commands.Goals as goal

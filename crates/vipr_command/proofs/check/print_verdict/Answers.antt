@@ -9,8 +9,8 @@ use Rattle.vipr_command.proofs.ExplanationLemmas.{if_known}
 use Rattle.vipr_command.proofs.VerdictLemmas.{verdict_printed, verdict_not_printed}
 use Rattle.vipr_command.proofs.check.print_verdict.Goals as goal
 
-pub returns-in_err-print-clause-told : goal.returns-in_err-print-clause-told
-returns-in_err-print-clause-told g c =
+pub returns-in_err-print-clause-known : goal.returns-in_err-print-clause-known
+returns-in_err-print-clause-known g c =
     let P = profile_of c.args.profile in
     let old = g.O.Sink.output c.args.out.now in
     let new = g.O.Sink.output c.print.new.writer in
@@ -19,8 +19,8 @@ returns-in_err-print-clause-told g c =
     let p = err_from_is_err_and c.from_residual-in_err-print.result c.from_residual-in_err-print.ensures.1 in
     rw (p.1, p.2) (if_known (g.R.Source.input c.args.source) (λ i. Says (IsAnswer P (text_of i)) (Ok v)) (λ i. PrintsVerdict P (known_by i) old new (Err f)) (λ i says. verdict_not_printed P (known_by i) v says old new f c.in_err-print.ensures) c.in_ok-verdict.ensures.exact)
 
-pub returns-clause-told : goal.returns-clause-told
-returns-clause-told g c =
+pub returns-clause-known : goal.returns-clause-known
+returns-clause-known g c =
     let P = profile_of c.args.profile in
     let old = g.O.Sink.output c.args.out.now in
     let new = g.O.Sink.output c.print.new.writer in

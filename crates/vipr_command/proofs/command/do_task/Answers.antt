@@ -1,11 +1,11 @@
 use Rattle.std.proofs.Common.{rules}
 use Rattle.vipr_command.proofs.command.do_task.Goals as goal
 
-pub returns-in-Check-clause-told : goal.returns-in-Check-clause-told
-returns-in-Check-clause-told g c = search rules
+pub returns-in-Check-clause-known : goal.returns-in-Check-clause-known
+returns-in-Check-clause-known g c = search rules
 
-pub returns-in-Explain-clause-told : goal.returns-in-Explain-clause-told
-returns-in-Explain-clause-told g c = search rules
+pub returns-in-Explain-clause-known : goal.returns-in-Explain-clause-known
+returns-in-Explain-clause-known g c = search rules
 
-pub returns-in-Tighten-clause-told : goal.returns-in-Tighten-clause-told
-returns-in-Tighten-clause-told g c = search rules
+pub returns-in-Tighten-clause-known : goal.returns-in-Tighten-clause-known
+returns-in-Tighten-clause-known g c = search rules

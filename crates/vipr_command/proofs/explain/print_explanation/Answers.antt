@@ -8,8 +8,8 @@ use Rattle.vipr_command.specs.Run.{PrintsExplanation, known_by, unknown_input}
 use Rattle.vipr_command.proofs.ExplanationLemmas.{if_known, printed, not_printed}
 use Rattle.vipr_command.proofs.explain.print_explanation.Goals as goal
 
-pub returns-in_err-printed-clause-told : goal.returns-in_err-printed-clause-told
-returns-in_err-printed-clause-told g c =
+pub returns-in_err-printed-clause-known : goal.returns-in_err-printed-clause-known
+returns-in_err-printed-clause-known g c =
     let P = profile_of c.args.profile in
     let old = g.O.Sink.output c.args.out.now in
     let new = g.O.Sink.output c.print-printed.new.writer in
@@ -19,8 +19,8 @@ returns-in_err-printed-clause-told g c =
     let p = err_from_is_err_and c.from_residual-in_err-printed.result c.from_residual-in_err-printed.ensures.1 in
     rw (p.1, p.2) (if_known (g.R.Source.input c.args.source) (λ i. SaysInDetail (IsExplained P (text_of i)) (Ok (v, x))) (λ i. PrintsExplanation P (known_by i) old new (Err f)) (λ i explained. not_printed P (known_by i) v x explained old new f c.in_err-printed.ensures) c.in_ok-verdict.ensures.detail)
 
-pub returns-clause-told : goal.returns-clause-told
-returns-clause-told g c =
+pub returns-clause-known : goal.returns-clause-known
+returns-clause-known g c =
     let P = profile_of c.args.profile in
     let old = g.O.Sink.output c.args.out.now in
     let new = g.O.Sink.output c.print-printed.new.writer in

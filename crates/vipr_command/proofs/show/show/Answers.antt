@@ -1,4 +1,3 @@
-use Rattle.std.proofs.Common.{◌∙◌}
 use Rattle.vipr_command.specs.Show.{any_text}
 use Rattle.vipr_command.proofs.ShowLemmas.{shown_by, exact_by, spelled_by, none_spelled, never_unread}
 use Rattle.vipr_command.proofs.show.show.Goals as goal

@@ -2,7 +2,7 @@ use Rattle.std.proofs.Common.{◌≡◌, ◌+◌, ◌<◌, ◌^◌, ℕ, Some, O
 use Rattle.std.specs.Int.{w128}
 use Rattle.std.proofs.lemmas.Int.{to_z-of_z}
 use Rattle.vipr_spec.specs.Fraction.{whole}
-use Rattle.vipr_spec.specs.Number.{signed}
+use Rattle.vipr_spec.specs.Number.{signed_integer}
 use Rattle.vipr_spec.specs.Digits.{natural_of}
 use Rattle.vipr_spec.proofs.Laws.{plain_number}
 use Rattle.vipr_frac.proofs.Fronts.{front_value, fraction_solid, fraction_value, onward, solid}
@@ -31,6 +31,6 @@ returns-clause-value c =
     let n : ℕ = c.front_natural-top.result.0 in
     let small : n < 10 ^ 18 = c.front_natural-top.ensures.small in
     let top : natural_of (take len bs) ≡ Some n = front_value len n bs (omega arith) c.front_natural-top.ensures.within c.front_natural-top.ensures.value in
-    let value : to_z w128 (of_z w128 c.with_sign.result) ≡ signed c.args.is_negative n =
-    to_z-of_z w128 c.with_sign.result (record { sfits = c.with_sign.type_inv }) ∙ c.with_sign.ensures ∙ ap (signed c.args.is_negative) c.from.ensures in
+    let value : to_z w128 (of_z w128 c.with_sign.result) ≡ signed_integer c.args.is_negative n =
+    to_z-of_z w128 c.with_sign.result (record { sfits = c.with_sign.type_inv }) ∙ c.with_sign.ensures ∙ ap (signed_integer c.args.is_negative) c.from.ensures in
     ap Ok (c.of_whole.ensures ∙ ap whole value) ∙ sym (plain_number c.args.is_negative (take len bs) n top (omega arith))

@@ -1,9 +1,7 @@
-use Rattle.std.proofs.Common.{rules, ◌≡◌, ◌≢◌, ◌<◌, ℕ, ◌∙◌, ap, ap₂, sym, subst, get_or, length, arith, refl, not, false, true}
+use Rattle.std.proofs.Common.{rules, ◌≡◌, ◌≢◌, ◌<◌, ℕ, ◌∙◌, ap, ap₂, sym, get_or, length, arith, false, true}
 use Rattle.std.proofs.lemmas.List.{get_or_default}
 use Rattle.vipr_spec.specs.Fraction.{ℚ, zero_ℚ}
-use Rattle.vipr_spec.proofs.Laws.{zero_or_not}
 use Rattle.vipr_linear.proofs.Matching.{matched, passed, next}
-use Rattle.vipr_linear.proofs.Marks.{all_picked}
 use Rattle.vipr_linear.proofs.sums.are_sums.Goals as goal
 use Rattle.vipr_linear.proofs.sums.are_sums.Goals.{then-met-entries-via-then-met-entries, then-met-entries-via-else-met-entries+then-entries-met, then-met-entries-via-else-met-entries+else-entries-met+then-not-is}
 use Rattle.vipr_linear.proofs.sums.are_sums.Goals.{then-not-is_zero+else-met-entries+else-entries-met+else-not-is, else-not-is_zero}

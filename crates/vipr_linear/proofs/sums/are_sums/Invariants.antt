@@ -1,5 +1,5 @@
-use Rattle.std.proofs.Common.{◌≡◌, ◌≤◌, ℕ, take, get_or, map, filter, length}
-use Rattle.vipr_spec.specs.Fraction.{ℚ, zero_ℚ}
+use Rattle.std.proofs.Common.{◌≡◌, ◌≤◌, take, get_or, map, filter, length}
+use Rattle.vipr_spec.specs.Fraction.{zero_ℚ}
 use Rattle.vipr_spec.specs.Reading.{is_nonzero}
 use Rattle.vipr_linear.proofs.sums.are_sums.Given as goal
 

@@ -1,4 +1,4 @@
-use Rattle.std.proofs.Common.{◌≡◌, ◌∙◌, [], ap, sym, subst}
+use Rattle.std.proofs.Common.{◌∙◌, [], sym}
 use Rattle.vipr_linear.proofs.Rows.{at-nothing}
 use Rattle.vipr_linear.proofs.Collecting.{touched_within}
 use Rattle.vipr_linear.proofs.Matching.{picked_row}

@@ -1,4 +1,4 @@
-use Rattle.std.proofs.Common.{◌≡◌, ◌∙◌, ap, sym, subst}
+use Rattle.std.proofs.Common.{◌∙◌, ap, sym}
 use Rattle.std.specs.FinMap.{from_sorted}
 use Rattle.vipr_spec.specs.Constraint.{at}
 use Rattle.vipr_linear.proofs.Rows.{row_again}

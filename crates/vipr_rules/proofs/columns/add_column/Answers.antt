@@ -26,7 +26,7 @@ bounds-entries-place-in-loop-index c =
 
 pub returns-in_err-add_term-clause-listed : goal.returns-in_err-add_term-clause-listed
 returns-in_err-add_term-clause-listed c =
-    listed_set c.loop-index.sums c.touch.new.touched.items (get_or c.args.places.now c.loop-index.index-index (0, 0)).0 c.add_term.new.sum c.touch.ensures.listed c.in_ok-touch.ensures.stands
+    listed_set c.loop-index.sums c.touch.new.touched.items (get_or c.args.places.now c.loop-index.index-index (0, 0)).0 c.add_term.new.sum c.touch.ensures.listed c.in_ok-touch.ensures.occurs
 
 pub loop-index-preserved : goal.loop-index-preserved
 loop-index-preserved c =
@@ -41,7 +41,7 @@ loop-index-preserved c =
           let coefficient = ap (λ q. q.1) (sym c.index-entries-place.is) ∙ place_read (given_of c.args.cons.now) (length c.args.cons.now) j place found c.entries.result.now same c.index-entries-place.result c.index-entries-place.is in
           let old = get_or c.loop-index.sums place.0 c.index-sums-index.result in
           half_sums_next o (given_of c.args.cons.now) x j c.args.places.now (given_places o c.args.cons.now j c.args.places.now is) c.loop-index.sums c.loop-index.index-index place l (get_or_default c.args.places.now c.loop-index.index-index (0, 0) place l) within old c.add_term.new.sum (get_or_default c.loop-index.sums place.0 c.index-sums-index.result old within) read.1 c.args.coordinate coefficient coordinate c.in_ok-add_term.ensures.fits c.in_ok-add_term.ensures.sum (c.loop-index.invariant.sums o j x is coordinate all);
-      listed = listed_set c.loop-index.sums c.touch.new.touched.items place.0 c.add_term.new.sum c.touch.ensures.listed c.in_ok-touch.ensures.stands;
+      listed = listed_set c.loop-index.sums c.touch.new.touched.items place.0 c.add_term.new.sum c.touch.ensures.listed c.in_ok-touch.ensures.occurs;
     }
 
 pub returns-clause-sums : goal.returns-clause-sums

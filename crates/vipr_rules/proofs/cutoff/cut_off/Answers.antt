@@ -26,7 +26,7 @@ returns-in_err-check_domination-clause-ruled g c = λ P d e is says.
     let q = err_from_is_err_and c.from_residual-in_err-check_domination.result c.from_residual-in_err-check_domination.ensures.1 in
     rw (q.1, q.2) (elim c.in_err-check_domination.ensures [
       | inl memory ↦ inl (memory, listed_passes P d e value best)
-      | inr told ↦ inr (cut_not_dominated P d e value best c.in_ok-computed.computed c.args.stated.now same says _ told)
+      | inr known ↦ inr (cut_not_dominated P d e value best c.in_ok-computed.computed c.args.stated.now same says _ known)
     ])
 
 pub returns-clause-ruled : goal.returns-clause-ruled

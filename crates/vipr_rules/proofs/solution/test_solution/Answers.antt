@@ -18,31 +18,31 @@ pub returns-in_err-test_constraints-clause-tested : goal.returns-in_err-test_con
 returns-in_err-test_constraints-clause-tested c =
     let p = c.args.p.now in
     let s = c.args.solution.now.0 in
-    let laid = subst (λ n. IsLaidOut n (at s) c.lay_out.new.self.sums) c.requires.variables c.lay_out.ensures in
-    let told = c.objective-objective.ensures in
-    let below = objective_below p c.objective-objective.result.now told.objective told.writes in
-    let is = subst (λ r. IsValueOf (variables p) (at r) (at s) c.laid_value-value.result) told.objective (c.laid_value-value.ensures (variables p) (at s) laid below) in
+    let columns_for = subst (λ n. IsLaidOut n (at s) c.lay_out.new.self.sums) c.requires.variables c.lay_out.ensures in
+    let known = c.objective-objective.ensures in
+    let below = objective_below p c.objective-objective.result.now known.objective known.writes in
+    let is = subst (λ r. IsValueOf (variables p) (at r) (at s) c.laid_value-value.result) known.objective (c.laid_value-value.ensures (variables p) (at s) columns_for below) in
     let q = err_from_is_err_and c.from_residual-in_err-test_constraints.result c.from_residual-in_err-test_constraints.ensures.1 in
-    rw (q.1, q.2) (constraints_fail p s _ (c.in_ok-test_integers.ensures p (sym c.ints.ensures.integers) c.objective-objective.ensures.writes.shape.integers) (c.in_err-test_constraints.ensures s laid is))
+    rw (q.1, q.2) (constraints_fail p s _ (c.in_ok-test_integers.ensures p (sym c.ints.ensures.integers) c.objective-objective.ensures.writes.shape.integers) (c.in_err-test_constraints.ensures s columns_for is))
 
 pub returns-in-Some-clause-tested : goal.returns-in-Some-clause-tested
 returns-in-Some-clause-tested c =
     let p = c.args.p.now in
     let s = c.args.solution.now.0 in
-    let told = c.objective-objective.ensures in
-    let laid = subst (λ n. IsLaidOut n (at s) c.lay_out.new.self.sums) c.requires.variables c.lay_out.ensures in
-    let below = objective_below p c.objective-objective.result.now told.objective told.writes in
-    let is = subst (λ r. IsValueOf (variables p) (at r) (at s) c.laid_value-value.result) told.objective (c.laid_value-value.ensures (variables p) (at s) laid below) in
+    let known = c.objective-objective.ensures in
+    let columns_for = subst (λ n. IsLaidOut n (at s) c.lay_out.new.self.sums) c.requires.variables c.lay_out.ensures in
+    let below = objective_below p c.objective-objective.result.now known.objective known.writes in
+    let is = subst (λ r. IsValueOf (variables p) (at r) (at s) c.laid_value-value.result) known.objective (c.laid_value-value.ensures (variables p) (at s) columns_for below) in
     let good = subst (IsValueOf (variables p) (at p.objective) (at s)) c.in-Some.is is in
-    (objective_last p s None (c.in_ok-test_integers.ensures p (sym c.ints.ensures.integers) told.writes.shape.integers) (c.in_ok-test_constraints.ensures s laid is) (inl (good.0, refl)), good.1)
+    (objective_last p s None (c.in_ok-test_integers.ensures p (sym c.ints.ensures.integers) known.writes.shape.integers) (c.in_ok-test_constraints.ensures s columns_for is) (inl (good.0, refl)), good.1)
 
 pub returns-in-None-clause-tested : goal.returns-in-None-clause-tested
 returns-in-None-clause-tested c =
     let p = c.args.p.now in
     let s = c.args.solution.now.0 in
-    let told = c.objective-objective.ensures in
-    let laid = subst (λ n. IsLaidOut n (at s) c.lay_out.new.self.sums) c.requires.variables c.lay_out.ensures in
-    let below = objective_below p c.objective-objective.result.now told.objective told.writes in
-    let is = subst (λ r. IsValueOf (variables p) (at r) (at s) c.laid_value-value.result) told.objective (c.laid_value-value.ensures (variables p) (at s) laid below) in
+    let known = c.objective-objective.ensures in
+    let columns_for = subst (λ n. IsLaidOut n (at s) c.lay_out.new.self.sums) c.requires.variables c.lay_out.ensures in
+    let below = objective_below p c.objective-objective.result.now known.objective known.writes in
+    let is = subst (λ r. IsValueOf (variables p) (at r) (at s) c.laid_value-value.result) known.objective (c.laid_value-value.ensures (variables p) (at s) columns_for below) in
     let bad : ¬ ValueFits (variables p) (at p.objective) (at s) = subst (IsValueOf (variables p) (at p.objective) (at s)) c.in-None.is is in
-    (objective_last p s (Some objective_fits) (c.in_ok-test_integers.ensures p (sym c.ints.ensures.integers) told.writes.shape.integers) (c.in_ok-test_constraints.ensures s laid is) (inr (bad, refl)), λ name. refl)
+    (objective_last p s (Some objective_fits) (c.in_ok-test_integers.ensures p (sym c.ints.ensures.integers) known.writes.shape.integers) (c.in_ok-test_constraints.ensures s columns_for is) (inr (bad, refl)), λ name. refl)

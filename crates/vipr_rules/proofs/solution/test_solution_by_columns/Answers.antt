@@ -14,24 +14,24 @@ returns-in_err-test_integers-clause-tested c =
 pub find_met-requires-clause-room : goal.find_met-requires-clause-room
 find_met-requires-clause-room c =
     let p = c.args.p.now in
-    let told = c.objective-objective.ensures in
-    let below = objective_below p c.objective-objective.result.now told.objective told.writes in
-    subst (λ r. ValueFits (variables p) (at r) (at c.args.solution.now.0)) told.objective ((c.in-Ok.ensures.fits (variables p) below).0 refl)
+    let known = c.objective-objective.ensures in
+    let below = objective_below p c.objective-objective.result.now known.objective known.writes in
+    subst (λ r. ValueFits (variables p) (at r) (at c.args.solution.now.0)) known.objective ((c.in-Ok.ensures.fits (variables p) below).0 refl)
 
 pub find_met-requires-clause-value : goal.find_met-requires-clause-value
 find_met-requires-clause-value c =
     let p = c.args.p.now in
-    let told = c.objective-objective.ensures in
-    let below = objective_below p c.objective-objective.result.now told.objective told.writes in
-    c.in-Ok.ensures.value (variables p) below ∙ ap (λ r. value (variables p) (at r) (at c.args.solution.now.0)) told.objective
+    let known = c.objective-objective.ensures in
+    let below = objective_below p c.objective-objective.result.now known.objective known.writes in
+    c.in-Ok.ensures.value (variables p) below ∙ ap (λ r. value (variables p) (at r) (at c.args.solution.now.0)) known.objective
 
 pub returns-clause-tested : goal.returns-clause-tested
 returns-clause-tested c =
     let p = c.args.p.now in
     let s = c.args.solution.now.0 in
-    let told = c.objective-objective.ensures in
-    let below = objective_below p c.objective-objective.result.now told.objective told.writes in
-    let room = subst (λ r. ValueFits (variables p) (at r) (at s)) told.objective ((c.in-Ok.ensures.fits (variables p) below).0 refl) in (
-      objective_last p s None (c.in_ok-test_integers.ensures p (sym c.ints.ensures.integers) told.writes.shape.integers) (c.find_met.ensures.met c.if-not-find_met.false) (inl (room, refl)),
-      c.in-Ok.ensures.value (variables p) below ∙ ap (λ r. value (variables p) (at r) (at s)) told.objective,
+    let known = c.objective-objective.ensures in
+    let below = objective_below p c.objective-objective.result.now known.objective known.writes in
+    let room = subst (λ r. ValueFits (variables p) (at r) (at s)) known.objective ((c.in-Ok.ensures.fits (variables p) below).0 refl) in (
+      objective_last p s None (c.in_ok-test_integers.ensures p (sym c.ints.ensures.integers) known.writes.shape.integers) (c.find_met.ensures.met c.if-not-find_met.false) (inl (room, refl)),
+      c.in-Ok.ensures.value (variables p) below ∙ ap (λ r. value (variables p) (at r) (at s)) known.objective,
     )

@@ -17,7 +17,7 @@ use Rattle.vipr_rules.proofs.EntryTests.{one_more, take_all, entry_passes, sum_s
 use Rattle.vipr_rules.proofs.StepLemmas.{stops_first, stops_second, passes_both}
 use Rattle.vipr_rules.proofs.SumLemmas.{entries_more, unused_held, IsTrueSum, nothing_true, more_true, sum_is_true}
 use Rattle.vipr_rules.proofs.UnionLemmas.{IsSetOfAll-none, without_it, with_it}
-use Rattle.vipr_table.specs.Unions.{gathered}
+use Rattle.vipr_table.specs.Unions.{union_so_far}
 use Rattle.vipr_rules.proofs.SoundLemmas.{true_left, true_right}
 use Rattle.vipr_rules.proofs.JoinedLemmas.{joined_more, joined_unused}
 use Rattle.vipr_rules.proofs.sum.add_each.Goals as goal
@@ -63,16 +63,16 @@ loop-position-preserved g c =
             references_more (PassesStep P d (condition s.stated)) _ _ _ lt item None so_far.0 found.0,
             entry_passes (PassesStep P d (condition s.stated)) _ _ _ lt item so_far.1 (new.sense, held.sense_is) held.fits,
             subst (λ l. Holds n (entries d l) new) (sym more) held,
-            subst (λ l. IsSetOfAll d l (gathered c.join.new.assumptions)) (sym more)
+            subst (λ l. IsSetOfAll d l (union_so_far c.join.new.assumptions)) (sym more)
                 (subst (IsSetOfAll d (take c.loop-position.position c.args.entries.now ++ e ∷ [])) (sym c.in_ok-join.ensures)
-                (with_it d (take c.loop-position.position c.args.entries.now) e (gathered c.loop-position.assumptions) so_far.3 (not_zero e.1 used.0) (set_of known) used.1.rests)),
+                (with_it d (take c.loop-position.position c.args.entries.now) e (union_so_far c.loop-position.assumptions) so_far.3 (not_zero e.1 used.0) (set_of known) used.1.rests)),
           );
       sound = λ says x here h.
           let sound = rw c.in-Some.is at c.in_ok-known.ensures.sound in
-          let so_far = c.loop-position.invariant.sound says x here (true_left n says x (gathered c.loop-position.assumptions) (set_of known) (gathered c.join.new.assumptions) c.in_ok-join.ensures h) in
+          let so_far = c.loop-position.invariant.sound says x here (true_left n says x (union_so_far c.loop-position.assumptions) (set_of known) (union_so_far c.join.new.assumptions) c.in_ok-join.ensures h) in
           more_true n x c.loop-position.scratch new (e.1, condition_of c.constraint.result.now) so_far (c.in_default-add_multiple.ensures.sum n so_far.es so_far.held)
-          (subst (λ (r : Constraint). IsTrueAt n (condition_of r) x) (sym c.constraint.ensures) (sound says x here (true_right n says x (gathered c.loop-position.assumptions) (set_of known) (gathered c.join.new.assumptions) c.in_ok-join.ensures h)));
-      joined = joined_more (set_found g.S.Rows.table c.args.context.now) c.args.entries.now c.loop-position.position e lt item (gathered c.loop-position.assumptions) (set_of known) (gathered c.join.new.assumptions) c.loop-position.invariant.joined (rw c.in-Some.is at c.in_ok-known.ensures.set) c.in_ok-join.ensures;
+          (subst (λ (r : Constraint). IsTrueAt n (condition_of r) x) (sym c.constraint.ensures) (sound says x here (true_right n says x (union_so_far c.loop-position.assumptions) (set_of known) (union_so_far c.join.new.assumptions) c.in_ok-join.ensures h)));
+      joined = joined_more (set_found g.S.Rows.table c.args.context.now) c.args.entries.now c.loop-position.position e lt item (union_so_far c.loop-position.assumptions) (set_of known) (union_so_far c.join.new.assumptions) c.loop-position.invariant.joined (rw c.in-Some.is at c.in_ok-known.ensures.set) c.in_ok-join.ensures;
     }
 
 pub join-requires : goal.join-requires
@@ -100,10 +100,10 @@ loop-position-preserved-in_default g c =
             references_more (PassesStep P d (condition s.stated)) _ _ _ lt item None so_far.0 found.0,
             entry_passes (PassesStep P d (condition s.stated)) _ _ _ lt item so_far.1 (c.loop-position.scratch.sense, held.sense_is) held.fits,
             subst (λ l. Holds n (entries d l) c.loop-position.scratch) (sym more) held,
-            subst (λ l. IsSetOfAll d l (gathered c.loop-position.assumptions)) (sym more) (without_it d (take c.loop-position.position c.args.entries.now) e (gathered c.loop-position.assumptions) so_far.3 (λ m. absurd (m none))),
+            subst (λ l. IsSetOfAll d l (union_so_far c.loop-position.assumptions)) (sym more) (without_it d (take c.loop-position.position c.args.entries.now) e (union_so_far c.loop-position.assumptions) so_far.3 (λ m. absurd (m none))),
           );
       sound = c.loop-position.invariant.sound;
-      joined = joined_unused (set_found g.S.Rows.table c.args.context.now) c.args.entries.now c.loop-position.position e lt item (gathered c.loop-position.assumptions) c.loop-position.invariant.joined (rw c.in_default.is at c.in_ok-known.ensures.used);
+      joined = joined_unused (set_found g.S.Rows.table c.args.context.now) c.args.entries.now c.loop-position.position e lt item (union_so_far c.loop-position.assumptions) c.loop-position.invariant.joined (rw c.in_default.is at c.in_ok-known.ensures.used);
     }
 
 pub returns-in_err-known-clause-sum : goal.returns-in_err-known-clause-sum
@@ -154,7 +154,7 @@ returns-clause-sum g c = λ P d s is.
       subst (λ l. PassesTestsIn P d s (sum_tests l)) all
           (passes_both P d s (flat_map reference_tests (take c.loop-position.position c.args.entries.now)) (entry_tests [] (take c.loop-position.position c.args.entries.now)) so_far.0 so_far.1),
       subst (λ l. IsSum d l (held_condition c.loop-position.scratch)) all (_, sum.0, sum.1),
-      subst (λ l. IsSetOfAll d l (gathered c.loop-position.assumptions)) all so_far.3,
+      subst (λ l. IsSetOfAll d l (union_so_far c.loop-position.assumptions)) all so_far.3,
     )
 
 pub returns-clause-sound : goal.returns-clause-sound

@@ -7,7 +7,7 @@ use Rattle.vipr_linear.specs.Accumulator.{Holds}
 use Rattle.vipr_rules.specs.Context.{IsContextOf, IsSetOfAll, set_found, AreJoined}
 use Rattle.vipr_rules.specs.Soundness.{IsSoundAt}
 use Rattle.vipr_rules.specs.Apply.{PassesTestsIn}
-use Rattle.vipr_table.specs.Unions.{gathered}
+use Rattle.vipr_table.specs.Unions.{union_so_far}
 use Rattle.vipr_rules.proofs.SoundLemmas.{AreTrue}
 use Rattle.vipr_rules.proofs.SumLemmas.{IsTrueSum}
 use Rattle.vipr_rules.proofs.sum.add_each.Given as goal
@@ -19,8 +19,8 @@ invariant-loop-position g l =
       fresh : l.scratch.spent ≡ false;
       sum : (P : Profile) (c : Certificate) (d : Derivation) → IsContextOf g.S.Rows.table P c l.context
           → PassesTestsIn P c d (flat_map reference_tests (take l.position l.entries)) × PassesTestsIn P c d (entry_tests [] (take l.position l.entries))
-          × Holds (variables l.context.problem.now) (entries c (take l.position l.entries)) l.scratch × IsSetOfAll c (take l.position l.entries) (gathered l.assumptions);
+          × Holds (variables l.context.problem.now) (entries c (take l.position l.entries)) l.scratch × IsSetOfAll c (take l.position l.entries) (union_so_far l.assumptions);
       sound : (says : ℕ → Condition) (x : Point) → IsSoundAt g.S.Rows.table l.context says x
-          → AreTrue (variables l.context.problem.now) says (gathered l.assumptions) x → IsTrueSum (variables l.context.problem.now) x l.scratch;
-      joined : AreJoined (set_found g.S.Rows.table l.context) l.entries l.position (gathered l.assumptions);
+          → AreTrue (variables l.context.problem.now) says (union_so_far l.assumptions) x → IsTrueSum (variables l.context.problem.now) x l.scratch;
+      joined : AreJoined (set_found g.S.Rows.table l.context) l.entries l.position (union_so_far l.assumptions);
     }

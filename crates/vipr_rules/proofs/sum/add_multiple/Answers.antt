@@ -2,7 +2,7 @@ use Rattle.std.proofs.Common.{Err, sym, ap, subst, ◌∙◌, refl, inl, inr, �
 use Rattle.vipr_spec.specs.Constraint.{at, Entry, NamesBelow}
 use Rattle.vipr_linear.specs.Accumulator.{Holds}
 use Rattle.vipr_linear.specs.Constraint.{condition_of}
-use Rattle.vipr_linear.proofs.Laws.{fits_told, suitable_told, step_held}
+use Rattle.vipr_linear.proofs.Laws.{fits_known, suitable_known, step_held}
 use Rattle.vipr_rules.proofs.sum.add_multiple.Goals as goal
 
 pub returns-in-Ok-clause-sum : goal.returns-in-Ok-clause-sum
@@ -15,11 +15,11 @@ returns-in-Ok-clause-sum c = λ n es h.
 pub returns-in-Err-MixedSigns-clause-sum : goal.returns-in-Err-MixedSigns-clause-sum
 returns-in-Err-MixedSigns-clause-sum c = λ n es h.
     let e : Entry = (c.args.multiplier, condition_of c.args.constraint.now) in
-    let told = c.add.ensures.mixed_signs.0 (c.in-Err-MixedSigns.is ∙ ap Err c.in-Err-MixedSigns.field-0-is) in
-    inl (refl, λ s. let some = (suitable_told n es e c.args.scratch.now h).1 s in absurd (let none = told.1 in cc))
+    let known = c.add.ensures.mixed_signs.0 (c.in-Err-MixedSigns.is ∙ ap Err c.in-Err-MixedSigns.field-0-is) in
+    inl (refl, λ s. let some = (suitable_known n es e c.args.scratch.now h).1 s in absurd (let none = known.1 in cc))
 
 pub returns-in-Err-Overflow-clause-sum : goal.returns-in-Err-Overflow-clause-sum
 returns-in-Err-Overflow-clause-sum c = λ n es h.
     let e : Entry = (c.args.multiplier, condition_of c.args.constraint.now) in
-    let told = c.add.ensures.overflow.0 (c.in-Err-Overflow.is ∙ ap Err c.in-Err-Overflow.field-0-is) in
-    inr (refl, (suitable_told n es e c.args.scratch.now h).0 told.1, λ f. told.2 ((fits_told n es e c.args.scratch.now h).1 f))
+    let known = c.add.ensures.overflow.0 (c.in-Err-Overflow.is ∙ ap Err c.in-Err-Overflow.field-0-is) in
+    inr (refl, (suitable_known n es e c.args.scratch.now h).0 known.1, λ f. known.2 ((fits_known n es e c.args.scratch.now h).1 f))

@@ -13,13 +13,13 @@ returns-in-Ok-Row-clause-tests c = λ P d e es sum ints says.
     let dominates = rw c.in-Ok-Row.field-0-is at (c.in-Ok-Row.ensures.dominates (condition_of c.args.stated.now)) in
     MatchResult-weaker c.check_domination.result c.check_domination.ensures
     (λ _ h. rounded_dominates P d e es c.args.sum sum c.args.ints.now ints whole_row c.args.stated.now says (dominates.0 h))
-    (λ error told. rounded_refused P d e es c.args.sum sum c.args.ints.now ints whole_row c.args.stated.now says c.in-Ok-Row.computed rounding dominates error told)
+    (λ error known. rounded_refused P d e es c.args.sum sum c.args.ints.now ints whole_row c.args.stated.now says c.in-Ok-Row.computed rounding dominates error known)
 
 pub returns-in-Ok-Row-clause-dominates : goal.returns-in-Ok-Row-clause-dominates
 returns-in-Ok-Row-clause-dominates c =
     let whole_row = c.in-Ok-Row.ensures.ok.0 refl in
     let dominates = rw c.in-Ok-Row.field-0-is at (c.in-Ok-Row.ensures.dominates (condition_of c.args.stated.now)) in
-    MatchResult-weaker c.check_domination.result c.check_domination.ensures (λ _ h. (whole_row, dominates.0 h)) (λ error told. tt)
+    MatchResult-weaker c.check_domination.result c.check_domination.ensures (λ _ h. (whole_row, dominates.0 h)) (λ error known. tt)
 
 pub returns-in-Ok-Absurd-clause-tests : goal.returns-in-Ok-Absurd-clause-tests
 returns-in-Ok-Absurd-clause-tests c = λ P d e es sum ints says.

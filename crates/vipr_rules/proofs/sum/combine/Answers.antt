@@ -21,7 +21,7 @@ returns-in_err-check_sum-clause-ruled g c = λ P d e is says.
     let p = err_from_is_err_and c.from_residual-in_err-check_sum.result c.from_residual-in_err-check_sum.ensures.1 in
     rw (p.1, p.2) (elim c.in_err-check_sum.ensures.dominates [
       | inl memory ↦ inl (memory, refl)
-      | inr told ↦ inr (stops_second P d e (sum_tests c.args.entries.now) (by_sum c.args.entries.now ∷ []) _ sum.0 (not_dominated P d e c.args.entries.now (held_condition c.add_up.new.scratch) c.args.stated.now sum.1 says told.0 told.1 _ told.2))
+      | inr known ↦ inr (stops_second P d e (sum_tests c.args.entries.now) (by_sum c.args.entries.now ∷ []) _ sum.0 (not_dominated P d e c.args.entries.now (held_condition c.add_up.new.scratch) c.args.stated.now sum.1 says known.0 known.1 _ known.2))
     ])
 
 pub returns-clause-ruled : goal.returns-clause-ruled

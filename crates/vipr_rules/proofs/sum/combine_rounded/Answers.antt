@@ -42,10 +42,10 @@ returns-in_err-sum-clause-ruled g c = λ P d e is says.
 pub returns-in_err-check_rounded-clause-ruled : goal.returns-in_err-check_rounded-clause-ruled
 returns-in_err-check_rounded-clause-ruled g c = λ P d e is says.
     let sum = c.in_ok-assumptions.ensures.sum P d e is in
-    let laid = subst (IsSum d c.args.entries.now) (sym (c.in_ok-sum.ensures.sum ∙ ap held_condition c.rounds_to.ensures.kept)) sum.1 in
+    let columns_for = subst (IsSum d c.args.entries.now) (sym (c.in_ok-sum.ensures.sum ∙ ap held_condition c.rounds_to.ensures.kept)) sum.1 in
     let ints = ap (λ (q : Problem). q.integers) is.problem ∙ sym c.ints-2.ensures.integers in
     let p = err_from_is_err_and c.from_residual-in_err-check_rounded.result c.from_residual-in_err-check_rounded.ensures.1 in
-    rw (p.1, p.2) (elim (c.in_err-check_rounded.ensures.tests P d e c.args.entries.now laid ints says) [
+    rw (p.1, p.2) (elim (c.in_err-check_rounded.ensures.tests P d e c.args.entries.now columns_for ints says) [
       | inl memory ↦ inl (memory, refl)
       | inr stops ↦ inr (stops_second P d e (sum_tests c.args.entries.now) (roundable c.args.entries.now ∷ by_rounding c.args.entries.now ∷ []) _ sum.0 stops)
     ])
@@ -53,9 +53,9 @@ returns-in_err-check_rounded-clause-ruled g c = λ P d e is says.
 pub returns-clause-ruled : goal.returns-clause-ruled
 returns-clause-ruled g c = λ P d e is says.
     let sum = c.in_ok-assumptions.ensures.sum P d e is in
-    let laid = subst (IsSum d c.args.entries.now) (sym (c.in_ok-sum.ensures.sum ∙ ap held_condition c.rounds_to.ensures.kept)) sum.1 in
+    let columns_for = subst (IsSum d c.args.entries.now) (sym (c.in_ok-sum.ensures.sum ∙ ap held_condition c.rounds_to.ensures.kept)) sum.1 in
     let ints = ap (λ (q : Problem). q.integers) is.problem ∙ sym c.ints-2.ensures.integers in (
-      passes_both P d e (sum_tests c.args.entries.now) (roundable c.args.entries.now ∷ by_rounding c.args.entries.now ∷ []) sum.0 (c.in_ok-check_rounded.ensures.tests P d e c.args.entries.now laid ints says),
+      passes_both P d e (sum_tests c.args.entries.now) (roundable c.args.entries.now ∷ by_rounding c.args.entries.now ∷ []) sum.0 (c.in_ok-check_rounded.ensures.tests P d e c.args.entries.now columns_for ints says),
       sum.2,
     )
 

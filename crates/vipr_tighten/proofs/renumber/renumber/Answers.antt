@@ -1,6 +1,6 @@
 use Rattle.std.proofs.Common.{◌≡◌, ◌+◌, ◌<◌, ◌++◌, ◌∷◌, [], length, length-append, vec_items, arith, ◌∙◌, ap}
 use Rattle.std.proofs.lemmas.List.{with_items_is}
-use Rattle.vipr_tighten.proofs.Renumbering.{earlier_in, place_left_out, place_taken_over}
+use Rattle.vipr_tighten.proofs.Renumbering.{earlier_in, place_left_out, place_accepted_over}
 use Rattle.vipr_tighten.proofs.renumber.renumber.Goals as goal
 use Rattle.vipr_tighten.proofs.renumber.renumber.Goals.{then-marks-place, else-marks-place}
 
@@ -34,7 +34,7 @@ loop-place-preserved c =
             size = long ∙ inv.size;
             place = omega (arith, more, inv.place);
             behind = omega (arith, inv.behind);
-            so_far = place_taken_over first marks all ds table kept place inv.size inv.place inv.behind inv.so_far there w.if-marks-place.true c.requires.earlier new takes;
+            so_far = place_accepted_over first marks all ds table kept place inv.size inv.place inv.behind inv.so_far there w.if-marks-place.true c.requires.earlier new takes;
           }
       | else-marks-place w ↦
           let same : c.if-marks-place.derivations.items ≡ ds = ap vec_items w.derivations-is in

@@ -3,7 +3,7 @@ use Rattle.vipr_spec.specs.Tightened.{with_new_indices}
 use Rattle.vipr_cert.specs.Items.{derivation_of}
 use Rattle.vipr_cert.specs.declared.items.Derivation.{Derivation}
 use Rattle.vipr_tighten.specs.Passes.{index_by, TakesOver}
-use Rattle.vipr_tighten.proofs.Moving.{taken_over}
+use Rattle.vipr_tighten.proofs.Moving.{accepted_over}
 use Rattle.vipr_tighten.proofs.renumber.take_over.Goals as goal
 
 pub returns : goal.returns
@@ -21,4 +21,4 @@ returns c =
     let referred = rw parts.front at c.set_last.ensures in
     let renumbered = subst (λ (y : Derivation). derivation_of moved ≡ record (with_new_indices (index_by first table) (derivation_of y)) { last = None }) (sym c.index-back-0.is) c.renumber_references.ensures in
     subst (λ l. TakesOver first table kept c.args.place old (changed ++ slice_set l 0 moved)) (sym parts.back)
-    (taken_over first table old c.swap.new.self kept c.args.place c.requires.behind c.requires.there c.swap.ensures.len c.swap.ensures.by_index was moved is_was renumbered changed as_long referred)
+    (accepted_over first table old c.swap.new.self kept c.args.place c.requires.behind c.requires.there c.swap.ensures.len c.swap.ensures.by_index was moved is_was renumbered changed as_long referred)

@@ -23,17 +23,17 @@ pub returns-clause-known_at_is : goal.returns-clause-known_at_is
 unfolding gcd over ◌+ℚ◌ ◌*ℚ◌
 returns-clause-known_at_is c = refl
 
-pub returns-clause-unknown_is : goal.returns-clause-unknown_is
+pub returns-clause-no_constraint_is : goal.returns-clause-no_constraint_is
 unfolding gcd over ◌+ℚ◌ ◌*ℚ◌
-returns-clause-unknown_is c = refl
+returns-clause-no_constraint_is c = refl
 
 pub returns-clause-before_is : goal.returns-clause-before_is
 unfolding gcd over ◌+ℚ◌ ◌*ℚ◌
 returns-clause-before_is c = refl
 
-pub returns-clause-held_is : goal.returns-clause-held_is
+pub returns-clause-count_held_is : goal.returns-clause-count_held_is
 unfolding gcd over ◌+ℚ◌ ◌*ℚ◌
-returns-clause-held_is c = refl
+returns-clause-count_held_is c = refl
 
 pub returns-clause-peak_is : goal.returns-clause-peak_is
 unfolding gcd over ◌+ℚ◌ ◌*ℚ◌

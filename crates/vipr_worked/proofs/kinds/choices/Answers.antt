@@ -10,9 +10,9 @@ pub returns-clause-number_cause_is : goal.returns-clause-number_cause_is
 unfolding gcd over ◌+ℚ◌ ◌*ℚ◌ natural_after natural_of number_read bound_of spelled_sense spelled_direction has_range_of rule_of
 returns-clause-number_cause_is c = refl
 
-pub returns-clause-caused_is : goal.returns-clause-caused_is
+pub returns-clause-or_cause_is : goal.returns-clause-or_cause_is
 unfolding gcd over ◌+ℚ◌ ◌*ℚ◌ natural_after natural_of number_read bound_of spelled_sense spelled_direction has_range_of rule_of
-returns-clause-caused_is c = refl
+returns-clause-or_cause_is c = refl
 
 pub returns-clause-number_of_is : goal.returns-clause-number_of_is
 unfolding gcd over ◌+ℚ◌ ◌*ℚ◌ natural_after natural_of number_read bound_of spelled_sense spelled_direction has_range_of rule_of

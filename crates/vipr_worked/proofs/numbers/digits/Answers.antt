@@ -30,9 +30,9 @@ pub returns-clause-bottom_of_is : goal.returns-clause-bottom_of_is
 unfolding natural_after natural_of
 returns-clause-bottom_of_is c = (refl, refl)
 
-pub returns-clause-signed_is : goal.returns-clause-signed_is
+pub returns-clause-signed_integer_is : goal.returns-clause-signed_integer_is
 unfolding natural_after natural_of
-returns-clause-signed_is c = (refl, refl)
+returns-clause-signed_integer_is c = (refl, refl)
 
 pub returns-clause-under_is : goal.returns-clause-under_is
 unfolding natural_after natural_of

@@ -6,9 +6,9 @@ use Rattle.vipr_spec.specs.Gcd.{gcd}
 use Rattle.vipr_spec.specs.Number.{number_read}
 use Rattle.vipr_worked.proofs.numbers.fractions_read.Goals as goal
 
-pub returns-clause-written_is : goal.returns-clause-written_is
+pub returns-clause-written_fraction_is : goal.returns-clause-written_fraction_is
 unfolding gcd over ◌+ℚ◌ ◌*ℚ◌ natural_after natural_of number_read
-returns-clause-written_is c = (refl, refl)
+returns-clause-written_fraction_is c = (refl, refl)
 
 pub returns-clause-of_parts_is : goal.returns-clause-of_parts_is
 unfolding gcd over ◌+ℚ◌ ◌*ℚ◌ natural_after natural_of number_read

@@ -3,50 +3,50 @@ use Rattle.vipr_spec.specs.Digits.{natural_after, natural_of}
 use Rattle.vipr_spec.specs.Fraction.{over, ◌*ℚ◌, ◌+ℚ◌}
 use Rattle.vipr_spec.specs.Gcd.{gcd}
 use Rattle.vipr_spec.specs.Number.{number_read}
-use Rattle.vipr_spec.specs.Reading.{bound_of, claim_read, constraint_read, constraints_read, count_of, counted_read, first_token, has_range_of, integers_read, names_read, new_variable_of, objective_read, pair_read, pairs_read, problem_read, range_read, repeated, row_read, spelled_direction, spelled_sense, variable_of, vector_read, version_read}
+use Rattle.vipr_spec.specs.Reading.{bound_of, claim_read, constraint_read, constraints_read, count_of, counted_read, first_token, has_range_of, integers_read, names_read, new_variable_of, objective_read, pair_read, pairs_read, problem_read, range_read, read_each, row_read, spelled_direction, spelled_sense, variable_of, vector_read, version_read}
 use Rattle.vipr_spec.specs.Tokens.{is_cut, is_white, token_here, tokens_after_front, tokens_from}
 use Rattle.vipr_worked.proofs.reading.heads.Goals as goal
 
 pub returns-clause-first_token_is : goal.returns-clause-first_token_is
-unfolding gcd over ◌+ℚ◌ ◌*ℚ◌ tokens_from tokens_after_front is_white token_here is_cut natural_after natural_of number_read count_of variable_of new_variable_of bound_of spelled_sense spelled_direction has_range_of first_token repeated pair_read pairs_read counted_read vector_read row_read constraint_read version_read names_read integers_read objective_read constraints_read range_read claim_read problem_read
+unfolding gcd over ◌+ℚ◌ ◌*ℚ◌ tokens_from tokens_after_front is_white token_here is_cut natural_after natural_of number_read count_of variable_of new_variable_of bound_of spelled_sense spelled_direction has_range_of first_token read_each pair_read pairs_read counted_read vector_read row_read constraint_read version_read names_read integers_read objective_read constraints_read range_read claim_read problem_read
 returns-clause-first_token_is c = refl
 
 pub returns-clause-keyword_read_is : goal.returns-clause-keyword_read_is
-unfolding gcd over ◌+ℚ◌ ◌*ℚ◌ tokens_from tokens_after_front is_white token_here is_cut natural_after natural_of number_read count_of variable_of new_variable_of bound_of spelled_sense spelled_direction has_range_of first_token repeated pair_read pairs_read counted_read vector_read row_read constraint_read version_read names_read integers_read objective_read constraints_read range_read claim_read problem_read
+unfolding gcd over ◌+ℚ◌ ◌*ℚ◌ tokens_from tokens_after_front is_white token_here is_cut natural_after natural_of number_read count_of variable_of new_variable_of bound_of spelled_sense spelled_direction has_range_of first_token read_each pair_read pairs_read counted_read vector_read row_read constraint_read version_read names_read integers_read objective_read constraints_read range_read claim_read problem_read
 returns-clause-keyword_read_is c = refl
 
-pub returns-clause-taken_is : goal.returns-clause-taken_is
-unfolding gcd over ◌+ℚ◌ ◌*ℚ◌ tokens_from tokens_after_front is_white token_here is_cut natural_after natural_of number_read count_of variable_of new_variable_of bound_of spelled_sense spelled_direction has_range_of first_token repeated pair_read pairs_read counted_read vector_read row_read constraint_read version_read names_read integers_read objective_read constraints_read range_read claim_read problem_read
-returns-clause-taken_is c = refl
+pub returns-clause-token_of_is : goal.returns-clause-token_of_is
+unfolding gcd over ◌+ℚ◌ ◌*ℚ◌ tokens_from tokens_after_front is_white token_here is_cut natural_after natural_of number_read count_of variable_of new_variable_of bound_of spelled_sense spelled_direction has_range_of first_token read_each pair_read pairs_read counted_read vector_read row_read constraint_read version_read names_read integers_read objective_read constraints_read range_read claim_read problem_read
+returns-clause-token_of_is c = refl
 
 pub returns-clause-version_read_is : goal.returns-clause-version_read_is
-unfolding gcd over ◌+ℚ◌ ◌*ℚ◌ tokens_from tokens_after_front is_white token_here is_cut natural_after natural_of number_read count_of variable_of new_variable_of bound_of spelled_sense spelled_direction has_range_of first_token repeated pair_read pairs_read counted_read vector_read row_read constraint_read version_read names_read integers_read objective_read constraints_read range_read claim_read problem_read
+unfolding gcd over ◌+ℚ◌ ◌*ℚ◌ tokens_from tokens_after_front is_white token_here is_cut natural_after natural_of number_read count_of variable_of new_variable_of bound_of spelled_sense spelled_direction has_range_of first_token read_each pair_read pairs_read counted_read vector_read row_read constraint_read version_read names_read integers_read objective_read constraints_read range_read claim_read problem_read
 returns-clause-version_read_is c = refl
 
 pub returns-clause-names_read_is : goal.returns-clause-names_read_is
-unfolding gcd over ◌+ℚ◌ ◌*ℚ◌ tokens_from tokens_after_front is_white token_here is_cut natural_after natural_of number_read count_of variable_of new_variable_of bound_of spelled_sense spelled_direction has_range_of first_token repeated pair_read pairs_read counted_read vector_read row_read constraint_read version_read names_read integers_read objective_read constraints_read range_read claim_read problem_read
+unfolding gcd over ◌+ℚ◌ ◌*ℚ◌ tokens_from tokens_after_front is_white token_here is_cut natural_after natural_of number_read count_of variable_of new_variable_of bound_of spelled_sense spelled_direction has_range_of first_token read_each pair_read pairs_read counted_read vector_read row_read constraint_read version_read names_read integers_read objective_read constraints_read range_read claim_read problem_read
 returns-clause-names_read_is c = refl
 
 pub returns-clause-integers_read_is : goal.returns-clause-integers_read_is
-unfolding gcd over ◌+ℚ◌ ◌*ℚ◌ tokens_from tokens_after_front is_white token_here is_cut natural_after natural_of number_read count_of variable_of new_variable_of bound_of spelled_sense spelled_direction has_range_of first_token repeated pair_read pairs_read counted_read vector_read row_read constraint_read version_read names_read integers_read objective_read constraints_read range_read claim_read problem_read
+unfolding gcd over ◌+ℚ◌ ◌*ℚ◌ tokens_from tokens_after_front is_white token_here is_cut natural_after natural_of number_read count_of variable_of new_variable_of bound_of spelled_sense spelled_direction has_range_of first_token read_each pair_read pairs_read counted_read vector_read row_read constraint_read version_read names_read integers_read objective_read constraints_read range_read claim_read problem_read
 returns-clause-integers_read_is c = refl
 
 pub returns-clause-objective_read_is : goal.returns-clause-objective_read_is
-unfolding gcd over ◌+ℚ◌ ◌*ℚ◌ tokens_from tokens_after_front is_white token_here is_cut natural_after natural_of number_read count_of variable_of new_variable_of bound_of spelled_sense spelled_direction has_range_of first_token repeated pair_read pairs_read counted_read vector_read row_read constraint_read version_read names_read integers_read objective_read constraints_read range_read claim_read problem_read
+unfolding gcd over ◌+ℚ◌ ◌*ℚ◌ tokens_from tokens_after_front is_white token_here is_cut natural_after natural_of number_read count_of variable_of new_variable_of bound_of spelled_sense spelled_direction has_range_of first_token read_each pair_read pairs_read counted_read vector_read row_read constraint_read version_read names_read integers_read objective_read constraints_read range_read claim_read problem_read
 returns-clause-objective_read_is c = refl
 
 pub returns-clause-constraints_read_is : goal.returns-clause-constraints_read_is
-unfolding gcd over ◌+ℚ◌ ◌*ℚ◌ tokens_from tokens_after_front is_white token_here is_cut natural_after natural_of number_read count_of variable_of new_variable_of bound_of spelled_sense spelled_direction has_range_of first_token repeated pair_read pairs_read counted_read vector_read row_read constraint_read version_read names_read integers_read objective_read constraints_read range_read claim_read problem_read
+unfolding gcd over ◌+ℚ◌ ◌*ℚ◌ tokens_from tokens_after_front is_white token_here is_cut natural_after natural_of number_read count_of variable_of new_variable_of bound_of spelled_sense spelled_direction has_range_of first_token read_each pair_read pairs_read counted_read vector_read row_read constraint_read version_read names_read integers_read objective_read constraints_read range_read claim_read problem_read
 returns-clause-constraints_read_is c = refl
 
 pub returns-clause-range_read_is : goal.returns-clause-range_read_is
-unfolding gcd over ◌+ℚ◌ ◌*ℚ◌ tokens_from tokens_after_front is_white token_here is_cut natural_after natural_of number_read count_of variable_of new_variable_of bound_of spelled_sense spelled_direction has_range_of first_token repeated pair_read pairs_read counted_read vector_read row_read constraint_read version_read names_read integers_read objective_read constraints_read range_read claim_read problem_read
+unfolding gcd over ◌+ℚ◌ ◌*ℚ◌ tokens_from tokens_after_front is_white token_here is_cut natural_after natural_of number_read count_of variable_of new_variable_of bound_of spelled_sense spelled_direction has_range_of first_token read_each pair_read pairs_read counted_read vector_read row_read constraint_read version_read names_read integers_read objective_read constraints_read range_read claim_read problem_read
 returns-clause-range_read_is c = refl
 
 pub returns-clause-claim_read_is : goal.returns-clause-claim_read_is
-unfolding gcd over ◌+ℚ◌ ◌*ℚ◌ tokens_from tokens_after_front is_white token_here is_cut natural_after natural_of number_read count_of variable_of new_variable_of bound_of spelled_sense spelled_direction has_range_of first_token repeated pair_read pairs_read counted_read vector_read row_read constraint_read version_read names_read integers_read objective_read constraints_read range_read claim_read problem_read
+unfolding gcd over ◌+ℚ◌ ◌*ℚ◌ tokens_from tokens_after_front is_white token_here is_cut natural_after natural_of number_read count_of variable_of new_variable_of bound_of spelled_sense spelled_direction has_range_of first_token read_each pair_read pairs_read counted_read vector_read row_read constraint_read version_read names_read integers_read objective_read constraints_read range_read claim_read problem_read
 returns-clause-claim_read_is c = refl
 
 pub returns-clause-problem_read_is : goal.returns-clause-problem_read_is
-unfolding gcd over ◌+ℚ◌ ◌*ℚ◌ tokens_from tokens_after_front is_white token_here is_cut natural_after natural_of number_read count_of variable_of new_variable_of bound_of spelled_sense spelled_direction has_range_of first_token repeated pair_read pairs_read counted_read vector_read row_read constraint_read version_read names_read integers_read objective_read constraints_read range_read claim_read problem_read
+unfolding gcd over ◌+ℚ◌ ◌*ℚ◌ tokens_from tokens_after_front is_white token_here is_cut natural_after natural_of number_read count_of variable_of new_variable_of bound_of spelled_sense spelled_direction has_range_of first_token read_each pair_read pairs_read counted_read vector_read row_read constraint_read version_read names_read integers_read objective_read constraints_read range_read claim_read problem_read
 returns-clause-problem_read_is c = refl

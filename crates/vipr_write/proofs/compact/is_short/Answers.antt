@@ -1,4 +1,4 @@
-use Rattle.std.proofs.Common.{◌≡◌, ◌+◌, ◌*◌, ◌<◌, length, rules, ap, ◌∙◌, arith}
+use Rattle.std.proofs.Common.{◌≡◌, ◌*◌, length, rules, ap, ◌∙◌, arith}
 use Rattle.vipr_write.proofs.Writing.{short_by}
 use Rattle.vipr_write.proofs.compact.is_short.Goals as goal
 

@@ -1,4 +1,4 @@
-use Rattle.std.proofs.Common.{◌≡◌, ◌++◌, refl, sym, ap, ◌∙◌}
+use Rattle.std.proofs.Common.{◌≡◌, ◌++◌, refl, ap, ◌∙◌}
 use Rattle.vipr_cert.specs.Items.{claim_of}
 use Rattle.vipr_write.specs.Canonical.{claim_words, line_text, lines_text}
 use Rattle.vipr_write.specs.Forms.{problem_lines_in}

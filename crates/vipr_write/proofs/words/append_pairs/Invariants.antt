@@ -1,7 +1,7 @@
 use Rattle.std.proofs.Common.{◌≡◌, ◌++◌, take}
 use Rattle.std.specs.List.{flat_map}
-use Rattle.vipr_write.specs.Canonical.{pair_words, spaced}
+use Rattle.vipr_write.specs.Canonical.{pair_words, words_after_spaces}
 use Rattle.vipr_write.proofs.words.append_pairs.Given as goal
 
 abbrev pub invariant-loop-pair : goal.invariant-loop-pair
-invariant-loop-pair l = l.text.items ≡ l.initial.text.items ++ flat_map (λ p. spaced (pair_words p)) (take l.pair-index l.pairs)
+invariant-loop-pair l = l.text.items ≡ l.initial.text.items ++ flat_map (λ p. words_after_spaces (pair_words p)) (take l.pair-index l.pairs)

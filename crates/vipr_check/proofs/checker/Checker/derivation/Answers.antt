@@ -1,4 +1,4 @@
-use Rattle.std.proofs.Common.{◌≡◌, true, false, None, refl, sym, ◌∙◌, ap, subst}
+use Rattle.std.proofs.Common.{◌≡◌, false, None, sym, ◌∙◌, ap, subst}
 use Rattle.vipr_spec.specs.Steps.{with_next, step_tests}
 use Rattle.vipr_cert.specs.Items.{derivation_of}
 use Rattle.vipr_check.specs.Halts.{CanShowHalt}
@@ -39,9 +39,9 @@ returns-in-Err-clause-next g c = λ s halted has.
     let d = derivation_of c.args.step.now in
     let same = ap (λ v. v.progress) c.self.view_is in
     let is = subst (HasSteps s) (sym same) has in
-    let stopped = c.stop_at_step.ensures in
-    let h = stopped.0 in (
+    let verdict_of_stop = c.stop_at_step.ensures in
+    let h = verdict_of_stop.0 in (
       h,
-      kept_or_advanced _ c.args.self.now c.derivation.new.self c.stop_at_step.new.halt h c.stop_at_step.result c.next-index.result _ c.in-Err.error c.self.view_is stopped.1 c.in-Err.ensures.err stopped.2 stopped.3,
-      subst (λ (x : Progress). StopsStep x.profile s d h) same (stops_step c.self.inside.progress.profile s d c.next-index.result c.in-Err.error h (sym (c.next-index.ensures ∙ is.rows.next)) stopped.1 (c.in-Err.ensures.next s is)),
+      kept_or_advanced _ c.args.self.now c.derivation.new.self c.stop_at_step.new.halt h c.stop_at_step.result c.next-index.result _ c.in-Err.error c.self.view_is verdict_of_stop.1 c.in-Err.ensures.err verdict_of_stop.2 verdict_of_stop.3,
+      subst (λ (x : Progress). StopsStep x.profile s d h) same (stops_step c.self.inside.progress.profile s d c.next-index.result c.in-Err.error h (sym (c.next-index.ensures ∙ is.rows.next)) verdict_of_stop.1 (c.in-Err.ensures.next s is)),
     )

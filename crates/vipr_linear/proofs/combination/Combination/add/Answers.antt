@@ -1,46 +1,46 @@
 use Rattle.std.proofs.Common.{◌≡◌, ◌≢◌, ◌∙◌, ap, sym, refl, is_some, subst, false, Some}
 use Rattle.vipr_spec.specs.Fraction.{zero_ℚ}
-use Rattle.vipr_spec.specs.MoreEntries.{joined, turned}
+use Rattle.vipr_spec.specs.MoreEntries.{sense_of_both, sense_of_multiple}
 use Rattle.vipr_linear.specs.Accumulator.{Accumulator, joined_with, AdditionFits}
 use Rattle.vipr_linear.specs.Constraint.{sense_of, condition_of}
-use Rattle.vipr_linear.proofs.Adding.{nothing_changes, told_zero, told_nonzero}
+use Rattle.vipr_linear.proofs.Adding.{nothing_changes, known_zero, known_nonzero}
 use Rattle.vipr_linear.proofs.combination.Combination.add.Goals as goal
 
 pub returns-then-is_zero-clause-added : goal.returns-then-is_zero-clause-added
 returns-then-is_zero-clause-added c =
     let fresh : c.args.self.now.spent ≡ false = ap (λ (a : Accumulator). a.spent) (sym c.self.view_is) ∙ c.if-self.false in
-    nothing_changes c.args.self.now _ fresh (told_zero c.args.multiplier c.is_zero.result c.is_zero.ensures.zero c.if-is_zero.true)
+    nothing_changes c.args.self.now _ fresh (known_zero c.args.multiplier c.is_zero.result c.is_zero.ensures.zero c.if-is_zero.true)
 
 pub returns-then-is_zero-clause-ok : goal.returns-then-is_zero-clause-ok
 returns-then-is_zero-clause-ok c =
     let fresh : c.args.self.now.spent ≡ false = ap (λ (a : Accumulator). a.spent) (sym c.self.view_is) ∙ c.if-self.false in
     let suitable : joined_with c.args.self.now (c.args.multiplier, condition_of c.args.constraint.now) ≡ Some (sense_of c.in-Some.sense) =
-    ap (λ (a : Accumulator). joined a.sense (turned c.args.multiplier (sense_of c.args.constraint.now.sense))) (sym c.self.view_is) ∙ ap (joined (sense_of c.self.inside.sense)) (sym c.turned.ensures) ∙ c.in-Some.ensures in
-    (λ _. record { fresh = fresh; suitable = ap is_some suitable; fits = λ n. absurd (n (told_zero c.args.multiplier c.is_zero.result c.is_zero.ensures.zero c.if-is_zero.true)) }, λ _. refl)
+    ap (λ (a : Accumulator). sense_of_both a.sense (sense_of_multiple c.args.multiplier (sense_of c.args.constraint.now.sense))) (sym c.self.view_is) ∙ ap (sense_of_both (sense_of c.self.inside.sense)) (sym c.turned.ensures) ∙ c.in-Some.ensures in
+    (λ _. record { fresh = fresh; suitable = ap is_some suitable; fits = λ n. absurd (n (known_zero c.args.multiplier c.is_zero.result c.is_zero.ensures.zero c.if-is_zero.true)) }, λ _. refl)
 
 pub returns-then-is_zero-clause-overflow : goal.returns-then-is_zero-clause-overflow
-returns-then-is_zero-clause-overflow c = (λ e. absurd (cc), λ h. absurd (h.2 (λ n. absurd (n (told_zero c.args.multiplier c.is_zero.result c.is_zero.ensures.zero c.if-is_zero.true)))))
+returns-then-is_zero-clause-overflow c = (λ e. absurd (cc), λ h. absurd (h.2 (λ n. absurd (n (known_zero c.args.multiplier c.is_zero.result c.is_zero.ensures.zero c.if-is_zero.true)))))
 
 pub returns-in-Ok-clause-overflow : goal.returns-in-Ok-clause-overflow
 returns-in-Ok-clause-overflow c =
-    let told = rw c.deref_mut.ensures.value at c.in-Ok.ensures.fits in
-    (λ e. absurd (cc), λ h. absurd (h.2 (subst (λ (a : Accumulator). AdditionFits a (c.args.multiplier, condition_of c.args.constraint.now)) c.self.view_is (λ _. told.0 refl))))
+    let known = rw c.deref_mut.ensures.value at c.in-Ok.ensures.fits in
+    (λ e. absurd (cc), λ h. absurd (h.2 (subst (λ (a : Accumulator). AdditionFits a (c.args.multiplier, condition_of c.args.constraint.now)) c.self.view_is (λ _. known.0 refl))))
 
 pub returns-in-Err-clause-ok : goal.returns-in-Err-clause-ok
 returns-in-Err-clause-ok c =
-    let some : c.args.multiplier ≢ zero_ℚ = told_nonzero c.args.multiplier c.is_zero.result c.is_zero.ensures.zero c.if-is_zero.false in
-    let told = rw c.deref_mut.ensures.value at c.in-Err.ensures.fits in
+    let some : c.args.multiplier ≢ zero_ℚ = known_nonzero c.args.multiplier c.is_zero.result c.is_zero.ensures.zero c.if-is_zero.false in
+    let known = rw c.deref_mut.ensures.value at c.in-Err.ensures.fits in
     let never : AdditionFits c.args.self.now (c.args.multiplier, condition_of c.args.constraint.now) → ⊥ = λ fits.
-    (let f = subst (λ (a : Accumulator). AdditionFits a (c.args.multiplier, condition_of c.args.constraint.now)) (sym c.self.view_is) fits some in absurd (let x = told.1 f in cc)) in
+    (let f = subst (λ (a : Accumulator). AdditionFits a (c.args.multiplier, condition_of c.args.constraint.now)) (sym c.self.view_is) fits some in absurd (let x = known.1 f in cc)) in
     (λ t. absurd (cc), λ h. absurd (never h.fits))
 
 pub returns-in-Err-clause-overflow : goal.returns-in-Err-clause-overflow
 returns-in-Err-clause-overflow c =
     let fresh : c.args.self.now.spent ≡ false = ap (λ (a : Accumulator). a.spent) (sym c.self.view_is) ∙ c.if-self.false in
     let suitable : joined_with c.args.self.now (c.args.multiplier, condition_of c.args.constraint.now) ≡ Some (sense_of c.in-Some.sense) =
-    ap (λ (a : Accumulator). joined a.sense (turned c.args.multiplier (sense_of c.args.constraint.now.sense))) (sym c.self.view_is) ∙ ap (joined (sense_of c.self.inside.sense)) (sym c.turned.ensures) ∙ c.in-Some.ensures in
-    let some : c.args.multiplier ≢ zero_ℚ = told_nonzero c.args.multiplier c.is_zero.result c.is_zero.ensures.zero c.if-is_zero.false in
-    let told = rw c.deref_mut.ensures.value at c.in-Err.ensures.fits in
+    ap (λ (a : Accumulator). sense_of_both a.sense (sense_of_multiple c.args.multiplier (sense_of c.args.constraint.now.sense))) (sym c.self.view_is) ∙ ap (sense_of_both (sense_of c.self.inside.sense)) (sym c.turned.ensures) ∙ c.in-Some.ensures in
+    let some : c.args.multiplier ≢ zero_ℚ = known_nonzero c.args.multiplier c.is_zero.result c.is_zero.ensures.zero c.if-is_zero.false in
+    let known = rw c.deref_mut.ensures.value at c.in-Err.ensures.fits in
     let never : AdditionFits c.args.self.now (c.args.multiplier, condition_of c.args.constraint.now) → ⊥ = λ fits.
-    (let f = subst (λ (a : Accumulator). AdditionFits a (c.args.multiplier, condition_of c.args.constraint.now)) (sym c.self.view_is) fits some in absurd (let x = told.1 f in cc)) in
+    (let f = subst (λ (a : Accumulator). AdditionFits a (c.args.multiplier, condition_of c.args.constraint.now)) (sym c.self.view_is) fits some in absurd (let x = known.1 f in cc)) in
     (λ _. (fresh, ap is_some suitable, never), λ _. refl)

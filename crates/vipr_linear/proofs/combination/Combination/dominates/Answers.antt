@@ -1,4 +1,4 @@
-use Rattle.std.proofs.Common.{◌≡◌, subst}
+use Rattle.std.proofs.Common.{subst}
 use Rattle.std.specs.Prelude.{◌↔◌, IsTrue}
 use Rattle.vipr_spec.specs.Constraint.{Dominates}
 use Rattle.vipr_linear.specs.Constraint.{condition_of}
@@ -22,5 +22,5 @@ invariant_of-self c = kept_sorted _ _ _ _ _ _ c.sort_unstable.ensures.permutatio
 
 pub returns-clause-dominates : goal.returns-clause-dominates
 returns-clause-dominates c =
-    let told = rw (c.as_slice-sums.ensures.value, c.value-bound.ensures) at c.dominate.ensures in
-    subst (λ (a : Accumulator). IsTrue c.dominate.result ↔ Dominates (held_condition a) (condition_of c.args.other.now)) c.self.view_is told
+    let known = rw (c.as_slice-sums.ensures.value, c.value-bound.ensures) at c.dominate.ensures in
+    subst (λ (a : Accumulator). IsTrue c.dominate.result ↔ Dominates (held_condition a) (condition_of c.args.other.now)) c.self.view_is known

@@ -1,5 +1,4 @@
-use Rattle.std.proofs.Common.{◌≡◌, subst}
-use Rattle.std.specs.Prelude.{IsTrue}
+use Rattle.std.proofs.Common.{subst}
 use Rattle.vipr_spec.specs.Constraint.{IsWholeRow, DominatesRounded}
 use Rattle.vipr_linear.specs.Constraint.{condition_of}
 use Rattle.vipr_linear.specs.Accumulator.{Accumulator, held_condition}
@@ -22,10 +21,10 @@ invariant_of-self c = kept_sorted _ _ _ _ _ _ c.sort_unstable.ensures.permutatio
 
 pub returns-clause-whole : goal.returns-clause-whole
 returns-clause-whole c t =
-    let told = rw c.as_slice-sums.ensures.value at (c.round_to.ensures.whole t) in
-    subst (λ (a : Accumulator). IsWholeRow c.args.ints.now (held_condition a).row) c.self.view_is told
+    let known = rw c.as_slice-sums.ensures.value at (c.round_to.ensures.whole t) in
+    subst (λ (a : Accumulator). IsWholeRow c.args.ints.now (held_condition a).row) c.self.view_is known
 
 pub returns-clause-dominates : goal.returns-clause-dominates
 returns-clause-dominates c t =
-    let told = rw (c.as_slice-sums.ensures.value, c.value.ensures) at (c.round_to.ensures.dominates t) in
-    subst (λ (a : Accumulator). DominatesRounded (held_condition a) (condition_of c.args.other.now)) c.self.view_is told
+    let known = rw (c.as_slice-sums.ensures.value, c.value.ensures) at (c.round_to.ensures.dominates t) in
+    subst (λ (a : Accumulator). DominatesRounded (held_condition a) (condition_of c.args.other.now)) c.self.view_is known

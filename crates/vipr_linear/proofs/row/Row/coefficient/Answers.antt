@@ -17,5 +17,5 @@ returns-in-Ok c =
 pub returns-in-Err : goal.returns-in-Err
 returns-in-Err c =
     let list = c.as_slice-entries.ensures in
-    let told = rw list at (c.in-Err.ensures.position (λ p. p.0) (answers_always _ _ _ (λ f a r g h. search rules))) in
-    c.zero.ensures ∙ not_found (kept_items c.self.inside.kept) c.args.variable c.in-Err.field-0 c.self.invariant.rising (told (searchable _ c.args.variable c.self.invariant.rising)) ∙ ap (λ m. at m c.args.variable) c.self.view_is
+    let known = rw list at (c.in-Err.ensures.position (λ p. p.0) (answers_always _ _ _ (λ f a r g h. search rules))) in
+    c.zero.ensures ∙ not_found (kept_items c.self.inside.kept) c.args.variable c.in-Err.field-0 c.self.invariant.rising (known (searchable _ c.args.variable c.self.invariant.rising)) ∙ ap (λ m. at m c.args.variable) c.self.view_is

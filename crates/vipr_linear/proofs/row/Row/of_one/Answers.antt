@@ -1,9 +1,7 @@
-use Rattle.std.proofs.Common.{arith, ◌≡◌, Bool, true, false, not, ◌∷◌, [], ap, sym, ◌∙◌, subst}
+use Rattle.std.proofs.Common.{arith, ◌≡◌, true, false, not, [], ap, sym, ◌∙◌}
 use Rattle.std.specs.FinMap.{from_sorted}
 use Rattle.std.specs.Ordering.{nat_cmp}
-use Rattle.vipr_spec.specs.Shape.{RowFits}
 use Rattle.vipr_spec.specs.Reading.{is_nonzero}
-use Rattle.vipr_linear.specs.Row.{AreEntries}
 use Rattle.vipr_linear.proofs.Rows.{one_seen, one_passes, one_fails, one_kept, entries_fit}
 use Rattle.vipr_linear.proofs.row.Row.of_one.Goals as goal
 

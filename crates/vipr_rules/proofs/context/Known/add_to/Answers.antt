@@ -1,9 +1,9 @@
 use Rattle.std.proofs.Common.{sym, ap, ◌∙◌}
 use Rattle.std.specs.FinSet.{union}
 use Rattle.vipr_rules.specs.Context.{set_of}
-use Rattle.vipr_table.specs.Unions.{gathered}
+use Rattle.vipr_table.specs.Unions.{union_so_far}
 use Rattle.vipr_table.proofs.Laws.{union_none}
 use Rattle.vipr_rules.proofs.context.Known.add_to.Goals as goal
 
 pub returns-in-Given : goal.returns-in-Given
-returns-in-Given c = union_none (gathered c.args.others.now) ∙ ap (λ k. union (gathered c.args.others.now) (set_of k)) (sym c.in-Given.is)
+returns-in-Given c = union_none (union_so_far c.args.others.now) ∙ ap (λ k. union (union_so_far c.args.others.now) (set_of k)) (sym c.in-Given.is)

@@ -1,5 +1,5 @@
 use Rattle.std.proofs.Common.{◌++◌}
-use Rattle.vipr_table.specs.Held.{held_items}
+use Rattle.vipr_table.specs.IndexList.{listed_items}
 use Rattle.vipr_table.proofs.SetLemmas.{empty_seen, second_empty, first_some}
 use Rattle.vipr_table.proofs.assumptions.Assumptions.is_empty.Goals as goal
 
@@ -8,12 +8,12 @@ returns-then-is_empty c =
     let first = rw c.as_slice.ensures at c.is_empty.ensures in
     let second = rw c.as_slice-then-is_empty.ensures at c.is_empty-then-is_empty.ensures in
     rw (← c.self.view_is)
-    (empty_seen (held_items c.self.inside.held ++ held_items c.self.inside.behind) c.is_empty-then-is_empty.result
-    (second_empty (held_items c.self.inside.held) (held_items c.self.inside.behind) _ _ first c.if-is_empty.true second))
+    (empty_seen (listed_items c.self.inside.held ++ listed_items c.self.inside.behind) c.is_empty-then-is_empty.result
+    (second_empty (listed_items c.self.inside.held) (listed_items c.self.inside.behind) _ _ first c.if-is_empty.true second))
 
 pub returns-else-is_empty : goal.returns-else-is_empty
 returns-else-is_empty c =
     let first = rw c.as_slice.ensures at c.is_empty.ensures in
     rw (← c.self.view_is)
-    (empty_seen (held_items c.self.inside.held ++ held_items c.self.inside.behind) c.is_empty.result
-    (first_some (held_items c.self.inside.held) (held_items c.self.inside.behind) _ first c.if-is_empty.false))
+    (empty_seen (listed_items c.self.inside.held ++ listed_items c.self.inside.behind) c.is_empty.result
+    (first_some (listed_items c.self.inside.held) (listed_items c.self.inside.behind) _ first c.if-is_empty.false))

@@ -1,8 +1,8 @@
-use Rattle.std.proofs.Common.{◌≡◌, ◌++◌, [], List, ℕ, refl, ap, ◌∙◌}
+use Rattle.std.proofs.Common.{[], refl, ap, ◌∙◌}
 use Rattle.std.specs.Prelude.{codes}
 use Rattle.vipr_write.specs.Canonical.{heading, line_text, lines_text}
 use Rattle.vipr_write.specs.Forms.{problem_lines_in}
-use Rattle.vipr_write.specs.Folded.{Begun, begun, with_more_bytes}
+use Rattle.vipr_write.specs.Folded.{Begun, with_more_bytes}
 use Rattle.vipr_write.specs.declared.folded.Folded.{Folded}
 use Rattle.vipr_write.proofs.Folding.{longer, begun_more}
 use Rattle.vipr_write.proofs.compact.CompactText.new.Goals as goal

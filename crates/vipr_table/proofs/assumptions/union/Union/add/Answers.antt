@@ -1,7 +1,7 @@
 use Rattle.std.proofs.Common.{◌≡◌, ◌∙◌, ◌++◌, ◌∷◌, [], ap, ap₂, sym}
 use Rattle.std.proofs.lemmas.Result.{MatchResult-weaker}
 use Rattle.std.specs.FinSet.{union, from_list}
-use Rattle.vipr_table.specs.Unions.{union_of_all, gathered}
+use Rattle.vipr_table.specs.Unions.{union_of_all, union_so_far}
 use Rattle.vipr_table.proofs.SetLemmas.{union_none}
 use Rattle.vipr_table.proofs.UnionsLemmas.{union_assoc, one_put, last_two, few_put}
 use Rattle.vipr_table.proofs.assumptions.union.Union.add.Goals as goal
@@ -13,12 +13,12 @@ returns c =
     let more = c.args.more.now in
     let all = union_of_all old.below.items in
     let few = from_list old.few.items in
-    let past : union (union (union all old.last) more) few ≡ union (gathered old) more = last_two (union all old.last) more few in
-    let step : gathered c.if-is_near.self ≡ union (gathered old) more = elim c.if-is_near.branch [
-      | then-is_near+in_ok-self+in-Many-1 w ↦ ap gathered w.self-is ∙ ap (λ s. union (union all s) few) w.in_ok-self.ensures ∙ ap (λ s. union s few) (sym (union_assoc all old.last more)) ∙ past
-      | then-is_near+in_ok-self+in-Nothing-1 w ↦ ap gathered w.self-is ∙ ap (λ s. union (union all s) few) w.in_ok-self.ensures ∙ ap (λ s. union s few) (sym (union_assoc all old.last more)) ∙ past
+    let past : union (union (union all old.last) more) few ≡ union (union_so_far old) more = last_two (union all old.last) more few in
+    let step : union_so_far c.if-is_near.self ≡ union (union_so_far old) more = elim c.if-is_near.branch [
+      | then-is_near+in_ok-self+in-Many-1 w ↦ ap union_so_far w.self-is ∙ ap (λ s. union (union all s) few) w.in_ok-self.ensures ∙ ap (λ s. union s few) (sym (union_assoc all old.last more)) ∙ past
+      | then-is_near+in_ok-self+in-Nothing-1 w ↦ ap union_so_far w.self-is ∙ ap (λ s. union (union all s) few) w.in_ok-self.ensures ∙ ap (λ s. union s few) (sym (union_assoc all old.last more)) ∙ past
       | else-is_near+in_ok-clone+in_ok-push w ↦
-          ap gathered w.self-is
+          ap union_so_far w.self-is
           ∙ ap₂ (λ ss s. union (union (union_of_all ss) s) few) (w.in_ok-push.ensures.items ∙ ap (λ s. old.below.items ++ s ∷ []) w.replace-last.ensures.value) (w.replace-last.ensures.after ∙ w.in_ok-clone.ensures.cases)
           ∙ ap (λ s. union s few) (one_put old.below.items old.last more) ∙ past
     ] in
@@ -26,7 +26,7 @@ returns c =
 
 pub returns-then-is_empty : goal.returns-then-is_empty
 returns-then-is_empty c =
-    let all = gathered c.args.self.now in
+    let all = union_so_far c.args.self.now in
     union_none all ∙ ap (union all) (sym (c.is_empty.ensures.0 c.if-is_empty.true))
 
 pub returns-in-Some : goal.returns-in-Some
@@ -35,4 +35,4 @@ returns-in-Some c =
     let rest = union (union_of_all old.below.items) old.last in
     ap (λ l. union rest (from_list l)) c.in_ok-extend_from_slice.ensures.items
     ∙ few_put rest old.few.items c.in-Some.few.now
-    ∙ ap (union (gathered old)) c.in-Some.ensures
+    ∙ ap (union (union_so_far old)) c.in-Some.ensures

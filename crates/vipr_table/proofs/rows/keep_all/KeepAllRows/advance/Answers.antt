@@ -1,10 +1,10 @@
 use Rattle.std.proofs.Common.{◌+◌, ◌∙◌, ◌≤◌, sym, ap, arith}
 use Rattle.std.proofs.lemmas.List.Sorted.{length_permutation}
-use Rattle.vipr_table.specs.KeepAll.{unforgotten}
+use Rattle.vipr_table.specs.KeepAll.{entries_not_forgotten}
 use Rattle.vipr_table.specs.Table.{live_part}
 use Rattle.vipr_table.proofs.TableLemmas.{same_table}
-use Rattle.vipr_table.proofs.ExpiryOrderLemmas.{live_part-taken, live_part-none_due}
-use Rattle.vipr_table.proofs.KeepAllLemmas.{due_begins, due_within, forgotten, shown_held, IsKept-taken}
+use Rattle.vipr_table.proofs.ExpiryOrderLemmas.{live_part-removed, live_part-none_due}
+use Rattle.vipr_table.proofs.KeepAllLemmas.{due_begins, due_within, forgotten, shown_held, IsKept-removed}
 use Rattle.vipr_table.proofs.rows.keep_all.KeepAllRows.advance.Goals as goal
 
 pub overflow_sub-index : goal.overflow_sub-index
@@ -24,16 +24,16 @@ pub loop-index-preserved : goal.loop-index-preserved
 loop-index-preserved c =
     let inv = c.loop-index.invariant in
     let now = c.args.self.now.next in
-    let taken = c.in-Some.ensures.some in
-    let due : taken.0 ≤ now = omega (arith, taken.1, inv.next) in
+    let removed = c.in-Some.ensures.some in
+    let due : removed.0 ≤ now = omega (arith, removed.1, inv.next) in
     record {
-      kept = rw (c.forget.ensures.items, c.forget.ensures.count) (IsKept-taken _ _ _ _ _ inv.kept _ _ _ taken.2);
+      kept = rw (c.forget.ensures.items, c.forget.ensures.count) (IsKept-removed _ _ _ _ _ inv.kept _ _ _ removed.2);
       first = inv.first;
       next = inv.next;
       live =
-          ap (λ ks. live_part (now + 1) (unforgotten c.loop-index.self-inside.first ks)) c.forget.ensures.items
-          ∙ ap (live_part (now + 1)) (forgotten _ _ _ _ _ inv.kept _ _ _ taken.2)
-          ∙ live_part-taken _ now _ _ _ _ _ inv.kept.tied taken.2 due ∙ inv.live;
+          ap (λ ks. live_part (now + 1) (entries_not_forgotten c.loop-index.self-inside.first ks)) c.forget.ensures.items
+          ∙ ap (live_part (now + 1)) (forgotten _ _ _ _ _ inv.kept _ _ _ removed.2)
+          ∙ live_part-removed _ now _ _ _ _ _ inv.kept.tied removed.2 due ∙ inv.live;
     }
 
 pub returns : goal.returns

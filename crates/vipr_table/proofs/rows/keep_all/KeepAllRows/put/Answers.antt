@@ -1,6 +1,6 @@
 use Rattle.std.proofs.Common.{refl, sym, ap, ◌∙◌, false, arith}
 use Rattle.vipr_table.specs.declared.rows.keep_all.Kept.{Kept}
-use Rattle.vipr_table.specs.KeepAll.{unforgotten}
+use Rattle.vipr_table.specs.KeepAll.{entries_not_forgotten}
 use Rattle.vipr_table.specs.Table.{put_entry}
 use Rattle.std.specs.FinMap.{insert}
 use Rattle.vipr_table.proofs.TableLemmas.{same_table}
@@ -25,5 +25,5 @@ returns-clause-ok c =
     let kept = c.self.invariant in
     let k : Kept = record { entry = c.args.entry; is_forgotten = false } in
     same_table _ _ refl refl
-    (ap (unforgotten c.self.inside.first) c.in_default-push.ensures.items ∙ kept_map-push c.self.inside.first c.self.inside.kept.items k refl ∙ ap (λ n. insert (unforgotten c.self.inside.first c.self.inside.kept.items) n c.args.entry) (sym kept.placed))
+    (ap (entries_not_forgotten c.self.inside.first) c.in_default-push.ensures.items ∙ kept_map-push c.self.inside.first c.self.inside.kept.items k refl ∙ ap (λ n. insert (entries_not_forgotten c.self.inside.first c.self.inside.kept.items) n c.args.entry) (sym kept.placed))
     ∙ ap (λ t. put_entry t c.args.entry) c.self.view_is

@@ -1,0 +1,228 @@
+-- A certificate's text, made while the certificate is read
+use Rattle.std.proofs.Common.{◌≡◌, ◌≢◌, ◌⊎◌, ◌↔◌, Bool, true, false, None, Some, IsErrOf, ℕ, zero, suc, ◌+◌, ◌<◌, List, [], ◌∷◌, ◌++◌, length, map, codes, Option, Result, Ok, Err, IsSome, inl, inr, refl, sym, ap, subst, ◌∙◌, append_assoc, arith}
+use Rattle.std.proofs.lemmas.List.{append-nil, length-append, map_push}
+use Rattle.std.proofs.lemmas.Grind.{flat_map-append}
+use Rattle.vipr_spec.specs.Constraint.{Row}
+use Rattle.vipr_spec.specs.Certificate.{Named, Problem, Derivation}
+use Rattle.vipr_spec.specs.Reading.{Rest, Fault, Read, ◌>>=◌, read_each, problem_read, solution_read, derivations_read, derivation_read, end_read, certificate_read}
+use Rattle.vipr_spec.specs.Input.{Input}
+use Rattle.vipr_bytes.specs.Known.{text_of, IfKnown}
+use Rattle.vipr_scan.specs.Giving.{rest_of}
+use Rattle.vipr_scan.specs.Faults.{Fails}
+use Rattle.vipr_scan.specs.declared.error.TextError.{TextError}
+use Rattle.vipr_scan.specs.declared.error.TextError.TheVariants as error
+use Rattle.vipr_read.specs.Items.{Items, Knows, Remembers, HasEnded}
+use Rattle.vipr_read.specs.Parsing.{with_front}
+use Rattle.vipr_write.specs.Canonical.{solution_words, heading, line_text, lines_text}
+use Rattle.vipr_write.specs.Folded.{Begun, with_more_bytes}
+use Rattle.vipr_write.specs.Forms.{problem_lines_in, derivation_words_in, text_in}
+use Rattle.vipr_write.specs.declared.form.Form.{Form}
+use Rattle.vipr_command.specs.Spelling.{HasAppended, Respells, RespellsText}
+
+-- a fault is that of what goes on after it
+pub fails_first : {X Y : Type 0} (e : TextError) (r : Result X Fault) (f : X → Result Y Fault) → Fails e r → Fails e (r >>= f)
+fails_first (error.Refused c o) r f h = rw h refl
+fails_first error.Read r f h = rw h refl
+fails_first error.Memory r f h = tt
+fails_first error.Spent r f h = absurd h
+
+-- the error is none of a reader that failed before
+pub unspent : {X : Type 0} (r : Result X TextError) (e : TextError) (failed : Bool) → r ≡ Err e → (IsErrOf r error.Spent ↔ (failed ≡ true)) → failed ≡ false → e ≢ error.Spent
+unspent {X} r e failed is spent working = λ s. let bad : failed ≡ true = spent.0 (is ∙ ap (λ (f : TextError). the_error f) s) in cc
+  where
+    the_error : TextError → Result X TextError
+    the_error f = Err f
+
+-- what a reader knew it still knows
+pub still_knows : (p : Problem) (old new : Items) → Knows old p → Remembers old new → Knows new p
+still_knows p old new k r = record {
+  variables = r.variables ∙ k.variables;
+  constraints = r.constraints ∙ k.constraints;
+  objective = r.objective ∙ k.objective;
+}
+
+-- ---- items one by one
+
+module _ {Y : Type 0} (item : Rest → Read Y) (words : Y → List (List ℕ)) where
+  begins : (read : Read (List Y)) → with_front [] read ≡ read
+  begins (Ok xs) = refl
+  begins (Err e) = refl
+
+  pub none_yet : (r : Items) (text : Begun) → r.failed ≡ false → HasAppended item words r r text text
+  none_yet r text working = record {
+    items = [];
+    counted = omega arith;
+    lines = ap (λ bs. let b : Begun = record text { bytes = bs } in b) (sym (append-nil text.bytes));
+    remembers = record { variables = refl; constraints = refl; objective = refl };
+    working = working;
+    known = λ k. k;
+    read = λ _. begins (read_each item r.left (rest_of r.rest));
+  }
+
+  regroup : (front : List Y) (x : Y) (read : Read (List Y)) → with_front front (read >>= λ xs. Ok (x ∷ xs.0, xs.1)) ≡ with_front (front ++ x ∷ []) read
+  regroup front x (Ok xs) = ap (λ (ys : List Y). Ok (ys, xs.1)) (simp append_assoc)
+  regroup front x (Err e) = refl
+
+  goes_on : (front : List Y) (k : ℕ) (l l' : Rest) (x : Y) → item l ≡ Ok (x, l') → with_front (front ++ x ∷ []) (read_each item k l') ≡ with_front front (read_each item (suc k) l)
+  unfolding read_each
+  goes_on front k l l' x h = rw h (sym (regroup front x (read_each item k l')))
+
+  more_lines : (before text after : Begun) (ys : List Y) (y : Y) → text ≡ with_more_bytes before (lines_text (map words ys)) → after ≡ with_more_bytes text (line_text (words y)) → after ≡ with_more_bytes before (lines_text (map words (ys ++ y ∷ [])))
+  more_lines before text after ys y h more =
+      more ∙ ap (λ (t : Begun). with_more_bytes t (line_text (words y))) h
+      ∙ ap (λ bs. let b : Begun = record before { bytes = bs } in b) (append_assoc before.bytes (lines_text (map words ys)) (line_text (words y))
+      ∙ ap (λ t. before.bytes ++ t) (sym (rw (map_push words ys y) (flat_map-append line_text (map words ys) (words y ∷ []) ∙ ap (λ t. lines_text (map words ys) ++ t) (append-nil (line_text (words y)))))))
+
+  -- one more item was read, and its line appended
+  pub one_more : (old mid new : Items) (before text after : Begun) (y : Y) → HasAppended item words old mid before text → mid.left ≡ suc new.left → Remembers mid new → new.failed ≡ false
+      → (IsSome mid.rest → (item (rest_of mid.rest) ≡ Ok (y, rest_of new.rest)) × IsSome new.rest) → after ≡ with_more_bytes text (line_text (words y)) → HasAppended item words old new before after
+  one_more old mid new before text after y h counted remembers working read more = record {
+    items = h.items ++ y ∷ [];
+    counted = omega (arith, length-append h.items (y ∷ []), h.counted, counted);
+    lines = more_lines before text after h.items y h.lines more;
+    remembers = record {
+      variables = remembers.variables ∙ h.remembers.variables;
+      constraints = remembers.constraints ∙ h.remembers.constraints;
+      objective = remembers.objective ∙ h.remembers.objective;
+    };
+    working = working;
+    known = λ k. (read (h.known k)).1;
+    read = λ k. goes_on h.items new.left (rest_of mid.rest) (rest_of new.rest) y (read (h.known k)).0 ∙ ap (λ n. with_front h.items (read_each item n (rest_of mid.rest))) (sym counted) ∙ h.read k;
+  }
+
+  -- the next item has a fault, or the ending has
+  fails_item : (ending : Rest → Result (Unit {0}) Fault) (e : TextError) (front : List Y) (k : ℕ) (l : Rest) → Fails e (item l) → Fails e (with_front front (read_each item (suc k) l) >>= λ x. ending x.1)
+  unfolding read_each
+  fails_item ending e front k l h = fails_first e (with_front front (read_each item (suc k) l)) _ (fails_first e (read_each item (suc k) l) _ (fails_first e (item l) _ h))
+
+  fails_end : (ending : Rest → Result (Unit {0}) Fault) (e : TextError) (front : List Y) (l : Rest) → Fails e (ending l) → Fails e (with_front front (read_each item 0 l) >>= λ x. ending x.1)
+  unfolding read_each
+  fails_end ending e front l h = h
+
+  fails_at : (ending : Rest → Result (Unit {0}) Fault) (e : TextError) (front : List Y) (n : ℕ) (l : Rest) → ((n ≡ 0) × Fails e (ending l)) ⊎ ((0 < n) × Fails e (item l))
+      → Fails e (with_front front (read_each item n l) >>= λ x. ending x.1)
+  fails_at ending e front n l (inl h) = rw h.0 (fails_end ending e front l h.1)
+  fails_at ending e front zero l (inr h) = absurd (omega (arith, h.0))
+  fails_at ending e front (suc k) l (inr h) = fails_item ending e front k l h.1
+
+  pub stops : (ending : Rest → Result (Unit {0}) Fault) (e : TextError) (old mid : Items) (before text : Begun) → HasAppended item words old mid before text
+      → (IsSome mid.rest → ((mid.left ≡ 0) × Fails e (ending (rest_of mid.rest))) ⊎ ((0 < mid.left) × Fails e (item (rest_of mid.rest))))
+      → IsSome old.rest → Fails e (read_each item old.left (rest_of old.rest) >>= λ x. ending x.1)
+  stops ending e old mid before text h fault known =
+      subst (λ r. Fails e (r >>= λ x. ending x.1)) (h.read known) (fails_at ending e h.items mid.left (rest_of mid.rest) (fault (h.known known)))
+
+  all_read : (front : List Y) (n : ℕ) (l : Rest) → n ≡ 0 → with_front front (read_each item n l) ≡ Ok (front, l)
+  unfolding read_each
+  all_read front n l h = rw h (ap (λ (xs : List Y). Ok (xs, l)) (append-nil front))
+
+  -- all items were read
+  pub were_read : (old new : Items) (before text : Begun) (h : HasAppended item words old new before text) → new.left ≡ 0 → IsSome old.rest → read_each item old.left (rest_of old.rest) ≡ Ok (h.items, rest_of new.rest)
+  were_read old new before text h none known = sym (h.read known) ∙ all_read h.items new.left (rest_of new.rest) none
+
+  -- the end of the text was found
+  pub at_end : (old mid new : Items) (before text : Begun) → HasAppended item words old mid before text → HasEnded mid new → HasAppended item words old new before text
+  at_end old mid new before text h e = record {
+    items = h.items;
+    counted = ap (λ n. length h.items + n) e.kept ∙ h.counted;
+    lines = h.lines;
+    remembers = record {
+      variables = e.remembers.variables ∙ h.remembers.variables;
+      constraints = e.remembers.constraints ∙ h.remembers.constraints;
+      objective = e.remembers.objective ∙ h.remembers.objective;
+    };
+    working = e.working;
+    known = λ k. subst (λ (r : Items). IsSome r.rest) (sym (e.same (h.known k))) (h.known k);
+    read = λ k. subst (λ (r : Items). with_front h.items (read_each item r.left (rest_of r.rest)) ≡ read_each item old.left (rest_of old.rest)) (sym (e.same (h.known k))) (h.read k);
+  }
+
+-- ---- the parts of a certificate, one after the other
+
+pub problem_fails : (e : TextError) (l : Rest) → Fails e (problem_read l) → Fails e (certificate_read l)
+unfolding certificate_read
+problem_fails e l h = fails_first e (problem_read l) _ h
+
+-- what follows the solutions is read on its own
+abbrev pub no_ending : Rest → Result (Unit {0}) Fault
+no_ending l = Ok tt
+
+-- where nothing can be wrong behind the items, the fault is one of theirs
+of_items : {Y Z : Type 0} (e : TextError) (r : Read Y) (f : Y × Rest → Result Z Fault) → Fails e (r >>= λ x. no_ending x.1) → Fails e (r >>= f)
+of_items (error.Refused c o) (Err x) f h = cc
+of_items error.Read (Err x) f h = cc
+of_items (error.Refused c o) (Ok x) f h = absurd (cc)
+of_items error.Read (Ok x) f h = absurd (cc)
+of_items error.Memory r f h = tt
+of_items error.Spent r f h = absurd h
+
+of_ending : {Y Z : Type 0} (e : TextError) (r : Read Y) (ending : Rest → Result (Unit {0}) Fault) (f : Y × Rest → Unit {0} → Result Z Fault) → Fails e (r >>= λ x. ending x.1) → Fails e (r >>= λ x. ending x.1 >>= f x)
+of_ending e (Ok x) ending f h = fails_first e (ending x.1) (f x) h
+of_ending (error.Refused c o) (Err x) ending f h = cc
+of_ending error.Read (Err x) ending f h = cc
+of_ending error.Memory (Err x) ending f h = tt
+of_ending error.Spent (Err x) ending f h = absurd h
+
+module _ (l l1 : Rest) (p : Problem) (n : ℕ) (problem : problem_read l ≡ Ok ((p, n), l1)) where
+  pub solutions_fail : (e : TextError) → Fails e (read_each (solution_read p) n l1 >>= λ x. no_ending x.1) → Fails e (certificate_read l)
+  unfolding certificate_read
+  solutions_fail e h = rw problem (of_items e (read_each (solution_read p) n l1) _ h)
+
+  module _ (l2 : Rest) (ss : List (Named Row)) (solutions : read_each (solution_read p) n l1 ≡ Ok (ss, l2)) where
+    pub count_fails : (e : TextError) → Fails e (derivations_read p l2) → Fails e (certificate_read l)
+    unfolding certificate_read
+    count_fails e h = rw (problem, solutions) (fails_first e (derivations_read p l2) _ h)
+
+    module _ (l3 : Rest) (m : ℕ) (count : derivations_read p l2 ≡ Ok (m, l3)) where
+      pub derivations_fail : (e : TextError) → Fails e (read_each (derivation_read p) m l3 >>= λ x. end_read x.1) → Fails e (certificate_read l)
+      unfolding certificate_read
+      derivations_fail e h = rw (problem, solutions, count) (of_ending e (read_each (derivation_read p) m l3) end_read _ h)
+
+      pub whole_read : (l4 : Rest) (ds : List Derivation) → read_each (derivation_read p) m l3 ≡ Ok (ds, l4) → end_read l4 ≡ Ok tt → certificate_read l ≡ Ok (record { problem = p; solutions = ss; derivations = ds })
+      unfolding certificate_read
+      whole_read l4 ds derivations h = rw (problem, solutions, count, derivations, h) refl
+
+-- ---- the text
+
+one_by_one : (a b c d e : List ℕ) → (((a ++ b) ++ c) ++ d) ++ e ≡ a ++ ((b ++ c) ++ (d ++ e))
+one_by_one a b c d e = simp append_assoc
+
+in_sections : (ls ms ns : List (List (List ℕ))) (h k : List (List ℕ)) →
+    (((lines_text ls ++ line_text h) ++ lines_text ms) ++ line_text k) ++ lines_text ns ≡ lines_text (ls ++ ((h ∷ ms) ++ (k ∷ ns)))
+in_sections ls ms ns h k =
+    one_by_one (lines_text ls) (line_text h) (lines_text ms) (line_text k) (lines_text ns)
+    ∙ sym (flat_map-append line_text ls ((h ∷ ms) ++ (k ∷ ns)) ∙ ap (λ t. lines_text ls ++ t) (flat_map-append line_text (h ∷ ms) (k ∷ ns)))
+
+-- the lines that were appended are those of the certificate
+pub appended_text : (F : Form) (p : Problem) (ss : List (Named Row)) (ds : List Derivation) →
+    (((lines_text (problem_lines_in F p) ++ line_text (heading (codes "SOL") (length ss))) ++ lines_text (map solution_words ss)) ++ line_text (heading (codes "DER") (length ds))) ++ lines_text (map (derivation_words_in F p.objective) ds)
+    ≡ text_in F (record { problem = p; solutions = ss; derivations = ds })
+appended_text F p ss ds = in_sections (problem_lines_in F p) (map solution_words ss) (map (derivation_words_in F p.objective) ds) (heading (codes "SOL") (length ss)) (heading (codes "DER") (length ds))
+
+-- the same of a text that was made line by line
+all_bytes : (F : Form) (p : Problem) (ss : List (Named Row)) (ds : List Derivation) (n m left over : ℕ) (t1 t2 t3 t4 : List ℕ) → length ss + left ≡ n → left ≡ 0 → length ds + over ≡ m → over ≡ 0
+    → t1 ≡ lines_text (problem_lines_in F p) ++ line_text (heading (codes "SOL") n) → t2 ≡ t1 ++ lines_text (map solution_words ss) → t3 ≡ t2 ++ line_text (heading (codes "DER") m) → t4 ≡ t3 ++ lines_text (map (derivation_words_in F p.objective) ds)
+    → t4 ≡ text_in F (record { problem = p; solutions = ss; derivations = ds })
+all_bytes F p ss ds n m left over t1 t2 t3 t4 some no_more steps none e1 e2 e3 e4 =
+    let listed : n ≡ length ss = omega (arith, some, no_more) in
+    let derived : m ≡ length ds = omega (arith, steps, none) in
+    let first = e1 ∙ ap (λ k. lines_text (problem_lines_in F p) ++ line_text (heading (codes "SOL") k)) listed in
+    let second = e2 ∙ ap (λ t. t ++ lines_text (map solution_words ss)) first in
+    let third = e3 ∙ ap (λ k. t2 ++ line_text (heading (codes "DER") k)) derived ∙ ap (λ t. t ++ line_text (heading (codes "DER") (length ds))) second in
+    e4 ∙ ap (λ t. t ++ lines_text (map (derivation_words_in F p.objective) ds)) third ∙ appended_text F p ss ds
+
+pub all_lines : (F : Form) (p : Problem) (ss : List (Named Row)) (ds : List Derivation) (n m left over : ℕ) (t1 t2 t3 t4 : Begun) → length ss + left ≡ n → left ≡ 0 → length ds + over ≡ m → over ≡ 0
+    → t1 ≡ record { form = F; objective = p.objective; bytes = lines_text (problem_lines_in F p) ++ line_text (heading (codes "SOL") n) } → t2 ≡ with_more_bytes t1 (lines_text (map solution_words ss)) → t3 ≡ with_more_bytes t2 (line_text (heading (codes "DER") m))
+    → t4 ≡ with_more_bytes t3 (lines_text (map (derivation_words_in t3.form t3.objective) ds))
+    → t4.bytes ≡ text_in F (record { problem = p; solutions = ss; derivations = ds })
+all_lines F p ss ds n m left over t1 t2 t3 t4 some no_more steps none e1 e2 e3 e4 =
+    let form : t3.form ≡ F = ap (λ (b : Begun). b.form) e3 ∙ ap (λ (b : Begun). b.form) e2 ∙ ap (λ (b : Begun). b.form) e1 in
+    let objective : t3.objective ≡ p.objective = ap (λ (b : Begun). b.objective) e3 ∙ ap (λ (b : Begun). b.objective) e2 ∙ ap (λ (b : Begun). b.objective) e1 in
+    let last : t4.bytes ≡ t3.bytes ++ lines_text (map (derivation_words_in F p.objective) ds) =
+    ap (λ (b : Begun). b.bytes) e4 ∙ ap (λ f. t3.bytes ++ lines_text (map (derivation_words_in f t3.objective) ds)) form ∙ ap (λ o. t3.bytes ++ lines_text (map (derivation_words_in F o) ds)) objective in
+    all_bytes F p ss ds n m left over t1.bytes t2.bytes t3.bytes t4.bytes some no_more steps none (ap (λ (b : Begun). b.bytes) e1) (ap (λ (b : Begun). b.bytes) e2) (ap (λ (b : Begun). b.bytes) e3) last
+
+-- what a source gives, as the rest that a reader starts with
+pub known : {X : Type 0} (F : Form) (bytes : X → List ℕ) (source : Option Input) (rest : Option Rest) (r : Result X TextError) → IfKnown source (λ i. rest ≡ Some (text_of i)) → Respells F bytes rest r → RespellsText F bytes source r
+known F bytes None rest (Ok x) k h = (h.0, h.1, tt)
+known F bytes (Some i) rest (Ok x) k h = (h.0, h.1, λ short. subst (λ (l : Option Rest). IsSome l → certificate_read (rest_of l) ≡ Ok h.0) (k short) h.2 refl)
+known F bytes None rest (Err e) k h = (h.0, tt)
+known F bytes (Some i) rest (Err e) k h = (h.0, λ short. subst (λ (l : Option Rest). IsSome l → Fails e (certificate_read (rest_of l))) (k short) h.1 refl)

@@ -1,0 +1,16 @@
+use Rattle.std.proofs.Common.{◌≡◌, false}
+use Rattle.vipr_spec.specs.Certificate.{Problem}
+use Rattle.vipr_spec.specs.Reading.{derivation_read}
+use Rattle.vipr_read.specs.Items.{Knows}
+use Rattle.vipr_write.specs.Forms.{derivation_words_in}
+use Rattle.vipr_command.specs.Spelling.{HasAppended}
+use Rattle.vipr_command.proofs.canonical.derivation_lines.Given as goal
+
+abbrev pub invariant-loop-text : goal.invariant-loop-text
+invariant-loop-text g l = record {
+  working : l.derivations.failed ≡ false;
+  lines : (p : Problem) → Knows l.initial.derivations p → HasAppended (derivation_read p) (derivation_words_in l.initial.text.form l.initial.text.objective) l.initial.derivations l.derivations l.initial.text l.text;
+}
+
+abbrev pub decreases-loop-text : goal.decreases-loop-text
+decreases-loop-text g l = l.derivations.left

@@ -1,0 +1,16 @@
+use Rattle.std.proofs.Common.{◌≡◌, false}
+use Rattle.vipr_spec.specs.Certificate.{Problem}
+use Rattle.vipr_spec.specs.Reading.{solution_read}
+use Rattle.vipr_read.specs.Items.{Knows}
+use Rattle.vipr_write.specs.Canonical.{solution_words}
+use Rattle.vipr_command.specs.Spelling.{HasAppended}
+use Rattle.vipr_command.proofs.canonical.solution_lines.Given as goal
+
+abbrev pub invariant-loop-text : goal.invariant-loop-text
+invariant-loop-text g l = record {
+  working : l.solutions.failed ≡ false;
+  lines : (p : Problem) → Knows l.initial.solutions p → HasAppended (solution_read p) solution_words l.initial.solutions l.solutions l.initial.text l.text;
+}
+
+abbrev pub decreases-loop-text : goal.decreases-loop-text
+decreases-loop-text g l = l.solutions.left

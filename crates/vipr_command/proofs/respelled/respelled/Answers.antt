@@ -1,5 +1,0 @@
-use Rattle.vipr_command.proofs.RespelledLemmas.{told}
-use Rattle.vipr_command.proofs.respelled.respelled.Goals as goal
-
-pub returns : goal.returns
-returns g c = told c.args.form (λ text. text.bytes) (g.R.Source.input c.args.source) c.in_ok-reader.reader c.text_from.result c.in_ok-reader.ensures c.text_from.ensures

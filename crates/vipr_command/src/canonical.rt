@@ -1,0 +1,108 @@
+//! Makes a certificate's canonical text while it is read.
+ghost use Rattle.std.specs.Prelude.{◌≡◌, false, Ok, IfOk};
+ghost use Rattle.vipr_spec.specs.Certificate.{Problem as ProblemMeant};
+ghost use Rattle.vipr_spec.specs.Reading.{solution_read, derivation_read, end_read};
+ghost use Rattle.vipr_read.specs.Items.{Knows};
+ghost use Rattle.vipr_write.specs.Canonical.{solution_words};
+ghost use Rattle.vipr_write.specs.Forms.{derivation_words_in};
+ghost use Rattle.vipr_command.specs.Spelling.{BeginsText, Appends, Respells, RespellsText};
+
+use std::alloc::Global;
+use vipr_bytes::Source;
+use vipr_read::{CertReader, Derivations, Solutions};
+use vipr_scan::TextError;
+use vipr_write::{CompactText, Form};
+
+/// The text of the certificate that `source` gives, in a form. The source is read to its end. No
+/// item is kept once its line is made.
+///
+/// # Errors
+///
+/// `Refused` where the text spells no certificate, `Read` where a read fails before that is known,
+/// and `Memory` where a growth is refused.
+pub(crate) fn respelled<R: Source + Drop>(
+    alloc: Global,
+    form: Form,
+    source: R,
+) -> Result<CompactText, TextError>
+    ensures { RespellsText form (λ text. text.bytes) (R.input source) result }
+{
+    let reader = CertReader::new(alloc, source)?;
+    text_from(alloc, form, reader)
+}
+
+// The text of the certificate that the reader is at the start of.
+fn text_from<R: Source + Drop>(
+    alloc: Global,
+    form: Form,
+    reader: CertReader<R>,
+) -> Result<CompactText, TextError>
+    ensures { Respells form (λ text. text.bytes) reader result }
+{
+    let (text, mut solutions) = problem_text(alloc, form, reader)?;
+    let text = solution_lines(alloc, text, &mut solutions)?;
+    let mut derivations = solutions.finish()?;
+    let text = text.derivation_count(derivations.left())?;
+    let lines = derivation_lines(alloc, text, &mut derivations);
+    // Dropped at this one place, whatever was answered.
+    drop(derivations);
+    let text = lines?;
+    Ok(text)
+}
+
+// The text of the problem, up to and with the number of solutions.
+fn problem_text<R: Source + Drop>(
+    alloc: Global,
+    form: Form,
+    reader: CertReader<R>,
+) -> Result<(CompactText, Solutions<R>), TextError>
+    ensures { BeginsText form (λ x. x.0) (λ x. x.1) reader result }
+{
+    let (problem, solutions) = reader.read_problem(alloc)?;
+    let lines = CompactText::new(alloc, form, &problem, solutions.left());
+    // Dropped at this one place, whatever was answered.
+    drop(problem);
+    let text = lines?;
+    Ok((text, solutions))
+}
+
+// The text with a line for each solution that follows.
+fn solution_lines<R: Source>(
+    alloc: Global,
+    mut text: CompactText,
+    solutions: &mut Solutions<R>,
+) -> Result<CompactText, TextError>
+    requires { solutions.old.failed ≡ false }
+    ensures none { IfOk result (λ _. solutions.new.left ≡ 0) }
+    ensures lines { (p : ProblemMeant) → Knows solutions.old p
+        → Appends (solution_read p) (λ _. Ok tt) solution_words solutions.old solutions.new text
+        (λ t. t) result }
+{
+    while let Some(solution) = solutions.next(alloc)? {
+        let longer = text.solution(&solution);
+        // Dropped at this one place, whatever was answered.
+        drop(solution);
+        text = longer?;
+    }
+    Ok(text)
+}
+
+// The text with a line for each derivation that follows, up to the end of the text that is read.
+fn derivation_lines<R: Source>(
+    alloc: Global,
+    mut text: CompactText,
+    derivations: &mut Derivations<R>,
+) -> Result<CompactText, TextError>
+    requires { derivations.old.failed ≡ false }
+    ensures { (p : ProblemMeant) → Knows derivations.old p
+        → Appends (derivation_read p) end_read (derivation_words_in text.form text.objective)
+        derivations.old derivations.new text (λ t. t) result }
+{
+    while let Some(derivation) = derivations.next(alloc)? {
+        let longer = text.derivation(&derivation);
+        // Dropped at this one place, whatever was answered.
+        drop(derivation);
+        text = longer?;
+    }
+    Ok(text)
+}

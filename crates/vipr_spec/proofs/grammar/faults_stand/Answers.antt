@@ -1,5 +1,0 @@
-use Rattle.vipr_spec.proofs.GrammarItemFaults.{item_faults}
-use Rattle.vipr_spec.proofs.grammar.faults_stand.Goals as goal
-
-pub returns : goal.returns
-returns c = item_faults

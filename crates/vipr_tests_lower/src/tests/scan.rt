@@ -1,0 +1,117 @@
+//! Tokens of short texts, a token that a failed read cuts short, and one that is too long.
+ghost use Rattle.std.specs.Prelude.{ℕ, Ok, length};
+
+use super::same;
+use std::alloc::Global;
+use std::io::{self, Read};
+use std::process::Abort;
+use vipr_bytes::{Bytes, FromRead, Source};
+use vipr_scan::{ScanError, Scanner, TextError, TokenKind, Tokens, Unfit, cause};
+
+/// Gives at most two bytes a read, and fails after so many reads.
+#[derive(Drop)]
+struct Halting<'a> {
+    text: &'a [u8],
+    reads_left: u8,
+}
+
+impl Read for Halting<'_> {
+    fn read(&mut self, buf: &mut [u8]) -> io::Result<usize> {
+        if self.reads_left == 0 {
+            return Err(io::Error::from(io::ErrorKind::Interrupted));
+        }
+        self.reads_left -= 1;
+        let len = buf.len().min(2);
+        self.text.read(&mut buf[..len])
+    }
+}
+
+/// Asks for a token, and compares its bytes and its offset.
+fn gives<R: Source>(rt: &impl Abort, tokens: &mut Tokens<R>, wanted: Option<(&[u8], u64)>) {
+    let token = tokens.next().expect(rt, "a token");
+    same(rt, token.map(|token| (token.bytes, token.offset)), wanted);
+}
+
+#[test]
+fn tokens_come_with_their_offsets(rt: HostRuntime) {
+    let text = Bytes::new(b"% no token\n ab\tc");
+    let mut tokens = Tokens::new(rt.alloc(), text).expect(&rt, "tokens");
+    gives(&rt, &mut tokens, Some((b"ab", 12)));
+    gives(&rt, &mut tokens, Some((b"c", 15)));
+    gives(&rt, &mut tokens, None);
+    gives(&rt, &mut tokens, None);
+}
+
+/// Asks for a token, and compares the error.
+fn fails<R: Source>(rt: &impl Abort, tokens: &mut Tokens<R>, wanted: TextError) {
+    same(rt, tokens.next().err(), Some(wanted));
+}
+
+#[test]
+fn a_token_before_a_failed_read_is_not_given(rt: HostRuntime) {
+    let source = FromRead::new(Halting {
+        text: b"ab cd",
+        reads_left: 2,
+    });
+    let mut tokens = Tokens::new(rt.alloc(), source).expect(&rt, "tokens");
+    gives(&rt, &mut tokens, Some((b"ab", 0)));
+    fails(&rt, &mut tokens, TextError::Read);
+    fails(&rt, &mut tokens, TextError::Spent);
+}
+
+/// Asks for a token, and compares its length and whether it is cut.
+fn has_length<R: Source>(rt: &impl Abort, tokens: &mut Tokens<R>, wanted: (usize, bool)) {
+    let token = tokens.next().expect(rt, "a token");
+    let token = token.expect(rt, "no end");
+    same(rt, (token.bytes.len(), token.long), wanted);
+}
+
+#[test]
+fn a_token_of_65536_bytes_is_too_long(rt: HostRuntime) {
+    let text = [b'a'; 65536];
+    let mut tokens = Tokens::new(rt.alloc(), Bytes::new(&text)).expect(&rt, "tokens");
+    has_length(&rt, &mut tokens, (65535, true));
+    fails(&rt, &mut tokens, TextError::Spent);
+    drop(tokens);
+    let mut shorter = Tokens::new(rt.alloc(), Bytes::new(&text[1..])).expect(&rt, "tokens");
+    has_length(&rt, &mut shorter, (65535, false));
+}
+
+/// Any bytes.
+struct Any;
+
+impl TokenKind for Any {
+    type Value = usize;
+
+    ghost Meant = { ℕ };
+
+    ghost view = { λ n. n };
+
+    ghost meaning = { λ _ bytes. Ok (length bytes) };
+
+    fn read(&self, bytes: &[u8]) -> Result<usize, Unfit> {
+        Ok(bytes.len())
+    }
+}
+
+fn is_refused(rt: &impl Abort, alloc: Global, text: &[u8], wanted: ScanError) {
+    let mut scanner = Scanner::new(alloc, Bytes::new(text)).expect(rt, "a scanner");
+    same(rt, scanner.take(&Any).err(), Some(wanted));
+}
+
+fn is_read_whole(rt: &impl Abort, alloc: Global, text: &[u8], wanted: usize) {
+    let mut scanner = Scanner::new(alloc, Bytes::new(text)).expect(rt, "a scanner");
+    same(rt, scanner.take(&Any), Ok(wanted));
+    same(rt, scanner.end(), Ok(()));
+}
+
+#[test]
+fn a_token_of_65536_bytes_is_refused(rt: HostRuntime) {
+    let text = [b'a'; 65536];
+    let refused = ScanError::Refused {
+        cause: cause::TOKEN_TOO_LONG,
+        offset: 0,
+    };
+    is_refused(&rt, rt.alloc(), &text, refused);
+    is_read_whole(&rt, rt.alloc(), &text[1..], 65535);
+}

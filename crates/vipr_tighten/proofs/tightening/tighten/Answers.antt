@@ -1,0 +1,14 @@
+use Rattle.std.proofs.Common.{◌≡◌, Option, Result, refl, subst}
+use Rattle.vipr_spec.specs.Constraint.{Profile, one}
+use Rattle.vipr_spec.specs.Input.{Input}
+use Rattle.vipr_bytes.specs.Output.{Output}
+use Rattle.vipr_tighten.specs.Tightens.{Tightens, TightensIn}
+use Rattle.vipr_tighten.specs.declared.outcome.Outcome.{Outcome}
+use Rattle.vipr_tighten.specs.declared.outcome.TightenFault.{TightenFault}
+use Rattle.vipr_tighten.proofs.tightening.tighten.Goals as goal
+
+in_one : {P : Profile} {source : Option Input} {old new : Option Output} {x : Result Outcome TightenFault} → TightensIn P source old new x → P ≡ one → Tightens source old new x
+in_one {P} {source} {old} {new} {x} h e = subst (λ Q. TightensIn Q source old new x) e h
+
+pub returns : goal.returns
+returns g c = in_one c.tighten_in.ensures refl

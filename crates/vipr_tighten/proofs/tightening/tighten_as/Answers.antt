@@ -1,0 +1,18 @@
+use Rattle.std.proofs.Common.{sym, subst}
+use Rattle.vipr_rules.specs.Profile.{profile_of}
+use Rattle.vipr_check.specs.View.{report_of}
+use Rattle.vipr_tighten.specs.Tightens.{TightensAs}
+use Rattle.vipr_tighten.proofs.Outcomes.{decided_proof, decided_not}
+use Rattle.vipr_tighten.proofs.tightening.tighten_as.Goals as goal
+
+pub returns-in-Ok : goal.returns-in-Ok
+returns-in-Ok g c =
+    let P = profile_of c.args.profile in
+    decided_proof P c.args.form (g.R.Source.input c.args.source) c.in-Ok.certificate (report_of c.in-Ok.report) (g.W.Sink.output c.args.sink.now) (g.W.Sink.output c.write_tightened.new.sink) c.write_tightened.result (c.write_tightened.ensures P c.in-Ok.ensures.proof.0 c.in-Ok.ensures.proof.1) c.in-Ok.ensures.found
+
+pub returns-in-Err : goal.returns-in-Err
+returns-in-Err g c =
+    let P = profile_of c.args.profile in
+    let source = g.R.Source.input c.args.source in
+    let old = g.W.Sink.output c.args.sink.now in
+    subst (TightensAs P c.args.form source old old) (sym c.without_proof.ensures) (decided_not P c.args.form source c.in-Err.unproved old c.in-Err.ensures.found)

@@ -1,0 +1,136 @@
+//! Tightens a whole certificate, from a source to a sink.
+//!
+//! [`tighten`] checks the certificate while it is read. Only once it is verified does it remove
+//! what the goal doesn't need, and write the rest. What is written is a proof of the same claim,
+//! with the same problem and the same solutions. [`tighten_in`] does so by the rules of a profile.
+ghost use Rattle.std.specs.Prelude.{◌≡◌};
+ghost use Rattle.vipr_spec.specs.Constraint.{Profile as ProfileMeant};
+ghost use Rattle.vipr_spec.specs.Certificate.{IsProof};
+ghost use Rattle.vipr_spec.specs.Verdict.{Reports};
+ghost use Rattle.vipr_rules.specs.Profile.{profile_of};
+ghost use Rattle.vipr_check.specs.View.{report_of};
+ghost use Rattle.vipr_tighten.specs.Tightens.{Tightens, TightensAs, TightensIn, TightensText};
+ghost use Rattle.vipr_tighten.specs.Tightens.{kind_of, unproved_answer};
+
+use crate::certificate::tighten_certificate;
+use crate::outcome::{Outcome, TightenFault};
+use crate::peak::peak;
+use crate::proof_reader::{Unproved, read_proof};
+use std::alloc::Global;
+use vipr_bytes::{Sink, Source};
+use vipr_cert::Certificate;
+use vipr_check::Report;
+use vipr_rules::Profile;
+use vipr_write::{Form, WriteError, write_certificate_in};
+
+/// Reads a certificate to its end and checks it while it is read. If it is a proof, writes the
+/// canonical text of what its goal needs: the proof without the derivations that nothing needs.
+///
+/// Each item is tested before more is read than it takes, and all memory is allocated before the
+/// first byte is written. Time and memory are at most in proportion to those of a check and to the
+/// size of the certificate.
+///
+/// # Errors
+///
+/// `Read` where a read fails, and `Memory` where a growth is refused: nothing was written. `Write`
+/// where a write fails or takes nothing, and the sink is asked no more.
+///
+/// # Example
+///
+/// ```rust crates/vipr_example/src/tighten.rt
+/// let mut out = Vec::new(alloc);
+/// match tighten(alloc, Bytes::new(text), &mut FromWrite::new(&mut out))? {
+///     Outcome::Tightened { .. } => Ok(Some(out)),
+///     Outcome::Refused(_) => Ok(None),
+/// }
+/// ```
+pub fn tighten<R: Source + Drop, W: Sink>(
+    alloc: Global,
+    source: R,
+    sink: &mut W,
+) -> Result<Outcome, TightenFault>
+    ensures { Tightens (R.input source) (W.output sink.old) (W.output sink.new) result }
+{
+    tighten_in(alloc, Profile::One, source, sink)
+}
+
+/// Tightens the certificate that is read from `source` by the rules of `profile`.
+///
+/// # Errors
+///
+/// `Read` where a read fails, and `Memory` where a growth is refused: nothing was written. `Write`
+/// where a write fails or takes nothing, and the sink is asked no more.
+pub fn tighten_in<R: Source + Drop, W: Sink>(
+    alloc: Global,
+    profile: Profile,
+    source: R,
+    sink: &mut W,
+) -> Result<Outcome, TightenFault>
+    ensures { TightensIn (profile_of profile) (R.input source) (W.output sink.old)
+        (W.output sink.new) result }
+{
+    tighten_as(alloc, profile, Form::Canonical, source, sink)
+}
+
+/// Tightens the certificate that is read from `source` by the rules of `profile`, and writes the
+/// text in `form`.
+///
+/// # Errors
+///
+/// `Read` where a read fails, and `Memory` where a growth is refused: nothing was written. `Write`
+/// where a write fails or takes nothing, and the sink is asked no more.
+pub fn tighten_as<R: Source + Drop, W: Sink>(
+    alloc: Global,
+    profile: Profile,
+    form: Form,
+    source: R,
+    sink: &mut W,
+) -> Result<Outcome, TightenFault>
+    ensures { TightensAs (profile_of profile) form (R.input source) (W.output sink.old)
+        (W.output sink.new) result }
+{
+    match read_proof(alloc, profile, source) {
+        Ok((certificate, report)) => write_tightened(alloc, form, certificate, &report, sink),
+        Err(unproved) => without_proof(unproved),
+    }
+}
+
+// The answer where no proof was read.
+fn without_proof(unproved: Unproved) -> Result<Outcome, TightenFault>
+    ensures { result ≡ unproved_answer unproved }
+{
+    match unproved {
+        Unproved::Refused(refusal) => Ok(Outcome::Refused(refusal)),
+        Unproved::Read => Err(TightenFault::Read),
+        Unproved::Memory => Err(TightenFault::Memory { taken: 0 }),
+    }
+}
+
+// Writes the tightened certificate of a proof with this report.
+fn write_tightened<W: Sink>(
+    alloc: Global,
+    form: Form,
+    certificate: Certificate,
+    report: &Report,
+    sink: &mut W,
+) -> Result<Outcome, TightenFault>
+    requires { (P : ProfileMeant) × IsProof P certificate
+        × Reports P certificate (report_of report.now) }
+    ensures { (P : ProfileMeant) → IsProof P certificate
+        → Reports P certificate (report_of report.now)
+        → TightensText P form (kind_of certificate) (W.output sink.old) (W.output sink.new) result }
+{
+    let tightened = tighten_certificate(alloc, certificate, report.goal)?;
+    let peak_after = peak(alloc, &tightened)?;
+    let kept = tightened.derivations().len() as u32;
+    match write_certificate_in(alloc, form, &tightened, sink) {
+        Ok(()) => Ok(Outcome::Tightened {
+            kept,
+            removed: report.derived - kept,
+            peak_before: report.peak,
+            peak_after,
+        }),
+        Err(WriteError::Memory { taken }) => Err(TightenFault::Memory { taken }),
+        Err(WriteError::Write { taken }) => Err(TightenFault::Write { taken }),
+    }
+}
