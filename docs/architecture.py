@@ -3,7 +3,7 @@
 
 usage: docs/architecture.py [--check]
 
---check says whether the picture is current; the exit status is 1 where it isn't.
+--check says whether the picture is current; the exit status is 1 if it isn't.
 """
 import sys
 from html import escape
@@ -18,8 +18,7 @@ WIDTH, BOX, HIGH, STEP = 1000, 150, 34, 92
 # what of a box's width an edge takes that passes a level, and how often the levels are put in order
 PASSING, SWEEPS = 0.35, 24
 STYLE = ('text{font:14px sans-serif;fill:#222}.s{font-size:11px;fill:#555}.h{font-weight:bold}'
-         'rect{fill:#eef3fa;stroke:#345;rx:5}.d{fill:#f7f1e3}.g{fill:#fff}path{stroke:#678;fill:none}'
-         '@media(prefers-color-scheme:dark){svg{background:#fff}}')
+         'rect{fill:#eef3fa;stroke:#345;rx:5}.d{fill:#f7f1e3}.g{fill:#fff;stroke:none;rx:0}path{stroke:#678;fill:none}')
 
 
 def crates():
@@ -110,11 +109,13 @@ def picture():
     level, direct = levels(deps)
     top = max(level.values())
     graph = 150
-    high = graph + (top + 1) * STEP + 20
+    high = graph + top * STEP + HIGH + 20
     out = [f'<svg xmlns="http://www.w3.org/2000/svg" viewBox="0 0 {WIDTH} {high}" role="img">',
            '<title>The life of a certificate, and the crates by level</title>', f'<style>{STYLE}</style>',
            '<defs><marker id="a" markerWidth="8" markerHeight="8" refX="7" refY="3" orient="auto">'
-           '<path d="M0,0 L7,3 L0,6" style="fill:#678"/></marker></defs>']
+           '<path d="M0,0 L7,3 L0,6" style="fill:#678"/></marker></defs>',
+           # a ground of its own, so that a dark page doesn't hide the words
+           '<rect class="g" width="100%" height="100%"/>']
     wide = WIDTH / len(LIFE)
     for number, (what, how, where) in enumerate(LIFE):
         x = wide * (number + 0.5)
