@@ -132,6 +132,18 @@ Texts of 1, 2 and 4 times {small} MB, and how much more the larger ones cost `ch
 The same for families that are made to cost more than their length ([SECURITY.md](SECURITY.md#what-bounds-memory-and-time) says what bounds them), from {least} MB on.
 
 {hostile}
+
+## Beside other checkers
+
+These figures are older than the tables above, and no script writes them: they were measured once, outside of the tests, over twelve certificates of ten families. None of the other checkers is part of this repository. The machine had other users, so the figure of one family says little. Each figure is a geometric mean over the certificates, of the least of 9 or 16 interleaved runs.
+
+| Checker | Compared with | Time | Memory |
+|---|---|---|---|
+| in C++, over GMP rationals | `vipr check` | 11 times | 7 times |
+| `vipr check` | in plain Rust, unproved, written for speed | 1.51 times, at most 1.95 (`wide`) | 1.13 times, at most 2.4 (`wide`) |
+| the one in plain Rust with the public types of this library | the same without them | 1.29 times | 1.30 times |
+
+The checker in plain Rust keeps numbers of up to 64 bits in entries of 16 bytes, reads each derivation into the same buffers, and keeps no name. The last row shows [what the public types cost](DECISIONS.md#choices-of-the-design): entries of 36 bytes, a derivation that owns its name, row and reason, and names that are kept.
 """
 
 
