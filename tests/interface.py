@@ -5,10 +5,11 @@ usage: tests/interface.py [--write] [PROGRAM]     crates/vipr/out/vipr without i
 
 completions/vipr.bash, completions/_vipr (zsh) and completions/vipr.fish are made whole. In man/vipr.1 the parts between
 `.\\" made: WORD` and `.\\" end` are made: the synopsis and the commands from the help, the causes from docs/FORMAT.md.
-Then the bash completion is tried, also in a terminal, the man page is laid out where `groff` is there, its examples are
+The exit statuses of docs/USE.md are those of the man page.
+Then the bash completion is tried, also in a terminal, the man page is laid out if `groff` is there, its examples are
 run, and the program is installed into a folder and removed again.
 
-Prints each fault, and last `interface: N checks, F failed`; the exit status is 1 where one failed.
+Prints each fault, and last `interface: N checks, F failed`; the exit status is 1 if one failed.
 """
 import os
 import pty
@@ -23,7 +24,8 @@ from pathlib import Path
 TOP = Path(__file__).resolve().parent.parent
 WORDS = [word for word in sys.argv[1:] if word != '--write']
 PROGRAM = Path(WORDS[0] if WORDS else TOP / 'crates/vipr/out/vipr').resolve()
-MAN = TOP / 'man/vipr.1'
+MAN, USE = TOP / 'man/vipr.1', TOP / 'docs/USE.md'
+USE_MARKS = ('<!-- exit statuses: written by `tests/interface.py --write` from the man page -->', '<!-- end of the exit statuses -->')
 INSTALLED = ['bin/vipr', 'share/bash-completion/completions/vipr', 'share/fish/vendor_completions.d/vipr.fish',
              'share/man/man1/vipr.1', 'share/zsh/site-functions/_vipr']
 checks = failed = 0
@@ -211,6 +213,15 @@ def man(parts):
     return text
 
 
+def statuses():
+    """docs/USE.md with the exit statuses of the man page."""
+    part = MAN.read_text().split('.SH EXIT STATUS\n', 1)[1].split('.SH ', 1)[0].replace('\\(aq', "'")
+    rows = [f'| {status} | {means.rstrip(".")} |' for status, means in re.findall(r'^\.B (\d)\n(.*)$', part, re.M)]
+    start, end = USE_MARKS
+    front, rest = USE.read_text().split(start, 1)
+    return '\n'.join([front + start, '| Status | Means |', '|---|---|', *rows, end]) + rest.split(end, 1)[1]
+
+
 def completed(words):
     """What bash completes the last word to."""
     line = ' '.join(words)
@@ -338,7 +349,7 @@ def first_commands():
 def main():
     _, commands, options = program()
     made = {TOP / 'completions/vipr.bash': bash(commands, options), TOP / 'completions/_vipr': zsh(commands, options),
-            TOP / 'completions/vipr.fish': fish(commands, options), MAN: man(man_parts(commands, options))}
+            TOP / 'completions/vipr.fish': fish(commands, options), MAN: man(man_parts(commands, options)), USE: statuses()}
     for path, text in made.items():
         if '--write' in sys.argv:
             path.write_text(text)
