@@ -37,22 +37,23 @@ LISTED = {'constraint_at', 'reason_at', 'last_at'}
 LAWS = {
     'cross_products': (
         'Fractions', 'vipr_spec/src/arithmetic.rt',
-        'What fractions are is said by a law. `over p q` is p / q; `x.numer` and `x.denom` are the parts of x. Who '
-        'believes the law needs none of the definitions by which they are computed ([appendix](#appendix)).', COMPUTED),
+        'A law says what fractions are. `over p q` is p / q; `x.numer` and `x.denom` are the parts of x. If you believe '
+        'the law, you need none of the definitions by which they are computed ([appendix](#appendix)).', COMPUTED),
     'one_problem': (
         'The grammar', 'vipr_spec/src/grammar.rt',
-        'The clause speaks of a certificate c that the text spells. By a law the text then states the problem '
-        '`c.problem` and the listed solutions `c.solutions`, and no others: its first tokens spell them. So nothing has '
-        'to be believed of derivations, not even how they are spelled.', {'SpellsOnly'}),
+        'The clause `sound` says `SpellsOnly bytes c`: the text spells the certificate c and no other (`Spells`). Part 2 '
+        'defines both, and this part needs neither. By a law the text then states the problem `c.problem` and the '
+        'listed solutions `c.solutions`, and no others: its first tokens spell them. So nothing has to be believed '
+        'about derivations, not even how they are spelled.', {'SpellsOnly'}),
     'field_by_field': (
         'Problem, claim and certificate', 'vipr_spec/src/step_by_step.rt',
         'A reason names constraints by an index: those of the problem come first, and then the derivations; past the '
-        'end there is 0 = 0. A law says so of what constraint i states, of its reason and of its last reference.', LISTED),
+        'end there is 0 = 0. A law says this for what constraint i states, its reason and its last reference.', LISTED),
     'rules_by_reason': (
         'Problem, claim and certificate', 'vipr_spec/src/rules.rt',
-        'The rules, reason by reason: when a derivation of index k that states d is good. The law says it all of '
-        '`IsGoodStep`, whose parts in `Certificate.antt` (`NamesEarlier`, `FollowsBy`, `StepFits`, `RefersTo`) needn\'t be '
-        'believed.', {'IsGoodStep'}),
+        'The rules, reason by reason: when a derivation of index k that states d is good. The law says all that one has '
+        'to know about `IsGoodStep`. Its parts in `Certificate.antt` (`NamesEarlier`, `FollowsBy`, `StepFits`, '
+        '`RefersTo`) needn\'t be believed.', {'IsGoodStep'}),
 }
 # clauses of them that say nothing new: IsWhole is quoted
 NEEDLESS = ['whole']
@@ -76,14 +77,14 @@ PARTS = [
                  'IsBest', 'cutoff'],
      'hidden': BY_LAW | {'Reports', 'report_of', 'Profile'},
      'what': 'Which texts are verified: this part adds what a proof is. P is profile one, `one`, which `check` uses. What '
-             'the clauses say of the report, `Reports`, is left to part 3: the rest of each clause stands without it.',
+             'the clauses say about the report, `Reports`, is in part 3: the rest of each clause has a meaning without it.',
      'known': 'As long as memory suffices and no read fails, a text is verified exactly if it spells a certificate that '
               'is a proof by these rules. So no proof is refused. Under profile two, which `check` doesn\'t use, two definitions have one more equation '
               'each: part 3 has them.'},
     {'title': 'The exact answer', 'clauses': ['any', 'exact', 'only', 'read', 'ended', 'second'], 'core': ['any', 'exact'], 'most': 900, 'laws': [], 'instead': [], 'hidden': BY_LAW,
-     'what': 'What is answered for every text, and what is known of a file.',
+     'what': 'The answer for every text, and what is known about a file.',
      'known': 'You know the whole answer for all bytes: the report of a proof; of any other text the first cause, in '
-              'the order of the tests, with its place; and that a failed read is answered only if one failed. Of a file '
+              'the order of the tests, with its place; and that a failed read is answered only if one failed. About a file '
               'you know that what is verified is the report of a proof whose claim is true.'},
 ]
 
@@ -151,16 +152,28 @@ or the dual bound holds at all feasible ones, and if a primal bound is claimed, 
 them. The definitions below say what one means by a problem, a claim and a text. The tools keep their word: the prover, \
 the compiler, the machine and its C library.
 
-**Files and standard input**: a slice tells its bytes, so each clause holds of it. A file or standard input \
-doesn't. Of these the contract says `any`: what is verified is the report of a certificate that is a proof, and what \
-that claims is true. That it is the certificate which the bytes of the file spell is a premise, and no theorem. It rests \
-on this: `check` has one body for all sources, that body can't ask which source it has, and what it answers is a \
-function of what its reads gave. A slice that holds what a file's reads gave gets the same answer.
+**Files and standard input**: a contract can name the bytes of a slice, so each clause holds for it. It can't name those \
+of a file or of standard input. For them the clause `any` is what is proved: what is verified is the report of a \
+certificate that is a proof, and what that certificate claims is true. That it is the certificate which the bytes of the \
+file spell is a premise, and no theorem. It rests on this: `check` has one body for all sources, and that body can't ask \
+which source it has. So a slice that holds what a file's reads gave gets the same answer.
 
-**How to read it.** The page has three parts, by the clauses of the contract, and an appendix. You can stop behind each \
-part: it says what you know by then. A part quotes the definitions that its clauses rest on, as they stand in the spec \
-files, and then an example of each. `T : A → Type 0` is a property of A's, `(x : A) × P` means that there is an x with P, \
-`(x : A) → P` that P holds for all x, `⊎` is or, `⊤` true, `⊥` false, and `IsTrue b` says that a `Bool` is true.
+**How to read it.** The page has three parts, by the clauses of the contract, and an appendix. You can stop after each \
+part: it says what you know by then. A part quotes the definitions that its clauses rest on, word by word from the spec \
+files, and then an example of each. The prover computes the examples that are terms; `apart`, `example` and \
+`dropped_example` in them are a problem and certificates of `vipr_spec/specs/Examples.antt`. The words `abbrev`, \
+`unfoldable` and `pub` are for the prover, and no part of what one has to believe.
+
+| Written | Means |
+|---|---|
+| `T : A → Type 0`, `(x : A) × P`, `(x : A) → P` | T is a property of values of A; there is an x with P; P holds for all x |
+| `⊎`, `⊤` or `Unit`, `⊥`, `¬`, `x ≡ y`, `IsTrue b` | or, true, false, not, equality, the `Bool` b is true |
+| `IfSome x P`, `IsSomeAnd x P` | P holds for the value of the option x, if it has one; it has one, and P holds for it |
+| `All P xs`, `Any P xs`, `Contains xs x` | P holds for all elements of a list, for one of them; x is one |
+| `x ∷ xs`, `xs ++ ys`, `take n xs`, `drop n xs` | a list by its first element and the others; one list and then another; the first n elements, and the others |
+| `pos n`, `negsuc n`; `codes "VER"` | the whole numbers n and -(n + 1); the bytes of a word |
+| `IsNumeral 10 t`, `digits_value 10 t` | the bytes t are one or more decimal digits; the number that they write |
+| `ensures`, `requires`, `ghost` | what a call promises, what it asks of its caller, and a part of the code for contracts alone |
 '''
 
 COUNTED = '''
@@ -168,14 +181,13 @@ Lines are those to believe: clauses, definitions, and laws that are quoted inste
 imports. The code that is quoted, and the words of the standard library (numbers, lists, finite maps and sets), aren't \
 counted. The last column is a part without the parts before it: what `sound` needs; what `proof` and `every` need; what \
 `any` and `exact` need, which imply all other clauses. These two need no grammar, since a law says that it and the reading \
-are the same. Laws also put the tests of derivations for their rules there (`PassesSteps`), and how digits are spelled for \
-how they are read (`SpellsNatural`).
+are the same. By other laws the tests of derivations (`PassesSteps`) replace their rules there, and the spelling of digits \
+(`SpellsNatural`) replaces how they are read.
 '''
 
 APPENDIX_HEAD = '''## Appendix
 
-No clause of `Checks` needs what follows. It is quoted since other calls cite it, or since a law says that it is the same \
-in other words.
+No clause of `Checks` needs what follows. Other calls cite it, or a law says that it is the same in other words.
 '''
 
 
@@ -498,8 +510,8 @@ def the_call(files, examples):
               "impl Source for Bytes<'_> {", line_of(source, 'ghost input = { λ bytes.'), '}']
     out = ['## The call and its source\n',
            'The contract of `check` is the record `ChecksIn` for profile one; that of `check_in` is the record for the '
-           'profile that is handed in.\n', fenced(code + record),
-           'What is read, `R.input source`, is what the source says of its reads. A slice in memory is the source '
+           'profile that is passed in.\n', fenced(code + record),
+           'The input `R.input source` is what the source says about its reads. A slice in memory is the source '
            '`Bytes`: its input has the bytes of the slice, and no failure. Each read keeps the promise `ReadsBytes`.\n',
            fenced(item(source, r'pub trait Source ') + slices + quoted(reads['after']) + quoted(reads['ReadsBytes']))]
     definitions = [home['ChecksIn'], home['Checks'], reads['after'], reads['ReadsBytes']]
