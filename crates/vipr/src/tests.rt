@@ -70,10 +70,10 @@ const VERIFIED: &str = "verified infeas\nsolutions 0 derived 1 peak 1\n";
 
 const REFUSED: &str = "refused 2 at byte 8\n";
 
-/// What is said where the text with a cutoff is tightened.
+/// What is said if the text with a cutoff is tightened.
 const KEPT: &str = "kept 1 removed 1 peak 2 1\n";
 
-/// Gives or takes one byte a call, but at one call fails, or takes none where there is no error. It
+/// Gives or takes one byte a call, but at one call fails, or takes none if there is no error. It
 /// counts its calls.
 #[derive(Drop)]
 struct Failing<T> {
@@ -162,7 +162,7 @@ fn is_fault(alloc: Global, said: &[u8], written: usize) -> bool {
     }
 }
 
-/// Checks what is written where the writes end at one of them.
+/// Checks what is written if the writes end at one of them.
 fn ends_at<H: Abort + AllocGlobal + Files>(
     rt: &H,
     words: &[&str],
@@ -198,7 +198,7 @@ fn ends_at<H: Abort + AllocGlobal + Files>(
     }
 }
 
-/// A failed write is a fault that tells what was written before, and no write follows it.
+/// A failed write is a fault that reports what was written before, and no write follows it.
 #[test]
 fn writes_fail(rt: HostRuntime) {
     let rows = [

@@ -1,7 +1,7 @@
 //! Where bytes come from, and where they go.
 //!
 //! A [`Source`] is read, a [`Sink`] is written. Each has a law that says what a caller may rely on,
-//! also where a read gives fewer bytes than there is room for, or a write takes fewer than it is
+//! also if a read gives fewer bytes than there is room for, or a write takes fewer than it is
 //! handed.
 #![tactic(auto)]
 

@@ -8,8 +8,8 @@ use std::marker::Model;
 
 /// A writer of bytes.
 ///
-/// A write takes the first bytes that it is handed, at least one where there is room. Only where no
-/// room is left it takes none or fails.
+/// A write takes the first bytes that it is handed, at least one if there is room. If there is
+/// no room, it takes none or fails.
 pub trait Sink {
     // If it is known: the bytes that it accepted, and if that is known how many more it has
     // room for.
@@ -28,8 +28,8 @@ pub trait Sink {
             (λ n. failures self.new ≡ Some (n + failure_of result)) };
 }
 
-/// Writes to a writer of std. The bytes that it accepted are known if the writer exposes them, and
-/// never how much room is left.
+/// Writes to a writer of std. The bytes that it accepted are known if the writer exposes them. How
+/// much room there is isn't known.
 ///
 /// It fails on every error of the writer, an interrupted write too.
 #[derive(Drop)]

@@ -14,7 +14,7 @@ pub struct Failed;
 /// A reader of bytes.
 ///
 /// A read gives the next bytes, as many as it likes. It gives none only at the end, and fails only
-/// where the reader's meaning has a failure.
+/// if the reader's meaning has a failure.
 pub trait Source {
     // At most so many reads still give bytes.
     ghost reads_left: { Self → ℕ };
@@ -119,7 +119,7 @@ impl<R: Read> Source for FromRead<R> {
     }
 }
 
-/// What is answered where a reader or a writer of std gave this: each of its errors is a failure,
+/// What is answered if a reader or a writer of std gave this: each of its errors is a failure,
 /// and nothing else is.
 pub(crate) fn answer(given: io::Result<usize>) -> Result<usize, Failed>
     ensures { MatchResult given (λ n. result ≡ Ok n) (λ _. IsErr result) }

@@ -15,7 +15,7 @@ pub struct WriteFailed {
 ///
 /// # Errors
 ///
-/// Where a write fails or takes nothing, and the sink is asked no more.
+/// If a write fails or takes nothing, and the sink is asked no more.
 pub fn write_bytes<W: Sink>(sink: &mut W, bytes: &[u8]) -> Result<(), WriteFailed>
     ensures output { IfSome (W.output sink.old)
         (λ o. Wrote o (W.output sink.new) bytes.now result) }

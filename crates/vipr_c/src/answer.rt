@@ -9,19 +9,19 @@ use vipr_check::{Fault, Place, Verdict};
 #[repr(C)]
 #[derive(Clone, Copy, Debug, PartialEq, Eq)]
 pub struct Answer {
-    /// Where it is refused: the number of its cause.
+    /// If it is refused: the number of its cause.
     pub cause: u32,
-    /// Where it is refused: 1 at a byte, 2 at a solution, 3 at a derivation, 4 at the end.
+    /// If it is refused: 1 at a byte, 2 at a solution, 3 at a derivation, 4 at the end.
     pub place: u32,
     /// The byte's offset, the solution's number from 0, or the derived constraint's index.
     pub number: u64,
-    /// Where it is verified: how many solutions are listed.
+    /// If it is verified: how many solutions are listed.
     pub solutions: u32,
     /// How many constraints are derived.
     pub derived: u32,
     /// How many derived constraints had to be held at most.
     pub peak: u64,
-    /// 1 where there is a goal.
+    /// 1 if there is a goal.
     pub has_goal: u32,
     /// The goal's index.
     pub goal: u32,

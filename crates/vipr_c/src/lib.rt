@@ -16,7 +16,7 @@ use vipr_bytes::Bytes;
 use vipr_check::{Fault, Verdict, check};
 
 /// Checks the certificate in memory, writes the verdict to `answer`, and returns 0 if
-/// it is verified, 1 where it is refused, and 3 where a growth was refused and there is no verdict.
+/// it is verified, 1 if it is refused, and 3 if a growth was refused and there is no verdict.
 #[unsafe(no_mangle)]
 pub extern "C" fn vipr_check(alloc: Global, text: &[u8], answer: &mut Answer) -> i32
     ensures { (r : Result Answered Failure)

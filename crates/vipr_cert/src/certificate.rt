@@ -49,7 +49,7 @@ impl Certificate {
     ///
     /// # Errors
     ///
-    /// `BadShape` where a variable is not one of the problem's, where there are more than
+    /// `BadShape` if a variable is not one of the problem's, if there are more than
     /// 4,294,967,295 solutions, entries of a reason, or constraints and derivations together.
     pub fn new(
         problem: Problem,

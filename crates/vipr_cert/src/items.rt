@@ -15,7 +15,7 @@ pub struct Named<T> {
 pub enum Claim {
     /// No point is feasible.
     Infeas,
-    /// A lower and an upper bound of the objective, `None` where it is infinite. Under `Goal::Min`
+    /// A lower and an upper bound of the objective, `None` if it is infinite. Under `Goal::Min`
     /// the lower one is the dual bound and the upper one the primal bound, under `Goal::Max` the
     /// other way round.
     Range(Option<Frac>, Option<Frac>),
@@ -49,6 +49,6 @@ pub struct Derivation {
     pub name: Name,
     pub constraint: Constraint,
     pub reason: Reason,
-    /// The last derivation that refers to it by index, `None` where it is never dropped.
+    /// The last derivation that refers to it by index, `None` if it is never dropped.
     pub last: Option<u32>,
 }

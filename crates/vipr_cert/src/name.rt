@@ -65,7 +65,7 @@ impl Name {
     ///
     /// # Errors
     ///
-    /// `BadShape` where they aren't those of a token: at least one and at most 65,535, none of
+    /// `BadShape` if they aren't those of a token: at least one and at most 65,535, none of
     /// which is white space.
     pub fn new(bytes: BString) -> Result<Name, BadShape>
         ensures shape { IsOk result ↔ IsToken (bstring_bytes bytes) }

@@ -46,14 +46,13 @@ impl Model for Problem {
 }
 
 impl Problem {
-    /// The problem of these parts: the variables' names (the variables are 0, 1, 2, ..), the
-    /// variables that have to be whole, whether the objective is to be small or large, its
-    /// coefficients, the constraints, how many of them are bounds (nothing depends on it), and what
-    /// is claimed.
+    /// The problem of these parts. The variables are 0, 1, 2, ..; each has a name, in this order,
+    /// and some have to be whole. The objective is to be small or large, and has coefficients. Then
+    /// come the constraints, how many of them are bounds (nothing depends on it), and the claim.
     ///
     /// # Errors
     ///
-    /// `BadShape` where there are more than 4,294,967,295 names or constraints, or where a variable
+    /// `BadShape` if there are more than 4,294,967,295 names or constraints, or if a variable
     /// is not one of those named.
     pub fn new(
         names: Vec<Name>,

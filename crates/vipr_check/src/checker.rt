@@ -52,7 +52,7 @@ impl<S: Rows> Checker<S> {
     ///
     /// # Errors
     ///
-    /// Where a growth is refused.
+    /// If a growth is refused.
     pub fn new(alloc: Global, problem: Problem) -> Result<Checker<S>, AllocError>
         ensures problem { IfOk result (λ k. k.progress.problem ≡ problem) }
         ensures start { IfOk result (λ k. HasSolutions [] k.progress) }
@@ -67,7 +67,7 @@ impl<S: Rows> Checker<S> {
     ///
     /// # Errors
     ///
-    /// Where a growth is refused.
+    /// If a growth is refused.
     pub fn new_in(
         alloc: Global,
         profile: Profile,
@@ -151,7 +151,7 @@ impl<S: Rows> Checker<S> {
     ///
     /// # Errors
     ///
-    /// The refusal where the listed solutions don't meet the primal side of the claim.
+    /// The refusal if the listed solutions don't meet the primal side of the claim.
     pub fn end_solutions(&mut self) -> Result<(), Stop>
         requires { self.old.in_solutions ≡ true }
         ensures again { Repeats self.old self.new result }
@@ -211,11 +211,11 @@ impl<S: Rows> Checker<S> {
         self.take_from(alloc, &mut step)
     }
 
-    /// The report, where the certificate ends here.
+    /// The report, if the certificate ends here.
     ///
     /// # Errors
     ///
-    /// The refusal where no constraint proves the dual side of the claim.
+    /// The refusal if no constraint proves the dual side of the claim.
     pub fn finish(&mut self) -> Result<Report, Stop>
         requires { self.old.in_solutions ≡ false }
         ensures again { Repeats self.old self.new result }
@@ -234,7 +234,7 @@ impl<S: Rows> Checker<S> {
         }
     }
 
-    /// The problem, where nothing more is to be checked.
+    /// The problem, if nothing more is to be checked.
     pub fn into_problem(self) -> Problem
         ensures { result ≡ self.progress.problem }
     {
@@ -243,7 +243,7 @@ impl<S: Rows> Checker<S> {
         progress.into_problem()
     }
 
-    /// What there is to show of the refusal at which it stopped, and nothing where it didn't.
+    /// What there is to show of the refusal at which it stopped, and nothing if it didn't.
     pub(crate) fn detail(self) -> Result<Detail, AllocError>
         ensures { IfOk result (λ d. detail_of d ≡ state_shown self) }
     {

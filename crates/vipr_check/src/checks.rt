@@ -30,7 +30,7 @@ use vipr_rules::{Profile, Rows};
 ///
 /// # Errors
 ///
-/// Where a read fails, and where a growth is refused.
+/// If a read fails, and if a growth is refused.
 ///
 /// # Example
 ///
@@ -52,7 +52,7 @@ pub fn check<R: Source + Drop>(alloc: Global, source: R) -> Result<Verdict, Faul
 ///
 /// # Errors
 ///
-/// Where a read fails, and where a growth is refused.
+/// If a read fails, and if a growth is refused.
 pub fn check_with<R: Source + Drop, S: Rows>(alloc: Global, source: R) -> Result<Verdict, Fault>
     ensures { Checks (R.input source) result }
 {
@@ -63,7 +63,7 @@ pub fn check_with<R: Source + Drop, S: Rows>(alloc: Global, source: R) -> Result
 ///
 /// # Errors
 ///
-/// Where a read fails, and where a growth is refused.
+/// If a read fails, and if a growth is refused.
 pub fn check_in<R: Source + Drop, S: Rows>(
     alloc: Global,
     profile: Profile,
@@ -80,7 +80,7 @@ pub fn check_in<R: Source + Drop, S: Rows>(
 ///
 /// # Errors
 ///
-/// Where a read fails, and where a growth is refused.
+/// If a read fails, and if a growth is refused.
 ///
 /// # Example
 ///
@@ -106,7 +106,7 @@ pub fn explain<R: Source + Drop>(alloc: Global, source: R) -> Result<(Verdict, D
 ///
 /// # Errors
 ///
-/// Where a read fails, and where a growth is refused.
+/// If a read fails, and if a growth is refused.
 pub fn explain_in<R: Source + Drop>(
     alloc: Global,
     profile: Profile,

@@ -47,7 +47,7 @@ impl Display for Explanation<'_> {
 }
 
 impl Detail {
-    /// The name of the solution or the derivation that is refused, `None` where neither is.
+    /// The name of the solution or the derivation that is refused, `None` if neither is.
     pub fn name(&self) -> Option<&Name>
         ensures { option_map (λ name. name.now) result ≡ refused_name self.now }
     {

@@ -45,11 +45,11 @@ pub(crate) struct Progress<S: Rows> {
     target: Target,
     /// How many solutions were listed.
     solutions: u32,
-    /// The best objective value among the listed solutions, none where none was listed.
+    /// The best objective value among the listed solutions, none if none was listed.
     best: Option<Frac>,
     rows: S,
     scratch: Combination,
-    /// The columns of the problem, from the second solution on, where there is memory for them.
+    /// The columns of the problem, from the second solution on, if there is memory for them.
     columns: Option<Columns>,
     alloc: Global,
     /// How many derived constraints were held at most.
@@ -245,7 +245,7 @@ impl<S: Rows> Progress<S> {
         self.rows.held()
     }
 
-    /// Tests the next listed solution, and goes on with it where it passes.
+    /// Tests the next listed solution, and goes on with it if it passes.
     pub(crate) fn solution(&mut self, solution: &Solution) -> Result<(), SolutionError>
         requires { self.old.solutions + 1 < 2 ^ 32 }
         ensures next { (ss : List (NamedMeant Row)) (s : NamedMeant Row) → HasSolutions ss self.old
@@ -284,7 +284,7 @@ impl<S: Rows> Progress<S> {
         meets_primal(&self.problem, self.best.as_ref())
     }
 
-    /// Tests the next derivation, and goes on with it where it passes.
+    /// Tests the next derivation, and goes on with it if it passes.
     pub(crate) fn derivation(&mut self, alloc: Global, step: &Derivation) -> Result<(), RuleError>
         requires room { self.old.rows.next + 1 < 2 ^ 32 }
         requires names { NamesBelow (variables self.old.problem) (at step.now.constraint.row) }
@@ -364,7 +364,7 @@ impl<S: Rows> Progress<S> {
         Ok(())
     }
 
-    /// The report, where the certificate ends here and is a proof.
+    /// The report, if the certificate ends here and is a proof.
     pub(crate) fn report(&self) -> Option<Report>
         ensures { (c : Certificate) → HasSteps c self.now
             → MatchOption result (¬ PassesTest self.now.profile c meets_dual)

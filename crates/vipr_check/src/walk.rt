@@ -29,7 +29,7 @@ use vipr_rules::{Profile, Rows};
 use vipr_scan::TextError;
 
 /// The verdict on the certificate that is read from `source`, and the checker as it is then,
-/// which knows what there is to show; none where no problem was read.
+/// which knows what there is to show; none if no problem was read.
 pub(crate) fn run<R: Source + Drop, S: Rows>(
     alloc: Global,
     profile: Profile,

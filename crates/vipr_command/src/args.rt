@@ -171,7 +171,7 @@ fn no_commands<'a>(alloc: Global) -> Command<'a>
         .subcommand_required(true)
 }
 
-/// The command line with one more command, where that was made.
+/// The command line with one more command, if that was made.
 fn with_command<'a>(
     line: Command<'a>,
     made: Result<Command<'a>, AllocError>,

@@ -24,13 +24,13 @@ use std::io::{Read, Write};
 use std::rt::Files;
 use vipr_bytes::{FromRead, FromWrite, Sink, Source};
 
-/// Does what the words ask for, the program's name first, and answers the exit status: 0 where the
-/// certificate is verified, shown or tightened, or help was asked for, 1 where it is refused, 2 for
-/// words that aren't accepted, 3 for a fault.
+/// Does what the words ask for, of which the first is the program's name, and answers the exit
+/// status. It is 0 if the certificate is verified, shown or tightened, or help was asked for; 1 if
+/// it is refused; 2 for words that aren't accepted; 3 for a fault.
 ///
-/// A verdict, an explanation, a certificate and help go to `out`; what is wrong with the words, a
-/// fault, the refusal of a certificate that was to be shown or tightened, and what was removed, to
-/// `err`. A tightened certificate goes to a file where the words name one.
+/// A verdict, an explanation, a certificate and help go to `out`. To `err` go what is wrong with
+/// the words, a fault, the refusal of a certificate that was to be shown or tightened, and what was
+/// removed. A tightened certificate goes to a file if the words name one.
 pub fn run<H: AllocGlobal + Files, R: Read + Drop, O: Write, E: Write>(
     rt: &H,
     words: &[&str],
@@ -57,7 +57,7 @@ pub fn run<H: AllocGlobal + Files, R: Read + Drop, O: Write, E: Write>(
 ///
 /// # Errors
 ///
-/// Where a file can't be opened or a read fails, a growth is refused, or a write fails.
+/// If a file can't be opened or a read fails, a growth is refused, or a write fails.
 fn run_over<H: AllocGlobal + Files, R: Source + Drop, O: Sink, E: Write>(
     rt: &H,
     words: &[&str],

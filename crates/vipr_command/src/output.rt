@@ -10,7 +10,7 @@ use vipr_bytes::{Sink, write_bytes};
 ///
 /// # Errors
 ///
-/// Where a growth is refused: nothing was written. Where a write fails or takes nothing.
+/// If a growth is refused: nothing was written. If a write fails or takes nothing.
 pub fn print<T: Display, W: Sink>(
     alloc: Global,
     text: &T,

@@ -29,7 +29,7 @@ pub enum Shown {
 ///
 /// # Errors
 ///
-/// Where a read fails and where a growth is refused: nothing was written. Where a write fails.
+/// If a read fails and if a growth is refused: nothing was written. If a write fails.
 pub fn show<R: Source + Drop, W: Sink>(
     alloc: Global,
     form: Form,

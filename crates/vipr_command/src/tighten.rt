@@ -18,8 +18,8 @@ use vipr_tighten::{Outcome, TightenFault, tighten_as};
 use vipr_write::Form;
 
 /// Prints a certificate's text in a form, tightened by the rules of a profile, or writes it to the
-/// file at `path`. Tells on `err` what was kept and removed, or why there is none, and answers the
-/// exit status.
+/// file at `path`. Reports on `err` what was kept and removed, or why there is none, and answers
+/// the exit status.
 ///
 /// The file is opened at the first byte that is written to it: not for a certificate that is
 /// refused. It may be the one that is read. A regular file that is there already is replaced once
@@ -93,8 +93,8 @@ fn settle<H: Files>(
     }
 }
 
-/// Writes a certificate's text in a form, tightened by the rules of a profile, to a sink. Tells on
-/// `err` what was kept and removed, or why there is none, and answers the exit status.
+/// Writes a certificate's text in a form, tightened by the rules of a profile, to a sink. Reports
+/// on `err` what was kept and removed, or why there is none, and answers the exit status.
 ///
 /// # Errors
 ///

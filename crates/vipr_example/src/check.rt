@@ -9,7 +9,7 @@ use vipr_lib::{Bytes, Explanation, Fault, Verdict, check, explain};
 ///
 /// # Errors
 ///
-/// `Fault::Memory` where a growth is refused. A slice never fails, so `Fault::Read` doesn't come.
+/// `Fault::Memory` if a growth is refused. A slice never fails, so `Fault::Read` doesn't come.
 pub fn is_proof(alloc: Global, text: &[u8]) -> Result<bool, Fault>
     ensures proof { IfOk result (λ verified. IsTrue verified ↔ SpellsProof text.now) }
     ensures claim { IfOk result (λ verified. IsTrue verified → SpellsTruth text.now) }
@@ -27,7 +27,7 @@ pub fn is_proof(alloc: Global, text: &[u8]) -> Result<bool, Fault>
 ///
 /// # Errors
 ///
-/// Where there is no memory for the text.
+/// If there is no memory for the text.
 pub fn verdict_text(alloc: Global, text: &[u8]) -> Result<String, AllocError> {
     match check(alloc, Bytes::new(text)) {
         Ok(verdict) => format!(in alloc; "{verdict}"),
@@ -39,7 +39,7 @@ pub fn verdict_text(alloc: Global, text: &[u8]) -> Result<String, AllocError> {
 ///
 /// # Errors
 ///
-/// `Fault::Memory` where a growth is refused.
+/// `Fault::Memory` if a growth is refused.
 pub fn explanation(alloc: Global, text: &[u8]) -> Result<String, Fault> {
     let (verdict, detail) = explain(alloc, Bytes::new(text))?;
     let explanation = Explanation {

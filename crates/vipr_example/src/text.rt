@@ -6,7 +6,7 @@ use vipr_lib::{Bytes, FromWrite, TextError, WriteError, read_certificate, write_
 ///
 /// # Errors
 ///
-/// `Refused` where they spell none, and `Memory` where a growth is refused.
+/// `Refused` if they spell none, and `Memory` if a growth is refused.
 pub fn canonical(alloc: Global, text: &[u8]) -> Result<Vec<u8>, TextError> {
     let certificate = read_certificate(alloc, Bytes::new(text))?;
     let mut out = Vec::new(alloc);

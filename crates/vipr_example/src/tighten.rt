@@ -3,11 +3,11 @@
 use std::alloc::Global;
 use vipr_lib::{Bytes, FromWrite, Outcome, TightenFault, tighten};
 
-/// The canonical text of the tightened certificate, `None` where the bytes are no proof.
+/// The canonical text of the tightened certificate, `None` if the bytes are no proof.
 ///
 /// # Errors
 ///
-/// `TightenFault::Memory` where a growth is refused.
+/// `TightenFault::Memory` if a growth is refused.
 pub fn tightened(alloc: Global, text: &[u8]) -> Result<Option<Vec<u8>>, TightenFault> {
     let mut out = Vec::new(alloc);
     match tighten(alloc, Bytes::new(text), &mut FromWrite::new(&mut out))? {

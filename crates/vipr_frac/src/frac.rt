@@ -489,7 +489,7 @@ impl Frac {
         words(p, q)
     }
 
-    /// The exact sum, in lowest terms. It is refused where one of the two parts over the least
+    /// The exact sum, in lowest terms. It is refused if one of the two parts over the least
     /// common denominator, their sum, or the denominator of the answer is out of bound.
     #[inline(always)]
     pub fn add(self, other: Frac) -> Result<Frac, Overflow>
@@ -507,7 +507,7 @@ impl Frac {
         exact_sum(p, q, r, s)
     }
 
-    /// The exact product, in lowest terms. It is refused where that is out of bound.
+    /// The exact product, in lowest terms. It is refused if that is out of bound.
     #[inline(always)]
     pub fn mul(self, other: Frac) -> Result<Frac, Overflow>
         ensures fits { IsOk result ↔ ProductFits self other }

@@ -20,7 +20,7 @@ fn odd_gcd(a: u64, b: u64) -> u64
     x
 }
 
-/// The greatest common divisor of two words, by halving: it is fast where they are of like size.
+/// The greatest common divisor of two words, by halving: it is fast if they are of like size.
 pub(crate) fn word_gcd(a: u64, b: u64) -> u64
     requires { 0 < b }
     ensures value { result ≡ gcd a b }

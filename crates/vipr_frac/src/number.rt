@@ -271,7 +271,7 @@ fn front_unsigned(is_negative: bool, s: &[u8]) -> Option<(Frac, usize)>
 }
 
 impl Frac {
-    /// The fraction that the bytes at the front spell, and how many they are, where it begins with
+    /// The fraction that the bytes at the front spell, and how many they are, if it begins with
     /// a digit or a minus, and neither part has more than 18 digits. What follows them isn't
     /// looked at. `None` says nothing of the bytes.
     #[inline(always)]
@@ -303,8 +303,8 @@ impl Frac {
         }
     }
 
-    /// Appends the numerator, and where the denominator is not 1 a slash and the denominator: at
-    /// most 80 bytes. It is refused only where the room was missing and could not be had, and then
+    /// Appends the numerator, and if the denominator is not 1 a slash and the denominator: at
+    /// most 80 bytes. It is refused only if the room was missing and could not be had, and then
     /// nothing is appended.
     pub fn write_to(&self, out: &mut Vec<u8>) -> Result<(), AllocError>
         ensures ok { OnOk result (out.new.items ≡ out.old.items ++ number_text self.now) }

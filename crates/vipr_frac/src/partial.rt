@@ -108,7 +108,7 @@ impl Partial {
         (self.p == p && self.q == q) || self.value() == fraction
     }
 
-    /// Adds the product of a multiplier and a coefficient. It is refused where the product or the
+    /// Adds the product of a multiplier and a coefficient. It is refused if the product or the
     /// sum is refused in lowest terms, and then it stays as it was.
     #[inline(always)]
     pub fn add_product(&mut self, multiplier: Frac, coefficient: Frac) -> Result<(), Overflow>

@@ -46,7 +46,7 @@ pub enum CombError {
 }
 
 /// The sum of multiples of constraints over the variables below a number. Its places hold a point
-/// too, where a solution is laid out.
+/// too, if a solution is laid out.
 #[derive(Debug, Drop)]
 pub struct Combination {
     sums: Vec<Partial>,

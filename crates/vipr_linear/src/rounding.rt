@@ -48,7 +48,7 @@ pub struct NotRoundable(pub Constraint);
 impl Constraint {
     ghost use Rattle.vipr_linear.specs.Rounding.{IsRounding, RoundedDominates};
 
-    /// Rounds the right-hand side, where all coefficients are whole and at integer variables.
+    /// Rounds the right-hand side, if all coefficients are whole and at integer variables.
     pub fn round(self, ints: &Ints) -> Result<Rounded, NotRoundable>
         ensures ok { IsOk result ↔ IsWholeRow ints.now (at self.row) }
         ensures rounding { IfOk result (IsRounding self) }

@@ -91,7 +91,7 @@ impl Row {
         })
     }
 
-    /// The row of these coefficients, in any order, where the variables differ. Coefficients 0 are
+    /// The row of these coefficients, in any order, if the variables differ. Coefficients 0 are
     /// dropped. It takes no memory.
     #[inline(always)]
     pub fn from_distinct(pairs: Vec<(u32, Frac)>) -> Row
@@ -106,7 +106,7 @@ impl Row {
         }
     }
 
-    /// The row of one coefficient, or of none where that is 0. It takes no memory.
+    /// The row of one coefficient, or of none if that is 0. It takes no memory.
     #[inline(always)]
     pub fn of_one(alloc: Global, variable: u32, coefficient: Frac) -> Row
         ensures row { result ≡ row_of ((variable, coefficient) ∷ []) }

@@ -25,8 +25,8 @@ use vipr_scan::{ScanError, Scanner, TextError};
 ///
 /// # Errors
 ///
-/// `Refused` where the text spells no certificate, `Read` where a read fails before that is known,
-/// and `Memory` where a growth is refused.
+/// `Refused` if the text spells no certificate, `Read` if a read fails before that is known,
+/// and `Memory` if a growth is refused.
 ///
 /// # Example
 ///

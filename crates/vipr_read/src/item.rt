@@ -16,7 +16,7 @@ use vipr_cert::{Derivation, Named};
 use vipr_linear::{Row, Solution};
 use vipr_scan::ScanError;
 
-/// A kind of item, as a parser reads it where the problem is known.
+/// A kind of item, as a parser reads it if the problem is known.
 pub(crate) trait ItemKind {
     type Value: Drop;
 

@@ -25,7 +25,7 @@ use vipr_cert::{Derivation, Named};
 use vipr_linear::{Row, Solution};
 use vipr_scan::TextError;
 
-/// Reads items of either kind, where the problem is known.
+/// Reads items of either kind, if the problem is known.
 #[derive(Drop)]
 struct ItemReader<R: Source> {
     parser: Parser<R>,
@@ -59,7 +59,7 @@ impl<R: Source> Model for ItemReader<R> {
 }
 
 impl<R: Source> ItemReader<R> {
-    /// The next item, or `None` where no item is to come; nothing is read then.
+    /// The next item, or `None` if no item is to come; nothing is read then.
     fn next<I: ItemKind>(&mut self, alloc: Global, item: &I) -> Result<Option<I::Value>, TextError>
         ensures spent { IsErrOf result TextError.Spent ↔ (self.old.failed ≡ true) }
         ensures moves { Moves HasNone self.old self.new result }
@@ -105,7 +105,7 @@ impl<R: Source> Model for Solutions<R> {
 }
 
 impl<R: Source> Solutions<R> {
-    /// The solutions of which so many are to come, where so much is known of the problem.
+    /// The solutions of which so many are to come, if so much is known of the problem.
     pub(crate) fn new(
         parser: Parser<R>,
         left: u32,
@@ -140,11 +140,11 @@ impl<R: Source> Solutions<R> {
         self.items.left
     }
 
-    /// The next solution, or `None` where all were read; nothing is read then.
+    /// The next solution, or `None` if all were read; nothing is read then.
     ///
     /// # Errors
     ///
-    /// `Refused` where the text is at fault, `Read` where a read failed, and `Memory` where a
+    /// `Refused` if the text is at fault, `Read` if a read failed, and `Memory` if a
     /// growth was refused; after an error `Spent`.
     pub fn next(&mut self, alloc: Global) -> Result<Option<Named<Solution>>, TextError>
         ensures spent { IsErrOf result TextError.Spent ↔ (self.old.failed ≡ true) }
@@ -215,11 +215,11 @@ impl<R: Source> Derivations<R> {
         items.left
     }
 
-    /// The next derivation, or `None` where all were read and only white space followed.
+    /// The next derivation, or `None` if all were read and only white space followed.
     ///
     /// # Errors
     ///
-    /// `Refused` where the text is at fault, `Read` where a read failed, and `Memory` where a
+    /// `Refused` if the text is at fault, `Read` if a read failed, and `Memory` if a
     /// growth was refused; after an error `Spent`.
     pub fn next(&mut self, alloc: Global) -> Result<Option<Derivation>, TextError>
         ensures spent { IsErrOf result TextError.Spent ↔ (self.old.failed ≡ true) }

@@ -9,7 +9,7 @@ use std::alloc::{AllocError, Global};
 use vipr_bytes::Source;
 use vipr_scan::{ScanError, TokenKind};
 
-/// A part of a certificate, as a parser reads it where so many variables are known.
+/// A part of a certificate, as a parser reads it if so many variables are known.
 pub(crate) trait Part {
     type Value: Drop;
 

@@ -86,7 +86,7 @@ fn may_round(profile: Profile, p: &Problem) -> bool
     profile == Profile::Two && is_whole_row(p.objective(), p.ints())
 }
 
-/// Whether the best value among the listed solutions, none where no solution is listed, meets the
+/// Whether the best value among the listed solutions, none if no solution is listed, meets the
 /// primal side of the claim.
 pub fn meets_primal(p: &Problem, best: Option<&Frac>) -> bool
     ensures { (ss : List (Named Row)) → IsBestValue p.now ss (option_copied best.entry)
@@ -101,7 +101,7 @@ pub fn meets_primal(p: &Problem, best: Option<&Frac>) -> bool
     is_as_good(p, *value, bound)
 }
 
-/// The primal bound that is claimed, none where it is infinite or infeasibility is claimed.
+/// The primal bound that is claimed, none if it is infinite or infeasibility is claimed.
 pub fn claimed_primal(p: &Problem) -> Option<Frac>
     ensures { result ≡ finite_primal p.now p.now.claim }
 {

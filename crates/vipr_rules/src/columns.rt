@@ -27,7 +27,7 @@ use vipr_linear::{Constraint, Row, Solution, compares};
 pub struct Columns {
     /// For each variable the constraints that name it, and its place among their entries.
     columns: Vec<Vec<(u32, u32)>>,
-    /// The constraints that are false where all variables are 0.
+    /// The constraints that are false if all variables are 0.
     false_at_zero: Vec<u32>,
     /// The sums of the touched constraints.
     sums: Vec<Option<Partial>>,
@@ -37,7 +37,7 @@ pub struct Columns {
 }
 
 impl Columns {
-    /// The columns of a problem. There are none where a growth is refused.
+    /// The columns of a problem. There are none if a growth is refused.
     pub fn of(alloc: Global, problem: &Problem) -> Option<Columns>
         ensures { IfSome result (IsColumnsOf problem.now) }
     {
@@ -58,8 +58,8 @@ impl Columns {
         })
     }
 
-    /// Whether it is found that a solution meets all constraints, where the objective has this
-    /// value there. The columns of its variables alone are looked at. Where a constraint's value
+    /// Whether it is found that a solution meets all constraints, if the objective has this
+    /// value there. The columns of its variables alone are looked at. If a constraint's value
     /// doesn't fit, or memory is refused, it isn't found.
     pub(crate) fn find_met(&mut self, problem: &Problem, solution: &Solution, value: Frac) -> bool
         requires columns { IsColumnsOf problem.now self.old }

@@ -39,8 +39,8 @@ pub(crate) fn cut_off<S: Rows>(
     Ok(Assumptions::empty(alloc))
 }
 
-/// The objective with this value as right-hand side: at most that where it is to be small, at least
-/// where it is to be large.
+/// The objective with this value as right-hand side: at most that if it is to be small, at least
+/// if it is to be large.
 fn cutoff(p: &Problem, value: Frac) -> Result<Constraint, AllocError>
     ensures { IfOk result (λ x.
         condition_of x ≡ objective_constraint p.now (reaches p.now.direction) value) }

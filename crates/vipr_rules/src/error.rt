@@ -13,7 +13,7 @@ ghost use Rattle.vipr_rules.specs.Apply.{shown_by};
 use std::alloc::{AllocError, Global};
 use vipr_linear::Constraint;
 
-/// Why a derivation is refused, with what there is to tell about it.
+/// Why a derivation is refused, with what there is to show of it.
 #[derive(Debug, Drop)]
 pub enum RuleError {
     /// The constraint with this index doesn't come before the derivation.

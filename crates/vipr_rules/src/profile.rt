@@ -1,4 +1,4 @@
-//! The profiles of the rules: the choices where the format leaves one.
+//! The profiles of the rules: the choices if the format leaves one.
 
 ghost use Rattle.std.specs.Prelude.{◌↔◌, IsTrue};
 ghost use Rattle.vipr_spec.specs.Constraint.{IsSplit};
@@ -10,9 +10,9 @@ use vipr_linear::{Constraint, Ints, covers, is_split};
 /// under the second.
 #[derive(Clone, Copy, Debug, PartialEq, Eq)]
 pub enum Profile {
-    /// Two assumptions split where their bounds are k and k + 1.
+    /// Two assumptions split if their bounds are k and k + 1.
     One,
-    /// Two assumptions split where no whole number is between their bounds, and a constraint may be
+    /// Two assumptions split if no whole number is between their bounds, and a constraint may be
     /// rounded to prove a bound of an objective that is whole.
     Two,
 }

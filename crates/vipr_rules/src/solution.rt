@@ -3,7 +3,7 @@
 //! A listed solution has to be whole at the integer variables and to meet each constraint, and the
 //! values that are computed at it have to be within the bound. [`test_solution`] tests row by row,
 //! and gives the objective's value. [`test_solution_by_columns`] gives the same answer over the
-//! [`Columns`] of the problem, in less time where the solution lists few of many variables.
+//! [`Columns`] of the problem, in less time if the solution lists few of many variables.
 
 ghost use Rattle.std.specs.Prelude.{◌≡◌, ◌↔◌, ◌<◌, ℕ, length, map, None, IsOk, IfOk};
 ghost use Rattle.std.specs.Prelude.{MatchResult};
@@ -26,7 +26,7 @@ use vipr_linear::{
     Combination, Constraint, Ints, Row, Sense, Solution, compares, first_fractional,
 };
 
-/// Why a listed solution is refused, with what there is to tell about it.
+/// Why a listed solution is refused, with what there is to show of it.
 #[derive(Clone, Copy, Debug, PartialEq, Eq)]
 pub enum SolutionError {
     /// An integer variable isn't whole.
@@ -47,22 +47,24 @@ pub enum SolutionError {
         /// Its right-hand side.
         right: Frac,
     },
-    /// A product or a partial sum is out of bound: of this constraint, or of the objective.
+    /// A product or a partial sum of this constraint, or of the objective, is out of bound.
     Overflow(Option<u32>),
 }
 
 /// Tests a listed solution, and gives the objective's value there. It lays the solution out in the
 /// scratch, so that each entry of the solution and of the constraints is looked at once. Those of
-/// the objective are looked at once also where many constraints have its row. The integer variables
+/// the objective are looked at once also if many constraints have its row. The integer variables
 /// are tested first, in rising order, then the constraints in their order, and last whether the
 /// objective's value fits.
 ///
 /// # Errors
 ///
-/// What the first test that fails reports: `NotWhole` with the integer variable and its value,
-/// `Overflow` with the index of a constraint whose value doesn't fit, `Breaks` with that of a
-/// constraint that is false and with both its sides, or `Overflow` with `None` where the
-/// objective's value doesn't fit.
+/// The first test that fails gives the error:
+///
+/// - `NotWhole` with the integer variable and its value;
+/// - `Overflow` with the index of a constraint whose value doesn't fit, or with `None` if the
+///   objective's doesn't;
+/// - `Breaks` with the index of a constraint that is false, and with both its sides.
 pub fn test_solution(
     p: &Problem,
     scratch: &mut Combination,
@@ -87,7 +89,7 @@ pub fn test_solution(
 }
 
 /// Tests a listed solution by columns: only at its variables and the entries of their columns.
-/// Where it isn't found so that all constraints are met, they are tested one after the other.
+/// If it isn't found so that all constraints are met, they are tested one after the other.
 ///
 /// # Errors
 ///

@@ -43,7 +43,7 @@ pub trait TokenKind {
         ensures meaning { Means view result (meaning self.now bytes.now) }
         ensures bounds { IfOk result (λ x. bounds self.now x) };
 
-    /// What the token at the front means, and its length, where it can be read at once and white
+    /// What the token at the front means, and its length, if it can be read at once and white
     /// space follows it. `None` says nothing of the bytes.
     #[inline(always)]
     fn read_front(&self, bytes: &[u8]) -> Option<(Self::Value, usize)>

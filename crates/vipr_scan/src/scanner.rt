@@ -12,7 +12,7 @@ use std::marker::Model;
 use vipr_bytes::Source;
 
 /// Takes the tokens of a text one by one, over a buffer of 65,536 bytes. In contracts it is the
-/// rest of the text, where that is known.
+/// rest of the text, if that is known.
 #[derive(Drop)]
 pub struct Scanner<R: Source> {
     window: Window<R>,
@@ -29,7 +29,7 @@ impl<R: Source> Model for Scanner<R> {
 }
 
 impl<R: Source> Scanner<R> {
-    /// A scanner at the start of the text. Where there is no memory, nothing was read.
+    /// A scanner at the start of the text. If there is no memory, nothing was read.
     pub fn new(alloc: Global, source: R) -> Result<Scanner<R>, AllocError>
     where
         R: Drop,

@@ -18,7 +18,7 @@ use vipr_bytes::Source;
 /// A token of a text.
 #[derive(Clone, Copy, Debug)]
 pub struct Token<'a> {
-    /// Its bytes; of a token that is too long the first 65,535.
+    /// Its bytes, or the first 65,535 if it is too long.
     pub bytes: &'a [u8],
     /// The offset of its first byte in the text.
     pub offset: u64,
@@ -83,7 +83,7 @@ impl<R: Source> Model for Tokens<R> {
 }
 
 impl<R: Source> Tokens<R> {
-    /// A reader at the start of the text. Where there is no memory, nothing was read.
+    /// A reader at the start of the text. If there is no memory, nothing was read.
     pub fn new(alloc: Global, source: R) -> Result<Tokens<R>, AllocError>
     where
         R: Drop,
@@ -102,7 +102,7 @@ impl<R: Source> Tokens<R> {
 
     /// The next token, or `None` at the end. It takes no memory.
     ///
-    /// It fails only where a read fails before the token's end is known, and after an earlier
+    /// It fails only if a read fails before the token's end is known, and after an earlier
     /// failure or a token that was too long.
     pub fn next(&mut self) -> Result<Option<Token<'_>>, TextError>
         ensures spent { IsErrOf result TextError.Spent ↔ (self.old.failed ≡ true) }

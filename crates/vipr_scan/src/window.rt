@@ -52,7 +52,7 @@ impl<R: Source> Window<R> {
     ghost use Rattle.vipr_scan.specs.Giving.{Scans, Ends, IsBehind};
     ghost use Rattle.vipr_spec.specs.Reading.{token_read, end_read};
 
-    /// A reader at the start of the text. Where there is no memory, nothing was read.
+    /// A reader at the start of the text. If there is no memory, nothing was read.
     pub(crate) fn new(alloc: Global, source: R) -> Result<Window<R>, AllocError>
     where
         R: Drop,

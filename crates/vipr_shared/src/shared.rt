@@ -56,7 +56,7 @@ impl<T> Shared<T> {
     ///
     /// # Errors
     ///
-    /// Where the growth is refused.
+    /// If the growth is refused.
     pub fn new(alloc: Global, value: T) -> Result<Shared<T>, AllocError>
     where
         T: Drop,

@@ -10,7 +10,7 @@ pub fn by_reason()
     ensures { (c : Certificate) (i a : ℕ) → RestsOn c i a ↔ RestsBy c i (reason_at c i) a }
 {}
 
-/// Derivations at the end change no assumption set where every reason names earlier constraints
+/// Derivations at the end change no assumption set if every reason names earlier constraints
 /// alone, and the next derivation's is made of those before.
 pub fn one_pass()
     ensures stay { (c : Certificate) (ds : List Derivation) (i a : ℕ) → RefersBack c → i < count c

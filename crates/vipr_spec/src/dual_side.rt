@@ -7,7 +7,7 @@ ghost use Rattle.vipr_spec.specs.Certificate.{MeetsDual, NeedsGoal, ProvesDual, 
 ghost use Rattle.vipr_spec.specs.Steps.{with_more, with_next, RestsBy, RefersBack};
 
 /// A constraint of the problem proves the dual side if it meets it; an earlier one does so with
-/// more derivations where it did before; the next one does so if it meets it and rests on nothing.
+/// more derivations if it did before; the next one does so if it meets it and rests on nothing.
 pub fn proved_by()
     ensures given { (P : Profile) (c : Certificate) (k : ℕ) → k < length c.problem.constraints
         → ProvesDual P c k ↔ MeetsDual P c.problem c.problem.claim (constraint_at c k) }

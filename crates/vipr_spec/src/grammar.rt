@@ -22,17 +22,17 @@ pub fn kinds_of_token()
     ensures numbers { KindsOfNumber }
 {}
 
-/// A part of an item is read exactly where the next tokens spell it, whatever follows them.
+/// A part of an item is read exactly if the next tokens spell it, whatever follows them.
 pub fn parts_of_items()
     ensures { PartsOfItems }
 {}
 
-/// An item is read exactly where the next tokens spell it, whatever follows them.
+/// An item is read exactly if the next tokens spell it, whatever follows them.
 pub fn items()
     ensures { ItemReadings }
 {}
 
-/// A certificate is read exactly where the tokens of the text spell it: so it was read only if the
+/// A certificate is read exactly if the tokens of the text spell it: so it was read only if the
 /// text spells it, and what a text spells is read.
 pub fn reading_is_the_grammar()
     ensures tokens { ReadsCertificates }
@@ -50,7 +50,7 @@ pub fn example()
 {}
 
 /// What is refused at a token is refused whatever follows it, and reading fails for want of more
-/// only where a failure follows.
+/// only if a failure follows.
 pub fn faults_remain()
     ensures { ItemFaults }
 {}

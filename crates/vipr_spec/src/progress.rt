@@ -82,8 +82,8 @@ pub fn end_last()
         ↔ ((report : Report) × Reports P c report × (a ≡ verified report)) }
 {}
 
-/// The dual side is met where a goal was found or none is needed, and the goal is then reported.
-/// It is unmet where one is needed and none was found.
+/// The dual side is met if a goal was found or none is needed, and the goal is then reported.
+/// It is unmet if one is needed and none was found.
 pub fn goals_reported()
     ensures met { (P : Profile) (c : Certificate) (goal : Option ℕ) → GoalIs P c goal
         → (NeedsGoal c.problem c.problem.claim → IsSome goal)

@@ -117,9 +117,9 @@ pub fn shown_of_derivations()
     ensures no_solution { (c : Certificate) (d : Condition) → Shows c d listed nothing }
 {}
 
-/// What is shown of a side of the claim that isn't met: of the dual side the constraint that the
-/// goal must dominate, or no constraint under `infeas`; of the primal side its bound. Of a text
-/// that isn't spelled as it must be, nothing is shown.
+/// What is shown if a side of the claim isn't met. For the dual side it is the constraint that the
+/// goal must dominate, or no constraint under `infeas`; for the primal side it is the bound.
+/// Nothing is shown for a text that isn't spelled as it must be.
 pub fn shown_of_claims()
     ensures spelled { (c : Certificate) (why offset : ℕ)
         → Explains c (spelled (refused why offset)) none }

@@ -11,7 +11,7 @@ ghost use Rattle.vipr_spec.specs.Steps.{StepTest, PassesStep, step_tests, FirstF
 ghost use Rattle.vipr_spec.specs.Steps.{with_next, before, IsGoodNext, PassesSteps, RefersBack};
 ghost use Rattle.vipr_spec.specs.Steps.{StepDetail, Refuses};
 
-/// No test fails first exactly where all pass, and only one test fails first. Of two lists, one
+/// All tests pass if and only if none fails first, and at most one fails first. In two lists, one
 /// after the other, it is that of the first list, or that of the second if all of the first pass.
 pub fn first_failing()
     ensures none { (P : Profile) (c : Certificate) (d : Condition) (ts : List StepTest)
@@ -63,7 +63,7 @@ pub fn next_one()
     ensures back { (P : Profile) (c : Certificate) → HasGoodSteps P c → RefersBack c }
 {}
 
-/// What is known of a constraint, field by field: of those of the problem first, and then of the
+/// What is known of a constraint, field by field: first the problem's constraints, and then the
 /// derivations.
 pub fn field_by_field()
     ensures stated { (c : Certificate) (i : ℕ) → constraint_at c i
@@ -78,9 +78,9 @@ pub fn field_by_field()
         ++ map (λ d. d.last) c.derivations) i None }
 {}
 
-/// No test of a step fails exactly where it names what is there, is valid, fits, and refers to live
-/// constraints alone; and each step passes all its tests in the certificate before it exactly where
-/// all this is so of the whole certificate.
+/// A step passes all its tests if and only if it names what is there, is valid, fits, and refers to
+/// live constraints alone. Each step passes them in the certificate before it if and only if all
+/// this is so in the whole certificate.
 pub fn tests_are_the_rules()
     ensures step { (P : Profile) (c : Certificate) (d : Condition) (r : Reason)
         → FirstFailing (PassesStep P c d) (step_tests r) None ↔ IsGoodStep P c (count c) r d }

@@ -37,7 +37,7 @@ pub fn split_assumptions_stay()
         ≡ with_named p a x1 x2 x3 (Some 3) }
 {}
 
-/// Nothing is derived for a constraint of the problem, nor where there is no goal.
+/// Nothing is derived for a constraint of the problem, nor if there is no goal.
 pub fn nothing_is_derived()
     ensures given_goal { (p : Problem) (a b z x1 x2 x3 x4 x5 : Constraint)
         → tightened_certificate (with_unused p a b z x1 x2 x3 x4 x5) (Some 1)

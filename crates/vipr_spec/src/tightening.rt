@@ -24,7 +24,7 @@ pub fn stays_a_proof()
         → (tightened_certificate c goal).solutions ≡ c.solutions }
 {}
 
-/// Its goal is the image of the goal. A proof has no goal exactly where its dual side needs none.
+/// Its goal is the image of the goal. A proof has no goal exactly if its dual side needs none.
 pub fn goal_stays()
     ensures goal { (P : Profile) (c : Certificate) (goal : Option ℕ)
         → RefersBack c → GoalIs P c goal
@@ -35,8 +35,8 @@ pub fn goal_stays()
         → ¬ NeedsGoal c.problem c.problem.claim → GoalIs P c None }
 {}
 
-/// Each derivation of it is needed in it for its goal. So there are none where there is no goal,
-/// and where the goal is a constraint of the problem.
+/// Each derivation of it is needed in it for its goal. So there are none if there is no goal,
+/// and if the goal is a constraint of the problem.
 pub fn each_is_needed()
     ensures needed { (c : Certificate) (goal : Option ℕ) (k : ℕ)
         → RefersBack c → length c.problem.constraints ≤ k → k < count (tightened_certificate c goal)
@@ -57,7 +57,7 @@ pub fn once_more()
         ≡ tightened_certificate c goal }
 {}
 
-/// It can be written where the certificate can.
+/// It can be written if the certificate can.
 pub fn can_be_written()
     ensures { (c : Certificate) (goal : Option ℕ) → CanWrite c
         → CanWrite (tightened_certificate c goal) }

@@ -15,7 +15,7 @@ ghost use Rattle.vipr_spec.specs.Verdict.{IsAnswer};
 ghost use Rattle.vipr_spec.specs.RefusalLaws.{EndsAt, IsRefusedBy};
 ghost use Rattle.vipr_spec.specs.Causes as cause;
 
-/// No test fails first exactly where all pass, and only one test fails first. Of two lists, one
+/// All tests pass if and only if none fails first, and at most one fails first. In two lists, one
 /// after the other, it is that of the first list, or that of the second if all of the first pass.
 pub fn first_failing()
     ensures none { (P : Profile) (c : Certificate) (ts : List Test)
@@ -42,7 +42,7 @@ pub fn texts_are_answered()
     ensures { (P : Profile) (r : Rest) → ¬ ¬ ((a : Answer) × IsAnswer P r a) }
 {}
 
-/// A text is verified exactly where it spells a certificate that is a proof, and what is reported
+/// A text is verified exactly if it spells a certificate that is a proof, and what is reported
 /// is that of the certificate. So whatever is answered for such a text is that it is verified. What
 /// the certificate claims is then true, over all points.
 pub fn verified_texts()

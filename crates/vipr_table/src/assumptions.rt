@@ -79,7 +79,7 @@ impl Assumptions {
     ///
     /// # Errors
     ///
-    /// Where the growth is refused.
+    /// If the growth is refused.
     pub fn single(_alloc: Global, index: u32) -> Result<Self, AllocError>
         ensures { IfOk result (λ s. s ≡ set.insert set.empty index) }
     {
@@ -107,7 +107,7 @@ impl Assumptions {
     ///
     /// # Errors
     ///
-    /// Where a growth is refused.
+    /// If a growth is refused.
     pub fn union(&self, alloc: Global, other: &Assumptions) -> Result<Self, AllocError>
         ensures { IfOk result (λ s. s ≡ set.union self.now other.now) }
     {
@@ -142,7 +142,7 @@ impl Assumptions {
     ///
     /// # Errors
     ///
-    /// Where a growth is refused.
+    /// If a growth is refused.
     pub fn without(&self, alloc: Global, index: u32) -> Result<Self, AllocError>
         ensures { IfOk result (λ s. s ≡ set.remove self.now index) }
     {

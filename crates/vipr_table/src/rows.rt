@@ -32,13 +32,13 @@ pub struct Entry {
     pub assumptions: Assumptions,
     /// Whether it is an assumption itself, which is never dropped.
     pub is_assumption: bool,
-    /// Its last reference: the index of the last derivation that may refer to it, or none where
+    /// Its last reference: the index of the last derivation that may refer to it, or none if
     /// it is never dropped.
     pub last: Option<u32>,
 }
 
 impl Entry {
-    /// The last derivation that may refer to the entry, where there is one.
+    /// The last derivation that may refer to the entry, if there is one.
     fn expiry(&self) -> Option<u32>
         ensures { result ≡ expiry_of self.now }
     {

@@ -12,13 +12,13 @@ use vipr_cert::Certificate;
 /// The certificate with the derivations alone that a goal needs, in their order. They are
 /// renumbered without gaps, entries with multiplier 0 are removed, and the last reference of each
 /// is the greatest index that refers to it, none at the goal. All else stays. Without a goal, and
-/// where the goal is a constraint of the problem, no derivation stays.
+/// if the goal is a constraint of the problem, no derivation stays.
 ///
 /// Time and memory are at most in proportion to the size of the certificate.
 ///
 /// # Errors
 ///
-/// `AllocError` where a growth was refused. The certificate is dropped.
+/// `AllocError` if a growth was refused. The certificate is dropped.
 pub fn tighten_certificate(
     alloc: Global,
     certificate: Certificate,

@@ -13,7 +13,7 @@ pub enum Outcome {
     Tightened {
         /// How many derivations were written.
         kept: u32,
-        /// How many were left out.
+        /// How many were removed.
         removed: u32,
         /// How many derived constraints had to be held at most.
         peak_before: usize,

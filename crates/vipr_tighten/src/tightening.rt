@@ -32,8 +32,8 @@ use vipr_write::{Form, WriteError, write_certificate_in};
 ///
 /// # Errors
 ///
-/// `Read` where a read fails, and `Memory` where a growth is refused: nothing was written. `Write`
-/// where a write fails or takes nothing, and the sink is asked no more.
+/// `Read` if a read fails, and `Memory` if a growth is refused: nothing was written. `Write`
+/// if a write fails or takes nothing, and the sink is asked no more.
 ///
 /// # Example
 ///
@@ -58,8 +58,8 @@ pub fn tighten<R: Source + Drop, W: Sink>(
 ///
 /// # Errors
 ///
-/// `Read` where a read fails, and `Memory` where a growth is refused: nothing was written. `Write`
-/// where a write fails or takes nothing, and the sink is asked no more.
+/// `Read` if a read fails, and `Memory` if a growth is refused: nothing was written. `Write`
+/// if a write fails or takes nothing, and the sink is asked no more.
 pub fn tighten_in<R: Source + Drop, W: Sink>(
     alloc: Global,
     profile: Profile,
@@ -77,8 +77,8 @@ pub fn tighten_in<R: Source + Drop, W: Sink>(
 ///
 /// # Errors
 ///
-/// `Read` where a read fails, and `Memory` where a growth is refused: nothing was written. `Write`
-/// where a write fails or takes nothing, and the sink is asked no more.
+/// `Read` if a read fails, and `Memory` if a growth is refused: nothing was written. `Write`
+/// if a write fails or takes nothing, and the sink is asked no more.
 pub fn tighten_as<R: Source + Drop, W: Sink>(
     alloc: Global,
     profile: Profile,

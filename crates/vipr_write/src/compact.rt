@@ -22,7 +22,7 @@ use vipr_linear::Solution;
 /// The beginning of a text in a form, which takes the items that follow one by one, to be written
 /// to a sink at the end.
 ///
-/// A row that is the objective's takes 4 bytes of memory at most, however long it is. Where a
+/// A row that is the objective's takes 4 bytes of memory at most, however long it is. If a
 /// growth is refused, the text is given up.
 #[derive(Drop)]
 pub struct CompactText {
@@ -100,8 +100,8 @@ impl CompactText {
     ///
     /// # Errors
     ///
-    /// `Memory` where a growth is refused, or the text is 2^64 bytes or longer: nothing was
-    /// written. `Write` where a write fails or takes nothing, and the sink is asked no more.
+    /// `Memory` if a growth is refused, or the text is 2^64 bytes or longer: nothing was
+    /// written. `Write` if a write fails or takes nothing, and the sink is asked no more.
     pub fn write_to<W: Sink>(&self, alloc: Global, sink: &mut W) -> Result<(), WriteError>
         ensures output { IfSome (W.output sink.old)
             (λ o. WroteText o (W.output sink.new) self.now.bytes result) }

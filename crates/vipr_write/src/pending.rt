@@ -93,7 +93,7 @@ impl Pending {
     ///
     /// # Errors
     ///
-    /// Where a write failed or took nothing, now or before.
+    /// If a write failed or took nothing, now or before.
     pub(crate) fn finish<W: Sink>(mut self, sink: &mut W) -> Result<(), WriteFailed>
         ensures { (start : Start) (text : List ℕ) → length text < 2 ^ 64
             → Carries start (start_of W.output W.failures sink.old) self text

@@ -110,7 +110,7 @@ pub(crate) fn put_sense<W: Sink>(text: &mut Pending, sink: &mut W, sense: Sense)
     }
 }
 
-/// A bound of the claim, with how it is written where it is infinite.
+/// A bound of the claim, with how it is written if it is infinite.
 pub(crate) fn put_bound<W: Sink>(
     text: &mut Pending,
     sink: &mut W,

@@ -93,7 +93,7 @@ pub(crate) fn append_sense(text: &mut Vec<u8>, sense: Sense) -> Result<(), Alloc
     }
 }
 
-/// A bound of the claim, with how it is written where it is infinite.
+/// A bound of the claim, with how it is written if it is infinite.
 pub(crate) fn append_bound(
     text: &mut Vec<u8>,
     infinite: &[u8],

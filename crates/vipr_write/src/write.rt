@@ -50,8 +50,8 @@ impl From<WriteFailed> for WriteError {
 ///
 /// # Errors
 ///
-/// `Memory` where that buffer is refused, or where there are 2^48 words and lines or more: nothing
-/// was written. `Write` where a write fails or takes nothing, and the sink is asked no more.
+/// `Memory` if that buffer is refused, or if there are 2^48 words and lines or more: nothing
+/// was written. `Write` if a write fails or takes nothing, and the sink is asked no more.
 ///
 /// # Example
 ///
@@ -82,8 +82,8 @@ pub fn write_certificate<W: Sink>(
 ///
 /// # Errors
 ///
-/// `Memory` where that buffer is refused, or where there are 2^48 words and lines or more: nothing
-/// was written. `Write` where a write fails or takes nothing, and the sink is asked no more.
+/// `Memory` if that buffer is refused, or if there are 2^48 words and lines or more: nothing
+/// was written. `Write` if a write fails or takes nothing, and the sink is asked no more.
 pub fn write_certificate_in<W: Sink>(
     alloc: Global,
     form: Form,

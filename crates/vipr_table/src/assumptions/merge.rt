@@ -118,7 +118,7 @@ fn merge(alloc: Global, xs: &[u32], ys: &[u32]) -> Result<Vec<u32>, AllocError>
     Ok(all)
 }
 
-/// The items before the last one, where that is `index`.
+/// The items before the last one, if that is `index`.
 pub(crate) fn but_last(xs: &[u32], index: u32) -> Option<&[u32]>
     requires { IsRising xs.now }
     ensures { IfSome result (λ rest. rest.now ≡ filter (λ x. not (nat_eq x index)) xs.now) }

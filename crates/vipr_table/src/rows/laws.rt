@@ -24,7 +24,7 @@ pub fn table_holds_what_is_live()
         → length c.problem.constraints ≤ k → held_in t ≡ held_after c k }
 {}
 
-/// Where no constraint of the problem and of the table has a variable from `n` on, that stays so
+/// If no constraint of the problem and of the table has a variable from `n` on, that stays so
 /// with an entry that has none either.
 pub fn names_stay_below()
     ensures empty { (n first : ℕ) → DerivedBelow n (empty_table first) }

@@ -62,7 +62,7 @@ fn text(rt: &impl Abort, alloc: Global, first: usize, second: usize) -> Vec<u8> 
     text
 }
 
-/// Takes at most so many bytes a call, and fails where no room is left.
+/// Takes at most so many bytes a call, and fails if no room is left.
 #[derive(Drop)]
 struct Pieces {
     accepted: Vec<u8>,

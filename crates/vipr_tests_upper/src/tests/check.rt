@@ -97,7 +97,7 @@ fn refusal_of(verdict: Verdict) -> Option<Refusal> {
     }
 }
 
-/// What is answered: `None` where the certificate is verified.
+/// What is answered: `None` if the certificate is verified.
 fn answered<R: Source + Drop>(alloc: Global, source: R) -> Result<Option<Refusal>, Fault> {
     match check(alloc, source) {
         Ok(verdict) => Ok(refusal_of(verdict)),
@@ -112,7 +112,7 @@ fn reported<S: Rows>(rt: &impl Abort, alloc: Global, text: &[u8]) -> (usize, Opt
     (report.peak, report.goal)
 }
 
-/// Of a proof the solutions, what is derived and the peak, and its goal.
+/// The solutions of a proof, what is derived, the peak, and the goal.
 fn figures(rt: &impl Abort, alloc: Global, text: &[u8]) -> ((u32, u32, usize), Option<u32>) {
     let verdict = check(alloc, Bytes::new(text)).expect(rt, "a verdict");
     let report = report_of(verdict).expect(rt, "a proof");
@@ -294,9 +294,9 @@ impl Source for Counting<'_> {
     }
 }
 
-/// Checks the answer and the number of reads where `given` comes in pieces, and then the end or a failure.
+/// Checks the answer and the number of reads if `given` comes in pieces, and then the end or a failure.
 ///
-/// The answer needs `needed` bytes, one more than there are where it needs their end.
+/// The answer needs `needed` bytes, one more than there are if it needs their end.
 fn reads_what_it_needs<H: Abort + AllocGlobal>(
     rt: &H,
     given: &[u8],
@@ -332,7 +332,7 @@ fn reads_what_it_needs<H: Abort + AllocGlobal>(
     same(rt, (case, answer, reads.get()), (case, wanted, calls));
 }
 
-/// The same for each beginning before a failure, and for the whole before its end.
+/// Tries each beginning before a failure, and for the whole before its end.
 fn reads_by_pieces<H: Abort + AllocGlobal>(
     rt: &H,
     text: &[u8],
@@ -349,7 +349,7 @@ fn reads_by_pieces<H: Abort + AllocGlobal>(
     reads_what_it_needs(rt, text, false, piece, needed, wanted);
 }
 
-/// A read is made only where the bytes at hand don't decide, and none after a failure or the end.
+/// A read is made only if the bytes at hand don't decide, and none after a failure or the end.
 #[test]
 fn reads_are_made_as_they_are_needed(rt: HostRuntime) {
     let rows = [
@@ -371,7 +371,7 @@ fn reads_are_made_as_they_are_needed(rt: HostRuntime) {
     }
 }
 
-/// Of a name, no more than 65,536 bytes are read before it is known to be too long: with the 14 bytes in front, 1311
+/// No more than 65,536 bytes of a name are read before it is known to be too long: with the 14 bytes in front, 1311
 /// pieces of 50.
 #[test]
 fn long_names_are_read_as_they_are_needed(rt: HostRuntime) {

@@ -1,4 +1,4 @@
-//! Whole texts: what is written for them, and what of it where a read or a write fails.
+//! Whole texts: what is written for them, and what of it if a read or a write fails.
 use super::{IGNORED, ROUNDED, SPLIT, UNUSED};
 use crate::tests::same;
 use std::alloc::{AllocError, Global};
