@@ -121,7 +121,7 @@ Each family of `bench/families.py` is one certificate of about {size} MB. A cell
 
 {table}
 
-Method: each round runs every program once on every file, so that a slow moment of the machine meets all of them. Of {runs} rounds the least processor time counts, and the greatest memory. Nothing here is proved, and no test is timed.
+Method: each round runs every program once on every file, so that a slow moment of the machine meets all of them. The least processor time of {runs} rounds counts, and the greatest memory. Nothing here is proved, and no test is timed.
 
 ## How cost grows
 

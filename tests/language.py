@@ -1,14 +1,16 @@
 #!/usr/bin/env python3
-"""Measures the language of the pages: how long their sentences are, and which turns of phrase they use.
+"""Measures the language of the pages, the man page, the program's help and the doc comments: how long their sentences
+are, and which turns of phrase they use.
 
-usage: tests/language.py [--figures] [PAGE..]     all pages of PAGES without a page
+usage: tests/language.py [--figures] [PAGE..]     without a page: all pages of PAGES, man/vipr.1 and crates/*/src
 
 A sentence ends with `.`, `!` or `?`, or with its paragraph, list item or cell of a table. A piece of code, and the text
-of a link, count as the words that a reader sees; code in backquotes counts as one word. Blocks of code, what a script
-writes between two `<!-- .. -->` marks, and the pages of UNREAD aren't looked at.
+of a link, count as the words that a reader sees; code in backquotes counts as one word. Blocks of code, and what a script
+writes between two `<!-- .. -->` marks, aren't looked at.
 
 Each sentence has at most MOST words, and the median of a page's running text, without tables and headings, is at most
-MEDIAN. None has a turn of TURNS.
+MEDIAN. None has a turn of TURNS. In doc comments (`///`, `//!`), and in the help's words in crates/vipr_command, the same
+sentences and turns are refused. The documentation of a public item doesn't begin with `The same`: it is read alone.
 Prints the place of each fault, and last `language: N checks, F failed`; the exit status is 1 if one failed.
 --figures prints the number of sentences, the median and the longest of each page.
 """
@@ -20,17 +22,17 @@ from pathlib import Path
 TOP = Path(__file__).resolve().parent.parent
 PAGES = ['README.md', 'CONTRIBUTING.md', 'CHANGELOG.md', 'docs/USE.md', 'docs/FORMAT.md', 'docs/SECURITY.md',
          'docs/LIBRARY.md', 'docs/ARCHITECTURE.md', 'docs/DECISIONS.md', 'docs/GLOSSARY.md', 'docs/WHY.md',
-         'docs/BENCHMARKS.md', 'docs/GATE.md', 'docs/PROOF.md', 'examples/README.md', 'tools/README.md']
-# made by a script from the sources
-UNREAD = ['docs/STATEMENT.md']
+         'docs/BENCHMARKS.md', 'docs/GATE.md', 'docs/PROOF.md', 'docs/STATEMENT.md', 'examples/README.md', 'tools/README.md']
+MAN, HELP = 'man/vipr.1', 'crates/vipr_command/src/args.rt'
 MOST, MEDIAN = 40, 19
 # a turn, and what to write in its place
 TURNS = {
-    r'\b(?:is|are|was|be) told\b': 'reported',
-    r'\btells? (?:mixed|of|what|which|so|that|the)\b': 'reports, shows',
-    # `says where`, and the place of a test, a token or bytes, are no conditions
-    r'(?<!says )(?<!depend on )\bwhere\b(?! (?:bytes|the test|a token|`))': 'if',
-    r'\bstands? (?:in|on|at|for|before|behind|below|with|there|beside|side)\b': 'is',
+    r'(?<!`)\b(?:tells?|told)\b(?!`)': 'reports, shows',
+    # `says where`, and the place of a test, a token, bytes or what a reader goes through, are no conditions
+    r'(?<!says )(?<!depend on )(?<!, and )(?<!but for )(?<!`, )\bwhere\b'
+    r'(?! (?:bytes|the (?:test|run|reader|scanner)|a (?:token|certificate)|to write|`|\{))': 'if',
+    r'\bstands? (?!alone)': 'is',
+    r'(?:^|[;:] )of (?!course)': 'a verb, or another preposition',
     r'\bwhat is left\b': 'what remains',
     r'\bhalf answered\b': 'partial',
     r'\bat its second standing\b': 'at its second occurrence',
@@ -71,25 +73,69 @@ def sentences(piece):
             yield sentence
 
 
+def length(sentence):
+    """How many words a sentence has."""
+    return len(re.findall(r'[^\s`]*`[^`]*`[^\s`]*|\S*\w\S*', sentence))
+
+
+def faults_of(sentence, place):
+    """What is wrong with a sentence: its length, and the turns that it has."""
+    if length(sentence) > MOST:
+        yield f'{place}: {length(sentence)} words: {sentence[:70]} ..'
+    for turn, better in TURNS.items():
+        found = re.search(turn, sentence, re.I)
+        if found:
+            yield f'{place}: {found[0]!r}: {better}? {sentence[:60]} ..'
+
+
 def measured(page):
     """The lengths of a page's sentences in running text, the number of checks, and its faults."""
     lengths, faults, count = [], [], 0
     for line, running, piece in prose((TOP / page).read_text()):
         for sentence in sentences(piece):
-            words = len(re.findall(r'[^\s`]*`[^`]*`[^\s`]*|\S*\w\S*', sentence))
             count += 1 + len(TURNS)
             if running:
-                lengths.append(words)
-            if words > MOST:
-                faults.append(f'{page}:{line}: {words} words: {sentence[:70]} ..')
-            for turn, better in TURNS.items():
-                found = re.search(turn, sentence, re.I)
-                if found:
-                    faults.append(f'{page}:{line}: {found[0]!r}: {better}? {sentence[:60]} ..')
+                lengths.append(length(sentence))
+            faults += faults_of(sentence, f'{page}:{line}')
     median = statistics.median(lengths)
     if median > MEDIAN:
         faults.append(f'{page}: the median is {median:g} words a sentence')
     return lengths, count + 1, faults
+
+
+def manual():
+    """The sentences of the man page: its lines of text, without requests and what they set in bold or italics."""
+    for number, line in enumerate((TOP / MAN).read_text().split('\n'), 1):
+        text = line.removeprefix('.B ')
+        if text and not text.startswith('.') and not text.startswith('$'):
+            yield number, re.sub(r'\\f[BIR]|\\(?=-)', '', text).replace('\\(aq', "'")
+
+
+def documented():
+    """The doc comments of crates/*/src: the file, the line, the words, and whether they are a public item's."""
+    for path in sorted((TOP / 'crates').glob('*/src/**/*.rt')):
+        text = path.read_text()
+        for found in re.finditer(r'(?:^ *//[/!][^\n]*\n)+', text, re.M):
+            item = re.match(r'(?: *#!?\[[^\n]*\n)*\s*(\S*)', text[found.end():])[1]
+            words = re.sub(r'^ *//[/!] ?', '', found[0], flags=re.M)
+            yield path.relative_to(TOP), text[:found.start()].count('\n') + 1, words, item == 'pub'
+
+
+def beside_pages():
+    """What is measured beside the pages: the number of checks, and the faults."""
+    pieces = [(f'{MAN}:{line}', text) for line, text in manual()]
+    pieces += [(f'{HELP}: help', text) for text in re.findall(r'"([A-Z][^"]* [^"]*)"', (TOP / HELP).read_text())]
+    faults = []
+    for path, line, words, is_public in documented():
+        if is_public and words.startswith('The same'):
+            faults.append(f'{path}:{line}: the documentation of a public item begins with `The same`')
+        pieces += [(f'{path}:{line}', piece) for _, _, piece in prose(words)]
+    count = 0
+    for place, piece in pieces:
+        for sentence in sentences(piece):
+            count += 1 + len(TURNS)
+            faults += faults_of(sentence, place)
+    return count, faults
 
 
 def main():
@@ -99,9 +145,13 @@ def main():
     checks = failed = 0
     found = {str(path.relative_to(TOP)) for place in ('.', 'docs', 'examples', 'tools')
              for path in (TOP / place).glob('*.md')}
-    for page in sorted(found - {*PAGES, *UNREAD}):
+    for page in sorted(found - {*PAGES}):
         failed += 1
-        print(f'{page}: is neither in PAGES nor in UNREAD')
+        print(f'{page}: is not in PAGES')
+    if pages is PAGES:
+        count, faults = beside_pages()
+        checks, failed = checks + count, failed + len(faults)
+        print(*faults, sep='\n', end='\n' if faults else '')
     for page in pages:
         lengths, count, faults = measured(page)
         checks, failed = checks + count, failed + len(faults)

@@ -83,8 +83,8 @@ PARTS = [
               'each: part 3 has them.'},
     {'title': 'The exact answer', 'clauses': ['any', 'exact', 'only', 'read', 'ended', 'second'], 'core': ['any', 'exact'], 'most': 900, 'laws': [], 'instead': [], 'hidden': BY_LAW,
      'what': 'The answer for every text, and what is known about a file.',
-     'known': 'You know the whole answer for all bytes: the report of a proof; of any other text the first cause, in '
-              'the order of the tests, with its place; and that a failed read is answered only if one failed. About a file '
+     'known': 'You know the whole answer for all bytes: the report of a proof, or for any other text the first cause, '
+              'in the order of the tests, with its place. And you know that a failed read is answered only if one failed. About a file '
               'you know that what is verified is the report of a proof whose claim is true.'},
 ]
 
