@@ -10,7 +10,7 @@
 #include <stddef.h>
 #include <stdint.h>
 
-#define VIPR_VERSION "0.1.0"
+#define VIPR_VERSION "1.0.0"
 
 #ifdef __cplusplus
 extern "C" {

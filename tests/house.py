@@ -324,8 +324,22 @@ def edits_stand():
                 old = None
 
 
+def versions_agree():
+    """Each place that names the program's version names that of the command line."""
+    number = re.search(r'\.version\("(.*)"\)', read(os.path.join(CRATES, 'vipr_command', 'src', 'args.rt')))[1]
+    places = {'include/vipr.h': r'VIPR_VERSION "(.*)"', 'man/vipr.1': r'^\.TH .*"vipr (\S*)"',
+              'tests/answers.py': r"b'vipr (\S*)\\n'", 'CITATION.cff': r'^version: (.*)$', 'CHANGELOG.md': r'^## ([^,\n]*)'}
+    for path, pattern in places.items():
+        found = re.search(pattern, read(os.path.join(ROOT, path)), re.M)
+        if not found or found[1] != number:
+            yield '%s: has the version %s, and args.rt %s' % (path, found and found[1], number)
+    soname = 'libvipr.so.%s' % number.split('.')[0]
+    if '`%s`' % soname not in read(os.path.join(ROOT, 'docs', 'LIBRARY.md')):
+        yield 'docs/LIBRARY.md: does not name %s' % soname
+
+
 CHECKS = [foreign_proofs, private_lemmas, names_twice, types_twice, plain_words, comments_stand_alone, unused_imports, proofs_in_specs, long_lines, long_files, crates_are_there, graph_is_current,
-          statement_is_current, examples_are_there, causes_agree, edits_stand]
+          statement_is_current, examples_are_there, causes_agree, edits_stand, versions_agree]
 
 
 def write():

@@ -167,7 +167,7 @@ fn no_commands<'a>(alloc: Global) -> Command<'a>
 {
     Command::new(alloc, "vipr")
         .about("Checks VIPR 1.0 certificates")
-        .version("0.1.0")
+        .version("1.0.0")
         .subcommand_required(true)
 }
 
