@@ -25,7 +25,7 @@ WORKED = os.path.join(CRATES, 'vipr_worked', 'src')
 SPEC_CRATES = ['vipr_spec', 'vipr_bytes', 'vipr_cert', 'vipr_check']
 MOST_LINES = 1700
 # the columns of a line that is quoted with its comment, and of an item of examples
-WIDTH, ITEM = 122, 520
+WIDTH, ITEM = 122, 600
 
 
 # ---- what the page is made of
