@@ -135,7 +135,7 @@ The same for families that are made to cost more than their length ([SECURITY.md
 
 ## Beside other checkers
 
-These figures are older than the tables above, and no script writes them: they were measured once, outside of the tests, over twelve certificates of ten families. None of the other checkers is part of this repository. The machine had other users, so the figure of one family says little. Each figure is a geometric mean over the certificates, of the least of 9 or 16 interleaved runs.
+These figures are older than the tables above, and no script measures them: they were taken once, outside of the tests, over twelve certificates of ten families. None of the other checkers is part of this repository. The machine had other users, so the figure of one family says little. Each figure is a geometric mean over the certificates, of the least of 9 or 16 interleaved runs.
 
 | Checker | Compared with | Time | Memory |
 |---|---|---|---|
