@@ -8,10 +8,10 @@ use Rattle.vipr_spec.specs.Reading.{Rest}
 abbrev pub text_of : Input → Rest
 text_of i = record { tokens = tokens i; fails = i.fails; length = length i.bytes }
 
--- of what the source gives, where that is known, and shorter than 2^64 bytes
+-- of what the source gives, if that is known, and shorter than 2^64 bytes
 abbrev pub IfKnown : Option Input → (Input → Type 0) → Type 0
 IfKnown source P = IfSome source (λ i. length i.bytes < 2 ^ 64 → P i)
 
--- of the whole text, where it is known that no read fails
+-- of the whole text, if it is known that no read fails
 abbrev pub IfWhole : Option Input → (List ℕ → Type 0) → Type 0
 IfWhole source P = IfKnown source (λ i. i.fails ≡ false → P i.bytes)

@@ -8,7 +8,7 @@ pub record Output : Type 0 where
   pub accepted : List ℕ
   pub room : Option ℕ
 
--- the output of a writer of std that holds these bytes, where they are known
+-- the output of a writer of std that holds these bytes, if they are known
 abbrev pub output_of : Option (List ℕ) → Option Output
 output_of bytes = option_map (λ accepted. record { accepted = accepted; room = None }) bytes
 
@@ -17,7 +17,7 @@ abbrev pub with_first : ℕ → List ℕ → Output → Output
 with_first n bytes o =
     record { accepted = o.accepted ++ take n bytes; room = option_map (λ room. room - n) o.room }
 
--- a write of n bytes took the first n, within the room, and some where there was room; a write
+-- a write of n bytes took the first n, within the room, and some if there was room; a write
 -- fails only without room, and takes nothing then
 abbrev pub Writes : Output → Option Output → Result ℕ Failed → List ℕ → Type 0
 Writes o new (Ok n) bytes = IfSome o.room (λ room. (n ≤ room) × (0 < room → 0 < n))

@@ -9,6 +9,6 @@ use Rattle.vipr_cert.specs.declared.items.Derivation.{Derivation}
 abbrev pub reason_in : List Derivation → ℕ → Option is.Reason
 reason_in ds k = slice_index_or (map (λ d. Some (reason_of d.reason)) ds) k None
 
--- so do the first n, where the first has the index `from`
+-- so do the first n, if the first has the index `from`
 abbrev pub NameEarlierFrom : ℕ → List Derivation → ℕ → Type 0
 NameEarlierFrom from ds n = (k : ℕ) → k < n → NamesEarlier (from + k) (reason_in ds k)

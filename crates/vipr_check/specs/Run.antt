@@ -53,7 +53,7 @@ SaysWith P x (Ok v) = P (answer_of v) x
 SaysWith P x (Err Read) = P cut_short none
 SaysWith P x (Err Memory) = ⊤
 
--- the same where a checker may be left, which knows what is shown
+-- the same if a checker may be left, which knows what is shown
 abbrev pub SaysAtEnd : (Answer → DetailMeant → Type 0) → Result Verdict Fault × Option State
     → Type 0
 SaysAtEnd P e = SaysWith P (last_shown e.1) e.0

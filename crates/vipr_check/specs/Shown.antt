@@ -38,7 +38,7 @@ detail_of (detail.Step name x) = is.step name (step_detail_of x)
 detail_of (detail.NoProof goal) = is.no_proof (option_map condition_of goal)
 detail_of (detail.NoPrimal bound) = is.no_primal bound
 
--- ---- what there is to show where a checker stopped
+-- ---- what there is to show if a checker stopped
 
 -- a position is reported as far as a count can be
 abbrev pub rule_shown : RuleError → step.StepDetail
@@ -72,7 +72,7 @@ halt_shown p (Some Memory) = is.none
 abbrev pub state_shown : State → is.Detail
 state_shown k = halt_shown k.progress.problem k.halt
 
--- none where there is no checker
+-- none if there is no checker
 abbrev pub last_shown : Option State → is.Detail
 last_shown None = is.none
 last_shown (Some k) = state_shown k

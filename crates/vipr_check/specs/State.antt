@@ -51,7 +51,7 @@ pub record IsReached (k : Progress) (in_solutions : Bool) (halt : Option Halt) :
 
 -- ---- stops
 
--- a stop keeps all else as it was, but where memory was refused, the rows may be those before the
+-- a stop keeps all else as it was, but if memory was refused, the rows may be those before the
 -- next derivation is placed
 pub record HaltsBy (old : State) (h : Halt) (new : State) (e : Stop) : Type 0 where
   pub kept : (new ≡ record old { halt = Some h })
@@ -61,7 +61,7 @@ pub record HaltsBy (old : State) (h : Halt) (new : State) (e : Stop) : Type 0 wh
       }))
   pub answer : e ≡ halt_answer h
 
--- where it stopped before, it answers so and stays as it is
+-- if it stopped before, it answers so and stays as it is
 abbrev pub Repeats : {T : Type 0} → State → State → Result T Stop → Type 0
 Repeats old new result = (h : Halt) → old.halt ≡ Some h
     → (result ≡ Err (later_answer h)) × (new ≡ old)

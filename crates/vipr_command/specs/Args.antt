@@ -79,18 +79,18 @@ line =
     (with_subcommand bare (with_profile Check).top) (with_profile Explain).top)
     (with_compact Show).top) (with_out Tighten).top
 
--- the profile of this value of PROFILE, the first where it is absent
+-- the profile of this value of PROFILE, the first if it is absent
 abbrev pub profile_named : Option Text → Option Profile
 profile_named None = Some One
 profile_named (Some word) = if bytes_eq word (codes "1") then Some One
     else (if bytes_eq word (codes "2") then Some Two else None)
 
--- the file that a value of FILE or OUT names: none where it is absent or `-`
+-- the file that a value of FILE or OUT names: none if it is absent or `-`
 abbrev pub file_named : Option Text → Option Text
 file_named None = None
 file_named (Some word) = if bytes_eq word (codes "-") then None else Some word
 
--- the form by the value of the flag `--compact`, which is `true` where it is among the words
+-- the form by the value of the flag `--compact`, which is `true` if it is among the words
 abbrev pub form_asked : Option Text → Form
 form_asked None = Canonical
 form_asked (Some word) = if bytes_eq word (codes "true") then Compact else Canonical

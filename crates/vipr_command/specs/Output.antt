@@ -19,7 +19,7 @@ after_first n = record { accepted = n }
 abbrev pub Stays : Option Output → Option Output → Type 0
 Stays old new = IfSome old (λ o. new ≡ Some o)
 
--- the text in question, where it is known
+-- the text in question, if it is known
 abbrev pub IsText : Option (List ℕ) → List ℕ → Type 0
 IsText known text = IfSome known (λ t. text ≡ t)
 

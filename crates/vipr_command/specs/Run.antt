@@ -37,12 +37,12 @@ use Rattle.vipr_command.specs.declared.show.Shown.TheVariants as shown
 use Rattle.vipr_command.specs.declared.request.Task.{Task}
 use Rattle.vipr_command.specs.declared.request.Task.TheVariants.{Check, Explain, Show, Tighten}
 
--- 0 where the certificate is verified, 1 where it is refused
+-- 0 if the certificate is verified, 1 if it is refused
 abbrev pub status_for : Verdict → ℕ
 status_for (Verified _) = 0
 status_for (Refused _) = 1
 
--- 0 where the certificate is shown, 1 where its text is refused
+-- 0 if the certificate is shown, 1 if its text is refused
 abbrev pub shown_status : Shown → ℕ
 shown_status shown.Whole = 0
 shown_status (shown.Refused _) = 1

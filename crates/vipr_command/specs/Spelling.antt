@@ -17,7 +17,7 @@ use Rattle.vipr_write.specs.Folded.{Begun, with_more_bytes}
 use Rattle.vipr_write.specs.Forms.{problem_lines_in, text_in}
 use Rattle.vipr_write.specs.declared.form.Form.{Form}
 
--- the error is none of a reader that failed before, and where the rest is known it is the fault of
+-- the error is none of a reader that failed before, and if the rest is known it is the fault of
 -- this reading
 abbrev pub Faults : {Y : Type 0} → Option Rest → (Rest → Result Y Fault) → TextError → Type 0
 Faults rest read e = (e ≢ Spent) × (IsSome rest → Fails e (read (rest_of rest)))
@@ -62,7 +62,7 @@ Appends item ending words old new before text (Ok x) =
 Appends item ending words old new before text (Err e) =
     Faults old.rest (λ l. read_each item old.left l >>= λ x. ending x.1) e
 
--- the bytes are the text of a certificate in this form, which is the one that is read where the
+-- the bytes are the text of a certificate in this form, which is the one that is read if the
 -- rest is known; or the reading has this fault
 abbrev pub Respells : {X : Type 0} → Form → (X → List ℕ) → Option Rest → Result X TextError
     → Type 0

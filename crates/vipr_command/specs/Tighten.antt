@@ -11,7 +11,7 @@ use Rattle.vipr_tighten.specs.declared.outcome.TightenFault.TheVariants as tight
 use Rattle.vipr_command.specs.declared.fault.CommandFault.{CommandFault}
 use Rattle.vipr_command.specs.declared.fault.CommandFault.TheVariants.{Memory, Read, Write}
 
--- 0 where the certificate is tightened, 1 where it is refused
+-- 0 if the certificate is tightened, 1 if it is refused
 abbrev pub outcome_status : Outcome → ℕ
 outcome_status (Tightened kept removed before after) = 0
 outcome_status (Refused _) = 1

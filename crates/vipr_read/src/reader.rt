@@ -170,7 +170,7 @@ impl<R: Source> Solutions<R> {
         ensures spent { IsErrOf result TextError.Spent ↔ (self.failed ≡ true) }
         ensures remembers { IfOk result (λ d. Remembers self d) }
         ensures working { IfOk result (λ d. d.failed ≡ false) }
-        ensures row_of_count { IfOk result (λ d. d.constraints + d.left < 2 ^ 32) }
+        ensures counted { IfOk result (λ d. d.constraints + d.left < 2 ^ 32) }
         ensures read { (p : ProblemMeant) → Knows self p → IsSome self.rest
             → GivesFrom (λ d. d.left) (λ d. d.rest) result
             (derivations_read p (rest_of self.rest)) }

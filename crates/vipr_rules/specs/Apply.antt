@@ -32,7 +32,7 @@ use Rattle.vipr_rules.specs.Soundness.{HasSoundRows, IsSoundRow}
 
 -- ---- what an error says
 
--- the cause and the detail, none where a growth was refused
+-- the cause and the detail, none if a growth was refused
 abbrev pub shown_by : RuleError → Option (ℕ × StepDetail)
 shown_by (NotEarlier i) = Some (cause.not_earlier, index i)
 shown_by (Dropped i) = Some (cause.dropped, index i)
@@ -60,7 +60,7 @@ DecidesIn P c d (Ok e) =
     × IsEntryOf (with_next c d) (count c) e
 DecidesIn P c d (Err e) = (e ≡ Memory) ⊎ IsRefusalIn P c d e
 
--- Where each derived constraint that is live before it is true at every admitted point at which the
+-- If each derived constraint that is live before it is true at every admitted point at which the
 -- assumptions are true that it rests on, the derivation that comes next is, too.
 abbrev pub KeepsSound : Certificate → Derivation → Type 0
 KeepsSound c d =
@@ -129,7 +129,7 @@ pub record Applies (P : Profile) (p : Problem) (best : Option ℚ) (table : Tabl
       → IsBestValue p c.solutions best
       → IfErr result (λ e. e ≡ Memory
       → PassesTestsIn P c (derivation_of step) (free_tests (reason_of step.reason)))
-  -- What is answered is sound where the live constraints before it are.
+  -- What is answered is sound if the live constraints before it are.
   pub sound : (c : Certificate) → c.problem ≡ p → IsTableOf c table → RefersBack c
       → IsBestValue p c.solutions best → IfOk result (λ _. KeepsSound c (derivation_of step))
   -- So it is over any table and best value: `says` is what the rows state, and what is answered

@@ -59,7 +59,7 @@ IsPlace cs n j e =
     (e.0 < n) × (e.1 < length (entries (nth cs e.0).row))
     × (slice_index_or (entries (nth cs e.0).row) e.1 (0, zero_ℚ) ≡ (j, at (nth cs e.0).row j))
 
--- where the variable j is in the first n constraints, those with the row o aside
+-- the places of the variable j in the first n constraints, those with the row o aside
 pub record ArePlaces (o : Row) (cs : List Constraint) (n j : ℕ) (places : List (ℕ × ℕ)) : Type 0
   where
     pub found : (k : ℕ) → k < length places → IsPlace cs n j (slice_index_or places k (0, 0))
@@ -77,7 +77,7 @@ AreColumns o cs n columns = (j : ℕ) → ArePlaces o cs n j (column_at columns 
 
 -- ---- sums
 
--- what was summed over the first n variables, 0 where nothing was
+-- what was summed over the first n variables, 0 if nothing was
 abbrev pub IsSummed : Row → Point → ℕ → Option ℚ → Type 0
 IsSummed row x n sum = ValueFits n (at row) x × (unwrap_or sum zero_ℚ ≡ value n (at row) x)
 
@@ -103,7 +103,7 @@ pub record AreListed (sums : List (Option ℚ)) (touched : List ℕ) : Type 0 wh
   pub listed : (i : ℕ) → (slice_index_or sums i None ≡ None)
       ⊎ OccursFrom (λ (j : ℕ). j) 0 0 touched i
 
--- a constraint has the row o, or is true where all variables are 0, or is listed
+-- a constraint has the row o, or is true if all variables are 0, or is listed
 pub record AreFalseAtZero (o : Row) (cs : List Constraint) (n : ℕ) (indices : List ℕ) : Type 0
   where
     pub within : (k : ℕ) → k < length indices → slice_index_or indices k 0 < n

@@ -37,7 +37,7 @@ abbrev pub FailsBy : Problem → Row → List SolutionTest → SolutionError →
 FailsBy p s ts e = FirstFailing (PassesSolution p s) ts (Some (test_of e))
     × ((name : Name) → solution_shown p name e ≡ solution_detail p name s (test_of e))
 
--- this is the value of a row at a point, none where it doesn't fit
+-- this is the value of a row at a point, none if it doesn't fit
 abbrev pub IsValueOf : ℕ → (ℕ → ℚ) → Point → Option ℚ → Type 0
 IsValueOf n row x v = SomeIff v (ValueFits n row x) (value n row x)
 

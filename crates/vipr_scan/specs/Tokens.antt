@@ -10,7 +10,7 @@ use Rattle.vipr_scan.specs.declared.error.TextError.{TextError}
 use Rattle.vipr_scan.specs.declared.tokens.Token.{Token}
 use Rattle.vipr_scan.specs.declared.tokens.Reader.{Reader}
 
--- whether an error or a token that was too long came, and the rest, where it is known
+-- whether an error or a token that was too long came, and the rest, if it is known
 pub record Reading : Type 0 where
   pub failed : Bool
   pub rest : Option Rest
@@ -35,7 +35,7 @@ ends_reading (Ok None) = false
 ends_reading (Ok (Some s)) = s.long
 ends_reading (Err e) = true
 
--- it failed where that ended the reading, else the other tokens are left
+-- it failed if that ended the reading, else the other tokens are left
 pub record Follows (old : Reading) (answer : Result (Option TokenView) TextError) (new : Reading)
     : Type 0 where
   pub failed : old.failed ≡ false → new.failed ≡ ends_reading answer

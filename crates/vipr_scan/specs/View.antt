@@ -31,7 +31,7 @@ pub record HoldsUnread {R : Type 0} (old new : Window R) : Type 0 where
 abbrev pub prepend : List ℕ → Input → Input
 prepend bytes i = record { bytes = bytes ++ i.bytes; fails = i.fails }
 
--- what reads will give from here on, where it is known
+-- what reads will give from here on, if it is known
 abbrev pub source_left : {R : Type 0} → (R → Option Input) → Window R → Option Input
 source_left input t =
     if t.ended then Some (record { bytes = []; fails = false }) else input t.source
@@ -90,7 +90,7 @@ abbrev pub view_of_found : List ℕ → Found → TokenView
 view_of_found buf f =
     record { bytes = slice_range buf f.start (f.start + f.len); offset = f.offset; long = f.long }
 
--- the answer where these tokens are left
+-- the answer if these tokens are left
 abbrev pub first_answer : List Token → Bool → Result (Option TokenView) ScanError
 first_answer (w ∷ ws) fails = Ok (Some (view_of_read w))
 first_answer [] false = Ok None

@@ -6,7 +6,7 @@ use Rattle.vipr_spec.specs.Certificate.{Problem}
 use Rattle.vipr_spec.specs.Reading.{Rest, Fault, refused, unread, problem_read, solution_read}
 use Rattle.vipr_spec.specs.Reading.{derivations_read, derivation_read, end_read, certificate_read}
 
--- A token at the offset is refused for the cause, whatever follows it, and none before it is: where
+-- A token at the offset is refused for the cause, whatever follows it, and none before it is: if
 -- a failure follows those, nothing is refused.
 pub record IsRefusedAt {A : Type 0} (read : Rest → Result A Fault) (r : Rest)
     (why place : ℕ) : Type 0 where
@@ -23,7 +23,7 @@ pub record IsRefusedAt {A : Type 0} (read : Rest → Result A Fault) (r : Rest)
 abbrev pub EndsEarly : Rest → ℕ → ℕ → Type 0
 EndsEarly r why place = (r.fails ≡ false) × (why ≡ cause.truncated) × (place ≡ r.length)
 
--- A refusal is that of one token, or of the end; and for want of more to read it fails only where a
+-- A refusal is that of one token, or of the end; and for want of more to read it fails only if a
 -- failure follows.
 pub record FaultsRemain {A : Type 0} (read : Rest → Result A Fault) : Type 0 where
   pub refusal : (r : Rest) (why place : ℕ) → read r ≡ Err (refused why place)

@@ -36,7 +36,7 @@ abbrev pub SpellsDirection : List ℕ → Direction → Type 0
 SpellsDirection t minimum = t ≡ codes "min"
 SpellsDirection t maximum = t ≡ codes "max"
 
--- a bound of the claim, with how it is spelled where it is infinite
+-- a bound of the claim, with how it is spelled if it is infinite
 abbrev pub SpellsBound : List ℕ → List ℕ → Option ℚ → Type 0
 SpellsBound infinite t None = t ≡ infinite
 SpellsBound infinite t (Some x) = SpellsNumber t x

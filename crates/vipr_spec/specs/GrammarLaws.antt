@@ -125,7 +125,7 @@ pub record ItemReadings : Type 0 where
 
 -- ---- certificates
 
--- A certificate is read exactly where all tokens spell it, and no failure follows them.
+-- A certificate is read exactly if all tokens spell it, and no failure follows them.
 abbrev pub ReadsCertificates : Type 0
 ReadsCertificates = (r : Rest) (c : Certificate)
     → (certificate_read r ≡ Ok c) ↔ ((r.fails ≡ false) × SpelledBy (map (λ t. t.bytes) r.tokens) c)

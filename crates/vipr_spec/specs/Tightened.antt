@@ -80,7 +80,7 @@ last_reference k [] i = None
 last_reference k (d ∷ ds) i =
     or_else (last_reference (suc k) ds i) (cond (refers_to d.reason i) (Some k) None)
 
--- each derivation with the greatest index of a later one that refers to it, and none where no later
+-- each derivation with the greatest index of a later one that refers to it, and none if no later
 -- one does, as at the goal
 abbrev pub with_last_references : ℕ → List Derivation → List Derivation
 with_last_references k [] = []

@@ -53,7 +53,7 @@ without_unused p a b x1 x2 x3 x4 x5 = record {
       ∷ nameless x5 (uns 4 2 5 3) None ∷ [];
 }
 
--- the first branch alone, where that is the goal: one assumption is needed through an entry
+-- the first branch alone, if that is the goal: one assumption is needed through an entry
 abbrev pub with_branch : Problem → (a b x1 x3 : Constraint) → Certificate
 with_branch p a b x1 x3 = record {
   problem = record p { constraints = stating a ∷ stating b ∷ [] };

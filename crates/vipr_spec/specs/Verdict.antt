@@ -88,7 +88,7 @@ pub record Report : Type 0 where
   pub peak : ℕ
   pub goal : Option ℕ
 
--- the claim, the counts, the peak, and the goal, which is none exactly where none is needed
+-- the claim, the counts, the peak, and the goal, which is none exactly if none is needed
 pub record Reports (P : Profile) (c : Certificate) (r : Report) : Type 0 where
   pub claim : r.claim ≡ c.problem.claim
   pub solutions : r.solutions ≡ length c.solutions

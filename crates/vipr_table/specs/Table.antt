@@ -12,7 +12,7 @@ pub record Table : Type 0 where
   pub next : ℕ
   pub entries : map.FinMap nat_cmp Entry
 
--- the last derivation that may refer to the entry, where there is one
+-- the last derivation that may refer to the entry, if there is one
 abbrev pub expiry : Entry → Option ℕ
 expiry e = if e.is_assumption then None else e.last
 

@@ -27,7 +27,7 @@ use Rattle.vipr_tighten.specs.declared.outcome.TightenFault.TheVariants.{Read, M
 
 -- ---- what is written for a proof
 
--- its goal has this index, none where its dual side needs none
+-- its goal has this index, none if its dual side needs none
 pub record IsProofFor (P : Profile) (c : Certificate) (goal : Option ℕ) : Type 0 where
   pub proof : IsProof P c
   pub goal_is : GoalIs P c goal
@@ -125,7 +125,7 @@ kind_spelled P bytes = record {
   IsCutShort = ⊥;
 }
 
--- where no proof was read
+-- if no proof was read
 abbrev pub unproved_answer : Unproved → Result Outcome TightenFault
 unproved_answer (unproved.Refused r) = Ok (Refused r)
 unproved_answer unproved.Read = Err Read
@@ -138,9 +138,9 @@ pub record TightensAs (P : Profile) (F : Form) (source : Option Input) (old new 
   -- The proof, or the first fault, is that of the definitions for the bytes that the source gives,
   -- in whatever pieces.
   pub exact : IfKnown source (λ i. TightensText P F (kind_read P (text_of i)) old new result)
-  -- That a read failed is answered only where the source fails.
+  -- That a read failed is answered only if the source fails.
   pub read : IfKnown source (λ i. result ≡ Err Read → i.fails ≡ true)
-  -- The proof is the one certificate that the text spells, and it is refused exactly where the text
+  -- The proof is the one certificate that the text spells, and it is refused exactly if the text
   -- spells none.
   pub spelled : IfWhole source (λ bytes. TightensText P F (kind_spelled P bytes) old new result)
 

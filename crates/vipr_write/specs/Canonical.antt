@@ -34,7 +34,7 @@ abbrev pub direction_word : Direction → List ℕ
 direction_word minimum = codes "min"
 direction_word maximum = codes "max"
 
--- a bound of the claim, with how it is written where it is infinite
+-- a bound of the claim, with how it is written if it is infinite
 abbrev pub bound_word : List ℕ → Option ℚ → List ℕ
 bound_word infinite None = infinite
 bound_word infinite (Some x) = number_text x

@@ -6,7 +6,7 @@ use Rattle.vipr_bytes.specs.Written.{Wrote}
 use Rattle.vipr_bytes.specs.declared.write.WriteFailed.{WriteFailed}
 use Rattle.vipr_write.specs.declared.gathered.Gathered.{Gathered}
 
--- o and n are the output and the count of failures before, where they are known, and o' and n'
+-- o and n are the output and the count of failures before, if they are known, and o' and n'
 -- those afterwards: all of the bytes were accepted
 pub record Sent (o o' : Option Output) (n n' : Option ℕ) (bytes : List ℕ) : Type 0 where
   pub output : IfSome o (λ x. Wrote x o' bytes (Ok tt))

@@ -17,12 +17,12 @@ WroteText o new text (Ok u) = Wrote o new text (Ok u)
 WroteText o new text (Err (Write n)) = Wrote o new text (Err (record { accepted = n }))
 WroteText o new text (Err (Memory n)) = (n ≡ 0) × (new ≡ Some o)
 
--- Of every sink: a part of the text was accepted, and nothing where memory was refused.
+-- Of every sink: a part of the text was accepted, and nothing if memory was refused.
 abbrev pub IsWithin : List ℕ → WriteError → Type 0
 IsWithin text (Write n) = n < length text
 IsWithin text (Memory n) = n ≡ 0
 
--- n writes had failed or accepted nothing before. Such a write is the last one; where memory was
+-- n writes had failed or accepted nothing before. Such a write is the last one; if memory was
 -- refused there was none.
 abbrev pub LeavesFailures : ℕ → Option ℕ → Result (Unit {0}) WriteError → Type 0
 LeavesFailures n new (Ok u) = new ≡ Some n
