@@ -1,5 +1,5 @@
 # make check FILE=path   builds the program if needed and checks a certificate (examples/infeasible.vipr without FILE)
-# make test              proves everything from nothing, and runs the tests
+# make test              proves everything, and runs the tests
 # make build             proves and builds the program, crates/vipr/out/vipr, and says how far it is
 # make install PREFIX=.. builds it if needed, and installs it with its man page and completions (/usr/local)
 # make uninstall PREFIX=.. takes them away again

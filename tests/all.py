@@ -1,9 +1,10 @@
 #!/usr/bin/env python3
-"""The test command: proves everything from nothing, and then tries the repository's text and the built program.
+"""The test command: proves everything, and then tries the repository's text and the built program.
 
-usage: tests/all.py
+usage: tests/all.py [--anew]
 
-First `rt ci`: every proof, the must-fail edits, the tests. Then each script of SCRIPTS, which counts as one. Prints
+First `rt ci`: every proof, the must-fail edits, the tests. It proves from nothing what no earlier run of
+it passed on this machine, and everything with --anew. Then each script of SCRIPTS, which counts as one. Prints
 what each took, and what of the processor time went into each crate's proof, tests and edits, found by looking at the
 processes once a second. The last line is `N passed, M failed`; the exit status is 1 if one failed. `tests/gate.py`
 makes a page of this output.
@@ -141,7 +142,7 @@ def timed(words):
 def main():
     print(*machine(), sep='\n', flush=True)
     with Watch() as watch:
-        last, status = timed([RT, 'ci'])
+        last, status = timed([RT, 'ci', *sys.argv[1:]])
     print(*watch.lines(), sep='\n', flush=True)
     counted = re.fullmatch(r'(\d+) passed, (\d+) failed', last)
     passed, failed = map(int, counted.groups()) if counted else (0, 1)

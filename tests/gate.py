@@ -1,7 +1,7 @@
 #!/usr/bin/env python3
 """Writes docs/GATE.md, what the first build and the test command took, from the output of a run of both.
 
-usage: (make build; make test) > LOG 2>&1     in a clone without a build
+usage: (make build; python3 tests/all.py --anew) > LOG 2>&1     in a clone without a build
        tests/gate.py LOG
 
 The exit status is 1, and nothing is written, if LOG has no whole run of `make test`.
@@ -14,7 +14,7 @@ TOP = Path(__file__).resolve().parent.parent
 PAGE = TOP / 'docs/GATE.md'
 HEAD = """# What the gate takes
 
-This page is written by `tests/gate.py` from the output of one run of `(make build; make test)`, in a clone without a build. Other pages name no such figures and link here.
+This page is written by `tests/gate.py` from the output of one run of `(make build; python3 tests/all.py --anew)`, in a clone without a build: the first build, and the test command that proves everything anew. Other pages name no such figures and link here.
 """
 STUB = 'No run is written here yet.\n'
 # the crate whose build shows how fast a machine is: no crate is below it, and none is built beside it
@@ -38,7 +38,7 @@ class Run:
             r'^(\w+): proof ([\d.]+), tests ([\d.]+), edits ([\d.]+) minutes of processor time$', text, re.M)}
         self.steps = [(name, number(wall), number(spent)) for name, wall, spent in re.findall(
             r'^(\S.*): ([\d.]+) minutes, ([\d.]+) of processor time$', text, re.M)
-            if name.endswith('rt ci') or '.py' in name]
+            if re.search(r'rt ci( --anew)?$', name) or '.py' in name]
         ends = re.findall(r'^\d+ passed, \d+ failed$', text, re.M)
         self.result = ends[-1] if ends else ''
         shares = re.findall(r'^(?:rt: )?ok; handles allowed: .*; (.*)$', text, re.M)
@@ -49,7 +49,7 @@ class Run:
         self.edits += f', {sample[-1][0]} of {sum(map(int, sample[-1]))} tried of `wrong/`' if sample else ''
 
     def is_whole(self):
-        return bool(self.said and self.result and any(name.endswith('rt ci') for name, _, _ in self.steps))
+        return bool(self.said and self.result and any(re.search(r'rt ci( --anew)?$', name) for name, _, _ in self.steps))
 
 
 def row(*cells):
