@@ -11,8 +11,8 @@ mod outcome;
 mod peak;
 mod proof_reader;
 mod renumber;
-mod tightening;
+mod source_to_sink;
 
 pub use certificate::tighten_certificate;
 pub use outcome::{Outcome, TightenFault};
-pub use tightening::{tighten, tighten_as, tighten_in};
+pub use source_to_sink::{tighten, tighten_as, tighten_in};

@@ -3,7 +3,7 @@ use Rattle.vipr_rules.specs.Profile.{profile_of}
 use Rattle.vipr_check.specs.View.{report_of}
 use Rattle.vipr_tighten.specs.Tightens.{TightensAs}
 use Rattle.vipr_tighten.proofs.Outcomes.{decided_proof, decided_not}
-use Rattle.vipr_tighten.proofs.tightening.tighten_as.Goals as goal
+use Rattle.vipr_tighten.proofs.source_to_sink.tighten_as.Goals as goal
 
 pub returns-in-Ok : goal.returns-in-Ok
 returns-in-Ok g c =

@@ -12,7 +12,7 @@ use Rattle.vipr_tighten.specs.declared.outcome.Outcome.{Outcome}
 use Rattle.vipr_tighten.specs.declared.outcome.TightenFault.{TightenFault}
 use Rattle.vipr_tighten.specs.declared.outcome.TightenFault.TheVariants.{Memory}
 use Rattle.vipr_tighten.proofs.Outcomes.{fewer, written_whole, written_part, written_not}
-use Rattle.vipr_tighten.proofs.tightening.write_tightened.Goals as goal
+use Rattle.vipr_tighten.proofs.source_to_sink.write_tightened.Goals as goal
 
 pub overflow_sub-result : goal.overflow_sub-result
 overflow_sub-result g c =
@@ -38,13 +38,13 @@ returns-in-Ok g c = λ P proof reports.
 pub returns-in-Err-Memory : goal.returns-in-Err-Memory
 returns-in-Err-Memory g c = λ P proof reports.
     let h = rw c.in-Err-Memory.field-0-is at c.in-Err-Memory.ensures in
-    written_not P c.args.form c.args.certificate (g.W.Sink.output c.args.sink.now) (g.W.Sink.output c.write_certificate_in.new.sink) (text_in c.args.form c.in_ok-tightened.tightened) c.in-Err-Memory.accepted h.part h.output
+    written_not P c.args.form c.args.certificate (g.W.Sink.output c.args.sink.now) (g.W.Sink.output c.write_certificate_in.new.sink) (text_in c.args.form c.in_ok-tightened.tightened) c.in-Err-Memory.taken h.part h.output
 
 pub returns : goal.returns
 returns g c = λ P proof reports.
     let h = rw c.in-Err-Write.field-0-is at c.in-Err-Write.ensures in
     written_part P c.args.form c.args.certificate (report_of c.args.report.now) proof reports c.in_ok-tightened.tightened c.in_ok-tightened.ensures h.law
-    (g.W.Sink.output c.args.sink.now) (g.W.Sink.output c.write_certificate_in.new.sink) c.in-Err-Write.accepted h.part h.output
+    (g.W.Sink.output c.args.sink.now) (g.W.Sink.output c.write_certificate_in.new.sink) c.in-Err-Write.taken h.part h.output
 
 -- where memory is refused, nothing is written
 refused : (P : Profile) (F : Form) (k : KindOfText) (o : Option Output) (x : Result Outcome TightenFault) → IsErrAnd x (λ e. e ≡ Memory 0) → TightensText P F k o o x
