@@ -1,9 +1,9 @@
 /* The proved checker of VIPR 1.0 certificates, for programs in C and C++.
  *
- * crates/vipr_c proves what vipr_check answers; docs/LIBRARY.md says how to build and link it.
- * It keeps nothing between calls and may be called from several threads at once. Its memory comes from malloc, realloc
- * and free, and all of it is given back before the call returns. It takes less than 64 kB of stack, whatever the text.
- * Its time has no bound that is promised, and a call can't be stopped: check a stranger's text in a process of its own. */
+ * crates/vipr_c proves what the calls answer; docs/LIBRARY.md says how to build and link them.
+ * They keep nothing between calls and may be called from several threads at once. Their memory comes from malloc, realloc
+ * and free, and all of it is given back before a call returns. A call takes less than 64 kB of stack, whatever the text.
+ * Its time has no bound that is promised, and it can't be stopped: check a stranger's text in a process of its own. */
 #ifndef VIPR_H
 #define VIPR_H
 
@@ -16,11 +16,12 @@
 extern "C" {
 #endif
 
-/* What vipr_check returns. */
+/* What the calls return. */
 enum vipr_status {
-    VIPR_VERIFIED = 0, /* the text is a certificate whose claim is proved, and so true */
-    VIPR_REFUSED = 1,  /* it is none: the answer has the cause and the place of the first fault */
-    VIPR_NO_MEMORY = 3 /* memory was refused, and there is no verdict */
+    VIPR_VERIFIED = 0,   /* the text is a certificate whose claim is proved, and so true; shown, or tightened */
+    VIPR_REFUSED = 1,    /* it is none: the answer has the cause and the place of the first fault */
+    VIPR_NO_PROFILE = 2, /* the profile is neither 1 nor 2, and nothing was read */
+    VIPR_NO_MEMORY = 3   /* memory was refused, and there is no verdict */
 };
 
 /* Where a text is refused. */
@@ -47,6 +48,45 @@ struct vipr_answer {
 /* Checks the text of a certificate. Neither pointer may be null, also where the length is 0 (in C++ the data of an empty
  * vector or string_view may be null); the text isn't changed. */
 int32_t vipr_check(const uint8_t *text, size_t length, struct vipr_answer *answer);
+
+/* The calls below write a text to a buffer of the caller, and its whole length to *length. They write at most `room`
+ * bytes: the first of the text, without a 0 behind them. What the buffer held behind them stays. If the length is larger
+ * than the room, call again with as much room. With VIPR_NO_PROFILE and VIPR_NO_MEMORY there is no text, and the length is
+ * 0. No pointer may be null, also with room for no byte, and the buffer may not overlap the text. */
+
+/* What `vipr check` prints of the text by the rules of a profile, 1 or 2: "verified range 1 1\nsolutions ..". The status is
+ * that of vipr_check. */
+int32_t vipr_report(uint32_t profile, const uint8_t *text, size_t size, char *lines, size_t room, size_t *length);
+
+/* What `vipr explain` prints. */
+int32_t vipr_explain(uint32_t profile, const uint8_t *text, size_t size, char *lines, size_t room, size_t *length);
+
+/* What `vipr show` writes, with `--compact` unless `compact` is 0. The answer has the refusal of a text that spells no
+ * certificate; all else in it is 0. */
+int32_t vipr_show(uint32_t compact, const uint8_t *text, size_t size, char *shown, size_t room, size_t *length,
+                  struct vipr_answer *answer);
+
+/* What became of a certificate that was to be tightened. What the status doesn't ask for is 0. */
+struct vipr_figures {
+    uint32_t cause; /* refused: as in a struct vipr_answer */
+    uint32_t place;
+    uint64_t number;
+    uint32_t kept;        /* tightened: how many derivations were written */
+    uint32_t removed;     /* how many were left out */
+    uint64_t peak_before; /* how many derived constraints had to be held at most */
+    uint64_t peak_after;  /* how many of the tightened certificate have to be */
+};
+
+/* What `vipr tighten` writes by the rules of a profile, with `--compact` unless `compact` is 0. */
+int32_t vipr_tighten(uint32_t profile, uint32_t compact, const uint8_t *text, size_t size, char *tightened, size_t room,
+                     size_t *length, struct vipr_figures *figures);
+
+/* The name of a cause, such as "NotDominated", to a buffer as above. Returns its length, 0 for a number that is no cause.
+ * No name has more than 18 bytes: a buffer of 19 that is 0 before the call holds a string after it. */
+size_t vipr_cause_name(uint32_t cause, char *name, size_t room);
+
+/* The version of the library, VIPR_VERSION of the header that it was built with, to a buffer as above. Returns its length. */
+size_t vipr_version(char *version, size_t room);
 
 #ifdef __cplusplus
 }

@@ -1,12 +1,62 @@
-/* Checks files by the library, and prints of each what the program would, but for the claim.
+/* Calls the library on a file, with a buffer of its own, and writes what the buffer holds and then a line of numbers.
  *
- * usage: library FILE.. */
+ * usage: library CALL PROFILE COMPACT ROOM FILE     CALL is check, report, explain, show or tighten
+ *        library name CAUSE ROOM
+ *        library version ROOM
+ *        library growths FILE
+ *
+ * The line is `status S length L`, and what the call's struct holds. The buffer is filled with `.` before the call, and so
+ * has to be the byte behind the room after it. `growths` makes each call with its first growth refused, its second, and
+ * so on: each has to return 3, a length of 0 and a struct of zeros, to leave the buffer, and to keep no memory. It writes
+ * how many growths it refused. Linked with -Wl,--wrap=malloc,--wrap=realloc,--wrap=free. */
 #include <stdio.h>
 #include <stdlib.h>
+#include <string.h>
 
 #include "vipr.h"
 
-static const char *const PLACES[] = {"nowhere", "byte", "SOL", "DER", "end"};
+#define ROOM 4096
+
+enum call { CHECK, REPORT, EXPLAIN, SHOW, TIGHTEN, CALLS };
+
+static const char *const NAMES[] = {"check", "report", "explain", "show", "tighten"};
+
+/* What a call is asked, and what it answers. */
+struct job {
+    enum call call;
+    uint32_t profile, compact;
+    const uint8_t *text;
+    size_t size, room, length;
+    char *buffer;
+    struct vipr_answer answer;
+    struct vipr_figures figures;
+};
+
+static long growths, refused, kept;
+
+void *__real_malloc(size_t size);
+void *__real_realloc(void *old, size_t size);
+void __real_free(void *old);
+
+void *__wrap_malloc(size_t size)
+{
+    void *made = ++growths == refused ? NULL : __real_malloc(size);
+    kept += made != NULL;
+    return made;
+}
+
+void *__wrap_realloc(void *old, size_t size)
+{
+    void *made = ++growths == refused ? NULL : __real_realloc(old, size);
+    kept += old == NULL && made != NULL;
+    return made;
+}
+
+void __wrap_free(void *old)
+{
+    kept -= old != NULL;
+    __real_free(old);
+}
 
 /* The bytes of a file, or NULL. */
 static uint8_t *read_file(const char *name, size_t *length)
@@ -24,29 +74,138 @@ static uint8_t *read_file(const char *name, size_t *length)
     return text;
 }
 
+static int32_t run(struct job *it)
+{
+    memset(it->buffer, '.', it->room + 1);
+    memset(&it->answer, 0xFF, sizeof it->answer);
+    memset(&it->figures, 0xFF, sizeof it->figures);
+    it->length = it->call == CHECK ? 0 : 12345;
+    switch (it->call) {
+    case CHECK:
+        return vipr_check(it->text, it->size, &it->answer);
+    case REPORT:
+        return vipr_report(it->profile, it->text, it->size, it->buffer, it->room, &it->length);
+    case EXPLAIN:
+        return vipr_explain(it->profile, it->text, it->size, it->buffer, it->room, &it->length);
+    case SHOW:
+        return vipr_show(it->compact, it->text, it->size, it->buffer, it->room, &it->length, &it->answer);
+    default:
+        return vipr_tighten(it->profile, it->compact, it->text, it->size, it->buffer, it->room, &it->length, &it->figures);
+    }
+}
+
+static int are_all(const void *bytes, size_t count, int value)
+{
+    const unsigned char *at = bytes;
+    while (count > 0 && *at == value)
+        at++, count--;
+    return count == 0;
+}
+
+static int has_answer(const struct job *it) { return it->call == CHECK || it->call == SHOW; }
+
+/* Whether a call that lacked memory answered so, and kept none. */
+static int lacks(const struct job *it, int32_t status)
+{
+    return status == VIPR_NO_MEMORY && it->length == 0 && kept == 0 && are_all(it->buffer, it->room + 1, '.')
+        && (!has_answer(it) || are_all(&it->answer, sizeof it->answer, 0))
+        && (it->call != TIGHTEN || are_all(&it->figures, sizeof it->figures, 0));
+}
+
+/* Makes a call with each of its growths refused in turn, and returns how many there were, or -1. */
+static long refuse_each(struct job *it)
+{
+    int32_t status;
+    long number, count;
+    growths = refused = kept = 0;
+    status = run(it);
+    count = growths;
+    if (status == VIPR_NO_MEMORY || kept != 0)
+        return -1;
+    for (number = 1; number <= count; number++) {
+        growths = 0;
+        refused = number;
+        status = run(it);
+        refused = 0;
+        if (!lacks(it, status)) {
+            printf("%s, growth %ld: status %d, length %zu, kept %ld\n", NAMES[it->call], number, status, it->length, kept);
+            return -1;
+        }
+    }
+    return count;
+}
+
+static int all_growths(const uint8_t *text, size_t size)
+{
+    static char buffer[ROOM + 1];
+    long sum = 0;
+    for (int call = 0; call < CALLS; call++) {
+        struct job it = {(enum call)call, 1, 1, text, size, ROOM, 0, buffer, {0}, {0}};
+        long count = refuse_each(&it);
+        if (count < 0)
+            return 1;
+        sum += count;
+    }
+    printf("%ld growths refused\n", sum);
+    return 0;
+}
+
+static void print(const struct job *it, int32_t status)
+{
+    fwrite(it->buffer, 1, it->room, stdout);
+    printf("\n%sstatus %d length %zu", it->buffer[it->room] == '.' ? "" : "overrun ", status, it->length);
+    if (has_answer(it))
+        printf(" answer %u %u %llu %u %u %llu %u %u", it->answer.cause, it->answer.place,
+               (unsigned long long)it->answer.number, it->answer.solutions, it->answer.derived,
+               (unsigned long long)it->answer.peak, it->answer.has_goal, it->answer.goal);
+    if (it->call == TIGHTEN)
+        printf(" figures %u %u %llu %u %u %llu %llu", it->figures.cause, it->figures.place,
+               (unsigned long long)it->figures.number, it->figures.kept, it->figures.removed,
+               (unsigned long long)it->figures.peak_before, (unsigned long long)it->figures.peak_after);
+    printf("\n");
+}
+
+static uint32_t number(const char *word) { return (uint32_t)strtoul(word, NULL, 10); }
+
+/* A name or the version, in a buffer. */
+static int print_name(int count, char **words)
+{
+    struct job it = {REPORT, 0, 0, NULL, 0, number(words[count - 1]), 0, NULL, {0}, {0}};
+    it.buffer = malloc(it.room + 1);
+    if (it.buffer == NULL)
+        return 2;
+    memset(it.buffer, '.', it.room + 1);
+    it.length = count == 4 ? vipr_cause_name(number(words[2]), it.buffer, it.room) : vipr_version(it.buffer, it.room);
+    print(&it, 0);
+    free(it.buffer);
+    return 0;
+}
+
 int main(int count, char **words)
 {
-    for (int at = 1; at < count; at++) {
-        struct vipr_answer answer;
-        size_t length = 0;
-        uint8_t *text = read_file(words[at], &length);
-        if (text == NULL)
+    struct job it = {CHECK, 0, 0, NULL, 0, 0, 0, NULL, {0}, {0}};
+    const int is_growths = count == 3 && strcmp(words[1], "growths") == 0;
+    uint8_t *text;
+    int status = 0;
+    if (count == 4 || (count == 3 && !is_growths))
+        return print_name(count, words);
+    if ((count != 6 && !is_growths) || (text = read_file(words[count - 1], &it.size)) == NULL)
+        return 2;
+    if (is_growths) {
+        status = all_growths(text, it.size);
+    } else {
+        while (it.call < CALLS - 1 && strcmp(words[1], NAMES[it.call]) != 0)
+            it.call++;
+        it.profile = number(words[2]);
+        it.compact = number(words[3]);
+        it.room = number(words[4]);
+        it.text = text;
+        it.buffer = malloc(it.room + 1);
+        if (it.buffer == NULL)
             return 2;
-        switch (vipr_check(text, length, &answer)) {
-        case VIPR_VERIFIED:
-            printf("verified\nsolutions %u derived %u peak %llu\n", answer.solutions, answer.derived,
-                   (unsigned long long)answer.peak);
-            break;
-        case VIPR_REFUSED:
-            printf("refused %u at %s", answer.cause, PLACES[answer.place]);
-            if (answer.place != VIPR_END)
-                printf(" %llu", (unsigned long long)answer.number);
-            printf("\n");
-            break;
-        default:
-            printf("no memory\n");
-        }
-        free(text);
+        print(&it, run(&it));
+        free(it.buffer);
     }
-    return 0;
+    free(text);
+    return status;
 }

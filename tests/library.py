@@ -3,11 +3,12 @@
 
 usage: tests/library.py [PROGRAM]     crates/vipr/out/vipr without it
 
-`make install-lib` installs it into a folder. tests/library.c, with the archive alone, checks all examples and beginnings
-of each; the callers of examples/c, cpp, python and rust check all examples with the shared library, and so do those in C,
-C++ and Rust with the archive. `make uninstall-lib` removes all of it. Prints each difference, and last
-`library: N texts, F different`. What isn't built for want of a compiler is named. The exit status is 1 if a text or a
-file differs.
+`make install-lib` installs it into a folder. tests/library.c, with the archive alone, makes each call on all examples, by
+both profiles, in both forms and with less room than they need, and on beginnings of each; and with each of its growths
+refused. The callers of examples/c, cpp, python and rust check all examples with the shared library, and so do those in C,
+C++ and Rust with the archive. Memcheck and helgrind, if they are there, look at some of it. `make uninstall-lib` removes
+all of it. Prints each difference, and last `library: N texts, F different`. What isn't built for want of a compiler is
+named. The exit status is 1 if a text or a file differs.
 """
 import os
 import re
@@ -15,6 +16,7 @@ import shutil
 import subprocess
 import sys
 import tempfile
+from concurrent.futures import ThreadPoolExecutor
 from pathlib import Path
 
 import proved
@@ -140,32 +142,125 @@ def look_at_callers(prefix, room):
 
 
 def texts(room):
-    """The files to check: each example, and its beginnings of some lengths."""
+    """The files to check, and whether each is whole: each example, and its beginnings of some lengths."""
     for path in sorted((TOP / 'examples').rglob('*.vipr')):
-        yield path
+        yield path, True
         whole = path.read_bytes()
         for length in range(0, len(whole), 1 + len(whole) // 12):
             part = room / f'{path.stem}.{length}'
             part.write_bytes(whole[:length])
-            yield part
+            yield part, False
+
+
+def run(*words):
+    return subprocess.run(list(map(str, words)), capture_output=True, check=False)
+
+
+def refusal(line):
+    """Cause, place and number of a refusal."""
+    found = re.match(rb'refused (\d+) at (?:(byte|SOL|DER) (\d+)|end)$', line)
+    return [int(found[1]), {b'byte': 1, b'SOL': 2, b'DER': 3}.get(found[2], 4), int(found[3] or 0)] if found else [0, 0, 0]
+
+
+def figures(line):
+    found = re.match(rb'kept (\d+) removed (\d+) peak (\d+) (\d+)$', line)
+    return [*refusal(line), *(map(int, found.groups()) if found else [0] * 4)]
+
+
+def answer(lines):
+    """The numbers of the answer for the lines of `vipr explain`."""
+    found = re.search(rb'^solutions (\d+) derived (\d+) peak (\d+)\ngoal (\d+|none)$', lines, re.M)
+    if not found:
+        return [*refusal(lines.split(b'\n')[0]), *[0] * 5]
+    goal = [0, 0] if found[4] == b'none' else [1, int(found[4])]
+    return [0, 0, 0, *map(int, found.groups()[:3]), *goal]
+
+
+def calls(path, whole):
+    """The calls on a file: their words, and what each has to give: the status, the text and the numbers."""
+    said = run(PROGRAM, 'explain', path)
+    yield ['check', 1, 0], (said.returncode, b'', ['answer', *answer(said.stdout)])
+    for profile in (1, 2) if whole else (1,):
+        for call in ('report', 'explain'):
+            said = run(PROGRAM, {'report': 'check'}.get(call, call), '--profile', profile, path)
+            yield [call, profile, 0], (said.returncode, said.stdout, [])
+        for compact in (0, 1) if whole else (0,):
+            said = run(PROGRAM, 'tighten', '--profile', profile, *['--compact'] * compact, path)
+            yield ['tighten', profile, compact], (said.returncode, said.stdout, ['figures', *figures(said.stderr.rstrip())])
+    for compact in (0, 1) if whole else (0,):
+        said = run(PROGRAM, 'show', *['--compact'] * compact, path)
+        yield ['show', 1, compact], (said.returncode, said.stdout, ['answer', *refusal(said.stderr.rstrip()), *[0] * 5])
+    if whole:
+        for call in ('report', 'explain'):
+            yield [call, 0, 0], (2, b'', [])
+            yield [call, 3, 0], (2, b'', [])
+        yield ['tighten', 3, 0], (2, b'', ['figures', *[0] * 7])
+
+
+def answered(room, status, text, numbers):
+    """What tests/library.c writes of a buffer with this room."""
+    held = text[:room] + b'.' * (room - len(text))
+    words = ['status', status, 'length', len(text), *numbers]
+    return held + b'\n' + ' '.join(map(str, words)).encode() + b'\n'
+
+
+def look_at_calls(program, path, whole):
+    for words, wanted_of_it in calls(path, whole):
+        length = len(wanted_of_it[1])
+        for room in {0, 1, max(0, length - 1), length, length + 3} if whole else {length}:
+            said, expected = run(program, *words, room, path), answered(room, *wanted_of_it)
+            if said.returncode or said.stdout != expected:
+                fail(f'{path.name}: {words} with room {room}: {said.stdout[-300:]!r}, wanted {expected[-300:]!r}')
+
+
+def look_at_names(program):
+    names = dict(re.findall(r'^\| (\d+) \| ([A-Z]\w+) \|', (TOP / 'docs/FORMAT.md').read_text(), re.M))
+    for cause in [*range(300), 2 ** 32 - 1]:
+        name = names.get(str(cause), '').encode()
+        for room in sorted({0, len(name), 20}):
+            if run(program, 'name', cause, room).stdout != answered(room, 0, name, []):
+                fail(f'the name of cause {cause} with room {room}')
+    if run(program, 'version', 9).stdout != answered(9, 0, version().encode(), []) or len(names) < 30:
+        fail('the version, or too few names of causes')
+
+
+def look_at_memory(program, room):
+    """Each growth refused in turn, and memcheck and helgrind, if they are there."""
+    names = sorted((TOP / 'examples').rglob('*.vipr'))
+    for path in names:
+        said = run(program, 'growths', path)
+        if said.returncode:
+            fail(f'{path.name}: {said.stdout!r}')
+    if not shutil.which('valgrind'):
+        print('library: left out, for want of valgrind: memcheck, helgrind')
+        return
+    for path in (TOP / 'examples/branch_and_bound.vipr', TOP / 'examples/overflow.vipr', room / 'infeasible.10'):
+        for call in ('check', 'report', 'explain', 'show', 'tighten'):
+            said = run('valgrind', '-q', '--error-exitcode=9', '--leak-check=full', '--show-leak-kinds=all', program, call, 1, 1,
+                       100, path)
+            if said.returncode or said.stderr:
+                fail(f'memcheck of {call} {path.name}: {said.stderr!r}')
+    threads = room / 'cpp_archive'
+    if threads.exists():
+        said = run('valgrind', '-q', '--tool=helgrind', '--error-exitcode=9', threads, *names[:12])
+        if said.returncode == 9 or said.stderr:
+            fail(f'helgrind: {said.stderr!r}')
 
 
 def wanted(path):
-    """What the program prints of a file, but for the claim."""
-    lines = subprocess.run([PROGRAM, 'check', path], capture_output=True, text=True, check=False).stdout.split('\n', 1)
-    return '\n'.join(['verified' if lines[0].startswith('verified ') else lines[0], *lines[1:]])
+    """What the program prints of a file."""
+    return subprocess.run([PROGRAM, 'check', path], capture_output=True, text=True, check=False).stdout
 
 
 def look_at_texts(prefix, room):
     program, count = room / 'library', 0
-    if not build([compiler('c'), '-std=c99', '-Wall', '-Wextra', '-Werror', '-O1', f'-I{prefix}/include',
-                  TOP / 'tests/library.c', prefix / 'lib/libvipr.a', '-o', program]):
+    if not build([compiler('c'), '-std=c99', '-Wall', '-Wextra', '-Werror', '-O1', f'-I{prefix}/include', TOP / 'tests/library.c',
+                  prefix / 'lib/libvipr.a', '-Wl,--wrap=malloc,--wrap=realloc,--wrap=free', '-o', program]):
         return 0
-    for path in texts(room):
-        said = subprocess.run([program, path], capture_output=True, text=True, check=False)
-        count += 1
-        if said.returncode or said.stdout != wanted(path):
-            fail(f'{path.name}: {said.stdout!r}, wanted {wanted(path)!r}')
+    with ThreadPoolExecutor(os.cpu_count()) as pool:
+        jobs = [pool.submit(look_at_calls, program, *it) for it in texts(room)]
+        count = len([job.result() for job in jobs])
+    look_at_names(program)
     return count
 
 
@@ -181,6 +276,7 @@ def main():
             look_at_files(prefix)
             look_at_header(prefix, room)
             count = look_at_texts(prefix, room) + look_at_callers(prefix, room)
+            look_at_memory(room / 'library', room)
             if make('uninstall-lib', top, prefix) and installed(prefix):
                 fail(f'make uninstall-lib leaves {installed(prefix)}')
     print(f'library: {count} texts, {different} different')

@@ -9,6 +9,7 @@ libvipr.a, and libvipr.so.VERSION, whose soname is libvipr.so with the version's
 name other commands. The exit status is 1 if one is missing or fails.
 """
 import os
+import re
 import shutil
 import subprocess
 import sys
@@ -17,6 +18,9 @@ from pathlib import Path
 
 TOP = Path(__file__).resolve().parent.parent
 TOOLS = {name: os.environ.get(name.upper()) or name for name in ('rt', 'cc', 'ld', 'objcopy', 'ar', 'nm')}
+
+
+CALLS = sorted(re.findall(r'\b(vipr_\w+)\(', (TOP / 'include/vipr.h').read_text()))
 
 
 class Failed(Exception):
@@ -55,7 +59,7 @@ def make(folder, version):
         run('cc', '-shared', '-o', new_shared, whole, f'-Wl,-soname,libvipr.so.{version.split(".")[0]}',
             f'-Wl,--version-script={TOP / "include/vipr.map"}', '-Wl,-z,defs', '-Wl,-z,noexecstack')
         for names in (exported('-g', '--defined-only', new_archive), exported('-D', '--defined-only', new_shared)):
-            if names != ['vipr_check']:
+            if names != CALLS:
                 raise Failed(f'the library gives the names {names}')
         folder.mkdir(parents=True, exist_ok=True)
         # the archive last: make goes by its age

@@ -1,1 +1,3 @@
-mod AnswerOf
+pub mod AnswerOf
+pub mod Handed
+pub mod Written

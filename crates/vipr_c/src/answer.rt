@@ -27,7 +27,7 @@ pub struct Answer {
     pub goal: u32,
 }
 
-const NOTHING: Answer = Answer {
+pub(crate) const NOTHING: Answer = Answer {
     cause: 0,
     place: 0,
     number: 0,

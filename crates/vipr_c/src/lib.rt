@@ -1,16 +1,28 @@
-//! The check for programs in C: `include/vipr.h` declares what is exported here.
+//! The checker for programs in C: `include/vipr.h` declares what is exported here.
 #![tactic(auto)]
 
 mod answer;
+mod collected;
+mod handed;
+mod name;
+mod report;
+mod shown;
+mod tightened;
 
-ghost use Rattle.std.specs.Prelude.{◌≡◌, Some, false};
-ghost use Rattle.std.specs.Prelude.{Result};
+ghost use Rattle.std.specs.Prelude.{◌≡◌, ℕ, List, Result, Some, codes, false};
+ghost use Rattle.vipr_spec.specs.Causes.{cause_name};
 ghost use Rattle.vipr_check.specs.Checks.{Checks};
 ghost use Rattle.vipr_check.specs.declared.verdict.Fault.{Fault as Failure};
 ghost use Rattle.vipr_check.specs.declared.verdict.Verdict.{Verdict as Answered};
 ghost use Rattle.vipr_c.specs.AnswerOf.{status_of, answer_of_verdict};
+ghost use Rattle.vipr_c.specs.Handed.{ByProfile, Fills, ReturnsExplanation, ReturnsReport};
+ghost use Rattle.vipr_c.specs.Handed.{profile_numbered};
+ghost use Rattle.vipr_c.specs.Written.{ReturnsText, TightensBy, form_flagged};
 
 use crate::answer::{Answer, answer_of, status};
+use crate::handed::fill;
+use crate::shown::form_flagged;
+use crate::tightened::Figures;
 use std::alloc::Global;
 use vipr_bytes::Bytes;
 use vipr_check::{Fault, Verdict, check};
@@ -32,4 +44,105 @@ fn verdict_on(alloc: Global, text: &[u8]) -> Result<Verdict, Fault>
     ensures { Checks (Some (record { bytes = text.now; fails = false })) result }
 {
     check(alloc, Bytes::new(text))
+}
+
+/// Writes what `vipr check` prints of the text, by the rules of a profile, to `lines`: as many
+/// bytes as there is room for. `length` gets how many there are, and the status is that of
+/// `vipr_check`, or 2 and no line for a profile that is neither 1 nor 2.
+#[unsafe(no_mangle)]
+pub extern "C" fn vipr_report(
+    alloc: Global,
+    profile: u32,
+    text: &[u8],
+    lines: &mut [u8],
+    length: &mut usize,
+) -> i32
+    ensures { (made : List ℕ)
+        × ByProfile (profile_numbered profile) (ReturnsReport text.now) result made
+        × Fills made lines.old lines.new length.new }
+{
+    let made = report::report(alloc, profile, text);
+    *length = fill(lines, made.text.as_slice());
+    made.status
+}
+
+/// Writes what `vipr explain` prints of the text, in the form of `vipr_report`.
+#[unsafe(no_mangle)]
+pub extern "C" fn vipr_explain(
+    alloc: Global,
+    profile: u32,
+    text: &[u8],
+    lines: &mut [u8],
+    length: &mut usize,
+) -> i32
+    ensures { (made : List ℕ)
+        × ByProfile (profile_numbered profile) (ReturnsExplanation text.now) result made
+        × Fills made lines.old lines.new length.new }
+{
+    let made = report::explanation(alloc, profile, text);
+    *length = fill(lines, made.text.as_slice());
+    made.status
+}
+
+/// Writes what `vipr show` does of the text, in its compact form unless `compact` is 0, in the form
+/// of `vipr_report`. `answer` gets the refusal of a text that spells no certificate.
+#[unsafe(no_mangle)]
+pub extern "C" fn vipr_show(
+    alloc: Global,
+    compact: u32,
+    text: &[u8],
+    shown: &mut [u8],
+    length: &mut usize,
+    answer: &mut Answer,
+) -> i32
+    ensures { (made : List ℕ)
+        × ReturnsText (form_flagged compact) text.now result made answer.new
+        × Fills made shown.old shown.new length.new }
+{
+    let (made, refusal) = shown::shown(alloc, form_flagged(compact), text);
+    *answer = refusal;
+    *length = fill(shown, made.text.as_slice());
+    made.status
+}
+
+/// Writes what `vipr tighten` does of the text, by the rules of a profile, in its compact form
+/// unless `compact` is 0, in the form of `vipr_report`. `figures` gets what was kept and removed,
+/// or the refusal.
+#[unsafe(no_mangle)]
+pub extern "C" fn vipr_tighten(
+    alloc: Global,
+    profile: u32,
+    compact: u32,
+    text: &[u8],
+    tightened: &mut [u8],
+    length: &mut usize,
+    figures: &mut Figures,
+) -> i32
+    ensures { (made : List ℕ)
+        × TightensBy (profile_numbered profile) (form_flagged compact) text.now result made
+        figures.new
+        × Fills made tightened.old tightened.new length.new }
+{
+    let (made, numbers) = tightened::tightened(alloc, profile, form_flagged(compact), text);
+    *figures = numbers;
+    *length = fill(tightened, made.text.as_slice());
+    made.status
+}
+
+/// Writes the name of a cause to `name`, as many bytes as there is room for, and returns how many
+/// it has: 0 for a number that is no cause.
+#[unsafe(no_mangle)]
+pub extern "C" fn vipr_cause_name(cause: u32, name: &mut [u8]) -> usize
+    ensures { Fills (cause_name cause) name.old name.new result }
+{
+    fill(name, name::of_cause(cause).as_bytes())
+}
+
+/// Writes the version to `version`, as many bytes as there is room for, and returns how many it
+/// has.
+#[unsafe(no_mangle)]
+pub extern "C" fn vipr_version(version: &mut [u8]) -> usize
+    ensures { Fills (codes "1.0.0") version.old version.new result }
+{
+    fill(version, "1.0.0".as_bytes())
 }

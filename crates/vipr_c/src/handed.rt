@@ -1,0 +1,53 @@
+//! A status with a text, and how a text gets into a buffer.
+
+ghost use Rattle.std.specs.Prelude.{◌≡◌, []};
+ghost use Rattle.vipr_c.specs.Handed.{Fills, profile_numbered};
+
+use std::alloc::Global;
+use vipr_rules::Profile;
+
+/// The status of a profile that there isn't.
+pub(crate) const NO_PROFILE: i32 = 2;
+/// The status without memory.
+pub(crate) const NO_MEMORY: i32 = 3;
+
+/// A status, and the text that comes with it.
+#[derive(Drop)]
+pub(crate) struct Handed {
+    pub(crate) status: i32,
+    pub(crate) text: Vec<u8>,
+}
+
+impl Handed {
+    /// A status without a text.
+    pub(crate) fn nothing(alloc: Global, status: i32) -> Handed
+        ensures status { result.status ≡ status }
+        ensures text { result.text.items ≡ [] }
+    {
+        Handed {
+            status,
+            text: Vec::new(alloc),
+        }
+    }
+}
+
+/// Writes the first bytes of a text to the front of a buffer, as many as there is room for, and
+/// returns how many the whole text has.
+pub(crate) fn fill(room: &mut [u8], text: &[u8]) -> usize
+    ensures { Fills text.now room.old room.new result }
+{
+    let n = text.len().min(room.len());
+    room[..n].copy_from_slice(&text[..n]);
+    text.len()
+}
+
+/// The profile with a number.
+pub(crate) fn profile_numbered(number: u32) -> Option<Profile>
+    ensures { result ≡ profile_numbered number }
+{
+    match number {
+        1 => Some(Profile::One),
+        2 => Some(Profile::Two),
+        _ => None,
+    }
+}
