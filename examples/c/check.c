@@ -1,4 +1,4 @@
-/* Checks certificates by the library for C, and prints a line for each.
+/* Checks certificates by the library for C, and prints a line for each, which names the claim.
  *
  *     cc check.c $(pkg-config --cflags --libs vipr) -o check
  *     ./check FILE..
@@ -12,26 +12,29 @@
 
 #include "vipr.h"
 
-static const char *const PLACES[] = {"nowhere", "byte", "SOL", "DER", "end"};
+/* The lines of a verdict have fewer bytes: the claim has at most two numbers, of at most 81 bytes each. */
+#define ROOM 512
 
-static void print(const char *name, int32_t status, const struct vipr_answer *answer)
+/* Prints the lines of a verdict as one. */
+static void print(const char *name, const char *lines, size_t length)
 {
-    if (status == VIPR_VERIFIED)
-        printf("%s: verified, solutions %u derived %u peak %llu\n", name, answer->solutions, answer->derived,
-               (unsigned long long)answer->peak);
-    else if (status != VIPR_REFUSED)
-        printf("%s: no memory\n", name);
-    else if (answer->place == VIPR_END)
-        printf("%s: refused %u at end\n", name, answer->cause);
-    else
-        printf("%s: refused %u at %s %llu\n", name, answer->cause, PLACES[answer->place],
-               (unsigned long long)answer->number);
+    size_t at;
+    printf("%s: ", name);
+    for (at = 0; at < length && at < ROOM; at++) {
+        if (lines[at] != '\n')
+            putchar(lines[at]);
+        else
+            fputs(at + 1 < length ? ", " : "\n", stdout);
+    }
+    if (length == 0)
+        puts("no memory");
 }
 
 /* Checks a file where it lies: its pages are mapped, so that a large one needs no memory of its own. */
 static int check(const char *name)
 {
-    struct vipr_answer answer;
+    char lines[ROOM];
+    size_t length;
     struct stat about;
     const void *text = "";
     int32_t status;
@@ -43,8 +46,8 @@ static int check(const char *name)
     close(file);
     if (text == MAP_FAILED)
         return perror(name), 2;
-    status = vipr_check(text, (size_t)about.st_size, &answer);
-    print(name, status, &answer);
+    status = vipr_report(1, text, (size_t)about.st_size, lines, ROOM, &length);
+    print(name, lines, length);
     if (about.st_size > 0)
         munmap((void *)text, (size_t)about.st_size);
     return status;

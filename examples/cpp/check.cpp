@@ -1,4 +1,5 @@
-// Checks certificates by the library for C, each in a thread of its own, and prints a line for each.
+// Checks certificates by the library for C, each in a thread of its own, and prints a line for each,
+// which names the claim.
 //
 //     c++ -std=c++17 check.cpp $(pkg-config --cflags --libs vipr) -pthread -o check
 //     ./check FILE..
@@ -8,7 +9,6 @@
 #include <fstream>
 #include <iostream>
 #include <iterator>
-#include <sstream>
 #include <string>
 #include <thread>
 #include <vector>
@@ -22,20 +22,14 @@ struct Result {
     std::string line;
 };
 
-std::string shown(int status, const vipr_answer &answer)
+// The lines of a verdict, as one.
+std::string joined(std::string lines)
 {
-    static const char *const places[] = {"nowhere", "byte", "SOL", "DER", "end"};
-    std::ostringstream line;
-    if (status == VIPR_VERIFIED)
-        line << "verified, solutions " << answer.solutions << " derived " << answer.derived << " peak " << answer.peak;
-    else if (status != VIPR_REFUSED)
-        line << "no memory";
-    else {
-        line << "refused " << answer.cause << " at " << places[answer.place];
-        if (answer.place != VIPR_END)
-            line << ' ' << answer.number;
-    }
-    return line.str();
+    if (!lines.empty())
+        lines.pop_back();
+    for (auto at = lines.find('\n'); at != std::string::npos; at = lines.find('\n', at))
+        lines.replace(at, 1, ", ");
+    return lines;
 }
 
 Result check(const std::string &name)
@@ -45,9 +39,16 @@ Result check(const std::string &name)
         return {2, name + ": can't be read"};
     // the data of a string is never null, also of an empty one
     const std::string text{std::istreambuf_iterator<char>(file), {}};
-    vipr_answer answer;
-    const int status = vipr_check(reinterpret_cast<const uint8_t *>(text.data()), text.size(), &answer);
-    return {status, name + ": " + shown(status, answer)};
+    const auto *bytes = reinterpret_cast<const uint8_t *>(text.data());
+    std::string lines(128, '\0');
+    std::size_t length;
+    int status = vipr_report(1, bytes, text.size(), lines.data(), lines.size(), &length);
+    if (length > lines.size()) {
+        lines.resize(length);
+        status = vipr_report(1, bytes, text.size(), lines.data(), lines.size(), &length);
+    }
+    lines.resize(length);
+    return {status, name + ": " + (status == VIPR_NO_MEMORY ? "no memory" : joined(lines))};
 }
 
 } // namespace

@@ -1,69 +1,99 @@
 """The proved checker of VIPR 1.0 certificates, from Python, through the shared library that `make install-lib` installs.
 
     import vipr
-    answer = vipr.check(open('certificate.vipr', 'rb').read())
-    print(answer.verified, answer)
+    verified, lines = vipr.check(open('certificate.vipr', 'rb').read())
+    print(verified, lines)
 
+Each call gives whether the certificate is one, verified or tightened, and what `vipr` prints or writes then. It raises
+ValueError for a profile that is neither 1 nor 2, and MemoryError if memory was refused: then there is no verdict.
 VIPR_LIBRARY names the library's file; without it the system is asked for `vipr`.
 """
 import ctypes
 import ctypes.util
 import os
-from dataclasses import dataclass
-from typing import Optional
 
-VERIFIED, REFUSED = 0, 1
-PLACES = ('nowhere', 'byte', 'SOL', 'DER', 'end')
+ROOM = 4096  # how many bytes a call is offered at first
+_SIZE, _NUMBER, _TEXT = ctypes.c_size_t, ctypes.c_uint32, ctypes.c_char_p
 
 
-class _Answer(ctypes.Structure):
+class Answer(ctypes.Structure):
     """`struct vipr_answer` of include/vipr.h."""
-    _fields_ = [('cause', ctypes.c_uint32), ('place', ctypes.c_uint32), ('number', ctypes.c_uint64),
-                ('solutions', ctypes.c_uint32), ('derived', ctypes.c_uint32), ('peak', ctypes.c_uint64),
-                ('has_goal', ctypes.c_uint32), ('goal', ctypes.c_uint32)]
+    _fields_ = [('cause', _NUMBER), ('place', _NUMBER), ('number', ctypes.c_uint64), ('solutions', _NUMBER),
+                ('derived', _NUMBER), ('peak', ctypes.c_uint64), ('has_goal', _NUMBER), ('goal', _NUMBER)]
 
 
-@dataclass(frozen=True)
-class Answer:
-    """A verdict: the counts of a verified certificate, or cause and place of a refusal. What isn't asked for is None."""
-    verified: bool
-    solutions: Optional[int] = None
-    derived: Optional[int] = None
-    peak: Optional[int] = None
-    goal: Optional[int] = None    # the index of the constraint that proves the dual side, if one has to
-    cause: Optional[int] = None   # a number of docs/FORMAT.md
-    place: Optional[str] = None   # byte, SOL, DER or end
-    number: Optional[int] = None  # which byte, solution or derivation
-
-    def __str__(self):
-        if self.verified:
-            return f'verified, solutions {self.solutions} derived {self.derived} peak {self.peak}'
-        return f'refused {self.cause} at {self.place}' + ('' if self.number is None else f' {self.number}')
+class Figures(ctypes.Structure):
+    """`struct vipr_figures` of include/vipr.h."""
+    _fields_ = [('cause', _NUMBER), ('place', _NUMBER), ('number', ctypes.c_uint64), ('kept', _NUMBER),
+                ('removed', _NUMBER), ('peak_before', ctypes.c_uint64), ('peak_after', ctypes.c_uint64)]
 
 
 def _load():
     name = os.environ.get('VIPR_LIBRARY') or ctypes.util.find_library('vipr')
     if not name:
         raise ImportError('the library vipr is not installed: make install-lib, or set VIPR_LIBRARY to its file')
-    call = ctypes.CDLL(name).vipr_check
-    call.argtypes = [ctypes.c_char_p, ctypes.c_size_t, ctypes.POINTER(_Answer)]
-    call.restype = ctypes.c_int32
-    return call
+    library = ctypes.CDLL(name)
+    text, buffer = [_TEXT, _SIZE], [_TEXT, _SIZE, ctypes.POINTER(_SIZE)]
+    library.vipr_report.argtypes = library.vipr_explain.argtypes = [_NUMBER, *text, *buffer]
+    library.vipr_show.argtypes = [_NUMBER, *text, *buffer, ctypes.POINTER(Answer)]
+    library.vipr_tighten.argtypes = [_NUMBER, _NUMBER, *text, *buffer, ctypes.POINTER(Figures)]
+    library.vipr_cause_name.argtypes, library.vipr_cause_name.restype = [_NUMBER, _TEXT, _SIZE], _SIZE
+    library.vipr_version.argtypes, library.vipr_version.restype = [_TEXT, _SIZE], _SIZE
+    return library
 
 
-_check = _load()
+_library = _load()
 
 
-def check(text: bytes) -> Answer:
-    """Checks the text of a certificate. MemoryError if memory was refused: then there is no verdict."""
+def _call(call, options, text, *behind):
+    """The status and the text of a call, which is made again if its text needs more room."""
     if not isinstance(text, bytes):
         raise TypeError(f'a certificate is bytes, not {type(text).__name__}')
-    got = _Answer()
-    status = _check(text, len(text), ctypes.byref(got))
-    if status == VERIFIED:
-        goal = got.goal if got.has_goal else None
-        return Answer(True, solutions=got.solutions, derived=got.derived, peak=got.peak, goal=goal)
-    if status == REFUSED:
-        place = PLACES[got.place]
-        return Answer(False, cause=got.cause, place=place, number=None if place == 'end' else got.number)
-    raise MemoryError('vipr_check: memory was refused')
+    length = _SIZE(ROOM)
+    while True:
+        room = length.value
+        buffer = ctypes.create_string_buffer(max(1, room))
+        status = call(*options, text, len(text), buffer, room, ctypes.byref(length), *map(ctypes.byref, behind))
+        if status == 2:
+            raise ValueError('the profiles are 1 and 2')
+        if status == 3:
+            raise MemoryError('vipr: memory was refused')
+        if length.value <= room:
+            return status == 0, buffer.raw[:length.value]
+
+
+def check(text, profile=1):
+    """Whether a certificate is verified, and the lines of `vipr check`, which name the claim."""
+    verified, lines = _call(_library.vipr_report, [profile], text)
+    return verified, lines.decode()
+
+
+def explain(text, profile=1):
+    """Whether a certificate is verified, and the lines of `vipr explain`, in bytes: names may be in any encoding."""
+    return _call(_library.vipr_explain, [profile], text)
+
+
+def show(text, compact=False):
+    """The text of `vipr show` in bytes, and an Answer with the refusal of a text that spells no certificate."""
+    answer = Answer()
+    return _call(_library.vipr_show, [compact], text, answer)[1], answer
+
+
+def tighten(text, profile=1, compact=False):
+    """The text of `vipr tighten` in bytes, and its Figures, or those of the refusal."""
+    figures = Figures()
+    return _call(_library.vipr_tighten, [profile, compact], text, figures)[1], figures
+
+
+def cause_name(cause):
+    """The name of a cause, empty for a number that is none."""
+    buffer = ctypes.create_string_buffer(32)
+    _library.vipr_cause_name(cause, buffer, len(buffer))
+    return buffer.value.decode()
+
+
+def version():
+    """The version of the library."""
+    buffer = ctypes.create_string_buffer(32)
+    _library.vipr_version(buffer, len(buffer))
+    return buffer.value.decode()

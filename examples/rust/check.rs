@@ -6,52 +6,51 @@
 //! The exit status is the largest of the files': 0 verified, 1 refused, 3 no memory; 2 if one can't be read.
 use std::{env, fmt, fs, process};
 
-/// `struct vipr_answer` of include/vipr.h.
-#[repr(C)]
-#[derive(Default)]
-struct Answer {
-    cause: u32,
-    place: u32,
-    number: u64,
-    solutions: u32,
-    derived: u32,
-    peak: u64,
-    has_goal: u32,
-    goal: u32,
-}
-
 #[link(name = "vipr")]
 unsafe extern "C" {
-    fn vipr_check(text: *const u8, length: usize, answer: *mut Answer) -> i32;
+    fn vipr_report(
+        profile: u32,
+        text: *const u8,
+        size: usize,
+        lines: *mut u8,
+        room: usize,
+        length: *mut usize,
+    ) -> i32;
 }
 
-/// The verdict on a text.
+/// The verdict on a text: its lines, which name the claim.
 enum Verdict {
-    Verified(Answer),
-    Refused(Answer),
+    Verified(String),
+    Refused(String),
     NoMemory,
 }
 
 fn check(text: &[u8]) -> Verdict {
-    let mut answer = Answer::default();
-    // Both pointers come from references, which are never null, and the first has `text.len()` bytes.
-    match unsafe { vipr_check(text.as_ptr(), text.len(), &mut answer) } {
-        0 => Verdict::Verified(answer),
-        1 => Verdict::Refused(answer),
-        _ => Verdict::NoMemory,
+    let mut lines = vec![0; 128];
+    loop {
+        let mut length = 0;
+        // The pointers come from slices and a reference, which are never null, and they have as many bytes as is said.
+        let status = unsafe {
+            vipr_report(1, text.as_ptr(), text.len(), lines.as_mut_ptr(), lines.len(), &mut length)
+        };
+        if length > lines.len() {
+            lines.resize(length, 0);
+            continue;
+        }
+        let shown = String::from_utf8_lossy(&lines[..length]).into_owned();
+        return match status {
+            0 => Verdict::Verified(shown),
+            1 => Verdict::Refused(shown),
+            _ => Verdict::NoMemory,
+        };
     }
 }
 
 impl fmt::Display for Verdict {
     fn fmt(&self, f: &mut fmt::Formatter) -> fmt::Result {
         match self {
-            Verdict::Verified(Answer { solutions, derived, peak, .. }) => {
-                write!(f, "verified, solutions {solutions} derived {derived} peak {peak}")
-            }
-            Verdict::Refused(Answer { cause, place: 4, .. }) => write!(f, "refused {cause} at end"),
-            Verdict::Refused(Answer { cause, place, number, .. }) => {
-                let place = ["nowhere", "byte", "SOL", "DER"][*place as usize];
-                write!(f, "refused {cause} at {place} {number}")
+            Verdict::Verified(lines) | Verdict::Refused(lines) => {
+                f.write_str(&lines.trim_end().replace('\n', ", "))
             }
             Verdict::NoMemory => f.write_str("no memory"),
         }
