@@ -17,7 +17,7 @@ use Rattle.vipr_check.specs.declared.halt.Stop.{Stop}
 use Rattle.vipr_check.specs.declared.halt.Halt.{Halt}
 use Rattle.vipr_check.specs.declared.halt.Halt.TheVariants.{Refused, Memory}
 use Rattle.vipr_check.specs.View.{refusal_of, place_of}
-use Rattle.vipr_check.specs.Halts.{halt_answer, later_answer, rule_cause, IsSolutionHalt, IsStepHalt, CanShow, CanShowHalt}
+use Rattle.vipr_check.specs.Halts.{halt_answer, later_answer, rule_cause, IsSolutionHalt, IsStepHalt, solution_halt, step_halt, step_halt_by, CanShow, CanShowHalt}
 use Rattle.vipr_check.specs.Progress.{Progress, HasSteps}
 use Rattle.vipr_check.specs.State.{State, IsReached, HaltsBy, StopsSolution, StopsStep}
 use Rattle.vipr_check.proofs.CauseLemmas.{cause_is}
@@ -79,6 +79,17 @@ stops_solution p ss s n e (Refused r f) same is fails = (
   fails,
   ap (λ x. refuses (refusal_of x)) is.0 ∙ ap (λ i. refuses (record { cause = solution_cause (test_of e); place = at_solution i })) (sym same),
 )
+
+-- with the item's own name it stops for what the tests answered
+pub solution_halted : (n : ℕ) (name x : List ℕ) (e : SolutionError) (h : Halt) → h ≡ solution_halt n name e → name ≡ x → IsSolutionHalt n x e h
+solution_halted n name x e h is same = subst (λ y. IsSolutionHalt n y e h) same (subst (IsSolutionHalt n name e) (sym is) (refl, refl))
+
+step_halt_with : (k : ℕ) (name : List ℕ) (e : RuleError) (o : Option ℕ) → rule_cause e ≡ o → IsStepHalt k name e (step_halt_by k name e o)
+step_halt_with k name e None is = tt
+step_halt_with k name e (Some x) is = (is, refl, refl)
+
+pub step_halted : (k : ℕ) (name x : List ℕ) (e : RuleError) (h : Halt) → h ≡ step_halt k name e → name ≡ x → IsStepHalt k x e h
+step_halted k name x e h is same = subst (λ y. IsStepHalt k y e h) same (subst (IsStepHalt k name e) (sym is) (step_halt_with k name e (rule_cause e) refl))
 
 -- want of memory is no refusal
 pub memory_stops : (k : ℕ) (name : List ℕ) (e : RuleError) (h : Halt) → e ≡ rule.Memory → IsStepHalt k name e h → h ≡ Memory

@@ -21,6 +21,7 @@ use Rattle.vipr_rules.specs.Solution.{test_of}
 use Rattle.vipr_check.specs.declared.verdict.Report.{Report}
 use Rattle.vipr_check.specs.declared.verdict.Verdict.{Verdict}
 use Rattle.vipr_check.specs.declared.verdict.Fault.{Fault}
+use Rattle.vipr_check.specs.declared.verdict.Fault.TheVariants as fault
 use Rattle.vipr_check.specs.declared.halt.Stop.{Stop}
 use Rattle.vipr_check.specs.declared.halt.Stop.TheVariants as stop
 use Rattle.vipr_check.specs.declared.halt.Halt.{Halt}
@@ -153,6 +154,13 @@ finished P c k l r (Err e) under same runs end (h, halts, why) = stopped_says (E
 pub solution_unspent : (ss : List (Named Row)) (s : Named Row) (k l : State) (x : Result (Unit {0}) Stop) → TakesSolution ss s k l x → x ≢ Err stop.Spent
 solution_unspent ss s k l (Ok done) h = λ e. cc
 solution_unspent ss s k l (Err e) h = some_stop e (first_unspent h.0 e h.1.answer)
+
+-- what neither wants memory nor was spent ends in no want of memory
+pub step_decided : (x : Result (Unit {0}) Stop) → x ≢ Err stop.Memory → x ≢ Err stop.Spent → step_answer x ≢ Some (Err fault.Memory)
+step_decided (Ok done) m s = λ e. cc
+step_decided (Err (stop.Refused r)) m s = λ e. cc
+step_decided (Err stop.Memory) m s = λ e. absurd (m refl)
+step_decided (Err stop.Spent) m s = λ e. absurd (s refl)
 
 pub listed_now : (P : Profile) (p : Problem) (ss : List (Named Row)) (k : State) (old : Items) → IsAmong P p ss k old → HasListed P p ss old k old
 listed_now P p ss k old is = record { now = ss; is_among = is; known = λ t. t; answers = λ t a x h. h }

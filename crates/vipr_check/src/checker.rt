@@ -8,7 +8,7 @@ ghost use Rattle.vipr_cert.specs.Items.{solution_of, derivation_of};
 ghost use Rattle.vipr_rules.specs.Profile.{profile_of};
 ghost use Rattle.vipr_table.specs.Table.{held_count as held_in};
 ghost use Rattle.vipr_check.specs.Sound.{KeepsSoundness};
-ghost use Rattle.vipr_check.specs.Halts.{halt_answer, later_answer, IsStepHalt};
+ghost use Rattle.vipr_check.specs.Halts.{halt_answer, later_answer, step_halt};
 ghost use Rattle.vipr_check.specs.Progress.{HasSolutions, HasSteps};
 ghost use Rattle.vipr_check.specs.State.{Repeats, TakesSolution, EndsSolutions, TakesStep};
 ghost use Rattle.vipr_check.specs.State.{Finishes};
@@ -125,7 +125,7 @@ impl<S: Rows> Checker<S> {
     ///
     /// # Errors
     ///
-    /// The refusal with the first cause that the solution has, or want of memory.
+    /// The refusal with the first cause that the solution has, or want of memory for its name.
     pub fn solution(&mut self, solution: &Named<Solution>) -> Result<(), Stop>
         requires phase { self.old.in_solutions ≡ true }
         requires room { self.old.progress.solutions + 1 < 2 ^ 32 }
@@ -141,8 +141,33 @@ impl<S: Rows> Checker<S> {
             Err(error) => {
                 Err(stop(
                     &mut self.halt,
-                    Halt::at_solution(number, &solution.name, error),
+                    Halt::at_lent_solution(number, &solution.name, error),
                 ))
+            }
+        }
+    }
+
+    /// Takes the next listed solution, and its name if it is refused, so that nothing is cloned.
+    ///
+    /// # Errors
+    ///
+    /// The refusal with the first cause that the solution has. Want of memory is never answered,
+    /// since neither the tests nor a refusal need any.
+    pub fn take_solution(&mut self, solution: Named<Solution>) -> Result<(), Stop>
+        requires phase { self.old.in_solutions ≡ true }
+        requires room { self.old.progress.solutions + 1 < 2 ^ 32 }
+        ensures again { Repeats self.old self.new result }
+        ensures next { (ss : List (NamedMeant Row)) → self.old.halt ≡ None
+            → HasSolutions ss self.old.progress
+            → TakesSolution ss (solution_of solution) self.old self.new result }
+        ensures decided { result ≢ Err Stop.Memory }
+    {
+        self.go_on()?;
+        let number = self.progress.solutions();
+        match self.progress.take_solution(solution) {
+            Ok(()) => Ok(()),
+            Err((name, error)) => {
+                Err(stop(&mut self.halt, Halt::at_solution(number, name, error)))
             }
         }
     }
@@ -175,7 +200,8 @@ impl<S: Rows> Checker<S> {
     ///
     /// # Errors
     ///
-    /// The refusal with the first cause that the derivation has, or want of memory.
+    /// The refusal with the first cause that the derivation has, or want of memory for its rule,
+    /// its constraint or its name.
     pub fn derivation(&mut self, alloc: Global, step: &Derivation) -> Result<(), Stop>
         requires phase { self.old.in_solutions ≡ false }
         requires room { self.old.progress.rows.next + 1 < 2 ^ 32 }
@@ -189,15 +215,22 @@ impl<S: Rows> Checker<S> {
         let index = self.progress.next();
         match self.progress.derivation(alloc, step) {
             Ok(()) => Ok(()),
-            Err(error) => Err(stop_at_step(&mut self.halt, index, &step.name, error)),
+            Err(error) => {
+                Err(stop(
+                    &mut self.halt,
+                    Halt::at_lent_derivation(index, &step.name, error),
+                ))
+            }
         }
     }
 
-    /// Checks the next derivation and takes its constraint, so that nothing of it is cloned.
+    /// Checks the next derivation and takes its constraint, or its name if it is refused, so that
+    /// nothing of it is cloned.
     ///
     /// # Errors
     ///
-    /// Those of `derivation`.
+    /// The refusal with the first cause that the derivation has, or want of memory for its rule or
+    /// its constraint. A refusal needs no memory.
     pub fn take(&mut self, alloc: Global, step: Derivation) -> Result<(), Stop>
         requires phase { self.old.in_solutions ≡ false }
         requires room { self.old.progress.rows.next + 1 < 2 ^ 32 }
@@ -207,8 +240,12 @@ impl<S: Rows> Checker<S> {
         ensures next { (c : Certificate) → self.old.halt ≡ None → HasSteps c self.old.progress
             → TakesStep c (derivation_of step) self.old self.new result }
     {
-        let mut step = step;
-        self.take_from(alloc, &mut step)
+        self.go_on()?;
+        let index = self.progress.next();
+        match self.progress.take(alloc, step) {
+            Ok(()) => Ok(()),
+            Err((name, error)) => Err(stop_at_step(&mut self.halt, index, name, error)),
+        }
     }
 
     /// The report, if the certificate ends here.
@@ -251,24 +288,6 @@ impl<S: Rows> Checker<S> {
         of_halt(progress, halt)
     }
 
-    // Takes the next derivation, and the constraint out of it where it passes.
-    fn take_from(&mut self, alloc: Global, step: &mut Derivation) -> Result<(), Stop>
-        requires phase { self.old.in_solutions ≡ false }
-        requires room { self.old.progress.rows.next + 1 < 2 ^ 32 }
-        requires names { NamesBelow (variables self.old.progress.problem)
-            (at step.old.constraint.row) }
-        ensures again { Repeats self.old self.new result }
-        ensures next { (c : Certificate) → self.old.halt ≡ None → HasSteps c self.old.progress
-            → TakesStep c (derivation_of step.old) self.old self.new result }
-    {
-        self.go_on()?;
-        let index = self.progress.next();
-        match self.progress.take(alloc, step) {
-            Ok(()) => Ok(()),
-            Err(error) => Err(stop_at_step(&mut self.halt, index, &step.name, error)),
-        }
-    }
-
     // Where it stopped, what is answered since.
     fn go_on(&self) -> Result<(), Stop>
         ensures { MatchOption self.now.halt (result ≡ Ok tt) (λ h. result ≡ Err (later_answer h)) }
@@ -292,9 +311,9 @@ fn stop(halt: &mut Option<Halt>, why: Halt) -> Stop
 
 // Stops at a derivation, and gives what is answered.
 #[inline(never)]
-fn stop_at_step(halt: &mut Option<Halt>, index: u32, name: &Name, error: RuleError) -> Stop
-    ensures { (why : Halt) × IsStepHalt index name.now error why × (halt.new ≡ Some why)
-        × (result ≡ halt_answer why) }
+fn stop_at_step(halt: &mut Option<Halt>, index: u32, name: Name, error: RuleError) -> Stop
+    ensures halt { halt.new ≡ Some (step_halt index name error) }
+    ensures answer { result ≡ halt_answer (step_halt index name error) }
 {
     stop(halt, Halt::at_derivation(index, name, error))
 }

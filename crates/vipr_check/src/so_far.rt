@@ -12,7 +12,7 @@ ghost use Rattle.vipr_spec.specs.Tests.{PassesSolution, solution_tests, meets_du
 ghost use Rattle.vipr_spec.specs.Tests.{Passes as PassesTest, goal_needed_by};
 ghost use Rattle.vipr_spec.specs.Verdict.{Reports};
 ghost use Rattle.vipr_linear.specs.Constraint.{condition_of};
-ghost use Rattle.vipr_cert.specs.Items.{derivation_of};
+ghost use Rattle.vipr_cert.specs.Items.{solution_of, derivation_of};
 ghost use Rattle.vipr_rules.specs.Claim.{target_bound, IsTargetIn};
 ghost use Rattle.vipr_rules.specs.Profile.{profile_of};
 ghost use Rattle.vipr_table.specs.Table.{step as table_step, advance_table, held_count as held_in};
@@ -28,7 +28,7 @@ use crate::goal::{goal_among, goal_with};
 use crate::verdict::Report;
 use std::alloc::{AllocError, Global};
 use std::marker::Model;
-use vipr_cert::{Derivation, Problem};
+use vipr_cert::{Derivation, Name, Named, Problem};
 use vipr_frac::Frac;
 use vipr_linear::{Combination, Constraint, Solution};
 use vipr_rules::{
@@ -269,6 +269,32 @@ impl<S: Rows> Progress<S> {
         Ok(())
     }
 
+    /// Tests the next listed solution, and goes on with it if it passes. Else its name comes back
+    /// with the error.
+    pub(crate) fn take_solution(
+        &mut self,
+        solution: Named<Solution>,
+    ) -> Result<(), (Name, SolutionError)>
+        requires { self.old.solutions + 1 < 2 ^ 32 }
+        ensures next { (ss : List (NamedMeant Row)) → HasSolutions ss self.old
+            → MatchResult result (λ _. FirstFailing
+            (PassesSolution self.old.problem (solution_of solution).item)
+            (solution_tests self.old.problem) None
+            × HasSolutions (ss ++ solution_of solution ∷ []) self.new)
+            (λ e. FailsBy self.old.problem (solution_of solution).item
+            (solution_tests self.old.problem) e.1) }
+        ensures named { IfErr result (λ e. e.0 ≡ solution.name) }
+        ensures ok { OnOk result
+            (self.new ≡ record self.old { solutions = self.new.solutions; best = self.new.best }) }
+        ensures err { OnErr result (self.new ≡ self.old) }
+    {
+        let Named { name, item } = solution;
+        match self.solution(&item) {
+            Ok(()) => Ok(()),
+            Err(error) => Err((name, error)),
+        }
+    }
+
     /// Forgets the columns, since no solution follows.
     pub(crate) fn forget_columns(&mut self)
         ensures { self.new ≡ self.old }
@@ -313,8 +339,37 @@ impl<S: Rows> Progress<S> {
         self.keep(entry)
     }
 
-    /// Checks the next derivation, and takes its constraint if it passes.
-    pub(crate) fn take(&mut self, alloc: Global, step: &mut Derivation) -> Result<(), RuleError>
+    /// Checks the next derivation, and takes its constraint if it passes. Else its name comes back
+    /// with the error.
+    pub(crate) fn take(&mut self, alloc: Global, step: Derivation) -> Result<(), (Name, RuleError)>
+        requires room { self.old.rows.next + 1 < 2 ^ 32 }
+        requires names { NamesBelow (variables self.old.problem) (at step.constraint.row) }
+        ensures next { (c : Certificate) → HasSteps c self.old
+            → MatchResult result (λ _. PassesTestsIn self.old.profile c (derivation_of step)
+            (step_tests (derivation_of step).reason)
+            × HasSteps (with_next c (derivation_of step)) self.new)
+            (λ e. (e.1 ≡ Memory)
+            ⊎ StopsIn self.old.profile c (derivation_of step)
+            (step_tests (derivation_of step).reason) e.1) }
+        ensures ok { OnOk result (self.new ≡ record
+            self.old { rows = self.new.rows; peak = self.new.peak; goal = self.new.goal }) }
+        ensures named { IfErr result (λ e. e.0 ≡ step.name) }
+        ensures peak { OnOk result (held_in self.new.rows ≤ self.new.peak) }
+        ensures err { IfErr result (λ e. (self.new ≡ self.old) ⊎ ((e.1 ≡ Memory)
+            × (self.new ≡ record self.old { rows = advance_table self.old.rows }))) }
+    {
+        let mut step = step;
+        match self.take_from(alloc, &mut step) {
+            Ok(()) => Ok(()),
+            Err(error) => {
+                let Derivation { name, .. } = step;
+                Err((name, error))
+            }
+        }
+    }
+
+    // Checks the next derivation, and takes its constraint if it passes.
+    fn take_from(&mut self, alloc: Global, step: &mut Derivation) -> Result<(), RuleError>
         requires room { self.old.rows.next + 1 < 2 ^ 32 }
         requires names { NamesBelow (variables self.old.problem) (at step.old.constraint.row) }
         ensures next { (c : Certificate) → HasSteps c self.old

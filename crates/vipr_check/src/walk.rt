@@ -1,7 +1,7 @@
 //! Runs a checker over a text: the checker takes each item before the next one is read.
 
-ghost use Rattle.std.specs.Prelude.{◌≡◌, ◌≢◌, ◌+◌, ◌<◌, ◌^◌, false, suc, List, Ok, Err, IfNone};
-ghost use Rattle.std.specs.Prelude.{IfSome, IsSome};
+ghost use Rattle.std.specs.Prelude.{◌≡◌, ◌≢◌, ◌+◌, ◌<◌, ◌^◌, true, false, suc, List, Some, Ok, Err};
+ghost use Rattle.std.specs.Prelude.{IfNone, IfSome, IsSome};
 ghost use Rattle.vipr_scan.specs.Giving.{rest_of};
 ghost use Rattle.vipr_spec.specs.Constraint.{Profile as ProfileMeant, Row};
 ghost use Rattle.vipr_spec.specs.Certificate.{Named as NamedMeant, Problem as ProblemMeant};
@@ -117,13 +117,12 @@ fn next_solution<R: Source, S: Rows>(
         → IsAmong P p ss checker.old solutions.old
         → GoesAmong P p ss solutions.old checker.new solutions.new result }
     ensures any { IfSome result (λ verdict. IfVerified verdict (λ report. ⊥)) }
+    // Want of memory is only what the reader answers: neither a test of a solution nor a refusal
+    // needs any.
+    ensures decided { result ≡ Some (Err Fault.Memory) → solutions.new.failed ≡ true }
 {
     match solutions.next(alloc) {
-        Ok(Some(solution)) => {
-            let outcome = checker.solution(&solution);
-            drop(solution);
-            after_item(outcome)
-        }
+        Ok(Some(solution)) => { after_item(checker.take_solution(solution)) }
         Ok(None) => unreachable!(),
         Err(error) => Some(verdict_of_text_error(error)),
     }

@@ -22,9 +22,8 @@ invariant_of-self g c =
 pub invariant_of-self-in-Err : goal.invariant_of-self-in-Err
 invariant_of-self-in-Err g c =
     let unstopped : c.self.inside.halt ≡ None = ap (λ v. v.halt) c.self.view_is ∙ runs_of c.args.self.now.halt _ c.in_ok-go_on.ensures in
-    let h = c.stop_at_step.ensures in
-    reached_after c.self.inside.progress c.derivation.new.self c.self.inside.in_solutions c.self.inside.halt c.stop_at_step.new.halt h.0 c.next-index.result _ c.in-Err.error
-    unstopped c.self.invariant h.1 c.in-Err.ensures.err h.2
+    reached_after c.self.inside.progress c.derivation.new.self c.self.inside.in_solutions c.self.inside.halt c.stop.new.halt c.at_lent_derivation.result c.next-index.result _ c.in-Err.error
+    unstopped c.self.invariant c.at_lent_derivation.ensures c.in-Err.ensures.err c.stop.ensures.halt
 
 pub returns-in-Ok-clause-next : goal.returns-in-Ok-clause-next
 returns-in-Ok-clause-next g c = λ s halted has.
@@ -39,9 +38,8 @@ returns-in-Err-clause-next g c = λ s halted has.
     let d = derivation_of c.args.step.now in
     let same = ap (λ v. v.progress) c.self.view_is in
     let is = subst (HasSteps s) (sym same) has in
-    let verdict_of_stop = c.stop_at_step.ensures in
-    let h = verdict_of_stop.0 in (
+    let h = c.at_lent_derivation.result in (
       h,
-      kept_or_advanced _ c.args.self.now c.derivation.new.self c.stop_at_step.new.halt h c.stop_at_step.result c.next-index.result _ c.in-Err.error c.self.view_is verdict_of_stop.1 c.in-Err.ensures.err verdict_of_stop.2 verdict_of_stop.3,
-      subst (λ (x : Progress). StopsStep x.profile s d h) same (stops_step c.self.inside.progress.profile s d c.next-index.result c.in-Err.error h (sym (c.next-index.ensures ∙ is.rows.next)) verdict_of_stop.1 (c.in-Err.ensures.next s is)),
+      kept_or_advanced _ c.args.self.now c.derivation.new.self c.stop.new.halt h c.stop.result c.next-index.result _ c.in-Err.error c.self.view_is c.at_lent_derivation.ensures c.in-Err.ensures.err c.stop.ensures.halt c.stop.ensures.answer,
+      subst (λ (x : Progress). StopsStep x.profile s d h) same (stops_step c.self.inside.progress.profile s d c.next-index.result c.in-Err.error h (sym (c.next-index.ensures ∙ is.rows.next)) c.at_lent_derivation.ensures (c.in-Err.ensures.next s is)),
     )

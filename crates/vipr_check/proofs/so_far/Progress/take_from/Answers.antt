@@ -11,7 +11,7 @@ use Rattle.vipr_rules.specs.Profile.{profile_of}
 use Rattle.vipr_rules.specs.Apply.{StopsIn, PassesTestsIn}
 use Rattle.vipr_spec.specs.Steps.{step_tests}
 use Rattle.vipr_rules.specs.declared.error.RuleError.TheVariants.{Memory}
-use Rattle.vipr_check.proofs.so_far.Progress.take.Goals as goal
+use Rattle.vipr_check.proofs.so_far.Progress.take_from.Goals as goal
 
 pub returns-in_err-entry-clause-next : goal.returns-in_err-entry-clause-next
 returns-in_err-entry-clause-next g c = λ s has.
