@@ -1,0 +1,26 @@
+//! Explains a verdict for people: where the text is at fault, and what the algebra says.
+#![tactic(auto)]
+
+mod algebra;
+mod differences;
+mod draft;
+mod goal;
+mod hints;
+mod items;
+mod kept;
+mod missing;
+mod page;
+mod shown;
+mod solution;
+mod step;
+mod syntax;
+mod text;
+mod wanted;
+mod whole;
+mod words;
+
+pub use kept::{Keeping, KeptBytes, KeptText};
+pub use missing::Missing;
+pub use page::Page;
+pub use text::Text;
+pub use whole::{explain_at_length, page_for};

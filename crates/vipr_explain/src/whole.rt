@@ -1,0 +1,110 @@
+//! The whole explanation of a verdict.
+
+use crate::draft::Draft;
+use crate::goal::{put_goal, put_no_proof};
+use crate::missing::Missing;
+use crate::page::Page;
+use crate::solution::{put_no_primal, put_solution};
+use crate::step::{put_dropped, put_step};
+use crate::syntax::put_syntax;
+use crate::text::Text;
+use std::alloc::Global;
+use std::fmt::Write;
+use vipr_check::{Detail, Place, Refusal, StepDetail, Verdict, cause};
+
+/// Explains a verdict on a text, which is read again, for people: where the text is at fault, what
+/// is wanted there, and what is likely to be wrong. `file` is the text's name.
+///
+/// # Errors
+///
+/// `Text` if the text can't be read again, or isn't the one that was checked, `Memory` if a growth
+/// is refused.
+pub fn explain_at_length<'a, T: Text>(
+    alloc: Global,
+    text: &'a T,
+    file: &'a str,
+    verdict: &Verdict,
+    detail: &Detail,
+) -> Result<Page, Missing> {
+    let mut draft = Draft {
+        alloc,
+        text,
+        file,
+        page: Page::new(alloc),
+    };
+    draft.page.write_str("\n")?;
+    match verdict {
+        Verdict::Verified(report) => put_goal(&mut draft, report)?,
+        Verdict::Refused(refusal) => {
+            put_refusal(&mut draft, refusal, detail)?;
+            let number = refusal.cause;
+            write!(draft.page, "  = see: docs/FORMAT.md, cause {number}\n")?;
+        }
+    }
+    Ok(draft.page)
+}
+
+/// The explanation of a verdict, or a line that says why there is none: `text` is `None` for one
+/// that can't be read again. The answer is `None` if a growth is refused.
+pub fn page_for<'a, T: Text>(
+    alloc: Global,
+    text: Option<&'a T>,
+    file: &'a str,
+    verdict: &Verdict,
+    detail: &Detail,
+) -> Option<Page> {
+    let Some(text) = text else {
+        return page_of(
+            alloc,
+            "\nthis text is too long to be kept: give its file to explain it at length\n",
+        );
+    };
+    match explain_at_length(alloc, text, file, verdict, detail) {
+        Ok(page) => Some(page),
+        Err(Missing::Text) => page_of(alloc, "\nthe text can't be read again to explain it\n"),
+        Err(Missing::Memory) => None,
+    }
+}
+
+// A page of one text.
+fn page_of(alloc: Global, text: &str) -> Option<Page> {
+    let mut page = Page::new(alloc);
+    match page.write_str(text) {
+        Ok(()) => Some(page),
+        Err(_) => None,
+    }
+}
+
+// Explains a refusal.
+fn put_refusal<T: Text>(
+    draft: &mut Draft<'_, T>,
+    refusal: &Refusal,
+    detail: &Detail,
+) -> Result<(), Missing> {
+    match (refusal.place, detail) {
+        (Place::Byte(offset), _) => put_syntax(draft, refusal.cause, offset),
+        (Place::Sol(number), _) => put_solution(draft, number, detail),
+        (Place::Der(index), Detail::Step { what, .. }) => {
+            put_derivation(draft, refusal.cause, index, what)
+        }
+        (_, Detail::NoProof(goal)) => put_no_proof(draft, goal.as_ref()),
+        (_, Detail::NoPrimal(bound)) => put_no_primal(draft, *bound),
+        _ => Ok(()),
+    }
+}
+
+// Explains a derivation that is refused.
+fn put_derivation<T: Text>(
+    draft: &mut Draft<'_, T>,
+    cause: u8,
+    index: u32,
+    what: &StepDetail,
+) -> Result<(), Missing> {
+    put_step(draft, cause, index, what)?;
+    match what {
+        StepDetail::Index(dropped) if cause == cause::DROPPED => {
+            put_dropped(draft, *dropped, index)
+        }
+        _ => Ok(()),
+    }
+}
