@@ -21,7 +21,7 @@ _vipr() {
     esac
     case "${COMP_WORDS[1]}" in
         check) words="--profile -h --help" ;;
-        explain) words="--profile -h --help" ;;
+        explain) words="--profile --long -h --help" ;;
         show) words="--compact -h --help" ;;
         tighten) words="--profile -o --out --compact -h --help" ;;
     esac

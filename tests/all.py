@@ -27,6 +27,7 @@ SCRIPTS = [
     ['tests/house.py'],
     ['tools/wrong.py', '--sample', '10'],
     ['tests/answers.py'],
+    ['tests/long.py'],
     ['tests/hostile.py'],
     ['tests/output.py'],
     ['tests/growths.py'],

@@ -143,7 +143,7 @@ def look_at(reader, rows, said):
         for name in LIBRARY:
             check((reader.home / '.local' / name).is_file(), f'make install-lib leaves no {name}')
         callers = words.count('/check ') + words.count('/check.py ')
-        check(callers and said.count('infeasible.vipr: verified, solutions 0') == callers, f'the callers print {said[-400:]!r}')
+        check(callers and said.count('infeasible.vipr: verified infeas, solutions 0') == callers, f'the callers print {said[-400:]!r}')
     if 'rt test' in words:
         check('FAILED' not in said, f'rt test prints {said[-600:]!r}')
     if 'pv ' in words:

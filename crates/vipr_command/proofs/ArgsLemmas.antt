@@ -16,7 +16,7 @@ use Rattle.clap.specs.declared.parser.matches.ArgMatches.TheViews.{out-ArgMatche
 use Rattle.std.specs.Str.{bytes_eq}
 use Rattle.vipr_command.proofs.HelpLemmas.{NotHelp, met_help, never_met}
 use Rattle.vipr_rules.specs.declared.profile.Profile.{Profile}
-use Rattle.vipr_command.specs.Args.{are_accepted, request_of, asked_by, command_word, file_named, form_asked, line, names_profile, profile_named, words_fault}
+use Rattle.vipr_command.specs.Args.{are_accepted, request_of, asked_by, command_word, file_named, form_asked, is_long_asked, line, names_profile, profile_named, words_fault}
 use Rattle.vipr_command.specs.declared.request.Job.{Job}
 use Rattle.vipr_command.specs.declared.request.Task.{Task}
 use Rattle.vipr_command.specs.declared.request.Task.TheVariants.{Check, Explain, Show, Tighten}
@@ -126,9 +126,9 @@ failed_on (Ok x) e kinds h k = absurd h
 failed_on (Err y) e kinds h k = subst (HasKind kinds) (sym h) k
 
 pub is_asked : (words : List Text) (j : Job) (name : Text) (rows : List Row) → subcommand_of line words ≡ Some (name, rows) → command_word j.command ≡ name → Some j.profile ≡ profile_named (first_of (codes "profile") rows) → j.form ≡ form_asked (first_of (codes "compact") rows)
-    → option_map (λ s. s.now) j.file ≡ file_named (first_of (codes "file") rows) → option_map (λ s. s.now) j.out ≡ file_named (first_of (codes "out") rows)
+    → j.is_long ≡ is_long_asked (first_of (codes "long") rows) → option_map (λ s. s.now) j.file ≡ file_named (first_of (codes "file") rows) → option_map (λ s. s.now) j.out ≡ file_named (first_of (codes "out") rows)
     → asked_by words ≡ Some (request_of j)
-is_asked words j name rows e n p g f o = rw (e, n, p, g, f, o) refl
+is_asked words j name rows e n p g l f o = rw (e, n, p, g, l, f, o) refl
 
 -- ---- the profile
 

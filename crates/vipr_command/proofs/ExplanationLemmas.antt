@@ -9,8 +9,8 @@ use Rattle.vipr_check.specs.declared.detail.Detail.{Detail}
 use Rattle.vipr_check.specs.declared.verdict.Verdict.{Verdict}
 use Rattle.vipr_command.specs.declared.fault.CommandFault.{CommandFault}
 use Rattle.vipr_command.specs.declared.fault.CommandFault.TheVariants.{Memory, Read, Write}
-use Rattle.vipr_command.specs.Output.{Took, Prints, after_first}
-use Rattle.vipr_command.specs.Run.{KnownInput, PrintsExplanation, status_for}
+use Rattle.vipr_command.specs.Output.{Took, Prints, PrintsMore, after_first}
+use Rattle.vipr_command.specs.Run.{KnownInput, PrintsAtLength, PrintsExplanation, status_for}
 
 -- what is so of each input is so of the one that is known
 pub if_known : (o : Option Input) (P Q : Input → Type 0) → ((i : Input) → P i → Q i) → IfKnown o P → IfKnown o Q
@@ -25,3 +25,11 @@ module _ (P : Profile) (k : KnownInput) (v : Verdict) (x : Detail) (explained : 
   not_printed Read p = absurd p
   not_printed Memory p = p
   not_printed (Write n) (text, same, took) = (v, x, explained, subst (λ t. Took old new t (Err (after_first n))) same took)
+
+  pub printed_more : (s : ℕ) → s ≡ status_for v → PrintsMore (explained_text v x) old new (Ok tt) → PrintsAtLength P k old new (Ok s)
+  printed_more s is (more, page, took) = (v, x, more, explained, page, is, took)
+
+  pub not_printed_more : (f : CommandFault) → PrintsMore (explained_text v x) old new (Err f) → PrintsAtLength P k old new (Err f)
+  not_printed_more Read p = absurd p
+  not_printed_more Memory p = p
+  not_printed_more (Write n) (more, page, took) = (v, x, more, explained, page, took)

@@ -68,22 +68,26 @@ tightens_untold P F k old new (Err tighten.Read) (is, stays) = (is, tt)
 tightens_untold P F k old new (Err (tighten.Memory n)) (is, stays) = (is, tt)
 tightens_untold P F k old new (Err (tighten.Write n)) (c, goal, is, proof, tight, (less, accepted)) = (c, goal, is, proof, tight, (less, tt))
 
-does_untold : (t : Task) (P : Profile) (F : Form) (out : Option Text) (k : KnownInput) (old new : Option Output) (r : Result ℕ CommandFault) → Does t P F out k old new r → Does t P F out k None None r
-does_untold Check P F out k old new (Ok s) (v, decided, is, took) = (v, decided, is, tt)
-does_untold Check P F out k old new (Err Read) (decided, stays) = (decided, tt)
-does_untold Check P F out k old new (Err Memory) stays = tt
-does_untold Check P F out k old new (Err (Write n)) (v, decided, took) = (v, decided, tt)
-does_untold Explain P F out k old new (Ok s) (v, x, explained, is, took) = (v, x, explained, is, tt)
-does_untold Explain P F out k old new (Err Read) (explained, stays) = (explained, tt)
-does_untold Explain P F out k old new (Err Memory) stays = tt
-does_untold Explain P F out k old new (Err (Write n)) (v, x, explained, took) = (v, x, explained, tt)
-does_untold Show P F out k old new (Ok s) (x, is, shows) = (x, is, shows_untold F k.kind old new (Ok x) shows)
-does_untold Show P F out k old new (Err f) shows = shows_untold F k.kind old new (Err f) shows
-does_untold Tighten P F None k old new r (x, is, tightens) = (x, is, tightens_untold P F (k.proof P) old new x tightens)
-does_untold Tighten P F (Some out) k old new r (tightened, stays) = (tightened, tt)
+does_untold : (t : Task) (P : Profile) (F : Form) (l : Bool) (out : Option Text) (k : KnownInput) (old new : Option Output) (r : Result ℕ CommandFault) → Does t P F l out k old new r → Does t P F l out k None None r
+does_untold Check P F l out k old new (Ok s) (v, decided, is, took) = (v, decided, is, tt)
+does_untold Check P F l out k old new (Err Read) (decided, stays) = (decided, tt)
+does_untold Check P F l out k old new (Err Memory) stays = tt
+does_untold Check P F l out k old new (Err (Write n)) (v, decided, took) = (v, decided, tt)
+does_untold Explain P F false out k old new (Ok s) (v, x, explained, is, took) = (v, x, explained, is, tt)
+does_untold Explain P F false out k old new (Err Read) (explained, stays) = (explained, tt)
+does_untold Explain P F false out k old new (Err Memory) stays = tt
+does_untold Explain P F false out k old new (Err (Write n)) (v, x, explained, took) = (v, x, explained, tt)
+does_untold Explain P F true out k old new (Ok s) (v, x, more, explained, page, is, took) = (v, x, more, explained, page, is, tt)
+does_untold Explain P F true out k old new (Err Read) (explained, stays) = (explained, tt)
+does_untold Explain P F true out k old new (Err Memory) stays = tt
+does_untold Explain P F true out k old new (Err (Write n)) (v, x, more, explained, page, took) = (v, x, more, explained, page, tt)
+does_untold Show P F l out k old new (Ok s) (x, is, shows) = (x, is, shows_untold F k.kind old new (Ok x) shows)
+does_untold Show P F l out k old new (Err f) shows = shows_untold F k.kind old new (Err f) shows
+does_untold Tighten P F l None k old new r (x, is, tightens) = (x, is, tightens_untold P F (k.proof P) old new x tightens)
+does_untold Tighten P F l (Some out) k old new r (tightened, stays) = (tightened, tt)
 
 untold : (words : List Text) (k : KnownInput) (old new : Option Output) (r : Result ℕ CommandFault) → RunsOver words k old new r → RunsOver words k None None r
-untold words k old new r (inl (t, P, F, file, out, request_of, does)) = inl (t, P, F, file, out, request_of, does_untold t (profile_of P) F out (read_from file k) old new r does)
+untold words k old new r (inl (t, P, F, l, file, out, request_of, does)) = inl (t, P, F, l, file, out, request_of, does_untold t (profile_of P) F l out (read_from file k) old new r does)
 untold words k old new r (inr (inl (e, among, declines))) = inr (inl (e, among, declines_untold e old new r declines))
 untold words k old new r (inr (inr (is, stays))) = inr (inr (is, tt))
 
@@ -91,12 +95,13 @@ pub fits : (words : List Text) (old new : Option Output) (r : Result ℕ Command
 fits words old new r obeys = (r, refl, untold words unknown_input old new r obeys)
 
 -- a file that can't be opened
-pub unread : (t : Task) (P : Profile) (F : Form) (out : Option Text) (old : Option Output) → Does t P F out unknown_input old old (Err Read)
-unread Check P F out old = (tt, stays old)
-unread Explain P F out old = (tt, stays old)
-unread Show P F out old = (tt, stays old)
-unread Tighten P F None old = (Err tighten.Read, refl, (tt, stays old))
-unread Tighten P F (Some out) old = (inl (Err tighten.Read, refl, (tt, tt)), stays old)
+pub unread : (t : Task) (P : Profile) (F : Form) (l : Bool) (out : Option Text) (old : Option Output) → Does t P F l out unknown_input old old (Err Read)
+unread Check P F l out old = (tt, stays old)
+unread Explain P F false out old = (tt, stays old)
+unread Explain P F true out old = (tt, stays old)
+unread Show P F l out old = (tt, stays old)
+unread Tighten P F l None old = (Err tighten.Read, refl, (tt, stays old))
+unread Tighten P F l (Some out) old = (inl (Err tighten.Read, refl, (tt, tt)), stays old)
 
 abbrev named : Option (Bor (List ℕ)) → Option Text
 named o = option_map (λ s. s.now) o
@@ -113,11 +118,11 @@ of_known (Some f) k P p q = p
 
 module _ (words : List Text) (j : Job) (is : asked_by words ≡ Some (request_of j)) (old new : Option Output) (r : Result ℕ CommandFault) where
   abbrev DoesJob : KnownInput → Type 0
-  DoesJob k = Does j.command (profile_of j.profile) j.form (named j.out) k old new r
+  DoesJob k = Does j.command (profile_of j.profile) j.form j.is_long (named j.out) k old new r
 
   pub obeyed : DoesJob unknown_input → RunsOver words unknown_input old new r
-  obeyed does = inl (j.command, j.profile, j.form, named j.file, named j.out, is, of_unknown j.file DoesJob does)
+  obeyed does = inl (j.command, j.profile, j.form, j.is_long, named j.file, named j.out, is, of_unknown j.file DoesJob does)
 
   pub ran_known : (source : Option Input) → DoesJob unknown_input → (IsNone j.file → IfKnown source (λ i. DoesJob (known_by i))) → IfKnown source (λ i. RunsOver words (known_by i) old new r)
   ran_known None does known = tt
-  ran_known (Some i) does known = λ short. inl (j.command, j.profile, j.form, named j.file, named j.out, is, of_known j.file (known_by i) DoesJob does (λ none. known none short))
+  ran_known (Some i) does known = λ short. inl (j.command, j.profile, j.form, j.is_long, named j.file, named j.out, is, of_known j.file (known_by i) DoesJob does (λ none. known none short))

@@ -1,5 +1,5 @@
 -- The program's command line as clap's parse reads it, and what a command line asks for.
-use Rattle.std.specs.Prelude.{◌&&◌, Bool, true, List, [], ◌∷◌, Option, Some, None, codes}
+use Rattle.std.specs.Prelude.{◌&&◌, Bool, true, false, List, [], ◌∷◌, Option, Some, None, codes}
 use Rattle.std.specs.Prelude.{if◌then◌else◌, is_some, option_map}
 use Rattle.std.specs.Option.{option_map_or}
 use Rattle.std.specs.Str.{bytes_eq}
@@ -42,6 +42,13 @@ compact_rule = record (new_rule (codes "compact")) {
   action = Some SetTrue;
 }
 
+-- `[--long]`
+abbrev pub long_rule : Rule
+long_rule = record (new_rule (codes "long")) {
+  long = Some (codes "long");
+  action = Some SetTrue;
+}
+
 abbrev pub command_word : Task → Text
 command_word Check = codes "check"
 command_word Explain = codes "explain"
@@ -60,6 +67,10 @@ with_compact t = with_rule (with_file t) compact_rule
 abbrev pub with_profile : Task → App
 with_profile t = with_rule (with_file t) profile_rule
 
+-- that with `[--long]`
+abbrev pub with_long : Task → App
+with_long t = with_rule (with_profile t) long_rule
+
 -- the same with `[-o OUT]` and `[--compact]`
 abbrev pub with_out : Task → App
 with_out t = with_rule (with_rule (with_profile t) out_rule) compact_rule
@@ -76,7 +87,7 @@ bare = record (new_app (codes "vipr")) {
 unfoldable pub line : App
 line =
     with_subcommand (with_subcommand (with_subcommand
-    (with_subcommand bare (with_profile Check).top) (with_profile Explain).top)
+    (with_subcommand bare (with_profile Check).top) (with_long Explain).top)
     (with_compact Show).top) (with_out Tighten).top
 
 -- the profile of this value of PROFILE, the first if it is absent
@@ -95,10 +106,15 @@ abbrev pub form_asked : Option Text → Form
 form_asked None = Canonical
 form_asked (Some word) = if bytes_eq word (codes "true") then Compact else Canonical
 
--- a subcommand's name, the profile, if PROFILE names one, the form, and the files that FILE and
--- OUT name
+-- whether an explanation is to be long, by the value of the flag `--long`
+abbrev pub is_long_asked : Option Text → Bool
+is_long_asked None = false
+is_long_asked (Some word) = bytes_eq word (codes "true")
+
+-- a subcommand's name, the profile, if PROFILE names one, the form, whether the explanation is to
+-- be long, and the files that FILE and OUT name
 abbrev pub Request : Type 0
-Request = Text × Option Profile × Form × Option Text × Option Text
+Request = Text × Option Profile × Form × Bool × Option Text × Option Text
 
 -- what clap's matches of the words are
 abbrev pub asked_by : List Text → Option Request
@@ -106,6 +122,7 @@ asked_by words = option_map (λ p. (
   p.0,
   profile_named (first_of (codes "profile") p.1),
   form_asked (first_of (codes "compact") p.1),
+  is_long_asked (first_of (codes "long") p.1),
   file_named (first_of (codes "file") p.1),
   file_named (first_of (codes "out") p.1),
 )) (subcommand_of line words)
@@ -115,6 +132,7 @@ request_of j = (
   command_word j.command,
   Some j.profile,
   j.form,
+  j.is_long,
   option_map (λ s. s.now) j.file,
   option_map (λ s. s.now) j.out,
 )

@@ -1,6 +1,6 @@
 -- What the program answers, and what it prints.
 use Rattle.std.specs.Prelude.{⊤, ◌≡◌, ◌≢◌, ◌⊎◌, ℕ, List, Option, Some, None, Result, Ok, Err, codes}
-use Rattle.std.specs.Prelude.{◌++◌, decimal}
+use Rattle.std.specs.Prelude.{◌++◌, Bool, true, false, decimal}
 use Rattle.clap.specs.Words.{IsAmong, Text}
 use Rattle.clap.specs.declared.error.ErrorKind.{ErrorKind}
 use Rattle.clap.specs.declared.error.ErrorKind.TheVariants as kind
@@ -25,6 +25,7 @@ use Rattle.vipr_tighten.specs.Tightens.{KindOfText, any_kind, kind_read}
 use Rattle.vipr_write.specs.declared.form.Form.{Form}
 use Rattle.vipr_write.specs.declared.write.WriteError.{WriteError}
 use Rattle.vipr_write.specs.declared.write.WriteError.TheVariants as write
+use Rattle.vipr_explain.specs.Page.{IsPage}
 use Rattle.vipr_command.specs.Args.{asked_by, command_word, words_fault}
 use Rattle.vipr_command.specs.Text.{verdict_lines}
 use Rattle.vipr_command.specs.Output.{Took, Stays, after_first}
@@ -114,6 +115,18 @@ PrintsExplanation P k old new (Err Memory) = Stays old new
 PrintsExplanation P k old new (Err (Write n)) = (v : Verdict) × (x : Detail)
     × k.Explained P (Ok (v, x)) × Took old new (explained_text v x) (Err (after_first n))
 
+-- the same, and behind them a page for people, which may be empty
+abbrev pub PrintsAtLength : Profile → KnownInput → Option Output → Option Output
+    → Result ℕ CommandFault → Type 0
+PrintsAtLength P k old new (Ok s) = (v : Verdict) × (x : Detail) × (more : List ℕ)
+    × k.Explained P (Ok (v, x)) × IsPage more × (s ≡ status_for v)
+    × Took old new (explained_text v x ++ more) (Ok tt)
+PrintsAtLength P k old new (Err Read) = k.Explained P (Err CheckRead) × Stays old new
+PrintsAtLength P k old new (Err Memory) = Stays old new
+PrintsAtLength P k old new (Err (Write n)) = (v : Verdict) × (x : Detail) × (more : List ℕ)
+    × k.Explained P (Ok (v, x)) × IsPage more
+    × Took old new (explained_text v x ++ more) (Err (after_first n))
+
 -- the text was printed in this form, or the certificate refused
 abbrev pub PrintsText : Form → KnownInput → Option Output → Option Output → Result ℕ CommandFault
     → Type 0
@@ -128,13 +141,14 @@ abbrev pub PrintsTightened : Profile → Form → Option Text → KnownInput →
 PrintsTightened P F None k old new r = WritesTightened P F (k.proof P) old new r
 PrintsTightened P F (Some out) k old new r = WritesFile P F (k.proof P) r × Stays old new
 
--- the task is done by this profile, in this form, with this OUT
-abbrev pub Does : Task → Profile → Form → Option Text → KnownInput → Option Output → Option Output
-    → Result ℕ CommandFault → Type 0
-Does Check P F out k old new r = PrintsVerdict P k old new r
-Does Explain P F out k old new r = PrintsExplanation P k old new r
-Does Show P F out k old new r = PrintsText F k old new r
-Does Tighten P F out k old new r = PrintsTightened P F out k old new r
+-- the task is done by this profile, in this form, long or not, with this OUT
+abbrev pub Does : Task → Profile → Form → Bool → Option Text → KnownInput → Option Output
+    → Option Output → Result ℕ CommandFault → Type 0
+Does Check P F long out k old new r = PrintsVerdict P k old new r
+Does Explain P F false out k old new r = PrintsExplanation P k old new r
+Does Explain P F true out k old new r = PrintsAtLength P k old new r
+Does Show P F long out k old new r = PrintsText F k old new r
+Does Tighten P F long out k old new r = PrintsTightened P F out k old new r
 
 -- what is read: of a file that is named nothing is known
 abbrev pub read_from : Option Text → KnownInput → KnownInput
@@ -146,9 +160,9 @@ abbrev pub DoesAsked : List Text → KnownInput → Option Output → Option Out
     → Result ℕ CommandFault
     → Type 0
 DoesAsked words k old new r = (t : Task) × (P : rules.Profile) × (F : Form)
-    × (file out : Option Text)
-    × (asked_by words ≡ Some (command_word t, Some P, F, file, out))
-    × Does t (profile_of P) F out (read_from file k) old new r
+    × (long : Bool) × (file out : Option Text)
+    × (asked_by words ≡ Some (command_word t, Some P, F, long, file, out))
+    × Does t (profile_of P) F long out (read_from file k) old new r
 
 abbrev pub IsHelp : ErrorKind → Type 0
 IsHelp k = (k ≡ kind.DisplayHelp) ⊎ (k ≡ kind.DisplayVersion)

@@ -6,7 +6,7 @@ ghost use Rattle.clap.specs.Words.{with_subcommand};
 ghost use Rattle.clap.specs.declared.builder.command.Command.TheViews.{out-Command as fields_of};
 ghost use Rattle.vipr_command.specs.Args.{are_accepted, request_of, asked_by, bare, command_word};
 ghost use Rattle.vipr_command.specs.Args.{compact_rule, file_named, file_rule, form_asked};
-ghost use Rattle.vipr_command.specs.Args.{line};
+ghost use Rattle.vipr_command.specs.Args.{is_long_asked, line, long_rule};
 ghost use Rattle.vipr_command.specs.Args.{out_rule, profile_named, profile_rule, words_fault};
 ghost use Rattle.vipr_command.specs.declared.request.Task.{Task};
 
@@ -61,6 +61,7 @@ fn job_by<'a>(
         command,
         profile,
         form: form_asked(inner.get_str("compact")),
+        is_long: is_long_asked(inner.get_str("long")),
         file: file_named(inner.get_str("file")),
         out: file_named(inner.get_str("out")),
     })
@@ -127,6 +128,16 @@ fn form_asked(flag: Option<&str>) -> Form
     }
 }
 
+// The flag's value is `true` where it is among the words.
+fn is_long_asked(flag: Option<&str>) -> bool
+    ensures { result ≡ is_long_asked (option_map (λ s. s.now) flag.entry) }
+{
+    match flag {
+        Some("true") => true,
+        _ => false,
+    }
+}
+
 /// The program's commands and their arguments.
 fn command_line<'a>(alloc: Global) -> Result<Command<'a>, AllocError>
     ensures { IfOk result (λ c. app_of c ≡ line) }
@@ -138,7 +149,7 @@ fn command_line<'a>(alloc: Global) -> Result<Command<'a>, AllocError>
         "Example: vipr check plan.vipr",
     );
     let line = with_command(no_commands(alloc), check)?;
-    let explain = checking_command(
+    let explain = explaining(
         alloc,
         "explain",
         "Checks a certificate and prints the verdict with what shows it",
@@ -227,6 +238,21 @@ fn checking_command<'a>(
     on_file(alloc, name, about, example)?.arg(profile(alloc))
 }
 
+/// A subcommand that reads FILE, takes a profile, and may be long.
+fn explaining<'a>(
+    alloc: Global,
+    name: &'a str,
+    about: &'a str,
+    example: &'a str,
+) -> Result<Command<'a>, AllocError>
+    ensures app { IfOk result (λ c. app_of c
+        ≡ with_rule (with_rule (with_rule (new_app name.entry.now) file_rule) profile_rule)
+        long_rule) }
+    ensures local { IfOk result (λ c. (fields_of c).has_globals ≡ false) }
+{
+    checking_command(alloc, name, about, example)?.arg(long(alloc))
+}
+
 /// A subcommand that reads FILE, takes a profile, and writes to OUT a text in either form.
 fn with_out<'a>(
     alloc: Global,
@@ -282,4 +308,14 @@ fn compact<'a>(alloc: Global) -> Arg<'a>
         .long("compact")
         .action(ArgAction::SetTrue)
         .help("Writes OBJ for rows that are the objective's")
+}
+
+fn long<'a>(alloc: Global) -> Arg<'a>
+    ensures rule { rule_of result ≡ long_rule }
+    ensures local { result.global ≡ false }
+{
+    Arg::new(alloc, "long")
+        .long("long")
+        .action(ArgAction::SetTrue)
+        .help("Adds an explanation for people")
 }

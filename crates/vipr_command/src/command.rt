@@ -9,8 +9,8 @@ ghost use Rattle.vipr_command.specs.Run.{unknown_input};
 
 use crate::args::job;
 use crate::check::print_verdict;
-use crate::explain::print_explanation;
 use crate::fault::CommandFault;
+use crate::length::explain_job;
 use crate::line::{say, say_at_length};
 use crate::output::print;
 use crate::request::{Job, Task};
@@ -106,11 +106,13 @@ fn do_job<H: AllocGlobal + Files, R: Source + Drop, O: Sink, E: Write>(
     err: &mut E,
 ) -> Result<u8, CommandFault>
     ensures any { Does job.now.command (profile_of job.now.profile) job.now.form
-        (option_map (λ s. s.now) job.now.out) unknown_input (O.output out.old) (O.output out.new)
+        job.now.is_long (option_map (λ s. s.now) job.now.out) unknown_input (O.output out.old)
+        (O.output out.new)
         result }
     ensures known { IsNone job.now.file → IfKnown (R.input input)
         (λ i. Does job.now.command (profile_of job.now.profile) job.now.form
-        (option_map (λ s. s.now) job.now.out) (known_by i) (O.output out.old) (O.output out.new)
+        job.now.is_long (option_map (λ s. s.now) job.now.out) (known_by i) (O.output out.old)
+        (O.output out.new)
         result) }
 {
     match job.file {
@@ -130,17 +132,19 @@ fn do_task<H: AllocGlobal + Files, R: Source + Drop, O: Sink, E: Write>(
     err: &mut E,
 ) -> Result<u8, CommandFault>
     ensures any { Does job.now.command (profile_of job.now.profile) job.now.form
-        (option_map (λ s. s.now) job.now.out) unknown_input (O.output out.old) (O.output out.new)
+        job.now.is_long (option_map (λ s. s.now) job.now.out) unknown_input (O.output out.old)
+        (O.output out.new)
         result }
     ensures known { IfKnown (R.input source)
         (λ i. Does job.now.command (profile_of job.now.profile) job.now.form
-        (option_map (λ s. s.now) job.now.out) (known_by i) (O.output out.old) (O.output out.new)
+        job.now.is_long (option_map (λ s. s.now) job.now.out) (known_by i) (O.output out.old)
+        (O.output out.new)
         result) }
 {
     let alloc = rt.alloc();
     match job.command {
         Task::Check => print_verdict(alloc, job.profile, source, out),
-        Task::Explain => print_explanation(alloc, job.profile, source, out),
+        Task::Explain => explain_job(rt, job, source, out),
         Task::Show => print_text(alloc, job.form, source, out, err),
         Task::Tighten => print_tightened(rt, job.profile, job.form, source, job.out, out, err),
     }

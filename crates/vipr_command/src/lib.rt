@@ -9,6 +9,7 @@ mod check;
 mod command;
 mod explain;
 mod fault;
+mod length;
 mod line;
 mod out_file;
 mod output;

@@ -1,5 +1,5 @@
-//! Why one constraint isn't as it has to be: where two differ, what can't be rounded, and what is
-//! no split.
+//! Why one constraint isn't as it has to be: how two differ, what can't be rounded, and what is no
+//! split.
 
 use crate::algebra::{put_variable, sign_of};
 use crate::missing::Missing;

@@ -1,4 +1,4 @@
-//! Explains a verdict for people: where the text is at fault, and what the algebra says.
+//! Explains a verdict for people: the place at fault in the text, and what the algebra says.
 #![tactic(auto)]
 
 mod algebra;

@@ -333,8 +333,8 @@ fn put_first_index<T: Text>(draft: &mut Draft<'_, T>, known: &StepFacts) -> Resu
     Ok(())
 }
 
-/// Explains that a dropped constraint is needed: where its last reference is, and what it would
-/// have to be.
+/// Explains that a dropped constraint is needed: the place of its last reference, and what that
+/// would have to be.
 pub(crate) fn put_dropped<T: Text>(
     draft: &mut Draft<'_, T>,
     index: u32,

@@ -1,4 +1,4 @@
-//! Explains a fault of a text: where it is, and what is wanted there.
+//! Explains a fault of a text: its place, and what is wanted there.
 
 use crate::draft::Draft;
 use crate::hints::{TokenFault, put_hints};

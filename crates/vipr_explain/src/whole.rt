@@ -12,7 +12,7 @@ use std::alloc::Global;
 use std::fmt::Write;
 use vipr_check::{Detail, Place, Refusal, StepDetail, Verdict, cause};
 
-/// Explains a verdict on a text, which is read again, for people: where the text is at fault, what
+/// Explains a verdict on a text, which is read again, for people: the place at fault, what
 /// is wanted there, and what is likely to be wrong. `file` is the text's name.
 ///
 /// # Errors

@@ -9,7 +9,7 @@ use vipr_scan::is_white;
 /// How many bytes of a token are kept.
 const MOST_KEPT: usize = 64;
 
-/// Reads the tokens of a text one by one. Of each it keeps the first 64 bytes and its place.
+/// Reads the tokens of a text one by one. It keeps the place and the first 64 bytes of each.
 #[derive(Drop)]
 pub(crate) struct Words<R> {
     letters: Letters<R>,
@@ -54,7 +54,7 @@ impl<R: Source + Drop> Words<R> {
         self.size
     }
 
-    /// Where it begins.
+    /// The place of its first byte.
     pub(crate) fn spot(&self) -> Spot {
         self.spot
     }

@@ -1,7 +1,7 @@
 use Rattle.std.proofs.Common.{◌≡◌, ◌∙◌, ap, subst, sym, map, true, false, codes, refl}
 use Rattle.clap.specs.Words.{App, Kinds, HasKind, fault_of, found_of, is_simple, is_simple_and_free, rows_of, subcommand_of, takes}
 use Rattle.clap.proofs.WalkLemmas.{first_value-rows}
-use Rattle.vipr_command.specs.Args.{file_named, form_asked, profile_named}
+use Rattle.vipr_command.specs.Args.{file_named, form_asked, is_long_asked, profile_named}
 use Rattle.vipr_command.proofs.ArgsLemmas.{clap_fault, entered_is, failed_on, handed_on, is_asked, is_free_line, is_simple_line, never_other, never_accepted, never_without, profile_fine, profile_wrong, accepted_by_clap}
 use Rattle.vipr_command.proofs.args.job_by.Goals as goal
 
@@ -68,8 +68,9 @@ returns-clause-ok c =
     is_asked words _ _ _ (sym met ∙ is) c.in-Some-task_named.ensures.some
     (c.in-Some-profile_named.ensures ∙ ap profile_named (c.get_str.ensures ∙ first_value-rows (found_of c.in-Some.inner.now) (codes "profile")))
     (c.form_asked.ensures ∙ ap form_asked (c.get_str-2.ensures ∙ first_value-rows (found_of c.in-Some.inner.now) (codes "compact")))
-    (c.file_named.ensures ∙ ap file_named (c.get_str-3.ensures ∙ first_value-rows (found_of c.in-Some.inner.now) (codes "file")))
-    (c.file_named-2.ensures ∙ ap file_named (c.get_str-4.ensures ∙ first_value-rows (found_of c.in-Some.inner.now) (codes "out")))
+    (c.is_long_asked.ensures ∙ ap is_long_asked (c.get_str-3.ensures ∙ first_value-rows (found_of c.in-Some.inner.now) (codes "long")))
+    (c.file_named.ensures ∙ ap file_named (c.get_str-4.ensures ∙ first_value-rows (found_of c.in-Some.inner.now) (codes "file")))
+    (c.file_named-2.ensures ∙ ap file_named (c.get_str-5.ensures ∙ first_value-rows (found_of c.in-Some.inner.now) (codes "out")))
 
 pub returns-clause-kinds : goal.returns-clause-kinds
 returns-clause-kinds c =

@@ -1,0 +1,153 @@
+//! Prints an explanation with a page for people behind it.
+ghost use Rattle.std.specs.Prelude.{◌≡◌, List, ℕ, ◌++◌, option_map};
+ghost use Rattle.vipr_bytes.specs.Known.{IfKnown};
+ghost use Rattle.vipr_check.specs.Explanation.{explained_text};
+ghost use Rattle.vipr_explain.specs.Page.{IsPage};
+ghost use Rattle.vipr_rules.specs.Profile.{profile_of};
+ghost use Rattle.vipr_command.specs.Output.{PrintsMore};
+ghost use Rattle.vipr_command.specs.declared.request.Task.{Task};
+ghost use Rattle.vipr_command.specs.Run.{Does, PrintsAtLength, known_by, unknown_input};
+
+use crate::check::status_of;
+use crate::explain::print_explanation;
+use crate::fault::CommandFault;
+use crate::request::Job;
+use std::alloc::Global;
+use std::fs;
+use std::fs::File;
+use std::rt::Files;
+use vipr_bytes::{FromRead, Sink, Source, write_bytes};
+use vipr_check::{Detail, Explanation, Verdict, explain_in};
+use vipr_explain::{Keeping, KeptBytes, Page, Text, page_for};
+use vipr_rules::Profile;
+
+/// The text of a file, which is opened again each time that it is read.
+#[derive(Drop)]
+struct FileText<'a, H> {
+    rt: &'a H,
+    path: &'a str,
+}
+
+impl<H: Files> Text for FileText<'_, H> {
+    type Reader = FromRead<H::File>;
+
+    fn open(&self) -> Option<FromRead<H::File>> {
+        match File::open(self.rt, self.path) {
+            Ok(file) => Some(FromRead::new(file)),
+            Err(_) => None,
+        }
+    }
+}
+
+/// Explains a certificate, at length if the job asks for that.
+pub(crate) fn explain_job<H: AllocGlobal + Files, R: Source + Drop, O: Sink>(
+    rt: &H,
+    job: &Job<'_>,
+    source: R,
+    out: &mut O,
+) -> Result<u8, CommandFault>
+    ensures any { Does Task.Explain (profile_of job.now.profile) job.now.form job.now.is_long
+        (option_map (λ s. s.now) job.now.out) unknown_input (O.output out.old) (O.output out.new)
+        result }
+    ensures known { IfKnown (R.input source)
+        (λ i. Does Task.Explain (profile_of job.now.profile) job.now.form job.now.is_long
+        (option_map (λ s. s.now) job.now.out) (known_by i) (O.output out.old) (O.output out.new)
+        result) }
+{
+    if !job.is_long {
+        return print_explanation(rt.alloc(), job.profile, source, out);
+    }
+    match job.file {
+        Some(path) if is_regular(rt, path) => {
+            print_file_at_length(rt, job.profile, path, source, out)
+        }
+        Some(path) => print_kept_at_length(rt.alloc(), job.profile, path, source, out),
+        None => print_kept_at_length(rt.alloc(), job.profile, "standard input", source, out),
+    }
+}
+
+// Whether a file can be read again: it is no pipe and no device.
+fn is_regular<H: Files>(rt: &H, path: &str) -> bool {
+    match fs::metadata(rt, path) {
+        Ok(found) => found.is_file(),
+        Err(_) => false,
+    }
+}
+
+/// Prints the verdict on a certificate with what there is to show of it, and explains it for
+/// people: its file is read again for that. Answers the exit status, the verdict's.
+fn print_file_at_length<H: AllocGlobal + Files, R: Source + Drop, O: Sink>(
+    rt: &H,
+    profile: Profile,
+    path: &str,
+    source: R,
+    out: &mut O,
+) -> Result<u8, CommandFault>
+    ensures any { PrintsAtLength (profile_of profile) unknown_input (O.output out.old)
+        (O.output out.new) result }
+    ensures known { IfKnown (R.input source)
+        (λ i. PrintsAtLength (profile_of profile) (known_by i) (O.output out.old)
+        (O.output out.new) result) }
+{
+    let (verdict, detail) = explain_in(rt.alloc(), profile, source)?;
+    let text = FileText { rt, path };
+    let page = page_for(rt.alloc(), Some(&text), path, &verdict, &detail);
+    let printed = print_with_page(rt.alloc(), &verdict, &detail, page, out);
+    drop(detail);
+    printed?;
+    Ok(status_of(&verdict))
+}
+
+/// This of a source that can be read only once: its bytes are kept while it is read.
+fn print_kept_at_length<R: Source + Drop, O: Sink>(
+    alloc: Global,
+    profile: Profile,
+    name: &str,
+    source: R,
+    out: &mut O,
+) -> Result<u8, CommandFault>
+    ensures any { PrintsAtLength (profile_of profile) unknown_input (O.output out.old)
+        (O.output out.new) result }
+    ensures known { IfKnown (R.input source)
+        (λ i. PrintsAtLength (profile_of profile) (known_by i) (O.output out.old)
+        (O.output out.new) result) }
+{
+    let mut kept = KeptBytes::new(alloc);
+    let reader = Keeping::new(source, &mut kept);
+    let (verdict, detail) = explain_in(alloc, profile, reader)?;
+    let text = kept.text();
+    let page = page_for(alloc, text.as_ref(), name, &verdict, &detail);
+    let printed = print_with_page(alloc, &verdict, &detail, page, out);
+    drop(detail);
+    printed?;
+    Ok(status_of(&verdict))
+}
+
+// Prints what `explain` prints, and a page behind it.
+fn print_with_page<O: Sink>(
+    alloc: Global,
+    verdict: &Verdict,
+    detail: &Detail,
+    page: Option<Page>,
+    out: &mut O,
+) -> Result<(), CommandFault>
+    ensures { PrintsMore (explained_text verdict.now detail.now) (O.output out.old)
+        (O.output out.new) result }
+{
+    let explanation = Explanation { verdict, detail };
+    let text = explanation.to_string(alloc)?.into_bytes();
+    let text = with_page(text, page);
+    write_bytes(out, text.as_slice())?;
+    Ok(())
+}
+
+// A text with a page behind it, or with none if there is no memory for that.
+fn with_page(mut text: Vec<u8>, page: Option<Page>) -> Vec<u8>
+    ensures { (more : List ℕ) × IsPage more × (result.items ≡ text.items ++ more) }
+{
+    if let Some(page) = page {
+        let _ = text.extend_from_slice(page.as_bytes());
+        drop(page);
+    }
+    text
+}

@@ -1,0 +1,245 @@
+#!/usr/bin/env python3
+"""What `vipr explain --long` says of 47 mistakes that a person makes in the ten small problems of examples/problems.
+
+usage: tests/long.py [PROGRAM]     crates/vipr/out/vipr without it
+
+Each mistake is made in a copy, which is explained from its file and from standard input. The lines of `vipr explain`
+have to come first, byte for byte, with the same exit status; behind them the place at fault, and what to change there. So has each
+of the ten problems as it is: it is verified, and its goal is shown. Then texts that are no certificate, a line of
+binary bytes, names with controls, and long rows. Every byte that is printed behind the first lines is printable ASCII
+or a line feed, and there are 65,536 of them at most.
+
+Prints each fault, and last `long: N checks, F failed`; the exit status is 1 if one failed.
+"""
+import gzip
+import subprocess
+import sys
+import tempfile
+from pathlib import Path
+
+TOP = Path(__file__).resolve().parent.parent
+PROGRAM = Path(sys.argv[1] if len(sys.argv) > 1 else TOP / 'crates/vipr/out/vipr').resolve()
+PROBLEMS = TOP / 'examples/problems'
+MOST_BYTES = 65536
+
+# The problem, what is replaced by what, where the long explanation points, and what it says to change.
+MISTAKES = [
+    # constraint written as terms first, sense word >=
+    ('knapsack', 'a_lo G 0 1 0 1', 'a_lo 0 1 1 >= 0',
+     '.vipr:13:6\n', 'sense and right-hand side are before the coefficients'),
+    # rhs behind the coefficients (cap 3 0 3 1 4 2 2 L 6)
+    ('knapsack', 'cap L 6 3', 'cap 3 0 3 1 4 2 2 L 6 #',
+     '.vipr:12:5\n', 'sense and right-hand side are before the coefficients'),
+    # count of constraints one too small
+    ('knapsack', 'CON 7 6', 'CON 6 6',
+     '.vipr:18:1\n', 'write the count of the section above as large as its number of items'),
+    # count of constraints one too large
+    ('knapsack', 'CON 7 6', 'CON 8 6',
+     '.vipr:19:5\n', 'is the count of this section too large'),
+    # number of bounds forgotten
+    ('knapsack', 'CON 7 6', 'CON 7',
+     '.vipr:12:1\n', '`CON` takes two counts'),
+    # only one bound after range
+    ('knapsack', 'range 20 20', 'range 20',
+     '.vipr:20:1\n', '`range` takes two bounds'),
+    # decimal
+    ('knapsack', '13/4', '3.25',
+     '.vipr:23:26\n', 'write 13/4'),
+    # index and count forgotten: rnd 0 13/4 2 1/4 6 1/2 (count p forgotten)
+    ('knapsack', 'rnd 3 0', 'rnd 0 13/4',
+     '.vipr:23:24\n', 'is its number of entries missing'),
+    # brace glued
+    ('knapsack', '{ rnd', '{rnd',
+     '.vipr:23:16\n', 'put a space behind the brace'),
+    # last reference forgotten at the last line
+    ('knapsack', '} -1', '}',
+     '.vipr:23:43\n', 'write the last reference behind `}`'),
+    # lin where rnd is needed
+    ('knapsack', 'rnd 3 0 13/4 2 1/4 6 1/2', 'lin 3 0 13/4 2 1/4 6 1/2',
+     '.vipr:23:1\n', '`rnd` in place of `lin` rounds the right-hand side to 20'),
+    # constraint indices counted from 1
+    ('knapsack', 'rnd 3 0 13/4 2 1/4 6 1/2', 'rnd 3 1 13/4 3 1/4 7 1/2',
+     '.vipr:23:1\n', 'constraints count from 0: the problem has 7'),
+    # variable indices counted from 1
+    ('knapsack', '3 0 10 1 13 2 7', '3 1 10 2 13 3 7',
+     '.vipr:10:13\n', 'indices count from 0: 3 variables have the indices 0 to 2'),
+    # wrong sense of a dual bound under max
+    ('knapsack', 'bound L 20', 'bound G 20',
+     '.vipr:23:1\n', 'the sense: computed <=, stated >='),
+    # a dense solution vector of n values
+    ('knapsack', 'bc 2 1 1 2 1', 'bc 3 1 1 1',
+     '.vipr:21:10\n', 'not a list of all values'),
+    # solution that breaks cap
+    ('knapsack', 'bc 2 1 1 2 1', 'bc 3 0 1 1 1 2 1',
+     '.vipr:21:1\n', 'a = 1, b = 1, c = 1; the left side is 9, which is not <= 6'),
+    # sign of a multiplier
+    ('knapsack', '2 1/4 6 1/2', '2 -1/4 6 1/2',
+     '.vipr:23:1\n', 'change the sign of this multiplier'),
+    # all multipliers positive, as one writes Farkas with flipped rows
+    ('pigeonhole', '3 -1 4 -1', '3 1 4 1',
+     '.vipr:20:1\n', 'x11 + x21 + x31 <= 1  (line 15) <-- entry 3'),
+    # a variable name too many
+    ('pigeonhole', 'x31 x32\n', 'x31 x32 x33\n',
+     '.vipr:6:9\n', 'write the count of the section above as large as its number of items'),
+    # comment behind VER
+    ('one_machine', 'VER 1.0\n', 'VER 1.0\n% a model\n',
+     '.vipr:3:1\n', 'remove this line'),
+    # forgot to declare y integer
+    ('one_machine', 'INT 1\n2\n', 'INT 0\n',
+     '.vipr:24:1\n', 'y is not an integer variable: write its index 2 in INT'),
+    # uns with assumption before conclusion
+    ('one_machine', 'uns 10 8 11 9', 'uns 8 10 9 11',
+     '.vipr:25:1\n', 'names what follows first, and behind it its assumption'),
+    # uns with the assumptions crossed
+    ('one_machine', 'uns 10 8 11 9', 'uns 10 9 11 8',
+     '(line 25)', '[12] no  0 >= 1  (line 25), rests on the assumptions [8] [9]'),
+    # last reference too early at an assumption
+    ('one_machine', '{ asm } 12\ny1', '{ asm } 9\ny1',
+     '(line 25)', 'goal   [12] no  0 >= 1'),
+    # last reference too early at a conclusion
+    ('one_machine', '8 -10 } 12', '8 -10 } 11',
+     '.vipr:23:41\n', 'write 12 or -1 here'),
+    # a wrong multiplier
+    ('one_machine', '8 -10 }', '8 -9 }',
+     '.vipr:23:1\n', 'y: computed 1, stated 0'),
+    # a wrong datum (the problem is feasible then)
+    ('one_machine', 's2_up L 2', 's2_up L 3',
+     '.vipr:24:1\n', 'right-hand side: computed 0, stated 1, which says 1 too much'),
+    # forgot the bound x3 >= 0 in the sum (hidden x >= 0)
+    ('set_cover', 'leaf1 G 7 OBJ { lin 3 1 4 10 3 5 1 } 13', 'leaf1 G 7 OBJ { lin 2 1 4 10 3 } 13',
+     '.vipr:24:1\n', 'x3: computed 4, stated 5'),
+    # joined wrongly: scaled row under an assumption
+    ('set_cover', 'all G 7 OBJ { uns 11 9 12 10 } -1', 'all G 14 3 0 6 1 8 2 10 { lin 1 12 2 } -1',
+     '(line 24)', '[12] leaf1  3 x1 + 4 x2 + 5 x3 >= 7  (line 24), strong enough, rests on the assumptions [10]'),
+    # a primal bound better than the solution
+    ('set_cover', 'RTP range 7 7', 'RTP range 7 6',
+     '', 'claim 7 as the primal bound behind RTP'),
+    # claims more than proved
+    ('set_cover', 'RTP range 7 7', 'RTP range 8 7',
+     '(line 25)', '[13] all  3 x1 + 4 x2 + 5 x3 >= 7  (line 25), too weak by 1, rests on no assumption'),
+    # count of derivations one too small
+    ('set_cover', 'DER 5', 'DER 4',
+     '.vipr:25:1\n', 'write the count behind `DER` larger'),
+    # word of another tool
+    ('set_cover', 'all G 7 OBJ { uns', 'all G 7 OBJ { unsplit',
+     '.vipr:25:15\n', 'write `uns i1 l1 i2 l2` to join two branches'),
+    # version 1.1
+    ('set_cover', 'VER 1.0', 'VER 1.1',
+     '.vipr:2:5\n', 'write 1.0'),
+    # no VER
+    ('set_cover', 'VER 1.0\n', '',
+     '.vipr:2:1\n', 'begins with the line `VER 1.0`: write it above this line'),
+    # lin weak of version 1.1
+    ('set_cover', 'leaf1 G 7 OBJ { lin 3 1 4 10 3 5 1 }', 'leaf1 G 7 OBJ { lin weak { 0 } 3 1 4 10 3 5 1 }',
+     '.vipr:24:21\n', 'by viprcomp of the VIPR package'),
+    # lin incomplete of version 1.1
+    ('set_cover', 'leaf1 G 7 OBJ { lin 3 1 4 10 3 5 1 }', 'leaf1 G 7 OBJ { lin incomplete 1 10 5 }',
+     '.vipr:24:21\n', 'by viprcomp of the VIPR package'),
+    # a multiplier that leaves fractions
+    ('matching', '2 1/2 }', '2 1/3 }',
+     '.vipr:18:1\n', 'the coefficient 5/6 of e23 is not whole'),
+    # solution forgotten though sol is used (52 comes first)
+    ('cutoff', 'SOL 1\nbest 2 0 1 1 1\n', 'SOL 0\n',
+     '', 'list a solution behind SOL'),
+    # vector with count 1 missing
+    ('cutoff', 'prune G 2 0', 'prune G 1 0 1 0',
+     '.vipr:22:13\n', 'the count of coefficients is too small or missing'),
+    # decimal bounds
+    ('diet', '16/5 16/5', '3.2 3.2',
+     '.vipr:12:11\n', 'write 16/5'),
+    # not lowest terms (fine)
+    ('diet', 'dual G 16/5 OBJ', 'dual G 16/5 2 0 6/10 1 7/10',
+     '(line 16)', 'goal   [4] dual  3/5 bread + 7/10 milk >= 16/5'),
+    # typo in a coefficient
+    ('diet', 'dual G 16/5 OBJ', 'dual G 16/5 2 0 3/5 1 7/1',
+     '.vipr:16:1\n', 'milk: computed 7/10, stated 7'),
+    # last reference too early deep
+    ('two_levels', 'b G 2 OBJ { uns 9 7 10 8 } 12', 'b G 2 OBJ { uns 9 7 10 8 } 11',
+     '.vipr:23:28\n', 'write 12 or -1 here'),
+    # datum weaker: leaf a0 breaks
+    ('two_levels', 'c2 G 1/2', 'c2 G 0',
+     '.vipr:18:1\n', 'right-hand side: computed 0, stated 1, which says 1 too much'),
+    # y not integer
+    ('parity', 'INT 2 0 1', 'INT 1 0',
+     '.vipr:12:1\n', 'y is not an integer variable: write its index 1 in INT'),
+    # script: floor computed as n//2-1
+    ('five_cycle', 'odd0 L 2', 'odd0 L 1',
+     '.vipr:25:1\n', 'right-hand side: computed 2, stated 1, which says 1 too much'),
+]
+
+# Texts that are no certificate, and what is said of them.
+STRANGE = [
+    (b'', 'the text ends where this is wanted: the keyword `VER`'),
+    (gzip.compress(b'VER 1.0'), 'gzip -dc FILE | vipr explain'),
+    (b'\xef\xbb\xbfVER 1.0', 'a byte order mark is before `VER`'),
+    ('VER 1.0'.encode('utf-16'), 'this is UTF-16'),
+    (b'<html>', 'HTML'),
+    (b'\xfd7zXZ\0', 'xz -dc FILE | vipr explain'),
+    # controls and direction marks in a name, and on the line at fault
+    ('VER 1.0 VAR 1 x\u202e\u009b31m INT 0 OBJ min 0 CON 1 0 c G 1 1 0 1 RTP infeas SOL 0 DER 1 a\x1b[31m G 1 0 '
+     '{ lin 1 0 1 } -1'.encode(), 'computed   x\\xe2\\x80\\xae\\xc2\\x9b31m >= 1'),
+    ('VER 1.0 VAR 1 x\u200b\x7f\x07 INT'.encode(), 'VAR 1 x\\xe2\\x80\\x8b\\x7f\\x07 INT'),
+    # a row of many terms, and a sum of many entries
+    (('VER 1.0 VAR 300 ' + ' '.join(f'v{i}' for i in range(300)) + ' INT 0 OBJ min 300 '
+      + ' '.join(f'{i} 1' for i in range(300)) + ' CON 30 0 ' + ' '.join(f'c{i} G 1 OBJ' for i in range(30))
+      + ' RTP infeas SOL 0 DER 1 d G 1 0 { lin 30 ' + ' '.join(f'{i} 1' for i in range(30)) + ' } -1').encode(),
+     '.. (300 terms)'),
+]
+checks = failed = 0
+
+
+def explained(words, data=None):
+    """What the program prints, and its exit status."""
+    run = subprocess.run([PROGRAM, 'explain', *words], input=data, capture_output=True, check=False)
+    return run.stdout, run.returncode
+
+
+def check(holds, what):
+    """Counts a check, and prints what failed."""
+    global checks, failed
+    checks += 1
+    if not holds:
+        failed += 1
+        print(f'FAILED: {what}')
+
+
+def page_of(path, name):
+    """The long part for a file; it is compared with the short one and with that from standard input."""
+    data = path.read_bytes()
+    short, status = explained([path])
+    long, long_status = explained(['--long', path])
+    piped, piped_status = explained(['--long'], data)
+    check(long.startswith(short) and status == long_status, f'{name}: the first lines and the status of explain')
+    check(piped.startswith(short) and status == piped_status, f'{name}: the same from standard input')
+    page = long[len(short):]
+    check(all(byte == 10 or 32 <= byte <= 126 for byte in page), f'{name}: every byte is shown')
+    check(len(page) <= MOST_BYTES, f'{name}: the length')
+    named = page.decode('ascii', 'replace')
+    check(piped[len(short):].decode('ascii', 'replace') == named.replace(str(path), 'standard input'),
+          f'{name}: the same text from standard input')
+    return named
+
+
+def main():
+    with tempfile.TemporaryDirectory() as folder:
+        path = Path(folder) / 'copy.vipr'
+        for problem, old, new, place, change in MISTAKES:
+            name = f'{problem}, {old!r} -> {new!r}'
+            text = (PROBLEMS / f'{problem}.vipr').read_text()
+            check(old in text, f'{name}: the text to be replaced')
+            path.write_text(text.replace(old, new, 1))
+            page = page_of(path, name)
+            check(place in page, f'{name}: the place {place!r}')
+            check(change in page, f'{name}: the change {change!r}')
+        for problem in sorted({row[0] for row in MISTAKES}):
+            page = page_of(PROBLEMS / f'{problem}.vipr', problem)
+            check('proved: ' in page and '  goal   [' in page, f'{problem}: the goal')
+        for data, wanted in STRANGE:
+            path.write_bytes(data)
+            check(wanted in page_of(path, repr(data[:20])), f'{data[:20]!r}: {wanted!r}')
+    print(f'long: {checks} checks, {failed} failed')
+    sys.exit(1 if failed else 0)
+
+
+if __name__ == '__main__':
+    main()
