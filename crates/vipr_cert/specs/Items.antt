@@ -1,7 +1,9 @@
 -- The program's certificates as those of the definitions
-use Rattle.std.specs.Prelude.{ℕ, List, map}
+use Rattle.std.specs.Prelude.{ℕ, List, ◌∷◌, [], None, map}
+use Rattle.std.specs.FinMap.{empty}
+use Rattle.vipr_spec.specs.Fraction.{zero_ℚ}
 use Rattle.vipr_spec.specs.Certificate as is
-use Rattle.vipr_spec.specs.Constraint.{Ints, Row}
+use Rattle.vipr_spec.specs.Constraint.{Ints, Row, equal}
 use Rattle.vipr_linear.specs.Constraint.{constraint_of}
 use Rattle.vipr_linear.specs.declared.constraint.Constraint.{Constraint}
 use Rattle.vipr_linear.specs.declared.row.Solution.{Solution}
@@ -56,6 +58,15 @@ derivation_of d =
       reason = reason_of d.reason;
       last = d.last;
     }
+
+-- the assumption 0 = 0 by the name -
+abbrev pub blank : is.Derivation
+blank = record {
+  name = 45 ∷ [];
+  stated = record { row = empty; sense = equal; bound = zero_ℚ };
+  reason = is.asm;
+  last = None;
+}
 
 -- a certificate of these parts
 abbrev pub certificate_with : is.Problem → List (Named Solution) → List Derivation → is.Certificate

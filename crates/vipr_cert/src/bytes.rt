@@ -1,5 +1,5 @@
 //! The bytes of a name.
-ghost use Rattle.std.specs.Prelude.{◌≡◌, IfOk};
+ghost use Rattle.std.specs.Prelude.{◌≡◌, IfOk, OnOk, OnErr};
 ghost use Rattle.bstr.specs.Owned.{bstring_bytes};
 ghost use Rattle.vipr_cert.specs.Names.{name_bytes};
 
@@ -24,6 +24,31 @@ impl NameBytes {
             return Ok(NameBytes::Short(Short::of(bytes)));
         }
         Ok(NameBytes::Long(BString::from_slice(alloc, bytes)?))
+    }
+
+    /// These bytes in place of those before. If there is no memory, those before stay.
+    #[inline(always)]
+    pub(crate) fn set(&mut self, alloc: Global, bytes: &[u8]) -> Result<(), AllocError>
+        ensures bytes { OnOk result (name_bytes self.new ≡ bytes.now) }
+        ensures kept { OnErr result (self.new ≡ self.old) }
+    {
+        match self {
+            NameBytes::Short(short) if bytes.len() <= MOST_IN_PLACE => {
+                *short = Short::of(bytes);
+                Ok(())
+            }
+            _ => self.set_anew(alloc, bytes),
+        }
+    }
+
+    // The same, for bytes that don't go where those before were.
+    #[inline(never)]
+    fn set_anew(&mut self, alloc: Global, bytes: &[u8]) -> Result<(), AllocError>
+        ensures bytes { OnOk result (name_bytes self.new ≡ bytes.now) }
+        ensures kept { OnErr result (self.new ≡ self.old) }
+    {
+        *self = NameBytes::of(alloc, bytes)?;
+        Ok(())
     }
 
     /// These bytes, in place if there are few.

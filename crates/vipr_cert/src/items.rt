@@ -1,7 +1,11 @@
 //! The parts of certificates.
+ghost use Rattle.std.specs.Prelude.{◌≡◌};
+ghost use Rattle.vipr_cert.specs.Items.{derivation_of, blank};
+
 use crate::name::Name;
+use std::alloc::Global;
 use vipr_frac::Frac;
-use vipr_linear::Constraint;
+use vipr_linear::{Constraint, Row, Sense};
 
 /// Something with its name.
 #[derive(Debug, Drop)]
@@ -51,4 +55,22 @@ pub struct Derivation {
     pub reason: Reason,
     /// The last derivation that refers to it by index, `None` if it is never dropped.
     pub last: Option<u32>,
+}
+
+impl Derivation {
+    /// The assumption 0 = 0 by the name `-`, in whose place others can be read. It takes no memory.
+    pub fn blank(alloc: Global) -> Derivation
+        ensures { derivation_of result ≡ blank }
+    {
+        Derivation {
+            name: Name::blank(),
+            constraint: Constraint {
+                row: Row::of_one(alloc, 0, Frac::zero()),
+                sense: Sense::E,
+                rhs: Frac::zero(),
+            },
+            reason: Reason::Asm,
+            last: None,
+        }
+    }
 }

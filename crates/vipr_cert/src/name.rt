@@ -2,15 +2,18 @@
 //!
 //! A [`Name`] is the bytes of a token: between 1 and 65,535, of which none is white space. They
 //! need not be text. A name of at most 30 bytes takes no memory of its own.
-ghost use Rattle.std.specs.Prelude.{◌≡◌, ◌↔◌, ◌≤◌, IsOk, IfOk, IsTrue, length};
+ghost use Rattle.std.specs.Prelude.{◌≡◌, ◌↔◌, ◌≤◌, ◌∷◌, [], length};
+ghost use Rattle.std.specs.Prelude.{IsOk, IfOk, OnOk, OnErr, IsTrue};
 ghost use Rattle.bstr.specs.Owned.{bstring_bytes};
 ghost use Rattle.vipr_spec.specs.Tokens.{is_white, IsToken};
 
 use crate::bytes::NameBytes;
+use crate::short::Short;
 use bstr::{BStr, BString};
 use std::alloc::{AllocError, Global};
 use std::fmt;
 use std::marker::Model;
+use std::mem::replace;
 
 /// A name, an index or a count is outside the limits of the format.
 #[derive(Clone, Copy, Debug, PartialEq, Eq)]
@@ -79,6 +82,23 @@ impl Name {
         })
     }
 
+    // The name `-`. It takes no memory.
+    pub(crate) fn blank() -> Name
+        ensures { result ≡ 45 ∷ [] }
+    {
+        Name {
+            bytes: NameBytes::Short(Short::of(b"-")),
+        }
+    }
+
+    /// Takes the name out, and leaves the name `-`. It takes no memory.
+    pub fn take(&mut self) -> Name
+        ensures name { result ≡ self.old }
+        ensures blank { self.new ≡ 45 ∷ [] }
+    {
+        replace(self, Name::blank())
+    }
+
     /// A name of these bytes, which are those of a token.
     #[inline(always)]
     pub fn of_token(alloc: Global, bytes: &[u8]) -> Result<Name, AllocError>
@@ -88,6 +108,17 @@ impl Name {
         Ok(Name {
             bytes: NameBytes::of(alloc, bytes)?,
         })
+    }
+
+    /// These bytes, which are those of a token, in place of those before. If there is no memory,
+    /// those before stay.
+    #[inline(always)]
+    pub fn set(&mut self, alloc: Global, bytes: &[u8]) -> Result<(), AllocError>
+        requires { IsToken bytes.now }
+        ensures bytes { OnOk result (self.new ≡ bytes.now) }
+        ensures kept { OnErr result (self.new ≡ self.old) }
+    {
+        self.bytes.set(alloc, bytes)
     }
 
     /// The bytes, which are those of a token.

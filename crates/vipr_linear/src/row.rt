@@ -122,6 +122,27 @@ impl Row {
         }
     }
 
+    /// Makes it the row of one coefficient, or of none if that is 0. It takes no memory.
+    #[inline(always)]
+    pub fn set_one(&mut self, alloc: Global, variable: u32, coefficient: Frac)
+        ensures row { self.new ≡ row_of ((variable, coefficient) ∷ []) }
+        ensures fits { RowFits self.new }
+    {
+        match &mut self.kept {
+            RowEntries::One(entry) if !is_zero(coefficient) => *entry = (variable, coefficient),
+            _ => self.set_one_anew(alloc, variable, coefficient),
+        }
+    }
+
+    // The same, if no entry was there or none is to be.
+    #[inline(never)]
+    fn set_one_anew(&mut self, alloc: Global, variable: u32, coefficient: Frac)
+        ensures row { self.new ≡ row_of ((variable, coefficient) ∷ []) }
+        ensures fits { RowFits self.new }
+    {
+        *self = Row::of_one(alloc, variable, coefficient);
+    }
+
     /// The row of coefficients that are not 0, whose variables rise.
     pub(crate) fn from_rising(entries: Vec<(u32, Frac)>) -> Row
         requires { AreEntries entries.items }

@@ -55,4 +55,18 @@ pub trait TokenKind {
         let _ = bytes;
         None
     }
+
+    /// Puts what the token at the front means in place of another value, and gives its length, if
+    /// it can be read at once. `None` says nothing of the bytes, nor of the value.
+    #[inline(always)]
+    fn set_front(&self, bytes: &[u8], place: &mut Self::Value) -> Option<usize>
+        ensures set_token { IfSome result (λ n. IsInFront bytes.now n) }
+        ensures set_meaning { IfSome result
+            (λ n. meaning self.now (take n bytes.now) ≡ Ok (view place.new)) }
+        ensures set_bounds { IfSome result (λ _. bounds self.now place.new) }
+    {
+        let (value, len) = self.read_front(bytes)?;
+        *place = value;
+        Some(len)
+    }
 }

@@ -54,6 +54,26 @@ impl<R: Source> Scanner<R> {
         self.take_slowly(kind)
     }
 
+    /// The next token, which is of this kind, in place of another value.
+    #[inline(always)]
+    pub fn take_into<K: TokenKind>(
+        &mut self,
+        kind: &K,
+        place: &mut K::Value,
+    ) -> Result<(), ScanError>
+        ensures read { Scans (λ _. K.view place.new) (token_of (K.meaning kind.now))
+            self.old self.new result }
+        ensures bounds { OnOk result (K.bounds kind.now place.new) }
+    {
+        let (gap, bytes) = self.window.at_hand();
+        if let Some(len) = kind.set_front(bytes, place) {
+            self.window.pass(gap, len);
+            return Ok(());
+        }
+        *place = self.take_whole(kind)?;
+        Ok(())
+    }
+
     // What is between `take` and `take_whole` keeps the place for the result of the one off
     // the way of the other.
     #[inline(always)]
