@@ -13,7 +13,7 @@ ghost use Rattle.vipr_spec.specs.Shape.{DerivationFits};
 ghost use Rattle.vipr_cert.specs.Items.{solution_of, derivation_of};
 ghost use Rattle.vipr_scan.specs.Giving.{rest_of};
 ghost use Rattle.vipr_read.specs.Items.{Items, Knows, Remembers, HasNone, HasEnded, Moves};
-ghost use Rattle.vipr_read.specs.Items.{NextItem, GivesFrom};
+ghost use Rattle.vipr_read.specs.Items.{NextItem, GivesFrom, item_in};
 ghost use Rattle.vipr_read.specs.Limits.{CanWriteRow};
 
 use crate::item::{Derived, ItemKind, Listed};
@@ -78,6 +78,41 @@ impl<R: Source> ItemReader<R> {
             Ok(next) => {
                 self.left -= 1;
                 Ok(Some(next))
+            }
+            Err(stop) => {
+                self.failed = true;
+                Err(TextError::from(stop))
+            }
+        }
+    }
+}
+
+impl<R: Source> ItemReader<R> {
+    /// Reads the next derivation in place of another one, or answers `false` if none is to come;
+    /// nothing is read then.
+    #[inline(always)]
+    fn next_into(&mut self, alloc: Global, step: &mut Derivation) -> Result<bool, TextError>
+        ensures spent { IsErrOf result TextError.Spent ↔ (self.old.failed ≡ true) }
+        ensures moves { Moves HasNone self.old self.new (item_in step.new result) }
+        ensures item { IfOk (item_in step.new result) (λ o. IfSome o
+            (λ d. DerivationShape self.old.variables (derivation_of d)
+            × DerivationFits (derivation_of d))) }
+        ensures read { (p : ProblemMeant) → Knows self.old p
+            → NextItem derivation_of (derivation_read p) (λ _. Ok tt) self.old self.new
+            (item_in step.new result) }
+        ensures kept { result ≡ Ok false → step.new ≡ step.old }
+    {
+        let (spent, left) = (self.failed, self.left);
+        if spent {
+            return Err(TextError::Spent);
+        }
+        if left == 0 {
+            return Ok(false);
+        }
+        match self.parser.derivation_into(alloc, &self.objective, step) {
+            Ok(()) => {
+                self.left = left - 1;
+                Ok(true)
             }
             Err(stop) => {
                 self.failed = true;
@@ -213,6 +248,37 @@ impl<R: Source> Derivations<R> {
     {
         let items = &self.items;
         items.left
+    }
+
+    /// Reads the next derivation in place of `step`, whose room is used again. `false` if all were
+    /// read and only white space followed; `step` stays as it was then. After an error it may be
+    /// any derivation.
+    ///
+    /// # Errors
+    ///
+    /// Those of `next`.
+    pub fn next_into(&mut self, alloc: Global, step: &mut Derivation) -> Result<bool, TextError>
+        ensures spent { IsErrOf result TextError.Spent ↔ (self.old.failed ≡ true) }
+        ensures moves { Moves HasEnded self.old self.new (item_in step.new result) }
+        ensures shape { IfOk (item_in step.new result) (λ o.
+            IfSome o (λ d. DerivationShape self.old.variables (derivation_of d))) }
+        ensures fits { IfOk (item_in step.new result) (λ o.
+            IfSome o (λ d. DerivationFits (derivation_of d))) }
+        ensures read { (p : ProblemMeant) → Knows self.old p
+            → NextItem derivation_of (derivation_read p) end_read self.old self.new
+            (item_in step.new result) }
+        ensures kept { result ≡ Ok false → step.new ≡ step.old }
+    {
+        match self.items.next_into(alloc, step) {
+            Ok(false) => match self.items.parser.end() {
+                Ok(()) => Ok(false),
+                Err(stop) => {
+                    self.items.failed = true;
+                    Err(TextError::from(stop))
+                }
+            },
+            next => next,
+        }
     }
 
     /// The next derivation, or `None` if all were read and only white space followed.

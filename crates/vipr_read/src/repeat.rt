@@ -1,5 +1,5 @@
 //! Parts of a certificate, so many in a row.
-ghost use Rattle.std.specs.Prelude.{◌≡◌, ◌++◌, ◌∷◌, [], ℕ, ⊤, map, length, All, IfOk};
+ghost use Rattle.std.specs.Prelude.{◌≡◌, ◌++◌, ◌∷◌, [], ℕ, ⊤, map, length, All, IfOk, OnOk};
 ghost use Rattle.std.specs.Prelude.{is_ok, if◌then◌else◌};
 ghost use Rattle.vipr_spec.specs.Reading.{Rest, Read, token_of, read_each};
 ghost use Rattle.vipr_read.specs.Parsing.{Parses};
@@ -106,9 +106,28 @@ pub(crate) fn many<R: Source, P: Part>(
     ensures shape { IfOk result (λ v. All (P.shape part.now parser.old.variables) v.items) }
 {
     let mut parts = Vec::new(alloc);
+    many_into(parser, alloc, part, count, &mut parts)?;
+    Ok(parts)
+}
+
+/// So many parts in a row, put into an empty list.
+#[inline(always)]
+pub(crate) fn many_into<R: Source, P: Part>(
+    parser: &mut Parser<R>,
+    alloc: Global,
+    part: &P,
+    count: u32,
+    parts: &mut Vec<P::Value>,
+) -> Result<(), ScanError>
+    requires { parts.old.items ≡ [] }
+    ensures read { Parses (λ _. map P.view parts.new.items)
+        (read_each (P.reading part.now parser.old.variables) count) parser.old parser.new result }
+    ensures count { OnOk result (length parts.new.items ≡ count) }
+    ensures shape { OnOk result (All (P.shape part.now parser.old.variables) parts.new.items) }
+{
     for _ in 0..count {
         let next = part.parse(parser, alloc)?;
-        push_among(alloc, &mut parts, next, count)?;
+        push_among(alloc, parts, next, count)?;
     }
-    Ok(parts)
+    Ok(())
 }

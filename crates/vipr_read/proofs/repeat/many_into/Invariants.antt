@@ -4,7 +4,7 @@ use Rattle.std.specs.List.{All}
 use Rattle.vipr_spec.specs.Reading.{read_each}
 use Rattle.vipr_scan.specs.Giving.{rest_of}
 use Rattle.vipr_read.specs.Parsing.{with_front}
-use Rattle.vipr_read.proofs.repeat.many.Given as goal
+use Rattle.vipr_read.proofs.repeat.many_into.Given as goal
 
 abbrev pub invariant-loop : goal.invariant-loop
 invariant-loop g l = record {
