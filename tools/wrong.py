@@ -9,8 +9,9 @@ than everything else together. Each is checked on a copy, over what the crate's 
 nothing if it is still proved then. Crates are tried side by side, as many as memory allows.
 
 Without words all are tried, and the day, the commit and the result are written into docs/PROOF.md. --sample tries N
-that follow one another in the list of all, from a place that the commit chooses (outside of a git checkout the text of
-the crates does), so that each run names other ones. It takes over what `rt ci` proved, if nothing changed since.
+that follow one another in one crate; crates that have fewer count as one. The commit chooses them (outside of a git
+checkout the text of the crates does), so that each run names other ones. It takes over what `rt ci` proved, if nothing
+changed since.
 
 Prints what each came to, and last `N refused, M not`; the exit status is 1 if one isn't refused, or if a crate
 isn't proved without an edit.
@@ -24,6 +25,7 @@ import subprocess
 import sys
 import tempfile
 from concurrent.futures import ThreadPoolExecutor
+from itertools import groupby
 from pathlib import Path
 
 TOP = Path(__file__).resolve().parent.parent
@@ -55,13 +57,20 @@ def text_sum():
 
 
 def sample(paths, count):
-    """That many edits in a row; the tens (for a count of 10) begin at fixed places, so that they cover the list."""
+    """That many edits in a row of one crate, so that one crate alone is proved once more. The parts cover the list."""
+    lists, few = [], []
+    for _, there in groupby(paths, key=lambda path: path.parent):
+        there = list(there)
+        if len(there) < count:
+            few += there
+        else:
+            lists.append(there)
+    parts = [there[max(0, min(at, len(there) - count)):][:count] for there in lists + [few] for at in range(0, len(there), count)]
     commit = git('rev-parse', 'HEAD')
-    parts = max(1, -(-len(paths) // count))
-    part = int(commit or text_sum(), 16) % parts
+    part = int(commit or text_sum(), 16) % len(parts)
     by = f'by the commit {commit[:7]}' if commit else 'by the text of the crates'
-    print(f'part {part + 1} of {parts} of the {len(paths)} wrong versions, chosen {by}', flush=True)
-    return (paths + paths)[part * count:part * count + min(count, len(paths))]
+    print(f'part {part + 1} of {len(parts)} of the {len(paths)} wrong versions, chosen {by}', flush=True)
+    return parts[part]
 
 
 def copied(room):
