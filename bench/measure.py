@@ -8,11 +8,12 @@ Each round runs every program once on every family: `check`, `show` and `tighten
 `cat` on the same file, and what --against names, whose words get the file's path behind them. Of the rounds the least
 processor time counts, and the greatest peak of memory. Prints MB/s, and memory in MB. --svg draws the throughput of
 `check` by family. --growth measures texts of 1, 2 and 4 times the size: how time and memory grow. --hostile takes the
-families that are made to cost more than their length. --page measures all of it and writes docs/BENCHMARKS.md with its
-picture.
+families that are made to cost more than their length. --page measures all of it, and bench/gmp_check.cpp beside it, for
+which it needs g++ and GMP with its header gmpxx.h, and writes docs/BENCHMARKS.md with its picture.
 """
 import argparse
 import datetime
+import math
 import os
 import re
 import shutil
@@ -102,6 +103,20 @@ def growth(check, runs, size, which):
             yield f'| {name} | ' + ' | '.join(f'{a:.1f}, {b:.1f}' for a, b in ratios) + ' |'
 
 
+def beside(paths, found):
+    """Rows of a table that sets gmp_check beside `check`, and the geometric means of its last two columns."""
+    rows = ['| family | check: MB/s, MB | gmp_check: MB/s, MB | time | memory |', '|---|---|---|---|---|']
+    ratios = []
+    for path in paths:
+        size = path.stat().st_size / 1e6
+        (ours, our_peak), (theirs, their_peak) = found['check', path], found['gmp_check', path]
+        ratios.append((theirs / max(ours, 0.001), their_peak / our_peak))
+        rows.append(f'| {path.stem} | {size / max(ours, 0.001):.0f}, {our_peak:.1f} | {size / max(theirs, 0.001):.0f}, '
+                    f'{their_peak:.1f} | {ratios[-1][0]:.1f} | {ratios[-1][1]:.1f} |')
+    times, memories = (math.prod(column) ** (1 / len(ratios)) for column in zip(*ratios))
+    return '\n'.join(rows), times, memories
+
+
 def machine():
     """The processor and the system, in a few words."""
     found = re.search(r'^model name\s*:\s*(.*)$', Path('/proc/cpuinfo').read_text(encoding='utf-8'), re.M)
@@ -133,32 +148,40 @@ The same for families that are made to cost more than their length ([SECURITY.md
 
 {hostile}
 
-## Beside other checkers
+## Beside another checker
 
-These figures are older than the tables above, and no script measures them: they were taken once, outside of the tests, over twelve certificates of ten families. None of the other checkers is part of this repository. The machine had other users, so the figure of one family says little. Each figure is a geometric mean over the certificates, of the least of 9 or 16 interleaved runs.
+`bench/gmp_check.cpp` is a checker as one writes it with the tools at hand: C++, tokens by a stream, GMP's rationals, rows that constraints share. Nothing of it is proved, and its numbers have no bound. It was measured in the same rounds, and accepts the same files. Anyone can build it:
 
-| Checker | Compared with | Time | Memory |
-|---|---|---|---|
-| in C++, over GMP rationals | `vipr check` | 11 times | 7 times |
-| `vipr check` | in plain Rust, unproved, written for speed | 1.51 times, at most 1.95 (`wide`) | 1.13 times, at most 2.4 (`wide`) |
-| the one in plain Rust with the public types of this library | the same without them | 1.29 times | 1.30 times |
+```sh
+g++ -std=c++17 -O2 bench/gmp_check.cpp -o gmp_check -lgmpxx -lgmp
+./gmp_check examples/branch_and_bound.vipr
+```
 
-The checker in plain Rust keeps numbers of up to 64 bits in entries of 16 bytes, reads each derivation into the same buffers, and keeps no name. The last row shows [what the public types cost](DECISIONS.md#choices-of-the-design): entries of 36 bytes, a derivation that owns its name, row and reason, and names that are kept.
+The last two columns say how many times the processor time and the memory of `vipr check` it takes.
+
+{beside}
+
+On average, by the geometric mean, it takes {times:.1f} times the time and {memories:.1f} times the memory.
 """
 
 
 def page(given, programs):
     """Measures all of it, and writes the page and its picture."""
-    with tempfile.TemporaryDirectory() as folder:
+    with tempfile.TemporaryDirectory() as folder, tempfile.TemporaryDirectory() as built:
+        other = f'{built}/gmp_check'
+        subprocess.run(['g++', '-std=c++17', '-O2', str(TOP / 'bench/gmp_check.cpp'), '-o', other, '-lgmpxx', '-lgmp'],
+                       check=True)
         families.make(folder, given.bytes)
         paths = sorted(Path(folder).iterdir())
-        found = measured(programs, paths, given.runs)
+        found = measured(programs | {'gmp_check': [other]}, paths, given.runs)
         picture(paths, found, TOP / 'docs/benchmarks.svg')
         throughput = '\n'.join(table(programs, paths, found))
+        others, times, memories = beside(paths, found)
     check, small, least = [given.program, 'check'], given.bytes // 4, given.bytes // 16
     (TOP / 'docs/BENCHMARKS.md').write_text(PAGE.format(
         date=datetime.date.today(), machine=machine(), size=f'{given.bytes / 1e6:g}', runs=given.runs,
         small=f'{small / 1e6:g}', least=f'{least / 1e6:g}', table=throughput,
+        beside=others, times=times, memories=memories,
         growth='\n'.join(growth(check, given.runs, small, families.FAMILIES)),
         hostile='\n'.join(growth(check, given.runs, least, families.HOSTILE))), encoding='utf-8')
 

@@ -4,7 +4,7 @@
 usage: tests/commands.py
 
 A folder is made as a reader has it: the name URL is this repository, and the home folder is empty. There the blocks of
-README.md, docs/USE.md, docs/LIBRARY.md and CONTRIBUTING.md are run in this order, those of README.md from where a reader
+README.md, docs/USE.md, docs/LIBRARY.md, docs/BENCHMARKS.md and CONTRIBUTING.md are run in this order, those of README.md from where a reader
 begins, the others at the top of the clone that README's first command made. What was proved and built here stands in the
 clone, so that nothing is proved twice. What the pages speak of is there: a folder `certificates` with the examples,
 `certificate.vipr`, `files.txt`, and `check.sh`, which is the page's own. Left out are
@@ -27,7 +27,7 @@ from pathlib import Path
 import proved
 
 TOP = Path(__file__).resolve().parent.parent
-PAGES = ['README.md', 'docs/USE.md', 'docs/LIBRARY.md', 'CONTRIBUTING.md']
+PAGES = ['README.md', 'docs/USE.md', 'docs/LIBRARY.md', 'docs/BENCHMARKS.md', 'CONTRIBUTING.md']
 BLOCK = re.compile(r'^```([^\n]*)\n(.*?)^```', re.M | re.S)
 # what the test command runs by itself
 RUNNING = re.compile(r'make test|make house|python3 tests/\w+\.py')
@@ -111,6 +111,12 @@ class Reader:
         (self.clone / 'check.sh').write_text(script)
 
 
+def has_gmp():
+    """Whether g++ is installed, and finds GMP's header."""
+    words = ['g++', '-fsyntax-only', '-include', 'gmpxx.h', '-x', 'c++', os.devnull]
+    return bool(shutil.which('g++')) and subprocess.run(words, capture_output=True, check=False).returncode == 0
+
+
 def runnable(block):
     """The commands of a block that are run here."""
     rows = []
@@ -118,6 +124,8 @@ def runnable(block):
         if not row.strip() or RUNNING.fullmatch(row.strip()):
             continue
         lacking = [it for it in WANTED if re.search(rf'(^|[|&;] *){it}\b', row) and not shutil.which(it)]
+        if 'gmp_check' in row and not has_gmp():
+            lacking.append('g++ with GMP')
         left_out.update(lacking)
         if not lacking:
             rows.append(row)
@@ -148,6 +156,10 @@ def look_at(reader, rows, said):
         check('FAILED' not in said, f'rt test prints {said[-600:]!r}')
     if 'pv ' in words:
         check('verified infeas' in said, f'pv certificate.vipr | vipr check prints {said!r}')
+    if 'gmp_check' in words:
+        for file in sorted((reader.clone / 'certificates').glob('**/*.vipr')):
+            other = subprocess.run([reader.clone / 'gmp_check', file], capture_output=True, check=False).returncode
+            check(str(other) == status_of(reader, file), f'gmp_check {file.name}: status {other}')
     if 'parallel ' in words:
         rows = [row.split('\t') for row in (reader.clone / 'statuses.tsv').read_text().split('\n')[1:] if row]
         files = sorted((reader.clone / 'certificates').glob('*.vipr'))

@@ -41,7 +41,8 @@ PAGES = ['README.md', 'CONTRIBUTING.md', 'CHANGELOG.md', 'docs/FORMAT.md', 'docs
          'docs/PROOF.md', 'docs/SECURITY.md', 'docs/BENCHMARKS.md', 'docs/ARCHITECTURE.md', 'docs/DECISIONS.md', 'docs/WHY.md', 'docs/GLOSSARY.md',
          'examples/README.md']
 # what may stand in a block that isn't run
-KNOWN = {'git', 'cd', 'make', 'man', 'vipr', 'rt', 'python3', 'source', 'parallel', 'sbatch', 'export', 'sudo', 'pv', 'cc', './check'}
+KNOWN = {'git', 'cd', 'make', 'man', 'vipr', 'rt', 'python3', 'source', 'parallel', 'sbatch', 'export', 'sudo', 'pv', 'cc', './check', 'g++',
+         './gmp_check'}
 # public calls whose documentation shows an example
 DOCUMENTED = ['check', 'explain', 'read_certificate', 'tighten', 'write_certificate']
 COMMENT = re.compile(r'(?:^ *//[/!][^\n]*\n)+', re.M)
