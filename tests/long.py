@@ -7,11 +7,12 @@ Each mistake is made in a copy, which is explained from its file and from standa
 have to come first, byte for byte, with the same exit status; behind them the place at fault, and what to change there. So has each
 of the ten problems as it is: it is verified, and its goal is shown. Then texts that are no certificate, a line of
 binary bytes, names with controls, and long rows. Every byte that is printed behind the first lines is printable ASCII
-or a line feed, and there are 65,536 of them at most.
+or a line feed, and there are 65,536 of them at most. A file that can't be read has the answer of `vipr explain`.
 
 Prints each fault, and last `long: N checks, F failed`; the exit status is 1 if one failed.
 """
 import gzip
+import os
 import subprocess
 import sys
 import tempfile
@@ -220,9 +221,24 @@ def page_of(path, name):
     return named
 
 
+def unread(path):
+    """A file that can't be read: `fault read` is all that is printed, as without --long."""
+    short, long = (subprocess.run([PROGRAM, 'explain', *words, path], capture_output=True, check=False)
+                   for words in ([], ['--long']))
+    answers = [(run.stdout, run.stderr, run.returncode) for run in (short, long)]
+    check(answers[0] == (b'', b'fault read\n', 3), f'{path!r}, which can not be read: {answers[0]}')
+    check(answers[1] == answers[0], f'{path!r}, which can not be read, with --long: {answers[1]}')
+
+
 def main():
     with tempfile.TemporaryDirectory() as folder:
         path = Path(folder) / 'copy.vipr'
+        path.write_bytes(b'')
+        path.chmod(0)
+        locked = [path] if not os.access(path, os.R_OK) else []
+        for name in [Path(folder) / 'missing.vipr', folder, '', *locked]:
+            unread(name)
+        path.unlink()
         for problem, old, new, place, change in MISTAKES:
             name = f'{problem}, {old!r} -> {new!r}'
             text = (PROBLEMS / f'{problem}.vipr').read_text()
