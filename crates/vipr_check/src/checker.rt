@@ -240,11 +240,29 @@ impl<S: Rows> Checker<S> {
         ensures next { (c : Certificate) → self.old.halt ≡ None → HasSteps c self.old.progress
             → TakesStep c (derivation_of step) self.old self.new result }
     {
+        let mut step = step;
+        self.take_from(alloc, &mut step)
+    }
+
+    /// Checks the next derivation and takes its constraint, or its name if it is refused. Another
+    /// one can be read in the place of `step` then.
+    pub(crate) fn take_from(&mut self, alloc: Global, step: &mut Derivation) -> Result<(), Stop>
+        requires phase { self.old.in_solutions ≡ false }
+        requires room { self.old.progress.rows.next + 1 < 2 ^ 32 }
+        requires names { NamesBelow (variables self.old.progress.problem)
+            (at step.old.constraint.row) }
+        ensures again { Repeats self.old self.new result }
+        ensures next { (c : Certificate) → self.old.halt ≡ None → HasSteps c self.old.progress
+            → TakesStep c (derivation_of step.old) self.old self.new result }
+    {
         self.go_on()?;
         let index = self.progress.next();
-        match self.progress.take(alloc, step) {
+        match self.progress.take_from(alloc, step) {
             Ok(()) => Ok(()),
-            Err((name, error)) => Err(stop_at_step(&mut self.halt, index, name, error)),
+            Err(error) => {
+                let name = step.name.take();
+                Err(stop_at_step(&mut self.halt, index, name, error))
+            }
         }
     }
 

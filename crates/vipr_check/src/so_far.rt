@@ -339,37 +339,12 @@ impl<S: Rows> Progress<S> {
         self.keep(entry)
     }
 
-    /// Checks the next derivation, and takes its constraint if it passes. Else its name comes back
-    /// with the error.
-    pub(crate) fn take(&mut self, alloc: Global, step: Derivation) -> Result<(), (Name, RuleError)>
-        requires room { self.old.rows.next + 1 < 2 ^ 32 }
-        requires names { NamesBelow (variables self.old.problem) (at step.constraint.row) }
-        ensures next { (c : Certificate) → HasSteps c self.old
-            → MatchResult result (λ _. PassesTestsIn self.old.profile c (derivation_of step)
-            (step_tests (derivation_of step).reason)
-            × HasSteps (with_next c (derivation_of step)) self.new)
-            (λ e. (e.1 ≡ Memory)
-            ⊎ StopsIn self.old.profile c (derivation_of step)
-            (step_tests (derivation_of step).reason) e.1) }
-        ensures ok { OnOk result (self.new ≡ record
-            self.old { rows = self.new.rows; peak = self.new.peak; goal = self.new.goal }) }
-        ensures named { IfErr result (λ e. e.0 ≡ step.name) }
-        ensures peak { OnOk result (held_in self.new.rows ≤ self.new.peak) }
-        ensures err { IfErr result (λ e. (self.new ≡ self.old) ⊎ ((e.1 ≡ Memory)
-            × (self.new ≡ record self.old { rows = advance_table self.old.rows }))) }
-    {
-        let mut step = step;
-        match self.take_from(alloc, &mut step) {
-            Ok(()) => Ok(()),
-            Err(error) => {
-                let Derivation { name, .. } = step;
-                Err((name, error))
-            }
-        }
-    }
-
-    // Checks the next derivation, and takes its constraint if it passes.
-    fn take_from(&mut self, alloc: Global, step: &mut Derivation) -> Result<(), RuleError>
+    /// Checks the next derivation, and takes its constraint if it passes.
+    pub(crate) fn take_from(
+        &mut self,
+        alloc: Global,
+        step: &mut Derivation,
+    ) -> Result<(), RuleError>
         requires room { self.old.rows.next + 1 < 2 ^ 32 }
         requires names { NamesBelow (variables self.old.problem) (at step.old.constraint.row) }
         ensures next { (c : Certificate) → HasSteps c self.old

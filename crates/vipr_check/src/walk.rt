@@ -23,7 +23,7 @@ use crate::halt::Stop;
 use crate::verdict::{Fault, Place, Refusal, Report, Verdict};
 use std::alloc::Global;
 use vipr_bytes::Source;
-use vipr_cert::Problem;
+use vipr_cert::{Derivation, Problem};
 use vipr_read::{CertReader, Derivations, Solutions};
 use vipr_rules::{Profile, Rows};
 use vipr_scan::TextError;
@@ -170,8 +170,9 @@ fn after_steps<R: Source + Drop, S: Rows>(
     ensures any { (P : ProfileMeant) (c : Certificate) → IsAt P c checker.old derivations
         → IfVerified result (IsOfProof P) }
 {
+    let mut step = Derivation::blank(alloc);
     'steps: loop {
-        match next_step(alloc, checker, &mut derivations) {
+        match next_step(alloc, checker, &mut derivations, &mut step) {
             Some(verdict) => {
                 drop(derivations);
                 return verdict;
@@ -187,6 +188,7 @@ fn next_step<R: Source, S: Rows>(
     alloc: Global,
     checker: &mut Checker<S>,
     derivations: &mut Derivations<R>,
+    step: &mut Derivation,
 ) -> Option<Result<Verdict, Fault>>
     requires { (P : ProfileMeant) × (c : Certificate) × IsAt P c checker.old derivations.old }
     ensures fewer { IfNone result (derivations.old.left ≡ suc derivations.new.left) }
@@ -195,9 +197,9 @@ fn next_step<R: Source, S: Rows>(
     ensures any { (P : ProfileMeant) (c : Certificate) → IsAt P c checker.old derivations.old
         → IfSome result (λ verdict. IfVerified verdict (IsOfProof P)) }
 {
-    match derivations.next(alloc) {
-        Ok(Some(step)) => after_item(checker.take(alloc, step)),
-        Ok(None) => Some(after_end(checker.finish())),
+    match derivations.next_into(alloc, step) {
+        Ok(true) => after_item(checker.take_from(alloc, step)),
+        Ok(false) => Some(after_end(checker.finish())),
         Err(error) => Some(verdict_of_text_error(error)),
     }
 }

@@ -13,23 +13,23 @@ use Rattle.vipr_check.specs.View.{IfVerified, IsOfProof}
 use Rattle.vipr_check.proofs.Verifying.{step_unverified, end_is_verified, text_unverified}
 use Rattle.vipr_check.proofs.walk.next_step.Goals as goal
 
-pub take-requires-clause-phase : goal.take-requires-clause-phase
-take-requires-clause-phase g c = c.requires.2.phase
+pub take_from-requires-clause-phase : goal.take_from-requires-clause-phase
+take_from-requires-clause-phase g c = c.requires.2.phase
 
-pub take-requires-clause-room : goal.take-requires-clause-room
-take-requires-clause-room g c =
-    let h = rw c.in-Ok-Some.field-0-is at c.in-Ok-Some.ensures in
-    room_for c.requires.0 c.requires.1 c.args.checker.now c.args.derivations.now c.next.new.self.left c.requires.2 h.moves.counted
+pub take_from-requires-clause-room : goal.take_from-requires-clause-room
+take_from-requires-clause-room g c =
+    let h = rw c.in-Ok-true.field-0-test at c.in-Ok-true.ensures in
+    room_for c.requires.0 c.requires.1 c.args.checker.now c.args.derivations.now c.next_into.new.self.left c.requires.2 h.moves.counted
 
-pub take-requires-clause-names : goal.take-requires-clause-names
-take-requires-clause-names g c =
-    let h = rw c.in-Ok-Some.field-0-is at c.in-Ok-Some.ensures in
-    names_for c.requires.0 c.requires.1 c.args.checker.now c.args.derivations.now (at c.in-Ok-Some.step.constraint.row) c.requires.2 h.shape.row
+pub take_from-requires-clause-names : goal.take_from-requires-clause-names
+take_from-requires-clause-names g c =
+    let h = rw c.in-Ok-true.field-0-test at c.in-Ok-true.ensures in
+    names_for c.requires.0 c.requires.1 c.args.checker.now c.args.derivations.now (at c.next_into.new.step.constraint.row) c.requires.2 h.shape.row
 
 pub after_item-requires : goal.after_item-requires
 after_item-requires g c =
     let is = c.requires.2 in
-    step_unspent c.requires.1 (derivation_of c.in-Ok-Some.step) c.args.checker.now c.take.new.self c.take.result (c.take.ensures.next c.requires.1 is.runs is.has)
+    step_unspent c.requires.1 (derivation_of c.next_into.new.step) c.args.checker.now c.take_from.new.self c.take_from.result (c.take_from.ensures.next c.requires.1 is.runs is.has)
 
 pub finish-requires : goal.finish-requires
 finish-requires g c = c.requires.2.phase
@@ -39,19 +39,19 @@ after_end-requires g c =
     let is = c.requires.2 in
     finish_unspent c.requires.1 c.args.checker.now c.finish.new.self c.finish.result (c.finish.ensures.next c.requires.1 is.runs is.has)
 
-pub returns-in-Ok-Some-clause-step : goal.returns-in-Ok-Some-clause-step
-returns-in-Ok-Some-clause-step g c = λ P s is.
-    let h = rw c.in-Ok-Some.field-0-is at c.in-Ok-Some.ensures in
+pub returns-in-Ok-true-clause-step : goal.returns-in-Ok-true-clause-step
+returns-in-Ok-true-clause-step g c = λ P s is.
+    let h = rw c.in-Ok-true.field-0-test at c.in-Ok-true.ensures in
     let k = c.args.checker.now in
     let old = c.args.derivations.now in
-    let new = c.next.new.self in
-    let d = derivation_of c.in-Ok-Some.step in
-    subst (Goes P s old c.take.new.self new) (sym c.after_item.ensures)
-    (goes_on P s k c.take.new.self old new d is h.shape.reason h.moves.counted h.moves.remembers h.moves.working (λ known. (let r = h.read s.problem is.knows known in (r.1, r.2))) c.take.result (c.take.ensures.next s is.runs is.has))
+    let new = c.next_into.new.self in
+    let d = derivation_of c.next_into.new.step in
+    subst (Goes P s old c.take_from.new.self new) (sym c.after_item.ensures)
+    (goes_on P s k c.take_from.new.self old new d is h.shape.reason h.moves.counted h.moves.remembers h.moves.working (λ known. (let r = h.read s.problem is.knows known in (r.1, r.2))) c.take_from.result (c.take_from.ensures.next s is.runs is.has))
 
-pub returns-in-Ok-None-clause-step : goal.returns-in-Ok-None-clause-step
-returns-in-Ok-None-clause-step g c = λ P s is known.
-    let h = rw c.in-Ok-None.field-0-is at c.in-Ok-None.ensures in
+pub returns-in-Ok-false-clause-step : goal.returns-in-Ok-false-clause-step
+returns-in-Ok-false-clause-step g c = λ P s is known.
+    let h = rw c.in-Ok-false.field-0-test at c.in-Ok-false.ensures in
     let r = h.read s.problem is.knows known in
     let left = (rest_of c.args.derivations.now.rest) in
     let l = c.finish.new.self in
@@ -64,11 +64,11 @@ returns-in-Err-clause-step g c = λ P s is known.
     let shown = state_shown c.args.checker.now in
     subst (SaysWith (Explained P (derivations_from s old.left (rest_of old.rest))) shown) (sym c.verdict_of_text_error.ensures) (derivations_failed P s old.left (rest_of old.rest) shown c.in-Err.error (unshown c.args.checker.now is.runs) (c.in-Err.ensures.read s.problem is.knows known))
 
-pub returns-in-Ok-Some-clause-any : goal.returns-in-Ok-Some-clause-any
-returns-in-Ok-Some-clause-any g c = λ P s is. subst (λ o. IfSome o (λ v. IfVerified v (IsOfProof P))) (sym c.after_item.ensures) (step_unverified (IsOfProof P) c.take.result)
+pub returns-in-Ok-true-clause-any : goal.returns-in-Ok-true-clause-any
+returns-in-Ok-true-clause-any g c = λ P s is. subst (λ o. IfSome o (λ v. IfVerified v (IsOfProof P))) (sym c.after_item.ensures) (step_unverified (IsOfProof P) c.take_from.result)
 
-pub returns-in-Ok-None-clause-any : goal.returns-in-Ok-None-clause-any
-returns-in-Ok-None-clause-any g c = λ P s is.
+pub returns-in-Ok-false-clause-any : goal.returns-in-Ok-false-clause-any
+returns-in-Ok-false-clause-any g c = λ P s is.
     subst (λ v. IfVerified v (IsOfProof P)) (sym c.after_end.ensures)
     (end_is_verified P s c.args.checker.now c.finish.new.self c.finish.result is.profile (c.finish.ensures.next s is.runs is.has))
 
