@@ -101,14 +101,18 @@ pub on_err : {A E : Type 0} (r : Result A E) (P : Type 0) → P → OnErr r P
 on_err (Ok x) P p = tt
 on_err (Err e) P p = p
 
+-- bytes in front are where they were
+pub in_front : (old new : List ℕ) (k : ℕ) → take (length old) new ≡ old → k < length old → get_or new k 0 ≡ get_or old k 0
+in_front old new k front within = sym (get_or-take (length old) new k 0 within) ∙ ap (λ (xs : List ℕ). get_or xs k 0) front
+
 -- what is told of the input decides what is left
-pub input_keeps : (p : Position) (o : ℕ) (un un' : List ℕ) (source source' : Option Input) →
+pub input_keeps : (p : Position) (o o' : ℕ) (un un' : List ℕ) (source source' : Option Input) → o' ≡ o →
     IfSome (option_map (prepend un) source) (λ i. option_map (prepend un') source' ≡ Some i) →
-    Keeps (left_at p o un source) (left_at p o un' source')
-input_keeps p o un un' source source' h =
-    known p o un source (λ l. left_at p o un' source' ≡ Some l) (λ r is short.
+    Keeps (left_at p o un source) (left_at p o' un' source')
+input_keeps p o o' un un' source source' same h =
+    rw same (known p o un source (λ l. left_at p o un' source' ≡ Some l) (λ r is short.
     let e : option_map (prepend un') source' ≡ Some (prepend un r) = rw is at h in
-    rw e (answers p o un r short))
+    rw e (answers p o un r short)))
 
 -- a part is no longer than its bounds say
 pub part_short : (xs : List ℕ) (start end : ℕ) → length (slice_range xs start end) ≤ end - start

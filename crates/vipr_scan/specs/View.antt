@@ -1,7 +1,7 @@
 -- What a reader of tokens has left.
 use Rattle.std.specs.Prelude.{◌≡◌, ℕ, ◌+◌, ◌^◌, ◌<◌, ◌≤◌, nat_lt, Bool, true, false, List, [], ◌∷◌}
 use Rattle.std.specs.Prelude.{◌++◌, length, take, drop, Option, Some, None, Result, Ok, Err}
-use Rattle.std.specs.Prelude.{slice_range, ◌≢◌, IfOk, IfErr}
+use Rattle.std.specs.Prelude.{slice_range, ◌-◌, min, ◌≢◌, IfOk, IfErr}
 use Rattle.std.specs.Prelude.{slice_index, IfSome, if◌then◌else◌, option_and_then}
 use Rattle.std.specs.Option.{option_map}
 use Rattle.vipr_spec.specs.Input.{Input}
@@ -20,10 +20,14 @@ use Rattle.vipr_scan.specs.declared.window.Found.{Found}
 abbrev pub unread : {R : Type 0} → Window R → List ℕ
 unread t = slice_range t.buf.value t.start t.end
 
+-- the offset of the first unread byte in the text
+abbrev pub front_offset : {R : Type 0} → Window R → ℕ
+front_offset t = min (t.offset + t.start) (2 ^ 64 - 1)
+
 -- it is where it was, and what was unread is in front of what is unread now
 pub record HoldsUnread {R : Type 0} (old new : Window R) : Type 0 where
   pub place : new.place ≡ old.place
-  pub offset : new.offset ≡ old.offset
+  pub offset : front_offset new ≡ front_offset old
   pub kept : length (unread old) ≤ length (unread new)
   pub front : take (length (unread old)) (unread new) ≡ unread old
 
@@ -49,7 +53,7 @@ left_of place offset i =
     if nat_lt end (2 ^ 64) then Some rest else None
 
 abbrev pub rest_of_window : {R : Type 0} → (R → Option Input) → Window R → Option Rest
-rest_of_window input t = option_and_then (left_of t.place t.offset) (input_left input t)
+rest_of_window input t = option_and_then (left_of t.place (front_offset t)) (input_left input t)
 
 -- what was known stays so
 abbrev pub Keeps : Option Rest → Option Rest → Type 0

@@ -30,6 +30,7 @@ pub(crate) struct Window<R> {
     pub(crate) buf: Box<[u8; BUFFER_BYTES]>,
     start: usize,
     end: usize,
+    /// The offset of the first byte of the buffer in the text.
     offset: u64,
     place: Position,
     ended: bool,
@@ -43,7 +44,7 @@ impl<R: Source> Window<R> {
     ghost use Rattle.vipr_scan.specs.contracts.window.Window.{the_row};
     ghost use Rattle.vipr_scan.specs.Places.{tokens_in};
     ghost use Rattle.vipr_scan.specs.View.{unread, input_left, rest_of_window, rounds, Keeps};
-    ghost use Rattle.vipr_scan.specs.View.{IsOver};
+    ghost use Rattle.vipr_scan.specs.View.{IsOver, front_offset};
     ghost use Rattle.vipr_scan.specs.View.{IsAtToken, view_of_found, next_answer, next_left};
     ghost use Rattle.vipr_scan.specs.View.{view_of_answer};
     ghost use Rattle.vipr_scan.specs.View.{stops, found_token};
@@ -71,6 +72,14 @@ impl<R: Source> Window<R> {
         })
     }
 
+    /// The offset of the first unread byte in the text.
+    #[inline(always)]
+    fn front_offset(&self) -> u64
+        ensures { result ≡ front_offset self.now }
+    {
+        self.offset.saturating_add(self.start as u64)
+    }
+
     /// Moves the unread bytes to the front of the buffer, and reads behind them.
     #[inline(never)]
     fn fill(&mut self) -> Result<(), Failed>
@@ -85,8 +94,10 @@ impl<R: Source> Window<R> {
         ensures round { OnOk result (rounds R.reads_left self.new < rounds R.reads_left self.old) }
     {
         let held = self.end - self.start;
+        let offset = self.front_offset();
         let buf: &mut [u8; BUFFER_BYTES] = &mut self.buf;
         move_to_front(buf, self.start, self.end);
+        self.offset = offset;
         self.start = 0;
         self.end = held;
         match read_behind(&mut self.source, buf, held) {
@@ -112,7 +123,6 @@ impl<R: Source> Window<R> {
         let bytes = &self.buf[self.start..self.end];
         let (n, place) = gap(self.place, bytes);
         self.start += n;
-        self.offset = self.offset.saturating_add(n as u64);
         self.place = place;
     }
 
@@ -144,9 +154,8 @@ impl<R: Source> Window<R> {
         ensures within { result.start + result.len ≤ 65536 }
     {
         let start = self.start + gap;
-        let offset = self.offset.saturating_add(gap as u64);
+        let offset = self.offset.saturating_add(start as u64);
         self.start = start + len;
-        self.offset = self.offset.saturating_add((gap + len) as u64);
         Found {
             start,
             len,
@@ -164,7 +173,7 @@ impl<R: Source> Window<R> {
             (self.new.start ≡ self.new.end → IsOver (rest_of_window R.input self.old) false) }
         ensures reached { OnOk result
             (self.new.start ≡ self.new.end →
-            IfSome (rest_of_window R.input self.old) (λ l. self.new.offset ≡ l.length)) }
+            IfSome (rest_of_window R.input self.old) (λ l. front_offset self.new ≡ l.length)) }
         ensures failed { OnErr result (IsOver (rest_of_window R.input self.old) true) }
     {
         loop {
@@ -208,11 +217,10 @@ impl<R: Source> Window<R> {
         let found = Found {
             start: self.start,
             len: n.min(BUFFER_BYTES - 1),
-            offset: self.offset,
+            offset: self.front_offset(),
             long: n == BUFFER_BYTES,
         };
         self.start += n;
-        self.offset = self.offset.saturating_add(n as u64);
         found
     }
 
@@ -224,7 +232,7 @@ impl<R: Source> Window<R> {
             IfSome (rest_of_window R.input self.old)
             (λ l. rest_of_window R.input self.new ≡ Some (next_left l)) }
         ensures end { result ≡ Ok None →
-            IfSome (rest_of_window R.input self.old) (λ l. self.new.offset ≡ l.length) }
+            IfSome (rest_of_window R.input self.old) (λ l. front_offset self.new ≡ l.length) }
         ensures found { IfOk result (λ o. IfSome o (IsFound self.new.buf.value)) }
         ensures error { IfErr result (λ e. e ≡ ScanError.Read) }
     {
@@ -259,7 +267,7 @@ impl<R: Source> Window<R> {
         let Some(found) = self.advance()? else {
             return Err(ScanError::Refused {
                 cause: cause::TRUNCATED,
-                offset: self.offset,
+                offset: self.front_offset(),
             });
         };
         if found.long {
