@@ -1,5 +1,6 @@
 -- What is shown where a checker stopped is what the definitions show
 use Rattle.std.proofs.Common.{◌≡◌, ℕ, ◌+◌, ◌-◌, ◌<◌, ◌≤◌, min, Bool, true, false, List, [], ◌∷◌, ◌++◌, length, map, get_or, Option, Some, None, IfSome, Result, Ok, Err, IfOk, MatchResult, All, Contains, ◌⊎◌, if◌then◌else◌, refl, sym, ◌∙◌, ap, subst, inl, inr, arith}
+use Rattle.std.specs.Prelude.{option_map, unwrap_or}
 use Rattle.std.specs.List.{flat_map, range_with_len}
 use Rattle.std.specs.FinSet.{contains}
 use Rattle.std.proofs.lemmas.List.{length-append, length-map, get_or-map}
@@ -10,7 +11,7 @@ use Rattle.vipr_spec.specs.Constraint.{Profile, Row, at, Condition, condition}
 use Rattle.vipr_spec.specs.Certificate.{Named, Problem, variables, integer_variables, Claim, infeasible, range, primal_bound, objective_at, IsAsGood, MeetsPrimal, Reason, asm, lin, rnd, uns, sol, Derivation, Certificate}
 use Rattle.vipr_spec.specs.Reading.{most_count, is_nonzero}
 use Rattle.vipr_spec.specs.Shape.{ReasonShape}
-use Rattle.vipr_spec.specs.Steps.{PassesStep, StepTest, earlier, live, assumed, suitable, fitting, roundable, split, listed, by_sum, by_rounding, by_constraint, by_cutoff, StepDetail, position, nothing, Shows, FirstFailing, reference_tests, entry_tests, sum_tests, step_tests}
+use Rattle.vipr_spec.specs.Steps.{PassesStep, StepTest, earlier, live, assumed, suitable, fitting, roundable, split, listed, by_sum, by_rounding, by_constraint, by_cutoff, StepDetail, index, position, sum, both, compared, nothing, Shows, FirstFailing, reference_tests, entry_tests, sum_tests, step_tests}
 use Rattle.vipr_spec.specs.Tests.{SolutionTest, whole_at, value_fits, holds, objective_fits, PassesSolution, solution_tests, finite_primal, name_at, names_of, none}
 use Rattle.vipr_linear.specs.Constraint.{constraint_of}
 use Rattle.vipr_linear.specs.declared.constraint.Constraint.{Constraint}
@@ -18,12 +19,11 @@ use Rattle.vipr_cert.specs.Items.{named_of}
 use Rattle.vipr_cert.specs.declared.items.Named.{Named as NamedItem}
 use Rattle.vipr_rules.specs.Apply.{shown_by, StopsIn}
 use Rattle.vipr_rules.specs.declared.error.RuleError.{RuleError}
-use Rattle.vipr_rules.specs.declared.error.RuleError.TheVariants as rule
 use Rattle.vipr_check.specs.declared.halt.Stop.{Stop}
 use Rattle.vipr_check.specs.declared.halt.Halt.{Halt}
 use Rattle.vipr_check.specs.declared.halt.Halt.TheVariants.{Memory}
 use Rattle.vipr_check.specs.Halts.{IsTestOf}
-use Rattle.vipr_check.specs.Shown.{rule_shown, halt_shown, state_shown}
+use Rattle.vipr_check.specs.Shown.{capped, rule_shown, halt_shown, state_shown}
 use Rattle.vipr_table.specs.Table.{advance_table}
 use Rattle.vipr_check.specs.State.{State, HaltsBy}
 use Rattle.vipr_check.proofs.Failures.{failing_has}
@@ -140,27 +140,16 @@ shows_few c d by_cutoff x few h = subst IsFew (sym h.2) tt
 
 -- ---- derivations
 
-abbrev detail_known : Option (ℕ × StepDetail) → StepDetail
-detail_known None = nothing
-detail_known (Some p) = p.1
-
-second_is : (m n : ℕ) (x y : StepDetail) → ◌≡◌ {A = Option (ℕ × StepDetail)} (Some (m, x)) (Some (n, y)) → x ≡ y
-second_is m n x y e = ap detail_known e
-
-at_most_is : (n : ℕ) (x : StepDetail) → position n ≡ x → IsFew x → position (min n most_count) ≡ x
-at_most_is n x is few = let le : n ≤ most_count = subst IsFew (sym is) few in let e : min n most_count ≡ n = omega (arith, le) in ap position e ∙ is
+capped_few : (x : StepDetail) → IsFew x → capped x ≡ x
+capped_few (index i) few = refl
+capped_few (position n) few = let e : min n most_count ≡ n = omega (arith, few) in ap position e
+capped_few (sum x) few = refl
+capped_few (both x y) few = refl
+capped_few (compared x y) few = refl
+capped_few nothing few = refl
 
 rule_is : (e : RuleError) (m : ℕ) (x : StepDetail) → shown_by e ≡ Some (m, x) → IsFew x → rule_shown e ≡ x
-rule_is (rule.NotEarlier i) m x h few = second_is _ _ _ _ h
-rule_is (rule.Dropped i) m x h few = second_is _ _ _ _ h
-rule_is (rule.NotAssumption l) m x h few = second_is _ _ _ _ h
-rule_is (rule.MixedSigns n) m x h few = at_most_is n x (second_is _ _ _ _ h) few
-rule_is (rule.Overflow n) m x h few = at_most_is n x (second_is _ _ _ _ h) few
-rule_is (rule.NotRoundable y) m x h few = second_is _ _ _ _ h
-rule_is (rule.NotSplit y z) m x h few = second_is _ _ _ _ h
-rule_is (rule.NotDominated y z) m x h few = second_is _ _ _ _ h
-rule_is rule.NoSolution m x h few = second_is _ _ _ _ h
-rule_is rule.Memory m x h few = absurd cc
+rule_is e m x h few = ap (λ o. unwrap_or (option_map (λ (p : ℕ × StepDetail). capped p.1) o) nothing) h ∙ capped_few x few
 
 pub stop_shown : (P : Profile) (c : Certificate) (d : Derivation) (e : RuleError) → ReasonShape d.reason → (s : StopsIn P c d (step_tests d.reason) e) → rule_shown e ≡ s.2.0
 stop_shown P c d e few (t, first, (x, says, shows)) =

@@ -1,5 +1,5 @@
 -- What is shown of a verdict, as the detail of the definitions
-use Rattle.std.specs.Prelude.{min, Option, Some, None, option_map}
+use Rattle.std.specs.Prelude.{min, Option, Some, None, option_map, unwrap_or}
 use Rattle.vipr_spec.specs.Fraction.{ℚ}
 use Rattle.vipr_spec.specs.Certificate.{Problem}
 use Rattle.vipr_spec.specs.Reading.{most_count}
@@ -7,9 +7,9 @@ use Rattle.vipr_spec.specs.Steps as step
 use Rattle.vipr_spec.specs.Tests as is
 use Rattle.vipr_spec.specs.Tests.{goal_needed_by, finite_primal}
 use Rattle.vipr_linear.specs.Constraint.{sense_of, condition_of}
+use Rattle.vipr_rules.specs.Apply.{shown_by}
 use Rattle.vipr_rules.specs.Solution.{solution_shown}
 use Rattle.vipr_rules.specs.declared.error.RuleError.{RuleError}
-use Rattle.vipr_rules.specs.declared.error.RuleError.TheVariants as rule
 use Rattle.vipr_check.specs.declared.detail.Detail.{Detail}
 use Rattle.vipr_check.specs.declared.detail.Detail.TheVariants as detail
 use Rattle.vipr_check.specs.declared.detail.StepDetail.{StepDetail}
@@ -41,18 +41,13 @@ detail_of (detail.NoPrimal bound) = is.no_primal bound
 -- ---- what there is to show if a checker stopped
 
 -- a position is reported as far as a count can be
+abbrev pub capped : step.StepDetail → step.StepDetail
+capped (step.position n) = step.position (min n most_count)
+capped x = x
+
+-- the second half of what an error shows; nothing if memory was refused
 abbrev pub rule_shown : RuleError → step.StepDetail
-rule_shown (rule.NotEarlier i) = step.index i
-rule_shown (rule.Dropped i) = step.index i
-rule_shown (rule.NotAssumption l) = step.index l
-rule_shown (rule.MixedSigns n) = step.position (min n most_count)
-rule_shown (rule.Overflow n) = step.position (min n most_count)
-rule_shown (rule.NotRoundable x) = step.sum (condition_of x.value)
-rule_shown (rule.NotSplit x y) = step.both (condition_of x.value) (condition_of y.value)
-rule_shown (rule.NotDominated x y) =
-    step.compared (condition_of x.value) (condition_of y.value)
-rule_shown rule.NoSolution = step.nothing
-rule_shown rule.Memory = step.nothing
+rule_shown e = unwrap_or (option_map (λ x. capped x.1) (shown_by e)) step.nothing
 
 abbrev pub primal_shown : Option ℚ → is.Detail
 primal_shown None = is.none
