@@ -3,6 +3,7 @@ mod Views
 mod Sums
 mod Small
 mod Unreduced
+mod OneDenominator
 mod Halving
 mod Compared
 mod Rounding

@@ -20,7 +20,7 @@ edge = 2 ^ 126 - 2 ^ 63
 pub product_bound : (a b : ℕ) → a ≤ 2 ^ 63 → b < 2 ^ 63 → a * b ≤ edge
 product_bound a b h k = let below : b ≤ 2 ^ 63 - 1 = omega arith in le_trans (mul-le-mul h below) (lit≤ tt)
 
-numer_bound : (a b : ℕ) → a ≤ 2 ^ 63 → b ≤ 2 ^ 63 → a * b ≤ 2 ^ 126
+pub numer_bound : (a b : ℕ) → a ≤ 2 ^ 63 → b ≤ 2 ^ 63 → a * b ≤ 2 ^ 126
 numer_bound a b h k = le_trans (mul-le-mul h k) (lit≤ tt)
 
 pub in_bound : (n : ℕ) → n ≤ edge → n ≤ most
@@ -28,6 +28,14 @@ in_bound n h = le_trans h (lit≤ tt)
 
 both_bound : (n : ℕ) → n ≤ edge + edge → n ≤ most
 both_bound n h = le_trans h (lit≤ tt)
+
+-- a sum of two such products
+pub word_products : (p r : ℤ) (u v : ℕ) → unsigned_abs p ≤ 2 ^ 63 → unsigned_abs r ≤ 2 ^ 63 → u < 2 ^ 63 → v < 2 ^ 63
+    → (unsigned_abs (p *ℤ pos u) ≤ most) × (unsigned_abs (r *ℤ pos v) ≤ most) × (unsigned_abs (p *ℤ pos u +ℤ r *ℤ pos v) ≤ most)
+word_products p r u v a b c d =
+    let left : unsigned_abs (p *ℤ pos u) ≤ edge = rw (unsigned_abs-mul p (pos u)) (product_bound _ _ a c) in
+    let right : unsigned_abs (r *ℤ pos v) ≤ edge = rw (unsigned_abs-mul r (pos v)) (product_bound _ _ b d) in
+    (in_bound _ left, in_bound _ right, both_bound _ (abs_sum (p *ℤ pos u) (r *ℤ pos v) edge left right))
 
 numer_in_bound : (n : ℕ) → n ≤ 2 ^ 126 → n ≤ most
 numer_in_bound n h = le_trans h (lit≤ tt)

@@ -18,7 +18,10 @@ sum-lowest x y = sum_lowest x.numer y.numer x.denom y.denom x.lowest y.lowest
 pub sum-is : (x y : ℚ) → x +ℚ y ≡ over (int_div (both_parts x y) (pos (sum_gcd x y))) (sum_denom x y)
 sum-is x y = sum_is x y
 
-sum-denom : (x y : ℚ) → (x +ℚ y).denom ≡ sum_denom x y
+pub sum-numer : (x y : ℚ) → (x +ℚ y).numer ≡ int_div (both_parts x y) (pos (sum_gcd x y))
+sum-numer x y = ap (λ (z : ℚ). z.numer) (sum-is x y) ∙ (parts_of _ _ (sum-lowest x y)).0
+
+pub sum-denom : (x y : ℚ) → (x +ℚ y).denom ≡ sum_denom x y
 sum-denom x y = ap (λ (z : ℚ). z.denom) (sum-is x y) ∙ (parts_of _ _ (sum-lowest x y)).1
 
 pub IsReduced-sum : (x y : ℚ) → FitsSum x y → IsReduced (int_div (both_parts x y) (pos (sum_gcd x y))) (sum_denom x y)

@@ -1,6 +1,6 @@
 -- Sums of fractions whose parts are words of 64 bits, and needn't be in lowest terms.
 use Rattle.std.proofs.Common.{◌≡◌, ℕ, ◌*◌, ◌/◌, ◌%◌, ◌<◌, ◌≤◌, ◌^◌, refl, sym, ap, ap₂, ◌∙◌, arith, FitsSigned, lit≤, pos_of_ne-zero, zero-mul}
-use Rattle.std.specs.Prelude.{ℤ, pos, ◌+ℤ◌, ◌*ℤ◌, unsigned_abs, Option, Some, None, IsSome, IfSome, MatchOption}
+use Rattle.std.specs.Prelude.{ℤ, pos, ◌+ℤ◌, ◌*ℤ◌, unsigned_abs, Bool, true, false, Option, Some, None, IsSome, IfSome, IsTrue, IsFalse, MatchOption}
 use Rattle.std.specs.Int.{w64}
 use Rattle.std.proofs.Math.Nat.{le_trans, div-mul_cancel, mul_comm}
 use Rattle.std.proofs.lemmas.Int.{ints}
@@ -72,9 +72,24 @@ pub product_over : (x y : ℚ) → x *ℚ y ≡ over (x.numer *ℤ y.numer) (x.d
 unfolding ◌*ℚ◌
 product_over x y = refl
 
+-- ---- parts that are put into a sum
+pub put_value : (o : Option (ℤ × ℕ)) (r : Bool) (old new v : ℚ) → MatchOption o (IsFalse r × (new ≡ old)) (λ t. IsTrue r × (new ≡ over t.0 t.1))
+    → IfSome o (λ t. over t.0 t.1 ≡ v) → (IsTrue r → new ≡ v) × (IsFalse r → new ≡ old)
+put_value (Some t) r old new v h e = (λ _. h.1 ∙ e, λ f. let yes : r ≡ true = h.0 in let no : r ≡ false = f in cc)
+put_value None r old new v h e = (λ t. let yes : r ≡ true = t in let no : r ≡ false = h.0 in cc, λ _. h.1)
+
 pub sum-swap : (x y : ℚ) → x +ℚ y ≡ y +ℚ x
 unfolding ◌+ℚ◌
 sum-swap x y = ap₂ over (omega (arith, ints)) (mul_comm x.denom y.denom)
 
 pub is_product : (x y : ℚ) (p : ℤ) (q : ℕ) → p ≡ x.numer *ℤ y.numer → q ≡ x.denom * y.denom → over p q ≡ x *ℚ y
 is_product x y p q e f = ap₂ over e f ∙ sym (product_over x y)
+
+pub product_of : (x y : ℚ) (p r : ℤ) (q s : ℕ) (o : Option (ℤ × ℕ)) → p ≡ x.numer → q ≡ x.denom → r ≡ y.numer → s ≡ y.denom
+    → IfSome o (λ t. (t.0 ≡ p *ℤ r) × (t.1 ≡ q * s) × (0 < t.1) × (t.1 < 2 ^ 63)) → IfSome o (λ t. over t.0 t.1 ≡ x *ℚ y)
+product_of x y p r q s (Some t) e f g h k = is_product x y t.0 t.1 (k.0 ∙ ap₂ (λ a b. a *ℤ b) e g) (k.1 ∙ ap₂ (λ a b. a * b) f h)
+product_of x y p r q s None e f g h k = tt
+
+pub turned : (o : Option (ℤ × ℕ)) (x y : ℚ) → IfSome o (λ t. over t.0 t.1 ≡ y +ℚ x) → IfSome o (λ t. over t.0 t.1 ≡ x +ℚ y)
+turned (Some t) x y h = h ∙ sum-swap y x
+turned None x y h = tt

@@ -1,6 +1,7 @@
 //! Fractions whose parts are words of 64 bits, and may have a common divisor.
 ghost use Rattle.std.specs.Prelude.{◌≡◌, ◌↔◌, ◌*◌, ◌<◌, ◌^◌, ℕ, ℤ, pos, ◌+ℤ◌, ◌*ℤ◌, IsTrue, IfSome};
-ghost use Rattle.std.specs.Prelude.{MatchOption};
+ghost use Rattle.std.specs.Prelude.{MatchOption, FitsSigned};
+ghost use Rattle.std.specs.Int.{w64};
 ghost use Rattle.vipr_spec.specs.Fraction.{over, ◌+ℚ◌, ◌*ℚ◌};
 ghost use Rattle.vipr_frac.specs.Parts.{AreWords};
 
@@ -8,11 +9,19 @@ use crate::gcd::word_gcd;
 
 const MOST: u64 = i64::MAX as u64;
 
+/// Whether a number is a word of 64 bits with a sign.
+#[inline(always)]
+pub(crate) fn is_word(p: i128) -> bool
+    ensures { IsTrue result ↔ FitsSigned w64 p }
+{
+    p >= i64::MIN as i128 && p <= i64::MAX as i128
+}
+
 #[inline(always)]
 fn are_words(p: i128, q: u128) -> bool
     ensures { IsTrue result ↔ AreWords p q }
 {
-    p >= i64::MIN as i128 && p <= i64::MAX as i128 && q <= MOST as u128
+    is_word(p) && q <= MOST as u128
 }
 
 /// The two parts of a fraction as words of 64 bits with a sign, if they are that small.
@@ -46,14 +55,15 @@ fn both(p: i64, u: u64, r: i64, v: u64) -> Option<i64>
     requires right { v < 2 ^ 63 }
     ensures { IfSome result (λ t. t ≡ p *ℤ pos u +ℤ r *ℤ pos v) }
 {
-    let left = p.checked_mul(u as i64)?;
-    let right = r.checked_mul(v as i64)?;
-    left.checked_add(right)
+    let left = i128::from(p) * i128::from(u as i64);
+    let right = i128::from(r) * i128::from(v as i64);
+    let sum = left + right;
+    if is_word(sum) { Some(sum as i64) } else { None }
 }
 
-// The sum of two fractions, where the second denominator is n times the first.
+/// The sum of two fractions, the second of which has n times the denominator of the first.
 #[inline(always)]
-fn raised_sum(p: i64, n: u64, r: i64, s: u64) -> Option<(i64, u64)>
+pub(crate) fn raised_sum(p: i64, n: u64, r: i64, s: u64) -> Option<(i64, u64)>
     requires times { n < 2 ^ 63 }
     requires below { s < 2 ^ 63 }
     requires some { 0 < s }
@@ -75,36 +85,9 @@ pub(crate) fn pair_product(p: i64, q: u64, r: i64, s: u64) -> Option<(i64, u64)>
     Some((p.checked_mul(r)?, denominator(q, s)?))
 }
 
-/// The sum of two fractions.
+/// The sum of two fractions. The first denominator divides the other more often than not.
 #[inline(always)]
-pub(crate) fn pair_sum(p: i64, q: u64, r: i64, s: u64) -> Option<(i64, u64)>
-    requires left { 0 < q }
-    requires left_below { q < 2 ^ 63 }
-    requires right { 0 < s }
-    requires right_below { s < 2 ^ 63 }
-    ensures sum { IfSome result (λ t. over t.0 t.1 ≡ over p q +ℚ over r s) }
-    ensures some { IfSome result (λ t. 0 < t.1) }
-    ensures below { IfSome result (λ t. t.1 < 2 ^ 63) }
-{
-    if q == s {
-        return Some((p.checked_add(r)?, q));
-    }
-    if q == 1 {
-        return raised_sum(p, s, r, s);
-    }
-    if s == 1 {
-        return raised_sum(r, q, p, q);
-    }
-    if q < s {
-        mixed_sum(p, q, r, s)
-    } else {
-        mixed_sum(r, s, p, q)
-    }
-}
-
-// The sum of two fractions, where the first denominator divides the other more often than not.
-#[inline(never)]
-fn mixed_sum(p: i64, q: u64, r: i64, s: u64) -> Option<(i64, u64)>
+pub(crate) fn mixed_sum(p: i64, q: u64, r: i64, s: u64) -> Option<(i64, u64)>
     requires left { 0 < q }
     requires left_below { q < 2 ^ 63 }
     requires right { 0 < s }

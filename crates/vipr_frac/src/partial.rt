@@ -1,11 +1,12 @@
 //! Partial sums of products, which are reduced at the end alone.
-ghost use Rattle.std.specs.Prelude.{◌≡◌, ◌↔◌, ◌<◌, ◌^◌, IsTrue, IsOk, IfOk, IfSome, IsSome, OnOk};
-ghost use Rattle.std.specs.Prelude.{OnErr};
+ghost use Rattle.std.specs.Prelude.{◌≡◌, ◌↔◌, ◌<◌, ◌≤◌, ◌^◌, IsTrue, IsOk, IfOk, IfSome, IsSome};
+ghost use Rattle.std.specs.Prelude.{IsFalse, MatchOption, OnOk, OnErr, unsigned_abs, FitsSigned};
+ghost use Rattle.std.specs.Int.{w64};
 ghost use Rattle.vipr_spec.specs.Fraction.{over, zero_ℚ, ◌+ℚ◌, ◌*ℚ◌, SumFits, ProductFits};
 ghost use Rattle.vipr_frac.specs.Parts.{IsPartial, IsReduced};
 
 use crate::frac::{Frac, Overflow, of_parts, reduced_words};
-use crate::pairs::{pair_product, pair_sum, words};
+use crate::pairs::{is_word, mixed_sum, pair_product, raised_sum, words};
 use std::alloc::AllocError;
 use std::marker::Model;
 
@@ -46,21 +47,149 @@ impl Clone for Partial {
     }
 }
 
-// The sum of a fraction and a product, where all numbers on the way are words of 64 bits.
+// A denominator of so many bits makes with another one a product that is a word.
+const SHORT: u128 = 0x7fff_ffff;
+
+// Whether the numerator is a word of 64 bits, and the denominator has at most 31 bits.
 #[inline(always)]
-fn word_sum(p: i128, q: u128, multiplier: Frac, coefficient: Frac) -> Option<(i64, u64)>
-    requires { 0 < q }
-    ensures fits { IsSome result → ProductFits multiplier coefficient
-        × SumFits (over p q) (multiplier *ℚ coefficient) }
-    ensures sum { IfSome result (λ t. over t.0 t.1 ≡ over p q +ℚ multiplier *ℚ coefficient) }
+fn are_short(p: i128, q: u128) -> bool
+    ensures { IsTrue result ↔ (FitsSigned w64 p × (q < 2 ^ 31)) }
+{
+    is_word(p) && q <= SHORT
+}
+
+// Gives a sum these parts, if there are any. Else it stays as it was.
+#[inline(always)]
+fn put(sum: &mut Partial, parts: Option<(i64, u64)>) -> bool
+    requires some { IfSome parts (λ t. 0 < t.1) }
+    requires below { IfSome parts (λ t. t.1 < 2 ^ 63) }
+    ensures { MatchOption parts (IsFalse result × (sum.new ≡ sum.old))
+        (λ t. IsTrue result × (sum.new ≡ over t.0 t.1)) }
+{
+    match parts {
+        Some((p, q)) => {
+            *sum = Partial {
+                p: i128::from(p),
+                q: u128::from(q),
+            };
+            true
+        }
+        None => false,
+    }
+}
+
+// Adds p / q, if all numbers on the way are words of 64 bits. Else the sum stays as it was.
+#[inline(always)]
+fn add_short(sum: &mut Partial, p: i128, q: u64) -> bool
+    requires numer { unsigned_abs p ≤ 2 ^ 126 }
+    requires some { 0 < q }
+    requires denom { q < 2 ^ 63 }
+    ensures fits { IsTrue result → SumFits sum.old (over p q) }
+    ensures sum { IsTrue result → sum.new ≡ sum.old +ℚ over p q }
+    ensures kept { IsFalse result → sum.new ≡ sum.old }
+{
+    if sum.q == u128::from(q) {
+        let both = sum.p.wrapping_add(p);
+        if is_word(both) {
+            sum.p = both;
+            return true;
+        }
+        return false;
+    }
+    if !is_word(p) {
+        return false;
+    }
+    if sum.p == 0 {
+        *sum = Partial {
+            p,
+            q: u128::from(q),
+        };
+        return true;
+    }
+    add_words(sum, p as i64, q)
+}
+
+// The same of a word.
+#[inline(always)]
+fn add_words(sum: &mut Partial, r: i64, s: u64) -> bool
+    requires some { 0 < s }
+    requires denom { s < 2 ^ 63 }
+    ensures fits { IsTrue result → SumFits sum.old (over r s) }
+    ensures sum { IsTrue result → sum.new ≡ sum.old +ℚ over r s }
+    ensures kept { IsFalse result → sum.new ≡ sum.old }
+{
+    match words(sum.p, sum.q) {
+        Some((p, q)) => put_sum(sum, p, q, r, s),
+        None => false,
+    }
+}
+
+// Puts the sum of two fractions, if all numbers on the way are words of 64 bits.
+#[inline(always)]
+fn put_sum(sum: &mut Partial, p: i64, q: u64, r: i64, s: u64) -> bool
+    requires left { 0 < q }
+    requires left_below { q < 2 ^ 63 }
+    requires right { 0 < s }
+    requires right_below { s < 2 ^ 63 }
+    ensures sum { IsTrue result → sum.new ≡ over p q +ℚ over r s }
+    ensures kept { IsFalse result → sum.new ≡ sum.old }
+{
+    if q == 1 {
+        return put(sum, raised_sum(p, s, r, s));
+    }
+    if s == 1 {
+        return put(sum, raised_sum(r, q, p, q));
+    }
+    if q < s {
+        put_mixed(sum, p, q, r, s)
+    } else {
+        put_mixed(sum, r, s, p, q)
+    }
+}
+
+// The same where the first denominator divides the other more often than not.
+#[inline(never)]
+fn put_mixed(sum: &mut Partial, p: i64, q: u64, r: i64, s: u64) -> bool
+    requires left { 0 < q }
+    requires left_below { q < 2 ^ 63 }
+    requires right { 0 < s }
+    requires right_below { s < 2 ^ 63 }
+    ensures sum { IsTrue result → sum.new ≡ over p q +ℚ over r s }
+    ensures kept { IsFalse result → sum.new ≡ sum.old }
+{
+    put(sum, mixed_sum(p, q, r, s))
+}
+
+// The product of two fractions, if its parts are words of 64 bits.
+#[inline(always)]
+fn word_product(p: i128, q: u128, r: i128, s: u128) -> Option<(i64, u64)>
+    requires left { IsReduced p q }
+    requires right { IsReduced r s }
+    ensures fits { IsSome result → ProductFits (over p q) (over r s) }
+    ensures product { IfSome result (λ t. over t.0 t.1 ≡ over p q *ℚ over r s) }
     ensures some { IfSome result (λ t. 0 < t.1) }
     ensures below { IfSome result (λ t. t.1 < 2 ^ 63) }
 {
-    let (u, v) = multiplier.words()?;
-    let (r, s) = coefficient.words()?;
-    let (r, s) = pair_product(u, v, r, s)?;
     let (p, q) = words(p, q)?;
-    pair_sum(p, q, r, s)
+    let (r, s) = words(r, s)?;
+    pair_product(p, q, r, s)
+}
+
+// Adds the product of p / q and r / s, if all numbers on the way are words of 64 bits. Else the sum
+// stays as it was.
+#[inline(always)]
+fn add_word_product(sum: &mut Partial, p: i128, q: u128, r: i128, s: u128) -> bool
+    requires left { IsReduced p q }
+    requires right { IsReduced r s }
+    ensures product_fits { IsTrue result → ProductFits (over p q) (over r s) }
+    ensures sum_fits { IsTrue result → SumFits sum.old (over p q *ℚ over r s) }
+    ensures sum { IsTrue result → sum.new ≡ sum.old +ℚ over p q *ℚ over r s }
+    ensures kept { IsFalse result → sum.new ≡ sum.old }
+{
+    match word_product(p, q, r, s) {
+        Some((numer, denom)) => add_words(sum, numer, denom),
+        None => false,
+    }
 }
 
 impl Partial {
@@ -117,17 +246,35 @@ impl Partial {
         ensures sum { OnOk result (self.new ≡ self.old +ℚ multiplier *ℚ coefficient) }
         ensures kept { OnErr result (self.new ≡ self.old) }
     {
-        if let Some((p, q)) = word_sum(self.p, self.q, multiplier, coefficient) {
-            *self = Partial {
-                p: i128::from(p),
-                q: u128::from(q),
-            };
-            return Ok(());
-        }
         let (p, q) = multiplier.parts();
         let (r, s) = coefficient.parts();
-        add_exact(self, p, q, r, s)
+        if are_short(p, q) && are_short(r, s) {
+            let numer = i128::from(p as i64) * i128::from(r as i64);
+            let denom = q as u64 * s as u64;
+            if add_short(self, numer, denom) {
+                return Ok(());
+            }
+            add_exact(self, p, q, r, s)
+        } else {
+            add_long(self, p, q, r, s)
+        }
     }
+}
+
+// Adds the product of p / q and r / s, by words of 64 bits if they hold it.
+#[inline(never)]
+fn add_long(sum: &mut Partial, p: i128, q: u128, r: i128, s: u128) -> Result<(), Overflow>
+    requires left { IsReduced p q }
+    requires right { IsReduced r s }
+    ensures fits { IsOk result ↔ (ProductFits (over p q) (over r s)
+        × SumFits sum.old (over p q *ℚ over r s)) }
+    ensures sum { OnOk result (sum.new ≡ sum.old +ℚ over p q *ℚ over r s) }
+    ensures kept { OnErr result (sum.new ≡ sum.old) }
+{
+    if add_word_product(sum, p, q, r, s) {
+        return Ok(());
+    }
+    add_exact(sum, p, q, r, s)
 }
 
 // Adds the product of p / q and r / s, in lowest terms all the way.

@@ -1,27 +1,59 @@
-use Rattle.std.proofs.Common.{rules, ◌≡◌, refl, ap₂, ◌∙◌}
-use Rattle.std.specs.Prelude.{IsSome}
-use Rattle.vipr_spec.specs.Fraction.{over}
-use Rattle.vipr_frac.proofs.Views.{as-is, over-self}
+use Rattle.std.proofs.Common.{◌≡◌, ◌*◌, ◌∙◌, refl, subst, arith, FitsSigned, to_z, of_z}
+use Rattle.std.specs.Prelude.{◌*ℤ◌}
+use Rattle.std.specs.Int.{w64, w128}
+use Rattle.std.proofs.lemmas.Int.{to_z-of_z, fits_signed_from_abs}
+use Rattle.vipr_frac.proofs.OneDenominator.{IsShortProduct, short_product}
+use Rattle.vipr_frac.proofs.Views.{as-is}
 use Rattle.vipr_frac.proofs.partial.Partial.add_product.Goals as goal
+use Rattle.vipr_frac.proofs.partial.Partial.add_product.Goals.{After-from-then-are_short-2}
 
-pub returns-in-Some-clause-fits : goal.returns-in-Some-clause-fits
-returns-in-Some-clause-fits c =
-    let some : IsSome c.word_sum.result = search rules in
-    let h = rw (as-is c.self.inside.p c.self.invariant.numer_bounded, c.self.view_is) at c.word_sum.ensures.fits some in
-    (λ _. h, λ _. refl)
+module _ (c : After-from-then-are_short-2) where
+  p_back : to_z w128 (of_z w128 c.parts-p.result.0) ≡ c.parts-p.result.0
+  p_back = as-is c.parts-p.result.0 c.parts-p.ensures.reduced.numer_bounded
 
-pub returns-clause-fits : goal.returns-clause-fits
-returns-clause-fits c =
-    let left : over _ c.parts-p.result.1 ≡ c.args.multiplier =
-    ap₂ over (as-is c.parts-p.result.0 c.parts-p.ensures.reduced.numer_bounded ∙ c.parts-p.ensures.numer) c.parts-p.ensures.denom ∙ over-self c.args.multiplier in
-    let right : over _ c.parts-r.result.1 ≡ c.args.coefficient =
-    ap₂ over (as-is c.parts-r.result.0 c.parts-r.ensures.reduced.numer_bounded ∙ c.parts-r.ensures.numer) c.parts-r.ensures.denom ∙ over-self c.args.coefficient in
-    rw (left, right) at c.add_exact.ensures.fits
+  r_back : to_z w128 (of_z w128 c.parts-r.result.0) ≡ c.parts-r.result.0
+  r_back = as-is c.parts-r.result.0 c.parts-r.ensures.reduced.numer_bounded
 
-pub returns-clause-sum : goal.returns-clause-sum
-returns-clause-sum c =
-    let left : over _ c.parts-p.result.1 ≡ c.args.multiplier =
-    ap₂ over (as-is c.parts-p.result.0 c.parts-p.ensures.reduced.numer_bounded ∙ c.parts-p.ensures.numer) c.parts-p.ensures.denom ∙ over-self c.args.multiplier in
-    let right : over _ c.parts-r.result.1 ≡ c.args.coefficient =
-    ap₂ over (as-is c.parts-r.result.0 c.parts-r.ensures.reduced.numer_bounded ∙ c.parts-r.ensures.numer) c.parts-r.ensures.denom ∙ over-self c.args.coefficient in
-    rw (left, right) at c.add_exact.ensures.sum
+  p_word : FitsSigned w64 c.parts-p.result.0
+  p_word = subst (λ z. FitsSigned w64 z) p_back (c.are_short.ensures.0 c.if-are_short.true).0
+
+  r_word : FitsSigned w64 c.parts-r.result.0
+  r_word = subst (λ z. FitsSigned w64 z) r_back (c.are_short-then-are_short.ensures.0 c.if-are_short-2.true).0
+
+  p_is : to_z w128 (of_z w128 c.from.result) ≡ c.parts-p.result.0
+  p_is = to_z-of_z w128 c.from.result (record { sfits = c.from.type_inv }) ∙ c.from.ensures ∙ rw p_back (to_z-of_z w64 c.parts-p.result.0 p_word)
+
+  r_is : to_z w128 (of_z w128 c.from-then-are_short-2.result) ≡ c.parts-r.result.0
+  r_is = to_z-of_z w128 c.from-then-are_short-2.result (record { sfits = c.from-then-are_short-2.type_inv }) ∙ c.from-then-are_short-2.ensures ∙ rw r_back (to_z-of_z w64 c.parts-r.result.0 r_word)
+
+  short : IsShortProduct c.args.multiplier c.args.coefficient (c.parts-p.result.0 *ℤ c.parts-r.result.0) (c.parts-p.result.1 * c.parts-r.result.1)
+  short = short_product _ _ _ _ _ _ _ _ c.parts-p.ensures.numer c.parts-p.ensures.denom c.parts-r.ensures.numer c.parts-r.ensures.denom p_word r_word
+      (c.are_short.ensures.0 c.if-are_short.true).1 (c.are_short-then-are_short.ensures.0 c.if-are_short-2.true).1 refl refl
+
+  fits : FitsSigned w128 (c.parts-p.result.0 *ℤ c.parts-r.result.0)
+  fits = fits_signed_from_abs w128 _ (let h = short.numer in omega arith)
+
+pub overflow_mul-numer : goal.overflow_mul-numer
+overflow_mul-numer c = rw (p_is c, r_is c) (fits c)
+
+pub add_short-requires-clause-numer : goal.add_short-requires-clause-numer
+add_short-requires-clause-numer c =
+    let k = (goal.at.add_short-requires-clause-numer c).After-from-then-are_short-2 in
+    rw (p_is k, r_is k, to_z-of_z w128 _ (fits k)) (short k).numer
+
+pub add_short-requires-clause-denom : goal.add_short-requires-clause-denom
+add_short-requires-clause-denom c =
+    let k = (goal.at.add_short-requires-clause-denom c).After-from-then-are_short-2 in
+    (short k).denom
+
+pub returns-then-add_short-clause-fits : goal.returns-then-add_short-clause-fits
+returns-then-add_short-clause-fits c =
+    let k = (goal.at.returns-then-add_short-clause-fits c).After-from-then-are_short-2 in
+    let h = rw (p_is k, r_is k, to_z-of_z w128 _ (fits k), (short k).product) at c.add_short.ensures.fits in
+    (λ _. ((short k).fits, h c.if-add_short.true), λ _. refl)
+
+pub returns-then-add_short-clause-sum : goal.returns-then-add_short-clause-sum
+returns-then-add_short-clause-sum c =
+    let k = (goal.at.returns-then-add_short-clause-sum c).After-from-then-are_short-2 in
+    let h = rw (p_is k, r_is k, to_z-of_z w128 _ (fits k), (short k).product) at c.add_short.ensures.sum in
+    h c.if-add_short.true
