@@ -111,7 +111,7 @@ module _ (P : ℕ → ℚ → Type 0) where
       let apart : j ≢ p.0 = λ e. n (coefficient_below (p.0 + 1) es j (omega arith) r) in
       subst (P j) (coefficient_later p es j apart) (h j (λ z. n (sym (coefficient_later p es j apart) ∙ z)))
 
-  entries_each : (low : ℕ) (es : List (ℕ × ℚ)) → RisesFrom low es → All (λ e. P e.0 e.1) es ↔ ((j : ℕ) → coefficient es j ≢ zero_ℚ → P j (coefficient es j))
+  pub entries_each : (low : ℕ) (es : List (ℕ × ℚ)) → RisesFrom low es → All (λ e. P e.0 e.1) es ↔ ((j : ℕ) → coefficient es j ≢ zero_ℚ → P j (coefficient es j))
   entries_each low [] r = (λ all j n. absurd (n refl), λ h. All-nil (λ (e : ℕ × ℚ). P e.0 e.1))
   entries_each low (p ∷ es) r =
       let rest = entries_each (p.0 + 1) es r.2 in (

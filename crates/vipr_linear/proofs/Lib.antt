@@ -1,7 +1,7 @@
 mod Rows
 mod Sets
 mod Marks
-mod Matching
+mod Counting
 mod Adding
 mod Collecting
 mod StepByStep

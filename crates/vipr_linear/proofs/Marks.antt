@@ -1,22 +1,22 @@
 -- Marks and the list of the marked variables, and the sums beside them
-use Rattle.std.proofs.Common.{◌≡◌, ◌≢◌, ℕ, suc, ◌+◌, ◌<◌, ◌≤◌, take, drop, Bool, true, false, cond, nat_eq, List, [], ◌∷◌, ◌++◌, length, get_or, arith, refl, sym, ◌∙◌, ap, subst, ◌||◌, inl, inr, ◌⊎◌, drop-cons, add-one, ap₂, subst₂, map, filter, not, pos, Result, Ok, Err, IsOk, IsErr, All}
+use Rattle.std.proofs.Common.{◌≡◌, ◌≢◌, ℕ, suc, ◌+◌, ◌<◌, ◌≤◌, take, drop, Bool, true, false, cond, nat_eq, List, [], ◌∷◌, ◌++◌, length, get_or, arith, refl, sym, ◌∙◌, ap, subst, ◌||◌, inl, inr, ◌⊎◌, drop-cons, add-one, ap₂, map, filter, not, pos, replicate, Result, Ok, Err, IsOk, IsErr, All}
 use Rattle.std.specs.Prelude.{◌↔◌, slice_set}
 use Rattle.std.proofs.lemmas.Bool.{cases_eq, cases_lt}
 use Rattle.std.proofs.lemmas.Bool.Decides.{nat_tests}
-use Rattle.std.proofs.lemmas.List.{get_or-set_same, get_or-set_other, get_or_past, get_or_default, get_or-map, length_push, length-set, length-map, take_all, drop_all, append-nil}
+use Rattle.std.proofs.lemmas.List.{get_or-set_same, get_or-set_other, get_or_past, get_or_default, get_or-map, get_or-replicate, length_push, length-set, length-map, length-replicate, take_all, drop_all, append-nil, same_lists}
 use Rattle.std.proofs.lemmas.List.Elements.{filter_more}
 use Rattle.std.proofs.lemmas.List.Folds.{list_any-append, list_any_at}
 use Rattle.std.proofs.lemmas.Map.Keys.{IsDistinct-push}
 use Rattle.std.proofs.lemmas.Map.Steps.{length-le_from_distinct_below}
 use Rattle.std.specs.Cmp.{nat_eq_equiv}
 use Rattle.std.specs.List.{IsDistinct, list_any}
-use Rattle.vipr_spec.specs.Fraction.{ℚ, zero_ℚ, ◌+ℚ◌, ◌*ℚ◌, ProductFits, SumFits}
+use Rattle.vipr_spec.specs.Fraction.{ℚ, zero_ℚ}
 use Rattle.vipr_spec.specs.Reading.{is_nonzero}
 use Rattle.std.specs.Ordering.{int_eq}
 use Rattle.vipr_spec.proofs.Laws.{zero_or_not}
 use Rattle.vipr_spec.specs.MoreEntries.{TermFits}
 use Rattle.vipr_linear.specs.Accumulator.{with_term, with_terms, TermsFitIn}
-use Rattle.vipr_linear.specs.Touched.{Touching, Covers}
+use Rattle.vipr_linear.specs.Touched.{Touching, Covers, AreTouched, AreCovered}
 use Rattle.vipr_linear.proofs.Rows.{nothing_distinct}
 
 pub marked_below : (marks : List Bool) (j : ℕ) → get_or marks j false ≡ true → j < length marks
@@ -25,14 +25,14 @@ marked_below marks j t = elim (cases_lt j (length marks)) [ inl l ↦ l | inr pa
 itself : (j : ℕ) → nat_eq j j ≡ true
 itself j = grind (arith, nat_tests)
 
-other : (j v : ℕ) → j ≢ v → nat_eq j v ≡ false
+pub other : (j v : ℕ) → j ≢ v → nat_eq j v ≡ false
 other j v n = grind (arith, nat_tests)
 
 or_true : (a : Bool) → (a || (true || false)) ≡ true
 or_true true = refl
 or_true false = refl
 
-or_false : (a : Bool) → (a || (false || false)) ≡ a
+pub or_false : (a : Bool) → (a || (false || false)) ≡ a
 or_false true = refl
 or_false false = refl
 
@@ -80,32 +80,47 @@ covers_set sums marks v x l t c j n = by (cases_eq j v)
 pub covers_more : (sums : List ℚ) (marks marks' : List Bool) → ((j : ℕ) → get_or marks j false ≡ true → get_or marks' j false ≡ true) → Covers sums marks → Covers sums marks'
 covers_more sums marks marks' k c j n = k j (c j n)
 
+pub touched_at_first : (n m : ℕ) (list : List ℕ) → list ≡ [] → n ≤ m → AreTouched (replicate n false) list m
+touched_at_first n m list e le = record {
+  room = (let l = length-replicate n false in omega (arith, l, le));
+  touching = subst (Touching (replicate n false)) (sym e) (record { listed = λ j. none j (cases_lt j n); distinct = nothing_distinct });
+}
+  where
+    none : (j : ℕ) → (j < n) ⊎ (n ≤ j) → get_or (replicate n false) j false ≡ false
+    none j (inl l) = get_or-replicate n j false false l
+    none j (inr past) = get_or_past (replicate n false) j false (let e = length-replicate n false in omega (arith, e, past))
+
+pub covered_at_first : (n : ℕ) → AreCovered (replicate n zero_ℚ) (replicate n false)
+covered_at_first n = record {
+  places = length-replicate n false ∙ sym (length-replicate n zero_ℚ);
+  covers = λ j some. absurd (some (zero j (cases_lt j n)));
+}
+  where
+    zero : (j : ℕ) → (j < n) ⊎ (n ≤ j) → get_or (replicate n zero_ℚ) j zero_ℚ ≡ zero_ℚ
+    zero j (inl l) = get_or-replicate n j zero_ℚ zero_ℚ l
+    zero j (inr past) = get_or_past (replicate n zero_ℚ) j zero_ℚ (let e = length-replicate n zero_ℚ in omega (arith, e, past))
+
+-- a place is touched, and its sum changes
+pub covered_set : (sums : List ℚ) (marks : List Bool) (v : ℕ) (x : ℚ) → v < length sums → AreCovered sums marks → AreCovered (slice_set sums v x) (slice_set marks v true)
+covered_set sums marks v x l k = record {
+  places = length-set marks v true ∙ k.places ∙ sym (length-set sums v x);
+  covers = covers_set sums (slice_set marks v true) v x l here (covers_more sums marks (slice_set marks v true) stays k.covers);
+}
+  where
+    here : get_or (slice_set marks v true) v false ≡ true
+    here = get_or-set_same marks v true false (let e = k.places in omega (arith, e, l))
+
+    stays : (j : ℕ) → get_or marks j false ≡ true → get_or (slice_set marks v true) j false ≡ true
+    stays j t = by (cases_eq j v)
+      where
+        by : (j ≡ v) ⊎ (j ≢ v) → get_or (slice_set marks v true) j false ≡ true
+        by (inl e) = ap (λ i. get_or (slice_set marks v true) i false) e ∙ here
+        by (inr d) = get_or-set_other marks v j true false d ∙ t
+
 -- an error is no success
 pub not_both : {A E : Type 0} (r : Result A E) → IsErr r → IsOk r → ⊥
 not_both (Ok x) e o = absurd (cc)
 not_both (Err x) e o = absurd (cc)
-
--- one turn of the loop that adds terms: what was read, the product and the sum
-module _ (first : Type 0) (sums : List ℚ) (m : ℚ) (es : List (ℕ × ℚ)) (i : ℕ) (p : ℕ × ℚ) (l : i < length es) (e : p ≡ get_or es i p) (known : first ↔ TermsFitIn sums m (drop i es)) where
-  module _ (old product : ℚ) (w : p.0 < length sums) (o : old ≡ get_or sums p.0 old) (q : product ≡ m *ℚ p.1) where
-    old_is : get_or sums p.0 zero_ℚ ≡ old
-    old_is = get_or_default sums p.0 zero_ℚ old w ∙ sym o
-
-    pub term_refused : (ProductFits m p.1 × SumFits old product → false ≡ true) → ¬ first
-    term_refused refused h = let f = (next_fits sums m es i p l e).0 (known.0 h) in absurd (let x = refused (f.0.0, subst₂ SumFits old_is (sym q) f.0.1) in cc)
-
-    module _ (new : ℚ) (s : new ≡ old +ℚ product) where
-      term_is : slice_set sums p.0 new ≡ with_term sums m p
-      term_is = ap (slice_set sums p.0) (s ∙ ap₂ (λ a b. a +ℚ b) (sym old_is) q)
-
-      pub fits_on : ProductFits m p.1 → SumFits old product → first ↔ TermsFitIn (slice_set sums p.0 new) m (drop (i + 1) es)
-      fits_on a b = (
-        λ h. subst (λ x. TermsFitIn x m (drop (i + 1) es)) (sym term_is) ((next_fits sums m es i p l e).0 (known.0 h)).1,
-        λ h. known.1 ((next_fits sums m es i p l e).1 ((a, subst₂ SumFits (sym old_is) q b), subst (λ x. TermsFitIn x m (drop (i + 1) es)) term_is h)),
-      )
-
-      pub sums_on : with_terms (slice_set sums p.0 new) m (drop (i + 1) es) ≡ with_terms sums m (drop i es)
-      sums_on = ap (λ x. with_terms x m (drop (i + 1) es)) term_is ∙ sym (next_sums sums m es i p l e)
 
 pub item_within : (es : List (ℕ × ℚ)) (n i : ℕ) (p : ℕ × ℚ) → All (λ e. e.0 < n) es → i < length es → p ≡ get_or es i p → p.0 < n
 item_within es n i p all l e = subst (λ (q : ℕ × ℚ). q.0 < n) (sym e) (all i p l)
@@ -157,6 +172,9 @@ none_touched marks items i h left = record { listed = λ j. by (get_or marks j f
         at : (c : Bool) → get_or marks j false ≡ c → get_or marks j false ≡ false
         at true f = absurd (none_there items i j h (left j f))
         at false f = f
+
+pub all_false : (marks : List Bool) (n : ℕ) → length marks ≡ n → Touching marks [] → marks ≡ replicate n false
+all_false marks n e none = same_lists _ _ (e ∙ sym (length-replicate n false)) (λ k d l. get_or_default marks k d false l ∙ none.listed k ∙ sym (get_or-replicate n k false d (omega (arith, e, l))))
 
 -- ---- the sums that are not 0
 abbrev pub pick : List ℚ → ℕ → ℕ × ℚ

@@ -76,7 +76,7 @@ module _ (j : ℕ) where
 pub no_zeros : (es : List (ℕ × ℚ)) → RisesFrom 0 es → HasNoZeros (from_sorted es)
 no_zeros es r = λ j. subst (λ (o : Option ℚ). IfSome o (λ a. a ≢ zero_ℚ)) (sym (get-from_sorted nat_cmp es j (rises_sorted 0 es r))) (find_nonzero j 0 es r)
 
-nonzero_from : (low : ℕ) (es : List (ℕ × ℚ)) → RisesFrom low es → All (λ (e : ℕ × ℚ). e.1 ≢ zero_ℚ) es
+pub nonzero_from : (low : ℕ) (es : List (ℕ × ℚ)) → RisesFrom low es → All (λ (e : ℕ × ℚ). e.1 ≢ zero_ℚ) es
 nonzero_from low [] r = All-nil (λ (e : ℕ × ℚ). e.1 ≢ zero_ℚ)
 nonzero_from low (e ∷ es) r = All-cons (λ (e : ℕ × ℚ). e.1 ≢ zero_ℚ) e es r.1 (nonzero_from (e.0 + 1) es r.2)
 

@@ -5,9 +5,9 @@
 //! bound, and senses that don't go together. `finish` gives the sum as a constraint; `dominates`
 //! and `rounds_to` compare it in place. `clear` makes it empty again, and takes time for the
 //! variables that were touched alone.
-ghost use Rattle.std.specs.Prelude.{◌≡◌, ◌≢◌, ◌↔◌, ◌⊎◌, ◌<◌, ◌≤◌, ℕ, true, false, length, All};
+ghost use Rattle.std.specs.Prelude.{◌≡◌, ◌≢◌, ◌↔◌, ◌⊎◌, ℕ, true, false, length};
 ghost use Rattle.std.specs.Prelude.{IsTrue, IsOk, IsSome, IsNone, IfOk, IfErr, OnOk, OnErr};
-ghost use Rattle.std.specs.Prelude.{MatchOption, vec_capacity, Some, None};
+ghost use Rattle.std.specs.Prelude.{MatchOption, Some, None};
 ghost use Rattle.vipr_spec.specs.Fraction.{◌+ℚ◌, ◌*ℚ◌};
 ghost use Rattle.vipr_spec.specs.Constraint.{Point, at, NamesBelow, value, ValueFits};
 ghost use Rattle.vipr_spec.specs.Constraint.{IsAbsurd, Dominates, IsWholeRow, DominatesRounded};
@@ -17,14 +17,13 @@ ghost use Rattle.vipr_linear.specs.Accumulator.{with_row, RowAdditionFits, CanAd
 ghost use Rattle.vipr_linear.specs.Accumulator.{HoldsSum, IsSpent, joined_with, with_entry};
 ghost use Rattle.vipr_linear.specs.Accumulator.{nothing_added, summed_condition, held_condition};
 ghost use Rattle.vipr_linear.specs.Constraint.{sense_of, condition_of, SaysAsMuch};
-ghost use Rattle.vipr_linear.specs.Touched.{Touching, Covers, AreInOrder};
 ghost use Rattle.vipr_linear.specs.Values.{IsLaidOut};
 
 use crate::constraint::{Constraint, Sense, compares};
 use crate::ints::Ints;
+use crate::places::Places;
 use crate::rounding::{is_whole_row, rounded_rhs};
 use crate::row::{Row, Solution, is_zero};
-use crate::sums::{add_terms, are_zero, have_row, nonzero_sums, reset, set_sums};
 use crate::values::value_in;
 use std::alloc::{AllocError, Global};
 use std::cmp::Ordering;
@@ -49,33 +48,26 @@ pub enum CombError {
 /// too, if a solution is laid out.
 #[derive(Debug, Drop)]
 pub struct Combination {
-    sums: Vec<Partial>,
-    marks: Vec<bool>,
-    touched: Vec<u32>,
+    places: Places,
     sense: Sense,
     rhs: Partial,
     is_spent: bool,
 }
 
 impl Model for Combination {
-    ghost use Rattle.std.specs.Prelude.{vec_capacity};
     ghost use Rattle.vipr_linear.specs.Accumulator.{Accumulator, coded_accumulator};
     ghost use Rattle.vipr_linear.specs.Constraint.{sense_of};
-    ghost use Rattle.vipr_linear.specs.Touched.{AreTouched};
 
     ghost Value = { Accumulator };
 
     ghost coded = { coded_accumulator };
 
     ghost view = { λ a. record {
-      sums = a.sums.items;
+      sums = a.places;
       bound = a.rhs;
       sense = sense_of a.sense;
       spent = a.is_spent;
     } };
-
-    ghost invariant = { λ a. AreTouched a.sums.items a.marks.items a.touched.items
-        (vec_capacity a.touched) };
 }
 
 impl Combination {
@@ -84,9 +76,7 @@ impl Combination {
         ensures { IfOk result (λ sum. sum ≡ nothing_added n) }
     {
         Ok(Combination {
-            sums: vec![in alloc; Partial::zero(); n as usize]?,
-            marks: vec![in alloc; false; n as usize]?,
-            touched: Vec::with_capacity(alloc, n as usize)?,
+            places: Places::new(alloc, n as usize)?,
             sense: Sense::E,
             rhs: Partial::zero(),
             is_spent: false,
@@ -97,7 +87,7 @@ impl Combination {
     pub fn clear(&mut self)
         ensures { self.new ≡ nothing_added (length self.old.sums) }
     {
-        reset(&mut self.sums, &mut self.marks, &mut self.touched);
+        self.places.reset();
         self.sense = Sense::E;
         self.rhs = Partial::zero();
         self.is_spent = false;
@@ -108,12 +98,7 @@ impl Combination {
         ensures { IsLaidOut (length self.old.sums) (at solution.now.0) self.new.sums }
     {
         self.clear();
-        set_sums(
-            &mut self.sums,
-            &mut self.marks,
-            &mut self.touched,
-            solution.0.entries(),
-        );
+        self.places.set(solution.0.entries());
     }
 
     /// The value of a row at the solution that is laid out, summed over the row's variables in
@@ -124,7 +109,7 @@ impl Combination {
         ensures value { (n : ℕ) (x : Point) → IsLaidOut n x self.now.sums
             → NamesBelow n (at row.now) → IfOk result (λ v. v ≡ value n (at row.now) x) }
     {
-        value_in(row, &self.sums)
+        value_in(row, self.places.sums())
     }
 
     /// Adds the multiple of a constraint. A multiplier 0 changes nothing. After an error it is
@@ -155,14 +140,7 @@ impl Combination {
         if is_zero(multiplier) {
             return Ok(());
         }
-        match add_multiple(
-            &mut self.sums,
-            &mut self.marks,
-            &mut self.touched,
-            &mut self.rhs,
-            constraint,
-            multiplier,
-        ) {
+        match add_multiple(&mut self.places, &mut self.rhs, constraint, multiplier) {
             Ok(()) => {
                 self.sense = sense;
                 Ok(())
@@ -181,10 +159,7 @@ impl Combination {
             ↔ Dominates (held_condition self.old) (condition_of other.now) }
         ensures kept { self.new ≡ self.old }
     {
-        self.touched.sort_unstable();
-        let (sums, touched) = (self.sums.as_slice(), self.touched.as_slice());
-        let bound = self.rhs.value();
-        dominate(sums, touched, self.sense, bound, other)
+        dominate(&self.places, self.sense, self.rhs.value(), other)
     }
 
     /// Whether the sum has the row of a constraint, whose coefficients are whole and at integer
@@ -196,9 +171,7 @@ impl Combination {
             → DominatesRounded (held_condition self.old) (condition_of other.now) }
         ensures kept { self.new ≡ self.old }
     {
-        self.touched.sort_unstable();
-        let (sums, touched) = (self.sums.as_slice(), self.touched.as_slice());
-        round_to(sums, touched, self.sense, self.rhs.value(), ints, other)
+        round_to(&self.places, self.sense, self.rhs.value(), ints, other)
     }
 
     /// Gives the sum, and makes it empty. After an error it is spent.
@@ -215,8 +188,7 @@ impl Combination {
         if self.is_spent {
             return Err(CombError::Spent);
         }
-        self.touched.sort_unstable();
-        let Ok(entries) = nonzero_sums(alloc, &self.sums, &self.touched) else {
+        let Ok(entries) = self.places.nonzero(alloc) else {
             self.is_spent = true;
             return Err(CombError::Memory);
         };
@@ -255,65 +227,42 @@ fn joined(a: Sense, b: Sense) -> Option<Sense>
 }
 
 // Whether sums with this sense and this right-hand side are absurd.
-fn are_absurd(sums: &[Partial], touched: &[u32], sense: Sense, bound: Frac) -> bool
-    requires { AreInOrder sums.now touched.now }
-    ensures { IsTrue result ↔ IsAbsurd (summed_condition sums.now (sense_of sense) bound) }
+fn are_absurd(places: &Places, sense: Sense, bound: Frac) -> bool
+    ensures { IsTrue result ↔ IsAbsurd (summed_condition places.now (sense_of sense) bound) }
 {
-    !compares(sense, Frac::zero(), bound) && are_zero(sums, touched)
+    !compares(sense, Frac::zero(), bound) && places.are_zero()
 }
 
 // Whether sums with this sense and this right-hand side have a constraint's row, and say as much.
-fn say_as_much(
-    sums: &[Partial],
-    touched: &[u32],
-    sense: Sense,
-    bound: Frac,
-    other: &Constraint,
-) -> bool
-    requires { AreInOrder sums.now touched.now }
+fn say_as_much(places: &Places, sense: Sense, bound: Frac, other: &Constraint) -> bool
     ensures { IsTrue result
-        ↔ SaysAsMuch (summed_condition sums.now (sense_of sense) bound) (condition_of other.now) }
+        ↔ SaysAsMuch (summed_condition places.now (sense_of sense) bound) (condition_of other.now) }
 {
     (sense == other.sense || sense == Sense::E)
         && compares(other.sense, bound, other.rhs)
-        && have_row(sums, touched, &other.row)
+        && places.are_row(&other.row)
 }
 
 // Whether sums with this sense and this right-hand side dominate a constraint.
-fn dominate(
-    sums: &[Partial],
-    touched: &[u32],
-    sense: Sense,
-    bound: Frac,
-    other: &Constraint,
-) -> bool
-    requires { AreInOrder sums.now touched.now }
+fn dominate(places: &Places, sense: Sense, bound: Frac, other: &Constraint) -> bool
     ensures { IsTrue result
-        ↔ Dominates (summed_condition sums.now (sense_of sense) bound) (condition_of other.now) }
+        ↔ Dominates (summed_condition places.now (sense_of sense) bound) (condition_of other.now) }
 {
-    say_as_much(sums, touched, sense, bound, other) || are_absurd(sums, touched, sense, bound)
+    say_as_much(places, sense, bound, other) || are_absurd(places, sense, bound)
 }
 
 // Whether sums with this sense have a constraint's row, which is whole, and say as much once this
 // right-hand side is rounded.
-fn round_to(
-    sums: &[Partial],
-    touched: &[u32],
-    sense: Sense,
-    bound: Frac,
-    ints: &Ints,
-    other: &Constraint,
-) -> bool
-    requires { AreInOrder sums.now touched.now }
+fn round_to(places: &Places, sense: Sense, bound: Frac, ints: &Ints, other: &Constraint) -> bool
     ensures whole { IsTrue result
-        → IsWholeRow ints.now (summed_condition sums.now (sense_of sense) bound).row }
+        → IsWholeRow ints.now (summed_condition places.now (sense_of sense) bound).row }
     ensures dominates { IsTrue result
-        → DominatesRounded (summed_condition sums.now (sense_of sense) bound)
+        → DominatesRounded (summed_condition places.now (sense_of sense) bound)
         (condition_of other.now) }
 {
     match rounded_rhs(sense, bound) {
         Some(rounded) => {
-            say_as_much(sums, touched, sense, rounded, other) && is_whole_row(&other.row, ints)
+            say_as_much(places, sense, rounded, other) && is_whole_row(&other.row, ints)
         }
         None => false,
     }
@@ -321,27 +270,19 @@ fn round_to(
 
 // Adds the multiple of a constraint to the sums and to the right-hand side.
 fn add_multiple(
-    sums: &mut [Partial],
-    marks: &mut [bool],
-    touched: &mut Vec<u32>,
+    places: &mut Places,
     rhs: &mut Partial,
     constraint: &Constraint,
     multiplier: Frac,
 ) -> Result<(), Overflow>
-    requires places { length marks.old ≡ length sums.old }
-    requires names { NamesBelow (length sums.old) (at constraint.now.row) }
-    requires room { length marks.old ≤ vec_capacity touched.old }
-    requires touching { Touching marks.old touched.old.items }
-    requires covers { Covers sums.old marks.old }
-    ensures fits { IsOk result ↔ (RowAdditionFits sums.old multiplier (at constraint.now.row)
+    requires { NamesBelow (length places.old) (at constraint.now.row) }
+    ensures fits { IsOk result ↔ (RowAdditionFits places.old multiplier (at constraint.now.row)
         × TermFits rhs.old multiplier constraint.now.rhs) }
-    ensures sums { OnOk result (sums.new ≡ with_row sums.old multiplier (at constraint.now.row)) }
+    ensures sums { OnOk result
+        (places.new ≡ with_row places.old multiplier (at constraint.now.row)) }
     ensures rhs { OnOk result (rhs.new ≡ rhs.old +ℚ multiplier *ℚ constraint.now.rhs) }
-    ensures touching { Touching marks.new touched.new.items }
-    ensures covers { Covers sums.new marks.new }
-    ensures capacity { vec_capacity touched.old ≤ vec_capacity touched.new }
+    ensures variables { length places.new ≡ length places.old }
 {
-    let entries = constraint.row.entries();
-    add_terms(sums, marks, touched, entries, multiplier)?;
+    places.add_terms(constraint.row.entries(), multiplier)?;
     rhs.add_product(multiplier, constraint.rhs)
 }

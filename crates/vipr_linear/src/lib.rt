@@ -5,12 +5,12 @@ mod combination;
 mod constraint;
 mod display;
 mod ints;
+mod places;
 mod rounding;
 mod row;
 mod row_entries;
 mod split;
 mod sum_laws;
-mod sums;
 mod values;
 
 pub use combination::{CombError, Combination};

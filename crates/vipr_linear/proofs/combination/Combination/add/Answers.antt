@@ -23,13 +23,13 @@ returns-then-is_zero-clause-overflow c = (λ e. absurd (cc), λ h. absurd (h.2 (
 
 pub returns-in-Ok-clause-overflow : goal.returns-in-Ok-clause-overflow
 returns-in-Ok-clause-overflow c =
-    let known = rw c.deref_mut.ensures.value at c.in-Ok.ensures.fits in
+    let known = c.in-Ok.ensures.fits in
     (λ e. absurd (cc), λ h. absurd (h.2 (subst (λ (a : Accumulator). AdditionFits a (c.args.multiplier, condition_of c.args.constraint.now)) c.self.view_is (λ _. known.0 refl))))
 
 pub returns-in-Err-clause-ok : goal.returns-in-Err-clause-ok
 returns-in-Err-clause-ok c =
     let some : c.args.multiplier ≢ zero_ℚ = known_nonzero c.args.multiplier c.is_zero.result c.is_zero.ensures.zero c.if-is_zero.false in
-    let known = rw c.deref_mut.ensures.value at c.in-Err.ensures.fits in
+    let known = c.in-Err.ensures.fits in
     let never : AdditionFits c.args.self.now (c.args.multiplier, condition_of c.args.constraint.now) → ⊥ = λ fits.
     (let f = subst (λ (a : Accumulator). AdditionFits a (c.args.multiplier, condition_of c.args.constraint.now)) (sym c.self.view_is) fits some in absurd (let x = known.1 f in cc)) in
     (λ t. absurd (cc), λ h. absurd (never h.fits))
@@ -40,7 +40,7 @@ returns-in-Err-clause-overflow c =
     let suitable : joined_with c.args.self.now (c.args.multiplier, condition_of c.args.constraint.now) ≡ Some (sense_of c.in-Some.sense) =
     ap (λ (a : Accumulator). sense_of_both a.sense (sense_of_multiple c.args.multiplier (sense_of c.args.constraint.now.sense))) (sym c.self.view_is) ∙ ap (sense_of_both (sense_of c.self.inside.sense)) (sym c.turned.ensures) ∙ c.in-Some.ensures in
     let some : c.args.multiplier ≢ zero_ℚ = known_nonzero c.args.multiplier c.is_zero.result c.is_zero.ensures.zero c.if-is_zero.false in
-    let known = rw c.deref_mut.ensures.value at c.in-Err.ensures.fits in
+    let known = c.in-Err.ensures.fits in
     let never : AdditionFits c.args.self.now (c.args.multiplier, condition_of c.args.constraint.now) → ⊥ = λ fits.
     (let f = subst (λ (a : Accumulator). AdditionFits a (c.args.multiplier, condition_of c.args.constraint.now)) (sym c.self.view_is) fits some in absurd (let x = known.1 f in cc)) in
     (λ _. (fresh, ap is_some suitable, never), λ _. refl)

@@ -2,29 +2,12 @@ use Rattle.std.proofs.Common.{subst}
 use Rattle.vipr_spec.specs.Constraint.{IsWholeRow, DominatesRounded}
 use Rattle.vipr_linear.specs.Constraint.{condition_of}
 use Rattle.vipr_linear.specs.Accumulator.{Accumulator, held_condition}
-use Rattle.vipr_linear.proofs.Collecting.{rising_of_touched, kept_sorted}
 use Rattle.vipr_linear.proofs.combination.Combination.rounds_to.Goals as goal
 
-pub round_to-requires : goal.round_to-requires
-round_to-requires c =
-    let kept = kept_sorted _ _ _ _ _ _ c.sort_unstable.ensures.permutation c.sort_unstable.ensures.capacity c.self.invariant in
-    rw (c.as_slice-sums.ensures.value, c.as_slice-touched.ensures.value) (record {
-      marks = c.self.inside.marks.items;
-      places = kept.places;
-      touching = kept.touching;
-      covers = kept.covers;
-      rising = rising_of_touched _ _ c.sort_unstable.ensures.sorted kept.touching;
-    })
-
-pub invariant_of-self : goal.invariant_of-self
-invariant_of-self c = kept_sorted _ _ _ _ _ _ c.sort_unstable.ensures.permutation c.sort_unstable.ensures.capacity c.self.invariant
-
 pub returns-clause-whole : goal.returns-clause-whole
-returns-clause-whole c t =
-    let known = rw c.as_slice-sums.ensures.value at (c.round_to.ensures.whole t) in
-    subst (λ (a : Accumulator). IsWholeRow c.args.ints.now (held_condition a).row) c.self.view_is known
+returns-clause-whole c t = subst (λ (a : Accumulator). IsWholeRow c.args.ints.now (held_condition a).row) c.self.view_is (c.round_to.ensures.whole t)
 
 pub returns-clause-dominates : goal.returns-clause-dominates
 returns-clause-dominates c t =
-    let known = rw (c.as_slice-sums.ensures.value, c.value.ensures) at (c.round_to.ensures.dominates t) in
+    let known = rw c.value.ensures at (c.round_to.ensures.dominates t) in
     subst (λ (a : Accumulator). DominatesRounded (held_condition a) (condition_of c.args.other.now)) c.self.view_is known

@@ -1,4 +1,4 @@
-use Rattle.std.proofs.Common.{arith, ◌≡◌, true, false, not, [], ap, sym, ◌∙◌}
+use Rattle.std.proofs.Common.{arith, ◌≡◌, false, not, [], ap, sym, ◌∙◌}
 use Rattle.std.specs.FinMap.{from_sorted}
 use Rattle.std.specs.Ordering.{nat_cmp}
 use Rattle.vipr_spec.specs.Reading.{is_nonzero}

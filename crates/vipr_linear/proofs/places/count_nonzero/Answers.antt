@@ -1,0 +1,30 @@
+use Rattle.std.proofs.Common.{rules, arith, ◌≡◌, ◌≢◌, ◌<◌, ◌∙◌, ap, get_or, length}
+use Rattle.vipr_spec.specs.Fraction.{zero_ℚ}
+use Rattle.vipr_linear.proofs.Marks.{all_picked}
+use Rattle.vipr_linear.proofs.Counting.{counted, passed}
+use Rattle.vipr_linear.proofs.places.count_nonzero.Goals as goal
+use Rattle.vipr_linear.proofs.places.count_nonzero.Goals.{then-not-is_zero, else-not-is_zero}
+
+pub loop-place-preserved : goal.loop-place-preserved
+loop-place-preserved c =
+    let i = c.loop-place.place-index in
+    let within : get_or c.args.places.now i 0 < length c.args.sums.now = c.requires i 0 c.loop-place-test.true in
+    elim c.if-not-is_zero.branch [
+      | then-not-is_zero w ↦
+          let some : c.index-sums-place.result ≢ zero_ℚ = λ z. (let t = c.is_zero.ensures.1 z in let f = w.if-not-is_zero.true in cc) in
+          let more = counted c.args.sums.now c.args.places.now i c.index-sums-place.result c.loop-place-test.true within c.index-sums-place.is some in
+          record {
+            within = omega (arith, w.count-is, c.loop-place.invariant.within);
+            count = omega (arith, w.count-is, c.loop-place.invariant.count, more);
+          }
+      | else-not-is_zero w ↦
+          let zero : c.index-sums-place.result ≡ zero_ℚ = c.is_zero.ensures.0 (let t = w.if-not-is_zero.false in grind (rules, t)) in
+          let same = passed c.args.sums.now c.args.places.now i c.index-sums-place.result c.loop-place-test.true within c.index-sums-place.is zero in
+          record {
+            within = omega (arith, w.count-is, c.loop-place.invariant.within);
+            count = omega (arith, w.count-is, c.loop-place.invariant.count, same);
+          }
+    ]
+
+pub returns : goal.returns
+returns c = c.loop-place.invariant.count ∙ ap length (all_picked c.args.sums.now c.args.places.now c.loop-place.place-index c.loop-place-test.false)
