@@ -7,10 +7,12 @@ Each mistake is made in a copy, which is explained from its file and from standa
 have to come first, byte for byte, with the same exit status; behind them the place at fault, and what to change there. So has each
 of the ten problems as it is: it is verified, and its goal is shown. Then texts that are no certificate, a line of
 binary bytes, names with controls, and long rows. Every byte that is printed behind the first lines is printable ASCII
-or a line feed, and there are 65,536 of them at most. A file that can't be read has the answer of `vipr explain`.
+or a line feed, and there are 65,536 of them at most. A file that can't be read has the answer of
+`vipr explain`, and in front of it a line with its name and the reason.
 
 Prints each fault, and last `long: N checks, F failed`; the exit status is 1 if one failed.
 """
+import errno
 import gzip
 import os
 import subprocess
@@ -221,13 +223,15 @@ def page_of(path, name):
     return named
 
 
-def unread(path):
-    """A file that can't be read: `fault read` is all that is printed, as without --long."""
+def unread(path, reason):
+    """A file that can't be read: `fault read` is all that is printed without --long, which names it and the reason."""
     short, long = (subprocess.run([PROGRAM, 'explain', *words, path], capture_output=True, check=False)
                    for words in ([], ['--long']))
-    answers = [(run.stdout, run.stderr, run.returncode) for run in (short, long)]
-    check(answers[0] == (b'', b'fault read\n', 3), f'{path!r}, which can not be read: {answers[0]}')
-    check(answers[1] == answers[0], f'{path!r}, which can not be read, with --long: {answers[1]}')
+    check((short.stdout, short.stderr, short.returncode) == (b'', b'fault read\n', 3), f'{path!r}: {short}')
+    named = ''.join(it if ' ' <= it <= '~' else f'\\x{ord(it):02x}' for it in str(path))
+    line = f'{named}: {os.strerror(reason)} (os error {reason})\n'
+    check((long.stdout, long.stderr.decode(), long.returncode) == (b'', line + 'fault read\n', 3),
+          f'{path!r} with --long, not {line!r}: {long}')
 
 
 def main():
@@ -235,10 +239,12 @@ def main():
         path = Path(folder) / 'copy.vipr'
         path.write_bytes(b'')
         path.chmod(0)
-        locked = [path] if not os.access(path, os.R_OK) else []
-        for name in [Path(folder) / 'missing.vipr', folder, '', *locked]:
-            unread(name)
+        if not os.access(path, os.R_OK):
+            unread(path, errno.EACCES)
         path.unlink()
+        for name in ('missing.vipr', 'a \x1b[31m name\n', ''):
+            unread(name and f'{folder}/{name}', errno.ENOENT)
+        unread(folder, errno.EISDIR)
         for problem, old, new, place, change in MISTAKES:
             name = f'{problem}, {old!r} -> {new!r}'
             text = (PROBLEMS / f'{problem}.vipr').read_text()

@@ -3,13 +3,14 @@ use Rattle.std.proofs.Common.{◌≡◌, ◌≢◌, ℕ, zero, suc, ◌+◌, ◌
 use Rattle.std.specs.Prelude.{◌⊎◌, IsSome}
 use Rattle.vipr_scan.specs.Giving.{rest_of}
 use Rattle.std.proofs.lemmas.List.{length-append}
-use Rattle.vipr_spec.specs.Constraint.{condition, Profile, Row, NamesBelow}
+use Rattle.vipr_spec.specs.Constraint.{Profile, Row, NamesBelow}
 use Rattle.vipr_spec.specs.Certificate.{Named, Problem, variables, Derivation, Certificate, MeetsPrimal, IsProof}
 use Rattle.vipr_spec.specs.Reading.{Rest, problem_read, solution_read, derivations_read, derivation_read, end_read}
-use Rattle.vipr_spec.specs.Steps.{step_tests, PassesStep, with_next, FirstFailing}
+use Rattle.vipr_spec.specs.Steps.{step_tests, with_next, FirstFailing}
 use Rattle.vipr_spec.specs.Checking.{start}
 use Rattle.vipr_spec.specs.Tests.{spelled, PassesSolution, solution_tests, Detail, none, step, no_proof, no_primal, solution_detail, goal_needed_by}
 use Rattle.vipr_spec.specs.Steps.{FirstFailing}
+use Rattle.vipr_rules.specs.Apply.{PassesTestsIn}
 use Rattle.vipr_spec.specs.Verdict.{Reports, Answer, verified, refuses, answer_of_test, Explained, IsExplained}
 use Rattle.vipr_spec.specs.Shape.{ReasonShape}
 use Rattle.vipr_spec.specs.Progress.{derivations_from, solutions_from}
@@ -19,20 +20,20 @@ use Rattle.vipr_scan.specs.declared.error.TextError.{TextError}
 use Rattle.vipr_read.specs.Items.{Items, Knows, Remembers}
 use Rattle.vipr_rules.specs.Solution.{test_of}
 use Rattle.vipr_check.specs.declared.verdict.Report.{Report}
-use Rattle.vipr_check.specs.declared.verdict.Verdict.{Verdict}
-use Rattle.vipr_check.specs.declared.verdict.Fault.{Fault}
-use Rattle.vipr_check.specs.declared.verdict.Fault.TheVariants as fault
 use Rattle.vipr_check.specs.declared.halt.Stop.{Stop}
 use Rattle.vipr_check.specs.declared.halt.Stop.TheVariants as stop
 use Rattle.vipr_check.specs.declared.halt.Halt.{Halt}
 use Rattle.vipr_check.specs.declared.halt.Halt.TheVariants.{Refused, Memory}
+use Rattle.vipr_check.specs.declared.no_proof.NoProof.{NoProof}
+use Rattle.vipr_check.specs.declared.no_proof.NoProof.TheVariants as reason
 use Rattle.vipr_check.specs.View.{report_of, refusal_of}
 use Rattle.vipr_check.specs.Shown.{finding_shown, primal_shown, halt_shown, state_shown}
 use Rattle.vipr_check.specs.Halts.{halt_answer}
 use Rattle.vipr_check.specs.Progress.{HasSolutions, HasSteps}
 use Rattle.vipr_check.specs.State.{State, HaltsBy, StopsSolution, TakesSolution, StopsEnd, EndsSolutions, StopsStep, TakesStep, StopsFinish, Finishes}
-use Rattle.vipr_check.specs.Run.{text_answer, stop_answer, step_answer, end_answer, IsAmong, HasListed, GoesAmong, IsAt, HasReached, Goes, SaysWith}
-use Rattle.vipr_check.proofs.Answering.{SaysWith-by, text_says}
+use Rattle.vipr_check.specs.Reasons.{stop_reason, text_reason, SaysWhy}
+use Rattle.vipr_check.specs.Run.{IsAmong, HasListed, IsAt, HasReached, SaysWith}
+use Rattle.vipr_check.proofs.Answering.{SaysWhy-by, SaysWith-by, text_says}
 use Rattle.vipr_check.proofs.ShownLemmas.{missed_bound, stop_shown, halted_shown, unshown}
 
 -- ---- the reader's memory
@@ -43,16 +44,13 @@ knows_still p old new k r = record { variables = r.variables ∙ k.variables; co
 -- ---- stops
 
 -- a checker that stops for the first time isn't spent
-pub first_unspent : (h : Halt) (e : Stop) → e ≡ halt_answer h → e ≢ stop.Spent
+first_unspent : (h : Halt) (e : Stop) → e ≡ halt_answer h → e ≢ stop.Spent
 first_unspent (Refused r f) e says is = cc
 first_unspent Memory e says is = cc
 
-some_stop : {T : Type 0} (e : Stop) → e ≢ stop.Spent → ◌≢◌ {A = Result T Stop} (Err e) (Err stop.Spent)
-some_stop e n is = n (cc)
-
 -- what is said where a checker stopped
-stopped_says : (P : Answer → Detail → Type 0) (k l : State) (h : Halt) (e : Stop) → HaltsBy k h l e → SaysWith P (halt_shown k.progress.problem (Some h)) (stop_answer (halt_answer h)) → SaysWith P (state_shown l) (stop_answer e)
-stopped_says P k l h e halts s = subst (λ x. SaysWith P x (stop_answer e)) (sym (halted_shown k l h e halts)) (subst (λ t. SaysWith P (halt_shown k.progress.problem (Some h)) (stop_answer t)) (sym halts.answer) s)
+stopped_says : (P : Answer → Detail → Type 0) (k l : State) (h : Halt) (e : Stop) → HaltsBy k h l e → SaysWhy P (halt_shown k.progress.problem (Some h)) (stop_reason (halt_answer h)) → SaysWhy P (state_shown l) (stop_reason e)
+stopped_says P k l h e halts s = subst (λ x. SaysWhy P x (stop_reason e)) (sym (halted_shown k l h e halts)) (subst (λ t. SaysWhy P (halt_shown k.progress.problem (Some h)) (stop_reason t)) (sym halts.answer) s)
 
 -- ---- the derivations
 
@@ -62,14 +60,6 @@ room_for P c k old n is e = let r = is.room in let next = is.has.rows.next in om
 
 pub names_for : (P : Profile) (c : Certificate) (k : State) (old : Items) (row : ℕ → _) → IsAt P c k old → NamesBelow old.variables row → NamesBelow (variables k.progress.problem) row
 names_for P c k old row is names = subst (λ p. NamesBelow (variables p) row) is.has.problem (subst (λ n. NamesBelow n row) is.knows.variables names)
-
-pub step_unspent : (c : Certificate) (d : Derivation) (k l : State) (x : Result (Unit {0}) Stop) → TakesStep c d k l x → x ≢ Err stop.Spent
-step_unspent c d k l (Ok done) h = λ e. cc
-step_unspent c d k l (Err e) h = some_stop e (first_unspent h.0 e h.1.answer)
-
-pub finish_unspent : (c : Certificate) (k l : State) (x : Result Report Stop) → Finishes c k l x → x ≢ Err stop.Spent
-finish_unspent c k l (Ok r) h = λ e. cc
-finish_unspent c k l (Err e) h = some_stop e (first_unspent h.0 e h.1.answer)
 
 pub at_start : (P : Profile) (p : Problem) (ss : List (Named Row)) (k l : State) (r : Items) → IsAmong P p ss k r → EndsSolutions ss k l (Ok tt) → (new : Items) → Knows new p → new.failed ≡ false → new.constraints + new.left < 2 ^ 32
     → IsAt P (start p ss) l new
@@ -93,74 +83,83 @@ reached_later P c k l old mid new h i = record {
   leads = λ known. let a = h.leads known in let b = i.leads a.known in record { known = b.known; answers = λ x z y. a.answers x z (b.answers x z y) };
 }
 
-pub ended_later : (P : Profile) (c : Certificate) (k : State) (old mid : Items) (y : Detail) (x : Result Verdict Fault) → (h : HasReached P c old k mid) → IsSome old.rest
-    → (IsSome mid.rest → SaysWith (Explained P (derivations_from h.now mid.left (rest_of mid.rest))) y x) → SaysWith (Explained P (derivations_from c old.left (rest_of old.rest))) y x
-ended_later P c k old mid y x h known s = let a = h.leads known in SaysWith-by (Explained P (derivations_from h.now mid.left (rest_of mid.rest))) (Explained P (derivations_from c old.left (rest_of old.rest))) y x a.answers (s a.known)
+-- an answer for what is left now is one for what was left before
+pub reached_says : (P : Profile) (c : Certificate) (k : State) (old mid : Items) (h : HasReached P c old k mid) → IsSome old.rest → (a : Answer) (x : Detail) → (IsSome mid.rest → Explained P (derivations_from h.now mid.left (rest_of mid.rest)) a x) → Explained P (derivations_from c old.left (rest_of old.rest)) a x
+reached_says P c k old mid h known a x s = let leads = h.leads known in leads.answers a x (s leads.known)
 
-module _ (P : Profile) (c : Certificate) (k l : State) (old new : Items) (d : Derivation) (is : IsAt P c k old) (few : ReasonShape d.reason) (fewer : old.left ≡ suc new.left) (memory : Remembers old new) (unspent : new.failed ≡ false)
-    (read : IsSome old.rest → (derivation_read c.problem (rest_of old.rest) ≡ Ok (d, (rest_of new.rest))) × (IsSome new.rest)) where
-  abbrev Left : Answer → Detail → Type 0
-  Left a x = Explained P (derivations_from c old.left (rest_of old.rest)) a x
+pub reached_why : (P : Profile) (c : Certificate) (k : State) (old mid : Items) (h : HasReached P c old k mid) → IsSome old.rest → (x : Detail) (e : NoProof) → (IsSome mid.rest → SaysWhy (Explained P (derivations_from h.now mid.left (rest_of mid.rest))) x e) → SaysWhy (Explained P (derivations_from c old.left (rest_of old.rest))) x e
+reached_why P c k old mid h known x e s = let leads = h.leads known in SaysWhy-by (Explained P (derivations_from h.now mid.left (rest_of mid.rest))) (Explained P (derivations_from c old.left (rest_of old.rest))) x e leads.answers (s leads.known)
 
-  step_stopped : (p : Problem) (h : Halt) → StopsStep P c d h → IsSome old.rest → SaysWith Left (halt_shown p (Some h)) (stop_answer (halt_answer h))
-  step_stopped p Memory w known = tt
-  step_stopped p (Refused r f) (e, named, fails, refusal) known =
-      let a = refuses (refusal_of r) in
-      let x = finding_shown p f in
-      let shown : x ≡ step d.name fails.2.0 = ap (finding_shown p) named ∙ ap (step d.name) (stop_shown P c d e few fails) in
-      subst (λ n. Explained P (derivations_from c n (rest_of old.rest)) a x) (sym fewer)
-      ((derivation_fails P a x c new.left (rest_of old.rest) d (rest_of new.rest) fails.0 (read known).0 fails.1).1 (refusal, (fails.2.0, fails.2.2, shown)))
-
-  pub goes_on : (x : Result (Unit {0}) Stop) → TakesStep c d k l x → Goes P c old l new (step_answer x)
-  goes_on (Ok done) h = record {
-    now = with_next c d;
-    is_at = record {
-      profile = ap (λ v. v.progress.profile) h.4 ∙ is.profile;
-      has = h.1;
-      phase = ap (λ v. v.in_solutions) h.4 ∙ is.phase;
-      runs = ap (λ v. v.halt) h.4 ∙ is.runs;
-      knows = knows_still c.problem old new is.knows memory;
-      unspent = unspent;
-      room = (let e = count_next c d in let r = is.room in omega arith);
-    };
-    leads = λ known. record {
-      known = (read known).1;
-      answers = λ a x y. subst (λ n. Explained P (derivations_from c n (rest_of old.rest)) a x) (sym fewer) ((derivation_passes P a x c new.left (rest_of old.rest) d (rest_of new.rest) (read known).0 (subst (λ Q. FirstFailing (PassesStep Q c (condition d.stated)) (step_tests d.reason) None) is.profile h.0)).1 y);
-    };
+module _ (P : Profile) (c : Certificate) (k l : State) (old new : Items) (d : Derivation) (is : IsAt P c k old) (fewer : old.left ≡ suc new.left) where
+  pub step_taken : Remembers old new → new.failed ≡ false → TakesStep c d k l (Ok tt) → IsAt P (with_next c d) l new
+  step_taken memory unspent h = record {
+    profile = ap (λ v. v.progress.profile) h.4 ∙ is.profile;
+    has = h.1;
+    phase = ap (λ v. v.in_solutions) h.4 ∙ is.phase;
+    runs = ap (λ v. v.halt) h.4 ∙ is.runs;
+    knows = knows_still c.problem old new is.knows memory;
+    unspent = unspent;
+    room = (let e = count_next c d in let r = is.room in omega arith);
   }
-  goes_on (Err e) (h, halts, why) = λ known. stopped_says Left k l h e halts (step_stopped k.progress.problem h (subst (λ Q. StopsStep Q c d h) is.profile why) known)
 
-pub derivations_failed : (P : Profile) (c : Certificate) (n : ℕ) (r : Rest) (x : Detail) (e : TextError) → x ≡ none → ((n ≡ 0) × Fails e (end_read r)) ⊎ ((0 < n) × Fails e (derivation_read c.problem r)) → SaysWith (Explained P (derivations_from c n r)) x (text_answer e)
-derivations_failed P c n r x e shown (inl h) = subst (λ n. SaysWith (Explained P (derivations_from c n r)) x (text_answer e)) (sym h.0) (text_says (Explained P (derivations_from c 0 r)) x e (end_read r) shown h.1 (λ f is. (end_fault P (answer_of_test (spelled f)) none c r f is).1 (refl, refl)))
-derivations_failed P c zero r x e shown (inr h) = absurd (let z = h.0 in omega arith)
-derivations_failed P c (suc n) r x e shown (inr h) = text_says (Explained P (derivations_from c (suc n) r)) x e (derivation_read c.problem r) shown h.1 (λ f is. (derivation_fault P (answer_of_test (spelled f)) none c n r f is).1 (refl, refl))
+  pub step_passes : TakesStep c d k l (Ok tt) → PassesTestsIn P c d (step_tests d.reason)
+  step_passes h = subst (λ Q. PassesTestsIn Q c d (step_tests d.reason)) is.profile h.0
+
+  module _ (read : IsSome old.rest → (derivation_read c.problem (rest_of old.rest) ≡ Ok (d, (rest_of new.rest))) × (IsSome new.rest)) where
+    abbrev Left : Answer → Detail → Type 0
+    Left a x = Explained P (derivations_from c old.left (rest_of old.rest)) a x
+
+    pub step_reached : Remembers old new → new.failed ≡ false → TakesStep c d k l (Ok tt) → HasReached P c old l new
+    step_reached memory unspent h = record {
+      now = with_next c d;
+      is_at = step_taken memory unspent h;
+      leads = λ known. record {
+        known = (read known).1;
+        answers = λ a x y. subst (λ n. Explained P (derivations_from c n (rest_of old.rest)) a x) (sym fewer) ((derivation_passes P a x c new.left (rest_of old.rest) d (rest_of new.rest) (read known).0 (step_passes h)).1 y);
+      };
+    }
+
+    step_stopped : ReasonShape d.reason → (p : Problem) (h : Halt) → StopsStep P c d h → IsSome old.rest → SaysWhy Left (halt_shown p (Some h)) (stop_reason (halt_answer h))
+    step_stopped few p Memory w known = tt
+    step_stopped few p (Refused r f) (e, named, fails, refusal) known =
+        let a = refuses (refusal_of r) in
+        let x = finding_shown p f in
+        let shown : x ≡ step d.name fails.2.0 = ap (finding_shown p) named ∙ ap (step d.name) (stop_shown P c d e few fails) in
+        subst (λ n. Explained P (derivations_from c n (rest_of old.rest)) a x) (sym fewer)
+        ((derivation_fails P a x c new.left (rest_of old.rest) d (rest_of new.rest) fails.0 (read known).0 fails.1).1 (refusal, (fails.2.0, fails.2.2, shown)))
+
+    pub step_stops : ReasonShape d.reason → (e : Stop) → TakesStep c d k l (Err e) → IsSome old.rest → SaysWhy Left (state_shown l) (stop_reason e)
+    step_stops few e (h, halts, why) known = stopped_says Left k l h e halts (step_stopped few k.progress.problem h (subst (λ Q. StopsStep Q c d h) is.profile why) known)
+
+pub derivation_missing : (P : Profile) (c : Certificate) (n : ℕ) (r : Rest) (x : Detail) (e : TextError) → x ≡ none → ((n ≡ 0) × Fails e (end_read r)) ⊎ ((0 < n) × Fails e (derivation_read c.problem r)) → SaysWhy (Explained P (derivations_from c n r)) x (text_reason e)
+derivation_missing P c n r x e shown (inl h) = subst (λ n. SaysWhy (Explained P (derivations_from c n r)) x (text_reason e)) (sym h.0) (text_says (Explained P (derivations_from c 0 r)) x e (end_read r) shown h.1 (λ f is. (end_fault P (answer_of_test (spelled f)) none c r f is).1 (refl, refl)))
+derivation_missing P c zero r x e shown (inr h) = absurd (let z = h.0 in omega arith)
+derivation_missing P c (suc n) r x e shown (inr h) = text_says (Explained P (derivations_from c (suc n) r)) x e (derivation_read c.problem r) shown h.1 (λ f is. (derivation_fault P (answer_of_test (spelled f)) none c n r f is).1 (refl, refl))
 
 -- ---- the end
 
-finish_stopped : (P : Profile) (c : Certificate) (r : Rest) (p : Problem) (h : Halt) → c.problem ≡ p → end_read r ≡ Ok tt → StopsFinish P c h → SaysWith (Explained P (derivations_from c 0 r)) (halt_shown p (Some h)) (stop_answer (halt_answer h))
+finish_stopped : (P : Profile) (c : Certificate) (r : Rest) (p : Problem) (h : Halt) → c.problem ≡ p → end_read r ≡ Ok tt → StopsFinish P c h → SaysWhy (Explained P (derivations_from c 0 r)) (halt_shown p (Some h)) (stop_reason (halt_answer h))
 finish_stopped P c r p Memory same end w = absurd w
 finish_stopped P c r p (Refused x f) same end (named, fails, refusal) =
     let shown : finding_shown p f ≡ no_proof (goal_needed_by c.problem c.problem.claim) = ap (finding_shown p) named ∙ ap (λ q. no_proof (goal_needed_by q q.claim)) (sym same) in
     (end_unproved P (refuses (refusal_of x)) (finding_shown p f) c r end fails).1 (refusal, shown)
 
-pub finished : (P : Profile) (c : Certificate) (k l : State) (r : Rest) (x : Result Report Stop) → k.progress.profile ≡ P → c.problem ≡ k.progress.problem → k.halt ≡ None → end_read r ≡ Ok tt → Finishes c k l x → SaysWith (Explained P (derivations_from c 0 r)) (state_shown l) (end_answer x)
-finished P c k l r (Ok report) under same runs end h =
-    let shown : state_shown l ≡ none = ap state_shown h.3 ∙ unshown k runs in
-    (end_verified P (verified (report_of report)) (state_shown l) c r end (subst (λ Q. IsProof Q c) under h.0).dual).1 ((report_of report, subst (λ Q. Reports Q c (report_of report)) under h.1, refl), shown)
-finished P c k l r (Err e) under same runs end (h, halts, why) = stopped_says (Explained P (derivations_from c 0 r)) k l h e halts (finish_stopped P c r k.progress.problem h same end (subst (λ Q. StopsFinish Q c h) under why))
+module _ (P : Profile) (c : Certificate) (k l : State) (r : Rest) (under : k.progress.profile ≡ P) (end : end_read r ≡ Ok tt) where
+  pub finish_stops : (e : Stop) → c.problem ≡ k.progress.problem → Finishes c k l (Err e) → SaysWhy (Explained P (derivations_from c 0 r)) (state_shown l) (stop_reason e)
+  finish_stops e same (h, halts, why) = stopped_says (Explained P (derivations_from c 0 r)) k l h e halts (finish_stopped P c r k.progress.problem h same end (subst (λ Q. StopsFinish Q c h) under why))
+
+  pub finish_verifies : (report : Report) → k.halt ≡ None → Finishes c k l (Ok report) → Explained P (derivations_from c 0 r) (verified (report_of report)) (state_shown l)
+  finish_verifies report runs h =
+      let shown : state_shown l ≡ none = ap state_shown h.3 ∙ unshown k runs in
+      (end_verified P (verified (report_of report)) (state_shown l) c r end (subst (λ Q. IsProof Q c) under h.0).dual).1 ((report_of report, subst (λ Q. Reports Q c (report_of report)) under h.1, refl), shown)
 
 -- ---- the solutions
 
-pub solution_unspent : (ss : List (Named Row)) (s : Named Row) (k l : State) (x : Result (Unit {0}) Stop) → TakesSolution ss s k l x → x ≢ Err stop.Spent
-solution_unspent ss s k l (Ok done) h = λ e. cc
-solution_unspent ss s k l (Err e) h = some_stop e (first_unspent h.0 e h.1.answer)
-
--- what neither wants memory nor was spent ends in no want of memory
-pub step_decided : (x : Result (Unit {0}) Stop) → x ≢ Err stop.Memory → x ≢ Err stop.Spent → step_answer x ≢ Some (Err fault.Memory)
-step_decided (Ok done) m s = λ e. cc
-step_decided (Err (stop.Refused r)) m s = λ e. cc
-step_decided (Err stop.Memory) m s = λ e. absurd (m refl)
-step_decided (Err stop.Spent) m s = λ e. absurd (s refl)
+-- where no memory is wanted, its want is not the reason
+pub never_memory : (ss : List (Named Row)) (s : Named Row) (k l : State) (e : Stop) → TakesSolution ss s k l (Err e) → e ≢ stop.Memory → stop_reason e ≢ reason.Memory
+never_memory ss s k l (stop.Refused r) h n = λ is. cc
+never_memory ss s k l stop.Memory h n = absurd (n refl)
+never_memory ss s k l stop.Spent h n = absurd (first_unspent h.0 stop.Spent h.1.answer refl)
 
 pub listed_now : (P : Profile) (p : Problem) (ss : List (Named Row)) (k : State) (old : Items) → IsAmong P p ss k old → HasListed P p ss old k old
 listed_now P p ss k old is = record { now = ss; is_among = is; known = λ t. t; answers = λ t a x h. h }
@@ -173,79 +172,84 @@ listed_later P p ss k l old mid new h i = record {
   answers = λ t a x y. h.answers t a x (i.answers (h.known t) a x y);
 }
 
-pub answered_later : (P : Profile) (p : Problem) (ss : List (Named Row)) (k : State) (old mid : Items) (y : Detail) (x : Result Verdict Fault) → (h : HasListed P p ss old k mid) → IsSome old.rest
-    → (IsSome mid.rest → SaysWith (Explained P (solutions_from p h.now mid.left (rest_of mid.rest))) y x) → SaysWith (Explained P (solutions_from p ss old.left (rest_of old.rest))) y x
-answered_later P p ss k old mid y x h known s = SaysWith-by (Explained P (solutions_from p h.now mid.left (rest_of mid.rest))) (Explained P (solutions_from p ss old.left (rest_of old.rest))) y x (h.answers known) (s (h.known known))
+-- an answer for what is left now is one for what was left before
+pub listed_says : (P : Profile) (p : Problem) (ss : List (Named Row)) (k : State) (old mid : Items) (h : HasListed P p ss old k mid) → IsSome old.rest → (x : Detail) (y : Result Report NoProof) → (IsSome mid.rest → SaysWith (Explained P (solutions_from p h.now mid.left (rest_of mid.rest))) x y) → SaysWith (Explained P (solutions_from p ss old.left (rest_of old.rest))) x y
+listed_says P p ss k old mid h known x y s = SaysWith-by (Explained P (solutions_from p h.now mid.left (rest_of mid.rest))) (Explained P (solutions_from p ss old.left (rest_of old.rest))) x y (h.answers known) (s (h.known known))
 
 -- there is a number for one more
 pub one_more : (P : Profile) (p : Problem) (ss : List (Named Row)) (k : State) (old : Items) → IsAmong P p ss k old → 0 < old.left → k.progress.solutions + 1 < 2 ^ 32
 one_more P p ss k old is some = let e = is.has.solutions in let r = is.room in omega (arith, e, r, some)
 
-module _ (P : Profile) (p : Problem) (ss : List (Named Row)) (k l : State) (old new : Items) (s : Named Row) (is : IsAmong P p ss k old) (fewer : old.left ≡ suc new.left) (memory : Remembers old new) (unspent : new.failed ≡ false)
-    (read : IsSome old.rest → (solution_read p (rest_of old.rest) ≡ Ok (s, (rest_of new.rest))) × (IsSome new.rest)) where
-  abbrev Remaining : Answer → Detail → Type 0
-  Remaining a x = Explained P (solutions_from p ss old.left (rest_of old.rest)) a x
-
-  solution_stopped : (h : Halt) → StopsSolution p ss s h → IsSome old.rest → SaysWith Remaining (halt_shown p (Some h)) (stop_answer (halt_answer h))
-  solution_stopped Memory w known = tt
-  solution_stopped (Refused r f) (e, named, fails, refusal) known =
-      let a = refuses (refusal_of r) in
-      let x = finding_shown p f in
-      let shown : x ≡ solution_detail p s.name s.item (test_of e) = ap (finding_shown p) named ∙ fails.1 s.name in
-      subst (λ n. Explained P (solutions_from p ss n (rest_of old.rest)) a x) (sym fewer)
-      ((solution_fails P a x p ss new.left (rest_of old.rest) s (rest_of new.rest) (test_of e) (read known).0 fails.0).1 (refusal, shown))
-
-  pub goes_among : (x : Result (Unit {0}) Stop) → TakesSolution ss s k l x → GoesAmong P p ss old l new (step_answer x)
-  goes_among (Ok done) h = record {
-    now = ss ++ s ∷ [];
-    is_among = record {
-      profile = ap (λ v. v.progress.profile) h.2 ∙ is.profile;
-      problem = ap (λ v. v.progress.problem) h.2 ∙ is.problem;
-      has = h.1;
-      phase = ap (λ v. v.in_solutions) h.2 ∙ is.phase;
-      runs = ap (λ v. v.halt) h.2 ∙ is.runs;
-      knows = knows_still p old new is.knows memory;
-      unspent = unspent;
-      room = (let e = length-append ss (s ∷ []) in let r = is.room in omega (arith, e, r, fewer));
-    };
-    known = λ known. (read known).1;
-    answers = λ known a x y. subst (λ n. Explained P (solutions_from p ss n (rest_of old.rest)) a x) (sym fewer)
-        ((solution_passes P a x p ss new.left (rest_of old.rest) s (rest_of new.rest) (read known).0 (subst (λ q. FirstFailing (PassesSolution q s.item) (solution_tests q) None) is.problem h.0)).1 y);
+module _ (P : Profile) (p : Problem) (ss : List (Named Row)) (k l : State) (old new : Items) (s : Named Row) (is : IsAmong P p ss k old) (fewer : old.left ≡ suc new.left) where
+  pub solution_taken : Remembers old new → new.failed ≡ false → TakesSolution ss s k l (Ok tt) → IsAmong P p (ss ++ s ∷ []) l new
+  solution_taken memory unspent h = record {
+    profile = ap (λ v. v.progress.profile) h.2 ∙ is.profile;
+    problem = ap (λ v. v.progress.problem) h.2 ∙ is.problem;
+    has = h.1;
+    phase = ap (λ v. v.in_solutions) h.2 ∙ is.phase;
+    runs = ap (λ v. v.halt) h.2 ∙ is.runs;
+    knows = knows_still p old new is.knows memory;
+    unspent = unspent;
+    room = (let e = length-append ss (s ∷ []) in let r = is.room in omega (arith, e, r, fewer));
   }
-  goes_among (Err e) (h, halts, why) = λ known. stopped_says Remaining k l h e halts
-      (subst (λ q. SaysWith Remaining (halt_shown q (Some h)) (stop_answer (halt_answer h))) (sym is.problem) (solution_stopped h (subst (λ q. StopsSolution q ss s h) is.problem why) known))
 
-solution_fault_at : (P : Profile) (p : Problem) (ss : List (Named Row)) (n : ℕ) (r : Rest) (x : Detail) (e : TextError) → x ≡ none → 0 < n → Fails e (solution_read p r) → SaysWith (Explained P (solutions_from p ss n r)) x (text_answer e)
+  pub solution_passes_all : TakesSolution ss s k l (Ok tt) → FirstFailing (PassesSolution p s.item) (solution_tests p) None
+  solution_passes_all h = subst (λ q. FirstFailing (PassesSolution q s.item) (solution_tests q) None) is.problem h.0
+
+  module _ (read : IsSome old.rest → (solution_read p (rest_of old.rest) ≡ Ok (s, (rest_of new.rest))) × (IsSome new.rest)) where
+    abbrev Remaining : Answer → Detail → Type 0
+    Remaining a x = Explained P (solutions_from p ss old.left (rest_of old.rest)) a x
+
+    pub solution_listed : Remembers old new → new.failed ≡ false → TakesSolution ss s k l (Ok tt) → HasListed P p ss old l new
+    solution_listed memory unspent h = record {
+      now = ss ++ s ∷ [];
+      is_among = solution_taken memory unspent h;
+      known = λ known. (read known).1;
+      answers = λ known a x y. subst (λ n. Explained P (solutions_from p ss n (rest_of old.rest)) a x) (sym fewer)
+          ((solution_passes P a x p ss new.left (rest_of old.rest) s (rest_of new.rest) (read known).0 (solution_passes_all h)).1 y);
+    }
+
+    solution_stopped : (h : Halt) → StopsSolution p ss s h → IsSome old.rest → SaysWhy Remaining (halt_shown p (Some h)) (stop_reason (halt_answer h))
+    solution_stopped Memory w known = tt
+    solution_stopped (Refused r f) (e, named, fails, refusal) known =
+        let a = refuses (refusal_of r) in
+        let x = finding_shown p f in
+        let shown : x ≡ solution_detail p s.name s.item (test_of e) = ap (finding_shown p) named ∙ fails.1 s.name in
+        subst (λ n. Explained P (solutions_from p ss n (rest_of old.rest)) a x) (sym fewer)
+        ((solution_fails P a x p ss new.left (rest_of old.rest) s (rest_of new.rest) (test_of e) (read known).0 fails.0).1 (refusal, shown))
+
+    pub solution_stops : (e : Stop) → TakesSolution ss s k l (Err e) → IsSome old.rest → SaysWhy Remaining (state_shown l) (stop_reason e)
+    solution_stops e (h, halts, why) known = stopped_says Remaining k l h e halts
+        (subst (λ q. SaysWhy Remaining (halt_shown q (Some h)) (stop_reason (halt_answer h))) (sym is.problem) (solution_stopped h (subst (λ q. StopsSolution q ss s h) is.problem why) known))
+
+solution_fault_at : (P : Profile) (p : Problem) (ss : List (Named Row)) (n : ℕ) (r : Rest) (x : Detail) (e : TextError) → x ≡ none → 0 < n → Fails e (solution_read p r) → SaysWhy (Explained P (solutions_from p ss n r)) x (text_reason e)
 solution_fault_at P p ss zero r x e shown lt h = absurd (omega arith)
 solution_fault_at P p ss (suc n) r x e shown lt h = text_says (Explained P (solutions_from p ss (suc n) r)) x e (solution_read p r) shown h (λ f is. (solution_fault P (answer_of_test (spelled f)) none p ss n r f is).1 (refl, refl))
 
-pub solution_missing : (P : Profile) (p : Problem) (ss : List (Named Row)) (n : ℕ) (r : Rest) (x : Detail) (e : TextError) → x ≡ none → 0 < n → ((n ≡ 0) × Fails {Y = Unit {0}} e (Ok tt)) ⊎ ((0 < n) × Fails e (solution_read p r)) → SaysWith (Explained P (solutions_from p ss n r)) x (text_answer e)
-solution_missing P p ss n r x e shown lt (inl h) = absurd (let z = h.0 in omega arith)
-solution_missing P p ss n r x e shown lt (inr h) = solution_fault_at P p ss n r x e shown lt h.1
+pub solution_missing : (P : Profile) (p : Problem) (ss : List (Named Row)) (n : ℕ) (r : Rest) (x : Detail) (e : TextError) → x ≡ none → ((n ≡ 0) × Fails {Y = Unit {0}} e (Ok tt)) ⊎ ((0 < n) × Fails e (solution_read p r)) → SaysWhy (Explained P (solutions_from p ss n r)) x (text_reason e)
+solution_missing P p ss n r x e shown (inl h) = text_says (Explained P (solutions_from p ss n r)) x e (Ok tt) shown h.1 (λ f is. absurd (cc is))
+solution_missing P p ss n r x e shown (inr h) = solution_fault_at P p ss n r x e shown h.0 h.1
 
 -- ---- their end
 
-ending_stopped : (P : Profile) (p : Problem) (ss : List (Named Row)) (r : Rest) (h : Halt) → StopsEnd p ss h → SaysWith (Explained P (solutions_from p ss 0 r)) (halt_shown p (Some h)) (stop_answer (halt_answer h))
+ending_stopped : (P : Profile) (p : Problem) (ss : List (Named Row)) (r : Rest) (h : Halt) → StopsEnd p ss h → SaysWhy (Explained P (solutions_from p ss 0 r)) (halt_shown p (Some h)) (stop_reason (halt_answer h))
 ending_stopped P p ss r Memory w = absurd w
 ending_stopped P p ss r (Refused x f) (named, fails, refusal) =
     let bound = missed_bound p ss p.claim fails in
     let shown : finding_shown p f ≡ no_primal bound.0 = ap (finding_shown p) named ∙ ap primal_shown bound.1 in
     (solutions_unmet P (refuses (refusal_of x)) (finding_shown p f) p ss r fails).1 (refusal, (bound.0, bound.1, shown))
 
-pub ending_unmet : (P : Profile) (p : Problem) (ss : List (Named Row)) (k l : State) (r : Rest) (e : Stop) → k.progress.problem ≡ p → EndsSolutions ss k l (Err e) → SaysWith (Explained P (solutions_from p ss 0 r)) (state_shown l) (stop_answer e)
+pub ending_unmet : (P : Profile) (p : Problem) (ss : List (Named Row)) (k l : State) (r : Rest) (e : Stop) → k.progress.problem ≡ p → EndsSolutions ss k l (Err e) → SaysWhy (Explained P (solutions_from p ss 0 r)) (state_shown l) (stop_reason e)
 ending_unmet P p ss k l r e same (h, halts, why) = stopped_says (Explained P (solutions_from p ss 0 r)) k l h e halts
-    (subst (λ q. SaysWith (Explained P (solutions_from p ss 0 r)) (halt_shown q (Some h)) (stop_answer (halt_answer h))) (sym same) (ending_stopped P p ss r h (subst (λ q. StopsEnd q ss h) same why)))
-
-pub ending_unspent : (ss : List (Named Row)) (k l : State) (e : Stop) → EndsSolutions ss k l (Err e) → e ≢ stop.Spent
-ending_unspent ss k l e h = first_unspent h.0 e h.1.answer
+    (subst (λ q. SaysWhy (Explained P (solutions_from p ss 0 r)) (halt_shown q (Some h)) (stop_reason (halt_answer h))) (sym same) (ending_stopped P p ss r h (subst (λ q. StopsEnd q ss h) same why)))
 
 pub ending_met : (p : Problem) (ss : List (Named Row)) (k l : State) → k.progress.problem ≡ p → EndsSolutions ss k l (Ok tt) → MeetsPrimal p ss p.claim
 ending_met p ss k l same h = subst (λ q. MeetsPrimal q ss q.claim) same h.0
 
-pub ending_failed : (P : Profile) (p : Problem) (ss : List (Named Row)) (r : Rest) (x : Detail) (e : TextError) → x ≡ none → MeetsPrimal p ss p.claim → Fails e (derivations_read p r) → SaysWith (Explained P (solutions_from p ss 0 r)) x (text_answer e)
+pub ending_failed : (P : Profile) (p : Problem) (ss : List (Named Row)) (r : Rest) (x : Detail) (e : TextError) → x ≡ none → MeetsPrimal p ss p.claim → Fails e (derivations_read p r) → SaysWhy (Explained P (solutions_from p ss 0 r)) x (text_reason e)
 ending_failed P p ss r x e shown met h = text_says (Explained P (solutions_from p ss 0 r)) x e (derivations_read p r) shown h (λ f is. (derivations_fault P (answer_of_test (spelled f)) none p ss r f met is).1 (refl, refl))
 
-pub ending_read : (P : Profile) (p : Problem) (ss : List (Named Row)) (m : ℕ) (r s : Rest) (y : Detail) (x : Result Verdict Fault) → MeetsPrimal p ss p.claim → derivations_read p r ≡ Ok (m, s) → SaysWith (Explained P (derivations_from (start p ss) m s)) y x → SaysWith (Explained P (solutions_from p ss 0 r)) y x
+pub ending_read : (P : Profile) (p : Problem) (ss : List (Named Row)) (m : ℕ) (r s : Rest) (y : Detail) (x : Result Report NoProof) → MeetsPrimal p ss p.claim → derivations_read p r ≡ Ok (m, s) → SaysWith (Explained P (derivations_from (start p ss) m s)) y x → SaysWith (Explained P (solutions_from p ss 0 r)) y x
 ending_read P p ss m r s y x met is h = SaysWith-by (Explained P (derivations_from (start p ss) m s)) (Explained P (solutions_from p ss 0 r)) y x (λ a z. (derivations_begin P a z p ss r m s met is).1) h
 
 -- the checker stays as it is, but for the phase
@@ -257,8 +261,8 @@ ending_shown P p ss k l r is h = ap state_shown h.2 ∙ unshown k is.runs
 pub among_start : (P : Profile) (p : Problem) (k : State) (r : Items) → k.progress.profile ≡ P → k.progress.problem ≡ p → HasSolutions [] k.progress → k.in_solutions ≡ true → k.halt ≡ None → Knows r p → r.failed ≡ false → r.left < 2 ^ 32 → IsAmong P p [] k r
 among_start P p k r runs_by same has phase runs knows unspent room = record { profile = runs_by; problem = same; has = has; phase = phase; runs = runs; knows = knows; unspent = unspent; room = omega arith }
 
-pub problem_failed : (P : Profile) (r : Rest) (e : TextError) → Fails e (problem_read r) → SaysWith (IsExplained P r) none (text_answer e)
+pub problem_failed : (P : Profile) (r : Rest) (e : TextError) → Fails e (problem_read r) → SaysWhy (IsExplained P r) none (text_reason e)
 problem_failed P r e h = text_says (IsExplained P r) none e (problem_read r) refl h (λ f is. (problem_fault P (answer_of_test (spelled f)) none r f is).1 (refl, refl))
 
-pub problem_read_on : (P : Profile) (r : Rest) (p : Problem) (n : ℕ) (s : Rest) (y : Detail) (x : Result Verdict Fault) → problem_read r ≡ Ok ((p, n), s) → SaysWith (Explained P (solutions_from p [] n s)) y x → SaysWith (IsExplained P r) y x
+pub problem_read_on : (P : Profile) (r : Rest) (p : Problem) (n : ℕ) (s : Rest) (y : Detail) (x : Result Report NoProof) → problem_read r ≡ Ok ((p, n), s) → SaysWith (Explained P (solutions_from p [] n s)) y x → SaysWith (IsExplained P r) y x
 problem_read_on P r p n s y x is h = SaysWith-by (Explained P (solutions_from p [] n s)) (IsExplained P r) y x (λ a z. (problem_ok P a z r p n s is).1) h

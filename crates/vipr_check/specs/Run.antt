@@ -5,60 +5,35 @@ use Rattle.std.specs.Prelude.{IsSome}
 use Rattle.vipr_spec.specs.Constraint.{Profile, Row}
 use Rattle.vipr_spec.specs.Certificate.{Named, Problem, Certificate, count}
 use Rattle.vipr_spec.specs.Tests.{Detail as DetailMeant, none}
-use Rattle.vipr_spec.specs.Verdict.{Answer, cut_short, Explained}
+use Rattle.vipr_spec.specs.Verdict.{Answer, verified, cut_short, Explained}
 use Rattle.vipr_spec.specs.Progress.{solutions_from, derivations_from}
-use Rattle.vipr_scan.specs.declared.error.TextError.{TextError}
-use Rattle.vipr_scan.specs.declared.error.TextError.TheVariants as text
 use Rattle.vipr_scan.specs.Giving.{rest_of}
 use Rattle.vipr_read.specs.Items.{Items, Knows}
-use Rattle.vipr_check.specs.declared.verdict.Place.TheVariants.{Byte}
 use Rattle.vipr_check.specs.declared.verdict.Report.{Report}
 use Rattle.vipr_check.specs.declared.verdict.Verdict.{Verdict}
-use Rattle.vipr_check.specs.declared.verdict.Verdict.TheVariants.{Verified, Refused}
 use Rattle.vipr_check.specs.declared.verdict.Fault.{Fault}
 use Rattle.vipr_check.specs.declared.verdict.Fault.TheVariants.{Read, Memory}
-use Rattle.vipr_check.specs.declared.halt.Stop.{Stop}
-use Rattle.vipr_check.specs.declared.halt.Stop.TheVariants as stop
 use Rattle.vipr_check.specs.declared.detail.Detail.{Detail}
-use Rattle.vipr_check.specs.View.{answer_of}
+use Rattle.vipr_check.specs.declared.no_proof.NoProof.{NoProof}
+use Rattle.vipr_check.specs.Reasons.{SaysWhy}
+use Rattle.vipr_check.specs.View.{answer_of, report_of}
 use Rattle.vipr_check.specs.Shown.{detail_of, state_shown, last_shown}
 use Rattle.vipr_check.specs.Progress.{HasSolutions, HasSteps}
 use Rattle.vipr_check.specs.State.{State}
 
 -- ---- what is answered
 
-abbrev pub text_answer : TextError → Result Verdict Fault
-text_answer (text.Refused c offset) = Ok (Refused (record { cause = c; place = Byte offset }))
-text_answer text.Read = Err Read
-text_answer text.Memory = Err Memory
-text_answer text.Spent = Err Read
-
-abbrev pub stop_answer : Stop → Result Verdict Fault
-stop_answer (stop.Refused r) = Ok (Refused r)
-stop_answer stop.Memory = Err Memory
-stop_answer stop.Spent = Err Memory
-
--- none if the item was accepted
-abbrev pub step_answer : Result (Unit {0}) Stop → Option (Result Verdict Fault)
-step_answer (Ok done) = None
-step_answer (Err e) = Some (stop_answer e)
-
-abbrev pub end_answer : Result Report Stop → Result Verdict Fault
-end_answer (Ok r) = Ok (Verified r)
-end_answer (Err e) = stop_answer e
-
--- the answer, with what is shown of it, is one of these; want of memory is none
-abbrev pub SaysWith : (Answer → DetailMeant → Type 0) → DetailMeant → Result Verdict Fault → Type 0
-SaysWith P x (Ok v) = P (answer_of v) x
-SaysWith P x (Err Read) = P cut_short none
-SaysWith P x (Err Memory) = ⊤
+-- the report, or why there is no proof, is one of these, with what is shown of it
+abbrev pub SaysWith : (Answer → DetailMeant → Type 0) → DetailMeant → Result Report NoProof → Type 0
+SaysWith P x (Ok r) = P (verified (report_of r)) x
+SaysWith P x (Err e) = SaysWhy P x e
 
 -- the same if a checker may be left, which knows what is shown
-abbrev pub SaysAtEnd : (Answer → DetailMeant → Type 0) → Result Verdict Fault × Option State
+abbrev pub SaysAtEnd : (Answer → DetailMeant → Type 0) → Result Report NoProof × Option State
     → Type 0
 SaysAtEnd P e = SaysWith P (last_shown e.1) e.0
 
--- the same of a detail
+-- the same of the verdict with a detail
 abbrev pub SaysInDetail : (Answer → DetailMeant → Type 0) → Result (Verdict × Detail) Fault → Type 0
 SaysInDetail P (Ok e) = P (answer_of e.0) (detail_of e.1)
 SaysInDetail P (Err Read) = P cut_short none
@@ -95,11 +70,10 @@ pub record HasListed (P : Profile) (p : Problem) (ss : List (Named Row)) (old : 
 
 -- a solution more was accepted, or the answer is that for what remained
 abbrev pub GoesAmong : Profile → Problem → List (Named Row) → Items → State → Items
-    → Option (Result Verdict Fault) → Type 0
-GoesAmong P p ss old k new None = HasListed P p ss old k new
-GoesAmong P p ss old k new (Some answer) = IsSome old.rest
-    → SaysWith (Explained P (solutions_from p ss old.left (rest_of old.rest)))
-    (state_shown k) answer
+    → Result (Unit {0}) NoProof → Type 0
+GoesAmong P p ss old k new (Ok done) = HasListed P p ss old k new
+GoesAmong P p ss old k new (Err e) = IsSome old.rest
+    → SaysWhy (Explained P (solutions_from p ss old.left (rest_of old.rest))) (state_shown k) e
 
 -- ---- the derivations
 
@@ -130,9 +104,11 @@ pub record HasReached (P : Profile) (c : Certificate) (old : Items) (k : State)
   pub leads : IsSome old.rest → Leads P c old now new
 
 -- a derivation more was accepted, or the answer is that for what remained
-abbrev pub Goes : Profile → Certificate → Items → State → Items → Option (Result Verdict Fault)
+abbrev pub Goes : Profile → Certificate → Items → State → Items → Result (Option Report) NoProof
     → Type 0
-Goes P c old k new None = HasReached P c old k new
-Goes P c old k new (Some answer) = IsSome old.rest
-    → SaysWith (Explained P (derivations_from c old.left (rest_of old.rest)))
-    (state_shown k) answer
+Goes P c old k new (Ok None) = HasReached P c old k new
+Goes P c old k new (Ok (Some r)) = IsSome old.rest
+    → Explained P (derivations_from c old.left (rest_of old.rest)) (verified (report_of r))
+    (state_shown k)
+Goes P c old k new (Err e) = IsSome old.rest
+    → SaysWhy (Explained P (derivations_from c old.left (rest_of old.rest))) (state_shown k) e

@@ -11,13 +11,15 @@ ghost use Rattle.vipr_spec.specs.Verdict.{IsExplained};
 ghost use Rattle.vipr_bytes.specs.Known.{text_of, IfKnown};
 ghost use Rattle.vipr_rules.specs.Profile.{profile_of};
 ghost use Rattle.vipr_check.specs.Checks.{Checks, ChecksIn};
+ghost use Rattle.vipr_check.specs.Reasons.{verdict_by};
 ghost use Rattle.vipr_check.specs.Run.{SaysInDetail, verdict_in};
 ghost use Rattle.vipr_check.specs.Shown.{detail_of, last_shown};
 
 use crate::Table;
 use crate::checker::Checker;
 use crate::detail::Detail;
-use crate::verdict::{Fault, Verdict};
+use crate::no_proof::NoProof;
+use crate::verdict::{Fault, Report, Verdict};
 use crate::walk::run;
 use std::alloc::{AllocError, Global};
 use vipr_bytes::Source;
@@ -71,9 +73,9 @@ pub fn check_in<R: Source + Drop, S: Rows>(
 ) -> Result<Verdict, Fault>
     ensures { ChecksIn (profile_of profile) (R.input source) result }
 {
-    let (verdict, checker) = run::<R, S>(alloc, profile, source);
+    let (outcome, checker) = run::<R, S>(alloc, profile, source);
     drop(checker);
-    verdict
+    verdict_of(outcome)
 }
 
 /// Checks the certificate that is read from `source`, and gives the verdict with what shows it.
@@ -116,13 +118,25 @@ pub fn explain_in<R: Source + Drop>(
     ensures detail { IfKnown (R.input source)
         (λ i. SaysInDetail (IsExplained (profile_of profile) (text_of i)) result) }
 {
-    let (verdict, checker) = run::<R, Table>(alloc, profile, source);
-    match verdict {
+    let (outcome, checker) = run::<R, Table>(alloc, profile, source);
+    match verdict_of(outcome) {
         Ok(verdict) => Ok((verdict, last_detail(checker)?)),
         Err(fault) => {
             drop(checker);
             Err(fault)
         }
+    }
+}
+
+// The verdict, or the fault if there is none.
+fn verdict_of(outcome: Result<Report, NoProof>) -> Result<Verdict, Fault>
+    ensures { result ≡ verdict_by outcome }
+{
+    match outcome {
+        Ok(report) => Ok(Verdict::Verified(report)),
+        Err(NoProof::Refused(refusal)) => Ok(Verdict::Refused(refusal)),
+        Err(NoProof::Read) => Err(Fault::Read),
+        Err(NoProof::Memory) => Err(Fault::Memory),
     }
 }
 

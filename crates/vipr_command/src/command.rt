@@ -16,6 +16,7 @@ use crate::output::print;
 use crate::request::{Job, Task};
 use crate::show::print_text;
 use crate::tighten::print_tightened;
+use crate::unread::say_why_unread;
 use clap::Error;
 use clap::error::ErrorKind;
 use std::alloc::Global;
@@ -117,10 +118,28 @@ fn do_job<H: AllocGlobal + Files, R: Source + Drop, O: Sink, E: Write>(
 {
     match job.file {
         None => do_task(rt, job, input, out, err),
-        Some(path) => match File::open(rt, path) {
-            Ok(file) => do_task(rt, job, FromRead::new(file), out, err),
-            Err(_) => Err(CommandFault::Read),
-        },
+        Some(path) => {
+            let done = do_task_on_file(rt, job, path, out, err);
+            if job.is_long && done == Err(CommandFault::Read) {
+                say_why_unread(rt, path, err);
+            }
+            done
+        }
+    }
+}
+
+fn do_task_on_file<H: AllocGlobal + Files, O: Sink, E: Write>(
+    rt: &H,
+    job: &Job<'_>,
+    path: &str,
+    out: &mut O,
+    err: &mut E,
+) -> Result<u8, CommandFault>
+    ensures { DoesJob job.now unknown_input (O.output out.old) (O.output out.new) result }
+{
+    match File::open(rt, path) {
+        Ok(file) => do_task(rt, job, FromRead::new(file), out, err),
+        Err(_) => Err(CommandFault::Read),
     }
 }
 

@@ -16,6 +16,7 @@ mod output;
 mod request;
 mod show;
 mod tighten;
+mod unread;
 
 pub use args::job;
 pub use check::print_verdict;

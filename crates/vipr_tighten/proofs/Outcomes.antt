@@ -8,6 +8,7 @@ use Rattle.vipr_spec.specs.Grammar.{Spells, SpellsOnly}
 use Rattle.vipr_spec.specs.GrammarLaws.{whole_text}
 use Rattle.vipr_spec.specs.Reading.{Rest, certificate_read}
 use Rattle.vipr_spec.specs.Tightened.{tightened_certificate, new_goal}
+use Rattle.vipr_spec.specs.Tests.{none}
 use Rattle.vipr_spec.specs.Verdict.{Report, Reports, Answer, Answers, verified, refuses, cut_short, found_in, IsAnswer}
 use Rattle.vipr_spec.proofs.Laws.{back_of_proof, claim_shown, found_read, one_certificate, proof_answered, reads_texts, tight_counts, tight_goal, tight_needed, tight_peak, tight_proof, tight_twice, unneeded_goal, verified_read, answer_explained}
 use Rattle.vipr_bytes.specs.Known.{text_of, IfKnown, IfWhole}
@@ -27,8 +28,8 @@ use Rattle.vipr_tighten.specs.declared.outcome.TightenFault.{TightenFault}
 use Rattle.vipr_tighten.specs.declared.outcome.TightenFault.TheVariants.{Read, Memory, Write}
 use Rattle.vipr_tighten.specs.Tightens.{IsProofFor, IsTight, KindOfText, TakesNothing, TightensText, any_kind, kind_of, kind_read, kind_spelled, unproved_answer, TightensAs}
 use Rattle.vipr_tighten.specs.Keeping.{HasAnswer, AnswersWhy}
-use Rattle.vipr_tighten.specs.declared.proof_reader.Unproved.{Unproved}
-use Rattle.vipr_tighten.specs.declared.proof_reader.Unproved.TheVariants as unproved
+use Rattle.vipr_check.specs.declared.no_proof.NoProof.{NoProof}
+use Rattle.vipr_check.specs.declared.no_proof.NoProof.TheVariants as reason
 
 -- ---- a proof
 
@@ -186,12 +187,12 @@ decided_refused P F source y old found = tightens P F source old old (Ok (Refuse
     exact None f = tt
     exact (Some i) f = λ short. (answered P (text_of i) (refuses (refusal_of y)) (f short), nothing_accepted old)
 
-pub decided_cut_short : (P : Profile) (F : Form) (source : Option Input) (old : Option Output) → IfKnown source (λ i. HasAnswer P (found_in (text_of i)) cut_short) → TightensAs P F source old old (Err Read)
+pub decided_cut_short : (P : Profile) (F : Form) (source : Option Input) (old : Option Output) → IfKnown source (λ i. AnswersWhy P (found_in (text_of i)) reason.Read) → TightensAs P F source old old (Err Read)
 decided_cut_short P F source old found = tightens P F source old old (Err Read) (tt, nothing_accepted old) (exact source found)
   where
-    exact : (s : Option Input) → IfKnown s (λ i. HasAnswer P (found_in (text_of i)) cut_short) → IfKnown s (λ i. TightensText P F (kind_read P (text_of i)) old old (Err Read))
+    exact : (s : Option Input) → IfKnown s (λ i. AnswersWhy P (found_in (text_of i)) reason.Read) → IfKnown s (λ i. TightensText P F (kind_read P (text_of i)) old old (Err Read))
     exact None f = tt
-    exact (Some i) f = λ short. (answered P (text_of i) cut_short (f short), nothing_accepted old)
+    exact (Some i) f = λ short. (answered P (text_of i) cut_short (none, (f short).1), nothing_accepted old)
 
 pub decided_memory : (P : Profile) (F : Form) (source : Option Input) (old : Option Output) → TightensAs P F source old old (Err (Memory 0))
 decided_memory P F source old = tightens P F source old old (Err (Memory 0)) (refl, nothing_accepted old) (exact source)
@@ -200,7 +201,7 @@ decided_memory P F source old = tightens P F source old old (Err (Memory 0)) (re
     exact None = tt
     exact (Some i) = λ short. (refl, nothing_accepted old)
 
-pub decided_not : (P : Profile) (F : Form) (source : Option Input) (e : Unproved) (old : Option Output) → IfKnown source (λ i. AnswersWhy P (found_in (text_of i)) e) → TightensAs P F source old old (unproved_answer e)
-decided_not P F source (unproved.Refused y) old h = decided_refused P F source y old h
-decided_not P F source unproved.Read old h = decided_cut_short P F source old h
-decided_not P F source unproved.Memory old h = decided_memory P F source old
+pub decided_not : (P : Profile) (F : Form) (source : Option Input) (e : NoProof) (old : Option Output) → IfKnown source (λ i. AnswersWhy P (found_in (text_of i)) e) → TightensAs P F source old old (unproved_answer e)
+decided_not P F source (reason.Refused y) old h = decided_refused P F source y old h
+decided_not P F source reason.Read old h = decided_cut_short P F source old h
+decided_not P F source reason.Memory old h = decided_memory P F source old

@@ -1,52 +1,34 @@
 -- A checker run over a text, item by item, while the items are kept
-use Rattle.std.specs.Prelude.{◌≡◌, ⊤, ◌<◌, ◌^◌, false, List, [], None, IsSome, Result, Ok, Err}
+use Rattle.std.specs.Prelude.{◌≡◌, ◌<◌, ◌^◌, false, List, [], None, IsSome, Result, Ok, Err}
 use Rattle.vipr_spec.specs.Constraint.{Profile, Row}
 use Rattle.vipr_spec.specs.Certificate.{Named, Problem, Certificate, count, IsProof}
 use Rattle.vipr_spec.specs.Reading.{Rest, end_read}
 use Rattle.vipr_spec.specs.Soundness.{IsShown}
 use Rattle.vipr_spec.specs.Tests.{Detail}
-use Rattle.vipr_spec.specs.Verdict.{Found, Answer, Reports, verified, refuses, cut_short, Explained}
+use Rattle.vipr_spec.specs.Verdict.{Found, Answer, Reports, verified, Explained}
 use Rattle.vipr_spec.specs.Progress.{solutions_from, derivations_from}
 use Rattle.vipr_scan.specs.Giving.{rest_of}
 use Rattle.vipr_read.specs.Items.{Items}
-use Rattle.vipr_check.specs.View.{refusal_of, report_of}
+use Rattle.vipr_check.specs.View.{report_of}
 use Rattle.vipr_check.specs.Progress.{HasSteps}
 use Rattle.vipr_check.specs.State.{State, EndsSolutions, Finishes}
 use Rattle.vipr_check.specs.Run.{IsAmong, IsAt}
 use Rattle.vipr_check.specs.declared.verdict.Report.{Report}
-use Rattle.vipr_check.specs.declared.halt.Stop.{Stop}
-use Rattle.vipr_check.specs.declared.halt.Stop.TheVariants as stop
-use Rattle.vipr_check.specs.declared.verdict.Place.TheVariants.{Byte}
-use Rattle.vipr_scan.specs.declared.error.TextError.{TextError}
-use Rattle.vipr_scan.specs.declared.error.TextError.TheVariants as text
-use Rattle.vipr_tighten.specs.declared.proof_reader.Unproved.{Unproved}
-use Rattle.vipr_tighten.specs.declared.proof_reader.Unproved.TheVariants.{Refused, Read, Memory}
+use Rattle.vipr_check.specs.declared.no_proof.NoProof.{NoProof}
+use Rattle.vipr_check.specs.Reasons.{SaysWhy}
 
--- ---- why no proof was read
-
-abbrev pub stop_reason : Stop → Unproved
-stop_reason (stop.Refused r) = Refused r
-stop_reason stop.Memory = Memory
-stop_reason stop.Spent = Memory
-
-abbrev pub text_reason : TextError → Unproved
-text_reason (text.Refused c offset) = Refused (record { cause = c; place = Byte offset })
-text_reason text.Read = Read
-text_reason text.Memory = Memory
-text_reason text.Spent = Read
+-- ---- what is answered
 
 -- this is the answer for what was found in a text, with its detail
 abbrev pub HasAnswer : Profile → Found → Answer → Type 0
 HasAnswer P f a = (x : Detail) × Explained P f a x
 
 -- this is why there is no proof in what was found; want of memory says nothing of it
-abbrev pub AnswersWhy : Profile → Found → Unproved → Type 0
-AnswersWhy P f (Refused r) = HasAnswer P f (refuses (refusal_of r))
-AnswersWhy P f Read = HasAnswer P f cut_short
-AnswersWhy P f Memory = ⊤
+abbrev pub AnswersWhy : Profile → Found → NoProof → Type 0
+AnswersWhy P f e = (x : Detail) × SaysWhy (Explained P f) x e
 
 -- the proof is the certificate that was found, with its report; or this is the answer
-abbrev pub AnswersProof : Profile → Found → Result (Certificate × Report) Unproved → Type 0
+abbrev pub AnswersProof : Profile → Found → Result (Certificate × Report) NoProof → Type 0
 AnswersProof P f (Ok x) = (f.certificate ≡ x.0) × HasAnswer P f (verified (report_of x.1))
 AnswersProof P f (Err e) = AnswersWhy P f e
 

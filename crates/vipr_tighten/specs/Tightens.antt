@@ -18,8 +18,8 @@ use Rattle.vipr_write.specs.declared.form.Form.{Form}
 use Rattle.vipr_write.specs.declared.form.Form.TheVariants.{Canonical}
 use Rattle.vipr_check.specs.declared.verdict.Refusal.{Refusal}
 use Rattle.vipr_check.specs.View.{refusal_of}
-use Rattle.vipr_tighten.specs.declared.proof_reader.Unproved.{Unproved}
-use Rattle.vipr_tighten.specs.declared.proof_reader.Unproved.TheVariants as unproved
+use Rattle.vipr_check.specs.declared.no_proof.NoProof.{NoProof}
+use Rattle.vipr_check.specs.declared.no_proof.NoProof.TheVariants as reason
 use Rattle.vipr_tighten.specs.declared.outcome.Outcome.{Outcome}
 use Rattle.vipr_tighten.specs.declared.outcome.Outcome.TheVariants.{Tightened, Refused}
 use Rattle.vipr_tighten.specs.declared.outcome.TightenFault.{TightenFault}
@@ -126,10 +126,10 @@ kind_spelled P bytes = record {
 }
 
 -- if no proof was read
-abbrev pub unproved_answer : Unproved → Result Outcome TightenFault
-unproved_answer (unproved.Refused r) = Ok (Refused r)
-unproved_answer unproved.Read = Err Read
-unproved_answer unproved.Memory = Err (Memory 0)
+abbrev pub unproved_answer : NoProof → Result Outcome TightenFault
+unproved_answer (reason.Refused r) = Ok (Refused r)
+unproved_answer reason.Read = Err Read
+unproved_answer reason.Memory = Err (Memory 0)
 
 pub record TightensAs (P : Profile) (F : Form) (source : Option Input) (old new : Option Output)
     (result : Result Outcome TightenFault) : Type 0 where

@@ -1,6 +1,6 @@
 //! Reads a certificate: each item is checked before the next one is read, and kept.
 
-ghost use Rattle.std.specs.Prelude.{◌≡◌, ◌≢◌, ◌<◌, ◌^◌, false, List, [], All, map, IfOk, IfErr};
+ghost use Rattle.std.specs.Prelude.{◌≡◌, ◌<◌, ◌^◌, false, List, [], All, map, IfOk, IfErr};
 ghost use Rattle.std.specs.Prelude.{IsSome, Ok, Err};
 ghost use Rattle.vipr_spec.specs.Constraint.{Profile as ProfileMeant, Row};
 ghost use Rattle.vipr_spec.specs.Certificate.{Named as NamedMeant, Problem as ProblemMeant};
@@ -14,56 +14,20 @@ ghost use Rattle.vipr_spec.specs.Verdict.{Reports, found_in};
 ghost use Rattle.vipr_bytes.specs.Known.{text_of, IfKnown};
 ghost use Rattle.vipr_cert.specs.Items.{solution_of, derivation_of};
 ghost use Rattle.vipr_read.specs.Items.{Knows};
-ghost use Rattle.vipr_scan.specs.declared.error.TextError.TheVariants as text_error;
 ghost use Rattle.vipr_rules.specs.Profile.{profile_of};
 ghost use Rattle.vipr_check.specs.View.{report_of};
 ghost use Rattle.vipr_check.specs.Run.{IsAmong, IsAt};
 ghost use Rattle.vipr_tighten.specs.Keeping.{AnswersProof, AnswersWhy, KeepsListed, KeepsMet};
 ghost use Rattle.vipr_tighten.specs.Keeping.{KeepsWhole, KeepsFinished, KeepsProof};
-ghost use Rattle.vipr_tighten.specs.Keeping.{solutions_left, derivations_left, stop_reason};
-ghost use Rattle.vipr_tighten.specs.Keeping.{text_reason};
+ghost use Rattle.vipr_tighten.specs.Keeping.{solutions_left, derivations_left};
 
-use std::alloc::{AllocError, AllocFailed, Global};
+use std::alloc::Global;
 use vipr_bytes::Source;
 use vipr_cert::{Certificate, Derivation, Named, Problem};
-use vipr_check::{Checker, Place, Refusal, Report, Stop, Table};
+use vipr_check::{Checker, NoProof, Report, Table};
 use vipr_linear::Solution;
 use vipr_read::{CertReader, Derivations, Solutions};
 use vipr_rules::Profile;
-use vipr_scan::TextError;
-
-/// Why no proof was read.
-#[derive(Clone, Copy, Debug, PartialEq, Eq)]
-pub(crate) enum Unproved {
-    /// The text spells none.
-    Refused(Refusal),
-    /// A read failed.
-    Read,
-    /// A growth was refused.
-    Memory,
-}
-
-impl From<AllocError> for Unproved {
-    ghost use Rattle.std.specs.Prelude.{◌≡◌};
-    ghost use Rattle.vipr_tighten.specs.declared.proof_reader.Unproved.TheVariants.{Memory};
-
-    ghost from_gives = { λ _ e. e ≡ Memory };
-
-    fn from(_error: AllocError) -> Unproved {
-        Unproved::Memory
-    }
-}
-
-impl<T: Drop> From<AllocFailed<T>> for Unproved {
-    ghost use Rattle.std.specs.Prelude.{◌≡◌};
-    ghost use Rattle.vipr_tighten.specs.declared.proof_reader.Unproved.TheVariants.{Memory};
-
-    ghost from_gives = { λ _ e. e ≡ Memory };
-
-    fn from(_error: AllocFailed<T>) -> Unproved {
-        Unproved::Memory
-    }
-}
 
 /// The proof that is read from `source` to its end, and its report.
 ///
@@ -72,7 +36,7 @@ pub(crate) fn read_proof<R: Source + Drop>(
     alloc: Global,
     profile: Profile,
     source: R,
-) -> Result<(Certificate, Report), Unproved>
+) -> Result<(Certificate, Report), NoProof>
     // Whatever is read: it is a proof, this is its report, and what it claims is true.
     ensures proof { IfOk result (λ x. IsProof (profile_of profile) x.0
         × Reports (profile_of profile) x.0 (report_of x.1)
@@ -84,7 +48,7 @@ pub(crate) fn read_proof<R: Source + Drop>(
     let reader = CertReader::new(alloc, source)?;
     match reader.read_problem(alloc) {
         Ok((problem, solutions)) => read_rest(alloc, profile, problem, solutions),
-        Err(error) => Err(reason_of_text_error(error)),
+        Err(error) => Err(NoProof::from(error)),
     }
 }
 
@@ -94,7 +58,7 @@ fn read_rest<R: Source + Drop>(
     profile: Profile,
     problem: Problem,
     solutions: Solutions<R>,
-) -> Result<(Certificate, Report), Unproved>
+) -> Result<(Certificate, Report), NoProof>
     requires writes { CanWriteProblem problem }
     requires knows { Knows solutions problem }
     requires working { solutions.failed ≡ false }
@@ -116,7 +80,7 @@ fn read_items<R: Source + Drop>(
     alloc: Global,
     checker: &mut Checker<Table>,
     mut solutions: Solutions<R>,
-) -> Result<(Vec<Named<Solution>>, Vec<Derivation>, Report), Unproved>
+) -> Result<(Vec<Named<Solution>>, Vec<Derivation>, Report), NoProof>
     requires { (P : ProfileMeant) × (p : ProblemMeant) × IsAmong P p [] checker.old solutions }
     ensures kept { IfOk result (λ x. (P : ProfileMeant) (p : ProblemMeant)
         → IsAmong P p [] checker.old solutions
@@ -129,10 +93,7 @@ fn read_items<R: Source + Drop>(
         → AnswersWhy P (solutions_left p [] solutions) e) }
 {
     let listed = read_listed(alloc, checker, &mut solutions)?;
-    let mut derivations = match solutions.finish() {
-        Ok(derivations) => derivations,
-        Err(error) => return Err(reason_of_text_error(error)),
-    };
+    let mut derivations = solutions.finish()?;
     let (derived, report) = read_derived(alloc, checker, &mut derivations)?;
     Ok((listed, derived, report))
 }
@@ -142,7 +103,7 @@ fn read_listed<R: Source>(
     alloc: Global,
     checker: &mut Checker<Table>,
     solutions: &mut Solutions<R>,
-) -> Result<Vec<Named<Solution>>, Unproved>
+) -> Result<Vec<Named<Solution>>, NoProof>
     requires { (P : ProfileMeant) × (p : ProblemMeant)
         × IsAmong P p [] checker.old solutions.old }
     ensures none { IfOk result (λ ss. solutions.new.left ≡ 0) }
@@ -157,10 +118,8 @@ fn read_listed<R: Source>(
         → AnswersWhy P (solutions_left p [] solutions.old) e) }
 {
     let listed = read_solutions(alloc, checker, solutions)?;
-    match checker.end_solutions() {
-        Ok(()) => Ok(listed),
-        Err(stop) => Err(reason_of_stop(stop)),
-    }
+    checker.end_solutions()?;
+    Ok(listed)
 }
 
 // All derivations that follow, up to the end of the text, and the report, where they make a proof.
@@ -168,7 +127,7 @@ fn read_derived<R: Source>(
     alloc: Global,
     checker: &mut Checker<Table>,
     derivations: &mut Derivations<R>,
-) -> Result<(Vec<Derivation>, Report), Unproved>
+) -> Result<(Vec<Derivation>, Report), NoProof>
     requires { (P : ProfileMeant) × (p : ProblemMeant) × (ss : List (NamedMeant Row))
         × IsAt P (start p ss) checker.old derivations.old }
     ensures items { IfOk result (λ x.
@@ -185,10 +144,8 @@ fn read_derived<R: Source>(
         → AnswersWhy P (derivations_left (start p ss) derivations.old) e) }
 {
     let derived = read_derivations(alloc, checker, derivations)?;
-    match checker.finish() {
-        Ok(report) => Ok((derived, report)),
-        Err(stop) => Err(reason_of_stop(stop)),
-    }
+    let report = checker.finish()?;
+    Ok((derived, report))
 }
 
 // All solutions that follow.
@@ -196,7 +153,7 @@ fn read_solutions<R: Source>(
     alloc: Global,
     checker: &mut Checker<Table>,
     solutions: &mut Solutions<R>,
-) -> Result<Vec<Named<Solution>>, Unproved>
+) -> Result<Vec<Named<Solution>>, NoProof>
     requires { (P : ProfileMeant) × (p : ProblemMeant)
         × IsAmong P p [] checker.old solutions.old }
     ensures none { IfOk result (λ ss. solutions.new.left ≡ 0) }
@@ -212,15 +169,12 @@ fn read_solutions<R: Source>(
 {
     let mut listed = Vec::new(alloc);
     'solutions: loop {
-        match solutions.next(alloc) {
-            Ok(Some(solution)) => {
-                if let Err(stop) = checker.solution(&solution) {
-                    return Err(reason_of_stop(stop));
-                }
+        match solutions.next(alloc)? {
+            Some(solution) => {
+                checker.solution(&solution)?;
                 listed.push(solution)?;
             }
-            Ok(None) => return Ok(listed),
-            Err(error) => return Err(reason_of_text_error(error)),
+            None => return Ok(listed),
         }
     }
 }
@@ -230,7 +184,7 @@ fn read_derivations<R: Source>(
     alloc: Global,
     checker: &mut Checker<Table>,
     derivations: &mut Derivations<R>,
-) -> Result<Vec<Derivation>, Unproved>
+) -> Result<Vec<Derivation>, NoProof>
     requires { (P : ProfileMeant) × (p : ProblemMeant) × (ss : List (NamedMeant Row))
         × IsAt P (start p ss) checker.old derivations.old }
     ensures items { IfOk result (λ ds.
@@ -248,43 +202,12 @@ fn read_derivations<R: Source>(
 {
     let mut derived = Vec::new(alloc);
     'steps: loop {
-        match derivations.next(alloc) {
-            Ok(Some(step)) => {
-                if let Err(stop) = checker.derivation(alloc, &step) {
-                    return Err(reason_of_stop(stop));
-                }
+        match derivations.next(alloc)? {
+            Some(step) => {
+                checker.derivation(alloc, &step)?;
                 derived.push(step)?;
             }
-            Ok(None) => return Ok(derived),
-            Err(error) => return Err(reason_of_text_error(error)),
+            None => return Ok(derived),
         }
-    }
-}
-
-// Why the checker stopped.
-fn reason_of_stop(stop: Stop) -> Unproved
-    requires { stop ≢ Stop.Spent }
-    ensures { result ≡ stop_reason stop }
-{
-    match stop {
-        Stop::Refused(refusal) => Unproved::Refused(refusal),
-        Stop::Memory => Unproved::Memory,
-        Stop::Spent => unreachable!(),
-    }
-}
-
-// Why the text was not read on.
-fn reason_of_text_error(error: TextError) -> Unproved
-    requires { error ≢ text_error.Spent }
-    ensures { result ≡ text_reason error }
-{
-    match error {
-        TextError::Refused { cause, offset } => Unproved::Refused(Refusal {
-            cause,
-            place: Place::Byte(offset),
-        }),
-        TextError::Read => Unproved::Read,
-        TextError::Memory => Unproved::Memory,
-        TextError::Spent => unreachable!(),
     }
 }

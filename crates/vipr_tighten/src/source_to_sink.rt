@@ -15,11 +15,11 @@ ghost use Rattle.vipr_tighten.specs.Tightens.{kind_of, unproved_answer};
 use crate::certificate::tighten_certificate;
 use crate::outcome::{Outcome, TightenFault};
 use crate::peak::peak;
-use crate::proof_reader::{Unproved, read_proof};
+use crate::proof_reader::read_proof;
 use std::alloc::Global;
 use vipr_bytes::{Sink, Source};
 use vipr_cert::Certificate;
-use vipr_check::Report;
+use vipr_check::{NoProof, Report};
 use vipr_rules::Profile;
 use vipr_write::{Form, WriteError, write_certificate_in};
 
@@ -91,18 +91,18 @@ pub fn tighten_as<R: Source + Drop, W: Sink>(
 {
     match read_proof(alloc, profile, source) {
         Ok((certificate, report)) => write_tightened(alloc, form, certificate, &report, sink),
-        Err(unproved) => without_proof(unproved),
+        Err(reason) => without_proof(reason),
     }
 }
 
 // The answer where no proof was read.
-fn without_proof(unproved: Unproved) -> Result<Outcome, TightenFault>
-    ensures { result ≡ unproved_answer unproved }
+fn without_proof(reason: NoProof) -> Result<Outcome, TightenFault>
+    ensures { result ≡ unproved_answer reason }
 {
-    match unproved {
-        Unproved::Refused(refusal) => Ok(Outcome::Refused(refusal)),
-        Unproved::Read => Err(TightenFault::Read),
-        Unproved::Memory => Err(TightenFault::Memory { taken: 0 }),
+    match reason {
+        NoProof::Refused(refusal) => Ok(Outcome::Refused(refusal)),
+        NoProof::Read => Err(TightenFault::Read),
+        NoProof::Memory => Err(TightenFault::Memory { taken: 0 }),
     }
 }
 

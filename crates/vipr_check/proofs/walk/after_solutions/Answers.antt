@@ -1,12 +1,11 @@
-use Rattle.std.proofs.Common.{◌≡◌, sym, subst, arith}
+use Rattle.std.proofs.Common.{◌≡◌, Err, sym, subst, arith}
 use Rattle.vipr_spec.specs.Verdict.{Explained}
 use Rattle.vipr_spec.specs.Progress.{solutions_from}
 use Rattle.vipr_scan.specs.Giving.{rest_of}
 use Rattle.vipr_check.specs.Shown.{state_shown}
 use Rattle.vipr_check.specs.Run.{SaysWith}
-use Rattle.vipr_check.proofs.RunLemmas.{listed_now, listed_later, answered_later}
-use Rattle.vipr_check.specs.View.{IsOfProof}
-use Rattle.vipr_check.proofs.Verifying.{never_verified}
+use Rattle.vipr_check.proofs.RunLemmas.{listed_now, listed_later, listed_says}
+use Rattle.vipr_check.proofs.Answering.{handed_on}
 use Rattle.vipr_check.proofs.walk.after_solutions.Goals as goal
 
 pub solutions-init : goal.solutions-init
@@ -19,12 +18,16 @@ pub solutions-preserved : goal.solutions-preserved
 solutions-preserved g c = λ P p ss is.
     let h = c.solutions.invariant P p ss is in
     let new = c.next_solution.new in
-    listed_later P p ss c.solutions.checker new.checker c.args.solutions c.solutions.solutions new.solutions h (c.in-None.ensures.step P p h.now h.is_among)
+    listed_later P p ss c.solutions.checker new.checker c.args.solutions c.solutions.solutions new.solutions h (c.in_ok-next_solution.ensures.step P p h.now h.is_among)
 
-pub returns-in-Some-clause-explained : goal.returns-in-Some-clause-explained
-returns-in-Some-clause-explained g c = λ P p ss is known.
+pub returns-in_err-next_solution-clause-explained : goal.returns-in_err-next_solution-clause-explained
+returns-in_err-next_solution-clause-explained g c = λ P p ss is known.
     let h = c.solutions.invariant P p ss is in
-    answered_later P p ss c.solutions.checker c.args.solutions c.solutions.solutions (state_shown c.next_solution.new.checker) c.in-Some.verdict h known (c.in-Some.ensures.step P p h.now h.is_among)
+    let old = c.args.solutions in
+    let shown = state_shown c.next_solution.new.checker in
+    let e = c.in_err-next_solution.field-0.0 in
+    handed_on (SaysWith (Explained P (solutions_from p ss old.left (rest_of old.rest))) shown) c.from_residual.result e c.from_residual.ensures.1
+    (listed_says P p ss c.solutions.checker old c.solutions.solutions h known shown (Err e) (c.in_err-next_solution.ensures.step P p h.now h.is_among))
 
 pub after_last_solution-requires-clause-among : goal.after_last_solution-requires-clause-among
 after_last_solution-requires-clause-among g c = let (P, p, ss, is) = c.requires in let h = c.solutions.invariant P p ss is in (P, p, h.now, h.is_among)
@@ -36,11 +39,8 @@ returns-clause-explained g c = λ P p ss is known.
     let x = c.after_last_solution.result in
     let shown = state_shown c.after_last_solution.new.checker in
     let zero : mid.left ≡ 0 = omega arith in
-    answered_later P p ss c.solutions.checker c.args.solutions mid shown x h known
+    listed_says P p ss c.solutions.checker c.args.solutions mid h known shown x
     (λ t. subst (λ n. SaysWith (Explained P (solutions_from p h.now n (rest_of mid.rest))) shown x) (sym zero) (c.after_last_solution.ensures.explained P p h.now h.is_among t))
-
-pub returns-in-Some-clause-any : goal.returns-in-Some-clause-any
-returns-in-Some-clause-any g c = λ P p ss is. never_verified (IsOfProof P) c.in-Some.verdict c.in-Some.ensures.any
 
 pub returns-clause-any : goal.returns-clause-any
 returns-clause-any g c = λ P p ss is.

@@ -1,15 +1,15 @@
-use Rattle.std.proofs.Common.{sym, ◌∙◌, subst}
-use Rattle.vipr_spec.specs.Verdict.{Explained}
-use Rattle.vipr_spec.specs.Progress.{solutions_from}
+use Rattle.std.proofs.Common.{◌≡◌, ◌≢◌, true, Result, Err}
+use Rattle.vipr_check.specs.declared.halt.Stop.TheVariants as stop
+use Rattle.vipr_check.specs.declared.no_proof.NoProof.{NoProof}
+use Rattle.vipr_check.specs.declared.no_proof.NoProof.TheVariants as reason
 use Rattle.vipr_cert.specs.Items.{solution_of}
 use Rattle.vipr_scan.specs.Giving.{rest_of}
+use Rattle.vipr_check.specs.Reasons.{text_reason, stop_reason}
 use Rattle.vipr_check.specs.Shown.{state_shown}
-use Rattle.vipr_check.specs.Run.{GoesAmong, SaysWith}
+use Rattle.vipr_check.specs.Run.{GoesAmong}
+use Rattle.vipr_check.proofs.Answering.{handed_on}
 use Rattle.vipr_check.proofs.ShownLemmas.{unshown}
-use Rattle.vipr_check.proofs.RunLemmas.{one_more, goes_among, solution_missing, solution_unspent, step_decided}
-use Rattle.std.specs.Prelude.{IfSome}
-use Rattle.vipr_check.specs.View.{IfVerified}
-use Rattle.vipr_check.proofs.Verifying.{step_unverified, text_unverified}
+use Rattle.vipr_check.proofs.RunLemmas.{one_more, solution_missing, solution_listed, solution_stops, never_memory}
 use Rattle.vipr_check.proofs.walk.next_solution.Goals as goal
 
 pub take_solution-requires-clause-phase : goal.take_solution-requires-clause-phase
@@ -18,35 +18,36 @@ take_solution-requires-clause-phase g c = let (P, p, ss, is) = c.requires.among 
 pub take_solution-requires-clause-room : goal.take_solution-requires-clause-room
 take_solution-requires-clause-room g c = let (P, p, ss, is) = c.requires.among in one_more P p ss c.args.checker.now c.args.solutions.now is c.requires.some
 
-pub after_item-requires : goal.after_item-requires
-after_item-requires g c =
-    let (P, p, ss, is) = c.requires.among in
-    solution_unspent ss (solution_of c.in-Ok-Some.solution) c.args.checker.now c.take_solution.new.self c.take_solution.result (c.take_solution.ensures.next ss is.runs is.has)
-
-pub returns-in-Ok-Some-clause-step : goal.returns-in-Ok-Some-clause-step
-returns-in-Ok-Some-clause-step g c = λ P p ss is.
-    let h = rw c.in-Ok-Some.field-0-is at c.in-Ok-Some.ensures in
-    let s = solution_of c.in-Ok-Some.solution in
+pub returns-in_err-solution-clause-step : goal.returns-in_err-solution-clause-step
+returns-in_err-solution-clause-step g c = λ P p ss is.
     let old = c.args.solutions.now in
+    let k = c.args.checker.now in
+    let e = c.in_err-solution.field-0.0 in
+    handed_on (GoesAmong P p ss old k c.next.new.self) c.from_residual.result (text_reason e) c.from_residual.ensures.1
+    (λ known. solution_missing P p ss old.left (rest_of old.rest) (state_shown k) e (unshown k is.runs) (c.in_err-solution.ensures.read p is.knows known))
+
+pub returns-in_err-take_solution-in-Some-clause-step : goal.returns-in_err-take_solution-in-Some-clause-step
+returns-in_err-take_solution-in-Some-clause-step g c = λ P p ss is.
+    let h = rw c.in-Some.is at c.in_ok-solution.ensures in
+    let old = c.args.solutions.now in
+    let k = c.args.checker.now in
+    let l = c.take_solution.new.self in
     let new = c.next.new.self in
-    subst (GoesAmong P p ss old c.take_solution.new.self new) (sym c.after_item.ensures)
-    (goes_among P p ss c.args.checker.now c.take_solution.new.self old new s is h.moves.counted h.moves.remembers h.moves.working (λ known. (let r = h.read p is.knows known in (r.1, r.2))) c.take_solution.result (c.take_solution.ensures.next ss is.runs is.has))
+    let e = c.in_err-take_solution-in-Some.field-0.0 in
+    handed_on (GoesAmong P p ss old l new) c.from_residual-in_err-take_solution-in-Some.result (stop_reason e) c.from_residual-in_err-take_solution-in-Some.ensures.1
+    (solution_stops P p ss k l old new (solution_of c.in-Some.solution) is h.moves.counted (λ known. (let r = h.read p is.knows known in (r.1, r.2))) e (c.in_err-take_solution-in-Some.ensures.next ss is.runs is.has))
 
-pub returns-in-Err-clause-step : goal.returns-in-Err-clause-step
-returns-in-Err-clause-step g c = λ P p ss is known.
-    let old = c.args.solutions.now in
-    let shown = state_shown c.args.checker.now in
-    subst (SaysWith (Explained P (solutions_from p ss old.left (rest_of old.rest))) shown) (sym c.verdict_of_text_error.ensures)
-    (solution_missing P p ss old.left (rest_of old.rest) shown c.in-Err.error (unshown c.args.checker.now is.runs) c.requires.some (c.in-Err.ensures.read p is.knows known))
-
-pub returns-in-Ok-Some-clause-any : goal.returns-in-Ok-Some-clause-any
-returns-in-Ok-Some-clause-any g c = subst (λ o. IfSome o (λ v. IfVerified v (λ r. ⊥))) (sym c.after_item.ensures) (step_unverified (λ r. ⊥) c.take_solution.result)
-
-pub returns-in-Err-clause-any : goal.returns-in-Err-clause-any
-returns-in-Err-clause-any g c = subst (λ v. IfVerified v (λ r. ⊥)) (sym c.verdict_of_text_error.ensures) (text_unverified (λ r. ⊥) c.in-Err.error)
-
-pub returns-in-Ok-Some-clause-decided : goal.returns-in-Ok-Some-clause-decided
-returns-in-Ok-Some-clause-decided g c = λ e.
+pub returns-in_err-take_solution-in-Some-clause-decided : goal.returns-in_err-take_solution-in-Some-clause-decided
+returns-in_err-take_solution-in-Some-clause-decided g c =
     let (P, p, ss, is) = c.requires.among in
-    let unspent = solution_unspent ss (solution_of c.in-Ok-Some.solution) c.args.checker.now c.take_solution.new.self c.take_solution.result (c.take_solution.ensures.next ss is.runs is.has) in
-    absurd (step_decided c.take_solution.result c.take_solution.ensures.decided unspent (sym c.after_item.ensures ∙ e))
+    let e = c.in_err-take_solution-in-Some.field-0.0 in
+    let taken = c.in_err-take_solution-in-Some.ensures.next ss is.runs is.has in
+    let wanted : e ≢ stop.Memory = λ i. c.in_err-take_solution-in-Some.ensures.decided (cc i) in
+    handed_on (λ (r : Result (Unit {0}) NoProof). r ≡ Err reason.Memory → c.next.new.self.failed ≡ true) c.from_residual-in_err-take_solution-in-Some.result (stop_reason e) c.from_residual-in_err-take_solution-in-Some.ensures.1
+    (λ m. absurd (never_memory ss (solution_of c.in-Some.solution) c.args.checker.now c.take_solution.new.self e taken wanted (cc m)))
+
+pub returns-clause-step : goal.returns-clause-step
+returns-clause-step g c = λ P p ss is.
+    let h = rw c.in-Some.is at c.in_ok-solution.ensures in
+    solution_listed P p ss c.args.checker.now c.take_solution.new.self c.args.solutions.now c.next.new.self (solution_of c.in-Some.solution) is h.moves.counted (λ known. (let r = h.read p is.knows known in (r.1, r.2)))
+    h.moves.remembers h.moves.working (c.in_ok-take_solution-in-Some.ensures.next ss is.runs is.has)

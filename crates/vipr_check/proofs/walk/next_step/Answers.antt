@@ -1,16 +1,17 @@
 use Rattle.std.proofs.Common.{sym, subst}
 use Rattle.vipr_spec.specs.Constraint.{at}
-use Rattle.vipr_spec.specs.Verdict.{Explained}
+use Rattle.vipr_spec.specs.Verdict.{Explained, verified}
 use Rattle.vipr_spec.specs.Progress.{derivations_from}
 use Rattle.vipr_cert.specs.Items.{derivation_of}
 use Rattle.vipr_scan.specs.Giving.{rest_of}
+use Rattle.vipr_check.specs.View.{report_of}
+use Rattle.vipr_check.specs.Reasons.{text_reason, stop_reason, SaysWhy}
 use Rattle.vipr_check.specs.Shown.{state_shown}
-use Rattle.vipr_check.specs.Run.{Goes, SaysWith}
+use Rattle.vipr_check.specs.Run.{Goes}
+use Rattle.vipr_check.proofs.Answering.{handed_on}
 use Rattle.vipr_check.proofs.ShownLemmas.{unshown}
-use Rattle.vipr_check.proofs.RunLemmas.{room_for, names_for, goes_on, finished, derivations_failed, step_unspent, finish_unspent}
-use Rattle.std.specs.Prelude.{IfSome}
-use Rattle.vipr_check.specs.View.{IfVerified, IsOfProof}
-use Rattle.vipr_check.proofs.Verifying.{step_unverified, end_is_verified, text_unverified}
+use Rattle.vipr_check.proofs.Verifying.{report_of_proof}
+use Rattle.vipr_check.proofs.RunLemmas.{room_for, names_for, step_reached, step_stops, finish_stops, finish_verifies, derivation_missing}
 use Rattle.vipr_check.proofs.walk.next_step.Goals as goal
 
 pub take_from-requires-clause-phase : goal.take_from-requires-clause-phase
@@ -18,59 +19,64 @@ take_from-requires-clause-phase g c = c.requires.2.phase
 
 pub take_from-requires-clause-room : goal.take_from-requires-clause-room
 take_from-requires-clause-room g c =
-    let h = rw c.in-Ok-true.field-0-test at c.in-Ok-true.ensures in
+    let h = rw c.if-found.true at c.in_ok-found.ensures in
     room_for c.requires.0 c.requires.1 c.args.checker.now c.args.derivations.now c.next_into.new.self.left c.requires.2 h.moves.counted
 
 pub take_from-requires-clause-names : goal.take_from-requires-clause-names
 take_from-requires-clause-names g c =
-    let h = rw c.in-Ok-true.field-0-test at c.in-Ok-true.ensures in
+    let h = rw c.if-found.true at c.in_ok-found.ensures in
     names_for c.requires.0 c.requires.1 c.args.checker.now c.args.derivations.now (at c.next_into.new.step.constraint.row) c.requires.2 h.shape.row
-
-pub after_item-requires : goal.after_item-requires
-after_item-requires g c =
-    let is = c.requires.2 in
-    step_unspent c.requires.1 (derivation_of c.next_into.new.step) c.args.checker.now c.take_from.new.self c.take_from.result (c.take_from.ensures.next c.requires.1 is.runs is.has)
 
 pub finish-requires : goal.finish-requires
 finish-requires g c = c.requires.2.phase
 
-pub after_end-requires : goal.after_end-requires
-after_end-requires g c =
-    let is = c.requires.2 in
-    finish_unspent c.requires.1 c.args.checker.now c.finish.new.self c.finish.result (c.finish.ensures.next c.requires.1 is.runs is.has)
-
-pub returns-in-Ok-true-clause-step : goal.returns-in-Ok-true-clause-step
-returns-in-Ok-true-clause-step g c = λ P s is.
-    let h = rw c.in-Ok-true.field-0-test at c.in-Ok-true.ensures in
+pub returns-in_err-found-clause-step : goal.returns-in_err-found-clause-step
+returns-in_err-found-clause-step g c = λ P s is.
+    let old = c.args.derivations.now in
     let k = c.args.checker.now in
+    let e = c.in_err-found.field-0.0 in
+    handed_on (Goes P s old k c.next_into.new.self) c.from_residual.result (text_reason e) c.from_residual.ensures.1
+    (λ known. derivation_missing P s old.left (rest_of old.rest) (state_shown k) e (unshown k is.runs) (c.in_err-found.ensures.read s.problem is.knows known))
+
+pub returns-in_err-take_from-clause-step : goal.returns-in_err-take_from-clause-step
+returns-in_err-take_from-clause-step g c = λ P s is.
+    let h = rw c.if-found.true at c.in_ok-found.ensures in
     let old = c.args.derivations.now in
+    let k = c.args.checker.now in
+    let l = c.take_from.new.self in
     let new = c.next_into.new.self in
-    let d = derivation_of c.next_into.new.step in
-    subst (Goes P s old c.take_from.new.self new) (sym c.after_item.ensures)
-    (goes_on P s k c.take_from.new.self old new d is h.shape.reason h.moves.counted h.moves.remembers h.moves.working (λ known. (let r = h.read s.problem is.knows known in (r.1, r.2))) c.take_from.result (c.take_from.ensures.next s is.runs is.has))
+    let e = c.in_err-take_from.field-0.0 in
+    handed_on (Goes P s old l new) c.from_residual-in_err-take_from.result (stop_reason e) c.from_residual-in_err-take_from.ensures.1
+    (step_stops P s k l old new (derivation_of c.next_into.new.step) is h.moves.counted (λ known. (let r = h.read s.problem is.knows known in (r.1, r.2))) h.shape.reason e (c.in_err-take_from.ensures.next s is.runs is.has))
 
-pub returns-in-Ok-false-clause-step : goal.returns-in-Ok-false-clause-step
-returns-in-Ok-false-clause-step g c = λ P s is known.
-    let h = rw c.in-Ok-false.field-0-test at c.in-Ok-false.ensures in
-    let r = h.read s.problem is.knows known in
-    let left = (rest_of c.args.derivations.now.rest) in
-    let l = c.finish.new.self in
-    let x = finished P s c.args.checker.now l left c.finish.result is.profile is.has.problem is.runs r.1 (c.finish.ensures.next s is.runs is.has) in
-    subst (λ n. SaysWith (Explained P (derivations_from s n left)) (state_shown l) c.after_end.result) (sym r.0) (subst (SaysWith (Explained P (derivations_from s 0 left)) (state_shown l)) (sym c.after_end.ensures) x)
+pub returns-then-found-clause-step : goal.returns-then-found-clause-step
+returns-then-found-clause-step g c = λ P s is.
+    let h = rw c.if-found.true at c.in_ok-found.ensures in
+    step_reached P s c.args.checker.now c.take_from.new.self c.args.derivations.now c.next_into.new.self (derivation_of c.next_into.new.step) is h.moves.counted (λ known. (let r = h.read s.problem is.knows known in (r.1, r.2)))
+    h.moves.remembers h.moves.working (c.in_ok-take_from.ensures.next s is.runs is.has)
 
-pub returns-in-Err-clause-step : goal.returns-in-Err-clause-step
-returns-in-Err-clause-step g c = λ P s is known.
+pub returns-in_err-finish-clause-step : goal.returns-in_err-finish-clause-step
+returns-in_err-finish-clause-step g c = λ P s is.
+    let h = rw c.if-found.false at c.in_ok-found.ensures in
     let old = c.args.derivations.now in
-    let shown = state_shown c.args.checker.now in
-    subst (SaysWith (Explained P (derivations_from s old.left (rest_of old.rest))) shown) (sym c.verdict_of_text_error.ensures) (derivations_failed P s old.left (rest_of old.rest) shown c.in-Err.error (unshown c.args.checker.now is.runs) (c.in-Err.ensures.read s.problem is.knows known))
+    let k = c.args.checker.now in
+    let l = c.finish.new.self in
+    let e = c.in_err-finish.field-0.0 in
+    handed_on (Goes P s old l c.next_into.new.self) c.from_residual-in_err-finish.result (stop_reason e) c.from_residual-in_err-finish.ensures.1 (λ known.
+    let r = h.read s.problem is.knows known in
+    subst (λ n. SaysWhy (Explained P (derivations_from s n (rest_of old.rest))) (state_shown l) (stop_reason e)) (sym r.0)
+    (finish_stops P s k l (rest_of old.rest) is.profile r.1 e is.has.problem (c.in_err-finish.ensures.next s is.runs is.has)))
 
-pub returns-in-Ok-true-clause-any : goal.returns-in-Ok-true-clause-any
-returns-in-Ok-true-clause-any g c = λ P s is. subst (λ o. IfSome o (λ v. IfVerified v (IsOfProof P))) (sym c.after_item.ensures) (step_unverified (IsOfProof P) c.take_from.result)
+pub returns-clause-step : goal.returns-clause-step
+returns-clause-step g c = λ P s is known.
+    let h = rw c.if-found.false at c.in_ok-found.ensures in
+    let left = rest_of c.args.derivations.now.rest in
+    let l = c.finish.new.self in
+    let report = c.in_ok-finish.field-0 in
+    let r = h.read s.problem is.knows known in
+    subst (λ n. Explained P (derivations_from s n left) (verified (report_of report)) (state_shown l)) (sym r.0)
+    (finish_verifies P s c.args.checker.now l left is.profile r.1 report is.runs (c.in_ok-finish.ensures.next s is.runs is.has))
 
-pub returns-in-Ok-false-clause-any : goal.returns-in-Ok-false-clause-any
-returns-in-Ok-false-clause-any g c = λ P s is.
-    subst (λ v. IfVerified v (IsOfProof P)) (sym c.after_end.ensures)
-    (end_is_verified P s c.args.checker.now c.finish.new.self c.finish.result is.profile (c.finish.ensures.next s is.runs is.has))
-
-pub returns-in-Err-clause-any : goal.returns-in-Err-clause-any
-returns-in-Err-clause-any g c = λ P s is. subst (λ v. IfVerified v (IsOfProof P)) (sym c.verdict_of_text_error.ensures) (text_unverified (IsOfProof P) c.in-Err.error)
+pub returns-clause-any : goal.returns-clause-any
+returns-clause-any g c = λ P s is.
+    report_of_proof P s c.args.checker.now c.finish.new.self c.in_ok-finish.field-0 is.profile (c.in_ok-finish.ensures.next s is.runs is.has)

@@ -1,4 +1,4 @@
-use Rattle.std.proofs.Common.{◌≡◌, Some, refl, sym, subst}
+use Rattle.std.proofs.Common.{◌≡◌, Some, Err, refl, sym, subst}
 use Rattle.std.specs.Prelude.{IsSome}
 use Rattle.vipr_spec.specs.Reading.{problem_read}
 use Rattle.vipr_spec.specs.Verdict.{IsExplained}
@@ -6,22 +6,18 @@ use Rattle.vipr_spec.specs.Tests.{none}
 use Rattle.vipr_scan.specs.Faults.{Fails}
 use Rattle.vipr_scan.specs.Giving.{rest_of}
 use Rattle.vipr_bytes.specs.Known.{text_of}
+use Rattle.vipr_check.specs.Reasons.{SaysWhy}
 use Rattle.vipr_check.specs.Run.{SaysWith}
 use Rattle.vipr_check.proofs.KnownTexts.{known_by}
 use Rattle.vipr_check.proofs.RunLemmas.{problem_failed}
 use Rattle.vipr_rules.specs.Profile.{profile_of}
-use Rattle.vipr_check.specs.View.{IfVerified, IsOfProof}
-use Rattle.vipr_check.proofs.Verifying.{text_unverified}
 use Rattle.vipr_check.proofs.walk.run.Goals as goal
 
 pub returns-in-Err-clause-explained : goal.returns-in-Err-clause-explained
 returns-in-Err-clause-explained g c =
     let r = c.in-Ok.reader in
     let e = c.in-Err.error in
-    known_by (g.R.Source.input c.args.source) (λ i. r ≡ Some (text_of i)) (λ i. SaysWith (IsExplained (profile_of c.args.profile) (text_of i)) none c.verdict_of_text_error.result) (λ i h.
-    subst (SaysWith (IsExplained (profile_of c.args.profile) (text_of i)) none) (sym c.verdict_of_text_error.ensures)
+    known_by (g.R.Source.input c.args.source) (λ i. r ≡ Some (text_of i)) (λ i. SaysWith (IsExplained (profile_of c.args.profile) (text_of i)) none (Err c.from.result)) (λ i h.
+    subst (SaysWhy (IsExplained (profile_of c.args.profile) (text_of i)) none) (sym c.from.ensures)
     (problem_failed (profile_of c.args.profile) (text_of i) e (subst (λ s. Fails e (problem_read (rest_of s))) h (c.in-Err.ensures.read (subst IsSome (sym h) refl)))))
     c.in-Ok.ensures
-
-pub returns-in-Err-clause-any : goal.returns-in-Err-clause-any
-returns-in-Err-clause-any g c = let Q = IsOfProof (profile_of c.args.profile) in subst (λ v. IfVerified v Q) (sym c.verdict_of_text_error.ensures) (text_unverified Q c.in-Err.error)

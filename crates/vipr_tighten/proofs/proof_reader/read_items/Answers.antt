@@ -1,6 +1,6 @@
-use Rattle.std.proofs.Common.{[], map, sym, subst}
+use Rattle.std.proofs.Common.{map}
 use Rattle.vipr_cert.specs.Items.{solution_of, derivation_of}
-use Rattle.vipr_tighten.specs.Keeping.{AnswersWhy, solutions_left}
+use Rattle.vipr_check.specs.Reasons.{text_reason}
 use Rattle.vipr_tighten.proofs.Reading.{err_given, unread_answers, at_then, later_answers, proof_kept}
 use Rattle.vipr_tighten.proofs.proof_reader.read_items.Goals as goal
 
@@ -14,26 +14,19 @@ returns-in_err-listed-clause-unproved g c =
 pub finish-requires : goal.finish-requires
 finish-requires g c = c.in_ok-listed.ensures.none
 
-pub reason_of_text_error-requires : goal.reason_of_text_error-requires
-reason_of_text_error-requires g c =
-    let (P, p, is) = c.requires in
-    let unspent = (c.in_ok-listed.ensures.kept P p is).listed.is_among.unspent in
-    λ e. let failed = c.in-Err.ensures.spent.0 (cc) in cc
-
-pub returns-in-Err-clause-unproved : goal.returns-in-Err-clause-unproved
-returns-in-Err-clause-unproved g c = λ P p is known.
-    let ss = map solution_of c.in_ok-listed.listed.items in
-    let r = c.args.solutions in
+pub returns-in_err-derivations-clause-unproved : goal.returns-in_err-derivations-clause-unproved
+returns-in_err-derivations-clause-unproved g c =
+    let e = c.in_err-derivations.field-0.0 in
+    err_given _ c.from_residual-in_err-derivations.result (text_reason e) c.from_residual-in_err-derivations.ensures.1 (λ P p is known.
     let met = c.in_ok-listed.ensures.kept P p is in
-    subst (AnswersWhy P (solutions_left p [] r)) (sym c.reason_of_text_error.ensures)
-    (unread_answers P p r ss c.read_listed.new.checker c.read_listed.new.solutions met c.in_ok-listed.ensures.none c.in-Err.error (c.in-Err.ensures.read p met.listed.is_among.knows) known)
+    unread_answers P p c.args.solutions (map solution_of c.in_ok-listed.listed.items) c.read_listed.new.checker c.read_listed.new.solutions met c.in_ok-listed.ensures.none e (c.in_err-derivations.ensures.read p met.listed.is_among.knows) known)
 
 pub read_derived-requires : goal.read_derived-requires
 read_derived-requires g c =
     let (P, p, is) = c.requires in
     let ss = map solution_of c.in_ok-listed.listed.items in
-    let f = c.in-Ok.ensures in
-    (P, p, ss, at_then P p c.args.solutions ss c.read_listed.new.checker c.read_listed.new.solutions (c.in_ok-listed.ensures.kept P p is) c.in_ok-listed.ensures.none c.in-Ok.derivations f.remembers f.working f.counted)
+    let f = c.in_ok-derivations.ensures in
+    (P, p, ss, at_then P p c.args.solutions ss c.read_listed.new.checker c.read_listed.new.solutions (c.in_ok-listed.ensures.kept P p is) c.in_ok-listed.ensures.none c.in_ok-derivations.derivations f.remembers f.working f.counted)
 
 pub returns-in_err-derived-clause-unproved : goal.returns-in_err-derived-clause-unproved
 returns-in_err-derived-clause-unproved g c =
@@ -41,8 +34,8 @@ returns-in_err-derived-clause-unproved g c =
     let r = c.args.solutions in
     let k = c.read_listed.new.checker in
     let s = c.read_listed.new.solutions in
-    let u = c.in-Ok.derivations in
-    let f = c.in-Ok.ensures in
+    let u = c.in_ok-derivations.derivations in
+    let f = c.in_ok-derivations.ensures in
     let e = c.in_err-derived.field-0.0 in
     err_given _ c.from_residual-in_err-derived.result e c.from_residual-in_err-derived.ensures.1
     (λ P p is known.
@@ -57,8 +50,8 @@ returns-clause-kept g c = λ P p is.
     let r = c.args.solutions in
     let k = c.read_listed.new.checker in
     let s = c.read_listed.new.solutions in
-    let u = c.in-Ok.derivations in
-    let f = c.in-Ok.ensures in
+    let u = c.in_ok-derivations.derivations in
+    let f = c.in_ok-derivations.ensures in
     let met = c.in_ok-listed.ensures.kept P p is in
     let at = at_then P p r ss k s met c.in_ok-listed.ensures.none u f.remembers f.working f.counted in
     proof_kept P p r ss k s met c.in_ok-listed.ensures.none u f.remembers f.working f.counted (f.read p met.listed.is_among.knows)

@@ -1,8 +1,10 @@
-use Rattle.std.proofs.Common.{[], map, sym, subst}
+use Rattle.std.proofs.Common.{map}
 use Rattle.vipr_scan.specs.Giving.{rest_of}
 use Rattle.vipr_cert.specs.Items.{solution_of}
-use Rattle.vipr_tighten.specs.Keeping.{AnswersWhy, solutions_left, stop_reason}
-use Rattle.vipr_tighten.proofs.Reading.{err_given, ending_unspent, ending_unmet, end_answers}
+use Rattle.vipr_check.specs.Reasons.{stop_reason}
+use Rattle.vipr_check.specs.Shown.{state_shown}
+use Rattle.vipr_check.proofs.Laws.{ending_unmet}
+use Rattle.vipr_tighten.proofs.Reading.{err_given, end_answers}
 use Rattle.vipr_tighten.proofs.proof_reader.read_listed.Goals as goal
 
 pub read_solutions-requires : goal.read_solutions-requires
@@ -17,27 +19,21 @@ end_solutions-requires g c =
     let (P, p, is) = c.requires in
     (c.in_ok-listed.ensures.kept P p is).is_among.phase
 
-pub reason_of_stop-requires : goal.reason_of_stop-requires
-reason_of_stop-requires g c =
-    let (P, p, is) = c.requires in
+pub returns-in_err-end_solutions-clause-unproved : goal.returns-in_err-end_solutions-clause-unproved
+returns-in_err-end_solutions-clause-unproved g c =
+    let e = c.in_err-end_solutions.field-0.0 in
+    err_given _ c.from_residual-in_err-end_solutions.result (stop_reason e) c.from_residual-in_err-end_solutions.ensures.1 (λ P p is known.
     let ss = map solution_of c.in_ok-listed.listed.items in
-    let listed = c.in_ok-listed.ensures.kept P p is in
-    ending_unspent ss c.read_solutions.new.checker c.end_solutions.new.self c.in-Err.stop (c.in-Err.ensures.next ss listed.is_among.runs listed.is_among.has)
-
-pub returns-in-Err-clause-unproved : goal.returns-in-Err-clause-unproved
-returns-in-Err-clause-unproved g c = λ P p is known.
-    let ss = map solution_of c.in_ok-listed.listed.items in
-    let r = c.args.solutions.now in
     let k = c.read_solutions.new.checker in
+    let l = c.end_solutions.new.self in
     let s = c.read_solutions.new.solutions in
     let listed = c.in_ok-listed.ensures.kept P p is in
-    let ends = c.in-Err.ensures.next ss listed.is_among.runs listed.is_among.has in
-    subst (AnswersWhy P (solutions_left p [] r)) (sym c.reason_of_stop.ensures)
-    (end_answers P p r ss k s listed c.in_ok-listed.ensures.none known (stop_reason c.in-Err.stop)
-    (ending_unmet P p ss k c.end_solutions.new.self (rest_of s.rest) c.in-Err.stop listed.is_among.problem ends))
+    let ends = c.in_err-end_solutions.ensures.next ss listed.is_among.runs listed.is_among.has in
+    end_answers P p c.args.solutions.now ss k s listed c.in_ok-listed.ensures.none known (stop_reason e)
+    (state_shown l, ending_unmet P p ss k l (rest_of s.rest) e listed.is_among.problem ends))
 
-pub returns-in-Ok-clause-kept : goal.returns-in-Ok-clause-kept
-returns-in-Ok-clause-kept g c = λ P p is.
+pub returns-clause-kept : goal.returns-clause-kept
+returns-clause-kept g c = λ P p is.
     let ss = map solution_of c.in_ok-listed.listed.items in
     let listed = c.in_ok-listed.ensures.kept P p is in
-    record { before = c.read_solutions.new.checker; listed = listed; ends = c.in-Ok.ensures.next ss listed.is_among.runs listed.is_among.has }
+    record { before = c.read_solutions.new.checker; listed = listed; ends = c.in_ok-end_solutions.ensures.next ss listed.is_among.runs listed.is_among.has }

@@ -1,9 +1,12 @@
 use Rattle.std.proofs.Common.{sym, ◌∙◌, subst}
 use Rattle.vipr_spec.specs.Shape.{CanWrite}
+use Rattle.vipr_spec.specs.Tests.{none}
+use Rattle.vipr_check.specs.declared.no_proof.NoProof.TheVariants as reason
 use Rattle.vipr_cert.specs.Items.{certificate_with}
 use Rattle.vipr_rules.specs.Profile.{profile_of}
+use Rattle.vipr_check.proofs.Laws.{among_start}
 use Rattle.vipr_tighten.specs.Keeping.{KeepsProof}
-use Rattle.vipr_tighten.proofs.Reading.{among_start, err_given}
+use Rattle.vipr_tighten.proofs.Reading.{err_given}
 use Rattle.vipr_tighten.proofs.proof_reader.read_rest.Goals as goal
 
 pub read_items-requires : goal.read_items-requires
@@ -36,3 +39,6 @@ returns-clause-kept g c =
     let report = c.in_ok-listed.report in
     subst (λ d. KeepsProof P c.args.problem c.args.solutions d report) (sym c.of_parts-certificate.ensures.parts)
     (subst (λ q. KeepsProof P c.args.problem c.args.solutions (certificate_with q c.in_ok-listed.listed.items c.in_ok-listed.derived.items) report) (sym (c.into_problem.ensures ∙ kept.0)) kept.2)
+
+pub returns-in_err-checker-clause-unproved : goal.returns-in_err-checker-clause-unproved
+returns-in_err-checker-clause-unproved g c = err_given _ c.from_residual.result reason.Memory c.from_residual.ensures.1 (λ known. (none, tt))

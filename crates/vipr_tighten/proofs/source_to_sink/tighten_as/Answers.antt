@@ -15,4 +15,4 @@ returns-in-Err g c =
     let P = profile_of c.args.profile in
     let source = g.R.Source.input c.args.source in
     let old = g.W.Sink.output c.args.sink.now in
-    subst (TightensAs P c.args.form source old old) (sym c.without_proof.ensures) (decided_not P c.args.form source c.in-Err.unproved old c.in-Err.ensures.found)
+    subst (TightensAs P c.args.form source old old) (sym c.without_proof.ensures) (decided_not P c.args.form source c.in-Err.reason old c.in-Err.ensures.found)
