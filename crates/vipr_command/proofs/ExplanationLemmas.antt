@@ -1,21 +1,28 @@
 -- What is printed of a verdict and its detail
-use Rattle.std.proofs.Common.{◌≡◌, ℕ, Option, Some, None, Ok, Err, subst}
+use Rattle.std.proofs.Common.{◌≡◌, ℕ, Option, Some, Ok, Err, subst}
 use Rattle.vipr_spec.specs.Constraint.{Profile}
-use Rattle.vipr_spec.specs.Input.{Input}
 use Rattle.vipr_bytes.specs.Output.{Output}
-use Rattle.vipr_bytes.specs.Known.{IfKnown}
 use Rattle.vipr_check.specs.Explanation.{explained_text}
 use Rattle.vipr_check.specs.declared.detail.Detail.{Detail}
+use Rattle.vipr_check.specs.declared.verdict.Fault.{Fault as CheckFault}
+use Rattle.vipr_check.specs.declared.verdict.Fault.TheVariants.{Memory as CheckMemory}
+use Rattle.vipr_check.specs.declared.verdict.Fault.TheVariants.{Read as CheckRead}
 use Rattle.vipr_check.specs.declared.verdict.Verdict.{Verdict}
 use Rattle.vipr_command.specs.declared.fault.CommandFault.{CommandFault}
 use Rattle.vipr_command.specs.declared.fault.CommandFault.TheVariants.{Memory, Read, Write}
 use Rattle.vipr_command.specs.Output.{Took, Prints, PrintsMore, after_first}
-use Rattle.vipr_command.specs.Run.{KnownInput, PrintsAtLength, PrintsExplanation, status_for}
+use Rattle.vipr_command.specs.Run.{KnownInput, PrintsAtLength, PrintsExplanation, fault_for, status_for}
+use Rattle.vipr_command.proofs.ShowLemmas.{stays}
 
--- what is so of each input is so of the one that is known
-pub if_known : (o : Option Input) (P Q : Input → Type 0) → ((i : Input) → P i → Q i) → IfKnown o P → IfKnown o Q
-if_known None P Q k h = tt
-if_known (Some i) P Q k h = λ short. k i (h short)
+-- nothing was explained
+module _ (P : Profile) (k : KnownInput) (old : Option Output) where
+  pub unexplained : (e : CheckFault) → k.Explained P (Err e) → PrintsExplanation P k old old (Err (fault_for e))
+  unexplained CheckRead h = (h, stays old)
+  unexplained CheckMemory h = stays old
+
+  pub unexplained_at_length : (e : CheckFault) → k.Explained P (Err e) → PrintsAtLength P k old old (Err (fault_for e))
+  unexplained_at_length CheckRead h = (h, stays old)
+  unexplained_at_length CheckMemory h = stays old
 
 module _ (P : Profile) (k : KnownInput) (v : Verdict) (x : Detail) (explained : k.Explained P (Ok (v, x))) (old new : Option Output) where
   pub printed : (s : ℕ) → s ≡ status_for v → Prints (Some (explained_text v x)) old new (Ok tt) → PrintsExplanation P k old new (Ok s)

@@ -1,5 +1,5 @@
--- What the program answers, where the words aren't taken and where nothing is told of the output.
-use Rattle.std.proofs.Common.{◌≡◌, Bor, IsNone, option_map, ℕ, List, Option, Some, None, Result, Ok, Err, Bool, true, false, inl, inr, refl}
+-- What the program answers if the words aren't taken, if nothing is known of the output, and from what is read
+use Rattle.std.proofs.Common.{◌≡◌, Bor, option_map, ℕ, List, Option, Some, None, Result, Ok, Err, Bool, true, false, inl, inr, refl, sym, subst}
 use Rattle.std.specs.Prelude.{IfOk}
 use Rattle.clap.specs.Words.{HasKind, Text, kind_of}
 use Rattle.clap.specs.declared.error.Error.{Error}
@@ -8,7 +8,6 @@ use Rattle.clap.specs.declared.error.ErrorKind.TheVariants.{OutOfMemory}
 use Rattle.vipr_spec.specs.Constraint.{Profile}
 use Rattle.vipr_spec.specs.Input.{Input}
 use Rattle.vipr_bytes.specs.Output.{Output}
-use Rattle.vipr_bytes.specs.Known.{IfKnown}
 use Rattle.vipr_rules.specs.Profile.{profile_of}
 use Rattle.vipr_tighten.specs.Tightens.{KindOfText, TightensText}
 use Rattle.vipr_write.specs.declared.form.Form.{Form}
@@ -17,8 +16,9 @@ use Rattle.vipr_tighten.specs.declared.outcome.Outcome.TheVariants.{Tightened, R
 use Rattle.vipr_tighten.specs.declared.outcome.TightenFault.{TightenFault}
 use Rattle.vipr_tighten.specs.declared.outcome.TightenFault.TheVariants as tighten
 use Rattle.vipr_command.specs.Args.{are_accepted, request_of, asked_by, words_fault}
-use Rattle.vipr_command.specs.Run.{AnswersError, Declines, Does, IsStatusFor, KnownInput, RunsOver, exit_status, known_by, read_from, unknown_input}
+use Rattle.vipr_command.specs.Run.{AnswersError, Declines, Does, DoesJob, IsStatusFor, KnownInput, OfInput, RunsOver, exit_status, read_from, unknown_input}
 use Rattle.vipr_command.specs.Show.{Kind, ShowsText}
+use Rattle.vipr_command.proofs.InputLemmas.{of_any}
 use Rattle.vipr_command.proofs.ShowLemmas.{stays}
 use Rattle.vipr_command.specs.declared.fault.CommandFault.{CommandFault}
 use Rattle.vipr_command.specs.declared.fault.CommandFault.TheVariants.{Memory, Read, Write}
@@ -42,10 +42,6 @@ pub wrong_words : (words : List Text) (k : ErrorKind) (old new : Option Output) 
 wrong_words words k old new (Err f) h a = tt
 wrong_words words k old new (Ok s) h (inl (other, d)) = λ two. not_true (are_accepted words) (λ t. other (h t))
 wrong_words words k old new (Ok s) h (inr (memory, (is, stays))) = λ two. let bad : Ok s ≡ Err Memory = is in cc
-
-pub all_known : (source : Option Input) (words : List Text) (old new : Option Output) (r : Result ℕ CommandFault) → ((k : KnownInput) → RunsOver words k old new r) → IfKnown source (λ i. RunsOver words (known_by i) old new r)
-all_known None words old new r given = tt
-all_known (Some i) words old new r given = λ short. given (known_by i)
 
 declines_untold : (k : ErrorKind) (old new : Option Output) (r : Result ℕ CommandFault) → Declines k old new r → Declines k None None r
 declines_untold k old new (Ok s) (inl (help, is, (text, took))) = inl (help, is, (text, tt))
@@ -95,7 +91,7 @@ pub fits : (words : List Text) (old new : Option Output) (r : Result ℕ Command
 fits words old new r obeys = (r, refl, untold words unknown_input old new r obeys)
 
 -- a file that can't be opened
-pub unread : (t : Task) (P : Profile) (F : Form) (l : Bool) (out : Option Text) (old : Option Output) → Does t P F l out unknown_input old old (Err Read)
+unread : (t : Task) (P : Profile) (F : Form) (l : Bool) (out : Option Text) (old : Option Output) → Does t P F l out unknown_input old old (Err Read)
 unread Check P F l out old = (tt, stays old)
 unread Explain P F false out old = (tt, stays old)
 unread Explain P F true out old = (tt, stays old)
@@ -103,26 +99,29 @@ unread Show P F l out old = (tt, stays old)
 unread Tighten P F l None old = (Err tighten.Read, refl, (tt, stays old))
 unread Tighten P F l (Some out) old = (inl (Err tighten.Read, refl, (tt, tt)), stays old)
 
-abbrev named : Option (Bor (List ℕ)) → Option Text
+pub unread_job : (j : Job) (old : Option Output) → DoesJob j unknown_input old old (Err Read)
+unread_job j old = unread j.command (profile_of j.profile) j.form j.is_long (option_map (λ s. s.now) j.out) old
+
+abbrev pub named : Option (Bor (List ℕ)) → Option Text
 named o = option_map (λ s. s.now) o
 
--- nothing is known of what is read, of a file or not
-of_unknown : (file : Option (Bor (List ℕ))) (P : KnownInput → Type 0) → P unknown_input → P (read_from (named file) unknown_input)
-of_unknown None P p = p
-of_unknown (Some f) P p = p
+module _ (j : Job) (source : Option Input) (old new : Option Output) (r : Result ℕ CommandFault) where
+  -- the task is done with what is read
+  abbrev DoneWith : Option (Bor (List ℕ)) → Type 0
+  DoneWith file = OfInput source (λ k. DoesJob j (read_from (named file) k) old new r)
 
--- where no file is named, what is so of the input
-of_known : (file : Option (Bor (List ℕ))) (k : KnownInput) (P : KnownInput → Type 0) → P unknown_input → (IsNone file → P k) → P (read_from (named file) k)
-of_known None k P p q = q refl
-of_known (Some f) k P p q = p
+  -- no file is named
+  pub done_with_input : j.file ≡ None → OfInput source (λ k. DoesJob j k old new r) → DoneWith j.file
+  done_with_input is done = subst DoneWith (sym is) done
 
-module _ (words : List Text) (j : Job) (is : asked_by words ≡ Some (request_of j)) (old new : Option Output) (r : Result ℕ CommandFault) where
-  abbrev DoesJob : KnownInput → Type 0
-  DoesJob k = Does j.command (profile_of j.profile) j.form j.is_long (named j.out) k old new r
+  -- of a file nothing is known
+  pub done_with_file : (file : Bor (List ℕ)) → j.file ≡ Some file → DoesJob j unknown_input old new r → DoneWith j.file
+  done_with_file file is done = subst DoneWith (sym is) (of_any source (λ _. DoesJob j unknown_input old new r) (λ _. done))
 
-  pub obeyed : DoesJob unknown_input → RunsOver words unknown_input old new r
-  obeyed does = inl (j.command, j.profile, j.form, j.is_long, named j.file, named j.out, is, of_unknown j.file DoesJob does)
+  -- what is done is this task
+  pub done_as : (t : Task) → j.command ≡ t → OfInput source (λ k. Does t (profile_of j.profile) j.form j.is_long (named j.out) k old new r) → OfInput source (λ k. DoesJob j k old new r)
+  done_as t is done = subst (λ (t : Task). OfInput source (λ k. Does t (profile_of j.profile) j.form j.is_long (named j.out) k old new r)) (sym is) done
 
-  pub ran_known : (source : Option Input) → DoesJob unknown_input → (IsNone j.file → IfKnown source (λ i. DoesJob (known_by i))) → IfKnown source (λ i. RunsOver words (known_by i) old new r)
-  ran_known None does known = tt
-  ran_known (Some i) does known = λ short. inl (j.command, j.profile, j.form, j.is_long, named j.file, named j.out, is, of_known j.file (known_by i) DoesJob does (λ none. known none short))
+-- the words ask for what is done
+pub obeyed : (words : List Text) (j : Job) → asked_by words ≡ Some (request_of j) → (k : KnownInput) (old new : Option Output) (r : Result ℕ CommandFault) → DoesJob j (read_from (named j.file) k) old new r → RunsOver words k old new r
+obeyed words j is k old new r done = inl (j.command, j.profile, j.form, j.is_long, named j.file, named j.out, is, done)

@@ -15,7 +15,7 @@ use Rattle.vipr_scan.specs.declared.error.TextError.{TextError}
 use Rattle.vipr_scan.specs.declared.error.TextError.TheVariants as error
 use Rattle.vipr_check.specs.declared.verdict.Place.TheVariants.{Byte}
 use Rattle.vipr_command.specs.Output.{Stays, Took, after_first}
-use Rattle.vipr_command.specs.Show.{Kind, ShowsText, WritesText, text_spelling, text_read}
+use Rattle.vipr_command.specs.Show.{Kind, ShowsText, WritesText, text_spelling}
 use Rattle.vipr_command.specs.declared.fault.CommandFault.{CommandFault}
 use Rattle.vipr_command.specs.declared.fault.CommandFault.TheVariants.{Memory, Read, Write}
 use Rattle.vipr_command.specs.declared.show.Shown.{Shown}
@@ -31,12 +31,6 @@ shown_by F old new text c (Ok (Refused r)) is w k s = absurd w
 shown_by F old new text c (Err Read) is w k s = absurd w
 shown_by F old new text c (Err Memory) is w k s = w
 shown_by F old new text c (Err (Write n)) is w k s = (c, s, subst (λ t. Took old new t (Err (after_first n))) is w)
-
--- of a certificate that was read
-pub exact_by : (F : Form) (old new : Option Output) (source : Option Input) (c : Certificate) (r : Result Shown CommandFault) → ((k : Kind) → k.Spelled c → ShowsText F k old new r)
-    → IfKnown source (λ i. certificate_read (text_of i) ≡ Ok c) → IfKnown source (λ i. ShowsText F (text_read (certificate_read (text_of i))) old new r)
-exact_by F old new None c r given h = tt
-exact_by F old new (Some i) c r given h = λ short. given (text_read (certificate_read (text_of i))) (h short)
 
 whole_is : (i : Input) → i.fails ≡ false → text_of i ≡ whole_text i.bytes
 whole_is i e = ap (λ b. text_of (record { bytes = i.bytes; fails = b })) e

@@ -1,43 +1,40 @@
--- What `tighten` answers, where the source tells what it gives.
+-- What `tighten` answers
 use Rattle.std.proofs.Common.{◌≡◌, Bor, ℕ, List, Option, Some, None, Result, Ok, Err, inl, inr, refl, sym, subst, option_map}
 use Rattle.vipr_spec.specs.Constraint.{Profile}
 use Rattle.vipr_spec.specs.Input.{Input}
 use Rattle.vipr_bytes.specs.Output.{Output}
-use Rattle.vipr_bytes.specs.Known.{text_of, IfKnown}
-use Rattle.vipr_tighten.specs.Tightens.{KindOfText, TightensText, any_kind, kind_read}
+use Rattle.vipr_tighten.specs.Tightens.{KindOfText, TightensAs, TightensText}
 use Rattle.vipr_write.specs.declared.form.Form.{Form}
 use Rattle.vipr_tighten.specs.declared.outcome.Outcome.{Outcome}
 use Rattle.vipr_tighten.specs.declared.outcome.Outcome.TheVariants.{Tightened, Refused}
 use Rattle.vipr_tighten.specs.declared.outcome.TightenFault.{TightenFault}
 use Rattle.vipr_tighten.specs.declared.outcome.TightenFault.TheVariants as tighten
-use Rattle.vipr_command.specs.Run.{PrintsTightened, known_by, unknown_input}
+use Rattle.vipr_command.specs.Run.{OfInput, PrintsTightened}
 use Rattle.vipr_command.specs.Tighten.{Settles, WritesFile, WritesTightened, outcome_status}
 use Rattle.vipr_command.specs.declared.fault.CommandFault.{CommandFault}
 use Rattle.vipr_command.specs.declared.fault.CommandFault.TheVariants.{Memory}
+use Rattle.vipr_command.proofs.InputLemmas.{of_input}
 use Rattle.vipr_command.proofs.ShowLemmas.{stays}
 
-pub known : (P : Profile) (F : Form) (source : Option Input) (old new : Option Output) (x : Outcome) (s : ℕ) → s ≡ outcome_status x → IfKnown source (λ i. TightensText P F (kind_read P (text_of i)) old new (Ok x))
-    → IfKnown source (λ i. WritesTightened P F (kind_read P (text_of i)) old new (Ok s))
-known P F None old new x s is h = tt
-known P F (Some i) old new x s is h = λ short. subst (λ n. WritesTightened P F (kind_read P (text_of i)) old new (Ok n)) (sym is) (Ok x, refl, h short)
+-- what is answered of what became of a text
+pub answered : (P : Profile) (F : Form) (k : KindOfText) (old new : Option Output) (x : Outcome) (s : ℕ) → s ≡ outcome_status x → TightensText P F k old new (Ok x) → WritesTightened P F k old new (Ok s)
+answered P F k old new x s is h = subst (λ n. WritesTightened P F k old new (Ok n)) (sym is) (Ok x, refl, h)
 
--- to standard output
-pub known_here : (P : Profile) (F : Form) (path : Option (Bor (List ℕ))) (source : Option Input) (old new : Option Output) (r : Result ℕ CommandFault) → path ≡ None → IfKnown source (λ i. WritesTightened P F (kind_read P (text_of i)) old new r)
-    → IfKnown source (λ i. PrintsTightened P F (option_map (λ s. s.now) path) (known_by i) old new r)
-known_here P F path source old new r is h = subst (λ p. IfKnown source (λ i. PrintsTightened P F (option_map (λ s. s.now) p) (known_by i) old new r)) (sym is) h
+module _ (P : Profile) (F : Form) (source : Option Input) where
+  -- what is known of the text
+  pub known : (old new : Option Output) (r : Result Outcome TightenFault) → TightensAs P F source old new r → OfInput source (λ k. TightensText P F (k.proof P) old new r)
+  known old new r t = (t.written, t.exact)
 
--- to a file
-known_there : (P : Profile) (F : Form) (path : Bor (List ℕ)) (source : Option Input) (old : Option Output) (r : Result ℕ CommandFault) → IfKnown source (λ i. WritesFile P F (kind_read P (text_of i)) r)
-    → IfKnown source (λ i. PrintsTightened P F (Some path.now) (known_by i) old old r)
-known_there P F path None old r h = tt
-known_there P F path (Some i) old r h = λ short. (h short, stays old)
+  abbrev PrintedAt : Option (Bor (List ℕ)) → Option Output → Option Output → Result ℕ CommandFault → Type 0
+  PrintedAt path old new r = OfInput source (λ k. PrintsTightened P F (option_map (λ s. s.now) path) k old new r)
 
-pub known_of_file : (P : Profile) (F : Form) (path : Option (Bor (List ℕ))) (p : Bor (List ℕ)) (source : Option Input) (old : Option Output) (r : Result ℕ CommandFault) → path ≡ Some p → IfKnown source (λ i. WritesFile P F (kind_read P (text_of i)) r)
-    → IfKnown source (λ i. PrintsTightened P F (option_map (λ s. s.now) path) (known_by i) old old r)
-known_of_file P F path p source old r is h = subst (λ q. IfKnown source (λ i. PrintsTightened P F (option_map (λ s. s.now) q) (known_by i) old old r)) (sym is) (known_there P F p source old r h)
+  -- to standard output
+  pub printed_here : (path : Option (Bor (List ℕ))) (old new : Option Output) (r : Result ℕ CommandFault) → path ≡ None → OfInput source (λ k. WritesTightened P F (k.proof P) old new r) → PrintedAt path old new r
+  printed_here path old new r is h = subst (λ p. PrintedAt p old new r) (sym is) h
 
-pub of_file : (P : Profile) (F : Form) (path : Option (Bor (List ℕ))) (p : Bor (List ℕ)) (old : Option Output) (r : Result ℕ CommandFault) → path ≡ Some p → WritesFile P F any_kind r → PrintsTightened P F (option_map (λ s. s.now) path) unknown_input old old r
-of_file P F path p old r is h = subst (λ q. PrintsTightened P F (option_map (λ s. s.now) q) unknown_input old old r) (sym is) (h, stays old)
+  -- to a file
+  pub written_there : (path : Option (Bor (List ℕ))) (file : Bor (List ℕ)) (old : Option Output) (r : Result ℕ CommandFault) → path ≡ Some file → OfInput source (λ k. WritesFile P F (k.proof P) r) → PrintedAt path old old r
+  written_there path file old r is h = subst (λ p. PrintedAt p old old r) (sym is) (of_input source (λ k. WritesFile P F (k.proof P) r) (λ k. PrintsTightened P F (Some file.now) k old old r) (λ k written. (written, stays old)) h)
 
 -- the answer to what became of a text that was tightened to a file
 abbrev answer_to : Result Outcome CommandFault → Result ℕ CommandFault
@@ -56,17 +53,6 @@ kept P F k x o s is settles t = subst (λ n. WritesFile P F k (Ok n)) (sym is) (
 pub failed : (P : Profile) (F : Form) (k : KindOfText) (x : Result Outcome TightenFault) (f : CommandFault) → Settles x (Err f) → TightensText P F k None None x → WritesFile P F k (Err f)
 failed P F k x f settles t = settled P F k x (Err f) t settles
 
-pub kept_known : (P : Profile) (F : Form) (source : Option Input) (x : Result Outcome TightenFault) (o : Outcome) (s : ℕ) → s ≡ outcome_status o → Settles x (Ok o) → IfKnown source (λ i. TightensText P F (kind_read P (text_of i)) None None x)
-    → IfKnown source (λ i. WritesFile P F (kind_read P (text_of i)) (Ok s))
-kept_known P F None x o s is settles h = tt
-kept_known P F (Some i) x o s is settles h = λ short. kept P F (kind_read P (text_of i)) x o s is settles (h short)
-
-pub failed_known : (P : Profile) (F : Form) (source : Option Input) (x : Result Outcome TightenFault) (f : CommandFault) → Settles x (Err f) → IfKnown source (λ i. TightensText P F (kind_read P (text_of i)) None None x)
-    → IfKnown source (λ i. WritesFile P F (kind_read P (text_of i)) (Err f))
-failed_known P F None x f settles h = tt
-failed_known P F (Some i) x f settles h = λ short. failed P F (kind_read P (text_of i)) x f settles (h short)
-
 -- no memory for the name of the file
-pub nameless : (P : Profile) (F : Form) (source : Option Input) → IfKnown source (λ i. WritesFile P F (kind_read P (text_of i)) (Err Memory))
-nameless P F None = tt
-nameless P F (Some i) = λ short. inl (Err (tighten.Memory 0), refl, (refl, tt))
+pub nameless : (P : Profile) (F : Form) (k : KindOfText) → WritesFile P F k (Err Memory)
+nameless P F k = inl (Err (tighten.Memory 0), refl, (refl, tt))

@@ -1,6 +1,6 @@
 -- What the program answers, and what it prints.
 use Rattle.std.specs.Prelude.{⊤, ◌≡◌, ◌≢◌, ◌⊎◌, ℕ, List, Option, Some, None, Result, Ok, Err, codes}
-use Rattle.std.specs.Prelude.{◌++◌, Bool, true, false, decimal}
+use Rattle.std.specs.Prelude.{◌++◌, Bool, true, false, decimal, option_map}
 use Rattle.clap.specs.Words.{IsAmong, Text}
 use Rattle.clap.specs.declared.error.ErrorKind.{ErrorKind}
 use Rattle.clap.specs.declared.error.ErrorKind.TheVariants as kind
@@ -9,7 +9,7 @@ use Rattle.vipr_spec.specs.Input.{Input}
 use Rattle.vipr_spec.specs.Reading.{certificate_read}
 use Rattle.vipr_spec.specs.Verdict.{IsAnswer, IsExplained}
 use Rattle.vipr_bytes.specs.Output.{Output}
-use Rattle.vipr_bytes.specs.Known.{text_of}
+use Rattle.vipr_bytes.specs.Known.{IfKnown, text_of}
 use Rattle.vipr_rules.specs.Profile.{profile_of}
 use Rattle.vipr_rules.specs.declared.profile.Profile as rules
 use Rattle.vipr_check.specs.Explanation.{explained_text}
@@ -35,6 +35,7 @@ use Rattle.vipr_command.specs.declared.fault.CommandFault.{CommandFault}
 use Rattle.vipr_command.specs.declared.fault.CommandFault.TheVariants.{Memory, Read, Write}
 use Rattle.vipr_command.specs.declared.show.Shown.{Shown}
 use Rattle.vipr_command.specs.declared.show.Shown.TheVariants as shown
+use Rattle.vipr_command.specs.declared.request.Job.{Job}
 use Rattle.vipr_command.specs.declared.request.Task.{Task}
 use Rattle.vipr_command.specs.declared.request.Task.TheVariants.{Check, Explain, Show, Tighten}
 
@@ -94,6 +95,10 @@ known_by i =
       proof = λ P. kind_read P (text_of i);
     }
 
+-- This is so of an input of which nothing is known, and so of a source's bytes if they are known.
+abbrev pub OfInput : Option Input → (KnownInput → Type 0) → Type 0
+OfInput source P = P unknown_input × IfKnown source (λ i. P (known_by i))
+
 -- old is the output before, if that is known, and new the one afterwards.
 -- The verdict's lines were printed, and the status is the verdict's.
 abbrev pub PrintsVerdict : Profile → KnownInput → Option Output → Option Output
@@ -149,6 +154,12 @@ Does Explain P F false out k old new r = PrintsExplanation P k old new r
 Does Explain P F true out k old new r = PrintsAtLength P k old new r
 Does Show P F long out k old new r = PrintsText F k old new r
 Does Tighten P F long out k old new r = PrintsTightened P F out k old new r
+
+-- the task of a command line is done
+abbrev pub DoesJob : Job → KnownInput → Option Output → Option Output → Result ℕ CommandFault
+    → Type 0
+DoesJob j k old new r = Does j.command (profile_of j.profile) j.form j.is_long
+    (option_map (λ s. s.now) j.out) k old new r
 
 -- what is read: of a file that is named nothing is known
 abbrev pub read_from : Option Text → KnownInput → KnownInput

@@ -1,8 +1,7 @@
 //! Checks a certificate and prints the verdict.
 ghost use Rattle.std.specs.Prelude.{◌≡◌};
-ghost use Rattle.vipr_bytes.specs.Known.{IfKnown};
 ghost use Rattle.vipr_rules.specs.Profile.{profile_of};
-ghost use Rattle.vipr_command.specs.Run.{PrintsVerdict, known_by, status_for, unknown_input};
+ghost use Rattle.vipr_command.specs.Run.{OfInput, PrintsVerdict, status_for};
 
 use crate::fault::CommandFault;
 use crate::output::print;
@@ -18,9 +17,7 @@ pub fn print_verdict<R: Source + Drop, O: Sink>(
     source: R,
     out: &mut O,
 ) -> Result<u8, CommandFault>
-    ensures any { PrintsVerdict (profile_of profile) unknown_input (O.output out.old)
-        (O.output out.new) result }
-    ensures known { IfKnown (R.input source) (λ i. PrintsVerdict (profile_of profile) (known_by i)
+    ensures { OfInput (R.input source) (λ k. PrintsVerdict (profile_of profile) k
         (O.output out.old) (O.output out.new) result) }
 {
     let verdict = check_in::<R, Table>(alloc, profile, source)?;

@@ -1,11 +1,9 @@
 //! The whole program, over any source and sinks in place of the standard streams.
-ghost use Rattle.std.specs.Prelude.{◌≡◌, ◌≤◌, IfOk, IsNone, false, map, option_map};
+ghost use Rattle.std.specs.Prelude.{◌≡◌, ◌≤◌, IfOk, false, map, option_map};
 ghost use Rattle.clap.specs.Words.{kind_of};
-ghost use Rattle.vipr_bytes.specs.Known.{IfKnown};
-ghost use Rattle.vipr_rules.specs.Profile.{profile_of};
 ghost use Rattle.vipr_command.specs.Args.{are_accepted};
-ghost use Rattle.vipr_command.specs.Run.{AnswersError, Does, IsStatusFor, RunsOver, known_by};
-ghost use Rattle.vipr_command.specs.Run.{unknown_input};
+ghost use Rattle.vipr_command.specs.Run.{AnswersError, DoesJob, IsStatusFor, OfInput, RunsOver};
+ghost use Rattle.vipr_command.specs.Run.{read_from};
 
 use crate::args::job;
 use crate::check::print_verdict;
@@ -68,9 +66,7 @@ fn run_over<H: AllocGlobal + Files, R: Source + Drop, O: Sink, E: Write>(
 ) -> Result<u8, CommandFault>
     ensures status { IfOk result (λ s. s ≤ 2) }
     ensures usage { IfOk result (λ s. s ≡ 2 → are_accepted (map (λ w. w.now) words.now) ≡ false) }
-    ensures any { RunsOver (map (λ w. w.now) words.now) unknown_input (O.output out.old)
-        (O.output out.new) result }
-    ensures known { IfKnown (R.input input) (λ i. RunsOver (map (λ w. w.now) words.now) (known_by i)
+    ensures runs { OfInput (R.input input) (λ k. RunsOver (map (λ w. w.now) words.now) k
         (O.output out.old) (O.output out.new) result) }
 {
     match job(rt.alloc(), words) {
@@ -106,14 +102,8 @@ fn do_job<H: AllocGlobal + Files, R: Source + Drop, O: Sink, E: Write>(
     out: &mut O,
     err: &mut E,
 ) -> Result<u8, CommandFault>
-    ensures any { Does job.now.command (profile_of job.now.profile) job.now.form
-        job.now.is_long (option_map (λ s. s.now) job.now.out) unknown_input (O.output out.old)
-        (O.output out.new)
-        result }
-    ensures known { IsNone job.now.file → IfKnown (R.input input)
-        (λ i. Does job.now.command (profile_of job.now.profile) job.now.form
-        job.now.is_long (option_map (λ s. s.now) job.now.out) (known_by i) (O.output out.old)
-        (O.output out.new)
+    ensures { OfInput (R.input input) (λ k. DoesJob job.now
+        (read_from (option_map (λ s. s.now) job.now.file) k) (O.output out.old) (O.output out.new)
         result) }
 {
     match job.file {
@@ -150,15 +140,8 @@ fn do_task<H: AllocGlobal + Files, R: Source + Drop, O: Sink, E: Write>(
     out: &mut O,
     err: &mut E,
 ) -> Result<u8, CommandFault>
-    ensures any { Does job.now.command (profile_of job.now.profile) job.now.form
-        job.now.is_long (option_map (λ s. s.now) job.now.out) unknown_input (O.output out.old)
-        (O.output out.new)
-        result }
-    ensures known { IfKnown (R.input source)
-        (λ i. Does job.now.command (profile_of job.now.profile) job.now.form
-        job.now.is_long (option_map (λ s. s.now) job.now.out) (known_by i) (O.output out.old)
-        (O.output out.new)
-        result) }
+    ensures { OfInput (R.input source)
+        (λ k. DoesJob job.now k (O.output out.old) (O.output out.new) result) }
 {
     let alloc = rt.alloc();
     match job.command {

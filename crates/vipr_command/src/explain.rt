@@ -1,8 +1,6 @@
 //! Checks a certificate, and prints the verdict with what shows why it is so.
-ghost use Rattle.std.specs.Prelude.{◌≡◌};
-ghost use Rattle.vipr_bytes.specs.Known.{IfKnown};
 ghost use Rattle.vipr_rules.specs.Profile.{profile_of};
-ghost use Rattle.vipr_command.specs.Run.{PrintsExplanation, known_by, unknown_input};
+ghost use Rattle.vipr_command.specs.Run.{OfInput, PrintsExplanation};
 
 use crate::check::status_of;
 use crate::fault::CommandFault;
@@ -20,11 +18,8 @@ pub fn print_explanation<R: Source + Drop, O: Sink>(
     source: R,
     out: &mut O,
 ) -> Result<u8, CommandFault>
-    ensures any { PrintsExplanation (profile_of profile) unknown_input (O.output out.old)
-        (O.output out.new) result }
-    ensures known { IfKnown (R.input source)
-        (λ i. PrintsExplanation (profile_of profile) (known_by i) (O.output out.old)
-        (O.output out.new) result) }
+    ensures { OfInput (R.input source) (λ k. PrintsExplanation (profile_of profile) k
+        (O.output out.old) (O.output out.new) result) }
 {
     let (verdict, detail) = explain_in(alloc, profile, source)?;
     let explanation = Explanation {

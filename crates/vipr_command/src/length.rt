@@ -1,12 +1,11 @@
 //! Prints an explanation with a page for people behind it.
 ghost use Rattle.std.specs.Prelude.{◌≡◌, List, ℕ, ◌++◌, option_map};
-ghost use Rattle.vipr_bytes.specs.Known.{IfKnown};
 ghost use Rattle.vipr_check.specs.Explanation.{explained_text};
 ghost use Rattle.vipr_explain.specs.Page.{IsPage};
 ghost use Rattle.vipr_rules.specs.Profile.{profile_of};
 ghost use Rattle.vipr_command.specs.Output.{PrintsMore};
 ghost use Rattle.vipr_command.specs.declared.request.Task.{Task};
-ghost use Rattle.vipr_command.specs.Run.{Does, PrintsAtLength, known_by, unknown_input};
+ghost use Rattle.vipr_command.specs.Run.{Does, OfInput, PrintsAtLength};
 
 use crate::check::status_of;
 use crate::explain::print_explanation;
@@ -46,13 +45,9 @@ pub(crate) fn explain_job<H: AllocGlobal + Files, R: Source + Drop, O: Sink>(
     source: R,
     out: &mut O,
 ) -> Result<u8, CommandFault>
-    ensures any { Does Task.Explain (profile_of job.now.profile) job.now.form job.now.is_long
-        (option_map (λ s. s.now) job.now.out) unknown_input (O.output out.old) (O.output out.new)
-        result }
-    ensures known { IfKnown (R.input source)
-        (λ i. Does Task.Explain (profile_of job.now.profile) job.now.form job.now.is_long
-        (option_map (λ s. s.now) job.now.out) (known_by i) (O.output out.old) (O.output out.new)
-        result) }
+    ensures { OfInput (R.input source)
+        (λ k. Does Task.Explain (profile_of job.now.profile) job.now.form job.now.is_long
+        (option_map (λ s. s.now) job.now.out) k (O.output out.old) (O.output out.new) result) }
 {
     if !job.is_long {
         return print_explanation(rt.alloc(), job.profile, source, out);
@@ -83,11 +78,8 @@ fn print_file_at_length<H: AllocGlobal + Files, R: Source + Drop, O: Sink>(
     source: R,
     out: &mut O,
 ) -> Result<u8, CommandFault>
-    ensures any { PrintsAtLength (profile_of profile) unknown_input (O.output out.old)
-        (O.output out.new) result }
-    ensures known { IfKnown (R.input source)
-        (λ i. PrintsAtLength (profile_of profile) (known_by i) (O.output out.old)
-        (O.output out.new) result) }
+    ensures { OfInput (R.input source) (λ k. PrintsAtLength (profile_of profile) k
+        (O.output out.old) (O.output out.new) result) }
 {
     let (verdict, detail) = explain_in(rt.alloc(), profile, source)?;
     let text = FileText { rt, path };
@@ -106,11 +98,8 @@ fn print_kept_at_length<R: Source + Drop, O: Sink>(
     source: R,
     out: &mut O,
 ) -> Result<u8, CommandFault>
-    ensures any { PrintsAtLength (profile_of profile) unknown_input (O.output out.old)
-        (O.output out.new) result }
-    ensures known { IfKnown (R.input source)
-        (λ i. PrintsAtLength (profile_of profile) (known_by i) (O.output out.old)
-        (O.output out.new) result) }
+    ensures { OfInput (R.input source) (λ k. PrintsAtLength (profile_of profile) k
+        (O.output out.old) (O.output out.new) result) }
 {
     let mut kept = KeptBytes::new(alloc);
     let reader = Keeping::new(source, &mut kept);

@@ -1,9 +1,7 @@
 //! Shows a certificate: writes its text in a form.
-ghost use Rattle.vipr_spec.specs.Reading.{certificate_read};
-ghost use Rattle.vipr_bytes.specs.Known.{text_of, IfKnown, IfWhole};
-ghost use Rattle.vipr_command.specs.Run.{PrintsText, known_by, unknown_input};
-ghost use Rattle.vipr_command.specs.Show.{ShowsText, WritesText, any_text, text_spelling};
-ghost use Rattle.vipr_command.specs.Show.{text_read};
+ghost use Rattle.vipr_bytes.specs.Known.{IfWhole};
+ghost use Rattle.vipr_command.specs.Run.{OfInput, PrintsText};
+ghost use Rattle.vipr_command.specs.Show.{ShowsText, WritesText, text_spelling};
 
 use crate::canonical::respelled;
 use crate::fault::CommandFault;
@@ -36,12 +34,9 @@ pub fn show<R: Source + Drop, W: Sink>(
     source: R,
     writer: &mut W,
 ) -> Result<Shown, CommandFault>
-    // Nothing is written but a certificate's text.
-    ensures written { ShowsText form any_text (W.output writer.old) (W.output writer.new) result }
-    // The certificate, or the refusal, is that of the definitions for the bytes that the source
-    // gives, in whatever pieces.
-    ensures exact { IfKnown (R.input source) (λ i. ShowsText form
-        (text_read (certificate_read (text_of i))) (W.output writer.old)
+    // Nothing is written but a certificate's text. The certificate, or the refusal, is that of the
+    // definitions for the bytes that the source gives, in whatever pieces.
+    ensures exact { OfInput (R.input source) (λ k. ShowsText form k.kind (W.output writer.old)
         (W.output writer.new) result) }
     // The certificate is what the text spells, and it is refused where it spells none.
     ensures spelled { IfWhole (R.input source) (λ bytes. ShowsText form (text_spelling bytes)
@@ -83,9 +78,8 @@ pub fn print_text<R: Source + Drop, O: Sink, E: Write>(
     out: &mut O,
     err: &mut E,
 ) -> Result<u8, CommandFault>
-    ensures any { PrintsText form unknown_input (O.output out.old) (O.output out.new) result }
-    ensures known { IfKnown (R.input source)
-        (λ i. PrintsText form (known_by i) (O.output out.old) (O.output out.new) result) }
+    ensures { OfInput (R.input source)
+        (λ k. PrintsText form k (O.output out.old) (O.output out.new) result) }
 {
     match show(alloc, form, source, out)? {
         Shown::Whole => Ok(0),

@@ -1,9 +1,7 @@
 //! Tightens a certificate: writes what its proof needs.
 ghost use Rattle.std.specs.Prelude.{◌≡◌, option_map};
-ghost use Rattle.vipr_bytes.specs.Known.{text_of, IfKnown};
 ghost use Rattle.vipr_rules.specs.Profile.{profile_of};
-ghost use Rattle.vipr_tighten.specs.Tightens.{any_kind, kind_read};
-ghost use Rattle.vipr_command.specs.Run.{PrintsTightened, known_by, unknown_input};
+ghost use Rattle.vipr_command.specs.Run.{OfInput, PrintsTightened};
 ghost use Rattle.vipr_command.specs.Tighten.{Settles, WritesFile, WritesTightened, outcome_status};
 
 use crate::fault::CommandFault;
@@ -39,11 +37,9 @@ pub fn print_tightened<H: AllocGlobal + Files, R: Source + Drop, O: Sink, E: Wri
     out: &mut O,
     err: &mut E,
 ) -> Result<u8, CommandFault>
-    ensures any { PrintsTightened (profile_of profile) form (option_map (λ s. s.now) path.entry)
-        unknown_input (O.output out.old) (O.output out.new) result }
-    ensures known { IfKnown (R.input source)
-        (λ i. PrintsTightened (profile_of profile) form (option_map (λ s. s.now) path.entry)
-        (known_by i) (O.output out.old) (O.output out.new) result) }
+    ensures { OfInput (R.input source)
+        (λ k. PrintsTightened (profile_of profile) form (option_map (λ s. s.now) path.entry) k
+        (O.output out.old) (O.output out.new) result) }
 {
     match path {
         None => write_tightened(rt.alloc(), profile, form, source, out, err),
@@ -59,9 +55,8 @@ fn write_file<H: AllocGlobal + Files, R: Source + Drop, E: Write>(
     path: &str,
     err: &mut E,
 ) -> Result<u8, CommandFault>
-    ensures any { WritesFile (profile_of profile) form any_kind result }
-    ensures known { IfKnown (R.input source) (λ i. WritesFile (profile_of profile) form
-        (kind_read (profile_of profile) (text_of i)) result) }
+    ensures { OfInput (R.input source) (λ k. WritesFile (profile_of profile) form
+        (k.proof (profile_of profile)) result) }
 {
     let mut place = OutFile::new(rt, path)?;
     let tightened = tighten_as(rt.alloc(), profile, form, source, &mut place);
@@ -107,11 +102,8 @@ pub fn write_tightened<R: Source + Drop, W: Sink, E: Write>(
     sink: &mut W,
     err: &mut E,
 ) -> Result<u8, CommandFault>
-    ensures any { WritesTightened (profile_of profile) form any_kind (W.output sink.old)
-        (W.output sink.new) result }
-    ensures known { IfKnown (R.input source) (λ i. WritesTightened (profile_of profile) form
-        (kind_read (profile_of profile) (text_of i)) (W.output sink.old) (W.output sink.new)
-        result) }
+    ensures { OfInput (R.input source) (λ k. WritesTightened (profile_of profile) form
+        (k.proof (profile_of profile)) (W.output sink.old) (W.output sink.new) result) }
 {
     let outcome = tighten_as(alloc, profile, form, source, sink)?;
     say(err, &format_args!("{outcome}\n"));

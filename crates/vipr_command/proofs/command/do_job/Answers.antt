@@ -1,7 +1,9 @@
-use Rattle.std.proofs.Common.{option_map}
-use Rattle.vipr_rules.specs.Profile.{profile_of}
-use Rattle.vipr_command.proofs.RunLemmas.{unread}
+use Rattle.std.proofs.Common.{Err}
+use Rattle.vipr_command.specs.declared.fault.CommandFault.TheVariants.{Read}
+use Rattle.vipr_command.proofs.RunLemmas.{done_with_file, unread_job}
 use Rattle.vipr_command.proofs.command.do_job.Goals as goal
 
-pub returns-clause-any : goal.returns-clause-any
-returns-clause-any g c = unread c.args.job.now.command (profile_of c.args.job.now.profile) c.args.job.now.form c.args.job.now.is_long (option_map (λ s. s.now) c.args.job.now.out) (g.O.Sink.output c.args.out.now)
+pub returns : goal.returns
+returns g c =
+    let out = g.O.Sink.output c.args.out.now in
+    done_with_file c.args.job.now (g.R.Source.input c.args.input) out out (Err Read) c.in-Some.path c.in-Some.is (unread_job c.args.job.now out)

@@ -1,11 +1,15 @@
-use Rattle.std.proofs.Common.{rules}
+use Rattle.vipr_command.specs.declared.request.Task.TheVariants.{Check, Explain, Show, Tighten}
+use Rattle.vipr_command.proofs.RunLemmas.{done_as}
 use Rattle.vipr_command.proofs.command.do_task.Goals as goal
 
-pub returns-in-Check-clause-known : goal.returns-in-Check-clause-known
-returns-in-Check-clause-known g c = search rules
+pub returns-in-Check : goal.returns-in-Check
+returns-in-Check g c = done_as c.args.job.now (g.R.Source.input c.args.source) (g.O.Sink.output c.args.out.now) (g.O.Sink.output c.print_verdict.new.out) c.print_verdict.result Check c.in-Check.is c.print_verdict.ensures
 
-pub returns-in-Explain-clause-known : goal.returns-in-Explain-clause-known
-returns-in-Explain-clause-known g c = search rules
+pub returns-in-Explain : goal.returns-in-Explain
+returns-in-Explain g c = done_as c.args.job.now (g.R.Source.input c.args.source) (g.O.Sink.output c.args.out.now) (g.O.Sink.output c.explain_job.new.out) c.explain_job.result Explain c.in-Explain.is c.explain_job.ensures
 
-pub returns-in-Tighten-clause-known : goal.returns-in-Tighten-clause-known
-returns-in-Tighten-clause-known g c = search rules
+pub returns-in-Show : goal.returns-in-Show
+returns-in-Show g c = done_as c.args.job.now (g.R.Source.input c.args.source) (g.O.Sink.output c.args.out.now) (g.O.Sink.output c.print_text.new.out) c.print_text.result Show c.in-Show.is c.print_text.ensures
+
+pub returns-in-Tighten : goal.returns-in-Tighten
+returns-in-Tighten g c = done_as c.args.job.now (g.R.Source.input c.args.source) (g.O.Sink.output c.args.out.now) (g.O.Sink.output c.print_tightened.new.out) c.print_tightened.result Tighten c.in-Tighten.is c.print_tightened.ensures

@@ -1,31 +1,33 @@
-use Rattle.std.proofs.Common.{Err, inl, refl}
+use Rattle.std.proofs.Common.{None, Ok, Err}
 use Rattle.std.proofs.lemmas.Result.{err_from_is_err_and}
 use Rattle.vipr_rules.specs.Profile.{profile_of}
-use Rattle.vipr_tighten.specs.Tightens.{any_kind}
-use Rattle.vipr_tighten.specs.declared.outcome.TightenFault.TheVariants as tighten
-use Rattle.vipr_command.proofs.TightenLemmas.{failed, failed_known, kept_known, nameless}
+use Rattle.vipr_tighten.specs.Tightens.{TightensText}
+use Rattle.vipr_command.specs.Tighten.{WritesFile}
+use Rattle.vipr_command.specs.declared.fault.CommandFault.TheVariants.{Memory}
+use Rattle.vipr_command.proofs.InputLemmas.{of_any, of_input}
+use Rattle.vipr_command.proofs.TightenLemmas.{failed, kept, known, nameless}
 use Rattle.vipr_command.proofs.tighten.write_file.Goals as goal
 
-pub returns-in_err-place-clause-any : goal.returns-in_err-place-clause-any
-returns-in_err-place-clause-any g c =
+pub returns-in_err-place : goal.returns-in_err-place
+returns-in_err-place g c =
+    let P = profile_of c.args.profile in
     let q = err_from_is_err_and c.from_residual.result c.from_residual.ensures.1 in
-    rw (q.1, q.2) (inl (Err (tighten.Memory 0), refl, (refl, tt)))
+    rw (q.1, q.2) (of_any (g.R.Source.input c.args.source) (λ k. WritesFile P c.args.form (k.proof P) (Err Memory)) (λ k. nameless P c.args.form (k.proof P)))
 
-pub returns-in_err-place-clause-known : goal.returns-in_err-place-clause-known
-returns-in_err-place-clause-known g c =
-    let q = err_from_is_err_and c.from_residual.result c.from_residual.ensures.1 in
-    rw (q.1, q.2) (nameless (profile_of c.args.profile) c.args.form (g.R.Source.input c.args.source))
-
-pub returns-in_err-outcome-clause-any : goal.returns-in_err-outcome-clause-any
-returns-in_err-outcome-clause-any g c =
+pub returns-in_err-outcome : goal.returns-in_err-outcome
+returns-in_err-outcome g c =
+    let P = profile_of c.args.profile in
+    let F = c.args.form in
+    let source = g.R.Source.input c.args.source in
+    let r = c.tighten_as-tightened.result in
+    let f = c.in_err-outcome.field-0.0 in
     let q = err_from_is_err_and c.from_residual-in_err-outcome.result c.from_residual-in_err-outcome.ensures.1 in
-    rw (q.1, q.2) (failed (profile_of c.args.profile) c.args.form any_kind c.tighten_as-tightened.result c.in_err-outcome.field-0.0 c.in_err-outcome.ensures c.tighten_as-tightened.ensures.written)
+    rw (q.1, q.2) (of_input source (λ k. TightensText P F (k.proof P) None None r) (λ k. WritesFile P F (k.proof P) (Err f)) (λ k. failed P F (k.proof P) r f c.in_err-outcome.ensures) (known P F source None None r c.tighten_as-tightened.ensures))
 
-pub returns-in_err-outcome-clause-known : goal.returns-in_err-outcome-clause-known
-returns-in_err-outcome-clause-known g c =
-    let q = err_from_is_err_and c.from_residual-in_err-outcome.result c.from_residual-in_err-outcome.ensures.1 in
-    rw (q.1, q.2) (failed_known (profile_of c.args.profile) c.args.form (g.R.Source.input c.args.source) c.tighten_as-tightened.result c.in_err-outcome.field-0.0 c.in_err-outcome.ensures c.tighten_as-tightened.ensures.exact)
-
-pub returns-clause-known : goal.returns-clause-known
-returns-clause-known g c =
-    kept_known (profile_of c.args.profile) c.args.form (g.R.Source.input c.args.source) c.tighten_as-tightened.result c.in_ok-outcome.outcome c.status_of.result c.status_of.ensures c.in_ok-outcome.ensures c.tighten_as-tightened.ensures.exact
+pub returns : goal.returns
+returns g c =
+    let P = profile_of c.args.profile in
+    let F = c.args.form in
+    let source = g.R.Source.input c.args.source in
+    let r = c.tighten_as-tightened.result in
+    of_input source (λ k. TightensText P F (k.proof P) None None r) (λ k. WritesFile P F (k.proof P) (Ok c.status_of.result)) (λ k. kept P F (k.proof P) r c.in_ok-outcome.outcome c.status_of.result c.status_of.ensures c.in_ok-outcome.ensures) (known P F source None None r c.tighten_as-tightened.ensures)

@@ -1,7 +1,17 @@
+use Rattle.std.proofs.Common.{Ok}
 use Rattle.vipr_rules.specs.Profile.{profile_of}
-use Rattle.vipr_command.proofs.TightenLemmas.{known}
+use Rattle.vipr_tighten.specs.Tightens.{TightensText}
+use Rattle.vipr_command.specs.Tighten.{WritesTightened}
+use Rattle.vipr_command.proofs.InputLemmas.{of_input}
+use Rattle.vipr_command.proofs.TightenLemmas.{answered, known}
 use Rattle.vipr_command.proofs.tighten.write_tightened.Goals as goal
 
-pub returns-clause-known : goal.returns-clause-known
-returns-clause-known g c =
-    known (profile_of c.args.profile) c.args.form (g.R.Source.input c.args.source) (g.W.Sink.output c.args.sink.now) (g.W.Sink.output c.tighten_as.new.sink) c.in_ok-outcome.outcome c.status_of.result c.status_of.ensures c.in_ok-outcome.ensures.exact
+pub returns : goal.returns
+returns g c =
+    let P = profile_of c.args.profile in
+    let F = c.args.form in
+    let source = g.R.Source.input c.args.source in
+    let old = g.W.Sink.output c.args.sink.now in
+    let new = g.W.Sink.output c.tighten_as.new.sink in
+    let x = c.in_ok-outcome.outcome in
+    of_input source (λ k. TightensText P F (k.proof P) old new (Ok x)) (λ k. WritesTightened P F (k.proof P) old new (Ok c.status_of.result)) (λ k. answered P F (k.proof P) old new x c.status_of.result c.status_of.ensures) (known P F source old new (Ok x) c.in_ok-outcome.ensures)
