@@ -11,6 +11,7 @@ use Rattle.vipr_spec.specs.Causes as cause
 use Rattle.vipr_spec.specs.Steps.{StepTest, assumed, split, by_constraint, step_tests, index, both, compared}
 use Rattle.vipr_linear.specs.Constraint.{condition_of}
 use Rattle.vipr_linear.specs.declared.constraint.Constraint.{Constraint}
+use Rattle.vipr_rules.specs.declared.branches.Branch.{Branch}
 use Rattle.vipr_rules.specs.declared.error.RuleError.{RuleError}
 use Rattle.vipr_rules.specs.declared.error.RuleError.TheVariants.{NotAssumption}
 use Rattle.vipr_rules.specs.declared.context.Known.{Known}
@@ -86,75 +87,74 @@ module _ (P : Profile) (c : Certificate) (d : Derivation) where
         stops_one P c d (by_constraint i) e (λ h. bad (dominates _ _ _ _ (sym says_x) (sym says_y) h)) (compared (condition_of x) (condition_of y), is, ap₂ compared says_x says_y)
 
 -- ---- all tests
-module _ (P : Profile) (c : Certificate) (d : Derivation) (i1 l1 i2 l2 : ℕ) where
+module _ (P : Profile) (c : Certificate) (d : Derivation) (first second : Branch) where
   abbrev reason : Reason
-  reason = uns i1 l1 i2 l2
+  reason = uns first.conclusion first.assumption second.conclusion second.assumption
 
   abbrev conclusions : List StepTest
-  conclusions = by_constraint i1 ∷ by_constraint i2 ∷ []
+  conclusions = by_constraint first.conclusion ∷ by_constraint second.conclusion ∷ []
 
   abbrev assumptions : List StepTest
-  assumptions = assumed l1 ∷ assumed l2 ∷ []
+  assumptions = assumed first.assumption ∷ assumed second.assumption ∷ []
 
   abbrev ends : List StepTest
-  ends = assumptions ++ split l1 l2 ∷ conclusions
+  ends = assumptions ++ split first.assumption second.assumption ∷ conclusions
 
-  pub stops_at_first_conclusion : (e : RuleError) → StopsIn P c d (index_tests i1) e → StopsIn P c d (step_tests reason) e
-  stops_at_first_conclusion e s = stops_first P c d (index_tests i1) (index_tests l1 ++ index_tests i2 ++ index_tests l2 ++ ends) e s
+  abbrev indices : List StepTest
+  indices = index_tests first.conclusion ++ index_tests first.assumption ++ index_tests second.conclusion ++ index_tests second.assumption
 
-  module _ (p1 : PassesTestsIn P c d (index_tests i1)) where
-    pub stops_at_first_assumption : (e : RuleError) → StopsIn P c d (index_tests l1) e → StopsIn P c d (step_tests reason) e
-    stops_at_first_assumption e s = stops_second P c d (index_tests i1) (index_tests l1 ++ index_tests i2 ++ index_tests l2 ++ ends) e p1 (stops_first P c d (index_tests l1) (index_tests i2 ++ index_tests l2 ++ ends) e s)
+  pub stops_at_first_conclusion : (e : RuleError) → StopsIn P c d (index_tests first.conclusion) e → StopsIn P c d (step_tests reason) e
+  stops_at_first_conclusion e s = stops_first P c d (index_tests first.conclusion) (index_tests first.assumption ++ index_tests second.conclusion ++ index_tests second.assumption ++ ends) e s
 
-    module _ (p2 : PassesTestsIn P c d (index_tests l1)) where
-      first : PassesTestsIn P c d (index_tests i1 ++ index_tests l1)
-      first = passes_both P c d (index_tests i1) (index_tests l1) p1 p2
+  module _ (p1 : PassesTestsIn P c d (index_tests first.conclusion)) where
+    pub stops_at_first_assumption : (e : RuleError) → StopsIn P c d (index_tests first.assumption) e → StopsIn P c d (step_tests reason) e
+    stops_at_first_assumption e s = stops_second P c d (index_tests first.conclusion) (index_tests first.assumption ++ index_tests second.conclusion ++ index_tests second.assumption ++ ends) e p1 (stops_first P c d (index_tests first.assumption) (index_tests second.conclusion ++ index_tests second.assumption ++ ends) e s)
 
-      pub stops_at_second_conclusion : (e : RuleError) → StopsIn P c d (index_tests i2) e → StopsIn P c d (step_tests reason) e
-      stops_at_second_conclusion e s = stops_second P c d (index_tests i1 ++ index_tests l1) (index_tests i2 ++ index_tests l2 ++ ends) e first (stops_first P c d (index_tests i2) (index_tests l2 ++ ends) e s)
+    module _ (p2 : PassesTestsIn P c d (index_tests first.assumption)) where
+      first_branch : PassesTestsIn P c d (index_tests first.conclusion ++ index_tests first.assumption)
+      first_branch = passes_both P c d (index_tests first.conclusion) (index_tests first.assumption) p1 p2
 
-      module _ (p3 : PassesTestsIn P c d (index_tests i2)) where
-        second : PassesTestsIn P c d (index_tests i1 ++ index_tests l1 ++ index_tests i2)
-        second = passes_both P c d (index_tests i1 ++ index_tests l1) (index_tests i2) first p3
+      pub stops_at_second_conclusion : (e : RuleError) → StopsIn P c d (index_tests second.conclusion) e → StopsIn P c d (step_tests reason) e
+      stops_at_second_conclusion e s = stops_second P c d (index_tests first.conclusion ++ index_tests first.assumption) (index_tests second.conclusion ++ index_tests second.assumption ++ ends) e first_branch (stops_first P c d (index_tests second.conclusion) (index_tests second.assumption ++ ends) e s)
 
-        pub stops_at_second_assumption : (e : RuleError) → StopsIn P c d (index_tests l2) e → StopsIn P c d (step_tests reason) e
-        stops_at_second_assumption e s = stops_second P c d (index_tests i1 ++ index_tests l1 ++ index_tests i2) (index_tests l2 ++ ends) e second (stops_first P c d (index_tests l2) ends e s)
+      module _ (p3 : PassesTestsIn P c d (index_tests second.conclusion)) where
+        three : PassesTestsIn P c d (index_tests first.conclusion ++ index_tests first.assumption ++ index_tests second.conclusion)
+        three = passes_both P c d (index_tests first.conclusion ++ index_tests first.assumption) (index_tests second.conclusion) first_branch p3
 
-        module _ (p4 : PassesTestsIn P c d (index_tests l2)) where
-          abbrev indices : List StepTest
-          indices = index_tests i1 ++ index_tests l1 ++ index_tests i2 ++ index_tests l2
+        pub stops_at_second_assumption : (e : RuleError) → StopsIn P c d (index_tests second.assumption) e → StopsIn P c d (step_tests reason) e
+        stops_at_second_assumption e s = stops_second P c d (index_tests first.conclusion ++ index_tests first.assumption ++ index_tests second.conclusion) (index_tests second.assumption ++ ends) e three (stops_first P c d (index_tests second.assumption) ends e s)
 
-          found : PassesTestsIn P c d indices
-          found = passes_both P c d (index_tests i1 ++ index_tests l1 ++ index_tests i2) (index_tests l2) second p4
+        pub all_found : PassesTestsIn P c d (index_tests second.assumption) → PassesTestsIn P c d indices
+        all_found p4 = passes_both P c d (index_tests first.conclusion ++ index_tests first.assumption ++ index_tests second.conclusion) (index_tests second.assumption) three p4
 
-          pub stops_unless_first_assumed : (e : RuleError) → StopsIn P c d (assumed l1 ∷ []) e → StopsIn P c d (step_tests reason) e
-          stops_unless_first_assumed e s = stops_second P c d indices ends e found (stops_first P c d (assumed l1 ∷ []) (assumed l2 ∷ split l1 l2 ∷ conclusions) e s)
+  -- each index is that of a constraint
+  module _ (found : PassesTestsIn P c d indices) where
+    pub stops_unless_first_assumed : (e : RuleError) → StopsIn P c d (assumed first.assumption ∷ []) e → StopsIn P c d (step_tests reason) e
+    stops_unless_first_assumed e s = stops_second P c d indices ends e found (stops_first P c d (assumed first.assumption ∷ []) (assumed second.assumption ∷ split first.assumption second.assumption ∷ conclusions) e s)
 
-          module _ (p5 : PassesTestsIn P c d (assumed l1 ∷ [])) where
-            pub stops_unless_second_assumed : (e : RuleError) → StopsIn P c d (assumed l2 ∷ []) e → StopsIn P c d (step_tests reason) e
-            stops_unless_second_assumed e s = stops_second P c d indices ends e found (stops_second P c d (assumed l1 ∷ []) (assumed l2 ∷ split l1 l2 ∷ conclusions) e p5 (stops_first P c d (assumed l2 ∷ []) (split l1 l2 ∷ conclusions) e s))
+    module _ (p5 : PassesTestsIn P c d (assumed first.assumption ∷ [])) where
+      pub stops_unless_second_assumed : (e : RuleError) → StopsIn P c d (assumed second.assumption ∷ []) e → StopsIn P c d (step_tests reason) e
+      stops_unless_second_assumed e s = stops_second P c d indices ends e found (stops_second P c d (assumed first.assumption ∷ []) (assumed second.assumption ∷ split first.assumption second.assumption ∷ conclusions) e p5 (stops_first P c d (assumed second.assumption ∷ []) (split first.assumption second.assumption ∷ conclusions) e s))
 
-            module _ (p6 : PassesTestsIn P c d (assumed l2 ∷ [])) where
-              assuming : PassesTestsIn P c d assumptions
-              assuming = passes_both P c d (assumed l1 ∷ []) (assumed l2 ∷ []) p5 p6
+      pub free_pass : PassesTestsIn P c d (assumed second.assumption ∷ []) → PassesTestsIn P c d (free_tests reason)
+      free_pass p6 = passes_both P c d indices assumptions found (passes_both P c d (assumed first.assumption ∷ []) (assumed second.assumption ∷ []) p5 p6)
 
-              pub free_pass : PassesTestsIn P c d (free_tests reason)
-              free_pass = passes_both P c d indices assumptions found assuming
+  -- the tests that need no memory pass
+  module _ (free : PassesTestsIn P c d (free_tests reason)) where
+    pub stops_unless_split : (e : RuleError) → StopsIn P c d (split first.assumption second.assumption ∷ []) e → StopsIn P c d (step_tests reason) e
+    stops_unless_split e s = stops_second P c d (indices ++ assumptions) (split first.assumption second.assumption ∷ conclusions) e free (stops_first P c d (split first.assumption second.assumption ∷ []) conclusions e s)
 
-              pub stops_unless_split : (e : RuleError) → StopsIn P c d (split l1 l2 ∷ []) e → StopsIn P c d (step_tests reason) e
-              stops_unless_split e s = stops_second P c d (indices ++ assumptions) (split l1 l2 ∷ conclusions) e free_pass (stops_first P c d (split l1 l2 ∷ []) conclusions e s)
+    module _ (p7 : PassesTestsIn P c d (split first.assumption second.assumption ∷ [])) where
+      pub stops_unless_first_dominates : (e : RuleError) → StopsIn P c d (by_constraint first.conclusion ∷ []) e → StopsIn P c d (step_tests reason) e
+      stops_unless_first_dominates e s = stops_second P c d (indices ++ assumptions) (split first.assumption second.assumption ∷ conclusions) e free (stops_second P c d (split first.assumption second.assumption ∷ []) conclusions e p7 (stops_first P c d (by_constraint first.conclusion ∷ []) (by_constraint second.conclusion ∷ []) e s))
 
-              module _ (p7 : PassesTestsIn P c d (split l1 l2 ∷ [])) where
-                pub stops_unless_first_dominates : (e : RuleError) → StopsIn P c d (by_constraint i1 ∷ []) e → StopsIn P c d (step_tests reason) e
-                stops_unless_first_dominates e s = stops_second P c d (indices ++ assumptions) (split l1 l2 ∷ conclusions) e free_pass (stops_second P c d (split l1 l2 ∷ []) conclusions e p7 (stops_first P c d (by_constraint i1 ∷ []) (by_constraint i2 ∷ []) e s))
+      module _ (p8 : PassesTestsIn P c d (by_constraint first.conclusion ∷ [])) where
+        pub stops_unless_second_dominates : (e : RuleError) → StopsIn P c d (by_constraint second.conclusion ∷ []) e → StopsIn P c d (step_tests reason) e
+        stops_unless_second_dominates e s =
+            stops_second P c d (indices ++ assumptions) (split first.assumption second.assumption ∷ conclusions) e free
+            (stops_second P c d (split first.assumption second.assumption ∷ []) conclusions e p7 (stops_second P c d (by_constraint first.conclusion ∷ []) (by_constraint second.conclusion ∷ []) e p8 s))
 
-                module _ (p8 : PassesTestsIn P c d (by_constraint i1 ∷ [])) where
-                  pub stops_unless_second_dominates : (e : RuleError) → StopsIn P c d (by_constraint i2 ∷ []) e → StopsIn P c d (step_tests reason) e
-                  stops_unless_second_dominates e s =
-                      stops_second P c d (indices ++ assumptions) (split l1 l2 ∷ conclusions) e free_pass
-                      (stops_second P c d (split l1 l2 ∷ []) conclusions e p7 (stops_second P c d (by_constraint i1 ∷ []) (by_constraint i2 ∷ []) e p8 s))
-
-                  pub all_pass : PassesTestsIn P c d (by_constraint i2 ∷ []) → PassesTestsIn P c d (step_tests reason)
-                  all_pass p9 =
-                      passes_both P c d (indices ++ assumptions) (split l1 l2 ∷ conclusions) free_pass
-                      (passes_both P c d (split l1 l2 ∷ []) conclusions p7 (passes_both P c d (by_constraint i1 ∷ []) (by_constraint i2 ∷ []) p8 p9))
+        pub all_pass : PassesTestsIn P c d (by_constraint second.conclusion ∷ []) → PassesTestsIn P c d (step_tests reason)
+        all_pass p9 =
+            passes_both P c d (indices ++ assumptions) (split first.assumption second.assumption ∷ conclusions) free
+            (passes_both P c d (split first.assumption second.assumption ∷ []) conclusions p7 (passes_both P c d (by_constraint first.conclusion ∷ []) (by_constraint second.conclusion ∷ []) p8 p9))
