@@ -1,10 +1,8 @@
 //! Why one constraint isn't as it has to be: how two differ, what can't be rounded, and what is no
 //! split.
 
-use crate::algebra::{put_variable, sign_of};
-use crate::missing::Missing;
+use crate::algebra::{put_variable, sign_of, size_of};
 use crate::page::Page;
-use std::fmt::Write;
 use vipr_cert::Problem;
 use vipr_frac::Frac;
 use vipr_linear::{Constraint, Ints, Row, Sense, compares, is_whole_row};
@@ -18,26 +16,37 @@ pub(crate) fn put_difference(
     problem: &Problem,
     computed: &Constraint,
     stated: &Constraint,
-) -> Result<(), Missing> {
-    page.write_str("    difference ")?;
+) {
+    page.put("    difference ");
     if !computed.row.is_same(&stated.row) {
-        return put_row_difference(page, problem, &computed.row, &stated.row);
+        put_row_difference(page, problem, &computed.row, &stated.row);
+    } else if computed.sense != stated.sense && computed.sense != Sense::E {
+        put_sense_difference(page, computed.sense, stated.sense);
+    } else {
+        put_right_difference(page, computed.rhs, stated.rhs);
     }
-    let left = computed.rhs;
-    let right = stated.rhs;
-    if computed.sense != stated.sense && computed.sense != Sense::E {
-        let first = sign_of(computed.sense);
-        let second = sign_of(stated.sense);
-        write!(page, "the sense: computed {first}, stated {second}\n")?;
-        return Ok(());
+    page.put("\n");
+}
+
+// Says that the senses differ.
+fn put_sense_difference(page: &mut Page, computed: Sense, stated: Sense) {
+    page.put("the sense: computed ");
+    page.put(sign_of(computed));
+    page.put(", stated ");
+    page.put(sign_of(stated));
+}
+
+// Says by how much the right-hand sides differ.
+fn put_right_difference(page: &mut Page, computed: Frac, stated: Frac) {
+    page.put("right-hand side: computed ");
+    page.put_value(&computed);
+    page.put(", stated ");
+    page.put_value(&stated);
+    if let Ok(gap) = computed.add(stated.neg()) {
+        page.put(", which says ");
+        page.put_value(&size_of(gap));
+        page.put(" too much");
     }
-    write!(page, "right-hand side: computed {left}, stated {right}")?;
-    if let Ok(gap) = left.add(right.neg()) {
-        let size = if gap.numer() < 0 { gap.neg() } else { gap };
-        write!(page, ", which says {size} too much")?;
-    }
-    page.write_str("\n")?;
-    Ok(())
 }
 
 /// The right-hand side to which `rnd` rounds the computed constraint, if that is strong enough.
@@ -60,34 +69,41 @@ pub(crate) fn rounded(ints: &Ints, computed: &Constraint, stated: &Constraint) -
 }
 
 // Says at which variables two rows differ.
-fn put_row_difference(
-    page: &mut Page,
-    problem: &Problem,
-    computed: &Row,
-    stated: &Row,
-) -> Result<(), Missing> {
-    page.write_str("the rows are not the same:")?;
+fn put_row_difference(page: &mut Page, problem: &Problem, computed: &Row, stated: &Row) {
+    page.put("the rows are not the same:");
+    let changed = put_changed(page, problem, computed, stated);
+    let shown = put_added(page, problem, computed, stated, changed);
+    if shown > MOST_SHOWN {
+        page.put(" .. (");
+        page.put_value(&shown);
+        page.put(" differences)");
+    }
+}
+
+// Says which entries of the computed row are others in the stated one, and counts them.
+fn put_changed(page: &mut Page, problem: &Problem, computed: &Row, stated: &Row) -> u32 {
     let mut shown: u32 = 0;
     for entry in computed.entries() {
-        let (variable, coefficient) = *entry;
-        let other = stated.coefficient(variable);
-        if coefficient != other {
-            put_coefficients(page, problem, shown, variable, coefficient, other)?;
+        let other = stated.coefficient(entry.0);
+        if entry.1 != other {
+            put_coefficients(page, problem, shown, entry.0, entry.1, other);
             shown = shown.saturating_add(1);
         }
     }
+    shown
+}
+
+// Says which entries of the stated row aren't in the computed one, behind so many differences, and
+// counts all.
+fn put_added(page: &mut Page, problem: &Problem, computed: &Row, stated: &Row, before: u32) -> u32 {
+    let mut shown = before;
     for entry in stated.entries() {
-        let (variable, coefficient) = *entry;
-        if computed.coefficient(variable) == Frac::zero() {
-            put_coefficients(page, problem, shown, variable, Frac::zero(), coefficient)?;
+        if computed.coefficient(entry.0) == Frac::zero() {
+            put_coefficients(page, problem, shown, entry.0, Frac::zero(), entry.1);
             shown = shown.saturating_add(1);
         }
     }
-    if shown > MOST_SHOWN {
-        write!(page, " .. ({shown} differences)")?;
-    }
-    page.write_str("\n")?;
-    Ok(())
+    shown
 }
 
 // Writes one difference, if not too many were shown.
@@ -98,26 +114,24 @@ fn put_coefficients(
     variable: u32,
     computed: Frac,
     stated: Frac,
-) -> Result<(), Missing> {
+) {
     if shown >= MOST_SHOWN {
-        return Ok(());
+        return;
     }
-    page.write_str(if shown == 0 { " " } else { "; " })?;
-    put_variable(page, problem, variable)?;
-    write!(page, ": computed {computed}, stated {stated}")?;
-    Ok(())
+    page.put(if shown == 0 { " " } else { "; " });
+    put_variable(page, problem, variable);
+    page.put(": computed ");
+    page.put_value(&computed);
+    page.put(", stated ");
+    page.put_value(&stated);
 }
 
 /// Says why a sum can't be rounded.
-pub(crate) fn put_not_roundable(
-    page: &mut Page,
-    problem: &Problem,
-    sum: &Constraint,
-) -> Result<(), Missing> {
+pub(crate) fn put_not_roundable(page: &mut Page, problem: &Problem, sum: &Constraint) {
     if sum.sense == Sense::E && is_whole_row(&sum.row, problem.ints()) {
-        page.write_str("    an equation can't be rounded\n")?;
+        page.put("    an equation can't be rounded\n");
     }
-    put_not_whole(page, problem, &sum.row)
+    put_not_whole(page, problem, &sum.row);
 }
 
 /// Says why two assumptions are no split.
@@ -126,47 +140,57 @@ pub(crate) fn put_not_split(
     problem: &Problem,
     first: &Constraint,
     second: &Constraint,
-) -> Result<(), Missing> {
+) {
     if !first.row.is_same(&second.row) {
-        page.write_str("    they are about different rows: a split is of one row, ")?;
-        page.write_str("at most k and at least k + 1\n")?;
-        return Ok(());
+        page.put("    they are about different rows: a split is of one row, ");
+        page.put("at most k and at least k + 1\n");
+    } else if is_whole_row(&first.row, problem.ints()) {
+        page.put("    a split is <= k and >= k + 1 with k whole; here it is ");
+        put_side(page, first);
+        page.put(" and ");
+        put_side(page, second);
+        page.put("\n");
+    } else {
+        put_not_whole(page, problem, &first.row);
     }
-    if !is_whole_row(&first.row, problem.ints()) {
-        return put_not_whole(page, problem, &first.row);
-    }
-    let one = sign_of(first.sense);
-    let other = sign_of(second.sense);
-    let left = first.rhs;
-    let right = second.rhs;
-    write!(
-        page,
-        "    a split is <= k and >= k + 1 with k whole; here it is {one} {left} and {other} {right}\n"
-    )?;
-    Ok(())
+}
+
+// Writes the sense and the right-hand side of a constraint.
+fn put_side(page: &mut Page, constraint: &Constraint) {
+    page.put(sign_of(constraint.sense));
+    page.put(" ");
+    page.put_value(&constraint.rhs);
 }
 
 // Names the coefficients that aren't whole, and the variables that aren't integer ones.
-fn put_not_whole(page: &mut Page, problem: &Problem, row: &Row) -> Result<(), Missing> {
+fn put_not_whole(page: &mut Page, problem: &Problem, row: &Row) {
     let mut shown: u32 = 0;
     for entry in row.entries() {
-        let (variable, coefficient) = *entry;
-        if shown < MOST_SHOWN && !coefficient.is_whole() {
-            write!(page, "    the coefficient {coefficient} of ")?;
-            put_variable(page, problem, variable)?;
-            page.write_str(" is not whole\n")?;
+        if shown < MOST_SHOWN && !entry.1.is_whole() {
+            put_coefficient_not_whole(page, problem, entry.0, entry.1);
             shown = shown.saturating_add(1);
         }
-        if shown < MOST_SHOWN && !problem.ints().contains(variable) {
-            page.write_str("    ")?;
-            put_variable(page, problem, variable)?;
-            write!(
-                page,
-                " is not an integer variable: write its index {variable} in INT, "
-            )?;
-            page.write_str("or leave it out here\n")?;
+        if shown < MOST_SHOWN && !problem.ints().contains(entry.0) {
+            put_not_integer(page, problem, entry.0);
             shown = shown.saturating_add(1);
         }
     }
-    Ok(())
+}
+
+// Says that a coefficient isn't whole.
+fn put_coefficient_not_whole(page: &mut Page, problem: &Problem, variable: u32, coefficient: Frac) {
+    page.put("    the coefficient ");
+    page.put_value(&coefficient);
+    page.put(" of ");
+    put_variable(page, problem, variable);
+    page.put(" is not whole\n");
+}
+
+// Says that a variable isn't an integer one.
+fn put_not_integer(page: &mut Page, problem: &Problem, variable: u32) {
+    page.put("    ");
+    put_variable(page, problem, variable);
+    page.put(" is not an integer variable: write its index ");
+    page.put_value(&variable);
+    page.put(" in INT, or leave it out here\n");
 }

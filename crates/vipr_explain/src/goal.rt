@@ -1,16 +1,14 @@
 //! Explains what proves the claim, and which constraints come nearest if none does.
 
-use crate::algebra::put_constraint;
-use crate::draft::Draft;
-use crate::items::{ItemPlace, Items, find_constraints, open_problem, read_items, skip_solutions};
+use crate::algebra::{put_constraint, size_of};
+use crate::items::{Items, open_derivations};
 use crate::missing::Missing;
 use crate::page::Page;
-use crate::shown::put_item;
-use crate::text::Text;
+use crate::shown::PlacedItems;
+use crate::text::{Subject, Text};
 use std::alloc::{AllocError, Global};
-use std::fmt::Write;
 use vipr_bytes::Source;
-use vipr_cert::{Derivation, Reason};
+use vipr_cert::{Derivation, Problem, Reason};
 use vipr_check::Report;
 use vipr_frac::Frac;
 use vipr_linear::Constraint;
@@ -35,54 +33,76 @@ struct Near {
     bases: Bases,
 }
 
+/// What is known of the derivations that were passed: the assumptions of each, and the last ones
+/// that come near to the goal.
+#[derive(Drop)]
+struct Passed {
+    /// The index of the first derivation.
+    first: usize,
+    all: Vec<Bases>,
+    near: Vec<Near>,
+}
+
 /// Explains a verified certificate: the constraint that proves its dual side, in algebra.
-pub(crate) fn put_goal<T: Text>(draft: &mut Draft<'_, T>, report: &Report) -> Result<(), Missing> {
-    let claim = report.claim;
-    write!(draft.page, "proved: {claim}\n")?;
+pub(crate) fn put_goal<T: Text>(
+    page: &mut Page,
+    subject: &Subject<'_, T>,
+    report: &Report,
+) -> Result<(), Missing> {
+    page.put("proved: ");
+    page.put_value(&report.claim);
+    page.put("\n");
     match report.goal {
-        Some(goal) => put_goal_item(draft, goal),
+        Some(goal) => put_goal_item(page, subject, goal),
         None => {
-            draft
-                .page
-                .write_str("  nothing has to be proved of the dual side\n")?;
+            page.put("  nothing has to be proved of the dual side\n");
             Ok(())
         }
     }
 }
 
 // Shows the constraint that proves the dual side.
-fn put_goal_item<T: Text>(draft: &mut Draft<'_, T>, goal: u32) -> Result<(), Missing> {
-    let items = read_items(draft.alloc, draft.text, [goal].as_slice())?;
-    let marks = find_constraints(draft.alloc, draft.text, [goal].as_slice())?;
-    draft.page.write_str("  goal   ")?;
-    put_item(&mut draft.page, &items, marks.as_slice(), goal)?;
-    draft.page.write_str("\n")?;
+fn put_goal_item<T: Text>(
+    page: &mut Page,
+    subject: &Subject<'_, T>,
+    goal: u32,
+) -> Result<(), Missing> {
+    let known = PlacedItems::read(subject, [goal].as_slice())?;
+    page.put("  goal   ");
+    known.put_item(page, goal);
+    page.put("\n");
     Ok(())
 }
 
 /// Explains that no constraint proves the claim: what is wanted, and the nearest constraints with
 /// the assumptions that they rest on.
 pub(crate) fn put_no_proof<T: Text>(
-    draft: &mut Draft<'_, T>,
+    page: &mut Page,
+    subject: &Subject<'_, T>,
     goal: Option<&Constraint>,
 ) -> Result<(), Missing> {
-    let near = find_near(draft.alloc, draft.text, goal)?;
-    let wanted = indices_of(draft.alloc, near.as_slice())?;
-    let items = read_items(draft.alloc, draft.text, wanted.as_slice())?;
-    let marks = find_constraints(draft.alloc, draft.text, wanted.as_slice())?;
-    put_wanted(&mut draft.page, &items, goal)?;
-    draft.page.write_str(if near.is_empty() {
+    let near = find_near(subject.alloc, subject.text, goal)?;
+    let known = known_of(subject, near.as_slice())?;
+    put_wanted(page, &known.items.problem, goal);
+    page.put(if near.is_empty() {
         "  no constraint is like it\n"
     } else {
         "  nearest:\n"
-    })?;
+    });
     for item in &near {
-        put_near(&mut draft.page, &items, marks.as_slice(), goal, item)?;
+        put_near(page, &known, goal, item);
     }
-    draft.put_help(
+    page.put_help(
         "join the branches by `uns i1 l1 i2 l2`, so that no assumption is left, \
          or claim what is proved behind RTP",
-    )
+    );
+    Ok(())
+}
+
+// Reads constraints that come near.
+fn known_of<T: Text>(subject: &Subject<'_, T>, near: &[Near]) -> Result<PlacedItems, Missing> {
+    let indices = indices_of(subject.alloc, near)?;
+    PlacedItems::read(subject, indices.as_slice())
 }
 
 // The indices of constraints.
@@ -95,92 +115,62 @@ fn indices_of(alloc: Global, near: &[Near]) -> Result<Vec<u32>, AllocError> {
 }
 
 // Says what is wanted.
-fn put_wanted(page: &mut Page, items: &Items, goal: Option<&Constraint>) -> Result<(), Missing> {
-    page.write_str("error: no constraint proves the claim\n")?;
-    page.write_str("  wanted: a constraint that rests on no assumption and ")?;
+fn put_wanted(page: &mut Page, problem: &Problem, goal: Option<&Constraint>) {
+    page.put("error: no constraint proves the claim\n");
+    page.put("  wanted: a constraint that rests on no assumption and ");
     match goal {
-        Some(goal) => put_wanted_row(page, items, goal),
-        None => {
-            page.write_str("is absurd, as 0 >= 1\n")?;
-            Ok(())
+        Some(goal) => {
+            page.put("says ");
+            put_constraint(page, problem, goal);
+            page.put(" or more\n");
+        }
+        None => page.put("is absurd, as 0 >= 1\n"),
+    }
+}
+
+// Shows a constraint that comes near, and why it isn't enough.
+fn put_near(page: &mut Page, known: &PlacedItems, goal: Option<&Constraint>, near: &Near) {
+    page.put("    ");
+    known.put_item(page, near.index);
+    if let Some(goal) = goal {
+        put_strength(page, &known.items, goal, near.index);
+    }
+    put_bases(page, &near.bases);
+    page.put("\n");
+}
+
+// Says whether a constraint is as strong as the goal.
+fn put_strength(page: &mut Page, items: &Items, goal: &Constraint, index: u32) {
+    if let Some(constraint) = items.constraint(index) {
+        if constraint.dominates(goal) {
+            page.put(", strong enough");
+        } else {
+            put_gap(page, goal.rhs, constraint.rhs);
         }
     }
 }
 
-// Shows the constraint that is wanted.
-fn put_wanted_row(page: &mut Page, items: &Items, goal: &Constraint) -> Result<(), Missing> {
-    page.write_str("says ")?;
-    put_constraint(page, &items.problem, goal)?;
-    page.write_str(" or more\n")?;
-    Ok(())
-}
-
-// Shows a constraint that comes near, and why it isn't enough.
-fn put_near(
-    page: &mut Page,
-    items: &Items,
-    marks: &[ItemPlace],
-    goal: Option<&Constraint>,
-    near: &Near,
-) -> Result<(), Missing> {
-    page.write_str("    ")?;
-    put_item(page, items, marks, near.index)?;
-    if let Some(goal) = goal {
-        put_strength(page, items, goal, near.index)?;
+// Says by how much a right-hand side is too weak.
+fn put_gap(page: &mut Page, wanted: Frac, found: Frac) {
+    if let Ok(gap) = wanted.add(found.neg()) {
+        page.put(", too weak by ");
+        page.put_value(&size_of(gap));
     }
-    put_bases(page, &near.bases)?;
-    page.write_str("\n")?;
-    Ok(())
-}
-
-// Says whether a constraint is as strong as the goal.
-fn put_strength(
-    page: &mut Page,
-    items: &Items,
-    goal: &Constraint,
-    index: u32,
-) -> Result<(), Missing> {
-    match items.constraint(index) {
-        Some(constraint) => put_distance(page, goal, constraint),
-        None => Ok(()),
-    }
-}
-
-// Says by how much a constraint is too weak.
-fn put_distance(
-    page: &mut Page,
-    goal: &Constraint,
-    constraint: &Constraint,
-) -> Result<(), Missing> {
-    if constraint.dominates(goal) {
-        page.write_str(", strong enough")?;
-        return Ok(());
-    }
-    match goal.rhs.add(constraint.rhs.neg()) {
-        Ok(gap) => put_gap(page, gap),
-        Err(_) => Ok(()),
-    }
-}
-
-// Shows a difference of right-hand sides.
-fn put_gap(page: &mut Page, gap: Frac) -> Result<(), Missing> {
-    let size = if gap.numer() < 0 { gap.neg() } else { gap };
-    write!(page, ", too weak by {size}")?;
-    Ok(())
 }
 
 // Says which assumptions a constraint rests on.
-fn put_bases(page: &mut Page, bases: &Bases) -> Result<(), Missing> {
+fn put_bases(page: &mut Page, bases: &Bases) {
     if bases.indices.is_empty() {
-        page.write_str(", rests on no assumption")?;
-        return Ok(());
+        page.put(", rests on no assumption");
+        return;
     }
-    page.write_str(", rests on the assumptions")?;
+    page.put(", rests on the assumptions");
     for index in &bases.indices {
-        write!(page, " [{index}]")?;
+        page.put(" [");
+        page.put_value(index);
+        page.put("]");
     }
-    page.write_str(if bases.is_cut { " .." } else { "" })?;
-    Ok(())
+    page.put(if bases.is_cut { " .." } else { "" });
 }
 
 // The last three constraints that have the goal's row, or are absurd if that is wanted.
@@ -189,10 +179,9 @@ fn find_near<T: Text>(
     text: &T,
     goal: Option<&Constraint>,
 ) -> Result<Vec<Near>, Missing> {
-    let (problem, solutions) = open_problem(alloc, text)?;
+    let (problem, derivations) = open_derivations(alloc, text)?;
     let first = problem.cons().len();
     drop(problem);
-    let derivations = skip_solutions(alloc, solutions)?;
     find_among(alloc, derivations, first, goal)
 }
 
@@ -203,34 +192,46 @@ fn find_among<R: Source + Drop>(
     first: usize,
     goal: Option<&Constraint>,
 ) -> Result<Vec<Near>, Missing> {
-    let mut all: Vec<Bases> = Vec::new(alloc);
-    let mut near: Vec<Near> = Vec::new(alloc);
+    let mut passed = Passed {
+        first,
+        all: Vec::new(alloc),
+        near: Vec::new(alloc),
+    };
     for _ in 0..derivations.left() {
-        if let Some(step) = derivations.next(alloc)? {
-            let bases = take_step(alloc, &mut near, step, first, all.as_slice(), goal)?;
-            all.push(bases)?;
-        }
+        passed.read_next(alloc, &mut derivations, goal)?;
     }
-    Ok(near)
+    Ok(passed.near)
 }
 
-// Keeps a derivation if it is near, and answers the assumptions that it rests on.
-fn take_step(
-    alloc: Global,
-    near: &mut Vec<Near>,
-    step: Derivation,
-    first: usize,
-    all: &[Bases],
-    goal: Option<&Constraint>,
-) -> Result<Bases, Missing> {
-    let index = first.saturating_add(all.len());
-    let bases = bases_of(alloc, &step, index, first, all)?;
-    let is_like = is_near(goal, &step.constraint);
-    drop(step);
-    if is_like {
-        keep_near(alloc, near, index, &bases)?;
+impl Passed {
+    // Passes the next derivation.
+    fn read_next<R: Source + Drop>(
+        &mut self,
+        alloc: Global,
+        derivations: &mut Derivations<R>,
+        goal: Option<&Constraint>,
+    ) -> Result<(), Missing> {
+        match derivations.next(alloc)? {
+            Some(step) => self.pass(alloc, &step, goal),
+            None => Ok(()),
+        }
     }
-    Ok(bases)
+
+    // Passes a derivation, and keeps it if it is near.
+    fn pass(
+        &mut self,
+        alloc: Global,
+        step: &Derivation,
+        goal: Option<&Constraint>,
+    ) -> Result<(), Missing> {
+        let index = self.first.saturating_add(self.all.len());
+        let bases = bases_of(alloc, step, index, self.first, self.all.as_slice())?;
+        if is_near(goal, &step.constraint) {
+            keep_near(alloc, &mut self.near, index, &bases)?;
+        }
+        self.all.push(bases)?;
+        Ok(())
+    }
 }
 
 // Whether a constraint is like the goal.

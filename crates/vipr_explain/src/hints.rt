@@ -1,10 +1,7 @@
 //! Likely mistakes behind a fault of a text, and what to write instead.
 
-use crate::draft::Draft;
-use crate::missing::Missing;
-use crate::text::Text;
+use crate::page::Page;
 use crate::wanted::{Section, TextProgress, Wanted};
-use std::fmt::Write;
 use vipr_check::cause;
 use vipr_frac::Frac;
 
@@ -17,56 +14,55 @@ pub(crate) struct TokenFault<'a> {
 }
 
 /// Writes what is likely to be wrong, and what to write instead.
-pub(crate) fn put_hints<T: Text>(
-    draft: &mut Draft<'_, T>,
-    fault: TokenFault<'_>,
-) -> Result<(), Missing> {
+pub(crate) fn put_hints(page: &mut Page, fault: TokenFault<'_>) {
     match fault.cause {
-        cause::BAD_NUMBER => put_number_hint(draft, fault),
-        cause::WRONG_KEYWORD => draft.put_help(keyword_hint(fault)),
-        cause::BAD_SENSE => draft.put_help(sense_hint(fault)),
-        cause::BAD_COUNT => draft.put_help(count_hint(fault)),
-        cause::BAD_BRACE => draft.put_help(brace_hint(fault)),
-        cause::BAD_INDEX => put_index_hint(draft, fault),
-        cause::TRUNCATED => draft.put_help(end_hint(fault)),
-        other => draft.put_help(plain_hint(other)),
+        cause::BAD_NUMBER => put_number_hint(page, fault),
+        cause::BAD_INDEX => put_index_hint(page, fault.progress.variables),
+        _ => page.put_help(text_hint(fault)),
+    }
+}
+
+// A hint that has no value in it.
+fn text_hint(fault: TokenFault<'_>) -> &'static str {
+    match fault.cause {
+        cause::WRONG_KEYWORD => keyword_hint(fault),
+        cause::BAD_SENSE => sense_hint(fault),
+        cause::BAD_COUNT => count_hint(fault),
+        cause::BAD_BRACE => brace_hint(fault),
+        cause::TRUNCATED => end_hint(fault),
+        other => plain_hint(other),
     }
 }
 
 // A number: a decimal is written as a fraction.
-fn put_number_hint<T: Text>(
-    draft: &mut Draft<'_, T>,
-    fault: TokenFault<'_>,
-) -> Result<(), Missing> {
+fn put_number_hint(page: &mut Page, fault: TokenFault<'_>) {
     if let Some(fraction) = fraction_of(fault.word) {
-        write!(
-            draft.page,
-            "  = help: decimals are not in the format: write {fraction}\n"
-        )?;
-        return Ok(());
+        page.put("  = help: decimals are not in the format: write ");
+        page.put_value(&fraction);
+        page.put("\n");
+        return;
     }
-    match fault.progress.wanted {
-        Wanted::UpperBound => draft.put_help(
-            "`range` takes two bounds: the lower and the upper one",
-        ),
-        _ => draft.put_help(
+    page.put_help(match fault.progress.wanted {
+        Wanted::UpperBound => "`range` takes two bounds: the lower and the upper one",
+        _ => {
             "a number is digits with or without a sign, or a fraction, as -3 or 13/4; \
-             is the count before it right?",
-        ),
-    }
+             is the count before it right?"
+        }
+    });
 }
 
 // An index of a variable: they count from 0.
-fn put_index_hint<T: Text>(draft: &mut Draft<'_, T>, fault: TokenFault<'_>) -> Result<(), Missing> {
-    let variables = fault.progress.variables;
+fn put_index_hint(page: &mut Page, variables: u32) {
     match variables.checked_sub(1) {
-        Some(last) => write!(
-            draft.page,
-            "  = help: indices count from 0: {variables} variables have the indices 0 to {last}\n"
-        )?,
-        None => write!(draft.page, "  = help: the text has no variables (VAR 0)\n")?,
+        Some(last) => {
+            page.put("  = help: indices count from 0: ");
+            page.put_value(&variables);
+            page.put(" variables have the indices 0 to ");
+            page.put_value(&last);
+            page.put("\n");
+        }
+        None => page.put_help("the text has no variables (VAR 0)"),
     }
-    Ok(())
 }
 
 // A keyword: at the start of the text it may be no certificate at all.

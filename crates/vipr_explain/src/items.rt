@@ -1,10 +1,11 @@
 //! The items of a text that an explanation names, and their places.
+ghost use Rattle.std.specs.Prelude.{◌≡◌, IfOk};
 
 use crate::missing::Missing;
 use crate::text::{Spot, Text};
 use crate::wanted::{Section, TextProgress, Wanted};
 use crate::words::Words;
-use std::alloc::Global;
+use std::alloc::{AllocError, Global};
 use vipr_bytes::Source;
 use vipr_cert::{Derivation, Name, Named, Problem, Reason};
 use vipr_linear::{Constraint, Solution};
@@ -25,7 +26,7 @@ pub(crate) struct Items {
 }
 
 /// The place of an item's name and of its last reference.
-#[derive(Clone, Copy, Debug)]
+#[derive(Clone, Copy)]
 pub(crate) struct ItemPlace {
     pub(crate) index: u32,
     pub(crate) spot: Spot,
@@ -80,6 +81,39 @@ impl Items {
             None => "given",
         }
     }
+
+    // Keeps the derivations that are wanted, up to the greatest index.
+    fn keep_wanted<R: Source + Drop>(
+        &mut self,
+        alloc: Global,
+        derivations: &mut Derivations<R>,
+        wanted: &[u32],
+    ) -> Result<(), Missing> {
+        let mut index = self.problem.cons().len() as u64;
+        let end = greatest(wanted) as u64;
+        for _ in 0..derivations.left() {
+            if index > end {
+                break;
+            }
+            match derivations.next(alloc)? {
+                Some(derivation) => self.keep(wanted, index, derivation)?,
+                None => break,
+            }
+            index = index.saturating_add(1);
+        }
+        Ok(())
+    }
+
+    // Keeps a derivation that is wanted.
+    fn keep(&mut self, wanted: &[u32], index: u64, derivation: Derivation) -> Result<(), Missing> {
+        match u32::try_from(index) {
+            Ok(index) if wanted.contains(&index) => {
+                self.derivations.push(Numbered { index, derivation })?;
+            }
+            _ => drop(derivation),
+        }
+        Ok(())
+    }
 }
 
 /// The problem, and a reader of the solutions.
@@ -96,32 +130,58 @@ pub(crate) fn open_problem<T: Text>(
     }
 }
 
-/// The derivations behind the solutions.
-pub(crate) fn skip_solutions<R: Source + Drop>(
+/// The problem, and a reader of the derivations.
+pub(crate) fn open_derivations<T: Text>(
+    alloc: Global,
+    text: &T,
+) -> Result<(Problem, Derivations<T::Reader>), Missing> {
+    let (problem, solutions) = open_problem(alloc, text)?;
+    Ok((problem, skip_solutions(alloc, solutions)?))
+}
+
+// The derivations behind the solutions.
+fn skip_solutions<R: Source + Drop>(
     alloc: Global,
     mut solutions: Solutions<R>,
 ) -> Result<Derivations<R>, Missing> {
+    pass_solutions(alloc, &mut solutions)?;
+    Ok(solutions.finish()?)
+}
+
+// Reads the solutions that are left.
+fn pass_solutions<R: Source>(alloc: Global, solutions: &mut Solutions<R>) -> Result<(), Missing>
+    ensures { IfOk result (λ _. solutions.new.left ≡ 0) }
+{
     for _ in 0..solutions.left() {
-        let _ = solutions.next(alloc)?;
+        drop(solutions.next(alloc)?);
     }
     if solutions.left() > 0 {
         return Err(Missing::Text);
     }
-    Ok(solutions.finish()?)
+    Ok(())
 }
 
-/// The listed solution of this number.
+/// The problem, and the listed solution of this number.
 pub(crate) fn read_solution<T: Text>(
     alloc: Global,
     text: &T,
     number: u32,
 ) -> Result<(Problem, Named<Solution>), Missing> {
     let (problem, mut solutions) = open_problem(alloc, text)?;
+    Ok((problem, nth_solution(alloc, &mut solutions, number)?))
+}
+
+// The solution behind so many others.
+fn nth_solution<R: Source>(
+    alloc: Global,
+    solutions: &mut Solutions<R>,
+    number: u32,
+) -> Result<Named<Solution>, Missing> {
     for _ in 0..number {
-        let _ = solutions.next(alloc)?;
+        drop(solutions.next(alloc)?);
     }
     match solutions.next(alloc)? {
-        Some(solution) => Ok((problem, solution)),
+        Some(solution) => Ok(solution),
         None => Err(Missing::Text),
     }
 }
@@ -132,41 +192,13 @@ pub(crate) fn read_items<T: Text>(
     text: &T,
     wanted: &[u32],
 ) -> Result<Items, Missing> {
-    let (problem, solutions) = open_problem(alloc, text)?;
-    let mut derivations = skip_solutions(alloc, solutions)?;
-    let mut kept = Vec::new(alloc);
-    let mut index = problem.cons().len() as u64;
-    let end = greatest(wanted) as u64;
-    for _ in 0..derivations.left() {
-        if index > end {
-            break;
-        }
-        match derivations.next(alloc)? {
-            Some(derivation) => keep(&mut kept, wanted, index, derivation)?,
-            None => break,
-        }
-        index = index.saturating_add(1);
-    }
-    Ok(Items {
+    let (problem, mut derivations) = open_derivations(alloc, text)?;
+    let mut items = Items {
         problem,
-        derivations: kept,
-    })
-}
-
-// Keeps a derivation that is wanted.
-fn keep(
-    kept: &mut Vec<Numbered>,
-    wanted: &[u32],
-    index: u64,
-    derivation: Derivation,
-) -> Result<(), Missing> {
-    match u32::try_from(index) {
-        Ok(index) if wanted.contains(&index) => {
-            kept.push(Numbered { index, derivation })?;
-        }
-        _ => drop(derivation),
-    }
-    Ok(())
+        derivations: Vec::new(alloc),
+    };
+    items.keep_wanted(alloc, &mut derivations, wanted)?;
+    Ok(items)
 }
 
 /// The places of constraints by their indices.
@@ -176,19 +208,29 @@ pub(crate) fn find_constraints<T: Text>(
     wanted: &[u32],
 ) -> Result<Vec<ItemPlace>, Missing> {
     let mut words = Words::<T::Reader>::open(alloc, text)?;
-    let mut progress = TextProgress::start();
     let mut marks = Vec::new(alloc);
+    mark_constraints(&mut words, &mut marks, wanted)?;
+    Ok(marks)
+}
+
+// Marks constraints, up to the greatest index.
+fn mark_constraints<R: Source + Drop>(
+    words: &mut Words<R>,
+    marks: &mut Vec<ItemPlace>,
+    wanted: &[u32],
+) -> Result<(), Missing> {
+    let mut progress = TextProgress::start();
     let end = greatest(wanted);
     for _ in 0..u64::MAX {
-        if is_past(&progress, end) || !words.next()? {
+        if is_past(&progress, end) || !words.next() {
             break;
         }
         if is_constraint(&progress) && wanted.contains(&progress.index()) {
-            keep_mark(&mut marks, &progress, words.spot(), words.size())?;
+            keep_mark(marks, &progress, words.spot(), words.size())?;
         }
         progress.pass(words.word());
     }
-    Ok(marks)
+    words.check()
 }
 
 /// The place of a solution's name.
@@ -198,18 +240,31 @@ pub(crate) fn find_solution<T: Text>(
     number: u32,
 ) -> Result<Option<ItemPlace>, Missing> {
     let mut words = Words::<T::Reader>::open(alloc, text)?;
+    let mark = mark_solution(&mut words, number);
+    words.check()?;
+    Ok(mark)
+}
+
+// The same by a reader at the start of the text.
+fn mark_solution<R: Source + Drop>(words: &mut Words<R>, number: u32) -> Option<ItemPlace> {
     let mut progress = TextProgress::start();
-    let mut marks = Vec::new(alloc);
     for _ in 0..u64::MAX {
-        if progress.section == Section::Derivations || !words.next()? {
+        if progress.section == Section::Derivations || !words.next() {
             break;
         }
-        if progress.section == Section::Solutions && progress.item == number {
-            keep_mark(&mut marks, &progress, words.spot(), words.size())?;
+        if is_name_of_solution(&progress, number) {
+            return Some(mark_at(&progress, words.spot(), words.size()));
         }
         progress.pass(words.word());
     }
-    Ok(marks.first().copied())
+    None
+}
+
+// Whether the name of the solution of this number is wanted.
+fn is_name_of_solution(progress: &TextProgress, number: u32) -> bool {
+    progress.section == Section::Solutions
+        && progress.wanted == Wanted::Name
+        && progress.item == number
 }
 
 /// The mark of a constraint among others.
@@ -228,15 +283,9 @@ fn keep_mark(
     progress: &TextProgress,
     spot: Spot,
     size: usize,
-) -> Result<(), Missing> {
+) -> Result<(), AllocError> {
     match progress.wanted {
-        Wanted::Name => marks.push(ItemPlace {
-            index: progress.index(),
-            spot,
-            size,
-            last: spot,
-            last_size: size,
-        })?,
+        Wanted::Name => marks.push(mark_at(progress, spot, size))?,
         Wanted::LastReference => {
             if let Some(mark) = marks.last_mut() {
                 mark.last = spot;
@@ -246,6 +295,17 @@ fn keep_mark(
         _ => {}
     }
     Ok(())
+}
+
+// The mark of an item by the place of its name.
+fn mark_at(progress: &TextProgress, spot: Spot, size: usize) -> ItemPlace {
+    ItemPlace {
+        index: progress.index(),
+        spot,
+        size,
+        last: spot,
+        last_size: size,
+    }
 }
 
 // Whether the item is a constraint, of the problem or derived.

@@ -3,7 +3,7 @@
 
 mod algebra;
 mod differences;
-mod draft;
+mod excerpt;
 mod goal;
 mod hints;
 mod items;

@@ -1,8 +1,6 @@
 //! Why there is no explanation.
 
 use std::alloc::{AllocError, AllocFailed};
-use std::fmt;
-use vipr_bytes::Failed;
 use vipr_scan::TextError;
 
 /// Why a verdict isn't explained.
@@ -23,18 +21,6 @@ impl From<AllocError> for Missing {
 impl<T: Drop> From<AllocFailed<T>> for Missing {
     fn from(_error: AllocFailed<T>) -> Missing {
         Missing::Memory
-    }
-}
-
-impl From<fmt::Error> for Missing {
-    fn from(_error: fmt::Error) -> Missing {
-        Missing::Memory
-    }
-}
-
-impl From<Failed> for Missing {
-    fn from(_failed: Failed) -> Missing {
-        Missing::Text
     }
 }
 

@@ -1,51 +1,51 @@
-//! How a constraint that an explanation names is shown: its name, its algebra and its line.
+//! The constraints that an explanation names, and how each is shown.
 
 use crate::algebra::{put_constraint, put_name};
-use crate::items::{ItemPlace, Items, mark_of};
+use crate::items::{ItemPlace, Items, find_constraints, mark_of, read_items};
 use crate::missing::Missing;
 use crate::page::Page;
-use std::fmt::Write;
+use crate::text::{Subject, Text};
 
-/// Shows a constraint: its index, its name, its algebra and its line.
-pub(crate) fn put_item(
-    page: &mut Page,
-    items: &Items,
-    marks: &[ItemPlace],
-    index: u32,
-) -> Result<(), Missing> {
-    write!(page, "[{index}] ")?;
-    put_name_of(page, items, index)?;
-    page.write_str("  ")?;
-    put_algebra_of(page, items, index)?;
-    put_line_of(page, marks, index)
+/// The problem, some derivations, and the places of some constraints.
+#[derive(Drop)]
+pub(crate) struct PlacedItems {
+    pub(crate) items: Items,
+    pub(crate) marks: Vec<ItemPlace>,
 }
 
-// Shows the name of a constraint.
-fn put_name_of(page: &mut Page, items: &Items, index: u32) -> Result<(), Missing> {
-    match items.name(index) {
-        Some(name) => put_name(page, name),
-        None => Ok(()),
+impl PlacedItems {
+    /// Reads the constraints of these indices.
+    pub(crate) fn read<T: Text>(
+        subject: &Subject<'_, T>,
+        wanted: &[u32],
+    ) -> Result<PlacedItems, Missing> {
+        Ok(PlacedItems {
+            items: read_items(subject.alloc, subject.text, wanted)?,
+            marks: find_constraints(subject.alloc, subject.text, wanted)?,
+        })
+    }
+
+    /// Shows a constraint: its index, its name, its algebra and its line.
+    pub(crate) fn put_item(&self, page: &mut Page, index: u32) {
+        page.put("[");
+        page.put_value(&index);
+        page.put("] ");
+        if let Some(name) = self.items.name(index) {
+            put_name(page, name);
+        }
+        page.put("  ");
+        if let Some(constraint) = self.items.constraint(index) {
+            put_constraint(page, &self.items.problem, constraint);
+        }
+        put_line_of(page, self.marks.as_slice(), index);
     }
 }
 
-// Shows a constraint as algebra.
-fn put_algebra_of(page: &mut Page, items: &Items, index: u32) -> Result<(), Missing> {
-    match items.constraint(index) {
-        Some(constraint) => put_constraint(page, &items.problem, constraint),
-        None => Ok(()),
+/// Shows the line of a constraint.
+pub(crate) fn put_line_of(page: &mut Page, marks: &[ItemPlace], index: u32) {
+    if let Some(mark) = mark_of(marks, index) {
+        page.put("  (line ");
+        page.put_value(&mark.spot.line);
+        page.put(")");
     }
-}
-
-// Shows the line of a constraint.
-pub(crate) fn put_line_of(page: &mut Page, marks: &[ItemPlace], index: u32) -> Result<(), Missing> {
-    match mark_of(marks, index) {
-        Some(mark) => put_line(page, mark.spot.line),
-        None => Ok(()),
-    }
-}
-
-// Shows the number of a line.
-fn put_line(page: &mut Page, line: u64) -> Result<(), Missing> {
-    write!(page, "  (line {line})")?;
-    Ok(())
 }

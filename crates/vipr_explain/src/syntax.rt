@@ -1,116 +1,144 @@
 //! Explains a fault of a text: its place, and what is wanted there.
 
-use crate::draft::Draft;
+use crate::excerpt::Excerpt;
 use crate::hints::{TokenFault, put_hints};
 use crate::missing::Missing;
-use crate::text::{Spot, Text};
-use crate::wanted::{Section, TextProgress, Wanted};
+use crate::page::Page;
+use crate::text::{Subject, Text};
+use crate::wanted::{Section, TextProgress, Wanted, put_wanted};
 use crate::words::Words;
-use std::alloc::Global;
-use std::fmt::Write;
+use std::alloc::AllocError;
+use vipr_bytes::Source;
 use vipr_check::cause;
 
-/// What is known of a token at fault.
+/// A token at fault: the reader that is at it, and what is known of it.
 #[derive(Drop)]
-struct FoundToken {
+struct FoundToken<R> {
+    words: Words<R>,
     progress: TextProgress,
     /// The name of the item that it is in, empty before that is read.
     name: Vec<u8>,
-    word: Vec<u8>,
-    size: usize,
-    spot: Spot,
     /// Whether the text ends before it. Then the token is the last one.
     is_end: bool,
 }
 
 /// Explains the fault of this cause at this byte.
 pub(crate) fn put_syntax<T: Text>(
-    draft: &mut Draft<'_, T>,
+    page: &mut Page,
+    subject: &Subject<'_, T>,
     cause: u8,
     offset: u64,
 ) -> Result<(), Missing> {
-    let found = find(draft.alloc, draft.text, offset)?;
-    let name = cause::name(cause);
-    let wanted = found.progress;
-    if cause == cause::TRAILING_TEXT {
-        write!(
-            draft.page,
-            "error: {name}: text behind the last derivation\n"
-        )?;
-    } else if found.is_end {
-        write!(
-            draft.page,
-            "error: {name}: the text ends where this is wanted: {wanted}\n"
-        )?;
-    } else {
-        write!(draft.page, "error: {name}: wanted {wanted}\n")?;
+    let found = FoundToken::<T::Reader>::find(subject, offset)?;
+    let excerpt = Excerpt::read(subject, found.words.spot())?;
+    put_error(page, cause, found.is_end, &found.progress);
+    excerpt.put(
+        page,
+        subject.file,
+        found.words.size(),
+        label_of(found.is_end),
+    );
+    put_context(page, &found.progress, found.name.as_slice());
+    put_hints(
+        page,
+        TokenFault {
+            cause,
+            progress: found.progress,
+            word: found.words.word(),
+        },
+    );
+    Ok(())
+}
+
+impl<R: Source + Drop> FoundToken<R> {
+    // Reads up to the token at a byte.
+    fn find<T: Text<Reader = R>>(
+        subject: &Subject<'_, T>,
+        offset: u64,
+    ) -> Result<FoundToken<R>, Missing> {
+        let mut found = FoundToken {
+            words: Words::open(subject.alloc, subject.text)?,
+            progress: TextProgress::start(),
+            name: Vec::new(subject.alloc),
+            is_end: true,
+        };
+        found.pass_up_to(offset)?;
+        found.words.check()?;
+        Ok(found)
     }
-    let label = if found.is_end {
+
+    // Passes the tokens before a byte.
+    fn pass_up_to(&mut self, offset: u64) -> Result<(), AllocError> {
+        for _ in 0..u64::MAX {
+            if !self.words.next() {
+                break;
+            }
+            if self.words.spot().offset >= offset {
+                self.is_end = false;
+                break;
+            }
+            if self.progress.wanted == Wanted::Name {
+                self.name.clear();
+                self.name.extend_from_slice(self.words.word())?;
+            }
+            self.progress.pass(self.words.word());
+        }
+        Ok(())
+    }
+}
+
+// Says what is wrong.
+fn put_error(page: &mut Page, cause: u8, is_end: bool, progress: &TextProgress) {
+    page.put("error: ");
+    page.put(cause::name(cause));
+    if cause == cause::TRAILING_TEXT {
+        page.put(": text behind the last derivation");
+    } else {
+        page.put(if is_end {
+            ": the text ends where this is wanted: "
+        } else {
+            ": wanted "
+        });
+        put_wanted(page, progress);
+    }
+    page.put("\n");
+}
+
+// What is below the place.
+fn label_of(is_end: bool) -> &'static str {
+    if is_end {
         "the text ends behind this"
     } else {
         "this was found"
-    };
-    draft.put_excerpt(found.spot, found.size, label)?;
-    put_context(draft, &found)?;
-    let fault = TokenFault {
-        cause,
-        progress: found.progress,
-        word: found.word.as_slice(),
-    };
-    put_hints(draft, fault)
-}
-
-// Reads up to the token at a byte.
-fn find<T: Text>(alloc: Global, text: &T, offset: u64) -> Result<FoundToken, Missing> {
-    let mut words = Words::<T::Reader>::open(alloc, text)?;
-    let mut progress = TextProgress::start();
-    let mut name = Vec::new(alloc);
-    let mut is_end = true;
-    for _ in 0..u64::MAX {
-        if !words.next()? {
-            break;
-        }
-        if words.spot().offset >= offset {
-            is_end = false;
-            break;
-        }
-        if progress.wanted == Wanted::Name {
-            name.clear();
-            name.extend_from_slice(words.word())?;
-        }
-        progress.pass(words.word());
     }
-    let mut word = Vec::new(alloc);
-    word.extend_from_slice(words.word())?;
-    Ok(FoundToken {
-        progress,
-        name,
-        word,
-        size: words.size(),
-        spot: words.spot(),
-        is_end,
-    })
 }
 
 // Says which part of which item was being read.
-fn put_context<T: Text>(draft: &mut Draft<'_, T>, found: &FoundToken) -> Result<(), Missing> {
-    let progress = found.progress;
-    let keyword = progress.section.keyword();
-    write!(draft.page, "  = reading: {keyword}")?;
-    if is_in_item(&progress) {
-        let item = progress.section.item();
-        let index = progress.index();
-        let number = progress.item.saturating_add(1);
-        let items = progress.items;
-        write!(draft.page, ", {item} {index} ({number} of {items})")?;
+fn put_context(page: &mut Page, progress: &TextProgress, name: &[u8]) {
+    page.put("  = reading: ");
+    page.put(progress.section.keyword());
+    if is_in_item(progress) {
+        put_item_context(page, progress);
         if progress.wanted != Wanted::Name && progress.section != Section::Integers {
-            draft.page.write_str(", `")?;
-            draft.page.put_bytes(found.name.as_slice())?;
-            draft.page.write_str("`")?;
+            page.put(", `");
+            page.put_bytes(name);
+            page.put("`");
         }
     }
-    draft.page.write_str("\n")?;
-    Ok(())
+    page.put("\n");
+}
+
+// Says which item it is.
+fn put_item_context(page: &mut Page, progress: &TextProgress) {
+    page.put(", ");
+    page.put(progress.section.item());
+    page.put(" ");
+    page.put_value(&progress.index());
+    page.put(" (");
+    page.put_value(&progress.item.saturating_add(1));
+    page.put(" of ");
+    page.put_value(&progress.items);
+    page.put(")");
 }
 
 // Whether what is wanted is a part of an item.

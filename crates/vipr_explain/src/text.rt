@@ -2,7 +2,8 @@
 ghost use Rattle.std.specs.Prelude.{◌≤◌};
 
 use crate::missing::Missing;
-use vipr_bytes::{Failed, Source};
+use std::alloc::Global;
+use vipr_bytes::Source;
 
 /// A text that can be read from its start again and again.
 pub trait Text {
@@ -13,8 +14,16 @@ pub trait Text {
     fn open(&self) -> Option<Self::Reader>;
 }
 
+/// What an explanation is about: a text and its name.
+#[derive(Drop)]
+pub(crate) struct Subject<'a, T> {
+    pub(crate) alloc: Global,
+    pub(crate) text: &'a T,
+    pub(crate) file: &'a str,
+}
+
 /// A place in a text: a byte's offset, counted from 0, its line and its column, counted from 1.
-#[derive(Clone, Copy, Debug, PartialEq, Eq)]
+#[derive(Clone, Copy)]
 pub(crate) struct Spot {
     pub(crate) offset: u64,
     pub(crate) line: u64,
@@ -50,7 +59,8 @@ impl Spot {
     }
 }
 
-/// Reads a text byte by byte, and knows the place of the next one.
+/// Reads a text byte by byte, and knows the place of the next one. A reader remembers that a read
+/// failed, and then gives no more bytes.
 #[derive(Drop)]
 pub(crate) struct Letters<R> {
     source: R,
@@ -58,6 +68,7 @@ pub(crate) struct Letters<R> {
     at: usize,
     held: usize,
     spot: Spot,
+    has_failed: bool,
     ghost ordered: { at ≤ held },
     ghost within: { held ≤ 4096 },
 }
@@ -72,6 +83,7 @@ impl<R: Source + Drop> Letters<R> {
                 at: 0,
                 held: 0,
                 spot: Spot::start(),
+                has_failed: false,
             }),
             None => Err(Missing::Text),
         }
@@ -82,19 +94,35 @@ impl<R: Source + Drop> Letters<R> {
         self.spot
     }
 
-    /// The next byte, `None` at the end.
-    pub(crate) fn next(&mut self) -> Result<Option<u8>, Failed> {
+    /// Whether a read failed.
+    pub(crate) fn has_failed(&self) -> bool {
+        self.has_failed
+    }
+
+    /// The next byte, `None` at the end and after a read that failed.
+    pub(crate) fn next(&mut self) -> Option<u8> {
         if self.at == self.held {
-            self.at = 0;
-            self.held = 0;
-            self.held = self.source.read(&mut self.buffer)?;
+            self.fill();
         }
         if self.at == self.held {
-            return Ok(None);
+            return None;
         }
         let byte = self.buffer[self.at];
         self.at += 1;
         self.spot = self.spot.after(byte);
-        Ok(Some(byte))
+        Some(byte)
+    }
+
+    // Reads more bytes, if no read failed.
+    fn fill(&mut self) {
+        self.at = 0;
+        self.held = 0;
+        if self.has_failed {
+            return;
+        }
+        match self.source.read(&mut self.buffer) {
+            Ok(count) => self.held = count,
+            Err(_) => self.has_failed = true,
+        }
     }
 }

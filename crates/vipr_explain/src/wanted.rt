@@ -1,10 +1,9 @@
 //! What a certificate's text has to have at each of its tokens.
 
-use std::fmt;
-use std::fmt::{Display, Formatter, Write};
+use crate::page::Page;
 
 /// The sections of a certificate, in their order.
-#[derive(Clone, Copy, Debug, PartialEq, Eq)]
+#[derive(Clone, Copy, PartialEq)]
 pub(crate) enum Section {
     Version,
     Variables,
@@ -17,7 +16,7 @@ pub(crate) enum Section {
 }
 
 /// What is wanted at a token.
-#[derive(Clone, Copy, Debug, PartialEq, Eq)]
+#[derive(Clone, Copy, PartialEq)]
 pub(crate) enum Wanted {
     Keyword,
     Version,
@@ -46,7 +45,7 @@ pub(crate) enum Wanted {
 }
 
 /// How far a text was read: the section, the item in it, and what is wanted next.
-#[derive(Clone, Copy, Debug)]
+#[derive(Clone, Copy)]
 pub(crate) struct TextProgress {
     pub(crate) section: Section,
     pub(crate) wanted: Wanted,
@@ -296,46 +295,62 @@ fn count_of(word: &[u8]) -> u32 {
     count
 }
 
-/// What is wanted, in words.
-impl Display for TextProgress {
-    fn fmt<W: Write>(&self, f: &mut Formatter<W>) -> fmt::Result {
-        match self.wanted {
-            Wanted::Keyword => {
-                let keyword = self.section.keyword();
-                write!(f, "the keyword `{keyword}`")
-            }
-            Wanted::Count => {
-                let counted = self.section.counted();
-                write!(f, "the number of {counted}, a count in digits")
-            }
-            Wanted::Name => {
-                let item = self.section.item();
-                let index = self.index();
-                write!(f, "the name of {item} {index}")
-            }
-            Wanted::IntegerIndex | Wanted::RowIndex => f_index(self, f),
-            Wanted::RowCoefficient => f_part(self, f, "the number of pair"),
-            Wanted::EntryIndex => f_part(self, f, "the constraint's index of entry"),
-            Wanted::EntryMultiplier => f_part(self, f, "the multiplier of entry"),
-            Wanted::Branch => f.write_str(branch_part(self.part)),
-            other => f.write_str(plain(other)),
-        }
+/// Writes what is wanted.
+pub(crate) fn put_wanted(page: &mut Page, progress: &TextProgress) {
+    match progress.wanted {
+        Wanted::Keyword => put_wanted_keyword(page, progress.section),
+        Wanted::Count => put_wanted_count(page, progress.section),
+        Wanted::Name => put_wanted_name(page, progress),
+        Wanted::IntegerIndex | Wanted::RowIndex => put_wanted_index(page, progress.variables),
+        Wanted::RowCoefficient => put_wanted_part(page, progress, "the number of pair "),
+        Wanted::EntryIndex => put_wanted_part(page, progress, "the constraint's index of entry "),
+        Wanted::EntryMultiplier => put_wanted_part(page, progress, "the multiplier of entry "),
+        Wanted::Branch => page.put(branch_part(progress.part)),
+        other => page.put(plain(other)),
     }
 }
 
-// An index of a variable, in words.
-fn f_index<W: Write>(progress: &TextProgress, f: &mut Formatter<W>) -> fmt::Result {
-    match progress.variables.checked_sub(1) {
-        Some(last) => write!(f, "the index of a variable, 0 to {last}"),
-        None => f.write_str("the index of a variable, but there is none"),
+// A keyword.
+fn put_wanted_keyword(page: &mut Page, section: Section) {
+    page.put("the keyword `");
+    page.put(section.keyword());
+    page.put("`");
+}
+
+// A count.
+fn put_wanted_count(page: &mut Page, section: Section) {
+    page.put("the number of ");
+    page.put(section.counted());
+    page.put(", a count in digits");
+}
+
+// The name of an item.
+fn put_wanted_name(page: &mut Page, progress: &TextProgress) {
+    page.put("the name of ");
+    page.put(progress.section.item());
+    page.put(" ");
+    page.put_value(&progress.index());
+}
+
+// An index of a variable.
+fn put_wanted_index(page: &mut Page, variables: u32) {
+    page.put("the index of a variable, ");
+    match variables.checked_sub(1) {
+        Some(last) => {
+            page.put("0 to ");
+            page.put_value(&last);
+        }
+        None => page.put("but there is none"),
     }
 }
 
 // A part of an item with its position, counted from 0.
-fn f_part<W: Write>(progress: &TextProgress, f: &mut Formatter<W>, what: &str) -> fmt::Result {
-    let part = progress.part;
-    let parts = progress.parts;
-    write!(f, "{what} {part} (there are {parts}, counted from 0)")
+fn put_wanted_part(page: &mut Page, progress: &TextProgress, what: &str) {
+    page.put(what);
+    page.put_value(&progress.part);
+    page.put(" (there are ");
+    page.put_value(&progress.parts);
+    page.put(", counted from 0)");
 }
 
 // The numbers of `uns`, in words.

@@ -1,15 +1,13 @@
 //! The whole explanation of a verdict.
 
-use crate::draft::Draft;
 use crate::goal::{put_goal, put_no_proof};
 use crate::missing::Missing;
 use crate::page::Page;
 use crate::solution::{put_no_primal, put_solution};
 use crate::step::{put_dropped, put_step};
 use crate::syntax::put_syntax;
-use crate::text::Text;
+use crate::text::{Subject, Text};
 use std::alloc::Global;
-use std::fmt::Write;
 use vipr_check::{Detail, Place, Refusal, StepDetail, Verdict, cause};
 
 /// Explains a verdict on a text, which is read again, for people: the place at fault, what
@@ -26,22 +24,14 @@ pub fn explain_at_length<'a, T: Text>(
     verdict: &Verdict,
     detail: &Detail,
 ) -> Result<Page, Missing> {
-    let mut draft = Draft {
-        alloc,
-        text,
-        file,
-        page: Page::new(alloc),
-    };
-    draft.page.write_str("\n")?;
-    match verdict {
-        Verdict::Verified(report) => put_goal(&mut draft, report)?,
-        Verdict::Refused(refusal) => {
-            put_refusal(&mut draft, refusal, detail)?;
-            let number = refusal.cause;
-            write!(draft.page, "  = see: docs/FORMAT.md, cause {number}\n")?;
-        }
+    let subject = Subject { alloc, text, file };
+    let mut page = Page::new(alloc);
+    page.put("\n");
+    put_verdict(&mut page, &subject, verdict, detail)?;
+    if page.has_failed() {
+        return Err(Missing::Memory);
     }
-    Ok(draft.page)
+    Ok(page)
 }
 
 /// The explanation of a verdict, or a line that says why there is none: `text` is `None` for one
@@ -69,41 +59,60 @@ pub fn page_for<'a, T: Text>(
 // A page of one text.
 fn page_of(alloc: Global, text: &str) -> Option<Page> {
     let mut page = Page::new(alloc);
-    match page.write_str(text) {
-        Ok(()) => Some(page),
-        Err(_) => None,
+    page.put(text);
+    if page.has_failed() { None } else { Some(page) }
+}
+
+// Explains a verdict.
+fn put_verdict<T: Text>(
+    page: &mut Page,
+    subject: &Subject<'_, T>,
+    verdict: &Verdict,
+    detail: &Detail,
+) -> Result<(), Missing> {
+    match verdict {
+        Verdict::Verified(report) => put_goal(page, subject, report),
+        Verdict::Refused(refusal) => {
+            put_refusal(page, subject, refusal, detail)?;
+            page.put("  = see: docs/FORMAT.md, cause ");
+            page.put_value(&refusal.cause);
+            page.put("\n");
+            Ok(())
+        }
     }
 }
 
 // Explains a refusal.
 fn put_refusal<T: Text>(
-    draft: &mut Draft<'_, T>,
+    page: &mut Page,
+    subject: &Subject<'_, T>,
     refusal: &Refusal,
     detail: &Detail,
 ) -> Result<(), Missing> {
     match (refusal.place, detail) {
-        (Place::Byte(offset), _) => put_syntax(draft, refusal.cause, offset),
-        (Place::Sol(number), _) => put_solution(draft, number, detail),
+        (Place::Byte(offset), _) => put_syntax(page, subject, refusal.cause, offset),
+        (Place::Sol(number), _) => put_solution(page, subject, number, detail),
         (Place::Der(index), Detail::Step { what, .. }) => {
-            put_derivation(draft, refusal.cause, index, what)
+            put_derivation(page, subject, refusal.cause, index, what)
         }
-        (_, Detail::NoProof(goal)) => put_no_proof(draft, goal.as_ref()),
-        (_, Detail::NoPrimal(bound)) => put_no_primal(draft, *bound),
+        (_, Detail::NoProof(goal)) => put_no_proof(page, subject, goal.as_ref()),
+        (_, Detail::NoPrimal(bound)) => put_no_primal(page, subject, *bound),
         _ => Ok(()),
     }
 }
 
 // Explains a derivation that is refused.
 fn put_derivation<T: Text>(
-    draft: &mut Draft<'_, T>,
+    page: &mut Page,
+    subject: &Subject<'_, T>,
     cause: u8,
     index: u32,
     what: &StepDetail,
 ) -> Result<(), Missing> {
-    put_step(draft, cause, index, what)?;
+    put_step(page, subject, cause, index, what)?;
     match what {
         StepDetail::Index(dropped) if cause == cause::DROPPED => {
-            put_dropped(draft, *dropped, index)
+            put_dropped(page, subject, *dropped, index)
         }
         _ => Ok(()),
     }

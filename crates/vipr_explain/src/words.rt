@@ -18,6 +18,8 @@ pub(crate) struct Words<R> {
     word: Vec<u8>,
     size: usize,
     spot: Spot,
+    /// Whether a growth was refused.
+    lacks_memory: bool,
 }
 
 impl<R: Source + Drop> Words<R> {
@@ -29,18 +31,37 @@ impl<R: Source + Drop> Words<R> {
             word: Vec::new(alloc),
             size: 0,
             spot: Spot::start(),
+            lacks_memory: false,
         })
     }
 
     /// Reads the next token, and answers whether there is one.
-    pub(crate) fn next(&mut self) -> Result<bool, Missing> {
-        match self.first_byte()? {
+    pub(crate) fn next(&mut self) -> bool {
+        if self.lacks_memory {
+            return false;
+        }
+        match self.first_byte() {
             Some(byte) => {
                 self.in_front = false;
-                self.read_word(byte)?;
-                Ok(true)
+                self.read_word(byte);
+                true
             }
-            None => Ok(false),
+            None => false,
+        }
+    }
+
+    /// Whether each token up to here was read whole.
+    ///
+    /// # Errors
+    ///
+    /// `Text` if a read failed, `Memory` if a growth was refused.
+    pub(crate) fn check(&self) -> Result<(), Missing> {
+        if self.letters.has_failed() {
+            Err(Missing::Text)
+        } else if self.lacks_memory {
+            Err(Missing::Memory)
+        } else {
+            Ok(())
         }
     }
 
@@ -60,12 +81,12 @@ impl<R: Source + Drop> Words<R> {
     }
 
     // The first byte of the next token, whose place is kept.
-    fn first_byte(&mut self) -> Result<Option<u8>, Missing> {
+    fn first_byte(&mut self) -> Option<u8> {
         let mut in_comment = false;
         for _ in 0..u64::MAX {
             let spot = self.letters.spot();
-            let Some(byte) = self.letters.next()? else {
-                return Ok(None);
+            let Some(byte) = self.letters.next() else {
+                return None;
             };
             if in_comment {
                 in_comment = byte != b'\n';
@@ -73,28 +94,30 @@ impl<R: Source + Drop> Words<R> {
                 in_comment = true;
             } else if !is_white(byte) {
                 self.spot = spot;
-                return Ok(Some(byte));
+                return Some(byte);
             }
         }
-        Ok(None)
+        None
     }
 
     // Reads a token to its end, behind its first byte.
-    fn read_word(&mut self, first: u8) -> Result<(), Missing> {
+    fn read_word(&mut self, first: u8) {
         self.word.clear();
-        self.word.push(first)?;
-        self.size = 1;
+        self.size = 0;
+        self.take(first);
         for _ in 0..u64::MAX {
-            match self.letters.next()? {
-                Some(byte) if !is_white(byte) => {
-                    self.size = self.size.saturating_add(1);
-                    if self.word.len() < MOST_KEPT {
-                        self.word.push(byte)?;
-                    }
-                }
+            match self.letters.next() {
+                Some(byte) if !is_white(byte) => self.take(byte),
                 _ => break,
             }
         }
-        Ok(())
+    }
+
+    // Takes a byte of a token.
+    fn take(&mut self, byte: u8) {
+        self.size = self.size.saturating_add(1);
+        if self.word.len() < MOST_KEPT && self.word.push(byte).is_err() {
+            self.lacks_memory = true;
+        }
     }
 }

@@ -1,0 +1,159 @@
+//! A part of a line with carets below a place in it.
+
+use crate::missing::Missing;
+use crate::page::Page;
+use crate::text::{Letters, Spot, Subject, Text};
+use std::alloc::{AllocError, Global};
+use vipr_bytes::Source;
+
+/// How many bytes of a line are shown before a place, and from it on.
+const MOST_BEFORE: u64 = 60;
+
+const MOST_BEHIND: usize = 60;
+
+/// How many carets are shown.
+const MOST_CARETS: usize = 40;
+
+/// A part of a line: what is before a place, what is there, and whether more is behind it.
+#[derive(Drop)]
+pub(crate) struct Excerpt {
+    spot: Spot,
+    before: Vec<u8>,
+    behind: Vec<u8>,
+    is_cut: bool,
+}
+
+impl Excerpt {
+    /// Reads the part of a line round a place.
+    pub(crate) fn read<T: Text>(subject: &Subject<'_, T>, spot: Spot) -> Result<Excerpt, Missing> {
+        let mut letters = Letters::<T::Reader>::open(subject.text)?;
+        let mut excerpt = Excerpt {
+            spot,
+            before: Vec::new(subject.alloc),
+            behind: Vec::new(subject.alloc),
+            is_cut: false,
+        };
+        excerpt.fill(&mut letters)?;
+        if letters.has_failed() {
+            return Err(Missing::Text);
+        }
+        Ok(excerpt)
+    }
+
+    // Reads the part of a line from the start of its text.
+    fn fill<R: Source + Drop>(&mut self, letters: &mut Letters<R>) -> Result<(), AllocError> {
+        let before_count = self.spot.column.saturating_sub(1).min(MOST_BEFORE);
+        skip(letters, self.spot.offset.saturating_sub(before_count));
+        for _ in 0..before_count {
+            if let Some(byte) = letters.next() {
+                self.before.push(byte)?;
+            }
+        }
+        for _ in 0..4096 {
+            match letters.next() {
+                Some(byte) if byte != b'\n' && byte != b'\r' => self.take(byte)?,
+                _ => break,
+            }
+        }
+        Ok(())
+    }
+
+    // Takes a byte from the place on.
+    fn take(&mut self, byte: u8) -> Result<(), AllocError> {
+        if self.behind.len() < MOST_BEHIND {
+            self.behind.push(byte)?;
+        } else {
+            self.is_cut = true;
+        }
+        Ok(())
+    }
+
+    /// Shows the line, with carets below so many bytes of it and a label behind them.
+    pub(crate) fn put(&self, page: &mut Page, file: &str, size: usize, label: &str) {
+        let margin = digits_of(self.spot.line);
+        self.put_head(page, file, margin);
+        self.put_line(page);
+        self.put_carets(page, margin, size);
+        page.put(label);
+        page.put("\n");
+        page.put_spaces(margin);
+        page.put(" |\n");
+    }
+
+    // Shows where the place is.
+    fn put_head(&self, page: &mut Page, file: &str, margin: usize) {
+        page.put_spaces(margin);
+        page.put("--> ");
+        page.put(file);
+        page.put(":");
+        page.put_value(&self.spot.line);
+        page.put(":");
+        page.put_value(&self.spot.column);
+        page.put("\n");
+        page.put_spaces(margin);
+        page.put(" |\n");
+    }
+
+    // Shows the part of the line.
+    fn put_line(&self, page: &mut Page) {
+        page.put_value(&self.spot.line);
+        page.put(" | ");
+        page.put(self.front());
+        page.put_bytes(self.before.as_slice());
+        page.put_bytes(self.behind.as_slice());
+        page.put(if self.is_cut { "..\n" } else { "\n" });
+    }
+
+    // What stands for the bytes of the line that are left out in front.
+    fn front(&self) -> &'static str {
+        if self.spot.column > MOST_BEFORE.saturating_add(1) {
+            ".."
+        } else {
+            ""
+        }
+    }
+
+    // Shows the carets.
+    fn put_carets(&self, page: &mut Page, margin: usize, size: usize) {
+        page.put_spaces(margin);
+        page.put(" | ");
+        let indent = width_of(self.before.as_slice()).saturating_add(self.front().len());
+        page.put_spaces(indent);
+        page.put_carets(size.max(1).min(MOST_CARETS));
+        page.put(" ");
+    }
+}
+
+// Passes so many bytes.
+fn skip<R: Source + Drop>(letters: &mut Letters<R>, count: u64) {
+    for _ in 0..count {
+        let _ = letters.next();
+    }
+}
+
+// How many columns bytes take on a page.
+fn width_of(bytes: &[u8]) -> usize {
+    let mut width: usize = 0;
+    for byte in bytes {
+        let columns = match *byte {
+            9 | 32..=126 => 1,
+            _ => 4,
+        };
+        width = width.saturating_add(columns);
+    }
+    width
+}
+
+// How many digits a number has.
+fn digits_of(number: u64) -> usize {
+    let mut count: usize = 1;
+    let mut rest = number / 10;
+    for _ in 0..20 {
+        if rest == 0 {
+            break;
+        }
+        count = count.saturating_add(1);
+        rest /= 10;
+    }
+    count
+}
