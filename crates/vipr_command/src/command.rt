@@ -3,7 +3,7 @@ ghost use Rattle.std.specs.Prelude.{◌≡◌, ◌≤◌, IfOk, false, map, opti
 ghost use Rattle.clap.specs.Words.{kind_of};
 ghost use Rattle.vipr_command.specs.Args.{are_accepted};
 ghost use Rattle.vipr_command.specs.Run.{AnswersError, DoesJob, IsStatusFor, OfInput, RunsOver};
-ghost use Rattle.vipr_command.specs.Run.{read_from};
+ghost use Rattle.vipr_command.specs.Run.{read_from, unknown_input};
 
 use crate::args::job;
 use crate::check::print_verdict;

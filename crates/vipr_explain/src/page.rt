@@ -66,7 +66,7 @@ impl Page {
 
     /// Writes bytes of a stranger's text: each that isn't printable ASCII is escaped, a tab is a
     /// space.
-    pub(crate) fn put_bytes(&mut self, bytes: &[u8]) {
+    pub fn put_bytes(&mut self, bytes: &[u8]) {
         for byte in bytes {
             match *byte {
                 9 => self.put_byte(b' '),
