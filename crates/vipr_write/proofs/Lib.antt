@@ -17,3 +17,5 @@ mod SpelledNumbers
 mod SpelledRows
 mod SpelledTokens
 mod SpelledSections
+mod Kept
+mod StepLengths

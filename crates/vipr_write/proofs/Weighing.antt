@@ -23,21 +23,21 @@ use Rattle.vipr_write.proofs.LineTokens.{words_of}
 use Rattle.vipr_write.proofs.WholeText.{tokens_all}
 
 -- ---- how long a text is
-spaced_short : (ws : List (List ℕ)) → All IsToken ws → length (words_after_spaces ws) ≤ 65536 * length ws
+pub spaced_short : (ws : List (List ℕ)) → All IsToken ws → length (words_after_spaces ws) ≤ 65536 * length ws
 spaced_short [] a = omega arith
 spaced_short (w ∷ ws) a =
     let first = (All-head IsToken w ws a).short in
     let rest = spaced_short ws (All-tail IsToken w ws a) in
     omega (arith, length-append w (words_after_spaces ws), first, rest)
 
-line_short : (ws : List (List ℕ)) → All IsToken ws → length (line_text ws) ≤ 65536 * suc (length ws)
+pub line_short : (ws : List (List ℕ)) → All IsToken ws → length (line_text ws) ≤ 65536 * suc (length ws)
 line_short [] a = omega arith
 line_short (w ∷ ws) a =
     let first = (All-head IsToken w ws a).short in
     let rest = spaced_short ws (All-tail IsToken w ws a) in
     omega (arith, length-append w (words_after_spaces ws ++ 10 ∷ []), length-append (words_after_spaces ws) (10 ∷ []), first, rest)
 
-lines_short : (ls : List (List (List ℕ))) → All IsToken (words_of ls) → length (lines_text ls) ≤ 65536 * weight ls
+pub lines_short : (ls : List (List (List ℕ))) → All IsToken (words_of ls) → length (lines_text ls) ≤ 65536 * weight ls
 lines_short [] a = omega arith
 lines_short (l ∷ ls) a =
     let parts = all_parts IsToken l (words_of ls) a in
@@ -159,7 +159,7 @@ lines_fewer : {X : Type 0} (f g : X → List (List ℕ)) → ((x : X) → length
 lines_fewer f g h [] = omega arith
 lines_fewer f g h (x ∷ xs) = omega (arith, h x, lines_fewer f g h xs, weight-cons (f x) (map f xs), weight-cons (g x) (map g xs))
 
-problem_fewer : (form : Form) (p : Problem) → weight (problem_lines_in form p) ≤ weight (problem_lines p)
+pub problem_fewer : (form : Form) (p : Problem) → weight (problem_lines_in form p) ≤ weight (problem_lines p)
 problem_fewer form p =
     let start = codes "OBJ" ∷ direction_word p.direction ∷ [] in
     let counts = codes "CON" ∷ decimal (length p.constraints) ∷ decimal p.bound_count ∷ [] in

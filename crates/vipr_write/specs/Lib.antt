@@ -11,3 +11,4 @@ pub mod Gathered
 pub mod Weight
 pub mod Hands
 pub mod Carried
+pub mod Steps

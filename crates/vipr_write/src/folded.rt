@@ -93,7 +93,11 @@ fn append_row(folded: &mut Folded, row: &Row) -> Result<(), AllocError>
 }
 
 // The words of a constraint up to its row.
-fn append_start(text: &mut Vec<u8>, name: &Name, constraint: &Constraint) -> Result<(), AllocError>
+pub(crate) fn append_start(
+    text: &mut Vec<u8>,
+    name: &Name,
+    constraint: &Constraint,
+) -> Result<(), AllocError>
     ensures { OnOk result (text.new.items ≡ text.old.items
         ++ words_text (stated_words name.now (constraint_of constraint.now))) }
 {

@@ -11,7 +11,11 @@ ghost use Rattle.vipr_write.specs.Forms.{text_in};
 ghost use Rattle.vipr_write.specs.declared.form.Form.{Form};
 ghost use Rattle.vipr_write.specs.Hands.{counted};
 ghost use Rattle.vipr_write.specs.Weight.{weight};
+ghost use Rattle.std.specs.List.{sum_by};
+ghost use Rattle.vipr_spec.specs.Certificate.{Certificate as CertificateMeant};
+ghost use Rattle.vipr_write.specs.Steps.{step_weight, AreStepsOf};
 
+use crate::statements::{Statement, Statements, Step};
 use vipr_cert::{Certificate, Claim, Derivation, Named, Problem, Reason};
 use vipr_linear::{Constraint, Solution};
 
@@ -105,6 +109,45 @@ fn word_count(certificate: &Certificate) -> u64
     let total = problem_weight(certificate.problem());
     let total = more_solutions(more(total, 3, 0), certificate.solutions());
     more_derivations(more(total, 3, 0), certificate.derivations())
+}
+
+// With the bytes of a step's statement and the words of its reason.
+fn more_step(total: u64, statements: &Statements, step: &Step<Statement>) -> u64
+    ensures { result ≡ counted (total + step_weight statements.now step.now) }
+{
+    let own = statements.own_bytes(step.stated).len() as u64;
+    let row = statements.row_bytes(step.stated).len() as u64;
+    let total = total.saturating_add(own).saturating_add(row);
+    more_reason(more(total, 8, 0), &step.reason)
+}
+
+// With those of all steps.
+fn more_steps(total: u64, statements: &Statements, steps: &[Step<Statement>]) -> u64
+    ensures { result ≡ counted (total + sum_by (step_weight statements.now) steps.now) }
+{
+    let mut total = total;
+    for step in steps {
+        total = more_step(total, statements, step);
+    }
+    total
+}
+
+/// Whether the problem and the solutions have fewer than 2^48 words and lines, with the bytes of
+/// the statements and the words of the reasons.
+pub(crate) fn are_countable(
+    problem: &Problem,
+    solutions: &[Named<Solution>],
+    statements: &Statements,
+    steps: &[Step<Statement>],
+) -> bool
+    ensures { IsTrue result → (c : CertificateMeant)
+        → AreStepsOf c problem.now (map solution_of solutions.now) statements.now steps.now
+        → length (text_in statements.now.form c) < 2 ^ 64 }
+{
+    let total = problem_weight(problem);
+    let total = more_solutions(more(total, 3, 0), solutions);
+    let total = more_steps(more(total, 3, 0), statements, steps);
+    total < 1 << 48
 }
 
 /// Whether the text has fewer than 2^48 words and lines, each of at most 65,536 bytes.

@@ -180,8 +180,8 @@ fn put_sum<W: Sink>(text: &mut Pending, sink: &mut W, keyword: &[u8], entries: &
     put_counted(text, sink, entries);
 }
 
-// Why a derived constraint holds.
-fn put_reason<W: Sink>(text: &mut Pending, sink: &mut W, reason: &Reason)
+/// Why a derived constraint holds.
+pub(crate) fn put_reason<W: Sink>(text: &mut Pending, sink: &mut W, reason: &Reason)
     ensures { Puts W.output W.failures sink.old sink.new text.old text.new
         (words_after_spaces (reason_words (reason_of reason.now))) }
 {

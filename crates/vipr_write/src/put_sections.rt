@@ -81,8 +81,8 @@ fn put_constraints<W: Sink>(
     }
 }
 
-// What a certificate is about.
-fn put_problem<W: Sink>(text: &mut Pending, sink: &mut W, form: Form, problem: &Problem)
+/// What a certificate is about.
+pub(crate) fn put_problem<W: Sink>(text: &mut Pending, sink: &mut W, form: Form, problem: &Problem)
     ensures { Puts W.output W.failures sink.old sink.new text.old text.new
         (lines_text (problem_lines_in form problem.now)) }
 {
@@ -101,8 +101,12 @@ fn put_problem<W: Sink>(text: &mut Pending, sink: &mut W, form: Form, problem: &
     put_claim(text, sink, problem.claim());
 }
 
-// The listed solutions.
-fn put_solutions<W: Sink>(text: &mut Pending, sink: &mut W, solutions: &[Named<Solution>])
+/// The listed solutions.
+pub(crate) fn put_solutions<W: Sink>(
+    text: &mut Pending,
+    sink: &mut W,
+    solutions: &[Named<Solution>],
+)
     ensures { Puts W.output W.failures sink.old sink.new text.old text.new
         (lines_text (solutions_lines (map solution_of solutions.now))) }
 {

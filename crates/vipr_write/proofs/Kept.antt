@@ -1,0 +1,176 @@
+-- Steps whose names and constraints are kept in a text that grows
+use Rattle.std.proofs.Common.{◌≡◌, ℕ, suc, get_or, codes, IsTrue, ◌+◌, ◌-◌, ◌≤◌, Bool, true, false, ◌&&◌, nat_le, cond, List, [], ◌∷◌, ◌++◌, length, map, take, drop, slice_range, All, refl, sym, ap, ap₂, ◌∙◌, append_assoc, length-append, arith}
+use Rattle.std.specs.List.{flat_map}
+use Rattle.std.proofs.lemmas.Bool.Decides.{nat_tests}
+use Rattle.std.proofs.lemmas.List.{append-nil, take-append-le, drop-append-le, length-drop, map_push, length-take-le, take_at, take_all, take-append-drop}
+use Rattle.std.proofs.lemmas.List.Edits.{split_between}
+use Rattle.std.proofs.Math.Seq.{take-length, drop-length}
+use Rattle.std.proofs.lemmas.List.Elements.{All-push, All-head, All-tail, All-nil, All-cons}
+use Rattle.vipr_spec.specs.Number.{number_text}
+use Rattle.vipr_spec.specs.Fraction.{zero_ℚ}
+use Rattle.vipr_spec.specs.Constraint.{Row, Constraint, equal}
+use Rattle.vipr_write.specs.Canonical.{sense_word, reason_words, last_word, solutions_lines, heading, words_after_spaces, line_text, lines_text}
+use Rattle.vipr_spec.specs.Certificate.{Named, Problem, Derivation, Certificate}
+use Rattle.vipr_cert.specs.Items.{reason_of}
+use Rattle.vipr_write.specs.Forms.{row_words, constraint_words_in, derivation_words_in, problem_lines_in, derivations_lines_in, text_in}
+use Rattle.vipr_write.specs.Folded.{stated_words}
+use Rattle.vipr_write.specs.Lines.{words_text}
+use Rattle.vipr_write.specs.declared.form.Form.{Form}
+use Rattle.vipr_write.specs.declared.statements.Statement.{Statement}
+use Rattle.vipr_write.specs.declared.statements.Statements.{Statements}
+use Rattle.vipr_write.specs.declared.statements.Step.{Step}
+use Rattle.vipr_write.specs.Steps.{step_of, as_text, is_within, own_bytes, row_bytes, statement_in, SpellsRow, AreKept, AreStepsOf, step_line, steps_section}
+use Rattle.vipr_write.proofs.Folding.{derivation_is}
+use Rattle.vipr_write.proofs.Parts.{certificate_parts}
+
+both_true : (a b : Bool) → (a && b) ≡ true → (a ≡ true) × (b ≡ true)
+both_true true b h = (refl, h)
+both_true false b h = absurd (cc)
+
+at_most : (m n : ℕ) → nat_le m n ≡ true → m ≤ n
+at_most m n e = grind (arith, nat_tests)
+
+tests_true : (m n : ℕ) → m ≤ n → nat_le m n ≡ true
+tests_true m n h = grind (arith, nat_tests)
+
+-- a part of a text that grows
+part_same : (text more : List ℕ) (start end : ℕ) → start ≤ end → end ≤ length text → slice_range (text ++ more) start end ≡ slice_range text start end
+part_same text more start end a b =
+    let size = length-drop start text in
+    ap (take (end - start)) (drop-append-le start text more (omega arith)) ∙ take-append-le (end - start) (drop start text) more (omega arith)
+
+part_new : (text more : List ℕ) → slice_range (text ++ more) (length text) (length (text ++ more)) ≡ more
+part_new text more =
+    let size = length-append text more in
+    let long : length (text ++ more) - length text ≡ length more = omega arith in
+    ap (λ n. take n (drop (length text) (text ++ more))) long ∙ ap (take (length more)) (drop-append-le (length text) text more (omega arith) ∙ ap (λ l. l ++ more) (drop-length text)) ∙ take-length more
+
+module _ (text more : List ℕ) (s : Statement) (here : is_within text s ≡ true) where
+  within_both : (nat_le s.start s.end ≡ true) × (nat_le s.end (length text) ≡ true)
+  within_both = both_true (nat_le s.start s.end) (nat_le s.end (length text)) here
+
+  within_more : is_within (text ++ more) s ≡ true
+  within_more =
+      let size = length-append text more in
+      let end = at_most s.end (length text) within_both.1 in
+      ap₂ (λ a b. a && b) within_both.0 (tests_true s.end (length (text ++ more)) (omega arith))
+
+  own_same : own_bytes (text ++ more) s ≡ own_bytes text s
+  own_same =
+      ap (λ b. cond b (slice_range (text ++ more) s.start s.end) []) within_more
+      ∙ part_same text more s.start s.end (at_most s.start s.end within_both.0) (at_most s.end (length text) within_both.1)
+      ∙ sym (ap (λ b. cond b (slice_range text s.start s.end) []) here)
+
+-- the statement at the end of the text
+module _ (text more : List ℕ) (s : Statement) (start : s.start ≡ length text) (end : s.end ≡ length (text ++ more)) where
+  last_within : is_within (text ++ more) s ≡ true
+  last_within =
+      let size = length-append text more in
+      ap₂ (λ a b. a && b) (tests_true s.start s.end (omega arith)) (tests_true s.end (length (text ++ more)) (omega arith))
+
+  last_own : own_bytes (text ++ more) s ≡ more
+  last_own = ap (λ b. cond b (slice_range (text ++ more) s.start s.end) []) last_within ∙ ap₂ (slice_range (text ++ more)) start end ∙ part_new text more
+
+steps_same : (t u : Statements) (more : List ℕ) (steps : List (Step Statement)) → u.objective ≡ t.objective → u.spelled.items ≡ t.spelled.items → u.text.items ≡ t.text.items ++ more
+    → All (λ (s : Step Statement). is_within t.text.items s.stated ≡ true) steps
+    → (map (step_of (statement_in u)) steps ≡ map (step_of (statement_in t)) steps) × All (λ (s : Step Statement). is_within u.text.items s.stated ≡ true) steps
+steps_same t u more [] o r e a = (refl, All-nil (λ (s : Step Statement). is_within u.text.items s.stated ≡ true))
+steps_same t u more (s ∷ steps) o r e a =
+    let P = λ (x : Step Statement). is_within t.text.items x.stated ≡ true in
+    let rest = steps_same t u more steps o r e (All-tail P s steps a) in
+    let here = All-head P s steps a in
+    let name : own_bytes u.text.items s.stated ++ row_bytes u.spelled.items s.stated ≡ own_bytes t.text.items s.stated ++ row_bytes t.spelled.items s.stated =
+    ap₂ (λ x y. x ++ y) (ap (λ l. own_bytes l s.stated) e ∙ own_same t.text.items more s.stated here) (ap (λ l. row_bytes l s.stated) r) in
+    let one : step_of (statement_in u) s ≡ step_of (statement_in t) s =
+    ap₂ (λ n q. let d : Derivation = record { name = n; stated = record { row = q; sense = equal; bound = zero_ℚ }; reason = reason_of s.reason; last = s.last } in d) name o in
+    (ap₂ (λ x l. x ∷ l) one rest.0, All-cons (λ (x : Step Statement). is_within u.text.items x.stated ≡ true) s steps (ap (λ l. is_within l s.stated) e ∙ within_more t.text.items more s.stated here) rest.1)
+
+pub kept_more : (t u : Statements) (more : List ℕ) (s : Step Statement) (d : Derivation) (steps : List (Step Statement)) (ds : List Derivation) → u.form ≡ t.form → u.objective ≡ t.objective → u.spelled.items ≡ t.spelled.items → u.text.items ≡ t.text.items ++ more
+    → s.stated.start ≡ length t.text.items → s.stated.end ≡ length u.text.items
+    → (SpellsRow t → more ++ row_bytes t.spelled.items s.stated ≡ words_text (constraint_words_in t.form t.objective d.name d.stated)) → reason_of s.reason ≡ d.reason → s.last ≡ d.last
+    → AreKept t steps ds → AreKept u (steps ++ s ∷ []) (ds ++ d ∷ [])
+kept_more t u more s d steps ds f o r e start end words reason last kept =
+    let same = steps_same t u more steps o r e kept.within in
+    let there = end ∙ ap length e in
+    let P = λ (x : Step Statement). is_within u.text.items x.stated ≡ true in
+    let name : own_bytes u.text.items s.stated ++ row_bytes u.spelled.items s.stated ≡ words_text (constraint_words_in u.form u.objective d.name d.stated) =
+    ap₂ (λ x y. x ++ y) (ap (λ l. own_bytes l s.stated) e ∙ last_own t.text.items more s.stated start there) (ap (λ l. row_bytes l s.stated) r)
+    ∙ words kept.row ∙ sym (ap₂ (λ g q. words_text (constraint_words_in g q d.name d.stated)) f o) in
+    let one : step_of (statement_in u) s ≡ as_text u.form u.objective d =
+    λ i. let x : Derivation = record { name = name i; stated = record { row = u.objective; sense = equal; bound = zero_ℚ }; reason = reason i; last = last i } in x in
+    record {
+      row = r ∙ kept.row ∙ sym (ap₂ (λ g q. words_after_spaces (row_words g q q)) f o);
+      within = All-push P steps s same.1 (ap (λ l. is_within l s.stated) e ∙ last_within t.text.items more s.stated start there);
+      those = map_push (step_of (statement_in u)) steps s
+          ∙ ap₂ (λ l x. l ++ x ∷ []) (same.0 ∙ kept.those ∙ sym (ap₂ (λ g q. map (as_text g q) ds) f o)) one
+          ∙ sym (map_push (as_text u.form u.objective) ds d);
+    }
+
+-- ---- what is kept of one derivation
+
+with_row : (name sense number row : List ℕ) → (name ++ (32 ∷ sense ++ (32 ∷ number ++ []))) ++ row ≡ name ++ (32 ∷ sense ++ (32 ∷ number ++ row))
+with_row name sense number row =
+    ap (λ t. (name ++ (32 ∷ sense ++ (32 ∷ t))) ++ row) (append-nil number)
+    ∙ append_assoc name (32 ∷ sense ++ (32 ∷ number)) row
+    ∙ ap (λ t. name ++ (32 ∷ t)) (append_assoc sense (32 ∷ number) row)
+
+pub words_are : (form : Form) (objective : Row) (spelled : List ℕ) (name : List ℕ) (c : Constraint) (is_same : Bool) → spelled ≡ words_after_spaces (row_words form objective objective)
+    → (IsTrue is_same → row_words form objective c.row ≡ row_words form objective objective)
+    → (words_text (stated_words name c) ++ cond is_same [] (words_after_spaces (row_words form objective c.row))) ++ cond is_same spelled [] ≡ words_text (constraint_words_in form objective name c)
+words_are form objective spelled name c true row same =
+    let first = words_text (stated_words name c) in
+    ap (λ t. (first ++ []) ++ t) (row ∙ sym (ap words_after_spaces (same refl)))
+    ∙ ap (λ t. t ++ words_after_spaces (row_words form objective c.row)) (append-nil first)
+    ∙ with_row name (sense_word c.sense) (number_text c.bound) (words_after_spaces (row_words form objective c.row))
+words_are form objective spelled name c false row same =
+    append-nil (words_text (stated_words name c) ++ words_after_spaces (row_words form objective c.row))
+    ∙ with_row name (sense_word c.sense) (number_text c.bound) (words_after_spaces (row_words form objective c.row))
+
+-- ---- their lines
+
+tail : (start mid word : List ℕ) → (((((start ++ codes " {") ++ mid) ++ codes " }") ++ 32 ∷ word) ++ codes "\n") ≡ start ++ (codes " {" ++ (mid ++ (codes " }" ++ (32 ∷ word ++ codes "\n"))))
+tail start mid word = simp append_assoc
+
+pub step_parts : (own row mid word : List ℕ) → ((((((own ++ row) ++ codes " {") ++ mid) ++ codes " }") ++ 32 ∷ word) ++ codes "\n") ≡ (own ++ row) ++ (codes " {" ++ (mid ++ (codes " }" ++ (32 ∷ word ++ codes "\n"))))
+step_parts own row mid word = tail (own ++ row) mid word
+
+pub first_of : (d : Derivation) (xs ys : List Derivation) (a b : Derivation) → a ∷ xs ≡ b ∷ ys → a ≡ b
+first_of d xs ys a b e = ap (λ l. get_or l 0 d) e
+
+pub rest_of : (xs ys : List Derivation) (a b : Derivation) → a ∷ xs ≡ b ∷ ys → xs ≡ ys
+rest_of xs ys a b e = ap (drop 1) e
+
+pub line_is : (form : Form) (objective : Row) (t : Statements) (s : Step Statement) (d : Derivation) → step_of (statement_in t) s ≡ as_text form objective d → step_line t s ≡ line_text (derivation_words_in form objective d)
+line_is form objective t s d e =
+    ap (λ (x : Derivation). x.name ++ (codes " {" ++ (words_after_spaces (reason_words x.reason) ++ (codes " }" ++ (32 ∷ last_word x.last ++ codes "\n"))))) e
+    ∙ derivation_is form objective d
+
+lines_are : (form : Form) (objective : Row) (t : Statements) (steps : List (Step Statement)) (ds : List Derivation) → map (step_of (statement_in t)) steps ≡ map (as_text form objective) ds
+    → (length steps ≡ length ds) × (flat_map (step_line t) steps ≡ lines_text (map (derivation_words_in form objective) ds))
+lines_are form objective t [] [] e = (refl, refl)
+lines_are form objective t [] (d ∷ ds) e = absurd (let n = ap length e in omega arith)
+lines_are form objective t (s ∷ steps) [] e = absurd (let n = ap length e in omega arith)
+lines_are form objective t (s ∷ steps) (d ∷ ds) e =
+    let one = first_of d (map (step_of (statement_in t)) steps) (map (as_text form objective) ds) (step_of (statement_in t) s) (as_text form objective d) e in
+    let others = lines_are form objective t steps ds (rest_of (map (step_of (statement_in t)) steps) (map (as_text form objective) ds) (step_of (statement_in t) s) (as_text form objective d) e) in
+    (ap suc others.0, ap₂ (λ x l. x ++ l) (line_is form objective t s d one) others.1)
+
+pub steps_are : (c : Certificate) (p : Problem) (ss : List (Named Row)) (t : Statements) (steps : List (Step Statement)) → AreStepsOf c p ss t steps → (lines_text (problem_lines_in t.form p) ++ lines_text (solutions_lines ss)) ++ steps_section t steps ≡ text_in t.form c
+steps_are c p ss t steps of =
+    let lines = lines_are t.form t.objective t steps c.derivations of.those in
+    sym (certificate_parts t.form c
+    ∙ ap₂ (λ q rs. (lines_text (problem_lines_in t.form q) ++ lines_text (solutions_lines rs)) ++ lines_text (derivations_lines_in t.form c.problem.objective c.derivations)) of.problem of.solutions
+    ∙ ap (λ o. (lines_text (problem_lines_in t.form p) ++ lines_text (solutions_lines ss)) ++ lines_text (derivations_lines_in t.form o c.derivations)) (sym of.objective)
+    ∙ ap₂ (λ n l. (lines_text (problem_lines_in t.form p) ++ lines_text (solutions_lines ss)) ++ (line_text (heading (codes "DER") n) ++ l)) (sym lines.0) (sym lines.1))
+
+-- ---- a text in two parts
+
+pub take_both : (at end : ℕ) (xs : List ℕ) → at ≤ end → end ≤ length xs → take at xs ++ slice_range xs at end ≡ take end xs
+take_both at end xs a b =
+    let part = slice_range xs at end in
+    let rest = length-drop at xs in
+    let size : end ≡ length (take at xs ++ part) = omega (arith, length-append (take at xs) part, length-take-le at xs (omega arith), length-take-le (end - at) (drop at xs) (omega arith), rest) in
+    sym (ap (take end) (split_between xs at end a ∙ sym (append_assoc (take at xs) part (drop end xs))) ∙ take_at (take at xs ++ part) (drop end xs) end (sym size))
+
+pub take_rest : (at : ℕ) (xs : List ℕ) → take at xs ++ slice_range xs at (length xs) ≡ xs
+take_rest at xs = ap (λ l. take at xs ++ l) (take_all (length xs - at) (drop at xs) (let n = length-drop at xs in omega arith)) ∙ take-append-drop at xs

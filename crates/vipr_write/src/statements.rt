@@ -1,0 +1,132 @@
+//! Names and constraints of derivations, kept as they are written.
+//!
+//! [`Statements`] keeps them in one text, so that a derivation takes little memory until it is
+//! written. Its reason stays in a [`Step`].
+ghost use Rattle.std.specs.Prelude.{◌≡◌, ◌∷◌, ◌++◌, [], List, IfOk, OnOk, IsTrue, cond};
+ghost use Rattle.vipr_spec.specs.Certificate.{Derivation as DerivationMeant};
+ghost use Rattle.vipr_cert.specs.Items.{derivation_of};
+ghost use Rattle.vipr_write.specs.declared.statements.Statement.{Statement as StatementMeant};
+ghost use Rattle.vipr_write.specs.declared.statements.Step.{Step as StepMeant};
+ghost use Rattle.vipr_write.specs.Canonical.{words_after_spaces};
+ghost use Rattle.vipr_write.specs.Forms.{row_words};
+ghost use Rattle.vipr_write.specs.Steps.{own_bytes, row_bytes, AreKept};
+
+use crate::folded::append_start;
+use crate::form::Form;
+use crate::rows;
+use std::alloc::{AllocError, Global};
+use vipr_cert::{Derivation, Reason};
+use vipr_linear::Row;
+
+/// The place of a name and a constraint in a text. A row that is the objective's is left out.
+#[derive(Clone, Copy, Debug, Drop)]
+pub struct Statement {
+    pub(crate) start: usize,
+    pub(crate) end: usize,
+    pub(crate) is_cut: bool,
+}
+
+/// A derivation, of whose name and constraint this is kept.
+#[derive(Debug, Drop)]
+pub struct Step<S> {
+    pub stated: S,
+    pub reason: Reason,
+    /// The last derivation that refers to it by index, `None` if it is never dropped.
+    pub last: Option<u32>,
+}
+
+/// What is written of derivations up to their reasons, in one text.
+#[derive(Drop)]
+pub struct Statements {
+    pub(crate) form: Form,
+    pub(crate) objective: Row,
+    /// What is written for the objective's row.
+    pub(crate) spelled: Vec<u8>,
+    pub(crate) text: Vec<u8>,
+}
+
+// The words of a row, unless it is the objective's. Whether it is.
+fn append_other_row(
+    text: &mut Vec<u8>,
+    form: Form,
+    objective: &Row,
+    row: &Row,
+) -> Result<bool, AllocError>
+    ensures text { IfOk result (λ is_same. text.new.items ≡ text.old.items
+        ++ cond is_same [] (words_after_spaces (row_words form objective.now row.now))) }
+    ensures row { IfOk result (λ is_same. IsTrue is_same
+        → row_words form objective.now row.now ≡ row_words form objective.now objective.now) }
+{
+    let _entries = objective.entries();
+    let _others = row.entries();
+    if row.is_same(objective) {
+        return Ok(true);
+    }
+    rows::append_row(text, form, objective, row)?;
+    Ok(false)
+}
+
+impl Statements {
+    /// None so far, in this form and over this objective.
+    pub fn new(alloc: Global, form: Form, objective: &Row) -> Result<Statements, AllocError>
+        ensures form { IfOk result (λ t. t.form ≡ form) }
+        ensures objective { IfOk result (λ t. t.objective ≡ objective.now) }
+        ensures none { IfOk result (λ t. AreKept t [] []) }
+    {
+        let mut spelled = Vec::new(alloc);
+        rows::append_row(&mut spelled, form, objective, objective)?;
+        Ok(Statements {
+            form,
+            objective: objective.clone()?,
+            spelled,
+            text: Vec::new(alloc),
+        })
+    }
+
+    /// Keeps the name and the constraint of a derivation, and gives back the rest of it.
+    ///
+    /// # Errors
+    ///
+    /// If a growth is refused.
+    pub fn keep(&mut self, derivation: Derivation) -> Result<Step<Statement>, AllocError>
+        ensures form { OnOk result (self.new.form ≡ self.old.form) }
+        ensures objective { OnOk result (self.new.objective ≡ self.old.objective) }
+        ensures kept { IfOk result (λ s. (ss : List (StepMeant StatementMeant))
+            (ds : List DerivationMeant) → AreKept self.old ss ds
+            → AreKept self.new (ss ++ s ∷ []) (ds ++ derivation_of derivation ∷ [])) }
+    {
+        let start = self.text.len();
+        append_start(&mut self.text, &derivation.name, &derivation.constraint)?;
+        let is_cut = append_other_row(
+            &mut self.text,
+            self.form,
+            &self.objective,
+            &derivation.constraint.row,
+        )?;
+        let end = self.text.len();
+        let Derivation { reason, last, .. } = derivation;
+        Ok(Step {
+            stated: Statement { start, end, is_cut },
+            reason,
+            last,
+        })
+    }
+
+    /// What is kept of a statement alone, and nothing if it doesn't lie here.
+    pub(crate) fn own_bytes(&self, stated: Statement) -> &[u8]
+        ensures { result.now ≡ own_bytes self.now.text.items stated }
+    {
+        if stated.start <= stated.end && stated.end <= self.text.len() {
+            &self.text[stated.start..stated.end]
+        } else {
+            b""
+        }
+    }
+
+    /// What is written for the objective's row, if the statement ends before it.
+    pub(crate) fn row_bytes(&self, stated: Statement) -> &[u8]
+        ensures { result.now ≡ row_bytes self.now.spelled.items stated }
+    {
+        if stated.is_cut { &self.spelled } else { b"" }
+    }
+}
