@@ -1,11 +1,12 @@
 #!/usr/bin/env python3
-"""wrap.py: lines over 100 columns of src/*.rt and specs/**/*.antt are wrapped, and the must-fail edits mended.
+"""wrap.py: lines over 100 columns of src, specs and proofs are wrapped, and the must-fail edits mended.
 
 usage: wrap.py [ROOT] [--list] [--no-fmt]
 
-Contract clauses, definitions, records, `use` lines and comments are wrapped; `rt fmt` then lays the files out
-(it keeps line breaks and sets indentation), and both run again until nothing changes. Left alone: proofs, tests
-(files under src/ named tests*), Rust code that rt fmt lays out itself, and lines that hold a long string.
+Contract clauses, definitions, records, `use` lines and comments are wrapped, and of proofs `use` lines, comments and
+what a lemma states; `rt fmt` then lays the files out (it keeps line breaks and sets indentation), and both run again
+until nothing changes. Left alone: the proof of a lemma, tests (files under src/ named tests*), attributes, Rust code
+that rt fmt lays out itself, and lines that hold a long string.
 An edit whose `old:` text no longer stands on one line, once, is cut to a part that does. --list shows what is left.
 """
 import os
@@ -32,7 +33,7 @@ def write(path, text):
 
 
 def files(crate):
-    for part, end in (('src', '.rt'), ('specs', '.antt')):
+    for part, end in (('src', '.rt'), ('specs', '.antt'), ('proofs', '.antt')):
         for folder, subfolders, names in os.walk(os.path.join(CRATES, crate, part)):
             subfolders[:] = sorted(s for s in subfolders if not s.startswith('tests'))
             for name in sorted(names):
@@ -225,9 +226,25 @@ def in_ghost(lines, at):
     return False
 
 
+ATTRIBUTE = re.compile(r'\s*#!?\[')
+STATED = re.compile(r"(?:pub |abbrev |unfoldable )*[^\s:=]+ : ")
+
+
+def in_statement(lines, at):
+    """Whether line `at` of a proof file stands in what a lemma states: its name, a colon, and the lines indented below."""
+    while at > 0 and lines[at].startswith(' '):
+        at -= 1
+    return bool(STATED.match(lines[at]))
+
+
+def is_proof(path):
+    return os.sep + 'proofs' + os.sep in path
+
+
 def wrap_text(path, text):
     lines = text.split('\n')
     antt = path.endswith('.antt')
+    proof = is_proof(path)
     at = 0
     while at < len(lines):
         line = lines[at]
@@ -244,7 +261,7 @@ def wrap_text(path, text):
                 continue
         elif USE.match(line):
             new = wrapped_use(line)
-        elif antt or in_ghost(lines, at):
+        elif in_statement(lines, at) if proof else antt or in_ghost(lines, at) and not ATTRIBUTE.match(line):
             new = with_breaks(line)
         if new and new != [line]:
             lines[at:at + 1] = new
@@ -325,8 +342,11 @@ def left_over():
     out = []
     for crate in NAMES:
         for path in files(crate):
-            for n, line in enumerate(read(path).split('\n'), 1):
-                if len(line) > WIDTH and not long_string(line) and not re.match(r'\s*#!?\[tactic\(', line):
+            lines = read(path).split('\n')
+            for n, line in enumerate(lines, 1):
+                if is_proof(path) and not (USE.match(line) or COMMENT.match(line) or in_statement(lines, n - 1)):
+                    continue
+                if len(line) > WIDTH and not long_string(line) and not ATTRIBUTE.match(line):
                     out.append('%s:%d: (%d) %s' % (os.path.relpath(path, ROOT), n, len(line), line.strip()[:90]))
     return out
 

@@ -9,11 +9,14 @@ use Rattle.vipr_c.specs.Handed.{in_memory}
 use Rattle.vipr_c.specs.declared.answer.Answer.{Answer}
 use Rattle.vipr_c.specs.Written.{ReturnsText, WritesWhole, no_answer}
 
-pub shown_by : (F : Form) (bytes : List ℕ) (c : Certificate) (status : ℤ) (text : List ℕ) → IfKnown (in_memory bytes) (λ i. certificate_read (text_of i) ≡ Ok c) → IfWhole (in_memory bytes) (λ all. Spells all c)
+pub shown_by : (F : Form) (bytes : List ℕ) (c : Certificate) (status : ℤ) (text : List ℕ)
+    → IfKnown (in_memory bytes) (λ i. certificate_read (text_of i) ≡ Ok c)
+    → IfWhole (in_memory bytes) (λ all. Spells all c)
     → WritesWhole F c status text → ReturnsText F bytes status text no_answer
 shown_by F bytes c status text read spelled (inl (ok, is)) = record { is = inl (c, read, spelled, ok, is, refl) }
 shown_by F bytes c status text read spelled (inr lacks) = record { is = inr (inr (lacks, refl)) }
 
 -- the form and the status under other names
-pub renamed : (F G : Form) (bytes : List ℕ) (s t : ℤ) (text : List ℕ) (a : Answer) → F ≡ G → s ≡ t → ReturnsText F bytes s text a → ReturnsText G bytes t text a
+pub renamed : (F G : Form) (bytes : List ℕ) (s t : ℤ) (text : List ℕ) (a : Answer) → F ≡ G → s ≡ t
+    → ReturnsText F bytes s text a → ReturnsText G bytes t text a
 renamed F G bytes s t text a form status h = subst (λ f. ReturnsText f bytes t text a) form (subst (λ n. ReturnsText F bytes n text a) status h)

@@ -1,5 +1,6 @@
 -- Derivations that name earlier constraints alone, one after the other and all at once
-use Rattle.std.proofs.Common.{◌≡◌, ℕ, ◌+◌, ◌-◌, ◌<◌, ◌≤◌, List, [], ◌∷◌, ◌++◌, map, length, get_or, Option, Some, None, arith, refl, sym, ap, subst, ◌∙◌, inl, inr}
+use Rattle.std.proofs.Common.{◌≡◌, ℕ, ◌+◌, ◌-◌, ◌<◌, ◌≤◌, List, [], ◌∷◌, ◌++◌, map, length, get_or}
+use Rattle.std.proofs.Common.{Option, Some, None, arith, refl, sym, ap, subst, ◌∙◌, inl, inr}
 use Rattle.std.proofs.lemmas.Bool.{cases_lt}
 use Rattle.std.proofs.lemmas.List.{get_or-map, length-map, get_or_past}
 use Rattle.std.proofs.Math.ListN.{get_or-append}
@@ -16,7 +17,8 @@ use Rattle.vipr_cert.specs.Items.{reason_of, derivation_of}
 use Rattle.vipr_cert.specs.Earlier.{reason_in, NameEarlierFrom}
 use Rattle.vipr_cert.specs.declared.items.Derivation.{Derivation}
 
-pub reason_is : (ds : List Derivation) (i : ℕ) (d : Derivation) → i < length ds → d ≡ get_or ds i d → reason_in ds i ≡ Some (reason_of d.reason)
+pub reason_is : (ds : List Derivation) (i : ℕ) (d : Derivation) → i < length ds → d ≡ get_or ds i d
+    → reason_in ds i ≡ Some (reason_of d.reason)
 reason_is ds i d l is = get_or-map (λ (d : Derivation). Some (reason_of d.reason)) ds i d None l ∙ ap (λ (d : Derivation). Some (reason_of d.reason)) (sym is)
 
 pub none_yet : (from : ℕ) (ds : List Derivation) → NameEarlierFrom from ds 0
@@ -32,7 +34,8 @@ module _ (from : ℕ) (ds : List Derivation) (i : ℕ) (d : Derivation) (l : i <
   pub this_one : NameEarlierFrom from ds (length ds) → NamesEarlier (from + i) (Some (reason_of d.reason))
   this_one all = subst (NamesEarlier (from + i)) (reason_is ds i d l is) (all i l)
 
-pub up_to : (from : ℕ) (ds : List Derivation) (i : ℕ) → length ds ≤ i → NameEarlierFrom from ds i → NameEarlierFrom from ds (length ds)
+pub up_to : (from : ℕ) (ds : List Derivation) (i : ℕ) → length ds ≤ i → NameEarlierFrom from ds i
+    → NameEarlierFrom from ds (length ds)
 up_to from ds i far all k l = all k (omega (arith, far, l))
 
 -- the whole certificate

@@ -1,5 +1,7 @@
 -- A rising list of numbers is the members of its set, in order
-use Rattle.std.proofs.Common.{◌≡◌, ℕ, zero, suc, ◌+◌, ◌<◌, ◌≤◌, Bool, true, false, ◌||◌, cond, nat_eq, List, [], ◌∷◌, filter, All, refl, sym, ap, ◌∙◌, arith, inl, inr}
+use Rattle.std.proofs.Common.{◌≡◌, ℕ, zero, suc, ◌+◌, ◌<◌, ◌≤◌, Bool, true, false, ◌||◌, cond}
+use Rattle.std.proofs.Common.{nat_eq, List, [], ◌∷◌, filter, All, refl, sym, ap, ◌∙◌, arith, inl}
+use Rattle.std.proofs.Common.{inr}
 use Rattle.std.specs.List.{list_any, range_with_len}
 use Rattle.std.specs.List.Sorted.{IsStrictlyIncreasing}
 use Rattle.std.specs.FinSet.{contains, from_list}
@@ -7,7 +9,8 @@ use Rattle.std.specs.Ordering.{nat_cmp}
 use Rattle.std.proofs.lemmas.Bool.{cases_lt}
 use Rattle.std.proofs.lemmas.Bool.Decides.{nat_tests}
 use Rattle.std.proofs.lemmas.List.Elements.{All-head, All-tail}
-use Rattle.std.proofs.lemmas.Map.Keys.{sorted_tail, sorted_from_strictly_increasing, IsStrictlyIncreasing-from_sorted}
+use Rattle.std.proofs.lemmas.Map.Keys.{sorted_tail, sorted_from_strictly_increasing}
+use Rattle.std.proofs.lemmas.Map.Keys.{IsStrictlyIncreasing-from_sorted}
 use Rattle.vipr_spec.specs.Constraint.{Ints, IsInteger}
 use Rattle.vipr_linear.proofs.Laws.{member}
 use Rattle.vipr_cert.proofs.Within.{members_below}
@@ -21,7 +24,8 @@ abbrev BeginsFrom : ℕ → List ℕ → Type 0
 BeginsFrom low [] = Unit {0}
 BeginsFrom low (k ∷ ks) = low ≤ k
 
-rises : (low high : ℕ) (ks : List ℕ) → BeginsFrom low ks → IsStrictlyIncreasing ks → All (λ j. j < high) ks → Rises low high ks
+rises : (low high : ℕ) (ks : List ℕ) → BeginsFrom low ks → IsStrictlyIncreasing ks
+    → All (λ j. j < high) ks → Rises low high ks
 rises low high [] first up below = tt
 rises low high (k ∷ ks) first up below =
     (first, All-head (λ j. j < high) k ks below, rises (k + 1) high ks (second ks up) (IsStrictlyIncreasing-from_sorted ks (sorted_tail nat_cmp k ks (sorted_from_strictly_increasing (k ∷ ks) up))) (All-tail (λ j. j < high) k ks below))
@@ -30,19 +34,22 @@ rises low high (k ∷ ks) first up below =
     second [] up = tt
     second (j ∷ js) up = omega (arith, up 0 (omega arith))
 
-apart : (low high j : ℕ) (ks : List ℕ) → j < low → Rises low high ks → list_any (nat_eq j) ks ≡ false
+apart : (low high j : ℕ) (ks : List ℕ) → j < low → Rises low high ks
+    → list_any (nat_eq j) ks ≡ false
 apart low high j [] h r = refl
 apart low high j (k ∷ ks) h r = let first : nat_eq j k ≡ false = grind (arith, nat_tests) in rw first (apart (k + 1) high j ks (omega arith) r.2)
 
 -- tests that tell the same from low on keep the same
-kept_alike : (p q : ℕ → Bool) (low n : ℕ) → ((j : ℕ) → low ≤ j → p j ≡ q j) → filter p (range_with_len low n) ≡ filter q (range_with_len low n)
+kept_alike : (p q : ℕ → Bool) (low n : ℕ) → ((j : ℕ) → low ≤ j → p j ≡ q j)
+    → filter p (range_with_len low n) ≡ filter q (range_with_len low n)
 kept_alike p q low zero h = refl
 kept_alike p q low (suc n) h =
     let rest = kept_alike p q (low + 1) n (λ j l. h j (omega arith)) in
     let first = h low (omega arith) in
     λ i. cond (first i) (low ∷ rest i) (rest i)
 
-rising_kept : (low n high : ℕ) (ks : List ℕ) → high ≡ low + n → Rises low high ks → filter (λ j. list_any (nat_eq j) ks) (range_with_len low n) ≡ ks
+rising_kept : (low n high : ℕ) (ks : List ℕ) → high ≡ low + n → Rises low high ks
+    → filter (λ j. list_any (nat_eq j) ks) (range_with_len low n) ≡ ks
 rising_kept low zero high [] e r = refl
 rising_kept low zero high (k ∷ ks) e r = absurd (omega arith)
 rising_kept low (suc n) high [] e r = rising_kept (low + 1) n high [] (omega arith) tt
@@ -68,7 +75,9 @@ begins : (ks : List ℕ) → BeginsFrom 0 ks
 begins [] = tt
 begins (k ∷ ks) = omega arith
 
-pub members_are : (ks : List ℕ) (ints : Ints) (n : ℕ) → from_list ks ≡ ints → IsStrictlyIncreasing ks → ((j : ℕ) → IsInteger ints j → j < n) → filter (contains ints) (range_with_len 0 n) ≡ ks
+pub members_are : (ks : List ℕ) (ints : Ints) (n : ℕ) → from_list ks ≡ ints
+    → IsStrictlyIncreasing ks → ((j : ℕ) → IsInteger ints j → j < n)
+    → filter (contains ints) (range_with_len 0 n) ≡ ks
 members_are ks ints n e up below =
     ap (λ (s : Ints). filter (contains s) (range_with_len 0 n)) (sym e)
     ∙ kept_alike (contains (from_list {R = nat_cmp} ks)) (λ j. list_any (nat_eq j) ks) 0 n (λ j l. member ks j)

@@ -2,7 +2,8 @@
 use Rattle.std.proofs.Common.{◌≡◌, ℕ, ◌+◌, ◌<◌, ◌≤◌, List, length, All, get_or, subst, sym, ◌∙◌}
 use Rattle.std.specs.List.{AllWithin}
 use Rattle.std.proofs.lemmas.List.{get_or_default}
-use Rattle.std.proofs.lemmas.List.Elements.{AllWithin-none, AllWithin-more, AllWithin-upto, All-from_all_within}
+use Rattle.std.proofs.lemmas.List.Elements.{AllWithin-none, AllWithin-more, AllWithin-upto}
+use Rattle.std.proofs.lemmas.List.Elements.{All-from_all_within}
 
 module _ {A : Type 0} (P : A → Type 0) (xs : List A) where
   pub none_seen : AllWithin P xs 0 0

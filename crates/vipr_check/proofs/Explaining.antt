@@ -11,8 +11,11 @@ use Rattle.vipr_check.specs.declared.verdict.Refusal.{Refusal}
 use Rattle.vipr_check.specs.declared.verdict.Verdict.{Verdict}
 use Rattle.vipr_check.specs.declared.verdict.Verdict.TheVariants.{Refused}
 
-pub derivation_explained : (v : Verdict) (x : Detail) (r : Refusal) (i : ℕ) (name cause : List ℕ) → v ≡ Refused r → r.place ≡ Der i → Some name ≡ refused_name x → cause ≡ cause_name r.cause
-    → verdict_text v ++ (codes "\ncause " ++ (cause ++ (codes "\nderivation " ++ (decimal i ++ (codes " " ++ (name_text name ++ (codes "\n" ++ detail_text x))))))) ≡ explained_text v x
+pub derivation_explained : (v : Verdict) (x : Detail) (r : Refusal) (i : ℕ) (name cause : List ℕ)
+    → v ≡ Refused r → r.place ≡ Der i → Some name ≡ refused_name x → cause ≡ cause_name r.cause
+    → verdict_text v ++ (codes "\ncause " ++ (cause ++ (codes "\nderivation "
+    ++ (decimal i ++ (codes " " ++ (name_text name ++ (codes "\n" ++ detail_text x)))))))
+    ≡ explained_text v x
 derivation_explained v x r i name cause is place named called =
     ap (λ w. verdict_text w ++ (codes "\ncause " ++ (cause ++ (codes "\n" ++ behind_item (Der i) (Some name) (detail_text x))))) is
     ∙ ap (λ t. verdict_text (Refused r) ++ (codes "\ncause " ++ (t ++ (codes "\n" ++ behind_item (Der i) (Some name) (detail_text x))))) called

@@ -1,20 +1,30 @@
 -- A text item by item: what is answered for what is left is the answer for what was left before
-use Rattle.std.proofs.Common.{◌≡◌, ◌≢◌, ℕ, zero, suc, ◌+◌, ◌<◌, ◌^◌, true, false, List, [], ◌∷◌, ◌++◌, Some, None, Result, Ok, Err, inl, inr, arith, refl, sym, ◌∙◌, ap, subst}
+use Rattle.std.proofs.Common.{◌≡◌, ◌≢◌, ℕ, zero, suc, ◌+◌, ◌<◌, ◌^◌, true, false, List, [], ◌∷◌}
+use Rattle.std.proofs.Common.{◌++◌, Some, None, Result, Ok, Err, inl, inr, arith, refl, sym, ◌∙◌}
+use Rattle.std.proofs.Common.{ap, subst}
 use Rattle.std.specs.Prelude.{◌⊎◌, IsSome}
 use Rattle.vipr_scan.specs.Giving.{rest_of}
 use Rattle.std.proofs.lemmas.List.{length-append}
 use Rattle.vipr_spec.specs.Constraint.{Profile, Row, NamesBelow}
-use Rattle.vipr_spec.specs.Certificate.{Named, Problem, variables, Derivation, Certificate, MeetsPrimal, IsProof}
-use Rattle.vipr_spec.specs.Reading.{Rest, problem_read, solution_read, derivations_read, derivation_read, end_read}
+use Rattle.vipr_spec.specs.Certificate.{Named, Problem, variables, Derivation, Certificate}
+use Rattle.vipr_spec.specs.Certificate.{MeetsPrimal, IsProof}
+use Rattle.vipr_spec.specs.Reading.{Rest, problem_read, solution_read, derivations_read}
+use Rattle.vipr_spec.specs.Reading.{derivation_read, end_read}
 use Rattle.vipr_spec.specs.Steps.{step_tests, with_next, FirstFailing}
 use Rattle.vipr_spec.specs.Checking.{start}
-use Rattle.vipr_spec.specs.Tests.{spelled, PassesSolution, solution_tests, Detail, none, step, no_proof, no_primal, solution_detail, goal_needed_by}
+use Rattle.vipr_spec.specs.Tests.{spelled, PassesSolution, solution_tests, Detail, none, step}
+use Rattle.vipr_spec.specs.Tests.{no_proof, no_primal, solution_detail, goal_needed_by}
 use Rattle.vipr_spec.specs.Steps.{FirstFailing}
 use Rattle.vipr_rules.specs.Apply.{PassesTestsIn}
-use Rattle.vipr_spec.specs.Verdict.{Reports, Answer, verified, refuses, answer_of_test, Explained, IsExplained}
+use Rattle.vipr_spec.specs.Verdict.{Reports, Answer, verified, refuses, answer_of_test, Explained}
+use Rattle.vipr_spec.specs.Verdict.{IsExplained}
 use Rattle.vipr_spec.specs.Shape.{ReasonShape}
 use Rattle.vipr_spec.specs.Progress.{derivations_from, solutions_from}
-use Rattle.vipr_spec.proofs.Laws.{count_next, problem_fault, problem_ok, solution_fault, solution_passes, solution_fails, solutions_unmet, derivations_fault, derivations_begin, derivation_fault, derivation_passes, derivation_fails, end_fault, end_unproved, end_verified}
+use Rattle.vipr_spec.proofs.Laws.{count_next, problem_fault, problem_ok, solution_fault}
+use Rattle.vipr_spec.proofs.Laws.{solution_passes, solution_fails, solutions_unmet}
+use Rattle.vipr_spec.proofs.Laws.{derivations_fault, derivations_begin, derivation_fault}
+use Rattle.vipr_spec.proofs.Laws.{derivation_passes, derivation_fails, end_fault, end_unproved}
+use Rattle.vipr_spec.proofs.Laws.{end_verified}
 use Rattle.vipr_scan.specs.Faults.{Fails}
 use Rattle.vipr_scan.specs.declared.error.TextError.{TextError}
 use Rattle.vipr_read.specs.Items.{Items, Knows, Remembers}
@@ -30,7 +40,8 @@ use Rattle.vipr_check.specs.View.{report_of, refusal_of}
 use Rattle.vipr_check.specs.Shown.{finding_shown, primal_shown, halt_shown, state_shown}
 use Rattle.vipr_check.specs.Halts.{halt_answer}
 use Rattle.vipr_check.specs.Progress.{HasSolutions, HasSteps}
-use Rattle.vipr_check.specs.State.{State, HaltsBy, StopsSolution, TakesSolution, StopsEnd, EndsSolutions, StopsStep, TakesStep, StopsFinish, Finishes}
+use Rattle.vipr_check.specs.State.{State, HaltsBy, StopsSolution, TakesSolution, StopsEnd}
+use Rattle.vipr_check.specs.State.{EndsSolutions, StopsStep, TakesStep, StopsFinish, Finishes}
 use Rattle.vipr_check.specs.Reasons.{stop_reason, text_reason, SaysWhy}
 use Rattle.vipr_check.specs.Run.{IsAmong, HasListed, IsAt, HasReached, SaysWith}
 use Rattle.vipr_check.proofs.Answering.{SaysWhy-by, SaysWith-by, text_says}
@@ -49,19 +60,25 @@ first_unspent (Refused r f) e says is = cc
 first_unspent Memory e says is = cc
 
 -- what is said where a checker stopped
-stopped_says : (P : Answer → Detail → Type 0) (k l : State) (h : Halt) (e : Stop) → HaltsBy k h l e → SaysWhy P (halt_shown k.progress.problem (Some h)) (stop_reason (halt_answer h)) → SaysWhy P (state_shown l) (stop_reason e)
+stopped_says : (P : Answer → Detail → Type 0) (k l : State) (h : Halt) (e : Stop) → HaltsBy k h l e
+    → SaysWhy P (halt_shown k.progress.problem (Some h)) (stop_reason (halt_answer h))
+    → SaysWhy P (state_shown l) (stop_reason e)
 stopped_says P k l h e halts s = subst (λ x. SaysWhy P x (stop_reason e)) (sym (halted_shown k l h e halts)) (subst (λ t. SaysWhy P (halt_shown k.progress.problem (Some h)) (stop_reason t)) (sym halts.answer) s)
 
 -- ---- the derivations
 
 -- a derivation that was read has an index, and names variables of the problem
-pub room_for : (P : Profile) (c : Certificate) (k : State) (old : Items) (n : ℕ) → IsAt P c k old → old.left ≡ suc n → k.progress.rows.next + 1 < 2 ^ 32
+pub room_for : (P : Profile) (c : Certificate) (k : State) (old : Items) (n : ℕ) → IsAt P c k old
+    → old.left ≡ suc n → k.progress.rows.next + 1 < 2 ^ 32
 room_for P c k old n is e = let r = is.room in let next = is.has.rows.next in omega (arith, r, next, e)
 
-pub names_for : (P : Profile) (c : Certificate) (k : State) (old : Items) (row : ℕ → _) → IsAt P c k old → NamesBelow old.variables row → NamesBelow (variables k.progress.problem) row
+pub names_for : (P : Profile) (c : Certificate) (k : State) (old : Items) (row : ℕ → _)
+    → IsAt P c k old → NamesBelow old.variables row → NamesBelow (variables k.progress.problem) row
 names_for P c k old row is names = subst (λ p. NamesBelow (variables p) row) is.has.problem (subst (λ n. NamesBelow n row) is.knows.variables names)
 
-pub at_start : (P : Profile) (p : Problem) (ss : List (Named Row)) (k l : State) (r : Items) → IsAmong P p ss k r → EndsSolutions ss k l (Ok tt) → (new : Items) → Knows new p → new.failed ≡ false → new.constraints + new.left < 2 ^ 32
+pub at_start : (P : Profile) (p : Problem) (ss : List (Named Row)) (k l : State) (r : Items)
+    → IsAmong P p ss k r → EndsSolutions ss k l (Ok tt) → (new : Items) → Knows new p
+    → new.failed ≡ false → new.constraints + new.left < 2 ^ 32
     → IsAt P (start p ss) l new
 at_start P p ss k l r is h new knows unspent room = record {
   profile = ap (λ v. v.progress.profile) h.2 ∙ is.profile;
@@ -73,10 +90,12 @@ at_start P p ss k l r is h new knows unspent room = record {
   room = let e = knows.constraints in omega arith;
 }
 
-pub reached_now : (P : Profile) (c : Certificate) (k : State) (old : Items) → IsAt P c k old → HasReached P c old k old
+pub reached_now : (P : Profile) (c : Certificate) (k : State) (old : Items) → IsAt P c k old
+    → HasReached P c old k old
 reached_now P c k old is = record { now = c; is_at = is; leads = λ known. record { known = known; answers = λ a x h. h } }
 
-pub reached_later : (P : Profile) (c : Certificate) (k l : State) (old mid new : Items) → (h : HasReached P c old k mid) → HasReached P h.now mid l new → HasReached P c old l new
+pub reached_later : (P : Profile) (c : Certificate) (k l : State) (old mid new : Items)
+    → (h : HasReached P c old k mid) → HasReached P h.now mid l new → HasReached P c old l new
 reached_later P c k l old mid new h i = record {
   now = i.now;
   is_at = i.is_at;
@@ -84,10 +103,16 @@ reached_later P c k l old mid new h i = record {
 }
 
 -- an answer for what is left now is one for what was left before
-pub reached_says : (P : Profile) (c : Certificate) (k : State) (old mid : Items) (h : HasReached P c old k mid) → IsSome old.rest → (a : Answer) (x : Detail) → (IsSome mid.rest → Explained P (derivations_from h.now mid.left (rest_of mid.rest)) a x) → Explained P (derivations_from c old.left (rest_of old.rest)) a x
+pub reached_says : (P : Profile) (c : Certificate) (k : State) (old mid : Items)
+    (h : HasReached P c old k mid) → IsSome old.rest → (a : Answer) (x : Detail)
+    → (IsSome mid.rest → Explained P (derivations_from h.now mid.left (rest_of mid.rest)) a x)
+    → Explained P (derivations_from c old.left (rest_of old.rest)) a x
 reached_says P c k old mid h known a x s = let leads = h.leads known in leads.answers a x (s leads.known)
 
-pub reached_why : (P : Profile) (c : Certificate) (k : State) (old mid : Items) (h : HasReached P c old k mid) → IsSome old.rest → (x : Detail) (e : NoProof) → (IsSome mid.rest → SaysWhy (Explained P (derivations_from h.now mid.left (rest_of mid.rest))) x e) → SaysWhy (Explained P (derivations_from c old.left (rest_of old.rest))) x e
+pub reached_why : (P : Profile) (c : Certificate) (k : State) (old mid : Items)
+    (h : HasReached P c old k mid) → IsSome old.rest → (x : Detail) (e : NoProof) → (IsSome mid.rest
+    → SaysWhy (Explained P (derivations_from h.now mid.left (rest_of mid.rest))) x e)
+    → SaysWhy (Explained P (derivations_from c old.left (rest_of old.rest))) x e
 reached_why P c k old mid h known x e s = let leads = h.leads known in SaysWhy-by (Explained P (derivations_from h.now mid.left (rest_of mid.rest))) (Explained P (derivations_from c old.left (rest_of old.rest))) x e leads.answers (s leads.known)
 
 module _ (P : Profile) (c : Certificate) (k l : State) (old new : Items) (d : Derivation) (is : IsAt P c k old) (fewer : old.left ≡ suc new.left) where
@@ -131,14 +156,19 @@ module _ (P : Profile) (c : Certificate) (k l : State) (old new : Items) (d : De
     pub step_stops : ReasonShape d.reason → (e : Stop) → TakesStep c d k l (Err e) → IsSome old.rest → SaysWhy Left (state_shown l) (stop_reason e)
     step_stops few e (h, halts, why) known = stopped_says Left k l h e halts (step_stopped few k.progress.problem h (subst (λ Q. StopsStep Q c d h) is.profile why) known)
 
-pub derivation_missing : (P : Profile) (c : Certificate) (n : ℕ) (r : Rest) (x : Detail) (e : TextError) → x ≡ none → ((n ≡ 0) × Fails e (end_read r)) ⊎ ((0 < n) × Fails e (derivation_read c.problem r)) → SaysWhy (Explained P (derivations_from c n r)) x (text_reason e)
+pub derivation_missing : (P : Profile) (c : Certificate) (n : ℕ) (r : Rest) (x : Detail)
+    (e : TextError) → x ≡ none
+    → ((n ≡ 0) × Fails e (end_read r)) ⊎ ((0 < n) × Fails e (derivation_read c.problem r))
+    → SaysWhy (Explained P (derivations_from c n r)) x (text_reason e)
 derivation_missing P c n r x e shown (inl h) = subst (λ n. SaysWhy (Explained P (derivations_from c n r)) x (text_reason e)) (sym h.0) (text_says (Explained P (derivations_from c 0 r)) x e (end_read r) shown h.1 (λ f is. (end_fault P (answer_of_test (spelled f)) none c r f is).1 (refl, refl)))
 derivation_missing P c zero r x e shown (inr h) = absurd (let z = h.0 in omega arith)
 derivation_missing P c (suc n) r x e shown (inr h) = text_says (Explained P (derivations_from c (suc n) r)) x e (derivation_read c.problem r) shown h.1 (λ f is. (derivation_fault P (answer_of_test (spelled f)) none c n r f is).1 (refl, refl))
 
 -- ---- the end
 
-finish_stopped : (P : Profile) (c : Certificate) (r : Rest) (p : Problem) (h : Halt) → c.problem ≡ p → end_read r ≡ Ok tt → StopsFinish P c h → SaysWhy (Explained P (derivations_from c 0 r)) (halt_shown p (Some h)) (stop_reason (halt_answer h))
+finish_stopped : (P : Profile) (c : Certificate) (r : Rest) (p : Problem) (h : Halt) → c.problem ≡ p
+    → end_read r ≡ Ok tt → StopsFinish P c h → SaysWhy (Explained P (derivations_from c 0 r))
+    (halt_shown p (Some h)) (stop_reason (halt_answer h))
 finish_stopped P c r p Memory same end w = absurd w
 finish_stopped P c r p (Refused x f) same end (named, fails, refusal) =
     let shown : finding_shown p f ≡ no_proof (goal_needed_by c.problem c.problem.claim) = ap (finding_shown p) named ∙ ap (λ q. no_proof (goal_needed_by q q.claim)) (sym same) in
@@ -156,15 +186,19 @@ module _ (P : Profile) (c : Certificate) (k l : State) (r : Rest) (under : k.pro
 -- ---- the solutions
 
 -- where no memory is wanted, its want is not the reason
-pub never_memory : (ss : List (Named Row)) (s : Named Row) (k l : State) (e : Stop) → TakesSolution ss s k l (Err e) → e ≢ stop.Memory → stop_reason e ≢ reason.Memory
+pub never_memory : (ss : List (Named Row)) (s : Named Row) (k l : State) (e : Stop)
+    → TakesSolution ss s k l (Err e) → e ≢ stop.Memory → stop_reason e ≢ reason.Memory
 never_memory ss s k l (stop.Refused r) h n = λ is. cc
 never_memory ss s k l stop.Memory h n = absurd (n refl)
 never_memory ss s k l stop.Spent h n = absurd (first_unspent h.0 stop.Spent h.1.answer refl)
 
-pub listed_now : (P : Profile) (p : Problem) (ss : List (Named Row)) (k : State) (old : Items) → IsAmong P p ss k old → HasListed P p ss old k old
+pub listed_now : (P : Profile) (p : Problem) (ss : List (Named Row)) (k : State) (old : Items)
+    → IsAmong P p ss k old → HasListed P p ss old k old
 listed_now P p ss k old is = record { now = ss; is_among = is; known = λ t. t; answers = λ t a x h. h }
 
-pub listed_later : (P : Profile) (p : Problem) (ss : List (Named Row)) (k l : State) (old mid new : Items) → (h : HasListed P p ss old k mid) → HasListed P p h.now mid l new → HasListed P p ss old l new
+pub listed_later : (P : Profile) (p : Problem) (ss : List (Named Row)) (k l : State)
+    (old mid new : Items) → (h : HasListed P p ss old k mid) → HasListed P p h.now mid l new
+    → HasListed P p ss old l new
 listed_later P p ss k l old mid new h i = record {
   now = i.now;
   is_among = i.is_among;
@@ -173,11 +207,16 @@ listed_later P p ss k l old mid new h i = record {
 }
 
 -- an answer for what is left now is one for what was left before
-pub listed_says : (P : Profile) (p : Problem) (ss : List (Named Row)) (k : State) (old mid : Items) (h : HasListed P p ss old k mid) → IsSome old.rest → (x : Detail) (y : Result Report NoProof) → (IsSome mid.rest → SaysWith (Explained P (solutions_from p h.now mid.left (rest_of mid.rest))) x y) → SaysWith (Explained P (solutions_from p ss old.left (rest_of old.rest))) x y
+pub listed_says : (P : Profile) (p : Problem) (ss : List (Named Row)) (k : State) (old mid : Items)
+    (h : HasListed P p ss old k mid) → IsSome old.rest → (x : Detail) (y : Result Report NoProof)
+    → (IsSome mid.rest
+    → SaysWith (Explained P (solutions_from p h.now mid.left (rest_of mid.rest))) x y)
+    → SaysWith (Explained P (solutions_from p ss old.left (rest_of old.rest))) x y
 listed_says P p ss k old mid h known x y s = SaysWith-by (Explained P (solutions_from p h.now mid.left (rest_of mid.rest))) (Explained P (solutions_from p ss old.left (rest_of old.rest))) x y (h.answers known) (s (h.known known))
 
 -- there is a number for one more
-pub one_more : (P : Profile) (p : Problem) (ss : List (Named Row)) (k : State) (old : Items) → IsAmong P p ss k old → 0 < old.left → k.progress.solutions + 1 < 2 ^ 32
+pub one_more : (P : Profile) (p : Problem) (ss : List (Named Row)) (k : State) (old : Items)
+    → IsAmong P p ss k old → 0 < old.left → k.progress.solutions + 1 < 2 ^ 32
 one_more P p ss k old is some = let e = is.has.solutions in let r = is.room in omega (arith, e, r, some)
 
 module _ (P : Profile) (p : Problem) (ss : List (Named Row)) (k l : State) (old new : Items) (s : Named Row) (is : IsAmong P p ss k old) (fewer : old.left ≡ suc new.left) where
@@ -222,47 +261,69 @@ module _ (P : Profile) (p : Problem) (ss : List (Named Row)) (k l : State) (old 
     solution_stops e (h, halts, why) known = stopped_says Remaining k l h e halts
         (subst (λ q. SaysWhy Remaining (halt_shown q (Some h)) (stop_reason (halt_answer h))) (sym is.problem) (solution_stopped h (subst (λ q. StopsSolution q ss s h) is.problem why) known))
 
-solution_fault_at : (P : Profile) (p : Problem) (ss : List (Named Row)) (n : ℕ) (r : Rest) (x : Detail) (e : TextError) → x ≡ none → 0 < n → Fails e (solution_read p r) → SaysWhy (Explained P (solutions_from p ss n r)) x (text_reason e)
+solution_fault_at : (P : Profile) (p : Problem) (ss : List (Named Row)) (n : ℕ) (r : Rest)
+    (x : Detail) (e : TextError) → x ≡ none → 0 < n → Fails e (solution_read p r)
+    → SaysWhy (Explained P (solutions_from p ss n r)) x (text_reason e)
 solution_fault_at P p ss zero r x e shown lt h = absurd (omega arith)
 solution_fault_at P p ss (suc n) r x e shown lt h = text_says (Explained P (solutions_from p ss (suc n) r)) x e (solution_read p r) shown h (λ f is. (solution_fault P (answer_of_test (spelled f)) none p ss n r f is).1 (refl, refl))
 
-pub solution_missing : (P : Profile) (p : Problem) (ss : List (Named Row)) (n : ℕ) (r : Rest) (x : Detail) (e : TextError) → x ≡ none → ((n ≡ 0) × Fails {Y = Unit {0}} e (Ok tt)) ⊎ ((0 < n) × Fails e (solution_read p r)) → SaysWhy (Explained P (solutions_from p ss n r)) x (text_reason e)
+pub solution_missing : (P : Profile) (p : Problem) (ss : List (Named Row)) (n : ℕ) (r : Rest)
+    (x : Detail) (e : TextError) → x ≡ none
+    → ((n ≡ 0) × Fails {Y = Unit {0}} e (Ok tt)) ⊎ ((0 < n) × Fails e (solution_read p r))
+    → SaysWhy (Explained P (solutions_from p ss n r)) x (text_reason e)
 solution_missing P p ss n r x e shown (inl h) = text_says (Explained P (solutions_from p ss n r)) x e (Ok tt) shown h.1 (λ f is. absurd (cc is))
 solution_missing P p ss n r x e shown (inr h) = solution_fault_at P p ss n r x e shown h.0 h.1
 
 -- ---- their end
 
-ending_stopped : (P : Profile) (p : Problem) (ss : List (Named Row)) (r : Rest) (h : Halt) → StopsEnd p ss h → SaysWhy (Explained P (solutions_from p ss 0 r)) (halt_shown p (Some h)) (stop_reason (halt_answer h))
+ending_stopped : (P : Profile) (p : Problem) (ss : List (Named Row)) (r : Rest) (h : Halt)
+    → StopsEnd p ss h → SaysWhy (Explained P (solutions_from p ss 0 r)) (halt_shown p (Some h))
+    (stop_reason (halt_answer h))
 ending_stopped P p ss r Memory w = absurd w
 ending_stopped P p ss r (Refused x f) (named, fails, refusal) =
     let bound = missed_bound p ss p.claim fails in
     let shown : finding_shown p f ≡ no_primal bound.0 = ap (finding_shown p) named ∙ ap primal_shown bound.1 in
     (solutions_unmet P (refuses (refusal_of x)) (finding_shown p f) p ss r fails).1 (refusal, (bound.0, bound.1, shown))
 
-pub ending_unmet : (P : Profile) (p : Problem) (ss : List (Named Row)) (k l : State) (r : Rest) (e : Stop) → k.progress.problem ≡ p → EndsSolutions ss k l (Err e) → SaysWhy (Explained P (solutions_from p ss 0 r)) (state_shown l) (stop_reason e)
+pub ending_unmet : (P : Profile) (p : Problem) (ss : List (Named Row)) (k l : State) (r : Rest)
+    (e : Stop) → k.progress.problem ≡ p → EndsSolutions ss k l (Err e)
+    → SaysWhy (Explained P (solutions_from p ss 0 r)) (state_shown l) (stop_reason e)
 ending_unmet P p ss k l r e same (h, halts, why) = stopped_says (Explained P (solutions_from p ss 0 r)) k l h e halts
     (subst (λ q. SaysWhy (Explained P (solutions_from p ss 0 r)) (halt_shown q (Some h)) (stop_reason (halt_answer h))) (sym same) (ending_stopped P p ss r h (subst (λ q. StopsEnd q ss h) same why)))
 
-pub ending_met : (p : Problem) (ss : List (Named Row)) (k l : State) → k.progress.problem ≡ p → EndsSolutions ss k l (Ok tt) → MeetsPrimal p ss p.claim
+pub ending_met : (p : Problem) (ss : List (Named Row)) (k l : State) → k.progress.problem ≡ p
+    → EndsSolutions ss k l (Ok tt) → MeetsPrimal p ss p.claim
 ending_met p ss k l same h = subst (λ q. MeetsPrimal q ss q.claim) same h.0
 
-pub ending_failed : (P : Profile) (p : Problem) (ss : List (Named Row)) (r : Rest) (x : Detail) (e : TextError) → x ≡ none → MeetsPrimal p ss p.claim → Fails e (derivations_read p r) → SaysWhy (Explained P (solutions_from p ss 0 r)) x (text_reason e)
+pub ending_failed : (P : Profile) (p : Problem) (ss : List (Named Row)) (r : Rest) (x : Detail)
+    (e : TextError) → x ≡ none → MeetsPrimal p ss p.claim → Fails e (derivations_read p r)
+    → SaysWhy (Explained P (solutions_from p ss 0 r)) x (text_reason e)
 ending_failed P p ss r x e shown met h = text_says (Explained P (solutions_from p ss 0 r)) x e (derivations_read p r) shown h (λ f is. (derivations_fault P (answer_of_test (spelled f)) none p ss r f met is).1 (refl, refl))
 
-pub ending_read : (P : Profile) (p : Problem) (ss : List (Named Row)) (m : ℕ) (r s : Rest) (y : Detail) (x : Result Report NoProof) → MeetsPrimal p ss p.claim → derivations_read p r ≡ Ok (m, s) → SaysWith (Explained P (derivations_from (start p ss) m s)) y x → SaysWith (Explained P (solutions_from p ss 0 r)) y x
+pub ending_read : (P : Profile) (p : Problem) (ss : List (Named Row)) (m : ℕ) (r s : Rest)
+    (y : Detail) (x : Result Report NoProof) → MeetsPrimal p ss p.claim
+    → derivations_read p r ≡ Ok (m, s)
+    → SaysWith (Explained P (derivations_from (start p ss) m s)) y x
+    → SaysWith (Explained P (solutions_from p ss 0 r)) y x
 ending_read P p ss m r s y x met is h = SaysWith-by (Explained P (derivations_from (start p ss) m s)) (Explained P (solutions_from p ss 0 r)) y x (λ a z. (derivations_begin P a z p ss r m s met is).1) h
 
 -- the checker stays as it is, but for the phase
-pub ending_shown : (P : Profile) (p : Problem) (ss : List (Named Row)) (k l : State) (r : Items) → IsAmong P p ss k r → EndsSolutions ss k l (Ok tt) → state_shown l ≡ none
+pub ending_shown : (P : Profile) (p : Problem) (ss : List (Named Row)) (k l : State) (r : Items)
+    → IsAmong P p ss k r → EndsSolutions ss k l (Ok tt) → state_shown l ≡ none
 ending_shown P p ss k l r is h = ap state_shown h.2 ∙ unshown k is.runs
 
 -- ---- the problem
 
-pub among_start : (P : Profile) (p : Problem) (k : State) (r : Items) → k.progress.profile ≡ P → k.progress.problem ≡ p → HasSolutions [] k.progress → k.in_solutions ≡ true → k.halt ≡ None → Knows r p → r.failed ≡ false → r.left < 2 ^ 32 → IsAmong P p [] k r
+pub among_start : (P : Profile) (p : Problem) (k : State) (r : Items) → k.progress.profile ≡ P
+    → k.progress.problem ≡ p → HasSolutions [] k.progress → k.in_solutions ≡ true → k.halt ≡ None
+    → Knows r p → r.failed ≡ false → r.left < 2 ^ 32 → IsAmong P p [] k r
 among_start P p k r runs_by same has phase runs knows unspent room = record { profile = runs_by; problem = same; has = has; phase = phase; runs = runs; knows = knows; unspent = unspent; room = omega arith }
 
-pub problem_failed : (P : Profile) (r : Rest) (e : TextError) → Fails e (problem_read r) → SaysWhy (IsExplained P r) none (text_reason e)
+pub problem_failed : (P : Profile) (r : Rest) (e : TextError) → Fails e (problem_read r)
+    → SaysWhy (IsExplained P r) none (text_reason e)
 problem_failed P r e h = text_says (IsExplained P r) none e (problem_read r) refl h (λ f is. (problem_fault P (answer_of_test (spelled f)) none r f is).1 (refl, refl))
 
-pub problem_read_on : (P : Profile) (r : Rest) (p : Problem) (n : ℕ) (s : Rest) (y : Detail) (x : Result Report NoProof) → problem_read r ≡ Ok ((p, n), s) → SaysWith (Explained P (solutions_from p [] n s)) y x → SaysWith (IsExplained P r) y x
+pub problem_read_on : (P : Profile) (r : Rest) (p : Problem) (n : ℕ) (s : Rest) (y : Detail)
+    (x : Result Report NoProof) → problem_read r ≡ Ok ((p, n), s)
+    → SaysWith (Explained P (solutions_from p [] n s)) y x → SaysWith (IsExplained P r) y x
 problem_read_on P r p n s y x is h = SaysWith-by (Explained P (solutions_from p [] n s)) (IsExplained P r) y x (λ a z. (problem_ok P a z r p n s is).1) h

@@ -1,18 +1,31 @@
 -- What is shown where a checker stopped is what the definitions show
-use Rattle.std.proofs.Common.{◌≡◌, ℕ, ◌+◌, ◌<◌, ◌≤◌, min, Bool, true, false, List, [], ◌∷◌, ◌++◌, length, map, get_or, Option, Some, None, IfSome, Result, Ok, Err, IfOk, MatchResult, All, Contains, ◌⊎◌, if◌then◌else◌, refl, sym, ◌∙◌, ap, subst, inl, inr, arith}
+use Rattle.std.proofs.Common.{◌≡◌, ℕ, ◌+◌, ◌<◌, ◌≤◌, min, Bool, true, false, List, [], ◌∷◌, ◌++◌}
+use Rattle.std.proofs.Common.{length, map, get_or, Option, Some, None, IfSome, Result, Ok, Err}
+use Rattle.std.proofs.Common.{IfOk, MatchResult, All, Contains, ◌⊎◌, if◌then◌else◌, refl, sym, ◌∙◌}
+use Rattle.std.proofs.Common.{ap, subst, inl, inr, arith}
 use Rattle.std.specs.Prelude.{option_map, unwrap_or}
 use Rattle.std.specs.List.{flat_map, range_with_len}
 use Rattle.std.specs.FinSet.{contains}
 use Rattle.std.proofs.lemmas.List.{length-append, length-map, get_or-map}
-use Rattle.std.proofs.lemmas.List.Elements.{All-nil, All-cons, All-tail, All-append, All-map, All-filter, All-from_recursion}
+use Rattle.std.proofs.lemmas.List.Elements.{All-nil, All-cons, All-tail, All-append, All-map}
+use Rattle.std.proofs.lemmas.List.Elements.{All-filter, All-from_recursion}
 use Rattle.std.proofs.lemmas.List.FromFn.{length-range_with_len, get_or-range_with_len}
 use Rattle.vipr_spec.specs.Fraction.{ℚ}
 use Rattle.vipr_spec.specs.Constraint.{Profile, Row, at, Condition, condition}
-use Rattle.vipr_spec.specs.Certificate.{Named, Problem, variables, integer_variables, Claim, infeasible, range, primal_bound, objective_at, IsAsGood, MeetsPrimal, Reason, asm, lin, rnd, uns, sol, Derivation, Certificate}
+use Rattle.vipr_spec.specs.Certificate.{Named, Problem, variables, integer_variables, Claim}
+use Rattle.vipr_spec.specs.Certificate.{infeasible, range, primal_bound, objective_at, IsAsGood}
+use Rattle.vipr_spec.specs.Certificate.{MeetsPrimal, Reason, asm, lin, rnd, uns, sol, Derivation}
+use Rattle.vipr_spec.specs.Certificate.{Certificate}
 use Rattle.vipr_spec.specs.Reading.{most_count, is_nonzero}
 use Rattle.vipr_spec.specs.Shape.{ReasonShape}
-use Rattle.vipr_spec.specs.Steps.{PassesStep, StepTest, earlier, live, assumed, suitable, fitting, roundable, split, listed, by_sum, by_rounding, by_constraint, by_cutoff, StepDetail, index, position, sum, both, compared, nothing, Shows, FirstFailing, reference_tests, entry_tests, sum_tests, step_tests}
-use Rattle.vipr_spec.specs.Tests.{SolutionTest, whole_at, value_fits, holds, objective_fits, PassesSolution, solution_tests, finite_primal, name_at, names_of, none}
+use Rattle.vipr_spec.specs.Steps.{PassesStep, StepTest, earlier, live, assumed, suitable, fitting}
+use Rattle.vipr_spec.specs.Steps.{roundable, split, listed, by_sum, by_rounding, by_constraint}
+use Rattle.vipr_spec.specs.Steps.{by_cutoff, StepDetail, index, position, sum, both, compared}
+use Rattle.vipr_spec.specs.Steps.{nothing, Shows, FirstFailing, reference_tests, entry_tests}
+use Rattle.vipr_spec.specs.Steps.{sum_tests, step_tests}
+use Rattle.vipr_spec.specs.Tests.{SolutionTest, whole_at, value_fits, holds, objective_fits}
+use Rattle.vipr_spec.specs.Tests.{PassesSolution, solution_tests, finite_primal, name_at, names_of}
+use Rattle.vipr_spec.specs.Tests.{none}
 use Rattle.vipr_linear.specs.Constraint.{constraint_of}
 use Rattle.vipr_linear.specs.declared.constraint.Constraint.{Constraint}
 use Rattle.vipr_cert.specs.Items.{named_of}
@@ -58,7 +71,9 @@ module _ (p : Problem) where
 
 -- ---- names
 
-pub name_of_given : (p : Problem) (cons : List (NamedItem Constraint)) (i : ℕ) (n : NamedItem Constraint) → map (named_of constraint_of) cons ≡ p.constraints → i < length p.constraints
+pub name_of_given : (p : Problem) (cons : List (NamedItem Constraint)) (i : ℕ)
+    (n : NamedItem Constraint) → map (named_of constraint_of) cons ≡ p.constraints
+    → i < length p.constraints
     → (get_or cons i n).name ≡ name_at (names_of p.constraints) i
 name_of_given p cons i n same within =
     let as_many : length cons ≡ length p.constraints = sym (length-map cons (named_of constraint_of)) ∙ ap length same in
@@ -66,7 +81,8 @@ name_of_given p cons i n same within =
     sym (get_or-map (λ (m : Named _). m.name) p.constraints i (named_of constraint_of n) _ within ∙ ap (λ (m : Named _). m.name) named)
 
 -- a copy of one of two same names is the other
-pub copy_is : {E : Type 0} (r : Result (List ℕ) E) (x y : List ℕ) (Q : E → Type 0) → x ≡ y → MatchResult r (λ copy. copy ≡ x) Q → IfOk r (λ name. name ≡ y)
+pub copy_is : {E : Type 0} (r : Result (List ℕ) E) (x y : List ℕ) (Q : E → Type 0) → x ≡ y
+    → MatchResult r (λ copy. copy ≡ x) Q → IfOk r (λ name. name ≡ y)
 copy_is (Ok copy) x y Q e h = h ∙ e
 copy_is (Err f) x y Q e h = tt
 
@@ -79,7 +95,8 @@ some_bound : (o : Option ℚ) (P : ℚ → Type 0) → ¬ IfSome o P → (bound 
 some_bound None P n = absurd (n tt)
 some_bound (Some bound) P n = (bound, refl)
 
-pub missed_bound : (p : Problem) (ss : List (Named Row)) (k : Claim) → ¬ MeetsPrimal p ss k → (bound : ℚ) × (finite_primal p k ≡ Some bound)
+pub missed_bound : (p : Problem) (ss : List (Named Row)) (k : Claim) → ¬ MeetsPrimal p ss k
+    → (bound : ℚ) × (finite_primal p k ≡ Some bound)
 missed_bound p ss infeasible n = absurd (n tt)
 missed_bound p ss (range lower upper) n = some_bound (primal_bound p.direction lower upper) (MeetsBound p ss) n
 
@@ -93,7 +110,8 @@ FewIn (suitable es) = Few es
 FewIn (fitting es) = Few es
 FewIn _ = Unit {0}
 
-entries_few : (front es : List (ℕ × ℚ)) → length front + length es ≤ most_count → All FewIn (entry_tests front es)
+entries_few : (front es : List (ℕ × ℚ)) → length front + length es ≤ most_count
+    → All FewIn (entry_tests front es)
 unfolding entry_tests
 entries_few front [] h = All-nil FewIn
 entries_few front (e ∷ es) h =
@@ -124,7 +142,8 @@ abbrev IsFew : StepDetail → Type 0
 IsFew (position n) = n ≤ most_count
 IsFew _ = Unit {0}
 
-shows_few : (c : Certificate) (d : Condition) (t : StepTest) (x : StepDetail) → FewIn t → Shows c d t x → IsFew x
+shows_few : (c : Certificate) (d : Condition) (t : StepTest) (x : StepDetail) → FewIn t
+    → Shows c d t x → IsFew x
 shows_few c d (earlier i) x few h = subst IsFew (sym h) tt
 shows_few c d (live i) x few h = subst IsFew (sym h) tt
 shows_few c d (assumed l) x few h = subst IsFew (sym h) tt
@@ -148,16 +167,19 @@ capped_few (both x y) few = refl
 capped_few (compared x y) few = refl
 capped_few nothing few = refl
 
-rule_is : (e : RuleError) (m : ℕ) (x : StepDetail) → shown_by e ≡ Some (m, x) → IsFew x → rule_shown e ≡ x
+rule_is : (e : RuleError) (m : ℕ) (x : StepDetail) → shown_by e ≡ Some (m, x) → IsFew x
+    → rule_shown e ≡ x
 rule_is e m x h few = ap (λ o. unwrap_or (option_map (λ (p : ℕ × StepDetail). capped p.1) o) nothing) h ∙ capped_few x few
 
-pub stop_shown : (P : Profile) (c : Certificate) (d : Derivation) (e : RuleError) → ReasonShape d.reason → (s : StopsIn P c d (step_tests d.reason) e) → rule_shown e ≡ s.2.0
+pub stop_shown : (P : Profile) (c : Certificate) (d : Derivation) (e : RuleError)
+    → ReasonShape d.reason → (s : StopsIn P c d (step_tests d.reason) e) → rule_shown e ≡ s.2.0
 stop_shown P c d e few (t, first, (x, says, shows)) =
     rule_is e _ x says (shows_few c (condition d.stated) t x (failing_has (PassesStep P c (condition d.stated)) FewIn (step_tests d.reason) t (step_few d.reason few) first) shows)
 
 -- ---- checkers
 
-pub halted_shown : (k l : State) (h : Halt) (e : Stop) → HaltsBy k h l e → state_shown l ≡ halt_shown k.progress.problem (Some h)
+pub halted_shown : (k l : State) (h : Halt) (e : Stop) → HaltsBy k h l e
+    → state_shown l ≡ halt_shown k.progress.problem (Some h)
 halted_shown k l h e halts = by halts.kept
   where
     by : (l ≡ record k { halt = Some h }) ⊎ ((h ≡ Memory) × (l ≡ record k { halt = Some h; progress = record k.progress { rows = advance_table k.progress.rows } })) → state_shown l ≡ halt_shown k.progress.problem (Some h)

@@ -7,5 +7,6 @@ use Rattle.vipr_check.specs.declared.verdict.Report.{Report}
 use Rattle.vipr_check.specs.View.{report_of, IsOfProof}
 use Rattle.vipr_check.specs.State.{State, Finishes}
 
-pub report_of_proof : (P : Profile) (c : Certificate) (k l : State) (r : Report) → k.progress.profile ≡ P → Finishes c k l (Ok r) → IsOfProof P r
+pub report_of_proof : (P : Profile) (c : Certificate) (k l : State) (r : Report)
+    → k.progress.profile ≡ P → Finishes c k l (Ok r) → IsOfProof P r
 report_of_proof P c k l r e h = (c, subst (λ Q. IsProof Q c) e h.0, subst (λ Q. Reports Q c (report_of r)) e h.1, h.2)

@@ -1,5 +1,7 @@
 -- What clap's parse of the line says, for `job`.
-use Rattle.std.proofs.Common.{◌≡◌, ◌∙◌, ap, refl, sym, subst, true≢false, inl, inr, ◌⊎◌, List, [], ◌∷◌, Option, Some, None, Bool, true, false, codes, is_some, option_map, find, if◌then◌else◌, ◌&&◌}
+use Rattle.std.proofs.Common.{◌≡◌, ◌∙◌, ap, refl, sym, subst, true≢false, inl, inr, ◌⊎◌, List, []}
+use Rattle.std.proofs.Common.{◌∷◌, Option, Some, None, Bool, true, false, codes, is_some}
+use Rattle.std.proofs.Common.{option_map, find, if◌then◌else◌, ◌&&◌}
 use Rattle.std.specs.Prelude.{IfErr, Result, Ok, Err, IsErrAnd}
 use Rattle.clap.specs.declared.error.Error.{Error}
 use Rattle.clap.specs.Walk.{idle, nothing_held, stop_after, walk, walk_from, settled, finished}
@@ -10,13 +12,17 @@ use Rattle.clap.specs.declared.error.ErrorKind.TheVariants.{InvalidValue}
 use Rattle.clap.specs.Faults.{check_fault}
 use Rattle.clap.specs.Walk.{answers_to}
 use Rattle.clap.specs.Simple.{argument_words, built, entered, label_of, names_of, rows_at}
-use Rattle.clap.specs.Words.{Row, Shape, Text, fault_of, first_of, has_subcommand, is_simple, is_simple_and_free, kind_of, subcommand_name_of, subcommand_of, subcommand_rows_of, takes}
+use Rattle.clap.specs.Words.{Row, Shape, Text, fault_of, first_of, has_subcommand, is_simple}
+use Rattle.clap.specs.Words.{is_simple_and_free, kind_of, subcommand_name_of, subcommand_of}
+use Rattle.clap.specs.Words.{subcommand_rows_of, takes}
 use Rattle.clap.specs.declared.parser.matches.ArgMatches.{ArgMatches}
 use Rattle.clap.specs.declared.parser.matches.ArgMatches.TheViews.{out-ArgMatches}
 use Rattle.std.specs.Str.{bytes_eq}
 use Rattle.vipr_command.proofs.HelpLemmas.{NotHelp, met_help, never_met}
 use Rattle.vipr_rules.specs.declared.profile.Profile.{Profile}
-use Rattle.vipr_command.specs.Args.{are_accepted, request_of, asked_by, command_word, file_named, form_asked, is_long_asked, line, names_profile, profile_named, words_fault}
+use Rattle.vipr_command.specs.Args.{are_accepted, request_of, asked_by, command_word, file_named}
+use Rattle.vipr_command.specs.Args.{form_asked, is_long_asked, line, names_profile, profile_named}
+use Rattle.vipr_command.specs.Args.{words_fault}
 use Rattle.vipr_command.specs.declared.request.Job.{Job}
 use Rattle.vipr_command.specs.declared.request.Task.{Task}
 use Rattle.vipr_command.specs.declared.request.Task.TheVariants.{Check, Explain, Show, Tighten}
@@ -30,7 +36,8 @@ unfolding line
 is_free_line = refl
 
 -- the error that a `?` hands on
-pub handed_on : {T E : Type 0} (r : Result T E) (e : E) (P : E → Type 0) → IsErrAnd r (λ y. y ≡ e) → P e → IfErr r P
+pub handed_on : {T E : Type 0} (r : Result T E) (e : E) (P : E → Type 0) → IsErrAnd r (λ y. y ≡ e)
+    → P e → IfErr r P
 handed_on (Ok x) e P h p = absurd h
 handed_on (Err y) e P h p = subst P (sym h) p
 
@@ -52,7 +59,8 @@ last_none : (a b c d e : Kinds) → or_else a (or_else b (or_else c (or_else d e
 last_none a b c d e h = later_none d e (later_none c _ (later_none b _ (later_none a _ h)))
 
 -- a line with no fault names a subcommand
-names_one : (words : List Text) → fault_of line words ≡ [] → is_some (subcommand_of line words) ≡ true
+names_one : (words : List Text) → fault_of line words ≡ []
+    → is_some (subcommand_of line words) ≡ true
 names_one words h =
     let end = walk (built line).top.rules (names_of (built line)) nothing_held (argument_words line words) in
     required (finished (built line).top.rules end.held) _ (last_none
@@ -65,23 +73,28 @@ unfolding line
 enabled = refl
 
 -- nor does a line with no fault ask for help
-never_help : (words : List Text) → fault_of line words ≡ [] → NotHelp (stop_after (built line).top.rules (names_of (built line)) (argument_words line words))
+never_help : (words : List Text) → fault_of line words ≡ [] → NotHelp
+    (stop_after (built line).top.rules (names_of (built line)) (argument_words line words))
 never_help words h = never_met (built line).top (names_of (built line)) enabled nothing_held idle 1 false None (argument_words line words) tt (first_none _ _ h)
 
 is_some-map : {X Y : Type 0} (f : X → Y) (o : Option X) → is_some (option_map f o) ≡ is_some o
 is_some-map f None = refl
 is_some-map f (Some x) = refl
 
-pub never_without : (m : ArgMatches) (words : List Text) → subcommand_rows_of m ≡ subcommand_of line words → fault_of line words ≡ [] → has_subcommand m ≡ true
+pub never_without : (m : ArgMatches) (words : List Text)
+    → subcommand_rows_of m ≡ subcommand_of line words → fault_of line words ≡ []
+    → has_subcommand m ≡ true
 never_without m words e h = sym (is_some-map _ (out-ArgMatches m).subcommand) ∙ (ap is_some e ∙ names_one words h)
 
 -- the subcommand that was entered, from its parts
-parts : {X : Type 0} (f : X → Text × List Row) (o : Option X) (name : Text) (rows : List Row) → Some name ≡ option_map (λ x. (f x).0) o
+parts : {X : Type 0} (f : X → Text × List Row) (o : Option X) (name : Text) (rows : List Row)
+    → Some name ≡ option_map (λ x. (f x).0) o
     → Some rows ≡ option_map (λ p. p.1) (option_map f o) → option_map f o ≡ Some (name, rows)
 parts f None name rows n r = cc
 parts f (Some x) name rows n r = let h : name ≡ (f x).0 = cc in let k : rows ≡ (f x).1 = cc in rw (h, k) refl
 
-pub entered_is : (m : ArgMatches) (name : Text) (rows : List Row) → Some name ≡ subcommand_name_of m → Some rows ≡ option_map (λ p. p.1) (subcommand_rows_of m)
+pub entered_is : (m : ArgMatches) (name : Text) (rows : List Row) → Some name ≡ subcommand_name_of m
+    → Some rows ≡ option_map (λ p. p.1) (subcommand_rows_of m)
     → subcommand_rows_of m ≡ Some (name, rows)
 entered_is m name rows n r = parts _ (out-ArgMatches m).subcommand name rows n r
 
@@ -91,7 +104,8 @@ IsNamed [] word name = ⊥
 IsNamed (s ∷ ss) word name = ((s.name ≡ name) × (answers_to word (label_of s) ≡ true)) ⊎ IsNamed ss word name
 
 named_in : (subs : List Shape) (p : Text × List Text) (q : Text × List Row)
-    → option_map (λ s. rows_at s p.1) (find (λ s. answers_to p.0 (label_of s)) subs) ≡ Some q → IsNamed subs p.0 q.0
+    → option_map (λ s. rows_at s p.1) (find (λ s. answers_to p.0 (label_of s)) subs) ≡ Some q
+    → IsNamed subs p.0 q.0
 named_in [] p q h = cc
 named_in (s ∷ ss) p q h = go (answers_to p.0 (label_of s)) refl (named_in ss p q) h
   where
@@ -104,7 +118,8 @@ named_in (s ∷ ss) p q h = go (answers_to p.0 (label_of s)) refl (named_in ss p
     go false b rest e = inr (rest e)
 
 -- of the subcommands, `help` is the one that is no task
-one_of : (word name : Text) → IsNamed (built line).subs word name → bytes_eq word (codes "help") ≡ false → ((t : Task) → command_word t ≡ name → ⊥) → ⊥
+one_of : (word name : Text) → IsNamed (built line).subs word name
+    → bytes_eq word (codes "help") ≡ false → ((t : Task) → command_word t ≡ name → ⊥) → ⊥
 unfolding line
 one_of word name (inl (h, met)) other none = none Check h
 one_of word name (inr (inl (h, met))) other none = none Explain h
@@ -113,20 +128,29 @@ one_of word name (inr (inr (inr (inl (h, met))))) other none = none Tighten h
 one_of word name (inr (inr (inr (inr (inl (h, met)))))) other none = let bad = sym (met_help word met) ∙ other in true≢false bad
 one_of word name (inr (inr (inr (inr (inr h))))) other none = h
 
-stop_named : (stop : Option (Text × List Text)) (q : Text × List Row) → entered (built line) stop ≡ Some q → NotHelp stop → ((t : Task) → command_word t ≡ q.0 → ⊥) → ⊥
+stop_named : (stop : Option (Text × List Text)) (q : Text × List Row)
+    → entered (built line) stop ≡ Some q → NotHelp stop → ((t : Task) → command_word t ≡ q.0 → ⊥)
+    → ⊥
 stop_named None q h other none = cc
 stop_named (Some p) q h other none = one_of p.0 q.0 (named_in (built line).subs p q h) other none
 
 -- a subcommand that was entered is one of the tasks
-pub never_other : (words : List Text) (q : Text × List Row) → fault_of line words ≡ [] → subcommand_of line words ≡ Some q → ((t : Task) → command_word t ≡ q.0 → ⊥) → ⊥
+pub never_other : (words : List Text) (q : Text × List Row) → fault_of line words ≡ []
+    → subcommand_of line words ≡ Some q → ((t : Task) → command_word t ≡ q.0 → ⊥) → ⊥
 never_other words q f e none = stop_named _ q e (never_help words f) none
 
-pub failed_on : {T : Type 0} (r : Result T Error) (e : Error) (kinds : Kinds) → IsErrAnd r (λ y. y ≡ e) → HasKind kinds e → FailsBy kinds r
+pub failed_on : {T : Type 0} (r : Result T Error) (e : Error) (kinds : Kinds)
+    → IsErrAnd r (λ y. y ≡ e) → HasKind kinds e → FailsBy kinds r
 failed_on (Ok x) e kinds h k = absurd h
 failed_on (Err y) e kinds h k = subst (HasKind kinds) (sym h) k
 
-pub is_asked : (words : List Text) (j : Job) (name : Text) (rows : List Row) → subcommand_of line words ≡ Some (name, rows) → command_word j.command ≡ name → Some j.profile ≡ profile_named (first_of (codes "profile") rows) → j.form ≡ form_asked (first_of (codes "compact") rows)
-    → j.is_long ≡ is_long_asked (first_of (codes "long") rows) → option_map (λ s. s.now) j.file ≡ file_named (first_of (codes "file") rows) → option_map (λ s. s.now) j.out ≡ file_named (first_of (codes "out") rows)
+pub is_asked : (words : List Text) (j : Job) (name : Text) (rows : List Row)
+    → subcommand_of line words ≡ Some (name, rows) → command_word j.command ≡ name
+    → Some j.profile ≡ profile_named (first_of (codes "profile") rows)
+    → j.form ≡ form_asked (first_of (codes "compact") rows)
+    → j.is_long ≡ is_long_asked (first_of (codes "long") rows)
+    → option_map (λ s. s.now) j.file ≡ file_named (first_of (codes "file") rows)
+    → option_map (λ s. s.now) j.out ≡ file_named (first_of (codes "out") rows)
     → asked_by words ≡ Some (request_of j)
 is_asked words j name rows e n p g l f o = rw (e, n, p, g, l, f, o) refl
 
@@ -151,12 +175,14 @@ among_first k [] b h = absurd h
 among_first k (x ∷ xs) b h = h
 
 -- a fault of clap's parse is one of the words
-pub clap_fault : (words : List Text) (e : Error) → HasKind (fault_of line words) e → HasKind (words_fault words) e
+pub clap_fault : (words : List Text) (e : Error) → HasKind (fault_of line words) e
+    → HasKind (words_fault words) e
 clap_fault words e (inl memory) = inl memory
 clap_fault words e (inr among) = inr (among_first (kind_of e) (fault_of line words) _ among)
 
 -- where clap takes the words, their fault is that of the profile
-later_fault : (a : Kinds) (b : Bool) → a ≡ [] → or_else a (if b then [] else InvalidValue ∷ []) ≡ (if b then [] else InvalidValue ∷ [])
+later_fault : (a : Kinds) (b : Bool) → a ≡ []
+    → or_else a (if b then [] else InvalidValue ∷ []) ≡ (if b then [] else InvalidValue ∷ [])
 later_fault a b h = ap (λ x. or_else x (if b then [] else InvalidValue ∷ [])) h
 
 module _ (words : List Text) (name : Text) (rows : List Row) (e : subcommand_of line words ≡ Some (name, rows)) where

@@ -11,7 +11,8 @@ use Rattle.vipr_check.specs.declared.verdict.Verdict.{Verdict}
 use Rattle.vipr_command.specs.declared.fault.CommandFault.{CommandFault}
 use Rattle.vipr_command.specs.declared.fault.CommandFault.TheVariants.{Memory, Read, Write}
 use Rattle.vipr_command.specs.Output.{Took, Prints, PrintsMore, after_first}
-use Rattle.vipr_command.specs.Run.{KnownInput, PrintsAtLength, PrintsExplanation, fault_for, status_for}
+use Rattle.vipr_command.specs.Run.{KnownInput, PrintsAtLength, PrintsExplanation, fault_for}
+use Rattle.vipr_command.specs.Run.{status_for}
 use Rattle.vipr_command.proofs.ShowLemmas.{stays}
 
 -- nothing was explained

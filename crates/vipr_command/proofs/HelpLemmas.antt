@@ -1,5 +1,6 @@
 -- No walk over words that are at no fault stops at clap's own subcommand `help`.
-use Rattle.std.proofs.Common.{◌≡◌, ◌∙◌, ap, refl, sym, ℕ, List, [], ◌∷◌, ◌++◌, Option, Some, None, Bool, true, false, codes, if◌then◌else◌, ◌&&◌, ◌||◌, not, fold}
+use Rattle.std.proofs.Common.{◌≡◌, ◌∙◌, ap, refl, sym, ℕ, List, [], ◌∷◌, ◌++◌, Option, Some, None}
+use Rattle.std.proofs.Common.{Bool, true, false, codes, if◌then◌else◌, ◌&&◌, ◌||◌, not, fold}
 use Rattle.std.specs.Prelude.{⊤}
 use Rattle.std.specs.Str.{bytes_eq}
 use Rattle.std.proofs.lemmas.Slice.Eq.{bytes_eq-Decides}
@@ -8,7 +9,12 @@ use Rattle.clap.specs.Kinds.{Kinds, or_else}
 use Rattle.clap.specs.declared.error.ErrorKind.TheVariants.{DisplayHelp, InvalidSubcommand}
 use Rattle.clap.specs.Lexer.{long_of, short_of}
 use Rattle.clap.specs.Simple.{Shape}
-use Rattle.clap.specs.Walk.{Held, Names, Outcome, Rule, Step, Text, Waiting, Walk, after_flag, after_step, answers_to, arg_by_index, bundle, idle, long_or_other, long_met, next, option, plain_word, positional, short_or_plain, subcommand, subcommand_met, subcommand_or_other, to_positional, trailing, value, walked, word_met, done, waits, plain, refused, arg_by_long}
+use Rattle.clap.specs.Walk.{Held, Names, Outcome, Rule, Step, Text, Waiting, Walk, after_flag}
+use Rattle.clap.specs.Walk.{after_step, answers_to, arg_by_index, bundle, idle, long_or_other}
+use Rattle.clap.specs.Walk.{long_met, next, option, plain_word, positional, short_or_plain}
+use Rattle.clap.specs.Walk.{subcommand, subcommand_met, subcommand_or_other, to_positional}
+use Rattle.clap.specs.Walk.{trailing, value, walked, word_met, done, waits, plain, refused}
+use Rattle.clap.specs.Walk.{arg_by_long}
 
 -- a walk that stopped didn't stop at `help`
 abbrev pub NotHelp : Option (Text × List Text) → Type 0
@@ -20,26 +26,31 @@ abbrev NoHelp : Step → Type 0
 NoHelp (subcommand name) = bytes_eq name (codes "help") ≡ false
 NoHelp _ = ⊤
 
-plain_fine : (c : List Rule) (waiting : Waiting) (word : Text) (h : Held) → NoHelp (plain_word c waiting word h).1
+plain_fine : (c : List Rule) (waiting : Waiting) (word : Text) (h : Held)
+    → NoHelp (plain_word c waiting word h).1
 plain_fine c idle word h = tt
 plain_fine c (option id) word h = tt
 plain_fine c positional word h = tt
 
-flag_fine : (c : List Rule) (waiting : Waiting) (word : Text) (h : Held) (o : Outcome) → NoHelp (after_flag c waiting word h o).1
+flag_fine : (c : List Rule) (waiting : Waiting) (word : Text) (h : Held) (o : Outcome)
+    → NoHelp (after_flag c waiting word h o).1
 flag_fine c waiting word h done = tt
 flag_fine c waiting word h (waits id) = tt
 flag_fine c waiting word h plain = plain_fine c waiting word h
 flag_fine c waiting word h refused = plain_fine c waiting word h
 
-short_fine : (c : List Rule) (waiting : Waiting) (word : Text) (o : Option Text) (h : Held) → NoHelp (short_or_plain c waiting word o h).1
+short_fine : (c : List Rule) (waiting : Waiting) (word : Text) (o : Option Text) (h : Held)
+    → NoHelp (short_or_plain c waiting word o h).1
 short_fine c waiting word (Some flags) h = flag_fine c waiting word (bundle c flags h).0 (bundle c flags h).1
 short_fine c waiting word None h = plain_fine c waiting word h
 
-other_fine : (c : List Rule) (waiting : Waiting) (word : Text) (o : Option (Text × Option Text)) (h : Held) → NoHelp (long_or_other c waiting word o h).1
+other_fine : (c : List Rule) (waiting : Waiting) (word : Text) (o : Option (Text × Option Text))
+    (h : Held) → NoHelp (long_or_other c waiting word o h).1
 other_fine c waiting word (Some p) h = flag_fine c waiting word (long_met c (arg_by_long c p.0) p.1 h).0 (long_met c (arg_by_long c p.0) p.1 h).1
 other_fine c waiting word None h = short_fine c waiting word (short_of word) h
 
-dashes_fine : (c : List Rule) (waiting : Waiting) (position : ℕ) (word : Text) (h : Held) (b : Bool) (x : Held × Step) → NoHelp x.1 → NoHelp (if b then (h, trailing position) else x).1
+dashes_fine : (c : List Rule) (waiting : Waiting) (position : ℕ) (word : Text) (h : Held) (b : Bool)
+    (x : Held × Step) → NoHelp x.1 → NoHelp (if b then (h, trailing position) else x).1
 dashes_fine c waiting position word h true x fine = tt
 dashes_fine c waiting position word h false x fine = fine
 
@@ -92,7 +103,8 @@ module _ (s : Shape) (names : Names) (enabled : s.disable_help_subcommand ≡ fa
       (step_fine word before met.0 met.1 tt (word_fine is_trailing waiting position word h none)) (later_of (turn_fault s names before word) _ e)
 
 -- what `help` answers to is `help`
-pub met_help : (word : Text) → answers_to word (codes "help", []) ≡ true → bytes_eq word (codes "help") ≡ true
+pub met_help : (word : Text) → answers_to word (codes "help", []) ≡ true
+    → bytes_eq word (codes "help") ≡ true
 met_help word met = (bytes_eq-Decides word (codes "help")).1 (sym ((bytes_eq-Decides (codes "help") word).0 (either _ met)))
   where
     either : (b : Bool) → (b || false) ≡ true → b ≡ true

@@ -5,15 +5,18 @@ use Rattle.vipr_bytes.specs.Known.{IfKnown}
 use Rattle.vipr_command.specs.Run.{KnownInput, OfInput, known_by, unknown_input}
 
 -- what is so of each input is so of the one that is known
-pub if_known : (source : Option Input) (P Q : Input → Type 0) → ((i : Input) → P i → Q i) → IfKnown source P → IfKnown source Q
+pub if_known : (source : Option Input) (P Q : Input → Type 0) → ((i : Input) → P i → Q i)
+    → IfKnown source P → IfKnown source Q
 if_known None P Q given h = tt
 if_known (Some i) P Q given h = λ short. given i (h short)
 
 -- what follows whatever is known of the input
-pub of_input : (source : Option Input) (P Q : KnownInput → Type 0) → ((k : KnownInput) → P k → Q k) → OfInput source P → OfInput source Q
+pub of_input : (source : Option Input) (P Q : KnownInput → Type 0) → ((k : KnownInput) → P k → Q k)
+    → OfInput source P → OfInput source Q
 of_input source P Q given h = (given unknown_input h.0, if_known source (λ i. P (known_by i)) (λ i. Q (known_by i)) (λ i. given (known_by i)) h.1)
 
 -- what is so whatever is known of the input
-pub of_any : (source : Option Input) (Q : KnownInput → Type 0) → ((k : KnownInput) → Q k) → OfInput source Q
+pub of_any : (source : Option Input) (Q : KnownInput → Type 0) → ((k : KnownInput) → Q k)
+    → OfInput source Q
 of_any None Q given = (given unknown_input, tt)
 of_any (Some i) Q given = (given unknown_input, λ short. given (known_by i))

@@ -1,5 +1,7 @@
--- What the program answers if the words aren't taken, if nothing is known of the output, and from what is read
-use Rattle.std.proofs.Common.{◌≡◌, Bor, option_map, ℕ, List, Option, Some, None, Result, Ok, Err, Bool, true, false, inl, inr, refl, sym, subst}
+-- What the program answers if the words aren't taken, if nothing is known of the output, and from
+-- what is read
+use Rattle.std.proofs.Common.{◌≡◌, Bor, option_map, ℕ, List, Option, Some, None, Result, Ok, Err}
+use Rattle.std.proofs.Common.{Bool, true, false, inl, inr, refl, sym, subst}
 use Rattle.std.specs.Prelude.{IfOk}
 use Rattle.clap.specs.Words.{HasKind, Text, kind_of}
 use Rattle.clap.specs.declared.error.Error.{Error}
@@ -16,7 +18,8 @@ use Rattle.vipr_tighten.specs.declared.outcome.Outcome.TheVariants.{Tightened, R
 use Rattle.vipr_tighten.specs.declared.outcome.TightenFault.{TightenFault}
 use Rattle.vipr_tighten.specs.declared.outcome.TightenFault.TheVariants as tighten
 use Rattle.vipr_command.specs.Args.{are_accepted, request_of, asked_by, words_fault}
-use Rattle.vipr_command.specs.Run.{AnswersError, Declines, Does, DoesJob, IsStatusFor, KnownInput, OfInput, RunsOver, exit_status, read_from, unknown_input}
+use Rattle.vipr_command.specs.Run.{AnswersError, Declines, Does, DoesJob, IsStatusFor, KnownInput}
+use Rattle.vipr_command.specs.Run.{OfInput, RunsOver, exit_status, read_from, unknown_input}
 use Rattle.vipr_command.specs.Show.{Kind, ShowsText}
 use Rattle.vipr_command.proofs.InputLemmas.{of_any}
 use Rattle.vipr_command.proofs.ShowLemmas.{stays}
@@ -28,7 +31,9 @@ use Rattle.vipr_command.specs.declared.request.Job.{Job}
 use Rattle.vipr_command.specs.declared.request.Task.{Task}
 use Rattle.vipr_command.specs.declared.request.Task.TheVariants.{Check, Explain, Show, Tighten}
 
-pub declined : (words : List Text) (k : KnownInput) (e : Error) (old new : Option Output) (r : Result ℕ CommandFault) → HasKind (words_fault words) e → AnswersError (kind_of e) old new r → RunsOver words k old new r
+pub declined : (words : List Text) (k : KnownInput) (e : Error) (old new : Option Output)
+    (r : Result ℕ CommandFault) → HasKind (words_fault words) e → AnswersError (kind_of e) old new r
+    → RunsOver words k old new r
 declined words k e old new r (inl memory) (inl (other, d)) = absurd (other memory)
 declined words k e old new r (inr among) (inl (other, d)) = inr (inl (kind_of e, among, d))
 declined words k e old new r has (inr (memory, l)) = inr (inr l)
@@ -38,33 +43,41 @@ not_true true n = absurd (n refl)
 not_true false n = refl
 
 -- status 2 is for words that aren't taken
-pub wrong_words : (words : List Text) (k : ErrorKind) (old new : Option Output) (r : Result ℕ CommandFault) → (are_accepted words ≡ true → k ≡ OutOfMemory) → AnswersError k old new r → IfOk r (λ s. s ≡ 2 → are_accepted words ≡ false)
+pub wrong_words : (words : List Text) (k : ErrorKind) (old new : Option Output)
+    (r : Result ℕ CommandFault) → (are_accepted words ≡ true → k ≡ OutOfMemory)
+    → AnswersError k old new r → IfOk r (λ s. s ≡ 2 → are_accepted words ≡ false)
 wrong_words words k old new (Err f) h a = tt
 wrong_words words k old new (Ok s) h (inl (other, d)) = λ two. not_true (are_accepted words) (λ t. other (h t))
 wrong_words words k old new (Ok s) h (inr (memory, (is, stays))) = λ two. let bad : Ok s ≡ Err Memory = is in cc
 
-declines_untold : (k : ErrorKind) (old new : Option Output) (r : Result ℕ CommandFault) → Declines k old new r → Declines k None None r
+declines_untold : (k : ErrorKind) (old new : Option Output) (r : Result ℕ CommandFault)
+    → Declines k old new r → Declines k None None r
 declines_untold k old new (Ok s) (inl (help, is, (text, took))) = inl (help, is, (text, tt))
 declines_untold k old new (Ok s) (inr (other, is, stays)) = inr (other, is, tt)
 declines_untold k old new (Err Read) d = d
 declines_untold k old new (Err Memory) d = tt
 declines_untold k old new (Err (Write n)) (help, (text, took)) = (help, (text, tt))
 
-shows_untold : (F : Form) (k : Kind) (old new : Option Output) (r : Result Shown CommandFault) → ShowsText F k old new r → ShowsText F k None None r
+shows_untold : (F : Form) (k : Kind) (old new : Option Output) (r : Result Shown CommandFault)
+    → ShowsText F k old new r → ShowsText F k None None r
 shows_untold F k old new (Ok shown.Whole) (c, is, took) = (c, is, tt)
 shows_untold F k old new (Ok (shown.Refused x)) (is, stays) = (is, tt)
 shows_untold F k old new (Err Read) (is, stays) = (is, tt)
 shows_untold F k old new (Err Memory) stays = tt
 shows_untold F k old new (Err (Write n)) (c, is, took) = (c, is, tt)
 
-tightens_untold : (P : Profile) (F : Form) (k : KindOfText) (old new : Option Output) (r : Result Outcome TightenFault) → TightensText P F k old new r → TightensText P F k None None r
+tightens_untold : (P : Profile) (F : Form) (k : KindOfText) (old new : Option Output)
+    (r : Result Outcome TightenFault) → TightensText P F k old new r
+    → TightensText P F k None None r
 tightens_untold P F k old new (Ok (Tightened a b p q)) (c, goal, is, proof, tight, (figures, accepted)) = (c, goal, is, proof, tight, (figures, tt))
 tightens_untold P F k old new (Ok (Refused x)) (is, stays) = (is, tt)
 tightens_untold P F k old new (Err tighten.Read) (is, stays) = (is, tt)
 tightens_untold P F k old new (Err (tighten.Memory n)) (is, stays) = (is, tt)
 tightens_untold P F k old new (Err (tighten.Write n)) (c, goal, is, proof, tight, (less, accepted)) = (c, goal, is, proof, tight, (less, tt))
 
-does_untold : (t : Task) (P : Profile) (F : Form) (l : Bool) (out : Option Text) (k : KnownInput) (old new : Option Output) (r : Result ℕ CommandFault) → Does t P F l out k old new r → Does t P F l out k None None r
+does_untold : (t : Task) (P : Profile) (F : Form) (l : Bool) (out : Option Text) (k : KnownInput)
+    (old new : Option Output) (r : Result ℕ CommandFault) → Does t P F l out k old new r
+    → Does t P F l out k None None r
 does_untold Check P F l out k old new (Ok s) (v, decided, is, took) = (v, decided, is, tt)
 does_untold Check P F l out k old new (Err Read) (decided, stays) = (decided, tt)
 does_untold Check P F l out k old new (Err Memory) stays = tt
@@ -82,16 +95,19 @@ does_untold Show P F l out k old new (Err f) shows = shows_untold F k.kind old n
 does_untold Tighten P F l None k old new r (x, is, tightens) = (x, is, tightens_untold P F (k.proof P) old new x tightens)
 does_untold Tighten P F l (Some out) k old new r (tightened, stays) = (tightened, tt)
 
-untold : (words : List Text) (k : KnownInput) (old new : Option Output) (r : Result ℕ CommandFault) → RunsOver words k old new r → RunsOver words k None None r
+untold : (words : List Text) (k : KnownInput) (old new : Option Output) (r : Result ℕ CommandFault)
+    → RunsOver words k old new r → RunsOver words k None None r
 untold words k old new r (inl (t, P, F, l, file, out, request_of, does)) = inl (t, P, F, l, file, out, request_of, does_untold t (profile_of P) F l out (read_from file k) old new r does)
 untold words k old new r (inr (inl (e, among, declines))) = inr (inl (e, among, declines_untold e old new r declines))
 untold words k old new r (inr (inr (is, stays))) = inr (inr (is, tt))
 
-pub fits : (words : List Text) (old new : Option Output) (r : Result ℕ CommandFault) → RunsOver words unknown_input old new r → IsStatusFor words (exit_status r)
+pub fits : (words : List Text) (old new : Option Output) (r : Result ℕ CommandFault)
+    → RunsOver words unknown_input old new r → IsStatusFor words (exit_status r)
 fits words old new r obeys = (r, refl, untold words unknown_input old new r obeys)
 
 -- a file that can't be opened
-unread : (t : Task) (P : Profile) (F : Form) (l : Bool) (out : Option Text) (old : Option Output) → Does t P F l out unknown_input old old (Err Read)
+unread : (t : Task) (P : Profile) (F : Form) (l : Bool) (out : Option Text) (old : Option Output)
+    → Does t P F l out unknown_input old old (Err Read)
 unread Check P F l out old = (tt, stays old)
 unread Explain P F false out old = (tt, stays old)
 unread Explain P F true out old = (tt, stays old)
@@ -123,5 +139,7 @@ module _ (j : Job) (source : Option Input) (old new : Option Output) (r : Result
   done_as t is done = subst (λ (t : Task). OfInput source (λ k. Does t (profile_of j.profile) j.form j.is_long (named j.out) k old new r)) (sym is) done
 
 -- the words ask for what is done
-pub obeyed : (words : List Text) (j : Job) → asked_by words ≡ Some (request_of j) → (k : KnownInput) (old new : Option Output) (r : Result ℕ CommandFault) → DoesJob j (read_from (named j.file) k) old new r → RunsOver words k old new r
+pub obeyed : (words : List Text) (j : Job) → asked_by words ≡ Some (request_of j)
+    → (k : KnownInput) (old new : Option Output) (r : Result ℕ CommandFault)
+    → DoesJob j (read_from (named j.file) k) old new r → RunsOver words k old new r
 obeyed words j is k old new r done = inl (j.command, j.profile, j.form, j.is_long, named j.file, named j.out, is, done)

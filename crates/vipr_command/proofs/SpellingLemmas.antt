@@ -1,10 +1,15 @@
 -- A certificate's text, made while the certificate is read
-use Rattle.std.proofs.Common.{◌≡◌, ◌≢◌, ◌⊎◌, ◌↔◌, Bool, true, false, None, Some, IsErrOf, ℕ, zero, suc, ◌+◌, ◌<◌, List, [], ◌∷◌, ◌++◌, length, map, codes, Option, Result, Ok, Err, IsSome, inl, inr, refl, sym, ap, subst, ◌∙◌, append_assoc, arith}
+use Rattle.std.proofs.Common.{◌≡◌, ◌≢◌, ◌⊎◌, ◌↔◌, Bool, true, false, None, Some, IsErrOf, ℕ, zero}
+use Rattle.std.proofs.Common.{suc, ◌+◌, ◌<◌, List, [], ◌∷◌, ◌++◌, length, map, codes, Option}
+use Rattle.std.proofs.Common.{Result, Ok, Err, IsSome, inl, inr, refl, sym, ap, subst, ◌∙◌}
+use Rattle.std.proofs.Common.{append_assoc, arith}
 use Rattle.std.proofs.lemmas.List.{append-nil, length-append, map_push}
 use Rattle.std.proofs.lemmas.Grind.{flat_map-append}
 use Rattle.vipr_spec.specs.Constraint.{Row}
 use Rattle.vipr_spec.specs.Certificate.{Named, Problem, Derivation}
-use Rattle.vipr_spec.specs.Reading.{Rest, Fault, Read, ◌>>=◌, read_each, problem_read, solution_read, derivations_read, derivation_read, end_read, certificate_read}
+use Rattle.vipr_spec.specs.Reading.{Rest, Fault, Read, ◌>>=◌, read_each, problem_read}
+use Rattle.vipr_spec.specs.Reading.{solution_read, derivations_read, derivation_read, end_read}
+use Rattle.vipr_spec.specs.Reading.{certificate_read}
 use Rattle.vipr_spec.specs.Input.{Input}
 use Rattle.vipr_bytes.specs.Known.{text_of, IfKnown}
 use Rattle.vipr_scan.specs.Giving.{rest_of}
@@ -20,14 +25,16 @@ use Rattle.vipr_write.specs.declared.form.Form.{Form}
 use Rattle.vipr_command.specs.Spelling.{HasAppended, Respells, RespellsText}
 
 -- a fault is that of what goes on after it
-pub fails_first : {X Y : Type 0} (e : TextError) (r : Result X Fault) (f : X → Result Y Fault) → Fails e r → Fails e (r >>= f)
+pub fails_first : {X Y : Type 0} (e : TextError) (r : Result X Fault) (f : X → Result Y Fault)
+    → Fails e r → Fails e (r >>= f)
 fails_first (error.Refused c o) r f h = rw h refl
 fails_first error.Read r f h = rw h refl
 fails_first error.Memory r f h = tt
 fails_first error.Spent r f h = absurd h
 
 -- the error is none of a reader that failed before
-pub unspent : {X : Type 0} (r : Result X TextError) (e : TextError) (failed : Bool) → r ≡ Err e → (IsErrOf r error.Spent ↔ (failed ≡ true)) → failed ≡ false → e ≢ error.Spent
+pub unspent : {X : Type 0} (r : Result X TextError) (e : TextError) (failed : Bool) → r ≡ Err e
+    → (IsErrOf r error.Spent ↔ (failed ≡ true)) → failed ≡ false → e ≢ error.Spent
 unspent {X} r e failed is spent working = λ s. let bad : failed ≡ true = spent.0 (is ∙ ap (λ (f : TextError). the_error f) s) in cc
   where
     the_error : TextError → Result X TextError
@@ -137,7 +144,8 @@ module _ {Y : Type 0} (item : Rest → Read Y) (words : Y → List (List ℕ)) w
 
 -- ---- the parts of a certificate, one after the other
 
-pub problem_fails : (e : TextError) (l : Rest) → Fails e (problem_read l) → Fails e (certificate_read l)
+pub problem_fails : (e : TextError) (l : Rest) → Fails e (problem_read l)
+    → Fails e (certificate_read l)
 unfolding certificate_read
 problem_fails e l h = fails_first e (problem_read l) _ h
 
@@ -146,7 +154,8 @@ abbrev pub no_ending : Rest → Result (Unit {0}) Fault
 no_ending l = Ok tt
 
 -- where nothing can be wrong behind the items, the fault is one of theirs
-of_items : {Y Z : Type 0} (e : TextError) (r : Read Y) (f : Y × Rest → Result Z Fault) → Fails e (r >>= λ x. no_ending x.1) → Fails e (r >>= f)
+of_items : {Y Z : Type 0} (e : TextError) (r : Read Y) (f : Y × Rest → Result Z Fault)
+    → Fails e (r >>= λ x. no_ending x.1) → Fails e (r >>= f)
 of_items (error.Refused c o) (Err x) f h = cc
 of_items error.Read (Err x) f h = cc
 of_items (error.Refused c o) (Ok x) f h = absurd (cc)
@@ -154,7 +163,9 @@ of_items error.Read (Ok x) f h = absurd (cc)
 of_items error.Memory r f h = tt
 of_items error.Spent r f h = absurd h
 
-of_ending : {Y Z : Type 0} (e : TextError) (r : Read Y) (ending : Rest → Result (Unit {0}) Fault) (f : Y × Rest → Unit {0} → Result Z Fault) → Fails e (r >>= λ x. ending x.1) → Fails e (r >>= λ x. ending x.1 >>= f x)
+of_ending : {Y Z : Type 0} (e : TextError) (r : Read Y) (ending : Rest → Result (Unit {0}) Fault)
+    (f : Y × Rest → Unit {0} → Result Z Fault) → Fails e (r >>= λ x. ending x.1)
+    → Fails e (r >>= λ x. ending x.1 >>= f x)
 of_ending e (Ok x) ending f h = fails_first e (ending x.1) (f x) h
 of_ending (error.Refused c o) (Err x) ending f h = cc
 of_ending error.Read (Err x) ending f h = cc
@@ -186,20 +197,28 @@ one_by_one : (a b c d e : List ℕ) → (((a ++ b) ++ c) ++ d) ++ e ≡ a ++ ((b
 one_by_one a b c d e = simp append_assoc
 
 in_sections : (ls ms ns : List (List (List ℕ))) (h k : List (List ℕ)) →
-    (((lines_text ls ++ line_text h) ++ lines_text ms) ++ line_text k) ++ lines_text ns ≡ lines_text (ls ++ ((h ∷ ms) ++ (k ∷ ns)))
+    (((lines_text ls ++ line_text h) ++ lines_text ms) ++ line_text k)
+    ++ lines_text ns ≡ lines_text (ls ++ ((h ∷ ms) ++ (k ∷ ns)))
 in_sections ls ms ns h k =
     one_by_one (lines_text ls) (line_text h) (lines_text ms) (line_text k) (lines_text ns)
     ∙ sym (flat_map-append line_text ls ((h ∷ ms) ++ (k ∷ ns)) ∙ ap (λ t. lines_text ls ++ t) (flat_map-append line_text (h ∷ ms) (k ∷ ns)))
 
 -- the lines that were appended are those of the certificate
 pub appended_text : (F : Form) (p : Problem) (ss : List (Named Row)) (ds : List Derivation) →
-    (((lines_text (problem_lines_in F p) ++ line_text (heading (codes "SOL") (length ss))) ++ lines_text (map solution_words ss)) ++ line_text (heading (codes "DER") (length ds))) ++ lines_text (map (derivation_words_in F p.objective) ds)
+    (((lines_text (problem_lines_in F p) ++ line_text (heading (codes "SOL") (length ss)))
+    ++ lines_text (map solution_words ss)) ++ line_text (heading (codes "DER") (length ds)))
+    ++ lines_text (map (derivation_words_in F p.objective) ds)
     ≡ text_in F (record { problem = p; solutions = ss; derivations = ds })
 appended_text F p ss ds = in_sections (problem_lines_in F p) (map solution_words ss) (map (derivation_words_in F p.objective) ds) (heading (codes "SOL") (length ss)) (heading (codes "DER") (length ds))
 
 -- the same of a text that was made line by line
-all_bytes : (F : Form) (p : Problem) (ss : List (Named Row)) (ds : List Derivation) (n m left over : ℕ) (t1 t2 t3 t4 : List ℕ) → length ss + left ≡ n → left ≡ 0 → length ds + over ≡ m → over ≡ 0
-    → t1 ≡ lines_text (problem_lines_in F p) ++ line_text (heading (codes "SOL") n) → t2 ≡ t1 ++ lines_text (map solution_words ss) → t3 ≡ t2 ++ line_text (heading (codes "DER") m) → t4 ≡ t3 ++ lines_text (map (derivation_words_in F p.objective) ds)
+all_bytes : (F : Form) (p : Problem) (ss : List (Named Row)) (ds : List Derivation)
+    (n m left over : ℕ) (t1 t2 t3 t4 : List ℕ) → length ss + left ≡ n → left ≡ 0
+    → length ds + over ≡ m → over ≡ 0
+    → t1 ≡ lines_text (problem_lines_in F p) ++ line_text (heading (codes "SOL") n)
+    → t2 ≡ t1 ++ lines_text (map solution_words ss)
+    → t3 ≡ t2 ++ line_text (heading (codes "DER") m)
+    → t4 ≡ t3 ++ lines_text (map (derivation_words_in F p.objective) ds)
     → t4 ≡ text_in F (record { problem = p; solutions = ss; derivations = ds })
 all_bytes F p ss ds n m left over t1 t2 t3 t4 some no_more steps none e1 e2 e3 e4 =
     let listed : n ≡ length ss = omega (arith, some, no_more) in
@@ -209,8 +228,16 @@ all_bytes F p ss ds n m left over t1 t2 t3 t4 some no_more steps none e1 e2 e3 e
     let third = e3 ∙ ap (λ k. t2 ++ line_text (heading (codes "DER") k)) derived ∙ ap (λ t. t ++ line_text (heading (codes "DER") (length ds))) second in
     e4 ∙ ap (λ t. t ++ lines_text (map (derivation_words_in F p.objective) ds)) third ∙ appended_text F p ss ds
 
-pub all_lines : (F : Form) (p : Problem) (ss : List (Named Row)) (ds : List Derivation) (n m left over : ℕ) (t1 t2 t3 t4 : Begun) → length ss + left ≡ n → left ≡ 0 → length ds + over ≡ m → over ≡ 0
-    → t1 ≡ record { form = F; objective = p.objective; bytes = lines_text (problem_lines_in F p) ++ line_text (heading (codes "SOL") n) } → t2 ≡ with_more_bytes t1 (lines_text (map solution_words ss)) → t3 ≡ with_more_bytes t2 (line_text (heading (codes "DER") m))
+pub all_lines : (F : Form) (p : Problem) (ss : List (Named Row)) (ds : List Derivation)
+    (n m left over : ℕ) (t1 t2 t3 t4 : Begun) → length ss + left ≡ n → left ≡ 0
+    → length ds + over ≡ m → over ≡ 0
+    → t1 ≡ record {
+      form = F;
+      objective = p.objective;
+      bytes = lines_text (problem_lines_in F p) ++ line_text (heading (codes "SOL") n);
+    }
+    → t2 ≡ with_more_bytes t1 (lines_text (map solution_words ss))
+    → t3 ≡ with_more_bytes t2 (line_text (heading (codes "DER") m))
     → t4 ≡ with_more_bytes t3 (lines_text (map (derivation_words_in t3.form t3.objective) ds))
     → t4.bytes ≡ text_in F (record { problem = p; solutions = ss; derivations = ds })
 all_lines F p ss ds n m left over t1 t2 t3 t4 some no_more steps none e1 e2 e3 e4 =
@@ -221,7 +248,9 @@ all_lines F p ss ds n m left over t1 t2 t3 t4 some no_more steps none e1 e2 e3 e
     all_bytes F p ss ds n m left over t1.bytes t2.bytes t3.bytes t4.bytes some no_more steps none (ap (λ (b : Begun). b.bytes) e1) (ap (λ (b : Begun). b.bytes) e2) (ap (λ (b : Begun). b.bytes) e3) last
 
 -- what a source gives, as the rest that a reader starts with
-pub known : {X : Type 0} (F : Form) (bytes : X → List ℕ) (source : Option Input) (rest : Option Rest) (r : Result X TextError) → IfKnown source (λ i. rest ≡ Some (text_of i)) → Respells F bytes rest r → RespellsText F bytes source r
+pub known : {X : Type 0} (F : Form) (bytes : X → List ℕ) (source : Option Input)
+    (rest : Option Rest) (r : Result X TextError) → IfKnown source (λ i. rest ≡ Some (text_of i))
+    → Respells F bytes rest r → RespellsText F bytes source r
 known F bytes None rest (Ok x) k h = (h.0, h.1, tt)
 known F bytes (Some i) rest (Ok x) k h = (h.0, h.1, λ short. subst (λ (l : Option Rest). IsSome l → certificate_read (rest_of l) ≡ Ok h.0) (k short) h.2 refl)
 known F bytes None rest (Err e) k h = (h.0, tt)

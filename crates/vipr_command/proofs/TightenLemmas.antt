@@ -1,5 +1,6 @@
 -- What `tighten` answers
-use Rattle.std.proofs.Common.{◌≡◌, Bor, ℕ, List, Option, Some, None, Result, Ok, Err, inl, inr, refl, sym, subst, option_map}
+use Rattle.std.proofs.Common.{◌≡◌, Bor, ℕ, List, Option, Some, None, Result, Ok, Err, inl, inr}
+use Rattle.std.proofs.Common.{refl, sym, subst, option_map}
 use Rattle.vipr_spec.specs.Constraint.{Profile}
 use Rattle.vipr_spec.specs.Input.{Input}
 use Rattle.vipr_bytes.specs.Output.{Output}
@@ -17,7 +18,9 @@ use Rattle.vipr_command.proofs.InputLemmas.{of_input}
 use Rattle.vipr_command.proofs.ShowLemmas.{stays}
 
 -- what is answered of what became of a text
-pub answered : (P : Profile) (F : Form) (k : KindOfText) (old new : Option Output) (x : Outcome) (s : ℕ) → s ≡ outcome_status x → TightensText P F k old new (Ok x) → WritesTightened P F k old new (Ok s)
+pub answered : (P : Profile) (F : Form) (k : KindOfText) (old new : Option Output) (x : Outcome)
+    (s : ℕ) → s ≡ outcome_status x → TightensText P F k old new (Ok x)
+    → WritesTightened P F k old new (Ok s)
 answered P F k old new x s is h = subst (λ n. WritesTightened P F k old new (Ok n)) (sym is) (Ok x, refl, h)
 
 module _ (P : Profile) (F : Form) (source : Option Input) where
@@ -41,16 +44,22 @@ abbrev answer_to : Result Outcome CommandFault → Result ℕ CommandFault
 answer_to (Ok x) = Ok (outcome_status x)
 answer_to (Err f) = Err f
 
-settled : (P : Profile) (F : Form) (k : KindOfText) (x : Result Outcome TightenFault) (r : Result Outcome CommandFault) → TightensText P F k None None x → Settles x r → WritesFile P F k (answer_to r)
+settled : (P : Profile) (F : Form) (k : KindOfText) (x : Result Outcome TightenFault)
+    (r : Result Outcome CommandFault) → TightensText P F k None None x → Settles x r
+    → WritesFile P F k (answer_to r)
 settled P F k (Ok (Tightened a b p q)) r t (inl is) = subst (λ z. WritesFile P F k (answer_to z)) (sym is) (inl (Ok (Tightened a b p q), refl, t))
 settled P F k (Ok (Tightened a b p q)) r t (inr (n, is)) = subst (λ z. WritesFile P F k (answer_to z)) (sym is) (inr (n, refl, (Ok (Tightened a b p q), refl, t)))
 settled P F k (Ok (Refused x)) r t is = subst (λ z. WritesFile P F k (answer_to z)) (sym is) (inl (Ok (Refused x), refl, t))
 settled P F k (Err e) r t is = subst (λ z. WritesFile P F k (answer_to z)) (sym is) (inl (Err e, refl, t))
 
-pub kept : (P : Profile) (F : Form) (k : KindOfText) (x : Result Outcome TightenFault) (o : Outcome) (s : ℕ) → s ≡ outcome_status o → Settles x (Ok o) → TightensText P F k None None x → WritesFile P F k (Ok s)
+pub kept : (P : Profile) (F : Form) (k : KindOfText) (x : Result Outcome TightenFault) (o : Outcome)
+    (s : ℕ) → s ≡ outcome_status o → Settles x (Ok o) → TightensText P F k None None x
+    → WritesFile P F k (Ok s)
 kept P F k x o s is settles t = subst (λ n. WritesFile P F k (Ok n)) (sym is) (settled P F k x (Ok o) t settles)
 
-pub failed : (P : Profile) (F : Form) (k : KindOfText) (x : Result Outcome TightenFault) (f : CommandFault) → Settles x (Err f) → TightensText P F k None None x → WritesFile P F k (Err f)
+pub failed : (P : Profile) (F : Form) (k : KindOfText) (x : Result Outcome TightenFault)
+    (f : CommandFault) → Settles x (Err f) → TightensText P F k None None x
+    → WritesFile P F k (Err f)
 failed P F k x f settles t = settled P F k x (Err f) t settles
 
 -- no memory for the name of the file

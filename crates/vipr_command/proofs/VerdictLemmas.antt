@@ -14,7 +14,8 @@ use Rattle.vipr_command.specs.Run.{KnownInput, PrintsVerdict, fault_for, status_
 use Rattle.vipr_command.proofs.ShowLemmas.{stays}
 
 -- no verdict was reached
-pub undecided : (P : Profile) (k : KnownInput) (old : Option Output) (e : CheckFault) → k.Checked P (Err e) → PrintsVerdict P k old old (Err (fault_for e))
+pub undecided : (P : Profile) (k : KnownInput) (old : Option Output) (e : CheckFault)
+    → k.Checked P (Err e) → PrintsVerdict P k old old (Err (fault_for e))
 undecided P k old CheckRead h = (h, stays old)
 undecided P k old CheckMemory h = stays old
 

@@ -1,11 +1,10 @@
 //! Why a file can't be read.
 
-use std::fmt;
 use std::fmt::Write as _;
 use std::fs::File;
-use std::io;
 use std::io::{Read, Write};
 use std::rt::Files;
+use std::{fmt, io};
 use vipr_explain::Page;
 
 /// Writes a line with the name of a file that can't be read, and the system's reason. A failed

@@ -12,7 +12,8 @@ abbrev pub Answers : List ℕ → Result Verdict Fault → Type 0
 Answers bytes result = Checks (Some (record { bytes = bytes; fails = false })) result
 
 -- the answer on the bytes, as the one that was matched
-abbrev pub on : (text bytes : List ℕ) (r : Result Verdict Fault) (v w : Verdict) → bytes ≡ text → r ≡ Ok v → v ≡ w
+abbrev pub on : (text bytes : List ℕ) (r : Result Verdict Fault) (v w : Verdict) → bytes ≡ text
+    → r ≡ Ok v → v ≡ w
     → Checks (Some (record { bytes = bytes; fails = false })) r → Answers text (Ok w)
 on text bytes r v w same is_v is_w c =
     let as_v = subst (λ x. Answers bytes x) is_v c in

@@ -15,7 +15,8 @@ lt-scale a b n some h =
     let m : (up a + down b) * n < (up b + down a) * n = mul-lt-mul_of_pos_right k some in
     omega (arith, ints, m)
 
-match-map : {P Q R P' Q' R' : Type 0} (r : Ordering) → (P → P') → (Q → Q') → (R → R') → MatchOrdering r P Q R → MatchOrdering r P' Q' R'
+match-map : {P Q R P' Q' R' : Type 0} (r : Ordering) → (P → P') → (Q → Q') → (R → R')
+    → MatchOrdering r P Q R → MatchOrdering r P' Q' R'
 match-map Less f g h m = f m
 match-map Equal f g h m = g m
 match-map Greater f g h m = h m

@@ -1,5 +1,8 @@
 -- What digits at the front write, in front of more digits and behind others
-use Rattle.std.proofs.Common.{◌≡◌, ℕ, ◌+◌, ◌-◌, ◌*◌, ◌^◌, ◌<◌, ◌≤◌, ◌≢◌, ◌⊎◌, Bool, true, false, List, [], ◌∷◌, ◌++◌, length, take, drop, get_or, Some, None, refl, sym, ap, ◌∙◌, arith, inl, inr, if◌then◌else◌, add-one, zero-lt-suc, subst}
+use Rattle.std.proofs.Common.{◌≡◌, ℕ, ◌+◌, ◌-◌, ◌*◌, ◌^◌, ◌<◌, ◌≤◌, ◌≢◌, ◌⊎◌, Bool, true, false}
+use Rattle.std.proofs.Common.{List, [], ◌∷◌, ◌++◌, length, take, drop, get_or, Some, None, refl}
+use Rattle.std.proofs.Common.{sym, ap, ◌∙◌, arith, inl, inr, if◌then◌else◌, add-one, zero-lt-suc}
+use Rattle.std.proofs.Common.{subst}
 use Rattle.std.proofs.lemmas.Bool.Decides.{nat_tests}
 use Rattle.std.proofs.lemmas.List.{take-append-drop, drop-drop, length-take, length-drop, take_all}
 use Rattle.std.proofs.Math.Nat.{pow-suc, pow-le-pow_right, mul-le-mul}
@@ -18,7 +21,8 @@ use Rattle.vipr_frac.proofs.Parsed.{read_parts}
 use Rattle.vipr_spec.specs.Digits.{natural_of, natural_after, is_digit}
 
 -- n and k digits stand in front of those of m
-shifted : (n k m v : ℕ) (xs ys : List ℕ) → natural_after m xs ≡ Some v → natural_after (n * 10 ^ k + m) (xs ++ ys) ≡ natural_after (n * 10 ^ (k + length xs) + v) ys
+shifted : (n k m v : ℕ) (xs ys : List ℕ) → natural_after m xs ≡ Some v
+    → natural_after (n * 10 ^ k + m) (xs ++ ys) ≡ natural_after (n * 10 ^ (k + length xs) + v) ys
 unfolding natural_after
 shifted n k m v [] ys e = let same : m ≡ v = (cc) in let none : k + 0 ≡ k = omega arith in rw (same, none) refl
 shifted n k m v (b ∷ bs) ys e = by (is_digit b) (λ h. shifted n (k + 1) (m * 10 + (b - 48)) v bs ys h) e
@@ -33,7 +37,8 @@ shifted n k m v (b ∷ bs) ys e = by (is_digit b) (λ h. shifted n (k + 1) (m * 
         rw same (next e ∙ ap (λ j. natural_after (n * 10 ^ j + v) ys) count)
 
 -- a part of the digits behind those of n
-pub behind : (n v from len : ℕ) (bs : List ℕ) → len ≤ length (drop from bs) → natural_after 0 (take len (drop from bs)) ≡ Some v →
+pub behind : (n v from len : ℕ) (bs : List ℕ) → len ≤ length (drop from bs)
+    → natural_after 0 (take len (drop from bs)) ≡ Some v →
     natural_after n (drop from bs) ≡ natural_after (n * 10 ^ len + v) (drop (from + len) bs)
 behind n v from len bs within e =
     let size : 0 + length (take len (drop from bs)) ≡ len = omega (arith, length-take len (drop from bs)) in
@@ -54,7 +59,8 @@ pub other : (b : ℕ) → is_digit b ≡ false → (b < 48) ⊎ (57 < b)
 other b h = grind (arith, nat_tests)
 
 -- a value that is small enough takes a part behind it
-pub part_fits : (value len part : ℕ) → value ≤ 170141183460469231731 → len ≤ 18 → part < 10 ^ 18 → value * 10 ^ len + part < 2 ^ 128
+pub part_fits : (value len part : ℕ) → value ≤ 170141183460469231731 → len ≤ 18 → part < 10 ^ 18
+    → value * 10 ^ len + part < 2 ^ 128
 part_fits value len part small few below =
     let p : 10 ^ len ≤ 10 ^ 18 = pow-le-pow_right (zero-lt-suc 9) few in
     let q : value * 10 ^ len ≤ 170141183460469231731 * 10 ^ 18 = mul-le-mul small p in
@@ -65,7 +71,8 @@ unfolding is_white
 solid b h = grind (arith, nat_tests)
 
 -- the number of the digits at the front
-pub front_value : (len v : ℕ) (bs : List ℕ) → 0 < len → len ≤ length bs → natural_after 0 (take len bs) ≡ Some v → natural_of (take len bs) ≡ Some v
+pub front_value : (len v : ℕ) (bs : List ℕ) → 0 < len → len ≤ length bs
+    → natural_after 0 (take len bs) ≡ Some v → natural_of (take len bs) ≡ Some v
 front_value len v bs some within e =
     let size : length (take len bs) ≢ 0 = omega (arith, length-take len bs) in
     sym (natural_of_some (take len bs) size) ∙ e
@@ -74,8 +81,10 @@ no_slash : (b : ℕ) → is_digit b ≡ true → not (is_slash b) ≡ true
 no_slash b h = grind (arith, nat_tests)
 
 -- digits, a slash and digits have no white space
-pub fraction_solid : (bs : List ℕ) (len more : ℕ) → ((k : ℕ) → k < len → is_digit (get_or bs k 0) ≡ true) → get_or bs len 0 ≡ 47 →
-    ((k : ℕ) → k < more → is_digit (get_or (drop (len + 1) bs) k 0) ≡ true) → (k : ℕ) → k < len + 1 + more → is_white (get_or bs k 0) ≡ false
+pub fraction_solid : (bs : List ℕ) (len more : ℕ)
+    → ((k : ℕ) → k < len → is_digit (get_or bs k 0) ≡ true) → get_or bs len 0 ≡ 47 →
+    ((k : ℕ) → k < more → is_digit (get_or (drop (len + 1) bs) k 0) ≡ true) → (k : ℕ)
+    → k < len + 1 + more → is_white (get_or bs k 0) ≡ false
 unfolding is_white
 fraction_solid bs len more digits slash below k h = elim (cases_lt k len) [
   | inl l ↦ solid (get_or bs k 0) (digits k l)
@@ -89,8 +98,12 @@ fraction_solid bs len more digits slash below k h = elim (cases_lt k len) [
 ]
 
 -- their parts are the digits before and behind the slash
-pub fraction_value : (bs : List ℕ) (is_negative : Bool) (len more top : ℕ) → ((k : ℕ) → k < len → is_digit (get_or bs k 0) ≡ true) → get_or bs len 0 ≡ 47 → len < length bs → natural_of (take len bs) ≡ Some top →
-    of_parts is_negative (Some top) (natural_of (take more (drop (len + 1) bs))) ≡ of_parts is_negative (natural_of (top_of (take (len + 1 + more) bs))) (natural_of (bottom_of (take (len + 1 + more) bs)))
+pub fraction_value : (bs : List ℕ) (is_negative : Bool) (len more top : ℕ)
+    → ((k : ℕ) → k < len → is_digit (get_or bs k 0) ≡ true) → get_or bs len 0 ≡ 47 → len < length bs
+    → natural_of (take len bs) ≡ Some top →
+    of_parts is_negative (Some top) (natural_of (take more (drop (len + 1) bs)))
+    ≡ of_parts is_negative (natural_of (top_of (take (len + 1 + more) bs)))
+    (natural_of (bottom_of (take (len + 1 + more) bs)))
 fraction_value bs is_negative len more top digits slash within e =
     let t : List ℕ = take (len + 1 + more) bs in
     let size : len < length (take (len + 1 + more) bs) = omega (arith, length-take (len + 1 + more) bs) in
@@ -120,8 +133,13 @@ no_plus : (b : ℕ) → is_digit b ≡ true → false ≡ (b == 43)
 no_plus b h = grind (arith, nat_tests)
 
 -- a sign and a number without one at the front
-pub front_read : (bs : List ℕ) (is_negative : Bool) (sign len : ℕ) (r : Result ℚ NumberError) → is_negative ≡ starts_with_minus bs → (is_negative ≡ true → sign ≡ 1) → (is_negative ≡ false → sign ≡ 0) → 0 < len →
-    is_digit (get_or (drop sign bs) 0 0) ≡ true → as_read r ≡ of_parts is_negative (natural_of (top_of (take len (drop sign bs)))) (natural_of (bottom_of (take len (drop sign bs)))) → as_read r ≡ number_read (take (sign + len) bs)
+pub front_read : (bs : List ℕ) (is_negative : Bool) (sign len : ℕ) (r : Result ℚ NumberError)
+    → is_negative ≡ starts_with_minus bs → (is_negative ≡ true → sign ≡ 1)
+    → (is_negative ≡ false → sign ≡ 0) → 0 < len →
+    is_digit (get_or (drop sign bs) 0 0) ≡ true → as_read r ≡ of_parts is_negative
+    (natural_of (top_of (take len (drop sign bs))))
+    (natural_of (bottom_of (take len (drop sign bs))))
+    → as_read r ≡ number_read (take (sign + len) bs)
 front_read bs true sign len r e one none some digit h =
     let first : get_or (take (1 + len) bs) 0 0 ≡ get_or bs 0 0 = get_or-take (1 + len) bs 0 0 (omega arith) in
     let minus : true ≡ starts_with_minus (take (1 + len) bs) = e ∙ ap (λ b. b == 45) (sym first) in
@@ -136,8 +154,11 @@ front_read bs false sign len r e one none some digit h =
     rw (none refl, plain) (read_parts (take len bs) (take len bs) false r minus rest (rw (none refl) at h))
 
 -- neither a sign has white space
-pub sign_solid : (bs : List ℕ) (is_negative : Bool) (sign len : ℕ) → is_negative ≡ starts_with_minus bs → (is_negative ≡ true → sign ≡ 1) → (is_negative ≡ false → sign ≡ 0) →
-    ((k : ℕ) → k < len → is_white (get_or (drop sign bs) k 0) ≡ false) → (k : ℕ) → k < sign + len → is_white (get_or bs k 0) ≡ false
+pub sign_solid : (bs : List ℕ) (is_negative : Bool) (sign len : ℕ)
+    → is_negative ≡ starts_with_minus bs → (is_negative ≡ true → sign ≡ 1)
+    → (is_negative ≡ false → sign ≡ 0) →
+    ((k : ℕ) → k < len → is_white (get_or (drop sign bs) k 0) ≡ false) → (k : ℕ) → k < sign + len
+    → is_white (get_or bs k 0) ≡ false
 unfolding is_white
 sign_solid bs true sign len e one none rest k h = elim (cases_eq k 0) [
   | inl q ↦ let minus : get_or bs 0 0 ≡ 45 = eqb-true (get_or bs 0 0) 45 (sym e) in rw (q, minus) refl

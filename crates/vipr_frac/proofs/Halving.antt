@@ -1,7 +1,9 @@
 -- The greatest common divisor by taking out factors 2.
-use Rattle.std.proofs.Common.{◌≡◌, ℕ, zero, suc, ◌+◌, ◌*◌, ◌/◌, ◌%◌, ◌^◌, ◌-◌, ◌<◌, ◌≤◌, sym, ap, ap₂, subst, ◌∙◌, arith, min, inl, inr}
+use Rattle.std.proofs.Common.{◌≡◌, ℕ, zero, suc, ◌+◌, ◌*◌, ◌/◌, ◌%◌, ◌^◌, ◌-◌, ◌<◌, ◌≤◌, sym, ap}
+use Rattle.std.proofs.Common.{ap₂, subst, ◌∙◌, arith, min, inl, inr}
 use Rattle.std.specs.Int.{◌∣◌, bit_at, abs_diff, trailing_zeros, w64}
-use Rattle.std.proofs.Math.Nat.{mul_comm, mul_assoc, add-mul, mul-one, pow-suc, dvd-mul_right, dvd-sub, div-add-mod'}
+use Rattle.std.proofs.Math.Nat.{mul_comm, mul_assoc, add-mul, mul-one, pow-suc, dvd-mul_right}
+use Rattle.std.proofs.Math.Nat.{dvd-sub, div-add-mod'}
 use Rattle.std.proofs.lemmas.Bool.{cases_lt}
 use Rattle.std.proofs.lemmas.Nat.{shr-shr}
 use Rattle.std.proofs.lemmas.Nat.Gcd.{IsGcd-from_sub, dvd_trans}
@@ -39,7 +41,8 @@ odd_shift zero x y odd = ap (gcd x) (once y)
 odd_shift (suc k) x y odd = ap (gcd x) (twice y k) ∙ odd_half x (y * 2 ^ k) odd ∙ odd_shift k x y odd
 
 -- two odd numbers, each times a power of 2
-pub both_odd : (i j x y : ℕ) → x % 2 ≡ 1 → y % 2 ≡ 1 → gcd (x * 2 ^ i) (y * 2 ^ j) ≡ gcd x y * 2 ^ min i j
+pub both_odd : (i j x y : ℕ) → x % 2 ≡ 1 → y % 2 ≡ 1
+    → gcd (x * 2 ^ i) (y * 2 ^ j) ≡ gcd x y * 2 ^ min i j
 both_odd zero j x y odd other =
     let least : min 0 j ≡ 0 = omega arith in
     ap (λ n. gcd n (y * 2 ^ j)) (once x) ∙ odd_shift j x y odd ∙ sym (once (gcd x y)) ∙ ap (λ n. gcd x y * 2 ^ n) (sym least)
@@ -73,7 +76,8 @@ step_down : (x o : ℕ) → o ≤ x → (min x o ≡ o) × (abs_diff x o ≡ x -
 step_down x o h = (omega arith, omega arith)
 
 -- the smaller of two odd numbers is odd, and with their difference it has the same common divisors
-pub odd_step : (x o : ℕ) → x % 2 ≡ 1 → o % 2 ≡ 1 → (min x o % 2 ≡ 1) × (gcd (min x o) (abs_diff x o) ≡ gcd x o)
+pub odd_step : (x o : ℕ) → x % 2 ≡ 1 → o % 2 ≡ 1
+    → (min x o % 2 ≡ 1) × (gcd (min x o) (abs_diff x o) ≡ gcd x o)
 odd_step x o odd other = elim (cases_lt x o) [
   | inl l ↦ let h : x ≤ o = omega arith in let e = step_up x o h in
       (ap (λ n. n % 2) e.0 ∙ odd, ap₂ gcd e.0 e.1 ∙ gcd-swap x (o - x) ∙ gcd_difference o x h ∙ gcd-swap o x)

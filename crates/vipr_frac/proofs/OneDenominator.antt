@@ -1,14 +1,19 @@
 -- A sum fits if its parts over some common denominator are in bound.
-use Rattle.std.proofs.Common.{◌≡◌, ℕ, zero, suc, ◌*◌, ◌/◌, ◌<◌, ◌≤◌, ◌^◌, refl, sym, ap, ap₂, subst, ◌∙◌, arith, FitsSigned, lit≤}
+use Rattle.std.proofs.Common.{◌≡◌, ℕ, zero, suc, ◌*◌, ◌/◌, ◌<◌, ◌≤◌, ◌^◌, refl, sym, ap, ap₂, subst}
+use Rattle.std.proofs.Common.{◌∙◌, arith, FitsSigned, lit≤}
 use Rattle.std.specs.Prelude.{ℤ, pos, ◌+ℤ◌, ◌*ℤ◌, neg_ℤ, unsigned_abs}
 use Rattle.std.specs.Int.{◌∣◌, w64, w128, int_wrap, int_wrapping_add}
-use Rattle.std.proofs.Math.Nat.{le_trans, div-le_self, div-mul_cancel, dvd-mul_right, dvd_trans, mul_comm, mul_assoc, mul-pos, mul-dvd-mul_left, mul-le-mul, mul-le-mul_left, le_of_mul-le-mul_right}
-use Rattle.std.proofs.lemmas.Int.{ints, unsigned_abs-mul, fits_signed_from_abs, int_wrap_fits, int_wrap-add_left, wrapping_add_is}
+use Rattle.std.proofs.Math.Nat.{le_trans, div-le_self, div-mul_cancel, dvd-mul_right, dvd_trans}
+use Rattle.std.proofs.Math.Nat.{mul_comm, mul_assoc, mul-pos, mul-dvd-mul_left, mul-le-mul}
+use Rattle.std.proofs.Math.Nat.{mul-le-mul_left, le_of_mul-le-mul_right}
+use Rattle.std.proofs.lemmas.Int.{ints, unsigned_abs-mul, fits_signed_from_abs, int_wrap_fits}
+use Rattle.std.proofs.lemmas.Int.{int_wrap-add_left, wrapping_add_is}
 use Rattle.std.proofs.lemmas.Nat.Gcd.{le_of_dvd}
 use Rattle.vipr_spec.specs.Gcd.{gcd}
 use Rattle.vipr_spec.specs.GcdLaws.{gcd_is, gcd-scaled}
 use Rattle.vipr_spec.specs.Lowest.{abs_div}
-use Rattle.vipr_spec.specs.Fraction.{ℚ, over, most, ◌+ℚ◌, ◌*ℚ◌, zero_ℚ, IsBounded, SumFits, ProductFits}
+use Rattle.vipr_spec.specs.Fraction.{ℚ, over, most, ◌+ℚ◌, ◌*ℚ◌, zero_ℚ, IsBounded, SumFits}
+use Rattle.vipr_spec.specs.Fraction.{ProductFits}
 use Rattle.vipr_spec.proofs.Laws.{Is, is_one, is_over, is_zero, over_equal}
 use Rattle.vipr_frac.specs.Parts.{FitsSum, left_part, right_part, both_parts, sum_gcd, sum_denom}
 use Rattle.vipr_frac.proofs.Steps.{gcd-some, gcd-swap}
@@ -97,7 +102,8 @@ module _ (x y : ℚ) (p t : ℤ) (n : ℕ) (some : 0 < n) (x_is : over p n ≡ x
   }
 
 -- ---- a sum that was wrapped on the way, and is a word
-pub wrapped_sum : (p t s : ℤ) → unsigned_abs p ≤ most → unsigned_abs t ≤ 2 ^ 126 → s ≡ int_wrapping_add w128 p t → FitsSigned w64 s → s ≡ p +ℤ t
+pub wrapped_sum : (p t s : ℤ) → unsigned_abs p ≤ most → unsigned_abs t ≤ 2 ^ 126
+    → s ≡ int_wrapping_add w128 p t → FitsSigned w64 s → s ≡ p +ℤ t
 wrapped_sum p t s a b e word =
     let p_fits : FitsSigned w128 p = fits_signed_from_abs w128 p (omega arith) in
     let t_fits : FitsSigned w128 t = fits_signed_from_abs w128 t (omega arith) in
@@ -114,12 +120,15 @@ wrapped_sum p t s a b e word =
     omega (arith, ints)
 
 -- ---- a sum over the denominator of both
-equal_fits : (x : ℚ) (p t : ℤ) (q : ℕ) → 0 < q → q < 2 ^ 63 → unsigned_abs p ≤ most → unsigned_abs t ≤ 2 ^ 126 → FitsSigned w64 (p +ℤ t) → over p q ≡ x → SumFits x (over t q)
+equal_fits : (x : ℚ) (p t : ℤ) (q : ℕ) → 0 < q → q < 2 ^ 63 → unsigned_abs p ≤ most
+    → unsigned_abs t ≤ 2 ^ 126 → FitsSigned w64 (p +ℤ t) → over p q ≡ x → SumFits x (over t q)
 equal_fits x p t q some below a b word e =
     let size : unsigned_abs (p +ℤ t) ≤ 2 ^ 63 = word_abs (p +ℤ t) word in
     SumFits-parts x (over t q) (fits_over x (over t q) p t q some e refl a (le_trans b (lit≤ tt)) (le_trans size (lit≤ tt)) (omega arith))
 
-pub sum_by_equal : (x : ℚ) (p t s : ℤ) (n q : ℕ) → over p n ≡ x → n ≡ q → 0 < q → q < 2 ^ 63 → unsigned_abs p ≤ most → unsigned_abs t ≤ 2 ^ 126 → s ≡ int_wrapping_add w128 p t → FitsSigned w64 s
+pub sum_by_equal : (x : ℚ) (p t s : ℤ) (n q : ℕ) → over p n ≡ x → n ≡ q → 0 < q → q < 2 ^ 63
+    → unsigned_abs p ≤ most → unsigned_abs t ≤ 2 ^ 126 → s ≡ int_wrapping_add w128 p t
+    → FitsSigned w64 s
     → SumFits x (over t q) × (over s q ≡ x +ℚ over t q)
 sum_by_equal x p t s n q view same some below a b e word =
     let s_is : s ≡ p +ℤ t = wrapped_sum p t s a b e word in
@@ -132,7 +141,8 @@ sum_by_equal x p t s n q view same some below a b e word =
 zero_at : (n : ℕ) → 0 < n → over (pos 0) n ≡ zero_ℚ
 zero_at n some = is_one _ _ _ _ (is_over (pos 0) n some) (is_zero n some)
 
-pub sum_from_zero : (x : ℚ) (p t : ℤ) (n q : ℕ) → over p n ≡ x → 0 < n → p ≡ pos 0 → 0 < q → q < 2 ^ 63 → unsigned_abs t ≤ 2 ^ 126 → FitsSigned w64 t
+pub sum_from_zero : (x : ℚ) (p t : ℤ) (n q : ℕ) → over p n ≡ x → 0 < n → p ≡ pos 0 → 0 < q
+    → q < 2 ^ 63 → unsigned_abs t ≤ 2 ^ 126 → FitsSigned w64 t
     → SumFits x (over t q) × (over t q ≡ x +ℚ over t q)
 sum_from_zero x p t n q view n_some p_is some below b word =
     let here : over (pos 0) q ≡ x = zero_at q some ∙ sym (zero_at n n_some) ∙ ap (λ z. over z n) (sym p_is) ∙ view in
@@ -149,8 +159,10 @@ pub record IsShortProduct (x y : ℚ) (n : ℤ) (d : ℕ) : Type 0 where
   pub some : 0 < d
   pub denom : d < 2 ^ 63
 
-pub short_product : (x y : ℚ) (p r n : ℤ) (q s d : ℕ) → p ≡ x.numer → q ≡ x.denom → r ≡ y.numer → s ≡ y.denom
-    → FitsSigned w64 p → FitsSigned w64 r → q < 2 ^ 31 → s < 2 ^ 31 → n ≡ p *ℤ r → d ≡ q * s → IsShortProduct x y n d
+pub short_product : (x y : ℚ) (p r n : ℤ) (q s d : ℕ) → p ≡ x.numer → q ≡ x.denom → r ≡ y.numer
+    → s ≡ y.denom
+    → FitsSigned w64 p → FitsSigned w64 r → q < 2 ^ 31 → s < 2 ^ 31 → n ≡ p *ℤ r → d ≡ q * s
+    → IsShortProduct x y n d
 short_product x y p r n q s d p_is q_is r_is s_is p_word r_word q_short s_short n_is d_is =
     let product : over n d ≡ x *ℚ y = is_product x y n d (n_is ∙ ap₂ (λ a b. a *ℤ b) p_is r_is) (d_is ∙ ap₂ (λ a b. a * b) q_is s_is) in
     let numer : unsigned_abs n ≤ 2 ^ 126 = rw (n_is, unsigned_abs-mul p r) (numer_bound _ _ (word_abs p p_word) (word_abs r r_word)) in

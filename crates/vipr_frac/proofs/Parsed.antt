@@ -9,7 +9,10 @@ use Rattle.vipr_spec.proofs.Laws.{number_sound, number_complete}
 use Rattle.vipr_frac.specs.Reading.{as_read}
 use Rattle.vipr_frac.specs.declared.number.NumberError.{NumberError}
 
-pub read_parts : (bs cs : List ℕ) (is_negative : Bool) (r : Result ℚ NumberError) → is_negative ≡ starts_with_minus bs → cs ≡ without_leading_sign bs → as_read r ≡ of_parts is_negative (natural_of (top_of cs)) (natural_of (bottom_of cs)) → as_read r ≡ number_read bs
+pub read_parts : (bs cs : List ℕ) (is_negative : Bool) (r : Result ℚ NumberError)
+    → is_negative ≡ starts_with_minus bs → cs ≡ without_leading_sign bs
+    → as_read r ≡ of_parts is_negative (natural_of (top_of cs)) (natural_of (bottom_of cs))
+    → as_read r ≡ number_read bs
 unfolding number_read
 read_parts bs cs is_negative r e f h =
     h ∙ ap (λ m. of_parts m (natural_of (top_of cs)) (natural_of (bottom_of cs))) e
@@ -19,5 +22,6 @@ same_number : (r : Result ℚ NumberError) (x : ℚ) → as_read r ≡ Ok x → 
 same_number (Ok y) x e = cc
 same_number (Err f) x e = absurd (cc)
 
-pub spelled : (bs : List ℕ) (r : Result ℚ NumberError) → as_read r ≡ number_read bs → (x : ℚ) → (r ≡ Ok x) ↔ SpellsNumber bs x
+pub spelled : (bs : List ℕ) (r : Result ℚ NumberError) → as_read r ≡ number_read bs → (x : ℚ)
+    → (r ≡ Ok x) ↔ SpellsNumber bs x
 spelled bs r h x = (λ e. number_sound bs x (sym h ∙ ap as_read e), λ s. same_number r x (h ∙ number_complete bs x s))

@@ -6,7 +6,8 @@ use Rattle.std.proofs.lemmas.Int.{ints, by_lt_z}
 use Rattle.std.proofs.Math.Nat.{div-le_self}
 use Rattle.vipr_spec.specs.Fraction.{ℚ, neg_ℚ}
 use Rattle.vipr_spec.specs.FractionOrder.{IsFloor, IsCeil}
-use Rattle.vipr_spec.proofs.Laws.{mul-le_ℤ, neg-mul, add-mul_ℤ, is_whole, is_self, is_neg, le_in, le_out}
+use Rattle.vipr_spec.proofs.Laws.{mul-le_ℤ, neg-mul, add-mul_ℤ, is_whole, is_self, is_neg, le_in}
+use Rattle.vipr_spec.proofs.Laws.{le_out}
 
 quotient-below : (p : ℤ) (q : ℕ) → 0 < q → (int_div_euclid p (pos q) *ℤ pos q) ≤ℤ p
 quotient-below (pos a) q h = omega (arith, ints)

@@ -1,5 +1,6 @@
 -- Sums and products of small fractions stay in bound.
-use Rattle.std.proofs.Common.{◌≡◌, ℕ, ◌+◌, ◌-◌, ◌*◌, ◌/◌, ◌<◌, ◌≤◌, ◌^◌, ap, ◌∙◌, arith, to_z, of_z, FitsSigned, lit≤}
+use Rattle.std.proofs.Common.{◌≡◌, ℕ, ◌+◌, ◌-◌, ◌*◌, ◌/◌, ◌<◌, ◌≤◌, ◌^◌, ap, ◌∙◌, arith, to_z, of_z}
+use Rattle.std.proofs.Common.{FitsSigned, lit≤}
 use Rattle.std.specs.Prelude.{ℤ, pos, ◌+ℤ◌, ◌*ℤ◌, unsigned_abs, int_div}
 use Rattle.std.specs.Int.{w128}
 use Rattle.std.proofs.Math.Nat.{le_trans, div-le_self, mul-le-mul}
@@ -7,10 +8,12 @@ use Rattle.std.proofs.lemmas.Int.{ints, unsigned_abs-mul, fits_signed_from_abs}
 use Rattle.vipr_spec.specs.Gcd.{gcd}
 use Rattle.vipr_spec.specs.Lowest.{abs_div}
 use Rattle.vipr_spec.specs.Fraction.{ℚ, most}
-use Rattle.vipr_frac.specs.Parts.{IsSmall, left_part, right_part, both_parts, sum_denom, product_numer, product_denom, FitsSum, FitsProduct}
+use Rattle.vipr_frac.specs.Parts.{IsSmall, left_part, right_part, both_parts, sum_denom}
+use Rattle.vipr_frac.specs.Parts.{product_numer, product_denom, FitsSum, FitsProduct}
 use Rattle.vipr_frac.proofs.Views.{as-is}
 
-pub abs_sum : (u v : ℤ) (m : ℕ) → unsigned_abs u ≤ m → unsigned_abs v ≤ m → unsigned_abs (u +ℤ v) ≤ m + m
+pub abs_sum : (u v : ℤ) (m : ℕ) → unsigned_abs u ≤ m → unsigned_abs v ≤ m
+    → unsigned_abs (u +ℤ v) ≤ m + m
 abs_sum u v m h k = omega (arith, ints)
 
 -- the largest product of a numerator and a denominator of such size
@@ -30,8 +33,10 @@ both_bound : (n : ℕ) → n ≤ edge + edge → n ≤ most
 both_bound n h = le_trans h (lit≤ tt)
 
 -- a sum of two such products
-pub word_products : (p r : ℤ) (u v : ℕ) → unsigned_abs p ≤ 2 ^ 63 → unsigned_abs r ≤ 2 ^ 63 → u < 2 ^ 63 → v < 2 ^ 63
-    → (unsigned_abs (p *ℤ pos u) ≤ most) × (unsigned_abs (r *ℤ pos v) ≤ most) × (unsigned_abs (p *ℤ pos u +ℤ r *ℤ pos v) ≤ most)
+pub word_products : (p r : ℤ) (u v : ℕ) → unsigned_abs p ≤ 2 ^ 63 → unsigned_abs r ≤ 2 ^ 63
+    → u < 2 ^ 63 → v < 2 ^ 63
+    → (unsigned_abs (p *ℤ pos u) ≤ most) × (unsigned_abs (r *ℤ pos v) ≤ most)
+    × (unsigned_abs (p *ℤ pos u +ℤ r *ℤ pos v) ≤ most)
 word_products p r u v a b c d =
     let left : unsigned_abs (p *ℤ pos u) ≤ edge = rw (unsigned_abs-mul p (pos u)) (product_bound _ _ a c) in
     let right : unsigned_abs (r *ℤ pos v) ≤ edge = rw (unsigned_abs-mul r (pos v)) (product_bound _ _ b d) in

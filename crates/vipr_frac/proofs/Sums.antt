@@ -5,9 +5,11 @@ use Rattle.std.proofs.Math.Nat.{le_trans, div-le_self}
 use Rattle.std.proofs.lemmas.Int.{ints}
 use Rattle.vipr_spec.specs.Gcd.{gcd}
 use Rattle.vipr_spec.specs.Lowest.{IsLowest, abs_div}
-use Rattle.vipr_spec.specs.Fraction.{ℚ, over, whole, most, ◌+ℚ◌, ◌*ℚ◌, IsBounded, IsWhole, SumFits, ProductFits}
+use Rattle.vipr_spec.specs.Fraction.{ℚ, over, whole, most, ◌+ℚ◌, ◌*ℚ◌, IsBounded, IsWhole, SumFits}
+use Rattle.vipr_spec.specs.Fraction.{ProductFits}
 use Rattle.vipr_spec.proofs.Laws.{whole-add, whole-mul, sum_is, sum_lowest, product_is, parts_of}
-use Rattle.vipr_frac.specs.Parts.{IsReduced, left_part, right_part, both_parts, sum_gcd, sum_denom, product_numer, product_denom, FitsSum, FitsProduct}
+use Rattle.vipr_frac.specs.Parts.{IsReduced, left_part, right_part, both_parts, sum_gcd, sum_denom}
+use Rattle.vipr_frac.specs.Parts.{product_numer, product_denom, FitsSum, FitsProduct}
 use Rattle.vipr_frac.proofs.Steps.{gcd-one}
 use Rattle.vipr_frac.proofs.Views.{over-self}
 
@@ -15,7 +17,8 @@ use Rattle.vipr_frac.proofs.Views.{over-self}
 sum-lowest : (x y : ℚ) → IsLowest (int_div (both_parts x y) (pos (sum_gcd x y))) (sum_denom x y)
 sum-lowest x y = sum_lowest x.numer y.numer x.denom y.denom x.lowest y.lowest
 
-pub sum-is : (x y : ℚ) → x +ℚ y ≡ over (int_div (both_parts x y) (pos (sum_gcd x y))) (sum_denom x y)
+pub sum-is : (x y : ℚ)
+    → x +ℚ y ≡ over (int_div (both_parts x y) (pos (sum_gcd x y))) (sum_denom x y)
 sum-is x y = sum_is x y
 
 pub sum-numer : (x y : ℚ) → (x +ℚ y).numer ≡ int_div (both_parts x y) (pos (sum_gcd x y))
@@ -24,7 +27,8 @@ sum-numer x y = ap (λ (z : ℚ). z.numer) (sum-is x y) ∙ (parts_of _ _ (sum-l
 pub sum-denom : (x y : ℚ) → (x +ℚ y).denom ≡ sum_denom x y
 sum-denom x y = ap (λ (z : ℚ). z.denom) (sum-is x y) ∙ (parts_of _ _ (sum-lowest x y)).1
 
-pub IsReduced-sum : (x y : ℚ) → FitsSum x y → IsReduced (int_div (both_parts x y) (pos (sum_gcd x y))) (sum_denom x y)
+pub IsReduced-sum : (x y : ℚ) → FitsSum x y
+    → IsReduced (int_div (both_parts x y) (pos (sum_gcd x y))) (sum_denom x y)
 IsReduced-sum x y f = record {
   lowest = sum-lowest x y;
   numer_bounded = rw (abs_div (both_parts x y) (sum_gcd x y)) (le_trans (div-le_self _ (sum_gcd x y)) f.both);
@@ -41,12 +45,14 @@ FitsSum-from x y f = record { left = f.0; right = f.1; both = f.2; below = rw (s
 pub product-is : (x y : ℚ) → x *ℚ y ≡ over (product_numer x y) (product_denom x y)
 product-is x y = (product_is x y).1
 
-product-parts : (x y : ℚ) → ((x *ℚ y).numer ≡ product_numer x y) × ((x *ℚ y).denom ≡ product_denom x y)
+product-parts : (x y : ℚ)
+    → ((x *ℚ y).numer ≡ product_numer x y) × ((x *ℚ y).denom ≡ product_denom x y)
 product-parts x y =
     let parts = parts_of _ _ (product_is x y).0 in
     (ap (λ (z : ℚ). z.numer) (product-is x y) ∙ parts.0, ap (λ (z : ℚ). z.denom) (product-is x y) ∙ parts.1)
 
-pub IsReduced-product : (x y : ℚ) → FitsProduct x y → IsReduced (product_numer x y) (product_denom x y)
+pub IsReduced-product : (x y : ℚ) → FitsProduct x y
+    → IsReduced (product_numer x y) (product_denom x y)
 IsReduced-product x y f = record { lowest = (product_is x y).0; numer_bounded = f.numer; denom_bounded = f.below }
 
 pub ProductFits-parts : (x y : ℚ) → FitsProduct x y → ProductFits x y
@@ -80,10 +86,12 @@ denom-whole x w = ap (λ (y : ℚ). y.denom) w.1 ∙ whole-denom w.0
 times-one : (z : ℤ) → z *ℤ pos 1 ≡ z
 times-one z = omega (arith, ints)
 
-part-whole : (x y : ℚ) → x.denom ≡ 1 → y.denom ≡ 1 → (left_part x y ≡ x.numer) × (right_part x y ≡ y.numer)
+part-whole : (x y : ℚ) → x.denom ≡ 1 → y.denom ≡ 1
+    → (left_part x y ≡ x.numer) × (right_part x y ≡ y.numer)
 part-whole x y e f = (rw (e, f, gcd-one 1) (times-one x.numer), rw (e, f, gcd-one 1) (times-one y.numer))
 
-pub FitsSum-whole : (x y : ℚ) → x.denom ≡ 1 → y.denom ≡ 1 → IsBounded x → IsBounded y → unsigned_abs (x.numer +ℤ y.numer) ≤ most → FitsSum x y
+pub FitsSum-whole : (x y : ℚ) → x.denom ≡ 1 → y.denom ≡ 1 → IsBounded x → IsBounded y
+    → unsigned_abs (x.numer +ℤ y.numer) ≤ most → FitsSum x y
 FitsSum-whole x y e f bx b_y h =
     let w = part-whole x y e f in
     let both : both_parts x y ≡ x.numer +ℤ y.numer = ap₂ (λ u v. u +ℤ v) w.0 w.1 in
@@ -92,16 +100,19 @@ FitsSum-whole x y e f bx b_y h =
     let below : sum_denom x y ≡ 1 = rw (is_h, is_g, e, f) in
     record { left = rw w.0 bx.0; right = rw w.1 b_y.0; both = rw both h; below = rw below (omega arith) }
 
-pub FitsSum-whole_back : (x y : ℚ) → x.denom ≡ 1 → y.denom ≡ 1 → FitsSum x y → unsigned_abs (x.numer +ℤ y.numer) ≤ most
+pub FitsSum-whole_back : (x y : ℚ) → x.denom ≡ 1 → y.denom ≡ 1 → FitsSum x y
+    → unsigned_abs (x.numer +ℤ y.numer) ≤ most
 FitsSum-whole_back x y e f h =
     let w = part-whole x y e f in
     let both : both_parts x y ≡ x.numer +ℤ y.numer = ap₂ (λ u v. u +ℤ v) w.0 w.1 in
     rw both at h.both
 
-pub ProductFits-whole : (x y : ℚ) → x.denom ≡ 1 → y.denom ≡ 1 → unsigned_abs (x.numer *ℤ y.numer) ≤ most → ProductFits x y
+pub ProductFits-whole : (x y : ℚ) → x.denom ≡ 1 → y.denom ≡ 1
+    → unsigned_abs (x.numer *ℤ y.numer) ≤ most → ProductFits x y
 ProductFits-whole x y e f h =
     let k : ℤ = x.numer *ℤ y.numer in
     rw (product-whole x y e f, whole-numer k, whole-denom k) (h, omega arith)
 
-pub ProductFits-whole_back : (x y : ℚ) → x.denom ≡ 1 → y.denom ≡ 1 → ProductFits x y → unsigned_abs (x.numer *ℤ y.numer) ≤ most
+pub ProductFits-whole_back : (x y : ℚ) → x.denom ≡ 1 → y.denom ≡ 1 → ProductFits x y
+    → unsigned_abs (x.numer *ℤ y.numer) ≤ most
 ProductFits-whole_back x y e f h = rw (product-whole x y e f, whole-numer (x.numer *ℤ y.numer)) at h.0

@@ -1,6 +1,8 @@
 -- Sums of fractions whose parts are words of 64 bits, and needn't be in lowest terms.
-use Rattle.std.proofs.Common.{◌≡◌, ℕ, ◌*◌, ◌/◌, ◌%◌, ◌<◌, ◌≤◌, ◌^◌, refl, sym, ap, ap₂, ◌∙◌, arith, FitsSigned, lit≤, pos_of_ne-zero, zero-mul}
-use Rattle.std.specs.Prelude.{ℤ, pos, ◌+ℤ◌, ◌*ℤ◌, unsigned_abs, Bool, true, false, Option, Some, None, IsSome, IfSome, IsTrue, IsFalse, MatchOption}
+use Rattle.std.proofs.Common.{◌≡◌, ℕ, ◌*◌, ◌/◌, ◌%◌, ◌<◌, ◌≤◌, ◌^◌, refl, sym, ap, ap₂, ◌∙◌, arith}
+use Rattle.std.proofs.Common.{FitsSigned, lit≤, pos_of_ne-zero, zero-mul}
+use Rattle.std.specs.Prelude.{ℤ, pos, ◌+ℤ◌, ◌*ℤ◌, unsigned_abs, Bool, true, false, Option, Some}
+use Rattle.std.specs.Prelude.{None, IsSome, IfSome, IsTrue, IsFalse, MatchOption}
 use Rattle.std.specs.Int.{w64}
 use Rattle.std.proofs.Math.Nat.{le_trans, div-mul_cancel, mul_comm}
 use Rattle.std.proofs.lemmas.Int.{ints}
@@ -39,7 +41,8 @@ module _ (q s g u v : ℕ) (q_some : 0 < q) (s_some : 0 < s) (g_some : 0 < g) (q
       ap (λ n. over (p *ℤ pos u +ℤ r *ℤ pos v) (n * u)) q_is ∙ sym law ∙ ap₂ (λ m n. over p m +ℚ over r n) (sym q_is) (sym s_is)
 
 -- the second denominator is a multiple of the first
-pub raised_sum : (q s u : ℕ) → 0 < q → 0 < s → s ≡ u * q → (p r : ℤ) → over (p *ℤ pos u +ℤ r *ℤ pos 1) s ≡ over p q +ℚ over r s
+pub raised_sum : (q s u : ℕ) → 0 < q → 0 < s → s ≡ u * q → (p r : ℤ)
+    → over (p *ℤ pos u +ℤ r *ℤ pos 1) s ≡ over p q +ℚ over r s
 raised_sum q s u q_some s_some s_is p r =
     let once : q ≡ 1 * q = omega arith in
     let law = common_sum q s q u 1 q_some s_some q_some once s_is p r in
@@ -73,7 +76,8 @@ unfolding ◌*ℚ◌
 product_over x y = refl
 
 -- ---- parts that are put into a sum
-pub put_value : (o : Option (ℤ × ℕ)) (r : Bool) (old new v : ℚ) → MatchOption o (IsFalse r × (new ≡ old)) (λ t. IsTrue r × (new ≡ over t.0 t.1))
+pub put_value : (o : Option (ℤ × ℕ)) (r : Bool) (old new v : ℚ)
+    → MatchOption o (IsFalse r × (new ≡ old)) (λ t. IsTrue r × (new ≡ over t.0 t.1))
     → IfSome o (λ t. over t.0 t.1 ≡ v) → (IsTrue r → new ≡ v) × (IsFalse r → new ≡ old)
 put_value (Some t) r old new v h e = (λ _. h.1 ∙ e, λ f. let yes : r ≡ true = h.0 in let no : r ≡ false = f in cc)
 put_value None r old new v h e = (λ t. let yes : r ≡ true = t in let no : r ≡ false = h.0 in cc, λ _. h.1)
@@ -82,14 +86,18 @@ pub sum-swap : (x y : ℚ) → x +ℚ y ≡ y +ℚ x
 unfolding ◌+ℚ◌
 sum-swap x y = ap₂ over (omega (arith, ints)) (mul_comm x.denom y.denom)
 
-pub is_product : (x y : ℚ) (p : ℤ) (q : ℕ) → p ≡ x.numer *ℤ y.numer → q ≡ x.denom * y.denom → over p q ≡ x *ℚ y
+pub is_product : (x y : ℚ) (p : ℤ) (q : ℕ) → p ≡ x.numer *ℤ y.numer → q ≡ x.denom * y.denom
+    → over p q ≡ x *ℚ y
 is_product x y p q e f = ap₂ over e f ∙ sym (product_over x y)
 
-pub product_of : (x y : ℚ) (p r : ℤ) (q s : ℕ) (o : Option (ℤ × ℕ)) → p ≡ x.numer → q ≡ x.denom → r ≡ y.numer → s ≡ y.denom
-    → IfSome o (λ t. (t.0 ≡ p *ℤ r) × (t.1 ≡ q * s) × (0 < t.1) × (t.1 < 2 ^ 63)) → IfSome o (λ t. over t.0 t.1 ≡ x *ℚ y)
+pub product_of : (x y : ℚ) (p r : ℤ) (q s : ℕ) (o : Option (ℤ × ℕ)) → p ≡ x.numer → q ≡ x.denom
+    → r ≡ y.numer → s ≡ y.denom
+    → IfSome o (λ t. (t.0 ≡ p *ℤ r) × (t.1 ≡ q * s) × (0 < t.1) × (t.1 < 2 ^ 63))
+    → IfSome o (λ t. over t.0 t.1 ≡ x *ℚ y)
 product_of x y p r q s (Some t) e f g h k = is_product x y t.0 t.1 (k.0 ∙ ap₂ (λ a b. a *ℤ b) e g) (k.1 ∙ ap₂ (λ a b. a * b) f h)
 product_of x y p r q s None e f g h k = tt
 
-pub turned : (o : Option (ℤ × ℕ)) (x y : ℚ) → IfSome o (λ t. over t.0 t.1 ≡ y +ℚ x) → IfSome o (λ t. over t.0 t.1 ≡ x +ℚ y)
+pub turned : (o : Option (ℤ × ℕ)) (x y : ℚ) → IfSome o (λ t. over t.0 t.1 ≡ y +ℚ x)
+    → IfSome o (λ t. over t.0 t.1 ≡ x +ℚ y)
 turned (Some t) x y h = h ∙ sum-swap y x
 turned None x y h = tt

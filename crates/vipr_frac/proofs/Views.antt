@@ -1,5 +1,7 @@
--- What the fields of a `Frac` say of the fraction that contracts see, and signed words that are passed on.
-use Rattle.std.proofs.Common.{◌≡◌, ℕ, zero, suc, ℤ, pos, ◌/◌, ◌<◌, ◌≤◌, refl, sym, ap, ◌∙◌, arith, to_z, of_z, int_div}
+-- What the fields of a `Frac` say of the fraction that contracts see, and signed words that are
+-- passed on.
+use Rattle.std.proofs.Common.{◌≡◌, ℕ, zero, suc, ℤ, pos, ◌/◌, ◌<◌, ◌≤◌, refl, sym, ap, ◌∙◌, arith}
+use Rattle.std.proofs.Common.{to_z, of_z, int_div}
 use Rattle.std.specs.Prelude.{unsigned_abs, ◌-ℤ◌, neg_ℤ}
 use Rattle.std.specs.Int.{w128}
 use Rattle.std.proofs.Common.{FitsSigned}
@@ -39,7 +41,9 @@ facts x p q e h =
     }
 
 -- ---- p / q in lowest terms
-pub over-parts : (p : ℤ) (q : ℕ) → 0 < q → ((over p q).numer ≡ int_div p (pos (gcd (unsigned_abs p) q))) × ((over p q).denom ≡ q / gcd (unsigned_abs p) q)
+pub over-parts : (p : ℤ) (q : ℕ) → 0 < q
+    → ((over p q).numer ≡ int_div p (pos (gcd (unsigned_abs p) q)))
+    × ((over p q).denom ≡ q / gcd (unsigned_abs p) q)
 unfolding over
 over-parts p zero h = absurd (omega arith)
 over-parts p (suc q) h = (refl, refl)
@@ -53,11 +57,13 @@ pub facts_of : (x : ℚ) (p : ℤ) (q : ℕ) → p ≡ x.numer → q ≡ x.denom
 facts_of x p q e f h = facts x p q (rw (e, f) (over-self x)) h
 
 -- the fraction of parts that are passed on
-pub passed-on : (x : ℚ) (p : ℤ) (q : ℕ) → p ≡ x.numer → q ≡ x.denom → IsReduced p q → over (to_z w128 (of_z w128 p)) q ≡ x
+pub passed-on : (x : ℚ) (p : ℤ) (q : ℕ) → p ≡ x.numer → q ≡ x.denom → IsReduced p q
+    → over (to_z w128 (of_z w128 p)) q ≡ x
 passed-on x p q e f h = rw (as-is p h.numer_bounded, e, f) (over-self x)
 
 -- reduction keeps the bound
-pub IsReduced-over : (p : ℤ) (q : ℕ) → 0 < q → unsigned_abs p ≤ most → q ≤ most → IsReduced (over p q).numer (over p q).denom
+pub IsReduced-over : (p : ℤ) (q : ℕ) → 0 < q → unsigned_abs p ≤ most → q ≤ most
+    → IsReduced (over p q).numer (over p q).denom
 IsReduced-over p q some h k =
     let parts = over-parts p q some in
     record {
@@ -76,12 +82,14 @@ abs-neg z = omega (arith, ints)
 neg-is : (z : ℤ) → pos 0 -ℤ z ≡ neg_ℤ z
 neg-is z = omega (arith, ints)
 
-pub negated-word : (p : ℤ) → unsigned_abs p ≤ most → to_z w128 (of_z w128 (pos 0 -ℤ to_z w128 (of_z w128 p))) ≡ neg_ℤ p
+pub negated-word : (p : ℤ) → unsigned_abs p ≤ most
+    → to_z w128 (of_z w128 (pos 0 -ℤ to_z w128 (of_z w128 p))) ≡ neg_ℤ p
 negated-word p h =
     let small : unsigned_abs (pos 0 -ℤ p) ≤ most = rw (abs-neg p) h in
     rw (as-is p h) (as-is (pos 0 -ℤ p) small ∙ neg-is p)
 
-pub negated-fits : (p : ℤ) → unsigned_abs p ≤ most → FitsSigned w128 (pos 0 -ℤ to_z w128 (of_z w128 p))
+pub negated-fits : (p : ℤ) → unsigned_abs p ≤ most
+    → FitsSigned w128 (pos 0 -ℤ to_z w128 (of_z w128 p))
 negated-fits p h = rw (as-is p h) (fits_signed_from_abs w128 (pos 0 -ℤ p) (let e = abs-neg p in omega arith))
 
 pub negated-small : (p : ℤ) → unsigned_abs p ≤ most → unsigned_abs (neg_ℤ p) ≤ most

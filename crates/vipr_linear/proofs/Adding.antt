@@ -1,9 +1,12 @@
 -- The terms of a row, added one after the other, change each variable's sum at once
-use Rattle.std.proofs.Common.{◌≡◌, ◌≢◌, ℕ, ◌+◌, ◌<◌, ◌≤◌, Bool, true, false, cond, List, [], ◌∷◌, map, length, get_or, replicate, All, Some, unwrap_or, arith, refl, sym, ◌∙◌, ap, ap₂, subst, subst₂, pos, ◌⊎◌, inl, inr}
+use Rattle.std.proofs.Common.{◌≡◌, ◌≢◌, ℕ, ◌+◌, ◌<◌, ◌≤◌, Bool, true, false, cond, List, [], ◌∷◌}
+use Rattle.std.proofs.Common.{map, length, get_or, replicate, All, Some, unwrap_or, arith, refl}
+use Rattle.std.proofs.Common.{sym, ◌∙◌, ap, ap₂, subst, subst₂, pos, ◌⊎◌, inl, inr}
 use Rattle.std.specs.Prelude.{◌↔◌}
 use Rattle.std.proofs.lemmas.Bool.{cases_eq, cases_lt}
 use Rattle.std.proofs.lemmas.Bool.Decides.{nat_tests, Decides-int_eq}
-use Rattle.std.proofs.lemmas.List.{get_or-set_same, get_or-set_other, get_or_default, get_or-replicate, length-set, length-replicate, same_lists}
+use Rattle.std.proofs.lemmas.List.{get_or-set_same, get_or-set_other, get_or_default}
+use Rattle.std.proofs.lemmas.List.{get_or-replicate, length-set, length-replicate, same_lists}
 use Rattle.std.proofs.lemmas.List.Elements.{All-head, All-tail, All-nil, All-cons}
 use Rattle.std.proofs.lemmas.List.FromFn.{get_or-map-range_with_len, length-map-range_with_len}
 use Rattle.std.specs.FinMap.{entries, find, get-from_sorted}
@@ -11,9 +14,11 @@ use Rattle.std.specs.List.{range_with_len}
 use Rattle.std.specs.Ordering.{nat_cmp, int_eq, eq_by_cmp}
 use Rattle.vipr_spec.specs.Fraction.{ℚ, zero_ℚ, ◌+ℚ◌, ◌*ℚ◌}
 use Rattle.vipr_spec.specs.Constraint.{Row, at, equal, Entry, NamesBelow}
-use Rattle.vipr_spec.proofs.Laws.{add-zero_ℚ, mul-zero_ℚ, zero-mul_ℚ, zero_or_not, turned_zero, joined_equal, zero_numer, zero_from_numer}
+use Rattle.vipr_spec.proofs.Laws.{add-zero_ℚ, mul-zero_ℚ, zero-mul_ℚ, zero_or_not, turned_zero}
+use Rattle.vipr_spec.proofs.Laws.{joined_equal, zero_numer, zero_from_numer}
 use Rattle.vipr_spec.specs.MoreEntries.{sense_of_both, TermFits}
-use Rattle.vipr_linear.specs.Accumulator.{Accumulator, sum_at, with_entry, with_term, with_terms, TermsFitIn}
+use Rattle.vipr_linear.specs.Accumulator.{Accumulator, sum_at, with_entry, with_term, with_terms}
+use Rattle.vipr_linear.specs.Accumulator.{TermsFitIn}
 use Rattle.vipr_linear.specs.Row.{RisesFrom}
 use Rattle.vipr_linear.proofs.Rows.{row_again, rises_sorted}
 
@@ -26,32 +31,41 @@ tied j = grind (arith, nat_tests)
 untied : (j k : ℕ) → j ≢ k → eq_by_cmp nat_cmp j k ≡ false
 untied j k n = grind (arith, nat_tests)
 
-pub coefficient_here : (p : ℕ × ℚ) (es : List (ℕ × ℚ)) (j : ℕ) → j ≡ p.0 → coefficient (p ∷ es) j ≡ p.1
+pub coefficient_here : (p : ℕ × ℚ) (es : List (ℕ × ℚ)) (j : ℕ) → j ≡ p.0
+    → coefficient (p ∷ es) j ≡ p.1
 coefficient_here p es j e = ap (λ b. unwrap_or (cond b (Some p.1) (find nat_cmp j es)) zero_ℚ) (ap (eq_by_cmp nat_cmp j) (sym e) ∙ tied j)
 
-pub coefficient_later : (p : ℕ × ℚ) (es : List (ℕ × ℚ)) (j : ℕ) → j ≢ p.0 → coefficient (p ∷ es) j ≡ coefficient es j
+pub coefficient_later : (p : ℕ × ℚ) (es : List (ℕ × ℚ)) (j : ℕ) → j ≢ p.0
+    → coefficient (p ∷ es) j ≡ coefficient es j
 coefficient_later p es j n = ap (λ b. unwrap_or (cond b (Some p.1) (find nat_cmp j es)) zero_ℚ) (untied j p.0 n)
 
-pub coefficient_below : (low : ℕ) (es : List (ℕ × ℚ)) (j : ℕ) → j < low → RisesFrom low es → coefficient es j ≡ zero_ℚ
+pub coefficient_below : (low : ℕ) (es : List (ℕ × ℚ)) (j : ℕ) → j < low → RisesFrom low es
+    → coefficient es j ≡ zero_ℚ
 coefficient_below low [] j l r = refl
 coefficient_below low (p ∷ es) j l r = coefficient_later p es j (λ e. absurd (let le : low ≤ p.0 = r.0 in omega arith)) ∙ coefficient_below (p.0 + 1) es j (let le : low ≤ p.0 = r.0 in omega arith) r.2
 
-pub length-with_terms : (sums : List ℚ) (m : ℚ) (es : List (ℕ × ℚ)) → length (with_terms sums m es) ≡ length sums
+pub length-with_terms : (sums : List ℚ) (m : ℚ) (es : List (ℕ × ℚ))
+    → length (with_terms sums m es) ≡ length sums
 unfolding with_terms
 length-with_terms sums m [] = refl
 length-with_terms sums m (p ∷ es) = length-with_terms (with_term sums m p) m es ∙ length-set sums p.0 _
 
 -- a term changes one sum
-changed_here : (sums : List ℚ) (m : ℚ) (p : ℕ × ℚ) (j : ℕ) → p.0 < length sums → j ≡ p.0 → get_or (with_term sums m p) j zero_ℚ ≡ get_or sums j zero_ℚ +ℚ m *ℚ p.1
+changed_here : (sums : List ℚ) (m : ℚ) (p : ℕ × ℚ) (j : ℕ) → p.0 < length sums → j ≡ p.0
+    → get_or (with_term sums m p) j zero_ℚ ≡ get_or sums j zero_ℚ +ℚ m *ℚ p.1
 changed_here sums m p j l e = ap (λ k. get_or (with_term sums m p) k zero_ℚ) e ∙ get_or-set_same sums p.0 _ zero_ℚ l ∙ ap (λ k. get_or sums k zero_ℚ +ℚ m *ℚ p.1) (sym e)
 
-changed_elsewhere : (sums : List ℚ) (m : ℚ) (p : ℕ × ℚ) (j : ℕ) → j ≢ p.0 → get_or (with_term sums m p) j zero_ℚ ≡ get_or sums j zero_ℚ
+changed_elsewhere : (sums : List ℚ) (m : ℚ) (p : ℕ × ℚ) (j : ℕ) → j ≢ p.0
+    → get_or (with_term sums m p) j zero_ℚ ≡ get_or sums j zero_ℚ
 changed_elsewhere sums m p j n = get_or-set_other sums p.0 j _ zero_ℚ n
 
-still_within : (sums : List ℚ) (m : ℚ) (p : ℕ × ℚ) (es : List (ℕ × ℚ)) → All (λ e. e.0 < length sums) (p ∷ es) → All (λ e. e.0 < length (with_term sums m p)) es
+still_within : (sums : List ℚ) (m : ℚ) (p : ℕ × ℚ) (es : List (ℕ × ℚ))
+    → All (λ e. e.0 < length sums) (p ∷ es) → All (λ e. e.0 < length (with_term sums m p)) es
 still_within sums m p es all = subst (λ n. All (λ e. e.0 < n) es) (sym (length-set sums p.0 _)) (All-tail (λ e. e.0 < length sums) p es all)
 
-pub terms_at : (low : ℕ) (sums : List ℚ) (m : ℚ) (es : List (ℕ × ℚ)) → RisesFrom low es → All (λ e. e.0 < length sums) es → (j : ℕ) → get_or (with_terms sums m es) j zero_ℚ ≡ get_or sums j zero_ℚ +ℚ m *ℚ coefficient es j
+pub terms_at : (low : ℕ) (sums : List ℚ) (m : ℚ) (es : List (ℕ × ℚ)) → RisesFrom low es
+    → All (λ e. e.0 < length sums) es → (j : ℕ)
+    → get_or (with_terms sums m es) j zero_ℚ ≡ get_or sums j zero_ℚ +ℚ m *ℚ coefficient es j
 unfolding with_terms
 terms_at low sums m [] r all j = sym (ap (λ x. get_or sums j zero_ℚ +ℚ x) (mul-zero_ℚ m) ∙ add-zero_ℚ _)
 terms_at low sums m (p ∷ es) r all j = terms_at (p.0 + 1) (with_term sums m p) m es r.2 (still_within sums m p es all) j ∙ by (cases_eq j p.0)
@@ -88,7 +102,8 @@ module _ (sums : List ℚ) (m : ℚ) (p : ℕ × ℚ) (es : List (ℕ × ℚ)) (
         subst₂ (λ s c. TermFits s m c) (sym (changed_elsewhere sums m p j apart)) (coefficient_later p es j apart) (h j (λ z. n (sym (coefficient_later p es j apart) ∙ z))),
   )
 
-pub fits_at : (low : ℕ) (sums : List ℚ) (m : ℚ) (es : List (ℕ × ℚ)) → RisesFrom low es → TermsFitIn sums m es ↔ FitAll sums m es
+pub fits_at : (low : ℕ) (sums : List ℚ) (m : ℚ) (es : List (ℕ × ℚ)) → RisesFrom low es
+    → TermsFitIn sums m es ↔ FitAll sums m es
 unfolding TermsFitIn
 fits_at low sums m [] r = (λ h j n. absurd (n refl), λ h. tt)
 fits_at low sums m (p ∷ es) r =
@@ -168,7 +183,8 @@ module _ (row : Row) where
       ∙ sym (get_or-map-range_with_len (λ j. get_or sums j zero_ℚ +ℚ m *ℚ at row j) 0 (length sums) k k d within (omega arith)))
 
 -- ---- an entry with multiplier 0 changes nothing
-pub nothing_changes : (a : Accumulator) (e : Entry) → a.spent ≡ false → e.0 ≡ zero_ℚ → a ≡ with_entry a e
+pub nothing_changes : (a : Accumulator) (e : Entry) → a.spent ≡ false → e.0 ≡ zero_ℚ
+    → a ≡ with_entry a e
 nothing_changes a e fresh z =
     λ i. record {
       sums = sums i;
@@ -185,7 +201,8 @@ nothing_changes a e fresh z =
         get_or_default a.sums k d zero_ℚ l ∙ sym (adds (sum_at a k) (e.1.row k)) ∙ sym (get_or-map-range_with_len (λ j. sum_at a j +ℚ e.0 *ℚ e.1.row j) 0 (length a.sums) k k d l (omega arith)))
 
 -- sums that are all 0
-pub zeros : (sums : List ℚ) (n : ℕ) → length sums ≡ n → ((j : ℕ) → get_or sums j zero_ℚ ≡ zero_ℚ) → sums ≡ replicate n zero_ℚ
+pub zeros : (sums : List ℚ) (n : ℕ) → length sums ≡ n → ((j : ℕ) → get_or sums j zero_ℚ ≡ zero_ℚ)
+    → sums ≡ replicate n zero_ℚ
 zeros sums n e all = same_lists _ _ (e ∙ sym (length-replicate n zero_ℚ)) (λ k d l. get_or_default sums k d zero_ℚ l ∙ all k ∙ sym (get_or-replicate n k zero_ℚ d (omega (arith, e, l))))
 
 -- ---- whether a multiplier is 0, by its test

@@ -1,9 +1,12 @@
 -- The row that the touched variables' sums make
-use Rattle.std.proofs.Common.{◌≡◌, ℕ, ◌<◌, Bool, nat_eq, List, [], ◌∷◌, map, filter, length, get_or, All, Contains, Result, Ok, Err, OnOk, OnErr, IfOk, Option, Some, None, unwrap_or, arith, refl, sym, ◌∙◌, ap, subst, ◌⊎◌, inl, inr}
+use Rattle.std.proofs.Common.{◌≡◌, ℕ, ◌<◌, Bool, nat_eq, List, [], ◌∷◌, map, filter, length, get_or}
+use Rattle.std.proofs.Common.{All, Contains, Result, Ok, Err, OnOk, OnErr, IfOk, Option, Some, None}
+use Rattle.std.proofs.Common.{unwrap_or, arith, refl, sym, ◌∙◌, ap, subst, ◌⊎◌, inl, inr}
 use Rattle.std.proofs.lemmas.List.Sorted.{IsNonDecreasingBy-from_sort, list_any-IsPermutation}
 use Rattle.std.proofs.lemmas.Map.Keys.{IsDistinct-IsPermutation, IsStrictlyIncreasing-from_distinct}
 use Rattle.std.proofs.lemmas.Map.Made.{IsDistinct-keys_filter}
-use Rattle.std.proofs.lemmas.Map.Views.{Contains-from_any, Contains-from_lookup, lookup-from_Contains}
+use Rattle.std.proofs.lemmas.Map.Views.{Contains-from_any, Contains-from_lookup}
+use Rattle.std.proofs.lemmas.Map.Views.{lookup-from_Contains}
 use Rattle.std.proofs.lemmas.List.{get_or-map, get_or_default, length-map}
 use Rattle.std.specs.Cmp.{nat_eq_equiv}
 use Rattle.std.specs.Map.{lookup}
@@ -19,25 +22,30 @@ use Rattle.vipr_spec.proofs.Laws.{zero_or_not}
 use Rattle.vipr_linear.specs.Row.{RisesFrom, variables_of}
 use Rattle.vipr_linear.specs.Touched.{Touching, Covers, AreTouched}
 use Rattle.vipr_linear.proofs.Marks.{pick, touched_below}
-use Rattle.vipr_linear.proofs.Rows.{row_kept, rises_sorted, find_lookup, contains_unfiltered, contains_filter, exact, nonzero_test}
+use Rattle.vipr_linear.proofs.Rows.{row_kept, rises_sorted, find_lookup, contains_unfiltered}
+use Rattle.vipr_linear.proofs.Rows.{contains_filter, exact, nonzero_test}
 
-pub touching_sorted : (marks : List Bool) (xs ys : List ℕ) → IsPermutation xs ys → Touching marks xs → Touching marks ys
+pub touching_sorted : (marks : List Bool) (xs ys : List ℕ) → IsPermutation xs ys → Touching marks xs
+    → Touching marks ys
 touching_sorted marks xs ys p t = record {
   listed = λ j. t.listed j ∙ list_any-IsPermutation (nat_eq j) xs ys p;
   distinct = IsDistinct-IsPermutation nat_eq (λ x y. grind (arith, nat_tests)) xs ys p t.distinct;
 }
 
-pub rising_of_touched : (marks : List Bool) (xs : List ℕ) → IsSorted nat_cmp xs → Touching marks xs → IsStrictlyIncreasing xs
+pub rising_of_touched : (marks : List Bool) (xs : List ℕ) → IsSorted nat_cmp xs → Touching marks xs
+    → IsStrictlyIncreasing xs
 rising_of_touched marks xs s t = IsStrictlyIncreasing-from_distinct xs (IsNonDecreasingBy-from_sort (λ x. x) xs s) t.distinct
 
 variables_picked : (sums : List ℚ) (xs : List ℕ) → variables_of (map (pick sums) xs) ≡ xs
 variables_picked sums [] = refl
 variables_picked sums (x ∷ xs) = ap (λ ys. x ∷ ys) (variables_picked sums xs)
 
-pub collected_rises : (sums : List ℚ) (xs : List ℕ) → IsStrictlyIncreasing xs → RisesFrom 0 (filter is_nonzero (map (pick sums) xs))
+pub collected_rises : (sums : List ℚ) (xs : List ℕ) → IsStrictlyIncreasing xs
+    → RisesFrom 0 (filter is_nonzero (map (pick sums) xs))
 collected_rises sums xs s = row_kept (map (pick sums) xs) (subst IsStrictlyIncreasing (sym (variables_picked sums xs)) s)
 
-pub picked_distinct : (sums : List ℚ) (xs : List ℕ) → IsDistinct nat_eq xs → IsDistinct nat_eq (variables_of (filter is_nonzero (map (pick sums) xs)))
+pub picked_distinct : (sums : List ℚ) (xs : List ℕ) → IsDistinct nat_eq xs
+    → IsDistinct nat_eq (variables_of (filter is_nonzero (map (pick sums) xs)))
 picked_distinct sums xs d = IsDistinct-keys_filter nat_eq is_nonzero _ (subst (IsDistinct nat_eq) (sym (variables_picked sums xs)) d)
 
 -- what a look-up among the kept sums finds
@@ -68,13 +76,17 @@ module _ (sums : List ℚ) (marks : List Bool) (xs : List ℕ) (t : Touching mar
           let is = lookup-from_Contains nat_eq_equiv j (get_or sums j zero_ℚ) _ (IsDistinct-keys_filter nat_eq is_nonzero _ distinct) (contains_filter is_nonzero (map (pick sums) xs) (pick sums j) (nonzero_test (get_or sums j zero_ℚ) n) (picked xs there)) in
           absurd (let clash = sym e ∙ is in cc)
 
-pub collected_at : (sums : List ℚ) (marks : List Bool) (xs : List ℕ) → Touching marks xs → Covers sums marks → IsStrictlyIncreasing xs → (j : ℕ) → at (from_sorted (filter is_nonzero (map (pick sums) xs))) j ≡ get_or sums j zero_ℚ
+pub collected_at : (sums : List ℚ) (marks : List Bool) (xs : List ℕ) → Touching marks xs
+    → Covers sums marks → IsStrictlyIncreasing xs → (j : ℕ)
+    → at (from_sorted (filter is_nonzero (map (pick sums) xs))) j ≡ get_or sums j zero_ℚ
 collected_at sums marks xs t c s j = ap (λ o. unwrap_or o zero_ℚ) (get-from_sorted nat_cmp _ j (rises_sorted 0 _ (collected_rises sums xs s))) ∙ found sums marks xs t c j
 
-pub touched_within : (sums : List ℚ) (marks : List Bool) (xs : List ℕ) → length marks ≡ length sums → Touching marks xs → All (λ j. j < length sums) xs
+pub touched_within : (sums : List ℚ) (marks : List Bool) (xs : List ℕ) → length marks ≡ length sums
+    → Touching marks xs → All (λ j. j < length sums) xs
 touched_within sums marks xs e t k d l = let h = touched_below marks xs xs k t refl l in rw (get_or_default xs k d 0 l, ← e) h
 
-pub touched_sorted : (marks : List Bool) (xs ys : List ℕ) (m n : ℕ) → IsPermutation xs ys → n ≡ m → AreTouched marks xs m → AreTouched marks ys n
+pub touched_sorted : (marks : List Bool) (xs ys : List ℕ) (m n : ℕ) → IsPermutation xs ys → n ≡ m
+    → AreTouched marks xs m → AreTouched marks ys n
 touched_sorted marks xs ys m n p e k = record { room = (let r = k.room in omega (arith, e, r)); touching = touching_sorted marks xs ys p k.touching }
 
 pub on_ok : {A E : Type 0} (r : Result A E) (P : Type 0) → P → OnOk r P
@@ -89,6 +101,7 @@ pub on_err_then : {A E : Type 0} (r : Result A E) (P Q : Type 0) → (P → Q) �
 on_err_then (Ok x) P Q f p = tt
 on_err_then (Err e) P Q f p = f p
 
-pub both_ok : {A E : Type 0} (r : Result A E) (P Q R : A → Type 0) → ((v : A) → P v → Q v → R v) → IfOk r P → IfOk r Q → IfOk r R
+pub both_ok : {A E : Type 0} (r : Result A E) (P Q R : A → Type 0) → ((v : A) → P v → Q v → R v)
+    → IfOk r P → IfOk r Q → IfOk r R
 both_ok (Ok v) P Q R f p q = f v p q
 both_ok (Err e) P Q R f p q = tt

@@ -1,5 +1,9 @@
--- Sums are the coefficients of a row if each entry has its coefficient, and as many sums as entries are not 0
-use Rattle.std.proofs.Common.{◌≡◌, ◌≢◌, ℕ, ◌+◌, ◌<◌, ◌≤◌, take, List, [], ◌∷◌, ◌++◌, length, get_or, arith, refl, sym, ◌∙◌, ap, subst, map, filter, false, true, Bool, nat_eq, not, pos, All, Option, Some, None, unwrap_or, is_some, IsSome, ◌⊎◌, inl, inr, ◌||◌}
+-- Sums are the coefficients of a row if each entry has its coefficient, and as many sums as entries
+-- are not 0
+use Rattle.std.proofs.Common.{◌≡◌, ◌≢◌, ℕ, ◌+◌, ◌<◌, ◌≤◌, take, List, [], ◌∷◌, ◌++◌, length, get_or}
+use Rattle.std.proofs.Common.{arith, refl, sym, ◌∙◌, ap, subst, map, filter, false, true, Bool}
+use Rattle.std.proofs.Common.{nat_eq, not, pos, All, Option, Some, None, unwrap_or, is_some, IsSome}
+use Rattle.std.proofs.Common.{◌⊎◌, inl, inr, ◌||◌}
 use Rattle.std.proofs.lemmas.Bool.{cases_eq}
 use Rattle.std.proofs.lemmas.Bool.Decides.{nat_tests}
 use Rattle.std.proofs.lemmas.List.{length_push, length-map, get_or_default}
@@ -20,8 +24,10 @@ use Rattle.vipr_spec.specs.Constraint.{Row, at}
 use Rattle.vipr_spec.proofs.Laws.{zero_numer, zero_or_not}
 use Rattle.vipr_linear.specs.Row.{RisesFrom, variables_of}
 use Rattle.vipr_linear.specs.Touched.{Touching, Covers, CoversNonzero}
-use Rattle.vipr_linear.proofs.Rows.{nonzero_test, find_lookup, contains_unfiltered, exact, nothing_distinct}
-use Rattle.vipr_linear.proofs.Adding.{coefficient, coefficient_here, coefficient_later, coefficient_at, entries_each}
+use Rattle.vipr_linear.proofs.Rows.{nonzero_test, find_lookup, contains_unfiltered, exact}
+use Rattle.vipr_linear.proofs.Rows.{nothing_distinct}
+use Rattle.vipr_linear.proofs.Adding.{coefficient, coefficient_here, coefficient_later}
+use Rattle.vipr_linear.proofs.Adding.{coefficient_at, entries_each}
 use Rattle.vipr_linear.proofs.Collecting.{picked_distinct, found}
 use Rattle.vipr_linear.proofs.Marks.{pick, kept, left_out, other, or_false}
 
@@ -46,33 +52,41 @@ module _ (sums : List ℚ) (places : List ℕ) (i : ℕ) (x : ℚ) (l : i < leng
   passed z = sym (ap length (left_out sums places i x l w r so_far refl (no_numer x z)))
 
 -- ---- entries of a row by their variables
-found_nonzero : (es : List (ℕ × ℚ)) (j : ℕ) → coefficient es j ≢ zero_ℚ → IsSome (lookup (nat_eq j) es)
+found_nonzero : (es : List (ℕ × ℚ)) (j : ℕ) → coefficient es j ≢ zero_ℚ
+    → IsSome (lookup (nat_eq j) es)
 found_nonzero es j n = by (lookup (nat_eq j) es) refl
   where
     by : (o : Option ℚ) → lookup (nat_eq j) es ≡ o → IsSome (lookup (nat_eq j) es)
     by None e = absurd (n (ap (λ o. unwrap_or o zero_ℚ) (find_lookup j es ∙ e)))
     by (Some v) e = ap is_some e
 
-named_more : (p : ℕ × ℚ) (es : List (ℕ × ℚ)) → p.1 ≢ zero_ℚ → (j : ℕ) → (list_any (nat_eq j) (variables_of es) ≡ true → coefficient es j ≢ zero_ℚ) → list_any (nat_eq j) (variables_of (p ∷ es)) ≡ true → (j ≡ p.0) ⊎ (j ≢ p.0) → coefficient (p ∷ es) j ≢ zero_ℚ
+named_more : (p : ℕ × ℚ) (es : List (ℕ × ℚ)) → p.1 ≢ zero_ℚ → (j : ℕ)
+    → (list_any (nat_eq j) (variables_of es) ≡ true → coefficient es j ≢ zero_ℚ)
+    → list_any (nat_eq j) (variables_of (p ∷ es)) ≡ true → (j ≡ p.0) ⊎ (j ≢ p.0)
+    → coefficient (p ∷ es) j ≢ zero_ℚ
 named_more p es some j rest t (inl e) z = some (sym (coefficient_here p es j e) ∙ z)
 named_more p es some j rest t (inr n) z = rest (ap (λ b. b || list_any (nat_eq j) (variables_of es)) (sym (other j p.0 n)) ∙ t) (sym (coefficient_later p es j n) ∙ z)
 
 -- a variable of a row has a coefficient that is not 0
-named_nonzero : (low : ℕ) (es : List (ℕ × ℚ)) → RisesFrom low es → (j : ℕ) → list_any (nat_eq j) (variables_of es) ≡ true → coefficient es j ≢ zero_ℚ
+named_nonzero : (low : ℕ) (es : List (ℕ × ℚ)) → RisesFrom low es → (j : ℕ)
+    → list_any (nat_eq j) (variables_of es) ≡ true → coefficient es j ≢ zero_ℚ
 named_nonzero low [] r j t = absurd (cc)
 named_nonzero low (p ∷ es) r j t = named_more p es r.1 j (λ d. named_nonzero (p.0 + 1) es r.2 j d) t (cases_eq j p.0)
 
-apart : (v low : ℕ) (es : List (ℕ × ℚ)) → v < low → RisesFrom low es → AllByRecursion (λ y. nat_eq v y ≡ false) (variables_of es)
+apart : (v low : ℕ) (es : List (ℕ × ℚ)) → v < low → RisesFrom low es
+    → AllByRecursion (λ y. nat_eq v y ≡ false) (variables_of es)
 apart v low [] l r = tt
 apart v low (p ∷ es) l r =
     let differs : v ≢ p.0 = λ e. absurd (let le : low ≤ p.0 = r.0 in omega (arith, e, le, l)) in
     (other v p.0 differs, apart v (p.0 + 1) es (let le : low ≤ p.0 = r.0 in omega (arith, le, l)) r.2)
 
-distinct_variables : (low : ℕ) (es : List (ℕ × ℚ)) → RisesFrom low es → IsDistinct nat_eq (variables_of es)
+distinct_variables : (low : ℕ) (es : List (ℕ × ℚ)) → RisesFrom low es
+    → IsDistinct nat_eq (variables_of es)
 distinct_variables low [] r = nothing_distinct
 distinct_variables low (p ∷ es) r = IsDistinct-cons nat_eq p.0 (variables_of es) (apart p.0 (p.0 + 1) es (omega arith) r.2) (distinct_variables (p.0 + 1) es r.2)
 
-any_one_more : (q j : ℕ) (xs : List ℕ) → list_any (nat_eq q) (xs ++ j ∷ []) ≡ true → (q ≡ j) ⊎ (list_any (nat_eq q) xs ≡ true)
+any_one_more : (q j : ℕ) (xs : List ℕ) → list_any (nat_eq q) (xs ++ j ∷ []) ≡ true
+    → (q ≡ j) ⊎ (list_any (nat_eq q) xs ≡ true)
 any_one_more q j xs t = elim (cases_eq q j) [
   | inl e ↦ inl e
   | inr n ↦ inr (sym (list_any-append (nat_eq q) xs (j ∷ []) ∙ ap (λ b. list_any (nat_eq q) xs || (b || false)) (other q j n) ∙ or_false _) ∙ t)
@@ -144,11 +158,14 @@ module _ (sums : List ℚ) (marks : List Bool) (xs : List ℕ) (t : Touching mar
       there h j (inl z) = none_left_over es r (each.0 h.0) h.1 j z ∙ sym z ∙ co j
       there h j (inr n) = each.0 h.0 j n ∙ co j
 
-pub covered_places : (sums : List ℚ) (marks : List Bool) (xs : List ℕ) → Touching marks xs → Covers sums marks → CoversNonzero sums xs
+pub covered_places : (sums : List ℚ) (marks : List Bool) (xs : List ℕ) → Touching marks xs
+    → Covers sums marks → CoversNonzero sums xs
 covered_places sums marks xs t c j n = Contains-from_any exact j xs (sym (t.listed j) ∙ c j n)
 
 -- if each sum of a list that covers those that are not 0 is 0, all are
-pub all_zero_listed : (sums : List ℚ) (xs : List ℕ) → CoversNonzero sums xs → ((k : ℕ) → k < length xs → get_or sums (get_or xs k 0) zero_ℚ ≡ zero_ℚ) → (j : ℕ) → get_or sums j zero_ℚ ≡ zero_ℚ
+pub all_zero_listed : (sums : List ℚ) (xs : List ℕ) → CoversNonzero sums xs
+    → ((k : ℕ) → k < length xs → get_or sums (get_or xs k 0) zero_ℚ ≡ zero_ℚ) → (j : ℕ)
+    → get_or sums j zero_ℚ ≡ zero_ℚ
 all_zero_listed sums xs covers all j = by (zero_or_not (get_or sums j zero_ℚ))
   where
     by : (get_or sums j zero_ℚ ≡ zero_ℚ) ⊎ ¬ (get_or sums j zero_ℚ ≡ zero_ℚ) → get_or sums j zero_ℚ ≡ zero_ℚ

@@ -1,9 +1,15 @@
 -- Marks and the list of the marked variables, and the sums beside them
-use Rattle.std.proofs.Common.{◌≡◌, ◌≢◌, ℕ, suc, ◌+◌, ◌<◌, ◌≤◌, take, drop, Bool, true, false, cond, nat_eq, List, [], ◌∷◌, ◌++◌, length, get_or, arith, refl, sym, ◌∙◌, ap, subst, ◌||◌, inl, inr, ◌⊎◌, drop-cons, add-one, ap₂, map, filter, not, pos, replicate, Result, Ok, Err, IsOk, IsErr, All}
+use Rattle.std.proofs.Common.{◌≡◌, ◌≢◌, ℕ, suc, ◌+◌, ◌<◌, ◌≤◌, take, drop, Bool, true, false, cond}
+use Rattle.std.proofs.Common.{nat_eq, List, [], ◌∷◌, ◌++◌, length, get_or, arith, refl, sym, ◌∙◌}
+use Rattle.std.proofs.Common.{ap, subst, ◌||◌, inl, inr, ◌⊎◌, drop-cons, add-one, ap₂, map, filter}
+use Rattle.std.proofs.Common.{not, pos, replicate, Result, Ok, Err, IsOk, IsErr, All}
 use Rattle.std.specs.Prelude.{◌↔◌, slice_set}
 use Rattle.std.proofs.lemmas.Bool.{cases_eq, cases_lt}
 use Rattle.std.proofs.lemmas.Bool.Decides.{nat_tests}
-use Rattle.std.proofs.lemmas.List.{get_or-set_same, get_or-set_other, get_or_past, get_or_default, get_or-map, get_or-replicate, length_push, length-set, length-map, length-replicate, take_all, drop_all, append-nil, same_lists}
+use Rattle.std.proofs.lemmas.List.{get_or-set_same, get_or-set_other, get_or_past, get_or_default}
+use Rattle.std.proofs.lemmas.List.{get_or-map, get_or-replicate, length_push, length-set}
+use Rattle.std.proofs.lemmas.List.{length-map, length-replicate, take_all, drop_all, append-nil}
+use Rattle.std.proofs.lemmas.List.{same_lists}
 use Rattle.std.proofs.lemmas.List.Elements.{filter_more}
 use Rattle.std.proofs.lemmas.List.Folds.{list_any-append, list_any_at}
 use Rattle.std.proofs.lemmas.Map.Keys.{IsDistinct-push}
@@ -57,7 +63,8 @@ module _ (marks : List Bool) (touched : List ℕ) (v : ℕ) (l : v < length mark
       omega (arith, all, length_push touched v, length-set marks v true)
 
 -- ---- terms, in their order
-pub next : {A : Type 0} (es : List A) (i : ℕ) (p : A) → i < length es → p ≡ get_or es i p → drop i es ≡ p ∷ drop (i + 1) es
+pub next : {A : Type 0} (es : List A) (i : ℕ) (p : A) → i < length es → p ≡ get_or es i p
+    → drop i es ≡ p ∷ drop (i + 1) es
 next es i p l e = rw add-one (drop-cons es i p l ∙ ap (λ x. x ∷ drop (suc i) es) (sym e))
 
 module _ (sums : List ℚ) (m : ℚ) (es : List (ℕ × ℚ)) (i : ℕ) (p : ℕ × ℚ) (l : i < length es) (e : p ≡ get_or es i p) where
@@ -70,17 +77,21 @@ module _ (sums : List ℚ) (m : ℚ) (es : List (ℕ × ℚ)) (i : ℕ) (p : ℕ
   next_fits = (λ h. subst (TermsFitIn sums m) (next es i p l e) h, λ h. subst (TermsFitIn sums m) (sym (next es i p l e)) h)
 
 -- a sum that changes at a marked variable
-pub covers_set : (sums : List ℚ) (marks : List Bool) (v : ℕ) (x : ℚ) → v < length sums → get_or marks v false ≡ true → Covers sums marks → Covers (slice_set sums v x) marks
+pub covers_set : (sums : List ℚ) (marks : List Bool) (v : ℕ) (x : ℚ) → v < length sums
+    → get_or marks v false ≡ true → Covers sums marks → Covers (slice_set sums v x) marks
 covers_set sums marks v x l t c j n = by (cases_eq j v)
   where
     by : (j ≡ v) ⊎ (j ≢ v) → get_or marks j false ≡ true
     by (inl e) = ap (λ k. get_or marks k false) e ∙ t
     by (inr d) = c j (λ z. n (get_or-set_other sums v j x zero_ℚ d ∙ z))
 
-pub covers_more : (sums : List ℚ) (marks marks' : List Bool) → ((j : ℕ) → get_or marks j false ≡ true → get_or marks' j false ≡ true) → Covers sums marks → Covers sums marks'
+pub covers_more : (sums : List ℚ) (marks marks' : List Bool)
+    → ((j : ℕ) → get_or marks j false ≡ true → get_or marks' j false ≡ true) → Covers sums marks
+    → Covers sums marks'
 covers_more sums marks marks' k c j n = k j (c j n)
 
-pub touched_at_first : (n m : ℕ) (list : List ℕ) → list ≡ [] → n ≤ m → AreTouched (replicate n false) list m
+pub touched_at_first : (n m : ℕ) (list : List ℕ) → list ≡ [] → n ≤ m
+    → AreTouched (replicate n false) list m
 touched_at_first n m list e le = record {
   room = (let l = length-replicate n false in omega (arith, l, le));
   touching = subst (Touching (replicate n false)) (sym e) (record { listed = λ j. none j (cases_lt j n); distinct = nothing_distinct });
@@ -101,7 +112,8 @@ covered_at_first n = record {
     zero j (inr past) = get_or_past (replicate n zero_ℚ) j zero_ℚ (let e = length-replicate n zero_ℚ in omega (arith, e, past))
 
 -- a place is touched, and its sum changes
-pub covered_set : (sums : List ℚ) (marks : List Bool) (v : ℕ) (x : ℚ) → v < length sums → AreCovered sums marks → AreCovered (slice_set sums v x) (slice_set marks v true)
+pub covered_set : (sums : List ℚ) (marks : List Bool) (v : ℕ) (x : ℚ) → v < length sums
+    → AreCovered sums marks → AreCovered (slice_set sums v x) (slice_set marks v true)
 covered_set sums marks v x l k = record {
   places = length-set marks v true ∙ k.places ∙ sym (length-set sums v x);
   covers = covers_set sums (slice_set marks v true) v x l here (covers_more sums marks (slice_set marks v true) stays k.covers);
@@ -122,20 +134,24 @@ pub not_both : {A E : Type 0} (r : Result A E) → IsErr r → IsOk r → ⊥
 not_both (Ok x) e o = absurd (cc)
 not_both (Err x) e o = absurd (cc)
 
-pub item_within : (es : List (ℕ × ℚ)) (n i : ℕ) (p : ℕ × ℚ) → All (λ e. e.0 < n) es → i < length es → p ≡ get_or es i p → p.0 < n
+pub item_within : (es : List (ℕ × ℚ)) (n i : ℕ) (p : ℕ × ℚ) → All (λ e. e.0 < n) es → i < length es
+    → p ≡ get_or es i p → p.0 < n
 item_within es n i p all l e = subst (λ (q : ℕ × ℚ). q.0 < n) (sym e) (all i p l)
 
 -- after the last term
-pub all_fit : (sums : List ℚ) (m : ℚ) (es : List (ℕ × ℚ)) (i : ℕ) → length es ≤ i → TermsFitIn sums m (drop i es)
+pub all_fit : (sums : List ℚ) (m : ℚ) (es : List (ℕ × ℚ)) (i : ℕ) → length es ≤ i
+    → TermsFitIn sums m (drop i es)
 unfolding TermsFitIn
 all_fit sums m es i h = subst (TermsFitIn sums m) (sym (drop_all i es h)) tt
 
-pub no_more : (sums : List ℚ) (m : ℚ) (es : List (ℕ × ℚ)) (i : ℕ) → length es ≤ i → with_terms sums m (drop i es) ≡ sums
+pub no_more : (sums : List ℚ) (m : ℚ) (es : List (ℕ × ℚ)) (i : ℕ) → length es ≤ i
+    → with_terms sums m (drop i es) ≡ sums
 unfolding with_terms
 no_more sums m es i h = ap (with_terms sums m) (drop_all i es h)
 
 -- ---- setting sums back
-pub touched_below : (marks : List Bool) (touched items : List ℕ) (i : ℕ) → Touching marks touched → items ≡ touched → i < length items → get_or items i 0 < length marks
+pub touched_below : (marks : List Bool) (touched items : List ℕ) (i : ℕ) → Touching marks touched
+    → items ≡ touched → i < length items → get_or items i 0 < length marks
 touched_below marks touched items i t e l = marked_below marks _ (t.listed _ ∙ rw (← e) (list_any_at (nat_eq (get_or items i 0)) items i 0 l (itself _)))
 
 -- what is not set back is in the rest of the list
@@ -149,21 +165,32 @@ module _ {A : Type 0} (xs : List A) (d x : A) (items : List ℕ) (i : ℕ) (l : 
           let was = before (subst P (get_or-set_other xs (get_or items i 0) j x d n) h) in
           ap (λ b. b || list_any (nat_eq j) (drop (i + 1) items)) (sym (other j (get_or items i 0) n)) ∙ ap (list_any (nat_eq j)) (sym (next items i (get_or items i 0) l (get_or_default items i _ _ l))) ∙ was
 
-pub sums_left : (sums : List ℚ) (x : ℚ) (items : List ℕ) (i : ℕ) → i < length items → get_or items i 0 < length sums → x ≡ zero_ℚ
-    → ((j : ℕ) → get_or sums j zero_ℚ ≢ zero_ℚ → list_any (nat_eq j) (drop i items) ≡ true) → (j : ℕ) → get_or (slice_set sums (get_or items i 0) x) j zero_ℚ ≢ zero_ℚ → list_any (nat_eq j) (drop (i + 1) items) ≡ true
+pub sums_left : (sums : List ℚ) (x : ℚ) (items : List ℕ) (i : ℕ) → i < length items
+    → get_or items i 0 < length sums → x ≡ zero_ℚ
+    → ((j : ℕ) → get_or sums j zero_ℚ ≢ zero_ℚ → list_any (nat_eq j) (drop i items) ≡ true)
+    → (j : ℕ) → get_or (slice_set sums (get_or items i 0) x) j zero_ℚ ≢ zero_ℚ
+    → list_any (nat_eq j) (drop (i + 1) items) ≡ true
 sums_left sums x items i l w z before j h = still_left sums zero_ℚ x items i l w (λ y. y ≢ zero_ℚ) (λ n. n z) j (before j) h
 
-pub marks_left : (marks : List Bool) (items : List ℕ) (i : ℕ) → i < length items → get_or items i 0 < length marks
-    → ((j : ℕ) → get_or marks j false ≡ true → list_any (nat_eq j) (drop i items) ≡ true) → (j : ℕ) → get_or (slice_set marks (get_or items i 0) false) j false ≡ true → list_any (nat_eq j) (drop (i + 1) items) ≡ true
+pub marks_left : (marks : List Bool) (items : List ℕ) (i : ℕ) → i < length items
+    → get_or items i 0 < length marks
+    → ((j : ℕ) → get_or marks j false ≡ true → list_any (nat_eq j) (drop i items) ≡ true) → (j : ℕ)
+    → get_or (slice_set marks (get_or items i 0) false) j false ≡ true
+    → list_any (nat_eq j) (drop (i + 1) items) ≡ true
 marks_left marks items i l w before j h = still_left marks false false items i l w (λ y. y ≡ true) (λ t. absurd (cc)) j (before j) h
 
-none_there : (items : List ℕ) (i j : ℕ) → length items ≤ i → list_any (nat_eq j) (drop i items) ≡ true → ⊥
+none_there : (items : List ℕ) (i j : ℕ) → length items ≤ i
+    → list_any (nat_eq j) (drop i items) ≡ true → ⊥
 none_there items i j h t = absurd (let e = ap (list_any (nat_eq j)) (drop_all i items h) in cc)
 
-pub all_zero : (sums : List ℚ) (items : List ℕ) (i : ℕ) → length items ≤ i → ((j : ℕ) → get_or sums j zero_ℚ ≢ zero_ℚ → list_any (nat_eq j) (drop i items) ≡ true) → (j : ℕ) → get_or sums j zero_ℚ ≡ zero_ℚ
+pub all_zero : (sums : List ℚ) (items : List ℕ) (i : ℕ) → length items ≤ i
+    → ((j : ℕ) → get_or sums j zero_ℚ ≢ zero_ℚ → list_any (nat_eq j) (drop i items) ≡ true)
+    → (j : ℕ) → get_or sums j zero_ℚ ≡ zero_ℚ
 all_zero sums items i h left j = elim (zero_or_not (get_or sums j zero_ℚ)) [ inl e ↦ e | inr n ↦ absurd (none_there items i j h (left j n)) ]
 
-pub none_touched : (marks : List Bool) (items : List ℕ) (i : ℕ) → length items ≤ i → ((j : ℕ) → get_or marks j false ≡ true → list_any (nat_eq j) (drop i items) ≡ true) → Touching marks []
+pub none_touched : (marks : List Bool) (items : List ℕ) (i : ℕ) → length items ≤ i
+    → ((j : ℕ) → get_or marks j false ≡ true → list_any (nat_eq j) (drop i items) ≡ true)
+    → Touching marks []
 none_touched marks items i h left = record { listed = λ j. by (get_or marks j false) refl j; distinct = nothing_distinct }
   where
     by : (b : Bool) → b ≡ b → (j : ℕ) → get_or marks j false ≡ false
@@ -173,7 +200,8 @@ none_touched marks items i h left = record { listed = λ j. by (get_or marks j f
         at true f = absurd (none_there items i j h (left j f))
         at false f = f
 
-pub all_false : (marks : List Bool) (n : ℕ) → length marks ≡ n → Touching marks [] → marks ≡ replicate n false
+pub all_false : (marks : List Bool) (n : ℕ) → length marks ≡ n → Touching marks []
+    → marks ≡ replicate n false
 all_false marks n e none = same_lists _ _ (e ∙ sym (length-replicate n false)) (λ k d l. get_or_default marks k d false l ∙ none.listed k ∙ sym (get_or-replicate n k false d (omega (arith, e, l))))
 
 -- ---- the sums that are not 0
@@ -195,5 +223,7 @@ module _ (sums : List ℚ) (touched : List ℕ) (i : ℕ) (x : ℚ) (l : i < len
   pub left_out : int_eq x.numer (pos 0) ≡ true → es ≡ filter is_nonzero (take (i + 1) (map (pick sums) touched))
   left_out t = sym (one_more ∙ ap (λ b. es ++ cond (not b) ((get_or touched i 0, x) ∷ []) []) t ∙ append-nil es)
 
-pub all_picked : (sums : List ℚ) (touched : List ℕ) (i : ℕ) → length touched ≤ i → filter is_nonzero (take i (map (pick sums) touched)) ≡ filter is_nonzero (map (pick sums) touched)
+pub all_picked : (sums : List ℚ) (touched : List ℕ) (i : ℕ) → length touched ≤ i
+    → filter is_nonzero (take i (map (pick sums) touched))
+    ≡ filter is_nonzero (map (pick sums) touched)
 all_picked sums touched i h = ap (filter is_nonzero) (take_all i (map (pick sums) touched) (let e = length-map touched (pick sums) in omega (arith, e)))

@@ -1,14 +1,18 @@
 -- A solution laid out over places, and its coordinates that aren't whole
-use Rattle.std.proofs.Common.{◌≡◌, ◌≢◌, ℕ, zero, suc, ◌+◌, ◌<◌, ◌≤◌, replicate, drop, List, [], ◌∷◌, length, get_or, pos, arith, refl, sym, ◌∙◌, ap, ap₂, subst, subst₂, ◌⊎◌, inl, inr}
+use Rattle.std.proofs.Common.{◌≡◌, ◌≢◌, ℕ, zero, suc, ◌+◌, ◌<◌, ◌≤◌, replicate, drop, List, [], ◌∷◌}
+use Rattle.std.proofs.Common.{length, get_or, pos, arith, refl, sym, ◌∙◌, ap, ap₂, subst, subst₂}
+use Rattle.std.proofs.Common.{◌⊎◌, inl, inr}
 use Rattle.std.specs.Prelude.{◌↔◌, slice_set}
 use Rattle.std.proofs.lemmas.Bool.{cases_eq, cases_lt}
-use Rattle.std.proofs.lemmas.List.{get_or-set_same, get_or-set_other, get_or-replicate, get_or_past, length-set, length-replicate, set_past, drop_all}
+use Rattle.std.proofs.lemmas.List.{get_or-set_same, get_or-set_other, get_or-replicate, get_or_past}
+use Rattle.std.proofs.lemmas.List.{length-set, length-replicate, set_past, drop_all}
 use Rattle.std.specs.FinMap.{entries}
 use Rattle.vipr_spec.specs.Fraction.{ℚ, zero_ℚ, ◌+ℚ◌, ◌*ℚ◌, IsWhole, ProductFits, SumFits}
 use Rattle.vipr_spec.specs.Constraint.{Row, Point, at, value, ValueFits, Ints, IsInteger}
 use Rattle.vipr_linear.specs.Row.{RisesFrom}
 use Rattle.vipr_linear.specs.Values.{with_set, point_of, IsLaidOut, AreWhole, IsFirstFractional}
-use Rattle.vipr_linear.proofs.Adding.{coefficient, coefficient_here, coefficient_later, coefficient_below, coefficient_at}
+use Rattle.vipr_linear.proofs.Adding.{coefficient, coefficient_here, coefficient_later}
+use Rattle.vipr_linear.proofs.Adding.{coefficient_below, coefficient_at}
 use Rattle.vipr_linear.proofs.Marks.{next}
 use Rattle.vipr_linear.proofs.Rows.{rises_from}
 use Rattle.vipr_linear.proofs.Searching.{at_place}
@@ -27,12 +31,14 @@ module _ (xs : List ℚ) (es : List (ℕ × ℚ)) (i : ℕ) (p : ℕ × ℚ) (l 
   pub next_left_out : length xs ≤ p.0 → with_set xs (drop i es) ≡ with_set xs (drop (i + 1) es)
   next_left_out past = next_set ∙ ap (λ ys. with_set ys (drop (i + 1) es)) (set_past xs p.0 p.1 past)
 
-pub none_left : (xs : List ℚ) (es : List (ℕ × ℚ)) (i : ℕ) → length es ≤ i → with_set xs (drop i es) ≡ xs
+pub none_left : (xs : List ℚ) (es : List (ℕ × ℚ)) (i : ℕ) → length es ≤ i
+    → with_set xs (drop i es) ≡ xs
 unfolding with_set
 none_left xs es i h = ap (with_set xs) (drop_all i es h)
 
 -- a place below the entries stays
-set_below : (low : ℕ) (xs : List ℚ) (es : List (ℕ × ℚ)) (j : ℕ) → RisesFrom low es → j < low → get_or (with_set xs es) j zero_ℚ ≡ get_or xs j zero_ℚ
+set_below : (low : ℕ) (xs : List ℚ) (es : List (ℕ × ℚ)) (j : ℕ) → RisesFrom low es → j < low
+    → get_or (with_set xs es) j zero_ℚ ≡ get_or xs j zero_ℚ
 unfolding with_set
 set_below low xs [] j r l = refl
 set_below low xs (p ∷ ps) j r l =
@@ -40,7 +46,9 @@ set_below low xs (p ∷ ps) j r l =
     set_below (p.0 + 1) (slice_set xs p.0 p.1) ps j r.2 (omega (arith, k, l)) ∙ get_or-set_other xs p.0 j p.1 zero_ℚ (λ e. absurd (omega (arith, k, l, e)))
 
 -- over places that are 0, each has its coefficient
-set_at : (low : ℕ) (xs : List ℚ) (es : List (ℕ × ℚ)) (j : ℕ) → RisesFrom low es → low ≤ j → j < length xs → ((k : ℕ) → low ≤ k → get_or xs k zero_ℚ ≡ zero_ℚ) → get_or (with_set xs es) j zero_ℚ ≡ coefficient es j
+set_at : (low : ℕ) (xs : List ℚ) (es : List (ℕ × ℚ)) (j : ℕ) → RisesFrom low es → low ≤ j
+    → j < length xs → ((k : ℕ) → low ≤ k → get_or xs k zero_ℚ ≡ zero_ℚ)
+    → get_or (with_set xs es) j zero_ℚ ≡ coefficient es j
 unfolding with_set
 set_at low xs [] j r a l none = none j a
 set_at low xs (p ∷ ps) j r a l none =
@@ -64,7 +72,8 @@ zeros_at n j = elim (cases_lt j n) [
   | inr past ↦ get_or_past (replicate n zero_ℚ) j zero_ℚ (let e = length-replicate n zero_ℚ in omega (arith, e, past))
 ]
 
-pub laid_out : (n : ℕ) (row : Row) (es : List (ℕ × ℚ)) (old xs : List ℚ) → es ≡ entries row → RisesFrom 0 es → old ≡ replicate n zero_ℚ → xs ≡ with_set old es → IsLaidOut n (at row) xs
+pub laid_out : (n : ℕ) (row : Row) (es : List (ℕ × ℚ)) (old xs : List ℚ) → es ≡ entries row
+    → RisesFrom 0 es → old ≡ replicate n zero_ℚ → xs ≡ with_set old es → IsLaidOut n (at row) xs
 laid_out n row es old xs list rising start set =
     let same : xs ≡ with_set (replicate n zero_ℚ) (entries row) = set ∙ ap (λ o. with_set o es) start ∙ ap (with_set (replicate n zero_ℚ)) list in
     let rising' : RisesFrom 0 (entries row) = subst (RisesFrom 0) list rising in
@@ -134,11 +143,13 @@ module _ (integers : Ints) (row : Row) (es : List (ℕ × ℚ)) (r : RisesFrom 0
         from_here = let s = subst (RisesFrom 0) rest (rises_drop 0 es i r) in subst (RisesFrom p.0) (sym rest) (omega arith, s.1, s.2)
 
 -- ---- points that agree below n
-point_value : (n : ℕ) (row x y : ℕ → ℚ) → ((j : ℕ) → j < n → x j ≡ y j) → value n row x ≡ value n row y
+point_value : (n : ℕ) (row x y : ℕ → ℚ) → ((j : ℕ) → j < n → x j ≡ y j)
+    → value n row x ≡ value n row y
 point_value zero row x y same = refl
 point_value (suc n) row x y same = ap₂ (λ v c. v +ℚ row n *ℚ c) (point_value n row x y (λ j l. same j (omega arith))) (same n (omega arith))
 
-point_fits : (n : ℕ) (row x y : ℕ → ℚ) → ((j : ℕ) → j < n → x j ≡ y j) → ValueFits n row x → ValueFits n row y
+point_fits : (n : ℕ) (row x y : ℕ → ℚ) → ((j : ℕ) → j < n → x j ≡ y j) → ValueFits n row x
+    → ValueFits n row y
 point_fits n row x y same h j l =
     subst₂ (λ v c. ProductFits (row j) c × SumFits v (row j *ℚ c)) (point_value j row x y (λ i k. same i (omega arith))) (same j l) (h j l)
 

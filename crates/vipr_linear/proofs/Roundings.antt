@@ -1,9 +1,11 @@
 -- Whole fractions, and what a rounding dominates
-use Rattle.std.proofs.Common.{◌≡◌, ℤ, pos, ◌+ℤ◌, ◌≤ℤ◌, Bool, true, arith, refl, sym, ◌∙◌, ap, subst, inl, inr}
+use Rattle.std.proofs.Common.{◌≡◌, ℤ, pos, ◌+ℤ◌, ◌≤ℤ◌, Bool, true, arith, refl, sym, ◌∙◌, ap, subst}
+use Rattle.std.proofs.Common.{inl, inr}
 use Rattle.std.specs.Prelude.{◌↔◌}
 use Rattle.std.proofs.lemmas.Int.{ints}
 use Rattle.vipr_spec.specs.Fraction.{ℚ, whole}
-use Rattle.vipr_spec.specs.Constraint.{Sense, at_most, equal, at_least, Condition, at, RoundsTo, Dominates, DominatesRounded, two, LeavesNone}
+use Rattle.vipr_spec.specs.Constraint.{Sense, at_most, equal, at_least, Condition, at, RoundsTo}
+use Rattle.vipr_spec.specs.Constraint.{Dominates, DominatesRounded, two, LeavesNone}
 use Rattle.vipr_spec.proofs.Laws.{Is, is_self, is_one, is_whole, le_of_whole, le_of_eq_ℚ}
 use Rattle.vipr_linear.specs.Constraint.{sense_of, condition_of, with_bound}
 use Rattle.vipr_linear.specs.Rounding.{IsRounding, RoundedDominates}
@@ -20,7 +22,9 @@ antisymmetric j k h l = omega (arith, ints)
 same_whole : (j k : ℤ) → whole j ≡ whole k → j ≡ k
 same_whole j k e = antisymmetric j k (le_of_whole j k (le_of_eq_ℚ _ _ e)) (le_of_whole k j (le_of_eq_ℚ _ _ (sym e)))
 
-pub next_known : (low high : ℚ) (b : Bool) → low.denom ≡ 1 → high.denom ≡ 1 → (b ≡ true) ↔ (high.numer ≡ low.numer +ℤ pos 1) → (b ≡ true) ↔ ((k : ℤ) × (low ≡ whole k) × (high ≡ whole (k +ℤ pos 1)))
+pub next_known : (low high : ℚ) (b : Bool) → low.denom ≡ 1 → high.denom ≡ 1
+    → (b ≡ true) ↔ (high.numer ≡ low.numer +ℤ pos 1)
+    → (b ≡ true) ↔ ((k : ℤ) × (low ≡ whole k) × (high ≡ whole (k +ℤ pos 1)))
 next_known low high b e f t = (
   λ h. (low.numer, whole_of low e, whole_of high f ∙ ap whole (t.0 h)),
   λ s. t.1 (same_whole high.numer (s.0 +ℤ pos 1) (sym (whole_of high f) ∙ s.2) ∙ ap (λ k. k +ℤ pos 1) (same_whole s.0 low.numer (sym s.1 ∙ whole_of low e))),
@@ -31,7 +35,8 @@ rounds_once at_least b j k h l = antisymmetric j k (h.1 k l.0) (l.1 j h.0)
 rounds_once at_most b j k h l = antisymmetric j k (l.1 j h.0) (h.1 k l.0)
 rounds_once equal b j k h l = same_whole j k (sym h ∙ l)
 
-pub rounding_dominates : (c : Constraint) (r : Rounded) (d : Condition) → IsRounding c r → RoundedDominates r d ↔ DominatesRounded (condition_of c) d
+pub rounding_dominates : (c : Constraint) (r : Rounded) (d : Condition) → IsRounding c r
+    → RoundedDominates r d ↔ DominatesRounded (condition_of c) d
 rounding_dominates c (Row e) d h = (λ l. inr (k, h.2.1, subst (λ x. Dominates x d) same l), back)
   where
     k : ℤ
@@ -46,11 +51,15 @@ rounding_dominates c (Row e) d h = (λ l. inr (k, h.2.1, subst (λ x. Dominates 
 rounding_dominates c Absurd d h = (λ l. inl h, λ l. tt)
 
 -- with the rounded right-hand side
-pub rounded_with : (c : Constraint) (b : ℚ) (d : Condition) → (k : ℤ) × RoundsTo (sense_of c.sense) c.rhs k × (b ≡ whole k) → Dominates (with_bound c b) d ↔ DominatesRounded (condition_of c) d
+pub rounded_with : (c : Constraint) (b : ℚ) (d : Condition)
+    → (k : ℤ) × RoundsTo (sense_of c.sense) c.rhs k × (b ≡ whole k)
+    → Dominates (with_bound c b) d ↔ DominatesRounded (condition_of c) d
 rounded_with c b d h = rounding_dominates c (Row (record c { rhs = b })) d (refl, refl, h)
 
 -- ---- splits that cover
-pub none_left : (low high : ℚ) (floor ceiling : ℤ) (b : Bool) → RoundsTo at_most low floor → RoundsTo at_least high ceiling → (b ≡ true) ↔ (ceiling ≤ℤ (floor +ℤ pos 1)) → (b ≡ true) ↔ LeavesNone two low high
+pub none_left : (low high : ℚ) (floor ceiling : ℤ) (b : Bool) → RoundsTo at_most low floor
+    → RoundsTo at_least high ceiling → (b ≡ true) ↔ (ceiling ≤ℤ (floor +ℤ pos 1))
+    → (b ≡ true) ↔ LeavesNone two low high
 none_left low high floor ceiling b down up known = (
   λ t. (floor, ceiling, down, up, known.0 t),
   λ h. known.1 (subst (λ k. k ≤ℤ (floor +ℤ pos 1)) (rounds_once at_least high h.1 ceiling h.3 up)

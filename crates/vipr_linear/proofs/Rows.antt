@@ -1,5 +1,9 @@
 -- Lists of pairs as rows: order, look-ups, and that the order of the pairs makes no difference
-use Rattle.std.proofs.Common.{◌≡◌, ◌≢◌, ℕ, zero, suc, ◌+◌, ◌-◌, ◌<◌, ◌≤◌, take, drop, Bool, true, false, not, cond, nat_eq, List, [], ◌∷◌, ◌++◌, length, get_or, filter, All, Contains, Option, Some, None, IfSome, pos, T, arith, refl, sym, ◌∙◌, ap, subst, append_assoc, ◌||◌, ◌&&◌, unwrap_or, inl, inr, ◌⊎◌, rules}
+use Rattle.std.proofs.Common.{◌≡◌, ◌≢◌, ℕ, zero, suc, ◌+◌, ◌-◌, ◌<◌, ◌≤◌, take, drop, Bool, true}
+use Rattle.std.proofs.Common.{false, not, cond, nat_eq, List, [], ◌∷◌, ◌++◌, length, get_or, filter}
+use Rattle.std.proofs.Common.{All, Contains, Option, Some, None, IfSome, pos, T, arith, refl, sym}
+use Rattle.std.proofs.Common.{◌∙◌, ap, subst, append_assoc, ◌||◌, ◌&&◌, unwrap_or, inl, inr, ◌⊎◌}
+use Rattle.std.proofs.Common.{rules}
 use Rattle.std.specs.Prelude.{◌↔◌}
 use Rattle.std.proofs.lemmas.Bool.{cases_eq}
 use Rattle.std.proofs.lemmas.Bool.Decides.{nat_tests, Decides-int_eq}
@@ -7,18 +11,26 @@ use Rattle.std.proofs.lemmas.Slice.Eq.{slice_eq-Decides}
 use Rattle.std.specs.Bool.{Decides, ◌==◌}
 use Rattle.std.specs.Cmp.Lexicographic.{pointwise}
 use Rattle.std.proofs.lemmas.List.{get_or-map, length-map, take_more, take-append-drop}
-use Rattle.std.proofs.lemmas.List.Elements.{All-nil, All-cons, All-head, All-contains, All-filter, Contains-get_or, filter_passes}
+use Rattle.std.proofs.lemmas.List.Elements.{All-nil, All-cons, All-head, All-contains, All-filter}
+use Rattle.std.proofs.lemmas.List.Elements.{Contains-get_or, filter_passes}
 use Rattle.std.proofs.lemmas.List.Folds.{list_any-append}
-use Rattle.std.proofs.lemmas.List.Sorted.{Contains-permutation, IsPermutation-map, IsPermutation-refl}
-use Rattle.std.proofs.lemmas.Map.Keys.{IsDistinct-push, IsDistinct-from_apart, below_from_sorted, sorted_head, sorted_tail, sorted_from_strictly_increasing, IsDistinct-IsPermutation, IsStrictlyIncreasing-from_distinct}
+use Rattle.std.proofs.lemmas.List.Sorted.{Contains-permutation, IsPermutation-map}
+use Rattle.std.proofs.lemmas.List.Sorted.{IsPermutation-refl}
+use Rattle.std.proofs.lemmas.Map.Keys.{IsDistinct-push, IsDistinct-from_apart, below_from_sorted}
+use Rattle.std.proofs.lemmas.Map.Keys.{sorted_head, sorted_tail, sorted_from_strictly_increasing}
+use Rattle.std.proofs.lemmas.Map.Keys.{IsDistinct-IsPermutation, IsStrictlyIncreasing-from_distinct}
 use Rattle.std.proofs.lemmas.Map.Made.{IsDistinct-keys_filter}
-use Rattle.std.proofs.lemmas.Map.Views.{Contains-from_any, Contains-from_lookup, lookup-from_Contains}
+use Rattle.std.proofs.lemmas.Map.Views.{Contains-from_any, Contains-from_lookup}
+use Rattle.std.proofs.lemmas.Map.Views.{lookup-from_Contains}
 use Rattle.std.specs.Cmp.{nat_eq_equiv, nat_cmp_total}
 use Rattle.std.specs.declared.cmp.Ordering.TheVariants.{Less}
-use Rattle.std.specs.FinMap.{entries, from_sorted, find, is_sorted, get-from_sorted, get-from_entries, entries-from_sorted, entries_sorted, same_entries_map, same_map, nat_cmp-IsAntisymmetric}
+use Rattle.std.specs.FinMap.{entries, from_sorted, find, is_sorted, get-from_sorted}
+use Rattle.std.specs.FinMap.{get-from_entries, entries-from_sorted, entries_sorted}
+use Rattle.std.specs.FinMap.{same_entries_map, same_map, nat_cmp-IsAntisymmetric}
 use Rattle.std.specs.FinMap.Entries.{below_all}
 use Rattle.std.specs.List.{IsDistinct, AllByRecursion, list_any}
-use Rattle.std.specs.List.Sorted.{IsPermutation, IsNonDecreasing, IsNonDecreasingBy, IsStrictlyIncreasing, IsStrictlySortedBy}
+use Rattle.std.specs.List.Sorted.{IsPermutation, IsNonDecreasing, IsNonDecreasingBy}
+use Rattle.std.specs.List.Sorted.{IsStrictlyIncreasing, IsStrictlySortedBy}
 use Rattle.std.specs.Map.{lookup}
 use Rattle.std.specs.BTreeMap.{is_at}
 use Rattle.std.specs.Ordering.{nat_cmp, int_eq, eq_by_cmp}
@@ -47,11 +59,13 @@ nonzero_test x n = by (int_eq x.numer (pos 0)) refl
     by false e = ap not e
 
 -- ---- order
-pub rises_from : (low high : ℕ) (es : List (ℕ × ℚ)) → low ≤ high → RisesFrom high es → RisesFrom low es
+pub rises_from : (low high : ℕ) (es : List (ℕ × ℚ)) → low ≤ high → RisesFrom high es
+    → RisesFrom low es
 rises_from low high [] h r = tt
 rises_from low high (e ∷ es) h r = (omega arith, r.1, r.2)
 
-rises_below : (x low : ℕ) (es : List (ℕ × ℚ)) → x < low → RisesFrom low es → T (below_all nat_cmp x es)
+rises_below : (x low : ℕ) (es : List (ℕ × ℚ)) → x < low → RisesFrom low es
+    → T (below_all nat_cmp x es)
 rises_below x low [] h r = tt
 rises_below x low (e ∷ es) h r =
     let less : x < e.0 = omega arith in
@@ -76,7 +90,8 @@ module _ (j : ℕ) where
 pub no_zeros : (es : List (ℕ × ℚ)) → RisesFrom 0 es → HasNoZeros (from_sorted es)
 no_zeros es r = λ j. subst (λ (o : Option ℚ). IfSome o (λ a. a ≢ zero_ℚ)) (sym (get-from_sorted nat_cmp es j (rises_sorted 0 es r))) (find_nonzero j 0 es r)
 
-pub nonzero_from : (low : ℕ) (es : List (ℕ × ℚ)) → RisesFrom low es → All (λ (e : ℕ × ℚ). e.1 ≢ zero_ℚ) es
+pub nonzero_from : (low : ℕ) (es : List (ℕ × ℚ)) → RisesFrom low es
+    → All (λ (e : ℕ × ℚ). e.1 ≢ zero_ℚ) es
 nonzero_from low [] r = All-nil (λ (e : ℕ × ℚ). e.1 ≢ zero_ℚ)
 nonzero_from low (e ∷ es) r = All-cons (λ (e : ℕ × ℚ). e.1 ≢ zero_ℚ) e es r.1 (nonzero_from (e.0 + 1) es r.2)
 
@@ -112,20 +127,23 @@ contains_cases : (x e : ℕ × ℚ) (es : List (ℕ × ℚ)) → Contains (x ∷
 contains_cases x e es (zero, l, h) = inl h
 contains_cases x e es (suc k, l, h) = inr (k, omega arith, h)
 
-pub contains_filter : (p : ℕ × ℚ → Bool) (es : List (ℕ × ℚ)) (e : ℕ × ℚ) → p e ≡ true → Contains es e → Contains (filter p es) e
+pub contains_filter : (p : ℕ × ℚ → Bool) (es : List (ℕ × ℚ)) (e : ℕ × ℚ) → p e ≡ true
+    → Contains es e → Contains (filter p es) e
 contains_filter p [] e t h = absurd (omega (arith, h.1))
 contains_filter p (x ∷ es) e t h = elim (contains_cases x e es h) [
   | inl same ↦ subst (λ b. Contains (cond b (x ∷ filter p es) (filter p es)) e) (sym (ap p same ∙ t)) (0, omega arith, same)
   | inr later ↦ let rest = contains_filter p es e t later in elim (p x) as (λ b. Contains (cond b (x ∷ filter p es) (filter p es)) e) [ true ↦ contains_cons x e _ rest | false ↦ rest ]
 ]
 
-pub contains_unfiltered : (p : ℕ × ℚ → Bool) (es : List (ℕ × ℚ)) (e : ℕ × ℚ) → Contains (filter p es) e → Contains es e × (p e ≡ true)
+pub contains_unfiltered : (p : ℕ × ℚ → Bool) (es : List (ℕ × ℚ)) (e : ℕ × ℚ)
+    → Contains (filter p es) e → Contains es e × (p e ≡ true)
 contains_unfiltered p es e h = (
   All-contains (Contains es) (filter p es) e (All-filter p (Contains es) es (λ k d l. Contains-get_or es k d l)) h,
   All-contains (λ x. p x ≡ true) (filter p es) e (filter_passes p es) h,
 )
 
-find_filtered : (q : ℕ) (xs ys : List (ℕ × ℚ)) → IsPermutation xs ys → IsPermutation ys xs → IsDistinct nat_eq (variables_of xs) → IsDistinct nat_eq (variables_of ys)
+find_filtered : (q : ℕ) (xs ys : List (ℕ × ℚ)) → IsPermutation xs ys → IsPermutation ys xs
+    → IsDistinct nat_eq (variables_of xs) → IsDistinct nat_eq (variables_of ys)
     → find nat_cmp q (filter is_nonzero xs) ≡ find nat_cmp q (filter is_nonzero ys)
 find_filtered q xs ys p p' dx dy =
     find_lookup q _
@@ -136,11 +154,13 @@ find_filtered q xs ys p p' dx dy =
     moved xs ys p e h = let r = contains_unfiltered is_nonzero xs e h in contains_filter is_nonzero ys e r.1 (Contains-permutation xs ys e p r.0)
 
 -- ---- the list that a row keeps
-at_least_all : (low x : ℕ) (ys : List ℕ) → low ≤ x → AllByRecursion (λ y. nat_cmp x y ≡ Less) ys → AllByRecursion (λ y. low + 1 ≤ y) ys
+at_least_all : (low x : ℕ) (ys : List ℕ) → low ≤ x → AllByRecursion (λ y. nat_cmp x y ≡ Less) ys
+    → AllByRecursion (λ y. low + 1 ≤ y) ys
 at_least_all low x [] le h = tt
 at_least_all low x (y ∷ ys) le h = (let l : nat_cmp x y ≡ Less = h.0 in grind (arith, nat_tests), at_least_all low x ys le h.1)
 
-rises_filtered : (low : ℕ) (es : List (ℕ × ℚ)) → AllByRecursion (λ y. low ≤ y) (variables_of es) → IsStrictlySortedBy nat_cmp (variables_of es) → RisesFrom low (filter is_nonzero es)
+rises_filtered : (low : ℕ) (es : List (ℕ × ℚ)) → AllByRecursion (λ y. low ≤ y) (variables_of es)
+    → IsStrictlySortedBy nat_cmp (variables_of es) → RisesFrom low (filter is_nonzero es)
 rises_filtered low [] h s = tt
 rises_filtered low (e ∷ es) h s =
     by (is_nonzero e) refl h.0 (rises_filtered (e.0 + 1) es (at_least_all e.0 e.0 (variables_of es) (omega arith) (sorted_head nat_cmp e.0 (variables_of es) s)) (sorted_tail nat_cmp e.0 (variables_of es) s))
@@ -154,32 +174,39 @@ at_least_nothing [] = tt
 at_least_nothing (y ∷ ys) = (omega arith, at_least_nothing ys)
 
 -- what is kept of pairs that rise
-pub row_kept : (es : List (ℕ × ℚ)) → IsStrictlyIncreasing (variables_of es) → RisesFrom 0 (filter is_nonzero es)
+pub row_kept : (es : List (ℕ × ℚ)) → IsStrictlyIncreasing (variables_of es)
+    → RisesFrom 0 (filter is_nonzero es)
 row_kept es s = rises_filtered 0 es (at_least_nothing _) (sorted_from_strictly_increasing _ s)
 
 pub distinct_of_rising : (xs : List ℕ) → IsStrictlyIncreasing xs → IsDistinct nat_eq xs
 distinct_of_rising xs s = IsDistinct-from_apart nat_eq xs (λ i j d l h. let b = below_from_sorted xs i j d (sorted_from_strictly_increasing xs s) l h in grind (arith, nat_tests))
 
 -- the list that is kept makes the row of the pairs
-pub row_seen : (pairs es : List (ℕ × ℚ)) → IsPermutation pairs es → IsPermutation es pairs → IsDistinct nat_eq (variables_of pairs) → IsStrictlyIncreasing (variables_of es) → from_sorted {R = nat_cmp} (filter is_nonzero es) ≡ row_of pairs
+pub row_seen : (pairs es : List (ℕ × ℚ)) → IsPermutation pairs es → IsPermutation es pairs
+    → IsDistinct nat_eq (variables_of pairs) → IsStrictlyIncreasing (variables_of es)
+    → from_sorted {R = nat_cmp} (filter is_nonzero es) ≡ row_of pairs
 row_seen pairs es p p' d s = same_map nat_cmp_total nat_cmp-IsAntisymmetric _ _ (λ q.
     get-from_sorted nat_cmp (filter is_nonzero es) q (rises_sorted 0 _ (row_kept es s))
     ∙ find_filtered q es pairs p' p (distinct_of_rising _ s) d
     ∙ sym (get-from_entries nat_cmp_total (filter is_nonzero pairs) q))
 
-non_decreasing_keys : (es : List (ℕ × ℚ)) → IsNonDecreasingBy (λ p. p.0) es → IsNonDecreasing (variables_of es)
+non_decreasing_keys : (es : List (ℕ × ℚ)) → IsNonDecreasingBy (λ p. p.0) es
+    → IsNonDecreasing (variables_of es)
 non_decreasing_keys es n = λ i j d le l.
     let e = length-map es (λ (p : ℕ × ℚ). p.0) in
     let before : i < length es = omega (arith, e) in
     let within : j < length es = omega (arith, e) in
     rw (get_or-map (λ (p : ℕ × ℚ). p.0) es i (d, zero_ℚ) d before, get_or-map (λ (p : ℕ × ℚ). p.0) es j (d, zero_ℚ) d within) (n i j (d, zero_ℚ) le within)
 
-pub rising_of_sorted : (pairs es : List (ℕ × ℚ)) → IsPermutation pairs es → IsNonDecreasingBy (λ p. p.0) es → IsDistinct nat_eq (variables_of pairs) → IsStrictlyIncreasing (variables_of es)
+pub rising_of_sorted : (pairs es : List (ℕ × ℚ)) → IsPermutation pairs es
+    → IsNonDecreasingBy (λ p. p.0) es → IsDistinct nat_eq (variables_of pairs)
+    → IsStrictlyIncreasing (variables_of es)
 rising_of_sorted pairs es p n d = IsStrictlyIncreasing-from_distinct (variables_of es) (non_decreasing_keys es n) (IsDistinct-IsPermutation nat_eq (λ x y. grind (arith, nat_tests)) (variables_of pairs) (variables_of es) (IsPermutation-map (λ p. p.0) pairs es p) d)
 
 -- ---- the test whether variables rise
 -- the last variable of a row is the greatest
-pub ends_greatest : (low : ℕ) (es : List (ℕ × ℚ)) (n i : ℕ) (p : ℕ × ℚ) → RisesFrom low es → i + 1 ≡ length es → (get_or es i p).0 < n → All (λ (e : ℕ × ℚ). e.0 < n) es
+pub ends_greatest : (low : ℕ) (es : List (ℕ × ℚ)) (n i : ℕ) (p : ℕ × ℚ) → RisesFrom low es
+    → i + 1 ≡ length es → (get_or es i p).0 < n → All (λ (e : ℕ × ℚ). e.0 < n) es
 ends_greatest low [] n i p r h l = absurd (omega arith)
 ends_greatest low (e ∷ []) n zero p r h l = All-cons (λ (e : ℕ × ℚ). e.0 < n) e [] l (All-nil (λ (e : ℕ × ℚ). e.0 < n))
 ends_greatest low (e ∷ []) n (suc i) p r h l = absurd (omega arith)
@@ -191,11 +218,15 @@ ends_greatest low (e ∷ f ∷ es) n (suc i) p r h l =
     let less : e.0 < n = omega arith in
     All-cons (λ (e : ℕ × ℚ). e.0 < n) e (f ∷ es) less rest
 
-key_at : (es : List (ℕ × ℚ)) (k : ℕ) (p : ℕ × ℚ) → k < length es → get_or (variables_of es) k 0 ≡ (get_or es k p).0
+key_at : (es : List (ℕ × ℚ)) (k : ℕ) (p : ℕ × ℚ) → k < length es
+    → get_or (variables_of es) k 0 ≡ (get_or es k p).0
 key_at es k p l = get_or-map (λ (p : ℕ × ℚ). p.0) es k p 0 l
 
-pub rises_more : (es : List (ℕ × ℚ)) (i : ℕ) (p q : ℕ × ℚ) → 1 ≤ i → i < length es → (get_or es (i - 1) p).0 < (get_or es i q).0
-    → ((k : ℕ) → k + 1 < i → get_or (variables_of es) k 0 < get_or (variables_of es) (k + 1) 0) → (k : ℕ) → k + 1 < i + 1 → get_or (variables_of es) k 0 < get_or (variables_of es) (k + 1) 0
+pub rises_more : (es : List (ℕ × ℚ)) (i : ℕ) (p q : ℕ × ℚ) → 1 ≤ i → i < length es
+    → (get_or es (i - 1) p).0 < (get_or es i q).0
+    → ((k : ℕ) → k + 1 < i → get_or (variables_of es) k 0 < get_or (variables_of es) (k + 1) 0)
+    → (k : ℕ) → k + 1 < i + 1
+    → get_or (variables_of es) k 0 < get_or (variables_of es) (k + 1) 0
 rises_more es i p q some l less before k h = by (cases_eq (k + 1) i)
   where
     by : (k + 1 ≡ i) ⊎ (k + 1 ≢ i) → get_or (variables_of es) k 0 < get_or (variables_of es) (k + 1) 0
@@ -206,7 +237,8 @@ rises_more es i p q some l less before k h = by (cases_eq (k + 1) i)
         rw (is, at, first, second) less
     by (inr apart) = before k (omega arith)
 
-pub falls_at : (es : List (ℕ × ℚ)) (i : ℕ) (p q : ℕ × ℚ) → 1 ≤ i → i < length es → (get_or es i q).0 ≤ (get_or es (i - 1) p).0 → ¬ IsStrictlyIncreasing (variables_of es)
+pub falls_at : (es : List (ℕ × ℚ)) (i : ℕ) (p q : ℕ × ℚ) → 1 ≤ i → i < length es
+    → (get_or es i q).0 ≤ (get_or es (i - 1) p).0 → ¬ IsStrictlyIncreasing (variables_of es)
 falls_at es i p q some l more rising =
     let first = key_at es (i - 1) p (omega arith) in
     let second = key_at es i q l in
@@ -268,14 +300,17 @@ same_entry a b = (there (nat_eq a.0 b.0) refl, back)
     back : a ≡ b → (nat_eq a.0 b.0 && eq_ℚ a.1 b.1) ≡ true
     back e = let k : nat_eq a.0 b.0 ≡ true = let f = ap (λ (p : ℕ × ℚ). p.0) e in grind (arith, nat_tests) in ap (λ t. t && eq_ℚ a.1 b.1) k ∙ (eq_is a.1 b.1).1 (ap (λ (p : ℕ × ℚ). p.1) e)
 
-pub same_lists : (xs ys : List (ℕ × ℚ)) → RisesFrom 0 xs → RisesFrom 0 ys → ((j : ℕ) → at (from_sorted xs) j ≡ at (from_sorted ys) j) → xs ≡ ys
+pub same_lists : (xs ys : List (ℕ × ℚ)) → RisesFrom 0 xs → RisesFrom 0 ys
+    → ((j : ℕ) → at (from_sorted xs) j ≡ at (from_sorted ys) j) → xs ≡ ys
 same_lists xs ys r s e =
     sym (entries-from_sorted nat_cmp xs (rises_sorted 0 xs r))
     ∙ ap entries (same_rows (from_sorted xs) (from_sorted ys) (no_zeros xs r) (no_zeros ys s) e)
     ∙ entries-from_sorted nat_cmp ys (rises_sorted 0 ys s)
 
 -- a test of the lists tells whether the coefficients are the same
-pub same_known : (xs ys : List (ℕ × ℚ)) (b : Bool) → RisesFrom 0 xs → RisesFrom 0 ys → b ≡ pointwise (λ (x y : ℕ × ℚ). nat_eq x.0 y.0 && eq_ℚ x.1 y.1) xs ys → (b ≡ true) ↔ ((j : ℕ) → at (from_sorted xs) j ≡ at (from_sorted ys) j)
+pub same_known : (xs ys : List (ℕ × ℚ)) (b : Bool) → RisesFrom 0 xs → RisesFrom 0 ys
+    → b ≡ pointwise (λ (x y : ℕ × ℚ). nat_eq x.0 y.0 && eq_ℚ x.1 y.1) xs ys
+    → (b ≡ true) ↔ ((j : ℕ) → at (from_sorted xs) j ≡ at (from_sorted ys) j)
 same_known xs ys b r s h =
     let d = slice_eq-Decides same_entry xs ys b h in
     (λ t j. ap (λ es. at (from_sorted es) j) (d.0 t), λ e. d.1 (same_lists xs ys r s e))
@@ -287,7 +322,8 @@ row_again m = same_entries_map _ m (entries-from_sorted nat_cmp (entries m) (ent
 pub at-nothing : (j : ℕ) → at (from_sorted []) j ≡ zero_ℚ
 at-nothing j = ap (λ o. unwrap_or o zero_ℚ) (get-from_sorted nat_cmp [] j tt)
 
-pub empty_known : (xs : List (ℕ × ℚ)) (b : Bool) → RisesFrom 0 xs → b ≡ (length xs == 0) → (b ≡ true) ↔ ((j : ℕ) → at (from_sorted xs) j ≡ zero_ℚ)
+pub empty_known : (xs : List (ℕ × ℚ)) (b : Bool) → RisesFrom 0 xs → b ≡ (length xs == 0)
+    → (b ≡ true) ↔ ((j : ℕ) → at (from_sorted xs) j ≡ zero_ℚ)
 empty_known [] b r h = (λ t j. at-nothing j, λ e. h)
 empty_known (x ∷ xs) b r h = (λ t. absurd (grind (arith, nat_tests)), λ e. let is = same_lists (x ∷ xs) [] r tt (λ j. e j ∙ sym (at-nothing j)) in absurd (cc))
 
@@ -295,7 +331,8 @@ empty_known (x ∷ xs) b r h = (λ t. absurd (grind (arith, nat_tests)), λ e. l
 one_rises : (v : ℕ) → IsStrictlyIncreasing (v ∷ [])
 one_rises v = search rules
 
-pub one_seen : (e : ℕ × ℚ) → from_sorted {R = nat_cmp} (filter is_nonzero (e ∷ [])) ≡ row_of (e ∷ [])
+pub one_seen : (e : ℕ × ℚ)
+    → from_sorted {R = nat_cmp} (filter is_nonzero (e ∷ [])) ≡ row_of (e ∷ [])
 one_seen e =
     let one = e ∷ [] in
     row_seen one one (IsPermutation-refl one) (IsPermutation-refl one) (distinct_of_rising _ (one_rises e.0)) (one_rises e.0)

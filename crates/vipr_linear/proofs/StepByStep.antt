@@ -1,15 +1,22 @@
 -- Adding entries one after the other gives their sum: what is suitable, what fits, and what is held
-use Rattle.std.proofs.Common.{◌≡◌, ℕ, ◌<◌, ◌≤◌, List, [], ◌∷◌, ◌++◌, length, get_or, replicate, Option, Some, None, IsSome, is_some, unwrap_or, arith, refl, sym, ◌∙◌, ap, ap₂, subst, ◌⊎◌, inl, inr}
+use Rattle.std.proofs.Common.{◌≡◌, ℕ, ◌<◌, ◌≤◌, List, [], ◌∷◌, ◌++◌, length, get_or, replicate}
+use Rattle.std.proofs.Common.{Option, Some, None, IsSome, is_some, unwrap_or, arith, refl, sym, ◌∙◌}
+use Rattle.std.proofs.Common.{ap, ap₂, subst, ◌⊎◌, inl, inr}
 use Rattle.std.specs.Prelude.{◌↔◌}
 use Rattle.std.proofs.lemmas.List.{get_or-replicate, get_or_past, length-replicate}
 use Rattle.std.proofs.lemmas.List.Elements.{All-nil}
 use Rattle.std.proofs.lemmas.List.FromFn.{get_or-map-range_with_len, length-map-range_with_len}
 use Rattle.std.proofs.lemmas.Bool.{cases_lt}
 use Rattle.vipr_spec.specs.Fraction.{ℚ, zero_ℚ, ◌+ℚ◌, ◌*ℚ◌, IsBounded, ProductFits}
-use Rattle.vipr_spec.specs.Constraint.{Sense, equal, Row, at, Entry, HasSense, sum_of, SumOfFits, NamesBelow}
+use Rattle.vipr_spec.specs.Constraint.{Sense, equal, Row, at, Entry, HasSense, sum_of, SumOfFits}
+use Rattle.vipr_spec.specs.Constraint.{NamesBelow}
 use Rattle.vipr_spec.specs.MoreEntries.{sense_of_multiple, TermFits}
-use Rattle.vipr_spec.proofs.Laws.{zero-add_ℚ, mul-zero_ℚ, zero_or_not, no_sense, turned_sense, joined_sense, clashing_senses, sum_more, fits_more, sums_bounded, nothing_more}
-use Rattle.vipr_linear.specs.Accumulator.{Accumulator, held_condition, sum_at, nothing_added, joined_with, AdditionFits, with_entry, Holds, IsSuitable, HoldsSum}
+use Rattle.vipr_spec.proofs.Laws.{zero-add_ℚ, mul-zero_ℚ, zero_or_not, no_sense, turned_sense}
+use Rattle.vipr_spec.proofs.Laws.{joined_sense, clashing_senses, sum_more, fits_more, sums_bounded}
+use Rattle.vipr_spec.proofs.Laws.{nothing_more}
+use Rattle.vipr_linear.specs.Accumulator.{Accumulator, held_condition, sum_at, nothing_added}
+use Rattle.vipr_linear.specs.Accumulator.{joined_with, AdditionFits, with_entry, Holds, IsSuitable}
+use Rattle.vipr_linear.specs.Accumulator.{HoldsSum}
 
 -- ---- what fits
 module _ (n : ℕ) (es : List Entry) (e : Entry) (a : Accumulator) (h : Holds n es a) where
@@ -83,16 +90,20 @@ start_held n = record {
     at j (inl l) = get_or-replicate n j zero_ℚ zero_ℚ l
     at j (inr past) = get_or_past (replicate n zero_ℚ) j zero_ℚ (let e = length-replicate n zero_ℚ in omega (arith, e, past))
 
-pub sum_held : (n : ℕ) (es : List Entry) (a : Accumulator) (row : Row) (s : Sense) (b : ℚ) → Holds n es a → HoldsSum a row s b → HasSense es s × (record { row = at row; sense = s; bound = b } ≡ sum_of es s)
+pub sum_held : (n : ℕ) (es : List Entry) (a : Accumulator) (row : Row) (s : Sense) (b : ℚ)
+    → Holds n es a → HoldsSum a row s b
+    → HasSense es s × (record { row = at row; sense = s; bound = b } ≡ sum_of es s)
 sum_held n es a row s b h k = (
   subst (HasSense es) (sym k.sense_is) h.sense_is,
   λ i. record { row = λ j. (k.row_is j ∙ h.row_is j) i; sense = s; bound = (k.bound_is ∙ h.bound_is) i },
 )
 
 -- what the sum says is the sum of the entries that it holds
-pub held_sum : (n : ℕ) (es : List Entry) (a : Accumulator) → Holds n es a → HasSense es a.sense × (held_condition a ≡ sum_of es a.sense)
+pub held_sum : (n : ℕ) (es : List Entry) (a : Accumulator) → Holds n es a
+    → HasSense es a.sense × (held_condition a ≡ sum_of es a.sense)
 held_sum n es a h = (h.sense_is, λ i. record { row = λ j. h.row_is j i; sense = a.sense; bound = h.bound_is i })
 
 -- and so does a constraint that it is laid out as
-pub laid_out : (a : Accumulator) (row : Row) (s : Sense) (b : ℚ) → HoldsSum a row s b → record { row = at row; sense = s; bound = b } ≡ held_condition a
+pub laid_out : (a : Accumulator) (row : Row) (s : Sense) (b : ℚ) → HoldsSum a row s b
+    → record { row = at row; sense = s; bound = b } ≡ held_condition a
 laid_out a row s b k = λ i. record { row = λ j. k.row_is j i; sense = k.sense_is i; bound = k.bound_is i }

@@ -1,5 +1,7 @@
 -- The value of a row, summed over its listed entries
-use Rattle.std.proofs.Common.{◌≡◌, ◌≢◌, ℕ, ◌+◌, ◌<◌, ◌≤◌, true, false, List, [], ◌∷◌, length, get_or, drop, Result, Ok, Err, IfOk, arith, refl, sym, ◌∙◌, ap, ap₂, subst, subst₂, ◌⊎◌, inl, inr, add-one}
+use Rattle.std.proofs.Common.{◌≡◌, ◌≢◌, ℕ, ◌+◌, ◌<◌, ◌≤◌, true, false, List, [], ◌∷◌, length}
+use Rattle.std.proofs.Common.{get_or, drop, Result, Ok, Err, IfOk, arith, refl, sym, ◌∙◌, ap, ap₂}
+use Rattle.std.proofs.Common.{subst, subst₂, ◌⊎◌, inl, inr, add-one}
 use Rattle.std.specs.Prelude.{◌↔◌}
 use Rattle.std.proofs.lemmas.Bool.{cases_eq, cases_lt}
 use Rattle.std.proofs.lemmas.List.{drop_all}
@@ -10,7 +12,8 @@ use Rattle.vipr_spec.specs.MoreEntries.{TermFits}
 use Rattle.vipr_spec.proofs.Laws.{value_gap, zero_bounded, sum_bounded, nothing_more}
 use Rattle.vipr_linear.specs.Row.{RisesFrom}
 use Rattle.vipr_linear.specs.Values.{with_values, ValuesFit}
-use Rattle.vipr_linear.proofs.Adding.{coefficient, coefficient_here, coefficient_later, coefficient_below, coefficient_at}
+use Rattle.vipr_linear.proofs.Adding.{coefficient, coefficient_here, coefficient_later}
+use Rattle.vipr_linear.proofs.Adding.{coefficient_below, coefficient_at}
 use Rattle.vipr_linear.proofs.Marks.{next}
 
 -- ---- one turn of the loop over the entries
@@ -46,11 +49,13 @@ module _ (first : Type 0) (s : ℚ) (x : Point) (es : List (ℕ × ℚ)) (i : �
       pub value_on : with_values new (drop (i + 1) es) x ≡ with_values s (drop i es) x
       value_on = ap (λ v. with_values v (drop (i + 1) es) x) new_is ∙ sym next_value
 
-pub all_fit : (s : ℚ) (x : Point) (es : List (ℕ × ℚ)) (i : ℕ) → length es ≤ i → ValuesFit s (drop i es) x
+pub all_fit : (s : ℚ) (x : Point) (es : List (ℕ × ℚ)) (i : ℕ) → length es ≤ i
+    → ValuesFit s (drop i es) x
 unfolding ValuesFit
 all_fit s x es i h = subst (λ ys. ValuesFit s ys x) (sym (drop_all i es h)) tt
 
-pub no_more : (s : ℚ) (x : Point) (es : List (ℕ × ℚ)) (i : ℕ) → length es ≤ i → with_values s (drop i es) x ≡ s
+pub no_more : (s : ℚ) (x : Point) (es : List (ℕ × ℚ)) (i : ℕ) → length es ≤ i
+    → with_values s (drop i es) x ≡ s
 unfolding with_values
 no_more s x es i h = ap (λ ys. with_values s ys x) (drop_all i es h)
 
@@ -129,6 +134,7 @@ module _ (row : Row) (x : Point) (n : ℕ) (r : RisesFrom 0 (entries row)) (name
       let f = listed_fits n (at row) x names 0 (entries row) r (λ j a. sym (coefficient_at row r j)) zero_bounded in
       (λ h j l. f.0 h j (omega arith) l, λ h. f.1 (λ j a l. h j l))
 
-pub if_ok : {A E : Type 0} (v w : A) (t : Result A E) → v ≡ w → IfOk t (λ y. y ≡ v) → IfOk t (λ y. y ≡ w)
+pub if_ok : {A E : Type 0} (v w : A) (t : Result A E) → v ≡ w → IfOk t (λ y. y ≡ v)
+    → IfOk t (λ y. y ≡ w)
 if_ok v w (Ok y) e h = h ∙ e
 if_ok v w (Err y) e h = tt

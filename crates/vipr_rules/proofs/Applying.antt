@@ -1,5 +1,6 @@
 -- What is answered of a derivation, by what the rule of its reason says
-use Rattle.std.proofs.Common.{◌≡◌, ℕ, Some, Ok, Err, Result, Option, refl, sym, ◌∙◌, ap, subst, inl, inr}
+use Rattle.std.proofs.Common.{◌≡◌, ℕ, Some, Ok, Err, Result, Option, refl, sym, ◌∙◌, ap, subst, inl}
+use Rattle.std.proofs.Common.{inr}
 use Rattle.std.specs.Prelude.{IsTrue}
 use Rattle.std.specs.FinSet.{FinSet, contains}
 use Rattle.std.specs.Ordering.{nat_cmp}
@@ -18,7 +19,8 @@ use Rattle.vipr_rules.specs.declared.error.RuleError.TheVariants.{Memory}
 use Rattle.vipr_rules.specs.Context.{IsSetByReason}
 use Rattle.vipr_rules.specs.Soundness.{HasSoundRows, IsTrueUnder}
 use Rattle.vipr_rules.specs.Apply.{IsRuledBy, Applies}
-use Rattle.vipr_rules.proofs.StepLemmas.{kept_entry, keeps_sound, refusal, known_is_not_memory, free_of_all}
+use Rattle.vipr_rules.proofs.StepLemmas.{kept_entry, keeps_sound, refusal, known_is_not_memory}
+use Rattle.vipr_rules.proofs.StepLemmas.{free_of_all}
 
 module _ (P : Profile) (p : Problem) (best : Option ℚ) (table : Table) (step : Step) where
   -- the rule of the derivation's reason says so

@@ -23,8 +23,11 @@ equal_between x y = (
 )
 
 -- ---- constraint by constraint
-pub bounds_next : (row : Row) (cs : List Constraint) (n : ℕ) (old new : Bounds) → AreBounds row cs n old
-    → ((v : ℚ) → LiesWithin new v ↔ (LiesWithin old v × (HasRow row (nth cs n) → Compares (nth cs n).sense v (nth cs n).bound))) → AreBounds row cs (n + 1) new
+pub bounds_next : (row : Row) (cs : List Constraint) (n : ℕ) (old new : Bounds)
+    → AreBounds row cs n old
+    → ((v : ℚ) → LiesWithin new v ↔ (LiesWithin old v
+    × (HasRow row (nth cs n) → Compares (nth cs n).sense v (nth cs n).bound)))
+    → AreBounds row cs (n + 1) new
 bounds_next row cs n old new before next v = (
   λ w i l same. elim (cases_lt i n) [
     | inl below ↦ (before v).0 ((next v).0 w).0 i below same

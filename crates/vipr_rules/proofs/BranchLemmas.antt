@@ -1,14 +1,19 @@
--- What the parts of the tests of two joined branches say of all of them, and what the joined constraint rests on.
-use Rattle.std.proofs.Common.{◌≡◌, ◌≢◌, ℕ, Bool, true, false, not, ◌&&◌, nat_eq, List, [], ◌∷◌, ◌++◌, Option, Some, None, refl, sym, ap, ap₂, ◌∙◌, subst, inl, inr, arith}
+-- What the parts of the tests of two joined branches say of all of them, and what the joined
+-- constraint rests on.
+use Rattle.std.proofs.Common.{◌≡◌, ◌≢◌, ℕ, Bool, true, false, not, ◌&&◌, nat_eq, List, [], ◌∷◌}
+use Rattle.std.proofs.Common.{◌++◌, Option, Some, None, refl, sym, ap, ap₂, ◌∙◌, subst, inl, inr}
+use Rattle.std.proofs.Common.{arith}
 use Rattle.std.specs.Prelude.{◌↔◌, IsTrue}
 use Rattle.std.proofs.lemmas.Bool.Decides.{nat_tests}
 use Rattle.std.specs.Cmp.{nat_cmp_total}
 use Rattle.std.specs.Ordering.{nat_cmp}
 use Rattle.std.specs.FinSet.{FinSet, contains, union, remove, contains-remove}
 use Rattle.vipr_spec.specs.Constraint.{Profile, Condition, condition, Ints, IsSplit, Dominates}
-use Rattle.vipr_spec.specs.Certificate.{Certificate, Derivation, Reason, asm, lin, rnd, uns, sol, constraint_at, reason_at, is_assumption}
+use Rattle.vipr_spec.specs.Certificate.{Certificate, Derivation, Reason, asm, lin, rnd, uns, sol}
+use Rattle.vipr_spec.specs.Certificate.{constraint_at, reason_at, is_assumption}
 use Rattle.vipr_spec.specs.Causes as cause
-use Rattle.vipr_spec.specs.Steps.{StepTest, assumed, split, by_constraint, step_tests, index, both, compared}
+use Rattle.vipr_spec.specs.Steps.{StepTest, assumed, split, by_constraint, step_tests, index, both}
+use Rattle.vipr_spec.specs.Steps.{compared}
 use Rattle.vipr_linear.specs.Constraint.{condition_of}
 use Rattle.vipr_linear.specs.declared.constraint.Constraint.{Constraint}
 use Rattle.vipr_rules.specs.declared.branches.Branch.{Branch}
@@ -16,13 +21,16 @@ use Rattle.vipr_rules.specs.declared.error.RuleError.{RuleError}
 use Rattle.vipr_rules.specs.declared.error.RuleError.TheVariants.{NotAssumption}
 use Rattle.vipr_rules.specs.declared.context.Known.{Known}
 use Rattle.vipr_rules.specs.Context.{IsKnownAs, IsSetWithout, IsSetByReason, set_of, is_assumed}
-use Rattle.vipr_rules.specs.Apply.{index_tests, free_tests, PassesTestsIn, StopsIn, IsNotDominated, shown_by}
+use Rattle.vipr_rules.specs.Apply.{index_tests, free_tests, PassesTestsIn, StopsIn, IsNotDominated}
+use Rattle.vipr_rules.specs.Apply.{shown_by}
 use Rattle.vipr_table.proofs.Laws.{tied_numbers}
-use Rattle.vipr_rules.proofs.StepLemmas.{stops_first, stops_second, passes_both, passes_one, stops_one}
+use Rattle.vipr_rules.proofs.StepLemmas.{stops_first, stops_second, passes_both, passes_one}
+use Rattle.vipr_rules.proofs.StepLemmas.{stops_one}
 use Rattle.vipr_rules.proofs.UnionLemmas.{in_union}
 
 -- ---- what is rested on
-pub in_remove : (s : FinSet nat_cmp) (l a : ℕ) → IsTrue (contains (remove s l) a) ↔ (IsTrue (contains s a) × (a ≢ l))
+pub in_remove : (s : FinSet nat_cmp) (l a : ℕ)
+    → IsTrue (contains (remove s l) a) ↔ (IsTrue (contains s a) × (a ≢ l))
 in_remove s l a = (λ h. out a l (contains s a) (sym same ∙ h), λ h. same ∙ back a l (contains s a) h.0 h.1)
   where
     same : contains (remove s l) a ≡ (not (nat_eq a l) && contains s a)
@@ -35,14 +43,17 @@ in_remove s l a = (λ h. out a l (contains s a) (sym same ∙ h), λ h. same ∙
     back : (a l : ℕ) (b : Bool) → b ≡ true → a ≢ l → (not (nat_eq a l) && b) ≡ true
     back a l b h other = grind (arith, nat_tests)
 
-set_without : (c : Certificate) (i l : ℕ) (k : Known) (s : FinSet nat_cmp) → IsKnownAs c i k → s ≡ remove (set_of k) l → IsSetWithout c i l s
+set_without : (c : Certificate) (i l : ℕ) (k : Known) (s : FinSet nat_cmp) → IsKnownAs c i k
+    → s ≡ remove (set_of k) l → IsSetWithout c i l s
 set_without c i l k s is same = subst (IsSetWithout c i l) (sym same) (λ a. (
   λ h. let r = (in_remove (set_of k) l a).0 h in ((is.rests a).0 r.0, r.1),
   λ r. (in_remove (set_of k) l a).1 ((is.rests a).1 r.0, r.1),
 ))
 
-pub joined_set : (c : Certificate) (i1 l1 i2 l2 : ℕ) (k1 k2 : Known) (s t u : FinSet nat_cmp) → IsKnownAs c i1 k1 → IsKnownAs c i2 k2
-    → s ≡ remove (set_of k1) l1 → t ≡ remove (set_of k2) l2 → u ≡ union s t → IsSetByReason c (uns i1 l1 i2 l2) u
+pub joined_set : (c : Certificate) (i1 l1 i2 l2 : ℕ) (k1 k2 : Known) (s t u : FinSet nat_cmp)
+    → IsKnownAs c i1 k1 → IsKnownAs c i2 k2
+    → s ≡ remove (set_of k1) l1 → t ≡ remove (set_of k2) l2 → u ≡ union s t
+    → IsSetByReason c (uns i1 l1 i2 l2) u
 joined_set c i1 l1 i2 l2 k1 k2 s t u is1 is2 e1 e2 e = subst (IsSetByReason c (uns i1 l1 i2 l2)) (sym e) (λ a. (
   λ h. elim ((in_union s t a).0 h) [ inl k ↦ inl ((set_without c i1 l1 k1 s is1 e1 a).0 k) | inr k ↦ inr ((set_without c i2 l2 k2 t is2 e2 a).0 k) ],
   λ h. (in_union s t a).1 (elim h [ inl k ↦ inl ((set_without c i1 l1 k1 s is1 e1 a).1 k) | inr k ↦ inr ((set_without c i2 l2 k2 t is2 e2 a).1 k) ]),

@@ -1,10 +1,13 @@
 -- What finite bounds ask of a constraint and of the best value.
-use Rattle.std.proofs.Common.{◌≡◌, ◌≢◌, List, [], ◌∷◌, ◌++◌, Option, Some, None, IfSome, IsSome, IsSomeAnd, Contains, option_map, refl, sym, ap, subst, inl, inr}
+use Rattle.std.proofs.Common.{◌≡◌, ◌≢◌, List, [], ◌∷◌, ◌++◌, Option, Some, None, IfSome, IsSome}
+use Rattle.std.proofs.Common.{IsSomeAnd, Contains, option_map, refl, sym, ap, subst, inl, inr}
 use Rattle.std.specs.Prelude.{◌↔◌}
 use Rattle.std.proofs.lemmas.List.Elements.{All-contains}
 use Rattle.vipr_spec.specs.Fraction.{ℚ}
 use Rattle.vipr_spec.specs.Constraint.{Profile, one, two, Condition, Row, at, Dominates, IsWholeRow}
-use Rattle.vipr_spec.specs.Certificate.{Named, Problem, Claim, infeasible, range, objective_at, objective_constraint, stays, IsAsGood, dual_bound, MeetsBound, MeetsDual, NeedsGoal, MeetsPrimal}
+use Rattle.vipr_spec.specs.Certificate.{Named, Problem, Claim, infeasible, range, objective_at}
+use Rattle.vipr_spec.specs.Certificate.{objective_constraint, stays, IsAsGood, dual_bound}
+use Rattle.vipr_spec.specs.Certificate.{MeetsBound, MeetsDual, NeedsGoal, MeetsPrimal}
 use Rattle.vipr_spec.specs.Tests.{goal_needed_by, finite_primal}
 use Rattle.vipr_spec.specs.Soundness.{IsBestValue}
 use Rattle.vipr_spec.proofs.Laws.{as_good_trans, best_first}
@@ -14,7 +17,8 @@ use Rattle.vipr_rules.specs.declared.claim.Target.{Target}
 use Rattle.vipr_rules.specs.declared.claim.Target.TheVariants.{Bound, WholeBound, Nothing}
 use Rattle.vipr_rules.specs.Claim.{MeetsWhole, IsMetBy, target_bound, IsTargetIn}
 
-pub the_first : (p : Problem) (ss : List (Named Row)) (s : Named Row) → IsBestValue p ss None → IsBestValue p (ss ++ s ∷ []) (Some (objective_at p (at s.item)))
+pub the_first : (p : Problem) (ss : List (Named Row)) (s : Named Row) → IsBestValue p ss None
+    → IsBestValue p (ss ++ s ∷ []) (Some (objective_at p (at s.item)))
 the_first p ss s none = subst (λ (l : List (Named Row)). IsBestValue p (l ++ s ∷ []) (Some (objective_at p (at s.item)))) (sym none) (best_first p s)
 
 module _ (p : Problem) (lower upper : Option ℚ) (bound : ℚ) (is : range lower upper ≡ p.claim) where
@@ -49,7 +53,9 @@ module _ (p : Problem) (lower upper : Option ℚ) (bound : ℚ) (is : range lowe
 abbrev MeetsPrimalBound : Problem → List (Named Row) → ℚ → Type 0
 MeetsPrimalBound p ss v = (s : Named Row) × Contains ss s × IsAsGood p.direction (objective_at p (at s.item)) v
 
-pub best_decides : (p : Problem) (ss : List (Named Row)) (best bound : ℚ) → IsBestValue p ss (Some best) → (k : Claim) → Some bound ≡ finite_primal p k → IsAsGood p.direction best bound ↔ MeetsPrimal p ss k
+pub best_decides : (p : Problem) (ss : List (Named Row)) (best bound : ℚ)
+    → IsBestValue p ss (Some best) → (k : Claim) → Some bound ≡ finite_primal p k
+    → IsAsGood p.direction best bound ↔ MeetsPrimal p ss k
 best_decides p ss best bound b infeasible e = absurd cc
 best_decides p ss best bound b (range lower upper) e = subst (λ o. IsAsGood p.direction best bound ↔ IfSome o (MeetsPrimalBound p ss)) e (
   λ h. (b.0.0, b.0.1, subst (λ w. IsAsGood p.direction w bound) (sym b.0.2) h),

@@ -1,15 +1,22 @@
 -- The columns of a problem, entry by entry, and sums over the listed variables of a solution
-use Rattle.std.proofs.Common.{◌≡◌, ◌≢◌, ℕ, zero, suc, ◌+◌, ◌<◌, ◌≤◌, ◌⊎◌, inl, inr, List, [], ◌∷◌, ◌++◌, length, get_or, map, Bool, false, not, Option, Some, None, unwrap_or, Vec, arith, refl, sym, ◌∙◌, ap, ap₂, subst, subst₂, add-one}
+use Rattle.std.proofs.Common.{◌≡◌, ◌≢◌, ℕ, zero, suc, ◌+◌, ◌<◌, ◌≤◌, ◌⊎◌, inl, inr, List, [], ◌∷◌}
+use Rattle.std.proofs.Common.{◌++◌, length, get_or, map, Bool, false, not, Option, Some, None}
+use Rattle.std.proofs.Common.{unwrap_or, Vec, arith, refl, sym, ◌∙◌, ap, ap₂, subst, subst₂}
+use Rattle.std.proofs.Common.{add-one}
 use Rattle.std.specs.Prelude.{slice_set, OnSome, Result, Ok, Err, IsOk, IsErr}
 use Rattle.std.specs.Option.{is_some}
 use Rattle.std.specs.Global.{Global}
 use Rattle.std.specs.FinMap.{entries}
 use Rattle.std.proofs.lemmas.Bool.{cases_eq, cases_lt}
-use Rattle.std.proofs.lemmas.List.{get_or-set_same, get_or-set_other, get_or_default, get_or-map, get_or_append_left, get_or_push, length_push, length-set, length-map, map-set}
+use Rattle.std.proofs.lemmas.List.{get_or-set_same, get_or-set_other, get_or_default, get_or-map}
+use Rattle.std.proofs.lemmas.List.{get_or_append_left, get_or_push, length_push, length-set}
+use Rattle.std.proofs.lemmas.List.{length-map, map-set}
 use Rattle.vipr_spec.specs.Fraction.{ℚ, zero_ℚ, ◌+ℚ◌, ◌*ℚ◌, IsBounded}
-use Rattle.vipr_spec.specs.Constraint.{Constraint, Row, Point, at, value, ValueFits, NamesBelow, Compares}
+use Rattle.vipr_spec.specs.Constraint.{Constraint, Row, Point, at, value, ValueFits, NamesBelow}
+use Rattle.vipr_spec.specs.Constraint.{Compares}
 use Rattle.vipr_spec.specs.MoreEntries.{TermFits}
-use Rattle.vipr_spec.proofs.Laws.{nothing_more, sum_bounded, value_gap, zero_bounded, add-zero_ℚ, zero-mul_ℚ, mul-zero_ℚ}
+use Rattle.vipr_spec.proofs.Laws.{nothing_more, sum_bounded, value_gap, zero_bounded, add-zero_ℚ}
+use Rattle.vipr_spec.proofs.Laws.{zero-mul_ℚ, mul-zero_ℚ}
 use Rattle.vipr_linear.specs.Row.{RisesFrom}
 use Rattle.vipr_linear.specs.Constraint.{constraint_of}
 use Rattle.vipr_linear.specs.declared.constraint.Constraint.{Constraint as Item}
@@ -24,10 +31,14 @@ use Rattle.vipr_rules.specs.Solution.{PassesAll, tests_at, tests_below}
 use Rattle.vipr_rules.proofs.SolutionLemmas.{TrueUpTo, true_next, all_true, given_below}
 use Rattle.vipr_rules.specs.declared.bounds.Bounds.{Bounds}
 use Rattle.vipr_rules.proofs.ValueLemmas.{value_same, fits_same}
-use Rattle.vipr_rules.specs.Columns.{given_in, nth, given_of, OccursFrom, HasRow, IsPlace, ArePlaces, column_at, AreColumns, IsSummed, IsCounted, AreSums, AreListed, AreFalseAtZero, IsMet, AreMet, LiesWithin, AreBounds}
+use Rattle.vipr_rules.specs.Columns.{given_in, nth, given_of, OccursFrom, HasRow, IsPlace}
+use Rattle.vipr_rules.specs.Columns.{ArePlaces, column_at, AreColumns, IsSummed, IsCounted, AreSums}
+use Rattle.vipr_rules.specs.Columns.{AreListed, AreFalseAtZero, IsMet, AreMet, LiesWithin}
+use Rattle.vipr_rules.specs.Columns.{AreBounds}
 
 -- ---- places of lists
-pub there : {A : Type 0} → (xs : List A) (k : ℕ) (d x : A) → k < length xs → x ≡ get_or xs k x → get_or xs k d ≡ x
+pub there : {A : Type 0} → (xs : List A) (k : ℕ) (d x : A) → k < length xs → x ≡ get_or xs k x
+    → get_or xs k d ≡ x
 there xs k d x l e = get_or_default xs k d x l ∙ sym e
 
 pub each_more : (P : ℕ → Type 0) (i : ℕ) → ((k : ℕ) → k < i → P k) → P i → (k : ℕ) → k < i + 1 → P k
@@ -44,25 +55,31 @@ module _ {A : Type 0} (number : A → ℕ) (d : A) where
   ]
 
 -- ---- a row's entries
-at_least_low : (low : ℕ) (es : List (ℕ × ℚ)) (k : ℕ) (d : ℕ × ℚ) → RisesFrom low es → k < length es → low + k ≤ (get_or es k d).0
+at_least_low : (low : ℕ) (es : List (ℕ × ℚ)) (k : ℕ) (d : ℕ × ℚ) → RisesFrom low es → k < length es
+    → low + k ≤ (get_or es k d).0
 at_least_low low [] k d r l = absurd (omega arith)
 at_least_low low (e ∷ es) zero d r l = let h : low ≤ e.0 = r.0 in omega (arith, h)
 at_least_low low (e ∷ es) (suc k) d r l = let h = at_least_low (e.0 + 1) es k d r.2 (omega arith) in let m : low ≤ e.0 = r.0 in omega (arith, h, m)
 
-pub rank : (es : List (ℕ × ℚ)) (k : ℕ) (d : ℕ × ℚ) → RisesFrom 0 es → k < length es → k ≤ (get_or es k d).0
+pub rank : (es : List (ℕ × ℚ)) (k : ℕ) (d : ℕ × ℚ) → RisesFrom 0 es → k < length es
+    → k ≤ (get_or es k d).0
 rank es k d r l = let h = at_least_low 0 es k d r l in omega (arith, h)
 
-rising_from : (low : ℕ) (es : List (ℕ × ℚ)) (a b : ℕ) (d : ℕ × ℚ) → RisesFrom low es → a < b → b < length es → (get_or es a d).0 < (get_or es b d).0
+rising_from : (low : ℕ) (es : List (ℕ × ℚ)) (a b : ℕ) (d : ℕ × ℚ) → RisesFrom low es → a < b
+    → b < length es → (get_or es a d).0 < (get_or es b d).0
 rising_from low [] a b d r less l = absurd (omega arith)
 rising_from low (e ∷ es) a zero d r less l = absurd (omega arith)
 rising_from low (e ∷ es) zero (suc b) d r less l = let h = at_least_low (e.0 + 1) es b d r.2 (omega arith) in omega (arith, h)
 rising_from low (e ∷ es) (suc a) (suc b) d r less l = rising_from (e.0 + 1) es a b d r.2 (omega arith) (omega arith)
 
-apart_each : (e : ℕ × ℚ) (es : List (ℕ × ℚ)) (d : ℕ × ℚ) (j : ℕ) → e.0 ≢ j → ((k : ℕ) → k < length es → (get_or es k d).0 ≢ j) → (k : ℕ) → k < length (e ∷ es) → (get_or (e ∷ es) k d).0 ≢ j
+apart_each : (e : ℕ × ℚ) (es : List (ℕ × ℚ)) (d : ℕ × ℚ) (j : ℕ) → e.0 ≢ j
+    → ((k : ℕ) → k < length es → (get_or es k d).0 ≢ j) → (k : ℕ) → k < length (e ∷ es)
+    → (get_or (e ∷ es) k d).0 ≢ j
 apart_each e es d j apart h zero l = apart
 apart_each e es d j apart h (suc k) l = h k (omega arith)
 
-occurs_or_not : (es : List (ℕ × ℚ)) (d : ℕ × ℚ) (j : ℕ) → OccursFrom (λ (e : ℕ × ℚ). e.0) d 0 es j ⊎ ((k : ℕ) → k < length es → (get_or es k d).0 ≢ j)
+occurs_or_not : (es : List (ℕ × ℚ)) (d : ℕ × ℚ) (j : ℕ)
+    → OccursFrom (λ (e : ℕ × ℚ). e.0) d 0 es j ⊎ ((k : ℕ) → k < length es → (get_or es k d).0 ≢ j)
 occurs_or_not [] d j = inr (λ k l. absurd (omega arith))
 occurs_or_not (e ∷ es) d j = elim (cases_eq e.0 j) [
   | inl same ↦ inl (0, omega arith, omega arith, same)
@@ -172,7 +189,8 @@ pub record AreHalf (o : Row) (cs : List Constraint) (i : ℕ) (es : List (ℕ ×
   pub after : (j : ℕ) → ArePlaces o cs (i + 1) j (column_at columns j) ⊎ OccursFrom (λ (e : ℕ × ℚ). e.0) (0, zero_ℚ) c es j
 
 -- no entry of a constraint that has the row o is added
-pub columns_same : (o : Row) (cs : List Constraint) (i : ℕ) (columns : Columns) → HasRow o (nth cs i) → AreColumns o cs i columns → AreColumns o cs (i + 1) columns
+pub columns_same : (o : Row) (cs : List Constraint) (i : ℕ) (columns : Columns)
+    → HasRow o (nth cs i) → AreColumns o cs i columns → AreColumns o cs (i + 1) columns
 columns_same o cs i columns same all j = places_same o cs i j (column_at columns j) (all j) (inl same)
 
 module _ (o : Row) (cs : List Constraint) (i : ℕ) (row : Row) (same : (nth cs i).row ≡ row) (es : List (ℕ × ℚ)) (list : es ≡ entries row) (r : RisesFrom 0 es) where
@@ -268,14 +286,20 @@ module _ (row : Row) (x : Point) where
   nothing_yet : IsSummed row x 0 None
   nothing_yet = (λ j l. absurd (omega arith), refl)
 
-pub sums_start : (o : Row) (cs : List Constraint) (x : Point) (sums : List (Option ℚ)) → ((i : ℕ) → get_or sums i None ≡ None) → AreSums o cs x 0 sums
+pub sums_start : (o : Row) (cs : List Constraint) (x : Point) (sums : List (Option ℚ))
+    → ((i : ℕ) → get_or sums i None ≡ None) → AreSums o cs x 0 sums
 sums_start o cs x sums none i l = inr (subst (IsSummed (nth cs i).row x 0) (sym (none i)) (nothing_yet (nth cs i).row x))
 
 -- a sum that is counted moves on by what is so of each sum
-pub counted_by : (o : Row) (cs : List Constraint) (x : Point) (a b i : ℕ) (old new : List (Option ℚ)) → (IsSummed (nth cs i).row x a (get_or old i None) → IsSummed (nth cs i).row x b (get_or new i None)) → IsCounted o cs x a old i → IsCounted o cs x b new i
+pub counted_by : (o : Row) (cs : List Constraint) (x : Point) (a b i : ℕ)
+    (old new : List (Option ℚ)) → (IsSummed (nth cs i).row x a (get_or old i None)
+    → IsSummed (nth cs i).row x b (get_or new i None)) → IsCounted o cs x a old i
+    → IsCounted o cs x b new i
 counted_by o cs x a b i old new f h = elim h [ inl same ↦ inl same | inr is ↦ inr (f is) ]
 
-pub sums_gap : (o : Row) (cs : List Constraint) (x : Point) (sums : List (Option ℚ)) (a b : ℕ) → a ≤ b → ((j : ℕ) → a ≤ j → j < b → x j ≡ zero_ℚ) → AreSums o cs x a sums → AreSums o cs x b sums
+pub sums_gap : (o : Row) (cs : List Constraint) (x : Point) (sums : List (Option ℚ)) (a b : ℕ)
+    → a ≤ b → ((j : ℕ) → a ≤ j → j < b → x j ≡ zero_ℚ) → AreSums o cs x a sums
+    → AreSums o cs x b sums
 sums_gap o cs x sums a b le none all i l = counted_by o cs x a b i sums sums (sum_gap (nth cs i).row x (get_or sums i None) a b le none) (all i l)
 
 -- ---- one more column
@@ -333,7 +357,9 @@ module _ (o : Row) (cs : List Constraint) (x : Point) (j : ℕ) (places : List (
             (sum_more (nth cs p.0).row x j old new a b coefficient_read coordinate fits sum (subst (IsSummed (nth cs p.0).row x j) (there sums p.0 None old within read) h))) was
 
 -- ---- touched constraints
-pub listed_set : (sums : List (Option ℚ)) (touched : List ℕ) (i : ℕ) (new : Option ℚ) → AreListed sums touched → OccursFrom (λ (j : ℕ). j) 0 0 touched i → AreListed (slice_set sums i new) touched
+pub listed_set : (sums : List (Option ℚ)) (touched : List ℕ) (i : ℕ) (new : Option ℚ)
+    → AreListed sums touched → OccursFrom (λ (j : ℕ). j) 0 0 touched i
+    → AreListed (slice_set sums i new) touched
 listed_set sums touched i new is s = record {
   within = λ k l. let h = is.within k l in let n = length-set sums i new in omega (arith, h, n);
   listed = λ j. elim (cases_eq j i) [
@@ -348,7 +374,8 @@ listed_set sums touched i new is s = record {
 abbrev pub AreLeft : List (Option ℚ) → List ℕ → ℕ → Type 0
 AreLeft sums items c = (i : ℕ) → (get_or sums i None ≡ None) ⊎ OccursFrom (λ (j : ℕ). j) 0 c items i
 
-pub left_next : (sums : List (Option ℚ)) (items : List ℕ) (c : ℕ) → get_or items c 0 < length sums → AreLeft sums items c → AreLeft (slice_set sums (get_or items c 0) None) items (c + 1)
+pub left_next : (sums : List (Option ℚ)) (items : List ℕ) (c : ℕ) → get_or items c 0 < length sums
+    → AreLeft sums items c → AreLeft (slice_set sums (get_or items c 0) None) items (c + 1)
 left_next sums items c within is i = elim (cases_eq i (get_or items c 0)) [
   | inl e ↦ inl (ap (λ k. get_or (slice_set sums (get_or items c 0) None) k None) e ∙ get_or-set_same sums (get_or items c 0) None None within)
   | inr apart ↦ elim (is i) [
@@ -357,10 +384,12 @@ left_next sums items c within is i = elim (cases_eq i (get_or items c 0)) [
   ]
 ]
 
-pub none_left : (sums : List (Option ℚ)) (items : List ℕ) (c : ℕ) → length items ≤ c → AreLeft sums items c → (i : ℕ) → get_or sums i None ≡ None
+pub none_left : (sums : List (Option ℚ)) (items : List ℕ) (c : ℕ) → length items ≤ c
+    → AreLeft sums items c → (i : ℕ) → get_or sums i None ≡ None
 none_left sums items c past is i = elim (is i) [ inl none ↦ none | inr s ↦ absurd (none_occur (λ (j : ℕ). j) 0 items c i past s) ]
 
-pub none_pushed : (sums : List (Option ℚ)) → ((i : ℕ) → get_or sums i None ≡ None) → (i : ℕ) → get_or (sums ++ None ∷ []) i None ≡ None
+pub none_pushed : (sums : List (Option ℚ)) → ((i : ℕ) → get_or sums i None ≡ None) → (i : ℕ)
+    → get_or (sums ++ None ∷ []) i None ≡ None
 none_pushed [] all zero = refl
 none_pushed [] all (suc i) = refl
 none_pushed (o ∷ sums) all zero = all 0
@@ -464,7 +493,8 @@ module _ (row s : Row) (es : List (ℕ × ℚ)) (list : es ≡ entries s) (r : R
   ]
 
 -- ---- constraints of a problem
-pub given_nth : (cons : List (Named Item)) (i : ℕ) (n : Named Item) → i < length cons → n ≡ get_or cons i n → nth (given_of cons) i ≡ constraint_of n.item
+pub given_nth : (cons : List (Named Item)) (i : ℕ) (n : Named Item) → i < length cons
+    → n ≡ get_or cons i n → nth (given_of cons) i ≡ constraint_of n.item
 given_nth cons i n l e = get_or-map (λ (m : Named Item). constraint_of m.item) cons i n _ l ∙ ap (λ (m : Named Item). constraint_of m.item) (sym e)
 
 -- ---- constraints that are false at 0
@@ -498,10 +528,14 @@ module _ (o : Row) (cs : List Constraint) (n : ℕ) (indices : List ℕ) (is : A
     ];
   }
 
-pub given_entries : (cons : List (Named Item)) (i : ℕ) (n : Named Item) → i < length cons → n ≡ get_or cons i n → (es : List (ℕ × ℚ)) → es ≡ entries (get_or cons i n).item.row → entries (nth (given_of cons) i).row ≡ es
+pub given_entries : (cons : List (Named Item)) (i : ℕ) (n : Named Item) → i < length cons
+    → n ≡ get_or cons i n → (es : List (ℕ × ℚ)) → es ≡ entries (get_or cons i n).item.row
+    → entries (nth (given_of cons) i).row ≡ es
 given_entries cons i n l e es list = ap (λ (c : Constraint). entries c.row) (given_nth cons i n l e) ∙ ap (λ (m : Named Item). entries m.item.row) e ∙ sym list
 
-pub place_read : (cs : List Constraint) (n j : ℕ) (e : ℕ × ℕ) → IsPlace cs n j e → (es : List (ℕ × ℚ)) → entries (nth cs e.0).row ≡ es → (p : ℕ × ℚ) → p ≡ get_or es e.1 p → p.1 ≡ at (nth cs e.0).row j
+pub place_read : (cs : List Constraint) (n j : ℕ) (e : ℕ × ℕ) → IsPlace cs n j e
+    → (es : List (ℕ × ℚ)) → entries (nth cs e.0).row ≡ es → (p : ℕ × ℚ) → p ≡ get_or es e.1 p
+    → p.1 ≡ at (nth cs e.0).row j
 place_read cs n j e h es same p is =
     let l : e.1 < length es = subst (λ xs. e.1 < length xs) same h.1 in
     ap (λ (q : ℕ × ℚ). q.1) (sym (there es e.1 (0, zero_ℚ) p l is) ∙ ap (λ xs. get_or xs e.1 (0, zero_ℚ)) (sym same) ∙ h.2)
@@ -509,7 +543,9 @@ place_read cs n j e h es same p is =
 pub as_many : (cons : List (Named Item)) → length (given_of cons) ≡ length cons
 as_many cons = length-map cons (λ (m : Named Item). constraint_of m.item)
 
-pub given_places : (o : Row) (cons : List (Named Item)) (j : ℕ) (places : List (ℕ × ℕ)) → ArePlaces o (given_of cons) (length cons) j places → ArePlaces o (given_of cons) (length (given_of cons)) j places
+pub given_places : (o : Row) (cons : List (Named Item)) (j : ℕ) (places : List (ℕ × ℕ))
+    → ArePlaces o (given_of cons) (length cons) j places
+    → ArePlaces o (given_of cons) (length (given_of cons)) j places
 given_places o cons j places is = subst (λ n. ArePlaces o (given_of cons) n j places) (sym (as_many cons)) is
 
 -- ---- all constraints
@@ -530,7 +566,8 @@ module _ (o : Row) (cs : List Constraint) (n : ℕ) (x : Point) (sums : List (Op
     ]
   ]
 
-pub known_some : {A : Type 0} → (o : Option A) (P : Type 0) (b : Bool) → is_some o ≡ not b → b ≡ false → OnSome o P → P
+pub known_some : {A : Type 0} → (o : Option A) (P : Type 0) (b : Bool) → is_some o ≡ not b
+    → b ≡ false → OnSome o P → P
 known_some None P b e f h = absurd (cc)
 known_some (Some x) P b e f h = h
 

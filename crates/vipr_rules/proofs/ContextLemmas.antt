@@ -1,5 +1,7 @@
 -- What is known of a constraint by its index.
-use Rattle.std.proofs.Common.{◌≡◌, ℕ, zero, suc, ◌<◌, ◌≤◌, true, ◌&&◌, ◌||◌, nat_lt, nat_le, List, [], ◌∷◌, ◌++◌, length, map, get_or, slice_index_or, Option, Some, None, is_some, Bor, refl, sym, ap, ap₂, ◌∙◌, arith}
+use Rattle.std.proofs.Common.{◌≡◌, ℕ, zero, suc, ◌<◌, ◌≤◌, true, ◌&&◌, ◌||◌, nat_lt, nat_le, List}
+use Rattle.std.proofs.Common.{[], ◌∷◌, ◌++◌, length, map, get_or, slice_index_or, Option, Some}
+use Rattle.std.proofs.Common.{None, is_some, Bor, refl, sym, ap, ap₂, ◌∙◌, arith}
 use Rattle.std.specs.Prelude.{IsTrue}
 use Rattle.std.specs.FinSet as set
 use Rattle.std.specs.Ordering.{nat_cmp}
@@ -8,7 +10,8 @@ use Rattle.std.proofs.lemmas.Simd.{map-map}
 use Rattle.std.proofs.lemmas.List.{length-map}
 use Rattle.vipr_spec.specs.Constraint.{Profile, condition}
 use Rattle.vipr_spec.specs.Steps.{earlier, live, index}
-use Rattle.vipr_spec.specs.Certificate.{Certificate, Derivation, last_at, is_assumption, lasts_to, is_live, count}
+use Rattle.vipr_spec.specs.Certificate.{Certificate, Derivation, last_at, is_assumption, lasts_to}
+use Rattle.vipr_spec.specs.Certificate.{is_live, count}
 use Rattle.vipr_spec.proofs.Laws.{reason_given, constraints_listed, lasts_listed, rests_given}
 use Rattle.vipr_linear.specs.Constraint.{constraint_of, condition_of}
 use Rattle.vipr_linear.specs.declared.constraint.Constraint.{Constraint}
@@ -25,7 +28,8 @@ use Rattle.vipr_rules.proofs.StepLemmas.{stops_second, passes_both, passes_one, 
 use Rattle.vipr_table.proofs.Laws.{IsTableOf-answers}
 
 -- ---- the constraints of the problem
-none_front : {X Y : Type 0} (xs : List X) (ys : List (Option Y)) (i : ℕ) → i < length xs → slice_index_or (map (λ a. None) xs ++ ys) i None ≡ None
+none_front : {X Y : Type 0} (xs : List X) (ys : List (Option Y)) (i : ℕ) → i < length xs
+    → slice_index_or (map (λ a. None) xs ++ ys) i None ≡ None
 none_front [] ys i h = absurd (omega arith)
 none_front (x ∷ xs) ys zero h = refl
 none_front (x ∷ xs) ys (suc i) h = none_front xs ys i (omega arith)
@@ -36,18 +40,22 @@ last_given c i h = lasts_listed c i ∙ none_front c.problem.constraints (map (�
 before : (i n : ℕ) → i < n → (nat_lt i n && true) ≡ true
 before i n h = grind (arith, nat_tests)
 
-pub live_given : (c : Certificate) (i : ℕ) → i < length c.problem.constraints → is_live c (count c) i ≡ true
+pub live_given : (c : Certificate) (i : ℕ) → i < length c.problem.constraints
+    → is_live c (count c) i ≡ true
 live_given c i h =
     ap₂ (λ r l. nat_lt i (count c) && (is_assumption r || lasts_to (count c) l)) (reason_given c i h) (last_given c i h)
     ∙ before i (count c) (omega arith)
 
-in_front : {B C : Type 0} (g : B → C) (rest : List C) (d : C) (b : B) (bs : List B) (i : ℕ) → i < length bs → b ≡ get_or bs i b → slice_index_or (map g bs ++ rest) i d ≡ g b
+in_front : {B C : Type 0} (g : B → C) (rest : List C) (d : C) (b : B) (bs : List B) (i : ℕ)
+    → i < length bs → b ≡ get_or bs i b → slice_index_or (map g bs ++ rest) i d ≡ g b
 in_front g rest d b [] i lt at = absurd (omega arith)
 in_front g rest d b (x ∷ bs) zero lt at = ap g (sym at)
 in_front g rest d b (x ∷ bs) (suc i) lt at = in_front g rest d b bs i (omega arith) at
 
-front : {A B C : Type 0} (f : A → C) (g : B → C) (xs : List A) (bs : List B) (rest : List C) (i : ℕ) (d : C) (b : B)
-    → map f xs ≡ map g bs → i < length bs → b ≡ get_or bs i b → slice_index_or (map f xs ++ rest) i d ≡ g b
+front : {A B C : Type 0} (f : A → C) (g : B → C) (xs : List A) (bs : List B) (rest : List C) (i : ℕ)
+    (d : C) (b : B)
+    → map f xs ≡ map g bs → i < length bs → b ≡ get_or bs i b
+    → slice_index_or (map f xs ++ rest) i d ≡ g b
 front f g xs bs rest i d b same lt at = ap (λ l. slice_index_or (l ++ rest) i d) same ∙ in_front g rest d b bs i lt at
 
 -- ---- the tests of one index

@@ -1,8 +1,10 @@
 -- What the tests of the reason `sol` say of the best value.
-use Rattle.std.proofs.Common.{◌≡◌, ◌<◌, length, List, [], ◌∷◌, Some, None, All, refl, sym, ap, ap₂, ◌∙◌, subst, inl, inr, arith}
+use Rattle.std.proofs.Common.{◌≡◌, ◌<◌, length, List, [], ◌∷◌, Some, None, All, refl, sym, ap, ap₂}
+use Rattle.std.proofs.Common.{◌∙◌, subst, inl, inr, arith}
 use Rattle.vipr_spec.specs.Fraction.{ℚ}
 use Rattle.vipr_spec.specs.Constraint.{Profile, Row, at, Condition, condition, Dominates, Compares}
-use Rattle.vipr_spec.specs.Certificate.{Named, Certificate, Derivation, Direction, minimum, maximum, objective_at, objective_constraint, reaches, IsAsGood, sol}
+use Rattle.vipr_spec.specs.Certificate.{Named, Certificate, Derivation, Direction, minimum, maximum}
+use Rattle.vipr_spec.specs.Certificate.{objective_at, objective_constraint, reaches, IsAsGood, sol}
 use Rattle.vipr_spec.specs.Soundness.{IsBestValue}
 use Rattle.vipr_spec.specs.Steps.{listed, by_cutoff, step_tests, nothing, compared}
 use Rattle.vipr_spec.proofs.Laws.{cuts_off}
@@ -15,7 +17,8 @@ use Rattle.vipr_rules.specs.Apply.{StopsIn, PassesTestsIn, IsNotDominated}
 none_below : (ss : List (Named Row)) → ss ≡ [] → ¬ (0 < length ss)
 none_below ss e h = let n = ap length e in omega (arith, n)
 
-pub none_listed : (P : Profile) (c : Certificate) (d : Derivation) → IsBestValue c.problem c.solutions None → StopsIn P c d (step_tests sol) NoSolution
+pub none_listed : (P : Profile) (c : Certificate) (d : Derivation)
+    → IsBestValue c.problem c.solutions None → StopsIn P c d (step_tests sol) NoSolution
 none_listed P c d none = (listed, inr (none_below c.solutions none, refl), (nothing, refl, refl))
 
 module _ (P : Profile) (c : Certificate) (d : Derivation) (best : ℚ) (is : IsBestValue c.problem c.solutions (Some best)) where

@@ -1,5 +1,7 @@
 -- The tests of a sum's entries, one entry after another.
-use Rattle.std.proofs.Common.{◌≡◌, ℕ, zero, suc, ◌+◌, ◌-◌, ◌<◌, ◌≤◌, true, false, List, [], ◌∷◌, ◌++◌, length, length-drop, take, drop, get_or, Option, Some, None, refl, sym, ap, ◌∙◌, subst, append_assoc, inl, inr, arith}
+use Rattle.std.proofs.Common.{◌≡◌, ℕ, zero, suc, ◌+◌, ◌-◌, ◌<◌, ◌≤◌, true, false, List, [], ◌∷◌}
+use Rattle.std.proofs.Common.{◌++◌, length, length-drop, take, drop, get_or, Option, Some, None}
+use Rattle.std.proofs.Common.{refl, sym, ap, ◌∙◌, subst, append_assoc, inl, inr, arith}
 use Rattle.std.specs.List.{flat_map}
 use Rattle.std.proofs.Math.Seq.{take-suc, take-length}
 use Rattle.std.proofs.lemmas.List.{append-nil, take-append-drop, length-take-le}
@@ -11,17 +13,20 @@ use Rattle.vipr_rules.specs.declared.error.RuleError.{RuleError}
 use Rattle.vipr_rules.specs.Apply.{PassesTestsIn, StopsIn, SumStops, shown_by}
 use Rattle.std.specs.Prelude.{if◌then◌else◌}
 use Rattle.vipr_spec.specs.Reading.{is_nonzero}
-use Rattle.vipr_spec.specs.Steps.{PassesStep, StepTest, earlier, live, suitable, fitting, FirstFailing, reference_tests, entry_tests, position}
+use Rattle.vipr_spec.specs.Steps.{PassesStep, StepTest, earlier, live, suitable, fitting}
+use Rattle.vipr_spec.specs.Steps.{FirstFailing, reference_tests, entry_tests, position}
 use Rattle.vipr_spec.proofs.Laws.{failing_first, failing_second, failing_parts}
 
-pub entry_tests-append : (before xs ys : List (ℕ × ℚ)) → entry_tests before (xs ++ ys) ≡ entry_tests before xs ++ entry_tests (before ++ xs) ys
+pub entry_tests-append : (before xs ys : List (ℕ × ℚ))
+    → entry_tests before (xs ++ ys) ≡ entry_tests before xs ++ entry_tests (before ++ xs) ys
 unfolding entry_tests
 entry_tests-append before [] ys = ap (λ l. entry_tests l ys) (sym (append-nil before))
 entry_tests-append before (x ∷ xs) ys =
     ap (λ l. suitable (before ++ x ∷ []) ∷ fitting (before ++ x ∷ []) ∷ l)
     (entry_tests-append (before ++ x ∷ []) xs ys ∙ ap (λ l. entry_tests (before ++ x ∷ []) xs ++ entry_tests l ys) (append_assoc before (x ∷ []) xs))
 
-pub one_more : (es : List (ℕ × ℚ)) (n : ℕ) (e : ℕ × ℚ) → n < length es → e ≡ get_or es n e → take (n + 1) es ≡ take n es ++ e ∷ []
+pub one_more : (es : List (ℕ × ℚ)) (n : ℕ) (e : ℕ × ℚ) → n < length es → e ≡ get_or es n e
+    → take (n + 1) es ≡ take n es ++ e ∷ []
 one_more es n e within is = ap (λ k. take k es) (let s : n + 1 ≡ suc n = omega arith in s) ∙ take-suc es n e within ∙ ap (λ x. take n es ++ x ∷ []) (sym is)
 
 pub take_all : (es : List (ℕ × ℚ)) (n : ℕ) → length es ≤ n → take n es ≡ es
@@ -31,7 +36,8 @@ take_all (x ∷ es) zero h = absurd (omega arith)
 take_all (x ∷ es) (suc n) h = ap (λ l. x ∷ l) (take_all es n (omega arith))
 
 -- where all tests of two lists pass, those of each do
-pub passing_parts : (P : StepTest → Type 0) (xs ys : List StepTest) → FirstFailing P (xs ++ ys) None → FirstFailing P xs None × FirstFailing P ys None
+pub passing_parts : (P : StepTest → Type 0) (xs ys : List StepTest) → FirstFailing P (xs ++ ys) None
+    → FirstFailing P xs None × FirstFailing P ys None
 passing_parts P xs ys h = elim (failing_parts P xs ys None h) [ inl k ↦ k | inr k ↦ absurd (let e = k.1 in cc) ]
 
 module _ (P : StepTest → Type 0) (es : List (ℕ × ℚ)) (n : ℕ) (e : ℕ × ℚ) (within : n < length es) (is : e ≡ get_or es n e) where
@@ -85,22 +91,29 @@ module _ (P : StepTest → Type 0) (es : List (ℕ × ℚ)) (n : ℕ) (e : ℕ �
 at_position : (es : List (ℕ × ℚ)) (n : ℕ) → n < length es → n ≡ length (take (n + 1) es) - 1
 at_position es n h = let e = length-take-le (n + 1) es (omega arith) in omega (arith, e)
 
-pub sum_stops : (P : Profile) (c : Certificate) (d : Derivation) (es : List (ℕ × ℚ)) (n : ℕ) (e : ℕ × ℚ) (error : RuleError) → n < length es → e ≡ get_or es n e
-    → PassesTestsIn P c d (entry_tests [] (take n es)) → SumStops (entries c (take n es ++ e ∷ [])) n error → StopsIn P c d (entry_tests [] es) error
+pub sum_stops : (P : Profile) (c : Certificate) (d : Derivation) (es : List (ℕ × ℚ)) (n : ℕ)
+    (e : ℕ × ℚ) (error : RuleError) → n < length es → e ≡ get_or es n e
+    → PassesTestsIn P c d (entry_tests [] (take n es))
+    → SumStops (entries c (take n es ++ e ∷ [])) n error
+    → StopsIn P c d (entry_tests [] es) error
 sum_stops P c d es n e error lt is before (inl (this, bad)) =
     (suitable (take (n + 1) es), sign_fails (PassesStep P c (condition d.stated)) es n e lt is before bad, (position n, ap shown_by this, ap position (at_position es n lt)))
 sum_stops P c d es n e error lt is before (inr (this, good, bad)) =
     (fitting (take (n + 1) es), size_fails (PassesStep P c (condition d.stated)) es n e lt is before good bad, (position n, ap shown_by this, ap position (at_position es n lt)))
 
 -- the references of an entry
-pub used_passes : (P : StepTest → Type 0) (e : ℕ × ℚ) (f : Option StepTest) → is_nonzero e ≡ true → FirstFailing P (earlier e.0 ∷ live e.0 ∷ []) f → FirstFailing P (reference_tests e) f
+pub used_passes : (P : StepTest → Type 0) (e : ℕ × ℚ) (f : Option StepTest) → is_nonzero e ≡ true
+    → FirstFailing P (earlier e.0 ∷ live e.0 ∷ []) f → FirstFailing P (reference_tests e) f
 used_passes P e f some h = subst (λ b. FirstFailing P (if b then earlier e.0 ∷ live e.0 ∷ [] else earlier e.0 ∷ []) f) (sym some) h
 
-pub unused_passes : (P : StepTest → Type 0) (e : ℕ × ℚ) (f : Option StepTest) → is_nonzero e ≡ false → FirstFailing P (earlier e.0 ∷ []) f → FirstFailing P (reference_tests e) f
+pub unused_passes : (P : StepTest → Type 0) (e : ℕ × ℚ) (f : Option StepTest) → is_nonzero e ≡ false
+    → FirstFailing P (earlier e.0 ∷ []) f → FirstFailing P (reference_tests e) f
 unused_passes P e f none h = subst (λ b. FirstFailing P (if b then earlier e.0 ∷ live e.0 ∷ [] else earlier e.0 ∷ []) f) (sym none) h
 
 -- those of the first entries pass, and then those behind them are tested
-pub references_rest : (P : StepTest → Type 0) (es : List (ℕ × ℚ)) (n : ℕ) (f : Option StepTest) → FirstFailing P (flat_map reference_tests (take n es)) None → FirstFailing P (flat_map reference_tests (drop n es)) f
+pub references_rest : (P : StepTest → Type 0) (es : List (ℕ × ℚ)) (n : ℕ) (f : Option StepTest)
+    → FirstFailing P (flat_map reference_tests (take n es)) None
+    → FirstFailing P (flat_map reference_tests (drop n es)) f
     → FirstFailing P (flat_map reference_tests es) f
 references_rest P es n f h k =
     subst (λ l. FirstFailing P (flat_map reference_tests l) f) (take-append-drop n es)

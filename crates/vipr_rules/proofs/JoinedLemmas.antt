@@ -1,11 +1,13 @@
 -- Which assumptions the first entries of a sum have brought.
-use Rattle.std.proofs.Common.{◌≡◌, ◌≢◌, ℕ, ◌+◌, ◌<◌, ◌⊎◌, Bool, true, false, ◌||◌, List, length, get_or, refl, sym, ◌∙◌, ap, subst, inl, inr, arith}
+use Rattle.std.proofs.Common.{◌≡◌, ◌≢◌, ℕ, ◌+◌, ◌<◌, ◌⊎◌, Bool, true, false, ◌||◌, List, length}
+use Rattle.std.proofs.Common.{get_or, refl, sym, ◌∙◌, ap, subst, inl, inr, arith}
 use Rattle.std.specs.Prelude.{IsTrue}
 use Rattle.std.proofs.lemmas.Bool.{cases_eq}
 use Rattle.std.proofs.lemmas.List.{get_or_default}
 use Rattle.std.specs.Cmp.{nat_cmp_total}
 use Rattle.std.specs.Ordering.{nat_cmp}
-use Rattle.std.specs.FinSet.{FinSet, contains, union, same_set, contains-union, nat_cmp-IsAntisymmetric}
+use Rattle.std.specs.FinSet.{FinSet, contains, union, same_set, contains-union}
+use Rattle.std.specs.FinSet.{nat_cmp-IsAntisymmetric}
 use Rattle.vipr_spec.specs.Fraction.{ℚ}
 use Rattle.vipr_spec.specs.Reading.{is_nonzero}
 use Rattle.vipr_rules.specs.Context.{AreJoined}
@@ -17,7 +19,8 @@ both false true h = h refl
 both false false h = refl
 
 -- a set to which one is added that it has
-pub union_within : (s t : FinSet nat_cmp) → ((a : ℕ) → IsTrue (contains t a) → IsTrue (contains s a)) → s ≡ union s t
+pub union_within : (s t : FinSet nat_cmp)
+    → ((a : ℕ) → IsTrue (contains t a) → IsTrue (contains s a)) → s ≡ union s t
 union_within s t h = same_set nat_cmp_total nat_cmp-IsAntisymmetric s (union s t) (λ q. both (contains s q) (contains t q) (h q) ∙ sym (contains-union nat_cmp_total s t q))
 
 module _ (found : ℕ → FinSet nat_cmp) (es : List (ℕ × ℚ)) (n : ℕ) (e : ℕ × ℚ) (lt : n < length es) (is : e ≡ get_or es n e) where

@@ -2,7 +2,8 @@
 use Rattle.std.proofs.Common.{◌≡◌, ℕ, List, [], ◌∷◌, Some, refl, sym, ◌∙◌, ap, subst, inl, inr}
 use Rattle.std.specs.Prelude.{◌↔◌, ◌⊎◌}
 use Rattle.vipr_spec.specs.Fraction.{ℚ, whole}
-use Rattle.vipr_spec.specs.Constraint.{Condition, Profile, at, condition, Ints, sum_of, IsWholeRow, Dominates, DominatesRounded, CombinesRounded}
+use Rattle.vipr_spec.specs.Constraint.{Condition, Profile, at, condition, Ints, sum_of, IsWholeRow}
+use Rattle.vipr_spec.specs.Constraint.{Dominates, DominatesRounded, CombinesRounded}
 use Rattle.vipr_spec.specs.Certificate.{Certificate, Derivation, entries}
 use Rattle.vipr_spec.specs.Causes as cause
 use Rattle.vipr_spec.specs.Steps.{PassesStep, roundable, by_rounding, sum, compared, IsSum}
@@ -16,8 +17,10 @@ use Rattle.vipr_rules.specs.declared.error.RuleError.TheVariants.{Memory}
 use Rattle.vipr_rules.specs.Apply.{StopsIn, PassesTestsIn, IsNotDominated, shown_by}
 
 -- x is the sum of the entries, and can be rounded
-pub sum_rounded : (P : Profile) (c : Certificate) (d : Derivation) (es : List (ℕ × ℚ)) (x stated : Condition) → IsSum c es x → (ints : Ints) → c.problem.integers ≡ ints
-    → stated ≡ condition d.stated → IsWholeRow ints x.row → DominatesRounded x stated → PassesTestsIn P c d (roundable es ∷ by_rounding es ∷ [])
+pub sum_rounded : (P : Profile) (c : Certificate) (d : Derivation) (es : List (ℕ × ℚ))
+    (x stated : Condition) → IsSum c es x → (ints : Ints) → c.problem.integers ≡ ints
+    → stated ≡ condition d.stated → IsWholeRow ints x.row → DominatesRounded x stated
+    → PassesTestsIn P c d (roundable es ∷ by_rounding es ∷ [])
 sum_rounded P c d es x stated summed ints same says w h =
     let whole = subst (λ y. IsWholeRow c.problem.integers y.row) summed.2 (subst (λ i. IsWholeRow i x.row) (sym same) w) in
     let dominates = subst (λ y. DominatesRounded y (condition d.stated)) summed.2 (subst (DominatesRounded x) says h) in

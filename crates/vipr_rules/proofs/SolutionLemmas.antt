@@ -1,5 +1,7 @@
 -- The tests of a listed solution, one item after another.
-use Rattle.std.proofs.Common.{◌≡◌, ℕ, zero, suc, ◌+◌, ◌<◌, ◌≤◌, Bool, true, false, cond, filter, List, [], ◌∷◌, ◌++◌, length, take, drop, map, get_or, Option, Some, None, refl, sym, ap, ◌∙◌, subst, inl, inr, arith}
+use Rattle.std.proofs.Common.{◌≡◌, ℕ, zero, suc, ◌+◌, ◌<◌, ◌≤◌, Bool, true, false, cond, filter}
+use Rattle.std.proofs.Common.{List, [], ◌∷◌, ◌++◌, length, take, drop, map, get_or, Option, Some}
+use Rattle.std.proofs.Common.{None, refl, sym, ap, ◌∙◌, subst, inl, inr, arith}
 use Rattle.std.specs.List.{flat_map, range_with_len}
 use Rattle.std.specs.FinSet.{contains}
 use Rattle.std.proofs.lemmas.Bool.{cases_eq}
@@ -12,7 +14,8 @@ use Rattle.vipr_spec.specs.Constraint.{Row, at, IsInteger, NamesBelow}
 use Rattle.vipr_spec.specs.Certificate as is
 use Rattle.vipr_spec.specs.Certificate.{Problem, variables, integer_variables}
 use Rattle.vipr_spec.specs.Shape.{CanWriteProblem, ConstraintShape}
-use Rattle.vipr_spec.specs.Tests.{not_whole as shown, name_at, SolutionTest, whole_at, objective_fits, given_at, PassesSolution, solution_tests}
+use Rattle.vipr_spec.specs.Tests.{not_whole as shown, name_at, SolutionTest, whole_at}
+use Rattle.vipr_spec.specs.Tests.{objective_fits, given_at, PassesSolution, solution_tests}
 use Rattle.vipr_spec.specs.Steps.{FirstFailing}
 use Rattle.vipr_spec.proofs.Laws.{failing_first, failing_second}
 use Rattle.vipr_linear.specs.Constraint.{constraint_of}
@@ -127,5 +130,6 @@ module _ (p : Problem) (s : Row) where
   pub objective_last : (found : Option SolutionTest) → PassesAll p s first → PassesAll p s second → FirstFailing (PassesSolution p s) (objective_fits ∷ []) found → FirstFailing (PassesSolution p s) (solution_tests p) found
   objective_last found a b h = failing_second _ (first ++ second) (objective_fits ∷ []) found (failing_second _ first second None a b) h
 
-pub objective_below : (p : Problem) (row : Row) → row ≡ p.objective → CanWriteProblem p → NamesBelow (variables p) (at row)
+pub objective_below : (p : Problem) (row : Row) → row ≡ p.objective → CanWriteProblem p
+    → NamesBelow (variables p) (at row)
 objective_below p row same w = subst (λ r. NamesBelow (variables p) (at r)) (sym same) w.shape.objective

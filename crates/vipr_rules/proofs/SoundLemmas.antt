@@ -1,10 +1,12 @@
 -- What the rows of a table show at a point, under the assumptions of a set.
-use Rattle.std.proofs.Common.{◌≡◌, ◌≢◌, ℕ, Bool, nat_eq, true, false, refl, sym, subst, inl, inr, arith}
+use Rattle.std.proofs.Common.{◌≡◌, ◌≢◌, ℕ, Bool, nat_eq, true, false, refl, sym, subst, inl, inr}
+use Rattle.std.proofs.Common.{arith}
 use Rattle.std.specs.Prelude.{◌⊎◌, IsTrue}
 use Rattle.std.proofs.lemmas.Bool.Decides.{nat_tests}
 use Rattle.std.specs.Ordering.{nat_cmp}
 use Rattle.std.specs.FinSet.{FinSet, contains, union, remove}
-use Rattle.vipr_spec.specs.Constraint.{Profile, Condition, Point, Ints, IsTrueAt, IsSplit, Dominates}
+use Rattle.vipr_spec.specs.Constraint.{Profile, Condition, Point, Ints, IsTrueAt, IsSplit}
+use Rattle.vipr_spec.specs.Constraint.{Dominates}
 use Rattle.vipr_spec.proofs.Laws.{IsWholePoint, uns_true}
 use Rattle.vipr_rules.specs.Soundness.{IsTrueUnder}
 use Rattle.vipr_rules.proofs.UnionLemmas.{in_union}

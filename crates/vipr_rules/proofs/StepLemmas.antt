@@ -1,5 +1,7 @@
 -- What the parts of a derivation's tests say of all of them, and what is kept of it.
-use Rattle.std.proofs.Common.{◌≡◌, ℕ, ◌<◌, ◌≤◌, length, IsTrue, true, false, ◌||◌, nat_eq, ap₂, arith, List, [], ◌∷◌, ◌++◌, Some, None, refl, sym, ◌∙◌, ap, subst, inl, inr}
+use Rattle.std.proofs.Common.{◌≡◌, ℕ, ◌<◌, ◌≤◌, length, IsTrue, true, false, ◌||◌, nat_eq, ap₂}
+use Rattle.std.proofs.Common.{arith, List, [], ◌∷◌, ◌++◌, Some, None, refl, sym, ◌∙◌, ap, subst}
+use Rattle.std.proofs.Common.{inl, inr}
 use Rattle.std.specs.Prelude.{◌↔◌, ◌⊎◌, Result, Ok, Err, MatchResult}
 use Rattle.std.proofs.lemmas.Bool.{cases_lt}
 use Rattle.std.specs.FinSet.{FinSet, contains, empty, insert, contains-insert, contains-empty}
@@ -8,9 +10,14 @@ use Rattle.std.proofs.lemmas.Bool.Decides.{nat_tests}
 use Rattle.std.specs.Ordering.{nat_cmp}
 use Rattle.vipr_spec.specs.Fraction.{ℚ}
 use Rattle.vipr_spec.specs.Constraint.{Condition, Profile, condition, sum_of, Dominates, Combines}
-use Rattle.vipr_spec.specs.Certificate.{Certificate, Derivation, Reason, asm, lin, rnd, uns, sol, entries, count, is_assumption, is_live}
-use Rattle.vipr_spec.specs.Steps.{PassesStep, with_next, RefersBack, StepTest, by_sum, split, listed, by_constraint, by_cutoff, step_tests, step_cause, compared, IsSum}
-use Rattle.vipr_spec.proofs.Laws.{failing_first, failing_second, one_sense, constraint_next, reason_next, last_next, rests_next, sound_given, sound_next, next_good}
+use Rattle.vipr_spec.specs.Certificate.{Certificate, Derivation, Reason, asm, lin, rnd, uns, sol}
+use Rattle.vipr_spec.specs.Certificate.{entries, count, is_assumption, is_live}
+use Rattle.vipr_spec.specs.Steps.{PassesStep, with_next, RefersBack, StepTest, by_sum, split}
+use Rattle.vipr_spec.specs.Steps.{listed, by_constraint, by_cutoff, step_tests, step_cause}
+use Rattle.vipr_spec.specs.Steps.{compared, IsSum}
+use Rattle.vipr_spec.proofs.Laws.{failing_first, failing_second, one_sense, constraint_next}
+use Rattle.vipr_spec.proofs.Laws.{reason_next, last_next, rests_next, sound_given, sound_next}
+use Rattle.vipr_spec.proofs.Laws.{next_good}
 use Rattle.vipr_spec.specs.Soundness.{IsSound}
 use Rattle.vipr_linear.specs.Constraint.{condition_of}
 use Rattle.vipr_linear.specs.declared.constraint.Constraint.{Constraint}
@@ -19,17 +26,21 @@ use Rattle.vipr_table.specs.declared.rows.Entry.{Entry}
 use Rattle.vipr_table.specs.History.{IsEntryOf}
 use Rattle.vipr_rules.specs.Context.{IsSetByReason}
 use Rattle.vipr_rules.specs.declared.error.RuleError.TheVariants.{Memory}
-use Rattle.vipr_rules.specs.Apply.{StopsIn, PassesTestsIn, ReportsTest, KeepsSound, IsRefusalIn, IsNotDominated, shown_by, free_tests}
+use Rattle.vipr_rules.specs.Apply.{StopsIn, PassesTestsIn, ReportsTest, KeepsSound, IsRefusalIn}
+use Rattle.vipr_rules.specs.Apply.{IsNotDominated, shown_by, free_tests}
 use Rattle.vipr_rules.proofs.EntryTests.{passing_parts}
 
 -- ---- one list of tests after another
-pub stops_first : (P : Profile) (c : Certificate) (d : Derivation) (xs ys : List StepTest) (e : RuleError) → StopsIn P c d xs e → StopsIn P c d (xs ++ ys) e
+pub stops_first : (P : Profile) (c : Certificate) (d : Derivation) (xs ys : List StepTest)
+    (e : RuleError) → StopsIn P c d xs e → StopsIn P c d (xs ++ ys) e
 stops_first P c d xs ys e (t, f, known) = (t, failing_first (PassesStep P c (condition d.stated)) xs ys t f, known)
 
-pub stops_second : (P : Profile) (c : Certificate) (d : Derivation) (xs ys : List StepTest) (e : RuleError) → PassesTestsIn P c d xs → StopsIn P c d ys e → StopsIn P c d (xs ++ ys) e
+pub stops_second : (P : Profile) (c : Certificate) (d : Derivation) (xs ys : List StepTest)
+    (e : RuleError) → PassesTestsIn P c d xs → StopsIn P c d ys e → StopsIn P c d (xs ++ ys) e
 stops_second P c d xs ys e p (t, f, known) = (t, failing_second (PassesStep P c (condition d.stated)) xs ys (Some t) p f, known)
 
-pub passes_both : (P : Profile) (c : Certificate) (d : Derivation) (xs ys : List StepTest) → PassesTestsIn P c d xs → PassesTestsIn P c d ys → PassesTestsIn P c d (xs ++ ys)
+pub passes_both : (P : Profile) (c : Certificate) (d : Derivation) (xs ys : List StepTest)
+    → PassesTestsIn P c d xs → PassesTestsIn P c d ys → PassesTestsIn P c d (xs ++ ys)
 passes_both P c d xs ys p q = failing_second (PassesStep P c (condition d.stated)) xs ys None p q
 
 module _ (P : Profile) (c : Certificate) (d : Derivation) where
@@ -39,15 +50,18 @@ module _ (P : Profile) (c : Certificate) (d : Derivation) where
   pub stops_one : (t : StepTest) (e : RuleError) → ¬ PassesStep P c (condition d.stated) t → ReportsTest c d e t → StopsIn P c d (t ∷ []) e
   stops_one t e bad known = (t, inr (bad, refl), known)
 
-pub refusal : (P : Profile) (c : Certificate) (d : Derivation) (e : RuleError) → StopsIn P c d (step_tests d.reason) e → IsRefusalIn P c d e
+pub refusal : (P : Profile) (c : Certificate) (d : Derivation) (e : RuleError)
+    → StopsIn P c d (step_tests d.reason) e → IsRefusalIn P c d e
 refusal P c d e (t, f, known) = (step_cause t, known.0, known.1, (t, f, refl, known.2))
 
 -- an error that says which test fails isn't want of memory
-pub known_is_not_memory : (P : Profile) (c : Certificate) (d : Derivation) (ts : List StepTest) (e : RuleError) → StopsIn P c d ts e → ¬ (e ≡ Memory)
+pub known_is_not_memory : (P : Profile) (c : Certificate) (d : Derivation) (ts : List StepTest)
+    (e : RuleError) → StopsIn P c d ts e → ¬ (e ≡ Memory)
 known_is_not_memory P c d ts e (t, f, known) is = let none = sym (ap shown_by is) ∙ known.1 in cc
 
 -- where all tests pass, those that take no memory do
-pub free_of_all : (P : Profile) (c : Certificate) (d : Derivation) (r : Reason) → PassesTestsIn P c d (step_tests r) → PassesTestsIn P c d (free_tests r)
+pub free_of_all : (P : Profile) (c : Certificate) (d : Derivation) (r : Reason)
+    → PassesTestsIn P c d (step_tests r) → PassesTestsIn P c d (free_tests r)
 free_of_all P c d asm p = refl
 free_of_all P c d (lin es) p = refl
 free_of_all P c d (rnd es) p = refl
@@ -73,9 +87,12 @@ module _ (P : Profile) (c : Certificate) (d : Derivation) (es : List (ℕ × ℚ
       (compared (condition_of sum) (condition_of stated), is, (computed, summed, ap₂ compared same says))
 
 -- the same of a constraint that says what the sum says
-pub laid_out_known : (r : Result (Unit {0}) RuleError) (sum stated : Constraint) (computed : Condition) → condition_of sum ≡ computed
-    → MatchResult r (λ _. Dominates (condition_of sum) (condition_of stated)) (λ e. (e ≡ Memory) ⊎ IsNotDominated sum stated e)
-    → MatchResult r (λ _. Dominates computed (condition_of stated)) (λ e. (e ≡ Memory) ⊎ ((x : Constraint) × (condition_of x ≡ computed) × IsNotDominated x stated e))
+pub laid_out_known : (r : Result (Unit {0}) RuleError) (sum stated : Constraint)
+    (computed : Condition) → condition_of sum ≡ computed
+    → MatchResult r (λ _. Dominates (condition_of sum) (condition_of stated))
+    (λ e. (e ≡ Memory) ⊎ IsNotDominated sum stated e)
+    → MatchResult r (λ _. Dominates computed (condition_of stated)) (λ e. (e ≡ Memory)
+    ⊎ ((x : Constraint) × (condition_of x ≡ computed) × IsNotDominated x stated e))
 laid_out_known (Ok u) sum stated computed same h = subst (λ x. Dominates x (condition_of stated)) same h
 laid_out_known (Err e) sum stated computed same (inl memory) = inl memory
 laid_out_known (Err e) sum stated computed same (inr known) = inr (sum, same, known)
@@ -97,8 +114,11 @@ pub no_set : (c : Certificate) (s : FinSet nat_cmp) → s ≡ empty → IsSetByR
 no_set c s e a = (λ t. let h : contains {R = nat_cmp} empty a ≡ true = subst (λ x. contains x a ≡ true) e t in absurd (let n = contains-empty nat_cmp a in cc), λ r. absurd r)
 
 -- ---- what is kept
-pub kept_entry : (P : Profile) (c : Certificate) (d : Derivation) (e : Entry) → RefersBack c → PassesTestsIn P c d (step_tests d.reason)
-    → condition_of e.constraint ≡ condition d.stated → IsSetByReason c d.reason e.assumptions → e.is_assumption ≡ is_assumption (Some d.reason) → e.last ≡ d.last → IsEntryOf (with_next c d) (count c) e
+pub kept_entry : (P : Profile) (c : Certificate) (d : Derivation) (e : Entry) → RefersBack c
+    → PassesTestsIn P c d (step_tests d.reason)
+    → condition_of e.constraint ≡ condition d.stated → IsSetByReason c d.reason e.assumptions
+    → e.is_assumption ≡ is_assumption (Some d.reason) → e.last ≡ d.last
+    → IsEntryOf (with_next c d) (count c) e
 kept_entry P c d e back passes says rests assumed last = record {
   says = constraint_next c d ∙ sym says;
   rests = λ a. let next = rests_next c d a back (next_good P c d passes).earlier in (λ t. next.1 ((rests a).0 t), λ r. (rests a).1 (next.0 r));
@@ -107,7 +127,8 @@ kept_entry P c d e back passes says rests assumed last = record {
 }
 
 -- ---- the induction over the derivations
-pub keeps_sound : (P : Profile) (c : Certificate) (d : Derivation) → RefersBack c → PassesTestsIn P c d (step_tests d.reason) → KeepsSound c d
+pub keeps_sound : (P : Profile) (c : Certificate) (d : Derivation) → RefersBack c
+    → PassesTestsIn P c d (step_tests d.reason) → KeepsSound c d
 keeps_sound P c d back passes s = let good = next_good P c d passes in sound_next P c d back good.earlier good.follows (λ i r. by i (cases_lt i (length c.problem.constraints)) (good.references i r))
   where
     by : (i : ℕ) → (i < length c.problem.constraints) ⊎ (length c.problem.constraints ≤ i) → IsTrue (is_live c (count c) i) → IsSound c i

@@ -1,9 +1,11 @@
--- What is held of a sum: an entry with the multiplier 0 changes nothing, and a sum of true entries is true.
+-- What is held of a sum: an entry with the multiplier 0 changes nothing, and a sum of true entries
+-- is true.
 use Rattle.std.proofs.Common.{◌≡◌, ℕ, List, [], ◌∷◌, ◌++◌, All, refl, sym, ◌∙◌, ap, subst}
 use Rattle.std.proofs.lemmas.List.Elements.{All-nil, All-cons, All-append}
 use Rattle.vipr_spec.specs.Fraction.{ℚ, zero_ℚ, ◌+ℚ◌, ◌*ℚ◌}
 use Rattle.vipr_spec.specs.Constraint.{equal, Condition, Entry, Point, sum_over, HasSense, IsTrueAt}
-use Rattle.vipr_spec.proofs.Laws.{add-zero_ℚ, zero-mul_ℚ, joined_sense, turned_sense, sum_more, IsTrueEntry, sum_true, turned_zero, joined_equal}
+use Rattle.vipr_spec.proofs.Laws.{add-zero_ℚ, zero-mul_ℚ, joined_sense, turned_sense, sum_more}
+use Rattle.vipr_spec.proofs.Laws.{IsTrueEntry, sum_true, turned_zero, joined_equal}
 use Rattle.std.proofs.lemmas.List.{map-append}
 use Rattle.vipr_spec.specs.Certificate.{Certificate, constraint_at, entries}
 use Rattle.vipr_linear.specs.Accumulator.{Accumulator, nothing_added, Holds, held_condition}
@@ -12,7 +14,8 @@ use Rattle.vipr_linear.proofs.Laws.{fits_known, start_held, held_sum}
 nothing : (s x : ℚ) → s +ℚ zero_ℚ *ℚ x ≡ s
 nothing s x = ap (λ y. s +ℚ y) (zero-mul_ℚ x) ∙ add-zero_ℚ s
 
-pub held_without : (n : ℕ) (es : List Entry) (e : Entry) (a : Accumulator) → Holds n es a → e.0 ≡ zero_ℚ → Holds n (es ++ e ∷ []) a
+pub held_without : (n : ℕ) (es : List Entry) (e : Entry) (a : Accumulator) → Holds n es a
+    → e.0 ≡ zero_ℚ → Holds n (es ++ e ∷ []) a
 held_without n es e a is z = record {
   variables = is.variables;
   fresh = is.fresh;
@@ -39,12 +42,14 @@ pub record IsTrueSum (n : ℕ) (x : Point) (a : Accumulator) : Type 0 where
 pub nothing_true : (n : ℕ) (x : Point) → IsTrueSum n x (nothing_added n)
 nothing_true n x = record { es = []; held = start_held n; each = All-nil (IsTrueEntry n x) }
 
-pub more_true : (n : ℕ) (x : Point) (a b : Accumulator) (e : Entry) (s : IsTrueSum n x a) → Holds n (s.es ++ e ∷ []) b → IsTrueAt n e.1 x → IsTrueSum n x b
+pub more_true : (n : ℕ) (x : Point) (a b : Accumulator) (e : Entry) (s : IsTrueSum n x a)
+    → Holds n (s.es ++ e ∷ []) b → IsTrueAt n e.1 x → IsTrueSum n x b
 more_true n x a b e s held t = record {
   es = s.es ++ e ∷ [];
   held = held;
   each = All-append (IsTrueEntry n x) s.es (e ∷ []) s.each (All-cons (IsTrueEntry n x) e [] (λ m. t) (All-nil (IsTrueEntry n x)));
 }
 
-pub sum_is_true : (n : ℕ) (x : Point) (a : Accumulator) → IsTrueSum n x a → IsTrueAt n (held_condition a) x
+pub sum_is_true : (n : ℕ) (x : Point) (a : Accumulator) → IsTrueSum n x a
+    → IsTrueAt n (held_condition a) x
 sum_is_true n x a s = let k = held_sum n s.es a s.held in subst (λ d. IsTrueAt n d x) (sym k.1) (sum_true n x s.es a.sense k.0 s.each)

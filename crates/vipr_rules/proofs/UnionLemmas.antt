@@ -1,7 +1,9 @@
 -- What a sum's entries rest on, one entry after another.
-use Rattle.std.proofs.Common.{◌≡◌, ◌≢◌, ℕ, zero, suc, ◌<◌, ◌⊎◌, Bool, true, false, ◌||◌, List, [], ◌∷◌, ◌++◌, get_or, Contains, refl, sym, ◌∙◌, subst, inl, inr, arith}
+use Rattle.std.proofs.Common.{◌≡◌, ◌≢◌, ℕ, zero, suc, ◌<◌, ◌⊎◌, Bool, true, false, ◌||◌, List, []}
+use Rattle.std.proofs.Common.{◌∷◌, ◌++◌, get_or, Contains, refl, sym, ◌∙◌, subst, inl, inr, arith}
 use Rattle.std.specs.Prelude.{◌↔◌, IsTrue}
-use Rattle.std.proofs.lemmas.List.Elements.{Contains-append_left, Contains-append_right, Contains-append_cases}
+use Rattle.std.proofs.lemmas.List.Elements.{Contains-append_left, Contains-append_right}
+use Rattle.std.proofs.lemmas.List.Elements.{Contains-append_cases}
 use Rattle.std.specs.Cmp.{nat_cmp_total}
 use Rattle.std.specs.Ordering.{nat_cmp}
 use Rattle.std.specs.FinSet.{FinSet, contains, union, empty, contains-union, contains-empty}
@@ -23,7 +25,8 @@ IsSetOf-none c i none a = (λ t. absurd (none_in_empty a t), λ r. absurd (none 
 pub IsSetOfAll-none : (c : Certificate) → IsSetOfAll c [] empty
 IsSetOfAll-none c a = (λ t. absurd (none_in_empty a t), λ (e, h, n, r). absurd (let lt = h.1 in omega arith))
 
-pub in_union : (s t : FinSet nat_cmp) (a : ℕ) → IsTrue (contains (union s t) a) ↔ (IsTrue (contains s a) ⊎ IsTrue (contains t a))
+pub in_union : (s t : FinSet nat_cmp) (a : ℕ)
+    → IsTrue (contains (union s t) a) ↔ (IsTrue (contains s a) ⊎ IsTrue (contains t a))
 in_union s t a = (λ h. out (contains s a) (contains t a) (sym (contains-union nat_cmp_total s t a) ∙ h), λ h. contains-union nat_cmp_total s t a ∙ back (contains s a) (contains t a) h)
   where
     out : (b d : Bool) → (b || d) ≡ true → (b ≡ true) ⊎ (d ≡ true)

@@ -1,5 +1,6 @@
 -- What an answer of the window says of the end of the text
-use Rattle.std.proofs.Common.{◌≡◌, Bool, true, false, List, [], ◌∷◌, Some, None, Ok, Err, refl, sym, ap}
+use Rattle.std.proofs.Common.{◌≡◌, Bool, true, false, List, [], ◌∷◌, Some, None, Ok, Err, refl, sym}
+use Rattle.std.proofs.Common.{ap}
 use Rattle.vipr_spec.specs.Tokens.{Token}
 use Rattle.vipr_spec.specs.Reading.{Rest, refused, unread, end_read, end_of}
 use Rattle.vipr_scan.specs.View.{TokenView, next_answer, first_answer, view_of_read}
@@ -14,7 +15,8 @@ ended l h = go l.tokens l.fails refl h
     go [] true q e = absurd (cc)
     go (t ∷ ts) fails q e = absurd (cc)
 
-pub trailing : (l : Rest) (s : TokenView) → Ok (Some s) ≡ next_answer l → end_read l ≡ Err (refused 18 s.offset)
+pub trailing : (l : Rest) (s : TokenView) → Ok (Some s) ≡ next_answer l
+    → end_read l ≡ Err (refused 18 s.offset)
 unfolding end_of
 trailing l s h = go l.tokens l.fails h
   where

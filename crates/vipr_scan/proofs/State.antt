@@ -1,8 +1,13 @@
 -- What is left, through a step of the reader.
-use Rattle.std.proofs.Common.{◌≡◌, ℕ, ◌+◌, ◌-◌, ◌^◌, ◌<◌, ◌≤◌, min, Bool, true, List, [], ◌∷◌, ◌++◌, length, take, drop, get_or, Option, Some, None, Result, Ok, Err, OnErr, IfSome, refl, sym, ap, ◌∙◌, arith, slice_range, nat_lt, if◌then◌else◌, option_and_then}
+use Rattle.std.proofs.Common.{◌≡◌, ℕ, ◌+◌, ◌-◌, ◌^◌, ◌<◌, ◌≤◌, min, Bool, true, List, [], ◌∷◌, ◌++◌}
+use Rattle.std.proofs.Common.{length, take, drop, get_or, Option, Some, None, Result, Ok, Err}
+use Rattle.std.proofs.Common.{OnErr, IfSome, refl, sym, ap, ◌∙◌, arith, slice_range, nat_lt}
+use Rattle.std.proofs.Common.{if◌then◌else◌, option_and_then}
 use Rattle.std.specs.Option.{option_map}
 use Rattle.std.proofs.Common.{inl, inr, false, nat_eq}
-use Rattle.std.proofs.lemmas.List.{get_or-take, get_or_append_left, take-append-le, length-take-le, take_all, length-append, length-take, take-take, length-drop, drop-append-le, nil_from_length, drop-drop, drop-take}
+use Rattle.std.proofs.lemmas.List.{get_or-take, get_or_append_left, take-append-le, length-take-le}
+use Rattle.std.proofs.lemmas.List.{take_all, length-append, length-take, take-take, length-drop}
+use Rattle.std.proofs.lemmas.List.{drop-append-le, nil_from_length, drop-drop, drop-take}
 use Rattle.std.proofs.lemmas.Bool.{ltb-true, lt-ltb, le-ltb, cases_lt, cases_eq, eq-eqb, ne_eqb}
 use Rattle.vipr_spec.specs.Input.{Input}
 use Rattle.vipr_spec.specs.Tokens.{IsToken, is_white, tokens_from, tokens_after_front, run}
@@ -21,25 +26,31 @@ left_at place offset un source = option_and_then (left_of place offset) (option_
 abbrev pub left_is : Position → ℕ → List ℕ → Input → Rest
 left_is place offset un r = record { tokens = tokens_in place r.fails offset (un ++ r.bytes); fails = r.fails; length = offset + length (un ++ r.bytes) }
 
-if_known : (b : Bool) (l : Rest) (Q : Rest → Type 0) → (b ≡ true → Q l) → IfSome (if b then Some l else None) Q
+if_known : (b : Bool) (l : Rest) (Q : Rest → Type 0) → (b ≡ true → Q l)
+    → IfSome (if b then Some l else None) Q
 if_known true l Q h = h refl
 if_known false l Q h = tt
 
 -- to show a fact of what is left, show it of each input that may be
-pub known : (place : Position) (offset : ℕ) (un : List ℕ) (source : Option Input) (Q : Rest → Type 0) →
-    ((r : Input) → source ≡ Some r → offset + length (un ++ r.bytes) < 2 ^ 64 → Q (left_is place offset un r)) →
+pub known : (place : Position) (offset : ℕ) (un : List ℕ) (source : Option Input)
+    (Q : Rest → Type 0) →
+    ((r : Input) → source ≡ Some r → offset + length (un ++ r.bytes) < 2 ^ 64
+    → Q (left_is place offset un r)) →
     IfSome (left_at place offset un source) Q
 known place offset un None Q h = tt
 known place offset un (Some r) Q h =
     if_known (nat_lt (offset + length (un ++ r.bytes)) (2 ^ 64)) (left_is place offset un r) Q (λ b. h r refl (ltb-true _ _ b))
 
-pub answers : (place : Position) (offset : ℕ) (un : List ℕ) (r : Input) → offset + length (un ++ r.bytes) < 2 ^ 64 →
+pub answers : (place : Position) (offset : ℕ) (un : List ℕ) (r : Input)
+    → offset + length (un ++ r.bytes) < 2 ^ 64 →
     left_at place offset un (Some r) ≡ Some (left_is place offset un r)
 answers place offset un r short = rw (lt-ltb (offset + length (un ++ r.bytes)) (2 ^ 64) short) refl
 
 -- n bytes at hand are taken
-pub gap_left : (source : Option Input) (p p' : Position) (o o' : ℕ) (un un' : List ℕ) (n : ℕ) → n ≤ length un → un' ≡ drop n un → o' ≡ min (o + n) (2 ^ 64 - 1) →
-    ((fails : Bool) (offset : ℕ) (rest : List ℕ) → tokens_in p fails offset (un ++ rest) ≡ tokens_in p' fails (offset + n) (drop n un ++ rest)) →
+pub gap_left : (source : Option Input) (p p' : Position) (o o' : ℕ) (un un' : List ℕ) (n : ℕ)
+    → n ≤ length un → un' ≡ drop n un → o' ≡ min (o + n) (2 ^ 64 - 1) →
+    ((fails : Bool) (offset : ℕ) (rest : List ℕ) → tokens_in p fails offset (un ++ rest)
+    ≡ tokens_in p' fails (offset + n) (drop n un ++ rest)) →
     Keeps (left_at p o un source) (left_at p' o' un' source)
 gap_left source p p' o o' un un' n within cut at same =
     known p o un source (λ l. left_at p' o' un' source ≡ Some l) (λ r is short.
@@ -55,7 +66,8 @@ gap_left source p p' o o' un un' n within cut at same =
     rw is (t ∙ ap (λ (l : Rest). Some l) s))
 
 -- the part of a list from n further on
-pub narrowed : (xs : List ℕ) (start end n : ℕ) → start + n ≤ end → slice_range xs (start + n) end ≡ drop n (slice_range xs start end)
+pub narrowed : (xs : List ℕ) (start end n : ℕ) → start + n ≤ end
+    → slice_range xs (start + n) end ≡ drop n (slice_range xs start end)
 narrowed xs start end n within =
     let e : end - start ≡ n + (end - (start + n)) = omega arith in
     rw (e, drop-take, drop-drop) refl
@@ -68,7 +80,8 @@ nothing fails Past o = refl
 
 -- no byte is left before a failure
 pub over_gap : (source : Option Input) (p : Position) (o : ℕ) (un : List ℕ) → length un ≡ 0 →
-    IfSome (option_map (prepend un) source) (λ i. (i.bytes ≡ un) × (i.fails ≡ true)) → IsOver (left_at p o un source) true
+    IfSome (option_map (prepend un) source) (λ i. (i.bytes ≡ un) × (i.fails ≡ true))
+    → IsOver (left_at p o un source) true
 over_gap source p o un none h =
     known p o un source (λ l. (l.tokens ≡ []) × (l.fails ≡ true)) (λ r is short.
     let i : (un ++ r.bytes ≡ un) × (r.fails ≡ true) = rw is at h in
@@ -77,14 +90,16 @@ over_gap source p o un none h =
 -- a run that no byte follows before a failure
 pub over_cut : (source : Option Input) (o : ℕ) (un : List ℕ) → 0 < length un → length un ≤ 65535 →
     ((k : ℕ) → k < length un → is_white (get_or un k 0) ≡ false) →
-    IfSome (option_map (prepend un) source) (λ i. (i.bytes ≡ un) × (i.fails ≡ true)) → IsOver (left_at Past o un source) true
+    IfSome (option_map (prepend un) source) (λ i. (i.bytes ≡ un) × (i.fails ≡ true))
+    → IsOver (left_at Past o un source) true
 over_cut source o un some short solid h =
     known Past o un source (λ l. (l.tokens ≡ []) × (l.fails ≡ true)) (λ r is _.
     let i : (un ++ r.bytes ≡ un) × (r.fails ≡ true) = rw is at h in
     rw (i.0, i.1, token_cut o un some short solid) (refl, refl))
 
 -- at the end nothing is left
-pub over_end : (source : Option Input) (p : Position) (o : ℕ) (un : List ℕ) → length un ≡ 0 → source ≡ Some (record { bytes = []; fails = false }) →
+pub over_end : (source : Option Input) (p : Position) (o : ℕ) (un : List ℕ) → length un ≡ 0
+    → source ≡ Some (record { bytes = []; fails = false }) →
     IsOver (left_at p o un source) false
 over_end source p o un none end =
     known p o un source (λ l. (l.tokens ≡ []) × (l.fails ≡ false)) (λ r is _.
@@ -93,7 +108,8 @@ over_end source p o un none end =
     rw (e, nil_from_length un none, nothing false p o) (refl, refl))
 
 -- what is over was so before
-pub over_kept : (old new : Option Rest) (fails : Bool) → Keeps old new → IsOver new fails → IsOver old fails
+pub over_kept : (old new : Option Rest) (fails : Bool) → Keeps old new → IsOver new fails
+    → IsOver old fails
 over_kept None new fails kept over = tt
 over_kept (Some l) new fails kept over = rw kept at over
 
@@ -102,11 +118,13 @@ on_err (Ok x) P p = tt
 on_err (Err e) P p = p
 
 -- bytes in front are where they were
-pub in_front : (old new : List ℕ) (k : ℕ) → take (length old) new ≡ old → k < length old → get_or new k 0 ≡ get_or old k 0
+pub in_front : (old new : List ℕ) (k : ℕ) → take (length old) new ≡ old → k < length old
+    → get_or new k 0 ≡ get_or old k 0
 in_front old new k front within = sym (get_or-take (length old) new k 0 within) ∙ ap (λ (xs : List ℕ). get_or xs k 0) front
 
 -- what is told of the input decides what is left
-pub input_keeps : (p : Position) (o o' : ℕ) (un un' : List ℕ) (source source' : Option Input) → o' ≡ o →
+pub input_keeps : (p : Position) (o o' : ℕ) (un un' : List ℕ) (source source' : Option Input)
+    → o' ≡ o →
     IfSome (option_map (prepend un) source) (λ i. option_map (prepend un') source' ≡ Some i) →
     Keeps (left_at p o un source) (left_at p o' un' source')
 input_keeps p o o' un un' source source' same h =
@@ -119,12 +137,15 @@ pub part_short : (xs : List ℕ) (start end : ℕ) → length (slice_range xs st
 part_short xs start end = omega (arith, length-take (end - start) (drop start xs))
 
 -- a token at the front, which ends where white space follows or the text does
-pub token_left : (source : Option Input) (o o' : ℕ) (un un' : List ℕ) (n : ℕ) → 0 < n → n ≤ length un → n ≤ 65535 →
-    ((k : ℕ) → k < n → is_white (get_or un k 0) ≡ false) → (n < length un → is_white (get_or un n 0) ≡ true) →
+pub token_left : (source : Option Input) (o o' : ℕ) (un un' : List ℕ) (n : ℕ) → 0 < n
+    → n ≤ length un → n ≤ 65535 →
+    ((k : ℕ) → k < n → is_white (get_or un k 0) ≡ false)
+    → (n < length un → is_white (get_or un n 0) ≡ true) →
     (n ≡ length un → source ≡ Some (record { bytes = []; fails = false })) →
     un' ≡ drop n un → o' ≡ min (o + n) (2 ^ 64 - 1) →
     IfSome (left_at Past o un source) (λ l.
-    (Ok (Some (record { bytes = take n un; offset = o; long = false })) ≡ next_answer l) × (left_at Past o' un' source ≡ Some (next_left l)))
+    (Ok (Some (record { bytes = take n un; offset = o; long = false })) ≡ next_answer l)
+    × (left_at Past o' un' source ≡ Some (next_left l)))
 token_left source o o' un un' n some within short solid white ends cut at =
     known Past o un source (λ l. (Ok (Some (record { bytes = take n un; offset = o; long = false })) ≡ next_answer l) × (left_at Past o' un' source ≡ Some (next_left l))) (λ r is fits.
     let a : length (un ++ r.bytes) ≡ length un + length r.bytes = length-append un r.bytes in
@@ -155,7 +176,8 @@ token_left source o o' un un' n some within short solid white ends cut at =
 -- a token that is too long
 pub long_left : (source : Option Input) (o : ℕ) (un : List ℕ) → 65536 ≤ length un →
     ((k : ℕ) → k < 65536 → is_white (get_or un k 0) ≡ false) →
-    IfSome (left_at Past o un source) (λ l. Ok (Some (record { bytes = take 65535 un; offset = o; long = true })) ≡ next_answer l)
+    IfSome (left_at Past o un source)
+    (λ l. Ok (Some (record { bytes = take 65535 un; offset = o; long = true })) ≡ next_answer l)
 long_left source o un within solid =
     known Past o un source (λ l. Ok (Some (record { bytes = take 65535 un; offset = o; long = true })) ≡ next_answer l) (λ r is fits.
     let a : length (un ++ r.bytes) ≡ length un + length r.bytes = length-append un r.bytes in
@@ -168,22 +190,29 @@ long_left source o un within solid =
     let yes : nat_lt 65535 (length (run (un ++ r.bytes))) ≡ true = lt-ltb 65535 (length (run (un ++ r.bytes))) (omega arith) in
     rw (token_long r.fails o (un ++ r.bytes) m solid') (rw (t, f, yes) refl))
 
-pub some_weaker : (o : Option Rest) (P Q : Rest → Type 0) → ((l : Rest) → P l → Q l) → IfSome o P → IfSome o Q
+pub some_weaker : (o : Option Rest) (P Q : Rest → Type 0) → ((l : Rest) → P l → Q l) → IfSome o P
+    → IfSome o Q
 some_weaker None P Q f p = tt
 some_weaker (Some l) P Q f p = f l p
 
 -- the first n of a part
-pub part_front : (xs : List ℕ) (start end n : ℕ) → n ≤ end - start → slice_range xs start (start + n) ≡ take n (slice_range xs start end)
+pub part_front : (xs : List ℕ) (start end n : ℕ) → n ≤ end - start
+    → slice_range xs start (start + n) ≡ take n (slice_range xs start end)
 part_front xs start end n within =
     let e : start + n - start ≡ n = omega arith in
     rw (e, take-take n (end - start) (drop start xs) within) refl
 
 -- the answer where n bytes are taken, or 65,536 for more
-pub read_answer : (source : Option Input) (o : ℕ) (buf : List ℕ) (start end n len : ℕ) → len ≡ min n 65535 → 0 < n → n ≤ 65536 → n ≤ length (slice_range buf start end) →
+pub read_answer : (source : Option Input) (o : ℕ) (buf : List ℕ) (start end n len : ℕ)
+    → len ≡ min n 65535 → 0 < n → n ≤ 65536 → n ≤ length (slice_range buf start end) →
     ((k : ℕ) → k < n → is_white (get_or (slice_range buf start end) k 0) ≡ false) →
-    (n < length (slice_range buf start end) → is_white (get_or (slice_range buf start end) n 0) ≡ true) →
-    (n < 65536 → n ≡ length (slice_range buf start end) → source ≡ Some (record { bytes = []; fails = false })) →
-    IfSome (left_at Past o (slice_range buf start end) source) (λ l. Ok (Some (record { bytes = slice_range buf start (start + len); offset = o; long = nat_eq n 65536 })) ≡ next_answer l)
+    (n < length (slice_range buf start end)
+    → is_white (get_or (slice_range buf start end) n 0) ≡ true) →
+    (n < 65536 → n ≡ length (slice_range buf start end)
+    → source ≡ Some (record { bytes = []; fails = false })) →
+    IfSome (left_at Past o (slice_range buf start end) source) (λ l. Ok (Some
+    (record { bytes = slice_range buf start (start + len); offset = o; long = nat_eq n 65536 }))
+    ≡ next_answer l)
 read_answer source o buf start end n len shown some limit within solid white ends =
     let un : List ℕ = slice_range buf start end in
     let short : length (slice_range buf start end) ≤ end - start = part_short buf start end in
@@ -200,8 +229,10 @@ read_answer source o buf start end n len shown some limit within solid white end
     ]
 
 -- the tokens left behind it
-pub read_left : (source : Option Input) (o o' : ℕ) (un un' : List ℕ) (n : ℕ) → 0 < n → n ≤ length un → n ≤ 65535 →
-    ((k : ℕ) → k < n → is_white (get_or un k 0) ≡ false) → (n < length un → is_white (get_or un n 0) ≡ true) →
+pub read_left : (source : Option Input) (o o' : ℕ) (un un' : List ℕ) (n : ℕ) → 0 < n → n ≤ length un
+    → n ≤ 65535 →
+    ((k : ℕ) → k < n → is_white (get_or un k 0) ≡ false)
+    → (n < length un → is_white (get_or un n 0) ≡ true) →
     (n ≡ length un → source ≡ Some (record { bytes = []; fails = false })) →
     un' ≡ drop n un → o' ≡ min (o + n) (2 ^ 64 - 1) →
     IfSome (left_at Past o un source) (λ l. left_at Past o' un' source ≡ Some (next_left l))
@@ -210,7 +241,8 @@ read_left source o o' un un' n some within short solid white ends cut at =
     (token_left source o o' un un' n some within short solid white ends cut at)
 
 -- at most 65,535 bytes of a run are a token
-pub token_part : (buf : List ℕ) (start end n len : ℕ) → len ≡ min n 65535 → 0 < n → n ≤ length (slice_range buf start end) →
+pub token_part : (buf : List ℕ) (start end n len : ℕ) → len ≡ min n 65535 → 0 < n
+    → n ≤ length (slice_range buf start end) →
     ((k : ℕ) → k < n → is_white (get_or (slice_range buf start end) k 0) ≡ false) →
     IsToken (slice_range buf start (start + len))
 token_part buf start end n len shown some within solid =
@@ -229,26 +261,38 @@ kept (Some l) new P keeps h = rw keeps at h
 
 -- white space and a token behind it are taken
 passed : (source : Option Input) (o o' o'' : ℕ) (un un' : List ℕ) (gap len : ℕ) → gap ≤ length un →
-    ((fails : Bool) (offset : ℕ) (rest : List ℕ) → tokens_in Past fails offset (un ++ rest) ≡ tokens_in Past fails (offset + gap) (drop gap un ++ rest)) →
-    IsInFront (drop gap un) len → length un ≤ 65536 → o' ≡ min (o + gap) (2 ^ 64 - 1) → o'' ≡ min (o' + len) (2 ^ 64 - 1) → un' ≡ drop len (drop gap un) →
-    IfSome (left_at Past o un source) (λ l. (Ok (Some (record { bytes = take len (drop gap un); offset = o'; long = false })) ≡ next_answer l) × (left_at Past o'' un' source ≡ Some (next_left l)))
+    ((fails : Bool) (offset : ℕ) (rest : List ℕ) → tokens_in Past fails offset (un ++ rest)
+    ≡ tokens_in Past fails (offset + gap) (drop gap un ++ rest)) →
+    IsInFront (drop gap un) len → length un ≤ 65536 → o' ≡ min (o + gap) (2 ^ 64 - 1)
+    → o'' ≡ min (o' + len) (2 ^ 64 - 1) → un' ≡ drop len (drop gap un) →
+    IfSome (left_at Past o un source) (λ l.
+    (Ok (Some (record { bytes = take len (drop gap un); offset = o'; long = false }))
+    ≡ next_answer l) × (left_at Past o'' un' source ≡ Some (next_left l)))
 passed source o o' o'' un un' gap len within same front short at behind cut =
     let more : len < length (drop gap un) = front.within in
     let size : length (drop gap un) ≡ length un - gap = length-drop gap un in
     kept _ _ _ (gap_left source Past Past o o' un (drop gap un) gap within refl at same)
     (token_left source o' o'' (drop gap un) un' len front.some (omega arith) (omega arith) front.solid (λ h. front.white) (λ e. absurd (omega arith)) cut behind)
 
-pub passed_answer : (source : Option Input) (o o' o'' : ℕ) (un un' : List ℕ) (gap len : ℕ) → gap ≤ length un →
-    ((fails : Bool) (offset : ℕ) (rest : List ℕ) → tokens_in Past fails offset (un ++ rest) ≡ tokens_in Past fails (offset + gap) (drop gap un ++ rest)) →
-    IsInFront (drop gap un) len → length un ≤ 65536 → o' ≡ min (o + gap) (2 ^ 64 - 1) → o'' ≡ min (o' + len) (2 ^ 64 - 1) → un' ≡ drop len (drop gap un) →
-    IfSome (left_at Past o un source) (λ l. Ok (Some (record { bytes = take len (drop gap un); offset = o'; long = false })) ≡ next_answer l)
+pub passed_answer : (source : Option Input) (o o' o'' : ℕ) (un un' : List ℕ) (gap len : ℕ)
+    → gap ≤ length un →
+    ((fails : Bool) (offset : ℕ) (rest : List ℕ) → tokens_in Past fails offset (un ++ rest)
+    ≡ tokens_in Past fails (offset + gap) (drop gap un ++ rest)) →
+    IsInFront (drop gap un) len → length un ≤ 65536 → o' ≡ min (o + gap) (2 ^ 64 - 1)
+    → o'' ≡ min (o' + len) (2 ^ 64 - 1) → un' ≡ drop len (drop gap un) →
+    IfSome (left_at Past o un source)
+    (λ l. Ok (Some (record { bytes = take len (drop gap un); offset = o'; long = false }))
+    ≡ next_answer l)
 passed_answer source o o' o'' un un' gap len within same front short at behind cut =
     some_weaker _ _ _ (λ (l : Rest) (p : (Ok (Some (record { bytes = take len (drop gap un); offset = o'; long = false })) ≡ next_answer l) × (left_at Past o'' un' source ≡ Some (next_left l))). p.0)
     (passed source o o' o'' un un' gap len within same front short at behind cut)
 
-pub passed_left : (source : Option Input) (o o' o'' : ℕ) (un un' : List ℕ) (gap len : ℕ) → gap ≤ length un →
-    ((fails : Bool) (offset : ℕ) (rest : List ℕ) → tokens_in Past fails offset (un ++ rest) ≡ tokens_in Past fails (offset + gap) (drop gap un ++ rest)) →
-    IsInFront (drop gap un) len → length un ≤ 65536 → o' ≡ min (o + gap) (2 ^ 64 - 1) → o'' ≡ min (o' + len) (2 ^ 64 - 1) → un' ≡ drop len (drop gap un) →
+pub passed_left : (source : Option Input) (o o' o'' : ℕ) (un un' : List ℕ) (gap len : ℕ)
+    → gap ≤ length un →
+    ((fails : Bool) (offset : ℕ) (rest : List ℕ) → tokens_in Past fails offset (un ++ rest)
+    ≡ tokens_in Past fails (offset + gap) (drop gap un ++ rest)) →
+    IsInFront (drop gap un) len → length un ≤ 65536 → o' ≡ min (o + gap) (2 ^ 64 - 1)
+    → o'' ≡ min (o' + len) (2 ^ 64 - 1) → un' ≡ drop len (drop gap un) →
     IfSome (left_at Past o un source) (λ l. left_at Past o'' un' source ≡ Some (next_left l))
 passed_left source o o' o'' un un' gap len within same front short at behind cut =
     some_weaker _ _ _ (λ (l : Rest) (p : (Ok (Some (record { bytes = take len (drop gap un); offset = o'; long = false })) ≡ next_answer l) × (left_at Past o'' un' source ≡ Some (next_left l))). p.1)

@@ -1,11 +1,13 @@
 -- What an answer of the reader of tokens says of the token that is wanted
-use Rattle.std.proofs.Common.{◌≡◌, ◌≤◌, Bool, true, false, List, [], ◌∷◌, length, nat_lt, Option, Some, None, Result, Ok, IfOk, IfSome, IsSome, refl, sym, ap, ◌∙◌}
+use Rattle.std.proofs.Common.{◌≡◌, ◌≤◌, Bool, true, false, List, [], ◌∷◌, length, nat_lt, Option}
+use Rattle.std.proofs.Common.{Some, None, Result, Ok, IfOk, IfSome, IsSome, refl, sym, ap, ◌∙◌}
 use Rattle.std.proofs.lemmas.List.{take_all}
 use Rattle.std.proofs.lemmas.Bool.{ltb-false}
 use Rattle.vipr_spec.specs.Tokens.{Token}
 use Rattle.vipr_spec.specs.Reading.{Rest, token_read, first_token}
 use Rattle.vipr_scan.specs.Giving.{rest_of, IsBehind}
-use Rattle.vipr_scan.specs.View.{TokenView, next_answer, first_answer, view_of_read, next_left, stops}
+use Rattle.vipr_scan.specs.View.{TokenView, next_answer, first_answer, view_of_read, next_left}
+use Rattle.vipr_scan.specs.View.{stops}
 use Rattle.vipr_scan.specs.declared.error.ScanError.{ScanError}
 
 -- what was seen, as a token
@@ -13,7 +15,8 @@ abbrev pub token_seen : TokenView → Token
 token_seen s = record { bytes = s.bytes; offset = s.offset }
 
 -- a token that isn't too long
-pub short_token : (l : Rest) (s : TokenView) → Ok (Some s) ≡ next_answer l → s.long ≡ false → token_read l ≡ Ok (token_seen s, next_left l)
+pub short_token : (l : Rest) (s : TokenView) → Ok (Some s) ≡ next_answer l → s.long ≡ false
+    → token_read l ≡ Ok (token_seen s, next_left l)
 unfolding first_token
 short_token l s h short = go l.tokens l.fails h
   where
@@ -29,13 +32,16 @@ short_token l s h short = go l.tokens l.fails h
         rw (no, all, at) refl
 
 -- the same where the rest is known, with the rest behind it
-pub short_known : (old new : Option Rest) (s : TokenView) → IfSome old (λ l. Ok (Some s) ≡ next_answer l) → s.long ≡ false → IfSome old (λ l. new ≡ Some (next_left l))
+pub short_known : (old new : Option Rest) (s : TokenView)
+    → IfSome old (λ l. Ok (Some s) ≡ next_answer l) → s.long ≡ false
+    → IfSome old (λ l. new ≡ Some (next_left l))
     → IsSome old → (token_read (rest_of old) ≡ Ok (token_seen s, rest_of new)) × IsSome new
 short_known (Some l) new s answer short left known = rw left (short_token l s answer short, refl)
 short_known None new s answer short left known = absurd (cc)
 
 -- what an answer leaves, where the next token is whole
-pub behind_of : (old new : Option Rest) (answer : Result (Option TokenView) ScanError) → IfSome old (λ l. answer ≡ next_answer l)
+pub behind_of : (old new : Option Rest) (answer : Result (Option TokenView) ScanError)
+    → IfSome old (λ l. answer ≡ next_answer l)
     → (stops answer ≡ false → IfSome old (λ l. new ≡ Some (next_left l))) → IsBehind old new
 unfolding first_token
 behind_of None new answer is left = tt

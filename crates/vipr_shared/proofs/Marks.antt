@@ -1,14 +1,17 @@
--- A mark is reached through a `&` with the thread's token, and left again; two of one name have one value and place. Assumes `Logic`.
+-- A mark is reached through a `&` with the thread's token, and left again; two of one name have one
+-- value and place. Assumes `Logic`.
 use Rattle.std.proofs.Common.{◌≡◌, ℕ, List, [], ◌∷◌, true, refl, lit<}
 use Rattle.std.specs.Coded.{Coded}
 use seplogic.Ra.Ura.{Ura}
 use mir.Val.{Val}
 use base.Fraction.{full_share}
 use base.Logic.{sep, wand, apply∗}
-use base.Fml.{Lft, Share, Fml, GName, Key, Mask, Incl-refl, ftrue, fsep, fex, fat, flft, ftok, fauth, fres}
+use base.Fml.{Lft, Share, Fml, GName, Key, Mask, Incl-refl, ftrue, fsep, fex, fat, flft, ftok}
+use base.Fml.{fauth, fres}
 use base.Mask.{every, just, less, take}
 use types.Logic.{Logic, sem}
-use types.Kit.{Item, Goal, Seq, Step, Soaks, step, ‵, raw, ◌⊛◌, later, ◌$◌, move, drop, use0, use1, use2, use3, split, join, fsplit, fjoin, fpick, fpack, rewrite, await}
+use types.Kit.{Item, Goal, Seq, Step, Soaks, step, ‵, raw, ◌⊛◌, later, ◌$◌, move, drop, use0, use1}
+use types.Kit.{use2, use3, split, join, fsplit, fjoin, fpick, fpack, rewrite, await}
 use types.Tokens.{res_agree}
 use types.Na.{na_bor, na_acc_in, na_inv, na_inv_acc}
 use denote.RattleType.{RattleType}

@@ -1,22 +1,32 @@
 -- All tests of a certificate pass exactly where it is a proof
-use Rattle.std.proofs.Common.{◌≡◌, ℕ, zero, suc, ◌+◌, ◌-◌, ◌<◌, List, [], ◌∷◌, ◌++◌, map, length, slice_index_or, unwrap_or, Some, None, All, arith, sym, ◌∙◌, ap, subst, subst₂}
+use Rattle.std.proofs.Common.{◌≡◌, ℕ, zero, suc, ◌+◌, ◌-◌, ◌<◌, List, [], ◌∷◌, ◌++◌, map, length}
+use Rattle.std.proofs.Common.{slice_index_or, unwrap_or, Some, None, All, arith, sym, ◌∙◌, ap}
+use Rattle.std.proofs.Common.{subst, subst₂}
 use Rattle.std.specs.Prelude.{◌↔◌}
 use Rattle.std.proofs.lemmas.List.{get_or-append-add, get_or-map}
-use Rattle.std.proofs.lemmas.List.Elements.{All-nil, All-cons, All-head, All-tail, All-append, All-map}
+use Rattle.std.proofs.lemmas.List.Elements.{All-nil, All-cons, All-head, All-tail, All-append}
+use Rattle.std.proofs.lemmas.List.Elements.{All-map}
 use Rattle.std.proofs.Math.ListN.{length-map}
 use Rattle.std.specs.FinMap.{empty}
 use Rattle.vipr_spec.specs.Fraction.{zero_ℚ}
 use Rattle.vipr_spec.specs.Constraint.{Profile, Constraint, IsInteger, at, equal}
-use Rattle.vipr_spec.specs.Certificate.{Named, asm, Derivation, Certificate, Known, given_constraint, derived_constraint, variables, constraint_at, reason_at, IsFeasible, SolutionFits, HasGoodSteps, IsProof}
+use Rattle.vipr_spec.specs.Certificate.{Named, asm, Derivation, Certificate, Known}
+use Rattle.vipr_spec.specs.Certificate.{given_constraint, derived_constraint, variables}
+use Rattle.vipr_spec.specs.Certificate.{constraint_at, reason_at, IsFeasible, SolutionFits}
+use Rattle.vipr_spec.specs.Certificate.{HasGoodSteps, IsProof}
 use Rattle.vipr_spec.specs.Steps.{before, PassesStep, step_tests, FirstFailing}
-use Rattle.vipr_spec.specs.Tests.{Test, of_solution, meets_primal, of_step, meets_dual, Passes, solution_tests, numbered_tests, tests_of_solution, tests_of_derivation, proof_tests}
+use Rattle.vipr_spec.specs.Tests.{Test, of_solution, meets_primal, of_step, meets_dual, Passes}
+use Rattle.vipr_spec.specs.Tests.{solution_tests, numbered_tests, tests_of_solution}
+use Rattle.vipr_spec.specs.Tests.{tests_of_derivation, proof_tests}
 use Rattle.vipr_spec.proofs.FirstFailing.{none_all, all_none, all_parts}
 use Rattle.vipr_spec.proofs.SolutionTests.{feasible_of_tests, tests_of_feasible}
 use Rattle.vipr_spec.proofs.Prefix.{is_derived}
 use Rattle.vipr_spec.proofs.Steps.{good_before}
 
 -- ---- the tests of numbered items
-numbered_of : {A : Type 0} (P : Test → Type 0) (tests : ℕ → A → List Test) (n : ℕ) (xs : List A) → All P (numbered_tests tests n xs) → (k : ℕ) (d : A) → k < length xs → All P (tests (n + k) (slice_index_or xs k d))
+numbered_of : {A : Type 0} (P : Test → Type 0) (tests : ℕ → A → List Test) (n : ℕ) (xs : List A)
+    → All P (numbered_tests tests n xs) → (k : ℕ) (d : A) → k < length xs
+    → All P (tests (n + k) (slice_index_or xs k d))
 unfolding numbered_tests
 numbered_of P tests n [] a k d h = absurd (omega arith)
 numbered_of P tests n (x ∷ xs) a zero d h = let e : n ≡ n + 0 = omega arith in subst (λ i. All P (tests i x)) e (all_parts P (tests n x) (numbered_tests tests (suc n) xs) a).0
@@ -24,7 +34,9 @@ numbered_of P tests n (x ∷ xs) a (suc k) d h =
     let e : suc n + k ≡ n + suc k = omega arith in
     subst (λ i. All P (tests i (slice_index_or xs k d))) e (numbered_of P tests (suc n) xs (all_parts P (tests n x) (numbered_tests tests (suc n) xs) a).1 k d (omega arith))
 
-numbered_all : {A : Type 0} (P : Test → Type 0) (tests : ℕ → A → List Test) (n : ℕ) (xs : List A) → ((k : ℕ) (d : A) → k < length xs → All P (tests (n + k) (slice_index_or xs k d))) → All P (numbered_tests tests n xs)
+numbered_all : {A : Type 0} (P : Test → Type 0) (tests : ℕ → A → List Test) (n : ℕ) (xs : List A)
+    → ((k : ℕ) (d : A) → k < length xs → All P (tests (n + k) (slice_index_or xs k d)))
+    → All P (numbered_tests tests n xs)
 unfolding numbered_tests
 numbered_all P tests n [] f = All-nil P
 numbered_all P tests n (x ∷ xs) f =
@@ -33,18 +45,24 @@ numbered_all P tests n (x ∷ xs) f =
     (subst (λ i. All P (tests i x)) e (f 0 x (omega arith)))
     (numbered_all P tests (suc n) xs (λ k d h. let g : n + suc k ≡ suc n + k = omega arith in subst (λ i. All P (tests i (slice_index_or xs k d))) g (f (suc k) d (omega arith))))
 
-unmapped : {A : Type 0} (P : Test → Type 0) (f : A → Test) (xs : List A) → All P (map f xs) → All (λ x. P (f x)) xs
+unmapped : {A : Type 0} (P : Test → Type 0) (f : A → Test) (xs : List A) → All P (map f xs)
+    → All (λ x. P (f x)) xs
 unmapped P f [] a = All-nil (λ x. P (f x))
 unmapped P f (x ∷ xs) a = All-cons (λ x. P (f x)) x xs (All-head P (f x) (map f xs) a) (unmapped P f xs (All-tail P (f x) (map f xs) a))
 
 -- ---- each derivation
-after_given : (xs : List (Named Constraint)) (ys : List Derivation) (k : ℕ) (d : Derivation) (none : Known) → k < length ys → slice_index_or (map given_constraint xs ++ map derived_constraint ys) (length xs + k) none ≡ derived_constraint (slice_index_or ys k d)
+after_given : (xs : List (Named Constraint)) (ys : List Derivation) (k : ℕ) (d : Derivation)
+    (none : Known) → k < length ys
+    → slice_index_or (map given_constraint xs ++ map derived_constraint ys) (length xs + k) none
+    ≡ derived_constraint (slice_index_or ys k d)
 after_given xs ys k d none h =
     let n : length (map given_constraint xs) ≡ length xs = simp length-map in
     ap (λ n. slice_index_or (map given_constraint xs ++ map derived_constraint ys) (n + k) none) (sym n) ∙ get_or-append-add (map given_constraint xs) (map derived_constraint ys) k none
     ∙ get_or-map derived_constraint ys k d none h
 
-reason_derived : (c : Certificate) (k : ℕ) (d : Derivation) → k < length c.derivations → reason_at c (length c.problem.constraints + k) ≡ Some (slice_index_or c.derivations k d).reason
+reason_derived : (c : Certificate) (k : ℕ) (d : Derivation) → k < length c.derivations
+    → reason_at c (length c.problem.constraints + k)
+    ≡ Some (slice_index_or c.derivations k d).reason
 reason_derived c k d h = ap (λ (x : Known). x.reason) (after_given c.problem.constraints c.derivations k d _ h)
 
 nothing : Derivation

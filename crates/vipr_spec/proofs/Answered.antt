@@ -1,22 +1,27 @@
 -- It can't be that a text has no answer
-use Rattle.std.proofs.Common.{◌≡◌, ℕ, zero, suc, ◌≤◌, ◌<◌, ◌⊎◌, Option, Some, None, MatchOption, arith, refl, sym, subst, inl, inr, ⊎_elim, length, All, Result, Ok, Err}
+use Rattle.std.proofs.Common.{◌≡◌, ℕ, zero, suc, ◌≤◌, ◌<◌, ◌⊎◌, Option, Some, None, MatchOption}
+use Rattle.std.proofs.Common.{arith, refl, sym, subst, inl, inr, ⊎_elim, length, All, Result, Ok}
+use Rattle.std.proofs.Common.{Err}
 use Rattle.std.specs.Prelude.{IsSome}
 use Rattle.std.proofs.lemmas.Bool.{cases_lt}
 use Rattle.vipr_spec.specs.Fraction.{ℚ}
 use Rattle.std.proofs.lemmas.List.Elements.{All-contains}
 use Rattle.vipr_spec.specs.Constraint.{Profile, IsInteger}
-use Rattle.vipr_spec.specs.Certificate.{Problem, variables, Claim, infeasible, range, dual_bound, Certificate, NeedsGoal, ProvesDual, IsGoal, peak}
+use Rattle.vipr_spec.specs.Certificate.{Problem, variables, Claim, infeasible, range, dual_bound}
+use Rattle.vipr_spec.specs.Certificate.{Certificate, NeedsGoal, ProvesDual, IsGoal, peak}
 use Rattle.vipr_spec.specs.Reading.{Rest, Fault, certificate_read}
 use Rattle.vipr_spec.specs.Steps.{FirstFailing}
 use Rattle.vipr_spec.specs.Tests.{Test, spelled, meets_dual, Passes}
-use Rattle.vipr_spec.specs.Verdict.{Found, found_in, Report, Reports, Answer, verified, answer_of_test, IsAnswer}
+use Rattle.vipr_spec.specs.Verdict.{Found, found_in, Report, Reports, Answer, verified}
+use Rattle.vipr_spec.specs.Verdict.{answer_of_test, IsAnswer}
 use Rattle.vipr_spec.proofs.FirstFailing.{failing_some, none_all}
 use Rattle.vipr_spec.proofs.AllTests.{proof_of_tests}
 use Rattle.vipr_spec.proofs.GrammarWhole.{integers_read_below}
 use Rattle.vipr_spec.proofs.WholeText.{Whole, whole_read}
 
 -- where some index has a property, it can't be that none is the least with it
-least : (Q : ℕ → Type 0) (bound k : ℕ) → k < bound → Q k → ¬ ¬ ((m : ℕ) × Q m × ((i : ℕ) → Q i → m ≤ i))
+least : (Q : ℕ → Type 0) (bound k : ℕ) → k < bound → Q k
+    → ¬ ¬ ((m : ℕ) × Q m × ((i : ℕ) → Q i → m ≤ i))
 least Q zero k lt q n = absurd (omega arith)
 least Q (suc b) k lt q n = n (k, q, λ i r. ⊎_elim (λ (l : i < k). absurd (least Q b i (omega arith) r n)) (λ (l : k ≤ i). l) (cases_lt i k))
 

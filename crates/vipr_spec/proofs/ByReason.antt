@@ -1,10 +1,15 @@
 -- The rule of a derivation, reason by reason
-use Rattle.std.proofs.Common.{◌≡◌, ◌≢◌, ℕ, ◌<◌, List, [], ◌∷◌, ◌⊎◌, Some, All, Contains, refl, subst, sym, inl, inr}
+use Rattle.std.proofs.Common.{◌≡◌, ◌≢◌, ℕ, ◌<◌, List, [], ◌∷◌, ◌⊎◌, Some, All, Contains, refl}
+use Rattle.std.proofs.Common.{subst, sym, inl, inr}
 use Rattle.std.specs.Prelude.{◌↔◌, IsTrue}
-use Rattle.std.proofs.lemmas.List.Elements.{All-nil, All-cons, All-head, All-tail, All-weaker, All-contains, All-contains_itself}
+use Rattle.std.proofs.lemmas.List.Elements.{All-nil, All-cons, All-head, All-tail, All-weaker}
+use Rattle.std.proofs.lemmas.List.Elements.{All-contains, All-contains_itself}
 use Rattle.vipr_spec.specs.Fraction.{ℚ, zero_ℚ}
-use Rattle.vipr_spec.specs.Constraint.{Profile, Sense, Row, Condition, HasSense, SumOfFits, sum_of, Dominates, DominatesRounded, IsWholeRow, IsSplit}
-use Rattle.vipr_spec.specs.Certificate.{Named, asm, lin, rnd, uns, sol, Certificate, entries, constraint_at, reason_at, is_live, IsBest, cutoff, IsGoodStep}
+use Rattle.vipr_spec.specs.Constraint.{Profile, Sense, Row, Condition, HasSense, SumOfFits, sum_of}
+use Rattle.vipr_spec.specs.Constraint.{Dominates, DominatesRounded, IsWholeRow, IsSplit}
+use Rattle.vipr_spec.specs.Certificate.{Named, asm, lin, rnd, uns, sol, Certificate, entries}
+use Rattle.vipr_spec.specs.Certificate.{constraint_at, reason_at, is_live, IsBest, cutoff}
+use Rattle.vipr_spec.specs.Certificate.{IsGoodStep}
 use Rattle.vipr_spec.specs.Rules.{AreUsable}
 
 module _ (P : Profile) (c : Certificate) (k : ℕ) where

@@ -1,16 +1,21 @@
 -- What a checker keeps of the certificate so far stays so, and tells the answer at the end
-use Rattle.std.proofs.Common.{◌≡◌, ℕ, zero, suc, ◌<◌, ◌≤◌, max, List, [], ◌∷◌, ◌++◌, map, length, slice_index_or, Option, Some, None, Ok, arith, refl, sym, ◌∙◌, ap, subst, inl, inr, ⊎_elim}
+use Rattle.std.proofs.Common.{◌≡◌, ℕ, zero, suc, ◌<◌, ◌≤◌, max, List, [], ◌∷◌, ◌++◌, map, length}
+use Rattle.std.proofs.Common.{slice_index_or, Option, Some, None, Ok, arith, refl, sym, ◌∙◌, ap}
+use Rattle.std.proofs.Common.{subst, inl, inr, ⊎_elim}
 use Rattle.std.specs.Prelude.{◌↔◌, IsSome}
 use Rattle.std.specs.List.{HoldsAt}
 use Rattle.std.proofs.lemmas.Bool.{cases_lt}
 use Rattle.vipr_spec.specs.Constraint.{Profile, Row, Constraint, condition}
-use Rattle.vipr_spec.specs.Certificate.{Named, Problem, Derivation, Certificate, Known, given_constraint, constraint_at, MeetsDual, NeedsGoal, ProvesDual, GoalIs, count_held, count}
+use Rattle.vipr_spec.specs.Certificate.{Named, Problem, Derivation, Certificate, Known}
+use Rattle.vipr_spec.specs.Certificate.{given_constraint, constraint_at, MeetsDual, NeedsGoal}
+use Rattle.vipr_spec.specs.Certificate.{ProvesDual, GoalIs, count_held, count}
 use Rattle.vipr_spec.specs.Steps.{with_next, IsGoodNext, RefersBack}
 use Rattle.vipr_spec.specs.Reading.{Rest, end_read}
 use Rattle.vipr_spec.specs.Tests.{meets_dual}
 use Rattle.vipr_spec.specs.Verdict.{verified, answer_of_test, Answers}
 use Rattle.vipr_spec.specs.Progress.{derivations_from}
-use Rattle.vipr_spec.specs.Checking.{start, IsChecked, Meets, IsFirstMet, ProvesNext, NextGoal, report_from}
+use Rattle.vipr_spec.specs.Checking.{start, IsChecked, Meets, IsFirstMet, ProvesNext, NextGoal}
+use Rattle.vipr_spec.specs.Checking.{report_from}
 use Rattle.vipr_spec.proofs.Prefix.{count_next, known_next}
 use Rattle.vipr_spec.proofs.Held.{peak_next}
 use Rattle.vipr_spec.proofs.Steps.{good_without, good_steps_next, refers_back}
@@ -20,12 +25,16 @@ use Rattle.vipr_spec.proofs.Goals.{dual_given, goal_stays, goal_found, goal_miss
 
 -- ---- the constraints of the problem
 
-got : (xs : List (Named Constraint)) (i : ℕ) (d : Named Constraint) (none : Known) → i < length xs → slice_index_or (map given_constraint xs ++ []) i none ≡ given_constraint (slice_index_or xs i d)
+got : (xs : List (Named Constraint)) (i : ℕ) (d : Named Constraint) (none : Known) → i < length xs
+    → slice_index_or (map given_constraint xs ++ []) i none
+    ≡ given_constraint (slice_index_or xs i d)
 got [] i d none h = absurd (omega arith)
 got (x ∷ xs) zero d none h = refl
 got (x ∷ xs) (suc i) d none h = got xs i d none (omega arith)
 
-given_is : (p : Problem) (ss : List (Named Row)) (i : ℕ) (d : Named Constraint) → i < length p.constraints → constraint_at (start p ss) i ≡ condition (slice_index_or p.constraints i d).item
+given_is : (p : Problem) (ss : List (Named Row)) (i : ℕ) (d : Named Constraint)
+    → i < length p.constraints
+    → constraint_at (start p ss) i ≡ condition (slice_index_or p.constraints i d).item
 given_is p ss i d h = ap (λ (x : Known). x.stated) (got p.constraints i d _ h)
 
 module _ (P : Profile) (p : Problem) (ss : List (Named Row)) where
@@ -54,19 +63,22 @@ module _ (P : Profile) (p : Problem) (ss : List (Named Row)) where
 
 -- ---- the next derivation
 
-proves_next : (P : Profile) (c : Certificate) (d : Derivation) → ProvesDual P (with_next c d) (count c) ↔ ProvesNext P c d
+proves_next : (P : Profile) (c : Certificate) (d : Derivation)
+    → ProvesDual P (with_next c d) (count c) ↔ ProvesNext P c d
 proves_next P c d =
     let e = ap (λ (x : Known). x.stated) (known_next c d []) in (
       λ q. (q.1, subst (MeetsDual P c.problem c.problem.claim) e q.2),
       λ q. ((let n = count_next c d in omega arith), q.0, subst (MeetsDual P c.problem c.problem.claim) (sym e) q.1),
     )
 
-next_goal : (P : Profile) (c : Certificate) (d : Derivation) (goal next : Option ℕ) → RefersBack c → GoalIs P c goal → NextGoal P c d goal next → GoalIs P (with_next c d) next
+next_goal : (P : Profile) (c : Certificate) (d : Derivation) (goal next : Option ℕ) → RefersBack c
+    → GoalIs P c goal → NextGoal P c d goal next → GoalIs P (with_next c d) next
 next_goal P c d (Some g) next b h n = subst (GoalIs P (with_next c d)) (sym n) (goal_stays P c d g b h)
 next_goal P c d None next b h (inl n) = subst (GoalIs P (with_next c d)) (sym n.1) (goal_found P c d b h ((proves_next P c d).1 n.0))
 next_goal P c d None next b h (inr n) = subst (GoalIs P (with_next c d)) (sym n.1) (goal_missing P c d b h (λ q. n.0 ((proves_next P c d).0 q)))
 
-pub checked_next : (P : Profile) (c : Certificate) (d : Derivation) (goal next : Option ℕ) (most_held : ℕ) → IsChecked P c goal most_held → IsGoodNext P c d → NextGoal P c d goal next
+pub checked_next : (P : Profile) (c : Certificate) (d : Derivation) (goal next : Option ℕ)
+    (most_held : ℕ) → IsChecked P c goal most_held → IsGoodNext P c d → NextGoal P c d goal next
     → IsChecked P (with_next c d) next (max most_held (count_held (with_next c d) (count c)))
 checked_next P c d goal next most_held h g n = record {
   steps = (good_steps_next P c d).1 (h.steps, g);
@@ -76,12 +88,15 @@ checked_next P c d goal next most_held h g n = record {
 
 -- ---- the end
 
-pub checked_verified : (P : Profile) (c : Certificate) (goal : Option ℕ) (most_held : ℕ) (r : Rest) → IsChecked P c goal most_held → end_read r ≡ Ok tt → (NeedsGoal c.problem c.problem.claim → IsSome goal)
+pub checked_verified : (P : Profile) (c : Certificate) (goal : Option ℕ) (most_held : ℕ) (r : Rest)
+    → IsChecked P c goal most_held → end_read r ≡ Ok tt
+    → (NeedsGoal c.problem c.problem.claim → IsSome goal)
     → Answers P (derivations_from c 0 r) (verified (report_from c goal most_held))
 checked_verified P c goal most_held r h e s =
     let m = goal_met P c goal h.goal_is s in
     (end_verified P c r (verified (report_from c goal most_held)) e m.0).1 (report_from c goal most_held, record { claim = refl; solutions = refl; derived = refl; peak = h.peak_is; goal = m.1 }, refl)
 
-pub checked_unproved : (P : Profile) (c : Certificate) (most_held : ℕ) (r : Rest) → IsChecked P c None most_held → end_read r ≡ Ok tt → NeedsGoal c.problem c.problem.claim
+pub checked_unproved : (P : Profile) (c : Certificate) (most_held : ℕ) (r : Rest)
+    → IsChecked P c None most_held → end_read r ≡ Ok tt → NeedsGoal c.problem c.problem.claim
     → Answers P (derivations_from c 0 r) (answer_of_test meets_dual)
 checked_unproved P c most_held r h e s = (end_unproved P c r (answer_of_test meets_dual) e (goal_missed P c h.goal_is s)).1 refl

@@ -1,16 +1,24 @@
 -- x ≥ 1 and x ≤ 0 have no point: a proof by the difference of the two
-use Rattle.std.proofs.Common.{◌≡◌, ℕ, zero, suc, ◌-◌, ◌^◌, ◌<◌, ◌⊎◌, [], ◌∷◌, Some, None, ℤ, pos, negsuc, All, Contains, Bool, true, false, cond, arith, refl, sym, ◌∙◌, ap, subst, inl, inr, ⊎_elim, slice_index_or, IsTrue, lit<, lit≤, unwrap_or}
+use Rattle.std.proofs.Common.{◌≡◌, ℕ, zero, suc, ◌-◌, ◌^◌, ◌<◌, ◌⊎◌, [], ◌∷◌, Some, None, ℤ, pos}
+use Rattle.std.proofs.Common.{negsuc, All, Contains, Bool, true, false, cond, arith, refl, sym, ◌∙◌}
+use Rattle.std.proofs.Common.{ap, subst, inl, inr, ⊎_elim, slice_index_or, IsTrue, lit<, lit≤}
+use Rattle.std.proofs.Common.{unwrap_or}
 use Rattle.std.specs.FinMap.{empty, get-empty, get-insert}
 use Rattle.std.specs.Ordering.{nat_cmp}
 use Rattle.std.specs.Cmp.{nat_cmp_total}
 use Rattle.std.proofs.lemmas.List.Elements.{All-nil, All-cons}
 use Rattle.std.proofs.lemmas.Int.{ints}
 use Rattle.vipr_spec.specs.Gcd.{gcd}
-use Rattle.vipr_spec.specs.Fraction.{ℚ, over, whole, zero_ℚ, ◌+ℚ◌, ◌*ℚ◌, neg_ℚ, ◌≤ℚ◌, ProductFits, SumFits}
-use Rattle.vipr_spec.specs.Constraint.{Profile, at_most, at_least, at, Entry, pull, Combines, TermsFit, SumOfFits}
-use Rattle.vipr_spec.specs.Certificate.{constraint_at, reason_at, entries, lin, IsProof, IsGoodStep, HasGoodSteps, is_live, RestsOn, itself, RestsOnNothing}
+use Rattle.vipr_spec.specs.Fraction.{ℚ, over, whole, zero_ℚ, ◌+ℚ◌, ◌*ℚ◌, neg_ℚ, ◌≤ℚ◌, ProductFits}
+use Rattle.vipr_spec.specs.Fraction.{SumFits}
+use Rattle.vipr_spec.specs.Constraint.{Profile, at_most, at_least, at, Entry, pull, Combines}
+use Rattle.vipr_spec.specs.Constraint.{TermsFit, SumOfFits}
+use Rattle.vipr_spec.specs.Certificate.{constraint_at, reason_at, entries, lin, IsProof, IsGoodStep}
+use Rattle.vipr_spec.specs.Certificate.{HasGoodSteps, is_live, RestsOn, itself, RestsOnNothing}
 use Rattle.vipr_spec.specs.Examples.{row, both, example, assumed}
-use Rattle.vipr_spec.proofs.Fractions.{whole-add, whole-mul, whole-le, le_of_whole, is_one, is_neg, is_whole, over_same, mul-zero_ℚ, add-mul_ℚ, zero-mul_ℚ, add-zero_ℚ}
+use Rattle.vipr_spec.proofs.Fractions.{whole-add, whole-mul, whole-le, le_of_whole, is_one, is_neg}
+use Rattle.vipr_spec.proofs.Fractions.{is_whole, over_same, mul-zero_ℚ, add-mul_ℚ, zero-mul_ℚ}
+use Rattle.vipr_spec.proofs.Fractions.{add-zero_ℚ}
 use Rattle.vipr_spec.proofs.Rests.{rests_out, rests_given}
 
 -- closed fractions compute, but for the proof inside
@@ -25,7 +33,8 @@ fits : SumFits (over (pos 1) 6) (over (pos 1) 3)
 unfolding over gcd ◌+ℚ◌
 fits = (lit≤ tt, lit≤ tt, lit≤ tt, lit≤ tt)
 
-one_or_zero : (q : ℚ) (b : Bool) → (unwrap_or (cond b (Some q) None) zero_ℚ ≡ q) ⊎ (unwrap_or (cond b (Some q) None) zero_ℚ ≡ zero_ℚ)
+one_or_zero : (q : ℚ) (b : Bool) → (unwrap_or (cond b (Some q) None) zero_ℚ ≡ q)
+    ⊎ (unwrap_or (cond b (Some q) None) zero_ℚ ≡ zero_ℚ)
 one_or_zero q true = inl refl
 one_or_zero q false = inr refl
 
@@ -59,7 +68,8 @@ unfolding first second
 pulls = All-cons (λ e. zero_ℚ ≤ℚ pull e) first (second ∷ []) one_positive
     (All-cons (λ e. zero_ℚ ≤ℚ pull e) second [] (subst (λ z. zero_ℚ ≤ℚ z) (sym neg_minus_one) one_positive) (All-nil (λ e. zero_ℚ ≤ℚ pull e)))
 
-the_sum : Combines (first ∷ second ∷ []) (record { row = at empty; sense = at_least; bound = whole (pos 1) })
+the_sum : Combines (first ∷ second ∷ [])
+    (record { row = at empty; sense = at_least; bound = whole (pos 1) })
 unfolding first second
 the_sum = (at_least, (pulls, (0, first, lit< tt, refl, not_one)), inl (λ j. difference (at row j), λ h. not_one (subst (λ z. z ≤ℚ zero_ℚ) bound_sum h)))
 
@@ -67,7 +77,8 @@ earlier : All (λ e. e.0 < 2) both
 unfolding both
 earlier = All-cons (λ (e : ℕ × ℚ). e.0 < 2) (0, whole (pos 1)) ((1, whole (negsuc 0)) ∷ []) (lit< tt) (All-cons (λ (e : ℕ × ℚ). e.0 < 2) (1, whole (negsuc 0)) [] (lit< tt) (All-nil (λ (e : ℕ × ℚ). e.0 < 2)))
 
-product_fits : (a b c d : ℤ) → ProductFits (whole a) (whole b) → ProductFits (whole c) (whole d) → All (λ (t : ℚ × ℚ). ProductFits t.0 t.1) ((whole a, whole b) ∷ (whole c, whole d) ∷ [])
+product_fits : (a b c d : ℤ) → ProductFits (whole a) (whole b) → ProductFits (whole c) (whole d)
+    → All (λ (t : ℚ × ℚ). ProductFits t.0 t.1) ((whole a, whole b) ∷ (whole c, whole d) ∷ [])
 product_fits a b c d h k = All-cons (λ (t : ℚ × ℚ). ProductFits t.0 t.1) (whole a, whole b) ((whole c, whole d) ∷ []) h (All-cons (λ (t : ℚ × ℚ). ProductFits t.0 t.1) (whole c, whole d) [] k (All-nil (λ (t : ℚ × ℚ). ProductFits t.0 t.1)))
 
 at_one : TermsFit ((whole (pos 1), whole (pos 1)) ∷ (whole (negsuc 0), whole (pos 1)) ∷ [])

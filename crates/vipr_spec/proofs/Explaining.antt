@@ -1,13 +1,21 @@
 -- The answer with its detail for what remains of a text, item by item
-use Rattle.std.proofs.Common.{◌≡◌, ℕ, suc, List, [], ◌∷◌, ◌++◌, length, Option, Some, None, Ok, Err, refl, sym, ◌∙◌, ap, subst}
+use Rattle.std.proofs.Common.{◌≡◌, ℕ, suc, List, [], ◌∷◌, ◌++◌, length, Option, Some, None, Ok, Err}
+use Rattle.std.proofs.Common.{refl, sym, ◌∙◌, ap, subst}
 use Rattle.std.specs.Prelude.{◌↔◌}
 use Rattle.vipr_spec.specs.Fraction.{ℚ}
 use Rattle.vipr_spec.specs.Constraint.{Profile, Row, condition}
-use Rattle.vipr_spec.specs.Certificate.{Named, Problem, Derivation, Certificate, Known, known_at, MeetsPrimal, count}
-use Rattle.vipr_spec.specs.Reading.{Rest, Fault, problem_read, solution_read, derivations_read, derivation_read, end_read}
-use Rattle.vipr_spec.specs.Steps.{with_more, with_next, StepTest, PassesStep, step_tests, FirstFailing, StepDetail, Shows}
-use Rattle.vipr_spec.specs.Tests.{SolutionTest, PassesSolution, solution_tests, of_solution, Test, spelled, meets_primal, of_step, meets_dual, Passes, Detail, none, step, no_proof, no_primal, name_at, names_of, solution_detail, goal_needed_by, finite_primal, Explains}
-use Rattle.vipr_spec.specs.Verdict.{items_read, Found, Report, Reports, Answer, verified, answer_of_test, IsExplainedBy, Explained, IsExplained}
+use Rattle.vipr_spec.specs.Certificate.{Named, Problem, Derivation, Certificate, Known, known_at}
+use Rattle.vipr_spec.specs.Certificate.{MeetsPrimal, count}
+use Rattle.vipr_spec.specs.Reading.{Rest, Fault, problem_read, solution_read, derivations_read}
+use Rattle.vipr_spec.specs.Reading.{derivation_read, end_read}
+use Rattle.vipr_spec.specs.Steps.{with_more, with_next, StepTest, PassesStep, step_tests}
+use Rattle.vipr_spec.specs.Steps.{FirstFailing, StepDetail, Shows}
+use Rattle.vipr_spec.specs.Tests.{SolutionTest, PassesSolution, solution_tests, of_solution, Test}
+use Rattle.vipr_spec.specs.Tests.{spelled, meets_primal, of_step, meets_dual, Passes, Detail, none}
+use Rattle.vipr_spec.specs.Tests.{step, no_proof, no_primal, name_at, names_of, solution_detail}
+use Rattle.vipr_spec.specs.Tests.{goal_needed_by, finite_primal, Explains}
+use Rattle.vipr_spec.specs.Verdict.{items_read, Found, Report, Reports, Answer, verified}
+use Rattle.vipr_spec.specs.Verdict.{answer_of_test, IsExplainedBy, Explained, IsExplained}
 use Rattle.vipr_spec.specs.Progress.{derivations_from, solutions_from}
 use Rattle.vipr_spec.proofs.Prefix.{before_more, known_next}
 use Rattle.vipr_spec.proofs.Told as known
@@ -23,12 +31,14 @@ beside f = (λ h. (h.0, f.0 h.1), λ h. (h.0, f.1 h.1))
 
 -- ---- what is shown of the item that comes next
 
-name_here : (ss : List (Named Row)) (s : Named Row) (more : List (Named Row)) → name_at (names_of (ss ++ s ∷ more)) (length ss) ≡ s.name
+name_here : (ss : List (Named Row)) (s : Named Row) (more : List (Named Row))
+    → name_at (names_of (ss ++ s ∷ more)) (length ss) ≡ s.name
 name_here [] s more = refl
 name_here (x ∷ ss) s more = name_here ss s more
 
 next_shown : (c : Certificate) (d : Derivation) (ds : List Derivation) (t : StepTest) (x : Detail)
-    → Explains (with_more c (d ∷ ds)) (of_step (count c) t) x ↔ ((what : StepDetail) × Shows c (condition d.stated) t what × (x ≡ step d.name what))
+    → Explains (with_more c (d ∷ ds)) (of_step (count c) t) x
+    ↔ ((what : StepDetail) × Shows c (condition d.stated) t what × (x ≡ step d.name what))
 next_shown c d ds t x =
     let k = known_at (with_more c (d ∷ ds)) (count c) in
     same_type (ap (λ s. (what : StepDetail) × Shows s k.stated t what × (x ≡ step k.name what)) (before_more c (d ∷ ds))

@@ -1,10 +1,15 @@
 -- Which constraint proves the dual side, the first of them, and what profile two adds
-use Rattle.std.proofs.Common.{◌≡◌, ℕ, ◌<◌, ◌≤◌, ◌⊎◌, List, [], ◌∷◌, length, Option, Some, None, IsSome, IsSomeAnd, arith, refl, sym, subst, inl, inr, ⊎_elim}
+use Rattle.std.proofs.Common.{◌≡◌, ℕ, ◌<◌, ◌≤◌, ◌⊎◌, List, [], ◌∷◌, length, Option, Some, None}
+use Rattle.std.proofs.Common.{IsSome, IsSomeAnd, arith, refl, sym, subst, inl, inr, ⊎_elim}
 use Rattle.std.specs.Prelude.{◌↔◌}
 use Rattle.std.proofs.lemmas.Bool.{cases_lt}
 use Rattle.vipr_spec.specs.Fraction.{ℚ}
 use Rattle.vipr_spec.specs.Constraint.{Profile, one, two, Condition, condition}
-use Rattle.vipr_spec.specs.Certificate.{Problem, Claim, infeasible, range, Reason, asm, lin, rnd, uns, sol, dual_bound, Derivation, Certificate, Known, constraint_at, count, NamesEarlier, FollowsBy, IsGoodStep, MeetsBound, MeetsDual, NeedsGoal, ProvesDual, IsProof, IsGoal, GoalIs}
+use Rattle.vipr_spec.specs.Certificate.{Problem, Claim, infeasible, range, Reason, asm, lin, rnd}
+use Rattle.vipr_spec.specs.Certificate.{uns, sol, dual_bound, Derivation, Certificate, Known}
+use Rattle.vipr_spec.specs.Certificate.{constraint_at, count, NamesEarlier, FollowsBy, IsGoodStep}
+use Rattle.vipr_spec.specs.Certificate.{MeetsBound, MeetsDual, NeedsGoal, ProvesDual, IsProof}
+use Rattle.vipr_spec.specs.Certificate.{IsGoal, GoalIs}
 use Rattle.vipr_spec.specs.Steps.{with_more, with_next, RefersBack, RestsBy}
 use Rattle.vipr_spec.proofs.Linear.{split_two}
 use Rattle.vipr_spec.proofs.Prefix.{known_before, known_next, reason_given, count_more, count_next}
@@ -62,7 +67,8 @@ module _ (P : Profile) (c : Certificate) where
       (dual_cases d k back p)
 
 -- nothing proves a dual side that needs no goal
-pub goal_needed : (P : Profile) (c : Certificate) (k : ℕ) → ProvesDual P c k → NeedsGoal c.problem c.problem.claim
+pub goal_needed : (P : Profile) (c : Certificate) (k : ℕ) → ProvesDual P c k
+    → NeedsGoal c.problem c.problem.claim
 goal_needed P c k p = by c.problem.claim p.2
   where
     some_of : (o : Option ℚ) (Q : ℚ → Type 0) → IsSomeAnd o Q → IsSome o
@@ -74,17 +80,20 @@ goal_needed P c k p = by c.problem.claim p.2
     by (range lower upper) m = some_of (dual_bound c.problem.direction lower upper) _ m
 
 -- ---- profile two takes what profile one does
-follows_two : (c : Certificate) (r : Reason) (d : Condition) → FollowsBy one c r d → FollowsBy two c r d
+follows_two : (c : Certificate) (r : Reason) (d : Condition) → FollowsBy one c r d
+    → FollowsBy two c r d
 follows_two c asm d f = f
 follows_two c (lin es) d f = f
 follows_two c (rnd es) d f = f
 follows_two c (uns i1 l1 i2 l2) d f = (f.0, f.1, (split_two one c.problem.integers (constraint_at c l1) (constraint_at c l2) f.2.0, f.2.1, f.2.2))
 follows_two c sol d f = f
 
-pub step_two : (c : Certificate) (k : ℕ) (r : Reason) (d : Condition) → IsGoodStep one c k r d → IsGoodStep two c k r d
+pub step_two : (c : Certificate) (k : ℕ) (r : Reason) (d : Condition) → IsGoodStep one c k r d
+    → IsGoodStep two c k r d
 step_two c k r d g = record { earlier = g.earlier; follows = follows_two c r d g.follows; fits = g.fits; references = g.references }
 
-meets_two : (p : Problem) (q : Claim) (goal : Condition) → MeetsDual one p q goal → MeetsDual two p q goal
+meets_two : (p : Problem) (q : Claim) (goal : Condition) → MeetsDual one p q goal
+    → MeetsDual two p q goal
 meets_two p infeasible goal m = m
 meets_two p (range lower upper) goal m = by (dual_bound p.direction lower upper) m
   where

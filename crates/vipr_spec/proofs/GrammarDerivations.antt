@@ -1,14 +1,21 @@
 -- Derivations, the end, and the whole certificate
-use Rattle.std.proofs.Common.{◌≡◌, ℕ, ◌+◌, ◌-◌, ◌≤◌, if◌then◌else◌, List, [], ◌∷◌, length, Ok, codes, arith, refl, sym, ◌∙◌, ap, subst}
+use Rattle.std.proofs.Common.{◌≡◌, ℕ, ◌+◌, ◌-◌, ◌≤◌, if◌then◌else◌, List, [], ◌∷◌, length, Ok}
+use Rattle.std.proofs.Common.{codes, arith, refl, sym, ◌∙◌, ap, subst}
 use Rattle.vipr_spec.specs.Fraction.{ℚ}
 use Rattle.vipr_spec.specs.Causes as cause
-use Rattle.vipr_spec.specs.Certificate.{Problem, variables, Reason, asm, lin, rnd, uns, sol, Derivation}
-use Rattle.vipr_spec.specs.Reading.{Rest, ◌>>=◌, Read, most_count, token_of, derivation_count_of, reference_of, last_of, rule_of, Rule, by_asm, by_lin, by_rnd, by_uns, by_sol, entry_read, entries_read, by_read, reason_read, derivation_read, derivations_read}
-use Rattle.vipr_spec.specs.Grammar.{SpellsNatural, SpellsCount, SpellsLast, word, one, ◌then◌, each, entry, reason, derivation}
+use Rattle.vipr_spec.specs.Certificate.{Problem, variables, Reason, asm, lin, rnd, uns, sol}
+use Rattle.vipr_spec.specs.Certificate.{Derivation}
+use Rattle.vipr_spec.specs.Reading.{Rest, ◌>>=◌, Read, most_count, token_of, derivation_count_of}
+use Rattle.vipr_spec.specs.Reading.{reference_of, last_of, rule_of, Rule, by_asm, by_lin, by_rnd}
+use Rattle.vipr_spec.specs.Reading.{by_uns, by_sol, entry_read, entries_read, by_read, reason_read}
+use Rattle.vipr_spec.specs.Reading.{derivation_read, derivations_read}
+use Rattle.vipr_spec.specs.Grammar.{SpellsNatural, SpellsCount, SpellsLast, word, one, ◌then◌, each}
+use Rattle.vipr_spec.specs.Grammar.{entry, reason, derivation}
 use Rattle.vipr_spec.specs.GrammarLaws.{ReadsFront, Reads, rule_word, derivation_count}
 use Rattle.vipr_spec.proofs.GrammarSteps.{bind_ok, ok_then, read_as, read_is, read_then, parted}
 use Rattle.vipr_spec.proofs.GrammarTokens.{kinds_of_token}
-use Rattle.vipr_spec.proofs.GrammarParts.{reads_one, reads_fixed, reads_count, repeated_sound, repeated_complete}
+use Rattle.vipr_spec.proofs.GrammarParts.{reads_one, reads_fixed, reads_count, repeated_sound}
+use Rattle.vipr_spec.proofs.GrammarParts.{repeated_complete}
 use Rattle.vipr_spec.proofs.GrammarVectors.{reads_number, reads_constraint}
 use Rattle.vipr_spec.proofs.GrammarSections.{reads_keyword}
 
@@ -36,14 +43,16 @@ reads_entry r s x = (entry_sound r s x, entry_complete r s x)
 abbrev pub entries : List (ℕ × ℚ) → List (List ℕ) → Type 0
 entries es = one SpellsCount (length es) then each entry es
 
-entries_sound : (r s : Rest) (es : List (ℕ × ℚ)) → entries_read r ≡ Ok (es, s) → ReadsFront (entries es) r s
+entries_sound : (r s : Rest) (es : List (ℕ × ℚ)) → entries_read r ≡ Ok (es, s)
+    → ReadsFront (entries es) r s
 unfolding entries_read
 entries_sound r s es e =
     let p = bind_ok e in
     let all = repeated_sound entry_read entry reads_entry p.0.0 p.0.1 s es p.2 in
     read_then (subst (λ k. ReadsFront (one SpellsCount k) r p.0.1) (sym all.0) ((reads_count r p.0.1 p.0.0).0 p.1)) all.1
 
-entries_complete : (r s : Rest) (es : List (ℕ × ℚ)) → ReadsFront (entries es) r s → entries_read r ≡ Ok (es, s)
+entries_complete : (r s : Rest) (es : List (ℕ × ℚ)) → ReadsFront (entries es) r s
+    → entries_read r ≡ Ok (es, s)
 unfolding entries_read
 entries_complete r s es t = let p = parted t in ok_then _ ((reads_count r p.at (length es)).1 p.before) (repeated_complete entry_read entry reads_entry es p.at s p.after)
 
@@ -58,13 +67,16 @@ SpellsRule t rule = t ≡ rule_word rule
 pub reads_rule : Reads (token_of rule_of) (one SpellsRule)
 reads_rule = reads_one rule_of SpellsRule kinds_of_token.rule
 
-rule_alone : (rule : Rule) {r s : Rest} → ReadsFront (one SpellsRule rule) r s → ReadsFront (word (rule_word rule)) r s
+rule_alone : (rule : Rule) {r s : Rest} → ReadsFront (one SpellsRule rule) r s
+    → ReadsFront (word (rule_word rule)) r s
 rule_alone rule h = read_as (word (rule_word rule)) h (h.shape.1 ∙ ap (λ t. t ∷ []) h.shape.2)
 
-alone_rule : (rule : Rule) {r s : Rest} → ReadsFront (word (rule_word rule)) r s → ReadsFront (one SpellsRule rule) r s
+alone_rule : (rule : Rule) {r s : Rest} → ReadsFront (word (rule_word rule)) r s
+    → ReadsFront (one SpellsRule rule) r s
 alone_rule rule h = read_as (one SpellsRule rule) h (rule_word rule, h.shape, refl)
 
-by_sound : (rule : Rule) (q r s : Rest) (x : Reason) → ReadsFront (one SpellsRule rule) q r → by_read rule r ≡ Ok (x, s) → ReadsFront (reason x) q s
+by_sound : (rule : Rule) (q r s : Rest) (x : Reason) → ReadsFront (one SpellsRule rule) q r
+    → by_read rule r ≡ Ok (x, s) → ReadsFront (reason x) q s
 unfolding by_read
 by_sound by_asm q r s x h e = read_is reason e (rule_alone by_asm h)
 by_sound by_lin q r s x h e = let es = bind_ok e in read_is reason es.2 (read_then (rule_alone by_lin h) (entries_sound r es.0.1 es.0.0 es.1))
@@ -131,7 +143,8 @@ reads_reason r s x = (reason_sound r s x, reason_complete r s x)
 
 -- ---- derivations
 
-derivation_sound : (p : Problem) (r s : Rest) (x : Derivation) → derivation_read p r ≡ Ok (x, s) → ReadsFront (derivation p x) r s
+derivation_sound : (p : Problem) (r s : Rest) (x : Derivation) → derivation_read p r ≡ Ok (x, s)
+    → ReadsFront (derivation p x) r s
 unfolding derivation_read
 derivation_sound p r s x e =
     let c = bind_ok e in let why = bind_ok c.2 in let last = bind_ok why.2 in
@@ -140,7 +153,8 @@ derivation_sound p r s x e =
     (read_then ((reads_constraint (variables p) p.objective r c.0.1 c.0.0).0 c.1)
     (read_then w.before (read_then given.before (read_then given.after ((reads_last why.0.1 last.0.1 last.0.0).0 last.1)))))
 
-derivation_complete : (p : Problem) (r s : Rest) (x : Derivation) → ReadsFront (derivation p x) r s → derivation_read p r ≡ Ok (x, s)
+derivation_complete : (p : Problem) (r s : Rest) (x : Derivation) → ReadsFront (derivation p x) r s
+    → derivation_read p r ≡ Ok (x, s)
 unfolding derivation_read
 derivation_complete p r s x t =
     let c = parted t in let opened = parted c.after in let given = parted opened.after in let closed = parted given.after in
@@ -159,16 +173,20 @@ SpellsRoom m t d = SpellsNatural t d × (d ≤ most_count - m)
 pub reads_room : (m : ℕ) → Reads (token_of (derivation_count_of m)) (one (SpellsRoom m))
 reads_room m = reads_one (derivation_count_of m) (SpellsRoom m) (kinds_of_token.derivation_count m)
 
-any_count_sound : (p : Problem) (r s : Rest) (d : ℕ) → derivations_read p r ≡ Ok (d, s) → ReadsFront (word (codes "DER") then one (SpellsRoom (length p.constraints)) d) r s
+any_count_sound : (p : Problem) (r s : Rest) (d : ℕ) → derivations_read p r ≡ Ok (d, s)
+    → ReadsFront (word (codes "DER") then one (SpellsRoom (length p.constraints)) d) r s
 unfolding derivations_read
 any_count_sound p r s d e = let v = bind_ok e in read_then ((reads_keyword (codes "DER") r v.0.1 tt).0 v.1) ((reads_room (length p.constraints) v.0.1 s d).0 v.2)
 
-any_count_complete : (p : Problem) (r s : Rest) (d : ℕ) → ReadsFront (word (codes "DER") then one (SpellsRoom (length p.constraints)) d) r s → derivations_read p r ≡ Ok (d, s)
+any_count_complete : (p : Problem) (r s : Rest) (d : ℕ)
+    → ReadsFront (word (codes "DER") then one (SpellsRoom (length p.constraints)) d) r s
+    → derivations_read p r ≡ Ok (d, s)
 unfolding derivations_read
 any_count_complete p r s d t = let v = parted t in ok_then _ ((reads_keyword _ r v.at tt).1 v.before) ((reads_room (length p.constraints) v.at s d).1 v.after)
 
 -- of a problem with any number of constraints
-pub reads_any_count : (p : Problem) → Reads (derivations_read p) (λ d. word (codes "DER") then one (SpellsRoom (length p.constraints)) d)
+pub reads_any_count : (p : Problem) → Reads (derivations_read p)
+    (λ d. word (codes "DER") then one (SpellsRoom (length p.constraints)) d)
 reads_any_count p r s d = (any_count_sound p r s d, any_count_complete p r s d)
 
 small : (m d : ℕ) → d ≤ most_count - m → d ≤ most_count

@@ -1,8 +1,11 @@
 -- A fault is that of a token, whatever follows it
-use Rattle.std.proofs.Common.{◌≡◌, ℕ, zero, suc, ◌⊎◌, inl, inr, ⊎_elim, Bool, true, false, nat_lt, if◌then◌else◌, List, [], ◌∷◌, ◌++◌, length, Result, Ok, Err, refl, sym, ◌∙◌, ap, subst, append_assoc}
+use Rattle.std.proofs.Common.{◌≡◌, ℕ, zero, suc, ◌⊎◌, inl, inr, ⊎_elim, Bool, true, false, nat_lt}
+use Rattle.std.proofs.Common.{if◌then◌else◌, List, [], ◌∷◌, ◌++◌, length, Result, Ok, Err, refl}
+use Rattle.std.proofs.Common.{sym, ◌∙◌, ap, subst, append_assoc}
 use Rattle.vipr_spec.specs.Causes as cause
 use Rattle.vipr_spec.specs.Tokens.{Token}
-use Rattle.vipr_spec.specs.Reading.{Rest, Fault, refused, unread, ◌>>=◌, Read, most_bytes, first_token, checked_token, token_of, read_each}
+use Rattle.vipr_spec.specs.Reading.{Rest, Fault, refused, unread, ◌>>=◌, Read, most_bytes}
+use Rattle.vipr_spec.specs.Reading.{first_token, checked_token, token_of, read_each}
 use Rattle.vipr_spec.specs.Grammar.{each}
 use Rattle.vipr_spec.specs.GrammarLaws.{ReadsFront, Reads}
 use Rattle.vipr_spec.specs.FaultLaws.{IsRefusedAt, EndsEarly, FaultsRemain}
@@ -12,7 +15,8 @@ use Rattle.vipr_spec.proofs.GrammarParts.{repeated_sound, repeated_complete}
 abbrev pub fault : (A : Type 0) → Fault → Result A Fault
 fault A d = Err d
 
-err_from : {A B : Type 0} {r : Result A Fault} {f : A → Result B Fault} {d : Fault} → (r >>= f) ≡ Err d → (r ≡ Err d) ⊎ ((x : A) × (r ≡ Ok x) × (f x ≡ Err d))
+err_from : {A B : Type 0} {r : Result A Fault} {f : A → Result B Fault} {d : Fault}
+    → (r >>= f) ≡ Err d → (r ≡ Err d) ⊎ ((x : A) × (r ≡ Ok x) × (f x ≡ Err d))
 err_from {r = Ok x} e = inr (x, refl, e)
 err_from {r = Err c} e = inl (cc)
 
@@ -65,7 +69,8 @@ module _ {A B : Type 0} {read : Rest → Read A} {S : A → List (List ℕ) → 
   pub remains_then : FaultsRemain (λ r. read r >>= f)
   remains_then = record { refusal = refusal_then; failure = failure_then }
 
-pub remains_same : {A : Type 0} (read like : Rest → Result A Fault) → ((r : Rest) → like r ≡ read r) → FaultsRemain read → FaultsRemain like
+pub remains_same : {A : Type 0} (read like : Rest → Result A Fault) → ((r : Rest) → like r ≡ read r)
+    → FaultsRemain read → FaultsRemain like
 remains_same read like same k = record {
   refusal = λ r c o e. ⊎_elim
       (λ (h : IsRefusedAt read r c o). inl (record { before = h.before; token = h.token; after = h.after; joined = h.joined; here = h.here; remains = λ q more i. same q ∙ h.remains q more i; first = λ q i l. same q ∙ h.first q i l }))
@@ -75,7 +80,8 @@ remains_same read like same k = record {
 }
 
 -- a last step that only names what was read
-pub remains_named : {A B : Type 0} {read : Rest → Result A Fault} (g : A → B) → FaultsRemain read → FaultsRemain (λ r. read r >>= λ x. Ok (g x))
+pub remains_named : {A B : Type 0} {read : Rest → Result A Fault} (g : A → B) → FaultsRemain read
+    → FaultsRemain (λ r. read r >>= λ x. Ok (g x))
 remains_named {A} {B} {read} g k = record {
   refusal = λ r c o e. ⊎_elim
       (λ (h : IsRefusedAt read r c o). inl (record { before = h.before; token = h.token; after = h.after; joined = h.joined; here = h.here; remains = λ q more i. ap (λ z. z >>= λ x. Ok (g x)) (h.remains q more i); first = λ q i l. ap (λ z. z >>= λ x. Ok (g x)) (h.first q i l) }))

@@ -1,20 +1,44 @@
 -- The faults of each item
-use Rattle.std.proofs.Common.{◌≡◌, nat_lt, ℕ, zero, suc, ◌⊎◌, inl, inr, ⊎_elim, Bool, true, false, if◌then◌else◌, List, [], ◌∷◌, ◌++◌, length, Result, Ok, Err, codes, refl, sym, ◌∙◌, ap, subst}
+use Rattle.std.proofs.Common.{◌≡◌, nat_lt, ℕ, zero, suc, ◌⊎◌, inl, inr, ⊎_elim, Bool, true, false}
+use Rattle.std.proofs.Common.{if◌then◌else◌, List, [], ◌∷◌, ◌++◌, length, Result, Ok, Err, codes}
+use Rattle.std.proofs.Common.{refl, sym, ◌∙◌, ap, subst}
 use Rattle.std.specs.FinSet.{from_list}
 use Rattle.std.specs.Str.{bytes_eq}
 use Rattle.vipr_spec.specs.Causes as cause
 use Rattle.vipr_spec.specs.Tokens.{Token}
 use Rattle.vipr_spec.specs.Constraint.{Row, Constraint}
-use Rattle.vipr_spec.specs.Certificate.{Named, Problem, variables, Reason, asm, lin, rnd, uns, sol, infeasible, range}
-use Rattle.vipr_spec.specs.Reading.{most_bytes, Rest, Fault, refused, unread, ◌>>=◌, Read, first_token, checked_token, token_of, name_of, word_of, count_of, derivation_count_of, variable_of, new_variable_of, reference_of, last_of, number_of, bound_of, spelled_sense, spelled_direction, has_range_of, rule_of, Rule, by_asm, by_lin, by_rnd, by_uns, by_sol, keyword_read, pair_read, pairs_read, row_of, counted_read, vector_read, row_read, constraint_read, version_read, names_read, integers_read, objective_read, constraints_read, range_read, claim_read, problem_read, solution_read, derivations_read, entry_read, entries_read, by_read, reason_read, derivation_read, end_of, end_read, certificate_read}
-use Rattle.vipr_spec.specs.Grammar.{word, one, constraint, entry, solution, derivation, SpellsVariable}
+use Rattle.vipr_spec.specs.Certificate.{Named, Problem, variables, Reason, asm, lin, rnd, uns, sol}
+use Rattle.vipr_spec.specs.Certificate.{infeasible, range}
+use Rattle.vipr_spec.specs.Reading.{most_bytes, Rest, Fault, refused, unread, ◌>>=◌, Read}
+use Rattle.vipr_spec.specs.Reading.{first_token, checked_token, token_of, name_of, word_of}
+use Rattle.vipr_spec.specs.Reading.{count_of, derivation_count_of, variable_of, new_variable_of}
+use Rattle.vipr_spec.specs.Reading.{reference_of, last_of, number_of, bound_of, spelled_sense}
+use Rattle.vipr_spec.specs.Reading.{spelled_direction, has_range_of, rule_of, Rule, by_asm, by_lin}
+use Rattle.vipr_spec.specs.Reading.{by_rnd, by_uns, by_sol, keyword_read, pair_read, pairs_read}
+use Rattle.vipr_spec.specs.Reading.{row_of, counted_read, vector_read, row_read, constraint_read}
+use Rattle.vipr_spec.specs.Reading.{version_read, names_read, integers_read, objective_read}
+use Rattle.vipr_spec.specs.Reading.{constraints_read, range_read, claim_read, problem_read}
+use Rattle.vipr_spec.specs.Reading.{solution_read, derivations_read, entry_read, entries_read}
+use Rattle.vipr_spec.specs.Reading.{by_read, reason_read, derivation_read, end_of, end_read}
+use Rattle.vipr_spec.specs.Reading.{certificate_read}
+use Rattle.vipr_spec.specs.Grammar.{word, one, constraint, entry, solution, derivation}
+use Rattle.vipr_spec.specs.Grammar.{SpellsVariable}
 use Rattle.vipr_spec.specs.FaultLaws.{IsRefusedAt, EndsEarly, FaultsRemain, ItemFaults}
 use Rattle.vipr_spec.proofs.GrammarTokens.{same_bytes}
-use Rattle.vipr_spec.proofs.GrammarFaults.{fault, never, remains_ok, remains_then, remains_same, remains_named, remains_token, reads_repeated, remains_repeated}
+use Rattle.vipr_spec.proofs.GrammarFaults.{fault, never, remains_ok, remains_then, remains_same}
+use Rattle.vipr_spec.proofs.GrammarFaults.{remains_named, remains_token, reads_repeated}
+use Rattle.vipr_spec.proofs.GrammarFaults.{remains_repeated}
 use Rattle.vipr_spec.proofs.GrammarParts.{reads_name, reads_fixed, reads_count}
-use Rattle.vipr_spec.proofs.GrammarVectors.{reads_number, reads_variable, reads_pair, reads_pairs, reads_vector, reads_row, reads_sense, reads_constraint}
-use Rattle.vipr_spec.proofs.GrammarSections.{reads_keyword, reads_version, reads_names, reads_index, reads_integers, reads_direction, reads_objective, reads_constraints, reads_has_range, reads_lower, reads_upper, reads_claim, reads_problem, reads_solution}
-use Rattle.vipr_spec.proofs.GrammarDerivations.{reads_reference, reads_rule, reads_last, reads_any_count, reads_entry, reads_entries, ruled, reads_ruled, reads_reason, reads_derivation}
+use Rattle.vipr_spec.proofs.GrammarVectors.{reads_number, reads_variable, reads_pair, reads_pairs}
+use Rattle.vipr_spec.proofs.GrammarVectors.{reads_vector, reads_row, reads_sense, reads_constraint}
+use Rattle.vipr_spec.proofs.GrammarSections.{reads_keyword, reads_version, reads_names, reads_index}
+use Rattle.vipr_spec.proofs.GrammarSections.{reads_integers, reads_direction, reads_objective}
+use Rattle.vipr_spec.proofs.GrammarSections.{reads_constraints, reads_has_range, reads_lower}
+use Rattle.vipr_spec.proofs.GrammarSections.{reads_upper, reads_claim, reads_problem}
+use Rattle.vipr_spec.proofs.GrammarSections.{reads_solution}
+use Rattle.vipr_spec.proofs.GrammarDerivations.{reads_reference, reads_rule, reads_last}
+use Rattle.vipr_spec.proofs.GrammarDerivations.{reads_any_count, reads_entry, reads_entries, ruled}
+use Rattle.vipr_spec.proofs.GrammarDerivations.{reads_ruled, reads_reason, reads_derivation}
 
 -- ---- vectors
 
@@ -41,12 +65,14 @@ IsOther : List Token → Type 0
 IsOther [] = Unit {0}
 IsOther (t ∷ ts) = is_objective t ≡ false
 
-front_other : (before : List Token) (token : Token) (after : List Token) → IsOther (before ++ token ∷ after) → IsOther before
+front_other : (before : List Token) (token : Token) (after : List Token)
+    → IsOther (before ++ token ∷ after) → IsOther before
 unfolding IsOther
 front_other [] token after h = tt
 front_other (t ∷ ts) token after h = h
 
-still_other : (before : List Token) (t : Token) (after more : List Token) → IsOther (before ++ t ∷ after) → IsOther (before ++ t ∷ more)
+still_other : (before : List Token) (t : Token) (after more : List Token)
+    → IsOther (before ++ t ∷ after) → IsOther (before ++ t ∷ more)
 unfolding IsOther
 still_other [] t after more h = h
 still_other (b ∷ bs) t after more h = h
@@ -233,7 +259,8 @@ remains_by by_sol = remains_ok sol
 remains_ruled : FaultsRemain ruled
 remains_ruled = remains_then reads_rule (remains_token rule_of) _ (λ rule. remains_by rule)
 
-regrouped : {A B C : Type 0} (first : Result A Fault) (f : A → Result B Fault) (g : B → Result C Fault) → (first >>= λ x. f x >>= g) ≡ ((first >>= f) >>= g)
+regrouped : {A B C : Type 0} (first : Result A Fault) (f : A → Result B Fault)
+    (g : B → Result C Fault) → (first >>= λ x. f x >>= g) ≡ ((first >>= f) >>= g)
 regrouped (Ok x) f g = refl
 regrouped (Err d) f g = refl
 
@@ -252,7 +279,9 @@ remains_parts =
     (λ opened. remains_then reads_ruled remains_ruled closing
     (λ given. remains_then (reads_fixed (codes "}") cause.bad_brace) (remains_token (word_of (codes "}") cause.bad_brace)) _ (λ closed. remains_ok given)))
 
-braced_same : (first : Result (Unit {0} × Rest) Fault) → (first >>= λ opened. token_of rule_of opened.1 >>= λ rule. by_read rule.0 rule.1 >>= closing) ≡ (first >>= λ opened. ruled opened.1 >>= closing)
+braced_same : (first : Result (Unit {0} × Rest) Fault)
+    → (first >>= λ opened. token_of rule_of opened.1 >>= λ rule. by_read rule.0 rule.1 >>= closing)
+    ≡ (first >>= λ opened. ruled opened.1 >>= closing)
 braced_same (Ok opened) = regrouped (token_of rule_of opened.1) (λ rule. by_read rule.0 rule.1) closing
 braced_same (Err d) = refl
 
@@ -268,11 +297,13 @@ remains_derivation p =
 
 -- ---- the end, and the whole
 
-no_end : (fails : Bool) (c o : ℕ) → (if fails then Err unread else Ok tt) ≡ fault (Unit {0}) (refused c o) → ⊥
+no_end : (fails : Bool) (c o : ℕ)
+    → (if fails then Err unread else Ok tt) ≡ fault (Unit {0}) (refused c o) → ⊥
 no_end true c o e = cc
 no_end false c o e = cc
 
-end_refusal : (ts : List Token) (r : Rest) (c o : ℕ) → r.tokens ≡ ts → end_of ts r ≡ Err (refused c o) → IsRefusedAt end_read r c o ⊎ EndsEarly r c o
+end_refusal : (ts : List Token) (r : Rest) (c o : ℕ) → r.tokens ≡ ts
+    → end_of ts r ≡ Err (refused c o) → IsRefusedAt end_read r c o ⊎ EndsEarly r c o
 unfolding end_of
 end_refusal [] r c o h e = absurd (no_end r.fails c o e)
 end_refusal (t ∷ ts) r c o h e = inl (record { before = []; token = t; after = ts; joined = h; here = cc; remains = λ q more i. ap (λ us. end_of us q) i ∙ e; first = λ q i l. ap (λ us. end_of us q) i ∙ ap (λ b. if b then Err unread else Ok tt) l })

@@ -1,5 +1,6 @@
 -- Digits, and the number that they write
-use Rattle.std.proofs.Common.{◌≡◌, ℕ, ◌+◌, ◌-◌, ◌*◌, ◌<◌, Bool, true, false, if◌then◌else◌, List, [], ◌∷◌, Some, None, arith, refl, sym, ◌∙◌, ap}
+use Rattle.std.proofs.Common.{◌≡◌, ℕ, ◌+◌, ◌-◌, ◌*◌, ◌<◌, Bool, true, false, if◌then◌else◌, List}
+use Rattle.std.proofs.Common.{[], ◌∷◌, Some, None, arith, refl, sym, ◌∙◌, ap}
 use Rattle.std.proofs.lemmas.Bool.Decides.{nat_tests}
 use Rattle.std.specs.Char.{digit_value}
 use Rattle.std.specs.Str.Parse.{AllDigits, digits_value_after}
@@ -22,12 +23,14 @@ module _ (b : ℕ) (bs : List ℕ) (n m : ℕ) where
   more_sound k true h f = ((digit-lt b h, (k f).0), ap (λ v. digits_value_after 10 (n * 10 + v) bs) (digit_value-is b h) ∙ (k f).1)
   more_sound k false h f = absurd (cc)
 
-after_sound : (bs : List ℕ) (n m : ℕ) → natural_after n bs ≡ Some m → AllDigits 10 bs × (digits_value_after 10 n bs ≡ m)
+after_sound : (bs : List ℕ) (n m : ℕ) → natural_after n bs ≡ Some m
+    → AllDigits 10 bs × (digits_value_after 10 n bs ≡ m)
 unfolding natural_after
 after_sound [] n m e = (tt, cc)
 after_sound (b ∷ bs) n m e = more_sound b bs n m (after_sound bs (n * 10 + (b - 48)) m) (is_digit b) refl e
 
-after_complete : (bs : List ℕ) (n : ℕ) → AllDigits 10 bs → natural_after n bs ≡ Some (digits_value_after 10 n bs)
+after_complete : (bs : List ℕ) (n : ℕ) → AllDigits 10 bs
+    → natural_after n bs ≡ Some (digits_value_after 10 n bs)
 unfolding natural_after
 after_complete [] n h = refl
 after_complete (b ∷ bs) n h =

@@ -1,17 +1,22 @@
 -- One token of a kind, and shapes in a row
-use Rattle.std.proofs.Common.{◌≡◌, false, nat_lt, if◌then◌else◌, ℕ, zero, suc, ◌≤◌, List, [], ◌∷◌, ◌++◌, length, Result, Ok, Err, All, arith, refl, sym, ◌∙◌, ap, subst}
+use Rattle.std.proofs.Common.{◌≡◌, false, nat_lt, if◌then◌else◌, ℕ, zero, suc, ◌≤◌, List, [], ◌∷◌}
+use Rattle.std.proofs.Common.{◌++◌, length, Result, Ok, Err, All, arith, refl, sym, ◌∙◌, ap, subst}
 use Rattle.std.proofs.lemmas.Bool.Decides.{nat_tests}
 use Rattle.std.proofs.lemmas.List.Elements.{All-nil, All-cons, All-head}
 use Rattle.vipr_spec.specs.Tokens.{Token}
-use Rattle.vipr_spec.specs.Reading.{Rest, refused, Read, most_bytes, first_token, token_read, checked_token, token_of, read_each, name_of, word_of, count_of}
+use Rattle.vipr_spec.specs.Reading.{Rest, refused, Read, most_bytes, first_token, token_read}
+use Rattle.vipr_spec.specs.Reading.{checked_token, token_of, read_each, name_of, word_of, count_of}
 use Rattle.vipr_spec.specs.Grammar.{one, ◌then◌, each, SpellsCount, word}
 use Rattle.vipr_spec.specs.GrammarLaws.{ReadsKind, ReadsFront, Reads}
 use Rattle.vipr_spec.proofs.GrammarTokens.{kinds_of_token}
-use Rattle.vipr_spec.proofs.GrammarSteps.{bind_ok, ok_then, same_ok, bytes_of, IsShort, read_is, read_nothing, nothing_read, read_then, parted, Next, next_sound, read_as}
+use Rattle.vipr_spec.proofs.GrammarSteps.{bind_ok, ok_then, same_ok, bytes_of, IsShort, read_is}
+use Rattle.vipr_spec.proofs.GrammarSteps.{read_nothing, nothing_read, read_then, parted, Next}
+use Rattle.vipr_spec.proofs.GrammarSteps.{next_sound, read_as}
 
 -- ---- one token
 
-pub one_token : {r s : Rest} {t : Token} (P : List (List ℕ) → Type 0) → Next r t s → P (t.bytes ∷ []) → ReadsFront P r s
+pub one_token : {r s : Rest} {t : Token} (P : List (List ℕ) → Type 0) → Next r t s
+    → P (t.bytes ∷ []) → ReadsFront P r s
 one_token {t = t} P n h = record { front = t ∷ []; joined = n.joined; short = All-cons IsShort t.bytes [] n.short (All-nil IsShort); shape = h }
 
 pub record FirstOf (P : List (List ℕ) → Type 0) (r s : Rest) : Type 0 where
@@ -19,7 +24,9 @@ pub record FirstOf (P : List (List ℕ) → Type 0) (r s : Rest) : Type 0 where
   pub next : Next r token s
   pub shape : P (token.bytes ∷ [])
 
-pub first_of_front : (P : List (List ℕ) → Type 0) (r s : Rest) (ts : List Token) (b : List ℕ) → r ≡ record s { tokens = ts ++ s.tokens } → All IsShort (bytes_of ts) → bytes_of ts ≡ b ∷ [] → P (bytes_of ts) → FirstOf P r s
+pub first_of_front : (P : List (List ℕ) → Type 0) (r s : Rest) (ts : List Token) (b : List ℕ)
+    → r ≡ record s { tokens = ts ++ s.tokens } → All IsShort (bytes_of ts) → bytes_of ts ≡ b ∷ []
+    → P (bytes_of ts) → FirstOf P r s
 first_of_front P r s [] b j a e h = absurd (cc)
 first_of_front P r s (t ∷ []) b j a e h = record { token = t; next = record { joined = j; short = All-head IsShort t.bytes [] a }; shape = h }
 first_of_front P r s (t ∷ u ∷ us) b j a e h = absurd (cc)
@@ -32,7 +39,8 @@ unfolding first_token
 next_complete {r} {t} {s} n =
     ap token_read n.joined ∙ ap (λ b. if b then Err (refused 17 t.offset) else Ok (t, s)) (within_size (length t.bytes) most_bytes n.short)
 
-checked_ok : {A : Type 0} (k : Result A ℕ) (t : Token × Rest) (x : A) (s : Rest) → checked_token k t ≡ Ok (x, s) → (k ≡ Ok x) × (t.1 ≡ s)
+checked_ok : {A : Type 0} (k : Result A ℕ) (t : Token × Rest) (x : A) (s : Rest)
+    → checked_token k t ≡ Ok (x, s) → (k ≡ Ok x) × (t.1 ≡ s)
 checked_ok (Ok y) t x s e = let both = same_ok e in (ap (λ p. Ok p.0) both, ap (λ p. p.1) both)
 checked_ok (Err c) t x s e = absurd (cc)
 
@@ -54,7 +62,9 @@ module _ {A : Type 0} (kind : List ℕ → Result A ℕ) (P : List ℕ → A →
   pub reads_one : Reads (token_of kind) (one P)
   reads_one r s x = (read_sound r s x, read_complete r s x)
 
-pub reads_like : {A : Type 0} {read : Rest → Read A} {S T : A → List (List ℕ) → Type 0} → Reads read S → ((x : A) (ts : List (List ℕ)) → S x ts → T x ts) → ((x : A) (ts : List (List ℕ)) → T x ts → S x ts) → Reads read T
+pub reads_like : {A : Type 0} {read : Rest → Read A} {S T : A → List (List ℕ) → Type 0}
+    → Reads read S → ((x : A) (ts : List (List ℕ)) → S x ts → T x ts)
+    → ((x : A) (ts : List (List ℕ)) → T x ts → S x ts) → Reads read T
 reads_like {S = S} {T = T} law to from r s x = (
   λ e. let t = (law r s x).0 e in read_as (T x) t (to x (bytes_of t.front) t.shape),
   λ t. (law r s x).1 (read_as (S x) t (from x (bytes_of t.front) t.shape)),

@@ -1,16 +1,26 @@
 -- The sections of a problem, and solutions
-use Rattle.std.proofs.Common.{◌≡◌, ℕ, Bool, true, false, if◌then◌else◌, List, [], ◌∷◌, length, Ok, codes, refl, sym, ◌∙◌, ap, subst}
+use Rattle.std.proofs.Common.{◌≡◌, ℕ, Bool, true, false, if◌then◌else◌, List, [], ◌∷◌, length, Ok}
+use Rattle.std.proofs.Common.{codes, refl, sym, ◌∙◌, ap, subst}
 use Rattle.std.specs.FinSet.{from_list}
 use Rattle.vipr_spec.specs.Causes as cause
 use Rattle.vipr_spec.specs.Constraint.{Row, Ints, Constraint}
-use Rattle.vipr_spec.specs.Certificate.{Name, Named, Direction, Claim, infeasible, range, Problem, variables}
-use Rattle.vipr_spec.specs.Reading.{Rest, token_of, variable_of, spelled_direction, bound_of, has_range_of, name_of, keyword_read, constraint_read, version_read, names_read, integers_read, objective_read, constraints_read, range_read, claim_read, problem_read, solution_read}
-use Rattle.vipr_spec.specs.Grammar.{SpellsCount, SpellsVariable, SpellsDirection, SpellsBound, word, one, ◌then◌, each, constraint, version, names, integers, objective, constraints, claim, solution}
+use Rattle.vipr_spec.specs.Certificate.{Name, Named, Direction, Claim, infeasible, range, Problem}
+use Rattle.vipr_spec.specs.Certificate.{variables}
+use Rattle.vipr_spec.specs.Reading.{Rest, token_of, variable_of, spelled_direction, bound_of}
+use Rattle.vipr_spec.specs.Reading.{has_range_of, name_of, keyword_read, constraint_read}
+use Rattle.vipr_spec.specs.Reading.{version_read, names_read, integers_read, objective_read}
+use Rattle.vipr_spec.specs.Reading.{constraints_read, range_read, claim_read, problem_read}
+use Rattle.vipr_spec.specs.Reading.{solution_read}
+use Rattle.vipr_spec.specs.Grammar.{SpellsCount, SpellsVariable, SpellsDirection, SpellsBound, word}
+use Rattle.vipr_spec.specs.Grammar.{one, ◌then◌, each, constraint, version, names, integers}
+use Rattle.vipr_spec.specs.Grammar.{objective, constraints, claim, solution}
 use Rattle.vipr_spec.specs.GrammarLaws.{ReadsFront, Reads, SpellsRange, problem_and_count}
-use Rattle.vipr_spec.proofs.GrammarSteps.{bind_ok, ok_then, answer, read_as, read_is, read_then, parted}
+use Rattle.vipr_spec.proofs.GrammarSteps.{bind_ok, ok_then, answer, read_as, read_is, read_then}
+use Rattle.vipr_spec.proofs.GrammarSteps.{parted}
 use Rattle.vipr_spec.proofs.GrammarTokens.{kinds_of_token}
 use Rattle.vipr_spec.proofs.GrammarBounds.{bound_is, no_lower, no_upper}
-use Rattle.vipr_spec.proofs.GrammarParts.{reads_one, reads_name, reads_fixed, reads_count, repeated_sound, repeated_complete}
+use Rattle.vipr_spec.proofs.GrammarParts.{reads_one, reads_name, reads_fixed, reads_count}
+use Rattle.vipr_spec.proofs.GrammarParts.{repeated_sound, repeated_complete}
 use Rattle.vipr_spec.proofs.GrammarVectors.{reads_vector, reads_constraint}
 
 pub reads_keyword : (w : List ℕ) → Reads (keyword_read w) (λ u. word w)
@@ -37,7 +47,8 @@ names_sound r s ns e =
     let count = subst (λ k. ReadsFront (one SpellsCount k) v.0.1 n.0.1) (sym all.0) ((reads_count v.0.1 n.0.1 n.0.0).0 n.1) in
     read_then ((reads_keyword _ r v.0.1 tt).0 v.1) (read_then count all.1)
 
-names_complete : (r s : Rest) (ns : List Name) → ReadsFront (names ns) r s → names_read r ≡ Ok (ns, s)
+names_complete : (r s : Rest) (ns : List Name) → ReadsFront (names ns) r s
+    → names_read r ≡ Ok (ns, s)
 unfolding names_read
 names_complete r s ns t =
     let v = parted t in let n = parted v.after in
@@ -51,7 +62,8 @@ reads_names r s ns = (names_sound r s ns, names_complete r s ns)
 pub reads_index : (n : ℕ) → Reads (token_of (variable_of n)) (one (SpellsVariable n))
 reads_index n = reads_one (variable_of n) (SpellsVariable n) (kinds_of_token.variable n)
 
-integers_sound : (n : ℕ) (r s : Rest) (x : Ints) → integers_read n r ≡ Ok (x, s) → ReadsFront (integers n x) r s
+integers_sound : (n : ℕ) (r s : Rest) (x : Ints) → integers_read n r ≡ Ok (x, s)
+    → ReadsFront (integers n x) r s
 unfolding integers_read
 integers_sound n r s x e =
     let v = bind_ok e in let i = bind_ok v.2 in let is = bind_ok i.2 in
@@ -60,7 +72,8 @@ integers_sound n r s x e =
     let t = read_then ((reads_keyword (codes "INT") r v.0.1 tt).0 v.1) (read_then count all.1) in
     read_is (integers n) is.2 (read_as (integers n (from_list is.0.0)) t (is.0.0, refl, t.shape))
 
-integers_complete : (n : ℕ) (r s : Rest) (x : Ints) → ReadsFront (integers n x) r s → integers_read n r ≡ Ok (x, s)
+integers_complete : (n : ℕ) (r s : Rest) (x : Ints) → ReadsFront (integers n x) r s
+    → integers_read n r ≡ Ok (x, s)
 unfolding integers_read
 integers_complete n r s x t =
     let is = t.shape.0 in
@@ -78,7 +91,8 @@ reads_integers n r s x = (integers_sound n r s x, integers_complete n r s x)
 pub reads_direction : Reads (token_of spelled_direction) (one SpellsDirection)
 reads_direction = reads_one spelled_direction SpellsDirection kinds_of_token.direction
 
-objective_sound : (n : ℕ) (r s : Rest) (x : Direction × Row) → objective_read n r ≡ Ok (x, s) → ReadsFront (objective n x.0 x.1) r s
+objective_sound : (n : ℕ) (r s : Rest) (x : Direction × Row) → objective_read n r ≡ Ok (x, s)
+    → ReadsFront (objective n x.0 x.1) r s
 unfolding objective_read
 objective_sound n r s x e =
     let v = bind_ok e in let d = bind_ok v.2 in let row = bind_ok d.2 in
@@ -86,7 +100,8 @@ objective_sound n r s x e =
     (read_then ((reads_keyword (codes "OBJ") r v.0.1 tt).0 v.1)
     (read_then ((reads_direction v.0.1 d.0.1 d.0.0).0 d.1) ((reads_vector n d.0.1 row.0.1 row.0.0).0 row.1)))
 
-objective_complete : (n : ℕ) (r s : Rest) (x : Direction × Row) → ReadsFront (objective n x.0 x.1) r s → objective_read n r ≡ Ok (x, s)
+objective_complete : (n : ℕ) (r s : Rest) (x : Direction × Row)
+    → ReadsFront (objective n x.0 x.1) r s → objective_read n r ≡ Ok (x, s)
 unfolding objective_read
 objective_complete n r s x t =
     let v = parted t in let d = parted v.after in
@@ -137,7 +152,8 @@ reads_lower = reads_one (bound_of (codes "-inf")) (SpellsBound (codes "-inf")) (
 pub reads_upper : Reads (token_of (bound_of (codes "inf"))) (one (SpellsBound (codes "inf")))
 reads_upper = reads_one (bound_of (codes "inf")) (SpellsBound (codes "inf")) (bound_is (codes "inf") no_upper)
 
-range_sound : (b : Bool) (q r u s : Rest) (x : Claim) → ReadsFront (word (codes "RTP")) q r → ReadsFront (one SpellsRange b) r u → range_read b u ≡ Ok (x, s) → ReadsFront (claim x) q s
+range_sound : (b : Bool) (q r u s : Rest) (x : Claim) → ReadsFront (word (codes "RTP")) q r
+    → ReadsFront (one SpellsRange b) r u → range_read b u ≡ Ok (x, s) → ReadsFront (claim x) q s
 unfolding range_read
 range_sound false q r u s x k h e = read_is claim e (read_then k (read_as (word (codes "infeas")) h (h.shape.1 ∙ ap (λ t. t ∷ []) h.shape.2)))
 range_sound true q r u s x k h e =
@@ -169,7 +185,8 @@ reads_claim r s x = (claim_sound r s x, claim_complete r s x)
 
 -- ---- the problem, and the number of solutions
 
-problem_sound : (r s : Rest) (x : Problem × ℕ) → problem_read r ≡ Ok (x, s) → ReadsFront (problem_and_count x) r s
+problem_sound : (r s : Rest) (x : Problem × ℕ) → problem_read r ≡ Ok (x, s)
+    → ReadsFront (problem_and_count x) r s
 unfolding problem_read
 problem_sound r s x e =
     let v = bind_ok e in let ns = bind_ok v.2 in let is = bind_ok ns.2 in let o = bind_ok is.2 in let cs = bind_ok o.2 in
@@ -183,7 +200,8 @@ problem_sound r s x e =
     (read_then ((reads_constraints (length ns.0.0) o.0.0.1 o.0.1 cs.0.1 cs.0.0).0 cs.1) ((reads_claim cs.0.1 c.0.1 c.0.0).0 c.1))))))
     (read_then ((reads_keyword _ c.0.1 k.0.1 tt).0 k.1) ((reads_count k.0.1 n.0.1 n.0.0).0 n.1)))
 
-problem_complete : (r s : Rest) (x : Problem × ℕ) → ReadsFront (problem_and_count x) r s → problem_read r ≡ Ok (x, s)
+problem_complete : (r s : Rest) (x : Problem × ℕ) → ReadsFront (problem_and_count x) r s
+    → problem_read r ≡ Ok (x, s)
 unfolding problem_read
 problem_complete r s x t =
     let p = x.0 in
@@ -201,13 +219,15 @@ reads_problem r s x = (problem_sound r s x, problem_complete r s x)
 
 -- ---- solutions
 
-solution_sound : (p : Problem) (r s : Rest) (x : Named Row) → solution_read p r ≡ Ok (x, s) → ReadsFront (solution (variables p) x) r s
+solution_sound : (p : Problem) (r s : Rest) (x : Named Row) → solution_read p r ≡ Ok (x, s)
+    → ReadsFront (solution (variables p) x) r s
 unfolding solution_read
 solution_sound p r s x e =
     let name = bind_ok e in let row = bind_ok name.2 in
     read_is (solution (variables p)) row.2 (read_then ((reads_name r name.0.1 name.0.0).0 name.1) ((reads_vector (variables p) name.0.1 row.0.1 row.0.0).0 row.1))
 
-solution_complete : (p : Problem) (r s : Rest) (x : Named Row) → ReadsFront (solution (variables p) x) r s → solution_read p r ≡ Ok (x, s)
+solution_complete : (p : Problem) (r s : Rest) (x : Named Row)
+    → ReadsFront (solution (variables p) x) r s → solution_read p r ≡ Ok (x, s)
 unfolding solution_read
 solution_complete p r s x t = let name = parted t in ok_then _ ((reads_name r name.at x.name).1 name.before) (ok_then _ ((reads_vector (variables p) name.at s x.item).1 name.after) refl)
 

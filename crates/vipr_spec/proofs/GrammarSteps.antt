@@ -1,24 +1,30 @@
 -- Readings and shapes, one after another
-use Rattle.std.proofs.Common.{◌≡◌, ℕ, ◌≤◌, ◌⊎◌, inl, inr, Bool, true, false, nat_lt, if◌then◌else◌, List, [], ◌∷◌, ◌++◌, length, map, Result, Ok, Err, All, arith, refl, sym, ◌∙◌, ap, subst, append_assoc}
+use Rattle.std.proofs.Common.{◌≡◌, ℕ, ◌≤◌, ◌⊎◌, inl, inr, Bool, true, false, nat_lt, if◌then◌else◌}
+use Rattle.std.proofs.Common.{List, [], ◌∷◌, ◌++◌, length, map, Result, Ok, Err, All, arith, refl}
+use Rattle.std.proofs.Common.{sym, ◌∙◌, ap, subst, append_assoc}
 use Rattle.std.proofs.lemmas.List.{map-append}
 use Rattle.std.proofs.lemmas.List.Elements.{All-nil, All-cons, All-head, All-tail, All-append}
 use Rattle.std.proofs.lemmas.Bool.Decides.{nat_tests}
 use Rattle.vipr_spec.specs.Tokens.{Token}
-use Rattle.vipr_spec.specs.Reading.{Rest, Fault, refused, unread, ◌>>=◌, Read, most_bytes, first_token, token_read}
+use Rattle.vipr_spec.specs.Reading.{Rest, Fault, refused, unread, ◌>>=◌, Read, most_bytes}
+use Rattle.vipr_spec.specs.Reading.{first_token, token_read}
 use Rattle.vipr_spec.specs.Grammar.{◌then◌}
 use Rattle.vipr_spec.specs.GrammarLaws.{ReadsFront}
 
 -- ---- results
 
-pub chosen : {A : Type 0} (b : Bool) (x y z : A) → (if b then x else y) ≡ z → ((b ≡ true) × (x ≡ z)) ⊎ ((b ≡ false) × (y ≡ z))
+pub chosen : {A : Type 0} (b : Bool) (x y z : A) → (if b then x else y) ≡ z
+    → ((b ≡ true) × (x ≡ z)) ⊎ ((b ≡ false) × (y ≡ z))
 chosen true x y z e = inl (refl, e)
 chosen false x y z e = inr (refl, e)
 
-pub guard_true : {A E : Type 0} (b : Bool) (x y : A) (c : E) → (if b then Ok x else Err c) ≡ Ok y → (b ≡ true) × (x ≡ y)
+pub guard_true : {A E : Type 0} (b : Bool) (x y : A) (c : E) → (if b then Ok x else Err c) ≡ Ok y
+    → (b ≡ true) × (x ≡ y)
 guard_true true x y c e = (refl, cc)
 guard_true false x y c e = absurd (cc)
 
-pub guard_false : {A E : Type 0} (b : Bool) (x y : A) (c : E) → (if b then Err c else Ok x) ≡ Ok y → (b ≡ false) × (x ≡ y)
+pub guard_false : {A E : Type 0} (b : Bool) (x y : A) (c : E) → (if b then Err c else Ok x) ≡ Ok y
+    → (b ≡ false) × (x ≡ y)
 guard_false true x y c e = absurd (cc)
 guard_false false x y c e = (refl, cc)
 
@@ -28,11 +34,13 @@ success E x = Ok x
 pub same_ok : {A E : Type 0} {x y : A} → success E x ≡ success E y → x ≡ y
 same_ok e = cc
 
-pub bind_ok : {A B : Type 0} {r : Result A Fault} {f : A → Result B Fault} {y : B} → (r >>= f) ≡ Ok y → (x : A) × (r ≡ Ok x) × (f x ≡ Ok y)
+pub bind_ok : {A B : Type 0} {r : Result A Fault} {f : A → Result B Fault} {y : B}
+    → (r >>= f) ≡ Ok y → (x : A) × (r ≡ Ok x) × (f x ≡ Ok y)
 bind_ok {r = Ok x} e = (x, refl, e)
 bind_ok {r = Err d} e = absurd (cc)
 
-pub ok_then : {A B : Type 0} {r : Result A Fault} (f : A → Result B Fault) {x : A} {y : Result B Fault} → r ≡ Ok x → f x ≡ y → (r >>= f) ≡ y
+pub ok_then : {A B : Type 0} {r : Result A Fault}
+    (f : A → Result B Fault) {x : A} {y : Result B Fault} → r ≡ Ok x → f x ≡ y → (r >>= f) ≡ y
 ok_then f e h = ap (λ z. z >>= f) e ∙ h
 
 -- ---- tokens taken
@@ -44,19 +52,22 @@ abbrev pub IsShort : List ℕ → Type 0
 IsShort b = length b ≤ most_bytes
 
 -- the same tokens, of another shape
-pub read_as : {P : List (List ℕ) → Type 0} (Q : List (List ℕ) → Type 0) {r s : Rest} (t : ReadsFront P r s) → Q (bytes_of t.front) → ReadsFront Q r s
+pub read_as : {P : List (List ℕ) → Type 0} (Q : List (List ℕ) → Type 0) {r s : Rest}
+    (t : ReadsFront P r s) → Q (bytes_of t.front) → ReadsFront Q r s
 read_as Q t q = record { front = t.front; joined = t.joined; short = t.short; shape = q }
 
 abbrev pub answer : {A : Type 0} → A → Rest → Read A
 answer x s = Ok (x, s)
 
 -- what was read is this
-pub read_is : {A : Type 0} (S : A → List (List ℕ) → Type 0) {r q s : Rest} {v x : A} → answer v q ≡ answer x s → ReadsFront (S v) r q → ReadsFront (S x) r s
+pub read_is : {A : Type 0} (S : A → List (List ℕ) → Type 0) {r q s : Rest} {v x : A}
+    → answer v q ≡ answer x s → ReadsFront (S v) r q → ReadsFront (S x) r s
 read_is S {r} {q} {s} {v} {x} e t =
     let both = same_ok e in let same : v ≡ x = ap (λ p. p.0) both in let left : q ≡ s = ap (λ p. p.1) both in
     subst (λ y. ReadsFront (S y) r s) same (subst (λ p. ReadsFront (S v) r p) left t)
 
-pub is_answer : {A : Type 0} (P : A → Rest → Type 0) {q s : Rest} {v x : A} → answer v q ≡ answer x s → P v q → P x s
+pub is_answer : {A : Type 0} (P : A → Rest → Type 0) {q s : Rest} {v x : A}
+    → answer v q ≡ answer x s → P v q → P x s
 is_answer P e p = subst (λ y. P y.0 y.1) (same_ok e) p
 
 pub read_nothing : (r : Rest) → ReadsFront (λ ts. ts ≡ []) r r
@@ -69,7 +80,8 @@ no_tokens (t ∷ ts) e = absurd (cc)
 pub nothing_read : {r s : Rest} → ReadsFront (λ ts. ts ≡ []) r s → r ≡ s
 nothing_read {r} {s} t = t.joined ∙ ap (λ l. record s { tokens = l ++ s.tokens }) (no_tokens t.front t.shape)
 
-pub read_then : {P Q : List (List ℕ) → Type 0} {r s t : Rest} → ReadsFront P r s → ReadsFront Q s t → ReadsFront (P then Q) r t
+pub read_then : {P Q : List (List ℕ) → Type 0} {r s t : Rest} → ReadsFront P r s → ReadsFront Q s t
+    → ReadsFront (P then Q) r t
 read_then {t = t} a b = record {
   front = a.front ++ b.front;
   joined = a.joined ∙ ap (λ (u : Rest). record u { tokens = a.front ++ u.tokens }) b.joined ∙ ap (λ l. record t { tokens = l }) (sym (append_assoc a.front b.front t.tokens));
@@ -84,7 +96,8 @@ record Split (ts : List Token) (xs ys : List (List ℕ)) : Type 0 where
   in_front : bytes_of front ≡ xs
   behind : bytes_of back ≡ ys
 
-split_more : {t : Token} {ts : List Token} {x : List ℕ} {xs ys : List (List ℕ)} → t.bytes ≡ x → Split ts xs ys → Split (t ∷ ts) (x ∷ xs) ys
+split_more : {t : Token} {ts : List Token} {x : List ℕ} {xs ys : List (List ℕ)} → t.bytes ≡ x
+    → Split ts xs ys → Split (t ∷ ts) (x ∷ xs) ys
 split_more {t} e s = record { front = t ∷ s.front; back = s.back; joined = ap (λ l. t ∷ l) s.joined; in_front = cc; behind = s.behind }
 
 split : (ts : List Token) (xs ys : List (List ℕ)) → bytes_of ts ≡ xs ++ ys → Split ts xs ys
@@ -106,7 +119,8 @@ pub record Parted (P Q : List (List ℕ) → Type 0) (r t : Rest) : Type 0 where
   pub before : ReadsFront P r at
   pub after : ReadsFront Q at t
 
-pub parted : {P Q : List (List ℕ) → Type 0} {r t : Rest} → ReadsFront (P then Q) r t → Parted P Q r t
+pub parted : {P Q : List (List ℕ) → Type 0} {r t : Rest} → ReadsFront (P then Q) r t
+    → Parted P Q r t
 parted {P} {Q} {r} {t} a =
     let k = split a.front a.shape.0 a.shape.1 a.shape.2 in
     let all : All IsShort (bytes_of k.front ++ bytes_of k.back) = subst (All IsShort) (ap bytes_of k.joined ∙ map-append _ k.front k.back) a.short in
@@ -130,11 +144,13 @@ pub record Next (r : Rest) (t : Token) (s : Rest) : Type 0 where
   pub joined : r ≡ record s { tokens = t ∷ s.tokens }
   pub short : length t.bytes ≤ most_bytes
 
-unread_none : (fails : Bool) (n : ℕ) (x : Token × Rest) → (if fails then Err unread else Err (refused 1 n)) ≡ Ok x → ⊥
+unread_none : (fails : Bool) (n : ℕ) (x : Token × Rest)
+    → (if fails then Err unread else Err (refused 1 n)) ≡ Ok x → ⊥
 unread_none true n x e = cc
 unread_none false n x e = cc
 
-next_from : (ts : List Token) (r : Rest) (t : Token) (s : Rest) → r.tokens ≡ ts → first_token ts r ≡ Ok (t, s) → Next r t s
+next_from : (ts : List Token) (r : Rest) (t : Token) (s : Rest) → r.tokens ≡ ts
+    → first_token ts r ≡ Ok (t, s) → Next r t s
 unfolding first_token
 next_from [] r t s h e = absurd (unread_none r.fails r.length (t, s) e)
 next_from (u ∷ us) r t s h e =

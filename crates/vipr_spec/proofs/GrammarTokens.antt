@@ -1,5 +1,7 @@
 -- The kinds of token
-use Rattle.std.proofs.Common.{◌≡◌, ℕ, ◌-◌, ◌<◌, ◌≤◌, ◌⊎◌, inl, inr, ⊎_elim, Bool, true, false, nat_lt, nat_le, nat_eq, if◌then◌else◌, List, Option, Some, None, Result, Ok, Err, codes, arith, refl, sym, ◌∙◌, ap, subst}
+use Rattle.std.proofs.Common.{◌≡◌, ℕ, ◌-◌, ◌<◌, ◌≤◌, ◌⊎◌, inl, inr, ⊎_elim, Bool, true, false}
+use Rattle.std.proofs.Common.{nat_lt, nat_le, nat_eq, if◌then◌else◌, List, Option, Some, None}
+use Rattle.std.proofs.Common.{Result, Ok, Err, codes, arith, refl, sym, ◌∙◌, ap, subst}
 use Rattle.std.specs.List.{list_any}
 use Rattle.std.specs.Str.{bytes_eq}
 use Rattle.std.proofs.lemmas.Bool.Decides.{nat_tests}
@@ -8,8 +10,13 @@ use Rattle.vipr_spec.specs.Digits.{natural_of}
 use Rattle.vipr_spec.specs.Causes as cause
 use Rattle.vipr_spec.specs.Constraint.{Sense, at_most, equal, at_least}
 use Rattle.vipr_spec.specs.Certificate.{Direction, minimum, maximum}
-use Rattle.vipr_spec.specs.Reading.{most_count, at_most_or, word_of, count_of, derivation_count_of, below, variable_of, unless_among, new_variable_of, reference_of, some_of, last_of, spelled_sense, spelled_direction, has_range_of, Rule, by_asm, by_lin, by_rnd, by_uns, by_sol, rule_of}
-use Rattle.vipr_spec.specs.Grammar.{SpellsNatural, SpellsCount, SpellsVariable, SpellsSense, SpellsDirection, SpellsLast}
+use Rattle.vipr_spec.specs.Reading.{most_count, at_most_or, word_of, count_of, derivation_count_of}
+use Rattle.vipr_spec.specs.Reading.{below, variable_of, unless_among, new_variable_of, reference_of}
+use Rattle.vipr_spec.specs.Reading.{some_of, last_of, spelled_sense, spelled_direction}
+use Rattle.vipr_spec.specs.Reading.{has_range_of, Rule, by_asm, by_lin, by_rnd, by_uns, by_sol}
+use Rattle.vipr_spec.specs.Reading.{rule_of}
+use Rattle.vipr_spec.specs.Grammar.{SpellsNatural, SpellsCount, SpellsVariable, SpellsSense}
+use Rattle.vipr_spec.specs.Grammar.{SpellsDirection, SpellsLast}
 use Rattle.vipr_spec.specs.GrammarLaws.{ReadsKind, SpellsRange, rule_word, KindsOfToken}
 use Rattle.vipr_spec.proofs.GrammarNumbers.{natural_sound, natural_complete}
 use Rattle.vipr_spec.proofs.GrammarSteps.{guard_true, guard_false, chosen, success, same_ok}
@@ -23,11 +30,13 @@ pub bytes_same : (t w : List ℕ) → t ≡ w → bytes_eq t w ≡ true
 bytes_same t w e = (bytes_eq-Decides t w).1 e
 
 -- the first word of several, or what the others give
-pub picked : {A E : Type 0} (t w : List ℕ) (x y : A) (others : Result A E) → (if bytes_eq t w then Ok x else others) ≡ Ok y → ((t ≡ w) × (x ≡ y)) ⊎ (others ≡ Ok y)
+pub picked : {A E : Type 0} (t w : List ℕ) (x y : A) (others : Result A E)
+    → (if bytes_eq t w then Ok x else others) ≡ Ok y → ((t ≡ w) × (x ≡ y)) ⊎ (others ≡ Ok y)
 picked t w x y others e = ⊎_elim (λ h. inl (same_bytes t w h.0, same_ok h.1)) (λ h. inr h.1) (chosen (bytes_eq t w) (Ok x) others (Ok y) e)
 
 -- of the first word a value P holds, and of the others too
-pub picks : {A : Type 0} (P : A → Type 0) (t w : List ℕ) (x y : A) (others : Result A ℕ) → (t ≡ w → P x) → (others ≡ Ok y → P y) → (if bytes_eq t w then Ok x else others) ≡ Ok y → P y
+pub picks : {A : Type 0} (P : A → Type 0) (t w : List ℕ) (x y : A) (others : Result A ℕ)
+    → (t ≡ w → P x) → (others ≡ Ok y → P y) → (if bytes_eq t w then Ok x else others) ≡ Ok y → P y
 picks P t w x y others here there e = ⊎_elim (λ h. subst P h.1 (here h.0)) there (picked t w x y others e)
 
 none_picked : {A : Type 0} (P : Type 0) (c : ℕ) (y : A) → Err c ≡ success ℕ y → P
@@ -90,16 +99,19 @@ rule_complete t by_sol e = rw e
 
 -- ---- naturals within a bound
 
-at_most_sound : (most : ℕ) (found : Option ℕ) (absent larger n : ℕ) → at_most_or most found absent larger ≡ Ok n → (found ≡ Some n) × (n ≤ most)
+at_most_sound : (most : ℕ) (found : Option ℕ) (absent larger n : ℕ)
+    → at_most_or most found absent larger ≡ Ok n → (found ≡ Some n) × (n ≤ most)
 at_most_sound most None absent larger n e = absurd (cc)
 at_most_sound most (Some m) absent larger n e = let g = guard_true (nat_le m most) m n larger e in let h : m ≤ most = grind (arith, nat_tests, g.0) in (ap Some g.1, subst (λ k. k ≤ most) g.1 h)
 
-at_most_complete : (most : ℕ) (found : Option ℕ) (absent larger n : ℕ) → found ≡ Some n → n ≤ most → at_most_or most found absent larger ≡ Ok n
+at_most_complete : (most : ℕ) (found : Option ℕ) (absent larger n : ℕ) → found ≡ Some n → n ≤ most
+    → at_most_or most found absent larger ≡ Ok n
 at_most_complete most found absent larger n e h =
     let t : nat_le n most ≡ true = grind (arith, nat_tests, h) in
     ap (λ o. at_most_or most o absent larger) e ∙ ap (λ b. if b then Ok n else Err larger) t
 
-bounded : (most absent larger : ℕ) → ReadsKind (λ t. at_most_or most (natural_of t) absent larger) (λ t n. SpellsNatural t n × (n ≤ most))
+bounded : (most absent larger : ℕ) → ReadsKind (λ t. at_most_or most (natural_of t) absent larger)
+    (λ t n. SpellsNatural t n × (n ≤ most))
 bounded most absent larger t n = (
   λ e. let k = at_most_sound most (natural_of t) absent larger n e in (natural_sound t n k.0, k.1),
   λ h. at_most_complete most (natural_of t) absent larger n (natural_complete t n h.0) h.1,
@@ -109,7 +121,8 @@ count_is : ReadsKind count_of SpellsCount
 unfolding count_of
 count_is = bounded most_count _ _
 
-derivation_count_is : (m : ℕ) → ReadsKind (derivation_count_of m) (λ t d. SpellsNatural t d × (d ≤ most_count - m))
+derivation_count_is : (m : ℕ)
+    → ReadsKind (derivation_count_of m) (λ t d. SpellsNatural t d × (d ≤ most_count - m))
 unfolding derivation_count_of
 derivation_count_is m = bounded (most_count - m) _ _
 
@@ -130,14 +143,17 @@ variable_is : (n : ℕ) → ReadsKind (variable_of n) (SpellsVariable n)
 unfolding variable_of
 variable_is n t i = (λ e. let k = below_sound n (natural_of t) i e in (natural_sound t i k.0, k.1), λ h. below_complete n (natural_of t) i (natural_complete t i h.0) h.1)
 
-among_sound : (before : List ℕ) (found : Result ℕ ℕ) (i : ℕ) → unless_among before found ≡ Ok i → (found ≡ Ok i) × (list_any (nat_eq i) before ≡ false)
+among_sound : (before : List ℕ) (found : Result ℕ ℕ) (i : ℕ) → unless_among before found ≡ Ok i
+    → (found ≡ Ok i) × (list_any (nat_eq i) before ≡ false)
 among_sound before (Err c) i e = absurd (cc)
 among_sound before (Ok j) i e = let g = guard_false (list_any (nat_eq j) before) j i _ e in (ap Ok g.1, subst (λ k. list_any (nat_eq k) before ≡ false) g.1 g.0)
 
-among_complete : (before : List ℕ) (found : Result ℕ ℕ) (i : ℕ) → found ≡ Ok i → list_any (nat_eq i) before ≡ false → unless_among before found ≡ Ok i
+among_complete : (before : List ℕ) (found : Result ℕ ℕ) (i : ℕ) → found ≡ Ok i
+    → list_any (nat_eq i) before ≡ false → unless_among before found ≡ Ok i
 among_complete before found i e h = ap (λ r. unless_among before r) e ∙ ap (λ b. if b then Err cause.repeated_index else Ok i) h
 
-new_variable_is : (n : ℕ) (before : List ℕ) → ReadsKind (new_variable_of n before) (λ t i. SpellsVariable n t i × (list_any (nat_eq i) before ≡ false))
+new_variable_is : (n : ℕ) (before : List ℕ) → ReadsKind (new_variable_of n before)
+    (λ t i. SpellsVariable n t i × (list_any (nat_eq i) before ≡ false))
 unfolding new_variable_of
 new_variable_is n before t i = (
   λ e. let k = among_sound before (variable_of n t) i e in ((variable_is n t i).0 k.0, k.1),
@@ -146,7 +162,8 @@ new_variable_is n before t i = (
 
 -- ---- last references
 
-pub some_sound : {A : Type 0} (found : Result A ℕ) (o : Option A) → some_of found ≡ Ok o → (x : A) × (found ≡ Ok x) × (o ≡ Some x)
+pub some_sound : {A : Type 0} (found : Result A ℕ) (o : Option A) → some_of found ≡ Ok o
+    → (x : A) × (found ≡ Ok x) × (o ≡ Some x)
 some_sound (Ok x) o e = (x, refl, sym (same_ok e))
 some_sound (Err c) o e = absurd (cc)
 

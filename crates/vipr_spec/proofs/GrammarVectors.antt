@@ -1,5 +1,7 @@
 -- Sparse vectors and constraints
-use Rattle.std.proofs.Common.{◌≡◌, ℕ, zero, suc, inl, inr, ⊎_elim, Bool, true, false, ◌||◌, nat_eq, if◌then◌else◌, List, [], ◌∷◌, length, map, Ok, codes, arith, refl, sym, ◌∙◌, ap, subst}
+use Rattle.std.proofs.Common.{◌≡◌, ℕ, zero, suc, inl, inr, ⊎_elim, Bool, true, false, ◌||◌, nat_eq}
+use Rattle.std.proofs.Common.{if◌then◌else◌, List, [], ◌∷◌, length, map, Ok, codes, arith, refl}
+use Rattle.std.proofs.Common.{sym, ◌∙◌, ap, subst}
 use Rattle.std.specs.List.{IsDistinct, AllByRecursion, list_any}
 use Rattle.std.specs.Str.{bytes_eq}
 use Rattle.std.proofs.lemmas.Bool.Decides.{nat_tests}
@@ -8,14 +10,20 @@ use Rattle.vipr_spec.specs.Tokens.{Token}
 use Rattle.vipr_spec.specs.Constraint.{Row, Constraint}
 use Rattle.vipr_spec.specs.Certificate.{Named}
 use Rattle.vipr_spec.specs.Digits.{natural_after, natural_of}
-use Rattle.vipr_spec.specs.Reading.{Rest, ◌>>=◌, Read, token_of, token_read, checked_token, count_of, new_variable_of, number_of, spelled_sense, pair_read, pairs_read, row_of, counted_read, vector_read, row_read, constraint_read}
-use Rattle.vipr_spec.specs.Grammar.{SpellsCount, SpellsVariable, SpellsSense, word, one, ◌then◌, each, pair, vector, coefficients, constraint}
+use Rattle.vipr_spec.specs.Reading.{Rest, ◌>>=◌, Read, token_of, token_read, checked_token}
+use Rattle.vipr_spec.specs.Reading.{count_of, new_variable_of, number_of, spelled_sense, pair_read}
+use Rattle.vipr_spec.specs.Reading.{pairs_read, row_of, counted_read, vector_read, row_read}
+use Rattle.vipr_spec.specs.Reading.{constraint_read}
+use Rattle.vipr_spec.specs.Grammar.{SpellsCount, SpellsVariable, SpellsSense, word, one, ◌then◌}
+use Rattle.vipr_spec.specs.Grammar.{each, pair, vector, coefficients, constraint}
 use Rattle.vipr_spec.specs.Number.{SpellsNumber}
 use Rattle.vipr_spec.specs.GrammarLaws.{ReadsFront, Reads}
-use Rattle.vipr_spec.proofs.GrammarSteps.{bind_ok, ok_then, answer, read_as, read_is, is_answer, read_nothing, nothing_read, read_then, parted, next_sound}
+use Rattle.vipr_spec.proofs.GrammarSteps.{bind_ok, ok_then, answer, read_as, read_is, is_answer}
+use Rattle.vipr_spec.proofs.GrammarSteps.{read_nothing, nothing_read, read_then, parted, next_sound}
 use Rattle.vipr_spec.proofs.GrammarTokens.{kinds_of_token, same_bytes, bytes_same}
 use Rattle.vipr_spec.proofs.GrammarBounds.{number_is}
-use Rattle.vipr_spec.proofs.GrammarParts.{reads_one, reads_name, reads_count, one_token, first_of_front, next_complete}
+use Rattle.vipr_spec.proofs.GrammarParts.{reads_one, reads_name, reads_count, one_token}
+use Rattle.vipr_spec.proofs.GrammarParts.{first_of_front, next_complete}
 
 pub reads_number : Reads (token_of number_of) (one SpellsNumber)
 reads_number = reads_one number_of SpellsNumber number_is
@@ -61,14 +69,16 @@ variables_of ps = map (λ p. p.0) ps
 abbrev pub SpellsNew : ℕ → List ℕ → List ℕ → ℕ → Type 0
 SpellsNew n before t i = SpellsVariable n t i × IsNew before i
 
-pub reads_variable : (n : ℕ) (before : List ℕ) → Reads (token_of (new_variable_of n before)) (one (SpellsNew n before))
+pub reads_variable : (n : ℕ) (before : List ℕ)
+    → Reads (token_of (new_variable_of n before)) (one (SpellsNew n before))
 reads_variable n before = reads_one (new_variable_of n before) (SpellsNew n before) (kinds_of_token.new_variable n before)
 
 record PairTaken (n : ℕ) (before : List ℕ) (p : ℕ × ℚ) (r s : Rest) : Type 0 where
   new : IsNew before p.0
   tokens : ReadsFront (pair n p) r s
 
-pair_sound : (n : ℕ) (before : List ℕ) (r s : Rest) (p : ℕ × ℚ) → pair_read n before r ≡ Ok (p, s) → PairTaken n before p r s
+pair_sound : (n : ℕ) (before : List ℕ) (r s : Rest) (p : ℕ × ℚ) → pair_read n before r ≡ Ok (p, s)
+    → PairTaken n before p r s
 unfolding pair_read
 pair_sound n before r s p e =
     let i = bind_ok e in let a = bind_ok i.2 in
@@ -77,7 +87,8 @@ pair_sound n before r s p e =
     let all = read_then u ((reads_number i.0.1 a.0.1 a.0.0).0 a.1) in
     is_answer (λ q z. PairTaken n before q r z) a.2 (record { new = t.shape.2.1; tokens = all })
 
-pair_complete : (n : ℕ) (before : List ℕ) (r s : Rest) (p : ℕ × ℚ) → PairTaken n before p r s → pair_read n before r ≡ Ok (p, s)
+pair_complete : (n : ℕ) (before : List ℕ) (r s : Rest) (p : ℕ × ℚ) → PairTaken n before p r s
+    → pair_read n before r ≡ Ok (p, s)
 unfolding pair_read
 pair_complete n before r s p h =
     let t = parted h.tokens in
@@ -91,7 +102,8 @@ record PairsTaken (n : ℕ) (before : List ℕ) (k : ℕ) (ps : List (ℕ × ℚ
   distinct : IsDistinct nat_eq (variables_of ps)
   tokens : ReadsFront (each (pair n) ps) r s
 
-pairs_sound : (n : ℕ) (before : List ℕ) (k : ℕ) (r s : Rest) (ps : List (ℕ × ℚ)) → pairs_read n before k r ≡ Ok (ps, s) → PairsTaken n before k ps r s
+pairs_sound : (n : ℕ) (before : List ℕ) (k : ℕ) (r s : Rest) (ps : List (ℕ × ℚ))
+    → pairs_read n before k r ≡ Ok (ps, s) → PairsTaken n before k ps r s
 unfolding pairs_read IsDistinct
 pairs_sound n before zero r s ps e = is_answer (λ qs z. PairsTaken n before 0 qs r z) e (record { count = refl; new = tt; distinct = tt; tokens = read_nothing r })
 pairs_sound n before (suc k) r s ps e =
@@ -102,7 +114,9 @@ pairs_sound n before (suc k) r s ps e =
     is_answer (λ all z. PairsTaken n before (suc k) all r z) qs.2
     (record { count = ap suc others.count; new = (first.new, differ.0); distinct = (differ.1, others.distinct); tokens = read_then first.tokens others.tokens })
 
-pairs_complete : (n : ℕ) (before : List ℕ) (ps : List (ℕ × ℚ)) (r s : Rest) → AreNew before (variables_of ps) → IsDistinct nat_eq (variables_of ps) → ReadsFront (each (pair n) ps) r s → pairs_read n before (length ps) r ≡ Ok (ps, s)
+pairs_complete : (n : ℕ) (before : List ℕ) (ps : List (ℕ × ℚ)) (r s : Rest)
+    → AreNew before (variables_of ps) → IsDistinct nat_eq (variables_of ps)
+    → ReadsFront (each (pair n) ps) r s → pairs_read n before (length ps) r ≡ Ok (ps, s)
 unfolding pairs_read IsDistinct
 pairs_complete n before [] r s new distinct t = ap (λ q. Ok ([], q)) (nothing_read t)
 pairs_complete n before (p ∷ ps) r s new distinct t =
@@ -110,7 +124,8 @@ pairs_complete n before (p ∷ ps) r s new distinct t =
     ok_then _ (pair_complete n before r a.at p (record { new = new.0; tokens = a.before }))
     (ok_then _ (pairs_complete n (p.0 ∷ before) ps a.at s (joined p.0 before (variables_of ps) new.1 distinct.0) distinct.1 a.after) refl)
 
-pub reads_pair : (n : ℕ) (before : List ℕ) → Reads (pair_read n before) (λ p ts. IsNew before p.0 × pair n p ts)
+pub reads_pair : (n : ℕ) (before : List ℕ)
+    → Reads (pair_read n before) (λ p ts. IsNew before p.0 × pair n p ts)
 reads_pair n before r s p = (
   λ e. let t = pair_sound n before r s p e in read_as (λ ts. IsNew before p.0 × pair n p ts) t.tokens (t.new, t.tokens.shape),
   λ t. pair_complete n before r s p (record { new = t.shape.0; tokens = read_as (pair n p) t t.shape.1 }),
@@ -119,7 +134,8 @@ reads_pair n before r s p = (
 abbrev pub DistinctPairs : ℕ → List ℕ → ℕ → List (ℕ × ℚ) → List (List ℕ) → Type 0
 DistinctPairs n before k ps ts = (length ps ≡ k) × AreNew before (variables_of ps) × IsDistinct nat_eq (variables_of ps) × each (pair n) ps ts
 
-pub reads_pairs : (n : ℕ) (before : List ℕ) (k : ℕ) → Reads (pairs_read n before k) (DistinctPairs n before k)
+pub reads_pairs : (n : ℕ) (before : List ℕ) (k : ℕ)
+    → Reads (pairs_read n before k) (DistinctPairs n before k)
 reads_pairs n before k r s ps = (
   λ e. let t = pairs_sound n before k r s ps e in read_as (DistinctPairs n before k ps) t.tokens (t.count, t.new, t.distinct, t.tokens.shape),
   λ t. subst (λ m. pairs_read n before m r ≡ Ok (ps, s)) t.shape.0 (pairs_complete n before ps r s t.shape.1 t.shape.2 (read_as (each (pair n) ps) t t.shape.3)),
@@ -127,7 +143,8 @@ reads_pairs n before k r s ps = (
 
 -- ---- vectors
 
-vector_sound : (n : ℕ) (r s : Rest) (row : Row) → vector_read n r ≡ Ok (row, s) → ReadsFront (vector n row) r s
+vector_sound : (n : ℕ) (r s : Rest) (row : Row) → vector_read n r ≡ Ok (row, s)
+    → ReadsFront (vector n row) r s
 unfolding vector_read counted_read
 vector_sound n r s row e =
     let k = bind_ok e in let ps = bind_ok k.2 in
@@ -136,7 +153,8 @@ vector_sound n r s row e =
     let all = read_then count h.tokens in
     read_is (vector n) ps.2 (read_as (vector n (row_of ps.0.0)) all (ps.0.0, h.distinct, refl, all.shape))
 
-vector_complete : (n : ℕ) (r s : Rest) (row : Row) → ReadsFront (vector n row) r s → vector_read n r ≡ Ok (row, s)
+vector_complete : (n : ℕ) (r s : Rest) (row : Row) → ReadsFront (vector n row) r s
+    → vector_read n r ≡ Ok (row, s)
 unfolding vector_read counted_read
 vector_complete n r s row t =
     let ps = t.shape.0 in
@@ -200,7 +218,8 @@ reads_sense = reads_one spelled_sense SpellsSense kinds_of_token.sense
 abbrev Stated : ℕ → Row → Named Constraint → List (List ℕ) → Type 0
 Stated n objective c = constraint n objective c.name c.item
 
-constraint_sound : (n : ℕ) (objective : Row) (r s : Rest) (c : Named Constraint) → constraint_read n objective r ≡ Ok (c, s) → ReadsFront (Stated n objective c) r s
+constraint_sound : (n : ℕ) (objective : Row) (r s : Rest) (c : Named Constraint)
+    → constraint_read n objective r ≡ Ok (c, s) → ReadsFront (Stated n objective c) r s
 unfolding constraint_read
 constraint_sound n objective r s c e =
     let name = bind_ok e in let sense = bind_ok name.2 in let bound = bind_ok sense.2 in let row = bind_ok bound.2 in
@@ -210,7 +229,8 @@ constraint_sound n objective r s c e =
     (read_then ((reads_number sense.0.1 bound.0.1 bound.0.0).0 bound.1)
     ((reads_row n objective bound.0.1 row.0.1 row.0.0).0 row.1))))
 
-constraint_complete : (n : ℕ) (objective : Row) (r s : Rest) (c : Named Constraint) → ReadsFront (Stated n objective c) r s → constraint_read n objective r ≡ Ok (c, s)
+constraint_complete : (n : ℕ) (objective : Row) (r s : Rest) (c : Named Constraint)
+    → ReadsFront (Stated n objective c) r s → constraint_read n objective r ≡ Ok (c, s)
 unfolding constraint_read
 constraint_complete n objective r s c t =
     let name = parted t in let sense = parted name.after in let bound = parted sense.after in
@@ -219,5 +239,6 @@ constraint_complete n objective r s c t =
     (ok_then _ ((reads_number sense.at bound.at c.item.bound).1 bound.before)
     (ok_then _ ((reads_row n objective bound.at s c.item.row).1 bound.after) refl)))
 
-pub reads_constraint : (n : ℕ) (objective : Row) → Reads (constraint_read n objective) (λ c. constraint n objective c.name c.item)
+pub reads_constraint : (n : ℕ) (objective : Row)
+    → Reads (constraint_read n objective) (λ c. constraint n objective c.name c.item)
 reads_constraint n objective r s c = (constraint_sound n objective r s c, constraint_complete n objective r s c)

@@ -1,14 +1,21 @@
 -- The whole certificate, and that no tokens spell two
-use Rattle.std.proofs.Common.{◌≡◌, ◌↔◌, ℕ, ◌<◌, ◌≤◌, Bool, true, false, if◌then◌else◌, List, [], ◌∷◌, ◌++◌, length, Result, Ok, Err, All, codes, refl, sym, ◌∙◌, ap, subst, append-nil}
+use Rattle.std.proofs.Common.{◌≡◌, ◌↔◌, ℕ, ◌<◌, ◌≤◌, Bool, true, false, if◌then◌else◌, List, []}
+use Rattle.std.proofs.Common.{◌∷◌, ◌++◌, length, Result, Ok, Err, All, codes, refl, sym, ◌∙◌, ap}
+use Rattle.std.proofs.Common.{subst, append-nil}
 use Rattle.std.proofs.lemmas.List.Elements.{All-nil, All-cons}
 use Rattle.vipr_spec.specs.Constraint.{IsInteger, Row}
 use Rattle.vipr_spec.specs.Tokens.{Token}
 use Rattle.vipr_spec.specs.Certificate.{Named, Problem, variables, Derivation, Certificate}
-use Rattle.vipr_spec.specs.Reading.{Rest, Fault, unread, ◌>>=◌, most_count, read_each, end_of, end_read, problem_read, solution_read, derivations_read, derivation_read, certificate_read}
-use Rattle.vipr_spec.specs.Grammar.{SpellsCount, SpellsVariable, word, one, ◌then◌, each, problem, solution, solutions, derivation, derivations, SpelledBy}
-use Rattle.vipr_spec.specs.GrammarLaws.{ReadsFront, derivation_count, whole_text, EndsHere, ReadsCertificates, ReadsTexts, OneCertificate}
+use Rattle.vipr_spec.specs.Reading.{Rest, Fault, unread, ◌>>=◌, most_count, read_each, end_of}
+use Rattle.vipr_spec.specs.Reading.{end_read, problem_read, solution_read, derivations_read}
+use Rattle.vipr_spec.specs.Reading.{derivation_read, certificate_read}
+use Rattle.vipr_spec.specs.Grammar.{SpellsCount, SpellsVariable, word, one, ◌then◌, each, problem}
+use Rattle.vipr_spec.specs.Grammar.{solution, solutions, derivation, derivations, SpelledBy}
+use Rattle.vipr_spec.specs.GrammarLaws.{ReadsFront, derivation_count, whole_text, EndsHere}
+use Rattle.vipr_spec.specs.GrammarLaws.{ReadsCertificates, ReadsTexts, OneCertificate}
 use Rattle.vipr_spec.proofs.PairRows.{set_below}
-use Rattle.vipr_spec.proofs.GrammarSteps.{bind_ok, ok_then, same_ok, success, bytes_of, IsShort, read_as, read_then, parted}
+use Rattle.vipr_spec.proofs.GrammarSteps.{bind_ok, ok_then, same_ok, success, bytes_of, IsShort}
+use Rattle.vipr_spec.proofs.GrammarSteps.{read_as, read_then, parted}
 use Rattle.vipr_spec.proofs.GrammarParts.{repeated_sound, repeated_complete}
 use Rattle.vipr_spec.proofs.GrammarSections.{reads_problem, reads_solution}
 use Rattle.vipr_spec.proofs.GrammarDerivations.{reads_derivation, reads_derivations}
@@ -48,7 +55,8 @@ pub record Whole (r : Rest) (c : Certificate) : Type 0 where
   pub tokens : ReadsFront (sections c) r end
   pub ends : EndsHere end
 
-whole_is : {r : Rest} {x y : Certificate} → success Fault x ≡ success Fault y → Whole r x → Whole r y
+whole_is : {r : Rest} {x y : Certificate} → success Fault x ≡ success Fault y → Whole r x
+    → Whole r y
 whole_is {r} e w = subst (Whole r) (same_ok e) w
 
 -- the parts of a reading, the last first
@@ -64,22 +72,26 @@ headed p ss = derivations_read p ss.1 >>= derived p ss.0
 abbrev solved : (Problem × ℕ) × Rest → Result Certificate Fault
 solved p = read_each (solution_read p.0.0) p.0.1 p.1 >>= headed p.0.0
 
-few_constraints : (p : Problem) {r s : Rest} → ReadsFront (problem p) r s → length p.constraints ≤ most_count
+few_constraints : (p : Problem) {r s : Rest} → ReadsFront (problem p) r s
+    → length p.constraints ≤ most_count
 few_constraints p t =
     let names = (parted t).after in let integers = (parted names).after in let objective = (parted integers).after in let constraints = (parted objective).after in
     let count = parted (parted (parted constraints).before).after in
     count.before.shape.2.1
 
-variables_below : (n : ℕ) (is : List ℕ) (ts : List (List ℕ)) → each (one (SpellsVariable n)) is ts → All (λ i. i < n) is
+variables_below : (n : ℕ) (is : List ℕ) (ts : List (List ℕ)) → each (one (SpellsVariable n)) is ts
+    → All (λ i. i < n) is
 variables_below n [] ts e = All-nil (λ i. i < n)
 variables_below n (i ∷ is) ts e = All-cons (λ i. i < n) i is e.3.2.1 (variables_below n is e.1 e.4)
 
-integers_below : (p : Problem) {r s : Rest} → ReadsFront (problem p) r s → (j : ℕ) → IsInteger p.integers j → j < variables p
+integers_below : (p : Problem) {r s : Rest} → ReadsFront (problem p) r s → (j : ℕ)
+    → IsInteger p.integers j → j < variables p
 integers_below p t j h =
     let integers = (parted (parted (parted t).after).after).before.shape in
     set_below (variables p) integers.0 (variables_below (variables p) integers.0 integers.2.4.1 integers.2.4.4) j (subst (λ is. IsInteger is j) integers.1 h)
 
-pub few_constraints_read : (r s : Rest) (x : Problem × ℕ) → problem_read r ≡ Ok (x, s) → length x.0.constraints ≤ most_count
+pub few_constraints_read : (r s : Rest) (x : Problem × ℕ) → problem_read r ≡ Ok (x, s)
+    → length x.0.constraints ≤ most_count
 few_constraints_read r s x e = few_constraints x.0 (parted ((reads_problem r s x).0 e)).before
 
 module _ (r : Rest) (c : Certificate) where
@@ -123,12 +135,14 @@ module _ (r : Rest) (c : Certificate) where
       (ok_then (closed c.problem c.solutions) (repeated_complete (derivation_read c.problem) (derivation c.problem) (reads_derivation c.problem) c.derivations room.at w.end room.after)
       (ok_then _ (end_complete w.end w.ends) refl))))
 
-pub integers_read_below : (r : Rest) (c : Certificate) → certificate_read r ≡ Ok c → (j : ℕ) → IsInteger c.problem.integers j → j < variables c.problem
+pub integers_read_below : (r : Rest) (c : Certificate) → certificate_read r ≡ Ok c → (j : ℕ)
+    → IsInteger c.problem.integers j → j < variables c.problem
 integers_read_below r c e = let w = certificate_sound r c e in integers_below c.problem (parted w.tokens).before
 
 -- ---- texts
 
-spelled_from_whole : {r : Rest} {c : Certificate} → Whole r c → (r.fails ≡ false) × SpelledBy (bytes_of r.tokens) c
+spelled_from_whole : {r : Rest} {c : Certificate} → Whole r c
+    → (r.fails ≡ false) × SpelledBy (bytes_of r.tokens) c
 spelled_from_whole {r} {c} w =
     let t = w.tokens in
     let all : r.tokens ≡ t.front = ap (λ (q : Rest). q.tokens) t.joined ∙ ap (λ ts. t.front ++ ts) w.ends.0 ∙ append-nil t.front in (
@@ -136,7 +150,8 @@ spelled_from_whole {r} {c} w =
       record { short = subst (λ ts. All IsShort (bytes_of ts)) (sym all) t.short; sections = subst (λ ts. sections c (bytes_of ts)) (sym all) t.shape },
     )
 
-whole_from_spelled : {r : Rest} {c : Certificate} → r.fails ≡ false → SpelledBy (bytes_of r.tokens) c → Whole r c
+whole_from_spelled : {r : Rest} {c : Certificate} → r.fails ≡ false
+    → SpelledBy (bytes_of r.tokens) c → Whole r c
 whole_from_spelled {r} {c} f s = record {
   end = record r { tokens = [] };
   tokens = record { front = r.tokens; joined = ap (λ ts. record r { tokens = ts }) (sym (append-nil r.tokens)); short = s.short; shape = s.sections };

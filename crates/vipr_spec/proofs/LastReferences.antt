@@ -1,5 +1,6 @@
 -- The last references of the tightened certificate
-use Rattle.std.proofs.Common.{◌≡◌, ◌↔◌, ℕ, ◌<◌, ◌≤◌, Option, Some, None, length, arith, refl, sym, ◌∙◌, ap, ⊎_elim}
+use Rattle.std.proofs.Common.{◌≡◌, ◌↔◌, ℕ, ◌<◌, ◌≤◌, Option, Some, None, length, arith, refl, sym}
+use Rattle.std.proofs.Common.{◌∙◌, ap, ⊎_elim}
 use Rattle.vipr_spec.specs.Certificate.{Certificate, reason_at, last_at, RefersTo, count, IsNeeded}
 use Rattle.vipr_spec.specs.Steps.{RefersBack}
 use Rattle.vipr_spec.specs.Tightened.{is_kept, tightened_certificate, new_goal, IsNeededFor}
@@ -7,10 +8,15 @@ use Rattle.vipr_spec.proofs.Marked.{back_at, needed_cases, needed_below, kept_gi
 use Rattle.vipr_spec.proofs.Places.{last_then_new, last_is_new}
 use Rattle.vipr_spec.proofs.Tight.{tight_back, tight_needed}
 
-pub last_one : (c : Certificate) (goal : Option ℕ) (i l : ℕ) → length c.problem.constraints ≤ i → last_at (tightened_certificate c goal) i ≡ Some l → (i < l) × (l < count (tightened_certificate c goal)) × RefersTo (reason_at (tightened_certificate c goal) l) i
+pub last_one : (c : Certificate) (goal : Option ℕ) (i l : ℕ) → length c.problem.constraints ≤ i
+    → last_at (tightened_certificate c goal) i ≡ Some l → (i < l)
+    × (l < count (tightened_certificate c goal))
+    × RefersTo (reason_at (tightened_certificate c goal) l) i
 last_one c goal i l h e = last_is_new c (is_kept c goal) (kept_given c goal) i l h e
 
-pub last_latest : (c : Certificate) (goal : Option ℕ) (k i : ℕ) → RefersBack c → length c.problem.constraints ≤ i → RefersTo (reason_at (tightened_certificate c goal) k) i → (l : ℕ) × (last_at (tightened_certificate c goal) i ≡ Some l) × (k ≤ l)
+pub last_latest : (c : Certificate) (goal : Option ℕ) (k i : ℕ) → RefersBack c
+    → length c.problem.constraints ≤ i → RefersTo (reason_at (tightened_certificate c goal) k) i
+    → (l : ℕ) × (last_at (tightened_certificate c goal) i ≡ Some l) × (k ≤ l)
 last_latest c goal k i back h r = last_then_new c (is_kept c goal) (kept_given c goal) k i h (back_at (tightened_certificate c goal) (tight_back c goal back) k i r) r
 
 module _ (c : Certificate) (goal : Option ℕ) (back : RefersBack c) where

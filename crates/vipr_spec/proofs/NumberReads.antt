@@ -1,18 +1,24 @@
 -- What is read as a number is what is spelled as one
-use Rattle.std.proofs.Common.{◌≡◌, ℕ, suc, ◌+◌, ◌<◌, ◌≤◌, inl, inr, Bool, true, false, nat_lt, ◌==◌, ◌||◌, if◌then◌else◌, List, [], ◌∷◌, ◌++◌, length, take, drop, Option, Some, None, Ok, Err, ℤ, pos, negsuc, subst, append-nil, lit<, lit≤, arith, refl, sym, ◌∙◌, ap, append_assoc}
+use Rattle.std.proofs.Common.{◌≡◌, ℕ, suc, ◌+◌, ◌<◌, ◌≤◌, inl, inr, Bool, true, false, nat_lt, ◌==◌}
+use Rattle.std.proofs.Common.{◌||◌, if◌then◌else◌, List, [], ◌∷◌, ◌++◌, length, take, drop, Option}
+use Rattle.std.proofs.Common.{Some, None, Ok, Err, ℤ, pos, negsuc, subst, append-nil, lit<, lit≤}
+use Rattle.std.proofs.Common.{arith, refl, sym, ◌∙◌, ap, append_assoc}
 use Rattle.std.proofs.lemmas.Bool.Decides.{nat_tests}
 use Rattle.std.proofs.lemmas.Bool.{eqb-true}
 use Rattle.std.proofs.lemmas.List.{length-append}
 use Rattle.std.specs.Char.{digit_value}
 use Rattle.std.specs.Fmt.{decimal, signed_decimal}
 use Rattle.std.proofs.lemmas.Fmt.{decimal_is_IsNumeral_wide, length-decimal-le_wide}
-use Rattle.std.specs.Str.Parse.{AllDigits, IsNumeral, digits_value, without_leading_sign, starts_with_minus}
+use Rattle.std.specs.Str.Parse.{AllDigits, IsNumeral, digits_value, without_leading_sign}
+use Rattle.std.specs.Str.Parse.{starts_with_minus}
 use Rattle.std.specs.Prelude.{IfSome, unsigned_abs}
 use Rattle.vipr_spec.specs.Fraction.{ℚ, over, most, IsBounded}
 use Rattle.vipr_spec.proofs.GrammarNumbers.{natural_sound, natural_complete}
 use Rattle.vipr_spec.proofs.Points.{over_parts}
 use Rattle.vipr_spec.specs.Digits.{natural_after, natural_of}
-use Rattle.vipr_spec.specs.Number.{SpellsNumber, IsSign, signed_integer, under, denominator, too_large, zero_denominator, is_slash, slash_place, top_of, bottom_of, written_fraction, of_parts, number_read, number_text}
+use Rattle.vipr_spec.specs.Number.{SpellsNumber, IsSign, signed_integer, under, denominator}
+use Rattle.vipr_spec.specs.Number.{too_large, zero_denominator, is_slash, slash_place, top_of}
+use Rattle.vipr_spec.specs.Number.{bottom_of, written_fraction, of_parts, number_read, number_text}
 
 -- ---- the sign
 pub record Signed (bs : List ℕ) : Type 0 where
@@ -88,12 +94,14 @@ slash_split (b ∷ bs) = slashed_by b bs (is_slash b) refl (slash_split bs)
 no_slash : (b : ℕ) → digit_value b < 10 → is_slash b ≡ false
 no_slash b h = grind (arith, nat_tests)
 
-pub top_is : (top : List ℕ) (bottom : Option (List ℕ)) → AllDigits 10 top → top_of (top ++ under bottom) ≡ top
+pub top_is : (top : List ℕ) (bottom : Option (List ℕ)) → AllDigits 10 top
+    → top_of (top ++ under bottom) ≡ top
 top_is [] None h = refl
 top_is [] (Some digits) h = refl
 top_is (b ∷ bs) bottom h = top_next b (bs ++ under bottom) (no_slash b h.0) ∙ ap (λ cs. b ∷ cs) (top_is bs bottom h.1)
 
-pub bottom_is : (top : List ℕ) (bottom : Option (List ℕ)) → AllDigits 10 top → bottom_of (top ++ under bottom) ≡ bottom_digits bottom
+pub bottom_is : (top : List ℕ) (bottom : Option (List ℕ)) → AllDigits 10 top
+    → bottom_of (top ++ under bottom) ≡ bottom_digits bottom
 bottom_is [] None h = refl
 bottom_is [] (Some digits) h = bottom_here 47 digits refl
 bottom_is (b ∷ bs) bottom h = bottom_next b (bs ++ under bottom) (no_slash b h.0) ∙ bottom_is bs bottom h.1
@@ -102,7 +110,9 @@ bottom_is (b ∷ bs) bottom h = bottom_next b (bs ++ under bottom) (no_slash b h
 no_sign : (b : ℕ) → digit_value b < 10 → ((b == 45) ≡ false) × ((b == 43) ≡ false)
 no_sign b h = (grind (arith, nat_tests), grind (arith, nat_tests))
 
-pub sign_of : (sign : List ℕ) (is_negative : Bool) (top rest : List ℕ) → IsSign sign is_negative → IsNumeral 10 top → (starts_with_minus (sign ++ top ++ rest) ≡ is_negative) × (without_leading_sign (sign ++ top ++ rest) ≡ top ++ rest)
+pub sign_of : (sign : List ℕ) (is_negative : Bool) (top rest : List ℕ) → IsSign sign is_negative
+    → IsNumeral 10 top → (starts_with_minus (sign ++ top ++ rest) ≡ is_negative)
+    × (without_leading_sign (sign ++ top ++ rest) ≡ top ++ rest)
 sign_of sign is_negative [] rest s h = absurd (omega arith)
 sign_of sign is_negative (b ∷ bs) rest s h =
     let n = no_sign b h.1.0 in elim s [
@@ -117,16 +127,21 @@ record Fits (is_negative : Bool) (p q : ℕ) (x : ℚ) : Type 0 where
   pub divides : 1 ≤ q
   pub value : x ≡ over (signed_integer is_negative p) q
 
-fits_by : (is_negative : Bool) (p q : ℕ) (x : ℚ) (large wide none : Bool) → nat_lt most p ≡ large → nat_lt most q ≡ wide → (q == 0) ≡ none → (if large || wide then Err too_large else (if none then Err zero_denominator else Ok (over (signed_integer is_negative p) q))) ≡ Ok x → Fits is_negative p q x
+fits_by : (is_negative : Bool) (p q : ℕ) (x : ℚ) (large wide none : Bool) → nat_lt most p ≡ large
+    → nat_lt most q ≡ wide → (q == 0) ≡ none → (if large || wide then Err too_large
+    else (if none then Err zero_denominator else Ok (over (signed_integer is_negative p) q))) ≡ Ok x
+    → Fits is_negative p q x
 fits_by is_negative p q x true w n e f g h = absurd (cc)
 fits_by is_negative p q x false true n e f g h = absurd (cc)
 fits_by is_negative p q x false false true e f g h = absurd (cc)
 fits_by is_negative p q x false false false e f g h = record { top = grind (arith, nat_tests); bottom = grind (arith, nat_tests); divides = grind (arith, nat_tests); value = cc }
 
-written_sound : (is_negative : Bool) (p q : ℕ) (x : ℚ) → written_fraction is_negative p q ≡ Ok x → Fits is_negative p q x
+written_sound : (is_negative : Bool) (p q : ℕ) (x : ℚ) → written_fraction is_negative p q ≡ Ok x
+    → Fits is_negative p q x
 written_sound is_negative p q x h = fits_by is_negative p q x (nat_lt most p) (nat_lt most q) (q == 0) refl refl refl h
 
-written_complete : (is_negative : Bool) (p q : ℕ) → p ≤ most → q ≤ most → 1 ≤ q → written_fraction is_negative p q ≡ Ok (over (signed_integer is_negative p) q)
+written_complete : (is_negative : Bool) (p q : ℕ) → p ≤ most → q ≤ most → 1 ≤ q
+    → written_fraction is_negative p q ≡ Ok (over (signed_integer is_negative p) q)
 written_complete is_negative p q h k l =
     let e : nat_lt most p ≡ false = grind (arith, nat_tests) in
     let f : nat_lt most q ≡ false = grind (arith, nat_tests) in
@@ -134,7 +149,8 @@ written_complete is_negative p q h k l =
     rw (e, f, g)
 
 -- ---- numbers
-bottom_complete : (bottom : Option (List ℕ)) → IfSome bottom (IsNumeral 10) → natural_of (bottom_digits bottom) ≡ Some (denominator bottom)
+bottom_complete : (bottom : Option (List ℕ)) → IfSome bottom (IsNumeral 10)
+    → natural_of (bottom_digits bottom) ≡ Some (denominator bottom)
 unfolding natural_of natural_after
 bottom_complete None h = refl
 bottom_complete (Some digits) h = natural_complete digits _ (h, refl)
@@ -154,12 +170,16 @@ number_complete bs x s =
     ∙ ap (of_parts s.is_negative (Some (digits_value 10 s.top))) bottom
     ∙ (written_complete s.is_negative (digits_value 10 s.top) (denominator s.bottom) s.top_fits s.bottom_fits s.divides ∙ ap Ok (sym s.value))
 
-bottom_sound : (bottom : Option (List ℕ)) (q : ℕ) → natural_of (bottom_digits bottom) ≡ Some q → IfSome bottom (IsNumeral 10) × (denominator bottom ≡ q)
+bottom_sound : (bottom : Option (List ℕ)) (q : ℕ) → natural_of (bottom_digits bottom) ≡ Some q
+    → IfSome bottom (IsNumeral 10) × (denominator bottom ≡ q)
 unfolding natural_of natural_after
 bottom_sound None q e = (tt, cc)
 bottom_sound (Some digits) q e = natural_sound digits q e
 
-parts_sound : (bs : List ℕ) (x : ℚ) (g : Signed bs) (k : Slashed (without_leading_sign bs)) (p q : Option ℕ) → natural_of (top_of (without_leading_sign bs)) ≡ p → natural_of (bottom_of (without_leading_sign bs)) ≡ q → of_parts (starts_with_minus bs) p q ≡ Ok x → SpellsNumber bs x
+parts_sound : (bs : List ℕ) (x : ℚ) (g : Signed bs) (k : Slashed (without_leading_sign bs))
+    (p q : Option ℕ) → natural_of (top_of (without_leading_sign bs)) ≡ p
+    → natural_of (bottom_of (without_leading_sign bs)) ≡ q
+    → of_parts (starts_with_minus bs) p q ≡ Ok x → SpellsNumber bs x
 parts_sound bs x g k (Some p) (Some q) e f h =
     let fits = written_sound (starts_with_minus bs) p q x h in
     let top = natural_sound _ p e in
@@ -193,7 +213,10 @@ module _ (n : ℕ) (h : n ≤ most) where
   digits_of : IsNumeral 10 (decimal n) × (digits_value 10 (decimal n) ≡ n)
   digits_of = decimal_is_IsNumeral_wide n (omega arith)
 
-text_of : (x : ℚ) (sign : List ℕ) (is_negative : Bool) (n : ℕ) (bottom : Option (List ℕ)) → IsSign sign is_negative → n ≤ most → signed_integer is_negative n ≡ x.numer → IfSome bottom (IsNumeral 10) → denominator bottom ≡ x.denom → x.denom ≤ most → SpellsNumber (sign ++ decimal n ++ under bottom) x
+text_of : (x : ℚ) (sign : List ℕ) (is_negative : Bool) (n : ℕ) (bottom : Option (List ℕ))
+    → IsSign sign is_negative → n ≤ most → signed_integer is_negative n ≡ x.numer
+    → IfSome bottom (IsNumeral 10) → denominator bottom ≡ x.denom → x.denom ≤ most
+    → SpellsNumber (sign ++ decimal n ++ under bottom) x
 text_of x sign is_negative n bottom s h e k d b =
     let top = digits_of n h in
     record {
@@ -211,7 +234,8 @@ text_of x sign is_negative n bottom s h e k d b =
       value = rw (top.1, e, d) (sym (over_parts x));
     }
 
-text_by : (x : ℚ) (p : ℤ) (t : Bool) → IsBounded x → p ≡ x.numer → (x.denom == 1) ≡ t → SpellsNumber (if t then signed_decimal p else signed_decimal p ++ 47 ∷ decimal x.denom) x
+text_by : (x : ℚ) (p : ℤ) (t : Bool) → IsBounded x → p ≡ x.numer → (x.denom == 1) ≡ t
+    → SpellsNumber (if t then signed_decimal p else signed_decimal p ++ 47 ∷ decimal x.denom) x
 text_by x (pos n) true b e f =
     let small : n ≤ most = rw (← e) at b.0 in
     subst (λ cs. SpellsNumber cs x) (append-nil (decimal n)) (text_of x [] false n None (inl (refl, refl)) small e tt (sym (eqb-true x.denom 1 f)) b.1)
@@ -230,7 +254,8 @@ text_by x (negsuc n) false b e f =
 pub text_spelled : (x : ℚ) → IsBounded x → SpellsNumber (number_text x) x
 text_spelled x b = text_by x x.numer (x.denom == 1) b refl refl
 
-text_length : (x : ℚ) (p : ℤ) (t : Bool) → unsigned_abs p ≤ most → x.denom ≤ most → length (if t then signed_decimal p else signed_decimal p ++ 47 ∷ decimal x.denom) ≤ 80
+text_length : (x : ℚ) (p : ℤ) (t : Bool) → unsigned_abs p ≤ most → x.denom ≤ most
+    → length (if t then signed_decimal p else signed_decimal p ++ 47 ∷ decimal x.denom) ≤ 80
 text_length x p t h k = by (signed_decimal p) t (numer_length p h)
   where
     digits_length : (n : ℕ) → n ≤ most → length (decimal n) ≤ 39
@@ -249,7 +274,9 @@ pub text_short : (x : ℚ) → IsBounded x → length (number_text x) ≤ 80
 text_short x b = text_length x x.numer (x.denom == 1) b.0 b.1
 
 -- digits alone are a whole number
-pub plain_number : (is_negative : Bool) (bs : List ℕ) (n : ℕ) → natural_of bs ≡ Some n → n ≤ most → of_parts is_negative (natural_of (top_of bs)) (natural_of (bottom_of bs)) ≡ Ok (over (signed_integer is_negative n) 1)
+pub plain_number : (is_negative : Bool) (bs : List ℕ) (n : ℕ) → natural_of bs ≡ Some n → n ≤ most
+    → of_parts is_negative (natural_of (top_of bs)) (natural_of (bottom_of bs))
+    ≡ Ok (over (signed_integer is_negative n) 1)
 unfolding natural_of natural_after
 plain_number is_negative bs n e h =
     let k = natural_sound bs n e in

@@ -1,5 +1,8 @@
--- max x, where x is whole and 2 x ≤ 3, is 1: by rounding, by two branches, and by the listed solution
-use Rattle.std.proofs.Common.{◌≡◌, ℕ, zero, suc, ◌<◌, ◌==◌, ◌||◌, [], ◌∷◌, Some, None, pos, All, Contains, false, cond, arith, refl, sym, ◌∙◌, ap, ap₂, subst, inl, inr, slice_index_or, IsTrue, lit<, lit≤, unwrap_or, zero-lt-suc}
+-- max x, where x is whole and 2 x ≤ 3, is 1: by rounding, by two branches, and by the listed
+-- solution
+use Rattle.std.proofs.Common.{◌≡◌, ℕ, zero, suc, ◌<◌, ◌==◌, ◌||◌, [], ◌∷◌, Some, None, pos, All}
+use Rattle.std.proofs.Common.{Contains, false, cond, arith, refl, sym, ◌∙◌, ap, ap₂, subst, inl}
+use Rattle.std.proofs.Common.{inr, slice_index_or, IsTrue, lit<, lit≤, unwrap_or, zero-lt-suc}
 use Rattle.std.specs.FinMap.{empty, insert, get-empty, get-insert}
 use Rattle.std.specs.FinSet as set
 use Rattle.std.specs.FinSet.{contains-insert}
@@ -9,18 +12,28 @@ use Rattle.std.proofs.lemmas.Bool.Decides.{nat_tests}
 use Rattle.std.proofs.lemmas.List.Elements.{All-nil, All-cons}
 use Rattle.std.proofs.lemmas.Int.{ints}
 use Rattle.vipr_spec.specs.Gcd.{gcd}
-use Rattle.vipr_spec.specs.Fraction.{ℚ, over, whole, zero_ℚ, ◌+ℚ◌, ◌*ℚ◌, neg_ℚ, ◌≤ℚ◌, IsWhole, ProductFits, SumFits}
-use Rattle.vipr_spec.specs.Constraint.{Profile, one, two, at_most, at_least, at, Row, Constraint, Condition, condition, IsTrueAt, Entry, pull, IsInteger, IsWholeRow, HasSense, sum_of, RoundsTo, CombinesRounded, TermsFit, SumOfFits, value, ValueFits}
-use Rattle.vipr_spec.specs.Certificate.{Named, maximum, objective_at, Reason, rnd, uns, sol, asm, constraint_at, reason_at, IsBest, IsAsGoodAt, IsFeasible, SolutionFits, IsProof, IsGoodStep, HasGoodSteps, is_live, RestsOnNothing}
+use Rattle.vipr_spec.specs.Fraction.{ℚ, over, whole, zero_ℚ, ◌+ℚ◌, ◌*ℚ◌, neg_ℚ, ◌≤ℚ◌, IsWhole}
+use Rattle.vipr_spec.specs.Fraction.{ProductFits, SumFits}
+use Rattle.vipr_spec.specs.Constraint.{Profile, one, two, at_most, at_least, at, Row, Constraint}
+use Rattle.vipr_spec.specs.Constraint.{Condition, condition, IsTrueAt, Entry, pull, IsInteger}
+use Rattle.vipr_spec.specs.Constraint.{IsWholeRow, HasSense, sum_of, RoundsTo, CombinesRounded}
+use Rattle.vipr_spec.specs.Constraint.{TermsFit, SumOfFits, value, ValueFits}
+use Rattle.vipr_spec.specs.Certificate.{Named, maximum, objective_at, Reason, rnd, uns, sol, asm}
+use Rattle.vipr_spec.specs.Certificate.{constraint_at, reason_at, IsBest, IsAsGoodAt, IsFeasible}
+use Rattle.vipr_spec.specs.Certificate.{SolutionFits, IsProof, IsGoodStep, HasGoodSteps, is_live}
+use Rattle.vipr_spec.specs.Certificate.{RestsOnNothing}
 use Rattle.vipr_spec.specs.Examples.{row, twice, first_variable, optimum}
-use Rattle.vipr_spec.proofs.Fractions.{whole-mul, whole-le, over-mul, over-le, over_same, is_neg, is_over, is_zero, le_in, le_out, le_refl_ℚ, le_of_eq_ℚ, zero-add_ℚ, add-zero_ℚ, mul-zero_ℚ, IsWhole-zero}
+use Rattle.vipr_spec.proofs.Fractions.{whole-mul, whole-le, over-mul, over-le, over_same, is_neg}
+use Rattle.vipr_spec.proofs.Fractions.{is_over, is_zero, le_in, le_out, le_refl_ℚ, le_of_eq_ℚ}
+use Rattle.vipr_spec.proofs.Fractions.{zero-add_ℚ, add-zero_ℚ, mul-zero_ℚ, IsWhole-zero}
 use Rattle.vipr_spec.proofs.Soundness.{as_good_refl}
 use Rattle.vipr_spec.proofs.Rests.{rests_out, rests_given}
 use Rattle.vipr_spec.proofs.Goals.{proof_two}
 
 -- ---- the rows
 
-at_is : (q : ℚ) (j : ℕ) → at (insert {R = nat_cmp} empty 0 q) j ≡ unwrap_or (cond (j == 0) (Some q) None) zero_ℚ
+at_is : (q : ℚ) (j : ℕ)
+    → at (insert {R = nat_cmp} empty 0 q) j ≡ unwrap_or (cond (j == 0) (Some q) None) zero_ℚ
 at_is q j = ap (λ o. unwrap_or o zero_ℚ) (get-insert nat_cmp_total empty 0 q j ∙ ap₂ (λ b o. cond b (Some q) o) (unsigned_tied j 0) (get-empty nat_cmp j))
 
 later : (j : ℕ) → (suc j == 0) ≡ false
@@ -110,7 +123,8 @@ sum_row (suc j) = add-zero_ℚ _ ∙ ap (λ a. half *ℚ a) (twice_past j) ∙ m
 sum_bound : half *ℚ whole (pos 3) +ℚ zero_ℚ ≡ over (pos 3) 2
 sum_bound = add-zero_ℚ _ ∙ over-mul (pos 1) (pos 3) 2 1 (lit< tt) (lit< tt)
 
-sum_is : sum_of (entry ∷ []) at_most ≡ record { row = at row; sense = at_most; bound = over (pos 3) 2 }
+sum_is : sum_of (entry ∷ []) at_most
+    ≡ record { row = at row; sense = at_most; bound = over (pos 3) 2 }
 sum_is = λ i. record { row = λ j. sum_row j i; sense = at_most; bound = sum_bound i }
 
 pull_below : neg_ℚ half ≤ℚ zero_ℚ
@@ -139,7 +153,8 @@ combines = (
   subst (λ (x : Condition). Rattle.vipr_spec.specs.Constraint.DominatesRounded x at_most_one) (sym sum_is) (inr (pos 1, rounds, inr (λ j. refl, inl refl, le_refl_ℚ _))),
 )
 
-one_product : (a : ℚ) → ProductFits half a → All (λ (t : ℚ × ℚ). ProductFits t.0 t.1) ((half, a) ∷ [])
+one_product : (a : ℚ) → ProductFits half a
+    → All (λ (t : ℚ × ℚ). ProductFits t.0 t.1) ((half, a) ∷ [])
 one_product a h = All-cons (λ (t : ℚ × ℚ). ProductFits t.0 t.1) (half, a) [] h (All-nil (λ (t : ℚ × ℚ). ProductFits t.0 t.1))
 
 abbrev HalfFits : ℚ → Type 0
@@ -206,7 +221,8 @@ listed = record { name = []; item = row }
 best : IsBest optimum listed
 best = ((0, lit< tt, refl), All-cons (λ t. IsAsGoodAt optimum.problem (at row) (at t.item)) listed [] (as_good_refl maximum (objective_at optimum.problem (at row))) (All-nil (λ t. IsAsGoodAt optimum.problem (at row) (at t.item))))
 
-step_cut_off : IsGoodStep one optimum 5 sol (record { row = at row; sense = at_least; bound = whole (pos 1) })
+step_cut_off : IsGoodStep one optimum 5 sol
+    (record { row = at row; sense = at_least; bound = whole (pos 1) })
 step_cut_off = record {
   earlier = tt;
   follows = (listed, best, inr (λ j. refl, inl refl, le_of_eq_ℚ _ _ (sym row_value)));
@@ -217,7 +233,8 @@ step_cut_off = record {
 step_assumed : (k : ℕ) (d : Condition) → IsGoodStep one optimum k asm d
 step_assumed k d = record { earlier = tt; follows = tt; fits = tt; references = λ i h. absurd h }
 
-by_reason : (k : ℕ) (q r : Reason) → IsGoodStep one optimum k q (constraint_at optimum k) → Some q ≡ Some r → IsGoodStep one optimum k r (constraint_at optimum k)
+by_reason : (k : ℕ) (q r : Reason) → IsGoodStep one optimum k q (constraint_at optimum k)
+    → Some q ≡ Some r → IsGoodStep one optimum k r (constraint_at optimum k)
 by_reason k q r g e = let same : q ≡ r = ap (λ o. unwrap_or o r) e in subst (λ r. IsGoodStep one optimum k r (constraint_at optimum k)) same g
 
 steps : HasGoodSteps one optimum

@@ -1,5 +1,6 @@
 -- Rows of pairs of a variable and a coefficient, and sets of variables
-use Rattle.std.proofs.Common.{◌≡◌, ◌≢◌, ℕ, ◌<◌, ◌≤◌, true, false, nat_eq, not, cond, List, [], ◌∷◌, filter, None, unwrap_or, All, pos, arith, refl, sym, ap, ◌∙◌, subst}
+use Rattle.std.proofs.Common.{◌≡◌, ◌≢◌, ℕ, ◌<◌, ◌≤◌, true, false, nat_eq, not, cond, List, [], ◌∷◌}
+use Rattle.std.proofs.Common.{filter, None, unwrap_or, All, pos, arith, refl, sym, ap, ◌∙◌, subst}
 use Rattle.std.proofs.lemmas.Bool.Decides.{nat_tests, Decides-int_eq}
 use Rattle.std.proofs.lemmas.List.Elements.{All-head, All-tail}
 use Rattle.std.proofs.lemmas.List.Folds.{Any-from_list_any}
@@ -15,7 +16,8 @@ use Rattle.vipr_spec.proofs.Fractions.{zero_numer}
 pub not_zero : (x : ℚ) → not (int_eq x.numer (pos 0)) ≡ true → x ≢ zero_ℚ
 not_zero x t e = let n = ap (λ (z : ℚ). z.numer) e ∙ zero_numer in let f = (Decides-int_eq x.numer (pos 0)).1 n in cc
 
-not_found : (n j : ℕ) → n ≤ j → (ps : List (ℕ × ℚ)) → All (λ p. p.0 < n) ps → find nat_cmp j (filter is_nonzero ps) ≡ None
+not_found : (n j : ℕ) → n ≤ j → (ps : List (ℕ × ℚ)) → All (λ p. p.0 < n) ps
+    → find nat_cmp j (filter is_nonzero ps) ≡ None
 not_found n j h [] a = refl
 not_found n j h (p ∷ ps) a =
     let small : p.0 < n = All-head (λ (p : ℕ × ℚ). p.0 < n) p ps a in
@@ -34,7 +36,8 @@ same_number : (x j n : ℕ) → nat_eq x j ≡ true → x < n → j < n
 same_number x j n e h = grind (arith, nat_tests)
 
 -- the set of variables below n has no other
-pub set_below : (n : ℕ) (is : List ℕ) → All (λ i. i < n) is → (j : ℕ) → IsInteger (from_list is) j → j < n
+pub set_below : (n : ℕ) (is : List ℕ) → All (λ i. i < n) is → (j : ℕ) → IsInteger (from_list is) j
+    → j < n
 set_below n is a j h =
     let m = Any-from_list_any (λ y. nat_eq y j) is (sym (contains-from_list_nat is j) ∙ h) in
     same_number m.1 j n m.4 (subst (λ i. i < n) m.3 (a m.0 m.1 m.2))

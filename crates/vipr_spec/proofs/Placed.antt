@@ -2,7 +2,8 @@
 use Rattle.std.proofs.Common.{◌≡◌, ℕ, zero, suc, ◌+◌, List, [], ◌∷◌, ◌++◌, map, length}
 use Rattle.std.proofs.Common.{slice_index_or, Some, None, refl, sym, ◌∙◌, ap}
 use Rattle.std.proofs.lemmas.List.{get_or-append-add, length-map}
-use Rattle.vipr_spec.specs.Certificate.{Derivation, Certificate, Known, given_constraint, derived_constraint}
+use Rattle.vipr_spec.specs.Certificate.{Derivation, Certificate, Known, given_constraint}
+use Rattle.vipr_spec.specs.Certificate.{derived_constraint}
 use Rattle.vipr_spec.specs.Certificate.{no_constraint, reason_at}
 
 pub at_place : {A X : Type 0} (f : A → X) (cs : List A) (ys : List X) (j : ℕ) (d : X)
@@ -10,7 +11,8 @@ pub at_place : {A X : Type 0} (f : A → X) (cs : List A) (ys : List X) (j : ℕ
 at_place f cs ys j d = ap (λ n. slice_index_or (map f cs ++ ys) (n + j) d) (sym (length-map cs f))
     ∙ get_or-append-add (map f cs) ys j d
 
-reasons : (ds : List Derivation) (j : ℕ) → (slice_index_or (map derived_constraint ds) j no_constraint).reason
+reasons : (ds : List Derivation) (j : ℕ)
+    → (slice_index_or (map derived_constraint ds) j no_constraint).reason
     ≡ slice_index_or (map (λ d. Some d.reason) ds) j None
 reasons [] j = refl
 reasons (d ∷ ds) zero = refl

@@ -1,30 +1,43 @@
 -- Where constraints, reasons and references stand in a certificate with what is kept alone
-use Rattle.std.proofs.Common.{◌≡◌, ◌≢◌, ℕ, zero, suc, ◌+◌, ◌-◌, ◌<◌, ◌≤◌, Bool, true, nat_lt, List, [], ◌∷◌, ◌++◌, map, length, slice_index_or, filter, Option, Some, None, Contains, arith, refl, sym, ◌∙◌, ap, subst, inl, inr, ⊎_elim, le-leb, lt-ltb}
+use Rattle.std.proofs.Common.{◌≡◌, ◌≢◌, ℕ, zero, suc, ◌+◌, ◌-◌, ◌<◌, ◌≤◌, Bool, true, nat_lt, List}
+use Rattle.std.proofs.Common.{[], ◌∷◌, ◌++◌, map, length, slice_index_or, filter, Option, Some}
+use Rattle.std.proofs.Common.{None, Contains, arith, refl, sym, ◌∙◌, ap, subst, inl, inr, ⊎_elim}
+use Rattle.std.proofs.Common.{le-leb, lt-ltb}
 use Rattle.std.proofs.lemmas.Bool.{and_from, or_right, cases_lt}
 use Rattle.std.proofs.lemmas.List.{get_or_append_left, length-map}
 use Rattle.vipr_spec.specs.Fraction.{ℚ, zero_ℚ}
 use Rattle.vipr_spec.specs.Constraint.{condition}
-use Rattle.vipr_spec.specs.Certificate.{Reason, asm, lin, rnd, uns, sol, Derivation, Certificate, constraint_at, reason_at, last_at, no_constraint, is_assumption, lasts_to, is_live, RefersTo, count}
-use Rattle.vipr_spec.specs.Tightened.{kept_of, new_index, renumbered_entries, renumbered_reason, renumbered_at, with_new_indices, with_last_references, with_kept}
+use Rattle.vipr_spec.specs.Certificate.{Reason, asm, lin, rnd, uns, sol, Derivation, Certificate}
+use Rattle.vipr_spec.specs.Certificate.{constraint_at, reason_at, last_at, no_constraint}
+use Rattle.vipr_spec.specs.Certificate.{is_assumption, lasts_to, is_live, RefersTo, count}
+use Rattle.vipr_spec.specs.Tightened.{kept_of, new_index, renumbered_entries, renumbered_reason}
+use Rattle.vipr_spec.specs.Tightened.{renumbered_at, with_new_indices, with_last_references}
+use Rattle.vipr_spec.specs.Tightened.{with_kept}
 use Rattle.vipr_spec.specs.Reading.{is_nonzero}
-use Rattle.vipr_spec.proofs.Kept.{map_with, length_with, index_mono, index_same, old_index, kept_map, length_kept, kept_at}
+use Rattle.vipr_spec.proofs.Kept.{map_with, length_with, index_mono, index_same, old_index}
+use Rattle.vipr_spec.proofs.Kept.{kept_map, length_kept, kept_at}
 use Rattle.vipr_spec.proofs.Prefix.{constraints_listed, reasons_listed, lasts_listed}
-use Rattle.vipr_spec.proofs.SmallerSums.{Contains-filter, Contains-filter_back, Contains-map, Contains-map_back, is_not_zero, not_zero_is}
+use Rattle.vipr_spec.proofs.SmallerSums.{Contains-filter, Contains-filter_back, Contains-map}
+use Rattle.vipr_spec.proofs.SmallerSums.{Contains-map_back, is_not_zero, not_zero_is}
 use Rattle.vipr_spec.proofs.References.{reason_in, last_in, last_then, last_names}
 use Rattle.vipr_spec.proofs.Placed.{at_place, reason_placed}
 
 -- ---- reasons under new indices
 
-pub entry_new : (new : ℕ → ℕ) (es : List (ℕ × ℚ)) (e : ℕ × ℚ) → Contains es e → e.1 ≢ zero_ℚ → Contains (renumbered_entries new es) (new e.0, e.1)
+pub entry_new : (new : ℕ → ℕ) (es : List (ℕ × ℚ)) (e : ℕ × ℚ) → Contains es e → e.1 ≢ zero_ℚ
+    → Contains (renumbered_entries new es) (new e.0, e.1)
 entry_new new es e h n = Contains-map (λ (e : ℕ × ℚ). (new e.0, e.1)) (filter is_nonzero es) e (Contains-filter is_nonzero es e h (not_zero_is e.1 n))
 
-pub entry_old : (new : ℕ → ℕ) (es : List (ℕ × ℚ)) (f : ℕ × ℚ) → Contains (renumbered_entries new es) f → (e : ℕ × ℚ) × Contains es e × (e.1 ≢ zero_ℚ) × ((new e.0, e.1) ≡ f)
+pub entry_old : (new : ℕ → ℕ) (es : List (ℕ × ℚ)) (f : ℕ × ℚ)
+    → Contains (renumbered_entries new es) f
+    → (e : ℕ × ℚ) × Contains es e × (e.1 ≢ zero_ℚ) × ((new e.0, e.1) ≡ f)
 entry_old new es f h =
     let r = Contains-map_back (λ (e : ℕ × ℚ). (new e.0, e.1)) (filter is_nonzero es) f h in
     let s = Contains-filter_back is_nonzero es r.0 r.1 in
     (r.0, s.0, is_not_zero r.0.1 s.1, r.2)
 
-pub refers_new : (new : ℕ → ℕ) (r : Option Reason) (i : ℕ) → RefersTo r i → RefersTo (renumbered_at new r) (new i)
+pub refers_new : (new : ℕ → ℕ) (r : Option Reason) (i : ℕ) → RefersTo r i
+    → RefersTo (renumbered_at new r) (new i)
 refers_new new None i h = h
 refers_new new (Some asm) i h = h
 refers_new new (Some (lin es)) i h = (h.0, entry_new new es (i, h.0) h.1 h.2, h.2)
@@ -35,10 +48,13 @@ refers_new new (Some (uns i1 l1 i2 l2)) i (inr (inr (inl e))) = inr (inr (inl (a
 refers_new new (Some (uns i1 l1 i2 l2)) i (inr (inr (inr e))) = inr (inr (inr (ap new e)))
 refers_new new (Some sol) i h = h
 
-refers_entry : (new : ℕ → ℕ) (es : List (ℕ × ℚ)) (p : ℕ) → (m : ℚ) × Contains (renumbered_entries new es) (p, m) × (m ≢ zero_ℚ) → (i : ℕ) × ((m : ℚ) × Contains es (i, m) × (m ≢ zero_ℚ)) × (new i ≡ p)
+refers_entry : (new : ℕ → ℕ) (es : List (ℕ × ℚ)) (p : ℕ)
+    → (m : ℚ) × Contains (renumbered_entries new es) (p, m) × (m ≢ zero_ℚ)
+    → (i : ℕ) × ((m : ℚ) × Contains es (i, m) × (m ≢ zero_ℚ)) × (new i ≡ p)
 refers_entry new es p h = let r = entry_old new es (p, h.0) h.1 in (r.0.0, (r.0.1, r.1, r.2), ap (λ (e : ℕ × ℚ). e.0) r.3)
 
-pub refers_old : (new : ℕ → ℕ) (r : Option Reason) (p : ℕ) → RefersTo (renumbered_at new r) p → (i : ℕ) × RefersTo r i × (new i ≡ p)
+pub refers_old : (new : ℕ → ℕ) (r : Option Reason) (p : ℕ) → RefersTo (renumbered_at new r) p
+    → (i : ℕ) × RefersTo r i × (new i ≡ p)
 refers_old new None p h = absurd h
 refers_old new (Some asm) p h = absurd h
 refers_old new (Some (lin es)) p h = refers_entry new es p h
@@ -51,8 +67,10 @@ refers_old new (Some sol) p h = absurd h
 
 -- ---- lists of what is given and what is derived
 
-at_new : {A X : Type 0} (keep : ℕ → Bool) (f : A → X) (d : X) (cs : List A) (ys zs : List X) → ((i : ℕ) → i < length cs → keep i ≡ true) → ys ≡ kept_of keep (length cs) zs
-    → (i : ℕ) → keep i ≡ true → slice_index_or (map f cs ++ ys) (new_index keep i) d ≡ slice_index_or (map f cs ++ zs) i d
+at_new : {A X : Type 0} (keep : ℕ → Bool) (f : A → X) (d : X) (cs : List A) (ys zs : List X)
+    → ((i : ℕ) → i < length cs → keep i ≡ true) → ys ≡ kept_of keep (length cs) zs
+    → (i : ℕ) → keep i ≡ true
+    → slice_index_or (map f cs ++ ys) (new_index keep i) d ≡ slice_index_or (map f cs ++ zs) i d
 at_new keep f d cs ys zs given e i k = ⊎_elim
     (λ (l : i < length cs).
     let same : new_index keep i ≡ i = index_same keep (length cs) given i (omega arith) in
@@ -72,18 +90,23 @@ at_new keep f d cs ys zs given e i k = ⊎_elim
     (cases_lt i (length cs))
 
 option_out : (new : ℕ → ℕ) (A : Type 0) (cs : List A) (ds : List Derivation) (i : ℕ)
-    → slice_index_or (map (λ (a : A). None) cs ++ map (λ d. Some (renumbered_reason new d.reason)) ds) i None ≡ renumbered_at new (slice_index_or (map (λ a. None) cs ++ map (λ d. Some d.reason) ds) i None)
+    → slice_index_or
+    (map (λ (a : A). None) cs ++ map (λ d. Some (renumbered_reason new d.reason)) ds) i None
+    ≡ renumbered_at new
+    (slice_index_or (map (λ a. None) cs ++ map (λ d. Some d.reason) ds) i None)
 option_out new A [] [] i = refl
 option_out new A [] (d ∷ ds) zero = refl
 option_out new A [] (d ∷ ds) (suc i) = option_out new A [] ds i
 option_out new A (a ∷ cs) ds zero = refl
 option_out new A (a ∷ cs) ds (suc i) = option_out new A cs ds i
 
-map_map : {A B C : Type 0} (f : A → B) (g : B → C) (xs : List A) → map g (map f xs) ≡ map (λ x. g (f x)) xs
+map_map : {A B C : Type 0} (f : A → B) (g : B → C) (xs : List A)
+    → map g (map f xs) ≡ map (λ x. g (f x)) xs
 map_map f g [] = refl
 map_map f g (x ∷ xs) = ap (λ l. g (f x) ∷ l) (map_map f g xs)
 
-given_none : {A : Type 0} (cs : List A) (ys : List (Option ℕ)) (i : ℕ) → i < length cs → slice_index_or (map (λ a. None) cs ++ ys) i None ≡ None
+given_none : {A : Type 0} (cs : List A) (ys : List (Option ℕ)) (i : ℕ) → i < length cs
+    → slice_index_or (map (λ a. None) cs ++ ys) i None ≡ None
 given_none [] ys i h = absurd (omega arith)
 given_none (x ∷ cs) ys zero h = refl
 given_none (x ∷ cs) ys (suc i) h = given_none cs ys i (omega arith)

@@ -1,12 +1,15 @@
 -- Two certificates that are proofs under profile two, and none under profile one
-use Rattle.std.proofs.Common.{◌≡◌, ◌≢◌, ℕ, zero, suc, Some, ℤ, pos, ◌+ℤ◌, ◌≤ℤ◌, ◌⊎◌, IsTrue, arith, refl, sym, ◌∙◌, ap, subst, inl, inr, lit<, unwrap_or}
+use Rattle.std.proofs.Common.{◌≡◌, ◌≢◌, ℕ, zero, suc, Some, ℤ, pos, ◌+ℤ◌, ◌≤ℤ◌, ◌⊎◌, IsTrue, arith}
+use Rattle.std.proofs.Common.{refl, sym, ◌∙◌, ap, subst, inl, inr, lit<, unwrap_or}
 use Rattle.std.specs.Ordering.{nat_cmp}
 use Rattle.std.specs.FinMap.{get-empty}
 use Rattle.std.proofs.lemmas.List.Elements.{All-nil}
 use Rattle.std.proofs.lemmas.Int.{ints}
 use Rattle.vipr_spec.specs.Fraction.{over, whole, zero_ℚ, ◌≤ℚ◌}
-use Rattle.vipr_spec.specs.Constraint.{one, two, at_most, at_least, Condition, RoundsTo, IsAbsurd, IsSplit}
-use Rattle.vipr_spec.specs.Certificate.{Reason, asm, uns, constraint_at, IsProof, IsGoodStep, HasGoodSteps, is_live, RestsOnNothing, MeetsBound}
+use Rattle.vipr_spec.specs.Constraint.{one, two, at_most, at_least, Condition, RoundsTo, IsAbsurd}
+use Rattle.vipr_spec.specs.Constraint.{IsSplit}
+use Rattle.vipr_spec.specs.Certificate.{Reason, asm, uns, constraint_at, IsProof, IsGoodStep}
+use Rattle.vipr_spec.specs.Certificate.{HasGoodSteps, is_live, RestsOnNothing, MeetsBound}
 use Rattle.vipr_spec.specs.Examples.{first_variable, rounded_bound, split_at_half}
 use Rattle.vipr_spec.proofs.Fractions.{over-le, le_of_whole, le_of_eq_ℚ, le_refl_ℚ}
 use Rattle.vipr_spec.proofs.Optimum.{whole_row, row_first}
@@ -59,7 +62,8 @@ bound_two = record {
     no_steps zero r e = absurd (cc)
     no_steps (suc k) r e = absurd (cc)
 
-not_dominated : ¬ MeetsBound one rounded_bound.problem (constraint_at rounded_bound 0) (whole (pos 1))
+not_dominated : ¬ MeetsBound one rounded_bound.problem (constraint_at rounded_bound 0)
+    (whole (pos 1))
 not_dominated (inl a) = one_not_zero (sym row_first ∙ a.0 0)
 not_dominated (inr d) = one_above_half d.2
 
@@ -97,7 +101,9 @@ joined = record {
 assumes : (k : ℕ) (d : Condition) → IsGoodStep two split_at_half k asm d
 assumes k d = record { earlier = tt; follows = tt; fits = tt; references = λ i h. absurd h }
 
-by_reason : (k : ℕ) (q r : Reason) → IsGoodStep two split_at_half k q (constraint_at split_at_half k) → Some q ≡ Some r → IsGoodStep two split_at_half k r (constraint_at split_at_half k)
+by_reason : (k : ℕ) (q r : Reason)
+    → IsGoodStep two split_at_half k q (constraint_at split_at_half k) → Some q ≡ Some r
+    → IsGoodStep two split_at_half k r (constraint_at split_at_half k)
 by_reason k q r g e = let same : q ≡ r = ap (λ o. unwrap_or o r) e in subst (λ r. IsGoodStep two split_at_half k r (constraint_at split_at_half k)) same g
 
 steps : HasGoodSteps two split_at_half
@@ -119,7 +125,8 @@ split_two = record {
   dual = λ _. (0, (lit< tt, given_nothing, absurdity));
 }
 
-not_split : ¬ IsSplit one first_variable (constraint_at split_at_half 1) (constraint_at split_at_half 2)
+not_split : ¬ IsSplit one first_variable (constraint_at split_at_half 1)
+    (constraint_at split_at_half 2)
 not_split (inl c) = half_not_whole c.bounds.0 c.bounds.1
 not_split (inr c) = half_not_whole c.bounds.0 c.bounds.1
 

@@ -1,10 +1,14 @@
 -- What a reason refers to, as it is tested, and the last references
-use Rattle.std.proofs.Common.{◌≡◌, ◌≢◌, ℕ, zero, suc, ◌+◌, ◌<◌, ◌≤◌, Bool, true, false, cond, ◌&&◌, ◌||◌, nat_eq, List, [], ◌∷◌, map, length, slice_index_or, Option, Some, None, Contains, arith, refl, sym, ap, ap₂, subst, inl, inr, ⊎_elim, eq-eqb, eqb-true}
+use Rattle.std.proofs.Common.{◌≡◌, ◌≢◌, ℕ, zero, suc, ◌+◌, ◌<◌, ◌≤◌, Bool, true, false, cond, ◌&&◌}
+use Rattle.std.proofs.Common.{◌||◌, nat_eq, List, [], ◌∷◌, map, length, slice_index_or, Option}
+use Rattle.std.proofs.Common.{Some, None, Contains, arith, refl, sym, ap, ap₂, subst, inl, inr}
+use Rattle.std.proofs.Common.{⊎_elim, eq-eqb, eqb-true}
 use Rattle.std.specs.List.{list_any}
 use Rattle.std.proofs.lemmas.Bool.{and_parts, and_from, or_cases, or_left, or_right}
 use Rattle.std.proofs.lemmas.List.Folds.{Any-from_list_any, list_any-from_Any}
 use Rattle.vipr_spec.specs.Fraction.{ℚ, zero_ℚ}
-use Rattle.vipr_spec.specs.Certificate.{Reason, asm, lin, rnd, uns, sol, Derivation, NamesEarlier, RefersTo}
+use Rattle.vipr_spec.specs.Certificate.{Reason, asm, lin, rnd, uns, sol, Derivation, NamesEarlier}
+use Rattle.vipr_spec.specs.Certificate.{RefersTo}
 use Rattle.vipr_spec.specs.Tightened.{refers_to, or_else, last_reference, with_last_references}
 use Rattle.vipr_spec.specs.Reading.{is_nonzero}
 use Rattle.vipr_spec.proofs.SmallerSums.{is_not_zero, not_zero_is, Any-contains, Any-of}
@@ -13,14 +17,16 @@ use Rattle.std.proofs.lemmas.List.Elements.{All-contains}
 
 -- ---- the test
 
-entry_true : (es : List (ℕ × ℚ)) (i : ℕ) → list_any (λ e. nat_eq i e.0 && is_nonzero e) es ≡ true → (m : ℚ) × Contains es (i, m) × (m ≢ zero_ℚ)
+entry_true : (es : List (ℕ × ℚ)) (i : ℕ) → list_any (λ e. nat_eq i e.0 && is_nonzero e) es ≡ true
+    → (m : ℚ) × Contains es (i, m) × (m ≢ zero_ℚ)
 entry_true es i t =
     let r = Any-contains (λ (e : ℕ × ℚ). (nat_eq i e.0 && is_nonzero e) ≡ true) es (Any-from_list_any (λ (e : ℕ × ℚ). nat_eq i e.0 && is_nonzero e) es t) in
     let both = and_parts (nat_eq i r.0.0) (is_nonzero r.0) r.2 in
     let same : (r.0.0, r.0.1) ≡ (i, r.0.1) = ap (λ n. (n, r.0.1)) (sym (eqb-true i r.0.0 both.0)) in
     (r.0.1, subst (Contains es) same r.1, is_not_zero r.0.1 both.1)
 
-entry_from : (es : List (ℕ × ℚ)) (i : ℕ) (m : ℚ) → Contains es (i, m) → m ≢ zero_ℚ → list_any (λ e. nat_eq i e.0 && is_nonzero e) es ≡ true
+entry_from : (es : List (ℕ × ℚ)) (i : ℕ) (m : ℚ) → Contains es (i, m) → m ≢ zero_ℚ
+    → list_any (λ e. nat_eq i e.0 && is_nonzero e) es ≡ true
 entry_from es i m h n =
     list_any-from_Any (λ (e : ℕ × ℚ). nat_eq i e.0 && is_nonzero e) es
     (Any-of (λ (e : ℕ × ℚ). (nat_eq i e.0 && is_nonzero e) ≡ true) es (i, m) h (and_from (nat_eq i i) (is_nonzero (i, m)) (eq-eqb i i refl) (not_zero_is m n)))
@@ -70,7 +76,8 @@ abbrev pub last_in : List Derivation → ℕ → Option ℕ
 last_in ds j = slice_index_or (map (λ d. d.last) ds) j None
 
 -- the last reference is one
-pub last_is : (k : ℕ) (ds : List Derivation) (i l : ℕ) → last_reference k ds i ≡ Some l → (j : ℕ) × (l ≡ k + j) × (j < length ds) × RefersTo (reason_in ds j) i
+pub last_is : (k : ℕ) (ds : List Derivation) (i l : ℕ) → last_reference k ds i ≡ Some l
+    → (j : ℕ) × (l ≡ k + j) × (j < length ds) × RefersTo (reason_in ds j) i
 last_is k [] i l e = absurd (cc)
 last_is k (d ∷ ds) i l e = by (λ l. last_is (suc k) ds i l) (last_reference (suc k) ds i) refl (refers_to d.reason i) refl e
   where
@@ -82,7 +89,8 @@ last_is k (d ∷ ds) i l e = by (λ l. last_is (suc k) ds i l) (last_reference (
     by rest (Some n) f b t e = let same : n ≡ l = cc in let r = rest n f in (suc r.0, let q = r.1 in omega arith, let q = r.2 in omega arith, r.3)
 
 -- none refers to i after the last reference
-last_after : (k : ℕ) (ds : List Derivation) (i j : ℕ) → RefersTo (reason_in ds j) i → (l : ℕ) × (last_reference k ds i ≡ Some l) × (k + j ≤ l)
+last_after : (k : ℕ) (ds : List Derivation) (i j : ℕ) → RefersTo (reason_in ds j) i
+    → (l : ℕ) × (last_reference k ds i ≡ Some l) × (k + j ≤ l)
 last_after k [] i j h = absurd h
 last_after k (d ∷ ds) i zero h = by (last_reference (suc k) ds i) refl
   where
@@ -93,7 +101,8 @@ last_after k (d ∷ ds) i (suc j) h = let r = last_after (suc k) ds i j h in (r.
 
 -- ---- derivations with their last references
 
-pub last_then : (k : ℕ) (ds : List Derivation) (i j : ℕ) → i < j → RefersTo (reason_in ds j) (k + i) → (l : ℕ) × (last_in (with_last_references k ds) i ≡ Some l) × (k + j ≤ l)
+pub last_then : (k : ℕ) (ds : List Derivation) (i j : ℕ) → i < j → RefersTo (reason_in ds j) (k + i)
+    → (l : ℕ) × (last_in (with_last_references k ds) i ≡ Some l) × (k + j ≤ l)
 last_then k [] i j h r = absurd r
 last_then k (d ∷ ds) i zero h r = absurd (omega arith)
 last_then k (d ∷ ds) zero (suc j) h r = let same : k + 0 ≡ k = omega arith in let a = last_after (suc k) ds k j (subst (RefersTo (reason_in ds j)) same r) in (a.0, a.1, let q = a.2 in omega arith)
@@ -102,7 +111,9 @@ last_then k (d ∷ ds) (suc i) (suc j) h r =
     let a = last_then (suc k) ds i j (omega arith) (subst (RefersTo (reason_in ds j)) same r) in
     (a.0, a.1, let q = a.2 in omega arith)
 
-pub last_names : (k : ℕ) (ds : List Derivation) (i l : ℕ) → last_in (with_last_references k ds) i ≡ Some l → (j : ℕ) × (l ≡ k + j) × (i < j) × (j < length ds) × RefersTo (reason_in ds j) (k + i)
+pub last_names : (k : ℕ) (ds : List Derivation) (i l : ℕ)
+    → last_in (with_last_references k ds) i ≡ Some l
+    → (j : ℕ) × (l ≡ k + j) × (i < j) × (j < length ds) × RefersTo (reason_in ds j) (k + i)
 last_names k [] i l e = absurd (cc)
 last_names k (d ∷ ds) zero l e =
     let same : k ≡ k + 0 = omega arith in
@@ -114,7 +125,9 @@ last_names k (d ∷ ds) (suc i) l e =
     (suc r.0, let q = r.1 in omega arith, let q = r.2 in omega arith, let q = r.3 in omega arith, subst (RefersTo (reason_in ds r.0)) same r.4)
 
 -- they depend on the reasons alone
-same_reference : (k : ℕ) (ds es : List Derivation) (i : ℕ) → map (λ d. d.reason) ds ≡ map (λ d. d.reason) es → last_reference k ds i ≡ last_reference k es i
+same_reference : (k : ℕ) (ds es : List Derivation) (i : ℕ)
+    → map (λ d. d.reason) ds ≡ map (λ d. d.reason) es
+    → last_reference k ds i ≡ last_reference k es i
 same_reference k [] [] i e = refl
 same_reference k [] (f ∷ fs) i e = absurd (cc)
 same_reference k (d ∷ ds) [] i e = absurd (cc)
@@ -123,7 +136,8 @@ same_reference k (d ∷ ds) (f ∷ fs) i e =
     let tail : map (λ (d : Derivation). d.reason) ds ≡ map (λ (d : Derivation). d.reason) fs = cc in
     ap₂ (λ o r. or_else o (cond (refers_to r i) (Some k) None)) (same_reference (suc k) ds fs i tail) head
 
-pub with_again : (k : ℕ) (ds : List Derivation) → with_last_references k (with_last_references k ds) ≡ with_last_references k ds
+pub with_again : (k : ℕ) (ds : List Derivation)
+    → with_last_references k (with_last_references k ds) ≡ with_last_references k ds
 with_again k [] = refl
 with_again k (d ∷ ds) =
     ap₂ (λ l xs. record d { last = l } ∷ xs) (same_reference (suc k) (with_last_references (suc k) ds) ds k (map_with (λ d. d.reason) (λ d l. refl) (suc k) ds)) (with_again (suc k) ds)

@@ -3,10 +3,13 @@ use Rattle.std.proofs.Common.{◌≡◌, ℕ, suc, List, [], ◌∷◌, ◌++◌
 use Rattle.std.specs.Prelude.{◌↔◌}
 use Rattle.vipr_spec.specs.Constraint.{Profile, Row, condition}
 use Rattle.vipr_spec.specs.Certificate.{Named, Problem, Derivation, Certificate, MeetsPrimal, count}
-use Rattle.vipr_spec.specs.Reading.{Rest, Fault, problem_read, solution_read, derivations_read, derivation_read, end_read}
+use Rattle.vipr_spec.specs.Reading.{Rest, Fault, problem_read, solution_read, derivations_read}
+use Rattle.vipr_spec.specs.Reading.{derivation_read, end_read}
 use Rattle.vipr_spec.specs.Steps.{with_next, StepTest, PassesStep, step_tests, FirstFailing}
-use Rattle.vipr_spec.specs.Tests.{SolutionTest, PassesSolution, solution_tests, of_solution, spelled, meets_primal, of_step, meets_dual, Passes}
-use Rattle.vipr_spec.specs.Verdict.{Report, Reports, Answer, verified, answer_of_test, IsAnswerOfTest, Answers, IsAnswer}
+use Rattle.vipr_spec.specs.Tests.{SolutionTest, PassesSolution, solution_tests, of_solution}
+use Rattle.vipr_spec.specs.Tests.{spelled, meets_primal, of_step, meets_dual, Passes}
+use Rattle.vipr_spec.specs.Verdict.{Report, Reports, Answer, verified, answer_of_test}
+use Rattle.vipr_spec.specs.Verdict.{IsAnswerOfTest, Answers, IsAnswer}
 use Rattle.vipr_spec.specs.Progress.{derivations_from, solutions_from}
 use Rattle.vipr_spec.proofs.Told as known
 

@@ -1,12 +1,17 @@
 -- What is reported, and that a text has one answer, with one detail
-use Rattle.std.proofs.Common.{◌≡◌, ℕ, Option, Some, None, MatchOption, arith, refl, sym, ◌∙◌, ap, subst, unwrap_or}
+use Rattle.std.proofs.Common.{◌≡◌, ℕ, Option, Some, None, MatchOption, arith, refl, sym, ◌∙◌, ap}
+use Rattle.std.proofs.Common.{subst, unwrap_or}
 use Rattle.std.specs.Prelude.{IsSome}
 use Rattle.vipr_spec.specs.Constraint.{Profile, condition}
-use Rattle.vipr_spec.specs.Certificate.{Derivation, Certificate, known_at, constraint_at, NeedsGoal, IsGoal, GoalIs}
+use Rattle.vipr_spec.specs.Certificate.{Derivation, Certificate, known_at, constraint_at, NeedsGoal}
+use Rattle.vipr_spec.specs.Certificate.{IsGoal, GoalIs}
 use Rattle.vipr_spec.specs.Reading.{Rest, Fault, refused, unread}
 use Rattle.vipr_spec.specs.Steps.{before, PassesStep, step_tests, FirstFailing, IsGoodNext}
-use Rattle.vipr_spec.specs.Tests.{Test, spelled, of_solution, meets_primal, of_step, meets_dual, Passes, Detail, step, no_primal, Explains}
-use Rattle.vipr_spec.specs.Verdict.{Found, found_in, Report, Reports, Answer, verified, answer_of_test, IsAnswerOfTest, Answers, IsAnswer, IsExplainedBy, Explained, IsExplained}
+use Rattle.vipr_spec.specs.Tests.{Test, spelled, of_solution, meets_primal, of_step, meets_dual}
+use Rattle.vipr_spec.specs.Tests.{Passes, Detail, step, no_primal, Explains}
+use Rattle.vipr_spec.specs.Verdict.{Found, found_in, Report, Reports, Answer, verified}
+use Rattle.vipr_spec.specs.Verdict.{answer_of_test, IsAnswerOfTest, Answers, IsAnswer}
+use Rattle.vipr_spec.specs.Verdict.{IsExplainedBy, Explained, IsExplained}
 use Rattle.vipr_spec.proofs.Details.{shows_once}
 use Rattle.vipr_spec.proofs.Goals.{goal_needed}
 use Rattle.vipr_spec.proofs.FirstFailing.{failing_unique}
@@ -14,22 +19,28 @@ use Rattle.vipr_spec.proofs.StepTests.{no_test_fails}
 
 -- ---- the goal
 
-pub goal_met : (P : Profile) (c : Certificate) (goal : Option ℕ) → GoalIs P c goal → (NeedsGoal c.problem c.problem.claim → IsSome goal) → Passes P c meets_dual × MatchOption goal (¬ NeedsGoal c.problem c.problem.claim) (IsGoal P c)
+pub goal_met : (P : Profile) (c : Certificate) (goal : Option ℕ) → GoalIs P c goal
+    → (NeedsGoal c.problem c.problem.claim → IsSome goal)
+    → Passes P c meets_dual × MatchOption goal (¬ NeedsGoal c.problem c.problem.claim) (IsGoal P c)
 goal_met P c None g h = (λ n. absurd (cc (h n)), λ n. absurd (cc (h n)))
 goal_met P c (Some k) g h = (λ n. (k, g.0), g)
 
-pub goal_missed : (P : Profile) (c : Certificate) → GoalIs P c None → NeedsGoal c.problem c.problem.claim → ¬ Passes P c meets_dual
+pub goal_missed : (P : Profile) (c : Certificate) → GoalIs P c None
+    → NeedsGoal c.problem c.problem.claim → ¬ Passes P c meets_dual
 goal_missed P c g n p = let q = p n in g q.0 q.1
 
 -- ---- one report
 
-same_goal : (P : Profile) (c : Certificate) (g h : Option ℕ) → MatchOption g (¬ NeedsGoal c.problem c.problem.claim) (IsGoal P c) → MatchOption h (¬ NeedsGoal c.problem c.problem.claim) (IsGoal P c) → g ≡ h
+same_goal : (P : Profile) (c : Certificate) (g h : Option ℕ)
+    → MatchOption g (¬ NeedsGoal c.problem c.problem.claim) (IsGoal P c)
+    → MatchOption h (¬ NeedsGoal c.problem c.problem.claim) (IsGoal P c) → g ≡ h
 same_goal P c None None p q = refl
 same_goal P c None (Some k) p q = absurd (p (goal_needed P c k q.0))
 same_goal P c (Some k) None p q = absurd (q (goal_needed P c k p.0))
 same_goal P c (Some k) (Some l) p q = let a = p.1 l q.0 in let b = q.1 k p.0 in ap Some (omega arith)
 
-pub one_report : (P : Profile) (c : Certificate) (x y : Report) → Reports P c x → Reports P c y → x ≡ y
+pub one_report : (P : Profile) (c : Certificate) (x y : Report) → Reports P c x → Reports P c y
+    → x ≡ y
 one_report P c x y p q =
     let claims = p.claim ∙ sym q.claim in
     let solutions = p.solutions ∙ sym q.solutions in
@@ -40,7 +51,8 @@ one_report P c x y p q =
 
 -- ---- one answer
 
-pub one_answer_found : (P : Profile) (f : Found) (a b : Answer) → Answers P f a → Answers P f b → a ≡ b
+pub one_answer_found : (P : Profile) (f : Found) (a b : Answer) → Answers P f a → Answers P f b
+    → a ≡ b
 one_answer_found P f a b p q = by p.0 p.2 (subst (λ t. IsAnswerOfTest P f.certificate t b) (failing_unique (Passes P f.certificate) f.tests q.0 p.0 q.1 p.1) q.2)
   where
     by : (t : Option Test) → IsAnswerOfTest P f.certificate t a → IsAnswerOfTest P f.certificate t b → a ≡ b
@@ -52,7 +64,8 @@ one_answer P r a b p q = one_answer_found P (found_in r) a b p q
 
 -- ---- one detail
 
-pub explains_once : (c : Certificate) (t : Test) (x y : Detail) → Explains c t x → Explains c t y → x ≡ y
+pub explains_once : (c : Certificate) (t : Test) (x y : Detail) → Explains c t x → Explains c t y
+    → x ≡ y
 explains_once c (spelled f) x y h k = h ∙ sym k
 explains_once c (of_solution i s t) x y h k = h ∙ sym k
 explains_once c meets_primal x y h k = let e : h.0 ≡ k.0 = ap (λ o. unwrap_or o h.0) (sym h.1 ∙ k.1) in h.2 ∙ ap no_primal e ∙ sym k.2
@@ -60,14 +73,16 @@ explains_once c (of_step k t) x y h l = h.2 ∙ ap (step (known_at c k).name) (s
 explains_once c meets_dual x y h k = h ∙ sym k
 
 -- the answer is the first part of an explained one
-pub answer_explained : (P : Profile) (f : Found) (a : Answer) (x : Detail) → Explained P f a x → Answers P f a
+pub answer_explained : (P : Profile) (f : Found) (a : Answer) (x : Detail) → Explained P f a x
+    → Answers P f a
 answer_explained P f a x h = by h.0 h.1 h.2
   where
     by : (t : Option Test) → FirstFailing (Passes P f.certificate) f.tests t → IsExplainedBy P f.certificate t a x → Answers P f a
     by None p q = (None, p, q.0)
     by (Some t) p q = (Some t, p, q.0)
 
-pub one_detail : (P : Profile) (r : Rest) (a b : Answer) (x y : Detail) → IsExplained P r a x → IsExplained P r b y → (a ≡ b) × (x ≡ y)
+pub one_detail : (P : Profile) (r : Rest) (a b : Answer) (x y : Detail) → IsExplained P r a x
+    → IsExplained P r b y → (a ≡ b) × (x ≡ y)
 one_detail P r a b x y p q = (
   one_answer P r a b (answer_explained P (found_in r) a x p) (answer_explained P (found_in r) b y q),
   by p.0 p.2 (subst (λ t. IsExplainedBy P (found_in r).certificate t b y) (failing_unique (Passes P (found_in r).certificate) (found_in r).tests q.0 p.0 q.1 p.1) q.2),
@@ -92,5 +107,7 @@ known_not_verified meets_dual report e = cc
 
 -- ---- the next derivation
 
-pub next_good : (P : Profile) (c : Certificate) (d : Derivation) → FirstFailing (PassesStep P c (condition d.stated)) (step_tests d.reason) None → IsGoodNext P c d
+pub next_good : (P : Profile) (c : Certificate) (d : Derivation)
+    → FirstFailing (PassesStep P c (condition d.stated)) (step_tests d.reason) None
+    → IsGoodNext P c d
 next_good P c d h = (no_test_fails P c (condition d.stated) d.reason).0 h

@@ -1,18 +1,27 @@
 -- A proof with what is kept alone is a proof, where what is referred to is kept
-use Rattle.std.proofs.Common.{◌≡◌, ◌≢◌, ℕ, ◌<◌, ◌≤◌, ◌⊎◌, Bool, true, false, List, [], ◌∷◌, map, length, filter, Option, Some, None, All, Contains, arith, refl, sym, ◌∙◌, ap, ap₂, subst, inl, inr, ⊎_elim}
+use Rattle.std.proofs.Common.{◌≡◌, ◌≢◌, ℕ, ◌<◌, ◌≤◌, ◌⊎◌, Bool, true, false, List, [], ◌∷◌, map}
+use Rattle.std.proofs.Common.{length, filter, Option, Some, None, All, Contains, arith, refl, sym}
+use Rattle.std.proofs.Common.{◌∙◌, ap, ap₂, subst, inl, inr, ⊎_elim}
 use Rattle.std.proofs.lemmas.Bool.{cases_Bool, cases_lt}
 use Rattle.std.proofs.lemmas.List.Elements.{All-contains, Contains-get_or}
 use Rattle.vipr_spec.specs.Fraction.{ℚ, zero_ℚ}
 use Rattle.vipr_spec.specs.Constraint.{Profile, Condition, SumOfFits, Combines, CombinesRounded}
-use Rattle.vipr_spec.specs.Certificate.{Reason, asm, lin, rnd, uns, sol, Certificate, constraint_at, reason_at, Brings, RestsOn, itself, brought, entries, NamesEarlier, FollowsBy, StepFits, IsGoodStep, HasGoodSteps, RefersTo, MeetsDual, NeedsGoal, count, ProvesDual, IsProof}
+use Rattle.vipr_spec.specs.Certificate.{Reason, asm, lin, rnd, uns, sol, Certificate, constraint_at}
+use Rattle.vipr_spec.specs.Certificate.{reason_at, Brings, RestsOn, itself, brought, entries}
+use Rattle.vipr_spec.specs.Certificate.{NamesEarlier, FollowsBy, StepFits, IsGoodStep, HasGoodSteps}
+use Rattle.vipr_spec.specs.Certificate.{RefersTo, MeetsDual, NeedsGoal, count, ProvesDual, IsProof}
 use Rattle.vipr_spec.specs.Steps.{RefersBack}
-use Rattle.vipr_spec.specs.Tightened.{new_index, renumbered_entries, renumbered_reason, renumbered_at, with_kept}
+use Rattle.vipr_spec.specs.Tightened.{new_index, renumbered_entries, renumbered_reason}
+use Rattle.vipr_spec.specs.Tightened.{renumbered_at, with_kept}
 use Rattle.vipr_spec.specs.Reading.{is_nonzero}
 use Rattle.vipr_spec.proofs.Prefix.{reason_past, is_derived}
 use Rattle.vipr_spec.proofs.Kept.{index_lt, index_injective}
-use Rattle.vipr_spec.proofs.SmallerSums.{is_there, is_not_zero, not_zero_is, filter_yes, filter_no, Contains-head, Contains-tail, smaller_combines, smaller_rounds, smaller_fits}
+use Rattle.vipr_spec.proofs.SmallerSums.{is_there, is_not_zero, not_zero_is, filter_yes, filter_no}
+use Rattle.vipr_spec.proofs.SmallerSums.{Contains-head, Contains-tail, smaller_combines}
+use Rattle.vipr_spec.proofs.SmallerSums.{smaller_rounds, smaller_fits}
 use Rattle.vipr_spec.proofs.References.{refers_earlier}
-use Rattle.vipr_spec.proofs.Places.{entry_new, entry_old, refers_new, refers_old, constraint_new, reason_new, count_new, old_of, live_new}
+use Rattle.vipr_spec.proofs.Places.{entry_new, entry_old, refers_new, refers_old, constraint_new}
+use Rattle.vipr_spec.proofs.Places.{reason_new, count_new, old_of, live_new}
 
 All-of : {A : Type 0} (P : A → Type 0) (xs : List A) → ((x : A) → Contains xs x → P x) → All P xs
 All-of P xs f k d h = f _ (Contains-get_or xs k d h)
@@ -27,7 +36,8 @@ asm_back new (Some (rnd es)) e = absurd (cc)
 asm_back new (Some (uns i1 l1 i2 l2)) e = absurd (cc)
 asm_back new (Some sol) e = absurd (cc)
 
-some_back : (new : ℕ → ℕ) (q : Option Reason) (r : Reason) → renumbered_at new q ≡ Some r → (o : Reason) × (q ≡ Some o) × (renumbered_reason new o ≡ r)
+some_back : (new : ℕ → ℕ) (q : Option Reason) (r : Reason) → renumbered_at new q ≡ Some r
+    → (o : Reason) × (q ≡ Some o) × (renumbered_reason new o ≡ r)
 some_back new None r e = absurd (cc)
 some_back new (Some o) r e = (o, refl, cc)
 

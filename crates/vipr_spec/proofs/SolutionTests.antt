@@ -1,17 +1,22 @@
 -- All tests of a listed solution pass exactly where it is feasible and fits
-use Rattle.std.proofs.Common.{◌≡◌, ℕ, ◌<◌, Bool, true, false, cond, List, [], ◌∷◌, map, filter, length, slice_index_or, All, None, ◌++◌, arith, refl, sym, ◌∙◌, subst}
+use Rattle.std.proofs.Common.{◌≡◌, ℕ, ◌<◌, Bool, true, false, cond, List, [], ◌∷◌, map, filter}
+use Rattle.std.proofs.Common.{length, slice_index_or, All, None, ◌++◌, arith, refl, sym, ◌∙◌, subst}
 use Rattle.std.specs.Prelude.{◌↔◌, flat_map}
 use Rattle.std.specs.List.{range_with_len}
 use Rattle.std.specs.FinSet.{contains}
 use Rattle.std.specs.FinMap.{empty}
 use Rattle.std.proofs.lemmas.List.{get_or-map}
 use Rattle.std.proofs.lemmas.List.FromFn.{length-range_with_len, get_or-range_with_len}
-use Rattle.std.proofs.lemmas.List.Elements.{All-nil, All-cons, All-head, All-tail, All-append, All-map, All-get_or, All-weaker, filter_passes}
+use Rattle.std.proofs.lemmas.List.Elements.{All-nil, All-cons, All-head, All-tail, All-append}
+use Rattle.std.proofs.lemmas.List.Elements.{All-map, All-get_or, All-weaker, filter_passes}
 use Rattle.std.proofs.Math.ListN.{length-map}
 use Rattle.vipr_spec.specs.Fraction.{zero_ℚ, IsWhole}
-use Rattle.vipr_spec.specs.Constraint.{IsInteger, Row, at, equal, condition, Constraint, IsTrueAt, ValueFits}
-use Rattle.vipr_spec.specs.Certificate.{Named, Problem, variables, integer_variables, IsFeasible, SolutionFits}
-use Rattle.vipr_spec.specs.Tests.{whole_at, value_fits, holds, objective_fits, given_at, PassesSolution, solution_tests}
+use Rattle.vipr_spec.specs.Constraint.{IsInteger, Row, at, equal, condition, Constraint, IsTrueAt}
+use Rattle.vipr_spec.specs.Constraint.{ValueFits}
+use Rattle.vipr_spec.specs.Certificate.{Named, Problem, variables, integer_variables, IsFeasible}
+use Rattle.vipr_spec.specs.Certificate.{SolutionFits}
+use Rattle.vipr_spec.specs.Tests.{whole_at, value_fits, holds, objective_fits, given_at}
+use Rattle.vipr_spec.specs.Tests.{PassesSolution, solution_tests}
 use Rattle.vipr_spec.specs.Steps.{FirstFailing}
 use Rattle.vipr_spec.proofs.FirstFailing.{none_all, all_none, all_parts}
 use Rattle.vipr_spec.proofs.EachTests.{flat_all_of, flat_all}
@@ -21,7 +26,8 @@ use Rattle.vipr_spec.proofs.EachTests.{flat_all_of, flat_all}
 abbrev IfPasses : (ℕ → Type 0) → (ℕ → Bool) → ℕ → Type 0
 IfPasses P p x = p x ≡ true → P x
 
-kept_all : (P : ℕ → Type 0) (p : ℕ → Bool) (xs : List ℕ) → All P (filter p xs) → All (IfPasses P p) xs
+kept_all : (P : ℕ → Type 0) (p : ℕ → Bool) (xs : List ℕ) → All P (filter p xs)
+    → All (IfPasses P p) xs
 kept_all P p [] a = All-nil (IfPasses P p)
 kept_all P p (x ∷ xs) a = by (p x) refl (kept_all P p xs) a
   where
@@ -29,18 +35,22 @@ kept_all P p (x ∷ xs) a = by (p x) refl (kept_all P p xs) a
     by true e rest a = All-cons (IfPasses P p) x xs (λ t. All-head P x (filter p xs) a) (rest (All-tail P x (filter p xs) a))
     by false e rest a = All-cons (IfPasses P p) x xs (λ t. absurd (cc)) (rest a)
 
-each_integer : (P : ℕ → Type 0) (p : Problem) → ((j : ℕ) → IsInteger p.integers j → j < variables p) → All P (integer_variables p) → (j : ℕ) → IsInteger p.integers j → P j
+each_integer : (P : ℕ → Type 0) (p : Problem) → ((j : ℕ) → IsInteger p.integers j → j < variables p)
+    → All P (integer_variables p) → (j : ℕ) → IsInteger p.integers j → P j
 each_integer P p below a j i =
     let less : j < variables p = below j i in
     let within : j < length (range_with_len 0 (variables p)) = subst (λ n. j < n) (sym (length-range_with_len 0 (variables p))) less in
     let is : slice_index_or (range_with_len 0 (variables p)) j j ≡ j = get_or-range_with_len 0 (variables p) j j less ∙ omega arith in
     subst (λ n. IsInteger p.integers n → P n) is (kept_all P (contains p.integers) (range_with_len 0 (variables p)) a j j within) i
 
-all_integers : (P : ℕ → Type 0) (p : Problem) → ((j : ℕ) → IsInteger p.integers j → P j) → All P (integer_variables p)
+all_integers : (P : ℕ → Type 0) (p : Problem) → ((j : ℕ) → IsInteger p.integers j → P j)
+    → All P (integer_variables p)
 all_integers P p f = All-weaker (IsInteger p.integers) P f (integer_variables p) (filter_passes (contains p.integers) (range_with_len 0 (variables p)))
 
 -- ---- the constraints of the problem by index
-pub each_given : (P : Constraint → Type 0) (p : Problem) → All (λ i. P (given_at p i)) (range_with_len 0 (length p.constraints)) ↔ All (λ c. P c.item) p.constraints
+pub each_given : (P : Constraint → Type 0) (p : Problem)
+    → All (λ i. P (given_at p i)) (range_with_len 0 (length p.constraints))
+    ↔ All (λ c. P c.item) p.constraints
 each_given P p = (
   λ a k d h. subst P (item k d h) (subst (λ i. P (given_at p i)) (index k 0 h) (a k 0 (in_range k h))),
   λ a k d h. let l : k < length p.constraints = subst (λ n. k < n) (length-range_with_len 0 (length p.constraints)) h in
@@ -63,7 +73,9 @@ each_given P p = (
 abbrev MeetsOne : Problem → Row → Constraint → Type 0
 MeetsOne p s c = ValueFits (variables p) (at c.row) (at s) × IsTrueAt (variables p) (condition c) (at s)
 
-pub feasible_of_tests : (p : Problem) (s : Row) → ((j : ℕ) → IsInteger p.integers j → j < variables p) → All (PassesSolution p s) (solution_tests p) → IsFeasible p (at s) × SolutionFits p (at s)
+pub feasible_of_tests : (p : Problem) (s : Row)
+    → ((j : ℕ) → IsInteger p.integers j → j < variables p)
+    → All (PassesSolution p s) (solution_tests p) → IsFeasible p (at s) × SolutionFits p (at s)
 feasible_of_tests p s below a =
     let P = PassesSolution p s in
     let pairs = λ (i : ℕ). value_fits i ∷ holds i ∷ [] in
@@ -78,7 +90,8 @@ feasible_of_tests p s below a =
     unmapped [] b = All-nil (λ j. IsWhole (at s j))
     unmapped (j ∷ js) b = All-cons (λ j. IsWhole (at s j)) j js (All-head (PassesSolution p s) (whole_at j) (map whole_at js) b) (unmapped js (All-tail (PassesSolution p s) (whole_at j) (map whole_at js) b))
 
-pub tests_of_feasible : (p : Problem) (s : Row) → IsFeasible p (at s) → SolutionFits p (at s) → All (PassesSolution p s) (solution_tests p)
+pub tests_of_feasible : (p : Problem) (s : Row) → IsFeasible p (at s) → SolutionFits p (at s)
+    → All (PassesSolution p s) (solution_tests p)
 tests_of_feasible p s f g =
     let P = PassesSolution p s in
     let pairs = λ (i : ℕ). value_fits i ∷ holds i ∷ [] in
@@ -89,7 +102,10 @@ tests_of_feasible p s f g =
     (flat_all P pairs (λ i. MeetsOne p s (given_at p i)) (λ i m. All-cons P (value_fits i) (holds i ∷ []) m.0 (All-cons P (holds i) [] m.1 (All-nil P))) (range_with_len 0 (length p.constraints)) ((each_given (MeetsOne p s) p).1 each)))
     (All-cons P objective_fits [] g.1 (All-nil P))
 
-pub no_solution_test_fails : (p : Problem) (s : Row) → ((j : ℕ) → IsInteger p.integers j → j < variables p) → FirstFailing (PassesSolution p s) (solution_tests p) None ↔ (IsFeasible p (at s) × SolutionFits p (at s))
+pub no_solution_test_fails : (p : Problem) (s : Row)
+    → ((j : ℕ) → IsInteger p.integers j → j < variables p)
+    → FirstFailing (PassesSolution p s) (solution_tests p) None
+    ↔ (IsFeasible p (at s) × SolutionFits p (at s))
 no_solution_test_fails p s below = (
   λ f. feasible_of_tests p s below (none_all (PassesSolution p s) (solution_tests p) f),
   λ g. all_none (PassesSolution p s) (solution_tests p) (tests_of_feasible p s g.0 g.1),

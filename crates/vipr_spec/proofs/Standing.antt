@@ -1,17 +1,28 @@
 -- A refusal before the end stands whatever follows the tokens read
-use Rattle.std.proofs.Common.{◌≡◌, ◌≢◌, ℕ, zero, suc, ◌+◌, ◌≤◌, arith, ◌⊎◌, List, [], ◌∷◌, ◌++◌, length, Option, Some, None, Result, Ok, Err, refl, sym, ◌∙◌, ap, subst, append_assoc, append-nil, length-append, inl, inr}
+use Rattle.std.proofs.Common.{◌≡◌, ◌≢◌, ℕ, zero, suc, ◌+◌, ◌≤◌, arith, ◌⊎◌, List, [], ◌∷◌, ◌++◌}
+use Rattle.std.proofs.Common.{length, Option, Some, None, Result, Ok, Err, refl, sym, ◌∙◌, ap}
+use Rattle.std.proofs.Common.{subst, append_assoc, append-nil, length-append, inl, inr}
 use Rattle.std.specs.Prelude.{◌↔◌}
 use Rattle.vipr_spec.specs.Causes as cause
 use Rattle.vipr_spec.specs.Constraint.{Profile, Row, condition}
 use Rattle.vipr_spec.specs.Certificate.{Named, Problem, Derivation, Certificate, MeetsPrimal, count}
 use Rattle.vipr_spec.specs.Tokens.{Token}
-use Rattle.vipr_spec.specs.Reading.{Rest, Fault, refused, unread, Read, ◌>>=◌, most_count, problem_read, solution_read, derivations_read, derivation_read, end_read}
+use Rattle.vipr_spec.specs.Reading.{Rest, Fault, refused, unread, Read, ◌>>=◌, most_count}
+use Rattle.vipr_spec.specs.Reading.{problem_read, solution_read, derivations_read, derivation_read}
+use Rattle.vipr_spec.specs.Reading.{end_read}
 use Rattle.vipr_spec.specs.GrammarLaws.{Reads}
 use Rattle.vipr_spec.specs.FaultLaws.{IsRefusedAt, EndsEarly, FaultsRemain}
-use Rattle.vipr_spec.specs.Steps.{with_more, with_next, StepTest, PassesStep, step_tests, step_cause, FirstFailing}
-use Rattle.vipr_spec.specs.Tests.{SolutionTest, PassesSolution, solution_tests, solution_cause, of_solution, Test, spelled, meets_primal, of_step, meets_dual, Passes, numbered_tests, tests_of_solution, tests_of_derivation}
-use Rattle.vipr_spec.specs.Verdict.{items_read, before_items, Found, last_tests, derivations_found, ending_found, found_in, Place, at_byte, at_solution, at_derivation, at_end, Refusal, Answer, refuses, cut_short, answer_of_test, IsAnswerOfTest, Answers, IsAnswer}
-use Rattle.vipr_spec.specs.RefusalLaws.{EndsAtByte, EndsInDerivations, EndsInSolutions, EndsAt, IsRefusedBy}
+use Rattle.vipr_spec.specs.Steps.{with_more, with_next, StepTest, PassesStep, step_tests}
+use Rattle.vipr_spec.specs.Steps.{step_cause, FirstFailing}
+use Rattle.vipr_spec.specs.Tests.{SolutionTest, PassesSolution, solution_tests, solution_cause}
+use Rattle.vipr_spec.specs.Tests.{of_solution, Test, spelled, meets_primal, of_step, meets_dual}
+use Rattle.vipr_spec.specs.Tests.{Passes, numbered_tests, tests_of_solution, tests_of_derivation}
+use Rattle.vipr_spec.specs.Verdict.{items_read, before_items, Found, last_tests, derivations_found}
+use Rattle.vipr_spec.specs.Verdict.{ending_found, found_in, Place, at_byte, at_solution}
+use Rattle.vipr_spec.specs.Verdict.{at_derivation, at_end, Refusal, Answer, refuses, cut_short}
+use Rattle.vipr_spec.specs.Verdict.{answer_of_test, IsAnswerOfTest, Answers, IsAnswer}
+use Rattle.vipr_spec.specs.RefusalLaws.{EndsAtByte, EndsInDerivations, EndsInSolutions, EndsAt}
+use Rattle.vipr_spec.specs.RefusalLaws.{IsRefusedBy}
 use Rattle.vipr_spec.specs.Progress.{derivations_from, solutions_from}
 use Rattle.vipr_spec.proofs.FirstFailing.{failing_parts, failing_unmap}
 use Rattle.vipr_spec.proofs.Steps.{tests_next}
@@ -20,7 +31,10 @@ use Rattle.vipr_spec.proofs.GrammarDerivations.{reads_derivations, reads_derivat
 use Rattle.vipr_spec.proofs.GrammarWhole.{few_constraints_read}
 use Rattle.vipr_spec.proofs.GrammarItemFaults.{item_faults}
 use Rattle.vipr_spec.proofs.Told as known
-use Rattle.vipr_spec.proofs.Remains.{problem_fault, problem_ok, solution_fault, solution_passes, solution_fails, solutions_unmet, derivations_fault, derivations_begin, derivation_fault, derivation_passes, derivation_fails, end_fault}
+use Rattle.vipr_spec.proofs.Remains.{problem_fault, problem_ok, solution_fault, solution_passes}
+use Rattle.vipr_spec.proofs.Remains.{solution_fails, solutions_unmet, derivations_fault}
+use Rattle.vipr_spec.proofs.Remains.{derivations_begin, derivation_fault, derivation_passes}
+use Rattle.vipr_spec.proofs.Remains.{derivation_fails, end_fault}
 
 -- ---- an item is read from its own tokens
 
@@ -29,7 +43,8 @@ pub record IsRead {A : Type 0} (read : Rest → Read A) (r s : Rest) (x : A) : T
   pub joined : r.tokens ≡ front ++ s.tokens
   pub again : (q : Rest) (more : List Token) → q.tokens ≡ front ++ more → read q ≡ Ok (x, record q { tokens = more })
 
-is_read : {A : Type 0} {read : Rest → Read A} {S : A → List (List ℕ) → Type 0} → Reads read S → (r s : Rest) (x : A) → read r ≡ Ok (x, s) → IsRead read r s x
+is_read : {A : Type 0} {read : Rest → Read A} {S : A → List (List ℕ) → Type 0} → Reads read S
+    → (r s : Rest) (x : A) → read r ≡ Ok (x, s) → IsRead read r s x
 is_read law r s x e = let t = (law r s x).0 e in record {
   front = t.front;
   joined = ap (λ (q : Rest). q.tokens) t.joined;
@@ -45,11 +60,14 @@ IsBeforeEnd x = (x.cause ≢ cause.truncated) × (x.cause ≢ cause.no_proof)
 same_refusal : (x y : Refusal) → refuses x ≡ refuses y → x ≡ y
 same_refusal x y e = cc
 
-byte_later : (ts front back : List Token) (o : ℕ) → ts ≡ front ++ back → EndsAtByte back o → EndsAtByte ts o
+byte_later : (ts front back : List Token) (o : ℕ) → ts ≡ front ++ back → EndsAtByte back o
+    → EndsAtByte ts o
 byte_later ts front back o j e = (front ++ e.0, e.1, j ∙ ap (λ ts. front ++ ts) e.2 ∙ sym (append_assoc front e.0 (e.1 ∷ [])), e.3)
 
 -- an item more, at the front
-item_more : {A : Type 0} (item : Rest → Read A) (n : ℕ) (q t : Rest) (x : A) (xs : List A) (s : Rest) → item q ≡ Ok (x, t) → items_read item n t ≡ (xs, Ok s) → items_read item (suc n) q ≡ (x ∷ xs, Ok s)
+item_more : {A : Type 0} (item : Rest → Read A) (n : ℕ) (q t : Rest) (x : A) (xs : List A)
+    (s : Rest) → item q ≡ Ok (x, t) → items_read item n t ≡ (xs, Ok s)
+    → items_read item (suc n) q ≡ (x ∷ xs, Ok s)
 unfolding items_read
 item_more item n q t x xs s e f = ap (before_items (items_read item n)) e ∙ ap (λ (o : List _ × Result Rest Fault). (x ∷ o.0, o.1)) f
 
@@ -58,7 +76,8 @@ unfolding items_read
 no_items item q = refl
 
 -- what ends in the derivations that follow one ends in those from it on
-derivation_later : (c : Certificate) (d : Derivation) (n : ℕ) (q t : Rest) (front : List Token) (place : Place) → q.tokens ≡ front ++ t.tokens → derivation_read c.problem q ≡ Ok (d, t)
+derivation_later : (c : Certificate) (d : Derivation) (n : ℕ) (q t : Rest) (front : List Token)
+    (place : Place) → q.tokens ≡ front ++ t.tokens → derivation_read c.problem q ≡ Ok (d, t)
     → EndsInDerivations (with_next c d) n t place → EndsInDerivations c (suc n) q place
 derivation_later c d n q t front (at_byte o) j e h = byte_later q.tokens front t.tokens o j h
 derivation_later c d n q t front (at_derivation k) j e (m, l, is, (xs, s, f, z)) = (suc m, omega arith, is ∙ count_one, (d ∷ xs, s, item_more (derivation_read c.problem) (suc m) q t d xs s e f, z))
@@ -68,7 +87,8 @@ derivation_later c d n q t front (at_derivation k) j e (m, l, is, (xs, s, f, z))
 derivation_later c d n q t front (at_solution i) j e h = h
 derivation_later c d n q t front at_end j e h = h
 
-solution_later : (p : Problem) (x : Named Row) (i n : ℕ) (q t : Rest) (front : List Token) (place : Place) → q.tokens ≡ front ++ t.tokens → solution_read p q ≡ Ok (x, t)
+solution_later : (p : Problem) (x : Named Row) (i n : ℕ) (q t : Rest) (front : List Token)
+    (place : Place) → q.tokens ≡ front ++ t.tokens → solution_read p q ≡ Ok (x, t)
     → EndsInSolutions p (suc i) n t place → EndsInSolutions p i (suc n) q place
 solution_later p x i n q t front (at_byte o) j e h = byte_later q.tokens front t.tokens o j h
 solution_later p x i n q t front (at_solution k) j e (m, l, is, (xs, s, f, z)) = (suc m, omega arith, is ∙ one_more, (x ∷ xs, s, item_more (solution_read p) (suc m) q t x xs s e f, z))
@@ -78,8 +98,11 @@ solution_later p x i n q t front (at_solution k) j e (m, l, is, (xs, s, f, z)) =
 solution_later p x i n q t front (at_derivation k) j e (ss, s, f, d, u, g, m, l, is, h) = (x ∷ ss, s, item_more (solution_read p) n q t x ss s e f, d, u, g, m, l, is, h)
 solution_later p x i n q t front at_end j e (xs, s, f, z) = (x ∷ xs, s, item_more (solution_read p) n q t x xs s e f, z)
 
-derivations_later : (p : Problem) (ss : List (Named Row)) (i d : ℕ) (q t : Rest) (front : List Token) (place : Place) → q.tokens ≡ front ++ t.tokens → derivations_read p q ≡ Ok (d, t)
-    → EndsInDerivations (record { problem = p; solutions = ss; derivations = [] }) d t place → EndsInSolutions p i 0 q place
+derivations_later : (p : Problem) (ss : List (Named Row)) (i d : ℕ) (q t : Rest)
+    (front : List Token) (place : Place) → q.tokens ≡ front ++ t.tokens
+    → derivations_read p q ≡ Ok (d, t)
+    → EndsInDerivations (record { problem = p; solutions = ss; derivations = [] }) d t place
+    → EndsInSolutions p i 0 q place
 derivations_later p ss i d q t front (at_byte o) j e h = byte_later q.tokens front t.tokens o j h
 derivations_later p ss i d q t front (at_derivation k) j e (m, l, is, h) = ([], q, no_items (solution_read p) q, d, t, e, m, l, is ∙ none_before, h)
   where
@@ -88,7 +111,9 @@ derivations_later p ss i d q t front (at_derivation k) j e (m, l, is, h) = ([], 
 derivations_later p ss i d q t front (at_solution k) j e h = absurd h
 derivations_later p ss i d q t front at_end j e h = absurd h
 
-problem_later : (p : Problem) (n : ℕ) (q t : Rest) (front : List Token) (place : Place) → q.tokens ≡ front ++ t.tokens → problem_read q ≡ Ok ((p, n), t) → EndsInSolutions p 0 n t place → EndsAt q place
+problem_later : (p : Problem) (n : ℕ) (q t : Rest) (front : List Token) (place : Place)
+    → q.tokens ≡ front ++ t.tokens → problem_read q ≡ Ok ((p, n), t) → EndsInSolutions p 0 n t place
+    → EndsAt q place
 problem_later p n q t front (at_byte o) j e h = byte_later q.tokens front t.tokens o j h
 problem_later p n q t front (at_solution k) j e h = (p, n, t, e, h)
 problem_later p n q t front (at_derivation k) j e h = (p, n, t, e, h)

@@ -15,7 +15,8 @@ use Rattle.vipr_spec.proofs.GrammarWhole.{sections}
 abbrev listed : (Problem × ℕ) × Rest → Read (Problem × List (Named Row))
 listed p = read_each (solution_read p.0.0) p.0.1 p.1 >>= λ ss. Ok ((p.0.0, ss.0), ss.1)
 
-front_read : (r s : Rest) (p : Problem) (ss : List (Named Row)) → ReadsFront (problem p then solutions (variables p) ss) r s
+front_read : (r s : Rest) (p : Problem) (ss : List (Named Row))
+    → ReadsFront (problem p then solutions (variables p) ss) r s
     → (problem_read r >>= listed) ≡ Ok ((p, ss), s)
 front_read r s p ss t =
     let a = parted t in let sol = parted a.after in let count = parted sol.after in
@@ -23,15 +24,18 @@ front_read r s p ss t =
     (ok_then _ (repeated_complete (solution_read p) (solution (variables p)) (reads_solution p) ss count.at s count.after) refl)
 
 stated_read : (bytes : List ℕ) (p : Problem) (ss : List (Named Row)) (st : States bytes p ss)
-    → ReadsFront (problem p then solutions (variables p) ss) (whole_text bytes) (record (whole_text bytes) { tokens = st.1 })
+    → ReadsFront (problem p then solutions (variables p) ss) (whole_text bytes)
+    (record (whole_text bytes) { tokens = st.1 })
 stated_read bytes p ss st = record { front = st.0; joined = ap (λ ts. record (whole_text bytes) { tokens = ts }) st.2; short = st.3; shape = st.4 }
 
-pub one_problem : (bytes : List ℕ) (p q : Problem) (ss tt : List (Named Row)) → States bytes p ss → States bytes q tt → (q ≡ p) × (tt ≡ ss)
+pub one_problem : (bytes : List ℕ) (p q : Problem) (ss tt : List (Named Row)) → States bytes p ss
+    → States bytes q tt → (q ≡ p) × (tt ≡ ss)
 one_problem bytes p q ss tt h k =
     let e = same_ok (sym (front_read _ _ p ss (stated_read bytes p ss h)) ∙ front_read _ _ q tt (stated_read bytes q tt k)) in
     (ap (λ x. x.0.0) (sym e), ap (λ x. x.0.1) (sym e))
 
-pub spelled_states : (bytes : List ℕ) (c : Certificate) → Spells bytes c → States bytes c.problem c.solutions
+pub spelled_states : (bytes : List ℕ) (c : Certificate) → Spells bytes c
+    → States bytes c.problem c.solutions
 spelled_states bytes c s =
     let t : ReadsFront (sections c) (whole_text bytes) (record (whole_text bytes) { tokens = [] }) =
     record { front = text_tokens bytes; joined = ap (λ ts. record (whole_text bytes) { tokens = ts }) (sym (append-nil (text_tokens bytes))); short = s.short; shape = s.sections } in
@@ -40,5 +44,6 @@ spelled_states bytes c s =
     (f.front, b.at.tokens, ap (λ (q : Rest). q.tokens) f.joined, f.short, f.shape)
 
 -- what a text spells is of the problem that it states
-pub spelled_only : (bytes : List ℕ) (c : Certificate) → Spells bytes c → StatesOnly bytes c.problem c.solutions
+pub spelled_only : (bytes : List ℕ) (c : Certificate) → Spells bytes c
+    → StatesOnly bytes c.problem c.solutions
 spelled_only bytes c s = record { this = spelled_states bytes c s; no_other = λ q tt k. one_problem bytes c.problem q c.solutions tt (spelled_states bytes c s) k }

@@ -1,17 +1,24 @@
 -- All tests of a step pass exactly where it is good
-use Rattle.std.proofs.Common.{◌≡◌, ◌≢◌, ℕ, ◌<◌, ◌⊎◌, Bool, true, false, List, [], ◌∷◌, ◌++◌, slice_index_or, None, pos, All, Contains, arith, refl, sym, ◌∙◌, ap, subst, append_assoc, inl, inr, zero-lt-suc, append-nil, lit<}
+use Rattle.std.proofs.Common.{◌≡◌, ◌≢◌, ℕ, ◌<◌, ◌⊎◌, Bool, true, false, List, [], ◌∷◌, ◌++◌}
+use Rattle.std.proofs.Common.{slice_index_or, None, pos, All, Contains, arith, refl, sym, ◌∙◌, ap}
+use Rattle.std.proofs.Common.{subst, append_assoc, inl, inr, zero-lt-suc, append-nil, lit<}
 use Rattle.std.specs.Prelude.{◌↔◌, flat_map, IsTrue, not, if◌then◌else◌}
 use Rattle.std.specs.List.{AllByRecursion as ByRecursion}
 use Rattle.std.specs.Ordering.{int_eq}
 use Rattle.std.proofs.lemmas.Bool.Decides.{Decides-int_eq}
 use Rattle.std.proofs.lemmas.Int.{ints}
 use Rattle.std.proofs.lemmas.List.{map-append}
-use Rattle.std.proofs.lemmas.List.Elements.{All-from_recursion, recursion_from_All, All-nil, All-cons, All-head, All-tail, All-append, All-weaker, All-contains, Contains-get_or}
+use Rattle.std.proofs.lemmas.List.Elements.{All-from_recursion, recursion_from_All, All-nil}
+use Rattle.std.proofs.lemmas.List.Elements.{All-cons, All-head, All-tail, All-append, All-weaker}
+use Rattle.std.proofs.lemmas.List.Elements.{All-contains, Contains-get_or}
 use Rattle.vipr_spec.specs.Fraction.{ℚ, zero_ℚ}
 use Rattle.vipr_spec.specs.Constraint.{Profile, Sense, Condition, Entry, HasSense, SumOfFits}
-use Rattle.vipr_spec.specs.Certificate.{Reason, asm, lin, rnd, uns, sol, Certificate, constraint_at, entries, is_live, count, IsGoodStep}
+use Rattle.vipr_spec.specs.Certificate.{Reason, asm, lin, rnd, uns, sol, Certificate, constraint_at}
+use Rattle.vipr_spec.specs.Certificate.{entries, is_live, count, IsGoodStep}
 use Rattle.vipr_spec.specs.Reading.{is_nonzero}
-use Rattle.vipr_spec.specs.Steps.{StepTest, earlier, live, suitable, fitting, roundable, listed, by_sum, by_rounding, PassesStep, reference_tests, entry_tests, sum_tests, step_tests, FirstFailing}
+use Rattle.vipr_spec.specs.Steps.{StepTest, earlier, live, suitable, fitting, roundable, listed}
+use Rattle.vipr_spec.specs.Steps.{by_sum, by_rounding, PassesStep, reference_tests, entry_tests}
+use Rattle.vipr_spec.specs.Steps.{sum_tests, step_tests, FirstFailing}
 use Rattle.vipr_spec.proofs.Fractions.{is_zero, Is, zero_from_numer}
 use Rattle.vipr_spec.proofs.MoreEntries.{suitable_front, fitting_front}
 use Rattle.vipr_spec.proofs.FirstFailing.{none_all, all_none, all_parts}
@@ -21,7 +28,8 @@ use Rattle.vipr_spec.proofs.EachTests.{flat_all_of, flat_all}
 numer_zero : (x : ℚ) → x ≡ zero_ℚ → x.numer ≡ pos 0
 numer_zero x e = let z = subst (λ z. Is z (pos 0) 1) (sym e) (is_zero 1 (zero-lt-suc 0)) in let c = z.cross in omega (arith, ints)
 
-pub nonzero_or_zero : (e : ℕ × ℚ) → ((is_nonzero e ≡ true) × (e.1 ≢ zero_ℚ)) ⊎ ((is_nonzero e ≡ false) × (e.1 ≡ zero_ℚ))
+pub nonzero_or_zero : (e : ℕ × ℚ)
+    → ((is_nonzero e ≡ true) × (e.1 ≢ zero_ℚ)) ⊎ ((is_nonzero e ≡ false) × (e.1 ≡ zero_ℚ))
 nonzero_or_zero e = by (int_eq e.1.numer (pos 0)) refl
   where
     by : (b : Bool) → int_eq e.1.numer (pos 0) ≡ b → ((not b ≡ true) × (e.1 ≢ zero_ℚ)) ⊎ ((not b ≡ false) × (e.1 ≡ zero_ℚ))

@@ -1,14 +1,23 @@
 -- A certificate step by step
-use Rattle.std.proofs.Common.{◌≡◌, ℕ, ◌<◌, ◌≤◌, List, [], ◌∷◌, ◌++◌, length, unwrap_or, Option, Some, None, All, arith, refl, sym, ◌∙◌, ap, subst, ⊎_elim, inl, inr}
+use Rattle.std.proofs.Common.{◌≡◌, ℕ, ◌<◌, ◌≤◌, List, [], ◌∷◌, ◌++◌, length, unwrap_or, Option}
+use Rattle.std.proofs.Common.{Some, None, All, arith, refl, sym, ◌∙◌, ap, subst, ⊎_elim, inl, inr}
 use Rattle.std.specs.Prelude.{◌↔◌}
 use Rattle.std.proofs.lemmas.Bool.{cases_lt}
 use Rattle.std.proofs.lemmas.List.Elements.{All-contains}
 use Rattle.vipr_spec.specs.Fraction.{ℚ}
 use Rattle.vipr_spec.specs.Constraint.{Profile, Condition, condition, IsTrueAt}
-use Rattle.vipr_spec.specs.Certificate.{variables, Reason, asm, lin, rnd, uns, sol, Derivation, Certificate, Known, constraint_at, reason_at, RestsOn, itself, brought, count, NamesEarlier, RefersTo, IsGoodStep, HasGoodSteps, FollowsBy}
-use Rattle.vipr_spec.specs.Steps.{with_more, with_next, before, StepTest, PassesStep, step_tests, FirstFailing, IsGoodNext, PassesSteps, RefersBack, SomeRestsOn, RestsBy}
+use Rattle.vipr_spec.specs.Certificate.{variables, Reason, asm, lin, rnd, uns, sol, Derivation}
+use Rattle.vipr_spec.specs.Certificate.{Certificate, Known, constraint_at, reason_at, RestsOn}
+use Rattle.vipr_spec.specs.Certificate.{itself, brought, count, NamesEarlier, RefersTo, IsGoodStep}
+use Rattle.vipr_spec.specs.Certificate.{HasGoodSteps, FollowsBy}
+use Rattle.vipr_spec.specs.Steps.{with_more, with_next, before, StepTest, PassesStep, step_tests}
+use Rattle.vipr_spec.specs.Steps.{FirstFailing, IsGoodNext, PassesSteps, RefersBack, SomeRestsOn}
+use Rattle.vipr_spec.specs.Steps.{RestsBy}
 use Rattle.vipr_spec.specs.Soundness.{IsTrueOf, IsSound}
-use Rattle.vipr_spec.proofs.Prefix.{known_before, known_next, reason_next, reason_given, is_derived, count_next, before_count, before_stays, before_more, known_in, Alike, holding, brings_earlier, good_alike, follows_alike, rests_alike}
+use Rattle.vipr_spec.proofs.Prefix.{known_before, known_next, reason_next, reason_given, is_derived}
+use Rattle.vipr_spec.proofs.Prefix.{count_next, before_count, before_stays, before_more, known_in}
+use Rattle.vipr_spec.proofs.Prefix.{Alike, holding, brings_earlier, good_alike, follows_alike}
+use Rattle.vipr_spec.proofs.Prefix.{rests_alike}
 use Rattle.vipr_spec.proofs.Rests.{rests_by, rests_in}
 use Rattle.vipr_spec.proofs.StepTests.{no_test_fails}
 use Rattle.vipr_spec.proofs.Soundness.{step_sound, sound_none, refers_earlier}
@@ -20,32 +29,43 @@ Fails P c k r f = FirstFailing (PassesStep P (before c k) (constraint_at c k)) (
 same_type : {A B : Type 0} → A ≡ B → A ↔ B
 same_type e = (λ a. subst (λ X. X) e a, λ b. subst (λ X. X) (sym e) b)
 
-pub tests_stay : (P : Profile) (c : Certificate) (ds : List Derivation) (k : ℕ) (r : Reason) (f : Option StepTest) → k < count c → Fails P (with_more c ds) k r f ↔ Fails P c k r f
+pub tests_stay : (P : Profile) (c : Certificate) (ds : List Derivation) (k : ℕ) (r : Reason)
+    (f : Option StepTest) → k < count c → Fails P (with_more c ds) k r f ↔ Fails P c k r f
 tests_stay P c ds k r f h = same_type (ap (λ s. FirstFailing (PassesStep P s (constraint_at (with_more c ds) k)) (step_tests r) f) (before_stays c ds k (omega arith))
     ∙ ap (λ (x : Known). FirstFailing (PassesStep P (before c k) x.stated) (step_tests r) f) (known_before c ds k h))
 
-pub tests_next : (P : Profile) (c : Certificate) (d : Derivation) (ds : List Derivation) (f : Option StepTest)
-    → Fails P (with_more c (d ∷ ds)) (count c) d.reason f ↔ FirstFailing (PassesStep P c (condition d.stated)) (step_tests d.reason) f
+pub tests_next : (P : Profile) (c : Certificate) (d : Derivation) (ds : List Derivation)
+    (f : Option StepTest)
+    → Fails P (with_more c (d ∷ ds)) (count c) d.reason f
+    ↔ FirstFailing (PassesStep P c (condition d.stated)) (step_tests d.reason) f
 tests_next P c d ds f = same_type (ap (λ s. FirstFailing (PassesStep P s (constraint_at (with_more c (d ∷ ds)) (count c))) (step_tests d.reason) f) (before_more c (d ∷ ds))
     ∙ ap (λ (x : Known). FirstFailing (PassesStep P c x.stated) (step_tests d.reason) f) (known_next c d ds))
 
 -- ---- a step of a longer certificate, and of the whole one
--- the same of two certificates in which the same is known of the constraints before it, and it states the same
-good_same : (P : Profile) (c : Certificate) (ds es : List Derivation) (k : ℕ) (r : Reason) (d e : Condition) → Alike c ds es k → d ≡ e → IsGoodStep P (holding c ds) k r d ↔ IsGoodStep P (holding c es) k r e
+-- the same of two certificates in which the same is known of the constraints before it, and it
+-- states the same
+good_same : (P : Profile) (c : Certificate) (ds es : List Derivation) (k : ℕ) (r : Reason)
+    (d e : Condition) → Alike c ds es k → d ≡ e
+    → IsGoodStep P (holding c ds) k r d ↔ IsGoodStep P (holding c es) k r e
 good_same P c ds es k r d e same q = (
   λ g. subst (IsGoodStep P (holding c es) k r) q (good_alike c ds es k same P r d g),
   λ g. good_alike c es ds k (λ i h. sym (same i h)) P r d (subst (IsGoodStep P (holding c es) k r) (sym q) g),
 )
 
-pub good_more : (P : Profile) (c : Certificate) (ds : List Derivation) (k : ℕ) (r : Reason) → k < count c
-    → IsGoodStep P (with_more c ds) k r (constraint_at (with_more c ds) k) ↔ IsGoodStep P c k r (constraint_at c k)
+pub good_more : (P : Profile) (c : Certificate) (ds : List Derivation) (k : ℕ) (r : Reason)
+    → k < count c
+    → IsGoodStep P (with_more c ds) k r (constraint_at (with_more c ds) k)
+    ↔ IsGoodStep P c k r (constraint_at c k)
 good_more P c ds k r h = good_same P c (c.derivations ++ ds) c.derivations k r _ _ (λ i l. known_before c ds i (omega arith)) (ap (λ (x : Known). x.stated) (known_before c ds k h))
 
 pub good_next : (P : Profile) (c : Certificate) (d : Derivation) (r : Reason)
-    → IsGoodStep P (with_next c d) (count c) r (constraint_at (with_next c d) (count c)) ↔ IsGoodStep P c (count c) r (condition d.stated)
+    → IsGoodStep P (with_next c d) (count c) r (constraint_at (with_next c d) (count c))
+    ↔ IsGoodStep P c (count c) r (condition d.stated)
 good_next P c d r = good_same P c (c.derivations ++ d ∷ []) c.derivations (count c) r _ _ (known_before c (d ∷ [])) (ap (λ (x : Known). x.stated) (known_next c d []))
 
-pub good_before : (P : Profile) (c : Certificate) (k : ℕ) (r : Reason) → reason_at c k ≡ Some r → FirstFailing (PassesStep P (before c k) (constraint_at c k)) (step_tests r) None ↔ IsGoodStep P c k r (constraint_at c k)
+pub good_before : (P : Profile) (c : Certificate) (k : ℕ) (r : Reason) → reason_at c k ≡ Some r
+    → FirstFailing (PassesStep P (before c k) (constraint_at c k)) (step_tests r) None
+    ↔ IsGoodStep P c k r (constraint_at c k)
 good_before P c k r e =
     let h = is_derived c k r e in
     let n : count (before c k) ≡ k = before_count c k h.0 (omega arith) in
@@ -59,7 +79,8 @@ pub steps_read : (P : Profile) (c : Certificate) → PassesSteps P c ↔ HasGood
 steps_read P c = (λ p k r e. (good_before P c k r e).0 (p k r e), λ g k r e. (good_before P c k r e).1 (g k r e))
 
 -- ---- the next step
-pub good_steps_next : (P : Profile) (c : Certificate) (d : Derivation) → HasGoodSteps P (with_next c d) ↔ (HasGoodSteps P c × IsGoodNext P c d)
+pub good_steps_next : (P : Profile) (c : Certificate) (d : Derivation)
+    → HasGoodSteps P (with_next c d) ↔ (HasGoodSteps P c × IsGoodNext P c d)
 good_steps_next P c d = (λ g. (sooner g, (good_next P c d d.reason).0 (g (count c) d.reason last)), later)
   where
     last : reason_at (with_next c d) (count c) ≡ Some d.reason
@@ -85,7 +106,8 @@ good_steps_next P c d = (λ g. (sooner g, (good_next P c d d.reason).0 (g (count
 pub good_without : (P : Profile) (c : Certificate) → c.derivations ≡ [] → HasGoodSteps P c
 good_without P c e k r q = let h = is_derived c k r q in let l = h.0 in let n = h.1 in let z : length c.derivations ≡ 0 = ap length e in absurd (omega arith)
 
-back_by : (P : Profile) (c : Certificate) → HasGoodSteps P c → (k : ℕ) (o : Option Reason) → reason_at c k ≡ o → NamesEarlier k o
+back_by : (P : Profile) (c : Certificate) → HasGoodSteps P c → (k : ℕ) (o : Option Reason)
+    → reason_at c k ≡ o → NamesEarlier k o
 back_by P c g k None e = tt
 back_by P c g k (Some r) e = (g k r e).earlier
 
@@ -105,7 +127,8 @@ module _ (c : Certificate) (ds : List Derivation) (back : RefersBack c) where
   )
 
 -- what the next derivation rests on
-rests_next_by : (c : Certificate) (d : Derivation) (a : ℕ) (r : Reason) → RefersBack c → NamesEarlier (count c) (Some r)
+rests_next_by : (c : Certificate) (d : Derivation) (a : ℕ) (r : Reason) → RefersBack c
+    → NamesEarlier (count c) (Some r)
     → RestsBy (with_next c d) (count c) (Some r) a ↔ RestsBy c (count c) (Some r) a
 rests_next_by c d a r back n = by r n
   where
@@ -128,7 +151,9 @@ rests_next_by c d a r back n = by r n
     )
     by sol n = (λ h. h, λ h. h)
 
-pub rests_next : (c : Certificate) (d : Derivation) (a : ℕ) → RefersBack c → NamesEarlier (count c) (Some d.reason) → RestsOn (with_next c d) (count c) a ↔ RestsBy c (count c) (Some d.reason) a
+pub rests_next : (c : Certificate) (d : Derivation) (a : ℕ) → RefersBack c
+    → NamesEarlier (count c) (Some d.reason)
+    → RestsOn (with_next c d) (count c) a ↔ RestsBy c (count c) (Some d.reason) a
 rests_next c d a back n = let q = rests_next_by c d a d.reason back n in (
   λ r. q.0 (rests_by (with_next c d) (count c) a (Some d.reason) (reason_next c d) r),
   λ r. rests_in (with_next c d) (count c) a (Some d.reason) (reason_next c d) (q.1 r),
@@ -142,7 +167,8 @@ rests_below c back i a (brought {j = j} b r) = let l = brings_earlier i j a (rea
 pub sound_given : (c : Certificate) (i : ℕ) → i < length c.problem.constraints → IsSound c i
 sound_given c i h = sound_none c i (reason_given c i h)
 
-pub sound_before : (c : Certificate) (ds : List Derivation) (i : ℕ) → RefersBack c → i < count c → IsSound c i → IsSound (with_more c ds) i
+pub sound_before : (c : Certificate) (ds : List Derivation) (i : ℕ) → RefersBack c → i < count c
+    → IsSound c i → IsSound (with_more c ds) i
 sound_before c ds i back h s x admitted given =
     let true_at : (k : ℕ) → k < count c → IsTrueOf (with_more c ds) k x ≡ IsTrueOf c k x = λ k l. ap (λ (y : Known). IsTrueAt (variables c.problem) y.stated x) (known_before c ds k l) in
     subst (λ X. X) (sym (true_at i h)) (s x (record { feasible = admitted.feasible; unbeaten = admitted.unbeaten }) (λ a r.
@@ -150,7 +176,8 @@ sound_before c ds i back h s x admitted given =
     subst (λ X. X) (true_at a (omega arith)) (given a ((rests_more c ds back i a h).1 r))))
 
 -- the next derivation is sound where those are that it refers to
-pub sound_next : (P : Profile) (c : Certificate) (d : Derivation) → RefersBack c → NamesEarlier (count c) (Some d.reason) → FollowsBy P c d.reason (condition d.stated)
+pub sound_next : (P : Profile) (c : Certificate) (d : Derivation) → RefersBack c
+    → NamesEarlier (count c) (Some d.reason) → FollowsBy P c d.reason (condition d.stated)
     → ((i : ℕ) → RefersTo (Some d.reason) i → IsSound c i) → IsSound (with_next c d) (count c)
 sound_next P c d back n f s =
     let q = known_next c d [] in

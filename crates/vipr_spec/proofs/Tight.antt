@@ -1,19 +1,30 @@
--- The tightened certificate is a proof with the image of the goal as goal, and each of its derivations is needed
-use Rattle.std.proofs.Common.{◌≡◌, ℕ, suc, ◌+◌, ◌<◌, ◌≤◌, ◌⊎◌, true, false, List, [], ◌∷◌, map, length, filter, Option, Some, None, IsSome, IsSomeAnd, All, arith, refl, sym, ◌∙◌, ap, ap₂, subst, inl, inr, ⊎_elim}
+-- The tightened certificate is a proof with the image of the goal as goal, and each of its
+-- derivations is needed
+use Rattle.std.proofs.Common.{◌≡◌, ℕ, suc, ◌+◌, ◌<◌, ◌≤◌, ◌⊎◌, true, false, List, [], ◌∷◌, map}
+use Rattle.std.proofs.Common.{length, filter, Option, Some, None, IsSome, IsSomeAnd, All, arith}
+use Rattle.std.proofs.Common.{refl, sym, ◌∙◌, ap, ap₂, subst, inl, inr, ⊎_elim}
 use Rattle.std.proofs.lemmas.Bool.{cases_Bool, cases_lt, both_ways}
 use Rattle.std.proofs.lemmas.List.{nil_from_length}
 use Rattle.std.proofs.lemmas.List.Elements.{All-head, All-tail}
 use Rattle.vipr_spec.specs.Fraction.{ℚ}
 use Rattle.vipr_spec.specs.Constraint.{Profile, Condition}
-use Rattle.vipr_spec.specs.Certificate.{Problem, Claim, infeasible, range, dual_bound, MeetsDual, constraint_at, Reason, asm, lin, rnd, uns, sol, Derivation, Certificate, reason_at, NamesEarlier, RefersTo, is_live, NeedsGoal, count, ProvesDual, IsProof, GoalIs, IsNeeded, the_goal, referred_to}
+use Rattle.vipr_spec.specs.Certificate.{Problem, Claim, infeasible, range, dual_bound, MeetsDual}
+use Rattle.vipr_spec.specs.Certificate.{constraint_at, Reason, asm, lin, rnd, uns, sol, Derivation}
+use Rattle.vipr_spec.specs.Certificate.{Certificate, reason_at, NamesEarlier, RefersTo, is_live}
+use Rattle.vipr_spec.specs.Certificate.{NeedsGoal, count, ProvesDual, IsProof, GoalIs, IsNeeded}
+use Rattle.vipr_spec.specs.Certificate.{the_goal, referred_to}
 use Rattle.vipr_spec.specs.Steps.{RefersBack}
-use Rattle.vipr_spec.specs.Tightened.{is_kept, kept_of, new_index, renumbered_entries, renumbered_reason, renumbered_at, with_new_indices, with_last_references, tightened_certificate, new_goal, IsNeededFor}
+use Rattle.vipr_spec.specs.Tightened.{is_kept, kept_of, new_index, renumbered_entries}
+use Rattle.vipr_spec.specs.Tightened.{renumbered_reason, renumbered_at, with_new_indices}
+use Rattle.vipr_spec.specs.Tightened.{with_last_references, tightened_certificate, new_goal}
+use Rattle.vipr_spec.specs.Tightened.{IsNeededFor}
 use Rattle.vipr_spec.specs.Reading.{is_nonzero}
 use Rattle.vipr_spec.proofs.Kept.{index_mono, index_same, kept_all}
 use Rattle.vipr_spec.proofs.SmallerSums.{filter_yes, filter_no}
 use Rattle.vipr_spec.proofs.References.{reason_in, with_again}
 use Rattle.vipr_spec.proofs.Placed.{reason_placed}
-use Rattle.vipr_spec.proofs.Marked.{none_marked, needed_derived, kept_given, kept_derived, kept_closed, kept_needed, needed_kept, goal_kept}
+use Rattle.vipr_spec.proofs.Marked.{none_marked, needed_derived, kept_given, kept_derived}
+use Rattle.vipr_spec.proofs.Marked.{kept_closed, kept_needed, needed_kept, goal_kept}
 use Rattle.vipr_spec.proofs.Places.{new_given, new_derived, old_derived, reason_new, old_of}
 use Rattle.vipr_spec.proofs.Smaller.{back_new, refers_at_new, proves_new, proves_old, smaller_proof}
 
@@ -25,7 +36,8 @@ back_of_proof P c p k = by (reason_at c k) refl
     by (Some r) e = subst (NamesEarlier k) (sym e) (p.steps k r e).earlier
 
 -- what a step of a proof refers to is live
-pub live_in_proof : (P : Profile) (c : Certificate) → IsProof P c → (k i : ℕ) → RefersTo (reason_at c k) i → is_live c k i ≡ true
+pub live_in_proof : (P : Profile) (c : Certificate) → IsProof P c → (k i : ℕ)
+    → RefersTo (reason_at c k) i → is_live c k i ≡ true
 live_in_proof P c p k i f = by (reason_at c k) refl
   where
     by : (o : Option Reason) → reason_at c k ≡ o → is_live c k i ≡ true
@@ -34,14 +46,17 @@ live_in_proof P c p k i f = by (reason_at c k) refl
 
 -- ---- a proof, and its goal
 
-goal_there : (P : Profile) (c : Certificate) (goal : Option ℕ) → IsProof P c → GoalIs P c goal → NeedsGoal c.problem c.problem.claim → (g : ℕ) × (is_kept c goal g ≡ true) × ProvesDual P c g
+goal_there : (P : Profile) (c : Certificate) (goal : Option ℕ) → IsProof P c → GoalIs P c goal
+    → NeedsGoal c.problem c.problem.claim → (g : ℕ) × (is_kept c goal g ≡ true) × ProvesDual P c g
 goal_there P c None p is n = let d = p.dual n in absurd (is d.0 d.1)
 goal_there P c (Some g) p is n = (g, goal_kept c g, is.0)
 
-pub tight_proof : (P : Profile) (c : Certificate) (goal : Option ℕ) → IsProof P c → GoalIs P c goal → IsProof P (tightened_certificate c goal)
+pub tight_proof : (P : Profile) (c : Certificate) (goal : Option ℕ) → IsProof P c → GoalIs P c goal
+    → IsProof P (tightened_certificate c goal)
 tight_proof P c goal p is = smaller_proof c (is_kept c goal) (kept_given c goal) (kept_closed c goal (back_of_proof P c p)) P p (goal_there P c goal p is)
 
-pub tight_goal : (P : Profile) (c : Certificate) (goal : Option ℕ) → RefersBack c → GoalIs P c goal → GoalIs P (tightened_certificate c goal) (new_goal c goal)
+pub tight_goal : (P : Profile) (c : Certificate) (goal : Option ℕ) → RefersBack c → GoalIs P c goal
+    → GoalIs P (tightened_certificate c goal) (new_goal c goal)
 tight_goal P c None back is = λ p d.
     let o = old_of c (is_kept c None) (kept_given c None) p d.0 in
     is o.0 (proves_old c (is_kept c None) (kept_given c None) (kept_closed c None back) P o.0 o.1 o.2 (subst (ProvesDual P (tightened_certificate c None)) (sym o.3) d))
@@ -56,14 +71,18 @@ tight_goal P c (Some g) back is = (
 
 -- ---- each derivation is needed
 
-needed_new : (c : Certificate) (g : ℕ) → RefersBack c → (i : ℕ) → IsNeeded c g i → IsNeeded (tightened_certificate c (Some g)) (new_index (is_kept c (Some g)) g) (new_index (is_kept c (Some g)) i)
+needed_new : (c : Certificate) (g : ℕ) → RefersBack c → (i : ℕ) → IsNeeded c g i → IsNeeded
+    (tightened_certificate c (Some g)) (new_index (is_kept c (Some g)) g)
+    (new_index (is_kept c (Some g)) i)
 needed_new c g back i (the_goal h) = the_goal (new_derived c (is_kept c (Some g)) (kept_given c (Some g)) g h)
 needed_new c g back i (referred_to {k = k} n r h) =
     referred_to (needed_new c g back k n)
     (refers_at_new c (is_kept c (Some g)) (kept_given c (Some g)) (kept_closed c (Some g) back) k i (needed_kept c g k back n) r)
     (new_derived c (is_kept c (Some g)) (kept_given c (Some g)) i h)
 
-pub tight_needed : (c : Certificate) (goal : Option ℕ) → RefersBack c → (p : ℕ) → length c.problem.constraints ≤ p → p < count (tightened_certificate c goal) → IsNeededFor (tightened_certificate c goal) (new_goal c goal) p
+pub tight_needed : (c : Certificate) (goal : Option ℕ) → RefersBack c → (p : ℕ)
+    → length c.problem.constraints ≤ p → p < count (tightened_certificate c goal)
+    → IsNeededFor (tightened_certificate c goal) (new_goal c goal) p
 tight_needed c None back p h l =
     let o = old_of c (is_kept c None) (kept_given c None) p l in
     let e = o.3 in
@@ -75,14 +94,17 @@ tight_needed c (Some g) back p h l =
     let low = old_derived c (is_kept c (Some g)) (kept_given c (Some g)) o.0 (omega arith) in
     subst (IsNeeded (tightened_certificate c (Some g)) (new_index (is_kept c (Some g)) g)) e (needed_new c g back o.0 (kept_needed c g o.0 low o.2))
 
-no_more : (c : Certificate) (goal : Option ℕ) → ¬ (length c.problem.constraints < count (tightened_certificate c goal)) → (tightened_certificate c goal).derivations ≡ []
+no_more : (c : Certificate) (goal : Option ℕ)
+    → ¬ (length c.problem.constraints < count (tightened_certificate c goal))
+    → (tightened_certificate c goal).derivations ≡ []
 no_more c goal n = nil_from_length (tightened_certificate c goal).derivations (⊎_elim (λ (l : 0 < length (tightened_certificate c goal).derivations). absurd (n (omega arith))) (λ (l : length (tightened_certificate c goal).derivations ≤ 0). omega arith) (cases_lt 0 (length (tightened_certificate c goal).derivations)))
 
 -- nothing is derived where there is no goal, and where the goal is given
 pub tight_none : (c : Certificate) → RefersBack c → (tightened_certificate c None).derivations ≡ []
 tight_none c back = no_more c None (λ l. tight_needed c None back (length c.problem.constraints) (omega arith) l)
 
-pub tight_given : (c : Certificate) (g : ℕ) → RefersBack c → g < length c.problem.constraints → (tightened_certificate c (Some g)).derivations ≡ []
+pub tight_given : (c : Certificate) (g : ℕ) → RefersBack c → g < length c.problem.constraints
+    → (tightened_certificate c (Some g)).derivations ≡ []
 tight_given c g back h = no_more c (Some g) (λ l.
     let m = length c.problem.constraints in
     let n = needed_derived (tightened_certificate c (Some g)) (new_index (is_kept c (Some g)) g) m (tight_needed c (Some g) back m (omega arith) l) in
@@ -100,7 +122,8 @@ IsFull (rnd es) = filter is_nonzero es ≡ es
 IsFull (uns i1 l1 i2 l2) = Unit {0}
 IsFull sol = Unit {0}
 
-all_count : (new : ℕ → ℕ) (es : List (ℕ × ℚ)) → filter is_nonzero (renumbered_entries new es) ≡ renumbered_entries new es
+all_count : (new : ℕ → ℕ) (es : List (ℕ × ℚ))
+    → filter is_nonzero (renumbered_entries new es) ≡ renumbered_entries new es
 all_count new [] = refl
 all_count new (e ∷ es) = by (all_count new es) (cases_Bool (is_nonzero e))
   where
@@ -125,12 +148,14 @@ full_at : (new : ℕ → ℕ) (q : Option Reason) (r : Reason) → renumbered_at
 full_at new None r e = absurd (cc)
 full_at new (Some q) r e = let same : renumbered_reason new q ≡ r = cc in subst IsFull same (full_new new q)
 
-pairs_same : (new : ℕ → ℕ) (n : ℕ) → ((i : ℕ) → i < n → new i ≡ i) → (es : List (ℕ × ℚ)) → All (λ e. e.0 < n) es → map (λ e. (new e.0, e.1)) es ≡ es
+pairs_same : (new : ℕ → ℕ) (n : ℕ) → ((i : ℕ) → i < n → new i ≡ i) → (es : List (ℕ × ℚ))
+    → All (λ e. e.0 < n) es → map (λ e. (new e.0, e.1)) es ≡ es
 pairs_same new n same [] a = refl
 pairs_same new n same (e ∷ es) a =
     ap₂ (λ i l. (i, e.1) ∷ l) (same e.0 (All-head (λ (e : ℕ × ℚ). e.0 < n) e es a)) (pairs_same new n same es (All-tail (λ (e : ℕ × ℚ). e.0 < n) e es a))
 
-same_reason : (new : ℕ → ℕ) (n : ℕ) → ((i : ℕ) → i < n → new i ≡ i) → (r : Reason) → NamesEarlier n (Some r) → IsFull r → renumbered_reason new r ≡ r
+same_reason : (new : ℕ → ℕ) (n : ℕ) → ((i : ℕ) → i < n → new i ≡ i) → (r : Reason)
+    → NamesEarlier n (Some r) → IsFull r → renumbered_reason new r ≡ r
 unfolding IsFull
 same_reason new n same asm h f = refl
 same_reason new n same (lin es) h f = ap (λ l. lin (map (λ (e : ℕ × ℚ). (new e.0, e.1)) l)) f ∙ ap lin (pairs_same new n same es h)
@@ -138,7 +163,9 @@ same_reason new n same (rnd es) h f = ap (λ l. rnd (map (λ (e : ℕ × ℚ). (
 same_reason new n same (uns i1 l1 i2 l2) h f = ap₂ (λ a b. uns a b (new i2) (new l2)) (same i1 h.0) (same l1 h.1) ∙ ap₂ (λ a b. uns i1 l1 a b) (same i2 h.2) (same l2 h.3)
 same_reason new n same sol h f = refl
 
-same_derivations : (new : ℕ → ℕ) (ds : List Derivation) → ((j : ℕ) (r : Reason) → j < length ds → reason_in ds j ≡ Some r → renumbered_reason new r ≡ r) → map (with_new_indices new) ds ≡ ds
+same_derivations : (new : ℕ → ℕ) (ds : List Derivation)
+    → ((j : ℕ) (r : Reason) → j < length ds → reason_in ds j ≡ Some r → renumbered_reason new r ≡ r)
+    → map (with_new_indices new) ds ≡ ds
 same_derivations new [] h = refl
 same_derivations new (d ∷ ds) h = ap₂ (λ r xs. record d { reason = r } ∷ xs) (h 0 d.reason (omega arith) refl) (same_derivations new ds (λ j r l e. h (suc j) r (omega arith) e))
 
@@ -182,15 +209,19 @@ module _ (c : Certificate) (goal : Option ℕ) (back : RefersBack c) (again : Re
       ∙ ap (with_last_references m) (same_derivations (new_index keep) t.derivations reason_stays)
       ∙ with_again m (map (with_new_indices (new_index (is_kept c goal))) (kept_of (is_kept c goal) m c.derivations)))
 
-pub tight_back : (c : Certificate) (goal : Option ℕ) → RefersBack c → RefersBack (tightened_certificate c goal)
+pub tight_back : (c : Certificate) (goal : Option ℕ) → RefersBack c
+    → RefersBack (tightened_certificate c goal)
 tight_back c goal back = back_new c (is_kept c goal) (kept_given c goal) (kept_closed c goal back) back
 
-pub tight_twice : (c : Certificate) (goal : Option ℕ) → RefersBack c → tightened_certificate (tightened_certificate c goal) (new_goal c goal) ≡ tightened_certificate c goal
+pub tight_twice : (c : Certificate) (goal : Option ℕ) → RefersBack c
+    → tightened_certificate (tightened_certificate c goal) (new_goal c goal)
+    ≡ tightened_certificate c goal
 tight_twice c goal back = tight_again c goal back (tight_back c goal back)
 
 -- ---- no goal
 
-meets_needs : (P : Profile) (p : Problem) (q : Claim) (goal : Condition) → MeetsDual P p q goal → NeedsGoal p q
+meets_needs : (P : Profile) (p : Problem) (q : Claim) (goal : Condition) → MeetsDual P p q goal
+    → NeedsGoal p q
 meets_needs P p infeasible goal m = tt
 meets_needs P p (range lower upper) goal m = some_of (dual_bound p.direction lower upper) _ m
   where
@@ -198,8 +229,10 @@ meets_needs P p (range lower upper) goal m = some_of (dual_bound p.direction low
     some_of None P h = absurd h
     some_of (Some x) P h = refl
 
-pub no_goal : (P : Profile) (c : Certificate) → IsProof P c → GoalIs P c None → ¬ NeedsGoal c.problem c.problem.claim
+pub no_goal : (P : Profile) (c : Certificate) → IsProof P c → GoalIs P c None
+    → ¬ NeedsGoal c.problem c.problem.claim
 no_goal P c p is n = let d = p.dual n in is d.0 d.1
 
-pub unneeded_goal : (P : Profile) (c : Certificate) → ¬ NeedsGoal c.problem c.problem.claim → GoalIs P c None
+pub unneeded_goal : (P : Profile) (c : Certificate) → ¬ NeedsGoal c.problem c.problem.claim
+    → GoalIs P c None
 unneeded_goal P c n k d = n (meets_needs P c.problem c.problem.claim (constraint_at c k) d.2)

@@ -1,23 +1,34 @@
 -- What the tightened certificate holds
-use Rattle.std.proofs.Common.{◌≡◌, ℕ, zero, suc, ◌+◌, ◌-◌, ◌<◌, ◌≤◌, ◌⊎◌, max, not, cond, Bool, true, false, ◌||◌, nat_lt, List, [], ◌∷◌, map, length, Option, Some, None, arith, refl, sym, ◌∙◌, ap, subst, inl, inr, ⊎_elim, le-leb, leb-true, lt-ltb}
+use Rattle.std.proofs.Common.{◌≡◌, ℕ, zero, suc, ◌+◌, ◌-◌, ◌<◌, ◌≤◌, ◌⊎◌, max, not, cond, Bool}
+use Rattle.std.proofs.Common.{true, false, ◌||◌, nat_lt, List, [], ◌∷◌, map, length, Option, Some}
+use Rattle.std.proofs.Common.{None, arith, refl, sym, ◌∙◌, ap, subst, inl, inr, ⊎_elim, le-leb}
+use Rattle.std.proofs.Common.{leb-true, lt-ltb}
 use Rattle.std.specs.List.{range_with_len, count_by, fold}
 use Rattle.std.proofs.lemmas.List.Sums.{sum_by-append}
-use Rattle.std.proofs.lemmas.Bool.{cases_Bool, cases_lt, and_parts, and_from, or_cases, or_left, or_right}
+use Rattle.std.proofs.lemmas.Bool.{cases_Bool, cases_lt, and_parts, and_from, or_cases, or_left}
+use Rattle.std.proofs.lemmas.Bool.{or_right}
 use Rattle.vipr_spec.specs.Constraint.{Profile}
-use Rattle.vipr_spec.specs.Certificate.{Reason, asm, lin, rnd, uns, sol, Certificate, reason_at, last_at, is_assumption, lasts_to, is_live, count_held, peak, RefersTo, IsProof, IsNeeded}
+use Rattle.vipr_spec.specs.Certificate.{Reason, asm, lin, rnd, uns, sol, Certificate, reason_at}
+use Rattle.vipr_spec.specs.Certificate.{last_at, is_assumption, lasts_to, is_live, count_held, peak}
+use Rattle.vipr_spec.specs.Certificate.{RefersTo, IsProof, IsNeeded}
 use Rattle.vipr_spec.specs.Tightened.{is_kept, new_index, renumbered_at, tightened_certificate}
-use Rattle.vipr_spec.proofs.Kept.{index_yes, index_no, index_mono, index_lt, index_lt_back, index_injective}
-use Rattle.vipr_spec.proofs.Marked.{back_at, needed_cases, needed_below, kept_given, kept_closed, kept_needed, needed_kept}
-use Rattle.vipr_spec.proofs.Places.{new_given, new_derived, old_derived, reason_new, length_new, old_of, last_then_new, last_is_new}
+use Rattle.vipr_spec.proofs.Kept.{index_yes, index_no, index_mono, index_lt, index_lt_back}
+use Rattle.vipr_spec.proofs.Kept.{index_injective}
+use Rattle.vipr_spec.proofs.Marked.{back_at, needed_cases, needed_below, kept_given, kept_closed}
+use Rattle.vipr_spec.proofs.Marked.{kept_needed, needed_kept}
+use Rattle.vipr_spec.proofs.Places.{new_given, new_derived, old_derived, reason_new, length_new}
+use Rattle.vipr_spec.proofs.Places.{old_of, last_then_new, last_is_new}
 use Rattle.vipr_spec.proofs.Smaller.{refers_at_new, refers_at_old}
 use Rattle.vipr_spec.proofs.Tight.{back_of_proof, live_in_proof, tight_none}
 
 -- ---- counts over ranges
 
-count_cons : (p : ℕ → Bool) (x : ℕ) (xs : List ℕ) → count_by p (x ∷ xs) ≡ cond (p x) 1 0 + count_by p xs
+count_cons : (p : ℕ → Bool) (x : ℕ) (xs : List ℕ)
+    → count_by p (x ∷ xs) ≡ cond (p x) 1 0 + count_by p xs
 count_cons p x xs = let e = sum_by-append (λ x. cond (p x) 1 0) (x ∷ []) xs in omega arith
 
-count_more : (p : ℕ → Bool) (a n b : ℕ) → a + n ≡ b → count_by p (range_with_len a (suc n)) ≡ count_by p (range_with_len a n) + cond (p b) 1 0
+count_more : (p : ℕ → Bool) (a n b : ℕ) → a + n ≡ b
+    → count_by p (range_with_len a (suc n)) ≡ count_by p (range_with_len a n) + cond (p b) 1 0
 count_more p a zero b e = let same : a ≡ b = omega arith in ap (λ x. 0 + cond (p x) 1 0) same
 count_more p a (suc n) b e =
     let rest = count_more p (a + 1) n b (omega arith) in
@@ -25,7 +36,8 @@ count_more p a (suc n) b e =
     let one = count_cons p a (range_with_len (a + 1) n) in
     omega arith
 
-count_kept : (keep : ℕ → Bool) (a n : ℕ) → new_index keep (a + n) ≡ new_index keep a + count_by keep (range_with_len a n)
+count_kept : (keep : ℕ → Bool) (a n : ℕ)
+    → new_index keep (a + n) ≡ new_index keep a + count_by keep (range_with_len a n)
 count_kept keep a zero = let same : new_index keep (a + 0) ≡ new_index keep a = ap (new_index keep) {x = a + 0} {y = a} (omega arith) in omega arith
 count_kept keep a (suc n) =
     let rest = count_kept keep a n in
@@ -33,7 +45,8 @@ count_kept keep a (suc n) =
     let same : new_index keep (a + suc n) ≡ new_index keep (suc (a + n)) = ap (new_index keep) {x = a + suc n} {y = suc (a + n)} (omega arith) in
     omega arith
 
-count_both : (p : ℕ → Bool) (a n : ℕ) → count_by p (range_with_len a n) + count_by (λ i. not (p i)) (range_with_len a n) ≡ n
+count_both : (p : ℕ → Bool) (a n : ℕ)
+    → count_by p (range_with_len a n) + count_by (λ i. not (p i)) (range_with_len a n) ≡ n
 count_both p a zero = refl
 count_both p a (suc n) =
     let rest = count_both p (a + 1) n in
@@ -47,7 +60,8 @@ count_both p a (suc n) =
     one_of false = refl
 
 -- q counts new indices and p old ones
-count_new_old : (keep p q : ℕ → Bool) (a : ℕ) → new_index keep a ≡ a → (n : ℕ) → ((i : ℕ) → a ≤ i → i < a + n → keep i ≡ true → q (new_index keep i) ≡ true → p i ≡ true)
+count_new_old : (keep p q : ℕ → Bool) (a : ℕ) → new_index keep a ≡ a → (n : ℕ)
+    → ((i : ℕ) → a ≤ i → i < a + n → keep i ≡ true → q (new_index keep i) ≡ true → p i ≡ true)
     → count_by q (range_with_len a (new_index keep (a + n) - a)) ≤ count_by p (range_with_len a n)
 count_new_old keep p q a e zero h =
     let none : new_index keep (a + 0) - a ≡ 0 = (let same : new_index keep (a + 0) ≡ new_index keep a = ap (new_index keep) {x = a + 0} {y = a} (omega arith) in omega arith) in
@@ -93,20 +107,23 @@ start_le_max : (f : ℕ → ℕ) (z a n : ℕ) → z ≤ fold max z (map f (rang
 start_le_max f z a zero = omega arith
 start_le_max f z a (suc n) = let rest = start_le_max f (max z (f a)) (a + 1) n in omega arith
 
-value_le_max : (f : ℕ → ℕ) (z a n k : ℕ) → a ≤ k → k < a + n → f k ≤ fold max z (map f (range_with_len a n))
+value_le_max : (f : ℕ → ℕ) (z a n k : ℕ) → a ≤ k → k < a + n
+    → f k ≤ fold max z (map f (range_with_len a n))
 value_le_max f z a zero k low l = absurd (omega arith)
 value_le_max f z a (suc n) k low l = ⊎_elim
     (λ (h : a < k). value_le_max f (max z (f a)) (a + 1) n k (omega arith) (omega arith))
     (λ (h : k ≤ a). let same : f k ≡ f a = ap f {x = k} {y = a} (omega arith) in let rest = start_le_max f (max z (f a)) (a + 1) n in omega arith)
     (cases_lt a k)
 
-max_le : (f : ℕ → ℕ) (z a n b : ℕ) → z ≤ b → ((k : ℕ) → a ≤ k → k < a + n → f k ≤ b) → fold max z (map f (range_with_len a n)) ≤ b
+max_le : (f : ℕ → ℕ) (z a n b : ℕ) → z ≤ b → ((k : ℕ) → a ≤ k → k < a + n → f k ≤ b)
+    → fold max z (map f (range_with_len a n)) ≤ b
 max_le f z a zero b h each = h
 max_le f z a (suc n) b h each = max_le f (max z (f a)) (a + 1) n b (let here = each a (omega arith) (omega arith) in omega arith) (λ k low l. each k (omega arith) (omega arith))
 
 -- ---- what is live
 
-assumption_new : (new : ℕ → ℕ) (q : Option Reason) → is_assumption (renumbered_at new q) ≡ is_assumption q
+assumption_new : (new : ℕ → ℕ) (q : Option Reason)
+    → is_assumption (renumbered_at new q) ≡ is_assumption q
 assumption_new new None = refl
 assumption_new new (Some asm) = refl
 assumption_new new (Some (lin es)) = refl
@@ -188,7 +205,8 @@ module _ (P : Profile) (c : Certificate) (g : ℕ) (proof : IsProof P c) where
       let same : count_held (tightened_certificate c (Some g)) (new_index keep o.0) ≡ count_held (tightened_certificate c (Some g)) p = ap (count_held (tightened_certificate c (Some g))) e in
       omega arith)
 
-pub tight_peak : (P : Profile) (c : Certificate) (goal : Option ℕ) → IsProof P c → peak (tightened_certificate c goal) ≤ peak c
+pub tight_peak : (P : Profile) (c : Certificate) (goal : Option ℕ) → IsProof P c
+    → peak (tightened_certificate c goal) ≤ peak c
 tight_peak P c None p =
     let none = tight_none c (back_of_proof P c p) in
     let same : peak (tightened_certificate c None) ≡ peak (record c { derivations = [] }) = ap (λ ds. peak (record c { derivations = ds })) none in
@@ -198,7 +216,9 @@ tight_peak P c (Some g) p = some_peak P c g p
 -- ---- how many are kept
 
 pub tight_counts : (c : Certificate) (goal : Option ℕ)
-    → length (tightened_certificate c goal).derivations + count_by (λ i. not (is_kept c goal i)) (range_with_len (length c.problem.constraints) (length c.derivations)) ≡ length c.derivations
+    → length (tightened_certificate c goal).derivations + count_by (λ i. not (is_kept c goal i))
+    (range_with_len (length c.problem.constraints) (length c.derivations))
+    ≡ length c.derivations
 tight_counts c goal =
     let m = length c.problem.constraints in
     let keep = is_kept c goal in

@@ -131,7 +131,8 @@ below_most : (n : ℕ) → n ≤ most_count → (o : Option ℕ) → IfSome o (�
 below_most n h None l = tt
 below_most n h (Some i) l = le_trans (le_of_lt l) h
 
-pub can_write : (c : Certificate) (goal : Option ℕ) → CanWrite c → CanWrite (tightened_certificate c goal)
+pub can_write : (c : Certificate) (goal : Option ℕ) → CanWrite c
+    → CanWrite (tightened_certificate c goal)
 can_write c goal w =
     let n = variables c.problem in
     let size = count_kept c goal in

@@ -1,15 +1,19 @@
 -- Laws of the tokens of a text.
-use Rattle.std.proofs.Common.{◌≡◌, ℕ, ◌+◌, ◌<◌, ◌≤◌, Bool, true, false, not, ◌&&◌, ◌==◌, nat_le, List, [], ◌∷◌, ◌++◌, length, take, drop, get_or, zero, suc, refl, sym, ap, ◌∙◌, arith, add-zero}
+use Rattle.std.proofs.Common.{◌≡◌, ℕ, ◌+◌, ◌<◌, ◌≤◌, Bool, true, false, not, ◌&&◌, ◌==◌, nat_le}
+use Rattle.std.proofs.Common.{List, [], ◌∷◌, ◌++◌, length, take, drop, get_or, zero, suc, refl, sym}
+use Rattle.std.proofs.Common.{ap, ◌∙◌, arith, add-zero}
 use Rattle.std.specs.List.{prefix_len}
 use Rattle.std.proofs.Common.{inl, inr}
 use Rattle.std.proofs.lemmas.List.Sums.{prefix_len_is, prefix_len_stops, prefix_len-le-length}
-use Rattle.std.proofs.lemmas.Bool.{cases_lt, cases_eq, false≢true, ne_eqb, eq-eqb, le-leb, leb-true, false_from_ne_true}
+use Rattle.std.proofs.lemmas.Bool.{cases_lt, cases_eq, false≢true, ne_eqb, eq-eqb, le-leb, leb-true}
+use Rattle.std.proofs.lemmas.Bool.{false_from_ne_true}
 use Rattle.std.proofs.lemmas.List.{length-take-le, take-take, drop_all, take_all}
 use Rattle.vipr_spec.specs.Tokens.{Token, is_white, run, is_cut, token_here, tokens_from}
 
 -- from inside a run, the tokens are those behind it
 pub inside_run : (fails : Bool) (offset : ℕ) (xs : List ℕ) (n : ℕ) → n ≤ length xs →
-    ((k : ℕ) → k < n → is_white (get_or xs k 0) ≡ false) → (n < length xs → is_white (get_or xs n 0) ≡ true) →
+    ((k : ℕ) → k < n → is_white (get_or xs k 0) ≡ false)
+    → (n < length xs → is_white (get_or xs n 0) ≡ true) →
     tokens_from fails true offset xs ≡ tokens_from fails false (offset + n) (drop n xs)
 unfolding tokens_from
 inside_run fails offset [] zero within solid white = refl
@@ -23,14 +27,16 @@ inside_run fails offset (x ∷ xs) (suc n) within solid white =
 
 -- the run at the front, by its length
 pub run_is : (xs : List ℕ) (n : ℕ) → n ≤ length xs →
-    ((k : ℕ) → k < n → is_white (get_or xs k 0) ≡ false) → (n < length xs → is_white (get_or xs n 0) ≡ true) →
+    ((k : ℕ) → k < n → is_white (get_or xs k 0) ≡ false)
+    → (n < length xs → is_white (get_or xs n 0) ≡ true) →
     run xs ≡ take n xs
 run_is xs n within solid white =
     ap (λ (k : ℕ). take k xs) (prefix_len_is (λ b. not (is_white b)) xs n 0 within (λ k h. ap not (solid k h)) (λ h. ap not (white h)))
 
 -- a run is at least so long
 pub run_from : (xs : List ℕ) (n : ℕ) → n ≤ length xs →
-    ((k : ℕ) → k < n → is_white (get_or xs k 0) ≡ false) → (n ≤ length (run xs)) × (take n (run xs) ≡ take n xs)
+    ((k : ℕ) → k < n → is_white (get_or xs k 0) ≡ false)
+    → (n ≤ length (run xs)) × (take n (run xs) ≡ take n xs)
 run_from xs n within solid =
     let p : ℕ = prefix_len (λ b. not (is_white b)) xs in
     let short : p ≤ length xs = prefix_len-le-length (λ b. not (is_white b)) xs in
@@ -45,8 +51,10 @@ run_from xs n within solid =
 
 -- a token at the front, and those behind it
 pub token_first : (fails : Bool) (offset : ℕ) (xs : List ℕ) (n : ℕ) → 0 < n → n ≤ length xs →
-    ((k : ℕ) → k < n → is_white (get_or xs k 0) ≡ false) → (n < length xs → is_white (get_or xs n 0) ≡ true) →
-    tokens_from fails false offset xs ≡ token_here fails offset xs ++ tokens_from fails false (offset + n) (drop n xs)
+    ((k : ℕ) → k < n → is_white (get_or xs k 0) ≡ false)
+    → (n < length xs → is_white (get_or xs n 0) ≡ true) →
+    tokens_from fails false offset xs ≡ token_here fails offset xs
+    ++ tokens_from fails false (offset + n) (drop n xs)
 unfolding tokens_from
 token_first fails offset xs zero some within solid white = absurd (omega arith)
 token_first fails offset [] (suc n) some within solid white = absurd (omega arith)
@@ -58,9 +66,11 @@ token_first fails offset (x ∷ xs) (suc n) some within solid white =
 
 -- what begins with a token that ends before the text does, or at its end
 pub token_whole : (fails : Bool) (offset : ℕ) (xs : List ℕ) (n : ℕ) → 0 < n → n ≤ length xs →
-    ((k : ℕ) → k < n → is_white (get_or xs k 0) ≡ false) → (n < length xs → is_white (get_or xs n 0) ≡ true) →
+    ((k : ℕ) → k < n → is_white (get_or xs k 0) ≡ false)
+    → (n < length xs → is_white (get_or xs n 0) ≡ true) →
     (n ≡ length xs → fails ≡ false) →
-    tokens_from fails false offset xs ≡ record { bytes = take n xs; offset = offset } ∷ tokens_from fails false (offset + n) (drop n xs)
+    tokens_from fails false offset xs ≡ record { bytes = take n xs; offset = offset }
+    ∷ tokens_from fails false (offset + n) (drop n xs)
 unfolding token_here is_cut
 token_whole fails offset xs n some within solid white ends =
     let r : run xs ≡ take n xs = run_is xs n within solid white in
@@ -76,7 +86,8 @@ token_whole fails offset xs n some within solid white ends =
 -- a run that is too long
 pub token_long : (fails : Bool) (offset : ℕ) (xs : List ℕ) → 65536 ≤ length xs →
     ((k : ℕ) → k < 65536 → is_white (get_or xs k 0) ≡ false) →
-    tokens_from fails false offset xs ≡ record { bytes = run xs; offset = offset } ∷ tokens_from fails true (offset + 1) (drop 1 xs)
+    tokens_from fails false offset xs ≡ record { bytes = run xs; offset = offset }
+    ∷ tokens_from fails true (offset + 1) (drop 1 xs)
 unfolding tokens_from token_here is_cut
 token_long fails offset [] within solid = absurd (omega arith)
 token_long fails offset (x ∷ xs) within solid =
@@ -95,7 +106,8 @@ token_long fails offset (x ∷ xs) within solid =
 
 -- a run up to a failure
 pub token_cut : (offset : ℕ) (xs : List ℕ) → 0 < length xs → length xs ≤ 65535 →
-    ((k : ℕ) → k < length xs → is_white (get_or xs k 0) ≡ false) → tokens_from true false offset xs ≡ []
+    ((k : ℕ) → k < length xs → is_white (get_or xs k 0) ≡ false)
+    → tokens_from true false offset xs ≡ []
 unfolding tokens_from token_here is_cut
 token_cut offset xs some short solid =
     let r : run xs ≡ xs = run_is xs (length xs) (omega arith) solid (λ h. absurd (omega arith)) ∙ take_all (length xs) xs (omega arith) in

@@ -1,12 +1,16 @@
 -- The tokens of a text are the one list that it is made up of.
-use Rattle.std.proofs.Common.{◌≡◌, ◌≢◌, ℕ, ◌+◌, ◌-◌, ◌<◌, ◌≤◌, ◌⊎◌, Bool, true, false, not, nat_eq, List, [], ◌∷◌, ◌++◌, length, take, drop, get_or, suc, refl, sym, ap, subst, ◌∙◌, inl, inr, arith, append_assoc, add-zero, zero-add}
+use Rattle.std.proofs.Common.{◌≡◌, ◌≢◌, ℕ, ◌+◌, ◌-◌, ◌<◌, ◌≤◌, ◌⊎◌, Bool, true, false, not, nat_eq}
+use Rattle.std.proofs.Common.{List, [], ◌∷◌, ◌++◌, length, take, drop, get_or, suc, refl, sym, ap}
+use Rattle.std.proofs.Common.{subst, ◌∙◌, inl, inr, arith, append_assoc, add-zero, zero-add}
 use Rattle.std.specs.List.{All, concat}
 use Rattle.std.proofs.lemmas.List.{append-nil, length-append}
 use Rattle.std.proofs.lemmas.List.Elements.{All-nil, All-cons}
 use Rattle.std.proofs.Math.Seq.{take-append_seam, drop-append_seam, get_or-append_right}
 use Rattle.std.proofs.Math.ListN.{get_or-append}
 use Rattle.std.proofs.lemmas.Bool.{false≢true, cases_eq, ne_eqb, eqb-false, eqb-true}
-use Rattle.vipr_spec.specs.Tokens.{Token, is_white, run, is_cut, token_here, tokens_from, tokens_after_front, text_tokens, Begins, IsWhite, IsComment, IsBlank, IsFrontEnd, IsFront, AreSpread, AreTokens}
+use Rattle.vipr_spec.specs.Tokens.{Token, is_white, run, is_cut, token_here, tokens_from}
+use Rattle.vipr_spec.specs.Tokens.{tokens_after_front, text_tokens, Begins, IsWhite, IsComment}
+use Rattle.vipr_spec.specs.Tokens.{IsBlank, IsFrontEnd, IsFront, AreSpread, AreTokens}
 use Rattle.vipr_spec.proofs.TokenLaws.{run_is, token_whole}
 
 -- ---- no other list
@@ -14,7 +18,8 @@ use Rattle.vipr_spec.proofs.TokenLaws.{run_is, token_whole}
 tail_all : {X : Type 0} (P : X → Type 0) (x : X) (xs : List X) → All P (x ∷ xs) → All P xs
 tail_all P x xs h k d lt = h (suc k) d (omega arith)
 
-skip_white : (offset : ℕ) (gap xs : List ℕ) → All IsWhite gap → tokens_from false false offset (gap ++ xs) ≡ tokens_from false false (offset + length gap) xs
+skip_white : (offset : ℕ) (gap xs : List ℕ) → All IsWhite gap
+    → tokens_from false false offset (gap ++ xs) ≡ tokens_from false false (offset + length gap) xs
 unfolding tokens_from
 skip_white offset [] xs white = rw add-zero refl
 skip_white offset (b ∷ bs) xs white =
@@ -22,14 +27,16 @@ skip_white offset (b ∷ bs) xs white =
     let e : offset + 1 + length bs ≡ offset + length (b ∷ bs) = omega arith in
     rw (w, ← e) (skip_white (offset + 1) bs xs (tail_all IsWhite b bs white))
 
-first_white : (bytes after : List ℕ) → Begins IsWhite after → length bytes < length (bytes ++ after) → is_white (get_or (bytes ++ after) (length bytes) 0) ≡ true
+first_white : (bytes after : List ℕ) → Begins IsWhite after → length bytes < length (bytes ++ after)
+    → is_white (get_or (bytes ++ after) (length bytes) 0) ≡ true
 first_white bytes [] begins lt = absurd (omega (arith, length-append bytes []))
 first_white bytes (b ∷ bs) begins lt =
     let le : length bytes ≤ length bytes = omega arith in
     let z : length bytes - length bytes ≡ 0 = omega arith in
     rw (get_or-append_right bytes (b ∷ bs) (length bytes) 0 le, z) begins
 
-spread_one : (offset : ℕ) (text : List ℕ) (ts : List Token) → AreSpread offset text ts → ts ≡ tokens_from false false offset text
+spread_one : (offset : ℕ) (text : List ℕ) (ts : List Token) → AreSpread offset text ts
+    → ts ≡ tokens_from false false offset text
 unfolding AreSpread tokens_from
 spread_one offset text [] white =
     let e : tokens_from false false offset (text ++ []) ≡ [] = skip_white offset text [] white in
@@ -48,25 +55,31 @@ white_not_percent : (b : ℕ) → is_white b ≡ true → nat_eq b 37 ≡ false
 unfolding is_white
 white_not_percent b w = elim (cases_eq b 37) [ inl h ↦ absurd (false≢true (rw h at w)) | inr h ↦ ne_eqb b 37 h ]
 
-stays : (offset b : ℕ) (bs : List ℕ) → b ≢ 10 → tokens_after_front false true offset (b ∷ bs) ≡ tokens_after_front false true (offset + 1) bs
+stays : (offset b : ℕ) (bs : List ℕ) → b ≢ 10
+    → tokens_after_front false true offset (b ∷ bs) ≡ tokens_after_front false true (offset + 1) bs
 unfolding tokens_after_front
 stays offset b bs other =
     let e : tokens_after_front false true offset (b ∷ bs) ≡ tokens_after_front false (not (nat_eq b 10)) (offset + 1) bs = refl in
     e ∙ ap (λ (l : Bool). tokens_after_front false (not l) (offset + 1) bs) (ne_eqb b 10 other)
 
-in_comment : (offset : ℕ) (bytes xs : List ℕ) → IsComment bytes → tokens_after_front false true offset (bytes ++ 10 ∷ xs) ≡ tokens_after_front false false (offset + length bytes + 1) xs
+in_comment : (offset : ℕ) (bytes xs : List ℕ) → IsComment bytes
+    → tokens_after_front false true offset (bytes ++ 10 ∷ xs)
+    ≡ tokens_after_front false false (offset + length bytes + 1) xs
 unfolding tokens_after_front
 in_comment offset [] xs free = rw add-zero refl
 in_comment offset (b ∷ bs) xs free =
     let e : offset + 1 + length bs + 1 ≡ offset + length (b ∷ bs) + 1 = omega arith in
     rw (← e) (stays offset b (bs ++ 10 ∷ xs) (free 0 b (omega arith)) ∙ in_comment (offset + 1) bs xs (tail_all (λ c. c ≢ 10) b bs free))
 
-open_comment : (offset : ℕ) (bytes : List ℕ) → IsComment bytes → tokens_after_front false true offset bytes ≡ []
+open_comment : (offset : ℕ) (bytes : List ℕ) → IsComment bytes
+    → tokens_after_front false true offset bytes ≡ []
 unfolding tokens_after_front
 open_comment offset [] free = refl
 open_comment offset (b ∷ bs) free = stays offset b bs (free 0 b (omega arith)) ∙ open_comment (offset + 1) bs (tail_all (λ c. c ≢ 10) b bs free)
 
-skip_blank : (offset : ℕ) (piece xs : List ℕ) → IsBlank piece → tokens_after_front false false offset (piece ++ xs) ≡ tokens_after_front false false (offset + length piece) xs
+skip_blank : (offset : ℕ) (piece xs : List ℕ) → IsBlank piece
+    → tokens_after_front false false offset (piece ++ xs)
+    ≡ tokens_after_front false false (offset + length piece) xs
 unfolding tokens_after_front
 skip_blank offset piece xs (inl (b, white, is)) = rw (is, white_not_percent b white, white) refl
 skip_blank offset piece xs (inr (bytes, free, is)) =
@@ -74,7 +87,8 @@ skip_blank offset piece xs (inr (bytes, free, is)) =
     rw (is, e, append_assoc) (in_comment (offset + 1) bytes xs free)
 
 skip_blanks : (offset : ℕ) (blanks : List (List ℕ)) (xs : List ℕ) → All IsBlank blanks →
-    tokens_after_front false false offset (concat blanks ++ xs) ≡ tokens_after_front false false (offset + length (concat blanks)) xs
+    tokens_after_front false false offset (concat blanks ++ xs)
+    ≡ tokens_after_front false false (offset + length (concat blanks)) xs
 skip_blanks offset [] xs blank = rw add-zero refl
 skip_blanks offset (p ∷ ps) xs blank =
     let e : offset + length (p ++ concat ps) ≡ offset + length p + length (concat ps) = omega (arith, length-append p (concat ps)) in
@@ -82,13 +96,16 @@ skip_blanks offset (p ∷ ps) xs blank =
     skip_blank offset p (concat ps ++ xs) (blank 0 p (omega arith)) in
     rw (append_assoc, f, e) (skip_blanks (offset + length p) ps xs (tail_all IsBlank p ps blank))
 
-after_front : (offset : ℕ) (rest : List ℕ) → Begins (λ b. (is_white b ≡ false) × (b ≢ 37)) rest → tokens_after_front false false offset rest ≡ tokens_from false false offset rest
+after_front : (offset : ℕ) (rest : List ℕ) → Begins (λ b. (is_white b ≡ false) × (b ≢ 37)) rest
+    → tokens_after_front false false offset rest ≡ tokens_from false false offset rest
 unfolding tokens_after_front tokens_from
 after_front offset [] begins = refl
 after_front offset (b ∷ bs) begins = rw (ne_eqb b 37 begins.1, begins.0) refl
 
-ended : (offset : ℕ) (ending rest : List ℕ) (ts : List Token) → IsFrontEnd ending rest → Begins (λ b. (is_white b ≡ false) × (b ≢ 37)) rest →
-    AreSpread (offset + length ending) rest ts → ts ≡ tokens_after_front false false offset (ending ++ rest)
+ended : (offset : ℕ) (ending rest : List ℕ) (ts : List Token) → IsFrontEnd ending rest
+    → Begins (λ b. (is_white b ≡ false) × (b ≢ 37)) rest →
+    AreSpread (offset + length ending) rest ts
+    → ts ≡ tokens_after_front false false offset (ending ++ rest)
 unfolding tokens_after_front tokens_from
 ended offset ending rest ts (inl is) begins spread =
     let e : offset + 0 ≡ offset = add-zero offset in
@@ -107,7 +124,8 @@ split_one text ts (front, rest, is, f, spread) =
 
 -- ---- this list
 
-extend_white : (offset b : ℕ) (bs : List ℕ) (ts : List Token) → is_white b ≡ true → AreSpread (offset + 1) bs ts → AreSpread offset (b ∷ bs) ts
+extend_white : (offset b : ℕ) (bs : List ℕ) (ts : List Token) → is_white b ≡ true
+    → AreSpread (offset + 1) bs ts → AreSpread offset (b ∷ bs) ts
 unfolding AreSpread
 extend_white offset b bs [] w white = All-cons IsWhite b bs w white
 extend_white offset b bs (t ∷ ts) w (gap, after, is, white, solid, begins, at, more) =
@@ -118,7 +136,8 @@ extend_white offset b bs (t ∷ ts) w (gap, after, is, white, solid, begins, at,
 abbrev pub Inside : ℕ → List ℕ → List Token → Type 0
 Inside offset text ts = (word after : List ℕ) × (text ≡ word ++ after) × All (λ b. is_white b ≡ false) word × Begins IsWhite after × AreSpread (offset + length word) after ts
 
-one_run : (b : ℕ) (bs word after : List ℕ) → bs ≡ word ++ after → is_white b ≡ false → All (λ b. is_white b ≡ false) word → Begins IsWhite after → run (b ∷ bs) ≡ b ∷ word
+one_run : (b : ℕ) (bs word after : List ℕ) → bs ≡ word ++ after → is_white b ≡ false
+    → All (λ b. is_white b ≡ false) word → Begins IsWhite after → run (b ∷ bs) ≡ b ∷ word
 one_run b bs word after is w solid begins =
     let all : All (λ b. is_white b ≡ false) (b ∷ word) = All-cons (λ b. is_white b ≡ false) b word w solid in
     let r : run ((b ∷ word) ++ after) ≡ take (length (b ∷ word)) ((b ∷ word) ++ after) =
@@ -126,21 +145,27 @@ one_run b bs word after is w solid begins =
     (λ k h. rw (get_or-append (b ∷ word) after 0 k h) (all k 0 h)) (first_white (b ∷ word) after begins) in
     rw is (r ∙ take-append_seam (b ∷ word) after)
 
-first_solid : (offset b : ℕ) (bs : List ℕ) → is_white b ≡ false → tokens_from false false offset (b ∷ bs) ≡ record { bytes = run (b ∷ bs); offset = offset } ∷ tokens_from false true (offset + 1) bs
+first_solid : (offset b : ℕ) (bs : List ℕ) → is_white b ≡ false
+    → tokens_from false false offset (b ∷ bs) ≡ record { bytes = run (b ∷ bs); offset = offset }
+    ∷ tokens_from false true (offset + 1) bs
 unfolding tokens_from token_here is_cut
 first_solid offset b bs w = rw w refl
 
-inside_solid : (offset b : ℕ) (bs : List ℕ) → is_white b ≡ false → tokens_from false true offset (b ∷ bs) ≡ tokens_from false true (offset + 1) bs
+inside_solid : (offset b : ℕ) (bs : List ℕ) → is_white b ≡ false
+    → tokens_from false true offset (b ∷ bs) ≡ tokens_from false true (offset + 1) bs
 unfolding tokens_from
 inside_solid offset b bs w = rw w refl
 
-first_is_white : (inside : Bool) (offset b : ℕ) (bs : List ℕ) → is_white b ≡ true → tokens_from false inside offset (b ∷ bs) ≡ tokens_from false false (offset + 1) bs
+first_is_white : (inside : Bool) (offset b : ℕ) (bs : List ℕ) → is_white b ≡ true
+    → tokens_from false inside offset (b ∷ bs) ≡ tokens_from false false (offset + 1) bs
 unfolding tokens_from
 first_is_white inside offset b bs w = rw w refl
 
 step : (offset b : ℕ) (bs : List ℕ) (w : Bool) → is_white b ≡ w →
-    AreSpread (offset + 1) bs (tokens_from false false (offset + 1) bs) × Inside (offset + 1) bs (tokens_from false true (offset + 1) bs) →
-    AreSpread offset (b ∷ bs) (tokens_from false false offset (b ∷ bs)) × Inside offset (b ∷ bs) (tokens_from false true offset (b ∷ bs))
+    AreSpread (offset + 1) bs (tokens_from false false (offset + 1) bs)
+    × Inside (offset + 1) bs (tokens_from false true (offset + 1) bs) →
+    AreSpread offset (b ∷ bs) (tokens_from false false offset (b ∷ bs))
+    × Inside offset (b ∷ bs) (tokens_from false true offset (b ∷ bs))
 unfolding AreSpread
 step offset b bs true w r =
     let a : AreSpread offset (b ∷ bs) (tokens_from false false (offset + 1) bs) = extend_white offset b bs _ w r.0 in
@@ -161,7 +186,8 @@ step offset b bs false w (spread, (word, after, is, solid, begins, more)) =
       subst (λ (us : List Token). Inside offset (b ∷ bs) us) (sym (inside_solid offset b bs w)) (b ∷ word, after, whole, all, begins, more'),
     )
 
-spread_is : (bs : List ℕ) (offset : ℕ) → AreSpread offset bs (tokens_from false false offset bs) × Inside offset bs (tokens_from false true offset bs)
+spread_is : (bs : List ℕ) (offset : ℕ) → AreSpread offset bs (tokens_from false false offset bs)
+    × Inside offset bs (tokens_from false true offset bs)
 unfolding AreSpread tokens_from
 spread_is [] offset = (All-nil IsWhite, ([], [], refl, All-nil (λ b. is_white b ≡ false), tt, All-nil IsWhite))
 spread_is (b ∷ bs) offset = step offset b bs (is_white b) refl (spread_is bs (offset + 1))
@@ -174,7 +200,8 @@ FrontAt offset text ts = (front rest : List ℕ) × (text ≡ front ++ rest) × 
 abbrev pub CommentAt : ℕ → List ℕ → List Token → Type 0
 CommentAt offset text ts = (bytes : List ℕ) × IsComment bytes × (((text ≡ bytes) × (ts ≡ [])) ⊎ ((rest : List ℕ) × (text ≡ bytes ++ 10 ∷ rest) × FrontAt (offset + length bytes + 1) rest ts))
 
-more_front : (offset : ℕ) (piece text : List ℕ) (ts : List Token) → IsBlank piece → FrontAt (offset + length piece) text ts → FrontAt offset (piece ++ text) ts
+more_front : (offset : ℕ) (piece text : List ℕ) (ts : List Token) → IsBlank piece
+    → FrontAt (offset + length piece) text ts → FrontAt offset (piece ++ text) ts
 more_front offset piece text ts blank (front, rest, is, f, spread) =
     let e : offset + length piece + length front ≡ offset + length (piece ++ front) = omega (arith, length-append piece front) in
     let j : piece ++ front ≡ (piece ++ concat f.blanks) ++ f.ending = rw f.joined (sym (append_assoc piece (concat f.blanks) f.ending)) in (
@@ -185,7 +212,8 @@ more_front offset piece text ts blank (front, rest, is, f, spread) =
       rw e at spread,
     )
 
-commented : (offset : ℕ) (bs : List ℕ) (ts : List Token) → CommentAt (offset + 1) bs ts → FrontAt offset (37 ∷ bs) ts
+commented : (offset : ℕ) (bs : List ℕ) (ts : List Token) → CommentAt (offset + 1) bs ts
+    → FrontAt offset (37 ∷ bs) ts
 unfolding AreSpread
 commented offset bs ts (bytes, free, inl (is, none)) = (
   37 ∷ bytes,
@@ -200,7 +228,8 @@ commented offset bs ts (bytes, free, inr (rest, is, front)) =
     rw whole at (more_front offset (37 ∷ (bytes ++ 10 ∷ [])) rest ts (inr (bytes, free, refl)) (rw e at front))
 
 front_step : (offset b : ℕ) (bs : List ℕ) (p w : Bool) → nat_eq b 37 ≡ p → is_white b ≡ w →
-    FrontAt (offset + 1) bs (tokens_after_front false false (offset + 1) bs) → CommentAt (offset + 1) bs (tokens_after_front false true (offset + 1) bs) →
+    FrontAt (offset + 1) bs (tokens_after_front false false (offset + 1) bs)
+    → CommentAt (offset + 1) bs (tokens_after_front false true (offset + 1) bs) →
     FrontAt offset (b ∷ bs) (tokens_after_front false false offset (b ∷ bs))
 unfolding tokens_after_front
 front_step offset b bs true w is_p is_w front comment =
@@ -218,7 +247,8 @@ front_step offset b bs false false is_p is_w front comment =
     )
 
 comment_step : (offset b : ℕ) (bs : List ℕ) (l : Bool) → nat_eq b 10 ≡ l →
-    FrontAt (offset + 1) bs (tokens_after_front false false (offset + 1) bs) → CommentAt (offset + 1) bs (tokens_after_front false true (offset + 1) bs) →
+    FrontAt (offset + 1) bs (tokens_after_front false false (offset + 1) bs)
+    → CommentAt (offset + 1) bs (tokens_after_front false true (offset + 1) bs) →
     CommentAt offset (b ∷ bs) (tokens_after_front false true offset (b ∷ bs))
 unfolding tokens_after_front
 comment_step offset b bs true is_l front comment =
@@ -231,7 +261,9 @@ comment_step offset b bs false is_l front (bytes, free, inr (rest, is, more)) =
     let e : offset + 1 + length bytes + 1 ≡ offset + length (b ∷ bytes) + 1 = omega arith in
     rw is_l (b ∷ bytes, All-cons (λ b. b ≢ 10) b bytes (eqb-false b 10 is_l) free, inr (rest, ap (λ (xs : List ℕ). b ∷ xs) is, rw e at more))
 
-fronts : (text : List ℕ) (offset : ℕ) → FrontAt offset text (tokens_after_front false false offset text) × CommentAt offset text (tokens_after_front false true offset text)
+fronts : (text : List ℕ) (offset : ℕ)
+    → FrontAt offset text (tokens_after_front false false offset text)
+    × CommentAt offset text (tokens_after_front false true offset text)
 unfolding tokens_after_front AreSpread
 fronts [] offset = (
   ([], [], refl, record { blanks = []; ending = []; joined = refl; are_blank = All-nil IsBlank; ends = inl refl; longest = tt }, All-nil IsWhite),

@@ -1,15 +1,23 @@
 -- What remains of a text, item by item, whatever the first test that fails tells of the certificate
-use Rattle.std.proofs.Common.{◌≡◌, ℕ, suc, ◌+◌, List, [], ◌∷◌, ◌++◌, length, Option, Some, None, Result, Ok, Err, arith, refl, sym, ◌∙◌, ap, ap₂, subst, append_assoc, append-nil, inl, inr}
+use Rattle.std.proofs.Common.{◌≡◌, ℕ, suc, ◌+◌, List, [], ◌∷◌, ◌++◌, length, Option, Some, None}
+use Rattle.std.proofs.Common.{Result, Ok, Err, arith, refl, sym, ◌∙◌, ap, ap₂, subst, append_assoc}
+use Rattle.std.proofs.Common.{append-nil, inl, inr}
 use Rattle.std.specs.Prelude.{◌↔◌}
 use Rattle.std.proofs.lemmas.List.{length-append}
 use Rattle.vipr_spec.specs.Constraint.{Profile, Row, condition}
 use Rattle.vipr_spec.specs.Certificate.{Named, Problem, Derivation, Certificate, MeetsPrimal, count}
-use Rattle.vipr_spec.specs.Reading.{Rest, Fault, ◌>>=◌, problem_read, solution_read, derivations_read, derivation_read, end_read}
-use Rattle.vipr_spec.specs.Steps.{with_more, with_next, StepTest, PassesStep, step_tests, FirstFailing}
-use Rattle.vipr_spec.specs.Tests.{SolutionTest, PassesSolution, solution_tests, of_solution, Test, spelled, meets_primal, of_step, meets_dual, Passes, numbered_tests, tests_of_solution, tests_of_derivation}
-use Rattle.vipr_spec.specs.Verdict.{before_items, items_read, Found, last_tests, derivations_found, ending_found, problem_found, found_in}
+use Rattle.vipr_spec.specs.Reading.{Rest, Fault, ◌>>=◌, problem_read, solution_read}
+use Rattle.vipr_spec.specs.Reading.{derivations_read, derivation_read, end_read}
+use Rattle.vipr_spec.specs.Steps.{with_more, with_next, StepTest, PassesStep, step_tests}
+use Rattle.vipr_spec.specs.Steps.{FirstFailing}
+use Rattle.vipr_spec.specs.Tests.{SolutionTest, PassesSolution, solution_tests, of_solution, Test}
+use Rattle.vipr_spec.specs.Tests.{spelled, meets_primal, of_step, meets_dual, Passes}
+use Rattle.vipr_spec.specs.Tests.{numbered_tests, tests_of_solution, tests_of_derivation}
+use Rattle.vipr_spec.specs.Verdict.{before_items, items_read, Found, last_tests, derivations_found}
+use Rattle.vipr_spec.specs.Verdict.{ending_found, problem_found, found_in}
 use Rattle.vipr_spec.specs.Progress.{derivations_from, solutions_from}
-use Rattle.vipr_spec.proofs.FirstFailing.{failing_unique, failing_first, failing_second, failing_after, failing_map}
+use Rattle.vipr_spec.proofs.FirstFailing.{failing_unique, failing_first, failing_second}
+use Rattle.vipr_spec.proofs.FirstFailing.{failing_after, failing_map}
 use Rattle.vipr_spec.proofs.Prefix.{count_next, more_next}
 use Rattle.vipr_spec.proofs.Steps.{tests_next}
 
@@ -19,10 +27,14 @@ Told P Q f = (failing : Option Test) × FirstFailing (Passes P f.certificate) f.
 
 -- ---- what was found, item by item
 
-pub derivation_next : (c : Certificate) (n : ℕ) (r : Rest) (d : Derivation) (s : Rest) → derivation_read c.problem r ≡ Ok (d, s)
-    → derivations_from c (suc n) r ≡ (let items = items_read (derivation_read c.problem) n s in record {
+pub derivation_next : (c : Certificate) (n : ℕ) (r : Rest) (d : Derivation) (s : Rest)
+    → derivation_read c.problem r ≡ Ok (d, s)
+    → derivations_from c (suc n) r
+    ≡ (let items = items_read (derivation_read c.problem) n s in record {
       certificate = with_more c (d ∷ items.0);
-      tests = tests_of_derivation (count c) d ++ (numbered_tests tests_of_derivation (suc (count c)) items.0 ++ last_tests (items.1 >>= end_read));
+      tests = tests_of_derivation (count c) d ++
+          (numbered_tests tests_of_derivation (suc (count c)) items.0
+          ++ last_tests (items.1 >>= end_read));
     })
 unfolding items_read numbered_tests
 derivation_next c n r d s e =
@@ -32,20 +44,25 @@ derivation_next c n r d s e =
 pub derivation_then : (c : Certificate) (n : ℕ) (d : Derivation) (s : Rest)
     → (let items = items_read (derivation_read c.problem) n s in record {
       certificate = with_more c (d ∷ items.0);
-      tests = numbered_tests tests_of_derivation (suc (count c)) items.0 ++ last_tests (items.1 >>= end_read);
+      tests = numbered_tests tests_of_derivation (suc (count c)) items.0
+          ++ last_tests (items.1 >>= end_read);
     }) ≡ derivations_from (with_next c d) n s
 derivation_then c n d s =
     let items = items_read (derivation_read c.problem) n s in
     ap₂ (λ x k. record { certificate = x; tests = numbered_tests tests_of_derivation k items.0 ++ last_tests (items.1 >>= end_read) }) (sym (more_next c d items.0)) (let e = count_next c d in omega arith)
 
-pub at_the_end : (c : Certificate) (r : Rest) → derivations_from c 0 r ≡ record { certificate = c; tests = last_tests (end_read r) }
+pub at_the_end : (c : Certificate) (r : Rest)
+    → derivations_from c 0 r ≡ record { certificate = c; tests = last_tests (end_read r) }
 unfolding items_read numbered_tests
 at_the_end c r = ap (λ l. record { certificate = record c { derivations = l }; tests = last_tests (end_read r) }) (append-nil c.derivations)
 
-pub solution_next : (p : Problem) (ss : List (Named Row)) (n : ℕ) (r : Rest) (s : Named Row) (t : Rest) → solution_read p r ≡ Ok (s, t)
-    → solutions_from p ss (suc n) r ≡ (let items = items_read (solution_read p) n t in let ending = ending_found p items.1 in record {
+pub solution_next : (p : Problem) (ss : List (Named Row)) (n : ℕ) (r : Rest) (s : Named Row)
+    (t : Rest) → solution_read p r ≡ Ok (s, t)
+    → solutions_from p ss (suc n) r ≡ (let items = items_read (solution_read p) n t in
+    let ending = ending_found p items.1 in record {
       certificate = record { problem = p; solutions = ss ++ s ∷ items.0; derivations = ending.0 };
-      tests = tests_of_solution p (length ss) s ++ (numbered_tests (tests_of_solution p) (suc (length ss)) items.0 ++ ending.1);
+      tests = tests_of_solution p (length ss) s
+          ++ (numbered_tests (tests_of_solution p) (suc (length ss)) items.0 ++ ending.1);
     })
 unfolding items_read numbered_tests
 solution_next p ss n r s t e =
@@ -57,7 +74,8 @@ solution_next p ss n r s t e =
     ap (λ ts. record { certificate = record { problem = p; solutions = ss ++ s ∷ items.0; derivations = ending.0 }; tests = ts }) (append_assoc (tests_of_solution p (length ss) s) _ _))
 
 pub solution_then : (p : Problem) (ss : List (Named Row)) (n : ℕ) (s : Named Row) (t : Rest)
-    → (let items = items_read (solution_read p) n t in let ending = ending_found p items.1 in record {
+    → (let items = items_read (solution_read p) n t in let ending = ending_found p items.1 in
+    record {
       certificate = record { problem = p; solutions = ss ++ s ∷ items.0; derivations = ending.0 };
       tests = numbered_tests (tests_of_solution p) (suc (length ss)) items.0 ++ ending.1;
     }) ≡ solutions_from p (ss ++ s ∷ []) n t
@@ -66,8 +84,13 @@ solution_then p ss n s t =
     ap₂ (λ l k. record { certificate = record { problem = p; solutions = l; derivations = ending.0 }; tests = numbered_tests (tests_of_solution p) k items.0 ++ ending.1 })
     (sym (append_assoc ss (s ∷ []) items.0)) (let e = length-append ss (s ∷ []) in omega arith)
 
-pub no_more_solutions : (p : Problem) (ss : List (Named Row)) (r : Rest) (x : Result (ℕ × Rest) Fault) → derivations_read p r ≡ x
-    → solutions_from p ss 0 r ≡ (let found = derivations_found p x in record { certificate = record { problem = p; solutions = ss; derivations = found.0 }; tests = meets_primal ∷ found.1 })
+pub no_more_solutions : (p : Problem) (ss : List (Named Row)) (r : Rest)
+    (x : Result (ℕ × Rest) Fault) → derivations_read p r ≡ x
+    → solutions_from p ss 0 r ≡ (let found = derivations_found p x in
+    record {
+      certificate = record { problem = p; solutions = ss; derivations = found.0 };
+      tests = meets_primal ∷ found.1;
+    })
 unfolding items_read numbered_tests
 no_more_solutions p ss r x e = ap₂ (λ l y. let found = derivations_found p y in record { certificate = record { problem = p; solutions = l; derivations = found.0 }; tests = meets_primal ∷ found.1 }) (append-nil ss) e
 

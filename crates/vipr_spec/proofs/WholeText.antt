@@ -1,15 +1,22 @@
 -- A text is verified exactly where it is read as a proof
-use Rattle.std.proofs.Common.{◌≡◌, ℕ, ◌<◌, zero, suc, List, [], ◌∷◌, ◌++◌, length, Option, Some, None, Result, Ok, Err, All, Contains, refl, sym, ◌∙◌, ap, subst, zero-lt-suc}
+use Rattle.std.proofs.Common.{◌≡◌, ℕ, ◌<◌, zero, suc, List, [], ◌∷◌, ◌++◌, length, Option, Some}
+use Rattle.std.proofs.Common.{None, Result, Ok, Err, All, Contains, refl, sym, ◌∙◌, ap, subst}
+use Rattle.std.proofs.Common.{zero-lt-suc}
 use Rattle.std.specs.Prelude.{◌↔◌}
 use Rattle.std.proofs.lemmas.List.Elements.{All-contains, Contains-append_right}
 use Rattle.vipr_spec.specs.Constraint.{Profile, IsInteger, Row}
 use Rattle.vipr_spec.specs.Certificate.{Named, Problem, variables, Derivation, Certificate, IsProof}
-use Rattle.vipr_spec.specs.Reading.{Rest, Fault, Read, ◌>>=◌, read_each, problem_read, solution_read, derivations_read, derivation_read, end_read, certificate_read}
+use Rattle.vipr_spec.specs.Reading.{Rest, Fault, Read, ◌>>=◌, read_each, problem_read}
+use Rattle.vipr_spec.specs.Reading.{solution_read, derivations_read, derivation_read, end_read}
+use Rattle.vipr_spec.specs.Reading.{certificate_read}
 use Rattle.vipr_spec.specs.Grammar.{Spells}
 use Rattle.vipr_spec.specs.GrammarLaws.{whole_text}
 use Rattle.vipr_spec.specs.Steps.{FirstFailing}
-use Rattle.vipr_spec.specs.Tests.{Test, spelled, meets_primal, meets_dual, Passes, numbered_tests, tests_of_solution, tests_of_derivation}
-use Rattle.vipr_spec.specs.Verdict.{before_items, items_read, Found, last_tests, derivations_found, ending_found, problem_found, found_in, Report, Reports, Answer, verified, IsAnswerOfTest, IsAnswer}
+use Rattle.vipr_spec.specs.Tests.{Test, spelled, meets_primal, meets_dual, Passes, numbered_tests}
+use Rattle.vipr_spec.specs.Tests.{tests_of_solution, tests_of_derivation}
+use Rattle.vipr_spec.specs.Verdict.{before_items, items_read, Found, last_tests, derivations_found}
+use Rattle.vipr_spec.specs.Verdict.{ending_found, problem_found, found_in, Report, Reports, Answer}
+use Rattle.vipr_spec.specs.Verdict.{verified, IsAnswerOfTest, IsAnswer}
 use Rattle.vipr_spec.proofs.FirstFailing.{none_all, all_none, failing_unique}
 use Rattle.vipr_spec.proofs.AllTests.{proof_of_tests, tests_of_proof}
 use Rattle.vipr_spec.proofs.GrammarWhole.{reads_texts, integers_read_below}
@@ -21,11 +28,13 @@ abbrev pub ended : {A : Type 0} → List A → Result Rest Fault → Read (List 
 ended xs (Ok s) = Ok (xs, s)
 ended xs (Err f) = Err f
 
-more_ended : {A : Type 0} (x : A) (xs : List A) (e : Result Rest Fault) → (ended xs e >>= λ ys. Ok (x ∷ ys.0, ys.1)) ≡ ended (x ∷ xs) e
+more_ended : {A : Type 0} (x : A) (xs : List A) (e : Result Rest Fault)
+    → (ended xs e >>= λ ys. Ok (x ∷ ys.0, ys.1)) ≡ ended (x ∷ xs) e
 more_ended x xs (Ok s) = refl
 more_ended x xs (Err f) = refl
 
-pub repeated_is : {A : Type 0} (item : Rest → Read A) (n : ℕ) (r : Rest) → read_each item n r ≡ ended (items_read item n r).0 (items_read item n r).1
+pub repeated_is : {A : Type 0} (item : Rest → Read A) (n : ℕ) (r : Rest)
+    → read_each item n r ≡ ended (items_read item n r).0 (items_read item n r).1
 unfolding read_each items_read
 repeated_is item zero r = refl
 repeated_is {A} item (suc n) r = by (λ s. repeated_is item n s) (item r)
@@ -87,7 +96,9 @@ solutions_whole : (p : Problem) (ss : List (Named Row)) (x : Result Rest Fault)
     → Whole (record {
       certificate = record { problem = p; solutions = ss; derivations = (ending_found p x).0 };
       tests = opening_tests p ss ++ (ending_found p x).1;
-    }) (ended ss x >>= λ s. derivations_read p s.1 >>= λ d. read_each (derivation_read p) d.0 d.1 >>= λ ds. end_read ds.1 >>= λ end. Ok (record { problem = p; solutions = s.0; derivations = ds.0 }))
+    }) (ended ss x >>= λ s. derivations_read p s.1 >>= λ d. read_each (derivation_read p) d.0 d.1
+    >>= λ ds. end_read ds.1
+    >>= λ end. Ok (record { problem = p; solutions = s.0; derivations = ds.0 }))
 solutions_whole p ss (Ok s) = count_whole p ss (derivations_read p s)
 solutions_whole p ss (Err f) = Contains-append_right (opening_tests p ss) _ _ (last_one (spelled f))
 
@@ -103,12 +114,14 @@ whole_read r = by (problem_read r)
         subst (λ z. Whole (problem_found (Ok p)) (z >>= λ s. derivations_read p.0.0 s.1 >>= λ d. read_each (derivation_read p.0.0) d.0 d.1
         >>= λ ds. end_read ds.1 >>= λ end. Ok (record { problem = p.0.0; solutions = s.0; derivations = ds.0 }))) (sym (repeated_is (solution_read p.0.0) p.0.1 p.1)) (solutions_whole p.0.0 items.0 items.1)
 
-found_as : (found : Found) (x : Result Certificate Fault) (c : Certificate) → Whole found x → x ≡ Ok c → found.certificate ≡ c
+found_as : (found : Found) (x : Result Certificate Fault) (c : Certificate) → Whole found x
+    → x ≡ Ok c → found.certificate ≡ c
 found_as found (Err f) c w e = absurd (cc e)
 found_as found (Ok d) c w e = let same : d ≡ c = cc e in ap (λ (f : Found). f.certificate) w ∙ same
 
 -- where a text is read as a certificate, it is the one that was found
-pub found_read : (r : Rest) (c : Certificate) → certificate_read r ≡ Ok c → (found_in r).certificate ≡ c
+pub found_read : (r : Rest) (c : Certificate) → certificate_read r ≡ Ok c
+    → (found_in r).certificate ≡ c
 found_read r c e = found_as (found_in r) (certificate_read r) c (whole_read r) e
 
 -- ---- verified

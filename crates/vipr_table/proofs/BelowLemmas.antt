@@ -1,5 +1,6 @@
 -- Which variables the constraints of the table have.
-use Rattle.std.proofs.Common.{◌≡◌, ℕ, ◌+◌, Bool, true, false, cond, nat_eq, Some, sym, ap, ◌∙◌, subst}
+use Rattle.std.proofs.Common.{◌≡◌, ℕ, ◌+◌, Bool, true, false, cond, nat_eq, Some, sym, ap, ◌∙◌}
+use Rattle.std.proofs.Common.{subst}
 use Rattle.std.specs.Ordering.{nat_cmp}
 use Rattle.std.specs.FinMap.{get, get-empty}
 use Rattle.vipr_spec.specs.Constraint.{at, NamesBelow}
@@ -11,7 +12,8 @@ use Rattle.vipr_table.proofs.HistoryLemmas.{if_live_of}
 pub DerivedBelow-empty : (n first : ℕ) → DerivedBelow n (empty_table first)
 DerivedBelow-empty n first = record { each = λ i e h. absurd (let none = get-empty {X = Entry} nat_cmp i in cc (none, h)) }
 
-pub DerivedBelow-step : (n : ℕ) (t : Table) (e : Entry) → DerivedBelow n t → NamesBelow n (at e.constraint.row) → DerivedBelow n (step t e)
+pub DerivedBelow-step : (n : ℕ) (t : Table) (e : Entry) → DerivedBelow n t
+    → NamesBelow n (at e.constraint.row) → DerivedBelow n (step t e)
 DerivedBelow-step n t e below new = record {
   each = λ i x h.
       by i x (nat_eq i t.next)

@@ -1,29 +1,35 @@
 -- How many keys a map by number has: as many as pass the test in a range that has them all.
-use Rattle.std.proofs.Common.{◌≡◌, ℕ, zero, suc, ◌+◌, ◌-◌, ◌<◌, ◌≤◌, Bool, true, false, cond, nat_eq, Option, Some, None, is_some, List, [], ◌∷◌, ◌++◌, refl, sym, ap, ap₂, ◌∙◌, arith, add-zero, inl, inr}
+use Rattle.std.proofs.Common.{◌≡◌, ℕ, zero, suc, ◌+◌, ◌-◌, ◌<◌, ◌≤◌, Bool, true, false, cond}
+use Rattle.std.proofs.Common.{nat_eq, Option, Some, None, is_some, List, [], ◌∷◌, ◌++◌, refl, sym}
+use Rattle.std.proofs.Common.{ap, ap₂, ◌∙◌, arith, add-zero, inl, inr}
 use Rattle.std.proofs.lemmas.Bool.Decides.{nat_tests}
 use Rattle.std.proofs.lemmas.Bool.{cases_lt}
 use Rattle.std.proofs.lemmas.List.Sums.{sum_by-cons, sum_by_push}
 use Rattle.std.specs.List.{range_with_len, count_by}
 use Rattle.std.specs.Cmp.{nat_cmp_total}
 use Rattle.std.specs.Ordering.{nat_cmp}
-use Rattle.std.specs.FinMap.{FinMap, get, remove, empty, len, contains_key, get-empty, len-empty, len-remove, empty_of_len}
+use Rattle.std.specs.FinMap.{FinMap, get, remove, empty, len, contains_key, get-empty, len-empty}
+use Rattle.std.specs.FinMap.{len-remove, empty_of_len}
 use Rattle.vipr_table.proofs.TableLemmas.{get-remove_at, same_numbers}
 
 range_more : (a n : ℕ) → range_with_len a (suc n) ≡ range_with_len a n ++ (a + n) ∷ []
 range_more a zero = ap (λ k. k ∷ []) (sym (add-zero a))
 range_more a (suc n) = ap (λ l. a ∷ l) (range_more (a + 1) n ∙ ap (λ k. range_with_len (a + 1) n ++ k ∷ []) (let e : (a + 1) + n ≡ a + suc n = omega arith in e))
 
-count_cons : (p : ℕ → Bool) (k : ℕ) (ks : List ℕ) → count_by p (k ∷ ks) ≡ cond (p k) 1 0 + count_by p ks
+count_cons : (p : ℕ → Bool) (k : ℕ) (ks : List ℕ)
+    → count_by p (k ∷ ks) ≡ cond (p k) 1 0 + count_by p ks
 count_cons p k ks = sum_by-cons (λ x. cond (p x) 1 0) k ks
 
-pub count_same : (p q : ℕ → Bool) (a n : ℕ) → ((k : ℕ) → a ≤ k → k < a + n → p k ≡ q k) → count_by p (range_with_len a n) ≡ count_by q (range_with_len a n)
+pub count_same : (p q : ℕ → Bool) (a n : ℕ) → ((k : ℕ) → a ≤ k → k < a + n → p k ≡ q k)
+    → count_by p (range_with_len a n) ≡ count_by q (range_with_len a n)
 count_same p q a zero same = refl
 count_same p q a (suc n) same =
     count_cons p a (range_with_len (a + 1) n)
     ∙ ap₂ (λ b m. cond b 1 0 + m) (same a (omega arith) (omega arith)) (count_same p q (a + 1) n (λ k le lt. same k (omega arith) (omega arith)))
     ∙ sym (count_cons q a (range_with_len (a + 1) n))
 
-pub count_more : (p : ℕ → Bool) (a n : ℕ) → count_by p (range_with_len a (suc n)) ≡ count_by p (range_with_len a n) + cond (p (a + n)) 1 0
+pub count_more : (p : ℕ → Bool) (a n : ℕ)
+    → count_by p (range_with_len a (suc n)) ≡ count_by p (range_with_len a n) + cond (p (a + n)) 1 0
 count_more p a n = ap (count_by p) (range_more a n) ∙ sum_by_push (λ x. cond (p x) 1 0) (range_with_len a n) (a + n)
 
 some_or_none : {X : Type 0} (o : Option X) → ((is_some o ≡ true → ⊥) → o ≡ None)

@@ -1,7 +1,11 @@
--- What keeps a table and the order of its expiries together, and what the order says of the live part.
-use Rattle.std.proofs.Common.{◌≡◌, ℕ, ◌+◌, ◌<◌, ◌≤◌, true, false, cond, nat_eq, nat_le, Option, Some, None, List, [], ◌∷◌, All, Contains, IsPermutation, refl, sym, ap, ◌∙◌, subst, arith, ◌⊎◌, inl, inr}
+-- What keeps a table and the order of its expiries together, and what the order says of the live
+-- part.
+use Rattle.std.proofs.Common.{◌≡◌, ℕ, ◌+◌, ◌<◌, ◌≤◌, true, false, cond, nat_eq, nat_le, Option}
+use Rattle.std.proofs.Common.{Some, None, List, [], ◌∷◌, All, Contains, IsPermutation, refl, sym}
+use Rattle.std.proofs.Common.{ap, ◌∙◌, subst, arith, ◌⊎◌, inl, inr}
 use Rattle.std.proofs.lemmas.Bool.Decides.{nat_tests}
-use Rattle.std.proofs.lemmas.List.Elements.{All-cons, All-head, All-tail, All-weaker, All-contains, Contains-append_right, Contains-append_cases}
+use Rattle.std.proofs.lemmas.List.Elements.{All-cons, All-head, All-tail, All-weaker, All-contains}
+use Rattle.std.proofs.lemmas.List.Elements.{Contains-append_right, Contains-append_cases}
 use Rattle.std.proofs.lemmas.List.Sorted.{All-permutation, Contains-permutation}
 use Rattle.std.specs.Ordering.{nat_cmp}
 use Rattle.std.specs.FinMap.{FinMap, get, insert, remove, empty, get-empty}
@@ -10,7 +14,8 @@ use Rattle.vipr_table.specs.Expiry.{Notes}
 use Rattle.vipr_table.specs.declared.rows.Entry.{Entry}
 use Rattle.vipr_table.specs.Table.{expiry, if_live, live_part}
 use Rattle.vipr_table.specs.Expiry.{IsTied}
-use Rattle.vipr_table.proofs.TableLemmas.{get-insert_at, get-remove_at, get-live_part, same_numbers, if_live-true, if_live-false}
+use Rattle.vipr_table.proofs.TableLemmas.{get-insert_at, get-remove_at, get-live_part, same_numbers}
+use Rattle.vipr_table.proofs.TableLemmas.{if_live-true, if_live-false}
 
 ahead_cases : (x y : ℕ × ℕ) (ds : List (ℕ × ℕ)) → Contains (x ∷ ds) y → (y ≡ x) ⊎ Contains ds y
 ahead_cases x y ds h =
@@ -56,8 +61,10 @@ IsTied-removed next m ds es last i t p = record {
 }
 
 -- an entry that is taken out when it is due was not live
-pub live_part-removed : (next now : ℕ) (m : FinMap nat_cmp Entry) (ds es : List (ℕ × ℕ)) (last i : ℕ)
-    → IsTied next m ds → IsPermutation ds ((last, i) ∷ es) → last ≤ now → live_part (now + 1) (remove m i) ≡ live_part (now + 1) m
+pub live_part-removed : (next now : ℕ) (m : FinMap nat_cmp Entry) (ds es : List (ℕ × ℕ))
+    (last i : ℕ)
+    → IsTied next m ds → IsPermutation ds ((last, i) ∷ es) → last ≤ now
+    → live_part (now + 1) (remove m i) ≡ live_part (now + 1) m
 live_part-removed next now m ds es last i t p due = same_numbers _ _ (λ q. get-live_part (now + 1) (remove m i) q ∙ at q ∙ sym (get-live_part (now + 1) m q))
   where
     expired : (e : Entry) → get m i ≡ Some e → if_live (now + 1) (Some e) ≡ None
@@ -97,7 +104,8 @@ live_part-none_due next now m ds t none = same_numbers _ _ (λ q. get-live_part 
     at q (Some e) is = if_live-true (now + 1) e (stays q e is (expiry e) refl)
 
 still_right : (next : ℕ) (m : FinMap nat_cmp Entry) (ds : List (ℕ × ℕ)) (e : Entry)
-    → IsTied next m ds → All (λ (d : ℕ × ℕ). (f : Entry) → get (insert m next e) d.1 ≡ Some f → expiry f ≡ Some d.0) ds
+    → IsTied next m ds → All
+    (λ (d : ℕ × ℕ). (f : Entry) → get (insert m next e) d.1 ≡ Some f → expiry f ≡ Some d.0) ds
 still_right next m ds e t k d lt f is =
     elim (put_cases m next e _ f is) [
       | inl new ↦ absurd (let b = t.below k d lt in omega (arith, b, new.0))
@@ -122,7 +130,8 @@ IsTied-kept next m ds e t never = record {
 
 -- an entry that expires
 IsTied-added : (next : ℕ) (m : FinMap nat_cmp Entry) (ds es : List (ℕ × ℕ)) (e : Entry) (last : ℕ)
-    → IsTied next m ds → expiry e ≡ Some last → IsPermutation ((last, next) ∷ ds) es → IsTied (next + 1) (insert m next e) es
+    → IsTied next m ds → expiry e ≡ Some last → IsPermutation ((last, next) ∷ ds) es
+    → IsTied (next + 1) (insert m next e) es
 IsTied-added next m ds es e last t expires p = record {
   below = All-permutation (λ d. d.1 < next + 1) ((last, next) ∷ ds) es p
       (All-cons (λ d. d.1 < next + 1) (last, next) ds (omega arith) (All-weaker (λ d. d.1 < next) (λ d. d.1 < next + 1) (λ d h. omega arith) ds t.below));

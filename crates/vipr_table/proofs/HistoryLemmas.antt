@@ -1,22 +1,29 @@
 -- The table of a certificate, one derivation after another.
-use Rattle.std.proofs.Common.{◌≡◌, ℕ, suc, ◌+◌, ◌-◌, ◌<◌, ◌≤◌, Bool, true, false, cond, ◌&&◌, ◌||◌, nat_eq, nat_lt, nat_le, Option, Some, None, is_some, List, [], ◌∷◌, length, refl, sym, ap, ap₂, ◌∙◌, subst, arith, length-append, ◌⊎◌, inl, inr}
+use Rattle.std.proofs.Common.{◌≡◌, ℕ, suc, ◌+◌, ◌-◌, ◌<◌, ◌≤◌, Bool, true, false, cond, ◌&&◌, ◌||◌}
+use Rattle.std.proofs.Common.{nat_eq, nat_lt, nat_le, Option, Some, None, is_some, List, [], ◌∷◌}
+use Rattle.std.proofs.Common.{length, refl, sym, ap, ap₂, ◌∙◌, subst, arith, length-append, ◌⊎◌}
+use Rattle.std.proofs.Common.{inl, inr}
 use Rattle.std.proofs.lemmas.Bool.Decides.{nat_tests}
 use Rattle.std.proofs.lemmas.Bool.{cases_lt}
 use Rattle.std.specs.Ordering.{nat_cmp}
 use Rattle.std.specs.FinMap.{get, get-empty, contains_key}
 use Rattle.std.specs.List.{range_with_len, count_by}
-use Rattle.vipr_spec.specs.Certificate.{Derivation, Certificate, reason_at, last_at, is_assumption, lasts_to, is_live, count}
+use Rattle.vipr_spec.specs.Certificate.{Derivation, Certificate, reason_at, last_at, is_assumption}
+use Rattle.vipr_spec.specs.Certificate.{lasts_to, is_live, count}
 use Rattle.vipr_spec.specs.Certificate as spec
 use Rattle.vipr_spec.specs.Steps.{RefersBack}
-use Rattle.vipr_spec.proofs.Laws.{with_more, constraint_before, reason_before, last_before, rests_more}
+use Rattle.vipr_spec.proofs.Laws.{with_more, constraint_before, reason_before, last_before}
+use Rattle.vipr_spec.proofs.Laws.{rests_more}
 use Rattle.vipr_table.specs.declared.rows.Entry.{Entry}
-use Rattle.vipr_table.specs.Table.{Table, is_live_before, if_live, live_part, empty_table, step, entry_at, held_count}
+use Rattle.vipr_table.specs.Table.{Table, is_live_before, if_live, live_part, empty_table, step}
+use Rattle.vipr_table.specs.Table.{entry_at, held_count}
 use Rattle.vipr_table.specs.History.{IsEntryOf, is_derived, is_held, IsTableOf, FindsLive}
 use Rattle.vipr_table.proofs.TableLemmas.{get-insert_at, get-live_part}
 use Rattle.vipr_table.proofs.CountLemmas.{count_same, count_more, len_counts}
 
 -- later derivations change no entry
-entry_later : (c : Certificate) (ds : List Derivation) (i : ℕ) (e : Entry) → RefersBack c → i < count c → IsEntryOf c i e → IsEntryOf (with_more c ds) i e
+entry_later : (c : Certificate) (ds : List Derivation) (i : ℕ) (e : Entry) → RefersBack c
+    → i < count c → IsEntryOf c i e → IsEntryOf (with_more c ds) i e
 entry_later c ds i e back h x = record {
   says = constraint_before c ds i h ∙ x.says;
   rests = λ a. (λ t. (rests_more c ds back i a h).1 ((x.rests a).0 t), λ r. (x.rests a).1 ((rests_more c ds back i a h).0 r));
@@ -28,7 +35,8 @@ entry_later c ds i e back h x = record {
 abbrev lasts : Certificate → ℕ → ℕ → Bool
 lasts c k i = is_assumption (reason_at c i) || lasts_to k (last_at c i)
 
-entry_lasts : (c : Certificate) (i : ℕ) (e : Entry) (k : ℕ) → IsEntryOf c i e → is_live_before k e ≡ lasts c k i
+entry_lasts : (c : Certificate) (i : ℕ) (e : Entry) (k : ℕ) → IsEntryOf c i e
+    → is_live_before k e ≡ lasts c k i
 entry_lasts c i e k x = by e.is_assumption ∙ ap₂ (λ b l. b || lasts_to k l) x.is_assumed x.last
   where
     by : (b : Bool) → lasts_to k (cond b None e.last) ≡ (b || lasts_to k e.last)
@@ -47,20 +55,25 @@ lasts_less c k i h = by (is_assumption (reason_at c i)) (last_at c i) h
     by false (Some last) h = less last h
 
 -- what the tests say
-held_within : (m n q : ℕ) (s : Bool) → (nat_le m q && (nat_eq (q + 1) n || (nat_lt q n && s))) ≡ true → (m ≤ q) × (q < n)
+held_within : (m n q : ℕ) (s : Bool)
+    → (nat_le m q && (nat_eq (q + 1) n || (nat_lt q n && s))) ≡ true → (m ≤ q) × (q < n)
 held_within m n q s h = grind (arith, nat_tests)
 
-pub held_range : (c : Certificate) (q : ℕ) → is_held c q ≡ true → (length c.problem.constraints ≤ q) × (q < count c)
+pub held_range : (c : Certificate) (q : ℕ) → is_held c q ≡ true
+    → (length c.problem.constraints ≤ q) × (q < count c)
 held_range c q h = held_within (length c.problem.constraints) (count c) q (lasts c (count c) q) h
 
 last_is_held : (m n : ℕ) (s : Bool) → m ≤ n → (nat_le m n && (nat_eq (n + 1) (n + 1) || s)) ≡ true
 last_is_held m n s h = grind (arith, nat_tests)
 
-before_next : (m n q : ℕ) (s : Bool) → q < n → m ≤ q → (nat_le m q && (nat_eq (q + 1) (n + 1) || (nat_lt q (n + 1) && s))) ≡ s
+before_next : (m n q : ℕ) (s : Bool) → q < n → m ≤ q
+    → (nat_le m q && (nat_eq (q + 1) (n + 1) || (nat_lt q (n + 1) && s))) ≡ s
 before_next m n q true h g = grind (arith, nat_tests)
 before_next m n q false h g = grind (arith, nat_tests)
 
-not_next : (m n q : ℕ) (s t : Bool) → (q ≡ n → ⊥) → (q < n → t ≡ true → s ≡ true) → (nat_le m q && (nat_eq (q + 1) n || (nat_lt q n && s))) ≡ false → (nat_le m q && (nat_eq (q + 1) (n + 1) || (nat_lt q (n + 1) && t))) ≡ false
+not_next : (m n q : ℕ) (s t : Bool) → (q ≡ n → ⊥) → (q < n → t ≡ true → s ≡ true)
+    → (nat_le m q && (nat_eq (q + 1) n || (nat_lt q n && s))) ≡ false
+    → (nat_le m q && (nat_eq (q + 1) (n + 1) || (nat_lt q (n + 1) && t))) ≡ false
 not_next m n q s false apart less h = grind (arith, nat_tests)
 not_next m n q true true apart less h = grind (arith, nat_tests)
 not_next m n q false true apart less h =
@@ -76,11 +89,13 @@ live_within : (m n q : ℕ) (s : Bool) → m ≤ q → q < n → s ≡ (nat_le m
 live_within m n q true h g = grind (arith, nat_tests)
 live_within m n q false h g = grind (arith, nat_tests)
 
-not_live : (m n q : ℕ) (s : Bool) → (nat_le m q && (nat_eq (q + 1) n || (nat_lt q n && s))) ≡ false → (nat_le m q && (nat_lt q n && s)) ≡ false
+not_live : (m n q : ℕ) (s : Bool) → (nat_le m q && (nat_eq (q + 1) n || (nat_lt q n && s))) ≡ false
+    → (nat_le m q && (nat_lt q n && s)) ≡ false
 not_live m n q true h = grind (arith, nat_tests)
 not_live m n q false h = grind (arith, nat_tests)
 
-not_last : (m k q : ℕ) (s : Bool) → m ≤ q → q < k → (nat_le m q && (nat_eq (q + 1) (k + 1) || s)) ≡ s
+not_last : (m k q : ℕ) (s : Bool) → m ≤ q → q < k
+    → (nat_le m q && (nat_eq (q + 1) (k + 1) || s)) ≡ s
 not_last m k q true h g = grind (arith, nat_tests)
 not_last m k q false h g = grind (arith, nat_tests)
 
@@ -103,7 +118,8 @@ is_some_live k e = by (is_live_before k e)
     by false = refl
 
 -- before the first derivation there is nothing
-pub IsTableOf-empty : (c : Certificate) → c.derivations ≡ [] → IsTableOf c (empty_table (length c.problem.constraints))
+pub IsTableOf-empty : (c : Certificate) → c.derivations ≡ []
+    → IsTableOf c (empty_table (length c.problem.constraints))
 IsTableOf-empty c none = record {
   first = refl;
   next = let e = ap length none in omega (arith, e);

@@ -1,10 +1,14 @@
 -- A list that marks its entries, as the map of those that are not marked.
-use Rattle.std.proofs.Common.{◌≡◌, ℕ, zero, suc, ◌+◌, ◌-◌, ◌<◌, ◌≤◌, Bool, true, false, cond, nat_eq, Option, Some, None, is_some, slice_get, List, [], ◌∷◌, ◌++◌, length, refl, sym, ap, ◌∙◌, subst, arith, add-zero, All, IsPermutation, length-append, get_or, not, inl, inr}
+use Rattle.std.proofs.Common.{◌≡◌, ℕ, zero, suc, ◌+◌, ◌-◌, ◌<◌, ◌≤◌, Bool, true, false, cond}
+use Rattle.std.proofs.Common.{nat_eq, Option, Some, None, is_some, slice_get, List, [], ◌∷◌, ◌++◌}
+use Rattle.std.proofs.Common.{length, refl, sym, ap, ◌∙◌, subst, arith, add-zero, All}
+use Rattle.std.proofs.Common.{IsPermutation, length-append, get_or, not, inl, inr}
 use Rattle.std.proofs.lemmas.Bool.{cases_lt}
 use Rattle.std.proofs.lemmas.Bool.Decides.{nat_tests}
 use Rattle.std.specs.Cmp.{nat_cmp_total}
 use Rattle.std.specs.Ordering.{nat_cmp}
-use Rattle.std.specs.FinMap.{FinMap, get, insert, remove, empty, get-empty, len, len-empty, len-insert, len-remove, contains_key, empty_of_len}
+use Rattle.std.specs.FinMap.{FinMap, get, insert, remove, empty, get-empty, len, len-empty}
+use Rattle.std.specs.FinMap.{len-insert, len-remove, contains_key, empty_of_len}
 use Rattle.std.proofs.lemmas.List.Elements.{All-cons, All-head, All-tail}
 use Rattle.std.proofs.lemmas.List.Sorted.{All-permutation}
 use Rattle.std.proofs.Math.ListN.{set}
@@ -18,7 +22,8 @@ use Rattle.vipr_table.specs.Table.{expiry, if_live}
 use Rattle.vipr_table.proofs.TableLemmas.{get-insert_at, get-remove_at, same_numbers}
 use Rattle.vipr_table.proofs.ExpiryOrderLemmas.{IsTied-put, IsTied-removed, IsTied-empty}
 
-swapped : {A : Type 0} (a b : Bool) (x y z : A) → (a ≡ true → b ≡ true → ⊥) → cond a x (cond b y z) ≡ cond b y (cond a x z)
+swapped : {A : Type 0} (a b : Bool) (x y z : A) → (a ≡ true → b ≡ true → ⊥)
+    → cond a x (cond b y z) ≡ cond b y (cond a x z)
 swapped true true x y z apart = absurd (apart refl refl)
 swapped true false x y z apart = refl
 swapped false b x y z apart = refl
@@ -76,39 +81,48 @@ module _ (m : FinMap nat_cmp Entry) (k : ℕ) (none : get m k ≡ None) where
   get_one true v = none
   get_one false v = get-insert_at m k v k ∙ ap (λ c. cond c (Some v) (get m k)) (itself k)
 
-get_past : (m : FinMap nat_cmp Entry) (k q : ℕ) (v : Entry) (b : Bool) → (q ≡ k → ⊥) → get (cond b m (insert m k v)) q ≡ get m q
+get_past : (m : FinMap nat_cmp Entry) (k q : ℕ) (v : Entry) (b : Bool) → (q ≡ k → ⊥)
+    → get (cond b m (insert m k v)) q ≡ get m q
 get_past m k q v true apart = refl
 get_past m k q v false apart = get-insert_at m k v q ∙ ap (λ c. cond c (Some v) (get m q)) (other q k apart)
 
 -- nothing stands before the first index
-pub get-kept_before : (first : ℕ) (ks : List Kept) (q : ℕ) → q < first → get (entries_not_forgotten first ks) q ≡ None
+pub get-kept_before : (first : ℕ) (ks : List Kept) (q : ℕ) → q < first
+    → get (entries_not_forgotten first ks) q ≡ None
 get-kept_before first [] q h = get-empty nat_cmp q
 get-kept_before first (k ∷ ks) q h = get_past _ first q k.entry k.is_forgotten (λ e. omega arith) ∙ get-kept_before (first + 1) ks q (omega arith)
 
 -- and from there on each entry that is not marked
-pub get-kept_at : (first : ℕ) (ks : List Kept) (i : ℕ) → get (entries_not_forgotten first ks) (first + i) ≡ entry_if_kept (slice_get ks i)
+pub get-kept_at : (first : ℕ) (ks : List Kept) (i : ℕ)
+    → get (entries_not_forgotten first ks) (first + i) ≡ entry_if_kept (slice_get ks i)
 get-kept_at first [] i = get-empty nat_cmp (first + i)
 get-kept_at first (k ∷ ks) zero = rw add-zero (get_one (entries_not_forgotten (first + 1) ks) first (get-kept_before (first + 1) ks first (omega arith)) k.is_forgotten k.entry)
 get-kept_at first (k ∷ ks) (suc i) =
     get_past (entries_not_forgotten (first + 1) ks) first (first + suc i) k.entry k.is_forgotten (λ e. omega arith)
     ∙ ap (get (entries_not_forgotten (first + 1) ks)) (let e : first + suc i ≡ (first + 1) + i = omega arith in e) ∙ get-kept_at (first + 1) ks i
 
-both_inserted : (b : Bool) (m : FinMap nat_cmp Entry) (a n : ℕ) (v w : Entry) → (n ≡ a → ⊥) → cond b (insert m n w) (insert (insert m n w) a v) ≡ insert (cond b m (insert m a v)) n w
+both_inserted : (b : Bool) (m : FinMap nat_cmp Entry) (a n : ℕ) (v w : Entry) → (n ≡ a → ⊥)
+    → cond b (insert m n w) (insert (insert m n w) a v) ≡ insert (cond b m (insert m a v)) n w
 both_inserted true m a n v w apart = refl
 both_inserted false m a n v w apart = insert_insert m n a w v apart
 
-both_removed : (b : Bool) (m : FinMap nat_cmp Entry) (a n : ℕ) (v : Entry) → (a ≡ n → ⊥) → cond b (remove m n) (insert (remove m n) a v) ≡ remove (cond b m (insert m a v)) n
+both_removed : (b : Bool) (m : FinMap nat_cmp Entry) (a n : ℕ) (v : Entry) → (a ≡ n → ⊥)
+    → cond b (remove m n) (insert (remove m n) a v) ≡ remove (cond b m (insert m a v)) n
 both_removed true m a n v apart = refl
 both_removed false m a n v apart = insert_remove m a n v v apart
 
-pub kept_map-push : (first : ℕ) (ks : List Kept) (k : Kept) → k.is_forgotten ≡ false → entries_not_forgotten first (ks ++ k ∷ []) ≡ insert (entries_not_forgotten first ks) (first + length ks) k.entry
+pub kept_map-push : (first : ℕ) (ks : List Kept) (k : Kept) → k.is_forgotten ≡ false
+    → entries_not_forgotten first (ks ++ k ∷ [])
+    ≡ insert (entries_not_forgotten first ks) (first + length ks) k.entry
 kept_map-push first [] k new = ap (λ b. cond b empty (insert empty first k.entry)) new ∙ ap (λ n. insert empty n k.entry) (sym (add-zero first))
 kept_map-push first (j ∷ ks) k new =
     ap (λ m. cond j.is_forgotten m (insert m first j.entry)) (kept_map-push (first + 1) ks k new)
     ∙ both_inserted j.is_forgotten (entries_not_forgotten (first + 1) ks) first ((first + 1) + length ks) j.entry k.entry (λ e. omega arith)
     ∙ ap (λ n. insert (entries_not_forgotten first (j ∷ ks)) n k.entry) (let e : (first + 1) + length ks ≡ first + length (j ∷ ks) = omega arith in e)
 
-pub kept_map-forget : (first : ℕ) (ks : List Kept) (i : ℕ) → i < length ks → entries_not_forgotten first (forget_at ks i) ≡ remove (entries_not_forgotten first ks) (first + i)
+pub kept_map-forget : (first : ℕ) (ks : List Kept) (i : ℕ) → i < length ks
+    → entries_not_forgotten first (forget_at ks i)
+    ≡ remove (entries_not_forgotten first ks) (first + i)
 kept_map-forget first [] i h = absurd (omega arith)
 kept_map-forget first (k ∷ ks) zero h =
     rw add-zero (sym (remove_one (entries_not_forgotten (first + 1) ks) first (get-kept_before (first + 1) ks first (omega arith)) k.is_forgotten k.entry))
@@ -139,12 +153,14 @@ past_end [] i h = refl
 past_end (k ∷ ks) zero h = absurd (omega arith)
 past_end (k ∷ ks) (suc i) h = past_end ks i (omega arith)
 
-place_get : (ks : List Kept) (i : ℕ) (k : Kept) → i < length ks → k ≡ get_or ks i k → slice_get ks i ≡ Some k
+place_get : (ks : List Kept) (i : ℕ) (k : Kept) → i < length ks → k ≡ get_or ks i k
+    → slice_get ks i ≡ Some k
 place_get [] i k h e = absurd (omega arith)
 place_get (j ∷ ks) zero k h e = ap Some (sym e)
 place_get (j ∷ ks) (suc i) k h e = place_get ks i k (omega arith) e
 
-some_held : (m : FinMap nat_cmp Entry) (i : ℕ) (c : Bool) → is_some (get m i) ≡ c → cond c 1 0 ≤ len m
+some_held : (m : FinMap nat_cmp Entry) (i : ℕ) (c : Bool) → is_some (get m i) ≡ c
+    → cond c 1 0 ≤ len m
 some_held m i false e = omega arith
 some_held m i true e =
     elim (cases_lt 0 (len m)) [
@@ -160,13 +176,15 @@ less_one true n = refl
 less_one false n = omega arith
 
 -- a mark, as a write
-pub set-forget : (ks : List Kept) (i : ℕ) (k : Kept) → i < length ks → k ≡ get_or ks i k → set ks i (record k { is_forgotten = true }) ≡ forget_at ks i
+pub set-forget : (ks : List Kept) (i : ℕ) (k : Kept) → i < length ks → k ≡ get_or ks i k
+    → set ks i (record k { is_forgotten = true }) ≡ forget_at ks i
 set-forget [] i k h e = absurd (omega arith)
 set-forget (j ∷ ks) zero k h e = ap (λ (x : Kept). record x { is_forgotten = true } ∷ ks) e
 set-forget (j ∷ ks) (suc i) k h e = ap (λ l. j ∷ l) (set-forget ks i k (omega arith) e)
 
 -- how many entries are at a place: one, if it is not marked
-pub was_shown : (ks : List Kept) (i : ℕ) (k : Kept) → i < length ks → k ≡ get_or ks i k → bool_byte (not k.is_forgotten) ≡ cond (is_some (entry_if_kept (slice_get ks i))) 1 0
+pub was_shown : (ks : List Kept) (i : ℕ) (k : Kept) → i < length ks → k ≡ get_or ks i k
+    → bool_byte (not k.is_forgotten) ≡ cond (is_some (entry_if_kept (slice_get ks i))) 1 0
 was_shown [] i k h e = absurd (omega arith)
 was_shown (j ∷ ks) zero k h e = ap (λ (x : Kept). bool_byte (not x.is_forgotten)) e ∙ by j.is_forgotten
   where

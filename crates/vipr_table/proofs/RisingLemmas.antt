@@ -1,5 +1,8 @@
 -- Lists that rise: what a push, a join, a filter and a step of a merge leave.
-use Rattle.std.proofs.Common.{◌≡◌, ℕ, zero, suc, ◌+◌, ◌-◌, ◌<◌, ◌≤◌, ◌^◌, Bool, true, false, not, cond, ◌||◌, ◌&&◌, min, nat_eq, List, [], ◌∷◌, ◌++◌, length, drop, take, get_or, filter, refl, sym, ap, ◌∙◌, subst, arith, add-zero, add-one, drop-cons, lit≤, length-drop, ◌⊎◌, inl, inr}
+use Rattle.std.proofs.Common.{◌≡◌, ℕ, zero, suc, ◌+◌, ◌-◌, ◌<◌, ◌≤◌, ◌^◌, Bool, true, false, not}
+use Rattle.std.proofs.Common.{cond, ◌||◌, ◌&&◌, min, nat_eq, List, [], ◌∷◌, ◌++◌, length, drop}
+use Rattle.std.proofs.Common.{take, get_or, filter, refl, sym, ap, ◌∙◌, subst, arith, add-zero}
+use Rattle.std.proofs.Common.{add-one, drop-cons, lit≤, length-drop, ◌⊎◌, inl, inr}
 use Rattle.std.proofs.lemmas.Bool.Decides.{nat_tests}
 use Rattle.std.proofs.lemmas.Bool.{cases_lt}
 use Rattle.std.proofs.lemmas.List.Folds.{list_any-append}
@@ -8,15 +11,18 @@ use mir.Val.{bool_byte}
 use Rattle.vipr_table.specs.Rising.{RisesWithin, IsRising, IsUnion, has}
 use Rattle.vipr_table.specs.Merging.{Merging}
 
-pub rises_from : (low low' high : ℕ) (xs : List ℕ) → low' ≤ low → RisesWithin low high xs → RisesWithin low' high xs
+pub rises_from : (low low' high : ℕ) (xs : List ℕ) → low' ≤ low → RisesWithin low high xs
+    → RisesWithin low' high xs
 rises_from low low' high [] le r = tt
 rises_from low low' high (x ∷ xs) le r = (omega arith, r.1, r.2)
 
-rises_append : (low mark high : ℕ) (xs ys : List ℕ) → low ≤ mark → mark ≤ high → RisesWithin low mark xs → RisesWithin mark high ys → RisesWithin low high (xs ++ ys)
+rises_append : (low mark high : ℕ) (xs ys : List ℕ) → low ≤ mark → mark ≤ high
+    → RisesWithin low mark xs → RisesWithin mark high ys → RisesWithin low high (xs ++ ys)
 rises_append low mark high [] ys le le' r s = rises_from mark low high ys le s
 rises_append low mark high (x ∷ xs) ys le le' r s = (r.0, omega arith, rises_append (x + 1) mark high xs ys (omega arith) le' r.2 s)
 
-pub rises_filter : (p : ℕ → Bool) (low high : ℕ) (xs : List ℕ) → RisesWithin low high xs → RisesWithin low high (filter p xs)
+pub rises_filter : (p : ℕ → Bool) (low high : ℕ) (xs : List ℕ) → RisesWithin low high xs
+    → RisesWithin low high (filter p xs)
 rises_filter p low high [] r = tt
 rises_filter p low high (x ∷ xs) r = by (p x) (rises_filter p (x + 1) high xs r.2)
   where
@@ -24,7 +30,8 @@ rises_filter p low high (x ∷ xs) r = by (p x) (rises_filter p (x + 1) high xs 
     by true rest = (r.0, r.1, rest)
     by false rest = rises_from (x + 1) low high (filter p xs) (let le : low ≤ x = r.0 in omega arith) rest
 
-left_out : (b c d h : Bool) → (d ≡ true → c ≡ b) → (b ≡ true → c ≡ d) → cond (not b) (d || (not c && h)) (not c && h) ≡ (not c && (d || h))
+left_out : (b c d h : Bool) → (d ≡ true → c ≡ b) → (b ≡ true → c ≡ d)
+    → cond (not b) (d || (not c && h)) (not c && h) ≡ (not c && (d || h))
 left_out true true d h e f = refl
 left_out true false true h e f = absurd (let g = f refl in cc)
 left_out true false false h e f = refl
@@ -33,7 +40,8 @@ left_out false true false h e f = refl
 left_out false false true h e f = refl
 left_out false false false h e f = refl
 
-has_cond : (b : Bool) (x q : ℕ) (f : List ℕ) → has (cond b (x ∷ f) f) q ≡ cond b (nat_eq x q || has f q) (has f q)
+has_cond : (b : Bool) (x q : ℕ) (f : List ℕ)
+    → has (cond b (x ∷ f) f) q ≡ cond b (nat_eq x q || has f q) (has f q)
 has_cond true x q f = refl
 has_cond false x q f = refl
 
@@ -44,7 +52,8 @@ same_test' : (x q k : ℕ) → nat_eq x k ≡ true → nat_eq q k ≡ nat_eq x q
 same_test' x q k h = grind (arith, nat_tests)
 
 -- a filter that leaves one number out
-pub has_all_but : (k : ℕ) (xs : List ℕ) (q : ℕ) → has (filter (λ x. not (nat_eq x k)) xs) q ≡ (not (nat_eq q k) && has xs q)
+pub has_all_but : (k : ℕ) (xs : List ℕ) (q : ℕ)
+    → has (filter (λ x. not (nat_eq x k)) xs) q ≡ (not (nat_eq q k) && has xs q)
 has_all_but k [] q = both (not (nat_eq q k))
   where
     both : (b : Bool) → false ≡ (b && false)
@@ -55,7 +64,8 @@ has_all_but k (x ∷ xs) q =
     ∙ ap (λ h. cond (not (nat_eq x k)) (nat_eq x q || h) h) (has_all_but k xs q)
     ∙ left_out (nat_eq x k) (nat_eq q k) (nat_eq x q) (has xs q) (same_test x q k) (same_test' x q k)
 
-cases3 : (x y low : ℕ) → low ≡ min x y → ((x ≡ low) × (y ≡ low)) ⊎ (((x ≡ low) × (low < y)) ⊎ ((low < x) × (y ≡ low)))
+cases3 : (x y low : ℕ) → low ≡ min x y
+    → ((x ≡ low) × (y ≡ low)) ⊎ (((x ≡ low) × (low < y)) ⊎ ((low < x) × (y ≡ low)))
 cases3 x y low e =
     elim (cases_lt x y) [
       | inl l ↦ inr (inl (omega arith, omega arith))
@@ -66,7 +76,8 @@ cases3 x y low e =
           ]
     ]
 
-drop_by : (b : Bool) (i : ℕ) (xs : List ℕ) → drop (i + bool_byte b) xs ≡ cond b (drop (i + 1) xs) (drop i xs)
+drop_by : (b : Bool) (i : ℕ) (xs : List ℕ)
+    → drop (i + bool_byte b) xs ≡ cond b (drop (i + 1) xs) (drop i xs)
 drop_by true i xs = refl
 drop_by false i xs = rw add-zero refl
 
@@ -97,7 +108,8 @@ is_not : (a b : ℕ) → b < a → nat_eq a b ≡ false
 is_not a b h = grind (arith, nat_tests)
 
 -- what is left of a list from which the lower first item is taken, if it begins with it
-left_over : (x low mark : ℕ) (us : List ℕ) → RisesWithin mark (2 ^ 32) (x ∷ us) → low ≤ x → RisesWithin (low + 1) (2 ^ 32) (cond (nat_eq x low) us (x ∷ us))
+left_over : (x low mark : ℕ) (us : List ℕ) → RisesWithin mark (2 ^ 32) (x ∷ us) → low ≤ x
+    → RisesWithin (low + 1) (2 ^ 32) (cond (nat_eq x low) us (x ∷ us))
 left_over x low mark us r le =
     elim (cases_lt low x) [
       | inl above ↦ subst (λ b. RisesWithin (low + 1) (2 ^ 32) (cond b us (x ∷ us))) (sym (is_not x low above)) (omega arith, r.1, r.2)
@@ -139,10 +151,13 @@ module _ (out us vs : List ℕ) (x y low : ℕ) (q : ℕ) where
 first_item : (xs : List ℕ) (i : ℕ) → i < length xs → drop i xs ≡ get_or xs i 0 ∷ drop (i + 1) xs
 first_item xs i h = rw (add-one, drop-cons xs i 0)
 
--- one step: the lower of the two first items goes out, and is taken from each list that begins with it
-pub merge_step : (xs ys : List ℕ) (i j : ℕ) (out : List ℕ) (low : ℕ) → Merging xs ys i j out → i < length xs → j < length ys
+-- one step: the lower of the two first items goes out, and is taken from each list that begins with
+-- it
+pub merge_step : (xs ys : List ℕ) (i j : ℕ) (out : List ℕ) (low : ℕ) → Merging xs ys i j out
+    → i < length xs → j < length ys
     → low ≡ min (get_or xs i 0) (get_or ys j 0)
-    → Merging xs ys (i + bool_byte (nat_eq (get_or xs i 0) low)) (j + bool_byte (nat_eq (get_or ys j 0) low)) (out ++ low ∷ [])
+    → Merging xs ys (i + bool_byte (nat_eq (get_or xs i 0) low))
+    (j + bool_byte (nat_eq (get_or ys j 0) low)) (out ++ low ∷ [])
 merge_step xs ys i j out low m a b e =
     let x = get_or xs i 0 in
     let y = get_or ys j 0 in
@@ -178,7 +193,9 @@ or_assoc : (a b c : Bool) → ((a || b) || c) ≡ (a || (b || c))
 or_assoc true b c = refl
 or_assoc false b c = refl
 
-rises_all : (mark : ℕ) (out us vs : List ℕ) → RisesWithin 0 mark out → mark ≤ 2 ^ 32 → RisesWithin mark (2 ^ 32) us → RisesWithin mark (2 ^ 32) vs → (us ≡ []) ⊎ (vs ≡ []) → IsRising ((out ++ us) ++ vs)
+rises_all : (mark : ℕ) (out us vs : List ℕ) → RisesWithin 0 mark out → mark ≤ 2 ^ 32
+    → RisesWithin mark (2 ^ 32) us → RisesWithin mark (2 ^ 32) vs → (us ≡ []) ⊎ (vs ≡ [])
+    → IsRising ((out ++ us) ++ vs)
 rises_all mark out us vs o top a b none =
     elim none [
       | inl no_us ↦
@@ -196,7 +213,8 @@ no_items (z ∷ zs) e = absurd (omega arith)
 none_left : (i : ℕ) (xs : List ℕ) → length xs ≤ i → drop i xs ≡ []
 none_left i xs h = no_items (drop i xs) (omega (arith, length-drop i xs))
 
-pub merge_end : (xs ys : List ℕ) (i j : ℕ) (out zs : List ℕ) → Merging xs ys i j out → (i < length xs → length ys ≤ j) → zs ≡ (out ++ drop i xs) ++ drop j ys → IsUnion xs ys zs
+pub merge_end : (xs ys : List ℕ) (i j : ℕ) (out zs : List ℕ) → Merging xs ys i j out
+    → (i < length xs → length ys ≤ j) → zs ≡ (out ++ drop i xs) ++ drop j ys → IsUnion xs ys zs
 merge_end xs ys i j out zs m over is = record {
   rising = subst IsRising (sym is) (rises_all m.mark out (drop i xs) (drop j ys) m.done m.mark_fits m.left m.right spent);
   members = λ q.
@@ -214,7 +232,8 @@ pub merge_start : (xs ys : List ℕ) → IsRising xs → IsRising ys → Merging
 merge_start xs ys r s = record { i_within = omega arith; j_within = omega arith; mark = 0; mark_fits = lit≤ tt; done = tt; left = r; right = s; members = λ q. refl }
 
 -- a list that rises is in order
-pub rises_order : (low high : ℕ) (xs : List ℕ) → RisesWithin low high xs → (i j : ℕ) → i ≤ j → j < length xs → get_or xs i 0 ≤ get_or xs j 0
+pub rises_order : (low high : ℕ) (xs : List ℕ) → RisesWithin low high xs → (i j : ℕ) → i ≤ j
+    → j < length xs → get_or xs i 0 ≤ get_or xs j 0
 rises_order low high [] r i j le lt = absurd (omega arith)
 rises_order low high (x ∷ xs) r zero zero le lt = omega arith
 rises_order low high (x ∷ xs) r zero (suc j) le lt = let h = above (x + 1) high xs r.2 j (omega arith) in omega (arith, h)
@@ -237,13 +256,16 @@ or_turned false true = refl
 or_turned false false = refl
 
 -- two lists, where the last item of one is below the first of the other
-all_below : (low high i : ℕ) (xs : List ℕ) (y : ℕ) (ys : List ℕ) → i + 1 ≡ length xs → get_or xs i 0 < y → RisesWithin low high xs → RisesWithin 0 high (y ∷ ys) → RisesWithin low high (xs ++ y ∷ ys)
+all_below : (low high i : ℕ) (xs : List ℕ) (y : ℕ) (ys : List ℕ) → i + 1 ≡ length xs
+    → get_or xs i 0 < y → RisesWithin low high xs → RisesWithin 0 high (y ∷ ys)
+    → RisesWithin low high (xs ++ y ∷ ys)
 all_below low high i [] y ys e lt r s = absurd (omega arith)
 all_below low high zero (x ∷ []) y ys e lt r s = (r.0, r.1, (omega arith, s.1, s.2))
 all_below low high zero (x ∷ z ∷ xs) y ys e lt r s = absurd (omega arith)
 all_below low high (suc i) (x ∷ xs) y ys e lt r s = (r.0, r.1, all_below (x + 1) high i xs y ys (omega arith) lt r.2 s)
 
-pub below_joined : (xs ys : List ℕ) → IsRising xs → IsRising ys → 0 < length xs → 0 < length ys → get_or xs (length xs - 1) 0 < get_or ys 0 0 → IsRising (xs ++ ys)
+pub below_joined : (xs ys : List ℕ) → IsRising xs → IsRising ys → 0 < length xs → 0 < length ys
+    → get_or xs (length xs - 1) 0 < get_or ys 0 0 → IsRising (xs ++ ys)
 below_joined xs [] r s h k lt = absurd (omega arith)
 below_joined xs (y ∷ ys) r s h k lt = all_below 0 (2 ^ 32) (length xs - 1) xs y ys (omega arith) lt r s
 
@@ -260,7 +282,8 @@ not_cond b x xs e = rw e refl
 but_cond : (b : Bool) (x : ℕ) (xs : List ℕ) → b ≡ true → cond (not b) (x ∷ xs) xs ≡ xs
 but_cond b x xs e = rw e refl
 
-last_out : (low high i k : ℕ) (xs : List ℕ) → i + 1 ≡ length xs → get_or xs i 0 ≡ k → RisesWithin low high xs → (take i xs ≡ filter (λ x. not (nat_eq x k)) xs) × (low ≤ k)
+last_out : (low high i k : ℕ) (xs : List ℕ) → i + 1 ≡ length xs → get_or xs i 0 ≡ k
+    → RisesWithin low high xs → (take i xs ≡ filter (λ x. not (nat_eq x k)) xs) × (low ≤ k)
 last_out low high i k [] e is r = absurd (omega arith)
 last_out low high zero k (x ∷ []) e is r = (sym (but_cond (nat_eq x k) x [] (is_eq x k is)), let le : low ≤ x = r.0 in omega (arith, is, le))
 last_out low high zero k (x ∷ z ∷ xs) e is r = absurd (omega arith)
@@ -273,7 +296,8 @@ last_out low high (suc i) k (x ∷ xs) e is r =
     is_under : (a b : ℕ) → a < b → nat_eq a b ≡ false
     is_under a b h = grind (arith, nat_tests)
 
-pub without_last : (k : ℕ) (xs : List ℕ) → IsRising xs → 0 < length xs → get_or xs (length xs - 1) 0 ≡ k → take (length xs - 1) xs ≡ filter (λ x. not (nat_eq x k)) xs
+pub without_last : (k : ℕ) (xs : List ℕ) → IsRising xs → 0 < length xs
+    → get_or xs (length xs - 1) 0 ≡ k → take (length xs - 1) xs ≡ filter (λ x. not (nat_eq x k)) xs
 without_last k xs r some is = (last_out 0 (2 ^ 32) (length xs - 1) k xs (omega arith) is r).0
 
 -- a list has all of another one
@@ -282,31 +306,40 @@ or_part true b h = refl
 or_part false true h = absurd (let e = h refl in cc)
 or_part false false h = refl
 
-pub joined_with_part : (xs ys : List ℕ) → IsRising xs → ((q : ℕ) → has ys q ≡ true → has xs q ≡ true) → IsUnion xs ys xs
+pub joined_with_part : (xs ys : List ℕ) → IsRising xs
+    → ((q : ℕ) → has ys q ≡ true → has xs q ≡ true) → IsUnion xs ys xs
 joined_with_part xs ys r within = record { rising = r; members = λ q. or_part (has xs q) (has ys q) (within q) }
 
-pub joined_with_whole : (xs ys : List ℕ) → IsRising ys → ((q : ℕ) → has xs q ≡ true → has ys q ≡ true) → IsUnion xs ys ys
+pub joined_with_whole : (xs ys : List ℕ) → IsRising ys
+    → ((q : ℕ) → has xs q ≡ true → has ys q ≡ true) → IsUnion xs ys ys
 joined_with_whole xs ys r within = record { rising = r; members = λ q. or_part (has ys q) (has xs q) (within q) ∙ or_turned (has ys q) (has xs q) }
 
 -- the parts of a list that rises, and a list that goes on behind
-pub rises_left : (low high : ℕ) (xs ys : List ℕ) → RisesWithin low high (xs ++ ys) → RisesWithin low high xs
+pub rises_left : (low high : ℕ) (xs ys : List ℕ) → RisesWithin low high (xs ++ ys)
+    → RisesWithin low high xs
 rises_left low high [] ys r = tt
 rises_left low high (x ∷ xs) ys r = (r.0, r.1, rises_left (x + 1) high xs ys r.2)
 
-pub rises_right : (low high : ℕ) (xs ys : List ℕ) → RisesWithin low high (xs ++ ys) → RisesWithin low high ys
+pub rises_right : (low high : ℕ) (xs ys : List ℕ) → RisesWithin low high (xs ++ ys)
+    → RisesWithin low high ys
 rises_right low high [] ys r = r
 rises_right low high (x ∷ xs) ys r = rises_from (x + 1) low high ys (let le : low ≤ x = r.0 in omega arith) (rises_right (x + 1) high xs ys r.2)
 
-rises_on : (low high : ℕ) (xs : List ℕ) (y : ℕ) (ys zs : List ℕ) → RisesWithin low high (xs ++ y ∷ ys) → RisesWithin 0 high (y ∷ ys ++ zs) → RisesWithin low high (xs ++ (y ∷ ys ++ zs))
+rises_on : (low high : ℕ) (xs : List ℕ) (y : ℕ) (ys zs : List ℕ)
+    → RisesWithin low high (xs ++ y ∷ ys) → RisesWithin 0 high (y ∷ ys ++ zs)
+    → RisesWithin low high (xs ++ (y ∷ ys ++ zs))
 rises_on low high [] y ys zs r s = (r.0, s.1, s.2)
 rises_on low high (x ∷ xs) y ys zs r s = (r.0, r.1, rises_on (x + 1) high xs y ys zs r.2 s)
 
-pub rises_longer : (xs ys zs : List ℕ) → IsRising (xs ++ ys) → 0 < length ys → IsRising (ys ++ zs) → IsRising (xs ++ (ys ++ zs))
+pub rises_longer : (xs ys zs : List ℕ) → IsRising (xs ++ ys) → 0 < length ys → IsRising (ys ++ zs)
+    → IsRising (xs ++ (ys ++ zs))
 rises_longer xs [] zs r some s = absurd (omega arith)
 rises_longer xs (y ∷ ys) zs r some s = rises_on 0 (2 ^ 32) xs y ys zs r s
 
 -- a list goes on behind the last of two that has an item
-pub rises_behind : (xs ys zs last : List ℕ) → IsRising (xs ++ ys) → ((length ys ≡ 0) × (last ≡ xs)) ⊎ ((0 < length ys) × (last ≡ ys)) → IsRising (last ++ zs) → IsRising (xs ++ (ys ++ zs))
+pub rises_behind : (xs ys zs last : List ℕ) → IsRising (xs ++ ys)
+    → ((length ys ≡ 0) × (last ≡ xs)) ⊎ ((0 < length ys) × (last ≡ ys)) → IsRising (last ++ zs)
+    → IsRising (xs ++ (ys ++ zs))
 rises_behind xs [] zs last r (inl (none, is)) s = subst (λ l. IsRising (l ++ zs)) is s
 rises_behind xs (y ∷ ys) zs last r (inl (none, is)) s = absurd (omega arith)
 rises_behind xs ys zs last r (inr (some, is)) s = rises_longer xs ys zs r some (subst (λ l. IsRising (l ++ zs)) is s)

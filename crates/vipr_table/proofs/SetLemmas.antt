@@ -1,5 +1,8 @@
 -- A rising list, as a set.
-use Rattle.std.proofs.Common.{◌≡◌, ℕ, ◌+◌, ◌<◌, ◌≤◌, Bool, true, false, not, ◌||◌, ◌&&◌, nat_eq, List, [], ◌∷◌, length, get_or, filter, Result, Ok, Err, is_ok, MatchResult, ◌^◌, refl, sym, ap, ◌∙◌, arith, suc, ◌⊎◌, inl, inr, ◌++◌, append_assoc}
+use Rattle.std.proofs.Common.{◌≡◌, ℕ, ◌+◌, ◌<◌, ◌≤◌, Bool, true, false, not, ◌||◌, ◌&&◌, nat_eq}
+use Rattle.std.proofs.Common.{List, [], ◌∷◌, length, get_or, filter, Result, Ok, Err, is_ok}
+use Rattle.std.proofs.Common.{MatchResult, ◌^◌, refl, sym, ap, ◌∙◌, arith, suc, ◌⊎◌, inl, inr, ◌++◌}
+use Rattle.std.proofs.Common.{append_assoc}
 use Rattle.std.proofs.lemmas.Bool.Decides.{nat_tests, same_from_decides, Decides-eqb}
 use Rattle.std.proofs.lemmas.Bool.{cases_lt}
 use Rattle.std.proofs.lemmas.List.Elements.{All-from_get_or}
@@ -7,21 +10,26 @@ use Rattle.std.proofs.lemmas.List.Folds.{list_any_at, list_any_none, list_any-ap
 use Rattle.std.proofs.lemmas.List.Filters.{dedup_is}
 use Rattle.std.proofs.lemmas.List.Kept.{Contains-dedup_nat, Contains-from_dedup}
 use Rattle.std.proofs.lemmas.List.Sorted.{searched, Contains-permutation, IsPermutation-sym}
-use Rattle.std.proofs.lemmas.Map.Keys.{below_from_sorted, sorted_from_strictly_increasing, IsStrictlyIncreasing-dedup}
+use Rattle.std.proofs.lemmas.Map.Keys.{below_from_sorted, sorted_from_strictly_increasing}
+use Rattle.std.proofs.lemmas.Map.Keys.{IsStrictlyIncreasing-dedup}
 use Rattle.std.proofs.lemmas.Map.Made.{is_member-Decides}
 use Rattle.std.specs.List.{list_any, dedup, All}
 use Rattle.std.specs.List.Retain.{IsFiltered, DiffersFromLast}
-use Rattle.std.specs.List.Sorted.{IsBinarySearchResult, IsPermutation, IsSorted, IsStrictlyIncreasing}
+use Rattle.std.specs.List.Sorted.{IsBinarySearchResult, IsPermutation, IsSorted}
+use Rattle.std.specs.List.Sorted.{IsStrictlyIncreasing}
 use Rattle.std.specs.Cmp.{nat_cmp_total, unsigned_tied}
 use Rattle.std.specs.Ordering.{nat_cmp, eq_by_cmp}
-use Rattle.std.specs.FinSet.{FinSet, contains, empty, from_list, union, remove, same_set, nat_cmp-IsAntisymmetric, contains-from_list_nat, contains-union, contains-remove, contains-empty, contains-insert}
+use Rattle.std.specs.FinSet.{FinSet, contains, empty, from_list, union, remove, same_set}
+use Rattle.std.specs.FinSet.{nat_cmp-IsAntisymmetric, contains-from_list_nat, contains-union}
+use Rattle.std.specs.FinSet.{contains-remove, contains-empty, contains-insert}
 use Rattle.vipr_table.specs.Rising.{IsRising, RisesWithin, IsUnion, has}
 use Rattle.vipr_table.proofs.RisingLemmas.{has_all_but, rises_order, or_part}
 
 same_numbers : (s t : FinSet nat_cmp) → ((q : ℕ) → contains s q ≡ contains t q) → s ≡ t
 same_numbers s t same = same_set nat_cmp_total nat_cmp-IsAntisymmetric s t same
 
-pub union_seen : (xs ys zs : List ℕ) → IsUnion xs ys zs → from_list {R = nat_cmp} zs ≡ union (from_list xs) (from_list ys)
+pub union_seen : (xs ys zs : List ℕ) → IsUnion xs ys zs
+    → from_list {R = nat_cmp} zs ≡ union (from_list xs) (from_list ys)
 union_seen xs ys zs u = same_numbers _ _ (λ q.
     contains-from_list_nat zs q ∙ u.members q
     ∙ (λ t. sym (contains-from_list_nat xs q) t || sym (contains-from_list_nat ys q) t)
@@ -30,13 +38,16 @@ union_seen xs ys zs u = same_numbers _ _ (λ q.
 pub tied_numbers : (a b : ℕ) → nat_eq a b ≡ eq_by_cmp nat_cmp a b
 tied_numbers a b = grind (arith, nat_tests)
 
-pub remove_seen : (xs : List ℕ) (k : ℕ) → from_list {R = nat_cmp} (filter (λ x. not (nat_eq x k)) xs) ≡ remove (from_list xs) k
+pub remove_seen : (xs : List ℕ) (k : ℕ)
+    → from_list {R = nat_cmp} (filter (λ x. not (nat_eq x k)) xs) ≡ remove (from_list xs) k
 remove_seen xs k = same_numbers _ _ (λ q.
     contains-from_list_nat (filter (λ x. not (nat_eq x k)) xs) q ∙ has_all_but k xs q
     ∙ (λ t. not (tied_numbers q k t) && sym (contains-from_list_nat xs q) t)
     ∙ sym (contains-remove nat_cmp_total (from_list xs) k q))
 
-pub found : (xs : List ℕ) (q : ℕ) (r : Result ℕ ℕ) → IsRising xs → IsBinarySearchResult (λ y. nat_cmp y q) xs r → is_ok r ≡ contains (from_list {R = nat_cmp} xs) q
+pub found : (xs : List ℕ) (q : ℕ) (r : Result ℕ ℕ) → IsRising xs
+    → IsBinarySearchResult (λ y. nat_cmp y q) xs r
+    → is_ok r ≡ contains (from_list {R = nat_cmp} xs) q
 found xs q r rising s = by r (searched xs q r s (rises_order 0 (2 ^ 32) xs rising)) ∙ sym (contains-from_list_nat xs q)
   where
     by : (r : Result ℕ ℕ) → MatchResult r (λ i. (i < length xs) × (get_or xs i 0 ≡ q)) (λ i. (i ≤ length xs) × ((k : ℕ) → k < i → get_or xs k 0 < q) × ((k : ℕ) → i ≤ k → k < length xs → q < get_or xs k 0)) → is_ok r ≡ has xs q
@@ -53,7 +64,9 @@ found xs q r rising s = by r (searched xs q r s (rises_order 0 (2 ^ 32) xs risin
         other x e = grind (arith, nat_tests)
 
 -- a set is empty where its list is
-pub empty_seen : (xs : List ℕ) (b : Bool) → b ≡ nat_eq (length xs) 0 → (b ≡ true → from_list {R = nat_cmp} xs ≡ empty) × (from_list {R = nat_cmp} xs ≡ empty → b ≡ true)
+pub empty_seen : (xs : List ℕ) (b : Bool) → b ≡ nat_eq (length xs) 0
+    → (b ≡ true → from_list {R = nat_cmp} xs ≡ empty)
+    × (from_list {R = nat_cmp} xs ≡ empty → b ≡ true)
 empty_seen [] b e = (λ h. refl, λ h. e)
 empty_seen (x ∷ xs) b e = (
   λ h. absurd (let none : nat_eq (length (x ∷ xs)) 0 ≡ false = longer (length xs) in cc (none, e, h)),
@@ -99,13 +112,15 @@ part_or true true h = refl
 part_or true false h = absurd (let e = h refl in cc)
 part_or false b h = refl
 
-pub with_part : (xs ys : List ℕ) → ((q : ℕ) → has ys q ≡ true → has xs q ≡ true) → from_list {R = nat_cmp} xs ≡ union (from_list xs) (from_list ys)
+pub with_part : (xs ys : List ℕ) → ((q : ℕ) → has ys q ≡ true → has xs q ≡ true)
+    → from_list {R = nat_cmp} xs ≡ union (from_list xs) (from_list ys)
 with_part xs ys within = same_numbers _ _ (λ q.
     contains-from_list_nat xs q ∙ or_part (has xs q) (has ys q) (within q)
     ∙ (λ t. sym (contains-from_list_nat xs q) t || sym (contains-from_list_nat ys q) t)
     ∙ sym (contains-union nat_cmp_total (from_list xs) (from_list ys) q))
 
-pub part_with : (xs ys : List ℕ) → ((q : ℕ) → has xs q ≡ true → has ys q ≡ true) → from_list {R = nat_cmp} ys ≡ union (from_list xs) (from_list ys)
+pub part_with : (xs ys : List ℕ) → ((q : ℕ) → has xs q ≡ true → has ys q ≡ true)
+    → from_list {R = nat_cmp} ys ≡ union (from_list xs) (from_list ys)
 part_with xs ys within = same_numbers _ _ (λ q.
     contains-from_list_nat ys q ∙ part_or (has xs q) (has ys q) (within q)
     ∙ (λ t. sym (contains-from_list_nat xs q) t || sym (contains-from_list_nat ys q) t)
@@ -123,7 +138,8 @@ remove_absent s k absent = sym (same_numbers _ _ (λ q. contains-remove nat_cmp_
     by q false e = refl
 
 -- ---- a list in two parts
-pub parts_have : (xs ys : List ℕ) (q : ℕ) → contains (from_list {R = nat_cmp} (xs ++ ys)) q ≡ (has xs q || has ys q)
+pub parts_have : (xs ys : List ℕ) (q : ℕ)
+    → contains (from_list {R = nat_cmp} (xs ++ ys)) q ≡ (has xs q || has ys q)
 parts_have xs ys q = contains-from_list_nat (xs ++ ys) q ∙ list_any-append (λ n. nat_eq n q) xs ys
 
 pub first_has : (a b r : Bool) → r ≡ a → r ≡ true → r ≡ (a || b)
@@ -134,16 +150,19 @@ pub second_has : (a b r s : Bool) → r ≡ a → r ≡ false → s ≡ b → s 
 second_has true b r s e f h = absurd (cc)
 second_has false b r s e f h = h
 
-pub second_empty : (xs ys : List ℕ) (a b : Bool) → a ≡ nat_eq (length xs) 0 → a ≡ true → b ≡ nat_eq (length ys) 0 → b ≡ nat_eq (length (xs ++ ys)) 0
+pub second_empty : (xs ys : List ℕ) (a b : Bool) → a ≡ nat_eq (length xs) 0 → a ≡ true
+    → b ≡ nat_eq (length ys) 0 → b ≡ nat_eq (length (xs ++ ys)) 0
 second_empty [] ys a b e t h = h
 second_empty (x ∷ xs) ys a b e t h = absurd (let none : nat_eq (length (x ∷ xs)) 0 ≡ false = grind (arith, nat_tests) in cc)
 
-pub first_some : (xs ys : List ℕ) (a : Bool) → a ≡ nat_eq (length xs) 0 → a ≡ false → a ≡ nat_eq (length (xs ++ ys)) 0
+pub first_some : (xs ys : List ℕ) (a : Bool) → a ≡ nat_eq (length xs) 0 → a ≡ false
+    → a ≡ nat_eq (length (xs ++ ys)) 0
 first_some [] ys a e f = absurd (let none : nat_eq 0 0 ≡ true = grind (arith, nat_tests) in cc)
 first_some (x ∷ xs) ys a e f = f ∙ (let some : nat_eq (length ((x ∷ xs) ++ ys)) 0 ≡ false = grind (arith, nat_tests) in sym some)
 
 -- a list that goes on
-pub longer_seen : (xs ys zs : List ℕ) → from_list {R = nat_cmp} (xs ++ (ys ++ zs)) ≡ union (from_list (xs ++ ys)) (from_list zs)
+pub longer_seen : (xs ys zs : List ℕ)
+    → from_list {R = nat_cmp} (xs ++ (ys ++ zs)) ≡ union (from_list (xs ++ ys)) (from_list zs)
 longer_seen xs ys zs = ap from_list (sym (append_assoc xs ys zs)) ∙ same_numbers _ _ (λ q.
     parts_have (xs ++ ys) zs q
     ∙ (λ t. sym (contains-from_list_nat (xs ++ ys) q) t || sym (contains-from_list_nat zs q) t)
@@ -154,19 +173,24 @@ whether [] q = contains-empty nat_cmp q
 whether (k ∷ ks) q = contains-insert nat_cmp_total _ k q ∙ (λ i. unsigned_tied q k i || whether ks q i)
 
 -- what a sort and the removal of repeats leave makes the same set
-pub deduped_set : (xs ys zs : List ℕ) → IsPermutation xs ys → IsFiltered (DiffersFromLast nat_eq) [] ys zs → from_list {R = nat_cmp} zs ≡ from_list xs
+pub deduped_set : (xs ys zs : List ℕ) → IsPermutation xs ys
+    → IsFiltered (DiffersFromLast nat_eq) [] ys zs → from_list {R = nat_cmp} zs ≡ from_list xs
 deduped_set xs ys zs p f = same_numbers _ _ (λ q.
     whether zs q
     ∙ ap (list_any (nat_eq q)) (dedup_is nat_eq ys zs f)
     ∙ same_from_decides _ _ (is_member-Decides Decides-eqb (dedup nat_eq ys) q) (λ t. Contains-dedup_nat ys q (Contains-permutation xs ys q p ((is_member-Decides Decides-eqb xs q).0 t)), λ h. (is_member-Decides Decides-eqb xs q).1 (Contains-permutation ys xs q (IsPermutation-sym xs ys p) (Contains-from_dedup nat_eq ys q h)))
     ∙ sym (whether xs q))
 
-rises_at : (low : ℕ) (xs : List ℕ) → ((i j : ℕ) → i < j → j < length xs → get_or xs i 0 < get_or xs j 0) → ((k : ℕ) → k < length xs → low ≤ get_or xs k 0) → ((k : ℕ) → k < length xs → get_or xs k 0 < 2 ^ 32) → RisesWithin low (2 ^ 32) xs
+rises_at : (low : ℕ) (xs : List ℕ)
+    → ((i j : ℕ) → i < j → j < length xs → get_or xs i 0 < get_or xs j 0)
+    → ((k : ℕ) → k < length xs → low ≤ get_or xs k 0)
+    → ((k : ℕ) → k < length xs → get_or xs k 0 < 2 ^ 32) → RisesWithin low (2 ^ 32) xs
 rises_at low [] s l b = tt
 rises_at low (x ∷ xs) s l b = (l 0 (omega arith), b 0 (omega arith), rises_at (x + 1) xs (λ i j lt h. s (suc i) (suc j) (omega (arith, lt)) (omega (arith, h))) (λ k h. let r = s 0 (suc k) (omega arith) (omega (arith, h)) in omega (arith, r)) (λ k h. b (suc k) (omega (arith, h))))
 
 -- and it rises
-pub deduped_rising : (ys zs : List ℕ) → IsSorted nat_cmp ys → IsFiltered (DiffersFromLast nat_eq) [] ys zs → All (λ x. x < 2 ^ 32) zs → IsRising zs
+pub deduped_rising : (ys zs : List ℕ) → IsSorted nat_cmp ys
+    → IsFiltered (DiffersFromLast nat_eq) [] ys zs → All (λ x. x < 2 ^ 32) zs → IsRising zs
 deduped_rising ys zs s f b =
     let rises : IsStrictlyIncreasing zs = rw (dedup_is nat_eq ys zs f) (IsStrictlyIncreasing-dedup ys s) in
     rises_at 0 zs (λ i j lt h. below_from_sorted zs i j 0 (sorted_from_strictly_increasing zs rises) lt h) (λ k h. omega arith) (λ k h. b k 0 h)

@@ -1,12 +1,15 @@
 -- Maps by number: what a list of entries answers, and the part of a map that is live.
-use Rattle.std.proofs.Common.{◌≡◌, ℕ, ◌+◌, Bool, true, false, cond, nat_eq, Option, Some, None, is_some, List, [], ◌∷◌, length, refl, sym, ap, ◌∙◌, arith}
+use Rattle.std.proofs.Common.{◌≡◌, ℕ, ◌+◌, Bool, true, false, cond, nat_eq, Option, Some, None}
+use Rattle.std.proofs.Common.{is_some, List, [], ◌∷◌, length, refl, sym, ap, ◌∙◌, arith}
 use Rattle.std.proofs.lemmas.Bool.Decides.{nat_tests}
 use Rattle.std.specs.Cmp.{nat_cmp_total}
 use Rattle.std.specs.Ordering.{nat_cmp, eq_by_cmp}
 use Rattle.std.specs.Map.{lookup, keys_of}
 use Rattle.std.specs.List.{IsDistinct, AllByRecursion}
 use Rattle.std.proofs.lemmas.Map.Keys.{IsDistinct-head, IsDistinct-tail}
-use Rattle.std.specs.FinMap.{FinMap, get, insert, remove, find, from_entries, len, get-insert, get-remove, get-from_entries, get-retain_keys, len-insert, len-empty, same_map, nat_cmp-IsAntisymmetric, contains_key}
+use Rattle.std.specs.FinMap.{FinMap, get, insert, remove, find, from_entries, len, get-insert}
+use Rattle.std.specs.FinMap.{get-remove, get-from_entries, get-retain_keys, len-insert, len-empty}
+use Rattle.std.specs.FinMap.{same_map, nat_cmp-IsAntisymmetric, contains_key}
 use Rattle.vipr_table.specs.declared.rows.Entry.{Entry}
 use Rattle.vipr_table.specs.Table.{Table, if_live, is_live_before, live_part}
 
@@ -56,7 +59,8 @@ live_or_none k (Some e) = both (is_live_before k e)
     both false = refl
 
 -- what the live part of a map answers
-pub get-live_part : (k : ℕ) (m : FinMap nat_cmp Entry) (q : ℕ) → get (live_part k m) q ≡ if_live k (get m q)
+pub get-live_part : (k : ℕ) (m : FinMap nat_cmp Entry) (q : ℕ)
+    → get (live_part k m) q ≡ if_live k (get m q)
 get-live_part k m q =
     get-retain_keys m (λ i. is_some (if_live k (get m i))) q
     (λ x tied. ap (λ i. is_some (if_live k (get m i))) (sym (nat_cmp-IsAntisymmetric q x tied)))
@@ -69,7 +73,8 @@ pub if_live-false : (k : ℕ) (e : Entry) → is_live_before k e ≡ false → i
 if_live-false k e h = ap (λ b. cond b (Some e) None) h
 
 -- what a look-up by the next derivation answers, from what the list of entries does
-pub seen : (next i : ℕ) (es : List (ℕ × Entry)) (o r : Option Entry) → o ≡ lookup (nat_eq i) es → if_live next o ≡ r → r ≡ if_live next (get (from_entries {R = nat_cmp} es) i)
+pub seen : (next i : ℕ) (es : List (ℕ × Entry)) (o r : Option Entry) → o ≡ lookup (nat_eq i) es
+    → if_live next o ≡ r → r ≡ if_live next (get (from_entries {R = nat_cmp} es) i)
 seen next i es o r found live = sym live ∙ ap (if_live next) (found ∙ sym (get-entries_of es i))
 
 module _ {X : Type 0} where

@@ -1,8 +1,10 @@
 -- The union of sets that were added one after another.
-use Rattle.std.proofs.Common.{◌≡◌, ℕ, Bool, true, false, ◌||◌, List, [], ◌∷◌, ◌++◌, length, arith, refl, sym, ap, ◌∙◌}
+use Rattle.std.proofs.Common.{◌≡◌, ℕ, Bool, true, false, ◌||◌, List, [], ◌∷◌, ◌++◌, length, arith}
+use Rattle.std.proofs.Common.{refl, sym, ap, ◌∙◌}
 use Rattle.std.specs.Cmp.{nat_cmp_total}
 use Rattle.std.specs.Ordering.{nat_cmp}
-use Rattle.std.specs.FinSet.{FinSet, contains, empty, from_list, union, same_set, nat_cmp-IsAntisymmetric, contains-union, contains-empty}
+use Rattle.std.specs.FinSet.{FinSet, contains, empty, from_list, union, same_set}
+use Rattle.std.specs.FinSet.{nat_cmp-IsAntisymmetric, contains-union, contains-empty}
 use Rattle.vipr_table.specs.Unions.{union_of_all}
 use Rattle.vipr_table.proofs.SetLemmas.{union_none, longer_seen}
 
@@ -40,7 +42,8 @@ last_two s t u = same_set nat_cmp_total nat_cmp-IsAntisymmetric _ _ (λ q.
     ∙ ap (λ b. b || contains t q) (sym (has_of s u q)) ∙ sym (has_of (union s u) t q))
 
 -- few more indices
-pub few_put : (s : FinSet nat_cmp) (xs ys : List ℕ) → union s (from_list (xs ++ ys)) ≡ union (union s (from_list xs)) (from_list ys)
+pub few_put : (s : FinSet nat_cmp) (xs ys : List ℕ)
+    → union s (from_list (xs ++ ys)) ≡ union (union s (from_list xs)) (from_list ys)
 few_put s xs ys = ap (union s) (longer_seen [] xs ys) ∙ sym (union_assoc s (from_list xs) (from_list ys))
 
 -- where there are none
@@ -48,16 +51,19 @@ pub no_few : (s : FinSet nat_cmp) (xs : List ℕ) → length xs ≡ 0 → s ≡ 
 no_few s [] e = union_none s
 no_few s (x ∷ xs) e = absurd (omega arith)
 
-one_below : (ss : List (FinSet nat_cmp)) (s : FinSet nat_cmp) → union_of_all (ss ++ s ∷ []) ≡ union (union_of_all ss) s
+one_below : (ss : List (FinSet nat_cmp)) (s : FinSet nat_cmp)
+    → union_of_all (ss ++ s ∷ []) ≡ union (union_of_all ss) s
 one_below [] s = sym (union_none s) ∙ sym (none_union s)
 one_below (r ∷ ss) s = ap (union r) (one_below ss s) ∙ sym (union_assoc r (union_of_all ss) s)
 
 -- the last set below is joined to the last one
-pub top_joined : (ss : List (FinSet nat_cmp)) (s t : FinSet nat_cmp) → union (union_of_all (ss ++ s ∷ [])) t ≡ union (union_of_all ss) (union s t)
+pub top_joined : (ss : List (FinSet nat_cmp)) (s t : FinSet nat_cmp)
+    → union (union_of_all (ss ++ s ∷ [])) t ≡ union (union_of_all ss) (union s t)
 top_joined ss s t = ap (λ u. union u t) (one_below ss s) ∙ union_assoc (union_of_all ss) s t
 
 -- a set is put on the last one
-pub one_put : (ss : List (FinSet nat_cmp)) (s t : FinSet nat_cmp) → union (union_of_all (ss ++ s ∷ [])) t ≡ union (union (union_of_all ss) s) t
+pub one_put : (ss : List (FinSet nat_cmp)) (s t : FinSet nat_cmp)
+    → union (union_of_all (ss ++ s ∷ [])) t ≡ union (union (union_of_all ss) s) t
 one_put ss s t = ap (λ u. union u t) (one_below ss s)
 
 pub no_sets : (ss : List (FinSet nat_cmp)) → length ss ≡ 0 → ss ≡ []

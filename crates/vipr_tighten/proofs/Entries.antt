@@ -1,5 +1,6 @@
 -- Entries under new indices, one after the other
-use Rattle.std.proofs.Common.{◌≡◌, ℕ, zero, suc, ◌+◌, ◌<◌, List, [], ◌∷◌, ◌++◌, take, drop, map, length, get_or, All, arith, refl, sym, ◌∙◌, ap, ap₂, append-nil}
+use Rattle.std.proofs.Common.{◌≡◌, ℕ, zero, suc, ◌+◌, ◌<◌, List, [], ◌∷◌, ◌++◌, take, drop, map}
+use Rattle.std.proofs.Common.{length, get_or, All, arith, refl, sym, ◌∙◌, ap, ap₂, append-nil}
 use Rattle.std.proofs.Math.ListN.{set}
 use Rattle.std.proofs.lemmas.List.{drop_all, get_or_read_under, take_all}
 use Rattle.std.proofs.lemmas.List.Elements.{All-get_or}
@@ -10,12 +11,14 @@ use Rattle.vipr_tighten.specs.Passes.{index_by}
 abbrev part : {A : Type 0} (g : A → A) (i : ℕ) (xs : List A) → List A
 part g i xs = map g (take i xs) ++ drop i xs
 
-at_part : {A : Type 0} (g : A → A) (xs : List A) (i : ℕ) (d : A) → i < length xs → get_or (part g i xs) i d ≡ get_or xs i d
+at_part : {A : Type 0} (g : A → A) (xs : List A) (i : ℕ) (d : A) → i < length xs
+    → get_or (part g i xs) i d ≡ get_or xs i d
 at_part g [] i d h = absurd (omega arith)
 at_part g (x ∷ xs) zero d h = refl
 at_part g (x ∷ xs) (suc i) d h = at_part g xs i d (omega arith)
 
-set_part : {A : Type 0} (g : A → A) (xs : List A) (i : ℕ) (x : A) → i < length xs → x ≡ get_or xs i x → set (part g i xs) i (g x) ≡ part g (suc i) xs
+set_part : {A : Type 0} (g : A → A) (xs : List A) (i : ℕ) (x : A) → i < length xs
+    → x ≡ get_or xs i x → set (part g i xs) i (g x) ≡ part g (suc i) xs
 set_part g [] i x h e = absurd (omega arith)
 set_part g (y ∷ xs) zero x h e = ap (λ z. g z ∷ xs) e
 set_part g (y ∷ xs) (suc i) x h e = ap (λ l. g y ∷ l) (set_part g xs i x (omega arith) e)

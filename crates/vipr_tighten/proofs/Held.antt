@@ -1,5 +1,8 @@
 -- The derived constraints that are held, counted by where each is dropped
-use Rattle.std.proofs.Common.{◌≡◌, ℕ, zero, suc, ◌+◌, ◌-◌, ◌<◌, ◌≤◌, max, cond, Bool, true, false, ◌&&◌, ◌||◌, nat_lt, nat_le, nat_eq, List, [], ◌∷◌, ◌++◌, map, length, slice_index_or, Option, Some, None, arith, refl, sym, ◌∙◌, ap, ap₂, lt-ltb}
+use Rattle.std.proofs.Common.{◌≡◌, ℕ, zero, suc, ◌+◌, ◌-◌, ◌<◌, ◌≤◌, max, cond, Bool, true, false}
+use Rattle.std.proofs.Common.{◌&&◌, ◌||◌, nat_lt, nat_le, nat_eq, List, [], ◌∷◌, ◌++◌, map, length}
+use Rattle.std.proofs.Common.{slice_index_or, Option, Some, None, arith, refl, sym, ◌∙◌, ap, ap₂}
+use Rattle.std.proofs.Common.{lt-ltb}
 use Rattle.std.specs.Prelude.{option_map}
 use Rattle.std.specs.List.{range_with_len, count_by, fold}
 use Rattle.std.proofs.lemmas.List.Sums.{sum_by-append, fold-append, count_by-le-length}
@@ -7,22 +10,26 @@ use Rattle.std.proofs.lemmas.List.FromFn.{map-range_with_len_more, length-range_
 use Rattle.std.proofs.lemmas.List.{get_or-append-add, get_or-map, length-map}
 use Rattle.std.proofs.lemmas.Bool.Decides.{nat_tests}
 use Rattle.vipr_spec.specs.Constraint.{Constraint}
-use Rattle.vipr_spec.specs.Certificate.{Named, Derivation, Certificate, reason_at, last_at, is_assumption, lasts_to, is_live, count_held, peak}
+use Rattle.vipr_spec.specs.Certificate.{Named, Derivation, Certificate, reason_at, last_at}
+use Rattle.vipr_spec.specs.Certificate.{is_assumption, lasts_to, is_live, count_held, peak}
 use Rattle.vipr_spec.proofs.Laws.{reason_placed}
 use Rattle.vipr_spec.proofs.Laws.{lasts_listed}
 use Rattle.vipr_cert.specs.Items.{reason_of, derivation_of}
 use Rattle.vipr_cert.specs.declared.items.Derivation.{Derivation as Stored}
-use Rattle.vipr_tighten.specs.Dropping.{dropped_after, is_held_after, is_held_until, is_dropped_after}
+use Rattle.vipr_tighten.specs.Dropping.{dropped_after, is_held_after, is_held_until}
+use Rattle.vipr_tighten.specs.Dropping.{is_dropped_after}
 
 abbrev pub drop_at : Certificate → ℕ → Option ℕ
 drop_at c i = dropped_after i (reason_at c i) (last_at c i)
 
 -- ---- counts over ranges
 
-count_cons : (p : ℕ → Bool) (x : ℕ) (xs : List ℕ) → count_by p (x ∷ xs) ≡ cond (p x) 1 0 + count_by p xs
+count_cons : (p : ℕ → Bool) (x : ℕ) (xs : List ℕ)
+    → count_by p (x ∷ xs) ≡ cond (p x) 1 0 + count_by p xs
 count_cons p x xs = let e = sum_by-append (λ x. cond (p x) 1 0) (x ∷ []) xs in omega arith
 
-count_from : (p : ℕ → Bool) (a n b : ℕ) → a + n ≡ b → count_by p (range_with_len a (suc n)) ≡ count_by p (range_with_len a n) + cond (p b) 1 0
+count_from : (p : ℕ → Bool) (a n b : ℕ) → a + n ≡ b
+    → count_by p (range_with_len a (suc n)) ≡ count_by p (range_with_len a n) + cond (p b) 1 0
 count_from p a zero b e = let same : a ≡ b = omega arith in ap (λ x. 0 + cond (p x) 1 0) same
 count_from p a (suc n) b e =
     let rest = count_from p (a + 1) n b (omega arith) in
@@ -30,10 +37,12 @@ count_from p a (suc n) b e =
     let one = count_cons p a (range_with_len (a + 1) n) in
     omega arith
 
-pub count_more : (p : ℕ → Bool) (a n : ℕ) → count_by p (range_with_len a (n + 1)) ≡ count_by p (range_with_len a n) + cond (p (a + n)) 1 0
+pub count_more : (p : ℕ → Bool) (a n : ℕ)
+    → count_by p (range_with_len a (n + 1)) ≡ count_by p (range_with_len a n) + cond (p (a + n)) 1 0
 count_more p a n = let same : n + 1 ≡ suc n = omega arith in ap (λ k. count_by p (range_with_len a k)) same ∙ count_from p a n (a + n) refl
 
-count_alike : (p q : ℕ → Bool) (a n : ℕ) → ((i : ℕ) → a ≤ i → i < a + n → p i ≡ q i) → count_by p (range_with_len a n) ≡ count_by q (range_with_len a n)
+count_alike : (p q : ℕ → Bool) (a n : ℕ) → ((i : ℕ) → a ≤ i → i < a + n → p i ≡ q i)
+    → count_by p (range_with_len a n) ≡ count_by q (range_with_len a n)
 count_alike p q a zero same = refl
 count_alike p q a (suc n) same =
     let rest = count_alike p q (a + 1) n (λ i low up. same i (omega arith) (omega arith)) in
@@ -47,7 +56,8 @@ count_alike p q a (suc n) same =
 parts_at : (k at : ℕ) → cond (nat_le k at) 1 0 ≡ cond (nat_lt k at) 1 0 + cond (nat_eq at k) 1 0
 parts_at k at = grind (arith, nat_tests)
 
-parts_one : (k : ℕ) (o : Option ℕ) → cond (is_held_until k o) 1 0 ≡ cond (is_held_after k o) 1 0 + cond (is_dropped_after k o) 1 0
+parts_one : (k : ℕ) (o : Option ℕ)
+    → cond (is_held_until k o) 1 0 ≡ cond (is_held_after k o) 1 0 + cond (is_dropped_after k o) 1 0
 parts_one k None = refl
 parts_one k (Some at) = parts_at k at
 
@@ -58,7 +68,8 @@ until_next k (Some at) = let same : k + 1 ≡ suc k = omega arith in ap (λ n. n
 live_one : (i k l : ℕ) → i < k → nat_le (k + 1) l ≡ nat_lt k (max l (i + 1))
 live_one i k l h = grind (arith, nat_tests)
 
-live_by : (i k : ℕ) → i < k → (b : Bool) (o : Option ℕ) → (b || lasts_to (k + 1) o) ≡ is_held_after k (cond b None (option_map (λ l. max l (i + 1)) o))
+live_by : (i k : ℕ) → i < k → (b : Bool) (o : Option ℕ)
+    → (b || lasts_to (k + 1) o) ≡ is_held_after k (cond b None (option_map (λ l. max l (i + 1)) o))
 live_by i k h true o = refl
 live_by i k h false None = refl
 live_by i k h false (Some l) = live_one i k l h
@@ -67,14 +78,16 @@ live_is : (c : Certificate) (k i : ℕ) → i < k → is_live c (k + 1) i ≡ is
 live_is c k i h = ap (λ b. b && (is_assumption (reason_at c i) || lasts_to (k + 1) (last_at c i))) (lt-ltb i (k + 1) (omega arith)) ∙ live_by i k h (is_assumption (reason_at c i)) (last_at c i)
 
 -- a constraint is held until the next derivation at least
-last_one : (i : ℕ) (b : Bool) (o : Option ℕ) → is_held_until (i + 1) (cond b None (option_map (λ l. max l (i + 1)) o)) ≡ true
+last_one : (i : ℕ) (b : Bool) (o : Option ℕ)
+    → is_held_until (i + 1) (cond b None (option_map (λ l. max l (i + 1)) o)) ≡ true
 last_one i true o = refl
 last_one i false None = refl
 last_one i false (Some l) = grind (arith, nat_tests)
 
 -- ---- all of them
 
-parts_all : (f : ℕ → Option ℕ) (k : ℕ) (xs : List ℕ) → count_by (λ i. is_held_until k (f i)) xs ≡ count_by (λ i. is_held_after k (f i)) xs + count_by (λ i. is_dropped_after k (f i)) xs
+parts_all : (f : ℕ → Option ℕ) (k : ℕ) (xs : List ℕ) → count_by (λ i. is_held_until k (f i)) xs
+    ≡ count_by (λ i. is_held_after k (f i)) xs + count_by (λ i. is_dropped_after k (f i)) xs
 parts_all f k [] = refl
 parts_all f k (x ∷ xs) =
     let rest = parts_all f k xs in
@@ -175,5 +188,6 @@ module _ (c : Certificate) (m : ℕ) (is_first : length c.problem.constraints �
       let nothing : n ≡ n + 0 = omega arith in
       nothing ∙ sym (ap (λ (o : Option ℕ). n + cond {A = ℕ} (is_dropped_after (m + k) o) 1 0) is) ∙ dropped_then k n e
 
-pub peak_whole : (c : Certificate) (m n : ℕ) → length c.problem.constraints ≡ m → length c.derivations ≡ n → fold max 0 (map (count_held c) (range_with_len m n)) ≡ peak c
+pub peak_whole : (c : Certificate) (m n : ℕ) → length c.problem.constraints ≡ m
+    → length c.derivations ≡ n → fold max 0 (map (count_held c) (range_with_len m n)) ≡ peak c
 peak_whole c m n a b = sym (ap₂ (λ i j. fold max 0 (map (count_held c) (range_with_len i j))) a b)

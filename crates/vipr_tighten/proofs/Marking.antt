@@ -1,8 +1,11 @@
 -- Marks, from the end to the front
-use Rattle.std.proofs.Common.{◌≡◌, ℕ, ◌+◌, ◌<◌, Bool, true, false, ◌&&◌, ◌||◌, nat_eq, List, [], take, drop, map, replicate, length, slice_index_or, get_or, Option, Some, None, arith, refl, sym, ◌∙◌, ap, ap₂, subst}
+use Rattle.std.proofs.Common.{◌≡◌, ℕ, ◌+◌, ◌<◌, Bool, true, false, ◌&&◌, ◌||◌, nat_eq, List, []}
+use Rattle.std.proofs.Common.{take, drop, map, replicate, length, slice_index_or, get_or, Option}
+use Rattle.std.proofs.Common.{Some, None, arith, refl, sym, ◌∙◌, ap, ap₂, subst}
 use Rattle.std.specs.List.{list_any}
 use Rattle.std.proofs.Math.Bool.{or_assoc}
-use Rattle.std.proofs.lemmas.List.{drop_all, get_or-map, get_or-replicate, get_or_read_under, length-map, length-replicate}
+use Rattle.std.proofs.lemmas.List.{drop_all, get_or-map, get_or-replicate, get_or_read_under}
+use Rattle.std.proofs.lemmas.List.{length-map, length-replicate}
 use Rattle.std.proofs.lemmas.List.Folds.{list_any_more}
 use Rattle.std.specs.FinMap.{empty}
 use Rattle.vipr_spec.specs.Fraction.{ℚ, zero_ℚ}
@@ -17,16 +20,20 @@ use Rattle.vipr_tighten.specs.Passes.{has_mark, MarksAlso, AreMarks}
 
 -- ---- tests, one after the other
 
-also_both : (first : ℕ) (p q : ℕ → Bool) (old mid new : List Bool) → length mid ≡ length old → MarksAlso first p old mid → MarksAlso first q mid new → MarksAlso first (λ i. p i || q i) old new
+also_both : (first : ℕ) (p q : ℕ → Bool) (old mid new : List Bool) → length mid ≡ length old
+    → MarksAlso first p old mid → MarksAlso first q mid new
+    → MarksAlso first (λ i. p i || q i) old new
 also_both first p q old mid new size a b k h =
     let inside : k < length mid = omega arith in
     b k inside ∙ ap (λ m. m || q (first + k)) (a k h) ∙ or_assoc (has_mark old k) (p (first + k)) (q (first + k))
 
-also_alike : (first : ℕ) (p q : ℕ → Bool) (old new : List Bool) → ((i : ℕ) → p i ≡ q i) → MarksAlso first p old new → MarksAlso first q old new
+also_alike : (first : ℕ) (p q : ℕ → Bool) (old new : List Bool) → ((i : ℕ) → p i ≡ q i)
+    → MarksAlso first p old new → MarksAlso first q old new
 also_alike first p q old new same a k h = a k h ∙ ap (λ b. has_mark old k || b) (same (first + k))
 
 -- a test that nothing passes
-pub also_none : (first : ℕ) (p : ℕ → Bool) (marks : List Bool) → ((i : ℕ) → p i ≡ false) → MarksAlso first p marks marks
+pub also_none : (first : ℕ) (p : ℕ → Bool) (marks : List Bool) → ((i : ℕ) → p i ≡ false)
+    → MarksAlso first p marks marks
 also_none first p marks none k h = by (has_mark marks k) ∙ ap (λ b. has_mark marks k || b) (sym (none (first + k)))
   where
     by : (b : Bool) → b ≡ (b || false)
@@ -131,7 +138,8 @@ module _ (goal : Option ℕ) (first : ℕ) (ds : List Stored) (clear : List Bool
   begin_goal index some marks same also =
       from_end marks same (λ k h. let s = size in also k (omega arith) ∙ ap (λ b. b || nat_eq (first + k) index) (unmarked k h) ∙ ap (λ g. is_the_goal g (first + k)) (sym some))
 
-reason_seen : (ds : List Stored) (j : ℕ) (d : Stored) → j < length ds → d ≡ get_or ds j d → slice_index_or (map derivation_of ds) j (derivation_of d) ≡ derivation_of d
+reason_seen : (ds : List Stored) (j : ℕ) (d : Stored) → j < length ds → d ≡ get_or ds j d
+    → slice_index_or (map derivation_of ds) j (derivation_of d) ≡ derivation_of d
 reason_seen ds j d h is = get_or-map derivation_of ds j d (derivation_of d) h ∙ ap derivation_of (sym is)
 
 module _ (goal : Option ℕ) (first : ℕ) (ds : List Stored) (j : ℕ) (h : j < length ds) (marks : List Bool) (so_far : AreMarksFrom goal first (map derivation_of ds) (j + 1) marks) where
@@ -150,5 +158,6 @@ module _ (goal : Option ℕ) (first : ℕ) (ds : List Stored) (j : ℕ) (h : j <
       none = record { name = []; stated = record { row = empty; sense = equal; bound = zero_ℚ }; reason = asm; last = None }
 
 -- what was read there
-pub mark_read : (marks : List Bool) (j : ℕ) (read b : Bool) → j < length marks → read ≡ get_or marks j read → read ≡ b → has_mark marks j ≡ b
+pub mark_read : (marks : List Bool) (j : ℕ) (read b : Bool) → j < length marks
+    → read ≡ get_or marks j read → read ≡ b → has_mark marks j ≡ b
 mark_read marks j read b h is e = sym (get_or_read_under marks j (length marks) read false is h refl) ∙ e

@@ -1,8 +1,10 @@
 -- A list whose element at a place is moved behind its first `kept`
-use Rattle.std.proofs.Common.{◌≡◌, ℕ, ◌+◌, ◌-◌, ◌<◌, ◌≤◌, List, [], ◌∷◌, ◌++◌, take, drop, map, length, get_or, None, arith, refl, sym, ◌∙◌, ap, subst, length-append}
+use Rattle.std.proofs.Common.{◌≡◌, ℕ, ◌+◌, ◌-◌, ◌<◌, ◌≤◌, List, [], ◌∷◌, ◌++◌, take, drop, map}
+use Rattle.std.proofs.Common.{length, get_or, None, arith, refl, sym, ◌∙◌, ap, subst, length-append}
 use Rattle.std.proofs.Math.ListN.{set, length-set}
 use Rattle.std.proofs.Math.Seq.{get_or-append_right, take-append-add}
-use Rattle.std.proofs.lemmas.List.{get_or-take, get_or-drop, get_or-set_other, get_or_read_under, length-drop, length-take-le, same_lists}
+use Rattle.std.proofs.lemmas.List.{get_or-take, get_or-drop, get_or-set_other, get_or_read_under}
+use Rattle.std.proofs.lemmas.List.{length-drop, length-take-le, same_lists}
 use Rattle.std.specs.List.{SwappedAt}
 use Rattle.vipr_spec.specs.Tightened.{refers_to, referred_by, with_new_indices}
 use Rattle.vipr_cert.specs.Items.{reason_of, derivation_of}
@@ -61,9 +63,13 @@ module _ {A : Type 0} (old now : List A) (kept place : ℕ) (behind : kept ≤ p
         ∙ sym (get_or-drop (place + 1) old k d))
 
 -- what is written of a derivation that is taken over
-pub accepted_over : (first : ℕ) (table : List ℕ) (old now : List Derivation) (kept place : ℕ) → kept ≤ place → place < length old → length now ≡ length old → SwappedAt old now kept place
-    → (was moved : Derivation) → was ≡ get_or (drop kept now) 0 was → derivation_of moved ≡ record (with_new_indices (index_by first table) (derivation_of was)) { last = None }
-    → (changed : List Derivation) → length changed ≡ kept → map derivation_of changed ≡ referred_by (refers_to (reason_of moved.reason)) (first + kept) first (map derivation_of (take kept now))
+pub accepted_over : (first : ℕ) (table : List ℕ) (old now : List Derivation) (kept place : ℕ)
+    → kept ≤ place → place < length old → length now ≡ length old → SwappedAt old now kept place
+    → (was moved : Derivation) → was ≡ get_or (drop kept now) 0 was → derivation_of moved
+    ≡ record (with_new_indices (index_by first table) (derivation_of was)) { last = None }
+    → (changed : List Derivation) → length changed ≡ kept → map derivation_of changed ≡ referred_by
+    (refers_to (reason_of moved.reason)) (first + kept) first
+    (map derivation_of (take kept now))
     → TakesOver first table kept place old (changed ++ set (drop kept now) 0 moved)
 accepted_over first table old now kept place behind there size swapped was moved is_was d changed as_long r = record {
   size = after_size old now kept place behind there size swapped changed moved as_long;

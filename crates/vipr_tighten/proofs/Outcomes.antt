@@ -1,5 +1,6 @@
 -- What is written for a proof, and what is answered for a text
-use Rattle.std.proofs.Common.{◌≡◌, ℕ, ◌+◌, ◌<◌, ◌≤◌, true, false, List, length, Option, Some, None, IfSome, Result, Ok, Err, arith, refl, sym, ◌∙◌, ap, subst}
+use Rattle.std.proofs.Common.{◌≡◌, ℕ, ◌+◌, ◌<◌, ◌≤◌, true, false, List, length, Option, Some, None}
+use Rattle.std.proofs.Common.{IfSome, Result, Ok, Err, arith, refl, sym, ◌∙◌, ap, subst}
 use Rattle.std.specs.Prelude.{MatchOption}
 use Rattle.vipr_spec.specs.Input.{Input}
 use Rattle.vipr_spec.specs.Constraint.{Profile}
@@ -9,8 +10,12 @@ use Rattle.vipr_spec.specs.GrammarLaws.{whole_text}
 use Rattle.vipr_spec.specs.Reading.{Rest, certificate_read}
 use Rattle.vipr_spec.specs.Tightened.{tightened_certificate, new_goal}
 use Rattle.vipr_spec.specs.Tests.{none}
-use Rattle.vipr_spec.specs.Verdict.{Report, Reports, Answer, Answers, verified, refuses, cut_short, found_in, IsAnswer}
-use Rattle.vipr_spec.proofs.Laws.{back_of_proof, claim_shown, found_read, one_certificate, proof_answered, reads_texts, tight_counts, tight_goal, tight_needed, tight_peak, tight_proof, tight_twice, unneeded_goal, verified_read, answer_explained}
+use Rattle.vipr_spec.specs.Verdict.{Report, Reports, Answer, Answers, verified, refuses, cut_short}
+use Rattle.vipr_spec.specs.Verdict.{found_in, IsAnswer}
+use Rattle.vipr_spec.proofs.Laws.{back_of_proof, claim_shown, found_read, one_certificate}
+use Rattle.vipr_spec.proofs.Laws.{proof_answered, reads_texts, tight_counts, tight_goal}
+use Rattle.vipr_spec.proofs.Laws.{tight_needed, tight_peak, tight_proof, tight_twice, unneeded_goal}
+use Rattle.vipr_spec.proofs.Laws.{verified_read, answer_explained}
 use Rattle.vipr_bytes.specs.Known.{text_of, IfKnown, IfWhole}
 use Rattle.vipr_bytes.specs.Output.{Output}
 use Rattle.vipr_bytes.specs.Written.{Wrote}
@@ -26,17 +31,23 @@ use Rattle.vipr_tighten.specs.declared.outcome.Outcome.{Outcome}
 use Rattle.vipr_tighten.specs.declared.outcome.Outcome.TheVariants.{Tightened, Refused}
 use Rattle.vipr_tighten.specs.declared.outcome.TightenFault.{TightenFault}
 use Rattle.vipr_tighten.specs.declared.outcome.TightenFault.TheVariants.{Read, Memory, Write}
-use Rattle.vipr_tighten.specs.Tightens.{IsProofFor, IsTight, KindOfText, TakesNothing, TightensText, any_kind, kind_of, kind_read, kind_spelled, unproved_answer, TightensAs}
+use Rattle.vipr_tighten.specs.Tightens.{IsProofFor, IsTight, KindOfText, TakesNothing, TightensText}
+use Rattle.vipr_tighten.specs.Tightens.{any_kind, kind_of, kind_read, kind_spelled, unproved_answer}
+use Rattle.vipr_tighten.specs.Tightens.{TightensAs}
 use Rattle.vipr_tighten.specs.Keeping.{HasAnswer, AnswersWhy}
 use Rattle.vipr_check.specs.declared.no_proof.NoProof.{NoProof}
 use Rattle.vipr_check.specs.declared.no_proof.NoProof.TheVariants as reason
 
 -- ---- a proof
 
-pub is_proof_for : (P : Profile) (c : Certificate) (goal : Option ℕ) → IsProof P c → GoalIs P c goal → IsProofFor P c goal
+pub is_proof_for : (P : Profile) (c : Certificate) (goal : Option ℕ) → IsProof P c → GoalIs P c goal
+    → IsProofFor P c goal
 is_proof_for P c goal p g = record { proof = p; goal_is = g; shown = claim_shown P c p }
 
-pub is_tight : (P : Profile) (c : Certificate) (goal : Option ℕ) → IsProof P c → GoalIs P c goal → ((G : Form) → SpellsOnly (text_in G (tightened_certificate c goal)) (tightened_certificate c goal)) → IsTight P c goal (tightened_certificate c goal)
+pub is_tight : (P : Profile) (c : Certificate) (goal : Option ℕ) → IsProof P c → GoalIs P c goal
+    → ((G : Form)
+    → SpellsOnly (text_in G (tightened_certificate c goal)) (tightened_certificate c goal))
+    → IsTight P c goal (tightened_certificate c goal)
 is_tight P c goal p g s =
     let back = back_of_proof P c p in
     record {
@@ -50,14 +61,16 @@ is_tight P c goal p g s =
       peak_is = tight_peak P c goal p;
     }
 
-goal_by : (P : Profile) (c : Certificate) (goal : Option ℕ) → MatchOption goal (¬ NeedsGoal c.problem c.problem.claim) (IsGoal P c) → GoalIs P c goal
+goal_by : (P : Profile) (c : Certificate) (goal : Option ℕ)
+    → MatchOption goal (¬ NeedsGoal c.problem c.problem.claim) (IsGoal P c) → GoalIs P c goal
 goal_by P c None n = unneeded_goal P c n
 goal_by P c (Some g) is = is
 
 pub reported_goal : (P : Profile) (c : Certificate) (r : Report) → Reports P c r → GoalIs P c r.goal
 reported_goal P c r h = goal_by P c r.goal h.goal
 
-pub fewer_kept : (c : Certificate) (goal : Option ℕ) → length (tightened_certificate c goal).derivations ≤ length c.derivations
+pub fewer_kept : (c : Certificate) (goal : Option ℕ)
+    → length (tightened_certificate c goal).derivations ≤ length c.derivations
 fewer_kept c goal = let e = tight_counts c goal in omega arith
 
 -- ---- what is known of a text
@@ -74,7 +87,9 @@ pub nothing_accepted : (o : Option Output) → TakesNothing o o
 nothing_accepted None = tt
 nothing_accepted (Some o) = refl
 
-pub certificate_is : (P : Profile) (r : Rest) (c : Certificate) (report : Report) → (found_in r).certificate ≡ c → Answers P (found_in r) (verified report) → certificate_read r ≡ Ok c
+pub certificate_is : (P : Profile) (r : Rest) (c : Certificate) (report : Report)
+    → (found_in r).certificate ≡ c → Answers P (found_in r) (verified report)
+    → certificate_read r ≡ Ok c
 certificate_is P r c report same h =
     let v = (verified_read P r report).0 h in
     subst (λ (d : Certificate). certificate_read r ≡ Ok d) (sym (found_read r v.0 v.1) ∙ same) v.1
@@ -82,13 +97,18 @@ certificate_is P r c report same h =
 whole_is : (i : Input) → i.fails ≡ false → text_of i ≡ whole_text i.bytes
 whole_is i e = subst (λ b. text_of (record { bytes = i.bytes; fails = b }) ≡ whole_text i.bytes) (sym e) refl
 
-spelled_only : (bytes : List ℕ) (c : Certificate) → certificate_read (whole_text bytes) ≡ Ok c → SpellsOnly bytes c
+spelled_only : (bytes : List ℕ) (c : Certificate) → certificate_read (whole_text bytes) ≡ Ok c
+    → SpellsOnly bytes c
 spelled_only bytes c e = let s = (reads_texts bytes c).0 e in record { this = s; no_other = λ other o. one_certificate bytes other c o s }
 
-unproved_text : (P : Profile) (bytes : List ℕ) (a : Answer) → ((r : Report) → ¬ (a ≡ verified r)) → IsAnswer P (whole_text bytes) a → (c : Certificate) → Spells bytes c → ¬ IsProof P c
+unproved_text : (P : Profile) (bytes : List ℕ) (a : Answer) → ((r : Report) → ¬ (a ≡ verified r))
+    → IsAnswer P (whole_text bytes) a → (c : Certificate) → Spells bytes c → ¬ IsProof P c
 unproved_text P bytes a other h c s p = let v = proof_answered P (whole_text bytes) c a ((reads_texts bytes c).1 s) p h in other v.0 v.2
 
-spelled_by : (P : Profile) (F : Form) (i : Input) → i.fails ≡ false → (old new : Option Output) (x : Result Outcome TightenFault) → TightensText P F (kind_read P (text_of i)) old new x → TightensText P F (kind_spelled P i.bytes) old new x
+spelled_by : (P : Profile) (F : Form) (i : Input) → i.fails ≡ false
+    → (old new : Option Output) (x : Result Outcome TightenFault)
+    → TightensText P F (kind_read P (text_of i)) old new x
+    → TightensText P F (kind_spelled P i.bytes) old new x
 spelled_by P F i whole old new x h =
     let r = text_of i in
     tightens_by P F (kind_read P r) (kind_spelled P i.bytes)
@@ -97,10 +117,15 @@ spelled_by P F i whole old new x h =
     (λ a. let fails = failed_read P r a in cc)
     old new x h
 
-read_by : (P : Profile) (F : Form) (i : Input) (old new : Option Output) (x : Result Outcome TightenFault) → TightensText P F (kind_read P (text_of i)) old new x → x ≡ Err Read → i.fails ≡ true
+read_by : (P : Profile) (F : Form) (i : Input) (old new : Option Output)
+    (x : Result Outcome TightenFault) → TightensText P F (kind_read P (text_of i)) old new x
+    → x ≡ Err Read → i.fails ≡ true
 read_by P F i old new x h e = let at = subst (TightensText P F (kind_read P (text_of i)) old new) e h in failed_read P (text_of i) at.0
 
-pub tightens : (P : Profile) (F : Form) (source : Option Input) (old new : Option Output) (x : Result Outcome TightenFault) → TightensText P F any_kind old new x → IfKnown source (λ i. TightensText P F (kind_read P (text_of i)) old new x) → TightensAs P F source old new x
+pub tightens : (P : Profile) (F : Form) (source : Option Input) (old new : Option Output)
+    (x : Result Outcome TightenFault) → TightensText P F any_kind old new x
+    → IfKnown source (λ i. TightensText P F (kind_read P (text_of i)) old new x)
+    → TightensAs P F source old new x
 tightens P F source old new x any exact = record { written = any; exact = exact; read = read source exact; spelled = spelled source exact }
   where
     read : (s : Option Input) → IfKnown s (λ i. TightensText P F (kind_read P (text_of i)) old new x) → IfKnown s (λ i. x ≡ Err Read → i.fails ≡ true)
@@ -159,7 +184,9 @@ module _ (P : Profile) (F : Form) (c : Certificate) (r : Report) (p : IsProof P 
     ),
   )
 
-pub written_not : (P : Profile) (F : Form) (c : Certificate) (old new : Option Output) (text : List ℕ) (n : ℕ) → n ≡ 0 → IfSome old (λ o. WroteText o new text (Err (write.Memory n))) → TightensText P F (kind_of c) old new (Err (Memory n))
+pub written_not : (P : Profile) (F : Form) (c : Certificate) (old new : Option Output)
+    (text : List ℕ) (n : ℕ) → n ≡ 0 → IfSome old (λ o. WroteText o new text (Err (write.Memory n)))
+    → TightensText P F (kind_of c) old new (Err (Memory n))
 written_not P F c None new text n z w = (z, tt)
 written_not P F c (Some o) new text n z w = (z, w.1)
 
@@ -168,8 +195,11 @@ written_not P F c (Some o) new text n z w = (z, w.1)
 answered : (P : Profile) (r : Rest) (a : Answer) → HasAnswer P (found_in r) a → IsAnswer P r a
 answered P r a h = answer_explained P (found_in r) a h.0 h.1
 
-pub decided_proof : (P : Profile) (F : Form) (source : Option Input) (c : Certificate) (report : Report) (old new : Option Output) (x : Result Outcome TightenFault) → TightensText P F (kind_of c) old new x
-    → IfKnown source (λ i. ((found_in (text_of i)).certificate ≡ c) × HasAnswer P (found_in (text_of i)) (verified report)) → TightensAs P F source old new x
+pub decided_proof : (P : Profile) (F : Form) (source : Option Input) (c : Certificate)
+    (report : Report) (old new : Option Output) (x : Result Outcome TightenFault)
+    → TightensText P F (kind_of c) old new x
+    → IfKnown source (λ i. ((found_in (text_of i)).certificate ≡ c)
+    × HasAnswer P (found_in (text_of i)) (verified report)) → TightensAs P F source old new x
 decided_proof P F source c report old new x h found =
     tightens P F source old new x (tightens_by P F (kind_of c) any_kind (λ d e p. tt) (λ y b. tt) (λ b. tt) old new x h) (exact source found)
   where
@@ -180,28 +210,36 @@ decided_proof P F source c report old new x h found =
         let is = certificate_is P r c report (f short).0 (answered P r (verified report) (f short).1) in
         tightens_by P F (kind_of c) (kind_read P r) (λ d e p. is ∙ ap Ok (sym e)) (λ y b. absurd b) (λ b. absurd b) old new x h
 
-pub decided_refused : (P : Profile) (F : Form) (source : Option Input) (y : Refusal) (old : Option Output) → IfKnown source (λ i. HasAnswer P (found_in (text_of i)) (refuses (refusal_of y))) → TightensAs P F source old old (Ok (Refused y))
+pub decided_refused : (P : Profile) (F : Form) (source : Option Input) (y : Refusal)
+    (old : Option Output)
+    → IfKnown source (λ i. HasAnswer P (found_in (text_of i)) (refuses (refusal_of y)))
+    → TightensAs P F source old old (Ok (Refused y))
 decided_refused P F source y old found = tightens P F source old old (Ok (Refused y)) (tt, nothing_accepted old) (exact source found)
   where
     exact : (s : Option Input) → IfKnown s (λ i. HasAnswer P (found_in (text_of i)) (refuses (refusal_of y))) → IfKnown s (λ i. TightensText P F (kind_read P (text_of i)) old old (Ok (Refused y)))
     exact None f = tt
     exact (Some i) f = λ short. (answered P (text_of i) (refuses (refusal_of y)) (f short), nothing_accepted old)
 
-pub decided_cut_short : (P : Profile) (F : Form) (source : Option Input) (old : Option Output) → IfKnown source (λ i. AnswersWhy P (found_in (text_of i)) reason.Read) → TightensAs P F source old old (Err Read)
+pub decided_cut_short : (P : Profile) (F : Form) (source : Option Input) (old : Option Output)
+    → IfKnown source (λ i. AnswersWhy P (found_in (text_of i)) reason.Read)
+    → TightensAs P F source old old (Err Read)
 decided_cut_short P F source old found = tightens P F source old old (Err Read) (tt, nothing_accepted old) (exact source found)
   where
     exact : (s : Option Input) → IfKnown s (λ i. AnswersWhy P (found_in (text_of i)) reason.Read) → IfKnown s (λ i. TightensText P F (kind_read P (text_of i)) old old (Err Read))
     exact None f = tt
     exact (Some i) f = λ short. (answered P (text_of i) cut_short (none, (f short).1), nothing_accepted old)
 
-pub decided_memory : (P : Profile) (F : Form) (source : Option Input) (old : Option Output) → TightensAs P F source old old (Err (Memory 0))
+pub decided_memory : (P : Profile) (F : Form) (source : Option Input) (old : Option Output)
+    → TightensAs P F source old old (Err (Memory 0))
 decided_memory P F source old = tightens P F source old old (Err (Memory 0)) (refl, nothing_accepted old) (exact source)
   where
     exact : (s : Option Input) → IfKnown s (λ i. TightensText P F (kind_read P (text_of i)) old old (Err (Memory 0)))
     exact None = tt
     exact (Some i) = λ short. (refl, nothing_accepted old)
 
-pub decided_not : (P : Profile) (F : Form) (source : Option Input) (e : NoProof) (old : Option Output) → IfKnown source (λ i. AnswersWhy P (found_in (text_of i)) e) → TightensAs P F source old old (unproved_answer e)
+pub decided_not : (P : Profile) (F : Form) (source : Option Input) (e : NoProof)
+    (old : Option Output) → IfKnown source (λ i. AnswersWhy P (found_in (text_of i)) e)
+    → TightensAs P F source old old (unproved_answer e)
 decided_not P F source (reason.Refused y) old h = decided_refused P F source y old h
 decided_not P F source reason.Read old h = decided_cut_short P F source old h
 decided_not P F source reason.Memory old h = decided_memory P F source old

@@ -1,20 +1,26 @@
 -- A text item by item: what is found in what is left, once so much was read and kept
-use Rattle.std.proofs.Common.{◌≡◌, ℕ, suc, ◌+◌, ◌<◌, ◌≤◌, ◌^◌, false, List, [], ◌∷◌, ◌++◌, length, None, Result, Ok, Err, arith, refl, sym, ◌∙◌, ap, subst, append-nil, append_assoc}
+use Rattle.std.proofs.Common.{◌≡◌, ℕ, suc, ◌+◌, ◌<◌, ◌≤◌, ◌^◌, false, List, [], ◌∷◌, ◌++◌, length}
+use Rattle.std.proofs.Common.{None, Result, Ok, Err, arith, refl, sym, ◌∙◌, ap, subst, append-nil}
+use Rattle.std.proofs.Common.{append_assoc}
 use Rattle.std.specs.Prelude.{◌⊎◌, IsSome, IfOk, IfErr, IsErrAnd, All, Option, Some}
 use Rattle.vipr_spec.specs.Input.{Input}
 use Rattle.vipr_bytes.specs.Known.{text_of, IfKnown}
-use Rattle.vipr_spec.specs.Shape.{ReasonShape, RowFits, SolutionShape, DerivationShape, DerivationFits, CanWriteProblem, CanWrite}
+use Rattle.vipr_spec.specs.Shape.{ReasonShape, RowFits, SolutionShape, DerivationShape}
+use Rattle.vipr_spec.specs.Shape.{DerivationFits, CanWriteProblem, CanWrite}
 use Rattle.vipr_check.specs.View.{report_of}
 use Rattle.vipr_scan.specs.Giving.{rest_of}
 use Rattle.vipr_scan.specs.Faults.{Fails}
 use Rattle.vipr_scan.specs.declared.error.TextError.{TextError}
 use Rattle.vipr_spec.specs.Constraint.{Profile, Row, condition}
-use Rattle.vipr_spec.specs.Certificate.{Named, Problem, Derivation, Certificate, MeetsPrimal, IsProof}
-use Rattle.vipr_spec.specs.Reading.{Rest, Read, problem_read, solution_read, derivations_read, derivation_read, end_read, most_count}
+use Rattle.vipr_spec.specs.Certificate.{Named, Problem, Derivation, Certificate, MeetsPrimal}
+use Rattle.vipr_spec.specs.Certificate.{IsProof}
+use Rattle.vipr_spec.specs.Reading.{Rest, Read, problem_read, solution_read, derivations_read}
+use Rattle.vipr_spec.specs.Reading.{derivation_read, end_read, most_count}
 use Rattle.vipr_spec.specs.Steps.{with_more, with_next, PassesStep, step_tests, FirstFailing}
 use Rattle.vipr_spec.specs.Tests.{PassesSolution, solution_tests, none}
 use Rattle.vipr_spec.specs.Checking.{start}
-use Rattle.vipr_spec.specs.Verdict.{before_items, items_read, derivations_found, ending_found, problem_found, found_in, Explained, Found, Reports, verified}
+use Rattle.vipr_spec.specs.Verdict.{before_items, items_read, derivations_found, ending_found}
+use Rattle.vipr_spec.specs.Verdict.{problem_found, found_in, Explained, Found, Reports, verified}
 use Rattle.vipr_spec.specs.Progress.{derivations_from, solutions_from}
 use Rattle.vipr_spec.proofs.Laws.{problem_ok, solution_passes, derivations_begin, derivation_passes}
 use Rattle.vipr_read.specs.Items.{Items, Knows, Remembers}
@@ -26,8 +32,13 @@ use Rattle.vipr_check.specs.Run.{IsAmong, IsAt}
 use Rattle.vipr_check.specs.Shown.{state_shown}
 use Rattle.vipr_check.specs.declared.no_proof.NoProof.{NoProof}
 use Rattle.vipr_check.specs.declared.no_proof.NoProof.TheVariants as reason
-use Rattle.vipr_check.proofs.Laws.{SaysWhy-by, at_start, derivation_missing, ending_failed, ending_met, finish_stops, finish_verifies, knows_still, solution_missing, solution_passes_all, solution_stops, solution_taken, step_passes, step_stops, step_taken}
-use Rattle.vipr_tighten.specs.Keeping.{HasAnswer, AnswersWhy, AnswersProof, LeadsTo, solutions_left, derivations_left, KeepsListed, KeepsMet, KeepsDerived, KeepsWhole, KeepsFinished, KeepsProof}
+use Rattle.vipr_check.proofs.Laws.{SaysWhy-by, at_start, derivation_missing, ending_failed}
+use Rattle.vipr_check.proofs.Laws.{ending_met, finish_stops, finish_verifies, knows_still}
+use Rattle.vipr_check.proofs.Laws.{solution_missing, solution_passes_all, solution_stops}
+use Rattle.vipr_check.proofs.Laws.{solution_taken, step_passes, step_stops, step_taken}
+use Rattle.vipr_tighten.specs.Keeping.{HasAnswer, AnswersWhy, AnswersProof, LeadsTo, solutions_left}
+use Rattle.vipr_tighten.specs.Keeping.{derivations_left, KeepsListed, KeepsMet, KeepsDerived}
+use Rattle.vipr_tighten.specs.Keeping.{KeepsWhole, KeepsFinished, KeepsProof}
 
 -- ---- what leads to what
 
@@ -37,16 +48,20 @@ leads_same P f = record { same = refl; answers = λ a x h. h }
 pub leads_on : (P : Profile) (f g h : Found) → LeadsTo P f g → LeadsTo P g h → LeadsTo P f h
 leads_on P f g h x y = record { same = x.same ∙ y.same; answers = λ a z t. x.answers a z (y.answers a z t) }
 
-pub answers_by : (P : Profile) (f g : Found) → LeadsTo P f g → (e : NoProof) → AnswersWhy P g e → AnswersWhy P f e
+pub answers_by : (P : Profile) (f g : Found) → LeadsTo P f g → (e : NoProof) → AnswersWhy P g e
+    → AnswersWhy P f e
 answers_by P f g x e (y, h) = (y, SaysWhy-by (Explained P g) (Explained P f) y e x.answers h)
 
 -- ---- one item more
 
-pub problem_leads : (P : Profile) (r : Rest) (p : Problem) (n : ℕ) (s : Rest) → problem_read r ≡ Ok ((p, n), s) → LeadsTo P (found_in r) (solutions_from p [] n s)
+pub problem_leads : (P : Profile) (r : Rest) (p : Problem) (n : ℕ) (s : Rest)
+    → problem_read r ≡ Ok ((p, n), s) → LeadsTo P (found_in r) (solutions_from p [] n s)
 unfolding found_in
 problem_leads P r p n s e = record { same = ap (λ (x : Read (Problem × ℕ)). (problem_found x).certificate) e; answers = λ a x h. (problem_ok P a x r p n s e).1 h }
 
-solution_leads : (P : Profile) (p : Problem) (ss : List (Named Row)) (n : ℕ) (r : Rest) (s : Named Row) (t : Rest) → solution_read p r ≡ Ok (s, t) → FirstFailing (PassesSolution p s.item) (solution_tests p) None
+solution_leads : (P : Profile) (p : Problem) (ss : List (Named Row)) (n : ℕ) (r : Rest)
+    (s : Named Row) (t : Rest) → solution_read p r ≡ Ok (s, t)
+    → FirstFailing (PassesSolution p s.item) (solution_tests p) None
     → LeadsTo P (solutions_from p ss (suc n) r) (solutions_from p (ss ++ s ∷ []) n t)
 unfolding items_read
 solution_leads P p ss n r s t e passes =
@@ -57,7 +72,9 @@ solution_leads P p ss n r s t e passes =
       answers = λ a x h. (solution_passes P a x p ss n r s t e passes).1 h;
     }
 
-pub count_leads : (P : Profile) (p : Problem) (ss : List (Named Row)) (r : Rest) (n : ℕ) (s : Rest) → MeetsPrimal p ss p.claim → derivations_read p r ≡ Ok (n, s) → LeadsTo P (solutions_from p ss 0 r) (derivations_from (start p ss) n s)
+pub count_leads : (P : Profile) (p : Problem) (ss : List (Named Row)) (r : Rest) (n : ℕ) (s : Rest)
+    → MeetsPrimal p ss p.claim → derivations_read p r ≡ Ok (n, s)
+    → LeadsTo P (solutions_from p ss 0 r) (derivations_from (start p ss) n s)
 unfolding items_read
 count_leads P p ss r n s met e = record {
   same = ap (λ (x : Read ℕ). record { problem = p; solutions = ss ++ []; derivations = (derivations_found p x).0 }) e
@@ -65,7 +82,9 @@ count_leads P p ss r n s met e = record {
   answers = λ a x h. (derivations_begin P a x p ss r n s met e).1 h;
 }
 
-derivation_leads : (P : Profile) (c : Certificate) (n : ℕ) (r : Rest) (d : Derivation) (s : Rest) → derivation_read c.problem r ≡ Ok (d, s) → FirstFailing (PassesStep P c (condition d.stated)) (step_tests d.reason) None
+derivation_leads : (P : Profile) (c : Certificate) (n : ℕ) (r : Rest) (d : Derivation) (s : Rest)
+    → derivation_read c.problem r ≡ Ok (d, s)
+    → FirstFailing (PassesStep P c (condition d.stated)) (step_tests d.reason) None
     → LeadsTo P (derivations_from c (suc n) r) (derivations_from (with_next c d) n s)
 unfolding items_read
 derivation_leads P c n r d s e passes =
@@ -81,7 +100,8 @@ end_same c r = ap (λ (l : List Derivation). record c { derivations = l }) (appe
 
 -- ---- the solutions
 
-pub listed_first : (P : Profile) (p : Problem) (k : State) (r : Items) → IsAmong P p [] k r → KeepsListed P p r [] k r
+pub listed_first : (P : Profile) (p : Problem) (k : State) (r : Items) → IsAmong P p [] k r
+    → KeepsListed P p r [] k r
 listed_first P p k r is = record { is_among = is; known = λ t. t; leads = λ t. leads_same P (solutions_left p [] r) }
 
 module _ (P : Profile) (p : Problem) (ss : List (Named Row)) (k l : State) (first old : Items) (h : KeepsListed P p first ss k old) where
@@ -108,7 +128,8 @@ module _ (P : Profile) (p : Problem) (ss : List (Named Row)) (k l : State) (firs
 
 -- ---- the derivations
 
-pub derived_first : (P : Profile) (c : Certificate) (k : State) (r : Items) → IsAt P c k r → KeepsDerived P c r c k r
+pub derived_first : (P : Profile) (c : Certificate) (k : State) (r : Items) → IsAt P c k r
+    → KeepsDerived P c r c k r
 derived_first P c k r is = record { is_at = is; known = λ t. t; leads = λ t. leads_same P (derivations_left c r) }
 
 module _ (P : Profile) (s c : Certificate) (k l : State) (first old : Items) (h : KeepsDerived P s first c k old) where
@@ -144,11 +165,16 @@ module _ (P : Profile) (s c : Certificate) (k l : State) (first old : Items) (h 
 
 -- ---- the whole text
 
-pub few_listed : (P : Profile) (p : Problem) (ss : List (Named Row)) (r s : Items) (k : State) → KeepsListed P p r ss k s → s.left ≡ 0 → length ss ≤ most_count
+pub few_listed : (P : Profile) (p : Problem) (ss : List (Named Row)) (r s : Items) (k : State)
+    → KeepsListed P p r ss k s → s.left ≡ 0 → length ss ≤ most_count
 few_listed P p ss r s k listed all_read = let room = listed.is_among.room in omega arith
 
-pub whole_writes : (P : Profile) (p : Problem) (ss : List (Named Row)) (ds : List Derivation) (l : State) → CanWriteProblem p → length ss ≤ most_count → (t : Items) → All (SolutionShape t.variables) ss × All (λ (s : Named Row). RowFits s.item) ss
-    → Knows t p → KeepsWhole P (start p ss) t (with_more (start p ss) ds) l → All (DerivationShape t.variables) ds × All DerivationFits ds → CanWrite (with_more (start p ss) ds)
+pub whole_writes : (P : Profile) (p : Problem) (ss : List (Named Row)) (ds : List Derivation)
+    (l : State) → CanWriteProblem p → length ss ≤ most_count → (t : Items)
+    → All (SolutionShape t.variables) ss × All (λ (s : Named Row). RowFits s.item) ss
+    → Knows t p → KeepsWhole P (start p ss) t (with_more (start p ss) ds) l
+    → All (DerivationShape t.variables) ds × All DerivationFits ds
+    → CanWrite (with_more (start p ss) ds)
 whole_writes P p ss ds l problem few t solutions knows whole derivations = record {
   shape = record {
     problem = problem.shape;
@@ -174,11 +200,13 @@ module _ (P : Profile) (s : Certificate) (u : Items) (c : Certificate) (m n : St
 -- ---- all items
 
 -- what tells of the text where an error is handed on
-pub err_given : {T : Type 0} (Q : NoProof → Type 0) (x : Result T NoProof) (e : NoProof) → IsErrAnd x (λ y. y ≡ e) → Q e → IfErr x Q
+pub err_given : {T : Type 0} (Q : NoProof → Type 0) (x : Result T NoProof) (e : NoProof)
+    → IsErrAnd x (λ y. y ≡ e) → Q e → IfErr x Q
 err_given Q (Ok x) e h t = absurd h
 err_given Q (Err y) e h t = subst Q (sym h) t
 
-pub ok_on : {T E : Type 0} (F G : T → Type 0) (x : Result T E) → ((t : T) → F t → G t) → IfOk x F → IfOk x G
+pub ok_on : {T E : Type 0} (F G : T → Type 0) (x : Result T E) → ((t : T) → F t → G t) → IfOk x F
+    → IfOk x G
 ok_on F G (Ok t) h y = h t y
 ok_on F G (Err e) h y = tt
 
@@ -247,15 +275,20 @@ module _ (P : Profile) (t : Rest) (p : Problem) (r : Items) (read : problem_read
 
 -- ---- the answer
 
-pub err_decides : (P : Profile) (f : Found) (x : Result (Certificate × Report) NoProof) (e : NoProof) → IsErrAnd x (λ y. y ≡ e) → AnswersWhy P f e → AnswersProof P f x
+pub err_decides : (P : Profile) (f : Found) (x : Result (Certificate × Report) NoProof)
+    (e : NoProof) → IsErrAnd x (λ y. y ≡ e) → AnswersWhy P f e → AnswersProof P f x
 err_decides P f (Ok x) e h t = absurd h
 err_decides P f (Err y) e h t = subst (AnswersWhy P f) (sym h) t
 
-pub memory_decides : (P : Profile) (o : Option Input) (x : Result (Certificate × Report) NoProof) → IsErrAnd x (λ y. y ≡ reason.Memory) → IfKnown o (λ i. AnswersProof P (found_in (text_of i)) x)
+pub memory_decides : (P : Profile) (o : Option Input) (x : Result (Certificate × Report) NoProof)
+    → IsErrAnd x (λ y. y ≡ reason.Memory) → IfKnown o (λ i. AnswersProof P (found_in (text_of i)) x)
 memory_decides P None x h = tt
 memory_decides P (Some i) x h = λ short. err_decides P (found_in (text_of i)) x reason.Memory h (none, tt)
 
 -- what is found in what the reader has left is found in what the source gives
-pub decides_by : (P : Profile) (o : Option Input) (reader : Option Rest) (x : Result (Certificate × Report) NoProof) → IfKnown o (λ i. reader ≡ Some (text_of i)) → (IsSome reader → AnswersProof P (found_in (rest_of reader)) x) → IfKnown o (λ i. AnswersProof P (found_in (text_of i)) x)
+pub decides_by : (P : Profile) (o : Option Input) (reader : Option Rest)
+    (x : Result (Certificate × Report) NoProof) → IfKnown o (λ i. reader ≡ Some (text_of i))
+    → (IsSome reader → AnswersProof P (found_in (rest_of reader)) x)
+    → IfKnown o (λ i. AnswersProof P (found_in (text_of i)) x)
 decides_by P None reader x h k = tt
 decides_by P (Some i) reader x h k = λ short. subst (λ (s : Option Rest). AnswersProof P (found_in (rest_of s)) x) (h short) (k (subst IsSome (sym (h short)) refl))

@@ -1,5 +1,7 @@
 -- Last references, index by index
-use Rattle.std.proofs.Common.{◌≡◌, ℕ, zero, suc, ◌+◌, ◌<◌, ◌≤◌, Bool, true, false, cond, ◌&&◌, ◌||◌, nat_eq, List, [], ◌∷◌, take, map, length, get_or, Some, arith, refl, sym, ◌∙◌, ap, ap₂, eq-eqb, eqb-true}
+use Rattle.std.proofs.Common.{◌≡◌, ℕ, zero, suc, ◌+◌, ◌<◌, ◌≤◌, Bool, true, false, cond, ◌&&◌, ◌||◌}
+use Rattle.std.proofs.Common.{nat_eq, List, [], ◌∷◌, take, map, length, get_or, Some, arith, refl}
+use Rattle.std.proofs.Common.{sym, ◌∙◌, ap, ap₂, eq-eqb, eqb-true}
 use Rattle.std.proofs.Math.ListN.{set}
 use Rattle.std.specs.List.{list_any}
 use Rattle.std.proofs.lemmas.List.Folds.{list_any_more}
@@ -20,11 +22,13 @@ unequal i n h = by (nat_eq i n) refl
 
 -- ---- tests
 
-pub referred_alike : (p q : ℕ → Bool) (last k : ℕ) (ds : List Derivation) → ((i : ℕ) → p i ≡ q i) → referred_by p last k ds ≡ referred_by q last k ds
+pub referred_alike : (p q : ℕ → Bool) (last k : ℕ) (ds : List Derivation) → ((i : ℕ) → p i ≡ q i)
+    → referred_by p last k ds ≡ referred_by q last k ds
 referred_alike p q last k [] same = refl
 referred_alike p q last k (d ∷ ds) same = ap₂ (λ b l. record d { last = cond b (Some last) d.last } ∷ l) (same k) (referred_alike p q last (suc k) ds same)
 
-pub referred_both : (p q : ℕ → Bool) (last k : ℕ) (ds : List Derivation) → referred_by q last k (referred_by p last k ds) ≡ referred_by (λ i. p i || q i) last k ds
+pub referred_both : (p q : ℕ → Bool) (last k : ℕ) (ds : List Derivation)
+    → referred_by q last k (referred_by p last k ds) ≡ referred_by (λ i. p i || q i) last k ds
 referred_both p q last k [] = refl
 referred_both p q last k (d ∷ ds) = ap₂ (λ o l. record d { last = o } ∷ l) (by (p k) (q k)) (referred_both p q last (suc k) ds)
   where
@@ -34,15 +38,18 @@ referred_both p q last k (d ∷ ds) = ap₂ (λ o l. record d { last = o } ∷ l
     by false true = refl
     by false false = refl
 
-pub referred_none : (p : ℕ → Bool) (last k : ℕ) (ds : List Derivation) → ((i : ℕ) → k ≤ i → i < k + length ds → p i ≡ false) → referred_by p last k ds ≡ ds
+pub referred_none : (p : ℕ → Bool) (last k : ℕ) (ds : List Derivation)
+    → ((i : ℕ) → k ≤ i → i < k + length ds → p i ≡ false) → referred_by p last k ds ≡ ds
 referred_none p last k [] none = refl
 referred_none p last k (d ∷ ds) none =
     ap₂ (λ b l. record d { last = cond b (Some last) d.last } ∷ l) (none k (omega arith) (omega arith)) (referred_none p last (suc k) ds (λ i a b. none i (omega arith) (omega arith)))
 
 -- ---- one index
 
-pub referred_at : (last k : ℕ) (ds : List Stored) (place index : ℕ) (x : Stored) → index ≡ k + place → place < length ds → x ≡ get_or ds place x
-    → map derivation_of (set ds place (record x { last = Some last })) ≡ referred_by (λ i. nat_eq i index) last k (map derivation_of ds)
+pub referred_at : (last k : ℕ) (ds : List Stored) (place index : ℕ) (x : Stored) → index ≡ k + place
+    → place < length ds → x ≡ get_or ds place x
+    → map derivation_of (set ds place (record x { last = Some last }))
+    ≡ referred_by (λ i. nat_eq i index) last k (map derivation_of ds)
 referred_at last k [] place index x e h is = absurd (omega arith)
 referred_at last k (d ∷ ds) zero index x e h is =
     ap₂ (λ o l. record (derivation_of x) { last = o } ∷ l)
@@ -55,7 +62,9 @@ referred_at last k (d ∷ ds) (suc place) index x e h is =
     (referred_at last (suc k) ds place index x (omega arith) (omega arith) is)
 
 -- before the first one, and past the last one
-pub referred_outside : (last k : ℕ) (ds : List Stored) (index : ℕ) → ((i : ℕ) → k ≤ i → i < k + length ds → ¬ (i ≡ index)) → map derivation_of ds ≡ referred_by (λ i. nat_eq i index) last k (map derivation_of ds)
+pub referred_outside : (last k : ℕ) (ds : List Stored) (index : ℕ)
+    → ((i : ℕ) → k ≤ i → i < k + length ds → ¬ (i ≡ index))
+    → map derivation_of ds ≡ referred_by (λ i. nat_eq i index) last k (map derivation_of ds)
 referred_outside last k ds index out =
     let size : length (map derivation_of ds) ≡ length ds = length-map ds derivation_of in
     sym (referred_none (λ i. nat_eq i index) last k (map derivation_of ds) (λ i a b. unequal i index (out i a (omega arith))))
@@ -94,7 +103,9 @@ none_referred last k ds = sym (referred_none (λ i. false) last k ds (λ i a b. 
 
 -- ---- the four indices of a split
 
-pub four_referred : (p q r s : ℕ → Bool) (last k : ℕ) (ds0 ds1 ds2 ds3 ds4 : List Derivation) → ds1 ≡ referred_by p last k ds0 → ds2 ≡ referred_by q last k ds1 → ds3 ≡ referred_by r last k ds2 → ds4 ≡ referred_by s last k ds3
+pub four_referred : (p q r s : ℕ → Bool) (last k : ℕ) (ds0 ds1 ds2 ds3 ds4 : List Derivation)
+    → ds1 ≡ referred_by p last k ds0 → ds2 ≡ referred_by q last k ds1
+    → ds3 ≡ referred_by r last k ds2 → ds4 ≡ referred_by s last k ds3
     → ds4 ≡ referred_by (λ i. p i || (q i || (r i || s i))) last k ds0
 four_referred p q r s last k ds0 ds1 ds2 ds3 ds4 a b c d =
     d

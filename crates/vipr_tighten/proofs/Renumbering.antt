@@ -1,13 +1,20 @@
 -- One pass from the front: what is kept so far, and the table of new indices
-use Rattle.std.proofs.Common.{◌≡◌, ℕ, zero, suc, ◌+◌, ◌-◌, ◌<◌, ◌≤◌, Bool, true, false, cond, ◌||◌, nat_lt, List, [], ◌∷◌, ◌++◌, take, drop, map, length, slice_index_or, get_or, Option, Some, None, IfSome, arith, refl, sym, ◌∙◌, ap, ap₂, subst, ⊎_elim, lt-ltb, ltb-true, eqb-true, nat_eq}
+use Rattle.std.proofs.Common.{◌≡◌, ℕ, zero, suc, ◌+◌, ◌-◌, ◌<◌, ◌≤◌, Bool, true, false, cond, ◌||◌}
+use Rattle.std.proofs.Common.{nat_lt, List, [], ◌∷◌, ◌++◌, take, drop, map, length, slice_index_or}
+use Rattle.std.proofs.Common.{get_or, Option, Some, None, IfSome, arith, refl, sym, ◌∙◌, ap, ap₂}
+use Rattle.std.proofs.Common.{subst, ⊎_elim, lt-ltb, ltb-true, eqb-true, nat_eq}
 use Rattle.std.proofs.lemmas.Bool.{cases_lt}
-use Rattle.std.proofs.lemmas.List.{drop_more, get_or-map, get_or_append_left, get_or_past, length-append, length-drop, length-map, length-take-le, map_push}
+use Rattle.std.proofs.lemmas.List.{drop_more, get_or-map, get_or_append_left, get_or_past}
+use Rattle.std.proofs.lemmas.List.{length-append, length-drop, length-map, length-take-le, map_push}
 use Rattle.std.proofs.Math.Seq.{get_or-append_right}
 use Rattle.vipr_spec.specs.Certificate as is
 use Rattle.vipr_spec.specs.Certificate.{NamesEarlier}
 use Rattle.vipr_spec.specs.Steps.{RefersBack}
-use Rattle.vipr_spec.specs.Tightened.{refers_to, is_the_goal, is_marked, is_kept, new_index, renumbered_reason, with_new_indices, kept_derivations, referred_by, tightened_certificate}
-use Rattle.vipr_spec.proofs.Laws.{index_same, length_kept_derivations, reason_placed, marked_past, next_kept, next_left_out, renumbered_alike}
+use Rattle.vipr_spec.specs.Tightened.{refers_to, is_the_goal, is_marked, is_kept, new_index}
+use Rattle.vipr_spec.specs.Tightened.{renumbered_reason, with_new_indices, kept_derivations}
+use Rattle.vipr_spec.specs.Tightened.{referred_by, tightened_certificate}
+use Rattle.vipr_spec.proofs.Laws.{index_same, length_kept_derivations, reason_placed, marked_past}
+use Rattle.vipr_spec.proofs.Laws.{next_kept, next_left_out, renumbered_alike}
 use Rattle.vipr_cert.specs.Earlier.{reason_in, NameEarlierFrom}
 use Rattle.vipr_cert.specs.Items.{reason_of, derivation_of}
 use Rattle.vipr_cert.specs.declared.items.Derivation.{Derivation}
@@ -15,7 +22,8 @@ use Rattle.vipr_tighten.specs.Passes.{has_mark, AreMarks, kept_by, index_by, Tak
 
 -- ---- the next derivation
 
-next_of : (xs : List Derivation) (j : ℕ) (x : Derivation) (rest : List Derivation) → drop j xs ≡ x ∷ rest → (j < length xs) × (x ≡ get_or xs j x) × (drop (j + 1) xs ≡ rest)
+next_of : (xs : List Derivation) (j : ℕ) (x : Derivation) (rest : List Derivation)
+    → drop j xs ≡ x ∷ rest → (j < length xs) × (x ≡ get_or xs j x) × (drop (j + 1) xs ≡ rest)
 next_of xs j x rest e =
     let size : length (drop j xs) ≡ length xs - j = length-drop j xs in
     let one : length (drop j xs) ≡ suc (length rest) = ap length e in
@@ -160,7 +168,9 @@ exists_at [] i h = absurd (omega arith)
 exists_at (x ∷ l) zero h = (x, refl)
 exists_at (x ∷ l) (suc i) h = exists_at l i (omega arith)
 
-pub earlier_in : (first : ℕ) (all ds : List Derivation) (table : List ℕ) (place : ℕ) → NameEarlierFrom first all (length all) → length table ≡ place → place < length all → drop (length table) all ≡ drop place ds
+pub earlier_in : (first : ℕ) (all ds : List Derivation) (table : List ℕ) (place : ℕ)
+    → NameEarlierFrom first all (length all) → length table ≡ place → place < length all
+    → drop (length table) all ≡ drop place ds
     → NamesEarlier (first + length table) (reason_in ds place)
 earlier_in first all ds table place earlier at there e =
     subst (λ n. NamesEarlier (first + n) (reason_in ds place)) (sym at)

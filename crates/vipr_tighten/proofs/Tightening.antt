@@ -1,5 +1,6 @@
 -- The parts of the tightened certificate
-use Rattle.std.proofs.Common.{◌≡◌, ℕ, ◌<◌, Bool, List, map, length, Option, IfSome, refl, sym, ap, ◌∙◌, subst}
+use Rattle.std.proofs.Common.{◌≡◌, ℕ, ◌<◌, Bool, List, map, length, Option, IfSome, refl, sym, ap}
+use Rattle.std.proofs.Common.{◌∙◌, subst}
 use Rattle.vipr_spec.specs.Certificate as is
 use Rattle.vipr_spec.specs.Steps.{RefersBack}
 use Rattle.vipr_spec.specs.Shape.{CanWrite}

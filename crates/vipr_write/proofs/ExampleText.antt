@@ -8,7 +8,8 @@ use Rattle.vipr_spec.specs.Gcd.{gcd}
 use Rattle.vipr_spec.specs.Fraction.{over, whole}
 use Rattle.vipr_write.specs.Canonical.{canonical_text}
 use Rattle.vipr_write.specs.Forms.{compact_text}
-use Rattle.vipr_write.specs.Example.{nothing, second, two_terms, sample, sample_text, sample_compact}
+use Rattle.vipr_write.specs.Example.{nothing, second, two_terms, sample, sample_text}
+use Rattle.vipr_write.specs.Example.{sample_compact}
 
 no_entries : entries nothing ≡ []
 unfolding nothing

@@ -1,6 +1,8 @@
 -- A text with the objective's row at each mark
-use Rattle.std.proofs.Common.{◌≡◌, ℕ, ◌+◌, ◌-◌, ◌*◌, ◌≤◌, List, [], ◌∷◌, ◌++◌, length, take, drop, sum, refl, ap, ◌∙◌, append_assoc, length-append, arith}
-use Rattle.std.proofs.lemmas.List.{append-nil, take-append-le, drop-append-le, length-drop, length-take-le}
+use Rattle.std.proofs.Common.{◌≡◌, ℕ, ◌+◌, ◌-◌, ◌*◌, ◌≤◌, List, [], ◌∷◌, ◌++◌, length, take, drop}
+use Rattle.std.proofs.Common.{sum, refl, ap, ◌∙◌, append_assoc, length-append, arith}
+use Rattle.std.proofs.lemmas.List.{append-nil, take-append-le, drop-append-le, length-drop}
+use Rattle.std.proofs.lemmas.List.{length-take-le}
 use Rattle.std.proofs.Math.Seq.{take-length, drop-length}
 use Rattle.std.proofs.lemmas.List.Sums.{sum_by-cons}
 use Rattle.vipr_write.specs.Folded.{expanded}
@@ -18,7 +20,8 @@ rest_gap : (n : ℕ) (ns text : List ℕ) → length text - sum (n ∷ ns) ≡ l
 rest_gap n ns text = omega (arith, sum_is n ns, length-drop n text)
 
 -- what is appended behind the last mark
-pub behind : (part : List ℕ) (ns : List ℕ) (text more : List ℕ) → sum ns ≤ length text → expanded part ns (text ++ more) ≡ expanded part ns text ++ more
+pub behind : (part : List ℕ) (ns : List ℕ) (text more : List ℕ) → sum ns ≤ length text
+    → expanded part ns (text ++ more) ≡ expanded part ns text ++ more
 behind part [] text more h = refl
 behind part (n ∷ ns) text more h =
     let fits = first_fits n ns text h in
@@ -29,7 +32,8 @@ behind part (n ∷ ns) text more h =
     ∙ simp append_assoc
 
 -- a mark at the end
-pub marked_here : (part : List ℕ) (ns : List ℕ) (text : List ℕ) → sum ns ≤ length text → expanded part (ns ++ (length text - sum ns) ∷ []) text ≡ expanded part ns text ++ part
+pub marked_here : (part : List ℕ) (ns : List ℕ) (text : List ℕ) → sum ns ≤ length text
+    → expanded part (ns ++ (length text - sum ns) ∷ []) text ≡ expanded part ns text ++ part
 marked_here part [] text h =
     let whole : length text - sum [] ≡ length text = omega arith in
     ap (λ k. take k text ++ (part ++ drop k text)) whole
@@ -44,7 +48,8 @@ marked_here part (n ∷ ns) text h =
     ∙ simp append_assoc
 
 -- how long it is
-pub long : (part : List ℕ) (ns : List ℕ) (text : List ℕ) → sum ns ≤ length text → length (expanded part ns text) ≡ length ns * length part + length text
+pub long : (part : List ℕ) (ns : List ℕ) (text : List ℕ) → sum ns ≤ length text
+    → length (expanded part ns text) ≡ length ns * length part + length text
 long part [] text h = omega arith
 long part (n ∷ ns) text h =
     let fits = first_fits n ns text h in

@@ -1,5 +1,7 @@
 -- Bytes that are handed to a sink in several calls
-use Rattle.std.proofs.Common.{◌≡◌, ℕ, suc, ◌+◌, ◌-◌, ◌≤◌, List, [], ◌++◌, length, take, Option, Some, None, IfSome, Result, Ok, Err, option_map, refl, sym, ap, subst, ◌∙◌, append_assoc, length-append, arith}
+use Rattle.std.proofs.Common.{◌≡◌, ℕ, suc, ◌+◌, ◌-◌, ◌≤◌, List, [], ◌++◌, length, take, Option}
+use Rattle.std.proofs.Common.{Some, None, IfSome, Result, Ok, Err, option_map, refl, sym, ap, subst}
+use Rattle.std.proofs.Common.{◌∙◌, append_assoc, length-append, arith}
 use Rattle.std.proofs.lemmas.List.{append-nil, take-append-le}
 use Rattle.std.proofs.Math.Seq.{take-append-add}
 use Rattle.vipr_bytes.specs.Output.{Output}
@@ -8,7 +10,9 @@ use Rattle.vipr_bytes.specs.declared.write.WriteFailed.{WriteFailed}
 use Rattle.vipr_write.specs.Gathered.{Sent, Stopped, HandsOn, IsBuffer, Gathers}
 use Rattle.vipr_write.specs.declared.gathered.Gathered.{Gathered}
 
-output : (accepted taken' : List ℕ) (room room' : Option ℕ) → accepted ≡ taken' → room ≡ room' → Some (let o : Output = record { accepted = accepted; room = room } in o) ≡ Some (let o : Output = record { accepted = taken'; room = room' } in o)
+output : (accepted taken' : List ℕ) (room room' : Option ℕ) → accepted ≡ taken' → room ≡ room'
+    → Some (let o : Output = record { accepted = accepted; room = room } in o)
+    ≡ Some (let o : Output = record { accepted = taken'; room = room' } in o)
 output accepted taken' room room' t r = λ i. Some (let o : Output = record { accepted = t i; room = r i } in o)
 
 same_room : (room : Option ℕ) → room ≡ option_map (λ r. r - 0) room
@@ -31,24 +35,29 @@ sent_none o n = record { output = accepted o; failures = failed n }
     failed None = tt
     failed (Some k) = refl
 
-both_within : (a b : ℕ) (room : Option ℕ) → IfSome room (λ r. a ≤ r) → IfSome (option_map (λ r. r - a) room) (λ r. b ≤ r) → IfSome room (λ r. a + b ≤ r)
+both_within : (a b : ℕ) (room : Option ℕ) → IfSome room (λ r. a ≤ r)
+    → IfSome (option_map (λ r. r - a) room) (λ r. b ≤ r) → IfSome room (λ r. a + b ≤ r)
 both_within a b None h k = tt
 both_within a b (Some r) h k = omega arith
 
-both_full : (a b : ℕ) (room : Option ℕ) → IfSome room (λ r. a ≤ r) → IfSome (option_map (λ r. r - a) room) (λ r. b ≡ r) → IfSome room (λ r. a + b ≡ r)
+both_full : (a b : ℕ) (room : Option ℕ) → IfSome room (λ r. a ≤ r)
+    → IfSome (option_map (λ r. r - a) room) (λ r. b ≡ r) → IfSome room (λ r. a + b ≡ r)
 both_full a b None h k = tt
 both_full a b (Some r) h k = omega arith
 
-room_after : (a b : ℕ) (room : Option ℕ) → option_map (λ r. r - b) (option_map (λ r. r - a) room) ≡ option_map (λ r. r - (a + b)) room
+room_after : (a b : ℕ) (room : Option ℕ)
+    → option_map (λ r. r - b) (option_map (λ r. r - a) room) ≡ option_map (λ r. r - (a + b)) room
 room_after a b None = refl
 room_after a b (Some r) = ap Some (omega arith)
 
-within_length : (xs ys : List ℕ) (room : Option ℕ) → IfSome room (λ r. length xs + length ys ≤ r) → IfSome room (λ r. length (xs ++ ys) ≤ r)
+within_length : (xs ys : List ℕ) (room : Option ℕ) → IfSome room (λ r. length xs + length ys ≤ r)
+    → IfSome room (λ r. length (xs ++ ys) ≤ r)
 within_length xs ys None h = tt
 within_length xs ys (Some r) h = omega (arith, length-append xs ys)
 
 -- more was handed on
-pub sent_more : (o p q : Option Output) (n m k : Option ℕ) (xs ys : List ℕ) → Sent o p n m xs → Sent p q m k ys → Sent o q n k (xs ++ ys)
+pub sent_more : (o p q : Option Output) (n m k : Option ℕ) (xs ys : List ℕ) → Sent o p n m xs
+    → Sent p q m k ys → Sent o q n k (xs ++ ys)
 sent_more o p q n m k xs ys a b = record { output = accepted o a.output; failures = failed n a.failures }
   where
     accepted : (o : Option Output) → IfSome o (λ x. Wrote x p xs (Ok tt)) → IfSome o (λ x. Wrote x q (xs ++ ys) (Ok tt))
@@ -62,7 +71,8 @@ sent_more o p q n m k xs ys a b = record { output = accepted o a.output; failure
     failed (Some j) h = subst (λ s. IfSome s (λ i. k ≡ Some i)) h b.failures
 
 -- it stopped after what was handed on before
-pub stopped_after : (o p q : Option Output) (n m k : Option ℕ) (xs ys : List ℕ) (i : ℕ) → Sent o p n m xs → Stopped p q m k ys i → Stopped o q n k (xs ++ ys) (length xs + i)
+pub stopped_after : (o p q : Option Output) (n m k : Option ℕ) (xs ys : List ℕ) (i : ℕ)
+    → Sent o p n m xs → Stopped p q m k ys i → Stopped o q n k (xs ++ ys) (length xs + i)
 stopped_after o p q n m k xs ys i a b = record { part = let l = b.part in omega (arith, length-append xs ys); output = accepted o a.output; failures = failed n a.failures }
   where
     accepted : (o : Option Output) → IfSome o (λ x. Wrote x p xs (Ok tt)) → IfSome o (λ x. Wrote x q (xs ++ ys) (Err (record { accepted = length xs + i })))
@@ -77,7 +87,8 @@ stopped_after o p q n m k xs ys i a b = record { part = let l = b.part in omega 
     failed (Some j) h = subst (λ s. IfSome s (λ i. k ≡ Some (suc i))) h b.failures
 
 -- it stopped before what was to follow
-pub stopped_within : (o p : Option Output) (n m : Option ℕ) (xs ys : List ℕ) (i : ℕ) → Stopped o p n m xs i → Stopped o p n m (xs ++ ys) i
+pub stopped_within : (o p : Option Output) (n m : Option ℕ) (xs ys : List ℕ) (i : ℕ)
+    → Stopped o p n m xs i → Stopped o p n m (xs ++ ys) i
 stopped_within o p n m xs ys i a = record { part = let l = a.part in omega (arith, length-append xs ys); output = accepted o a.output; failures = a.failures }
   where
     accepted : (o : Option Output) → IfSome o (λ x. Wrote x p xs (Err (record { accepted = i }))) → IfSome o (λ x. Wrote x p (xs ++ ys) (Err (record { accepted = i })))
@@ -89,8 +100,12 @@ stopped_within o p n m xs ys i a = record { part = let l = a.part in omega (arit
 -- ---- pieces
 
 -- a long piece is handed on at once, after what was kept
-pub gather_long : (o p q : Option Output) (n m k : Option ℕ) (old mid : Gathered) (handed : ℕ) (piece : List ℕ) (r : Result (Unit {0}) WriteFailed) → HandsOn o p n m old.handed mid.handed old.bytes.items (Ok tt) → IsBuffer mid → mid.bytes.items ≡ []
-    → HandsOn p q m k mid.handed handed piece r → Gathers o q n k old (record { bytes = mid.bytes; handed = handed }) piece r
+pub gather_long : (o p q : Option Output) (n m k : Option ℕ) (old mid : Gathered) (handed : ℕ)
+    (piece : List ℕ) (r : Result (Unit {0}) WriteFailed)
+    → HandsOn o p n m old.handed mid.handed old.bytes.items (Ok tt) → IsBuffer mid
+    → mid.bytes.items ≡ []
+    → HandsOn p q m k mid.handed handed piece r
+    → Gathers o q n k old (record { bytes = mid.bytes; handed = handed }) piece r
 gather_long o p q n m k old mid handed piece (Ok u) flushed buffer empty hands =
     record {
       sent = old.bytes.items ++ piece;
@@ -103,7 +118,9 @@ gather_long o p q n m k old mid handed piece (Err e) flushed buffer empty hands 
     (length old.bytes.items + hands.0, (let a = flushed.1 in let b = hands.1 in omega arith), stopped_after o p q n m k old.bytes.items piece hands.0 flushed.0 hands.2)
 
 -- what was kept is handed on, and the piece is kept
-pub gather_short : (o p : Option Output) (n m : Option ℕ) (old mid new : Gathered) (piece : List ℕ) → HandsOn o p n m old.handed mid.handed old.bytes.items (Ok tt) → mid.bytes.items ≡ [] → new.bytes.items ≡ mid.bytes.items ++ piece → new.handed ≡ mid.handed → IsBuffer new
+pub gather_short : (o p : Option Output) (n m : Option ℕ) (old mid new : Gathered) (piece : List ℕ)
+    → HandsOn o p n m old.handed mid.handed old.bytes.items (Ok tt) → mid.bytes.items ≡ []
+    → new.bytes.items ≡ mid.bytes.items ++ piece → new.handed ≡ mid.handed → IsBuffer new
     → Gathers o p n m old new piece (Ok tt)
 gather_short o p n m old mid new piece flushed empty kept same buffer =
     record {
@@ -115,11 +132,15 @@ gather_short o p n m old mid new piece flushed empty kept same buffer =
     }
 
 -- what was kept could not be handed on
-pub gather_stopped : (o p : Option Output) (n m : Option ℕ) (old new : Gathered) (handed : ℕ) (piece : List ℕ) (e : WriteFailed) → HandsOn o p n m old.handed handed old.bytes.items (Err e) → Gathers o p n m old new piece (Err e)
+pub gather_stopped : (o p : Option Output) (n m : Option ℕ) (old new : Gathered) (handed : ℕ)
+    (piece : List ℕ) (e : WriteFailed) → HandsOn o p n m old.handed handed old.bytes.items (Err e)
+    → Gathers o p n m old new piece (Err e)
 gather_stopped o p n m old new handed piece e hands = (hands.0, hands.1, stopped_within o p n m old.bytes.items piece hands.0 hands.2)
 
 -- there is room for the piece
-pub gather_kept : (o : Option Output) (n : Option ℕ) (old new : Gathered) (piece : List ℕ) → new.bytes.items ≡ old.bytes.items ++ piece → new.handed ≡ old.handed → IsBuffer new → Gathers o o n n old new piece (Ok tt)
+pub gather_kept : (o : Option Output) (n : Option ℕ) (old new : Gathered) (piece : List ℕ)
+    → new.bytes.items ≡ old.bytes.items ++ piece → new.handed ≡ old.handed → IsBuffer new
+    → Gathers o o n n old new piece (Ok tt)
 gather_kept o n old new piece kept same buffer =
     record {
       sent = [];

@@ -1,5 +1,8 @@
 -- A text that is handed to a sink piece by piece
-use Rattle.std.proofs.Common.{◌≡◌, ℕ, suc, ◌+◌, ◌-◌, ◌^◌, ◌<◌, ◌≤◌, refl, option_map, Bool, true, false, List, [], ◌∷◌, ◌++◌, length, map, take, get_or, Option, Some, None, Result, Ok, Err, IfSome, IfErr, sym, ap, ◌∙◌, subst, append_assoc, arith}
+use Rattle.std.proofs.Common.{◌≡◌, ℕ, suc, ◌+◌, ◌-◌, ◌^◌, ◌<◌, ◌≤◌, refl, option_map, Bool, true}
+use Rattle.std.proofs.Common.{false, List, [], ◌∷◌, ◌++◌, length, map, take, get_or, Option, Some}
+use Rattle.std.proofs.Common.{None, Result, Ok, Err, IfSome, IfErr, sym, ap, ◌∙◌, subst}
+use Rattle.std.proofs.Common.{append_assoc, arith}
 use Rattle.std.proofs.Math.Seq.{take-append-add}
 use Rattle.std.specs.List.{flat_map}
 use Rattle.std.proofs.lemmas.List.{length-append, take-append-le, append-nil, take_all, take_more}
@@ -12,17 +15,22 @@ use Rattle.vipr_write.specs.Hands.{Start, start_of, counted, IsEnd, Flows, Stops
 use Rattle.vipr_write.specs.Carried.{Puts}
 use Rattle.vipr_write.specs.declared.pending.Pending.{Pending}
 
-output : (accepted taken' : List ℕ) (room room' : Option ℕ) → accepted ≡ taken' → room ≡ room' → (let o : Output = record { accepted = accepted; room = room } in o) ≡ (let o : Output = record { accepted = taken'; room = room' } in o)
+output : (accepted taken' : List ℕ) (room room' : Option ℕ) → accepted ≡ taken' → room ≡ room'
+    → (let o : Output = record { accepted = accepted; room = room } in o)
+    ≡ (let o : Output = record { accepted = taken'; room = room' } in o)
 output accepted taken' room room' t r = λ i. (let o : Output = record { accepted = t i; room = r i } in o)
 
-room_after : (a b c : ℕ) (room : Option ℕ) → a + b ≡ c → option_map (λ r. r - b) (option_map (λ r. r - a) room) ≡ option_map (λ r. r - c) room
+room_after : (a b c : ℕ) (room : Option ℕ) → a + b ≡ c
+    → option_map (λ r. r - b) (option_map (λ r. r - a) room) ≡ option_map (λ r. r - c) room
 room_after a b c None e = refl
 room_after a b c (Some r) e = ap Some (omega (arith, e))
 
-all_behind : (front bytes : List ℕ) (o : Output) → with_all bytes (with_all front o) ≡ with_all (front ++ bytes) o
+all_behind : (front bytes : List ℕ) (o : Output)
+    → with_all bytes (with_all front o) ≡ with_all (front ++ bytes) o
 all_behind front bytes o = output _ _ _ _ (append_assoc o.accepted front bytes) (room_after (length front) (length bytes) (length (front ++ bytes)) o.room (sym (length-append front bytes)))
 
-first_behind : (front bytes : List ℕ) (k : ℕ) (o : Output) → with_first k bytes (with_all front o) ≡ with_first (length front + k) (front ++ bytes) o
+first_behind : (front bytes : List ℕ) (k : ℕ) (o : Output)
+    → with_first k bytes (with_all front o) ≡ with_first (length front + k) (front ++ bytes) o
 first_behind front bytes k o = output _ _ _ _ (append_assoc o.accepted front (take k bytes) ∙ ap (λ t. o.accepted ++ t) (sym (take-append-add front bytes k))) (room_after (length front) k (length front + k) o.room refl)
 
 -- the answer with so many bytes before
@@ -30,32 +38,45 @@ abbrev pub behind : ℕ → Result (Unit {0}) WriteFailed → Result (Unit {0}) 
 behind n (Ok u) = Ok u
 behind n (Err e) = Err (record { accepted = n + e.accepted })
 
-room_whole : (a b c : ℕ) (room : Option ℕ) → a + b ≡ c → IfSome room (λ r. a ≤ r) → IfSome (option_map (λ r. r - a) room) (λ r. b ≤ r) → IfSome room (λ r. c ≤ r)
+room_whole : (a b c : ℕ) (room : Option ℕ) → a + b ≡ c → IfSome room (λ r. a ≤ r)
+    → IfSome (option_map (λ r. r - a) room) (λ r. b ≤ r) → IfSome room (λ r. c ≤ r)
 room_whole a b c None e first second = tt
 room_whole a b c (Some r) e first second = omega (arith, e, first, second)
 
-room_met : (a b : ℕ) (room : Option ℕ) → IfSome room (λ r. a ≤ r) → IfSome (option_map (λ r. r - a) room) (λ r. b ≡ r) → IfSome room (λ r. a + b ≡ r)
+room_met : (a b : ℕ) (room : Option ℕ) → IfSome room (λ r. a ≤ r)
+    → IfSome (option_map (λ r. r - a) room) (λ r. b ≡ r) → IfSome room (λ r. a + b ≡ r)
 room_met a b None first second = tt
 room_met a b (Some r) first second = omega (arith, first, second)
 
-wrote_more : (o : Output) (new : Option Output) (front bytes : List ℕ) (r : Result (Unit {0}) WriteFailed) → IfSome o.room (λ room. length front ≤ room) → Wrote (with_all front o) new bytes r → Wrote o new (front ++ bytes) (behind (length front) r)
+wrote_more : (o : Output) (new : Option Output) (front bytes : List ℕ)
+    (r : Result (Unit {0}) WriteFailed) → IfSome o.room (λ room. length front ≤ room)
+    → Wrote (with_all front o) new bytes r → Wrote o new (front ++ bytes) (behind (length front) r)
 wrote_more o new front bytes (Ok u) first w = (room_whole (length front) (length bytes) (length (front ++ bytes)) o.room (sym (length-append front bytes)) first w.0, w.1 ∙ ap Some (all_behind front bytes o))
 wrote_more o new front bytes (Err e) first w = (omega (arith, length-append front bytes, w.0), room_met (length front) e.accepted o.room first w.1, w.2 ∙ ap Some (first_behind front bytes e.accepted o))
 
-output_more : (start now new : Option Output) (front bytes : List ℕ) (r : Result (Unit {0}) WriteFailed) → IfSome start (λ o. Wrote o now front (Ok tt)) → IfSome now (λ o. Wrote o new bytes r) → IfSome start (λ o. Wrote o new (front ++ bytes) (behind (length front) r))
+output_more : (start now new : Option Output) (front bytes : List ℕ)
+    (r : Result (Unit {0}) WriteFailed) → IfSome start (λ o. Wrote o now front (Ok tt))
+    → IfSome now (λ o. Wrote o new bytes r)
+    → IfSome start (λ o. Wrote o new (front ++ bytes) (behind (length front) r))
 output_more None now new front bytes r first second = tt
 output_more (Some o) now new front bytes r first second = wrote_more o new front bytes r first.0 (subst (λ s. IfSome s (λ p. Wrote p new bytes r)) first.1 second)
 
-failures_more : (start now new : Option ℕ) (n : ℕ) (r : Result (Unit {0}) WriteFailed) → IfSome start (λ k. now ≡ Some k) → IfSome now (λ k. EndsAtFailure k new r) → IfSome start (λ k. EndsAtFailure k new (behind n r))
+failures_more : (start now new : Option ℕ) (n : ℕ) (r : Result (Unit {0}) WriteFailed)
+    → IfSome start (λ k. now ≡ Some k) → IfSome now (λ k. EndsAtFailure k new r)
+    → IfSome start (λ k. EndsAtFailure k new (behind n r))
 failures_more None now new n r first second = tt
 failures_more (Some k) now new n (Ok u) first second = subst (λ s. IfSome s (λ j. new ≡ Some j)) first second
 failures_more (Some k) now new n (Err e) first second = subst (λ s. IfSome s (λ j. new ≡ Some (suc j))) first second
 
-part_more : (front bytes : List ℕ) (r : Result (Unit {0}) WriteFailed) → IfErr r (λ e. e.accepted < length bytes) → IfErr (behind (length front) r) (λ e. e.accepted < length (front ++ bytes))
+part_more : (front bytes : List ℕ) (r : Result (Unit {0}) WriteFailed)
+    → IfErr r (λ e. e.accepted < length bytes)
+    → IfErr (behind (length front) r) (λ e. e.accepted < length (front ++ bytes))
 part_more front bytes (Ok u) p = tt
 part_more front bytes (Err e) p = omega (arith, length-append front bytes, p)
 
-pub end_more : (start now new : Start) (front bytes : List ℕ) (r : Result (Unit {0}) WriteFailed) → IsEnd start now front (Ok tt) → IsEnd now new bytes r → IsEnd start new (front ++ bytes) (behind (length front) r)
+pub end_more : (start now new : Start) (front bytes : List ℕ) (r : Result (Unit {0}) WriteFailed)
+    → IsEnd start now front (Ok tt) → IsEnd now new bytes r
+    → IsEnd start new (front ++ bytes) (behind (length front) r)
 end_more start now new front bytes r first second = record {
   output = output_more start.output now.output new.output front bytes r first.output second.output;
   part = part_more front bytes r second.part;
@@ -63,29 +84,39 @@ end_more start now new front bytes r first second = record {
 }
 
 -- what follows a failed write changes nothing
-cut_output : (start now : Option Output) (text more : List ℕ) (n : ℕ) → n < length text → IfSome start (λ o. Wrote o now text (Err (record { accepted = n }))) → IfSome start (λ o. Wrote o now (text ++ more) (Err (record { accepted = n })))
+cut_output : (start now : Option Output) (text more : List ℕ) (n : ℕ) → n < length text
+    → IfSome start (λ o. Wrote o now text (Err (record { accepted = n })))
+    → IfSome start (λ o. Wrote o now (text ++ more) (Err (record { accepted = n })))
 cut_output None now text more n l w = tt
 cut_output (Some o) now text more n l w = (omega (arith, length-append text more, l), w.1, w.2 ∙ ap Some (output _ _ _ _ (ap (λ t. o.accepted ++ t) (sym (take-append-le n text more (omega (arith, l))))) refl))
 
-end_cut : (start now : Start) (text more : List ℕ) (n : ℕ) → IsEnd start now text (Err (record { accepted = n })) → IsEnd start now (text ++ more) (Err (record { accepted = n }))
+end_cut : (start now : Start) (text more : List ℕ) (n : ℕ)
+    → IsEnd start now text (Err (record { accepted = n }))
+    → IsEnd start now (text ++ more) (Err (record { accepted = n }))
 end_cut start now text more n w = record {
   output = cut_output start.output now.output text more n w.part w.output;
   part = omega (arith, length-append text more, w.part);
   failures = w.failures;
 }
 
-pub stops_more : (start now : Start) (accepted : ℕ) (text more : List ℕ) → Stops start now accepted text → Stops start now accepted (text ++ more)
+pub stops_more : (start now : Start) (accepted : ℕ) (text more : List ℕ)
+    → Stops start now accepted text → Stops start now accepted (text ++ more)
 stops_more start now accepted text more s = record { n = s.n; count = s.count; writes = end_cut start now text more s.n s.writes }
 
 -- ---- what is pending
-pub carries_more : (failed : Bool) (start now : Start) (accepted : ℕ) (pending text more : List ℕ) → Carries_by failed start now accepted pending text → Carries_by failed start now accepted (pending ++ more) (text ++ more)
+pub carries_more : (failed : Bool) (start now : Start) (accepted : ℕ) (pending text more : List ℕ)
+    → Carries_by failed start now accepted pending text
+    → Carries_by failed start now accepted (pending ++ more) (text ++ more)
 carries_more false start now accepted pending text more c = record { front = c.front; parts = sym (append_assoc c.front pending more) ∙ ap (λ t. t ++ more) c.parts; count = c.count; writes = c.writes }
 carries_more true start now accepted pending text more c = stops_more start now accepted text more c
 
-counts : (a b c accepted : ℕ) → a + b ≡ c → accepted ≡ counted a → counted (accepted + b) ≡ counted c
+counts : (a b c accepted : ℕ) → a + b ≡ c → accepted ≡ counted a
+    → counted (accepted + b) ≡ counted c
 counts a b c accepted e t = omega (arith, e, t)
 
-pub flows_on : (start now new : Start) (accepted : ℕ) (pending text : List ℕ) → Flows start now accepted pending text → IsEnd now new pending (Ok tt) → Flows start new (counted (accepted + length pending)) [] (text ++ [])
+pub flows_on : (start now new : Start) (accepted : ℕ) (pending text : List ℕ)
+    → Flows start now accepted pending text → IsEnd now new pending (Ok tt)
+    → Flows start new (counted (accepted + length pending)) [] (text ++ [])
 flows_on start now new accepted pending text c w = record {
   front = c.front ++ pending;
   parts = ap (λ t. t ++ []) c.parts;
@@ -93,25 +124,39 @@ flows_on start now new accepted pending text c w = record {
   writes = end_more start now new c.front pending (Ok tt) c.writes w;
 }
 
-pub flow_stops : (start now new : Start) (accepted : ℕ) (pending text : List ℕ) (e : WriteFailed) → Flows start now accepted pending text → IsEnd now new pending (Err e) → Stops start new (counted (accepted + e.accepted)) (text ++ [])
+pub flow_stops : (start now new : Start) (accepted : ℕ) (pending text : List ℕ) (e : WriteFailed)
+    → Flows start now accepted pending text → IsEnd now new pending (Err e)
+    → Stops start new (counted (accepted + e.accepted)) (text ++ [])
 flow_stops start now new accepted pending text e c w = stops_more start new _ text [] (record {
   n = length c.front + e.accepted;
   count = counts (length c.front) e.accepted (length c.front + e.accepted) accepted refl c.count;
   writes = subst (λ t. IsEnd start new t (Err (record { accepted = length c.front + e.accepted }))) c.parts (end_more start now new c.front pending (Err e) c.writes w);
 })
 
-pub hands_all : {S : Type 0} (f : S → Option Output) (g : S → Option ℕ) (s t : S) (before total : ℕ) (bytes : List ℕ) → total ≡ counted (before + length bytes) → IfSome (f s) (λ o. Wrote o (f t) bytes (Ok tt)) → IfSome (g s) (λ n. EndsAtFailure n (g t) (let r : Result (Unit {0}) WriteFailed = Ok tt in r)) → Hands f g s t before bytes (total, false)
+pub hands_all : {S : Type 0} (f : S → Option Output) (g : S → Option ℕ) (s t : S) (before total : ℕ)
+    (bytes : List ℕ) → total ≡ counted (before + length bytes)
+    → IfSome (f s) (λ o. Wrote o (f t) bytes (Ok tt))
+    → IfSome (g s) (λ n. EndsAtFailure n (g t) (let r : Result (Unit {0}) WriteFailed = Ok tt in r))
+    → Hands f g s t before bytes (total, false)
 hands_all f g s t before total bytes e wrote ended = record {
   law = λ start text c. subst (λ n. Flows start (start_of f g t) n [] (text ++ [])) (sym e) (flows_on start (start_of f g s) (start_of f g t) before bytes text c (record { output = wrote; part = tt; failures = ended }));
 }
 
-pub hands_front : {S : Type 0} (f : S → Option Output) (g : S → Option ℕ) (s t : S) (before total : ℕ) (bytes : List ℕ) (failed : WriteFailed) → total ≡ counted (before + failed.accepted) → IfSome (f s) (λ o. Wrote o (f t) bytes (Err failed)) → failed.accepted < length bytes → IfSome (g s) (λ n. EndsAtFailure n (g t) (let r : Result (Unit {0}) WriteFailed = Err failed in r)) → Hands f g s t before bytes (total, true)
+pub hands_front : {S : Type 0} (f : S → Option Output) (g : S → Option ℕ) (s t : S)
+    (before total : ℕ) (bytes : List ℕ) (failed : WriteFailed)
+    → total ≡ counted (before + failed.accepted)
+    → IfSome (f s) (λ o. Wrote o (f t) bytes (Err failed)) → failed.accepted < length bytes → IfSome
+    (g s) (λ n. EndsAtFailure n (g t) (let r : Result (Unit {0}) WriteFailed = Err failed in r))
+    → Hands f g s t before bytes (total, true)
 hands_front f g s t before total bytes failed e wrote part ended = record {
   law = λ start text c. subst (λ n. Stops start (start_of f g t) n (text ++ [])) (sym e) (flow_stops start (start_of f g s) (start_of f g t) before bytes text failed c (record { output = wrote; part = part; failures = ended }));
 }
 
 -- ---- what is pending is handed over, grows, or is forgotten
-pub puts_handed : {S : Type 0} {f : S → Option Output} {g : S → Option ℕ} {s t : S} (p q : Pending) (bytes : List ℕ) → p.failed ≡ false → bytes ≡ p.bytes.items → Hands f g s t p.accepted bytes (q.accepted, q.failed) → q.bytes.items ≡ [] → Puts f g s t p q []
+pub puts_handed : {S : Type 0} {f : S → Option Output} {g : S → Option ℕ} {s t : S} (p q : Pending)
+    (bytes : List ℕ) → p.failed ≡ false → bytes ≡ p.bytes.items
+    → Hands f g s t p.accepted bytes (q.accepted, q.failed) → q.bytes.items ≡ []
+    → Puts f g s t p q []
 puts_handed {S} {f} {g} {s} {t} p q bytes flows same hands none = record {
   law = λ start text c.
       let now = subst (λ b. Carries_by b start (start_of f g s) p.accepted p.bytes.items text) flows c in
@@ -119,7 +164,9 @@ puts_handed {S} {f} {g} {s} {t} p q bytes flows same hands none = record {
       subst (λ b. Carries_by q.failed start (start_of f g t) q.accepted b (text ++ [])) (sym none) after;
 }
 
-pub puts_bytes : {S : Type 0} {f : S → Option Output} {g : S → Option ℕ} {s : S} (p q : Pending) (more : List ℕ) → q.failed ≡ p.failed → q.accepted ≡ p.accepted → q.bytes.items ≡ p.bytes.items ++ more → Puts f g s s p q more
+pub puts_bytes : {S : Type 0} {f : S → Option Output} {g : S → Option ℕ} {s : S} (p q : Pending)
+    (more : List ℕ) → q.failed ≡ p.failed → q.accepted ≡ p.accepted
+    → q.bytes.items ≡ p.bytes.items ++ more → Puts f g s s p q more
 puts_bytes {S} {f} {g} {s} p q more failed accepted bytes = record {
   law = λ start text c. subst (λ b. Carries_by b start (start_of f g s) q.accepted q.bytes.items (text ++ more)) (sym failed)
       (subst (λ n. Carries_by p.failed start (start_of f g s) n q.bytes.items (text ++ more)) (sym accepted)
@@ -127,7 +174,8 @@ puts_bytes {S} {f} {g} {s} p q more failed accepted bytes = record {
       (carries_more p.failed start (start_of f g s) p.accepted p.bytes.items text more c)));
 }
 
-pub puts_none : {S : Type 0} {f : S → Option Output} {g : S → Option ℕ} {s : S} (p q : Pending) → p.failed ≡ true → q.failed ≡ p.failed → q.accepted ≡ p.accepted → Puts f g s s p q []
+pub puts_none : {S : Type 0} {f : S → Option Output} {g : S → Option ℕ} {s : S} (p q : Pending)
+    → p.failed ≡ true → q.failed ≡ p.failed → q.accepted ≡ p.accepted → Puts f g s s p q []
 puts_none {S} {f} {g} {s} p q stopped failed accepted = record {
   law = λ start text c.
       let now = subst (λ b. Carries_by b start (start_of f g s) p.accepted p.bytes.items text) stopped c in
@@ -136,10 +184,13 @@ puts_none {S} {f} {g} {s} p q stopped failed accepted = record {
 }
 
 -- ---- the whole text
-pub whole_end : (start now : Start) (accepted : ℕ) (text : List ℕ) → Flows start now accepted [] (text ++ []) → IsEnd start now text (Ok tt)
+pub whole_end : (start now : Start) (accepted : ℕ) (text : List ℕ)
+    → Flows start now accepted [] (text ++ []) → IsEnd start now text (Ok tt)
 whole_end start now accepted text c = subst (λ t. IsEnd start now t (Ok tt)) (sym (append-nil c.front) ∙ c.parts ∙ append-nil text) c.writes
 
-pub cut_end : (start now : Start) (accepted : ℕ) (text : List ℕ) → length text < 2 ^ 64 → Stops start now accepted (text ++ []) → IsEnd start now text (Err (record { accepted = accepted }))
+pub cut_end : (start now : Start) (accepted : ℕ) (text : List ℕ) → length text < 2 ^ 64
+    → Stops start now accepted (text ++ [])
+    → IsEnd start now text (Err (record { accepted = accepted }))
 cut_end start now accepted text l s =
     let w : IsEnd start now text (Err (record { accepted = s.n })) = subst (λ t. IsEnd start now t (Err (record { accepted = s.n }))) (append-nil text) s.writes in
     let within = w.part in
@@ -147,32 +198,51 @@ cut_end start now accepted text l s =
     subst (λ n. IsEnd start now text (Err (record { accepted = n }))) (sym e) w
 
 -- ---- one piece behind another
-pub puts_then : {S : Type 0} {f : S → Option Output} {g : S → Option ℕ} {s t u : S} {p q r : Pending} {a b : List ℕ} → Puts f g s t p q a → Puts f g t u q r b → Puts f g s u p r (a ++ b)
+pub puts_then : {S : Type 0} {f : S → Option Output} {g : S
+    → Option ℕ} {s t u : S} {p q r : Pending} {a b : List ℕ} → Puts f g s t p q a
+    → Puts f g t u q r b → Puts f g s u p r (a ++ b)
 puts_then {S} {f} {g} {s} {t} {u} {p} {q} {r} {a} {b} first second = record {
   law = λ start text c. subst (λ x. Carries_by r.failed start (start_of f g u) r.accepted r.bytes.items x) (append_assoc text a b) (second.law start (text ++ a) (first.law start text c));
 }
 
 -- the same bytes
-pub puts_same : {S : Type 0} {f : S → Option Output} {g : S → Option ℕ} {s t : S} {p q : Pending} {a b : List ℕ} → a ≡ b → Puts f g s t p q a → Puts f g s t p q b
+pub puts_same :
+    {S : Type 0} {f : S → Option Output} {g : S → Option ℕ} {s t : S} {p q : Pending} {a b : List ℕ}
+    → a ≡ b → Puts f g s t p q a → Puts f g s t p q b
 puts_same {S} {f} {g} {s} {t} {p} {q} {a} {b} e m = subst (λ x. Puts f g s t p q x) e m
 
 -- once a write has failed, nothing need be done
-pub puts_failed : {S : Type 0} (f : S → Option Output) (g : S → Option ℕ) (s : S) (p : Pending) (a : List ℕ) → p.failed ≡ true → Puts f g s s p p a
+pub puts_failed : {S : Type 0} (f : S → Option Output) (g : S → Option ℕ) (s : S) (p : Pending)
+    (a : List ℕ) → p.failed ≡ true → Puts f g s s p p a
 puts_failed f g s p a e = record {
   law = λ start text c. subst (λ b. Carries_by b start (start_of f g s) p.accepted p.bytes.items (text ++ a)) (sym e) (stops_more start (start_of f g s) p.accepted text a (subst (λ b. Carries_by b start (start_of f g s) p.accepted p.bytes.items text) e c));
 }
 
 -- a part for each item of a list
-pub puts_next_or : {S X : Type 0} {f : S → Option Output} {g : S → Option ℕ} {s t u : S} {p q r : Pending} (part : X → List ℕ) (xs : List X) (i : ℕ) (d : X) → i < length xs → Puts f g s t p q (flat_map part (take i xs)) → Puts f g t u q r (part (get_or xs i d)) → Puts f g s u p r (flat_map part (take (i + 1) xs))
+pub puts_next_or :
+    {S X : Type 0} {f : S → Option Output} {g : S → Option ℕ} {s t u : S} {p q r : Pending}
+    (part : X → List ℕ) (xs : List X) (i : ℕ) (d : X) → i < length xs
+    → Puts f g s t p q (flat_map part (take i xs)) → Puts f g t u q r (part (get_or xs i d))
+    → Puts f g s u p r (flat_map part (take (i + 1) xs))
 puts_next_or part xs i d l first next =
     puts_same (sym (ap (flat_map part) (take_more xs i d l) ∙ flat_map-append part (take i xs) (get_or xs i d ∷ []) ∙ ap (λ x. flat_map part (take i xs) ++ x) (append-nil (part (get_or xs i d))))) (puts_then first next)
 
-pub puts_next : {S X : Type 0} {f : S → Option Output} {g : S → Option ℕ} {s t u : S} {p q r : Pending} (part : X → List ℕ) (xs : List X) (i : ℕ) (x : X) → i < length xs → x ≡ get_or xs i x → Puts f g s t p q (flat_map part (take i xs)) → Puts f g t u q r (part x) → Puts f g s u p r (flat_map part (take (i + 1) xs))
+pub puts_next :
+    {S X : Type 0} {f : S → Option Output} {g : S → Option ℕ} {s t u : S} {p q r : Pending}
+    (part : X → List ℕ) (xs : List X) (i : ℕ) (x : X) → i < length xs → x ≡ get_or xs i x
+    → Puts f g s t p q (flat_map part (take i xs)) → Puts f g t u q r (part x)
+    → Puts f g s u p r (flat_map part (take (i + 1) xs))
 puts_next part xs i x l e first next = puts_next_or part xs i x l first (puts_same (ap part e) next)
 
-pub puts_all : {S X : Type 0} {f : S → Option Output} {g : S → Option ℕ} {s t : S} {p q : Pending} (part : X → List ℕ) (xs : List X) (i : ℕ) → length xs ≤ i → Puts f g s t p q (flat_map part (take i xs)) → Puts f g s t p q (flat_map part xs)
+pub puts_all : {S X : Type 0} {f : S → Option Output} {g : S → Option ℕ} {s t : S} {p q : Pending}
+    (part : X → List ℕ) (xs : List X) (i : ℕ) → length xs ≤ i
+    → Puts f g s t p q (flat_map part (take i xs)) → Puts f g s t p q (flat_map part xs)
 puts_all part xs i l m = puts_same (ap (flat_map part) (take_all i xs l)) m
 
 -- the lines that are made of the items
-pub puts_lines : {S X L : Type 0} {f : S → Option Output} {g : S → Option ℕ} {s t : S} {p q : Pending} (text : L → List ℕ) (line : X → L) (xs : List X) (i : ℕ) → length xs ≤ i → Puts f g s t p q (flat_map (λ x. text (line x)) (take i xs)) → Puts f g s t p q (flat_map text (map line xs))
+pub puts_lines :
+    {S X L : Type 0} {f : S → Option Output} {g : S → Option ℕ} {s t : S} {p q : Pending}
+    (text : L → List ℕ) (line : X → L) (xs : List X) (i : ℕ) → length xs ≤ i
+    → Puts f g s t p q (flat_map (λ x. text (line x)) (take i xs))
+    → Puts f g s t p q (flat_map text (map line xs))
 puts_lines text line xs i l m = puts_same (sym (flat_map-map text line xs)) (puts_all (λ x. text (line x)) xs i l m)

@@ -1,25 +1,32 @@
 -- Steps whose names and constraints are kept in a text that grows
-use Rattle.std.proofs.Common.{◌≡◌, ℕ, suc, get_or, codes, IsTrue, ◌+◌, ◌-◌, ◌≤◌, Bool, true, false, ◌&&◌, nat_le, cond, List, [], ◌∷◌, ◌++◌, length, map, take, drop, slice_range, All, refl, sym, ap, ap₂, ◌∙◌, append_assoc, length-append, arith}
+use Rattle.std.proofs.Common.{◌≡◌, ℕ, suc, get_or, codes, IsTrue, ◌+◌, ◌-◌, ◌≤◌, Bool, true, false}
+use Rattle.std.proofs.Common.{◌&&◌, nat_le, cond, List, [], ◌∷◌, ◌++◌, length, map, take, drop}
+use Rattle.std.proofs.Common.{slice_range, All, refl, sym, ap, ap₂, ◌∙◌, append_assoc}
+use Rattle.std.proofs.Common.{length-append, arith}
 use Rattle.std.specs.List.{flat_map}
 use Rattle.std.proofs.lemmas.Bool.Decides.{nat_tests}
-use Rattle.std.proofs.lemmas.List.{append-nil, take-append-le, drop-append-le, length-drop, map_push, length-take-le, take_at, take_all, take-append-drop}
+use Rattle.std.proofs.lemmas.List.{append-nil, take-append-le, drop-append-le, length-drop}
+use Rattle.std.proofs.lemmas.List.{map_push, length-take-le, take_at, take_all, take-append-drop}
 use Rattle.std.proofs.lemmas.List.Edits.{split_between}
 use Rattle.std.proofs.Math.Seq.{take-length, drop-length}
 use Rattle.std.proofs.lemmas.List.Elements.{All-push, All-head, All-tail, All-nil, All-cons}
 use Rattle.vipr_spec.specs.Number.{number_text}
 use Rattle.vipr_spec.specs.Fraction.{zero_ℚ}
 use Rattle.vipr_spec.specs.Constraint.{Row, Constraint, equal}
-use Rattle.vipr_write.specs.Canonical.{sense_word, reason_words, last_word, solutions_lines, heading, words_after_spaces, line_text, lines_text}
+use Rattle.vipr_write.specs.Canonical.{sense_word, reason_words, last_word, solutions_lines}
+use Rattle.vipr_write.specs.Canonical.{heading, words_after_spaces, line_text, lines_text}
 use Rattle.vipr_spec.specs.Certificate.{Named, Problem, Derivation, Certificate}
 use Rattle.vipr_cert.specs.Items.{reason_of}
-use Rattle.vipr_write.specs.Forms.{row_words, constraint_words_in, derivation_words_in, problem_lines_in, derivations_lines_in, text_in}
+use Rattle.vipr_write.specs.Forms.{row_words, constraint_words_in, derivation_words_in}
+use Rattle.vipr_write.specs.Forms.{problem_lines_in, derivations_lines_in, text_in}
 use Rattle.vipr_write.specs.Folded.{stated_words}
 use Rattle.vipr_write.specs.Lines.{words_text}
 use Rattle.vipr_write.specs.declared.form.Form.{Form}
 use Rattle.vipr_write.specs.declared.statements.Statement.{Statement}
 use Rattle.vipr_write.specs.declared.statements.Statements.{Statements}
 use Rattle.vipr_write.specs.declared.statements.Step.{Step}
-use Rattle.vipr_write.specs.Steps.{step_of, as_text, is_within, own_bytes, row_bytes, statement_in, SpellsRow, AreKept, AreStepsOf, step_line, steps_section}
+use Rattle.vipr_write.specs.Steps.{step_of, as_text, is_within, own_bytes, row_bytes, statement_in}
+use Rattle.vipr_write.specs.Steps.{SpellsRow, AreKept, AreStepsOf, step_line, steps_section}
 use Rattle.vipr_write.proofs.Folding.{derivation_is}
 use Rattle.vipr_write.proofs.Parts.{certificate_parts}
 
@@ -34,12 +41,14 @@ tests_true : (m n : ℕ) → m ≤ n → nat_le m n ≡ true
 tests_true m n h = grind (arith, nat_tests)
 
 -- a part of a text that grows
-part_same : (text more : List ℕ) (start end : ℕ) → start ≤ end → end ≤ length text → slice_range (text ++ more) start end ≡ slice_range text start end
+part_same : (text more : List ℕ) (start end : ℕ) → start ≤ end → end ≤ length text
+    → slice_range (text ++ more) start end ≡ slice_range text start end
 part_same text more start end a b =
     let size = length-drop start text in
     ap (take (end - start)) (drop-append-le start text more (omega arith)) ∙ take-append-le (end - start) (drop start text) more (omega arith)
 
-part_new : (text more : List ℕ) → slice_range (text ++ more) (length text) (length (text ++ more)) ≡ more
+part_new : (text more : List ℕ)
+    → slice_range (text ++ more) (length text) (length (text ++ more)) ≡ more
 part_new text more =
     let size = length-append text more in
     let long : length (text ++ more) - length text ≡ length more = omega arith in
@@ -71,9 +80,12 @@ module _ (text more : List ℕ) (s : Statement) (start : s.start ≡ length text
   last_own : own_bytes (text ++ more) s ≡ more
   last_own = ap (λ b. cond b (slice_range (text ++ more) s.start s.end) []) last_within ∙ ap₂ (slice_range (text ++ more)) start end ∙ part_new text more
 
-steps_same : (t u : Statements) (more : List ℕ) (steps : List (Step Statement)) → u.objective ≡ t.objective → u.spelled.items ≡ t.spelled.items → u.text.items ≡ t.text.items ++ more
+steps_same : (t u : Statements) (more : List ℕ) (steps : List (Step Statement))
+    → u.objective ≡ t.objective → u.spelled.items ≡ t.spelled.items
+    → u.text.items ≡ t.text.items ++ more
     → All (λ (s : Step Statement). is_within t.text.items s.stated ≡ true) steps
-    → (map (step_of (statement_in u)) steps ≡ map (step_of (statement_in t)) steps) × All (λ (s : Step Statement). is_within u.text.items s.stated ≡ true) steps
+    → (map (step_of (statement_in u)) steps ≡ map (step_of (statement_in t)) steps)
+    × All (λ (s : Step Statement). is_within u.text.items s.stated ≡ true) steps
 steps_same t u more [] o r e a = (refl, All-nil (λ (s : Step Statement). is_within u.text.items s.stated ≡ true))
 steps_same t u more (s ∷ steps) o r e a =
     let P = λ (x : Step Statement). is_within t.text.items x.stated ≡ true in
@@ -85,9 +97,14 @@ steps_same t u more (s ∷ steps) o r e a =
     ap₂ (λ n q. let d : Derivation = record { name = n; stated = record { row = q; sense = equal; bound = zero_ℚ }; reason = reason_of s.reason; last = s.last } in d) name o in
     (ap₂ (λ x l. x ∷ l) one rest.0, All-cons (λ (x : Step Statement). is_within u.text.items x.stated ≡ true) s steps (ap (λ l. is_within l s.stated) e ∙ within_more t.text.items more s.stated here) rest.1)
 
-pub kept_more : (t u : Statements) (more : List ℕ) (s : Step Statement) (d : Derivation) (steps : List (Step Statement)) (ds : List Derivation) → u.form ≡ t.form → u.objective ≡ t.objective → u.spelled.items ≡ t.spelled.items → u.text.items ≡ t.text.items ++ more
+pub kept_more : (t u : Statements) (more : List ℕ) (s : Step Statement) (d : Derivation)
+    (steps : List (Step Statement)) (ds : List Derivation) → u.form ≡ t.form
+    → u.objective ≡ t.objective → u.spelled.items ≡ t.spelled.items
+    → u.text.items ≡ t.text.items ++ more
     → s.stated.start ≡ length t.text.items → s.stated.end ≡ length u.text.items
-    → (SpellsRow t → more ++ row_bytes t.spelled.items s.stated ≡ words_text (constraint_words_in t.form t.objective d.name d.stated)) → reason_of s.reason ≡ d.reason → s.last ≡ d.last
+    → (SpellsRow t → more ++ row_bytes t.spelled.items s.stated
+    ≡ words_text (constraint_words_in t.form t.objective d.name d.stated))
+    → reason_of s.reason ≡ d.reason → s.last ≡ d.last
     → AreKept t steps ds → AreKept u (steps ++ s ∷ []) (ds ++ d ∷ [])
 kept_more t u more s d steps ds f o r e start end words reason last kept =
     let same = steps_same t u more steps o r e kept.within in
@@ -108,15 +125,19 @@ kept_more t u more s d steps ds f o r e start end words reason last kept =
 
 -- ---- what is kept of one derivation
 
-with_row : (name sense number row : List ℕ) → (name ++ (32 ∷ sense ++ (32 ∷ number ++ []))) ++ row ≡ name ++ (32 ∷ sense ++ (32 ∷ number ++ row))
+with_row : (name sense number row : List ℕ) → (name ++ (32 ∷ sense ++ (32 ∷ number ++ [])))
+    ++ row ≡ name ++ (32 ∷ sense ++ (32 ∷ number ++ row))
 with_row name sense number row =
     ap (λ t. (name ++ (32 ∷ sense ++ (32 ∷ t))) ++ row) (append-nil number)
     ∙ append_assoc name (32 ∷ sense ++ (32 ∷ number)) row
     ∙ ap (λ t. name ++ (32 ∷ t)) (append_assoc sense (32 ∷ number) row)
 
-pub words_are : (form : Form) (objective : Row) (spelled : List ℕ) (name : List ℕ) (c : Constraint) (is_same : Bool) → spelled ≡ words_after_spaces (row_words form objective objective)
+pub words_are : (form : Form) (objective : Row) (spelled : List ℕ) (name : List ℕ) (c : Constraint)
+    (is_same : Bool) → spelled ≡ words_after_spaces (row_words form objective objective)
     → (IsTrue is_same → row_words form objective c.row ≡ row_words form objective objective)
-    → (words_text (stated_words name c) ++ cond is_same [] (words_after_spaces (row_words form objective c.row))) ++ cond is_same spelled [] ≡ words_text (constraint_words_in form objective name c)
+    → (words_text (stated_words name c)
+    ++ cond is_same [] (words_after_spaces (row_words form objective c.row)))
+    ++ cond is_same spelled [] ≡ words_text (constraint_words_in form objective name c)
 words_are form objective spelled name c true row same =
     let first = words_text (stated_words name c) in
     ap (λ t. (first ++ []) ++ t) (row ∙ sym (ap words_after_spaces (same refl)))
@@ -128,25 +149,34 @@ words_are form objective spelled name c false row same =
 
 -- ---- their lines
 
-tail : (start mid word : List ℕ) → (((((start ++ codes " {") ++ mid) ++ codes " }") ++ 32 ∷ word) ++ codes "\n") ≡ start ++ (codes " {" ++ (mid ++ (codes " }" ++ (32 ∷ word ++ codes "\n"))))
+tail : (start mid word : List ℕ)
+    → (((((start ++ codes " {") ++ mid) ++ codes " }") ++ 32 ∷ word) ++ codes "\n") ≡ start
+    ++ (codes " {" ++ (mid ++ (codes " }" ++ (32 ∷ word ++ codes "\n"))))
 tail start mid word = simp append_assoc
 
-pub step_parts : (own row mid word : List ℕ) → ((((((own ++ row) ++ codes " {") ++ mid) ++ codes " }") ++ 32 ∷ word) ++ codes "\n") ≡ (own ++ row) ++ (codes " {" ++ (mid ++ (codes " }" ++ (32 ∷ word ++ codes "\n"))))
+pub step_parts : (own row mid word : List ℕ)
+    → ((((((own ++ row) ++ codes " {") ++ mid) ++ codes " }") ++ 32 ∷ word) ++ codes "\n")
+    ≡ (own ++ row) ++ (codes " {" ++ (mid ++ (codes " }" ++ (32 ∷ word ++ codes "\n"))))
 step_parts own row mid word = tail (own ++ row) mid word
 
-pub first_of : (d : Derivation) (xs ys : List Derivation) (a b : Derivation) → a ∷ xs ≡ b ∷ ys → a ≡ b
+pub first_of : (d : Derivation) (xs ys : List Derivation) (a b : Derivation) → a ∷ xs ≡ b ∷ ys
+    → a ≡ b
 first_of d xs ys a b e = ap (λ l. get_or l 0 d) e
 
 pub rest_of : (xs ys : List Derivation) (a b : Derivation) → a ∷ xs ≡ b ∷ ys → xs ≡ ys
 rest_of xs ys a b e = ap (drop 1) e
 
-pub line_is : (form : Form) (objective : Row) (t : Statements) (s : Step Statement) (d : Derivation) → step_of (statement_in t) s ≡ as_text form objective d → step_line t s ≡ line_text (derivation_words_in form objective d)
+pub line_is : (form : Form) (objective : Row) (t : Statements) (s : Step Statement) (d : Derivation)
+    → step_of (statement_in t) s ≡ as_text form objective d
+    → step_line t s ≡ line_text (derivation_words_in form objective d)
 line_is form objective t s d e =
     ap (λ (x : Derivation). x.name ++ (codes " {" ++ (words_after_spaces (reason_words x.reason) ++ (codes " }" ++ (32 ∷ last_word x.last ++ codes "\n"))))) e
     ∙ derivation_is form objective d
 
-lines_are : (form : Form) (objective : Row) (t : Statements) (steps : List (Step Statement)) (ds : List Derivation) → map (step_of (statement_in t)) steps ≡ map (as_text form objective) ds
-    → (length steps ≡ length ds) × (flat_map (step_line t) steps ≡ lines_text (map (derivation_words_in form objective) ds))
+lines_are : (form : Form) (objective : Row) (t : Statements) (steps : List (Step Statement))
+    (ds : List Derivation) → map (step_of (statement_in t)) steps ≡ map (as_text form objective) ds
+    → (length steps ≡ length ds)
+    × (flat_map (step_line t) steps ≡ lines_text (map (derivation_words_in form objective) ds))
 lines_are form objective t [] [] e = (refl, refl)
 lines_are form objective t [] (d ∷ ds) e = absurd (let n = ap length e in omega arith)
 lines_are form objective t (s ∷ steps) [] e = absurd (let n = ap length e in omega arith)
@@ -155,7 +185,10 @@ lines_are form objective t (s ∷ steps) (d ∷ ds) e =
     let others = lines_are form objective t steps ds (rest_of (map (step_of (statement_in t)) steps) (map (as_text form objective) ds) (step_of (statement_in t) s) (as_text form objective d) e) in
     (ap suc others.0, ap₂ (λ x l. x ++ l) (line_is form objective t s d one) others.1)
 
-pub steps_are : (c : Certificate) (p : Problem) (ss : List (Named Row)) (t : Statements) (steps : List (Step Statement)) → AreStepsOf c p ss t steps → (lines_text (problem_lines_in t.form p) ++ lines_text (solutions_lines ss)) ++ steps_section t steps ≡ text_in t.form c
+pub steps_are : (c : Certificate) (p : Problem) (ss : List (Named Row)) (t : Statements)
+    (steps : List (Step Statement)) → AreStepsOf c p ss t steps
+    → (lines_text (problem_lines_in t.form p) ++ lines_text (solutions_lines ss))
+    ++ steps_section t steps ≡ text_in t.form c
 steps_are c p ss t steps of =
     let lines = lines_are t.form t.objective t steps c.derivations of.those in
     sym (certificate_parts t.form c
@@ -165,7 +198,8 @@ steps_are c p ss t steps of =
 
 -- ---- a text in two parts
 
-pub take_both : (at end : ℕ) (xs : List ℕ) → at ≤ end → end ≤ length xs → take at xs ++ slice_range xs at end ≡ take end xs
+pub take_both : (at end : ℕ) (xs : List ℕ) → at ≤ end → end ≤ length xs
+    → take at xs ++ slice_range xs at end ≡ take end xs
 take_both at end xs a b =
     let part = slice_range xs at end in
     let rest = length-drop at xs in

@@ -8,40 +8,62 @@ use Rattle.std.proofs.lemmas.Grind.{flat_map-append}
 use Rattle.vipr_spec.specs.Constraint.{Row}
 use Rattle.vipr_spec.specs.Certificate.{Problem, integer_variables, Derivation, Certificate}
 use Rattle.vipr_spec.specs.Number.{number_text}
-use Rattle.vipr_write.specs.Canonical.{sense_word, constraint_words, reason_words, last_word, derivation_words, direction_word, vector_words, given_words, claim_words, variables_lines, problem_lines, solutions_lines, words_after_spaces, heading, line_text, lines_text}
-use Rattle.vipr_write.specs.Forms.{row_words, constraint_words_in, derivation_words_in, given_words_in, problem_lines_in, derivations_lines_in, certificate_lines_in}
-use Rattle.vipr_write.specs.Lines.{words_text, integers_lines, constraints_heading, constraints_lines, constraints_lines_in}
+use Rattle.vipr_write.specs.Canonical.{sense_word, constraint_words, reason_words, last_word}
+use Rattle.vipr_write.specs.Canonical.{derivation_words, direction_word, vector_words, given_words}
+use Rattle.vipr_write.specs.Canonical.{claim_words, variables_lines, problem_lines, solutions_lines}
+use Rattle.vipr_write.specs.Canonical.{words_after_spaces, heading, line_text, lines_text}
+use Rattle.vipr_write.specs.Forms.{row_words, constraint_words_in, derivation_words_in}
+use Rattle.vipr_write.specs.Forms.{given_words_in, problem_lines_in, derivations_lines_in}
+use Rattle.vipr_write.specs.Forms.{certificate_lines_in}
+use Rattle.vipr_write.specs.Lines.{words_text, integers_lines, constraints_heading}
+use Rattle.vipr_write.specs.Lines.{constraints_lines, constraints_lines_in}
 use Rattle.vipr_write.specs.declared.form.Form.{Form}
 
-words_after_spaces-append : (ws us : List (List ℕ)) → words_after_spaces (ws ++ us) ≡ words_after_spaces ws ++ words_after_spaces us
+words_after_spaces-append : (ws us : List (List ℕ))
+    → words_after_spaces (ws ++ us) ≡ words_after_spaces ws ++ words_after_spaces us
 words_after_spaces-append ws us = flat_map-append (λ w. 32 ∷ w) ws us
 
-lines_text-append : (ls ms : List (List (List ℕ))) → lines_text (ls ++ ms) ≡ lines_text ls ++ lines_text ms
+lines_text-append : (ls ms : List (List (List ℕ)))
+    → lines_text (ls ++ ms) ≡ lines_text ls ++ lines_text ms
 lines_text-append ls ms = flat_map-append line_text ls ms
 
 line_parts : (start name front back last : List ℕ) (ws us : List (List ℕ)) →
-    start ++ line_text ((name ∷ ws) ++ front ∷ (us ++ back ∷ last ∷ [])) ≡ (((((start ++ words_text (name ∷ ws)) ++ 32 ∷ front) ++ words_after_spaces us) ++ 32 ∷ back) ++ 32 ∷ last) ++ 10 ∷ []
+    start ++ line_text ((name ∷ ws) ++ front ∷ (us ++ back ∷ last ∷ []))
+    ≡ (((((start ++ words_text (name ∷ ws)) ++ 32 ∷ front) ++ words_after_spaces us) ++ 32
+    ∷ back) ++ 32 ∷ last) ++ 10 ∷ []
 line_parts start name front back last ws us =
     ap (λ t. start ++ (name ++ (t ++ 10 ∷ []))) (words_after_spaces-append ws (front ∷ (us ++ back ∷ last ∷ [])) ∙ ap (λ t. words_after_spaces ws ++ ((32 ∷ front) ++ t)) (words_after_spaces-append us (back ∷ last ∷ [])))
     ∙ simp (append_assoc, append-nil)
 
 pub derivation_parts : (start : List ℕ) (d : Derivation) →
-    start ++ line_text (derivation_words d) ≡ (((((start ++ words_text (constraint_words d.name d.stated)) ++ codes " {") ++ words_after_spaces (reason_words d.reason)) ++ codes " }") ++ 32 ∷ last_word d.last) ++ codes "\n"
+    start ++ line_text (derivation_words d)
+    ≡ (((((start ++ words_text (constraint_words d.name d.stated)) ++ codes " {")
+    ++ words_after_spaces (reason_words d.reason)) ++ codes " }") ++ 32 ∷ last_word d.last)
+    ++ codes "\n"
 derivation_parts start d = line_parts start d.name (codes "{") (codes "}") (last_word d.last) (sense_word d.stated.sense ∷ number_text d.stated.bound ∷ vector_words d.stated.row) (reason_words d.reason)
 
 -- the same in a form
 pub derivation_parts_in : (form : Form) (objective : Row) (start : List ℕ) (d : Derivation) →
-    start ++ line_text (derivation_words_in form objective d) ≡ (((((start ++ words_text (constraint_words_in form objective d.name d.stated)) ++ codes " {") ++ words_after_spaces (reason_words d.reason)) ++ codes " }") ++ 32 ∷ last_word d.last) ++ codes "\n"
+    start ++ line_text (derivation_words_in form objective d)
+    ≡ (((((start ++ words_text (constraint_words_in form objective d.name d.stated))
+    ++ codes " {") ++ words_after_spaces (reason_words d.reason)) ++ codes " }") ++ 32
+    ∷ last_word d.last) ++ codes "\n"
 derivation_parts_in form objective start d = line_parts start d.name (codes "{") (codes "}") (last_word d.last) (sense_word d.stated.sense ∷ number_text d.stated.bound ∷ row_words form objective d.stated.row) (reason_words d.reason)
 
-section_parts : (start : List ℕ) (front cons : List (List (List ℕ))) (direction vector con claim : List (List ℕ)) →
-    start ++ lines_text (front ++ direction ∷ vector ∷ con ∷ (cons ++ claim ∷ [])) ≡ ((((start ++ lines_text front) ++ line_text direction) ++ line_text vector) ++ lines_text (con ∷ cons)) ++ line_text claim
+section_parts : (start : List ℕ) (front cons : List (List (List ℕ)))
+    (direction vector con claim : List (List ℕ)) →
+    start ++ lines_text (front ++ direction ∷ vector ∷ con ∷ (cons ++ claim ∷ []))
+    ≡ ((((start ++ lines_text front) ++ line_text direction) ++ line_text vector)
+    ++ lines_text (con ∷ cons)) ++ line_text claim
 section_parts start front cons direction vector con claim =
     ap (λ t. start ++ t) (lines_text-append front (direction ∷ vector ∷ con ∷ (cons ++ claim ∷ [])) ∙ ap (λ t. lines_text front ++ (line_text direction ++ (line_text vector ++ (line_text con ++ t)))) (lines_text-append cons (claim ∷ [])))
     ∙ simp (append_assoc, append-nil)
 
-pub variables_parts : (p : Problem) (names : List (List ℕ)) (js : List ℕ) → names ≡ p.names → js ≡ integer_variables p →
-    codes "VER 1.0\n" ++ (line_text (heading (codes "VAR") (length names)) ++ (lines_text (map (λ name. name ∷ []) names) ++ lines_text (integers_lines js))) ≡ lines_text (variables_lines p)
+pub variables_parts : (p : Problem) (names : List (List ℕ)) (js : List ℕ) → names ≡ p.names
+    → js ≡ integer_variables p →
+    codes "VER 1.0\n" ++ (line_text (heading (codes "VAR") (length names))
+    ++ (lines_text (map (λ name. name ∷ []) names) ++ lines_text (integers_lines js)))
+    ≡ lines_text (variables_lines p)
 variables_parts p names js same members =
     ap (λ ns. codes "VER 1.0\n" ++ (line_text (heading (codes "VAR") (length ns)) ++ (lines_text (map (λ name. name ∷ []) ns) ++ lines_text (integers_lines js)))) same
     ∙ ap (λ ks. codes "VER 1.0\n" ++ (line_text (heading (codes "VAR") (length p.names)) ++ (lines_text (map (λ name. name ∷ []) p.names) ++ lines_text (integers_lines ks)))) members
@@ -49,23 +71,37 @@ variables_parts p names js same members =
 
 pub problem_parts : (start : List ℕ) (p : Problem) →
     start ++ lines_text (problem_lines p) ≡
-    ((((start ++ lines_text (variables_lines p)) ++ line_text (codes "OBJ" ∷ direction_word p.direction ∷ [])) ++ line_text (vector_words p.objective)) ++ lines_text (constraints_lines p.constraints p.bound_count)) ++ line_text (claim_words p.claim)
+    ((((start ++ lines_text (variables_lines p))
+    ++ line_text (codes "OBJ" ∷ direction_word p.direction ∷ []))
+    ++ line_text (vector_words p.objective))
+    ++ lines_text (constraints_lines p.constraints p.bound_count))
+    ++ line_text (claim_words p.claim)
 problem_parts start p = section_parts start (variables_lines p) (map given_words p.constraints) (codes "OBJ" ∷ direction_word p.direction ∷ []) (vector_words p.objective) (constraints_heading p.bound_count (length p.constraints)) (claim_words p.claim)
 
 pub problem_parts_in : (form : Form) (start : List ℕ) (p : Problem) →
     start ++ lines_text (problem_lines_in form p) ≡
-    ((((start ++ lines_text (variables_lines p)) ++ line_text (codes "OBJ" ∷ direction_word p.direction ∷ [])) ++ line_text (vector_words p.objective)) ++ lines_text (constraints_lines_in form p.objective p.constraints p.bound_count)) ++ line_text (claim_words p.claim)
+    ((((start ++ lines_text (variables_lines p))
+    ++ line_text (codes "OBJ" ∷ direction_word p.direction ∷ []))
+    ++ line_text (vector_words p.objective))
+    ++ lines_text (constraints_lines_in form p.objective p.constraints p.bound_count))
+    ++ line_text (claim_words p.claim)
 problem_parts_in form start p = section_parts start (variables_lines p) (map (given_words_in form p.objective) p.constraints) (codes "OBJ" ∷ direction_word p.direction ∷ []) (vector_words p.objective) (constraints_heading p.bound_count (length p.constraints)) (claim_words p.claim)
 
-three_parts : (ls ms ns : List (List (List ℕ))) → lines_text (ls ++ (ms ++ ns)) ≡ (lines_text ls ++ lines_text ms) ++ lines_text ns
+three_parts : (ls ms ns : List (List (List ℕ)))
+    → lines_text (ls ++ (ms ++ ns)) ≡ (lines_text ls ++ lines_text ms) ++ lines_text ns
 three_parts ls ms ns = lines_text-append ls (ms ++ ns) ∙ ap (λ t. lines_text ls ++ t) (lines_text-append ms ns) ∙ sym (append_assoc (lines_text ls) (lines_text ms) (lines_text ns))
 
-pub certificate_parts : (form : Form) (c : Certificate) → lines_text (certificate_lines_in form c) ≡ (lines_text (problem_lines_in form c.problem) ++ lines_text (solutions_lines c.solutions)) ++ lines_text (derivations_lines_in form c.problem.objective c.derivations)
+pub certificate_parts : (form : Form) (c : Certificate) → lines_text (certificate_lines_in form c)
+    ≡ (lines_text (problem_lines_in form c.problem) ++ lines_text (solutions_lines c.solutions))
+    ++ lines_text (derivations_lines_in form c.problem.objective c.derivations)
 certificate_parts form c = three_parts (problem_lines_in form c.problem) (solutions_lines c.solutions) (derivations_lines_in form c.problem.objective c.derivations)
 
 -- a heading that says how many items there are, and a line for each of them
-pub headed : {X Y : Type 0} (start : List ℕ) (heading : ℕ → List (List ℕ)) (words : Y → List (List ℕ)) (view : X → Y) (xs : List X) →
-    start ++ lines_text (heading (length (map view xs)) ∷ map words (map view xs)) ≡ (start ++ line_text (heading (length xs))) ++ flat_map (λ x. line_text (words (view x))) xs
+pub headed : {X Y : Type 0} (start : List ℕ) (heading : ℕ → List (List ℕ))
+    (words : Y → List (List ℕ)) (view : X → Y) (xs : List X) →
+    start ++ lines_text (heading (length (map view xs)) ∷ map words (map view xs))
+    ≡ (start ++ line_text (heading (length xs)))
+    ++ flat_map (λ x. line_text (words (view x))) xs
 headed start heading words view xs =
     ap (λ n. start ++ (line_text (heading n) ++ lines_text (map words (map view xs)))) (length-map xs view)
     ∙ ap (λ t. start ++ (line_text (heading (length xs)) ++ t)) (flat_map-map line_text words (map view xs) ∙ flat_map-map (λ y. line_text (words y)) view xs)

@@ -1,9 +1,12 @@
 -- Rows and sets of variables as lists in rising order
-use Rattle.std.proofs.Common.{◌≡◌, ◌≢◌, ℕ, zero, suc, ◌+◌, ◌-◌, ◌<◌, ◌≤◌, inl, inr, Bool, true, false, not, cond, ◌&&◌, nat_eq, List, [], ◌∷◌, length, map, filter, All, unwrap_or, T, pos, arith, refl, sym, ap, ◌∙◌}
+use Rattle.std.proofs.Common.{◌≡◌, ◌≢◌, ℕ, zero, suc, ◌+◌, ◌-◌, ◌<◌, ◌≤◌, inl, inr, Bool, true}
+use Rattle.std.proofs.Common.{false, not, cond, ◌&&◌, nat_eq, List, [], ◌∷◌, length, map, filter}
+use Rattle.std.proofs.Common.{All, unwrap_or, T, pos, arith, refl, sym, ap, ◌∙◌}
 use Rattle.std.specs.List.{IsDistinct, AllByRecursion, list_any, range_with_len}
 use Rattle.std.specs.Ordering.{nat_cmp, int_eq, eq_by_cmp}
 use Rattle.std.specs.Cmp.{nat_cmp_total}
-use Rattle.std.specs.FinMap.{entries, entries_sorted, find, is_sorted, get-entries, get-from_entries, same_map, nat_cmp-IsAntisymmetric}
+use Rattle.std.specs.FinMap.{entries, entries_sorted, find, is_sorted, get-entries}
+use Rattle.std.specs.FinMap.{get-from_entries, same_map, nat_cmp-IsAntisymmetric}
 use Rattle.std.specs.FinMap.Entries.{below_all}
 use Rattle.std.specs.FinSet.{contains, from_list, contains-from_list, same_set}
 use Rattle.std.proofs.lemmas.Bool.{cases_lt}
@@ -48,7 +51,8 @@ rises_length : (low n : ℕ) (ks : List ℕ) → Rises low n ks → length ks �
 rises_length low n [] r = omega arith
 rises_length low n (k ∷ ks) r = let rest = rises_length (k + 1) n ks r.2 in omega arith
 
-rises_apart : (low n j : ℕ) (ks : List ℕ) → j < low → Rises low n ks → AllByRecursion (λ k. nat_eq j k ≡ false) ks
+rises_apart : (low n j : ℕ) (ks : List ℕ) → j < low → Rises low n ks
+    → AllByRecursion (λ k. nat_eq j k ≡ false) ks
 rises_apart low n j [] h r = tt
 rises_apart low n j (k ∷ ks) h r = (grind (arith, nat_tests), rises_apart (k + 1) n j ks (omega arith) r.2)
 
@@ -70,14 +74,17 @@ tied : (k : ℕ) → eq_by_cmp nat_cmp k k ≡ true
 tied k = grind (arith, nat_tests)
 
 -- where no coefficient is 0, a list that names no variable from n on has none
-keys_below : (n : ℕ) (es : List (ℕ × ℚ)) → All (λ e. e.1 ≢ zero_ℚ) es → NamesBelow n (λ j. unwrap_or (find nat_cmp j es) zero_ℚ) → AllByRecursion (λ k. k < n) (keys_of es)
+keys_below : (n : ℕ) (es : List (ℕ × ℚ)) → All (λ e. e.1 ≢ zero_ℚ) es
+    → NamesBelow n (λ j. unwrap_or (find nat_cmp j es) zero_ℚ)
+    → AllByRecursion (λ k. k < n) (keys_of es)
 keys_below n [] a h = tt
 keys_below n (e ∷ es) a h = (first, keys_below n es (All-tail (λ e. e.1 ≢ zero_ℚ) e es a) (λ j l. rw (not_tied n j e.0 l first) at (h j l)))
   where
     first : e.0 < n
     first = elim (cases_lt e.0 n) [ inl l ↦ l | inr l ↦ absurd (All-head (λ e. e.1 ≢ zero_ℚ) e es a (rw (tied e.0) at (h e.0 l))) ]
 
-all_below : (n : ℕ) (es : List (ℕ × ℚ)) → AllByRecursion (λ k. k < n) (keys_of es) → All (λ e. e.0 < n) es
+all_below : (n : ℕ) (es : List (ℕ × ℚ)) → AllByRecursion (λ k. k < n) (keys_of es)
+    → All (λ e. e.0 < n) es
 all_below n [] h = All-nil (λ (e : ℕ × ℚ). e.0 < n)
 all_below n (e ∷ es) h = All-cons (λ (e : ℕ × ℚ). e.0 < n) e es h.0 (all_below n es h.1)
 
@@ -105,7 +112,8 @@ pub record AreEntries (n : ℕ) (row : Row) : Type 0 where
   pub few : length (entries row) ≤ n
   pub again : row ≡ row_of (entries row)
 
-pub row_entries : (n : ℕ) (row : Row) → NamesBelow n (at row) → All (λ e. e.1 ≢ zero_ℚ) (entries row) → AreEntries n row
+pub row_entries : (n : ℕ) (row : Row) → NamesBelow n (at row)
+    → All (λ e. e.1 ≢ zero_ℚ) (entries row) → AreEntries n row
 row_entries n row names a =
     let below = keys_below n (entries row) a (λ j l. ap (λ o. unwrap_or o zero_ℚ) (sym (get-entries row j)) ∙ names j l) in
     let rises = sorted_rises 0 n (entries row) (entries_sorted row) (all_from_nothing (keys_of (entries row))) below in
@@ -134,7 +142,8 @@ filter_length p (x ∷ xs) = by (p x) (filter_length p xs)
     by true h = omega arith
     by false h = omega arith
 
-any_range : (q a n : ℕ) → a ≤ q → q < a + n → list_any (eq_by_cmp nat_cmp q) (range_with_len a n) ≡ true
+any_range : (q a n : ℕ) → a ≤ q → q < a + n
+    → list_any (eq_by_cmp nat_cmp q) (range_with_len a n) ≡ true
 any_range q a zero l h = absurd (omega arith)
 any_range q a (suc n) l h = elim (cases_lt a q) [
   | inl less ↦
@@ -146,7 +155,8 @@ any_range q a (suc n) l h = elim (cases_lt a q) [
 tied_same : (q k : ℕ) → eq_by_cmp nat_cmp q k ≡ true → k ≡ q
 tied_same q k h = grind (arith, nat_tests)
 
-pub set_members : (p : Problem) → ((j : ℕ) → IsInteger p.integers j → j < variables p) → AreMembers p
+pub set_members : (p : Problem) → ((j : ℕ) → IsInteger p.integers j → j < variables p)
+    → AreMembers p
 set_members p h =
     let n = variables p in
     let ints = p.integers in

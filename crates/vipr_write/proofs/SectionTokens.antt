@@ -1,27 +1,41 @@
 -- The words of each part of a certificate are tokens, and spell the part
-use Rattle.std.proofs.Common.{◌≡◌, ℕ, ◌+◌, ◌<◌, ◌≤◌, inl, inr, Bool, true, false, if◌then◌else◌, List, [], ◌∷◌, ◌++◌, length, All, Option, Some, None, IfSome, codes, arith, refl, sym, subst, append_assoc, append-nil}
+use Rattle.std.proofs.Common.{◌≡◌, ℕ, ◌+◌, ◌<◌, ◌≤◌, inl, inr, Bool, true, false, if◌then◌else◌}
+use Rattle.std.proofs.Common.{List, [], ◌∷◌, ◌++◌, length, All, Option, Some, None, IfSome, codes}
+use Rattle.std.proofs.Common.{arith, refl, sym, subst, append_assoc, append-nil}
 use Rattle.std.specs.List.{flat_map}
 use Rattle.std.specs.Fmt.{decimal}
 use Rattle.std.specs.FinMap.{entries}
 use Rattle.std.proofs.lemmas.Grind.{flat_map-append}
 use Rattle.std.proofs.lemmas.List.Folds.{flat_map-map}
 use Rattle.vipr_spec.specs.Fraction.{ℚ, IsBounded}
-use Rattle.vipr_spec.specs.Constraint.{Sense, at_most, equal, at_least, Row, at, IsInteger, Constraint, NamesBelow}
-use Rattle.vipr_spec.specs.Certificate.{Name, Named, Direction, minimum, maximum, Claim, infeasible, range, Problem, variables, integer_variables, Reason, asm, lin, rnd, uns, sol, Derivation}
+use Rattle.vipr_spec.specs.Constraint.{Sense, at_most, equal, at_least, Row, at, IsInteger}
+use Rattle.vipr_spec.specs.Constraint.{Constraint, NamesBelow}
+use Rattle.vipr_spec.specs.Certificate.{Name, Named, Direction, minimum, maximum, Claim, infeasible}
+use Rattle.vipr_spec.specs.Certificate.{range, Problem, variables, integer_variables, Reason, asm}
+use Rattle.vipr_spec.specs.Certificate.{lin, rnd, uns, sol, Derivation}
 use Rattle.vipr_spec.specs.Tokens.{IsToken}
 use Rattle.vipr_spec.specs.Reading.{most_count}
-use Rattle.vipr_spec.specs.Shape.{ConstraintShape, ProblemShape, SolutionShape, ReasonShape, DerivationShape, RowFits, ConstraintFits, ClaimFits, ProblemFits, EntryFits, ReasonFits, DerivationFits}
+use Rattle.vipr_spec.specs.Shape.{ConstraintShape, ProblemShape, SolutionShape, ReasonShape}
+use Rattle.vipr_spec.specs.Shape.{DerivationShape, RowFits, ConstraintFits, ClaimFits, ProblemFits}
+use Rattle.vipr_spec.specs.Shape.{EntryFits, ReasonFits, DerivationFits}
 use Rattle.vipr_spec.specs.Grammar as grammar
-use Rattle.vipr_spec.specs.Grammar.{SpellsCount, SpellsVariable, SpellsSense, SpellsDirection, SpellsBound, SpellsLast, word, one, ◌then◌, each}
+use Rattle.vipr_spec.specs.Grammar.{SpellsCount, SpellsVariable, SpellsSense, SpellsDirection}
+use Rattle.vipr_spec.specs.Grammar.{SpellsBound, SpellsLast, word, one, ◌then◌, each}
 use Rattle.vipr_spec.proofs.Laws.{text_spelled}
-use Rattle.vipr_write.specs.Canonical.{pair_words, vector_words, sense_word, direction_word, bound_word, last_word, claim_words, solution_words, reason_words, solutions_lines}
-use Rattle.vipr_write.specs.Forms.{is_objective, row_words, constraint_words_in, given_words_in, derivation_words_in, problem_lines_in, derivations_lines_in}
+use Rattle.vipr_write.specs.Canonical.{pair_words, vector_words, sense_word, direction_word}
+use Rattle.vipr_write.specs.Canonical.{bound_word, last_word, claim_words, solution_words}
+use Rattle.vipr_write.specs.Canonical.{reason_words, solutions_lines}
+use Rattle.vipr_write.specs.Forms.{is_objective, row_words, constraint_words_in, given_words_in}
+use Rattle.vipr_write.specs.Forms.{derivation_words_in, problem_lines_in, derivations_lines_in}
 use Rattle.vipr_write.specs.declared.form.Form.{Form}
 use Rattle.vipr_write.specs.declared.form.Form.TheVariants.{Canonical, Compact}
 use Rattle.vipr_write.proofs.SameRows.{objective_is}
 use Rattle.vipr_write.proofs.LineTokens.{words_of}
 use Rattle.vipr_write.proofs.RowEntries.{row_entries, set_members}
-use Rattle.vipr_write.proofs.WordTokens.{Written, plain_token, decimal_token, decimal_natural, number_token, word_written, fixed_written, one_written, then_written, each_written, count_written, variable_written, number_written}
+use Rattle.vipr_write.proofs.WordTokens.{Written, plain_token, decimal_token, decimal_natural}
+use Rattle.vipr_write.proofs.WordTokens.{number_token, word_written, fixed_written, one_written}
+use Rattle.vipr_write.proofs.WordTokens.{then_written, each_written, count_written}
+use Rattle.vipr_write.proofs.WordTokens.{variable_written, number_written}
 
 -- ---- words of a few letters
 
@@ -34,11 +48,13 @@ direction_written : (d : Direction) → Written (one SpellsDirection d) (directi
 direction_written minimum = one_written SpellsDirection minimum (codes "min") (plain_token (codes "min") refl) refl
 direction_written maximum = one_written SpellsDirection maximum (codes "max") (plain_token (codes "max") refl) refl
 
-bound_written : (infinite : List ℕ) (x : Option ℚ) → IsToken infinite → IfSome x IsBounded → Written (one (SpellsBound infinite) x) (bound_word infinite x ∷ [])
+bound_written : (infinite : List ℕ) (x : Option ℚ) → IsToken infinite → IfSome x IsBounded
+    → Written (one (SpellsBound infinite) x) (bound_word infinite x ∷ [])
 bound_written infinite None t b = one_written (SpellsBound infinite) None infinite t refl
 bound_written infinite (Some x) t b = one_written (SpellsBound infinite) (Some x) _ (number_token x b) (text_spelled x b)
 
-last_written : (last : Option ℕ) → IfSome last (λ i. i ≤ most_count) → Written (one SpellsLast last) (last_word last ∷ [])
+last_written : (last : Option ℕ) → IfSome last (λ i. i ≤ most_count)
+    → Written (one SpellsLast last) (last_word last ∷ [])
 last_written None h = one_written SpellsLast None (codes "-1") (plain_token (codes "-1") refl) refl
 last_written (Some i) h = one_written SpellsLast (Some i) (decimal i) (decimal_token i h) (decimal_natural i h, h)
 
@@ -54,10 +70,13 @@ claim_written (range lower upper) h =
 entry_written : (e : ℕ × ℚ) → EntryFits e → Written (grammar.entry e) (pair_words e)
 entry_written e h = then_written (count_written e.0 h.0) (number_written e.1 h.1)
 
-entries_written : (es : List (ℕ × ℚ)) → length es ≤ most_count → All EntryFits es → Written (one SpellsCount (length es) then each grammar.entry es) (decimal (length es) ∷ flat_map pair_words es)
+entries_written : (es : List (ℕ × ℚ)) → length es ≤ most_count → All EntryFits es → Written
+    (one SpellsCount (length es) then each grammar.entry es)
+    (decimal (length es) ∷ flat_map pair_words es)
 entries_written es few h = then_written (count_written (length es) few) (each_written grammar.entry pair_words es (λ k d l. entry_written _ (h k d l)))
 
-reason_written : (r : Reason) → ReasonShape r → ReasonFits r → Written (grammar.reason r) (reason_words r)
+reason_written : (r : Reason) → ReasonShape r → ReasonFits r
+    → Written (grammar.reason r) (reason_words r)
 reason_written asm s f = fixed_written (codes "asm") refl
 reason_written (lin es) s f = then_written (fixed_written (codes "lin") refl) (entries_written es s f)
 reason_written (rnd es) s f = then_written (fixed_written (codes "rnd") refl) (entries_written es s f)
@@ -115,13 +134,17 @@ module _ (n : ℕ) (few : n ≤ most_count) where
       (then_written (count_written bound_count bounds)
       (each_written (λ c. grammar.constraint n objective c.name c.item) (given_words_in form objective) cs (λ k d l. constraint_written form objective _ _ (shapes k d l).name (shapes k d l).row (fits k d l)))))
 
-names_written : (ns : List Name) → length ns ≤ most_count → All IsToken ns → Written (grammar.names ns) (codes "VAR" ∷ decimal (length ns) ∷ flat_map (λ name. name ∷ []) ns)
+names_written : (ns : List Name) → length ns ≤ most_count → All IsToken ns → Written
+    (grammar.names ns) (codes "VAR" ∷ decimal (length ns) ∷ flat_map (λ name. name ∷ []) ns)
 names_written ns few h =
     then_written (fixed_written (codes "VAR") refl)
     (then_written (count_written (length ns) few) (each_written word (λ name. name ∷ []) ns (λ k d l. word_written _ (h k d l))))
 
 -- the integer variables
-integers_written : (p : Problem) → variables p ≤ most_count → ((j : ℕ) → IsInteger p.integers j → j < variables p) → Written (grammar.integers (variables p) p.integers) (codes "INT" ∷ decimal (length (integer_variables p)) ∷ flat_map (λ j. decimal j ∷ []) (integer_variables p))
+integers_written : (p : Problem) → variables p ≤ most_count
+    → ((j : ℕ) → IsInteger p.integers j → j < variables p) → Written
+    (grammar.integers (variables p) p.integers) (codes "INT"
+    ∷ decimal (length (integer_variables p)) ∷ flat_map (λ j. decimal j ∷ []) (integer_variables p))
 integers_written p few h =
     let n = variables p in
     let is = set_members p h in
@@ -142,10 +165,12 @@ problem_words form p =
     ++ ((codes "CON" ∷ decimal (length p.constraints) ∷ decimal p.bound_count ∷ flat_map (given_words_in form p.objective) p.constraints)
     ++ claim_words p.claim))))
 
-problem_joined : (form : Form) (p : Problem) → words_of (problem_lines_in form p) ≡ problem_words form p
+problem_joined : (form : Form) (p : Problem)
+    → words_of (problem_lines_in form p) ≡ problem_words form p
 problem_joined form p = simp (flat_map-append, flat_map-map, append_assoc, append-nil)
 
-pub problem_written : (form : Form) (p : Problem) → ProblemShape p → ProblemFits p → Written (grammar.problem p) (words_of (problem_lines_in form p))
+pub problem_written : (form : Form) (p : Problem) → ProblemShape p → ProblemFits p
+    → Written (grammar.problem p) (words_of (problem_lines_in form p))
 problem_written form p shape fits =
     let n : ℕ = variables p in
     let body : Written (grammar.problem p) (problem_words form p) =
@@ -159,13 +184,17 @@ problem_written form p shape fits =
 
 -- ---- derivations
 
-derivation_written : (form : Form) (p : Problem) (d : Derivation) → variables p ≤ most_count → DerivationShape (variables p) d → DerivationFits d → Written (grammar.derivation p d) (derivation_words_in form p.objective d)
+derivation_written : (form : Form) (p : Problem) (d : Derivation) → variables p ≤ most_count
+    → DerivationShape (variables p) d → DerivationFits d
+    → Written (grammar.derivation p d) (derivation_words_in form p.objective d)
 derivation_written form p d few shape fits =
     then_written (constraint_written (variables p) few form p.objective d.name d.stated shape.name shape.row fits.stated)
     (then_written (fixed_written (codes "{") refl)
     (then_written (reason_written d.reason shape.reason fits.reason) (then_written (fixed_written (codes "}") refl) (last_written d.last fits.last))))
 
-pub derivations_written : (form : Form) (p : Problem) (ds : List Derivation) → variables p ≤ most_count → length p.constraints + length ds ≤ most_count → All (DerivationShape (variables p)) ds → All DerivationFits ds
+pub derivations_written : (form : Form) (p : Problem) (ds : List Derivation)
+    → variables p ≤ most_count → length p.constraints + length ds ≤ most_count
+    → All (DerivationShape (variables p)) ds → All DerivationFits ds
     → Written (grammar.derivations p ds) (words_of (derivations_lines_in form p.objective ds))
 derivations_written form p ds few count shapes fits =
     let small : length ds ≤ most_count = omega arith in

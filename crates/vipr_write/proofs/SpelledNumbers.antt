@@ -1,5 +1,6 @@
 -- What is spelled as a number is bounded
-use Rattle.std.proofs.Common.{◌≡◌, ℕ, zero, suc, ◌<◌, ◌≤◌, Bool, true, false, List, Option, Some, None, IfSome, ℤ, nat_abs, arith, refl, sym, subst}
+use Rattle.std.proofs.Common.{◌≡◌, ℕ, zero, suc, ◌<◌, ◌≤◌, Bool, true, false, List, Option, Some}
+use Rattle.std.proofs.Common.{None, IfSome, ℤ, nat_abs, arith, refl, sym, subst}
 use Rattle.std.proofs.lemmas.Int.{ints}
 use Rattle.std.proofs.Math.Nat.{div-le_self, le_trans}
 use Rattle.vipr_spec.specs.Gcd.{gcd}
@@ -21,6 +22,7 @@ signed_abs false p = refl
 pub number_bounded : (t : List ℕ) (x : ℚ) → SpellsNumber t x → IsBounded x
 number_bounded t x s = subst IsBounded (sym s.value) (over_bounded _ (denominator s.bottom) (omega arith) (rw signed_abs s.top_fits) s.bottom_fits)
 
-pub bound_bounded : (infinite t : List ℕ) (o : Option ℚ) → SpellsBound infinite t o → IfSome o IsBounded
+pub bound_bounded : (infinite t : List ℕ) (o : Option ℚ) → SpellsBound infinite t o
+    → IfSome o IsBounded
 bound_bounded infinite t None s = tt
 bound_bounded infinite t (Some x) s = number_bounded t x s

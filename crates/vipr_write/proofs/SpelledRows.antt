@@ -1,10 +1,12 @@
 -- The rows of pairs: which variables they name, and their coefficients
-use Rattle.std.proofs.Common.{◌≡◌, ◌≢◌, ℕ, Bool, true, false, cond, List, [], ◌∷◌, filter, All, refl, sym, ◌∙◌, subst}
+use Rattle.std.proofs.Common.{◌≡◌, ◌≢◌, ℕ, Bool, true, false, cond, List, [], ◌∷◌, filter, All}
+use Rattle.std.proofs.Common.{refl, sym, ◌∙◌, subst}
 use Rattle.std.proofs.lemmas.List.{nil_from_length}
 use Rattle.std.proofs.lemmas.List.Elements.{All-nil, All-cons, All-head, All-tail}
 use Rattle.std.specs.Cmp.{nat_cmp_total}
 use Rattle.std.specs.declared.cmp.Ordering.TheVariants.{Less, Equal, Greater}
-use Rattle.std.specs.FinMap.{entries, empty, from_entries, put, entries-insert, len-entries, len-empty}
+use Rattle.std.specs.FinMap.{entries, empty, from_entries, put, entries-insert, len-entries}
+use Rattle.std.specs.FinMap.{len-empty}
 use Rattle.std.specs.FinMap.Entries.{by_order}
 use Rattle.std.specs.Ordering.{nat_cmp}
 use Rattle.vipr_spec.specs.Fraction.{ℚ, zero_ℚ, IsBounded}
@@ -39,11 +41,13 @@ module _ (P : ℚ → Type 0) where
 abbrev Fits : ℚ → Type 0
 Fits x = (x ≢ zero_ℚ) × IsBounded x
 
-fit_by : (p : ℕ × ℚ) (ps : List (ℕ × ℚ)) (b : Bool) → is_nonzero p ≡ b → IsBounded p.1 → All (λ e. Fits e.1) ps → All (λ e. Fits e.1) (cond b (p ∷ ps) ps)
+fit_by : (p : ℕ × ℚ) (ps : List (ℕ × ℚ)) (b : Bool) → is_nonzero p ≡ b → IsBounded p.1
+    → All (λ e. Fits e.1) ps → All (λ e. Fits e.1) (cond b (p ∷ ps) ps)
 fit_by p ps true t h a = All-cons (λ (e : ℕ × ℚ). Fits e.1) p ps (not_zero p.1 t, h) a
 fit_by p ps false t h a = a
 
-kept_fit : (ps : List (ℕ × ℚ)) → All (λ p. IsBounded p.1) ps → All (λ e. Fits e.1) (filter is_nonzero ps)
+kept_fit : (ps : List (ℕ × ℚ)) → All (λ p. IsBounded p.1) ps
+    → All (λ e. Fits e.1) (filter is_nonzero ps)
 kept_fit [] a = All-nil (λ (e : ℕ × ℚ). Fits e.1)
 kept_fit (p ∷ ps) a = fit_by p (filter is_nonzero ps) (is_nonzero p) refl (All-head (λ (e : ℕ × ℚ). IsBounded e.1) p ps a) (kept_fit ps (All-tail (λ (e : ℕ × ℚ). IsBounded e.1) p ps a))
 

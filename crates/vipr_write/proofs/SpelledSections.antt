@@ -1,17 +1,26 @@
 -- What is spelled is within the limits of the format, section by section
-use Rattle.std.proofs.Common.{◌≡◌, ℕ, ◌+◌, ◌<◌, ◌≤◌, ⊎_elim, List, length, Option, Some, None, IfSome, All, codes, sym, subst}
+use Rattle.std.proofs.Common.{◌≡◌, ℕ, ◌+◌, ◌<◌, ◌≤◌, ⊎_elim, List, length, Option, Some, None}
+use Rattle.std.proofs.Common.{IfSome, All, codes, sym, subst}
 use Rattle.vipr_spec.specs.Fraction.{ℚ, IsBounded}
 use Rattle.vipr_spec.specs.Number.{SpellsNumber}
 use Rattle.vipr_spec.specs.Constraint.{Row, Ints, at, Constraint, NamesBelow, IsInteger}
-use Rattle.vipr_spec.specs.Certificate.{Name, Named, Direction, Claim, infeasible, range, Problem, variables, Reason, asm, lin, rnd, uns, sol, Derivation, Certificate}
+use Rattle.vipr_spec.specs.Certificate.{Name, Named, Direction, Claim, infeasible, range, Problem}
+use Rattle.vipr_spec.specs.Certificate.{variables, Reason, asm, lin, rnd, uns, sol, Derivation}
+use Rattle.vipr_spec.specs.Certificate.{Certificate}
 use Rattle.vipr_spec.specs.Tokens.{IsToken}
 use Rattle.vipr_spec.specs.Reading.{most_count}
-use Rattle.vipr_spec.specs.Grammar.{SpellsCount, SpellsVariable, SpellsSense, SpellsDirection, SpellsBound, SpellsLast, word, one, ◌then◌, each, pair, vector, coefficients, constraint, version, names, integers, objective, constraints, claim, problem, solution, solutions, entry, reason, derivation, derivations, SpelledBy}
-use Rattle.vipr_spec.specs.Shape.{ReasonShape, DerivationShape, RowFits, ClaimFits, EntryFits, ReasonFits, DerivationFits, CanWriteProblem, CanWrite}
+use Rattle.vipr_spec.specs.Grammar.{SpellsCount, SpellsVariable, SpellsSense, SpellsDirection}
+use Rattle.vipr_spec.specs.Grammar.{SpellsBound, SpellsLast, word, one, ◌then◌, each, pair, vector}
+use Rattle.vipr_spec.specs.Grammar.{coefficients, constraint, version, names, integers, objective}
+use Rattle.vipr_spec.specs.Grammar.{constraints, claim, problem, solution, solutions, entry, reason}
+use Rattle.vipr_spec.specs.Grammar.{derivation, derivations, SpelledBy}
+use Rattle.vipr_spec.specs.Shape.{ReasonShape, DerivationShape, RowFits, ClaimFits, EntryFits}
+use Rattle.vipr_spec.specs.Shape.{ReasonFits, DerivationFits, CanWriteProblem, CanWrite}
 use Rattle.vipr_write.proofs.SpelledNumbers.{number_bounded, bound_bounded}
 use Rattle.vipr_write.proofs.SpelledRows.{row_fits}
 use Rattle.vipr_spec.proofs.Laws.{row_below, set_below}
-use Rattle.vipr_write.proofs.SpelledTokens.{Gives, gives_nothing, gives_word, gives_one, gives_then, gives_each}
+use Rattle.vipr_write.proofs.SpelledTokens.{Gives, gives_nothing, gives_word, gives_one, gives_then}
+use Rattle.vipr_write.proofs.SpelledTokens.{gives_each}
 
 -- ---- one token
 gives_count : (n : ℕ) → Gives (one SpellsCount n) (n ≤ most_count)
@@ -23,7 +32,8 @@ gives_variable n i = gives_one (SpellsVariable n) i (λ t s. s.1)
 gives_number : (x : ℚ) → Gives (one SpellsNumber x) (IsBounded x)
 gives_number x = gives_one SpellsNumber x (λ t s. number_bounded t x s)
 
-gives_bound : (infinite : List ℕ) (o : Option ℚ) → Gives (one (SpellsBound infinite) o) (IfSome o IsBounded)
+gives_bound : (infinite : List ℕ) (o : Option ℚ)
+    → Gives (one (SpellsBound infinite) o) (IfSome o IsBounded)
 gives_bound infinite o = gives_one (SpellsBound infinite) o (λ t s. bound_bounded infinite t o s)
 
 gives_last : (o : Option ℕ) → Gives (one SpellsLast o) (IfSome o (λ i. i ≤ most_count))
@@ -31,7 +41,10 @@ gives_last None = record { law = λ ts a s. tt }
 gives_last (Some i) = gives_one SpellsLast (Some i) (λ t s. s.1)
 
 -- so many items, with their count in front
-gives_counted : {X : Type 0} (S : X → List (List ℕ) → Type 0) (P : X → Type 0) → ((x : X) → Gives (S x) (P x)) → (w : List ℕ) (xs : List X) → Gives (word w then one SpellsCount (length xs) then each S xs) (IsToken w × ((length xs ≤ most_count) × All P xs))
+gives_counted : {X : Type 0} (S : X → List (List ℕ) → Type 0) (P : X → Type 0)
+    → ((x : X) → Gives (S x) (P x)) → (w : List ℕ) (xs : List X) → Gives
+    (word w then one SpellsCount (length xs) then each S xs)
+    (IsToken w × ((length xs ≤ most_count) × All P xs))
 gives_counted S P g w xs =
     gives_then (word w) (one SpellsCount (length xs) then each S xs) (gives_word w)
     (λ h. gives_then (one SpellsCount (length xs)) (each S xs) (gives_count (length xs)) (λ k. gives_each S P g xs))
@@ -51,7 +64,8 @@ gives_vector n row = record {
       subst (GoodRow n) (sym s.2) (record { below = row_below n s.0 (λ k d h. (all.1 k d h).0); fits = row_fits s.0 (λ k d h. (all.1 k d h).1) });
 }
 
-gives_coefficients : (n : ℕ) (given row : Row) → GoodRow n given → Gives (coefficients n given row) (GoodRow n row)
+gives_coefficients : (n : ℕ) (given row : Row) → GoodRow n given
+    → Gives (coefficients n given row) (GoodRow n row)
 gives_coefficients n given row good = record {
   law = λ ts a s. ⊎_elim
       (λ (v : vector n row ts). (gives_vector n row).law ts a v)
@@ -63,7 +77,8 @@ pub record GoodConstraint (n : ℕ) (c : Constraint) : Type 0 where
   pub bound : IsBounded c.bound
   pub row : GoodRow n c.row
 
-gives_constraint : (n : ℕ) (given : Row) (name : Name) (c : Constraint) → GoodRow n given → Gives (constraint n given name c) (IsToken name × GoodConstraint n c)
+gives_constraint : (n : ℕ) (given : Row) (name : Name) (c : Constraint) → GoodRow n given
+    → Gives (constraint n given name c) (IsToken name × GoodConstraint n c)
 gives_constraint n given name c good = record {
   law = λ ts a s.
       let parts =
@@ -75,17 +90,20 @@ gives_constraint n given name c good = record {
 }
 
 -- ---- the sections
-gives_names : (ns : List Name) → Gives (names ns) (IsToken (codes "VAR") × ((length ns ≤ most_count) × All IsToken ns))
+gives_names : (ns : List Name)
+    → Gives (names ns) (IsToken (codes "VAR") × ((length ns ≤ most_count) × All IsToken ns))
 gives_names ns = gives_counted word IsToken gives_word (codes "VAR") ns
 
-gives_integers : (n : ℕ) (ints : Ints) → Gives (integers n ints) ((j : ℕ) → IsInteger ints j → j < n)
+gives_integers : (n : ℕ) (ints : Ints)
+    → Gives (integers n ints) ((j : ℕ) → IsInteger ints j → j < n)
 gives_integers n ints = record {
   law = λ ts a s.
       let all = (gives_counted (one (SpellsVariable n)) (λ i. i < n) (gives_variable n) (codes "INT") s.0).law ts a s.2 in
       subst (λ (is : Ints). (j : ℕ) → IsInteger is j → j < n) (sym s.1) (set_below n s.0 all.1.1);
 }
 
-gives_objective : (n : ℕ) (direction : Direction) (row : Row) → Gives (objective n direction row) (GoodRow n row)
+gives_objective : (n : ℕ) (direction : Direction) (row : Row)
+    → Gives (objective n direction row) (GoodRow n row)
 gives_objective n direction row = record {
   law = λ ts a s.
       let parts =
@@ -99,7 +117,9 @@ pub record GoodConstraints (n bound_count : ℕ) (cs : List (Named Constraint)) 
   pub few_bounds : bound_count ≤ most_count
   pub all : All (λ c. IsToken c.name × GoodConstraint n c.item) cs
 
-gives_constraints : (n : ℕ) (given : Row) (bound_count : ℕ) (cs : List (Named Constraint)) → GoodRow n given → Gives (constraints n given bound_count cs) (GoodConstraints n bound_count cs)
+gives_constraints : (n : ℕ) (given : Row) (bound_count : ℕ) (cs : List (Named Constraint))
+    → GoodRow n given
+    → Gives (constraints n given bound_count cs) (GoodConstraints n bound_count cs)
 gives_constraints n given bound_count cs good = record {
   law = λ ts a s.
       let S : Named Constraint → List (List ℕ) → Type 0 = λ c. constraint n given c.name c.item in
@@ -168,7 +188,8 @@ gives_problem p = record {
 gives_solution : (n : ℕ) (s : Named Row) → Gives (solution n s) (IsToken s.name × GoodRow n s.item)
 gives_solution n s = gives_then (word s.name) (vector n s.item) (gives_word s.name) (λ h. gives_vector n s.item)
 
-gives_solutions : (n : ℕ) (ss : List (Named Row)) → Gives (solutions n ss) (IsToken (codes "SOL") × ((length ss ≤ most_count) × All (λ s. IsToken s.name × GoodRow n s.item) ss))
+gives_solutions : (n : ℕ) (ss : List (Named Row)) → Gives (solutions n ss) (IsToken (codes "SOL")
+    × ((length ss ≤ most_count) × All (λ s. IsToken s.name × GoodRow n s.item) ss))
 gives_solutions n ss = gives_counted (solution n) (λ s. IsToken s.name × GoodRow n s.item) (gives_solution n) (codes "SOL") ss
 
 gives_entry : (e : ℕ × ℚ) → Gives (entry e) (EntryFits e)
@@ -194,7 +215,8 @@ pub record GoodDerivation (n : ℕ) (d : Derivation) : Type 0 where
   pub shape : DerivationShape n d
   pub fits : DerivationFits d
 
-gives_derivation : (p : Problem) (d : Derivation) → GoodRow (variables p) p.objective → Gives (derivation p d) (GoodDerivation (variables p) d)
+gives_derivation : (p : Problem) (d : Derivation) → GoodRow (variables p) p.objective
+    → Gives (derivation p d) (GoodDerivation (variables p) d)
 gives_derivation p d good = record {
   law = λ ts a s.
       let stated = constraint (variables p) p.objective d.name d.stated in
@@ -219,7 +241,8 @@ pub record GoodDerivations (p : Problem) (ds : List Derivation) : Type 0 where
   pub few : length p.constraints + length ds ≤ most_count
   pub all : All (GoodDerivation (variables p)) ds
 
-gives_derivations : (p : Problem) (ds : List Derivation) → GoodRow (variables p) p.objective → Gives (derivations p ds) (GoodDerivations p ds)
+gives_derivations : (p : Problem) (ds : List Derivation) → GoodRow (variables p) p.objective
+    → Gives (derivations p ds) (GoodDerivations p ds)
 gives_derivations p ds good = record {
   law = λ ts a s.
       let all = (gives_counted (derivation p) (GoodDerivation (variables p)) (λ d. gives_derivation p d good) (codes "DER") ds).law ts a s.1 in
@@ -227,7 +250,8 @@ gives_derivations p ds good = record {
 }
 
 -- ---- the whole
-pub can_write_spelled : (ts : List (List ℕ)) (c : Certificate) → All IsToken ts → SpelledBy ts c → CanWrite c
+pub can_write_spelled : (ts : List (List ℕ)) (c : Certificate) → All IsToken ts → SpelledBy ts c
+    → CanWrite c
 can_write_spelled ts c a s =
     let ss = solutions (variables c.problem) c.solutions in
     let ds = derivations c.problem c.derivations in

@@ -1,5 +1,6 @@
 -- A text of few words and bytes is short
-use Rattle.std.proofs.Common.{◌≡◌, ℕ, suc, ◌+◌, ◌*◌, ◌^◌, ◌<◌, ◌≤◌, List, [], ◌∷◌, ◌++◌, length, map, All, codes, sym, ap, ◌∙◌, subst, arith}
+use Rattle.std.proofs.Common.{◌≡◌, ℕ, suc, ◌+◌, ◌*◌, ◌^◌, ◌<◌, ◌≤◌, List, [], ◌∷◌, ◌++◌, length}
+use Rattle.std.proofs.Common.{map, All, codes, sym, ap, ◌∙◌, subst, arith}
 use Rattle.std.specs.List.{flat_map, sum_by}
 use Rattle.std.proofs.lemmas.Grind.{flat_map-append}
 use Rattle.std.proofs.lemmas.List.{length-append, length-map}
@@ -10,27 +11,34 @@ use Rattle.vipr_spec.specs.Constraint.{Row}
 use Rattle.vipr_spec.specs.Certificate.{Named, Problem, Derivation, Certificate}
 use Rattle.vipr_spec.proofs.Laws.{all_parts}
 use Rattle.vipr_cert.specs.Items.{reason_of}
-use Rattle.vipr_write.specs.Canonical.{reason_words, last_word, solution_words, solutions_lines, heading, problem_lines, words_after_spaces, line_text, lines_text}
-use Rattle.vipr_write.specs.Forms.{constraint_words_in, derivation_words_in, problem_lines_in, derivations_lines_in, text_in}
+use Rattle.vipr_write.specs.Canonical.{reason_words, last_word, solution_words, solutions_lines}
+use Rattle.vipr_write.specs.Canonical.{heading, problem_lines, words_after_spaces, line_text}
+use Rattle.vipr_write.specs.Canonical.{lines_text}
+use Rattle.vipr_write.specs.Forms.{constraint_words_in, derivation_words_in, problem_lines_in}
+use Rattle.vipr_write.specs.Forms.{derivations_lines_in, text_in}
 use Rattle.vipr_write.specs.Weight.{weight}
 use Rattle.vipr_write.specs.declared.form.Form.{Form}
 use Rattle.vipr_write.specs.declared.statements.Statement.{Statement}
 use Rattle.vipr_write.specs.declared.statements.Statements.{Statements}
 use Rattle.vipr_write.specs.declared.statements.Step.{Step}
-use Rattle.vipr_write.specs.Steps.{step_of, as_text, own_bytes, row_bytes, statement_in, AreStepsOf, step_line, steps_section, step_weight}
+use Rattle.vipr_write.specs.Steps.{step_of, as_text, own_bytes, row_bytes, statement_in, AreStepsOf}
+use Rattle.vipr_write.specs.Steps.{step_line, steps_section, step_weight}
 use Rattle.vipr_write.proofs.LineTokens.{words_of}
 use Rattle.vipr_write.proofs.WholeText.{tokens_all}
 use Rattle.vipr_write.proofs.Weighing.{spaced_short, line_short, lines_short, problem_fewer}
 use Rattle.vipr_write.proofs.Kept.{first_of, rest_of, steps_are}
 
 -- the words of a reason and the one behind it are tokens
-reason_tokens : (form : Form) (objective : Row) (d : Derivation) → All IsToken (derivation_words_in form objective d) → All IsToken (reason_words d.reason) × IsToken (last_word d.last)
+reason_tokens : (form : Form) (objective : Row) (d : Derivation)
+    → All IsToken (derivation_words_in form objective d)
+    → All IsToken (reason_words d.reason) × IsToken (last_word d.last)
 reason_tokens form objective d a =
     let end = (all_parts IsToken (constraint_words_in form objective d.name d.stated) (codes "{" ∷ (reason_words d.reason ++ codes "}" ∷ last_word d.last ∷ [])) a).1 in
     let parts = all_parts IsToken (reason_words d.reason) (codes "}" ∷ last_word d.last ∷ []) (All-tail IsToken (codes "{") (reason_words d.reason ++ codes "}" ∷ last_word d.last ∷ []) end) in
     (parts.0, All-head IsToken (last_word d.last) [] (All-tail IsToken (codes "}") (last_word d.last ∷ []) parts.1))
 
-step_short : (t : Statements) (s : Step Statement) → All IsToken (reason_words (reason_of s.reason)) → IsToken (last_word s.last) → length (step_line t s) ≤ 65536 * step_weight t s
+step_short : (t : Statements) (s : Step Statement) → All IsToken (reason_words (reason_of s.reason))
+    → IsToken (last_word s.last) → length (step_line t s) ≤ 65536 * step_weight t s
 step_short t s reason last =
     let own = own_bytes t.text.items s.stated in
     let row = row_bytes t.spelled.items s.stated in
@@ -44,8 +52,10 @@ step_short t s reason last =
     let d = length-append word (codes "\n") in
     omega (arith, spaced, short, a, b, c, d)
 
-steps_short : (form : Form) (objective : Row) (t : Statements) (steps : List (Step Statement)) (ds : List Derivation) → map (step_of (statement_in t)) steps ≡ map (as_text form objective) ds
-    → All IsToken (words_of (map (derivation_words_in form objective) ds)) → length (flat_map (step_line t) steps) ≤ 65536 * sum_by (step_weight t) steps
+steps_short : (form : Form) (objective : Row) (t : Statements) (steps : List (Step Statement))
+    (ds : List Derivation) → map (step_of (statement_in t)) steps ≡ map (as_text form objective) ds
+    → All IsToken (words_of (map (derivation_words_in form objective) ds))
+    → length (flat_map (step_line t) steps) ≤ 65536 * sum_by (step_weight t) steps
 steps_short form objective t [] ds e a = omega arith
 steps_short form objective t (s ∷ steps) [] e a = absurd (let n = ap length e in omega arith)
 steps_short form objective t (s ∷ steps) (d ∷ ds) e a =
@@ -58,8 +68,10 @@ steps_short form objective t (s ∷ steps) (d ∷ ds) e a =
     let first = step_short t s reason last in
     omega (arith, first, rest, length-append (step_line t s) (flat_map (step_line t) steps), sum_by-cons (step_weight t) s steps)
 
-pub text_countable : (c : Certificate) (p : Problem) (ss : List (Named Row)) (t : Statements) (steps : List (Step Statement)) → AreStepsOf c p ss t steps
-    → weight (problem_lines p) + 3 + weight (map solution_words ss) + 3 + sum_by (step_weight t) steps < 2 ^ 48 → length (text_in t.form c) < 2 ^ 64
+pub text_countable : (c : Certificate) (p : Problem) (ss : List (Named Row)) (t : Statements)
+    (steps : List (Step Statement)) → AreStepsOf c p ss t steps
+    → weight (problem_lines p) + 3 + weight (map solution_words ss) + 3
+    + sum_by (step_weight t) steps < 2 ^ 48 → length (text_in t.form c) < 2 ^ 64
 text_countable c p ss t steps of few =
     let form = t.form in
     let ps = problem_lines_in form c.problem in

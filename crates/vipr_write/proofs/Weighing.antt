@@ -1,5 +1,6 @@
 -- A text of few words is short
-use Rattle.std.proofs.Common.{◌≡◌, ℕ, suc, ◌+◌, ◌*◌, ◌^◌, ◌<◌, ◌≤◌, List, [], ◌∷◌, ◌++◌, length, map, take, get_or, All, refl, sym, ap, ◌∙◌, arith}
+use Rattle.std.proofs.Common.{◌≡◌, ℕ, suc, ◌+◌, ◌*◌, ◌^◌, ◌<◌, ◌≤◌, List, [], ◌∷◌, ◌++◌, length}
+use Rattle.std.proofs.Common.{map, take, get_or, All, refl, sym, ap, ◌∙◌, arith}
 use Rattle.std.specs.Prelude.{codes, Bool, true, false, if◌then◌else◌}
 use Rattle.std.specs.List.{flat_map, sum_by}
 use Rattle.std.specs.FinMap.{entries}
@@ -10,11 +11,18 @@ use Rattle.std.proofs.lemmas.List.Elements.{All-head, All-tail}
 use Rattle.vipr_spec.specs.Fraction.{ℚ}
 use Rattle.vipr_spec.specs.Tokens.{IsToken}
 use Rattle.vipr_spec.specs.Constraint.{Row, Constraint}
-use Rattle.vipr_spec.specs.Certificate.{Name, Named, Claim, Derivation, Certificate, Problem, integer_variables}
+use Rattle.vipr_spec.specs.Certificate.{Name, Named, Claim, Derivation, Certificate, Problem}
+use Rattle.vipr_spec.specs.Certificate.{integer_variables}
 use Rattle.vipr_spec.specs.Shape.{CanWrite}
 use Rattle.vipr_spec.proofs.Laws.{all_parts}
-use Rattle.vipr_write.specs.Canonical.{pair_words, constraint_words, given_words, claim_words, solution_words, reason_words, derivation_words, last_word, direction_word, vector_words, heading, variables_lines, problem_lines, solutions_lines, derivations_lines, words_after_spaces, line_text, lines_text, certificate_lines}
-use Rattle.vipr_write.specs.Forms.{is_objective, row_words, constraint_words_in, given_words_in, derivation_words_in, problem_lines_in, derivations_lines_in, certificate_lines_in, text_in}
+use Rattle.vipr_write.specs.Canonical.{pair_words, constraint_words, given_words, claim_words}
+use Rattle.vipr_write.specs.Canonical.{solution_words, reason_words, derivation_words, last_word}
+use Rattle.vipr_write.specs.Canonical.{direction_word, vector_words, heading, variables_lines}
+use Rattle.vipr_write.specs.Canonical.{problem_lines, solutions_lines, derivations_lines}
+use Rattle.vipr_write.specs.Canonical.{words_after_spaces, line_text, lines_text, certificate_lines}
+use Rattle.vipr_write.specs.Forms.{is_objective, row_words, constraint_words_in, given_words_in}
+use Rattle.vipr_write.specs.Forms.{derivation_words_in, problem_lines_in, derivations_lines_in}
+use Rattle.vipr_write.specs.Forms.{certificate_lines_in, text_in}
 use Rattle.vipr_write.specs.declared.form.Form.{Form}
 use Rattle.vipr_write.specs.declared.form.Form.TheVariants.{Canonical, Compact}
 use Rattle.vipr_write.specs.Hands.{counted}
@@ -23,21 +31,24 @@ use Rattle.vipr_write.proofs.LineTokens.{words_of}
 use Rattle.vipr_write.proofs.WholeText.{tokens_all}
 
 -- ---- how long a text is
-pub spaced_short : (ws : List (List ℕ)) → All IsToken ws → length (words_after_spaces ws) ≤ 65536 * length ws
+pub spaced_short : (ws : List (List ℕ)) → All IsToken ws
+    → length (words_after_spaces ws) ≤ 65536 * length ws
 spaced_short [] a = omega arith
 spaced_short (w ∷ ws) a =
     let first = (All-head IsToken w ws a).short in
     let rest = spaced_short ws (All-tail IsToken w ws a) in
     omega (arith, length-append w (words_after_spaces ws), first, rest)
 
-pub line_short : (ws : List (List ℕ)) → All IsToken ws → length (line_text ws) ≤ 65536 * suc (length ws)
+pub line_short : (ws : List (List ℕ)) → All IsToken ws
+    → length (line_text ws) ≤ 65536 * suc (length ws)
 line_short [] a = omega arith
 line_short (w ∷ ws) a =
     let first = (All-head IsToken w ws a).short in
     let rest = spaced_short ws (All-tail IsToken w ws a) in
     omega (arith, length-append w (words_after_spaces ws ++ 10 ∷ []), length-append (words_after_spaces ws) (10 ∷ []), first, rest)
 
-pub lines_short : (ls : List (List (List ℕ))) → All IsToken (words_of ls) → length (lines_text ls) ≤ 65536 * weight ls
+pub lines_short : (ls : List (List (List ℕ))) → All IsToken (words_of ls)
+    → length (lines_text ls) ≤ 65536 * weight ls
 lines_short [] a = omega arith
 lines_short (l ∷ ls) a =
     let parts = all_parts IsToken l (words_of ls) a in
@@ -54,11 +65,13 @@ pub weight-append : (ls ms : List (List (List ℕ))) → weight (ls ++ ms) ≡ w
 weight-append ls ms = sum_by-append (λ (ws : List (List ℕ)). suc (length ws)) ls ms
 
 -- the lines that are made of the items
-weight-map : {X : Type 0} (f : X → List (List ℕ)) (xs : List X) → weight (map f xs) ≡ sum_by (λ x. suc (length (f x))) xs
+weight-map : {X : Type 0} (f : X → List (List ℕ)) (xs : List X)
+    → weight (map f xs) ≡ sum_by (λ x. suc (length (f x))) xs
 weight-map f [] = refl
 weight-map f (x ∷ xs) = sum_by-cons (λ (ws : List (List ℕ)). suc (length ws)) (f x) (map f xs) ∙ ap (λ n. suc (length (f x)) + n) (weight-map f xs) ∙ sym (sum_by-cons (λ x. suc (length (f x))) x xs)
 
-sum_next : {X : Type 0} (f : X → ℕ) (xs : List X) (i : ℕ) (d : X) → i < length xs → sum_by f (take (i + 1) xs) ≡ sum_by f (take i xs) + f (get_or xs i d)
+sum_next : {X : Type 0} (f : X → ℕ) (xs : List X) (i : ℕ) (d : X) → i < length xs
+    → sum_by f (take (i + 1) xs) ≡ sum_by f (take i xs) + f (get_or xs i d)
 sum_next f xs i d l =
     let one : sum_by f (get_or xs i d ∷ []) ≡ f (get_or xs i d) = omega (arith, sum_by-cons f (get_or xs i d) []) in
     ap (sum_by f) (take_more xs i d l) ∙ sum_by-append f (take i xs) (get_or xs i d ∷ []) ∙ ap (λ n. sum_by f (take i xs) + n) one
@@ -67,10 +80,15 @@ sum_next f xs i d l =
 abbrev pub Weighs : {X : Type 0} → (X → ℕ) → List X → ℕ → ℕ → ℕ → Type 0
 Weighs f xs i start total = total ≡ counted (start + sum_by f (take i xs))
 
-pub weighs_next : {X : Type 0} (f : X → ℕ) (xs : List X) (i : ℕ) (x : X) (start total now more : ℕ) → i < length xs → x ≡ get_or xs i x → Weighs f xs i start total → f x ≡ more → now ≡ counted (total + more) → Weighs f xs (i + 1) start now
+pub weighs_next : {X : Type 0} (f : X → ℕ) (xs : List X) (i : ℕ) (x : X) (start total now more : ℕ)
+    → i < length xs → x ≡ get_or xs i x → Weighs f xs i start total → f x ≡ more
+    → now ≡ counted (total + more) → Weighs f xs (i + 1) start now
 weighs_next f xs i x start total now more l is before same after = let e = sum_next f xs i x l in let here = ap f is in omega (arith, e, here, before, same, after)
 
-pub weighs_all : {X Y : Type 0} (view : X → Y) (words : Y → List (List ℕ)) (xs : List X) (i start total : ℕ) → length xs ≤ i → Weighs (λ x. suc (length (words (view x)))) xs i start total → total ≡ counted (start + weight (map words (map view xs)))
+pub weighs_all : {X Y : Type 0} (view : X → Y) (words : Y → List (List ℕ)) (xs : List X)
+    (i start total : ℕ) → length xs ≤ i
+    → Weighs (λ x. suc (length (words (view x)))) xs i start total
+    → total ≡ counted (start + weight (map words (map view xs)))
 weighs_all view words xs i start total l w = w ∙ ap (λ n. counted (start + n)) (ap (sum_by (λ x. suc (length (words (view x))))) (take_all i xs l) ∙ sym (two_maps view words xs))
   where
     two_maps : {X Y : Type 0} (view : X → Y) (words : Y → List (List ℕ)) (xs : List X) → weight (map words (map view xs)) ≡ sum_by (λ x. suc (length (words (view x)))) xs
@@ -78,7 +96,8 @@ weighs_all view words xs i start total l w = w ∙ ap (λ n. counted (start + n)
     two_maps view words (x ∷ xs) = sum_by-cons (λ (ws : List (List ℕ)). suc (length ws)) (words (view x)) (map words (map view xs)) ∙ ap (λ n. suc (length (words (view x))) + n) (two_maps view words xs) ∙ sym (sum_by-cons (λ x. suc (length (words (view x)))) x xs)
 
 -- lines of one word
-pub ones_weight : {X : Type 0} (f : X → List ℕ) (xs : List X) → weight (map (λ x. f x ∷ []) xs) ≡ 2 * length xs
+pub ones_weight : {X : Type 0} (f : X → List ℕ) (xs : List X)
+    → weight (map (λ x. f x ∷ []) xs) ≡ 2 * length xs
 ones_weight f [] = refl
 ones_weight f (x ∷ xs) = let rest = ones_weight f xs in omega (arith, rest, sum_by-cons (λ (ws : List (List ℕ)). suc (length ws)) (f x ∷ []) (map (λ x. f x ∷ []) xs))
 
@@ -86,35 +105,46 @@ ones_weight f (x ∷ xs) = let rest = ones_weight f xs in omega (arith, rest, su
 same_entries : (es fs : List (ℕ × ℚ)) → es ≡ fs → length (flat_map pair_words fs) ≡ 2 * length es
 same_entries es fs e = ap (λ gs. length (flat_map pair_words gs)) (sym e) ∙ pairs_length es
 
-pub constraint_weight : (name : Name) (c : Constraint) (es : List (ℕ × ℚ)) → es ≡ entries c.row → suc (length (constraint_words name c)) ≡ 5 + 2 * length es
+pub constraint_weight : (name : Name) (c : Constraint) (es : List (ℕ × ℚ)) → es ≡ entries c.row
+    → suc (length (constraint_words name c)) ≡ 5 + 2 * length es
 constraint_weight name c es e = let h = same_entries es (entries c.row) e in omega (arith, h)
 
-pub solution_weight : (s : Named Row) (es : List (ℕ × ℚ)) → es ≡ entries s.item → suc (length (solution_words s)) ≡ 3 + 2 * length es
+pub solution_weight : (s : Named Row) (es : List (ℕ × ℚ)) → es ≡ entries s.item
+    → suc (length (solution_words s)) ≡ 3 + 2 * length es
 solution_weight s es e = let h = same_entries es (entries s.item) e in omega (arith, h)
 
-pub derivation_weight : (d : Derivation) (es : List (ℕ × ℚ)) → es ≡ entries d.stated.row → suc (length (derivation_words d)) ≡ 8 + 2 * length es + length (reason_words d.reason)
+pub derivation_weight : (d : Derivation) (es : List (ℕ × ℚ)) → es ≡ entries d.stated.row
+    → suc (length (derivation_words d)) ≡ 8 + 2 * length es + length (reason_words d.reason)
 derivation_weight d es e =
     let stated = constraint_weight d.name d.stated es e in
     let first = length-append (constraint_words d.name d.stated) (codes "{" ∷ (reason_words d.reason ++ codes "}" ∷ last_word d.last ∷ [])) in
     let second = length-append (reason_words d.reason) (codes "}" ∷ last_word d.last ∷ []) in
     omega (arith, stated, first, second)
 
-pub in_turn : (total more reason middle now : ℕ) → middle ≡ counted (total + more) → now ≡ counted (middle + reason) → now ≡ counted (total + (more + reason))
+pub in_turn : (total more reason middle now : ℕ) → middle ≡ counted (total + more)
+    → now ≡ counted (middle + reason) → now ≡ counted (total + (more + reason))
 in_turn total more reason middle now first second = omega (arith, first, second)
 
 -- ---- the lines of a problem
-weight-cons : (l : List (List ℕ)) (ls : List (List (List ℕ))) → weight (l ∷ ls) ≡ suc (length l) + weight ls
+weight-cons : (l : List (List ℕ)) (ls : List (List (List ℕ)))
+    → weight (l ∷ ls) ≡ suc (length l) + weight ls
 weight-cons l ls = sum_by-cons (λ (ws : List (List ℕ)). suc (length ws)) l ls
 
-front_weight : (v w i : List (List ℕ)) (ns js : List (List (List ℕ))) → weight (v ∷ w ∷ (ns ++ i ∷ js)) ≡ suc (length v) + (suc (length w) + (weight ns + (suc (length i) + weight js)))
+front_weight : (v w i : List (List ℕ)) (ns js : List (List (List ℕ)))
+    → weight (v ∷ w ∷ (ns ++ i ∷ js)) ≡ suc (length v)
+    + (suc (length w) + (weight ns + (suc (length i) + weight js)))
 front_weight v w i ns js =
     weight-cons v (w ∷ (ns ++ i ∷ js)) ∙ ap (λ n. suc (length v) + n) (weight-cons w (ns ++ i ∷ js) ∙ ap (λ n. suc (length w) + n) (weight-append ns (i ∷ js) ∙ ap (λ n. weight ns + n) (weight-cons i js)))
 
-back_weight : (o v c k : List (List ℕ)) (cs : List (List (List ℕ))) → weight (o ∷ v ∷ c ∷ (cs ++ k ∷ [])) ≡ suc (length o) + (suc (length v) + (suc (length c) + (weight cs + weight (k ∷ []))))
+back_weight : (o v c k : List (List ℕ)) (cs : List (List (List ℕ)))
+    → weight (o ∷ v ∷ c ∷ (cs ++ k ∷ [])) ≡ suc (length o)
+    + (suc (length v) + (suc (length c) + (weight cs + weight (k ∷ []))))
 back_weight o v c k cs =
     weight-cons o (v ∷ c ∷ (cs ++ k ∷ [])) ∙ ap (λ n. suc (length o) + n) (weight-cons v (c ∷ (cs ++ k ∷ [])) ∙ ap (λ n. suc (length v) + n) (weight-cons c (cs ++ k ∷ []) ∙ ap (λ n. suc (length c) + n) (weight-append cs (k ∷ []))))
 
-problem_is : (p : Problem) → weight (problem_lines p) ≡ 18 + weight (claim_words p.claim ∷ []) + 2 * length p.names + 2 * length (integer_variables p) + 2 * length (entries p.objective) + weight (map given_words p.constraints)
+problem_is : (p : Problem) → weight (problem_lines p) ≡ 18 + weight (claim_words p.claim ∷ [])
+    + 2 * length p.names + 2 * length (integer_variables p) + 2 * length (entries p.objective)
+    + weight (map given_words p.constraints)
 problem_is p =
     let back = (codes "OBJ" ∷ direction_word p.direction ∷ []) ∷ vector_words p.objective ∷ (codes "CON" ∷ decimal (length p.constraints) ∷ decimal p.bound_count ∷ []) ∷ (map given_words p.constraints ++ claim_words p.claim ∷ []) in
     let all = weight-append (variables_lines p) back in
@@ -126,9 +156,15 @@ problem_is p =
     let sum = all ∙ (λ i. first i + second i) in
     omega (arith, sum, names, members, terms)
 
-pub problem_counted : (p : Problem) (names : List (List ℕ)) (js : List ℕ) (objective : Row) (es : List (ℕ × ℚ)) (cons : List (Named Constraint)) (claim : Claim) (k first second third total : ℕ) →
-    names ≡ p.names → js ≡ integer_variables p → objective ≡ p.objective → es ≡ entries objective → cons ≡ p.constraints → claim ≡ p.claim → k ≡ weight (claim_words claim ∷ []) →
-    first ≡ counted (18 + (k + 2 * length names)) → second ≡ counted (first + (0 + 2 * length js)) → third ≡ counted (second + (0 + 2 * length es)) → total ≡ counted (third + weight (map given_words cons)) → total ≡ counted (weight (problem_lines p))
+pub problem_counted : (p : Problem) (names : List (List ℕ)) (js : List ℕ) (objective : Row)
+    (es : List (ℕ × ℚ)) (cons : List (Named Constraint)) (claim : Claim)
+    (k first second third total : ℕ) →
+    names ≡ p.names → js ≡ integer_variables p → objective ≡ p.objective → es ≡ entries objective
+    → cons ≡ p.constraints → claim ≡ p.claim → k ≡ weight (claim_words claim ∷ []) →
+    first ≡ counted (18 + (k + 2 * length names)) → second ≡ counted (first + (0 + 2 * length js))
+    → third ≡ counted (second + (0 + 2 * length es))
+    → total ≡ counted (third + weight (map given_words cons))
+    → total ≡ counted (weight (problem_lines p))
 problem_counted p names js objective es cons claim k first second third total a b c d e f g h i j l =
     let sum = problem_is p in
     let names_are = ap length a in
@@ -139,7 +175,8 @@ problem_counted p names js objective es cons claim k first second third total a 
     omega (arith, sum, names_are, members_are, terms_are, constraints_are, claim_is, h, i, j, l)
 
 -- ---- in the compact form there are no more of them
-row_fewer : (form : Form) (objective row : Row) → length (row_words form objective row) ≤ length (vector_words row)
+row_fewer : (form : Form) (objective row : Row)
+    → length (row_words form objective row) ≤ length (vector_words row)
 row_fewer Canonical objective row = omega arith
 row_fewer Compact objective row = by (is_objective objective row)
   where
@@ -147,19 +184,23 @@ row_fewer Compact objective row = by (is_objective objective row)
     by true = omega arith
     by false = omega arith
 
-constraint_fewer : (form : Form) (objective : Row) (name : Name) (c : Constraint) → length (constraint_words_in form objective name c) ≤ length (constraint_words name c)
+constraint_fewer : (form : Form) (objective : Row) (name : Name) (c : Constraint)
+    → length (constraint_words_in form objective name c) ≤ length (constraint_words name c)
 constraint_fewer form objective name c = let row = row_fewer form objective c.row in omega (arith, row)
 
-derivation_fewer : (form : Form) (objective : Row) (d : Derivation) → length (derivation_words_in form objective d) ≤ length (derivation_words d)
+derivation_fewer : (form : Form) (objective : Row) (d : Derivation)
+    → length (derivation_words_in form objective d) ≤ length (derivation_words d)
 derivation_fewer form objective d =
     let end = codes "{" ∷ (reason_words d.reason ++ codes "}" ∷ last_word d.last ∷ []) in
     omega (arith, constraint_fewer form objective d.name d.stated, length-append (constraint_words_in form objective d.name d.stated) end, length-append (constraint_words d.name d.stated) end)
 
-lines_fewer : {X : Type 0} (f g : X → List (List ℕ)) → ((x : X) → length (f x) ≤ length (g x)) → (xs : List X) → weight (map f xs) ≤ weight (map g xs)
+lines_fewer : {X : Type 0} (f g : X → List (List ℕ)) → ((x : X) → length (f x) ≤ length (g x))
+    → (xs : List X) → weight (map f xs) ≤ weight (map g xs)
 lines_fewer f g h [] = omega arith
 lines_fewer f g h (x ∷ xs) = omega (arith, h x, lines_fewer f g h xs, weight-cons (f x) (map f xs), weight-cons (g x) (map g xs))
 
-pub problem_fewer : (form : Form) (p : Problem) → weight (problem_lines_in form p) ≤ weight (problem_lines p)
+pub problem_fewer : (form : Form) (p : Problem)
+    → weight (problem_lines_in form p) ≤ weight (problem_lines p)
 problem_fewer form p =
     let start = codes "OBJ" ∷ direction_word p.direction ∷ [] in
     let counts = codes "CON" ∷ decimal (length p.constraints) ∷ decimal p.bound_count ∷ [] in
@@ -175,12 +216,14 @@ problem_fewer form p =
       back_weight start (vector_words p.objective) counts end given_in,
     )
 
-steps_fewer : (form : Form) (objective : Row) (ds : List Derivation) → weight (derivations_lines_in form objective ds) ≤ weight (derivations_lines ds)
+steps_fewer : (form : Form) (objective : Row) (ds : List Derivation)
+    → weight (derivations_lines_in form objective ds) ≤ weight (derivations_lines ds)
 steps_fewer form objective ds =
     let head = heading (codes "DER") (length ds) in
     omega (arith, lines_fewer (derivation_words_in form objective) derivation_words (derivation_fewer form objective) ds, weight-cons head (map (derivation_words_in form objective) ds), weight-cons head (map derivation_words ds))
 
-certificate_fewer : (form : Form) (c : Certificate) → weight (certificate_lines_in form c) ≤ weight (certificate_lines c)
+certificate_fewer : (form : Form) (c : Certificate)
+    → weight (certificate_lines_in form c) ≤ weight (certificate_lines c)
 certificate_fewer form c =
     let p = problem_lines c.problem in
     let q = problem_lines_in form c.problem in
@@ -189,5 +232,6 @@ certificate_fewer form c =
     let es = derivations_lines_in form c.problem.objective c.derivations in
     omega (arith, problem_fewer form c.problem, steps_fewer form c.problem.objective c.derivations, weight-append p (ss ++ ds), weight-append ss ds, weight-append q (ss ++ es), weight-append ss es)
 
-pub text_short : (form : Form) (c : Certificate) → CanWrite c → weight (certificate_lines c) < 2 ^ 48 → length (text_in form c) < 2 ^ 64
+pub text_short : (form : Form) (c : Certificate) → CanWrite c
+    → weight (certificate_lines c) < 2 ^ 48 → length (text_in form c) < 2 ^ 64
 text_short form c w few = let short = lines_short (certificate_lines_in form c) (tokens_all form c w) in omega (arith, few, short, certificate_fewer form c)

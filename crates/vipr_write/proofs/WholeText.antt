@@ -8,7 +8,8 @@ use Rattle.vipr_spec.specs.Grammar.{◌then◌, SpelledBy, Spells, SpellsOnly}
 use Rattle.vipr_spec.specs.Shape.{CanWrite}
 use Rattle.vipr_spec.proofs.Laws.{one_certificate}
 use Rattle.vipr_write.specs.Canonical.{solutions_lines}
-use Rattle.vipr_write.specs.Forms.{problem_lines_in, derivations_lines_in, certificate_lines_in, text_in}
+use Rattle.vipr_write.specs.Forms.{problem_lines_in, derivations_lines_in, certificate_lines_in}
+use Rattle.vipr_write.specs.Forms.{text_in}
 use Rattle.vipr_write.specs.Laws.{SpellsItself, CompactSpellsItself}
 use Rattle.vipr_write.specs.declared.form.Form.{Form}
 use Rattle.vipr_write.specs.declared.form.Form.TheVariants.{Canonical, Compact}
@@ -19,13 +20,17 @@ use Rattle.vipr_write.proofs.SectionTokens.{problem_written, solutions_written, 
 abbrev Sections : Certificate → List (List ℕ) → Type 0
 Sections c = grammar.problem c.problem then grammar.solutions (variables c.problem) c.solutions then grammar.derivations c.problem c.derivations
 
-joined : (form : Form) (c : Certificate) → words_of (certificate_lines_in form c) ≡ words_of (problem_lines_in form c.problem) ++ (words_of (solutions_lines c.solutions) ++ words_of (derivations_lines_in form c.problem.objective c.derivations))
+joined : (form : Form) (c : Certificate)
+    → words_of (certificate_lines_in form c) ≡ words_of (problem_lines_in form c.problem) ++
+    (words_of (solutions_lines c.solutions)
+    ++ words_of (derivations_lines_in form c.problem.objective c.derivations))
 joined form c =
     let steps = derivations_lines_in form c.problem.objective c.derivations in
     flat_map-append (λ l. l) (problem_lines_in form c.problem) (solutions_lines c.solutions ++ steps)
     ∙ ap (λ ws. words_of (problem_lines_in form c.problem) ++ ws) (flat_map-append (λ l. l) (solutions_lines c.solutions) steps)
 
-written : (form : Form) (c : Certificate) → CanWrite c → Written (Sections c) (words_of (certificate_lines_in form c))
+written : (form : Form) (c : Certificate) → CanWrite c
+    → Written (Sections c) (words_of (certificate_lines_in form c))
 written form c w =
     let few = w.shape.problem.few_names in
     let body = then_written (problem_written form c.problem w.shape.problem w.fits.problem)
@@ -34,10 +39,12 @@ written form c w =
     subst (Written (Sections c)) (sym (joined form c)) body
 
 -- each word is a token
-pub tokens_all : (form : Form) (c : Certificate) → CanWrite c → All IsToken (words_of (certificate_lines_in form c))
+pub tokens_all : (form : Form) (c : Certificate) → CanWrite c
+    → All IsToken (words_of (certificate_lines_in form c))
 tokens_all form c w = (written form c w).tokens
 
-tokens_are : (form : Form) (c : Certificate) → CanWrite c → bytes_of (text_tokens (text_in form c)) ≡ words_of (certificate_lines_in form c)
+tokens_are : (form : Form) (c : Certificate) → CanWrite c
+    → bytes_of (text_tokens (text_in form c)) ≡ words_of (certificate_lines_in form c)
 tokens_are form c w = ap bytes_of (no_front _) ∙ lines_tokens (certificate_lines_in form c) (written form c w).tokens 0
 
 spells_itself : (form : Form) (c : Certificate) → CanWrite c → Spells (text_in form c) c

@@ -1,5 +1,7 @@
 -- Words that are tokens, and are of a shape
-use Rattle.std.proofs.Common.{◌≡◌, ℕ, ◌<◌, ◌≤◌, inl, inr, Bool, true, false, ◌&&◌, nat_lt, nat_le, List, [], ◌∷◌, ◌++◌, length, All, Option, Some, None, IfSome, arith, refl, sym, subst}
+use Rattle.std.proofs.Common.{◌≡◌, ℕ, ◌<◌, ◌≤◌, inl, inr, Bool, true, false, ◌&&◌, nat_lt, nat_le}
+use Rattle.std.proofs.Common.{List, [], ◌∷◌, ◌++◌, length, All, Option, Some, None, IfSome, arith}
+use Rattle.std.proofs.Common.{refl, sym, subst}
 use Rattle.std.specs.List.{flat_map, list_all}
 use Rattle.std.specs.Char.{digit_value}
 use Rattle.std.specs.Fmt.{decimal}
@@ -12,7 +14,8 @@ use Rattle.vipr_spec.specs.Fraction.{ℚ, IsBounded}
 use Rattle.vipr_spec.specs.Number.{IsSign, under, SpellsNumber, number_text}
 use Rattle.vipr_spec.specs.Tokens.{is_white, IsToken}
 use Rattle.vipr_spec.specs.Reading.{most_count}
-use Rattle.vipr_spec.specs.Grammar.{SpellsNatural, SpellsCount, SpellsVariable, word, one, ◌then◌, each}
+use Rattle.vipr_spec.specs.Grammar.{SpellsNatural, SpellsCount, SpellsVariable, word, one, ◌then◌}
+use Rattle.vipr_spec.specs.Grammar.{each}
 use Rattle.vipr_spec.proofs.Laws.{text_spelled, text_short}
 
 -- ---- tokens
@@ -102,20 +105,24 @@ word_written w h = record { tokens = All-cons IsToken w [] h (All-nil IsToken); 
 pub fixed_written : (w : List ℕ) → IsPlain w → Written (word w) (w ∷ [])
 fixed_written w h = word_written w (plain_token w h)
 
-pub one_written : {A : Type 0} (P : List ℕ → A → Type 0) (x : A) (t : List ℕ) → IsToken t → P t x → Written (one P x) (t ∷ [])
+pub one_written : {A : Type 0} (P : List ℕ → A → Type 0) (x : A) (t : List ℕ) → IsToken t → P t x
+    → Written (one P x) (t ∷ [])
 one_written P x t h p = record { tokens = All-cons IsToken t [] h (All-nil IsToken); shape = (t, refl, p) }
 
-pub then_written : {P Q : List (List ℕ) → Type 0} {a b : List (List ℕ)} → Written P a → Written Q b → Written (P then Q) (a ++ b)
+pub then_written : {P Q : List (List ℕ) → Type 0} {a b : List (List ℕ)} → Written P a → Written Q b
+    → Written (P then Q) (a ++ b)
 then_written {a = a} {b = b} p q = record { tokens = All-append IsToken a b p.tokens q.tokens; shape = (a, b, refl, p.shape, q.shape) }
 
-pub each_written : {A : Type 0} (P : A → List (List ℕ) → Type 0) (f : A → List (List ℕ)) (xs : List A) → All (λ x. Written (P x) (f x)) xs → Written (each P xs) (flat_map f xs)
+pub each_written : {A : Type 0} (P : A → List (List ℕ) → Type 0) (f : A → List (List ℕ))
+    (xs : List A) → All (λ x. Written (P x) (f x)) xs → Written (each P xs) (flat_map f xs)
 each_written P f [] h = record { tokens = All-nil IsToken; shape = refl }
 each_written P f (x ∷ xs) h = then_written (All-head (λ x. Written (P x) (f x)) x xs h) (each_written P f xs (All-tail (λ x. Written (P x) (f x)) x xs h))
 
 pub count_written : (n : ℕ) → n ≤ most_count → Written (one SpellsCount n) (decimal n ∷ [])
 count_written n h = one_written SpellsCount n (decimal n) (decimal_token n h) (decimal_natural n h, h)
 
-pub variable_written : (n i : ℕ) → n ≤ most_count → i < n → Written (one (SpellsVariable n) i) (decimal i ∷ [])
+pub variable_written : (n i : ℕ) → n ≤ most_count → i < n
+    → Written (one (SpellsVariable n) i) (decimal i ∷ [])
 variable_written n i few h = let small : i ≤ most_count = omega arith in one_written (SpellsVariable n) i (decimal i) (decimal_token i small) (decimal_natural i small, h)
 
 pub number_written : (x : ℚ) → IsBounded x → Written (one SpellsNumber x) (number_text x ∷ [])

@@ -10,12 +10,14 @@ use Rattle.vipr_check.proofs.Answering.{run_checks, verdict_shows, fault_shows}
 use Rattle.vipr_check.proofs.KnownTexts.{known_by}
 use Rattle.vipr_check.proofs.checks.explain_in.Goals as goal
 
-pub returns-in_ok-last_detail-in-Ok-clause-verdict : goal.returns-in_ok-last_detail-in-Ok-clause-verdict
+pub returns-in_ok-last_detail-in-Ok-clause-verdict :
+    goal.returns-in_ok-last_detail-in-Ok-clause-verdict
 returns-in_ok-last_detail-in-Ok-clause-verdict g c =
     let source = g.R.Source.input c.args.source in
     subst (ChecksIn (profile_of c.args.profile) source) (sym c.verdict_of.ensures ∙ c.in-Ok.is) (run_checks (profile_of c.args.profile) source c.run-outcome.result c.run-outcome.ensures.any c.run-outcome.ensures.explained)
 
-pub returns-in_ok-last_detail-in-Ok-clause-detail : goal.returns-in_ok-last_detail-in-Ok-clause-detail
+pub returns-in_ok-last_detail-in-Ok-clause-detail :
+    goal.returns-in_ok-last_detail-in-Ok-clause-detail
 returns-in_ok-last_detail-in-Ok-clause-detail g c =
     let P = profile_of c.args.profile in
     let x = c.run-outcome.result in

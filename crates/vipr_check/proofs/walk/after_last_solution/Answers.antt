@@ -10,13 +10,15 @@ use Rattle.vipr_check.specs.Reasons.{text_reason, stop_reason}
 use Rattle.vipr_check.specs.Shown.{state_shown}
 use Rattle.vipr_check.specs.Run.{SaysWith}
 use Rattle.vipr_check.proofs.Answering.{handed_on}
-use Rattle.vipr_check.proofs.RunLemmas.{at_start, knows_still, ending_unmet, ending_met, ending_read, ending_failed, ending_shown}
+use Rattle.vipr_check.proofs.RunLemmas.{at_start, knows_still, ending_unmet, ending_met}
+use Rattle.vipr_check.proofs.RunLemmas.{ending_read, ending_failed, ending_shown}
 use Rattle.vipr_check.proofs.walk.after_last_solution.Goals as goal
 
 pub end_solutions-requires : goal.end_solutions-requires
 end_solutions-requires g c = let (P, p, ss, is) = c.requires.among in is.phase
 
-pub returns-in_err-end_solutions-clause-explained : goal.returns-in_err-end_solutions-clause-explained
+pub returns-in_err-end_solutions-clause-explained :
+    goal.returns-in_err-end_solutions-clause-explained
 returns-in_err-end_solutions-clause-explained g c = λ P p ss is.
     let left = rest_of c.args.solutions.rest in
     let l = c.end_solutions.new.self in

@@ -20,7 +20,8 @@ solutions-preserved g c = λ P p ss is.
     let new = c.next_solution.new in
     listed_later P p ss c.solutions.checker new.checker c.args.solutions c.solutions.solutions new.solutions h (c.in_ok-next_solution.ensures.step P p h.now h.is_among)
 
-pub returns-in_err-next_solution-clause-explained : goal.returns-in_err-next_solution-clause-explained
+pub returns-in_err-next_solution-clause-explained :
+    goal.returns-in_err-next_solution-clause-explained
 returns-in_err-next_solution-clause-explained g c = λ P p ss is known.
     let h = c.solutions.invariant P p ss is in
     let old = c.args.solutions in

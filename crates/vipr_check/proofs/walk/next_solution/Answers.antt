@@ -9,7 +9,8 @@ use Rattle.vipr_check.specs.Shown.{state_shown}
 use Rattle.vipr_check.specs.Run.{GoesAmong}
 use Rattle.vipr_check.proofs.Answering.{handed_on}
 use Rattle.vipr_check.proofs.ShownLemmas.{unshown}
-use Rattle.vipr_check.proofs.RunLemmas.{one_more, solution_missing, solution_listed, solution_stops, never_memory}
+use Rattle.vipr_check.proofs.RunLemmas.{one_more, solution_missing, solution_listed, solution_stops}
+use Rattle.vipr_check.proofs.RunLemmas.{never_memory}
 use Rattle.vipr_check.proofs.walk.next_solution.Goals as goal
 
 pub take_solution-requires-clause-phase : goal.take_solution-requires-clause-phase
@@ -26,7 +27,8 @@ returns-in_err-solution-clause-step g c = λ P p ss is.
     handed_on (GoesAmong P p ss old k c.next.new.self) c.from_residual.result (text_reason e) c.from_residual.ensures.1
     (λ known. solution_missing P p ss old.left (rest_of old.rest) (state_shown k) e (unshown k is.runs) (c.in_err-solution.ensures.read p is.knows known))
 
-pub returns-in_err-take_solution-in-Some-clause-step : goal.returns-in_err-take_solution-in-Some-clause-step
+pub returns-in_err-take_solution-in-Some-clause-step :
+    goal.returns-in_err-take_solution-in-Some-clause-step
 returns-in_err-take_solution-in-Some-clause-step g c = λ P p ss is.
     let h = rw c.in-Some.is at c.in_ok-solution.ensures in
     let old = c.args.solutions.now in
@@ -37,7 +39,8 @@ returns-in_err-take_solution-in-Some-clause-step g c = λ P p ss is.
     handed_on (GoesAmong P p ss old l new) c.from_residual-in_err-take_solution-in-Some.result (stop_reason e) c.from_residual-in_err-take_solution-in-Some.ensures.1
     (solution_stops P p ss k l old new (solution_of c.in-Some.solution) is h.moves.counted (λ known. (let r = h.read p is.knows known in (r.1, r.2))) e (c.in_err-take_solution-in-Some.ensures.next ss is.runs is.has))
 
-pub returns-in_err-take_solution-in-Some-clause-decided : goal.returns-in_err-take_solution-in-Some-clause-decided
+pub returns-in_err-take_solution-in-Some-clause-decided :
+    goal.returns-in_err-take_solution-in-Some-clause-decided
 returns-in_err-take_solution-in-Some-clause-decided g c =
     let (P, p, ss, is) = c.requires.among in
     let e = c.in_err-take_solution-in-Some.field-0.0 in

@@ -11,7 +11,8 @@ use Rattle.vipr_check.specs.Run.{Goes}
 use Rattle.vipr_check.proofs.Answering.{handed_on}
 use Rattle.vipr_check.proofs.ShownLemmas.{unshown}
 use Rattle.vipr_check.proofs.Verifying.{report_of_proof}
-use Rattle.vipr_check.proofs.RunLemmas.{room_for, names_for, step_reached, step_stops, finish_stops, finish_verifies, derivation_missing}
+use Rattle.vipr_check.proofs.RunLemmas.{room_for, names_for, step_reached, step_stops, finish_stops}
+use Rattle.vipr_check.proofs.RunLemmas.{finish_verifies, derivation_missing}
 use Rattle.vipr_check.proofs.walk.next_step.Goals as goal
 
 pub take_from-requires-clause-phase : goal.take_from-requires-clause-phase

@@ -8,7 +8,8 @@ use Rattle.vipr_command.specs.declared.request.Task.TheVariants.{Check, Explain,
 use Rattle.vipr_command.proofs.args.command_line.Goals as goal
 
 -- the line with a command that was made
-joins : {E : Type 0} (r : Result Command E) (l x a : App) → IsOkAnd r (λ m. x ≡ with_subcommand l (app_of m).top) → IfOk r (λ m. app_of m ≡ a)
+joins : {E : Type 0} (r : Result Command E) (l x a : App)
+    → IsOkAnd r (λ m. x ≡ with_subcommand l (app_of m).top) → IfOk r (λ m. app_of m ≡ a)
     → x ≡ with_subcommand l a.top
 joins (Ok m) l x a e p = e ∙ ap (λ (b : App). with_subcommand l b.top) p
 joins (Err y) l x a e p = absurd e

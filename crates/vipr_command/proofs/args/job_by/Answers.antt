@@ -1,8 +1,12 @@
 use Rattle.std.proofs.Common.{◌≡◌, ◌∙◌, ap, subst, sym, map, true, false, codes, refl}
-use Rattle.clap.specs.Words.{App, Kinds, HasKind, fault_of, found_of, is_simple, is_simple_and_free, rows_of, subcommand_of, takes}
+use Rattle.clap.specs.Words.{App, Kinds, HasKind, fault_of, found_of, is_simple, is_simple_and_free}
+use Rattle.clap.specs.Words.{rows_of, subcommand_of, takes}
 use Rattle.clap.proofs.WalkLemmas.{first_value-rows}
 use Rattle.vipr_command.specs.Args.{file_named, form_asked, is_long_asked, profile_named}
-use Rattle.vipr_command.proofs.ArgsLemmas.{clap_fault, entered_is, failed_on, handed_on, is_asked, is_free_line, is_simple_line, never_other, never_accepted, never_without, profile_fine, profile_wrong, accepted_by_clap}
+use Rattle.vipr_command.proofs.ArgsLemmas.{clap_fault, entered_is, failed_on, handed_on, is_asked}
+use Rattle.vipr_command.proofs.ArgsLemmas.{is_free_line, is_simple_line, never_other}
+use Rattle.vipr_command.proofs.ArgsLemmas.{never_accepted, never_without, profile_fine}
+use Rattle.vipr_command.proofs.ArgsLemmas.{profile_wrong, accepted_by_clap}
 use Rattle.vipr_command.proofs.args.job_by.Goals as goal
 
 pub returns-in_err-matches-clause-err : goal.returns-in_err-matches-clause-err
@@ -47,7 +51,8 @@ returns-in_default-profile_named-clause-err c =
     λ t. absurd (never_accepted words _ _ (sym met ∙ is)
     (c.in_default-profile_named.ensures ∙ ap profile_named (c.get_str.ensures ∙ first_value-rows (found_of c.in-Some.inner.now) (codes "profile"))) t)
 
-pub returns-in_default-profile_named-clause-kinds : goal.returns-in_default-profile_named-clause-kinds
+pub returns-in_default-profile_named-clause-kinds :
+    goal.returns-in_default-profile_named-clause-kinds
 returns-in_default-profile_named-clause-kinds c =
     let words = map (λ w. w.now) c.args.words.now in
     let met = (c.in_ok-matches.ensures.ok.2 (ap is_simple c.requires ∙ is_simple_line)).1

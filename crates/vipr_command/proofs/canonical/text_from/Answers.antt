@@ -6,7 +6,9 @@ use Rattle.vipr_scan.specs.Giving.{rest_of}
 use Rattle.vipr_write.specs.Canonical.{solution_words, heading, line_text}
 use Rattle.vipr_write.specs.Folded.{with_more_bytes}
 use Rattle.vipr_write.specs.Forms.{derivation_words_in}
-use Rattle.vipr_command.proofs.SpellingLemmas.{problem_fails, solutions_fail, count_fails, derivations_fail, whole_read, were_read, still_knows, unspent, all_lines}
+use Rattle.vipr_command.proofs.SpellingLemmas.{problem_fails, solutions_fail, count_fails}
+use Rattle.vipr_command.proofs.SpellingLemmas.{derivations_fail, whole_read, were_read, still_knows}
+use Rattle.vipr_command.proofs.SpellingLemmas.{unspent, all_lines}
 use Rattle.vipr_command.proofs.canonical.text_from.Goals as goal
 
 pub returns-in_err-text : goal.returns-in_err-text

@@ -3,7 +3,8 @@ use Rattle.std.proofs.lemmas.Result.{err_from_is_err_and}
 use Rattle.vipr_rules.specs.Profile.{profile_of}
 use Rattle.vipr_command.specs.Run.{PrintsAtLength, fault_for}
 use Rattle.vipr_command.proofs.InputLemmas.{of_input}
-use Rattle.vipr_command.proofs.ExplanationLemmas.{unexplained_at_length, printed_more, not_printed_more}
+use Rattle.vipr_command.proofs.ExplanationLemmas.{unexplained_at_length, printed_more}
+use Rattle.vipr_command.proofs.ExplanationLemmas.{not_printed_more}
 use Rattle.vipr_command.proofs.length.print_kept_at_length.Goals as goal
 
 pub returns-in_err-verdict : goal.returns-in_err-verdict

@@ -6,7 +6,9 @@ use Rattle.vipr_command.proofs.show.show.Goals as goal
 use Rattle.vipr_command.proofs.show.show.Goals.{After-write_text}
 
 -- the certificate that was read is shown, as one of each kind that it is of
-shown : (g : Over) (c : After-write_text g) (k : Kind) → k.Spelled c.in-Ok.ensures.0 → ShowsText c.args.form k (g.W.Sink.output c.args.writer.now) (g.W.Sink.output c.write_text.new.writer) c.write_text.result
+shown : (g : Over) (c : After-write_text g) (k : Kind) → k.Spelled c.in-Ok.ensures.0
+    → ShowsText c.args.form k (g.W.Sink.output c.args.writer.now)
+    (g.W.Sink.output c.write_text.new.writer) c.write_text.result
 shown g c = shown_by c.args.form (g.W.Sink.output c.args.writer.now) (g.W.Sink.output c.write_text.new.writer) c.in-Ok.text.bytes c.in-Ok.ensures.0 c.write_text.result c.in-Ok.ensures.1 c.write_text.ensures
 
 pub returns-in-Ok-clause-exact : goal.returns-in-Ok-clause-exact

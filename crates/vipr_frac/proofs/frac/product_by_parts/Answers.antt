@@ -5,7 +5,8 @@ use Rattle.std.proofs.lemmas.Int.{to_z-of_z}
 use Rattle.vipr_spec.specs.Gcd.{gcd}
 use Rattle.vipr_spec.specs.Fraction.{ProductFits, most}
 use Rattle.vipr_frac.specs.Parts.{product_numer, product_denom, FitsProduct}
-use Rattle.vipr_frac.proofs.Sums.{product-is, IsReduced-product, ProductFits-parts, FitsProduct-from}
+use Rattle.vipr_frac.proofs.Sums.{product-is, IsReduced-product, ProductFits-parts}
+use Rattle.vipr_frac.proofs.Sums.{FitsProduct-from}
 use Rattle.vipr_frac.proofs.Views.{as-is, facts_of, Facts, refused}
 use Rattle.vipr_frac.proofs.frac.product_by_parts.Goals as goal
 use Rattle.vipr_frac.proofs.frac.product_by_parts.Goals.{After-divided-2, In_ok-below}

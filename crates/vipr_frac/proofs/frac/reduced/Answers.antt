@@ -11,7 +11,8 @@ use Rattle.vipr_frac.proofs.frac.reduced.Goals.{After-quotient}
 g_is : (c : goal.After-quotient) → c.gcd_of-g.result ≡ gcd (unsigned_abs c.args.p) c.args.q
 g_is c = c.gcd_of-g.ensures.value ∙ ap (λ n. gcd n c.args.q) (c.unsigned_abs.ensures.value ∙ ap unsigned_abs (to_z-of_z w128 c.args.p c.ranges.p))
 
-p_is : (c : goal.After-quotient) → to_z w128 (of_z w128 c.divided.result) ≡ (over c.args.p c.args.q).numer
+p_is : (c : goal.After-quotient)
+    → to_z w128 (of_z w128 c.divided.result) ≡ (over c.args.p c.args.q).numer
 p_is c =
     to_z-of_z w128 c.divided.result (record { sfits = c.divided.type_inv })
     ∙ c.divided.ensures ∙ ap (λ z. int_div z (pos c.gcd_of-g.result)) (to_z-of_z w128 c.args.p c.ranges.p)

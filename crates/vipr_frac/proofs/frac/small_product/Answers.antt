@@ -5,7 +5,8 @@ use Rattle.std.proofs.lemmas.Int.{to_z-of_z}
 use Rattle.vipr_spec.specs.Gcd.{gcd}
 use Rattle.vipr_frac.specs.Parts.{product_numer, product_denom}
 use Rattle.vipr_frac.proofs.Sums.{product-is, IsReduced-product, ProductFits-parts}
-use Rattle.vipr_frac.proofs.Small.{word_fits, small_product_fits, product_numer_small, product_denom_small}
+use Rattle.vipr_frac.proofs.Small.{word_fits, small_product_fits, product_numer_small}
+use Rattle.vipr_frac.proofs.Small.{product_denom_small}
 use Rattle.vipr_frac.proofs.Views.{facts_of, Facts, as-is}
 use Rattle.vipr_frac.proofs.frac.small_product.Goals as goal
 use Rattle.vipr_frac.proofs.frac.small_product.Goals.{After-divided-2, After-quotient-2}

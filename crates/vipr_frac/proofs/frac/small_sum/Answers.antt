@@ -5,7 +5,8 @@ use Rattle.std.proofs.lemmas.Int.{to_z-of_z}
 use Rattle.vipr_spec.specs.Gcd.{gcd}
 use Rattle.vipr_frac.specs.Parts.{both_parts, sum_gcd, sum_denom}
 use Rattle.vipr_frac.proofs.Sums.{sum-is, IsReduced-sum}
-use Rattle.vipr_frac.proofs.Small.{left_fits, right_fits, both_fits, both_back, small_sum_fits, sum_denom_small}
+use Rattle.vipr_frac.proofs.Small.{left_fits, right_fits, both_fits, both_back, small_sum_fits}
+use Rattle.vipr_frac.proofs.Small.{sum_denom_small}
 use Rattle.vipr_frac.proofs.Views.{facts_of, Facts}
 use Rattle.vipr_frac.proofs.frac.small_sum.Goals as goal
 use Rattle.vipr_frac.proofs.frac.small_sum.Goals.{After-quotient-4}

@@ -15,10 +15,12 @@ pub quotient-requires-2 : goal.quotient-requires-2
 quotient-requires-2 c = gcd-some c.args.a.denom _ _ c.args.b.lowest.positive c.requires
 
 -- the parts as they are computed
-left_is : (x y : ℚ) (p : ℤ) (g r s : ℕ) → to_z w128 (of_z w128 p) ≡ x.numer → s ≡ y.denom → g ≡ gcd x.denom y.denom → r ≡ s / g → to_z w128 (of_z w128 p) *ℤ pos r ≡ left_part x y
+left_is : (x y : ℚ) (p : ℤ) (g r s : ℕ) → to_z w128 (of_z w128 p) ≡ x.numer → s ≡ y.denom
+    → g ≡ gcd x.denom y.denom → r ≡ s / g → to_z w128 (of_z w128 p) *ℤ pos r ≡ left_part x y
 left_is x y p g r s e f h k = rw (e, k, f, h)
 
-right_is : (x y : ℚ) (p : ℤ) (g r s : ℕ) → to_z w128 (of_z w128 p) ≡ y.numer → s ≡ x.denom → g ≡ gcd x.denom y.denom → r ≡ s / g → to_z w128 (of_z w128 p) *ℤ pos r ≡ right_part x y
+right_is : (x y : ℚ) (p : ℤ) (g r s : ℕ) → to_z w128 (of_z w128 p) ≡ y.numer → s ≡ x.denom
+    → g ≡ gcd x.denom y.denom → r ≡ s / g → to_z w128 (of_z w128 p) *ℤ pos r ≡ right_part x y
 right_is x y p g r s e f h k = rw (e, k, f, h)
 
 pub returns-in_err-left-clause-fits : goal.returns-in_err-left-clause-fits

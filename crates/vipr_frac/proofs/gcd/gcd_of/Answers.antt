@@ -1,6 +1,7 @@
 use Rattle.std.proofs.Common.{◌≡◌, sym, ap, ◌∙◌, inl, inr}
 use Rattle.vipr_spec.specs.Gcd.{gcd}
-use Rattle.vipr_frac.proofs.Steps.{gcd-step, gcd-rest, gcd-end, gcd-one, one-gcd, gcd-some, gcd-at_most}
+use Rattle.vipr_frac.proofs.Steps.{gcd-step, gcd-rest, gcd-end, gcd-one, one-gcd, gcd-some}
+use Rattle.vipr_frac.proofs.Steps.{gcd-at_most}
 use Rattle.vipr_frac.proofs.gcd.gcd_of.Goals as goal
 use Rattle.vipr_frac.proofs.gcd.gcd_of.Goals.{Then-y-eq0, After-word_gcd}
 

@@ -1,10 +1,12 @@
-use Rattle.std.proofs.Common.{◌≡◌, ℕ, ◌+◌, ◌-◌, ◌<◌, List, length, take, drop, ◌∙◌, arith, length-drop}
+use Rattle.std.proofs.Common.{◌≡◌, ℕ, ◌+◌, ◌-◌, ◌<◌, List, length, take, drop, ◌∙◌, arith}
+use Rattle.std.proofs.Common.{length-drop}
 use Rattle.std.proofs.lemmas.Bool.Decides.{nat_tests}
 use Rattle.std.proofs.lemmas.List.{take_all}
 use Rattle.vipr_spec.specs.Number.{slash_place, bottom_of}
 use Rattle.vipr_frac.proofs.number.bottom.Goals as goal
 
-behind : (s : List ℕ) (place : ℕ) → place ≡ slash_place s → place < length s → drop (place + 1) s ≡ bottom_of s
+behind : (s : List ℕ) (place : ℕ) → place ≡ slash_place s → place < length s
+    → drop (place + 1) s ≡ bottom_of s
 behind s place e h = grind (arith, nat_tests)
 
 all_of : (s : List ℕ) (k : ℕ) → take (length s - k) (drop k s) ≡ drop k s

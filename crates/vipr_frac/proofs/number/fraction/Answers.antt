@@ -1,4 +1,5 @@
-use Rattle.std.proofs.Common.{◌≡◌, ℕ, ℤ, ◌≤◌, Bool, true, false, Ok, Err, sym, ap, ◌∙◌, arith, to_z, of_z}
+use Rattle.std.proofs.Common.{◌≡◌, ℕ, ℤ, ◌≤◌, Bool, true, false, Ok, Err, sym, ap, ◌∙◌, arith, to_z}
+use Rattle.std.proofs.Common.{of_z}
 use Rattle.std.specs.Prelude.{unsigned_abs}
 use Rattle.std.specs.Int.{w128}
 use Rattle.std.proofs.lemmas.Bool.Decides.{nat_tests}
@@ -12,13 +13,15 @@ signed_small : (m : Bool) (p : ℕ) → p ≤ most → unsigned_abs (signed_inte
 signed_small true p h = omega (arith, ints)
 signed_small false p h = h
 
-kept : (m : Bool) (p : ℕ) (z : ℤ) → p ≤ most → z ≡ signed_integer m p → to_z w128 (of_z w128 z) ≡ signed_integer m p
+kept : (m : Bool) (p : ℕ) (z : ℤ) → p ≤ most → z ≡ signed_integer m p
+    → to_z w128 (of_z w128 z) ≡ signed_integer m p
 kept m p z h e = rw e (as-is (signed_integer m p) (signed_small m p h))
 
 at_zero : (m : Bool) (p q : ℕ) → p ≤ most → q ≡ 0 → written_fraction m p q ≡ Err zero_denominator
 at_zero m p q h e = grind (arith, nat_tests)
 
-at_value : (m : Bool) (p q : ℕ) → p ≤ most → q ≤ most → (q ≡ 0 → ⊥) → written_fraction m p q ≡ Ok (over (signed_integer m p) q)
+at_value : (m : Bool) (p q : ℕ) → p ≤ most → q ≤ most → (q ≡ 0 → ⊥)
+    → written_fraction m p q ≡ Ok (over (signed_integer m p) q)
 at_value m p q h k some = grind (arith, nat_tests)
 
 pub returns-then-bottom-eq0 : goal.returns-then-bottom-eq0

@@ -8,7 +8,8 @@ use Rattle.vipr_spec.specs.Number.{of_parts, signed_integer, written_fraction}
 use Rattle.vipr_frac.proofs.Fronts.{front_value}
 use Rattle.vipr_frac.proofs.number.front_fraction.Goals as goal
 
-at_value : (m : Bool) (p q : ℕ) → p ≤ most → q ≤ most → (q ≡ 0 → ⊥) → written_fraction m p q ≡ Ok (over (signed_integer m p) q)
+at_value : (m : Bool) (p q : ℕ) → p ≤ most → q ≤ most → (q ≡ 0 → ⊥)
+    → written_fraction m p q ≡ Ok (over (signed_integer m p) q)
 at_value m p q h k some = grind (arith, nat_tests)
 
 pub returns-clause-value : goal.returns-clause-value

@@ -1,4 +1,6 @@
-use Rattle.std.proofs.Common.{◌≡◌, ℕ, ◌+◌, ◌-◌, ◌*◌, ◌^◌, ◌<◌, ◌≤◌, List, Some, true, get_or, take, drop, length, arith, sym, subst, ◌∙◌, inl, inr, ap, zero-lt-suc, add-one}
+use Rattle.std.proofs.Common.{◌≡◌, ℕ, ◌+◌, ◌-◌, ◌*◌, ◌^◌, ◌<◌, ◌≤◌, List, Some, true, get_or, take}
+use Rattle.std.proofs.Common.{drop, length, arith, sym, subst, ◌∙◌, inl, inr, ap, zero-lt-suc}
+use Rattle.std.proofs.Common.{add-one}
 use Rattle.std.proofs.lemmas.List.{length-take, get_or-take}
 use Rattle.std.proofs.lemmas.Bool.{cases_lt}
 use Rattle.std.proofs.lemmas.Bool.Decides.{nat_tests}
@@ -8,7 +10,9 @@ use Rattle.vipr_spec.proofs.Laws.{next_digit, at_end}
 use Rattle.vipr_frac.proofs.number.front_natural.Goals as goal
 
 -- the digits so far write the value
-reached : (value i : ℕ) (bs : List ℕ) → ((j : ℕ) → i ≤ j → natural_after value (drop i (take j bs)) ≡ natural_after 0 (take j bs)) → natural_after 0 (take i bs) ≡ Some value
+reached : (value i : ℕ) (bs : List ℕ)
+    → ((j : ℕ) → i ≤ j → natural_after value (drop i (take j bs)) ≡ natural_after 0 (take j bs))
+    → natural_after 0 (take i bs) ≡ Some value
 reached value i bs same = sym (same i (omega arith)) ∙ at_end value i (take i bs) (omega (arith, length-take i bs))
 
 small : (value i : ℕ) → value < 10 ^ i → i ≤ 18 → value < 10 ^ 18
@@ -18,7 +22,10 @@ below : (value i : ℕ) → value < 10 ^ i → i < 18 → value < 10 ^ 17
 below value i h k = let le : i ≤ 17 = omega arith in let p : 10 ^ i ≤ 10 ^ 17 = pow-le-pow_right (zero-lt-suc 9) le in omega arith
 
 -- one digit further
-next : (value i j : ℕ) (bs : List ℕ) → i < length bs → i < j → 48 ≤ get_or bs i 0 → get_or bs i 0 ≤ 57 → natural_after (value * 10 + (get_or bs i 0 - 48)) (drop (i + 1) (take j bs)) ≡ natural_after value (drop i (take j bs))
+next : (value i j : ℕ) (bs : List ℕ) → i < length bs → i < j → 48 ≤ get_or bs i 0
+    → get_or bs i 0 ≤ 57
+    → natural_after (value * 10 + (get_or bs i 0 - 48)) (drop (i + 1) (take j bs))
+    ≡ natural_after value (drop i (take j bs))
 next value i j bs within more low high =
     let at : get_or (take j bs) i 0 ≡ get_or bs i 0 = get_or-take j bs i 0 more in
     let h : i < length (take j bs) = omega (arith, length-take j bs) in

@@ -1,4 +1,5 @@
-use Rattle.std.proofs.Common.{rules, ◌≡◌, ◌≢◌, ◌⊎◌, ℕ, ◌+◌, ◌-◌, ◌*◌, ◌^◌, ◌<◌, ◌≤◌, min, get_or, length, drop, Some, false, arith, refl, sym, subst, ◌∙◌, ap, inl, inr}
+use Rattle.std.proofs.Common.{rules, ◌≡◌, ◌≢◌, ◌⊎◌, ℕ, ◌+◌, ◌-◌, ◌*◌, ◌^◌, ◌<◌, ◌≤◌, min, get_or}
+use Rattle.std.proofs.Common.{length, drop, Some, false, arith, refl, sym, subst, ◌∙◌, ap, inl, inr}
 use Rattle.std.specs.Option.{option_map}
 use Rattle.std.proofs.Math.Nat.{min_comm}
 use Rattle.std.proofs.lemmas.List.{length-drop, get_or-drop}
@@ -7,7 +8,9 @@ use Rattle.vipr_spec.specs.Digits.{natural_after, is_digit}
 use Rattle.vipr_spec.proofs.Laws.{natural_of_empty, natural_of_some, next_digit, next_other, at_end}
 use Rattle.vipr_frac.proofs.Fronts.{behind, onward, other, part_fits}
 use Rattle.vipr_frac.proofs.number.long_natural.Goals as goal
-use Rattle.vipr_frac.proofs.number.long_natural.Goals.{then-b-lt48-via-then-b-lt48, then-b-lt48-via-else-b-lt48+then-b-gt57, then-value-2, else-value-2}
+use Rattle.vipr_frac.proofs.number.long_natural.Goals.{then-b-lt48-via-then-b-lt48}
+use Rattle.vipr_frac.proofs.number.long_natural.Goals.{then-b-lt48-via-else-b-lt48+then-b-gt57}
+use Rattle.vipr_frac.proofs.number.long_natural.Goals.{then-value-2, else-value-2}
 
 nothing : (i : ℕ) → i + 0 ≡ i
 nothing i = omega arith

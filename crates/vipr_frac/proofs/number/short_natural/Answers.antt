@@ -1,8 +1,10 @@
-use Rattle.std.proofs.Common.{rules, ◌≡◌, ◌≢◌, ℕ, ◌+◌, ◌-◌, ◌*◌, ◌^◌, ◌<◌, ◌≤◌, get_or, length, lit<, arith, sym, ◌∙◌, inl, inr, zero-lt-suc, add-one}
+use Rattle.std.proofs.Common.{rules, ◌≡◌, ◌≢◌, ℕ, ◌+◌, ◌-◌, ◌*◌, ◌^◌, ◌<◌, ◌≤◌, get_or, length}
+use Rattle.std.proofs.Common.{lit<, arith, sym, ◌∙◌, inl, inr, zero-lt-suc, add-one}
 use Rattle.std.proofs.Math.Nat.{pow-le-pow_right, pow-suc}
 use Rattle.vipr_spec.proofs.Laws.{natural_of_empty, natural_of_some, next_digit, next_other, at_end}
 use Rattle.vipr_frac.proofs.number.short_natural.Goals as goal
-use Rattle.vipr_frac.proofs.number.short_natural.Goals.{then-b-lt48-via-then-b-lt48, then-b-lt48-via-else-b-lt48+then-b-gt57}
+use Rattle.vipr_frac.proofs.number.short_natural.Goals.{then-b-lt48-via-then-b-lt48}
+use Rattle.vipr_frac.proofs.number.short_natural.Goals.{then-b-lt48-via-else-b-lt48+then-b-gt57}
 
 pub returns-then-is_empty-clause-value : goal.returns-then-is_empty-clause-value
 returns-then-is_empty-clause-value c = let e : length c.args.s.now ≡ 0 = search rules in sym (natural_of_empty c.args.s.now e)

@@ -4,7 +4,8 @@ use Rattle.std.proofs.Math.Nat.{mul-pos}
 use Rattle.std.proofs.lemmas.Int.{to_z-of_z}
 use Rattle.vipr_spec.specs.Gcd.{gcd}
 use Rattle.vipr_frac.proofs.Steps.{gcd-rest, gcd-swap}
-use Rattle.vipr_frac.proofs.Unreduced.{whole_factor, common_sum, factor_some, first_factor, second_factor}
+use Rattle.vipr_frac.proofs.Unreduced.{whole_factor, common_sum, factor_some, first_factor}
+use Rattle.vipr_frac.proofs.Unreduced.{second_factor}
 use Rattle.vipr_frac.proofs.pairs.mixed_sum.Goals as goal
 use Rattle.vipr_frac.proofs.pairs.mixed_sum.Goals.{After-word_gcd-g}
 

@@ -3,7 +3,8 @@ use Rattle.std.proofs.lemmas.Bool.{cases_lt}
 use Rattle.std.proofs.lemmas.List.{get_or_default, get_or_past}
 use Rattle.vipr_spec.specs.Fraction.{ℚ, zero_ℚ}
 use Rattle.vipr_linear.proofs.places.have_each.Goals as goal
-use Rattle.vipr_linear.proofs.places.have_each.Goals.{then-place-sums-via-then-place-sums, then-place-sums-via-else-place-sums+then-not-is}
+use Rattle.vipr_linear.proofs.places.have_each.Goals.{then-place-sums-via-then-place-sums}
+use Rattle.vipr_linear.proofs.places.have_each.Goals.{then-place-sums-via-else-place-sums+then-not-is}
 
 pub loop-variable-preserved : goal.loop-variable-preserved
 loop-variable-preserved c = λ k d l.

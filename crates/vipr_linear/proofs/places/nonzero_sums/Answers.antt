@@ -3,7 +3,8 @@ use Rattle.std.proofs.lemmas.List.Elements.{All-push}
 use Rattle.vipr_spec.specs.Fraction.{ℚ, IsBounded}
 use Rattle.vipr_linear.proofs.Marks.{kept, left_out, all_picked}
 use Rattle.vipr_linear.proofs.places.nonzero_sums.Goals as goal
-use Rattle.vipr_linear.proofs.places.nonzero_sums.Goals.{then-not-is_zero+in_ok-push, else-not-is_zero}
+use Rattle.vipr_linear.proofs.places.nonzero_sums.Goals.{then-not-is_zero+in_ok-push}
+use Rattle.vipr_linear.proofs.places.nonzero_sums.Goals.{else-not-is_zero}
 
 pub loop-variable-preserved : goal.loop-variable-preserved
 loop-variable-preserved c =

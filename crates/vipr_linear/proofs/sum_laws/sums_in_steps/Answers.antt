@@ -1,5 +1,6 @@
 use Rattle.vipr_spec.proofs.Laws.{one_sense, suitable_front, fitting_front}
-use Rattle.vipr_linear.proofs.StepByStep.{start_held, suitable_known, fits_known, step_held, sum_held}
+use Rattle.vipr_linear.proofs.StepByStep.{start_held, suitable_known, fits_known, step_held}
+use Rattle.vipr_linear.proofs.StepByStep.{sum_held}
 use Rattle.vipr_linear.proofs.sum_laws.sums_in_steps.Goals as goal
 
 pub returns-clause-start : goal.returns-clause-start

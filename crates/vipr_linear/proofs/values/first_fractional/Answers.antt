@@ -1,7 +1,8 @@
 use Rattle.std.proofs.Common.{inl, inr}
 use Rattle.vipr_linear.proofs.Points.{all_left, none_left_whole, one_less, first_found}
 use Rattle.vipr_linear.proofs.values.first_fractional.Goals as goal
-use Rattle.vipr_linear.proofs.values.first_fractional.Goals.{else-not-is_whole-via-then-not-is_whole+else-contains, else-not-is_whole-via-else-not-is_whole}
+use Rattle.vipr_linear.proofs.values.first_fractional.Goals.{else-not-is_whole-via-then-not-is_whole+else-contains}
+use Rattle.vipr_linear.proofs.values.first_fractional.Goals.{else-not-is_whole-via-else-not-is_whole}
 
 pub loop-variable-init : goal.loop-variable-init
 loop-variable-init c = all_left c.args.ints.now c.args.solution.now.0 c.entries-variable-items.result.now c.entries-variable-items.ensures.rising c.entries-variable-items.ensures.list

@@ -7,25 +7,40 @@ use Rattle.vipr_linear.specs.Constraint.{condition_of}
 use Rattle.vipr_rules.specs.Apply.{PassesTestsIn, free_tests, index_tests}
 use Rattle.vipr_rules.specs.Context.{IsContextOf}
 use Rattle.vipr_rules.specs.Profile.{profile_of}
-use Rattle.vipr_rules.proofs.BranchLemmas.{constraint_passes, constraint_stops, joined_set, stops_at_first_conclusion, stops_at_first_assumption, stops_at_second_conclusion, stops_at_second_assumption, stops_unless_first_assumed, stops_unless_second_assumed, stops_unless_split, stops_unless_first_dominates, stops_unless_second_dominates, all_found, free_pass, all_pass}
+use Rattle.vipr_rules.proofs.BranchLemmas.{constraint_passes, constraint_stops, joined_set}
+use Rattle.vipr_rules.proofs.BranchLemmas.{stops_at_first_conclusion, stops_at_first_assumption}
+use Rattle.vipr_rules.proofs.BranchLemmas.{stops_at_second_conclusion, stops_at_second_assumption}
+use Rattle.vipr_rules.proofs.BranchLemmas.{stops_unless_first_assumed, stops_unless_second_assumed}
+use Rattle.vipr_rules.proofs.BranchLemmas.{stops_unless_split, stops_unless_first_dominates}
+use Rattle.vipr_rules.proofs.BranchLemmas.{stops_unless_second_dominates, all_found, free_pass}
+use Rattle.vipr_rules.proofs.BranchLemmas.{all_pass}
 use Rattle.vipr_rules.proofs.SoundLemmas.{branches_true}
 use Rattle.vipr_rules.proofs.branches.join_branches.Given.{Over}
 use Rattle.vipr_rules.proofs.branches.join_branches.Goals as goal
-use Rattle.vipr_rules.proofs.branches.join_branches.Goals.{In_ok-second_assumption, In_ok-check_assumption-2, In_ok-check_split, In_ok-check_domination, In_ok-check_domination-2}
+use Rattle.vipr_rules.proofs.branches.join_branches.Goals.{In_ok-second_assumption}
+use Rattle.vipr_rules.proofs.branches.join_branches.Goals.{In_ok-check_assumption-2}
+use Rattle.vipr_rules.proofs.branches.join_branches.Goals.{In_ok-check_split}
+use Rattle.vipr_rules.proofs.branches.join_branches.Goals.{In_ok-check_domination}
+use Rattle.vipr_rules.proofs.branches.join_branches.Goals.{In_ok-check_domination-2}
 
 -- ---- the tests that are passed after a step, of a derivation e in a certificate d
 
 -- each index is that of a constraint
-found : (g : Over) (c : In_ok-second_assumption g) (P : Profile) (d : Certificate) (e : Derivation) → IsContextOf g.S.Rows.table P d c.args.context.now
-    → PassesTestsIn P d e (index_tests c.args.first.conclusion ++ index_tests c.args.first.assumption ++ index_tests c.args.second.conclusion ++ index_tests c.args.second.assumption)
+found : (g : Over) (c : In_ok-second_assumption g) (P : Profile) (d : Certificate) (e : Derivation)
+    → IsContextOf g.S.Rows.table P d c.args.context.now
+    → PassesTestsIn P d e (index_tests c.args.first.conclusion
+    ++ index_tests c.args.first.assumption ++ index_tests c.args.second.conclusion
+    ++ index_tests c.args.second.assumption)
 found g c P d e is =
     all_found P d e c.args.first c.args.second
     (c.in_ok-first_conclusion.ensures.known P d e is).0 (c.in_ok-first_assumption.ensures.known P d e is).0
     (c.in_ok-second_conclusion.ensures.known P d e is).0 (c.in_ok-second_assumption.ensures.known P d e is).0
 
 -- both assumptions are assumed
-free : (g : Over) (c : In_ok-check_assumption-2 g) (P : Profile) (d : Certificate) (e : Derivation) → IsContextOf g.S.Rows.table P d c.args.context.now
-    → PassesTestsIn P d e (free_tests (uns c.args.first.conclusion c.args.first.assumption c.args.second.conclusion c.args.second.assumption))
+free : (g : Over) (c : In_ok-check_assumption-2 g) (P : Profile) (d : Certificate) (e : Derivation)
+    → IsContextOf g.S.Rows.table P d c.args.context.now
+    → PassesTestsIn P d e (free_tests (uns c.args.first.conclusion c.args.first.assumption
+    c.args.second.conclusion c.args.second.assumption))
 free g c P d e is =
     let first = c.in_ok-first_assumption.ensures.known P d e is in
     let second = c.in_ok-second_assumption.ensures.known P d e is in
@@ -34,7 +49,8 @@ free g c P d e is =
     (c.in_ok-check_assumption.ensures.tests P d e first.1) (c.in_ok-check_assumption-2.ensures.tests P d e second.1)
 
 -- they split
-splits : (g : Over) (c : In_ok-check_split g) (P : Profile) (d : Certificate) (e : Derivation) → IsContextOf g.S.Rows.table P d c.args.context.now
+splits : (g : Over) (c : In_ok-check_split g) (P : Profile) (d : Certificate) (e : Derivation)
+    → IsContextOf g.S.Rows.table P d c.args.context.now
     → PassesTestsIn P d e (split c.args.first.assumption c.args.second.assumption ∷ [])
 splits g c P d e is =
     c.in_ok-check_split.ensures.tests P d e c.args.first.assumption c.args.second.assumption is.profile
@@ -43,14 +59,18 @@ splits g c P d e is =
     (ap condition_of c.constraint-2.ensures ∙ (c.in_ok-second_assumption.ensures.known P d e is).1.says)
 
 -- the first conclusion dominates the stated constraint
-first_dominates : (g : Over) (c : In_ok-check_domination g) (P : Profile) (d : Certificate) (e : Derivation) → IsContextOf g.S.Rows.table P d c.args.context.now → condition_of c.args.stated.now ≡ condition e.stated
+first_dominates : (g : Over) (c : In_ok-check_domination g) (P : Profile) (d : Certificate)
+    (e : Derivation) → IsContextOf g.S.Rows.table P d c.args.context.now
+    → condition_of c.args.stated.now ≡ condition e.stated
     → PassesTestsIn P d e (by_constraint c.args.first.conclusion ∷ [])
 first_dominates g c P d e is says =
     constraint_passes P d e c.args.first.conclusion _ c.args.stated.now
     (ap condition_of c.constraint-3.ensures ∙ (c.in_ok-first_conclusion.ensures.known P d e is).1.says) says c.in_ok-check_domination.ensures
 
 -- so does the second
-second_dominates : (g : Over) (c : In_ok-check_domination-2 g) (P : Profile) (d : Certificate) (e : Derivation) → IsContextOf g.S.Rows.table P d c.args.context.now → condition_of c.args.stated.now ≡ condition e.stated
+second_dominates : (g : Over) (c : In_ok-check_domination-2 g) (P : Profile) (d : Certificate)
+    (e : Derivation) → IsContextOf g.S.Rows.table P d c.args.context.now
+    → condition_of c.args.stated.now ≡ condition e.stated
     → PassesTestsIn P d e (by_constraint c.args.second.conclusion ∷ [])
 second_dominates g c P d e is says =
     constraint_passes P d e c.args.second.conclusion _ c.args.stated.now
@@ -68,12 +88,14 @@ returns-in_err-first_assumption-clause-ruled g c = λ P d e is says.
     let p = err_from_is_err_and c.from_residual-in_err-first_assumption.result c.from_residual-in_err-first_assumption.ensures.1 in
     rw (p.1, p.2) (inr (stops_at_first_assumption P d e c.args.first c.args.second (c.in_ok-first_conclusion.ensures.known P d e is).0 _ (c.in_err-first_assumption.ensures.known P d e is)))
 
-pub returns-in_err-second_conclusion-clause-ruled : goal.returns-in_err-second_conclusion-clause-ruled
+pub returns-in_err-second_conclusion-clause-ruled :
+    goal.returns-in_err-second_conclusion-clause-ruled
 returns-in_err-second_conclusion-clause-ruled g c = λ P d e is says.
     let p = err_from_is_err_and c.from_residual-in_err-second_conclusion.result c.from_residual-in_err-second_conclusion.ensures.1 in
     rw (p.1, p.2) (inr (stops_at_second_conclusion P d e c.args.first c.args.second (c.in_ok-first_conclusion.ensures.known P d e is).0 (c.in_ok-first_assumption.ensures.known P d e is).0 _ (c.in_err-second_conclusion.ensures.known P d e is)))
 
-pub returns-in_err-second_assumption-clause-ruled : goal.returns-in_err-second_assumption-clause-ruled
+pub returns-in_err-second_assumption-clause-ruled :
+    goal.returns-in_err-second_assumption-clause-ruled
 returns-in_err-second_assumption-clause-ruled g c = λ P d e is says.
     let p = err_from_is_err_and c.from_residual-in_err-second_assumption.result c.from_residual-in_err-second_assumption.ensures.1 in
     rw (p.1, p.2) (inr (stops_at_second_assumption P d e c.args.first c.args.second (c.in_ok-first_conclusion.ensures.known P d e is).0 (c.in_ok-first_assumption.ensures.known P d e is).0 (c.in_ok-second_conclusion.ensures.known P d e is).0 _ (c.in_err-second_assumption.ensures.known P d e is)))
@@ -85,7 +107,8 @@ returns-in_err-check_assumption-clause-ruled g c = λ P d e is says.
     let stops = c.in_err-check_assumption.ensures.tests P d e (c.in_ok-first_assumption.ensures.known P d e is).1 in
     rw (p.1, p.2) (inr (stops_unless_first_assumed P d e c.args.first c.args.second (found g at.In_ok-second_assumption P d e is) _ stops))
 
-pub returns-in_err-check_assumption-2-clause-ruled : goal.returns-in_err-check_assumption-2-clause-ruled
+pub returns-in_err-check_assumption-2-clause-ruled :
+    goal.returns-in_err-check_assumption-2-clause-ruled
 returns-in_err-check_assumption-2-clause-ruled g c = λ P d e is says.
     let at = goal.at.returns-in_err-check_assumption-2-clause-ruled g c in
     let p = err_from_is_err_and c.from_residual-in_err-check_assumption-2.result c.from_residual-in_err-check_assumption-2.ensures.1 in
@@ -118,7 +141,8 @@ returns-in_err-check_domination-clause-ruled g c = λ P d e is says.
           (constraint_stops P d e c.args.first.conclusion _ c.args.stated.now conclusion says _ known))
     ])
 
-pub returns-in_err-check_domination-2-clause-ruled : goal.returns-in_err-check_domination-2-clause-ruled
+pub returns-in_err-check_domination-2-clause-ruled :
+    goal.returns-in_err-check_domination-2-clause-ruled
 returns-in_err-check_domination-2-clause-ruled g c = λ P d e is says.
     let at = goal.at.returns-in_err-check_domination-2-clause-ruled g c in
     let p = err_from_is_err_and c.from_residual-in_err-check_domination-2.result c.from_residual-in_err-check_domination-2.ensures.1 in

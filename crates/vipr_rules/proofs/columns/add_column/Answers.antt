@@ -1,7 +1,8 @@
 use Rattle.std.proofs.Common.{arith, ap, sym, subst, ◌∙◌, ◌<◌, length, get_or}
 use Rattle.std.proofs.lemmas.List.{get_or_default}
 use Rattle.vipr_rules.specs.Columns.{given_of}
-use Rattle.vipr_rules.proofs.ColumnLemmas.{half_sums_start, half_sums_next, half_sums_end, given_entries, place_read, listed_set, given_places}
+use Rattle.vipr_rules.proofs.ColumnLemmas.{half_sums_start, half_sums_next, half_sums_end}
+use Rattle.vipr_rules.proofs.ColumnLemmas.{given_entries, place_read, listed_set, given_places}
 use Rattle.vipr_rules.proofs.columns.add_column.Goals as goal
 
 pub loop-index-init : goal.loop-index-init

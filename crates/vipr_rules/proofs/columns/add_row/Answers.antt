@@ -1,6 +1,7 @@
 use Rattle.std.proofs.Common.{arith, ap, sym, ◌∙◌, ◌<◌, ◌++◌, ◌∷◌, [], length, rules}
 use Rattle.vipr_spec.specs.Constraint.{at}
-use Rattle.vipr_rules.proofs.ColumnLemmas.{columns_same, rank, entry_below, half_start, half_next, half_end, column_read}
+use Rattle.vipr_rules.proofs.ColumnLemmas.{columns_same, rank, entry_below, half_start, half_next}
+use Rattle.vipr_rules.proofs.ColumnLemmas.{half_end, column_read}
 use Rattle.vipr_rules.proofs.columns.add_row.Goals as goal
 
 pub returns-then-is_same : goal.returns-then-is_same

@@ -2,7 +2,8 @@ use Rattle.std.proofs.Common.{arith, sym, subst, ◌∙◌, ◌<◌, ◌≤◌, 
 use Rattle.std.proofs.lemmas.Bool.Decides.{nat_tests}
 use Rattle.vipr_spec.specs.Constraint.{at}
 use Rattle.vipr_rules.specs.Columns.{given_of, ArePlaces}
-use Rattle.vipr_rules.proofs.ColumnLemmas.{summed_start, summed_end, rest_past, summed_here, summed_next, coordinate_is, column_read}
+use Rattle.vipr_rules.proofs.ColumnLemmas.{summed_start, summed_end, rest_past, summed_here}
+use Rattle.vipr_rules.proofs.ColumnLemmas.{summed_next, coordinate_is, column_read}
 use Rattle.vipr_rules.proofs.columns.add_solution.Goals as goal
 
 pub loop-variable-init : goal.loop-variable-init

@@ -4,7 +4,8 @@ use Rattle.vipr_spec.specs.Constraint.{Constraint, Compares}
 use Rattle.vipr_rules.specs.Columns.{given_of, HasRow, AreFalseAtZero}
 use Rattle.vipr_rules.proofs.ColumnLemmas.{false_next, false_more, given_nth}
 use Rattle.vipr_rules.proofs.columns.false_at_zero.Goals as goal
-use Rattle.vipr_rules.proofs.columns.false_at_zero.Goals.{then-is_false_at_zero+in_ok-push, else-is_false_at_zero}
+use Rattle.vipr_rules.proofs.columns.false_at_zero.Goals.{then-is_false_at_zero+in_ok-push}
+use Rattle.vipr_rules.proofs.columns.false_at_zero.Goals.{else-is_false_at_zero}
 
 pub loop-index-preserved : goal.loop-index-preserved
 loop-index-preserved c =

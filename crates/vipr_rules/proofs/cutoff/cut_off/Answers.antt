@@ -2,10 +2,12 @@ use Rattle.std.proofs.Common.{◌≡◌, Some, None, option_copied, sym, ap, sub
 use Rattle.std.specs.Prelude.{IfSome}
 use Rattle.std.proofs.lemmas.Result.{err_from_is_err_and}
 use Rattle.vipr_spec.specs.Constraint.{IsTrueAt}
-use Rattle.vipr_spec.specs.Certificate.{Problem, variables, objective_at, objective_constraint, reaches, IsAsGood}
+use Rattle.vipr_spec.specs.Certificate.{Problem, variables, objective_at, objective_constraint}
+use Rattle.vipr_spec.specs.Certificate.{reaches, IsAsGood}
 use Rattle.vipr_spec.specs.Soundness.{IsBestValue}
 use Rattle.vipr_spec.proofs.Laws.{dominates_true}
-use Rattle.vipr_rules.proofs.CutoffLemmas.{none_listed, listed_passes, cut_passes, cut_not_dominated, reached}
+use Rattle.vipr_rules.proofs.CutoffLemmas.{none_listed, listed_passes, cut_passes}
+use Rattle.vipr_rules.proofs.CutoffLemmas.{cut_not_dominated, reached}
 use Rattle.vipr_rules.proofs.StepLemmas.{no_set}
 use Rattle.vipr_rules.proofs.cutoff.cut_off.Goals as goal
 

@@ -3,7 +3,8 @@ use Rattle.std.proofs.lemmas.Result.{err_from_is_err_and}
 use Rattle.vipr_spec.specs.Constraint.{at}
 use Rattle.vipr_spec.specs.Certificate.{variables}
 use Rattle.vipr_rules.specs.Solution.{IsValueOf}
-use Rattle.vipr_rules.proofs.SolutionLemmas.{as_many, given_is, given_below, true_next, constraint_fails, all_true}
+use Rattle.vipr_rules.proofs.SolutionLemmas.{as_many, given_is, given_below, true_next}
+use Rattle.vipr_rules.proofs.SolutionLemmas.{constraint_fails, all_true}
 use Rattle.vipr_rules.proofs.solution.test_constraints.Goals as goal
 
 pub returns-in_err-test_constraint : goal.returns-in_err-test_constraint

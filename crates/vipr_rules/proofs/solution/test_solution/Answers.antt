@@ -5,7 +5,8 @@ use Rattle.vipr_spec.specs.Certificate.{variables}
 use Rattle.vipr_spec.specs.Tests.{objective_fits}
 use Rattle.vipr_linear.specs.Values.{IsLaidOut}
 use Rattle.vipr_rules.specs.Solution.{IsValueOf}
-use Rattle.vipr_rules.proofs.SolutionLemmas.{integers_fail, constraints_fail, objective_last, objective_below}
+use Rattle.vipr_rules.proofs.SolutionLemmas.{integers_fail, constraints_fail, objective_last}
+use Rattle.vipr_rules.proofs.SolutionLemmas.{objective_below}
 use Rattle.vipr_rules.proofs.solution.test_solution.Goals as goal
 
 pub returns-in_err-test_integers-clause-tested : goal.returns-in_err-test_integers-clause-tested
@@ -14,7 +15,8 @@ returns-in_err-test_integers-clause-tested c =
     let q = err_from_is_err_and c.from_residual.result c.from_residual.ensures.1 in
     rw (q.1, q.2) (integers_fail p c.args.solution.now.0 _ (c.in_err-test_integers.ensures p (sym c.ints.ensures.integers) c.objective-objective.ensures.writes.shape.integers))
 
-pub returns-in_err-test_constraints-clause-tested : goal.returns-in_err-test_constraints-clause-tested
+pub returns-in_err-test_constraints-clause-tested :
+    goal.returns-in_err-test_constraints-clause-tested
 returns-in_err-test_constraints-clause-tested c =
     let p = c.args.p.now in
     let s = c.args.solution.now.0 in

@@ -1,11 +1,13 @@
-use Rattle.std.proofs.Common.{◌+◌, [], ◌∷◌, ◌++◌, Some, None, take, length, sym, ◌∙◌, ap, subst, subst₂, refl, inr, arith}
+use Rattle.std.proofs.Common.{◌+◌, [], ◌∷◌, ◌++◌, Some, None, take, length, sym, ◌∙◌, ap, subst}
+use Rattle.std.proofs.Common.{subst₂, refl, inr, arith}
 use Rattle.std.specs.Prelude.{flat_map}
 use Rattle.std.proofs.lemmas.Result.{err_from_is_err_and}
 use Rattle.std.proofs.lemmas.List.{length-replicate}
 use Rattle.vipr_spec.specs.Fraction.{zero_ℚ}
 use Rattle.vipr_spec.specs.Constraint.{condition, at, NamesBelow, IsTrueAt}
 use Rattle.vipr_spec.specs.Certificate.{variables, entries}
-use Rattle.vipr_spec.specs.Steps.{PassesStep, FirstFailing, reference_tests, entry_tests, sum_tests, IsSum}
+use Rattle.vipr_spec.specs.Steps.{PassesStep, FirstFailing, reference_tests, entry_tests, sum_tests}
+use Rattle.vipr_spec.specs.Steps.{IsSum}
 use Rattle.vipr_spec.proofs.Laws.{not_zero}
 use Rattle.vipr_linear.specs.Accumulator.{Accumulator, Holds, nothing_added, held_condition}
 use Rattle.vipr_linear.specs.Constraint.{condition_of}
@@ -13,9 +15,11 @@ use Rattle.vipr_linear.specs.declared.constraint.Constraint.{Constraint}
 use Rattle.vipr_linear.proofs.Laws.{zero_test, start_held, held_sum}
 use Rattle.vipr_rules.specs.Context.{IsSetOfAll, set_of, set_found}
 use Rattle.vipr_rules.specs.Apply.{PassesTestsIn, SumStops}
-use Rattle.vipr_rules.proofs.EntryTests.{one_more, take_all, entry_passes, sum_stops, references_more, reference_fails, references_rest, to_end}
+use Rattle.vipr_rules.proofs.EntryTests.{one_more, take_all, entry_passes, sum_stops}
+use Rattle.vipr_rules.proofs.EntryTests.{references_more, reference_fails, references_rest, to_end}
 use Rattle.vipr_rules.proofs.StepLemmas.{stops_first, stops_second, passes_both}
-use Rattle.vipr_rules.proofs.SumLemmas.{entries_more, unused_held, IsTrueSum, nothing_true, more_true, sum_is_true}
+use Rattle.vipr_rules.proofs.SumLemmas.{entries_more, unused_held, IsTrueSum, nothing_true}
+use Rattle.vipr_rules.proofs.SumLemmas.{more_true, sum_is_true}
 use Rattle.vipr_rules.proofs.UnionLemmas.{IsSetOfAll-none, without_it, with_it}
 use Rattle.vipr_table.specs.Unions.{union_so_far}
 use Rattle.vipr_rules.proofs.SoundLemmas.{true_left, true_right}

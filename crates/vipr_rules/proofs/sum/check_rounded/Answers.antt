@@ -31,6 +31,7 @@ returns-in-Ok-Absurd-clause-dominates c =
     let dominates = rw c.in-Ok-Absurd.field-0-is at (c.in-Ok-Absurd.ensures.dominates (condition_of c.args.stated.now)) in
     (c.in-Ok-Absurd.ensures.ok.0 refl, dominates.0 tt)
 
-pub returns-in_ok-not_roundable-in-Err-clause-tests : goal.returns-in_ok-not_roundable-in-Err-clause-tests
+pub returns-in_ok-not_roundable-in-Err-clause-tests :
+    goal.returns-in_ok-not_roundable-in-Err-clause-tests
 returns-in_ok-not_roundable-in-Err-clause-tests c = λ P d e es sum ints says.
     inr (not_roundable P d e es c.args.sum sum c.args.ints.now ints (λ w. let ok = c.in-Err.ensures.ok.1 w in absurd (cc)) _ (c.in_ok-not_roundable-in-Err.ensures ∙ ap (λ x. Some (cause.not_roundable, shown_sum (condition_of x))) c.in-Err.ensures.back))

@@ -4,7 +4,8 @@ use Rattle.vipr_spec.specs.Certificate.{variables}
 use Rattle.vipr_spec.specs.Steps.{sum_tests, by_sum}
 use Rattle.vipr_spec.proofs.Laws.{dominates_true}
 use Rattle.vipr_linear.specs.Accumulator.{held_condition}
-use Rattle.vipr_rules.proofs.StepLemmas.{stops_first, stops_second, passes_both, dominated, not_dominated}
+use Rattle.vipr_rules.proofs.StepLemmas.{stops_first, stops_second, passes_both, dominated}
+use Rattle.vipr_rules.proofs.StepLemmas.{not_dominated}
 use Rattle.vipr_rules.proofs.sum.combine.Goals as goal
 
 pub returns-in_err-assumptions-clause-ruled : goal.returns-in_err-assumptions-clause-ruled

@@ -1,11 +1,14 @@
 use Rattle.std.proofs.lemmas.Bool.Decides.{nat_tests}
-use Rattle.std.proofs.Common.{◌≡◌, ℕ, ◌+◌, ◌<◌, Bool, false, List, ◌∷◌, [], ◌++◌, length, drop, slice_index, refl, subst, sym, arith}
+use Rattle.std.proofs.Common.{◌≡◌, ℕ, ◌+◌, ◌<◌, Bool, false, List, ◌∷◌, [], ◌++◌, length, drop}
+use Rattle.std.proofs.Common.{slice_index, refl, subst, sym, arith}
 use Rattle.vipr_spec.specs.Tokens.{is_white, tokens_from}
 use Rattle.vipr_scan.proofs.place.white.Goals as goal
 
 -- a space in front is passed over
-behind_space : (fails : Bool) (offset : ℕ) (bytes rest : List ℕ) → 1 < length bytes → slice_index bytes 0 ≡ 32 →
-    tokens_from fails false offset (bytes ++ rest) ≡ tokens_from fails false (offset + 1) (drop 1 bytes ++ rest)
+behind_space : (fails : Bool) (offset : ℕ) (bytes rest : List ℕ) → 1 < length bytes
+    → slice_index bytes 0 ≡ 32 →
+    tokens_from fails false offset (bytes ++ rest)
+    ≡ tokens_from fails false (offset + 1) (drop 1 bytes ++ rest)
 unfolding tokens_from is_white
 behind_space fails offset bytes rest more is = elim bytes as (λ b. 1 < length b → slice_index b 0 ≡ 32 → tokens_from fails false offset (b ++ rest) ≡ tokens_from fails false (offset + 1) (drop 1 b ++ rest)) [
   | [] ↦ λ m i. absurd (omega (arith, m))

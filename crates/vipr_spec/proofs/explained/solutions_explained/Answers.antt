@@ -1,4 +1,5 @@
-use Rattle.vipr_spec.proofs.Explaining.{solution_fault, solution_passes, solution_fails, solutions_unmet, derivations_fault, derivations_begin}
+use Rattle.vipr_spec.proofs.Explaining.{solution_fault, solution_passes, solution_fails}
+use Rattle.vipr_spec.proofs.Explaining.{solutions_unmet, derivations_fault, derivations_begin}
 use Rattle.vipr_spec.proofs.explained.solutions_explained.Goals as goal
 
 pub returns : goal.returns

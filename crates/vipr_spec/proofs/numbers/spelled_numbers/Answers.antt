@@ -1,4 +1,5 @@
-use Rattle.vipr_spec.proofs.NumberReads.{number_sound, number_complete, one_number, text_spelled, text_short}
+use Rattle.vipr_spec.proofs.NumberReads.{number_sound, number_complete, one_number, text_spelled}
+use Rattle.vipr_spec.proofs.NumberReads.{text_short}
 use Rattle.vipr_spec.proofs.numbers.spelled_numbers.Goals as goal
 
 pub returns : goal.returns

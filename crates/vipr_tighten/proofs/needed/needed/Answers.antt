@@ -1,10 +1,12 @@
-use Rattle.std.proofs.Common.{◌≡◌, ◌+◌, ◌-◌, Bool, true, false, Vec, Global, vec_len, map, length, replicate, arith, sym, ap, ◌∙◌, subst}
+use Rattle.std.proofs.Common.{◌≡◌, ◌+◌, ◌-◌, Bool, true, false, Vec, Global, vec_len, map, length}
+use Rattle.std.proofs.Common.{replicate, arith, sym, ap, ◌∙◌, subst}
 use Rattle.std.proofs.lemmas.List.{length-map, with_items_is}
 use Rattle.vipr_spec.specs.Tightened.{refers_to}
 use Rattle.vipr_cert.specs.Items.{reason_of, derivation_of}
 use Rattle.vipr_cert.specs.declared.items.Derivation.{Derivation}
 use Rattle.vipr_tighten.specs.Passes.{MarksAlso}
-use Rattle.vipr_tighten.proofs.Marking.{AreMarksFrom, begin_none, begin_goal, next_marked, next_unmarked, marks_end, mark_read}
+use Rattle.vipr_tighten.proofs.Marking.{AreMarksFrom, begin_none, begin_goal, next_marked}
+use Rattle.vipr_tighten.proofs.Marking.{next_unmarked, marks_end, mark_read}
 use Rattle.vipr_tighten.proofs.needed.needed.Goals as goal
 use Rattle.vipr_tighten.proofs.needed.needed.Goals.{in-Some, in_default}
 

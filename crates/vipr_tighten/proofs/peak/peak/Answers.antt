@@ -1,9 +1,11 @@
-use Rattle.std.proofs.Common.{◌≡◌, ℕ, Vec, Global, vec_len, length, max, slice_index_or, arith, sym, ◌∙◌, ap, ap₂}
+use Rattle.std.proofs.Common.{◌≡◌, ℕ, Vec, Global, vec_len, length, max, slice_index_or, arith, sym}
+use Rattle.std.proofs.Common.{◌∙◌, ap, ap₂}
 use Rattle.std.proofs.lemmas.List.{length-map, get_or_read, with_items_is}
 use Rattle.vipr_spec.specs.Certificate.{Problem}
 use Rattle.vipr_linear.specs.Constraint.{constraint_of}
 use Rattle.vipr_cert.specs.Items.{named_of, derivation_of}
-use Rattle.vipr_tighten.proofs.Held.{few_held, fewer_dropped, held_now, until_then, most_then, drop_here, few_at, each_some, each_none, peak_whole}
+use Rattle.vipr_tighten.proofs.Held.{few_held, fewer_dropped, held_now, until_then, most_then}
+use Rattle.vipr_tighten.proofs.Held.{drop_here, few_at, each_some, each_none, peak_whole}
 use Rattle.vipr_tighten.proofs.peak.peak.Goals as goal
 use Rattle.vipr_tighten.proofs.peak.peak.Goals.{in-Some, in_default}
 

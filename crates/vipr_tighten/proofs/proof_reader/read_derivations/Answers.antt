@@ -10,7 +10,8 @@ use Rattle.vipr_check.specs.declared.no_proof.NoProof.TheVariants as reason
 use Rattle.vipr_cert.specs.Items.{derivation_of}
 use Rattle.vipr_check.specs.Reasons.{stop_reason, text_reason}
 use Rattle.vipr_check.proofs.Laws.{names_for, room_for}
-use Rattle.vipr_tighten.proofs.Reading.{err_given, derived_first, step_accepted, step_refused, step_unread, at_end}
+use Rattle.vipr_tighten.proofs.Reading.{err_given, derived_first, step_accepted, step_refused}
+use Rattle.vipr_tighten.proofs.Reading.{step_unread, at_end}
 use Rattle.vipr_tighten.proofs.proof_reader.read_derivations.Goals as goal
 
 pub steps-init : goal.steps-init
@@ -32,7 +33,8 @@ derivation-requires-clause-names g c =
     let h = rw c.in-Some.is at c.in_ok-step.ensures in
     names_for P (with_more (start p ss) (map derivation_of c.steps.derived.items)) c.steps.checker c.steps.derivations (at c.in-Some.step.constraint.row) (c.steps.invariant.kept P p ss is).is_at h.shape.row
 
-pub returns-in_err-derivation-in-Some-clause-unproved : goal.returns-in_err-derivation-in-Some-clause-unproved
+pub returns-in_err-derivation-in-Some-clause-unproved :
+    goal.returns-in_err-derivation-in-Some-clause-unproved
 returns-in_err-derivation-in-Some-clause-unproved g c =
     let e = c.in_err-derivation-in-Some.field-0.0 in
     err_given _ c.from_residual-in_err-derivation-in-Some.result (stop_reason e) c.from_residual-in_err-derivation-in-Some.ensures.1 (λ P p ss is known.

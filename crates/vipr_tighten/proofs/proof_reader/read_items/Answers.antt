@@ -1,7 +1,8 @@
 use Rattle.std.proofs.Common.{map}
 use Rattle.vipr_cert.specs.Items.{solution_of, derivation_of}
 use Rattle.vipr_check.specs.Reasons.{text_reason}
-use Rattle.vipr_tighten.proofs.Reading.{err_given, unread_answers, at_then, later_answers, proof_kept}
+use Rattle.vipr_tighten.proofs.Reading.{err_given, unread_answers, at_then, later_answers}
+use Rattle.vipr_tighten.proofs.Reading.{proof_kept}
 use Rattle.vipr_tighten.proofs.proof_reader.read_items.Goals as goal
 
 pub read_listed-requires : goal.read_listed-requires

@@ -9,14 +9,16 @@ use Rattle.vipr_check.specs.declared.no_proof.NoProof.TheVariants as reason
 use Rattle.vipr_cert.specs.Items.{solution_of}
 use Rattle.vipr_check.specs.Reasons.{stop_reason, text_reason}
 use Rattle.vipr_tighten.specs.Keeping.{KeepsListed}
-use Rattle.vipr_tighten.proofs.Reading.{err_given, listed_first, solution_accepted, solution_refused, solution_unread}
+use Rattle.vipr_tighten.proofs.Reading.{err_given, listed_first, solution_accepted}
+use Rattle.vipr_tighten.proofs.Reading.{solution_refused, solution_unread}
 use Rattle.vipr_tighten.proofs.proof_reader.read_solutions.Goals as goal
 
 pub solutions-init : goal.solutions-init
 solutions-init g c =
     rw c.new-listed.ensures.items (record { kept = λ P p is. listed_first P p c.args.checker.now c.args.solutions.now is; items = (All-nil (SolutionShape c.args.solutions.now.variables), All-nil (λ (s : Named Row). RowFits s.item)); variables = refl })
 
-pub returns-in_err-solution-in-Some-clause-unproved : goal.returns-in_err-solution-in-Some-clause-unproved
+pub returns-in_err-solution-in-Some-clause-unproved :
+    goal.returns-in_err-solution-in-Some-clause-unproved
 returns-in_err-solution-in-Some-clause-unproved g c =
     let e = c.in_err-solution-in-Some.field-0.0 in
     err_given _ c.from_residual-in_err-solution-in-Some.result (stop_reason e) c.from_residual-in_err-solution-in-Some.ensures.1 (λ P p is known.

@@ -1,4 +1,5 @@
-use Rattle.std.proofs.Common.{◌≡◌, ◌+◌, ◌<◌, ◌++◌, ◌∷◌, [], length, length-append, vec_items, arith, ◌∙◌, ap}
+use Rattle.std.proofs.Common.{◌≡◌, ◌+◌, ◌<◌, ◌++◌, ◌∷◌, [], length, length-append, vec_items, arith}
+use Rattle.std.proofs.Common.{◌∙◌, ap}
 use Rattle.std.proofs.lemmas.List.{with_items_is}
 use Rattle.vipr_tighten.proofs.Renumbering.{earlier_in, place_left_out, place_accepted_over}
 use Rattle.vipr_tighten.proofs.renumber.renumber.Goals as goal

@@ -1,10 +1,12 @@
-use Rattle.std.proofs.Common.{rules, ◌≡◌, ℕ, ◌+◌, ◌<◌, All, filter, map, length, slice_set, arith, sym, ap, ◌∙◌, subst}
+use Rattle.std.proofs.Common.{rules, ◌≡◌, ℕ, ◌+◌, ◌<◌, All, filter, map, length, slice_set, arith}
+use Rattle.std.proofs.Common.{sym, ap, ◌∙◌, subst}
 use Rattle.std.proofs.lemmas.Fn.{filter_same}
 use Rattle.std.proofs.lemmas.List.Elements.{All-filter}
 use Rattle.vipr_spec.specs.Fraction.{ℚ}
 use Rattle.vipr_spec.specs.Reading.{is_nonzero}
 use Rattle.vipr_tighten.specs.Passes.{index_by}
-use Rattle.vipr_tighten.proofs.Entries.{EntriesSoFar, under, next_below, same_entry, next_entry, all_entries}
+use Rattle.vipr_tighten.proofs.Entries.{EntriesSoFar, under, next_below, same_entry, next_entry}
+use Rattle.vipr_tighten.proofs.Entries.{all_entries}
 use Rattle.vipr_tighten.proofs.renumber.renumber_entries.Goals as goal
 
 pub index_of-requires : goal.index_of-requires

@@ -1,4 +1,5 @@
-use Rattle.std.proofs.Common.{◌≡◌, ◌+◌, ◌-◌, length, Option, Some, None, Result, Ok, Err, arith, refl, sym, ◌∙◌, ap}
+use Rattle.std.proofs.Common.{◌≡◌, ◌+◌, ◌-◌, length, Option, Some, None, Result, Ok, Err, arith}
+use Rattle.std.proofs.Common.{refl, sym, ◌∙◌, ap}
 use Rattle.std.specs.Prelude.{IsErrAnd}
 use Rattle.std.proofs.lemmas.List.{length-map}
 use Rattle.vipr_spec.specs.Constraint.{Profile}
@@ -47,7 +48,8 @@ returns g c = λ P proof reports.
     (g.W.Sink.output c.args.sink.now) (g.W.Sink.output c.write_certificate_in.new.sink) c.in-Err-Write.taken h.part h.output
 
 -- where memory is refused, nothing is written
-refused : (P : Profile) (F : Form) (k : KindOfText) (o : Option Output) (x : Result Outcome TightenFault) → IsErrAnd x (λ e. e ≡ Memory 0) → TightensText P F k o o x
+refused : (P : Profile) (F : Form) (k : KindOfText) (o : Option Output)
+    (x : Result Outcome TightenFault) → IsErrAnd x (λ e. e ≡ Memory 0) → TightensText P F k o o x
 refused P F k o (Ok y) h = absurd h
 refused P F k None (Err e) h = rw h (refl, tt)
 refused P F k (Some b) (Err e) h = rw h (refl, refl)

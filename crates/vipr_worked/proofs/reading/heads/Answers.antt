@@ -3,7 +3,12 @@ use Rattle.vipr_spec.specs.Digits.{natural_after, natural_of}
 use Rattle.vipr_spec.specs.Fraction.{over, ◌*ℚ◌, ◌+ℚ◌}
 use Rattle.vipr_spec.specs.Gcd.{gcd}
 use Rattle.vipr_spec.specs.Number.{number_read}
-use Rattle.vipr_spec.specs.Reading.{bound_of, claim_read, constraint_read, constraints_read, count_of, counted_read, first_token, has_range_of, integers_read, names_read, new_variable_of, objective_read, pair_read, pairs_read, problem_read, range_read, read_each, row_read, spelled_direction, spelled_sense, variable_of, vector_read, version_read}
+use Rattle.vipr_spec.specs.Reading.{bound_of, claim_read, constraint_read, constraints_read}
+use Rattle.vipr_spec.specs.Reading.{count_of, counted_read, first_token, has_range_of}
+use Rattle.vipr_spec.specs.Reading.{integers_read, names_read, new_variable_of, objective_read}
+use Rattle.vipr_spec.specs.Reading.{pair_read, pairs_read, problem_read, range_read, read_each}
+use Rattle.vipr_spec.specs.Reading.{row_read, spelled_direction, spelled_sense, variable_of}
+use Rattle.vipr_spec.specs.Reading.{vector_read, version_read}
 use Rattle.vipr_spec.specs.Tokens.{is_cut, is_white, token_here, tokens_after_front, tokens_from}
 use Rattle.vipr_worked.proofs.reading.heads.Goals as goal
 

@@ -2,7 +2,8 @@ use Rattle.std.proofs.Common.{◌+◌, [], ◌++◌, length, drop, slice_range, 
 use Rattle.std.specs.Prelude.{slice_index_or}
 use Rattle.std.proofs.lemmas.Result.{err_from_is_err_and}
 use Rattle.vipr_write.specs.Folded.{expanded, full}
-use Rattle.vipr_write.proofs.Writing.{Writing, next_gap, one_piece, piece_stopped, at_end, room_for, last_piece}
+use Rattle.vipr_write.proofs.Writing.{Writing, next_gap, one_piece, piece_stopped, at_end, room_for}
+use Rattle.vipr_write.proofs.Writing.{last_piece}
 use Rattle.vipr_write.proofs.compact.write_all.Goals as goal
 
 pub returns-in_err-gather : goal.returns-in_err-gather

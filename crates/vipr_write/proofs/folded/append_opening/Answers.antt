@@ -3,7 +3,8 @@ use Rattle.std.specs.Prelude.{codes}
 use Rattle.std.proofs.lemmas.List.{length-map}
 use Rattle.vipr_linear.specs.Constraint.{constraint_of}
 use Rattle.vipr_cert.specs.Items.{named_of}
-use Rattle.vipr_write.specs.Canonical.{direction_word, vector_words, variables_lines, line_text, lines_text}
+use Rattle.vipr_write.specs.Canonical.{direction_word, vector_words, variables_lines, line_text}
+use Rattle.vipr_write.specs.Canonical.{lines_text}
 use Rattle.vipr_write.specs.Lines.{constraints_heading}
 use Rattle.vipr_write.specs.Folded.{opening}
 use Rattle.vipr_write.proofs.Folding.{five_parts}

@@ -2,7 +2,8 @@ use Rattle.std.proofs.Common.{[], ◌∷◌, map, sym, ap, ◌∙◌}
 use Rattle.vipr_linear.specs.Constraint.{constraint_of}
 use Rattle.vipr_cert.specs.Items.{named_of}
 use Rattle.std.specs.Prelude.{codes}
-use Rattle.vipr_write.specs.Canonical.{direction_word, vector_words, claim_words, line_text, lines_text}
+use Rattle.vipr_write.specs.Canonical.{direction_word, vector_words, claim_words, line_text}
+use Rattle.vipr_write.specs.Canonical.{lines_text}
 use Rattle.vipr_write.specs.Lines.{constraints_lines_in}
 use Rattle.vipr_write.proofs.Parts.{problem_parts_in}
 use Rattle.vipr_write.proofs.Handing.{puts_then, puts_same}

@@ -1,6 +1,7 @@
 use Rattle.std.proofs.Common.{◌≡◌, List, ℕ, [], ◌∷◌, ◌++◌, OnOk, sym, ap, ◌∙◌, subst}
 use Rattle.std.specs.Prelude.{codes}
-use Rattle.vipr_write.specs.Canonical.{direction_word, vector_words, claim_words, variables_lines, problem_lines, line_text, lines_text}
+use Rattle.vipr_write.specs.Canonical.{direction_word, vector_words, claim_words, variables_lines}
+use Rattle.vipr_write.specs.Canonical.{problem_lines, line_text, lines_text}
 use Rattle.vipr_cert.specs.Items.{claim_of}
 use Rattle.vipr_write.specs.Lines.{constraints_lines}
 use Rattle.vipr_write.proofs.Parts.{problem_parts}

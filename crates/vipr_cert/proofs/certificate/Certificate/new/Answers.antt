@@ -5,7 +5,8 @@ use Rattle.vipr_spec.specs.Certificate as is
 use Rattle.vipr_spec.specs.Certificate.{variables}
 use Rattle.vipr_spec.specs.Constraint as linear
 use Rattle.vipr_spec.specs.Reading.{most_count}
-use Rattle.vipr_spec.specs.Shape.{SolutionShape, DerivationShape, CertificateShape, RowFits, DerivationFits, CertificateFits}
+use Rattle.vipr_spec.specs.Shape.{SolutionShape, DerivationShape, CertificateShape, RowFits}
+use Rattle.vipr_spec.specs.Shape.{DerivationFits, CertificateFits}
 use Rattle.vipr_cert.specs.Items.{certificate_with, named_of, solution_of, derivation_of}
 use Rattle.vipr_cert.proofs.certificate.Certificate.new.Goals as goal
 

@@ -1,4 +1,5 @@
-use Rattle.std.proofs.Common.{refl, arith, false, ◌≡◌, ◌∷◌, [], ℕ, List, zero, suc, ◌<◌, length, slice_index}
+use Rattle.std.proofs.Common.{refl, arith, false, ◌≡◌, ◌∷◌, [], ℕ, List, zero, suc, ◌<◌, length}
+use Rattle.std.proofs.Common.{slice_index}
 use Rattle.vipr_spec.specs.Tokens.{IsToken, is_white}
 use Rattle.vipr_cert.proofs.name.Name.blank.Goals as goal
 

@@ -5,7 +5,8 @@ use Rattle.vipr_spec.specs.Constraint as linear
 use Rattle.vipr_spec.specs.Constraint.{at, IsInteger, NamesBelow}
 use Rattle.vipr_spec.specs.Tokens.{IsToken}
 use Rattle.vipr_spec.specs.Reading.{most_count}
-use Rattle.vipr_spec.specs.Shape.{ConstraintShape, ProblemShape, RowFits, ConstraintFits, ClaimFits, ProblemFits}
+use Rattle.vipr_spec.specs.Shape.{ConstraintShape, ProblemShape, RowFits, ConstraintFits, ClaimFits}
+use Rattle.vipr_spec.specs.Shape.{ProblemFits}
 use Rattle.vipr_linear.specs.Constraint.{constraint_of}
 use Rattle.vipr_cert.specs.Items.{problem_with, named_of, claim_of}
 use Rattle.vipr_cert.proofs.problem.Problem.new.Goals as goal

@@ -4,7 +4,8 @@ use Rattle.vipr_cert.specs.Items.{derivation_of}
 use Rattle.vipr_check.specs.Halts.{CanShowHalt}
 use Rattle.vipr_check.specs.Progress.{Progress, HasSteps}
 use Rattle.vipr_check.proofs.ProgressLemmas.{held_next}
-use Rattle.vipr_check.proofs.CheckerLemmas.{runs_of, derived_frame, kept_or_advanced, stops_step, reached_after}
+use Rattle.vipr_check.proofs.CheckerLemmas.{runs_of, derived_frame, kept_or_advanced, stops_step}
+use Rattle.vipr_check.proofs.CheckerLemmas.{reached_after}
 use Rattle.vipr_check.specs.State.{StopsStep}
 use Rattle.vipr_rules.specs.Apply.{PassesTestsIn}
 use Rattle.vipr_check.proofs.checker.Checker.derivation.Goals as goal

@@ -5,7 +5,8 @@ use Rattle.vipr_cert.specs.Items.{solution_of}
 use Rattle.vipr_check.specs.Progress.{Progress, HasSolutions}
 use Rattle.vipr_check.specs.Halts.{CanShowHalt}
 use Rattle.vipr_check.specs.State.{IsReached, StopsSolution}
-use Rattle.vipr_check.proofs.CheckerLemmas.{runs_of, reached_still, solution_can_show, listed_frame, halts_same, stops_solution, solution_halted}
+use Rattle.vipr_check.proofs.CheckerLemmas.{runs_of, reached_still, solution_can_show, listed_frame}
+use Rattle.vipr_check.proofs.CheckerLemmas.{halts_same, stops_solution, solution_halted}
 use Rattle.vipr_check.proofs.checker.Checker.take_solution.Goals as goal
 
 pub invariant_of-self-in-Err : goal.invariant_of-self-in-Err

@@ -1,7 +1,8 @@
 use Rattle.std.proofs.Common.{◌≡◌, sym, ◌∙◌, to_z, of_z}
 use Rattle.std.specs.Int.{w128}
 use Rattle.vipr_spec.specs.Fraction.{over}
-use Rattle.vipr_frac.proofs.Sums.{sum-whole, FitsSum-whole, FitsSum-whole_back, SumFits-parts, FitsSum-from}
+use Rattle.vipr_frac.proofs.Sums.{sum-whole, FitsSum-whole, FitsSum-whole_back, SumFits-parts}
+use Rattle.vipr_frac.proofs.Sums.{FitsSum-from}
 use Rattle.vipr_frac.proofs.Views.{facts_of, Facts, passed-on}
 use Rattle.vipr_frac.proofs.frac.Frac.add.Goals as goal
 use Rattle.vipr_frac.proofs.frac.Frac.add.Goals.{After-whole_sum, After-exact_sum}

@@ -8,7 +8,8 @@ use Rattle.vipr_frac.proofs.Views.{as-is}
 use Rattle.vipr_frac.proofs.frac.Frac.floor.Goals as goal
 use Rattle.vipr_frac.proofs.frac.Frac.floor.Goals.{After-div_euclid}
 
-result_is : (c : After-div_euclid) → to_z w128 (of_z w128 c.div_euclid.result) ≡ int_div_euclid c.args.self.numer (pos c.args.self.denom)
+result_is : (c : After-div_euclid) → to_z w128 (of_z w128 c.div_euclid.result)
+    ≡ int_div_euclid c.args.self.numer (pos c.args.self.denom)
 result_is c =
     let bounded = c.numer.ensures.bounded in
     to_z-of_z w128 c.div_euclid.result (record { sfits = c.div_euclid.type_inv })

@@ -1,6 +1,7 @@
 use Rattle.std.proofs.Common.{ap, ap₂, ◌∙◌}
 use Rattle.vipr_spec.specs.Fraction.{over, neg_ℚ}
-use Rattle.vipr_frac.proofs.Views.{IsReduced-negated, negated-word, negated-fits, over-negated, over-self}
+use Rattle.vipr_frac.proofs.Views.{IsReduced-negated, negated-word, negated-fits, over-negated}
+use Rattle.vipr_frac.proofs.Views.{over-self}
 use Rattle.vipr_frac.proofs.frac.Frac.neg.Goals as goal
 
 pub overflow_sub-p : goal.overflow_sub-p

@@ -1,4 +1,6 @@
-use Rattle.std.proofs.Common.{◌≡◌, ◌≢◌, ℕ, ℤ, pos, ◌+◌, List, [], ◌∷◌, ◌++◌, length, Result, Ok, Err, sym, ap, ap₂, ◌∙◌, arith, append_assoc, length-append, to_z, of_z}
+use Rattle.std.proofs.Common.{◌≡◌, ◌≢◌, ℕ, ℤ, pos, ◌+◌, List, [], ◌∷◌, ◌++◌, length, Result, Ok}
+use Rattle.std.proofs.Common.{Err, sym, ap, ap₂, ◌∙◌, arith, append_assoc, length-append, to_z}
+use Rattle.std.proofs.Common.{of_z}
 use Rattle.std.specs.Prelude.{OnOk, IsOk, if◌then◌else◌, ◌==◌, is_ok}
 use Rattle.std.specs.Int.{w128}
 use Rattle.std.specs.Fmt.{decimal, signed_decimal}
@@ -13,19 +15,24 @@ other : (n : ℕ) (a b : List ℕ) → n ≢ 1 → (if n == 1 then a else b) ≡
 other n a b h = grind (arith, nat_tests)
 
 -- the digits of the two parts with a slash between them
-two_parts : (x : ℚ) (p q r : ℤ) (top below : List ℕ) → IsBounded x → p ≡ x.numer → q ≡ pos x.denom → of_z w128 q ≢ 1 → r ≡ pos x.denom
-    → top ≡ signed_decimal (to_z w128 (of_z w128 p)) → below ≡ signed_decimal (to_z w128 (of_z w128 r)) → number_text x ≡ top ++ 47 ∷ below
+two_parts : (x : ℚ) (p q r : ℤ) (top below : List ℕ) → IsBounded x → p ≡ x.numer → q ≡ pos x.denom
+    → of_z w128 q ≢ 1 → r ≡ pos x.denom
+    → top ≡ signed_decimal (to_z w128 (of_z w128 p))
+    → below ≡ signed_decimal (to_z w128 (of_z w128 r)) → number_text x ≡ top ++ 47 ∷ below
 two_parts x p q r top below b e f h g t u =
     let top_is : top ≡ signed_decimal x.numer = t ∙ ap (λ z. signed_decimal (to_z w128 (of_z w128 z))) e ∙ ap signed_decimal (as-is x.numer b.0) in
     let below_is : below ≡ decimal x.denom = u ∙ ap (λ z. signed_decimal (to_z w128 (of_z w128 z))) g ∙ ap signed_decimal (as-is (pos x.denom) b.1) in
     other x.denom _ _ (λ one. h (ap (of_z w128) (f ∙ ap pos one))) ∙ ap₂ (λ xs ys. xs ++ 47 ∷ ys) (sym top_is) (sym below_is)
 
-joined : {A E : Type 0} (r : Result A E) (old a b c new top below text : List ℕ) → a ≡ old → b ≡ a ++ top → c ≡ b ++ 47 ∷ []
-    → new ≡ (if is_ok r then c ++ below else c) → text ≡ top ++ 47 ∷ below → OnOk r (new ≡ old ++ text)
+joined : {A E : Type 0} (r : Result A E) (old a b c new top below text : List ℕ) → a ≡ old
+    → b ≡ a ++ top → c ≡ b ++ 47 ∷ []
+    → new ≡ (if is_ok r then c ++ below else c) → text ≡ top ++ 47 ∷ below
+    → OnOk r (new ≡ old ++ text)
 joined (Ok x) old a b c new top below text e f g h k = rw (h, g, f, e, k) (simp append_assoc)
 joined (Err d) old a b c new top below text e f g h k = tt
 
-length_joined : (top below text : List ℕ) → text ≡ top ++ 47 ∷ below → length text ≡ length top + 1 + length below
+length_joined : (top below text : List ℕ) → text ≡ top ++ 47 ∷ below
+    → length text ≡ length top + 1 + length below
 length_joined top below text e = omega (arith, simp length-append at (ap length e))
 
 not_full : {A E X : Type 0} (r : Result A E) (d : E) → r ≡ Err d → IsOk r → X

@@ -6,7 +6,8 @@ use Rattle.vipr_spec.specs.Reading.{is_nonzero}
 use Rattle.vipr_linear.specs.Row.{AreEntries, RisesFrom}
 use Rattle.vipr_linear.specs.Touched.{AreCovered, HasRowEntries}
 use Rattle.vipr_linear.proofs.Marks.{pick}
-use Rattle.vipr_linear.proofs.Collecting.{touched_sorted, touched_within, collected_rises, collected_at, rising_of_touched, both_ok}
+use Rattle.vipr_linear.proofs.Collecting.{touched_sorted, touched_within, collected_rises}
+use Rattle.vipr_linear.proofs.Collecting.{collected_at, rising_of_touched, both_ok}
 use Rattle.vipr_linear.proofs.places.Places.nonzero.Goals as goal
 
 pub nonzero_sums-requires : goal.nonzero_sums-requires

@@ -1,4 +1,5 @@
-use Rattle.std.proofs.Common.{arith, ◌<◌, ◌≡◌, ◌∙◌, ap, sym, subst, false, true, get_or, length, vec_len, vec_capacity, slice_set}
+use Rattle.std.proofs.Common.{arith, ◌<◌, ◌≡◌, ◌∙◌, ap, sym, subst, false, true, get_or, length}
+use Rattle.std.proofs.Common.{vec_len, vec_capacity, slice_set}
 use Rattle.std.proofs.lemmas.List.{get_or_default, length-set}
 use Rattle.vipr_linear.proofs.Marks.{touch_more, touch_room}
 use Rattle.vipr_linear.proofs.places.Touched.touch.Goals as goal

@@ -1,4 +1,5 @@
-use Rattle.std.proofs.Common.{◌≡◌, ◌<◌, All, [], ◌∷◌, sym, ap, subst, ◌∙◌, length, nat_lt, true, false, cond, arith}
+use Rattle.std.proofs.Common.{◌≡◌, ◌<◌, All, [], ◌∷◌, sym, ap, subst, ◌∙◌, length, nat_lt, true}
+use Rattle.std.proofs.Common.{false, cond, arith}
 use Rattle.std.proofs.lemmas.Result.{err_from_is_err_and}
 use Rattle.vipr_spec.specs.Constraint.{IsTrueAt, condition}
 use Rattle.vipr_spec.specs.Shape.{ConstraintShape}
@@ -7,7 +8,9 @@ use Rattle.vipr_spec.specs.Steps.{earlier, live}
 use Rattle.vipr_linear.specs.declared.constraint.Constraint.{Constraint}
 use Rattle.vipr_cert.specs.declared.items.Named.{Named}
 use Rattle.vipr_rules.proofs.GivenLemmas.{given_below, given_true}
-use Rattle.vipr_rules.proofs.ContextLemmas.{given_is_live, given_is_known, derived_is_live, derived_is_known, dropped_is_not, live_passes, live_stops}
+use Rattle.vipr_rules.proofs.ContextLemmas.{given_is_live, given_is_known, derived_is_live}
+use Rattle.vipr_rules.proofs.ContextLemmas.{derived_is_known, dropped_is_not, live_passes}
+use Rattle.vipr_rules.proofs.ContextLemmas.{live_stops}
 use Rattle.vipr_rules.proofs.StepLemmas.{stops_first}
 use Rattle.std.proofs.lemmas.Bool.Decides.{nat_tests}
 use Rattle.std.proofs.lemmas.List.{length-map}

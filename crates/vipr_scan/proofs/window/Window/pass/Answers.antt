@@ -1,4 +1,5 @@
-use Rattle.std.proofs.Common.{◌≡◌, ℕ, ◌+◌, ◌-◌, ◌<◌, ◌≤◌, List, false, length, drop, take, min, ◌^◌, refl, ap, ◌∙◌, arith, slice_range}
+use Rattle.std.proofs.Common.{◌≡◌, ℕ, ◌+◌, ◌-◌, ◌<◌, ◌≤◌, List, false, length, drop, take, min, ◌^◌}
+use Rattle.std.proofs.Common.{refl, ap, ◌∙◌, arith, slice_range}
 use Rattle.std.proofs.lemmas.List.{length-drop}
 use Rattle.vipr_scan.specs.View.{unread, front_offset, source_left, view_of_found}
 use Rattle.vipr_scan.specs.declared.window.Found.{Found}
@@ -7,15 +8,18 @@ use Rattle.vipr_scan.proofs.Wanted.{short_known}
 use Rattle.vipr_scan.proofs.window.Window.pass.Goals as goal
 
 -- the token's place in the buffer
-placed : (buf : List ℕ) (start end gap len : ℕ) → gap ≤ length (slice_range buf start end) → len < length (drop gap (slice_range buf start end)) →
-    slice_range buf (start + gap) (start + gap + len) ≡ take len (drop gap (slice_range buf start end))
+placed : (buf : List ℕ) (start end gap len : ℕ) → gap ≤ length (slice_range buf start end)
+    → len < length (drop gap (slice_range buf start end)) →
+    slice_range buf (start + gap) (start + gap + len)
+    ≡ take len (drop gap (slice_range buf start end))
 placed buf start end gap len within more =
     let short : length (slice_range buf start end) ≤ end - start = part_short buf start end in
     let size : length (drop gap (slice_range buf start end)) ≡ length (slice_range buf start end) - gap = length-drop gap (slice_range buf start end) in
     part_front buf (start + gap) end len (omega arith) ∙ ap (take len) (narrowed buf start end gap (omega arith))
 
 -- what is left behind it
-cut : (buf : List ℕ) (start end gap len : ℕ) → gap ≤ length (slice_range buf start end) → len < length (drop gap (slice_range buf start end)) →
+cut : (buf : List ℕ) (start end gap len : ℕ) → gap ≤ length (slice_range buf start end)
+    → len < length (drop gap (slice_range buf start end)) →
     slice_range buf (start + gap + len) end ≡ drop len (drop gap (slice_range buf start end))
 cut buf start end gap len within more =
     let short : length (slice_range buf start end) ≤ end - start = part_short buf start end in

@@ -6,7 +6,8 @@ use base.Before.{before}
 use base.Fraction.{full_share}
 use base.Fml.{GName, Fml, fsep, fauth, fres, fbor}
 use types.Logic.{sem, lfts}
-use types.Kit.{‵, raw, later, ◌$◌, ◌∵◌, !, qed, move, use1, await, updating, now, fjoin, fpack, done}
+use types.Kit.{‵, raw, later, ◌$◌, ◌∵◌, !, qed, move, use1, await, updating, now, fjoin, fpack}
+use types.Kit.{done}
 use types.Tokens.{name_new, name_done}
 use types.Na.{na_inv, na_inv_new, na_bor, bor_na}
 use denote.RattleType.{RattleType}
@@ -25,7 +26,8 @@ res_laws γ g = record {
   mono = λ M 𝓤 𝓛 κ' κ. snd∗ 𝓤 (sem 𝓛 (before κ' κ)) (sem 𝓛 (fres γ g));
 }
 
-named_laws : (g : Gv) (P : Fml) (γ : GName) → ShrLaws (beside (said (fres γ g)) (beside (kept (γ, 1) (fauth γ g)) (guarded (γ, 0) P)))
+named_laws : (g : Gv) (P : Fml) (γ : GName)
+    → ShrLaws (beside (said (fres γ g)) (beside (kept (γ, 1) (fauth γ g)) (guarded (γ, 0) P)))
 named_laws g P γ =
     beside_shr_laws (said (fres γ g)) (beside (kept (γ, 1) (fauth γ g)) (guarded (γ, 0) P)) (res_laws γ g)
     (beside_shr_laws (kept (γ, 1) (fauth γ g)) (guarded (γ, 0) P) (kept_shr_laws (γ, 1) (fauth γ g)) (guarded_shr_laws (γ, 0) P))

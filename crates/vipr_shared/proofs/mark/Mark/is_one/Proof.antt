@@ -1,6 +1,7 @@
--- `is_one` asks first whether the two have one name. If so, they have one value and place, and the word is opened once.
--- If not, both words are opened, and what is read is 0. Assumes `Logic`.
-use Rattle.std.proofs.Common.{◌≡◌, ℕ, Bool, true, false, IsTrue, List, [], ◌∷◌, ◌++◌, refl, sym, lit<, true≢false}
+-- `is_one` asks first whether the two have one name. If so, they have one value and place, and the
+-- word is opened once. If not, both words are opened, and what is read is 0. Assumes `Logic`.
+use Rattle.std.proofs.Common.{◌≡◌, ℕ, Bool, true, false, IsTrue, List, [], ◌∷◌, ◌++◌, refl, sym}
+use Rattle.std.proofs.Common.{lit<, true≢false}
 use Rattle.std.specs.Coded.{Coded, coded×, coded_ℕ}
 use native.Mathlib.Decide.{ℕ_discrete}
 use mir.Syntax.{Fn, Args, a_type}
@@ -12,9 +13,11 @@ use base.Fml.{Lft, Share, Mask, GName, ftrue, fat, flft, ftok, fauth}
 use base.Mask.{every, less, less_other}
 use prog.Wp.{Env, WpFn}
 use contract.Monad.{fact, fact_i}
-use types.Kit.{Item, ‵, raw, ◌⊛◌, prop, at_ret, ◌$◌, ◌∵◌, !, qed, by, move, keep, use0, split, split3, join, rewrite, regoal, fsplit, fsplit3, fjoin, fpick, feq_i}
+use types.Kit.{Item, ‵, raw, ◌⊛◌, prop, at_ret, ◌$◌, ◌∵◌, !, qed, by, move, keep, use0, split}
+use types.Kit.{split3, join, rewrite, regoal, fsplit, fsplit3, fjoin, fpick, feq_i}
 use types.Part.{whole, sub, look_in, store_in}
-use types.Run.{stop, fld, load, lit, bin, addr, of_opd, assigns, first, blocks, exec, returns, enter}
+use types.Run.{stop, fld, load, lit, bin, addr, of_opd, assigns, first, blocks, exec, returns}
+use types.Run.{enter}
 use types.ByLocal.{alloc_all, pass_all, free_all, look_at, get, through, sets, sets_last, env}
 use types.Na.{na_inv}
 use denote.RattleType.{RattleType, owns}

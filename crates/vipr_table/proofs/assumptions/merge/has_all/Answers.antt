@@ -1,4 +1,5 @@
-use Rattle.std.proofs.Common.{◌≡◌, ◌||◌, ℕ, true, List, take, drop, length, subst, sym, ap, ◌∙◌, nat_eq}
+use Rattle.std.proofs.Common.{◌≡◌, ◌||◌, ℕ, true, List, take, drop, length, subst, sym, ap, ◌∙◌}
+use Rattle.std.proofs.Common.{nat_eq}
 use Rattle.std.proofs.lemmas.Bool.Decides.{Decides-eqb}
 use Rattle.std.proofs.lemmas.List.{take-append-drop}
 use Rattle.std.proofs.lemmas.List.Folds.{list_any-append}

@@ -1,7 +1,8 @@
 use Rattle.std.proofs.Common.{◌<◌, ◌≤◌, ◌++◌, ◌∙◌, ◌-◌, length, take, drop, ap, arith}
 use Rattle.vipr_table.proofs.RisingLemmas.{merge_start, merge_step, merge_end, to_end}
 use Rattle.vipr_table.proofs.assumptions.merge.merge.Goals as goal
-use Rattle.vipr_table.proofs.assumptions.merge.merge.Goals.{then-loop-i-test+else-j-ys, else-loop-i-test}
+use Rattle.vipr_table.proofs.assumptions.merge.merge.Goals.{then-loop-i-test+else-j-ys}
+use Rattle.vipr_table.proofs.assumptions.merge.merge.Goals.{else-loop-i-test}
 
 pub loop-i-init : goal.loop-i-init
 loop-i-init c = rw c.in_ok-all.ensures.items (merge_start _ _ c.requires.left c.requires.right)

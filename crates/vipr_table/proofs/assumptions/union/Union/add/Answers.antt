@@ -5,7 +5,9 @@ use Rattle.vipr_table.specs.Unions.{union_of_all, union_so_far}
 use Rattle.vipr_table.proofs.SetLemmas.{union_none}
 use Rattle.vipr_table.proofs.UnionsLemmas.{union_assoc, one_put, last_two, few_put}
 use Rattle.vipr_table.proofs.assumptions.union.Union.add.Goals as goal
-use Rattle.vipr_table.proofs.assumptions.union.Union.add.Goals.{then-is_near+in_ok-self+in-Many-1, then-is_near+in_ok-self+in-Nothing-1, else-is_near+in_ok-clone+in_ok-push}
+use Rattle.vipr_table.proofs.assumptions.union.Union.add.Goals.{then-is_near+in_ok-self+in-Many-1}
+use Rattle.vipr_table.proofs.assumptions.union.Union.add.Goals.{then-is_near+in_ok-self+in-Nothing-1}
+use Rattle.vipr_table.proofs.assumptions.union.Union.add.Goals.{else-is_near+in_ok-clone+in_ok-push}
 
 pub returns : goal.returns
 returns c =

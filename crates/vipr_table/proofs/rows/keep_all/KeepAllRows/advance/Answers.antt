@@ -4,7 +4,8 @@ use Rattle.vipr_table.specs.KeepAll.{entries_not_forgotten}
 use Rattle.vipr_table.specs.Table.{live_part}
 use Rattle.vipr_table.proofs.TableLemmas.{same_table}
 use Rattle.vipr_table.proofs.ExpiryOrderLemmas.{live_part-removed, live_part-none_due}
-use Rattle.vipr_table.proofs.KeepAllLemmas.{due_begins, due_within, forgotten, shown_held, IsKept-removed}
+use Rattle.vipr_table.proofs.KeepAllLemmas.{due_begins, due_within, forgotten, shown_held}
+use Rattle.vipr_table.proofs.KeepAllLemmas.{IsKept-removed}
 use Rattle.vipr_table.proofs.rows.keep_all.KeepAllRows.advance.Goals as goal
 
 pub overflow_sub-index : goal.overflow_sub-index

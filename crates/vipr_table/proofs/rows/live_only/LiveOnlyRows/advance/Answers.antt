@@ -2,7 +2,8 @@ use Rattle.std.proofs.Common.{◌+◌, ◌∙◌, ◌≤◌, sym, ap, arith}
 use Rattle.std.proofs.lemmas.List.Sorted.{length_permutation}
 use Rattle.vipr_table.specs.Table.{live_part}
 use Rattle.vipr_table.proofs.TableLemmas.{same_table}
-use Rattle.vipr_table.proofs.ExpiryOrderLemmas.{IsTied-removed, live_part-removed, live_part-none_due}
+use Rattle.vipr_table.proofs.ExpiryOrderLemmas.{IsTied-removed, live_part-removed}
+use Rattle.vipr_table.proofs.ExpiryOrderLemmas.{live_part-none_due}
 use Rattle.vipr_table.proofs.rows.live_only.LiveOnlyRows.advance.Goals as goal
 
 pub loop-index-smaller : goal.loop-index-smaller
