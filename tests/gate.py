@@ -2,8 +2,9 @@
 """Writes docs/GATE.md, what the first build and the test command took, from the output of a run of both.
 
 usage: (make build; python3 tests/all.py --anew) > LOG 2>&1     in a clone without a build
-       tests/gate.py LOG
+       tests/gate.py LOG [BUILD]
 
+If LOG has no `make build`, BUILD is the log of one, with the line `commit: ..` of the commit that was built.
 The exit status is 1, and nothing is written, if LOG has no whole run of `make test`.
 """
 import re
@@ -14,7 +15,7 @@ TOP = Path(__file__).resolve().parent.parent
 PAGE = TOP / 'docs/GATE.md'
 HEAD = """# What the gate takes
 
-This page is written by `tests/gate.py` from the output of one run of `(make build; python3 tests/all.py --anew)`, in a clone without a build: the first build, and the test command that proves everything anew. Other pages name no such figures and link here.
+This page is written by `tests/gate.py` from the output of `make build` and `python3 tests/all.py --anew`, each in a clone without a build: the first build, and the test command that proves everything anew. Other pages name no such figures and link here.
 """
 STUB = 'No run is written here yet.\n'
 # the crate whose build shows how fast a machine is: no crate is below it, and none is built beside it
@@ -39,6 +40,7 @@ class Run:
         self.steps = [(name, number(wall), number(spent)) for name, wall, spent in re.findall(
             r'^(\S.*): ([\d.]+) minutes, ([\d.]+) of processor time$', text, re.M)
             if re.search(r'rt ci( --anew)?$', name) or '.py' in name]
+        self.built_commit = self.said.get('commit', '')
         ends = re.findall(r'^\d+ passed, \d+ failed$', text, re.M)
         self.result = ends[-1] if ends else ''
         shares = re.findall(r'^(?:rt: )?ok; handles allowed: .*; (.*)$', text, re.M)
@@ -47,6 +49,10 @@ class Run:
         sample = re.findall(r'^(\d+) refused, (\d+) not$', text, re.M)
         self.edits = f'{edits[-1] if edits else 0} of `must-fail/`'
         self.edits += f', {sample[-1][0]} of {sum(map(int, sample[-1]))} tried of `wrong/`' if sample else ''
+
+    def take_build(self, other):
+        """Takes the first build of another log."""
+        self.built, self.build, self.built_commit = other.built, other.build, other.built_commit
 
     def is_whole(self):
         return bool(self.said and self.result and any(re.search(r'rt ci( --anew)?$', name) for name, _, _ in self.steps))
@@ -67,7 +73,8 @@ def page(run):
     lines += ['', 'A machine on which the build of the yardstick takes half as long takes about half of each figure below.', '',
               '| Command | Minutes | Processor minutes |', '|---|---|---|']
     if run.build:
-        lines.append(row('`make build`', *map(number, run.build.groups())))
+        at = '' if run.built_commit == run.said.get('commit', '') else f' at commit `{run.built_commit}`'
+        lines.append(row(f'`make build`{at}', *map(number, run.build.groups())))
     else:
         lines.append(row('`make build`', 'not in this run', ''))
     lines.append(row('`make test`', *[sum(step[at] for step in run.steps) for at in (1, 2)]))
@@ -84,10 +91,12 @@ def page(run):
 
 
 def main(words):
-    if len(words) != 1:
+    if len(words) not in (1, 2):
         print(__doc__.split('\n\n')[1])
         return 2
-    run = Run(Path(words[0]).read_text(errors='replace'))
+    run, *builds = (Run(Path(word).read_text(errors='replace')) for word in words)
+    for build in builds:
+        run.take_build(build)
     if not run.is_whole():
         print(f'{words[0]} has no whole run of make test')
         return 1
