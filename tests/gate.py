@@ -15,7 +15,7 @@ TOP = Path(__file__).resolve().parent.parent
 PAGE = TOP / 'docs/GATE.md'
 HEAD = """# What the gate takes
 
-This page is written by `tests/gate.py` from the output of `make build` and `python3 tests/all.py --anew`, each in a clone without a build: the first build, and the test command that proves everything anew. Other pages name no such figures and link here.
+`tests/gate.py` writes this page from the output of two commands, each in a clone without a build. `make build` is the first build. `python3 tests/all.py --anew` is the test command, which proves everything anew. Other pages name no such figures and link here.
 """
 STUB = 'No run is written here yet.\n'
 # the crate whose build shows how fast a machine is: no crate is below it, and none is built beside it
@@ -70,7 +70,7 @@ def page(run):
     if YARDSTICK in run.built:
         wall, spent = run.built[YARDSTICK]
         lines.append(row('Yardstick', f'`{YARDSTICK}` alone: {wall:.0f} seconds, {spent:.0f} of processor time'))
-    lines += ['', 'A machine on which the build of the yardstick takes half as long takes about half of each figure below.', '',
+    lines += ['', 'If the yardstick takes half as long on your machine, so does about everything below.', '',
               '| Command | Minutes | Processor minutes |', '|---|---|---|']
     if run.build:
         at = '' if run.built_commit == run.said.get('commit', '') else f' at commit `{run.built_commit}`'
@@ -78,9 +78,9 @@ def page(run):
     else:
         lines.append(row('`make build`', 'not in this run', ''))
     lines.append(row('`make test`', *[sum(step[at] for step in run.steps) for at in (1, 2)]))
-    lines += [row(f'of it `{name}`', wall, spent) for name, wall, spent in run.steps]
-    lines += ['', 'The same by crates, in processor minutes. `make test` proves a crate with its tests once more, and a crate '
-              'with wrong versions once more before it tries those, which counts with them here.', '',
+    lines += [row(f'its step `{name}`', wall, spent) for name, wall, spent in run.steps]
+    lines += ['', 'The same by crates, in processor minutes. `make test` proves a crate with its tests once more. It also proves a '
+              'crate with wrong versions once more before it tries those, which counts with them here.', '',
               '| Crate | `make build` | `make test`: proof | tests | wrong versions |', '|---|---|---|---|---|']
     for crate in sorted(run.crates | run.built):
         built = run.built[crate][1] / 60 if crate in run.built else ''
