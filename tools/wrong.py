@@ -5,10 +5,12 @@ usage: tools/wrong.py [CRATE | CRATE/EDIT ..]
        tools/wrong.py --sample N
 
 `make test` tries those of `must-fail/`, which turn the main promises. These are more of the same kind, and take longer
-than everything else together. Each is checked on a copy, over what the crate's last check proved, and once more from
-nothing if it is still proved then. Crates are tried side by side, as many as memory allows.
+than everything else together. Each is checked on a copy, over what the crate's last check proved: first the functions of the changed
+file, then the whole crate if they are proved, and that once more from nothing if it is still proved then. Crates are
+tried side by side, as many as memory allows.
 
-Without words all are tried, and the day, the commit and the result are written into docs/PROOF.md. --sample tries N
+Without words all are tried, and the day, the commit and the result are written into docs/PROOF.md. A run that is cut
+off goes on where it was: an edit that was refused over the same text isn't tried once more. --sample tries N
 that follow one another in one crate; crates that have fewer count as one. The commit chooses them (outside of a git
 checkout the text of the crates does), so that each run names other ones. It takes over what `rt ci` proved, if nothing
 changed since.
@@ -34,8 +36,11 @@ import proved  # noqa: E402
 
 PAGE = TOP / 'docs/PROOF.md'
 MARKS = '<!-- last run: written by `make wrong` -->', '<!-- end of the last run -->'
+# a place that a check names, and what it says of a proof that only lacks a name which the edit took away
+PLACE = re.compile(r'(note: )?\S+:\d+:\d+:')
+NAMES = re.compile(r'(note: )?(\./)?proofs/.*(has no field|is not in scope|has no `|was not admitted)')
 # what one check may take of the memory, in kB
-ROOM = 6_000_000
+ROOM = 4_000_000
 
 
 def git(*words):
@@ -90,23 +95,72 @@ def is_refused(rt, found):
     return found if isinstance(found, bool) else found in (rt.REFUSED, rt.AT_LIMIT)
 
 
-def tried(rt, crate, paths, kept):
-    """Of each edit of a crate its name and whether it is refused; none is, if the crate isn't proved without an edit."""
-    one = ['--jobs', '1']
+def said_of_file(rt, crate, path, flags, kept):
+    """What is said first against an edit if only the functions of the changed files are checked, and those that they call;
+    nothing if they are proved, or if it isn't clear that the prover refused one."""
+    texts, why = rt.read_edit(str(path), crate.folder)
+    modules = [re.fullmatch(r'src/(.+)\.rt', it) for it in texts]
+    if why or not all(modules) or {'src/lib.rt', 'src/main.rt'} & set(texts):
+        return ''
+    only = [word for it in modules for word in ('--only', it[1].replace('/', '::'))]
+    ran = rt.checked(crate, texts, [*flags, *only], kept)
+    lines = ran.stdout.rstrip('\n').split('\n')
+    count = re.match(r'only=(\d+) proved=(\d+)', lines[-1])
+    if ran.returncode != 1 or not count or int(count[1]) <= int(count[2]) or any(rt.unread(it, texts) for it in lines):
+        return ''
+    places = [it for it in lines if PLACE.match(it) and (': error' in it or it.startswith('note: '))]
+    return next((it[:160] for it in places if not NAMES.match(it)), '')
+
+
+class Refused:
+    """Which edits of a crate were refused over its text as it stands, by earlier runs."""
+
+    def __init__(self, crate):
+        self.file, self.stamp = Path(crate.folder, 'out', 'refused'), crate.stamp()
+        self.sums = set(self.file.read_text().split()) if self.file.exists() else set()
+
+    def sum_of(self, path):
+        return hashlib.sha256(self.stamp.encode() + path.read_bytes()).hexdigest()
+
+    def has(self, path):
+        return self.sum_of(path) in self.sums
+
+    def add(self, path):
+        self.file.parent.mkdir(exist_ok=True)
+        with self.file.open('a') as file:
+            print(self.sum_of(path), file=file)
+
+
+def tried(rt, crate, paths, kept, goes_on):
+    """Of each edit of a crate its name and whether it is refused; none is, if the crate isn't proved without an edit. A run
+    that goes on leaves out those that were refused before."""
+    one, refused = ['--jobs', '1'], Refused(crate)
+    before = [path for path in paths if goes_on and refused.has(path)]
+    if before:
+        print(f'{crate.name}: {len(before)} of {len(paths)} were refused before', flush=True)
+    paths = [path for path in paths if path not in before]
+    out = [(f'{crate.name}/{path.stem}', True) for path in before]
+    if not paths:
+        return out
     last = Path(crate.folder, 'out', 'incremental')
     if last.is_dir():
         shutil.copytree(last, kept)
     kept.mkdir(exist_ok=True)
     if not crate.is_built() and rt.checked(crate, {}, one, str(kept)).returncode:
         print(f'{crate.name} is not proved', flush=True)
-        return [(f'{crate.name}/{path.stem}', False) for path in paths]
-    out = []
+        return out + [(f'{crate.name}/{path.stem}', False) for path in paths]
     for path in paths:
-        found, text = rt.must_fail(crate, str(path), one, str(kept))
+        said = said_of_file(rt, crate, path, one, str(kept))
+        if said:
+            found, text = True, f'{crate.name}/{path.name}: refused, as it must be: {said}'
+        else:
+            found, text = rt.must_fail(crate, str(path), one, str(kept))
         if not is_refused(rt, found):
             found, text = rt.must_fail(crate, str(path), one)
         print(text, flush=True)
         out.append((f'{crate.name}/{path.stem}', is_refused(rt, found)))
+        if is_refused(rt, found):
+            refused.add(path)
     shutil.rmtree(kept, ignore_errors=True)
     return out
 
@@ -155,8 +209,10 @@ def main(words):
             print('a crate below is not proved, so nothing was tried')
             return 1
         with ThreadPoolExecutor(at_once()) as pool:
-            runs = [pool.submit(tried, rt, crates[name], there, Path(room, f'kept-{name}'))
-                    for name, there in by_crate.items()]
+            # (the dearest first, so that none is left at the end)
+            dearest = sorted(by_crate.items(), key=lambda it: -len(it[1]) * crates[it[0]].count(rb'\n'))
+            runs = [pool.submit(tried, rt, crates[name], there, Path(room, f'kept-{name}'), not words)
+                    for name, there in dearest]
             results = [it for run in runs for it in run.result()]
     lost = [name for name, refused in results if not refused]
     if not words:
