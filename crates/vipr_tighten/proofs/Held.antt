@@ -2,22 +2,30 @@
 use Rattle.std.proofs.Common.{◌≡◌, ℕ, zero, suc, ◌+◌, ◌-◌, ◌<◌, ◌≤◌, max, cond, Bool, true, false}
 use Rattle.std.proofs.Common.{◌&&◌, ◌||◌, nat_lt, nat_le, nat_eq, List, [], ◌∷◌, ◌++◌, map, length}
 use Rattle.std.proofs.Common.{slice_index_or, Option, Some, None, arith, refl, sym, ◌∙◌, ap, ap₂}
-use Rattle.std.proofs.Common.{lt-ltb}
+use Rattle.std.proofs.Common.{lt-ltb, replicate}
+use Rattle.std.specs.FinMap.{empty}
+use Rattle.std.specs.FinSet as set
 use Rattle.std.specs.Prelude.{option_map}
 use Rattle.std.specs.List.{range_with_len, count_by, fold}
 use Rattle.std.proofs.lemmas.List.Sums.{sum_by-append, fold-append, count_by-le-length}
 use Rattle.std.proofs.lemmas.List.FromFn.{map-range_with_len_more, length-range_with_len}
-use Rattle.std.proofs.lemmas.List.{get_or-append-add, get_or-map, length-map}
+use Rattle.std.proofs.lemmas.List.{get_or-append-add, get_or-map, length-map, length-replicate}
 use Rattle.std.proofs.lemmas.Bool.Decides.{nat_tests}
-use Rattle.vipr_spec.specs.Constraint.{Constraint}
+use Rattle.vipr_spec.specs.Fraction.{zero_ℚ}
+use Rattle.vipr_spec.specs.Constraint.{Constraint, equal}
 use Rattle.vipr_spec.specs.Certificate.{Named, Derivation, Certificate, reason_at, last_at}
+use Rattle.vipr_spec.specs.Certificate.{minimum, infeasible}
 use Rattle.vipr_spec.specs.Certificate.{is_assumption, lasts_to, is_live, count_held, peak}
 use Rattle.vipr_spec.proofs.Laws.{reason_placed}
 use Rattle.vipr_spec.proofs.Laws.{lasts_listed}
-use Rattle.vipr_cert.specs.Items.{reason_of, derivation_of}
-use Rattle.vipr_cert.specs.declared.items.Derivation.{Derivation as Stored}
+use Rattle.vipr_cert.specs.Items.{reason_of}
+use Rattle.vipr_write.specs.Steps.{step_of}
+use Rattle.vipr_write.specs.declared.statements.Step.{Step}
+use Rattle.vipr_tighten.specs.Passes.{StandFor}
 use Rattle.vipr_tighten.specs.Dropping.{dropped_after, is_held_after, is_held_until}
 use Rattle.vipr_tighten.specs.Dropping.{is_dropped_after}
+use Rattle.vipr_tighten.proofs.Alike.{map_alike, peak_alike}
+use Rattle.vipr_tighten.proofs.Marking.{no_statement}
 
 abbrev pub drop_at : Certificate → ℕ → Option ℕ
 drop_at c i = dropped_after i (reason_at c i) (last_at c i)
@@ -144,19 +152,19 @@ module _ (c : Certificate) (m : ℕ) (is_first : length c.problem.constraints �
       turned ∙ sym (ap (fold max 0) (map-range_with_len_more (count_held c) m p (m + p) refl) ∙ fold-append max 0 (map (count_held c) (range_with_len m p)) (count_held c (m + p) ∷ []))
 
   -- where the derivation at this place is dropped
-  pub drop_here : (ds : List Stored) → map derivation_of ds ≡ c.derivations → p < length ds → (d : Stored) → d ≡ slice_index_or ds p d → drop_at c (m + p) ≡ dropped_after (m + p) (Some (reason_of d.reason)) d.last
-  drop_here ds same h d is = ap₂ (dropped_after (m + p)) reason last
+  pub drop_here : {S : Type 0} (view : S → Named Constraint) (ss : List (Step S)) → map (step_of view) ss ≡ c.derivations → p < length ss → (s : Step S) → s ≡ slice_index_or ss p s → drop_at c (m + p) ≡ dropped_after (m + p) (Some (reason_of s.reason)) s.last
+  drop_here view ss same h s is = ap₂ (dropped_after (m + p)) reason last
     where
-      there : derivation_of d ≡ slice_index_or c.derivations p (derivation_of d)
-      there = ap derivation_of is ∙ sym (get_or-map derivation_of ds p d (derivation_of d) h) ∙ ap (λ l. slice_index_or l p (derivation_of d)) same
+      there : step_of view s ≡ slice_index_or c.derivations p (step_of view s)
+      there = ap (step_of view) is ∙ sym (get_or-map (step_of view) ss p s (step_of view s) h) ∙ ap (λ l. slice_index_or l p (step_of view s)) same
 
       inside : p < length c.derivations
-      inside = let e = length-map ds derivation_of in let f = ap length same in omega arith
+      inside = let e = length-map ss (step_of view) in let f = ap length same in omega arith
 
-      reason : reason_at c (m + p) ≡ Some (reason_of d.reason)
-      reason = ap (λ n. reason_at c (n + p)) (sym is_first) ∙ reason_placed c p ∙ get_or-map (λ (x : Derivation). Some x.reason) c.derivations p (derivation_of d) None inside ∙ ap (λ (x : Derivation). Some x.reason) (sym there)
+      reason : reason_at c (m + p) ≡ Some (reason_of s.reason)
+      reason = ap (λ n. reason_at c (n + p)) (sym is_first) ∙ reason_placed c p ∙ get_or-map (λ (x : Derivation). Some x.reason) c.derivations p (step_of view s) None inside ∙ ap (λ (x : Derivation). Some x.reason) (sym there)
 
-      last : last_at c (m + p) ≡ d.last
+      last : last_at c (m + p) ≡ s.last
       last =
           let no_last : Named Constraint → Option ℕ = λ _. None in
           let given = map no_last c.problem.constraints in
@@ -165,7 +173,7 @@ module _ (c : Certificate) (m : ℕ) (is_first : length c.problem.constraints �
           lasts_listed c (m + p)
           ∙ ap (λ n. slice_index_or (given ++ derived) (n + p) None) (sym size)
           ∙ get_or-append-add given derived p None
-          ∙ get_or-map (λ (x : Derivation). x.last) c.derivations p (derivation_of d) None inside ∙ ap (λ (x : Derivation). x.last) (sym there)
+          ∙ get_or-map (λ (x : Derivation). x.last) c.derivations p (step_of view s) None inside ∙ ap (λ (x : Derivation). x.last) (sym there)
 
   -- the counts of what is dropped, with the derivation at this place
   pub dropped_then : (k n : ℕ) → n ≡ count_by (λ i. is_dropped_after (m + k) (drop_at c i)) (range_with_len m p)
@@ -191,3 +199,32 @@ module _ (c : Certificate) (m : ℕ) (is_first : length c.problem.constraints �
 pub peak_whole : (c : Certificate) (m n : ℕ) → length c.problem.constraints ≡ m
     → length c.derivations ≡ n → fold max 0 (map (count_held c) (range_with_len m n)) ≡ peak c
 peak_whole c m n a b = sym (ap₂ (λ i j. fold max 0 (map (count_held c) (range_with_len i j))) a b)
+
+-- ---- of steps
+
+-- a certificate of which nothing is known but its steps, and how many constraints precede them
+abbrev pub certificate_of : {S : Type 0} → ℕ → List (Step S) → Certificate
+certificate_of first steps = record {
+  problem = record {
+    names = [];
+    integers = set.empty;
+    direction = minimum;
+    objective = empty;
+    constraints = replicate first (record { name = []; item = record { row = empty; sense = equal; bound = zero_ℚ } });
+    bound_count = 0;
+    claim = infeasible;
+  };
+  solutions = [];
+  derivations = map (step_of no_statement) steps;
+}
+
+module _ {S : Type 0} (first : ℕ) (steps : List (Step S)) where
+  pub first_of : length (certificate_of first steps).problem.constraints ≡ first
+  first_of = length-replicate first (record { name = []; item = record { row = empty; sense = equal; bound = zero_ℚ } })
+
+  pub peak_of : (view : S → Named Constraint) (c : Certificate) → StandFor steps view first c → peak (certificate_of first steps) ≡ peak c
+  peak_of view c stand = peak_alike (certificate_of first steps) c (record {
+    given = first_of ∙ sym stand.first_is;
+    reasons = map_alike (step_of no_statement) (step_of view) (λ (x : Derivation). Some x.reason) (λ s. refl) steps ∙ ap (map (λ (x : Derivation). Some x.reason)) stand.those;
+    lasts = map_alike (step_of no_statement) (step_of view) (λ (x : Derivation). x.last) (λ s. refl) steps ∙ ap (map (λ (x : Derivation). x.last)) stand.those;
+  })

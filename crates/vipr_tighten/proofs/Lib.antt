@@ -4,6 +4,8 @@ mod Entries
 mod Moving
 mod Renumbering
 mod Tightening
+mod Alike
+mod KeptTexts
 mod Reading
 mod Held
 mod Outcomes

@@ -9,13 +9,14 @@ use Rattle.std.proofs.lemmas.List.{length-map, length-replicate}
 use Rattle.std.proofs.lemmas.List.Folds.{list_any_more}
 use Rattle.std.specs.FinMap.{empty}
 use Rattle.vipr_spec.specs.Fraction.{ℚ, zero_ℚ}
-use Rattle.vipr_spec.specs.Constraint.{equal}
+use Rattle.vipr_spec.specs.Constraint.{Constraint, equal}
 use Rattle.vipr_spec.specs.Reading.{is_nonzero}
-use Rattle.vipr_spec.specs.Certificate.{asm, Derivation}
+use Rattle.vipr_spec.specs.Certificate.{Named, asm, Derivation}
 use Rattle.vipr_spec.specs.Tightened.{refers_to, is_the_goal, is_marked}
 use Rattle.vipr_spec.proofs.Laws.{marked_down}
-use Rattle.vipr_cert.specs.Items.{reason_of, derivation_of}
-use Rattle.vipr_cert.specs.declared.items.Derivation.{Derivation as Stored}
+use Rattle.vipr_cert.specs.Items.{reason_of}
+use Rattle.vipr_write.specs.Steps.{step_of}
+use Rattle.vipr_write.specs.declared.statements.Step.{Step}
 use Rattle.vipr_tighten.specs.Passes.{has_mark, MarksAlso, AreMarks}
 
 -- ---- tests, one after the other
@@ -112,47 +113,52 @@ module _ (goal : Option ℕ) (first : ℕ) (ds : List Derivation) where
       let same : first + 0 ≡ first = omega arith in
       record { size = m.size; each = λ k h. m.each k h ∙ ap (λ n. is_marked goal n ds (first + k)) same }
 
--- ---- of the program's derivations
+-- ---- of steps
+
+-- a reading that says nothing
+abbrev pub no_statement : {S : Type 0} → S → Named Constraint
+no_statement s = record { name = []; item = record { row = empty; sense = equal; bound = zero_ℚ } }
 
 -- at the start, with no mark but the goal's
-module _ (goal : Option ℕ) (first : ℕ) (ds : List Stored) (clear : List Bool) (is : clear ≡ replicate (length ds) false) where
-  count : length (map derivation_of ds) ≡ length ds
-  count = length-map ds derivation_of
+module _ {S : Type 0} (view : S → Named Constraint) (goal : Option ℕ) (first : ℕ) (ss : List (Step S)) (clear : List Bool) (is : clear ≡ replicate (length ss) false) where
+  count : length (map (step_of view) ss) ≡ length ss
+  count = length-map ss (step_of view)
 
-  size : length clear ≡ length ds
-  size = ap length is ∙ length-replicate (length ds) false
+  size : length clear ≡ length ss
+  size = ap length is ∙ length-replicate (length ss) false
 
-  unmarked : (k : ℕ) → k < length ds → has_mark clear k ≡ false
-  unmarked k h = ap (λ l. has_mark l k) is ∙ get_or-replicate (length ds) k false false h
+  unmarked : (k : ℕ) → k < length ss → has_mark clear k ≡ false
+  unmarked k h = ap (λ l. has_mark l k) is ∙ get_or-replicate (length ss) k false false h
 
-  from_end : (marks : List Bool) → length marks ≡ length clear → ((k : ℕ) → k < length ds → has_mark marks k ≡ is_the_goal goal (first + k)) → AreMarksFrom goal first (map derivation_of ds) (length ds) marks
+  from_end : (marks : List Bool) → length marks ≡ length clear → ((k : ℕ) → k < length ss → has_mark marks k ≡ is_the_goal goal (first + k)) → AreMarksFrom goal first (map (step_of view) ss) (length ss) marks
   from_end marks same each =
       let c = count in let s = size in
-      subst (λ n. AreMarksFrom goal first (map derivation_of ds) n marks) count
-      (marks_begin goal first (map derivation_of ds) marks (omega arith) (λ k h. each k (omega arith)))
+      subst (λ n. AreMarksFrom goal first (map (step_of view) ss) n marks) count
+      (marks_begin goal first (map (step_of view) ss) marks (omega arith) (λ k h. each k (omega arith)))
 
-  pub begin_none : goal ≡ None → AreMarksFrom goal first (map derivation_of ds) (length ds) clear
+  pub begin_none : goal ≡ None → AreMarksFrom goal first (map (step_of view) ss) (length ss) clear
   begin_none none = from_end clear refl (λ k h. unmarked k h ∙ ap (λ g. is_the_goal g (first + k)) (sym none))
 
-  pub begin_goal : (index : ℕ) → goal ≡ Some index → (marks : List Bool) → length marks ≡ length clear → MarksAlso first (λ i. nat_eq i index) clear marks → AreMarksFrom goal first (map derivation_of ds) (length ds) marks
+  pub begin_goal : (index : ℕ) → goal ≡ Some index → (marks : List Bool) → length marks ≡ length clear → MarksAlso first (λ i. nat_eq i index) clear marks → AreMarksFrom goal first (map (step_of view) ss) (length ss) marks
   begin_goal index some marks same also =
       from_end marks same (λ k h. let s = size in also k (omega arith) ∙ ap (λ b. b || nat_eq (first + k) index) (unmarked k h) ∙ ap (λ g. is_the_goal g (first + k)) (sym some))
 
-reason_seen : (ds : List Stored) (j : ℕ) (d : Stored) → j < length ds → d ≡ get_or ds j d
-    → slice_index_or (map derivation_of ds) j (derivation_of d) ≡ derivation_of d
-reason_seen ds j d h is = get_or-map derivation_of ds j d (derivation_of d) h ∙ ap derivation_of (sym is)
+step_seen : {S : Type 0} (view : S → Named Constraint) (ss : List (Step S)) (j : ℕ) (s : Step S)
+    → j < length ss → s ≡ get_or ss j s
+    → slice_index_or (map (step_of view) ss) j (step_of view s) ≡ step_of view s
+step_seen view ss j s h is = get_or-map (step_of view) ss j s (step_of view s) h ∙ ap (step_of view) (sym is)
 
-module _ (goal : Option ℕ) (first : ℕ) (ds : List Stored) (j : ℕ) (h : j < length ds) (marks : List Bool) (so_far : AreMarksFrom goal first (map derivation_of ds) (j + 1) marks) where
-  inside : j < length (map derivation_of ds)
-  inside = let s = length-map ds derivation_of in omega arith
+module _ {S : Type 0} (view : S → Named Constraint) (goal : Option ℕ) (first : ℕ) (ss : List (Step S)) (j : ℕ) (h : j < length ss) (marks : List Bool) (so_far : AreMarksFrom goal first (map (step_of view) ss) (j + 1) marks) where
+  inside : j < length (map (step_of view) ss)
+  inside = let s = length-map ss (step_of view) in omega arith
 
-  pub next_marked : (d : Stored) → d ≡ get_or ds j d → (new : List Bool) → length new ≡ length marks → has_mark marks j ≡ true → MarksAlso first (refers_to (reason_of d.reason)) marks new → AreMarksFrom goal first (map derivation_of ds) j new
-  next_marked d is new size marked also =
-      marks_more goal first (map derivation_of ds) j (derivation_of d) inside marks so_far new size marked
-      (subst (λ (x : Derivation). MarksAlso first (refers_to x.reason) marks new) (sym (reason_seen ds j d h is)) also)
+  pub next_marked : (s : Step S) → s ≡ get_or ss j s → (new : List Bool) → length new ≡ length marks → has_mark marks j ≡ true → MarksAlso first (refers_to (reason_of s.reason)) marks new → AreMarksFrom goal first (map (step_of view) ss) j new
+  next_marked s is new size marked also =
+      marks_more goal first (map (step_of view) ss) j (step_of view s) inside marks so_far new size marked
+      (subst (λ (x : Derivation). MarksAlso first (refers_to x.reason) marks new) (sym (step_seen view ss j s h is)) also)
 
-  pub next_unmarked : has_mark marks j ≡ false → AreMarksFrom goal first (map derivation_of ds) j marks
-  next_unmarked unmarked = marks_stay goal first (map derivation_of ds) j none inside marks so_far unmarked
+  pub next_unmarked : has_mark marks j ≡ false → AreMarksFrom goal first (map (step_of view) ss) j marks
+  next_unmarked unmarked = marks_stay goal first (map (step_of view) ss) j none inside marks so_far unmarked
     where
       none : Derivation
       none = record { name = []; stated = record { row = empty; sense = equal; bound = zero_ℚ }; reason = asm; last = None }

@@ -6,9 +6,12 @@ use Rattle.std.proofs.Math.Seq.{get_or-append_right, take-append-add}
 use Rattle.std.proofs.lemmas.List.{get_or-take, get_or-drop, get_or-set_other, get_or_read_under}
 use Rattle.std.proofs.lemmas.List.{length-drop, length-take-le, same_lists}
 use Rattle.std.specs.List.{SwappedAt}
+use Rattle.vipr_spec.specs.Constraint.{Constraint}
+use Rattle.vipr_spec.specs.Certificate.{Named}
 use Rattle.vipr_spec.specs.Tightened.{refers_to, referred_by, with_new_indices}
-use Rattle.vipr_cert.specs.Items.{reason_of, derivation_of}
-use Rattle.vipr_cert.specs.declared.items.Derivation.{Derivation}
+use Rattle.vipr_cert.specs.Items.{reason_of}
+use Rattle.vipr_write.specs.Steps.{step_of}
+use Rattle.vipr_write.specs.declared.statements.Step.{Step}
 use Rattle.vipr_tighten.specs.Passes.{index_by, TakesOver}
 
 with_first : {A : Type 0} (moved : A) (l : List A) → 0 < length l → set l 0 moved ≡ moved ∷ drop 1 l
@@ -62,16 +65,16 @@ module _ {A : Type 0} (old now : List A) (kept place : ℕ) (behind : kept ≤ p
         ∙ swapped.2 (place + 1 + k) d (omega arith) (omega arith)
         ∙ sym (get_or-drop (place + 1) old k d))
 
--- what is written of a derivation that is taken over
-pub accepted_over : (first : ℕ) (table : List ℕ) (old now : List Derivation) (kept place : ℕ)
-    → kept ≤ place → place < length old → length now ≡ length old → SwappedAt old now kept place
-    → (was moved : Derivation) → was ≡ get_or (drop kept now) 0 was → derivation_of moved
-    ≡ record (with_new_indices (index_by first table) (derivation_of was)) { last = None }
-    → (changed : List Derivation) → length changed ≡ kept → map derivation_of changed ≡ referred_by
-    (refers_to (reason_of moved.reason)) (first + kept) first
-    (map derivation_of (take kept now))
-    → TakesOver first table kept place old (changed ++ set (drop kept now) 0 moved)
-accepted_over first table old now kept place behind there size swapped was moved is_was d changed as_long r = record {
+-- what is written of a step that is taken over
+pub accepted_over : {S : Type 0} (view : S → Named Constraint) (first : ℕ) (table : List ℕ)
+    (old now : List (Step S)) (kept place : ℕ) → kept ≤ place → place < length old
+    → length now ≡ length old → SwappedAt old now kept place → (was moved : Step S)
+    → was ≡ get_or (drop kept now) 0 was → step_of view moved
+    ≡ record (with_new_indices (index_by first table) (step_of view was)) { last = None }
+    → (changed : List (Step S)) → length changed ≡ kept → map (step_of view) changed ≡ referred_by
+    (refers_to (reason_of moved.reason)) (first + kept) first (map (step_of view) (take kept now))
+    → TakesOver view first table kept place old (changed ++ set (drop kept now) 0 moved)
+accepted_over {S} view first table old now kept place behind there size swapped was moved is_was d changed as_long r = record {
   size = after_size old now kept place behind there size swapped changed moved as_long;
   left = after_left old now kept place behind there size swapped changed moved as_long;
   moved_item = λ x e.
@@ -79,7 +82,7 @@ accepted_over first table old now kept place behind there size swapped was moved
         changed,
         moved,
         after_front old now kept place behind there size swapped changed moved as_long,
-        subst (λ (y : Derivation). derivation_of moved ≡ record (with_new_indices (index_by first table) (derivation_of y)) { last = None }) same d,
-        subst (λ l. map derivation_of changed ≡ referred_by (refers_to (reason_of moved.reason)) (first + kept) first (map derivation_of l)) (front_same old now kept place behind there size swapped) r,
+        subst (λ (y : Step S). step_of view moved ≡ record (with_new_indices (index_by first table) (step_of view y)) { last = None }) same d,
+        subst (λ l. map (step_of view) changed ≡ referred_by (refers_to (reason_of moved.reason)) (first + kept) first (map (step_of view) l)) (front_same old now kept place behind there size swapped) r,
       );
 }

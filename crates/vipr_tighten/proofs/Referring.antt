@@ -7,11 +7,12 @@ use Rattle.std.specs.List.{list_any}
 use Rattle.std.proofs.lemmas.List.Folds.{list_any_more}
 use Rattle.std.proofs.lemmas.List.{length-map}
 use Rattle.vipr_spec.specs.Fraction.{ℚ}
+use Rattle.vipr_spec.specs.Constraint.{Constraint}
 use Rattle.vipr_spec.specs.Reading.{is_nonzero}
-use Rattle.vipr_spec.specs.Certificate.{Derivation}
+use Rattle.vipr_spec.specs.Certificate.{Named, Derivation}
 use Rattle.vipr_spec.specs.Tightened.{referred_by}
-use Rattle.vipr_cert.specs.Items.{derivation_of}
-use Rattle.vipr_cert.specs.declared.items.Derivation.{Derivation as Stored}
+use Rattle.vipr_write.specs.Steps.{step_of}
+use Rattle.vipr_write.specs.declared.statements.Step.{Step}
 
 unequal : (i n : ℕ) → ¬ (i ≡ n) → nat_eq i n ≡ false
 unequal i n h = by (nat_eq i n) refl
@@ -46,53 +47,53 @@ referred_none p last k (d ∷ ds) none =
 
 -- ---- one index
 
-pub referred_at : (last k : ℕ) (ds : List Stored) (place index : ℕ) (x : Stored) → index ≡ k + place
-    → place < length ds → x ≡ get_or ds place x
-    → map derivation_of (set ds place (record x { last = Some last }))
-    ≡ referred_by (λ i. nat_eq i index) last k (map derivation_of ds)
-referred_at last k [] place index x e h is = absurd (omega arith)
-referred_at last k (d ∷ ds) zero index x e h is =
-    ap₂ (λ o l. record (derivation_of x) { last = o } ∷ l)
-    (ap (λ b. cond b (Some last) d.last) (sym (eq-eqb k index (omega arith))))
-    (sym (referred_none (λ i. nat_eq i index) last (suc k) (map derivation_of ds) (λ i a b. unequal i index (λ same. omega arith))))
-    ∙ ap (λ (y : Stored). record (derivation_of y) { last = cond (nat_eq k index) (Some last) d.last } ∷ referred_by (λ i. nat_eq i index) last (suc k) (map derivation_of ds)) is
-referred_at last k (d ∷ ds) (suc place) index x e h is =
-    ap₂ (λ o l. record (derivation_of d) { last = o } ∷ l)
-    (ap (λ b. cond b (Some last) d.last) (sym (unequal k index (λ same. omega arith))))
-    (referred_at last (suc k) ds place index x (omega arith) (omega arith) is)
+pub referred_at : {S : Type 0} (view : S → Named Constraint) (last k : ℕ) (ss : List (Step S))
+    (place index : ℕ) (x : Step S) → index ≡ k + place → place < length ss → x ≡ get_or ss place x
+    → map (step_of view) (set ss place (record x { last = Some last }))
+    ≡ referred_by (λ i. nat_eq i index) last k (map (step_of view) ss)
+referred_at view last k [] place index x e h is = absurd (omega arith)
+referred_at {S} view last k (s ∷ ss) zero index x e h is =
+    ap₂ (λ o l. record (step_of view x) { last = o } ∷ l)
+    (ap (λ b. cond b (Some last) s.last) (sym (eq-eqb k index (omega arith))))
+    (sym (referred_none (λ i. nat_eq i index) last (suc k) (map (step_of view) ss) (λ i a b. unequal i index (λ same. omega arith))))
+    ∙ ap (λ (y : Step S). record (step_of view y) { last = cond (nat_eq k index) (Some last) s.last } ∷ referred_by (λ i. nat_eq i index) last (suc k) (map (step_of view) ss)) is
+referred_at view last k (s ∷ ss) (suc place) index x e h is =
+    ap₂ (λ o l. record (step_of view s) { last = o } ∷ l)
+    (ap (λ b. cond b (Some last) s.last) (sym (unequal k index (λ same. omega arith))))
+    (referred_at view last (suc k) ss place index x (omega arith) (omega arith) is)
 
 -- before the first one, and past the last one
-pub referred_outside : (last k : ℕ) (ds : List Stored) (index : ℕ)
-    → ((i : ℕ) → k ≤ i → i < k + length ds → ¬ (i ≡ index))
-    → map derivation_of ds ≡ referred_by (λ i. nat_eq i index) last k (map derivation_of ds)
-referred_outside last k ds index out =
-    let size : length (map derivation_of ds) ≡ length ds = length-map ds derivation_of in
-    sym (referred_none (λ i. nat_eq i index) last k (map derivation_of ds) (λ i a b. unequal i index (out i a (omega arith))))
+pub referred_outside : {S : Type 0} (view : S → Named Constraint) (last k : ℕ) (ss : List (Step S))
+    (index : ℕ) → ((i : ℕ) → k ≤ i → i < k + length ss → ¬ (i ≡ index))
+    → map (step_of view) ss ≡ referred_by (λ i. nat_eq i index) last k (map (step_of view) ss)
+referred_outside view last k ss index out =
+    let size : length (map (step_of view) ss) ≡ length ss = length-map ss (step_of view) in
+    sym (referred_none (λ i. nat_eq i index) last k (map (step_of view) ss) (λ i a b. unequal i index (out i a (omega arith))))
 
 -- ---- entry by entry
 
 abbrev names : ℕ → ℕ × ℚ → Bool
 names i e = nat_eq i e.0 && is_nonzero e
 
-module _ (last k : ℕ) (es : List (ℕ × ℚ)) (n : ℕ) (e : ℕ × ℚ) (h : n < length es) (is : e ≡ get_or es n e) (old mid : List Stored)
-    (so_far : map derivation_of mid ≡ referred_by (λ i. list_any (names i) (take n es)) last k (map derivation_of old)) where
-  more : (new : List Stored) → map derivation_of new ≡ referred_by (λ i. names i e) last k (map derivation_of mid) → map derivation_of new ≡ referred_by (λ i. list_any (names i) (take (n + 1) es)) last k (map derivation_of old)
+module _ {S : Type 0} (view : S → Named Constraint) (last k : ℕ) (es : List (ℕ × ℚ)) (n : ℕ) (e : ℕ × ℚ) (h : n < length es) (is : e ≡ get_or es n e) (old mid : List (Step S))
+    (so_far : map (step_of view) mid ≡ referred_by (λ i. list_any (names i) (take n es)) last k (map (step_of view) old)) where
+  more : (new : List (Step S)) → map (step_of view) new ≡ referred_by (λ i. names i e) last k (map (step_of view) mid) → map (step_of view) new ≡ referred_by (λ i. list_any (names i) (take (n + 1) es)) last k (map (step_of view) old)
   more new this =
       this ∙ ap (referred_by (λ i. names i e) last k) so_far
-      ∙ referred_both (λ i. list_any (names i) (take n es)) (λ i. names i e) last k (map derivation_of old)
-      ∙ referred_alike (λ i. list_any (names i) (take n es) || names i e) (λ i. list_any (names i) (take (n + 1) es)) last k (map derivation_of old)
+      ∙ referred_both (λ i. list_any (names i) (take n es)) (λ i. names i e) last k (map (step_of view) old)
+      ∙ referred_alike (λ i. list_any (names i) (take n es) || names i e) (λ i. list_any (names i) (take (n + 1) es)) last k (map (step_of view) old)
       (λ i. ap (λ x. list_any (names i) (take n es) || names i x) is ∙ sym (list_any_more (names i) es n e h))
 
-  pub entry_referred : (new : List Stored) → is_nonzero e ≡ true → map derivation_of new ≡ referred_by (λ i. nat_eq i e.0) last k (map derivation_of mid)
-      → map derivation_of new ≡ referred_by (λ i. list_any (names i) (take (n + 1) es)) last k (map derivation_of old)
-  entry_referred new t this = more new (this ∙ referred_alike (λ i. nat_eq i e.0) (λ i. names i e) last k (map derivation_of mid) (λ i. by (nat_eq i e.0) ∙ ap (λ u. nat_eq i e.0 && u) (sym t)))
+  pub entry_referred : (new : List (Step S)) → is_nonzero e ≡ true → map (step_of view) new ≡ referred_by (λ i. nat_eq i e.0) last k (map (step_of view) mid)
+      → map (step_of view) new ≡ referred_by (λ i. list_any (names i) (take (n + 1) es)) last k (map (step_of view) old)
+  entry_referred new t this = more new (this ∙ referred_alike (λ i. nat_eq i e.0) (λ i. names i e) last k (map (step_of view) mid) (λ i. by (nat_eq i e.0) ∙ ap (λ u. nat_eq i e.0 && u) (sym t)))
     where
       by : (u : Bool) → u ≡ (u && true)
       by true = refl
       by false = refl
 
-  pub entry_skipped : is_nonzero e ≡ false → map derivation_of mid ≡ referred_by (λ i. list_any (names i) (take (n + 1) es)) last k (map derivation_of old)
-  entry_skipped t = more mid (sym (referred_none (λ i. names i e) last k (map derivation_of mid) (λ i a b. ap (λ u. nat_eq i e.0 && u) t ∙ by (nat_eq i e.0))))
+  pub entry_skipped : is_nonzero e ≡ false → map (step_of view) mid ≡ referred_by (λ i. list_any (names i) (take (n + 1) es)) last k (map (step_of view) old)
+  entry_skipped t = more mid (sym (referred_none (λ i. names i e) last k (map (step_of view) mid) (λ i a b. ap (λ u. nat_eq i e.0 && u) t ∙ by (nat_eq i e.0))))
     where
       by : (u : Bool) → (u && false) ≡ false
       by true = refl

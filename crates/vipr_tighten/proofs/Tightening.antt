@@ -1,39 +1,59 @@
 -- The parts of the tightened certificate
-use Rattle.std.proofs.Common.{◌≡◌, ℕ, ◌<◌, Bool, List, map, length, Option, IfSome, refl, sym, ap}
-use Rattle.std.proofs.Common.{◌∙◌, subst}
+use Rattle.std.proofs.Common.{◌≡◌, ℕ, ◌+◌, ◌<◌, ◌≤◌, List, map, length, Option, IfSome, arith}
+use Rattle.std.proofs.Common.{sym, ap, ◌∙◌, subst}
 use Rattle.vipr_spec.specs.Certificate as is
+use Rattle.vipr_spec.specs.Reading.{most_count}
 use Rattle.vipr_spec.specs.Steps.{RefersBack}
 use Rattle.vipr_spec.specs.Shape.{CanWrite}
-use Rattle.vipr_spec.specs.Tightened.{kept_derivations, tightened_certificate}
+use Rattle.vipr_spec.specs.Tightened.{tightened_certificate}
 use Rattle.vipr_spec.proofs.Laws.{can_write}
+use Rattle.vipr_linear.specs.Constraint.{constraint_of}
+use Rattle.vipr_linear.specs.declared.constraint.Constraint.{Constraint}
 use Rattle.vipr_linear.specs.declared.row.Solution.{Solution}
-use Rattle.vipr_cert.specs.Earlier.{NameEarlierFrom}
-use Rattle.vipr_cert.specs.Items.{derivation_of, certificate_with}
+use Rattle.vipr_cert.specs.Items.{named_of, derivation_of, certificate_with}
 use Rattle.vipr_cert.specs.declared.items.Named.{Named}
 use Rattle.vipr_cert.specs.declared.items.Derivation.{Derivation}
-use Rattle.vipr_tighten.specs.Passes.{AreMarks, kept_by}
-use Rattle.vipr_tighten.proofs.Renumbering.{earlier_all, tightened_is}
+use Rattle.vipr_write.specs.Steps.{step_of}
+use Rattle.vipr_write.specs.declared.statements.Step.{Step}
+use Rattle.vipr_tighten.specs.Passes.{StandFor, StepsNameEarlier}
+use Rattle.vipr_tighten.proofs.Renumbering.{steps_earlier, stand_count}
 
-module _ (c : is.Certificate) (p : is.Problem) (ss : List (Named Solution)) (ds : List Derivation) (parts : c ≡ certificate_with p ss ds) (back : RefersBack c) (first : ℕ) (is_first : length p.constraints ≡ first) where
-  abbrev whole : is.Certificate
-  whole = certificate_with p ss ds
+module _ (c : is.Certificate) (p : is.Problem) (ss : List (Named Solution)) (ds : List Derivation) (parts : c ≡ certificate_with p ss ds) (first : ℕ) (is_first : length p.constraints ≡ first)
+    (steps : List (Step (Named Constraint))) (made : map (step_of (named_of constraint_of)) steps ≡ map derivation_of ds) where
+  pub stand : StandFor steps (named_of constraint_of) first c
+  stand = record {
+    first_is = ap (λ (x : is.Certificate). length x.problem.constraints) parts ∙ is_first;
+    those = made ∙ ap (λ (x : is.Certificate). x.derivations) (sym parts);
+  }
 
-  whole_back : RefersBack whole
-  whole_back = subst RefersBack parts back
+  pub stand_early : RefersBack c → StepsNameEarlier first steps
+  stand_early back = steps_earlier (named_of constraint_of) c first steps back stand
 
-  pub early : NameEarlierFrom first ds (length ds)
-  early = subst (λ n. NameEarlierFrom n ds (length ds)) is_first (earlier_all whole ds refl whole_back)
+  counted : is.count c ≡ first + length steps
+  counted = stand_count (named_of constraint_of) c first steps stand
 
-  module _ (goal : Option ℕ) (inside : IfSome goal (λ g. g < is.count c)) (marks : List Bool) (are : AreMarks goal first (map derivation_of ds) marks)
-      (kept : List Derivation) (e : map derivation_of kept ≡ kept_derivations (kept_by first marks) first (map derivation_of ds)) where
-    derivations : map derivation_of kept ≡ (tightened_certificate whole goal).derivations
-    derivations =
-        tightened_is whole ds refl whole_back goal (subst (λ (x : is.Certificate). IfSome goal (λ g. g < is.count x)) parts inside) marks
-        (subst (λ n. AreMarks goal n (map derivation_of ds) marks) (sym is_first) are) kept
-        (subst (λ n. map derivation_of kept ≡ kept_derivations (kept_by n marks) n (map derivation_of ds)) (sym is_first) e)
+  pub stand_few : CanWrite c → first + length steps ≤ most_count
+  stand_few w = let e = counted in let few = w.shape.few_derivations in omega arith
 
-    pub tightened_parts : certificate_with p ss kept ≡ tightened_certificate c goal
-    tightened_parts = ap (λ l. record whole { derivations = l }) derivations ∙ ap (λ (x : is.Certificate). tightened_certificate x goal) (sym parts)
+  pub stand_goal : (goal : Option ℕ) → IfSome goal (λ g. g < is.count c) → IfSome goal (λ g. g < first + length steps)
+  stand_goal goal h = subst (λ n. IfSome goal (λ g. g < n)) counted h
 
-    pub parts_within : CanWrite c → CanWrite (certificate_with p ss kept)
-    parts_within w = subst CanWrite (sym tightened_parts) (can_write c goal w)
+  -- what is kept
+  module _ (goal : Option ℕ) (kept : List (Step (Named Constraint))) (are : map (step_of (named_of constraint_of)) kept ≡ (tightened_certificate c goal).derivations) where
+    pub kept_stand : StandFor kept (named_of constraint_of) first (tightened_certificate c goal)
+    kept_stand = record { first_is = stand.first_is; those = are }
+
+    pub kept_few : CanWrite c → first + length kept ≤ most_count
+    kept_few w =
+        let e = stand_count (named_of constraint_of) (tightened_certificate c goal) first kept kept_stand in
+        let few = (can_write c goal w).shape.few_derivations in
+        omega arith
+
+    module _ (tightened : List Derivation) (back : map derivation_of tightened ≡ map (step_of (named_of constraint_of)) kept) where
+      pub tightened_parts : certificate_with p ss tightened ≡ tightened_certificate c goal
+      tightened_parts =
+          ap (λ l. record (certificate_with p ss ds) { derivations = l }) (back ∙ are)
+          ∙ ap (λ (x : is.Certificate). record x { derivations = (tightened_certificate c goal).derivations }) (sym parts)
+
+      pub parts_within : CanWrite c → CanWrite (certificate_with p ss tightened)
+      parts_within w = subst CanWrite (sym tightened_parts) (can_write c goal w)

@@ -1,11 +1,34 @@
--- The tables of the two passes over the derivations, of which the first has the index `first`
+-- Steps as derivations, of which the first has the index `first`, and the tables of the two
+-- passes over them
 use Rattle.std.specs.Prelude.{◌≡◌, ℕ, ◌+◌, ◌-◌, ◌<◌, ◌||◌, Bool, false, nat_lt, if◌then◌else◌}
 use Rattle.std.specs.Prelude.{List, [], ◌∷◌, ◌++◌, length, map, take, drop, slice_index_or}
-use Rattle.std.specs.Prelude.{Option, None}
-use Rattle.vipr_spec.specs.Certificate.{Derivation}
+use Rattle.std.specs.Prelude.{Option, Some, None}
+use Rattle.vipr_spec.specs.Constraint.{Constraint}
+use Rattle.vipr_spec.specs.Certificate.{Named, Reason, Derivation, Certificate, NamesEarlier}
 use Rattle.vipr_spec.specs.Tightened.{is_marked, refers_to, referred_by, with_new_indices}
-use Rattle.vipr_cert.specs.Items.{reason_of, derivation_of}
-use Rattle.vipr_cert.specs.declared.items.Derivation.{Derivation as Stored}
+use Rattle.vipr_cert.specs.Items.{reason_of}
+use Rattle.vipr_write.specs.Steps.{step_of}
+use Rattle.vipr_write.specs.declared.statements.Step.{Step}
+
+-- ---- the steps
+
+-- The steps are the derivations of the certificate c, of which the first has the index `first`,
+-- if `view` reads the names and the constraints that are kept of them.
+pub record StandFor {S : Type 0} (steps : List (Step S)) (view : S → Named Constraint) (first : ℕ)
+    (c : Certificate) : Type 0 where
+  pub first_is : length c.problem.constraints ≡ first
+  pub those : map (step_of view) steps ≡ c.derivations
+
+-- the reasons; none past the end
+abbrev pub step_reason : {S : Type 0} → List (Step S) → ℕ → Option Reason
+step_reason steps k = slice_index_or (map (λ s. Some (reason_of s.reason)) steps) k None
+
+-- each names earlier constraints alone
+abbrev pub StepsNameEarlier : {S : Type 0} → ℕ → List (Step S) → Type 0
+StepsNameEarlier first steps =
+    (k : ℕ) → k < length steps → NamesEarlier (first + k) (step_reason steps k)
+
+-- ---- the tables
 
 -- a mark for each derivation; there is none past the end
 abbrev pub has_mark : List Bool → ℕ → Bool
@@ -33,13 +56,13 @@ index_by first table i = if nat_lt i first then i else slice_index_or table (i -
 -- What the place holds moves behind the first `kept`, under its new indices and with no
 -- last reference yet, and is now the last one that refers to those before it. What follows the
 -- place stays.
-pub record TakesOver (first : ℕ) (table : List ℕ) (kept place : ℕ) (old new : List Stored)
-    : Type 0 where
+pub record TakesOver {S : Type 0} (view : S → Named Constraint) (first : ℕ) (table : List ℕ)
+    (kept place : ℕ) (old new : List (Step S)) : Type 0 where
   pub size : length new ≡ length old
   pub left : drop (place + 1) new ≡ drop (place + 1) old
-  pub moved_item : (x : Stored) → x ≡ slice_index_or old place x
-      → (changed : List Stored) × (moved : Stored) × (take (kept + 1) new ≡ changed ++ moved ∷ [])
-      × (derivation_of moved
-      ≡ record (with_new_indices (index_by first table) (derivation_of x)) { last = None })
-      × (map derivation_of changed ≡ referred_by (refers_to (reason_of moved.reason))
-      (first + kept) first (map derivation_of (take kept old)))
+  pub moved_item : (x : Step S) → x ≡ slice_index_or old place x
+      → (changed : List (Step S)) × (moved : Step S) × (take (kept + 1) new ≡ changed ++ moved ∷ [])
+      × (step_of view moved
+      ≡ record (with_new_indices (index_by first table) (step_of view x)) { last = None })
+      × (map (step_of view) changed ≡ referred_by (refers_to (reason_of moved.reason))
+      (first + kept) first (map (step_of view) (take kept old)))

@@ -1,13 +1,23 @@
 //! The tightened certificate.
-ghost use Rattle.std.specs.Prelude.{◌≡◌, ◌<◌, IfOk, IfSome};
-ghost use Rattle.vipr_spec.specs.Certificate.{count};
+ghost use Rattle.std.specs.Prelude.{◌≡◌, ◌+◌, ◌<◌, ◌≤◌, length, map, IfOk, IfSome};
+ghost use Rattle.vipr_spec.specs.Constraint.{Constraint as ConstraintMeant};
+ghost use Rattle.vipr_spec.specs.Certificate.{Certificate as CertificateMeant};
+ghost use Rattle.vipr_spec.specs.Certificate.{Named as NamedMeant, count, peak};
+ghost use Rattle.vipr_spec.specs.Reading.{most_count};
 ghost use Rattle.vipr_spec.specs.Steps.{RefersBack};
 ghost use Rattle.vipr_spec.specs.Tightened.{tightened_certificate};
+ghost use Rattle.vipr_linear.specs.Constraint.{constraint_of};
+ghost use Rattle.vipr_cert.specs.Items.{named_of, derivation_of};
+ghost use Rattle.vipr_write.specs.Steps.{step_of};
+ghost use Rattle.vipr_tighten.specs.Passes.{StepsNameEarlier, StandFor};
 
 use crate::needed::needed;
+use crate::peak::peak;
 use crate::renumber::renumber;
 use std::alloc::{AllocError, Global};
-use vipr_cert::Certificate;
+use vipr_cert::{Certificate, Derivation, Named};
+use vipr_linear::Constraint;
+use vipr_write::Step;
 
 /// The certificate with the derivations alone that a goal needs, in their order. They are
 /// renumbered without gaps, entries with multiplier 0 are removed, and the last reference of each
@@ -29,8 +39,114 @@ pub fn tighten_certificate(
     ensures { IfOk result (λ t. t ≡ tightened_certificate certificate goal) }
 {
     let (problem, solutions, derivations) = certificate.into_parts();
-    let first = problem.cons().len();
-    let marks = needed(alloc, &derivations, first, goal)?;
-    let kept = renumber(alloc, derivations, &marks, first as u32)?;
-    Ok(Certificate::of_parts(problem, solutions, kept))
+    let first = problem.cons().len() as u32;
+    let steps = steps_of(alloc, derivations)?;
+    let kept = tighten_steps(alloc, steps, first, goal)?;
+    let tightened = derivations_of(alloc, kept)?;
+    Ok(Certificate::of_parts(problem, solutions, tightened))
+}
+
+/// The tightened certificate, and how many derived constraints have to be held at a time to check
+/// it.
+///
+/// # Errors
+///
+/// `AllocError` if a growth was refused. The certificate is dropped.
+pub(crate) fn tighten_with_peak(
+    alloc: Global,
+    certificate: Certificate,
+    goal: Option<u32>,
+) -> Result<(Certificate, usize), AllocError>
+    requires back { RefersBack certificate }
+    requires goal { IfSome goal (λ g. g < count certificate) }
+    ensures tightened { IfOk result (λ x. x.0 ≡ tightened_certificate certificate goal) }
+    ensures peak { IfOk result (λ x. x.1 ≡ peak x.0) }
+{
+    let (problem, solutions, derivations) = certificate.into_parts();
+    let first = problem.cons().len() as u32;
+    let steps = steps_of(alloc, derivations)?;
+    let kept = tighten_steps(alloc, steps, first, goal)?;
+    let peak_after = peak(alloc, first as usize, &kept)?;
+    let tightened = derivations_of(alloc, kept)?;
+    Ok((
+        Certificate::of_parts(problem, solutions, tightened),
+        peak_after,
+    ))
+}
+
+/// The steps alone that a goal needs, as `tighten_certificate` keeps the derivations. The first
+/// step has the index `first`.
+///
+/// # Errors
+///
+/// `AllocError` if a growth was refused. The steps are dropped.
+pub(crate) fn tighten_steps<S: Drop>(
+    alloc: Global,
+    steps: Vec<Step<S>>,
+    first: u32,
+    goal: Option<u32>,
+) -> Result<Vec<Step<S>>, AllocError>
+    requires few { first + length steps.items ≤ most_count }
+    requires earlier { StepsNameEarlier first steps.items }
+    requires goal { IfSome goal (λ g. g < first + length steps.items) }
+    ensures { IfOk result (λ kept. (view : S → NamedMeant ConstraintMeant) (c : CertificateMeant)
+        → StandFor steps.items view first c
+        → map (step_of view) kept.items ≡ (tightened_certificate c goal).derivations) }
+{
+    let marks = needed(alloc, &steps, first as usize, goal)?;
+    renumber(alloc, steps, &marks, first)
+}
+
+// The derivations, each with its name and its constraint together.
+fn steps_of(
+    alloc: Global,
+    derivations: Vec<Derivation>,
+) -> Result<Vec<Step<Named<Constraint>>>, AllocError>
+    ensures { IfOk result (λ steps. map (step_of (named_of constraint_of)) steps.items
+        ≡ map derivation_of derivations.items) }
+{
+    let mut steps = Vec::with_capacity(alloc, derivations.len())?;
+    for derivation in derivations {
+        steps.push(as_step(derivation))?;
+    }
+    Ok(steps)
+}
+
+fn as_step(derivation: Derivation) -> Step<Named<Constraint>>
+    ensures { step_of (named_of constraint_of) result ≡ derivation_of derivation }
+{
+    Step {
+        stated: Named {
+            name: derivation.name,
+            item: derivation.constraint,
+        },
+        reason: derivation.reason,
+        last: derivation.last,
+    }
+}
+
+// The derivations of which these are the steps.
+fn derivations_of(
+    alloc: Global,
+    steps: Vec<Step<Named<Constraint>>>,
+) -> Result<Vec<Derivation>, AllocError>
+    ensures { IfOk result (λ derivations. map derivation_of derivations.items
+        ≡ map (step_of (named_of constraint_of)) steps.items) }
+{
+    let mut derivations = Vec::with_capacity(alloc, steps.len())?;
+    for step in steps {
+        derivations.push(as_derivation(step))?;
+    }
+    Ok(derivations)
+}
+
+fn as_derivation(step: Step<Named<Constraint>>) -> Derivation
+    ensures { derivation_of result ≡ step_of (named_of constraint_of) step }
+{
+    Derivation {
+        name: step.stated.name,
+        constraint: step.stated.item,
+        reason: step.reason,
+        last: step.last,
+    }
 }

@@ -2,32 +2,36 @@
 ghost use Rattle.std.specs.Prelude.{ℕ, Bool, ◌&&◌, ◌+◌, ◌≡◌, nat_eq, not, map, length, IfOk, pos};
 ghost use Rattle.std.specs.List.{list_any};
 ghost use Rattle.std.specs.Ordering.{int_eq};
+ghost use Rattle.vipr_spec.specs.Constraint.{Constraint as ConstraintMeant};
+ghost use Rattle.vipr_spec.specs.Certificate.{Named as NamedMeant};
 ghost use Rattle.vipr_spec.specs.Reading.{is_nonzero};
 ghost use Rattle.vipr_spec.specs.Tightened.{refers_to};
-ghost use Rattle.vipr_cert.specs.Items.{reason_of, derivation_of};
+ghost use Rattle.vipr_cert.specs.Items.{reason_of};
+ghost use Rattle.vipr_write.specs.Steps.{step_of};
 ghost use Rattle.vipr_tighten.specs.Passes.{MarksAlso, AreMarks};
 
 use std::alloc::{AllocError, Global};
-use vipr_cert::{Derivation, Reason};
+use vipr_cert::Reason;
 use vipr_frac::Frac;
+use vipr_write::Step;
 
-/// For each derivation whether the goal needs it. The first derivation has the index `first`.
-pub(crate) fn needed(
+/// For each step whether the goal needs it. The first step has the index `first`.
+pub(crate) fn needed<S>(
     alloc: Global,
-    derivations: &[Derivation],
+    steps: &[Step<S>],
     first: usize,
     goal: Option<u32>,
 ) -> Result<Vec<bool>, AllocError>
-    ensures { IfOk result (λ marks.
-        AreMarks goal first (map derivation_of derivations.now) marks.items) }
+    ensures { IfOk result (λ marks. (view : S → NamedMeant ConstraintMeant)
+        → AreMarks goal first (map (step_of view) steps.now) marks.items) }
 {
-    let mut marks = vec![in alloc; false; derivations.len()]?;
+    let mut marks = vec![in alloc; false; steps.len()]?;
     if let Some(index) = goal {
         mark(&mut marks, first, index);
     }
-    for i in (0..derivations.len()).rev() {
+    for i in (0..steps.len()).rev() {
         if marks[i] {
-            mark_references(&mut marks, first, &derivations[i].reason);
+            mark_references(&mut marks, first, &steps[i].reason);
         }
     }
     Ok(marks)

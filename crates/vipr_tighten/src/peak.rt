@@ -1,26 +1,32 @@
 //! How many derived constraints have to be held.
 ghost use Rattle.std.specs.Prelude.{◌≡◌, ◌+◌, ◌<◌, ◌≤◌, ◌^◌, ℕ, cond, nat_eq, length, Some};
 ghost use Rattle.std.specs.Prelude.{IfOk, slice_index_or};
-ghost use Rattle.vipr_spec.specs.Certificate.{peak};
+ghost use Rattle.vipr_spec.specs.Constraint.{Constraint as ConstraintMeant};
+ghost use Rattle.vipr_spec.specs.Certificate.{Certificate as CertificateMeant};
+ghost use Rattle.vipr_spec.specs.Certificate.{Named as NamedMeant, peak};
+ghost use Rattle.vipr_spec.specs.Reading.{most_count};
 ghost use Rattle.vipr_cert.specs.Items.{reason_of};
 ghost use Rattle.vipr_tighten.specs.Dropping.{dropped_after};
+ghost use Rattle.vipr_tighten.specs.Passes.{StandFor};
 
 use std::alloc::{AllocError, Global};
-use vipr_cert::{Certificate, Derivation, Reason};
+use vipr_cert::Reason;
+use vipr_write::Step;
 
-/// The largest number of derived constraints that have to be held at a time.
-pub(crate) fn peak(alloc: Global, certificate: &Certificate) -> Result<usize, AllocError>
-    ensures { IfOk result (λ n. n ≡ peak certificate.now) }
+/// The largest number of derived constraints that have to be held at a time. The first step has
+/// the index `first`.
+pub(crate) fn peak<S>(alloc: Global, first: usize, steps: &[Step<S>]) -> Result<usize, AllocError>
+    requires { first + length steps.now ≤ most_count }
+    ensures { IfOk result (λ n. (view : S → NamedMeant ConstraintMeant) (c : CertificateMeant)
+        → StandFor steps.now view first c → n ≡ peak c) }
 {
-    let first = certificate.problem().cons().len();
-    let derivations = certificate.derivations();
-    let mut dropped = vec![in alloc; 0usize; derivations.len()]?;
+    let mut dropped = vec![in alloc; 0usize; steps.len()]?;
     let mut held = 0;
     let mut most = 0;
-    for (place, derivation) in derivations.iter().enumerate() {
+    for (place, step) in steps.iter().enumerate() {
         held = held + 1 - dropped[place];
         most = held.max(most);
-        if let Some(at) = dropped_after(derivation, first + place) {
+        if let Some(at) = dropped_after(step, first + place) {
             count_at(&mut dropped, first, at);
         }
     }
@@ -28,14 +34,13 @@ pub(crate) fn peak(alloc: Global, certificate: &Certificate) -> Result<usize, Al
 }
 
 // After the derivation of which index constraint `index` is dropped, none where it never is.
-fn dropped_after(derivation: &Derivation, index: usize) -> Option<usize>
+fn dropped_after<S>(step: &Step<S>, index: usize) -> Option<usize>
     requires { index < 2 ^ 32 }
-    ensures { result
-        ≡ dropped_after index (Some (reason_of derivation.now.reason)) derivation.now.last }
+    ensures { result ≡ dropped_after index (Some (reason_of step.now.reason)) step.now.last }
 {
-    match &derivation.reason {
+    match &step.reason {
         Reason::Asm => None,
-        _ => match derivation.last {
+        _ => match step.last {
             None => None,
             Some(last) => Some((last as usize).max(index + 1)),
         },

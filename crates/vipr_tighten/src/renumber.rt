@@ -2,59 +2,63 @@
 ghost use Rattle.std.specs.Prelude.{◌≡◌, ◌+◌, ◌<◌, ◌≤◌, ◌&&◌, nat_eq, All, IfOk, Some, None, map};
 ghost use Rattle.std.specs.Prelude.{length};
 ghost use Rattle.std.specs.List.{list_any};
-ghost use Rattle.vipr_spec.specs.Certificate.{NamesEarlier};
+ghost use Rattle.vipr_spec.specs.Constraint.{Constraint as ConstraintMeant};
+ghost use Rattle.vipr_spec.specs.Certificate.{Named as NamedMeant, NamesEarlier};
 ghost use Rattle.vipr_spec.specs.Reading.{is_nonzero, most_count};
 ghost use Rattle.vipr_spec.specs.Tightened.{refers_to, renumbered_entries, renumbered_reason};
 ghost use Rattle.vipr_spec.specs.Tightened.{with_new_indices, kept_derivations, referred_by};
-ghost use Rattle.vipr_cert.specs.Earlier.{reason_in, NameEarlierFrom};
-ghost use Rattle.vipr_cert.specs.Items.{reason_of, derivation_of};
+ghost use Rattle.vipr_cert.specs.Items.{reason_of};
+ghost use Rattle.vipr_write.specs.Steps.{step_of};
+ghost use Rattle.vipr_tighten.specs.Passes.{step_reason, StepsNameEarlier};
 ghost use Rattle.vipr_tighten.specs.Passes.{kept_by, index_by, TakesOver};
 
 use crate::needed::is_zero;
 use std::alloc::{AllocError, Global};
-use vipr_cert::{Derivation, Reason};
+use vipr_cert::Reason;
 use vipr_frac::Frac;
+use vipr_write::Step;
 
-/// The derivations with a mark, in their order, under their new indices and with their last
-/// references. The first derivation has the index `first`.
-pub(crate) fn renumber(
+/// The steps with a mark, in their order, under their new indices and with their last references.
+/// The first step has the index `first`.
+pub(crate) fn renumber<S: Drop>(
     alloc: Global,
-    mut derivations: Vec<Derivation>,
+    mut steps: Vec<Step<S>>,
     marks: &[bool],
     first: u32,
-) -> Result<Vec<Derivation>, AllocError>
-    requires size { length marks.now ≡ length derivations.items }
-    requires few { first + length derivations.items ≤ most_count }
-    requires earlier { NameEarlierFrom first derivations.items (length derivations.items) }
-    ensures { IfOk result (λ kept.
-        map derivation_of kept.items
-        ≡ kept_derivations (kept_by first marks.now) first (map derivation_of derivations.items)) }
+) -> Result<Vec<Step<S>>, AllocError>
+    requires size { length marks.now ≡ length steps.items }
+    requires few { first + length steps.items ≤ most_count }
+    requires earlier { StepsNameEarlier first steps.items }
+    ensures { IfOk result (λ kept. (view : S → NamedMeant ConstraintMeant)
+        → map (step_of view) kept.items
+        ≡ kept_derivations (kept_by first marks.now) first (map (step_of view) steps.items)) }
 {
-    let mut table = Vec::with_capacity(alloc, derivations.len())?;
+    let mut table = Vec::with_capacity(alloc, steps.len())?;
     let mut kept = 0;
-    for place in 0..derivations.len() {
+    for place in 0..steps.len() {
         let index = first + kept as u32;
         if marks[place] {
-            take_over(&mut derivations, kept, place, first, &table);
+            take_over(&mut steps, kept, place, first, &table);
             kept += 1;
         }
         table.push(index)?;
     }
-    derivations.truncate(kept);
-    Ok(derivations)
+    steps.truncate(kept);
+    Ok(steps)
 }
 
-// Takes the derivation at a place over, behind the first `kept`: under its new indices, and as the
-// last reference of those that it refers to.
-fn take_over(derivations: &mut [Derivation], kept: usize, place: usize, first: u32, table: &[u32])
+// Takes the step at a place over, behind the first `kept`: under its new indices, and as the last
+// reference of those that it refers to.
+fn take_over<S>(steps: &mut [Step<S>], kept: usize, place: usize, first: u32, table: &[u32])
     requires behind { kept ≤ place }
-    requires there { place < length derivations.old }
+    requires there { place < length steps.old }
     requires few { first + kept ≤ most_count }
-    requires earlier { NamesEarlier (first + length table.now) (reason_in derivations.old place) }
-    ensures { TakesOver first table.now kept place derivations.old derivations.new }
+    requires earlier { NamesEarlier (first + length table.now) (step_reason steps.old place) }
+    ensures { (view : S → NamedMeant ConstraintMeant)
+        → TakesOver view first table.now kept place steps.old steps.new }
 {
-    derivations.swap(kept, place);
-    let (front, back) = derivations.split_at_mut(kept);
+    steps.swap(kept, place);
+    let (front, back) = steps.split_at_mut(kept);
     let moved_item = &mut back[0];
     renumber_references(moved_item, first, table);
     set_last(front, first, &moved_item.reason, first + kept as u32);
@@ -102,22 +106,22 @@ fn renumber_reason(reason: &mut Reason, first: u32, table: &[u32])
     }
 }
 
-// Gives a derivation the new indices, and takes its last reference away.
-fn renumber_references(derivation: &mut Derivation, first: u32, table: &[u32])
-    requires { NamesEarlier (first + length table.now) (Some (reason_of derivation.old.reason)) }
-    ensures { derivation_of derivation.new
-        ≡ record (with_new_indices (index_by first table.now) (derivation_of derivation.old)) {
+// Gives a step the new indices, and takes its last reference away.
+fn renumber_references<S>(step: &mut Step<S>, first: u32, table: &[u32])
+    requires { NamesEarlier (first + length table.now) (Some (reason_of step.old.reason)) }
+    ensures { (view : S → NamedMeant ConstraintMeant) → step_of view step.new
+        ≡ record (with_new_indices (index_by first table.now) (step_of view step.old)) {
           last = None;
         } }
 {
-    renumber_reason(&mut derivation.reason, first, table);
-    derivation.last = None;
+    renumber_reason(&mut step.reason, first, table);
+    step.last = None;
 }
 
-// Gives the derivations that a reason refers to this last reference.
-fn set_last(kept: &mut [Derivation], first: u32, reason: &Reason, last: u32)
-    ensures { map derivation_of kept.new
-        ≡ referred_by (refers_to (reason_of reason.now)) last first (map derivation_of kept.old) }
+// Gives the steps that a reason refers to this last reference.
+fn set_last<S>(kept: &mut [Step<S>], first: u32, reason: &Reason, last: u32)
+    ensures { (view : S → NamedMeant ConstraintMeant) → map (step_of view) kept.new
+        ≡ referred_by (refers_to (reason_of reason.now)) last first (map (step_of view) kept.old) }
 {
     match reason {
         Reason::Asm | Reason::Sol => {}
@@ -131,11 +135,11 @@ fn set_last(kept: &mut [Derivation], first: u32, reason: &Reason, last: u32)
     }
 }
 
-// Gives the derivations that entries with a nonzero multiplier name this last reference.
-fn set_last_named(kept: &mut [Derivation], first: u32, entries: &[(u32, Frac)], last: u32)
-    ensures { map derivation_of kept.new
+// Gives the steps that entries with a nonzero multiplier name this last reference.
+fn set_last_named<S>(kept: &mut [Step<S>], first: u32, entries: &[(u32, Frac)], last: u32)
+    ensures { (view : S → NamedMeant ConstraintMeant) → map (step_of view) kept.new
         ≡ referred_by (λ i. list_any (λ e. nat_eq i e.0 && is_nonzero e) entries.now) last first
-        (map derivation_of kept.old) }
+        (map (step_of view) kept.old) }
 {
     for (index, multiplier) in entries {
         if !is_zero(multiplier) {
@@ -144,10 +148,10 @@ fn set_last_named(kept: &mut [Derivation], first: u32, entries: &[(u32, Frac)], 
     }
 }
 
-// Gives the derivation of this index, if it is there, this last reference.
-fn set_last_at(kept: &mut [Derivation], first: u32, index: u32, last: u32)
-    ensures { map derivation_of kept.new
-        ≡ referred_by (λ i. nat_eq i index) last first (map derivation_of kept.old) }
+// Gives the step of this index, if it is there, this last reference.
+fn set_last_at<S>(kept: &mut [Step<S>], first: u32, index: u32, last: u32)
+    ensures { (view : S → NamedMeant ConstraintMeant) → map (step_of view) kept.new
+        ≡ referred_by (λ i. nat_eq i index) last first (map (step_of view) kept.old) }
 {
     if first <= index {
         let place = (index - first) as usize;

@@ -12,9 +12,8 @@ ghost use Rattle.vipr_check.specs.View.{report_of};
 ghost use Rattle.vipr_tighten.specs.Tightens.{Tightens, TightensAs, TightensIn, TightensText};
 ghost use Rattle.vipr_tighten.specs.Tightens.{kind_of, unproved_answer};
 
-use crate::certificate::tighten_certificate;
+use crate::certificate::tighten_with_peak;
 use crate::outcome::{Outcome, TightenFault};
-use crate::peak::peak;
 use crate::proof_reader::read_proof;
 use std::alloc::Global;
 use vipr_bytes::{Sink, Source};
@@ -120,8 +119,7 @@ fn write_tightened<W: Sink>(
         → Reports P certificate (report_of report.now)
         → TightensText P form (kind_of certificate) (W.output sink.old) (W.output sink.new) result }
 {
-    let tightened = tighten_certificate(alloc, certificate, report.goal)?;
-    let peak_after = peak(alloc, &tightened)?;
+    let (tightened, peak_after) = tighten_with_peak(alloc, certificate, report.goal)?;
     let kept = tightened.derivations().len() as u32;
     match write_certificate_in(alloc, form, &tightened, sink) {
         Ok(()) => Ok(Outcome::Tightened {

@@ -2,17 +2,18 @@ use Rattle.std.proofs.Common.{◌≡◌, ◌+◌, ◌-◌, Bool, true, false, Ve
 use Rattle.std.proofs.Common.{replicate, arith, sym, ap, ◌∙◌, subst}
 use Rattle.std.proofs.lemmas.List.{length-map, with_items_is}
 use Rattle.vipr_spec.specs.Tightened.{refers_to}
-use Rattle.vipr_cert.specs.Items.{reason_of, derivation_of}
-use Rattle.vipr_cert.specs.declared.items.Derivation.{Derivation}
+use Rattle.vipr_cert.specs.Items.{reason_of}
+use Rattle.vipr_write.specs.Steps.{step_of}
+use Rattle.vipr_write.specs.declared.statements.Step.{Step}
 use Rattle.vipr_tighten.specs.Passes.{MarksAlso}
 use Rattle.vipr_tighten.proofs.Marking.{AreMarksFrom, begin_none, begin_goal, next_marked}
-use Rattle.vipr_tighten.proofs.Marking.{next_unmarked, marks_end, mark_read}
+use Rattle.vipr_tighten.proofs.Marking.{next_unmarked, marks_end, mark_read, no_statement}
 use Rattle.vipr_tighten.proofs.needed.needed.Goals as goal
 use Rattle.vipr_tighten.proofs.needed.needed.Goals.{in-Some, in_default}
 
 pub loop-i-init : goal.loop-i-init
-loop-i-init c =
-    let clear : c.in_ok-marks.marks.items ≡ replicate (length c.args.derivations.now) false = c.in_ok-marks.ensures.items_if_clones_equal (λ y h. h) in
+loop-i-init g c = λ view.
+    let clear : c.in_ok-marks.marks.items ≡ replicate (length c.args.steps.now) false = c.in_ok-marks.ensures.items_if_clones_equal (λ y h. h) in
     elim c.match-goal.branch [
       | in-Some w ↦
           let value : w.deref_mut.result.now ≡ c.in_ok-marks.marks.items = w.deref_mut.ensures.value in
@@ -20,54 +21,54 @@ loop-i-init c =
           let size : length w.mark.new.marks ≡ vec_len c.in_ok-marks.marks = same ∙ w.deref_mut.ensures.len in
           let written : c.match-goal.marks.items ≡ w.mark.new.marks = ap (λ (v : Vec Bool Global). v.items) w.marks-is ∙ with_items_is c.in_ok-marks.marks w.mark.new.marks size in
           rw written
-          (begin_goal c.args.goal c.args.first c.args.derivations.now w.deref_mut.result.now (value ∙ clear) w.in-Some.index w.in-Some.is w.mark.new.marks same w.mark.ensures)
+          (begin_goal view c.args.goal c.args.first c.args.steps.now w.deref_mut.result.now (value ∙ clear) w.in-Some.index w.in-Some.is w.mark.new.marks same w.mark.ensures)
       | in_default w ↦
           let written : c.match-goal.marks.items ≡ c.in_ok-marks.marks.items = ap (λ (v : Vec Bool Global). v.items) w.marks-is in
-          rw written (begin_none c.args.goal c.args.first c.args.derivations.now c.in_ok-marks.marks.items clear w.in_default.is)
+          rw written (begin_none view c.args.goal c.args.first c.args.steps.now c.in_ok-marks.marks.items clear w.in_default.is)
     ]
 
 pub index-requires : goal.index-requires
-index-requires c =
-    let s = c.loop-i.invariant.size in
-    let t = length-map c.args.derivations.now derivation_of in
+index-requires g c =
+    let s = (c.loop-i.invariant no_statement).size in
+    let t = length-map c.args.steps.now (step_of no_statement) in
     let a = c.loop-i.auto.i in
     let b = c.loop-i-test.true in
     omega arith
 
 pub loop-i-preserved : goal.loop-i-preserved
-loop-i-preserved c =
+loop-i-preserved g c = λ view.
     let a = c.loop-i.auto.i in
     let b = c.loop-i-test.true in
     let j = c.loop-i.i - 1 in
-    let all = map derivation_of c.args.derivations.now in
-    let t : length all ≡ length c.args.derivations.now = length-map c.args.derivations.now derivation_of in
-    let size : length c.loop-i.marks.items ≡ length all = c.loop-i.invariant.size in
+    let all = map (step_of view) c.args.steps.now in
+    let t : length all ≡ length c.args.steps.now = length-map c.args.steps.now (step_of view) in
+    let size : length c.loop-i.marks.items ≡ length all = (c.loop-i.invariant view).size in
     let step : c.loop-i.i ≡ j + 1 = omega arith in
-    let so_far = subst (λ n. AreMarksFrom c.args.goal c.args.first all n c.loop-i.marks.items) step c.loop-i.invariant in
-    next_unmarked c.args.goal c.args.first c.args.derivations.now j (omega arith) c.loop-i.marks.items so_far
+    let so_far = subst (λ n. AreMarksFrom c.args.goal c.args.first all n c.loop-i.marks.items) step (c.loop-i.invariant view) in
+    next_unmarked view c.args.goal c.args.first c.args.steps.now j (omega arith) c.loop-i.marks.items so_far
     (mark_read c.loop-i.marks.items j c.index.result.now false (omega arith) c.index.ensures c.if-index.false)
 
 pub loop-i-preserved-then-index : goal.loop-i-preserved-then-index
-loop-i-preserved-then-index c =
+loop-i-preserved-then-index g c = λ view.
     let a = c.loop-i.auto.i in
     let b = c.loop-i-test.true in
     let j = c.loop-i.i - 1 in
-    let all = map derivation_of c.args.derivations.now in
-    let t : length all ≡ length c.args.derivations.now = length-map c.args.derivations.now derivation_of in
-    let size : length c.loop-i.marks.items ≡ length all = c.loop-i.invariant.size in
+    let all = map (step_of view) c.args.steps.now in
+    let t : length all ≡ length c.args.steps.now = length-map c.args.steps.now (step_of view) in
+    let size : length c.loop-i.marks.items ≡ length all = (c.loop-i.invariant view).size in
     let step : c.loop-i.i ≡ j + 1 = omega arith in
-    let so_far = subst (λ n. AreMarksFrom c.args.goal c.args.first all n c.loop-i.marks.items) step c.loop-i.invariant in
+    let so_far = subst (λ n. AreMarksFrom c.args.goal c.args.first all n c.loop-i.marks.items) step (c.loop-i.invariant view) in
     let value : c.deref_mut-then-index.result.now ≡ c.loop-i.marks.items = c.deref_mut-then-index.ensures.value in
     let same : length c.mark_references.new.marks ≡ length c.deref_mut-then-index.result.now = c.mark_references.auto.marks in
     let long : length c.mark_references.new.marks ≡ vec_len c.loop-i.marks = same ∙ c.deref_mut-then-index.ensures.len in
     rw (with_items_is c.loop-i.marks c.mark_references.new.marks long)
-    (next_marked c.args.goal c.args.first c.args.derivations.now j (omega arith) c.loop-i.marks.items so_far c.index-derivations-i.result c.index-derivations-i.is
+    (next_marked view c.args.goal c.args.first c.args.steps.now j (omega arith) c.loop-i.marks.items so_far c.index-steps-i.result c.index-steps-i.is
     c.mark_references.new.marks (same ∙ ap length value)
     (mark_read c.loop-i.marks.items j c.index.result.now true (omega arith) c.index.ensures c.if-index.true)
-    (rw value at (subst (λ (x : Derivation). MarksAlso c.args.first (refers_to (reason_of x.reason)) c.deref_mut-then-index.result.now c.mark_references.new.marks) (sym c.index-derivations-i.is) c.mark_references.ensures)))
+    (rw value at (subst (λ (x : Step g.row.S.Denot). MarksAlso c.args.first (refers_to (reason_of x.reason)) c.deref_mut-then-index.result.now c.mark_references.new.marks) (sym c.index-steps-i.is) c.mark_references.ensures)))
 
 pub returns : goal.returns
-returns c =
+returns g c = λ view.
     let zero : c.loop-i.i ≡ 0 = omega arith in
-    marks_end c.args.goal c.args.first (map derivation_of c.args.derivations.now) c.loop-i.marks.items
-    (subst (λ n. AreMarksFrom c.args.goal c.args.first (map derivation_of c.args.derivations.now) n c.loop-i.marks.items) zero c.loop-i.invariant)
+    marks_end c.args.goal c.args.first (map (step_of view) c.args.steps.now) c.loop-i.marks.items
+    (subst (λ n. AreMarksFrom c.args.goal c.args.first (map (step_of view) c.args.steps.now) n c.loop-i.marks.items) zero (c.loop-i.invariant view))

@@ -1,67 +1,60 @@
-use Rattle.std.proofs.Common.{◌≡◌, ℕ, Vec, Global, vec_len, length, max, slice_index_or, arith, sym}
+use Rattle.std.proofs.Common.{◌≡◌, ℕ, Vec, Global, vec_len, length, max, slice_index_or, arith}
+use Rattle.std.proofs.Common.{refl, sym}
 use Rattle.std.proofs.Common.{◌∙◌, ap, ap₂}
 use Rattle.std.proofs.lemmas.List.{length-map, get_or_read, with_items_is}
-use Rattle.vipr_spec.specs.Certificate.{Problem}
-use Rattle.vipr_linear.specs.Constraint.{constraint_of}
-use Rattle.vipr_cert.specs.Items.{named_of, derivation_of}
+use Rattle.vipr_write.specs.Steps.{step_of}
+use Rattle.vipr_tighten.proofs.Marking.{no_statement}
 use Rattle.vipr_tighten.proofs.Held.{few_held, fewer_dropped, held_now, until_then, most_then}
 use Rattle.vipr_tighten.proofs.Held.{drop_here, few_at, each_some, each_none, peak_whole}
+use Rattle.vipr_tighten.proofs.Held.{certificate_of, first_of, peak_of}
 use Rattle.vipr_tighten.proofs.peak.peak.Goals as goal
 use Rattle.vipr_tighten.proofs.peak.peak.Goals.{in-Some, in_default}
 
 pub overflow_add-held : goal.overflow_add-held
-overflow_add-held c =
-    let first : length c.args.certificate.now.problem.constraints ≡ length c.cons-first.result.now =
-    sym (ap length (c.cons-first.ensures.constraints ∙ ap (λ (p : Problem). p.constraints) c.problem.ensures)) ∙ length-map c.cons-first.result.now (named_of constraint_of) in
-    let few = few_held c.args.certificate.now (length c.cons-first.result.now) first c.loop-place.place in
+overflow_add-held g c =
+    let first = first_of c.args.first c.args.steps.now in
+    let few = few_held (certificate_of c.args.first c.args.steps.now) c.args.first first c.loop-place.place in
     let until = c.loop-place.invariant.until in
     let inside = c.loop-place-test.true in
-    let size = length-map c.derivations-derivations.result.now derivation_of in
-    let same = ap length c.derivations-derivations.ensures.derivations in
-    let most = c.derivations-derivations.ensures.writes.shape.few_derivations in
+    let most = c.requires in
     omega arith
 
 pub overflow_sub-held : goal.overflow_sub-held
-overflow_sub-held c =
-    let first : length c.args.certificate.now.problem.constraints ≡ length c.cons-first.result.now =
-    sym (ap length (c.cons-first.ensures.constraints ∙ ap (λ (p : Problem). p.constraints) c.problem.ensures)) ∙ length-map c.cons-first.result.now (named_of constraint_of) in
+overflow_sub-held g c =
+    let first = first_of c.args.first c.args.steps.now in
     let p = c.loop-place.place in
     let inside = c.loop-place-test.true in
     let read : c.index.result.now ≡ slice_index_or c.loop-place.dropped.items p 0 = get_or_read c.loop-place.dropped.items _ _ (let size = c.loop-place.invariant.size in omega arith) c.index.ensures 0 in
     let each = c.loop-place.invariant.each p inside in
-    let few = fewer_dropped c.args.certificate.now (length c.cons-first.result.now) first p in
+    let few = fewer_dropped (certificate_of c.args.first c.args.steps.now) c.args.first first p in
     let until = c.loop-place.invariant.until in
     omega arith
 
 pub count_at-requires-clause-few : goal.count_at-requires-clause-few
-count_at-requires-clause-few c = λ k h.
-    let first : length c.args.certificate.now.problem.constraints ≡ length c.cons-first.result.now =
-    sym (ap length (c.cons-first.ensures.constraints ∙ ap (λ (p : Problem). p.constraints) c.problem.ensures)) ∙ length-map c.cons-first.result.now (named_of constraint_of) in
+count_at-requires-clause-few g c = λ k h.
+    let first = first_of c.args.first c.args.steps.now in
     let p = c.loop-place.place in
     let value : c.deref_mut.result.now ≡ c.loop-place.dropped.items = c.deref_mut.ensures.value in
-    let long : length c.deref_mut.result.now ≡ length c.derivations-derivations.result.now = ap length value ∙ c.loop-place.invariant.size in
+    let long : length c.deref_mut.result.now ≡ length c.args.steps.now = ap length value ∙ c.loop-place.invariant.size in
     let each = c.loop-place.invariant.each k (omega arith) in
     let same : slice_index_or c.deref_mut.result.now k 0 ≡ slice_index_or c.loop-place.dropped.items k 0 = ap (λ (l : _). slice_index_or l k 0) value in
-    let few = few_at c.args.certificate.now (length c.cons-first.result.now) first p k in
+    let few = few_at (certificate_of c.args.first c.args.steps.now) c.args.first first p k in
     let inside = c.loop-place-test.true in
-    let size = length-map c.derivations-derivations.result.now derivation_of in
-    let all = ap length c.derivations-derivations.ensures.derivations in
-    let most = c.derivations-derivations.ensures.writes.shape.few_derivations in
+    let most = c.requires in
     omega arith
 
 pub loop-place-preserved : goal.loop-place-preserved
-loop-place-preserved c =
-    let cert = c.args.certificate.now in
-    let m = length c.cons-first.result.now in
+loop-place-preserved g c =
+    let cert = certificate_of c.args.first c.args.steps.now in
+    let m = c.args.first in
     let p = c.loop-place.place in
-    let ds = c.derivations-derivations.result.now in
+    let ss = c.args.steps.now in
     let inv = c.loop-place.invariant in
     let inside = c.loop-place-test.true in
-    let first : length cert.problem.constraints ≡ m =
-    sym (ap length (c.cons-first.ensures.constraints ∙ ap (λ (p : Problem). p.constraints) c.problem.ensures)) ∙ length-map c.cons-first.result.now (named_of constraint_of) in
+    let first = first_of c.args.first c.args.steps.now in
     let read : c.index.result.now ≡ slice_index_or c.loop-place.dropped.items p 0 = get_or_read c.loop-place.dropped.items _ _ (let size = inv.size in omega arith) c.index.ensures 0 in
     let now = held_now cert m first p c.loop-place.held c.index.result.now inv.until (read ∙ inv.each p inside) in
-    let drop = drop_here cert m first p ds c.derivations-derivations.ensures.derivations inside c.index-derivations-place.result c.index-derivations-place.is ∙ sym c.dropped_after.ensures in
+    let drop = drop_here cert m first p no_statement ss refl inside c.index-steps-place.result c.index-steps-place.is ∙ sym c.dropped_after.ensures in
     let until = now ∙ until_then cert m first p in
     let most = c.max-most.ensures ∙ ap₂ max now inv.most_is ∙ most_then cert m first p in
     elim c.match-dropped_after.branch [
@@ -89,11 +82,10 @@ loop-place-preserved c =
     ]
 
 pub returns : goal.returns
-returns c =
-    let first : length c.args.certificate.now.problem.constraints ≡ length c.cons-first.result.now =
-    sym (ap length (c.cons-first.ensures.constraints ∙ ap (λ (p : Problem). p.constraints) c.problem.ensures)) ∙ length-map c.cons-first.result.now (named_of constraint_of) in
-    let size = length-map c.derivations-derivations.result.now derivation_of in
-    let same = ap length c.derivations-derivations.ensures.derivations in
+returns g c = λ view x stand.
+    let first = first_of c.args.first c.args.steps.now in
+    let size = length-map c.args.steps.now (step_of (no_statement {S = g.row.S.Denot})) in
     let outside = c.loop-place-test.false in
     let end = c.loop-place.auto.place-end in
-    c.loop-place.invariant.most_is ∙ peak_whole c.args.certificate.now (length c.cons-first.result.now) c.loop-place.place first (omega arith)
+    c.loop-place.invariant.most_is ∙ peak_whole (certificate_of c.args.first c.args.steps.now) c.args.first c.loop-place.place first (omega arith)
+    ∙ peak_of c.args.first c.args.steps.now view x stand

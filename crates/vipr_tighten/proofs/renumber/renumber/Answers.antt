@@ -1,23 +1,26 @@
 use Rattle.std.proofs.Common.{◌≡◌, ◌+◌, ◌<◌, ◌++◌, ◌∷◌, [], length, length-append, vec_items, arith}
 use Rattle.std.proofs.Common.{◌∙◌, ap}
 use Rattle.std.proofs.lemmas.List.{with_items_is}
+use Rattle.vipr_spec.specs.Constraint.{Constraint}
+use Rattle.vipr_spec.specs.Certificate.{Named}
+use Rattle.vipr_tighten.proofs.Marking.{no_statement}
 use Rattle.vipr_tighten.proofs.Renumbering.{earlier_in, place_left_out, place_accepted_over}
 use Rattle.vipr_tighten.proofs.renumber.renumber.Goals as goal
 use Rattle.vipr_tighten.proofs.renumber.renumber.Goals.{then-marks-place, else-marks-place}
 
 pub take_over-requires-clause-earlier : goal.take_over-requires-clause-earlier
-take_over-requires-clause-earlier c =
-    let all = c.args.derivations.items in
+take_over-requires-clause-earlier g c =
+    let all = c.args.steps.items in
     let inv = c.loop-place.invariant in
     let there : c.loop-place.place < length all = omega (arith, c.loop-place-test.true, c.len-place-end.ensures) in
-    rw (c.deref.ensures.value, c.deref_mut.ensures.value) (earlier_in c.args.first all c.loop-place.derivations.items c.loop-place.table.items c.loop-place.place c.requires.earlier inv.place there inv.so_far.others)
+    rw (c.deref.ensures.value, c.deref_mut.ensures.value) (earlier_in c.args.first all c.loop-place.steps.items c.loop-place.table.items c.loop-place.place c.requires.earlier inv.place there (inv.so_far no_statement).others)
 
 pub loop-place-preserved : goal.loop-place-preserved
-loop-place-preserved c =
+loop-place-preserved g c =
     let first = c.args.first in
     let marks = c.args.marks.now in
-    let all = c.args.derivations.items in
-    let ds = c.loop-place.derivations.items in
+    let all = c.args.steps.items in
+    let ds = c.loop-place.steps.items in
     let table = c.loop-place.table.items in
     let kept = c.loop-place.kept in
     let place = c.loop-place.place in
@@ -27,22 +30,22 @@ loop-place-preserved c =
     let longer : c.push.new.self.items ≡ table ++ (first + kept) ∷ [] = c.in_ok-push.ensures.items in
     elim c.if-marks-place.branch [
       | then-marks-place w ↦
-          let new = w.take_over.new.derivations in
-          let long : length new ≡ length c.loop-place.derivations.items = w.take_over.auto.derivations ∙ ap length w.deref_mut.ensures.value in
-          let are : c.if-marks-place.derivations.items ≡ new = ap vec_items w.derivations-is ∙ with_items_is c.loop-place.derivations new (w.take_over.auto.derivations ∙ w.deref_mut.ensures.len) in
-          let takes = rw (w.deref.ensures.value, w.deref_mut.ensures.value) at w.take_over.ensures in
+          let new = w.take_over.new.steps in
+          let long : length new ≡ length c.loop-place.steps.items = w.take_over.auto.steps ∙ ap length w.deref_mut.ensures.value in
+          let are : c.if-marks-place.steps.items ≡ new = ap vec_items w.steps-is ∙ with_items_is c.loop-place.steps new (w.take_over.auto.steps ∙ w.deref_mut.ensures.len) in
+          let takes = λ (view : g.row.S.Denot → Named Constraint). rw (w.deref.ensures.value, w.deref_mut.ensures.value) at (w.take_over.ensures view) in
           rw (longer, are, w.kept-is) record {
             size = long ∙ inv.size;
             place = omega (arith, more, inv.place);
             behind = omega (arith, inv.behind);
-            so_far = place_accepted_over first marks all ds table kept place inv.size inv.place inv.behind inv.so_far there w.if-marks-place.true c.requires.earlier new takes;
+            so_far = λ view. place_accepted_over view first marks all ds table kept place inv.size inv.place inv.behind (inv.so_far view) there w.if-marks-place.true c.requires.earlier new (takes view);
           }
       | else-marks-place w ↦
-          let same : c.if-marks-place.derivations.items ≡ ds = ap vec_items w.derivations-is in
+          let same : c.if-marks-place.steps.items ≡ ds = ap vec_items w.steps-is in
           rw (longer, same, w.kept-is) record {
             size = inv.size;
             place = omega (arith, more, inv.place);
             behind = omega (arith, inv.behind);
-            so_far = place_left_out first marks all ds table kept place inv.size inv.place inv.behind inv.so_far there w.if-marks-place.false;
+            so_far = λ view. place_left_out view first marks all ds table kept place inv.size inv.place inv.behind (inv.so_far view) there w.if-marks-place.false;
           }
     ]

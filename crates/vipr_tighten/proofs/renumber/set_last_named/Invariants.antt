@@ -1,10 +1,12 @@
 use Rattle.std.proofs.Common.{◌≡◌, ◌&&◌, nat_eq, map, take}
 use Rattle.std.specs.List.{list_any}
+use Rattle.vipr_spec.specs.Constraint.{Constraint}
+use Rattle.vipr_spec.specs.Certificate.{Named}
 use Rattle.vipr_spec.specs.Reading.{is_nonzero}
 use Rattle.vipr_spec.specs.Tightened.{referred_by}
-use Rattle.vipr_cert.specs.Items.{derivation_of}
+use Rattle.vipr_write.specs.Steps.{step_of}
 use Rattle.vipr_tighten.proofs.renumber.set_last_named.Given as goal
 
 abbrev pub invariant-loop-index : goal.invariant-loop-index
-invariant-loop-index l =
-    map derivation_of l.kept ≡ referred_by (λ i. list_any (λ e. nat_eq i e.0 && is_nonzero e) (take l.index-index l.entries)) l.last l.first (map derivation_of l.fn.kept)
+invariant-loop-index g l = (view : g.row.S.Denot → Named Constraint)
+    → map (step_of view) l.kept ≡ referred_by (λ i. list_any (λ e. nat_eq i e.0 && is_nonzero e) (take l.index-index l.entries)) l.last l.first (map (step_of view) l.fn.kept)

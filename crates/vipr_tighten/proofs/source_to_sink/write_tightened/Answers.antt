@@ -20,7 +20,7 @@ overflow_sub-result g c =
     let (P, proof, reports) = c.requires in
     let t = c.in_ok-tightened.tightened in
     let kept : length c.derivations.result.now ≡ length t.derivations = sym (length-map c.derivations.result.now derivation_of) ∙ ap length c.derivations.ensures.derivations in
-    let few = fewer P c.args.form c.args.certificate (report_of c.args.report.now) proof reports t c.in_ok-tightened.ensures c.in-Ok.ensures.law (g.W.Sink.output c.args.sink.now) (g.W.Sink.output c.write_certificate_in.new.sink) in
+    let few = fewer P c.args.form c.args.certificate (report_of c.args.report.now) proof reports t c.in_ok-tightened.ensures.tightened c.in-Ok.ensures.law (g.W.Sink.output c.args.sink.now) (g.W.Sink.output c.write_certificate_in.new.sink) in
     omega arith
 
 pub returns-in-Ok : goal.returns-in-Ok
@@ -31,10 +31,10 @@ returns-in-Ok g c = λ P proof reports.
     let new = g.W.Sink.output c.write_certificate_in.new.sink in
     let n = length c.derivations.result.now in
     let kept : n ≡ length t.derivations = sym (length-map c.derivations.result.now derivation_of) ∙ ap length c.derivations.ensures.derivations in
-    let few = fewer P c.args.form c.args.certificate report proof reports t c.in_ok-tightened.ensures c.in-Ok.ensures.law old new in
+    let few = fewer P c.args.form c.args.certificate report proof reports t c.in_ok-tightened.ensures.tightened c.in-Ok.ensures.law old new in
     let all : n + (c.args.report.now.derived - n) ≡ c.args.report.now.derived = omega arith in
-    written_whole P c.args.form c.args.certificate report proof reports t c.in_ok-tightened.ensures c.in-Ok.ensures.law old new
-    n (c.args.report.now.derived - n) c.args.report.now.peak c.in_ok-peak_after.peak_after kept all refl c.in_ok-peak_after.ensures c.in-Ok.ensures.output
+    written_whole P c.args.form c.args.certificate report proof reports t c.in_ok-tightened.ensures.tightened c.in-Ok.ensures.law old new
+    n (c.args.report.now.derived - n) c.args.report.now.peak c.in_ok-tightened.peak_after kept all refl c.in_ok-tightened.ensures.peak c.in-Ok.ensures.output
 
 pub returns-in-Err-Memory : goal.returns-in-Err-Memory
 returns-in-Err-Memory g c = λ P proof reports.
@@ -44,7 +44,7 @@ returns-in-Err-Memory g c = λ P proof reports.
 pub returns : goal.returns
 returns g c = λ P proof reports.
     let h = rw c.in-Err-Write.field-0-is at c.in-Err-Write.ensures in
-    written_part P c.args.form c.args.certificate (report_of c.args.report.now) proof reports c.in_ok-tightened.tightened c.in_ok-tightened.ensures h.law
+    written_part P c.args.form c.args.certificate (report_of c.args.report.now) proof reports c.in_ok-tightened.tightened c.in_ok-tightened.ensures.tightened h.law
     (g.W.Sink.output c.args.sink.now) (g.W.Sink.output c.write_certificate_in.new.sink) c.in-Err-Write.taken h.part h.output
 
 -- where memory is refused, nothing is written
@@ -54,5 +54,5 @@ refused P F k o (Ok y) h = absurd h
 refused P F k None (Err e) h = rw h (refl, tt)
 refused P F k (Some b) (Err e) h = rw h (refl, refl)
 
-pub returns-in_err-peak_after : goal.returns-in_err-peak_after
-returns-in_err-peak_after g c = λ P proof reports. refused P c.args.form _ (g.W.Sink.output c.args.sink.now) c.from_residual-in_err-peak_after.result c.from_residual-in_err-peak_after.ensures.1
+pub returns-in_err-tightened : goal.returns-in_err-tightened
+returns-in_err-tightened g c = λ P proof reports. refused P c.args.form _ (g.W.Sink.output c.args.sink.now) c.from_residual.result c.from_residual.ensures.1

@@ -1,0 +1,71 @@
+-- Certificates with the same reasons and last references
+use Rattle.std.proofs.Common.{◌≡◌, ℕ, ◌+◌, ◌-◌, max, ◌&&◌, ◌||◌, nat_lt, List, [], ◌∷◌, ◌++◌}
+use Rattle.std.proofs.Common.{map, length, slice_index_or, Option, Some, None, arith, refl, sym}
+use Rattle.std.proofs.Common.{◌∙◌}
+use Rattle.std.proofs.Common.{ap, ap₂, subst}
+use Rattle.std.specs.List.{range_with_len, count_by, fold}
+use Rattle.std.proofs.lemmas.List.{length-map}
+use Rattle.vipr_spec.specs.Certificate.{Reason, Derivation, Certificate, NamesEarlier}
+use Rattle.vipr_spec.specs.Certificate.{reason_at, last_at, is_assumption, lasts_to, peak}
+use Rattle.vipr_spec.specs.Steps.{RefersBack}
+use Rattle.vipr_spec.proofs.Laws.{reasons_listed, lasts_listed}
+
+-- ---- lists
+
+pub map_alike : {A B X : Type 0} (f g : A → B) (h : B → X) → ((x : A) → h (f x) ≡ h (g x))
+    → (xs : List A) → map h (map f xs) ≡ map h (map g xs)
+map_alike f g h same [] = refl
+map_alike f g h same (x ∷ xs) = ap₂ (λ y l. y ∷ l) (same x) (map_alike f g h same xs)
+
+pub map_kept : {A X : Type 0} (f : A → A) (h : A → X) → ((x : A) → h (f x) ≡ h x) → (xs : List A)
+    → map h (map f xs) ≡ map h xs
+map_kept f h same [] = refl
+map_kept f h same (x ∷ xs) = ap₂ (λ y l. y ∷ l) (same x) (map_kept f h same xs)
+
+nones : {A X : Type 0} (xs ys : List A) → length xs ≡ length ys
+    → map {B = Option X} (λ _. None) xs ≡ map (λ _. None) ys
+nones [] [] e = refl
+nones [] (y ∷ ys) e = absurd (omega arith)
+nones (x ∷ xs) [] e = absurd (omega arith)
+nones {A} {X} (x ∷ xs) (y ∷ ys) e = ap (λ (l : List (Option X)). None ∷ l) (nones xs ys (omega arith))
+
+-- ---- certificates
+
+-- as many constraints of the problem, and derivations of the same reasons and last references
+pub record AreAlike (c d : Certificate) : Type 0 where
+  pub given : length c.problem.constraints ≡ length d.problem.constraints
+  pub reasons : map (λ (x : Derivation). Some x.reason) c.derivations ≡ map (λ (x : Derivation). Some x.reason) d.derivations
+  pub lasts : map (λ (x : Derivation). x.last) c.derivations ≡ map (λ (x : Derivation). x.last) d.derivations
+
+-- how many constraints are held, if there are m in the problem
+held_by : ℕ → (ℕ → Option Reason) → (ℕ → Option ℕ) → ℕ → ℕ
+held_by m reasons lasts k =
+    1 + count_by (λ i. nat_lt i (k + 1) && (is_assumption (reasons i) || lasts_to (k + 1) (lasts i))) (range_with_len m (k - m))
+
+module _ (c d : Certificate) (alike : AreAlike c d) where
+  reason_alike : (i : ℕ) → reason_at c i ≡ reason_at d i
+  reason_alike i =
+      reasons_listed c i
+      ∙ ap₂ (λ (a b : List (Option Reason)). slice_index_or (a ++ b) i None) (nones c.problem.constraints d.problem.constraints alike.given) alike.reasons
+      ∙ sym (reasons_listed d i)
+
+  last_alike : (i : ℕ) → last_at c i ≡ last_at d i
+  last_alike i =
+      lasts_listed c i
+      ∙ ap₂ (λ (a b : List (Option ℕ)). slice_index_or (a ++ b) i None) (nones c.problem.constraints d.problem.constraints alike.given) alike.lasts
+      ∙ sym (lasts_listed d i)
+
+  pub back_alike : RefersBack c → RefersBack d
+  back_alike back k = subst (NamesEarlier k) (reason_alike k) (back k)
+
+  pub count_alike : length c.derivations ≡ length d.derivations
+  count_alike =
+      sym (length-map c.derivations (λ (x : Derivation). x.last)) ∙ ap length alike.lasts
+      ∙ length-map d.derivations (λ (x : Derivation). x.last)
+
+  pub peak_alike : peak c ≡ peak d
+  unfolding held_by
+  peak_alike =
+      let reasons : reason_at c ≡ reason_at d = λ i. λ k. reason_alike k i in
+      let lasts : last_at c ≡ last_at d = λ i. λ k. last_alike k i in
+      λ i. fold max 0 (map (held_by (alike.given i) (reasons i) (lasts i)) (range_with_len (alike.given i) (count_alike i)))
