@@ -9,3 +9,4 @@ mod KeptTexts
 mod Reading
 mod Held
 mod Outcomes
+mod Kept

@@ -34,7 +34,9 @@ use Rattle.vipr_tighten.specs.declared.outcome.TightenFault.TheVariants.{Read, M
 use Rattle.vipr_tighten.specs.Tightens.{IsProofFor, IsTight, KindOfText, TakesNothing, TightensText}
 use Rattle.vipr_tighten.specs.Tightens.{any_kind, kind_of, kind_read, kind_spelled, unproved_answer}
 use Rattle.vipr_tighten.specs.Tightens.{TightensAs}
-use Rattle.vipr_tighten.specs.Keeping.{HasAnswer, AnswersWhy}
+use Rattle.vipr_check.specs.View.{report_of}
+use Rattle.vipr_check.specs.declared.verdict.Report as checked
+use Rattle.vipr_tighten.specs.Keeping.{HasAnswer, AnswersWhy, AnswersProof}
 use Rattle.vipr_check.specs.declared.no_proof.NoProof.{NoProof}
 use Rattle.vipr_check.specs.declared.no_proof.NoProof.TheVariants as reason
 
@@ -69,6 +71,7 @@ goal_by P c (Some g) is = is
 pub reported_goal : (P : Profile) (c : Certificate) (r : Report) → Reports P c r → GoalIs P c r.goal
 reported_goal P c r h = goal_by P c r.goal h.goal
 
+-- no more are kept than there are
 pub fewer_kept : (c : Certificate) (goal : Option ℕ)
     → length (tightened_certificate c goal).derivations ≤ length c.derivations
 fewer_kept c goal = let e = tight_counts c goal in omega arith
@@ -138,51 +141,26 @@ tightens P F source old new x any exact = record { written = any; exact = exact;
 
 -- ---- what is written
 
-module _ (P : Profile) (F : Form) (c : Certificate) (r : Report) (p : IsProof P c) (reports : Reports P c r) (t : Certificate) (e : t ≡ tightened_certificate c r.goal) (spells : (G : Form) → SpellsOnly (text_in G t) t) (old new : Option Output) where
+module _ (P : Profile) (F : Form) (c : Certificate) (r : Report) (p : IsProof P c) (reports : Reports P c r) (spells : (G : Form) → SpellsOnly (text_in G (tightened_certificate c r.goal)) (tightened_certificate c r.goal)) (old new : Option Output) where
+  abbrev tightened : Certificate
+  tightened = tightened_certificate c r.goal
+
   goal_is : GoalIs P c r.goal
   goal_is = reported_goal P c r reports
 
-  tight : IsTight P c r.goal (tightened_certificate c r.goal)
-  tight = is_tight P c r.goal p goal_is (λ G. subst (λ (x : Certificate). SpellsOnly (text_in G x) x) e (spells G))
-
-  pub fewer : length t.derivations ≤ r.derived
-  fewer =
-      let few = fewer_kept c r.goal in
-      let same : length t.derivations ≡ length (tightened_certificate c r.goal).derivations = ap (λ (x : Certificate). length x.derivations) e in
-      let all = reports.derived in
-      omega arith
-
-  pub written_whole : (kept removed before after : ℕ) → kept ≡ length t.derivations → kept + removed ≡ r.derived → before ≡ r.peak → after ≡ peak t
-      → IfSome old (λ o. Wrote o new (text_in F t) (Ok tt)) → TightensText P F (kind_of c) old new (Ok (Tightened kept removed before after))
+  pub written_whole : (kept removed before after : ℕ) → kept ≡ length tightened.derivations → kept + removed ≡ r.derived → before ≡ r.peak → after ≡ peak tightened
+      → IfSome old (λ o. Wrote o new (text_in F tightened) (Ok tt)) → TightensText P F (kind_of c) old new (Ok (Tightened kept removed before after))
   written_whole kept removed before after k a b f w = (
     c,
     r.goal,
     refl,
     is_proof_for P c r.goal p goal_is,
-    tight,
-    (
-      record {
-        kept_is = k ∙ ap (λ (x : Certificate). length x.derivations) e;
-        all = a ∙ reports.derived;
-        before_is = b ∙ reports.peak;
-        after_is = f ∙ ap peak e;
-      },
-      subst (λ (x : Certificate). IfSome old (λ o. Wrote o new (text_in F x) (Ok tt))) e w,
-    ),
+    is_tight P c r.goal p goal_is spells,
+    (record { kept_is = k; all = a ∙ reports.derived; before_is = b ∙ reports.peak; after_is = f }, w),
   )
 
-  pub written_part : (n : ℕ) → n < length (text_in F t) → IfSome old (λ o. Wrote o new (text_in F t) (Err (record { accepted = n }))) → TightensText P F (kind_of c) old new (Err (Write n))
-  written_part n l w = (
-    c,
-    r.goal,
-    refl,
-    is_proof_for P c r.goal p goal_is,
-    tight,
-    (
-      subst (λ (x : Certificate). n < length (text_in F x)) e l,
-      subst (λ (x : Certificate). IfSome old (λ o. Wrote o new (text_in F x) (Err (record { accepted = n })))) e w,
-    ),
-  )
+  pub written_part : (n : ℕ) → n < length (text_in F tightened) → IfSome old (λ o. Wrote o new (text_in F tightened) (Err (record { accepted = n }))) → TightensText P F (kind_of c) old new (Err (Write n))
+  written_part n l w = (c, r.goal, refl, is_proof_for P c r.goal p goal_is, is_tight P c r.goal p goal_is spells, (l, w))
 
 pub written_not : (P : Profile) (F : Form) (c : Certificate) (old new : Option Output)
     (text : List ℕ) (n : ℕ) → n ≡ 0 → IfSome old (λ o. WroteText o new text (Err (write.Memory n)))
@@ -196,18 +174,18 @@ answered : (P : Profile) (r : Rest) (a : Answer) → HasAnswer P (found_in r) a 
 answered P r a h = answer_explained P (found_in r) a h.0 h.1
 
 pub decided_proof : (P : Profile) (F : Form) (source : Option Input) (c : Certificate)
-    (report : Report) (old new : Option Output) (x : Result Outcome TightenFault)
+    (report : checked.Report) (old new : Option Output) (x : Result Outcome TightenFault)
     → TightensText P F (kind_of c) old new x
-    → IfKnown source (λ i. ((found_in (text_of i)).certificate ≡ c)
-    × HasAnswer P (found_in (text_of i)) (verified report)) → TightensAs P F source old new x
+    → IfKnown source (λ i. AnswersProof P (found_in (text_of i)) c report)
+    → TightensAs P F source old new x
 decided_proof P F source c report old new x h found =
     tightens P F source old new x (tightens_by P F (kind_of c) any_kind (λ d e p. tt) (λ y b. tt) (λ b. tt) old new x h) (exact source found)
   where
-    exact : (s : Option Input) → IfKnown s (λ i. ((found_in (text_of i)).certificate ≡ c) × HasAnswer P (found_in (text_of i)) (verified report)) → IfKnown s (λ i. TightensText P F (kind_read P (text_of i)) old new x)
+    exact : (s : Option Input) → IfKnown s (λ i. AnswersProof P (found_in (text_of i)) c report) → IfKnown s (λ i. TightensText P F (kind_read P (text_of i)) old new x)
     exact None f = tt
     exact (Some i) f = λ short.
         let r = text_of i in
-        let is = certificate_is P r c report (f short).0 (answered P r (verified report) (f short).1) in
+        let is = certificate_is P r c (report_of report) (f short).same (answered P r (verified (report_of report)) (f short).answer) in
         tightens_by P F (kind_of c) (kind_read P r) (λ d e p. is ∙ ap Ok (sym e)) (λ y b. absurd b) (λ b. absurd b) old new x h
 
 pub decided_refused : (P : Profile) (F : Form) (source : Option Input) (y : Refusal)

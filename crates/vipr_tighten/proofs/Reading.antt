@@ -36,7 +36,7 @@ use Rattle.vipr_check.proofs.Laws.{SaysWhy-by, at_start, derivation_missing, end
 use Rattle.vipr_check.proofs.Laws.{ending_met, finish_stops, finish_verifies, knows_still}
 use Rattle.vipr_check.proofs.Laws.{solution_missing, solution_passes_all, solution_stops}
 use Rattle.vipr_check.proofs.Laws.{solution_taken, step_passes, step_stops, step_taken}
-use Rattle.vipr_tighten.specs.Keeping.{HasAnswer, AnswersWhy, AnswersProof, LeadsTo, solutions_left}
+use Rattle.vipr_tighten.specs.Keeping.{AnswersWhy, AnswersProof, LeadsTo, solutions_left}
 use Rattle.vipr_tighten.specs.Keeping.{derivations_left, KeepsListed, KeepsMet, KeepsDerived}
 use Rattle.vipr_tighten.specs.Keeping.{KeepsWhole, KeepsFinished, KeepsProof}
 
@@ -47,6 +47,13 @@ leads_same P f = record { same = refl; answers = λ a x h. h }
 
 pub leads_on : (P : Profile) (f g h : Found) → LeadsTo P f g → LeadsTo P g h → LeadsTo P f h
 leads_on P f g h x y = record { same = x.same ∙ y.same; answers = λ a z t. x.answers a z (y.answers a z t) }
+
+pub proof_by : (P : Profile) (f g : Found) → LeadsTo P f g → (c : Certificate) (report : Report)
+    → AnswersProof P g c report → AnswersProof P f c report
+proof_by P f g x c report h = record {
+  same = x.same ∙ h.same;
+  answer = (h.answer.0, x.answers (verified (report_of report)) h.answer.0 h.answer.1);
+}
 
 pub answers_by : (P : Profile) (f g : Found) → LeadsTo P f g → (e : NoProof) → AnswersWhy P g e
     → AnswersWhy P f e
@@ -192,10 +199,11 @@ module _ (P : Profile) (s : Certificate) (u : Items) (c : Certificate) (m n : St
       let (end, ended, leads) = whole.leads known in
       answers_by P (derivations_left s u) (derivations_from c 0 end) leads (stop_reason e) (state_shown n, finish_stops P c m n end whole.profile ended e whole.has.problem h)
 
-  pub finish_found : (report : Report) → Finishes c m n (Ok report) → ((derivations_left s u).certificate ≡ c) × HasAnswer P (derivations_left s u) (verified (report_of report))
+  pub finish_found : (report : Report) → Finishes c m n (Ok report) → AnswersProof P (derivations_left s u) c report
   finish_found report h =
       let (end, ended, leads) = whole.leads known in
-      (leads.same ∙ end_same c end, (state_shown n, leads.answers (verified (report_of report)) (state_shown n) (finish_verifies P c m n end whole.profile ended report whole.runs h)))
+      proof_by P (derivations_left s u) (derivations_from c 0 end) leads c report
+      (record { same = end_same c end; answer = (state_shown n, finish_verifies P c m n end whole.profile ended report whole.runs h) })
 
 -- ---- all items
 
@@ -209,6 +217,11 @@ pub ok_on : {T E : Type 0} (F G : T → Type 0) (x : Result T E) → ((t : T) �
     → IfOk x G
 ok_on F G (Ok t) h y = h t y
 ok_on F G (Err e) h y = tt
+
+pub err_on : {T E : Type 0} (F G : E → Type 0) (x : Result T E) → ((e : E) → F e → G e)
+    → IfErr x F → IfErr x G
+err_on F G (Ok t) h y = tt
+err_on F G (Err e) h y = h e y
 
 -- the end of the solutions
 module _ (P : Profile) (p : Problem) (r : Items) (ss : List (Named Row)) (k : State) (s : Items) (listed : KeepsListed P p r ss k s) (all_read : s.left ≡ 0) (known : IsSome r.rest) where
@@ -255,9 +268,8 @@ module _ (P : Profile) (p : Problem) (r : Items) (ss : List (Named Row)) (k : St
               reports = subst (λ Q. Reports Q c (report_of report)) h.whole.profile h.done.1;
               shown = h.done.2;
               found = λ known.
-                  let leads = to_derivations known in
-                  let found = finish_found P (start p ss) u c h.before l h.whole (read (met.listed.known known)).1 report h.done in
-                  (leads.same ∙ found.0, (found.1.0, leads.answers (verified (report_of report)) found.1.0 found.1.1));
+                  proof_by P (solutions_left p [] r) (derivations_left (start p ss) u) (to_derivations known) c report
+                  (finish_found P (start p ss) u c h.before l h.whole (read (met.listed.known known)).1 report h.done);
             },
           )
 
@@ -267,28 +279,22 @@ module _ (P : Profile) (t : Rest) (p : Problem) (r : Items) (read : problem_read
   to_solutions : LeadsTo P (found_in t) (solutions_left p [] r)
   to_solutions = problem_leads P t p r.left (rest_of r.rest) read
 
-  pub rest_answers : (x : Result (Certificate × Report) NoProof) → IfOk x (λ y. KeepsProof P p r y.0 y.1) → IfErr x (λ e. IsSome r.rest → AnswersWhy P (solutions_left p [] r) e) → IsSome r.rest → AnswersProof P (found_in t) x
-  rest_answers (Ok (c, report)) h e known =
-      let found = h.found known in
-      (to_solutions.same ∙ found.0, (found.1.0, to_solutions.answers (verified (report_of report)) found.1.0 found.1.1))
-  rest_answers (Err y) h e known = answers_by P (found_in t) (solutions_left p [] r) to_solutions y (e known)
+  pub rest_found : (c : Certificate) (report : Report) → AnswersProof P (solutions_left p [] r) c report → AnswersProof P (found_in t) c report
+  rest_found c report h = proof_by P (found_in t) (solutions_left p [] r) to_solutions c report h
+
+  pub rest_answers : (e : NoProof) → AnswersWhy P (solutions_left p [] r) e → AnswersWhy P (found_in t) e
+  rest_answers e h = answers_by P (found_in t) (solutions_left p [] r) to_solutions e h
 
 -- ---- the answer
 
-pub err_decides : (P : Profile) (f : Found) (x : Result (Certificate × Report) NoProof)
-    (e : NoProof) → IsErrAnd x (λ y. y ≡ e) → AnswersWhy P f e → AnswersProof P f x
-err_decides P f (Ok x) e h t = absurd h
-err_decides P f (Err y) e h t = subst (AnswersWhy P f) (sym h) t
-
-pub memory_decides : (P : Profile) (o : Option Input) (x : Result (Certificate × Report) NoProof)
-    → IsErrAnd x (λ y. y ≡ reason.Memory) → IfKnown o (λ i. AnswersProof P (found_in (text_of i)) x)
-memory_decides P None x h = tt
-memory_decides P (Some i) x h = λ short. err_decides P (found_in (text_of i)) x reason.Memory h (none, tt)
+pub memory_known : (P : Profile) (o : Option Input)
+    → IfKnown o (λ i. AnswersWhy P (found_in (text_of i)) reason.Memory)
+memory_known P None = tt
+memory_known P (Some i) = λ short. (none, tt)
 
 -- what is found in what the reader has left is found in what the source gives
-pub decides_by : (P : Profile) (o : Option Input) (reader : Option Rest)
-    (x : Result (Certificate × Report) NoProof) → IfKnown o (λ i. reader ≡ Some (text_of i))
-    → (IsSome reader → AnswersProof P (found_in (rest_of reader)) x)
-    → IfKnown o (λ i. AnswersProof P (found_in (text_of i)) x)
-decides_by P None reader x h k = tt
-decides_by P (Some i) reader x h k = λ short. subst (λ (s : Option Rest). AnswersProof P (found_in (rest_of s)) x) (h short) (k (subst IsSome (sym (h short)) refl))
+pub known_by : (Q : Found → Type 0) (o : Option Input) (reader : Option Rest)
+    → IfKnown o (λ i. reader ≡ Some (text_of i)) → (IsSome reader → Q (found_in (rest_of reader)))
+    → IfKnown o (λ i. Q (found_in (text_of i)))
+known_by Q None reader h k = tt
+known_by Q (Some i) reader h k = λ short. subst (λ (s : Option Rest). Q (found_in (rest_of s))) (h short) (k (subst IsSome (sym (h short)) refl))

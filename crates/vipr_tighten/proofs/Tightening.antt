@@ -40,15 +40,6 @@ module _ (c : is.Certificate) (p : is.Problem) (ss : List (Named Solution)) (ds 
 
   -- what is kept
   module _ (goal : Option ℕ) (kept : List (Step (Named Constraint))) (are : map (step_of (named_of constraint_of)) kept ≡ (tightened_certificate c goal).derivations) where
-    pub kept_stand : StandFor kept (named_of constraint_of) first (tightened_certificate c goal)
-    kept_stand = record { first_is = stand.first_is; those = are }
-
-    pub kept_few : CanWrite c → first + length kept ≤ most_count
-    kept_few w =
-        let e = stand_count (named_of constraint_of) (tightened_certificate c goal) first kept kept_stand in
-        let few = (can_write c goal w).shape.few_derivations in
-        omega arith
-
     module _ (tightened : List Derivation) (back : map derivation_of tightened ≡ map (step_of (named_of constraint_of)) kept) where
       pub tightened_parts : certificate_with p ss tightened ≡ tightened_certificate c goal
       tightened_parts =

@@ -1,13 +1,15 @@
 -- A checker run over a text, item by item, while the items are kept
-use Rattle.std.specs.Prelude.{◌≡◌, ◌<◌, ◌^◌, false, List, [], None, IsSome, Result, Ok, Err}
+use Rattle.std.specs.Prelude.{◌≡◌, ℕ, ◌<◌, ◌^◌, false, List, [], map, All, None, IsSome, Ok}
 use Rattle.vipr_spec.specs.Constraint.{Profile, Row}
-use Rattle.vipr_spec.specs.Certificate.{Named, Problem, Certificate, count, IsProof}
+use Rattle.vipr_spec.specs.Certificate.{Named, Problem, Derivation, Certificate, count, IsProof}
 use Rattle.vipr_spec.specs.Reading.{Rest, end_read}
+use Rattle.vipr_spec.specs.Shape.{DerivationShape, DerivationFits}
 use Rattle.vipr_spec.specs.Soundness.{IsShown}
 use Rattle.vipr_spec.specs.Tests.{Detail}
 use Rattle.vipr_spec.specs.Verdict.{Found, Answer, Reports, verified, Explained}
 use Rattle.vipr_spec.specs.Progress.{solutions_from, derivations_from}
 use Rattle.vipr_scan.specs.Giving.{rest_of}
+use Rattle.vipr_cert.specs.Items.{solution_of}
 use Rattle.vipr_read.specs.Items.{Items}
 use Rattle.vipr_check.specs.View.{report_of}
 use Rattle.vipr_check.specs.Progress.{HasSteps}
@@ -16,6 +18,12 @@ use Rattle.vipr_check.specs.Run.{IsAmong, IsAt}
 use Rattle.vipr_check.specs.declared.verdict.Report.{Report}
 use Rattle.vipr_check.specs.declared.no_proof.NoProof.{NoProof}
 use Rattle.vipr_check.specs.Reasons.{SaysWhy}
+use Rattle.vipr_write.specs.declared.form.Form.{Form}
+use Rattle.vipr_write.specs.declared.statements.Statement.{Statement}
+use Rattle.vipr_write.specs.declared.statements.Statements.{Statements}
+use Rattle.vipr_write.specs.declared.statements.Step.{Step}
+use Rattle.vipr_write.specs.Steps.{AreKept, AreStepsOf}
+use Rattle.vipr_tighten.specs.declared.proof_reader.KeptProof.{KeptProof}
 
 -- ---- what is answered
 
@@ -27,10 +35,11 @@ HasAnswer P f a = (x : Detail) × Explained P f a x
 abbrev pub AnswersWhy : Profile → Found → NoProof → Type 0
 AnswersWhy P f e = (x : Detail) × SaysWhy (Explained P f) x e
 
--- the proof is the certificate that was found, with its report; or this is the answer
-abbrev pub AnswersProof : Profile → Found → Result (Certificate × Report) NoProof → Type 0
-AnswersProof P f (Ok x) = (f.certificate ≡ x.0) × HasAnswer P f (verified (report_of x.1))
-AnswersProof P f (Err e) = AnswersWhy P f e
+-- the certificate c is what was found, and the answer is that it is a proof with this report
+pub record AnswersProof (P : Profile) (f : Found) (c : Certificate) (report : Report)
+    : Type 0 where
+  pub same : f.certificate ≡ c
+  pub answer : HasAnswer P f (verified (report_of report))
 
 -- ---- what is kept
 
@@ -94,5 +103,27 @@ pub record KeepsProof (P : Profile) (p : Problem) (r : Items) (c : Certificate)
   pub proof : IsProof P c
   pub reports : Reports P c (report_of report)
   pub shown : IsShown c.problem c.solutions c.problem.claim
-  pub found : IsSome r.rest → ((solutions_left p [] r).certificate ≡ c)
-      × HasAnswer P (solutions_left p [] r) (verified (report_of report))
+  pub found : IsSome r.rest → AnswersProof P (solutions_left p [] r) c report
+
+-- ---- the derivations, whose names and constraints are kept as text
+
+-- the text is for the same form and the same objective
+pub record IsForSame (old new : Statements) : Type 0 where
+  pub form : new.form ≡ old.form
+  pub objective : new.objective ≡ old.objective
+
+-- these steps are kept of the derivations ds, which are over n variables and can be written
+pub record KeepsSteps (n : ℕ) (t : Statements) (steps : List (Step Statement))
+    (ds : List Derivation) : Type 0 where
+  pub kept : AreKept t steps ds
+  pub shapes : All (DerivationShape n) ds
+  pub fit : All DerivationFits ds
+
+-- this is kept of the proof c, for a text in the form F
+pub record IsKeptOf (P : Profile) (F : Form) (c : Certificate) (kept : KeptProof) : Type 0 where
+  pub steps : AreStepsOf c kept.problem (map solution_of kept.solutions.items) kept.statements
+      kept.steps.items
+  pub form : kept.statements.form ≡ F
+  pub proof : IsProof P c
+  pub reports : Reports P c (report_of kept.report)
+  pub shown : IsShown c.problem c.solutions c.problem.claim

@@ -2,7 +2,7 @@
 ghost use Rattle.std.specs.Prelude.{◌≡◌, ◌+◌, ◌<◌, ◌≤◌, length, map, IfOk, IfSome};
 ghost use Rattle.vipr_spec.specs.Constraint.{Constraint as ConstraintMeant};
 ghost use Rattle.vipr_spec.specs.Certificate.{Certificate as CertificateMeant};
-ghost use Rattle.vipr_spec.specs.Certificate.{Named as NamedMeant, count, peak};
+ghost use Rattle.vipr_spec.specs.Certificate.{Named as NamedMeant, count};
 ghost use Rattle.vipr_spec.specs.Reading.{most_count};
 ghost use Rattle.vipr_spec.specs.Steps.{RefersBack};
 ghost use Rattle.vipr_spec.specs.Tightened.{tightened_certificate};
@@ -12,7 +12,6 @@ ghost use Rattle.vipr_write.specs.Steps.{step_of};
 ghost use Rattle.vipr_tighten.specs.Passes.{StepsNameEarlier, StandFor};
 
 use crate::needed::needed;
-use crate::peak::peak;
 use crate::renumber::renumber;
 use std::alloc::{AllocError, Global};
 use vipr_cert::{Certificate, Derivation, Named};
@@ -44,34 +43,6 @@ pub fn tighten_certificate(
     let kept = tighten_steps(alloc, steps, first, goal)?;
     let tightened = derivations_of(alloc, kept)?;
     Ok(Certificate::of_parts(problem, solutions, tightened))
-}
-
-/// The tightened certificate, and how many derived constraints have to be held at a time to check
-/// it.
-///
-/// # Errors
-///
-/// `AllocError` if a growth was refused. The certificate is dropped.
-pub(crate) fn tighten_with_peak(
-    alloc: Global,
-    certificate: Certificate,
-    goal: Option<u32>,
-) -> Result<(Certificate, usize), AllocError>
-    requires back { RefersBack certificate }
-    requires goal { IfSome goal (λ g. g < count certificate) }
-    ensures tightened { IfOk result (λ x. x.0 ≡ tightened_certificate certificate goal) }
-    ensures peak { IfOk result (λ x. x.1 ≡ peak x.0) }
-{
-    let (problem, solutions, derivations) = certificate.into_parts();
-    let first = problem.cons().len() as u32;
-    let steps = steps_of(alloc, derivations)?;
-    let kept = tighten_steps(alloc, steps, first, goal)?;
-    let peak_after = peak(alloc, first as usize, &kept)?;
-    let tightened = derivations_of(alloc, kept)?;
-    Ok((
-        Certificate::of_parts(problem, solutions, tightened),
-        peak_after,
-    ))
 }
 
 /// The steps alone that a goal needs, as `tighten_certificate` keeps the derivations. The first

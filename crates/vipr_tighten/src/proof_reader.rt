@@ -1,53 +1,67 @@
 //! Reads a certificate: each item is checked before the next one is read, and kept.
 
 ghost use Rattle.std.specs.Prelude.{◌≡◌, ◌<◌, ◌^◌, false, List, [], All, map, IfOk, IfErr};
-ghost use Rattle.std.specs.Prelude.{IsSome, Ok, Err};
+ghost use Rattle.std.specs.Prelude.{IsSome, OnOk};
 ghost use Rattle.vipr_spec.specs.Constraint.{Profile as ProfileMeant, Row};
 ghost use Rattle.vipr_spec.specs.Certificate.{Named as NamedMeant, Problem as ProblemMeant};
-ghost use Rattle.vipr_spec.specs.Certificate.{IsProof};
+ghost use Rattle.vipr_spec.specs.Certificate.{Derivation as DerivationMeant};
+ghost use Rattle.vipr_spec.specs.Certificate.{Certificate as CertificateMeant};
 ghost use Rattle.vipr_spec.specs.Checking.{start};
-ghost use Rattle.vipr_spec.specs.Shape.{RowFits, SolutionShape, DerivationShape, DerivationFits};
-ghost use Rattle.vipr_spec.specs.Shape.{CanWriteProblem, CanWrite};
-ghost use Rattle.vipr_spec.specs.Soundness.{IsShown};
+ghost use Rattle.vipr_spec.specs.Shape.{RowFits, SolutionShape, CanWriteProblem, CanWrite};
 ghost use Rattle.vipr_spec.specs.Steps.{with_more};
-ghost use Rattle.vipr_spec.specs.Verdict.{Reports, found_in};
+ghost use Rattle.vipr_spec.specs.Verdict.{found_in};
 ghost use Rattle.vipr_bytes.specs.Known.{text_of, IfKnown};
-ghost use Rattle.vipr_cert.specs.Items.{solution_of, derivation_of};
+ghost use Rattle.vipr_cert.specs.Items.{solution_of};
 ghost use Rattle.vipr_read.specs.Items.{Knows};
 ghost use Rattle.vipr_rules.specs.Profile.{profile_of};
-ghost use Rattle.vipr_check.specs.View.{report_of};
+ghost use Rattle.vipr_write.specs.Steps.{AreKept, AreStepsOf};
 ghost use Rattle.vipr_check.specs.Run.{IsAmong, IsAt};
 ghost use Rattle.vipr_tighten.specs.Keeping.{AnswersProof, AnswersWhy, KeepsListed, KeepsMet};
-ghost use Rattle.vipr_tighten.specs.Keeping.{KeepsWhole, KeepsFinished, KeepsProof};
+ghost use Rattle.vipr_tighten.specs.Keeping.{KeepsWhole, KeepsFinished, KeepsProof, KeepsSteps};
+ghost use Rattle.vipr_tighten.specs.Keeping.{IsKeptOf, IsForSame};
 ghost use Rattle.vipr_tighten.specs.Keeping.{solutions_left, derivations_left};
 
 use std::alloc::Global;
 use vipr_bytes::Source;
-use vipr_cert::{Certificate, Derivation, Named, Problem};
+use vipr_cert::{Named, Problem};
 use vipr_check::{Checker, NoProof, Report, Table};
 use vipr_linear::Solution;
 use vipr_read::{CertReader, Derivations, Solutions};
 use vipr_rules::Profile;
+use vipr_write::{Form, Statement, Statements, Step};
 
-/// The proof that is read from `source` to its end, and its report.
+/// A proof, of whose derivations the names and the constraints are kept as text.
+#[derive(Drop)]
+pub(crate) struct KeptProof {
+    pub(crate) problem: Problem,
+    pub(crate) solutions: Vec<Named<Solution>>,
+    pub(crate) statements: Statements,
+    pub(crate) steps: Vec<Step<Statement>>,
+    pub(crate) report: Report,
+}
+
+/// The proof that is read from `source` to its end, and its report. It is kept for a text in
+/// `form`.
 ///
 /// Each item is tested before more is read than it takes.
 pub(crate) fn read_proof<R: Source + Drop>(
     alloc: Global,
     profile: Profile,
+    form: Form,
     source: R,
-) -> Result<(Certificate, Report), NoProof>
-    // Whatever is read: it is a proof, this is its report, and what it claims is true.
-    ensures proof { IfOk result (λ x. IsProof (profile_of profile) x.0
-        × Reports (profile_of profile) x.0 (report_of x.1)
-        × IsShown x.0.problem x.0.solutions x.0.problem.claim) }
-    // It is the certificate that is found in the text, and the answer is that of the definitions.
-    ensures found { IfKnown (R.input source)
-        (λ i. AnswersProof (profile_of profile) (found_in (text_of i)) result) }
+) -> Result<KeptProof, NoProof>
+    // Whatever is read: it is a proof, this is its report, and what it claims is true. It is the
+    // certificate that is found in the text, and the answer is that of the definitions.
+    ensures proof { IfOk result (λ kept. (c : CertificateMeant)
+        × IsKeptOf (profile_of profile) form c kept
+        × IfKnown (R.input source)
+        (λ i. AnswersProof (profile_of profile) (found_in (text_of i)) c kept.report)) }
+    ensures unproved { IfErr result (λ e. IfKnown (R.input source)
+        (λ i. AnswersWhy (profile_of profile) (found_in (text_of i)) e)) }
 {
     let reader = CertReader::new(alloc, source)?;
     match reader.read_problem(alloc) {
-        Ok((problem, solutions)) => read_rest(alloc, profile, problem, solutions),
+        Ok((problem, solutions)) => read_rest(alloc, profile, form, problem, solutions),
         Err(error) => Err(NoProof::from(error)),
     }
 }
@@ -56,22 +70,30 @@ pub(crate) fn read_proof<R: Source + Drop>(
 fn read_rest<R: Source + Drop>(
     alloc: Global,
     profile: Profile,
+    form: Form,
     problem: Problem,
     solutions: Solutions<R>,
-) -> Result<(Certificate, Report), NoProof>
+) -> Result<KeptProof, NoProof>
     requires writes { CanWriteProblem problem }
     requires knows { Knows solutions problem }
     requires working { solutions.failed ≡ false }
     requires counted { solutions.left < 2 ^ 32 }
-    ensures kept { IfOk result
-        (λ x. KeepsProof (profile_of profile) problem solutions x.0 x.1) }
+    ensures kept { IfOk result (λ kept. (c : CertificateMeant)
+        × IsKeptOf (profile_of profile) form c kept
+        × KeepsProof (profile_of profile) problem solutions c kept.report) }
     ensures unproved { IfErr result (λ e. IsSome solutions.rest
         → AnswersWhy (profile_of profile) (solutions_left problem [] solutions) e) }
 {
+    let mut statements = Statements::new(alloc, form, problem.objective())?;
     let mut checker: Checker<Table> = Checker::new_in(alloc, profile, problem)?;
-    let (listed, derived, report) = read_items(alloc, &mut checker, solutions)?;
-    let certificate = Certificate::of_parts(checker.into_problem(), listed, derived);
-    Ok((certificate, report))
+    let (listed, steps, report) = read_items(alloc, &mut checker, &mut statements, solutions)?;
+    Ok(KeptProof {
+        problem: checker.into_problem(),
+        solutions: listed,
+        statements,
+        steps,
+        report,
+    })
 }
 
 // The solutions and the derivations that follow, up to the end of the text, and the report of the
@@ -79,23 +101,27 @@ fn read_rest<R: Source + Drop>(
 fn read_items<R: Source + Drop>(
     alloc: Global,
     checker: &mut Checker<Table>,
+    statements: &mut Statements,
     mut solutions: Solutions<R>,
-) -> Result<(Vec<Named<Solution>>, Vec<Derivation>, Report), NoProof>
-    requires { (P : ProfileMeant) × (p : ProblemMeant) × IsAmong P p [] checker.old solutions }
+) -> Result<(Vec<Named<Solution>>, Vec<Step<Statement>>, Report), NoProof>
+    requires among { (P : ProfileMeant) × (p : ProblemMeant)
+        × IsAmong P p [] checker.old solutions }
+    requires none { AreKept statements.old [] [] }
+    ensures same { OnOk result (IsForSame statements.old statements.new) }
     ensures kept { IfOk result (λ x. (P : ProfileMeant) (p : ProblemMeant)
         → IsAmong P p [] checker.old solutions
-        → (checker.new.progress.problem ≡ p) × (CanWriteProblem p → CanWrite
-        (with_more (start p (map solution_of x.0.items)) (map derivation_of x.1.items)))
-        × KeepsProof P p solutions (with_more (start p (map solution_of x.0.items))
-        (map derivation_of x.1.items)) x.2) }
+        → (checker.new.progress.problem ≡ p) × (ds : List DerivationMeant)
+        × AreKept statements.new x.1.items ds
+        × (CanWriteProblem p → CanWrite (with_more (start p (map solution_of x.0.items)) ds))
+        × KeepsProof P p solutions (with_more (start p (map solution_of x.0.items)) ds) x.2) }
     ensures unproved { IfErr result (λ e. (P : ProfileMeant) (p : ProblemMeant)
         → IsAmong P p [] checker.old solutions → IsSome solutions.rest
         → AnswersWhy P (solutions_left p [] solutions) e) }
 {
     let listed = read_listed(alloc, checker, &mut solutions)?;
     let mut derivations = solutions.finish()?;
-    let (derived, report) = read_derived(alloc, checker, &mut derivations)?;
-    Ok((listed, derived, report))
+    let (steps, report) = read_derived(alloc, checker, statements, &mut derivations)?;
+    Ok((listed, steps, report))
 }
 
 // All solutions that follow, where they meet the primal side of the claim.
@@ -126,26 +152,27 @@ fn read_listed<R: Source>(
 fn read_derived<R: Source>(
     alloc: Global,
     checker: &mut Checker<Table>,
+    statements: &mut Statements,
     derivations: &mut Derivations<R>,
-) -> Result<(Vec<Derivation>, Report), NoProof>
-    requires { (P : ProfileMeant) × (p : ProblemMeant) × (ss : List (NamedMeant Row))
+) -> Result<(Vec<Step<Statement>>, Report), NoProof>
+    requires at { (P : ProfileMeant) × (p : ProblemMeant) × (ss : List (NamedMeant Row))
         × IsAt P (start p ss) checker.old derivations.old }
-    ensures items { IfOk result (λ x.
-        All (DerivationShape derivations.old.variables) (map derivation_of x.0.items)
-        × All DerivationFits (map derivation_of x.0.items)) }
-    ensures kept { IfOk result
-        (λ x. (P : ProfileMeant) (p : ProblemMeant) (ss : List (NamedMeant Row))
+    requires none { AreKept statements.old [] [] }
+    ensures same { OnOk result (IsForSame statements.old statements.new) }
+    ensures kept { IfOk result (λ x. (ds : List DerivationMeant)
+        × KeepsSteps derivations.old.variables statements.new x.0.items ds
+        × ((P : ProfileMeant) (p : ProblemMeant) (ss : List (NamedMeant Row))
         → IsAt P (start p ss) checker.old derivations.old
-        → KeepsFinished P (start p ss) derivations.old
-        (with_more (start p ss) (map derivation_of x.0.items)) x.1 checker.new) }
+        → KeepsFinished P (start p ss) derivations.old (with_more (start p ss) ds) x.1
+        checker.new)) }
     ensures unproved { IfErr result
         (λ e. (P : ProfileMeant) (p : ProblemMeant) (ss : List (NamedMeant Row))
         → IsAt P (start p ss) checker.old derivations.old → IsSome derivations.old.rest
         → AnswersWhy P (derivations_left (start p ss) derivations.old) e) }
 {
-    let derived = read_derivations(alloc, checker, derivations)?;
+    let steps = read_derivations(alloc, checker, statements, derivations)?;
     let report = checker.finish()?;
-    Ok((derived, report))
+    Ok((steps, report))
 }
 
 // All solutions that follow.
@@ -183,31 +210,32 @@ fn read_solutions<R: Source>(
 fn read_derivations<R: Source>(
     alloc: Global,
     checker: &mut Checker<Table>,
+    statements: &mut Statements,
     derivations: &mut Derivations<R>,
-) -> Result<Vec<Derivation>, NoProof>
-    requires { (P : ProfileMeant) × (p : ProblemMeant) × (ss : List (NamedMeant Row))
+) -> Result<Vec<Step<Statement>>, NoProof>
+    requires at { (P : ProfileMeant) × (p : ProblemMeant) × (ss : List (NamedMeant Row))
         × IsAt P (start p ss) checker.old derivations.old }
-    ensures items { IfOk result (λ ds.
-        All (DerivationShape derivations.old.variables) (map derivation_of ds.items)
-        × All DerivationFits (map derivation_of ds.items)) }
-    ensures kept { IfOk result
-        (λ ds. (P : ProfileMeant) (p : ProblemMeant) (ss : List (NamedMeant Row))
+    requires none { AreKept statements.old [] [] }
+    ensures same { OnOk result (IsForSame statements.old statements.new) }
+    ensures kept { IfOk result (λ steps. (ds : List DerivationMeant)
+        × KeepsSteps derivations.old.variables statements.new steps.items ds
+        × ((P : ProfileMeant) (p : ProblemMeant) (ss : List (NamedMeant Row))
         → IsAt P (start p ss) checker.old derivations.old
-        → KeepsWhole P (start p ss) derivations.old
-        (with_more (start p ss) (map derivation_of ds.items)) checker.new) }
+        → KeepsWhole P (start p ss) derivations.old (with_more (start p ss) ds) checker.new)) }
     ensures unproved { IfErr result
         (λ e. (P : ProfileMeant) (p : ProblemMeant) (ss : List (NamedMeant Row))
         → IsAt P (start p ss) checker.old derivations.old → IsSome derivations.old.rest
         → AnswersWhy P (derivations_left (start p ss) derivations.old) e) }
 {
-    let mut derived = Vec::new(alloc);
+    let mut steps = Vec::new(alloc);
     'steps: loop {
         match derivations.next(alloc)? {
             Some(step) => {
                 checker.derivation(alloc, &step)?;
-                derived.push(step)?;
+                let kept = statements.keep(step)?;
+                steps.push(kept)?;
             }
-            None => return Ok(derived),
+            None => return Ok(steps),
         }
     }
 }

@@ -5,22 +5,22 @@
 //! with the same problem and the same solutions. [`tighten_in`] does so by the rules of a profile.
 ghost use Rattle.std.specs.Prelude.{◌≡◌};
 ghost use Rattle.vipr_spec.specs.Constraint.{Profile as ProfileMeant};
-ghost use Rattle.vipr_spec.specs.Certificate.{IsProof};
-ghost use Rattle.vipr_spec.specs.Verdict.{Reports};
+ghost use Rattle.vipr_spec.specs.Certificate.{Certificate as CertificateMeant};
 ghost use Rattle.vipr_rules.specs.Profile.{profile_of};
-ghost use Rattle.vipr_check.specs.View.{report_of};
+ghost use Rattle.vipr_write.specs.declared.form.Form.{Form as FormMeant};
+ghost use Rattle.vipr_tighten.specs.Keeping.{IsKeptOf};
 ghost use Rattle.vipr_tighten.specs.Tightens.{Tightens, TightensAs, TightensIn, TightensText};
 ghost use Rattle.vipr_tighten.specs.Tightens.{kind_of, unproved_answer};
 
-use crate::certificate::tighten_with_peak;
+use crate::certificate::tighten_steps;
 use crate::outcome::{Outcome, TightenFault};
-use crate::proof_reader::read_proof;
+use crate::peak::peak;
+use crate::proof_reader::{KeptProof, read_proof};
 use std::alloc::Global;
 use vipr_bytes::{Sink, Source};
-use vipr_cert::Certificate;
-use vipr_check::{NoProof, Report};
+use vipr_check::NoProof;
 use vipr_rules::Profile;
-use vipr_write::{Form, WriteError, write_certificate_in};
+use vipr_write::{Form, WriteError, write_steps};
 
 /// Reads a certificate to its end and checks it while it is read. If it is a proof, writes the
 /// canonical text of what its goal needs: the proof without the derivations that nothing needs.
@@ -88,8 +88,8 @@ pub fn tighten_as<R: Source + Drop, W: Sink>(
     ensures { TightensAs (profile_of profile) form (R.input source) (W.output sink.old)
         (W.output sink.new) result }
 {
-    match read_proof(alloc, profile, source) {
-        Ok((certificate, report)) => write_tightened(alloc, form, certificate, &report, sink),
+    match read_proof(alloc, profile, form, source) {
+        Ok(proof) => write_tightened(alloc, proof, sink),
         Err(reason) => without_proof(reason),
     }
 }
@@ -105,23 +105,29 @@ fn without_proof(reason: NoProof) -> Result<Outcome, TightenFault>
     }
 }
 
-// Writes the tightened certificate of a proof with this report.
+// Writes the tightened certificate of the proof of which this is kept.
 fn write_tightened<W: Sink>(
     alloc: Global,
-    form: Form,
-    certificate: Certificate,
-    report: &Report,
+    proof: KeptProof,
     sink: &mut W,
 ) -> Result<Outcome, TightenFault>
-    requires { (P : ProfileMeant) × IsProof P certificate
-        × Reports P certificate (report_of report.now) }
-    ensures { (P : ProfileMeant) → IsProof P certificate
-        → Reports P certificate (report_of report.now)
-        → TightensText P form (kind_of certificate) (W.output sink.old) (W.output sink.new) result }
+    requires { (P : ProfileMeant) × (F : FormMeant) × (c : CertificateMeant)
+        × IsKeptOf P F c proof }
+    ensures { (P : ProfileMeant) (F : FormMeant) (c : CertificateMeant) → IsKeptOf P F c proof
+        → TightensText P F (kind_of c) (W.output sink.old) (W.output sink.new) result }
 {
-    let (tightened, peak_after) = tighten_with_peak(alloc, certificate, report.goal)?;
-    let kept = tightened.derivations().len() as u32;
-    match write_certificate_in(alloc, form, &tightened, sink) {
+    let KeptProof {
+        problem,
+        solutions,
+        statements,
+        steps,
+        report,
+    } = proof;
+    let first = problem.cons().len();
+    let tightened = tighten_steps(alloc, steps, first as u32, report.goal)?;
+    let peak_after = peak(alloc, first, &tightened)?;
+    let kept = tightened.len() as u32;
+    match write_steps(alloc, &problem, &solutions, &statements, &tightened, sink) {
         Ok(()) => Ok(Outcome::Tightened {
             kept,
             removed: report.derived - kept,

@@ -1,5 +1,4 @@
-use Rattle.std.proofs.Common.{map, refl, ◌∙◌, subst}
-use Rattle.std.proofs.lemmas.List.{map_push}
+use Rattle.std.proofs.Common.{[], ◌∷◌, ◌++◌, refl, ◌∙◌, subst}
 use Rattle.std.proofs.lemmas.List.Elements.{All-push, All-nil}
 use Rattle.vipr_spec.specs.Constraint.{at}
 use Rattle.vipr_spec.specs.Checking.{start}
@@ -16,70 +15,99 @@ use Rattle.vipr_tighten.proofs.proof_reader.read_derivations.Goals as goal
 
 pub steps-init : goal.steps-init
 steps-init g c =
-    rw c.new-derived.ensures.items (record { kept = λ P p ss is. derived_first P (start p ss) c.args.checker.now c.args.derivations.now is; items = (All-nil (DerivationShape c.args.derivations.now.variables), All-nil DerivationFits); variables = refl })
+    let r = c.args.derivations.now in
+    rw c.new-steps.ensures.items (record {
+      same = record { form = refl; objective = refl };
+      variables = refl;
+      read = (
+        [],
+        record { kept = c.requires.none; shapes = All-nil (DerivationShape r.variables); fit = All-nil DerivationFits },
+        λ P p ss is. derived_first P (start p ss) c.args.checker.now r is,
+      );
+    })
 
 pub derivation-requires-clause-phase : goal.derivation-requires-clause-phase
-derivation-requires-clause-phase g c = let (P, p, ss, is) = c.requires in (c.steps.invariant.kept P p ss is).is_at.phase
+derivation-requires-clause-phase g c =
+    let (P, p, ss, is) = c.requires.at in
+    let (ds, steps, kept) = c.steps.invariant.read in
+    (kept P p ss is).is_at.phase
 
 pub derivation-requires-clause-room : goal.derivation-requires-clause-room
 derivation-requires-clause-room g c =
-    let (P, p, ss, is) = c.requires in
+    let (P, p, ss, is) = c.requires.at in
+    let (ds, steps, kept) = c.steps.invariant.read in
     let h = rw c.in-Some.is at c.in_ok-step.ensures in
-    room_for P (with_more (start p ss) (map derivation_of c.steps.derived.items)) c.steps.checker c.steps.derivations c.next.new.self.left (c.steps.invariant.kept P p ss is).is_at h.moves.counted
+    room_for P (with_more (start p ss) ds) c.steps.checker c.steps.derivations c.next.new.self.left (kept P p ss is).is_at h.moves.counted
 
 pub derivation-requires-clause-names : goal.derivation-requires-clause-names
 derivation-requires-clause-names g c =
-    let (P, p, ss, is) = c.requires in
+    let (P, p, ss, is) = c.requires.at in
+    let (ds, steps, kept) = c.steps.invariant.read in
     let h = rw c.in-Some.is at c.in_ok-step.ensures in
-    names_for P (with_more (start p ss) (map derivation_of c.steps.derived.items)) c.steps.checker c.steps.derivations (at c.in-Some.step.constraint.row) (c.steps.invariant.kept P p ss is).is_at h.shape.row
+    names_for P (with_more (start p ss) ds) c.steps.checker c.steps.derivations (at c.in-Some.step.constraint.row) (kept P p ss is).is_at h.shape.row
 
 pub returns-in_err-derivation-in-Some-clause-unproved :
     goal.returns-in_err-derivation-in-Some-clause-unproved
 returns-in_err-derivation-in-Some-clause-unproved g c =
     let e = c.in_err-derivation-in-Some.field-0.0 in
     err_given _ c.from_residual-in_err-derivation-in-Some.result (stop_reason e) c.from_residual-in_err-derivation-in-Some.ensures.1 (λ P p ss is known.
+    let (ds, steps, keeps) = c.steps.invariant.read in
     let h = rw c.in-Some.is at c.in_ok-step.ensures in
     let s = start p ss in
-    let now = with_more s (map derivation_of c.steps.derived.items) in
-    let kept = c.steps.invariant.kept P p ss is in
+    let now = with_more s ds in
+    let kept = keeps P p ss is in
     step_refused P s now c.steps.checker c.derivation.new.self c.args.derivations.now c.steps.derivations kept c.next.new.self (derivation_of c.in-Some.step) h.moves.counted h.moves.remembers h.moves.working
     (λ t. let r = h.read p kept.is_at.knows t in (r.1, r.2)) h.shape.reason e (c.in_err-derivation-in-Some.ensures.next now kept.is_at.runs kept.is_at.has) known)
 
 pub steps-preserved : goal.steps-preserved
 steps-preserved g c =
     let h = rw c.in-Some.is at c.in_ok-step.ensures in
+    let (ds, steps, keeps) = c.steps.invariant.read in
     let first = c.args.derivations.now in
-    let x = c.in-Some.step in
-    let ds = map derivation_of c.steps.derived.items in
+    let d = derivation_of c.in-Some.step in
     let old = c.steps.derivations in
-    rw (c.in_ok-push-in-Some.ensures.items, map_push derivation_of c.steps.derived.items x) (record {
-      kept = λ P p ss is.
-          let kept = c.steps.invariant.kept P p ss is in
-          let now = with_more (start p ss) ds in
-          step_accepted P (start p ss) now c.steps.checker c.derivation.new.self first old kept c.next.new.self (derivation_of x) h.moves.counted h.moves.remembers h.moves.working
-          (λ t. let r = h.read p kept.is_at.knows t in (r.1, r.2)) (c.in_ok-derivation-in-Some.ensures.next now kept.is_at.runs kept.is_at.has);
-      items = (
-        All-push (DerivationShape first.variables) ds (derivation_of x) c.steps.invariant.items.0 (subst (λ n. DerivationShape n (derivation_of x)) c.steps.invariant.variables h.shape),
-        All-push DerivationFits ds (derivation_of x) c.steps.invariant.items.1 h.fits,
-      );
+    let step = c.in_ok-kept-in-Some.ensures in
+    let same = c.steps.invariant.same in
+    rw c.in_ok-push-in-Some.ensures.items (record {
+      same = record { form = step.form ∙ same.form; objective = step.objective ∙ same.objective };
       variables = h.moves.remembers.variables ∙ c.steps.invariant.variables;
+      read = (
+        ds ++ d ∷ [],
+        record {
+          kept = step.kept c.steps.steps.items ds steps.kept;
+          shapes = All-push (DerivationShape first.variables) ds d steps.shapes (subst (λ n. DerivationShape n d) c.steps.invariant.variables h.shape);
+          fit = All-push DerivationFits ds d steps.fit h.fits;
+        },
+        λ P p ss is.
+            let kept = keeps P p ss is in
+            let now = with_more (start p ss) ds in
+            step_accepted P (start p ss) now c.steps.checker c.derivation.new.self first old kept c.next.new.self d h.moves.counted h.moves.remembers h.moves.working
+            (λ t. let r = h.read p kept.is_at.knows t in (r.1, r.2)) (c.in_ok-derivation-in-Some.ensures.next now kept.is_at.runs kept.is_at.has),
+      );
     })
 
 pub returns-in-None-clause-kept : goal.returns-in-None-clause-kept
-returns-in-None-clause-kept g c = λ P p ss is.
+returns-in-None-clause-kept g c =
     let h = rw c.in-None.is at c.in_ok-step.ensures in
-    let kept = c.steps.invariant.kept P p ss is in
-    let now = with_more (start p ss) (map derivation_of c.steps.derived.items) in
-    at_end P (start p ss) now c.steps.checker c.steps.checker c.args.derivations.now c.steps.derivations kept (h.read p kept.is_at.knows)
+    let (ds, steps, keeps) = c.steps.invariant.read in (
+      ds,
+      steps,
+      λ P p ss is.
+          let kept = keeps P p ss is in
+          at_end P (start p ss) (with_more (start p ss) ds) c.steps.checker c.steps.checker c.args.derivations.now c.steps.derivations kept (h.read p kept.is_at.knows),
+    )
 
 pub returns-in_err-step-clause-unproved : goal.returns-in_err-step-clause-unproved
 returns-in_err-step-clause-unproved g c =
     let e = c.in_err-step.field-0.0 in
     err_given _ c.from_residual.result (text_reason e) c.from_residual.ensures.1 (λ P p ss is known.
-    let s = start p ss in
-    let now = with_more s (map derivation_of c.steps.derived.items) in
-    let kept = c.steps.invariant.kept P p ss is in
-    step_unread P s now c.steps.checker c.steps.checker c.args.derivations.now c.steps.derivations kept e (c.in_err-step.ensures.read p kept.is_at.knows (kept.known known)) known)
+    let (ds, steps, keeps) = c.steps.invariant.read in
+    let kept = keeps P p ss is in
+    step_unread P (start p ss) (with_more (start p ss) ds) c.steps.checker c.steps.checker c.args.derivations.now c.steps.derivations kept e (c.in_err-step.ensures.read p kept.is_at.knows (kept.known known)) known)
+
+pub returns-in_err-kept-in-Some-clause-unproved : goal.returns-in_err-kept-in-Some-clause-unproved
+returns-in_err-kept-in-Some-clause-unproved g c =
+    err_given _ c.from_residual-in_err-kept-in-Some.result reason.Memory c.from_residual-in_err-kept-in-Some.ensures.1 (λ P p ss is known. (none, tt))
 
 pub returns-in_err-push-in-Some-clause-unproved : goal.returns-in_err-push-in-Some-clause-unproved
 returns-in_err-push-in-Some-clause-unproved g c =

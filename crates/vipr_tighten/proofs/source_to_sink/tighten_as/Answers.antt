@@ -1,18 +1,23 @@
 use Rattle.std.proofs.Common.{sym, subst}
 use Rattle.vipr_rules.specs.Profile.{profile_of}
-use Rattle.vipr_check.specs.View.{report_of}
 use Rattle.vipr_tighten.specs.Tightens.{TightensAs}
 use Rattle.vipr_tighten.proofs.Outcomes.{decided_proof, decided_not}
 use Rattle.vipr_tighten.proofs.source_to_sink.tighten_as.Goals as goal
 
+pub write_tightened-requires : goal.write_tightened-requires
+write_tightened-requires g c =
+    let (x, is, found) = c.in-Ok.ensures.proof in
+    (profile_of c.args.profile, c.args.form, x, is)
+
 pub returns-in-Ok : goal.returns-in-Ok
 returns-in-Ok g c =
     let P = profile_of c.args.profile in
-    decided_proof P c.args.form (g.R.Source.input c.args.source) c.in-Ok.certificate (report_of c.in-Ok.report) (g.W.Sink.output c.args.sink.now) (g.W.Sink.output c.write_tightened.new.sink) c.write_tightened.result (c.write_tightened.ensures P c.in-Ok.ensures.proof.0 c.in-Ok.ensures.proof.1) c.in-Ok.ensures.found
+    let (x, is, found) = c.in-Ok.ensures.proof in
+    decided_proof P c.args.form (g.R.Source.input c.args.source) x c.in-Ok.proof.report (g.W.Sink.output c.args.sink.now) (g.W.Sink.output c.write_tightened.new.sink) c.write_tightened.result (c.write_tightened.ensures P c.args.form x is) found
 
 pub returns-in-Err : goal.returns-in-Err
 returns-in-Err g c =
     let P = profile_of c.args.profile in
     let source = g.R.Source.input c.args.source in
     let old = g.W.Sink.output c.args.sink.now in
-    subst (TightensAs P c.args.form source old old) (sym c.without_proof.ensures) (decided_not P c.args.form source c.in-Err.reason old c.in-Err.ensures.found)
+    subst (TightensAs P c.args.form source old old) (sym c.without_proof.ensures) (decided_not P c.args.form source c.in-Err.reason old c.in-Err.ensures.unproved)

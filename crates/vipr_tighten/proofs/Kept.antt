@@ -1,0 +1,119 @@
+-- What is written of the proof that is kept: the steps of its tightened certificate
+use Rattle.std.proofs.Common.{◌≡◌, ℕ, ◌+◌, ◌-◌, ◌<◌, ◌≤◌, List, map, length, Option, Some, None}
+use Rattle.std.proofs.Common.{IfSome, Ok, Err, arith, refl, sym, ap, ◌∙◌, subst}
+use Rattle.std.specs.Prelude.{MatchOption}
+use Rattle.vipr_spec.specs.Constraint.{Profile, Constraint}
+use Rattle.vipr_spec.specs.Certificate.{Named, Problem, Certificate, IsGoal, NeedsGoal, count, peak}
+use Rattle.vipr_spec.specs.Grammar.{SpellsOnly}
+use Rattle.vipr_spec.specs.Reading.{most_count}
+use Rattle.vipr_spec.specs.Tightened.{tightened_certificate}
+use Rattle.vipr_spec.proofs.Laws.{back_of_proof, can_write}
+use Rattle.vipr_bytes.specs.Output.{Output}
+use Rattle.vipr_bytes.specs.Written.{Wrote}
+use Rattle.vipr_cert.specs.Items.{solution_of}
+use Rattle.vipr_check.specs.View.{report_of}
+use Rattle.vipr_write.specs.declared.form.Form.{Form}
+use Rattle.vipr_write.specs.declared.statements.Statement.{Statement}
+use Rattle.vipr_write.specs.declared.statements.Step.{Step}
+use Rattle.vipr_write.specs.Forms.{text_in}
+use Rattle.vipr_write.specs.Steps.{step_of, statement_in, AreStepsOf}
+use Rattle.vipr_tighten.specs.declared.proof_reader.KeptProof.{KeptProof}
+use Rattle.vipr_tighten.specs.declared.outcome.Outcome.TheVariants.{Tightened}
+use Rattle.vipr_tighten.specs.declared.outcome.TightenFault.TheVariants.{Write}
+use Rattle.vipr_tighten.specs.Keeping.{IsKeptOf}
+use Rattle.vipr_tighten.specs.Passes.{StepsNameEarlier, StandFor}
+use Rattle.vipr_tighten.specs.Tightens.{TightensText, kind_of}
+use Rattle.vipr_tighten.proofs.KeptTexts.{with_texts, texts_back, texts_count, texts_tightened}
+use Rattle.vipr_tighten.proofs.KeptTexts.{texts_tightened_count, texts_peak, steps_earlier}
+use Rattle.vipr_tighten.proofs.KeptTexts.{stand_count}
+use Rattle.vipr_tighten.proofs.Outcomes.{fewer_kept, written_whole, written_part}
+
+goal_before : (P : Profile) (c : Certificate) (goal : Option ℕ)
+    → MatchOption goal (¬ NeedsGoal c.problem c.problem.claim) (IsGoal P c)
+    → IfSome goal (λ g. g < count c)
+goal_before P c None h = tt
+goal_before P c (Some g) h = h.0.0
+
+below : (goal : Option ℕ) (m n : ℕ) → m ≡ n → IfSome goal (λ g. g < m) → IfSome goal (λ g. g < n)
+below goal m n e h = subst (λ k. IfSome goal (λ g. g < k)) e h
+
+-- the first derivation has the index `first`
+module _ (P : Profile) (F : Form) (c : Certificate) (k : KeptProof) (is : IsKeptOf P F c k) (first : ℕ) (is_first : length k.problem.constraints ≡ first) where
+  abbrev texts : Certificate
+  texts = with_texts k.statements.form k.statements.objective c
+
+  first_is : length c.problem.constraints ≡ first
+  first_is = ap (λ (q : Problem). length q.constraints) is.steps.problem ∙ is_first
+
+  stand : StandFor k.steps.items (statement_in k.statements) first texts
+  stand = record { first_is = first_is; those = is.steps.those }
+
+  counted : count c ≡ first + length k.steps.items
+  counted = sym (texts_count k.statements.form k.statements.objective c) ∙ stand_count (statement_in k.statements) texts first k.steps.items stand
+
+  pub few_steps : first + length k.steps.items ≤ most_count
+  few_steps =
+      let n = counted in
+      let few = is.steps.writes.shape.few_derivations in
+      omega arith
+
+  pub earlier_steps : StepsNameEarlier first k.steps.items
+  earlier_steps = steps_earlier (statement_in k.statements) texts first k.steps.items (texts_back k.statements.form k.statements.objective c (back_of_proof P c is.proof)) stand
+
+  pub goal_among : IfSome k.report.goal (λ g. g < first + length k.steps.items)
+  goal_among = below k.report.goal (count c) (first + length k.steps.items) counted (goal_before P c k.report.goal is.reports.goal)
+
+  -- these steps are kept of it for the goal
+  module _ (kept : List (Step Statement)) (all : (view : Statement → Named Constraint) (d : Certificate) → StandFor k.steps.items view first d → map (step_of view) kept ≡ (tightened_certificate d k.report.goal).derivations) where
+    abbrev tightened : Certificate
+    tightened = tightened_certificate c k.report.goal
+
+    tight_stand : StandFor kept (statement_in k.statements) first (tightened_certificate texts k.report.goal)
+    tight_stand = record { first_is = first_is; those = all (statement_in k.statements) texts stand }
+
+    pub tight_steps : AreStepsOf tightened k.problem (map solution_of k.solutions.items) k.statements kept
+    tight_steps = record {
+      writes = can_write c k.report.goal is.steps.writes;
+      problem = is.steps.problem;
+      solutions = is.steps.solutions;
+      row = is.steps.row;
+      objective = is.steps.objective;
+      those = tight_stand.those ∙ texts_tightened k.statements.form k.statements.objective c k.report.goal;
+    }
+
+    tight_counted : count tightened ≡ first + length kept
+    tight_counted = sym (texts_tightened_count k.statements.form k.statements.objective c k.report.goal) ∙ stand_count (statement_in k.statements) (tightened_certificate texts k.report.goal) first kept tight_stand
+
+    tight_size : length kept ≡ length tightened.derivations
+    tight_size =
+        let n = tight_counted in
+        let m = first_is in
+        omega arith
+
+    pub tight_few : first + length kept ≤ most_count
+    tight_few =
+        let n = tight_counted in
+        let few = tight_steps.writes.shape.few_derivations in
+        omega arith
+
+    pub tight_fewer : length kept ≤ k.report.derived
+    tight_fewer =
+        let n = tight_size in
+        let few = fewer_kept c k.report.goal in
+        let derived = is.reports.derived in
+        omega arith
+
+    module _ (spells : (G : Form) → SpellsOnly (text_in G tightened) tightened) (old new : Option Output) where
+      pub tightens_whole : (n after : ℕ) → n ≡ length kept → ((view : Statement → Named Constraint) (d : Certificate) → StandFor kept view first d → after ≡ peak d)
+          → IfSome old (λ o. Wrote o new (text_in k.statements.form tightened) (Ok tt)) → TightensText P F (kind_of c) old new (Ok (Tightened n (k.report.derived - n) k.report.peak after))
+      tightens_whole n after e is_peak w =
+          let few = tight_fewer in
+          let all : n + (k.report.derived - n) ≡ k.report.derived = omega arith in
+          let peak_is : after ≡ peak tightened = is_peak (statement_in k.statements) (tightened_certificate texts k.report.goal) tight_stand ∙ texts_peak k.statements.form k.statements.objective c k.report.goal in
+          subst (λ G. TightensText P G (kind_of c) old new (Ok (Tightened n (k.report.derived - n) k.report.peak after))) is.form
+          (written_whole P k.statements.form c (report_of k.report) is.proof is.reports spells old new n (k.report.derived - n) k.report.peak after (e ∙ tight_size) all refl peak_is w)
+
+      pub tightens_part : (n : ℕ) → n < length (text_in k.statements.form tightened) → IfSome old (λ o. Wrote o new (text_in k.statements.form tightened) (Err (record { accepted = n }))) → TightensText P F (kind_of c) old new (Err (Write n))
+      tightens_part n short w =
+          subst (λ G. TightensText P G (kind_of c) old new (Err (Write n))) is.form
+          (written_part P k.statements.form c (report_of k.report) is.proof is.reports spells old new n short w)
