@@ -23,7 +23,7 @@ ghost use Rattle.vipr_tighten.specs.Keeping.{solutions_left, derivations_left};
 
 use std::alloc::Global;
 use vipr_bytes::Source;
-use vipr_cert::{Named, Problem};
+use vipr_cert::{Derivation, Named, Problem};
 use vipr_check::{Checker, NoProof, Report, Table};
 use vipr_linear::Solution;
 use vipr_read::{CertReader, Derivations, Solutions};
@@ -228,14 +228,14 @@ fn read_derivations<R: Source>(
         → AnswersWhy P (derivations_left (start p ss) derivations.old) e) }
 {
     let mut steps = Vec::new(alloc);
+    let mut step = Derivation::blank(alloc);
     'steps: loop {
-        match derivations.next(alloc)? {
-            Some(step) => {
-                checker.derivation(alloc, &step)?;
-                let kept = statements.keep(step)?;
-                steps.push(kept)?;
-            }
-            None => return Ok(steps),
+        let found = derivations.next_into(alloc, &mut step)?;
+        if !found {
+            return Ok(steps);
         }
+        checker.derivation(alloc, &step)?;
+        let kept = statements.keep(&mut step)?;
+        steps.push(kept)?;
     }
 }

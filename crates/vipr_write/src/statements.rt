@@ -3,7 +3,7 @@
 //! [`Statements`] keeps them in one text, so that a derivation takes little memory until it is
 //! written. Its reason stays in a [`Step`].
 ghost use Rattle.std.specs.Prelude.{◌≡◌, ◌∷◌, ◌++◌, [], List, IfOk, OnOk, IsTrue, cond};
-ghost use Rattle.vipr_spec.specs.Certificate.{Derivation as DerivationMeant};
+ghost use Rattle.vipr_spec.specs.Certificate.{Derivation as DerivationMeant, asm};
 ghost use Rattle.vipr_cert.specs.Items.{derivation_of};
 ghost use Rattle.vipr_write.specs.declared.statements.Statement.{Statement as StatementMeant};
 ghost use Rattle.vipr_write.specs.declared.statements.Step.{Step as StepMeant};
@@ -15,6 +15,7 @@ use crate::folded::append_start;
 use crate::form::Form;
 use crate::rows;
 use std::alloc::{AllocError, Global};
+use std::mem::replace;
 use vipr_cert::{Derivation, Reason};
 use vipr_linear::Row;
 
@@ -83,17 +84,20 @@ impl Statements {
         })
     }
 
-    /// Keeps the name and the constraint of a derivation, and gives back the rest of it.
+    /// Keeps the name and the constraint of a derivation, and gives back the rest of it. The reason
+    /// `Asm` is left in place of its own, so that another derivation can be read in its place.
     ///
     /// # Errors
     ///
     /// If a growth is refused.
-    pub fn keep(&mut self, derivation: Derivation) -> Result<Step<Statement>, AllocError>
+    pub fn keep(&mut self, derivation: &mut Derivation) -> Result<Step<Statement>, AllocError>
         ensures form { OnOk result (self.new.form ≡ self.old.form) }
         ensures objective { OnOk result (self.new.objective ≡ self.old.objective) }
         ensures kept { IfOk result (λ s. (ss : List (StepMeant StatementMeant))
             (ds : List DerivationMeant) → AreKept self.old ss ds
-            → AreKept self.new (ss ++ s ∷ []) (ds ++ derivation_of derivation ∷ [])) }
+            → AreKept self.new (ss ++ s ∷ []) (ds ++ derivation_of derivation.old ∷ [])) }
+        ensures left { OnOk result (derivation_of derivation.new
+            ≡ record (derivation_of derivation.old) { reason = asm }) }
     {
         let start = self.text.len();
         append_start(&mut self.text, &derivation.name, &derivation.constraint)?;
@@ -104,11 +108,10 @@ impl Statements {
             &derivation.constraint.row,
         )?;
         let end = self.text.len();
-        let Derivation { reason, last, .. } = derivation;
         Ok(Step {
             stated: Statement { start, end, is_cut },
-            reason,
-            last,
+            reason: replace(&mut derivation.reason, Reason::Asm),
+            last: derivation.last,
         })
     }
 

@@ -36,39 +36,39 @@ pub derivation-requires-clause-room : goal.derivation-requires-clause-room
 derivation-requires-clause-room g c =
     let (P, p, ss, is) = c.requires.at in
     let (ds, steps, kept) = c.steps.invariant.read in
-    let h = rw c.in-Some.is at c.in_ok-step.ensures in
-    room_for P (with_more (start p ss) ds) c.steps.checker c.steps.derivations c.next.new.self.left (kept P p ss is).is_at h.moves.counted
+    let h = rw c.if-not-found.false at c.in_ok-found.ensures in
+    room_for P (with_more (start p ss) ds) c.steps.checker c.steps.derivations c.next_into.new.self.left (kept P p ss is).is_at h.moves.counted
 
 pub derivation-requires-clause-names : goal.derivation-requires-clause-names
 derivation-requires-clause-names g c =
     let (P, p, ss, is) = c.requires.at in
     let (ds, steps, kept) = c.steps.invariant.read in
-    let h = rw c.in-Some.is at c.in_ok-step.ensures in
-    names_for P (with_more (start p ss) ds) c.steps.checker c.steps.derivations (at c.in-Some.step.constraint.row) (kept P p ss is).is_at h.shape.row
+    let h = rw c.if-not-found.false at c.in_ok-found.ensures in
+    names_for P (with_more (start p ss) ds) c.steps.checker c.steps.derivations (at c.next_into.new.step.constraint.row) (kept P p ss is).is_at h.shape.row
 
-pub returns-in_err-derivation-in-Some-clause-unproved :
-    goal.returns-in_err-derivation-in-Some-clause-unproved
-returns-in_err-derivation-in-Some-clause-unproved g c =
-    let e = c.in_err-derivation-in-Some.field-0.0 in
-    err_given _ c.from_residual-in_err-derivation-in-Some.result (stop_reason e) c.from_residual-in_err-derivation-in-Some.ensures.1 (λ P p ss is known.
+pub returns-in_err-derivation-clause-unproved :
+    goal.returns-in_err-derivation-clause-unproved
+returns-in_err-derivation-clause-unproved g c =
+    let e = c.in_err-derivation.field-0.0 in
+    err_given _ c.from_residual-in_err-derivation.result (stop_reason e) c.from_residual-in_err-derivation.ensures.1 (λ P p ss is known.
     let (ds, steps, keeps) = c.steps.invariant.read in
-    let h = rw c.in-Some.is at c.in_ok-step.ensures in
+    let h = rw c.if-not-found.false at c.in_ok-found.ensures in
     let s = start p ss in
     let now = with_more s ds in
     let kept = keeps P p ss is in
-    step_refused P s now c.steps.checker c.derivation.new.self c.args.derivations.now c.steps.derivations kept c.next.new.self (derivation_of c.in-Some.step) h.moves.counted h.moves.remembers h.moves.working
-    (λ t. let r = h.read p kept.is_at.knows t in (r.1, r.2)) h.shape.reason e (c.in_err-derivation-in-Some.ensures.next now kept.is_at.runs kept.is_at.has) known)
+    step_refused P s now c.steps.checker c.derivation.new.self c.args.derivations.now c.steps.derivations kept c.next_into.new.self (derivation_of c.next_into.new.step) h.moves.counted h.moves.remembers h.moves.working
+    (λ t. let r = h.read p kept.is_at.knows t in (r.1, r.2)) h.shape.reason e (c.in_err-derivation.ensures.next now kept.is_at.runs kept.is_at.has) known)
 
 pub steps-preserved : goal.steps-preserved
 steps-preserved g c =
-    let h = rw c.in-Some.is at c.in_ok-step.ensures in
+    let h = rw c.if-not-found.false at c.in_ok-found.ensures in
     let (ds, steps, keeps) = c.steps.invariant.read in
     let first = c.args.derivations.now in
-    let d = derivation_of c.in-Some.step in
+    let d = derivation_of c.next_into.new.step in
     let old = c.steps.derivations in
-    let step = c.in_ok-kept-in-Some.ensures in
+    let step = c.in_ok-kept.ensures in
     let same = c.steps.invariant.same in
-    rw c.in_ok-push-in-Some.ensures.items (record {
+    rw c.in_ok-push.ensures.items (record {
       same = record { form = step.form ∙ same.form; objective = step.objective ∙ same.objective };
       variables = h.moves.remembers.variables ∙ c.steps.invariant.variables;
       read = (
@@ -81,14 +81,14 @@ steps-preserved g c =
         λ P p ss is.
             let kept = keeps P p ss is in
             let now = with_more (start p ss) ds in
-            step_accepted P (start p ss) now c.steps.checker c.derivation.new.self first old kept c.next.new.self d h.moves.counted h.moves.remembers h.moves.working
-            (λ t. let r = h.read p kept.is_at.knows t in (r.1, r.2)) (c.in_ok-derivation-in-Some.ensures.next now kept.is_at.runs kept.is_at.has),
+            step_accepted P (start p ss) now c.steps.checker c.derivation.new.self first old kept c.next_into.new.self d h.moves.counted h.moves.remembers h.moves.working
+            (λ t. let r = h.read p kept.is_at.knows t in (r.1, r.2)) (c.in_ok-derivation.ensures.next now kept.is_at.runs kept.is_at.has),
       );
     })
 
-pub returns-in-None-clause-kept : goal.returns-in-None-clause-kept
-returns-in-None-clause-kept g c =
-    let h = rw c.in-None.is at c.in_ok-step.ensures in
+pub returns-then-not-found-clause-kept : goal.returns-then-not-found-clause-kept
+returns-then-not-found-clause-kept g c =
+    let h = rw c.if-not-found.true at c.in_ok-found.ensures in
     let (ds, steps, keeps) = c.steps.invariant.read in (
       ds,
       steps,
@@ -97,18 +97,18 @@ returns-in-None-clause-kept g c =
           at_end P (start p ss) (with_more (start p ss) ds) c.steps.checker c.steps.checker c.args.derivations.now c.steps.derivations kept (h.read p kept.is_at.knows),
     )
 
-pub returns-in_err-step-clause-unproved : goal.returns-in_err-step-clause-unproved
-returns-in_err-step-clause-unproved g c =
-    let e = c.in_err-step.field-0.0 in
+pub returns-in_err-found-clause-unproved : goal.returns-in_err-found-clause-unproved
+returns-in_err-found-clause-unproved g c =
+    let e = c.in_err-found.field-0.0 in
     err_given _ c.from_residual.result (text_reason e) c.from_residual.ensures.1 (λ P p ss is known.
     let (ds, steps, keeps) = c.steps.invariant.read in
     let kept = keeps P p ss is in
-    step_unread P (start p ss) (with_more (start p ss) ds) c.steps.checker c.steps.checker c.args.derivations.now c.steps.derivations kept e (c.in_err-step.ensures.read p kept.is_at.knows (kept.known known)) known)
+    step_unread P (start p ss) (with_more (start p ss) ds) c.steps.checker c.steps.checker c.args.derivations.now c.steps.derivations kept e (c.in_err-found.ensures.read p kept.is_at.knows (kept.known known)) known)
 
-pub returns-in_err-kept-in-Some-clause-unproved : goal.returns-in_err-kept-in-Some-clause-unproved
-returns-in_err-kept-in-Some-clause-unproved g c =
-    err_given _ c.from_residual-in_err-kept-in-Some.result reason.Memory c.from_residual-in_err-kept-in-Some.ensures.1 (λ P p ss is known. (none, tt))
+pub returns-in_err-kept-clause-unproved : goal.returns-in_err-kept-clause-unproved
+returns-in_err-kept-clause-unproved g c =
+    err_given _ c.from_residual-in_err-kept.result reason.Memory c.from_residual-in_err-kept.ensures.1 (λ P p ss is known. (none, tt))
 
-pub returns-in_err-push-in-Some-clause-unproved : goal.returns-in_err-push-in-Some-clause-unproved
-returns-in_err-push-in-Some-clause-unproved g c =
-    err_given _ c.from_residual-in_err-push-in-Some.result reason.Memory c.from_residual-in_err-push-in-Some.ensures.1 (λ P p ss is known. (none, tt))
+pub returns-in_err-push-clause-unproved : goal.returns-in_err-push-clause-unproved
+returns-in_err-push-clause-unproved g c =
+    err_given _ c.from_residual-in_err-push.result reason.Memory c.from_residual-in_err-push.ensures.1 (λ P p ss is known. (none, tt))
