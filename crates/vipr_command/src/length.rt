@@ -1,5 +1,5 @@
 //! Prints an explanation with a page for people behind it.
-ghost use Rattle.std.specs.Prelude.{◌≡◌, List, ℕ, ◌++◌, option_map};
+ghost use Rattle.std.specs.Prelude.{◌≡◌, List, ℕ, ◌++◌, None, option_map};
 ghost use Rattle.vipr_check.specs.Explanation.{explained_text};
 ghost use Rattle.vipr_explain.specs.Page.{IsPage};
 ghost use Rattle.vipr_rules.specs.Profile.{profile_of};
@@ -28,6 +28,8 @@ struct FileText<'a, H> {
 }
 
 impl<H: Files> Text for FileText<'_, H> {
+    ghost input = { λ _. None };
+
     type Reader = FromRead<H::File>;
 
     fn open(&self) -> Option<FromRead<H::File>> {

@@ -1,1 +1,5 @@
 pub mod Page
+pub mod Kept
+pub mod Places
+pub mod Letters
+pub mod Missed

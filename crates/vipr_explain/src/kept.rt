@@ -1,9 +1,13 @@
 //! Keeps what a source gives while it is read, so that it can be read again.
-ghost use Rattle.std.specs.Prelude.{◌≡◌, ◌<◌, ◌≤◌, length, IfOk, IfSome};
+ghost use Rattle.std.specs.Prelude.{◌≡◌, ◌<◌, ◌≤◌, false, List, [], ℕ, length, take, Option, Some};
+ghost use Rattle.std.specs.Prelude.{IfOk, OnOk, OnErr, IfSome, option_map};
+ghost use Rattle.vipr_spec.specs.Input.{Input};
 ghost use Rattle.vipr_bytes.specs.Reads.{ReadsBytes};
+ghost use Rattle.vipr_explain.specs.Kept.{kept_text, KeepsMore, HasKept};
 
 use crate::text::Text;
 use std::alloc::Global;
+use std::marker::Model;
 use vipr_bytes::{Bytes, Failed, Source};
 
 /// The most bytes that are kept: 8 MiB.
@@ -16,9 +20,18 @@ pub struct KeptBytes {
     is_whole: bool,
 }
 
+// Seen as the text, none if it isn't whole.
+impl Model for KeptBytes {
+    ghost Value = { Option (List ℕ) };
+
+    ghost view = { λ k. kept_text k.is_whole k.bytes.items };
+}
+
 impl KeptBytes {
     /// Nothing yet.
-    pub fn new(alloc: Global) -> KeptBytes {
+    pub fn new(alloc: Global) -> KeptBytes
+        ensures { result ≡ Some [] }
+    {
         KeptBytes {
             bytes: Vec::new(alloc),
             is_whole: true,
@@ -26,7 +39,9 @@ impl KeptBytes {
     }
 
     /// The text that was kept, `None` if it isn't whole.
-    pub fn text(&self) -> Option<KeptText<'_>> {
+    pub fn text(&self) -> Option<KeptText<'_>>
+        ensures { option_map (λ t. t.bytes.now) result ≡ self.now }
+    {
         if self.is_whole {
             Some(KeptText {
                 bytes: self.bytes.as_slice(),
@@ -37,7 +52,9 @@ impl KeptBytes {
     }
 
     // Keeps more bytes, or remembers that they weren't kept.
-    fn keep(&mut self, more: &[u8]) {
+    fn keep(&mut self, more: &[u8])
+        ensures { KeepsMore self.old more.now self.new }
+    {
         let length = self.bytes.len().saturating_add(more.len());
         if !self.is_whole || length > MOST_KEPT || self.bytes.extend_from_slice(more).is_err() {
             self.is_whole = false;
@@ -52,6 +69,8 @@ pub struct KeptText<'a> {
 }
 
 impl<'a> Text for KeptText<'a> {
+    ghost input = { λ t. Some (record { bytes = t.bytes.now; fails = false }) };
+
     type Reader = Bytes<'a>;
 
     fn open(&self) -> Option<Bytes<'a>> {
@@ -69,7 +88,9 @@ pub struct Keeping<'a, R> {
 impl<'a, R: Source> Keeping<'a, R> {
     /// A reader of a source.
     pub fn new(source: R, kept: &'a mut KeptBytes) -> Keeping<'a, R>
-        ensures { result.source ≡ source }
+        ensures source { result.source ≡ source }
+        ensures kept { result.kept.now ≡ kept.old }
+        ensures same { result.kept.ghost_name ≡ kept.entry.ghost_name }
     {
         Keeping { source, kept }
     }
@@ -80,7 +101,20 @@ impl<R: Source> Source for Keeping<'_, R> {
 
     ghost input = { λ k. R.input k.source };
 
-    fn read(&mut self, buf: &mut [u8]) -> Result<usize, Failed> {
+    fn read(&mut self, buf: &mut [u8]) -> Result<usize, Failed>
+        requires { 0 < length buf.old }
+        ensures count { IfOk result (λ n. n ≤ length buf.new) }
+        ensures bound { IfOk result
+            (λ n. 0 < n → R.reads_left self.new.source < R.reads_left self.old.source) }
+        ensures bytes { IfSome (R.input self.old.source)
+            (λ i. ReadsBytes i (R.input self.new.source) result buf.new) }
+        ensures kept { IfOk result
+            (λ n. KeepsMore self.old.kept.now (take n buf.new) self.new.kept.now) }
+        ensures failed { OnErr result (self.new.kept.now ≡ self.old.kept.now) }
+        ensures whole { (i : Input) → HasKept i (R.input self.old.source) self.old.kept.now
+            → OnOk result (HasKept i (R.input self.new.source) self.new.kept.now) }
+        ensures same { self.new.kept.ghost_name ≡ self.old.kept.ghost_name }
+    {
         let count = match self.source.read(buf) {
             Ok(count) => count,
             Err(failed) => return Err(failed),
