@@ -1,2 +1,3 @@
 mod Keeps
 mod Passing
+mod Lines

@@ -3,3 +3,4 @@ pub mod Kept
 pub mod Places
 pub mod Letters
 pub mod Missed
+pub mod Excerpts

@@ -1,4 +1,9 @@
 //! A part of a line with carets below a place in it.
+ghost use Rattle.std.specs.Prelude.{◌≡◌, ℕ, ◌+◌, ◌++◌, ◌∷◌, true, [], min, length, take, drop};
+ghost use Rattle.std.specs.Prelude.{List, IfOk, IfErr, IfSome, OnOk};
+ghost use Rattle.vipr_spec.specs.Input.{Input};
+ghost use Rattle.vipr_explain.specs.Letters.{HasGiven};
+ghost use Rattle.vipr_explain.specs.Excerpts.{IsExcerpt, ShowsLine, ReadsInLine, line_at};
 
 use crate::missing::Missing;
 use crate::page::Page;
@@ -14,6 +19,9 @@ const MOST_BEHIND: usize = 60;
 /// How many carets are shown.
 const MOST_CARETS: usize = 40;
 
+/// How many bytes of a line are read from a place on, to see whether more are there.
+const MOST_READ: usize = 4096;
+
 /// A part of a line: what is before a place, what is there, and whether more is behind it.
 #[derive(Drop)]
 pub(crate) struct Excerpt {
@@ -25,7 +33,17 @@ pub(crate) struct Excerpt {
 
 impl Excerpt {
     /// Reads the part of a line round a place.
-    pub(crate) fn read<T: Text>(subject: &Subject<'_, T>, spot: Spot) -> Result<Excerpt, Missing> {
+    ///
+    /// # Errors
+    ///
+    /// `Text` if the text can't be read up to there, `Memory` if a growth is refused.
+    pub(crate) fn read<T: Text>(subject: &Subject<'_, T>, spot: Spot) -> Result<Excerpt, Missing>
+        ensures place { IfOk result (λ e. e.spot ≡ spot) }
+        ensures found { IfSome (T.input subject.now.text.now)
+            (λ i. IfOk result (IsExcerpt spot i.bytes)) }
+        ensures error { IfSome (T.input subject.now.text.now)
+            (λ i. IfErr result (λ e. e ≡ Missing.Text → i.fails ≡ true)) }
+    {
         let mut letters = Letters::<T::Reader>::open(subject.text)?;
         let mut excerpt = Excerpt {
             spot,
@@ -41,25 +59,100 @@ impl Excerpt {
     }
 
     // Reads the part of a line from the start of its text.
-    fn fill<R: Source + Drop>(&mut self, letters: &mut Letters<R>) -> Result<(), AllocError> {
+    fn fill<R: Source + Drop>(&mut self, letters: &mut Letters<R>) -> Result<(), AllocError>
+        requires before { self.old.before.items ≡ [] }
+        requires behind { ShowsLine [] self.old }
+        ensures place { self.new.spot ≡ self.old.spot }
+        ensures found { (i : Input) → HasGiven R.input i 0 letters.old
+            → OnOk result (IsExcerpt self.old.spot i.bytes self.new) }
+        ensures left { (i : Input) → HasGiven R.input i 0 letters.old
+            → OnOk result ((n : ℕ) × HasGiven R.input i n letters.new) }
+    {
         let before_count = self.spot.column.saturating_sub(1).min(MOST_BEFORE);
         skip(letters, self.spot.offset.saturating_sub(before_count));
-        for _ in 0..before_count {
-            if let Some(byte) = letters.next() {
-                self.before.push(byte)?;
-            }
+        self.fill_before(letters, before_count)?;
+        self.fill_behind(letters)
+    }
+
+    // Reads so many bytes that are before the place.
+    fn fill_before<R: Source + Drop>(
+        &mut self,
+        letters: &mut Letters<R>,
+        count: u64,
+    ) -> Result<(), AllocError>
+        ensures place { self.new.spot ≡ self.old.spot }
+        ensures behind { (line : List ℕ) → ShowsLine line self.old → ShowsLine line self.new }
+        ensures before { (i : Input) (n : ℕ) → HasGiven R.input i n letters.old → OnOk result
+            (self.new.before.items ≡ self.old.before.items ++ take count (drop n i.bytes)) }
+        ensures left { (i : Input) (n : ℕ) → HasGiven R.input i n letters.old → OnOk result
+            (HasGiven R.input i (min (n + count) (length i.bytes)) letters.new) }
+    {
+        for _ in 0..count {
+            self.read_before(letters)?;
         }
-        for _ in 0..4096 {
-            match letters.next() {
-                Some(byte) if byte != b'\n' && byte != b'\r' => self.take(byte)?,
-                _ => break,
+        Ok(())
+    }
+
+    // Reads the next byte before the place, if the text has one.
+    fn read_before<R: Source + Drop>(&mut self, letters: &mut Letters<R>) -> Result<(), AllocError>
+        ensures place { self.new.spot ≡ self.old.spot }
+        ensures behind { (line : List ℕ) → ShowsLine line self.old → ShowsLine line self.new }
+        ensures before { (i : Input) (n : ℕ) → HasGiven R.input i n letters.old → OnOk result
+            (self.new.before.items ≡ self.old.before.items ++ take 1 (drop n i.bytes)) }
+        ensures left { (i : Input) (n : ℕ) → HasGiven R.input i n letters.old → OnOk result
+            (HasGiven R.input i (min (n + 1) (length i.bytes)) letters.new) }
+    {
+        if let Some(byte) = letters.next() {
+            self.before.push(byte)?;
+        }
+        Ok(())
+    }
+
+    // Reads the line from the place on.
+    fn fill_behind<R: Source + Drop>(&mut self, letters: &mut Letters<R>) -> Result<(), AllocError>
+        requires { ShowsLine [] self.old }
+        ensures place { self.new.spot ≡ self.old.spot }
+        ensures before { self.new.before ≡ self.old.before }
+        ensures line { (i : Input) (n : ℕ) → HasGiven R.input i n letters.old
+            → OnOk result (ShowsLine (line_at n i.bytes) self.new) }
+        ensures left { (i : Input) (n : ℕ) → HasGiven R.input i n letters.old
+            → OnOk result ((k : ℕ) × HasGiven R.input i k letters.new) }
+    {
+        for _ in 0..MOST_READ {
+            if !self.read_in_line(letters)? {
+                break;
             }
         }
         Ok(())
     }
 
+    // Reads the next byte of the line, and answers whether it has one.
+    fn read_in_line<R: Source + Drop>(
+        &mut self,
+        letters: &mut Letters<R>,
+    ) -> Result<bool, AllocError>
+        ensures place { self.new.spot ≡ self.old.spot }
+        ensures before { self.new.before ≡ self.old.before }
+        ensures read { (i : Input) (n : ℕ) (line : List ℕ) → HasGiven R.input i n letters.old
+            → ShowsLine line self.old
+            → IfOk result (ReadsInLine R.input i n line letters.new self.new) }
+    {
+        match letters.next() {
+            Some(byte) if byte != b'\n' && byte != b'\r' => {
+                self.take(byte)?;
+                Ok(true)
+            }
+            _ => Ok(false),
+        }
+    }
+
     // Takes a byte from the place on.
-    fn take(&mut self, byte: u8) -> Result<(), AllocError> {
+    fn take(&mut self, byte: u8) -> Result<(), AllocError>
+        ensures place { self.new.spot ≡ self.old.spot }
+        ensures before { self.new.before ≡ self.old.before }
+        ensures line { (line : List ℕ) → ShowsLine line self.old
+            → OnOk result (ShowsLine (line ++ byte ∷ []) self.new) }
+    {
         if self.behind.len() < MOST_BEHIND {
             self.behind.push(byte)?;
         } else {
@@ -125,7 +218,10 @@ impl Excerpt {
 }
 
 // Passes so many bytes.
-fn skip<R: Source + Drop>(letters: &mut Letters<R>, count: u64) {
+fn skip<R: Source + Drop>(letters: &mut Letters<R>, count: u64)
+    ensures { (i : Input) (n : ℕ) → HasGiven R.input i n letters.old
+        → HasGiven R.input i (min (n + count) (length i.bytes)) letters.new }
+{
     for _ in 0..count {
         let _ = letters.next();
     }
