@@ -16,6 +16,7 @@ mod values;
 pub use combination::{CombError, Combination};
 pub use constraint::{Constraint, Sense, compares};
 pub use ints::Ints;
+pub use places::Places;
 pub use rounding::{NotRoundable, Rounded, is_whole_row};
 pub use row::{Row, RowError, Solution};
 pub use split::{covers, is_split};

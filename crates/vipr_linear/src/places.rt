@@ -81,7 +81,7 @@ impl Touched {
 
 /// A sum at each place, 0 at first. It remembers which places were touched.
 #[derive(Debug, Drop)]
-pub(crate) struct Places {
+pub struct Places {
     sums: Vec<Partial>,
     touched: Touched,
 }
@@ -102,8 +102,8 @@ impl Model for Places {
 }
 
 impl Places {
-    /// So many places, with sums 0.
-    pub(crate) fn new(alloc: Global, n: usize) -> Result<Places, AllocError>
+    /// The places below `n`, each with the sum 0.
+    pub fn new(alloc: Global, n: usize) -> Result<Places, AllocError>
         ensures { IfOk result (λ places. places ≡ replicate n zero_ℚ) }
     {
         Ok(Places {
@@ -112,26 +112,27 @@ impl Places {
         })
     }
 
-    /// The sums.
+    /// The sum at each place.
     #[inline(always)]
-    pub(crate) fn sums(&self) -> &[Partial]
+    pub fn sums(&self) -> &[Partial]
         ensures { result.now ≡ self.now }
     {
         self.sums.as_slice()
     }
 
-    /// The places that were touched. A sum that isn't 0 is at one of them.
+    /// The touched places, in no order. A sum that isn't 0 is at one of them.
     #[inline(always)]
-    pub(crate) fn touched(&self) -> &[u32]
+    pub fn touched(&self) -> &[u32]
         ensures within { All (λ place. place < length self.now) result.now }
         ensures nonzero { CoversNonzero self.now result.now }
     {
         self.touched.places()
     }
 
-    /// Adds a product to the sum at a place. After an error the sums are as before.
+    /// Adds a product to the sum at a place. If the product or the new sum is out of bound, the
+    /// sums stay as they were.
     #[inline(always)]
-    pub(crate) fn add_product(
+    pub fn add_product(
         &mut self,
         place: u32,
         multiplier: Frac,
@@ -143,7 +144,6 @@ impl Places {
         ensures sum { OnOk result
             (self.new ≡ with_term self.old multiplier (place, coefficient)) }
         ensures kept { OnErr result (self.new ≡ self.old) }
-        ensures places { length self.new ≡ length self.old }
     {
         self.touched.touch(place);
         self.sums[place as usize].add_product(multiplier, coefficient)
@@ -186,8 +186,8 @@ impl Places {
         }
     }
 
-    /// Makes all sums 0.
-    pub(crate) fn reset(&mut self)
+    /// Makes all sums 0. It takes time for the touched places alone.
+    pub fn reset(&mut self)
         ensures { self.new ≡ replicate (length self.old) zero_ℚ }
     {
         for place in self.touched.places() {

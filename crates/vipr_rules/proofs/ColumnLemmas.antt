@@ -1,22 +1,23 @@
 -- The columns of a problem, entry by entry, and sums over the listed variables of a solution
 use Rattle.std.proofs.Common.{◌≡◌, ◌≢◌, ℕ, zero, suc, ◌+◌, ◌<◌, ◌≤◌, ◌⊎◌, inl, inr, List, [], ◌∷◌}
-use Rattle.std.proofs.Common.{◌++◌, length, get_or, map, Bool, false, not, Option, Some, None}
-use Rattle.std.proofs.Common.{unwrap_or, Vec, arith, refl, sym, ◌∙◌, ap, ap₂, subst, subst₂}
-use Rattle.std.proofs.Common.{add-one}
-use Rattle.std.specs.Prelude.{slice_set, OnSome, Result, Ok, Err, IsOk, IsErr}
-use Rattle.std.specs.Option.{is_some}
+use Rattle.std.proofs.Common.{◌++◌, length, get_or, map, replicate, All, Vec, arith, refl, sym, ◌∙◌}
+use Rattle.std.proofs.Common.{ap, ap₂, subst, subst₂, add-one, nat_cmp, Bool, true}
+use Rattle.std.specs.Prelude.{slice_set, Result, Ok, Err, IsOk, IsErr, OnOk}
+use Rattle.std.specs.Result.{is_ok}
 use Rattle.std.specs.Global.{Global}
-use Rattle.std.specs.FinMap.{entries}
+use Rattle.std.specs.FinMap.{empty, entries, len-entries, len-empty}
 use Rattle.std.proofs.lemmas.Bool.{cases_eq, cases_lt}
 use Rattle.std.proofs.lemmas.List.{get_or-set_same, get_or-set_other, get_or_default, get_or-map}
 use Rattle.std.proofs.lemmas.List.{get_or_append_left, get_or_push, length_push, length-set}
-use Rattle.std.proofs.lemmas.List.{length-map, map-set}
+use Rattle.std.proofs.lemmas.List.{length-map, map-set, get_or_past, get_or-replicate}
+use Rattle.std.proofs.lemmas.List.{length-replicate}
 use Rattle.vipr_spec.specs.Fraction.{ℚ, zero_ℚ, ◌+ℚ◌, ◌*ℚ◌, IsBounded}
 use Rattle.vipr_spec.specs.Constraint.{Constraint, Row, Point, at, value, ValueFits, NamesBelow}
-use Rattle.vipr_spec.specs.Constraint.{Compares}
+use Rattle.vipr_spec.specs.Constraint.{Compares, equal}
 use Rattle.vipr_spec.specs.MoreEntries.{TermFits}
 use Rattle.vipr_spec.proofs.Laws.{nothing_more, sum_bounded, value_gap, zero_bounded, add-zero_ℚ}
-use Rattle.vipr_spec.proofs.Laws.{zero-mul_ℚ, mul-zero_ℚ}
+use Rattle.vipr_spec.proofs.Laws.{zero-mul_ℚ, mul-zero_ℚ, zero_or_not}
+use Rattle.vipr_linear.specs.Accumulator.{with_term}
 use Rattle.vipr_linear.specs.Row.{RisesFrom}
 use Rattle.vipr_linear.specs.Constraint.{constraint_of}
 use Rattle.vipr_linear.specs.declared.constraint.Constraint.{Constraint as Item}
@@ -33,7 +34,7 @@ use Rattle.vipr_rules.specs.declared.bounds.Bounds.{Bounds}
 use Rattle.vipr_rules.proofs.ValueLemmas.{value_same, fits_same}
 use Rattle.vipr_rules.specs.Columns.{given_in, nth, given_of, OccursFrom, HasRow, IsPlace}
 use Rattle.vipr_rules.specs.Columns.{ArePlaces, column_at, AreColumns, IsSummed, IsCounted, AreSums}
-use Rattle.vipr_rules.specs.Columns.{AreListed, AreFalseAtZero, IsMet, AreMet, LiesWithin}
+use Rattle.vipr_rules.specs.Columns.{AreFalseAtZero, IsMet, AreMet, LiesWithin}
 use Rattle.vipr_rules.specs.Columns.{AreBounds}
 
 -- ---- places of lists
@@ -258,23 +259,23 @@ module _ (row : Row) (x : Point) where
   no_product n (inl e) = ap (λ a. a *ℚ x n) e ∙ zero-mul_ℚ (x n)
   no_product n (inr e) = ap (λ a. at row n *ℚ a) e ∙ mul-zero_ℚ (at row n)
 
-  sum_same_suc : (n : ℕ) (sum : Option ℚ) → (at row n ≡ zero_ℚ) ⊎ (x n ≡ zero_ℚ) → IsSummed row x n sum → IsSummed row x (suc n) sum
+  sum_same_suc : (n : ℕ) (sum : ℚ) → (at row n ≡ zero_ℚ) ⊎ (x n ≡ zero_ℚ) → IsSummed row x n sum → IsSummed row x (suc n) sum
   sum_same_suc n sum none h = (
     fits_next n h.0 (nothing_more (value n (at row) x) (at row n) (x n) (value_bounded n h.0) none),
     h.1 ∙ sym (ap (λ a. value n (at row) x +ℚ a) (no_product n none) ∙ add-zero_ℚ (value n (at row) x)),
   )
 
-  pub sum_same : (n : ℕ) (sum : Option ℚ) → (at row n ≡ zero_ℚ) ⊎ (x n ≡ zero_ℚ) → IsSummed row x n sum → IsSummed row x (n + 1) sum
+  pub sum_same : (n : ℕ) (sum : ℚ) → (at row n ≡ zero_ℚ) ⊎ (x n ≡ zero_ℚ) → IsSummed row x n sum → IsSummed row x (n + 1) sum
   sum_same n sum none h = subst (λ k. IsSummed row x k sum) (sym (add-one n)) (sum_same_suc n sum none h)
 
-  pub sum_more : (n : ℕ) (old new : Option ℚ) (a c : ℚ) → a ≡ at row n → x n ≡ c → TermFits (unwrap_or old zero_ℚ) a c → unwrap_or new zero_ℚ ≡ unwrap_or old zero_ℚ +ℚ a *ℚ c → IsSummed row x n old → IsSummed row x (n + 1) new
+  pub sum_more : (n : ℕ) (old new : ℚ) (a c : ℚ) → a ≡ at row n → x n ≡ c → TermFits old a c → new ≡ old +ℚ a *ℚ c → IsSummed row x n old → IsSummed row x (n + 1) new
   sum_more n old new a c same coordinate fits sum h =
       let at_old : TermFits (value n (at row) x) a c = subst (λ s. TermFits s a c) h.1 fits in
       let t : TermFits (value n (at row) x) (at row n) (x n) = subst₂ (λ b d. TermFits (value n (at row) x) b d) same (sym coordinate) at_old in
       subst (λ k. IsSummed row x k new) (sym (add-one n))
       (fits_next n h.0 t, sum ∙ ap₂ (λ s p. s +ℚ p) h.1 (ap₂ (λ b d. b *ℚ d) same (sym coordinate)))
 
-  pub sum_gap : (sum : Option ℚ) (a b : ℕ) → a ≤ b → ((j : ℕ) → a ≤ j → j < b → x j ≡ zero_ℚ) → IsSummed row x a sum → IsSummed row x b sum
+  pub sum_gap : (sum : ℚ) (a b : ℕ) → a ≤ b → ((j : ℕ) → a ≤ j → j < b → x j ≡ zero_ℚ) → IsSummed row x a sum → IsSummed row x b sum
   sum_gap sum a zero le none h = let e : a ≡ 0 = omega (arith, le) in subst (λ k. IsSummed row x k sum) e h
   sum_gap sum a (suc b) le none h = elim (cases_eq a (suc b)) [
     | inl e ↦ subst (λ k. IsSummed row x k sum) e h
@@ -283,66 +284,69 @@ module _ (row : Row) (x : Point) where
         sum_same_suc b sum (inr (none b less (omega arith))) (sum_gap sum a b less (λ j p q. none j p (omega (arith, q))) h)
   ]
 
-  nothing_yet : IsSummed row x 0 None
-  nothing_yet = (λ j l. absurd (omega arith), refl)
-
-pub sums_start : (o : Row) (cs : List Constraint) (x : Point) (sums : List (Option ℚ))
-    → ((i : ℕ) → get_or sums i None ≡ None) → AreSums o cs x 0 sums
-sums_start o cs x sums none i l = inr (subst (IsSummed (nth cs i).row x 0) (sym (none i)) (nothing_yet (nth cs i).row x))
+-- over no variables each sum is 0
+pub sums_start : (o : Row) (cs : List Constraint) (x : Point) (sums : List ℚ) (n : ℕ)
+    → sums ≡ replicate n zero_ℚ → AreSums o cs x 0 sums
+sums_start o cs x sums n zeros i l = inr (
+  (λ j m. absurd (omega arith)),
+  ap (λ xs. get_or xs i zero_ℚ) zeros ∙ get_or-replicate n i zero_ℚ zero_ℚ (let e = ap length zeros ∙ length-replicate n zero_ℚ in omega (arith, e, l)),
+)
 
 -- a sum that is counted moves on by what is so of each sum
-pub counted_by : (o : Row) (cs : List Constraint) (x : Point) (a b i : ℕ)
-    (old new : List (Option ℚ)) → (IsSummed (nth cs i).row x a (get_or old i None)
-    → IsSummed (nth cs i).row x b (get_or new i None)) → IsCounted o cs x a old i
+pub counted_by : (o : Row) (cs : List Constraint) (x : Point) (a b i : ℕ) (old new : List ℚ)
+    → (IsSummed (nth cs i).row x a (get_or old i zero_ℚ)
+    → IsSummed (nth cs i).row x b (get_or new i zero_ℚ)) → IsCounted o cs x a old i
     → IsCounted o cs x b new i
 counted_by o cs x a b i old new f h = elim h [ inl same ↦ inl same | inr is ↦ inr (f is) ]
 
-pub sums_gap : (o : Row) (cs : List Constraint) (x : Point) (sums : List (Option ℚ)) (a b : ℕ)
-    → a ≤ b → ((j : ℕ) → a ≤ j → j < b → x j ≡ zero_ℚ) → AreSums o cs x a sums
-    → AreSums o cs x b sums
-sums_gap o cs x sums a b le none all i l = counted_by o cs x a b i sums sums (sum_gap (nth cs i).row x (get_or sums i None) a b le none) (all i l)
+pub sums_gap : (o : Row) (cs : List Constraint) (x : Point) (sums : List ℚ) (a b : ℕ) → a ≤ b
+    → ((j : ℕ) → a ≤ j → j < b → x j ≡ zero_ℚ) → AreSums o cs x a sums → AreSums o cs x b sums
+sums_gap o cs x sums a b le none all i l = counted_by o cs x a b i sums sums (sum_gap (nth cs i).row x (get_or sums i zero_ℚ) a b le none) (all i l)
 
 -- ---- one more column
 -- the product is added to the sum of each constraint but of those that stand from place c on
-pub record AreHalfSums (o : Row) (cs : List Constraint) (x : Point) (j : ℕ) (places : List (ℕ × ℕ)) (c : ℕ) (sums : List (Option ℚ)) : Type 0 where
+pub record AreHalfSums (o : Row) (cs : List Constraint) (x : Point) (j : ℕ) (places : List (ℕ × ℕ)) (c : ℕ) (sums : List ℚ) : Type 0 where
   pub before : (k : ℕ) → c ≤ k → k < length places → IsCounted o cs x j sums (get_or places k (0, 0)).0
-  pub after : (i : ℕ) → i < length cs → IsCounted o cs x (j + 1) sums i ⊎ OccursFrom (λ (e : ℕ × ℕ). e.0) (0, 0) c places i
+  pub after : (i : ℕ) → i < length sums → IsCounted o cs x (j + 1) sums i ⊎ OccursFrom (λ (e : ℕ × ℕ). e.0) (0, 0) c places i
 
-module _ (o : Row) (cs : List Constraint) (x : Point) (j : ℕ) (places : List (ℕ × ℕ)) (is : ArePlaces o cs (length cs) j places) where
-  pub half_sums_start : (sums : List (Option ℚ)) → AreSums o cs x j sums → AreHalfSums o cs x j places 0 sums
-  half_sums_start sums all = record {
-    before = λ k a l. all (get_or places k (0, 0)).0 (is.found k l).0;
-    after = λ i l. elim (is.rest i l) [
+module _ (o : Row) (cs : List Constraint) (x : Point) (j n : ℕ) (places : List (ℕ × ℕ)) (is : ArePlaces o cs n j places) where
+  pub half_sums_start : (sums : List ℚ) → length sums ≡ n → AreSums o cs x j sums → AreHalfSums o cs x j places 0 sums
+  half_sums_start sums many all = record {
+    before = λ k a l. all (get_or places k (0, 0)).0 (let b = (is.found k l).0 in omega (arith, b, many));
+    after = λ i l. elim (is.rest i (omega (arith, l, many))) [
       | inl same ↦ inl (inl same)
       | inr some ↦ elim some [
-        | inl z ↦ inl (counted_by o cs x j (j + 1) i sums sums (sum_same (nth cs i).row x j (get_or sums i None) (inl z)) (all i l))
+        | inl z ↦ inl (counted_by o cs x j (j + 1) i sums sums (sum_same (nth cs i).row x j (get_or sums i zero_ℚ) (inl z)) (all i l))
         | inr s ↦ inr s
       ]
     ];
   }
 
-  pub half_sums_end : (sums : List (Option ℚ)) (c : ℕ) → length places ≤ c → AreHalfSums o cs x j places c sums → AreSums o cs x (j + 1) sums
+  pub half_sums_end : (sums : List ℚ) (c : ℕ) → length places ≤ c → AreHalfSums o cs x j places c sums → AreSums o cs x (j + 1) sums
   half_sums_end sums c past half i l = elim (half.after i l) [
     | inl h ↦ h
     | inr s ↦ absurd (none_occur (λ (e : ℕ × ℕ). e.0) (0, 0) places c i past s)
   ]
 
-  module _ (sums : List (Option ℚ)) (c : ℕ) (p : ℕ × ℕ) (l : c < length places) (e : p ≡ get_or places c p) (within : p.0 < length sums) (old new : Option ℚ) (read : old ≡ get_or sums p.0 old) (a b : ℚ) (coefficient_read : a ≡ at (nth cs p.0).row j) (coordinate : x j ≡ b) (fits : TermFits (unwrap_or old zero_ℚ) a b) (sum : unwrap_or new zero_ℚ ≡ unwrap_or old zero_ℚ +ℚ a *ℚ b) where
+  module _ (sums : List ℚ) (c : ℕ) (p : ℕ × ℕ) (l : c < length places) (e : p ≡ get_or places c p) (within : p.0 < length sums) (a b : ℚ) (coefficient_read : a ≡ at (nth cs p.0).row j) (coordinate : x j ≡ b) (fits : TermFits (get_or sums p.0 zero_ℚ) a b) where
     here_place : get_or places c (0, 0) ≡ p
     here_place = there places c (0, 0) p l e
 
-    other : (i : ℕ) → i ≢ p.0 → (n : ℕ) → IsCounted o cs x n sums i → IsCounted o cs x n (slice_set sums p.0 new) i
-    other i apart n h = counted_by o cs x n n i sums (slice_set sums p.0 new) (subst (IsSummed (nth cs i).row x n) (sym (get_or-set_other sums p.0 i new None apart))) h
+    abbrev new : ℚ
+    new = get_or sums p.0 zero_ℚ +ℚ a *ℚ b
 
-    pub half_sums_next : AreHalfSums o cs x j places c sums → AreHalfSums o cs x j places (c + 1) (slice_set sums p.0 new)
+    other : (i : ℕ) → i ≢ p.0 → (m : ℕ) → IsCounted o cs x m sums i → IsCounted o cs x m (with_term sums a (p.0, b)) i
+    other i apart m h = counted_by o cs x m m i sums (with_term sums a (p.0, b)) (subst (IsSummed (nth cs i).row x m) (sym (get_or-set_other sums p.0 i new zero_ℚ apart))) h
+
+    pub half_sums_next : AreHalfSums o cs x j places c sums → AreHalfSums o cs x j places (c + 1) (with_term sums a (p.0, b))
     half_sums_next half = record {
       before = λ k f m.
           let less = is.rising c k (omega (arith, f)) m in
           let apart : (get_or places k (0, 0)).0 ≢ p.0 = λ q. absurd (let h = ap (λ (y : ℕ × ℕ). y.0) here_place in omega (arith, q, h, less)) in
           other (get_or places k (0, 0)).0 apart j (half.before k (omega (arith, f)) m);
       after = λ i m. elim (cases_eq i p.0) [
-        | inl q ↦ inl (subst (IsCounted o cs x (j + 1) (slice_set sums p.0 new)) (sym q) now)
-        | inr apart ↦ elim (half.after i m) [
+        | inl q ↦ inl (subst (IsCounted o cs x (j + 1) (with_term sums a (p.0, b))) (sym q) now)
+        | inr apart ↦ elim (half.after i (let s = length-set sums p.0 new in omega (arith, m, s))) [
           | inl h ↦ inl (other i apart (j + 1) h)
           | inr s ↦ inr (occurs_later (λ (y : ℕ × ℕ). y.0) (0, 0) places c i (λ q. apart (sym (sym (ap (λ (y : ℕ × ℕ). y.0) here_place) ∙ q))) s)
         ]
@@ -352,48 +356,8 @@ module _ (o : Row) (cs : List Constraint) (x : Point) (j : ℕ) (places : List (
         was : IsCounted o cs x j sums p.0
         was = subst (λ (q : ℕ × ℕ). IsCounted o cs x j sums q.0) here_place (half.before c (omega arith) l)
 
-        now : IsCounted o cs x (j + 1) (slice_set sums p.0 new) p.0
-        now = counted_by o cs x j (j + 1) p.0 sums (slice_set sums p.0 new) (λ h. subst (IsSummed (nth cs p.0).row x (j + 1)) (sym (get_or-set_same sums p.0 new None within))
-            (sum_more (nth cs p.0).row x j old new a b coefficient_read coordinate fits sum (subst (IsSummed (nth cs p.0).row x j) (there sums p.0 None old within read) h))) was
-
--- ---- touched constraints
-pub listed_set : (sums : List (Option ℚ)) (touched : List ℕ) (i : ℕ) (new : Option ℚ)
-    → AreListed sums touched → OccursFrom (λ (j : ℕ). j) 0 0 touched i
-    → AreListed (slice_set sums i new) touched
-listed_set sums touched i new is s = record {
-  within = λ k l. let h = is.within k l in let n = length-set sums i new in omega (arith, h, n);
-  listed = λ j. elim (cases_eq j i) [
-    | inl e ↦ inr (s.0, s.1, s.2, s.3 ∙ sym e)
-    | inr apart ↦ elim (is.listed j) [
-      | inl none ↦ inl (get_or-set_other sums i j new None apart ∙ none)
-      | inr t ↦ inr t
-    ]
-  ];
-}
-
-abbrev pub AreLeft : List (Option ℚ) → List ℕ → ℕ → Type 0
-AreLeft sums items c = (i : ℕ) → (get_or sums i None ≡ None) ⊎ OccursFrom (λ (j : ℕ). j) 0 c items i
-
-pub left_next : (sums : List (Option ℚ)) (items : List ℕ) (c : ℕ) → get_or items c 0 < length sums
-    → AreLeft sums items c → AreLeft (slice_set sums (get_or items c 0) None) items (c + 1)
-left_next sums items c within is i = elim (cases_eq i (get_or items c 0)) [
-  | inl e ↦ inl (ap (λ k. get_or (slice_set sums (get_or items c 0) None) k None) e ∙ get_or-set_same sums (get_or items c 0) None None within)
-  | inr apart ↦ elim (is i) [
-    | inl none ↦ inl (get_or-set_other sums (get_or items c 0) i None None apart ∙ none)
-    | inr s ↦ inr (occurs_later (λ (j : ℕ). j) 0 items c i (λ q. apart (sym q)) s)
-  ]
-]
-
-pub none_left : (sums : List (Option ℚ)) (items : List ℕ) (c : ℕ) → length items ≤ c
-    → AreLeft sums items c → (i : ℕ) → get_or sums i None ≡ None
-none_left sums items c past is i = elim (is i) [ inl none ↦ none | inr s ↦ absurd (none_occur (λ (j : ℕ). j) 0 items c i past s) ]
-
-pub none_pushed : (sums : List (Option ℚ)) → ((i : ℕ) → get_or sums i None ≡ None) → (i : ℕ)
-    → get_or (sums ++ None ∷ []) i None ≡ None
-none_pushed [] all zero = refl
-none_pushed [] all (suc i) = refl
-none_pushed (o ∷ sums) all zero = all 0
-none_pushed (o ∷ sums) all (suc i) = none_pushed sums (λ k. all (suc k)) i
+        now : IsCounted o cs x (j + 1) (with_term sums a (p.0, b)) p.0
+        now = counted_by o cs x j (j + 1) p.0 sums (with_term sums a (p.0, b)) (λ h. subst (IsSummed (nth cs p.0).row x (j + 1)) (sym (get_or-set_same sums p.0 new zero_ℚ within)) (sum_more (nth cs p.0).row x j (get_or sums p.0 zero_ℚ) new a b coefficient_read coordinate fits refl h)) was
 
 -- ---- the listed variables of a solution, one after the other
 -- the variables from low on are 0 or listed from place c on
@@ -442,41 +406,41 @@ module _ (s : Row) (es : List (ℕ × ℚ)) (list : es ≡ entries s) (r : Rises
       }
 
 -- the sums over the variables below some number up to n, from which on the others are listed
-abbrev pub Summed : Row → List Constraint → Row → ℕ → List (ℕ × ℚ) → ℕ → List (Option ℚ) → Type 0
+abbrev pub Summed : Row → List Constraint → Row → ℕ → List (ℕ × ℚ) → ℕ → List ℚ → Type 0
 Summed o cs s n es c sums = (low : ℕ) × (low ≤ n) × IsReached s es c low × AreSums o cs (at s) low sums
 
 module _ (o : Row) (cs : List Constraint) (s : Row) (n : ℕ) (es : List (ℕ × ℚ)) (list : es ≡ entries s) (r : RisesFrom 0 es) where
-  pub summed_start : (sums : List (Option ℚ)) → ((i : ℕ) → get_or sums i None ≡ None) → Summed o cs s n es 0 sums
-  summed_start sums none = (0, omega arith, reached_start s es list r, sums_start o cs (at s) sums none)
+  pub summed_start : (sums : List ℚ) → AreSums o cs (at s) 0 sums → Summed o cs s n es 0 sums
+  summed_start sums all = (0, omega arith, reached_start s es list r, all)
 
   -- no listed variable is left below n
-  pub summed_end : (sums : List (Option ℚ)) (c : ℕ) → ((k : ℕ) → c ≤ k → k < length es → n ≤ (get_or es k (0, zero_ℚ)).0) → Summed o cs s n es c sums → AreSums o cs (at s) n sums
+  pub summed_end : (sums : List ℚ) (c : ℕ) → ((k : ℕ) → c ≤ k → k < length es → n ≤ (get_or es k (0, zero_ℚ)).0) → Summed o cs s n es c sums → AreSums o cs (at s) n sums
   summed_end sums c past h = sums_gap o cs (at s) sums h.0 n h.1 (λ j a l. elim (h.2.rest j a) [ inl z ↦ z | inr t ↦ absurd (let f = past t.0 t.1 t.2 in let q = t.3 in omega (arith, f, l, q)) ]) h.3
 
   module _ (c : ℕ) (p : ℕ × ℚ) (l : c < length es) (e : p ≡ get_or es c p) where
     pub rest_past : n ≤ p.0 → (k : ℕ) → c ≤ k → k < length es → n ≤ (get_or es k (0, zero_ℚ)).0
     rest_past past k a b = let h = left_from s es list r c p l e k a b in omega (arith, h, past)
 
-    pub summed_here : (sums : List (Option ℚ)) → Summed o cs s n es c sums → AreSums o cs (at s) p.0 sums
+    pub summed_here : (sums : List ℚ) → Summed o cs s n es c sums → AreSums o cs (at s) p.0 sums
     summed_here sums h = sums_gap o cs (at s) sums h.0 p.0 (reached_low s es list r c p l e h.0 h.2) (reached_zeros s es list r c p l e h.0 h.2) h.3
 
-    pub summed_next : (old sums : List (Option ℚ)) → p.0 < n → Summed o cs s n es c old → AreSums o cs (at s) (p.0 + 1) sums → Summed o cs s n es (c + 1) sums
+    pub summed_next : (old sums : List ℚ) → p.0 < n → Summed o cs s n es c old → AreSums o cs (at s) (p.0 + 1) sums → Summed o cs s n es (c + 1) sums
     summed_next old sums within h all = (p.0 + 1, omega (arith, within), reached_next s es list r c p l e h.0 h.2, all)
 
 -- ---- the value of a row, over the listed variables
 abbrev pub SummedRow : Row → Row → List (ℕ × ℚ) → ℕ → ℚ → Type 0
-SummedRow row s es c v = (low : ℕ) × IsReached s es c low × IsSummed row (at s) low (Some v)
+SummedRow row s es c v = (low : ℕ) × IsReached s es c low × IsSummed row (at s) low v
 
 module _ (row s : Row) (es : List (ℕ × ℚ)) (list : es ≡ entries s) (r : RisesFrom 0 es) where
   pub row_start : (v : ℚ) → v ≡ zero_ℚ → SummedRow row s es 0 v
   row_start v e = (0, reached_start s es list r, ((λ j l. absurd (omega arith)), e))
 
   module _ (c : ℕ) (p : ℕ × ℚ) (l : c < length es) (e : p ≡ get_or es c p) (v a : ℚ) (read : a ≡ at row p.0) (h : SummedRow row s es c v) where
-    row_here : IsSummed row (at s) p.0 (Some v)
-    row_here = sum_gap row (at s) (Some v) h.0 p.0 (reached_low s es list r c p l e h.0 h.1) (reached_zeros s es list r c p l e h.0 h.1) h.2
+    row_here : IsSummed row (at s) p.0 v
+    row_here = sum_gap row (at s) v h.0 p.0 (reached_low s es list r c p l e h.0 h.1) (reached_zeros s es list r c p l e h.0 h.1) h.2
 
     pub row_next : (new : ℚ) → TermFits v a p.1 → new ≡ v +ℚ a *ℚ p.1 → SummedRow row s es (c + 1) new
-    row_next new fits sum = (p.0 + 1, reached_next s es list r c p l e h.0 h.1, sum_more row (at s) p.0 (Some v) (Some new) a p.1 read (coordinate_is s es list r c p l e) fits sum row_here)
+    row_next new fits sum = (p.0 + 1, reached_next s es list r c p l e h.0 h.1, sum_more row (at s) p.0 v new a p.1 read (coordinate_is s es list r c p l e) fits sum row_here)
 
     pub row_refused : (n : ℕ) → NamesBelow n (at row) → ValueFits n (at row) (at s) → TermFits v a p.1
     row_refused n names fits =
@@ -485,11 +449,11 @@ module _ (row s : Row) (es : List (ℕ × ℚ)) (list : es ≡ entries s) (r : R
           | inr past ↦ nothing_more (value p.0 (at row) (at s)) (at row p.0) (at s p.0) (value_bounded row (at s) p.0 row_here.0) (inl (names p.0 past))
         ]))
 
-  pub row_end : (c : ℕ) (v : ℚ) (n : ℕ) → length es ≤ c → NamesBelow n (at row) → SummedRow row s es c v → IsSummed row (at s) n (Some v)
+  pub row_end : (c : ℕ) (v : ℚ) (n : ℕ) → length es ≤ c → NamesBelow n (at row) → SummedRow row s es c v → IsSummed row (at s) n v
   row_end c v n past names h = elim (cases_lt n h.0) [
     | inl over ↦
         (λ j l. h.2.0 j (omega (arith, l, over)), h.2.1 ∙ value_gap n h.0 (at row) (at s) (omega (arith, over)) (λ j a b. names j a))
-    | inr within ↦ sum_gap row (at s) (Some v) h.0 n within (λ j a b. reached_end s es list r c h.0 past h.1 j a) h.2
+    | inr within ↦ sum_gap row (at s) v h.0 n within (λ j a b. reached_end s es list r c h.0 past h.1 j a) h.2
   ]
 
 -- ---- constraints of a problem
@@ -543,33 +507,43 @@ place_read cs n j e h es same p is =
 pub as_many : (cons : List (Named Item)) → length (given_of cons) ≡ length cons
 as_many cons = length-map cons (λ (m : Named Item). constraint_of m.item)
 
-pub given_places : (o : Row) (cons : List (Named Item)) (j : ℕ) (places : List (ℕ × ℕ))
-    → ArePlaces o (given_of cons) (length cons) j places
-    → ArePlaces o (given_of cons) (length (given_of cons)) j places
-given_places o cons j places is = subst (λ n. ArePlaces o (given_of cons) n j places) (sym (as_many cons)) is
+-- a constraint that has an entry is one of the list
+pub has_entries : (cs : List Constraint) (i k : ℕ) → k < length (entries (nth cs i).row)
+    → i < length cs
+has_entries cs i k l = elim (cases_lt i (length cs)) [
+  | inl below ↦ below
+  | inr past ↦
+      let none : nth cs i ≡ record { row = empty; sense = equal; bound = zero_ℚ } = get_or_past cs i _ past in
+      let m = ap (λ (d : Constraint). length (entries d.row)) none ∙ sym (len-entries (empty {K = ℕ} {X = ℚ} {R = nat_cmp})) ∙ len-empty nat_cmp ℚ in
+      absurd (omega (arith, l, m))
+]
 
 -- ---- all constraints
-module _ (o : Row) (cs : List Constraint) (n : ℕ) (x : Point) (sums : List (Option ℚ)) (touched indices : List ℕ) where
-  pub met : AreSums o cs x n sums → AreListed sums touched → AreFalseAtZero o cs (length cs) indices → ((k : ℕ) → k < length indices → get_or sums (get_or indices k 0) None ≢ None)
-      → ((k : ℕ) → k < length touched → Compares (nth cs (get_or touched k 0)).sense (unwrap_or (get_or sums (get_or touched k 0) None) zero_ℚ) (nth cs (get_or touched k 0)).bound) → AreMet o cs n x
-  met all listed at_zero summed true_there i l = elim (all i l) [
+module _ (o : Row) (cs : List Constraint) (n : ℕ) (x : Point) (sums : List ℚ) (indices : List ℕ) where
+  pub met : length sums ≡ length cs → AreSums o cs x n sums → AreFalseAtZero o cs (length cs) indices → All (λ i. get_or sums i zero_ℚ ≢ zero_ℚ) indices
+      → ((i : ℕ) → get_or sums i zero_ℚ ≢ zero_ℚ → Compares (nth cs i).sense (get_or sums i zero_ℚ) (nth cs i).bound) → AreMet o cs n x
+  met many all at_zero nonzero true_there i l = elim (all i (omega (arith, many, l))) [
     | inl same ↦ inl same
-    | inr sum ↦ elim (listed.listed i) [
+    | inr sum ↦ elim (zero_or_not (get_or sums i zero_ℚ)) [
       | inl none ↦ elim (at_zero.listed i l) [
         | inl same ↦ inl same
         | inr some ↦ elim some [
-          | inl t ↦ inr (sum.0, subst (λ v. Compares (nth cs i).sense v (nth cs i).bound) (ap (λ o. unwrap_or o zero_ℚ) (sym none) ∙ sum.1) t)
-          | inr s ↦ absurd (summed s.0 s.2 (ap (λ k. get_or sums k None) s.3 ∙ none))
+          | inl t ↦ inr (sum.0, subst (λ v. Compares (nth cs i).sense v (nth cs i).bound) (sym none ∙ sum.1) t)
+          | inr s ↦ absurd (nonzero s.0 0 s.2 (ap (λ k. get_or sums k zero_ℚ) s.3 ∙ none))
         ]
       ]
-      | inr s ↦ inr (sum.0, subst (λ v. Compares (nth cs i).sense v (nth cs i).bound) sum.1 (subst (λ k. Compares (nth cs k).sense (unwrap_or (get_or sums k None) zero_ℚ) (nth cs k).bound) s.3 (true_there s.0 s.2)))
+      | inr some ↦ inr (sum.0, subst (λ v. Compares (nth cs i).sense v (nth cs i).bound) sum.1 (true_there i some))
     ]
   ]
 
-pub known_some : {A : Type 0} → (o : Option A) (P : Type 0) (b : Bool) → is_some o ≡ not b
-    → b ≡ false → OnSome o P → P
-known_some None P b e f h = absurd (cc)
-known_some (Some x) P b e f h = h
+pub all_within : (o : Row) (cs : List Constraint) (n : ℕ) (indices : List ℕ)
+    → AreFalseAtZero o cs n indices → All (λ i. i < n) indices
+all_within o cs n indices is k d l = subst (λ i. i < n) (get_or_default indices k 0 d l) (is.within k l)
+
+pub known_ok : {A E : Type 0} → (r : Result A E) (P : Type 0) (b : Bool) → b ≡ is_ok r → b ≡ true
+    → OnOk r P → P
+known_ok (Ok x) P b e t h = h
+known_ok (Err x) P b e t h = absurd (cc)
 
 pub refused_or_ok : {A E : Type 0} → (r : Result A E) → IsErr r → IsOk r → ⊥
 refused_or_ok (Ok x) e o = absurd (cc)

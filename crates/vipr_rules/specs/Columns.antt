@@ -1,6 +1,6 @@
 -- The constraints of a problem by their variables, and sums over the listed variables of a solution
 use Rattle.std.specs.Prelude.{◌≡◌, ◌↔◌, ℕ, ◌<◌, ◌≤◌, ◌⊎◌, List, [], map, length, Vec}
-use Rattle.std.specs.Prelude.{Option, None, IfSome, unwrap_or, slice_index_or}
+use Rattle.std.specs.Prelude.{Option, IfSome, replicate, slice_index_or}
 use Rattle.std.specs.Global.{Global}
 use Rattle.std.specs.FinMap.{empty, entries}
 use Rattle.vipr_spec.specs.Fraction.{ℚ, zero_ℚ, ◌≤ℚ◌}
@@ -77,17 +77,17 @@ AreColumns o cs n columns = (j : ℕ) → ArePlaces o cs n j (column_at columns 
 
 -- ---- sums
 
--- what was summed over the first n variables, 0 if nothing was
-abbrev pub IsSummed : Row → Point → ℕ → Option ℚ → Type 0
-IsSummed row x n sum = ValueFits n (at row) x × (unwrap_or sum zero_ℚ ≡ value n (at row) x)
+-- the sum over the first n variables
+abbrev pub IsSummed : Row → Point → ℕ → ℚ → Type 0
+IsSummed row x n sum = ValueFits n (at row) x × (sum ≡ value n (at row) x)
 
 -- so of the constraint i, or it has the row o
-abbrev pub IsCounted : Row → List Constraint → Point → ℕ → List (Option ℚ) → ℕ → Type 0
+abbrev pub IsCounted : Row → List Constraint → Point → ℕ → List ℚ → ℕ → Type 0
 IsCounted o cs x n sums i =
-    HasRow o (nth cs i) ⊎ IsSummed (nth cs i).row x n (slice_index_or sums i None)
+    HasRow o (nth cs i) ⊎ IsSummed (nth cs i).row x n (slice_index_or sums i zero_ℚ)
 
-abbrev pub AreSums : Row → List Constraint → Point → ℕ → List (Option ℚ) → Type 0
-AreSums o cs x n sums = (i : ℕ) → i < length cs → IsCounted o cs x n sums i
+abbrev pub AreSums : Row → List Constraint → Point → ℕ → List ℚ → Type 0
+AreSums o cs x n sums = (i : ℕ) → i < length sums → IsCounted o cs x n sums i
 
 -- at a point the constraint is true, and its value fits
 abbrev pub IsMet : ℕ → Point → Constraint → Type 0
@@ -96,12 +96,6 @@ IsMet n x c = ValueFits n (at c.row) x × IsTrueAt n (condition c) x
 -- so are the constraints, those with the row o aside
 abbrev pub AreMet : Row → List Constraint → ℕ → Point → Type 0
 AreMet o cs n x = (i : ℕ) → i < length cs → HasRow o (nth cs i) ⊎ IsMet n x (nth cs i)
-
--- whatever is summed is listed as touched
-pub record AreListed (sums : List (Option ℚ)) (touched : List ℕ) : Type 0 where
-  pub within : (k : ℕ) → k < length touched → slice_index_or touched k 0 < length sums
-  pub listed : (i : ℕ) → (slice_index_or sums i None ≡ None)
-      ⊎ OccursFrom (λ (j : ℕ). j) 0 0 touched i
 
 -- a constraint has the row o, or is true if all variables are 0, or is listed
 pub record AreFalseAtZero (o : Row) (cs : List Constraint) (n : ℕ) (indices : List ℕ) : Type 0
@@ -118,6 +112,4 @@ pub record IsColumnsOf (p : Problem) (c : Columns) : Type 0 where
   pub false_at_zero : AreFalseAtZero p.objective (given_in p) (length p.constraints)
       c.false_at_zero.items
   pub bounds : AreBounds p.objective (given_in p) (length p.constraints) c.bounds
-  pub sums : length c.sums.items ≡ length p.constraints
-  pub empty : (i : ℕ) → slice_index_or c.sums.items i None ≡ None
-  pub untouched : c.touched.items ≡ []
+  pub sums : c.sums ≡ replicate (length p.constraints) zero_ℚ

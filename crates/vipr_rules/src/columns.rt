@@ -1,24 +1,21 @@
 //! The constraints of a problem by their variables, to test many short solutions.
 
-ghost use Rattle.std.specs.Prelude.{◌≡◌, ◌≢◌, ◌⊎◌, ◌+◌, ◌<◌, ℕ, All, IsTrue, IsFalse, IfOk, OnOk};
-ghost use Rattle.std.specs.Prelude.{IfSome, OnSome};
-ghost use Rattle.std.specs.Prelude.{List, None, length, slice_index_or, unwrap_or};
-ghost use Rattle.vipr_spec.specs.Fraction.{zero_ℚ, ◌+ℚ◌, ◌*ℚ◌};
+ghost use Rattle.std.specs.Prelude.{◌≡◌, ◌≢◌, ◌↔◌, ◌⊎◌, ◌+◌, ◌<◌, ℕ, All, IsTrue, IsFalse};
+ghost use Rattle.std.specs.Prelude.{IfOk, IfSome, OnOk, List, length, slice_index_or};
+ghost use Rattle.vipr_spec.specs.Fraction.{zero_ℚ};
 ghost use Rattle.vipr_spec.specs.Constraint.{Constraint as Meant, Row as Entries, Point, at};
 ghost use Rattle.vipr_spec.specs.Constraint.{Compares, NamesBelow, ValueFits};
 ghost use Rattle.vipr_spec.specs.Certificate.{variables, objective_at};
-ghost use Rattle.vipr_spec.specs.MoreEntries.{TermFits};
 ghost use Rattle.vipr_linear.specs.Constraint.{sense_of, constraint_of};
-ghost use Rattle.vipr_rules.specs.Columns.{nth, given_of, OccursFrom, AreColumns, ArePlaces};
-ghost use Rattle.vipr_rules.specs.Columns.{AreSums, AreListed, AreFalseAtZero, AreMet};
-ghost use Rattle.vipr_rules.specs.Columns.{HasRow, IsColumnsOf};
+ghost use Rattle.vipr_rules.specs.Columns.{nth, given_of, AreColumns, ArePlaces, AreSums};
+ghost use Rattle.vipr_rules.specs.Columns.{AreFalseAtZero, HasRow, IsColumnsOf};
 ghost use Rattle.vipr_rules.specs.Solution.{PassesAll, tests_below};
 
 use crate::bounds::Bounds;
 use std::alloc::{AllocError, Global};
 use vipr_cert::{Named, Problem};
-use vipr_frac::{Frac, Partial};
-use vipr_linear::{Constraint, Row, Solution, compares};
+use vipr_frac::{Frac, Overflow, Partial};
+use vipr_linear::{Constraint, Places, Row, Solution, compares};
 
 /// The constraints of a problem by their variables, with a place for the sum of each constraint. An
 /// entry takes 8 bytes: its coefficient is looked up in the problem. The constraints that have the
@@ -29,9 +26,8 @@ pub struct Columns {
     columns: Vec<Vec<(u32, u32)>>,
     /// The constraints that are false if all variables are 0.
     false_at_zero: Vec<u32>,
-    /// The sums of the touched constraints.
-    sums: Vec<Option<Partial>>,
-    touched: Vec<u32>,
+    /// The sum of each constraint.
+    sums: Places,
     /// The bounds of the objective's value by the constraints that have its row.
     bounds: Bounds,
 }
@@ -52,15 +48,14 @@ impl Columns {
         Ok(Columns {
             columns: columns_of(alloc, problem.names().len(), cons, objective)?,
             false_at_zero: false_at_zero(alloc, cons, objective)?,
-            sums: nothing_summed(alloc, cons.len())?,
-            touched: Vec::new(alloc),
+            sums: Places::new(alloc, cons.len())?,
             bounds: Bounds::of(cons, objective),
         })
     }
 
     /// Whether it is found that a solution meets all constraints, if the objective has this
     /// value there. The columns of its variables alone are looked at. If a constraint's value
-    /// doesn't fit, or memory is refused, it isn't found.
+    /// doesn't fit, it isn't found.
     pub(crate) fn find_met(&mut self, problem: &Problem, solution: &Solution, value: Frac) -> bool
         requires columns { IsColumnsOf problem.now self.old }
         requires room { ValueFits (variables problem.now) (at problem.now.objective)
@@ -78,11 +73,12 @@ impl Columns {
             columns,
             false_at_zero,
             sums,
-            touched,
             ..
         } = self;
-        let met = are_met(cons, columns, false_at_zero, solution, sums, touched);
-        clear(sums, touched);
+        let met = add_solution(cons, columns, solution, sums).is_ok()
+            && are_nonzero(false_at_zero, sums.sums())
+            && all_true(cons, sums);
+        sums.reset();
         met
     }
 }
@@ -196,45 +192,30 @@ fn is_false_at_zero(constraint: &Constraint, objective: &Row) -> bool
     !constraint.row.is_same(objective)
 }
 
-fn nothing_summed(alloc: Global, constraints: usize) -> Result<Vec<Option<Partial>>, AllocError>
-    ensures empty { IfOk result (λ v. (i : ℕ) → slice_index_or v.items i None ≡ None) }
-    ensures constraints { IfOk result (λ v. length v.items ≡ constraints) }
-{
-    let mut sums = Vec::with_capacity(alloc, constraints)?;
-    for _ in 0..constraints {
-        sums.push(None)?;
-    }
-    Ok(sums)
-}
-
 // ---- summing
 
-// Adds a solution to the sums, variable by variable. Nothing is answered if a sum doesn't fit or
-// memory is refused.
+// Adds a solution to the sums, variable by variable.
 fn add_solution(
     cons: &[Named<Constraint>],
     columns: &[Vec<(u32, u32)>],
     solution: &Solution,
-    sums: &mut [Option<Partial>],
-    touched: &mut Vec<u32>,
-) -> Option<()>
-    requires columns { (o : Entries) × AreColumns o (given_of cons.now) (length cons.now)
+    sums: &mut Places,
+) -> Result<(), Overflow>
+    requires columns { (o : Entries) × AreColumns o (given_of cons.now) (length sums.old)
         columns.now }
-    requires constraints { length sums.old ≡ length cons.now }
-    requires empty { (i : ℕ) → slice_index_or sums.old i None ≡ None }
-    requires listed { AreListed sums.old touched.old.items }
-    ensures sums { (o : Entries) → AreColumns o (given_of cons.now) (length cons.now) columns.now
-        → OnSome result (AreSums o (given_of cons.now) (at solution.now.0) (length columns.now)
+    ensures sums { (o : Entries) → AreColumns o (given_of cons.now) (length sums.old) columns.now
+        → AreSums o (given_of cons.now) (at solution.now.0) 0 sums.old
+        → OnOk result (AreSums o (given_of cons.now) (at solution.now.0) (length columns.now)
         sums.new) }
-    ensures listed { AreListed sums.new touched.new.items }
+    ensures constraints { length sums.new ≡ length sums.old }
 {
     for (variable, coordinate) in solution.0.entries() {
         let Some(column) = columns.get(*variable as usize) else {
-            return Some(());
+            return Ok(());
         };
-        add_column(cons, column, *coordinate, sums, touched)?;
+        add_column(cons, column, *coordinate, sums)?;
     }
-    Some(())
+    Ok(())
 }
 
 // Adds the multiple of a column to the sums.
@@ -242,113 +223,47 @@ fn add_column(
     cons: &[Named<Constraint>],
     places: &[(u32, u32)],
     coordinate: Frac,
-    sums: &mut [Option<Partial>],
-    touched: &mut Vec<u32>,
-) -> Option<()>
+    sums: &mut Places,
+) -> Result<(), Overflow>
     requires places { (o : Entries) × (j : ℕ)
-        × ArePlaces o (given_of cons.now) (length cons.now) j places.now }
-    requires constraints { length sums.old ≡ length cons.now }
-    requires listed { AreListed sums.old touched.old.items }
+        × ArePlaces o (given_of cons.now) (length sums.old) j places.now }
     ensures sums { (o : Entries) (j : ℕ) (x : Point)
-        → ArePlaces o (given_of cons.now) (length cons.now) j places.now → x j ≡ coordinate
+        → ArePlaces o (given_of cons.now) (length sums.old) j places.now → x j ≡ coordinate
         → AreSums o (given_of cons.now) x j sums.old
-        → OnSome result (AreSums o (given_of cons.now) x (j + 1) sums.new) }
-    ensures listed { AreListed sums.new touched.new.items }
+        → OnOk result (AreSums o (given_of cons.now) x (j + 1) sums.new) }
+    ensures constraints { length sums.new ≡ length sums.old }
 {
     for (index, place) in places {
         let coefficient = cons[*index as usize].item.row.entries()[*place as usize].1;
-        touch(sums, touched, *index)?;
-        add_term(&mut sums[*index as usize], coefficient, coordinate)?;
+        sums.add_product(*index, coefficient, coordinate)?;
     }
-    Some(())
-}
-
-// Lists a constraint as touched where nothing was summed yet.
-fn touch(sums: &[Option<Partial>], touched: &mut Vec<u32>, index: u32) -> Option<()>
-    requires within { index < length sums.now }
-    requires listed { AreListed sums.now touched.old.items }
-    ensures listed { AreListed sums.now touched.new.items }
-    ensures occurs { OnSome result (OccursFrom (λ (j : ℕ). j) 0 0 touched.new.items index) }
-{
-    if sums[index as usize].is_none() {
-        touched.push(index).ok()?;
-    }
-    Some(())
-}
-
-// Adds a product to a sum.
-fn add_term(sum: &mut Option<Partial>, coefficient: Frac, coordinate: Frac) -> Option<()>
-    ensures fits { OnSome result (TermFits (unwrap_or sum.old zero_ℚ) coefficient coordinate) }
-    ensures sum { OnSome result (unwrap_or sum.new zero_ℚ
-        ≡ unwrap_or sum.old zero_ℚ +ℚ coefficient *ℚ coordinate) }
-{
-    match sum {
-        Some(sum) => sum.add_product(coefficient, coordinate).ok(),
-        None => {
-            let mut first = Partial::zero();
-            first.add_product(coefficient, coordinate).ok()?;
-            *sum = Some(first);
-            Some(())
-        }
-    }
+    Ok(())
 }
 
 // ---- testing
 
-// Whether all constraints with columns are found to be met by a solution.
-fn are_met(
-    cons: &[Named<Constraint>],
-    columns: &[Vec<(u32, u32)>],
-    false_at_zero: &[u32],
-    solution: &Solution,
-    sums: &mut [Option<Partial>],
-    touched: &mut Vec<u32>,
-) -> bool
-    requires columns { (o : Entries) × AreColumns o (given_of cons.now) (length cons.now)
-        columns.now }
-    requires false_at_zero { (o : Entries) × AreFalseAtZero o (given_of cons.now)
-        (length cons.now) false_at_zero.now }
-    requires constraints { length sums.old ≡ length cons.now }
-    requires empty { (i : ℕ) → slice_index_or sums.old i None ≡ None }
-    requires listed { AreListed sums.old touched.old.items }
-    ensures met { (o : Entries) → AreColumns o (given_of cons.now) (length cons.now) columns.now
-        → AreFalseAtZero o (given_of cons.now) (length cons.now) false_at_zero.now
-        → IsTrue result → AreMet o (given_of cons.now) (length columns.now)
-        (at solution.now.0) }
-    ensures listed { AreListed sums.new touched.new.items }
-{
-    if add_solution(cons, columns, solution, sums, touched).is_none() {
-        return false;
-    }
-    all_summed(false_at_zero, sums) && all_true(cons, sums, touched)
-}
-
-// Whether something was summed for each of these constraints.
-fn all_summed(indices: &[u32], sums: &[Option<Partial>]) -> bool
-    requires { (k : ℕ) → k < length indices.now
-        → slice_index_or indices.now k 0 < length sums.now }
-    ensures { IsTrue result → (k : ℕ) → k < length indices.now
-        → slice_index_or sums.now (slice_index_or indices.now k 0) None ≢ None }
+// Whether the sum of none of these constraints is 0.
+fn are_nonzero(indices: &[u32], sums: &[Partial]) -> bool
+    requires { All (λ i. i < length sums.now) indices.now }
+    ensures { IsTrue result → All (λ i. slice_index_or sums.now i zero_ℚ ≢ zero_ℚ) indices.now }
 {
     for index in indices {
-        if sums[*index as usize].is_none() {
+        if sums[*index as usize].is_zero() {
             return false;
         }
     }
     true
 }
 
-// Whether the touched constraints are true.
-fn all_true(cons: &[Named<Constraint>], sums: &[Option<Partial>], touched: &[u32]) -> bool
-    requires constraints { length sums.now ≡ length cons.now }
-    requires listed { AreListed sums.now touched.now }
-    ensures { IsTrue result → (k : ℕ) → k < length touched.now
-        → Compares (nth (given_of cons.now) (slice_index_or touched.now k 0)).sense
-        (unwrap_or (slice_index_or sums.now (slice_index_or touched.now k 0) None) zero_ℚ)
-        (nth (given_of cons.now) (slice_index_or touched.now k 0)).bound }
+// Whether each constraint whose sum isn't 0 is true.
+fn all_true(cons: &[Named<Constraint>], sums: &Places) -> bool
+    requires { length sums.now ≡ length cons.now }
+    ensures { IsTrue result → (i : ℕ) → slice_index_or sums.now i zero_ℚ ≢ zero_ℚ
+        → Compares (nth (given_of cons.now) i).sense (slice_index_or sums.now i zero_ℚ)
+        (nth (given_of cons.now) i).bound }
 {
-    for index in touched {
-        if !is_true(&cons[*index as usize].item, &sums[*index as usize]) {
+    for index in sums.touched() {
+        if !is_true(&cons[*index as usize].item, &sums.sums()[*index as usize]) {
             return false;
         }
     }
@@ -356,24 +271,9 @@ fn all_true(cons: &[Named<Constraint>], sums: &[Option<Partial>], touched: &[u32
 }
 
 // Whether a constraint is true where its row has this value.
-fn is_true(constraint: &Constraint, sum: &Option<Partial>) -> bool
-    ensures { IsTrue result → Compares (sense_of constraint.now.sense)
-        (unwrap_or sum.now zero_ℚ) constraint.now.rhs }
+fn is_true(constraint: &Constraint, sum: &Partial) -> bool
+    ensures { IsTrue result
+        ↔ Compares (sense_of constraint.now.sense) sum.now constraint.now.rhs }
 {
-    match sum {
-        Some(sum) => compares(constraint.sense, sum.value(), constraint.rhs),
-        None => false,
-    }
-}
-
-// Forgets the sums.
-fn clear(sums: &mut [Option<Partial>], touched: &mut Vec<u32>)
-    requires { AreListed sums.old touched.old.items }
-    ensures empty { (i : ℕ) → slice_index_or sums.new i None ≡ None }
-    ensures untouched { length touched.new.items ≡ 0 }
-{
-    for index in touched.iter() {
-        sums[*index as usize] = None;
-    }
-    touched.clear();
+    compares(constraint.sense, sum.value(), constraint.rhs)
 }

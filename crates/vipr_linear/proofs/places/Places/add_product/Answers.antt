@@ -1,7 +1,7 @@
 use Rattle.std.proofs.Common.{arith, ◌≡◌, ◌<◌, ◌∙◌, sym, ap, ap₂, subst, get_or, length, slice_set}
 use Rattle.std.proofs.Common.{IsOk}
 use Rattle.std.specs.Prelude.{◌↔◌}
-use Rattle.std.proofs.lemmas.List.{get_or_default, length-set, set-get_or}
+use Rattle.std.proofs.lemmas.List.{get_or_default, set-get_or}
 use Rattle.vipr_spec.specs.Fraction.{zero_ℚ, ◌+ℚ◌, ◌*ℚ◌}
 use Rattle.vipr_spec.specs.MoreEntries.{TermFits}
 use Rattle.vipr_linear.proofs.Marks.{covered_set}
@@ -35,6 +35,3 @@ pub returns-clause-kept : goal.returns-clause-kept
 returns-clause-kept c =
     let same = set-get_or c.self.inside.sums.items c.args.place c.index_mut.result.now in
     on_err_then c.add_product.result _ _ (λ e. ap (slice_set c.self.inside.sums.items c.args.place) (e ∙ c.index_mut.ensures.value) ∙ same ∙ c.self.view_is) c.add_product.ensures.kept
-
-pub returns-clause-places : goal.returns-clause-places
-returns-clause-places c = length-set c.self.inside.sums.items c.args.place c.add_product.new.self ∙ ap length c.self.view_is

@@ -1,4 +1,5 @@
 use Rattle.std.proofs.Common.{arith, ap, ◌≡◌, ◌+◌, ◌∙◌, sym, subst, refl, drop, length}
+use Rattle.std.proofs.lemmas.List.{length-set}
 use Rattle.vipr_linear.specs.Accumulator.{with_term, with_terms, TermsFitIn}
 use Rattle.vipr_linear.proofs.Marks.{item_within, not_both, next_fits, next_sums, all_fit, no_more}
 use Rattle.vipr_linear.proofs.places.Places.add_terms.Goals as goal
@@ -15,6 +16,9 @@ returns-in_err-add_product-clause-fits c =
       λ h. absurd (let x = c.in_err-add_product.ensures.fits.1 (fits.0 (c.loop-variable.invariant.fits.0 h)).0 in cc),
     )
 
+pub returns-in_err-add_product-clause-places : goal.returns-in_err-add_product-clause-places
+returns-in_err-add_product-clause-places c = ap length c.in_err-add_product.ensures.kept ∙ c.loop-variable.invariant.places
+
 pub loop-variable-preserved : goal.loop-variable-preserved
 loop-variable-preserved c =
     let i = c.loop-variable.variable-index in
@@ -26,7 +30,7 @@ loop-variable-preserved c =
     let fits = next_fits was m es i c.loop-variable-item.result (omega arith) c.loop-variable-item.is in
     let before = c.loop-variable.invariant in
     record {
-      places = c.in_ok-add_product.ensures.places ∙ before.places;
+      places = ap length new ∙ length-set was c.loop-variable-item.result.0 _ ∙ before.places;
       fits = (
         λ h. subst (λ xs. TermsFitIn xs m (drop (i + 1) es)) (sym new) (fits.0 (before.fits.0 h)).1,
         λ h. before.fits.1 (fits.1 (fit, subst (λ xs. TermsFitIn xs m (drop (i + 1) es)) new h)),

@@ -1,4 +1,5 @@
-use Rattle.std.proofs.Common.{ap, sym, subst, subst₂, ◌∙◌, length, slice_index_or}
+use Rattle.std.proofs.Common.{ap, sym, subst, subst₂, ◌∙◌, length, replicate, slice_index_or}
+use Rattle.vipr_spec.specs.Fraction.{zero_ℚ}
 use Rattle.vipr_spec.specs.Constraint.{at, NamesBelow}
 use Rattle.vipr_rules.specs.Columns.{given_in, AreColumns, AreFalseAtZero, AreBounds}
 use Rattle.vipr_rules.proofs.ColumnLemmas.{given_same, count_same, names_within}
@@ -21,7 +22,5 @@ returns c =
       columns = subst (λ r. AreColumns r (given_in p) (length p.constraints) c.in_ok-columns_of.field-0.items) o (subst₂ (λ cs n. AreColumns c.objective-objective.result.now cs n c.in_ok-columns_of.field-0.items) given count c.in_ok-columns_of.ensures.columns);
       false_at_zero = subst (λ r. AreFalseAtZero r (given_in p) (length p.constraints) c.in_ok-false_at_zero.field-0.items) o (subst₂ (λ cs n. AreFalseAtZero c.objective-objective.result.now cs n c.in_ok-false_at_zero.field-0.items) given count c.in_ok-false_at_zero.ensures);
       bounds = subst (λ r. AreBounds r (given_in p) (length p.constraints) c.of.result) o (subst₂ (λ cs n. AreBounds c.objective-objective.result.now cs n c.of.result) given count c.of.ensures);
-      sums = c.in_ok-nothing_summed.ensures.constraints ∙ count;
-      empty = c.in_ok-nothing_summed.ensures.empty;
-      untouched = c.new.ensures.items;
+      sums = c.in_ok-new.ensures ∙ ap (λ n. replicate n zero_ℚ) count;
     }
