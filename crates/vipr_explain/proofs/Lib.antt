@@ -1,3 +1,5 @@
 mod Keeps
 mod Passing
 mod Lines
+mod Again
+mod Heads

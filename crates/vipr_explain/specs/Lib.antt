@@ -4,3 +4,4 @@ pub mod Places
 pub mod Letters
 pub mod Missed
 pub mod Excerpts
+pub mod Found

@@ -1,5 +1,15 @@
 //! The items of a text that an explanation names, and their places.
-ghost use Rattle.std.specs.Prelude.{◌≡◌, IfOk};
+ghost use Rattle.std.specs.Prelude.{◌≡◌, ◌≤◌, ◌<◌, ◌+◌, ◌^◌, ◌∷◌, ◌++◌, suc, false, Ok, [], map};
+ghost use Rattle.std.specs.Prelude.{fold, max, IfOk, OnOk, IsSome};
+ghost use Rattle.vipr_spec.specs.Certificate.{Problem as ProblemMeant};
+ghost use Rattle.vipr_spec.specs.Reading.{problem_read, read_each, solution_read};
+ghost use Rattle.vipr_bytes.specs.Known.{IfKnown, text_of};
+ghost use Rattle.vipr_scan.specs.Giving.{rest_of};
+ghost use Rattle.vipr_cert.specs.Items.{solution_of, derivation_of};
+ghost use Rattle.vipr_read.specs.Items.{Knows, Remembers};
+ghost use Rattle.vipr_explain.specs.Found.{Finds, WerePassed, derivations_behind, head_read};
+ghost use Rattle.vipr_explain.specs.Found.{nth_read, numbered_of, wanted_among};
+ghost use Rattle.vipr_explain.specs.Found.{HasKeptItems, KeepsNext, AreFoundItems};
 
 use crate::missing::Missing;
 use crate::text::{Spot, Text};
@@ -88,29 +98,55 @@ impl Items {
         alloc: Global,
         derivations: &mut Derivations<R>,
         wanted: &[u32],
-    ) -> Result<(), Missing> {
-        let mut index = self.problem.cons().len() as u64;
-        let end = greatest(wanted) as u64;
-        for _ in 0..derivations.left() {
-            if index > end {
-                break;
-            }
-            match derivations.next(alloc)? {
-                Some(derivation) => self.keep(wanted, index, derivation)?,
-                None => break,
-            }
-            index = index.saturating_add(1);
+    ) -> Result<(), Missing>
+        requires { self.old.derivations.items ≡ [] }
+        ensures problem { self.new.problem ≡ self.old.problem }
+        ensures read { Knows derivations.old self.old.problem → IsSome derivations.old.rest
+            → OnOk result (HasKeptItems self.old.problem wanted.now derivations.old
+            derivations.new self.new.derivations.items) }
+    {
+        let first = self.problem.cons().len() as u64;
+        let end = greatest(wanted) as u64 + 1;
+        let count = end.saturating_sub(first).min(derivations.left() as u64);
+        for passed in 0..count {
+            self.keep_next(alloc, derivations, wanted, (first + passed) as u32)?;
         }
         Ok(())
     }
 
+    // Reads the next derivation, which has this index, and keeps it if it is wanted.
+    fn keep_next<R: Source + Drop>(
+        &mut self,
+        alloc: Global,
+        derivations: &mut Derivations<R>,
+        wanted: &[u32],
+        index: u32,
+    ) -> Result<(), Missing>
+        requires { 0 < derivations.old.left }
+        ensures problem { self.new.problem ≡ self.old.problem }
+        ensures left { OnOk result (derivations.old.left ≡ suc derivations.new.left) }
+        ensures remembers { OnOk result (Remembers derivations.old derivations.new) }
+        ensures read { (p : ProblemMeant) → Knows derivations.old p → IsSome derivations.old.rest
+            → OnOk result (KeepsNext p wanted.now index derivations.old derivations.new
+            self.old.derivations.items self.new.derivations.items) }
+    {
+        match derivations.next(alloc)? {
+            Some(derivation) => self.keep(wanted, index, derivation),
+            None => Ok(()),
+        }
+    }
+
     // Keeps a derivation that is wanted.
-    fn keep(&mut self, wanted: &[u32], index: u64, derivation: Derivation) -> Result<(), Missing> {
-        match u32::try_from(index) {
-            Ok(index) if wanted.contains(&index) => {
-                self.derivations.push(Numbered { index, derivation })?;
-            }
-            _ => drop(derivation),
+    fn keep(&mut self, wanted: &[u32], index: u32, derivation: Derivation) -> Result<(), Missing>
+        ensures problem { self.new.problem ≡ self.old.problem }
+        ensures kept { OnOk result (map numbered_of self.new.derivations.items
+            ≡ map numbered_of self.old.derivations.items
+            ++ wanted_among wanted.now index (derivation_of derivation ∷ [])) }
+    {
+        if wanted.contains(&index) {
+            self.derivations.push(Numbered { index, derivation })?;
+        } else {
+            drop(derivation);
         }
         Ok(())
     }
@@ -120,7 +156,12 @@ impl Items {
 pub(crate) fn open_problem<T: Text>(
     alloc: Global,
     text: &T,
-) -> Result<(Problem, Solutions<T::Reader>), Missing> {
+) -> Result<(Problem, Solutions<T::Reader>), Missing>
+    ensures read { IfKnown (T.input text.now) (λ i.
+        Finds (λ x. (x.0, x.1.left)) (λ x. x.1.rest) result (problem_read (text_of i))) }
+    ensures knows { IfOk result (λ x. Knows x.1 x.0) }
+    ensures working { IfOk result (λ x. x.1.failed ≡ false) }
+{
     match text.open() {
         Some(source) => {
             let reader = CertReader::new(alloc, source)?;
@@ -134,7 +175,13 @@ pub(crate) fn open_problem<T: Text>(
 pub(crate) fn open_derivations<T: Text>(
     alloc: Global,
     text: &T,
-) -> Result<(Problem, Derivations<T::Reader>), Missing> {
+) -> Result<(Problem, Derivations<T::Reader>), Missing>
+    ensures read { IfKnown (T.input text.now) (λ i.
+        Finds (λ x. (x.0, x.1.left)) (λ x. x.1.rest) result (head_read (text_of i))) }
+    ensures knows { IfOk result (λ x. Knows x.1 x.0) }
+    ensures working { IfOk result (λ x. x.1.failed ≡ false) }
+    ensures counted { IfOk result (λ x. x.1.constraints + x.1.left < 2 ^ 32) }
+{
     let (problem, solutions) = open_problem(alloc, text)?;
     Ok((problem, skip_solutions(alloc, solutions)?))
 }
@@ -143,20 +190,34 @@ pub(crate) fn open_derivations<T: Text>(
 fn skip_solutions<R: Source + Drop>(
     alloc: Global,
     mut solutions: Solutions<R>,
-) -> Result<Derivations<R>, Missing> {
-    pass_solutions(alloc, &mut solutions)?;
+) -> Result<Derivations<R>, Missing>
+    ensures read { (p : ProblemMeant) → Knows solutions p → IsSome solutions.rest
+        → Finds (λ d. d.left) (λ d. d.rest) result
+        (derivations_behind p solutions.left (rest_of solutions.rest)) }
+    ensures remembers { IfOk result (λ d. Remembers solutions d) }
+    ensures working { IfOk result (λ d. d.failed ≡ false) }
+    ensures counted { IfOk result (λ d. d.constraints + d.left < 2 ^ 32) }
+{
+    let left = solutions.left();
+    pass_solutions(alloc, &mut solutions, left)?;
     Ok(solutions.finish()?)
 }
 
-// Reads the solutions that are left.
-fn pass_solutions<R: Source>(alloc: Global, solutions: &mut Solutions<R>) -> Result<(), Missing>
-    ensures { IfOk result (λ _. solutions.new.left ≡ 0) }
+// Reads so many solutions.
+fn pass_solutions<R: Source>(
+    alloc: Global,
+    solutions: &mut Solutions<R>,
+    count: u32,
+) -> Result<(), Missing>
+    requires { count ≤ solutions.old.left }
+    ensures left { OnOk result (solutions.new.left + count ≡ solutions.old.left) }
+    ensures remembers { OnOk result (Remembers solutions.old solutions.new) }
+    ensures read { (p : ProblemMeant) → Knows solutions.old p → IsSome solutions.old.rest
+        → WerePassed solutions.new.rest result
+        (read_each (solution_read p) count (rest_of solutions.old.rest)) }
 {
-    for _ in 0..solutions.left() {
+    for _ in 0..count {
         drop(solutions.next(alloc)?);
-    }
-    if solutions.left() > 0 {
-        return Err(Missing::Text);
     }
     Ok(())
 }
@@ -176,10 +237,15 @@ fn nth_solution<R: Source>(
     alloc: Global,
     solutions: &mut Solutions<R>,
     number: u32,
-) -> Result<Named<Solution>, Missing> {
-    for _ in 0..number {
-        drop(solutions.next(alloc)?);
+) -> Result<Named<Solution>, Missing>
+    ensures read { (p : ProblemMeant) → Knows solutions.old p → IsSome solutions.old.rest
+        → IfOk result (λ s. nth_read p number (rest_of solutions.old.rest)
+        ≡ Ok (solution_of s, rest_of solutions.new.rest)) }
+{
+    if number >= solutions.left() {
+        return Err(Missing::Text);
     }
+    pass_solutions(alloc, solutions, number)?;
     match solutions.next(alloc)? {
         Some(solution) => Ok(solution),
         None => Err(Missing::Text),
@@ -187,11 +253,10 @@ fn nth_solution<R: Source>(
 }
 
 /// The problem, and the derivations of those of these constraints that are derived.
-pub(crate) fn read_items<T: Text>(
-    alloc: Global,
-    text: &T,
-    wanted: &[u32],
-) -> Result<Items, Missing> {
+pub(crate) fn read_items<T: Text>(alloc: Global, text: &T, wanted: &[u32]) -> Result<Items, Missing>
+    ensures { IfKnown (T.input text.now) (λ i.
+        IfOk result (AreFoundItems wanted.now (text_of i))) }
+{
     let (problem, mut derivations) = open_derivations(alloc, text)?;
     let mut items = Items {
         problem,
@@ -323,7 +388,9 @@ fn is_past(progress: &TextProgress, end: u32) -> bool {
 }
 
 // The greatest of indices, 0 if there is none.
-fn greatest(indices: &[u32]) -> u32 {
+fn greatest(indices: &[u32]) -> u32
+    ensures { result ≡ fold max 0 indices.now }
+{
     let mut most = 0;
     for index in indices {
         most = most.max(*index);

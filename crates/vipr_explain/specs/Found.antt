@@ -1,0 +1,91 @@
+-- What is found when a text is read again
+use Rattle.std.specs.Prelude.{◌≡◌, ℕ, ◌+◌, ◌-◌, ◌==◌, ◌++◌, ◌∷◌, [], ⊤, min, max, fold, filter}
+use Rattle.std.specs.Prelude.{Bool, List, map, length, Option, Result, Ok, Err, IsSome}
+use Rattle.std.specs.List.{list_any, enumerate_from}
+use Rattle.vipr_spec.specs.Certificate.{Named, Problem, Derivation}
+use Rattle.vipr_spec.specs.Constraint.{Row}
+use Rattle.vipr_spec.specs.Reading.{Rest, Fault, Read, ◌>>=◌, read_each, problem_read}
+use Rattle.vipr_spec.specs.Reading.{solution_read, derivations_read, derivation_read}
+use Rattle.vipr_scan.specs.Giving.{rest_of}
+use Rattle.vipr_read.specs.Items.{Items as Reader}
+use Rattle.vipr_cert.specs.Items.{derivation_of}
+use Rattle.vipr_explain.specs.declared.missing.Missing.{Missing}
+use Rattle.vipr_explain.specs.declared.missing.Missing.TheVariants as missing
+use Rattle.vipr_explain.specs.declared.items.Numbered.{Numbered}
+use Rattle.vipr_explain.specs.declared.items.Items.{Items}
+
+-- the reading has a fault, or memory ran out
+abbrev pub Missed : {Y : Type 0} → Missing → Result Y Fault → Type 0
+Missed missing.Text r = (f : Fault) × (r ≡ Err f)
+Missed missing.Memory r = ⊤
+
+-- the value that the reading gives, with the rest that the reader in it has then
+abbrev pub Finds : {X Y : Type 0} → (X → Y) → (X → Option Rest) → Result X Missing → Read Y → Type 0
+Finds view rest (Ok x) r = (r ≡ Ok (view x, rest_of (rest x))) × IsSome (rest x)
+Finds view rest (Err m) r = Missed m r
+
+-- the values that the reading gives were passed, up to this rest
+abbrev pub WerePassed : {A : Type 0} → Option Rest → Result (Unit {0}) Missing → Read A → Type 0
+WerePassed {A} rest (Ok done) r = (x : A) × (r ≡ Ok (x, rest_of rest)) × IsSome rest
+WerePassed rest (Err m) r = Missed m r
+
+-- the number of derivations, behind so many solutions
+abbrev pub derivations_behind : Problem → ℕ → Rest → Read ℕ
+derivations_behind p n r = read_each (solution_read p) n r >>= λ ss. derivations_read p ss.1
+
+-- the problem, and the number of derivations
+abbrev pub head_read : Rest → Read (Problem × ℕ)
+head_read r = do
+  p ← problem_read r
+  d ← derivations_behind p.0.0 p.0.1 p.1
+  Ok ((p.0.0, d.0), d.1)
+
+-- the solution behind so many others
+abbrev pub nth_read : Problem → ℕ → Rest → Read (Named Row)
+nth_read p n r = read_each (solution_read p) n r >>= λ ss. solution_read p ss.1
+
+-- ---- derivations by their constraints' indices
+
+abbrev pub numbered_of : Numbered → ℕ × Derivation
+numbered_of n = (n.index, derivation_of n.derivation)
+
+abbrev pub is_wanted : List ℕ → ℕ × Derivation → Bool
+is_wanted wanted d = list_any (λ index. index == d.0) wanted
+
+-- how many of n derivations are read behind m constraints: up to the greatest index that is wanted
+abbrev pub count_read : List ℕ → ℕ → ℕ → ℕ
+count_read wanted m n = min (fold max 0 wanted + 1 - m) n
+
+-- those that are wanted among the next ones of these, the first of which has this index
+abbrev pub wanted_among : List ℕ → ℕ → List Derivation → List (ℕ × Derivation)
+wanted_among wanted first ds = filter (is_wanted wanted) (enumerate_from first ds)
+
+-- derivations were read up to the greatest index that is wanted, and those wanted were kept
+pub record HasKeptItems (p : Problem) (wanted : List ℕ) (old new : Reader) (now : List Numbered)
+    : Type 0 where
+  pub read : List Derivation
+  pub each : read_each (derivation_read p) (count_read wanted (length p.constraints) old.left)
+      (rest_of old.rest) ≡ Ok (read, rest_of new.rest)
+  pub known : IsSome new.rest
+  pub kept : map numbered_of now ≡ wanted_among wanted (length p.constraints) read
+
+-- one more was read, and kept if it is wanted
+pub record KeepsNext (p : Problem) (wanted : List ℕ) (index : ℕ) (old new : Reader)
+    (before now : List Numbered) : Type 0 where
+  pub read : Derivation
+  pub one : derivation_read p (rest_of old.rest) ≡ Ok (read, rest_of new.rest)
+  pub known : IsSome new.rest
+  pub kept : map numbered_of now ≡ map numbered_of before ++ wanted_among wanted index (read ∷ [])
+
+-- these were read of the text, up to the greatest index that is wanted, and those that are wanted
+-- were kept
+pub record AreFoundItems (wanted : List ℕ) (text : Rest) (items : Items) : Type 0 where
+  pub count : ℕ
+  pub behind : Rest
+  pub head : head_read text ≡ Ok ((items.problem, count), behind)
+  pub read : List Derivation
+  pub rest : Rest
+  pub each : read_each (derivation_read items.problem)
+      (count_read wanted (length items.problem.constraints) count) behind ≡ Ok (read, rest)
+  pub kept : map numbered_of items.derivations.items
+      ≡ wanted_among wanted (length items.problem.constraints) read
