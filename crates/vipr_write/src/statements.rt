@@ -85,7 +85,7 @@ impl Statements {
     }
 
     /// Keeps the name and the constraint of a derivation, and gives back the rest of it. The reason
-    /// `Asm` is left in place of its own, so that another derivation can be read in its place.
+    /// moves out and `Asm` is left, so that the next derivation can be read into this one.
     ///
     /// # Errors
     ///
