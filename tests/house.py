@@ -169,7 +169,8 @@ def proofs_in_specs():
     for crate, part, path in files(('specs',), ('.antt',)):
         if os.path.basename(path) not in PROVING_SPECS:
             for n, line in enumerate(read(path).split('\n'), 1):
-                word = re.search(r'\b(omega|grind|subst|absurd)\b|(?<![\w-])rw \(', line.split('--')[0])
+                code = re.sub(r'"(?:[^"\\]|\\.)*"', '""', line).split('--')[0]
+                word = re.search(r'\b(omega|grind|subst|absurd)\b|(?<![\w-])rw \(', code)
                 if word:
                     yield '%s:%d: %s' % (shown(path), n, word[0])
 

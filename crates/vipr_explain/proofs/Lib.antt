@@ -1,3 +1,6 @@
+mod Putting
+mod Listing
+mod WholePages
 mod Keeps
 mod Passing
 mod Lines

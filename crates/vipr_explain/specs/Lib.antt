@@ -1,4 +1,13 @@
 pub mod Page
+pub mod Written
+pub mod Algebra
+pub mod Excerpted
+pub mod Listed
+pub mod Steps
+pub mod Solutions
+pub mod Goals
+pub mod Explained
+pub mod Pages
 pub mod Kept
 pub mod Places
 pub mod Letters

@@ -1,5 +1,8 @@
 //! A part of a line with carets below a place in it.
-ghost use Rattle.std.specs.Prelude.{◌≡◌, ℕ, ◌+◌, ◌++◌, ◌∷◌, true, [], min, length, take, drop};
+ghost use Rattle.vipr_explain.specs.Excerpted.{carets_text, end_text, excerpt_text, front_text};
+ghost use Rattle.vipr_explain.specs.Excerpted.{head_text, part_text};
+ghost use Rattle.vipr_explain.specs.Written.{PutsText};
+ghost use Rattle.std.specs.Prelude.{◌≡◌, ℕ, ◌+◌, ◌++◌, ◌∷◌, true, [], max, min, length, take, drop};
 ghost use Rattle.std.specs.Prelude.{List, IfOk, IfErr, IfSome, OnOk};
 ghost use Rattle.vipr_spec.specs.Input.{Input};
 ghost use Rattle.vipr_explain.specs.Letters.{HasGiven};
@@ -7,6 +10,7 @@ ghost use Rattle.vipr_explain.specs.Excerpts.{IsExcerpt, ShowsLine, ReadsInLine,
 
 use crate::missing::Missing;
 use crate::page::Page;
+use crate::stranger::StrangeBytes;
 use crate::text::{Letters, Spot, Subject, Text};
 use std::alloc::{AllocError, Global};
 use vipr_bytes::Source;
@@ -162,43 +166,44 @@ impl Excerpt {
     }
 
     /// Shows the line, with carets below so many bytes of it and a label behind them.
-    pub(crate) fn put(&self, page: &mut Page, file: &str, size: usize, label: &str) {
+    pub(crate) fn put(&self, page: &mut Page, file: &str, size: usize, label: &str)
+        ensures { (margin indent : ℕ) × PutsText page.old page.new
+            (excerpt_text margin indent self.now file.now size label.now) }
+    {
         let margin = digits_of(self.spot.line);
         self.put_head(page, file, margin);
         self.put_line(page);
-        self.put_carets(page, margin, size);
-        page.put(label);
-        page.put("\n");
-        page.put_spaces(margin);
-        page.put(" |\n");
+        self.put_carets(page, margin, size, label);
     }
 
     // Shows where the place is.
-    fn put_head(&self, page: &mut Page, file: &str, margin: usize) {
+    fn put_head(&self, page: &mut Page, file: &str, margin: usize)
+        ensures { PutsText page.old page.new (head_text margin file.now self.now.spot) }
+    {
+        let line = self.spot.line;
+        let column = self.spot.column;
         page.put_spaces(margin);
-        page.put("--> ");
-        page.put(file);
-        page.put(":");
-        page.put_value(&self.spot.line);
-        page.put(":");
-        page.put_value(&self.spot.column);
-        page.put("\n");
+        page.put_value(&format_args!("--> {file}:{line}:{column}\n"));
         page.put_spaces(margin);
         page.put(" |\n");
     }
 
     // Shows the part of the line.
-    fn put_line(&self, page: &mut Page) {
-        page.put_value(&self.spot.line);
-        page.put(" | ");
-        page.put(self.front());
-        page.put_bytes(self.before.as_slice());
-        page.put_bytes(self.behind.as_slice());
-        page.put(if self.is_cut { "..\n" } else { "\n" });
+    fn put_line(&self, page: &mut Page)
+        ensures { PutsText page.old page.new (part_text self.now) }
+    {
+        let line = self.spot.line;
+        let front = self.front();
+        let before = StrangeBytes(self.before.as_slice());
+        let behind = StrangeBytes(self.behind.as_slice());
+        let end = self.end();
+        page.put_value(&format_args!("{line} | {front}{before}{behind}{end}"));
     }
 
     // What stands for the bytes of the line that are left out in front.
-    fn front(&self) -> &'static str {
+    fn front(&self) -> &'static str
+        ensures { result.now ≡ front_text self.now.spot }
+    {
         if self.spot.column > MOST_BEFORE.saturating_add(1) {
             ".."
         } else {
@@ -206,15 +211,35 @@ impl Excerpt {
         }
     }
 
+    // What stands for those that are left out behind.
+    fn end(&self) -> &'static str
+        ensures { result.now ≡ end_text self.now.is_cut }
+    {
+        if self.is_cut { "..\n" } else { "\n" }
+    }
+
     // Shows the carets.
-    fn put_carets(&self, page: &mut Page, margin: usize, size: usize) {
+    fn put_carets(&self, page: &mut Page, margin: usize, size: usize, label: &str)
+        ensures { (indent : ℕ) × PutsText page.old page.new
+            (carets_text margin indent size label.now) }
+    {
+        let count = caret_count(size);
+        let indent = width_of(self.before.as_slice()).saturating_add(self.front().len());
         page.put_spaces(margin);
         page.put(" | ");
-        let indent = width_of(self.before.as_slice()).saturating_add(self.front().len());
         page.put_spaces(indent);
-        page.put_carets(size.max(1).min(MOST_CARETS));
-        page.put(" ");
+        page.put_carets(count);
+        page.put_value(&format_args!(" {label}\n"));
+        page.put_spaces(margin);
+        page.put(" |\n");
     }
+}
+
+// How many carets are below so many bytes.
+fn caret_count(size: usize) -> usize
+    ensures { result ≡ min (max size 1) 40 }
+{
+    size.max(1).min(MOST_CARETS)
 }
 
 // Passes so many bytes.

@@ -1,10 +1,16 @@
 //! Explains what proves the claim, and which constraints come nearest if none does.
+ghost use Rattle.std.specs.Prelude.{IfOk, List, option_map, ℕ};
+ghost use Rattle.vipr_linear.specs.Constraint.{constraint_of};
+ghost use Rattle.vipr_explain.specs.Explained.{IsGoalText, IsProvedText};
+ghost use Rattle.vipr_explain.specs.Goals.{goal_line, wanted_text};
+ghost use Rattle.vipr_explain.specs.Written.{PutsText};
+ghost use Rattle.vipr_explain.specs.declared.shown.PlacedItems.{PlacedItems};
 
-use crate::algebra::{put_constraint, size_of};
+use crate::algebra::{Algebra, size_of};
 use crate::items::{Items, open_derivations};
 use crate::missing::Missing;
 use crate::page::Page;
-use crate::shown::PlacedItems;
+use crate::shown::{ListedConstraint, PlacedItems};
 use crate::text::{Subject, Text};
 use std::alloc::{AllocError, Global};
 use vipr_bytes::Source;
@@ -48,11 +54,25 @@ pub(crate) fn put_goal<T: Text>(
     page: &mut Page,
     subject: &Subject<'_, T>,
     report: &Report,
-) -> Result<(), Missing> {
-    page.put("proved: ");
-    page.put_value(&report.claim);
-    page.put("\n");
-    match report.goal {
+) -> Result<(), Missing>
+    ensures { IfOk result (λ _. (text : List ℕ) × IsProvedText report.now text
+        × PutsText page.old page.new text) }
+{
+    let claim = &report.claim;
+    page.put_value(&format_args!("proved: {claim}\n"));
+    put_goal_line(page, subject, report.goal)
+}
+
+// Shows the constraint that proves the dual side, if one has to.
+fn put_goal_line<T: Text>(
+    page: &mut Page,
+    subject: &Subject<'_, T>,
+    goal: Option<u32>,
+) -> Result<(), Missing>
+    ensures { IfOk result (λ _. (text : List ℕ) × IsGoalText goal text
+        × PutsText page.old page.new text) }
+{
+    match goal {
         Some(goal) => put_goal_item(page, subject, goal),
         None => {
             page.put("  nothing has to be proved of the dual side\n");
@@ -66,16 +86,21 @@ fn put_goal_item<T: Text>(
     page: &mut Page,
     subject: &Subject<'_, T>,
     goal: u32,
-) -> Result<(), Missing> {
+) -> Result<(), Missing>
+    ensures { IfOk result (λ _. (known : PlacedItems)
+        × PutsText page.old page.new (goal_line known goal)) }
+{
     let known = PlacedItems::read(subject, [goal].as_slice())?;
-    page.put("  goal   ");
-    known.put_item(page, goal);
-    page.put("\n");
+    let item = ListedConstraint {
+        known: &known,
+        index: goal,
+    };
+    page.put_value(&format_args!("  goal   {item}\n"));
     Ok(())
 }
 
-/// Explains that no constraint proves the claim: what is wanted, and the nearest constraints with
-/// the assumptions that they rest on.
+/// Explains that no constraint proves the claim: what is wanted, and the nearest constraints
+/// with the assumptions that they rest on.
 pub(crate) fn put_no_proof<T: Text>(
     page: &mut Page,
     subject: &Subject<'_, T>,
@@ -115,23 +140,35 @@ fn indices_of(alloc: Global, near: &[Near]) -> Result<Vec<u32>, AllocError> {
 }
 
 // Says what is wanted.
-fn put_wanted(page: &mut Page, problem: &Problem, goal: Option<&Constraint>) {
-    page.put("error: no constraint proves the claim\n");
-    page.put("  wanted: a constraint that rests on no assumption and ");
+fn put_wanted(page: &mut Page, problem: &Problem, goal: Option<&Constraint>)
+    ensures { PutsText page.old page.new
+        (wanted_text problem.now.names (option_map (λ c. constraint_of c.now) goal.entry)) }
+{
     match goal {
-        Some(goal) => {
-            page.put("says ");
-            put_constraint(page, problem, goal);
-            page.put(" or more\n");
+        Some(constraint) => {
+            let algebra = Algebra {
+                problem,
+                constraint,
+            };
+            page.put_value(&format_args!(
+                "error: no constraint proves the claim\n  \
+                 wanted: a constraint that rests on no assumption and says {algebra} or more\n"
+            ));
         }
-        None => page.put("is absurd, as 0 >= 1\n"),
+        None => page.put(
+            "error: no constraint proves the claim\n  \
+             wanted: a constraint that rests on no assumption and is absurd, as 0 >= 1\n",
+        ),
     }
 }
 
 // Shows a constraint that comes near, and why it isn't enough.
 fn put_near(page: &mut Page, known: &PlacedItems, goal: Option<&Constraint>, near: &Near) {
-    page.put("    ");
-    known.put_item(page, near.index);
+    let item = ListedConstraint {
+        known,
+        index: near.index,
+    };
+    page.put_value(&format_args!("    {item}"));
     if let Some(goal) = goal {
         put_strength(page, &known.items, goal, near.index);
     }

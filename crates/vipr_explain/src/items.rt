@@ -1,6 +1,7 @@
 //! The items of a text that an explanation names, and their places.
+ghost use Rattle.vipr_explain.specs.Listed.{place_found};
 ghost use Rattle.std.specs.Prelude.{◌≡◌, ◌≤◌, ◌<◌, ◌+◌, ◌^◌, ◌∷◌, ◌++◌, suc, false, Ok, [], map};
-ghost use Rattle.std.specs.Prelude.{fold, max, IfOk, OnOk, IsSome};
+ghost use Rattle.std.specs.Prelude.{fold, max, option_copied, IfOk, OnOk, IsSome};
 ghost use Rattle.vipr_spec.specs.Certificate.{Problem as ProblemMeant};
 ghost use Rattle.vipr_spec.specs.Reading.{problem_read, read_each, solution_read};
 ghost use Rattle.vipr_bytes.specs.Known.{IfKnown, text_of};
@@ -46,18 +47,26 @@ pub(crate) struct ItemPlace {
 }
 
 impl Items {
+    ghost use Rattle.std.specs.Prelude.{◌≡◌, option_map};
+    ghost use Rattle.vipr_linear.specs.Constraint.{constraint_of};
+    ghost use Rattle.vipr_explain.specs.Listed.{kept_derivation, known_constraint, known_name};
+    ghost use Rattle.vipr_explain.specs.Listed.{word_or_given};
+
     /// The derivation of a constraint, if it was kept.
-    pub(crate) fn derivation(&self, index: u32) -> Option<&Derivation> {
-        for numbered in &self.derivations {
-            if numbered.index == index {
-                return Some(&numbered.derivation);
-            }
+    pub(crate) fn derivation(&self, index: u32) -> Option<&Derivation>
+        ensures { option_map (λ d. d.now) result
+            ≡ kept_derivation self.now.derivations.items index }
+    {
+        match self.derivations.iter().find(|kept| kept.index == index) {
+            Some(kept) => Some(&kept.derivation),
+            None => None,
         }
-        None
     }
 
     /// A constraint, of the problem or derived, if it was kept.
-    pub(crate) fn constraint(&self, index: u32) -> Option<&Constraint> {
+    pub(crate) fn constraint(&self, index: u32) -> Option<&Constraint>
+        ensures { option_map (λ c. constraint_of c.now) result ≡ known_constraint self.now index }
+    {
         match self.problem.cons().get(index as usize) {
             Some(named) => Some(&named.item),
             None => match self.derivation(index) {
@@ -68,7 +77,9 @@ impl Items {
     }
 
     /// Its name.
-    pub(crate) fn name(&self, index: u32) -> Option<&Name> {
+    pub(crate) fn name(&self, index: u32) -> Option<&Name>
+        ensures { option_map (λ name. name.now) result ≡ known_name self.now index }
+    {
         match self.problem.cons().get(index as usize) {
             Some(named) => Some(&named.name),
             None => match self.derivation(index) {
@@ -79,7 +90,10 @@ impl Items {
     }
 
     /// The word of the reason of a constraint, `given` if it is of the problem.
-    pub(crate) fn reason_word(&self, index: u32) -> &'static str {
+    pub(crate) fn reason_word(&self, index: u32) -> &'static str
+        ensures { result.now
+            ≡ word_or_given (kept_derivation self.now.derivations.items index) }
+    {
         match self.derivation(index) {
             Some(derivation) => match &derivation.reason {
                 Reason::Asm => "asm",
@@ -333,13 +347,20 @@ fn is_name_of_solution(progress: &TextProgress, number: u32) -> bool {
 }
 
 /// The mark of a constraint among others.
-pub(crate) fn mark_of(marks: &[ItemPlace], index: u32) -> Option<ItemPlace> {
-    for mark in marks {
-        if mark.index == index {
-            return Some(*mark);
-        }
+pub(crate) fn mark_of(marks: &[ItemPlace], index: u32) -> Option<ItemPlace>
+    ensures { result ≡ place_found marks.now index }
+{
+    match marked(marks, index) {
+        Some(mark) => Some(*mark),
+        None => None,
     }
-    None
+}
+
+// The same, where it lies.
+fn marked(marks: &[ItemPlace], index: u32) -> Option<&ItemPlace>
+    ensures { option_copied result ≡ place_found marks.now index }
+{
+    marks.iter().find(|mark| mark.index == index)
 }
 
 // Marks the place of a name, and that of the last reference in the item that was marked last.

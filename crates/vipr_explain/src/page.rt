@@ -1,7 +1,9 @@
 //! A page of text for a terminal.
-ghost use Rattle.std.specs.Prelude.{◌≡◌, ◌<◌, true};
-ghost use Rattle.vipr_explain.specs.Page.{IsPage, is_shown};
+ghost use Rattle.std.specs.Prelude.{◌≡◌, ◌<◌, ◌∷◌, [], false, true};
+ghost use Rattle.std.specs.Fmt.{digit_glyph};
+ghost use Rattle.vipr_explain.specs.Page.{IsPage, escape, is_shown, shown_byte};
 
+use crate::stranger::StrangeBytes;
 use std::alloc::Global;
 use std::fmt;
 use std::fmt::{Display, Write};
@@ -20,8 +22,15 @@ pub struct Page {
 }
 
 impl Page {
+    ghost use Rattle.std.specs.Prelude.{IfSome, ◌≡◌, ◌++◌, codes, replicate};
+    ghost use Rattle.vipr_explain.specs.Page.{shown_bytes};
+    ghost use Rattle.vipr_explain.specs.Written.{Adds, PutsText};
+
     /// An empty page.
-    pub fn new(alloc: Global) -> Page {
+    pub fn new(alloc: Global) -> Page
+        ensures empty { result.bytes.items ≡ [] }
+        ensures whole { result.has_failed ≡ false }
+    {
         Page {
             bytes: Vec::new(alloc),
             has_failed: false,
@@ -30,75 +39,101 @@ impl Page {
 
     /// What was written.
     pub fn as_bytes(&self) -> &[u8]
-        ensures { IsPage result.now }
+        ensures page { IsPage result.now }
+        ensures bytes { result.now ≡ self.now.bytes.items }
     {
         self.bytes.as_slice()
     }
 
     /// Whether a growth was refused, so that bytes are missing.
-    pub(crate) fn has_failed(&self) -> bool {
+    pub(crate) fn has_failed(&self) -> bool
+        ensures { result ≡ self.now.has_failed }
+    {
         self.has_failed
     }
 
     /// Writes a text.
-    pub(crate) fn put(&mut self, text: &str) {
+    pub(crate) fn put(&mut self, text: &str)
+        ensures { PutsText self.old self.new text.now }
+    {
         for byte in text.as_bytes() {
-            match *byte {
-                10 | 32..=126 => self.put_byte(*byte),
-                other => self.put_escaped(other),
-            }
+            self.put_shown(*byte);
         }
     }
 
+    /// Writes a line of help.
+    pub(crate) fn put_help(&mut self, help: &str)
+        ensures { PutsText self.old self.new (codes "  = help: " ++ (help.now ++ codes "\n")) }
+    {
+        self.put_value(&format_args!("  = help: {help}\n"));
+    }
+
     /// Writes a value.
-    pub(crate) fn put_value<D: Display>(&mut self, value: &D) {
+    pub(crate) fn put_value<D: Display>(&mut self, value: &D)
+        ensures { IfSome (D.output value.now) (λ text. PutsText self.old self.new text) }
+    {
         if write!(self, "{value}").is_err() {
             self.has_failed = true;
         }
     }
 
-    /// Writes a line of help.
-    pub(crate) fn put_help(&mut self, help: &str) {
-        self.put("  = help: ");
-        self.put(help);
-        self.put("\n");
-    }
-
     /// Writes bytes of a stranger's text: each that isn't printable ASCII is escaped, a tab is a
     /// space.
-    pub fn put_bytes(&mut self, bytes: &[u8]) {
-        for byte in bytes {
-            match *byte {
-                9 => self.put_byte(b' '),
-                32..=126 => self.put_byte(*byte),
-                other => self.put_escaped(other),
-            }
-        }
+    pub fn put_bytes(&mut self, bytes: &[u8])
+        ensures { PutsText self.old self.new (shown_bytes bytes.now) }
+    {
+        self.put_value(&StrangeBytes(bytes));
     }
 
     /// Writes so many spaces.
-    pub(crate) fn put_spaces(&mut self, count: usize) {
-        for _ in 0..count {
-            self.put_byte(b' ');
-        }
+    pub(crate) fn put_spaces(&mut self, count: usize)
+        ensures { PutsText self.old self.new (replicate count 32) }
+    {
+        self.put_copies(b' ', count);
     }
 
     /// Writes so many carets.
-    pub(crate) fn put_carets(&mut self, count: usize) {
-        for _ in 0..count {
-            self.put_byte(b'^');
+    pub(crate) fn put_carets(&mut self, count: usize)
+        ensures { PutsText self.old self.new (replicate count 94) }
+    {
+        self.put_copies(b'^', count);
+    }
+
+    // Writes a byte so many times.
+    fn put_copies(&mut self, byte: u8, count: usize)
+        requires { is_shown byte ≡ true }
+        ensures { PutsText self.old self.new (replicate count byte) }
+    {
+        for number in 0..count {
+            self.put_byte(byte);
         }
     }
 
+    // Writes a byte of a text.
+    fn put_shown(&mut self, byte: u8)
+        ensures { Adds self.old self.new (shown_byte byte) }
+    {
+        match byte {
+            10 | 32..=126 => self.put_byte(byte),
+            other => self.put_escaped(other),
+        }
+    }
+
+    // Writes a byte.
     fn put_byte(&mut self, byte: u8)
         requires { is_shown byte ≡ true }
+        ensures bytes { Adds self.old self.new (byte ∷ []) }
+        ensures text { PutsText self.old self.new (byte ∷ []) }
     {
         if self.bytes.len() < MOST_BYTES && self.bytes.push(byte).is_err() {
             self.has_failed = true;
         }
     }
 
-    fn put_escaped(&mut self, byte: u8) {
+    fn put_escaped(&mut self, byte: u8)
+        ensures bytes { Adds self.old self.new (escape byte) }
+        ensures text { PutsText self.old self.new (escape byte) }
+    {
         self.put_byte(b'\\');
         self.put_byte(b'x');
         self.put_byte(digit(byte / 16));
@@ -107,6 +142,10 @@ impl Page {
 }
 
 impl fmt::Write for Page {
+    ghost use Rattle.vipr_explain.specs.Written.{PutsText};
+
+    ghost write_str_gives = { λ old text new. PutsText old new text };
+
     fn write_str(&mut self, text: &str) -> fmt::Result {
         self.put(text);
         if self.has_failed {
@@ -117,10 +156,11 @@ impl fmt::Write for Page {
     }
 }
 
-// A hexadecimal digit.
-fn digit(value: u8) -> u8
+/// A hexadecimal digit.
+pub(crate) fn digit(value: u8) -> u8
     requires { value < 16 }
-    ensures { is_shown result ≡ true }
+    ensures shown { is_shown result ≡ true }
+    ensures digit { result ≡ digit_glyph false value }
 {
     if value < 10 {
         b'0' + value

@@ -1,10 +1,14 @@
 //! The constraints that an explanation names, and how each is shown.
+ghost use Rattle.std.specs.Prelude.{Some, option_map};
 
-use crate::algebra::{put_constraint, put_name};
+use crate::algebra::{Algebra, ShownName};
 use crate::items::{ItemPlace, Items, find_constraints, mark_of, read_items};
 use crate::missing::Missing;
-use crate::page::Page;
 use crate::text::{Subject, Text};
+use std::fmt;
+use std::fmt::{Display, Formatter, Write};
+use vipr_cert::{Name, Problem};
+use vipr_linear::Constraint;
 
 /// The problem, some derivations, and the places of some constraints.
 #[derive(Drop)]
@@ -24,28 +28,93 @@ impl PlacedItems {
             marks: find_constraints(subject.alloc, subject.text, wanted)?,
         })
     }
+}
 
-    /// Shows a constraint: its index, its name, its algebra and its line.
-    pub(crate) fn put_item(&self, page: &mut Page, index: u32) {
-        page.put("[");
-        page.put_value(&index);
-        page.put("] ");
-        if let Some(name) = self.items.name(index) {
-            put_name(page, name);
-        }
-        page.put("  ");
-        if let Some(constraint) = self.items.constraint(index) {
-            put_constraint(page, &self.items.problem, constraint);
-        }
-        put_line_of(page, self.marks.as_slice(), index);
+/// A constraint as it is listed: its index, its name, its algebra and its line.
+#[derive(Clone, Copy)]
+pub(crate) struct ListedConstraint<'a> {
+    pub(crate) known: &'a PlacedItems,
+    pub(crate) index: u32,
+}
+
+impl Display for ListedConstraint<'_> {
+    ghost use Rattle.vipr_explain.specs.Listed.{listed_text};
+
+    ghost output = { λ l. Some (listed_text l.known.now l.index) };
+
+    fn fmt<W: Write>(&self, f: &mut Formatter<W>) -> fmt::Result {
+        let index = self.index;
+        let items = &self.known.items;
+        let name = NamePart(items.name(index));
+        let algebra = AlgebraPart {
+            problem: &items.problem,
+            constraint: items.constraint(index),
+        };
+        let line = LinePart(mark_of(self.known.marks.as_slice(), index));
+        write!(f, "[{index}] {name}  {algebra}{line}")
     }
 }
 
-/// Shows the line of a constraint.
-pub(crate) fn put_line_of(page: &mut Page, marks: &[ItemPlace], index: u32) {
-    if let Some(mark) = mark_of(marks, index) {
-        page.put("  (line ");
-        page.put_value(&mark.spot.line);
-        page.put(")");
+// A name, if it is known.
+#[derive(Clone, Copy)]
+struct NamePart<'a>(Option<&'a Name>);
+
+impl Display for NamePart<'_> {
+    ghost use Rattle.vipr_explain.specs.Listed.{name_part};
+
+    ghost output = { λ s. Some (name_part (option_map (λ name. name.now) s.0)) };
+
+    fn fmt<W: Write>(&self, f: &mut Formatter<W>) -> fmt::Result {
+        match self.0 {
+            Some(name) => write!(f, "{}", ShownName(name)),
+            None => Ok(()),
+        }
+    }
+}
+
+// A constraint in algebra, if it is known.
+#[derive(Clone, Copy)]
+struct AlgebraPart<'a> {
+    problem: &'a Problem,
+    constraint: Option<&'a Constraint>,
+}
+
+impl Display for AlgebraPart<'_> {
+    ghost use Rattle.vipr_linear.specs.Constraint.{constraint_of};
+    ghost use Rattle.vipr_explain.specs.Listed.{algebra_part};
+
+    ghost output = { λ a. Some (algebra_part a.problem.now.names
+        (option_map (λ c. constraint_of c.now) a.constraint)) };
+
+    fn fmt<W: Write>(&self, f: &mut Formatter<W>) -> fmt::Result {
+        let problem = self.problem;
+        match self.constraint {
+            Some(constraint) => write!(
+                f,
+                "{}",
+                Algebra {
+                    problem,
+                    constraint
+                }
+            ),
+            None => Ok(()),
+        }
+    }
+}
+
+/// The line of a constraint, if its place is known.
+#[derive(Clone, Copy)]
+pub(crate) struct LinePart(pub(crate) Option<ItemPlace>);
+
+impl Display for LinePart {
+    ghost use Rattle.vipr_explain.specs.Listed.{line_part};
+
+    ghost output = { λ s. Some (line_part s.0) };
+
+    fn fmt<W: Write>(&self, f: &mut Formatter<W>) -> fmt::Result {
+        match self.0 {
+            Some(place) => write!(f, "  (line {})", place.spot.line),
+            None => Ok(()),
+        }
     }
 }

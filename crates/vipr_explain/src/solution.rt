@@ -1,23 +1,37 @@
-//! Explains a listed solution that is refused, and a primal bound that no listed one attains.
+//! Explains a listed solution that is refused, and a primal bound that no listed one
+//! attains.
+ghost use Rattle.std.specs.Prelude.{◌≡◌, IfOk, List, codes, slice_get, ℕ};
+ghost use Rattle.std.specs.FinMap.{entries};
+ghost use Rattle.vipr_linear.specs.Constraint.{constraint_of};
+ghost use Rattle.vipr_cert.specs.Items.{named_of};
+ghost use Rattle.vipr_explain.specs.Explained.{IsPlaceText, IsSolutionText};
+ghost use Rattle.vipr_explain.specs.declared.items.ItemPlace.{ItemPlace};
+ghost use Rattle.vipr_explain.specs.Solutions.{best_text, broken_text, false_text, not_whole_text};
+ghost use Rattle.vipr_explain.specs.Solutions.{overflow_lines, overflow_text, primal_error};
+ghost use Rattle.vipr_explain.specs.Solutions.{sides_text};
+ghost use Rattle.vipr_explain.specs.Solutions.{fault_lines, solution_error, solution_fault};
+ghost use Rattle.vipr_explain.specs.Solutions.{value_line, values_text};
+ghost use Rattle.vipr_explain.specs.Written.{PutsText};
 
-use crate::algebra::{put_constraint, put_name, put_variable, sign_of};
+use crate::algebra::{Algebra, ShownName, VariableName, sign_of};
 use crate::excerpt::Excerpt;
-use crate::items::{ItemPlace, find_constraints, find_solution, open_problem, read_solution};
+use crate::items::{
+    ItemPlace, find_constraints, find_solution, mark_of, open_problem, read_solution,
+};
 use crate::missing::Missing;
 use crate::page::Page;
-use crate::shown::put_line_of;
+use crate::shown::LinePart;
 use crate::text::{Subject, Text};
+use crate::values::Values;
 use std::alloc::Global;
 use vipr_bytes::Source;
-use vipr_cert::{Goal, Named, Problem};
+use vipr_cert::{Goal, Name, Named, Problem};
 use vipr_check::Detail;
 use vipr_frac::Frac;
 use vipr_linear::{Constraint, Solution, value_at};
 use vipr_read::Solutions;
 
-/// How many values and how many solutions are shown.
-const MOST_VALUES: usize = 10;
-
+/// How many solutions are shown.
 const MOST_SOLUTIONS: u32 = 10;
 
 /// Explains the refusal of the solution of this number.
@@ -26,41 +40,66 @@ pub(crate) fn put_solution<T: Text>(
     subject: &Subject<'_, T>,
     number: u32,
     detail: &Detail,
-) -> Result<(), Missing> {
+) -> Result<(), Missing>
+    ensures { IfOk result (λ _. (text : List ℕ)
+        × IsSolutionText subject.now.file.now number detail.now text
+        × PutsText page.old page.new text) }
+{
     let (problem, solution) = read_solution(subject.alloc, subject.text, number)?;
-    page.put("error: solution ");
-    put_numbered_name(page, number, &solution);
-    page.put(fault_of(detail));
+    put_error(page, number, &solution, detail);
     put_place(page, subject, number)?;
+    put_detail(page, subject, &problem, &solution.item, detail)
+}
+
+// Shows the fault.
+fn put_detail<T: Text>(
+    page: &mut Page,
+    subject: &Subject<'_, T>,
+    problem: &Problem,
+    solution: &Solution,
+    detail: &Detail,
+) -> Result<(), Missing>
+    ensures { IfOk result (λ _. (places : List ItemPlace) × PutsText page.old page.new
+        (fault_lines problem.now places solution.now.0 detail.now)) }
+{
     match detail {
         Detail::NotWhole {
             variable,
             value,
             ..
-        } => put_not_whole(page, &problem, *variable, *value),
+        } => {
+            put_not_whole(page, problem, *variable, *value);
+            Ok(())
+        }
         Detail::Breaks {
             constraint,
             left,
             ..
-        } => put_broken(page, subject, &problem, *constraint, &solution.item, *left)?,
-        Detail::SolutionOverflow {
-            at: Some((index, _)),
-            ..
-        } => put_overflow(page, *index),
-        _ => {}
+        } => put_broken(page, subject, problem, *constraint, solution, *left),
+        Detail::SolutionOverflow { at, .. } => {
+            put_overflow_at(page, at);
+            Ok(())
+        }
+        Detail::Step { .. } => Ok(()),
+        Detail::NoProof(_) => Ok(()),
+        Detail::NoPrimal(_) => Ok(()),
+        Detail::None => Ok(()),
     }
-    Ok(())
 }
 
-// Writes a solution's number and its name, without the last quote.
-fn put_numbered_name(page: &mut Page, number: u32, solution: &Named<Solution>) {
-    page.put_value(&number);
-    page.put(" `");
-    put_name(page, &solution.name);
+// Says which solution is at fault.
+fn put_error(page: &mut Page, number: u32, solution: &Named<Solution>, detail: &Detail)
+    ensures { PutsText page.old page.new (solution_error number solution.now.name detail.now) }
+{
+    let name = ShownName(&solution.name);
+    let fault = fault_of(detail);
+    page.put_value(&format_args!("error: solution {number} `{name}{fault}"));
 }
 
 // What is at fault, behind a solution's name.
-fn fault_of(detail: &Detail) -> &'static str {
+fn fault_of(detail: &Detail) -> &'static str
+    ensures { result.now ≡ solution_fault detail.now }
+{
     match detail {
         Detail::NotWhole { .. } => "` is not whole at an integer variable\n",
         Detail::Breaks { .. } => "` breaks a constraint\n",
@@ -69,35 +108,50 @@ fn fault_of(detail: &Detail) -> &'static str {
 }
 
 // Shows the place of a solution.
-fn put_place<T: Text>(
-    page: &mut Page,
-    subject: &Subject<'_, T>,
-    number: u32,
-) -> Result<(), Missing> {
-    if let Some(mark) = find_solution(subject.alloc, subject.text, number)? {
-        let excerpt = Excerpt::read(subject, mark.spot)?;
-        excerpt.put(page, subject.file, mark.size, "this solution");
+fn put_place<T: Text>(page: &mut Page, subject: &Subject<'_, T>, number: u32) -> Result<(), Missing>
+    ensures { IfOk result (λ _. (text : List ℕ)
+        × IsPlaceText subject.now.file.now (codes "this solution") text
+        × PutsText page.old page.new text) }
+{
+    match find_solution(subject.alloc, subject.text, number)? {
+        Some(mark) => {
+            let excerpt = Excerpt::read(subject, mark.spot)?;
+            excerpt.put(page, subject.file, mark.size, "this solution");
+            Ok(())
+        }
+        None => Ok(()),
     }
-    Ok(())
+}
+
+// Says in which constraint a number is too large, if it is in one.
+fn put_overflow_at(page: &mut Page, at: &Option<(u32, Name)>)
+    ensures { PutsText page.old page.new (overflow_lines at.now) }
+{
+    match at {
+        Some((index, _)) => put_overflow(page, *index),
+        None => {}
+    }
 }
 
 // Says in which constraint a number is too large.
-fn put_overflow(page: &mut Page, index: u32) {
-    page.put("  it is past the limit in constraint ");
-    page.put_value(&index);
-    page.put("\n");
+fn put_overflow(page: &mut Page, index: u32)
+    ensures { PutsText page.old page.new (overflow_text index) }
+{
+    page.put_value(&format_args!("  it is past the limit in constraint {index}\n"));
 }
 
 // Says which variable isn't whole.
-fn put_not_whole(page: &mut Page, problem: &Problem, variable: u32, value: Frac) {
-    page.put("  ");
-    put_variable(page, problem, variable);
-    page.put(" (variable ");
-    page.put_value(&variable);
-    page.put(") is ");
-    page.put_value(&value);
-    page.put(" here, and has to be whole (INT)\n");
-    page.put_help("write whole values, or take the variable out of INT");
+fn put_not_whole(page: &mut Page, problem: &Problem, variable: u32, value: Frac)
+    ensures { PutsText page.old page.new (not_whole_text problem.now.names variable value) }
+{
+    let name = VariableName {
+        problem,
+        index: variable,
+    };
+    page.put_value(&format_args!(
+        "  {name} (variable {variable}) is {value} here, and has to be whole (INT)\n  \
+         = help: write whole values, or take the variable out of INT\n"
+    ));
 }
 
 // Shows a constraint that is false, and the values at its variables.
@@ -108,7 +162,11 @@ fn put_broken<T: Text>(
     index: u32,
     solution: &Solution,
     left: Frac,
-) -> Result<(), Missing> {
+) -> Result<(), Missing>
+    ensures { IfOk result (λ _. (places : List ItemPlace) × PutsText page.old page.new
+        (broken_text problem.now.names places index solution.now.0 left
+        (slice_get problem.now.constraints index))) }
+{
     match problem.cons().get(index as usize) {
         Some(broken) => {
             let marks = find_constraints(subject.alloc, subject.text, [index].as_slice())?;
@@ -128,78 +186,80 @@ fn put_false(
     index: u32,
     broken: &Named<Constraint>,
     marks: &[ItemPlace],
-) {
-    page.put("  constraint ");
-    page.put_value(&index);
-    page.put(" `");
-    put_name(page, &broken.name);
-    page.put("`: ");
-    put_constraint(page, problem, &broken.item);
-    put_line_of(page, marks, index);
-    page.put("\n  at the solution: ");
+)
+    ensures { PutsText page.old page.new
+        (false_text problem.now.names marks.now index (named_of constraint_of broken.now)) }
+{
+    let name = ShownName(&broken.name);
+    let algebra = Algebra {
+        problem,
+        constraint: &broken.item,
+    };
+    let line = LinePart(mark_of(marks, index));
+    page.put_value(&format_args!(
+        "  constraint {index} `{name}`: {algebra}{line}\n  at the solution: "
+    ));
 }
 
 // Shows the two sides of a constraint that is false.
-fn put_sides(page: &mut Page, broken: &Constraint, left: Frac) {
-    page.put("; the left side is ");
-    page.put_value(&left);
-    page.put(", which is not ");
-    page.put(sign_of(broken.sense));
-    page.put(" ");
-    page.put_value(&broken.rhs);
-    page.put("\n");
-    page.put_help("change the solution, or leave it out; a variable that it doesn't list is 0");
+fn put_sides(page: &mut Page, broken: &Constraint, left: Frac)
+    ensures { PutsText page.old page.new (sides_text (constraint_of broken.now) left) }
+{
+    let sign = sign_of(broken.sense);
+    let right = broken.rhs;
+    page.put_value(&format_args!(
+        "; the left side is {left}, which is not {sign} {right}\n  \
+         = help: change the solution, or leave it out; a variable that it doesn't list is 0\n"
+    ));
 }
 
 // Shows the values at the variables of a constraint.
-fn put_values(page: &mut Page, problem: &Problem, constraint: &Constraint, solution: &Solution) {
-    let entries = constraint.row.entries();
-    for (position, entry) in entries.iter().enumerate() {
-        if position == MOST_VALUES {
-            put_rest(page, entries.len());
-            break;
-        }
-        page.put(if position == 0 { "" } else { ", " });
-        put_variable(page, problem, entry.0);
-        page.put(" = ");
-        page.put_value(&solution.0.coefficient(entry.0));
-    }
+fn put_values(page: &mut Page, problem: &Problem, constraint: &Constraint, solution: &Solution)
+    ensures { PutsText page.old page.new
+        (values_text problem.now.names solution.now.0 (entries constraint.now.row)) }
+{
+    page.put_value(&Values {
+        problem,
+        row: &constraint.row,
+        solution,
+    });
 }
 
-// Says how many variables a constraint has that isn't shown whole.
-fn put_rest(page: &mut Page, count: usize) {
-    page.put(" .. (");
-    page.put_value(&count);
-    page.put(" variables)");
-}
-
-/// Explains that no listed solution attains the primal bound: the best value of those listed.
+/// Explains that no listed solution attains the primal bound: the best value of those
+/// listed.
 pub(crate) fn put_no_primal<T: Text>(
     page: &mut Page,
     subject: &Subject<'_, T>,
     bound: Frac,
 ) -> Result<(), Missing> {
-    page.put("error: no listed solution attains the primal bound\n");
-    page.put("  wanted: a solution whose objective is ");
-    page.put_value(&bound);
-    page.put(" or better\n");
+    put_primal_error(page, bound);
     let best = put_values_listed(page, subject)?;
     put_best(page, best);
     Ok(())
 }
 
+// Says which primal bound is wanted.
+fn put_primal_error(page: &mut Page, bound: Frac)
+    ensures { PutsText page.old page.new (primal_error bound) }
+{
+    page.put_value(&format_args!(
+        "error: no listed solution attains the primal bound\n  \
+         wanted: a solution whose objective is {bound} or better\n"
+    ));
+}
+
 // Says what can be claimed.
-fn put_best(page: &mut Page, best: Option<Frac>) {
+fn put_best(page: &mut Page, best: Option<Frac>)
+    ensures { PutsText page.old page.new (best_text best) }
+{
     match best {
-        Some(best) => {
-            page.put("  = help: claim ");
-            page.put_value(&best);
-            page.put(" as the primal bound behind RTP, or list a better solution\n");
-        }
-        None => {
-            page.put("  the text lists no solution (SOL 0)\n");
-            page.put_help("list a solution behind SOL, or claim no primal bound behind RTP");
-        }
+        Some(best) => page.put_value(&format_args!(
+            "  = help: claim {best} as the primal bound behind RTP, or list a better solution\n"
+        )),
+        None => page.put(
+            "  the text lists no solution (SOL 0)\n  \
+             = help: list a solution behind SOL, or claim no primal bound behind RTP\n",
+        ),
     }
 }
 
@@ -251,12 +311,11 @@ fn put_listed(
 }
 
 // Shows a solution's value.
-fn put_value(page: &mut Page, number: u32, solution: &Named<Solution>, value: Frac) {
-    page.put("  solution ");
-    put_numbered_name(page, number, solution);
-    page.put("`: objective ");
-    page.put_value(&value);
-    page.put("\n");
+fn put_value(page: &mut Page, number: u32, solution: &Named<Solution>, value: Frac)
+    ensures { PutsText page.old page.new (value_line number solution.now.name value) }
+{
+    let name = ShownName(&solution.name);
+    page.put_value(&format_args!("  solution {number} `{name}`: objective {value}\n"));
 }
 
 // The better one of two values of the objective.

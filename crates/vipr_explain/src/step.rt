@@ -1,23 +1,27 @@
 //! Explains a derivation that is refused.
+ghost use Rattle.std.specs.Prelude.{Some};
+ghost use Rattle.vipr_linear.specs.Constraint.{constraint_of};
+ghost use Rattle.vipr_explain.specs.Steps.{labelled, reason_text, step_error, step_help};
+ghost use Rattle.vipr_explain.specs.Written.{PutsText};
 
-use crate::algebra::{put_constraint, put_name};
+use crate::algebra::{Algebra, ShownName};
 use crate::differences::{put_difference, put_not_roundable, put_not_split, rounded};
 use crate::excerpt::Excerpt;
 use crate::items::{Items, find_constraints, mark_of, open_derivations, read_items};
 use crate::missing::Missing;
 use crate::page::Page;
+use crate::reason::{ReasonLines, is_entry_shown};
 use crate::shown::PlacedItems;
 use crate::text::{Subject, Text};
 use std::alloc::{AllocError, Global};
+use std::fmt;
+use std::fmt::{Display, Formatter, Write};
 use vipr_bytes::Source;
 use vipr_cert::{Derivation, Problem, Reason};
 use vipr_check::{StepDetail, cause};
 use vipr_frac::Frac;
 use vipr_linear::Constraint;
 use vipr_read::Derivations;
-
-/// How many entries of a sum are shown.
-const MOST_ENTRIES: usize = 10;
 
 /// Explains the refusal of the derivation of this constraint.
 pub(crate) fn put_step<T: Text>(
@@ -33,7 +37,12 @@ pub(crate) fn put_step<T: Text>(
         Some(step) => {
             put_error(page, cause, index, step, what);
             put_place(page, subject, &known, index)?;
-            put_stated(page, &known.items.problem, step);
+            put_labelled(
+                page,
+                &known.items.problem,
+                "  it states    ",
+                &step.constraint,
+            );
             put_reason(page, &known, index, step, what);
             put_detail(page, &known.items.problem, step, what);
             put_help(page, cause, known.items.problem.cons().len());
@@ -44,14 +53,12 @@ pub(crate) fn put_step<T: Text>(
 }
 
 // Says which derivation is at fault.
-fn put_error(page: &mut Page, cause: u8, index: u32, step: &Derivation, what: &StepDetail) {
-    page.put("error: derivation ");
-    page.put_value(&index);
-    page.put(" `");
-    put_name(page, &step.name);
-    page.put("` ");
-    put_fault(page, cause, what);
-    page.put("\n");
+fn put_error(page: &mut Page, cause: u8, index: u32, step: &Derivation, what: &StepDetail)
+    ensures { PutsText page.old page.new (step_error cause index step.now.name what.now) }
+{
+    let name = ShownName(&step.name);
+    let fault = StepFault { cause, what };
+    page.put_value(&format_args!("error: derivation {index} `{name}` {fault}\n"));
 }
 
 // Shows the place of a derivation.
@@ -66,11 +73,6 @@ fn put_place<T: Text>(
         excerpt.put(page, subject.file, mark.size, "this derivation");
     }
     Ok(())
-}
-
-// Shows what a derivation states.
-fn put_stated(page: &mut Page, problem: &Problem, step: &Derivation) {
-    put_labelled(page, problem, "  it states    ", &step.constraint);
 }
 
 // The derivation's own constraint, and those that it refers to.
@@ -137,150 +139,95 @@ fn add_shown(
     Ok(())
 }
 
-// Whether an entry of a sum is shown: the first ten, and the one at fault.
-fn is_entry_shown(position: usize, index: u32, what: &StepDetail) -> bool {
-    position < MOST_ENTRIES || is_entry_at_fault(position, index, what)
+/// What is wrong with a derivation.
+#[derive(Clone, Copy)]
+struct StepFault<'a> {
+    cause: u8,
+    what: &'a StepDetail,
 }
 
-// Whether an entry of a sum is the one at fault.
-fn is_entry_at_fault(position: usize, index: u32, what: &StepDetail) -> bool {
-    match what {
-        StepDetail::Entry(entry) => *entry as usize == position,
-        StepDetail::Index(constraint) => *constraint == index,
-        _ => false,
-    }
-}
+impl Display for StepFault<'_> {
+    ghost use Rattle.vipr_explain.specs.Steps.{step_fault};
 
-// Says what is wrong.
-fn put_fault(page: &mut Page, cause: u8, what: &StepDetail) {
-    match what {
-        StepDetail::Index(index) => put_index_fault(page, cause, *index),
-        StepDetail::Entry(entry) => put_entry_fault(page, cause, *entry),
-        StepDetail::Sum(_) => page.put("has a sum that can't be rounded"),
-        StepDetail::Pair(_, _) => {
-            page.put("has two assumptions that leave a gap, and are no split");
+    ghost output = { λ s. Some (step_fault s.cause s.what.now) };
+
+    fn fmt<W: Write>(&self, f: &mut Formatter<W>) -> fmt::Result {
+        let cause = self.cause;
+        match self.what {
+            StepDetail::Index(index) => {
+                let index = *index;
+                write!(f, "{}", IndexFault { cause, index })
+            }
+            StepDetail::Entry(entry) => {
+                let entry = *entry;
+                write!(f, "{}", EntryFault { cause, entry })
+            }
+            StepDetail::Sum(_) => f.write_str("has a sum that can't be rounded"),
+            StepDetail::Pair(_, _) => {
+                f.write_str("has two assumptions that leave a gap, and are no split")
+            }
+            StepDetail::Rows { .. } => f.write_str("does not follow from its reason"),
+            StepDetail::Nothing => f.write_str("needs a listed solution"),
         }
-        StepDetail::Rows { .. } => page.put("does not follow from its reason"),
-        StepDetail::Nothing => page.put("needs a listed solution"),
     }
 }
 
-// Says what is wrong with a reference.
-fn put_index_fault(page: &mut Page, cause: u8, index: u32) {
-    page.put(match cause {
-        cause::NOT_EARLIER => "names constraint ",
-        cause::DROPPED => "needs constraint ",
-        _ => "takes constraint ",
-    });
-    page.put_value(&index);
-    page.put(match cause {
-        cause::NOT_EARLIER => ", which is not earlier",
-        cause::DROPPED => ", which was dropped",
-        _ => " for an assumption, which it is not",
-    });
+// What is wrong with a reference.
+#[derive(Clone, Copy)]
+struct IndexFault {
+    cause: u8,
+    index: u32,
 }
 
-// Says what is wrong with an entry of a sum.
-fn put_entry_fault(page: &mut Page, cause: u8, entry: u32) {
-    page.put(match cause {
-        cause::OVERFLOW => "is past 2^127 - 1 at entry ",
-        _ => "turns a sense around at entry ",
-    });
-    page.put_value(&entry);
-    page.put(" of its sum");
+impl Display for IndexFault {
+    ghost use Rattle.vipr_explain.specs.Steps.{index_fault};
+
+    ghost output = { λ s. Some (index_fault s.cause s.index) };
+
+    fn fmt<W: Write>(&self, f: &mut Formatter<W>) -> fmt::Result {
+        let index = self.index;
+        match self.cause {
+            cause::NOT_EARLIER => write!(f, "names constraint {index}, which is not earlier"),
+            cause::DROPPED => write!(f, "needs constraint {index}, which was dropped"),
+            _ => write!(
+                f,
+                "takes constraint {index} for an assumption, which it is not"
+            ),
+        }
+    }
+}
+
+// What is wrong with an entry of a sum.
+#[derive(Clone, Copy)]
+struct EntryFault {
+    cause: u8,
+    entry: u32,
+}
+
+impl Display for EntryFault {
+    ghost use Rattle.vipr_explain.specs.Steps.{entry_fault};
+
+    ghost output = { λ s. Some (entry_fault s.cause s.entry) };
+
+    fn fmt<W: Write>(&self, f: &mut Formatter<W>) -> fmt::Result {
+        let entry = self.entry;
+        match self.cause {
+            cause::OVERFLOW => write!(f, "is past 2^127 - 1 at entry {entry} of its sum"),
+            _ => write!(f, "turns a sense around at entry {entry} of its sum"),
+        }
+    }
 }
 
 // Shows the reason.
-fn put_reason(
-    page: &mut Page,
-    known: &PlacedItems,
-    own: u32,
-    step: &Derivation,
-    what: &StepDetail,
-) {
-    match &step.reason {
-        Reason::Lin(entries) => put_sum(page, known, own, "lin", entries.as_slice(), what),
-        Reason::Rnd(entries) => put_sum(page, known, own, "rnd", entries.as_slice(), what),
-        Reason::Uns { i1, l1, i2, l2 } => {
-            put_branch(page, known, own, "  case 1 gives ", *i1);
-            put_branch(page, known, own, "     assuming  ", *l1);
-            put_branch(page, known, own, "  case 2 gives ", *i2);
-            put_branch(page, known, own, "     assuming  ", *l2);
-        }
-        Reason::Asm => page.put("  its reason   asm\n"),
-        Reason::Sol => {
-            page.put("  its reason   sol, the cutoff at the best listed solution\n");
-        }
-    }
-}
-
-// Shows the entries of a sum.
-fn put_sum(
-    page: &mut Page,
-    known: &PlacedItems,
-    own: u32,
-    word: &str,
-    entries: &[(u32, Frac)],
-    what: &StepDetail,
-) {
-    page.put("  its reason   ");
-    page.put(word);
-    page.put(" of ");
-    page.put_value(&entries.len());
-    page.put(":\n");
-    for (position, entry) in entries.iter().enumerate() {
-        if position == MOST_ENTRIES {
-            put_rest(page, entries.len());
-        }
-        if is_entry_shown(position, entry.0, what) {
-            put_entry(page, known, own, entry.0, entry.1);
-            put_arrow(page, position, is_entry_at_fault(position, entry.0, what));
-        }
-    }
-}
-
-// Says how many entries a sum has that isn't shown whole.
-fn put_rest(page: &mut Page, count: usize) {
-    page.put("      .. (");
-    page.put_value(&count);
-    page.put(" entries)\n");
-}
-
-// Shows an entry of a sum.
-fn put_entry(page: &mut Page, known: &PlacedItems, own: u32, index: u32, multiplier: Frac) {
-    page.put("      ");
-    page.put_value(&multiplier);
-    page.put(" x ");
-    put_known(page, known, own, index);
-}
-
-// Ends the line of an entry, which may be at fault.
-fn put_arrow(page: &mut Page, position: usize, is_at_fault: bool) {
-    if is_at_fault {
-        page.put(" <-- entry ");
-        page.put_value(&position);
-    }
-    page.put("\n");
-}
-
-// Shows a constraint of a join.
-fn put_branch(page: &mut Page, known: &PlacedItems, own: u32, label: &str, index: u32) {
-    page.put(label);
-    put_known(page, known, own, index);
-    page.put(" ");
-    page.put(known.items.reason_word(index));
-    page.put("\n");
-}
-
-// Shows a constraint that a derivation refers to.
-fn put_known(page: &mut Page, known: &PlacedItems, own: u32, index: u32) {
-    if index < own {
-        known.put_item(page, index);
-    } else {
-        page.put("[");
-        page.put_value(&index);
-        page.put("], which is not before this derivation");
-    }
+fn put_reason(page: &mut Page, known: &PlacedItems, own: u32, step: &Derivation, what: &StepDetail)
+    ensures { PutsText page.old page.new (reason_text known.now own what.now step.now.reason) }
+{
+    page.put_value(&ReasonLines {
+        known,
+        own,
+        what,
+        reason: &step.reason,
+    });
 }
 
 // Shows what is behind the fault.
@@ -306,10 +253,15 @@ fn put_detail(page: &mut Page, problem: &Problem, step: &Derivation, what: &Step
 }
 
 // Shows a constraint behind a label.
-fn put_labelled(page: &mut Page, problem: &Problem, label: &str, constraint: &Constraint) {
-    page.put(label);
-    put_constraint(page, problem, constraint);
-    page.put("\n");
+fn put_labelled(page: &mut Page, problem: &Problem, label: &str, constraint: &Constraint)
+    ensures { PutsText page.old page.new
+        (labelled problem.now.names label.now (constraint_of constraint.now)) }
+{
+    let algebra = Algebra {
+        problem,
+        constraint,
+    };
+    page.put_value(&format_args!("{label}{algebra}\n"));
 }
 
 // Says how a derivation that doesn't follow can be repaired.
@@ -322,9 +274,9 @@ fn put_repair(
 ) {
     if let Reason::Lin(_) = &step.reason {
         if let Some(bound) = rounded(problem.ints(), computed, stated) {
-            page.put("  = help: `rnd` in place of `lin` rounds the right-hand side to ");
-            page.put_value(&bound);
-            page.put("\n");
+            page.put_value(&format_args!(
+                "  = help: `rnd` in place of `lin` rounds the right-hand side to {bound}\n"
+            ));
         }
     }
     page.put_help(
@@ -333,9 +285,14 @@ fn put_repair(
 }
 
 // Says what is likely to be wrong; the problem has so many constraints.
-fn put_help(page: &mut Page, cause: u8, count: usize) {
+fn put_help(page: &mut Page, cause: u8, count: usize)
+    ensures { PutsText page.old page.new (step_help cause count) }
+{
     match cause {
-        cause::NOT_EARLIER => put_first_index(page, count),
+        cause::NOT_EARLIER => page.put_value(&format_args!(
+            "  = help: constraints count from 0: the problem has {count}: 0 is the first one; \
+             the first derivation is {count}\n"
+        )),
         cause::NOT_ASSUMPTION => page.put_help(
             "`uns i1 l1 i2 l2` names what follows first, and behind it its assumption, \
              a derivation by `asm`",
@@ -348,30 +305,21 @@ fn put_help(page: &mut Page, cause: u8, count: usize) {
             "docs/FORMAT.md says what can help when a number is past the limit",
         ),
         cause::NO_SOLUTION => page.put_help("list a solution in SOL, or give another reason"),
-        _ => {}
+        _ => page.put(""),
     }
 }
 
-// Says which indices there are.
-fn put_first_index(page: &mut Page, first: usize) {
-    page.put("  = help: constraints count from 0: the problem has ");
-    page.put_value(&first);
-    page.put(": 0 is the first one; the first derivation is ");
-    page.put_value(&first);
-    page.put("\n");
-}
-
-/// Explains that a dropped constraint is needed: the place of its last reference, and what that
-/// would have to be.
+/// Explains that a dropped constraint is needed: the place of its last reference, and what
+/// that would have to be.
 pub(crate) fn put_dropped<T: Text>(
     page: &mut Page,
     subject: &Subject<'_, T>,
     index: u32,
     needed_by: u32,
 ) -> Result<(), Missing> {
-    page.put("  constraint ");
-    page.put_value(&index);
-    page.put(" was dropped behind the last reference that it states\n");
+    page.put_value(&format_args!(
+        "  constraint {index} was dropped behind the last reference that it states\n"
+    ));
     let marks = find_constraints(subject.alloc, subject.text, [index].as_slice())?;
     let last = last_use(subject.alloc, subject.text, index, needed_by)?;
     match mark_of(marks.as_slice(), index) {

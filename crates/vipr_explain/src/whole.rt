@@ -1,4 +1,8 @@
 //! The whole explanation of a verdict.
+ghost use Rattle.std.specs.Prelude.{◌≡◌, IfOk, IfSome, is_some};
+ghost use Rattle.vipr_explain.specs.Page.{cut, shown_text};
+ghost use Rattle.vipr_explain.specs.Pages.{ExplainsVerdict, ExplainsPlace, IsVerdictPage};
+ghost use Rattle.vipr_explain.specs.Pages.{IsPageFor};
 
 use crate::goal::{put_goal, put_no_proof};
 use crate::missing::Missing;
@@ -23,7 +27,10 @@ pub fn explain_at_length<'a, T: Text>(
     file: &'a str,
     verdict: &Verdict,
     detail: &Detail,
-) -> Result<Page, Missing> {
+) -> Result<Page, Missing>
+    ensures { IfOk result (λ page. IsVerdictPage file.now verdict.now detail.now
+        page.bytes.items) }
+{
     let subject = Subject { alloc, text, file };
     let mut page = Page::new(alloc);
     page.put("\n");
@@ -42,7 +49,11 @@ pub fn page_for<'a, T: Text>(
     file: &'a str,
     verdict: &Verdict,
     detail: &Detail,
-) -> Option<Page> {
+) -> Option<Page>
+    ensures { IfSome result
+        (λ page. IsPageFor (is_some text.entry) file.now verdict.now detail.now
+        page.bytes.items) }
+{
     let Some(text) = text else {
         return page_of(
             alloc,
@@ -57,7 +68,9 @@ pub fn page_for<'a, T: Text>(
 }
 
 // A page of one text.
-fn page_of(alloc: Global, text: &str) -> Option<Page> {
+fn page_of(alloc: Global, text: &str) -> Option<Page>
+    ensures { IfSome result (λ page. page.bytes.items ≡ cut (shown_text text.now)) }
+{
     let mut page = Page::new(alloc);
     page.put(text);
     if page.has_failed() { None } else { Some(page) }
@@ -69,14 +82,16 @@ fn put_verdict<T: Text>(
     subject: &Subject<'_, T>,
     verdict: &Verdict,
     detail: &Detail,
-) -> Result<(), Missing> {
+) -> Result<(), Missing>
+    ensures { IfOk result (λ _. ExplainsVerdict subject.now.file.now verdict.now detail.now
+        page.old page.new) }
+{
     match verdict {
         Verdict::Verified(report) => put_goal(page, subject, report),
         Verdict::Refused(refusal) => {
             put_refusal(page, subject, refusal, detail)?;
-            page.put("  = see: docs/FORMAT.md, cause ");
-            page.put_value(&refusal.cause);
-            page.put("\n");
+            let cause = refusal.cause;
+            page.put_value(&format_args!("  = see: docs/FORMAT.md, cause {cause}\n"));
             Ok(())
         }
     }
@@ -88,15 +103,30 @@ fn put_refusal<T: Text>(
     subject: &Subject<'_, T>,
     refusal: &Refusal,
     detail: &Detail,
+) -> Result<(), Missing>
+    ensures { IfOk result (λ _. ExplainsPlace subject.now.file.now refusal.now.place detail.now
+        page.old page.new) }
+{
+    match refusal.place {
+        Place::Byte(offset) => put_syntax(page, subject, refusal.cause, offset),
+        Place::Sol(number) => put_solution(page, subject, number, detail),
+        Place::Der(index) => match detail {
+            Detail::Step { what, .. } => put_derivation(page, subject, refusal.cause, index, what),
+            _ => put_claim(page, subject, detail),
+        },
+        Place::End => put_claim(page, subject, detail),
+    }
+}
+
+// Explains that a side of the claim isn't proved.
+fn put_claim<T: Text>(
+    page: &mut Page,
+    subject: &Subject<'_, T>,
+    detail: &Detail,
 ) -> Result<(), Missing> {
-    match (refusal.place, detail) {
-        (Place::Byte(offset), _) => put_syntax(page, subject, refusal.cause, offset),
-        (Place::Sol(number), _) => put_solution(page, subject, number, detail),
-        (Place::Der(index), Detail::Step { what, .. }) => {
-            put_derivation(page, subject, refusal.cause, index, what)
-        }
-        (_, Detail::NoProof(goal)) => put_no_proof(page, subject, goal.as_ref()),
-        (_, Detail::NoPrimal(bound)) => put_no_primal(page, subject, *bound),
+    match detail {
+        Detail::NoProof(goal) => put_no_proof(page, subject, goal.as_ref()),
+        Detail::NoPrimal(bound) => put_no_primal(page, subject, *bound),
         _ => Ok(()),
     }
 }

@@ -1,0 +1,72 @@
+-- The constraints that an explanation names, as they are listed
+use Rattle.std.specs.Prelude.{ℕ, List, [], ◌++◌, ◌==◌, Option, Some, None, codes, decimal, find}
+use Rattle.std.specs.Prelude.{slice_get, option_map}
+use Rattle.vipr_spec.specs.Certificate as is
+use Rattle.vipr_spec.specs.Constraint as spec
+use Rattle.vipr_linear.specs.Constraint.{constraint_of}
+use Rattle.vipr_cert.specs.declared.items.Derivation.{Derivation}
+use Rattle.vipr_cert.specs.declared.items.Reason.{Reason}
+use Rattle.vipr_cert.specs.declared.items.Reason.TheVariants.{Asm, Lin, Rnd, Uns, Sol}
+use Rattle.vipr_explain.specs.Algebra.{algebra_text, shown_name}
+use Rattle.vipr_explain.specs.declared.items.ItemPlace.{ItemPlace}
+use Rattle.vipr_explain.specs.declared.items.Items.{Items}
+use Rattle.vipr_explain.specs.declared.items.Numbered.{Numbered}
+use Rattle.vipr_explain.specs.declared.shown.PlacedItems.{PlacedItems}
+
+-- the derivation of a constraint, if it was kept
+abbrev pub kept_derivation : List Numbered → ℕ → Option Derivation
+kept_derivation kept index = option_map (λ n. n.derivation) (find (λ n. n.index == index) kept)
+
+abbrev pub stated_or : Option (is.Named spec.Constraint) → Option Derivation
+    → Option spec.Constraint
+stated_or (Some named) kept = Some named.item
+stated_or None kept = option_map (λ d. constraint_of d.constraint) kept
+
+abbrev pub name_or : Option (is.Named spec.Constraint) → Option Derivation → Option (List ℕ)
+name_or (Some named) kept = Some named.name
+name_or None kept = option_map (λ d. d.name) kept
+
+-- a constraint of the problem, or one that was kept, and its name
+abbrev pub known_constraint : Items → ℕ → Option spec.Constraint
+known_constraint items index = stated_or (slice_get items.problem.constraints index)
+    (kept_derivation items.derivations.items index)
+
+abbrev pub known_name : Items → ℕ → Option (List ℕ)
+known_name items index = name_or (slice_get items.problem.constraints index)
+    (kept_derivation items.derivations.items index)
+
+-- the word of a reason
+abbrev pub word_of_reason : Reason → List ℕ
+word_of_reason Asm = codes "asm"
+word_of_reason (Lin entries) = codes "lin"
+word_of_reason (Rnd entries) = codes "rnd"
+word_of_reason (Uns i1 l1 i2 l2) = codes "uns"
+word_of_reason Sol = codes "sol"
+
+abbrev pub word_or_given : Option Derivation → List ℕ
+word_or_given (Some d) = word_of_reason d.reason
+word_or_given None = codes "given"
+
+-- the place of a constraint, if it was found
+abbrev pub place_found : List ItemPlace → ℕ → Option ItemPlace
+place_found places index = find (λ p. p.index == index) places
+
+-- what is left out where it isn't known
+abbrev pub name_part : Option (List ℕ) → List ℕ
+name_part (Some name) = shown_name name
+name_part None = []
+
+abbrev pub algebra_part : List (List ℕ) → Option spec.Constraint → List ℕ
+algebra_part names (Some c) = algebra_text names c
+algebra_part names None = []
+
+abbrev pub line_part : Option ItemPlace → List ℕ
+line_part (Some place) = codes "  (line " ++ (decimal place.spot.line ++ codes ")")
+line_part None = []
+
+-- a constraint: its index, its name, its algebra and its line
+abbrev pub listed_text : PlacedItems → ℕ → List ℕ
+listed_text known index = codes "[" ++ (decimal index ++ (codes "] "
+    ++ (name_part (known_name known.items index) ++ (codes "  "
+    ++ (algebra_part known.items.problem.names (known_constraint known.items index)
+    ++ line_part (place_found known.marks.items index))))))

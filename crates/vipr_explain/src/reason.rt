@@ -1,0 +1,308 @@
+//! The reason of a derivation, with the constraints that it refers to.
+ghost use Rattle.std.specs.Prelude.{◌≡◌, Some};
+ghost use Rattle.vipr_explain.specs.Steps.{is_at_fault};
+
+use crate::shown::{ListedConstraint, PlacedItems};
+use std::fmt;
+use std::fmt::{Display, Formatter, Write};
+use vipr_cert::Reason;
+use vipr_check::StepDetail;
+use vipr_frac::Frac;
+
+/// How many entries of a sum are shown.
+const MOST_ENTRIES: usize = 10;
+
+/// The reason of the derivation of a constraint, with what is known of it.
+#[derive(Clone, Copy)]
+pub(crate) struct ReasonLines<'a> {
+    pub(crate) known: &'a PlacedItems,
+    pub(crate) own: u32,
+    pub(crate) what: &'a StepDetail,
+    pub(crate) reason: &'a Reason,
+}
+
+impl Display for ReasonLines<'_> {
+    ghost use Rattle.vipr_explain.specs.Steps.{reason_text};
+
+    ghost output = { λ r. Some (reason_text r.known.now r.own r.what.now r.reason.now) };
+
+    fn fmt<W: Write>(&self, f: &mut Formatter<W>) -> fmt::Result {
+        match self.reason {
+            Reason::Lin(entries) => write!(f, "{}", self.sum("lin", entries.as_slice())),
+            Reason::Rnd(entries) => write!(f, "{}", self.sum("rnd", entries.as_slice())),
+            Reason::Uns { i1, l1, i2, l2 } => {
+                let first = JoinedBranch {
+                    known: self.known,
+                    own: self.own,
+                    label: "  case 1 gives ",
+                    index: *i1,
+                };
+                let second = JoinedBranch {
+                    known: self.known,
+                    own: self.own,
+                    label: "     assuming  ",
+                    index: *l1,
+                };
+                let third = JoinedBranch {
+                    known: self.known,
+                    own: self.own,
+                    label: "  case 2 gives ",
+                    index: *i2,
+                };
+                let fourth = JoinedBranch {
+                    known: self.known,
+                    own: self.own,
+                    label: "     assuming  ",
+                    index: *l2,
+                };
+                write!(f, "{first}{second}{third}{fourth}")
+            }
+            Reason::Asm => f.write_str("  its reason   asm\n"),
+            Reason::Sol => {
+                f.write_str("  its reason   sol, the cutoff at the best listed solution\n")
+            }
+        }
+    }
+}
+
+impl<'a> ReasonLines<'a> {
+    // A sum of these entries.
+    fn sum(&self, word: &'static str, entries: &'a [(u32, Frac)]) -> SumLines<'a>
+        ensures known { result.known.now ≡ self.now.known.now }
+        ensures own { result.own ≡ self.now.own }
+        ensures what { result.what.now ≡ self.now.what.now }
+        ensures word { result.word.now ≡ word.now }
+        ensures entries { result.entries.now ≡ entries.now }
+    {
+        SumLines {
+            known: self.known,
+            own: self.own,
+            what: self.what,
+            word,
+            entries,
+        }
+    }
+}
+
+// A sum, of which the first ten entries are shown, and the one at fault.
+#[derive(Clone, Copy)]
+struct SumLines<'a> {
+    known: &'a PlacedItems,
+    own: u32,
+    what: &'a StepDetail,
+    word: &'static str,
+    entries: &'a [(u32, Frac)],
+}
+
+impl Display for SumLines<'_> {
+    ghost use Rattle.vipr_explain.specs.Steps.{sum_text};
+
+    ghost output = { λ s. Some (sum_text s.known.now s.own s.what.now s.word.now s.entries.now) };
+
+    fn fmt<W: Write>(&self, f: &mut Formatter<W>) -> fmt::Result {
+        let word = self.word;
+        let count = self.entries.len();
+        let lines = EntryLines {
+            known: self.known,
+            own: self.own,
+            what: self.what,
+            entries: self.entries,
+        };
+        write!(f, "  its reason   {word} of {count}:\n{lines}")
+    }
+}
+
+// The entries of a sum.
+#[derive(Clone, Copy)]
+struct EntryLines<'a> {
+    known: &'a PlacedItems,
+    own: u32,
+    what: &'a StepDetail,
+    entries: &'a [(u32, Frac)],
+}
+
+impl Display for EntryLines<'_> {
+    ghost use Rattle.std.specs.Prelude.{flat_map, length};
+    ghost use Rattle.std.specs.List.{enumerate_from};
+    ghost use Rattle.vipr_explain.specs.Steps.{numbered_line};
+
+    ghost output = { λ s. Some (flat_map
+        (numbered_line s.known.now s.own s.what.now (length s.entries.now))
+        (enumerate_from 0 s.entries.now)) };
+
+    fn fmt<W: Write>(&self, f: &mut Formatter<W>) -> fmt::Result {
+        let count = self.entries.len();
+        for (position, entry) in self.entries.iter().enumerate() {
+            let rest = MoreEntries { count, position };
+            let line = EntryLine {
+                known: self.known,
+                own: self.own,
+                what: self.what,
+                position,
+                entry: *entry,
+            };
+            write!(f, "{rest}{line}")?;
+        }
+        Ok(())
+    }
+}
+
+// How many entries a sum has that isn't shown whole, in place of the eleventh.
+#[derive(Clone, Copy)]
+struct MoreEntries {
+    count: usize,
+    position: usize,
+}
+
+impl Display for MoreEntries {
+    ghost use Rattle.vipr_explain.specs.Steps.{more_entries};
+
+    ghost output = { λ m. Some (more_entries m.count m.position) };
+
+    fn fmt<W: Write>(&self, f: &mut Formatter<W>) -> fmt::Result {
+        let count = self.count;
+        if self.position == MOST_ENTRIES {
+            write!(f, "      .. ({count} entries)\n")
+        } else {
+            Ok(())
+        }
+    }
+}
+
+// An entry of a sum.
+#[derive(Clone, Copy)]
+struct EntryLine<'a> {
+    known: &'a PlacedItems,
+    own: u32,
+    what: &'a StepDetail,
+    position: usize,
+    entry: (u32, Frac),
+}
+
+impl Display for EntryLine<'_> {
+    ghost use Rattle.vipr_explain.specs.Steps.{entry_line};
+
+    ghost output = { λ e. Some (entry_line e.known.now e.own e.what.now e.position e.entry) };
+
+    fn fmt<W: Write>(&self, f: &mut Formatter<W>) -> fmt::Result {
+        let position = self.position;
+        let (index, multiplier) = self.entry;
+        let is_at_fault = is_entry_at_fault(position, index, self.what);
+        let constraint = Referred {
+            known: self.known,
+            own: self.own,
+            index,
+        };
+        let arrow = Arrow {
+            is_at_fault,
+            position,
+        };
+        if position < MOST_ENTRIES || is_at_fault {
+            write!(f, "      {multiplier} x {constraint}{arrow}")
+        } else {
+            Ok(())
+        }
+    }
+}
+
+// The end of an entry's line.
+#[derive(Clone, Copy)]
+struct Arrow {
+    is_at_fault: bool,
+    position: usize,
+}
+
+impl Display for Arrow {
+    ghost use Rattle.vipr_explain.specs.Steps.{arrow_text};
+
+    ghost output = { λ a. Some (arrow_text a.is_at_fault a.position) };
+
+    fn fmt<W: Write>(&self, f: &mut Formatter<W>) -> fmt::Result {
+        let position = self.position;
+        if self.is_at_fault {
+            write!(f, " <-- entry {position}\n")
+        } else {
+            f.write_str("\n")
+        }
+    }
+}
+
+// A constraint of a join.
+#[derive(Clone, Copy)]
+struct JoinedBranch<'a> {
+    known: &'a PlacedItems,
+    own: u32,
+    label: &'static str,
+    index: u32,
+}
+
+impl Display for JoinedBranch<'_> {
+    ghost use Rattle.vipr_explain.specs.Steps.{branch_text};
+
+    ghost output = { λ b. Some (branch_text b.known.now b.own b.label.now b.index) };
+
+    fn fmt<W: Write>(&self, f: &mut Formatter<W>) -> fmt::Result {
+        let label = self.label;
+        let constraint = Referred {
+            known: self.known,
+            own: self.own,
+            index: self.index,
+        };
+        let word = self.known.items.reason_word(self.index);
+        write!(f, "{label}{constraint} {word}\n")
+    }
+}
+
+// A constraint that a derivation refers to.
+#[derive(Clone, Copy)]
+struct Referred<'a> {
+    known: &'a PlacedItems,
+    own: u32,
+    index: u32,
+}
+
+impl Display for Referred<'_> {
+    ghost use Rattle.vipr_explain.specs.Steps.{referred_text};
+
+    ghost output = { λ r. Some (referred_text r.known.now r.own r.index) };
+
+    fn fmt<W: Write>(&self, f: &mut Formatter<W>) -> fmt::Result {
+        let known = self.known;
+        let index = self.index;
+        if index < self.own {
+            write!(f, "{}", ListedConstraint { known, index })
+        } else {
+            write!(f, "{}", NotBefore(index))
+        }
+    }
+}
+
+// A constraint that isn't before a derivation.
+#[derive(Clone, Copy)]
+struct NotBefore(u32);
+
+impl Display for NotBefore {
+    ghost use Rattle.vipr_explain.specs.Steps.{not_before};
+
+    ghost output = { λ s. Some (not_before s.0) };
+
+    fn fmt<W: Write>(&self, f: &mut Formatter<W>) -> fmt::Result {
+        write!(f, "[{}], which is not before this derivation", self.0)
+    }
+}
+
+/// Whether an entry of a sum is shown: the first ten, and the one at fault.
+pub(crate) fn is_entry_shown(position: usize, index: u32, what: &StepDetail) -> bool {
+    position < MOST_ENTRIES || is_entry_at_fault(position, index, what)
+}
+
+// Whether an entry of a sum is the one at fault.
+fn is_entry_at_fault(position: usize, index: u32, what: &StepDetail) -> bool
+    ensures { result ≡ is_at_fault what.now position index }
+{
+    match what {
+        StepDetail::Entry(entry) => *entry as usize == position,
+        StepDetail::Index(constraint) => *constraint == index,
+        _ => false,
+    }
+}
