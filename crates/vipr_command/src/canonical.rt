@@ -9,6 +9,7 @@ ghost use Rattle.vipr_command.specs.Spelling.{BeginsText, Appends, Respells, Res
 
 use std::alloc::Global;
 use vipr_bytes::Source;
+use vipr_cert::Derivation;
 use vipr_read::{CertReader, Derivations, Solutions};
 use vipr_scan::TextError;
 use vipr_write::{CompactText, Form};
@@ -98,11 +99,12 @@ fn derivation_lines<R: Source>(
         → Appends (derivation_read p) end_read (derivation_words_in text.form text.objective)
         derivations.old derivations.new text (λ t. t) result }
 {
-    while let Some(derivation) = derivations.next(alloc)? {
-        let longer = text.derivation(&derivation);
-        // Dropped at this one place, whatever was answered.
-        drop(derivation);
-        text = longer?;
+    let mut derivation = Derivation::blank(alloc);
+    'lines: loop {
+        let found = derivations.next_into(alloc, &mut derivation)?;
+        if !found {
+            return Ok(text);
+        }
+        text = text.derivation(&derivation)?;
     }
-    Ok(text)
 }

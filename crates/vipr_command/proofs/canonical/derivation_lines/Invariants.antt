@@ -6,11 +6,11 @@ use Rattle.vipr_write.specs.Forms.{derivation_words_in}
 use Rattle.vipr_command.specs.Spelling.{HasAppended}
 use Rattle.vipr_command.proofs.canonical.derivation_lines.Given as goal
 
-abbrev pub invariant-loop-text : goal.invariant-loop-text
-invariant-loop-text g l = record {
+abbrev pub invariant-lines : goal.invariant-lines
+invariant-lines g l = record {
   working : l.derivations.failed ≡ false;
   lines : (p : Problem) → Knows l.initial.derivations p → HasAppended (derivation_read p) (derivation_words_in l.initial.text.form l.initial.text.objective) l.initial.derivations l.derivations l.initial.text l.text;
 }
 
-abbrev pub decreases-loop-text : goal.decreases-loop-text
-decreases-loop-text g l = l.derivations.left
+abbrev pub decreases-lines : goal.decreases-lines
+decreases-lines g l = l.derivations.left
