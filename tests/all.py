@@ -3,8 +3,9 @@
 
 usage: tests/all.py [--anew]
 
-First `rt ci`: every proof, the must-fail edits, the tests. It proves from nothing what no earlier run of
-it passed on this machine, and everything with --anew. Then each script of SCRIPTS, which counts as one. Prints
+First `rt ci`: every proof, the must-fail edits, the tests. A kit whose `rt ci` knows --anew takes over what an earlier
+run of it passed on this machine, and nothing with --anew; other kits prove everything each time, and --anew isn't handed
+on to them. Then each script of SCRIPTS, which counts as one. Prints
 what each took, and what of the processor time went into each crate's proof, tests and edits, found by looking at the
 processes once a second. The last line is `N passed, M failed`; the exit status is 1 if one failed. `tests/gate.py`
 makes a page of this output.
@@ -121,6 +122,12 @@ class Watch:
             yield f'{crate}: {parts} minutes of processor time'
 
 
+def ci_words():
+    """The first step's command, with this script's words if the toolchain knows them."""
+    said = subprocess.run([RT, 'help'], capture_output=True, text=True, check=False)
+    return [RT, 'ci', *(word for word in sys.argv[1:] if word in said.stdout + said.stderr)]
+
+
 def spent():
     usage = resource.getrusage(resource.RUSAGE_CHILDREN)
     return usage.ru_utime + usage.ru_stime
@@ -143,7 +150,7 @@ def timed(words):
 def main():
     print(*machine(), sep='\n', flush=True)
     with Watch() as watch:
-        last, status = timed([RT, 'ci', *sys.argv[1:]])
+        last, status = timed(ci_words())
     print(*watch.lines(), sep='\n', flush=True)
     counted = re.fullmatch(r'(\d+) passed, (\d+) failed', last)
     passed, failed = map(int, counted.groups()) if counted else (0, 1)
