@@ -5,6 +5,7 @@ ghost use Rattle.vipr_spec.specs.Tokens.{Begins, IsWhite, is_cut, is_white, run,
 ghost use Rattle.vipr_spec.specs.Tokens.{token_here, tokens, tokens_after_front, tokens_from};
 
 /// One text and its tokens.
+#[tactic(auto, unfolding(vipr_spec::specs::Tokens::tokens_from, vipr_spec::specs::Tokens::tokens_after_front, vipr_spec::specs::Tokens::is_white, vipr_spec::specs::Tokens::token_here, vipr_spec::specs::Tokens::is_cut))]
 pub fn split()
     ensures is_white_is { (is_white 32 ≡ true) × (is_white 86 ≡ false) }
     ensures run_is { run (codes "VER 1.0") ≡ codes "VER" }

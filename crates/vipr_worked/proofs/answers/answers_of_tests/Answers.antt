@@ -17,26 +17,13 @@ use Rattle.vipr_spec.specs.Tokens.{is_cut, is_white, token_here, tokens_after_fr
 use Rattle.vipr_spec.specs.Verdict.{found_in, items_read}
 use Rattle.vipr_worked.proofs.answers.answers_of_tests.Goals as goal
 
-pub returns-clause-answer_of_test_is : goal.returns-clause-answer_of_test_is
+pub returns : goal.returns
 unfolding gcd over ◌+ℚ◌ ◌*ℚ◌ tokens_from tokens_after_front is_white token_here is_cut natural_after natural_of number_read count_of derivation_count_of variable_of new_variable_of reference_of last_of bound_of spelled_sense spelled_direction has_range_of rule_of first_token read_each pair_read pairs_read counted_read vector_read row_read constraint_read version_read names_read integers_read objective_read constraints_read range_read claim_read problem_read solution_read derivations_read entry_read entries_read by_read reason_read derivation_read end_of entry_tests items_read numbered_tests found_in
-returns-clause-answer_of_test_is c = refl
-
-pub returns-clause-last_tests_is : goal.returns-clause-last_tests_is
-unfolding gcd over ◌+ℚ◌ ◌*ℚ◌ tokens_from tokens_after_front is_white token_here is_cut natural_after natural_of number_read count_of derivation_count_of variable_of new_variable_of reference_of last_of bound_of spelled_sense spelled_direction has_range_of rule_of first_token read_each pair_read pairs_read counted_read vector_read row_read constraint_read version_read names_read integers_read objective_read constraints_read range_read claim_read problem_read solution_read derivations_read entry_read entries_read by_read reason_read derivation_read end_of entry_tests items_read numbered_tests found_in
-returns-clause-last_tests_is c = (refl, refl)
-
-pub returns-clause-items_read_is : goal.returns-clause-items_read_is
-unfolding gcd over ◌+ℚ◌ ◌*ℚ◌ tokens_from tokens_after_front is_white token_here is_cut natural_after natural_of number_read count_of derivation_count_of variable_of new_variable_of reference_of last_of bound_of spelled_sense spelled_direction has_range_of rule_of first_token read_each pair_read pairs_read counted_read vector_read row_read constraint_read version_read names_read integers_read objective_read constraints_read range_read claim_read problem_read solution_read derivations_read entry_read entries_read by_read reason_read derivation_read end_of entry_tests items_read numbered_tests found_in
-returns-clause-items_read_is c = refl
-
-pub returns-clause-found_in_is : goal.returns-clause-found_in_is
-unfolding gcd over ◌+ℚ◌ ◌*ℚ◌ tokens_from tokens_after_front is_white token_here is_cut natural_after natural_of number_read count_of derivation_count_of variable_of new_variable_of reference_of last_of bound_of spelled_sense spelled_direction has_range_of rule_of first_token read_each pair_read pairs_read counted_read vector_read row_read constraint_read version_read names_read integers_read objective_read constraints_read range_read claim_read problem_read solution_read derivations_read entry_read entries_read by_read reason_read derivation_read end_of entry_tests items_read numbered_tests found_in
-returns-clause-found_in_is c = refl
-
-pub returns-clause-name_at_is : goal.returns-clause-name_at_is
-unfolding gcd over ◌+ℚ◌ ◌*ℚ◌ tokens_from tokens_after_front is_white token_here is_cut natural_after natural_of number_read count_of derivation_count_of variable_of new_variable_of reference_of last_of bound_of spelled_sense spelled_direction has_range_of rule_of first_token read_each pair_read pairs_read counted_read vector_read row_read constraint_read version_read names_read integers_read objective_read constraints_read range_read claim_read problem_read solution_read derivations_read entry_read entries_read by_read reason_read derivation_read end_of entry_tests items_read numbered_tests found_in
-returns-clause-name_at_is c = (refl, refl)
-
-pub returns-clause-finite_primal_is : goal.returns-clause-finite_primal_is
-unfolding gcd over ◌+ℚ◌ ◌*ℚ◌ tokens_from tokens_after_front is_white token_here is_cut natural_after natural_of number_read count_of derivation_count_of variable_of new_variable_of reference_of last_of bound_of spelled_sense spelled_direction has_range_of rule_of first_token read_each pair_read pairs_read counted_read vector_read row_read constraint_read version_read names_read integers_read objective_read constraints_read range_read claim_read problem_read solution_read derivations_read entry_read entries_read by_read reason_read derivation_read end_of entry_tests items_read numbered_tests found_in
-returns-clause-finite_primal_is c = refl
+returns c = record {
+  answer_of_test_is = refl;
+  last_tests_is = (refl, refl);
+  items_read_is = refl;
+  found_in_is = refl;
+  name_at_is = (refl, refl);
+  finite_primal_is = refl;
+}

@@ -2,10 +2,9 @@ use Rattle.std.proofs.Common.{refl}
 use Rattle.vipr_spec.specs.Gcd.{gcd}
 use Rattle.vipr_worked.proofs.fractions.divisors.Goals as goal
 
-pub returns-clause-euclid_is : goal.returns-clause-euclid_is
+pub returns : goal.returns
 unfolding gcd
-returns-clause-euclid_is c = refl
-
-pub returns-clause-gcd_is : goal.returns-clause-gcd_is
-unfolding gcd
-returns-clause-gcd_is c = (refl, refl)
+returns c = record {
+  euclid_is = refl;
+  gcd_is = (refl, refl);
+}

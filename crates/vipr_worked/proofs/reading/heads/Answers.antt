@@ -12,46 +12,18 @@ use Rattle.vipr_spec.specs.Reading.{vector_read, version_read}
 use Rattle.vipr_spec.specs.Tokens.{is_cut, is_white, token_here, tokens_after_front, tokens_from}
 use Rattle.vipr_worked.proofs.reading.heads.Goals as goal
 
-pub returns-clause-first_token_is : goal.returns-clause-first_token_is
+pub returns : goal.returns
 unfolding gcd over ◌+ℚ◌ ◌*ℚ◌ tokens_from tokens_after_front is_white token_here is_cut natural_after natural_of number_read count_of variable_of new_variable_of bound_of spelled_sense spelled_direction has_range_of first_token read_each pair_read pairs_read counted_read vector_read row_read constraint_read version_read names_read integers_read objective_read constraints_read range_read claim_read problem_read
-returns-clause-first_token_is c = refl
-
-pub returns-clause-keyword_read_is : goal.returns-clause-keyword_read_is
-unfolding gcd over ◌+ℚ◌ ◌*ℚ◌ tokens_from tokens_after_front is_white token_here is_cut natural_after natural_of number_read count_of variable_of new_variable_of bound_of spelled_sense spelled_direction has_range_of first_token read_each pair_read pairs_read counted_read vector_read row_read constraint_read version_read names_read integers_read objective_read constraints_read range_read claim_read problem_read
-returns-clause-keyword_read_is c = refl
-
-pub returns-clause-token_of_is : goal.returns-clause-token_of_is
-unfolding gcd over ◌+ℚ◌ ◌*ℚ◌ tokens_from tokens_after_front is_white token_here is_cut natural_after natural_of number_read count_of variable_of new_variable_of bound_of spelled_sense spelled_direction has_range_of first_token read_each pair_read pairs_read counted_read vector_read row_read constraint_read version_read names_read integers_read objective_read constraints_read range_read claim_read problem_read
-returns-clause-token_of_is c = refl
-
-pub returns-clause-version_read_is : goal.returns-clause-version_read_is
-unfolding gcd over ◌+ℚ◌ ◌*ℚ◌ tokens_from tokens_after_front is_white token_here is_cut natural_after natural_of number_read count_of variable_of new_variable_of bound_of spelled_sense spelled_direction has_range_of first_token read_each pair_read pairs_read counted_read vector_read row_read constraint_read version_read names_read integers_read objective_read constraints_read range_read claim_read problem_read
-returns-clause-version_read_is c = refl
-
-pub returns-clause-names_read_is : goal.returns-clause-names_read_is
-unfolding gcd over ◌+ℚ◌ ◌*ℚ◌ tokens_from tokens_after_front is_white token_here is_cut natural_after natural_of number_read count_of variable_of new_variable_of bound_of spelled_sense spelled_direction has_range_of first_token read_each pair_read pairs_read counted_read vector_read row_read constraint_read version_read names_read integers_read objective_read constraints_read range_read claim_read problem_read
-returns-clause-names_read_is c = refl
-
-pub returns-clause-integers_read_is : goal.returns-clause-integers_read_is
-unfolding gcd over ◌+ℚ◌ ◌*ℚ◌ tokens_from tokens_after_front is_white token_here is_cut natural_after natural_of number_read count_of variable_of new_variable_of bound_of spelled_sense spelled_direction has_range_of first_token read_each pair_read pairs_read counted_read vector_read row_read constraint_read version_read names_read integers_read objective_read constraints_read range_read claim_read problem_read
-returns-clause-integers_read_is c = refl
-
-pub returns-clause-objective_read_is : goal.returns-clause-objective_read_is
-unfolding gcd over ◌+ℚ◌ ◌*ℚ◌ tokens_from tokens_after_front is_white token_here is_cut natural_after natural_of number_read count_of variable_of new_variable_of bound_of spelled_sense spelled_direction has_range_of first_token read_each pair_read pairs_read counted_read vector_read row_read constraint_read version_read names_read integers_read objective_read constraints_read range_read claim_read problem_read
-returns-clause-objective_read_is c = refl
-
-pub returns-clause-constraints_read_is : goal.returns-clause-constraints_read_is
-unfolding gcd over ◌+ℚ◌ ◌*ℚ◌ tokens_from tokens_after_front is_white token_here is_cut natural_after natural_of number_read count_of variable_of new_variable_of bound_of spelled_sense spelled_direction has_range_of first_token read_each pair_read pairs_read counted_read vector_read row_read constraint_read version_read names_read integers_read objective_read constraints_read range_read claim_read problem_read
-returns-clause-constraints_read_is c = refl
-
-pub returns-clause-range_read_is : goal.returns-clause-range_read_is
-unfolding gcd over ◌+ℚ◌ ◌*ℚ◌ tokens_from tokens_after_front is_white token_here is_cut natural_after natural_of number_read count_of variable_of new_variable_of bound_of spelled_sense spelled_direction has_range_of first_token read_each pair_read pairs_read counted_read vector_read row_read constraint_read version_read names_read integers_read objective_read constraints_read range_read claim_read problem_read
-returns-clause-range_read_is c = refl
-
-pub returns-clause-claim_read_is : goal.returns-clause-claim_read_is
-unfolding gcd over ◌+ℚ◌ ◌*ℚ◌ tokens_from tokens_after_front is_white token_here is_cut natural_after natural_of number_read count_of variable_of new_variable_of bound_of spelled_sense spelled_direction has_range_of first_token read_each pair_read pairs_read counted_read vector_read row_read constraint_read version_read names_read integers_read objective_read constraints_read range_read claim_read problem_read
-returns-clause-claim_read_is c = refl
-
-pub returns-clause-problem_read_is : goal.returns-clause-problem_read_is
-unfolding gcd over ◌+ℚ◌ ◌*ℚ◌ tokens_from tokens_after_front is_white token_here is_cut natural_after natural_of number_read count_of variable_of new_variable_of bound_of spelled_sense spelled_direction has_range_of first_token read_each pair_read pairs_read counted_read vector_read row_read constraint_read version_read names_read integers_read objective_read constraints_read range_read claim_read problem_read
-returns-clause-problem_read_is c = refl
+returns c = record {
+  first_token_is = refl;
+  keyword_read_is = refl;
+  token_of_is = refl;
+  version_read_is = refl;
+  names_read_is = refl;
+  integers_read_is = refl;
+  objective_read_is = refl;
+  constraints_read_is = refl;
+  range_read_is = refl;
+  claim_read_is = refl;
+  problem_read_is = refl;
+}

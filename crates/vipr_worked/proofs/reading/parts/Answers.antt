@@ -9,30 +9,14 @@ use Rattle.vipr_spec.specs.Reading.{spelled_sense, variable_of, vector_read}
 use Rattle.vipr_spec.specs.Tokens.{is_cut, is_white, token_here, tokens_after_front, tokens_from}
 use Rattle.vipr_worked.proofs.reading.parts.Goals as goal
 
-pub returns-clause-pair_read_is : goal.returns-clause-pair_read_is
+pub returns : goal.returns
 unfolding gcd over ◌+ℚ◌ ◌*ℚ◌ tokens_from tokens_after_front is_white token_here is_cut natural_after natural_of number_read count_of variable_of new_variable_of spelled_sense first_token pair_read pairs_read counted_read vector_read row_read constraint_read solution_read
-returns-clause-pair_read_is c = refl
-
-pub returns-clause-pairs_read_is : goal.returns-clause-pairs_read_is
-unfolding gcd over ◌+ℚ◌ ◌*ℚ◌ tokens_from tokens_after_front is_white token_here is_cut natural_after natural_of number_read count_of variable_of new_variable_of spelled_sense first_token pair_read pairs_read counted_read vector_read row_read constraint_read solution_read
-returns-clause-pairs_read_is c = refl
-
-pub returns-clause-counted_read_is : goal.returns-clause-counted_read_is
-unfolding gcd over ◌+ℚ◌ ◌*ℚ◌ tokens_from tokens_after_front is_white token_here is_cut natural_after natural_of number_read count_of variable_of new_variable_of spelled_sense first_token pair_read pairs_read counted_read vector_read row_read constraint_read solution_read
-returns-clause-counted_read_is c = refl
-
-pub returns-clause-vector_read_is : goal.returns-clause-vector_read_is
-unfolding gcd over ◌+ℚ◌ ◌*ℚ◌ tokens_from tokens_after_front is_white token_here is_cut natural_after natural_of number_read count_of variable_of new_variable_of spelled_sense first_token pair_read pairs_read counted_read vector_read row_read constraint_read solution_read
-returns-clause-vector_read_is c = refl
-
-pub returns-clause-row_read_is : goal.returns-clause-row_read_is
-unfolding gcd over ◌+ℚ◌ ◌*ℚ◌ tokens_from tokens_after_front is_white token_here is_cut natural_after natural_of number_read count_of variable_of new_variable_of spelled_sense first_token pair_read pairs_read counted_read vector_read row_read constraint_read solution_read
-returns-clause-row_read_is c = refl
-
-pub returns-clause-constraint_read_is : goal.returns-clause-constraint_read_is
-unfolding gcd over ◌+ℚ◌ ◌*ℚ◌ tokens_from tokens_after_front is_white token_here is_cut natural_after natural_of number_read count_of variable_of new_variable_of spelled_sense first_token pair_read pairs_read counted_read vector_read row_read constraint_read solution_read
-returns-clause-constraint_read_is c = refl
-
-pub returns-clause-solution_read_is : goal.returns-clause-solution_read_is
-unfolding gcd over ◌+ℚ◌ ◌*ℚ◌ tokens_from tokens_after_front is_white token_here is_cut natural_after natural_of number_read count_of variable_of new_variable_of spelled_sense first_token pair_read pairs_read counted_read vector_read row_read constraint_read solution_read
-returns-clause-solution_read_is c = refl
+returns c = record {
+  pair_read_is = refl;
+  pairs_read_is = refl;
+  counted_read_is = refl;
+  vector_read_is = refl;
+  row_read_is = refl;
+  constraint_read_is = refl;
+  solution_read_is = refl;
+}

@@ -11,30 +11,14 @@ use Rattle.vipr_spec.specs.Reading.{row_read, rule_of, spelled_sense, variable_o
 use Rattle.vipr_spec.specs.Tokens.{is_cut, is_white, token_here, tokens_after_front, tokens_from}
 use Rattle.vipr_worked.proofs.reading.steps.Goals as goal
 
-pub returns-clause-derivations_read_is : goal.returns-clause-derivations_read_is
+pub returns : goal.returns
 unfolding gcd over ◌+ℚ◌ ◌*ℚ◌ tokens_from tokens_after_front is_white token_here is_cut natural_after natural_of number_read count_of derivation_count_of variable_of new_variable_of reference_of last_of spelled_sense rule_of first_token read_each pair_read pairs_read counted_read row_read constraint_read derivations_read entry_read entries_read by_read reason_read derivation_read end_of
-returns-clause-derivations_read_is c = refl
-
-pub returns-clause-entry_read_is : goal.returns-clause-entry_read_is
-unfolding gcd over ◌+ℚ◌ ◌*ℚ◌ tokens_from tokens_after_front is_white token_here is_cut natural_after natural_of number_read count_of derivation_count_of variable_of new_variable_of reference_of last_of spelled_sense rule_of first_token read_each pair_read pairs_read counted_read row_read constraint_read derivations_read entry_read entries_read by_read reason_read derivation_read end_of
-returns-clause-entry_read_is c = refl
-
-pub returns-clause-entries_read_is : goal.returns-clause-entries_read_is
-unfolding gcd over ◌+ℚ◌ ◌*ℚ◌ tokens_from tokens_after_front is_white token_here is_cut natural_after natural_of number_read count_of derivation_count_of variable_of new_variable_of reference_of last_of spelled_sense rule_of first_token read_each pair_read pairs_read counted_read row_read constraint_read derivations_read entry_read entries_read by_read reason_read derivation_read end_of
-returns-clause-entries_read_is c = refl
-
-pub returns-clause-by_read_is : goal.returns-clause-by_read_is
-unfolding gcd over ◌+ℚ◌ ◌*ℚ◌ tokens_from tokens_after_front is_white token_here is_cut natural_after natural_of number_read count_of derivation_count_of variable_of new_variable_of reference_of last_of spelled_sense rule_of first_token read_each pair_read pairs_read counted_read row_read constraint_read derivations_read entry_read entries_read by_read reason_read derivation_read end_of
-returns-clause-by_read_is c = refl
-
-pub returns-clause-reason_read_is : goal.returns-clause-reason_read_is
-unfolding gcd over ◌+ℚ◌ ◌*ℚ◌ tokens_from tokens_after_front is_white token_here is_cut natural_after natural_of number_read count_of derivation_count_of variable_of new_variable_of reference_of last_of spelled_sense rule_of first_token read_each pair_read pairs_read counted_read row_read constraint_read derivations_read entry_read entries_read by_read reason_read derivation_read end_of
-returns-clause-reason_read_is c = refl
-
-pub returns-clause-derivation_read_is : goal.returns-clause-derivation_read_is
-unfolding gcd over ◌+ℚ◌ ◌*ℚ◌ tokens_from tokens_after_front is_white token_here is_cut natural_after natural_of number_read count_of derivation_count_of variable_of new_variable_of reference_of last_of spelled_sense rule_of first_token read_each pair_read pairs_read counted_read row_read constraint_read derivations_read entry_read entries_read by_read reason_read derivation_read end_of
-returns-clause-derivation_read_is c = refl
-
-pub returns-clause-end_read_is : goal.returns-clause-end_read_is
-unfolding gcd over ◌+ℚ◌ ◌*ℚ◌ tokens_from tokens_after_front is_white token_here is_cut natural_after natural_of number_read count_of derivation_count_of variable_of new_variable_of reference_of last_of spelled_sense rule_of first_token read_each pair_read pairs_read counted_read row_read constraint_read derivations_read entry_read entries_read by_read reason_read derivation_read end_of
-returns-clause-end_read_is c = (refl, refl)
+returns c = record {
+  derivations_read_is = refl;
+  entry_read_is = refl;
+  entries_read_is = refl;
+  by_read_is = refl;
+  reason_read_is = refl;
+  derivation_read_is = refl;
+  end_read_is = (refl, refl);
+}
