@@ -61,6 +61,23 @@ pub passed-on : (x : ℚ) (p : ℤ) (q : ℕ) → p ≡ x.numer → q ≡ x.deno
     → over (to_z w128 (of_z w128 p)) q ≡ x
 passed-on x p q e f h = rw (as-is p h.numer_bounded, e, f) (over-self x)
 
+-- a fraction that is made of parts
+pub made-of : (x : ℚ) (p : ℤ) (q : ℕ) → x ≡ over (to_z w128 (of_z w128 p)) q → IsReduced p q
+    → x ≡ over p q
+made-of x p q e h = e ∙ ap (λ z. over z q) (as-is p h.numer_bounded)
+
+-- a whole number, by its parts
+pub record WholeFacts (x : ℚ) (p : ℤ) : Type 0 where
+  pub back : to_z w128 (of_z w128 p) ≡ x.numer
+  pub whole : x.denom ≡ 1
+  pub bounded : IsBounded x
+
+pub whole_facts : (x : ℚ) (p : ℤ) (q : ℕ) → p ≡ x.numer → q ≡ x.denom → IsReduced p q → q ≡ 1
+    → WholeFacts x p
+whole_facts x p q e f h one =
+    let known : Facts x p q = facts_of x p q e f h in
+    record { back = known.back; whole = sym known.denom ∙ one; bounded = known.bounded }
+
 -- reduction keeps the bound
 pub IsReduced-over : (p : ℤ) (q : ℕ) → 0 < q → unsigned_abs p ≤ most → q ≤ most
     → IsReduced (over p q).numer (over p q).denom

@@ -1,7 +1,7 @@
 -- Laws: the lemmas that other crates may cite, by the file that proves them
 
 -- Lists of pairs as rows
-pub use Rattle.vipr_linear.proofs.Rows.{zero_test}
+pub use Rattle.vipr_linear.proofs.Rows.{same_entry, zero_test}
 -- A rising list of variables, as a set
 pub use Rattle.vipr_linear.proofs.Sets.{member}
 -- A row's entries, and its coefficients

@@ -25,6 +25,10 @@ use Rattle.vipr_linear.specs.Accumulator.{with_term, with_terms, TermsFitIn}
 use Rattle.vipr_linear.specs.Touched.{Touching, Covers, AreTouched, AreCovered}
 use Rattle.vipr_linear.proofs.Rows.{nothing_distinct}
 
+-- a place in a list is one in its view
+pub also_within : {xs ys : List ℚ} {i : ℕ} → xs ≡ ys → i < length ys → i < length xs
+also_within {xs} {ys} {i} e h = subst (λ l. i < length l) (sym e) h
+
 pub marked_below : (marks : List Bool) (j : ℕ) → get_or marks j false ≡ true → j < length marks
 marked_below marks j t = elim (cases_lt j (length marks)) [ inl l ↦ l | inr past ↦ absurd (let e = get_or_past marks j false past in cc) ]
 

@@ -290,7 +290,7 @@ unfolding IsDistinct
 nothing_distinct = tt
 
 -- ---- rows that are the same
-same_entry : (a b : ℕ × ℚ) → Decides (nat_eq a.0 b.0 && eq_ℚ a.1 b.1) (a ≡ b)
+pub same_entry : (a b : ℕ × ℚ) → Decides (nat_eq a.0 b.0 && eq_ℚ a.1 b.1) (a ≡ b)
 same_entry a b = (there (nat_eq a.0 b.0) refl, back)
   where
     there : (t : Bool) → nat_eq a.0 b.0 ≡ t → (t && eq_ℚ a.1 b.1) ≡ true → a ≡ b

@@ -76,7 +76,7 @@ pub use Rattle.vipr_spec.proofs.TightPeak.{tight_counts, tight_peak}
 -- Laws of the tokens of a text
 pub use Rattle.vipr_spec.proofs.TokenLaws.{run_from, token_cut, token_long, token_whole}
 -- The tokens of a text are the one list that it is made up of
-pub use Rattle.vipr_spec.proofs.TokenSplit.{split_is}
+pub use Rattle.vipr_spec.proofs.TokenSplit.{first_white, split_is}
 -- A text is verified exactly where it is read as a proof
 pub use Rattle.vipr_spec.proofs.WholeText.{ended, found_read, proof_answered, repeated_is}
 pub use Rattle.vipr_spec.proofs.WholeText.{verified_read, verified_text}

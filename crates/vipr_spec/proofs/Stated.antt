@@ -4,7 +4,7 @@ use Rattle.vipr_spec.specs.Constraint.{Row}
 use Rattle.vipr_spec.specs.Tokens.{text_tokens}
 use Rattle.vipr_spec.specs.Certificate.{Named, Problem, variables, Certificate}
 use Rattle.vipr_spec.specs.Reading.{Rest, Read, ◌>>=◌, read_each, problem_read, solution_read}
-use Rattle.vipr_spec.specs.Grammar.{one, ◌then◌, problem, solution, solutions, Spells}
+use Rattle.vipr_spec.specs.Grammar.{◌then◌, problem, solution, solutions, Spells}
 use Rattle.vipr_spec.specs.GrammarLaws.{ReadsFront, whole_text}
 use Rattle.vipr_spec.specs.Stated.{States, StatesOnly}
 use Rattle.vipr_spec.proofs.GrammarSteps.{ok_then, same_ok, read_then, parted}

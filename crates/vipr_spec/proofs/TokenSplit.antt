@@ -27,7 +27,7 @@ skip_white offset (b ∷ bs) xs white =
     let e : offset + 1 + length bs ≡ offset + length (b ∷ bs) = omega arith in
     rw (w, ← e) (skip_white (offset + 1) bs xs (tail_all IsWhite b bs white))
 
-first_white : (bytes after : List ℕ) → Begins IsWhite after → length bytes < length (bytes ++ after)
+pub first_white : (bytes after : List ℕ) → Begins IsWhite after → length bytes < length (bytes ++ after)
     → is_white (get_or (bytes ++ after) (length bytes) 0) ≡ true
 first_white bytes [] begins lt = absurd (omega (arith, length-append bytes []))
 first_white bytes (b ∷ bs) begins lt =

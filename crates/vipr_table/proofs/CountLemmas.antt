@@ -40,7 +40,7 @@ other : (q k : ℕ) → k < q → nat_eq q k ≡ false
 other q k h = grind (arith, nat_tests)
 
 module _ {X : Type 0} where
-  some_held : (m : FinMap nat_cmp X) (i : ℕ) (b : Bool) → contains_key m i ≡ b → cond b 1 0 ≤ len m
+  pub some_held : (m : FinMap nat_cmp X) (i : ℕ) (b : Bool) → contains_key m i ≡ b → cond b 1 0 ≤ len m
   some_held m i false e = omega arith
   some_held m i true e =
       elim (cases_lt 0 (len m)) [

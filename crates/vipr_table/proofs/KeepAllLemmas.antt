@@ -2,13 +2,12 @@
 use Rattle.std.proofs.Common.{◌≡◌, ℕ, zero, suc, ◌+◌, ◌-◌, ◌<◌, ◌≤◌, Bool, true, false, cond}
 use Rattle.std.proofs.Common.{nat_eq, Option, Some, None, is_some, slice_get, List, [], ◌∷◌, ◌++◌}
 use Rattle.std.proofs.Common.{length, refl, sym, ap, ◌∙◌, subst, arith, add-zero, All}
-use Rattle.std.proofs.Common.{IsPermutation, length-append, get_or, not, inl, inr}
-use Rattle.std.proofs.lemmas.Bool.{cases_lt}
+use Rattle.std.proofs.Common.{IsPermutation, length-append, get_or, not}
 use Rattle.std.proofs.lemmas.Bool.Decides.{nat_tests}
 use Rattle.std.specs.Cmp.{nat_cmp_total}
 use Rattle.std.specs.Ordering.{nat_cmp}
 use Rattle.std.specs.FinMap.{FinMap, get, insert, remove, empty, get-empty, len, len-empty}
-use Rattle.std.specs.FinMap.{len-insert, len-remove, contains_key, empty_of_len}
+use Rattle.std.specs.FinMap.{len-insert, len-remove, contains_key}
 use Rattle.std.proofs.lemmas.List.Elements.{All-cons, All-head, All-tail}
 use Rattle.std.proofs.lemmas.List.Sorted.{All-permutation}
 use Rattle.std.proofs.Math.ListN.{set}
@@ -20,6 +19,7 @@ use Rattle.vipr_table.specs.Expiry.{Notes}
 use Rattle.vipr_table.specs.Expiry.{IsTied}
 use Rattle.vipr_table.specs.Table.{expiry, if_live}
 use Rattle.vipr_table.proofs.TableLemmas.{get-insert_at, get-remove_at, same_numbers}
+use Rattle.vipr_table.proofs.CountLemmas.{some_held}
 use Rattle.vipr_table.proofs.ExpiryOrderLemmas.{IsTied-put, IsTied-removed, IsTied-empty}
 
 swapped : {A : Type 0} (a b : Bool) (x y z : A) → (a ≡ true → b ≡ true → ⊥)
@@ -158,18 +158,6 @@ place_get : (ks : List Kept) (i : ℕ) (k : Kept) → i < length ks → k ≡ ge
 place_get [] i k h e = absurd (omega arith)
 place_get (j ∷ ks) zero k h e = ap Some (sym e)
 place_get (j ∷ ks) (suc i) k h e = place_get ks i k (omega arith) e
-
-some_held : (m : FinMap nat_cmp Entry) (i : ℕ) (c : Bool) → is_some (get m i) ≡ c
-    → cond c 1 0 ≤ len m
-some_held m i false e = omega arith
-some_held m i true e =
-    elim (cases_lt 0 (len m)) [
-      | inl some ↦ omega arith
-      | inr none ↦ absurd (
-          let is_empty = empty_of_len m (omega arith) in
-          let gone = ap (λ n. is_some (get n i)) is_empty ∙ ap is_some (get-empty {X = Entry} nat_cmp i) in
-          cc (gone, e))
-    ]
 
 less_one : (c : Bool) (n : ℕ) → n - cond c 1 0 ≡ cond c (n - 1) n
 less_one true n = refl

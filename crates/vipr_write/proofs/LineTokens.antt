@@ -1,14 +1,14 @@
 -- The tokens of lines are their words
-use Rattle.std.proofs.Common.{◌≡◌, ℕ, ◌+◌, ◌-◌, ◌<◌, ◌≤◌, true, false, List, [], ◌∷◌, ◌++◌, length}
-use Rattle.std.proofs.Common.{map, get_or, All, arith, refl, sym, ap, ◌∙◌, subst, append_assoc}
+use Rattle.std.proofs.Common.{◌≡◌, ℕ, ◌+◌, ◌-◌, ◌≤◌, false, List, [], ◌∷◌, ◌++◌, length}
+use Rattle.std.proofs.Common.{map, All, arith, refl, sym, ap, ◌∙◌, subst, append_assoc}
 use Rattle.std.specs.List.{flat_map}
 use Rattle.std.proofs.lemmas.List.{length-append}
 use Rattle.std.proofs.lemmas.List.Elements.{All-head, All-tail}
-use Rattle.std.proofs.Math.Seq.{take-append_seam, drop-append_seam, get_or-append_right}
+use Rattle.std.proofs.Math.Seq.{take-append_seam, drop-append_seam}
 use Rattle.std.proofs.Math.ListN.{get_or-append}
 use Rattle.vipr_spec.specs.Tokens.{Token, is_white, tokens_from, tokens_after_front, text_tokens}
 use Rattle.vipr_spec.specs.Tokens.{Begins, IsWhite, IsRun, IsToken}
-use Rattle.vipr_spec.proofs.Laws.{token_whole, all_parts}
+use Rattle.vipr_spec.proofs.Laws.{token_whole, all_parts, first_white}
 use Rattle.vipr_write.specs.Canonical.{words_after_spaces, line_text, lines_text}
 
 abbrev pub bytes_of : List Token → List (List ℕ)
@@ -27,15 +27,6 @@ first_is_white : (offset b : ℕ) (text : List ℕ) → IsWhite b
 unfolding tokens_from
 first_is_white offset b text white = rw white refl
 
--- white space where a word ends
-white_behind : (w after : List ℕ) → Begins IsWhite after → length w < length (w ++ after)
-    → is_white (get_or (w ++ after) (length w) 0) ≡ true
-white_behind w [] begins l = absurd (omega (arith, length-append w []))
-white_behind w (b ∷ bs) begins l =
-    let at : length w ≤ length w = omega arith in
-    let first : length w - length w ≡ 0 = omega arith in
-    rw (get_or-append_right w (b ∷ bs) (length w) 0 at, first) begins
-
 white_first : (b : ℕ) (text : List ℕ) (ws : List (List ℕ)) → IsWhite b → HasTokens text ws
     → HasTokens (b ∷ text) ws
 white_first b text ws white h offset = ap bytes_of (first_is_white offset b text white) ∙ h (offset + 1)
@@ -44,7 +35,7 @@ word_first : (w after : List ℕ) (ws : List (List ℕ)) → IsRun w → Begins 
     → HasTokens after ws → HasTokens (w ++ after) (w ∷ ws)
 word_first w after ws solid begins h offset =
     let within : length w ≤ length (w ++ after) = omega (arith, length-append w after) in
-    let e = token_whole false offset (w ++ after) (length w) solid.some within (λ k l. rw (get_or-append w after 0 k l) (solid.solid k l)) (white_behind w after begins) (λ _. refl) in
+    let e = token_whole false offset (w ++ after) (length w) solid.some within (λ k l. rw (get_or-append w after 0 k l) (solid.solid k l)) (first_white w after begins) (λ _. refl) in
     let f = rw (take-append_seam w after, drop-append_seam w after) at e in
     ap bytes_of f ∙ ap (λ us. w ∷ us) (h (offset + length w))
 

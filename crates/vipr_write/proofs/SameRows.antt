@@ -1,30 +1,13 @@
 -- Rows that have the same entries
-use Rattle.std.proofs.Common.{◌≡◌, ℕ, Bool, true, false, ◌&&◌, nat_eq, nat_lt, length, refl, sym}
-use Rattle.std.proofs.Common.{ap, ◌∙◌, arith}
-use Rattle.std.specs.Bool.{Decides}
+use Rattle.std.proofs.Common.{◌≡◌, Bool, true, false, ◌&&◌, nat_lt, length, refl, sym}
+use Rattle.std.proofs.Common.{ap, ◌∙◌}
 use Rattle.std.specs.Cmp.{nat_cmp_total}
 use Rattle.std.specs.Ordering.{nat_cmp}
 use Rattle.std.specs.FinMap.{entries, find, get-entries, same_map, nat_cmp-IsAntisymmetric}
-use Rattle.std.proofs.lemmas.Bool.Decides.{nat_tests}
 use Rattle.std.proofs.lemmas.Slice.Eq.{slice_eq-Decides}
-use Rattle.vipr_spec.specs.Fraction.{ℚ}
-use Rattle.vipr_spec.specs.FractionOrder.{eq_ℚ}
 use Rattle.vipr_spec.specs.Constraint.{Row}
-use Rattle.vipr_spec.proofs.Laws.{eq_is}
+use Rattle.vipr_linear.proofs.Laws.{same_entry}
 use Rattle.vipr_write.specs.Forms.{are_same, is_objective}
-
-exact : (m n : ℕ) → nat_eq m n ≡ true → m ≡ n
-exact m n e = grind (arith, nat_tests)
-
-same_entry : (a b : ℕ × ℚ) → Decides (nat_eq a.0 b.0 && eq_ℚ a.1 b.1) (a ≡ b)
-same_entry a b = (there (nat_eq a.0 b.0) refl, back)
-  where
-    there : (t : Bool) → nat_eq a.0 b.0 ≡ t → (t && eq_ℚ a.1 b.1) ≡ true → a ≡ b
-    there true e h = let k = exact a.0 b.0 e in let v = (eq_is a.1 b.1).0 h in (λ i. (k i, v i))
-    there false e h = absurd (cc)
-
-    back : a ≡ b → (nat_eq a.0 b.0 && eq_ℚ a.1 b.1) ≡ true
-    back e = let k : nat_eq a.0 b.0 ≡ true = let f = ap (λ (p : ℕ × ℚ). p.0) e in grind (arith, nat_tests) in ap (λ t. t && eq_ℚ a.1 b.1) k ∙ (eq_is a.1 b.1).1 (ap (λ (p : ℕ × ℚ). p.1) e)
 
 first_true : (a b : Bool) → (a && b) ≡ true → a ≡ true
 first_true true b h = refl
