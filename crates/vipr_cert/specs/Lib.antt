@@ -1,5 +1,6 @@
 -- what the contracts cite
 pub mod Items
+pub mod Reasons
 pub mod Codes
 pub mod Earlier
 pub mod Names

@@ -12,7 +12,7 @@ ghost use Rattle.vipr_spec.specs.Shape.{CertificateShape, CanWrite};
 ghost use Rattle.vipr_cert.specs.Items.{certificate_with, solution_of, reason_of, derivation_of};
 ghost use Rattle.vipr_cert.specs.Earlier.{NameEarlierFrom};
 
-use crate::items::{Derivation, Named, Reason};
+use crate::items::{Derivation, Named, Reason, References};
 use crate::limits;
 use crate::name::BadShape;
 use crate::problem::Problem;
@@ -147,14 +147,13 @@ fn refer_back(derivations: &[Derivation], from: usize) -> bool
 fn names_earlier(reason: &Reason, index: usize) -> bool
     ensures { IsTrue result ↔ NamesEarlier index (Some (reason_of reason.now)) }
 {
-    match reason {
-        Reason::Asm | Reason::Sol => true,
-        Reason::Lin(entries) => are_earlier(entries, index),
-        Reason::Rnd(entries) => are_earlier(entries, index),
-        Reason::Uns { i1, l1, i2, l2 } => (*i1 as usize) < index
-            && (*l1 as usize) < index
-            && (*i2 as usize) < index
-            && (*l2 as usize) < index,
+    match reason.references() {
+        References::Nothing => true,
+        References::Entries(entries) => are_earlier(entries, index),
+        References::Branches { i1, l1, i2, l2 } => (i1 as usize) < index
+            && (l1 as usize) < index
+            && (i2 as usize) < index
+            && (l2 as usize) < index,
     }
 }
 

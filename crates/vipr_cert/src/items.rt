@@ -1,6 +1,9 @@
 //! The parts of certificates.
-ghost use Rattle.std.specs.Prelude.{◌≡◌};
-ghost use Rattle.vipr_cert.specs.Items.{derivation_of, blank};
+ghost use Rattle.std.specs.Prelude.{◌≡◌, ◌≤◌, length};
+ghost use Rattle.vipr_spec.specs.Certificate.{reason_references};
+ghost use Rattle.vipr_spec.specs.Reading.{most_bytes};
+ghost use Rattle.vipr_cert.specs.Items.{reason_of, derivation_of, blank};
+ghost use Rattle.vipr_cert.specs.Reasons.{reason_word, references_of};
 
 use crate::name::Name;
 use std::alloc::Global;
@@ -45,6 +48,48 @@ pub enum Reason {
     Uns { i1: u32, l1: u32, i2: u32, l2: u32 },
     /// The cutoff at the best listed solution dominates it.
     Sol,
+}
+
+/// What a reason names, in the order of its text.
+#[derive(Clone, Copy, Debug)]
+pub enum References<'a> {
+    Nothing,
+    /// The entries of a sum, those with multiplier 0 included.
+    Entries(&'a [(u32, Frac)]),
+    /// The conclusions of two branches, each with its assumption behind it.
+    Branches { i1: u32, l1: u32, i2: u32, l2: u32 },
+}
+
+impl Reason {
+    /// The word of its rule, as a text has it behind `{`.
+    pub fn word(&self) -> &'static str
+        ensures word { result.now ≡ reason_word (reason_of self.now) }
+        ensures short { length result.now ≤ most_bytes }
+    {
+        match self {
+            Reason::Asm => "asm",
+            Reason::Lin(_) => "lin",
+            Reason::Rnd(_) => "rnd",
+            Reason::Uns { .. } => "uns",
+            Reason::Sol => "sol",
+        }
+    }
+
+    /// What it names.
+    pub fn references(&self) -> References<'_>
+        ensures { references_of result ≡ reason_references (reason_of self.now) }
+    {
+        match self {
+            Reason::Asm | Reason::Sol => References::Nothing,
+            Reason::Lin(entries) | Reason::Rnd(entries) => References::Entries(entries),
+            Reason::Uns { i1, l1, i2, l2 } => References::Branches {
+                i1: *i1,
+                l1: *l1,
+                i2: *i2,
+                l2: *l2,
+            },
+        }
+    }
 }
 
 /// A constraint that is derived from earlier ones.

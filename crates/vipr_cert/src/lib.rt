@@ -16,6 +16,6 @@ mod problem;
 mod short;
 
 pub use certificate::Certificate;
-pub use items::{Claim, Derivation, Goal, Named, Reason};
+pub use items::{Claim, Derivation, Goal, Named, Reason, References};
 pub use name::{BadShape, MOST_BYTES, Name};
 pub use problem::Problem;

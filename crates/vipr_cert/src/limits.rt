@@ -7,7 +7,7 @@ ghost use Rattle.vipr_spec.specs.Reading.{most_count};
 ghost use Rattle.vipr_spec.specs.Shape.{EntryFits, ClaimFits, ReasonShape, ReasonFits};
 ghost use Rattle.vipr_cert.specs.Items.{claim_of, reason_of};
 
-use crate::items::{Claim, Derivation, Named, Reason};
+use crate::items::{Claim, Derivation, Named, Reason, References};
 use crate::name::Name;
 use vipr_frac::Frac;
 use vipr_linear::{Constraint, Ints, Solution};
@@ -129,16 +129,12 @@ fn is_short(reason: &Reason) -> bool
     ensures shape { IsTrue result ↔ ReasonShape (reason_of reason.now) }
     ensures fits { ReasonFits (reason_of reason.now) }
 {
-    match reason {
-        Reason::Lin(sum) | Reason::Rnd(sum) => {
+    match reason.references() {
+        References::Entries(sum) => {
             entries(sum);
             is_count(sum.len())
         }
-        Reason::Uns { i1, l1, i2, l2 } => {
-            let (_, _, _, _) = (*i1, *l1, *i2, *l2);
-            true
-        }
-        Reason::Asm | Reason::Sol => true,
+        References::Nothing | References::Branches { .. } => true,
     }
 }
 

@@ -15,7 +15,9 @@
 #![tactic(auto)]
 
 pub use vipr_bytes::{Bytes, Failed, FromRead, FromWrite, Sink, Source, WriteFailed};
-pub use vipr_cert::{BadShape, Certificate, Claim, Derivation, Goal, Name, Named, Problem, Reason};
+pub use vipr_cert::{
+    BadShape, Certificate, Claim, Derivation, Goal, Name, Named, Problem, Reason, References,
+};
 pub use vipr_check::{
     Checker, Detail, Explanation, Fault, Place, Refusal, Report, StepDetail, Stop, Verdict, cause,
     check, check_in, explain, explain_in,

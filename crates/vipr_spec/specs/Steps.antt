@@ -7,7 +7,8 @@ use Rattle.vipr_spec.specs.Constraint.{SumOfFits}
 use Rattle.vipr_spec.specs.Constraint.{sum_of, IsWholeRow, RoundsTo, IsSplit, Dominates, Combines}
 use Rattle.vipr_spec.specs.Constraint.{CombinesRounded}
 use Rattle.vipr_spec.specs.Certificate.{Named, Reason, asm, lin, rnd, uns, sol, Derivation}
-use Rattle.vipr_spec.specs.Certificate.{Certificate}
+use Rattle.vipr_spec.specs.Certificate.{References, no_references, by_entries, by_branches}
+use Rattle.vipr_spec.specs.Certificate.{reason_references, Certificate}
 use Rattle.vipr_spec.specs.Certificate.{constraint_at, reason_at, entries, is_live, IsBest, cutoff}
 use Rattle.vipr_spec.specs.Certificate.{count, NamesEarlier, RestsOn, IsGoodStep}
 use Rattle.vipr_spec.specs.Reading.{is_nonzero}
@@ -177,12 +178,15 @@ RefersBack c = (k : ℕ) → NamesEarlier k (reason_at c k)
 abbrev pub SomeRestsOn : Certificate → List (ℕ × ℚ) → ℕ → Type 0
 SomeRestsOn c es a = (e : ℕ × ℚ) × Contains es e × (e.1 ≢ zero_ℚ) × RestsOn c e.0 a
 
+-- what is named rests on a, a branch without its assumption
+abbrev pub RestsThrough : Certificate → References → ℕ → Type 0
+RestsThrough c no_references a = ⊥
+RestsThrough c (by_entries es) a = SomeRestsOn c es a
+RestsThrough c (by_branches i1 l1 i2 l2) a =
+    (RestsOn c i1 a × (a ≢ l1)) ⊎ (RestsOn c i2 a × (a ≢ l2))
+
 -- what constraint i, with this reason, rests on
 abbrev pub RestsBy : Certificate → ℕ → Option Reason → ℕ → Type 0
 RestsBy c i None a = ⊥
 RestsBy c i (Some asm) a = i ≡ a
-RestsBy c i (Some (lin es)) a = SomeRestsOn c es a
-RestsBy c i (Some (rnd es)) a = SomeRestsOn c es a
-RestsBy c i (Some (uns i1 l1 i2 l2)) a =
-    (RestsOn c i1 a × (a ≢ l1)) ⊎ (RestsOn c i2 a × (a ≢ l2))
-RestsBy c i (Some sol) a = ⊥
+RestsBy c i (Some r) a = RestsThrough c (reason_references r) a

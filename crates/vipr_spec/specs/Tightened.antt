@@ -6,17 +6,20 @@ use Rattle.std.specs.List.{list_any}
 use Rattle.vipr_spec.specs.Fraction.{ℚ}
 use Rattle.vipr_spec.specs.Reading.{is_nonzero}
 use Rattle.vipr_spec.specs.Certificate.{Reason, asm, lin, rnd, uns, sol, Derivation}
-use Rattle.vipr_spec.specs.Certificate.{Certificate, IsNeeded}
+use Rattle.vipr_spec.specs.Certificate.{References, no_references, by_entries, by_branches}
+use Rattle.vipr_spec.specs.Certificate.{reason_references, Certificate, IsNeeded}
 
 -- ---- references, as they are tested
 
+-- constraint i is among them, by an entry with a nonzero multiplier or a branch
+abbrev pub include : References → ℕ → Bool
+include no_references i = false
+include (by_entries es) i = list_any (λ e. nat_eq i e.0 && is_nonzero e) es
+include (by_branches i1 l1 i2 l2) i = nat_eq i i1 || (nat_eq i l1 || (nat_eq i i2 || nat_eq i l2))
+
 -- the reason refers to constraint i
 abbrev pub refers_to : Reason → ℕ → Bool
-refers_to asm i = false
-refers_to (lin es) i = list_any (λ e. nat_eq i e.0 && is_nonzero e) es
-refers_to (rnd es) i = list_any (λ e. nat_eq i e.0 && is_nonzero e) es
-refers_to (uns i1 l1 i2 l2) i = nat_eq i i1 || (nat_eq i l1 || (nat_eq i i2 || nat_eq i l2))
-refers_to sol i = false
+refers_to r i = include (reason_references r) i
 
 -- ---- what is kept: one pass from the end
 

@@ -1,5 +1,5 @@
 -- Marks, from the end to the front
-use Rattle.std.proofs.Common.{◌≡◌, ℕ, ◌+◌, ◌<◌, Bool, true, false, ◌&&◌, ◌||◌, nat_eq, List, []}
+use Rattle.std.proofs.Common.{◌≡◌, ℕ, ◌+◌, ◌-◌, ◌<◌, ◌≤◌, Bool, true, false, ◌&&◌, ◌||◌, nat_eq, List, []}
 use Rattle.std.proofs.Common.{take, drop, map, replicate, length, slice_index_or, get_or, Option}
 use Rattle.std.proofs.Common.{Some, None, arith, refl, sym, ◌∙◌, ap, ap₂, subst}
 use Rattle.std.specs.List.{list_any}
@@ -162,6 +162,26 @@ module _ {S : Type 0} (view : S → Named Constraint) (goal : Option ℕ) (first
     where
       none : Derivation
       none = record { name = []; stated = record { row = empty; sense = equal; bound = zero_ℚ }; reason = asm; last = None }
+
+-- the marks so far, as those behind the place before i
+pub record Turn {S : Type 0} (view : S → Named Constraint) (goal : Option ℕ) (first : ℕ)
+    (ss : List (Step S)) (i : ℕ) (marks : List Bool) : Type 0 where
+  pub within : i - 1 < length ss
+  pub marked : i - 1 < length marks
+  pub so_far : AreMarksFrom goal first (map (step_of view) ss) ((i - 1) + 1) marks
+
+pub this_turn : {S : Type 0} (view : S → Named Constraint) (goal : Option ℕ) (first : ℕ)
+    (ss : List (Step S)) (i : ℕ) (marks : List Bool) → i ≤ length ss → 0 < i
+    → AreMarksFrom goal first (map (step_of view) ss) i marks → Turn view goal first ss i marks
+this_turn view goal first ss i marks a b m =
+    let t : length (map (step_of view) ss) ≡ length ss = length-map ss (step_of view) in
+    let size : length marks ≡ length (map (step_of view) ss) = m.size in
+    let step : i ≡ (i - 1) + 1 = omega arith in
+    record {
+      within = omega arith;
+      marked = omega arith;
+      so_far = subst (λ n. AreMarksFrom goal first (map (step_of view) ss) n marks) step m;
+    }
 
 -- what was read there
 pub mark_read : (marks : List Bool) (j : ℕ) (read b : Bool) → j < length marks

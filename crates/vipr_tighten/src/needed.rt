@@ -11,7 +11,7 @@ ghost use Rattle.vipr_write.specs.Steps.{step_of};
 ghost use Rattle.vipr_tighten.specs.Passes.{MarksAlso, AreMarks};
 
 use std::alloc::{AllocError, Global};
-use vipr_cert::Reason;
+use vipr_cert::{Reason, References};
 use vipr_frac::Frac;
 use vipr_write::Step;
 
@@ -41,14 +41,14 @@ pub(crate) fn needed<S>(
 fn mark_references(marks: &mut [bool], first: usize, reason: &Reason)
     ensures { MarksAlso first (refers_to (reason_of reason.now)) marks.old marks.new }
 {
-    match reason {
-        Reason::Asm | Reason::Sol => {}
-        Reason::Lin(entries) | Reason::Rnd(entries) => mark_entries(marks, first, entries),
-        Reason::Uns { i1, l1, i2, l2 } => {
-            mark(marks, first, *i1);
-            mark(marks, first, *l1);
-            mark(marks, first, *i2);
-            mark(marks, first, *l2);
+    match reason.references() {
+        References::Nothing => {}
+        References::Entries(entries) => mark_entries(marks, first, entries),
+        References::Branches { i1, l1, i2, l2 } => {
+            mark(marks, first, i1);
+            mark(marks, first, l1);
+            mark(marks, first, i2);
+            mark(marks, first, l2);
         }
     }
 }

@@ -14,7 +14,7 @@ ghost use Rattle.vipr_tighten.specs.Passes.{kept_by, index_by, TakesOver};
 
 use crate::needed::is_zero;
 use std::alloc::{AllocError, Global};
-use vipr_cert::Reason;
+use vipr_cert::{Reason, References};
 use vipr_frac::Frac;
 use vipr_write::Step;
 
@@ -123,14 +123,14 @@ fn set_last<S>(kept: &mut [Step<S>], first: u32, reason: &Reason, last: u32)
     ensures { (view : S → NamedMeant ConstraintMeant) → map (step_of view) kept.new
         ≡ referred_by (refers_to (reason_of reason.now)) last first (map (step_of view) kept.old) }
 {
-    match reason {
-        Reason::Asm | Reason::Sol => {}
-        Reason::Lin(entries) | Reason::Rnd(entries) => set_last_named(kept, first, entries, last),
-        Reason::Uns { i1, l1, i2, l2 } => {
-            set_last_at(kept, first, *i1, last);
-            set_last_at(kept, first, *l1, last);
-            set_last_at(kept, first, *i2, last);
-            set_last_at(kept, first, *l2, last);
+    match reason.references() {
+        References::Nothing => {}
+        References::Entries(entries) => set_last_named(kept, first, entries, last),
+        References::Branches { i1, l1, i2, l2 } => {
+            set_last_at(kept, first, i1, last);
+            set_last_at(kept, first, l1, last);
+            set_last_at(kept, first, i2, last);
+            set_last_at(kept, first, l2, last);
         }
     }
 }

@@ -8,8 +8,10 @@ use Rattle.vipr_spec.specs.Fraction.{ℚ}
 use Rattle.vipr_spec.specs.Number.{number_text}
 use Rattle.vipr_spec.specs.Constraint.{Sense, at_most, equal, at_least, Row, Constraint}
 use Rattle.vipr_spec.specs.Certificate.{Name, Named, Direction, minimum, maximum, Claim, infeasible}
-use Rattle.vipr_spec.specs.Certificate.{range, Problem, variables, integer_variables, Reason, asm}
-use Rattle.vipr_spec.specs.Certificate.{lin, rnd, uns, sol, Derivation, Certificate}
+use Rattle.vipr_spec.specs.Certificate.{range, Problem, variables, integer_variables, Reason}
+use Rattle.vipr_spec.specs.Certificate.{References, no_references, by_entries, by_branches}
+use Rattle.vipr_spec.specs.Certificate.{reason_references, Derivation, Certificate}
+use Rattle.vipr_cert.specs.Reasons.{reason_word}
 
 -- ---- words
 
@@ -57,13 +59,15 @@ claim_words (range lower upper) = codes "RTP" ∷ codes "range" ∷ bound_word (
 abbrev pub solution_words : Named Row → List (List ℕ)
 solution_words s = s.name ∷ vector_words s.item
 
+-- what a reason names
+abbrev pub reference_words : References → List (List ℕ)
+reference_words no_references = []
+reference_words (by_entries es) = counted_words es
+reference_words (by_branches i1 l1 i2 l2) =
+    decimal i1 ∷ decimal l1 ∷ decimal i2 ∷ decimal l2 ∷ []
+
 abbrev pub reason_words : Reason → List (List ℕ)
-reason_words asm = codes "asm" ∷ []
-reason_words (lin es) = codes "lin" ∷ counted_words es
-reason_words (rnd es) = codes "rnd" ∷ counted_words es
-reason_words (uns i1 l1 i2 l2) = codes "uns" ∷ decimal i1 ∷ decimal l1 ∷ decimal i2 ∷ decimal l2
-    ∷ []
-reason_words sol = codes "sol" ∷ []
+reason_words r = reason_word r ∷ reference_words (reason_references r)
 
 abbrev pub derivation_words : Derivation → List (List ℕ)
 derivation_words d = constraint_words d.name d.stated ++ codes "{"

@@ -16,7 +16,7 @@ ghost use Rattle.vipr_spec.specs.Certificate.{Certificate as CertificateMeant};
 ghost use Rattle.vipr_write.specs.Steps.{step_weight, AreStepsOf};
 
 use crate::statements::{Statement, Statements, Step};
-use vipr_cert::{Certificate, Claim, Derivation, Named, Problem, Reason};
+use vipr_cert::{Certificate, Claim, Derivation, Named, Problem, Reason, References};
 use vipr_linear::{Constraint, Solution};
 
 // With so many words and ends of lines, and twice as many as there are entries.
@@ -60,11 +60,10 @@ fn more_solutions(total: u64, solutions: &[Named<Solution>]) -> u64
 fn more_reason(total: u64, reason: &Reason) -> u64
     ensures { result ≡ counted (total + length (reason_words (reason_of reason.now))) }
 {
-    match reason {
-        Reason::Asm | Reason::Sol => more(total, 1, 0),
-        Reason::Lin(entries) => more(total, 2, entries.len()),
-        Reason::Rnd(entries) => more(total, 2, entries.len()),
-        Reason::Uns { .. } => more(total, 5, 0),
+    match reason.references() {
+        References::Nothing => more(total, 1, 0),
+        References::Entries(entries) => more(total, 2, entries.len()),
+        References::Branches { .. } => more(total, 5, 0),
     }
 }
 

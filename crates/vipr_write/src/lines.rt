@@ -1,9 +1,9 @@
 //! The lines of a certificate's items, in a text that grows: a constraint, a claim, a solution, a
 //! derivation.
 ghost use Rattle.std.specs.Prelude.{◌≡◌, ◌∷◌, ◌++◌, OnOk};
-ghost use Rattle.vipr_spec.specs.Certificate.{range, uns};
+ghost use Rattle.vipr_spec.specs.Certificate.{range, by_branches, reason_references};
 ghost use Rattle.vipr_linear.specs.Constraint.{constraint_of};
-ghost use Rattle.vipr_write.specs.Canonical.{counted_words, constraint_words, given_words};
+ghost use Rattle.vipr_write.specs.Canonical.{reference_words, constraint_words, given_words};
 ghost use Rattle.vipr_write.specs.Canonical.{claim_words, solution_words, reason_words};
 ghost use Rattle.vipr_write.specs.Canonical.{derivation_words, heading, words_after_spaces};
 ghost use Rattle.vipr_write.specs.Canonical.{line_text};
@@ -15,7 +15,7 @@ use crate::words::{
     append_word,
 };
 use std::alloc::AllocError;
-use vipr_cert::{Claim, Derivation, Name, Named, Reason};
+use vipr_cert::{Claim, Derivation, Name, Named, Reason, References};
 use vipr_frac::Frac;
 use vipr_linear::{Constraint, Solution};
 
@@ -94,26 +94,27 @@ pub(crate) fn append_solution(
     Ok(())
 }
 
-// The reason of a split.
-fn append_split(text: &mut Vec<u8>, i1: u32, l1: u32, i2: u32, l2: u32) -> Result<(), AllocError>
-    ensures { OnOk result
-        (text.new.items ≡ text.old.items ++ words_after_spaces (reason_words (uns i1 l1 i2 l2))) }
+// The conclusions of two branches, each with its assumption behind it.
+fn append_branches(text: &mut Vec<u8>, i1: u32, l1: u32, i2: u32, l2: u32) -> Result<(), AllocError>
+    ensures { OnOk result (text.new.items ≡ text.old.items
+        ++ words_after_spaces (reference_words (by_branches i1 l1 i2 l2))) }
 {
-    append_word(text, b"uns")?;
     append_index(text, i1 as usize)?;
     append_index(text, l1 as usize)?;
     append_index(text, i2 as usize)?;
     append_index(text, l2 as usize)
 }
 
-// The keyword and the entries of a sum.
-fn append_sum(text: &mut Vec<u8>, keyword: &[u8], entries: &[(u32, Frac)]) -> Result<(), AllocError>
-    ensures { OnOk result
-        (text.new.items ≡ text.old.items
-        ++ words_after_spaces (keyword.now ∷ counted_words entries.now)) }
+// What a reason names.
+fn append_references(text: &mut Vec<u8>, reason: &Reason) -> Result<(), AllocError>
+    ensures { OnOk result (text.new.items ≡ text.old.items
+        ++ words_after_spaces (reference_words (reason_references (reason_of reason.now)))) }
 {
-    append_word(text, keyword)?;
-    append_counted(text, entries)
+    match reason.references() {
+        References::Nothing => Ok(()),
+        References::Entries(entries) => append_counted(text, entries),
+        References::Branches { i1, l1, i2, l2 } => append_branches(text, i1, l1, i2, l2),
+    }
 }
 
 // Why a derived constraint holds.
@@ -122,13 +123,8 @@ pub(crate) fn append_reason(text: &mut Vec<u8>, reason: &Reason) -> Result<(), A
         (text.new.items ≡ text.old.items
         ++ words_after_spaces (reason_words (reason_of reason.now))) }
 {
-    match reason {
-        Reason::Asm => append_word(text, b"asm"),
-        Reason::Lin(entries) => append_sum(text, b"lin", entries),
-        Reason::Rnd(entries) => append_sum(text, b"rnd", entries),
-        Reason::Uns { i1, l1, i2, l2 } => append_split(text, *i1, *l1, *i2, *l2),
-        Reason::Sol => append_word(text, b"sol"),
-    }
+    append_word(text, reason.word().as_bytes())?;
+    append_references(text, reason)
 }
 
 /// A derivation.

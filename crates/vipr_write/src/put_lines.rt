@@ -1,8 +1,8 @@
 //! Lines of a text that is handed to a sink.
 ghost use Rattle.std.specs.Prelude.{◌≤◌, ◌∷◌, [], codes, length};
-ghost use Rattle.vipr_spec.specs.Certificate.{range, uns};
+ghost use Rattle.vipr_spec.specs.Certificate.{range, by_branches, reason_references};
 ghost use Rattle.vipr_linear.specs.Constraint.{constraint_of};
-ghost use Rattle.vipr_write.specs.Canonical.{counted_words, claim_words, solution_words};
+ghost use Rattle.vipr_write.specs.Canonical.{reference_words, claim_words, solution_words};
 ghost use Rattle.vipr_write.specs.Canonical.{reason_words, heading, words_after_spaces, line_text};
 ghost use Rattle.vipr_write.specs.Canonical.{direction_word, vector_words};
 ghost use Rattle.vipr_write.specs.Forms.{constraint_words_in, given_words_in, derivation_words_in};
@@ -19,7 +19,7 @@ use crate::put_words::{
 };
 use crate::rows::put_row;
 use vipr_bytes::Sink;
-use vipr_cert::{Claim, Derivation, Goal, Name, Named, Reason};
+use vipr_cert::{Claim, Derivation, Goal, Name, Named, Reason, References};
 use vipr_frac::Frac;
 use vipr_linear::{Constraint, Row, Solution};
 
@@ -158,26 +158,27 @@ pub(crate) fn put_solution<W: Sink>(text: &mut Pending, sink: &mut W, solution: 
     text.push(sink, b'\n');
 }
 
-// The reason of a split.
-fn put_split<W: Sink>(text: &mut Pending, sink: &mut W, i1: u32, l1: u32, i2: u32, l2: u32)
+// The conclusions of two branches, each with its assumption behind it.
+fn put_branches<W: Sink>(text: &mut Pending, sink: &mut W, i1: u32, l1: u32, i2: u32, l2: u32)
     ensures { Puts W.output W.failures sink.old sink.new text.old text.new
-        (words_after_spaces (reason_words (uns i1 l1 i2 l2))) }
+        (words_after_spaces (reference_words (by_branches i1 l1 i2 l2))) }
 {
-    put_word(text, sink, b"uns");
     put_index(text, sink, i1 as usize);
     put_index(text, sink, l1 as usize);
     put_index(text, sink, i2 as usize);
     put_index(text, sink, l2 as usize);
 }
 
-// The keyword and the entries of a sum.
-fn put_sum<W: Sink>(text: &mut Pending, sink: &mut W, keyword: &[u8], entries: &[(u32, Frac)])
-    requires { length keyword.now ≤ 65536 }
+// What a reason names.
+fn put_references<W: Sink>(text: &mut Pending, sink: &mut W, reason: &Reason)
     ensures { Puts W.output W.failures sink.old sink.new text.old text.new
-        (words_after_spaces (keyword.now ∷ counted_words entries.now)) }
+        (words_after_spaces (reference_words (reason_references (reason_of reason.now)))) }
 {
-    put_word(text, sink, keyword);
-    put_counted(text, sink, entries);
+    match reason.references() {
+        References::Nothing => {}
+        References::Entries(entries) => put_counted(text, sink, entries),
+        References::Branches { i1, l1, i2, l2 } => put_branches(text, sink, i1, l1, i2, l2),
+    }
 }
 
 /// Why a derived constraint holds.
@@ -185,13 +186,8 @@ pub(crate) fn put_reason<W: Sink>(text: &mut Pending, sink: &mut W, reason: &Rea
     ensures { Puts W.output W.failures sink.old sink.new text.old text.new
         (words_after_spaces (reason_words (reason_of reason.now))) }
 {
-    match reason {
-        Reason::Asm => put_word(text, sink, b"asm"),
-        Reason::Lin(entries) => put_sum(text, sink, b"lin", entries),
-        Reason::Rnd(entries) => put_sum(text, sink, b"rnd", entries),
-        Reason::Uns { i1, l1, i2, l2 } => put_split(text, sink, *i1, *l1, *i2, *l2),
-        Reason::Sol => put_word(text, sink, b"sol"),
-    }
+    put_word(text, sink, reason.word().as_bytes());
+    put_references(text, sink, reason);
 }
 
 /// A derivation, unless a write has failed.

@@ -1,4 +1,4 @@
-use Rattle.std.proofs.Common.{◌≡◌, ◌+◌, ◌-◌, Bool, true, false, Vec, Global, vec_len, map, length}
+use Rattle.std.proofs.Common.{◌≡◌, ◌-◌, Bool, true, false, Vec, Global, vec_len, map, length}
 use Rattle.std.proofs.Common.{replicate, arith, sym, ap, ◌∙◌, subst}
 use Rattle.std.proofs.lemmas.List.{length-map, with_items_is}
 use Rattle.vipr_spec.specs.Tightened.{refers_to}
@@ -8,6 +8,7 @@ use Rattle.vipr_write.specs.declared.statements.Step.{Step}
 use Rattle.vipr_tighten.specs.Passes.{MarksAlso}
 use Rattle.vipr_tighten.proofs.Marking.{AreMarksFrom, begin_none, begin_goal, next_marked}
 use Rattle.vipr_tighten.proofs.Marking.{next_unmarked, marks_end, mark_read, no_statement}
+use Rattle.vipr_tighten.proofs.Marking.{this_turn}
 use Rattle.vipr_tighten.proofs.needed.needed.Goals as goal
 use Rattle.vipr_tighten.proofs.needed.needed.Goals.{in-Some, in_default}
 
@@ -39,32 +40,22 @@ pub loop-i-preserved : goal.loop-i-preserved
 loop-i-preserved g c = λ view.
     let a = c.loop-i.auto.i in
     let b = c.loop-i-test.true in
-    let j = c.loop-i.i - 1 in
-    let all = map (step_of view) c.args.steps.now in
-    let t : length all ≡ length c.args.steps.now = length-map c.args.steps.now (step_of view) in
-    let size : length c.loop-i.marks.items ≡ length all = (c.loop-i.invariant view).size in
-    let step : c.loop-i.i ≡ j + 1 = omega arith in
-    let so_far = subst (λ n. AreMarksFrom c.args.goal c.args.first all n c.loop-i.marks.items) step (c.loop-i.invariant view) in
-    next_unmarked view c.args.goal c.args.first c.args.steps.now j (omega arith) c.loop-i.marks.items so_far
-    (mark_read c.loop-i.marks.items j c.index.result.now false (omega arith) c.index.ensures c.if-index.false)
+    let turn = this_turn view c.args.goal c.args.first c.args.steps.now c.loop-i.i c.loop-i.marks.items (omega arith) (omega arith) (c.loop-i.invariant view) in
+    next_unmarked view c.args.goal c.args.first c.args.steps.now (c.loop-i.i - 1) turn.within c.loop-i.marks.items turn.so_far
+    (mark_read c.loop-i.marks.items (c.loop-i.i - 1) c.index.result.now false turn.marked c.index.ensures c.if-index.false)
 
 pub loop-i-preserved-then-index : goal.loop-i-preserved-then-index
 loop-i-preserved-then-index g c = λ view.
     let a = c.loop-i.auto.i in
     let b = c.loop-i-test.true in
-    let j = c.loop-i.i - 1 in
-    let all = map (step_of view) c.args.steps.now in
-    let t : length all ≡ length c.args.steps.now = length-map c.args.steps.now (step_of view) in
-    let size : length c.loop-i.marks.items ≡ length all = (c.loop-i.invariant view).size in
-    let step : c.loop-i.i ≡ j + 1 = omega arith in
-    let so_far = subst (λ n. AreMarksFrom c.args.goal c.args.first all n c.loop-i.marks.items) step (c.loop-i.invariant view) in
+    let turn = this_turn view c.args.goal c.args.first c.args.steps.now c.loop-i.i c.loop-i.marks.items (omega arith) (omega arith) (c.loop-i.invariant view) in
     let value : c.deref_mut-then-index.result.now ≡ c.loop-i.marks.items = c.deref_mut-then-index.ensures.value in
     let same : length c.mark_references.new.marks ≡ length c.deref_mut-then-index.result.now = c.mark_references.auto.marks in
     let long : length c.mark_references.new.marks ≡ vec_len c.loop-i.marks = same ∙ c.deref_mut-then-index.ensures.len in
     rw (with_items_is c.loop-i.marks c.mark_references.new.marks long)
-    (next_marked view c.args.goal c.args.first c.args.steps.now j (omega arith) c.loop-i.marks.items so_far c.index-steps-i.result c.index-steps-i.is
+    (next_marked view c.args.goal c.args.first c.args.steps.now (c.loop-i.i - 1) turn.within c.loop-i.marks.items turn.so_far c.index-steps-i.result c.index-steps-i.is
     c.mark_references.new.marks (same ∙ ap length value)
-    (mark_read c.loop-i.marks.items j c.index.result.now true (omega arith) c.index.ensures c.if-index.true)
+    (mark_read c.loop-i.marks.items (c.loop-i.i - 1) c.index.result.now true turn.marked c.index.ensures c.if-index.true)
     (rw value at (subst (λ (x : Step g.row.S.Denot). MarksAlso c.args.first (refers_to (reason_of x.reason)) c.deref_mut-then-index.result.now c.mark_references.new.marks) (sym c.index-steps-i.is) c.mark_references.ensures)))
 
 pub returns : goal.returns

@@ -48,14 +48,11 @@ returns-in_err-steps-clause-unproved g c =
 pub returns-clause-kept : goal.returns-clause-kept
 returns-clause-kept g c = λ P p is.
     let ss = map solution_of c.in_ok-listed.listed.items in
-    let r = c.args.solutions in
-    let k = c.read_listed.new.checker in
-    let s = c.read_listed.new.solutions in
     let u = c.in_ok-derivations.derivations in
     let f = c.in_ok-derivations.ensures in
     let met = c.in_ok-listed.ensures.kept P p is in
-    let at = at_then P p r ss k s met c.in_ok-listed.ensures.none u f.remembers f.working f.counted in
+    let at = at_then P p c.args.solutions ss c.read_listed.new.checker c.read_listed.new.solutions met c.in_ok-listed.ensures.none u f.remembers f.working f.counted in
     let (ds, steps, finished) = c.in_ok-steps.ensures.kept in
-    let (same_problem, writes, proof) = proof_kept P p r ss k s met c.in_ok-listed.ensures.none u f.remembers f.working f.counted (f.read p met.listed.is_among.knows)
+    let (same_problem, writes, proof) = proof_kept P p c.args.solutions ss c.read_listed.new.checker c.read_listed.new.solutions met c.in_ok-listed.ensures.none u f.remembers f.working f.counted (f.read p met.listed.is_among.knows)
     ds c.in_ok-steps.report c.read_derived.new.checker is.knows c.in_ok-listed.ensures.items (steps.shapes, steps.fit) (finished P p ss at) in
     (same_problem, ds, steps.kept, writes, proof)
