@@ -97,18 +97,20 @@ def growths_refused(name, words, text, output=None):
     each(one, range(1, whole.calls[0] + 2))
 
 
-def reads_fail(name, words, text):
+def reads_fail(name, words, text, last=0):
     """The nth read of one byte fails, for each n; the answer changes once, where the text decides it."""
     whole = answer(words, text, {'READ_AT_MOST': 1})
     expect(f'{name} a byte at a time', whole, answer(words, text))
+    enough = whole.calls[1]
 
     def one(n):
         for how in ('FAIL_READ', 'INTERRUPT_READ'):
             got = answer(words, text, {'READ_AT_MOST': 1, how: n})
             what = f'{name} with {how} {n}'
-            expect(what, got, READ if n <= whole.calls[1] else whole)
-            expect(f'{what}, reads after it', got.calls[3:4], (0,))
-    each(one, range(1, whole.calls[1] + 3))
+            expect(what, got, READ if n <= enough else whole)
+            expect(f'{what}, reads and those after it', got.calls[1:4:2], (min(n, enough), 0))
+    each(one, range(1, max(enough, last) + 3))
+    return whole
 
 
 def writes_fail(name, words, text):
@@ -123,8 +125,25 @@ def writes_fail(name, words, text):
             what = f'{name} with {how} {n}'
             failed = whole[0][:n - 1], b'fault write after %d\n' % (n - 1), 3
             expect(what, got, failed if n <= length else whole)
-            expect(f'{what}, writes after it', got.calls[4:5], (0,))
+            expect(f'{what}, writes and those after it', got.calls[2:5:2], (min(n, length), 0))
     each(one, range(1, length + 2))
+    return whole
+
+
+def known_texts():
+    """Texts whose answers are known, and how many reads of a byte decide them: each read fails, and each write."""
+    proof, loose, tight = ((TOP / f'examples/{name}.vipr').read_bytes() for name in
+                           ('infeasible', 'cutoff_loose', 'cutoff_tight'))
+    misspelled, refused = b'VER 1.0\nVAX 1\nx\nINT 0\n', b'refused 2 at byte 8\n'
+    verified, kept = b'verified infeas\nsolutions 0 derived 1 peak 1\n', b'kept 1 removed 1 peak 2 1\n'
+    for command, text, enough, wanted in [
+            ('check', proof, 118, (verified, b'', 0)), ('check', misspelled, 12, (refused, b'', 1)),
+            ('show', proof, 118, (proof, b'', 0)), ('show', misspelled, 12, (b'', refused, 1)),
+            ('tighten', loose, 151, (tight, kept, 0)), ('tighten', misspelled, 12, (b'', refused, 1))]:
+        whole = reads_fail(f'{command} of {text[8:40]!r}', [command], text, len(text))
+        expect(f'{command} of {text[8:40]!r}, and its reads', (*whole, whole.calls[1]), (*wanted, enough))
+    for word, text, said in [('check', proof, b''), ('show', proof, b''), ('tighten', loose, kept), ('--help', b'', b'')]:
+        expect(f'{word}, all of it written', writes_fail(word, [word], text)[1:], (said, 0))
 
 
 def reads_of_a_byte(commands):
@@ -143,6 +162,7 @@ def with_refused_calls(commands, examples):
         for command in commands:
             growths_refused(f'{command} {path.name}', [command], text)
             growths_refused(f'{command} FILE {path.name}', [command, str(path)], b'')
+    known_texts()
     for path, text in examples[::3]:
         for command in commands:
             reads_fail(f'{command} {path.name}', [command], text)

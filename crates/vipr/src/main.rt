@@ -3,9 +3,6 @@
 
 ghost use Rattle.std.specs.Prelude.{◌≤◌, IfOk};
 
-#[cfg(test)]
-mod tests;
-
 use std::fs::File;
 use std::io::{ErrorKind, Write};
 use std::os::fd::AsFd;

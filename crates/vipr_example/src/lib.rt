@@ -4,8 +4,6 @@
 
 mod check;
 mod items;
-#[cfg(test)]
-mod tests;
 mod text;
 mod tighten;
 

@@ -1,4 +1,5 @@
 mod check;
+mod example;
 mod rules;
 mod tighten;
 

@@ -3,6 +3,7 @@ ghost use Rattle.vipr_spec.specs.Input.{Input};
 
 mod checkers;
 mod explained;
+mod printed;
 mod profiles;
 mod spent;
 
@@ -21,7 +22,7 @@ use vipr_rules::{KeepAll, LiveOnly, Rows};
 use vipr_scan::TextError;
 
 // x >= 1 and x <= 0.
-const INFEASIBLE: &[u8] =
+pub(super) const INFEASIBLE: &[u8] =
     b"VER 1.0\nVAR 1\nx\nINT 0\nOBJ min\n0\nCON 2 0\na G 1 1 0 1\nb L 0 1 0 1\nRTP infeas\nSOL 0\nDER 1\nf G 1 0 { lin 2 0 1 1 -1 } -1\n";
 // The second section has another word.
 const MISSPELLED: &[u8] =
@@ -215,7 +216,7 @@ fn refusals_are_explained(rt: HostRuntime) {
     }
 }
 
-fn problem_of(rt: &impl Abort, alloc: Global, text: &[u8]) -> Problem {
+pub(super) fn problem_of(rt: &impl Abort, alloc: Global, text: &[u8]) -> Problem {
     let reader = CertReader::new(alloc, Bytes::new(text)).expect(rt, "a reader");
     let (problem, solutions) = reader.read_problem(alloc).expect(rt, "a problem");
     drop(solutions);
@@ -382,6 +383,7 @@ fn long_names_are_read_as_they_are_needed(rt: HostRuntime) {
     ] {
         let text = with_long_name(&rt, rt.alloc(), more);
         reads_what_it_needs(&rt, text.as_slice(), false, 50, needed, wanted);
+        drop(text);
     }
 }
 

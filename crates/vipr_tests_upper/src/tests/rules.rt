@@ -1,9 +1,10 @@
+use super::check::problem_of;
 use super::same;
 use std::alloc::Global;
 use std::process::Abort;
-use vipr_cert::{Claim, Goal, Name, Named, Problem};
+use vipr_cert::Problem;
 use vipr_frac::Frac;
-use vipr_linear::{Combination, Constraint, Ints, Row, Sense, Solution};
+use vipr_linear::{Combination, Constraint, Row, Sense, Solution};
 use vipr_rules::{
     Assumptions, Columns, Entry, KeepAll, LiveOnly, Rows, SolutionError, test_solution,
     test_solution_by_columns,
@@ -68,6 +69,7 @@ fn both_branches<S: Rows>(rt: &impl Abort, alloc: Global) {
     for (index, wanted) in [(2, true), (4, false), (6, true)] {
         has(rt, &rows, index, wanted);
     }
+    drop(rows);
 }
 
 const DROPPED: [Placed; 3] = [
@@ -83,6 +85,7 @@ fn dropped<S: Rows>(rt: &impl Abort, alloc: Global) {
     for index in [2, 4, 5] {
         has(rt, &rows, index, false);
     }
+    drop(rows);
 }
 
 #[test]
@@ -110,18 +113,27 @@ fn without(rt: &impl Abort, alloc: Global, set: &Assumptions, index: u32) -> Ass
 }
 
 fn united(rt: &impl Abort, alloc: Global) -> Assumptions {
-    let two = single(rt, alloc, 2);
-    let both = union(rt, alloc, &single(rt, alloc, 5), &two);
-    union(rt, alloc, &both, &Assumptions::empty(alloc))
+    let (two, five) = (single(rt, alloc, 2), single(rt, alloc, 5));
+    let both = union(rt, alloc, &five, &two);
+    let none = Assumptions::empty(alloc);
+    let united = union(rt, alloc, &both, &none);
+    drop((two, five, both, none));
+    united
 }
 
 fn without_five(rt: &impl Abort, alloc: Global) -> Assumptions {
     let both = united(rt, alloc);
-    without(rt, alloc, &union(rt, alloc, &both, &both), 5)
+    let twice = union(rt, alloc, &both, &both);
+    let left = without(rt, alloc, &twice, 5);
+    drop((both, twice));
+    left
 }
 
 fn without_both(rt: &impl Abort, alloc: Global) -> Assumptions {
-    without(rt, alloc, &without_five(rt, alloc), 2)
+    let two = without_five(rt, alloc);
+    let left = without(rt, alloc, &two, 2);
+    drop(two);
+    left
 }
 
 // Which of 2, 3 and 5 it contains, and whether it is empty.
@@ -134,6 +146,7 @@ fn seen(set: &Assumptions) -> ([bool; 3], bool) {
 
 fn sees(rt: &impl Abort, set: Assumptions, wanted: ([bool; 3], bool)) {
     same(rt, seen(&set), wanted);
+    drop(set);
 }
 
 #[test]
@@ -146,73 +159,8 @@ fn sets(rt: HostRuntime) {
     sees(&rt, without_both(&rt, alloc), none);
 }
 
-fn some_name(rt: &impl Abort, alloc: Global) -> Name {
-    Name::of_token(alloc, b"x").expect(rt, "a name")
-}
-
 fn frac(rt: &impl Abort, p: i128, q: i128) -> Frac {
     Frac::new(p, q).expect(rt, "a fraction")
-}
-
-// A constraint of three variables: their coefficients, the sense and the right-hand side.
-type Stated = ([i128; 3], Sense, i128);
-
-fn pairs_of(rt: &impl Abort, alloc: Global, numbers: [i128; 3], denominator: i128) -> Row {
-    let [x, y, z] = numbers;
-    let pairs = [
-        (0, frac(rt, x, denominator)),
-        (1, frac(rt, y, denominator)),
-        (2, frac(rt, z, denominator)),
-    ];
-    let pairs = Vec::from_array(alloc, pairs).expect(rt, "pairs");
-    Row::from_pairs(alloc, pairs).expect(rt, "a row")
-}
-
-fn constraint(rt: &impl Abort, alloc: Global, stated: &Stated) -> Named<Constraint> {
-    let (coefficients, sense, rhs) = *stated;
-    let name = some_name(rt, alloc);
-    let row = pairs_of(rt, alloc, coefficients, 1);
-    let rhs = frac(rt, rhs, 1);
-    let item = Constraint { row, sense, rhs };
-    Named { name, item }
-}
-
-fn constraints(rt: &impl Abort, alloc: Global, stated: &[Stated]) -> Vec<Named<Constraint>> {
-    let mut cons = Vec::new(alloc);
-    for one in stated {
-        cons.push(constraint(rt, alloc, one))
-            .expect(rt, "constraints");
-    }
-    cons
-}
-
-fn some_names(rt: &impl Abort, alloc: Global, count: usize) -> Vec<Name> {
-    let mut names = Vec::new(alloc);
-    for _ in 0..count {
-        names.push(some_name(rt, alloc)).expect(rt, "names");
-    }
-    names
-}
-
-fn first(rt: &impl Abort, alloc: Global) -> Ints {
-    let indices = vec![in alloc; 0].expect(rt, "indices");
-    Ints::from_indices(alloc, indices).expect(rt, "whole variables")
-}
-
-// So many variables, the first whole, under these constraints.
-fn problem_of(
-    rt: &impl Abort,
-    alloc: Global,
-    count: usize,
-    objective: [i128; 3],
-    stated: &[Stated],
-) -> Problem {
-    let ints = first(rt, alloc);
-    let objective = pairs_of(rt, alloc, objective, 1);
-    let names = some_names(rt, alloc, count);
-    let cons = constraints(rt, alloc, stated);
-    let problem = Problem::new(names, ints, Goal::Min, objective, cons, 0, Claim::Infeas);
-    problem.expect(rt, "a problem")
 }
 
 // What is found of the solution with these two values.
@@ -226,7 +174,9 @@ fn found(
     let mut scratch = Combination::new(alloc, problem.names().len() as u32).expect(rt, "a sum");
     let values = vec![in alloc; (0, x), (1, y)].expect(rt, "values");
     let solution = Solution(Row::from_pairs(alloc, values).expect(rt, "a row"));
-    test_solution(problem, &mut scratch, &solution)
+    let found = test_solution(problem, &mut scratch, &solution);
+    drop((scratch, solution));
+    found
 }
 
 fn not_whole(value: Frac) -> SolutionError {
@@ -243,6 +193,9 @@ fn breaks(left: Frac) -> SolutionError {
 }
 
 // Of two variables the first is to be whole and at least 1, and their sum is to be small.
+const SMALL_SUM: &[u8] = b"VER 1.0 VAR 2 x y INT 1 0 OBJ min 2 0 1 1 1 CON 1 0 a G 1 1 0 1
+    RTP infeas SOL 0 DER 0";
+
 #[test]
 fn solutions(rt: HostRuntime) {
     let alloc = rt.alloc();
@@ -250,7 +203,7 @@ fn solutions(rt: HostRuntime) {
     let half = frac(&rt, 1, 2);
     let sum = frac(&rt, 3, 2);
     let large = frac(&rt, i128::MAX, 1);
-    let problem = problem_of(&rt, alloc, 2, [1, 1, 0], &[([1, 0, 0], Sense::G, 1)]);
+    let problem = problem_of(&rt, alloc, SMALL_SUM);
     for (x, y, wanted) in [
         (one, half, Ok(sum)),
         (half, half, Err(not_whole(half))),
@@ -259,6 +212,7 @@ fn solutions(rt: HostRuntime) {
     ] {
         same(&rt, found(&rt, alloc, &problem, x, y), wanted);
     }
+    drop(problem);
 }
 
 // Rows and columns give the same answer, also columns that were used before.
@@ -270,6 +224,7 @@ fn agree_at(rt: &impl Abort, alloc: Global, problem: &Problem, solution: &Soluti
     let second = test_solution_by_columns(problem, &mut columns, &mut scratch, solution);
     assert!(rt; first == by_rows);
     assert!(rt; second == by_rows);
+    drop((scratch, columns));
 }
 
 // Numerators, and the denominator of all.
@@ -285,35 +240,44 @@ const POINTS: [([i128; 3], i128); 9] = [
     ([-1, 1, 3], 1),
 ];
 
-fn agree(rt: &impl Abort, alloc: Global, stated: &[Stated]) {
-    let problem = problem_of(rt, alloc, 3, [0, 1, 1], stated);
-    for (numbers, denominator) in &POINTS {
-        let solution = Solution(pairs_of(rt, alloc, *numbers, *denominator));
-        agree_at(rt, alloc, &problem, &solution);
-    }
+fn point(rt: &impl Abort, alloc: Global, numbers: [i128; 3], denominator: i128) -> Solution {
+    let [x, y, z] = numbers;
+    let values = [
+        (0, frac(rt, x, denominator)),
+        (1, frac(rt, y, denominator)),
+        (2, frac(rt, z, denominator)),
+    ];
+    let values = Vec::from_array(alloc, values).expect(rt, "values");
+    Solution(Row::from_pairs(alloc, values).expect(rt, "a row"))
 }
 
-const LARGE: i128 = i128::MAX;
+fn agree(rt: &impl Abort, alloc: Global, text: &[u8]) {
+    let problem = problem_of(rt, alloc, text);
+    for (numbers, denominator) in &POINTS {
+        let solution = point(rt, alloc, *numbers, *denominator);
+        agree_at(rt, alloc, &problem, &solution);
+        drop(solution);
+    }
+    drop(problem);
+}
 
-const PROBLEMS: [&[Stated]; 5] = [
-    &[],
-    &[([1, 0, 0], Sense::G, 1)],
-    &[
-        ([0, 1, 1], Sense::L, 2),
-        ([1, 0, -1], Sense::G, 0),
-        ([0, 0, 0], Sense::L, 0),
-    ],
-    &[([LARGE, 1, -LARGE], Sense::G, 0), ([0, 0, 0], Sense::E, 1)],
-    &[
-        ([1, 0, 0], Sense::L, 1),
-        ([LARGE, LARGE, 0], Sense::G, -5),
-        ([0, 0, 1], Sense::E, 1),
-    ],
+// Of three variables the first is to be whole, and the sum of the others small.
+const PROBLEMS: [&[u8]; 5] = [
+    b"VER 1.0 VAR 3 x y z INT 1 0 OBJ min 2 1 1 2 1 CON 0 0 RTP infeas SOL 0 DER 0",
+    b"VER 1.0 VAR 3 x y z INT 1 0 OBJ min 2 1 1 2 1 CON 1 0 a G 1 1 0 1 RTP infeas SOL 0 DER 0",
+    b"VER 1.0 VAR 3 x y z INT 1 0 OBJ min 2 1 1 2 1
+    CON 3 0 a L 2 2 1 1 2 1 b G 0 2 0 1 2 -1 c L 0 0 RTP infeas SOL 0 DER 0",
+    b"VER 1.0 VAR 3 x y z INT 1 0 OBJ min 2 1 1 2 1
+    CON 2 0 a G 0 3 0 170141183460469231731687303715884105727 1 1
+    2 -170141183460469231731687303715884105727 b E 1 0 RTP infeas SOL 0 DER 0",
+    b"VER 1.0 VAR 3 x y z INT 1 0 OBJ min 2 1 1 2 1
+    CON 3 0 a L 1 1 0 1 b G -5 2 0 170141183460469231731687303715884105727
+    1 170141183460469231731687303715884105727 c E 1 1 2 1 RTP infeas SOL 0 DER 0",
 ];
 
 #[test]
 fn columns_and_rows_agree(rt: HostRuntime) {
-    for stated in &PROBLEMS {
-        agree(&rt, rt.alloc(), stated);
+    for text in &PROBLEMS {
+        agree(&rt, rt.alloc(), text);
     }
 }

@@ -167,4 +167,5 @@ fn is_tightened(rt: &impl Abort, alloc: Global, text: &[u8], goal: Option<u32>, 
     let mut bytes = Vec::with_capacity(alloc, 4096).expect(rt, "room");
     write_into(rt, alloc, &certificate, &mut bytes);
     same(rt, bytes.as_slice(), wanted);
+    drop((certificate, bytes));
 }

@@ -101,6 +101,7 @@ fn answers_to<S: Rows>(rt: &impl Abort, alloc: Global, text: &[u8], times: u32, 
     let (problem, solutions, steps) = read.expect(rt, "a certificate").into_parts();
     drop(solutions);
     answers_behind::<S>(rt, alloc, problem, steps.as_slice(), times, wanted);
+    drop(steps);
 }
 
 const HELD: [Answer; 6] = [
@@ -172,4 +173,5 @@ fn a_refused_solution_is_answered_again(rt: HostRuntime) {
     let solution = solutions.first().expect(&rt, "a solution");
     let answers = answers_to_solution(&rt, rt.alloc(), problem, solution);
     same(&rt, answers, [refusal, refusal, refusal]);
+    drop(solutions);
 }

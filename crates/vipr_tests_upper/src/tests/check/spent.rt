@@ -59,6 +59,7 @@ fn of_solution<S: Rows>(rt: &impl Abort, alloc: Global) {
     let solution = solutions.first().expect(rt, "a solution");
     let answer = answer::<S>(rt, alloc, problem, solution);
     same(rt, answer, refused(22, Place::Sol(0)));
+    drop(solutions);
 }
 
 #[test]
@@ -126,7 +127,9 @@ fn at_its_end<S: Rows>(
 fn at_the_end<S: Rows>(rt: &impl Abort, alloc: Global, text: &[u8]) -> Result<(), Stop> {
     let read = read_certificate(alloc, Bytes::new(text));
     let (problem, solutions, steps) = read.expect(rt, "a certificate").into_parts();
-    at_its_end::<S>(rt, alloc, problem, solutions.as_slice(), steps.as_slice())
+    let answer = at_its_end::<S>(rt, alloc, problem, solutions.as_slice(), steps.as_slice());
+    drop((solutions, steps));
+    answer
 }
 
 // Each kind of reason, and refusals that keep a name and constraints.

@@ -257,6 +257,7 @@ fn becomes(rt: &impl Abort, alloc: Global, text: &[u8], wanted: &[u8], figures: 
     same(rt, outcome, tightened(figures));
     assert!(rt; written.as_slice() == wanted);
     assert!(rt; is_verified(rt, alloc, written.as_slice()));
+    drop(written);
 }
 
 const BECOMES: [(&[u8], &[u8], Figures); 7] = [
@@ -330,6 +331,7 @@ fn end(alloc: Global, length: u32) -> Result<String, AllocError> {
 fn add(rt: &impl Abort, text: &mut String, line: Result<String, AllocError>) {
     let line = line.expect(rt, "a line");
     text.push_str(line.as_str()).expect(rt, "a text");
+    drop(line);
 }
 
 fn last_reference(place: u32, dropped: bool) -> Option<u64> {
@@ -359,6 +361,7 @@ fn last_references_are_set_in_a_chain(rt: HostRuntime) {
     let short = chain(&rt, alloc, 10000, true);
     let (text, wanted) = (long.as_str().as_bytes(), short.as_str().as_bytes());
     becomes(&rt, alloc, text, wanted, (10000, 0, 10000, 1));
+    drop((long, short));
 }
 
 /// The call behind these bytes is the last.
