@@ -3,34 +3,45 @@ use std::io::{self, ErrorKind, Read, Write};
 use std::process::Abort;
 use vipr_bytes::{Bytes, Failed, FromRead, FromWrite, Sink, Source, WriteFailed, write_bytes};
 
-/// Moves at most two bytes a call, and fails at a chosen call.
+/// Moves at most two bytes a call. It is interrupted at one call, and goes on at the next. It counts
+/// its calls.
 #[derive(Drop)]
-struct Halting<T> {
+pub(super) struct Interrupted<T> {
     inner: T,
-    calls_left: u8,
+    calls: usize,
+    interrupted_at: usize,
 }
 
-impl<T> Halting<T> {
-    fn turn(&mut self, len: usize) -> io::Result<usize> {
-        if self.calls_left == 0 {
+impl<T> Interrupted<T> {
+    pub(super) fn new(inner: T, interrupted_at: usize) -> Interrupted<T> {
+        Interrupted {
+            inner,
+            calls: 0,
+            interrupted_at,
+        }
+    }
+
+    fn count(&mut self) -> io::Result<()> {
+        self.calls = self.calls.saturating_add(1);
+        if self.calls == self.interrupted_at {
             return Err(io::Error::from(ErrorKind::Interrupted));
         }
-        self.calls_left -= 1;
-        Ok(len.min(2))
+        Ok(())
     }
 }
 
-impl<T: Read> Read for Halting<T> {
+impl<T: Read> Read for Interrupted<T> {
     fn read(&mut self, buf: &mut [u8]) -> io::Result<usize> {
-        let len = self.turn(buf.len())?.min(buf.len());
+        self.count()?;
+        let len = buf.len().min(2);
         self.inner.read(&mut buf[..len])
     }
 }
 
-impl<T: Write> Write for Halting<T> {
+impl<T: Write> Write for Interrupted<T> {
     fn write(&mut self, buf: &[u8]) -> io::Result<usize> {
-        let len = self.turn(buf.len())?.min(buf.len());
-        self.inner.write(&buf[..len])
+        self.count()?;
+        self.inner.write(&buf[..buf.len().min(2)])
     }
 
     fn flush(&mut self) -> io::Result<()> {
@@ -59,10 +70,7 @@ fn a_slice_is_read_to_its_end(rt: HostRuntime) {
 
 #[test]
 fn a_reader_is_read_and_its_errors_are_failures(rt: HostRuntime) {
-    let mut source = FromRead::new(Halting {
-        inner: b"abc".as_slice(),
-        calls_left: 3,
-    });
+    let mut source = FromRead::new(Interrupted::new(b"abc".as_slice(), 4));
     for wanted in [Ok((2, b'a')), Ok((1, b'c')), Ok((0, 0)), Err(Failed)] {
         gives(&rt, &mut source, wanted);
     }
@@ -100,10 +108,7 @@ fn takes<W: Sink>(rt: &impl Abort, sink: &mut W, wanted: Result<usize, Failed>) 
 }
 
 fn takes_two_of_three_and_fails<W: Write + Drop>(rt: &impl Abort, inner: W) {
-    let mut sink = FromWrite::new(Halting {
-        inner,
-        calls_left: 2,
-    });
+    let mut sink = FromWrite::new(Interrupted::new(inner, 3));
     for wanted in [Ok(2), Ok(2), Err(Failed)] {
         takes(rt, &mut sink, wanted);
     }
@@ -116,50 +121,9 @@ fn a_writer_is_written_and_its_errors_are_failures(rt: HostRuntime) {
     same(&rt, bytes.as_slice(), b"abab".as_slice());
 }
 
-/// Is interrupted at one call and goes on at the next. It counts its calls.
-#[derive(Drop)]
-struct Interrupted<T> {
-    inner: T,
-    calls: usize,
-    interrupted_at: usize,
-}
-
-impl<T> Interrupted<T> {
-    fn count(&mut self) -> io::Result<()> {
-        self.calls = self.calls.saturating_add(1);
-        if self.calls == self.interrupted_at {
-            return Err(io::Error::from(ErrorKind::Interrupted));
-        }
-        Ok(())
-    }
-}
-
-impl<T: Read> Read for Interrupted<T> {
-    fn read(&mut self, buf: &mut [u8]) -> io::Result<usize> {
-        self.count()?;
-        let len = buf.len().min(2);
-        self.inner.read(&mut buf[..len])
-    }
-}
-
-impl<T: Write> Write for Interrupted<T> {
-    fn write(&mut self, buf: &[u8]) -> io::Result<usize> {
-        self.count()?;
-        self.inner.write(&buf[..buf.len().min(2)])
-    }
-
-    fn flush(&mut self) -> io::Result<()> {
-        Ok(())
-    }
-}
-
 #[test]
 fn an_interrupted_read_fails_and_is_not_asked_for_again(rt: HostRuntime) {
-    let mut reader = Interrupted {
-        inner: b"abc".as_slice(),
-        calls: 0,
-        interrupted_at: 2,
-    };
+    let mut reader = Interrupted::new(b"abc".as_slice(), 2);
     {
         let mut source = FromRead::new(&mut reader);
         for wanted in [Ok((2, b'a')), Err(Failed)] {
@@ -190,11 +154,7 @@ fn bytes_are_handed_over_until_all_are_accepted(rt: HostRuntime) {
 
 /// The number of calls that a writer gets for five bytes, the second of which is interrupted.
 fn calls_for_five<W: Write + Drop>(rt: &impl Abort, inner: W) -> usize {
-    let mut writer = Interrupted {
-        inner,
-        calls: 0,
-        interrupted_at: 2,
-    };
+    let mut writer = Interrupted::new(inner, 2);
     hands_over(rt, &mut writer, b"abcde", Err(WriteFailed { accepted: 2 }));
     writer.calls
 }

@@ -1,5 +1,5 @@
 //! Each constructor once within its limits, and past those that are cheap to reach.
-use super::same;
+use super::{lengths, same};
 use bstr::BString;
 use std::alloc::Global;
 use std::process::Abort;
@@ -72,8 +72,12 @@ fn problem_at(rt: &impl Abort, alloc: Global, variable: u32) -> Problem {
     problem(rt, alloc, variable, variable, variable).expect(rt, "a problem")
 }
 
+fn is_made<T: Drop, E: Drop>(made: Result<T, E>) -> bool {
+    made.is_ok()
+}
+
 fn fits(rt: &impl Abort, alloc: Global, integer: u32, objective: u32, constrained: u32) -> bool {
-    problem(rt, alloc, integer, objective, constrained).is_ok()
+    is_made(problem(rt, alloc, integer, objective, constrained))
 }
 
 fn one_solution(rt: &impl Abort, alloc: Global, variable: u32) -> Vec<Named<Solution>> {
@@ -116,11 +120,11 @@ fn certificate_by(rt: &impl Abort, alloc: Global, reason: Reason) -> Certificate
 }
 
 fn has_shape(rt: &impl Abort, alloc: Global, solved: u32, derived: u32) -> bool {
-    certificate(rt, alloc, solved, derived, Reason::Asm).is_ok()
+    is_made(certificate(rt, alloc, solved, derived, Reason::Asm))
 }
 
 fn is_name(bytes: Vec<u8>) -> bool {
-    Name::new(BString::new(bytes)).is_ok()
+    is_made(Name::new(BString::new(bytes)))
 }
 
 fn has_length(rt: &impl Abort, alloc: Global, len: usize) -> bool {
@@ -205,24 +209,18 @@ fn certificates(rt: HostRuntime) {
     }
 }
 
-fn lengths(found: &Certificate) -> (usize, usize, usize) {
-    let names = found.problem().names();
-    (
-        names.len(),
-        found.solutions().len(),
-        found.derivations().len(),
-    )
-}
-
 #[test]
 fn certificates_have_their_parts(rt: HostRuntime) {
     let found = certificate_by(&rt, rt.alloc(), Reason::Asm);
-    same(&rt, lengths(&found), (2, 1, 1));
+    same(&rt, lengths(&found), [2, 1, 1, 1, 1]);
 }
 
 // Whether all that the only derivation refers to comes before it.
 fn refers_back(rt: &impl Abort, alloc: Global, reason: Reason) -> bool {
-    certificate_by(rt, alloc, reason).refers_back()
+    let certificate = certificate_by(rt, alloc, reason);
+    let back = certificate.refers_back();
+    drop(certificate);
+    back
 }
 
 fn sum_refers_back(rt: &impl Abort, alloc: Global, index: u32) -> bool {

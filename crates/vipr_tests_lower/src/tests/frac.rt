@@ -1,4 +1,4 @@
-use super::same;
+use super::{Parts, fraction, same};
 use std::cmp::Ordering;
 use std::hash::{DefaultHasher, Hash, Hasher};
 use std::process::Abort;
@@ -6,16 +6,9 @@ use vipr_frac::{Frac, FracError, NumberError, Overflow, Partial};
 
 const M: i128 = i128::MAX;
 
-/// Numerator and denominator.
-type Parts = (i128, i128);
-
-fn frac(rt: &impl Abort, (p, q): Parts) -> Frac {
-    Frac::new(p, q).expect(rt, "a fraction")
-}
-
 fn answer<E: Copy>(rt: &impl Abort, parts: Result<Parts, E>) -> Result<Frac, E> {
     match parts {
-        Ok(parts) => Ok(frac(rt, parts)),
+        Ok(parts) => Ok(fraction(rt, parts)),
         Err(error) => Err(error),
     }
 }
@@ -41,7 +34,7 @@ fn refused_parts(rt: HostRuntime) {
 type Sum = Result<Parts, Overflow>;
 
 fn sum_is(rt: &impl Abort, left: Parts, right: Parts, wanted: Sum) {
-    let sum = frac(rt, left).add(frac(rt, right));
+    let sum = fraction(rt, left).add(fraction(rt, right));
     same(rt, sum, answer(rt, wanted));
 }
 
@@ -62,7 +55,7 @@ fn sums(rt: HostRuntime) {
 }
 
 fn product_is(rt: &impl Abort, left: Parts, right: Parts, wanted: Sum) {
-    let product = frac(rt, left).mul(frac(rt, right));
+    let product = fraction(rt, left).mul(fraction(rt, right));
     same(rt, product, answer(rt, wanted));
 }
 
@@ -81,11 +74,11 @@ fn products(rt: HostRuntime) {
 }
 
 fn becomes(rt: &impl Abort, sum: &mut Partial, factors: (Parts, Parts), wanted: Sum) {
-    let added = sum.add_product(frac(rt, factors.0), frac(rt, factors.1));
+    let added = sum.add_product(fraction(rt, factors.0), fraction(rt, factors.1));
     match wanted {
         Ok(parts) => {
             same(rt, added, Ok(()));
-            same(rt, sum.value(), frac(rt, parts));
+            same(rt, sum.value(), fraction(rt, parts));
         }
         Err(error) => same(rt, added, Err(error)),
     }
@@ -116,8 +109,8 @@ fn compares(rt: &impl Abort, left: Frac, right: Frac, wanted: Ordering) {
 
 #[test]
 fn order(rt: HostRuntime) {
-    let high = frac(&rt, (M, M - 1));
-    let higher = frac(&rt, (M - 1, M - 2));
+    let high = fraction(&rt, (M, M - 1));
+    let higher = fraction(&rt, (M - 1, M - 2));
     compares(&rt, high, higher, Ordering::Less);
     assert!(rt; high < higher);
     compares(&rt, high.neg(), higher.neg(), Ordering::Greater);
@@ -125,15 +118,15 @@ fn order(rt: HostRuntime) {
 
 #[test]
 fn equal_ones(rt: HostRuntime) {
-    let half = frac(&rt, (1, 2));
-    let other = frac(&rt, (2, 4));
+    let half = fraction(&rt, (1, 2));
+    let other = fraction(&rt, (2, 4));
     compares(&rt, other, half, Ordering::Equal);
     same(&rt, other, half);
     same(&rt, hash(other), hash(half));
 }
 
 fn rounds(rt: &impl Abort, (p, q): Parts, floor: i128, ceil: i128) {
-    let f = frac(rt, (p, q));
+    let f = fraction(rt, (p, q));
     let found = (f.floor(), f.ceil(), f.is_whole());
     same(rt, (p, q, found), (p, q, (floor, ceil, floor == ceil)));
 }
@@ -197,7 +190,7 @@ fn read(rt: HostRuntime) {
 }
 
 fn append(rt: &impl Abort, out: &mut Vec<u8>, parts: Parts) {
-    same(rt, frac(rt, parts).write_to(out), Ok(()));
+    same(rt, fraction(rt, parts).write_to(out), Ok(()));
     out.push(b' ').expect(rt, "a space");
 }
 

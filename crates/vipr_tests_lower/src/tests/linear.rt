@@ -2,10 +2,12 @@
 //! ample memory.
 ghost use Rattle.std.specs.Prelude.{◌≡◌, length};
 
-use super::same;
+use self::Asked::{Covers, Dominates, DominatesRounded, Splits};
+use super::{fraction, same};
 use std::alloc::Global;
 use std::process::Abort;
 use vipr_frac::Frac;
+use vipr_linear::Sense::{E, G, L};
 use vipr_linear::{
     CombError, Combination, Constraint, Ints, Rounded, Row, RowError, Sense, Solution, covers,
     holds_at, is_split, is_whole_row, value_at,
@@ -13,202 +15,145 @@ use vipr_linear::{
 
 const MOST: i128 = i128::MAX;
 
-fn frac(rt: &impl Abort, p: i128, q: i128) -> Frac {
-    Frac::new(p, q).expect(rt, "a fraction")
-}
-
 fn row(rt: &impl Abort, alloc: Global, pairs: &[(u32, i128)]) -> Row {
     let mut entries = Vec::new(alloc);
     for (variable, coefficient) in pairs {
-        let entry = (*variable, frac(rt, *coefficient, 1));
+        let entry = (*variable, fraction(rt, (*coefficient, 1)));
         entries.push(entry).expect(rt, "entries");
     }
     Row::from_pairs(alloc, entries).expect(rt, "a row")
 }
 
-// Variables with their coefficients, the sense and the right-hand side.
-type Parts = (&'static [(u32, i128)], Sense, i128);
+// A constraint of the first variable: its coefficient, the sense, and the right-hand side `p` over
+// `q`.
+type Bound = (i128, Sense, i128, i128);
 
-fn constraint(rt: &impl Abort, alloc: Global, (pairs, sense, rhs): Parts) -> Constraint {
+fn bound(rt: &impl Abort, alloc: Global, stated: Bound) -> Constraint {
+    let (coefficient, sense, p, q) = stated;
     Constraint {
-        row: row(rt, alloc, pairs),
+        row: row(rt, alloc, &[(0, coefficient)]),
         sense,
-        rhs: frac(rt, rhs, 1),
+        rhs: fraction(rt, (p, q)),
     }
 }
 
-// Adds to a sum over three variables.
-fn add(
+// What is asked of two constraints.
+#[derive(Clone, Copy)]
+enum Asked {
+    Dominates,
+    DominatesRounded,
+    Splits,
+    Covers,
+}
+
+fn answer(asked: Asked, left: &Constraint, right: &Constraint, ints: &Ints) -> bool {
+    match asked {
+        Dominates => left.dominates(right),
+        DominatesRounded => left.dominates_rounded(right),
+        Splits => is_split(left, right, ints),
+        Covers => covers(left, right, ints),
+    }
+}
+
+fn ask(
     rt: &impl Abort,
-    sum: &mut Combination,
-    constraint: &Constraint,
-    multiplier: Frac,
-) -> Result<(), CombError>
-    requires { length sum.old.sums ≡ 3 }
-    ensures { length sum.new.sums ≡ 3 }
-{
-    assert!(rt; constraint.row.names_below(3), "a variable past the third");
-    sum.add(constraint, multiplier)
+    alloc: Global,
+    ints: &Ints,
+    asked: Asked,
+    left: Bound,
+    right: Bound,
+) -> bool {
+    let left = bound(rt, alloc, left);
+    answer(asked, &left, &bound(rt, alloc, right), ints)
 }
 
-// Sums over the first variable.
-const NONE: &[(u32, i128)] = &[];
-
-const ONCE: &[(u32, i128)] = &[(0, 1)];
-
-const TWICE: &[(u32, i128)] = &[(0, 2)];
-
-fn is_absurd(rt: &impl Abort, alloc: Global, stated: Parts) -> bool {
-    constraint(rt, alloc, stated).is_absurd()
-}
-
-fn is_dominated(rt: &impl Abort, alloc: Global, by: Parts, other: Parts) -> bool {
-    let by = constraint(rt, alloc, by);
-    by.dominates(&constraint(rt, alloc, other))
-}
-
-const DOMINATED: [(Parts, Parts, bool); 5] = [
-    ((NONE, Sense::G, 1), (ONCE, Sense::L, -5), true),
-    ((ONCE, Sense::E, 3), (ONCE, Sense::G, 3), true),
-    ((ONCE, Sense::E, 3), (ONCE, Sense::L, 2), false),
-    ((NONE, Sense::E, 0), (NONE, Sense::G, -1), true),
-    ((TWICE, Sense::G, 6), (ONCE, Sense::G, 3), false),
+const ANSWERS: [(Asked, Bound, Bound, bool); 22] = [
+    (Dominates, (0, G, 1, 1), (1, L, -5, 1), true),
+    (Dominates, (1, E, 3, 1), (1, G, 3, 1), true),
+    (Dominates, (1, E, 3, 1), (1, L, 2, 1), false),
+    (Dominates, (0, E, 0, 1), (0, G, -1, 1), true),
+    (Dominates, (2, G, 6, 1), (1, G, 3, 1), false),
+    (DominatesRounded, (1, G, 1, 2), (1, G, 1, 1), true),
+    (DominatesRounded, (1, G, 1, 2), (1, G, 2, 1), false),
+    (DominatesRounded, (1, E, 1, 2), (1, L, -7, 1), true),
+    (Splits, (1, L, 0, 1), (1, G, 1, 1), true),
+    (Splits, (1, G, 1, 1), (1, L, 0, 1), true),
+    (Splits, (1, L, 0, 1), (1, G, 2, 1), false),
+    (Splits, (1, L, MOST, 1), (1, G, MOST, 1), false),
+    (Covers, (1, L, 1, 1), (1, G, 0, 1), true),
+    (Covers, (1, G, 0, 1), (1, L, 1, 1), true),
+    (Covers, (1, L, MOST, 1), (1, G, MOST, 1), true),
+    (Covers, (1, L, -MOST, 1), (1, G, -MOST, 1), true),
+    (Covers, (1, L, -1, 2), (1, G, -1, 2), true),
+    (Covers, (1, L, 1, 4), (1, G, 3, 4), true),
+    (Covers, (1, L, 1, 2), (1, G, 3, 2), false),
+    (Covers, (1, L, 0, 1), (1, G, 2, 1), false),
+    (Covers, (1, L, 0, 1), (1, L, 1, 1), false),
+    (Covers, (1, L, -MOST, 1), (1, G, MOST, 1), false),
 ];
 
-#[test]
-fn dominates(rt: HostRuntime) {
-    let alloc = rt.alloc();
-    assert!(rt; is_absurd(&rt, alloc, (NONE, Sense::G, 1)));
-    assert!(rt; !is_absurd(&rt, alloc, (NONE, Sense::E, 0)));
-    for (by, other, wanted) in &DOMINATED {
-        same(&rt, is_dominated(&rt, alloc, *by, *other), *wanted);
-    }
-}
-
-// A bound of the first variable: `p` over `q`.
-fn bound(rt: &impl Abort, alloc: Global, (sense, p, q): Bound) -> Constraint {
-    Constraint {
-        row: row(rt, alloc, ONCE),
-        sense,
-        rhs: frac(rt, p, q),
-    }
-}
-
-type Bound = (Sense, i128, i128);
-
-fn at_most(p: i128, q: i128) -> Bound {
-    (Sense::L, p, q)
-}
-
-fn at_least(p: i128, q: i128) -> Bound {
-    (Sense::G, p, q)
-}
-
-// The first variable alone is whole.
-fn first(rt: &impl Abort, alloc: Global) -> Ints {
-    let indices = vec![in alloc; 0, 0].expect(rt, "indices");
+fn whole(rt: &impl Abort, alloc: Global, indices: &[u32]) -> Ints {
+    let indices = indices.to_vec(alloc).expect(rt, "indices");
     Ints::from_indices(alloc, indices).expect(rt, "whole variables")
 }
 
 #[test]
-fn whole_variables(rt: HostRuntime) {
-    let ints = first(&rt, rt.alloc());
-    assert!(rt; ints.contains(0));
-    same(&rt, ints.indices(), [0].as_slice());
-}
-
-fn splits(rt: &impl Abort, alloc: Global, ints: &Ints, left: Bound, right: Bound) -> bool {
-    let left = bound(rt, alloc, left);
-    is_split(&left, &bound(rt, alloc, right), ints)
-}
-
-const SPLIT: [(Bound, Bound, bool); 4] = [
-    ((Sense::L, 0, 1), (Sense::G, 1, 1), true),
-    ((Sense::G, 1, 1), (Sense::L, 0, 1), true),
-    ((Sense::L, 0, 1), (Sense::G, 2, 1), false),
-    ((Sense::L, MOST, 1), (Sense::G, MOST, 1), false),
-];
-
-#[test]
-fn split(rt: HostRuntime) {
-    let ints = first(&rt, rt.alloc());
-    for (left, right, wanted) in &SPLIT {
-        let found = splits(&rt, rt.alloc(), &ints, *left, *right);
-        same(&rt, found, *wanted);
-    }
-}
-
-fn covers_with(rt: &impl Abort, alloc: Global, ints: &Ints, left: Bound, right: Bound) -> bool {
-    let left = bound(rt, alloc, left);
-    covers(&left, &bound(rt, alloc, right), ints)
-}
-
-const COVERED: [(Bound, Bound, bool); 10] = [
-    ((Sense::L, 1, 1), (Sense::G, 0, 1), true),
-    ((Sense::G, 0, 1), (Sense::L, 1, 1), true),
-    ((Sense::L, MOST, 1), (Sense::G, MOST, 1), true),
-    ((Sense::L, -MOST, 1), (Sense::G, -MOST, 1), true),
-    ((Sense::L, -1, 2), (Sense::G, -1, 2), true),
-    ((Sense::L, 1, 4), (Sense::G, 3, 4), true),
-    ((Sense::L, 1, 2), (Sense::G, 3, 2), false),
-    ((Sense::L, 0, 1), (Sense::G, 2, 1), false),
-    ((Sense::L, 0, 1), (Sense::L, 1, 1), false),
-    ((Sense::L, -MOST, 1), (Sense::G, MOST, 1), false),
-];
-
-#[test]
-fn covered(rt: HostRuntime) {
-    let ints = first(&rt, rt.alloc());
-    for (left, right, wanted) in &COVERED {
-        let found = covers_with(&rt, rt.alloc(), &ints, *left, *right);
+fn two_constraints(rt: HostRuntime) {
+    let ints = whole(&rt, rt.alloc(), &[0, 0]);
+    for (asked, left, right, wanted) in &ANSWERS {
+        let found = ask(&rt, rt.alloc(), &ints, *asked, *left, *right);
         same(&rt, found, *wanted);
     }
 }
 
 #[test]
 fn not_covered_unless_whole(rt: HostRuntime) {
-    let alloc = rt.alloc();
-    let none = Ints::from_indices(alloc, Vec::new(alloc)).expect(&rt, "no whole variables");
-    assert!(rt; !covers_with(&rt, alloc, &none, at_most(1, 1), at_least(0, 1)));
+    let ints = whole(&rt, rt.alloc(), &[]);
+    let (left, right) = ((1, L, 1, 1), (1, G, 0, 1));
+    let found = ask(&rt, rt.alloc(), &ints, Covers, left, right);
+    same(&rt, found, false);
 }
 
-fn is_whole(rt: &impl Abort, alloc: Global, pairs: &[(u32, i128)]) -> bool {
-    let ints = first(rt, alloc);
-    is_whole_row(&row(rt, alloc, pairs), &ints)
+fn is_absurd(rt: &impl Abort, alloc: Global, stated: Bound) -> bool {
+    bound(rt, alloc, stated).is_absurd()
 }
-
-fn dominates_rounded(rt: &impl Abort, alloc: Global, by: Bound, other: Bound) -> bool {
-    let by = bound(rt, alloc, by);
-    by.dominates_rounded(&bound(rt, alloc, other))
-}
-
-const ROUNDED: [(Bound, Bound, bool); 3] = [
-    ((Sense::G, 1, 2), (Sense::G, 1, 1), true),
-    ((Sense::G, 1, 2), (Sense::G, 2, 1), false),
-    ((Sense::E, 1, 2), (Sense::L, -7, 1), true),
-];
 
 #[test]
-fn rounded(rt: HostRuntime) {
-    let alloc = rt.alloc();
-    assert!(rt; is_whole(&rt, alloc, &[(0, 1)]));
-    assert!(rt; !is_whole(&rt, alloc, &[(1, 1)]));
-    for (by, other, wanted) in &ROUNDED {
-        same(&rt, dominates_rounded(&rt, alloc, *by, *other), *wanted);
+fn absurd_ones(rt: HostRuntime) {
+    for (sense, rhs, wanted) in [(G, 1, true), (E, 0, false)] {
+        same(&rt, is_absurd(&rt, rt.alloc(), (0, sense, rhs, 1)), wanted);
+    }
+}
+
+#[test]
+fn whole_variables(rt: HostRuntime) {
+    let ints = whole(&rt, rt.alloc(), &[0, 0]);
+    assert!(rt; ints.contains(0));
+    same(&rt, ints.indices(), [0].as_slice());
+}
+
+fn is_whole(rt: &impl Abort, alloc: Global, ints: &Ints, variable: u32) -> bool {
+    is_whole_row(&row(rt, alloc, &[(variable, 1)]), ints)
+}
+
+#[test]
+fn whole_rows(rt: HostRuntime) {
+    let ints = whole(&rt, rt.alloc(), &[0, 0]);
+    for (variable, wanted) in [(0, true), (1, false)] {
+        same(&rt, is_whole(&rt, rt.alloc(), &ints, variable), wanted);
     }
 }
 
 #[test]
 fn a_whole_row_is_remembered(rt: HostRuntime) {
     let alloc = rt.alloc();
-    let mut ints = first(&rt, alloc);
-    let shared = row(&rt, alloc, &[(0, 1)])
-        .shared(alloc)
-        .expect(&rt, "a shared row");
+    let mut ints = whole(&rt, alloc, &[0, 0]);
+    let shared = row(&rt, alloc, &[(0, 1)]).shared(alloc);
+    let shared = shared.expect(&rt, "a shared row");
     ints.remember(&shared).expect(&rt, "a row that is kept");
     let clone = shared.clone().expect(&rt, "a clone");
     assert!(rt; is_whole_row(&clone, &ints));
-    assert!(rt; !is_whole_row(&row(&rt, alloc, &[(1, 1)]), &ints));
+    assert!(rt; !is_whole(&rt, alloc, &ints, 1));
 }
 
 #[test]
@@ -228,39 +173,50 @@ fn repeated(rt: HostRuntime) {
     same(&rt, error, Some(RowError::Repeated(4)));
 }
 
-fn add_multiple(
+// Adds to a sum over three variables, and compares the answer.
+fn adds(
     rt: &impl Abort,
-    alloc: Global,
     sum: &mut Combination,
-    stated: Parts,
+    constraint: &Constraint,
     multiplier: Frac,
+    wanted: Result<(), CombError>,
 )
     requires { length sum.old.sums ≡ 3 }
     ensures { length sum.new.sums ≡ 3 }
 {
-    let added = add(rt, sum, &constraint(rt, alloc, stated), multiplier);
-    added.expect(rt, "a sum");
+    assert!(rt; constraint.row.names_below(3), "a variable past the third");
+    same(rt, sum.add(constraint, multiplier), wanted);
+}
+
+// 2 times the third variable and 4 times the first are at least 3.
+fn two_variables(rt: &impl Abort, alloc: Global) -> Constraint {
+    Constraint {
+        row: row(rt, alloc, &[(2, 2), (0, 4)]),
+        sense: G,
+        rhs: fraction(rt, (3, 1)),
+    }
 }
 
 // The third variable is at least 1/2, as a sum of two constraints.
 fn at_least_half(rt: &impl Abort, alloc: Global) -> Constraint {
     let mut sum = Combination::new(alloc, 3).expect(rt, "a sum");
-    let stated: Parts = (&[(2, 2), (0, 4)], Sense::G, 3);
-    add_multiple(rt, alloc, &mut sum, stated, frac(rt, 1, 2));
-    add_multiple(rt, alloc, &mut sum, (TWICE, Sense::L, 1), Frac::one().neg());
+    let half = fraction(rt, (1, 2));
+    adds(rt, &mut sum, &two_variables(rt, alloc), half, Ok(()));
+    let twice = bound(rt, alloc, (2, L, 1, 1));
+    adds(rt, &mut sum, &twice, Frac::one().neg(), Ok(()));
     sum.finish(alloc).expect(rt, "a sum")
 }
 
 fn is_at_least_half(rt: &impl Abort, found: &Constraint, half: Frac) {
     same(rt, found.row.entries(), [(2, Frac::one())].as_slice());
-    same(rt, found.sense, Sense::G);
+    same(rt, found.sense, G);
     same(rt, found.rhs, half);
 }
 
 #[test]
 fn sums(rt: HostRuntime) {
     let found = at_least_half(&rt, rt.alloc());
-    is_at_least_half(&rt, &found, frac(&rt, 1, 2));
+    is_at_least_half(&rt, &found, fraction(&rt, (1, 2)));
 }
 
 // What a constraint is at a solution.
@@ -273,7 +229,11 @@ fn at(rt: &impl Abort, found: &Constraint, solution: &Solution) -> (Frac, bool) 
 fn values_of_sums(rt: HostRuntime) {
     let found = at_least_half(&rt, rt.alloc());
     let solution = Solution(row(&rt, rt.alloc(), &[(2, 5)]));
-    same(&rt, at(&rt, &found, &solution), (frac(&rt, 5, 1), true));
+    same(
+        &rt,
+        at(&rt, &found, &solution),
+        (fraction(&rt, (5, 1)), true),
+    );
 }
 
 fn side(rounded: Rounded) -> Option<Frac> {
@@ -284,8 +244,7 @@ fn side(rounded: Rounded) -> Option<Frac> {
 }
 
 fn rounded_side(rt: &impl Abort, alloc: Global, found: Constraint) -> Option<Frac> {
-    let third = vec![in alloc; 2].expect(rt, "indices");
-    let ints = Ints::from_indices(alloc, third).expect(rt, "whole variables");
+    let ints = whole(rt, alloc, &[2]);
     side(found.round(&ints).expect(rt, "a rounded one"))
 }
 
@@ -296,32 +255,16 @@ fn sums_are_rounded(rt: HostRuntime) {
     same(&rt, side, Some(Frac::one()));
 }
 
-// Adds a bound, and compares the answer.
-fn adds(
-    rt: &impl Abort,
-    alloc: Global,
-    sum: &mut Combination,
-    term: (Bound, Frac),
-    wanted: Result<(), CombError>,
-)
-    requires { length sum.old.sums ≡ 3 }
-    ensures { length sum.new.sums ≡ 3 }
-{
-    let (given, multiplier) = term;
-    let added = add(rt, sum, &bound(rt, alloc, given), multiplier);
-    same(rt, added, wanted);
-}
-
 #[test]
 fn mixed_signs(rt: HostRuntime) {
     let alloc = rt.alloc();
     let one = Frac::one();
     let mut sum = Combination::new(alloc, 3).expect(&rt, "a sum");
-    adds(&rt, alloc, &mut sum, (at_most(0, 1), one), Ok(()));
-    let mixed = Err(CombError::MixedSigns);
-    adds(&rt, alloc, &mut sum, (at_least(1, 1), one), mixed);
-    let spent = Err(CombError::Spent);
-    adds(&rt, alloc, &mut sum, (at_least(1, 1), Frac::zero()), spent);
+    adds(&rt, &mut sum, &bound(&rt, alloc, (1, L, 0, 1)), one, Ok(()));
+    let least = bound(&rt, alloc, (1, G, 1, 1));
+    adds(&rt, &mut sum, &least, one, Err(CombError::MixedSigns));
+    let zero = Frac::zero();
+    adds(&rt, &mut sum, &least, zero, Err(CombError::Spent));
     sum.clear();
     let empty = sum.finish(alloc).expect(&rt, "no sum");
     assert!(rt; empty.row.is_empty());

@@ -1,11 +1,8 @@
 //! Texts that are longer than the buffer from which they are written.
-use super::same;
-use bstr::BString;
+use super::write::Taking;
+use super::{same, spelled};
 use std::alloc::Global;
 use std::process::Abort;
-use vipr_bytes::{Failed, Sink};
-use vipr_cert::{Certificate, Claim, Goal, Name, Problem};
-use vipr_linear::{Ints, Row};
 use vipr_write::{WriteError, write_certificate};
 
 const FRONT: &[u8] = b"VER 1.0
@@ -29,30 +26,7 @@ fn letters(rt: &impl Abort, alloc: Global, length: usize) -> Vec<u8> {
     vec![in alloc; b'x'; length].expect(rt, "letters")
 }
 
-fn name(rt: &impl Abort, alloc: Global, length: usize) -> Name {
-    let letters = letters(rt, alloc, length);
-    let bytes = BString::from_slice(alloc, letters.as_slice()).expect(rt, "bytes");
-    Name::new(bytes).expect(rt, "a name")
-}
-
-fn problem(rt: &impl Abort, alloc: Global, first: usize, second: usize) -> Problem {
-    let names = [name(rt, alloc, first), name(rt, alloc, second)];
-    let names = Vec::from_array(alloc, names).expect(rt, "names");
-    let ints = Ints::from_indices(alloc, Vec::new(alloc)).expect(rt, "indices");
-    let objective = Row::from_pairs(alloc, Vec::new(alloc)).expect(rt, "a row");
-    let cons = Vec::new(alloc);
-    let problem = Problem::new(names, ints, Goal::Min, objective, cons, 0, Claim::Infeas);
-    problem.expect(rt, "a problem")
-}
-
-/// A certificate of two variables, whose names have these lengths.
-fn certificate(rt: &impl Abort, alloc: Global, first: usize, second: usize) -> Certificate {
-    let problem = problem(rt, alloc, first, second);
-    let certificate = Certificate::new(problem, Vec::new(alloc), Vec::new(alloc));
-    certificate.expect(rt, "a certificate")
-}
-
-/// Its text.
+/// The text of a certificate of two variables, whose names have these lengths.
 fn text(rt: &impl Abort, alloc: Global, first: usize, second: usize) -> Vec<u8> {
     let mut text = Vec::new(alloc);
     let (first, second) = (letters(rt, alloc, first), letters(rt, alloc, second));
@@ -62,62 +36,25 @@ fn text(rt: &impl Abort, alloc: Global, first: usize, second: usize) -> Vec<u8> 
     text
 }
 
-/// Takes at most so many bytes a call, and fails if no room is left.
-#[derive(Drop)]
-struct Pieces {
-    accepted: Vec<u8>,
-    room: usize,
-    most: usize,
-    calls: usize,
-}
-
-impl Pieces {
-    fn new(rt: &impl Abort, alloc: Global, room: usize, most: usize) -> Pieces {
-        Pieces {
-            accepted: Vec::with_capacity(alloc, 200_000).expect(rt, "room"),
-            room,
-            most,
-            calls: 0,
-        }
-    }
-}
-
-impl Sink for Pieces {
-    ghost use Rattle.std.specs.Prelude.{None};
-
-    ghost output = { λ _. None };
-
-    ghost failures = { λ _. None };
-
-    fn write(&mut self, bytes: &[u8]) -> Result<usize, Failed> {
-        self.calls = self.calls.saturating_add(1);
-        let n = bytes.len().min(self.room).min(self.most);
-        if n == 0 || self.accepted.extend_from_slice(&bytes[..n]).is_err() {
-            return Err(Failed);
-        }
-        self.room -= n;
-        Ok(n)
-    }
-}
-
 /// Writes the certificate of two names to a sink, and compares the answer and what was taken.
 fn takes(
     rt: &impl Abort,
     alloc: Global,
     (first, second): (usize, usize),
-    sink: &mut Pieces,
+    sink: &mut Taking,
     wanted: Result<(), WriteError>,
 ) {
-    let certificate = certificate(rt, alloc, first, second);
-    same(rt, write_certificate(alloc, &certificate, sink), wanted);
     let text = text(rt, alloc, first, second);
+    let certificate = spelled(rt, alloc, text.as_slice());
+    same(rt, write_certificate(alloc, &certificate, sink), wanted);
+    drop(certificate);
     let accepted = sink.accepted.len().min(text.len());
     same(rt, sink.accepted.as_slice(), &text[..accepted]);
 }
 
 /// A text of so many bytes is taken whole, by so many calls.
 fn whole(rt: &impl Abort, alloc: Global, first: usize, second: usize, calls: usize) {
-    let mut sink = Pieces::new(rt, alloc, usize::MAX, usize::MAX);
+    let mut sink = Taking::new(rt, alloc, usize::MAX, usize::MAX, true);
     takes(rt, alloc, (first, second), &mut sink, Ok(()));
     same(
         rt,
@@ -143,7 +80,7 @@ fn names_that_end_about_where_the_buffer_does(rt: HostRuntime) {
 
 #[test]
 fn one_byte_a_call(rt: HostRuntime) {
-    let mut sink = Pieces::new(&rt, rt.alloc(), usize::MAX, 1);
+    let mut sink = Taking::new(&rt, rt.alloc(), usize::MAX, 1, true);
     takes(&rt, rt.alloc(), (65_522, 20), &mut sink, Ok(()));
     same(&rt, sink.calls, 65_605);
 }
@@ -151,7 +88,7 @@ fn one_byte_a_call(rt: HostRuntime) {
 #[test]
 fn fails_about_where_the_buffer_ends(rt: HostRuntime) {
     for room in [0, 1, 65_534, 65_535, 65_536, 65_537, 65_538, 131_119] {
-        let mut sink = Pieces::new(&rt, rt.alloc(), room, usize::MAX);
+        let mut sink = Taking::new(&rt, rt.alloc(), room, usize::MAX, true);
         let taken = room as u64;
         let wanted = Err(WriteError::Write { taken });
         takes(&rt, rt.alloc(), (65_522, 65_535), &mut sink, wanted);

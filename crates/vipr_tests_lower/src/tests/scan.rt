@@ -1,30 +1,12 @@
 //! Tokens of short texts, a token that a failed read cuts short, and one that is too long.
 ghost use Rattle.std.specs.Prelude.{ℕ, Ok, length};
 
+use super::bytes::Interrupted;
 use super::same;
 use std::alloc::Global;
-use std::io::{self, Read};
 use std::process::Abort;
 use vipr_bytes::{Bytes, FromRead, Source};
 use vipr_scan::{ScanError, Scanner, TextError, TokenKind, Tokens, Unfit, cause};
-
-/// Gives at most two bytes a read, and fails after so many reads.
-#[derive(Drop)]
-struct Halting<'a> {
-    text: &'a [u8],
-    reads_left: u8,
-}
-
-impl Read for Halting<'_> {
-    fn read(&mut self, buf: &mut [u8]) -> io::Result<usize> {
-        if self.reads_left == 0 {
-            return Err(io::Error::from(io::ErrorKind::Interrupted));
-        }
-        self.reads_left -= 1;
-        let len = buf.len().min(2);
-        self.text.read(&mut buf[..len])
-    }
-}
 
 /// Asks for a token, and compares its bytes and its offset.
 fn gives<R: Source>(rt: &impl Abort, tokens: &mut Tokens<R>, wanted: Option<(&[u8], u64)>) {
@@ -49,10 +31,7 @@ fn fails<R: Source>(rt: &impl Abort, tokens: &mut Tokens<R>, wanted: TextError) 
 
 #[test]
 fn a_token_before_a_failed_read_is_not_given(rt: HostRuntime) {
-    let source = FromRead::new(Halting {
-        text: b"ab cd",
-        reads_left: 2,
-    });
+    let source = FromRead::new(Interrupted::new(b"ab cd".as_slice(), 3));
     let mut tokens = Tokens::new(rt.alloc(), source).expect(&rt, "tokens");
     gives(&rt, &mut tokens, Some((b"ab", 0)));
     fails(&rt, &mut tokens, TextError::Read);
