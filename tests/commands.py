@@ -35,6 +35,7 @@ RUNNING = re.compile(r'make test|make house|python3 tests/\w+\.py')
 WANTED = ['cc', 'man', 'parallel', 'pv']
 INSTALLED = ['bin/vipr', 'share/bash-completion/completions/vipr', 'share/fish/vendor_completions.d/vipr.fish',
              'share/man/man1/vipr.1', 'share/zsh/site-functions/_vipr']
+ARCHIVE = 'crates/vipr_c/out/libvipr.a'
 LIBRARY = ['include/vipr.h', 'lib/libvipr.a', 'lib/libvipr.so', 'lib/pkgconfig/vipr.pc']
 TASKS = 3
 checks = failed = 0
@@ -98,6 +99,9 @@ class Reader:
         for out in TOP.glob('crates/*/out'):
             shutil.copytree(out, self.clone / out.relative_to(TOP), dirs_exist_ok=True)
         proved.take_over(TOP, self.clone)
+        if self.run(f'make -q {ARCHIVE}', TOP)[0] == 0:
+            # tests/library.py built it from what stands here: it is older than the clone's files, and isn't out of date
+            os.utime(self.clone / ARCHIVE)
 
     def lay_out_files(self):
         """What docs/USE.md speaks of."""
@@ -152,8 +156,6 @@ def look_at(reader, rows, said):
             check((reader.home / '.local' / name).is_file(), f'make install-lib leaves no {name}')
         callers = words.count('/check ') + words.count('/check.py ')
         check(callers and said.count('infeasible.vipr: verified infeas, solutions 0') == callers, f'the callers print {said[-400:]!r}')
-    if 'rt test' in words:
-        check('FAILED' not in said, f'rt test prints {said[-600:]!r}')
     if 'pv ' in words:
         check('verified infeas' in said, f'pv certificate.vipr | vipr check prints {said!r}')
     if 'gmp_check' in words:

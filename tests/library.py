@@ -52,6 +52,13 @@ def folder(room):
     return copy if proved.take_over(TOP, copy) else TOP
 
 
+def hand_back(top):
+    """Puts the library that was built in a copy where `make lib` has it: later scripts needn't prove it once more."""
+    for file in (top / 'crates/vipr_c/out').glob('libvipr.*'):
+        if top != TOP:
+            shutil.copy2(file, TOP / file.relative_to(top))
+
+
 def make(target, top, prefix):
     environment = {name: value for name, value in os.environ.items() if name not in ('MAKEFLAGS', 'MFLAGS', 'DESTDIR')}
     done = subprocess.run(['make', '--no-print-directory', target, f'PREFIX={prefix}', f'PYTHON={sys.executable}'], cwd=top,
@@ -273,6 +280,7 @@ def main():
         room, prefix = Path(name), Path(name) / 'installed'
         top = folder(room)
         if make('install-lib', top, prefix):
+            hand_back(top)
             look_at_files(prefix)
             look_at_header(prefix, room)
             count = look_at_texts(prefix, room) + look_at_callers(prefix, room)
