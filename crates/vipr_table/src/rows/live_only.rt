@@ -69,9 +69,10 @@ impl Rows for LiveOnly {
         if let Err(e) = self.order.reserve_one() {
             return Err((entry, e));
         }
-        if let Err(refused) = self.rows.insert(index, entry) {
-            return Err((refused.value.1, AllocError));
-        }
+        let Ok(place) = self.rows.entry(index) else {
+            return Err((entry, AllocError));
+        };
+        place.insert_entry(entry);
         self.order.note(expiry, index);
         self.next += 1;
         Ok(())
