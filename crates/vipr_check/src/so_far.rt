@@ -32,8 +32,8 @@ use vipr_cert::{Derivation, Name, Named, Problem};
 use vipr_frac::Frac;
 use vipr_linear::{Combination, Constraint, Solution};
 use vipr_rules::{
-    Columns, Entry, Profile, Rows, RuleError, SolutionError, Target, apply_in, apply_taking,
-    better, meets_primal, test_solution, test_solution_by_columns,
+    Columns, Entry, Profile, Rows, RuleError, SolutionError, Target, apply_in, better, judge,
+    meets_primal, take_entry, test_solution, test_solution_by_columns,
 };
 
 /// What is known of a certificate so far.
@@ -361,7 +361,7 @@ impl<S: Rows> Progress<S> {
         ensures err { IfErr result (λ e. (self.new ≡ self.old) ⊎ ((e ≡ Memory)
             × (self.new ≡ record self.old { rows = advance_table self.old.rows }))) }
     {
-        let entry = apply_taking(
+        let assumptions = judge(
             alloc,
             self.profile,
             &self.problem,
@@ -370,7 +370,7 @@ impl<S: Rows> Progress<S> {
             &mut self.scratch,
             step,
         )?;
-        self.keep(entry)
+        self.keep(take_entry(alloc, step, assumptions))
     }
 
     // Goes on with what is to be kept of a derivation that passed.

@@ -1,7 +1,7 @@
 -- What is answered of a derivation, by what the rule of its reason says
 use Rattle.std.proofs.Common.{◌≡◌, ℕ, Some, Ok, Err, Result, Option, refl, sym, ◌∙◌, ap, subst, inl}
 use Rattle.std.proofs.Common.{inr}
-use Rattle.std.specs.Prelude.{IsTrue}
+use Rattle.std.specs.Prelude.{IsTrue, IfOk}
 use Rattle.std.specs.FinSet.{FinSet, contains}
 use Rattle.std.specs.Ordering.{nat_cmp}
 use Rattle.vipr_spec.specs.Fraction.{ℚ}
@@ -18,7 +18,7 @@ use Rattle.vipr_rules.specs.declared.error.RuleError.{RuleError}
 use Rattle.vipr_rules.specs.declared.error.RuleError.TheVariants.{Memory}
 use Rattle.vipr_rules.specs.Context.{IsSetByReason}
 use Rattle.vipr_rules.specs.Soundness.{HasSoundRows, IsTrueUnder}
-use Rattle.vipr_rules.specs.Apply.{IsRuledBy, Applies}
+use Rattle.vipr_rules.specs.Apply.{IsRuledBy, Applies, judged_entry, judged_answer}
 use Rattle.vipr_rules.proofs.StepLemmas.{kept_entry, keeps_sound, refusal, known_is_not_memory}
 use Rattle.vipr_rules.proofs.StepLemmas.{free_of_all}
 
@@ -70,3 +70,15 @@ module _ (P : Profile) (p : Problem) (best : Option ℚ) (table : Table) (step :
             (follows says x rows admitted (next ∙ copy) (λ a t. h a (subst (λ z. IsTrue (contains z a)) (sym rests) t)));
         stated = states;
       }
+
+  -- either is so of what is kept of it
+  pub judged : (x : Result (FinSet nat_cmp) RuleError) → Rules x
+      → IfOk x (λ s. (says : ℕ → Condition) (q : Point) → HasSoundRows p best table says → IsAdmittedBy p best q → says table.next ≡ condition_of step.constraint → IsTrueUnder (variables p) says s (condition_of step.constraint) q)
+      → Applies P p best table step (judged_answer step x)
+  judged (Ok s) ruled follows = applies s ruled follows (judged_entry step s) refl refl refl refl
+  judged (Err e) ruled follows = applies_not e ruled
+
+pub weaker : {A E : Type 0} (x : Result A E) (P Q : A → Type 0) → ((a : A) → P a → Q a) → IfOk x P
+    → IfOk x Q
+weaker (Ok a) P Q f p = f a p
+weaker (Err e) P Q f p = tt

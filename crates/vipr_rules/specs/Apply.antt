@@ -7,7 +7,7 @@ use Rattle.vipr_spec.specs.Fraction.{ℚ}
 use Rattle.vipr_spec.specs.Constraint.{Profile, Condition, condition, Entry as Summand, SumOfFits}
 use Rattle.vipr_spec.specs.Constraint.{Dominates}
 use Rattle.vipr_spec.specs.Certificate.{Problem, Reason, uns, sol, Derivation, Certificate}
-use Rattle.vipr_spec.specs.Certificate.{is_live, count}
+use Rattle.vipr_spec.specs.Certificate.{is_live, count, is_assumption}
 use Rattle.vipr_spec.specs.Causes as cause
 use Rattle.vipr_spec.specs.Steps.{PassesStep, with_next, StepTest, earlier, live, assumed, listed}
 use Rattle.vipr_spec.specs.Steps.{step_tests, RefersBack, FirstFailing, step_cause, Shows, Refuses}
@@ -116,6 +116,20 @@ IsRuledBy P c d r (Err e) =
     ((e ≡ Memory) × PassesTestsIn P c d (free_tests r)) ⊎ StopsIn P c d (step_tests r) e
 
 -- ---- what a call answers
+
+-- what is kept of a derivation that rests on these assumptions
+abbrev pub judged_entry : Step → set.FinSet nat_cmp → Entry
+judged_entry step s = record {
+  constraint = step.constraint;
+  assumptions = s;
+  is_assumption = is_assumption (Some (reason_of step.reason));
+  last = step.last;
+}
+
+-- the same of a derivation that was tested
+abbrev pub judged_answer : Step → Result (set.FinSet nat_cmp) RuleError → Result Entry RuleError
+judged_answer step (Ok s) = Ok (judged_entry step s)
+judged_answer step (Err e) = Err e
 
 -- of the derivation `step`, by a profile, against a problem, the best objective value among the
 -- listed solutions and the table of earlier derivations

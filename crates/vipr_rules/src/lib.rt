@@ -18,6 +18,6 @@ pub use claim::{Target, better, claimed_primal, meets_primal};
 pub use columns::Columns;
 pub use error::RuleError;
 pub use profile::Profile;
-pub use rules::{apply, apply_in, apply_taking};
+pub use rules::{apply, apply_in, judge, take_entry};
 pub use solution::{SolutionError, test_solution, test_solution_by_columns};
 pub use vipr_table::{Assumptions, Entry, KeepAll, LiveOnly, Rows};

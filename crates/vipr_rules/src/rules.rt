@@ -9,10 +9,10 @@
 //! [`apply`] tests a derivation against the problem, the best value of the listed solutions and the
 //! table of earlier constraints. It gives the [`Entry`] to be kept: the constraint with the
 //! assumptions that it rests on and its last reference. [`apply_in`] does so by the rules of a
-//! [`Profile`], and [`apply_taking`] moves the constraint out of the derivation. An error is the
-//! first test that fails, with what shows it.
+//! [`Profile`]. [`judge`] gives the assumptions alone, and [`take_entry`] makes the entry: it moves
+//! the constraint out of the derivation. An error is the first test that fails, with what shows it.
 
-ghost use Rattle.std.specs.Prelude.{◌≡◌, ℕ, length, Some, IfOk, OnErr};
+ghost use Rattle.std.specs.Prelude.{◌≡◌, ℕ, length, Some, IfOk};
 ghost use Rattle.std.specs.Prelude.{option_copied};
 ghost use Rattle.vipr_spec.specs.Constraint.{Profile as ProfileMeant, one, Condition, Point};
 ghost use Rattle.vipr_spec.specs.Certificate.{Certificate, variables};
@@ -23,7 +23,7 @@ ghost use Rattle.vipr_table.specs.Table.{DerivedBelow};
 ghost use Rattle.vipr_rules.specs.Profile.{profile_of};
 ghost use Rattle.vipr_rules.specs.Context.{IsContextOf};
 ghost use Rattle.vipr_rules.specs.Soundness.{IsSoundAt, IsTrueUnder};
-ghost use Rattle.vipr_rules.specs.Apply.{IsRuledBy, Applies};
+ghost use Rattle.vipr_rules.specs.Apply.{IsRuledBy, Applies, judged_entry, judged_answer};
 
 use crate::branches::{Branch, join_branches};
 use crate::context::Context;
@@ -100,28 +100,27 @@ pub fn apply_in<S: Rows>(
     })
 }
 
-/// Applies a derivation's reason, and takes the constraint out of the derivation if it passes.
+/// Applies a derivation's reason, and gives the assumptions that its constraint rests on.
 ///
 /// `scratch` is made for the problem's number of variables; what it holds doesn't matter.
 ///
 /// # Errors
 ///
 /// The first test that the derivation fails, with what shows it.
-pub fn apply_taking<S: Rows>(
+#[inline(always)]
+pub fn judge<S: Rows>(
     alloc: Global,
     profile: Profile,
     p: &Problem,
     best: Option<&Frac>,
     rows: &S,
     scratch: &mut Combination,
-    step: &mut Derivation,
-) -> Result<Entry, RuleError>
+    step: &Derivation,
+) -> Result<Assumptions, RuleError>
     requires variables { length scratch.old.sums ≡ variables p.now }
     requires rows { DerivedBelow (variables p.now) (S.table rows.now) }
     ensures applies { Applies (profile_of profile) p.now (option_copied best.entry)
-        (S.table rows.now) step.old result }
-    ensures named { step.new.name ≡ step.old.name }
-    ensures err { OnErr result (step.new ≡ step.old) }
+        (S.table rows.now) step.now (judged_answer step.now result) }
     ensures variables { length scratch.new.sums ≡ length scratch.old.sums }
 {
     let against = Context {
@@ -130,13 +129,21 @@ pub fn apply_taking<S: Rows>(
         best,
         rows,
     };
-    let assumptions = assumptions_of(alloc, &against, scratch, step)?;
-    Ok(Entry {
+    assumptions_of(alloc, &against, scratch, step)
+}
+
+/// What is kept of a derivation that rests on these assumptions. Its constraint is moved out of it.
+#[inline(always)]
+pub fn take_entry(alloc: Global, step: &mut Derivation, assumptions: Assumptions) -> Entry
+    ensures kept { result ≡ judged_entry step.old assumptions }
+    ensures named { step.new.name ≡ step.old.name }
+{
+    Entry {
         constraint: replace(&mut step.constraint, nothing_stated(alloc)),
         assumptions,
         is_assumption: is_assumption(&step.reason),
         last: step.last,
-    })
+    }
 }
 
 // A constraint without variables. Takes no memory.
