@@ -119,6 +119,7 @@ fn a_writer_is_written_and_its_errors_are_failures(rt: HostRuntime) {
     let mut bytes = Vec::new(rt.alloc());
     takes_two_of_three_and_fails(&rt, &mut bytes);
     same(&rt, bytes.as_slice(), b"abab".as_slice());
+    drop(bytes);
 }
 
 #[test]
@@ -150,6 +151,7 @@ fn bytes_are_handed_over_until_all_are_accepted(rt: HostRuntime) {
     hands_over(&rt, &mut bytes, b"abcde", Ok(()));
     hands_over(&rt, &mut bytes, b"", Ok(()));
     same(&rt, bytes.as_slice(), b"abcde".as_slice());
+    drop(bytes);
 }
 
 /// The number of calls that a writer gets for five bytes, the second of which is interrupted.
@@ -164,4 +166,5 @@ fn an_interrupted_write_ends_the_call(rt: HostRuntime) {
     let mut bytes = Vec::new(rt.alloc());
     same(&rt, calls_for_five(&rt, &mut bytes), 2);
     same(&rt, bytes.as_slice(), b"ab".as_slice());
+    drop(bytes);
 }

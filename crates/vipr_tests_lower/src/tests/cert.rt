@@ -140,6 +140,7 @@ fn is_kept(rt: &impl Abort, alloc: Global) {
     same(rt, token.as_bytes(), b"x#1".as_slice());
     let again = Name::of_token(alloc, token.as_bytes()).expect(rt, "a name");
     same(rt, again.as_bytes(), b"x#1".as_slice());
+    drop((token, again));
 }
 
 #[test]
@@ -200,6 +201,7 @@ fn problems_have_their_parts(rt: HostRuntime) {
     let found = problem_at(&rt, rt.alloc(), 1);
     has_its_lists(&rt, &found);
     has_its_aim(&rt, &found);
+    drop(found);
 }
 
 #[test]
@@ -213,6 +215,7 @@ fn certificates(rt: HostRuntime) {
 fn certificates_have_their_parts(rt: HostRuntime) {
     let found = certificate_by(&rt, rt.alloc(), Reason::Asm);
     same(&rt, lengths(&found), [2, 1, 1, 1, 1]);
+    drop(found);
 }
 
 // Whether all that the only derivation refers to comes before it.

@@ -64,7 +64,10 @@ fn ask(
     right: Bound,
 ) -> bool {
     let left = bound(rt, alloc, left);
-    answer(asked, &left, &bound(rt, alloc, right), ints)
+    let right = bound(rt, alloc, right);
+    let answer = answer(asked, &left, &right, ints);
+    drop((left, right));
+    answer
 }
 
 const ANSWERS: [(Asked, Bound, Bound, bool); 22] = [
@@ -104,6 +107,7 @@ fn two_constraints(rt: HostRuntime) {
         let found = ask(&rt, rt.alloc(), &ints, *asked, *left, *right);
         same(&rt, found, *wanted);
     }
+    drop(ints);
 }
 
 #[test]
@@ -111,11 +115,15 @@ fn not_covered_unless_whole(rt: HostRuntime) {
     let ints = whole(&rt, rt.alloc(), &[]);
     let (left, right) = ((1, L, 1, 1), (1, G, 0, 1));
     let found = ask(&rt, rt.alloc(), &ints, Covers, left, right);
+    drop(ints);
     same(&rt, found, false);
 }
 
 fn is_absurd(rt: &impl Abort, alloc: Global, stated: Bound) -> bool {
-    bound(rt, alloc, stated).is_absurd()
+    let bound = bound(rt, alloc, stated);
+    let absurd = bound.is_absurd();
+    drop(bound);
+    absurd
 }
 
 #[test]
@@ -130,10 +138,14 @@ fn whole_variables(rt: HostRuntime) {
     let ints = whole(&rt, rt.alloc(), &[0, 0]);
     assert!(rt; ints.contains(0));
     same(&rt, ints.indices(), [0].as_slice());
+    drop(ints);
 }
 
 fn is_whole(rt: &impl Abort, alloc: Global, ints: &Ints, variable: u32) -> bool {
-    is_whole_row(&row(rt, alloc, &[(variable, 1)]), ints)
+    let row = row(rt, alloc, &[(variable, 1)]);
+    let whole = is_whole_row(&row, ints);
+    drop(row);
+    whole
 }
 
 #[test]
@@ -142,6 +154,7 @@ fn whole_rows(rt: HostRuntime) {
     for (variable, wanted) in [(0, true), (1, false)] {
         same(&rt, is_whole(&rt, rt.alloc(), &ints, variable), wanted);
     }
+    drop(ints);
 }
 
 #[test]
@@ -154,6 +167,7 @@ fn a_whole_row_is_remembered(rt: HostRuntime) {
     let clone = shared.clone().expect(&rt, "a clone");
     assert!(rt; is_whole_row(&clone, &ints));
     assert!(rt; !is_whole(&rt, alloc, &ints, 1));
+    drop((shared, clone, ints));
 }
 
 #[test]
@@ -161,6 +175,7 @@ fn rows(rt: HostRuntime) {
     let one = Frac::one();
     let sorted = row(&rt, rt.alloc(), &[(7, 1), (2, 0), (3, 1)]);
     same(&rt, sorted.entries(), [(3, one), (7, one)].as_slice());
+    drop(sorted);
 }
 
 #[test]
@@ -201,9 +216,11 @@ fn two_variables(rt: &impl Abort, alloc: Global) -> Constraint {
 fn at_least_half(rt: &impl Abort, alloc: Global) -> Constraint {
     let mut sum = Combination::new(alloc, 3).expect(rt, "a sum");
     let half = fraction(rt, (1, 2));
-    adds(rt, &mut sum, &two_variables(rt, alloc), half, Ok(()));
-    let twice = bound(rt, alloc, (2, L, 1, 1));
-    adds(rt, &mut sum, &twice, Frac::one().neg(), Ok(()));
+    let first = two_variables(rt, alloc);
+    adds(rt, &mut sum, &first, half, Ok(()));
+    let second = bound(rt, alloc, (2, L, 1, 1));
+    adds(rt, &mut sum, &second, Frac::one().neg(), Ok(()));
+    drop((first, second));
     sum.finish(alloc).expect(rt, "a sum")
 }
 
@@ -217,6 +234,7 @@ fn is_at_least_half(rt: &impl Abort, found: &Constraint, half: Frac) {
 fn sums(rt: HostRuntime) {
     let found = at_least_half(&rt, rt.alloc());
     is_at_least_half(&rt, &found, fraction(&rt, (1, 2)));
+    drop(found);
 }
 
 // What a constraint is at a solution.
@@ -229,11 +247,9 @@ fn at(rt: &impl Abort, found: &Constraint, solution: &Solution) -> (Frac, bool) 
 fn values_of_sums(rt: HostRuntime) {
     let found = at_least_half(&rt, rt.alloc());
     let solution = Solution(row(&rt, rt.alloc(), &[(2, 5)]));
-    same(
-        &rt,
-        at(&rt, &found, &solution),
-        (fraction(&rt, (5, 1)), true),
-    );
+    let five = fraction(&rt, (5, 1));
+    same(&rt, at(&rt, &found, &solution), (five, true));
+    drop((found, solution));
 }
 
 fn side(rounded: Rounded) -> Option<Frac> {
@@ -260,7 +276,8 @@ fn mixed_signs(rt: HostRuntime) {
     let alloc = rt.alloc();
     let one = Frac::one();
     let mut sum = Combination::new(alloc, 3).expect(&rt, "a sum");
-    adds(&rt, &mut sum, &bound(&rt, alloc, (1, L, 0, 1)), one, Ok(()));
+    let most = bound(&rt, alloc, (1, L, 0, 1));
+    adds(&rt, &mut sum, &most, one, Ok(()));
     let least = bound(&rt, alloc, (1, G, 1, 1));
     adds(&rt, &mut sum, &least, one, Err(CombError::MixedSigns));
     let zero = Frac::zero();
@@ -268,4 +285,5 @@ fn mixed_signs(rt: HostRuntime) {
     sum.clear();
     let empty = sum.finish(alloc).expect(&rt, "no sum");
     assert!(rt; empty.row.is_empty());
+    drop((most, least, empty));
 }

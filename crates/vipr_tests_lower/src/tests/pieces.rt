@@ -33,6 +33,7 @@ fn text(rt: &impl Abort, alloc: Global, first: usize, second: usize) -> Vec<u8> 
     for part in [FRONT, first.as_slice(), b"\n", second.as_slice(), BACK] {
         text.extend_from_slice(part).expect(rt, "a text");
     }
+    drop((first, second));
     text
 }
 
@@ -47,9 +48,9 @@ fn takes(
     let text = text(rt, alloc, first, second);
     let certificate = spelled(rt, alloc, text.as_slice());
     same(rt, write_certificate(alloc, &certificate, sink), wanted);
-    drop(certificate);
     let accepted = sink.accepted.len().min(text.len());
     same(rt, sink.accepted.as_slice(), &text[..accepted]);
+    drop((certificate, text));
 }
 
 /// A text of so many bytes is taken whole, by so many calls.
@@ -62,6 +63,7 @@ fn whole(rt: &impl Abort, alloc: Global, first: usize, second: usize, calls: usi
         first.saturating_add(second).saturating_add(OTHERS),
     );
     same(rt, sink.calls, calls);
+    drop(sink);
 }
 
 #[test]
@@ -83,6 +85,7 @@ fn one_byte_a_call(rt: HostRuntime) {
     let mut sink = Taking::new(&rt, rt.alloc(), usize::MAX, 1, true);
     takes(&rt, rt.alloc(), (65_522, 20), &mut sink, Ok(()));
     same(&rt, sink.calls, 65_605);
+    drop(sink);
 }
 
 #[test]
@@ -93,5 +96,6 @@ fn fails_about_where_the_buffer_ends(rt: HostRuntime) {
         let wanted = Err(WriteError::Write { taken });
         takes(&rt, rt.alloc(), (65_522, 65_535), &mut sink, wanted);
         same(&rt, sink.accepted.len(), room);
+        drop(sink);
     }
 }

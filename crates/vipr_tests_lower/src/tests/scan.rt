@@ -22,6 +22,7 @@ fn tokens_come_with_their_offsets(rt: HostRuntime) {
     gives(&rt, &mut tokens, Some((b"c", 15)));
     gives(&rt, &mut tokens, None);
     gives(&rt, &mut tokens, None);
+    drop(tokens);
 }
 
 /// Asks for a token, and compares the error.
@@ -36,6 +37,7 @@ fn a_token_before_a_failed_read_is_not_given(rt: HostRuntime) {
     gives(&rt, &mut tokens, Some((b"ab", 0)));
     fails(&rt, &mut tokens, TextError::Read);
     fails(&rt, &mut tokens, TextError::Spent);
+    drop(tokens);
 }
 
 /// Asks for a token, and compares its length and whether it is cut.
@@ -54,6 +56,7 @@ fn a_token_of_65536_bytes_is_too_long(rt: HostRuntime) {
     drop(tokens);
     let mut shorter = Tokens::new(rt.alloc(), Bytes::new(&text[1..])).expect(&rt, "tokens");
     has_length(&rt, &mut shorter, (65535, false));
+    drop(shorter);
 }
 
 /// Any bytes.
@@ -76,12 +79,14 @@ impl TokenKind for Any {
 fn is_refused(rt: &impl Abort, alloc: Global, text: &[u8], wanted: ScanError) {
     let mut scanner = Scanner::new(alloc, Bytes::new(text)).expect(rt, "a scanner");
     same(rt, scanner.take(&Any).err(), Some(wanted));
+    drop(scanner);
 }
 
 fn is_read_whole(rt: &impl Abort, alloc: Global, text: &[u8], wanted: usize) {
     let mut scanner = Scanner::new(alloc, Bytes::new(text)).expect(rt, "a scanner");
     same(rt, scanner.take(&Any), Ok(wanted));
     same(rt, scanner.end(), Ok(()));
+    drop(scanner);
 }
 
 #[test]

@@ -27,4 +27,5 @@ fn a_value_and_its_clone_are_one(rt: HostRuntime) {
     let second = seven(&rt, rt.alloc());
     let clone = first.clone().expect(&rt, "a clone");
     clones(&rt, &first, &clone, &second);
+    drop((first, second, clone));
 }

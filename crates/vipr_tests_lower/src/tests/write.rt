@@ -122,8 +122,8 @@ fn is_written(rt: &impl Abort, alloc: Global, text: &[u8], wanted: &[u8]) {
     // the writer has its room before
     let mut bytes = Vec::with_capacity(alloc, 4096).expect(rt, "room");
     write_into(rt, alloc, &certificate, &mut bytes);
-    drop(certificate);
     same(rt, bytes.as_slice(), wanted);
+    drop((certificate, bytes));
 }
 
 #[test]
@@ -151,6 +151,7 @@ fn item_by_item(rt: HostRuntime) {
     let certificate = spelled(&rt, rt.alloc(), SPELLED);
     let text = grown(&rt, rt.alloc(), &certificate);
     same(&rt, text.as_slice(), TEXT);
+    drop((certificate, text));
 }
 
 /// Writes a certificate to a sink, and compares the answer, what was taken, and the calls.
@@ -172,6 +173,7 @@ fn one_byte_a_call(rt: HostRuntime) {
     let mut sink = Taking::new(&rt, rt.alloc(), usize::MAX, 1, true);
     let wanted = (Ok(()), TEXT, TEXT.len());
     takes(&rt, rt.alloc(), &certificate, &mut sink, wanted);
+    drop((certificate, sink));
 }
 
 /// The call behind these bytes is the last.
@@ -194,6 +196,7 @@ fn stops_behind(
         &mut sink,
         (Err(error), front, calls),
     );
+    drop(sink);
 }
 
 #[test]
@@ -205,4 +208,5 @@ fn each_call_the_last(rt: HostRuntime) {
             stops_behind(&rt, rt.alloc(), &certificate, front, fails);
         }
     }
+    drop(certificate);
 }
