@@ -6,3 +6,5 @@ mod Passing
 mod Lines
 mod Again
 mod Heads
+mod Counting
+mod Choosing

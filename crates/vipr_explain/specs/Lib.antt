@@ -14,3 +14,8 @@ pub mod Letters
 pub mod Missed
 pub mod Excerpts
 pub mod Found
+pub mod Progress
+pub mod Wanted
+pub mod Decimals
+pub mod Hints
+pub mod Contexts

@@ -1,9 +1,15 @@
 //! Likely mistakes behind a fault of a text, and what to write instead.
+ghost use Rattle.std.specs.Prelude.{◌≡◌};
+ghost use Rattle.vipr_explain.specs.Hints.{begins_number, brace_hint, count_hint, end_hint};
+ghost use Rattle.vipr_explain.specs.Hints.{hints_text, index_hints, keyword_hint, number_hint};
+ghost use Rattle.vipr_explain.specs.Hints.{number_hints, plain_hint, sense_hint, start_hint};
+ghost use Rattle.vipr_explain.specs.Hints.{compressed_hint, text_hint};
+ghost use Rattle.vipr_explain.specs.Written.{PutsText};
 
+use crate::decimal::fraction_of;
 use crate::page::Page;
 use crate::wanted::{Section, TextProgress, Wanted};
 use vipr_check::cause;
-use vipr_frac::Frac;
 
 /// A token at fault: how far the text was read before it, and its first bytes.
 #[derive(Clone, Copy)]
@@ -14,152 +20,207 @@ pub(crate) struct TokenFault<'a> {
 }
 
 /// Writes what is likely to be wrong, and what to write instead.
-pub(crate) fn put_hints(page: &mut Page, fault: TokenFault<'_>) {
+pub(crate) fn put_hints(page: &mut Page, fault: &TokenFault<'_>)
+    ensures { PutsText page.old page.new
+        (hints_text fault.now.cause fault.now.progress fault.now.word.now) }
+{
     match fault.cause {
-        cause::BAD_NUMBER => put_number_hint(page, fault),
+        cause::BAD_NUMBER => put_number_hint(page, fault.progress.wanted, fault.word),
         cause::BAD_INDEX => put_index_hint(page, fault.progress.variables),
         _ => page.put_help(text_hint(fault)),
     }
 }
 
 // A hint that has no value in it.
-fn text_hint(fault: TokenFault<'_>) -> &'static str {
+fn text_hint(fault: &TokenFault<'_>) -> &'static str
+    ensures { result.now ≡ text_hint fault.now.cause fault.now.progress fault.now.word.now }
+{
     match fault.cause {
-        cause::WRONG_KEYWORD => keyword_hint(fault),
-        cause::BAD_SENSE => sense_hint(fault),
-        cause::BAD_COUNT => count_hint(fault),
-        cause::BAD_BRACE => brace_hint(fault),
-        cause::TRUNCATED => end_hint(fault),
+        cause::WRONG_KEYWORD => keyword_hint(fault.progress.section, fault.word),
+        cause::BAD_SENSE => sense_hint(fault.word),
+        cause::BAD_COUNT => count_hint(fault.progress.wanted, fault.word),
+        cause::BAD_BRACE => brace_hint(fault.progress.wanted, fault.word),
+        cause::TRUNCATED => end_hint(fault.progress.section, fault.progress.wanted),
         other => plain_hint(other),
     }
 }
 
 // A number: a decimal is written as a fraction.
-fn put_number_hint(page: &mut Page, fault: TokenFault<'_>) {
-    if let Some(fraction) = fraction_of(fault.word) {
-        page.put("  = help: decimals are not in the format: write ");
-        page.put_value(&fraction);
-        page.put("\n");
-        return;
+fn put_number_hint(page: &mut Page, wanted: Wanted, word: &[u8])
+    ensures { PutsText page.old page.new (number_hints wanted word.now) }
+{
+    match fraction_of(word) {
+        Some(fraction) => page.put_value(&format_args!(
+            "  = help: decimals are not in the format: write {fraction}\n"
+        )),
+        None => page.put_help(number_hint(wanted)),
     }
-    page.put_help(match fault.progress.wanted {
+}
+
+// A number that isn't a decimal.
+fn number_hint(wanted: Wanted) -> &'static str
+    ensures { result.now ≡ number_hint wanted }
+{
+    match wanted {
         Wanted::UpperBound => "`range` takes two bounds: the lower and the upper one",
         _ => {
             "a number is digits with or without a sign, or a fraction, as -3 or 13/4; \
              is the count before it right?"
         }
-    });
+    }
 }
 
 // An index of a variable: they count from 0.
-fn put_index_hint(page: &mut Page, variables: u32) {
-    match variables.checked_sub(1) {
-        Some(last) => {
-            page.put("  = help: indices count from 0: ");
-            page.put_value(&variables);
-            page.put(" variables have the indices 0 to ");
-            page.put_value(&last);
-            page.put("\n");
-        }
-        None => page.put_help("the text has no variables (VAR 0)"),
+fn put_index_hint(page: &mut Page, variables: u32)
+    ensures { PutsText page.old page.new (index_hints variables) }
+{
+    if variables == 0 {
+        page.put_help("the text has no variables (VAR 0)");
+    } else {
+        let last = variables - 1;
+        page.put_value(&format_args!(
+            "  = help: indices count from 0: {variables} variables have the indices 0 to {last}\n"
+        ));
     }
 }
 
 // A keyword: at the start of the text it may be no certificate at all.
-fn keyword_hint(fault: TokenFault<'_>) -> &'static str {
-    if fault.progress.section == Section::Version {
-        return start_hint(fault.word);
-    }
-    match fault.word {
-        [b'%', ..] | [b'#', ..] => "remove this line: comments may only be before `VER`",
+fn keyword_hint(section: Section, word: &[u8]) -> &'static str
+    ensures { result.now ≡ keyword_hint section word.now }
+{
+    match section {
+        Section::Version => start_hint(word),
         _ => {
-            "write the count of the section above as large as its number of items: \
-             this token was not counted"
+            if word.starts_with(b"%") || word.starts_with(b"#") {
+                "remove this line: comments may only be before `VER`"
+            } else {
+                "write the count of the section above as large as its number of items: \
+                 this token was not counted"
+            }
         }
     }
 }
 
 // The first token isn't `VER`.
-fn start_hint(word: &[u8]) -> &'static str {
-    match word {
-        [0x1f, 0x8b, ..] => "this is compressed by gzip: gzip -dc FILE | vipr explain",
-        [0xfd, b'7', b'z', b'X', b'Z', ..] => {
-            "this is compressed by xz: xz -dc FILE | vipr explain"
-        }
-        [0x28, 0xb5, 0x2f, 0xfd, ..] => "this is compressed by zstd: zstd -dc FILE | vipr explain",
-        [b'B', b'Z', b'h', ..] => "this is compressed by bzip2: bzip2 -dc FILE | vipr explain",
-        [0xef, 0xbb, 0xbf, ..] => "a byte order mark is before `VER`: save the file without it",
-        [0xff, 0xfe, ..] | [0xfe, 0xff, ..] => {
-            "this is UTF-16: save the file as ASCII or as UTF-8 without a byte order mark"
-        }
-        [b'<', ..] => "this looks like a page of HTML or XML, and not like a certificate",
-        _ => "a certificate begins with the line `VER 1.0`: write it above this line",
+fn start_hint(word: &[u8]) -> &'static str
+    ensures { result.now ≡ start_hint word.now }
+{
+    if word.starts_with(b"\xef\xbb\xbf") {
+        "a byte order mark is before `VER`: save the file without it"
+    } else if word.starts_with(b"\xff\xfe") || word.starts_with(b"\xfe\xff") {
+        "this is UTF-16: save the file as ASCII or as UTF-8 without a byte order mark"
+    } else if word.starts_with(b"<") {
+        "this looks like a page of HTML or XML, and not like a certificate"
+    } else {
+        compressed_hint(word)
+    }
+}
+
+// The first token isn't `VER`: it may be compressed.
+fn compressed_hint(word: &[u8]) -> &'static str
+    ensures { result.now ≡ compressed_hint word.now }
+{
+    if word.starts_with(b"\x1f\x8b") {
+        "this is compressed by gzip: gzip -dc FILE | vipr explain"
+    } else if word.starts_with(b"\xfd7zXZ") {
+        "this is compressed by xz: xz -dc FILE | vipr explain"
+    } else if word.starts_with(b"\x28\xb5\x2f\xfd") {
+        "this is compressed by zstd: zstd -dc FILE | vipr explain"
+    } else if word.starts_with(b"BZh") {
+        "this is compressed by bzip2: bzip2 -dc FILE | vipr explain"
+    } else {
+        "a certificate begins with the line `VER 1.0`: write it above this line"
     }
 }
 
 // A sense.
-fn sense_hint(fault: TokenFault<'_>) -> &'static str {
-    match fault.word {
-        b">=" | b"=>" => "write `G` for `>=`",
-        b"<=" | b"=<" => "write `L` for `<=`",
-        b"=" | b"==" => "write `E` for `=`",
-        [b'0'..=b'9', ..] | [b'-', ..] | [b'+', ..] => {
-            "sense and right-hand side are before the coefficients: \
-             NAME SENSE RIGHT-HAND-SIDE COUNT INDEX COEFFICIENT .."
-        }
-        _ => {
-            "is the count of this section too large, or a coefficient missing above? \
-             The token before this one was read as a name"
+fn sense_hint(word: &[u8]) -> &'static str
+    ensures { result.now ≡ sense_hint word.now }
+{
+    if word == b">=".as_slice() || word == b"=>".as_slice() {
+        "write `G` for `>=`"
+    } else if word == b"<=".as_slice() || word == b"=<".as_slice() {
+        "write `L` for `<=`"
+    } else if word == b"=".as_slice() || word == b"==".as_slice() {
+        "write `E` for `=`"
+    } else if begins_number(word) {
+        "sense and right-hand side are before the coefficients: \
+         NAME SENSE RIGHT-HAND-SIDE COUNT INDEX COEFFICIENT .."
+    } else {
+        "is the count of this section too large, or a coefficient missing above? \
+         The token before this one was read as a name"
+    }
+}
+
+// Whether a token begins as a number does.
+fn begins_number(word: &[u8]) -> bool
+    ensures { result ≡ begins_number word.now }
+{
+    match word {
+        [] => false,
+        [first, ..] => {
+            let byte = *first;
+            b'0' <= byte && byte <= b'9' || byte == b'-' || byte == b'+'
         }
     }
 }
 
 // A count.
-fn count_hint(fault: TokenFault<'_>) -> &'static str {
-    match fault.word {
-        b"weak" | b"incomplete" => {
-            "this derivation is of version 1.1: complete the certificate first, \
-             by viprcomp of the VIPR package"
+fn count_hint(wanted: Wanted, word: &[u8]) -> &'static str
+    ensures { result.now ≡ count_hint wanted word.now }
+{
+    if word == b"weak".as_slice() || word == b"incomplete".as_slice() {
+        return "this derivation is of version 1.1: complete the certificate first, \
+                by viprcomp of the VIPR package";
+    }
+    match wanted {
+        Wanted::BoundCount => {
+            "`CON` takes two counts: the constraints, and how many of them are bounds \
+             (write 0 if you don't know)"
         }
-        _ => match fault.progress.wanted {
-            Wanted::BoundCount => {
-                "`CON` takes two counts: the constraints, and how many of them are bounds \
-                 (write 0 if you don't know)"
-            }
-            Wanted::RowCount => {
-                "a vector is a count and then so many pairs INDEX COEFFICIENT; \
-                 the right-hand side is before it"
-            }
-            _ => "a count is digits alone",
-        },
+        Wanted::RowCount => {
+            "a vector is a count and then so many pairs INDEX COEFFICIENT; \
+             the right-hand side is before it"
+        }
+        _ => "a count is digits alone",
     }
 }
 
 // A brace.
-fn brace_hint(fault: TokenFault<'_>) -> &'static str {
-    match (fault.progress.wanted, fault.word) {
-        (Wanted::OpenBrace, [b'{', ..]) => "put a space behind the brace",
-        (Wanted::OpenBrace, _) => {
-            "the count of coefficients is too small or missing: COUNT, and then so many pairs \
-             INDEX COEFFICIENT, are before `{`"
+fn brace_hint(wanted: Wanted, word: &[u8]) -> &'static str
+    ensures { result.now ≡ brace_hint wanted word.now }
+{
+    match wanted {
+        Wanted::OpenBrace => {
+            if word.starts_with(b"{") {
+                "put a space behind the brace"
+            } else {
+                "the count of coefficients is too small or missing: COUNT, and then so many pairs \
+                 INDEX COEFFICIENT, are before `{`"
+            }
         }
-        (_, [.., b'}']) => "put a space before the brace",
         _ => {
-            "the reason should end here: is its number of entries missing or too small? \
-             It is lin COUNT INDEX MULTIPLIER .., and so is rnd"
+            if word.ends_with(b"}") {
+                "put a space before the brace"
+            } else {
+                "the reason should end here: is its number of entries missing or too small? \
+                 It is lin COUNT INDEX MULTIPLIER .., and so is rnd"
+            }
         }
     }
 }
 
 // The end of the text.
-fn end_hint(fault: TokenFault<'_>) -> &'static str {
-    match fault.progress.wanted {
+fn end_hint(section: Section, wanted: Wanted) -> &'static str
+    ensures { result.now ≡ end_hint section wanted }
+{
+    match wanted {
         Wanted::LastReference => {
             "write the last reference behind `}`: the last derivation that names this one, \
              or -1 to keep it"
         }
         Wanted::Keyword => "this section is missing",
-        _ => match fault.progress.section {
+        _ => match section {
             Section::Derivations => "is the file cut, or the count behind `DER` too large?",
             _ => "is the file cut, or a count too large?",
         },
@@ -167,7 +228,9 @@ fn end_hint(fault: TokenFault<'_>) -> &'static str {
 }
 
 // What is likely for the other causes.
-fn plain_hint(number: u8) -> &'static str {
+fn plain_hint(number: u8) -> &'static str
+    ensures { result.now ≡ plain_hint number }
+{
     match number {
         cause::UNSUPPORTED_VERSION => {
             "only version 1.0 is read: if no derivation is `weak` or `incomplete`, write 1.0"
@@ -194,35 +257,4 @@ fn plain_hint(number: u8) -> &'static str {
             "write the count behind `DER` larger, or remove what is from here on",
         _ => "see the table of causes in docs/FORMAT.md",
     }
-}
-
-// The value of a decimal, `None` for other bytes.
-fn fraction_of(word: &[u8]) -> Option<Frac> {
-    let mut above: i64 = 0;
-    let mut below: i64 = 1;
-    let mut is_behind = false;
-    let mut is_negative = false;
-    for byte in word {
-        match *byte {
-            b'0'..=b'9' => {
-                above = above.checked_mul(10)?.checked_add(i64::from(*byte - b'0'))?;
-                if is_behind {
-                    below = below.checked_mul(10)?;
-                }
-            }
-            b'.' if !is_behind => is_behind = true,
-            b'-' if above == 0 && !is_behind => is_negative = true,
-            b'+' => {}
-            _ => return None,
-        }
-    }
-    if !is_behind {
-        return None;
-    }
-    let value = if is_negative {
-        above.checked_neg()?
-    } else {
-        above
-    };
-    Frac::new(i128::from(value), i128::from(below)).ok()
 }

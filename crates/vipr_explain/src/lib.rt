@@ -2,6 +2,7 @@
 #![tactic(auto)]
 
 mod algebra;
+mod decimal;
 mod differences;
 mod excerpt;
 mod goal;
@@ -19,6 +20,7 @@ mod syntax;
 mod text;
 mod values;
 mod wanted;
+mod wanted_words;
 mod whole;
 mod words;
 

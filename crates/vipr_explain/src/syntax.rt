@@ -1,11 +1,18 @@
 //! Explains a fault of a text: its place, and what is wanted there.
+ghost use Rattle.std.specs.Prelude.{◌≡◌};
+ghost use Rattle.vipr_explain.specs.Contexts.{context_text, error_text, fault_text, found_words};
+ghost use Rattle.vipr_explain.specs.Contexts.{has_items, has_name, is_in_head, is_in_item};
+ghost use Rattle.vipr_explain.specs.Contexts.{item_part, item_text, label_text, name_part};
+ghost use Rattle.vipr_explain.specs.Written.{PutsText};
 
 use crate::excerpt::Excerpt;
 use crate::hints::{TokenFault, put_hints};
 use crate::missing::Missing;
 use crate::page::Page;
+use crate::stranger::StrangeBytes;
 use crate::text::{Subject, Text};
-use crate::wanted::{Section, TextProgress, Wanted, put_wanted};
+use crate::wanted::{Section, TextProgress, Wanted};
+use crate::wanted_words::put_wanted;
 use crate::words::Words;
 use std::alloc::AllocError;
 use vipr_bytes::Source;
@@ -31,6 +38,11 @@ pub(crate) fn put_syntax<T: Text>(
 ) -> Result<(), Missing> {
     let found = FoundToken::<T::Reader>::find(subject, offset)?;
     let excerpt = Excerpt::read(subject, found.words.spot())?;
+    let fault = TokenFault {
+        cause,
+        progress: found.progress,
+        word: found.words.word(),
+    };
     put_error(page, cause, found.is_end, &found.progress);
     excerpt.put(
         page,
@@ -39,14 +51,7 @@ pub(crate) fn put_syntax<T: Text>(
         label_of(found.is_end),
     );
     put_context(page, &found.progress, found.name.as_slice());
-    put_hints(
-        page,
-        TokenFault {
-            cause,
-            progress: found.progress,
-            word: found.words.word(),
-        },
-    );
+    put_hints(page, &fault);
     Ok(())
 }
 
@@ -68,44 +73,71 @@ impl<R: Source + Drop> FoundToken<R> {
     }
 
     // Passes the tokens before a byte.
-    fn pass_up_to(&mut self, offset: u64) -> Result<(), AllocError> {
+    fn pass_up_to(&mut self, offset: u64) -> Result<(), Missing> {
         for _ in 0..u64::MAX {
             if !self.words.next() {
-                break;
+                return Ok(());
             }
             if self.words.spot().offset >= offset {
                 self.is_end = false;
-                break;
+                return Ok(());
             }
-            if self.progress.wanted == Wanted::Name {
+            self.pass()?;
+        }
+        Err(Missing::Memory)
+    }
+
+    // Passes the token that was read.
+    fn pass(&mut self) -> Result<(), AllocError> {
+        match self.progress.wanted {
+            Wanted::Name => {
                 self.name.clear();
                 self.name.extend_from_slice(self.words.word())?;
             }
-            self.progress.pass(self.words.word());
+            _ => {}
         }
+        self.progress.pass(self.words.word());
         Ok(())
     }
 }
 
 // Says what is wrong.
-fn put_error(page: &mut Page, cause: u8, is_end: bool, progress: &TextProgress) {
-    page.put("error: ");
-    page.put(cause::name(cause));
-    if cause == cause::TRAILING_TEXT {
-        page.put(": text behind the last derivation");
-    } else {
-        page.put(if is_end {
-            ": the text ends where this is wanted: "
-        } else {
-            ": wanted "
-        });
-        put_wanted(page, progress);
-    }
+fn put_error(page: &mut Page, cause: u8, is_end: bool, progress: &TextProgress)
+    ensures { PutsText page.old page.new (error_text cause is_end progress.now) }
+{
+    let name = cause::name(cause);
+    page.put_value(&format_args!("error: {name}"));
+    put_fault(page, cause, is_end, progress);
     page.put("\n");
 }
 
+// Says what is wanted, and whether the text ends there.
+fn put_fault(page: &mut Page, cause: u8, is_end: bool, progress: &TextProgress)
+    ensures { PutsText page.old page.new (fault_text cause is_end progress.now) }
+{
+    if cause == cause::TRAILING_TEXT {
+        page.put(": text behind the last derivation");
+    } else {
+        page.put(words_in_front(is_end));
+        put_wanted(page, progress);
+    }
+}
+
+// What is in front of what is wanted.
+fn words_in_front(is_end: bool) -> &'static str
+    ensures { result.now ≡ found_words is_end }
+{
+    if is_end {
+        ": the text ends where this is wanted: "
+    } else {
+        ": wanted "
+    }
+}
+
 // What is below the place.
-fn label_of(is_end: bool) -> &'static str {
+fn label_of(is_end: bool) -> &'static str
+    ensures { result.now ≡ label_text is_end }
+{
     if is_end {
         "the text ends behind this"
     } else {
@@ -114,42 +146,80 @@ fn label_of(is_end: bool) -> &'static str {
 }
 
 // Says which part of which item was being read.
-fn put_context(page: &mut Page, progress: &TextProgress, name: &[u8]) {
-    page.put("  = reading: ");
-    page.put(progress.section.keyword());
-    if is_in_item(progress) {
-        put_item_context(page, progress);
-        if progress.wanted != Wanted::Name && progress.section != Section::Integers {
-            page.put(", `");
-            page.put_bytes(name);
-            page.put("`");
-        }
-    }
+fn put_context(page: &mut Page, progress: &TextProgress, name: &[u8])
+    ensures { PutsText page.old page.new (context_text progress.now name.now) }
+{
+    let keyword = progress.section.keyword();
+    page.put_value(&format_args!("  = reading: {keyword}"));
+    put_item_part(page, progress, name);
     page.put("\n");
 }
 
+// Says which item it is, if what is wanted is a part of one.
+fn put_item_part(page: &mut Page, progress: &TextProgress, name: &[u8])
+    ensures { PutsText page.old page.new (item_part progress.now name.now) }
+{
+    if is_in_item(progress) {
+        put_item(page, progress);
+        put_name_part(page, progress, name);
+    }
+}
+
 // Says which item it is.
-fn put_item_context(page: &mut Page, progress: &TextProgress) {
-    page.put(", ");
-    page.put(progress.section.item());
-    page.put(" ");
-    page.put_value(&progress.index());
-    page.put(" (");
-    page.put_value(&progress.item.saturating_add(1));
-    page.put(" of ");
-    page.put_value(&progress.items);
-    page.put(")");
+fn put_item(page: &mut Page, progress: &TextProgress)
+    ensures { PutsText page.old page.new (item_text progress.now) }
+{
+    let item = progress.section.item();
+    let index = progress.index();
+    let number = progress.item.saturating_add(1);
+    let items = progress.items;
+    page.put_value(&format_args!(", {item} {index} ({number} of {items})"));
+}
+
+// Says the name of an item, if that was read.
+fn put_name_part(page: &mut Page, progress: &TextProgress, name: &[u8])
+    ensures { PutsText page.old page.new (name_part progress.now name.now) }
+{
+    if has_name(progress) {
+        let name = StrangeBytes(name);
+        page.put_value(&format_args!(", `{name}`"));
+    }
 }
 
 // Whether what is wanted is a part of an item.
-fn is_in_item(progress: &TextProgress) -> bool {
-    let has_items = match progress.section {
+fn is_in_item(progress: &TextProgress) -> bool
+    ensures { result ≡ is_in_item progress.now }
+{
+    has_items(progress.section) && !is_in_head(progress.wanted)
+}
+
+// Whether a section has items.
+fn has_items(section: Section) -> bool
+    ensures { result ≡ has_items section }
+{
+    match section {
         Section::Version | Section::Objective | Section::Claim => false,
         _ => true,
-    };
-    let is_in_head = match progress.wanted {
+    }
+}
+
+// Whether this is wanted before the items.
+fn is_in_head(wanted: Wanted) -> bool
+    ensures { result ≡ is_in_head wanted }
+{
+    match wanted {
         Wanted::Keyword | Wanted::Count | Wanted::BoundCount | Wanted::Nothing => true,
         _ => false,
-    };
-    has_items && !is_in_head
+    }
+}
+
+// Whether the name of the item was read.
+fn has_name(progress: &TextProgress) -> bool
+    ensures { result ≡ has_name progress.now.section progress.now.wanted }
+{
+    match (progress.section, progress.wanted) {
+        (Section::Integers, _) => false,
+        (_, Wanted::Name) => false,
+        _ => true,
+    }
 }

@@ -1,6 +1,12 @@
-//! What a certificate's text has to have at each of its tokens.
-
-use crate::page::Page;
+//! How far a certificate's text was read: what it has to have at its next token.
+ghost use Rattle.std.specs.Prelude.{◌≡◌};
+ghost use Rattle.vipr_explain.specs.Progress.{at_start, branch_ended, claim_passed};
+ghost use Rattle.vipr_explain.specs.Progress.{count_of, count_passed, entries_begun, entry_begun};
+ghost use Rattle.vipr_explain.specs.Progress.{entry_ended, first_of, first_of_item, index_of};
+ghost use Rattle.vipr_explain.specs.Progress.{item_begun, item_ended, item_word, keyword_of};
+ghost use Rattle.vipr_explain.specs.Progress.{name_passed, next_section, pair_begun, pair_ended};
+ghost use Rattle.vipr_explain.specs.Progress.{passed, reason_passed, row_ended, section_ended};
+ghost use Rattle.vipr_explain.specs.Progress.{counted_words, first_of_reason, pairs_begun};
 
 /// The sections of a certificate, in their order.
 #[derive(Clone, Copy, PartialEq)]
@@ -62,7 +68,9 @@ pub(crate) struct TextProgress {
 
 impl Section {
     /// Its keyword.
-    pub(crate) fn keyword(self) -> &'static str {
+    pub(crate) fn keyword(self) -> &'static str
+        ensures { result.now ≡ keyword_of self }
+    {
         match self {
             Section::Version => "VER",
             Section::Variables => "VAR",
@@ -75,21 +83,10 @@ impl Section {
         }
     }
 
-    /// The section behind it; the last one has none.
-    fn next(self) -> Section {
-        match self {
-            Section::Version => Section::Variables,
-            Section::Variables => Section::Integers,
-            Section::Integers => Section::Objective,
-            Section::Objective => Section::Constraints,
-            Section::Constraints => Section::Claim,
-            Section::Claim => Section::Solutions,
-            Section::Solutions | Section::Derivations => Section::Derivations,
-        }
-    }
-
     /// What its count counts.
-    fn counted(self) -> &'static str {
+    pub(crate) fn counted(self) -> &'static str
+        ensures { result.now ≡ counted_words self }
+    {
         match self {
             Section::Variables => "variables",
             Section::Integers => "integer variables",
@@ -101,7 +98,9 @@ impl Section {
     }
 
     /// What one of its items is.
-    pub(crate) fn item(self) -> &'static str {
+    pub(crate) fn item(self) -> &'static str
+        ensures { result.now ≡ item_word self }
+    {
         match self {
             Section::Variables => "variable",
             Section::Integers => "integer variable",
@@ -111,11 +110,55 @@ impl Section {
             Section::Version | Section::Objective | Section::Claim => "item",
         }
     }
+
+    // The section behind it; the last one has none.
+    fn next(self) -> Option<Section>
+        ensures { result ≡ next_section self }
+    {
+        match self {
+            Section::Version => Some(Section::Variables),
+            Section::Variables => Some(Section::Integers),
+            Section::Integers => Some(Section::Objective),
+            Section::Objective => Some(Section::Constraints),
+            Section::Constraints => Some(Section::Claim),
+            Section::Claim => Some(Section::Solutions),
+            Section::Solutions => Some(Section::Derivations),
+            Section::Derivations => None,
+        }
+    }
+
+    // What follows its keyword.
+    fn first(self) -> Wanted
+        ensures { result ≡ first_of self }
+    {
+        match self {
+            Section::Version => Wanted::Version,
+            Section::Objective => Wanted::Direction,
+            Section::Claim => Wanted::Claim,
+            Section::Variables
+            | Section::Integers
+            | Section::Constraints
+            | Section::Solutions
+            | Section::Derivations => Wanted::Count,
+        }
+    }
+
+    // What one of its items begins with.
+    fn first_of_item(self) -> Wanted
+        ensures { result ≡ first_of_item self }
+    {
+        match self {
+            Section::Integers => Wanted::IntegerIndex,
+            _ => Wanted::Name,
+        }
+    }
 }
 
 impl TextProgress {
     /// The start of a text.
-    pub(crate) fn start() -> TextProgress {
+    pub(crate) fn start() -> TextProgress
+        ensures { result ≡ at_start }
+    {
         TextProgress {
             section: Section::Version,
             wanted: Wanted::Keyword,
@@ -129,80 +172,102 @@ impl TextProgress {
     }
 
     /// The index of the item among all constraints, if it is a derivation; else its position.
-    pub(crate) fn index(&self) -> u32 {
-        if self.section == Section::Derivations {
-            self.constraints.saturating_add(self.item)
-        } else {
-            self.item
+    pub(crate) fn index(&self) -> u32
+        ensures { result ≡ index_of self.now }
+    {
+        match self.section {
+            Section::Derivations => self.constraints.saturating_add(self.item),
+            _ => self.item,
         }
     }
 
     /// Passes a token that is as it is wanted.
-    pub(crate) fn pass(&mut self, word: &[u8]) {
+    pub(crate) fn pass(&mut self, word: &[u8])
+        ensures { self.new ≡ passed self.old word.now }
+    {
         match self.wanted {
-            Wanted::Keyword => self.wanted = first_of(self.section),
-            Wanted::Version | Wanted::UpperBound => self.end_section(),
+            Wanted::Keyword => self.wanted = self.section.first(),
+            Wanted::Version => self.end_section(),
             Wanted::Count => self.pass_count(count_of(word)),
-            Wanted::BoundCount => self.begin_items(),
+            Wanted::BoundCount => self.begin_item(),
             Wanted::Name => self.pass_name(),
             Wanted::IntegerIndex => self.end_item(),
-            Wanted::Direction | Wanted::RightHandSide => self.wanted = Wanted::RowCount,
+            Wanted::Direction => self.wanted = Wanted::RowCount,
             Wanted::Sense => self.wanted = Wanted::RightHandSide,
-            Wanted::RowCount => self.begin_parts(count_of(word)),
+            Wanted::RightHandSide => self.wanted = Wanted::RowCount,
+            Wanted::RowCount => self.begin_pairs(count_of(word)),
             Wanted::RowIndex => self.wanted = Wanted::RowCoefficient,
-            Wanted::RowCoefficient | Wanted::EntryMultiplier | Wanted::Branch => self.end_part(),
+            Wanted::RowCoefficient => self.end_pair(),
             Wanted::Claim => self.pass_claim(word),
             Wanted::LowerBound => self.wanted = Wanted::UpperBound,
+            Wanted::UpperBound => self.end_section(),
             Wanted::OpenBrace => self.wanted = Wanted::Reason,
             Wanted::Reason => self.pass_reason(word),
             Wanted::EntryCount => self.begin_entries(count_of(word)),
             Wanted::EntryIndex => self.wanted = Wanted::EntryMultiplier,
+            Wanted::EntryMultiplier => self.end_entry(),
+            Wanted::Branch => self.end_branch(),
             Wanted::CloseBrace => self.wanted = Wanted::LastReference,
             Wanted::LastReference => self.end_item(),
             Wanted::Nothing => {}
         }
     }
 
-    fn end_section(&mut self) {
-        if self.section == Section::Derivations {
-            self.wanted = Wanted::Nothing;
-        } else {
-            self.section = self.section.next();
-            self.wanted = Wanted::Keyword;
+    // Ends the section.
+    fn end_section(&mut self)
+        ensures { self.new ≡ section_ended self.old }
+    {
+        match self.section.next() {
+            Some(next) => {
+                self.section = next;
+                self.wanted = Wanted::Keyword;
+            }
+            None => self.wanted = Wanted::Nothing,
         }
     }
 
-    fn pass_count(&mut self, count: u32) {
+    // Passes the number of a section's items.
+    fn pass_count(&mut self, count: u32)
+        ensures { self.new ≡ count_passed self.old.section self.old count }
+    {
         self.item = 0;
         self.items = count;
-        if self.section == Section::Variables {
-            self.variables = count;
-        }
-        if self.section == Section::Constraints {
-            self.constraints = count;
-            self.wanted = Wanted::BoundCount;
-        } else {
-            self.begin_items();
+        match self.section {
+            Section::Variables => {
+                self.variables = count;
+                self.begin_item();
+            }
+            Section::Constraints => {
+                self.constraints = count;
+                self.wanted = Wanted::BoundCount;
+            }
+            _ => self.begin_item(),
         }
     }
 
-    fn begin_items(&mut self) {
+    // Begins the next item, if there is one.
+    fn begin_item(&mut self)
+        ensures { self.new ≡ item_begun self.old }
+    {
         if self.item < self.items {
-            self.wanted = match self.section {
-                Section::Integers => Wanted::IntegerIndex,
-                _ => Wanted::Name,
-            };
+            self.wanted = self.section.first_of_item();
         } else {
             self.end_section();
         }
     }
 
-    fn end_item(&mut self) {
+    // Ends an item.
+    fn end_item(&mut self)
+        ensures { self.new ≡ item_ended self.old }
+    {
         self.item = self.item.saturating_add(1);
-        self.begin_items();
+        self.begin_item();
     }
 
-    fn pass_name(&mut self) {
+    // Passes the name of an item.
+    fn pass_name(&mut self)
+        ensures { self.new ≡ name_passed self.old.section self.old }
+    {
         match self.section {
             Section::Variables => self.end_item(),
             Section::Solutions => self.wanted = Wanted::RowCount,
@@ -210,42 +275,38 @@ impl TextProgress {
         }
     }
 
-    fn begin_parts(&mut self, count: u32) {
+    // Begins so many pairs of a row.
+    fn begin_pairs(&mut self, count: u32)
+        ensures { self.new ≡ pairs_begun self.old count }
+    {
         self.part = 0;
         self.parts = count;
-        if count > 0 {
+        self.begin_pair();
+    }
+
+    // Begins the next pair, if there is one.
+    fn begin_pair(&mut self)
+        ensures { self.new ≡ pair_begun self.old }
+    {
+        if self.part < self.parts {
             self.wanted = Wanted::RowIndex;
         } else {
             self.end_row();
         }
     }
 
-    fn begin_entries(&mut self, count: u32) {
-        self.part = 0;
-        self.parts = count;
-        self.wanted = if count > 0 {
-            Wanted::EntryIndex
-        } else {
-            Wanted::CloseBrace
-        };
-    }
-
-    fn end_part(&mut self) {
+    // Ends a pair.
+    fn end_pair(&mut self)
+        ensures { self.new ≡ pair_ended self.old }
+    {
         self.part = self.part.saturating_add(1);
-        if self.wanted == Wanted::RowCoefficient {
-            if self.part < self.parts {
-                self.wanted = Wanted::RowIndex;
-            } else {
-                self.end_row();
-            }
-        } else if self.part >= self.parts {
-            self.wanted = Wanted::CloseBrace;
-        } else if self.wanted == Wanted::EntryMultiplier {
-            self.wanted = Wanted::EntryIndex;
-        }
+        self.begin_pair();
     }
 
-    fn end_row(&mut self) {
+    // Ends a row.
+    fn end_row(&mut self)
+        ensures { self.new ≡ row_ended self.old.section self.old }
+    {
         match self.section {
             Section::Objective => self.end_section(),
             Section::Derivations => self.wanted = Wanted::OpenBrace,
@@ -253,36 +314,84 @@ impl TextProgress {
         }
     }
 
-    fn pass_claim(&mut self, word: &[u8]) {
-        match word {
-            b"range" => self.wanted = Wanted::LowerBound,
-            _ => self.end_section(),
+    // Begins so many entries of a reason.
+    fn begin_entries(&mut self, count: u32)
+        ensures { self.new ≡ entries_begun self.old count }
+    {
+        self.part = 0;
+        self.parts = count;
+        self.begin_entry();
+    }
+
+    // Begins the next entry, if there is one.
+    fn begin_entry(&mut self)
+        ensures { self.new ≡ entry_begun self.old }
+    {
+        self.wanted = if self.part < self.parts {
+            Wanted::EntryIndex
+        } else {
+            Wanted::CloseBrace
+        };
+    }
+
+    // Ends an entry.
+    fn end_entry(&mut self)
+        ensures { self.new ≡ entry_ended self.old }
+    {
+        self.part = self.part.saturating_add(1);
+        self.begin_entry();
+    }
+
+    // Ends a number of `uns`.
+    fn end_branch(&mut self)
+        ensures { self.new ≡ branch_ended self.old }
+    {
+        self.part = self.part.saturating_add(1);
+        self.wanted = if self.part < self.parts {
+            Wanted::Branch
+        } else {
+            Wanted::CloseBrace
+        };
+    }
+
+    // Passes the word of the claim.
+    fn pass_claim(&mut self, word: &[u8])
+        ensures { self.new ≡ claim_passed self.old word.now }
+    {
+        if word == b"range".as_slice() {
+            self.wanted = Wanted::LowerBound;
+        } else {
+            self.end_section();
         }
     }
 
-    fn pass_reason(&mut self, word: &[u8]) {
+    // Passes the word of a reason.
+    fn pass_reason(&mut self, word: &[u8])
+        ensures { self.new ≡ reason_passed self.old word.now }
+    {
         self.part = 0;
         self.parts = 4;
-        self.wanted = match word {
-            b"uns" => Wanted::Branch,
-            b"lin" | b"rnd" => Wanted::EntryCount,
-            _ => Wanted::CloseBrace,
-        };
+        self.wanted = first_of_reason(word);
     }
 }
 
-// What follows the keyword of a section.
-fn first_of(section: Section) -> Wanted {
-    match section {
-        Section::Version => Wanted::Version,
-        Section::Objective => Wanted::Direction,
-        Section::Claim => Wanted::Claim,
-        _ => Wanted::Count,
+// What follows the word of a reason.
+fn first_of_reason(word: &[u8]) -> Wanted
+    ensures { result ≡ first_of_reason word.now }
+{
+    if word == b"uns".as_slice() {
+        Wanted::Branch
+    } else if word == b"lin".as_slice() || word == b"rnd".as_slice() {
+        Wanted::EntryCount
+    } else {
+        Wanted::CloseBrace
     }
 }
 
 // The number that digits spell; 0 for other bytes, as `OBJ`.
-fn count_of(word: &[u8]) -> u32 {
+fn count_of(word: &[u8]) -> u32
+    ensures { result ≡ count_of word.now }
+{
     let mut count: u32 = 0;
     for byte in word {
         if *byte < b'0' || b'9' < *byte {
@@ -290,97 +399,7 @@ fn count_of(word: &[u8]) -> u32 {
         }
         count = count
             .saturating_mul(10)
-            .saturating_add((*byte - b'0') as u32);
+            .saturating_add(u32::from(*byte - b'0'));
     }
     count
-}
-
-/// Writes what is wanted.
-pub(crate) fn put_wanted(page: &mut Page, progress: &TextProgress) {
-    match progress.wanted {
-        Wanted::Keyword => put_wanted_keyword(page, progress.section),
-        Wanted::Count => put_wanted_count(page, progress.section),
-        Wanted::Name => put_wanted_name(page, progress),
-        Wanted::IntegerIndex | Wanted::RowIndex => put_wanted_index(page, progress.variables),
-        Wanted::RowCoefficient => put_wanted_part(page, progress, "the number of pair "),
-        Wanted::EntryIndex => put_wanted_part(page, progress, "the constraint's index of entry "),
-        Wanted::EntryMultiplier => put_wanted_part(page, progress, "the multiplier of entry "),
-        Wanted::Branch => page.put(branch_part(progress.part)),
-        other => page.put(plain(other)),
-    }
-}
-
-// A keyword.
-fn put_wanted_keyword(page: &mut Page, section: Section) {
-    page.put("the keyword `");
-    page.put(section.keyword());
-    page.put("`");
-}
-
-// A count.
-fn put_wanted_count(page: &mut Page, section: Section) {
-    page.put("the number of ");
-    page.put(section.counted());
-    page.put(", a count in digits");
-}
-
-// The name of an item.
-fn put_wanted_name(page: &mut Page, progress: &TextProgress) {
-    page.put("the name of ");
-    page.put(progress.section.item());
-    page.put(" ");
-    page.put_value(&progress.index());
-}
-
-// An index of a variable.
-fn put_wanted_index(page: &mut Page, variables: u32) {
-    page.put("the index of a variable, ");
-    match variables.checked_sub(1) {
-        Some(last) => {
-            page.put("0 to ");
-            page.put_value(&last);
-        }
-        None => page.put("but there is none"),
-    }
-}
-
-// A part of an item with its position, counted from 0.
-fn put_wanted_part(page: &mut Page, progress: &TextProgress, what: &str) {
-    page.put(what);
-    page.put_value(&progress.part);
-    page.put(" (there are ");
-    page.put_value(&progress.parts);
-    page.put(", counted from 0)");
-}
-
-// The numbers of `uns`, in words.
-fn branch_part(part: u32) -> &'static str {
-    match part {
-        0 => "i1 of `uns`: the constraint that holds in the first case",
-        1 => "l1 of `uns`: the assumption of the first case",
-        2 => "i2 of `uns`: the constraint that holds in the second case",
-        _ => "l2 of `uns`: the assumption of the second case",
-    }
-}
-
-// What is wanted, where no number belongs to it.
-fn plain(wanted: Wanted) -> &'static str {
-    match wanted {
-        Wanted::Version => "the version `1.0`",
-        Wanted::BoundCount => "the number of bounds among the constraints, a count in digits",
-        Wanted::Direction => "`min` or `max`",
-        Wanted::Sense => "the sense `E`, `L` or `G`",
-        Wanted::RightHandSide => "the right-hand side, a number",
-        Wanted::RowCount => "the number of coefficients, a count in digits",
-        Wanted::Claim => "`infeas` or `range`",
-        Wanted::LowerBound => "the lower bound, a number or `-inf`",
-        Wanted::UpperBound => "the upper bound, a number or `inf`",
-        Wanted::OpenBrace => "`{`, a token of its own",
-        Wanted::Reason => "a reason: `asm`, `lin`, `rnd`, `uns` or `sol`",
-        Wanted::EntryCount => "the number of entries, a count in digits",
-        Wanted::CloseBrace => "`}`, a token of its own",
-        Wanted::LastReference => "the last reference: a constraint's index or -1",
-        Wanted::Nothing => "the end of the text: the last derivation is before this",
-        _ => "a token",
-    }
 }

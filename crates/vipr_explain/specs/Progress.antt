@@ -1,0 +1,229 @@
+-- How far a certificate's text was read: what it has to have at its next token
+use Rattle.std.specs.Prelude.{ℕ, ◌+◌, ◌-◌, ◌^◌, ◌||◌, min, nat_lt, if◌then◌else◌, List, [], ◌∷◌}
+use Rattle.std.specs.Prelude.{Option, Some, None, codes}
+use Rattle.std.specs.Str.{bytes_eq}
+use Rattle.vipr_spec.specs.Digits.{natural_of}
+use Rattle.vipr_explain.specs.declared.wanted.Section.{Section}
+use Rattle.vipr_explain.specs.declared.wanted.Section.TheVariants as section
+use Rattle.vipr_explain.specs.declared.wanted.Wanted.{Wanted}
+use Rattle.vipr_explain.specs.declared.wanted.Wanted.TheVariants as wanted
+use Rattle.vipr_explain.specs.declared.wanted.TextProgress.{TextProgress}
+
+-- a `u32` goes no further
+abbrev pub in_u32 : ℕ → ℕ
+in_u32 n = min n (2 ^ 32 - 1)
+
+-- ---- the sections
+
+abbrev pub keyword_of : Section → List ℕ
+keyword_of section.Version = codes "VER"
+keyword_of section.Variables = codes "VAR"
+keyword_of section.Integers = codes "INT"
+keyword_of section.Objective = codes "OBJ"
+keyword_of section.Constraints = codes "CON"
+keyword_of section.Claim = codes "RTP"
+keyword_of section.Solutions = codes "SOL"
+keyword_of section.Derivations = codes "DER"
+
+-- what a count counts
+abbrev pub counted_words : Section → List ℕ
+counted_words section.Version = codes "items"
+counted_words section.Variables = codes "variables"
+counted_words section.Integers = codes "integer variables"
+counted_words section.Objective = codes "items"
+counted_words section.Constraints = codes "constraints"
+counted_words section.Claim = codes "items"
+counted_words section.Solutions = codes "solutions"
+counted_words section.Derivations = codes "derivations"
+
+-- what an item is
+abbrev pub item_word : Section → List ℕ
+item_word section.Version = codes "item"
+item_word section.Variables = codes "variable"
+item_word section.Integers = codes "integer variable"
+item_word section.Objective = codes "item"
+item_word section.Constraints = codes "constraint"
+item_word section.Claim = codes "item"
+item_word section.Solutions = codes "solution"
+item_word section.Derivations = codes "derivation"
+
+abbrev pub next_section : Section → Option Section
+next_section section.Version = Some section.Variables
+next_section section.Variables = Some section.Integers
+next_section section.Integers = Some section.Objective
+next_section section.Objective = Some section.Constraints
+next_section section.Constraints = Some section.Claim
+next_section section.Claim = Some section.Solutions
+next_section section.Solutions = Some section.Derivations
+next_section section.Derivations = None
+
+-- what follows a keyword
+abbrev pub first_of : Section → Wanted
+first_of section.Version = wanted.Version
+first_of section.Variables = wanted.Count
+first_of section.Integers = wanted.Count
+first_of section.Objective = wanted.Direction
+first_of section.Constraints = wanted.Count
+first_of section.Claim = wanted.Claim
+first_of section.Solutions = wanted.Count
+first_of section.Derivations = wanted.Count
+
+-- what an item begins with
+abbrev pub first_of_item : Section → Wanted
+first_of_item section.Integers = wanted.IntegerIndex
+first_of_item _ = wanted.Name
+
+-- ---- the tokens
+
+-- the start of a text
+abbrev pub at_start : TextProgress
+at_start = record {
+  section = section.Version;
+  wanted = wanted.Keyword;
+  variables = 0;
+  constraints = 0;
+  item = 0;
+  items = 0;
+  part = 0;
+  parts = 0;
+}
+
+-- the index of the item among all constraints, if it is a derivation; else its position
+abbrev pub index_in : Section → TextProgress → ℕ
+index_in section.Derivations p = in_u32 (p.constraints + p.item)
+index_in _ p = p.item
+
+abbrev pub index_of : TextProgress → ℕ
+index_of p = index_in p.section p
+
+-- the number that digits spell, 0 for other bytes
+abbrev pub number_or_none : Option ℕ → ℕ
+number_or_none (Some n) = in_u32 n
+number_or_none None = 0
+
+abbrev pub count_of : List ℕ → ℕ
+count_of word = number_or_none (natural_of word)
+
+abbrev pub wants : TextProgress → Wanted → TextProgress
+wants p part = record p { wanted = part }
+
+-- behind a section: the keyword of the next one, and nothing behind the last one
+abbrev pub ended_before : Option Section → TextProgress → TextProgress
+ended_before (Some next) p = record p { section = next; wanted = wanted.Keyword }
+ended_before None p = wants p wanted.Nothing
+
+abbrev pub section_ended : TextProgress → TextProgress
+section_ended p = ended_before (next_section p.section) p
+
+-- the next item of a section, if there is one
+abbrev pub item_begun : TextProgress → TextProgress
+item_begun p = if nat_lt p.item p.items then wants p (first_of_item p.section)
+    else section_ended p
+
+abbrev pub item_ended : TextProgress → TextProgress
+item_ended p = item_begun (record p { item = in_u32 (p.item + 1) })
+
+-- behind the number of a section's items
+abbrev pub count_passed : Section → TextProgress → ℕ → TextProgress
+count_passed section.Variables p n = item_begun (record p { item = 0; items = n; variables = n })
+count_passed section.Constraints p n =
+    record p { item = 0; items = n; constraints = n; wanted = wanted.BoundCount }
+count_passed _ p n = item_begun (record p { item = 0; items = n })
+
+-- behind the name of an item
+abbrev pub name_passed : Section → TextProgress → TextProgress
+name_passed section.Variables p = item_ended p
+name_passed section.Solutions p = wants p wanted.RowCount
+name_passed _ p = wants p wanted.Sense
+
+-- behind a row
+abbrev pub row_ended : Section → TextProgress → TextProgress
+row_ended section.Objective p = section_ended p
+row_ended section.Derivations p = wants p wanted.OpenBrace
+row_ended _ p = item_ended p
+
+-- the next pair of a row, if there is one
+abbrev pub pair_begun : TextProgress → TextProgress
+pair_begun p = if nat_lt p.part p.parts then wants p wanted.RowIndex else row_ended p.section p
+
+abbrev pub pairs_begun : TextProgress → ℕ → TextProgress
+pairs_begun p n = pair_begun (record p { part = 0; parts = n })
+
+abbrev pub pair_ended : TextProgress → TextProgress
+pair_ended p = pair_begun (record p { part = in_u32 (p.part + 1) })
+
+-- the next one of these parts of a reason, if there is one
+abbrev pub part_begun : Wanted → TextProgress → TextProgress
+part_begun part p = wants p (if nat_lt p.part p.parts then part else wanted.CloseBrace)
+
+abbrev pub entry_begun : TextProgress → TextProgress
+entry_begun p = part_begun wanted.EntryIndex p
+
+abbrev pub entries_begun : TextProgress → ℕ → TextProgress
+entries_begun p n = entry_begun (record p { part = 0; parts = n })
+
+abbrev pub entry_ended : TextProgress → TextProgress
+entry_ended p = entry_begun (record p { part = in_u32 (p.part + 1) })
+
+abbrev pub branch_ended : TextProgress → TextProgress
+branch_ended p = part_begun wanted.Branch (record p { part = in_u32 (p.part + 1) })
+
+-- behind the word of the claim
+abbrev pub claim_passed : TextProgress → List ℕ → TextProgress
+claim_passed p word = if bytes_eq word (codes "range") then wants p wanted.LowerBound
+    else section_ended p
+
+-- what follows the word of a reason
+abbrev pub first_of_reason : List ℕ → Wanted
+first_of_reason word = if bytes_eq word (codes "uns") then wanted.Branch else
+    (if bytes_eq word (codes "lin") || bytes_eq word (codes "rnd") then wanted.EntryCount
+    else wanted.CloseBrace)
+
+abbrev pub reason_passed : TextProgress → List ℕ → TextProgress
+reason_passed p word = record p { part = 0; parts = 4; wanted = first_of_reason word }
+
+-- behind a token where this is wanted
+abbrev pub passed_at : Wanted → TextProgress → List ℕ → TextProgress
+passed_at wanted.Keyword p word = wants p (first_of p.section)
+passed_at wanted.Version p word = section_ended p
+passed_at wanted.Count p word = count_passed p.section p (count_of word)
+passed_at wanted.BoundCount p word = item_begun p
+passed_at wanted.Name p word = name_passed p.section p
+passed_at wanted.IntegerIndex p word = item_ended p
+passed_at wanted.Direction p word = wants p wanted.RowCount
+passed_at wanted.Sense p word = wants p wanted.RightHandSide
+passed_at wanted.RightHandSide p word = wants p wanted.RowCount
+passed_at wanted.RowCount p word = pairs_begun p (count_of word)
+passed_at wanted.RowIndex p word = wants p wanted.RowCoefficient
+passed_at wanted.RowCoefficient p word = pair_ended p
+passed_at wanted.Claim p word = claim_passed p word
+passed_at wanted.LowerBound p word = wants p wanted.UpperBound
+passed_at wanted.UpperBound p word = section_ended p
+passed_at wanted.OpenBrace p word = wants p wanted.Reason
+passed_at wanted.Reason p word = reason_passed p word
+passed_at wanted.EntryCount p word = entries_begun p (count_of word)
+passed_at wanted.EntryIndex p word = wants p wanted.EntryMultiplier
+passed_at wanted.EntryMultiplier p word = entry_ended p
+passed_at wanted.Branch p word = branch_ended p
+passed_at wanted.CloseBrace p word = wants p wanted.LastReference
+passed_at wanted.LastReference p word = item_ended p
+passed_at wanted.Nothing p word = p
+
+-- behind one more token
+abbrev pub passed : TextProgress → List ℕ → TextProgress
+passed p word = passed_at p.wanted p word
+
+-- behind these tokens, and the name of the item that is read: the last token where a name was
+-- wanted
+abbrev pub passed_all : TextProgress → List (List ℕ) → TextProgress
+passed_all p [] = p
+passed_all p (word ∷ words) = passed_all (passed p word) words
+
+abbrev pub named_at : Wanted → List ℕ → List ℕ → List ℕ
+named_at wanted.Name name word = word
+named_at _ name word = name
+
+abbrev pub name_after : TextProgress → List ℕ → List (List ℕ) → List ℕ
+name_after p name [] = name
+name_after p name (word ∷ words) =
+    name_after (passed p word) (named_at p.wanted name word) words
