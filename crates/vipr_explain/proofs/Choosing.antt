@@ -1,5 +1,5 @@
 -- A text that is written in one of two cases
-use Rattle.std.proofs.Common.{◌≡◌, ℕ, Bool, true, false, List, [], ◌==◌, if◌then◌else◌, refl, sym, ap}
+use Rattle.std.proofs.Common.{◌≡◌, ℕ, Bool, true, false, List, ◌==◌, if◌then◌else◌, refl}
 use Rattle.std.proofs.lemmas.Bool.{ne_eqb}
 
 pub put_in : (b : Bool) (text other : List ℕ) → b ≡ true → text ≡ (if b then text else other)

@@ -8,3 +8,5 @@ mod Again
 mod Heads
 mod Counting
 mod Choosing
+mod Finding
+mod SyntaxLines

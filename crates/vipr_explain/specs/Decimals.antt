@@ -1,5 +1,5 @@
 -- A number with a decimal point, which isn't in the format
-use Rattle.std.specs.Prelude.{ℕ, ◌+◌, ◌-◌, ◌*◌, ◌^◌, Bool, true, false, not, ◌&&◌, ◌==◌, nat_lt}
+use Rattle.std.specs.Prelude.{ℕ, ◌+◌, ◌-◌, ◌*◌, ◌^◌, true, false, not, ◌&&◌, ◌==◌, nat_lt}
 use Rattle.std.specs.Prelude.{if◌then◌else◌, List, [], ◌∷◌, Option, Some, None, pos}
 use Rattle.vipr_spec.specs.Digits.{is_digit}
 use Rattle.vipr_spec.specs.Fraction.{ℚ, neg_ℚ, over}

@@ -19,3 +19,4 @@ pub mod Wanted
 pub mod Decimals
 pub mod Hints
 pub mod Contexts
+pub mod Syntax

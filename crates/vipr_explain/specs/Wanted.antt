@@ -38,7 +38,8 @@ branch_words part =
 -- what no number belongs to
 abbrev pub plain_words : Wanted → List ℕ
 plain_words wanted.Version = codes "the version `1.0`"
-plain_words wanted.BoundCount = codes "the number of bounds among the constraints, a count in digits"
+plain_words wanted.BoundCount =
+    codes "the number of bounds among the constraints, a count in digits"
 plain_words wanted.Direction = codes "`min` or `max`"
 plain_words wanted.Sense = codes "the sense `E`, `L` or `G`"
 plain_words wanted.RightHandSide = codes "the right-hand side, a number"

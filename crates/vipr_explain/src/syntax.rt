@@ -1,8 +1,10 @@
 //! Explains a fault of a text: its place, and what is wanted there.
-ghost use Rattle.std.specs.Prelude.{◌≡◌};
+ghost use Rattle.std.specs.Prelude.{◌≡◌, ℕ, List, [], IfOk, OnOk};
 ghost use Rattle.vipr_explain.specs.Contexts.{context_text, error_text, fault_text, found_words};
 ghost use Rattle.vipr_explain.specs.Contexts.{has_items, has_name, is_in_head, is_in_item};
 ghost use Rattle.vipr_explain.specs.Contexts.{item_part, item_text, label_text, name_part};
+ghost use Rattle.vipr_explain.specs.Progress.{at_start, named_at, passed};
+ghost use Rattle.vipr_explain.specs.Syntax.{HasPassed, IsSyntaxText};
 ghost use Rattle.vipr_explain.specs.Written.{PutsText};
 
 use crate::excerpt::Excerpt;
@@ -35,7 +37,11 @@ pub(crate) fn put_syntax<T: Text>(
     subject: &Subject<'_, T>,
     cause: u8,
     offset: u64,
-) -> Result<(), Missing> {
+) -> Result<(), Missing>
+    ensures { IfOk result (λ _. (text : List ℕ)
+        × IsSyntaxText (T.input subject.now.text.now) subject.now.file.now cause text
+        × PutsText page.old page.new text) }
+{
     let found = FoundToken::<T::Reader>::find(subject, offset)?;
     let excerpt = Excerpt::read(subject, found.words.spot())?;
     let fault = TokenFault {
@@ -60,7 +66,9 @@ impl<R: Source + Drop> FoundToken<R> {
     fn find<T: Text<Reader = R>>(
         subject: &Subject<'_, T>,
         offset: u64,
-    ) -> Result<FoundToken<R>, Missing> {
+    ) -> Result<FoundToken<R>, Missing>
+        ensures { IfOk result HasPassed }
+    {
         let mut found = FoundToken {
             words: Words::open(subject.alloc, subject.text)?,
             progress: TextProgress::start(),
@@ -73,7 +81,11 @@ impl<R: Source + Drop> FoundToken<R> {
     }
 
     // Passes the tokens before a byte.
-    fn pass_up_to(&mut self, offset: u64) -> Result<(), Missing> {
+    fn pass_up_to(&mut self, offset: u64) -> Result<(), Missing>
+        requires progress { self.old.progress ≡ at_start }
+        requires name { self.old.name.items ≡ [] }
+        ensures { OnOk result (HasPassed self.new) }
+    {
         for _ in 0..u64::MAX {
             if !self.words.next() {
                 return Ok(());
@@ -88,16 +100,31 @@ impl<R: Source + Drop> FoundToken<R> {
     }
 
     // Passes the token that was read.
-    fn pass(&mut self) -> Result<(), AllocError> {
+    fn pass(&mut self) -> Result<(), AllocError>
+        ensures name { OnOk result (self.new.name.items
+            ≡ named_at self.old.progress.wanted self.old.name.items self.old.words.word.items) }
+        ensures progress { OnOk result
+            (self.new.progress ≡ passed self.old.progress self.old.words.word.items) }
+    {
+        self.take_name()?;
+        self.progress.pass(self.words.word());
+        Ok(())
+    }
+
+    // Takes the token that was read as the name of an item, if it is one.
+    fn take_name(&mut self) -> Result<(), AllocError>
+        ensures words { self.new.words ≡ self.old.words }
+        ensures progress { self.new.progress ≡ self.old.progress }
+        ensures name { OnOk result (self.new.name.items
+            ≡ named_at self.old.progress.wanted self.old.name.items self.old.words.word.items) }
+    {
         match self.progress.wanted {
             Wanted::Name => {
                 self.name.clear();
-                self.name.extend_from_slice(self.words.word())?;
+                self.name.extend_from_slice(self.words.word())
             }
-            _ => {}
+            _ => Ok(()),
         }
-        self.progress.pass(self.words.word());
-        Ok(())
     }
 }
 

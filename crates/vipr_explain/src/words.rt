@@ -1,4 +1,5 @@
 //! The tokens of a text with their places.
+ghost use Rattle.std.specs.Prelude.{◌≡◌};
 
 use crate::missing::Missing;
 use crate::text::{Letters, Spot, Text};
@@ -66,17 +67,23 @@ impl<R: Source + Drop> Words<R> {
     }
 
     /// The first bytes of the last token that was read.
-    pub(crate) fn word(&self) -> &[u8] {
+    pub(crate) fn word(&self) -> &[u8]
+        ensures { result.now ≡ self.now.word.items }
+    {
         self.word.as_slice()
     }
 
     /// How many bytes it has.
-    pub(crate) fn size(&self) -> usize {
+    pub(crate) fn size(&self) -> usize
+        ensures { result ≡ self.now.size }
+    {
         self.size
     }
 
     /// The place of its first byte.
-    pub(crate) fn spot(&self) -> Spot {
+    pub(crate) fn spot(&self) -> Spot
+        ensures { result ≡ self.now.spot }
+    {
         self.spot
     }
 

@@ -1,4 +1,4 @@
-use Rattle.std.proofs.Common.{◌≡◌, ◌≢◌, ℕ, ◌+◌, ◌-◌, ◌*◌, get_or, length, arith, refl, sym, ◌∙◌}
+use Rattle.std.proofs.Common.{ℕ, ◌+◌, ◌-◌, ◌*◌, get_or, arith, refl, sym, ◌∙◌}
 use Rattle.std.proofs.Common.{ap, inl, inr}
 use Rattle.vipr_explain.specs.Progress.{number_or_none}
 use Rattle.vipr_explain.proofs.Counting.{digits_begin}
