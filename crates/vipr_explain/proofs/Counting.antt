@@ -4,11 +4,11 @@ use Rattle.std.proofs.Common.{Some, None, refl, sym, ap, ◌∙◌, add-one, dro
 use Rattle.std.proofs.lemmas.List.{drop_all}
 use Rattle.vipr_spec.specs.Digits.{natural_after, natural_of}
 use Rattle.vipr_explain.specs.Decimals.{decimal_from, decimal_next, decimal_value}
-use Rattle.vipr_explain.specs.Progress.{count_of, number_or_none}
+use Rattle.vipr_explain.specs.Progress.{count_spelled, number_or_none}
 use Rattle.vipr_explain.specs.declared.decimal.Decimal.{Decimal}
 
 -- no digits spell 0
-pub digits_begin : (word : List ℕ) → number_or_none (natural_after 0 word) ≡ count_of word
+pub digits_begin : (word : List ℕ) → number_or_none (natural_after 0 word) ≡ count_spelled word
 unfolding natural_after natural_of
 digits_begin [] = refl
 digits_begin (b ∷ bs) = refl

@@ -4,7 +4,7 @@ use Rattle.std.specs.Prelude.{◌++◌, codes, decimal}
 use Rattle.vipr_spec.specs.Causes as cause
 use Rattle.vipr_explain.specs.Page.{shown_bytes}
 use Rattle.vipr_explain.specs.Progress.{in_u32, index_of, item_word, keyword_of}
-use Rattle.vipr_explain.specs.Wanted.{wanted_text}
+use Rattle.vipr_explain.specs.Wanted.{wanted_phrase}
 use Rattle.vipr_explain.specs.declared.wanted.Section.{Section}
 use Rattle.vipr_explain.specs.declared.wanted.Section.TheVariants as section
 use Rattle.vipr_explain.specs.declared.wanted.Wanted.{Wanted}
@@ -16,13 +16,14 @@ abbrev pub found_words : Bool → List ℕ
 found_words is_end = if is_end then codes ": the text ends where this is wanted: "
     else codes ": wanted "
 
-abbrev pub fault_text : ℕ → Bool → TextProgress → List ℕ
-fault_text c is_end p = if c == cause.trailing_text then codes ": text behind the last derivation"
-    else found_words is_end ++ wanted_text p.wanted p
+abbrev pub token_fault_text : ℕ → Bool → TextProgress → List ℕ
+token_fault_text c is_end p = if c == cause.trailing_text
+    then codes ": text behind the last derivation"
+    else found_words is_end ++ wanted_phrase p.wanted p
 
 abbrev pub error_text : ℕ → Bool → TextProgress → List ℕ
 error_text c is_end p =
-    (codes "error: " ++ cause.cause_name c) ++ (fault_text c is_end p ++ codes "\n")
+    (codes "error: " ++ cause.cause_name c) ++ (token_fault_text c is_end p ++ codes "\n")
 
 -- what is below the place
 abbrev pub label_text : Bool → List ℕ
@@ -54,8 +55,8 @@ abbrev pub has_name : Section → Wanted → Bool
 has_name section.Integers part = false
 has_name _ part = not (is_name part)
 
-abbrev pub name_part : TextProgress → List ℕ → List ℕ
-name_part p name = if has_name p.section p.wanted
+abbrev pub item_name : TextProgress → List ℕ → List ℕ
+item_name p name = if has_name p.section p.wanted
     then codes ", `" ++ (shown_bytes name ++ codes "`") else []
 
 -- which item it is
@@ -65,7 +66,7 @@ item_text p = codes ", " ++ (item_word p.section ++ (codes " " ++ (decimal (inde
     ++ codes ")")))))))
 
 abbrev pub item_part : TextProgress → List ℕ → List ℕ
-item_part p name = if is_in_item p then item_text p ++ name_part p name else []
+item_part p name = if is_in_item p then item_text p ++ item_name p name else []
 
 -- which part of which item was being read
 abbrev pub context_text : TextProgress → List ℕ → List ℕ

@@ -26,15 +26,15 @@ keyword_of section.Solutions = codes "SOL"
 keyword_of section.Derivations = codes "DER"
 
 -- what a count counts
-abbrev pub counted_words : Section → List ℕ
-counted_words section.Version = codes "items"
-counted_words section.Variables = codes "variables"
-counted_words section.Integers = codes "integer variables"
-counted_words section.Objective = codes "items"
-counted_words section.Constraints = codes "constraints"
-counted_words section.Claim = codes "items"
-counted_words section.Solutions = codes "solutions"
-counted_words section.Derivations = codes "derivations"
+abbrev pub counted_name : Section → List ℕ
+counted_name section.Version = codes "items"
+counted_name section.Variables = codes "variables"
+counted_name section.Integers = codes "integer variables"
+counted_name section.Objective = codes "items"
+counted_name section.Constraints = codes "constraints"
+counted_name section.Claim = codes "items"
+counted_name section.Solutions = codes "solutions"
+counted_name section.Derivations = codes "derivations"
 
 -- what an item is
 abbrev pub item_word : Section → List ℕ
@@ -101,8 +101,8 @@ abbrev pub number_or_none : Option ℕ → ℕ
 number_or_none (Some n) = in_u32 n
 number_or_none None = 0
 
-abbrev pub count_of : List ℕ → ℕ
-count_of word = number_or_none (natural_of word)
+abbrev pub count_spelled : List ℕ → ℕ
+count_spelled word = number_or_none (natural_of word)
 
 abbrev pub wants : TextProgress → Wanted → TextProgress
 wants p part = record p { wanted = part }
@@ -186,14 +186,14 @@ reason_passed p word = record p { part = 0; parts = 4; wanted = first_of_reason 
 abbrev pub passed_at : Wanted → TextProgress → List ℕ → TextProgress
 passed_at wanted.Keyword p word = wants p (first_of p.section)
 passed_at wanted.Version p word = section_ended p
-passed_at wanted.Count p word = count_passed p.section p (count_of word)
+passed_at wanted.Count p word = count_passed p.section p (count_spelled word)
 passed_at wanted.BoundCount p word = item_begun p
 passed_at wanted.Name p word = name_passed p.section p
 passed_at wanted.IntegerIndex p word = item_ended p
 passed_at wanted.Direction p word = wants p wanted.RowCount
 passed_at wanted.Sense p word = wants p wanted.RightHandSide
 passed_at wanted.RightHandSide p word = wants p wanted.RowCount
-passed_at wanted.RowCount p word = pairs_begun p (count_of word)
+passed_at wanted.RowCount p word = pairs_begun p (count_spelled word)
 passed_at wanted.RowIndex p word = wants p wanted.RowCoefficient
 passed_at wanted.RowCoefficient p word = pair_ended p
 passed_at wanted.Claim p word = claim_passed p word
@@ -201,7 +201,7 @@ passed_at wanted.LowerBound p word = wants p wanted.UpperBound
 passed_at wanted.UpperBound p word = section_ended p
 passed_at wanted.OpenBrace p word = wants p wanted.Reason
 passed_at wanted.Reason p word = reason_passed p word
-passed_at wanted.EntryCount p word = entries_begun p (count_of word)
+passed_at wanted.EntryCount p word = entries_begun p (count_spelled word)
 passed_at wanted.EntryIndex p word = wants p wanted.EntryMultiplier
 passed_at wanted.EntryMultiplier p word = entry_ended p
 passed_at wanted.Branch p word = branch_ended p

@@ -33,5 +33,5 @@ pub record ArePassed {R : Type 0} (words : List (List ℕ)) (f : FoundToken R) :
   pub progress : f.progress ≡ passed_all at_start words
   pub name : f.name.items ≡ name_after at_start [] words
 
-abbrev pub HasPassed : {R : Type 0} → FoundToken R → Type 0
-HasPassed f = (words : List (List ℕ)) × ArePassed words f
+abbrev pub HasPassedWords : {R : Type 0} → FoundToken R → Type 0
+HasPassedWords f = (words : List (List ℕ)) × ArePassed words f

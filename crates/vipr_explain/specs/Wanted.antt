@@ -1,6 +1,6 @@
 -- What a certificate's text has to have at a token, in words
 use Rattle.std.specs.Prelude.{ℕ, ◌-◌, ◌==◌, if◌then◌else◌, List, ◌++◌, codes, decimal}
-use Rattle.vipr_explain.specs.Progress.{counted_words, index_of, item_word, keyword_of}
+use Rattle.vipr_explain.specs.Progress.{counted_name, index_of, item_word, keyword_of}
 use Rattle.vipr_explain.specs.declared.wanted.Section.{Section}
 use Rattle.vipr_explain.specs.declared.wanted.Wanted.{Wanted}
 use Rattle.vipr_explain.specs.declared.wanted.Wanted.TheVariants as wanted
@@ -10,7 +10,7 @@ abbrev pub wanted_keyword : Section → List ℕ
 wanted_keyword s = codes "the keyword `" ++ (keyword_of s ++ codes "`")
 
 abbrev pub wanted_count : Section → List ℕ
-wanted_count s = codes "the number of " ++ (counted_words s ++ codes ", a count in digits")
+wanted_count s = codes "the number of " ++ (counted_name s ++ codes ", a count in digits")
 
 -- the name of an item
 abbrev pub wanted_name : TextProgress → List ℕ
@@ -56,14 +56,14 @@ plain_words wanted.Nothing = codes "the end of the text: the last derivation is 
 plain_words _ = codes "a token"
 
 -- what is wanted
-abbrev pub wanted_text : Wanted → TextProgress → List ℕ
-wanted_text wanted.Keyword p = wanted_keyword p.section
-wanted_text wanted.Count p = wanted_count p.section
-wanted_text wanted.Name p = wanted_name p
-wanted_text wanted.IntegerIndex p = wanted_index p.variables
-wanted_text wanted.RowIndex p = wanted_index p.variables
-wanted_text wanted.RowCoefficient p = wanted_part (codes "the number of pair ") p
-wanted_text wanted.EntryIndex p = wanted_part (codes "the constraint's index of entry ") p
-wanted_text wanted.EntryMultiplier p = wanted_part (codes "the multiplier of entry ") p
-wanted_text wanted.Branch p = branch_words p.part
-wanted_text other p = plain_words other
+abbrev pub wanted_phrase : Wanted → TextProgress → List ℕ
+wanted_phrase wanted.Keyword p = wanted_keyword p.section
+wanted_phrase wanted.Count p = wanted_count p.section
+wanted_phrase wanted.Name p = wanted_name p
+wanted_phrase wanted.IntegerIndex p = wanted_index p.variables
+wanted_phrase wanted.RowIndex p = wanted_index p.variables
+wanted_phrase wanted.RowCoefficient p = wanted_part (codes "the number of pair ") p
+wanted_phrase wanted.EntryIndex p = wanted_part (codes "the constraint's index of entry ") p
+wanted_phrase wanted.EntryMultiplier p = wanted_part (codes "the multiplier of entry ") p
+wanted_phrase wanted.Branch p = branch_words p.part
+wanted_phrase other p = plain_words other

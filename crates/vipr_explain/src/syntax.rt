@@ -1,10 +1,11 @@
 //! Explains a fault of a text: its place, and what is wanted there.
 ghost use Rattle.std.specs.Prelude.{◌≡◌, ℕ, List, [], IfOk, OnOk};
-ghost use Rattle.vipr_explain.specs.Contexts.{context_text, error_text, fault_text, found_words};
+ghost use Rattle.vipr_explain.specs.Contexts.{context_text, error_text, token_fault_text};
+ghost use Rattle.vipr_explain.specs.Contexts.{found_words};
 ghost use Rattle.vipr_explain.specs.Contexts.{has_items, has_name, is_in_head, is_in_item};
-ghost use Rattle.vipr_explain.specs.Contexts.{item_part, item_text, label_text, name_part};
+ghost use Rattle.vipr_explain.specs.Contexts.{item_part, item_text, label_text, item_name};
 ghost use Rattle.vipr_explain.specs.Progress.{at_start, named_at, passed};
-ghost use Rattle.vipr_explain.specs.Syntax.{HasPassed, IsSyntaxText};
+ghost use Rattle.vipr_explain.specs.Syntax.{HasPassedWords, IsSyntaxText};
 ghost use Rattle.vipr_explain.specs.Written.{PutsText};
 
 use crate::excerpt::Excerpt;
@@ -67,7 +68,7 @@ impl<R: Source + Drop> FoundToken<R> {
         subject: &Subject<'_, T>,
         offset: u64,
     ) -> Result<FoundToken<R>, Missing>
-        ensures { IfOk result HasPassed }
+        ensures { IfOk result HasPassedWords }
     {
         let mut found = FoundToken {
             words: Words::open(subject.alloc, subject.text)?,
@@ -84,7 +85,7 @@ impl<R: Source + Drop> FoundToken<R> {
     fn pass_up_to(&mut self, offset: u64) -> Result<(), Missing>
         requires progress { self.old.progress ≡ at_start }
         requires name { self.old.name.items ≡ [] }
-        ensures { OnOk result (HasPassed self.new) }
+        ensures { OnOk result (HasPassedWords self.new) }
     {
         for _ in 0..u64::MAX {
             if !self.words.next() {
@@ -140,7 +141,7 @@ fn put_error(page: &mut Page, cause: u8, is_end: bool, progress: &TextProgress)
 
 // Says what is wanted, and whether the text ends there.
 fn put_fault(page: &mut Page, cause: u8, is_end: bool, progress: &TextProgress)
-    ensures { PutsText page.old page.new (fault_text cause is_end progress.now) }
+    ensures { PutsText page.old page.new (token_fault_text cause is_end progress.now) }
 {
     if cause == cause::TRAILING_TEXT {
         page.put(": text behind the last derivation");
@@ -205,7 +206,7 @@ fn put_item(page: &mut Page, progress: &TextProgress)
 
 // Says the name of an item, if that was read.
 fn put_name_part(page: &mut Page, progress: &TextProgress, name: &[u8])
-    ensures { PutsText page.old page.new (name_part progress.now name.now) }
+    ensures { PutsText page.old page.new (item_name progress.now name.now) }
 {
     if has_name(progress) {
         let name = StrangeBytes(name);

@@ -1,12 +1,13 @@
 //! How far a certificate's text was read: what it has to have at its next token.
 ghost use Rattle.std.specs.Prelude.{◌≡◌};
 ghost use Rattle.vipr_explain.specs.Progress.{at_start, branch_ended, claim_passed};
-ghost use Rattle.vipr_explain.specs.Progress.{count_of, count_passed, entries_begun, entry_begun};
+ghost use Rattle.vipr_explain.specs.Progress.{count_spelled, count_passed, entries_begun};
+ghost use Rattle.vipr_explain.specs.Progress.{entry_begun};
 ghost use Rattle.vipr_explain.specs.Progress.{entry_ended, first_of, first_of_item, index_of};
 ghost use Rattle.vipr_explain.specs.Progress.{item_begun, item_ended, item_word, keyword_of};
 ghost use Rattle.vipr_explain.specs.Progress.{name_passed, next_section, pair_begun, pair_ended};
 ghost use Rattle.vipr_explain.specs.Progress.{passed, reason_passed, row_ended, section_ended};
-ghost use Rattle.vipr_explain.specs.Progress.{counted_words, first_of_reason, pairs_begun};
+ghost use Rattle.vipr_explain.specs.Progress.{counted_name, first_of_reason, pairs_begun};
 
 /// The sections of a certificate, in their order.
 #[derive(Clone, Copy, PartialEq)]
@@ -85,7 +86,7 @@ impl Section {
 
     /// What its count counts.
     pub(crate) fn counted(self) -> &'static str
-        ensures { result.now ≡ counted_words self }
+        ensures { result.now ≡ counted_name self }
     {
         match self {
             Section::Variables => "variables",
@@ -390,7 +391,7 @@ fn first_of_reason(word: &[u8]) -> Wanted
 
 // The number that digits spell; 0 for other bytes, as `OBJ`.
 fn count_of(word: &[u8]) -> u32
-    ensures { result ≡ count_of word.now }
+    ensures { result ≡ count_spelled word.now }
 {
     let mut count: u32 = 0;
     for byte in word {

@@ -1,7 +1,8 @@
 //! What a certificate's text has to have at a token, in words.
 ghost use Rattle.std.specs.Prelude.{◌≡◌};
 ghost use Rattle.vipr_explain.specs.Wanted.{branch_words, plain_words, wanted_count, wanted_index};
-ghost use Rattle.vipr_explain.specs.Wanted.{wanted_keyword, wanted_name, wanted_part, wanted_text};
+ghost use Rattle.vipr_explain.specs.Wanted.{wanted_keyword, wanted_name, wanted_part};
+ghost use Rattle.vipr_explain.specs.Wanted.{wanted_phrase};
 ghost use Rattle.vipr_explain.specs.Written.{PutsText};
 
 use crate::page::Page;
@@ -9,7 +10,7 @@ use crate::wanted::{Section, TextProgress, Wanted};
 
 /// Writes what is wanted.
 pub(crate) fn put_wanted(page: &mut Page, progress: &TextProgress)
-    ensures { PutsText page.old page.new (wanted_text progress.now.wanted progress.now) }
+    ensures { PutsText page.old page.new (wanted_phrase progress.now.wanted progress.now) }
 {
     match progress.wanted {
         Wanted::Keyword => put_wanted_keyword(page, progress.section),
