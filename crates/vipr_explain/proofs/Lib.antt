@@ -10,3 +10,7 @@ mod Counting
 mod Choosing
 mod Finding
 mod SyntaxLines
+mod Gathering
+mod Dropping
+mod Repairing
+mod StepParts

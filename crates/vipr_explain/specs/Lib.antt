@@ -3,6 +3,9 @@ pub mod Written
 pub mod Algebra
 pub mod Excerpted
 pub mod Listed
+pub mod Differences
+pub mod RowFaults
+pub mod Repairs
 pub mod Steps
 pub mod Solutions
 pub mod Goals
@@ -20,3 +23,6 @@ pub mod Decimals
 pub mod Hints
 pub mod Contexts
 pub mod Syntax
+pub mod References
+pub mod Drops
+pub mod StepPages

@@ -1,196 +1,348 @@
-//! Why one constraint isn't as it has to be: how two differ, what can't be rounded, and what is no
-//! split.
+//! How what a reason gives differs from what a derivation states.
+ghost use Rattle.std.specs.Prelude.{◌≡◌, ◌++◌, Option, Some, IfOk, OnOk, flat_map, take};
+ghost use Rattle.std.specs.FinMap.{entries};
+ghost use Rattle.vipr_spec.specs.Fraction.{ℚ};
+ghost use Rattle.vipr_linear.specs.Constraint.{constraint_of, sense_of};
+ghost use Rattle.vipr_explain.specs.Differences.{IsExcess, added_at, changed_at, row_differences};
+ghost use Rattle.vipr_explain.specs.Differences.{difference_line, is_other_sense};
+ghost use Rattle.vipr_explain.specs.Written.{PutsText};
 
-use crate::algebra::{put_variable, sign_of, size_of};
+use crate::algebra::{VariableName, sign_of, size_of};
 use crate::page::Page;
+use std::alloc::{AllocError, Global};
+use std::fmt;
+use std::fmt::{Display, Formatter, Write};
 use vipr_cert::Problem;
 use vipr_frac::Frac;
-use vipr_linear::{Constraint, Ints, Row, Sense, compares, is_whole_row};
+use vipr_linear::{Constraint, Row, Sense};
 
 /// How many differences are shown.
-const MOST_SHOWN: u32 = 6;
+const MOST_SHOWN: usize = 6;
 
-/// Says where the computed and the stated constraint differ.
-pub(crate) fn put_difference(
-    page: &mut Page,
-    problem: &Problem,
-    computed: &Constraint,
-    stated: &Constraint,
-) {
-    page.put("    difference ");
-    if !computed.row.is_same(&stated.row) {
-        put_row_difference(page, problem, &computed.row, &stated.row);
-    } else if computed.sense != stated.sense && computed.sense != Sense::E {
-        put_sense_difference(page, computed.sense, stated.sense);
-    } else {
-        put_right_difference(page, computed.rhs, stated.rhs);
-    }
-    page.put("\n");
-}
-
-// Says that the senses differ.
-fn put_sense_difference(page: &mut Page, computed: Sense, stated: Sense) {
-    page.put("the sense: computed ");
-    page.put(sign_of(computed));
-    page.put(", stated ");
-    page.put(sign_of(stated));
-}
-
-// Says by how much the right-hand sides differ.
-fn put_right_difference(page: &mut Page, computed: Frac, stated: Frac) {
-    page.put("right-hand side: computed ");
-    page.put_value(&computed);
-    page.put(", stated ");
-    page.put_value(&stated);
-    if let Ok(gap) = computed.add(stated.neg()) {
-        page.put(", which says ");
-        page.put_value(&size_of(gap));
-        page.put(" too much");
-    }
-}
-
-/// The right-hand side to which `rnd` rounds the computed constraint, if that is strong enough.
-pub(crate) fn rounded(ints: &Ints, computed: &Constraint, stated: &Constraint) -> Option<i128> {
-    if !computed.row.is_same(&stated.row) || computed.sense != stated.sense {
-        return None;
-    }
-    if !is_whole_row(&computed.row, ints) {
-        return None;
-    }
-    let bound = match computed.sense {
-        Sense::E => return None,
-        Sense::L => computed.rhs.floor(),
-        Sense::G => computed.rhs.ceil(),
-    };
-    match Frac::new(bound, 1) {
-        Ok(value) if compares(stated.sense, value, stated.rhs) => Some(bound),
-        _ => None,
-    }
-}
-
-// Says at which variables two rows differ.
-fn put_row_difference(page: &mut Page, problem: &Problem, computed: &Row, stated: &Row) {
-    page.put("the rows are not the same:");
-    let changed = put_changed(page, problem, computed, stated);
-    let shown = put_added(page, problem, computed, stated, changed);
-    if shown > MOST_SHOWN {
-        page.put(" .. (");
-        page.put_value(&shown);
-        page.put(" differences)");
-    }
-}
-
-// Says which entries of the computed row are others in the stated one, and counts them.
-fn put_changed(page: &mut Page, problem: &Problem, computed: &Row, stated: &Row) -> u32 {
-    let mut shown: u32 = 0;
-    for entry in computed.entries() {
-        let other = stated.coefficient(entry.0);
-        if entry.1 != other {
-            put_coefficients(page, problem, shown, entry.0, entry.1, other);
-            shown = shown.saturating_add(1);
-        }
-    }
-    shown
-}
-
-// Says which entries of the stated row aren't in the computed one, behind so many differences, and
-// counts all.
-fn put_added(page: &mut Page, problem: &Problem, computed: &Row, stated: &Row, before: u32) -> u32 {
-    let mut shown = before;
-    for entry in stated.entries() {
-        if computed.coefficient(entry.0) == Frac::zero() {
-            put_coefficients(page, problem, shown, entry.0, Frac::zero(), entry.1);
-            shown = shown.saturating_add(1);
-        }
-    }
-    shown
-}
-
-// Writes one difference, if not too many were shown.
-fn put_coefficients(
-    page: &mut Page,
-    problem: &Problem,
-    shown: u32,
+/// A variable whose coefficients differ in two rows.
+#[derive(Clone, Copy)]
+pub(crate) struct Difference {
     variable: u32,
     computed: Frac,
     stated: Frac,
-) {
-    if shown >= MOST_SHOWN {
-        return;
-    }
-    page.put(if shown == 0 { " " } else { "; " });
-    put_variable(page, problem, variable);
-    page.put(": computed ");
-    page.put_value(&computed);
-    page.put(", stated ");
-    page.put_value(&stated);
 }
 
-/// Says why a sum can't be rounded.
-pub(crate) fn put_not_roundable(page: &mut Page, problem: &Problem, sum: &Constraint) {
-    if sum.sense == Sense::E && is_whole_row(&sum.row, problem.ints()) {
-        page.put("    an equation can't be rounded\n");
-    }
-    put_not_whole(page, problem, &sum.row);
-}
-
-/// Says why two assumptions are no split.
-pub(crate) fn put_not_split(
+/// Says where the computed and the stated constraint differ.
+pub(crate) fn put_difference<'x>(
     page: &mut Page,
-    problem: &Problem,
-    first: &Constraint,
-    second: &Constraint,
-) {
-    if !first.row.is_same(&second.row) {
-        page.put("    they are about different rows: a split is of one row, ");
-        page.put("at most k and at least k + 1\n");
-    } else if is_whole_row(&first.row, problem.ints()) {
-        page.put("    a split is <= k and >= k + 1 with k whole; here it is ");
-        put_side(page, first);
-        page.put(" and ");
-        put_side(page, second);
-        page.put("\n");
+    alloc: Global,
+    problem: &'x Problem,
+    computed: &'x Constraint,
+    stated: &'x Constraint,
+) -> Result<(), AllocError>
+    ensures { OnOk result ((gap : Option ℚ) × IsExcess computed.now.rhs stated.now.rhs gap
+        × PutsText page.old page.new (difference_line problem.now.names
+        (constraint_of computed.now) (constraint_of stated.now) gap)) }
+{
+    let differences = row_differences(alloc, &computed.row, &stated.row)?;
+    let gap = gap_of(computed.rhs, stated.rhs);
+    let difference = ConstraintDifference {
+        problem,
+        differences: differences.as_slice(),
+        computed,
+        stated,
+        gap,
+    };
+    page.put_value(&format_args!("    difference {difference}\n"));
+    Ok(())
+}
+
+// Where two rows differ.
+fn row_differences(
+    alloc: Global,
+    computed: &Row,
+    stated: &Row,
+) -> Result<Vec<Difference>, AllocError>
+    ensures { IfOk result (λ found. found.items ≡ row_differences computed.now stated.now) }
+{
+    let mut found = Vec::new(alloc);
+    add_changes(&mut found, computed, stated)?;
+    add_additions(&mut found, computed, stated)?;
+    Ok(found)
+}
+
+// Adds the entries of the computed row that are others in the stated one.
+fn add_changes(found: &mut Vec<Difference>, computed: &Row, stated: &Row) -> Result<(), AllocError>
+    ensures { OnOk result (found.new.items
+        ≡ found.old.items ++ flat_map (changed_at stated.now) (entries computed.now)) }
+{
+    for entry in computed.entries() {
+        add_change(found, *entry, stated)?;
+    }
+    Ok(())
+}
+
+// The same of one entry.
+fn add_change(
+    found: &mut Vec<Difference>,
+    entry: (u32, Frac),
+    stated: &Row,
+) -> Result<(), AllocError>
+    ensures { OnOk result (found.new.items ≡ found.old.items ++ changed_at stated.now entry) }
+{
+    let (variable, computed) = entry;
+    let stated = stated.coefficient(variable);
+    if computed != stated {
+        found.push(Difference {
+            variable,
+            computed,
+            stated,
+        })?;
+    }
+    Ok(())
+}
+
+// Adds the entries of the stated row whose variables the computed one hasn't.
+fn add_additions(
+    found: &mut Vec<Difference>,
+    computed: &Row,
+    stated: &Row,
+) -> Result<(), AllocError>
+    ensures { OnOk result (found.new.items
+        ≡ found.old.items ++ flat_map (added_at computed.now) (entries stated.now)) }
+{
+    for entry in stated.entries() {
+        add_addition(found, computed, *entry)?;
+    }
+    Ok(())
+}
+
+// The same of one entry.
+fn add_addition(
+    found: &mut Vec<Difference>,
+    computed: &Row,
+    entry: (u32, Frac),
+) -> Result<(), AllocError>
+    ensures { OnOk result (found.new.items ≡ found.old.items ++ added_at computed.now entry) }
+{
+    let (variable, stated) = entry;
+    if computed.coefficient(variable) == Frac::zero() {
+        found.push(Difference {
+            variable,
+            computed: Frac::zero(),
+            stated,
+        })?;
+    }
+    Ok(())
+}
+
+// By how much a right-hand side says too much, if that fits.
+fn gap_of(computed: Frac, stated: Frac) -> Option<Frac>
+    ensures { IsExcess computed stated result }
+{
+    computed.add(stated.neg()).ok()
+}
+
+// How two constraints differ: by their rows, which differ so, or by a side of them.
+#[derive(Clone, Copy)]
+struct ConstraintDifference<'a> {
+    problem: &'a Problem,
+    differences: &'a [Difference],
+    computed: &'a Constraint,
+    stated: &'a Constraint,
+    gap: Option<Frac>,
+}
+
+impl Display for ConstraintDifference<'_> {
+    ghost use Rattle.vipr_linear.specs.Constraint.{constraint_of};
+    ghost use Rattle.vipr_explain.specs.Differences.{difference_text};
+
+    ghost output = { λ s. Some (difference_text s.problem.now.names s.differences.now
+        (constraint_of s.computed.now) (constraint_of s.stated.now) s.gap) };
+
+    fn fmt<W: Write>(&self, f: &mut Formatter<W>) -> fmt::Result {
+        if self.differences.is_empty() {
+            let sides = OtherSides {
+                computed: self.computed,
+                stated: self.stated,
+                gap: self.gap,
+            };
+            write!(f, "{sides}")
+        } else {
+            let rows = OtherRows {
+                problem: self.problem,
+                differences: self.differences,
+            };
+            write!(f, "{rows}")
+        }
+    }
+}
+
+// How the senses differ, or else the right-hand sides.
+#[derive(Clone, Copy)]
+struct OtherSides<'a> {
+    computed: &'a Constraint,
+    stated: &'a Constraint,
+    gap: Option<Frac>,
+}
+
+impl Display for OtherSides<'_> {
+    ghost use Rattle.vipr_linear.specs.Constraint.{constraint_of};
+    ghost use Rattle.vipr_explain.specs.Differences.{other_sides};
+
+    ghost output = { λ s. Some
+        (other_sides (constraint_of s.computed.now) (constraint_of s.stated.now) s.gap) };
+
+    fn fmt<W: Write>(&self, f: &mut Formatter<W>) -> fmt::Result {
+        if is_other_sense(self.computed.sense, self.stated.sense) {
+            let computed = sign_of(self.computed.sense);
+            let stated = sign_of(self.stated.sense);
+            write!(f, "the sense: computed {computed}, stated {stated}")
+        } else {
+            let computed = self.computed.rhs;
+            let stated = self.stated.rhs;
+            let excess = Excess(self.gap);
+            write!(
+                f,
+                "right-hand side: computed {computed}, stated {stated}{excess}"
+            )
+        }
+    }
+}
+
+// Whether a sense doesn't say what another one says.
+fn is_other_sense(computed: Sense, stated: Sense) -> bool
+    ensures { result ≡ is_other_sense (sense_of computed) (sense_of stated) }
+{
+    match computed {
+        Sense::E => false,
+        Sense::L => match stated {
+            Sense::L => false,
+            Sense::E | Sense::G => true,
+        },
+        Sense::G => match stated {
+            Sense::G => false,
+            Sense::E | Sense::L => true,
+        },
+    }
+}
+
+// How much too much a right-hand side says, if that is known.
+#[derive(Clone, Copy)]
+struct Excess(Option<Frac>);
+
+impl Display for Excess {
+    ghost use Rattle.vipr_explain.specs.Differences.{excess_text};
+
+    ghost output = { λ s. Some (excess_text s.0) };
+
+    fn fmt<W: Write>(&self, f: &mut Formatter<W>) -> fmt::Result {
+        match self.0 {
+            Some(gap) => {
+                let size = size_of(gap);
+                write!(f, ", which says {size} too much")
+            }
+            None => Ok(()),
+        }
+    }
+}
+
+// How two rows differ.
+#[derive(Clone, Copy)]
+struct OtherRows<'a> {
+    problem: &'a Problem,
+    differences: &'a [Difference],
+}
+
+impl Display for OtherRows<'_> {
+    ghost use Rattle.vipr_explain.specs.Differences.{rows_text};
+
+    ghost output = { λ s. Some (rows_text s.problem.now.names s.differences.now) };
+
+    fn fmt<W: Write>(&self, f: &mut Formatter<W>) -> fmt::Result {
+        let shown = ShownDifferences {
+            problem: self.problem,
+            differences: first_of(self.differences),
+        };
+        let count = DifferenceCount(self.differences.len());
+        write!(f, "the rows are not the same:{shown}{count}")
+    }
+}
+
+// Those of these differences that are shown.
+fn first_of(differences: &[Difference]) -> &[Difference]
+    ensures { result.now ≡ take 6 differences.now }
+{
+    if differences.len() > MOST_SHOWN {
+        &differences[..MOST_SHOWN]
     } else {
-        put_not_whole(page, problem, &first.row);
+        differences
     }
 }
 
-// Writes the sense and the right-hand side of a constraint.
-fn put_side(page: &mut Page, constraint: &Constraint) {
-    page.put(sign_of(constraint.sense));
-    page.put(" ");
-    page.put_value(&constraint.rhs);
+// Differences, one behind the other.
+#[derive(Clone, Copy)]
+struct ShownDifferences<'a> {
+    problem: &'a Problem,
+    differences: &'a [Difference],
 }
 
-// Names the coefficients that aren't whole, and the variables that aren't integer ones.
-fn put_not_whole(page: &mut Page, problem: &Problem, row: &Row) {
-    let mut shown: u32 = 0;
-    for entry in row.entries() {
-        if shown < MOST_SHOWN && !entry.1.is_whole() {
-            put_coefficient_not_whole(page, problem, entry.0, entry.1);
-            shown = shown.saturating_add(1);
+impl Display for ShownDifferences<'_> {
+    ghost use Rattle.std.specs.Prelude.{flat_map};
+    ghost use Rattle.std.specs.List.{enumerate_from};
+    ghost use Rattle.vipr_explain.specs.Differences.{numbered_difference};
+
+    ghost output = { λ s. Some (flat_map (numbered_difference s.problem.now.names)
+        (enumerate_from 0 s.differences.now)) };
+
+    fn fmt<W: Write>(&self, f: &mut Formatter<W>) -> fmt::Result {
+        for (position, difference) in self.differences.iter().enumerate() {
+            let line = NumberedDifference {
+                problem: self.problem,
+                position,
+                difference: *difference,
+            };
+            write!(f, "{line}")?;
         }
-        if shown < MOST_SHOWN && !problem.ints().contains(entry.0) {
-            put_not_integer(page, problem, entry.0);
-            shown = shown.saturating_add(1);
-        }
+        Ok(())
     }
 }
 
-// Says that a coefficient isn't whole.
-fn put_coefficient_not_whole(page: &mut Page, problem: &Problem, variable: u32, coefficient: Frac) {
-    page.put("    the coefficient ");
-    page.put_value(&coefficient);
-    page.put(" of ");
-    put_variable(page, problem, variable);
-    page.put(" is not whole\n");
+// A difference behind so many others.
+#[derive(Clone, Copy)]
+struct NumberedDifference<'a> {
+    problem: &'a Problem,
+    position: usize,
+    difference: Difference,
 }
 
-// Says that a variable isn't an integer one.
-fn put_not_integer(page: &mut Page, problem: &Problem, variable: u32) {
-    page.put("    ");
-    put_variable(page, problem, variable);
-    page.put(" is not an integer variable: write its index ");
-    page.put_value(&variable);
-    page.put(" in INT, or leave it out here\n");
+impl Display for NumberedDifference<'_> {
+    ghost use Rattle.vipr_explain.specs.Differences.{numbered_difference};
+
+    ghost output = { λ s. Some
+        (numbered_difference s.problem.now.names (s.position, s.difference)) };
+
+    fn fmt<W: Write>(&self, f: &mut Formatter<W>) -> fmt::Result {
+        let front = if self.position == 0 { " " } else { "; " };
+        let variable = VariableName {
+            problem: self.problem,
+            index: self.difference.variable,
+        };
+        let computed = self.difference.computed;
+        let stated = self.difference.stated;
+        write!(f, "{front}{variable}: computed {computed}, stated {stated}")
+    }
+}
+
+// How many differences there are, if not all are shown.
+#[derive(Clone, Copy)]
+struct DifferenceCount(usize);
+
+impl Display for DifferenceCount {
+    ghost use Rattle.vipr_explain.specs.Differences.{count_of_differences};
+
+    ghost output = { λ s. Some (count_of_differences s.0) };
+
+    fn fmt<W: Write>(&self, f: &mut Formatter<W>) -> fmt::Result {
+        if self.0 > MOST_SHOWN {
+            write!(f, " .. ({} differences)", self.0)
+        } else {
+            Ok(())
+        }
+    }
 }

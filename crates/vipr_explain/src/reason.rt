@@ -1,5 +1,5 @@
 //! The reason of a derivation, with the constraints that it refers to.
-ghost use Rattle.std.specs.Prelude.{◌≡◌, Some};
+ghost use Rattle.std.specs.Prelude.{◌≡◌, ◌||◌, Some, nat_lt};
 ghost use Rattle.vipr_explain.specs.Steps.{is_at_fault};
 
 use crate::shown::{ListedConstraint, PlacedItems};
@@ -292,7 +292,9 @@ impl Display for NotBefore {
 }
 
 /// Whether an entry of a sum is shown: the first ten, and the one at fault.
-pub(crate) fn is_entry_shown(position: usize, index: u32, what: &StepDetail) -> bool {
+pub(crate) fn is_entry_shown(position: usize, index: u32, what: &StepDetail) -> bool
+    ensures { result ≡ (nat_lt position 10 || is_at_fault what.now position index) }
+{
     position < MOST_ENTRIES || is_entry_at_fault(position, index, what)
 }
 

@@ -18,11 +18,18 @@ pub(crate) struct PlacedItems {
 }
 
 impl PlacedItems {
+    ghost use Rattle.std.specs.Prelude.{IfOk};
+    ghost use Rattle.vipr_bytes.specs.Known.{IfKnown, text_of};
+    ghost use Rattle.vipr_explain.specs.Found.{AreFoundItems};
+
     /// Reads the constraints of these indices.
     pub(crate) fn read<T: Text>(
         subject: &Subject<'_, T>,
         wanted: &[u32],
-    ) -> Result<PlacedItems, Missing> {
+    ) -> Result<PlacedItems, Missing>
+        ensures { IfKnown (T.input subject.now.text.now) (λ i.
+            IfOk result (λ known. AreFoundItems wanted.now (text_of i) known.items)) }
+    {
         Ok(PlacedItems {
             items: read_items(subject.alloc, subject.text, wanted)?,
             marks: find_constraints(subject.alloc, subject.text, wanted)?,

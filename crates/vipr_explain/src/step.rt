@@ -1,27 +1,36 @@
 //! Explains a derivation that is refused.
-ghost use Rattle.std.specs.Prelude.{Some};
+ghost use Rattle.std.specs.Prelude.{◌≡◌, ◌++◌, ◌∷◌, [], IfOk, List, OnOk, Option, Some, ℕ};
+ghost use Rattle.std.specs.Prelude.{codes, option_map};
+ghost use Rattle.std.specs.List.{enumerate_from, flat_map};
 ghost use Rattle.vipr_linear.specs.Constraint.{constraint_of};
+ghost use Rattle.vipr_explain.specs.Listed.{place_found};
+ghost use Rattle.vipr_explain.specs.References.{entry_indices, reason_indices, shown_index};
+ghost use Rattle.vipr_explain.specs.References.{step_indices};
+ghost use Rattle.vipr_explain.specs.StepPages.{IsDetailText, IsRefusedText, IsRowsText, IsSpotText};
+ghost use Rattle.vipr_explain.specs.StepPages.{IsStepText, name_spot, pair_lines, stated_lines};
+ghost use Rattle.vipr_explain.specs.StepPages.{sum_lines};
 ghost use Rattle.vipr_explain.specs.Steps.{labelled, reason_text, step_error, step_help};
 ghost use Rattle.vipr_explain.specs.Written.{PutsText};
 
 use crate::algebra::{Algebra, ShownName};
-use crate::differences::{put_difference, put_not_roundable, put_not_split, rounded};
-use crate::excerpt::Excerpt;
-use crate::items::{Items, find_constraints, mark_of, open_derivations, read_items};
+use crate::differences::put_difference;
+pub(crate) use crate::drops::put_dropped;
+use crate::faults::{put_not_roundable, put_not_split};
+use crate::items::{ItemPlace, mark_of, read_items};
 use crate::missing::Missing;
 use crate::page::Page;
 use crate::reason::{ReasonLines, is_entry_shown};
+use crate::repair::put_repair;
 use crate::shown::PlacedItems;
+use crate::spots::put_excerpt;
 use crate::text::{Subject, Text};
 use std::alloc::{AllocError, Global};
 use std::fmt;
 use std::fmt::{Display, Formatter, Write};
-use vipr_bytes::Source;
 use vipr_cert::{Derivation, Problem, Reason};
 use vipr_check::{StepDetail, cause};
 use vipr_frac::Frac;
 use vipr_linear::Constraint;
-use vipr_read::Derivations;
 
 /// Explains the refusal of the derivation of this constraint.
 pub(crate) fn put_step<T: Text>(
@@ -30,26 +39,40 @@ pub(crate) fn put_step<T: Text>(
     cause: u8,
     index: u32,
     what: &StepDetail,
-) -> Result<(), Missing> {
-    let wanted = find_wanted(subject, index, what)?;
-    let known = PlacedItems::read(subject, wanted.as_slice())?;
-    match known.items.derivation(index) {
-        Some(step) => {
-            put_error(page, cause, index, step, what);
-            put_place(page, subject, &known, index)?;
-            put_labelled(
-                page,
-                &known.items.problem,
-                "  it states    ",
-                &step.constraint,
-            );
-            put_reason(page, &known, index, step, what);
-            put_detail(page, &known.items.problem, step, what);
-            put_help(page, cause, known.items.problem.cons().len());
-            Ok(())
-        }
+) -> Result<(), Missing>
+    ensures { IfOk result (λ _. (text : List ℕ)
+        × IsStepText (T.input subject.now.text.now) subject.now.file.now cause index what.now text
+        × PutsText page.old page.new text) }
+{
+    let own = read_items(subject.alloc, subject.text, [index].as_slice())?;
+    match own.derivation(index) {
+        Some(step) => put_refused(page, subject, cause, index, step, what),
         None => Err(Missing::Text),
     }
+}
+
+// The same, of a derivation that was read.
+fn put_refused<T: Text>(
+    page: &mut Page,
+    subject: &Subject<'_, T>,
+    cause: u8,
+    index: u32,
+    step: &Derivation,
+    what: &StepDetail,
+) -> Result<(), Missing>
+    ensures { IfOk result (λ _. (text : List ℕ)
+        × IsRefusedText (T.input subject.now.text.now) subject.now.file.now cause index step.now
+        what.now text × PutsText page.old page.new text) }
+{
+    let wanted = step_indices(subject.alloc, index, &step.reason, what)?;
+    let known = PlacedItems::read(subject, wanted.as_slice())?;
+    put_error(page, cause, index, step, what);
+    put_place(page, subject, known.marks.as_slice(), index)?;
+    put_stated(page, &known, index, step, what);
+    let problem = &known.items.problem;
+    put_detail(page, subject.alloc, problem, &step.reason, what)?;
+    put_help(page, cause, problem.cons().len());
+    Ok(())
 }
 
 // Says which derivation is at fault.
@@ -61,80 +84,83 @@ fn put_error(page: &mut Page, cause: u8, index: u32, step: &Derivation, what: &S
     page.put_value(&format_args!("error: derivation {index} `{name}` {fault}\n"));
 }
 
-// Shows the place of a derivation.
+// Shows the place of a derivation, if it was found.
 fn put_place<T: Text>(
     page: &mut Page,
     subject: &Subject<'_, T>,
-    known: &PlacedItems,
+    marks: &[ItemPlace],
     index: u32,
-) -> Result<(), Missing> {
-    if let Some(mark) = mark_of(known.marks.as_slice(), index) {
-        let excerpt = Excerpt::read(subject, mark.spot)?;
-        excerpt.put(page, subject.file, mark.size, "this derivation");
-    }
-    Ok(())
-}
-
-// The derivation's own constraint, and those that it refers to.
-fn find_wanted<T: Text>(
-    subject: &Subject<'_, T>,
-    index: u32,
-    what: &StepDetail,
-) -> Result<Vec<u32>, Missing> {
-    let own = read_items(subject.alloc, subject.text, [index].as_slice())?;
-    wanted_of(subject.alloc, &own, index, what)
-}
-
-// The same, if the derivation was read.
-fn wanted_of(
-    alloc: Global,
-    own: &Items,
-    index: u32,
-    what: &StepDetail,
-) -> Result<Vec<u32>, Missing> {
-    match own.derivation(index) {
-        Some(step) => Ok(references(alloc, index, step, what)?),
-        None => Err(Missing::Text),
+) -> Result<(), Missing>
+    ensures { IfOk result (λ _. (text : List ℕ)
+        × IsSpotText (T.input subject.now.text.now) subject.now.file.now (codes "this derivation")
+        (option_map name_spot (place_found marks.now index)) text
+        × PutsText page.old page.new text) }
+{
+    match mark_of(marks, index) {
+        Some(mark) => put_excerpt(page, subject, mark.spot, mark.size, "this derivation"),
+        None => Ok(()),
     }
 }
 
 // The derivation's own constraint, and the constraints in its reason that are shown.
-fn references(
+fn step_indices(
     alloc: Global,
     index: u32,
-    step: &Derivation,
+    reason: &Reason,
     what: &StepDetail,
-) -> Result<Vec<u32>, AllocError> {
+) -> Result<Vec<u32>, AllocError>
+    ensures { IfOk result (λ wanted. wanted.items ≡ step_indices index what.now reason.now) }
+{
     let mut wanted = Vec::new(alloc);
-    add_references(&mut wanted, index, step, what)?;
+    wanted.push(index)?;
+    add_references(&mut wanted, reason, what)?;
     Ok(wanted)
 }
 
-// The same, behind others.
+// Adds the constraints in a reason that are shown.
 fn add_references(
     wanted: &mut Vec<u32>,
-    index: u32,
-    step: &Derivation,
+    reason: &Reason,
     what: &StepDetail,
-) -> Result<(), AllocError> {
-    wanted.push(index)?;
-    match &step.reason {
-        Reason::Lin(entries) | Reason::Rnd(entries) => add_shown(wanted, entries.as_slice(), what),
+) -> Result<(), AllocError>
+    ensures { OnOk result (wanted.new.items
+        ≡ wanted.old.items ++ reason_indices what.now reason.now) }
+{
+    match reason {
+        Reason::Lin(entries) => add_shown(wanted, entries.as_slice(), what),
+        Reason::Rnd(entries) => add_shown(wanted, entries.as_slice(), what),
         Reason::Uns { i1, l1, i2, l2 } => wanted.extend_from_slice(&[*i1, *l1, *i2, *l2]),
         Reason::Asm | Reason::Sol => Ok(()),
     }
 }
 
-// The constraints of the entries that are shown.
+// Adds the constraints of the entries that are shown.
 fn add_shown(
     wanted: &mut Vec<u32>,
     entries: &[(u32, Frac)],
     what: &StepDetail,
-) -> Result<(), AllocError> {
+) -> Result<(), AllocError>
+    ensures { OnOk result (wanted.new.items
+        ≡ wanted.old.items ++ entry_indices what.now entries.now) }
+{
     for (position, entry) in entries.iter().enumerate() {
-        if is_entry_shown(position, entry.0, what) {
-            wanted.push(entry.0)?;
-        }
+        add_entry(wanted, position, entry.0, what)?;
+    }
+    Ok(())
+}
+
+// Adds the constraint of an entry, if it is shown.
+fn add_entry(
+    wanted: &mut Vec<u32>,
+    position: usize,
+    index: u32,
+    what: &StepDetail,
+) -> Result<(), AllocError>
+    ensures { OnOk result (wanted.new.items
+        ≡ wanted.old.items ++ shown_index what.now position index) }
+{
+    if is_entry_shown(position, index, what) {
+        wanted.push(index)?;
     }
     Ok(())
 }
@@ -218,38 +244,102 @@ impl Display for EntryFault {
     }
 }
 
+// Shows what the derivation states, and its reason.
+fn put_stated(page: &mut Page, known: &PlacedItems, own: u32, step: &Derivation, what: &StepDetail)
+    ensures { PutsText page.old page.new (stated_lines known.now own what.now step.now) }
+{
+    put_labelled(
+        page,
+        &known.items.problem,
+        "  it states    ",
+        &step.constraint,
+    );
+    put_reason(page, known, own, &step.reason, what);
+}
+
 // Shows the reason.
-fn put_reason(page: &mut Page, known: &PlacedItems, own: u32, step: &Derivation, what: &StepDetail)
-    ensures { PutsText page.old page.new (reason_text known.now own what.now step.now.reason) }
+fn put_reason(page: &mut Page, known: &PlacedItems, own: u32, reason: &Reason, what: &StepDetail)
+    ensures { PutsText page.old page.new (reason_text known.now own what.now reason.now) }
 {
     page.put_value(&ReasonLines {
         known,
         own,
         what,
-        reason: &step.reason,
+        reason,
     });
 }
 
 // Shows what is behind the fault.
-fn put_detail(page: &mut Page, problem: &Problem, step: &Derivation, what: &StepDetail) {
+fn put_detail(
+    page: &mut Page,
+    alloc: Global,
+    problem: &Problem,
+    reason: &Reason,
+    what: &StepDetail,
+) -> Result<(), AllocError>
+    ensures { OnOk result ((text : List ℕ)
+        × IsDetailText problem.now reason.now what.now text × PutsText page.old page.new text) }
+{
     match what {
+        StepDetail::Index(_) => Ok(()),
+        StepDetail::Entry(_) => Ok(()),
         StepDetail::Rows { computed, stated } => {
-            put_labelled(page, problem, "    computed   ", computed);
-            put_labelled(page, problem, "    stated     ", stated);
-            put_difference(page, problem, computed, stated);
-            put_repair(page, problem, step, computed, stated);
+            put_rows(page, alloc, problem, reason, computed, stated)
         }
-        StepDetail::Sum(sum) => {
-            put_labelled(page, problem, "    sum        ", sum);
-            put_not_roundable(page, problem, sum);
-        }
-        StepDetail::Pair(first, second) => {
-            put_labelled(page, problem, "    first      ", first);
-            put_labelled(page, problem, "    second     ", second);
-            put_not_split(page, problem, first, second);
-        }
-        _ => {}
+        StepDetail::Sum(sum) => put_sum(page, alloc, problem, sum),
+        StepDetail::Pair(first, second) => put_pair(page, alloc, problem, first, second),
+        StepDetail::Nothing => Ok(()),
     }
+}
+
+// Shows how what was computed differs from what is stated.
+fn put_rows(
+    page: &mut Page,
+    alloc: Global,
+    problem: &Problem,
+    reason: &Reason,
+    computed: &Constraint,
+    stated: &Constraint,
+) -> Result<(), AllocError>
+    ensures { OnOk result ((text : List ℕ) × IsRowsText problem.now reason.now
+        (constraint_of computed.now) (constraint_of stated.now) text
+        × PutsText page.old page.new text) }
+{
+    put_labelled(page, problem, "    computed   ", computed);
+    put_labelled(page, problem, "    stated     ", stated);
+    put_difference(page, alloc, problem, computed, stated)?;
+    put_repair(page, problem, reason, computed, stated);
+    Ok(())
+}
+
+// Shows a sum that can't be rounded.
+fn put_sum(
+    page: &mut Page,
+    alloc: Global,
+    problem: &Problem,
+    sum: &Constraint,
+) -> Result<(), AllocError>
+    ensures { OnOk result (PutsText page.old page.new
+        (sum_lines problem.now (constraint_of sum.now))) }
+{
+    put_labelled(page, problem, "    sum        ", sum);
+    put_not_roundable(page, alloc, problem, sum)
+}
+
+// Shows two assumptions that are no split.
+fn put_pair(
+    page: &mut Page,
+    alloc: Global,
+    problem: &Problem,
+    first: &Constraint,
+    second: &Constraint,
+) -> Result<(), AllocError>
+    ensures { OnOk result (PutsText page.old page.new
+        (pair_lines problem.now (constraint_of first.now) (constraint_of second.now))) }
+{
+    put_labelled(page, problem, "    first      ", first);
+    put_labelled(page, problem, "    second     ", second);
+    put_not_split(page, alloc, problem, first, second)
 }
 
 // Shows a constraint behind a label.
@@ -262,26 +352,6 @@ fn put_labelled(page: &mut Page, problem: &Problem, label: &str, constraint: &Co
         constraint,
     };
     page.put_value(&format_args!("{label}{algebra}\n"));
-}
-
-// Says how a derivation that doesn't follow can be repaired.
-fn put_repair(
-    page: &mut Page,
-    problem: &Problem,
-    step: &Derivation,
-    computed: &Constraint,
-    stated: &Constraint,
-) {
-    if let Reason::Lin(_) = &step.reason {
-        if let Some(bound) = rounded(problem.ints(), computed, stated) {
-            page.put_value(&format_args!(
-                "  = help: `rnd` in place of `lin` rounds the right-hand side to {bound}\n"
-            ));
-        }
-    }
-    page.put_help(
-        "state what was computed, or change the constraints and multipliers of the reason",
-    );
 }
 
 // Says what is likely to be wrong; the problem has so many constraints.
@@ -307,95 +377,4 @@ fn put_help(page: &mut Page, cause: u8, count: usize)
         cause::NO_SOLUTION => page.put_help("list a solution in SOL, or give another reason"),
         _ => page.put(""),
     }
-}
-
-/// Explains that a dropped constraint is needed: the place of its last reference, and what
-/// that would have to be.
-pub(crate) fn put_dropped<T: Text>(
-    page: &mut Page,
-    subject: &Subject<'_, T>,
-    index: u32,
-    needed_by: u32,
-) -> Result<(), Missing> {
-    page.put_value(&format_args!(
-        "  constraint {index} was dropped behind the last reference that it states\n"
-    ));
-    let marks = find_constraints(subject.alloc, subject.text, [index].as_slice())?;
-    let last = last_use(subject.alloc, subject.text, index, needed_by)?;
-    match mark_of(marks.as_slice(), index) {
-        Some(mark) => {
-            let excerpt = Excerpt::read(subject, mark.last)?;
-            put_last(page, subject, &excerpt, mark.last_size, last)
-        }
-        None => Ok(()),
-    }
-}
-
-// Shows the last reference, and what it would have to be.
-fn put_last<T: Text>(
-    page: &mut Page,
-    subject: &Subject<'_, T>,
-    excerpt: &Excerpt,
-    size: usize,
-    last: u32,
-) -> Result<(), Missing> {
-    let label = format!(in subject.alloc; "write {last} or -1 here")?;
-    excerpt.put(page, subject.file, size, label.as_str());
-    Ok(())
-}
-
-// The last derivation that refers to a constraint, as far as the text can be read.
-fn last_use<T: Text>(alloc: Global, text: &T, index: u32, needed_by: u32) -> Result<u32, Missing> {
-    let (problem, mut derivations) = open_derivations(alloc, text)?;
-    let first = problem.cons().len() as u64;
-    Ok(last_among(alloc, &mut derivations, first, index, needed_by))
-}
-
-// The same among derivations, the first of which has this index.
-fn last_among<R: Source + Drop>(
-    alloc: Global,
-    derivations: &mut Derivations<R>,
-    first: u64,
-    index: u32,
-    needed_by: u32,
-) -> u32 {
-    let mut last = needed_by;
-    let mut number = first;
-    for _ in 0..derivations.left() {
-        match derivations.next(alloc) {
-            Ok(Some(step)) => last = later_use(last, number, &step, index),
-            _ => break,
-        }
-        number = number.saturating_add(1);
-    }
-    last
-}
-
-// The later one of a derivation and another, if it refers to a constraint; else the other one.
-fn later_use(last: u32, number: u64, step: &Derivation, index: u32) -> u32 {
-    match u32::try_from(number) {
-        Ok(number) if number > last && refers_to(&step.reason, index) => number,
-        _ => last,
-    }
-}
-
-// Whether a reason refers to a constraint.
-fn refers_to(reason: &Reason, index: u32) -> bool {
-    match reason {
-        Reason::Lin(entries) | Reason::Rnd(entries) => has_entry(entries.as_slice(), index),
-        Reason::Uns { i1, l1, i2, l2 } => {
-            *i1 == index || *l1 == index || *i2 == index || *l2 == index
-        }
-        Reason::Asm | Reason::Sol => false,
-    }
-}
-
-// Whether a sum has an entry of a constraint.
-fn has_entry(entries: &[(u32, Frac)], index: u32) -> bool {
-    for entry in entries {
-        if entry.0 == index {
-            return true;
-        }
-    }
-    false
 }

@@ -1,0 +1,28 @@
+use Rattle.std.proofs.Common.{◌+◌, ◌-◌, arith}
+use Rattle.vipr_explain.proofs.Dropping.{part_ends, part_more, part_stops}
+use Rattle.vipr_explain.proofs.drops.last_among.Goals as goal
+
+pub loop-passed-preserved : goal.loop-passed-preserved
+loop-passed-preserved g c =
+    let old = c.loop-passed.derivations in
+    let new = c.next_derivation.new.derivations in
+    let so_far = c.loop-passed.invariant in
+    let next = rw c.in-Some.is at c.in_ok-step.ensures.left in
+    record {
+      left = omega (arith, next, so_far.left);
+      read = λ p knows known at.
+          let part = so_far.read p knows known at in
+          let read = rw c.in-Some.is at (c.in_ok-step.ensures.read p part.knows part.known (omega arith)) in
+          part_more p c.args.index (c.args.first + c.loop-passed.passed) _ c.loop-passed.last _ old.left new.left old new c.in-Some.step _ (omega arith) (omega arith) read c.later_of-last.ensures part;
+    }
+
+pub returns-in_default : goal.returns-in_default
+returns-in_default g c p knows known at =
+    let old = c.loop-passed.derivations in
+    let part = c.loop-passed.invariant.read p knows known at in
+    let read = rw c.in_default.is at (c.in_ok-step.ensures.read p part.knows part.known (omega (arith, c.loop-passed.invariant.left))) in
+    part_stops p c.args.index (c.args.first + c.loop-passed.passed) c.loop-passed.last old.left (old.left - 1) old c.next_derivation.new.derivations _ (omega (arith, c.loop-passed.invariant.left)) read part
+
+pub returns : goal.returns
+returns g c p knows known at =
+    part_ends p c.args.index (c.args.first + c.loop-passed.passed) c.loop-passed.last c.loop-passed.derivations.left c.loop-passed.derivations _ (omega (arith, c.loop-passed.invariant.left)) (c.loop-passed.invariant.read p knows known at)

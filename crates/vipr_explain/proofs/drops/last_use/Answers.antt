@@ -1,0 +1,22 @@
+use Rattle.std.proofs.Common.{◌≡◌, Ok, IfOk, ap, arith, length, sym, ◌∙◌}
+use Rattle.std.specs.Option.{IsSome}
+use Rattle.std.proofs.lemmas.List.{length-map}
+use Rattle.vipr_bytes.specs.Known.{text_of}
+use Rattle.vipr_scan.specs.Giving.{rest_of}
+use Rattle.vipr_explain.specs.Drops.{IsLastUse}
+use Rattle.vipr_explain.specs.Found.{head_read}
+use Rattle.vipr_explain.proofs.Again.{known_by}
+use Rattle.vipr_explain.proofs.Dropping.{is_last_use}
+use Rattle.vipr_explain.proofs.drops.last_use.Goals as goal
+
+pub returns : goal.returns
+returns g c =
+    let p = c.in_ok-problem.problem in
+    let d = c.in_ok-problem.derivations in
+    let count : length c.cons.result.now ≡ length p.constraints = sym (length-map c.cons.result.now _) ∙ ap length c.cons.ensures.constraints in
+    let known = c.in_ok-problem.ensures in
+    known_by (g.T.Text.input c.args.text.now)
+    (λ i. (head_read (text_of i) ≡ Ok ((p, d.left), rest_of d.rest)) × IsSome d.rest)
+    (λ i. IfOk c.last_among.result (IsLastUse (text_of i) c.args.index c.args.needed_by))
+    (λ i h. is_last_use (text_of i) p d c.args.index c.args.needed_by c.last_among.result h.0 (c.last_among.ensures p known.knows h.1 (omega (arith, count, known.counted, known.knows.constraints))))
+    c.in_ok-problem.ensures.read

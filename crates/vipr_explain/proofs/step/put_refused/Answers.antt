@@ -1,0 +1,30 @@
+use Rattle.std.proofs.Common.{◌≡◌, ℕ, List, ap, codes, length, option_map, refl, subst, sym, ◌∙◌}
+use Rattle.std.proofs.lemmas.List.{length-map}
+use Rattle.vipr_bytes.specs.Known.{IfKnown, text_of}
+use Rattle.vipr_explain.specs.Found.{AreFoundItems}
+use Rattle.vipr_explain.specs.Listed.{place_found}
+use Rattle.vipr_explain.specs.StepPages.{IsSpotText, name_spot}
+use Rattle.vipr_explain.specs.Steps.{step_help}
+use Rattle.vipr_explain.specs.declared.items.ItemPlace.{ItemPlace}
+use Rattle.vipr_explain.proofs.Putting.{puts_same, puts_then}
+use Rattle.vipr_explain.proofs.step.put_refused.Goals as goal
+
+pub returns : goal.returns
+returns g c =
+    let known = c.in_ok-known.known in
+    let place = c.in_ok-put_place.ensures in
+    let detail = c.in_ok-put_detail.ensures in
+    let count : length c.cons.result.now ≡ length known.items.problem.constraints = sym (length-map c.cons.result.now _) ∙ ap length c.cons.ensures.constraints in
+    let help = puts_same (ap (step_help c.args.cause) count) c.put_help.ensures in (
+      _,
+      record {
+        known = known;
+        found = subst (λ (wanted : List ℕ). IfKnown (g.T.Text.input c.args.subject.now.text.now) (λ i. AreFoundItems wanted (text_of i) known.items)) (c.as_slice.ensures.value ∙ c.in_ok-wanted.ensures) c.in_ok-known.ensures;
+        place = place.0;
+        is_place = subst (λ (marks : List ItemPlace). IsSpotText (g.T.Text.input c.args.subject.now.text.now) c.args.subject.now.file.now (codes "this derivation") (option_map name_spot (place_found marks c.args.index)) place.0) c.as_slice-2.ensures.value place.1;
+        detail = detail.0;
+        is_detail = detail.1;
+        parts = refl;
+      },
+      puts_then c.put_error.ensures (puts_then place.2 (puts_then c.put_stated.ensures (puts_then detail.2 help))),
+    )

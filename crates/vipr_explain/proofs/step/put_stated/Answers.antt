@@ -1,0 +1,5 @@
+use Rattle.vipr_explain.proofs.Putting.{puts_then}
+use Rattle.vipr_explain.proofs.step.put_stated.Goals as goal
+
+pub returns : goal.returns
+returns c = puts_then c.put_labelled.ensures c.put_reason.ensures

@@ -1,0 +1,60 @@
+-- Which derivation is the last one that names a constraint
+use Rattle.std.specs.Prelude.{◌≡◌, ℕ, zero, suc, Bool, false, List, [], ◌∷◌, ◌==◌, ◌||◌, ◌&&◌}
+use Rattle.std.specs.Prelude.{length, nat_lt, if◌then◌else◌, Option, Some, None, Ok, Err, IsSome}
+use Rattle.std.specs.List.{enumerate_from, list_any}
+use Rattle.vipr_spec.specs.Certificate.{Problem, Derivation, Reason, asm, lin, rnd, uns, sol}
+use Rattle.vipr_spec.specs.Reading.{Rest, Fault, Read, derivation_read}
+use Rattle.vipr_scan.specs.Giving.{rest_of}
+use Rattle.vipr_read.specs.Items.{Items as Reader, Knows}
+use Rattle.vipr_cert.specs.Items.{derivation_of}
+use Rattle.vipr_cert.specs.declared.items.Derivation.{Derivation as Derived}
+use Rattle.vipr_explain.specs.Found.{head_read}
+
+-- a reason names a constraint
+abbrev pub names_constraint : ℕ → Reason → Bool
+names_constraint index asm = false
+names_constraint index (lin es) = list_any (λ e. e.0 == index) es
+names_constraint index (rnd es) = list_any (λ e. e.0 == index) es
+names_constraint index (uns i1 l1 i2 l2) =
+    (i1 == index) || ((l1 == index) || ((i2 == index) || (l2 == index)))
+names_constraint index sol = false
+
+-- the later one of a derivation and the next one, if that names the constraint
+abbrev pub later_of : ℕ → ℕ → ℕ × Derivation → ℕ
+later_of index last d =
+    if nat_lt last d.0 && names_constraint index d.1.reason then d.0 else last
+
+abbrev pub last_naming : ℕ → ℕ → List (ℕ × Derivation) → ℕ
+last_naming index last [] = last
+last_naming index last (d ∷ ds) = last_naming index (later_of index last d) ds
+
+-- ---- derivations up to the first fault
+
+abbrev pub read_on : {A : Type 0} → Read A → (Rest → List A) → List A
+read_on (Ok x) others = x.0 ∷ others x.1
+read_on (Err f) others = []
+
+-- so many items, or those before the first fault
+unfoldable pub read_most : {A : Type 0} → (Rest → Read A) → ℕ → Rest → List A
+read_most item zero r = []
+read_most item (suc n) r = read_on (item r) (read_most item n)
+
+-- the derivations of a problem, as far as n of them can be read
+abbrev pub last_among : Problem → ℕ → Rest → ℕ → ℕ → ℕ
+last_among p n r index needed_by = last_naming index needed_by
+    (enumerate_from (length p.constraints) (read_most (derivation_read p) n r))
+
+-- of a text, where the derivation needed_by names the constraint
+pub record IsLastUse (text : Rest) (index needed_by last : ℕ) : Type 0 where
+  pub problem : Problem
+  pub count : ℕ
+  pub behind : Rest
+  pub head : head_read text ≡ Ok ((problem, count), behind)
+  pub is_last : last ≡ last_among problem count behind index needed_by
+
+-- the next derivation was read, or none because of a fault
+abbrev pub ReadsNext : Problem → Reader → Reader → Option Derived → Type 0
+ReadsNext p old new (Some d) =
+    (derivation_read p (rest_of old.rest) ≡ Ok (derivation_of d, rest_of new.rest))
+    × IsSome new.rest × Knows new p
+ReadsNext p old new None = (f : Fault) × (derivation_read p (rest_of old.rest) ≡ Err f)

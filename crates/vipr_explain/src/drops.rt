@@ -1,0 +1,160 @@
+//! Explains that a constraint is needed that was dropped.
+ghost use Rattle.std.specs.Prelude.{◌≡◌, ◌+◌, ◌<◌, ◌^◌, ◌==◌, IfOk, IsSome, List, length, ℕ};
+ghost use Rattle.std.specs.Prelude.{IfSome, option_map, suc};
+ghost use Rattle.std.specs.List.{list_any};
+ghost use Rattle.vipr_spec.specs.Certificate.{Problem as ProblemMeant};
+ghost use Rattle.vipr_bytes.specs.Known.{IfKnown, text_of};
+ghost use Rattle.vipr_scan.specs.Giving.{rest_of};
+ghost use Rattle.vipr_cert.specs.Items.{derivation_of, reason_of};
+ghost use Rattle.vipr_read.specs.Items.{Knows};
+ghost use Rattle.vipr_explain.specs.Drops.{IsLastUse, ReadsNext, last_among, later_of};
+ghost use Rattle.vipr_explain.specs.Drops.{names_constraint};
+ghost use Rattle.vipr_explain.specs.Listed.{place_found};
+ghost use Rattle.vipr_explain.specs.StepPages.{IsDroppedText, IsSpotText, dropped_line, last_label};
+ghost use Rattle.vipr_explain.specs.StepPages.{last_spot};
+ghost use Rattle.vipr_explain.specs.Written.{PutsText};
+
+use crate::items::{ItemPlace, find_constraints, mark_of, open_derivations};
+use crate::missing::Missing;
+use crate::page::Page;
+use crate::spots::put_excerpt;
+use crate::text::{Subject, Text};
+use std::alloc::Global;
+use vipr_bytes::Source;
+use vipr_cert::{Derivation, Reason};
+use vipr_frac::Frac;
+use vipr_read::Derivations;
+use vipr_scan::TextError;
+
+/// Explains that a dropped constraint is needed: the place of its last reference, and what
+/// that would have to be.
+pub(crate) fn put_dropped<T: Text>(
+    page: &mut Page,
+    subject: &Subject<'_, T>,
+    index: u32,
+    needed_by: u32,
+) -> Result<(), Missing>
+    ensures { IfOk result (λ _. (text : List ℕ)
+        × IsDroppedText (T.input subject.now.text.now) subject.now.file.now index needed_by text
+        × PutsText page.old page.new text) }
+{
+    put_dropped_line(page, index);
+    let marks = find_constraints(subject.alloc, subject.text, [index].as_slice())?;
+    let last = last_use(subject.alloc, subject.text, index, needed_by)?;
+    put_last(page, subject, marks.as_slice(), index, last)
+}
+
+// Says when a constraint was dropped.
+fn put_dropped_line(page: &mut Page, index: u32)
+    ensures { PutsText page.old page.new (dropped_line index) }
+{
+    page.put_value(&format_args!(
+        "  constraint {index} was dropped behind the last reference that it states\n"
+    ));
+}
+
+// Shows the last reference, if it was found, and what it would have to be.
+fn put_last<T: Text>(
+    page: &mut Page,
+    subject: &Subject<'_, T>,
+    marks: &[ItemPlace],
+    index: u32,
+    last: u32,
+) -> Result<(), Missing>
+    ensures { IfOk result (λ _. (text : List ℕ)
+        × IsSpotText (T.input subject.now.text.now) subject.now.file.now (last_label last)
+        (option_map last_spot (place_found marks.now index)) text
+        × PutsText page.old page.new text) }
+{
+    match mark_of(marks, index) {
+        Some(mark) => {
+            let label = format!(in subject.alloc; "write {last} or -1 here")?;
+            put_excerpt(page, subject, mark.last, mark.last_size, label.as_str())
+        }
+        None => Ok(()),
+    }
+}
+
+// The last derivation that names a constraint, as far as the text can be read.
+fn last_use<T: Text>(alloc: Global, text: &T, index: u32, needed_by: u32) -> Result<u32, Missing>
+    ensures { IfKnown (T.input text.now) (λ i.
+        IfOk result (IsLastUse (text_of i) index needed_by)) }
+{
+    let (problem, mut derivations) = open_derivations(alloc, text)?;
+    let first = problem.cons().len() as u32;
+    last_among(alloc, &mut derivations, first, index, needed_by)
+}
+
+// The same among derivations, the first of which has this index.
+fn last_among<R: Source + Drop>(
+    alloc: Global,
+    derivations: &mut Derivations<R>,
+    first: u32,
+    index: u32,
+    needed_by: u32,
+) -> Result<u32, Missing>
+    requires { first + derivations.old.left < 2 ^ 32 }
+    ensures { (p : ProblemMeant) → Knows derivations.old p → IsSome derivations.old.rest
+        → first ≡ length p.constraints
+        → IfOk result (λ last. last ≡ last_among p derivations.old.left
+        (rest_of derivations.old.rest) index needed_by) }
+{
+    let mut last = needed_by;
+    for passed in 0..derivations.left() {
+        let Some(step) = next_derivation(alloc, derivations)? else {
+            return Ok(last);
+        };
+        last = later_of(index, last, first + passed, &step);
+    }
+    Ok(last)
+}
+
+// The next derivation, none at a fault.
+fn next_derivation<R: Source + Drop>(
+    alloc: Global,
+    derivations: &mut Derivations<R>,
+) -> Result<Option<Derivation>, Missing>
+    ensures left { IfOk result (λ next. IfSome next (λ _.
+        derivations.old.left ≡ suc derivations.new.left)) }
+    ensures read { (p : ProblemMeant) → Knows derivations.old p → IsSome derivations.old.rest
+        → 0 < derivations.old.left
+        → IfOk result (ReadsNext p derivations.old derivations.new) }
+{
+    match derivations.next(alloc) {
+        Ok(next) => Ok(next),
+        Err(TextError::Memory) => Err(Missing::Memory),
+        Err(_) => Ok(None),
+    }
+}
+
+// The later one of a derivation and another, if it names a constraint; else the other one.
+fn later_of(index: u32, last: u32, number: u32, step: &Derivation) -> u32
+    ensures { result ≡ later_of index last (number, derivation_of step.now) }
+{
+    if last < number && names_constraint(index, &step.reason) {
+        number
+    } else {
+        last
+    }
+}
+
+// Whether a reason names a constraint.
+fn names_constraint(index: u32, reason: &Reason) -> bool
+    ensures { result ≡ names_constraint index (reason_of reason.now) }
+{
+    match reason {
+        Reason::Lin(entries) => has_entry(entries.as_slice(), index),
+        Reason::Rnd(entries) => has_entry(entries.as_slice(), index),
+        Reason::Uns { i1, l1, i2, l2 } => {
+            *i1 == index || *l1 == index || *i2 == index || *l2 == index
+        }
+        Reason::Asm | Reason::Sol => false,
+    }
+}
+
+// Whether a sum has an entry of a constraint.
+fn has_entry(entries: &[(u32, Frac)], index: u32) -> bool
+    ensures { result ≡ list_any (λ e. e.0 == index) entries.now }
+{
+    entries.iter().any(|entry| entry.0 == index)
+}
