@@ -7,7 +7,7 @@ use Rattle.vipr_cert.specs.declared.items.Derivation.{Derivation}
 use Rattle.vipr_check.specs.declared.detail.StepDetail.{StepDetail}
 use Rattle.vipr_explain.specs.Found.{AreFoundItems}
 use Rattle.vipr_explain.specs.Listed.{kept_derivation}
-use Rattle.vipr_explain.specs.StepPages.{IsDroppedText, IsRefusedText, IsSpotText, IsStepText, dropped_line}
+use Rattle.vipr_explain.specs.StepPages.{IsCauseText, IsDerivationText, IsDroppedText, IsRefusedText, IsSpotText, IsStepText, dropped_line}
 use Rattle.vipr_explain.specs.StepPages.{last_label, last_spot}
 use Rattle.vipr_explain.specs.Listed.{place_found}
 use Rattle.vipr_explain.specs.Drops.{IsLastUse}
@@ -54,3 +54,16 @@ pub puts_before : {E : Type 0} (p q s : Page) (a b : List ℕ) (r : Result (Unit
     → PutsText p q a → OnOk r (PutsText q s b) → OnOk r (PutsText p s (a ++ b))
 puts_before p q s a b (Ok u) first second = puts_then first second
 puts_before p q s a b (Err e) first second = tt
+
+-- the whole of what is said of a derivation
+pub derivation_text : (input : Option Input) (file : List ℕ) (cause index : ℕ) (what : StepDetail)
+    (p q s : Page) (r : Result (Unit {0}) Missing)
+    → ((text : List ℕ) × IsStepText input file cause index what text × PutsText p q text)
+    → IfOk r (λ _. (text : List ℕ) × IsCauseText input file cause index what text × PutsText q s text)
+    → IfOk r (λ _. (text : List ℕ) × IsDerivationText input file cause index what text × PutsText p s text)
+derivation_text input file cause index what p q s (Ok u) front behind = (
+  front.0 ++ behind.0,
+  record { step = front.0; is_step = front.1; behind = behind.0; is_behind = behind.1; parts = refl },
+  puts_then front.2 behind.2,
+)
+derivation_text input file cause index what p q s (Err e) front behind = tt

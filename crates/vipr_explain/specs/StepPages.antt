@@ -1,6 +1,6 @@
 -- What an explanation of a derivation that is refused says
 use Rattle.std.specs.Prelude.{◌≡◌, ℕ, ℤ, List, [], ◌∷◌, ◌++◌, Option, Some, None, IfSome}
-use Rattle.std.specs.Prelude.{option_map, codes, decimal, length}
+use Rattle.std.specs.Prelude.{option_map, codes, decimal, length, Bool, true, false, ◌==◌}
 use Rattle.vipr_spec.specs.Certificate as is
 use Rattle.vipr_spec.specs.Constraint as spec
 use Rattle.vipr_spec.specs.Fraction.{ℚ}
@@ -134,3 +134,27 @@ pub record IsDroppedText (input : Option Input) (file : List ℕ) (index needed_
   pub is_place : IsSpotText input file (last_label last)
       (option_map last_spot (place_found marks index)) place
   pub parts : text ≡ dropped_line index ++ place
+
+-- what is said of a constraint that is needed, if it was dropped
+abbrev pub IsDroppedPart : Option Input → List ℕ → Bool → ℕ → ℕ → List ℕ → Type 0
+IsDroppedPart input file true index needed_by text =
+    IsDroppedText input file index needed_by text
+IsDroppedPart input file false index needed_by text = text ≡ []
+
+abbrev pub IsCauseText : Option Input → List ℕ → ℕ → ℕ → StepDetail → List ℕ → Type 0
+IsCauseText input file cause index (step.Index named) text =
+    IsDroppedPart input file (cause == 32) named index text
+IsCauseText input file cause index (step.Entry entry) text = text ≡ []
+IsCauseText input file cause index (step.Sum sum) text = text ≡ []
+IsCauseText input file cause index (step.Pair first second) text = text ≡ []
+IsCauseText input file cause index (step.Rows computed stated) text = text ≡ []
+IsCauseText input file cause index step.Nothing text = text ≡ []
+
+-- what is said of the derivation of this constraint
+pub record IsDerivationText (input : Option Input) (file : List ℕ) (cause index : ℕ)
+    (what : StepDetail) (text : List ℕ) : Type 0 where
+  pub step : List ℕ
+  pub is_step : IsStepText input file cause index what step
+  pub behind : List ℕ
+  pub is_behind : IsCauseText input file cause index what behind
+  pub parts : text ≡ step ++ behind

@@ -3,6 +3,7 @@
 
 mod algebra;
 mod decimal;
+mod derivation;
 mod differences;
 mod drops;
 mod excerpt;

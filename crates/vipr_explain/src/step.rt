@@ -14,7 +14,6 @@ ghost use Rattle.vipr_explain.specs.Written.{PutsText};
 
 use crate::algebra::{Algebra, ShownName};
 use crate::differences::put_difference;
-pub(crate) use crate::drops::put_dropped;
 use crate::faults::{put_not_roundable, put_not_split};
 use crate::items::{ItemPlace, mark_of, read_items};
 use crate::missing::Missing;

@@ -4,15 +4,15 @@ ghost use Rattle.vipr_explain.specs.Page.{cut, shown_text};
 ghost use Rattle.vipr_explain.specs.Pages.{ExplainsVerdict, ExplainsPlace, IsVerdictPage};
 ghost use Rattle.vipr_explain.specs.Pages.{IsPageFor};
 
+use crate::derivation::put_derivation;
 use crate::goal::{put_goal, put_no_proof};
 use crate::missing::Missing;
 use crate::page::Page;
 use crate::solution::{put_no_primal, put_solution};
-use crate::step::{put_dropped, put_step};
 use crate::syntax::put_syntax;
 use crate::text::{Subject, Text};
 use std::alloc::Global;
-use vipr_check::{Detail, Place, Refusal, StepDetail, Verdict, cause};
+use vipr_check::{Detail, Place, Refusal, Verdict};
 
 /// Explains a verdict on a text, which is read again, for people: the place at fault, what
 /// is wanted there, and what is likely to be wrong. `file` is the text's name.
@@ -127,23 +127,6 @@ fn put_claim<T: Text>(
     match detail {
         Detail::NoProof(goal) => put_no_proof(page, subject, goal.as_ref()),
         Detail::NoPrimal(bound) => put_no_primal(page, subject, *bound),
-        _ => Ok(()),
-    }
-}
-
-// Explains a derivation that is refused.
-fn put_derivation<T: Text>(
-    page: &mut Page,
-    subject: &Subject<'_, T>,
-    cause: u8,
-    index: u32,
-    what: &StepDetail,
-) -> Result<(), Missing> {
-    put_step(page, subject, cause, index, what)?;
-    match what {
-        StepDetail::Index(dropped) if cause == cause::DROPPED => {
-            put_dropped(page, subject, *dropped, index)
-        }
         _ => Ok(()),
     }
 }
