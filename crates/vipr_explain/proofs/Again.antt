@@ -100,13 +100,17 @@ module _ {A : Type 0} (item : Rest → Read A) where
   one_missed m front n k l total e h so_far =
       subst (Missed m) (ap (λ j. with_front front (read_each item j l)) (sym e) ∙ so_far) (fails_on m front k l h)
 
+  pub next_missed : (m : Missing) (front : List A) (n : ℕ) (l : Rest) (total : Read (List A))
+      → Missed m (item l) → with_front front (read_each item n l) ≡ total → 0 < n → Missed m total
+  next_missed m front n l total h so_far some = one_missed m front n (n - 1) l total (omega arith) h so_far
+
   pub none_yet : (read : Read (List A)) → with_front [] read ≡ read
   none_yet (Ok xs) = refl
   none_yet (Err e) = refl
 
 -- ---- those that are kept
 
-numbered_more : {X : Type 0} (first : ℕ) (xs : List X) (x : X) → enumerate_from first (xs ++ x ∷ []) ≡ enumerate_from first xs ++ (first + length xs, x) ∷ []
+pub numbered_more : {X : Type 0} (first : ℕ) (xs : List X) (x : X) → enumerate_from first (xs ++ x ∷ []) ≡ enumerate_from first xs ++ (first + length xs, x) ∷ []
 numbered_more first [] x = ap (λ n. (n, x) ∷ []) (omega arith)
 numbered_more first (y ∷ xs) x = ap (λ ys. (first, y) ∷ ys) (numbered_more (first + 1) xs x ∙ ap (λ n. enumerate_from (first + 1) xs ++ (n, x) ∷ []) (omega arith))
 

@@ -14,3 +14,8 @@ mod Gathering
 mod Dropping
 mod Repairing
 mod StepParts
+mod Lacks
+mod Valuing
+mod Nearby
+mod ByPlace
+mod Reading

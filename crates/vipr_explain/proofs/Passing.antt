@@ -61,6 +61,13 @@ next_of false held held' (Some r) i n some cut e =
           ∙ ap (with_bytes r.fails) (sym (drop-append-le 1 held r.bytes within)) ∙ f.left;
     }
 
+-- a read failed, so the text ends by a failure
+pub failed_fails : (failed : Bool) (held : List ℕ) (source : Option Input) (i : Input) (n : ℕ)
+    → failed ≡ true → left_by failed held source ≡ Some (after n i) → i.fails ≡ true
+unfolding fails_in
+failed_fails true held source i n is e = sym (ap fails_in e)
+failed_fails false held source i n is e = absurd (cc)
+
 -- nothing is left, so all was given
 pub none_left : (i : Input) (n : ℕ) → n ≤ length i.bytes → drop n i.bytes ≡ [] → n ≡ length i.bytes
 none_left i n within e = omega (arith, length-drop n i.bytes, ap length e)

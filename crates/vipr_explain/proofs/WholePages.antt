@@ -1,16 +1,19 @@
 -- Whole pages
-use Rattle.std.proofs.Common.{◌≡◌, ℕ, ap, ◌∙◌, true, false, List, [], ◌++◌, Option, Some, None}
-use Rattle.std.proofs.Common.{IfSome, IfOk, Result, Ok, Err, codes, inr, refl, sym, map, slice_get}
+use Rattle.std.proofs.Common.{◌≡◌, ℕ, ap, ◌∙◌, List, [], ◌∷◌, ◌++◌, Option, Some, None}
+use Rattle.std.proofs.Common.{IfSome, IfOk, Result, Ok, Err, codes, inr, refl, sym, map, false, slice_get, subst}
 use Rattle.std.proofs.Common.{option_map}
 use Rattle.std.specs.Prelude.{⊤}
 use Rattle.std.proofs.lemmas.Option.{slice_get-map}
 use Rattle.vipr_spec.specs.Certificate as is
 use Rattle.vipr_spec.specs.Constraint as spec
+use Rattle.vipr_spec.specs.Input.{Input}
+use Rattle.vipr_bytes.specs.Known.{IfKnown, text_of}
 use Rattle.vipr_linear.specs.Constraint.{constraint_of}
 use Rattle.vipr_linear.specs.declared.constraint.Constraint.{Constraint}
 use Rattle.vipr_cert.specs.Items.{named_of}
 use Rattle.vipr_cert.specs.declared.items.Named.{Named}
 use Rattle.vipr_check.specs.declared.detail.Detail.{Detail}
+use Rattle.vipr_check.specs.declared.detail.Detail.TheVariants as detail
 use Rattle.vipr_check.specs.declared.verdict.Place.{Place}
 use Rattle.vipr_check.specs.declared.verdict.Place.TheVariants.{Byte, Sol, Der, End}
 use Rattle.vipr_check.specs.declared.verdict.Report.{Report}
@@ -18,14 +21,18 @@ use Rattle.vipr_check.specs.declared.verdict.Verdict.{Verdict}
 use Rattle.vipr_check.specs.declared.verdict.Verdict.TheVariants.{Verified, Refused}
 use Rattle.vipr_explain.specs.Page.{cut, shown_text}
 use Rattle.vipr_explain.specs.Written.{PutsText}
-use Rattle.vipr_explain.specs.Explained.{IsGoalText, IsPlaceText, IsProvedText, IsSolutionText}
-use Rattle.vipr_explain.specs.Explained.{see_text}
+use Rattle.vipr_explain.specs.Explained.{IsGoalText, IsPlaceText, IsProvedText}
+use Rattle.vipr_explain.specs.Explained.{IsSolutionText, see_text}
+use Rattle.vipr_explain.specs.Found.{AreItemsOf, IsListedSolution, OnlyIf}
+use Rattle.vipr_explain.specs.Lacking.{LacksItem}
 use Rattle.vipr_explain.specs.Goals.{goal_line, proved_text}
 use Rattle.vipr_explain.specs.Solutions.{fault_lines, solution_error}
 use Rattle.vipr_explain.specs.Pages.{ExplainsPlace, ExplainsRefusal, ExplainsVerdict, IsPageFor}
-use Rattle.vipr_explain.specs.Pages.{IsRefusalPage, IsVerdictPage, not_read, too_long}
+use Rattle.vipr_explain.specs.Pages.{IsClaimText, IsRefusalPage, IsVerdictPage, Says, SaysWith}
+use Rattle.vipr_explain.specs.Pages.{ShowsWith, UnlessStep, not_read, too_long}
 use Rattle.vipr_explain.specs.declared.items.ItemPlace.{ItemPlace}
 use Rattle.vipr_explain.specs.declared.missing.Missing.{Missing}
+use Rattle.vipr_explain.specs.declared.missing.Missing.TheVariants as missing
 use Rattle.vipr_explain.specs.declared.page.Page.{Page}
 use Rattle.vipr_explain.specs.declared.shown.PlacedItems.{PlacedItems}
 use Rattle.vipr_explain.proofs.Putting.{puts_then}
@@ -36,31 +43,71 @@ pub one_text : (p q : Page) (text : List ℕ) → p.bytes.items ≡ [] → PutsT
 one_text p q text empty puts fine =
     (puts.adds.law fine).1 ∙ ap (λ l. cut (l ++ shown_text text)) empty
 
-refusal_explained : (file : List ℕ) (cause : ℕ) (place : Place) (d : Detail) (p q r : Page)
-    → p.bytes.items ≡ [] → PutsText p q (codes "\n") → ExplainsRefusal file cause place d q r
-    → r.has_failed ≡ false → IsRefusalPage file cause place d r.bytes.items
-refusal_explained file cause (Byte offset) d p q r empty front says fine = tt
-refusal_explained file cause (Sol number) d p q r empty front says fine =
-    (says.0, says.1, one_text p r (codes "\n" ++ (says.0 ++ see_text cause)) empty (puts_then front says.2) fine)
-refusal_explained file cause (Der index) d p q r empty front says fine = tt
-refusal_explained file cause End d p q r empty front says fine = tt
+pub unless_step : (d : Detail) (P : Type 0) → P → UnlessStep d P
+unless_step (detail.NotWhole s v n x) P h = h
+unless_step (detail.Breaks s k n l sense x) P h = h
+unless_step (detail.SolutionOverflow s at) P h = h
+unless_step (detail.Step name what) P h = tt
+unless_step (detail.NoProof goal) P h = h
+unless_step (detail.NoPrimal bound) P h = h
+unless_step detail.None P h = h
 
-pub explained : (file : List ℕ) (v : Verdict) (d : Detail) (p q r : Page) → p.bytes.items ≡ []
-    → PutsText p q (codes "\n") → ExplainsVerdict file v d q r → r.has_failed ≡ false
-    → IsVerdictPage file v d r.bytes.items
-explained file (Verified report) d p q r empty front says fine =
+also_unless_step : (d : Detail) (P Q : Type 0) → (P → Q) → UnlessStep d P → UnlessStep d Q
+also_unless_step (detail.NotWhole s v n x) P Q f h = f h
+also_unless_step (detail.Breaks s k n l sense x) P Q f h = f h
+also_unless_step (detail.SolutionOverflow s at) P Q f h = f h
+also_unless_step (detail.Step name what) P Q f h = tt
+also_unless_step (detail.NoProof goal) P Q f h = f h
+also_unless_step (detail.NoPrimal bound) P Q f h = f h
+also_unless_step detail.None P Q f h = f h
+
+shows_with : (cause : ℕ) (IsText : List ℕ → Type 0) (p q r : Page) → p.bytes.items ≡ []
+    → PutsText p q (codes "\n") → r.has_failed ≡ false → SaysWith cause IsText q r
+    → ShowsWith cause IsText r.bytes.items
+shows_with cause IsText p q r empty front fine says =
+    (says.0, says.1, one_text p r (codes "\n" ++ (says.0 ++ see_text cause)) empty (puts_then front says.2) fine)
+
+refusal_explained : (input : Option Input) (file : List ℕ) (cause : ℕ) (place : Place)
+    (d : Detail) (p q r : Page) → p.bytes.items ≡ [] → PutsText p q (codes "\n")
+    → ExplainsRefusal input file cause place d q r → r.has_failed ≡ false
+    → IsRefusalPage input file cause place d r.bytes.items
+refusal_explained input file cause (Byte offset) d p q r empty front says fine = tt
+refusal_explained input file cause (Sol number) d p q r empty front says fine =
+    shows_with cause (IsSolutionText input file number d) p q r empty front fine says
+refusal_explained input file cause (Der index) d p q r empty front says fine =
+    also_unless_step d _ _ (shows_with cause (IsClaimText input d) p q r empty front fine) says
+refusal_explained input file cause End d p q r empty front says fine =
+    shows_with cause (IsClaimText input d) p q r empty front fine says
+
+pub explained : (input : Option Input) (file : List ℕ) (v : Verdict) (d : Detail) (p q r : Page) → p.bytes.items ≡ []
+    → PutsText p q (codes "\n") → ExplainsVerdict input file v d q r → r.has_failed ≡ false
+    → IsVerdictPage input file v d r.bytes.items
+explained input file (Verified report) d p q r empty front says fine =
     (says.0, says.1, one_text p r (codes "\n" ++ says.0) empty (puts_then front says.2) fine)
-explained file (Refused refusal) d p q r empty front says fine =
-    refusal_explained file refusal.cause refusal.place d p q r empty front says fine
+explained input file (Refused refusal) d p q r empty front says fine =
+    refusal_explained input file refusal.cause refusal.place d p q r empty front says fine
 
 -- a refusal with the line of its cause
-pub refused_with_cause : (file : List ℕ) (cause : ℕ) (place : Place) (d : Detail) (p q r : Page)
-    → ExplainsPlace file place d p q → PutsText q r (see_text cause)
-    → ExplainsRefusal file cause place d p r
-refused_with_cause file cause (Byte offset) d p q r says see = tt
-refused_with_cause file cause (Sol number) d p q r says see = (says.0, says.1, puts_then says.2 see)
-refused_with_cause file cause (Der index) d p q r says see = tt
-refused_with_cause file cause End d p q r says see = tt
+says_with : (cause : ℕ) (IsText : List ℕ → Type 0) (p q r : Page) → PutsText q r (see_text cause)
+    → Says IsText p q → SaysWith cause IsText p r
+says_with cause IsText p q r see says = (says.0, says.1, puts_then says.2 see)
+
+pub refused_with_cause : (input : Option Input) (file : List ℕ) (cause : ℕ) (place : Place)
+    (d : Detail) (p q r : Page) → ExplainsPlace input file cause place d p q
+    → PutsText q r (see_text cause) → ExplainsRefusal input file cause place d p r
+refused_with_cause input file cause (Byte offset) d p q r says see = tt
+refused_with_cause input file cause (Sol number) d p q r says see =
+    says_with cause (IsSolutionText input file number d) p q r see says
+refused_with_cause input file cause (Der index) d p q r says see =
+    also_unless_step d _ _ (says_with cause (IsClaimText input d) p q r see) says
+refused_with_cause input file cause End d p q r says see =
+    says_with cause (IsClaimText input d) p q r see says
+
+-- a claim whose refusal is at a derivation
+pub claim_at : {A : Type 0} (d : Detail) (P : Type 0) (r : Result A Missing) → IfOk r (λ _. P)
+    → IfOk r (λ _. UnlessStep d P)
+claim_at d P (Ok x) h = unless_step d P h
+claim_at d P (Err e) h = tt
 
 -- the fixed lines are shown as they are
 long_shown : cut (shown_text too_long) ≡ too_long
@@ -73,45 +120,57 @@ read_shown = refl
 
 pub page_too_long : (file : List ℕ) (v : Verdict) (d : Detail) (r : Option Page)
     → IfSome r (λ p. p.bytes.items ≡ cut (shown_text too_long))
-    → IfSome r (λ p. IsPageFor false file v d p.bytes.items)
+    → IfSome r (λ p. IsPageFor None file v d p.bytes.items)
 page_too_long file v d None is = is
 page_too_long file v d (Some p) is = is ∙ long_shown
 
-pub page_not_read : (file : List ℕ) (v : Verdict) (d : Detail) (r : Option Page)
-    → IfSome r (λ p. p.bytes.items ≡ cut (shown_text not_read))
-    → IfSome r (λ p. IsPageFor true file v d p.bytes.items)
-page_not_read file v d None is = is
-page_not_read file v d (Some p) is = inr (is ∙ read_shown)
+pub page_not_read : (input : Option Input) (file : List ℕ) (v : Verdict) (d : Detail)
+    (m : Missing) (r : Option Page) → OnlyIf input (LacksItem v d) m
+    → IfSome r (λ p. (m ≡ missing.Text) × (p.bytes.items ≡ cut (shown_text not_read)))
+    → IfSome r (λ p. IsPageFor (Some input) file v d p.bytes.items)
+page_not_read input file v d m None lacks is = is
+page_not_read input file v d m (Some p) lacks is =
+    inr (is.1 ∙ read_shown, subst (OnlyIf input (LacksItem v d)) is.0 lacks)
+
+pub with_reason : {X : Type 0} (r : Option X) (A : Type 0) (P : X → Type 0) → A → IfSome r P
+    → IfSome r (λ x. A × P x)
+with_reason None A P a h = h
+with_reason (Some x) A P a h = (a, h)
 
 -- ---- parts of a page, behind a call that may fail
 
-pub goal_item_lines : (goal : ℕ) (p q : Page) (r : Result (Unit {0}) Missing)
-    → IfOk r (λ _. (known : PlacedItems) × PutsText p q (goal_line known goal))
-    → IfOk r (λ _. (text : List ℕ) × IsGoalText (Some goal) text × PutsText p q text)
-goal_item_lines goal p q (Ok u) item = (goal_line item.0 goal, (item.0, refl), item.1)
-goal_item_lines goal p q (Err e) item = tt
+pub goal_item_lines : (input : Option Input) (goal : ℕ) (p q : Page)
+    (r : Result (Unit {0}) Missing)
+    → IfOk r (λ _. (known : PlacedItems) × AreItemsOf input (goal ∷ []) known
+    × PutsText p q (goal_line known goal))
+    → IfOk r (λ _. (text : List ℕ) × IsGoalText input (Some goal) text × PutsText p q text)
+goal_item_lines input goal p q (Ok u) item =
+    (goal_line item.0 goal, (item.0, item.1, refl), item.2)
+goal_item_lines input goal p q (Err e) item = tt
 
-pub proved_lines : (report : Report) (p q s : Page) (r : Result (Unit {0}) Missing)
+pub proved_lines : (input : Option Input) (report : Report) (p q s : Page) (r : Result (Unit {0}) Missing)
     → PutsText p q (proved_text report.claim)
-    → IfOk r (λ _. (text : List ℕ) × IsGoalText report.goal text × PutsText q s text)
-    → IfOk r (λ _. (text : List ℕ) × IsProvedText report text × PutsText p s text)
-proved_lines report p q s (Ok u) front goal =
+    → IfOk r (λ _. (text : List ℕ) × IsGoalText input report.goal text × PutsText q s text)
+    → IfOk r (λ _. (text : List ℕ) × IsProvedText input report text × PutsText p s text)
+proved_lines input report p q s (Ok u) front goal =
     (proved_text report.claim ++ goal.0, record { goal = goal.0; is_goal = goal.1; parts = refl }, puts_then front goal.2)
-proved_lines report p q s (Err e) front goal = tt
+proved_lines input report p q s (Err e) front goal = tt
 
-pub solution_lines : (file : List ℕ) (number : ℕ) (d : Detail) (problem : is.Problem)
-    (solution : is.Named spec.Row) (p q s t : Page) (r : Result (Unit {0}) Missing)
+pub solution_lines : (input : Option Input) (file : List ℕ) (number : ℕ) (d : Detail)
+    (problem : is.Problem) (solution : is.Named spec.Row) (p q s t : Page)
+    (r : Result (Unit {0}) Missing)
+    → IfKnown input (λ i. IsListedSolution number (text_of i) problem solution)
     → PutsText p q (solution_error number solution.name d)
-    → ((text : List ℕ) × IsPlaceText file (codes "this solution") text × PutsText q s text)
+    → ((text : List ℕ) × IsPlaceText input file (codes "this solution") text × PutsText q s text)
     → IfOk r (λ _. (places : List ItemPlace)
     × PutsText s t (fault_lines problem places solution.item d))
-    → IfOk r (λ _. (text : List ℕ) × IsSolutionText file number d text × PutsText p t text)
-solution_lines file number d problem solution p q s t (Ok u) front place fault = (
+    → IfOk r (λ _. (text : List ℕ) × IsSolutionText input file number d text × PutsText p t text)
+solution_lines input file number d problem solution p q s t (Ok u) listed front place fault = (
   solution_error number solution.name d ++ (place.0 ++ fault_lines problem fault.0 solution.item d),
-  record { problem = problem; solution = solution; places = fault.0; place = place.0; is_place = place.1; parts = refl },
+  record { problem = problem; solution = solution; listed = listed; places = fault.0; place = place.0; is_place = place.1; parts = refl },
   puts_then front (puts_then place.2 fault.1),
 )
-solution_lines file number d problem solution p q s t (Err e) front place fault = tt
+solution_lines input file number d problem solution p q s t (Err e) listed front place fault = tt
 
 -- the constraint that is false, of the problem's
 pub broken_is : (p : is.Problem) (cons : List (Named Constraint)) (index : ℕ) (c : Named Constraint)

@@ -1,11 +1,14 @@
 -- What is found when a text is read again
-use Rattle.std.specs.Prelude.{◌≡◌, ℕ, ◌+◌, ◌-◌, ◌==◌, ◌++◌, ◌∷◌, [], ⊤, min, max, fold, filter}
+use Rattle.std.specs.Prelude.{◌≡◌, ◌≤◌, ◌⊎◌, ℕ, ◌+◌, ◌-◌, ◌<◌, ◌==◌, ◌++◌, ◌∷◌, [], ⊤, true, min}
+use Rattle.std.specs.Prelude.{max, fold, filter}
 use Rattle.std.specs.Prelude.{Bool, List, map, length, Option, Result, Ok, Err, IsSome}
 use Rattle.std.specs.List.{list_any, enumerate_from}
 use Rattle.vipr_spec.specs.Certificate.{Named, Problem, Derivation}
 use Rattle.vipr_spec.specs.Constraint.{Row}
 use Rattle.vipr_spec.specs.Reading.{Rest, Fault, Read, ◌>>=◌, read_each, problem_read}
 use Rattle.vipr_spec.specs.Reading.{solution_read, derivations_read, derivation_read}
+use Rattle.vipr_spec.specs.Input.{Input}
+use Rattle.vipr_bytes.specs.Known.{IfKnown, text_of}
 use Rattle.vipr_scan.specs.Giving.{rest_of}
 use Rattle.vipr_read.specs.Items.{Items as Reader}
 use Rattle.vipr_cert.specs.Items.{derivation_of}
@@ -13,11 +16,24 @@ use Rattle.vipr_explain.specs.declared.missing.Missing.{Missing}
 use Rattle.vipr_explain.specs.declared.missing.Missing.TheVariants as missing
 use Rattle.vipr_explain.specs.declared.items.Numbered.{Numbered}
 use Rattle.vipr_explain.specs.declared.items.Items.{Items}
+use Rattle.vipr_explain.specs.declared.shown.PlacedItems.{PlacedItems}
+
+-- the reading has a fault
+abbrev pub HasFault : {Y : Type 0} → Result Y Fault → Type 0
+HasFault r = (f : Fault) × (r ≡ Err f)
+
+-- for this reason the text can't be read again, or memory ran out
+abbrev pub Because : Missing → Type 0 → Type 0
+Because missing.Text reason = reason
+Because missing.Memory reason = ⊤
+
+-- the same of the bytes of a text, if they are known
+abbrev pub OnlyIf : Option Input → (Input → Type 0) → Missing → Type 0
+OnlyIf input Reason m = IfKnown input (λ i. Because m (Reason i))
 
 -- the reading has a fault, or memory ran out
 abbrev pub Missed : {Y : Type 0} → Missing → Result Y Fault → Type 0
-Missed missing.Text r = (f : Fault) × (r ≡ Err f)
-Missed missing.Memory r = ⊤
+Missed m r = Because m (HasFault r)
 
 -- the value that the reading gives, with the rest that the reader in it has then
 abbrev pub Finds : {X Y : Type 0} → (X → Y) → (X → Option Rest) → Result X Missing → Read Y → Type 0
@@ -44,6 +60,24 @@ head_read r = do
 abbrev pub nth_read : Problem → ℕ → Rest → Read (Named Row)
 nth_read p n r = read_each (solution_read p) n r >>= λ ss. solution_read p ss.1
 
+-- the problem, and all solutions
+abbrev pub all_solutions_read : Rest → Read (List (Named Row))
+all_solutions_read r = problem_read r >>= λ p. read_each (solution_read p.0.0) p.0.1 p.1
+
+-- all derivations
+abbrev pub all_derivations_read : Rest → Read (List Derivation)
+all_derivations_read r = head_read r >>= λ h. read_each (derivation_read h.0.0) h.0.1 h.1
+
+-- the problem of a text, and the solution of this number that it lists
+pub record IsListedSolution (number : ℕ) (text : Rest) (p : Problem) (s : Named Row)
+    : Type 0 where
+  pub count : ℕ
+  pub behind : Rest
+  pub problem : problem_read text ≡ Ok ((p, count), behind)
+  pub within : number < count
+  pub rest : Rest
+  pub solution : nth_read p number behind ≡ Ok (s, rest)
+
 -- ---- derivations by their constraints' indices
 
 abbrev pub numbered_of : Numbered → ℕ × Derivation
@@ -55,6 +89,11 @@ is_wanted wanted d = list_any (λ index. index == d.0) wanted
 -- how many of n derivations are read behind m constraints: up to the greatest index that is wanted
 abbrev pub count_read : List ℕ → ℕ → ℕ → ℕ
 count_read wanted m n = min (fold max 0 wanted + 1 - m) n
+
+-- the derivations up to the greatest index that is wanted
+abbrev pub items_read : List ℕ → Rest → Read (List Derivation)
+items_read wanted r = head_read r >>= λ h.
+    read_each (derivation_read h.0.0) (count_read wanted (length h.0.0.constraints) h.0.1) h.1
 
 -- those that are wanted among the next ones of these, the first of which has this index
 abbrev pub wanted_among : List ℕ → ℕ → List Derivation → List (ℕ × Derivation)
@@ -89,3 +128,18 @@ pub record AreFoundItems (wanted : List ℕ) (text : Rest) (items : Items) : Typ
       (count_read wanted (length items.problem.constraints) count) behind ≡ Ok (read, rest)
   pub kept : map numbered_of items.derivations.items
       ≡ wanted_among wanted (length items.problem.constraints) read
+
+-- items of these indices are those of the text, if its bytes are known
+abbrev pub AreItemsOf : Option Input → List ℕ → PlacedItems → Type 0
+AreItemsOf input wanted known = IfKnown input (λ i. AreFoundItems wanted (text_of i) known.items)
+
+-- ---- what can't be read again
+
+-- a read fails, or the text has a fault up to the greatest of these constraints
+abbrev pub LacksItems : List ℕ → Input → Type 0
+LacksItems wanted i = (i.fails ≡ true) ⊎ HasFault (items_read wanted (text_of i))
+
+-- the problem can't be read, or the solution of this number isn't listed, or can't be read
+abbrev pub LacksListed : ℕ → Read (Problem × ℕ) → Type 0
+LacksListed number (Ok x) = (x.0.1 ≤ number) ⊎ HasFault (nth_read x.0.0 number x.1)
+LacksListed number (Err f) = ⊤

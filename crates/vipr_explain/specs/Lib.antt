@@ -26,3 +26,8 @@ pub mod Syntax
 pub mod References
 pub mod Drops
 pub mod StepPages
+pub mod Lacking
+pub mod Primal
+pub mod Near
+pub mod Nearing
+pub mod Words

@@ -1,53 +1,35 @@
 //! Explains what proves the claim, and which constraints come nearest if none does.
-ghost use Rattle.std.specs.Prelude.{IfOk, List, option_map, ℕ};
+ghost use Rattle.std.specs.Prelude.{◌≡◌, ◌∷◌, ◌++◌, ◌⊎◌, [], true, codes, IfErr, IfOk, List, Some, flat_map, map, option_map};
+ghost use Rattle.std.specs.Prelude.{ℕ};
+ghost use Rattle.vipr_bytes.specs.Known.{text_of};
 ghost use Rattle.vipr_linear.specs.Constraint.{constraint_of};
 ghost use Rattle.vipr_explain.specs.Explained.{IsGoalText, IsProvedText};
+ghost use Rattle.vipr_explain.specs.Found.{AreItemsOf, HasFault, LacksItems, OnlyIf};
+ghost use Rattle.vipr_explain.specs.Found.{all_derivations_read};
+ghost use Rattle.vipr_explain.specs.Lacking.{LacksGoal};
+ghost use Rattle.vipr_spec.specs.Number.{number_text};
+ghost use Rattle.vipr_explain.specs.Algebra.{size};
+ghost use Rattle.vipr_explain.specs.Listed.{known_constraint};
 ghost use Rattle.vipr_explain.specs.Goals.{goal_line, wanted_text};
+ghost use Rattle.vipr_explain.specs.Near.{AreNearLines, IsGapText, IsNoProofText, IsStrength};
+ghost use Rattle.vipr_explain.specs.Near.{IsStrengthIn, IsStrengthOf, base_text, bases_by};
+ghost use Rattle.vipr_explain.specs.Near.{cut_mark_of, near_head, near_text, some_bases};
+ghost use Rattle.vipr_explain.specs.Nearing.{near_of};
 ghost use Rattle.vipr_explain.specs.Written.{PutsText};
 ghost use Rattle.vipr_explain.specs.declared.shown.PlacedItems.{PlacedItems};
 
 use crate::algebra::{Algebra, size_of};
-use crate::items::{Items, open_derivations};
+use crate::items::Items;
 use crate::missing::Missing;
+use crate::near::{Bases, Near, find_near};
 use crate::page::Page;
 use crate::shown::{ListedConstraint, PlacedItems};
 use crate::text::{Subject, Text};
 use std::alloc::{AllocError, Global};
-use vipr_bytes::Source;
-use vipr_cert::{Derivation, Problem, Reason};
+use vipr_cert::Problem;
 use vipr_check::Report;
 use vipr_frac::Frac;
 use vipr_linear::Constraint;
-use vipr_read::Derivations;
-
-/// How many constraints are shown, and how many assumptions of each.
-const MOST_SHOWN: usize = 3;
-
-const MOST_BASES: usize = 4;
-
-/// The assumptions that a constraint rests on, at most four of them.
-#[derive(Drop)]
-struct Bases {
-    indices: Vec<u32>,
-    is_cut: bool,
-}
-
-/// A constraint that comes near to the goal, and what it rests on.
-#[derive(Drop)]
-struct Near {
-    index: u32,
-    bases: Bases,
-}
-
-/// What is known of the derivations that were passed: the assumptions of each, and the last ones
-/// that come near to the goal.
-#[derive(Drop)]
-struct Passed {
-    /// The index of the first derivation.
-    first: usize,
-    all: Vec<Bases>,
-    near: Vec<Near>,
-}
 
 /// Explains a verified certificate: the constraint that proves its dual side, in algebra.
 pub(crate) fn put_goal<T: Text>(
@@ -55,8 +37,10 @@ pub(crate) fn put_goal<T: Text>(
     subject: &Subject<'_, T>,
     report: &Report,
 ) -> Result<(), Missing>
-    ensures { IfOk result (λ _. (text : List ℕ) × IsProvedText report.now text
+    ensures shown { IfOk result (λ _. (text : List ℕ)
+        × IsProvedText (T.input subject.now.text.now) report.now text
         × PutsText page.old page.new text) }
+    ensures error { IfErr result (OnlyIf (T.input subject.now.text.now) (LacksGoal report.now.goal)) }
 {
     let claim = &report.claim;
     page.put_value(&format_args!("proved: {claim}\n"));
@@ -69,8 +53,10 @@ fn put_goal_line<T: Text>(
     subject: &Subject<'_, T>,
     goal: Option<u32>,
 ) -> Result<(), Missing>
-    ensures { IfOk result (λ _. (text : List ℕ) × IsGoalText goal text
+    ensures shown { IfOk result (λ _. (text : List ℕ)
+        × IsGoalText (T.input subject.now.text.now) goal text
         × PutsText page.old page.new text) }
+    ensures error { IfErr result (OnlyIf (T.input subject.now.text.now) (LacksGoal goal)) }
 {
     match goal {
         Some(goal) => put_goal_item(page, subject, goal),
@@ -87,8 +73,10 @@ fn put_goal_item<T: Text>(
     subject: &Subject<'_, T>,
     goal: u32,
 ) -> Result<(), Missing>
-    ensures { IfOk result (λ _. (known : PlacedItems)
+    ensures shown { IfOk result (λ _. (known : PlacedItems)
+        × AreItemsOf (T.input subject.now.text.now) (goal ∷ []) known
         × PutsText page.old page.new (goal_line known goal)) }
+    ensures error { IfErr result (OnlyIf (T.input subject.now.text.now) (LacksItems (goal ∷ []))) }
 {
     let known = PlacedItems::read(subject, [goal].as_slice())?;
     let item = ListedConstraint {
@@ -105,18 +93,18 @@ pub(crate) fn put_no_proof<T: Text>(
     page: &mut Page,
     subject: &Subject<'_, T>,
     goal: Option<&Constraint>,
-) -> Result<(), Missing> {
+) -> Result<(), Missing>
+    ensures shown { IfOk result (λ _. (text : List ℕ)
+        × IsNoProofText (T.input subject.now.text.now)
+        (option_map (λ c. constraint_of c.now) goal.entry) text × PutsText page.old page.new text) }
+    ensures error { IfErr result (OnlyIf (T.input subject.now.text.now) (λ i. (i.fails ≡ true) ⊎ HasFault (all_derivations_read (text_of i)))) }
+{
     let near = find_near(subject.alloc, subject.text, goal)?;
-    let known = known_of(subject, near.as_slice())?;
+    let nearest = near.as_slice();
+    let known = known_of(subject, nearest)?;
     put_wanted(page, &known.items.problem, goal);
-    page.put(if near.is_empty() {
-        "  no constraint is like it\n"
-    } else {
-        "  nearest:\n"
-    });
-    for item in &near {
-        put_near(page, &known, goal, item);
-    }
+    page.put(head_of(nearest));
+    put_all_near(page, &known, goal, nearest);
     page.put_help(
         "join the branches by `uns i1 l1 i2 l2`, so that no assumption is left, \
          or claim what is proved behind RTP",
@@ -124,14 +112,31 @@ pub(crate) fn put_no_proof<T: Text>(
     Ok(())
 }
 
+// What stands in front of the nearest constraints.
+fn head_of(near: &[Near]) -> &'static str
+    ensures { result.now ≡ near_head (map near_of near.now) }
+{
+    if near.is_empty() {
+        "  no constraint is like it\n"
+    } else {
+        "  nearest:\n"
+    }
+}
+
 // Reads constraints that come near.
-fn known_of<T: Text>(subject: &Subject<'_, T>, near: &[Near]) -> Result<PlacedItems, Missing> {
+fn known_of<T: Text>(subject: &Subject<'_, T>, near: &[Near]) -> Result<PlacedItems, Missing>
+    ensures found { IfOk result (AreItemsOf (T.input subject.now.text.now)
+        (map (λ n. n.0) (map near_of near.now))) }
+    ensures error { IfErr result (OnlyIf (T.input subject.now.text.now) (λ i. (i.fails ≡ true) ⊎ HasFault (all_derivations_read (text_of i)))) }
+{
     let indices = indices_of(subject.alloc, near)?;
     PlacedItems::read(subject, indices.as_slice())
 }
 
 // The indices of constraints.
-fn indices_of(alloc: Global, near: &[Near]) -> Result<Vec<u32>, AllocError> {
+fn indices_of(alloc: Global, near: &[Near]) -> Result<Vec<u32>, AllocError>
+    ensures { IfOk result (λ v. v.items ≡ map (λ n. n.0) (map near_of near.now)) }
+{
     let mut indices = Vec::new(alloc);
     for item in near {
         indices.push(item.index)?;
@@ -162,214 +167,127 @@ fn put_wanted(page: &mut Page, problem: &Problem, goal: Option<&Constraint>)
     }
 }
 
+// Shows the constraints that come near.
+fn put_all_near(page: &mut Page, known: &PlacedItems, goal: Option<&Constraint>, near: &[Near])
+    ensures { (text : List ℕ) × AreNearLines known.now
+        (option_map (λ c. constraint_of c.now) goal.entry) (map near_of near.now) text
+        × PutsText page.old page.new text }
+{
+    for item in near {
+        put_near(page, known, goal, item);
+    }
+}
+
 // Shows a constraint that comes near, and why it isn't enough.
-fn put_near(page: &mut Page, known: &PlacedItems, goal: Option<&Constraint>, near: &Near) {
+fn put_near(page: &mut Page, known: &PlacedItems, goal: Option<&Constraint>, near: &Near)
+    ensures { (strength : List ℕ) × IsStrength known.now
+        (option_map (λ c. constraint_of c.now) goal.entry) near.now.index strength
+        × PutsText page.old page.new (near_text known.now (near_of near.now, strength)) }
+{
     let item = ListedConstraint {
         known,
         index: near.index,
     };
     page.put_value(&format_args!("    {item}"));
-    if let Some(goal) = goal {
-        put_strength(page, &known.items, goal, near.index);
-    }
+    put_strength(page, &known.items, goal, near.index);
     put_bases(page, &near.bases);
     page.put("\n");
 }
 
-// Says whether a constraint is as strong as the goal.
-fn put_strength(page: &mut Page, items: &Items, goal: &Constraint, index: u32) {
-    if let Some(constraint) = items.constraint(index) {
-        if constraint.dominates(goal) {
-            page.put(", strong enough");
-        } else {
-            put_gap(page, goal.rhs, constraint.rhs);
-        }
+// Says whether a constraint is as strong as the goal, if there is one.
+fn put_strength(page: &mut Page, items: &Items, goal: Option<&Constraint>, index: u32)
+    ensures { (text : List ℕ) × IsStrengthIn items.now
+        (option_map (λ c. constraint_of c.now) goal.entry) index text
+        × PutsText page.old page.new text }
+{
+    match goal {
+        Some(goal) => put_known_strength(page, items, goal, index),
+        None => {}
     }
+}
+
+// The same if the constraint is known.
+fn put_known_strength(page: &mut Page, items: &Items, goal: &Constraint, index: u32)
+    ensures { (text : List ℕ)
+        × IsStrengthOf (constraint_of goal.now) (known_constraint items.now index) text
+        × PutsText page.old page.new text }
+{
+    match items.constraint(index) {
+        Some(constraint) => put_comparison(page, goal, constraint),
+        None => {}
+    }
+}
+
+// Compares a constraint with the goal.
+fn put_comparison(page: &mut Page, goal: &Constraint, constraint: &Constraint)
+    ensures { (text : List ℕ)
+        × IsStrengthOf (constraint_of goal.now) (Some (constraint_of constraint.now)) text
+        × PutsText page.old page.new text }
+{
+    if constraint.dominates(goal) {
+        page.put(", strong enough");
+        return;
+    }
+    put_gap(page, goal.rhs, constraint.rhs);
 }
 
 // Says by how much a right-hand side is too weak.
-fn put_gap(page: &mut Page, wanted: Frac, found: Frac) {
-    if let Ok(gap) = wanted.add(found.neg()) {
-        page.put(", too weak by ");
-        page.put_value(&size_of(gap));
+fn put_gap(page: &mut Page, wanted: Frac, found: Frac)
+    ensures { (text : List ℕ) × IsGapText wanted found text × PutsText page.old page.new text }
+{
+    match wanted.add(found.neg()) {
+        Ok(gap) => put_size(page, gap),
+        Err(_) => {}
     }
 }
 
+// Says how far a right-hand side is off.
+fn put_size(page: &mut Page, gap: Frac)
+    ensures { PutsText page.old page.new (codes ", too weak by " ++ number_text (size gap)) }
+{
+    let size = size_of(gap);
+    page.put_value(&format_args!(", too weak by {size}"));
+}
+
 // Says which assumptions a constraint rests on.
-fn put_bases(page: &mut Page, bases: &Bases) {
+fn put_bases(page: &mut Page, bases: &Bases)
+    ensures { PutsText page.old page.new (bases_by bases.now.is_cut bases.now.indices) }
+{
     if bases.indices.is_empty() {
         page.put(", rests on no assumption");
         return;
     }
+    put_some_bases(page, bases);
+}
+
+// The same if there are some.
+fn put_some_bases(page: &mut Page, bases: &Bases)
+    ensures { PutsText page.old page.new (some_bases bases.now.is_cut bases.now.indices) }
+{
     page.put(", rests on the assumptions");
-    for index in &bases.indices {
-        page.put(" [");
-        page.put_value(index);
-        page.put("]");
-    }
-    page.put(if bases.is_cut { " .." } else { "" });
+    put_indices(page, bases.indices.as_slice());
+    page.put(cut_mark(bases.is_cut));
 }
 
-// The last three constraints that have the goal's row, or are absurd if that is wanted.
-fn find_near<T: Text>(
-    alloc: Global,
-    text: &T,
-    goal: Option<&Constraint>,
-) -> Result<Vec<Near>, Missing> {
-    let (problem, derivations) = open_derivations(alloc, text)?;
-    let first = problem.cons().len();
-    drop(problem);
-    find_among(alloc, derivations, first, goal)
+// What stands for the assumptions that are left out.
+fn cut_mark(is_cut: bool) -> &'static str
+    ensures { result.now ≡ cut_mark_of is_cut }
+{
+    if is_cut { " .." } else { "" }
 }
 
-// The same among derivations, the first of which has this index.
-fn find_among<R: Source + Drop>(
-    alloc: Global,
-    mut derivations: Derivations<R>,
-    first: usize,
-    goal: Option<&Constraint>,
-) -> Result<Vec<Near>, Missing> {
-    let mut passed = Passed {
-        first,
-        all: Vec::new(alloc),
-        near: Vec::new(alloc),
-    };
-    for _ in 0..derivations.left() {
-        passed.read_next(alloc, &mut derivations, goal)?;
-    }
-    Ok(passed.near)
-}
-
-impl Passed {
-    // Passes the next derivation.
-    fn read_next<R: Source + Drop>(
-        &mut self,
-        alloc: Global,
-        derivations: &mut Derivations<R>,
-        goal: Option<&Constraint>,
-    ) -> Result<(), Missing> {
-        match derivations.next(alloc)? {
-            Some(step) => self.pass(alloc, &step, goal),
-            None => Ok(()),
-        }
-    }
-
-    // Passes a derivation, and keeps it if it is near.
-    fn pass(
-        &mut self,
-        alloc: Global,
-        step: &Derivation,
-        goal: Option<&Constraint>,
-    ) -> Result<(), Missing> {
-        let index = self.first.saturating_add(self.all.len());
-        let bases = bases_of(alloc, step, index, self.first, self.all.as_slice())?;
-        if is_near(goal, &step.constraint) {
-            keep_near(alloc, &mut self.near, index, &bases)?;
-        }
-        self.all.push(bases)?;
-        Ok(())
+// Names assumptions.
+fn put_indices(page: &mut Page, indices: &[u32])
+    ensures { PutsText page.old page.new (flat_map base_text indices.now) }
+{
+    for index in indices {
+        put_base(page, *index);
     }
 }
 
-// Whether a constraint is like the goal.
-fn is_near(goal: Option<&Constraint>, constraint: &Constraint) -> bool {
-    match goal {
-        Some(goal) => {
-            constraint.row.is_same(&goal.row)
-                && (constraint.sense == goal.sense || constraint.dominates(goal))
-        }
-        None => constraint.is_absurd(),
-    }
-}
-
-// Keeps the last three.
-fn keep_near(
-    alloc: Global,
-    near: &mut Vec<Near>,
-    index: usize,
-    bases: &Bases,
-) -> Result<(), Missing> {
-    let Ok(index) = u32::try_from(index) else {
-        return Ok(());
-    };
-    if near.len() >= MOST_SHOWN {
-        drop(near.remove(0));
-    }
-    let mut copy = none(alloc);
-    add_all(&mut copy, bases, None)?;
-    near.push(Near { index, bases: copy })?;
-    Ok(())
-}
-
-// No assumption.
-fn none(alloc: Global) -> Bases {
-    Bases {
-        indices: Vec::new(alloc),
-        is_cut: false,
-    }
-}
-
-// The assumptions that a derivation rests on.
-fn bases_of(
-    alloc: Global,
-    step: &Derivation,
-    index: usize,
-    first: usize,
-    all: &[Bases],
-) -> Result<Bases, AllocError> {
-    let mut bases = none(alloc);
-    match &step.reason {
-        Reason::Asm => {
-            if let Ok(index) = u32::try_from(index) {
-                bases.indices.push(index)?;
-            }
-        }
-        Reason::Lin(entries) | Reason::Rnd(entries) => {
-            for entry in entries {
-                if entry.1.numer() != 0 {
-                    add_of(&mut bases, entry.0, first, all, None)?;
-                }
-            }
-        }
-        Reason::Uns { i1, l1, i2, l2 } => {
-            add_of(&mut bases, *i1, first, all, Some(*l1))?;
-            add_of(&mut bases, *i2, first, all, Some(*l2))?;
-        }
-        Reason::Sol => {}
-    }
-    Ok(bases)
-}
-
-// Adds the assumptions of a constraint, but for one.
-fn add_of(
-    bases: &mut Bases,
-    index: u32,
-    first: usize,
-    all: &[Bases],
-    without: Option<u32>,
-) -> Result<(), AllocError> {
-    match (index as usize).checked_sub(first) {
-        Some(position) => match all.get(position) {
-            Some(other) => add_all(bases, other, without),
-            None => Ok(()),
-        },
-        None => Ok(()),
-    }
-}
-
-// Adds assumptions, but for one.
-fn add_all(bases: &mut Bases, other: &Bases, without: Option<u32>) -> Result<(), AllocError> {
-    for index in &other.indices {
-        if without != Some(*index) && !bases.indices.contains(index) {
-            if bases.indices.len() < MOST_BASES {
-                bases.indices.push(*index)?;
-            } else {
-                bases.is_cut = true;
-            }
-        }
-    }
-    if other.is_cut {
-        bases.is_cut = true;
-    }
-    Ok(())
+// Names an assumption.
+fn put_base(page: &mut Page, index: u32)
+    ensures { PutsText page.old page.new (base_text index) }
+{
+    page.put_value(&format_args!(" [{index}]"));
 }

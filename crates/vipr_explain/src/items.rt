@@ -1,9 +1,12 @@
 //! The items of a text that an explanation names, and their places.
 ghost use Rattle.vipr_explain.specs.Listed.{place_found};
 ghost use Rattle.std.specs.Prelude.{◌≡◌, ◌≤◌, ◌<◌, ◌+◌, ◌^◌, ◌∷◌, ◌++◌, suc, false, Ok, [], map};
-ghost use Rattle.std.specs.Prelude.{fold, max, option_copied, IfOk, OnOk, IsSome};
+ghost use Rattle.std.specs.Prelude.{fold, max, option_copied, IfErr, IfOk, IfSome, OnOk, IsSome};
+ghost use Rattle.std.specs.Prelude.{◌⊎◌, length, true};
+ghost use Rattle.vipr_spec.specs.Input.{Input};
 ghost use Rattle.vipr_spec.specs.Certificate.{Problem as ProblemMeant};
-ghost use Rattle.vipr_spec.specs.Reading.{problem_read, read_each, solution_read};
+ghost use Rattle.vipr_spec.specs.Reading.{derivation_read, problem_read, read_each};
+ghost use Rattle.vipr_spec.specs.Reading.{solution_read};
 ghost use Rattle.vipr_bytes.specs.Known.{IfKnown, text_of};
 ghost use Rattle.vipr_scan.specs.Giving.{rest_of};
 ghost use Rattle.vipr_cert.specs.Items.{solution_of, derivation_of};
@@ -11,6 +14,9 @@ ghost use Rattle.vipr_read.specs.Items.{Knows, Remembers};
 ghost use Rattle.vipr_explain.specs.Found.{Finds, WerePassed, derivations_behind, head_read};
 ghost use Rattle.vipr_explain.specs.Found.{nth_read, numbered_of, wanted_among};
 ghost use Rattle.vipr_explain.specs.Found.{HasKeptItems, KeepsNext, AreFoundItems};
+ghost use Rattle.vipr_explain.specs.Found.{Because, HasFault, IsListedSolution, Missed, OnlyIf};
+ghost use Rattle.vipr_explain.specs.Found.{LacksListed, count_read, items_read};
+ghost use Rattle.vipr_explain.specs.Words.{IsReading};
 
 use crate::missing::Missing;
 use crate::text::{Spot, Text};
@@ -118,6 +124,10 @@ impl Items {
         ensures read { Knows derivations.old self.old.problem → IsSome derivations.old.rest
             → OnOk result (HasKeptItems self.old.problem wanted.now derivations.old
             derivations.new self.new.derivations.items) }
+        ensures error { Knows derivations.old self.old.problem → IsSome derivations.old.rest
+            → IfErr result (λ m. Missed m (read_each (derivation_read self.old.problem)
+            (count_read wanted.now (length self.old.problem.constraints) derivations.old.left)
+            (rest_of derivations.old.rest))) }
     {
         let first = self.problem.cons().len() as u64;
         let end = greatest(wanted) as u64 + 1;
@@ -143,6 +153,8 @@ impl Items {
         ensures read { (p : ProblemMeant) → Knows derivations.old p → IsSome derivations.old.rest
             → OnOk result (KeepsNext p wanted.now index derivations.old derivations.new
             self.old.derivations.items self.new.derivations.items) }
+        ensures error { (p : ProblemMeant) → Knows derivations.old p → IsSome derivations.old.rest
+            → IfErr result (λ m. Missed m (derivation_read p (rest_of derivations.old.rest))) }
     {
         match derivations.next(alloc)? {
             Some(derivation) => self.keep(wanted, index, derivation),
@@ -156,6 +168,7 @@ impl Items {
         ensures kept { OnOk result (map numbered_of self.new.derivations.items
             ≡ map numbered_of self.old.derivations.items
             ++ wanted_among wanted.now index (derivation_of derivation ∷ [])) }
+        ensures error { IfErr result (λ m. m ≡ Missing.Memory) }
     {
         if wanted.contains(&index) {
             self.derivations.push(Numbered { index, derivation })?;
@@ -241,7 +254,11 @@ pub(crate) fn read_solution<T: Text>(
     alloc: Global,
     text: &T,
     number: u32,
-) -> Result<(Problem, Named<Solution>), Missing> {
+) -> Result<(Problem, Named<Solution>), Missing>
+    ensures found { IfOk result (λ x. IfKnown (T.input text.now)
+        (λ i. IsListedSolution number (text_of i) x.0 (solution_of x.1))) }
+    ensures error { IfErr result (OnlyIf (T.input text.now) (λ i. LacksListed number (problem_read (text_of i)))) }
+{
     let (problem, mut solutions) = open_problem(alloc, text)?;
     Ok((problem, nth_solution(alloc, &mut solutions, number)?))
 }
@@ -252,9 +269,13 @@ fn nth_solution<R: Source>(
     solutions: &mut Solutions<R>,
     number: u32,
 ) -> Result<Named<Solution>, Missing>
+    ensures within { IfOk result (λ _. number < solutions.old.left) }
     ensures read { (p : ProblemMeant) → Knows solutions.old p → IsSome solutions.old.rest
         → IfOk result (λ s. nth_read p number (rest_of solutions.old.rest)
         ≡ Ok (solution_of s, rest_of solutions.new.rest)) }
+    ensures error { (p : ProblemMeant) → Knows solutions.old p → IsSome solutions.old.rest
+        → IfErr result (λ m. Because m ((solutions.old.left ≤ number)
+        ⊎ HasFault (nth_read p number (rest_of solutions.old.rest)))) }
 {
     if number >= solutions.left() {
         return Err(Missing::Text);
@@ -268,8 +289,9 @@ fn nth_solution<R: Source>(
 
 /// The problem, and the derivations of those of these constraints that are derived.
 pub(crate) fn read_items<T: Text>(alloc: Global, text: &T, wanted: &[u32]) -> Result<Items, Missing>
-    ensures { IfKnown (T.input text.now) (λ i.
-        IfOk result (AreFoundItems wanted.now (text_of i))) }
+    ensures found { IfOk result (λ items. IfKnown (T.input text.now)
+        (λ i. AreFoundItems wanted.now (text_of i) items)) }
+    ensures error { IfErr result (OnlyIf (T.input text.now) (λ i. HasFault (items_read wanted.now (text_of i)))) }
 {
     let (problem, mut derivations) = open_derivations(alloc, text)?;
     let mut items = Items {
@@ -285,7 +307,9 @@ pub(crate) fn find_constraints<T: Text>(
     alloc: Global,
     text: &T,
     wanted: &[u32],
-) -> Result<Vec<ItemPlace>, Missing> {
+) -> Result<Vec<ItemPlace>, Missing>
+    ensures error { IfErr result (OnlyIf (T.input text.now) (λ i. i.fails ≡ true)) }
+{
     let mut words = Words::<T::Reader>::open(alloc, text)?;
     let mut marks = Vec::new(alloc);
     mark_constraints(&mut words, &mut marks, wanted)?;
@@ -297,7 +321,10 @@ fn mark_constraints<R: Source + Drop>(
     words: &mut Words<R>,
     marks: &mut Vec<ItemPlace>,
     wanted: &[u32],
-) -> Result<(), Missing> {
+) -> Result<(), Missing>
+    ensures error { (i : Input) → IsReading R.input i words.old
+        → IfErr result (λ m. Because m (i.fails ≡ true)) }
+{
     let mut progress = TextProgress::start();
     let end = greatest(wanted);
     for _ in 0..u64::MAX {
@@ -317,7 +344,9 @@ pub(crate) fn find_solution<T: Text>(
     alloc: Global,
     text: &T,
     number: u32,
-) -> Result<Option<ItemPlace>, Missing> {
+) -> Result<Option<ItemPlace>, Missing>
+    ensures error { IfErr result (OnlyIf (T.input text.now) (λ i. i.fails ≡ true)) }
+{
     let mut words = Words::<T::Reader>::open(alloc, text)?;
     let mark = mark_solution(&mut words, number);
     words.check()?;
@@ -325,7 +354,10 @@ pub(crate) fn find_solution<T: Text>(
 }
 
 // The same by a reader at the start of the text.
-fn mark_solution<R: Source + Drop>(words: &mut Words<R>, number: u32) -> Option<ItemPlace> {
+fn mark_solution<R: Source + Drop>(words: &mut Words<R>, number: u32) -> Option<ItemPlace>
+    ensures reading { (i : Input) → IsReading R.input i words.old
+        → IsReading R.input i words.new }
+{
     let mut progress = TextProgress::start();
     for _ in 0..u64::MAX {
         if progress.section == Section::Derivations || !words.next() {

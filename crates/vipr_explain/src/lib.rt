@@ -13,6 +13,7 @@ mod hints;
 mod items;
 mod kept;
 mod missing;
+mod near;
 mod page;
 mod reason;
 mod repair;

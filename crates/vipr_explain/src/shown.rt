@@ -1,5 +1,6 @@
 //! The constraints that an explanation names, and how each is shown.
-ghost use Rattle.std.specs.Prelude.{Some, option_map};
+ghost use Rattle.std.specs.Prelude.{Some, option_map, IfErr, IfOk};
+ghost use Rattle.vipr_explain.specs.Found.{AreItemsOf, LacksItems, OnlyIf};
 
 use crate::algebra::{Algebra, ShownName};
 use crate::items::{ItemPlace, Items, find_constraints, mark_of, read_items};
@@ -27,8 +28,8 @@ impl PlacedItems {
         subject: &Subject<'_, T>,
         wanted: &[u32],
     ) -> Result<PlacedItems, Missing>
-        ensures { IfKnown (T.input subject.now.text.now) (λ i.
-            IfOk result (λ known. AreFoundItems wanted.now (text_of i) known.items)) }
+        ensures found { IfOk result (AreItemsOf (T.input subject.now.text.now) wanted.now) }
+        ensures error { IfErr result (OnlyIf (T.input subject.now.text.now) (LacksItems wanted.now)) }
     {
         Ok(PlacedItems {
             items: read_items(subject.alloc, subject.text, wanted)?,

@@ -1,10 +1,21 @@
 //! Explains a listed solution that is refused, and a primal bound that no listed one
 //! attains.
-ghost use Rattle.std.specs.Prelude.{◌≡◌, IfOk, List, codes, slice_get, ℕ};
+ghost use Rattle.std.specs.Prelude.{◌≡◌, ◌≤◌, ◌⊎◌, true, IfErr, IfOk, IfSome, List, codes, length};
+ghost use Rattle.std.specs.Prelude.{[], if◌then◌else◌, nat_lt, slice_get, ℕ, ◌<◌, IsSome, Ok, OnOk, Some, map, suc};
+ghost use Rattle.vipr_spec.specs.Certificate.{Named as NamedMeant, Problem as ProblemMeant};
+ghost use Rattle.vipr_spec.specs.Constraint.{Row as RowMeant};
+ghost use Rattle.vipr_spec.specs.Reading.{read_each, solution_read};
+ghost use Rattle.vipr_scan.specs.Giving.{rest_of};
+ghost use Rattle.vipr_read.specs.Items.{Knows, Remembers};
+ghost use Rattle.vipr_explain.specs.Primal.{AreListed, IsNoPrimalText, ShowsValue, ShowsValues};
+ghost use Rattle.vipr_explain.specs.Primal.{Valued, better_of, better_value_of};
 ghost use Rattle.std.specs.FinMap.{entries};
 ghost use Rattle.vipr_linear.specs.Constraint.{constraint_of};
-ghost use Rattle.vipr_cert.specs.Items.{named_of};
+ghost use Rattle.vipr_bytes.specs.Known.{IfKnown, text_of};
+ghost use Rattle.vipr_cert.specs.Items.{direction_of, named_of, solution_of};
 ghost use Rattle.vipr_explain.specs.Explained.{IsPlaceText, IsSolutionText};
+ghost use Rattle.vipr_explain.specs.Found.{HasFault, Missed, OnlyIf, all_solutions_read};
+ghost use Rattle.vipr_explain.specs.Lacking.{LacksBroken, LacksSolution};
 ghost use Rattle.vipr_explain.specs.declared.items.ItemPlace.{ItemPlace};
 ghost use Rattle.vipr_explain.specs.Solutions.{best_text, broken_text, false_text, not_whole_text};
 ghost use Rattle.vipr_explain.specs.Solutions.{overflow_lines, overflow_text, primal_error};
@@ -41,9 +52,10 @@ pub(crate) fn put_solution<T: Text>(
     number: u32,
     detail: &Detail,
 ) -> Result<(), Missing>
-    ensures { IfOk result (λ _. (text : List ℕ)
-        × IsSolutionText subject.now.file.now number detail.now text
+    ensures shown { IfOk result (λ _. (text : List ℕ)
+        × IsSolutionText (T.input subject.now.text.now) subject.now.file.now number detail.now text
         × PutsText page.old page.new text) }
+    ensures error { IfErr result (OnlyIf (T.input subject.now.text.now) (LacksSolution number detail.now)) }
 {
     let (problem, solution) = read_solution(subject.alloc, subject.text, number)?;
     put_error(page, number, &solution, detail);
@@ -59,8 +71,9 @@ fn put_detail<T: Text>(
     solution: &Solution,
     detail: &Detail,
 ) -> Result<(), Missing>
-    ensures { IfOk result (λ _. (places : List ItemPlace) × PutsText page.old page.new
+    ensures shown { IfOk result (λ _. (places : List ItemPlace) × PutsText page.old page.new
         (fault_lines problem.now places solution.now.0 detail.now)) }
+    ensures error { IfErr result (OnlyIf (T.input subject.now.text.now) (λ i. (i.fails ≡ true) ⊎ LacksBroken detail.now problem.now)) }
 {
     match detail {
         Detail::NotWhole {
@@ -109,9 +122,10 @@ fn fault_of(detail: &Detail) -> &'static str
 
 // Shows the place of a solution.
 fn put_place<T: Text>(page: &mut Page, subject: &Subject<'_, T>, number: u32) -> Result<(), Missing>
-    ensures { IfOk result (λ _. (text : List ℕ)
-        × IsPlaceText subject.now.file.now (codes "this solution") text
-        × PutsText page.old page.new text) }
+    ensures shown { IfOk result (λ _. (text : List ℕ)
+        × IsPlaceText (T.input subject.now.text.now) subject.now.file.now (codes "this solution")
+        text × PutsText page.old page.new text) }
+    ensures error { IfErr result (OnlyIf (T.input subject.now.text.now) (λ i. i.fails ≡ true)) }
 {
     match find_solution(subject.alloc, subject.text, number)? {
         Some(mark) => {
@@ -163,9 +177,10 @@ fn put_broken<T: Text>(
     solution: &Solution,
     left: Frac,
 ) -> Result<(), Missing>
-    ensures { IfOk result (λ _. (places : List ItemPlace) × PutsText page.old page.new
+    ensures shown { IfOk result (λ _. (places : List ItemPlace) × PutsText page.old page.new
         (broken_text problem.now.names places index solution.now.0 left
         (slice_get problem.now.constraints index))) }
+    ensures error { IfErr result (OnlyIf (T.input subject.now.text.now) (λ i. (i.fails ≡ true) ⊎ (length problem.now.constraints ≤ index))) }
 {
     match problem.cons().get(index as usize) {
         Some(broken) => {
@@ -231,7 +246,12 @@ pub(crate) fn put_no_primal<T: Text>(
     page: &mut Page,
     subject: &Subject<'_, T>,
     bound: Frac,
-) -> Result<(), Missing> {
+) -> Result<(), Missing>
+    ensures shown { IfOk result (λ _. (text : List ℕ)
+        × IsNoPrimalText (T.input subject.now.text.now) bound text
+        × PutsText page.old page.new text) }
+    ensures error { IfErr result (OnlyIf (T.input subject.now.text.now) (λ i. HasFault (all_solutions_read (text_of i)))) }
+{
     put_primal_error(page, bound);
     let best = put_values_listed(page, subject)?;
     put_best(page, best);
@@ -267,11 +287,37 @@ fn put_best(page: &mut Page, best: Option<Frac>)
 fn put_values_listed<T: Text>(
     page: &mut Page,
     subject: &Subject<'_, T>,
-) -> Result<Option<Frac>, Missing> {
+) -> Result<Option<Frac>, Missing>
+    ensures shown { IfOk result (λ best. (p : ProblemMeant) × (valued : List Valued)
+        × ShowsValues p valued best page.old page.new
+        × IfKnown (T.input subject.now.text.now)
+        (λ i. AreListed (text_of i) p (map (λ s. s.0) valued))) }
+    ensures error { IfErr result (OnlyIf (T.input subject.now.text.now) (λ i. HasFault (all_solutions_read (text_of i)))) }
+{
     let (problem, mut solutions) = open_problem(subject.alloc, subject.text)?;
+    put_all_values(page, subject.alloc, &problem, &mut solutions)
+}
+
+// The same of all solutions that are to come.
+fn put_all_values<R: Source + Drop>(
+    page: &mut Page,
+    alloc: Global,
+    problem: &Problem,
+    solutions: &mut Solutions<R>,
+) -> Result<Option<Frac>, Missing>
+    requires { Knows solutions.old problem.now }
+    ensures shown { IfOk result (λ best. (valued : List Valued)
+        × ShowsValues problem.now valued best page.old page.new
+        × (IsSome solutions.old.rest → IsSome solutions.new.rest
+        × (read_each (solution_read problem.now) solutions.old.left (rest_of solutions.old.rest)
+        ≡ Ok (map (λ s. s.0) valued, rest_of solutions.new.rest)))) }
+    ensures error { IsSome solutions.old.rest → IfErr result (λ m. Missed m (read_each
+        (solution_read problem.now) solutions.old.left (rest_of solutions.old.rest))) }
+{
+    let count = solutions.left();
     let mut best: Option<Frac> = None;
-    for number in 0..solutions.left() {
-        best = put_next(page, subject.alloc, &problem, number, &mut solutions, best)?;
+    for number in 0..count {
+        best = put_next(page, alloc, problem, number, solutions, best)?;
     }
     Ok(best)
 }
@@ -284,7 +330,19 @@ fn put_next<R: Source + Drop>(
     number: u32,
     solutions: &mut Solutions<R>,
     best: Option<Frac>,
-) -> Result<Option<Frac>, Missing> {
+) -> Result<Option<Frac>, Missing>
+    requires some { 0 < solutions.old.left }
+    requires knows { Knows solutions.old problem.now }
+    ensures shown { IfOk result (λ now. (s : NamedMeant RowMeant)
+        × ShowsValue problem.now number s best now page.old page.new
+        × (IsSome solutions.old.rest → IsSome solutions.new.rest
+        × (solution_read problem.now (rest_of solutions.old.rest)
+        ≡ Ok (s, rest_of solutions.new.rest)))) }
+    ensures left { OnOk result (solutions.old.left ≡ suc solutions.new.left) }
+    ensures remembers { OnOk result (Remembers solutions.old solutions.new) }
+    ensures error { IsSome solutions.old.rest → IfErr result (λ m. Missed m
+        (solution_read problem.now (rest_of solutions.old.rest))) }
+{
     match solutions.next(alloc)? {
         Some(solution) => Ok(put_listed(page, problem, number, &solution, best)),
         None => Ok(best),
@@ -298,16 +356,28 @@ fn put_listed(
     number: u32,
     solution: &Named<Solution>,
     best: Option<Frac>,
-) -> Option<Frac> {
+) -> Option<Frac>
+    ensures { ShowsValue problem.now number (solution_of solution.now) best result page.old
+        page.new }
+{
     match value_at(problem.objective(), &solution.item) {
         Ok(value) => {
-            if number < MOST_SOLUTIONS {
-                put_value(page, number, solution, value);
-            }
+            put_first_value(page, number, solution, value);
             Some(better(problem.sense(), best, value))
         }
         Err(_) => best,
     }
+}
+
+// Shows the value at a solution that is one of the first.
+fn put_first_value(page: &mut Page, number: u32, solution: &Named<Solution>, value: Frac)
+    ensures { PutsText page.old page.new
+        (if nat_lt number 10 then value_line number solution.now.name value else []) }
+{
+    if number >= MOST_SOLUTIONS {
+        return;
+    }
+    put_value(page, number, solution, value);
 }
 
 // Shows a solution's value.
@@ -319,12 +389,21 @@ fn put_value(page: &mut Page, number: u32, solution: &Named<Solution>, value: Fr
 }
 
 // The better one of two values of the objective.
-fn better(goal: Goal, best: Option<Frac>, value: Frac) -> Frac {
+fn better(goal: Goal, best: Option<Frac>, value: Frac) -> Frac
+    ensures { Some result ≡ better_of (direction_of goal) best (Some value) }
+{
     match best {
         None => value,
-        Some(best) => match goal {
-            Goal::Min => if value < best { value } else { best },
-            Goal::Max => if value > best { value } else { best },
-        },
+        Some(best) => better_value(goal, best, value),
+    }
+}
+
+// The same if there are two.
+fn better_value(goal: Goal, best: Frac, value: Frac) -> Frac
+    ensures { result ≡ better_value_of (direction_of goal) best value }
+{
+    match goal {
+        Goal::Min => if value < best { value } else { best },
+        Goal::Max => if value > best { value } else { best },
     }
 }

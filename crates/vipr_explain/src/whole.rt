@@ -1,8 +1,10 @@
 //! The whole explanation of a verdict.
-ghost use Rattle.std.specs.Prelude.{◌≡◌, IfOk, IfSome, is_some};
+ghost use Rattle.std.specs.Prelude.{◌≡◌, IfErr, IfOk, IfSome, option_map};
+ghost use Rattle.vipr_explain.specs.Found.{OnlyIf};
+ghost use Rattle.vipr_explain.specs.Lacking.{LacksClaim, LacksItem, LacksPlace};
 ghost use Rattle.vipr_explain.specs.Page.{cut, shown_text};
 ghost use Rattle.vipr_explain.specs.Pages.{ExplainsVerdict, ExplainsPlace, IsVerdictPage};
-ghost use Rattle.vipr_explain.specs.Pages.{IsPageFor};
+ghost use Rattle.vipr_explain.specs.Pages.{IsClaimText, IsPageFor, Says, not_read};
 
 use crate::derivation::put_derivation;
 use crate::goal::{put_goal, put_no_proof};
@@ -28,8 +30,9 @@ pub fn explain_at_length<'a, T: Text>(
     verdict: &Verdict,
     detail: &Detail,
 ) -> Result<Page, Missing>
-    ensures { IfOk result (λ page. IsVerdictPage file.now verdict.now detail.now
-        page.bytes.items) }
+    ensures shown { IfOk result (λ page. IsVerdictPage (T.input text.now) file.now verdict.now
+        detail.now page.bytes.items) }
+    ensures error { IfErr result (OnlyIf (T.input text.now) (LacksItem verdict.now detail.now)) }
 {
     let subject = Subject { alloc, text, file };
     let mut page = Page::new(alloc);
@@ -51,8 +54,8 @@ pub fn page_for<'a, T: Text>(
     detail: &Detail,
 ) -> Option<Page>
     ensures { IfSome result
-        (λ page. IsPageFor (is_some text.entry) file.now verdict.now detail.now
-        page.bytes.items) }
+        (λ page. IsPageFor (option_map (λ t. T.input t.now) text.entry) file.now verdict.now
+        detail.now page.bytes.items) }
 {
     let Some(text) = text else {
         return page_of(
@@ -62,8 +65,18 @@ pub fn page_for<'a, T: Text>(
     };
     match explain_at_length(alloc, text, file, verdict, detail) {
         Ok(page) => Some(page),
-        Err(Missing::Text) => page_of(alloc, "\nthe text can't be read again to explain it\n"),
-        Err(Missing::Memory) => None,
+        Err(missing) => page_without(alloc, missing),
+    }
+}
+
+// A line that says why there is no explanation, unless memory ran out.
+fn page_without(alloc: Global, missing: Missing) -> Option<Page>
+    ensures { IfSome result (λ page. (missing ≡ Missing.Text)
+        × (page.bytes.items ≡ cut (shown_text not_read))) }
+{
+    match missing {
+        Missing::Text => page_of(alloc, "\nthe text can't be read again to explain it\n"),
+        Missing::Memory => None,
     }
 }
 
@@ -83,8 +96,9 @@ fn put_verdict<T: Text>(
     verdict: &Verdict,
     detail: &Detail,
 ) -> Result<(), Missing>
-    ensures { IfOk result (λ _. ExplainsVerdict subject.now.file.now verdict.now detail.now
-        page.old page.new) }
+    ensures shown { IfOk result (λ _. ExplainsVerdict (T.input subject.now.text.now)
+        subject.now.file.now verdict.now detail.now page.old page.new) }
+    ensures error { IfErr result (OnlyIf (T.input subject.now.text.now) (LacksItem verdict.now detail.now)) }
 {
     match verdict {
         Verdict::Verified(report) => put_goal(page, subject, report),
@@ -104,8 +118,9 @@ fn put_refusal<T: Text>(
     refusal: &Refusal,
     detail: &Detail,
 ) -> Result<(), Missing>
-    ensures { IfOk result (λ _. ExplainsPlace subject.now.file.now refusal.now.place detail.now
-        page.old page.new) }
+    ensures shown { IfOk result (λ _. ExplainsPlace (T.input subject.now.text.now)
+        subject.now.file.now refusal.now.cause refusal.now.place detail.now page.old page.new) }
+    ensures error { IfErr result (OnlyIf (T.input subject.now.text.now) (LacksPlace refusal.now.place detail.now)) }
 {
     match refusal.place {
         Place::Byte(offset) => put_syntax(page, subject, refusal.cause, offset),
@@ -123,10 +138,18 @@ fn put_claim<T: Text>(
     page: &mut Page,
     subject: &Subject<'_, T>,
     detail: &Detail,
-) -> Result<(), Missing> {
+) -> Result<(), Missing>
+    ensures shown { IfOk result (λ _. Says (IsClaimText (T.input subject.now.text.now) detail.now)
+        page.old page.new) }
+    ensures error { IfErr result (OnlyIf (T.input subject.now.text.now) (LacksClaim detail.now)) }
+{
     match detail {
         Detail::NoProof(goal) => put_no_proof(page, subject, goal.as_ref()),
         Detail::NoPrimal(bound) => put_no_primal(page, subject, *bound),
-        _ => Ok(()),
+        Detail::NotWhole { .. } => Ok(()),
+        Detail::Breaks { .. } => Ok(()),
+        Detail::SolutionOverflow { .. } => Ok(()),
+        Detail::Step { .. } => Ok(()),
+        Detail::None => Ok(()),
     }
 }

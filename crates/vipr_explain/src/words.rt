@@ -1,5 +1,7 @@
 //! The tokens of a text with their places.
-ghost use Rattle.std.specs.Prelude.{◌≡◌};
+ghost use Rattle.std.specs.Prelude.{◌≡◌, true, None, IfOk, IfErr, IfSome};
+ghost use Rattle.vipr_spec.specs.Input.{Input};
+ghost use Rattle.vipr_explain.specs.Words.{IsReading};
 
 use crate::missing::Missing;
 use crate::text::{Letters, Spot, Text};
@@ -25,7 +27,12 @@ pub(crate) struct Words<R> {
 
 impl<R: Source + Drop> Words<R> {
     /// A reader at the start of a text.
-    pub(crate) fn open<T: Text<Reader = R>>(alloc: Global, text: &T) -> Result<Words<R>, Missing> {
+    pub(crate) fn open<T: Text<Reader = R>>(alloc: Global, text: &T) -> Result<Words<R>, Missing>
+        ensures start { IfOk result (λ w. IfSome (T.input text.now)
+            (λ i. IsReading R.input i w)) }
+        ensures error { IfErr result
+            (λ e. (e ≡ Missing.Text) × (T.input text.now ≡ None)) }
+    {
         Ok(Words {
             letters: Letters::open(text)?,
             in_front: true,
@@ -37,7 +44,10 @@ impl<R: Source + Drop> Words<R> {
     }
 
     /// Reads the next token, and answers whether there is one.
-    pub(crate) fn next(&mut self) -> bool {
+    pub(crate) fn next(&mut self) -> bool
+        ensures reading { (i : Input) → IsReading R.input i self.old
+            → IsReading R.input i self.new }
+    {
         if self.lacks_memory {
             return false;
         }
@@ -56,7 +66,10 @@ impl<R: Source + Drop> Words<R> {
     /// # Errors
     ///
     /// `Text` if a read failed, `Memory` if a growth was refused.
-    pub(crate) fn check(&self) -> Result<(), Missing> {
+    pub(crate) fn check(&self) -> Result<(), Missing>
+        ensures error { (i : Input) → IsReading R.input i self.now
+            → IfErr result (λ e. e ≡ Missing.Text → i.fails ≡ true) }
+    {
         if self.letters.has_failed() {
             Err(Missing::Text)
         } else if self.lacks_memory {
@@ -88,7 +101,10 @@ impl<R: Source + Drop> Words<R> {
     }
 
     // The first byte of the next token, whose place is kept.
-    fn first_byte(&mut self) -> Option<u8> {
+    fn first_byte(&mut self) -> Option<u8>
+        ensures reading { (i : Input) → IsReading R.input i self.old
+            → IsReading R.input i self.new }
+    {
         let mut in_comment = false;
         for _ in 0..u64::MAX {
             let spot = self.letters.spot();
@@ -108,7 +124,10 @@ impl<R: Source + Drop> Words<R> {
     }
 
     // Reads a token to its end, behind its first byte.
-    fn read_word(&mut self, first: u8) {
+    fn read_word(&mut self, first: u8)
+        ensures reading { (i : Input) → IsReading R.input i self.old
+            → IsReading R.input i self.new }
+    {
         self.word.clear();
         self.size = 0;
         self.take(first);
@@ -121,7 +140,9 @@ impl<R: Source + Drop> Words<R> {
     }
 
     // Takes a byte of a token.
-    fn take(&mut self, byte: u8) {
+    fn take(&mut self, byte: u8)
+        ensures letters { self.new.letters ≡ self.old.letters }
+    {
         self.size = self.size.saturating_add(1);
         if self.word.len() < MOST_KEPT && self.word.push(byte).is_err() {
             self.lacks_memory = true;

@@ -1,8 +1,32 @@
+use Rattle.std.proofs.Common.{inl, inr}
+use Rattle.std.proofs.lemmas.Result.{err_from_is_err_and}
+use Rattle.vipr_bytes.specs.Known.{text_of}
 use Rattle.vipr_cert.specs.Items.{solution_of}
+use Rattle.vipr_explain.specs.Found.{IsListedSolution}
+use Rattle.vipr_explain.proofs.ByPlace.{lacks_in_solution}
+use Rattle.vipr_explain.proofs.Lacks.{err_because_after, only_if}
 use Rattle.vipr_explain.proofs.WholePages.{solution_lines}
 use Rattle.vipr_explain.proofs.solution.put_solution.Goals as goal
 
-pub returns : goal.returns
-returns g c =
+pub returns-clause-shown : goal.returns-clause-shown
+returns-clause-shown g c =
     let solution = c.in_ok-problem.solution in
-    solution_lines c.args.subject.now.file.now c.args.number c.args.detail.now c.in_ok-problem.problem (solution_of solution) c.args.page.now c.put_error.new.page c.put_place.new.page c.put_detail.new.page c.put_detail.result c.put_error.ensures c.in_ok-put_place.ensures c.put_detail.ensures
+    solution_lines (g.T.Text.input c.args.subject.now.text.now) c.args.subject.now.file.now c.args.number c.args.detail.now c.in_ok-problem.problem (solution_of solution) c.args.page.now c.put_error.new.page c.put_place.new.page c.put_detail.new.page c.put_detail.result c.in_ok-problem.ensures.found c.put_error.ensures c.in_ok-put_place.ensures.shown c.put_detail.ensures.shown
+
+pub returns-in_err-problem-clause-error : goal.returns-in_err-problem-clause-error
+returns-in_err-problem-clause-error g c =
+    let q = err_from_is_err_and c.from_residual.result c.from_residual.ensures.1 in
+    rw (q.1, q.2) (only_if (g.T.Text.input c.args.subject.now.text.now) c.in_err-problem.field-0.0 _ _ (λ i h. inr (inl h)) c.in_err-problem.ensures.error)
+
+pub returns-in_err-put_place-clause-error : goal.returns-in_err-put_place-clause-error
+returns-in_err-put_place-clause-error g c =
+    let q = err_from_is_err_and c.from_residual-in_err-put_place.result c.from_residual-in_err-put_place.ensures.1 in
+    rw (q.1, q.2) (only_if (g.T.Text.input c.args.subject.now.text.now) c.in_err-put_place.field-0.0 _ _ (λ i h. inl h) c.in_err-put_place.ensures.error)
+
+pub returns-clause-error : goal.returns-clause-error
+returns-clause-error g c =
+    let p = c.in_ok-problem.problem in
+    let solution = c.in_ok-problem.solution in
+    err_because_after (g.T.Text.input c.args.subject.now.text.now) c.put_detail.result
+    (λ i. IsListedSolution c.args.number (text_of i) p (solution_of solution)) _ _ c.in_ok-problem.ensures.found
+    (λ i listed h. lacks_in_solution c.args.number c.args.detail.now i p listed.count listed.behind listed.problem h) c.put_detail.ensures.error

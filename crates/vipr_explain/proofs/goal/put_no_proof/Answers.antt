@@ -1,0 +1,26 @@
+use Rattle.std.proofs.Common.{◌≡◌, inr, map, option_map, rules, subst, sym}
+use Rattle.vipr_linear.specs.Constraint.{constraint_of}
+use Rattle.vipr_explain.specs.Near.{AreNearest}
+use Rattle.vipr_explain.specs.Nearing.{near_of}
+use Rattle.std.proofs.lemmas.Result.{err_from_is_err_and}
+use Rattle.vipr_explain.proofs.Lacks.{only_if}
+use Rattle.vipr_explain.proofs.Nearby.{no_proof_lines}
+use Rattle.vipr_explain.proofs.Putting.{puts_same}
+use Rattle.vipr_explain.proofs.goal.put_no_proof.Goals as goal
+
+pub returns-in_err-near-clause-error : goal.returns-in_err-near-clause-error
+returns-in_err-near-clause-error g c =
+    let q = err_from_is_err_and c.from_residual.result c.from_residual.ensures.1 in
+    rw (q.1, q.2) (only_if (g.T.Text.input c.args.subject.now.text.now) c.in_err-near.field-0.0 _ _ (λ i h. inr h) c.in_err-near.ensures.error)
+
+pub returns-in_err-known-clause-error : goal.returns-in_err-known-clause-error
+returns-in_err-known-clause-error g c =
+    let q = err_from_is_err_and c.from_residual-in_err-known.result c.from_residual-in_err-known.ensures.1 in
+    rw (q.1, q.2) c.in_err-known.ensures.error
+
+pub returns-clause-shown : goal.returns-clause-shown
+returns-clause-shown g c =
+    let same : c.as_slice-nearest.result.now ≡ c.in_ok-near.near.items = search rules in
+    let found = subst (λ xs. AreNearest (g.T.Text.input c.args.subject.now.text.now) (option_map (λ c. constraint_of c.now) c.args.goal) (map near_of xs)) (sym same) c.in_ok-near.ensures.found in
+    no_proof_lines (g.T.Text.input c.args.subject.now.text.now) _ _ c.in_ok-known.known c.args.page.now c.put_wanted.new.page c.put.new.self c.put_all_near.new.page c.put_help.new.self
+    found c.in_ok-known.ensures.found c.put_wanted.ensures (puts_same c.head_of.ensures c.put.ensures) c.put_all_near.ensures c.put_help.ensures

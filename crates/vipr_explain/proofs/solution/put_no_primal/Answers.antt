@@ -1,0 +1,12 @@
+use Rattle.std.proofs.lemmas.Result.{err_from_is_err_and}
+use Rattle.vipr_explain.proofs.Valuing.{no_primal_lines}
+use Rattle.vipr_explain.proofs.solution.put_no_primal.Goals as goal
+
+pub returns-in_err-best-clause-error : goal.returns-in_err-best-clause-error
+returns-in_err-best-clause-error g c =
+    let q = err_from_is_err_and c.from_residual.result c.from_residual.ensures.1 in
+    rw (q.1, q.2) c.in_err-best.ensures.error
+
+pub returns-clause-shown : goal.returns-clause-shown
+returns-clause-shown g c =
+    no_primal_lines (g.T.Text.input c.args.subject.now.text.now) c.args.bound c.args.page.now c.put_primal_error.new.page c.put_values_listed.new.page c.put_best.new.page c.in_ok-best.best c.put_primal_error.ensures c.in_ok-best.ensures.shown c.put_best.ensures

@@ -1,0 +1,73 @@
+-- Why a verdict isn't explained of a text: a read of it fails, or the verdict isn't one of this text
+use Rattle.std.specs.Prelude.{◌≡◌, ⊤, ◌⊎◌, ℕ, ◌≤◌, true, List, [], ◌∷◌, length, Option, Some, None}
+use Rattle.std.specs.Prelude.{Ok, Err}
+use Rattle.vipr_spec.specs.Input.{Input}
+use Rattle.vipr_spec.specs.Certificate.{Problem}
+use Rattle.vipr_spec.specs.Reading.{Read, problem_read}
+use Rattle.vipr_bytes.specs.Known.{text_of}
+use Rattle.vipr_check.specs.declared.detail.Detail.{Detail}
+use Rattle.vipr_check.specs.declared.detail.Detail.TheVariants as detail
+use Rattle.vipr_check.specs.declared.verdict.Place.{Place}
+use Rattle.vipr_check.specs.declared.verdict.Place.TheVariants.{Byte, Sol, Der, End}
+use Rattle.vipr_check.specs.declared.verdict.Verdict.{Verdict}
+use Rattle.vipr_check.specs.declared.verdict.Verdict.TheVariants.{Verified, Refused}
+use Rattle.vipr_explain.specs.Found.{HasFault, LacksItems, LacksListed, all_derivations_read}
+use Rattle.vipr_explain.specs.Found.{all_solutions_read}
+
+-- the constraint that proves the dual side can't be read
+abbrev pub LacksGoal : Option ℕ → Input → Type 0
+LacksGoal (Some goal) i = LacksItems (goal ∷ []) i
+LacksGoal None i = ⊥
+
+-- the problem doesn't have the constraint that is broken
+abbrev pub LacksBroken : Detail → Problem → Type 0
+LacksBroken (detail.Breaks solution constraint name left sense right) p =
+    length p.constraints ≤ constraint
+LacksBroken (detail.NotWhole solution variable name value) p = ⊥
+LacksBroken (detail.SolutionOverflow solution at) p = ⊥
+LacksBroken (detail.Step name what) p = ⊥
+LacksBroken (detail.NoProof goal) p = ⊥
+LacksBroken (detail.NoPrimal bound) p = ⊥
+LacksBroken detail.None p = ⊥
+
+abbrev pub LacksFault : Detail → Read (Problem × ℕ) → Type 0
+LacksFault d (Ok x) = LacksBroken d x.0.0
+LacksFault d (Err f) = ⊤
+
+-- the refused solution can't be read, or what is at fault in it
+abbrev pub LacksSolution : ℕ → Detail → Input → Type 0
+LacksSolution number d i = (i.fails ≡ true) ⊎ (LacksListed number (problem_read (text_of i))
+    ⊎ LacksFault d (problem_read (text_of i)))
+
+-- the derivations can't be read, or the solutions, among which a proof of the claim was wanted
+abbrev pub LacksClaim : Detail → Input → Type 0
+LacksClaim (detail.NoProof goal) i =
+    (i.fails ≡ true) ⊎ HasFault (all_derivations_read (text_of i))
+LacksClaim (detail.NoPrimal bound) i = HasFault (all_solutions_read (text_of i))
+LacksClaim (detail.NotWhole solution variable name value) i = ⊥
+LacksClaim (detail.Breaks solution constraint name left sense right) i = ⊥
+LacksClaim (detail.SolutionOverflow solution at) i = ⊥
+LacksClaim (detail.Step name what) i = ⊥
+LacksClaim detail.None i = ⊥
+
+-- the refused derivation can't be read: of a derivation at fault nothing is said here
+abbrev pub LacksDerivation : Detail → Input → Type 0
+LacksDerivation (detail.Step name what) i = ⊤
+LacksDerivation (detail.NoProof goal) i = LacksClaim (detail.NoProof goal) i
+LacksDerivation (detail.NoPrimal bound) i = LacksClaim (detail.NoPrimal bound) i
+LacksDerivation (detail.NotWhole solution variable name value) i = ⊥
+LacksDerivation (detail.Breaks solution constraint name left sense right) i = ⊥
+LacksDerivation (detail.SolutionOverflow solution at) i = ⊥
+LacksDerivation detail.None i = ⊥
+
+-- what is at this place can't be read: of a fault of a text nothing is said here
+abbrev pub LacksPlace : Place → Detail → Input → Type 0
+LacksPlace (Byte offset) d i = ⊤
+LacksPlace (Sol number) d i = LacksSolution number d i
+LacksPlace (Der index) d i = LacksDerivation d i
+LacksPlace End d i = LacksClaim d i
+
+-- what this verdict is about can't be read
+abbrev pub LacksItem : Verdict → Detail → Input → Type 0
+LacksItem (Verified report) d i = LacksGoal report.goal i
+LacksItem (Refused refusal) d i = LacksPlace refusal.place d i
