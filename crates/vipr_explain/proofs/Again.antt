@@ -1,6 +1,7 @@
 -- Readings that a text is read by again, one after the other
 use Rattle.std.proofs.Common.{◌≡◌, ℕ, suc, ◌+◌, ◌-◌, ◌<◌, inl, inr, List, [], ◌∷◌, ◌++◌, map}
-use Rattle.std.proofs.Common.{length, filter, Option, Some, None, Result, Ok, Err, refl, sym, ap, ◌∙◌}
+use Rattle.std.proofs.Common.{length, filter, Option, Some, None, Result, Ok, Err, refl, sym, ap}
+use Rattle.std.proofs.Common.{◌∙◌}
 use Rattle.std.proofs.Common.{cond, true, false, subst, append_assoc, arith, IfSome}
 use Rattle.std.specs.Option.{IsSome}
 use Rattle.std.specs.List.{enumerate_from}
@@ -18,14 +19,16 @@ use Rattle.vipr_scan.specs.declared.error.TextError.TheVariants as error
 use Rattle.vipr_read.specs.Items.{Items, Knows, Remembers, Moves, HasPassed, NextIs}
 use Rattle.vipr_read.specs.Parsing.{with_front}
 use Rattle.vipr_explain.specs.Missed.{missing_of}
-use Rattle.vipr_explain.specs.Found.{Missed, WerePassed, wanted_among, is_wanted, numbered_of, KeepsNext, HasKeptItems, count_read}
+use Rattle.vipr_explain.specs.Found.{Missed, WerePassed, wanted_among, is_wanted, numbered_of}
+use Rattle.vipr_explain.specs.Found.{KeepsNext, HasKeptItems, count_read}
 use Rattle.vipr_explain.specs.declared.items.Numbered.{Numbered}
 use Rattle.vipr_explain.specs.declared.missing.Missing.{Missing}
 use Rattle.vipr_explain.specs.declared.missing.Missing.TheVariants as missing
 
 -- ---- what is missing
 
-pub missed_of : {Y : Type 0} (e : TextError) (r : Result Y Fault) → Fails e r → Missed (missing_of e) r
+pub missed_of : {Y : Type 0} (e : TextError) (r : Result Y Fault) → Fails e r
+    → Missed (missing_of e) r
 missed_of (error.Refused c o) r h = (refused c o, h)
 missed_of error.Read r h = (unread, h)
 missed_of error.Memory r h = tt
@@ -43,7 +46,8 @@ known_by None P Q k h = tt
 known_by (Some i) P Q k h = λ short. k i (h short)
 
 -- of a reader's input, if it is the text's
-pub known_of_text : (o s : Option Input) (P : Input → Type 0) → IfSome o (λ i. s ≡ Some i) → IfKnown s P
+pub known_of_text : (o s : Option Input) (P : Input → Type 0) → IfSome o (λ i. s ≡ Some i)
+    → IfKnown s P
     → IfKnown o P
 known_of_text None s P same h = tt
 known_of_text (Some i) s P same h = subst (λ k. IfKnown k P) same h
@@ -110,7 +114,8 @@ module _ {A : Type 0} (item : Rest → Read A) where
 
 -- ---- those that are kept
 
-pub numbered_more : {X : Type 0} (first : ℕ) (xs : List X) (x : X) → enumerate_from first (xs ++ x ∷ []) ≡ enumerate_from first xs ++ (first + length xs, x) ∷ []
+pub numbered_more : {X : Type 0} (first : ℕ) (xs : List X) (x : X)
+    → enumerate_from first (xs ++ x ∷ []) ≡ enumerate_from first xs ++ (first + length xs, x) ∷ []
 numbered_more first [] x = ap (λ n. (n, x) ∷ []) (omega arith)
 numbered_more first (y ∷ xs) x = ap (λ ys. (first, y) ∷ ys) (numbered_more (first + 1) xs x ∙ ap (λ n. enumerate_from (first + 1) xs ++ (n, x) ∷ []) (omega arith))
 
@@ -140,7 +145,8 @@ turned view item ending old new None n k total e some h so_far = let z = h.0 in 
 turned view item ending old new (Some x) n k total e some h so_far =
     (so_far.0 ++ view x ∷ [], h.2, one_more item so_far.0 n k (rest_of old.rest) (rest_of new.rest) (view x) total e h.1 so_far.2)
 
-pub starts : {A : Type 0} (item : Rest → Read A) (n m : ℕ) (rest : Option Rest) → m ≡ n → IsSome rest
+pub starts : {A : Type 0} (item : Rest → Read A) (n m : ℕ) (rest : Option Rest) → m ≡ n
+    → IsSome rest
     → IsPartWay item m rest (read_each item n (rest_of rest))
 starts item n m rest e known = ([], known, ap (λ j. with_front [] (read_each item j (rest_of rest))) e ∙ none_yet item (read_each item n (rest_of rest)))
 
@@ -186,8 +192,10 @@ keeps_none p wanted first n m rest now e none known = record {
 }
 
 pub keeps_all : (p : Problem) (wanted : List ℕ) (done n : ℕ) (old new : Items)
-    (now : List Numbered) (count : ℕ) → n ≡ 0 → count ≡ count_read wanted (length p.constraints) old.left
-    → KeepsPartWay p wanted (length p.constraints) done n new.rest now (read_each (derivation_read p) count (rest_of old.rest))
+    (now : List Numbered) (count : ℕ) → n ≡ 0
+    → count ≡ count_read wanted (length p.constraints) old.left
+    → KeepsPartWay p wanted (length p.constraints) done n new.rest now
+    (read_each (derivation_read p) count (rest_of old.rest))
     → HasKeptItems p wanted old new now
 keeps_all p wanted done n old new now count e counted so_far = record {
   read = so_far.front;

@@ -16,7 +16,8 @@ digits_begin (b ∷ bs) = refl
 -- ---- a decimal, byte by byte
 
 next_byte : (d : Decimal) (bs : List ℕ) (i : ℕ) → i < length bs
-    → decimal_from (Some d) (drop i bs) ≡ decimal_from (decimal_next d (get_or bs i 0)) (drop (i + 1) bs)
+    → decimal_from (Some d) (drop i bs)
+    ≡ decimal_from (decimal_next d (get_or bs i 0)) (drop (i + 1) bs)
 unfolding decimal_from
 next_byte d bs i within = ap (decimal_from (Some d)) (drop-cons bs i 0 within)
     ∙ ap (λ k. decimal_from (decimal_next d (get_or bs i 0)) (drop k bs)) (sym (add-one i))

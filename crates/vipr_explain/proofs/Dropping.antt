@@ -1,5 +1,6 @@
 -- Which derivation is the last one that names a constraint, read one after the other
-use Rattle.std.proofs.Common.{◌≡◌, ℕ, suc, ◌+◌, [], ◌∷◌, length, Some, None, IfOk, Result, Ok, Err, refl}
+use Rattle.std.proofs.Common.{◌≡◌, ℕ, suc, ◌+◌, [], ◌∷◌, length, Some, None, IfOk, Result, Ok, Err}
+use Rattle.std.proofs.Common.{refl}
 use Rattle.std.proofs.Common.{sym, ap, ◌∙◌}
 use Rattle.std.specs.Option.{IsSome}
 use Rattle.std.specs.List.{enumerate_from}
@@ -9,7 +10,8 @@ use Rattle.vipr_scan.specs.Giving.{rest_of}
 use Rattle.vipr_read.specs.Items.{Items, Knows}
 use Rattle.vipr_cert.specs.Items.{derivation_of}
 use Rattle.vipr_cert.specs.declared.items.Derivation.{Derivation as Derived}
-use Rattle.vipr_explain.specs.Drops.{IsLastUse, ReadsNext, last_among, last_naming, later_of, read_most}
+use Rattle.vipr_explain.specs.Drops.{IsLastUse, ReadsNext, last_among, last_naming, later_of}
+use Rattle.vipr_explain.specs.Drops.{read_most}
 use Rattle.vipr_explain.specs.Drops.{read_on}
 use Rattle.vipr_explain.specs.Found.{head_read}
 use Rattle.vipr_explain.specs.declared.missing.Missing.{Missing}
@@ -35,7 +37,8 @@ unfolding read_most
 no_more item r = refl
 
 -- one more was read
-pub part_more : (p : Problem) (index number next last later left k : ℕ) (old new : Items) (d : Derived)
+pub part_more : (p : Problem) (index number next last later left k : ℕ) (old new : Items)
+    (d : Derived)
     (total : ℕ) → left ≡ suc k → next ≡ number + 1 → ReadsNext p old new (Some d)
     → later ≡ later_of index last (number, derivation_of d)
     → IsPartWay p index number last left old total → IsPartWay p index next later k new total
@@ -68,7 +71,8 @@ part_ends p index number last left reader total e so_far =
     ∙ so_far.part
 
 -- the answer for a text
-pub is_last_use : (text : Rest) (p : Problem) (d : Items) (index needed_by : ℕ) (r : Result ℕ Missing)
+pub is_last_use : (text : Rest) (p : Problem) (d : Items) (index needed_by : ℕ)
+    (r : Result ℕ Missing)
     → head_read text ≡ Ok ((p, d.left), rest_of d.rest)
     → IfOk r (λ last. last ≡ last_among p d.left (rest_of d.rest) index needed_by)
     → IfOk r (IsLastUse text index needed_by)
@@ -79,7 +83,8 @@ is_last_use text p d index needed_by (Err e) head is = tt
 -- none was read
 pub part_starts : (p : Problem) (index first number last : ℕ) (reader : Items) → Knows reader p
     → IsSome reader.rest → first ≡ length p.constraints → number ≡ first
-    → IsPartWay p index number last reader.left reader (last_among p reader.left (rest_of reader.rest) index last)
+    → IsPartWay p index number last reader.left reader
+    (last_among p reader.left (rest_of reader.rest) index last)
 part_starts p index first number last reader knows known at same = record {
   knows = knows;
   known = known;

@@ -1,18 +1,17 @@
 -- Why a text can't be read again, through the calls that read it
-use Rattle.std.proofs.Common.{◌≡◌, ℕ, zero, suc, ◌≤◌, ◌<◌, ◌⊎◌, inl, inr, true, List, ◌∷◌, length}
-use Rattle.std.proofs.Common.{Option, Some, None, Result, Ok, Err, IfSome, IfErr, refl, sym, ap, ◌∙◌}
+use Rattle.std.proofs.Common.{◌≡◌, ℕ, zero, suc, ◌≤◌, ◌⊎◌, inl, inr, true, List, ◌∷◌, length}
+use Rattle.std.proofs.Common.{Option, Some, None, Result, Ok, Err, IfSome, IfErr, refl, sym}
 use Rattle.std.proofs.Common.{subst, arith}
 use Rattle.std.specs.Prelude.{⊤}
-use Rattle.std.specs.Option.{IsSome}
 use Rattle.vipr_spec.specs.Input.{Input}
-use Rattle.vipr_spec.specs.Certificate.{Named, Problem, Derivation}
+use Rattle.vipr_spec.specs.Certificate.{Named, Problem}
 use Rattle.vipr_spec.specs.Constraint.{Row}
 use Rattle.vipr_spec.specs.Reading.{Rest, Fault, Read, ◌>>=◌, read_each, problem_read}
 use Rattle.vipr_spec.specs.Reading.{derivation_read, solution_read}
 use Rattle.vipr_bytes.specs.Known.{IfKnown, text_of}
-use Rattle.vipr_scan.specs.Giving.{rest_of}
 use Rattle.vipr_explain.specs.Found.{Because, HasFault, Missed, OnlyIf, count_read, head_read}
-use Rattle.vipr_explain.specs.Found.{nth_read, items_read, all_derivations_read, all_solutions_read}
+use Rattle.vipr_explain.specs.Found.{nth_read, items_up_to, all_derivations_read}
+use Rattle.vipr_explain.specs.Found.{all_solutions_read}
 use Rattle.vipr_explain.specs.Found.{LacksItems, LacksListed}
 use Rattle.vipr_explain.specs.declared.missing.Missing.{Missing}
 use Rattle.vipr_explain.specs.declared.missing.Missing.TheVariants as missing
@@ -126,14 +125,15 @@ more_fault {A} item (suc k) (suc n) r le h = elim (first_or_rest item (item r) k
 ]
 
 counted_fault : (wanted : List ℕ) (h : Read (Problem × ℕ))
-    → HasFault (h >>= λ x. read_each (derivation_read x.0.0) (count_read wanted (length x.0.0.constraints) x.0.1) x.1)
+    → HasFault (h >>= λ x. read_each (derivation_read x.0.0)
+    (count_read wanted (length x.0.0.constraints) x.0.1) x.1)
     → HasFault (h >>= λ x. read_each (derivation_read x.0.0) x.0.1 x.1)
 counted_fault wanted (Err f) h = h
 counted_fault wanted (Ok x) h =
     more_fault (derivation_read x.0.0) (count_read wanted (length x.0.0.constraints) x.0.1) x.0.1 x.1 (omega arith) h
 
 -- all derivations have the fault that is up to some of them
-pub all_fault : (wanted : List ℕ) (text : Rest) → HasFault (items_read wanted text)
+pub all_fault : (wanted : List ℕ) (text : Rest) → HasFault (items_up_to wanted text)
     → HasFault (all_derivations_read text)
 all_fault wanted text h = counted_fault wanted (head_read text) h
 
@@ -149,14 +149,15 @@ pub counted_missed : (p : Problem) (count n : ℕ) (r : Rest) (m : Missing)
     → Missed m (read_each (derivation_read p) n r)
 counted_missed p count n r m h e = subst (λ k. Missed m (read_each (derivation_read p) k r)) e h
 
-pub head_then_missed : (wanted : List ℕ) (text : Rest) (p : Problem) (n : ℕ) (r : Rest) (m : Missing)
+pub head_then_missed : (wanted : List ℕ) (text : Rest) (p : Problem) (n : ℕ) (r : Rest)
+    (m : Missing)
     → head_read text ≡ Ok ((p, n), r)
     → Missed m (read_each (derivation_read p) (count_read wanted (length p.constraints) n) r)
-    → Missed m (items_read wanted text)
+    → Missed m (items_up_to wanted text)
 head_then_missed wanted text p n r m e h = because m _ _ (fault_behind (head_read text) ((p, n), r) (λ x. read_each (derivation_read x.0.0) (count_read wanted (length x.0.0.constraints) x.0.1) x.1) e) h
 
 pub head_first_missed : (wanted : List ℕ) (text : Rest) (m : Missing) → Missed m (head_read text)
-    → Missed m (items_read wanted text)
+    → Missed m (items_up_to wanted text)
 head_first_missed wanted text m h = because m _ _ (fault_first (head_read text) (λ x. read_each (derivation_read x.0.0) (count_read wanted (length x.0.0.constraints) x.0.1) x.1)) h
 
 pub solutions_first_missed : (text : Rest) (m : Missing) → Missed m (problem_read text)
@@ -186,7 +187,8 @@ listed_fault number (Err f) h = tt
 listed_fault number (Ok x) h = absurd (cc)
 
 pub listed_lacks : (number : ℕ) (text : Read (Problem × ℕ)) (p : Problem) (n : ℕ) (r : Rest)
-    (m : Missing) → text ≡ Ok ((p, n), r) → Because m ((n ≤ number) ⊎ HasFault (nth_read p number r))
+    (m : Missing) → text ≡ Ok ((p, n), r)
+    → Because m ((n ≤ number) ⊎ HasFault (nth_read p number r))
     → Because m (LacksListed number text)
 listed_lacks number text p n r m e h = because m _ _ (λ x. subst (LacksListed number) (sym e) x) h
 

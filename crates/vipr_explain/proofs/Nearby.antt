@@ -1,11 +1,13 @@
 -- The constraints that come nearest, one derivation after the other
-use Rattle.std.proofs.Common.{◌≡◌, ◌↔◌, ℕ, suc, ◌+◌, ◌-◌, ◌≤◌, ◌<◌, List, [], ◌∷◌, ◌++◌, map, length, drop}
-use Rattle.std.proofs.Common.{Option, Some, None, Bool, true, false, IsTrue, Result, Ok, Err, IfOk}
-use Rattle.std.proofs.Common.{IfErr, inl, inr, refl, sym, ap, ◌∙◌, subst, arith, take, get_or}
-use Rattle.std.specs.List.{All, flat_map, fold}
+use Rattle.std.proofs.Common.{◌≡◌, ◌↔◌, ℕ, suc, ◌+◌, ◌-◌, ◌≤◌, ◌<◌, List, [], ◌∷◌, ◌++◌, map}
+use Rattle.std.proofs.Common.{length, drop}
+use Rattle.std.proofs.Common.{Option, Bool, true, false, IsTrue, Result, Ok, Err, IfOk}
+use Rattle.std.proofs.Common.{inl, inr, refl, sym, ap, ◌∙◌, subst, arith, take, get_or}
+use Rattle.std.specs.List.{flat_map}
 use Rattle.std.specs.Option.{IsSome}
 use Rattle.std.specs.Prelude.{codes}
-use Rattle.std.proofs.lemmas.List.{append-nil, length-append, length-map, map-append, take_all, take_more, length-drop}
+use Rattle.std.proofs.lemmas.List.{append-nil, length-append, length-map, map-append, take_all}
+use Rattle.std.proofs.lemmas.List.{take_more, length-drop}
 use Rattle.std.proofs.lemmas.List.{drop-append-le, drop-map}
 use Rattle.std.proofs.lemmas.List.Elements.{All-append, All-cons, All-nil}
 use Rattle.std.proofs.lemmas.List.Sums.{fold-append}
@@ -16,17 +18,19 @@ use Rattle.vipr_spec.specs.Fraction.{ℚ, ◌+ℚ◌, neg_ℚ, SumFits}
 use Rattle.vipr_spec.specs.Input.{Input}
 use Rattle.vipr_spec.specs.Number.{number_text}
 use Rattle.vipr_explain.specs.Algebra.{size}
-use Rattle.vipr_spec.specs.Reading.{Rest, Read, read_each, derivation_read}
+use Rattle.vipr_spec.specs.Reading.{read_each, derivation_read}
 use Rattle.vipr_bytes.specs.Known.{IfKnown, text_of}
 use Rattle.vipr_scan.specs.Giving.{rest_of}
 use Rattle.vipr_read.specs.Items.{Items as Reader, Knows}
 use Rattle.vipr_read.specs.Parsing.{with_front}
 use Rattle.vipr_explain.specs.Found.{AreItemsOf, head_read}
 use Rattle.vipr_explain.specs.Goals.{wanted_text}
-use Rattle.vipr_explain.specs.Near.{AreDerived, AreJudged, AreNearest, AreNearLines, IsNear}
-use Rattle.vipr_explain.specs.Near.{IsNoProofText, IsStrength, Judged, Near, last_three, near_head}
+use Rattle.vipr_explain.specs.Near.{AreDerived, AreCompared, AreNearest, AreNearLines, IsNear}
+use Rattle.vipr_explain.specs.Near.{IsNoProofText, IsStrength, Compared, Near, last_three}
+use Rattle.vipr_explain.specs.Near.{near_head}
 use Rattle.vipr_explain.specs.Near.{near_text, near_with, nearest, no_proof_help, pass_all}
-use Rattle.vipr_explain.specs.Near.{IsGapText, Passed, Resting, bases_by, pass_one, resting_by, some_bases}
+use Rattle.vipr_explain.specs.Near.{IsGapText, Passed, Resting, bases_by, pass_one, resting_by}
+use Rattle.vipr_explain.specs.Near.{some_bases}
 use Rattle.vipr_explain.specs.Nearing.{PassesNext, near_of, passed_of}
 use Rattle.vipr_explain.specs.Written.{PutsText}
 use Rattle.vipr_explain.specs.declared.missing.Missing.{Missing}
@@ -35,7 +39,7 @@ use Rattle.vipr_explain.specs.declared.near.Passed as found_passed
 use Rattle.vipr_explain.specs.declared.page.Page.{Page}
 use Rattle.vipr_explain.specs.declared.shown.PlacedItems.{PlacedItems}
 use Rattle.vipr_explain.proofs.Again.{all_read, known_by, none_yet, one_more}
-use Rattle.vipr_explain.proofs.Putting.{puts_none, puts_same, puts_then}
+use Rattle.vipr_explain.proofs.Putting.{puts_none, puts_then}
 
 few_last : (near : List Near) → length (last_three near) ≤ 3
 few_last near = omega (arith, length-drop (length near - 3) near)
@@ -52,31 +56,33 @@ pub passes_as : (goal : Option spec.Constraint) (d : is.Derivation)
     → new.all.items ≡ old.all.items ++ bases ∷ []
     → map near_of new.near.items ≡ near_with like (map near_of old.near.items) (index, bases)
     → PassesNext goal d old new
-passes_as goal d old new like index bases judged at rests all near =
+passes_as goal d old new like index bases compared at rests all near =
     let e : bases ≡ resting_by old.first old.all.items (old.first + length old.all.items) d.reason =
     rests ∙ ap (λ k. resting_by old.first old.all.items k d.reason) at in
     let more = all ∙ ap (λ b. old.all.items ++ b ∷ []) e in
     let last = near ∙ ap (λ k. near_with like (map near_of old.near.items) (k, bases)) at
     ∙ ap (λ b. near_with like (map near_of old.near.items) (old.first + length old.all.items, b)) e in
-    record { is_near = like; judged = judged; passed = λ i. (more i, last i) }
+    record { is_near = like; compared = compared; passed = λ i. (more i, last i) }
 
 -- so many were passed, and so many of the total are left
 pub record PassesPartWay (goal : Option spec.Constraint) (first number left : ℕ)
     (start old : Reader) (passed : found_passed.Passed) : Type 0 where
-  pub judged : List Judged
-  pub are : AreJudged goal judged
-  pub all : passed_of passed ≡ pass_all first judged
+  pub compared : List Compared
+  pub are : AreCompared goal compared
+  pub all : passed_of passed ≡ pass_all first compared
   pub size : length passed.all.items ≡ number
   pub few : length passed.near.items ≤ 3
   pub begins : passed.first ≡ first
   pub part : (p : is.Problem) → Knows start p → IsSome start.rest → IsSome old.rest
-      × (with_front (map (λ d. d.0) judged) (read_each (derivation_read p) left (rest_of old.rest))
+      × (with_front (map (λ d. d.0) compared) (read_each (derivation_read p) left (rest_of old.rest))
       ≡ read_each (derivation_read p) start.left (rest_of start.rest))
 
-near_count : (p : found_passed.Passed) (q : Passed) → passed_of p ≡ q → length p.near.items ≡ length q.1
+near_count : (p : found_passed.Passed) (q : Passed) → passed_of p ≡ q
+    → length p.near.items ≡ length q.1
 near_count p q e = sym (length-map p.near.items near_of) ∙ ap (λ (x : Passed). length x.1) e
 
-all_count : (p : found_passed.Passed) (q : Passed) → passed_of p ≡ q → length p.all.items ≡ length q.0
+all_count : (p : found_passed.Passed) (q : Passed) → passed_of p ≡ q
+    → length p.all.items ≡ length q.0
 all_count p q e = ap (λ (x : Passed). length x.0) e
 
 pub passes_next : (goal : Option spec.Constraint) (first number left k : ℕ) (start old new : Reader)
@@ -91,10 +97,10 @@ passes_next goal first number left k start old new before now d e same next read
     let one : passed_of now ≡ pass_one first q (d, next.is_near) =
     next.passed ∙ ap (λ f. pass_one f q (d, next.is_near)) so_far.begins in
     record {
-      judged = so_far.judged ++ (d, next.is_near) ∷ [];
-      are = All-append (λ (x : Judged). IsTrue x.1 ↔ IsNear goal x.0.stated) so_far.judged ((d, next.is_near) ∷ []) so_far.are (All-cons (λ (x : Judged). IsTrue x.1 ↔ IsNear goal x.0.stated) (d, next.is_near) [] next.judged (All-nil (λ (x : Judged). IsTrue x.1 ↔ IsNear goal x.0.stated)));
+      compared = so_far.compared ++ (d, next.is_near) ∷ [];
+      are = All-append (λ (x : Compared). IsTrue x.1 ↔ IsNear goal x.0.stated) so_far.compared ((d, next.is_near) ∷ []) so_far.are (All-cons (λ (x : Compared). IsTrue x.1 ↔ IsNear goal x.0.stated) (d, next.is_near) [] next.compared (All-nil (λ (x : Compared). IsTrue x.1 ↔ IsNear goal x.0.stated)));
       all = one ∙ ap (λ x. pass_one first x (d, next.is_near)) so_far.all
-          ∙ sym (fold-append (pass_one first) ([], []) so_far.judged ((d, next.is_near) ∷ []));
+          ∙ sym (fold-append (pass_one first) ([], []) so_far.compared ((d, next.is_near) ∷ []));
       size = all_count now _ one ∙ length-append q.0 _ ∙ ap (λ n. n + 1) so_far.size;
       few = subst (λ n. n ≤ 3) (sym (near_count now _ one)) (few_with next.is_near q.1 _ (subst (λ n. n ≤ 3) (near_count before q refl) so_far.few));
       begins = same ∙ so_far.begins;
@@ -103,8 +109,8 @@ passes_next goal first number left k start old new before now d e same next read
           let r = read p knows part.0 in (
             r.0,
             subst (λ front. with_front front (read_each (derivation_read p) k (rest_of new.rest)) ≡ read_each (derivation_read p) start.left (rest_of start.rest))
-                (sym (map-append (λ d. d.0) so_far.judged ((d, next.is_near) ∷ [])))
-                (one_more (derivation_read p) (map (λ d. d.0) so_far.judged) left k (rest_of old.rest) (rest_of new.rest) d _ e r.1 part.1),
+                (sym (map-append (λ d. d.0) so_far.compared ((d, next.is_near) ∷ [])))
+                (one_more (derivation_read p) (map (λ d. d.0) so_far.compared) left k (rest_of old.rest) (rest_of new.rest) d _ e r.1 part.1),
           );
     }
 
@@ -113,8 +119,8 @@ pub passes_none : (goal : Option spec.Constraint) (first left : ℕ) (start : Re
     → passed.all.items ≡ [] → passed.near.items ≡ []
     → PassesPartWay goal first 0 left start start passed
 passes_none goal first left start passed e same none_all none_near = record {
-  judged = [];
-  are = All-nil (λ (x : Judged). IsTrue x.1 ↔ IsNear goal x.0.stated);
+  compared = [];
+  are = All-nil (λ (x : Compared). IsTrue x.1 ↔ IsNear goal x.0.stated);
   all = λ i. (none_all i, map near_of (none_near i));
   size = ap length none_all;
   few = omega (arith, ap length none_near);
@@ -127,24 +133,27 @@ passes_none goal first left start passed e same none_all none_near = record {
 
 -- all were passed
 pub passes_all : (goal : Option spec.Constraint) (first number left : ℕ) (start old : Reader)
-    (passed : found_passed.Passed) → left ≡ 0 → PassesPartWay goal first number left start old passed
-    → (judged : List Judged) × AreJudged goal judged
-    × (map near_of passed.near.items ≡ nearest first judged)
+    (passed : found_passed.Passed) → left ≡ 0
+    → PassesPartWay goal first number left start old passed
+    → (compared : List Compared) × AreCompared goal compared
+    × (map near_of passed.near.items ≡ nearest first compared)
     × ((p : is.Problem) → Knows start p → IsSome start.rest
     → read_each (derivation_read p) start.left (rest_of start.rest)
-    ≡ Ok (map (λ d. d.0) judged, rest_of old.rest))
+    ≡ Ok (map (λ d. d.0) compared, rest_of old.rest))
 passes_all goal first number left start old passed e so_far = (
-  so_far.judged,
+  so_far.compared,
   so_far.are,
   ap (λ (x : Passed). x.1) so_far.all,
-  λ p knows known. all_read (derivation_read p) (map (λ d. d.0) so_far.judged) left (rest_of old.rest) _ e (so_far.part p knows known).1,
+  λ p knows known. all_read (derivation_read p) (map (λ d. d.0) so_far.compared) left (rest_of old.rest) _ e (so_far.part p knows known).1,
 )
 
 -- of a text
 derived_known : (input : Option Input) (p : is.Problem) (d d' : Reader)
     (derivations : List is.Derivation)
-    → IfKnown input (λ i. (head_read (text_of i) ≡ Ok ((p, d.left), rest_of d.rest)) × IsSome d.rest)
-    → (IsSome d.rest → read_each (derivation_read p) d.left (rest_of d.rest) ≡ Ok (derivations, rest_of d'.rest))
+    → IfKnown input
+    (λ i. (head_read (text_of i) ≡ Ok ((p, d.left), rest_of d.rest)) × IsSome d.rest)
+    → (IsSome d.rest
+    → read_each (derivation_read p) d.left (rest_of d.rest) ≡ Ok (derivations, rest_of d'.rest))
     → IfKnown input (λ i. AreDerived (text_of i) p derivations)
 derived_known input p d d' derivations head read = known_by input
     (λ i. (head_read (text_of i) ≡ Ok ((p, d.left), rest_of d.rest)) × IsSome d.rest)
@@ -154,17 +163,19 @@ derived_known input p d d' derivations head read = known_by input
 pub nearest_found : (input : Option Input) (goal : Option spec.Constraint) (p : is.Problem)
     (d d' : Reader) (first : ℕ) {A : Type 0} (view : A → List Near) (r : Result A Missing)
     → first ≡ length p.constraints → Knows d p
-    → IfKnown input (λ i. (head_read (text_of i) ≡ Ok ((p, d.left), rest_of d.rest)) × IsSome d.rest)
-    → IfOk r (λ near. (judged : List Judged) × AreJudged goal judged
-    × (view near ≡ nearest first judged)
+    → IfKnown input
+    (λ i. (head_read (text_of i) ≡ Ok ((p, d.left), rest_of d.rest)) × IsSome d.rest)
+    → IfOk r (λ near. (compared : List Compared) × AreCompared goal compared
+    × (view near ≡ nearest first compared)
     × ((q : is.Problem) → Knows d q → IsSome d.rest
-    → read_each (derivation_read q) d.left (rest_of d.rest) ≡ Ok (map (λ d. d.0) judged, rest_of d'.rest)))
+    → read_each (derivation_read q) d.left (rest_of d.rest)
+    ≡ Ok (map (λ d. d.0) compared, rest_of d'.rest)))
     → IfOk r (λ near. AreNearest input goal (view near))
 nearest_found input goal p d d' first view (Ok near) e knows head h = record {
   problem = p;
   derivations = h.0;
   derived = derived_known input p d d' (map (λ d. d.0) h.0) head (λ known. h.3 p knows known);
-  judged = h.1;
+  compared = h.1;
   last = h.2 ∙ ap (λ n. nearest n h.0) e;
 }
 nearest_found input goal p d d' first view (Err m) e knows head h = tt
@@ -191,7 +202,8 @@ all_taken xs i new le so_far = so_far ∙ ap (λ l. map (λ n. n.0) (map near_of
 
 pub all_lines : (known : PlacedItems) (goal : Option spec.Constraint) (near : List found.Near)
     (i : ℕ) (p q : Page) → length near ≤ i
-    → ((text : List ℕ) × AreNearLines known goal (map near_of (take i near)) text × PutsText p q text)
+    → ((text : List ℕ) × AreNearLines known goal (map near_of (take i near)) text
+    × PutsText p q text)
     → (text : List ℕ) × AreNearLines known goal (map near_of near) text × PutsText p q text
 all_lines known goal near i p q le so_far =
     subst (λ (l : List found.Near). (text : List ℕ) × AreNearLines known goal (map near_of l) text × PutsText p q text) (take_all i near le) so_far

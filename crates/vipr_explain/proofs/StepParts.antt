@@ -1,5 +1,6 @@
 -- Parts of what is said of a derivation, behind calls that may fail
-use Rattle.std.proofs.Common.{◌≡◌, ℕ, List, [], ◌∷◌, ◌++◌, Option, Some, IfOk, OnOk, Result, Ok, Err, refl}
+use Rattle.std.proofs.Common.{◌≡◌, ℕ, List, [], ◌∷◌, ◌++◌, Option, Some, IfOk, OnOk, Result, Ok}
+use Rattle.std.proofs.Common.{Err, refl}
 use Rattle.std.proofs.Common.{option_map}
 use Rattle.vipr_spec.specs.Input.{Input}
 use Rattle.vipr_bytes.specs.Known.{IfKnown, text_of}
@@ -7,7 +8,8 @@ use Rattle.vipr_cert.specs.declared.items.Derivation.{Derivation}
 use Rattle.vipr_check.specs.declared.detail.StepDetail.{StepDetail}
 use Rattle.vipr_explain.specs.Found.{AreFoundItems}
 use Rattle.vipr_explain.specs.Listed.{kept_derivation}
-use Rattle.vipr_explain.specs.StepPages.{IsCauseText, IsDerivationText, IsDroppedText, IsRefusedText, IsSpotText, IsStepText, dropped_line}
+use Rattle.vipr_explain.specs.StepPages.{IsCauseText, IsDerivationText, IsDroppedText}
+use Rattle.vipr_explain.specs.StepPages.{IsRefusedText, IsSpotText, IsStepText, dropped_line}
 use Rattle.vipr_explain.specs.StepPages.{last_label, last_spot}
 use Rattle.vipr_explain.specs.Listed.{place_found}
 use Rattle.vipr_explain.specs.Drops.{IsLastUse}
@@ -30,8 +32,10 @@ pub step_text : (input : Option Input) (file : List ℕ) (cause index : ℕ) (wh
     (items : Items) (d : Derivation) (p q : Page) (r : Result (Unit {0}) Missing)
     → IfKnown input (λ i. AreFoundItems (index ∷ []) (text_of i) items)
     → kept_derivation items.derivations.items index ≡ Some d
-    → IfOk r (λ _. (text : List ℕ) × IsRefusedText input file cause index d what text × PutsText p q text)
-    → IfOk r (λ _. (text : List ℕ) × IsStepText input file cause index what text × PutsText p q text)
+    → IfOk r (λ _. (text : List ℕ) × IsRefusedText input file cause index d what text
+    × PutsText p q text)
+    → IfOk r
+    (λ _. (text : List ℕ) × IsStepText input file cause index what text × PutsText p q text)
 step_text input file cause index what items d p q (Ok u) found kept says =
     (says.0, record { items = items; found = found; derivation = d; kept = kept; refused = says.1 }, says.2)
 step_text input file cause index what items d p q (Err e) found kept says = tt
@@ -39,9 +43,12 @@ step_text input file cause index what items d p q (Err e) found kept says = tt
 -- the last reference of a constraint
 pub dropped_text : (input : Option Input) (file : List ℕ) (index needed_by last : ℕ)
     (marks : List ItemPlace) (p q s : Page) (r : Result (Unit {0}) Missing)
-    → IfKnown input (λ i. IsLastUse (text_of i) index needed_by last) → PutsText p q (dropped_line index)
-    → IfOk r (λ _. (text : List ℕ) × IsSpotText input file (last_label last) (option_map last_spot (place_found marks index)) text × PutsText q s text)
-    → IfOk r (λ _. (text : List ℕ) × IsDroppedText input file index needed_by text × PutsText p s text)
+    → IfKnown input (λ i. IsLastUse (text_of i) index needed_by last)
+    → PutsText p q (dropped_line index)
+    → IfOk r (λ _. (text : List ℕ) × IsSpotText input file (last_label last)
+    (option_map last_spot (place_found marks index)) text × PutsText q s text)
+    → IfOk r
+    (λ _. (text : List ℕ) × IsDroppedText input file index needed_by text × PutsText p s text)
 dropped_text input file index needed_by last marks p q s (Ok u) is_last front place = (
   dropped_line index ++ place.0,
   record { marks = marks; last = last; is_last = is_last; place = place.0; is_place = place.1; parts = refl },
@@ -59,8 +66,10 @@ puts_before p q s a b (Err e) first second = tt
 pub derivation_text : (input : Option Input) (file : List ℕ) (cause index : ℕ) (what : StepDetail)
     (p q s : Page) (r : Result (Unit {0}) Missing)
     → ((text : List ℕ) × IsStepText input file cause index what text × PutsText p q text)
-    → IfOk r (λ _. (text : List ℕ) × IsCauseText input file cause index what text × PutsText q s text)
-    → IfOk r (λ _. (text : List ℕ) × IsDerivationText input file cause index what text × PutsText p s text)
+    → IfOk r
+    (λ _. (text : List ℕ) × IsCauseText input file cause index what text × PutsText q s text)
+    → IfOk r (λ _. (text : List ℕ) × IsDerivationText input file cause index what text
+    × PutsText p s text)
 derivation_text input file cause index what p q s (Ok u) front behind = (
   front.0 ++ behind.0,
   record { step = front.0; is_step = front.1; behind = behind.0; is_behind = behind.1; parts = refl },

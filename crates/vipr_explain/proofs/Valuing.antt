@@ -1,11 +1,12 @@
 -- The values at listed solutions, one after the other
-use Rattle.std.proofs.Common.{◌≡◌, ℕ, suc, ◌+◌, List, [], ◌∷◌, ◌++◌, map, length, Option, Some, None, false, true}
+use Rattle.std.proofs.Common.{◌≡◌, ℕ, suc, ◌+◌, List, [], ◌∷◌, ◌++◌, map, length, Option, Some}
+use Rattle.std.proofs.Common.{None, false, true}
 use Rattle.std.proofs.Common.{Result, Ok, Err, IfOk, ◌↔◌, refl, sym, ap, ◌∙◌, subst}
 use Rattle.std.specs.Option.{IsSome}
 use Rattle.std.specs.Prelude.{IsOk, nat_lt, if◌then◌else◌}
 use Rattle.std.proofs.Common.{◌≤◌, arith}
 use Rattle.std.proofs.lemmas.Bool.{le-ltb}
-use Rattle.std.specs.List.{All, enumerate_from, flat_map}
+use Rattle.std.specs.List.{enumerate_from, flat_map}
 use Rattle.std.proofs.lemmas.List.{append-nil, length-append, map-append}
 use Rattle.std.proofs.lemmas.List.Elements.{All-append, All-cons, All-nil}
 use Rattle.std.proofs.lemmas.List.Sums.{fold-append}
@@ -20,7 +21,7 @@ use Rattle.vipr_bytes.specs.Known.{IfKnown, text_of}
 use Rattle.vipr_scan.specs.Giving.{rest_of}
 use Rattle.vipr_read.specs.Items.{Items as Reader}
 use Rattle.vipr_read.specs.Parsing.{with_front}
-use Rattle.vipr_explain.specs.Primal.{AreListed, AreValues, IsNoPrimalText, IsValueAt, ShowsValue, ShowsValues}
+use Rattle.vipr_explain.specs.Primal.{AreListed, IsNoPrimalText, IsValueAt, ShowsValue, ShowsValues}
 use Rattle.vipr_explain.specs.Primal.{Valued, best_of, better_of, numbered_value, values_lines}
 use Rattle.vipr_explain.specs.Solutions.{best_text, primal_error, value_line}
 use Rattle.vipr_explain.specs.Written.{PutsText}
@@ -80,7 +81,8 @@ shows_next p number left k old new known total before now a b c s e next read so
 }
 
 pub shows_none : (p : Problem) (left : ℕ) (rest : Option Rest) (q : Page)
-    → ShowsPartWay p 0 left rest (IsSome rest) (read_each (solution_read p) left (rest_of rest)) None q q
+    → ShowsPartWay p 0 left rest (IsSome rest)
+    (read_each (solution_read p) left (rest_of rest)) None q q
 shows_none p left rest q = record {
   valued = [];
   shown = record { values = All-nil (λ (x : Valued). IsValueAt p x.0.item x.1); is_best = refl; text = puts_none q };
@@ -102,7 +104,8 @@ shows_all p number left rest known total best a b e so_far = (
 -- ---- the whole text
 
 listed_known : (input : Option Input) (p : Problem) (s s' : Reader) (solutions : List (Named Row))
-    → IfKnown input (λ i. (problem_read (text_of i) ≡ Ok ((p, s.left), rest_of s.rest)) × IsSome s.rest)
+    → IfKnown input
+    (λ i. (problem_read (text_of i) ≡ Ok ((p, s.left), rest_of s.rest)) × IsSome s.rest)
     → (IsSome s.rest → IsSome s'.rest
     × (read_each (solution_read p) s.left (rest_of s.rest) ≡ Ok (solutions, rest_of s'.rest)))
     → IfKnown input (λ i. AreListed (text_of i) p solutions)
@@ -113,10 +116,12 @@ listed_known input p s s' solutions problem read = known_by input
 
 pub values_found : (input : Option Input) (p : Problem) (s s' : Reader)
     (r : Result (Option ℚ) Missing) (a b : Page)
-    → IfKnown input (λ i. (problem_read (text_of i) ≡ Ok ((p, s.left), rest_of s.rest)) × IsSome s.rest)
+    → IfKnown input
+    (λ i. (problem_read (text_of i) ≡ Ok ((p, s.left), rest_of s.rest)) × IsSome s.rest)
     → IfOk r (λ best. (valued : List Valued) × ShowsValues p valued best a b
     × (IsSome s.rest → IsSome s'.rest
-    × (read_each (solution_read p) s.left (rest_of s.rest) ≡ Ok (map (λ x. x.0) valued, rest_of s'.rest))))
+    × (read_each (solution_read p) s.left (rest_of s.rest)
+    ≡ Ok (map (λ x. x.0) valued, rest_of s'.rest))))
     → IfOk r (λ best. (p : Problem) × (valued : List Valued) × ShowsValues p valued best a b
     × IfKnown input (λ i. AreListed (text_of i) p (map (λ x. x.0) valued)))
 values_found input p s s' (Ok best) a b problem h =

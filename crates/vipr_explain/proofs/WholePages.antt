@@ -1,8 +1,8 @@
 -- Whole pages
 use Rattle.std.proofs.Common.{◌≡◌, ℕ, ap, ◌∙◌, List, [], ◌∷◌, ◌++◌, Option, Some, None}
-use Rattle.std.proofs.Common.{IfSome, IfOk, Result, Ok, Err, codes, inr, refl, sym, map, false, slice_get, subst}
+use Rattle.std.proofs.Common.{IfSome, IfOk, Result, Ok, Err, codes, inr, refl, sym, map, false}
+use Rattle.std.proofs.Common.{slice_get, subst}
 use Rattle.std.proofs.Common.{option_map}
-use Rattle.std.specs.Prelude.{⊤}
 use Rattle.std.proofs.lemmas.Option.{slice_get-map}
 use Rattle.vipr_spec.specs.Certificate as is
 use Rattle.vipr_spec.specs.Constraint as spec
@@ -13,9 +13,6 @@ use Rattle.vipr_linear.specs.declared.constraint.Constraint.{Constraint}
 use Rattle.vipr_cert.specs.Items.{named_of}
 use Rattle.vipr_cert.specs.declared.items.Named.{Named}
 use Rattle.vipr_check.specs.declared.detail.Detail.{Detail}
-use Rattle.vipr_check.specs.declared.detail.Detail.TheVariants as detail
-use Rattle.vipr_check.specs.declared.verdict.Place.{Place}
-use Rattle.vipr_check.specs.declared.verdict.Place.TheVariants.{Byte, Sol, Der, End}
 use Rattle.vipr_check.specs.declared.verdict.Report.{Report}
 use Rattle.vipr_check.specs.declared.verdict.Verdict.{Verdict}
 use Rattle.vipr_check.specs.declared.verdict.Verdict.TheVariants.{Verified, Refused}
@@ -27,9 +24,8 @@ use Rattle.vipr_explain.specs.Found.{AreItemsOf, IsListedSolution, OnlyIf}
 use Rattle.vipr_explain.specs.Lacking.{LacksItem}
 use Rattle.vipr_explain.specs.Goals.{goal_line, proved_text}
 use Rattle.vipr_explain.specs.Solutions.{fault_lines, solution_error}
-use Rattle.vipr_explain.specs.Pages.{ExplainsPlace, ExplainsRefusal, ExplainsVerdict, IsPageFor}
-use Rattle.vipr_explain.specs.Pages.{IsClaimText, IsRefusalPage, IsVerdictPage, Says, SaysWith}
-use Rattle.vipr_explain.specs.Pages.{ShowsWith, UnlessStep, not_read, too_long}
+use Rattle.vipr_explain.specs.Pages.{ExplainsVerdict, IsPageFor, IsRefusalText, IsVerdictPage}
+use Rattle.vipr_explain.specs.Pages.{PutsSome, PutsSomeWith, ShowsWith, not_read, too_long}
 use Rattle.vipr_explain.specs.declared.items.ItemPlace.{ItemPlace}
 use Rattle.vipr_explain.specs.declared.missing.Missing.{Missing}
 use Rattle.vipr_explain.specs.declared.missing.Missing.TheVariants as missing
@@ -43,71 +39,26 @@ pub one_text : (p q : Page) (text : List ℕ) → p.bytes.items ≡ [] → PutsT
 one_text p q text empty puts fine =
     (puts.adds.law fine).1 ∙ ap (λ l. cut (l ++ shown_text text)) empty
 
-pub unless_step : (d : Detail) (P : Type 0) → P → UnlessStep d P
-unless_step (detail.NotWhole s v n x) P h = h
-unless_step (detail.Breaks s k n l sense x) P h = h
-unless_step (detail.SolutionOverflow s at) P h = h
-unless_step (detail.Step name what) P h = tt
-unless_step (detail.NoProof goal) P h = h
-unless_step (detail.NoPrimal bound) P h = h
-unless_step detail.None P h = h
-
-also_unless_step : (d : Detail) (P Q : Type 0) → (P → Q) → UnlessStep d P → UnlessStep d Q
-also_unless_step (detail.NotWhole s v n x) P Q f h = f h
-also_unless_step (detail.Breaks s k n l sense x) P Q f h = f h
-also_unless_step (detail.SolutionOverflow s at) P Q f h = f h
-also_unless_step (detail.Step name what) P Q f h = tt
-also_unless_step (detail.NoProof goal) P Q f h = f h
-also_unless_step (detail.NoPrimal bound) P Q f h = f h
-also_unless_step detail.None P Q f h = f h
-
 shows_with : (cause : ℕ) (IsText : List ℕ → Type 0) (p q r : Page) → p.bytes.items ≡ []
-    → PutsText p q (codes "\n") → r.has_failed ≡ false → SaysWith cause IsText q r
+    → PutsText p q (codes "\n") → r.has_failed ≡ false → PutsSomeWith cause IsText q r
     → ShowsWith cause IsText r.bytes.items
 shows_with cause IsText p q r empty front fine says =
     (says.0, says.1, one_text p r (codes "\n" ++ (says.0 ++ see_text cause)) empty (puts_then front says.2) fine)
 
-refusal_explained : (input : Option Input) (file : List ℕ) (cause : ℕ) (place : Place)
-    (d : Detail) (p q r : Page) → p.bytes.items ≡ [] → PutsText p q (codes "\n")
-    → ExplainsRefusal input file cause place d q r → r.has_failed ≡ false
-    → IsRefusalPage input file cause place d r.bytes.items
-refusal_explained input file cause (Byte offset) d p q r empty front says fine = tt
-refusal_explained input file cause (Sol number) d p q r empty front says fine =
-    shows_with cause (IsSolutionText input file number d) p q r empty front fine says
-refusal_explained input file cause (Der index) d p q r empty front says fine =
-    also_unless_step d _ _ (shows_with cause (IsClaimText input d) p q r empty front fine) says
-refusal_explained input file cause End d p q r empty front says fine =
-    shows_with cause (IsClaimText input d) p q r empty front fine says
-
-pub explained : (input : Option Input) (file : List ℕ) (v : Verdict) (d : Detail) (p q r : Page) → p.bytes.items ≡ []
+pub explained : (input : Option Input) (file : List ℕ) (v : Verdict) (d : Detail) (p q r : Page)
+    → p.bytes.items ≡ []
     → PutsText p q (codes "\n") → ExplainsVerdict input file v d q r → r.has_failed ≡ false
     → IsVerdictPage input file v d r.bytes.items
 explained input file (Verified report) d p q r empty front says fine =
     (says.0, says.1, one_text p r (codes "\n" ++ says.0) empty (puts_then front says.2) fine)
 explained input file (Refused refusal) d p q r empty front says fine =
-    refusal_explained input file refusal.cause refusal.place d p q r empty front says fine
+    shows_with refusal.cause (IsRefusalText input file refusal.cause refusal.place d) p q r empty front fine says
 
 -- a refusal with the line of its cause
-says_with : (cause : ℕ) (IsText : List ℕ → Type 0) (p q r : Page) → PutsText q r (see_text cause)
-    → Says IsText p q → SaysWith cause IsText p r
+pub says_with : (cause : ℕ) (IsText : List ℕ → Type 0) (p q r : Page)
+    → PutsText q r (see_text cause)
+    → PutsSome IsText p q → PutsSomeWith cause IsText p r
 says_with cause IsText p q r see says = (says.0, says.1, puts_then says.2 see)
-
-pub refused_with_cause : (input : Option Input) (file : List ℕ) (cause : ℕ) (place : Place)
-    (d : Detail) (p q r : Page) → ExplainsPlace input file cause place d p q
-    → PutsText q r (see_text cause) → ExplainsRefusal input file cause place d p r
-refused_with_cause input file cause (Byte offset) d p q r says see = tt
-refused_with_cause input file cause (Sol number) d p q r says see =
-    says_with cause (IsSolutionText input file number d) p q r see says
-refused_with_cause input file cause (Der index) d p q r says see =
-    also_unless_step d _ _ (says_with cause (IsClaimText input d) p q r see) says
-refused_with_cause input file cause End d p q r says see =
-    says_with cause (IsClaimText input d) p q r see says
-
--- a claim whose refusal is at a derivation
-pub claim_at : {A : Type 0} (d : Detail) (P : Type 0) (r : Result A Missing) → IfOk r (λ _. P)
-    → IfOk r (λ _. UnlessStep d P)
-claim_at d P (Ok x) h = unless_step d P h
-claim_at d P (Err e) h = tt
 
 -- the fixed lines are shown as they are
 long_shown : cut (shown_text too_long) ≡ too_long
@@ -148,7 +99,8 @@ goal_item_lines input goal p q (Ok u) item =
     (goal_line item.0 goal, (item.0, item.1, refl), item.2)
 goal_item_lines input goal p q (Err e) item = tt
 
-pub proved_lines : (input : Option Input) (report : Report) (p q s : Page) (r : Result (Unit {0}) Missing)
+pub proved_lines : (input : Option Input) (report : Report) (p q s : Page)
+    (r : Result (Unit {0}) Missing)
     → PutsText p q (proved_text report.claim)
     → IfOk r (λ _. (text : List ℕ) × IsGoalText input report.goal text × PutsText q s text)
     → IfOk r (λ _. (text : List ℕ) × IsProvedText input report text × PutsText p s text)
@@ -178,8 +130,3 @@ pub broken_is : (p : is.Problem) (cons : List (Named Constraint)) (index : ℕ) 
     → slice_get p.constraints index ≡ Some (named_of constraint_of c)
 broken_is p cons index c e is =
     ap (λ l. slice_get l index) (sym e) ∙ slice_get-map (named_of constraint_of) cons index ∙ ap (option_map (named_of constraint_of)) is
-
--- a call of which nothing is said
-pub says_nothing : (r : Result (Unit {0}) Missing) → IfOk r (λ _. ⊤)
-says_nothing (Ok u) = tt
-says_nothing (Err e) = tt

@@ -91,8 +91,8 @@ abbrev pub count_read : List ℕ → ℕ → ℕ → ℕ
 count_read wanted m n = min (fold max 0 wanted + 1 - m) n
 
 -- the derivations up to the greatest index that is wanted
-abbrev pub items_read : List ℕ → Rest → Read (List Derivation)
-items_read wanted r = head_read r >>= λ h.
+abbrev pub items_up_to : List ℕ → Rest → Read (List Derivation)
+items_up_to wanted r = head_read r >>= λ h.
     read_each (derivation_read h.0.0) (count_read wanted (length h.0.0.constraints) h.0.1) h.1
 
 -- those that are wanted among the next ones of these, the first of which has this index
@@ -137,7 +137,7 @@ AreItemsOf input wanted known = IfKnown input (λ i. AreFoundItems wanted (text_
 
 -- a read fails, or the text has a fault up to the greatest of these constraints
 abbrev pub LacksItems : List ℕ → Input → Type 0
-LacksItems wanted i = (i.fails ≡ true) ⊎ HasFault (items_read wanted (text_of i))
+LacksItems wanted i = (i.fails ≡ true) ⊎ HasFault (items_up_to wanted (text_of i))
 
 -- the problem can't be read, or the solution of this number isn't listed, or can't be read
 abbrev pub LacksListed : ℕ → Read (Problem × ℕ) → Type 0

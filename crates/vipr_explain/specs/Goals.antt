@@ -1,5 +1,5 @@
 -- What is said of what proves the claim
-use Rattle.std.specs.Prelude.{ℕ, List, [], ◌++◌, Option, Some, None, codes}
+use Rattle.std.specs.Prelude.{ℕ, List, ◌++◌, Option, Some, None, codes}
 use Rattle.vipr_spec.specs.Constraint as spec
 use Rattle.vipr_cert.specs.Text.{claim_text}
 use Rattle.vipr_cert.specs.declared.items.Claim.{Claim}

@@ -1,5 +1,6 @@
--- Why a verdict isn't explained of a text: a read of it fails, or the verdict isn't one of this text
-use Rattle.std.specs.Prelude.{◌≡◌, ⊤, ◌⊎◌, ℕ, ◌≤◌, true, List, [], ◌∷◌, length, Option, Some, None}
+-- Why a verdict isn't explained of a text: a read of it fails, or the verdict isn't one of this
+-- text
+use Rattle.std.specs.Prelude.{◌≡◌, ⊤, ◌⊎◌, ℕ, ◌≤◌, true, [], ◌∷◌, length, Option, Some, None}
 use Rattle.std.specs.Prelude.{Ok, Err}
 use Rattle.vipr_spec.specs.Input.{Input}
 use Rattle.vipr_spec.specs.Certificate.{Problem}

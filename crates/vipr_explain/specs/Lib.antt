@@ -10,7 +10,6 @@ pub mod Steps
 pub mod Solutions
 pub mod Goals
 pub mod Explained
-pub mod Pages
 pub mod Kept
 pub mod Places
 pub mod Letters
@@ -31,3 +30,4 @@ pub mod Primal
 pub mod Near
 pub mod Nearing
 pub mod Words
+pub mod Pages

@@ -1,6 +1,7 @@
 -- What is said of the constraints that come nearest, if none proves the claim
 use Rattle.std.specs.Prelude.{◌≡◌, ◌↔◌, ◌⊎◌, ℕ, ◌+◌, ◌-◌, ◌==◌, ◌||◌, Bool, true, false, IsTrue}
-use Rattle.std.specs.Prelude.{List, [], ◌∷◌, ◌++◌, length, map, drop, flat_map, fold, All, slice_get}
+use Rattle.std.specs.Prelude.{List, [], ◌∷◌, ◌++◌, length, map, drop, flat_map, fold, All}
+use Rattle.std.specs.Prelude.{slice_get}
 use Rattle.std.specs.Prelude.{Option, Some, None, Ok, nat_lt, pos, codes, decimal, if◌then◌else◌}
 use Rattle.std.specs.List.{list_any}
 use Rattle.std.specs.Ordering.{int_eq}
@@ -44,11 +45,11 @@ abbrev pub cut_by : Bool → Resting → Resting
 cut_by is_cut r = record { indices = r.indices; is_cut = r.is_cut || is_cut }
 
 -- those that another one rests on, but for one
-abbrev pub with_all : Option ℕ → Resting → Resting → Resting
-with_all without r other = cut_by other.is_cut (fold (with_one without) r other.indices)
+abbrev pub with_others : Option ℕ → Resting → Resting → Resting
+with_others without r other = cut_by other.is_cut (fold (with_one without) r other.indices)
 
 abbrev pub with_some : Option ℕ → Resting → Option Resting → Resting
-with_some without r (Some other) = with_all without r other
+with_some without r (Some other) = with_others without r other
 with_some without r None = r
 
 -- the same by its index, where the first derivation has this one: constraints of the problem rest
@@ -58,15 +59,15 @@ with_those without first all r index =
     if nat_lt index first then r else with_some without r (slice_get all (index - first))
 
 -- an entry of a sum
-abbrev pub with_entry : ℕ → List Resting → Resting → ℕ × ℚ → Resting
-with_entry first all r e =
+abbrev pub with_entry_of : ℕ → List Resting → Resting → ℕ × ℚ → Resting
+with_entry_of first all r e =
     if int_eq e.1.numer (pos 0) then r else with_those None first all r e.0
 
 -- what the derivation of this index rests on, by its reason
 abbrev pub resting_by : ℕ → List Resting → ℕ → is.Reason → Resting
 resting_by first all index is.asm = record { indices = index ∷ []; is_cut = false }
-resting_by first all index (is.lin es) = fold (with_entry first all) rests_on_none es
-resting_by first all index (is.rnd es) = fold (with_entry first all) rests_on_none es
+resting_by first all index (is.lin es) = fold (with_entry_of first all) rests_on_none es
+resting_by first all index (is.rnd es) = fold (with_entry_of first all) rests_on_none es
 resting_by first all index (is.uns i1 l1 i2 l2) =
     with_those (Some l2) first all (with_those (Some l1) first all rests_on_none i1) i2
 resting_by first all index is.sol = rests_on_none
@@ -80,11 +81,11 @@ IsNear (Some goal) c = ((j : ℕ) → spec.at c.row j ≡ spec.at goal.row j)
 IsNear None c = spec.IsAbsurd (spec.condition c)
 
 -- a derivation, and whether it is near
-abbrev pub Judged : Type 0
-Judged = is.Derivation × Bool
+abbrev pub Compared : Type 0
+Compared = is.Derivation × Bool
 
-abbrev pub AreJudged : Option spec.Constraint → List Judged → Type 0
-AreJudged goal judged = All (λ d. IsTrue d.1 ↔ IsNear goal d.0.stated) judged
+abbrev pub AreCompared : Option spec.Constraint → List Compared → Type 0
+AreCompared goal compared = All (λ d. IsTrue d.1 ↔ IsNear goal d.0.stated) compared
 
 -- a constraint that is near: its index, and what it rests on
 abbrev pub Near : Type 0
@@ -105,15 +106,15 @@ abbrev pub pass_as : Bool → List Resting → List Near → Near → Passed
 pass_as is_near all near this = (all ++ this.1 ∷ [], near_with is_near near this)
 
 -- one more derivation, behind those of the problem and those passed
-abbrev pub pass_one : ℕ → Passed → Judged → Passed
+abbrev pub pass_one : ℕ → Passed → Compared → Passed
 pass_one first passed d = pass_as d.1 passed.0 passed.1
     (first + length passed.0, resting_by first passed.0 (first + length passed.0) d.0.reason)
 
-abbrev pub pass_all : ℕ → List Judged → Passed
-pass_all first judged = fold (pass_one first) ([], []) judged
+abbrev pub pass_all : ℕ → List Compared → Passed
+pass_all first compared = fold (pass_one first) ([], []) compared
 
-abbrev pub nearest : ℕ → List Judged → List Near
-nearest first judged = (pass_all first judged).1
+abbrev pub nearest : ℕ → List Compared → List Near
+nearest first compared = (pass_all first compared).1
 
 -- ---- what is said of them
 
@@ -178,9 +179,9 @@ pub record AreDerived (text : Rest) (p : is.Problem) (derivations : List is.Deri
 pub record AreNearest (input : Option Input) (goal : Option spec.Constraint) (near : List Near)
     : Type 0 where
   pub problem : is.Problem
-  pub derivations : List Judged
+  pub derivations : List Compared
   pub derived : IfKnown input (λ i. AreDerived (text_of i) problem (map (λ d. d.0) derivations))
-  pub judged : AreJudged goal derivations
+  pub compared : AreCompared goal derivations
   pub last : near ≡ nearest (length problem.constraints) derivations
 
 -- the lines of constraints that are near

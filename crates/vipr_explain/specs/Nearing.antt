@@ -1,5 +1,5 @@
 -- The constraints that come nearest, as they are found one after the other
-use Rattle.std.specs.Prelude.{◌≡◌, ◌↔◌, Bool, IsTrue, List, map, Option}
+use Rattle.std.specs.Prelude.{◌≡◌, ◌↔◌, Bool, IsTrue, map, Option}
 use Rattle.vipr_spec.specs.Certificate as is
 use Rattle.vipr_spec.specs.Constraint as spec
 use Rattle.vipr_explain.specs.Near as near
@@ -17,5 +17,5 @@ passed_of p = (p.all.items, map near_of p.near.items)
 pub record PassesNext (goal : Option spec.Constraint) (d : is.Derivation) (old new : Passed)
     : Type 0 where
   pub is_near : Bool
-  pub judged : IsTrue is_near ↔ near.IsNear goal d.stated
+  pub compared : IsTrue is_near ↔ near.IsNear goal d.stated
   pub passed : passed_of new ≡ near.pass_one old.first (passed_of old) (d, is_near)

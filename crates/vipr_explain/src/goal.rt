@@ -1,5 +1,6 @@
 //! Explains what proves the claim, and which constraints come nearest if none does.
-ghost use Rattle.std.specs.Prelude.{◌≡◌, ◌∷◌, ◌++◌, ◌⊎◌, [], true, codes, IfErr, IfOk, List, Some, flat_map, map, option_map};
+ghost use Rattle.std.specs.Prelude.{◌≡◌, ◌∷◌, ◌++◌, ◌⊎◌, [], true, codes, IfErr, IfOk, List, Some};
+ghost use Rattle.std.specs.Prelude.{flat_map, map, option_map};
 ghost use Rattle.std.specs.Prelude.{ℕ};
 ghost use Rattle.vipr_bytes.specs.Known.{text_of};
 ghost use Rattle.vipr_linear.specs.Constraint.{constraint_of};
@@ -40,7 +41,8 @@ pub(crate) fn put_goal<T: Text>(
     ensures shown { IfOk result (λ _. (text : List ℕ)
         × IsProvedText (T.input subject.now.text.now) report.now text
         × PutsText page.old page.new text) }
-    ensures error { IfErr result (OnlyIf (T.input subject.now.text.now) (LacksGoal report.now.goal)) }
+    ensures error { IfErr result
+        (OnlyIf (T.input subject.now.text.now) (LacksGoal report.now.goal)) }
 {
     let claim = &report.claim;
     page.put_value(&format_args!("proved: {claim}\n"));
@@ -97,7 +99,8 @@ pub(crate) fn put_no_proof<T: Text>(
     ensures shown { IfOk result (λ _. (text : List ℕ)
         × IsNoProofText (T.input subject.now.text.now)
         (option_map (λ c. constraint_of c.now) goal.entry) text × PutsText page.old page.new text) }
-    ensures error { IfErr result (OnlyIf (T.input subject.now.text.now) (λ i. (i.fails ≡ true) ⊎ HasFault (all_derivations_read (text_of i)))) }
+    ensures error { IfErr result (OnlyIf (T.input subject.now.text.now)
+        (λ i. (i.fails ≡ true) ⊎ HasFault (all_derivations_read (text_of i)))) }
 {
     let near = find_near(subject.alloc, subject.text, goal)?;
     let nearest = near.as_slice();
@@ -127,7 +130,8 @@ fn head_of(near: &[Near]) -> &'static str
 fn known_of<T: Text>(subject: &Subject<'_, T>, near: &[Near]) -> Result<PlacedItems, Missing>
     ensures found { IfOk result (AreItemsOf (T.input subject.now.text.now)
         (map (λ n. n.0) (map near_of near.now))) }
-    ensures error { IfErr result (OnlyIf (T.input subject.now.text.now) (λ i. (i.fails ≡ true) ⊎ HasFault (all_derivations_read (text_of i)))) }
+    ensures error { IfErr result (OnlyIf (T.input subject.now.text.now)
+        (λ i. (i.fails ≡ true) ⊎ HasFault (all_derivations_read (text_of i)))) }
 {
     let indices = indices_of(subject.alloc, near)?;
     PlacedItems::read(subject, indices.as_slice())

@@ -15,7 +15,7 @@ ghost use Rattle.vipr_explain.specs.Found.{Finds, WerePassed, derivations_behind
 ghost use Rattle.vipr_explain.specs.Found.{nth_read, numbered_of, wanted_among};
 ghost use Rattle.vipr_explain.specs.Found.{HasKeptItems, KeepsNext, AreFoundItems};
 ghost use Rattle.vipr_explain.specs.Found.{Because, HasFault, IsListedSolution, Missed, OnlyIf};
-ghost use Rattle.vipr_explain.specs.Found.{LacksListed, count_read, items_read};
+ghost use Rattle.vipr_explain.specs.Found.{LacksListed, count_read, items_up_to};
 ghost use Rattle.vipr_explain.specs.Words.{IsReading};
 
 use crate::missing::Missing;
@@ -257,7 +257,8 @@ pub(crate) fn read_solution<T: Text>(
 ) -> Result<(Problem, Named<Solution>), Missing>
     ensures found { IfOk result (λ x. IfKnown (T.input text.now)
         (λ i. IsListedSolution number (text_of i) x.0 (solution_of x.1))) }
-    ensures error { IfErr result (OnlyIf (T.input text.now) (λ i. LacksListed number (problem_read (text_of i)))) }
+    ensures error { IfErr result
+        (OnlyIf (T.input text.now) (λ i. LacksListed number (problem_read (text_of i)))) }
 {
     let (problem, mut solutions) = open_problem(alloc, text)?;
     Ok((problem, nth_solution(alloc, &mut solutions, number)?))
@@ -291,7 +292,8 @@ fn nth_solution<R: Source>(
 pub(crate) fn read_items<T: Text>(alloc: Global, text: &T, wanted: &[u32]) -> Result<Items, Missing>
     ensures found { IfOk result (λ items. IfKnown (T.input text.now)
         (λ i. AreFoundItems wanted.now (text_of i) items)) }
-    ensures error { IfErr result (OnlyIf (T.input text.now) (λ i. HasFault (items_read wanted.now (text_of i)))) }
+    ensures error { IfErr result
+        (OnlyIf (T.input text.now) (λ i. HasFault (items_up_to wanted.now (text_of i)))) }
 {
     let (problem, mut derivations) = open_derivations(alloc, text)?;
     let mut items = Items {

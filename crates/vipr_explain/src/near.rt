@@ -1,6 +1,8 @@
 //! Finds the constraints that come nearest to a claim, and the assumptions that they rest on.
-ghost use Rattle.std.specs.Prelude.{◌≡◌, ◌≤◌, ◌<◌, ◌+◌, ◌-◌, ◌^◌, ◌∷◌, ◌++◌, ◌↔◌, [], ℕ, IsTrue, List};
-ghost use Rattle.std.specs.Prelude.{IfErr, IfOk, IsSome, OnOk, Option, drop, fold, length, map, option_map};
+ghost use Rattle.std.specs.Prelude.{◌≡◌, ◌≤◌, ◌<◌, ◌+◌, ◌-◌, ◌^◌, ◌∷◌, ◌++◌, ◌↔◌, [], ℕ, IsTrue};
+ghost use Rattle.std.specs.Prelude.{List};
+ghost use Rattle.std.specs.Prelude.{IfErr, IfOk, IsSome, OnOk, Option, drop, fold, length, map};
+ghost use Rattle.std.specs.Prelude.{option_map};
 ghost use Rattle.std.specs.Prelude.{slice_get, suc};
 ghost use Rattle.vipr_spec.specs.Certificate.{Derivation as DerivationMeant};
 ghost use Rattle.vipr_spec.specs.Certificate.{Problem as ProblemMeant};
@@ -11,9 +13,9 @@ ghost use Rattle.vipr_linear.specs.Constraint.{constraint_of};
 ghost use Rattle.vipr_cert.specs.Items.{derivation_of, reason_of};
 ghost use Rattle.vipr_read.specs.Items.{Knows, Remembers};
 ghost use Rattle.vipr_explain.specs.Found.{HasFault, Missed, OnlyIf, all_derivations_read};
-ghost use Rattle.vipr_explain.specs.Near.{AreJudged, AreNearest, IsNear, Judged, Resting};
+ghost use Rattle.vipr_explain.specs.Near.{AreCompared, AreNearest, IsNear, Compared, Resting};
 ghost use Rattle.vipr_explain.specs.Near.{last_three, leaves_out, near_with, nearest, resting_by};
-ghost use Rattle.vipr_explain.specs.Near.{rests_on_none, with_all, with_entry, with_one};
+ghost use Rattle.vipr_explain.specs.Near.{rests_on_none, with_others, with_entry_of, with_one};
 ghost use Rattle.vipr_explain.specs.Near.{with_those};
 ghost use Rattle.vipr_explain.specs.Nearing.{PassesNext, near_of, passed_of};
 
@@ -74,7 +76,8 @@ pub(crate) fn find_near<T: Text>(
 ) -> Result<Vec<Near>, Missing>
     ensures found { IfOk result (λ near. AreNearest (T.input text.now)
         (option_map (λ c. constraint_of c.now) goal.entry) (map near_of near.items)) }
-    ensures error { IfErr result (OnlyIf (T.input text.now) (λ i. HasFault (all_derivations_read (text_of i)))) }
+    ensures error { IfErr result
+        (OnlyIf (T.input text.now) (λ i. HasFault (all_derivations_read (text_of i)))) }
 {
     let (problem, mut derivations) = open_derivations(alloc, text)?;
     let first = problem.cons().len();
@@ -89,12 +92,12 @@ fn find_among<R: Source + Drop>(
     goal: Option<&Constraint>,
 ) -> Result<Vec<Near>, Missing>
     requires { first + derivations.old.left < 2 ^ 32 }
-    ensures found { IfOk result (λ near. (judged : List Judged)
-        × AreJudged (option_map (λ c. constraint_of c.now) goal.entry) judged
-        × (map near_of near.items ≡ nearest first judged)
+    ensures found { IfOk result (λ near. (compared : List Compared)
+        × AreCompared (option_map (λ c. constraint_of c.now) goal.entry) compared
+        × (map near_of near.items ≡ nearest first compared)
         × ((p : ProblemMeant) → Knows derivations.old p → IsSome derivations.old.rest
         → read_each (derivation_read p) derivations.old.left (rest_of derivations.old.rest)
-        ≡ Ok (map (λ d. d.0) judged, rest_of derivations.new.rest))) }
+        ≡ Ok (map (λ d. d.0) compared, rest_of derivations.new.rest))) }
     ensures error { (p : ProblemMeant) → Knows derivations.old p → IsSome derivations.old.rest
         → IfErr result (λ m. Missed m (read_each (derivation_read p) derivations.old.left
         (rest_of derivations.old.rest))) }
@@ -276,7 +279,7 @@ fn add_entries(
     first: usize,
     all: &[Bases],
 ) -> Result<(), AllocError>
-    ensures { OnOk result (bases.new ≡ fold (with_entry first all.now) bases.old entries.now) }
+    ensures { OnOk result (bases.new ≡ fold (with_entry_of first all.now) bases.old entries.now) }
 {
     for entry in entries {
         add_entry(bases, *entry, first, all)?;
@@ -291,7 +294,7 @@ fn add_entry(
     first: usize,
     all: &[Bases],
 ) -> Result<(), AllocError>
-    ensures { OnOk result (bases.new ≡ with_entry first all.now bases.old entry) }
+    ensures { OnOk result (bases.new ≡ with_entry_of first all.now bases.old entry) }
 {
     if entry.1.numer() == 0 {
         return Ok(());
@@ -321,7 +324,7 @@ fn add_of(
 
 // Adds assumptions, but for one.
 fn add_all(bases: &mut Bases, other: &Bases, without: Option<u32>) -> Result<(), AllocError>
-    ensures { OnOk result (bases.new ≡ with_all without bases.old other.now) }
+    ensures { OnOk result (bases.new ≡ with_others without bases.old other.now) }
 {
     for index in &other.indices {
         add_one(bases, *index, without)?;

@@ -29,7 +29,8 @@ impl PlacedItems {
         wanted: &[u32],
     ) -> Result<PlacedItems, Missing>
         ensures found { IfOk result (AreItemsOf (T.input subject.now.text.now) wanted.now) }
-        ensures error { IfErr result (OnlyIf (T.input subject.now.text.now) (LacksItems wanted.now)) }
+        ensures error { IfErr result
+            (OnlyIf (T.input subject.now.text.now) (LacksItems wanted.now)) }
     {
         Ok(PlacedItems {
             items: read_items(subject.alloc, subject.text, wanted)?,

@@ -1,7 +1,8 @@
 //! Explains a listed solution that is refused, and a primal bound that no listed one
 //! attains.
 ghost use Rattle.std.specs.Prelude.{◌≡◌, ◌≤◌, ◌⊎◌, true, IfErr, IfOk, IfSome, List, codes, length};
-ghost use Rattle.std.specs.Prelude.{[], if◌then◌else◌, nat_lt, slice_get, ℕ, ◌<◌, IsSome, Ok, OnOk, Some, map, suc};
+ghost use Rattle.std.specs.Prelude.{[], if◌then◌else◌, nat_lt, slice_get, ℕ, ◌<◌, IsSome, Ok, OnOk};
+ghost use Rattle.std.specs.Prelude.{Some, map, suc};
 ghost use Rattle.vipr_spec.specs.Certificate.{Named as NamedMeant, Problem as ProblemMeant};
 ghost use Rattle.vipr_spec.specs.Constraint.{Row as RowMeant};
 ghost use Rattle.vipr_spec.specs.Reading.{read_each, solution_read};
@@ -55,7 +56,8 @@ pub(crate) fn put_solution<T: Text>(
     ensures shown { IfOk result (λ _. (text : List ℕ)
         × IsSolutionText (T.input subject.now.text.now) subject.now.file.now number detail.now text
         × PutsText page.old page.new text) }
-    ensures error { IfErr result (OnlyIf (T.input subject.now.text.now) (LacksSolution number detail.now)) }
+    ensures error { IfErr result
+        (OnlyIf (T.input subject.now.text.now) (LacksSolution number detail.now)) }
 {
     let (problem, solution) = read_solution(subject.alloc, subject.text, number)?;
     put_error(page, number, &solution, detail);
@@ -73,7 +75,8 @@ fn put_detail<T: Text>(
 ) -> Result<(), Missing>
     ensures shown { IfOk result (λ _. (places : List ItemPlace) × PutsText page.old page.new
         (fault_lines problem.now places solution.now.0 detail.now)) }
-    ensures error { IfErr result (OnlyIf (T.input subject.now.text.now) (λ i. (i.fails ≡ true) ⊎ LacksBroken detail.now problem.now)) }
+    ensures error { IfErr result (OnlyIf (T.input subject.now.text.now)
+        (λ i. (i.fails ≡ true) ⊎ LacksBroken detail.now problem.now)) }
 {
     match detail {
         Detail::NotWhole {
@@ -180,7 +183,8 @@ fn put_broken<T: Text>(
     ensures shown { IfOk result (λ _. (places : List ItemPlace) × PutsText page.old page.new
         (broken_text problem.now.names places index solution.now.0 left
         (slice_get problem.now.constraints index))) }
-    ensures error { IfErr result (OnlyIf (T.input subject.now.text.now) (λ i. (i.fails ≡ true) ⊎ (length problem.now.constraints ≤ index))) }
+    ensures error { IfErr result (OnlyIf (T.input subject.now.text.now)
+        (λ i. (i.fails ≡ true) ⊎ (length problem.now.constraints ≤ index))) }
 {
     match problem.cons().get(index as usize) {
         Some(broken) => {
@@ -250,7 +254,8 @@ pub(crate) fn put_no_primal<T: Text>(
     ensures shown { IfOk result (λ _. (text : List ℕ)
         × IsNoPrimalText (T.input subject.now.text.now) bound text
         × PutsText page.old page.new text) }
-    ensures error { IfErr result (OnlyIf (T.input subject.now.text.now) (λ i. HasFault (all_solutions_read (text_of i)))) }
+    ensures error { IfErr result
+        (OnlyIf (T.input subject.now.text.now) (λ i. HasFault (all_solutions_read (text_of i)))) }
 {
     put_primal_error(page, bound);
     let best = put_values_listed(page, subject)?;
@@ -292,7 +297,8 @@ fn put_values_listed<T: Text>(
         × ShowsValues p valued best page.old page.new
         × IfKnown (T.input subject.now.text.now)
         (λ i. AreListed (text_of i) p (map (λ s. s.0) valued))) }
-    ensures error { IfErr result (OnlyIf (T.input subject.now.text.now) (λ i. HasFault (all_solutions_read (text_of i)))) }
+    ensures error { IfErr result
+        (OnlyIf (T.input subject.now.text.now) (λ i. HasFault (all_solutions_read (text_of i)))) }
 {
     let (problem, mut solutions) = open_problem(subject.alloc, subject.text)?;
     put_all_values(page, subject.alloc, &problem, &mut solutions)

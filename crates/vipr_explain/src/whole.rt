@@ -1,10 +1,11 @@
 //! The whole explanation of a verdict.
 ghost use Rattle.std.specs.Prelude.{◌≡◌, IfErr, IfOk, IfSome, option_map};
 ghost use Rattle.vipr_explain.specs.Found.{OnlyIf};
-ghost use Rattle.vipr_explain.specs.Lacking.{LacksClaim, LacksItem, LacksPlace};
+ghost use Rattle.vipr_explain.specs.Lacking.{LacksClaim, LacksDerivation, LacksItem, LacksPlace};
 ghost use Rattle.vipr_explain.specs.Page.{cut, shown_text};
-ghost use Rattle.vipr_explain.specs.Pages.{ExplainsVerdict, ExplainsPlace, IsVerdictPage};
-ghost use Rattle.vipr_explain.specs.Pages.{IsClaimText, IsPageFor, Says, not_read};
+ghost use Rattle.vipr_explain.specs.Pages.{ExplainsVerdict, IsClaimText, IsPageFor};
+ghost use Rattle.vipr_explain.specs.Pages.{IsRefusalText, IsTextAt, IsVerdictPage, PutsSome};
+ghost use Rattle.vipr_explain.specs.Pages.{not_read};
 
 use crate::derivation::put_derivation;
 use crate::goal::{put_goal, put_no_proof};
@@ -98,7 +99,8 @@ fn put_verdict<T: Text>(
 ) -> Result<(), Missing>
     ensures shown { IfOk result (λ _. ExplainsVerdict (T.input subject.now.text.now)
         subject.now.file.now verdict.now detail.now page.old page.new) }
-    ensures error { IfErr result (OnlyIf (T.input subject.now.text.now) (LacksItem verdict.now detail.now)) }
+    ensures error { IfErr result
+        (OnlyIf (T.input subject.now.text.now) (LacksItem verdict.now detail.now)) }
 {
     match verdict {
         Verdict::Verified(report) => put_goal(page, subject, report),
@@ -118,18 +120,40 @@ fn put_refusal<T: Text>(
     refusal: &Refusal,
     detail: &Detail,
 ) -> Result<(), Missing>
-    ensures shown { IfOk result (λ _. ExplainsPlace (T.input subject.now.text.now)
-        subject.now.file.now refusal.now.cause refusal.now.place detail.now page.old page.new) }
-    ensures error { IfErr result (OnlyIf (T.input subject.now.text.now) (LacksPlace refusal.now.place detail.now)) }
+    ensures shown { IfOk result (λ _. PutsSome (IsRefusalText (T.input subject.now.text.now)
+        subject.now.file.now refusal.now.cause refusal.now.place detail.now) page.old page.new) }
+    ensures error { IfErr result
+        (OnlyIf (T.input subject.now.text.now) (LacksPlace refusal.now.place detail.now)) }
 {
     match refusal.place {
         Place::Byte(offset) => put_syntax(page, subject, refusal.cause, offset),
         Place::Sol(number) => put_solution(page, subject, number, detail),
-        Place::Der(index) => match detail {
-            Detail::Step { what, .. } => put_derivation(page, subject, refusal.cause, index, what),
-            _ => put_claim(page, subject, detail),
-        },
+        Place::Der(index) => put_at(page, subject, refusal.cause, index, detail),
         Place::End => put_claim(page, subject, detail),
+    }
+}
+
+// Explains a refusal at a derivation: of that, or of a claim that nothing proves.
+fn put_at<T: Text>(
+    page: &mut Page,
+    subject: &Subject<'_, T>,
+    cause: u8,
+    index: u32,
+    detail: &Detail,
+) -> Result<(), Missing>
+    ensures shown { IfOk result (λ _. PutsSome (IsTextAt (T.input subject.now.text.now)
+        subject.now.file.now cause index detail.now) page.old page.new) }
+    ensures error { IfErr result (OnlyIf (T.input subject.now.text.now)
+        (LacksDerivation detail.now)) }
+{
+    match detail {
+        Detail::Step { what, .. } => put_derivation(page, subject, cause, index, what),
+        Detail::NoProof(goal) => put_no_proof(page, subject, goal.as_ref()),
+        Detail::NoPrimal(bound) => put_no_primal(page, subject, *bound),
+        Detail::NotWhole { .. } => Ok(()),
+        Detail::Breaks { .. } => Ok(()),
+        Detail::SolutionOverflow { .. } => Ok(()),
+        Detail::None => Ok(()),
     }
 }
 
@@ -139,7 +163,8 @@ fn put_claim<T: Text>(
     subject: &Subject<'_, T>,
     detail: &Detail,
 ) -> Result<(), Missing>
-    ensures shown { IfOk result (λ _. Says (IsClaimText (T.input subject.now.text.now) detail.now)
+    ensures shown { IfOk result
+        (λ _. PutsSome (IsClaimText (T.input subject.now.text.now) detail.now)
         page.old page.new) }
     ensures error { IfErr result (OnlyIf (T.input subject.now.text.now) (LacksClaim detail.now)) }
 {

@@ -1,5 +1,5 @@
 use Rattle.std.proofs.Common.{rules}
-use Rattle.vipr_explain.proofs.Nearby.{all_taken, taken_index}
+use Rattle.vipr_explain.proofs.Nearby.{taken_index}
 use Rattle.vipr_explain.proofs.goal.indices_of.Goals as goal
 
 pub loop-item-preserved : goal.loop-item-preserved

@@ -1,6 +1,4 @@
-use Rattle.std.proofs.Common.{ap, take, ◌++◌, map, sym}
-use Rattle.std.proofs.lemmas.List.{take_all}
-use Rattle.vipr_explain.specs.Near.{AreNearLines}
+use Rattle.std.proofs.Common.{take, map}
 use Rattle.vipr_explain.specs.Nearing.{near_of}
 use Rattle.vipr_explain.proofs.Nearby.{all_lines, lines_more, lines_none, taken_more}
 use Rattle.vipr_explain.proofs.goal.put_all_near.Goals as goal

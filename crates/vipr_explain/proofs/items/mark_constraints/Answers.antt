@@ -2,7 +2,10 @@ use Rattle.std.proofs.Common.{◌∙◌, sym, subst, ◌≡◌, true}
 use Rattle.vipr_explain.specs.Words.{IsReading}
 use Rattle.vipr_explain.proofs.Lacks.{err_if_text}
 use Rattle.vipr_explain.proofs.items.mark_constraints.Goals as goal
-use Rattle.vipr_explain.proofs.items.mark_constraints.Goals.{else-loop-test, then-loop-test+then-is_past, then-is_past-via-then-is_past, then-is_past-via-else-is_past+then-not-next}
+use Rattle.vipr_explain.proofs.items.mark_constraints.Goals.{else-loop-test}
+use Rattle.vipr_explain.proofs.items.mark_constraints.Goals.{then-loop-test+then-is_past}
+use Rattle.vipr_explain.proofs.items.mark_constraints.Goals.{then-is_past-via-then-is_past}
+use Rattle.vipr_explain.proofs.items.mark_constraints.Goals.{then-is_past-via-else-is_past+then-not-next}
 
 pub returns : goal.returns
 returns g c = record {

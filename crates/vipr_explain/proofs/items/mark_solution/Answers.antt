@@ -1,7 +1,8 @@
 use Rattle.std.proofs.Common.{sym, subst}
 use Rattle.vipr_explain.specs.Words.{IsReading}
 use Rattle.vipr_explain.proofs.items.mark_solution.Goals as goal
-use Rattle.vipr_explain.proofs.items.mark_solution.Goals.{then-eq-via-then-eq, then-eq-via-else-eq+then-not-next}
+use Rattle.vipr_explain.proofs.items.mark_solution.Goals.{then-eq-via-then-eq}
+use Rattle.vipr_explain.proofs.items.mark_solution.Goals.{then-eq-via-else-eq+then-not-next}
 
 pub returns-then-eq : goal.returns-then-eq
 returns-then-eq g c = record {

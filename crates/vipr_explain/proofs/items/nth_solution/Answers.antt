@@ -1,4 +1,4 @@
-use Rattle.std.proofs.Common.{◌+◌, ◌-◌, ◌<◌, Ok, arith, inl}
+use Rattle.std.proofs.Common.{◌<◌, Ok, arith}
 use Rattle.std.proofs.lemmas.Result.{err_from_is_err_and}
 use Rattle.vipr_spec.specs.Reading.{solution_read}
 use Rattle.vipr_scan.specs.Giving.{rest_of}

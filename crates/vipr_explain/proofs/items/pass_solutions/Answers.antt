@@ -5,7 +5,8 @@ use Rattle.vipr_scan.specs.Giving.{rest_of}
 use Rattle.vipr_cert.specs.Items.{solution_of}
 use Rattle.vipr_read.specs.Items.{HasNone}
 use Rattle.vipr_explain.specs.Missed.{missing_of}
-use Rattle.vipr_explain.proofs.Again.{ends, turned, passed, still_knows, remembers_both, one_missed, missed_next}
+use Rattle.vipr_explain.proofs.Again.{ends, turned, passed, still_knows, remembers_both, one_missed}
+use Rattle.vipr_explain.proofs.Again.{missed_next}
 use Rattle.vipr_explain.proofs.items.pass_solutions.Goals as goal
 
 pub loop-preserved : goal.loop-preserved

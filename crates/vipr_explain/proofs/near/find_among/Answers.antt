@@ -1,5 +1,5 @@
 use Rattle.std.proofs.Common.{rules}
-use Rattle.std.proofs.Common.{◌≡◌, ◌+◌, ◌-◌, ◌<◌, Ok, map, refl, arith}
+use Rattle.std.proofs.Common.{map, refl, arith}
 use Rattle.std.proofs.lemmas.Result.{err_from_is_err_and}
 use Rattle.vipr_spec.specs.Reading.{derivation_read}
 use Rattle.vipr_scan.specs.Giving.{rest_of}
@@ -43,7 +43,7 @@ returns-in_err-read_next-clause-error g c p knows known =
     let so_far = c.loop-number.invariant in
     let m = c.in_err-read_next.field-0.0 in
     let part = so_far.passed.part p knows known in
-    rw (q.1, q.2) (next_missed (derivation_read p) m (map (λ d. d.0) so_far.passed.judged) _ (rest_of old.rest) _
+    rw (q.1, q.2) (next_missed (derivation_read p) m (map (λ d. d.0) so_far.passed.compared) _ (rest_of old.rest) _
     (c.in_err-read_next.ensures.error p (still_knows c.args.derivations.now old p so_far.remembers knows) part.0) part.1 (omega arith))
 
 pub returns-clause-found : goal.returns-clause-found

@@ -6,7 +6,8 @@ use Rattle.vipr_bytes.specs.Known.{text_of}
 use Rattle.vipr_scan.specs.Giving.{rest_of}
 use Rattle.vipr_explain.specs.Found.{Missed, head_read}
 use Rattle.vipr_explain.specs.Nearing.{near_of}
-use Rattle.vipr_explain.proofs.Lacks.{derivations_first_missed, derivations_then_missed, err_after, only_after}
+use Rattle.vipr_explain.proofs.Lacks.{derivations_first_missed, derivations_then_missed, err_after}
+use Rattle.vipr_explain.proofs.Lacks.{only_after}
 use Rattle.vipr_explain.proofs.Nearby.{nearest_found}
 use Rattle.vipr_explain.proofs.near.find_near.Goals as goal
 

@@ -1,4 +1,4 @@
-use Rattle.std.proofs.Common.{◌≡◌, ◌≤◌, ◌-◌, length, ap, sym, rules, arith, drop}
+use Rattle.std.proofs.Common.{◌≡◌, ◌≤◌, ◌-◌, length, ap, sym, arith, drop}
 use Rattle.vipr_explain.proofs.near.make_room.Goals as goal
 
 pub returns-then-len-lt-MOST_SHOWN : goal.returns-then-len-lt-MOST_SHOWN

@@ -3,7 +3,7 @@ use Rattle.std.proofs.lemmas.Option.{slice_get_read}
 use Rattle.vipr_explain.specs.Solutions.{broken_text}
 use Rattle.vipr_explain.proofs.Putting.{puts_same, puts_then}
 use Rattle.vipr_explain.proofs.WholePages.{broken_is}
-use Rattle.std.proofs.Common.{◌≡◌, ◌⊎◌, ◌≤◌, ◌∙◌, true, inl, inr, arith}
+use Rattle.std.proofs.Common.{◌≡◌, ◌∙◌, inl, inr, arith}
 use Rattle.std.proofs.lemmas.List.{length-map}
 use Rattle.std.proofs.lemmas.Result.{err_from_is_err_and}
 use Rattle.vipr_explain.proofs.Lacks.{all_known, only_if}

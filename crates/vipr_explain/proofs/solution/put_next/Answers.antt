@@ -1,9 +1,8 @@
-use Rattle.std.proofs.Common.{Ok, arith, inl, inr, subst, sym}
+use Rattle.std.proofs.Common.{Ok, subst}
 use Rattle.std.proofs.lemmas.Result.{err_from_is_err_and}
 use Rattle.vipr_spec.specs.Reading.{solution_read}
 use Rattle.vipr_cert.specs.Items.{solution_of}
 use Rattle.vipr_read.specs.Items.{NextIs}
-use Rattle.vipr_explain.specs.Missed.{missing_of}
 use Rattle.vipr_explain.proofs.Again.{missed_next}
 use Rattle.vipr_explain.proofs.solution.put_next.Goals as goal
 

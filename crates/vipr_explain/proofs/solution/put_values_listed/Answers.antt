@@ -5,7 +5,8 @@ use Rattle.vipr_spec.specs.Reading.{problem_read}
 use Rattle.vipr_bytes.specs.Known.{text_of}
 use Rattle.vipr_scan.specs.Giving.{rest_of}
 use Rattle.vipr_explain.specs.Found.{Missed}
-use Rattle.vipr_explain.proofs.Lacks.{err_after, only_after, solutions_first_missed, solutions_then_missed}
+use Rattle.vipr_explain.proofs.Lacks.{err_after, only_after, solutions_first_missed}
+use Rattle.vipr_explain.proofs.Lacks.{solutions_then_missed}
 use Rattle.vipr_explain.proofs.Valuing.{values_found}
 use Rattle.vipr_explain.proofs.solution.put_values_listed.Goals as goal
 

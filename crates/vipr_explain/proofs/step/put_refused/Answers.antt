@@ -19,7 +19,7 @@ returns g c =
       _,
       record {
         known = known;
-        found = subst (λ (wanted : List ℕ). IfKnown (g.T.Text.input c.args.subject.now.text.now) (λ i. AreFoundItems wanted (text_of i) known.items)) (c.as_slice.ensures.value ∙ c.in_ok-wanted.ensures) c.in_ok-known.ensures;
+        found = subst (λ (wanted : List ℕ). IfKnown (g.T.Text.input c.args.subject.now.text.now) (λ i. AreFoundItems wanted (text_of i) known.items)) (c.as_slice.ensures.value ∙ c.in_ok-wanted.ensures) c.in_ok-known.ensures.found;
         place = place.0;
         is_place = subst (λ (marks : List ItemPlace). IsSpotText (g.T.Text.input c.args.subject.now.text.now) c.args.subject.now.file.now (codes "this derivation") (option_map name_spot (place_found marks c.args.index)) place.0) c.as_slice-2.ensures.value place.1;
         detail = detail.0;

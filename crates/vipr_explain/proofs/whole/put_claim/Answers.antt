@@ -1,7 +1,7 @@
 use Rattle.std.proofs.Common.{◌≡◌, [], refl, rules, subst, option_map, IfOk}
 use Rattle.vipr_linear.specs.Constraint.{constraint_of}
 use Rattle.vipr_explain.specs.Near.{IsNoProofText}
-use Rattle.vipr_explain.specs.Pages.{Says}
+use Rattle.vipr_explain.specs.Pages.{PutsSome}
 use Rattle.vipr_explain.proofs.Putting.{puts_none}
 use Rattle.vipr_explain.proofs.whole.put_claim.Goals as goal
 
@@ -23,7 +23,7 @@ returns-in-None-clause-shown g c = ([], rw c.in-None.is refl, puts_none c.args.p
 pub returns-in-NoProof-clause-shown : goal.returns-in-NoProof-clause-shown
 returns-in-NoProof-clause-shown g c =
     let same : option_map (λ c. constraint_of c.now) c.as_ref.result ≡ option_map constraint_of c.in-NoProof.goal = search rules in
-    rw c.in-NoProof.is (subst (λ goal. IfOk c.put_no_proof.result (λ _. Says (IsNoProofText (g.T.Text.input c.args.subject.now.text.now) goal) c.args.page.now c.put_no_proof.new.page)) same c.put_no_proof.ensures.shown)
+    rw c.in-NoProof.is (subst (λ goal. IfOk c.put_no_proof.result (λ _. PutsSome (IsNoProofText (g.T.Text.input c.args.subject.now.text.now) goal) c.args.page.now c.put_no_proof.new.page)) same c.put_no_proof.ensures.shown)
 
 pub returns-in-NoProof-clause-error : goal.returns-in-NoProof-clause-error
 returns-in-NoProof-clause-error g c = rw c.in-NoProof.is c.put_no_proof.ensures.error

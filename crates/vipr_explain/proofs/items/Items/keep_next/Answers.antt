@@ -5,7 +5,6 @@ use Rattle.vipr_read.specs.Items.{NextIs}
 use Rattle.vipr_explain.specs.Found.{KeepsNext}
 use Rattle.vipr_explain.proofs.Lines.{on_ok}
 use Rattle.std.proofs.lemmas.Result.{err_from_is_err_and}
-use Rattle.vipr_explain.specs.Missed.{missing_of}
 use Rattle.vipr_explain.proofs.Again.{missed_next}
 use Rattle.vipr_explain.proofs.Lacks.{err_memory}
 use Rattle.vipr_explain.proofs.items.Items.keep_next.Goals as goal

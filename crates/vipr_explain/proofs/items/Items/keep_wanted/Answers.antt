@@ -1,4 +1,4 @@
-use Rattle.std.proofs.Common.{◌≡◌, ◌-◌, length, ap, sym, ◌∙◌, arith}
+use Rattle.std.proofs.Common.{◌≡◌, length, ap, sym, ◌∙◌, arith}
 use Rattle.std.proofs.lemmas.List.{length-map}
 use Rattle.vipr_explain.proofs.Again.{keeps_more, keeps_all, still_knows, remembers_both}
 use Rattle.std.proofs.lemmas.Result.{err_from_is_err_and}

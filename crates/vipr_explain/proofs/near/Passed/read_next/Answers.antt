@@ -3,7 +3,6 @@ use Rattle.std.proofs.lemmas.Result.{err_from_is_err_and}
 use Rattle.vipr_spec.specs.Reading.{derivation_read, end_read}
 use Rattle.vipr_cert.specs.Items.{derivation_of}
 use Rattle.vipr_read.specs.Items.{NextIs}
-use Rattle.vipr_explain.specs.Missed.{missing_of}
 use Rattle.vipr_explain.proofs.Again.{missed_next}
 use Rattle.vipr_explain.proofs.Lacks.{err_memory}
 use Rattle.vipr_explain.proofs.Lines.{on_ok}

@@ -1,0 +1,39 @@
+use Rattle.std.proofs.Common.{◌≡◌, [], refl, rules, subst, option_map, IfOk}
+use Rattle.vipr_linear.specs.Constraint.{constraint_of}
+use Rattle.vipr_explain.specs.Near.{IsNoProofText}
+use Rattle.vipr_explain.specs.Pages.{PutsSome}
+use Rattle.vipr_explain.proofs.Lacks.{only_nothing}
+use Rattle.vipr_explain.proofs.Putting.{puts_none}
+use Rattle.vipr_explain.proofs.whole.put_at.Goals as goal
+
+pub returns-in-NotWhole-clause-shown : goal.returns-in-NotWhole-clause-shown
+returns-in-NotWhole-clause-shown g c = ([], rw c.in-NotWhole.is refl, puts_none c.args.page.now)
+
+pub returns-in-Breaks-clause-shown : goal.returns-in-Breaks-clause-shown
+returns-in-Breaks-clause-shown g c = ([], rw c.in-Breaks.is refl, puts_none c.args.page.now)
+
+pub returns-in-SolutionOverflow-clause-shown : goal.returns-in-SolutionOverflow-clause-shown
+returns-in-SolutionOverflow-clause-shown g c = ([], rw c.in-SolutionOverflow.is refl, puts_none c.args.page.now)
+
+pub returns-in-Step-clause-shown : goal.returns-in-Step-clause-shown
+returns-in-Step-clause-shown g c = rw c.in-Step.is c.put_derivation.ensures
+
+pub returns-in-Step-clause-error : goal.returns-in-Step-clause-error
+returns-in-Step-clause-error g c = rw c.in-Step.is (only_nothing (g.T.Text.input c.args.subject.now.text.now) c.put_derivation.result)
+
+pub returns-in-None-clause-shown : goal.returns-in-None-clause-shown
+returns-in-None-clause-shown g c = ([], rw c.in-None.is refl, puts_none c.args.page.now)
+
+pub returns-in-NoProof-clause-shown : goal.returns-in-NoProof-clause-shown
+returns-in-NoProof-clause-shown g c =
+    let same : option_map (λ c. constraint_of c.now) c.as_ref.result ≡ option_map constraint_of c.in-NoProof.goal = search rules in
+    rw c.in-NoProof.is (subst (λ goal. IfOk c.put_no_proof.result (λ _. PutsSome (IsNoProofText (g.T.Text.input c.args.subject.now.text.now) goal) c.args.page.now c.put_no_proof.new.page)) same c.put_no_proof.ensures.shown)
+
+pub returns-in-NoProof-clause-error : goal.returns-in-NoProof-clause-error
+returns-in-NoProof-clause-error g c = rw c.in-NoProof.is c.put_no_proof.ensures.error
+
+pub returns-in-NoPrimal-clause-shown : goal.returns-in-NoPrimal-clause-shown
+returns-in-NoPrimal-clause-shown g c = rw c.in-NoPrimal.is c.put_no_primal.ensures.shown
+
+pub returns-in-NoPrimal-clause-error : goal.returns-in-NoPrimal-clause-error
+returns-in-NoPrimal-clause-error g c = rw c.in-NoPrimal.is c.put_no_primal.ensures.error
