@@ -223,4 +223,5 @@ def main(words):
     return 1 if lost or not results else 0
 
 
-sys.exit(main(sys.argv[1:]))
+if __name__ == '__main__':
+    sys.exit(main(sys.argv[1:]))
