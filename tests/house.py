@@ -339,8 +339,21 @@ def versions_agree():
         yield 'docs/LIBRARY.md: does not name %s' % soname
 
 
+def named_files_are_there():
+    """Each file of the repository that a page names in code quotes is there, in the folder or crate that it names."""
+    listed = subprocess.run(['git', 'ls-files'], cwd=ROOT, capture_output=True, text=True, check=True).stdout.split('\n')
+    # as they are named: STATEMENT.md leaves out `crates` and `specs`
+    known = ['/' + path for path in listed] + ['/' + path.replace('crates/', '').replace('/specs/', '/') for path in listed]
+    for page in listed:
+        if page.endswith('.md'):
+            for n, line in enumerate(read(os.path.join(ROOT, page)).split('\n'), 1):
+                for name in re.findall(r'`([\w./-]*\w\.(?:rt|antt|py))`', line):
+                    if not any(path.endswith('/' + name) for path in known):
+                        yield '%s:%d: no file %s' % (page, n, name)
+
+
 CHECKS = [foreign_proofs, private_lemmas, names_twice, types_twice, plain_words, comments_stand_alone, unused_imports, proofs_in_specs, long_lines, long_files, crates_are_there, graph_is_current,
-          statement_is_current, examples_are_there, causes_agree, edits_stand, versions_agree]
+          statement_is_current, examples_are_there, causes_agree, edits_stand, versions_agree, named_files_are_there]
 
 
 def write():
