@@ -52,23 +52,72 @@ pub data StepTest : Type 0 where
   by_constraint : (i : ℕ) → StepTest
   by_cutoff : StepTest
 
--- of the step that states d next after the certificate c
+-- what is shown of a test that fails, beside its cause
+pub data StepDetail : Type 0 where
+  index : ℕ → StepDetail
+  -- an entry's, counted from 0
+  position : ℕ → StepDetail
+  sum : Condition → StepDetail
+  -- both assumptions
+  both : Condition → Condition → StepDetail
+  -- the computed and the stated constraint
+  compared : Condition → Condition → StepDetail
+  nothing : StepDetail
+
+-- the entries are suitable, and this is their sum
+abbrev pub IsSum : Certificate → List (ℕ × ℚ) → Condition → Type 0
+IsSum c es x = (s : Sense) × HasSense (entries c es) s × (x ≡ sum_of (entries c es) s)
+
+-- Of the step that states d next after the certificate c: what passes a test, the cause of one that
+-- fails it, and what is shown of that.
+pub record TestMeaning : Type 1 where
+  pub passed : Profile → Certificate → Condition → Type 0
+  pub cause : ℕ
+  pub shown : Certificate → Condition → StepDetail → Type 0
+
+abbrev means : ℕ → (Profile → Certificate → Condition → Type 0)
+    → (Certificate → Condition → StepDetail → Type 0) → TestMeaning
+means n Passed Shown = record { passed = Passed; cause = n; shown = Shown }
+
+abbrev pub meaning : StepTest → TestMeaning
+meaning (earlier i) = means cause.not_earlier (λ P c d. i < count c) (λ c d x. x ≡ index i)
+meaning (live i) = means cause.dropped (λ P c d. IsTrue (is_live c (count c) i))
+    (λ c d x. x ≡ index i)
+meaning (assumed l) = means cause.not_assumption (λ P c d. reason_at c l ≡ Some asm)
+    (λ c d x. x ≡ index l)
+meaning (suitable es) = means cause.mixed_signs (λ P c d. (s : Sense) × HasSense (entries c es) s)
+    (λ c d x. x ≡ position (length es - 1))
+meaning (fitting es) = means cause.overflow (λ P c d. SumOfFits (entries c es))
+    (λ c d x. x ≡ position (length es - 1))
+meaning (roundable es) = means cause.not_roundable
+    (λ P c d. (s : Sense) × HasSense (entries c es) s
+    × IsWholeRow c.problem.integers (sum_of (entries c es) s).row)
+    (λ c d x. (y : Condition) × IsSum c es y × (x ≡ sum y))
+meaning (split l1 l2) = means cause.not_split
+    (λ P c d. IsSplit P c.problem.integers (constraint_at c l1) (constraint_at c l2))
+    (λ c d x. x ≡ both (constraint_at c l1) (constraint_at c l2))
+meaning listed = means cause.no_solution (λ P c d. 0 < length c.solutions) (λ c d x. x ≡ nothing)
+meaning (by_sum es) = means cause.not_dominated (λ P c d. Combines (entries c es) d)
+    (λ c d x. (y : Condition) × IsSum c es y × (x ≡ compared y d))
+meaning (by_rounding es) = means cause.not_dominated
+    (λ P c d. CombinesRounded c.problem.integers (entries c es) d)
+    (λ c d x. (y : Condition) × (k : ℤ) × IsSum c es y × RoundsTo y.sense y.bound k
+    × (x ≡ compared (record y { bound = whole k }) d))
+meaning (by_constraint i) = means cause.not_dominated (λ P c d. Dominates (constraint_at c i) d)
+    (λ c d x. x ≡ compared (constraint_at c i) d)
+meaning by_cutoff = means cause.not_dominated
+    (λ P c d. (s : Named Row) × IsBest c s × Dominates (cutoff c.problem s) d)
+    (λ c d x. (s : Named Row) × IsBest c s × (x ≡ compared (cutoff c.problem s) d))
+
 abbrev pub PassesStep : Profile → Certificate → Condition → StepTest → Type 0
-PassesStep P c d (earlier i) = i < count c
-PassesStep P c d (live i) = IsTrue (is_live c (count c) i)
-PassesStep P c d (assumed l) = reason_at c l ≡ Some asm
-PassesStep P c d (suitable es) = (s : Sense) × HasSense (entries c es) s
-PassesStep P c d (fitting es) = SumOfFits (entries c es)
-PassesStep P c d (roundable es) =
-    (s : Sense) × HasSense (entries c es) s
-    × IsWholeRow c.problem.integers (sum_of (entries c es) s).row
-PassesStep P c d (split l1 l2) =
-    IsSplit P c.problem.integers (constraint_at c l1) (constraint_at c l2)
-PassesStep P c d listed = 0 < length c.solutions
-PassesStep P c d (by_sum es) = Combines (entries c es) d
-PassesStep P c d (by_rounding es) = CombinesRounded c.problem.integers (entries c es) d
-PassesStep P c d (by_constraint i) = Dominates (constraint_at c i) d
-PassesStep P c d by_cutoff = (s : Named Row) × IsBest c s × Dominates (cutoff c.problem s) d
+PassesStep P c d t = (meaning t).passed P c d
+
+abbrev pub step_cause : StepTest → ℕ
+step_cause t = (meaning t).cause
+
+-- what is shown of the test that fails
+abbrev pub Shows : Certificate → Condition → StepTest → StepDetail → Type 0
+Shows c d t x = (meaning t).shown c d x
 
 -- each index of a reason must be earlier and then live; one with the multiplier 0 only earlier
 abbrev pub reference_tests : ℕ × ℚ → List StepTest
@@ -101,53 +150,6 @@ abbrev pub FirstFailing : {T : Type 0} → (T → Type 0) → List T → Option 
 FirstFailing Passes [] found = found ≡ None
 FirstFailing Passes (t ∷ ts) found =
     (Passes t × FirstFailing Passes ts found) ⊎ ((¬ Passes t) × (found ≡ Some t))
-
--- what is shown of a test that fails, beside its cause
-pub data StepDetail : Type 0 where
-  index : ℕ → StepDetail
-  -- an entry's, counted from 0
-  position : ℕ → StepDetail
-  sum : Condition → StepDetail
-  -- both assumptions
-  both : Condition → Condition → StepDetail
-  -- the computed and the stated constraint
-  compared : Condition → Condition → StepDetail
-  nothing : StepDetail
-
--- the entries are suitable, and this is their sum
-abbrev pub IsSum : Certificate → List (ℕ × ℚ) → Condition → Type 0
-IsSum c es x = (s : Sense) × HasSense (entries c es) s × (x ≡ sum_of (entries c es) s)
-
-abbrev pub step_cause : StepTest → ℕ
-step_cause (earlier i) = cause.not_earlier
-step_cause (live i) = cause.dropped
-step_cause (assumed l) = cause.not_assumption
-step_cause (suitable es) = cause.mixed_signs
-step_cause (fitting es) = cause.overflow
-step_cause (roundable es) = cause.not_roundable
-step_cause (split l1 l2) = cause.not_split
-step_cause listed = cause.no_solution
-step_cause (by_sum es) = cause.not_dominated
-step_cause (by_rounding es) = cause.not_dominated
-step_cause (by_constraint i) = cause.not_dominated
-step_cause by_cutoff = cause.not_dominated
-
--- what is shown of the test that fails, of the step that states d
-abbrev pub Shows : Certificate → Condition → StepTest → StepDetail → Type 0
-Shows c d (earlier i) x = x ≡ index i
-Shows c d (live i) x = x ≡ index i
-Shows c d (assumed l) x = x ≡ index l
-Shows c d (suitable es) x = x ≡ position (length es - 1)
-Shows c d (fitting es) x = x ≡ position (length es - 1)
-Shows c d (roundable es) x = (y : Condition) × IsSum c es y × (x ≡ sum y)
-Shows c d (split l1 l2) x = x ≡ both (constraint_at c l1) (constraint_at c l2)
-Shows c d listed x = x ≡ nothing
-Shows c d (by_sum es) x = (y : Condition) × IsSum c es y × (x ≡ compared y d)
-Shows c d (by_rounding es) x =
-    (y : Condition) × (k : ℤ) × IsSum c es y × RoundsTo y.sense y.bound k
-    × (x ≡ compared (record y { bound = whole k }) d)
-Shows c d (by_constraint i) x = x ≡ compared (constraint_at c i) d
-Shows c d by_cutoff x = (s : Named Row) × IsBest c s × (x ≡ compared (cutoff c.problem s) d)
 
 -- a test fails first, and this is its cause and detail
 abbrev pub Refuses : Profile → Certificate → Derivation → ℕ → StepDetail → Type 0
