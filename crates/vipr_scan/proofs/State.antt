@@ -7,7 +7,7 @@ use Rattle.std.specs.Option.{option_map}
 use Rattle.std.proofs.Common.{inl, inr, false, nat_eq}
 use Rattle.std.proofs.lemmas.List.{get_or-take, get_or_append_left, take-append-le, length-take-le}
 use Rattle.std.proofs.lemmas.List.{take_all, length-append, length-take, take-take, length-drop}
-use Rattle.std.proofs.lemmas.List.{drop-append-le, nil_from_length, drop-drop, drop-take}
+use Rattle.std.proofs.lemmas.List.{drop-append-le, nil_from_length, drop-drop, drop-take, drop_more}
 use Rattle.std.proofs.lemmas.Bool.{ltb-true, lt-ltb, le-ltb, cases_lt, cases_eq, eq-eqb, ne_eqb}
 use Rattle.vipr_spec.specs.Input.{Input}
 use Rattle.vipr_spec.specs.Tokens.{IsToken, is_white, tokens_from, tokens_after_front, run}
@@ -274,26 +274,46 @@ passed source o o' o'' un un' gap len within same front short at behind cut =
     kept _ _ _ (gap_left source Past Past o o' un (drop gap un) gap within refl at same)
     (token_left source o' o'' (drop gap un) un' len front.some (omega arith) (omega arith) front.solid (λ h. front.white) (λ e. absurd (omega arith)) cut behind)
 
-pub passed_answer : (source : Option Input) (o o' o'' : ℕ) (un un' : List ℕ) (gap len : ℕ)
+pub passed_answer : (source : Option Input) (o o' : ℕ) (un : List ℕ) (gap len : ℕ)
     → gap ≤ length un →
     ((fails : Bool) (offset : ℕ) (rest : List ℕ) → tokens_in Past fails offset (un ++ rest)
     ≡ tokens_in Past fails (offset + gap) (drop gap un ++ rest)) →
-    IsInFront (drop gap un) len → length un ≤ 65536 → o' ≡ min (o + gap) (2 ^ 64 - 1)
-    → o'' ≡ min (o' + len) (2 ^ 64 - 1) → un' ≡ drop len (drop gap un) →
+    IsInFront (drop gap un) len → length un ≤ 65536 → o' ≡ min (o + gap) (2 ^ 64 - 1) →
     IfSome (left_at Past o un source)
     (λ l. Ok (Some (record { bytes = take len (drop gap un); offset = o'; long = false }))
     ≡ next_answer l)
-passed_answer source o o' o'' un un' gap len within same front short at behind cut =
-    some_weaker _ _ _ (λ (l : Rest) (p : (Ok (Some (record { bytes = take len (drop gap un); offset = o'; long = false })) ≡ next_answer l) × (left_at Past o'' un' source ≡ Some (next_left l))). p.0)
-    (passed source o o' o'' un un' gap len within same front short at behind cut)
+passed_answer source o o' un gap len within same front short at =
+    let mid : ℕ = min (o' + len) (2 ^ 64 - 1) in
+    some_weaker _ _ _ (λ (l : Rest) (p : (Ok (Some (record { bytes = take len (drop gap un); offset = o'; long = false })) ≡ next_answer l) × (left_at Past mid (drop len (drop gap un)) source ≡ Some (next_left l))). p.0)
+    (passed source o o' mid un (drop len (drop gap un)) gap len within same front short at refl refl)
 
+-- the white space that ends a token begins none
+white_taken : (xs : List ℕ) (n : ℕ) → n < length xs → is_white (get_or xs n 0) ≡ true →
+    (fails : Bool) (offset : ℕ) (rest : List ℕ) → tokens_in Past fails offset (drop n xs ++ rest)
+    ≡ tokens_in Past fails (offset + 1) (drop 1 (drop n xs) ++ rest)
+unfolding tokens_from
+white_taken xs n within white fails offset rest = rw (drop_more xs n 0 within, white) refl
+
+-- what is known of the rest stays so if white space is taken
+pub still : (old new : Option Rest) (l : Rest) → Keeps old new → old ≡ Some l → new ≡ Some l
+still old new l keeps is = rw is at keeps
+
+-- the white space that ends the token is taken too
 pub passed_left : (source : Option Input) (o o' o'' : ℕ) (un un' : List ℕ) (gap len : ℕ)
     → gap ≤ length un →
     ((fails : Bool) (offset : ℕ) (rest : List ℕ) → tokens_in Past fails offset (un ++ rest)
     ≡ tokens_in Past fails (offset + gap) (drop gap un ++ rest)) →
     IsInFront (drop gap un) len → length un ≤ 65536 → o' ≡ min (o + gap) (2 ^ 64 - 1)
-    → o'' ≡ min (o' + len) (2 ^ 64 - 1) → un' ≡ drop len (drop gap un) →
+    → o'' ≡ min (o' + (len + 1)) (2 ^ 64 - 1) → un' ≡ drop (len + 1) (drop gap un) →
     IfSome (left_at Past o un source) (λ l. left_at Past o'' un' source ≡ Some (next_left l))
 passed_left source o o' o'' un un' gap len within same front short at behind cut =
-    some_weaker _ _ _ (λ (l : Rest) (p : (Ok (Some (record { bytes = take len (drop gap un); offset = o'; long = false })) ≡ next_answer l) × (left_at Past o'' un' source ≡ Some (next_left l))). p.1)
-    (passed source o o' o'' un un' gap len within same front short at behind cut)
+    let token : List ℕ = drop gap un in
+    let mid : ℕ = min (o' + len) (2 ^ 64 - 1) in
+    let more : len < length token = front.within in
+    let size : length (drop len token) ≡ length token - len = length-drop len token in
+    let one : un' ≡ drop 1 (drop len token) = cut ∙ sym (drop-drop 1 len token) in
+    let keeps : Keeps (left_at Past mid (drop len token) source) (left_at Past o'' un' source) =
+    gap_left source Past Past mid o'' (drop len token) un' 1 (omega arith) one (omega arith) (white_taken token len more front.white) in
+    some_weaker _ _ _ (λ (l : Rest) (p : (Ok (Some (record { bytes = take len token; offset = o'; long = false })) ≡ next_answer l) × (left_at Past mid (drop len token) source ≡ Some (next_left l))).
+    still _ _ _ keeps p.1)
+    (passed source o o' mid un (drop len token) gap len within same front short at refl refl)

@@ -142,7 +142,7 @@ impl<R: Source> Window<R> {
         (n, &bytes[n..])
     }
 
-    /// Takes white space and the token behind it, of that many bytes.
+    /// Takes white space, the token behind it, of that many bytes, and the byte that ends it.
     #[inline(always)]
     pub(crate) fn pass(&mut self, gap: usize, len: usize) -> Found
         requires gap { IsGap self.old gap }
@@ -155,7 +155,7 @@ impl<R: Source> Window<R> {
     {
         let start = self.start + gap;
         let offset = self.offset.saturating_add(start as u64);
-        self.start = start + len;
+        self.start = start + len + 1;
         Found {
             start,
             len,
