@@ -8,6 +8,7 @@ mod merge;
 mod union;
 
 ghost use Rattle.std.specs.Prelude.{◌≡◌, ◌↔◌, IfOk, IfSome, IsTrue, length};
+ghost use Rattle.std.specs.Cow.{cow_slice_items};
 ghost use Rattle.std.specs.FinSet as set;
 ghost use Rattle.vipr_table.specs.IndexList.{listed_items, IsListOf};
 
@@ -17,6 +18,7 @@ use crate::assumptions::merge::{
 };
 pub use crate::assumptions::union::Union;
 use std::alloc::{AllocError, Global};
+use std::borrow::CowSlice;
 use std::marker::Model;
 
 // From how many indices on a list is long.
@@ -28,14 +30,11 @@ const FEW: usize = 8;
 /// A set of the constraint indices of assumptions. Its clones share the indices.
 #[derive(Debug, Drop)]
 pub struct Assumptions {
-    // each index once, in rising order: those of one list, and then those of another, which is
-    // short where the first is long
-    held: IndexList,
-    behind: IndexList,
+    // each index once, in rising order
+    list: IndexList,
 }
 
 impl Model for Assumptions {
-    ghost use Rattle.std.specs.Prelude.{◌++◌};
     ghost use Rattle.std.specs.Ordering.{nat_cmp};
     ghost use Rattle.std.specs.FinSet as set;
     ghost use Rattle.std.specs.Coded.{coded_ℕ};
@@ -46,9 +45,9 @@ impl Model for Assumptions {
 
     ghost coded = { set.code coded_ℕ };
 
-    ghost view = { λ a. set.from_list (listed_items a.held ++ listed_items a.behind) };
+    ghost view = { λ a. set.from_list (listed_items a.list) };
 
-    ghost invariant = { λ a. IsRising (listed_items a.held ++ listed_items a.behind) };
+    ghost invariant = { λ a. IsRising (listed_items a.list) };
 }
 
 impl Clone for Assumptions {
@@ -58,8 +57,7 @@ impl Clone for Assumptions {
 
     fn clone(&self) -> Result<Assumptions, AllocError> {
         Ok(Assumptions {
-            held: self.held.try_copy()?,
-            behind: self.behind.try_copy()?,
+            list: self.list.try_copy()?,
         })
     }
 }
@@ -70,8 +68,7 @@ impl Assumptions {
         ensures { result ≡ set.empty }
     {
         Assumptions {
-            held: IndexList::Nothing,
-            behind: IndexList::Nothing,
+            list: IndexList::Nothing,
         }
     }
 
@@ -84,8 +81,7 @@ impl Assumptions {
         ensures { IfOk result (λ s. s ≡ set.insert set.empty index) }
     {
         Ok(Assumptions {
-            held: IndexList::One(index),
-            behind: IndexList::Nothing,
+            list: IndexList::One(index),
         })
     }
 
@@ -93,14 +89,14 @@ impl Assumptions {
     pub fn is_empty(&self) -> bool
         ensures { IsTrue result ↔ (self.now ≡ set.empty) }
     {
-        self.held.as_slice().is_empty() && self.behind.as_slice().is_empty()
+        self.list.first().is_empty() && self.list.behind().is_empty()
     }
 
     /// Whether an index is in the set.
     pub fn contains(&self, index: u32) -> bool
         ensures { result ≡ set.contains self.now index }
     {
-        is_in(self.held.as_slice(), index) || is_in(self.behind.as_slice(), index)
+        is_in(self.list.first(), index) || is_in(self.list.behind(), index)
     }
 
     /// The set of the indices of both.
@@ -133,8 +129,7 @@ impl Assumptions {
         }
         let items = join(alloc, ours, theirs)?;
         Ok(Assumptions {
-            held: IndexList::of(alloc, items)?,
-            behind: IndexList::Nothing,
+            list: IndexList::of(alloc, items)?,
         })
     }
 
@@ -151,8 +146,7 @@ impl Assumptions {
         }
         let items = all_but(alloc, self.flat(alloc)?.as_slice(), index)?;
         Ok(Assumptions {
-            held: IndexList::of(alloc, items)?,
-            behind: IndexList::Nothing,
+            list: IndexList::of(alloc, items)?,
         })
     }
 
@@ -176,8 +170,7 @@ impl Assumptions {
         };
         let items = join_alike(alloc, ours, theirs)?;
         Ok(Assumptions {
-            held: IndexList::of(alloc, items)?,
-            behind: IndexList::Nothing,
+            list: IndexList::of(alloc, items)?,
         })
     }
 
@@ -185,7 +178,7 @@ impl Assumptions {
     fn is_one(&self, other: &Assumptions) -> bool
         ensures { IsTrue result → self.now ≡ other.now }
     {
-        self.held.is_one(&other.held) && self.behind.is_one(&other.behind)
+        self.list.is_one(&other.list)
     }
 
     // The union, where all indices of the other come behind and a short list takes them. Lists that
@@ -193,23 +186,22 @@ impl Assumptions {
     fn longer_by(&self, alloc: Global, other: &Assumptions) -> Result<Option<Self>, AllocError>
         ensures { IfOk result (λ o. IfSome o (λ s. s ≡ set.union self.now other.now)) }
     {
-        let (held, behind) = (self.held.as_slice(), self.behind.as_slice());
-        let more = other.held.as_slice();
+        let (first, behind) = (self.list.first(), self.list.behind());
+        let more = other.list.first();
         let count = behind.len() + more.len();
-        if !other.behind.as_slice().is_empty() || held.len() < LONG {
+        if !other.list.behind().is_empty() || first.len() < LONG {
             return Ok(None);
         }
-        if count == 0 || held.len() / count < count / 8 {
+        if count == 0 || first.len() / count < count / 8 {
             return Ok(None);
         }
-        let last = if behind.is_empty() { held } else { behind };
+        let last = if behind.is_empty() { first } else { behind };
         if !is_below(last, more) {
             return Ok(None);
         }
         let behind = concat(alloc, behind, more)?;
         Ok(Some(Assumptions {
-            held: self.held.try_copy()?,
-            behind: IndexList::of(alloc, behind)?,
+            list: self.list.with_behind(alloc, behind)?,
         }))
     }
 
@@ -222,8 +214,7 @@ impl Assumptions {
         indices.dedup();
         let _in_range = indices.as_slice();
         Ok(Assumptions {
-            held: IndexList::of(alloc, indices)?,
-            behind: IndexList::Nothing,
+            list: IndexList::of(alloc, indices)?,
         })
     }
 
@@ -231,8 +222,8 @@ impl Assumptions {
     fn as_few(&self) -> Option<&[u32]>
         ensures { IfSome result (λ few. set.from_list few.now ≡ self.now) }
     {
-        let items = self.held.as_slice();
-        if self.behind.as_slice().is_empty() && items.len() <= FEW {
+        let items = self.list.first();
+        if self.list.behind().is_empty() && items.len() <= FEW {
             Some(items)
         } else {
             None
@@ -240,18 +231,18 @@ impl Assumptions {
     }
 
     // All indices as one list.
-    fn flat(&self, alloc: Global) -> Result<IndexList, AllocError>
-        ensures { IfOk result (λ h. IsListOf self.now (listed_items h)) }
+    fn flat(&self, alloc: Global) -> Result<CowSlice<'_, u32>, AllocError>
+        ensures { IfOk result (λ items. IsListOf self.now (cow_slice_items items)) }
     {
-        let behind = self.behind.as_slice();
+        let (first, behind) = (self.list.first(), self.list.behind());
         if behind.is_empty() {
-            return self.held.try_copy();
+            return Ok(CowSlice::Borrowed(first));
         }
-        IndexList::of(alloc, concat(alloc, self.held.as_slice(), behind)?)
+        Ok(CowSlice::Owned(concat(alloc, first, behind)?))
     }
 
     // How many indices are in the set.
     fn len(&self) -> usize {
-        self.held.as_slice().len() + self.behind.as_slice().len()
+        self.list.first().len() + self.list.behind().len()
     }
 }

@@ -1,8 +1,7 @@
 use Rattle.std.proofs.Common.{◌∙◌, ◌^◌, ap, sym, subst}
-use Rattle.std.proofs.lemmas.List.{append-nil}
 use Rattle.std.proofs.lemmas.Result.{MatchResult-weaker}
 use Rattle.std.specs.FinSet.{remove, from_list}
-use Rattle.vipr_table.specs.IndexList.{listed_items}
+use Rattle.std.specs.Cow.{cow_slice_items}
 use Rattle.vipr_table.specs.Rising.{IsRising}
 use Rattle.vipr_table.proofs.RisingLemmas.{rises_filter}
 use Rattle.vipr_table.proofs.SetLemmas.{remove_seen, remove_absent}
@@ -15,12 +14,12 @@ returns-then-not-contains c =
 
 pub invariant_of-result : goal.invariant_of-result
 invariant_of-result c =
-    let list = append-nil (listed_items c.in_ok-of.field-0) ∙ c.in_ok-of.ensures ∙ c.in_ok-items.ensures in
-    subst IsRising (sym list) (rw c.as_slice.ensures (rises_filter _ 0 (2 ^ 32) (listed_items c.in_ok-flat.field-0) c.in_ok-flat.ensures.rising))
+    let list = c.in_ok-of.ensures ∙ c.in_ok-items.ensures in
+    subst IsRising (sym list) (rw c.as_slice.ensures.value (rises_filter _ 0 (2 ^ 32) (cow_slice_items c.in_ok-flat.field-0) c.in_ok-flat.ensures.rising))
 
 pub returns : goal.returns
 returns c =
-    let list = append-nil (listed_items c.in_ok-of.field-0) ∙ c.in_ok-of.ensures ∙ c.in_ok-items.ensures in
+    let list = c.in_ok-of.ensures ∙ c.in_ok-items.ensures in
     ap from_list list
-    ∙ rw c.as_slice.ensures (remove_seen (listed_items c.in_ok-flat.field-0) c.args.index)
+    ∙ rw c.as_slice.ensures.value (remove_seen (cow_slice_items c.in_ok-flat.field-0) c.args.index)
     ∙ ap (λ s. remove s c.args.index) c.in_ok-flat.ensures.is_set

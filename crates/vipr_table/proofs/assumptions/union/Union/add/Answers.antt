@@ -6,6 +6,7 @@ use Rattle.vipr_table.proofs.SetLemmas.{union_none}
 use Rattle.vipr_table.proofs.UnionsLemmas.{union_assoc, one_put, last_two, few_put}
 use Rattle.vipr_table.proofs.assumptions.union.Union.add.Goals as goal
 use Rattle.vipr_table.proofs.assumptions.union.Union.add.Goals.{then-is_near+in_ok-self+in-Many-1}
+use Rattle.vipr_table.proofs.assumptions.union.Union.add.Goals.{then-is_near+in_ok-self+in-Longer-1}
 use Rattle.vipr_table.proofs.assumptions.union.Union.add.Goals.{then-is_near+in_ok-self+in-Nothing-1}
 use Rattle.vipr_table.proofs.assumptions.union.Union.add.Goals.{else-is_near+in_ok-clone+in_ok-push}
 
@@ -18,6 +19,7 @@ returns c =
     let past : union (union (union all old.last) more) few ≡ union (union_so_far old) more = last_two (union all old.last) more few in
     let step : union_so_far c.if-is_near.self ≡ union (union_so_far old) more = elim c.if-is_near.branch [
       | then-is_near+in_ok-self+in-Many-1 w ↦ ap union_so_far w.self-is ∙ ap (λ s. union (union all s) few) w.in_ok-self.ensures ∙ ap (λ s. union s few) (sym (union_assoc all old.last more)) ∙ past
+      | then-is_near+in_ok-self+in-Longer-1 w ↦ ap union_so_far w.self-is ∙ ap (λ s. union (union all s) few) w.in_ok-self.ensures ∙ ap (λ s. union s few) (sym (union_assoc all old.last more)) ∙ past
       | then-is_near+in_ok-self+in-Nothing-1 w ↦ ap union_so_far w.self-is ∙ ap (λ s. union (union all s) few) w.in_ok-self.ensures ∙ ap (λ s. union s few) (sym (union_assoc all old.last more)) ∙ past
       | else-is_near+in_ok-clone+in_ok-push w ↦
           ap union_so_far w.self-is

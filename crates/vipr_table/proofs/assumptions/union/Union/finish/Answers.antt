@@ -11,6 +11,13 @@ loop-top-preserved-in_ok-all-2 c =
     ∙ ap (λ ss. union (union_of_all ss) c.loop-top.all) (sym c.in-Some.ensures.items)
     ∙ c.loop-top.invariant
 
+pub loop-top-preserved-in_ok-all-2-2 : goal.loop-top-preserved-in_ok-all-2-2
+loop-top-preserved-in_ok-all-2-2 c =
+    ap (union (union_of_all c.pop.new.self.items)) c.in_ok-all-2.ensures
+    ∙ sym (top_joined c.pop.new.self.items c.in-Some.top c.loop-top.all)
+    ∙ ap (λ ss. union (union_of_all ss) c.loop-top.all) (sym c.in-Some.ensures.items)
+    ∙ c.loop-top.invariant
+
 pub loop-top-preserved : goal.loop-top-preserved
 loop-top-preserved c =
     ap (union (union_of_all c.pop.new.self.items)) c.in_ok-all-2.ensures
