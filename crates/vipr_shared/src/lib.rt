@@ -5,6 +5,3 @@ mod mark;
 mod shared;
 
 pub use shared::Shared;
-
-#[cfg(test)]
-mod tests;
