@@ -5,6 +5,7 @@ ghost use Rattle.std.specs.Prelude.{OnErr, slice_range, ◌≢◌};
 ghost use Rattle.vipr_spec.specs.Input.{Input};
 ghost use Rattle.vipr_spec.specs.Tokens.{is_white, IsToken};
 ghost use Rattle.vipr_bytes.specs.Known.{IfKnown, text_of};
+ghost use Rattle.vipr_scan.specs.declared.place.Position.TheVariants.{Past};
 
 use crate::buffer::{move_to_front, read_behind};
 use crate::bytes::{is_white, run_end};
@@ -30,12 +31,24 @@ pub(crate) struct Window<R> {
     pub(crate) buf: Box<[u8; BUFFER_BYTES]>,
     start: usize,
     end: usize,
+    /// Where the bytes end in which a token may begin: none do at the front of the text.
+    ready: usize,
     /// The offset of the first byte of the buffer in the text.
     offset: u64,
     place: Position,
     ended: bool,
     ghost ordered: { start ≤ end },
     ghost within: { end ≤ 65536 },
+    ghost opened: { place ≡ Past → ready ≡ end },
+    ghost closed: { place ≢ Past → ready ≡ start },
+}
+
+/// Where the bytes end in which a token may begin.
+fn ready_end(place: Position, start: usize, end: usize) -> usize
+    ensures opened { place ≡ Position.Past → result ≡ end }
+    ensures closed { place ≢ Position.Past → result ≡ start }
+{
+    if place == Position::Past { end } else { start }
 }
 
 impl<R: Source> Window<R> {
@@ -66,6 +79,7 @@ impl<R: Source> Window<R> {
             buf,
             start: 0,
             end: 0,
+            ready: 0,
             offset: 0,
             place: Position::Front,
             ended: false,
@@ -100,6 +114,7 @@ impl<R: Source> Window<R> {
         self.offset = offset;
         self.start = 0;
         self.end = held;
+        self.ready = ready_end(self.place, 0, held);
         match read_behind(&mut self.source, buf, held) {
             Ok(0) => {
                 self.ended = true;
@@ -107,6 +122,7 @@ impl<R: Source> Window<R> {
             }
             Ok(n) => {
                 self.end = held + n;
+                self.ready = ready_end(self.place, 0, held + n);
                 Ok(())
             }
             Err(failed) => Err(failed),
@@ -124,6 +140,7 @@ impl<R: Source> Window<R> {
         let (n, place) = gap(self.place, bytes);
         self.start += n;
         self.place = place;
+        self.ready = ready_end(place, self.start, self.end);
     }
 
     /// How much white space is at hand, and the bytes at hand behind it; none at the front of the
@@ -134,10 +151,7 @@ impl<R: Source> Window<R> {
         ensures bytes { 0 < length result.1.now →
             result.1.now ≡ drop result.0 (unread self.now) }
     {
-        if self.place != Position::Past {
-            return (0, b"");
-        }
-        let bytes = &self.buf[self.start..self.end];
+        let bytes = &self.buf[self.start..self.ready];
         let n = white(bytes);
         (n, &bytes[n..])
     }
