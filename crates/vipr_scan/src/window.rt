@@ -31,7 +31,7 @@ pub(crate) struct Window<R> {
     pub(crate) buf: Box<[u8; BUFFER_BYTES]>,
     start: usize,
     end: usize,
-    /// Where the bytes end in which a token may begin: none do at the front of the text.
+    /// The end of the bytes in which a token may begin: none do at the front of the text.
     ready: usize,
     /// The offset of the first byte of the buffer in the text.
     offset: u64,
@@ -43,7 +43,7 @@ pub(crate) struct Window<R> {
     ghost closed: { place ≢ Past → ready ≡ start },
 }
 
-/// Where the bytes end in which a token may begin.
+/// The end of the bytes in which a token may begin.
 fn ready_end(place: Position, start: usize, end: usize) -> usize
     ensures opened { place ≡ Position.Past → result ≡ end }
     ensures closed { place ≢ Position.Past → result ≡ start }
