@@ -31,7 +31,7 @@ pub(crate) struct Window<R> {
     pub(crate) buf: Box<[u8; BUFFER_BYTES]>,
     start: usize,
     end: usize,
-    /// The end of the bytes in which a token may begin. At the front of the text none may.
+    /// The end of the bytes in which a token may begin: none do at the front of the text.
     ready: usize,
     /// The offset of the first byte of the buffer in the text.
     offset: u64,
