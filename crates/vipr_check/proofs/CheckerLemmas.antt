@@ -1,15 +1,15 @@
 -- A checker's state, call by call
-use Rattle.std.proofs.Common.{◌≡◌, ℕ, Bool, List, length, Option, Some, None, Result, Ok, Err, refl}
+use Rattle.std.proofs.Common.{◌≡◌, ℕ, ◌≤◌, Bool, false, List, length, Option, Some, None, Result, Ok, Err, refl}
 use Rattle.std.proofs.Common.{sym, ◌∙◌, ap, subst, inl, inr}
 use Rattle.std.specs.Prelude.{◌⊎◌, MatchOption}
 use Rattle.vipr_spec.specs.Fraction.{ℚ}
 use Rattle.vipr_spec.specs.Constraint.{Profile, Row}
 use Rattle.vipr_spec.specs.Certificate.{Named, Problem, Derivation, Certificate, IsProof, count}
 use Rattle.vipr_spec.specs.Verdict.{refuses, at_solution, at_derivation}
-use Rattle.vipr_spec.specs.Steps.{step_tests}
+use Rattle.vipr_spec.specs.Steps.{step_tests, with_next}
 use Rattle.vipr_spec.specs.Tests.{solution_tests, solution_cause, Passes as PassesTest, meets_dual}
-use Rattle.vipr_rules.specs.Apply.{StopsIn}
-use Rattle.vipr_table.specs.Table.{Table, advance_table}
+use Rattle.vipr_rules.specs.Apply.{PassesTestsIn, StopsIn}
+use Rattle.vipr_table.specs.Table.{Table, advance_table, held_count}
 use Rattle.vipr_rules.specs.Solution.{test_of, FailsBy}
 use Rattle.vipr_rules.specs.declared.solution.SolutionError.{SolutionError}
 use Rattle.vipr_rules.specs.declared.error.RuleError.{RuleError}
@@ -18,12 +18,12 @@ use Rattle.vipr_check.specs.declared.halt.Stop.{Stop}
 use Rattle.vipr_check.specs.declared.halt.Halt.{Halt}
 use Rattle.vipr_check.specs.declared.halt.Halt.TheVariants.{Refused, Memory}
 use Rattle.vipr_check.specs.View.{refusal_of, place_of}
-use Rattle.vipr_check.specs.Halts.{halt_answer, later_answer, rule_cause, IsSolutionHalt}
-use Rattle.vipr_check.specs.Halts.{IsStepHalt, solution_halt, step_halt, step_halt_by, CanShow}
-use Rattle.vipr_check.specs.Halts.{CanShowHalt}
+use Rattle.vipr_check.specs.Halts.{halt_answer, later_answer, step_detail_of, rule_shown}
+use Rattle.vipr_check.specs.Halts.{IsSolutionHalt, IsStepHalt, solution_halt, CanShow, CanShowHalt}
 use Rattle.vipr_check.specs.Progress.{Progress, HasSteps}
-use Rattle.vipr_check.specs.State.{State, IsReached, HaltsBy, StopsSolution, StopsStep}
+use Rattle.vipr_check.specs.State.{State, IsReached, HaltsBy, StopsSolution, StopsStep, TakesStep}
 use Rattle.vipr_check.proofs.CauseLemmas.{cause_is}
+use Rattle.vipr_check.proofs.ProgressLemmas.{held_next}
 use Rattle.vipr_check.proofs.ShownLemmas.{failing_within}
 
 -- where a call went on, nothing had stopped it
@@ -101,32 +101,25 @@ pub solution_halted : (n : ℕ) (name x : List ℕ) (e : SolutionError) (h : Hal
     → h ≡ solution_halt n name e → name ≡ x → IsSolutionHalt n x e h
 solution_halted n name x e h is same = subst (λ y. IsSolutionHalt n y e h) same (subst (IsSolutionHalt n name e) (sym is) (refl, refl))
 
-step_halt_with : (k : ℕ) (name : List ℕ) (e : RuleError) (o : Option ℕ) → rule_cause e ≡ o
-    → IsStepHalt k name e (step_halt_by k name e o)
-step_halt_with k name e None is = tt
-step_halt_with k name e (Some x) is = (is, refl, refl)
-
-pub step_halted : (k : ℕ) (name x : List ℕ) (e : RuleError) (h : Halt) → h ≡ step_halt k name e
-    → name ≡ x → IsStepHalt k x e h
-step_halted k name x e h is same = subst (λ y. IsStepHalt k y e h) same (subst (IsStepHalt k name e) (sym is) (step_halt_with k name e (rule_cause e) refl))
-
 -- want of memory is no refusal
 pub memory_stops : (k : ℕ) (name : List ℕ) (e : RuleError) (h : Halt) → e ≡ rule.Memory
     → IsStepHalt k name e h → h ≡ Memory
 memory_stops k name e Memory is h = refl
-memory_stops k name e (Refused r f) is h = absurd (let n : rule_cause e ≡ None = ap rule_cause is in cc (n, h.0))
+memory_stops k name e (Refused r f) is h = absurd (let n : rule_shown e ≡ None = ap rule_shown is in cc (n, h.3))
 
 pub stops_step : (P : Profile) (c : Certificate) (d : Derivation) (k : ℕ) (e : RuleError) (h : Halt)
     → count c ≡ k → IsStepHalt k d.name e h
     → (e ≡ rule.Memory) ⊎ StopsIn P c d (step_tests d.reason) e → StopsStep P c d h
 stops_step P c d k e Memory same is w = tt
-stops_step P c d k e (Refused r f) same is (inl m) = absurd (let n : rule_cause e ≡ None = ap rule_cause m in cc (n, is.0))
+stops_step P c d k e (Refused r f) same is (inl m) = absurd (let n : rule_shown e ≡ None = ap rule_shown m in cc (n, is.3))
 stops_step P c d k e (Refused r f) same is (inr x) = (
+  is.0,
+  is.1,
   e,
-  is.2,
+  is.3,
   x,
-  ap (λ p. refuses (record { cause = r.cause; place = place_of p })) is.1 ∙ ap (λ i. refuses (record { cause = r.cause; place = at_derivation i })) (sym same)
-      ∙ ap (λ n. refuses (record { cause = n; place = at_derivation (count c) })) (cause_is c d e x.0 r.cause x.2 is.0),
+  ap (λ p. refuses (record { cause = r.cause; place = place_of p })) is.2 ∙ ap (λ i. refuses (record { cause = r.cause; place = at_derivation i })) (sym same)
+      ∙ ap (λ n. refuses (record { cause = n; place = at_derivation (count c) })) (cause_is c d e x.0 r.cause (step_detail_of is.0) x.2 is.3),
 )
 
 pub kept_or_advanced : (v w : State) (k : Progress) (o : Option Halt) (h : Halt) (a : Stop) (n : ℕ)
@@ -142,7 +135,7 @@ kept_or_advanced v w k o h a n name e same is (inr f) g says = halts_advanced v 
 step_can_show : (p : Problem) (k : ℕ) (name : List ℕ) (e : RuleError) (h : Halt)
     → IsStepHalt k name e h → CanShowHalt p (Some h)
 step_can_show p k name e Memory is = tt
-step_can_show p k name e (Refused r f) is = subst (CanShow p) (sym is.2) tt
+step_can_show p k name e (Refused r f) is = subst (CanShow p) (sym is.1) tt
 
 pub solution_can_show : (p : Problem) (s : Row) (n : ℕ) (name : List ℕ) (e : SolutionError)
     (h : Halt) → FailsBy p s (solution_tests p) e → IsSolutionHalt n name e h
@@ -159,3 +152,41 @@ reached_after k new b old o h n name e none is answers (inl f) g = subst (λ x. 
 reached_after k new b old o h n name e none is answers (inr f) g =
     let m : o ≡ Some Memory = g ∙ ap Some (memory_stops n name e h f.0 answers) in
     record { solutions = λ not p. absurd (not m); steps = λ not p. absurd (not m); shows = subst (CanShowHalt new.problem) (sym m) tt }
+
+-- ---- a derivation, as `derivation` and `take_from` take it
+
+pub unstopped : (v w : State) (x : Unit {0}) → v ≡ w → MatchOption w.halt
+    (◌≡◌ {A = Result (Unit {0}) Stop} (Ok x) (Ok tt))
+    (λ h. ◌≡◌ {A = Result (Unit {0}) Stop} (Ok x) (Err (later_answer h))) → v.halt ≡ None
+unstopped v w x is runs = ap (λ (s : State). s.halt) is ∙ runs_of w.halt x runs
+
+pub reached_next : (k new : Progress) (b : Bool) (halt : Option Halt) (d : Derivation)
+    → halt ≡ None → b ≡ false → IsReached k b halt
+    → ((c : Certificate) → HasSteps c k → HasSteps (with_next c d) new) → IsReached new b halt
+reached_next k new b halt d none phase is next = record {
+  solutions = λ n e. absurd (cc (phase, e));
+  steps = λ n e. (let r = is.steps n e in (with_next r.0 d, next r.0 r.1));
+  shows = subst (CanShowHalt new.problem) (sym none) tt;
+}
+
+pub halts_at_step : (v w : State) (k : Progress) (o : Option Halt) (h : Halt) (a : Stop) (n : ℕ)
+    (d : Derivation) (e : RuleError) (c : Certificate) → v ≡ w → IsStepHalt n d.name e h
+    → (k ≡ v.progress)
+    ⊎ ((e ≡ rule.Memory) × (k ≡ record v.progress { rows = advance_table v.progress.rows }))
+    → o ≡ Some h → a ≡ halt_answer h → n ≡ v.progress.rows.next → HasSteps c w.progress
+    → (HasSteps c v.progress → (e ≡ rule.Memory) ⊎ StopsIn v.progress.profile c d (step_tests d.reason) e)
+    → HaltsBy w h (record v { progress = k; halt = o }) a × StopsStep w.progress.profile c d h
+halts_at_step v w k o h a n d e c same is keeps set says at has why =
+    let own : HasSteps c v.progress = subst (λ (s : State). HasSteps c s.progress) (sym same) has in
+    (kept_or_advanced v w k o h a n d.name e same is keeps set says, subst (λ (s : State). StopsStep s.progress.profile c d h) same (stops_step v.progress.profile c d n e h (sym (at ∙ own.rows.next)) is (why own)))
+
+pub takes_step : (v w : State) (new : Progress) (d : Derivation) (c : Certificate) → v ≡ w
+    → HasSteps c w.progress
+    → (HasSteps c v.progress
+    → PassesTestsIn v.progress.profile c d (step_tests d.reason) × HasSteps (with_next c d) new)
+    → held_count new.rows ≤ new.peak
+    → new ≡ record v.progress { rows = new.rows; peak = new.peak; goal = new.goal }
+    → TakesStep c d w (record v { progress = new }) (Ok tt)
+takes_step v w new d c same has passes peak kept =
+    let t = passes (subst (λ (s : State). HasSteps c s.progress) (sym same) has) in
+    (subst (λ (s : State). PassesTestsIn s.progress.profile c d (step_tests d.reason)) same t.0, t.1, held_next c d new t.1, peak, derived_frame v w new new.rows new.peak new.goal same kept)

@@ -38,7 +38,7 @@ use Rattle.vipr_check.specs.declared.no_proof.NoProof.{NoProof}
 use Rattle.vipr_check.specs.declared.no_proof.NoProof.TheVariants as reason
 use Rattle.vipr_check.specs.View.{report_of, refusal_of}
 use Rattle.vipr_check.specs.Shown.{finding_shown, primal_shown, halt_shown, state_shown}
-use Rattle.vipr_check.specs.Halts.{halt_answer}
+use Rattle.vipr_check.specs.Halts.{halt_answer, step_detail_of}
 use Rattle.vipr_check.specs.Progress.{HasSolutions, HasSteps}
 use Rattle.vipr_check.specs.State.{State, HaltsBy, StopsSolution, TakesSolution, StopsEnd}
 use Rattle.vipr_check.specs.State.{EndsSolutions, StopsStep, TakesStep, StopsFinish, Finishes}
@@ -146,10 +146,10 @@ module _ (P : Profile) (c : Certificate) (k l : State) (old new : Items) (d : De
 
     step_stopped : ReasonShape d.reason → (p : Problem) (h : Halt) → StopsStep P c d h → IsSome old.rest → SaysWhy Left (halt_shown p (Some h)) (stop_reason (halt_answer h))
     step_stopped few p Memory w known = tt
-    step_stopped few p (Refused r f) (e, named, fails, refusal) known =
+    step_stopped few p (Refused r f) (what, named, e, says, fails, refusal) known =
         let a = refuses (refusal_of r) in
         let x = finding_shown p f in
-        let shown : x ≡ step d.name fails.2.0 = ap (finding_shown p) named ∙ ap (step d.name) (stop_shown P c d e few fails) in
+        let shown : x ≡ step d.name fails.2.0 = ap (finding_shown p) named ∙ ap (step d.name) (stop_shown P c d e r.cause (step_detail_of what) few fails says) in
         subst (λ n. Explained P (derivations_from c n (rest_of old.rest)) a x) (sym fewer)
         ((derivation_fails P a x c new.left (rest_of old.rest) d (rest_of new.rest) fails.0 (read known).0 fails.1).1 (refusal, (fails.2.0, fails.2.2, shown)))
 

@@ -35,8 +35,8 @@ use Rattle.vipr_rules.specs.declared.error.RuleError.{RuleError}
 use Rattle.vipr_check.specs.declared.halt.Stop.{Stop}
 use Rattle.vipr_check.specs.declared.halt.Halt.{Halt}
 use Rattle.vipr_check.specs.declared.halt.Halt.TheVariants.{Memory}
-use Rattle.vipr_check.specs.Halts.{IsTestOf}
-use Rattle.vipr_check.specs.Shown.{capped, rule_shown, halt_shown, state_shown}
+use Rattle.vipr_check.specs.Halts.{capped, rule_shown, IsTestOf}
+use Rattle.vipr_check.specs.Shown.{halt_shown, state_shown}
 use Rattle.vipr_table.specs.Table.{advance_table}
 use Rattle.vipr_check.specs.State.{State, HaltsBy}
 use Rattle.vipr_check.proofs.Failures.{failing_has}
@@ -167,14 +167,19 @@ capped_few (both x y) few = refl
 capped_few (compared x y) few = refl
 capped_few nothing few = refl
 
-rule_is : (e : RuleError) (m : ℕ) (x : StepDetail) → shown_by e ≡ Some (m, x) → IsFew x
-    → rule_shown e ≡ x
-rule_is e m x h few = ap (λ o. unwrap_or (option_map (λ (p : ℕ × StepDetail). capped p.1) o) nothing) h ∙ capped_few x few
+detail_is : (m n : ℕ) (x y : StepDetail)
+    → ◌≡◌ {A = Option (ℕ × StepDetail)} (Some (m, x)) (Some (n, y)) → y ≡ x
+detail_is m n x y g = sym (ap (λ (o : Option (ℕ × StepDetail)). (unwrap_or o (m, x)).1) g)
+
+rule_is : (e : RuleError) (m n : ℕ) (x y : StepDetail) → shown_by e ≡ Some (m, x) → IsFew x
+    → rule_shown e ≡ Some (n, y) → y ≡ x
+rule_is e m n x y h few g = detail_is m n (capped x) y (sym (ap (option_map (λ (p : ℕ × StepDetail). (p.0, capped p.1))) h) ∙ g) ∙ capped_few x few
 
 pub stop_shown : (P : Profile) (c : Certificate) (d : Derivation) (e : RuleError)
-    → ReasonShape d.reason → (s : StopsIn P c d (step_tests d.reason) e) → rule_shown e ≡ s.2.0
-stop_shown P c d e few (t, first, (x, says, shows)) =
-    rule_is e _ x says (shows_few c (condition d.stated) t x (failing_has (PassesStep P c (condition d.stated)) FewIn (step_tests d.reason) t (step_few d.reason few) first) shows)
+    (n : ℕ) (y : StepDetail) → ReasonShape d.reason
+    → (s : StopsIn P c d (step_tests d.reason) e) → rule_shown e ≡ Some (n, y) → y ≡ s.2.0
+stop_shown P c d e n y few (t, first, (x, says, shows)) =
+    rule_is e _ n x y says (shows_few c (condition d.stated) t x (failing_has (PassesStep P c (condition d.stated)) FewIn (step_tests d.reason) t (step_few d.reason few) first) shows)
 
 -- ---- checkers
 

@@ -24,7 +24,9 @@ use Rattle.vipr_check.specs.declared.halt.Halt.{Halt}
 use Rattle.vipr_check.specs.declared.halt.Halt.TheVariants.{Refused, Memory}
 use Rattle.vipr_check.specs.contracts.halt.Halt as halt
 use Rattle.vipr_check.specs.View.{refusal_of, report_of}
-use Rattle.vipr_check.specs.Halts.{halt_answer, later_answer, CanShowHalt}
+use Rattle.vipr_check.specs.declared.detail.StepDetail.{StepDetail}
+use Rattle.vipr_check.specs.Halts.{halt_answer, later_answer, step_detail_of, rule_shown}
+use Rattle.vipr_check.specs.Halts.{CanShowHalt}
 use Rattle.vipr_check.specs.Progress.{Progress, progress_code, HasSolutions, HasSteps}
 
 pub record State : Type 0 where
@@ -113,7 +115,8 @@ EndsSolutions ss old new (Err e) = (h : Halt) × HaltsBy old h new e
 
 -- a test of the derivation d fails after the certificate c, or memory was refused
 abbrev pub StopsStep : Profile → Certificate → Derivation → Halt → Type 0
-StopsStep P c d (Refused r f) = (e : RuleError) × (f ≡ Derived d.name e)
+StopsStep P c d (Refused r f) = (what : StepDetail) × (f ≡ Derived d.name what)
+    × (e : RuleError) × (rule_shown e ≡ Some (r.cause, step_detail_of what))
     × (x : StopsIn P c d (step_tests d.reason) e) × IsRefusalBy r (of_step (count c) x.0)
 StopsStep P c d Memory = Unit {0}
 

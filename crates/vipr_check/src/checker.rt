@@ -8,7 +8,7 @@ ghost use Rattle.vipr_cert.specs.Items.{solution_of, derivation_of};
 ghost use Rattle.vipr_rules.specs.Profile.{profile_of};
 ghost use Rattle.vipr_table.specs.Table.{held_count as held_in};
 ghost use Rattle.vipr_check.specs.Sound.{KeepsSoundness};
-ghost use Rattle.vipr_check.specs.Halts.{halt_answer, later_answer, step_halt};
+ghost use Rattle.vipr_check.specs.Halts.{halt_answer, later_answer, IsOwnStepHalt};
 ghost use Rattle.vipr_check.specs.Progress.{HasSolutions, HasSteps};
 ghost use Rattle.vipr_check.specs.State.{Repeats, TakesSolution, EndsSolutions, TakesStep};
 ghost use Rattle.vipr_check.specs.State.{Finishes};
@@ -330,8 +330,8 @@ fn stop(halt: &mut Option<Halt>, why: Halt) -> Stop
 // Stops at a derivation, and gives what is answered.
 #[inline(never)]
 fn stop_at_step(halt: &mut Option<Halt>, index: u32, name: Name, error: RuleError) -> Stop
-    ensures halt { halt.new ≡ Some (step_halt index name error) }
-    ensures answer { result ≡ halt_answer (step_halt index name error) }
+    ensures { (h : Halt) × IsOwnStepHalt index name error h × (halt.new ≡ Some h)
+        × (result ≡ halt_answer h) }
 {
     stop(halt, Halt::at_derivation(index, name, error))
 }

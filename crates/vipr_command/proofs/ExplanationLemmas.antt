@@ -1,5 +1,5 @@
 -- What is printed of a verdict and its detail
-use Rattle.std.proofs.Common.{◌≡◌, ℕ, Option, Some, Ok, Err, subst}
+use Rattle.std.proofs.Common.{◌≡◌, ℕ, Option, Some, Result, Ok, Err, subst}
 use Rattle.vipr_spec.specs.Constraint.{Profile}
 use Rattle.vipr_bytes.specs.Output.{Output}
 use Rattle.vipr_check.specs.Explanation.{explained_text}
@@ -34,10 +34,8 @@ module _ (P : Profile) (k : KnownInput) (v : Verdict) (x : Detail) (explained : 
   not_printed Memory p = p
   not_printed (Write n) (text, same, took) = (v, x, explained, subst (λ t. Took old new t (Err (after_first n))) same took)
 
-  pub printed_more : (s : ℕ) → s ≡ status_for v → PrintsMore (explained_text v x) old new (Ok tt) → PrintsAtLength P k old new (Ok s)
-  printed_more s is (more, page, took) = (v, x, more, explained, page, is, took)
-
-  pub not_printed_more : (f : CommandFault) → PrintsMore (explained_text v x) old new (Err f) → PrintsAtLength P k old new (Err f)
-  not_printed_more Read p = absurd p
-  not_printed_more Memory p = p
-  not_printed_more (Write n) (more, page, took) = (v, x, more, explained, page, took)
+  pub printed_at_length : (r : Result ℕ CommandFault) → PrintsMore (explained_text v x) (status_for v) old new r → PrintsAtLength P k old new r
+  printed_at_length (Ok s) (more, page, is, took) = (v, x, more, explained, page, is, took)
+  printed_at_length (Err Read) p = absurd p
+  printed_at_length (Err Memory) p = p
+  printed_at_length (Err (Write n)) (more, page, took) = (v, x, more, explained, page, took)

@@ -24,14 +24,14 @@ Stays old new = IfSome old (λ o. new ≡ Some o)
 abbrev pub IsText : Option (List ℕ) → List ℕ → Type 0
 IsText known text = IfSome known (λ t. text ≡ t)
 
--- What follows a text is a page, which may be empty. Ok: both were written. Write: their first n
--- bytes were, and no more. Memory: nothing was.
-abbrev pub PrintsMore : List ℕ → Option Output → Option Output → Result (Unit {0}) CommandFault
-    → Type 0
-PrintsMore text old new (Ok u) = (more : List ℕ) × IsPage more × Took old new (text ++ more) (Ok tt)
-PrintsMore text old new (Err Read) = ⊥
-PrintsMore text old new (Err Memory) = Stays old new
-PrintsMore text old new (Err (Write n)) = (more : List ℕ) × IsPage more
+-- What follows a text is a page, which may be empty. Ok: both were written, and this status is
+-- answered. Write: their first n bytes were, and no more. Memory: nothing was.
+abbrev pub PrintsMore : List ℕ → ℕ → Option Output → Option Output → Result ℕ CommandFault → Type 0
+PrintsMore text status old new (Ok s) = (more : List ℕ) × IsPage more × (s ≡ status)
+    × Took old new (text ++ more) (Ok tt)
+PrintsMore text status old new (Err Read) = ⊥
+PrintsMore text status old new (Err Memory) = Stays old new
+PrintsMore text status old new (Err (Write n)) = (more : List ℕ) × IsPage more
     × Took old new (text ++ more) (Err (after_first n))
 
 -- Ok: the text was accepted whole. Write: its first n bytes were, and no more. Memory: nothing was.

@@ -5,7 +5,7 @@ ghost use Rattle.vipr_explain.specs.Page.{IsPage};
 ghost use Rattle.vipr_rules.specs.Profile.{profile_of};
 ghost use Rattle.vipr_command.specs.Output.{PrintsMore};
 ghost use Rattle.vipr_command.specs.declared.request.Task.{Task};
-ghost use Rattle.vipr_command.specs.Run.{Does, OfInput, PrintsAtLength};
+ghost use Rattle.vipr_command.specs.Run.{Does, OfInput, PrintsAtLength, status_for};
 
 use crate::check::status_of;
 use crate::explain::print_explanation;
@@ -86,10 +86,7 @@ fn print_file_at_length<H: AllocGlobal + Files, R: Source + Drop, O: Sink>(
     let (verdict, detail) = explain_in(rt.alloc(), profile, source)?;
     let text = FileText { rt, path };
     let page = page_for(rt.alloc(), Some(&text), path, &verdict, &detail);
-    let printed = print_with_page(rt.alloc(), &verdict, &detail, page, out);
-    drop(detail);
-    printed?;
-    Ok(status_of(&verdict))
+    print_with_page(rt.alloc(), &verdict, detail, page, out)
 }
 
 /// This of a source that can be read only once: its bytes are kept while it is read.
@@ -108,28 +105,29 @@ fn print_kept_at_length<R: Source + Drop, O: Sink>(
     let (verdict, detail) = explain_in(alloc, profile, reader)?;
     let text = kept.text();
     let page = page_for(alloc, text.as_ref(), name, &verdict, &detail);
-    let printed = print_with_page(alloc, &verdict, &detail, page, out);
-    drop(detail);
-    printed?;
-    Ok(status_of(&verdict))
+    print_with_page(alloc, &verdict, detail, page, out)
 }
 
-// Prints what `explain` prints, and a page behind it.
+// Prints what `explain` prints, and a page behind it. Answers the verdict's exit status.
 fn print_with_page<O: Sink>(
     alloc: Global,
     verdict: &Verdict,
-    detail: &Detail,
+    detail: Detail,
     page: Option<Page>,
     out: &mut O,
-) -> Result<(), CommandFault>
-    ensures { PrintsMore (explained_text verdict.now detail.now) (O.output out.old)
-        (O.output out.new) result }
+) -> Result<u8, CommandFault>
+    ensures { PrintsMore (explained_text verdict.now detail) (status_for verdict.now)
+        (O.output out.old) (O.output out.new) result }
 {
-    let explanation = Explanation { verdict, detail };
-    let text = explanation.to_string(alloc)?.into_bytes();
-    let text = with_page(text, page);
+    let explanation = Explanation {
+        verdict,
+        detail: &detail,
+    };
+    let text = explanation.to_string(alloc);
+    drop(detail);
+    let text = with_page(text?.into_bytes(), page);
     write_bytes(out, text.as_slice())?;
-    Ok(())
+    Ok(status_of(verdict))
 }
 
 // A text with a page behind it, or with none if there is no memory for that.

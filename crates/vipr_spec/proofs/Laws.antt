@@ -72,7 +72,7 @@ pub use Rattle.vipr_spec.proofs.Steps.{refers_back, rests_more, rests_next, soun
 -- What the tightened certificate of a proof is
 pub use Rattle.vipr_spec.proofs.Tight.{back_of_proof, tight_back, tight_goal, tight_needed}
 pub use Rattle.vipr_spec.proofs.Tight.{tight_proof, tight_twice, unneeded_goal}
-pub use Rattle.vipr_spec.proofs.TightPeak.{tight_counts, tight_peak}
+pub use Rattle.vipr_spec.proofs.TightPeak.{count_cons, count_from, tight_counts, tight_peak}
 -- Laws of the tokens of a text
 pub use Rattle.vipr_spec.proofs.TokenLaws.{run_from, token_cut, token_long, token_whole}
 -- The tokens of a text are the one list that it is made up of

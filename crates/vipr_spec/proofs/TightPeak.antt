@@ -23,15 +23,15 @@ use Rattle.vipr_spec.proofs.Tight.{back_of_proof, live_in_proof, tight_none}
 
 -- ---- counts over ranges
 
-count_cons : (p : ℕ → Bool) (x : ℕ) (xs : List ℕ)
+pub count_cons : (p : ℕ → Bool) (x : ℕ) (xs : List ℕ)
     → count_by p (x ∷ xs) ≡ cond (p x) 1 0 + count_by p xs
 count_cons p x xs = let e = sum_by-append (λ x. cond (p x) 1 0) (x ∷ []) xs in omega arith
 
-count_more : (p : ℕ → Bool) (a n b : ℕ) → a + n ≡ b
+pub count_from : (p : ℕ → Bool) (a n b : ℕ) → a + n ≡ b
     → count_by p (range_with_len a (suc n)) ≡ count_by p (range_with_len a n) + cond (p b) 1 0
-count_more p a zero b e = let same : a ≡ b = omega arith in ap (λ x. 0 + cond (p x) 1 0) same
-count_more p a (suc n) b e =
-    let rest = count_more p (a + 1) n b (omega arith) in
+count_from p a zero b e = let same : a ≡ b = omega arith in ap (λ x. 0 + cond (p x) 1 0) same
+count_from p a (suc n) b e =
+    let rest = count_from p (a + 1) n b (omega arith) in
     let more = count_cons p a (range_with_len (a + 1) (suc n)) in
     let one = count_cons p a (range_with_len (a + 1) n) in
     omega arith
@@ -41,7 +41,7 @@ count_kept : (keep : ℕ → Bool) (a n : ℕ)
 count_kept keep a zero = let same : new_index keep (a + 0) ≡ new_index keep a = ap (new_index keep) {x = a + 0} {y = a} (omega arith) in omega arith
 count_kept keep a (suc n) =
     let rest = count_kept keep a n in
-    let more = count_more keep a n (a + n) refl in
+    let more = count_from keep a n (a + n) refl in
     let same : new_index keep (a + suc n) ≡ new_index keep (suc (a + n)) = ap (new_index keep) {x = a + suc n} {y = suc (a + n)} (omega arith) in
     omega arith
 
@@ -75,7 +75,7 @@ count_new_old keep p q a e (suc n) h = by (count_new_old keep p q a e n (λ i lo
     up = let l = index_mono keep a (a + n) (omega arith) in omega arith
 
     more : count_by p (range_with_len a (suc n)) ≡ count_by p (range_with_len a n) + cond (p (a + n)) 1 0
-    more = count_more p a n (a + n) refl
+    more = count_from p a n (a + n) refl
 
     one : keep (a + n) ≡ true → cond (q (new_index keep (a + n))) 1 0 ≤ cond (p (a + n)) 1 0
     one k = ⊎_elim
@@ -90,7 +90,7 @@ count_new_old keep p q a e (suc n) h = by (count_new_old keep p q a e n (λ i lo
         let x = next in
         let y = up in
         let size : new_index keep (a + suc n) - a ≡ suc (new_index keep (a + n) - a) = omega arith in
-        let longer = count_more q a (new_index keep (a + n) - a) (new_index keep (a + n)) (omega arith) in
+        let longer = count_from q a (new_index keep (a + n) - a) (new_index keep (a + n)) (omega arith) in
         let here = one k in
         let m = more in
         subst (λ z. count_by q (range_with_len a z) ≤ count_by p (range_with_len a (suc n))) (sym size) (omega arith)

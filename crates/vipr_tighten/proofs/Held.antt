@@ -7,7 +7,7 @@ use Rattle.std.specs.FinMap.{empty}
 use Rattle.std.specs.FinSet as set
 use Rattle.std.specs.Prelude.{option_map}
 use Rattle.std.specs.List.{range_with_len, count_by, fold}
-use Rattle.std.proofs.lemmas.List.Sums.{sum_by-append, fold-append, count_by-le-length}
+use Rattle.std.proofs.lemmas.List.Sums.{fold-append, count_by-le-length}
 use Rattle.std.proofs.lemmas.List.FromFn.{map-range_with_len_more, length-range_with_len}
 use Rattle.std.proofs.lemmas.List.{get_or-append-add, get_or-map, length-map, length-replicate}
 use Rattle.std.proofs.lemmas.Bool.Decides.{nat_tests}
@@ -17,7 +17,7 @@ use Rattle.vipr_spec.specs.Certificate.{Named, Derivation, Certificate, reason_a
 use Rattle.vipr_spec.specs.Certificate.{minimum, infeasible}
 use Rattle.vipr_spec.specs.Certificate.{is_assumption, lasts_to, is_live, count_held, peak}
 use Rattle.vipr_spec.proofs.Laws.{reason_placed}
-use Rattle.vipr_spec.proofs.Laws.{lasts_listed}
+use Rattle.vipr_spec.proofs.Laws.{lasts_listed, count_cons, count_from}
 use Rattle.vipr_cert.specs.Items.{reason_of}
 use Rattle.vipr_write.specs.Steps.{step_of}
 use Rattle.vipr_write.specs.declared.statements.Step.{Step}
@@ -31,19 +31,6 @@ abbrev pub drop_at : Certificate → ℕ → Option ℕ
 drop_at c i = dropped_after i (reason_at c i) (last_at c i)
 
 -- ---- counts over ranges
-
-count_cons : (p : ℕ → Bool) (x : ℕ) (xs : List ℕ)
-    → count_by p (x ∷ xs) ≡ cond (p x) 1 0 + count_by p xs
-count_cons p x xs = let e = sum_by-append (λ x. cond (p x) 1 0) (x ∷ []) xs in omega arith
-
-count_from : (p : ℕ → Bool) (a n b : ℕ) → a + n ≡ b
-    → count_by p (range_with_len a (suc n)) ≡ count_by p (range_with_len a n) + cond (p b) 1 0
-count_from p a zero b e = let same : a ≡ b = omega arith in ap (λ x. 0 + cond (p x) 1 0) same
-count_from p a (suc n) b e =
-    let rest = count_from p (a + 1) n b (omega arith) in
-    let more = count_cons p a (range_with_len (a + 1) (suc n)) in
-    let one = count_cons p a (range_with_len (a + 1) n) in
-    omega arith
 
 pub count_more : (p : ℕ → Bool) (a n : ℕ)
     → count_by p (range_with_len a (n + 1)) ≡ count_by p (range_with_len a n) + cond (p (a + n)) 1 0

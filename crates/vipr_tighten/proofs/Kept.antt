@@ -2,6 +2,7 @@
 use Rattle.std.proofs.Common.{◌≡◌, ℕ, ◌+◌, ◌-◌, ◌<◌, ◌≤◌, List, map, length, Option, Some, None}
 use Rattle.std.proofs.Common.{IfSome, Ok, Err, arith, refl, sym, ap, ◌∙◌, subst}
 use Rattle.std.specs.Prelude.{MatchOption}
+use Rattle.std.proofs.lemmas.List.{length-map}
 use Rattle.vipr_spec.specs.Constraint.{Profile, Constraint}
 use Rattle.vipr_spec.specs.Certificate.{Named, Problem, Certificate, IsGoal, NeedsGoal, count, peak}
 use Rattle.vipr_spec.specs.Grammar.{SpellsOnly}
@@ -10,7 +11,10 @@ use Rattle.vipr_spec.specs.Tightened.{tightened_certificate}
 use Rattle.vipr_spec.proofs.Laws.{back_of_proof, can_write}
 use Rattle.vipr_bytes.specs.Output.{Output}
 use Rattle.vipr_bytes.specs.Written.{Wrote}
-use Rattle.vipr_cert.specs.Items.{solution_of}
+use Rattle.vipr_linear.specs.Constraint.{constraint_of}
+use Rattle.vipr_linear.specs.declared.constraint.Constraint.{Constraint as ConstraintItem}
+use Rattle.vipr_cert.specs.Items.{named_of, solution_of}
+use Rattle.vipr_cert.specs.declared.items.Named.{Named as NamedItem}
 use Rattle.vipr_check.specs.View.{report_of}
 use Rattle.vipr_write.specs.declared.form.Form.{Form}
 use Rattle.vipr_write.specs.declared.statements.Statement.{Statement}
@@ -37,8 +41,15 @@ goal_before P c (Some g) h = h.0.0
 below : (goal : Option ℕ) (m n : ℕ) → m ≡ n → IfSome goal (λ g. g < m) → IfSome goal (λ g. g < n)
 below goal m n e h = subst (λ k. IfSome goal (λ g. g < k)) e h
 
--- the first derivation has the index `first`
-module _ (P : Profile) (F : Form) (c : Certificate) (k : KeptProof) (is : IsKeptOf P F c k) (first : ℕ) (is_first : length k.problem.constraints ≡ first) where
+-- these are the constraints of the problem
+module _ (P : Profile) (F : Form) (c : Certificate) (k : KeptProof) (is : IsKeptOf P F c k) (cons : List (NamedItem ConstraintItem)) (cons_are : map (named_of constraint_of) cons ≡ k.problem.constraints) where
+  -- the index of the first derivation
+  abbrev first : ℕ
+  first = length cons
+
+  is_first : length k.problem.constraints ≡ first
+  is_first = ap length (sym cons_are) ∙ length-map cons (named_of constraint_of)
+
   abbrev texts : Certificate
   texts = with_texts k.statements.form k.statements.objective c
 

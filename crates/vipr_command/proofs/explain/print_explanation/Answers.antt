@@ -1,8 +1,7 @@
 use Rattle.std.proofs.Common.{Ok, Err}
-use Rattle.std.proofs.lemmas.Result.{err_from_is_err_and}
 use Rattle.vipr_rules.specs.Profile.{profile_of}
 use Rattle.vipr_command.specs.Run.{PrintsExplanation, fault_for}
-use Rattle.vipr_command.proofs.InputLemmas.{of_input}
+use Rattle.vipr_command.proofs.InputLemmas.{of_input, of_fault}
 use Rattle.vipr_command.proofs.ExplanationLemmas.{unexplained, printed, not_printed}
 use Rattle.vipr_command.proofs.explain.print_explanation.Goals as goal
 
@@ -11,8 +10,7 @@ returns-in_err-verdict g c =
     let P = profile_of c.args.profile in
     let old = g.O.Sink.output c.args.out.now in
     let e = c.in_err-verdict.field-0.0 in
-    let p = err_from_is_err_and c.from_residual.result c.from_residual.ensures.1 in
-    rw (p.1, p.2) (of_input (g.R.Source.input c.args.source) (λ k. k.Explained P (Err e)) (λ k. PrintsExplanation P k old old (Err (fault_for e))) (λ k. unexplained P k old e) (tt, c.in_err-verdict.ensures.detail))
+    of_fault (g.R.Source.input c.args.source) (λ k. k.Explained P (Err e)) (λ k r. PrintsExplanation P k old old r) (fault_for e) c.from_residual.result c.from_residual.ensures.1 (λ k. unexplained P k old e) (tt, c.in_err-verdict.ensures.detail)
 
 pub returns-in_err-printed : goal.returns-in_err-printed
 returns-in_err-printed g c =
@@ -22,8 +20,7 @@ returns-in_err-printed g c =
     let v = c.in_ok-verdict.verdict in
     let x = c.in_ok-verdict.detail in
     let f = c.in_err-printed.field-0.0 in
-    let p = err_from_is_err_and c.from_residual-in_err-printed.result c.from_residual-in_err-printed.ensures.1 in
-    rw (p.1, p.2) (of_input (g.R.Source.input c.args.source) (λ k. k.Explained P (Ok (v, x))) (λ k. PrintsExplanation P k old new (Err f)) (λ k is. not_printed P k v x is old new f c.in_err-printed.ensures) (tt, c.in_ok-verdict.ensures.detail))
+    of_fault (g.R.Source.input c.args.source) (λ k. k.Explained P (Ok (v, x))) (λ k r. PrintsExplanation P k old new r) f c.from_residual-in_err-printed.result c.from_residual-in_err-printed.ensures.1 (λ k is. not_printed P k v x is old new f c.in_err-printed.ensures) (tt, c.in_ok-verdict.ensures.detail)
 
 pub returns : goal.returns
 returns g c =

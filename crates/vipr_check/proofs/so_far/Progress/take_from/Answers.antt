@@ -1,27 +1,21 @@
-use Rattle.std.proofs.Common.{◌≡◌, ◌⊎◌, sym, ap, subst}
+use Rattle.std.proofs.Common.{sym, subst, refl}
 use Rattle.std.proofs.lemmas.Result.{err_from_is_err_and}
 use Rattle.vipr_spec.specs.Constraint.{at, NamesBelow}
 use Rattle.vipr_spec.specs.Certificate.{variables, count}
+use Rattle.vipr_spec.specs.Steps.{step_tests, with_next}
 use Rattle.vipr_cert.specs.Items.{derivation_of}
-use Rattle.vipr_check.specs.Progress.{Progress as Known, HasSteps}
-use Rattle.vipr_check.proofs.CauseLemmas.{map_right, refusal_stops}
-use Rattle.vipr_check.proofs.ProgressLemmas.{best_here, back, kept_next}
 use Rattle.vipr_table.specs.History.{IsEntryOf}
 use Rattle.vipr_table.specs.declared.rows.Entry.{Entry}
-use Rattle.vipr_rules.specs.Profile.{profile_of}
-use Rattle.vipr_rules.specs.Apply.{StopsIn, PassesTestsIn}
-use Rattle.vipr_spec.specs.Steps.{step_tests, with_next}
-use Rattle.vipr_rules.specs.declared.error.RuleError.TheVariants.{Memory}
+use Rattle.vipr_rules.specs.Apply.{PassesTestsIn}
+use Rattle.vipr_check.specs.Progress.{Progress as Known}
+use Rattle.vipr_check.proofs.CauseLemmas.{has_steps, decided_next, refused_next}
+use Rattle.vipr_check.proofs.ProgressLemmas.{kept_next}
 use Rattle.vipr_check.proofs.so_far.Progress.take_from.Goals as goal
 
 pub returns-in_err-assumptions-clause-next : goal.returns-in_err-assumptions-clause-next
 returns-in_err-assumptions-clause-next g c = λ s has.
-    let is = subst (HasSteps s) (sym c.self.view_is) has in
-    let k = c.self.inside in
     let p = err_from_is_err_and c.from_residual.result c.from_residual.ensures.1 in
-    let decided = c.in_err-assumptions.ensures.applies.decided s is.problem is.rows (back s _ is) (best_here s.problem k.problem s.solutions k.best _ is.problem c.as_ref.ensures.value is.best) in
-    let same = ap (λ (v : Known). v.profile) c.self.view_is in
-    rw (p.1, p.2) (subst (λ Q. (c.in_err-assumptions.field-0.0 ≡ Memory) ⊎ StopsIn Q s (derivation_of c.args.step.now) (step_tests (derivation_of c.args.step.now).reason) c.in_err-assumptions.field-0.0) same (map_right (refusal_stops (profile_of k.profile) s (derivation_of c.args.step.now) c.in_err-assumptions.field-0.0) decided))
+    rw (p.1, p.2) (refused_next _ _ _ c.args.step.now _ s c.self.view_is c.as_ref.ensures.value c.in_err-assumptions.ensures.applies has c.in_err-assumptions.field-0.0 refl)
 
 pub keep-requires-clause-names : goal.keep-requires-clause-names
 keep-requires-clause-names g c =
@@ -30,10 +24,8 @@ keep-requires-clause-names g c =
 
 pub returns-clause-next : goal.returns-clause-next
 returns-clause-next g c = λ s has.
-    let is = subst (HasSteps s) (sym c.self.view_is) has in
-    let k = c.self.inside in
     let d = derivation_of c.args.step.now in
-    let decided = c.in_ok-assumptions.ensures.applies.decided s is.problem is.rows (back s _ is) (best_here s.problem k.problem s.solutions k.best _ is.problem c.as_ref.ensures.value is.best) in
-    let passes = subst (λ Q. PassesTestsIn Q s d (step_tests d.reason)) (ap (λ (v : Known). v.profile) c.self.view_is) decided.0 in
-    let kept = subst (IsEntryOf (with_next s d) (count s)) (sym c.take_entry.ensures.kept) decided.1 in
-    kept_next _ _ _ _ c.keep.result passes (c.keep.ensures.next s d is decided.0 kept) c.keep.ensures.err
+    let is = has_steps _ _ _ c.args.step.now _ s c.self.view_is c.as_ref.ensures.value c.in_ok-assumptions.ensures.applies has in
+    let decided = decided_next _ _ _ c.args.step.now _ s c.self.view_is c.as_ref.ensures.value c.in_ok-assumptions.ensures.applies has in
+    let passes = subst (λ (v : Known). PassesTestsIn v.profile s d (step_tests d.reason)) c.self.view_is decided.0 in
+    kept_next _ _ _ _ c.keep.result passes (c.keep.ensures.next s d is decided.0 (subst (IsEntryOf (with_next s d) (count s)) (sym c.take_entry.ensures.kept) decided.1)) c.keep.ensures.err
