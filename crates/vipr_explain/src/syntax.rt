@@ -1,5 +1,5 @@
 //! Explains a fault of a text: its place, and what is wanted there.
-ghost use Rattle.std.specs.Prelude.{◌≡◌, ℕ, List, [], IfErr, IfOk, OnOk, true};
+ghost use Rattle.std.specs.Prelude.{◌≡◌, ◌<◌, ◌^◌, ℕ, List, [], IfErr, IfOk, OnOk, length, true};
 ghost use Rattle.vipr_spec.specs.Input.{Input};
 ghost use Rattle.vipr_explain.specs.Contexts.{context_text, error_text, token_fault_text};
 ghost use Rattle.vipr_explain.specs.Contexts.{found_words};
@@ -7,8 +7,8 @@ ghost use Rattle.vipr_explain.specs.Contexts.{has_items, has_name, is_in_head, i
 ghost use Rattle.vipr_explain.specs.Contexts.{item_part, item_text, label_text, item_name};
 ghost use Rattle.vipr_explain.specs.Found.{OnlyIf};
 ghost use Rattle.vipr_explain.specs.Progress.{at_start, named_at, passed};
-ghost use Rattle.vipr_explain.specs.Syntax.{HasPassedWords, IsSyntaxText};
-ghost use Rattle.vipr_explain.specs.Words.{IsReading};
+ghost use Rattle.vipr_explain.specs.Syntax.{IsFoundAt, IsSyntaxText, PassesUpTo};
+ghost use Rattle.vipr_explain.specs.Words.{IsReading, kept_word, no_token};
 ghost use Rattle.vipr_explain.specs.Written.{PutsText};
 
 use crate::excerpt::Excerpt;
@@ -43,7 +43,7 @@ pub(crate) fn put_syntax<T: Text>(
     offset: u64,
 ) -> Result<(), Missing>
     ensures shown { IfOk result (λ _. (text : List ℕ)
-        × IsSyntaxText (T.input subject.now.text.now) subject.now.file.now cause text
+        × IsSyntaxText (T.input subject.now.text.now) subject.now.file.now cause offset text
         × PutsText page.old page.new text) }
     ensures error { IfErr result
         (OnlyIf (T.input subject.now.text.now) (λ i. i.fails ≡ true)) }
@@ -73,7 +73,7 @@ impl<R: Source + Drop> FoundToken<R> {
         subject: &Subject<'_, T>,
         offset: u64,
     ) -> Result<FoundToken<R>, Missing>
-        ensures passed { IfOk result HasPassedWords }
+        ensures found { IfOk result (IsFoundAt (T.input subject.now.text.now) offset) }
         ensures error { IfErr result
             (OnlyIf (T.input subject.now.text.now) (λ i. i.fails ≡ true)) }
     {
@@ -92,7 +92,9 @@ impl<R: Source + Drop> FoundToken<R> {
     fn pass_up_to(&mut self, offset: u64) -> Result<(), Missing>
         requires progress { self.old.progress ≡ at_start }
         requires name { self.old.name.items ≡ [] }
-        ensures passed { OnOk result (HasPassedWords self.new) }
+        requires token { kept_word self.old.words ≡ no_token }
+        requires end { self.old.is_end ≡ true }
+        ensures found { OnOk result (PassesUpTo R.input offset self.old self.new) }
         ensures reading { (i : Input) → IsReading R.input i self.old.words
             → OnOk result (IsReading R.input i self.new.words) }
         ensures error { IfErr result (λ m. m ≡ Missing.Memory) }
@@ -113,6 +115,7 @@ impl<R: Source + Drop> FoundToken<R> {
     // Passes the token that was read.
     fn pass(&mut self) -> Result<(), AllocError>
         ensures words { self.new.words ≡ self.old.words }
+        ensures is_end { self.new.is_end ≡ self.old.is_end }
         ensures name { OnOk result (self.new.name.items
             ≡ named_at self.old.progress.wanted self.old.name.items self.old.words.word.items) }
         ensures progress { OnOk result
@@ -126,6 +129,7 @@ impl<R: Source + Drop> FoundToken<R> {
     // Takes the token that was read as the name of an item, if it is one.
     fn take_name(&mut self) -> Result<(), AllocError>
         ensures words { self.new.words ≡ self.old.words }
+        ensures is_end { self.new.is_end ≡ self.old.is_end }
         ensures progress { self.new.progress ≡ self.old.progress }
         ensures name { OnOk result (self.new.name.items
             ≡ named_at self.old.progress.wanted self.old.name.items self.old.words.word.items) }
