@@ -2,7 +2,6 @@
 use Rattle.std.proofs.Common.{◌≡◌, ℕ, zero, suc, ◌≤◌, ◌⊎◌, inl, inr, true, List, ◌∷◌, length}
 use Rattle.std.proofs.Common.{Option, Some, None, Result, Ok, Err, IfSome, IfErr, refl, sym}
 use Rattle.std.proofs.Common.{subst, arith}
-use Rattle.std.specs.Prelude.{⊤}
 use Rattle.vipr_spec.specs.Input.{Input}
 use Rattle.vipr_spec.specs.Certificate.{Named, Problem}
 use Rattle.vipr_spec.specs.Constraint.{Row}
@@ -212,9 +211,8 @@ pub only_nothing_of_memory : (o : Option Input) (P : Input → Type 0) → OnlyI
 only_nothing_of_memory None P = tt
 only_nothing_of_memory (Some i) P = λ short. tt
 
-pub only_nothing : {A : Type 0} (o : Option Input) (r : Result A Missing)
-    → IfErr r (OnlyIf o (λ _. ⊤))
-only_nothing o (Ok x) = tt
-only_nothing None (Err m) = tt
-only_nothing (Some i) (Err missing.Text) = λ short. tt
-only_nothing (Some i) (Err missing.Memory) = λ short. tt
+pub err_memory_only : {A : Type 0} (o : Option Input) (r : Result A Missing) (P : Input → Type 0)
+    → IfErr r (λ m. m ≡ missing.Memory) → IfErr r (OnlyIf o P)
+err_memory_only o (Ok x) P h = tt
+err_memory_only None (Err m) P h = tt
+err_memory_only (Some i) (Err m) P h = λ short. of_memory m (P i) h

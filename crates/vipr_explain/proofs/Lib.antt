@@ -19,3 +19,4 @@ mod Valuing
 mod Nearby
 mod ByPlace
 mod Reading
+mod Tokens

@@ -1,29 +1,33 @@
 -- The lines about a fault of a text, one after the other
 use Rattle.std.proofs.Common.{◌≡◌, ℕ, Bool, List, [], ◌++◌, Option, IfSome, refl, subst}
 use Rattle.vipr_spec.specs.Input.{Input}
+use Rattle.vipr_bytes.specs.Known.{IfKnown}
 use Rattle.vipr_explain.specs.Contexts.{context_text, error_text, label_text}
 use Rattle.vipr_explain.specs.Excerpted.{excerpt_text}
 use Rattle.vipr_explain.specs.Excerpts.{IsExcerpt}
 use Rattle.vipr_explain.specs.Hints.{hints_text}
 use Rattle.vipr_explain.specs.Progress.{at_start, name_after, passed_all}
-use Rattle.vipr_explain.specs.Syntax.{IsSyntaxText}
+use Rattle.vipr_explain.specs.Syntax.{IsSyntaxText, IsTokenAt}
+use Rattle.vipr_explain.specs.Words.{Kept}
 use Rattle.vipr_explain.specs.Written.{PutsText}
 use Rattle.vipr_explain.specs.declared.excerpt.Excerpt.{Excerpt}
 use Rattle.vipr_explain.specs.declared.page.Page.{Page}
-use Rattle.vipr_explain.specs.declared.text.Spot.{Spot}
 use Rattle.vipr_explain.specs.declared.wanted.TextProgress.{TextProgress}
 use Rattle.vipr_explain.proofs.Putting.{puts_then}
 
-pub syntax_lines : (input : Option Input) (file : List ℕ) (c : ℕ) (words : List (List ℕ))
-    (is_end : Bool) (p : TextProgress) (name word label : List ℕ) (size margin indent : ℕ)
-    (excerpt : Excerpt) (spot : Spot) (first second third fourth last : Page)
+pub syntax_lines : (input : Option Input) (file : List ℕ) (c offset : ℕ) (words : List (List ℕ))
+    (is_end : Bool) (p : TextProgress) (name label : List ℕ) (kept : Kept) (margin indent : ℕ)
+    (excerpt : Excerpt) (first second third fourth last : Page)
     → p ≡ passed_all at_start words → name ≡ name_after at_start [] words
-    → label ≡ label_text is_end → IfSome input (λ i. IsExcerpt spot i.bytes excerpt)
+    → IfKnown input (λ i. IsTokenAt i offset words is_end kept)
+    → label ≡ label_text is_end → IfSome input (λ i. IsExcerpt kept.spot i.bytes excerpt)
     → PutsText first second (error_text c is_end p)
-    → PutsText second third (excerpt_text margin indent excerpt file size label)
-    → PutsText third fourth (context_text p name) → PutsText fourth last (hints_text c p word)
-    → (text : List ℕ) × IsSyntaxText input file c text × PutsText first last text
-syntax_lines input file c words is_end p name word label size margin indent excerpt spot first second third fourth last progress named labelled shown error place context hints =
+    → PutsText second third (excerpt_text margin indent excerpt file kept.size label)
+    → PutsText third fourth (context_text p name) → PutsText fourth last (hints_text c p kept.word)
+    → (text : List ℕ) × IsSyntaxText input file c offset text × PutsText first last text
+syntax_lines input file c offset words is_end p name label kept margin indent excerpt first second third fourth last progress named found labelled shown error place context hints =
+    let size : ℕ = kept.size in
+    let word : List ℕ = kept.word in
     let q : TextProgress = passed_all at_start words in
     let error' = subst (λ (x : TextProgress). PutsText first second (error_text c is_end x)) progress error in
     let place' = subst (λ (x : List ℕ). PutsText second third (excerpt_text margin indent excerpt file size x)) labelled place in
@@ -33,9 +37,8 @@ syntax_lines input file c words is_end p name word label size margin indent exce
       record {
         words = words;
         is_end = is_end;
-        spot = spot;
-        word = word;
-        size = size;
+        kept = kept;
+        found = found;
         margin = margin;
         indent = indent;
         excerpt = excerpt;

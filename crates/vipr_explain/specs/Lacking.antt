@@ -12,7 +12,13 @@ use Rattle.vipr_check.specs.declared.verdict.Place.{Place}
 use Rattle.vipr_check.specs.declared.verdict.Place.TheVariants.{Byte, Sol, Der, End}
 use Rattle.vipr_check.specs.declared.verdict.Verdict.{Verdict}
 use Rattle.vipr_check.specs.declared.verdict.Verdict.TheVariants.{Verified, Refused}
-use Rattle.vipr_explain.specs.Found.{HasFault, LacksItems, LacksListed, all_derivations_read}
+use Rattle.vipr_cert.specs.declared.items.Derivation.{Derivation}
+use Rattle.vipr_check.specs.declared.detail.StepDetail.{StepDetail}
+use Rattle.vipr_explain.specs.Found.{AreFoundItems, HasFault, LacksItems, LacksListed}
+use Rattle.vipr_explain.specs.Found.{all_derivations_read, head_read}
+use Rattle.vipr_explain.specs.Listed.{kept_derivation}
+use Rattle.vipr_explain.specs.References.{step_indices}
+use Rattle.vipr_explain.specs.declared.items.Items.{Items}
 use Rattle.vipr_explain.specs.Found.{all_solutions_read}
 
 -- the constraint that proves the dual side can't be read
@@ -51,21 +57,40 @@ LacksClaim (detail.SolutionOverflow solution at) i = ⊥
 LacksClaim (detail.Step name what) i = ⊥
 LacksClaim detail.None i = ⊥
 
--- the refused derivation can't be read: of a derivation at fault nothing is said here
-abbrev pub LacksDerivation : Detail → Input → Type 0
-LacksDerivation (detail.Step name what) i = ⊤
-LacksDerivation (detail.NoProof goal) i = LacksClaim (detail.NoProof goal) i
-LacksDerivation (detail.NoPrimal bound) i = LacksClaim (detail.NoPrimal bound) i
-LacksDerivation (detail.NotWhole solution variable name value) i = ⊥
-LacksDerivation (detail.Breaks solution constraint name left sense right) i = ⊥
-LacksDerivation (detail.SolutionOverflow solution at) i = ⊥
-LacksDerivation detail.None i = ⊥
+-- a read fails, or the text has a fault in front of its derivations
+abbrev pub LacksHead : Input → Type 0
+LacksHead i = (i.fails ≡ true) ⊎ HasFault (head_read (text_of i))
 
--- what is at this place can't be read: of a fault of a text nothing is said here
+-- no derivation has this index, or the constraints that an explanation of it shows can't be read
+abbrev pub LacksShown : ℕ → StepDetail → Option Derivation → Input → Type 0
+LacksShown index what (Some d) i = LacksItems (step_indices index what d.reason) i
+LacksShown index what None i = ⊤
+
+-- the derivation of this index was read, if there is one, and is missing, or lacks what is shown
+pub record LacksReadStep (index : ℕ) (what : StepDetail) (i : Input) : Type 0 where
+  pub items : Items
+  pub found : AreFoundItems (index ∷ []) (text_of i) items
+  pub lacks : LacksShown index what (kept_derivation items.derivations.items index) i
+
+-- the derivation of this index can't be read, or what is shown of it
+abbrev pub LacksStep : ℕ → StepDetail → Input → Type 0
+LacksStep index what i = LacksItems (index ∷ []) i ⊎ LacksReadStep index what i
+
+-- the refused derivation can't be read, or what is shown of it, or what proves the claim
+abbrev pub LacksDerivation : ℕ → Detail → Input → Type 0
+LacksDerivation index (detail.Step name what) i = LacksStep index what i
+LacksDerivation index (detail.NoProof goal) i = LacksClaim (detail.NoProof goal) i
+LacksDerivation index (detail.NoPrimal bound) i = LacksClaim (detail.NoPrimal bound) i
+LacksDerivation index (detail.NotWhole solution variable name value) i = ⊥
+LacksDerivation index (detail.Breaks solution constraint name left sense right) i = ⊥
+LacksDerivation index (detail.SolutionOverflow solution at) i = ⊥
+LacksDerivation index detail.None i = ⊥
+
+-- what is at this place can't be read; about a fault of a text only bytes are read
 abbrev pub LacksPlace : Place → Detail → Input → Type 0
-LacksPlace (Byte offset) d i = ⊤
+LacksPlace (Byte offset) d i = i.fails ≡ true
 LacksPlace (Sol number) d i = LacksSolution number d i
-LacksPlace (Der index) d i = LacksDerivation d i
+LacksPlace (Der index) d i = LacksDerivation index d i
 LacksPlace End d i = LacksClaim d i
 
 -- what this verdict is about can't be read

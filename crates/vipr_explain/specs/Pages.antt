@@ -46,7 +46,7 @@ IsTextAt input file cause index detail.None text = text ≡ []
 
 -- what is said of a refusal, before the line of its cause
 abbrev pub IsRefusalText : Option Input → List ℕ → ℕ → Place → Detail → List ℕ → Type 0
-IsRefusalText input file cause (Byte offset) d text = IsSyntaxText input file cause text
+IsRefusalText input file cause (Byte offset) d text = IsSyntaxText input file cause offset text
 IsRefusalText input file cause (Sol number) d text = IsSolutionText input file number d text
 IsRefusalText input file cause (Der index) d text = IsTextAt input file cause index d text
 IsRefusalText input file cause End d text = IsClaimText input d text

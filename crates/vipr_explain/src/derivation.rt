@@ -1,5 +1,7 @@
 //! Explains a derivation that is refused, and the constraint that it needs, if that was dropped.
-ghost use Rattle.std.specs.Prelude.{IfOk, List, ℕ};
+ghost use Rattle.std.specs.Prelude.{IfErr, IfOk, List, ℕ};
+ghost use Rattle.vipr_explain.specs.Found.{OnlyIf};
+ghost use Rattle.vipr_explain.specs.Lacking.{LacksHead, LacksStep};
 ghost use Rattle.vipr_explain.specs.StepPages.{IsCauseText, IsDerivationText, IsDroppedPart};
 ghost use Rattle.vipr_explain.specs.Written.{PutsText};
 
@@ -18,8 +20,11 @@ pub(crate) fn put_derivation<T: Text>(
     index: u32,
     what: &StepDetail,
 ) -> Result<(), Missing>
-    ensures { IfOk result (λ _. (text : List ℕ) × IsDerivationText (T.input subject.now.text.now)
-        subject.now.file.now cause index what.now text × PutsText page.old page.new text) }
+    ensures shown { IfOk result (λ _. (text : List ℕ)
+        × IsDerivationText (T.input subject.now.text.now) subject.now.file.now cause index what.now
+        text × PutsText page.old page.new text) }
+    ensures error { IfErr result
+        (OnlyIf (T.input subject.now.text.now) (LacksStep index what.now)) }
 {
     put_step(page, subject, cause, index, what)?;
     put_cause(page, subject, cause, index, what)
@@ -33,8 +38,10 @@ fn put_cause<T: Text>(
     index: u32,
     what: &StepDetail,
 ) -> Result<(), Missing>
-    ensures { IfOk result (λ _. (text : List ℕ) × IsCauseText (T.input subject.now.text.now)
-        subject.now.file.now cause index what.now text × PutsText page.old page.new text) }
+    ensures shown { IfOk result (λ _. (text : List ℕ)
+        × IsCauseText (T.input subject.now.text.now) subject.now.file.now cause index what.now text
+        × PutsText page.old page.new text) }
+    ensures error { IfErr result (OnlyIf (T.input subject.now.text.now) LacksHead) }
 {
     match what {
         StepDetail::Index(named) => {
@@ -56,8 +63,10 @@ fn put_if_dropped<T: Text>(
     index: u32,
     needed_by: u32,
 ) -> Result<(), Missing>
-    ensures { IfOk result (λ _. (text : List ℕ) × IsDroppedPart (T.input subject.now.text.now)
-        subject.now.file.now is_dropped index needed_by text × PutsText page.old page.new text) }
+    ensures shown { IfOk result (λ _. (text : List ℕ)
+        × IsDroppedPart (T.input subject.now.text.now) subject.now.file.now is_dropped index
+        needed_by text × PutsText page.old page.new text) }
+    ensures error { IfErr result (OnlyIf (T.input subject.now.text.now) LacksHead) }
 {
     if is_dropped {
         put_dropped(page, subject, index, needed_by)

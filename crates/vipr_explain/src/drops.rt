@@ -1,6 +1,6 @@
 //! Explains that a constraint is needed that was dropped.
 ghost use Rattle.std.specs.Prelude.{◌≡◌, ◌+◌, ◌<◌, ◌^◌, ◌==◌, IfOk, IsSome, List, length, ℕ};
-ghost use Rattle.std.specs.Prelude.{IfSome, option_map, suc};
+ghost use Rattle.std.specs.Prelude.{IfErr, IfSome, option_map, suc, true};
 ghost use Rattle.std.specs.List.{list_any};
 ghost use Rattle.vipr_spec.specs.Certificate.{Problem as ProblemMeant};
 ghost use Rattle.vipr_bytes.specs.Known.{IfKnown, text_of};
@@ -9,6 +9,8 @@ ghost use Rattle.vipr_cert.specs.Items.{derivation_of, reason_of};
 ghost use Rattle.vipr_read.specs.Items.{Knows};
 ghost use Rattle.vipr_explain.specs.Drops.{IsLastUse, ReadsNext, last_among, later_of};
 ghost use Rattle.vipr_explain.specs.Drops.{names_constraint};
+ghost use Rattle.vipr_explain.specs.Found.{HasFault, OnlyIf, head_read};
+ghost use Rattle.vipr_explain.specs.Lacking.{LacksHead};
 ghost use Rattle.vipr_explain.specs.Listed.{place_found};
 ghost use Rattle.vipr_explain.specs.StepPages.{IsDroppedText, IsSpotText, dropped_line, last_label};
 ghost use Rattle.vipr_explain.specs.StepPages.{last_spot};
@@ -34,9 +36,10 @@ pub(crate) fn put_dropped<T: Text>(
     index: u32,
     needed_by: u32,
 ) -> Result<(), Missing>
-    ensures { IfOk result (λ _. (text : List ℕ)
+    ensures shown { IfOk result (λ _. (text : List ℕ)
         × IsDroppedText (T.input subject.now.text.now) subject.now.file.now index needed_by text
         × PutsText page.old page.new text) }
+    ensures error { IfErr result (OnlyIf (T.input subject.now.text.now) LacksHead) }
 {
     put_dropped_line(page, index);
     let marks = find_constraints(subject.alloc, subject.text, [index].as_slice())?;
@@ -61,10 +64,12 @@ fn put_last<T: Text>(
     index: u32,
     last: u32,
 ) -> Result<(), Missing>
-    ensures { IfOk result (λ _. (text : List ℕ)
+    ensures shown { IfOk result (λ _. (text : List ℕ)
         × IsSpotText (T.input subject.now.text.now) subject.now.file.now (last_label last)
         (option_map last_spot (place_found marks.now index)) text
         × PutsText page.old page.new text) }
+    ensures error { IfErr result
+        (OnlyIf (T.input subject.now.text.now) (λ i. i.fails ≡ true)) }
 {
     match mark_of(marks, index) {
         Some(mark) => {
@@ -77,8 +82,10 @@ fn put_last<T: Text>(
 
 // The last derivation that names a constraint, as far as the text can be read.
 fn last_use<T: Text>(alloc: Global, text: &T, index: u32, needed_by: u32) -> Result<u32, Missing>
-    ensures { IfKnown (T.input text.now) (λ i.
+    ensures found { IfKnown (T.input text.now) (λ i.
         IfOk result (IsLastUse (text_of i) index needed_by)) }
+    ensures error { IfErr result
+        (OnlyIf (T.input text.now) (λ i. HasFault (head_read (text_of i)))) }
 {
     let (problem, mut derivations) = open_derivations(alloc, text)?;
     let first = problem.cons().len() as u32;
@@ -94,10 +101,11 @@ fn last_among<R: Source + Drop>(
     needed_by: u32,
 ) -> Result<u32, Missing>
     requires { first + derivations.old.left < 2 ^ 32 }
-    ensures { (p : ProblemMeant) → Knows derivations.old p → IsSome derivations.old.rest
+    ensures found { (p : ProblemMeant) → Knows derivations.old p → IsSome derivations.old.rest
         → first ≡ length p.constraints
         → IfOk result (λ last. last ≡ last_among p derivations.old.left
         (rest_of derivations.old.rest) index needed_by) }
+    ensures error { IfErr result (λ m. m ≡ Missing.Memory) }
 {
     let mut last = needed_by;
     for passed in 0..derivations.left() {
@@ -119,6 +127,7 @@ fn next_derivation<R: Source + Drop>(
     ensures read { (p : ProblemMeant) → Knows derivations.old p → IsSome derivations.old.rest
         → 0 < derivations.old.left
         → IfOk result (ReadsNext p derivations.old derivations.new) }
+    ensures error { IfErr result (λ m. m ≡ Missing.Memory) }
 {
     match derivations.next(alloc) {
         Ok(next) => Ok(next),

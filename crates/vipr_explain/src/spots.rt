@@ -1,5 +1,6 @@
 //! A place in the text, as an explanation shows it.
-ghost use Rattle.std.specs.Prelude.{IfOk, List, ℕ};
+ghost use Rattle.std.specs.Prelude.{◌≡◌, IfErr, IfOk, List, true, ℕ};
+ghost use Rattle.vipr_explain.specs.Found.{OnlyIf};
 ghost use Rattle.vipr_explain.specs.StepPages.{IsExcerptAt};
 ghost use Rattle.vipr_explain.specs.Written.{PutsText};
 
@@ -16,9 +17,11 @@ pub(crate) fn put_excerpt<T: Text>(
     size: usize,
     label: &str,
 ) -> Result<(), Missing>
-    ensures { IfOk result (λ _. (text : List ℕ)
+    ensures shown { IfOk result (λ _. (text : List ℕ)
         × IsExcerptAt (T.input subject.now.text.now) subject.now.file.now spot size label.now text
         × PutsText page.old page.new text) }
+    ensures error { IfErr result
+        (OnlyIf (T.input subject.now.text.now) (λ i. i.fails ≡ true)) }
 {
     let excerpt = Excerpt::read(subject, spot)?;
     excerpt.put(page, subject.file, size, label);

@@ -1,8 +1,10 @@
 //! Explains a derivation that is refused.
-ghost use Rattle.std.specs.Prelude.{◌≡◌, ◌++◌, ◌∷◌, [], IfOk, List, OnOk, Option, Some, ℕ};
-ghost use Rattle.std.specs.Prelude.{codes, option_map};
+ghost use Rattle.std.specs.Prelude.{◌≡◌, ◌++◌, ◌∷◌, [], IfErr, IfOk, List, OnOk, Option, Some, ℕ};
+ghost use Rattle.std.specs.Prelude.{codes, option_map, true};
 ghost use Rattle.std.specs.List.{enumerate_from, flat_map};
 ghost use Rattle.vipr_linear.specs.Constraint.{constraint_of};
+ghost use Rattle.vipr_explain.specs.Found.{LacksItems, OnlyIf};
+ghost use Rattle.vipr_explain.specs.Lacking.{LacksStep};
 ghost use Rattle.vipr_explain.specs.Listed.{place_found};
 ghost use Rattle.vipr_explain.specs.References.{entry_indices, reason_indices, shown_index};
 ghost use Rattle.vipr_explain.specs.References.{step_indices};
@@ -39,9 +41,11 @@ pub(crate) fn put_step<T: Text>(
     index: u32,
     what: &StepDetail,
 ) -> Result<(), Missing>
-    ensures { IfOk result (λ _. (text : List ℕ)
+    ensures shown { IfOk result (λ _. (text : List ℕ)
         × IsStepText (T.input subject.now.text.now) subject.now.file.now cause index what.now text
         × PutsText page.old page.new text) }
+    ensures error { IfErr result
+        (OnlyIf (T.input subject.now.text.now) (LacksStep index what.now)) }
 {
     let own = read_items(subject.alloc, subject.text, [index].as_slice())?;
     match own.derivation(index) {
@@ -59,9 +63,11 @@ fn put_refused<T: Text>(
     step: &Derivation,
     what: &StepDetail,
 ) -> Result<(), Missing>
-    ensures { IfOk result (λ _. (text : List ℕ)
+    ensures shown { IfOk result (λ _. (text : List ℕ)
         × IsRefusedText (T.input subject.now.text.now) subject.now.file.now cause index step.now
         what.now text × PutsText page.old page.new text) }
+    ensures error { IfErr result (OnlyIf (T.input subject.now.text.now)
+        (LacksItems (step_indices index what.now step.now.reason))) }
 {
     let wanted = step_indices(subject.alloc, index, &step.reason, what)?;
     let known = PlacedItems::read(subject, wanted.as_slice())?;
@@ -90,10 +96,12 @@ fn put_place<T: Text>(
     marks: &[ItemPlace],
     index: u32,
 ) -> Result<(), Missing>
-    ensures { IfOk result (λ _. (text : List ℕ)
+    ensures shown { IfOk result (λ _. (text : List ℕ)
         × IsSpotText (T.input subject.now.text.now) subject.now.file.now (codes "this derivation")
         (option_map name_spot (place_found marks.now index)) text
         × PutsText page.old page.new text) }
+    ensures error { IfErr result
+        (OnlyIf (T.input subject.now.text.now) (λ i. i.fails ≡ true)) }
 {
     match mark_of(marks, index) {
         Some(mark) => put_excerpt(page, subject, mark.spot, mark.size, "this derivation"),

@@ -1,11 +1,14 @@
 //! Explains a fault of a text: its place, and what is wanted there.
-ghost use Rattle.std.specs.Prelude.{◌≡◌, ℕ, List, [], IfOk, OnOk};
+ghost use Rattle.std.specs.Prelude.{◌≡◌, ◌<◌, ◌^◌, ℕ, List, [], IfErr, IfOk, OnOk, length, true};
+ghost use Rattle.vipr_spec.specs.Input.{Input};
 ghost use Rattle.vipr_explain.specs.Contexts.{context_text, error_text, token_fault_text};
 ghost use Rattle.vipr_explain.specs.Contexts.{found_words};
 ghost use Rattle.vipr_explain.specs.Contexts.{has_items, has_name, is_in_head, is_in_item};
 ghost use Rattle.vipr_explain.specs.Contexts.{item_part, item_text, label_text, item_name};
+ghost use Rattle.vipr_explain.specs.Found.{OnlyIf};
 ghost use Rattle.vipr_explain.specs.Progress.{at_start, named_at, passed};
-ghost use Rattle.vipr_explain.specs.Syntax.{HasPassedWords, IsSyntaxText};
+ghost use Rattle.vipr_explain.specs.Syntax.{IsFoundAt, IsSyntaxText, PassesUpTo};
+ghost use Rattle.vipr_explain.specs.Words.{IsReading, kept_word, no_token};
 ghost use Rattle.vipr_explain.specs.Written.{PutsText};
 
 use crate::excerpt::Excerpt;
@@ -39,9 +42,11 @@ pub(crate) fn put_syntax<T: Text>(
     cause: u8,
     offset: u64,
 ) -> Result<(), Missing>
-    ensures { IfOk result (λ _. (text : List ℕ)
-        × IsSyntaxText (T.input subject.now.text.now) subject.now.file.now cause text
+    ensures shown { IfOk result (λ _. (text : List ℕ)
+        × IsSyntaxText (T.input subject.now.text.now) subject.now.file.now cause offset text
         × PutsText page.old page.new text) }
+    ensures error { IfErr result
+        (OnlyIf (T.input subject.now.text.now) (λ i. i.fails ≡ true)) }
 {
     let found = FoundToken::<T::Reader>::find(subject, offset)?;
     let excerpt = Excerpt::read(subject, found.words.spot())?;
@@ -68,7 +73,9 @@ impl<R: Source + Drop> FoundToken<R> {
         subject: &Subject<'_, T>,
         offset: u64,
     ) -> Result<FoundToken<R>, Missing>
-        ensures { IfOk result HasPassedWords }
+        ensures found { IfOk result (IsFoundAt (T.input subject.now.text.now) offset) }
+        ensures error { IfErr result
+            (OnlyIf (T.input subject.now.text.now) (λ i. i.fails ≡ true)) }
     {
         let mut found = FoundToken {
             words: Words::open(subject.alloc, subject.text)?,
@@ -85,7 +92,12 @@ impl<R: Source + Drop> FoundToken<R> {
     fn pass_up_to(&mut self, offset: u64) -> Result<(), Missing>
         requires progress { self.old.progress ≡ at_start }
         requires name { self.old.name.items ≡ [] }
-        ensures { OnOk result (HasPassedWords self.new) }
+        requires token { kept_word self.old.words ≡ no_token }
+        requires end { self.old.is_end ≡ true }
+        ensures found { OnOk result (PassesUpTo R.input offset self.old self.new) }
+        ensures reading { (i : Input) → IsReading R.input i self.old.words
+            → OnOk result (IsReading R.input i self.new.words) }
+        ensures error { IfErr result (λ m. m ≡ Missing.Memory) }
     {
         for _ in 0..u64::MAX {
             if !self.words.next() {
@@ -102,6 +114,8 @@ impl<R: Source + Drop> FoundToken<R> {
 
     // Passes the token that was read.
     fn pass(&mut self) -> Result<(), AllocError>
+        ensures words { self.new.words ≡ self.old.words }
+        ensures is_end { self.new.is_end ≡ self.old.is_end }
         ensures name { OnOk result (self.new.name.items
             ≡ named_at self.old.progress.wanted self.old.name.items self.old.words.word.items) }
         ensures progress { OnOk result
@@ -115,6 +129,7 @@ impl<R: Source + Drop> FoundToken<R> {
     // Takes the token that was read as the name of an item, if it is one.
     fn take_name(&mut self) -> Result<(), AllocError>
         ensures words { self.new.words ≡ self.old.words }
+        ensures is_end { self.new.is_end ≡ self.old.is_end }
         ensures progress { self.new.progress ≡ self.old.progress }
         ensures name { OnOk result (self.new.name.items
             ≡ named_at self.old.progress.wanted self.old.name.items self.old.words.word.items) }

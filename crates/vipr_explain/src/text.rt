@@ -130,8 +130,9 @@ impl<R: Source + Drop> Letters<R> {
 
     /// The next byte, `None` at the end and after a read that failed.
     pub(crate) fn next(&mut self) -> Option<u8>
-        ensures { (i : Input) (n : ℕ) → HasGiven R.input i n self.old
+        ensures given { (i : Input) (n : ℕ) → HasGiven R.input i n self.old
             → GivesNext R.input i n self.new result }
+        ensures failed { self.new.has_failed ≡ false → self.old.has_failed ≡ false }
     {
         self.fill();
         if self.at == self.held {
@@ -163,6 +164,7 @@ impl<R: Source + Drop> Letters<R> {
         ensures end { self.new.at ≡ self.new.held → IfSome (letters_left R.input self.old)
             (λ i. (i.bytes ≡ []) × (self.new.has_failed ≡ i.fails)) }
         ensures place { self.new.spot ≡ self.old.spot }
+        ensures failed { self.new.has_failed ≡ false → self.old.has_failed ≡ false }
     {
         if self.at < self.held || self.has_failed {
             return;

@@ -144,7 +144,7 @@ fn put_at<T: Text>(
     ensures shown { IfOk result (λ _. PutsSome (IsTextAt (T.input subject.now.text.now)
         subject.now.file.now cause index detail.now) page.old page.new) }
     ensures error { IfErr result (OnlyIf (T.input subject.now.text.now)
-        (LacksDerivation detail.now)) }
+        (LacksDerivation index detail.now)) }
 {
     match detail {
         Detail::Step { what, .. } => put_derivation(page, subject, cause, index, what),

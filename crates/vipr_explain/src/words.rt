@@ -1,7 +1,12 @@
 //! The tokens of a text with their places.
-ghost use Rattle.std.specs.Prelude.{◌≡◌, true, None, IfOk, IfErr, IfSome};
+ghost use Rattle.std.specs.Prelude.{◌≡◌, ◌+◌, ◌<◌, ◌^◌, ◌∷◌, ◌++◌, [], ℕ, false, true, length};
+ghost use Rattle.std.specs.Prelude.{Bool, List, None, IfOk, IfErr, IfNone, IfSome};
 ghost use Rattle.vipr_spec.specs.Input.{Input};
-ghost use Rattle.vipr_explain.specs.Words.{IsReading};
+ghost use Rattle.vipr_spec.specs.Tokens.{Token, is_white, tokens, tokens_from};
+ghost use Rattle.vipr_explain.specs.Letters.{HasGiven};
+ghost use Rattle.vipr_explain.specs.Words.{AreLeft, BeginsToken, FindsToken, GivesToken};
+ghost use Rattle.vipr_explain.specs.Words.{HoldsStart, IsReadWhole, IsReading, ReadsInToken};
+ghost use Rattle.vipr_explain.specs.Words.{ReadsToken, kept_word, no_token, tokens_at};
 
 use crate::missing::Missing;
 use crate::text::{Letters, Spot, Text};
@@ -12,12 +17,60 @@ use vipr_scan::is_white;
 /// How many bytes of a token are kept.
 const MOST_KEPT: usize = 64;
 
+/// The part of a text that a reader is in: before its first token, within a comment there, or past
+/// it.
+#[derive(Clone, Copy)]
+pub(crate) enum Stage {
+    Front,
+    Comment,
+    Past,
+}
+
+impl Stage {
+    // The stage behind a byte that begins no token.
+    #[tactic(auto, unfolding(vipr_spec::specs::Tokens::tokens_from, vipr_spec::specs::Tokens::tokens_after_front))]
+    fn behind(self, byte: u8) -> Option<Stage>
+        ensures gap { IfSome result (λ next. (fails : Bool) (offset : ℕ) (rest : List ℕ) →
+            tokens_at self fails offset (byte ∷ rest)
+            ≡ tokens_at next fails (offset + 1) rest) }
+        ensures token { IfNone result ((fails : Bool) (offset : ℕ) (rest : List ℕ) →
+            tokens_at self fails offset (byte ∷ rest)
+            ≡ tokens_from fails false offset (byte ∷ rest)) }
+        ensures solid { IfNone result (is_white byte ≡ false) }
+    {
+        match self {
+            Stage::Comment => {
+                if byte == b'\n' {
+                    Some(Stage::Front)
+                } else {
+                    Some(Stage::Comment)
+                }
+            }
+            Stage::Front => {
+                if byte == b'%' {
+                    Some(Stage::Comment)
+                } else if is_white(byte) {
+                    Some(Stage::Front)
+                } else {
+                    None
+                }
+            }
+            Stage::Past => {
+                if is_white(byte) {
+                    Some(Stage::Past)
+                } else {
+                    None
+                }
+            }
+        }
+    }
+}
+
 /// Reads the tokens of a text one by one. It keeps the place and the first 64 bytes of each.
 #[derive(Drop)]
 pub(crate) struct Words<R> {
     letters: Letters<R>,
-    /// Whether no token was read.
-    in_front: bool,
+    stage: Stage,
     word: Vec<u8>,
     size: usize,
     spot: Spot,
@@ -30,12 +83,15 @@ impl<R: Source + Drop> Words<R> {
     pub(crate) fn open<T: Text<Reader = R>>(alloc: Global, text: &T) -> Result<Words<R>, Missing>
         ensures start { IfOk result (λ w. IfSome (T.input text.now)
             (λ i. IsReading R.input i w)) }
+        ensures tokens { IfOk result (λ w. IfSome (T.input text.now)
+            (λ i. AreLeft R.input i (tokens i) w)) }
+        ensures empty { IfOk result (λ w. kept_word w ≡ no_token) }
         ensures error { IfErr result
             (λ e. (e ≡ Missing.Text) × (T.input text.now ≡ None)) }
     {
         Ok(Words {
             letters: Letters::open(text)?,
-            in_front: true,
+            stage: Stage::Front,
             word: Vec::new(alloc),
             size: 0,
             spot: Spot::start(),
@@ -47,13 +103,17 @@ impl<R: Source + Drop> Words<R> {
     pub(crate) fn next(&mut self) -> bool
         ensures reading { (i : Input) → IsReading R.input i self.old
             → IsReading R.input i self.new }
+        ensures whole { IsReadWhole self.new → IsReadWhole self.old }
+        ensures kept { result ≡ false → kept_word self.new ≡ kept_word self.old }
+        ensures token { (i : Input) (ts : List Token) → length i.bytes < 2 ^ 64
+            → AreLeft R.input i ts self.old → IsReadWhole self.new
+            → ReadsToken R.input i ts self.new result }
     {
         if self.lacks_memory {
             return false;
         }
         match self.first_byte() {
             Some(byte) => {
-                self.in_front = false;
                 self.read_word(byte);
                 true
             }
@@ -67,6 +127,7 @@ impl<R: Source + Drop> Words<R> {
     ///
     /// `Text` if a read failed, `Memory` if a growth was refused.
     pub(crate) fn check(&self) -> Result<(), Missing>
+        ensures whole { IfOk result (λ _. IsReadWhole self.now) }
         ensures error { (i : Input) → IsReading R.input i self.now
             → IfErr result (λ e. e ≡ Missing.Text → i.fails ≡ true) }
     {
@@ -104,20 +165,22 @@ impl<R: Source + Drop> Words<R> {
     fn first_byte(&mut self) -> Option<u8>
         ensures reading { (i : Input) → IsReading R.input i self.old
             → IsReading R.input i self.new }
+        ensures whole { IsReadWhole self.new → IsReadWhole self.old }
+        ensures kept { IfNone result (kept_word self.new ≡ kept_word self.old) }
+        ensures token { (i : Input) (ts : List Token) → length i.bytes < 2 ^ 64
+            → AreLeft R.input i ts self.old → FindsToken R.input i ts self.new result }
     {
-        let mut in_comment = false;
         for _ in 0..u64::MAX {
             let spot = self.letters.spot();
             let Some(byte) = self.letters.next() else {
                 return None;
             };
-            if in_comment {
-                in_comment = byte != b'\n';
-            } else if self.in_front && byte == b'%' {
-                in_comment = true;
-            } else if !is_white(byte) {
-                self.spot = spot;
-                return Some(byte);
+            match self.stage.behind(byte) {
+                Some(stage) => self.stage = stage,
+                None => {
+                    self.spot = spot;
+                    return Some(byte);
+                }
             }
         }
         None
@@ -127,25 +190,69 @@ impl<R: Source + Drop> Words<R> {
     fn read_word(&mut self, first: u8)
         ensures reading { (i : Input) → IsReading R.input i self.old
             → IsReading R.input i self.new }
+        ensures whole { IsReadWhole self.new → IsReadWhole self.old }
+        ensures token { (i : Input) (ts : List Token) → length i.bytes < 2 ^ 64
+            → BeginsToken R.input i ts first self.old → IsReadWhole self.new
+            → GivesToken R.input i ts self.new }
     {
+        self.stage = Stage::Past;
         self.word.clear();
         self.size = 0;
         self.take(first);
         for _ in 0..u64::MAX {
-            match self.letters.next() {
-                Some(byte) if !is_white(byte) => self.take(byte),
-                _ => break,
+            if !self.read_in_word() {
+                break;
             }
+        }
+    }
+
+    // Reads the next byte of the token, and answers whether it has one.
+    fn read_in_word(&mut self) -> bool
+        ensures stage { self.new.stage ≡ self.old.stage }
+        ensures spot { self.new.spot ≡ self.old.spot }
+        ensures reading { (i : Input) → IsReading R.input i self.old
+            → IsReading R.input i self.new }
+        ensures whole { IsReadWhole self.new → IsReadWhole self.old }
+        ensures read { (i : Input) (n : ℕ) (bytes : List ℕ) → HasGiven R.input i n self.old.letters
+            → HoldsStart bytes self.old → ReadsInToken R.input i n bytes self.new result }
+    {
+        match self.letters.next() {
+            Some(byte) if !is_white(byte) => {
+                self.take(byte);
+                true
+            }
+            _ => false,
         }
     }
 
     // Takes a byte of a token.
     fn take(&mut self, byte: u8)
         ensures letters { self.new.letters ≡ self.old.letters }
+        ensures stage { self.new.stage ≡ self.old.stage }
+        ensures spot { self.new.spot ≡ self.old.spot }
+        ensures memory { self.new.lacks_memory ≡ false → self.old.lacks_memory ≡ false }
+        ensures held { (bytes : List ℕ) → HoldsStart bytes self.old
+            → HoldsStart (bytes ++ byte ∷ []) self.new }
     {
         self.size = self.size.saturating_add(1);
-        if self.word.len() < MOST_KEPT && self.word.push(byte).is_err() {
-            self.lacks_memory = true;
+        if self.word.len() < MOST_KEPT {
+            self.keep(byte);
+        }
+    }
+
+    // Keeps a byte of a token, if there is memory for it.
+    fn keep(&mut self, byte: u8)
+        ensures letters { self.new.letters ≡ self.old.letters }
+        ensures stage { self.new.stage ≡ self.old.stage }
+        ensures spot { self.new.spot ≡ self.old.spot }
+        ensures size { self.new.size ≡ self.old.size }
+        ensures memory { self.new.lacks_memory ≡ false → self.old.lacks_memory ≡ false }
+        ensures word { self.new.lacks_memory ≡ false
+            → self.new.word.items ≡ self.old.word.items ++ byte ∷ [] }
+    {
+        match self.word.push(byte) {
+            Ok(()) => {}
+            Err(_) => self.lacks_memory = true,
         }
     }
 }

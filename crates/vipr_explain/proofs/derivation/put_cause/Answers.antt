@@ -2,20 +2,20 @@ use Rattle.std.proofs.Common.{[], refl}
 use Rattle.vipr_explain.proofs.Putting.{puts_none}
 use Rattle.vipr_explain.proofs.derivation.put_cause.Goals as goal
 
-pub returns-in-Index : goal.returns-in-Index
-returns-in-Index g c = rw c.in-Index.is c.put_if_dropped.ensures
+pub returns-in-Index-clause-shown : goal.returns-in-Index-clause-shown
+returns-in-Index-clause-shown g c = rw c.in-Index.is c.put_if_dropped.ensures.shown
 
-pub returns-in-Entry : goal.returns-in-Entry
-returns-in-Entry g c = rw c.in-Entry.is ([], refl, puts_none c.args.page.now)
+pub returns-in-Entry-clause-shown : goal.returns-in-Entry-clause-shown
+returns-in-Entry-clause-shown g c = rw c.in-Entry.is ([], refl, puts_none c.args.page.now)
 
-pub returns-in-Sum : goal.returns-in-Sum
-returns-in-Sum g c = rw c.in-Sum.is ([], refl, puts_none c.args.page.now)
+pub returns-in-Sum-clause-shown : goal.returns-in-Sum-clause-shown
+returns-in-Sum-clause-shown g c = rw c.in-Sum.is ([], refl, puts_none c.args.page.now)
 
-pub returns-in-Pair : goal.returns-in-Pair
-returns-in-Pair g c = rw c.in-Pair.is ([], refl, puts_none c.args.page.now)
+pub returns-in-Pair-clause-shown : goal.returns-in-Pair-clause-shown
+returns-in-Pair-clause-shown g c = rw c.in-Pair.is ([], refl, puts_none c.args.page.now)
 
-pub returns-in-Rows : goal.returns-in-Rows
-returns-in-Rows g c = rw c.in-Rows.is ([], refl, puts_none c.args.page.now)
+pub returns-in-Rows-clause-shown : goal.returns-in-Rows-clause-shown
+returns-in-Rows-clause-shown g c = rw c.in-Rows.is ([], refl, puts_none c.args.page.now)
 
-pub returns-in-Nothing : goal.returns-in-Nothing
-returns-in-Nothing g c = rw c.in-Nothing.is ([], refl, puts_none c.args.page.now)
+pub returns-in-Nothing-clause-shown : goal.returns-in-Nothing-clause-shown
+returns-in-Nothing-clause-shown g c = rw c.in-Nothing.is ([], refl, puts_none c.args.page.now)

@@ -1,7 +1,18 @@
+use Rattle.std.proofs.lemmas.Result.{err_from_is_err_and}
+use Rattle.vipr_explain.proofs.ByPlace.{head_lacks}
+use Rattle.vipr_explain.proofs.Lacks.{err_only_if}
 use Rattle.vipr_explain.proofs.StepParts.{derivation_text}
 use Rattle.vipr_explain.proofs.derivation.put_derivation.Goals as goal
 
-pub returns : goal.returns
-returns g c =
+pub returns-clause-shown : goal.returns-clause-shown
+returns-clause-shown g c =
     let subject = c.args.subject.now in
-    derivation_text (g.T.Text.input subject.text.now) subject.file.now c.args.cause c.args.index c.args.what.now c.args.page.now c.put_step.new.page c.put_cause.new.page c.put_cause.result c.in_ok-put_step.ensures c.put_cause.ensures
+    derivation_text (g.T.Text.input subject.text.now) subject.file.now c.args.cause c.args.index c.args.what.now c.args.page.now c.put_step.new.page c.put_cause.new.page c.put_cause.result c.in_ok-put_step.ensures.shown c.put_cause.ensures.shown
+
+pub returns-in_err-put_step-clause-error : goal.returns-in_err-put_step-clause-error
+returns-in_err-put_step-clause-error g c =
+    let q = err_from_is_err_and c.from_residual.result c.from_residual.ensures.1 in
+    rw (q.1, q.2) c.in_err-put_step.ensures.error
+
+pub returns-clause-error : goal.returns-clause-error
+returns-clause-error g c = err_only_if (g.T.Text.input c.args.subject.now.text.now) c.put_cause.result _ _ (head_lacks c.args.index c.args.what.now) c.put_cause.ensures.error

@@ -16,13 +16,13 @@ loop-passed-preserved g c =
           part_more p c.args.index (c.args.first + c.loop-passed.passed) _ c.loop-passed.last _ old.left new.left old new c.in-Some.step _ (omega arith) (omega arith) read c.later_of-last.ensures part;
     }
 
-pub returns-in_default : goal.returns-in_default
-returns-in_default g c p knows known at =
+pub returns-in_default-clause-found : goal.returns-in_default-clause-found
+returns-in_default-clause-found g c p knows known at =
     let old = c.loop-passed.derivations in
     let part = c.loop-passed.invariant.read p knows known at in
     let read = rw c.in_default.is at (c.in_ok-step.ensures.read p part.knows part.known (omega (arith, c.loop-passed.invariant.left))) in
     part_stops p c.args.index (c.args.first + c.loop-passed.passed) c.loop-passed.last old.left (old.left - 1) old c.next_derivation.new.derivations _ (omega (arith, c.loop-passed.invariant.left)) read part
 
-pub returns : goal.returns
-returns g c p knows known at =
+pub returns-clause-found : goal.returns-clause-found
+returns-clause-found g c p knows known at =
     part_ends p c.args.index (c.args.first + c.loop-passed.passed) c.loop-passed.last c.loop-passed.derivations.left c.loop-passed.derivations _ (omega (arith, c.loop-passed.invariant.left)) (c.loop-passed.invariant.read p knows known at)

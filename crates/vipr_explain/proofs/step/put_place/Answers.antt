@@ -5,8 +5,8 @@ use Rattle.vipr_explain.specs.declared.items.ItemPlace.{ItemPlace}
 use Rattle.vipr_explain.proofs.Putting.{puts_none}
 use Rattle.vipr_explain.proofs.step.put_place.Goals as goal
 
-pub returns-in-None : goal.returns-in-None
-returns-in-None g c =
+pub returns-in-None-clause-shown : goal.returns-in-None-clause-shown
+returns-in-None-clause-shown g c =
     let subject = c.args.subject.now in
     subst (λ (o : Option ItemPlace). (text : List ℕ)
     × IsSpotText (g.T.Text.input subject.text.now) subject.file.now (codes "this derivation") (option_map name_spot o) text

@@ -1,18 +1,22 @@
-use Rattle.std.proofs.Common.{◌≡◌, ℕ, List, ap, codes, length, option_map, refl, subst, sym, ◌∙◌}
+use Rattle.std.proofs.Common.{◌≡◌, ℕ, List, ap, codes, inl, length, option_map, refl, subst, sym}
+use Rattle.std.proofs.Common.{◌∙◌}
 use Rattle.std.proofs.lemmas.List.{length-map}
+use Rattle.std.proofs.lemmas.Result.{err_from_is_err_and}
 use Rattle.vipr_bytes.specs.Known.{IfKnown, text_of}
-use Rattle.vipr_explain.specs.Found.{AreFoundItems}
+use Rattle.vipr_explain.specs.Found.{AreFoundItems, LacksItems, OnlyIf}
 use Rattle.vipr_explain.specs.Listed.{place_found}
+use Rattle.vipr_explain.specs.References.{step_indices}
 use Rattle.vipr_explain.specs.StepPages.{IsSpotText, name_spot}
 use Rattle.vipr_explain.specs.Steps.{step_help}
 use Rattle.vipr_explain.specs.declared.items.ItemPlace.{ItemPlace}
+use Rattle.vipr_explain.proofs.Lacks.{only_if, only_nothing_of_memory}
 use Rattle.vipr_explain.proofs.Putting.{puts_same, puts_then}
 use Rattle.vipr_explain.proofs.step.put_refused.Goals as goal
 
-pub returns : goal.returns
-returns g c =
+pub returns-clause-shown : goal.returns-clause-shown
+returns-clause-shown g c =
     let known = c.in_ok-known.known in
-    let place = c.in_ok-put_place.ensures in
+    let place = c.in_ok-put_place.ensures.shown in
     let detail = c.in_ok-put_detail.ensures in
     let count : length c.cons.result.now ≡ length known.items.problem.constraints = sym (length-map c.cons.result.now _) ∙ ap length c.cons.ensures.constraints in
     let help = puts_same (ap (step_help c.args.cause) count) c.put_help.ensures in (
@@ -28,3 +32,18 @@ returns g c =
       },
       puts_then c.put_error.ensures (puts_then place.2 (puts_then c.put_stated.ensures (puts_then detail.2 help))),
     )
+
+pub returns-in_err-known-clause-error : goal.returns-in_err-known-clause-error
+returns-in_err-known-clause-error g c =
+    let q = err_from_is_err_and c.from_residual-in_err-known.result c.from_residual-in_err-known.ensures.1 in
+    rw (q.1, q.2) (subst (λ (wanted : List ℕ). OnlyIf (g.T.Text.input c.args.subject.now.text.now) (LacksItems wanted) c.in_err-known.field-0.0) (c.as_slice.ensures.value ∙ c.in_ok-wanted.ensures) c.in_err-known.ensures.error)
+
+pub returns-in_err-put_place-clause-error : goal.returns-in_err-put_place-clause-error
+returns-in_err-put_place-clause-error g c =
+    let q = err_from_is_err_and c.from_residual-in_err-put_place.result c.from_residual-in_err-put_place.ensures.1 in
+    rw (q.1, q.2) (only_if (g.T.Text.input c.args.subject.now.text.now) c.in_err-put_place.field-0.0 _ _ (λ i h. inl h) c.in_err-put_place.ensures.error)
+
+pub returns-in_err-put_detail-clause-error : goal.returns-in_err-put_detail-clause-error
+returns-in_err-put_detail-clause-error g c =
+    let q = err_from_is_err_and c.from_residual-in_err-put_detail.result c.from_residual-in_err-put_detail.ensures.1 in
+    rw (q.1, q.2) (only_nothing_of_memory (g.T.Text.input c.args.subject.now.text.now) (LacksItems (step_indices c.args.index c.args.what.now c.args.step.now.reason)))

@@ -2,7 +2,6 @@ use Rattle.std.proofs.Common.{◌≡◌, [], refl, rules, subst, option_map, IfO
 use Rattle.vipr_linear.specs.Constraint.{constraint_of}
 use Rattle.vipr_explain.specs.Near.{IsNoProofText}
 use Rattle.vipr_explain.specs.Pages.{PutsSome}
-use Rattle.vipr_explain.proofs.Lacks.{only_nothing}
 use Rattle.vipr_explain.proofs.Putting.{puts_none}
 use Rattle.vipr_explain.proofs.whole.put_at.Goals as goal
 
@@ -16,10 +15,10 @@ pub returns-in-SolutionOverflow-clause-shown : goal.returns-in-SolutionOverflow-
 returns-in-SolutionOverflow-clause-shown g c = ([], rw c.in-SolutionOverflow.is refl, puts_none c.args.page.now)
 
 pub returns-in-Step-clause-shown : goal.returns-in-Step-clause-shown
-returns-in-Step-clause-shown g c = rw c.in-Step.is c.put_derivation.ensures
+returns-in-Step-clause-shown g c = rw c.in-Step.is c.put_derivation.ensures.shown
 
 pub returns-in-Step-clause-error : goal.returns-in-Step-clause-error
-returns-in-Step-clause-error g c = rw c.in-Step.is (only_nothing (g.T.Text.input c.args.subject.now.text.now) c.put_derivation.result)
+returns-in-Step-clause-error g c = rw c.in-Step.is c.put_derivation.ensures.error
 
 pub returns-in-None-clause-shown : goal.returns-in-None-clause-shown
 returns-in-None-clause-shown g c = ([], rw c.in-None.is refl, puts_none c.args.page.now)

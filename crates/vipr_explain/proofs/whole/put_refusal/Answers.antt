@@ -1,8 +1,7 @@
-use Rattle.vipr_explain.proofs.Lacks.{only_nothing}
 use Rattle.vipr_explain.proofs.whole.put_refusal.Goals as goal
 
 pub returns-in-Byte-clause-shown : goal.returns-in-Byte-clause-shown
-returns-in-Byte-clause-shown g c = rw c.in-Byte.is c.put_syntax.ensures
+returns-in-Byte-clause-shown g c = rw c.in-Byte.is c.put_syntax.ensures.shown
 
 pub returns-in-Sol-clause-shown : goal.returns-in-Sol-clause-shown
 returns-in-Sol-clause-shown g c = rw c.in-Sol.is c.put_solution.ensures.shown
@@ -14,7 +13,7 @@ pub returns-in-End-clause-shown : goal.returns-in-End-clause-shown
 returns-in-End-clause-shown g c = rw c.in-End.is c.put_claim.ensures.shown
 
 pub returns-in-Byte-clause-error : goal.returns-in-Byte-clause-error
-returns-in-Byte-clause-error g c = rw c.in-Byte.is (only_nothing (g.T.Text.input c.args.subject.now.text.now) c.put_syntax.result)
+returns-in-Byte-clause-error g c = rw c.in-Byte.is c.put_syntax.ensures.error
 
 pub returns-in-Sol-clause-error : goal.returns-in-Sol-clause-error
 returns-in-Sol-clause-error g c = rw c.in-Sol.is c.put_solution.ensures.error

@@ -5,8 +5,8 @@ use Rattle.vipr_explain.specs.Places.{place_behind}
 use Rattle.vipr_explain.proofs.Passing.{next_of, held_some, one_given}
 use Rattle.vipr_explain.proofs.text.Letters.next.Goals as goal
 
-pub returns : goal.returns
-returns g c i n h =
+pub returns-clause-given : goal.returns-clause-given
+returns-clause-given g c i n h =
     let input = g.R.Source.input in
     let filled = c.fill.new.self in
     let left : letters_left input filled ≡ Some (after n i) = subst (λ o. IfSome o (λ j. letters_left input filled ≡ Some j)) h.left c.fill.ensures.left in

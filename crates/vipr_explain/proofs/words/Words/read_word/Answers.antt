@@ -1,26 +1,41 @@
-use Rattle.std.proofs.Common.{ℕ, rules, subst, sym}
+use Rattle.std.proofs.Common.{◌≡◌, ◌+◌, [], ◌∷◌, false, get_or, take, drop, ap, subst, sym, ◌∙◌, arith}
+use Rattle.vipr_spec.specs.Tokens.{is_white}
 use Rattle.vipr_explain.specs.Letters.{HasGiven}
-use Rattle.vipr_explain.proofs.Reading.{still_reading}
+use Rattle.vipr_explain.specs.Words.{HoldsStart}
+use Rattle.vipr_explain.proofs.Tokens.{part_ends, part_more}
 use Rattle.vipr_explain.proofs.words.Words.read_word.Goals as goal
 
 pub loop-preserved : goal.loop-preserved
-loop-preserved g c i h =
-    let so_far = c.loop.invariant i h in
-    let left = still_reading g.R.Source.input i so_far.0 c.next.new.self c.next.result (c.next.ensures i so_far.0 so_far.1) in
-    (left.0, subst (λ l. HasGiven g.R.Source.input i left.0 l) (search rules) left.1)
+loop-preserved g c =
+    let so_far = c.loop.invariant in
+    let one = c.read_in_word.ensures in
+    let k = c.loop.counter in
+    record {
+      stage = one.stage ∙ so_far.stage;
+      spot = one.spot ∙ so_far.spot;
+      reading = λ i h. one.reading i (so_far.reading i h);
+      whole = λ s. so_far.whole (one.whole s);
+      part = λ i n within solid given holds.
+          let part = so_far.part i n within solid given holds in
+          part_more g.R.Source.input i n k c.loop.self c.read_in_word.new.self _ c.if-not-read_in_word.false part (one.read i (n + (k + 1)) (take (k + 1) (drop n i.bytes)) part.given part.held);
+    }
 
-pub returns-in_default : goal.returns-in_default
-returns-in_default g c = record {
-  reading = λ i h.
-      let front : (n : ℕ) × HasGiven g.R.Source.input i n c.take.new.self.letters = (h.0, subst (λ l. HasGiven g.R.Source.input i h.0 l) (sym c.take.ensures.letters) h.1) in
-      let so_far = c.loop.invariant i front in
-      still_reading g.R.Source.input i so_far.0 c.next.new.self c.next.result (c.next.ensures i so_far.0 so_far.1);
-}
+pub returns-after-loop-clause-reading : goal.returns-after-loop-clause-reading
+returns-after-loop-clause-reading g c i h =
+    c.loop.invariant.reading i (h.0, subst (λ l. HasGiven g.R.Source.input i h.0 l) (sym c.take.ensures.letters) h.1)
 
-pub returns-in_default-2 : goal.returns-in_default-2
-returns-in_default-2 g c = record {
-  reading = λ i h.
-      let front : (n : ℕ) × HasGiven g.R.Source.input i n c.take.new.self.letters = (h.0, subst (λ l. HasGiven g.R.Source.input i h.0 l) (sym c.take.ensures.letters) h.1) in
-      let so_far = c.loop.invariant i front in
-      still_reading g.R.Source.input i so_far.0 c.next.new.self c.next.result (c.next.ensures i so_far.0 so_far.1);
-}
+pub returns-then-not-read_in_word-clause-reading : goal.returns-then-not-read_in_word-clause-reading
+returns-then-not-read_in_word-clause-reading g c i h =
+    c.read_in_word.ensures.reading i (c.loop.invariant.reading i (h.0, subst (λ l. HasGiven g.R.Source.input i h.0 l) (sym c.take.ensures.letters) h.1))
+
+pub returns-then-not-read_in_word-clause-token : goal.returns-then-not-read_in_word-clause-token
+returns-then-not-read_in_word-clause-token g c i ts short begins whole =
+    let so_far = c.loop.invariant in
+    let one = c.read_in_word.ensures in
+    let k = c.loop.counter in
+    let n = begins.n in
+    let solid : is_white (get_or i.bytes n 0) ≡ false = ap is_white (sym begins.byte) ∙ begins.solid in
+    let first : HoldsStart (get_or i.bytes n 0 ∷ []) c.take.new.self = subst (λ b. HoldsStart (b ∷ []) c.take.new.self) begins.byte (c.take.ensures.held [] (record { size = omega arith; word = λ _. c.clear.ensures.items })) in
+    let part = so_far.part i n begins.within solid (subst (λ l. HasGiven g.R.Source.input i (n + 1) l) (sym c.take.ensures.letters) begins.given) first in
+    part_ends g.R.Source.input i n k ts c.read_in_word.new.self _ c.if-not-read_in_word.true part.solid (one.read i (n + (k + 1)) (take (k + 1) (drop n i.bytes)) part.given part.held) part.given.within
+    (one.stage ∙ so_far.stage) (one.spot ∙ so_far.spot ∙ c.take.ensures.spot ∙ begins.spot) whole begins.tokens
