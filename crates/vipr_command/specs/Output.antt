@@ -1,7 +1,7 @@
 -- What a writer took of what was to be printed.
 use Rattle.std.specs.Prelude.{◌≡◌, ◌++◌, ℕ, List, Option, Some, IfSome, Result, Ok, Err}
 use Rattle.vipr_bytes.specs.Output.{Output}
-use Rattle.vipr_explain.specs.Page.{IsPage}
+use Rattle.vipr_page.specs.Page.{IsPage}
 use Rattle.vipr_bytes.specs.Written.{Wrote}
 use Rattle.vipr_bytes.specs.declared.write.WriteFailed.{WriteFailed}
 use Rattle.vipr_command.specs.declared.fault.CommandFault.{CommandFault}

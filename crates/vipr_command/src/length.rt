@@ -1,7 +1,7 @@
 //! Prints an explanation with a page for people behind it.
 ghost use Rattle.std.specs.Prelude.{◌≡◌, List, ℕ, ◌++◌, None, option_map};
 ghost use Rattle.vipr_check.specs.Explanation.{explained_text};
-ghost use Rattle.vipr_explain.specs.Page.{IsPage};
+ghost use Rattle.vipr_page.specs.Page.{IsPage};
 ghost use Rattle.vipr_rules.specs.Profile.{profile_of};
 ghost use Rattle.vipr_command.specs.Output.{PrintsMore};
 ghost use Rattle.vipr_command.specs.declared.request.Task.{Task};

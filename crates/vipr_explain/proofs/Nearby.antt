@@ -17,7 +17,7 @@ use Rattle.vipr_spec.specs.Constraint as spec
 use Rattle.vipr_spec.specs.Fraction.{ℚ, ◌+ℚ◌, neg_ℚ, SumFits}
 use Rattle.vipr_spec.specs.Input.{Input}
 use Rattle.vipr_spec.specs.Number.{number_text}
-use Rattle.vipr_explain.specs.Algebra.{size}
+use Rattle.vipr_page.specs.Algebra.{size}
 use Rattle.vipr_spec.specs.Reading.{read_each, derivation_read}
 use Rattle.vipr_bytes.specs.Known.{IfKnown, text_of}
 use Rattle.vipr_scan.specs.Giving.{rest_of}
@@ -32,14 +32,14 @@ use Rattle.vipr_explain.specs.Near.{near_text, near_with, nearest, no_proof_help
 use Rattle.vipr_explain.specs.Near.{IsGapText, Passed, Resting, bases_by, pass_one, resting_by}
 use Rattle.vipr_explain.specs.Near.{some_bases}
 use Rattle.vipr_explain.specs.Nearing.{PassesNext, near_of, passed_of}
-use Rattle.vipr_explain.specs.Written.{PutsText}
+use Rattle.vipr_page.specs.Written.{PutsText}
 use Rattle.vipr_explain.specs.declared.missing.Missing.{Missing}
 use Rattle.vipr_explain.specs.declared.near.Near as found
 use Rattle.vipr_explain.specs.declared.near.Passed as found_passed
-use Rattle.vipr_explain.specs.declared.page.Page.{Page}
+use Rattle.vipr_page.specs.declared.page.Page.{Page}
 use Rattle.vipr_explain.specs.declared.shown.PlacedItems.{PlacedItems}
 use Rattle.vipr_explain.proofs.Again.{all_read, known_by, none_yet, one_more}
-use Rattle.vipr_explain.proofs.Putting.{puts_none, puts_then}
+use Rattle.vipr_page.proofs.Laws.{puts_none, puts_then}
 
 few_last : (near : List Near) → length (last_three near) ≤ 3
 few_last near = omega (arith, length-drop (length near - 3) near)

@@ -13,12 +13,12 @@ use Rattle.vipr_explain.specs.StepPages.{IsRefusedText, IsSpotText, IsStepText, 
 use Rattle.vipr_explain.specs.StepPages.{last_label, last_spot}
 use Rattle.vipr_explain.specs.Listed.{place_found}
 use Rattle.vipr_explain.specs.Drops.{IsLastUse}
-use Rattle.vipr_explain.specs.Written.{PutsText}
+use Rattle.vipr_page.specs.Written.{PutsText}
 use Rattle.vipr_explain.specs.declared.items.ItemPlace.{ItemPlace}
 use Rattle.vipr_explain.specs.declared.items.Items.{Items}
 use Rattle.vipr_explain.specs.declared.missing.Missing.{Missing}
-use Rattle.vipr_explain.specs.declared.page.Page.{Page}
-use Rattle.vipr_explain.proofs.Putting.{puts_then}
+use Rattle.vipr_page.specs.declared.page.Page.{Page}
+use Rattle.vipr_page.proofs.Laws.{puts_then}
 
 -- a text that is given
 pub given_text : {E : Type 0} (p q : Page) (t : List ℕ) (r : Result (Unit {0}) E)

@@ -9,11 +9,11 @@ use Rattle.vipr_explain.specs.Hints.{hints_text}
 use Rattle.vipr_explain.specs.Progress.{at_start, name_after, passed_all}
 use Rattle.vipr_explain.specs.Syntax.{IsSyntaxText, IsTokenAt}
 use Rattle.vipr_explain.specs.Words.{Kept}
-use Rattle.vipr_explain.specs.Written.{PutsText}
+use Rattle.vipr_page.specs.Written.{PutsText}
 use Rattle.vipr_explain.specs.declared.excerpt.Excerpt.{Excerpt}
-use Rattle.vipr_explain.specs.declared.page.Page.{Page}
+use Rattle.vipr_page.specs.declared.page.Page.{Page}
 use Rattle.vipr_explain.specs.declared.wanted.TextProgress.{TextProgress}
-use Rattle.vipr_explain.proofs.Putting.{puts_then}
+use Rattle.vipr_page.proofs.Laws.{puts_then}
 
 pub syntax_lines : (input : Option Input) (file : List ℕ) (c offset : ℕ) (words : List (List ℕ))
     (is_end : Bool) (p : TextProgress) (name label : List ℕ) (kept : Kept) (margin indent : ℕ)

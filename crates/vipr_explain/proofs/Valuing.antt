@@ -24,11 +24,11 @@ use Rattle.vipr_read.specs.Parsing.{with_front}
 use Rattle.vipr_explain.specs.Primal.{AreListed, IsNoPrimalText, IsValueAt, ShowsValue, ShowsValues}
 use Rattle.vipr_explain.specs.Primal.{Valued, best_of, better_of, numbered_value, values_lines}
 use Rattle.vipr_explain.specs.Solutions.{best_text, primal_error, value_line}
-use Rattle.vipr_explain.specs.Written.{PutsText}
+use Rattle.vipr_page.specs.Written.{PutsText}
 use Rattle.vipr_explain.specs.declared.missing.Missing.{Missing}
-use Rattle.vipr_explain.specs.declared.page.Page.{Page}
+use Rattle.vipr_page.specs.declared.page.Page.{Page}
 use Rattle.vipr_explain.proofs.Again.{all_read, known_by, none_yet, numbered_more, one_more}
-use Rattle.vipr_explain.proofs.Putting.{puts_none, puts_same, puts_then}
+use Rattle.vipr_page.proofs.Laws.{puts_none, puts_same, puts_then}
 
 lines_more : (valued : List Valued) (number : ℕ) (s : Named Row) (v : Option ℚ)
     → length valued ≡ number

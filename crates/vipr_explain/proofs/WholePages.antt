@@ -16,8 +16,8 @@ use Rattle.vipr_check.specs.declared.detail.Detail.{Detail}
 use Rattle.vipr_check.specs.declared.verdict.Report.{Report}
 use Rattle.vipr_check.specs.declared.verdict.Verdict.{Verdict}
 use Rattle.vipr_check.specs.declared.verdict.Verdict.TheVariants.{Verified, Refused}
-use Rattle.vipr_explain.specs.Page.{cut, shown_text}
-use Rattle.vipr_explain.specs.Written.{PutsText}
+use Rattle.vipr_page.specs.Page.{cut, shown_text}
+use Rattle.vipr_page.specs.Written.{PutsText}
 use Rattle.vipr_explain.specs.Explained.{IsGoalText, IsPlaceText, IsProvedText}
 use Rattle.vipr_explain.specs.Explained.{IsSolutionText, see_text}
 use Rattle.vipr_explain.specs.Found.{AreItemsOf, IsListedSolution, OnlyIf}
@@ -29,9 +29,9 @@ use Rattle.vipr_explain.specs.Pages.{PutsSome, PutsSomeWith, ShowsWith, not_read
 use Rattle.vipr_explain.specs.declared.items.ItemPlace.{ItemPlace}
 use Rattle.vipr_explain.specs.declared.missing.Missing.{Missing}
 use Rattle.vipr_explain.specs.declared.missing.Missing.TheVariants as missing
-use Rattle.vipr_explain.specs.declared.page.Page.{Page}
+use Rattle.vipr_page.specs.declared.page.Page.{Page}
 use Rattle.vipr_explain.specs.declared.shown.PlacedItems.{PlacedItems}
-use Rattle.vipr_explain.proofs.Putting.{puts_then}
+use Rattle.vipr_page.proofs.Laws.{puts_then}
 
 -- a page on which one text was written
 pub one_text : (p q : Page) (text : List ℕ) → p.bytes.items ≡ [] → PutsText p q text

@@ -2,7 +2,7 @@
 use Rattle.std.specs.Prelude.{ℕ, ◌+◌, Bool, true, false, not, ◌&&◌, ◌==◌, if◌then◌else◌, List, []}
 use Rattle.std.specs.Prelude.{◌++◌, codes, decimal}
 use Rattle.vipr_spec.specs.Causes as cause
-use Rattle.vipr_explain.specs.Page.{shown_bytes}
+use Rattle.vipr_page.specs.Page.{shown_bytes}
 use Rattle.vipr_explain.specs.Progress.{in_u32, index_of, item_word, keyword_of}
 use Rattle.vipr_explain.specs.Wanted.{wanted_phrase}
 use Rattle.vipr_explain.specs.declared.wanted.Section.{Section}

@@ -1,7 +1,7 @@
 -- A part of a line with carets below a place in it, as it is shown
 use Rattle.std.specs.Prelude.{ℕ, List, [], ◌++◌, Bool, codes, decimal, max, min, nat_lt, replicate}
 use Rattle.std.specs.Prelude.{if◌then◌else◌}
-use Rattle.vipr_explain.specs.Page.{shown_bytes}
+use Rattle.vipr_page.specs.Page.{shown_bytes}
 use Rattle.vipr_explain.specs.declared.excerpt.Excerpt.{Excerpt}
 use Rattle.vipr_explain.specs.declared.text.Spot.{Spot}
 

@@ -3,7 +3,7 @@ use Rattle.std.specs.Prelude.{ℕ, List, ◌++◌, Option, Some, None, codes}
 use Rattle.vipr_spec.specs.Constraint as spec
 use Rattle.vipr_cert.specs.Text.{claim_text}
 use Rattle.vipr_cert.specs.declared.items.Claim.{Claim}
-use Rattle.vipr_explain.specs.Algebra.{algebra_text}
+use Rattle.vipr_page.specs.Algebra.{algebra_text}
 use Rattle.vipr_explain.specs.Listed.{listed_text}
 use Rattle.vipr_explain.specs.declared.shown.PlacedItems.{PlacedItems}
 

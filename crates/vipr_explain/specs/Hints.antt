@@ -8,7 +8,7 @@ use Rattle.vipr_spec.specs.Causes as cause
 use Rattle.vipr_spec.specs.Digits.{is_digit}
 use Rattle.vipr_spec.specs.Fraction.{ℚ}
 use Rattle.vipr_spec.specs.Number.{number_text}
-use Rattle.vipr_explain.specs.Decimals.{decimal_of}
+use Rattle.vipr_page.specs.Decimals.{decimal_of}
 use Rattle.vipr_explain.specs.declared.wanted.Section.{Section}
 use Rattle.vipr_explain.specs.declared.wanted.Section.TheVariants as section
 use Rattle.vipr_explain.specs.declared.wanted.Wanted.{Wanted}

@@ -1,11 +1,5 @@
-pub mod Page
-pub mod Written
-pub mod Algebra
 pub mod Excerpted
 pub mod Listed
-pub mod Differences
-pub mod RowFaults
-pub mod Repairs
 pub mod Steps
 pub mod Solutions
 pub mod Goals
@@ -18,7 +12,6 @@ pub mod Excerpts
 pub mod Found
 pub mod Progress
 pub mod Wanted
-pub mod Decimals
 pub mod Hints
 pub mod Contexts
 pub mod Syntax

@@ -7,7 +7,7 @@ use Rattle.vipr_linear.specs.Constraint.{constraint_of}
 use Rattle.vipr_cert.specs.declared.items.Derivation.{Derivation}
 use Rattle.vipr_cert.specs.declared.items.Reason.{Reason}
 use Rattle.vipr_cert.specs.declared.items.Reason.TheVariants.{Asm, Lin, Rnd, Uns, Sol}
-use Rattle.vipr_explain.specs.Algebra.{algebra_text, shown_name}
+use Rattle.vipr_page.specs.Algebra.{algebra_text, shown_name}
 use Rattle.vipr_explain.specs.declared.items.ItemPlace.{ItemPlace}
 use Rattle.vipr_explain.specs.declared.items.Items.{Items}
 use Rattle.vipr_explain.specs.declared.items.Numbered.{Numbered}

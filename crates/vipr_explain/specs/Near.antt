@@ -12,7 +12,7 @@ use Rattle.vipr_spec.specs.Input.{Input}
 use Rattle.vipr_spec.specs.Number.{number_text}
 use Rattle.vipr_spec.specs.Reading.{Rest, read_each, derivation_read}
 use Rattle.vipr_bytes.specs.Known.{IfKnown, text_of}
-use Rattle.vipr_explain.specs.Algebra.{size}
+use Rattle.vipr_page.specs.Algebra.{size}
 use Rattle.vipr_explain.specs.Found.{AreItemsOf, head_read}
 use Rattle.vipr_explain.specs.Goals.{wanted_text}
 use Rattle.vipr_explain.specs.Listed.{known_constraint, listed_text}

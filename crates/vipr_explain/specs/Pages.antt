@@ -9,15 +9,15 @@ use Rattle.vipr_check.specs.declared.verdict.Place.{Place}
 use Rattle.vipr_check.specs.declared.verdict.Place.TheVariants.{Byte, Sol, Der, End}
 use Rattle.vipr_check.specs.declared.verdict.Verdict.{Verdict}
 use Rattle.vipr_check.specs.declared.verdict.Verdict.TheVariants.{Verified, Refused}
-use Rattle.vipr_explain.specs.Page.{cut, shown_text}
+use Rattle.vipr_page.specs.Page.{cut, shown_text}
 use Rattle.vipr_explain.specs.Explained.{IsProvedText, IsSolutionText, see_text}
 use Rattle.vipr_explain.specs.Lacking.{LacksItem}
 use Rattle.vipr_explain.specs.Near.{IsNoProofText}
 use Rattle.vipr_explain.specs.Primal.{IsNoPrimalText}
 use Rattle.vipr_explain.specs.StepPages.{IsDerivationText}
 use Rattle.vipr_explain.specs.Syntax.{IsSyntaxText}
-use Rattle.vipr_explain.specs.Written.{PutsText}
-use Rattle.vipr_explain.specs.declared.page.Page.{Page}
+use Rattle.vipr_page.specs.Written.{PutsText}
+use Rattle.vipr_page.specs.declared.page.Page.{Page}
 
 -- what is said if a side of the claim isn't proved, by the detail
 abbrev pub IsClaimText : Option Input → Detail → List ℕ → Type 0

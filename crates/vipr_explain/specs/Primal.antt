@@ -12,8 +12,8 @@ use Rattle.vipr_spec.specs.Reading.{Rest, problem_read, read_each, solution_read
 use Rattle.std.specs.Prelude.{Ok}
 use Rattle.vipr_bytes.specs.Known.{IfKnown, text_of}
 use Rattle.vipr_explain.specs.Solutions.{best_text, primal_error, value_line}
-use Rattle.vipr_explain.specs.Written.{PutsText}
-use Rattle.vipr_explain.specs.declared.page.Page.{Page}
+use Rattle.vipr_page.specs.Written.{PutsText}
+use Rattle.vipr_page.specs.declared.page.Page.{Page}
 
 -- the objective at a listed solution, none if it is past the limit
 abbrev pub IsValueAt : Problem → Row → Option ℚ → Type 0

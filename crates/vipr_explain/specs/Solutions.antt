@@ -8,7 +8,7 @@ use Rattle.vipr_spec.specs.Fraction.{ℚ}
 use Rattle.vipr_spec.specs.Number.{number_text}
 use Rattle.vipr_check.specs.declared.detail.Detail.{Detail}
 use Rattle.vipr_check.specs.declared.detail.Detail.TheVariants as detail
-use Rattle.vipr_explain.specs.Algebra.{algebra_text, sense_sign, shown_name, variable_text}
+use Rattle.vipr_page.specs.Algebra.{algebra_text, sense_sign, shown_name, variable_text}
 use Rattle.vipr_explain.specs.Listed.{line_part, place_found}
 use Rattle.vipr_explain.specs.declared.items.ItemPlace.{ItemPlace}
 

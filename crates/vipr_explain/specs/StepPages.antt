@@ -11,15 +11,15 @@ use Rattle.vipr_cert.specs.declared.items.Derivation.{Derivation}
 use Rattle.vipr_cert.specs.declared.items.Reason.{Reason}
 use Rattle.vipr_check.specs.declared.detail.StepDetail.{StepDetail}
 use Rattle.vipr_check.specs.declared.detail.StepDetail.TheVariants as step
-use Rattle.vipr_explain.specs.Differences.{IsExcess, difference_line}
+use Rattle.vipr_page.specs.Differences.{IsExcess, difference_line}
 use Rattle.vipr_explain.specs.Drops.{IsLastUse}
 use Rattle.vipr_explain.specs.Excerpted.{excerpt_text}
 use Rattle.vipr_explain.specs.Excerpts.{IsExcerpt}
 use Rattle.vipr_explain.specs.Found.{AreFoundItems}
 use Rattle.vipr_explain.specs.Listed.{kept_derivation, place_found}
 use Rattle.vipr_explain.specs.References.{step_indices}
-use Rattle.vipr_explain.specs.Repairs.{IsRounded, repair_text}
-use Rattle.vipr_explain.specs.RowFaults.{not_roundable_text, not_split_text, row_faults}
+use Rattle.vipr_page.specs.Repairs.{IsRounded, repair_text}
+use Rattle.vipr_page.specs.RowFaults.{not_roundable_text, not_split_text, row_faults}
 use Rattle.vipr_explain.specs.Steps.{labelled, reason_text, step_error, step_help}
 use Rattle.vipr_explain.specs.declared.excerpt.Excerpt.{Excerpt}
 use Rattle.vipr_explain.specs.declared.items.ItemPlace.{ItemPlace}

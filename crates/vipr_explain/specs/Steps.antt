@@ -9,7 +9,7 @@ use Rattle.vipr_cert.specs.declared.items.Reason.{Reason}
 use Rattle.vipr_cert.specs.declared.items.Reason.TheVariants.{Asm, Lin, Rnd, Uns, Sol}
 use Rattle.vipr_check.specs.declared.detail.StepDetail.{StepDetail}
 use Rattle.vipr_check.specs.declared.detail.StepDetail.TheVariants as step
-use Rattle.vipr_explain.specs.Algebra.{algebra_text, shown_name}
+use Rattle.vipr_page.specs.Algebra.{algebra_text, shown_name}
 use Rattle.vipr_explain.specs.Listed.{kept_derivation, listed_text, word_or_given}
 use Rattle.vipr_explain.specs.declared.shown.PlacedItems.{PlacedItems}
 

@@ -3,14 +3,14 @@ ghost use Rattle.std.specs.Prelude.{IfErr, IfOk, List, ℕ};
 ghost use Rattle.vipr_explain.specs.Found.{OnlyIf};
 ghost use Rattle.vipr_explain.specs.Lacking.{LacksHead, LacksStep};
 ghost use Rattle.vipr_explain.specs.StepPages.{IsCauseText, IsDerivationText, IsDroppedPart};
-ghost use Rattle.vipr_explain.specs.Written.{PutsText};
+ghost use Rattle.vipr_page.specs.Written.{PutsText};
 
 use crate::drops::put_dropped;
 use crate::missing::Missing;
-use crate::page::Page;
 use crate::step::put_step;
 use crate::text::{Subject, Text};
 use vipr_check::{StepDetail, cause};
+use vipr_page::Page;
 
 /// Explains the refusal of the derivation of this constraint, and of what it needs.
 pub(crate) fn put_derivation<T: Text>(

@@ -14,17 +14,17 @@ ghost use Rattle.vipr_explain.specs.Lacking.{LacksHead};
 ghost use Rattle.vipr_explain.specs.Listed.{place_found};
 ghost use Rattle.vipr_explain.specs.StepPages.{IsDroppedText, IsSpotText, dropped_line, last_label};
 ghost use Rattle.vipr_explain.specs.StepPages.{last_spot};
-ghost use Rattle.vipr_explain.specs.Written.{PutsText};
+ghost use Rattle.vipr_page.specs.Written.{PutsText};
 
 use crate::items::{ItemPlace, find_constraints, mark_of, open_derivations};
 use crate::missing::Missing;
-use crate::page::Page;
 use crate::spots::put_excerpt;
 use crate::text::{Subject, Text};
 use std::alloc::Global;
 use vipr_bytes::Source;
 use vipr_cert::{Derivation, Reason};
 use vipr_frac::Frac;
+use vipr_page::Page;
 use vipr_read::Derivations;
 use vipr_scan::TextError;
 

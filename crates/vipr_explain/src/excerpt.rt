@@ -1,7 +1,7 @@
 //! A part of a line with carets below a place in it.
 ghost use Rattle.vipr_explain.specs.Excerpted.{carets_text, end_text, excerpt_text, front_text};
 ghost use Rattle.vipr_explain.specs.Excerpted.{head_text, part_text};
-ghost use Rattle.vipr_explain.specs.Written.{PutsText};
+ghost use Rattle.vipr_page.specs.Written.{PutsText};
 ghost use Rattle.std.specs.Prelude.{◌≡◌, ℕ, ◌+◌, ◌++◌, ◌∷◌, true, [], max, min, length, take, drop};
 ghost use Rattle.std.specs.Prelude.{List, IfOk, IfErr, IfSome, OnOk};
 ghost use Rattle.vipr_spec.specs.Input.{Input};
@@ -9,11 +9,10 @@ ghost use Rattle.vipr_explain.specs.Letters.{HasGiven};
 ghost use Rattle.vipr_explain.specs.Excerpts.{IsExcerpt, ShowsLine, ReadsInLine, line_at};
 
 use crate::missing::Missing;
-use crate::page::Page;
-use crate::stranger::StrangeBytes;
 use crate::text::{Letters, Spot, Subject, Text};
 use std::alloc::{AllocError, Global};
 use vipr_bytes::Source;
+use vipr_page::{Page, StrangeBytes};
 
 /// How many bytes of a line are shown before a place, and from it on.
 const MOST_BEFORE: u64 = 60;

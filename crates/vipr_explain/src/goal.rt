@@ -9,21 +9,19 @@ ghost use Rattle.vipr_explain.specs.Found.{AreItemsOf, HasFault, LacksItems, Onl
 ghost use Rattle.vipr_explain.specs.Found.{all_derivations_read};
 ghost use Rattle.vipr_explain.specs.Lacking.{LacksGoal};
 ghost use Rattle.vipr_spec.specs.Number.{number_text};
-ghost use Rattle.vipr_explain.specs.Algebra.{size};
+ghost use Rattle.vipr_page.specs.Algebra.{size};
 ghost use Rattle.vipr_explain.specs.Listed.{known_constraint};
 ghost use Rattle.vipr_explain.specs.Goals.{goal_line, wanted_text};
 ghost use Rattle.vipr_explain.specs.Near.{AreNearLines, IsGapText, IsNoProofText, IsStrength};
 ghost use Rattle.vipr_explain.specs.Near.{IsStrengthIn, IsStrengthOf, base_text, bases_by};
 ghost use Rattle.vipr_explain.specs.Near.{cut_mark_of, near_head, near_text, some_bases};
 ghost use Rattle.vipr_explain.specs.Nearing.{near_of};
-ghost use Rattle.vipr_explain.specs.Written.{PutsText};
+ghost use Rattle.vipr_page.specs.Written.{PutsText};
 ghost use Rattle.vipr_explain.specs.declared.shown.PlacedItems.{PlacedItems};
 
-use crate::algebra::{Algebra, size_of};
 use crate::items::Items;
 use crate::missing::Missing;
 use crate::near::{Bases, Near, find_near};
-use crate::page::Page;
 use crate::shown::{ListedConstraint, PlacedItems};
 use crate::text::{Subject, Text};
 use std::alloc::{AllocError, Global};
@@ -31,6 +29,7 @@ use vipr_cert::Problem;
 use vipr_check::Report;
 use vipr_frac::Frac;
 use vipr_linear::Constraint;
+use vipr_page::{Algebra, Page, size_of};
 
 /// Explains a verified certificate: the constraint that proves its dual side, in algebra.
 pub(crate) fn put_goal<T: Text>(

@@ -4,12 +4,11 @@ ghost use Rattle.vipr_explain.specs.Hints.{begins_number, brace_hint, count_hint
 ghost use Rattle.vipr_explain.specs.Hints.{hints_text, index_hints, keyword_hint, number_hint};
 ghost use Rattle.vipr_explain.specs.Hints.{number_hints, plain_hint, sense_hint, start_hint};
 ghost use Rattle.vipr_explain.specs.Hints.{compressed_hint, text_hint};
-ghost use Rattle.vipr_explain.specs.Written.{PutsText};
+ghost use Rattle.vipr_page.specs.Written.{PutsText};
 
-use crate::decimal::fraction_of;
-use crate::page::Page;
 use crate::wanted::{Section, TextProgress, Wanted};
 use vipr_check::cause;
+use vipr_page::{Page, fraction_of};
 
 /// A token at fault: how far the text was read before it, and its first bytes.
 #[derive(Clone, Copy)]

@@ -2,7 +2,6 @@
 ghost use Rattle.std.specs.Prelude.{Some, option_map, IfErr, IfOk};
 ghost use Rattle.vipr_explain.specs.Found.{AreItemsOf, LacksItems, OnlyIf};
 
-use crate::algebra::{Algebra, ShownName};
 use crate::items::{ItemPlace, Items, find_constraints, mark_of, read_items};
 use crate::missing::Missing;
 use crate::text::{Subject, Text};
@@ -10,6 +9,7 @@ use std::fmt;
 use std::fmt::{Display, Formatter, Write};
 use vipr_cert::{Name, Problem};
 use vipr_linear::Constraint;
+use vipr_page::{Algebra, ShownName};
 
 /// The problem, some derivations, and the places of some constraints.
 #[derive(Drop)]

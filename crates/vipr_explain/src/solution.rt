@@ -23,15 +23,13 @@ ghost use Rattle.vipr_explain.specs.Solutions.{overflow_lines, overflow_text, pr
 ghost use Rattle.vipr_explain.specs.Solutions.{sides_text};
 ghost use Rattle.vipr_explain.specs.Solutions.{fault_lines, solution_error, solution_fault};
 ghost use Rattle.vipr_explain.specs.Solutions.{value_line, values_text};
-ghost use Rattle.vipr_explain.specs.Written.{PutsText};
+ghost use Rattle.vipr_page.specs.Written.{PutsText};
 
-use crate::algebra::{Algebra, ShownName, VariableName, sign_of};
 use crate::excerpt::Excerpt;
 use crate::items::{
     ItemPlace, find_constraints, find_solution, mark_of, open_problem, read_solution,
 };
 use crate::missing::Missing;
-use crate::page::Page;
 use crate::shown::LinePart;
 use crate::text::{Subject, Text};
 use crate::values::Values;
@@ -41,6 +39,7 @@ use vipr_cert::{Goal, Name, Named, Problem};
 use vipr_check::Detail;
 use vipr_frac::Frac;
 use vipr_linear::{Constraint, Solution, value_at};
+use vipr_page::{Algebra, Page, ShownName, VariableName, sign_of};
 use vipr_read::Solutions;
 
 /// How many solutions are shown.

@@ -2,12 +2,12 @@
 ghost use Rattle.std.specs.Prelude.{◌≡◌, IfErr, IfOk, List, true, ℕ};
 ghost use Rattle.vipr_explain.specs.Found.{OnlyIf};
 ghost use Rattle.vipr_explain.specs.StepPages.{IsExcerptAt};
-ghost use Rattle.vipr_explain.specs.Written.{PutsText};
+ghost use Rattle.vipr_page.specs.Written.{PutsText};
 
 use crate::excerpt::Excerpt;
 use crate::missing::Missing;
-use crate::page::Page;
 use crate::text::{Spot, Subject, Text};
+use vipr_page::Page;
 
 /// Shows the part of the line round a place, with carets below so many bytes of it and a label.
 pub(crate) fn put_excerpt<T: Text>(

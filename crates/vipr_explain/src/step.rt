@@ -12,16 +12,11 @@ ghost use Rattle.vipr_explain.specs.StepPages.{IsDetailText, IsRefusedText, IsRo
 ghost use Rattle.vipr_explain.specs.StepPages.{IsStepText, name_spot, pair_lines, stated_lines};
 ghost use Rattle.vipr_explain.specs.StepPages.{sum_lines};
 ghost use Rattle.vipr_explain.specs.Steps.{labelled, reason_text, step_error, step_help};
-ghost use Rattle.vipr_explain.specs.Written.{PutsText};
+ghost use Rattle.vipr_page.specs.Written.{PutsText};
 
-use crate::algebra::{Algebra, ShownName};
-use crate::differences::put_difference;
-use crate::faults::{put_not_roundable, put_not_split};
 use crate::items::{ItemPlace, mark_of, read_items};
 use crate::missing::Missing;
-use crate::page::Page;
 use crate::reason::{ReasonLines, is_entry_shown};
-use crate::repair::put_repair;
 use crate::shown::PlacedItems;
 use crate::spots::put_excerpt;
 use crate::text::{Subject, Text};
@@ -32,6 +27,9 @@ use vipr_cert::{Derivation, Problem, Reason};
 use vipr_check::{StepDetail, cause};
 use vipr_frac::Frac;
 use vipr_linear::Constraint;
+use vipr_page::{
+    Algebra, Page, ShownName, put_difference, put_not_roundable, put_not_split, put_repair,
+};
 
 /// Explains the refusal of the derivation of this constraint.
 pub(crate) fn put_step<T: Text>(

@@ -9,13 +9,11 @@ ghost use Rattle.vipr_explain.specs.Found.{OnlyIf};
 ghost use Rattle.vipr_explain.specs.Progress.{at_start, named_at, passed};
 ghost use Rattle.vipr_explain.specs.Syntax.{IsFoundAt, IsSyntaxText, PassesUpTo};
 ghost use Rattle.vipr_explain.specs.Words.{IsReading, kept_word, no_token};
-ghost use Rattle.vipr_explain.specs.Written.{PutsText};
+ghost use Rattle.vipr_page.specs.Written.{PutsText};
 
 use crate::excerpt::Excerpt;
 use crate::hints::{TokenFault, put_hints};
 use crate::missing::Missing;
-use crate::page::Page;
-use crate::stranger::StrangeBytes;
 use crate::text::{Subject, Text};
 use crate::wanted::{Section, TextProgress, Wanted};
 use crate::wanted_words::put_wanted;
@@ -23,6 +21,7 @@ use crate::words::Words;
 use std::alloc::AllocError;
 use vipr_bytes::Source;
 use vipr_check::cause;
+use vipr_page::{Page, StrangeBytes};
 
 /// A token at fault: the reader that is at it, and what is known of it.
 #[derive(Drop)]

@@ -1,12 +1,12 @@
 //! The values of a solution at the variables of a constraint.
 ghost use Rattle.std.specs.Prelude.{Some};
 
-use crate::algebra::VariableName;
 use std::fmt;
 use std::fmt::{Display, Formatter, Write};
 use vipr_cert::Problem;
 use vipr_frac::Frac;
 use vipr_linear::{Row, Solution};
+use vipr_page::VariableName;
 
 /// How many values are shown.
 const MOST_VALUES: usize = 10;

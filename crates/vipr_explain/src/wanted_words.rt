@@ -3,10 +3,10 @@ ghost use Rattle.std.specs.Prelude.{◌≡◌};
 ghost use Rattle.vipr_explain.specs.Wanted.{branch_words, plain_words, wanted_count, wanted_index};
 ghost use Rattle.vipr_explain.specs.Wanted.{wanted_keyword, wanted_name, wanted_part};
 ghost use Rattle.vipr_explain.specs.Wanted.{wanted_phrase};
-ghost use Rattle.vipr_explain.specs.Written.{PutsText};
+ghost use Rattle.vipr_page.specs.Written.{PutsText};
 
-use crate::page::Page;
 use crate::wanted::{Section, TextProgress, Wanted};
+use vipr_page::Page;
 
 /// Writes what is wanted.
 pub(crate) fn put_wanted(page: &mut Page, progress: &TextProgress)

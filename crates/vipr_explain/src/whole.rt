@@ -2,7 +2,7 @@
 ghost use Rattle.std.specs.Prelude.{◌≡◌, IfErr, IfOk, IfSome, option_map};
 ghost use Rattle.vipr_explain.specs.Found.{OnlyIf};
 ghost use Rattle.vipr_explain.specs.Lacking.{LacksClaim, LacksDerivation, LacksItem, LacksPlace};
-ghost use Rattle.vipr_explain.specs.Page.{cut, shown_text};
+ghost use Rattle.vipr_page.specs.Page.{cut, shown_text};
 ghost use Rattle.vipr_explain.specs.Pages.{ExplainsVerdict, IsClaimText, IsPageFor};
 ghost use Rattle.vipr_explain.specs.Pages.{IsRefusalText, IsTextAt, IsVerdictPage, PutsSome};
 ghost use Rattle.vipr_explain.specs.Pages.{not_read};
@@ -10,12 +10,12 @@ ghost use Rattle.vipr_explain.specs.Pages.{not_read};
 use crate::derivation::put_derivation;
 use crate::goal::{put_goal, put_no_proof};
 use crate::missing::Missing;
-use crate::page::Page;
 use crate::solution::{put_no_primal, put_solution};
 use crate::syntax::put_syntax;
 use crate::text::{Subject, Text};
 use std::alloc::Global;
 use vipr_check::{Detail, Place, Refusal, Verdict};
+use vipr_page::Page;
 
 /// Explains a verdict on a text, which is read again, for people: the place at fault, what
 /// is wanted there, and what is likely to be wrong. `file` is the text's name.

@@ -1,5 +1,5 @@
 use Rattle.std.proofs.Common.{[], refl}
-use Rattle.vipr_explain.proofs.Putting.{puts_none}
+use Rattle.vipr_page.proofs.Laws.{puts_none}
 use Rattle.vipr_explain.proofs.derivation.put_cause.Goals as goal
 
 pub returns-in-Index-clause-shown : goal.returns-in-Index-clause-shown

@@ -1,5 +1,5 @@
 use Rattle.std.proofs.Common.{[], refl}
-use Rattle.vipr_explain.proofs.Putting.{puts_none}
+use Rattle.vipr_page.proofs.Laws.{puts_none}
 use Rattle.vipr_explain.proofs.derivation.put_if_dropped.Goals as goal
 
 pub returns-then-is_dropped-clause-shown : goal.returns-then-is_dropped-clause-shown

@@ -2,7 +2,7 @@ use Rattle.std.proofs.Common.{List, ℕ, map, take, option_map}
 use Rattle.vipr_linear.specs.Constraint.{constraint_of}
 use Rattle.vipr_explain.specs.Near.{AreNearLines}
 use Rattle.vipr_explain.specs.Nearing.{near_of}
-use Rattle.vipr_explain.specs.Written.{PutsText}
+use Rattle.vipr_page.specs.Written.{PutsText}
 use Rattle.vipr_explain.proofs.goal.put_all_near.Given as goal
 
 abbrev pub invariant-loop-item : goal.invariant-loop-item

@@ -1,7 +1,7 @@
 use Rattle.std.proofs.Common.{rules}
 use Rattle.std.proofs.Common.{◌≡◌, ◌<◌, length}
 use Rattle.vipr_explain.proofs.Nearby.{bases_none, bases_some}
-use Rattle.vipr_explain.proofs.Putting.{puts_same}
+use Rattle.vipr_page.proofs.Laws.{puts_same}
 use Rattle.vipr_explain.proofs.goal.put_bases.Goals as goal
 
 pub returns-then-is_empty : goal.returns-then-is_empty

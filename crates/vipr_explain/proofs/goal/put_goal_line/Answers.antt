@@ -2,7 +2,7 @@ use Rattle.std.proofs.Common.{ℕ, List, Option, IfErr, IfOk, subst, sym}
 use Rattle.vipr_explain.specs.Explained.{IsGoalText}
 use Rattle.vipr_explain.specs.Found.{OnlyIf}
 use Rattle.vipr_explain.specs.Lacking.{LacksGoal}
-use Rattle.vipr_explain.specs.Written.{PutsText}
+use Rattle.vipr_page.specs.Written.{PutsText}
 use Rattle.vipr_explain.proofs.WholePages.{goal_item_lines}
 use Rattle.vipr_explain.proofs.goal.put_goal_line.Goals as goal
 

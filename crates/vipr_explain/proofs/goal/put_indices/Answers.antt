@@ -1,5 +1,5 @@
 use Rattle.vipr_explain.specs.Near.{base_text}
-use Rattle.vipr_explain.proofs.Putting.{puts_all, puts_next, puts_none}
+use Rattle.vipr_page.proofs.Laws.{puts_all, puts_next, puts_none}
 use Rattle.vipr_explain.proofs.goal.put_indices.Goals as goal
 
 pub loop-index-init : goal.loop-index-init

@@ -5,7 +5,7 @@ use Rattle.vipr_explain.specs.Nearing.{near_of}
 use Rattle.std.proofs.lemmas.Result.{err_from_is_err_and}
 use Rattle.vipr_explain.proofs.Lacks.{only_if}
 use Rattle.vipr_explain.proofs.Nearby.{no_proof_lines}
-use Rattle.vipr_explain.proofs.Putting.{puts_same}
+use Rattle.vipr_page.proofs.Laws.{puts_same}
 use Rattle.vipr_explain.proofs.goal.put_no_proof.Goals as goal
 
 pub returns-in_err-near-clause-error : goal.returns-in_err-near-clause-error

@@ -1,7 +1,7 @@
 use Rattle.std.proofs.Common.{ap, rules, ◌∙◌}
 use Rattle.std.specs.List.{flat_map}
 use Rattle.vipr_explain.specs.Near.{base_text, cut_mark_of}
-use Rattle.vipr_explain.proofs.Putting.{puts_same, puts_then}
+use Rattle.vipr_page.proofs.Laws.{puts_same, puts_then}
 use Rattle.vipr_explain.proofs.goal.put_some_bases.Goals as goal
 
 pub returns : goal.returns

@@ -1,7 +1,7 @@
 use Rattle.std.proofs.Common.{ap, length, refl, sym}
 use Rattle.std.proofs.lemmas.Option.{slice_get_read}
 use Rattle.vipr_explain.specs.Solutions.{broken_text}
-use Rattle.vipr_explain.proofs.Putting.{puts_same, puts_then}
+use Rattle.vipr_page.proofs.Laws.{puts_same, puts_then}
 use Rattle.vipr_explain.proofs.WholePages.{broken_is}
 use Rattle.std.proofs.Common.{◌≡◌, ◌∙◌, inl, inr, arith}
 use Rattle.std.proofs.lemmas.List.{length-map}

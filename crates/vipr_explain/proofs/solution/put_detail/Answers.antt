@@ -1,5 +1,5 @@
 use Rattle.std.proofs.Common.{[]}
-use Rattle.vipr_explain.proofs.Putting.{puts_none}
+use Rattle.vipr_page.proofs.Laws.{puts_none}
 use Rattle.vipr_explain.proofs.solution.put_detail.Goals as goal
 
 pub returns-in-NotWhole-clause-shown : goal.returns-in-NotWhole-clause-shown

@@ -1,7 +1,7 @@
 use Rattle.std.proofs.Common.{ℕ, List, ◌++◌, ap, codes}
 use Rattle.std.specs.Fmt.{decimal}
-use Rattle.vipr_explain.specs.Algebra.{shown_name}
-use Rattle.vipr_explain.proofs.Putting.{puts_same}
+use Rattle.vipr_page.specs.Algebra.{shown_name}
+use Rattle.vipr_page.proofs.Laws.{puts_same}
 use Rattle.vipr_explain.proofs.solution.put_error.Goals as goal
 
 pub returns : goal.returns

@@ -1,5 +1,5 @@
 use Rattle.std.proofs.Common.{arith}
-use Rattle.vipr_explain.proofs.Putting.{puts_none, puts_same}
+use Rattle.vipr_page.proofs.Laws.{puts_none, puts_same}
 use Rattle.vipr_explain.proofs.Valuing.{not_first}
 use Rattle.vipr_explain.proofs.solution.put_first_value.Goals as goal
 

@@ -1,6 +1,6 @@
 use Rattle.std.proofs.Common.{Some, None, ap, refl, ◌∙◌}
 use Rattle.vipr_explain.specs.Primal.{better_of}
-use Rattle.vipr_explain.proofs.Putting.{puts_none}
+use Rattle.vipr_page.proofs.Laws.{puts_none}
 use Rattle.vipr_explain.proofs.Valuing.{value_fits, value_past}
 use Rattle.vipr_explain.proofs.solution.put_listed.Goals as goal
 

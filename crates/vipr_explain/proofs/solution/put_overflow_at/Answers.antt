@@ -1,4 +1,4 @@
-use Rattle.vipr_explain.proofs.Putting.{puts_none}
+use Rattle.vipr_page.proofs.Laws.{puts_none}
 use Rattle.vipr_explain.proofs.solution.put_overflow_at.Goals as goal
 
 pub returns-in-Some : goal.returns-in-Some

@@ -1,7 +1,7 @@
 use Rattle.std.proofs.Common.{[], inl, inr, refl}
 use Rattle.std.proofs.lemmas.Result.{err_from_is_err_and}
 use Rattle.vipr_explain.proofs.Lacks.{only_read}
-use Rattle.vipr_explain.proofs.Putting.{puts_none}
+use Rattle.vipr_page.proofs.Laws.{puts_none}
 use Rattle.vipr_explain.proofs.solution.put_place.Goals as goal
 
 pub returns-in_ok-excerpt-in-Some-clause-shown : goal.returns-in_ok-excerpt-in-Some-clause-shown

@@ -1,5 +1,5 @@
 use Rattle.vipr_explain.specs.References.{entry_index}
-use Rattle.vipr_explain.proofs.Gathering.{gather_all_numbered, gather_numbered}
+use Rattle.vipr_page.proofs.Laws.{gather_all_numbered, gather_numbered}
 use Rattle.vipr_explain.proofs.step.add_shown.Goals as goal
 
 pub loop-position-preserved : goal.loop-position-preserved

@@ -1,5 +1,5 @@
 use Rattle.std.proofs.Common.{[], refl}
-use Rattle.vipr_explain.proofs.Putting.{puts_none}
+use Rattle.vipr_page.proofs.Laws.{puts_none}
 use Rattle.vipr_explain.proofs.StepParts.{given_text}
 use Rattle.vipr_explain.proofs.step.put_detail.Goals as goal
 

@@ -10,7 +10,7 @@ use Rattle.vipr_explain.specs.StepPages.{IsSpotText, name_spot}
 use Rattle.vipr_explain.specs.Steps.{step_help}
 use Rattle.vipr_explain.specs.declared.items.ItemPlace.{ItemPlace}
 use Rattle.vipr_explain.proofs.Lacks.{only_if, only_nothing_of_memory}
-use Rattle.vipr_explain.proofs.Putting.{puts_same, puts_then}
+use Rattle.vipr_page.proofs.Laws.{puts_same, puts_then}
 use Rattle.vipr_explain.proofs.step.put_refused.Goals as goal
 
 pub returns-clause-shown : goal.returns-clause-shown

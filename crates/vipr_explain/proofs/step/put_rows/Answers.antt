@@ -1,5 +1,5 @@
 use Rattle.std.proofs.Common.{refl}
-use Rattle.vipr_explain.proofs.Putting.{puts_then}
+use Rattle.vipr_page.proofs.Laws.{puts_then}
 use Rattle.vipr_explain.proofs.step.put_rows.Goals as goal
 
 pub returns : goal.returns

@@ -1,5 +1,5 @@
 use Rattle.std.proofs.Common.{ℕ, List, ◌++◌, ap, codes}
-use Rattle.vipr_explain.proofs.Putting.{puts_same, puts_then}
+use Rattle.vipr_page.proofs.Laws.{puts_same, puts_then}
 use Rattle.vipr_explain.proofs.syntax.put_error.Goals as goal
 
 pub returns : goal.returns

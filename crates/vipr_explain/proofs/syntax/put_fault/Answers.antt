@@ -2,7 +2,7 @@ use Rattle.std.proofs.Common.{◌++◌, codes}
 use Rattle.vipr_explain.specs.Contexts.{found_words}
 use Rattle.vipr_explain.specs.Wanted.{wanted_phrase}
 use Rattle.vipr_explain.proofs.Choosing.{other_number}
-use Rattle.vipr_explain.proofs.Putting.{puts_same, puts_then}
+use Rattle.vipr_page.proofs.Laws.{puts_same, puts_then}
 use Rattle.vipr_explain.proofs.syntax.put_fault.Goals as goal
 
 pub returns-else-cause-eq-TRAILING_TEXT : goal.returns-else-cause-eq-TRAILING_TEXT

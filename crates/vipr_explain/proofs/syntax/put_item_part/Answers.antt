@@ -1,7 +1,7 @@
 use Rattle.std.proofs.Common.{[], ◌++◌, sym, ◌∙◌}
 use Rattle.vipr_explain.specs.Contexts.{is_in_item, item_text, item_name}
 use Rattle.vipr_explain.proofs.Choosing.{left_out, put_in}
-use Rattle.vipr_explain.proofs.Putting.{puts_none, puts_same, puts_then}
+use Rattle.vipr_page.proofs.Laws.{puts_none, puts_same, puts_then}
 use Rattle.vipr_explain.proofs.syntax.put_item_part.Goals as goal
 
 pub returns-then-is_in_item : goal.returns-then-is_in_item

@@ -1,8 +1,8 @@
 use Rattle.std.proofs.Common.{[], ◌++◌, codes, sym, ◌∙◌}
 use Rattle.vipr_explain.specs.Contexts.{has_name}
-use Rattle.vipr_explain.specs.Page.{shown_bytes}
+use Rattle.vipr_page.specs.Page.{shown_bytes}
 use Rattle.vipr_explain.proofs.Choosing.{left_out}
-use Rattle.vipr_explain.proofs.Putting.{puts_none, puts_same}
+use Rattle.vipr_page.proofs.Laws.{puts_none, puts_same}
 use Rattle.vipr_explain.proofs.syntax.put_name_part.Goals as goal
 
 pub returns-else-has_name : goal.returns-else-has_name

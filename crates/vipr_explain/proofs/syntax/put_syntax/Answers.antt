@@ -4,7 +4,7 @@ use Rattle.vipr_explain.specs.Excerpted.{excerpt_text}
 use Rattle.vipr_explain.specs.Excerpts.{IsExcerpt}
 use Rattle.vipr_explain.specs.Hints.{hints_text}
 use Rattle.vipr_explain.specs.Words.{kept_word}
-use Rattle.vipr_explain.specs.Written.{PutsText}
+use Rattle.vipr_page.specs.Written.{PutsText}
 use Rattle.vipr_explain.proofs.Lacks.{only_read}
 use Rattle.vipr_explain.proofs.SyntaxLines.{syntax_lines}
 use Rattle.vipr_explain.proofs.syntax.put_syntax.Goals as goal

@@ -1,7 +1,7 @@
 use Rattle.std.proofs.Common.{ℕ, ◌+◌, ◌-◌, ◌*◌, get_or, arith, refl, sym, ◌∙◌}
 use Rattle.std.proofs.Common.{ap, inl, inr}
 use Rattle.vipr_explain.specs.Progress.{number_or_none}
-use Rattle.vipr_explain.proofs.Counting.{digits_begin}
+use Rattle.vipr_explain.proofs.Numerals.{digits_begin}
 use Rattle.vipr_spec.proofs.Laws.{next_digit, next_other, at_end}
 use Rattle.vipr_explain.proofs.wanted.count_of.Goals as goal
 use Rattle.vipr_explain.proofs.wanted.count_of.Goals.{then-byte-lt48-via-then-byte-lt48}

@@ -1,5 +1,5 @@
 use Rattle.std.proofs.Common.{ℕ, List, ◌++◌, ap, codes}
-use Rattle.vipr_explain.proofs.Putting.{puts_same}
+use Rattle.vipr_page.proofs.Laws.{puts_same}
 use Rattle.vipr_explain.proofs.wanted_words.put_wanted_keyword.Goals as goal
 
 pub returns : goal.returns

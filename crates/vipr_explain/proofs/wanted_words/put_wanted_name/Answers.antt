@@ -1,7 +1,7 @@
 use Rattle.std.proofs.Common.{ℕ, List, ◌++◌, ◌∙◌, ap, codes}
 use Rattle.std.specs.Fmt.{decimal}
 use Rattle.vipr_explain.specs.Progress.{item_word}
-use Rattle.vipr_explain.proofs.Putting.{puts_same}
+use Rattle.vipr_page.proofs.Laws.{puts_same}
 use Rattle.vipr_explain.proofs.wanted_words.put_wanted_name.Goals as goal
 
 name_text : List ℕ → ℕ → List ℕ

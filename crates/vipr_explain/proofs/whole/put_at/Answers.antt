@@ -2,7 +2,7 @@ use Rattle.std.proofs.Common.{◌≡◌, [], refl, rules, subst, option_map, IfO
 use Rattle.vipr_linear.specs.Constraint.{constraint_of}
 use Rattle.vipr_explain.specs.Near.{IsNoProofText}
 use Rattle.vipr_explain.specs.Pages.{PutsSome}
-use Rattle.vipr_explain.proofs.Putting.{puts_none}
+use Rattle.vipr_page.proofs.Laws.{puts_none}
 use Rattle.vipr_explain.proofs.whole.put_at.Goals as goal
 
 pub returns-in-NotWhole-clause-shown : goal.returns-in-NotWhole-clause-shown

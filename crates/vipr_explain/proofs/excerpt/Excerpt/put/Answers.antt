@@ -1,4 +1,4 @@
-use Rattle.vipr_explain.proofs.Putting.{puts_then}
+use Rattle.vipr_page.proofs.Laws.{puts_then}
 use Rattle.vipr_explain.proofs.excerpt.Excerpt.put.Goals as goal
 
 pub returns : goal.returns

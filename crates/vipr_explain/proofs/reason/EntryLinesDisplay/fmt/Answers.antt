@@ -1,7 +1,7 @@
 use Rattle.std.proofs.Common.{length, rules}
 use Rattle.std.proofs.Output.{has_written_append, has_written_of_eq}
 use Rattle.vipr_explain.specs.Steps.{numbered_line}
-use Rattle.vipr_explain.proofs.Listing.{all_numbered, next_numbered}
+use Rattle.vipr_page.proofs.Laws.{all_numbered, next_numbered}
 use Rattle.vipr_explain.proofs.reason.EntryLinesDisplay.fmt.Goals as goal
 
 pub loop-position-preserved : goal.loop-position-preserved

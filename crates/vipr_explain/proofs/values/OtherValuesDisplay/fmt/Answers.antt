@@ -1,7 +1,7 @@
 use Rattle.std.proofs.Common.{rules}
 use Rattle.std.proofs.Output.{has_written_append, has_written_of_eq}
 use Rattle.vipr_explain.specs.Solutions.{next_value}
-use Rattle.vipr_explain.proofs.Listing.{all_parts, next_part}
+use Rattle.vipr_page.proofs.Laws.{all_parts, next_part}
 use Rattle.vipr_explain.proofs.values.OtherValuesDisplay.fmt.Goals as goal
 
 pub loop-entry-preserved : goal.loop-entry-preserved

@@ -1,0 +1,10 @@
+use Rattle.std.proofs.Common.{take}
+use Rattle.std.specs.Fmt.{HasWritten, IsPlainFormatter}
+use Rattle.std.specs.List.{flat_map}
+use Rattle.vipr_page.specs.Algebra.{next_term}
+use Rattle.vipr_page.proofs.algebra.OtherTermsDisplay.fmt.Given as goal
+
+abbrev pub invariant-loop-entry : goal.invariant-loop-entry
+invariant-loop-entry g l =
+    IsPlainFormatter l.fn.f
+    → HasWritten g.W.Write.write_str_gives l.fn.f (flat_map (next_term l.self.problem.now.names) (take l.entry-index l.entry-items)) l.f
