@@ -16,31 +16,29 @@ use Rattle.vipr_explain.specs.declared.wanted.TextProgress.{TextProgress}
 use Rattle.vipr_page.proofs.Laws.{puts_then}
 
 pub syntax_lines : (input : Option Input) (file : List ℕ) (c offset : ℕ) (words : List (List ℕ))
-    (is_end : Bool) (p : TextProgress) (name label : List ℕ) (kept : Kept) (margin indent : ℕ)
+    (is_end : Bool) (p : TextProgress) (name label : List ℕ) (kept : Kept)
     (excerpt : Excerpt) (first second third fourth last : Page)
     → p ≡ passed_all at_start words → name ≡ name_after at_start [] words
     → IfKnown input (λ i. IsTokenAt i offset words is_end kept)
     → label ≡ label_text is_end → IfSome input (λ i. IsExcerpt kept.spot i.bytes excerpt)
     → PutsText first second (error_text c is_end p)
-    → PutsText second third (excerpt_text margin indent excerpt file kept.size label)
+    → PutsText second third (excerpt_text excerpt file kept.size label)
     → PutsText third fourth (context_text p name) → PutsText fourth last (hints_text c p kept.word)
     → (text : List ℕ) × IsSyntaxText input file c offset text × PutsText first last text
-syntax_lines input file c offset words is_end p name label kept margin indent excerpt first second third fourth last progress named found labelled shown error place context hints =
+syntax_lines input file c offset words is_end p name label kept excerpt first second third fourth last progress named found labelled shown error place context hints =
     let size : ℕ = kept.size in
     let word : List ℕ = kept.word in
     let q : TextProgress = passed_all at_start words in
     let error' = subst (λ (x : TextProgress). PutsText first second (error_text c is_end x)) progress error in
-    let place' = subst (λ (x : List ℕ). PutsText second third (excerpt_text margin indent excerpt file size x)) labelled place in
+    let place' = subst (λ (x : List ℕ). PutsText second third (excerpt_text excerpt file size x)) labelled place in
     let context' = subst (λ (x : List ℕ). PutsText third fourth (context_text q x)) named (subst (λ (x : TextProgress). PutsText third fourth (context_text x name)) progress context) in
     let hints' = subst (λ (x : TextProgress). PutsText fourth last (hints_text c x word)) progress hints in (
-      error_text c is_end q ++ (excerpt_text margin indent excerpt file size (label_text is_end) ++ (context_text q (name_after at_start [] words) ++ hints_text c q word)),
+      error_text c is_end q ++ (excerpt_text excerpt file size (label_text is_end) ++ (context_text q (name_after at_start [] words) ++ hints_text c q word)),
       record {
         words = words;
         is_end = is_end;
         kept = kept;
         found = found;
-        margin = margin;
-        indent = indent;
         excerpt = excerpt;
         shown = shown;
         parts = refl;

@@ -1,7 +1,7 @@
 -- A part of a line with carets below a place in it, as it is shown
 use Rattle.std.specs.Prelude.{ℕ, List, [], ◌++◌, Bool, codes, decimal, max, min, nat_lt, replicate}
-use Rattle.std.specs.Prelude.{if◌then◌else◌}
-use Rattle.vipr_page.specs.Page.{shown_bytes}
+use Rattle.std.specs.Prelude.{if◌then◌else◌, flat_map, length}
+use Rattle.vipr_page.specs.Page.{line_byte, shown_bytes}
 use Rattle.vipr_explain.specs.declared.excerpt.Excerpt.{Excerpt}
 use Rattle.vipr_explain.specs.declared.text.Spot.{Spot}
 
@@ -28,13 +28,25 @@ abbrev pub part_text : Excerpt → List ℕ
 part_text e = decimal e.spot.line ++ (codes " | " ++ (front_text e.spot
     ++ (shown_bytes e.before.items ++ (shown_bytes e.behind.items ++ end_text e.is_cut))))
 
--- one to 40 carets below so many bytes, and a label
-abbrev pub carets_text : ℕ → ℕ → ℕ → List ℕ → List ℕ
-carets_text margin indent size label = spaces margin ++ (codes " | " ++ (spaces indent
+-- as many spaces as a byte of a line takes columns
+abbrev pub room_for : ℕ → List ℕ
+room_for b = spaces (length (line_byte b))
+
+-- as many as what is shown of the line before the place takes
+abbrev pub room_text : Excerpt → List ℕ
+room_text e = spaces (length (front_text e.spot)) ++ flat_map room_for e.before.items
+
+-- one to 40 carets below the place, for so many bytes, and a label
+abbrev pub carets_text : ℕ → Excerpt → ℕ → List ℕ → List ℕ
+carets_text margin e size label = spaces margin ++ (codes " | " ++ (room_text e
     ++ (replicate (min (max size 1) 40) 94 ++ ((codes " " ++ (label ++ codes "\n"))
     ++ (spaces margin ++ codes " |\n")))))
 
--- the whole, where the line's number takes so much room, and the carets stand so far behind
-abbrev pub excerpt_text : ℕ → ℕ → Excerpt → List ℕ → ℕ → List ℕ → List ℕ
-excerpt_text margin indent e file size label =
-    head_text margin file e.spot ++ (part_text e ++ carets_text margin indent size label)
+-- the room that a line's number takes
+abbrev pub margin_of : Spot → ℕ
+margin_of spot = length (decimal spot.line)
+
+-- the whole
+abbrev pub excerpt_text : Excerpt → List ℕ → ℕ → List ℕ → List ℕ
+excerpt_text e file size label = head_text (margin_of e.spot) file e.spot
+    ++ (part_text e ++ carets_text (margin_of e.spot) e size label)

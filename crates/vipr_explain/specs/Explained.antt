@@ -31,13 +31,11 @@ pub record IsProvedText (input : Option Input) (report : Report) (text : List �
 
 -- the part of a line of the text round a place, with carets and this label below it
 pub record IsExcerptText (input : Option Input) (file label text : List ℕ) : Type 0 where
-  pub margin : ℕ
-  pub indent : ℕ
   pub spot : Spot
   pub excerpt : Excerpt
   pub found : IfSome input (λ i. IsExcerpt spot i.bytes excerpt)
   pub size : ℕ
-  pub parts : text ≡ excerpt_text margin indent excerpt file size label
+  pub parts : text ≡ excerpt_text excerpt file size label
 
 -- the same, or nothing where the place wasn't found
 abbrev pub IsPlaceText : Option Input → List ℕ → List ℕ → List ℕ → Type 0

@@ -32,12 +32,10 @@ use Rattle.vipr_explain.specs.declared.text.Spot.{Spot}
 -- the part of the line round a place, with carets below so many bytes of it and a label
 pub record IsExcerptAt (input : Option Input) (file : List ℕ) (spot : Spot) (size : ℕ)
     (label text : List ℕ) : Type 0 where
-  pub margin : ℕ
-  pub indent : ℕ
   pub excerpt : Excerpt
   pub place : excerpt.spot ≡ spot
   pub found : IfSome input (λ i. IsExcerpt spot i.bytes excerpt)
-  pub parts : text ≡ excerpt_text margin indent excerpt file size label
+  pub parts : text ≡ excerpt_text excerpt file size label
 
 -- the same, or nothing if the place isn't known
 abbrev pub IsSpotText : Option Input → List ℕ → List ℕ → Option (Spot × ℕ) → List ℕ → Type 0

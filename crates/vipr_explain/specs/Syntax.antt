@@ -39,12 +39,10 @@ pub record IsSyntaxText (input : Option Input) (file : List ℕ) (c offset : ℕ
   pub is_end : Bool
   pub kept : Kept
   pub found : IfKnown input (λ i. IsTokenAt i offset words is_end kept)
-  pub margin : ℕ
-  pub indent : ℕ
   pub excerpt : Excerpt
   pub shown : IfSome input (λ i. IsExcerpt kept.spot i.bytes excerpt)
   pub parts : text ≡ error_text c is_end (passed_all at_start words)
-      ++ (excerpt_text margin indent excerpt file kept.size (label_text is_end)
+      ++ (excerpt_text excerpt file kept.size (label_text is_end)
       ++ (context_text (passed_all at_start words) (name_after at_start [] words)
       ++ hints_text c (passed_all at_start words) kept.word))
 

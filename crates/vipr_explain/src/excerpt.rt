@@ -1,15 +1,17 @@
 //! A part of a line with carets below a place in it.
 ghost use Rattle.vipr_explain.specs.Excerpted.{carets_text, end_text, excerpt_text, front_text};
-ghost use Rattle.vipr_explain.specs.Excerpted.{head_text, part_text};
+ghost use Rattle.vipr_explain.specs.Excerpted.{head_text, part_text, room_for, room_text};
+ghost use Rattle.vipr_page.specs.Page.{line_byte};
 ghost use Rattle.vipr_page.specs.Written.{PutsText};
 ghost use Rattle.std.specs.Prelude.{◌≡◌, ℕ, ◌+◌, ◌++◌, ◌∷◌, true, [], max, min, length, take, drop};
-ghost use Rattle.std.specs.Prelude.{List, IfOk, IfErr, IfSome, OnOk};
+ghost use Rattle.std.specs.Prelude.{List, IfOk, IfErr, IfSome, OnOk, decimal, flat_map};
 ghost use Rattle.vipr_spec.specs.Input.{Input};
 ghost use Rattle.vipr_explain.specs.Letters.{HasGiven};
 ghost use Rattle.vipr_explain.specs.Excerpts.{IsExcerpt, ShowsLine, ReadsInLine, line_at};
 
 use crate::missing::Missing;
 use crate::text::{Letters, Spot, Subject, Text};
+use itoa::Buffer;
 use std::alloc::{AllocError, Global};
 use vipr_bytes::Source;
 use vipr_page::{Page, StrangeBytes};
@@ -166,8 +168,7 @@ impl Excerpt {
 
     /// Shows the line, with carets below so many bytes of it and a label behind them.
     pub(crate) fn put(&self, page: &mut Page, file: &str, size: usize, label: &str)
-        ensures { (margin indent : ℕ) × PutsText page.old page.new
-            (excerpt_text margin indent self.now file.now size label.now) }
+        ensures { PutsText page.old page.new (excerpt_text self.now file.now size label.now) }
     {
         let margin = digits_of(self.spot.line);
         self.put_head(page, file, margin);
@@ -219,18 +220,33 @@ impl Excerpt {
 
     // Shows the carets.
     fn put_carets(&self, page: &mut Page, margin: usize, size: usize, label: &str)
-        ensures { (indent : ℕ) × PutsText page.old page.new
-            (carets_text margin indent size label.now) }
+        ensures { PutsText page.old page.new (carets_text margin self.now size label.now) }
     {
         let count = caret_count(size);
-        let indent = width_of(self.before.as_slice()).saturating_add(self.front().len());
         page.put_spaces(margin);
         page.put(" | ");
-        page.put_spaces(indent);
+        self.put_room(page);
         page.put_carets(count);
         page.put_value(&format_args!(" {label}\n"));
         page.put_spaces(margin);
         page.put(" |\n");
+    }
+
+    // Shows as many spaces as the part of the line before the place has columns.
+    fn put_room(&self, page: &mut Page)
+        ensures { PutsText page.old page.new (room_text self.now) }
+    {
+        page.put_spaces(self.front().len());
+        put_spaces_for(page, self.before.as_slice());
+    }
+}
+
+// Shows as many spaces as bytes take columns.
+fn put_spaces_for(page: &mut Page, bytes: &[u8])
+    ensures { PutsText page.old page.new (flat_map room_for bytes.now) }
+{
+    for byte in bytes {
+        page.put_spaces(width_of(*byte));
     }
 }
 
@@ -251,29 +267,20 @@ fn skip<R: Source + Drop>(letters: &mut Letters<R>, count: u64)
     }
 }
 
-// How many columns bytes take on a page.
-fn width_of(bytes: &[u8]) -> usize {
-    let mut width: usize = 0;
-    for byte in bytes {
-        let columns = match *byte {
-            9 | 32..=126 => 1,
-            _ => 4,
-        };
-        width = width.saturating_add(columns);
+// How many columns a byte takes on a page.
+fn width_of(byte: u8) -> usize
+    ensures { result ≡ length (line_byte byte) }
+{
+    match byte {
+        9 | 32..=126 => 1,
+        _ => 4,
     }
-    width
 }
 
 // How many digits a number has.
-fn digits_of(number: u64) -> usize {
-    let mut count: usize = 1;
-    let mut rest = number / 10;
-    for _ in 0..20 {
-        if rest == 0 {
-            break;
-        }
-        count = count.saturating_add(1);
-        rest /= 10;
-    }
-    count
+fn digits_of(number: u64) -> usize
+    ensures { result ≡ length (decimal number) }
+{
+    let mut buffer = Buffer::new();
+    buffer.format(number).len()
 }

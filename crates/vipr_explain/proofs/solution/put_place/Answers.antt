@@ -7,7 +7,7 @@ use Rattle.vipr_explain.proofs.solution.put_place.Goals as goal
 pub returns-in_ok-excerpt-in-Some-clause-shown : goal.returns-in_ok-excerpt-in-Some-clause-shown
 returns-in_ok-excerpt-in-Some-clause-shown g c =
     let excerpt = c.in_ok-excerpt-in-Some.excerpt in
-    (_, inr (record { margin = c.put.ensures.0; indent = c.put.ensures.1; spot = _; excerpt = excerpt; found = c.in_ok-excerpt-in-Some.ensures.found; size = _; parts = refl }), c.put.ensures.2)
+    (_, inr (record { spot = _; excerpt = excerpt; found = c.in_ok-excerpt-in-Some.ensures.found; size = _; parts = refl }), c.put.ensures)
 
 pub returns-in-None-clause-shown : goal.returns-in-None-clause-shown
 returns-in-None-clause-shown g c = ([], inl refl, puts_none c.args.page.now)

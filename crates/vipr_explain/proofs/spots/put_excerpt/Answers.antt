@@ -5,11 +5,10 @@ use Rattle.vipr_explain.proofs.spots.put_excerpt.Goals as goal
 
 pub returns-clause-shown : goal.returns-clause-shown
 returns-clause-shown g c =
-    let read = c.in_ok-excerpt.ensures in
-    let put = c.put.ensures in (
+    let read = c.in_ok-excerpt.ensures in (
       _,
-      record { margin = put.0; indent = put.1; excerpt = c.in_ok-excerpt.excerpt; place = read.place; found = read.found; parts = refl },
-      put.2,
+      record { excerpt = c.in_ok-excerpt.excerpt; place = read.place; found = read.found; parts = refl },
+      c.put.ensures,
     )
 
 pub returns-in_err-excerpt-clause-error : goal.returns-in_err-excerpt-clause-error

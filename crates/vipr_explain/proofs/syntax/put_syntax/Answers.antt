@@ -17,10 +17,10 @@ returns-clause-shown g c =
     let input = g.T.Text.input c.args.subject.now.text.now in
     let excerpt = c.in_ok-excerpt.excerpt in
     let shown = subst (λ at. IfSome input (λ i. IsExcerpt at i.bytes excerpt)) c.spot.ensures c.in_ok-excerpt.ensures.found in
-    let place = subst (λ size. PutsText c.put_error.new.page c.put.new.page (excerpt_text c.put.ensures.0 c.put.ensures.1 excerpt c.args.subject.now.file.now size c.label_of.result.now)) c.size.ensures c.put.ensures.2 in
+    let place = subst (λ size. PutsText c.put_error.new.page c.put.new.page (excerpt_text excerpt c.args.subject.now.file.now size c.label_of.result.now)) c.size.ensures c.put.ensures in
     let hints = subst (λ word. PutsText c.put_context.new.page c.put_hints.new.page (hints_text c.args.cause found.progress word)) c.word.ensures c.put_hints.ensures in
     let subject = c.args.subject.now in
-    syntax_lines input subject.file.now c.args.cause c.args.offset passed.0 found.is_end found.progress c.as_slice.result.now c.label_of.result.now kept c.put.ensures.0 c.put.ensures.1 excerpt c.args.page.now c.put_error.new.page c.put.new.page c.put_context.new.page c.put_hints.new.page passed.1.progress (c.as_slice.ensures.value ∙ passed.1.name) passed.2 c.label_of.ensures shown c.put_error.ensures place c.put_context.ensures hints
+    syntax_lines input subject.file.now c.args.cause c.args.offset passed.0 found.is_end found.progress c.as_slice.result.now c.label_of.result.now kept excerpt c.args.page.now c.put_error.new.page c.put.new.page c.put_context.new.page c.put_hints.new.page passed.1.progress (c.as_slice.ensures.value ∙ passed.1.name) passed.2 c.label_of.ensures shown c.put_error.ensures place c.put_context.ensures hints
 
 pub returns-in_err-found-clause-error : goal.returns-in_err-found-clause-error
 returns-in_err-found-clause-error g c =
