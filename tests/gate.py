@@ -70,6 +70,8 @@ def page(run):
     if YARDSTICK in run.built:
         wall, spent = run.built[YARDSTICK]
         lines.append(row('Yardstick', f'`{YARDSTICK}` alone: {wall:.0f} seconds, {spent:.0f} of processor time'))
+    elif YARDSTICK in run.crates:
+        lines.append(row('Yardstick', f'the proof of `{YARDSTICK}`: {60 * run.crates[YARDSTICK][0]:.0f} seconds of processor time'))
     lines += ['', 'If the yardstick takes half as long on your machine, so does about everything below.', '',
               '| Command | Minutes | Processor minutes |', '|---|---|---|']
     if run.build:
