@@ -170,8 +170,15 @@ MISTAKES = [
      '.vipr:25:1\n', 'right-hand side: computed 2, stated 1, which says 1 too much'),
 ]
 
-# Texts that are no certificate, and what is said of them.
+# The second solution breaks the second constraint.
+SECOND = (b'VER 1.0 VAR 1 x INT 0 OBJ min 1 0 1 CON 2 2\n c G 0 1 0 1\n  d G 1 1 0 1\n'
+          b'RTP range 0 1 SOL 2 a 1 0 1\n   bee 1 0 1/2 DER 0\n')
+
+# Texts that are no certificate, or a wrong one, and what is said of them.
 STRANGE = [
+    (SECOND, '.vipr:5:4\n'),
+    (SECOND, '5 |    bee 1 0 1/2 DER 0\n  |    ^^^ this solution\n'),
+    (SECOND, 'constraint 1 `d`: x >= 1  (line 3)\n'),
     (b'', 'the text ends where this is wanted: the keyword `VER`'),
     (gzip.compress(b'VER 1.0'), 'gzip -dc FILE | vipr explain'),
     (b'\xef\xbb\xbfVER 1.0', 'a byte order mark is before `VER`'),

@@ -7,7 +7,6 @@ use Rattle.vipr_spec.specs.Reading.{Rest, derivation_read, problem_read, read_ea
 use Rattle.vipr_bytes.specs.Known.{IfKnown, text_of}
 use Rattle.vipr_cert.specs.declared.items.Derivation.{Derivation}
 use Rattle.vipr_check.specs.declared.detail.Detail.{Detail}
-use Rattle.vipr_check.specs.declared.detail.Detail.TheVariants as detail
 use Rattle.vipr_check.specs.declared.detail.StepDetail.{StepDetail}
 use Rattle.vipr_explain.specs.Found.{AreFoundItems, LacksItems, OnlyIf, count_read, head_read}
 use Rattle.vipr_explain.specs.Lacking.{LacksBroken, LacksFault, LacksHead, LacksShown}

@@ -16,3 +16,4 @@ mod Nearby
 mod ByPlace
 mod Reading
 mod Tokens
+mod Marking

@@ -8,13 +8,14 @@ use Rattle.vipr_cert.specs.declared.items.Derivation.{Derivation}
 use Rattle.vipr_check.specs.declared.detail.StepDetail.{StepDetail}
 use Rattle.vipr_explain.specs.Found.{AreFoundItems}
 use Rattle.vipr_explain.specs.Listed.{kept_derivation}
+use Rattle.vipr_explain.specs.Marked.{AreMarksOf}
 use Rattle.vipr_explain.specs.StepPages.{IsCauseText, IsDerivationText, IsDroppedText}
 use Rattle.vipr_explain.specs.StepPages.{IsRefusedText, IsSpotText, IsStepText, dropped_line}
 use Rattle.vipr_explain.specs.StepPages.{last_label, last_spot}
 use Rattle.vipr_explain.specs.Listed.{place_found}
 use Rattle.vipr_explain.specs.Drops.{IsLastUse}
 use Rattle.vipr_page.specs.Written.{PutsText}
-use Rattle.vipr_explain.specs.declared.items.ItemPlace.{ItemPlace}
+use Rattle.vipr_explain.specs.declared.marks.ItemPlace.{ItemPlace}
 use Rattle.vipr_explain.specs.declared.items.Items.{Items}
 use Rattle.vipr_explain.specs.declared.missing.Missing.{Missing}
 use Rattle.vipr_page.specs.declared.page.Page.{Page}
@@ -43,18 +44,19 @@ step_text input file cause index what items d p q (Err e) found kept says = tt
 -- the last reference of a constraint
 pub dropped_text : (input : Option Input) (file : List ℕ) (index needed_by last : ℕ)
     (marks : List ItemPlace) (p q s : Page) (r : Result (Unit {0}) Missing)
+    → AreMarksOf input (index ∷ []) marks
     → IfKnown input (λ i. IsLastUse (text_of i) index needed_by last)
     → PutsText p q (dropped_line index)
     → IfOk r (λ _. (text : List ℕ) × IsSpotText input file (last_label last)
     (option_map last_spot (place_found marks index)) text × PutsText q s text)
     → IfOk r
     (λ _. (text : List ℕ) × IsDroppedText input file index needed_by text × PutsText p s text)
-dropped_text input file index needed_by last marks p q s (Ok u) is_last front place = (
+dropped_text input file index needed_by last marks p q s (Ok u) are_marks is_last front place = (
   dropped_line index ++ place.0,
-  record { marks = marks; last = last; is_last = is_last; place = place.0; is_place = place.1; parts = refl },
+  record { marks = marks; are_marks = are_marks; last = last; is_last = is_last; place = place.0; is_place = place.1; parts = refl },
   puts_then front place.2,
 )
-dropped_text input file index needed_by last marks p q s (Err e) is_last front place = tt
+dropped_text input file index needed_by last marks p q s (Err e) are_marks is_last front place = tt
 
 -- a text in front of another one
 pub puts_before : {E : Type 0} (p q s : Page) (a b : List ℕ) (r : Result (Unit {0}) E)

@@ -18,15 +18,15 @@ use Rattle.vipr_check.specs.declared.verdict.Verdict.{Verdict}
 use Rattle.vipr_check.specs.declared.verdict.Verdict.TheVariants.{Verified, Refused}
 use Rattle.vipr_page.specs.Page.{cut, shown_text}
 use Rattle.vipr_page.specs.Written.{PutsText}
-use Rattle.vipr_explain.specs.Explained.{IsGoalText, IsPlaceText, IsProvedText}
-use Rattle.vipr_explain.specs.Explained.{IsSolutionText, see_text}
+use Rattle.vipr_explain.specs.Explained.{ArePlacesFor, IsGoalText, IsProvedText}
+use Rattle.vipr_explain.specs.Explained.{IsSolutionPlace, IsSolutionText, see_text}
 use Rattle.vipr_explain.specs.Found.{AreItemsOf, IsListedSolution, OnlyIf}
 use Rattle.vipr_explain.specs.Lacking.{LacksItem}
 use Rattle.vipr_explain.specs.Goals.{goal_line, proved_text}
 use Rattle.vipr_explain.specs.Solutions.{fault_lines, solution_error}
 use Rattle.vipr_explain.specs.Pages.{ExplainsVerdict, IsPageFor, IsRefusalText, IsVerdictPage}
 use Rattle.vipr_explain.specs.Pages.{PutsSome, PutsSomeWith, ShowsWith, not_read, too_long}
-use Rattle.vipr_explain.specs.declared.items.ItemPlace.{ItemPlace}
+use Rattle.vipr_explain.specs.declared.marks.ItemPlace.{ItemPlace}
 use Rattle.vipr_explain.specs.declared.missing.Missing.{Missing}
 use Rattle.vipr_explain.specs.declared.missing.Missing.TheVariants as missing
 use Rattle.vipr_page.specs.declared.page.Page.{Page}
@@ -113,14 +113,14 @@ pub solution_lines : (input : Option Input) (file : List ℕ) (number : ℕ) (d 
     (r : Result (Unit {0}) Missing)
     → IfKnown input (λ i. IsListedSolution number (text_of i) problem solution)
     → PutsText p q (solution_error number solution.name d)
-    → ((text : List ℕ) × IsPlaceText input file (codes "this solution") text × PutsText q s text)
-    → IfOk r (λ _. (places : List ItemPlace)
+    → ((text : List ℕ) × IsSolutionPlace input file number text × PutsText q s text)
+    → IfOk r (λ _. (places : List ItemPlace) × ArePlacesFor input d places
     × PutsText s t (fault_lines problem places solution.item d))
     → IfOk r (λ _. (text : List ℕ) × IsSolutionText input file number d text × PutsText p t text)
 solution_lines input file number d problem solution p q s t (Ok u) listed front place fault = (
   solution_error number solution.name d ++ (place.0 ++ fault_lines problem fault.0 solution.item d),
-  record { problem = problem; solution = solution; listed = listed; places = fault.0; place = place.0; is_place = place.1; parts = refl },
-  puts_then front (puts_then place.2 fault.1),
+  record { problem = problem; solution = solution; listed = listed; places = fault.0; are_places = fault.1; place = place.0; is_place = place.1; parts = refl },
+  puts_then front (puts_then place.2 fault.2),
 )
 solution_lines input file number d problem solution p q s t (Err e) listed front place fault = tt
 

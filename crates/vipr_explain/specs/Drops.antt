@@ -2,7 +2,8 @@
 use Rattle.std.specs.Prelude.{◌≡◌, ℕ, zero, suc, Bool, false, List, [], ◌∷◌, ◌==◌, ◌||◌, ◌&&◌}
 use Rattle.std.specs.Prelude.{length, nat_lt, if◌then◌else◌, Option, Some, None, Ok, Err, IsSome}
 use Rattle.std.specs.List.{enumerate_from, list_any}
-use Rattle.vipr_spec.specs.Certificate.{Problem, Derivation, Reason, asm, lin, rnd, uns, sol}
+use Rattle.vipr_spec.specs.Certificate.{Problem, Derivation, Reason, References, no_references}
+use Rattle.vipr_spec.specs.Certificate.{by_entries, by_branches, reason_references}
 use Rattle.vipr_spec.specs.Reading.{Rest, Fault, Read, derivation_read}
 use Rattle.vipr_scan.specs.Giving.{rest_of}
 use Rattle.vipr_read.specs.Items.{Items as Reader, Knows}
@@ -10,14 +11,16 @@ use Rattle.vipr_cert.specs.Items.{derivation_of}
 use Rattle.vipr_cert.specs.declared.items.Derivation.{Derivation as Derived}
 use Rattle.vipr_explain.specs.Found.{head_read}
 
+-- references are to a constraint
+abbrev pub are_to : ℕ → References → Bool
+are_to index no_references = false
+are_to index (by_entries es) = list_any (λ e. e.0 == index) es
+are_to index (by_branches i1 l1 i2 l2) =
+    (i1 == index) || ((l1 == index) || ((i2 == index) || (l2 == index)))
+
 -- a reason names a constraint
 abbrev pub names_constraint : ℕ → Reason → Bool
-names_constraint index asm = false
-names_constraint index (lin es) = list_any (λ e. e.0 == index) es
-names_constraint index (rnd es) = list_any (λ e. e.0 == index) es
-names_constraint index (uns i1 l1 i2 l2) =
-    (i1 == index) || ((l1 == index) || ((i2 == index) || (l2 == index)))
-names_constraint index sol = false
+names_constraint index r = are_to index (reason_references r)
 
 -- the later one of a derivation and the next one, if that names the constraint
 abbrev pub later_of : ℕ → ℕ → ℕ × Derivation → ℕ

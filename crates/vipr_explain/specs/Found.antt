@@ -12,6 +12,7 @@ use Rattle.vipr_bytes.specs.Known.{IfKnown, text_of}
 use Rattle.vipr_scan.specs.Giving.{rest_of}
 use Rattle.vipr_read.specs.Items.{Items as Reader}
 use Rattle.vipr_cert.specs.Items.{derivation_of}
+use Rattle.vipr_explain.specs.Marked.{AreMarksOf}
 use Rattle.vipr_explain.specs.declared.missing.Missing.{Missing}
 use Rattle.vipr_explain.specs.declared.missing.Missing.TheVariants as missing
 use Rattle.vipr_explain.specs.declared.items.Numbered.{Numbered}
@@ -129,9 +130,11 @@ pub record AreFoundItems (wanted : List ℕ) (text : Rest) (items : Items) : Typ
   pub kept : map numbered_of items.derivations.items
       ≡ wanted_among wanted (length items.problem.constraints) read
 
--- items of these indices are those of the text, if its bytes are known
-abbrev pub AreItemsOf : Option Input → List ℕ → PlacedItems → Type 0
-AreItemsOf input wanted known = IfKnown input (λ i. AreFoundItems wanted (text_of i) known.items)
+-- items of these indices and their places are those of the text, if its bytes are known
+pub record AreItemsOf (input : Option Input) (wanted : List ℕ) (known : PlacedItems)
+    : Type 0 where
+  pub items : IfKnown input (λ i. AreFoundItems wanted (text_of i) known.items)
+  pub marks : AreMarksOf input wanted known.marks.items
 
 -- ---- what can't be read again
 

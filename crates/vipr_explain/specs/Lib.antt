@@ -1,5 +1,6 @@
 pub mod Excerpted
 pub mod Listed
+pub mod Marked
 pub mod Steps
 pub mod Solutions
 pub mod Goals

@@ -4,11 +4,11 @@ use Rattle.std.specs.Prelude.{slice_get, option_map}
 use Rattle.vipr_spec.specs.Certificate as is
 use Rattle.vipr_spec.specs.Constraint as spec
 use Rattle.vipr_linear.specs.Constraint.{constraint_of}
+use Rattle.vipr_cert.specs.Items.{reason_of}
+use Rattle.vipr_cert.specs.Reasons.{reason_word}
 use Rattle.vipr_cert.specs.declared.items.Derivation.{Derivation}
-use Rattle.vipr_cert.specs.declared.items.Reason.{Reason}
-use Rattle.vipr_cert.specs.declared.items.Reason.TheVariants.{Asm, Lin, Rnd, Uns, Sol}
 use Rattle.vipr_page.specs.Algebra.{algebra_text, shown_name}
-use Rattle.vipr_explain.specs.declared.items.ItemPlace.{ItemPlace}
+use Rattle.vipr_explain.specs.declared.marks.ItemPlace.{ItemPlace}
 use Rattle.vipr_explain.specs.declared.items.Items.{Items}
 use Rattle.vipr_explain.specs.declared.items.Numbered.{Numbered}
 use Rattle.vipr_explain.specs.declared.shown.PlacedItems.{PlacedItems}
@@ -35,16 +35,9 @@ abbrev pub known_name : Items → ℕ → Option (List ℕ)
 known_name items index = name_or (slice_get items.problem.constraints index)
     (kept_derivation items.derivations.items index)
 
--- the word of a reason
-abbrev pub word_of_reason : Reason → List ℕ
-word_of_reason Asm = codes "asm"
-word_of_reason (Lin entries) = codes "lin"
-word_of_reason (Rnd entries) = codes "rnd"
-word_of_reason (Uns i1 l1 i2 l2) = codes "uns"
-word_of_reason Sol = codes "sol"
-
+-- the word of its reason, and this if it has none
 abbrev pub word_or_given : Option Derivation → List ℕ
-word_or_given (Some d) = word_of_reason d.reason
+word_or_given (Some d) = reason_word (reason_of d.reason)
 word_or_given None = codes "given"
 
 -- the place of a constraint, if it was found

@@ -63,14 +63,18 @@ abbrev pub with_entry_of : ℕ → List Resting → Resting → ℕ × ℚ → R
 with_entry_of first all r e =
     if int_eq e.1.numer (pos 0) then r else with_those None first all r e.0
 
+-- those that references rest on: a branch drops its own assumption
+abbrev pub with_referred : ℕ → List Resting → Resting → is.References → Resting
+with_referred first all r is.no_references = r
+with_referred first all r (is.by_entries es) = fold (with_entry_of first all) r es
+with_referred first all r (is.by_branches i1 l1 i2 l2) =
+    with_those (Some l2) first all (with_those (Some l1) first all r i1) i2
+
 -- what the derivation of this index rests on, by its reason
 abbrev pub resting_by : ℕ → List Resting → ℕ → is.Reason → Resting
 resting_by first all index is.asm = record { indices = index ∷ []; is_cut = false }
-resting_by first all index (is.lin es) = fold (with_entry_of first all) rests_on_none es
-resting_by first all index (is.rnd es) = fold (with_entry_of first all) rests_on_none es
-resting_by first all index (is.uns i1 l1 i2 l2) =
-    with_those (Some l2) first all (with_those (Some l1) first all rests_on_none i1) i2
-resting_by first all index is.sol = rests_on_none
+resting_by first all index reason =
+    with_referred first all rests_on_none (is.reason_references reason)
 
 -- ---- the nearest constraints
 

@@ -10,7 +10,7 @@ use Rattle.vipr_check.specs.declared.detail.Detail.{Detail}
 use Rattle.vipr_check.specs.declared.detail.Detail.TheVariants as detail
 use Rattle.vipr_page.specs.Algebra.{algebra_text, sense_sign, shown_name, variable_text}
 use Rattle.vipr_explain.specs.Listed.{line_part, place_found}
-use Rattle.vipr_explain.specs.declared.items.ItemPlace.{ItemPlace}
+use Rattle.vipr_explain.specs.declared.marks.ItemPlace.{ItemPlace}
 
 -- what is at fault, behind the name
 abbrev pub solution_fault : Detail → List ℕ

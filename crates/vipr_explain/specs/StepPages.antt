@@ -15,14 +15,15 @@ use Rattle.vipr_page.specs.Differences.{IsExcess, difference_line}
 use Rattle.vipr_explain.specs.Drops.{IsLastUse}
 use Rattle.vipr_explain.specs.Excerpted.{excerpt_text}
 use Rattle.vipr_explain.specs.Excerpts.{IsExcerpt}
-use Rattle.vipr_explain.specs.Found.{AreFoundItems}
+use Rattle.vipr_explain.specs.Found.{AreFoundItems, AreItemsOf}
 use Rattle.vipr_explain.specs.Listed.{kept_derivation, place_found}
+use Rattle.vipr_explain.specs.Marked.{AreMarksOf}
 use Rattle.vipr_explain.specs.References.{step_indices}
 use Rattle.vipr_page.specs.Repairs.{IsRounded, repair_text}
 use Rattle.vipr_page.specs.RowFaults.{not_roundable_text, not_split_text, row_faults}
 use Rattle.vipr_explain.specs.Steps.{labelled, reason_text, step_error, step_help}
 use Rattle.vipr_explain.specs.declared.excerpt.Excerpt.{Excerpt}
-use Rattle.vipr_explain.specs.declared.items.ItemPlace.{ItemPlace}
+use Rattle.vipr_explain.specs.declared.marks.ItemPlace.{ItemPlace}
 use Rattle.vipr_explain.specs.declared.items.Items.{Items}
 use Rattle.vipr_explain.specs.declared.shown.PlacedItems.{PlacedItems}
 use Rattle.vipr_explain.specs.declared.text.Spot.{Spot}
@@ -93,8 +94,7 @@ stated_lines known index what d =
 pub record IsRefusedText (input : Option Input) (file : List ℕ) (cause index : ℕ) (d : Derivation)
     (what : StepDetail) (text : List ℕ) : Type 0 where
   pub known : PlacedItems
-  pub found : IfKnown input (λ i.
-      AreFoundItems (step_indices index what d.reason) (text_of i) known.items)
+  pub found : AreItemsOf input (step_indices index what d.reason) known
   pub place : List ℕ
   pub is_place : IsSpotText input file (codes "this derivation")
       (option_map name_spot (place_found known.marks.items index)) place
@@ -126,6 +126,7 @@ last_label last = codes "write " ++ (decimal last ++ codes " or -1 here")
 pub record IsDroppedText (input : Option Input) (file : List ℕ) (index needed_by : ℕ)
     (text : List ℕ) : Type 0 where
   pub marks : List ItemPlace
+  pub are_marks : AreMarksOf input (index ∷ []) marks
   pub last : ℕ
   pub is_last : IfKnown input (λ i. IsLastUse (text_of i) index needed_by last)
   pub place : List ℕ

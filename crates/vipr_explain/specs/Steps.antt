@@ -2,11 +2,15 @@
 use Rattle.std.specs.Prelude.{ℕ, Bool, false, List, [], ◌++◌, ◌==◌, ◌||◌}
 use Rattle.std.specs.Prelude.{codes, decimal, length, flat_map, nat_lt, if◌then◌else◌}
 use Rattle.std.specs.List.{enumerate_from}
+use Rattle.vipr_spec.specs.Certificate.{References, no_references, by_entries, by_branches}
+use Rattle.vipr_spec.specs.Certificate.{reason_references}
 use Rattle.vipr_spec.specs.Constraint as spec
 use Rattle.vipr_spec.specs.Fraction.{ℚ}
 use Rattle.vipr_spec.specs.Number.{number_text}
+use Rattle.vipr_cert.specs.Items.{reason_of}
+use Rattle.vipr_cert.specs.Reasons.{reason_word}
 use Rattle.vipr_cert.specs.declared.items.Reason.{Reason}
-use Rattle.vipr_cert.specs.declared.items.Reason.TheVariants.{Asm, Lin, Rnd, Uns, Sol}
+use Rattle.vipr_cert.specs.declared.items.Reason.TheVariants.{Sol}
 use Rattle.vipr_check.specs.declared.detail.StepDetail.{StepDetail}
 use Rattle.vipr_check.specs.declared.detail.StepDetail.TheVariants as step
 use Rattle.vipr_page.specs.Algebra.{algebra_text, shown_name}
@@ -99,17 +103,25 @@ sum_text known own what word es = codes "  its reason   " ++ (word ++ (codes " o
     ++ (decimal (length es) ++ (codes ":\n"
     ++ flat_map (numbered_line known own what (length es)) (enumerate_from 0 es)))))
 
--- a reason
-abbrev pub reason_text : PlacedItems → ℕ → StepDetail → Reason → List ℕ
-reason_text known own what (Lin es) = sum_text known own what (codes "lin") es.items
-reason_text known own what (Rnd es) = sum_text known own what (codes "rnd") es.items
-reason_text known own what (Uns i1 l1 i2 l2) = branch_text known own (codes "  case 1 gives ") i1
+-- what is said behind the word of a reason that refers to nothing
+abbrev pub note_of : Reason → List ℕ
+note_of Sol = codes ", the cutoff at the best listed solution"
+note_of _ = []
+
+-- a reason, by its word, that note and what it refers to
+abbrev pub lines_by : PlacedItems → ℕ → StepDetail → List ℕ → List ℕ → References → List ℕ
+lines_by known own what word note no_references =
+    codes "  its reason   " ++ (word ++ (note ++ codes "\n"))
+lines_by known own what word note (by_entries es) = sum_text known own what word es
+lines_by known own what word note (by_branches i1 l1 i2 l2) =
+    branch_text known own (codes "  case 1 gives ") i1
     ++ (branch_text known own (codes "     assuming  ") l1
     ++ (branch_text known own (codes "  case 2 gives ") i2
     ++ branch_text known own (codes "     assuming  ") l2))
-reason_text known own what Asm = codes "  its reason   asm\n"
-reason_text known own what Sol =
-    codes "  its reason   sol, the cutoff at the best listed solution\n"
+
+abbrev pub reason_text : PlacedItems → ℕ → StepDetail → Reason → List ℕ
+reason_text known own what r = lines_by known own what (reason_word (reason_of r)) (note_of r)
+    (reason_references (reason_of r))
 
 -- which indices there are, if the problem has so many constraints
 abbrev pub first_index : ℕ → List ℕ

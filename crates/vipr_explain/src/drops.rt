@@ -16,13 +16,14 @@ ghost use Rattle.vipr_explain.specs.StepPages.{IsDroppedText, IsSpotText, droppe
 ghost use Rattle.vipr_explain.specs.StepPages.{last_spot};
 ghost use Rattle.vipr_page.specs.Written.{PutsText};
 
-use crate::items::{ItemPlace, find_constraints, mark_of, open_derivations};
+use crate::items::open_derivations;
+use crate::marks::{ItemPlace, find_constraints, mark_of};
 use crate::missing::Missing;
 use crate::spots::put_excerpt;
 use crate::text::{Subject, Text};
 use std::alloc::Global;
 use vipr_bytes::Source;
-use vipr_cert::{Derivation, Reason};
+use vipr_cert::{Derivation, Reason, References};
 use vipr_frac::Frac;
 use vipr_page::Page;
 use vipr_read::Derivations;
@@ -151,13 +152,12 @@ fn later_of(index: u32, last: u32, number: u32, step: &Derivation) -> u32
 fn names_constraint(index: u32, reason: &Reason) -> bool
     ensures { result ≡ names_constraint index (reason_of reason.now) }
 {
-    match reason {
-        Reason::Lin(entries) => has_entry(entries.as_slice(), index),
-        Reason::Rnd(entries) => has_entry(entries.as_slice(), index),
-        Reason::Uns { i1, l1, i2, l2 } => {
-            *i1 == index || *l1 == index || *i2 == index || *l2 == index
+    match reason.references() {
+        References::Nothing => false,
+        References::Entries(entries) => has_entry(entries, index),
+        References::Branches { i1, l1, i2, l2 } => {
+            i1 == index || l1 == index || i2 == index || l2 == index
         }
-        Reason::Asm | Reason::Sol => false,
     }
 }
 

@@ -1,7 +1,6 @@
-//! The items of a text that an explanation names, and their places.
-ghost use Rattle.vipr_explain.specs.Listed.{place_found};
+//! The items of a text that an explanation names.
 ghost use Rattle.std.specs.Prelude.{◌≡◌, ◌≤◌, ◌<◌, ◌+◌, ◌^◌, ◌∷◌, ◌++◌, suc, false, Ok, [], map};
-ghost use Rattle.std.specs.Prelude.{fold, max, option_copied, IfErr, IfOk, IfSome, OnOk, IsSome};
+ghost use Rattle.std.specs.Prelude.{fold, max, IfErr, IfOk, IfSome, OnOk, IsSome};
 ghost use Rattle.std.specs.Prelude.{◌⊎◌, length, true};
 ghost use Rattle.vipr_spec.specs.Input.{Input};
 ghost use Rattle.vipr_spec.specs.Certificate.{Problem as ProblemMeant};
@@ -16,15 +15,12 @@ ghost use Rattle.vipr_explain.specs.Found.{nth_read, numbered_of, wanted_among};
 ghost use Rattle.vipr_explain.specs.Found.{HasKeptItems, KeepsNext, AreFoundItems};
 ghost use Rattle.vipr_explain.specs.Found.{Because, HasFault, IsListedSolution, Missed, OnlyIf};
 ghost use Rattle.vipr_explain.specs.Found.{LacksListed, count_read, items_up_to};
-ghost use Rattle.vipr_explain.specs.Words.{IsReading};
 
 use crate::missing::Missing;
-use crate::text::{Spot, Text};
-use crate::wanted::{Section, TextProgress, Wanted};
-use crate::words::Words;
-use std::alloc::{AllocError, Global};
+use crate::text::Text;
+use std::alloc::Global;
 use vipr_bytes::Source;
-use vipr_cert::{Derivation, Name, Named, Problem, Reason};
+use vipr_cert::{Derivation, Name, Named, Problem};
 use vipr_linear::{Constraint, Solution};
 use vipr_read::{CertReader, Derivations, Solutions};
 
@@ -40,16 +36,6 @@ pub(crate) struct Numbered {
 pub(crate) struct Items {
     pub(crate) problem: Problem,
     pub(crate) derivations: Vec<Numbered>,
-}
-
-/// The place of an item's name and of its last reference.
-#[derive(Clone, Copy)]
-pub(crate) struct ItemPlace {
-    pub(crate) index: u32,
-    pub(crate) spot: Spot,
-    pub(crate) size: usize,
-    pub(crate) last: Spot,
-    pub(crate) last_size: usize,
 }
 
 impl Items {
@@ -101,13 +87,7 @@ impl Items {
             ≡ word_or_given (kept_derivation self.now.derivations.items index) }
     {
         match self.derivation(index) {
-            Some(derivation) => match &derivation.reason {
-                Reason::Asm => "asm",
-                Reason::Lin(_) => "lin",
-                Reason::Rnd(_) => "rnd",
-                Reason::Uns { .. } => "uns",
-                Reason::Sol => "sol",
-            },
+            Some(derivation) => derivation.reason.word(),
             None => "given",
         }
     }
@@ -304,146 +284,8 @@ pub(crate) fn read_items<T: Text>(alloc: Global, text: &T, wanted: &[u32]) -> Re
     Ok(items)
 }
 
-/// The places of constraints by their indices.
-pub(crate) fn find_constraints<T: Text>(
-    alloc: Global,
-    text: &T,
-    wanted: &[u32],
-) -> Result<Vec<ItemPlace>, Missing>
-    ensures error { IfErr result (OnlyIf (T.input text.now) (λ i. i.fails ≡ true)) }
-{
-    let mut words = Words::<T::Reader>::open(alloc, text)?;
-    let mut marks = Vec::new(alloc);
-    mark_constraints(&mut words, &mut marks, wanted)?;
-    Ok(marks)
-}
-
-// Marks constraints, up to the greatest index.
-fn mark_constraints<R: Source + Drop>(
-    words: &mut Words<R>,
-    marks: &mut Vec<ItemPlace>,
-    wanted: &[u32],
-) -> Result<(), Missing>
-    ensures error { (i : Input) → IsReading R.input i words.old
-        → IfErr result (λ m. Because m (i.fails ≡ true)) }
-{
-    let mut progress = TextProgress::start();
-    let end = greatest(wanted);
-    for _ in 0..u64::MAX {
-        if is_past(&progress, end) || !words.next() {
-            break;
-        }
-        if is_constraint(&progress) && wanted.contains(&progress.index()) {
-            keep_mark(marks, &progress, words.spot(), words.size())?;
-        }
-        progress.pass(words.word());
-    }
-    words.check()
-}
-
-/// The place of a solution's name.
-pub(crate) fn find_solution<T: Text>(
-    alloc: Global,
-    text: &T,
-    number: u32,
-) -> Result<Option<ItemPlace>, Missing>
-    ensures error { IfErr result (OnlyIf (T.input text.now) (λ i. i.fails ≡ true)) }
-{
-    let mut words = Words::<T::Reader>::open(alloc, text)?;
-    let mark = mark_solution(&mut words, number);
-    words.check()?;
-    Ok(mark)
-}
-
-// The same by a reader at the start of the text.
-fn mark_solution<R: Source + Drop>(words: &mut Words<R>, number: u32) -> Option<ItemPlace>
-    ensures reading { (i : Input) → IsReading R.input i words.old
-        → IsReading R.input i words.new }
-{
-    let mut progress = TextProgress::start();
-    for _ in 0..u64::MAX {
-        if progress.section == Section::Derivations || !words.next() {
-            break;
-        }
-        if is_name_of_solution(&progress, number) {
-            return Some(mark_at(&progress, words.spot(), words.size()));
-        }
-        progress.pass(words.word());
-    }
-    None
-}
-
-// Whether the name of the solution of this number is wanted.
-fn is_name_of_solution(progress: &TextProgress, number: u32) -> bool {
-    progress.section == Section::Solutions
-        && progress.wanted == Wanted::Name
-        && progress.item == number
-}
-
-/// The mark of a constraint among others.
-pub(crate) fn mark_of(marks: &[ItemPlace], index: u32) -> Option<ItemPlace>
-    ensures { result ≡ place_found marks.now index }
-{
-    match marked(marks, index) {
-        Some(mark) => Some(*mark),
-        None => None,
-    }
-}
-
-// The same, where it lies.
-fn marked(marks: &[ItemPlace], index: u32) -> Option<&ItemPlace>
-    ensures { option_copied result ≡ place_found marks.now index }
-{
-    marks.iter().find(|mark| mark.index == index)
-}
-
-// Marks the place of a name, and that of the last reference in the item that was marked last.
-fn keep_mark(
-    marks: &mut Vec<ItemPlace>,
-    progress: &TextProgress,
-    spot: Spot,
-    size: usize,
-) -> Result<(), AllocError> {
-    match progress.wanted {
-        Wanted::Name => marks.push(mark_at(progress, spot, size))?,
-        Wanted::LastReference => {
-            if let Some(mark) = marks.last_mut() {
-                mark.last = spot;
-                mark.last_size = size;
-            }
-        }
-        _ => {}
-    }
-    Ok(())
-}
-
-// The mark of an item by the place of its name.
-fn mark_at(progress: &TextProgress, spot: Spot, size: usize) -> ItemPlace {
-    ItemPlace {
-        index: progress.index(),
-        spot,
-        size,
-        last: spot,
-        last_size: size,
-    }
-}
-
-// Whether the item is a constraint, of the problem or derived.
-fn is_constraint(progress: &TextProgress) -> bool {
-    progress.section == Section::Constraints || progress.section == Section::Derivations
-}
-
-// Whether no constraint up to this index is to come.
-fn is_past(progress: &TextProgress, end: u32) -> bool {
-    let is_in_item = match progress.wanted {
-        Wanted::Keyword | Wanted::Count | Wanted::BoundCount => false,
-        _ => true,
-    };
-    is_in_item && is_constraint(progress) && progress.index() > end
-}
-
-// The greatest of indices, 0 if there is none.
-fn greatest(indices: &[u32]) -> u32
+/// The greatest of indices, 0 if there is none.
+pub(crate) fn greatest(indices: &[u32]) -> u32
     ensures { result ≡ fold max 0 indices.now }
 {
     let mut most = 0;

@@ -8,6 +8,7 @@ mod goal;
 mod hints;
 mod items;
 mod kept;
+mod marks;
 mod missing;
 mod near;
 mod reason;

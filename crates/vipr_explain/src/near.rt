@@ -5,7 +5,7 @@ ghost use Rattle.std.specs.Prelude.{IfErr, IfOk, IsSome, OnOk, Option, drop, fol
 ghost use Rattle.std.specs.Prelude.{option_map};
 ghost use Rattle.std.specs.Prelude.{slice_get, suc};
 ghost use Rattle.vipr_spec.specs.Certificate.{Derivation as DerivationMeant};
-ghost use Rattle.vipr_spec.specs.Certificate.{Problem as ProblemMeant};
+ghost use Rattle.vipr_spec.specs.Certificate.{Problem as ProblemMeant, reason_references};
 ghost use Rattle.vipr_spec.specs.Reading.{derivation_read, read_each};
 ghost use Rattle.vipr_bytes.specs.Known.{text_of};
 ghost use Rattle.vipr_scan.specs.Giving.{rest_of};
@@ -16,7 +16,7 @@ ghost use Rattle.vipr_explain.specs.Found.{HasFault, Missed, OnlyIf, all_derivat
 ghost use Rattle.vipr_explain.specs.Near.{AreCompared, AreNearest, IsNear, Compared, Resting};
 ghost use Rattle.vipr_explain.specs.Near.{last_three, leaves_out, near_with, nearest, resting_by};
 ghost use Rattle.vipr_explain.specs.Near.{rests_on_none, with_others, with_entry_of, with_one};
-ghost use Rattle.vipr_explain.specs.Near.{with_those};
+ghost use Rattle.vipr_explain.specs.Near.{with_referred, with_those};
 ghost use Rattle.vipr_explain.specs.Nearing.{PassesNext, near_of, passed_of};
 
 use crate::items::open_derivations;
@@ -25,7 +25,7 @@ use crate::text::Text;
 use std::alloc::{AllocError, Global};
 use std::marker::Model;
 use vipr_bytes::Source;
-use vipr_cert::{Derivation, Reason};
+use vipr_cert::{Derivation, Reason, References};
 use vipr_frac::Frac;
 use vipr_linear::Constraint;
 use vipr_read::Derivations;
@@ -261,15 +261,29 @@ fn bases_of(
     let mut bases = none(alloc);
     match reason {
         Reason::Asm => bases.indices.push(index)?,
-        Reason::Lin(entries) => add_entries(&mut bases, entries.as_slice(), first, all)?,
-        Reason::Rnd(entries) => add_entries(&mut bases, entries.as_slice(), first, all)?,
-        Reason::Uns { i1, l1, i2, l2 } => {
-            add_of(&mut bases, *i1, first, all, Some(*l1))?;
-            add_of(&mut bases, *i2, first, all, Some(*l2))?;
-        }
-        Reason::Sol => {}
+        _ => add_referred(&mut bases, reason, first, all)?,
     }
     Ok(bases)
+}
+
+// Adds the assumptions of what a reason refers to.
+fn add_referred(
+    bases: &mut Bases,
+    reason: &Reason,
+    first: usize,
+    all: &[Bases],
+) -> Result<(), AllocError>
+    ensures { OnOk result (bases.new
+        ≡ with_referred first all.now bases.old (reason_references (reason_of reason.now))) }
+{
+    match reason.references() {
+        References::Nothing => Ok(()),
+        References::Entries(entries) => add_entries(bases, entries, first, all),
+        References::Branches { i1, l1, i2, l2 } => {
+            add_of(bases, i1, first, all, Some(l1))?;
+            add_of(bases, i2, first, all, Some(l2))
+        }
+    }
 }
 
 // Adds the assumptions of the entries of a sum.

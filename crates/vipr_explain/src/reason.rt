@@ -1,11 +1,11 @@
 //! The reason of a derivation, with the constraints that it refers to.
 ghost use Rattle.std.specs.Prelude.{◌≡◌, ◌||◌, Some, nat_lt};
-ghost use Rattle.vipr_explain.specs.Steps.{is_at_fault};
+ghost use Rattle.vipr_explain.specs.Steps.{is_at_fault, note_of};
 
 use crate::shown::{ListedConstraint, PlacedItems};
 use std::fmt;
 use std::fmt::{Display, Formatter, Write};
-use vipr_cert::Reason;
+use vipr_cert::{Reason, References};
 use vipr_check::StepDetail;
 use vipr_frac::Frac;
 
@@ -27,41 +27,51 @@ impl Display for ReasonLines<'_> {
     ghost output = { λ r. Some (reason_text r.known.now r.own r.what.now r.reason.now) };
 
     fn fmt<W: Write>(&self, f: &mut Formatter<W>) -> fmt::Result {
-        match self.reason {
-            Reason::Lin(entries) => write!(f, "{}", self.sum("lin", entries.as_slice())),
-            Reason::Rnd(entries) => write!(f, "{}", self.sum("rnd", entries.as_slice())),
-            Reason::Uns { i1, l1, i2, l2 } => {
+        let word = self.reason.word();
+        match self.reason.references() {
+            References::Nothing => {
+                let note = note_of(self.reason);
+                write!(f, "  its reason   {word}{note}\n")
+            }
+            References::Entries(entries) => write!(f, "{}", self.sum(word, entries)),
+            References::Branches { i1, l1, i2, l2 } => {
                 let first = JoinedBranch {
                     known: self.known,
                     own: self.own,
                     label: "  case 1 gives ",
-                    index: *i1,
+                    index: i1,
                 };
                 let second = JoinedBranch {
                     known: self.known,
                     own: self.own,
                     label: "     assuming  ",
-                    index: *l1,
+                    index: l1,
                 };
                 let third = JoinedBranch {
                     known: self.known,
                     own: self.own,
                     label: "  case 2 gives ",
-                    index: *i2,
+                    index: i2,
                 };
                 let fourth = JoinedBranch {
                     known: self.known,
                     own: self.own,
                     label: "     assuming  ",
-                    index: *l2,
+                    index: l2,
                 };
                 write!(f, "{first}{second}{third}{fourth}")
             }
-            Reason::Asm => f.write_str("  its reason   asm\n"),
-            Reason::Sol => {
-                f.write_str("  its reason   sol, the cutoff at the best listed solution\n")
-            }
         }
+    }
+}
+
+// What is said behind the word of a reason that refers to nothing.
+fn note_of(reason: &Reason) -> &'static str
+    ensures { result.now ≡ note_of reason.now }
+{
+    match reason {
+        Reason::Sol => ", the cutoff at the best listed solution",
+        _ => "",
     }
 }
 

@@ -2,7 +2,8 @@
 ghost use Rattle.std.specs.Prelude.{Some, option_map, IfErr, IfOk};
 ghost use Rattle.vipr_explain.specs.Found.{AreItemsOf, LacksItems, OnlyIf};
 
-use crate::items::{ItemPlace, Items, find_constraints, mark_of, read_items};
+use crate::items::{Items, read_items};
+use crate::marks::{ItemPlace, find_constraints, mark_of};
 use crate::missing::Missing;
 use crate::text::{Subject, Text};
 use std::fmt;

@@ -1,8 +1,8 @@
 //! Explains a listed solution that is refused, and a primal bound that no listed one
 //! attains.
-ghost use Rattle.std.specs.Prelude.{◌≡◌, ◌≤◌, ◌⊎◌, true, IfErr, IfOk, IfSome, List, codes, length};
+ghost use Rattle.std.specs.Prelude.{◌≡◌, ◌≤◌, ◌⊎◌, true, IfErr, IfOk, IfSome, List, length};
 ghost use Rattle.std.specs.Prelude.{[], if◌then◌else◌, nat_lt, slice_get, ℕ, ◌<◌, IsSome, Ok, OnOk};
-ghost use Rattle.std.specs.Prelude.{Some, map, suc};
+ghost use Rattle.std.specs.Prelude.{◌∷◌, Some, map, suc};
 ghost use Rattle.vipr_spec.specs.Certificate.{Named as NamedMeant, Problem as ProblemMeant};
 ghost use Rattle.vipr_spec.specs.Constraint.{Row as RowMeant};
 ghost use Rattle.vipr_spec.specs.Reading.{read_each, solution_read};
@@ -14,10 +14,11 @@ ghost use Rattle.std.specs.FinMap.{entries};
 ghost use Rattle.vipr_linear.specs.Constraint.{constraint_of};
 ghost use Rattle.vipr_bytes.specs.Known.{IfKnown, text_of};
 ghost use Rattle.vipr_cert.specs.Items.{direction_of, named_of, solution_of};
-ghost use Rattle.vipr_explain.specs.Explained.{IsPlaceText, IsSolutionText};
+ghost use Rattle.vipr_explain.specs.Explained.{ArePlacesFor, IsSolutionPlace, IsSolutionText};
 ghost use Rattle.vipr_explain.specs.Found.{HasFault, Missed, OnlyIf, all_solutions_read};
 ghost use Rattle.vipr_explain.specs.Lacking.{LacksBroken, LacksSolution};
-ghost use Rattle.vipr_explain.specs.declared.items.ItemPlace.{ItemPlace};
+ghost use Rattle.vipr_explain.specs.Marked.{AreMarksOf};
+ghost use Rattle.vipr_explain.specs.declared.marks.ItemPlace.{ItemPlace};
 ghost use Rattle.vipr_explain.specs.Solutions.{best_text, broken_text, false_text, not_whole_text};
 ghost use Rattle.vipr_explain.specs.Solutions.{overflow_lines, overflow_text, primal_error};
 ghost use Rattle.vipr_explain.specs.Solutions.{sides_text};
@@ -25,12 +26,11 @@ ghost use Rattle.vipr_explain.specs.Solutions.{fault_lines, solution_error, solu
 ghost use Rattle.vipr_explain.specs.Solutions.{value_line, values_text};
 ghost use Rattle.vipr_page.specs.Written.{PutsText};
 
-use crate::excerpt::Excerpt;
-use crate::items::{
-    ItemPlace, find_constraints, find_solution, mark_of, open_problem, read_solution,
-};
+use crate::items::{open_problem, read_solution};
+use crate::marks::{ItemPlace, find_constraints, find_solution, mark_of};
 use crate::missing::Missing;
 use crate::shown::LinePart;
+use crate::spots::put_excerpt;
 use crate::text::{Subject, Text};
 use crate::values::Values;
 use std::alloc::Global;
@@ -72,7 +72,9 @@ fn put_detail<T: Text>(
     solution: &Solution,
     detail: &Detail,
 ) -> Result<(), Missing>
-    ensures shown { IfOk result (λ _. (places : List ItemPlace) × PutsText page.old page.new
+    ensures shown { IfOk result (λ _. (places : List ItemPlace)
+        × ArePlacesFor (T.input subject.now.text.now) detail.now places
+        × PutsText page.old page.new
         (fault_lines problem.now places solution.now.0 detail.now)) }
     ensures error { IfErr result (OnlyIf (T.input subject.now.text.now)
         (λ i. (i.fails ≡ true) ⊎ LacksBroken detail.now problem.now)) }
@@ -125,16 +127,12 @@ fn fault_of(detail: &Detail) -> &'static str
 // Shows the place of a solution.
 fn put_place<T: Text>(page: &mut Page, subject: &Subject<'_, T>, number: u32) -> Result<(), Missing>
     ensures shown { IfOk result (λ _. (text : List ℕ)
-        × IsPlaceText (T.input subject.now.text.now) subject.now.file.now (codes "this solution")
-        text × PutsText page.old page.new text) }
+        × IsSolutionPlace (T.input subject.now.text.now) subject.now.file.now number text
+        × PutsText page.old page.new text) }
     ensures error { IfErr result (OnlyIf (T.input subject.now.text.now) (λ i. i.fails ≡ true)) }
 {
     match find_solution(subject.alloc, subject.text, number)? {
-        Some(mark) => {
-            let excerpt = Excerpt::read(subject, mark.spot)?;
-            excerpt.put(page, subject.file, mark.size, "this solution");
-            Ok(())
-        }
+        Some(mark) => put_excerpt(page, subject, mark.spot, mark.size, "this solution"),
         None => Ok(()),
     }
 }
@@ -179,8 +177,9 @@ fn put_broken<T: Text>(
     solution: &Solution,
     left: Frac,
 ) -> Result<(), Missing>
-    ensures shown { IfOk result (λ _. (places : List ItemPlace) × PutsText page.old page.new
-        (broken_text problem.now.names places index solution.now.0 left
+    ensures shown { IfOk result (λ _. (places : List ItemPlace)
+        × AreMarksOf (T.input subject.now.text.now) (index ∷ []) places
+        × PutsText page.old page.new (broken_text problem.now.names places index solution.now.0 left
         (slice_get problem.now.constraints index))) }
     ensures error { IfErr result (OnlyIf (T.input subject.now.text.now)
         (λ i. (i.fails ≡ true) ⊎ (length problem.now.constraints ≤ index))) }

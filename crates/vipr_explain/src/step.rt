@@ -14,7 +14,8 @@ ghost use Rattle.vipr_explain.specs.StepPages.{sum_lines};
 ghost use Rattle.vipr_explain.specs.Steps.{labelled, reason_text, step_error, step_help};
 ghost use Rattle.vipr_page.specs.Written.{PutsText};
 
-use crate::items::{ItemPlace, mark_of, read_items};
+use crate::items::read_items;
+use crate::marks::{ItemPlace, mark_of};
 use crate::missing::Missing;
 use crate::reason::{ReasonLines, is_entry_shown};
 use crate::shown::PlacedItems;
@@ -23,7 +24,7 @@ use crate::text::{Subject, Text};
 use std::alloc::{AllocError, Global};
 use std::fmt;
 use std::fmt::{Display, Formatter, Write};
-use vipr_cert::{Derivation, Problem, Reason};
+use vipr_cert::{Derivation, Problem, Reason, References};
 use vipr_check::{StepDetail, cause};
 use vipr_frac::Frac;
 use vipr_linear::Constraint;
@@ -131,11 +132,10 @@ fn add_references(
     ensures { OnOk result (wanted.new.items
         ≡ wanted.old.items ++ reason_indices what.now reason.now) }
 {
-    match reason {
-        Reason::Lin(entries) => add_shown(wanted, entries.as_slice(), what),
-        Reason::Rnd(entries) => add_shown(wanted, entries.as_slice(), what),
-        Reason::Uns { i1, l1, i2, l2 } => wanted.extend_from_slice(&[*i1, *l1, *i2, *l2]),
-        Reason::Asm | Reason::Sol => Ok(()),
+    match reason.references() {
+        References::Nothing => Ok(()),
+        References::Entries(entries) => add_shown(wanted, entries, what),
+        References::Branches { i1, l1, i2, l2 } => wanted.extend_from_slice(&[i1, l1, i2, l2]),
     }
 }
 

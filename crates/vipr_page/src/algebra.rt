@@ -243,14 +243,6 @@ impl Display for Factor {
     }
 }
 
-/// Writes the name of a problem's variable.
-pub(crate) fn put_variable(page: &mut Page, problem: &Problem, variable: u32) {
-    page.put_value(&VariableName {
-        problem,
-        index: variable,
-    });
-}
-
 /// The size of a number.
 pub fn size_of(number: Frac) -> Frac
     ensures { result ≡ size number }

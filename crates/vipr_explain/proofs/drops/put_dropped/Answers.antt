@@ -1,5 +1,7 @@
-use Rattle.std.proofs.Common.{inl, inr}
+use Rattle.std.proofs.Common.{List, [], ◌∷◌, ℕ, inl, inr, subst, sym}
 use Rattle.std.proofs.lemmas.Result.{err_from_is_err_and}
+use Rattle.vipr_explain.specs.Marked.{AreMarksOf}
+use Rattle.vipr_explain.specs.declared.marks.ItemPlace.{ItemPlace}
 use Rattle.vipr_explain.proofs.Lacks.{err_only_if, only_if}
 use Rattle.vipr_explain.proofs.StepParts.{dropped_text}
 use Rattle.vipr_explain.proofs.drops.put_dropped.Goals as goal
@@ -7,8 +9,10 @@ use Rattle.vipr_explain.proofs.drops.put_dropped.Goals as goal
 pub returns-clause-shown : goal.returns-clause-shown
 returns-clause-shown g c =
     let subject = c.args.subject.now in
+    let marks = c.in_ok-marks.marks.items in
+    let found = subst (λ (wanted : List ℕ). AreMarksOf (g.T.Text.input subject.text.now) wanted marks) c.as_slice.ensures c.in_ok-marks.ensures.found in
     dropped_text (g.T.Text.input subject.text.now) subject.file.now c.args.index c.args.needed_by c.in_ok-last.last c.as_slice-2.result.now c.args.page.now c.put_dropped_line.new.page c.put_last.new.page c.put_last.result
-    c.in_ok-last.ensures.found c.put_dropped_line.ensures c.put_last.ensures.shown
+    (subst (λ (ms : List ItemPlace). AreMarksOf (g.T.Text.input subject.text.now) (c.args.index ∷ []) ms) (sym c.as_slice-2.ensures.value) found) c.in_ok-last.ensures.found c.put_dropped_line.ensures c.put_last.ensures.shown
 
 pub returns-in_err-marks-clause-error : goal.returns-in_err-marks-clause-error
 returns-in_err-marks-clause-error g c =

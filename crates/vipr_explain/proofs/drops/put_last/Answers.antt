@@ -1,7 +1,7 @@
 use Rattle.std.proofs.Common.{◌≡◌, [], ℕ, List, Option, IfOk, option_map, refl, subst, sym, ◌∙◌}
 use Rattle.vipr_explain.specs.StepPages.{IsExcerptAt, IsSpotText, last_label, last_spot}
 use Rattle.vipr_page.specs.Written.{PutsText}
-use Rattle.vipr_explain.specs.declared.items.ItemPlace.{ItemPlace}
+use Rattle.vipr_explain.specs.declared.marks.ItemPlace.{ItemPlace}
 use Rattle.vipr_page.proofs.Laws.{puts_none}
 use Rattle.vipr_explain.proofs.drops.put_last.Goals as goal
 

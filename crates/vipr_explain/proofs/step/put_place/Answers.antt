@@ -1,7 +1,7 @@
 use Rattle.std.proofs.Common.{[], ℕ, List, Option, option_map, codes, refl, subst, sym, ◌∙◌}
 use Rattle.vipr_explain.specs.StepPages.{IsSpotText, name_spot}
 use Rattle.vipr_page.specs.Written.{PutsText}
-use Rattle.vipr_explain.specs.declared.items.ItemPlace.{ItemPlace}
+use Rattle.vipr_explain.specs.declared.marks.ItemPlace.{ItemPlace}
 use Rattle.vipr_page.proofs.Laws.{puts_none}
 use Rattle.vipr_explain.proofs.step.put_place.Goals as goal
 

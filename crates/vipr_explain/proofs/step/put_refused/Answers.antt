@@ -2,13 +2,12 @@ use Rattle.std.proofs.Common.{◌≡◌, ℕ, List, ap, codes, inl, length, opti
 use Rattle.std.proofs.Common.{◌∙◌}
 use Rattle.std.proofs.lemmas.List.{length-map}
 use Rattle.std.proofs.lemmas.Result.{err_from_is_err_and}
-use Rattle.vipr_bytes.specs.Known.{IfKnown, text_of}
-use Rattle.vipr_explain.specs.Found.{AreFoundItems, LacksItems, OnlyIf}
+use Rattle.vipr_explain.specs.Found.{AreItemsOf, LacksItems, OnlyIf}
 use Rattle.vipr_explain.specs.Listed.{place_found}
 use Rattle.vipr_explain.specs.References.{step_indices}
 use Rattle.vipr_explain.specs.StepPages.{IsSpotText, name_spot}
 use Rattle.vipr_explain.specs.Steps.{step_help}
-use Rattle.vipr_explain.specs.declared.items.ItemPlace.{ItemPlace}
+use Rattle.vipr_explain.specs.declared.marks.ItemPlace.{ItemPlace}
 use Rattle.vipr_explain.proofs.Lacks.{only_if, only_nothing_of_memory}
 use Rattle.vipr_page.proofs.Laws.{puts_same, puts_then}
 use Rattle.vipr_explain.proofs.step.put_refused.Goals as goal
@@ -23,7 +22,7 @@ returns-clause-shown g c =
       _,
       record {
         known = known;
-        found = subst (λ (wanted : List ℕ). IfKnown (g.T.Text.input c.args.subject.now.text.now) (λ i. AreFoundItems wanted (text_of i) known.items)) (c.as_slice.ensures.value ∙ c.in_ok-wanted.ensures) c.in_ok-known.ensures.found;
+        found = subst (λ (wanted : List ℕ). AreItemsOf (g.T.Text.input c.args.subject.now.text.now) wanted known) (c.as_slice.ensures.value ∙ c.in_ok-wanted.ensures) c.in_ok-known.ensures.found;
         place = place.0;
         is_place = subst (λ (marks : List ItemPlace). IsSpotText (g.T.Text.input c.args.subject.now.text.now) c.args.subject.now.file.now (codes "this derivation") (option_map name_spot (place_found marks c.args.index)) place.0) c.as_slice-2.ensures.value place.1;
         detail = detail.0;
