@@ -1,7 +1,7 @@
 -- Why a text can't be read again, through the calls that read it
 use Rattle.std.proofs.Common.{◌≡◌, ℕ, zero, suc, ◌≤◌, ◌⊎◌, inl, inr, true, List, ◌∷◌, length}
 use Rattle.std.proofs.Common.{Option, Some, None, Result, Ok, Err, IfSome, IfErr, refl, sym}
-use Rattle.std.proofs.Common.{subst, arith}
+use Rattle.std.proofs.Common.{IsErrAnd, subst, arith}
 use Rattle.vipr_spec.specs.Input.{Input}
 use Rattle.vipr_spec.specs.Certificate.{Named, Problem}
 use Rattle.vipr_spec.specs.Constraint.{Row}
@@ -27,6 +27,12 @@ of_memory m P e = subst (λ n. Because n P) (sym e) tt
 pub if_text : (m : Missing) (P : Type 0) → (m ≡ missing.Text → P) → Because m P
 if_text missing.Text P f = f refl
 if_text missing.Memory P f = tt
+
+-- a call fails for the reason that a call in it gave
+pub err_is : {A : Type 0} (r : Result A Missing) {m : Missing} (P : Missing → Type 0)
+    → IsErrAnd r (λ e. e ≡ m) → P m → IfErr r P
+err_is (Ok x) P is h = absurd is
+err_is (Err e) P is h = subst (λ (x : Missing). P x) (sym is) h
 
 -- of the bytes of a text, if they are known
 pub only_if : (o : Option Input) (m : Missing) (P Q : Input → Type 0) → ((i : Input) → P i → Q i)

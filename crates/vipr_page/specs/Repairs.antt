@@ -5,7 +5,7 @@ use Rattle.vipr_spec.specs.Constraint.{Ints, Sense, equal, at, Constraint, Compa
 use Rattle.vipr_spec.specs.Constraint.{RoundsTo}
 use Rattle.vipr_spec.specs.Fraction.{ℚ, whole}
 use Rattle.vipr_cert.specs.declared.items.Reason.{Reason}
-use Rattle.vipr_cert.specs.declared.items.Reason.TheVariants.{Asm, Lin, Rnd, Uns, Sol}
+use Rattle.vipr_cert.specs.declared.items.Reason.TheVariants.{Lin}
 
 -- but for the right-hand side, the stated constraint is the computed one, which can be rounded
 pub record CanRound (integers : Ints) (computed stated : Constraint) : Type 0 where
@@ -38,11 +38,8 @@ rounding_help None = []
 
 -- only a sum that isn't rounded yet can be
 abbrev pub reason_help : Reason → Option ℤ → List ℕ
-reason_help Asm bound = []
 reason_help (Lin entries) bound = rounding_help bound
-reason_help (Rnd entries) bound = []
-reason_help (Uns i1 l1 i2 l2) bound = []
-reason_help Sol bound = []
+reason_help _ bound = []
 
 abbrev pub repair_text : Reason → Option ℤ → List ℕ
 repair_text reason bound = reason_help reason bound

@@ -47,7 +47,7 @@ impl Display for ReasonHelp<'_> {
     fn fmt<W: Write>(&self, f: &mut Formatter<W>) -> fmt::Result {
         match self.reason {
             Reason::Lin(_) => write!(f, "{}", RoundingHelp(self.bound)),
-            Reason::Rnd(_) | Reason::Uns { .. } | Reason::Asm | Reason::Sol => Ok(()),
+            _ => Ok(()),
         }
     }
 }

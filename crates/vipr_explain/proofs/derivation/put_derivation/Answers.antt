@@ -1,6 +1,5 @@
-use Rattle.std.proofs.lemmas.Result.{err_from_is_err_and}
 use Rattle.vipr_explain.proofs.ByPlace.{head_lacks}
-use Rattle.vipr_explain.proofs.Lacks.{err_only_if}
+use Rattle.vipr_explain.proofs.Lacks.{err_is, err_only_if}
 use Rattle.vipr_explain.proofs.StepParts.{derivation_text}
 use Rattle.vipr_explain.proofs.derivation.put_derivation.Goals as goal
 
@@ -11,8 +10,7 @@ returns-clause-shown g c =
 
 pub returns-in_err-put_step-clause-error : goal.returns-in_err-put_step-clause-error
 returns-in_err-put_step-clause-error g c =
-    let q = err_from_is_err_and c.from_residual.result c.from_residual.ensures.1 in
-    rw (q.1, q.2) c.in_err-put_step.ensures.error
+    err_is c.from_residual.result _ c.from_residual.ensures.1 c.in_err-put_step.ensures.error
 
 pub returns-clause-error : goal.returns-clause-error
 returns-clause-error g c = err_only_if (g.T.Text.input c.args.subject.now.text.now) c.put_cause.result _ _ (head_lacks c.args.index c.args.what.now) c.put_cause.ensures.error

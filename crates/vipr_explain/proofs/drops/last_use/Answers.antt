@@ -1,14 +1,13 @@
 use Rattle.std.proofs.Common.{◌≡◌, Ok, IfOk, ap, arith, length, sym, ◌∙◌}
 use Rattle.std.specs.Option.{IsSome}
 use Rattle.std.proofs.lemmas.List.{length-map}
-use Rattle.std.proofs.lemmas.Result.{err_from_is_err_and}
 use Rattle.vipr_bytes.specs.Known.{text_of}
 use Rattle.vipr_scan.specs.Giving.{rest_of}
 use Rattle.vipr_explain.specs.Drops.{IsLastUse}
 use Rattle.vipr_explain.specs.Found.{Missed, head_read}
 use Rattle.vipr_explain.proofs.Again.{known_by}
 use Rattle.vipr_explain.proofs.Dropping.{is_last_use}
-use Rattle.vipr_explain.proofs.Lacks.{err_memory_only, only_after}
+use Rattle.vipr_explain.proofs.Lacks.{err_is, err_memory_only, only_after}
 use Rattle.vipr_explain.proofs.drops.last_use.Goals as goal
 
 pub returns-clause-found : goal.returns-clause-found
@@ -25,9 +24,8 @@ returns-clause-found g c =
 
 pub returns-in_err-problem-clause-error : goal.returns-in_err-problem-clause-error
 returns-in_err-problem-clause-error g c =
-    let q = err_from_is_err_and c.from_residual.result c.from_residual.ensures.1 in
     let m = c.in_err-problem.field-0.0 in
-    rw (q.1, q.2) (only_after (g.T.Text.input c.args.text.now) m (λ i. Missed m (head_read (text_of i))) _ c.in_err-problem.ensures.read (λ i h. h))
+    err_is c.from_residual.result _ c.from_residual.ensures.1 (only_after (g.T.Text.input c.args.text.now) m (λ i. Missed m (head_read (text_of i))) _ c.in_err-problem.ensures.read (λ i h. h))
 
 pub returns-clause-error : goal.returns-clause-error
 returns-clause-error g c = err_memory_only (g.T.Text.input c.args.text.now) c.last_among.result _ c.last_among.ensures.error

@@ -1,8 +1,7 @@
 use Rattle.std.proofs.Common.{List, [], ◌∷◌, ℕ, inl, inr, subst, sym}
-use Rattle.std.proofs.lemmas.Result.{err_from_is_err_and}
 use Rattle.vipr_explain.specs.Marked.{AreMarksOf}
 use Rattle.vipr_explain.specs.declared.marks.ItemPlace.{ItemPlace}
-use Rattle.vipr_explain.proofs.Lacks.{err_only_if, only_if}
+use Rattle.vipr_explain.proofs.Lacks.{err_is, err_only_if, only_if}
 use Rattle.vipr_explain.proofs.StepParts.{dropped_text}
 use Rattle.vipr_explain.proofs.drops.put_dropped.Goals as goal
 
@@ -16,13 +15,11 @@ returns-clause-shown g c =
 
 pub returns-in_err-marks-clause-error : goal.returns-in_err-marks-clause-error
 returns-in_err-marks-clause-error g c =
-    let q = err_from_is_err_and c.from_residual.result c.from_residual.ensures.1 in
-    rw (q.1, q.2) (only_if (g.T.Text.input c.args.subject.now.text.now) c.in_err-marks.field-0.0 _ _ (λ i h. inl h) c.in_err-marks.ensures.error)
+    err_is c.from_residual.result _ c.from_residual.ensures.1 (only_if (g.T.Text.input c.args.subject.now.text.now) c.in_err-marks.field-0.0 _ _ (λ i h. inl h) c.in_err-marks.ensures.error)
 
 pub returns-in_err-last-clause-error : goal.returns-in_err-last-clause-error
 returns-in_err-last-clause-error g c =
-    let q = err_from_is_err_and c.from_residual-in_err-last.result c.from_residual-in_err-last.ensures.1 in
-    rw (q.1, q.2) (only_if (g.T.Text.input c.args.subject.now.text.now) c.in_err-last.field-0.0 _ _ (λ i h. inr h) c.in_err-last.ensures.error)
+    err_is c.from_residual-in_err-last.result _ c.from_residual-in_err-last.ensures.1 (only_if (g.T.Text.input c.args.subject.now.text.now) c.in_err-last.field-0.0 _ _ (λ i h. inr h) c.in_err-last.ensures.error)
 
 pub returns-clause-error : goal.returns-clause-error
 returns-clause-error g c = err_only_if (g.T.Text.input c.args.subject.now.text.now) c.put_last.result _ _ (λ i h. inl h) c.put_last.ensures.error

@@ -1,8 +1,7 @@
 use Rattle.std.proofs.Common.{◌≡◌, ◌⊎◌, ◌∙◌, true, rules, subst, IfOk}
-use Rattle.std.proofs.lemmas.Result.{err_from_is_err_and}
 use Rattle.vipr_bytes.specs.Known.{text_of}
 use Rattle.vipr_explain.specs.Found.{AreItemsOf, HasFault, all_derivations_read}
-use Rattle.vipr_explain.proofs.Lacks.{err_only_if, of_items, only_nothing_of_memory}
+use Rattle.vipr_explain.proofs.Lacks.{err_is, err_only_if, of_items, only_nothing_of_memory}
 use Rattle.vipr_explain.proofs.goal.known_of.Goals as goal
 
 pub returns-clause-found : goal.returns-clause-found
@@ -15,5 +14,4 @@ returns-clause-error g c = err_only_if (g.T.Text.input c.args.subject.now.text.n
 
 pub returns-in_err-indices-clause-error : goal.returns-in_err-indices-clause-error
 returns-in_err-indices-clause-error g c =
-    let q = err_from_is_err_and c.from_residual.result c.from_residual.ensures.1 in
-    rw (q.1, q.2) (only_nothing_of_memory (g.T.Text.input c.args.subject.now.text.now) (λ i. (i.fails ≡ true) ⊎ HasFault (all_derivations_read (text_of i))))
+    err_is c.from_residual.result _ c.from_residual.ensures.1 (only_nothing_of_memory (g.T.Text.input c.args.subject.now.text.now) (λ i. (i.fails ≡ true) ⊎ HasFault (all_derivations_read (text_of i))))

@@ -1,6 +1,6 @@
 use Rattle.std.proofs.Common.{◌≡◌, ◌∷◌, [], rules, subst}
-use Rattle.std.proofs.lemmas.Result.{err_from_is_err_and}
 use Rattle.vipr_explain.specs.Found.{AreItemsOf, LacksItems, OnlyIf}
+use Rattle.vipr_explain.proofs.Lacks.{err_is}
 use Rattle.vipr_explain.proofs.goal.put_goal_item.Goals as goal
 
 pub returns-clause-shown : goal.returns-clause-shown
@@ -10,6 +10,5 @@ returns-clause-shown g c =
 
 pub returns-in_err-known-clause-error : goal.returns-in_err-known-clause-error
 returns-in_err-known-clause-error g c =
-    let q = err_from_is_err_and c.from_residual.result c.from_residual.ensures.1 in
     let one : c.as_slice.result.now ≡ c.args.goal ∷ [] = search rules in
-    rw (q.1, q.2) (subst (λ wanted. OnlyIf (g.T.Text.input c.args.subject.now.text.now) (LacksItems wanted) c.in_err-known.field-0.0) one c.in_err-known.ensures.error)
+    err_is c.from_residual.result _ c.from_residual.ensures.1 (subst (λ wanted. OnlyIf (g.T.Text.input c.args.subject.now.text.now) (LacksItems wanted) c.in_err-known.field-0.0) one c.in_err-known.ensures.error)

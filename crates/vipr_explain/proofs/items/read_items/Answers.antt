@@ -1,12 +1,11 @@
 use Rattle.std.proofs.Common.{◌≡◌, Ok, sym}
 use Rattle.std.specs.Option.{IsSome}
-use Rattle.std.proofs.lemmas.Result.{err_from_is_err_and}
 use Rattle.vipr_bytes.specs.Known.{text_of}
 use Rattle.vipr_scan.specs.Giving.{rest_of}
 use Rattle.vipr_explain.specs.Found.{head_read, AreFoundItems, Missed}
 use Rattle.vipr_explain.proofs.Again.{known_by}
 use Rattle.vipr_explain.proofs.Heads.{are_items}
-use Rattle.vipr_explain.proofs.Lacks.{head_first_missed, head_then_missed, only_after}
+use Rattle.vipr_explain.proofs.Lacks.{err_is, head_first_missed, head_then_missed, only_after}
 use Rattle.vipr_explain.proofs.items.read_items.Goals as goal
 
 pub returns-clause-found : goal.returns-clause-found
@@ -23,15 +22,13 @@ returns-clause-found g c =
 
 pub returns-in_err-problem-clause-error : goal.returns-in_err-problem-clause-error
 returns-in_err-problem-clause-error g c =
-    let q = err_from_is_err_and c.from_residual.result c.from_residual.ensures.1 in
     let m = c.in_err-problem.field-0.0 in
-    rw (q.1, q.2) (only_after (g.T.Text.input c.args.text.now) m (λ i. Missed m (head_read (text_of i))) _ c.in_err-problem.ensures.read (λ i h. head_first_missed c.args.wanted.now (text_of i) m h))
+    err_is c.from_residual.result _ c.from_residual.ensures.1 (only_after (g.T.Text.input c.args.text.now) m (λ i. Missed m (head_read (text_of i))) _ c.in_err-problem.ensures.read (λ i h. head_first_missed c.args.wanted.now (text_of i) m h))
 
 pub returns-in_err-keep_wanted-clause-error : goal.returns-in_err-keep_wanted-clause-error
 returns-in_err-keep_wanted-clause-error g c =
-    let q = err_from_is_err_and c.from_residual-in_err-keep_wanted.result c.from_residual-in_err-keep_wanted.ensures.1 in
     let p = c.in_ok-problem.problem in
     let d = c.in_ok-problem.derivations in
     let m = c.in_err-keep_wanted.field-0.0 in
-    rw (q.1, q.2) (only_after (g.T.Text.input c.args.text.now) m (λ i. (head_read (text_of i) ≡ Ok ((p, d.left), rest_of d.rest)) × IsSome d.rest) _ c.in_ok-problem.ensures.read
+    err_is c.from_residual-in_err-keep_wanted.result _ c.from_residual-in_err-keep_wanted.ensures.1 (only_after (g.T.Text.input c.args.text.now) m (λ i. (head_read (text_of i) ≡ Ok ((p, d.left), rest_of d.rest)) × IsSome d.rest) _ c.in_ok-problem.ensures.read
     (λ i h. head_then_missed c.args.wanted.now (text_of i) p d.left (rest_of d.rest) m h.0 (c.in_err-keep_wanted.ensures.error c.in_ok-problem.ensures.knows h.1)))

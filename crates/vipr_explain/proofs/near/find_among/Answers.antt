@@ -1,8 +1,8 @@
 use Rattle.std.proofs.Common.{rules}
 use Rattle.std.proofs.Common.{map, refl, arith}
-use Rattle.std.proofs.lemmas.Result.{err_from_is_err_and}
 use Rattle.vipr_spec.specs.Reading.{derivation_read}
 use Rattle.vipr_scan.specs.Giving.{rest_of}
+use Rattle.vipr_explain.proofs.Lacks.{err_is}
 use Rattle.vipr_explain.proofs.Again.{next_missed, remembers_both, still_knows}
 use Rattle.vipr_explain.proofs.Nearby.{passes_all, passes_next, passes_none}
 use Rattle.vipr_explain.proofs.near.find_among.Goals as goal
@@ -38,12 +38,11 @@ loop-number-preserved g c =
 
 pub returns-in_err-read_next-clause-error : goal.returns-in_err-read_next-clause-error
 returns-in_err-read_next-clause-error g c p knows known =
-    let q = err_from_is_err_and c.from_residual.result c.from_residual.ensures.1 in
     let old = c.loop-number.derivations in
     let so_far = c.loop-number.invariant in
     let m = c.in_err-read_next.field-0.0 in
     let part = so_far.passed.part p knows known in
-    rw (q.1, q.2) (next_missed (derivation_read p) m (map (λ d. d.0) so_far.passed.compared) _ (rest_of old.rest) _
+    err_is c.from_residual.result _ c.from_residual.ensures.1 (next_missed (derivation_read p) m (map (λ d. d.0) so_far.passed.compared) _ (rest_of old.rest) _
     (c.in_err-read_next.ensures.error p (still_knows c.args.derivations.now old p so_far.remembers knows) part.0) part.1 (omega arith))
 
 pub returns-clause-found : goal.returns-clause-found

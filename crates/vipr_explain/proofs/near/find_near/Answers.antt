@@ -1,12 +1,11 @@
 use Rattle.std.proofs.Common.{◌≡◌, Ok, ap, sym, ◌∙◌, length, map, arith}
 use Rattle.std.proofs.lemmas.List.{length-map}
-use Rattle.std.proofs.lemmas.Result.{err_from_is_err_and}
 use Rattle.std.specs.Option.{IsSome}
 use Rattle.vipr_bytes.specs.Known.{text_of}
 use Rattle.vipr_scan.specs.Giving.{rest_of}
 use Rattle.vipr_explain.specs.Found.{Missed, head_read}
 use Rattle.vipr_explain.specs.Nearing.{near_of}
-use Rattle.vipr_explain.proofs.Lacks.{derivations_first_missed, derivations_then_missed, err_after}
+use Rattle.vipr_explain.proofs.Lacks.{derivations_first_missed, derivations_then_missed, err_after, err_is}
 use Rattle.vipr_explain.proofs.Lacks.{only_after}
 use Rattle.vipr_explain.proofs.Nearby.{nearest_found}
 use Rattle.vipr_explain.proofs.near.find_near.Goals as goal
@@ -19,9 +18,8 @@ find_among-requires g c =
 
 pub returns-in_err-problem-clause-error : goal.returns-in_err-problem-clause-error
 returns-in_err-problem-clause-error g c =
-    let q = err_from_is_err_and c.from_residual.result c.from_residual.ensures.1 in
     let m = c.in_err-problem.field-0.0 in
-    rw (q.1, q.2) (only_after (g.T.Text.input c.args.text.now) m (λ i. Missed m (head_read (text_of i))) _ c.in_err-problem.ensures.read (λ i h. derivations_first_missed (text_of i) m h))
+    err_is c.from_residual.result _ c.from_residual.ensures.1 (only_after (g.T.Text.input c.args.text.now) m (λ i. Missed m (head_read (text_of i))) _ c.in_err-problem.ensures.read (λ i h. derivations_first_missed (text_of i) m h))
 
 pub returns-clause-error : goal.returns-clause-error
 returns-clause-error g c =

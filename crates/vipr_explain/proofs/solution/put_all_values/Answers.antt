@@ -1,10 +1,10 @@
 use Rattle.std.proofs.Common.{map, arith, subst}
-use Rattle.std.proofs.lemmas.Result.{err_from_is_err_and}
 use Rattle.vipr_spec.specs.Reading.{solution_read}
 use Rattle.vipr_scan.specs.Giving.{rest_of}
 use Rattle.std.proofs.Common.{None, refl}
 use Rattle.std.specs.Option.{IsSome}
 use Rattle.vipr_spec.specs.Reading.{read_each}
+use Rattle.vipr_explain.proofs.Lacks.{err_is}
 use Rattle.vipr_explain.proofs.Valuing.{ShowsPartWay}
 use Rattle.vipr_explain.proofs.Again.{next_missed, remembers_both, still_knows}
 use Rattle.vipr_explain.proofs.Valuing.{shows_all, shows_next, shows_none}
@@ -37,13 +37,12 @@ loop-number-preserved g c =
 
 pub returns-in_err-best-clause-error : goal.returns-in_err-best-clause-error
 returns-in_err-best-clause-error g c known =
-    let q = err_from_is_err_and c.from_residual.result c.from_residual.ensures.1 in
     let p = c.args.problem.now in
     let old = c.loop-number.solutions in
     let so_far = c.loop-number.invariant in
     let m = c.in_err-best.field-0.0 in
     let part = so_far.shown.part known in
-    rw (q.1, q.2) (next_missed (solution_read p) m (map (λ s. s.0) so_far.shown.valued) _ (rest_of old.rest) _
+    err_is c.from_residual.result _ c.from_residual.ensures.1 (next_missed (solution_read p) m (map (λ s. s.0) so_far.shown.valued) _ (rest_of old.rest) _
     (c.in_err-best.ensures.error part.0) part.1 (omega arith))
 
 pub returns-clause-shown : goal.returns-clause-shown

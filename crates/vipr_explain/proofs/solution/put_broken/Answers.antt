@@ -7,8 +7,7 @@ use Rattle.vipr_page.proofs.Laws.{puts_same, puts_then}
 use Rattle.vipr_explain.proofs.WholePages.{broken_is}
 use Rattle.std.proofs.Common.{◌≡◌, ◌∙◌, inl, inr, arith}
 use Rattle.std.proofs.lemmas.List.{length-map}
-use Rattle.std.proofs.lemmas.Result.{err_from_is_err_and}
-use Rattle.vipr_explain.proofs.Lacks.{all_known, only_if}
+use Rattle.vipr_explain.proofs.Lacks.{all_known, err_is, only_if}
 use Rattle.vipr_explain.proofs.solution.put_broken.Goals as goal
 
 pub returns-in_ok-marks-in-Some-clause-shown : goal.returns-in_ok-marks-in-Some-clause-shown
@@ -25,8 +24,7 @@ returns-in_ok-marks-in-Some-clause-shown g c =
 
 pub returns-in_err-marks-in-Some-clause-error : goal.returns-in_err-marks-in-Some-clause-error
 returns-in_err-marks-in-Some-clause-error g c =
-    let q = err_from_is_err_and c.from_residual.result c.from_residual.ensures.1 in
-    rw (q.1, q.2) (only_if (g.T.Text.input c.args.subject.now.text.now) c.in_err-marks-in-Some.field-0.0 _ _ (λ i h. inl h) c.in_err-marks-in-Some.ensures.error)
+    err_is c.from_residual.result _ c.from_residual.ensures.1 (only_if (g.T.Text.input c.args.subject.now.text.now) c.in_err-marks-in-Some.field-0.0 _ _ (λ i h. inl h) c.in_err-marks-in-Some.ensures.error)
 
 pub returns-in-None-clause-error : goal.returns-in-None-clause-error
 returns-in-None-clause-error g c =

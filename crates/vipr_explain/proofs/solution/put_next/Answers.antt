@@ -1,17 +1,16 @@
 use Rattle.std.proofs.Common.{Ok, subst}
-use Rattle.std.proofs.lemmas.Result.{err_from_is_err_and}
 use Rattle.vipr_spec.specs.Reading.{solution_read}
 use Rattle.vipr_cert.specs.Items.{solution_of}
 use Rattle.vipr_read.specs.Items.{NextIs}
+use Rattle.vipr_explain.proofs.Lacks.{err_is}
 use Rattle.vipr_explain.proofs.Again.{missed_next}
 use Rattle.vipr_explain.proofs.solution.put_next.Goals as goal
 
 pub returns-in_err-solution-clause-error : goal.returns-in_err-solution-clause-error
 returns-in_err-solution-clause-error g c known =
-    let q = err_from_is_err_and c.from_residual.result c.from_residual.ensures.1 in
     let old = c.args.solutions.now in
     let e = c.in_err-solution.field-0.0 in
-    rw (q.1, q.2) (missed_next solution_of (solution_read c.args.problem.now) (λ _. Ok tt) old c.next.new.self e c.requires.some
+    err_is c.from_residual.result _ c.from_residual.ensures.1 (missed_next solution_of (solution_read c.args.problem.now) (λ _. Ok tt) old c.next.new.self e c.requires.some
     (c.in_err-solution.ensures.read c.args.problem.now c.requires.knows known))
 
 pub returns-in-Some-clause-shown : goal.returns-in-Some-clause-shown

@@ -1,11 +1,10 @@
-use Rattle.std.proofs.lemmas.Result.{err_from_is_err_and}
+use Rattle.vipr_explain.proofs.Lacks.{err_is}
 use Rattle.vipr_explain.proofs.Valuing.{no_primal_lines}
 use Rattle.vipr_explain.proofs.solution.put_no_primal.Goals as goal
 
 pub returns-in_err-best-clause-error : goal.returns-in_err-best-clause-error
 returns-in_err-best-clause-error g c =
-    let q = err_from_is_err_and c.from_residual.result c.from_residual.ensures.1 in
-    rw (q.1, q.2) c.in_err-best.ensures.error
+    err_is c.from_residual.result _ c.from_residual.ensures.1 c.in_err-best.ensures.error
 
 pub returns-clause-shown : goal.returns-clause-shown
 returns-clause-shown g c =

@@ -1,10 +1,9 @@
 use Rattle.std.proofs.Common.{inl, inr}
-use Rattle.std.proofs.lemmas.Result.{err_from_is_err_and}
 use Rattle.vipr_bytes.specs.Known.{text_of}
 use Rattle.vipr_cert.specs.Items.{solution_of}
 use Rattle.vipr_explain.specs.Found.{IsListedSolution}
 use Rattle.vipr_explain.proofs.ByPlace.{lacks_in_solution}
-use Rattle.vipr_explain.proofs.Lacks.{err_because_after, only_if}
+use Rattle.vipr_explain.proofs.Lacks.{err_because_after, err_is, only_if}
 use Rattle.vipr_explain.proofs.WholePages.{solution_lines}
 use Rattle.vipr_explain.proofs.solution.put_solution.Goals as goal
 
@@ -15,13 +14,11 @@ returns-clause-shown g c =
 
 pub returns-in_err-problem-clause-error : goal.returns-in_err-problem-clause-error
 returns-in_err-problem-clause-error g c =
-    let q = err_from_is_err_and c.from_residual.result c.from_residual.ensures.1 in
-    rw (q.1, q.2) (only_if (g.T.Text.input c.args.subject.now.text.now) c.in_err-problem.field-0.0 _ _ (λ i h. inr (inl h)) c.in_err-problem.ensures.error)
+    err_is c.from_residual.result _ c.from_residual.ensures.1 (only_if (g.T.Text.input c.args.subject.now.text.now) c.in_err-problem.field-0.0 _ _ (λ i h. inr (inl h)) c.in_err-problem.ensures.error)
 
 pub returns-in_err-put_place-clause-error : goal.returns-in_err-put_place-clause-error
 returns-in_err-put_place-clause-error g c =
-    let q = err_from_is_err_and c.from_residual-in_err-put_place.result c.from_residual-in_err-put_place.ensures.1 in
-    rw (q.1, q.2) (only_if (g.T.Text.input c.args.subject.now.text.now) c.in_err-put_place.field-0.0 _ _ (λ i h. inl h) c.in_err-put_place.ensures.error)
+    err_is c.from_residual-in_err-put_place.result _ c.from_residual-in_err-put_place.ensures.1 (only_if (g.T.Text.input c.args.subject.now.text.now) c.in_err-put_place.field-0.0 _ _ (λ i h. inl h) c.in_err-put_place.ensures.error)
 
 pub returns-clause-error : goal.returns-clause-error
 returns-clause-error g c =

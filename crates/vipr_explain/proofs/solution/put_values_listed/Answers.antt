@@ -1,20 +1,18 @@
 use Rattle.std.proofs.Common.{◌≡◌, Ok}
-use Rattle.std.proofs.lemmas.Result.{err_from_is_err_and}
 use Rattle.std.specs.Option.{IsSome}
 use Rattle.vipr_spec.specs.Reading.{problem_read}
 use Rattle.vipr_bytes.specs.Known.{text_of}
 use Rattle.vipr_scan.specs.Giving.{rest_of}
 use Rattle.vipr_explain.specs.Found.{Missed}
-use Rattle.vipr_explain.proofs.Lacks.{err_after, only_after, solutions_first_missed}
+use Rattle.vipr_explain.proofs.Lacks.{err_after, err_is, only_after, solutions_first_missed}
 use Rattle.vipr_explain.proofs.Lacks.{solutions_then_missed}
 use Rattle.vipr_explain.proofs.Valuing.{values_found}
 use Rattle.vipr_explain.proofs.solution.put_values_listed.Goals as goal
 
 pub returns-in_err-problem-clause-error : goal.returns-in_err-problem-clause-error
 returns-in_err-problem-clause-error g c =
-    let q = err_from_is_err_and c.from_residual.result c.from_residual.ensures.1 in
     let m = c.in_err-problem.field-0.0 in
-    rw (q.1, q.2) (only_after (g.T.Text.input c.args.subject.now.text.now) m (λ i. Missed m (problem_read (text_of i))) _ c.in_err-problem.ensures.read (λ i h. solutions_first_missed (text_of i) m h))
+    err_is c.from_residual.result _ c.from_residual.ensures.1 (only_after (g.T.Text.input c.args.subject.now.text.now) m (λ i. Missed m (problem_read (text_of i))) _ c.in_err-problem.ensures.read (λ i h. solutions_first_missed (text_of i) m h))
 
 pub returns-clause-error : goal.returns-clause-error
 returns-clause-error g c =

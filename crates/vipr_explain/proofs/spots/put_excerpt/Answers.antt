@@ -1,6 +1,5 @@
 use Rattle.std.proofs.Common.{refl}
-use Rattle.std.proofs.lemmas.Result.{err_from_is_err_and}
-use Rattle.vipr_explain.proofs.Lacks.{only_read}
+use Rattle.vipr_explain.proofs.Lacks.{err_is, only_read}
 use Rattle.vipr_explain.proofs.spots.put_excerpt.Goals as goal
 
 pub returns-clause-shown : goal.returns-clause-shown
@@ -13,5 +12,4 @@ returns-clause-shown g c =
 
 pub returns-in_err-excerpt-clause-error : goal.returns-in_err-excerpt-clause-error
 returns-in_err-excerpt-clause-error g c =
-    let q = err_from_is_err_and c.from_residual.result c.from_residual.ensures.1 in
-    rw (q.1, q.2) (only_read (g.T.Text.input c.args.subject.now.text.now) c.in_err-excerpt.field-0.0 _ c.in_err-excerpt.ensures.error)
+    err_is c.from_residual.result _ c.from_residual.ensures.1 (only_read (g.T.Text.input c.args.subject.now.text.now) c.in_err-excerpt.field-0.0 _ c.in_err-excerpt.ensures.error)

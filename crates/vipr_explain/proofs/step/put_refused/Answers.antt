@@ -1,14 +1,13 @@
 use Rattle.std.proofs.Common.{◌≡◌, ℕ, List, ap, codes, inl, length, option_map, refl, subst, sym}
 use Rattle.std.proofs.Common.{◌∙◌}
 use Rattle.std.proofs.lemmas.List.{length-map}
-use Rattle.std.proofs.lemmas.Result.{err_from_is_err_and}
 use Rattle.vipr_explain.specs.Found.{AreItemsOf, LacksItems, OnlyIf}
 use Rattle.vipr_explain.specs.Listed.{place_found}
 use Rattle.vipr_explain.specs.References.{step_indices}
 use Rattle.vipr_explain.specs.StepPages.{IsSpotText, name_spot}
 use Rattle.vipr_explain.specs.Steps.{step_help}
 use Rattle.vipr_explain.specs.declared.marks.ItemPlace.{ItemPlace}
-use Rattle.vipr_explain.proofs.Lacks.{only_if, only_nothing_of_memory}
+use Rattle.vipr_explain.proofs.Lacks.{err_is, only_if, only_nothing_of_memory}
 use Rattle.vipr_page.proofs.Laws.{puts_same, puts_then}
 use Rattle.vipr_explain.proofs.step.put_refused.Goals as goal
 
@@ -34,15 +33,12 @@ returns-clause-shown g c =
 
 pub returns-in_err-known-clause-error : goal.returns-in_err-known-clause-error
 returns-in_err-known-clause-error g c =
-    let q = err_from_is_err_and c.from_residual-in_err-known.result c.from_residual-in_err-known.ensures.1 in
-    rw (q.1, q.2) (subst (λ (wanted : List ℕ). OnlyIf (g.T.Text.input c.args.subject.now.text.now) (LacksItems wanted) c.in_err-known.field-0.0) (c.as_slice.ensures.value ∙ c.in_ok-wanted.ensures) c.in_err-known.ensures.error)
+    err_is c.from_residual-in_err-known.result _ c.from_residual-in_err-known.ensures.1 (subst (λ (wanted : List ℕ). OnlyIf (g.T.Text.input c.args.subject.now.text.now) (LacksItems wanted) c.in_err-known.field-0.0) (c.as_slice.ensures.value ∙ c.in_ok-wanted.ensures) c.in_err-known.ensures.error)
 
 pub returns-in_err-put_place-clause-error : goal.returns-in_err-put_place-clause-error
 returns-in_err-put_place-clause-error g c =
-    let q = err_from_is_err_and c.from_residual-in_err-put_place.result c.from_residual-in_err-put_place.ensures.1 in
-    rw (q.1, q.2) (only_if (g.T.Text.input c.args.subject.now.text.now) c.in_err-put_place.field-0.0 _ _ (λ i h. inl h) c.in_err-put_place.ensures.error)
+    err_is c.from_residual-in_err-put_place.result _ c.from_residual-in_err-put_place.ensures.1 (only_if (g.T.Text.input c.args.subject.now.text.now) c.in_err-put_place.field-0.0 _ _ (λ i h. inl h) c.in_err-put_place.ensures.error)
 
 pub returns-in_err-put_detail-clause-error : goal.returns-in_err-put_detail-clause-error
 returns-in_err-put_detail-clause-error g c =
-    let q = err_from_is_err_and c.from_residual-in_err-put_detail.result c.from_residual-in_err-put_detail.ensures.1 in
-    rw (q.1, q.2) (only_nothing_of_memory (g.T.Text.input c.args.subject.now.text.now) (LacksItems (step_indices c.args.index c.args.what.now c.args.step.now.reason)))
+    err_is c.from_residual-in_err-put_detail.result _ c.from_residual-in_err-put_detail.ensures.1 (only_nothing_of_memory (g.T.Text.input c.args.subject.now.text.now) (LacksItems (step_indices c.args.index c.args.what.now c.args.step.now.reason)))

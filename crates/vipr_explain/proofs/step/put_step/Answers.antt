@@ -1,21 +1,19 @@
 use Rattle.std.proofs.Common.{◌≡◌, [], ◌∷◌, None, ap, inl, inr, option_map, subst, sym, ◌∙◌}
 use Rattle.std.proofs.Common.{ℕ, List}
-use Rattle.std.proofs.lemmas.Result.{err_from_is_err_and}
 use Rattle.vipr_bytes.specs.Known.{IfKnown, text_of}
 use Rattle.vipr_explain.specs.Found.{AreFoundItems, LacksItems, OnlyIf}
 use Rattle.vipr_explain.specs.Listed.{kept_derivation}
 use Rattle.vipr_explain.proofs.ByPlace.{no_step, step_lacks}
-use Rattle.vipr_explain.proofs.Lacks.{only_if}
+use Rattle.vipr_explain.proofs.Lacks.{err_is, only_if}
 use Rattle.vipr_explain.proofs.StepParts.{step_text}
 use Rattle.vipr_explain.proofs.step.put_step.Goals as goal
 
 pub returns-in_err-own-clause-error : goal.returns-in_err-own-clause-error
 returns-in_err-own-clause-error g c =
-    let q = err_from_is_err_and c.from_residual.result c.from_residual.ensures.1 in
     let o = g.T.Text.input c.args.subject.now.text.now in
     let m = c.in_err-own.field-0.0 in
     let short : OnlyIf o (LacksItems c.as_slice.result.now) m = only_if o m _ _ (λ i h. inr h) c.in_err-own.ensures.error in
-    rw (q.1, q.2) (only_if o m (LacksItems (c.args.index ∷ [])) _ (λ i h. inl h) (subst (λ (wanted : List ℕ). OnlyIf o (LacksItems wanted) m) c.as_slice.ensures short))
+    err_is c.from_residual.result _ c.from_residual.ensures.1 (only_if o m (LacksItems (c.args.index ∷ [])) _ (λ i h. inl h) (subst (λ (wanted : List ℕ). OnlyIf o (LacksItems wanted) m) c.as_slice.ensures short))
 
 pub returns-in-Some-clause-shown : goal.returns-in-Some-clause-shown
 returns-in-Some-clause-shown g c =

@@ -1,11 +1,10 @@
 use Rattle.std.proofs.Common.{IfSome, subst, ◌∙◌}
-use Rattle.std.proofs.lemmas.Result.{err_from_is_err_and}
 use Rattle.vipr_explain.specs.Excerpted.{excerpt_text}
 use Rattle.vipr_explain.specs.Excerpts.{IsExcerpt}
 use Rattle.vipr_explain.specs.Hints.{hints_text}
 use Rattle.vipr_explain.specs.Words.{kept_word}
 use Rattle.vipr_page.specs.Written.{PutsText}
-use Rattle.vipr_explain.proofs.Lacks.{only_read}
+use Rattle.vipr_explain.proofs.Lacks.{err_is, only_read}
 use Rattle.vipr_explain.proofs.SyntaxLines.{syntax_lines}
 use Rattle.vipr_explain.proofs.syntax.put_syntax.Goals as goal
 
@@ -24,10 +23,8 @@ returns-clause-shown g c =
 
 pub returns-in_err-found-clause-error : goal.returns-in_err-found-clause-error
 returns-in_err-found-clause-error g c =
-    let q = err_from_is_err_and c.from_residual.result c.from_residual.ensures.1 in
-    rw (q.1, q.2) c.in_err-found.ensures.error
+    err_is c.from_residual.result _ c.from_residual.ensures.1 c.in_err-found.ensures.error
 
 pub returns-in_err-excerpt-clause-error : goal.returns-in_err-excerpt-clause-error
 returns-in_err-excerpt-clause-error g c =
-    let q = err_from_is_err_and c.from_residual-in_err-excerpt.result c.from_residual-in_err-excerpt.ensures.1 in
-    rw (q.1, q.2) (only_read (g.T.Text.input c.args.subject.now.text.now) c.in_err-excerpt.field-0.0 _ c.in_err-excerpt.ensures.error)
+    err_is c.from_residual-in_err-excerpt.result _ c.from_residual-in_err-excerpt.ensures.1 (only_read (g.T.Text.input c.args.subject.now.text.now) c.in_err-excerpt.field-0.0 _ c.in_err-excerpt.ensures.error)

@@ -1,7 +1,6 @@
 use Rattle.std.proofs.Common.{sym, ◌∙◌}
-use Rattle.std.proofs.lemmas.Result.{err_from_is_err_and}
 use Rattle.vipr_explain.specs.Lacking.{LacksItem}
-use Rattle.vipr_explain.proofs.Lacks.{only_nothing_of_memory}
+use Rattle.vipr_explain.proofs.Lacks.{err_is, only_nothing_of_memory}
 use Rattle.vipr_explain.proofs.WholePages.{explained}
 use Rattle.vipr_explain.proofs.whole.explain_at_length.Goals as goal
 
@@ -11,8 +10,7 @@ returns-clause-shown g c =
 
 pub returns-in_err-put_verdict-clause-error : goal.returns-in_err-put_verdict-clause-error
 returns-in_err-put_verdict-clause-error g c =
-    let q = err_from_is_err_and c.from_residual.result c.from_residual.ensures.1 in
-    rw (q.1, q.2) c.in_err-put_verdict.ensures.error
+    err_is c.from_residual.result _ c.from_residual.ensures.1 c.in_err-put_verdict.ensures.error
 
 pub returns-then-has_failed-clause-error : goal.returns-then-has_failed-clause-error
 returns-then-has_failed-clause-error g c = only_nothing_of_memory (g.T.Text.input c.args.text.now) (LacksItem c.args.verdict.now c.args.detail.now)

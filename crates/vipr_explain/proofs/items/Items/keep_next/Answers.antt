@@ -4,9 +4,8 @@ use Rattle.vipr_cert.specs.Items.{derivation_of}
 use Rattle.vipr_read.specs.Items.{NextIs}
 use Rattle.vipr_explain.specs.Found.{KeepsNext}
 use Rattle.vipr_explain.proofs.Lines.{on_ok}
-use Rattle.std.proofs.lemmas.Result.{err_from_is_err_and}
 use Rattle.vipr_explain.proofs.Again.{missed_next}
-use Rattle.vipr_explain.proofs.Lacks.{err_memory}
+use Rattle.vipr_explain.proofs.Lacks.{err_is, err_memory}
 use Rattle.vipr_explain.proofs.items.Items.keep_next.Goals as goal
 
 pub returns-in-Some-clause-read : goal.returns-in-Some-clause-read
@@ -22,10 +21,9 @@ returns-in-Some-clause-read g c p knows known =
 
 pub returns-in_err-derivation-clause-error : goal.returns-in_err-derivation-clause-error
 returns-in_err-derivation-clause-error g c p knows known =
-    let q = err_from_is_err_and c.from_residual.result c.from_residual.ensures.1 in
     let old = c.args.derivations.now in
     let e = c.in_err-derivation.field-0.0 in
-    rw (q.1, q.2) (missed_next derivation_of (derivation_read p) end_read old c.next.new.self e c.requires (c.in_err-derivation.ensures.read p knows known))
+    err_is c.from_residual.result _ c.from_residual.ensures.1 (missed_next derivation_of (derivation_read p) end_read old c.next.new.self e c.requires (c.in_err-derivation.ensures.read p knows known))
 
 pub returns-in-Some-clause-error : goal.returns-in-Some-clause-error
 returns-in-Some-clause-error g c p knows known =

@@ -1,11 +1,10 @@
 use Rattle.std.proofs.Common.{◌≡◌, length, ap, sym, ◌∙◌, arith}
 use Rattle.std.proofs.lemmas.List.{length-map}
 use Rattle.vipr_explain.proofs.Again.{keeps_more, keeps_all, still_knows, remembers_both}
-use Rattle.std.proofs.lemmas.Result.{err_from_is_err_and}
 use Rattle.vipr_spec.specs.Reading.{derivation_read}
 use Rattle.vipr_scan.specs.Giving.{rest_of}
 use Rattle.vipr_explain.proofs.Again.{next_missed}
-use Rattle.vipr_explain.proofs.Lacks.{counted_missed}
+use Rattle.vipr_explain.proofs.Lacks.{counted_missed, err_is}
 use Rattle.vipr_explain.proofs.items.Items.keep_wanted.Goals as goal
 
 pub loop-passed-preserved : goal.loop-passed-preserved
@@ -35,13 +34,12 @@ returns-clause-read g c knows known =
 
 pub returns-in_err-keep_next-clause-error : goal.returns-in_err-keep_next-clause-error
 returns-in_err-keep_next-clause-error g c knows known =
-    let q = err_from_is_err_and c.from_residual.result c.from_residual.ensures.1 in
     let p = c.args.self.now.problem in
     let old = c.loop-passed.derivations in
     let so_far = c.loop-passed.invariant in
     let m = c.in_err-keep_next.field-0.0 in
     let part = so_far.read knows known in
     let size : length c.cons.result.now ≡ length p.constraints = sym (length-map c.cons.result.now _) ∙ ap length c.cons.ensures.constraints in
-    rw (q.1, q.2) (counted_missed p _ _ (rest_of c.args.derivations.now.rest) m
+    err_is c.from_residual.result _ c.from_residual.ensures.1 (counted_missed p _ _ (rest_of c.args.derivations.now.rest) m
     (next_missed (derivation_read p) m part.front _ (rest_of old.rest) _
     (c.in_err-keep_next.ensures.error p (still_knows c.args.derivations.now old p so_far.remembers knows) part.known) part.part (omega arith)) (omega arith))

@@ -1,18 +1,16 @@
 use Rattle.std.proofs.Common.{Ok, subst}
-use Rattle.std.proofs.lemmas.Result.{err_from_is_err_and}
 use Rattle.vipr_spec.specs.Reading.{derivation_read, end_read}
 use Rattle.vipr_cert.specs.Items.{derivation_of}
 use Rattle.vipr_read.specs.Items.{NextIs}
 use Rattle.vipr_explain.proofs.Again.{missed_next}
-use Rattle.vipr_explain.proofs.Lacks.{err_memory}
+use Rattle.vipr_explain.proofs.Lacks.{err_is, err_memory}
 use Rattle.vipr_explain.proofs.Lines.{on_ok}
 use Rattle.vipr_explain.proofs.near.Passed.read_next.Goals as goal
 
 pub returns-in_err-step-clause-error : goal.returns-in_err-step-clause-error
 returns-in_err-step-clause-error g c p knows known =
-    let q = err_from_is_err_and c.from_residual.result c.from_residual.ensures.1 in
     let e = c.in_err-step.field-0.0 in
-    rw (q.1, q.2) (missed_next derivation_of (derivation_read p) end_read c.args.derivations.now c.next.new.self e c.requires.some (c.in_err-step.ensures.read p knows known))
+    err_is c.from_residual.result _ c.from_residual.ensures.1 (missed_next derivation_of (derivation_read p) end_read c.args.derivations.now c.next.new.self e c.requires.some (c.in_err-step.ensures.read p knows known))
 
 pub returns-in-Some-clause-error : goal.returns-in-Some-clause-error
 returns-in-Some-clause-error g c p knows known = err_memory c.pass.result _ c.pass.ensures.error

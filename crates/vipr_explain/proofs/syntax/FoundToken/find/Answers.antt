@@ -1,22 +1,19 @@
 use Rattle.std.proofs.Common.{◌≡◌, true}
 use Rattle.vipr_spec.specs.Tokens.{tokens}
-use Rattle.std.proofs.lemmas.Result.{err_from_is_err_and}
 use Rattle.vipr_explain.specs.Syntax.{IsTokenAt}
 use Rattle.vipr_explain.specs.Words.{AreLeft, IsReading, kept_word}
 use Rattle.vipr_explain.proofs.Finding.{known_at}
-use Rattle.vipr_explain.proofs.Lacks.{if_text, only_given, only_none}
+use Rattle.vipr_explain.proofs.Lacks.{err_is, if_text, only_given, only_none}
 use Rattle.vipr_explain.proofs.syntax.FoundToken.find.Goals as goal
 
 pub returns-in_err-open-clause-error : goal.returns-in_err-open-clause-error
 returns-in_err-open-clause-error g c =
-    let q = err_from_is_err_and c.from_residual.result c.from_residual.ensures.1 in
-    rw (q.1, q.2) (only_none (g.T.Text.input c.args.subject.now.text.now) c.in_err-open.field-0.0 (λ i. i.fails ≡ true) c.in_err-open.ensures.error.1)
+    err_is c.from_residual.result _ c.from_residual.ensures.1 (only_none (g.T.Text.input c.args.subject.now.text.now) c.in_err-open.field-0.0 (λ i. i.fails ≡ true) c.in_err-open.ensures.error.1)
 
 pub returns-in_err-check-clause-error : goal.returns-in_err-check-clause-error
 returns-in_err-check-clause-error g c =
-    let q = err_from_is_err_and c.from_residual-in_err-check.result c.from_residual-in_err-check.ensures.1 in
     let m = c.in_err-check.field-0.0 in
-    rw (q.1, q.2) (only_given (g.T.Text.input c.args.subject.now.text.now) m (λ i. IsReading g.R.Source.input i c.in_ok-open.field-0) (λ i. i.fails ≡ true) c.in_ok-open.ensures.start
+    err_is c.from_residual-in_err-check.result _ c.from_residual-in_err-check.ensures.1 (only_given (g.T.Text.input c.args.subject.now.text.now) m (λ i. IsReading g.R.Source.input i c.in_ok-open.field-0) (λ i. i.fails ≡ true) c.in_ok-open.ensures.start
     (λ i h. if_text m _ (c.in_err-check.ensures.error i (c.in_ok-pass_up_to.ensures.reading i h))))
 
 pub returns-clause-found : goal.returns-clause-found
