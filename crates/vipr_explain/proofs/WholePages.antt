@@ -8,11 +8,13 @@ use Rattle.vipr_spec.specs.Certificate as is
 use Rattle.vipr_spec.specs.Constraint as spec
 use Rattle.vipr_spec.specs.Input.{Input}
 use Rattle.vipr_bytes.specs.Known.{IfKnown, text_of}
+use Rattle.vipr_frac.specs.declared.frac.Frac.{Frac}
 use Rattle.vipr_linear.specs.Constraint.{constraint_of}
 use Rattle.vipr_linear.specs.declared.constraint.Constraint.{Constraint}
 use Rattle.vipr_cert.specs.Items.{named_of}
 use Rattle.vipr_cert.specs.declared.items.Named.{Named}
 use Rattle.vipr_check.specs.declared.detail.Detail.{Detail}
+use Rattle.vipr_check.specs.declared.detail.Detail.TheVariants as detail
 use Rattle.vipr_check.specs.declared.verdict.Report.{Report}
 use Rattle.vipr_check.specs.declared.verdict.Verdict.{Verdict}
 use Rattle.vipr_check.specs.declared.verdict.Verdict.TheVariants.{Verified, Refused}
@@ -24,8 +26,9 @@ use Rattle.vipr_explain.specs.Found.{AreItemsOf, IsListedSolution, OnlyIf}
 use Rattle.vipr_explain.specs.Lacking.{LacksItem}
 use Rattle.vipr_explain.specs.Goals.{goal_line, proved_text}
 use Rattle.vipr_explain.specs.Solutions.{fault_lines, solution_error}
-use Rattle.vipr_explain.specs.Pages.{ExplainsVerdict, IsPageFor, IsRefusalText, IsVerdictPage}
-use Rattle.vipr_explain.specs.Pages.{PutsSome, PutsSomeWith, ShowsWith, not_read, too_long}
+use Rattle.vipr_explain.specs.Pages.{ExplainsVerdict, IsClaimText, IsPageFor, IsRefusalText}
+use Rattle.vipr_explain.specs.Pages.{IsVerdictPage, PutsSome, PutsSomeWith, ShowsWith, not_read}
+use Rattle.vipr_explain.specs.Pages.{too_long}
 use Rattle.vipr_explain.specs.declared.marks.ItemPlace.{ItemPlace}
 use Rattle.vipr_explain.specs.declared.missing.Missing.{Missing}
 use Rattle.vipr_explain.specs.declared.missing.Missing.TheVariants as missing
@@ -123,6 +126,18 @@ solution_lines input file number d problem solution p q s t (Ok u) listed front 
   puts_then front (puts_then place.2 fault.2),
 )
 solution_lines input file number d problem solution p q s t (Err e) listed front place fault = tt
+
+-- no side of the claim is left open
+pub no_claim : (input : Option Input) (d : Detail)
+    → ((goal : Option Constraint) → d ≡ detail.NoProof goal → ⊥)
+    → ((bound : Frac) → d ≡ detail.NoPrimal bound → ⊥) → IsClaimText input d []
+no_claim input (detail.NoProof goal) proof primal = absurd (proof goal refl)
+no_claim input (detail.NoPrimal bound) proof primal = absurd (primal bound refl)
+no_claim input (detail.NotWhole solution variable name value) proof primal = refl
+no_claim input (detail.Breaks solution index name left sense right) proof primal = refl
+no_claim input (detail.SolutionOverflow solution at) proof primal = refl
+no_claim input (detail.Step name what) proof primal = refl
+no_claim input detail.None proof primal = refl
 
 -- the constraint that is false, of the problem's
 pub broken_is : (p : is.Problem) (cons : List (Named Constraint)) (index : ℕ) (c : Named Constraint)

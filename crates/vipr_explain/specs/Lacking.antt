@@ -51,11 +51,7 @@ abbrev pub LacksClaim : Detail → Input → Type 0
 LacksClaim (detail.NoProof goal) i =
     (i.fails ≡ true) ⊎ HasFault (all_derivations_read (text_of i))
 LacksClaim (detail.NoPrimal bound) i = HasFault (all_solutions_read (text_of i))
-LacksClaim (detail.NotWhole solution variable name value) i = ⊥
-LacksClaim (detail.Breaks solution constraint name left sense right) i = ⊥
-LacksClaim (detail.SolutionOverflow solution at) i = ⊥
-LacksClaim (detail.Step name what) i = ⊥
-LacksClaim detail.None i = ⊥
+LacksClaim _ i = ⊥
 
 -- a read fails, or the text has a fault in front of its derivations
 abbrev pub LacksHead : Input → Type 0
@@ -79,12 +75,7 @@ LacksStep index what i = LacksItems (index ∷ []) i ⊎ LacksReadStep index wha
 -- the refused derivation can't be read, or what is shown of it, or what proves the claim
 abbrev pub LacksDerivation : ℕ → Detail → Input → Type 0
 LacksDerivation index (detail.Step name what) i = LacksStep index what i
-LacksDerivation index (detail.NoProof goal) i = LacksClaim (detail.NoProof goal) i
-LacksDerivation index (detail.NoPrimal bound) i = LacksClaim (detail.NoPrimal bound) i
-LacksDerivation index (detail.NotWhole solution variable name value) i = ⊥
-LacksDerivation index (detail.Breaks solution constraint name left sense right) i = ⊥
-LacksDerivation index (detail.SolutionOverflow solution at) i = ⊥
-LacksDerivation index detail.None i = ⊥
+LacksDerivation index d i = LacksClaim d i
 
 -- what is at this place can't be read; about a fault of a text only bytes are read
 abbrev pub LacksPlace : Place → Detail → Input → Type 0

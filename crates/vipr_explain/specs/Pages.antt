@@ -24,25 +24,13 @@ abbrev pub IsClaimText : Option Input → Detail → List ℕ → Type 0
 IsClaimText input (detail.NoProof goal) text =
     IsNoProofText input (option_map constraint_of goal) text
 IsClaimText input (detail.NoPrimal bound) text = IsNoPrimalText input bound text
-IsClaimText input (detail.NotWhole solution variable name value) text = text ≡ []
-IsClaimText input (detail.Breaks solution constraint name left sense right) text = text ≡ []
-IsClaimText input (detail.SolutionOverflow solution at) text = text ≡ []
-IsClaimText input (detail.Step name what) text = text ≡ []
-IsClaimText input detail.None text = text ≡ []
+IsClaimText input _ text = text ≡ []
 
 -- what is said of a refusal at a derivation: of that, or of a claim that nothing proves
 abbrev pub IsTextAt : Option Input → List ℕ → ℕ → ℕ → Detail → List ℕ → Type 0
 IsTextAt input file cause index (detail.Step name what) text =
     IsDerivationText input file cause index what text
-IsTextAt input file cause index (detail.NoProof goal) text =
-    IsClaimText input (detail.NoProof goal) text
-IsTextAt input file cause index (detail.NoPrimal bound) text =
-    IsClaimText input (detail.NoPrimal bound) text
-IsTextAt input file cause index (detail.NotWhole solution variable name value) text = text ≡ []
-IsTextAt input file cause index (detail.Breaks solution constraint name left sense right) text =
-    text ≡ []
-IsTextAt input file cause index (detail.SolutionOverflow solution at) text = text ≡ []
-IsTextAt input file cause index detail.None text = text ≡ []
+IsTextAt input file cause index d text = IsClaimText input d text
 
 -- what is said of a refusal, before the line of its cause
 abbrev pub IsRefusalText : Option Input → List ℕ → ℕ → Place → Detail → List ℕ → Type 0

@@ -148,12 +148,7 @@ fn put_at<T: Text>(
 {
     match detail {
         Detail::Step { what, .. } => put_derivation(page, subject, cause, index, what),
-        Detail::NoProof(goal) => put_no_proof(page, subject, goal.as_ref()),
-        Detail::NoPrimal(bound) => put_no_primal(page, subject, *bound),
-        Detail::NotWhole { .. } => Ok(()),
-        Detail::Breaks { .. } => Ok(()),
-        Detail::SolutionOverflow { .. } => Ok(()),
-        Detail::None => Ok(()),
+        _ => put_claim(page, subject, detail),
     }
 }
 
@@ -171,10 +166,6 @@ fn put_claim<T: Text>(
     match detail {
         Detail::NoProof(goal) => put_no_proof(page, subject, goal.as_ref()),
         Detail::NoPrimal(bound) => put_no_primal(page, subject, *bound),
-        Detail::NotWhole { .. } => Ok(()),
-        Detail::Breaks { .. } => Ok(()),
-        Detail::SolutionOverflow { .. } => Ok(()),
-        Detail::Step { .. } => Ok(()),
-        Detail::None => Ok(()),
+        _ => Ok(()),
     }
 }

@@ -1,19 +1,10 @@
-use Rattle.std.proofs.Common.{◌≡◌, inr, map, option_map, rules, subst, sym}
+use Rattle.std.proofs.Common.{◌≡◌, map, option_map, rules, subst, sym}
 use Rattle.vipr_linear.specs.Constraint.{constraint_of}
 use Rattle.vipr_explain.specs.Near.{AreNearest}
 use Rattle.vipr_explain.specs.Nearing.{near_of}
-use Rattle.vipr_explain.proofs.Lacks.{err_is, only_if}
 use Rattle.vipr_explain.proofs.Nearby.{no_proof_lines}
 use Rattle.vipr_page.proofs.Laws.{puts_same}
 use Rattle.vipr_explain.proofs.goal.put_no_proof.Goals as goal
-
-pub returns-in_err-near-clause-error : goal.returns-in_err-near-clause-error
-returns-in_err-near-clause-error g c =
-    err_is c.from_residual.result _ c.from_residual.ensures.1 (only_if (g.T.Text.input c.args.subject.now.text.now) c.in_err-near.field-0.0 _ _ (λ i h. inr h) c.in_err-near.ensures.error)
-
-pub returns-in_err-known-clause-error : goal.returns-in_err-known-clause-error
-returns-in_err-known-clause-error g c =
-    err_is c.from_residual-in_err-known.result _ c.from_residual-in_err-known.ensures.1 c.in_err-known.ensures.error
 
 pub returns-clause-shown : goal.returns-clause-shown
 returns-clause-shown g c =

@@ -2,10 +2,10 @@ use Rattle.std.proofs.Common.{◌≡◌, Ok, sym}
 use Rattle.std.specs.Option.{IsSome}
 use Rattle.vipr_bytes.specs.Known.{text_of}
 use Rattle.vipr_scan.specs.Giving.{rest_of}
-use Rattle.vipr_explain.specs.Found.{head_read, AreFoundItems, Missed}
+use Rattle.vipr_explain.specs.Found.{head_read, AreFoundItems}
 use Rattle.vipr_explain.proofs.Again.{known_by}
 use Rattle.vipr_explain.proofs.Heads.{are_items}
-use Rattle.vipr_explain.proofs.Lacks.{err_is, head_first_missed, head_then_missed, only_after}
+use Rattle.vipr_explain.proofs.Lacks.{err_is, head_then_missed, only_after}
 use Rattle.vipr_explain.proofs.items.read_items.Goals as goal
 
 pub returns-clause-found : goal.returns-clause-found
@@ -19,11 +19,6 @@ returns-clause-found g c =
     (λ i h. are_items c.args.wanted.now (text_of i) items p d c.keep_wanted.new.derivations (sym c.keep_wanted.ensures.problem) h.0
     (c.in_ok-keep_wanted.ensures.read c.in_ok-problem.ensures.knows h.1))
     c.in_ok-problem.ensures.read
-
-pub returns-in_err-problem-clause-error : goal.returns-in_err-problem-clause-error
-returns-in_err-problem-clause-error g c =
-    let m = c.in_err-problem.field-0.0 in
-    err_is c.from_residual.result _ c.from_residual.ensures.1 (only_after (g.T.Text.input c.args.text.now) m (λ i. Missed m (head_read (text_of i))) _ c.in_err-problem.ensures.read (λ i h. head_first_missed c.args.wanted.now (text_of i) m h))
 
 pub returns-in_err-keep_wanted-clause-error : goal.returns-in_err-keep_wanted-clause-error
 returns-in_err-keep_wanted-clause-error g c =

@@ -5,9 +5,6 @@ use Rattle.vipr_explain.proofs.solution.put_detail.Goals as goal
 pub returns-in-NotWhole-clause-shown : goal.returns-in-NotWhole-clause-shown
 returns-in-NotWhole-clause-shown g c = ([], rw c.in-NotWhole.is refl, rw c.in-NotWhole.is c.put_not_whole.ensures)
 
-pub returns-in-SolutionOverflow-clause-shown : goal.returns-in-SolutionOverflow-clause-shown
-returns-in-SolutionOverflow-clause-shown g c = ([], rw c.in-SolutionOverflow.is refl, rw c.in-SolutionOverflow.is c.put_overflow_at.ensures)
-
 pub returns-in-Step-clause-shown : goal.returns-in-Step-clause-shown
 returns-in-Step-clause-shown g c = ([], rw c.in-Step.is refl, rw c.in-Step.is (puts_none c.args.page.now))
 
@@ -19,6 +16,3 @@ returns-in-NoPrimal-clause-shown g c = ([], rw c.in-NoPrimal.is refl, rw c.in-No
 
 pub returns-in-None-clause-shown : goal.returns-in-None-clause-shown
 returns-in-None-clause-shown g c = ([], rw c.in-None.is refl, rw c.in-None.is (puts_none c.args.page.now))
-
-pub returns-in-Breaks-clause-error : goal.returns-in-Breaks-clause-error
-returns-in-Breaks-clause-error g c = rw c.in-Breaks.is c.put_broken.ensures.error

@@ -1,24 +1,10 @@
-use Rattle.std.proofs.Common.{◌≡◌, [], refl, rules, subst, option_map, IfOk}
+use Rattle.std.proofs.Common.{◌≡◌, [], rules, subst, option_map, IfOk}
 use Rattle.vipr_linear.specs.Constraint.{constraint_of}
 use Rattle.vipr_explain.specs.Near.{IsNoProofText}
 use Rattle.vipr_explain.specs.Pages.{PutsSome}
 use Rattle.vipr_page.proofs.Laws.{puts_none}
+use Rattle.vipr_explain.proofs.WholePages.{no_claim}
 use Rattle.vipr_explain.proofs.whole.put_claim.Goals as goal
-
-pub returns-in-NotWhole-clause-shown : goal.returns-in-NotWhole-clause-shown
-returns-in-NotWhole-clause-shown g c = ([], rw c.in-NotWhole.is refl, puts_none c.args.page.now)
-
-pub returns-in-Breaks-clause-shown : goal.returns-in-Breaks-clause-shown
-returns-in-Breaks-clause-shown g c = ([], rw c.in-Breaks.is refl, puts_none c.args.page.now)
-
-pub returns-in-SolutionOverflow-clause-shown : goal.returns-in-SolutionOverflow-clause-shown
-returns-in-SolutionOverflow-clause-shown g c = ([], rw c.in-SolutionOverflow.is refl, puts_none c.args.page.now)
-
-pub returns-in-Step-clause-shown : goal.returns-in-Step-clause-shown
-returns-in-Step-clause-shown g c = ([], rw c.in-Step.is refl, puts_none c.args.page.now)
-
-pub returns-in-None-clause-shown : goal.returns-in-None-clause-shown
-returns-in-None-clause-shown g c = ([], rw c.in-None.is refl, puts_none c.args.page.now)
 
 pub returns-in-NoProof-clause-shown : goal.returns-in-NoProof-clause-shown
 returns-in-NoProof-clause-shown g c =
@@ -33,3 +19,9 @@ returns-in-NoPrimal-clause-shown g c = rw c.in-NoPrimal.is c.put_no_primal.ensur
 
 pub returns-in-NoPrimal-clause-error : goal.returns-in-NoPrimal-clause-error
 returns-in-NoPrimal-clause-error g c = rw c.in-NoPrimal.is c.put_no_primal.ensures.error
+
+pub returns-in_default : goal.returns-in_default
+returns-in_default g c = record {
+  shown = ([], no_claim (g.T.Text.input c.args.subject.now.text.now) c.args.detail.now c.in_default.not-NoProof c.in_default.not-NoPrimal, puts_none c.args.page.now);
+  error = tt;
+}
