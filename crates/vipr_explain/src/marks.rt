@@ -3,12 +3,12 @@ ghost use Rattle.std.specs.Prelude.{◌≡◌, ◌<◌, ◌^◌, ℕ, List, true
 ghost use Rattle.std.specs.Prelude.{IfErr, IfOk, OnOk};
 ghost use Rattle.vipr_spec.specs.Input.{Input};
 ghost use Rattle.vipr_spec.specs.Tokens.{Token};
+ghost use Rattle.vipr_bytes.specs.Known.{IfKnown};
 ghost use Rattle.vipr_explain.specs.Found.{OnlyIf};
 ghost use Rattle.vipr_explain.specs.Listed.{place_found};
-ghost use Rattle.vipr_explain.specs.Marked.{AreMarksOf, IsMarkOf, has_constraints};
-ghost use Rattle.vipr_explain.specs.Marked.{is_behind_solutions, is_name_of, is_past, is_past_head};
-ghost use Rattle.vipr_explain.specs.Marked.{mark_at, marked, marked_at, marks_from, solution_from};
-ghost use Rattle.vipr_explain.specs.Marked.{with_last};
+ghost use Rattle.vipr_explain.specs.Marked.{AreMarksOf, IsMarkOf, is_behind, is_of, is_past};
+ghost use Rattle.vipr_explain.specs.Marked.{is_past_head, mark_at, marked, marked_at, marks_from};
+ghost use Rattle.vipr_explain.specs.Marked.{marks_in, with_last};
 ghost use Rattle.vipr_explain.specs.Progress.{at_start, index_of};
 ghost use Rattle.vipr_explain.specs.Words.{AreLeft, IsReading, IsReadWhole, kept_token};
 
@@ -19,6 +19,36 @@ use crate::wanted::{Section, TextProgress, Wanted};
 use crate::words::Words;
 use std::alloc::{AllocError, Global};
 use vipr_bytes::Source;
+
+/// The items that are looked for: constraints, of the problem or derived, or solutions.
+#[derive(Clone, Copy)]
+enum ItemSort {
+    Constraints,
+    Solutions,
+}
+
+impl ItemSort {
+    // Whether the items of a section are of this kind.
+    fn is_of(self, section: Section) -> bool
+        ensures { result ≡ is_of self section }
+    {
+        match (self, section) {
+            (ItemSort::Constraints, Section::Constraints | Section::Derivations) => true,
+            (ItemSort::Solutions, Section::Solutions) => true,
+            _ => false,
+        }
+    }
+
+    // Whether a section is behind all items of this kind.
+    fn is_behind(self, section: Section) -> bool
+        ensures { result ≡ is_behind self section }
+    {
+        match (self, section) {
+            (ItemSort::Solutions, Section::Derivations) => true,
+            _ => false,
+        }
+    }
+}
 
 /// The place of an item's name and of its last reference.
 #[derive(Clone, Copy)]
@@ -39,40 +69,10 @@ pub(crate) fn find_constraints<T: Text>(
     ensures found { IfOk result (λ marks. AreMarksOf (T.input text.now) wanted.now marks.items) }
     ensures error { IfErr result (OnlyIf (T.input text.now) (λ i. i.fails ≡ true)) }
 {
-    let mut words = Words::<T::Reader>::open(alloc, text)?;
-    let mut marks = Vec::new(alloc);
-    mark_constraints(&mut words, &mut marks, wanted)?;
-    words.check()?;
-    Ok(marks)
+    find_items(alloc, text, ItemSort::Constraints, wanted)
 }
 
-// Marks constraints, up to the greatest index.
-fn mark_constraints<R: Source + Drop>(
-    words: &mut Words<R>,
-    marks: &mut Vec<ItemPlace>,
-    wanted: &[u32],
-) -> Result<(), Missing>
-    ensures reading { (i : Input) → IsReading R.input i words.old
-        → IsReading R.input i words.new }
-    ensures marked { (i : Input) (ts : List Token) → length i.bytes < 2 ^ 64
-        → AreLeft R.input i ts words.old → IsReadWhole words.new
-        → OnOk result (marks.new.items
-        ≡ marks_from wanted.now at_start marks.old.items (map (kept_token i) ts)) }
-    ensures error { IfErr result (λ m. m ≡ Missing.Memory) }
-{
-    let mut progress = TextProgress::start();
-    let end = greatest(wanted);
-    for _ in 0..u64::MAX {
-        if is_past(&progress, end) || !words.next() {
-            return Ok(());
-        }
-        mark(marks, wanted, &progress, words.spot(), words.size())?;
-        progress.pass(words.word());
-    }
-    Err(Missing::Memory)
-}
-
-/// The place of a solution's name.
+/// The place of a solution by its number.
 pub(crate) fn find_solution<T: Text>(
     alloc: Global,
     text: &T,
@@ -81,57 +81,53 @@ pub(crate) fn find_solution<T: Text>(
     ensures found { IfOk result (IsMarkOf (T.input text.now) number) }
     ensures error { IfErr result (OnlyIf (T.input text.now) (λ i. i.fails ≡ true)) }
 {
-    let mut words = Words::<T::Reader>::open(alloc, text)?;
-    let mark = mark_solution(&mut words, number)?;
-    words.check()?;
-    Ok(mark)
+    let marks = find_items(alloc, text, ItemSort::Solutions, [number].as_slice())?;
+    Ok(mark_of(marks.as_slice(), number))
 }
 
-// The same by a reader at the start of the text.
-fn mark_solution<R: Source + Drop>(
+// The places of items of a kind by their indices.
+fn find_items<T: Text>(
+    alloc: Global,
+    text: &T,
+    kind: ItemSort,
+    wanted: &[u32],
+) -> Result<Vec<ItemPlace>, Missing>
+    ensures found { IfOk result (λ marks. IfKnown (T.input text.now)
+        (λ i. marks.items ≡ marks_in kind wanted.now i)) }
+    ensures error { IfErr result (OnlyIf (T.input text.now) (λ i. i.fails ≡ true)) }
+{
+    let mut words = Words::<T::Reader>::open(alloc, text)?;
+    let mut marks = Vec::new(alloc);
+    mark_items(&mut words, &mut marks, kind, wanted)?;
+    words.check()?;
+    Ok(marks)
+}
+
+// Marks items of a kind, up to the greatest index.
+fn mark_items<R: Source + Drop>(
     words: &mut Words<R>,
-    number: u32,
-) -> Result<Option<ItemPlace>, Missing>
+    marks: &mut Vec<ItemPlace>,
+    kind: ItemSort,
+    wanted: &[u32],
+) -> Result<(), Missing>
     ensures reading { (i : Input) → IsReading R.input i words.old
         → IsReading R.input i words.new }
-    ensures found { (i : Input) (ts : List Token) → length i.bytes < 2 ^ 64
+    ensures marked { (i : Input) (ts : List Token) → length i.bytes < 2 ^ 64
         → AreLeft R.input i ts words.old → IsReadWhole words.new
-        → IfOk result (λ mark. mark
-        ≡ solution_from number at_start (map (kept_token i) ts)) }
+        → OnOk result (marks.new.items
+        ≡ marks_from kind wanted.now at_start marks.old.items (map (kept_token i) ts)) }
     ensures error { IfErr result (λ m. m ≡ Missing.Memory) }
 {
     let mut progress = TextProgress::start();
+    let end = greatest(wanted);
     for _ in 0..u64::MAX {
-        if is_behind_solutions(progress.section) || !words.next() {
-            return Ok(None);
+        if is_past(kind, &progress, end) || !words.next() {
+            return Ok(());
         }
-        if is_name_of(&progress, number) {
-            return Ok(Some(mark_at(&progress, words.spot(), words.size())));
-        }
+        mark(marks, kind, wanted, &progress, words.spot(), words.size())?;
         progress.pass(words.word());
     }
     Err(Missing::Memory)
-}
-
-// Whether all solutions were passed.
-fn is_behind_solutions(section: Section) -> bool
-    ensures { result ≡ is_behind_solutions section }
-{
-    match section {
-        Section::Derivations => true,
-        _ => false,
-    }
-}
-
-// Whether the name of the solution of this number is wanted.
-fn is_name_of(progress: &TextProgress, number: u32) -> bool
-    ensures { result
-        ≡ is_name_of progress.now.section progress.now.wanted progress.now.item number }
-{
-    match (progress.section, progress.wanted) {
-        (Section::Solutions, Wanted::Name) => progress.item == number,
-        _ => false,
-    }
 }
 
 /// The mark of a constraint among others.
@@ -151,18 +147,19 @@ fn marked(marks: &[ItemPlace], index: u32) -> Option<&ItemPlace>
     marks.iter().find(|mark| mark.index == index)
 }
 
-// Marks the constraint whose token this is, if it is wanted.
+// Marks the item whose token this is, if it is of this kind and wanted.
 fn mark(
     marks: &mut Vec<ItemPlace>,
+    kind: ItemSort,
     wanted: &[u32],
     progress: &TextProgress,
     spot: Spot,
     size: usize,
 ) -> Result<(), AllocError>
     ensures { OnOk result
-        (marks.new.items ≡ marked wanted.now progress.now spot size marks.old.items) }
+        (marks.new.items ≡ marked kind wanted.now progress.now spot size marks.old.items) }
 {
-    if has_constraints(progress.section) && wanted.contains(&progress.index()) {
+    if kind.is_of(progress.section) && wanted.contains(&progress.index()) {
         mark_part(marks, progress, spot, size)?;
     }
     Ok(())
@@ -209,21 +206,12 @@ fn mark_at(progress: &TextProgress, spot: Spot, size: usize) -> ItemPlace
     }
 }
 
-// Whether the items of a section are constraints, of the problem or derived.
-fn has_constraints(section: Section) -> bool
-    ensures { result ≡ has_constraints section }
+// Whether no item of this kind up to this index is to come.
+fn is_past(kind: ItemSort, progress: &TextProgress, end: u32) -> bool
+    ensures { result ≡ is_past kind progress.now end }
 {
-    match section {
-        Section::Constraints | Section::Derivations => true,
-        _ => false,
-    }
-}
-
-// Whether no constraint up to this index is to come.
-fn is_past(progress: &TextProgress, end: u32) -> bool
-    ensures { result ≡ is_past progress.now end }
-{
-    is_past_head(progress.wanted) && has_constraints(progress.section) && progress.index() > end
+    kind.is_behind(progress.section)
+        || is_past_head(progress.wanted) && kind.is_of(progress.section) && progress.index() > end
 }
 
 // Whether this is a part of an item, or wanted behind the last one.

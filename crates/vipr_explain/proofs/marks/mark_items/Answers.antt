@@ -2,9 +2,9 @@ use Rattle.std.proofs.Common.{sym, subst, ap, ◌∙◌}
 use Rattle.vipr_explain.specs.Marked.{is_past}
 use Rattle.vipr_explain.specs.Words.{IsReading, IsReadWhole, ReadsToken}
 use Rattle.vipr_explain.proofs.Marking.{all_marks, next_mark, no_more_marks}
-use Rattle.vipr_explain.proofs.marks.mark_constraints.Goals as goal
-use Rattle.vipr_explain.proofs.marks.mark_constraints.Goals.{then-is_past-via-then-is_past}
-use Rattle.vipr_explain.proofs.marks.mark_constraints.Goals.{then-is_past-via-else-is_past+then-not-next}
+use Rattle.vipr_explain.proofs.marks.mark_items.Goals as goal
+use Rattle.vipr_explain.proofs.marks.mark_items.Goals.{then-is_past-via-then-is_past}
+use Rattle.vipr_explain.proofs.marks.mark_items.Goals.{then-is_past-via-else-is_past+then-not-next}
 
 pub returns-then-is_past-clause-reading : goal.returns-then-is_past-clause-reading
 returns-then-is_past-clause-reading g c i h =
@@ -21,12 +21,12 @@ returns-then-is_past-clause-marked g c i ts short left whole =
     elim c.then-is_past.branch [
       | then-is_past-via-then-is_past w ↦
           let so_far = c.loop.invariant.marked i ts short left (subst (λ x. IsReadWhole x) w.words-is whole) in
-          no_more_marks input i c.args.wanted.now _ p c.loop.marks.items c.loop.words so_far (ap (is_past p) (sym c.greatest-end.ensures) ∙ sym c.is_past.ensures ∙ w.if-is_past.true)
+          no_more_marks input i c.args.kind c.args.wanted.now _ p c.loop.marks.items c.loop.words so_far (ap (is_past c.args.kind p) (sym c.greatest-end.ensures) ∙ sym c.is_past.ensures ∙ w.if-is_past.true)
       | then-is_past-via-else-is_past+then-not-next w ↦
           let here = subst (λ x. IsReadWhole x) w.words-is whole in
           let so_far = c.loop.invariant.marked i ts short left (w.next.ensures.whole here) in
           let none = subst (λ b. ReadsToken input i so_far.others w.next.new.self b) w.if-not-next.true (w.next.ensures.token i so_far.others short so_far.left here) in
-          all_marks input i c.args.wanted.now _ p c.loop.marks.items c.loop.words so_far none
+          all_marks input i c.args.kind c.args.wanted.now _ p c.loop.marks.items c.loop.words so_far none
     ]
 
 pub loop-preserved : goal.loop-preserved
@@ -39,7 +39,7 @@ loop-preserved g c =
       marked = λ i ts short left whole.
           let so_far = c.loop.invariant.marked i ts short left (c.next.ensures.whole whole) in
           let gives = subst (λ b. ReadsToken input i so_far.others new b) c.if-not-next.false (c.next.ensures.token i so_far.others short so_far.left whole) in
-          let goes = ap (is_past p) (sym c.greatest-end.ensures) ∙ sym c.is_past.ensures ∙ c.if-is_past.false in
-          let next = next_mark input i c.args.wanted.now _ p c.loop.marks.items c.loop.words new so_far goes gives in
+          let goes = ap (is_past c.args.kind p) (sym c.greatest-end.ensures) ∙ sym c.is_past.ensures ∙ c.if-is_past.false in
+          let next = next_mark input i c.args.kind c.args.wanted.now _ p c.loop.marks.items c.loop.words new so_far goes gives in
           rw (c.pass.ensures, c.word.ensures, c.in_ok-mark.ensures, c.spot.ensures, c.size.ensures) next;
     }
