@@ -317,24 +317,24 @@ fn sum_by_parts(a: Frac, b: Frac) -> Result<Frac, Overflow>
 
 // The parts of two fractions, without what divides a numerator and the other denominator.
 #[inline(always)]
-fn crossed(a: Frac, b: Frac) -> (i128, u128, i128, u128)
-    ensures above { result.0 *ℤ result.2 ≡ product_numer a b }
-    ensures below { result.1 * result.3 ≡ product_denom a b }
+fn crossed(a: Frac, b: Frac) -> (i128, i128, u128, u128)
+    ensures above { result.0 *ℤ result.1 ≡ product_numer a b }
+    ensures below { result.2 * result.3 ≡ product_denom a b }
     ensures left { FitsSigned w128 result.0 }
-    ensures right { FitsSigned w128 result.2 }
+    ensures right { FitsSigned w128 result.1 }
 {
     let (p, q) = a.parts();
     let (r, s) = b.parts();
     let g = gcd_of(p.unsigned_abs(), s);
     let h = gcd_of(r.unsigned_abs(), q);
-    (divided(p, g), quotient(q, h), divided(r, h), quotient(s, g))
+    (divided(p, g), divided(r, h), quotient(q, h), quotient(s, g))
 }
 
 fn product_by_parts(a: Frac, b: Frac) -> Result<Frac, Overflow>
     ensures fits { IsOk result ↔ ProductFits a b }
     ensures value { IfOk result (λ f. f ≡ a *ℚ b) }
 {
-    let (p, q, r, s) = crossed(a, b);
+    let (p, r, q, s) = crossed(a, b);
     let above = bounded_product(p, r)?;
     let below = bounded_denominator(q, s)?;
     Ok(of_parts(above, below))
@@ -395,7 +395,7 @@ fn small_product(a: Frac, b: Frac) -> Frac
     ensures fits { ProductFits a b }
     ensures value { result ≡ a *ℚ b }
 {
-    let (p, q, r, s) = crossed(a, b);
+    let (p, r, q, s) = crossed(a, b);
     of_parts(p * r, q * s)
 }
 

@@ -21,7 +21,7 @@ returns-in_err-below-clause-fits c = (
 )
 
 module _ (c : In_ok-below) where
-  numer_is : to_z w128 (of_z w128 c.crossed-p.result.0) *ℤ to_z w128 (of_z w128 c.crossed-p.result.2) ≡ product_numer c.args.a c.args.b
+  numer_is : to_z w128 (of_z w128 c.crossed-p.result.0) *ℤ to_z w128 (of_z w128 c.crossed-p.result.1) ≡ product_numer c.args.a c.args.b
   numer_is = words_times _ _ _ c.crossed-p.ensures.left c.crossed-p.ensures.right c.crossed-p.ensures.above
 
   fits : FitsProduct c.args.a c.args.b

@@ -10,10 +10,10 @@ use Rattle.vipr_frac.proofs.frac.small_product.Goals as goal
 use Rattle.vipr_frac.proofs.frac.small_product.Goals.{After-crossed-p}
 
 module _ (c : After-crossed-p) where
-  numer_is : to_z w128 (of_z w128 c.crossed-p.result.0) *ℤ to_z w128 (of_z w128 c.crossed-p.result.2) ≡ product_numer c.args.a c.args.b
+  numer_is : to_z w128 (of_z w128 c.crossed-p.result.0) *ℤ to_z w128 (of_z w128 c.crossed-p.result.1) ≡ product_numer c.args.a c.args.b
   numer_is = words_times _ _ _ c.crossed-p.ensures.left c.crossed-p.ensures.right c.crossed-p.ensures.above
 
-  p_is : to_z w128 (of_z w128 (to_z w128 (of_z w128 c.crossed-p.result.0) *ℤ to_z w128 (of_z w128 c.crossed-p.result.2))) ≡ product_numer c.args.a c.args.b
+  p_is : to_z w128 (of_z w128 (to_z w128 (of_z w128 c.crossed-p.result.0) *ℤ to_z w128 (of_z w128 c.crossed-p.result.1))) ≡ product_numer c.args.a c.args.b
   p_is = ap (λ z. to_z w128 (of_z w128 z)) numer_is ∙ as-is _ (product_numer_small c.args.a c.args.b c.requires.left c.requires.right)
 
 pub overflow_mul-p : goal.overflow_mul-p
