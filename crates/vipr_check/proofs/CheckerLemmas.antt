@@ -160,13 +160,16 @@ pub unstopped : (v w : State) (x : Unit {0}) → v ≡ w → MatchOption w.halt
     (λ h. ◌≡◌ {A = Result (Unit {0}) Stop} (Ok x) (Err (later_answer h))) → v.halt ≡ None
 unstopped v w x is runs = ap (λ (s : State). s.halt) is ∙ runs_of w.halt x runs
 
-pub reached_next : (k new : Progress) (b : Bool) (halt : Option Halt) (d : Derivation)
-    → halt ≡ None → b ≡ false → IsReached k b halt
-    → ((c : Certificate) → HasSteps c k → HasSteps (with_next c d) new) → IsReached new b halt
-reached_next k new b halt d none phase is next = record {
-  solutions = λ n e. absurd (cc (phase, e));
+pub reached_next : (v w : State) (new : Progress) (x : Unit {0}) (d : Derivation) → v ≡ w
+    → MatchOption w.halt (◌≡◌ {A = Result (Unit {0}) Stop} (Ok x) (Ok tt))
+    (λ h. ◌≡◌ {A = Result (Unit {0}) Stop} (Ok x) (Err (later_answer h))) → w.in_solutions ≡ false
+    → IsReached v.progress v.in_solutions v.halt
+    → ((c : Certificate) → HasSteps c v.progress → HasSteps (with_next c d) new)
+    → IsReached new v.in_solutions v.halt
+reached_next v w new x d same runs phase is next = record {
+  solutions = λ n e. absurd (let now = ap (λ (s : State). s.in_solutions) same in cc (now, phase, e));
   steps = λ n e. (let r = is.steps n e in (with_next r.0 d, next r.0 r.1));
-  shows = subst (CanShowHalt new.problem) (sym none) tt;
+  shows = subst (CanShowHalt new.problem) (sym (unstopped v w x same runs)) tt;
 }
 
 pub halts_at_step : (v w : State) (k : Progress) (o : Option Halt) (h : Halt) (a : Stop) (n : ℕ)

@@ -18,7 +18,7 @@ use Rattle.clap.specs.Words.{subcommand_rows_of, takes}
 use Rattle.clap.specs.declared.parser.matches.ArgMatches.{ArgMatches}
 use Rattle.clap.specs.declared.parser.matches.ArgMatches.TheViews.{out-ArgMatches}
 use Rattle.std.specs.Str.{bytes_eq}
-use Rattle.vipr_command.proofs.HelpLemmas.{NotHelp, met_help, never_met}
+use Rattle.vipr_command.proofs.HelpLemmas.{NotHelp, first_none, later_none, met_help, never_met}
 use Rattle.vipr_rules.specs.declared.profile.Profile.{Profile}
 use Rattle.vipr_command.specs.Args.{are_accepted, request_of, asked_by, command_word, file_named}
 use Rattle.vipr_command.specs.Args.{form_asked, is_long_asked, line, names_profile, profile_named}
@@ -40,14 +40,6 @@ pub handed_on : {T E : Type 0} (r : Result T E) (e : E) (P : E → Type 0) → I
     → P e → IfErr r P
 handed_on (Ok x) e P h p = absurd h
 handed_on (Err y) e P h p = subst P (sym h) p
-
-first_none : (a b : Kinds) → or_else a b ≡ [] → a ≡ []
-first_none [] b h = refl
-first_none (k ∷ ks) b h = cc
-
-later_none : (a b : Kinds) → or_else a b ≡ [] → b ≡ []
-later_none [] b h = h
-later_none (k ∷ ks) b h = cc
 
 required : (rows : List Row) (b : Bool) → check_fault (built line).top rows b ≡ [] → b ≡ true
 unfolding line

@@ -16,6 +16,15 @@ use Rattle.clap.specs.Walk.{subcommand, subcommand_met, subcommand_or_other, to_
 use Rattle.clap.specs.Walk.{trailing, value, walked, word_met, done, waits, plain, refused}
 use Rattle.clap.specs.Walk.{arg_by_long}
 
+-- where two tests find no fault, each finds none
+pub first_none : (a b : Kinds) → or_else a b ≡ [] → a ≡ []
+first_none [] b e = refl
+first_none (k ∷ ks) b e = cc
+
+pub later_none : (a b : Kinds) → or_else a b ≡ [] → b ≡ []
+later_none [] b e = e
+later_none (k ∷ ks) b e = cc
+
 -- a walk that stopped didn't stop at `help`
 abbrev pub NotHelp : Option (Text × List Text) → Type 0
 NotHelp None = ⊤
@@ -67,14 +76,6 @@ module _ (s : Shape) (names : Names) (enabled : s.disable_help_subcommand ≡ fa
   word_fine true waiting position word h e = tt
   word_fine false waiting position word h e = met_fine (subcommand_met names waiting word) waiting position word h e
 
-  first_of : (a b : Kinds) → or_else a b ≡ [] → a ≡ []
-  first_of [] b e = refl
-  first_of (k ∷ ks) b e = cc
-
-  later_of : (a b : Kinds) → or_else a b ≡ [] → b ≡ []
-  later_of [] b e = e
-  later_of (k ∷ ks) b e = cc
-
   abbrev at : Held → Waiting → ℕ → Bool → Option (Text × List Text) → Walk
   at h waiting position is_trailing stopped = record { held = h; waiting = waiting; position = position; is_trailing = is_trailing; stopped = stopped }
 
@@ -97,10 +98,10 @@ module _ (s : Shape) (names : Names) (enabled : s.disable_help_subcommand ≡ fa
       let before : Walk = at h waiting position is_trailing None in
       let met = word_met s.rules names is_trailing waiting position word h in
       let after = after_step s.rules word before met.0 met.1 in
-      let turn : turn_fault s names before word ≡ [] = first_of (turn_fault s names before word) _ e in
-      let none : word_fault s names is_trailing waiting word h ≡ [] = first_of (word_fault s names is_trailing waiting word h) _ turn in
+      let turn : turn_fault s names before word ≡ [] = first_none (turn_fault s names before word) _ e in
+      let none : word_fault s names is_trailing waiting word h ≡ [] = first_none (word_fault s names is_trailing waiting word h) _ turn in
       never_met after.held after.waiting after.position after.is_trailing after.stopped rest
-      (step_fine word before met.0 met.1 tt (word_fine is_trailing waiting position word h none)) (later_of (turn_fault s names before word) _ e)
+      (step_fine word before met.0 met.1 tt (word_fine is_trailing waiting position word h none)) (later_none (turn_fault s names before word) _ e)
 
 -- what `help` answers to is `help`
 pub met_help : (word : Text) → answers_to word (codes "help", []) ≡ true

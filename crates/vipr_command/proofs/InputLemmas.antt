@@ -2,15 +2,9 @@
 use Rattle.std.proofs.Common.{◌≡◌, ℕ, Option, Some, None, Result, Ok, Err, subst, sym}
 use Rattle.std.specs.Prelude.{IsErrAnd}
 use Rattle.vipr_spec.specs.Input.{Input}
-use Rattle.vipr_bytes.specs.Known.{IfKnown}
+use Rattle.vipr_read.proofs.Laws.{known_by as if_known}
 use Rattle.vipr_command.specs.declared.fault.CommandFault.{CommandFault}
 use Rattle.vipr_command.specs.Run.{KnownInput, OfInput, known_by, unknown_input}
-
--- what is so of each input is so of the one that is known
-pub if_known : (source : Option Input) (P Q : Input → Type 0) → ((i : Input) → P i → Q i)
-    → IfKnown source P → IfKnown source Q
-if_known None P Q given h = tt
-if_known (Some i) P Q given h = λ short. given i (h short)
 
 -- what follows whatever is known of the input
 pub of_input : (source : Option Input) (P Q : KnownInput → Type 0) → ((k : KnownInput) → P k → Q k)

@@ -35,19 +35,17 @@ out_rule = record (new_rule (codes "out")) {
   value_names = 1;
 }
 
+-- a flag of this name
+abbrev pub flag_rule : Text → Rule
+flag_rule name = record (new_rule name) { long = Some name; action = Some SetTrue }
+
 -- `[--compact]`
 abbrev pub compact_rule : Rule
-compact_rule = record (new_rule (codes "compact")) {
-  long = Some (codes "compact");
-  action = Some SetTrue;
-}
+compact_rule = flag_rule (codes "compact")
 
 -- `[--long]`
 abbrev pub long_rule : Rule
-long_rule = record (new_rule (codes "long")) {
-  long = Some (codes "long");
-  action = Some SetTrue;
-}
+long_rule = flag_rule (codes "long")
 
 abbrev pub command_word : Task → Text
 command_word Check = codes "check"

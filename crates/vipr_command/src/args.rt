@@ -5,8 +5,8 @@ ghost use Rattle.clap.specs.Words.{FailsBy, app_of, kind_of, new_app, rule_of, w
 ghost use Rattle.clap.specs.Words.{with_subcommand};
 ghost use Rattle.clap.specs.declared.builder.command.Command.TheViews.{out-Command as fields_of};
 ghost use Rattle.vipr_command.specs.Args.{are_accepted, request_of, asked_by, bare, command_word};
-ghost use Rattle.vipr_command.specs.Args.{compact_rule, file_named, file_rule, form_asked};
-ghost use Rattle.vipr_command.specs.Args.{is_long_asked, line, long_rule};
+ghost use Rattle.vipr_command.specs.Args.{compact_rule, file_named, file_rule, flag_rule};
+ghost use Rattle.vipr_command.specs.Args.{form_asked, is_long_asked, line, long_rule};
 ghost use Rattle.vipr_command.specs.Args.{out_rule, profile_named, profile_rule, words_fault};
 ghost use Rattle.vipr_command.specs.declared.request.Task.{Task};
 
@@ -250,7 +250,8 @@ fn explaining<'a>(
         long_rule) }
     ensures local { IfOk result (λ c. (fields_of c).has_globals ≡ false) }
 {
-    checking_command(alloc, name, about, example)?.arg(long(alloc))
+    let long = flag(alloc, "long", "Adds an explanation for people");
+    checking_command(alloc, name, about, example)?.arg(long)
 }
 
 /// A subcommand that reads FILE, takes a profile, and writes to OUT a text in either form.
@@ -304,18 +305,20 @@ fn compact<'a>(alloc: Global) -> Arg<'a>
     ensures rule { rule_of result ≡ compact_rule }
     ensures local { result.global ≡ false }
 {
-    Arg::new(alloc, "compact")
-        .long("compact")
-        .action(ArgAction::SetTrue)
-        .help("Writes OBJ for rows that are the objective's")
+    flag(
+        alloc,
+        "compact",
+        "Writes OBJ for rows that are the objective's",
+    )
 }
 
-fn long<'a>(alloc: Global) -> Arg<'a>
-    ensures rule { rule_of result ≡ long_rule }
+/// A flag of this name.
+fn flag<'a>(alloc: Global, name: &'a str, help: &'a str) -> Arg<'a>
+    ensures rule { rule_of result ≡ flag_rule name.entry.now }
     ensures local { result.global ≡ false }
 {
-    Arg::new(alloc, "long")
-        .long("long")
+    Arg::new(alloc, name)
+        .long(name)
         .action(ArgAction::SetTrue)
-        .help("Adds an explanation for people")
+        .help(help)
 }

@@ -84,6 +84,18 @@ module _ (x y : ℚ) (a : IsSmall x) (b : IsSmall y) where
 pub word_fits : (z : ℤ) → unsigned_abs z ≤ most → FitsSigned w128 z
 word_fits z h = fits_signed_from_abs w128 z (omega arith)
 
+-- ---- a numerator times what is left of a denominator, as words
+
+module _ (p z : ℤ) (t n : ℕ) (p_is : to_z w128 (of_z w128 p) ≡ z) (t_is : t ≡ n) (low : n < 2 ^ 63) (small : unsigned_abs (z *ℤ pos n) ≤ edge) where
+  term_now : to_z w128 (of_z w128 p) *ℤ to_z w128 t ≡ z *ℤ pos n
+  term_now = rw (p_is, as-is (pos t) (in_bound t (let h : t < 2 ^ 63 = rw t_is low in omega arith)), t_is)
+
+  term_fits : FitsSigned w128 (to_z w128 (of_z w128 p) *ℤ to_z w128 t)
+  term_fits = rw term_now (word_fits _ (in_bound _ small))
+
+  term_back : to_z w128 (of_z w128 (to_z w128 (of_z w128 p) *ℤ to_z w128 t)) ≡ z *ℤ pos n
+  term_back = ap (λ w. to_z w128 (of_z w128 w)) term_now ∙ as-is _ (in_bound _ small)
+
 -- ---- the steps of a sum
 module _ (x y : ℚ) (a : IsSmall x) (b : IsSmall y) (p r : ℤ) (q s g : ℕ) (p_is : to_z w128 (of_z w128 p) ≡ x.numer) (r_is : to_z w128 (of_z w128 r) ≡ y.numer) (q_is : q ≡ x.denom) (s_is : s ≡ y.denom) (g_value : g ≡ gcd q s) where
   pub g_is : g ≡ gcd x.denom y.denom
@@ -93,36 +105,19 @@ module _ (x y : ℚ) (a : IsSmall x) (b : IsSmall y) (p r : ℤ) (q s g : ℕ) (
     t_is : t ≡ y.denom / gcd x.denom y.denom
     t_is = t_value ∙ rw (s_is, g_is)
 
-    t_back : to_z w128 t ≡ pos t
-    t_back = as-is (pos t) (in_bound t (let h : t < 2 ^ 63 = rw t_is (quotient_below y.denom _ b.denom) in omega arith))
-
-    left_now : to_z w128 (of_z w128 p) *ℤ to_z w128 t ≡ left_part x y
-    left_now = rw (p_is, t_back, t_is)
-
     pub left_fits : FitsSigned w128 (to_z w128 (of_z w128 p) *ℤ to_z w128 t)
-    left_fits = rw left_now (word_fits _ (in_bound _ (left_small x y a b)))
-
-    left_back : to_z w128 (of_z w128 (to_z w128 (of_z w128 p) *ℤ to_z w128 t)) ≡ left_part x y
-    left_back = ap (λ z. to_z w128 (of_z w128 z)) left_now ∙ as-is _ (in_bound _ (left_small x y a b))
+    left_fits = term_fits p x.numer t _ p_is t_is (quotient_below y.denom _ b.denom) (left_small x y a b)
 
     module _ (u : ℕ) (u_value : u ≡ q / g) where
       u_is : u ≡ x.denom / gcd x.denom y.denom
       u_is = u_value ∙ rw (q_is, g_is)
 
-      u_back : to_z w128 u ≡ pos u
-      u_back = as-is (pos u) (in_bound u (let h : u < 2 ^ 63 = rw u_is (quotient_below x.denom _ a.denom) in omega arith))
-
-      right_now : to_z w128 (of_z w128 r) *ℤ to_z w128 u ≡ right_part x y
-      right_now = rw (r_is, u_back, u_is)
-
       pub right_fits : FitsSigned w128 (to_z w128 (of_z w128 r) *ℤ to_z w128 u)
-      right_fits = rw right_now (word_fits _ (in_bound _ (right_small x y a b)))
-
-      right_back : to_z w128 (of_z w128 (to_z w128 (of_z w128 r) *ℤ to_z w128 u)) ≡ right_part x y
-      right_back = ap (λ z. to_z w128 (of_z w128 z)) right_now ∙ as-is _ (in_bound _ (right_small x y a b))
+      right_fits = term_fits r y.numer u _ r_is u_is (quotient_below x.denom _ a.denom) (right_small x y a b)
 
       both_now : to_z w128 (of_z w128 (to_z w128 (of_z w128 p) *ℤ to_z w128 t)) +ℤ to_z w128 (of_z w128 (to_z w128 (of_z w128 r) *ℤ to_z w128 u)) ≡ both_parts x y
-      both_now = rw (left_back, right_back)
+      both_now =
+          rw (term_back p x.numer t _ p_is t_is (quotient_below y.denom _ b.denom) (left_small x y a b), term_back r y.numer u _ r_is u_is (quotient_below x.denom _ a.denom) (right_small x y a b))
 
       pub both_fits : FitsSigned w128 (to_z w128 (of_z w128 (to_z w128 (of_z w128 p) *ℤ to_z w128 t)) +ℤ to_z w128 (of_z w128 (to_z w128 (of_z w128 r) *ℤ to_z w128 u)))
       both_fits = rw both_now (word_fits _ (both_small x y a b))

@@ -1,6 +1,7 @@
 -- The steps of a sum and a product give the sum and the product.
-use Rattle.std.proofs.Common.{◌≡◌, ◌≤◌, sym, ap, ap₂, ◌∙◌, arith}
-use Rattle.std.specs.Prelude.{ℤ, pos, ◌+ℤ◌, ◌*ℤ◌, unsigned_abs, int_div}
+use Rattle.std.proofs.Common.{◌≡◌, ◌≤◌, ◌↔◌, ℕ, sym, ap, ap₂, subst, ◌∙◌, arith, to_z, of_z}
+use Rattle.std.specs.Prelude.{ℤ, pos, ◌+ℤ◌, ◌*ℤ◌, unsigned_abs, int_div, Result, IsOk, IfOk}
+use Rattle.std.specs.Int.{w128}
 use Rattle.std.proofs.Math.Nat.{le_trans, div-le_self}
 use Rattle.std.proofs.lemmas.Int.{ints}
 use Rattle.vipr_spec.specs.Gcd.{gcd}
@@ -11,7 +12,7 @@ use Rattle.vipr_spec.proofs.Laws.{whole-add, whole-mul, sum_is, sum_lowest, prod
 use Rattle.vipr_frac.specs.Parts.{IsReduced, left_part, right_part, both_parts, sum_gcd, sum_denom}
 use Rattle.vipr_frac.specs.Parts.{product_numer, product_denom, FitsSum, FitsProduct}
 use Rattle.vipr_frac.proofs.Steps.{gcd-one}
-use Rattle.vipr_frac.proofs.Views.{over-self}
+use Rattle.vipr_frac.proofs.Views.{over-self, passed-on, WholeFacts}
 
 -- ---- the sum
 sum-lowest : (x y : ℚ) → IsLowest (int_div (both_parts x y) (pos (sum_gcd x y))) (sum_denom x y)
@@ -116,3 +117,25 @@ ProductFits-whole x y e f h =
 pub ProductFits-whole_back : (x y : ℚ) → x.denom ≡ 1 → y.denom ≡ 1 → ProductFits x y
     → unsigned_abs (x.numer *ℤ y.numer) ≤ most
 ProductFits-whole_back x y e f h = rw (product-whole x y e f, whole-numer (x.numer *ℤ y.numer)) at h.0
+
+-- ---- an operation that is done on parts
+
+-- on the numerators of whole numbers
+pub by_numerators : {E : Type 0} (x y z : ℚ) (p r : ℤ) (op : ℤ → ℤ → ℤ) (Fits : Type 0)
+    (s : Result ℚ E) → WholeFacts x p → WholeFacts y r → z ≡ whole (op x.numer y.numer)
+    → (unsigned_abs (op x.numer y.numer) ≤ most) ↔ Fits
+    → IsOk s ↔ (unsigned_abs (op (to_z w128 (of_z w128 p)) (to_z w128 (of_z w128 r))) ≤ most)
+    → IfOk s (λ f. f ≡ whole (op (to_z w128 (of_z w128 p)) (to_z w128 (of_z w128 r))))
+    → (IsOk s ↔ Fits) × IfOk s (λ f. f ≡ z)
+by_numerators x y z p r op Fits s a b z_is fits ok value =
+    let now : op (to_z w128 (of_z w128 p)) (to_z w128 (of_z w128 r)) ≡ op x.numer y.numer = ap₂ op a.back b.back in (
+      (λ o. fits.0 (subst (λ n. unsigned_abs n ≤ most) now (ok.0 o)), λ h. ok.1 (subst (λ n. unsigned_abs n ≤ most) (sym now) (fits.1 h))),
+      subst (λ v. IfOk s (λ f. f ≡ v)) (ap whole now ∙ sym z_is) value,
+    )
+
+-- on two fractions whose parts are passed on
+pub passed_both : (P : ℚ → ℚ → Type 0) (x y : ℚ) (p r : ℤ) (q s : ℕ) → p ≡ x.numer → q ≡ x.denom
+    → IsReduced p q → r ≡ y.numer → s ≡ y.denom → IsReduced r s
+    → P (over (to_z w128 (of_z w128 p)) q) (over (to_z w128 (of_z w128 r)) s) → P x y
+passed_both P x y p r q s a b c d e f h =
+    subst (λ v. P v y) (passed-on x p q a b c) (subst (P (over (to_z w128 (of_z w128 p)) q)) (passed-on y r s d e f) h)

@@ -2,7 +2,7 @@
 -- passed on.
 use Rattle.std.proofs.Common.{◌≡◌, ℕ, zero, suc, ℤ, pos, ◌/◌, ◌<◌, ◌≤◌, refl, sym, ap, ◌∙◌, arith}
 use Rattle.std.proofs.Common.{to_z, of_z, int_div}
-use Rattle.std.specs.Prelude.{unsigned_abs, ◌-ℤ◌, neg_ℤ}
+use Rattle.std.specs.Prelude.{unsigned_abs, ◌*ℤ◌, ◌-ℤ◌, neg_ℤ}
 use Rattle.std.specs.Int.{w128}
 use Rattle.std.proofs.Common.{FitsSigned}
 use Rattle.std.specs.Prelude.{Result, Ok, Err, IsOk}
@@ -19,6 +19,10 @@ use Rattle.vipr_frac.proofs.Steps.{gcd-one}
 -- a signed word that is passed or returned
 pub as-is : (z : ℤ) → unsigned_abs z ≤ most → to_z w128 (of_z w128 z) ≡ z
 as-is z h = to_z-of_z w128 z (fits_signed_from_abs w128 z (omega arith))
+
+pub words_times : (p r z : ℤ) → FitsSigned w128 p → FitsSigned w128 r → p *ℤ r ≡ z
+    → to_z w128 (of_z w128 p) *ℤ to_z w128 (of_z w128 r) ≡ z
+words_times p r z left right e = rw (to_z-of_z w128 p left, to_z-of_z w128 r right) e
 
 pub record Facts (x : ℚ) (p : ℤ) (q : ℕ) : Type 0 where
   pub numer : p ≡ x.numer

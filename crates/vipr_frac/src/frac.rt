@@ -6,13 +6,15 @@
 //! are exact and never refused. In contracts a `Frac` is the fraction itself.
 ghost use Rattle.std.specs.Prelude.{◌≡◌, ℕ, ℤ, pos, ◌+◌, ◌*◌, ◌^◌, ◌<◌, ◌≤◌, ◌+ℤ◌, ◌*ℤ◌, ◌<ℤ◌};
 ghost use Rattle.std.specs.Prelude.{◌≤ℤ◌, unsigned_abs, int_div, ◌↔◌, ◌⊎◌, IsOk, IfOk, IsTrue};
-ghost use Rattle.std.specs.Prelude.{IsSome, IfSome};
+ghost use Rattle.std.specs.Prelude.{IsSome, IfSome, FitsSigned};
+ghost use Rattle.std.specs.Int.{w128};
 ghost use Rattle.std.specs.Ordering.{nat_cmp, int_cmp};
 ghost use Rattle.vipr_spec.specs.Fraction.{most, over, whole, zero_ℚ, neg_ℚ, ◌+ℚ◌, ◌*ℚ◌, IsBounded};
 ghost use Rattle.vipr_spec.specs.Fraction.{IsWhole, SumFits, ProductFits};
 ghost use Rattle.vipr_spec.specs.FractionOrder.{IsFloor, IsCeil, eq_ℚ};
 ghost use Rattle.vipr_spec.specs.Gcd.{gcd};
 ghost use Rattle.vipr_frac.specs.Parts.{IsReduced, FitsParts, FitsSum, both_parts, IsSmall};
+ghost use Rattle.vipr_frac.specs.Parts.{product_numer, product_denom};
 
 use crate::gcd::{gcd_of, quotient, word_gcd};
 use crate::pairs::words;
@@ -313,16 +315,28 @@ fn sum_by_parts(a: Frac, b: Frac) -> Result<Frac, Overflow>
     Ok(of_parts(divided(both, h), below))
 }
 
-fn product_by_parts(a: Frac, b: Frac) -> Result<Frac, Overflow>
-    ensures fits { IsOk result ↔ ProductFits a b }
-    ensures value { IfOk result (λ f. f ≡ a *ℚ b) }
+// The parts of two fractions, without what divides a numerator and the other denominator.
+#[inline(always)]
+fn crossed(a: Frac, b: Frac) -> (i128, i128, u128, u128)
+    ensures above { result.0 *ℤ result.1 ≡ product_numer a b }
+    ensures below { result.2 * result.3 ≡ product_denom a b }
+    ensures left { FitsSigned w128 result.0 }
+    ensures right { FitsSigned w128 result.1 }
 {
     let (p, q) = a.parts();
     let (r, s) = b.parts();
     let g = gcd_of(p.unsigned_abs(), s);
     let h = gcd_of(r.unsigned_abs(), q);
-    let above = bounded_product(divided(p, g), divided(r, h))?;
-    let below = bounded_denominator(quotient(q, h), quotient(s, g))?;
+    (divided(p, g), divided(r, h), quotient(q, h), quotient(s, g))
+}
+
+fn product_by_parts(a: Frac, b: Frac) -> Result<Frac, Overflow>
+    ensures fits { IsOk result ↔ ProductFits a b }
+    ensures value { IfOk result (λ f. f ≡ a *ℚ b) }
+{
+    let (p, r, q, s) = crossed(a, b);
+    let above = bounded_product(p, r)?;
+    let below = bounded_denominator(q, s)?;
     Ok(of_parts(above, below))
 }
 
@@ -381,12 +395,8 @@ fn small_product(a: Frac, b: Frac) -> Frac
     ensures fits { ProductFits a b }
     ensures value { result ≡ a *ℚ b }
 {
-    let (p, q) = a.parts();
-    let (r, s) = b.parts();
-    let g = gcd_of(p.unsigned_abs(), s);
-    let h = gcd_of(r.unsigned_abs(), q);
-    let above = divided(p, g) * divided(r, h);
-    of_parts(above, quotient(q, h) * quotient(s, g))
+    let (p, r, q, s) = crossed(a, b);
+    of_parts(p * r, q * s)
 }
 
 impl Frac {

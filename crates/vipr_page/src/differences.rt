@@ -1,5 +1,5 @@
 //! How what a reason gives differs from what a derivation states.
-ghost use Rattle.std.specs.Prelude.{◌≡◌, ◌++◌, Option, Some, IfOk, OnOk, flat_map, take};
+ghost use Rattle.std.specs.Prelude.{◌≡◌, ◌++◌, Option, Some, IfOk, OnOk, flat_map};
 ghost use Rattle.std.specs.FinMap.{entries};
 ghost use Rattle.vipr_spec.specs.Fraction.{ℚ};
 ghost use Rattle.vipr_linear.specs.Constraint.{constraint_of, sense_of};
@@ -9,15 +9,13 @@ ghost use Rattle.vipr_page.specs.Written.{PutsText};
 
 use crate::algebra::{VariableName, sign_of, size_of};
 use crate::page::Page;
+use crate::shown::{MOST_SHOWN, first_of};
 use std::alloc::{AllocError, Global};
 use std::fmt;
 use std::fmt::{Display, Formatter, Write};
 use vipr_cert::Problem;
 use vipr_frac::Frac;
 use vipr_linear::{Constraint, Row, Sense};
-
-/// How many differences are shown.
-const MOST_SHOWN: usize = 6;
 
 /// A variable whose coefficients differ in two rows.
 #[derive(Clone, Copy)]
@@ -261,17 +259,6 @@ impl Display for OtherRows<'_> {
         };
         let count = DifferenceCount(self.differences.len());
         write!(f, "the rows are not the same:{shown}{count}")
-    }
-}
-
-// Those of these differences that are shown.
-fn first_of(differences: &[Difference]) -> &[Difference]
-    ensures { result.now ≡ take 6 differences.now }
-{
-    if differences.len() > MOST_SHOWN {
-        &differences[..MOST_SHOWN]
-    } else {
-        differences
     }
 }
 

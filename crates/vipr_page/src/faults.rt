@@ -1,5 +1,5 @@
 //! What keeps a sum from being rounded, and two assumptions from being a split.
-ghost use Rattle.std.specs.Prelude.{◌≡◌, ◌++◌, Some, IfOk, OnOk, take};
+ghost use Rattle.std.specs.Prelude.{◌≡◌, ◌++◌, Some, IfOk, OnOk};
 ghost use Rattle.std.specs.FinMap.{entries};
 ghost use Rattle.vipr_linear.specs.Constraint.{constraint_of, sense_of};
 ghost use Rattle.vipr_page.specs.RowFaults.{coefficient_fault, faults_at, row_faults};
@@ -9,15 +9,13 @@ ghost use Rattle.vipr_page.specs.Written.{PutsText};
 
 use crate::algebra::{VariableName, sign_of};
 use crate::page::Page;
+use crate::shown::first_of;
 use std::alloc::{AllocError, Global};
 use std::fmt;
 use std::fmt::{Display, Formatter, Write};
 use vipr_cert::Problem;
 use vipr_frac::Frac;
 use vipr_linear::{Constraint, Ints, Row, Sense};
-
-/// How many faults are shown.
-const MOST_SHOWN: usize = 6;
 
 /// Why a row isn't whole.
 #[derive(Clone, Copy)]
@@ -249,17 +247,6 @@ fn add_variable(faults: &mut Vec<RowFault>, ints: &Ints, variable: u32) -> Resul
         faults.push(RowFault::NotInteger(variable))?;
     }
     Ok(())
-}
-
-// Those of these faults that are shown.
-fn first_of(faults: &[RowFault]) -> &[RowFault]
-    ensures { result.now ≡ take 6 faults.now }
-{
-    if faults.len() > MOST_SHOWN {
-        &faults[..MOST_SHOWN]
-    } else {
-        faults
-    }
 }
 
 // Faults, each in a line.

@@ -8,6 +8,7 @@ mod differences;
 mod faults;
 mod page;
 mod repair;
+mod shown;
 mod stranger;
 
 pub use algebra::{Algebra, ShownName, VariableName, sign_of, size_of};

@@ -26,7 +26,7 @@ pub whole_by : (o : Option Input) (P : Input → Type 0) (Q : List ℕ → Type 
 whole_by None P Q k h = tt
 whole_by (Some i) P Q k h = λ short whole. k i (h short) whole
 
-whole_is : (i : Input) → i.fails ≡ false → text_of i ≡ whole_text i.bytes
+pub whole_is : (i : Input) → i.fails ≡ false → text_of i ≡ whole_text i.bytes
 whole_is i e = ap (λ b. text_of (record { bytes = i.bytes; fails = b })) e
 
 -- what was read is spelled

@@ -9,7 +9,7 @@ use Rattle.std.proofs.lemmas.Slice.Eq.{bytes_eq-Decides}
 use Rattle.vipr_spec.specs.Digits.{natural_of}
 use Rattle.vipr_spec.specs.Causes as cause
 use Rattle.vipr_spec.specs.Constraint.{Sense, at_most, equal, at_least}
-use Rattle.vipr_spec.specs.Certificate.{Direction, minimum, maximum}
+use Rattle.vipr_spec.specs.Certificate.{minimum, maximum}
 use Rattle.vipr_spec.specs.Reading.{most_count, at_most_or, word_of, count_of, derivation_count_of}
 use Rattle.vipr_spec.specs.Reading.{below, variable_of, unless_among, new_variable_of, reference_of}
 use Rattle.vipr_spec.specs.Reading.{some_of, last_of, spelled_sense, spelled_direction}
@@ -42,6 +42,12 @@ picks P t w x y others here there e = ⊎_elim (λ h. subst P h.1 (here h.0)) th
 none_picked : {A : Type 0} (P : Type 0) (c : ℕ) (y : A) → Err c ≡ success ℕ y → P
 none_picked P c y e = absurd (cc)
 
+-- of two words
+one_of_two : {A : Type 0} (P : A → Type 0) (t v w : List ℕ) (x y z : A) (c : ℕ) → (t ≡ v → P x)
+    → (t ≡ w → P y)
+    → (if bytes_eq t v then Ok x else (if bytes_eq t w then Ok y else Err c)) ≡ Ok z → P z
+one_of_two P t v w x y z c first second e = picks P t v x z _ first (λ f. picks P t w y z _ second (none_picked _ _ z) f) e
+
 fixed_sound : (w : List ℕ) (c : ℕ) (t : List ℕ) (x : Unit {0}) → word_of w c t ≡ Ok x → t ≡ w
 fixed_sound w c t x e = same_bytes t w (guard_true (bytes_eq t w) tt x c e).0
 
@@ -50,7 +56,7 @@ fixed_complete w c t x e = ap (λ b. if b then Ok tt else Err c) (bytes_same t w
 
 sense_sound : (t : List ℕ) (s : Sense) → spelled_sense t ≡ Ok s → SpellsSense t s
 unfolding spelled_sense
-sense_sound t s e = picks (SpellsSense t) t _ equal s _ (λ h. h) (λ e2. picks (SpellsSense t) t _ at_most s _ (λ h. h) (λ e3. picks (SpellsSense t) t _ at_least s _ (λ h. h) (none_picked _ _ s) e3) e2) e
+sense_sound t s e = picks (SpellsSense t) t _ equal s _ (λ h. h) (λ f. one_of_two (SpellsSense t) t _ _ at_most at_least s _ (λ h. h) (λ h. h) f) e
 
 sense_complete : (t : List ℕ) (s : Sense) → SpellsSense t s → spelled_sense t ≡ Ok s
 unfolding spelled_sense
@@ -58,23 +64,15 @@ sense_complete t equal e = rw e
 sense_complete t at_most e = rw e
 sense_complete t at_least e = rw e
 
-direction_sound : (t : List ℕ) (s : Direction) → spelled_direction t ≡ Ok s → SpellsDirection t s
+direction_is : ReadsKind spelled_direction SpellsDirection
 unfolding spelled_direction
-direction_sound t s e = picks (SpellsDirection t) t _ minimum s _ (λ h. h) (λ e2. picks (SpellsDirection t) t _ maximum s _ (λ h. h) (none_picked _ _ s) e2) e
+direction_is t minimum = (λ e. one_of_two (SpellsDirection t) t _ _ minimum maximum minimum _ (λ h. h) (λ h. h) e, λ e. rw e)
+direction_is t maximum = (λ e. one_of_two (SpellsDirection t) t _ _ minimum maximum maximum _ (λ h. h) (λ h. h) e, λ e. rw e)
 
-direction_complete : (t : List ℕ) (s : Direction) → SpellsDirection t s → spelled_direction t ≡ Ok s
-unfolding spelled_direction
-direction_complete t minimum e = rw e
-direction_complete t maximum e = rw e
-
-has_range_sound : (t : List ℕ) (b : Bool) → has_range_of t ≡ Ok b → SpellsRange t b
+has_range_is : ReadsKind has_range_of SpellsRange
 unfolding has_range_of
-has_range_sound t s e = picks (SpellsRange t) t _ false s _ (λ h. h) (λ e2. picks (SpellsRange t) t _ true s _ (λ h. h) (none_picked _ _ s) e2) e
-
-has_range_complete : (t : List ℕ) (b : Bool) → SpellsRange t b → has_range_of t ≡ Ok b
-unfolding has_range_of
-has_range_complete t false e = rw e
-has_range_complete t true e = rw e
+has_range_is t false = (λ e. one_of_two (SpellsRange t) t _ _ false true false _ (λ h. h) (λ h. h) e, λ e. rw e)
+has_range_is t true = (λ e. one_of_two (SpellsRange t) t _ _ false true true _ (λ h. h) (λ h. h) e, λ e. rw e)
 
 abbrev SpellsRule : List ℕ → Rule → Type 0
 SpellsRule t rule = t ≡ rule_word rule
@@ -86,7 +84,7 @@ rule_sound t r e =
     picks P t _ by_asm r _ (λ h. h)
     (λ e2. picks P t _ by_lin r _ (λ h. h)
     (λ e3. picks P t _ by_rnd r _ (λ h. h)
-    (λ e4. picks P t _ by_uns r _ (λ h. h) (λ e5. picks P t _ by_sol r _ (λ h. h) (none_picked _ _ r) e5) e4) e3) e2)
+    (λ e4. one_of_two P t _ _ by_uns by_sol r _ (λ h. h) (λ h. h) e4) e3) e2)
     e
 
 rule_complete : (t : List ℕ) (r : Rule) → SpellsRule t r → rule_of t ≡ Ok r
@@ -196,7 +194,7 @@ kinds_of_token = record {
   reference = reference_is;
   last = λ t o. (last_sound t o, last_complete t o);
   sense = λ t s. (sense_sound t s, sense_complete t s);
-  direction = λ t d. (direction_sound t d, direction_complete t d);
-  has_range = λ t b. (has_range_sound t b, has_range_complete t b);
+  direction = direction_is;
+  has_range = has_range_is;
   rule = λ t r. (rule_sound t r, rule_complete t r);
 }

@@ -1,15 +1,16 @@
 -- Two certificates that are proofs under profile two, and none under profile one
 use Rattle.std.proofs.Common.{◌≡◌, ◌≢◌, ℕ, zero, suc, Some, ℤ, pos, ◌+ℤ◌, ◌≤ℤ◌, ◌⊎◌, IsTrue, arith}
-use Rattle.std.proofs.Common.{refl, sym, ◌∙◌, ap, subst, inl, inr, lit<, unwrap_or}
+use Rattle.std.proofs.Common.{refl, sym, ◌∙◌, ap, subst, inl, inr, lit<, unwrap_or, List, []}
 use Rattle.std.specs.Ordering.{nat_cmp}
 use Rattle.std.specs.FinMap.{get-empty}
 use Rattle.std.proofs.lemmas.List.Elements.{All-nil}
 use Rattle.std.proofs.lemmas.Int.{ints}
 use Rattle.vipr_spec.specs.Fraction.{over, whole, zero_ℚ, ◌≤ℚ◌}
 use Rattle.vipr_spec.specs.Constraint.{one, two, at_most, at_least, Condition, RoundsTo, IsAbsurd}
-use Rattle.vipr_spec.specs.Constraint.{IsSplit}
+use Rattle.vipr_spec.specs.Constraint.{IsSplit, Profile}
 use Rattle.vipr_spec.specs.Certificate.{Reason, asm, uns, constraint_at, IsProof, IsGoodStep}
 use Rattle.vipr_spec.specs.Certificate.{HasGoodSteps, is_live, RestsOnNothing, MeetsBound}
+use Rattle.vipr_spec.specs.Certificate.{Problem, Derivation, Certificate, MeetsPrimal, ProvesDual}
 use Rattle.vipr_spec.specs.Examples.{first_variable, rounded_bound, split_at_half}
 use Rattle.vipr_spec.proofs.Fractions.{over-le, le_of_whole, le_of_eq_ℚ, le_refl_ℚ}
 use Rattle.vipr_spec.proofs.Optimum.{whole_row, row_first}
@@ -44,19 +45,29 @@ one_not_zero e = let l = le_of_whole (pos 1) (pos 0) (le_of_eq_ℚ _ _ e) in ome
 not_one : ¬ (whole (pos 1) ≤ℚ zero_ℚ)
 not_one h = let l = le_of_whole (pos 1) (pos 0) h in omega (arith, ints)
 
+-- ---- a proof that lists no solution
+
+abbrev unlisted : Problem → List Derivation → Certificate
+unlisted p ds = record { problem = p; solutions = []; derivations = ds }
+
+proof_by_steps : (P : Profile) (p : Problem) (ds : List Derivation) (goal : ℕ)
+    → HasGoodSteps P (unlisted p ds) → MeetsPrimal p [] p.claim → ProvesDual P (unlisted p ds) goal
+    → IsProof P (unlisted p ds)
+proof_by_steps P p ds goal steps primal dual = record {
+  solutions = All-nil _;
+  solutions_fit = All-nil _;
+  steps = steps;
+  primal = primal;
+  dual = λ _. (goal, dual);
+}
+
 -- ---- the bound of a whole objective
 
 bound_nothing : RestsOnNothing rounded_bound 0
 bound_nothing a r = rests_given rounded_bound 0 a refl r
 
 pub bound_two : IsProof two rounded_bound
-bound_two = record {
-  solutions = All-nil _;
-  solutions_fit = All-nil _;
-  steps = no_steps;
-  primal = tt;
-  dual = λ _. (0, (lit< tt, bound_nothing, inr (whole_row, λ j. refl, inr (pos 1, half_up, inr (λ j. refl, inl refl, le_refl_ℚ _)))));
-}
+bound_two = proof_by_steps two _ _ 0 no_steps tt (lit< tt, bound_nothing, inr (whole_row, λ j. refl, inr (pos 1, half_up, inr (λ j. refl, inl refl, le_refl_ℚ _))))
   where
     no_steps : HasGoodSteps two rounded_bound
     no_steps zero r e = absurd (cc)
@@ -117,13 +128,7 @@ given_nothing : RestsOnNothing split_at_half 0
 given_nothing a r = rests_given split_at_half 0 a refl r
 
 pub split_two : IsProof two split_at_half
-split_two = record {
-  solutions = All-nil _;
-  solutions_fit = All-nil _;
-  steps = steps;
-  primal = tt;
-  dual = λ _. (0, (lit< tt, given_nothing, absurdity));
-}
+split_two = proof_by_steps two _ _ 0 steps tt (lit< tt, given_nothing, absurdity)
 
 not_split : ¬ IsSplit one first_variable (constraint_at split_at_half 1)
     (constraint_at split_at_half 2)

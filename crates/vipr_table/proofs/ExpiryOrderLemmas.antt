@@ -12,10 +12,10 @@ use Rattle.std.specs.FinMap.{FinMap, get, insert, remove, empty, get-empty}
 use Rattle.vipr_spec.specs.Certificate.{lasts_to}
 use Rattle.vipr_table.specs.Expiry.{Notes}
 use Rattle.vipr_table.specs.declared.rows.Entry.{Entry}
-use Rattle.vipr_table.specs.Table.{expiry, if_live, live_part}
+use Rattle.vipr_table.specs.Table.{Table, advance_table, expiry, if_live, live_part}
 use Rattle.vipr_table.specs.Expiry.{IsTied}
 use Rattle.vipr_table.proofs.TableLemmas.{get-insert_at, get-remove_at, get-live_part, same_numbers}
-use Rattle.vipr_table.proofs.TableLemmas.{if_live-true, if_live-false}
+use Rattle.vipr_table.proofs.TableLemmas.{if_live-true, if_live-false, same_table}
 
 ahead_cases : (x y : ℕ × ℕ) (ds : List (ℕ × ℕ)) → Contains (x ∷ ds) y → (y ≡ x) ⊎ Contains ds y
 ahead_cases x y ds h =
@@ -61,7 +61,7 @@ IsTied-removed next m ds es last i t p = record {
 }
 
 -- an entry that is taken out when it is due was not live
-pub live_part-removed : (next now : ℕ) (m : FinMap nat_cmp Entry) (ds es : List (ℕ × ℕ))
+live_part-removed : (next now : ℕ) (m : FinMap nat_cmp Entry) (ds es : List (ℕ × ℕ))
     (last i : ℕ)
     → IsTied next m ds → IsPermutation ds ((last, i) ∷ es) → last ≤ now
     → live_part (now + 1) (remove m i) ≡ live_part (now + 1) m
@@ -88,7 +88,7 @@ live_part-removed next now m ds es last i t p due = same_numbers _ _ (λ q. get-
         ]
 
 -- where nothing is due, all is live
-pub live_part-none_due : (next now : ℕ) (m : FinMap nat_cmp Entry) (ds : List (ℕ × ℕ))
+live_part-none_due : (next now : ℕ) (m : FinMap nat_cmp Entry) (ds : List (ℕ × ℕ))
     → IsTied next m ds → All (λ (d : ℕ × ℕ). now < d.0) ds → live_part (now + 1) m ≡ m
 live_part-none_due next now m ds t none = same_numbers _ _ (λ q. get-live_part (now + 1) m q ∙ at q (get m q) refl)
   where
@@ -102,6 +102,27 @@ live_part-none_due next now m ds t none = same_numbers _ _ (λ q. get-live_part 
     at : (q : ℕ) (o : Option Entry) → get m q ≡ o → if_live (now + 1) o ≡ o
     at q None is = refl
     at q (Some e) is = if_live-true (now + 1) e (stays q e is (expiry e) refl)
+
+-- an advance of the table t that has come to the map m and the order ds
+pub record AdvancesTo (t : Table) (first next : ℕ) (m : FinMap nat_cmp Entry) (ds : List (ℕ × ℕ)) : Type 0 where
+  pub tied : IsTied next m ds
+  pub first_stays : first ≡ t.first
+  pub next_stays : next ≡ t.next
+  pub live : live_part (t.next + 1) m ≡ live_part (t.next + 1) t.entries
+
+module _ (t : Table) (first next : ℕ) (m : FinMap nat_cmp Entry) (ds : List (ℕ × ℕ)) (a : AdvancesTo t first next m ds) where
+  pub AdvancesTo-removed : (es : List (ℕ × ℕ)) (last i : ℕ) → IsPermutation ds ((last, i) ∷ es) → last ≤ next → AdvancesTo t first next (remove m i) es
+  AdvancesTo-removed es last i p due = record {
+    tied = IsTied-removed next m ds es last i a.tied p;
+    first_stays = a.first_stays;
+    next_stays = a.next_stays;
+    live = live_part-removed next t.next m ds es last i a.tied p (let e = a.next_stays in omega (arith, due)) ∙ a.live;
+  }
+
+  pub advanced : All (λ (d : ℕ × ℕ). next < d.0) ds → ◌≡◌ {A = Table} (record { first = first; next = next; entries = m }) (advance_table t)
+  advanced none =
+      same_table _ _ a.first_stays a.next_stays
+      (sym (live_part-none_due next t.next m ds a.tied (subst (λ n. All (λ (d : ℕ × ℕ). n < d.0) ds) a.next_stays none)) ∙ a.live)
 
 still_right : (next : ℕ) (m : FinMap nat_cmp Entry) (ds : List (ℕ × ℕ)) (e : Entry)
     → IsTied next m ds → All

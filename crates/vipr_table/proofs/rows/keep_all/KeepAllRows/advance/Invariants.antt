@@ -1,7 +1,7 @@
-use Rattle.std.proofs.Common.{◌≡◌, ◌+◌, length}
+use Rattle.std.proofs.Common.{length}
 use Rattle.vipr_table.specs.Expiry.{dues}
 use Rattle.vipr_table.specs.KeepAll.{IsKept, entries_not_forgotten}
-use Rattle.vipr_table.specs.Table.{live_part}
+use Rattle.vipr_table.proofs.ExpiryOrderLemmas.{AdvancesTo}
 use Rattle.vipr_table.proofs.rows.keep_all.KeepAllRows.advance.Given as goal
 
 abbrev pub invariant-loop-index : goal.invariant-loop-index
@@ -9,9 +9,7 @@ invariant-loop-index l =
     let now = l.self-inside in
     record {
       kept : IsKept now.first now.next now.kept.items now.held (dues now.order.heap);
-      first : now.first ≡ l.fn.self.first;
-      next : now.next ≡ l.fn.self.next;
-      live : live_part (l.fn.self.next + 1) (entries_not_forgotten now.first now.kept.items) ≡ live_part (l.fn.self.next + 1) l.fn.self.entries;
+      advances : AdvancesTo l.fn.self now.first now.next (entries_not_forgotten now.first now.kept.items) (dues now.order.heap);
     }
 
 abbrev pub decreases-loop-index : goal.decreases-loop-index
