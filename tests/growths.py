@@ -3,7 +3,7 @@
 
 usage: tests/growths.py [CRATE..]     all libraries with tests, without a name; `rt ci` and `rt test` build them
 
-The tests of a library, those of crates/vipr_tests_lower and crates/vipr_tests_upper, call what it has to offer. Each is run with its first
+The tests of the libraries, those of crates/vipr_tests, call what they have to offer. Each is run with its first
 growth refused, its second, and so on up to a run that meets no refusal. It then passes, or ends at an answer that is
 want of memory: no call may give another answer for a refused growth, end by a signal of its own, or go on as if it had
 room.

@@ -14,6 +14,9 @@ the format's limits have the answer that the rules give, within a small limit of
 has the plain model's answer, and a text of four times the size asks for at most five times the bytes, all that is asked
 for in a run counted. A solution or a derivation that is refused may have a long name.
 
+The library of refused calls, tests/refuse.c, begins the program once for many runs: each run is a process of its own from
+the place on where the program's code begins.
+
 Prints each run that answers something else, and last `hostile: N runs, F failed, S seconds of processor time`. Without
 a C compiler the runs with refused calls are left out, and a line says so. The exit status is 1 where a run failed.
 """
@@ -23,9 +26,11 @@ import os
 import resource
 import shutil
 import signal
+import struct
 import subprocess
 import sys
 import tempfile
+import threading
 from concurrent.futures import ThreadPoolExecutor
 from pathlib import Path
 
@@ -51,25 +56,82 @@ class Answer(tuple):
     calls = (0, 0, 0, 0, 0, 0)
 
 
-def answer(words, text=b'', settings=None, room=None, cwd=None):
+class Server:
+    """The program with the library of refused calls, begun once, which runs as often as it is asked."""
+    PLAN = ('REFUSE_GROWTH', 'FAIL_READ', 'INTERRUPT_READ', 'READ_AT_MOST', 'FAIL_WRITE', 'INTERRUPT_WRITE', 'NO_WRITE',
+            'WRITE_AT_MOST')
+
+    def __init__(self, words):
+        self.words, self.text = words, b''
+        self.files = [os.memfd_create(name) for name in ('input', 'output', 'error')]
+        environment = {'PATH': '/usr/bin:/bin', 'LD_PRELOAD': LIBRARY, 'SERVE': ','.join(map(str, self.files))}
+        self.process = subprocess.Popen([PROGRAM, *words], stdin=subprocess.PIPE, stdout=subprocess.PIPE, bufsize=0,
+                                        env=environment, pass_fds=self.files)
+
+    def answer(self, text, settings):
+        """What a run of the program answers that is given the text and the library's settings."""
+        if text != self.text:
+            os.ftruncate(self.files[0], 0)
+            os.pwrite(self.files[0], text, 0)
+            self.text = text
+        self.process.stdin.write(struct.pack('8q', *(settings.get(name, 0) for name in self.PLAN)))
+        status, *calls = struct.unpack('7q', self.process.stdout.read(7 * 8))
+        out = Answer((*(os.pread(file, os.fstat(file).st_size, 0) for file in self.files[1:]), os.waitstatus_to_exitcode(status)))
+        out.calls = tuple(calls)
+        return out
+
+    def end(self):
+        self.process.stdin.close()
+        self.process.stdout.close()
+        self.process.wait()
+        for file in self.files:
+            os.close(file)
+
+
+class Servers:
+    """Servers that wait for their next run."""
+    MOST = 32
+
+    def __init__(self):
+        self.waiting, self.lock = [], threading.Lock()
+
+    def take(self, words):
+        """A server of these words that no other thread has."""
+        with self.lock:
+            found = next((it for it in self.waiting if it.words == words), None)
+            if found:
+                self.waiting.remove(found)
+        return found or Server(words)
+
+    def put(self, server):
+        """Lets others have the server; the one that waits longest ends where there are too many."""
+        with self.lock:
+            self.waiting.append(server)
+            last = self.waiting.pop(0) if len(self.waiting) > self.MOST else None
+        if last:
+            last.end()
+
+    def end(self):
+        while self.waiting:
+            self.waiting.pop().end()
+
+
+SERVERS = Servers()
+
+
+def answer(words, text=b'', settings=None, room=None):
     """Runs the program, with the library of refused calls where there are settings."""
     global runs
     runs += 1
-    environment = {'PATH': '/usr/bin:/bin'}
-    report = None
     if settings is not None:
-        file, report = tempfile.mkstemp(dir=WORK)
-        os.close(file)
-        environment |= {'LD_PRELOAD': LIBRARY, 'REPORT': report} | {k: str(v) for k, v in settings.items()}
+        server = SERVERS.take(words)
+        out = server.answer(text, settings)
+        SERVERS.put(server)
+        return out
     limit = (lambda: resource.setrlimit(resource.RLIMIT_AS, (room, room))) if room else None
-    done = subprocess.run([PROGRAM, *words], input=text, capture_output=True, env=environment, preexec_fn=limit,
-                          cwd=cwd, timeout=120, check=False)
-    out = Answer((done.stdout, done.stderr, done.returncode))
-    if report:
-        counted = Path(report).read_text().split()
-        out.calls = tuple(map(int, counted)) if counted else out.calls
-        os.remove(report)
-    return out
+    done = subprocess.run([PROGRAM, *words], input=text, capture_output=True, env={'PATH': '/usr/bin:/bin'},
+                          preexec_fn=limit, timeout=120, check=False)
+    return Answer((done.stdout, done.stderr, done.returncode))
 
 
 def expect(what, got, *wanted):
@@ -344,7 +406,7 @@ def beginnings(examples):
     for path, text in examples:
         def one(n):
             wanted = lines(verdict(text[:n]))
-            expect(f'the first {n} bytes of {path.name}', answer(['check'], text[:n]), wanted)
+            expect(f'the first {n} bytes of {path.name}', answer(['check'], text[:n], {} if LIBRARY else None), wanted)
             if LIBRARY:
                 got = answer(['check'], text[:n], {'READ_AT_MOST': 1})
                 expect(f'the first {n} bytes of {path.name}, a byte at a time', got, wanted)
@@ -477,6 +539,7 @@ def main():
             short_writes_to_out(loose, loose.read_bytes())
     else:
         print('hostile: no C compiler is here, so the runs with refused calls are left out')
+    SERVERS.end()
     spent = sum(resource.getrusage(who)[k] for who in (resource.RUSAGE_CHILDREN, resource.RUSAGE_SELF) for k in (0, 1))
     print(f'hostile: {runs} runs, {len(failures)} failed, {spent:.0f} seconds of processor time')
     return 1 if failures else 0

@@ -1,11 +1,11 @@
 /* Calls the library on a file, with a buffer of its own, and writes what the buffer holds and then a line of numbers.
  *
- * usage: library CALL PROFILE COMPACT ROOM FILE     CALL is check, report, explain, show or tighten
- *        library name CAUSE ROOM
+ * usage: library FILE CALL PROFILE COMPACT ROOM ..  CALL is check, report, explain, show or tighten
+ *        library name CAUSE ROOM ..
  *        library version ROOM
  *        library growths FILE
  *
- * The line is `status S length L`, and what the call's struct holds. The buffer is filled with `.` before the call, and so
+ * The words behind `..` may come more than once, and each time there is a call. The line is `status S length L`, and what the call's struct holds. The buffer is filled with `.` before the call, and so
  * has to be the byte behind the room after it. `growths` makes each call with its first growth refused, its second, and
  * so on: each has to return 3, a length of 0 and a struct of zeros, to leave the buffer, and to keep no memory. It writes
  * how many growths it refused. Linked with -Wl,--wrap=malloc,--wrap=realloc,--wrap=free. */
@@ -167,45 +167,58 @@ static void print(const struct job *it, int32_t status)
 
 static uint32_t number(const char *word) { return (uint32_t)strtoul(word, NULL, 10); }
 
-/* A name or the version, in a buffer. */
-static int print_name(int count, char **words)
+/* Makes room for the bytes of a buffer and the one behind them. */
+static int has_buffer(struct job *it)
 {
-    struct job it = {REPORT, 0, 0, NULL, 0, number(words[count - 1]), 0, NULL, {0}, {0}};
-    it.buffer = malloc(it.room + 1);
-    if (it.buffer == NULL)
+    it->buffer = malloc(it->room + 1);
+    return it->buffer != NULL;
+}
+
+/* The name of a cause, or the version where there is none, in a buffer. */
+static int print_name(const char *cause, const char *room)
+{
+    struct job it = {REPORT, 0, 0, NULL, 0, number(room), 0, NULL, {0}, {0}};
+    if (!has_buffer(&it))
         return 2;
     memset(it.buffer, '.', it.room + 1);
-    it.length = count == 4 ? vipr_cause_name(number(words[2]), it.buffer, it.room) : vipr_version(it.buffer, it.room);
+    it.length = cause == NULL ? vipr_version(it.buffer, it.room) : vipr_cause_name(number(cause), it.buffer, it.room);
     print(&it, 0);
+    free(it.buffer);
+    return 0;
+}
+
+/* A call on a text, as four words have it. */
+static int print_call(char **words, const uint8_t *text, size_t size)
+{
+    struct job it = {CHECK, number(words[1]), number(words[2]), text, size, number(words[3]), 0, NULL, {0}, {0}};
+    while (it.call < CALLS - 1 && strcmp(words[0], NAMES[it.call]) != 0)
+        it.call++;
+    if (!has_buffer(&it))
+        return 2;
+    print(&it, run(&it));
     free(it.buffer);
     return 0;
 }
 
 int main(int count, char **words)
 {
-    struct job it = {CHECK, 0, 0, NULL, 0, 0, 0, NULL, {0}, {0}};
     const int is_growths = count == 3 && strcmp(words[1], "growths") == 0;
-    uint8_t *text;
     int status = 0;
-    if (count == 4 || (count == 3 && !is_growths))
-        return print_name(count, words);
-    if ((count != 6 && !is_growths) || (text = read_file(words[count - 1], &it.size)) == NULL)
-        return 2;
-    if (is_growths) {
-        status = all_growths(text, it.size);
-    } else {
-        while (it.call < CALLS - 1 && strcmp(words[1], NAMES[it.call]) != 0)
-            it.call++;
-        it.profile = number(words[2]);
-        it.compact = number(words[3]);
-        it.room = number(words[4]);
-        it.text = text;
-        it.buffer = malloc(it.room + 1);
-        if (it.buffer == NULL)
-            return 2;
-        print(&it, run(&it));
-        free(it.buffer);
+    uint8_t *text;
+    size_t size;
+    if (count == 3 && strcmp(words[1], "version") == 0)
+        return print_name(NULL, words[2]);
+    if (count > 3 && strcmp(words[1], "name") == 0) {
+        for (int at = 2; at + 1 < count && status == 0; at += 2)
+            status = print_name(words[at], words[at + 1]);
+        return status;
     }
+    if (count < 3 || (text = read_file(words[is_growths ? 2 : 1], &size)) == NULL)
+        return 2;
+    if (is_growths)
+        status = all_growths(text, size);
+    for (int at = 2; at + 3 < count && status == 0; at += 4)
+        status = print_call(words + at, text, size);
     free(text);
     return status;
 }

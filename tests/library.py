@@ -211,22 +211,34 @@ def answered(room, status, text, numbers):
     return held + b'\n' + ' '.join(map(str, words)).encode() + b'\n'
 
 
+def compare(words, rows):
+    """Makes the calls of the rows in one process, and compares what it writes: a row has a call's words and its answer."""
+    said, at = run(*words, *(word for row, _ in rows for word in row)), 0
+    for row, expected in rows:
+        found, at = said.stdout[at:at + len(expected)], at + len(expected)
+        if found != expected:
+            fail(f'{words[-1]}: {row}: {found[-300:]!r}, wanted {expected[-300:]!r}')
+            return
+    if said.returncode or said.stdout[at:] or said.stderr:
+        fail(f'{words[-1]}: status {said.returncode}, {said.stdout[at:]!r} behind the last answer, {said.stderr!r}')
+
+
 def look_at_calls(program, path, whole):
+    rows = []
     for words, wanted_of_it in calls(path, whole):
         length = len(wanted_of_it[1])
         for room in {0, 1, max(0, length - 1), length, length + 3} if whole else {length}:
-            said, expected = run(program, *words, room, path), answered(room, *wanted_of_it)
-            if said.returncode or said.stdout != expected:
-                fail(f'{path.name}: {words} with room {room}: {said.stdout[-300:]!r}, wanted {expected[-300:]!r}')
+            rows.append(([*words, room], answered(room, *wanted_of_it)))
+    compare([program, path], rows)
 
 
 def look_at_names(program):
     names = dict(re.findall(r'^\| (\d+) \| ([A-Z]\w+) \|', (TOP / 'docs/FORMAT.md').read_text(), re.M))
+    rows = []
     for cause in [*range(300), 2 ** 32 - 1]:
         name = names.get(str(cause), '').encode()
-        for room in sorted({0, len(name), 20}):
-            if run(program, 'name', cause, room).stdout != answered(room, 0, name, []):
-                fail(f'the name of cause {cause} with room {room}')
+        rows += [([cause, room], answered(room, 0, name, [])) for room in sorted({0, len(name), 20})]
+    compare([program, 'name'], rows)
     if run(program, 'version', 9).stdout != answered(9, 0, version().encode(), []) or len(names) < 30:
         fail('the version, or too few names of causes')
 
@@ -242,11 +254,10 @@ def look_at_memory(program, room):
         print('library: left out, for want of valgrind: memcheck, helgrind')
         return
     for path in (TOP / 'examples/branch_and_bound.vipr', TOP / 'examples/overflow.vipr', room / 'infeasible.10'):
-        for call in ('check', 'report', 'explain', 'show', 'tighten'):
-            said = run('valgrind', '-q', '--error-exitcode=9', '--leak-check=full', '--show-leak-kinds=all', program, call, 1, 1,
-                       100, path)
-            if said.returncode or said.stderr:
-                fail(f'memcheck of {call} {path.name}: {said.stderr!r}')
+        words = [word for call in ('check', 'report', 'explain', 'show', 'tighten') for word in (call, 1, 1, 100)]
+        said = run('valgrind', '-q', '--error-exitcode=9', '--leak-check=full', '--show-leak-kinds=all', program, path, *words)
+        if said.returncode or said.stderr:
+            fail(f'memcheck of {path.name}: {said.stderr!r}')
     threads = room / 'cpp_archive'
     if threads.exists():
         said = run('valgrind', '-q', '--tool=helgrind', '--error-exitcode=9', threads, *names[:12])

@@ -5,15 +5,15 @@ usage: tools/wrong.py [CRATE | CRATE/EDIT ..]
        tools/wrong.py --sample N
 
 `make test` tries those of `must-fail/`, which turn the main promises. These are more of the same kind, and take longer
-than everything else together. Each is checked on a copy, over what the crate's last check proved: first the functions of the changed
-file, then the whole crate if they are proved, and that once more from nothing if it is still proved then. Crates are
-tried side by side, as many as memory allows.
+than everything else together. Each is checked on a copy, over what the crate's last check proved: first the function that
+it changes, then all of its file, then the whole crate, and that once more from nothing; each only if what came before is
+still proved with the edit. Edits of one file follow one another. Crates are tried side by side, as many as memory allows.
 
 Without words all are tried, and the day, the commit and the result are written into docs/PROOF.md. A run that is cut
 off goes on where it was: an edit that was refused over the same text isn't tried once more. --sample tries N
 that follow one another in one crate; crates that have fewer count as one. The commit chooses them (outside of a git
 checkout the text of the crates does), so that each run names other ones. It takes over what `rt ci` proved, if nothing
-changed since.
+changed since: then no more is proved than the functions that are changed and those that they call.
 
 Prints what each came to, and last `N refused, M not`; the exit status is 1 if one isn't refused, or if a crate
 isn't proved without an edit.
@@ -38,7 +38,13 @@ PAGE = TOP / 'docs/PROOF.md'
 MARKS = '<!-- last run: written by `make wrong` -->', '<!-- end of the last run -->'
 # a place that a check names, and what it says of a proof that only lacks a name which the edit took away
 PLACE = re.compile(r'(note: )?\S+:\d+:\d+:')
-NAMES = re.compile(r'(note: )?(\./)?proofs/.*(has no field|is not in scope|has no `|was not admitted)')
+NAMES = re.compile(r'(note: )?(\./)?proofs/.*(has no field|is not in scope|has no `|was not admitted|were not checked)')
+# a proof file that answers a goal whose name is gone, and a goal that stayed open, at its place in the source
+GONE = re.compile(r'(?:\./)?proofs/(\S+?):\d+:\d+: error: .*: module `[^`]*\.Goals` has no `')
+OPEN = re.compile(r'note: src/(\S+?)\.rt:\d+:\d+:')
+# the head of a function, and the trait and the type of an `impl`
+FUNCTION = re.compile(r'(    )?(?:pub(?:\([^)]*\))? )?(?:unsafe )?(?:extern "C" )?fn (\w+)')
+IMPL = re.compile(r'impl (?:(?:\w+::)*(\w+) for )?&?(?:mut )?(?:\w+::)*(\w+)')
 # what one check may take of the memory, in kB
 ROOM = 4_000_000
 
@@ -61,8 +67,19 @@ def text_sum():
     return total.hexdigest()
 
 
+def changed(path):
+    """The file of its crate that an edit changes."""
+    found = re.search(r'^file: (.*)$', path.read_text(), re.M)
+    return found[1].strip() if found else ''
+
+
+def edits(crate):
+    """The edits of a crate, those of one file in a row."""
+    return sorted(Path(crate.folder, 'wrong').glob('*.edit'), key=lambda path: (changed(path), path.name))
+
+
 def sample(paths, count):
-    """That many edits in a row of one crate, so that one crate alone is proved once more. The parts cover the list."""
+    """That many edits in a row of one crate, so that few files alone are proved once more. The parts cover the list."""
     lists, few = [], []
     for _, there in groupby(paths, key=lambda path: path.parent):
         there = list(there)
@@ -95,21 +112,70 @@ def is_refused(rt, found):
     return found if isinstance(found, bool) else found in (rt.REFUSED, rt.AT_LIMIT)
 
 
-def said_of_file(rt, crate, path, flags, kept):
-    """What is said first against an edit if only the functions of the changed files are checked, and those that they call;
-    nothing if they are proved, or if it isn't clear that the prover refused one."""
-    texts, why = rt.read_edit(str(path), crate.folder)
-    modules = [re.fullmatch(r'src/(.+)\.rt', it) for it in texts]
-    if why or not all(modules) or {'src/lib.rt', 'src/main.rt'} & set(texts):
+def modules(texts):
+    """The modules of the changed files; none if one is the crate's root or no source."""
+    found = [re.fullmatch(r'src/(.+)\.rt', it) for it in texts]
+    if not all(found) or {'src/lib.rt', 'src/main.rt'} & set(texts):
+        return []
+    return [it[1].replace('/', '::') for it in found]
+
+
+def plain(line):
+    """A line without what is between angle brackets."""
+    while line != (line := re.sub(r'<[^<>]*>', '', line)):
+        pass
+    return line
+
+
+def functions(crate, texts):
+    """The function that holds the first change of an edit, as a check names it; none if that isn't clear."""
+    file, text = next(iter(texts.items()))
+    old, new = Path(crate.folder, file).read_text().split('\n'), text.split('\n')
+    at = next((n for n, pair in enumerate(zip(old, new)) if pair[0] != pair[1]), 0)
+    lines = [plain(it) for it in new[at::-1]]
+    function, owner = (next(filter(None, map(part.match, lines)), None) for part in (FUNCTION, IMPL))
+    if not modules(texts) or not function or (function[1] and not owner):
+        return []
+    # (a method is named after its type, which may be of another module)
+    above = owner[2] + (owner[1] or '') if function[1] else modules(texts)[0]
+    return [f'{above}::{function[2]}']
+
+
+def places(lines):
+    """What a check says at a place, but for what it says where only a name is gone: in the proof file that has the name,
+    and at an open goal of that file's module, which may be the one of that name by a new one."""
+    gone = [found[1] for found in map(GONE.match, lines) if found]
+    for line in lines:
+        goal = OPEN.match(line)
+        is_told = PLACE.match(line) and (': error' in line or line.startswith('note: ')) and not NAMES.match(line)
+        if is_told and not (goal and any(it.startswith(f'{goal[1]}/') for it in gone)):
+            yield line
+
+
+def said_of(rt, crate, texts, paths, flags, kept):
+    """What is said first against an edit if only these functions and modules are checked, and what they call; nothing if they
+    are proved, or if it isn't clear that the prover refused one."""
+    if not paths:
         return ''
-    only = [word for it in modules for word in ('--only', it[1].replace('/', '::'))]
-    ran = rt.checked(crate, texts, [*flags, *only], kept)
+    ran = rt.checked(crate, texts, [*flags, *(word for it in paths for word in ('--only', it))], kept)
     lines = ran.stdout.rstrip('\n').split('\n')
     count = re.match(r'only=(\d+) proved=(\d+)', lines[-1])
     if ran.returncode != 1 or not count or int(count[1]) <= int(count[2]) or any(rt.unread(it, texts) for it in lines):
         return ''
-    places = [it for it in lines if PLACE.match(it) and (': error' in it or it.startswith('note: '))]
-    return next((it[:160] for it in places if not NAMES.match(it)), '')
+    return next((it[:160] for it in places(lines)), '')
+
+
+def is_refused_now(rt, crate, path, flags, kept):
+    """Whether an edit is refused, and what to say."""
+    texts, why = rt.read_edit(str(path), crate.folder)
+    for paths in [] if why else (functions(crate, texts), modules(texts)):
+        said = said_of(rt, crate, texts, paths, flags, kept)
+        if said:
+            return True, f'{crate.name}/{path.name}: refused, as it must be: {said}'
+    found, text = rt.must_fail(crate, str(path), flags, kept)
+    if not is_refused(rt, found):
+        found, text = rt.must_fail(crate, str(path), flags)
+    return is_refused(rt, found), text
 
 
 class Refused:
@@ -142,7 +208,8 @@ def tried(rt, crate, paths, kept, goes_on):
     out = [(f'{crate.name}/{path.stem}', True) for path in before]
     if not paths:
         return out
-    last = Path(crate.folder, 'out', 'incremental')
+    # (a copy of the crates lacks it)
+    last = TOP / 'crates' / Path(crate.folder).name / 'out/incremental'
     if last.is_dir():
         shutil.copytree(last, kept)
     kept.mkdir(exist_ok=True)
@@ -150,16 +217,10 @@ def tried(rt, crate, paths, kept, goes_on):
         print(f'{crate.name} is not proved', flush=True)
         return out + [(f'{crate.name}/{path.stem}', False) for path in paths]
     for path in paths:
-        said = said_of_file(rt, crate, path, one, str(kept))
-        if said:
-            found, text = True, f'{crate.name}/{path.name}: refused, as it must be: {said}'
-        else:
-            found, text = rt.must_fail(crate, str(path), one, str(kept))
-        if not is_refused(rt, found):
-            found, text = rt.must_fail(crate, str(path), one)
+        found, text = is_refused_now(rt, crate, path, one, str(kept))
         print(text, flush=True)
-        out.append((f'{crate.name}/{path.stem}', is_refused(rt, found)))
-        if is_refused(rt, found):
+        out.append((f'{crate.name}/{path.stem}', found))
+        if found:
             refused.add(path)
     shutil.rmtree(kept, ignore_errors=True)
     return out
@@ -195,7 +256,7 @@ def main(words):
     with tempfile.TemporaryDirectory(prefix='vipr-wrong-') as room:
         is_sample = words[:1] == ['--sample']
         crates = {it.name: it for it in rt.rtlib.crates_below(str(copied(room) if is_sample else TOP))}
-        paths = [path for name, it in crates.items() for path in sorted(Path(it.folder, 'wrong').glob('*.edit'))
+        paths = [path for name, it in crates.items() for path in edits(it)
                  if is_sample or not words or {name, f'{name}/{path.stem}'} & set(words)]
         if is_sample:
             paths = sample(paths, int(words[1]))

@@ -1,14 +1,12 @@
 //! A checker between its calls: how many constraints it holds, and what it answers after a refusal.
 
 use super::{BRANCHES, BRANCHES_AND_MORE, MIXED, UNPROVED, UNSOLVED};
-use crate::tests::same;
+use crate::tests::{same, spelled};
 use std::alloc::Global;
 use std::process::Abort;
-use vipr_bytes::Bytes;
 use vipr_cert::{Derivation, Named, Problem};
 use vipr_check::{Checker, Place, Refusal, Stop};
 use vipr_linear::Solution;
-use vipr_read::read_certificate;
 use vipr_rules::{KeepAll, LiveOnly, Rows};
 
 // The calls behind the solutions, each made where it may be, and else without a refusal.
@@ -97,8 +95,7 @@ fn answers_behind<S: Rows>(
 
 // The same for a certificate that lists no solution.
 fn answers_to<S: Rows>(rt: &impl Abort, alloc: Global, text: &[u8], times: u32, wanted: &[Answer]) {
-    let read = read_certificate(alloc, Bytes::new(text));
-    let (problem, solutions, steps) = read.expect(rt, "a certificate").into_parts();
+    let (problem, solutions, steps) = spelled(rt, alloc, text).into_parts();
     drop(solutions);
     answers_behind::<S>(rt, alloc, problem, steps.as_slice(), times, wanted);
     drop(steps);
@@ -167,8 +164,7 @@ fn answers_to_solution(
 #[test]
 fn a_refused_solution_is_answered_again(rt: HostRuntime) {
     let refusal = refused(22, Place::Sol(0));
-    let read = read_certificate(rt.alloc(), Bytes::new(UNSOLVED));
-    let (problem, solutions, steps) = read.expect(&rt, "a certificate").into_parts();
+    let (problem, solutions, steps) = spelled(&rt, rt.alloc(), UNSOLVED).into_parts();
     drop(steps);
     let solution = solutions.first().expect(&rt, "a solution");
     let answers = answers_to_solution(&rt, rt.alloc(), problem, solution);

@@ -1,5 +1,5 @@
 use super::check::problem_of;
-use super::same;
+use super::{fraction, same};
 use std::alloc::Global;
 use std::process::Abort;
 use vipr_cert::Problem;
@@ -159,10 +159,6 @@ fn sets(rt: HostRuntime) {
     sees(&rt, without_both(&rt, alloc), none);
 }
 
-fn frac(rt: &impl Abort, p: i128, q: i128) -> Frac {
-    Frac::new(p, q).expect(rt, "a fraction")
-}
-
 // What is found of the solution with these two values.
 fn found(
     rt: &impl Abort,
@@ -200,9 +196,9 @@ const SMALL_SUM: &[u8] = b"VER 1.0 VAR 2 x y INT 1 0 OBJ min 2 0 1 1 1 CON 1 0 a
 fn solutions(rt: HostRuntime) {
     let alloc = rt.alloc();
     let one = Frac::one();
-    let half = frac(&rt, 1, 2);
-    let sum = frac(&rt, 3, 2);
-    let large = frac(&rt, i128::MAX, 1);
+    let half = fraction(&rt, (1, 2));
+    let sum = fraction(&rt, (3, 2));
+    let large = fraction(&rt, (i128::MAX, 1));
     let problem = problem_of(&rt, alloc, SMALL_SUM);
     for (x, y, wanted) in [
         (one, half, Ok(sum)),
@@ -243,9 +239,9 @@ const POINTS: [([i128; 3], i128); 9] = [
 fn point(rt: &impl Abort, alloc: Global, numbers: [i128; 3], denominator: i128) -> Solution {
     let [x, y, z] = numbers;
     let values = [
-        (0, frac(rt, x, denominator)),
-        (1, frac(rt, y, denominator)),
-        (2, frac(rt, z, denominator)),
+        (0, fraction(rt, (x, denominator))),
+        (1, fraction(rt, (y, denominator))),
+        (2, fraction(rt, (z, denominator))),
     ];
     let values = Vec::from_array(alloc, values).expect(rt, "values");
     Solution(Row::from_pairs(alloc, values).expect(rt, "a row"))

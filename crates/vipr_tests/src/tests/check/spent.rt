@@ -5,14 +5,12 @@
 
 use super::checkers::{derivation, end_solutions, finish, refused};
 use super::{BRANCHES, MIXED, SOLVED, UNDOMINATED};
-use crate::tests::same;
+use crate::tests::{same, spelled};
 use std::alloc::Global;
 use std::process::Abort;
-use vipr_bytes::Bytes;
 use vipr_cert::{Derivation, Named, Problem};
 use vipr_check::{Checker, Place, Stop};
 use vipr_linear::Solution;
-use vipr_read::read_certificate;
 use vipr_rules::{KeepAll, LiveOnly, Rows};
 
 // 2 x >= 5 for a whole x, rounded.
@@ -53,8 +51,7 @@ fn answer<S: Rows>(
 
 // The solution is refused, so its name is kept, which takes memory.
 fn of_solution<S: Rows>(rt: &impl Abort, alloc: Global) {
-    let read = read_certificate(alloc, Bytes::new(LONG_NAME));
-    let (problem, solutions, steps) = read.expect(rt, "a certificate").into_parts();
+    let (problem, solutions, steps) = spelled(rt, alloc, LONG_NAME).into_parts();
     drop(steps);
     let solution = solutions.first().expect(rt, "a solution");
     let answer = answer::<S>(rt, alloc, problem, solution);
@@ -125,8 +122,7 @@ fn at_its_end<S: Rows>(
 
 // What is answered at the end of a text.
 fn at_the_end<S: Rows>(rt: &impl Abort, alloc: Global, text: &[u8]) -> Result<(), Stop> {
-    let read = read_certificate(alloc, Bytes::new(text));
-    let (problem, solutions, steps) = read.expect(rt, "a certificate").into_parts();
+    let (problem, solutions, steps) = spelled(rt, alloc, text).into_parts();
     let answer = at_its_end::<S>(rt, alloc, problem, solutions.as_slice(), steps.as_slice());
     drop((solutions, steps));
     answer

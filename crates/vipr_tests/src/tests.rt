@@ -1,11 +1,15 @@
 mod bytes;
 mod cert;
+mod check;
+mod example;
 mod frac;
 mod linear;
 mod pieces;
 mod read;
+mod rules;
 mod scan;
 mod shared;
+mod tighten;
 mod write;
 
 use std::alloc::Global;

@@ -116,9 +116,8 @@ fn write_into(rt: &impl Abort, alloc: Global, certificate: &Certificate, bytes: 
     same(rt, write_certificate(alloc, certificate, &mut sink), Ok(()));
 }
 
-// What is written for the certificate that a text spells.
-fn is_written(rt: &impl Abort, alloc: Global, text: &[u8], wanted: &[u8]) {
-    let certificate = spelled(rt, alloc, text);
+/// Compares what is written for a certificate.
+pub(super) fn is_written(rt: &impl Abort, alloc: Global, certificate: Certificate, wanted: &[u8]) {
     // the writer has its room before
     let mut bytes = Vec::with_capacity(alloc, 4096).expect(rt, "room");
     write_into(rt, alloc, &certificate, &mut bytes);
@@ -129,7 +128,8 @@ fn is_written(rt: &impl Abort, alloc: Global, text: &[u8], wanted: &[u8]) {
 #[test]
 fn each_kind_of_line(rt: HostRuntime) {
     for (text, wanted) in [(SHORT, SHORT), (SPELLED, TEXT)] {
-        is_written(&rt, rt.alloc(), text, wanted);
+        let certificate = spelled(&rt, rt.alloc(), text);
+        is_written(&rt, rt.alloc(), certificate, wanted);
     }
 }
 

@@ -1,14 +1,12 @@
 //! Certificates as texts, and what they become.
 mod texts;
 
-use super::same;
+use super::spelled;
+use super::write::is_written;
 use std::alloc::Global;
 use std::process::Abort;
-use vipr_bytes::{Bytes, FromWrite};
 use vipr_cert::Certificate;
-use vipr_read::read_certificate;
 use vipr_tighten::tighten_certificate;
-use vipr_write::write_certificate;
 
 // The constraint `x >= 3`, a solution that attains it, and the cutoff there.
 const CUTOFF: &[u8] = b"VER 1.0
@@ -122,27 +120,29 @@ g G 1 0 { uns 4 2 5 3 } -1
 #[test]
 fn a_cutoff_stays_for_itself_alone(rt: HostRuntime) {
     for (goal, wanted) in [(Some(0), UNDERIVED), (Some(1), CUTOFF), (None, UNDERIVED)] {
-        is_tightened(&rt, rt.alloc(), CUTOFF, goal, wanted);
+        let certificate = tightened(&rt, rt.alloc(), CUTOFF, goal);
+        is_written(&rt, rt.alloc(), certificate, wanted);
     }
 }
 
 #[test]
 fn entries_with_multiplier_0_go(rt: HostRuntime) {
     for (text, goal) in [(IGNORED, 2), (ROUNDED, 1)] {
-        is_tightened(&rt, rt.alloc(), text, Some(goal), ROUNDED);
+        let certificate = tightened(&rt, rt.alloc(), text, Some(goal));
+        is_written(&rt, rt.alloc(), certificate, ROUNDED);
     }
 }
 
 #[test]
 fn indices_and_last_references_follow(rt: HostRuntime) {
     for (text, goal) in [(UNUSED, 7), (SPLIT, 6)] {
-        is_tightened(&rt, rt.alloc(), text, Some(goal), SPLIT);
+        let certificate = tightened(&rt, rt.alloc(), text, Some(goal));
+        is_written(&rt, rt.alloc(), certificate, SPLIT);
     }
 }
 
 fn tightened(rt: &impl Abort, alloc: Global, text: &[u8], goal: Option<u32>) -> Certificate {
-    let read = read_certificate(alloc, Bytes::new(text));
-    let certificate = read.expect(rt, "a certificate");
+    let certificate = spelled(rt, alloc, text);
     let constraints = certificate.problem().cons().len() + certificate.derivations().len();
     assert!(rt; certificate.refers_back());
     let tightened = match goal {
@@ -153,19 +153,4 @@ fn tightened(rt: &impl Abort, alloc: Global, text: &[u8], goal: Option<u32>) -> 
         }
     };
     tightened.expect(rt, "a tightened one")
-}
-
-fn write_into(rt: &impl Abort, alloc: Global, certificate: &Certificate, bytes: &mut Vec<u8>) {
-    let mut sink = FromWrite::new(bytes);
-    same(rt, write_certificate(alloc, certificate, &mut sink), Ok(()));
-}
-
-// The text of the tightened certificate is this one.
-fn is_tightened(rt: &impl Abort, alloc: Global, text: &[u8], goal: Option<u32>, wanted: &[u8]) {
-    let certificate = tightened(rt, alloc, text, goal);
-    // the writer has its room before
-    let mut bytes = Vec::with_capacity(alloc, 4096).expect(rt, "room");
-    write_into(rt, alloc, &certificate, &mut bytes);
-    same(rt, bytes.as_slice(), wanted);
-    drop((certificate, bytes));
 }
