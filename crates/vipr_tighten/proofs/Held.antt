@@ -18,7 +18,7 @@ use Rattle.vipr_spec.specs.Certificate.{minimum, infeasible}
 use Rattle.vipr_spec.specs.Certificate.{is_assumption, lasts_to, is_live, count_held, peak}
 use Rattle.vipr_spec.proofs.Laws.{reason_placed}
 use Rattle.vipr_spec.proofs.Laws.{lasts_listed, count_cons, count_from}
-use Rattle.vipr_cert.specs.Items.{reason_of}
+use Rattle.vipr_write.specs.StepReasons.{kept_reason_of}
 use Rattle.vipr_write.specs.Steps.{step_of}
 use Rattle.vipr_write.specs.declared.statements.Step.{Step}
 use Rattle.vipr_tighten.specs.Passes.{StandFor}
@@ -139,7 +139,7 @@ module _ (c : Certificate) (m : ℕ) (is_first : length c.problem.constraints �
       turned ∙ sym (ap (fold max 0) (map-range_with_len_more (count_held c) m p (m + p) refl) ∙ fold-append max 0 (map (count_held c) (range_with_len m p)) (count_held c (m + p) ∷ []))
 
   -- where the derivation at this place is dropped
-  pub drop_here : {S : Type 0} (view : S → Named Constraint) (ss : List (Step S)) → map (step_of view) ss ≡ c.derivations → p < length ss → (s : Step S) → s ≡ slice_index_or ss p s → drop_at c (m + p) ≡ dropped_after (m + p) (Some (reason_of s.reason)) s.last
+  pub drop_here : {S : Type 0} (view : S → Named Constraint) (ss : List (Step S)) → map (step_of view) ss ≡ c.derivations → p < length ss → (s : Step S) → s ≡ slice_index_or ss p s → drop_at c (m + p) ≡ dropped_after (m + p) (Some (kept_reason_of s.reason)) s.last
   drop_here view ss same h s is = ap₂ (dropped_after (m + p)) reason last
     where
       there : step_of view s ≡ slice_index_or c.derivations p (step_of view s)
@@ -148,7 +148,7 @@ module _ (c : Certificate) (m : ℕ) (is_first : length c.problem.constraints �
       inside : p < length c.derivations
       inside = let e = length-map ss (step_of view) in let f = ap length same in omega arith
 
-      reason : reason_at c (m + p) ≡ Some (reason_of s.reason)
+      reason : reason_at c (m + p) ≡ Some (kept_reason_of s.reason)
       reason = ap (λ n. reason_at c (n + p)) (sym is_first) ∙ reason_placed c p ∙ get_or-map (λ (x : Derivation). Some x.reason) c.derivations p (step_of view s) None inside ∙ ap (λ (x : Derivation). Some x.reason) (sym there)
 
       last : last_at c (m + p) ≡ s.last

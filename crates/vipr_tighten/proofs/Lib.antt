@@ -1,6 +1,7 @@
 mod Marking
 mod Referring
 mod Entries
+mod ShortEntries
 mod Moving
 mod Renumbering
 mod Tightening

@@ -14,7 +14,7 @@ use Rattle.vipr_spec.specs.Reading.{is_nonzero}
 use Rattle.vipr_spec.specs.Certificate.{Named, asm, Derivation}
 use Rattle.vipr_spec.specs.Tightened.{refers_to, is_the_goal, is_marked}
 use Rattle.vipr_spec.proofs.Laws.{marked_down}
-use Rattle.vipr_cert.specs.Items.{reason_of}
+use Rattle.vipr_write.specs.StepReasons.{kept_reason_of}
 use Rattle.vipr_write.specs.Steps.{step_of}
 use Rattle.vipr_write.specs.declared.statements.Step.{Step}
 use Rattle.vipr_tighten.specs.Passes.{has_mark, MarksAlso, AreMarks}
@@ -152,7 +152,7 @@ module _ {S : Type 0} (view : S → Named Constraint) (goal : Option ℕ) (first
   inside : j < length (map (step_of view) ss)
   inside = let s = length-map ss (step_of view) in omega arith
 
-  pub next_marked : (s : Step S) → s ≡ get_or ss j s → (new : List Bool) → length new ≡ length marks → has_mark marks j ≡ true → MarksAlso first (refers_to (reason_of s.reason)) marks new → AreMarksFrom goal first (map (step_of view) ss) j new
+  pub next_marked : (s : Step S) → s ≡ get_or ss j s → (new : List Bool) → length new ≡ length marks → has_mark marks j ≡ true → MarksAlso first (refers_to (kept_reason_of s.reason)) marks new → AreMarksFrom goal first (map (step_of view) ss) j new
   next_marked s is new size marked also =
       marks_more goal first (map (step_of view) ss) j (step_of view s) inside marks so_far new size marked
       (subst (λ (x : Derivation). MarksAlso first (refers_to x.reason) marks new) (sym (step_seen view ss j s h is)) also)

@@ -9,7 +9,7 @@ use Rattle.std.specs.List.{SwappedAt}
 use Rattle.vipr_spec.specs.Constraint.{Constraint}
 use Rattle.vipr_spec.specs.Certificate.{Named}
 use Rattle.vipr_spec.specs.Tightened.{refers_to, referred_by, with_new_indices}
-use Rattle.vipr_cert.specs.Items.{reason_of}
+use Rattle.vipr_write.specs.StepReasons.{kept_reason_of}
 use Rattle.vipr_write.specs.Steps.{step_of}
 use Rattle.vipr_write.specs.declared.statements.Step.{Step}
 use Rattle.vipr_tighten.specs.Passes.{index_by, TakesOver}
@@ -72,7 +72,7 @@ pub accepted_over : {S : Type 0} (view : S → Named Constraint) (first : ℕ) (
     → was ≡ get_or (drop kept now) 0 was → step_of view moved
     ≡ record (with_new_indices (index_by first table) (step_of view was)) { last = None }
     → (changed : List (Step S)) → length changed ≡ kept → map (step_of view) changed ≡ referred_by
-    (refers_to (reason_of moved.reason)) (first + kept) first (map (step_of view) (take kept now))
+    (refers_to (kept_reason_of moved.reason)) (first + kept) first (map (step_of view) (take kept now))
     → TakesOver view first table kept place old (changed ++ set (drop kept now) 0 moved)
 accepted_over {S} view first table old now kept place behind there size swapped was moved is_was d changed as_long r = record {
   size = after_size old now kept place behind there size swapped changed moved as_long;
@@ -83,6 +83,6 @@ accepted_over {S} view first table old now kept place behind there size swapped 
         moved,
         after_front old now kept place behind there size swapped changed moved as_long,
         subst (λ (y : Step S). step_of view moved ≡ record (with_new_indices (index_by first table) (step_of view y)) { last = None }) same d,
-        subst (λ l. map (step_of view) changed ≡ referred_by (refers_to (reason_of moved.reason)) (first + kept) first (map (step_of view) l)) (front_same old now kept place behind there size swapped) r,
+        subst (λ l. map (step_of view) changed ≡ referred_by (refers_to (kept_reason_of moved.reason)) (first + kept) first (map (step_of view) l)) (front_same old now kept place behind there size swapped) r,
       );
 }

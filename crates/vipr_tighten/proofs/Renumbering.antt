@@ -16,7 +16,7 @@ use Rattle.vipr_spec.specs.Tightened.{renumbered_reason, with_new_indices, kept_
 use Rattle.vipr_spec.specs.Tightened.{referred_by, tightened_certificate}
 use Rattle.vipr_spec.proofs.Laws.{index_same, length_kept_derivations, reason_placed, marked_past}
 use Rattle.vipr_spec.proofs.Laws.{next_kept, next_left_out, renumbered_alike}
-use Rattle.vipr_cert.specs.Items.{reason_of}
+use Rattle.vipr_write.specs.StepReasons.{kept_reason_of}
 use Rattle.vipr_write.specs.Steps.{step_of}
 use Rattle.vipr_write.specs.declared.statements.Step.{Step}
 use Rattle.vipr_tighten.specs.Passes.{StandFor, step_reason, StepsNameEarlier}
@@ -86,10 +86,10 @@ module _ {S : Type 0} (view : S → Named Constraint) (first : ℕ) (marks : Lis
     next : (length table < length all) × (x ≡ get_or all (length table) x) × (drop (length table + 1) all ≡ rest)
     next = next_of all (length table) x rest (so_far.others ∙ e)
 
-    next_earlier : StepsNameEarlier first all → NamesEarlier (first + length table) (Some (reason_of x.reason))
+    next_earlier : StepsNameEarlier first all → NamesEarlier (first + length table) (Some (kept_reason_of x.reason))
     next_earlier earlier =
         subst (NamesEarlier (first + length table))
-        (get_or-map (λ (d : Step S). Some (reason_of d.reason)) all (length table) x None next.0 ∙ ap (λ (d : Step S). Some (reason_of d.reason)) (sym next.1))
+        (get_or-map (λ (d : Step S). Some (kept_reason_of d.reason)) all (length table) x None next.0 ∙ ap (λ (d : Step S). Some (kept_reason_of d.reason)) (sym next.1))
         (earlier (length table) next.0)
 
     longer : (index : ℕ) → length (table ++ index ∷ []) ≡ length table + 1
@@ -134,19 +134,19 @@ module _ {S : Type 0} (view : S → Named Constraint) (first : ℕ) (marks : Lis
 
     pub take_over : (index : ℕ) → index ≡ first + length kept → has_mark marks (length table) ≡ true → StepsNameEarlier first all
         → (moved : Step S) → step_of view moved ≡ record (with_new_indices (index_by first table) (step_of view x)) { last = None }
-        → (changed : List (Step S)) → map (step_of view) changed ≡ referred_by (refers_to (reason_of moved.reason)) index first (map (step_of view) kept)
+        → (changed : List (Step S)) → map (step_of view) changed ≡ referred_by (refers_to (kept_reason_of moved.reason)) index first (map (step_of view) kept)
         → SoFar view first marks all rest (table ++ index ∷ []) (changed ++ moved ∷ [])
     take_over index f m earlier moved g changed h =
         let size = longer index in
         let l = next.0 in
         let here : slice_index_or (map (step_of view) all) (length table) (step_of view x) ≡ step_of view x =
         get_or-map (step_of view) all (length table) x (step_of view x) next.0 ∙ ap (step_of view) (sym next.1) in
-        let reason : renumbered_reason (index_by first table) (reason_of x.reason) ≡ renumbered_reason (new_index keep) (reason_of x.reason) =
-        renumbered_alike (index_by first table) (new_index keep) (first + length table) look_up (reason_of x.reason) (next_earlier earlier) in
+        let reason : renumbered_reason (index_by first table) (kept_reason_of x.reason) ≡ renumbered_reason (new_index keep) (kept_reason_of x.reason) =
+        renumbered_alike (index_by first table) (new_index keep) (first + length table) look_up (kept_reason_of x.reason) (next_earlier earlier) in
         let now : record (with_new_indices (index_by first table) (step_of view x)) { last = None } ≡ record (with_new_indices (new_index keep) (step_of view x)) { last = None } =
         ap (λ r. record (step_of view x) { reason = r; last = None }) reason in
-        let of_moved : reason_of moved.reason ≡ renumbered_reason (new_index keep) (reason_of x.reason) = ap (λ (d : is.Derivation). d.reason) (g ∙ now) in
-        let one : next_reason ≡ refers_to (reason_of moved.reason) = ap refers_to (ap (λ (d : is.Derivation). renumbered_reason (new_index keep) d.reason) here ∙ sym of_moved) in
+        let of_moved : kept_reason_of moved.reason ≡ renumbered_reason (new_index keep) (kept_reason_of x.reason) = ap (λ (d : is.Derivation). d.reason) (g ∙ now) in
+        let one : next_reason ≡ refers_to (kept_reason_of moved.reason) = ap refers_to (ap (λ (d : is.Derivation). renumbered_reason (new_index keep) d.reason) here ∙ sym of_moved) in
         record {
           others = ap (λ n. drop n all) size ∙ next.2;
           few = omega arith;
@@ -257,8 +257,8 @@ module _ {S : Type 0} (view : S → Named Constraint) (first : ℕ) (steps : Lis
   earlier_derived j = subst (NamesEarlier (first + j)) (sym (reasons view steps j)) (⊎_elim
       (λ (l : j < length steps). earlier j l)
       (λ (l : length steps ≤ j).
-      let size = length-map steps (λ (s : Step S). Some (reason_of s.reason)) in
-      subst (NamesEarlier (first + j)) (sym (get_or_past (map (λ (s : Step S). Some (reason_of s.reason)) steps) j None (omega arith))) tt)
+      let size = length-map steps (λ (s : Step S). Some (kept_reason_of s.reason)) in
+      subst (NamesEarlier (first + j)) (sym (get_or_past (map (λ (s : Step S). Some (kept_reason_of s.reason)) steps) j None (omega arith))) tt)
       (cases_lt j (length steps)))
 
   kept_alike : (i : ℕ) → kept_by first marks i ≡ (nat_lt i first || is_marked goal first derived i)

@@ -6,7 +6,7 @@ use Rattle.std.specs.Prelude.{Option, Some, None}
 use Rattle.vipr_spec.specs.Constraint.{Constraint}
 use Rattle.vipr_spec.specs.Certificate.{Named, Reason, Derivation, Certificate, NamesEarlier}
 use Rattle.vipr_spec.specs.Tightened.{is_marked, refers_to, referred_by, with_new_indices}
-use Rattle.vipr_cert.specs.Items.{reason_of}
+use Rattle.vipr_write.specs.StepReasons.{kept_reason_of}
 use Rattle.vipr_write.specs.Steps.{step_of}
 use Rattle.vipr_write.specs.declared.statements.Step.{Step}
 
@@ -21,7 +21,7 @@ pub record StandFor {S : Type 0} (steps : List (Step S)) (view : S → Named Con
 
 -- the reasons; none past the end
 abbrev pub step_reason : {S : Type 0} → List (Step S) → ℕ → Option Reason
-step_reason steps k = slice_index_or (map (λ s. Some (reason_of s.reason)) steps) k None
+step_reason steps k = slice_index_or (map (λ s. Some (kept_reason_of s.reason)) steps) k None
 
 -- each names earlier constraints alone
 abbrev pub StepsNameEarlier : {S : Type 0} → ℕ → List (Step S) → Type 0
@@ -64,5 +64,5 @@ pub record TakesOver {S : Type 0} (view : S → Named Constraint) (first : ℕ) 
       → (changed : List (Step S)) × (moved : Step S) × (take (kept + 1) new ≡ changed ++ moved ∷ [])
       × (step_of view moved
       ≡ record (with_new_indices (index_by first table) (step_of view x)) { last = None })
-      × (map (step_of view) changed ≡ referred_by (refers_to (reason_of moved.reason))
+      × (map (step_of view) changed ≡ referred_by (refers_to (kept_reason_of moved.reason))
       (first + kept) first (map (step_of view) (take kept old)))

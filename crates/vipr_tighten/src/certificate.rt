@@ -16,7 +16,7 @@ use crate::renumber::renumber;
 use std::alloc::{AllocError, Global};
 use vipr_cert::{Certificate, Derivation, Named};
 use vipr_linear::Constraint;
-use vipr_write::Step;
+use vipr_write::{Step, StepReason};
 
 /// The certificate with the derivations alone that a goal needs, in their order. They are
 /// renumbered without gaps, entries with multiplier 0 are removed, and the last reference of each
@@ -91,7 +91,7 @@ fn as_step(derivation: Derivation) -> Step<Named<Constraint>>
             name: derivation.name,
             item: derivation.constraint,
         },
-        reason: derivation.reason,
+        reason: StepReason::from_reason(derivation.reason),
         last: derivation.last,
     }
 }
@@ -106,18 +106,18 @@ fn derivations_of(
 {
     let mut derivations = Vec::with_capacity(alloc, steps.len())?;
     for step in steps {
-        derivations.push(as_derivation(step))?;
+        derivations.push(as_derivation(alloc, step)?)?;
     }
     Ok(derivations)
 }
 
-fn as_derivation(step: Step<Named<Constraint>>) -> Derivation
-    ensures { derivation_of result ≡ step_of (named_of constraint_of) step }
+fn as_derivation(alloc: Global, step: Step<Named<Constraint>>) -> Result<Derivation, AllocError>
+    ensures { IfOk result (λ d. derivation_of d ≡ step_of (named_of constraint_of) step) }
 {
-    Derivation {
+    Ok(Derivation {
         name: step.stated.name,
         constraint: step.stated.item,
-        reason: step.reason,
+        reason: step.reason.into_reason(alloc)?,
         last: step.last,
-    }
+    })
 }

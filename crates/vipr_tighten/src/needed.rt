@@ -6,14 +6,13 @@ ghost use Rattle.vipr_spec.specs.Constraint.{Constraint as ConstraintMeant};
 ghost use Rattle.vipr_spec.specs.Certificate.{Named as NamedMeant};
 ghost use Rattle.vipr_spec.specs.Reading.{is_nonzero};
 ghost use Rattle.vipr_spec.specs.Tightened.{refers_to};
-ghost use Rattle.vipr_cert.specs.Items.{reason_of};
 ghost use Rattle.vipr_write.specs.Steps.{step_of};
+ghost use Rattle.vipr_write.specs.StepReasons.{entry_of, kept_reason_of};
 ghost use Rattle.vipr_tighten.specs.Passes.{MarksAlso, AreMarks};
 
 use std::alloc::{AllocError, Global};
-use vipr_cert::{Reason, References};
 use vipr_frac::Frac;
-use vipr_write::Step;
+use vipr_write::{ShortEntry, Step, StepReason, StepReferences};
 
 /// For each step whether the goal needs it. The first step has the index `first`.
 pub(crate) fn needed<S>(
@@ -38,13 +37,14 @@ pub(crate) fn needed<S>(
 }
 
 // Marks what a reason refers to.
-fn mark_references(marks: &mut [bool], first: usize, reason: &Reason)
-    ensures { MarksAlso first (refers_to (reason_of reason.now)) marks.old marks.new }
+fn mark_references(marks: &mut [bool], first: usize, reason: &StepReason)
+    ensures { MarksAlso first (refers_to (kept_reason_of reason.now)) marks.old marks.new }
 {
     match reason.references() {
-        References::Nothing => {}
-        References::Entries(entries) => mark_entries(marks, first, entries),
-        References::Branches { i1, l1, i2, l2 } => {
+        StepReferences::Nothing => {}
+        StepReferences::Short(entries) => mark_short_entries(marks, first, entries),
+        StepReferences::Long(entries) => mark_entries(marks, first, entries),
+        StepReferences::Branches { i1, l1, i2, l2 } => {
             mark(marks, first, i1);
             mark(marks, first, l1);
             mark(marks, first, i2);
@@ -61,6 +61,19 @@ fn mark_entries(marks: &mut [bool], first: usize, entries: &[(u32, Frac)])
     for (index, multiplier) in entries {
         if !is_zero(multiplier) {
             mark(marks, first, *index);
+        }
+    }
+}
+
+// The same of short ones.
+fn mark_short_entries(marks: &mut [bool], first: usize, entries: &[ShortEntry])
+    ensures { MarksAlso first
+        (λ i. list_any (λ e. nat_eq i e.0 && is_nonzero e) (map entry_of entries.now))
+        marks.old marks.new }
+{
+    for entry in entries {
+        if !is_zero(&entry.multiplier()) {
+            mark(marks, first, entry.index);
         }
     }
 }

@@ -5,13 +5,12 @@ ghost use Rattle.vipr_spec.specs.Constraint.{Constraint as ConstraintMeant};
 ghost use Rattle.vipr_spec.specs.Certificate.{Certificate as CertificateMeant};
 ghost use Rattle.vipr_spec.specs.Certificate.{Named as NamedMeant, peak};
 ghost use Rattle.vipr_spec.specs.Reading.{most_count};
-ghost use Rattle.vipr_cert.specs.Items.{reason_of};
+ghost use Rattle.vipr_write.specs.StepReasons.{kept_reason_of};
 ghost use Rattle.vipr_tighten.specs.Dropping.{dropped_after};
 ghost use Rattle.vipr_tighten.specs.Passes.{StandFor};
 
 use std::alloc::{AllocError, Global};
-use vipr_cert::Reason;
-use vipr_write::Step;
+use vipr_write::{Step, StepReason};
 
 /// The largest number of derived constraints that have to be held at a time. The first step has
 /// the index `first`.
@@ -36,10 +35,10 @@ pub(crate) fn peak<S>(alloc: Global, first: usize, steps: &[Step<S>]) -> Result<
 // After the derivation of which index constraint `index` is dropped, none where it never is.
 fn dropped_after<S>(step: &Step<S>, index: usize) -> Option<usize>
     requires { index < 2 ^ 32 }
-    ensures { result ≡ dropped_after index (Some (reason_of step.now.reason)) step.now.last }
+    ensures { result ≡ dropped_after index (Some (kept_reason_of step.now.reason)) step.now.last }
 {
     match &step.reason {
-        Reason::Asm => None,
+        StepReason::Asm => None,
         _ => match step.last {
             None => None,
             Some(last) => Some((last as usize).max(index + 1)),

@@ -235,7 +235,7 @@ fn read_derivations<R: Source>(
             return Ok(steps);
         }
         checker.derivation(alloc, &step)?;
-        let kept = statements.keep(&mut step)?;
+        let kept = statements.keep(alloc, &step)?;
         steps.push(kept)?;
     }
 }

@@ -1,22 +1,21 @@
 //! New indices and last references: one pass from the front.
 ghost use Rattle.std.specs.Prelude.{◌≡◌, ◌+◌, ◌<◌, ◌≤◌, ◌&&◌, nat_eq, All, IfOk, Some, None, map};
-ghost use Rattle.std.specs.Prelude.{length};
+ghost use Rattle.std.specs.Prelude.{◌∷◌, [], length};
 ghost use Rattle.std.specs.List.{list_any};
 ghost use Rattle.vipr_spec.specs.Constraint.{Constraint as ConstraintMeant};
-ghost use Rattle.vipr_spec.specs.Certificate.{Named as NamedMeant, NamesEarlier};
+ghost use Rattle.vipr_spec.specs.Certificate.{Named as NamedMeant, NamesEarlier, lin};
 ghost use Rattle.vipr_spec.specs.Reading.{is_nonzero, most_count};
 ghost use Rattle.vipr_spec.specs.Tightened.{refers_to, renumbered_entries, renumbered_reason};
 ghost use Rattle.vipr_spec.specs.Tightened.{with_new_indices, kept_derivations, referred_by};
-ghost use Rattle.vipr_cert.specs.Items.{reason_of};
 ghost use Rattle.vipr_write.specs.Steps.{step_of};
+ghost use Rattle.vipr_write.specs.StepReasons.{entry_of, kept_reason_of};
 ghost use Rattle.vipr_tighten.specs.Passes.{step_reason, StepsNameEarlier};
 ghost use Rattle.vipr_tighten.specs.Passes.{kept_by, index_by, TakesOver};
 
 use crate::needed::is_zero;
 use std::alloc::{AllocError, Global};
-use vipr_cert::{Reason, References};
 use vipr_frac::Frac;
-use vipr_write::Step;
+use vipr_write::{ShortEntry, Step, StepReason, StepReferences};
 
 /// The steps with a mark, in their order, under their new indices and with their last references.
 /// The first step has the index `first`.
@@ -38,7 +37,7 @@ pub(crate) fn renumber<S: Drop>(
     for place in 0..steps.len() {
         let index = first + kept as u32;
         if marks[place] {
-            take_over(&mut steps, kept, place, first, &table);
+            take_over(alloc, &mut steps, kept, place, first, &table);
             kept += 1;
         }
         table.push(index)?;
@@ -49,7 +48,14 @@ pub(crate) fn renumber<S: Drop>(
 
 // Takes the step at a place over, behind the first `kept`: under its new indices, and as the last
 // reference of those that it refers to.
-fn take_over<S>(steps: &mut [Step<S>], kept: usize, place: usize, first: u32, table: &[u32])
+fn take_over<S>(
+    alloc: Global,
+    steps: &mut [Step<S>],
+    kept: usize,
+    place: usize,
+    first: u32,
+    table: &[u32],
+)
     requires behind { kept ≤ place }
     requires there { place < length steps.old }
     requires few { first + kept ≤ most_count }
@@ -60,7 +66,7 @@ fn take_over<S>(steps: &mut [Step<S>], kept: usize, place: usize, first: u32, ta
     steps.swap(kept, place);
     let (front, back) = steps.split_at_mut(kept);
     let moved_item = &mut back[0];
-    renumber_references(moved_item, first, table);
+    renumber_references(alloc, moved_item, first, table);
     set_last(front, first, &moved_item.reason, first + kept as u32);
 }
 
@@ -87,17 +93,47 @@ fn renumber_entries(entries: &mut Vec<(u32, Frac)>, first: u32, table: &[u32])
     }
 }
 
+// The same of short ones.
+fn renumber_short_entries(entries: &mut Vec<ShortEntry>, first: u32, table: &[u32])
+    requires { All (λ e. e.0 < first + length table.now) (map entry_of entries.old.items) }
+    ensures { map entry_of entries.new.items
+        ≡ renumbered_entries (index_by first table.now) (map entry_of entries.old.items) }
+{
+    entries.retain(|entry| !is_zero(&entry.multiplier()));
+    for i in 0..entries.len() {
+        entries[i].index = index_of(entries[i].index, first, table);
+    }
+}
+
+// The reason of one entry under its new index, unless its multiplier is 0.
+fn renumbered_one(alloc: Global, entry: ShortEntry, first: u32, table: &[u32]) -> StepReason
+    requires { entry.index < first + length table.now }
+    ensures { kept_reason_of result
+        ≡ lin (renumbered_entries (index_by first table.now) (entry_of entry ∷ [])) }
+{
+    if is_zero(&entry.multiplier()) {
+        StepReason::Lin(Vec::new(alloc))
+    } else {
+        let mut moved = entry;
+        moved.index = index_of(entry.index, first, table);
+        StepReason::One(moved)
+    }
+}
+
 // Gives a reason the new indices.
-fn renumber_reason(reason: &mut Reason, first: u32, table: &[u32])
-    requires { NamesEarlier (first + length table.now) (Some (reason_of reason.old)) }
-    ensures { reason_of reason.new
-        ≡ renumbered_reason (index_by first table.now) (reason_of reason.old) }
+fn renumber_reason(alloc: Global, reason: &mut StepReason, first: u32, table: &[u32])
+    requires { NamesEarlier (first + length table.now) (Some (kept_reason_of reason.old)) }
+    ensures { kept_reason_of reason.new
+        ≡ renumbered_reason (index_by first table.now) (kept_reason_of reason.old) }
 {
     match reason {
-        Reason::Asm | Reason::Sol => {}
-        Reason::Lin(entries) => renumber_entries(entries, first, table),
-        Reason::Rnd(entries) => renumber_entries(entries, first, table),
-        Reason::Uns { i1, l1, i2, l2 } => {
+        StepReason::Asm | StepReason::Sol => {}
+        StepReason::One(entry) => *reason = renumbered_one(alloc, *entry, first, table),
+        StepReason::Lin(entries) => renumber_short_entries(entries, first, table),
+        StepReason::Rnd(entries) => renumber_short_entries(entries, first, table),
+        StepReason::LongLin(entries) => renumber_entries(entries, first, table),
+        StepReason::LongRnd(entries) => renumber_entries(entries, first, table),
+        StepReason::Uns { i1, l1, i2, l2 } => {
             *i1 = index_of(*i1, first, table);
             *l1 = index_of(*l1, first, table);
             *i2 = index_of(*i2, first, table);
@@ -107,26 +143,28 @@ fn renumber_reason(reason: &mut Reason, first: u32, table: &[u32])
 }
 
 // Gives a step the new indices, and takes its last reference away.
-fn renumber_references<S>(step: &mut Step<S>, first: u32, table: &[u32])
-    requires { NamesEarlier (first + length table.now) (Some (reason_of step.old.reason)) }
+fn renumber_references<S>(alloc: Global, step: &mut Step<S>, first: u32, table: &[u32])
+    requires { NamesEarlier (first + length table.now) (Some (kept_reason_of step.old.reason)) }
     ensures { (view : S → NamedMeant ConstraintMeant) → step_of view step.new
         ≡ record (with_new_indices (index_by first table.now) (step_of view step.old)) {
           last = None;
         } }
 {
-    renumber_reason(&mut step.reason, first, table);
+    renumber_reason(alloc, &mut step.reason, first, table);
     step.last = None;
 }
 
 // Gives the steps that a reason refers to this last reference.
-fn set_last<S>(kept: &mut [Step<S>], first: u32, reason: &Reason, last: u32)
+fn set_last<S>(kept: &mut [Step<S>], first: u32, reason: &StepReason, last: u32)
     ensures { (view : S → NamedMeant ConstraintMeant) → map (step_of view) kept.new
-        ≡ referred_by (refers_to (reason_of reason.now)) last first (map (step_of view) kept.old) }
+        ≡ referred_by (refers_to (kept_reason_of reason.now)) last first
+        (map (step_of view) kept.old) }
 {
     match reason.references() {
-        References::Nothing => {}
-        References::Entries(entries) => set_last_named(kept, first, entries, last),
-        References::Branches { i1, l1, i2, l2 } => {
+        StepReferences::Nothing => {}
+        StepReferences::Short(entries) => set_last_short(kept, first, entries, last),
+        StepReferences::Long(entries) => set_last_named(kept, first, entries, last),
+        StepReferences::Branches { i1, l1, i2, l2 } => {
             set_last_at(kept, first, i1, last);
             set_last_at(kept, first, l1, last);
             set_last_at(kept, first, i2, last);
@@ -144,6 +182,20 @@ fn set_last_named<S>(kept: &mut [Step<S>], first: u32, entries: &[(u32, Frac)], 
     for (index, multiplier) in entries {
         if !is_zero(multiplier) {
             set_last_at(kept, first, *index, last);
+        }
+    }
+}
+
+// The same of short ones.
+fn set_last_short<S>(kept: &mut [Step<S>], first: u32, entries: &[ShortEntry], last: u32)
+    ensures { (view : S → NamedMeant ConstraintMeant) → map (step_of view) kept.new
+        ≡ referred_by
+        (λ i. list_any (λ e. nat_eq i e.0 && is_nonzero e) (map entry_of entries.now)) last first
+        (map (step_of view) kept.old) }
+{
+    for entry in entries {
+        if !is_zero(&entry.multiplier()) {
+            set_last_at(kept, first, entry.index, last);
         }
     }
 }

@@ -1,5 +1,5 @@
 -- Steps whose names and constraints are kept in a text that grows
-use Rattle.std.proofs.Common.{◌≡◌, ℕ, suc, get_or, codes, IsTrue, ◌+◌, ◌-◌, ◌≤◌, Bool, true, false}
+use Rattle.std.proofs.Common.{◌≡◌, ℕ, suc, get_or, codes, IsTrue, ◌-◌, ◌≤◌, Bool, true, false}
 use Rattle.std.proofs.Common.{◌&&◌, nat_le, cond, List, [], ◌∷◌, ◌++◌, length, map, take, drop}
 use Rattle.std.proofs.Common.{slice_range, All, refl, sym, ap, ap₂, ◌∙◌, append_assoc}
 use Rattle.std.proofs.Common.{length-append, arith}
@@ -16,7 +16,7 @@ use Rattle.vipr_spec.specs.Constraint.{Row, Constraint, equal}
 use Rattle.vipr_write.specs.Canonical.{sense_word, reason_words, last_word, solutions_lines}
 use Rattle.vipr_write.specs.Canonical.{heading, words_after_spaces, line_text, lines_text}
 use Rattle.vipr_spec.specs.Certificate.{Named, Problem, Derivation, Certificate}
-use Rattle.vipr_cert.specs.Items.{reason_of}
+use Rattle.vipr_write.specs.StepReasons.{kept_reason_of}
 use Rattle.vipr_write.specs.Forms.{row_words, constraint_words_in, derivation_words_in}
 use Rattle.vipr_write.specs.Forms.{problem_lines_in, derivations_lines_in, text_in}
 use Rattle.vipr_write.specs.Folded.{stated_words}
@@ -94,7 +94,7 @@ steps_same t u more (s ∷ steps) o r e a =
     let name : own_bytes u.text.items s.stated ++ row_bytes u.spelled.items s.stated ≡ own_bytes t.text.items s.stated ++ row_bytes t.spelled.items s.stated =
     ap₂ (λ x y. x ++ y) (ap (λ l. own_bytes l s.stated) e ∙ own_same t.text.items more s.stated here) (ap (λ l. row_bytes l s.stated) r) in
     let one : step_of (statement_in u) s ≡ step_of (statement_in t) s =
-    ap₂ (λ n q. let d : Derivation = record { name = n; stated = record { row = q; sense = equal; bound = zero_ℚ }; reason = reason_of s.reason; last = s.last } in d) name o in
+    ap₂ (λ n q. let d : Derivation = record { name = n; stated = record { row = q; sense = equal; bound = zero_ℚ }; reason = kept_reason_of s.reason; last = s.last } in d) name o in
     (ap₂ (λ x l. x ∷ l) one rest.0, All-cons (λ (x : Step Statement). is_within u.text.items x.stated ≡ true) s steps (ap (λ l. is_within l s.stated) e ∙ within_more t.text.items more s.stated here) rest.1)
 
 pub kept_more : (t u : Statements) (more : List ℕ) (s : Step Statement) (d : Derivation)
@@ -104,7 +104,7 @@ pub kept_more : (t u : Statements) (more : List ℕ) (s : Step Statement) (d : D
     → s.stated.start ≡ length t.text.items → s.stated.end ≡ length u.text.items
     → (SpellsRow t → more ++ row_bytes t.spelled.items s.stated
     ≡ words_text (constraint_words_in t.form t.objective d.name d.stated))
-    → reason_of s.reason ≡ d.reason → s.last ≡ d.last
+    → kept_reason_of s.reason ≡ d.reason → s.last ≡ d.last
     → AreKept t steps ds → AreKept u (steps ++ s ∷ []) (ds ++ d ∷ [])
 kept_more t u more s d steps ds f o r e start end words reason last kept =
     let same = steps_same t u more steps o r e kept.within in

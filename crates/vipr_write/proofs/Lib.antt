@@ -19,3 +19,4 @@ mod SpelledTokens
 mod SpelledSections
 mod Kept
 mod StepLengths
+mod StepReasons

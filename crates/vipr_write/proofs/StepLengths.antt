@@ -10,7 +10,7 @@ use Rattle.vipr_spec.specs.Tokens.{IsToken}
 use Rattle.vipr_spec.specs.Constraint.{Row}
 use Rattle.vipr_spec.specs.Certificate.{Named, Problem, Derivation, Certificate}
 use Rattle.vipr_spec.proofs.Laws.{all_parts}
-use Rattle.vipr_cert.specs.Items.{reason_of}
+use Rattle.vipr_write.specs.StepReasons.{kept_reason_of}
 use Rattle.vipr_write.specs.Canonical.{reason_words, last_word, solution_words, solutions_lines}
 use Rattle.vipr_write.specs.Canonical.{heading, problem_lines, words_after_spaces, line_text}
 use Rattle.vipr_write.specs.Canonical.{lines_text}
@@ -37,14 +37,14 @@ reason_tokens form objective d a =
     let parts = all_parts IsToken (reason_words d.reason) (codes "}" ∷ last_word d.last ∷ []) (All-tail IsToken (codes "{") (reason_words d.reason ++ codes "}" ∷ last_word d.last ∷ []) end) in
     (parts.0, All-head IsToken (last_word d.last) [] (All-tail IsToken (codes "}") (last_word d.last ∷ []) parts.1))
 
-step_short : (t : Statements) (s : Step Statement) → All IsToken (reason_words (reason_of s.reason))
+step_short : (t : Statements) (s : Step Statement) → All IsToken (reason_words (kept_reason_of s.reason))
     → IsToken (last_word s.last) → length (step_line t s) ≤ 65536 * step_weight t s
 step_short t s reason last =
     let own = own_bytes t.text.items s.stated in
     let row = row_bytes t.spelled.items s.stated in
-    let words = words_after_spaces (reason_words (reason_of s.reason)) in
+    let words = words_after_spaces (reason_words (kept_reason_of s.reason)) in
     let word = last_word s.last in
-    let spaced = spaced_short (reason_words (reason_of s.reason)) reason in
+    let spaced = spaced_short (reason_words (kept_reason_of s.reason)) reason in
     let short = last.short in
     let a = length-append (own ++ row) (codes " {" ++ (words ++ (codes " }" ++ (32 ∷ word ++ codes "\n")))) in
     let b = length-append own row in

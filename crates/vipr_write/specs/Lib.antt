@@ -11,4 +11,5 @@ pub mod Gathered
 pub mod Weight
 pub mod Hands
 pub mod Carried
+pub mod StepReasons
 pub mod Steps

@@ -6,7 +6,7 @@ use Rattle.vipr_spec.specs.Fraction.{zero_ℚ}
 use Rattle.vipr_spec.specs.Constraint.{Row, Constraint, equal}
 use Rattle.vipr_spec.specs.Certificate.{Named, Problem, Derivation, Certificate}
 use Rattle.vipr_spec.specs.Shape.{CanWrite}
-use Rattle.vipr_cert.specs.Items.{reason_of}
+use Rattle.vipr_write.specs.StepReasons.{kept_reason_of}
 use Rattle.vipr_write.specs.Canonical.{reason_words, last_word, words_after_spaces, heading}
 use Rattle.vipr_write.specs.Canonical.{line_text}
 use Rattle.vipr_write.specs.Forms.{row_words, constraint_words_in}
@@ -21,7 +21,7 @@ abbrev pub step_of : {S : Type 0} → (S → Named Constraint) → Step S → De
 step_of view s = record {
   name = (view s.stated).name;
   stated = (view s.stated).item;
-  reason = reason_of s.reason;
+  reason = kept_reason_of s.reason;
   last = s.last;
 }
 
@@ -80,7 +80,7 @@ pub record AreStepsOf (c : Certificate) (p : Problem) (ss : List (Named Row)) (t
 
 abbrev pub step_line : Statements → Step Statement → List ℕ
 step_line t s = (own_bytes t.text.items s.stated ++ row_bytes t.spelled.items s.stated)
-    ++ (codes " {" ++ (words_after_spaces (reason_words (reason_of s.reason))
+    ++ (codes " {" ++ (words_after_spaces (reason_words (kept_reason_of s.reason))
     ++ (codes " }" ++ (32 ∷ last_word s.last ++ codes "\n"))))
 
 abbrev pub steps_section : Statements → List (Step Statement) → List ℕ
@@ -90,4 +90,4 @@ steps_section t ss = line_text (heading (codes "DER") (length ss)) ++ flat_map (
 abbrev pub step_weight : Statements → Step Statement → ℕ
 step_weight t s = length (own_bytes t.text.items s.stated)
     + length (row_bytes t.spelled.items s.stated) + 8
-    + length (reason_words (reason_of s.reason))
+    + length (reason_words (kept_reason_of s.reason))

@@ -14,8 +14,10 @@ ghost use Rattle.vipr_write.specs.Weight.{weight};
 ghost use Rattle.std.specs.List.{sum_by};
 ghost use Rattle.vipr_spec.specs.Certificate.{Certificate as CertificateMeant};
 ghost use Rattle.vipr_write.specs.Steps.{step_weight, AreStepsOf};
+ghost use Rattle.vipr_write.specs.StepReasons.{kept_reason_of};
 
 use crate::statements::{Statement, Statements, Step};
+use crate::step_reason::{StepReason, StepReferences};
 use vipr_cert::{Certificate, Claim, Derivation, Named, Problem, Reason, References};
 use vipr_linear::{Constraint, Solution};
 
@@ -64,6 +66,19 @@ fn more_reason(total: u64, reason: &Reason) -> u64
         References::Nothing => more(total, 1, 0),
         References::Entries(entries) => more(total, 2, entries.len()),
         References::Branches { .. } => more(total, 5, 0),
+    }
+}
+
+// With the words of a step's reason.
+#[tactic(auto, using(crate::proofs::Weighing::pairs_length))]
+fn more_step_reason(total: u64, reason: &StepReason) -> u64
+    ensures { result ≡ counted (total + length (reason_words (kept_reason_of reason.now))) }
+{
+    match reason.references() {
+        StepReferences::Nothing => more(total, 1, 0),
+        StepReferences::Short(entries) => more(total, 2, entries.len()),
+        StepReferences::Long(entries) => more(total, 2, entries.len()),
+        StepReferences::Branches { .. } => more(total, 5, 0),
     }
 }
 
@@ -117,7 +132,7 @@ fn more_step(total: u64, statements: &Statements, step: &Step<Statement>) -> u64
     let own = statements.own_bytes(step.stated).len() as u64;
     let row = statements.row_bytes(step.stated).len() as u64;
     let total = total.saturating_add(own).saturating_add(row);
-    more_reason(more(total, 8, 0), &step.reason)
+    more_step_reason(more(total, 8, 0), &step.reason)
 }
 
 // With those of all steps.

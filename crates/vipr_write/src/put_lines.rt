@@ -10,14 +10,16 @@ ghost use Rattle.vipr_cert.specs.Items.{named_of, solution_of, claim_of, reason_
 ghost use Rattle.vipr_cert.specs.Items.{direction_of};
 ghost use Rattle.vipr_write.specs.Lines.{words_text, constraints_heading};
 ghost use Rattle.vipr_write.specs.Carried.{Puts};
+ghost use Rattle.vipr_write.specs.StepReasons.{kept_reason_of};
 
 use crate::form::Form;
 use crate::pending::Pending;
 use crate::put_words::{
     put_bound, put_counted, put_decimal, put_index, put_last, put_number, put_pairs, put_sense,
-    put_word,
+    put_short_counted, put_word,
 };
 use crate::rows::put_row;
+use crate::step_reason::{StepReason, StepReferences};
 use vipr_bytes::Sink;
 use vipr_cert::{Claim, Derivation, Goal, Name, Named, Reason, References};
 use vipr_frac::Frac;
@@ -179,6 +181,28 @@ fn put_references<W: Sink>(text: &mut Pending, sink: &mut W, reason: &Reason)
         References::Entries(entries) => put_counted(text, sink, entries),
         References::Branches { i1, l1, i2, l2 } => put_branches(text, sink, i1, l1, i2, l2),
     }
+}
+
+// What the reason of a step names.
+fn put_step_references<W: Sink>(text: &mut Pending, sink: &mut W, reason: &StepReason)
+    ensures { Puts W.output W.failures sink.old sink.new text.old text.new
+        (words_after_spaces (reference_words (reason_references (kept_reason_of reason.now)))) }
+{
+    match reason.references() {
+        StepReferences::Nothing => {}
+        StepReferences::Short(entries) => put_short_counted(text, sink, entries),
+        StepReferences::Long(entries) => put_counted(text, sink, entries),
+        StepReferences::Branches { i1, l1, i2, l2 } => put_branches(text, sink, i1, l1, i2, l2),
+    }
+}
+
+/// Why the derived constraint of a step holds.
+pub(crate) fn put_step_reason<W: Sink>(text: &mut Pending, sink: &mut W, reason: &StepReason)
+    ensures { Puts W.output W.failures sink.old sink.new text.old text.new
+        (words_after_spaces (reason_words (kept_reason_of reason.now))) }
+{
+    put_word(text, sink, reason.word().as_bytes());
+    put_step_references(text, sink, reason);
 }
 
 /// Why a derived constraint holds.

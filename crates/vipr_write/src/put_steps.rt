@@ -3,7 +3,7 @@ ghost use Rattle.vipr_write.specs.Carried.{Puts};
 ghost use Rattle.vipr_write.specs.Steps.{step_line, steps_section};
 
 use crate::pending::Pending;
-use crate::put_lines::{put_heading, put_reason};
+use crate::put_lines::{put_heading, put_step_reason};
 use crate::put_words::{put_last, put_word};
 use crate::statements::{Statement, Statements, Step};
 use vipr_bytes::{BUFFER_BYTES, Sink};
@@ -36,7 +36,7 @@ fn put_step<W: Sink>(
     put_bytes(text, sink, statements.own_bytes(step.stated));
     put_bytes(text, sink, statements.row_bytes(step.stated));
     put_word(text, sink, b"{");
-    put_reason(text, sink, &step.reason);
+    put_step_reason(text, sink, &step.reason);
     put_word(text, sink, b"}");
     put_last(text, sink, step.last);
     text.push(sink, b'\n');

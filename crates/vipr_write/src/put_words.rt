@@ -1,13 +1,15 @@
 //! Words, each behind a space, of a text that is handed to a sink.
-ghost use Rattle.std.specs.Prelude.{◌≤◌, ◌∷◌, flat_map, length};
+ghost use Rattle.std.specs.Prelude.{◌≤◌, ◌∷◌, flat_map, length, map};
 ghost use Rattle.std.specs.Fmt.{decimal};
 ghost use Rattle.vipr_spec.specs.Number.{number_text};
 ghost use Rattle.vipr_linear.specs.Constraint.{sense_of};
 ghost use Rattle.vipr_write.specs.Canonical.{pair_words, counted_words, sense_word, bound_word};
 ghost use Rattle.vipr_write.specs.Canonical.{last_word, words_after_spaces};
 ghost use Rattle.vipr_write.specs.Carried.{Puts};
+ghost use Rattle.vipr_write.specs.StepReasons.{entry_of};
 
 use crate::pending::Pending;
+use crate::step_reason::ShortEntry;
 use itoa::Buffer;
 use vipr_bytes::Sink;
 use vipr_frac::Frac;
@@ -87,6 +89,26 @@ pub(crate) fn put_pairs<W: Sink>(text: &mut Pending, sink: &mut W, pairs: &[(u32
         put_index(text, sink, pair.0 as usize);
         put_number(text, sink, &pair.1);
     }
+}
+
+// Indices with short numbers.
+fn put_short_pairs<W: Sink>(text: &mut Pending, sink: &mut W, pairs: &[ShortEntry])
+    ensures { Puts W.output W.failures sink.old sink.new text.old text.new
+        (words_after_spaces (flat_map pair_words (map entry_of pairs.now))) }
+{
+    for pair in pairs {
+        put_index(text, sink, pair.index as usize);
+        put_number(text, sink, &pair.multiplier());
+    }
+}
+
+/// How many indices with short numbers there are, and then each of them.
+pub(crate) fn put_short_counted<W: Sink>(text: &mut Pending, sink: &mut W, pairs: &[ShortEntry])
+    ensures { Puts W.output W.failures sink.old sink.new text.old text.new
+        (words_after_spaces (counted_words (map entry_of pairs.now))) }
+{
+    put_index(text, sink, pairs.len());
+    put_short_pairs(text, sink, pairs);
 }
 
 /// How many indices with numbers there are, and then each of them.

@@ -1,9 +1,9 @@
 //! Names and constraints of derivations, kept as they are written.
 //!
 //! [`Statements`] keeps them in one text, so that a derivation takes little memory until it is
-//! written. Its reason stays in a [`Step`].
+//! written. Its reason stays in a [`Step`], as a [`StepReason`].
 ghost use Rattle.std.specs.Prelude.{◌≡◌, ◌∷◌, ◌++◌, [], List, IfOk, OnOk, IsTrue, cond};
-ghost use Rattle.vipr_spec.specs.Certificate.{Derivation as DerivationMeant, asm};
+ghost use Rattle.vipr_spec.specs.Certificate.{Derivation as DerivationMeant};
 ghost use Rattle.vipr_cert.specs.Items.{derivation_of};
 ghost use Rattle.vipr_write.specs.declared.statements.Statement.{Statement as StatementMeant};
 ghost use Rattle.vipr_write.specs.declared.statements.Step.{Step as StepMeant};
@@ -14,9 +14,9 @@ ghost use Rattle.vipr_write.specs.Steps.{own_bytes, row_bytes, AreKept};
 use crate::folded::append_start;
 use crate::form::Form;
 use crate::rows;
+use crate::step_reason::StepReason;
 use std::alloc::{AllocError, Global};
-use std::mem::replace;
-use vipr_cert::{Derivation, Reason};
+use vipr_cert::Derivation;
 use vipr_linear::Row;
 
 /// The place of a name and a constraint in a text. A row that is the objective's is left out.
@@ -31,7 +31,7 @@ pub struct Statement {
 #[derive(Debug, Drop)]
 pub struct Step<S> {
     pub stated: S,
-    pub reason: Reason,
+    pub reason: StepReason,
     /// The last derivation that refers to it by index, `None` if it is never dropped.
     pub last: Option<u32>,
 }
@@ -84,20 +84,21 @@ impl Statements {
         })
     }
 
-    /// Keeps the name and the constraint of a derivation, and gives back the rest of it. The reason
-    /// moves out and `Asm` is left, so that the next derivation can be read into this one.
+    /// Keeps the name and the constraint of a derivation, and gives back what is kept of the rest.
     ///
     /// # Errors
     ///
     /// If a growth is refused.
-    pub fn keep(&mut self, derivation: &mut Derivation) -> Result<Step<Statement>, AllocError>
+    pub fn keep(
+        &mut self,
+        alloc: Global,
+        derivation: &Derivation,
+    ) -> Result<Step<Statement>, AllocError>
         ensures form { OnOk result (self.new.form ≡ self.old.form) }
         ensures objective { OnOk result (self.new.objective ≡ self.old.objective) }
         ensures kept { IfOk result (λ s. (ss : List (StepMeant StatementMeant))
             (ds : List DerivationMeant) → AreKept self.old ss ds
-            → AreKept self.new (ss ++ s ∷ []) (ds ++ derivation_of derivation.old ∷ [])) }
-        ensures left { OnOk result (derivation_of derivation.new
-            ≡ record (derivation_of derivation.old) { reason = asm }) }
+            → AreKept self.new (ss ++ s ∷ []) (ds ++ derivation_of derivation.now ∷ [])) }
     {
         let start = self.text.len();
         append_start(&mut self.text, &derivation.name, &derivation.constraint)?;
@@ -110,7 +111,7 @@ impl Statements {
         let end = self.text.len();
         Ok(Step {
             stated: Statement { start, end, is_cut },
-            reason: replace(&mut derivation.reason, Reason::Asm),
+            reason: StepReason::of(alloc, &derivation.reason)?,
             last: derivation.last,
         })
     }

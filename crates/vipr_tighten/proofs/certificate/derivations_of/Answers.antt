@@ -10,7 +10,7 @@ use Rattle.vipr_tighten.proofs.certificate.derivations_of.Goals as goal
 pub loop-step-preserved : goal.loop-step-preserved
 loop-step-preserved c =
     rw c.in_ok-push.ensures.items
-    (map_push derivation_of c.loop-step.derivations.items c.as_derivation.result ∙ ap₂ (λ l x. l ++ x ∷ []) c.loop-step.invariant c.as_derivation.ensures ∙ sym (map_push (step_of (named_of constraint_of)) c.loop-step.yielded c.in-Some.step))
+    (map_push derivation_of c.loop-step.derivations.items c.in_ok-as_derivation.field-0 ∙ ap₂ (λ l x. l ++ x ∷ []) c.loop-step.invariant c.in_ok-as_derivation.ensures ∙ sym (map_push (step_of (named_of constraint_of)) c.loop-step.yielded c.in-Some.step))
 
 pub returns : goal.returns
 returns c =

@@ -2,7 +2,7 @@ use Rattle.std.proofs.Common.{◌≡◌, ◌-◌, Bool, true, false, Vec, Global
 use Rattle.std.proofs.Common.{replicate, arith, sym, ap, ◌∙◌, subst}
 use Rattle.std.proofs.lemmas.List.{length-map, with_items_is}
 use Rattle.vipr_spec.specs.Tightened.{refers_to}
-use Rattle.vipr_cert.specs.Items.{reason_of}
+use Rattle.vipr_write.specs.StepReasons.{kept_reason_of}
 use Rattle.vipr_write.specs.Steps.{step_of}
 use Rattle.vipr_write.specs.declared.statements.Step.{Step}
 use Rattle.vipr_tighten.specs.Passes.{MarksAlso}
@@ -56,7 +56,7 @@ loop-i-preserved-then-index g c = λ view.
     (next_marked view c.args.goal c.args.first c.args.steps.now (c.loop-i.i - 1) turn.within c.loop-i.marks.items turn.so_far c.index-steps-i.result c.index-steps-i.is
     c.mark_references.new.marks (same ∙ ap length value)
     (mark_read c.loop-i.marks.items (c.loop-i.i - 1) c.index.result.now true turn.marked c.index.ensures c.if-index.true)
-    (rw value at (subst (λ (x : Step g.row.S.Denot). MarksAlso c.args.first (refers_to (reason_of x.reason)) c.deref_mut-then-index.result.now c.mark_references.new.marks) (sym c.index-steps-i.is) c.mark_references.ensures)))
+    (rw value at (subst (λ (x : Step g.row.S.Denot). MarksAlso c.args.first (refers_to (kept_reason_of x.reason)) c.deref_mut-then-index.result.now c.mark_references.new.marks) (sym c.index-steps-i.is) c.mark_references.ensures)))
 
 pub returns : goal.returns
 returns g c = λ view.

@@ -1,5 +1,5 @@
 use Rattle.std.proofs.Common.{◌≡◌, [], ◌++◌, cond, length, refl, rules, ap, ◌∙◌, append_assoc}
-use Rattle.vipr_cert.specs.Items.{derivation_of, reason_of}
+use Rattle.vipr_cert.specs.Items.{derivation_of}
 use Rattle.vipr_write.specs.Canonical.{words_after_spaces}
 use Rattle.vipr_write.specs.Forms.{row_words}
 use Rattle.vipr_write.specs.Lines.{words_text}
@@ -19,8 +19,8 @@ returns-clause-kept c = λ ss ds kept.
     let first = words_text (stated_words d.name d.stated) in
     let row = cond is_cut [] (words_after_spaces (row_words t.form t.objective d.stated.row)) in
     let place : Statement = record { start = c.len-start.result; end = c.len-end.result; is_cut = is_cut } in
-    let s : Step Statement = record { stated = place; reason = c.replace.result; last = c.args.derivation.now.last } in
+    let s : Step Statement = record { stated = place; reason = c.in_ok-of.field-0; last = c.args.derivation.now.last } in
     let text = c.in_ok-is_cut.ensures.text ∙ ap (λ l. l ++ row) c.in_ok-append_start.ensures ∙ append_assoc t.text.items first row in
     let start : c.len-start.result ≡ length t.text.items = search rules in
     let end : c.len-end.result ≡ length u.text.items = search rules in
-    kept_more t u (first ++ row) s d ss ds refl refl refl text start end (λ spelled. words_are t.form t.objective t.spelled.items d.name d.stated is_cut spelled c.in_ok-is_cut.ensures.row) (ap reason_of c.replace.ensures.value) refl kept
+    kept_more t u (first ++ row) s d ss ds refl refl refl text start end (λ spelled. words_are t.form t.objective t.spelled.items d.name d.stated is_cut spelled c.in_ok-is_cut.ensures.row) c.in_ok-of.ensures refl kept

@@ -1,0 +1,69 @@
+-- Short entries
+use Rattle.std.proofs.Common.{◌≡◌, ℕ, suc, ◌+◌, ◌*◌, ◌<◌, Bool, true, false, cond, nat_eq, List, []}
+use Rattle.std.proofs.Common.{◌∷◌, ◌++◌, map, take, length, get_or, arith, refl, sym, ap, ap₂, ◌∙◌}
+use Rattle.std.proofs.Common.{eqb-true}
+use Rattle.std.specs.List.{flat_map}
+use Rattle.std.specs.Fmt.{decimal}
+use Rattle.std.proofs.lemmas.List.{append-nil, get_or-map, length-map, take_more}
+use Rattle.std.proofs.lemmas.List.Folds.{flat_map-map}
+use Rattle.vipr_spec.specs.Fraction.{ℚ, over, zero_ℚ}
+use Rattle.vipr_spec.specs.Number.{number_text}
+use Rattle.vipr_spec.specs.Certificate.{by_entries}
+use Rattle.vipr_spec.proofs.Laws.{is_one, is_over, is_self}
+use Rattle.vipr_write.specs.Canonical.{pair_words, reference_words, words_after_spaces}
+use Rattle.vipr_write.specs.declared.step_reason.ShortEntry.{ShortEntry}
+use Rattle.vipr_write.specs.StepReasons.{multiplier_of, entry_of}
+use Rattle.vipr_write.proofs.Weighing.{pairs_length}
+
+over_self : (x : ℚ) → over x.numer x.denom ≡ x
+over_self x = is_one _ _ _ _ (is_over x.numer x.denom x.lowest.positive) (is_self x)
+
+not_zero : (n : ℕ) → 0 < n → nat_eq n 0 ≡ false
+not_zero n h = by (nat_eq n 0) refl
+  where
+    by : (b : Bool) → nat_eq n 0 ≡ b → nat_eq n 0 ≡ false
+    by true e = absurd (let z = eqb-true n 0 e in omega arith)
+    by false e = e
+
+-- these are the parts of the multiplier
+pub short_is : (x : ℚ) (e : ShortEntry) → e.numer ≡ x.numer → e.denom ≡ x.denom
+    → multiplier_of e ≡ x
+short_is x e n d =
+    ap (λ b. cond b zero_ℚ (over e.numer e.denom)) (ap (λ m. nat_eq m 0) d ∙ not_zero x.denom x.lowest.positive)
+    ∙ ap₂ over n d ∙ over_self x
+
+-- the words of short entries, one after the other
+pub mapped_pairs : (es : List ShortEntry)
+    → flat_map (λ p. words_after_spaces (pair_words p)) (map entry_of es)
+    ≡ flat_map (λ p. words_after_spaces (pair_words (entry_of p))) es
+mapped_pairs es = flat_map-map (λ p. words_after_spaces (pair_words p)) entry_of es
+
+-- a list of one element
+pub one_alone : {A : Type 0} (xs : List A) (x : A) → length xs ≡ 1 → x ≡ get_or xs 0 x
+    → x ∷ [] ≡ xs
+one_alone [] x l e = absurd (omega arith)
+one_alone (y ∷ []) x l e = ap (λ z. z ∷ []) e
+one_alone (y ∷ (z ∷ xs)) x l e = absurd (omega arith)
+
+-- one more of the entries
+pub take_next : (es : List ShortEntry) (i : ℕ) (d : ShortEntry) (x : ℚ) (before : List (ℕ × ℚ))
+    → i < length es → x ≡ multiplier_of (get_or es i d) → before ≡ take i (map entry_of es)
+    → before ++ ((get_or es i d).index, x) ∷ [] ≡ take (i + 1) (map entry_of es)
+take_next es i d x before h is so_far =
+    let size = length-map es entry_of in
+    ap₂ (λ l (m : ℚ). l ++ ((get_or es i d).index, m) ∷ []) so_far is
+    ∙ ap (λ e. take i (map entry_of es) ++ e ∷ []) (sym (get_or-map entry_of es i d (entry_of d) h))
+    ∙ sym (take_more (map entry_of es) i (entry_of d) (omega arith))
+
+-- the words of a count and of short entries
+pub short_length : (es : List ShortEntry)
+    → 2 + 2 * length es ≡ suc (length (reference_words (by_entries (map entry_of es))))
+short_length es = let p = pairs_length (map entry_of es) in let s = length-map es entry_of in omega (arith, p, s)
+
+pub short_words : (es : List ShortEntry) (i : ℕ) (d : ShortEntry) (x : ℚ)
+    → x ≡ multiplier_of (get_or es i d)
+    → (32 ∷ decimal (get_or es i d).index) ++ (32 ∷ number_text x)
+    ≡ words_after_spaces (pair_words (entry_of (get_or es i d)))
+short_words es i d x is =
+    ap (λ m. (32 ∷ decimal (get_or es i d).index) ++ (32 ∷ number_text m)) is
+    ∙ ap (λ t. (32 ∷ decimal (get_or es i d).index) ++ t) (sym (append-nil (32 ∷ number_text (multiplier_of (get_or es i d)))))

@@ -1,0 +1,10 @@
+use Rattle.std.proofs.Common.{◌+◌, suc, length, ap, ◌∙◌}
+use Rattle.vipr_write.specs.Canonical.{reference_words}
+use Rattle.vipr_write.specs.Hands.{counted}
+use Rattle.vipr_write.proofs.StepReasons.{short_length}
+use Rattle.vipr_write.proofs.length.more_step_reason.Goals as goal
+
+pub returns-in-Short : goal.returns-in-Short
+returns-in-Short c =
+    c.more-in-Short.ensures
+    ∙ ap (λ n. counted (c.args.total + n)) (short_length c.in-Short.entries.now ∙ ap (λ r. suc (length (reference_words r))) c.in-Short.ensures)

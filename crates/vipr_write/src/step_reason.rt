@@ -1,0 +1,217 @@
+//! The reason of a step, which takes little memory.
+ghost use Rattle.std.specs.Prelude.{◌≡◌, ◌≤◌, IfOk, IfSome, length, map};
+ghost use Rattle.vipr_spec.specs.Certificate.{lin, reason_references, rnd};
+ghost use Rattle.vipr_spec.specs.Reading.{most_bytes};
+ghost use Rattle.vipr_cert.specs.Items.{reason_of};
+ghost use Rattle.vipr_cert.specs.Reasons.{reason_word};
+ghost use Rattle.vipr_write.specs.StepReasons.{multiplier_of, entry_of, kept_reason_of};
+ghost use Rattle.vipr_write.specs.StepReasons.{kept_references_of};
+
+use std::alloc::{AllocError, Global};
+use std::slice::from_ref;
+use vipr_cert::Reason;
+use vipr_frac::Frac;
+
+/// An index, and a multiplier whose parts fit 32 bits.
+#[derive(Clone, Copy, Debug)]
+pub struct ShortEntry {
+    pub index: u32,
+    pub(crate) numer: i32,
+    pub(crate) denom: u32,
+}
+
+/// Why the derived constraint of a step holds. Entries are short ones if all of them fit.
+#[derive(Debug, Drop)]
+pub enum StepReason {
+    Asm,
+    /// `Lin` with this entry alone.
+    One(ShortEntry),
+    Lin(Vec<ShortEntry>),
+    Rnd(Vec<ShortEntry>),
+    LongLin(Vec<(u32, Frac)>),
+    LongRnd(Vec<(u32, Frac)>),
+    Uns { i1: u32, l1: u32, i2: u32, l2: u32 },
+    Sol,
+}
+
+/// What the reason of a step names, in the order of its text.
+#[derive(Clone, Copy, Debug)]
+pub enum StepReferences<'a> {
+    Nothing,
+    Short(&'a [ShortEntry]),
+    Long(&'a [(u32, Frac)]),
+    Branches { i1: u32, l1: u32, i2: u32, l2: u32 },
+}
+
+impl ShortEntry {
+    /// The entry of this index and this multiplier, `None` if a part of it is too long.
+    pub fn of(index: u32, multiplier: &Frac) -> Option<ShortEntry>
+        ensures { IfSome result (λ e. entry_of e ≡ (index, multiplier.now)) }
+    {
+        let numer = i32::try_from(multiplier.numer());
+        let denom = u32::try_from(multiplier.denom());
+        match (numer, denom) {
+            (Ok(numer), Ok(denom)) => Some(ShortEntry {
+                index,
+                numer,
+                denom,
+            }),
+            _ => None,
+        }
+    }
+
+    /// Its multiplier.
+    pub fn multiplier(self) -> Frac
+        ensures { result ≡ multiplier_of self }
+    {
+        match Frac::new(i128::from(self.numer), i128::from(self.denom)) {
+            Ok(multiplier) => multiplier,
+            Err(_) => Frac::zero(),
+        }
+    }
+}
+
+// The entries, if all of them are short.
+fn short_entries(
+    alloc: Global,
+    entries: &[(u32, Frac)],
+) -> Result<Option<Vec<ShortEntry>>, AllocError>
+    ensures { IfOk result (λ o. IfSome o (λ v. map entry_of v.items ≡ entries.now)) }
+{
+    let mut short = Vec::with_capacity(alloc, entries.len())?;
+    for (index, multiplier) in entries {
+        match ShortEntry::of(*index, multiplier) {
+            Some(entry) => short.push(entry)?,
+            None => return Ok(None),
+        }
+    }
+    Ok(Some(short))
+}
+
+// The entries with their whole multipliers.
+fn long_entries(alloc: Global, short: &[ShortEntry]) -> Result<Vec<(u32, Frac)>, AllocError>
+    ensures { IfOk result (λ v. v.items ≡ map entry_of short.now) }
+{
+    let mut entries = Vec::with_capacity(alloc, short.len())?;
+    for entry in short {
+        entries.push((entry.index, entry.multiplier()))?;
+    }
+    Ok(entries)
+}
+
+// `Lin` of these entries.
+fn lin_of(alloc: Global, entries: &[(u32, Frac)]) -> Result<StepReason, AllocError>
+    ensures { IfOk result (λ r. kept_reason_of r ≡ lin entries.now) }
+{
+    if entries.len() == 1 {
+        let (index, multiplier) = entries[0];
+        if let Some(entry) = ShortEntry::of(index, &multiplier) {
+            return Ok(StepReason::One(entry));
+        }
+    }
+    match short_entries(alloc, entries)? {
+        Some(short) => Ok(StepReason::Lin(short)),
+        None => Ok(StepReason::LongLin(Vec::from_slice(alloc, entries)?)),
+    }
+}
+
+// `Rnd` of these entries.
+fn rnd_of(alloc: Global, entries: &[(u32, Frac)]) -> Result<StepReason, AllocError>
+    ensures { IfOk result (λ r. kept_reason_of r ≡ rnd entries.now) }
+{
+    match short_entries(alloc, entries)? {
+        Some(short) => Ok(StepReason::Rnd(short)),
+        None => Ok(StepReason::LongRnd(Vec::from_slice(alloc, entries)?)),
+    }
+}
+
+impl StepReason {
+    /// What is kept of a reason.
+    ///
+    /// # Errors
+    ///
+    /// If an allocation is refused.
+    pub fn of(alloc: Global, reason: &Reason) -> Result<StepReason, AllocError>
+        ensures { IfOk result (λ r. kept_reason_of r ≡ reason_of reason.now) }
+    {
+        match reason {
+            Reason::Asm => Ok(StepReason::Asm),
+            Reason::Lin(entries) => lin_of(alloc, entries),
+            Reason::Rnd(entries) => rnd_of(alloc, entries),
+            Reason::Uns { i1, l1, i2, l2 } => Ok(StepReason::Uns {
+                i1: *i1,
+                l1: *l1,
+                i2: *i2,
+                l2: *l2,
+            }),
+            Reason::Sol => Ok(StepReason::Sol),
+        }
+    }
+
+    /// The reason, whose entries are moved.
+    pub fn from_reason(reason: Reason) -> StepReason
+        ensures { kept_reason_of result ≡ reason_of reason }
+    {
+        match reason {
+            Reason::Asm => StepReason::Asm,
+            Reason::Lin(entries) => StepReason::LongLin(entries),
+            Reason::Rnd(entries) => StepReason::LongRnd(entries),
+            Reason::Uns { i1, l1, i2, l2 } => StepReason::Uns { i1, l1, i2, l2 },
+            Reason::Sol => StepReason::Sol,
+        }
+    }
+
+    /// The reason of which this is kept.
+    ///
+    /// # Errors
+    ///
+    /// If an allocation is refused.
+    pub fn into_reason(self, alloc: Global) -> Result<Reason, AllocError>
+        ensures { IfOk result (λ r. reason_of r ≡ kept_reason_of self) }
+    {
+        match self {
+            StepReason::Asm => Ok(Reason::Asm),
+            StepReason::One(entry) => Ok(Reason::Lin(long_entries(alloc, from_ref(&entry))?)),
+            StepReason::Lin(short) => Ok(Reason::Lin(long_entries(alloc, &short)?)),
+            StepReason::Rnd(short) => Ok(Reason::Rnd(long_entries(alloc, &short)?)),
+            StepReason::LongLin(entries) => Ok(Reason::Lin(entries)),
+            StepReason::LongRnd(entries) => Ok(Reason::Rnd(entries)),
+            StepReason::Uns { i1, l1, i2, l2 } => Ok(Reason::Uns { i1, l1, i2, l2 }),
+            StepReason::Sol => Ok(Reason::Sol),
+        }
+    }
+
+    /// The word of its rule.
+    pub(crate) fn word(&self) -> &'static str
+        ensures word { result.now ≡ reason_word (kept_reason_of self.now) }
+        ensures short { length result.now ≤ most_bytes }
+    {
+        match self {
+            StepReason::Asm => "asm",
+            StepReason::One(_) | StepReason::Lin(_) | StepReason::LongLin(_) => "lin",
+            StepReason::Rnd(_) | StepReason::LongRnd(_) => "rnd",
+            StepReason::Uns { .. } => "uns",
+            StepReason::Sol => "sol",
+        }
+    }
+
+    /// What it names.
+    pub fn references(&self) -> StepReferences<'_>
+        ensures { kept_references_of result ≡ reason_references (kept_reason_of self.now) }
+    {
+        match self {
+            StepReason::Asm | StepReason::Sol => StepReferences::Nothing,
+            StepReason::One(entry) => StepReferences::Short(from_ref(entry)),
+            StepReason::Lin(short) | StepReason::Rnd(short) => StepReferences::Short(short),
+            StepReason::LongLin(entries) | StepReason::LongRnd(entries) => {
+                StepReferences::Long(entries)
+            }
+            StepReason::Uns { i1, l1, i2, l2 } => StepReferences::Branches {
+                i1: *i1,
+                l1: *l1,
+                i2: *i2,
+                l2: *l2,
+            },
+        }
+    }
+}
