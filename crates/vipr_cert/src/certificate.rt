@@ -5,11 +5,12 @@
 //! a `Certificate` says that the text could spell it, and nothing about whether it is a proof.
 ghost use Rattle.std.specs.Prelude.{◌≡◌, ◌↔◌, ◌+◌, ◌<◌, ◌≤◌, IsOk, IfOk, IsTrue, Some, All, map};
 ghost use Rattle.std.specs.Prelude.{length};
-ghost use Rattle.vipr_spec.specs.Certificate.{NamesEarlier};
+ghost use Rattle.vipr_spec.specs.Certificate.{Certificate as Meant, NamesEarlier};
 ghost use Rattle.vipr_spec.specs.Steps.{RefersBack};
 ghost use Rattle.vipr_spec.specs.Reading.{most_count};
 ghost use Rattle.vipr_spec.specs.Shape.{CertificateShape, CanWrite};
 ghost use Rattle.vipr_cert.specs.Items.{certificate_with, solution_of, reason_of, derivation_of};
+ghost use Rattle.vipr_cert.specs.Codes.{certificate_code};
 ghost use Rattle.vipr_cert.specs.Earlier.{NameEarlierFrom};
 
 use crate::items::{Derivation, Named, Reason, References};
@@ -29,11 +30,6 @@ pub struct Certificate {
 }
 
 impl Model for Certificate {
-    ghost use Rattle.vipr_spec.specs.Certificate.{Certificate as Meant};
-    ghost use Rattle.vipr_spec.specs.Shape.{CanWrite};
-    ghost use Rattle.vipr_cert.specs.Items.{certificate_with};
-    ghost use Rattle.vipr_cert.specs.Codes.{certificate_code};
-
     ghost Value = { Meant };
 
     ghost coded = { certificate_code };

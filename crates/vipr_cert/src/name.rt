@@ -2,10 +2,13 @@
 //!
 //! A [`Name`] is the bytes of a token: between 1 and 65,535, of which none is white space. They
 //! need not be text. A name of at most 30 bytes takes no memory of its own.
-ghost use Rattle.std.specs.Prelude.{◌≡◌, ◌↔◌, ◌≤◌, ◌∷◌, [], length};
+ghost use Rattle.std.specs.Prelude.{◌≡◌, ◌↔◌, ◌≤◌, ℕ, List, ◌∷◌, [], length};
 ghost use Rattle.std.specs.Prelude.{IsOk, IfOk, OnOk, OnErr, IsTrue};
 ghost use Rattle.bstr.specs.Owned.{bstring_bytes};
+ghost use Rattle.bstr.specs.Show.{debug_text};
+ghost use Rattle.std.specs.Coded.{coded_ℕ, coded_list};
 ghost use Rattle.vipr_spec.specs.Tokens.{is_white, IsToken};
+ghost use Rattle.vipr_cert.specs.Names.{name_bytes};
 
 use crate::bytes::NameBytes;
 use crate::short::Short;
@@ -27,11 +30,6 @@ pub struct Name {
 }
 
 impl Model for Name {
-    ghost use Rattle.std.specs.Prelude.{ℕ, List};
-    ghost use Rattle.std.specs.Coded.{coded_ℕ, coded_list};
-    ghost use Rattle.vipr_spec.specs.Tokens.{IsToken};
-    ghost use Rattle.vipr_cert.specs.Names.{name_bytes};
-
     ghost Value = { List ℕ };
 
     ghost coded = { coded_list coded_ℕ };
@@ -42,8 +40,6 @@ impl Model for Name {
 }
 
 impl fmt::Debug for Name {
-    ghost use Rattle.bstr.specs.Show.{debug_text};
-
     ghost debug_output = { λ name. debug_text name };
 
     fn fmt<W: fmt::Write>(&self, formatter: &mut fmt::Formatter<W>) -> fmt::Result {
@@ -52,8 +48,6 @@ impl fmt::Debug for Name {
 }
 
 impl Clone for Name {
-    ghost use Rattle.std.specs.Prelude.{◌≡◌};
-
     ghost is_clone = { λ name copy. copy ≡ name };
 
     fn clone(&self) -> Result<Name, AllocError> {

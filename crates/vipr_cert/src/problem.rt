@@ -5,10 +5,11 @@
 //! the limits of the format. `of_parts` tests nothing, and its caller proves that the parts are
 //! within them.
 ghost use Rattle.std.specs.Prelude.{◌≡◌, ◌↔◌, ◌≤◌, IsOk, IfOk, map};
-ghost use Rattle.vipr_spec.specs.Certificate.{integer_variables};
+ghost use Rattle.vipr_spec.specs.Certificate.{Problem as Meant, integer_variables};
 ghost use Rattle.vipr_spec.specs.Shape.{ProblemShape, CanWriteProblem};
 ghost use Rattle.vipr_linear.specs.Constraint.{constraint_of};
 ghost use Rattle.vipr_cert.specs.Items.{problem_with, named_of, direction_of, claim_of};
+ghost use Rattle.vipr_cert.specs.Codes.{problem_code};
 
 use crate::items::{Claim, Goal, Named};
 use crate::limits;
@@ -29,11 +30,6 @@ pub struct Problem {
 }
 
 impl Model for Problem {
-    ghost use Rattle.vipr_spec.specs.Certificate.{Problem as Meant};
-    ghost use Rattle.vipr_spec.specs.Shape.{CanWriteProblem};
-    ghost use Rattle.vipr_cert.specs.Items.{problem_with};
-    ghost use Rattle.vipr_cert.specs.Codes.{problem_code};
-
     ghost Value = { Meant };
 
     ghost coded = { problem_code };
