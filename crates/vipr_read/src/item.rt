@@ -10,6 +10,7 @@ ghost use Rattle.vipr_read.specs.Parsing.{Parses};
 ghost use Rattle.vipr_read.specs.Limits.{CanWriteRow};
 
 use crate::parser::Parser;
+use crate::repeat::push_among;
 use std::alloc::Global;
 use vipr_bytes::Source;
 use vipr_cert::{Derivation, Named};
@@ -119,7 +120,7 @@ pub(crate) fn all<R: Source, I: ItemKind>(
     let mut items = Vec::new(alloc);
     for _ in 0..count {
         let next = item.parse(parser, alloc, objective)?;
-        items.push(next)?;
+        push_among(alloc, &mut items, next, count)?;
     }
     Ok(items)
 }

@@ -27,17 +27,6 @@ impl From<AllocError> for ScanError {
     }
 }
 
-impl<T: Drop> From<AllocFailed<T>> for ScanError {
-    ghost use Rattle.std.specs.Prelude.{◌≡◌};
-    ghost use Rattle.vipr_scan.specs.declared.error.ScanError.TheVariants.{Memory};
-
-    ghost from_gives = { λ _ e. e ≡ Memory };
-
-    fn from(_e: AllocFailed<T>) -> ScanError {
-        ScanError::Memory
-    }
-}
-
 impl From<Failed> for ScanError {
     ghost use Rattle.std.specs.Prelude.{◌≡◌};
     ghost use Rattle.vipr_scan.specs.declared.error.ScanError.TheVariants.{Read};

@@ -2,8 +2,6 @@ ghost use Rattle.std.specs.Prelude.{◌≡◌, ℕ, List, take, Result, Ok, IfOk
 ghost use Rattle.vipr_spec.specs.Tokens.{IsToken};
 ghost use Rattle.vipr_scan.specs.Meaning.{Means, IsInFront};
 
-use std::alloc::AllocError;
-
 /// Why bytes are no token of a kind.
 #[derive(Clone, Copy, Debug, PartialEq, Eq)]
 pub enum Unfit {
@@ -11,17 +9,6 @@ pub enum Unfit {
     Cause(u8),
     /// A growth was refused.
     Memory,
-}
-
-impl From<AllocError> for Unfit {
-    ghost use Rattle.std.specs.Prelude.{◌≡◌};
-    ghost use Rattle.vipr_scan.specs.declared.kind.Unfit.TheVariants.{Memory};
-
-    ghost from_gives = { λ _ e. e ≡ Memory };
-
-    fn from(_e: AllocError) -> Unfit {
-        Unfit::Memory
-    }
 }
 
 /// A kind of token: what the bytes of a token mean, or the cause of their refusal.

@@ -28,7 +28,7 @@ loop-preserved g c =
     let x = c.in_ok-next.next in
     let view = g.I.ItemKind.view in
     let n = c.args.parser.now.variables in
-    let pushed = c.in_ok-push.ensures.items in
+    let pushed = c.in_ok-push_among.ensures.items in
     let more = map_push view c.loop.items.items x in
     let fits = subst (λ n. g.I.ItemKind.shape n (view x)) c.loop.invariant.variables c.in_ok-next.ensures.item.0 in
     record {
