@@ -48,7 +48,10 @@ fn ready_end(place: Position, start: usize, end: usize) -> usize
     ensures opened { place ≡ Position.Past → result ≡ end }
     ensures closed { place ≢ Position.Past → result ≡ start }
 {
-    if place == Position::Past { end } else { start }
+    match place {
+        Position::Past => end,
+        Position::Front | Position::Comment => start,
+    }
 }
 
 impl<R: Source> Window<R> {
