@@ -4,7 +4,7 @@
 //! the items are those of the text, and that an error is the text's first fault. After an error a
 //! reader answers nothing but that it is spent.
 ghost use Rattle.std.specs.Prelude.{◌≡◌, ◌↔◌, ◌^◌, ◌+◌, ◌<◌, true, false, Ok, IfOk, IfSome};
-ghost use Rattle.std.specs.Prelude.{IsErrOf, IsSome};
+ghost use Rattle.std.specs.Prelude.{IsErrOf, IsSome, None, if◌then◌else◌};
 ghost use Rattle.vipr_spec.specs.Certificate.{Problem as ProblemMeant};
 ghost use Rattle.vipr_spec.specs.Reading.{solution_read, derivations_read, derivation_read};
 ghost use Rattle.vipr_spec.specs.Reading.{end_read};
@@ -14,6 +14,7 @@ ghost use Rattle.vipr_cert.specs.Items.{solution_of, derivation_of};
 ghost use Rattle.vipr_scan.specs.Giving.{rest_of};
 ghost use Rattle.vipr_read.specs.Items.{Items, Knows, Remembers, HasNone, HasEnded, Moves};
 ghost use Rattle.vipr_read.specs.Items.{NextItem, GivesFrom, item_in};
+ghost use Rattle.vipr_read.specs.ItemsCode.{items_code};
 ghost use Rattle.vipr_read.specs.Limits.{CanWriteRow};
 
 use crate::item::{Derived, ItemKind, Listed};
@@ -37,11 +38,6 @@ struct ItemReader<R: Source> {
 }
 
 impl<R: Source> Model for ItemReader<R> {
-    ghost use Rattle.std.specs.Prelude.{None, if◌then◌else◌};
-    ghost use Rattle.vipr_read.specs.Items.{Items};
-    ghost use Rattle.vipr_read.specs.Limits.{CanWriteRow};
-    ghost use Rattle.vipr_read.specs.ItemsCode.{items_code};
-
     ghost Value = { Items };
 
     ghost coded = { items_code };
@@ -129,9 +125,6 @@ pub struct Solutions<R: Source> {
 }
 
 impl<R: Source> Model for Solutions<R> {
-    ghost use Rattle.vipr_read.specs.Items.{Items};
-    ghost use Rattle.vipr_read.specs.ItemsCode.{items_code};
-
     ghost Value = { Items };
 
     ghost coded = { items_code };
@@ -231,9 +224,6 @@ pub struct Derivations<R: Source> {
 }
 
 impl<R: Source> Model for Derivations<R> {
-    ghost use Rattle.vipr_read.specs.Items.{Items};
-    ghost use Rattle.vipr_read.specs.ItemsCode.{items_code};
-
     ghost Value = { Items };
 
     ghost coded = { items_code };

@@ -1,8 +1,9 @@
 ghost use Rattle.std.specs.Prelude.{◌≡◌, ◌≢◌, ◌^◌, ◌<◌, length, Some, IfOk, IfSome, IfErr, OnOk};
-ghost use Rattle.std.specs.Prelude.{IsSome};
+ghost use Rattle.std.specs.Prelude.{IsSome, Option};
 ghost use Rattle.vipr_bytes.specs.Known.{IfKnown, text_of};
-ghost use Rattle.vipr_spec.specs.Reading.{token_of, end_read};
+ghost use Rattle.vipr_spec.specs.Reading.{Rest, token_of, end_read};
 ghost use Rattle.vipr_scan.specs.Giving.{Scans, Ends, IsBehind, rest_of, Takes};
+ghost use Rattle.vipr_scan.specs.View.{rest_of_window};
 
 use crate::error::ScanError;
 use crate::kind::{TokenKind, Unfit};
@@ -19,10 +20,6 @@ pub struct Scanner<R: Source> {
 }
 
 impl<R: Source> Model for Scanner<R> {
-    ghost use Rattle.std.specs.Prelude.{Option};
-    ghost use Rattle.vipr_spec.specs.Reading.{Rest};
-    ghost use Rattle.vipr_scan.specs.View.{rest_of_window};
-
     ghost Value = { Option Rest };
 
     ghost view = { λ s. rest_of_window R.input s.window };
