@@ -1,4 +1,4 @@
-use Rattle.std.proofs.Common.{◌≡◌, ◌*◌, ◌∙◌, refl, to_z, of_z, true, false}
+use Rattle.std.proofs.Common.{◌≡◌, ◌∙◌, refl, to_z, of_z, true, false}
 use Rattle.std.specs.Prelude.{◌*ℤ◌}
 use Rattle.std.specs.Int.{w128}
 use Rattle.vipr_frac.specs.Parts.{product_numer, product_denom, FitsProduct}

@@ -41,6 +41,14 @@ add_short-requires-clause-numer c =
     let k = (goal.at.add_short-requires-clause-numer c).After-from-then-are_short-2 in
     rw (p_is k, r_is k, to_z-of_z w128 _ (fits k)) (short k).numer
 
+pub overflow_mul-denom : goal.overflow_mul-denom
+overflow_mul-denom c = let h = (short c).denom in omega arith
+
+pub add_short-requires-clause-some : goal.add_short-requires-clause-some
+add_short-requires-clause-some c =
+    let k = (goal.at.add_short-requires-clause-some c).After-from-then-are_short-2 in
+    (short k).some
+
 pub add_short-requires-clause-denom : goal.add_short-requires-clause-denom
 add_short-requires-clause-denom c =
     let k = (goal.at.add_short-requires-clause-denom c).After-from-then-are_short-2 in
