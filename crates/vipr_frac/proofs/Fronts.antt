@@ -14,7 +14,7 @@ use Rattle.std.proofs.lemmas.List.Sums.{prefix_len_is}
 use Rattle.vipr_spec.specs.Fraction.{ℚ}
 use Rattle.vipr_spec.specs.Tokens.{is_white}
 use Rattle.vipr_spec.specs.Number.{is_slash, slash_place, top_of, bottom_of, of_parts, number_read}
-use Rattle.vipr_spec.proofs.Laws.{natural_of_some}
+use Rattle.vipr_spec.proofs.Laws.{natural_of_some, next_other}
 use Rattle.vipr_frac.specs.Reading.{as_read}
 use Rattle.vipr_frac.specs.declared.number.NumberError.{NumberError}
 use Rattle.vipr_frac.proofs.Parsed.{read_parts}
@@ -76,6 +76,17 @@ pub front_value : (len v : ℕ) (bs : List ℕ) → 0 < len → len ≤ length b
 front_value len v bs some within e =
     let size : length (take len bs) ≢ 0 = omega (arith, length-take len bs) in
     sym (natural_of_some (take len bs) size) ∙ e
+
+-- another byte behind the digits at the front
+pub stopped : (len v : ℕ) (bs : List ℕ) → len < length bs → natural_after 0 (take len bs) ≡ Some v
+    → is_digit (get_or bs len 0) ≡ false → natural_of bs ≡ None
+stopped len v bs more e stop =
+    let size : length bs ≢ 0 = omega arith in
+    let place : 0 + len ≡ len = omega arith in
+    sym (natural_of_some bs size)
+    ∙ behind 0 v 0 len bs (omega arith) e
+    ∙ ap (λ i. natural_after (0 * 10 ^ len + v) (drop i bs)) place
+    ∙ next_other (0 * 10 ^ len + v) len bs more (other (get_or bs len 0) stop)
 
 no_slash : (b : ℕ) → is_digit b ≡ true → not (is_slash b) ≡ true
 no_slash b h = grind (arith, nat_tests)

@@ -42,14 +42,8 @@ fn short_natural(s: &[u8]) -> Option<u64>
     if s.is_empty() {
         return None;
     }
-    let mut value: u64 = 0;
-    for b in s {
-        if *b < b'0' || *b > b'9' {
-            return None;
-        }
-        value = value * 10 + u64::from(*b - b'0');
-    }
-    Some(value)
+    let (value, len) = front_natural(s);
+    if len == s.len() { Some(value) } else { None }
 }
 
 // The number that digits write, or one more than the bound where it is over the bound. As many
