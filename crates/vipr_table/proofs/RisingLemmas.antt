@@ -282,23 +282,28 @@ not_cond b x xs e = rw e refl
 but_cond : (b : Bool) (x : ℕ) (xs : List ℕ) → b ≡ true → cond (not b) (x ∷ xs) xs ≡ xs
 but_cond b x xs e = rw e refl
 
-last_out : (low high i k : ℕ) (xs : List ℕ) → i + 1 ≡ length xs → get_or xs i 0 ≡ k
-    → RisesWithin low high xs → (take i xs ≡ filter (λ x. not (nat_eq x k)) xs) × (low ≤ k)
-last_out low high i k [] e is r = absurd (omega arith)
-last_out low high zero k (x ∷ []) e is r = (sym (but_cond (nat_eq x k) x [] (is_eq x k is)), let le : low ≤ x = r.0 in omega (arith, is, le))
-last_out low high zero k (x ∷ z ∷ xs) e is r = absurd (omega arith)
-last_out low high (suc i) k (x ∷ xs) e is r =
-    let rest = last_out (x + 1) high i k xs (omega arith) is r.2 in
-    let over : x + 1 ≤ k = rest.1 in
-    let le : low ≤ x = r.0 in
-    (ap (λ ys. x ∷ ys) rest.0 ∙ sym (not_cond (nat_eq x k) x (filter (λ y. not (nat_eq y k)) xs) (is_under x k (omega (arith, over)))), omega (arith, over, le))
-  where
-    is_under : (a b : ℕ) → a < b → nat_eq a b ≡ false
-    is_under a b h = grind (arith, nat_tests)
+is_under : (a b : ℕ) → a < b → nat_eq a b ≡ false
+is_under a b h = grind (arith, nat_tests)
 
-pub without_last : (k : ℕ) (xs : List ℕ) → IsRising xs → 0 < length xs
-    → get_or xs (length xs - 1) 0 ≡ k → take (length xs - 1) xs ≡ filter (λ x. not (nat_eq x k)) xs
-without_last k xs r some is = (last_out 0 (2 ^ 32) (length xs - 1) k xs (omega arith) is r).0
+last_above : (low high k : ℕ) (rest : List ℕ) → RisesWithin low high (rest ++ k ∷ []) → low ≤ k
+last_above low high k [] r = r.0
+last_above low high k (x ∷ rest) r =
+    let over = last_above (x + 1) high k rest r.2 in
+    let le : low ≤ x = r.0 in
+    omega (arith, over, le)
+
+last_out : (low high k : ℕ) (rest : List ℕ) → RisesWithin low high (rest ++ k ∷ [])
+    → rest ≡ filter (λ x. not (nat_eq x k)) (rest ++ k ∷ [])
+last_out low high k [] r = sym (but_cond (nat_eq k k) k [] (is_eq k k refl))
+last_out low high k (x ∷ rest) r =
+    let over = last_above (x + 1) high k rest r.2 in
+    ap (λ ys. x ∷ ys) (last_out (x + 1) high k rest r.2)
+    ∙ sym (not_cond (nat_eq x k) x (filter (λ y. not (nat_eq y k)) (rest ++ k ∷ [])) (is_under x k (omega (arith, over))))
+
+pub without_last : (k : ℕ) (xs rest : List ℕ) → IsRising xs → xs ≡ rest ++ k ∷ []
+    → rest ≡ filter (λ x. not (nat_eq x k)) xs
+without_last k xs rest r is =
+    last_out 0 (2 ^ 32) k rest (subst IsRising is r) ∙ ap (filter (λ x. not (nat_eq x k))) (sym is)
 
 -- a list has all of another one
 pub or_part : (a b : Bool) → (b ≡ true → a ≡ true) → a ≡ (a || b)

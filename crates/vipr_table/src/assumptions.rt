@@ -11,6 +11,7 @@ ghost use Rattle.std.specs.Prelude.{◌≡◌, ◌↔◌, IfOk, IfSome, IsTrue, 
 ghost use Rattle.std.specs.Cow.{cow_slice_items};
 ghost use Rattle.std.specs.FinSet as set;
 ghost use Rattle.vipr_table.specs.IndexList.{listed_items, IsListOf};
+ghost use Rattle.vipr_table.specs.Rising.{IsRising};
 
 use crate::assumptions::list::IndexList;
 use crate::assumptions::merge::{
@@ -116,21 +117,10 @@ impl Assumptions {
         if self.is_one(other) {
             return self.clone();
         }
-        if let Some(longer) = self.longer_by(alloc, other)? {
-            return Ok(longer);
+        match self.longer_by(alloc, other)? {
+            Some(longer) => Ok(longer),
+            None => self.joined(alloc, other),
         }
-        let (ours, theirs) = (self.flat(alloc)?, other.flat(alloc)?);
-        let (ours, theirs) = (ours.as_slice(), theirs.as_slice());
-        if has_all(ours, theirs) {
-            return self.clone();
-        }
-        if has_all(theirs, ours) {
-            return other.clone();
-        }
-        let items = join(alloc, ours, theirs)?;
-        Ok(Assumptions {
-            list: IndexList::of(alloc, items)?,
-        })
     }
 
     /// The set of all indices but one.
@@ -145,9 +135,7 @@ impl Assumptions {
             return self.clone();
         }
         let items = all_but(alloc, self.flat(alloc)?.as_slice(), index)?;
-        Ok(Assumptions {
-            list: IndexList::of(alloc, items)?,
-        })
+        Assumptions::of_rising(alloc, items)
     }
 
     /// The set of the indices of both, but for one of each.
@@ -161,17 +149,13 @@ impl Assumptions {
         ensures { IfOk result (λ s.
             s ≡ set.union (set.remove self.now index) (set.remove other.now other_index)) }
     {
-        let (ours, theirs) = (self.flat(alloc)?, other.flat(alloc)?);
-        let ours = but_last(ours.as_slice(), index);
-        let theirs = but_last(theirs.as_slice(), other_index);
-        let (Some(ours), Some(theirs)) = (ours, theirs) else {
-            let other = other.without(alloc, other_index)?;
-            return self.without(alloc, index)?.union(alloc, &other);
-        };
-        let items = join_alike(alloc, ours, theirs)?;
-        Ok(Assumptions {
-            list: IndexList::of(alloc, items)?,
-        })
+        match self.join_but_last(alloc, index, other, other_index)? {
+            Some(items) => Assumptions::of_rising(alloc, items),
+            None => {
+                let other = other.without(alloc, other_index)?;
+                self.without(alloc, index)?.union(alloc, &other)
+            }
+        }
     }
 
     // Whether both share their indices. `true` says that the sets are equal.
@@ -205,6 +189,42 @@ impl Assumptions {
         }))
     }
 
+    // The union by a list of its indices, unless one of the sets has them all.
+    fn joined(&self, alloc: Global, other: &Assumptions) -> Result<Self, AllocError>
+        ensures { IfOk result (λ s. s ≡ set.union self.now other.now) }
+    {
+        let (ours, theirs) = (self.flat(alloc)?, other.flat(alloc)?);
+        let (ours, theirs) = (ours.as_slice(), theirs.as_slice());
+        if has_all(ours, theirs) {
+            return self.clone();
+        }
+        if has_all(theirs, ours) {
+            return other.clone();
+        }
+        let items = join(alloc, ours, theirs)?;
+        Assumptions::of_rising(alloc, items)
+    }
+
+    // The indices of both, but for one of each, if these are the last ones.
+    fn join_but_last(
+        &self,
+        alloc: Global,
+        index: u32,
+        other: &Assumptions,
+        other_index: u32,
+    ) -> Result<Option<Vec<u32>>, AllocError>
+        ensures { IfOk result (λ o. IfSome o (λ v. IsListOf
+            (set.union (set.remove self.now index) (set.remove other.now other_index)) v.items)) }
+    {
+        let (ours, theirs) = (self.flat(alloc)?, other.flat(alloc)?);
+        let ours = but_last(ours.as_slice(), index);
+        let theirs = but_last(theirs.as_slice(), other_index);
+        match (ours, theirs) {
+            (Some(ours), Some(theirs)) => Ok(Some(join_alike(alloc, ours, theirs)?)),
+            _ => Ok(None),
+        }
+    }
+
     // The set of these indices, in any order, of which some may occur twice.
     fn of_indices(alloc: Global, indices: Vec<u32>) -> Result<Self, AllocError>
         ensures { IfOk result (λ s. s ≡ set.from_list indices.items) }
@@ -213,6 +233,14 @@ impl Assumptions {
         indices.sort_unstable();
         indices.dedup();
         let _in_range = indices.as_slice();
+        Assumptions::of_rising(alloc, indices)
+    }
+
+    // The set of these indices, each of which is greater than the one before.
+    fn of_rising(alloc: Global, indices: Vec<u32>) -> Result<Self, AllocError>
+        requires { IsRising indices.items }
+        ensures { IfOk result (λ s. s ≡ set.from_list indices.items) }
+    {
         Ok(Assumptions {
             list: IndexList::of(alloc, indices)?,
         })

@@ -123,10 +123,10 @@ pub(crate) fn but_last(xs: &[u32], index: u32) -> Option<&[u32]>
     requires { IsRising xs.now }
     ensures { IfSome result (λ rest. rest.now ≡ filter (λ x. not (nat_eq x index)) xs.now) }
 {
-    if xs.is_empty() || xs[xs.len() - 1] != index {
-        return None;
+    match xs.split_last() {
+        Some((last, rest)) if *last == index => Some(rest),
+        _ => None,
     }
-    Some(&xs[..xs.len() - 1])
 }
 
 /// The items other than `index`.

@@ -2,7 +2,7 @@
 
 ghost use Rattle.std.specs.Prelude.{◌≡◌, IfOk, OnOk};
 ghost use Rattle.std.specs.FinSet as set;
-ghost use Rattle.vipr_table.specs.Unions.{union_so_far};
+ghost use Rattle.vipr_table.specs.Unions.{union_of_all, union_so_far};
 
 use crate::assumptions::Assumptions;
 use std::alloc::{AllocError, Global};
@@ -42,12 +42,16 @@ impl Union {
         if more.is_empty() {
             return Ok(());
         }
-        if !self.last.is_empty() {
-            if let Some(few) = more.as_few() {
-                self.few.extend_from_slice(few)?;
-                return Ok(());
-            }
+        match more.as_few() {
+            Some(few) if !self.last.is_empty() => self.few.extend_from_slice(few),
+            _ => self.place(alloc, more),
         }
+    }
+
+    // Joins a set to the last one, or puts it above if it is much smaller.
+    fn place(&mut self, alloc: Global, more: &Assumptions) -> Result<(), AllocError>
+        ensures { OnOk result (union_so_far self.new ≡ set.union (union_so_far self.old) more.now) }
+    {
         if is_near(self.last.len(), more.len()) {
             self.last = self.last.union(alloc, more)?;
         } else {
@@ -75,17 +79,24 @@ impl Union {
     pub fn finish(self, alloc: Global) -> Result<Assumptions, AllocError>
         ensures { IfOk result (λ s. s ≡ union_so_far self) }
     {
-        let Union {
-            last,
-            mut below,
-            few,
-        } = self;
-        let mut all = with_few(alloc, last, few)?;
-        while let Some(top) = below.pop() {
-            all = top.union(alloc, &all)?;
-        }
-        Ok(all)
+        let Union { last, below, few } = self;
+        with_below(alloc, below, with_few(alloc, last, few)?)
     }
+}
+
+// The union of a set with those below it, the last first.
+fn with_below(
+    alloc: Global,
+    mut below: Vec<Assumptions>,
+    last: Assumptions,
+) -> Result<Assumptions, AllocError>
+    ensures { IfOk result (λ s. s ≡ set.union (union_of_all below.items) last) }
+{
+    let mut all = last;
+    while let Some(top) = below.pop() {
+        all = top.union(alloc, &all)?;
+    }
+    Ok(all)
 }
 
 // A set with these indices, which may come in any order.

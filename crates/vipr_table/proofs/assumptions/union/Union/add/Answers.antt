@@ -1,42 +1,25 @@
-use Rattle.std.proofs.Common.{◌≡◌, ◌∙◌, ◌++◌, ◌∷◌, [], ap, ap₂, sym}
-use Rattle.std.proofs.lemmas.Result.{MatchResult-weaker}
-use Rattle.std.specs.FinSet.{union, from_list}
+use Rattle.std.proofs.Common.{◌≡◌, ℕ, ◌++◌, ◌∙◌, List, Result, Ok, Err, ap, sym}
+use Rattle.std.specs.Prelude.{OnOk, if◌then◌else◌, is_ok}
+use Rattle.std.specs.FinSet.{FinSet, union, from_list}
+use Rattle.std.specs.Ordering.{nat_cmp}
 use Rattle.vipr_table.specs.Unions.{union_of_all, union_so_far}
 use Rattle.vipr_table.proofs.SetLemmas.{union_none}
-use Rattle.vipr_table.proofs.UnionsLemmas.{union_assoc, one_put, last_two, few_put}
+use Rattle.vipr_table.proofs.UnionsLemmas.{few_put}
 use Rattle.vipr_table.proofs.assumptions.union.Union.add.Goals as goal
-use Rattle.vipr_table.proofs.assumptions.union.Union.add.Goals.{then-is_near+in_ok-self+in-Many-1}
-use Rattle.vipr_table.proofs.assumptions.union.Union.add.Goals.{then-is_near+in_ok-self+in-Longer-1}
-use Rattle.vipr_table.proofs.assumptions.union.Union.add.Goals.{then-is_near+in_ok-self+in-Nothing-1}
-use Rattle.vipr_table.proofs.assumptions.union.Union.add.Goals.{else-is_near+in_ok-clone+in_ok-push}
-
-pub returns : goal.returns
-returns c =
-    let old = c.args.self.now in
-    let more = c.args.more.now in
-    let all = union_of_all old.below.items in
-    let few = from_list old.few.items in
-    let past : union (union (union all old.last) more) few ≡ union (union_so_far old) more = last_two (union all old.last) more few in
-    let step : union_so_far c.if-is_near.self ≡ union (union_so_far old) more = elim c.if-is_near.branch [
-      | then-is_near+in_ok-self+in-Many-1 w ↦ ap union_so_far w.self-is ∙ ap (λ s. union (union all s) few) w.in_ok-self.ensures ∙ ap (λ s. union s few) (sym (union_assoc all old.last more)) ∙ past
-      | then-is_near+in_ok-self+in-Longer-1 w ↦ ap union_so_far w.self-is ∙ ap (λ s. union (union all s) few) w.in_ok-self.ensures ∙ ap (λ s. union s few) (sym (union_assoc all old.last more)) ∙ past
-      | then-is_near+in_ok-self+in-Nothing-1 w ↦ ap union_so_far w.self-is ∙ ap (λ s. union (union all s) few) w.in_ok-self.ensures ∙ ap (λ s. union s few) (sym (union_assoc all old.last more)) ∙ past
-      | else-is_near+in_ok-clone+in_ok-push w ↦
-          ap union_so_far w.self-is
-          ∙ ap₂ (λ ss s. union (union (union_of_all ss) s) few) (w.in_ok-push.ensures.items ∙ ap (λ s. old.below.items ++ s ∷ []) w.replace-last.ensures.value) (w.replace-last.ensures.after ∙ w.in_ok-clone.ensures.cases)
-          ∙ ap (λ s. union s few) (one_put old.below.items old.last more) ∙ past
-    ] in
-    MatchResult-weaker c.settle.result c.settle.ensures (λ _ e. e ∙ step) (λ _ _. tt)
 
 pub returns-then-is_empty : goal.returns-then-is_empty
 returns-then-is_empty c =
     let all = union_so_far c.args.self.now in
     union_none all ∙ ap (union all) (sym (c.is_empty.ensures.0 c.if-is_empty.true))
 
+-- the indices of one more set wait with those of others
+gathered : {A E : Type 0} (r : Result A E) (rest more : FinSet nat_cmp) (old few new : List ℕ)
+    → new ≡ (if is_ok r then old ++ few else old) → from_list few ≡ more
+    → OnOk r (union rest (from_list new) ≡ union (union rest (from_list old)) more)
+gathered (Ok x) rest more old few new e f = ap (λ l. union rest (from_list l)) e ∙ few_put rest old few ∙ ap (union (union rest (from_list old))) f
+gathered (Err d) rest more old few new e f = tt
+
 pub returns-in-Some : goal.returns-in-Some
 returns-in-Some c =
     let old = c.args.self.now in
-    let rest = union (union_of_all old.below.items) old.last in
-    ap (λ l. union rest (from_list l)) c.in_ok-extend_from_slice.ensures.items
-    ∙ few_put rest old.few.items c.in-Some.few.now
-    ∙ ap (union (union_so_far old)) c.in-Some.ensures
+    gathered c.extend_from_slice.result (union (union_of_all old.below.items) old.last) c.args.more.now old.few.items c.in-Some.few.now _ c.extend_from_slice.ensures.items c.in-Some.ensures
