@@ -1,6 +1,7 @@
-use Rattle.std.proofs.Common.{◌≡◌, ◌∙◌, refl, to_z, of_z, true, false}
+use Rattle.std.proofs.Common.{◌≡◌, ◌∙◌, refl, to_z, of_z}
 use Rattle.std.specs.Prelude.{◌*ℤ◌}
 use Rattle.std.specs.Int.{w128}
+use Rattle.std.proofs.lemmas.Bool.{false≢true}
 use Rattle.vipr_frac.specs.Parts.{product_numer, product_denom, FitsProduct}
 use Rattle.vipr_frac.proofs.Sums.{product-is, IsReduced-product, ProductFits-parts}
 use Rattle.vipr_frac.proofs.Sums.{FitsProduct-from}
@@ -11,13 +12,13 @@ use Rattle.vipr_frac.proofs.frac.product_by_parts.Goals.{In_ok-below}
 pub returns-in_err-above-clause-fits : goal.returns-in_err-above-clause-fits
 returns-in_err-above-clause-fits c = (
   λ ok. refused _ c.from_residual.ensures.0 ok,
-  λ f. let e : false ≡ true = c.in_err-above.ensures.fits.1 (rw (words_times _ _ _ c.crossed-p.ensures.left c.crossed-p.ensures.right c.crossed-p.ensures.above) (FitsProduct-from c.args.a c.args.b f).numer) in cc,
+  λ f. absurd (false≢true (c.in_err-above.ensures.fits.1 (rw (words_times _ _ _ c.crossed-p.ensures.left c.crossed-p.ensures.right c.crossed-p.ensures.above) (FitsProduct-from c.args.a c.args.b f).numer))),
 )
 
 pub returns-in_err-below-clause-fits : goal.returns-in_err-below-clause-fits
 returns-in_err-below-clause-fits c = (
   λ ok. refused _ c.from_residual-in_err-below.ensures.0 ok,
-  λ f. let e : false ≡ true = c.in_err-below.ensures.fits.1 (rw c.crossed-p.ensures.below (FitsProduct-from c.args.a c.args.b f).below) in cc,
+  λ f. absurd (false≢true (c.in_err-below.ensures.fits.1 (rw c.crossed-p.ensures.below (FitsProduct-from c.args.a c.args.b f).below))),
 )
 
 module _ (c : In_ok-below) where

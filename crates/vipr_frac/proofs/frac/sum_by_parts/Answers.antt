@@ -1,7 +1,8 @@
-use Rattle.std.proofs.Common.{◌≡◌, ◌*◌, pos, ◌∙◌, refl, to_z, of_z, true, false}
+use Rattle.std.proofs.Common.{◌≡◌, ◌*◌, pos, ◌∙◌, refl, to_z, of_z}
 use Rattle.std.specs.Prelude.{int_div}
 use Rattle.std.specs.Int.{w128}
 use Rattle.std.proofs.lemmas.Int.{to_z-of_z}
+use Rattle.std.proofs.lemmas.Bool.{false≢true}
 use Rattle.vipr_spec.specs.Gcd.{gcd}
 use Rattle.vipr_frac.specs.Parts.{both_parts, sum_gcd, sum_denom, FitsParts, FitsSum}
 use Rattle.vipr_frac.proofs.Sums.{sum-is, IsReduced-sum}
@@ -22,17 +23,11 @@ module _ (c : After-quotient-2) where
   b : Facts c.args.b c.parts-s.result.0 c.parts-s.result.1
   b = facts_of _ _ _ c.parts-s.ensures.numer c.parts-s.ensures.denom c.parts-s.ensures.reduced
 
-  a_first : Facts c.args.a c.parts-q.result.0 c.parts-q.result.1
-  a_first = facts_of _ _ _ c.parts-q.ensures.numer c.parts-q.ensures.denom c.parts-q.ensures.reduced
-
-  b_first : Facts c.args.b c.parts-s.result.0 c.parts-s.result.1
-  b_first = facts_of _ _ _ c.parts-s.ensures.numer c.parts-s.ensures.denom c.parts-s.ensures.reduced
-
   parts : FitsParts c.args.a c.args.b
   parts = c.in_ok-both.ensures.fits.0 refl
 
   g_is : c.gcd_of-g.result ≡ gcd c.args.a.denom c.args.b.denom
-  g_is = c.gcd_of-g.ensures.value ∙ rw (a_first.denom, b_first.denom)
+  g_is = c.gcd_of-g.ensures.value ∙ rw (a.denom, b.denom)
 
   both_is : to_z w128 (of_z w128 c.in_ok-both.both) ≡ both_parts c.args.a c.args.b
   both_is = rw c.in_ok-both.ensures.value (as-is _ parts.both)
@@ -72,5 +67,5 @@ pub returns-in_err-below-clause-fits : goal.returns-in_err-below-clause-fits
 returns-in_err-below-clause-fits c =
     let d = (goal.at.returns-in_err-below-clause-fits c).After-quotient-2 in (
       λ ok. refused _ c.from_residual-in_err-below.ensures.0 ok,
-      λ f. let e : false ≡ true = c.in_err-below.ensures.fits.1 (rw (q_value d) f.below) in cc,
+      λ f. absurd (false≢true (c.in_err-below.ensures.fits.1 (rw (q_value d) f.below))),
     )

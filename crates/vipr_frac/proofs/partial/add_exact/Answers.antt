@@ -1,6 +1,7 @@
-use Rattle.std.proofs.Common.{rules, ◌≡◌, refl, ap, ◌∙◌}
+use Rattle.std.proofs.Common.{◌≡◌, refl, ap, ◌∙◌}
+use Rattle.std.proofs.lemmas.Bool.{false≢true}
 use Rattle.vipr_spec.specs.Fraction.{over}
-use Rattle.vipr_frac.proofs.Views.{as-is}
+use Rattle.vipr_frac.proofs.Views.{as-is, refused}
 use Rattle.vipr_frac.proofs.partial.add_exact.Goals as goal
 use Rattle.vipr_frac.proofs.partial.add_exact.Goals.{After-exact_sum}
 
@@ -14,7 +15,7 @@ pub returns-in_err-exact-clause-fits : goal.returns-in_err-exact-clause-fits
 returns-in_err-exact-clause-fits c =
     let k = (goal.at.returns-in_err-exact-clause-fits c).After-exact_sum in
     let fits = rw (left_is k, right_is k, c.value.ensures) at c.in_err-exact.ensures.fits in
-    search (rules, fits)
+    (λ ok. refused _ c.from_residual.ensures.0 ok, λ h. absurd (false≢true (fits.1 h)))
 
 pub returns-clause-fits : goal.returns-clause-fits
 returns-clause-fits c =
