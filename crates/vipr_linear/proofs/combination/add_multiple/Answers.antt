@@ -1,4 +1,5 @@
 use Rattle.std.proofs.Common.{◌∙◌, refl}
+use Rattle.std.proofs.lemmas.Bool.{false≢true}
 use Rattle.vipr_linear.proofs.Adding.{below, row_terms, row_terms_fit}
 use Rattle.vipr_linear.proofs.Collecting.{on_ok}
 use Rattle.vipr_linear.proofs.Marks.{not_both}
@@ -14,7 +15,7 @@ returns-in_err-add_terms-clause-fits c =
     let list = c.entries.ensures.list in
     let fit = row_terms_fit c.args.constraint.now.row c.args.places.now c.args.multiplier (rw list at c.entries.ensures.rising) in
     let known = rw list at c.in_err-add_terms.ensures.fits in
-    (λ o. absurd (not_both _ c.from_residual.ensures.0 o), λ h. absurd (let x = known.1 (fit.1 h.0) in cc))
+    (λ o. absurd (not_both _ c.from_residual.ensures.0 o), λ h. absurd (false≢true (known.1 (fit.1 h.0))))
 
 pub returns-clause-fits : goal.returns-clause-fits
 returns-clause-fits c =

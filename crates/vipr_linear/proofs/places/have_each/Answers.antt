@@ -1,4 +1,5 @@
 use Rattle.std.proofs.Common.{arith, refl, ◌≡◌, ◌≢◌, ◌∙◌, sym, subst, get_or, inl, inr, ℕ}
+use Rattle.std.proofs.lemmas.Bool.{false≢true}
 use Rattle.std.proofs.lemmas.Bool.{cases_lt}
 use Rattle.std.proofs.lemmas.List.{get_or_default, get_or_past}
 use Rattle.vipr_spec.specs.Fraction.{ℚ, zero_ℚ}
@@ -23,14 +24,14 @@ pub returns-then-place-sums : goal.returns-then-place-sums
 returns-then-place-sums c =
     let i = c.loop-variable.variable-index in
     let p = c.loop-variable-item.result in (
-      λ t. absurd (let e = t in cc),
+      λ t. absurd (false≢true t),
       λ all. absurd (
           let at : get_or c.args.sums.now p.0 zero_ℚ ≡ p.1 = subst (λ (q : ℕ × ℚ). get_or c.args.sums.now q.0 zero_ℚ ≡ q.1) (sym c.loop-variable-item.is) (all i p c.loop-variable-test.true) in
           let some : p.1 ≢ zero_ℚ = subst (λ (q : ℕ × ℚ). q.1 ≢ zero_ℚ) (sym c.loop-variable-item.is) (c.requires i p c.loop-variable-test.true) in
           elim c.then-place-sums.branch [
             | then-place-sums-via-then-place-sums w ↦ some (sym at ∙ get_or_past c.args.sums.now p.0 zero_ℚ w.if-place-sums.true)
             | then-place-sums-via-else-place-sums+then-not-is w ↦
-                let t = w.is.ensures.1 (w.index-sums-place.is ∙ get_or_default c.args.sums.now p.0 w.index-sums-place.result zero_ℚ w.if-place-sums.false ∙ at) in let f = w.if-not-is.true in (cc)
+                false≢true (sym w.if-not-is.true ∙ w.is.ensures.1 (w.index-sums-place.is ∙ get_or_default c.args.sums.now p.0 w.index-sums-place.result zero_ℚ w.if-place-sums.false ∙ at))
           ]),
     )
 

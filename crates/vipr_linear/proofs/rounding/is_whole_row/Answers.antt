@@ -1,4 +1,5 @@
-use Rattle.std.proofs.Common.{ℕ, All, refl, sym, subst}
+use Rattle.std.proofs.Common.{◌∙◌, ℕ, All, refl, sym, subst}
+use Rattle.std.proofs.lemmas.Bool.{false≢true}
 use Rattle.std.proofs.lemmas.List.{take_all}
 use Rattle.std.proofs.lemmas.List.Elements.{All-more}
 use Rattle.vipr_spec.specs.Fraction.{ℚ, IsWhole}
@@ -17,11 +18,11 @@ returns-then-not-is_whole_at c =
     let P : ℕ × ℚ → Type 0 = λ e. IsWhole e.1 × IsInteger c.args.ints.now e.0 in
     let list = c.entries-variable-items.ensures.list in
     let each = row_each c.args.row.now (λ j x. IsWhole x × IsInteger c.args.ints.now j) (rw list at c.entries-variable-items.ensures.rising) in (
-      λ t. absurd (cc),
+      λ t. absurd (false≢true t),
       λ w.
           let all : All P c.entries-variable-items.result.now = subst (All P) (sym list) (each.1 w) in
           let here : P c.loop-variable-item.result = subst P (sym c.loop-variable-item.is) (all c.loop-variable.variable-index c.loop-variable-item.result c.loop-variable-test.true) in
-          absurd (let t = c.is_whole_at.ensures.1 here in let f = c.if-not-is_whole_at.true in cc),
+          absurd (false≢true (sym c.if-not-is_whole_at.true ∙ c.is_whole_at.ensures.1 here)),
     )
 
 pub returns : goal.returns

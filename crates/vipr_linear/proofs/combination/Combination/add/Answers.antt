@@ -1,4 +1,5 @@
-use Rattle.std.proofs.Common.{◌≡◌, ◌≢◌, ◌∙◌, ap, sym, refl, is_some, subst, false, Some}
+use Rattle.std.proofs.Common.{◌≡◌, ◌≢◌, ◌∙◌, ap, sym, refl, is_some, is_ok, subst, false, Some}
+use Rattle.std.proofs.lemmas.Bool.{false≢true}
 use Rattle.vipr_spec.specs.Fraction.{zero_ℚ}
 use Rattle.vipr_spec.specs.MoreEntries.{sense_of_both, sense_of_multiple}
 use Rattle.vipr_linear.specs.Accumulator.{Accumulator, joined_with, AdditionFits}
@@ -19,20 +20,20 @@ returns-then-is_zero-clause-ok c =
     (λ _. record { fresh = fresh; suitable = ap is_some suitable; fits = λ n. absurd (n (known_zero c.args.multiplier c.is_zero.result c.is_zero.ensures.zero c.if-is_zero.true)) }, λ _. refl)
 
 pub returns-then-is_zero-clause-overflow : goal.returns-then-is_zero-clause-overflow
-returns-then-is_zero-clause-overflow c = (λ e. absurd (cc), λ h. absurd (h.2 (λ n. absurd (n (known_zero c.args.multiplier c.is_zero.result c.is_zero.ensures.zero c.if-is_zero.true)))))
+returns-then-is_zero-clause-overflow c = (λ e. absurd (false≢true (sym (ap is_ok e))), λ h. absurd (h.2 (λ n. absurd (n (known_zero c.args.multiplier c.is_zero.result c.is_zero.ensures.zero c.if-is_zero.true)))))
 
 pub returns-in-Ok-clause-overflow : goal.returns-in-Ok-clause-overflow
 returns-in-Ok-clause-overflow c =
     let known = c.in-Ok.ensures.fits in
-    (λ e. absurd (cc), λ h. absurd (h.2 (subst (λ (a : Accumulator). AdditionFits a (c.args.multiplier, condition_of c.args.constraint.now)) c.self.view_is (λ _. known.0 refl))))
+    (λ e. absurd (false≢true (sym (ap is_ok e))), λ h. absurd (h.2 (subst (λ (a : Accumulator). AdditionFits a (c.args.multiplier, condition_of c.args.constraint.now)) c.self.view_is (λ _. known.0 refl))))
 
 pub returns-in-Err-clause-ok : goal.returns-in-Err-clause-ok
 returns-in-Err-clause-ok c =
     let some : c.args.multiplier ≢ zero_ℚ = known_nonzero c.args.multiplier c.is_zero.result c.is_zero.ensures.zero c.if-is_zero.false in
     let known = c.in-Err.ensures.fits in
     let never : AdditionFits c.args.self.now (c.args.multiplier, condition_of c.args.constraint.now) → ⊥ = λ fits.
-    (let f = subst (λ (a : Accumulator). AdditionFits a (c.args.multiplier, condition_of c.args.constraint.now)) (sym c.self.view_is) fits some in absurd (let x = known.1 f in cc)) in
-    (λ t. absurd (cc), λ h. absurd (never h.fits))
+    false≢true (known.1 (subst (λ (a : Accumulator). AdditionFits a (c.args.multiplier, condition_of c.args.constraint.now)) (sym c.self.view_is) fits some)) in
+    (λ t. absurd (false≢true t), λ h. absurd (never h.fits))
 
 pub returns-in-Err-clause-overflow : goal.returns-in-Err-clause-overflow
 returns-in-Err-clause-overflow c =
@@ -42,5 +43,5 @@ returns-in-Err-clause-overflow c =
     let some : c.args.multiplier ≢ zero_ℚ = known_nonzero c.args.multiplier c.is_zero.result c.is_zero.ensures.zero c.if-is_zero.false in
     let known = c.in-Err.ensures.fits in
     let never : AdditionFits c.args.self.now (c.args.multiplier, condition_of c.args.constraint.now) → ⊥ = λ fits.
-    (let f = subst (λ (a : Accumulator). AdditionFits a (c.args.multiplier, condition_of c.args.constraint.now)) (sym c.self.view_is) fits some in absurd (let x = known.1 f in cc)) in
+    false≢true (known.1 (subst (λ (a : Accumulator). AdditionFits a (c.args.multiplier, condition_of c.args.constraint.now)) (sym c.self.view_is) fits some)) in
     (λ _. (fresh, ap is_some suitable, never), λ _. refl)

@@ -1,4 +1,5 @@
 use Rattle.std.proofs.Common.{arith, ap, ◌≡◌, ◌+◌, ◌∙◌, sym, subst, refl, drop, length}
+use Rattle.std.proofs.lemmas.Bool.{false≢true}
 use Rattle.std.proofs.lemmas.List.{length-set}
 use Rattle.vipr_linear.specs.Accumulator.{with_term, with_terms, TermsFitIn}
 use Rattle.vipr_linear.proofs.Marks.{item_within, not_both, next_fits, next_sums, all_fit, no_more}
@@ -13,7 +14,7 @@ pub returns-in_err-add_product-clause-fits : goal.returns-in_err-add_product-cla
 returns-in_err-add_product-clause-fits c =
     let fits = next_fits c.loop-variable.self c.args.multiplier c.args.entries.now c.loop-variable.variable-index c.loop-variable-item.result (omega arith) c.loop-variable-item.is in (
       λ o. absurd (not_both _ c.from_residual.ensures.0 o),
-      λ h. absurd (let x = c.in_err-add_product.ensures.fits.1 (fits.0 (c.loop-variable.invariant.fits.0 h)).0 in cc),
+      λ h. absurd (false≢true (c.in_err-add_product.ensures.fits.1 (fits.0 (c.loop-variable.invariant.fits.0 h)).0)),
     )
 
 pub returns-in_err-add_product-clause-places : goal.returns-in_err-add_product-clause-places

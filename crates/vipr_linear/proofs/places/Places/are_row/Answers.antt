@@ -1,4 +1,5 @@
 use Rattle.std.proofs.Common.{◌∙◌, sym, ap, subst, get_or}
+use Rattle.std.proofs.lemmas.Bool.{false≢true}
 use Rattle.vipr_spec.specs.Fraction.{zero_ℚ}
 use Rattle.vipr_linear.specs.Touched.{Covers}
 use Rattle.vipr_linear.proofs.Rows.{nonzero_from, exact}
@@ -26,6 +27,6 @@ returns-else-have_each c =
     let sums = c.as_slice-sums.ensures.value ∙ c.self.view_is in
     let covers = subst (λ xs. Covers xs c.self.inside.touched) (sym c.as_slice-sums.ensures.value) c.self.invariant.covers in
     let same = row_counted c.as_slice-sums.result.now c.self.inside.touched c.places-places.result.now c.places-places.ensures covers c.args.row.now c.entries-entries.result.now c.entries-entries.ensures.list c.entries-entries.ensures.rising in (
-      λ t. absurd (let e = t in cc),
-      λ h. absurd (let t = c.have_each.ensures.1 (same.1 (λ j. ap (λ xs. get_or xs j zero_ℚ) sums ∙ h j)).0 in let f = c.if-have_each.false in cc),
+      λ t. absurd (false≢true (sym c.if-have_each.false ∙ t)),
+      λ h. absurd (false≢true (sym c.if-have_each.false ∙ c.have_each.ensures.1 (same.1 (λ j. ap (λ xs. get_or xs j zero_ℚ) sums ∙ h j)).0)),
     )
