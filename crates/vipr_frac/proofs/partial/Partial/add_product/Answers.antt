@@ -3,7 +3,7 @@ use Rattle.std.specs.Prelude.{◌*ℤ◌}
 use Rattle.std.specs.Int.{w64, w128}
 use Rattle.std.proofs.lemmas.Int.{to_z-of_z, fits_signed_from_abs}
 use Rattle.vipr_frac.proofs.OneDenominator.{IsShortProduct, short_product}
-use Rattle.vipr_frac.proofs.Views.{as-is}
+use Rattle.vipr_frac.proofs.Views.{as-is, passed-on}
 use Rattle.vipr_frac.proofs.partial.Partial.add_product.Goals as goal
 use Rattle.vipr_frac.proofs.partial.Partial.add_product.Goals.{After-from-then-are_short-2}
 
@@ -65,3 +65,28 @@ returns-then-add_short-clause-sum c =
     let k = (goal.at.returns-then-add_short-clause-sum c).After-from-then-are_short-2 in
     let h = rw (p_is k, r_is k, to_z-of_z w128 _ (fits k), (short k).product) at c.add_short.ensures.sum in
     h c.if-add_short.true
+
+-- the parts that are passed on are those of the factors
+pub returns-else-add_short-clause-fits : goal.returns-else-add_short-clause-fits
+returns-else-add_short-clause-fits c =
+    let left = passed-on c.args.multiplier _ _ c.parts-p.ensures.numer c.parts-p.ensures.denom c.parts-p.ensures.reduced in
+    let right = passed-on c.args.coefficient _ _ c.parts-r.ensures.numer c.parts-r.ensures.denom c.parts-r.ensures.reduced in
+    rw (left, right, c.add_short.ensures.kept c.if-add_short.false) at c.add_exact.ensures.fits
+
+pub returns-else-add_short-clause-sum : goal.returns-else-add_short-clause-sum
+returns-else-add_short-clause-sum c =
+    let left = passed-on c.args.multiplier _ _ c.parts-p.ensures.numer c.parts-p.ensures.denom c.parts-p.ensures.reduced in
+    let right = passed-on c.args.coefficient _ _ c.parts-r.ensures.numer c.parts-r.ensures.denom c.parts-r.ensures.reduced in
+    rw (left, right, c.add_short.ensures.kept c.if-add_short.false) at c.add_exact.ensures.sum
+
+pub returns-else-are_short-clause-fits : goal.returns-else-are_short-clause-fits
+returns-else-are_short-clause-fits c =
+    let left = passed-on c.args.multiplier _ _ c.parts-p.ensures.numer c.parts-p.ensures.denom c.parts-p.ensures.reduced in
+    let right = passed-on c.args.coefficient _ _ c.parts-r.ensures.numer c.parts-r.ensures.denom c.parts-r.ensures.reduced in
+    rw (left, right) at c.add_long.ensures.fits
+
+pub returns-else-are_short-clause-sum : goal.returns-else-are_short-clause-sum
+returns-else-are_short-clause-sum c =
+    let left = passed-on c.args.multiplier _ _ c.parts-p.ensures.numer c.parts-p.ensures.denom c.parts-p.ensures.reduced in
+    let right = passed-on c.args.coefficient _ _ c.parts-r.ensures.numer c.parts-r.ensures.denom c.parts-r.ensures.reduced in
+    rw (left, right) at c.add_long.ensures.sum
