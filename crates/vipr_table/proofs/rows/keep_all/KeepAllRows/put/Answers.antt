@@ -7,6 +7,9 @@ use Rattle.vipr_table.proofs.TableLemmas.{same_table}
 use Rattle.vipr_table.proofs.KeepAllLemmas.{IsKept-put, kept_map-push, len-kept_map}
 use Rattle.vipr_table.proofs.rows.keep_all.KeepAllRows.put.Goals as goal
 
+pub invariant_of-self : goal.invariant_of-self
+invariant_of-self c = rw c.reserve_one.ensures.same c.self.invariant
+
 pub overflow_add-self : goal.overflow_add-self
 overflow_add-self c =
     let next = ap (λ t. t.next) c.self.view_is in
@@ -14,6 +17,9 @@ overflow_add-self c =
     let placed = c.self.invariant.placed in
     let count = c.self.invariant.count in
     omega (arith, next, few, placed, count)
+
+pub overflow_add-self-2 : goal.overflow_add-self-2
+overflow_add-self-2 c = let next = ap (λ t. t.next) c.self.view_is in omega (arith, next)
 
 pub invariant_of-self-2 : goal.invariant_of-self-2
 invariant_of-self-2 c =

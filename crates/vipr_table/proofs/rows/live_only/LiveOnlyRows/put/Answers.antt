@@ -1,8 +1,17 @@
-use Rattle.std.proofs.Common.{refl, ap, ◌∙◌}
+use Rattle.std.proofs.Common.{refl, ap, ◌∙◌, arith}
 use Rattle.vipr_table.specs.Table.{put_entry}
 use Rattle.vipr_table.proofs.TableLemmas.{same_table}
 use Rattle.vipr_table.proofs.ExpiryOrderLemmas.{IsTied-put}
 use Rattle.vipr_table.proofs.rows.live_only.LiveOnlyRows.put.Goals as goal
+
+pub invariant_of-self : goal.invariant_of-self
+invariant_of-self c = rw c.reserve_one.ensures.same c.self.invariant
+
+pub invariant_of-self-in_err-insert : goal.invariant_of-self-in_err-insert
+invariant_of-self-in_err-insert c = rw (c.in_err-insert.ensures.err, c.reserve_one.ensures.same) c.self.invariant
+
+pub overflow_add-self : goal.overflow_add-self
+overflow_add-self c = let next = ap (λ t. t.next) c.self.view_is in omega (arith, next)
 
 pub invariant_of-self-2 : goal.invariant_of-self-2
 invariant_of-self-2 c =
