@@ -40,6 +40,9 @@ overflow_add-sum c =
     let h = bounds before in
     rw (p_is before, u_is before, r_is c, v_is c, as-is _ h.0, as-is _ h.1) (word_fits _ h.2)
 
+pub overflow_cast-result : goal.overflow_cast-result
+overflow_cast-result c = c.is_word.ensures.0 c.if-is_word.true
+
 pub returns-then-is_word : goal.returns-then-is_word
 returns-then-is_word c =
     let before = (goal.at.returns-then-is_word c).After-from-2 in

@@ -56,6 +56,9 @@ returns-then-sum-eq0 c =
       kept = search rules;
     }
 
+pub overflow_cast-p : goal.overflow_cast-p
+overflow_cast-p c = c.is_word-2.ensures.0 c.if-not-is_word.false
+
 pub returns-clause-fits : goal.returns-clause-fits
 returns-clause-fits c =
     let t = c.args.p in

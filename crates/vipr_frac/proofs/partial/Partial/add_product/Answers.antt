@@ -33,6 +33,12 @@ module _ (c : After-from-then-are_short-2) where
   fits : FitsSigned w128 (c.parts-p.result.0 *ℤ c.parts-r.result.0)
   fits = fits_signed_from_abs w128 _ (let h = short.numer in omega arith)
 
+pub overflow_cast-p : goal.overflow_cast-p
+overflow_cast-p c = (c.are_short.ensures.0 c.if-are_short.true).0
+
+pub overflow_cast-r : goal.overflow_cast-r
+overflow_cast-r c = (c.are_short-then-are_short.ensures.0 c.if-are_short-2.true).0
+
 pub overflow_mul-numer : goal.overflow_mul-numer
 overflow_mul-numer c = rw (p_is c, r_is c) (fits c)
 
