@@ -8,7 +8,7 @@ ghost use Rattle.vipr_rules.specs.Columns.{given_of, HasRow, IsFrom, IsUpTo, Lie
 
 use vipr_cert::Named;
 use vipr_frac::Frac;
-use vipr_linear::{Constraint, Row, Sense, compares};
+use vipr_linear::{Constraint, Row, Sense};
 
 /// The tightest bounds of the objective's value by those constraints that have its row.
 #[derive(Clone, Copy, Debug)]
@@ -80,18 +80,9 @@ fn larger(least: Option<Frac>, bound: Frac) -> Option<Frac>
     ensures { (v : ℚ) → IsFrom result v ↔ (IsFrom least v × (bound ≤ℚ v)) }
 {
     match least {
-        Some(other) => Some(larger_of(other, bound)),
+        Some(other) => Some(other.max(bound)),
         None => Some(bound),
     }
-}
-
-fn larger_of(a: Frac, b: Frac) -> Frac
-    ensures { (v : ℚ) → (result ≤ℚ v) ↔ ((a ≤ℚ v) × (b ≤ℚ v)) }
-{
-    if compares(Sense::G, a, b) {
-        return a;
-    }
-    b
 }
 
 // The smaller one of two upper bounds.
@@ -99,18 +90,9 @@ fn smaller(most: Option<Frac>, bound: Frac) -> Option<Frac>
     ensures { (v : ℚ) → IsUpTo result v ↔ (IsUpTo most v × (v ≤ℚ bound)) }
 {
     match most {
-        Some(other) => Some(smaller_of(other, bound)),
+        Some(other) => Some(other.min(bound)),
         None => Some(bound),
     }
-}
-
-fn smaller_of(a: Frac, b: Frac) -> Frac
-    ensures { (v : ℚ) → (v ≤ℚ result) ↔ ((v ≤ℚ a) × (v ≤ℚ b)) }
-{
-    if compares(Sense::L, a, b) {
-        return a;
-    }
-    b
 }
 
 // Whether a value reaches the lower bound, if there is one.
