@@ -27,7 +27,8 @@ use Rattle.vipr_rules.specs.declared.error.RuleError.TheVariants.{NoSolution, Me
 use Rattle.vipr_table.specs.declared.rows.Entry.{Entry}
 use Rattle.vipr_table.specs.Table.{Table}
 use Rattle.vipr_table.specs.History.{IsEntryOf, IsTableOf}
-use Rattle.vipr_rules.specs.Context.{IsSetByReason}
+use Rattle.vipr_rules.specs.Context.{IsContextOf, IsSetByReason}
+use Rattle.vipr_rules.specs.declared.context.Context.{Context}
 use Rattle.vipr_rules.specs.Soundness.{HasSoundRows, IsSoundRow}
 
 -- ---- what an error says
@@ -114,6 +115,12 @@ abbrev pub IsRuledBy : Profile → Certificate → Derivation → Reason
 IsRuledBy P c d r (Ok s) = PassesTestsIn P c d (step_tests r) × IsSetByReason c r s
 IsRuledBy P c d r (Err e) =
     ((e ≡ Memory) × PassesTestsIn P c d (free_tests r)) ⊎ StopsIn P c d (step_tests r) e
+
+-- so it is of each derivation that states this constraint, after a certificate of this context
+abbrev pub IsRuledIn : {S : Type 0} → (S → Table) → Context S → Constraint → Reason
+    → Result (set.FinSet nat_cmp) RuleError → Type 0
+IsRuledIn table x stated r result = (P : Profile) (c : Certificate) (d : Derivation)
+    → IsContextOf table P c x → condition_of stated ≡ condition d.stated → IsRuledBy P c d r result
 
 -- ---- what a call answers
 

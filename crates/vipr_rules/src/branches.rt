@@ -2,14 +2,14 @@
 //! without them.
 
 ghost use Rattle.std.specs.Prelude.{◌≡◌, ◌⊎◌, ◌∷◌, [], ℕ, true, IfOk, OnOk, MatchResult};
-ghost use Rattle.vipr_spec.specs.Constraint.{Profile as ProfileMeant, condition, IsSplit};
+ghost use Rattle.vipr_spec.specs.Constraint.{Profile as ProfileMeant, IsSplit};
 ghost use Rattle.vipr_spec.specs.Certificate.{Certificate, Derivation, constraint_at, uns};
 ghost use Rattle.vipr_spec.specs.Steps.{assumed, split};
 ghost use Rattle.vipr_linear.specs.Constraint.{condition_of};
 ghost use Rattle.vipr_rules.specs.Profile.{profile_of};
-ghost use Rattle.vipr_rules.specs.Context.{IsContextOf, IsKnownAs, is_assumed};
+ghost use Rattle.vipr_rules.specs.Context.{IsKnownAs, is_assumed};
 ghost use Rattle.vipr_rules.specs.Soundness.{IsSoundUnder};
-ghost use Rattle.vipr_rules.specs.Apply.{PassesTestsIn, StopsIn, IsRuledBy};
+ghost use Rattle.vipr_rules.specs.Apply.{PassesTestsIn, StopsIn, IsRuledIn};
 ghost use Rattle.vipr_rules.specs.declared.error.RuleError.TheVariants.{Memory};
 
 use crate::context::{Context, Known};
@@ -37,11 +37,8 @@ pub(crate) fn join_branches<S: Rows>(
     first: Branch,
     second: Branch,
 ) -> Result<Assumptions, RuleError>
-    ensures ruled { (P : ProfileMeant) (c : Certificate) (d : Derivation)
-        → IsContextOf S.table P c context.now → condition_of stated.now ≡ condition d.stated
-        → IsRuledBy P c d
-        (uns first.conclusion first.assumption second.conclusion second.assumption)
-        result }
+    ensures ruled { IsRuledIn S.table context.now stated.now
+        (uns first.conclusion first.assumption second.conclusion second.assumption) result }
     ensures sound { IfOk result (λ s.
         IsSoundUnder S.table context.now s (condition_of stated.now)) }
 {

@@ -1,13 +1,10 @@
 //! The rule by which the best listed solution cuts off every point that is no better.
 
 ghost use Rattle.std.specs.Prelude.{◌≡◌, IfOk};
-ghost use Rattle.vipr_spec.specs.Constraint.{Profile, condition};
-ghost use Rattle.vipr_spec.specs.Certificate.{Certificate, Derivation as DerivationMeant};
 ghost use Rattle.vipr_spec.specs.Certificate.{objective_constraint, reaches, sol as by_sol};
 ghost use Rattle.vipr_linear.specs.Constraint.{condition_of};
-ghost use Rattle.vipr_rules.specs.Context.{IsContextOf};
 ghost use Rattle.vipr_rules.specs.Soundness.{IsSoundUnder};
-ghost use Rattle.vipr_rules.specs.Apply.{IsRuledBy};
+ghost use Rattle.vipr_rules.specs.Apply.{IsRuledIn};
 
 use crate::claim::objective_with;
 use crate::context::Context;
@@ -25,9 +22,7 @@ pub(crate) fn cut_off<S: Rows>(
     context: &Context<S>,
     stated: &Constraint,
 ) -> Result<Assumptions, RuleError>
-    ensures ruled { (P : Profile) (c : Certificate) (d : DerivationMeant)
-        → IsContextOf S.table P c context.now → condition_of stated.now ≡ condition d.stated
-        → IsRuledBy P c d by_sol result }
+    ensures ruled { IsRuledIn S.table context.now stated.now by_sol result }
     ensures sound { IfOk result (λ s.
         IsSoundUnder S.table context.now s (condition_of stated.now)) }
 {

@@ -19,7 +19,7 @@ ghost use Rattle.vipr_table.specs.Unions.{union_so_far};
 ghost use Rattle.vipr_rules.specs.Context.{IsContextOf, IsKnownAs, IsSetOfAll, row_found, set_of};
 ghost use Rattle.vipr_rules.specs.Context.{set_found, AreJoined};
 ghost use Rattle.vipr_rules.specs.Soundness.{IsSoundUnder};
-ghost use Rattle.vipr_rules.specs.Apply.{PassesTestsIn, StopsIn, SumStops, IsRuledBy};
+ghost use Rattle.vipr_rules.specs.Apply.{PassesTestsIn, StopsIn, SumStops, IsRuledIn};
 ghost use Rattle.vipr_rules.specs.Apply.{IsNotDominated};
 ghost use Rattle.vipr_rules.specs.declared.error.RuleError.TheVariants.{Memory};
 
@@ -45,9 +45,7 @@ pub(crate) fn combine<S: Rows>(
     requires variables { length scratch.old.sums ≡ variables context.now.problem.now }
     requires rows { let n = variables context.now.problem.now in
         DerivedBelow n (S.table context.now.rows.now) }
-    ensures ruled { (P : Profile) (c : Certificate) (d : Derivation)
-        → IsContextOf S.table P c context.now → condition_of stated.now ≡ condition d.stated
-        → IsRuledBy P c d (by_lin entries.now) result }
+    ensures ruled { IsRuledIn S.table context.now stated.now (by_lin entries.now) result }
     ensures sound { IfOk result (λ s.
         IsSoundUnder S.table context.now s (condition_of stated.now)) }
     ensures variables { length scratch.new.sums ≡ length scratch.old.sums }
@@ -68,9 +66,7 @@ pub(crate) fn combine_rounded<S: Rows>(
     requires variables { length scratch.old.sums ≡ variables context.now.problem.now }
     requires rows { let n = variables context.now.problem.now in
         DerivedBelow n (S.table context.now.rows.now) }
-    ensures ruled { (P : Profile) (c : Certificate) (d : Derivation)
-        → IsContextOf S.table P c context.now → condition_of stated.now ≡ condition d.stated
-        → IsRuledBy P c d (by_rnd entries.now) result }
+    ensures ruled { IsRuledIn S.table context.now stated.now (by_rnd entries.now) result }
     ensures sound { IfOk result (λ s.
         IsSoundUnder S.table context.now s (condition_of stated.now)) }
     ensures variables { length scratch.new.sums ≡ length scratch.old.sums }
