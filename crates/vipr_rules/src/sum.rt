@@ -144,35 +144,6 @@ fn add_up<S: Rows>(
     ensures variables { length scratch.new.sums ≡ length scratch.old.sums }
 {
     let mut assumptions = Union::new(alloc);
-    add_each(alloc, context, scratch, entries, &mut assumptions)?;
-    let joined = assumptions.finish(alloc)?;
-    Ok(joined)
-}
-
-// Adds the multiple, and no assumptions.
-fn add_each<S: Rows>(
-    alloc: Global,
-    context: &Context<S>,
-    scratch: &mut Combination,
-    entries: &[(u32, Frac)],
-    assumptions: &mut Union,
-) -> Result<(), RuleError>
-    requires variables { length scratch.old.sums ≡ variables context.now.problem.now }
-    requires rows { let n = variables context.now.problem.now in
-        DerivedBelow n (S.table context.now.rows.now) }
-    requires none { union_so_far assumptions.old ≡ set.empty }
-    ensures sum { (P : Profile) (c : Certificate) (d : Derivation)
-        → IsContextOf S.table P c context.now
-        → MatchResult result
-        (λ _. PassesTestsIn P c d (sum_tests entries.now)
-        × IsSum c entries.now (held_condition scratch.new)
-        × IsSetOfAll c entries.now (union_so_far assumptions.new))
-        (λ e. (e ≡ Memory) ⊎ StopsIn P c d (sum_tests entries.now) e) }
-    ensures fresh { OnOk result (scratch.new.spent ≡ false) }
-    ensures sound { OnOk result (IsSoundUnder S.table context.now (union_so_far assumptions.new)
-        (held_condition scratch.new)) }
-    ensures variables { length scratch.new.sums ≡ length scratch.old.sums }
-{
     scratch.clear();
     for (position, entry) in entries.iter().enumerate() {
         let Some(known) = find_used(context, entry)? else {
@@ -189,10 +160,11 @@ fn add_each<S: Rows>(
             entries,
             position,
             entry.0,
-            assumptions,
+            &mut assumptions,
         )?;
     }
-    Ok(())
+    let joined = assumptions.finish(alloc)?;
+    Ok(joined)
 }
 
 // Adds the assumptions of the constraint of the entry at a position, unless an entry shortly before

@@ -10,7 +10,7 @@ use Rattle.vipr_rules.specs.Apply.{PassesTestsIn}
 use Rattle.vipr_table.specs.Unions.{union_so_far}
 use Rattle.vipr_rules.proofs.SoundLemmas.{AreTrue}
 use Rattle.vipr_rules.proofs.SumLemmas.{IsTrueSum}
-use Rattle.vipr_rules.proofs.sum.add_each.Given as goal
+use Rattle.vipr_rules.proofs.sum.add_up.Given as goal
 
 abbrev pub invariant-loop-position : goal.invariant-loop-position
 invariant-loop-position g l =
