@@ -161,7 +161,8 @@ fn laid_value(row: &Row, point: &Combination) -> Option<Frac>
     }
 }
 
-// Tests the constraints, given the value of the objective.
+// The value of a row at the solution that is laid out, where the objective has this value, or none
+// that fits.
 fn value_beside(
     row: &Row,
     objective: &Row,
@@ -172,10 +173,7 @@ fn value_beside(
         → IsValueOf n (at objective.now) x value.now → IsValueOf n (at row.now) x result }
 {
     if row.is_same(objective) {
-        return match value {
-            Some(value) => Some(*value),
-            None => None,
-        };
+        return *value;
     }
     laid_value(row, point)
 }
