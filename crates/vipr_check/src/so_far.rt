@@ -32,8 +32,8 @@ use vipr_cert::{Derivation, Name, Named, Problem};
 use vipr_frac::Frac;
 use vipr_linear::{Combination, Constraint, Solution};
 use vipr_rules::{
-    Columns, Entry, Profile, Rows, RuleError, SolutionError, Target, apply_in, better, judge,
-    meets_primal, take_entry, test_solution, test_solution_by_columns,
+    Columns, Context, Entry, Profile, Rows, RuleError, SolutionError, Target, apply_in, better,
+    judge, meets_primal, take_entry, test_solution, test_solution_by_columns,
 };
 
 /// What is known of a certificate so far.
@@ -361,15 +361,13 @@ impl<S: Rows> Progress<S> {
         ensures err { IfErr result (λ e. (self.new ≡ self.old) ⊎ ((e ≡ Memory)
             × (self.new ≡ record self.old { rows = advance_table self.old.rows }))) }
     {
-        let assumptions = judge(
-            alloc,
-            self.profile,
-            &self.problem,
-            self.best.as_ref(),
-            &self.rows,
-            &mut self.scratch,
-            step,
-        )?;
+        let context = Context {
+            profile: self.profile,
+            problem: &self.problem,
+            best: self.best.as_ref(),
+            rows: &self.rows,
+        };
+        let assumptions = judge(alloc, &context, &mut self.scratch, step)?;
         self.keep(take_entry(alloc, step, assumptions))
     }
 

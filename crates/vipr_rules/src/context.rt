@@ -23,15 +23,15 @@ use vipr_table::{Assumptions, Entry, Rows, Union};
 
 /// What a derivation is tested against.
 #[derive(Drop)]
-pub(crate) struct Context<'a, S: Rows> {
+pub struct Context<'a, S: Rows> {
     /// The rules.
-    pub(crate) profile: Profile,
+    pub profile: Profile,
     /// The problem, whose constraints come first.
-    pub(crate) problem: &'a Problem,
+    pub problem: &'a Problem,
     /// The best objective value among the listed solutions, if one is listed.
-    pub(crate) best: Option<&'a Frac>,
+    pub best: Option<&'a Frac>,
     /// The derived constraints.
-    pub(crate) rows: &'a S,
+    pub rows: &'a S,
 }
 
 /// A constraint that a derivation may refer to.

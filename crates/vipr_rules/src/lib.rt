@@ -16,6 +16,7 @@ mod sum;
 
 pub use claim::{Target, better, claimed_primal, meets_primal};
 pub use columns::Columns;
+pub use context::Context;
 pub use error::RuleError;
 pub use profile::Profile;
 pub use rules::{apply, apply_in, judge, take_entry};

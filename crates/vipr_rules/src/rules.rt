@@ -110,26 +110,19 @@ pub fn apply_in<S: Rows>(
 #[inline(always)]
 pub fn judge<S: Rows>(
     alloc: Global,
-    profile: Profile,
-    p: &Problem,
-    best: Option<&Frac>,
-    rows: &S,
+    context: &Context<S>,
     scratch: &mut Combination,
     step: &Derivation,
 ) -> Result<Assumptions, RuleError>
-    requires variables { length scratch.old.sums ≡ variables p.now }
-    requires rows { DerivedBelow (variables p.now) (S.table rows.now) }
-    ensures applies { Applies (profile_of profile) p.now (option_copied best.entry)
-        (S.table rows.now) step.now (judged_answer step.now result) }
+    requires variables { length scratch.old.sums ≡ variables context.now.problem.now }
+    requires rows { let n = variables context.now.problem.now in
+        DerivedBelow n (S.table context.now.rows.now) }
+    ensures applies { let x = context.now in
+        Applies (profile_of x.profile) x.problem.now (option_copied x.best) (S.table x.rows.now)
+        step.now (judged_answer step.now result) }
     ensures variables { length scratch.new.sums ≡ length scratch.old.sums }
 {
-    let against = Context {
-        profile,
-        problem: p,
-        best,
-        rows,
-    };
-    assumptions_of(alloc, &against, scratch, step)
+    assumptions_of(alloc, context, scratch, step)
 }
 
 /// What is kept of a derivation that rests on these assumptions. Its constraint is moved out of it.
