@@ -1,6 +1,6 @@
 //! What a checker knows of a certificate so far.
 
-ghost use Rattle.std.specs.Prelude.{◌≡◌, ◌≢◌, ◌≤◌, ◌+◌, ◌<◌, ◌^◌, ◌⊎◌, ◌↔◌, IfOk, IfErr, OnOk};
+ghost use Rattle.std.specs.Prelude.{◌≡◌, ◌≢◌, ◌≤◌, ◌+◌, ◌<◌, ◌^◌, ◌↔◌, IfOk, IfErr, OnOk};
 ghost use Rattle.std.specs.Prelude.{OnErr, MatchResult, MatchOption, IsTrue, Ok, List, [], ◌∷◌};
 ghost use Rattle.std.specs.Prelude.{◌++◌, length, None, option_map};
 ghost use Rattle.vipr_spec.specs.Certificate.{Named as NamedMeant, Derivation as DerivationMeant};
@@ -17,12 +17,12 @@ ghost use Rattle.vipr_rules.specs.Claim.{target_bound, IsTargetIn};
 ghost use Rattle.vipr_rules.specs.Profile.{profile_of};
 ghost use Rattle.vipr_table.specs.Table.{step as table_step, advance_table, held_count as held_in};
 ghost use Rattle.vipr_table.specs.History.{IsEntryOf};
-ghost use Rattle.vipr_rules.specs.Apply.{PassesTestsIn, StopsIn};
+ghost use Rattle.vipr_rules.specs.Apply.{PassesTestsIn};
 ghost use Rattle.vipr_rules.specs.Solution.{FailsBy};
 ghost use Rattle.vipr_rules.specs.declared.claim.Target.TheVariants.{Nothing};
 ghost use Rattle.vipr_rules.specs.declared.error.RuleError.TheVariants.{Memory};
 ghost use Rattle.vipr_check.specs.View.{report_of};
-ghost use Rattle.vipr_check.specs.Progress.{HasSolutions, HasSteps, HasColumns};
+ghost use Rattle.vipr_check.specs.Progress.{HasSolutions, HasSteps, HasColumns, TriesStep};
 
 use crate::goal::{goal_among, goal_with};
 use crate::verdict::Report;
@@ -314,18 +314,7 @@ impl<S: Rows> Progress<S> {
     pub(crate) fn derivation(&mut self, alloc: Global, step: &Derivation) -> Result<(), RuleError>
         requires room { self.old.rows.next + 1 < 2 ^ 32 }
         requires names { NamesBelow (variables self.old.problem) (at step.now.constraint.row) }
-        ensures next { (c : Certificate) → HasSteps c self.old
-            → MatchResult result (λ _. PassesTestsIn self.old.profile c (derivation_of step.now)
-            (step_tests (derivation_of step.now).reason)
-            × HasSteps (with_next c (derivation_of step.now)) self.new)
-            (λ e. (e ≡ Memory)
-            ⊎ StopsIn self.old.profile c (derivation_of step.now)
-            (step_tests (derivation_of step.now).reason) e) }
-        ensures ok { OnOk result (self.new ≡ record
-            self.old { rows = self.new.rows; peak = self.new.peak; goal = self.new.goal }) }
-        ensures peak { OnOk result (held_in self.new.rows ≤ self.new.peak) }
-        ensures err { IfErr result (λ e. (self.new ≡ self.old) ⊎ ((e ≡ Memory)
-            × (self.new ≡ record self.old { rows = advance_table self.old.rows }))) }
+        ensures { TriesStep (derivation_of step.now) self.old self.new result }
     {
         let entry = apply_in(
             alloc,
@@ -347,19 +336,8 @@ impl<S: Rows> Progress<S> {
     ) -> Result<(), RuleError>
         requires room { self.old.rows.next + 1 < 2 ^ 32 }
         requires names { NamesBelow (variables self.old.problem) (at step.old.constraint.row) }
-        ensures next { (c : Certificate) → HasSteps c self.old
-            → MatchResult result (λ _. PassesTestsIn self.old.profile c (derivation_of step.old)
-            (step_tests (derivation_of step.old).reason)
-            × HasSteps (with_next c (derivation_of step.old)) self.new)
-            (λ e. (e ≡ Memory)
-            ⊎ StopsIn self.old.profile c (derivation_of step.old)
-            (step_tests (derivation_of step.old).reason) e) }
-        ensures ok { OnOk result (self.new ≡ record
-            self.old { rows = self.new.rows; peak = self.new.peak; goal = self.new.goal }) }
+        ensures tried { TriesStep (derivation_of step.old) self.old self.new result }
         ensures named { step.new.name ≡ step.old.name }
-        ensures peak { OnOk result (held_in self.new.rows ≤ self.new.peak) }
-        ensures err { IfErr result (λ e. (self.new ≡ self.old) ⊎ ((e ≡ Memory)
-            × (self.new ≡ record self.old { rows = advance_table self.old.rows }))) }
     {
         let context = Context {
             profile: self.profile,
