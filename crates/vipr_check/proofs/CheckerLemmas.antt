@@ -1,6 +1,6 @@
 -- A checker's state, call by call
-use Rattle.std.proofs.Common.{◌≡◌, ℕ, ◌≤◌, Bool, false, List, length, Option, Some, None, Result, Ok, Err, refl}
-use Rattle.std.proofs.Common.{sym, ◌∙◌, ap, subst, inl, inr}
+use Rattle.std.proofs.Common.{◌≡◌, ℕ, ◌≤◌, Bool, true, false, List, [], ◌∷◌, ◌++◌, length, Option}
+use Rattle.std.proofs.Common.{Some, None, Result, Ok, Err, refl, sym, ◌∙◌, ap, subst, inl, inr}
 use Rattle.std.specs.Prelude.{◌⊎◌, MatchOption}
 use Rattle.vipr_spec.specs.Fraction.{ℚ}
 use Rattle.vipr_spec.specs.Constraint.{Profile, Row}
@@ -20,7 +20,7 @@ use Rattle.vipr_check.specs.declared.halt.Halt.TheVariants.{Refused, Memory}
 use Rattle.vipr_check.specs.View.{refusal_of, place_of}
 use Rattle.vipr_check.specs.Halts.{halt_answer, later_answer, step_detail_of, rule_shown}
 use Rattle.vipr_check.specs.Halts.{IsSolutionHalt, IsStepHalt, solution_halt, CanShow, CanShowHalt}
-use Rattle.vipr_check.specs.Progress.{Progress, HasSteps}
+use Rattle.vipr_check.specs.Progress.{Progress, HasSolutions, HasSteps}
 use Rattle.vipr_check.specs.State.{State, IsReached, HaltsBy, StopsSolution, StopsStep, TakesStep}
 use Rattle.vipr_check.proofs.CauseLemmas.{cause_is}
 use Rattle.vipr_check.proofs.ProgressLemmas.{held_next}
@@ -153,12 +153,26 @@ reached_after k new b old o h n name e none is answers (inr f) g =
     let m : o ≡ Some Memory = g ∙ ap Some (memory_stops n name e h f.0 answers) in
     record { solutions = λ not p. absurd (not m); steps = λ not p. absurd (not m); shows = subst (CanShowHalt new.problem) (sym m) tt }
 
--- ---- a derivation, as `derivation` and `take_from` take it
-
 pub unstopped : (v w : State) (x : Unit {0}) → v ≡ w → MatchOption w.halt
     (◌≡◌ {A = Result (Unit {0}) Stop} (Ok x) (Ok tt))
     (λ h. ◌≡◌ {A = Result (Unit {0}) Stop} (Ok x) (Err (later_answer h))) → v.halt ≡ None
 unstopped v w x is runs = ap (λ (s : State). s.halt) is ∙ runs_of w.halt x runs
+
+-- ---- a solution, as `solution` and `take_solution` take it
+
+pub reached_listed : (v w : State) (new : Progress) (x : Unit {0}) (s : Named Row) → v ≡ w
+    → MatchOption w.halt (◌≡◌ {A = Result (Unit {0}) Stop} (Ok x) (Ok tt))
+    (λ h. ◌≡◌ {A = Result (Unit {0}) Stop} (Ok x) (Err (later_answer h))) → w.in_solutions ≡ true
+    → IsReached v.progress v.in_solutions v.halt
+    → ((ss : List (Named Row)) → HasSolutions ss v.progress → HasSolutions (ss ++ s ∷ []) new)
+    → IsReached new v.in_solutions v.halt
+reached_listed v w new x s same runs phase is next = record {
+  solutions = λ n e. (let r = is.solutions n e in (r.0 ++ s ∷ [], next r.0 r.1));
+  steps = λ n e. absurd (let now = ap (λ (u : State). u.in_solutions) same in cc (now, phase, e));
+  shows = subst (CanShowHalt new.problem) (sym (unstopped v w x same runs)) tt;
+}
+
+-- ---- a derivation, as `derivation` and `take_from` take it
 
 pub reached_next : (v w : State) (new : Progress) (x : Unit {0}) (d : Derivation) → v ≡ w
     → MatchOption w.halt (◌≡◌ {A = Result (Unit {0}) Stop} (Ok x) (Ok tt))

@@ -7,7 +7,12 @@ use Rattle.vipr_check.specs.Halts.{CanShowHalt}
 use Rattle.vipr_check.specs.State.{IsReached, StopsSolution}
 use Rattle.vipr_check.proofs.CheckerLemmas.{runs_of, reached_still, solution_can_show, listed_frame}
 use Rattle.vipr_check.proofs.CheckerLemmas.{halts_same, stops_solution, solution_halted}
+use Rattle.vipr_check.proofs.CheckerLemmas.{reached_listed}
 use Rattle.vipr_check.proofs.checker.Checker.take_solution.Goals as goal
+
+pub invariant_of-self : goal.invariant_of-self
+invariant_of-self g c =
+    reached_listed _ c.args.self.now c.take_solution.new.self _ (solution_of c.args.solution) c.self.view_is c.in_ok-go_on.ensures c.requires.phase c.self.invariant (λ ss has. (c.in-Ok.ensures.next ss has).1)
 
 pub invariant_of-self-in-Err : goal.invariant_of-self-in-Err
 invariant_of-self-in-Err g c =
