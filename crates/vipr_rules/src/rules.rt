@@ -9,8 +9,9 @@
 //! [`apply`] tests a derivation against the problem, the best value of the listed solutions and the
 //! table of earlier constraints. It gives the [`Entry`] to be kept: the constraint with the
 //! assumptions that it rests on and its last reference. [`apply_in`] does so by the rules of a
-//! [`Profile`]. [`judge`] gives the assumptions alone, and [`take_entry`] makes the entry: it moves
-//! the constraint out of the derivation. An error is the first test that fails, with what shows it.
+//! [`Profile`]. [`judge`] tests it against a [`Context`] and gives the assumptions alone, and
+//! [`take_entry`] makes the entry: it moves the constraint out of the derivation. An error is the
+//! first test that fails, with what shows it.
 
 ghost use Rattle.std.specs.Prelude.{◌≡◌, ℕ, length, Some, IfOk};
 ghost use Rattle.std.specs.Prelude.{option_copied};
