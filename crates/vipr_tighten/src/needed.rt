@@ -5,12 +5,14 @@ ghost use Rattle.std.specs.Ordering.{int_eq};
 ghost use Rattle.vipr_spec.specs.Constraint.{Constraint as ConstraintMeant};
 ghost use Rattle.vipr_spec.specs.Certificate.{Named as NamedMeant};
 ghost use Rattle.vipr_spec.specs.Reading.{is_nonzero};
-ghost use Rattle.vipr_spec.specs.Tightened.{refers_to};
+ghost use Rattle.vipr_spec.specs.Tightened.{include, refers_to};
+ghost use Rattle.vipr_cert.specs.Reasons.{references_of};
 ghost use Rattle.vipr_write.specs.Steps.{step_of};
 ghost use Rattle.vipr_write.specs.StepReasons.{entry_of, kept_reason_of};
 ghost use Rattle.vipr_tighten.specs.Passes.{MarksAlso, AreMarks};
 
 use std::alloc::{AllocError, Global};
+use vipr_cert::References;
 use vipr_frac::Frac;
 use vipr_write::{ShortEntry, Step, StepReason, StepReferences};
 
@@ -30,21 +32,30 @@ pub(crate) fn needed<S>(
     }
     for i in (0..steps.len()).rev() {
         if marks[i] {
-            mark_references(&mut marks, first, &steps[i].reason);
+            mark_reason(&mut marks, first, &steps[i].reason);
         }
     }
     Ok(marks)
 }
 
-// Marks what a reason refers to.
-fn mark_references(marks: &mut [bool], first: usize, reason: &StepReason)
+// Marks what the reason of a step refers to.
+fn mark_reason(marks: &mut [bool], first: usize, reason: &StepReason)
     ensures { MarksAlso first (refers_to (kept_reason_of reason.now)) marks.old marks.new }
 {
     match reason.references() {
-        StepReferences::Nothing => {}
+        StepReferences::Whole(references) => mark_references(marks, first, references),
         StepReferences::Short(entries) => mark_short_entries(marks, first, entries),
-        StepReferences::Long(entries) => mark_entries(marks, first, entries),
-        StepReferences::Branches { i1, l1, i2, l2 } => {
+    }
+}
+
+// Marks what a reason refers to that names these.
+fn mark_references(marks: &mut [bool], first: usize, references: References<'_>)
+    ensures { MarksAlso first (include (references_of references.entry)) marks.old marks.new }
+{
+    match references {
+        References::Nothing => {}
+        References::Entries(entries) => mark_entries(marks, first, entries),
+        References::Branches { i1, l1, i2, l2 } => {
             mark(marks, first, i1);
             mark(marks, first, l1);
             mark(marks, first, i2);

@@ -10,6 +10,7 @@ ghost use Rattle.vipr_tighten.specs.Dropping.{dropped_after};
 ghost use Rattle.vipr_tighten.specs.Passes.{StandFor};
 
 use std::alloc::{AllocError, Global};
+use vipr_cert::Reason;
 use vipr_write::{Step, StepReason};
 
 /// The largest number of derived constraints that have to be held at a time. The first step has
@@ -38,7 +39,7 @@ fn dropped_after<S>(step: &Step<S>, index: usize) -> Option<usize>
     ensures { result ≡ dropped_after index (Some (kept_reason_of step.now.reason)) step.now.last }
 {
     match &step.reason {
-        StepReason::Asm => None,
+        StepReason::Whole(Reason::Asm) => None,
         _ => match step.last {
             None => None,
             Some(last) => Some((last as usize).max(index + 1)),

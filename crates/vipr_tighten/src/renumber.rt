@@ -5,8 +5,11 @@ ghost use Rattle.std.specs.List.{list_any};
 ghost use Rattle.vipr_spec.specs.Constraint.{Constraint as ConstraintMeant};
 ghost use Rattle.vipr_spec.specs.Certificate.{Named as NamedMeant, NamesEarlier, lin};
 ghost use Rattle.vipr_spec.specs.Reading.{is_nonzero, most_count};
-ghost use Rattle.vipr_spec.specs.Tightened.{refers_to, renumbered_entries, renumbered_reason};
+ghost use Rattle.vipr_spec.specs.Tightened.{include, refers_to};
+ghost use Rattle.vipr_spec.specs.Tightened.{renumbered_entries, renumbered_reason};
 ghost use Rattle.vipr_spec.specs.Tightened.{with_new_indices, kept_derivations, referred_by};
+ghost use Rattle.vipr_cert.specs.Items.{reason_of};
+ghost use Rattle.vipr_cert.specs.Reasons.{references_of};
 ghost use Rattle.vipr_write.specs.Steps.{step_of};
 ghost use Rattle.vipr_write.specs.StepReasons.{entry_of, kept_reason_of};
 ghost use Rattle.vipr_tighten.specs.Passes.{step_reason, StepsNameEarlier};
@@ -14,6 +17,7 @@ ghost use Rattle.vipr_tighten.specs.Passes.{kept_by, index_by, TakesOver};
 
 use crate::needed::is_zero;
 use std::alloc::{AllocError, Global};
+use vipr_cert::{Reason, References};
 use vipr_frac::Frac;
 use vipr_write::{ShortEntry, Step, StepReason, StepReferences};
 
@@ -121,24 +125,35 @@ fn renumbered_one(alloc: Global, entry: ShortEntry, first: u32, table: &[u32]) -
 }
 
 // Gives a reason the new indices.
-fn renumber_reason(alloc: Global, reason: &mut StepReason, first: u32, table: &[u32])
-    requires { NamesEarlier (first + length table.now) (Some (kept_reason_of reason.old)) }
-    ensures { kept_reason_of reason.new
-        ≡ renumbered_reason (index_by first table.now) (kept_reason_of reason.old) }
+fn renumber_reason(reason: &mut Reason, first: u32, table: &[u32])
+    requires { NamesEarlier (first + length table.now) (Some (reason_of reason.old)) }
+    ensures { reason_of reason.new
+        ≡ renumbered_reason (index_by first table.now) (reason_of reason.old) }
 {
     match reason {
-        StepReason::Asm | StepReason::Sol => {}
-        StepReason::One(entry) => *reason = renumbered_one(alloc, *entry, first, table),
-        StepReason::Lin(entries) => renumber_short_entries(entries, first, table),
-        StepReason::Rnd(entries) => renumber_short_entries(entries, first, table),
-        StepReason::LongLin(entries) => renumber_entries(entries, first, table),
-        StepReason::LongRnd(entries) => renumber_entries(entries, first, table),
-        StepReason::Uns { i1, l1, i2, l2 } => {
+        Reason::Asm | Reason::Sol => {}
+        Reason::Lin(entries) => renumber_entries(entries, first, table),
+        Reason::Rnd(entries) => renumber_entries(entries, first, table),
+        Reason::Uns { i1, l1, i2, l2 } => {
             *i1 = index_of(*i1, first, table);
             *l1 = index_of(*l1, first, table);
             *i2 = index_of(*i2, first, table);
             *l2 = index_of(*l2, first, table);
         }
+    }
+}
+
+// Gives the reason of a step the new indices.
+fn renumber_step_reason(alloc: Global, reason: &mut StepReason, first: u32, table: &[u32])
+    requires { NamesEarlier (first + length table.now) (Some (kept_reason_of reason.old)) }
+    ensures { kept_reason_of reason.new
+        ≡ renumbered_reason (index_by first table.now) (kept_reason_of reason.old) }
+{
+    match reason {
+        StepReason::Whole(reason) => renumber_reason(reason, first, table),
+        StepReason::One(entry) => *reason = renumbered_one(alloc, *entry, first, table),
+        StepReason::Lin(entries) => renumber_short_entries(entries, first, table),
+        StepReason::Rnd(entries) => renumber_short_entries(entries, first, table),
     }
 }
 
@@ -150,21 +165,32 @@ fn renumber_references<S>(alloc: Global, step: &mut Step<S>, first: u32, table: 
           last = None;
         } }
 {
-    renumber_reason(alloc, &mut step.reason, first, table);
+    renumber_step_reason(alloc, &mut step.reason, first, table);
     step.last = None;
 }
 
-// Gives the steps that a reason refers to this last reference.
+// Gives the steps that the reason of a later one refers to this last reference.
 fn set_last<S>(kept: &mut [Step<S>], first: u32, reason: &StepReason, last: u32)
     ensures { (view : S → NamedMeant ConstraintMeant) → map (step_of view) kept.new
         ≡ referred_by (refers_to (kept_reason_of reason.now)) last first
         (map (step_of view) kept.old) }
 {
     match reason.references() {
-        StepReferences::Nothing => {}
+        StepReferences::Whole(references) => set_last_referred(kept, first, references, last),
         StepReferences::Short(entries) => set_last_short(kept, first, entries, last),
-        StepReferences::Long(entries) => set_last_named(kept, first, entries, last),
-        StepReferences::Branches { i1, l1, i2, l2 } => {
+    }
+}
+
+// Gives the steps that a reason refers to that names these this last reference.
+fn set_last_referred<S>(kept: &mut [Step<S>], first: u32, references: References<'_>, last: u32)
+    ensures { (view : S → NamedMeant ConstraintMeant) → map (step_of view) kept.new
+        ≡ referred_by (include (references_of references.entry)) last first
+        (map (step_of view) kept.old) }
+{
+    match references {
+        References::Nothing => {}
+        References::Entries(entries) => set_last_named(kept, first, entries, last),
+        References::Branches { i1, l1, i2, l2 } => {
             set_last_at(kept, first, i1, last);
             set_last_at(kept, first, l1, last);
             set_last_at(kept, first, i2, last);

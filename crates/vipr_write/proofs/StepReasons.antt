@@ -4,7 +4,7 @@ use Rattle.std.proofs.Common.{◌∷◌, ◌++◌, map, take, length, get_or, ar
 use Rattle.std.proofs.Common.{eqb-true}
 use Rattle.std.specs.List.{flat_map}
 use Rattle.std.specs.Fmt.{decimal}
-use Rattle.std.proofs.lemmas.List.{append-nil, get_or-map, length-map, take_more}
+use Rattle.std.proofs.lemmas.List.{append-nil, get_or-map, length-map, map_push, take_more}
 use Rattle.std.proofs.lemmas.List.Folds.{flat_map-map}
 use Rattle.vipr_spec.specs.Fraction.{ℚ, over, zero_ℚ}
 use Rattle.vipr_spec.specs.Number.{number_text}
@@ -67,3 +67,11 @@ pub short_words : (es : List ShortEntry) (i : ℕ) (d : ShortEntry) (x : ℚ)
 short_words es i d x is =
     ap (λ m. (32 ∷ decimal (get_or es i d).index) ++ (32 ∷ number_text m)) is
     ∙ ap (λ t. (32 ∷ decimal (get_or es i d).index) ++ t) (sym (append-nil (32 ∷ number_text (multiplier_of (get_or es i d)))))
+
+-- one more of the short entries
+pub one_more : (short new : List ShortEntry) (es : List (ℕ × ℚ)) (i : ℕ) (e : ShortEntry)
+    (x : ℕ × ℚ) → i < length es → x ≡ get_or es i x → new ≡ short ++ e ∷ [] → entry_of e ≡ x
+    → map entry_of short ≡ take i es → map entry_of new ≡ take (i + 1) es
+one_more short new es i e x h is longer of so_far =
+    ap (map entry_of) longer ∙ map_push entry_of short e ∙ ap₂ (λ l (y : ℕ × ℚ). l ++ y ∷ []) so_far (of ∙ is)
+    ∙ sym (take_more es i x h)

@@ -1,14 +1,16 @@
 -- Reasons of steps as those of the definitions
-use Rattle.std.specs.Prelude.{ℕ, ◌∷◌, [], map, cond, nat_eq}
+use Rattle.std.specs.Prelude.{◌≡◌, ◌≢◌, ℕ, ◌^◌, ◌<◌, List, ◌∷◌, [], map, length, All, cond, nat_eq}
+use Rattle.std.specs.Prelude.{FitsSigned, ⊤}
+use Rattle.std.specs.Int.{w32}
 use Rattle.vipr_spec.specs.Fraction.{ℚ, over, zero_ℚ}
 use Rattle.vipr_spec.specs.Certificate as is
+use Rattle.vipr_cert.specs.Items.{reason_of}
+use Rattle.vipr_cert.specs.Reasons.{references_of}
 use Rattle.vipr_write.specs.declared.step_reason.ShortEntry.{ShortEntry}
 use Rattle.vipr_write.specs.declared.step_reason.StepReason.{StepReason}
-use Rattle.vipr_write.specs.declared.step_reason.StepReason.TheVariants.{Asm, One, Lin, Rnd}
-use Rattle.vipr_write.specs.declared.step_reason.StepReason.TheVariants.{LongLin, LongRnd, Uns, Sol}
+use Rattle.vipr_write.specs.declared.step_reason.StepReason.TheVariants.{Whole, One, Lin, Rnd}
 use Rattle.vipr_write.specs.declared.step_reason.StepReferences.{StepReferences}
-use Rattle.vipr_write.specs.declared.step_reason.StepReferences.TheVariants.{Nothing, Short, Long}
-use Rattle.vipr_write.specs.declared.step_reason.StepReferences.TheVariants.{Branches}
+use Rattle.vipr_write.specs.declared.step_reason.StepReferences.TheVariants as named
 
 -- no denominator is 0, so the 0 never counts
 abbrev pub multiplier_of : ShortEntry → ℚ
@@ -18,17 +20,29 @@ abbrev pub entry_of : ShortEntry → ℕ × ℚ
 entry_of e = (e.index, multiplier_of e)
 
 abbrev pub kept_reason_of : StepReason → is.Reason
-kept_reason_of Asm = is.asm
+kept_reason_of (Whole r) = reason_of r
 kept_reason_of (One e) = is.lin (entry_of e ∷ [])
 kept_reason_of (Lin es) = is.lin (map entry_of es.items)
 kept_reason_of (Rnd es) = is.rnd (map entry_of es.items)
-kept_reason_of (LongLin es) = is.lin es.items
-kept_reason_of (LongRnd es) = is.rnd es.items
-kept_reason_of (Uns i1 l1 i2 l2) = is.uns i1 l1 i2 l2
-kept_reason_of Sol = is.sol
 
 abbrev pub kept_references_of : StepReferences → is.References
-kept_references_of Nothing = is.no_references
-kept_references_of (Short es) = is.by_entries (map entry_of es.now)
-kept_references_of (Long es) = is.by_entries es.now
-kept_references_of (Branches i1 l1 i2 l2) = is.by_branches i1 l1 i2 l2
+kept_references_of (named.Whole rs) = references_of rs
+kept_references_of (named.Short es) = is.by_entries (map entry_of es.now)
+
+-- ---- when entries are short
+
+-- the numerator fits an i32, and the denominator a u32
+abbrev pub IsShort : ℚ → Type 0
+IsShort x = FitsSigned w32 x.numer × (x.denom < 2 ^ 32)
+
+abbrev pub AreShort : List (ℕ × ℚ) → Type 0
+AreShort es = All (λ e. IsShort e.1) es
+
+-- A reason is whole only if it names no entries or one that isn't short. A `lin` of one short
+-- entry is kept in no vector.
+abbrev pub IsShortest : StepReason → Type 0
+IsShortest (Whole r) = (es : List (ℕ × ℚ)) → is.reason_references (reason_of r) ≡ is.by_entries es
+    → AreShort es → ⊥
+IsShortest (One e) = ⊤
+IsShortest (Lin es) = length es.items ≢ 1
+IsShortest (Rnd es) = ⊤

@@ -1,11 +1,13 @@
 //! Whether the text of a certificate is so short that its bytes can be counted.
 ghost use Rattle.std.specs.Prelude.{◌≡◌, ◌↔◌, ◌+◌, ◌*◌, ◌^◌, ◌<◌, IsTrue, length, map};
-ghost use Rattle.std.specs.Prelude.{◌∷◌, []};
+ghost use Rattle.std.specs.Prelude.{◌∷◌, [], suc};
 ghost use Rattle.vipr_spec.specs.Shape.{CanWrite};
 ghost use Rattle.vipr_linear.specs.Constraint.{constraint_of};
 ghost use Rattle.vipr_cert.specs.Items.{named_of, solution_of, reason_of, derivation_of, claim_of};
 ghost use Rattle.vipr_write.specs.Canonical.{given_words, claim_words, solution_words};
-ghost use Rattle.vipr_write.specs.Canonical.{reason_words, derivation_words, problem_lines};
+ghost use Rattle.vipr_cert.specs.Reasons.{references_of};
+ghost use Rattle.vipr_write.specs.Canonical.{reason_words, reference_words};
+ghost use Rattle.vipr_write.specs.Canonical.{derivation_words, problem_lines};
 ghost use Rattle.vipr_write.specs.Canonical.{certificate_lines};
 ghost use Rattle.vipr_write.specs.Forms.{text_in};
 ghost use Rattle.vipr_write.specs.declared.form.Form.{Form};
@@ -57,28 +59,33 @@ fn more_solutions(total: u64, solutions: &[Named<Solution>]) -> u64
     total
 }
 
-// With the words of a reason.
+// With the word of a rule and the words of what it names.
 #[tactic(auto, using(crate::proofs::Weighing::pairs_length))]
-fn more_reason(total: u64, reason: &Reason) -> u64
-    ensures { result ≡ counted (total + length (reason_words (reason_of reason.now))) }
+fn more_references(total: u64, references: References<'_>) -> u64
+    ensures { result
+        ≡ counted (total + suc (length (reference_words (references_of references.entry)))) }
 {
-    match reason.references() {
+    match references {
         References::Nothing => more(total, 1, 0),
         References::Entries(entries) => more(total, 2, entries.len()),
         References::Branches { .. } => more(total, 5, 0),
     }
 }
 
+// With the words of a reason.
+fn more_reason(total: u64, reason: &Reason) -> u64
+    ensures { result ≡ counted (total + length (reason_words (reason_of reason.now))) }
+{
+    more_references(total, reason.references())
+}
+
 // With the words of a step's reason.
-#[tactic(auto, using(crate::proofs::Weighing::pairs_length))]
 fn more_step_reason(total: u64, reason: &StepReason) -> u64
     ensures { result ≡ counted (total + length (reason_words (kept_reason_of reason.now))) }
 {
     match reason.references() {
-        StepReferences::Nothing => more(total, 1, 0),
+        StepReferences::Whole(references) => more_references(total, references),
         StepReferences::Short(entries) => more(total, 2, entries.len()),
-        StepReferences::Long(entries) => more(total, 2, entries.len()),
-        StepReferences::Branches { .. } => more(total, 5, 0),
     }
 }
 

@@ -1,6 +1,6 @@
 //! Lines of a text that is handed to a sink.
 ghost use Rattle.std.specs.Prelude.{◌≤◌, ◌∷◌, [], codes, length};
-ghost use Rattle.vipr_spec.specs.Certificate.{range, by_branches, reason_references};
+ghost use Rattle.vipr_spec.specs.Certificate.{range, by_branches};
 ghost use Rattle.vipr_linear.specs.Constraint.{constraint_of};
 ghost use Rattle.vipr_write.specs.Canonical.{reference_words, claim_words, solution_words};
 ghost use Rattle.vipr_write.specs.Canonical.{reason_words, heading, words_after_spaces, line_text};
@@ -8,9 +8,10 @@ ghost use Rattle.vipr_write.specs.Canonical.{direction_word, vector_words};
 ghost use Rattle.vipr_write.specs.Forms.{constraint_words_in, given_words_in, derivation_words_in};
 ghost use Rattle.vipr_cert.specs.Items.{named_of, solution_of, claim_of, reason_of, derivation_of};
 ghost use Rattle.vipr_cert.specs.Items.{direction_of};
+ghost use Rattle.vipr_cert.specs.Reasons.{references_of};
 ghost use Rattle.vipr_write.specs.Lines.{words_text, constraints_heading};
 ghost use Rattle.vipr_write.specs.Carried.{Puts};
-ghost use Rattle.vipr_write.specs.StepReasons.{kept_reason_of};
+ghost use Rattle.vipr_write.specs.StepReasons.{kept_reason_of, kept_references_of};
 
 use crate::form::Form;
 use crate::pending::Pending;
@@ -172,11 +173,11 @@ fn put_branches<W: Sink>(text: &mut Pending, sink: &mut W, i1: u32, l1: u32, i2:
 }
 
 // What a reason names.
-fn put_references<W: Sink>(text: &mut Pending, sink: &mut W, reason: &Reason)
+fn put_references<W: Sink>(text: &mut Pending, sink: &mut W, references: References<'_>)
     ensures { Puts W.output W.failures sink.old sink.new text.old text.new
-        (words_after_spaces (reference_words (reason_references (reason_of reason.now)))) }
+        (words_after_spaces (reference_words (references_of references.entry))) }
 {
-    match reason.references() {
+    match references {
         References::Nothing => {}
         References::Entries(entries) => put_counted(text, sink, entries),
         References::Branches { i1, l1, i2, l2 } => put_branches(text, sink, i1, l1, i2, l2),
@@ -184,15 +185,13 @@ fn put_references<W: Sink>(text: &mut Pending, sink: &mut W, reason: &Reason)
 }
 
 // What the reason of a step names.
-fn put_step_references<W: Sink>(text: &mut Pending, sink: &mut W, reason: &StepReason)
+fn put_step_references<W: Sink>(text: &mut Pending, sink: &mut W, references: StepReferences<'_>)
     ensures { Puts W.output W.failures sink.old sink.new text.old text.new
-        (words_after_spaces (reference_words (reason_references (kept_reason_of reason.now)))) }
+        (words_after_spaces (reference_words (kept_references_of references.entry))) }
 {
-    match reason.references() {
-        StepReferences::Nothing => {}
+    match references {
+        StepReferences::Whole(references) => put_references(text, sink, references),
         StepReferences::Short(entries) => put_short_counted(text, sink, entries),
-        StepReferences::Long(entries) => put_counted(text, sink, entries),
-        StepReferences::Branches { i1, l1, i2, l2 } => put_branches(text, sink, i1, l1, i2, l2),
     }
 }
 
@@ -202,7 +201,7 @@ pub(crate) fn put_step_reason<W: Sink>(text: &mut Pending, sink: &mut W, reason:
         (words_after_spaces (reason_words (kept_reason_of reason.now))) }
 {
     put_word(text, sink, reason.word().as_bytes());
-    put_step_references(text, sink, reason);
+    put_step_references(text, sink, reason.references());
 }
 
 /// Why a derived constraint holds.
@@ -211,7 +210,7 @@ pub(crate) fn put_reason<W: Sink>(text: &mut Pending, sink: &mut W, reason: &Rea
         (words_after_spaces (reason_words (reason_of reason.now))) }
 {
     put_word(text, sink, reason.word().as_bytes());
-    put_references(text, sink, reason);
+    put_references(text, sink, reason.references());
 }
 
 /// A derivation, unless a write has failed.

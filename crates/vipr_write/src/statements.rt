@@ -9,6 +9,7 @@ ghost use Rattle.vipr_write.specs.declared.statements.Statement.{Statement as St
 ghost use Rattle.vipr_write.specs.declared.statements.Step.{Step as StepMeant};
 ghost use Rattle.vipr_write.specs.Canonical.{words_after_spaces};
 ghost use Rattle.vipr_write.specs.Forms.{row_words};
+ghost use Rattle.vipr_write.specs.StepReasons.{IsShortest};
 ghost use Rattle.vipr_write.specs.Steps.{own_bytes, row_bytes, AreKept};
 
 use crate::folded::append_start;
@@ -99,6 +100,7 @@ impl Statements {
         ensures kept { IfOk result (λ s. (ss : List (StepMeant StatementMeant))
             (ds : List DerivationMeant) → AreKept self.old ss ds
             → AreKept self.new (ss ++ s ∷ []) (ds ++ derivation_of derivation.now ∷ [])) }
+        ensures shortest { IfOk result (λ s. IsShortest s.reason) }
     {
         let start = self.text.len();
         append_start(&mut self.text, &derivation.name, &derivation.constraint)?;

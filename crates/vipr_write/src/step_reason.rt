@@ -1,15 +1,15 @@
 //! The reason of a step, which takes little memory.
-ghost use Rattle.std.specs.Prelude.{◌≡◌, ◌≤◌, IfOk, IfSome, length, map};
+ghost use Rattle.std.specs.Prelude.{◌≡◌, ◌≤◌, ◌↔◌, IfOk, IfSome, IsSome, length, map};
 ghost use Rattle.vipr_spec.specs.Certificate.{lin, reason_references, rnd};
 ghost use Rattle.vipr_spec.specs.Reading.{most_bytes};
 ghost use Rattle.vipr_cert.specs.Items.{reason_of};
 ghost use Rattle.vipr_cert.specs.Reasons.{reason_word};
 ghost use Rattle.vipr_write.specs.StepReasons.{multiplier_of, entry_of, kept_reason_of};
-ghost use Rattle.vipr_write.specs.StepReasons.{kept_references_of};
+ghost use Rattle.vipr_write.specs.StepReasons.{kept_references_of, IsShort, AreShort, IsShortest};
 
 use std::alloc::{AllocError, Global};
 use std::slice::from_ref;
-use vipr_cert::Reason;
+use vipr_cert::{Reason, References};
 use vipr_frac::Frac;
 
 /// An index, and a multiplier whose parts fit 32 bits.
@@ -20,33 +20,28 @@ pub struct ShortEntry {
     pub(crate) denom: u32,
 }
 
-/// Why the derived constraint of a step holds. Entries are short ones if all of them fit.
+/// Why the derived constraint of a step holds: a reason, or a sum whose entries are short.
 #[derive(Debug, Drop)]
 pub enum StepReason {
-    Asm,
+    Whole(Reason),
     /// `Lin` with this entry alone.
     One(ShortEntry),
     Lin(Vec<ShortEntry>),
     Rnd(Vec<ShortEntry>),
-    LongLin(Vec<(u32, Frac)>),
-    LongRnd(Vec<(u32, Frac)>),
-    Uns { i1: u32, l1: u32, i2: u32, l2: u32 },
-    Sol,
 }
 
 /// What the reason of a step names, in the order of its text.
 #[derive(Clone, Copy, Debug)]
 pub enum StepReferences<'a> {
-    Nothing,
+    Whole(References<'a>),
     Short(&'a [ShortEntry]),
-    Long(&'a [(u32, Frac)]),
-    Branches { i1: u32, l1: u32, i2: u32, l2: u32 },
 }
 
 impl ShortEntry {
     /// The entry of this index and this multiplier, `None` if a part of it is too long.
     pub fn of(index: u32, multiplier: &Frac) -> Option<ShortEntry>
-        ensures { IfSome result (λ e. entry_of e ≡ (index, multiplier.now)) }
+        ensures entry { IfSome result (λ e. entry_of e ≡ (index, multiplier.now)) }
+        ensures short { IsSome result ↔ IsShort multiplier.now }
     {
         let numer = i32::try_from(multiplier.numer());
         let denom = u32::try_from(multiplier.denom());
@@ -76,7 +71,8 @@ fn short_entries(
     alloc: Global,
     entries: &[(u32, Frac)],
 ) -> Result<Option<Vec<ShortEntry>>, AllocError>
-    ensures { IfOk result (λ o. IfSome o (λ v. map entry_of v.items ≡ entries.now)) }
+    ensures entries { IfOk result (λ o. IfSome o (λ v. map entry_of v.items ≡ entries.now)) }
+    ensures short { IfOk result (λ o. IsSome o ↔ AreShort entries.now) }
 {
     let mut short = Vec::with_capacity(alloc, entries.len())?;
     for (index, multiplier) in entries {
@@ -101,7 +97,8 @@ fn long_entries(alloc: Global, short: &[ShortEntry]) -> Result<Vec<(u32, Frac)>,
 
 // `Lin` of these entries.
 fn lin_of(alloc: Global, entries: &[(u32, Frac)]) -> Result<StepReason, AllocError>
-    ensures { IfOk result (λ r. kept_reason_of r ≡ lin entries.now) }
+    ensures reason { IfOk result (λ r. kept_reason_of r ≡ lin entries.now) }
+    ensures shortest { IfOk result IsShortest }
 {
     if entries.len() == 1 {
         let (index, multiplier) = entries[0];
@@ -111,40 +108,42 @@ fn lin_of(alloc: Global, entries: &[(u32, Frac)]) -> Result<StepReason, AllocErr
     }
     match short_entries(alloc, entries)? {
         Some(short) => Ok(StepReason::Lin(short)),
-        None => Ok(StepReason::LongLin(Vec::from_slice(alloc, entries)?)),
+        None => Ok(StepReason::Whole(Reason::Lin(Vec::from_slice(alloc, entries)?))),
     }
 }
 
 // `Rnd` of these entries.
 fn rnd_of(alloc: Global, entries: &[(u32, Frac)]) -> Result<StepReason, AllocError>
-    ensures { IfOk result (λ r. kept_reason_of r ≡ rnd entries.now) }
+    ensures reason { IfOk result (λ r. kept_reason_of r ≡ rnd entries.now) }
+    ensures shortest { IfOk result IsShortest }
 {
     match short_entries(alloc, entries)? {
         Some(short) => Ok(StepReason::Rnd(short)),
-        None => Ok(StepReason::LongRnd(Vec::from_slice(alloc, entries)?)),
+        None => Ok(StepReason::Whole(Reason::Rnd(Vec::from_slice(alloc, entries)?))),
     }
 }
 
 impl StepReason {
-    /// What is kept of a reason.
+    /// What is kept of a reason, in the shortest form.
     ///
     /// # Errors
     ///
     /// If an allocation is refused.
     pub fn of(alloc: Global, reason: &Reason) -> Result<StepReason, AllocError>
-        ensures { IfOk result (λ r. kept_reason_of r ≡ reason_of reason.now) }
+        ensures reason { IfOk result (λ r. kept_reason_of r ≡ reason_of reason.now) }
+        ensures shortest { IfOk result IsShortest }
     {
         match reason {
-            Reason::Asm => Ok(StepReason::Asm),
+            Reason::Asm => Ok(StepReason::Whole(Reason::Asm)),
             Reason::Lin(entries) => lin_of(alloc, entries),
             Reason::Rnd(entries) => rnd_of(alloc, entries),
-            Reason::Uns { i1, l1, i2, l2 } => Ok(StepReason::Uns {
+            Reason::Uns { i1, l1, i2, l2 } => Ok(StepReason::Whole(Reason::Uns {
                 i1: *i1,
                 l1: *l1,
                 i2: *i2,
                 l2: *l2,
-            }),
-            Reason::Sol => Ok(StepReason::Sol),
+            })),
+            Reason::Sol => Ok(StepReason::Whole(Reason::Sol)),
         }
     }
 
@@ -152,13 +151,7 @@ impl StepReason {
     pub fn from_reason(reason: Reason) -> StepReason
         ensures { kept_reason_of result ≡ reason_of reason }
     {
-        match reason {
-            Reason::Asm => StepReason::Asm,
-            Reason::Lin(entries) => StepReason::LongLin(entries),
-            Reason::Rnd(entries) => StepReason::LongRnd(entries),
-            Reason::Uns { i1, l1, i2, l2 } => StepReason::Uns { i1, l1, i2, l2 },
-            Reason::Sol => StepReason::Sol,
-        }
+        StepReason::Whole(reason)
     }
 
     /// The reason of which this is kept.
@@ -170,14 +163,10 @@ impl StepReason {
         ensures { IfOk result (λ r. reason_of r ≡ kept_reason_of self) }
     {
         match self {
-            StepReason::Asm => Ok(Reason::Asm),
+            StepReason::Whole(whole) => Ok(whole),
             StepReason::One(entry) => Ok(Reason::Lin(long_entries(alloc, from_ref(&entry))?)),
             StepReason::Lin(short) => Ok(Reason::Lin(long_entries(alloc, &short)?)),
             StepReason::Rnd(short) => Ok(Reason::Rnd(long_entries(alloc, &short)?)),
-            StepReason::LongLin(entries) => Ok(Reason::Lin(entries)),
-            StepReason::LongRnd(entries) => Ok(Reason::Rnd(entries)),
-            StepReason::Uns { i1, l1, i2, l2 } => Ok(Reason::Uns { i1, l1, i2, l2 }),
-            StepReason::Sol => Ok(Reason::Sol),
         }
     }
 
@@ -187,11 +176,9 @@ impl StepReason {
         ensures short { length result.now ≤ most_bytes }
     {
         match self {
-            StepReason::Asm => "asm",
-            StepReason::One(_) | StepReason::Lin(_) | StepReason::LongLin(_) => "lin",
-            StepReason::Rnd(_) | StepReason::LongRnd(_) => "rnd",
-            StepReason::Uns { .. } => "uns",
-            StepReason::Sol => "sol",
+            StepReason::Whole(whole) => whole.word(),
+            StepReason::One(_) | StepReason::Lin(_) => "lin",
+            StepReason::Rnd(_) => "rnd",
         }
     }
 
@@ -200,18 +187,9 @@ impl StepReason {
         ensures { kept_references_of result ≡ reason_references (kept_reason_of self.now) }
     {
         match self {
-            StepReason::Asm | StepReason::Sol => StepReferences::Nothing,
+            StepReason::Whole(whole) => StepReferences::Whole(whole.references()),
             StepReason::One(entry) => StepReferences::Short(from_ref(entry)),
             StepReason::Lin(short) | StepReason::Rnd(short) => StepReferences::Short(short),
-            StepReason::LongLin(entries) | StepReason::LongRnd(entries) => {
-                StepReferences::Long(entries)
-            }
-            StepReason::Uns { i1, l1, i2, l2 } => StepReferences::Branches {
-                i1: *i1,
-                l1: *l1,
-                i2: *i2,
-                l2: *l2,
-            },
         }
     }
 }

@@ -50,13 +50,13 @@ loop-i-preserved-then-index g c = λ view.
     let b = c.loop-i-test.true in
     let turn = this_turn view c.args.goal c.args.first c.args.steps.now c.loop-i.i c.loop-i.marks.items (omega arith) (omega arith) (c.loop-i.invariant view) in
     let value : c.deref_mut-then-index.result.now ≡ c.loop-i.marks.items = c.deref_mut-then-index.ensures.value in
-    let same : length c.mark_references.new.marks ≡ length c.deref_mut-then-index.result.now = c.mark_references.auto.marks in
-    let long : length c.mark_references.new.marks ≡ vec_len c.loop-i.marks = same ∙ c.deref_mut-then-index.ensures.len in
-    rw (with_items_is c.loop-i.marks c.mark_references.new.marks long)
+    let same : length c.mark_reason.new.marks ≡ length c.deref_mut-then-index.result.now = c.mark_reason.auto.marks in
+    let long : length c.mark_reason.new.marks ≡ vec_len c.loop-i.marks = same ∙ c.deref_mut-then-index.ensures.len in
+    rw (with_items_is c.loop-i.marks c.mark_reason.new.marks long)
     (next_marked view c.args.goal c.args.first c.args.steps.now (c.loop-i.i - 1) turn.within c.loop-i.marks.items turn.so_far c.index-steps-i.result c.index-steps-i.is
-    c.mark_references.new.marks (same ∙ ap length value)
+    c.mark_reason.new.marks (same ∙ ap length value)
     (mark_read c.loop-i.marks.items (c.loop-i.i - 1) c.index.result.now true turn.marked c.index.ensures c.if-index.true)
-    (rw value at (subst (λ (x : Step g.row.S.Denot). MarksAlso c.args.first (refers_to (kept_reason_of x.reason)) c.deref_mut-then-index.result.now c.mark_references.new.marks) (sym c.index-steps-i.is) c.mark_references.ensures)))
+    (rw value at (subst (λ (x : Step g.row.S.Denot). MarksAlso c.args.first (refers_to (kept_reason_of x.reason)) c.deref_mut-then-index.result.now c.mark_reason.new.marks) (sym c.index-steps-i.is) c.mark_reason.ensures)))
 
 pub returns : goal.returns
 returns g c = λ view.

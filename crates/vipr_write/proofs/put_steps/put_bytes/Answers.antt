@@ -1,4 +1,4 @@
-use Rattle.std.proofs.Common.{◌+◌, ◌-◌, arith, rules}
+use Rattle.std.proofs.Common.{◌+◌, arith, rules}
 use Rattle.vipr_write.proofs.Handing.{puts_then, puts_same}
 use Rattle.vipr_write.proofs.Kept.{take_both, take_rest}
 use Rattle.vipr_write.proofs.put_steps.put_bytes.Goals as goal

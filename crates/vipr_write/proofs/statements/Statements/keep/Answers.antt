@@ -23,4 +23,4 @@ returns-clause-kept c = λ ss ds kept.
     let text = c.in_ok-is_cut.ensures.text ∙ ap (λ l. l ++ row) c.in_ok-append_start.ensures ∙ append_assoc t.text.items first row in
     let start : c.len-start.result ≡ length t.text.items = search rules in
     let end : c.len-end.result ≡ length u.text.items = search rules in
-    kept_more t u (first ++ row) s d ss ds refl refl refl text start end (λ spelled. words_are t.form t.objective t.spelled.items d.name d.stated is_cut spelled c.in_ok-is_cut.ensures.row) c.in_ok-of.ensures refl kept
+    kept_more t u (first ++ row) s d ss ds refl refl refl text start end (λ spelled. words_are t.form t.objective t.spelled.items d.name d.stated is_cut spelled c.in_ok-is_cut.ensures.row) c.in_ok-of.ensures.reason refl kept

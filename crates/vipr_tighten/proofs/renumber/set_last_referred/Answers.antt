@@ -1,13 +1,14 @@
-use Rattle.std.proofs.Common.{◌≡◌, map, nat_eq, subst}
+use Rattle.std.proofs.Common.{◌≡◌, map, nat_eq, subst, sym, ap}
 use Rattle.vipr_spec.specs.Certificate.{References}
 use Rattle.vipr_spec.specs.Tightened.{include, referred_by}
+use Rattle.vipr_cert.specs.Reasons.{references_of}
 use Rattle.vipr_write.specs.Steps.{step_of}
 use Rattle.vipr_tighten.proofs.Referring.{four_referred, none_referred}
-use Rattle.vipr_tighten.proofs.renumber.set_last.Goals as goal
+use Rattle.vipr_tighten.proofs.renumber.set_last_referred.Goals as goal
 
 pub returns-in-Branches : goal.returns-in-Branches
 returns-in-Branches g c = λ view.
-    subst (λ (r : References). map (step_of view) c.set_last_at-in-Branches-3.new.kept ≡ referred_by (include r) c.args.last c.args.first (map (step_of view) c.args.kept.now)) c.in-Branches.ensures
+    subst (λ (r : References). map (step_of view) c.set_last_at-in-Branches-3.new.kept ≡ referred_by (include r) c.args.last c.args.first (map (step_of view) c.args.kept.now)) (sym (ap references_of c.in-Branches.is))
     (four_referred (λ i. nat_eq i c.in-Branches.i1) (λ i. nat_eq i c.in-Branches.l1) (λ i. nat_eq i c.in-Branches.i2) (λ i. nat_eq i c.in-Branches.l2) c.args.last c.args.first
     (map (step_of view) c.args.kept.now) (map (step_of view) c.set_last_at.new.kept) (map (step_of view) c.set_last_at-in-Branches.new.kept)
     (map (step_of view) c.set_last_at-in-Branches-2.new.kept) (map (step_of view) c.set_last_at-in-Branches-3.new.kept)
@@ -15,5 +16,5 @@ returns-in-Branches g c = λ view.
 
 pub returns-in-Nothing : goal.returns-in-Nothing
 returns-in-Nothing g c = λ view.
-    subst (λ (r : References). map (step_of view) c.args.kept.now ≡ referred_by (include r) c.args.last c.args.first (map (step_of view) c.args.kept.now)) c.in-Nothing.ensures
+    subst (λ (r : References). map (step_of view) c.args.kept.now ≡ referred_by (include r) c.args.last c.args.first (map (step_of view) c.args.kept.now)) (sym (ap references_of c.in-Nothing.is))
     (none_referred c.args.last c.args.first (map (step_of view) c.args.kept.now))
