@@ -1,12 +1,12 @@
 -- Steps whose names and constraints are kept in a text that grows
-use Rattle.std.proofs.Common.{◌≡◌, ℕ, suc, get_or, codes, IsTrue, ◌-◌, ◌≤◌, Bool, true, false}
-use Rattle.std.proofs.Common.{◌&&◌, nat_le, cond, List, [], ◌∷◌, ◌++◌, length, map, take, drop}
-use Rattle.std.proofs.Common.{slice_range, All, refl, sym, ap, ap₂, ◌∙◌, append_assoc}
-use Rattle.std.proofs.Common.{length-append, arith}
+use Rattle.std.proofs.Common.{◌≡◌, ℕ, zero, suc, get_or, codes, IsTrue, ◌-◌, ◌<◌, ◌≤◌, Bool, true, false}
+use Rattle.std.proofs.Common.{◌&&◌, nat_lt, nat_le, cond, List, [], ◌∷◌, ◌++◌, length, map, take}
+use Rattle.std.proofs.Common.{drop, slice_index, slice_range, All, refl, sym, ap, ap₂, ◌∙◌}
+use Rattle.std.proofs.Common.{append_assoc, length-append, lt-ltb, arith}
 use Rattle.std.specs.List.{flat_map}
 use Rattle.std.proofs.lemmas.Bool.Decides.{nat_tests}
 use Rattle.std.proofs.lemmas.List.{append-nil, take-append-le, drop-append-le, length-drop}
-use Rattle.std.proofs.lemmas.List.{map_push, length-take-le, take_at, take_all, take-append-drop}
+use Rattle.std.proofs.lemmas.List.{get_or_push, map_push, length-take-le, take_at, take_all, take-append-drop}
 use Rattle.std.proofs.lemmas.List.Edits.{split_between}
 use Rattle.std.proofs.Math.Seq.{take-length, drop-length}
 use Rattle.std.proofs.lemmas.List.Elements.{All-push, All-head, All-tail, All-nil, All-cons}
@@ -25,7 +25,8 @@ use Rattle.vipr_write.specs.declared.form.Form.{Form}
 use Rattle.vipr_write.specs.declared.statements.Statement.{Statement}
 use Rattle.vipr_write.specs.declared.statements.Statements.{Statements}
 use Rattle.vipr_write.specs.declared.statements.Step.{Step}
-use Rattle.vipr_write.specs.Steps.{step_of, as_text, is_within, own_bytes, row_bytes, statement_in}
+use Rattle.vipr_write.specs.Steps.{step_of, as_text, own_start, own_end, is_within, own_bytes}
+use Rattle.vipr_write.specs.Steps.{row_bytes, statement_in}
 use Rattle.vipr_write.specs.Steps.{SpellsRow, AreKept, AreStepsOf, step_line, steps_section}
 use Rattle.vipr_write.proofs.Folding.{derivation_is}
 use Rattle.vipr_write.proofs.Parts.{certificate_parts}
@@ -54,74 +55,128 @@ part_new text more =
     let long : length (text ++ more) - length text ≡ length more = omega arith in
     ap (λ n. take n (drop (length text) (text ++ more))) long ∙ ap (take (length more)) (drop-append-le (length text) text more (omega arith) ∙ ap (λ l. l ++ more) (drop-length text)) ∙ take-length more
 
-module _ (text more : List ℕ) (s : Statement) (here : is_within text s ≡ true) where
-  within_both : (nat_le s.start s.end ≡ true) × (nat_le s.end (length text) ≡ true)
-  within_both = both_true (nat_le s.start s.end) (nat_le s.end (length text)) here
+-- a number of the ends, of which there is one more
+end_same : (xs : List ℕ) (y i : ℕ) → i < length xs → get_or (xs ++ y ∷ []) i 0 ≡ get_or xs i 0
+end_same [] y i h = absurd (omega arith)
+end_same (x ∷ xs) y zero h = refl
+end_same (x ∷ xs) y (suc i) h = end_same xs y i (omega arith)
 
-  within_more : is_within (text ++ more) s ≡ true
-  within_more =
-      let size = length-append text more in
-      let end = at_most s.end (length text) within_both.1 in
-      ap₂ (λ a b. a && b) within_both.0 (tests_true s.end (length (text ++ more)) (omega arith))
+within_parts : (ends text : List ℕ) (s : Statement) → is_within ends text s ≡ true
+    → (s.index < length ends) × (own_start ends s ≤ own_end ends s) × (own_end ends s ≤ length text)
+within_parts ends text s h =
+    let a = both_true (nat_lt s.index (length ends)) (nat_le (own_start ends s) (own_end ends s) && nat_le (own_end ends s) (length text)) h in
+    let b = both_true (nat_le (own_start ends s) (own_end ends s)) (nat_le (own_end ends s) (length text)) a.1 in
+    (below s.index (length ends) a.0, at_most (own_start ends s) (own_end ends s) b.0, at_most (own_end ends s) (length text) b.1)
+  where
+    below : (m n : ℕ) → nat_lt m n ≡ true → m < n
+    below m n e = grind (arith, nat_tests)
 
-  own_same : own_bytes (text ++ more) s ≡ own_bytes text s
-  own_same =
-      ap (λ b. cond b (slice_range (text ++ more) s.start s.end) []) within_more
-      ∙ part_same text more s.start s.end (at_most s.start s.end within_both.0) (at_most s.end (length text) within_both.1)
-      ∙ sym (ap (λ b. cond b (slice_range text s.start s.end) []) here)
+within_by : (ends text : List ℕ) (s : Statement) → s.index < length ends
+    → own_start ends s ≤ own_end ends s → own_end ends s ≤ length text → is_within ends text s ≡ true
+within_by ends text s a b d = ap₂ (λ x y. x && y) (lt-ltb s.index (length ends) a) (ap₂ (λ x y. x && y) (tests_true (own_start ends s) (own_end ends s) b) (tests_true (own_end ends s) (length text) d))
 
--- the statement at the end of the text
-module _ (text more : List ℕ) (s : Statement) (start : s.start ≡ length text) (end : s.end ≡ length (text ++ more)) where
-  last_within : is_within (text ++ more) s ≡ true
-  last_within =
-      let size = length-append text more in
-      ap₂ (λ a b. a && b) (tests_true s.start s.end (omega arith)) (tests_true s.end (length (text ++ more)) (omega arith))
+-- one more statement is behind the others
+module _ (t u : Statements) (more : List ℕ) (ends : u.ends.items ≡ t.ends.items ++ length u.text.items ∷ []) (e : u.text.items ≡ t.text.items ++ more) where
+  module _ (s : Statement) (here : is_within t.ends.items t.text.items s ≡ true) where
+    parts : (s.index < length t.ends.items) × (own_start t.ends.items s ≤ own_end t.ends.items s) × (own_end t.ends.items s ≤ length t.text.items)
+    parts = within_parts t.ends.items t.text.items s here
 
-  last_own : own_bytes (text ++ more) s ≡ more
-  last_own = ap (λ b. cond b (slice_range (text ++ more) s.start s.end) []) last_within ∙ ap₂ (slice_range (text ++ more)) start end ∙ part_new text more
+    same_start : own_start u.ends.items s ≡ own_start t.ends.items s
+    same_start = ap (λ l. own_start l s) ends ∙ end_same (0 ∷ t.ends.items) (length u.text.items) s.index (omega (arith, parts.0))
 
-steps_same : (t u : Statements) (more : List ℕ) (steps : List (Step Statement))
-    → u.objective ≡ t.objective → u.spelled.items ≡ t.spelled.items
-    → u.text.items ≡ t.text.items ++ more
-    → All (λ (s : Step Statement). is_within t.text.items s.stated ≡ true) steps
-    → (map (step_of (statement_in u)) steps ≡ map (step_of (statement_in t)) steps)
-    × All (λ (s : Step Statement). is_within u.text.items s.stated ≡ true) steps
-steps_same t u more [] o r e a = (refl, All-nil (λ (s : Step Statement). is_within u.text.items s.stated ≡ true))
-steps_same t u more (s ∷ steps) o r e a =
-    let P = λ (x : Step Statement). is_within t.text.items x.stated ≡ true in
-    let rest = steps_same t u more steps o r e (All-tail P s steps a) in
-    let here = All-head P s steps a in
-    let name : own_bytes u.text.items s.stated ++ row_bytes u.spelled.items s.stated ≡ own_bytes t.text.items s.stated ++ row_bytes t.spelled.items s.stated =
-    ap₂ (λ x y. x ++ y) (ap (λ l. own_bytes l s.stated) e ∙ own_same t.text.items more s.stated here) (ap (λ l. row_bytes l s.stated) r) in
-    let one : step_of (statement_in u) s ≡ step_of (statement_in t) s =
-    ap₂ (λ n q. let d : Derivation = record { name = n; stated = record { row = q; sense = equal; bound = zero_ℚ }; reason = kept_reason_of s.reason; last = s.last } in d) name o in
-    (ap₂ (λ x l. x ∷ l) one rest.0, All-cons (λ (x : Step Statement). is_within u.text.items x.stated ≡ true) s steps (ap (λ l. is_within l s.stated) e ∙ within_more t.text.items more s.stated here) rest.1)
+    same_end : own_end u.ends.items s ≡ own_end t.ends.items s
+    same_end = ap (λ l. own_end l s) ends ∙ end_same t.ends.items (length u.text.items) s.index parts.0
+
+    within_more : is_within u.ends.items u.text.items s ≡ true
+    within_more =
+        let n = ap length ends in
+        let m = length-append t.ends.items (length u.text.items ∷ []) in
+        let k = ap length e in
+        let l = length-append t.text.items more in
+        let p = parts in
+        let a = same_start in
+        let b = same_end in
+        within_by u.ends.items u.text.items s (omega arith) (omega arith) (omega arith)
+
+    own_same : own_bytes u s ≡ own_bytes t s
+    own_same =
+        ap (λ b. cond b (slice_range u.text.items (own_start u.ends.items s) (own_end u.ends.items s)) []) within_more
+        ∙ ap₂ (slice_range u.text.items) same_start same_end
+        ∙ ap (λ l. slice_range l (own_start t.ends.items s) (own_end t.ends.items s)) e
+        ∙ part_same t.text.items more (own_start t.ends.items s) (own_end t.ends.items s) parts.1 parts.2
+        ∙ sym (ap (λ b. cond b (slice_range t.text.items (own_start t.ends.items s) (own_end t.ends.items s)) []) here)
+
+  -- the last one
+  module _ (s : Statement) (index : s.index ≡ length t.ends.items) (last : slice_index (0 ∷ t.ends.items) (length t.ends.items) ≡ length t.text.items) where
+    last_start : own_start u.ends.items s ≡ length t.text.items
+    last_start = ap (λ l. own_start l s) ends ∙ ap (λ i. slice_index (0 ∷ (t.ends.items ++ length u.text.items ∷ [])) i) index ∙ end_same (0 ∷ t.ends.items) (length u.text.items) (length t.ends.items) (omega arith) ∙ last
+
+    last_end : own_end u.ends.items s ≡ length u.text.items
+    last_end = ap (λ l. own_end l s) ends ∙ get_or_push t.ends.items (length u.text.items) 0 s.index (sym index)
+
+    last_within : is_within u.ends.items u.text.items s ≡ true
+    last_within =
+        let n = ap length ends in
+        let m = length-append t.ends.items (length u.text.items ∷ []) in
+        let k = ap length e in
+        let l = length-append t.text.items more in
+        let a = last_start in
+        let b = last_end in
+        within_by u.ends.items u.text.items s (omega arith) (omega arith) (omega arith)
+
+    last_own : own_bytes u s ≡ more
+    last_own =
+        ap (λ b. cond b (slice_range u.text.items (own_start u.ends.items s) (own_end u.ends.items s)) []) last_within
+        ∙ ap₂ (slice_range u.text.items) last_start last_end
+        ∙ ap (λ l. slice_range l (length t.text.items) (length l)) e
+        ∙ part_new t.text.items more
+
+  steps_same : (steps : List (Step Statement)) → u.objective ≡ t.objective → u.spelled.items ≡ t.spelled.items
+      → All (λ (s : Step Statement). is_within t.ends.items t.text.items s.stated ≡ true) steps
+      → (map (step_of (statement_in u)) steps ≡ map (step_of (statement_in t)) steps)
+      × All (λ (s : Step Statement). is_within u.ends.items u.text.items s.stated ≡ true) steps
+  steps_same [] o r a = (refl, All-nil (λ (s : Step Statement). is_within u.ends.items u.text.items s.stated ≡ true))
+  steps_same (s ∷ steps) o r a =
+      let P = λ (x : Step Statement). is_within t.ends.items t.text.items x.stated ≡ true in
+      let rest = steps_same steps o r (All-tail P s steps a) in
+      let here = All-head P s steps a in
+      let name : own_bytes u s.stated ++ row_bytes u.spelled.items s.stated ≡ own_bytes t s.stated ++ row_bytes t.spelled.items s.stated =
+      ap₂ (λ x y. x ++ y) (own_same s.stated here) (ap (λ l. row_bytes l s.stated) r) in
+      let one : step_of (statement_in u) s ≡ step_of (statement_in t) s =
+      ap₂ (λ n q. let d : Derivation = record { name = n; stated = record { row = q; sense = equal; bound = zero_ℚ }; reason = kept_reason_of s.reason; last = s.last } in d) name o in
+      (ap₂ (λ x l. x ∷ l) one rest.0, All-cons (λ (x : Step Statement). is_within u.ends.items u.text.items x.stated ≡ true) s steps (within_more s.stated here) rest.1)
 
 pub kept_more : (t u : Statements) (more : List ℕ) (s : Step Statement) (d : Derivation)
     (steps : List (Step Statement)) (ds : List Derivation) → u.form ≡ t.form
     → u.objective ≡ t.objective → u.spelled.items ≡ t.spelled.items
     → u.text.items ≡ t.text.items ++ more
-    → s.stated.start ≡ length t.text.items → s.stated.end ≡ length u.text.items
+    → u.ends.items ≡ t.ends.items ++ length u.text.items ∷ []
+    → s.stated.index ≡ length t.ends.items
     → (SpellsRow t → more ++ row_bytes t.spelled.items s.stated
     ≡ words_text (constraint_words_in t.form t.objective d.name d.stated))
     → kept_reason_of s.reason ≡ d.reason → s.last ≡ d.last
     → AreKept t steps ds → AreKept u (steps ++ s ∷ []) (ds ++ d ∷ [])
-kept_more t u more s d steps ds f o r e start end words reason last kept =
-    let same = steps_same t u more steps o r e kept.within in
-    let there = end ∙ ap length e in
-    let P = λ (x : Step Statement). is_within u.text.items x.stated ≡ true in
-    let name : own_bytes u.text.items s.stated ++ row_bytes u.spelled.items s.stated ≡ words_text (constraint_words_in u.form u.objective d.name d.stated) =
-    ap₂ (λ x y. x ++ y) (ap (λ l. own_bytes l s.stated) e ∙ last_own t.text.items more s.stated start there) (ap (λ l. row_bytes l s.stated) r)
+kept_more t u more s d steps ds f o r e ends index words reason last kept =
+    let same = steps_same t u more ends e steps o r kept.within in
+    let P = λ (x : Step Statement). is_within u.ends.items u.text.items x.stated ≡ true in
+    let name : own_bytes u s.stated ++ row_bytes u.spelled.items s.stated ≡ words_text (constraint_words_in u.form u.objective d.name d.stated) =
+    ap₂ (λ x y. x ++ y) (last_own t u more ends e s.stated index kept.last) (ap (λ l. row_bytes l s.stated) r)
     ∙ words kept.row ∙ sym (ap₂ (λ g q. words_text (constraint_words_in g q d.name d.stated)) f o) in
     let one : step_of (statement_in u) s ≡ as_text u.form u.objective d =
     λ i. let x : Derivation = record { name = name i; stated = record { row = u.objective; sense = equal; bound = zero_ℚ }; reason = reason i; last = last i } in x in
     record {
       row = r ∙ kept.row ∙ sym (ap₂ (λ g q. words_after_spaces (row_words g q q)) f o);
-      within = All-push P steps s same.1 (ap (λ l. is_within l s.stated) e ∙ last_within t.text.items more s.stated start there);
+      last = new_last t.ends.items (length u.text.items) u.ends.items ends;
+      within = All-push P steps s same.1 (last_within t u more ends e s.stated index kept.last);
       those = map_push (step_of (statement_in u)) steps s
           ∙ ap₂ (λ l x. l ++ x ∷ []) (same.0 ∙ kept.those ∙ sym (ap₂ (λ g q. map (as_text g q) ds) f o)) one
           ∙ sym (map_push (as_text u.form u.objective) ds d);
     }
+  where
+    new_last : (xs : List ℕ) (y : ℕ) (ys : List ℕ) → ys ≡ xs ++ y ∷ [] → slice_index (0 ∷ ys) (length ys) ≡ y
+    new_last xs y ys e =
+        let n = length-append xs (y ∷ []) in
+        ap (λ l. slice_index (0 ∷ l) (length l)) e ∙ get_or_push (0 ∷ xs) y 0 (length (xs ++ y ∷ [])) (omega arith)
 
 -- ---- what is kept of one derivation
 

@@ -40,7 +40,7 @@ reason_tokens form objective d a =
 step_short : (t : Statements) (s : Step Statement) → All IsToken (reason_words (kept_reason_of s.reason))
     → IsToken (last_word s.last) → length (step_line t s) ≤ 65536 * step_weight t s
 step_short t s reason last =
-    let own = own_bytes t.text.items s.stated in
+    let own = own_bytes t s.stated in
     let row = row_bytes t.spelled.items s.stated in
     let words = words_after_spaces (reason_words (kept_reason_of s.reason)) in
     let word = last_word s.last in

@@ -1,6 +1,6 @@
 -- Steps: derivations whose names and constraints are kept as text
-use Rattle.std.specs.Prelude.{◌≡◌, ℕ, ◌+◌, Bool, true, ◌&&◌, nat_le, cond, List, [], ◌++◌, length}
-use Rattle.std.specs.Prelude.{◌∷◌, map, slice_range, All, codes}
+use Rattle.std.specs.Prelude.{◌≡◌, ℕ, ◌+◌, Bool, true, ◌&&◌, nat_lt, nat_le, cond, List, [], ◌++◌}
+use Rattle.std.specs.Prelude.{◌∷◌, map, length, slice_index, slice_range, All, codes}
 use Rattle.std.specs.List.{flat_map}
 use Rattle.vipr_spec.specs.Fraction.{zero_ℚ}
 use Rattle.vipr_spec.specs.Constraint.{Row, Constraint, equal}
@@ -41,20 +41,28 @@ as_text form objective d = record d {
 
 -- ---- where they lie
 
-abbrev pub is_within : List ℕ → Statement → Bool
-is_within text s = nat_le s.start s.end && nat_le s.end (length text)
+-- Each statement begins at the end of the one before it.
+abbrev pub own_start : List ℕ → Statement → ℕ
+own_start ends s = slice_index (0 ∷ ends) s.index
+
+abbrev pub own_end : List ℕ → Statement → ℕ
+own_end ends s = slice_index ends s.index
+
+abbrev pub is_within : List ℕ → List ℕ → Statement → Bool
+is_within ends text s = nat_lt s.index (length ends)
+    && (nat_le (own_start ends s) (own_end ends s) && nat_le (own_end ends s) (length text))
 
 -- the part of the text that is a statement's own
-abbrev pub own_bytes : List ℕ → Statement → List ℕ
-own_bytes text s = cond (is_within text s) (slice_range text s.start s.end) []
+abbrev pub own_bytes : Statements → Statement → List ℕ
+own_bytes t s = cond (is_within t.ends.items t.text.items s)
+    (slice_range t.text.items (own_start t.ends.items s) (own_end t.ends.items s)) []
 
 -- the words of the objective's row, if the statement ends before them
 abbrev pub row_bytes : List ℕ → Statement → List ℕ
 row_bytes spelled s = cond s.is_cut spelled []
 
 abbrev pub statement_in : Statements → Statement → Named Constraint
-statement_in t s =
-    with_text t.objective (own_bytes t.text.items s ++ row_bytes t.spelled.items s)
+statement_in t s = with_text t.objective (own_bytes t s ++ row_bytes t.spelled.items s)
 
 abbrev pub SpellsRow : Statements → Type 0
 SpellsRow t = t.spelled.items ≡ words_after_spaces (row_words t.form t.objective t.objective)
@@ -63,7 +71,9 @@ SpellsRow t = t.spelled.items ≡ words_after_spaces (row_words t.form t.objecti
 pub record AreKept (t : Statements) (steps : List (Step Statement)) (ds : List Derivation)
     : Type 0 where
   pub row : SpellsRow t
-  pub within : All (λ (s : Step Statement). is_within t.text.items s.stated ≡ true) steps
+  pub last : slice_index (0 ∷ t.ends.items) (length t.ends.items) ≡ length t.text.items
+  pub within : All (λ (s : Step Statement). is_within t.ends.items t.text.items s.stated ≡ true)
+      steps
   pub those : map (step_of (statement_in t)) steps ≡ map (as_text t.form t.objective) ds
 
 -- a certificate of this problem and these solutions, of whose derivations these steps are kept
@@ -79,7 +89,7 @@ pub record AreStepsOf (c : Certificate) (p : Problem) (ss : List (Named Row)) (t
 -- ---- their lines
 
 abbrev pub step_line : Statements → Step Statement → List ℕ
-step_line t s = (own_bytes t.text.items s.stated ++ row_bytes t.spelled.items s.stated)
+step_line t s = (own_bytes t s.stated ++ row_bytes t.spelled.items s.stated)
     ++ (codes " {" ++ (words_after_spaces (reason_words (kept_reason_of s.reason))
     ++ (codes " }" ++ (32 ∷ last_word s.last ++ codes "\n"))))
 
@@ -88,6 +98,6 @@ steps_section t ss = line_text (heading (codes "DER") (length ss)) ++ flat_map (
 
 -- no more than so many pieces of 65,536 bytes
 abbrev pub step_weight : Statements → Step Statement → ℕ
-step_weight t s = length (own_bytes t.text.items s.stated)
+step_weight t s = length (own_bytes t s.stated)
     + length (row_bytes t.spelled.items s.stated) + 8
     + length (reason_words (kept_reason_of s.reason))

@@ -2,7 +2,8 @@
 //!
 //! [`Statements`] keeps them in one text, so that a derivation takes little memory until it is
 //! written. Its reason stays in a [`Step`], as a [`StepReason`].
-ghost use Rattle.std.specs.Prelude.{◌≡◌, ◌∷◌, ◌++◌, [], List, IfOk, OnOk, IsTrue, cond};
+ghost use Rattle.std.specs.Prelude.{◌≡◌, ◌≤◌, ◌∷◌, ◌++◌, [], List, IfOk, OnOk, IsTrue, cond};
+ghost use Rattle.std.specs.Prelude.{length, slice_index};
 ghost use Rattle.vipr_spec.specs.Certificate.{Derivation as DerivationMeant};
 ghost use Rattle.vipr_cert.specs.Items.{derivation_of};
 ghost use Rattle.vipr_write.specs.declared.statements.Statement.{Statement as StatementMeant};
@@ -20,11 +21,11 @@ use std::alloc::{AllocError, Global};
 use vipr_cert::Derivation;
 use vipr_linear::Row;
 
-/// The place of a name and a constraint in a text. A row that is the objective's is left out.
+/// The number of a name and a constraint among those that are kept. A row that is the objective's
+/// is left out.
 #[derive(Clone, Copy, Debug, Drop)]
 pub struct Statement {
-    pub(crate) start: usize,
-    pub(crate) end: usize,
+    pub(crate) index: u32,
     pub(crate) is_cut: bool,
 }
 
@@ -45,6 +46,8 @@ pub struct Statements {
     /// What is written for the objective's row.
     pub(crate) spelled: Vec<u8>,
     pub(crate) text: Vec<u8>,
+    /// The end of each of them in the text.
+    pub(crate) ends: Vec<usize>,
 }
 
 // The words of a row, unless it is the objective's. Whether it is.
@@ -82,6 +85,7 @@ impl Statements {
             objective: objective.clone()?,
             spelled,
             text: Vec::new(alloc),
+            ends: Vec::new(alloc),
         })
     }
 
@@ -89,7 +93,7 @@ impl Statements {
     ///
     /// # Errors
     ///
-    /// If a growth is refused.
+    /// If a growth is refused, or if 2^32 of them are kept.
     pub fn keep(
         &mut self,
         alloc: Global,
@@ -102,7 +106,9 @@ impl Statements {
             → AreKept self.new (ss ++ s ∷ []) (ds ++ derivation_of derivation.now ∷ [])) }
         ensures shortest { IfOk result (λ s. IsShortest s.reason) }
     {
-        let start = self.text.len();
+        let Ok(index) = u32::try_from(self.ends.len()) else {
+            return Err(AllocError);
+        };
         append_start(&mut self.text, &derivation.name, &derivation.constraint)?;
         let is_cut = append_other_row(
             &mut self.text,
@@ -110,23 +116,35 @@ impl Statements {
             &self.objective,
             &derivation.constraint.row,
         )?;
-        let end = self.text.len();
+        self.ends.push(self.text.len())?;
         Ok(Step {
-            stated: Statement { start, end, is_cut },
+            stated: Statement { index, is_cut },
             reason: StepReason::of(alloc, &derivation.reason)?,
             last: derivation.last,
         })
     }
 
+    // The start of the statement of this index, which is the end of the one before it.
+    fn start_of(&self, index: usize) -> usize
+        requires { index ≤ length self.now.ends.items }
+        ensures { result ≡ slice_index (0 ∷ self.now.ends.items) index }
+    {
+        if index == 0 { 0 } else { self.ends[index - 1] }
+    }
+
     /// What is kept of a statement alone, and nothing if it doesn't lie here.
     pub(crate) fn own_bytes(&self, stated: Statement) -> &[u8]
-        ensures { result.now ≡ own_bytes self.now.text.items stated }
+        ensures { result.now ≡ own_bytes self.now stated }
     {
-        if stated.start <= stated.end && stated.end <= self.text.len() {
-            &self.text[stated.start..stated.end]
-        } else {
-            b""
+        let index = stated.index as usize;
+        if index < self.ends.len() {
+            let start = self.start_of(index);
+            let end = self.ends[index];
+            if start <= end && end <= self.text.len() {
+                return &self.text[start..end];
+            }
         }
+        b""
     }
 
     /// What is written for the objective's row, if the statement ends before it.

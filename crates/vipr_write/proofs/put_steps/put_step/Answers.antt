@@ -11,5 +11,5 @@ returns g c =
     let s = c.args.step.now in
     let own = puts_same c.own_bytes.ensures c.put_bytes.ensures in
     let row = puts_same c.row_bytes.ensures c.put_bytes-2.ensures in
-    puts_same (step_parts (own_bytes t.text.items s.stated) (row_bytes t.spelled.items s.stated) (words_after_spaces (reason_words (kept_reason_of s.reason))) (last_word s.last))
+    puts_same (step_parts (own_bytes t s.stated) (row_bytes t.spelled.items s.stated) (words_after_spaces (reason_words (kept_reason_of s.reason))) (last_word s.last))
     (puts_then (puts_then (puts_then (puts_then (puts_then (puts_then own row) c.put_word.ensures) c.put_step_reason.ensures) c.put_word-2.ensures) c.put_last.ensures) c.push.ensures)
