@@ -8,8 +8,8 @@ use Rattle.std.proofs.lemmas.Grind.{flat_map-append}
 use Rattle.vipr_spec.specs.Constraint.{Row}
 use Rattle.vipr_spec.specs.Certificate.{Problem, integer_variables, Derivation, Certificate}
 use Rattle.vipr_spec.specs.Number.{number_text}
-use Rattle.vipr_write.specs.Canonical.{sense_word, constraint_words, reason_words, last_word}
-use Rattle.vipr_write.specs.Canonical.{derivation_words, direction_word, vector_words, given_words}
+use Rattle.vipr_write.specs.Canonical.{sense_word, reason_words, last_word}
+use Rattle.vipr_write.specs.Canonical.{direction_word, vector_words, given_words}
 use Rattle.vipr_write.specs.Canonical.{claim_words, variables_lines, problem_lines, solutions_lines}
 use Rattle.vipr_write.specs.Canonical.{words_after_spaces, heading, line_text, lines_text}
 use Rattle.vipr_write.specs.Forms.{row_words, constraint_words_in, derivation_words_in}
@@ -35,14 +35,6 @@ line_parts start name front back last ws us =
     ap (λ t. start ++ (name ++ (t ++ 10 ∷ []))) (words_after_spaces-append ws (front ∷ (us ++ back ∷ last ∷ [])) ∙ ap (λ t. words_after_spaces ws ++ ((32 ∷ front) ++ t)) (words_after_spaces-append us (back ∷ last ∷ [])))
     ∙ simp (append_assoc, append-nil)
 
-pub derivation_parts : (start : List ℕ) (d : Derivation) →
-    start ++ line_text (derivation_words d)
-    ≡ (((((start ++ words_text (constraint_words d.name d.stated)) ++ codes " {")
-    ++ words_after_spaces (reason_words d.reason)) ++ codes " }") ++ 32 ∷ last_word d.last)
-    ++ codes "\n"
-derivation_parts start d = line_parts start d.name (codes "{") (codes "}") (last_word d.last) (sense_word d.stated.sense ∷ number_text d.stated.bound ∷ vector_words d.stated.row) (reason_words d.reason)
-
--- the same in a form
 pub derivation_parts_in : (form : Form) (objective : Row) (start : List ℕ) (d : Derivation) →
     start ++ line_text (derivation_words_in form objective d)
     ≡ (((((start ++ words_text (constraint_words_in form objective d.name d.stated))

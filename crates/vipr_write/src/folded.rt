@@ -10,10 +10,10 @@ ghost use Rattle.vipr_write.specs.Folded.{IsFolded, Extends, begun, opening, sta
 ghost use Rattle.vipr_write.specs.Folded.{constraints_text, derivation_end};
 
 use crate::form::Form;
-use crate::lines::{append_claim, append_reason};
+use crate::lines::{append_claim, append_end};
 use crate::rows;
 use crate::sections::{append_coefficients, append_counts, append_goal, append_variables};
-use crate::words::{append_last, append_number, append_sense, append_word};
+use crate::words::{append_number, append_sense};
 use std::alloc::{AllocError, Global};
 use vipr_cert::{Derivation, Name, Named, Problem};
 use vipr_linear::{Constraint, Row};
@@ -165,19 +165,6 @@ pub(crate) fn append_problem(folded: &mut Folded, problem: &Problem) -> Result<(
     append_opening(&mut folded.text, problem)?;
     append_constraints(folded, problem.cons())?;
     append_claim(&mut folded.text, problem.claim())
-}
-
-// What follows the constraint of a derivation.
-fn append_end(text: &mut Vec<u8>, derivation: &Derivation) -> Result<(), AllocError>
-    ensures { OnOk result (text.new.items
-        ≡ text.old.items ++ derivation_end (derivation_of derivation.now)) }
-{
-    append_word(text, b"{")?;
-    append_reason(text, &derivation.reason)?;
-    append_word(text, b"}")?;
-    append_last(text, derivation.last)?;
-    text.push(b'\n')?;
-    Ok(())
 }
 
 /// A derivation.

@@ -9,6 +9,7 @@ ghost use Rattle.vipr_write.specs.Canonical.{derivation_words, heading, words_af
 ghost use Rattle.vipr_write.specs.Canonical.{line_text};
 ghost use Rattle.vipr_cert.specs.Items.{named_of, solution_of, claim_of, reason_of, derivation_of};
 ghost use Rattle.vipr_write.specs.Lines.{words_text};
+ghost use Rattle.vipr_write.specs.Folded.{derivation_end};
 
 use crate::words::{
     append_bound, append_counted, append_index, append_last, append_number, append_sense,
@@ -127,6 +128,19 @@ pub(crate) fn append_reason(text: &mut Vec<u8>, reason: &Reason) -> Result<(), A
     append_references(text, reason)
 }
 
+/// What follows the constraint of a derivation.
+pub(crate) fn append_end(text: &mut Vec<u8>, derivation: &Derivation) -> Result<(), AllocError>
+    ensures { OnOk result (text.new.items
+        ≡ text.old.items ++ derivation_end (derivation_of derivation.now)) }
+{
+    append_word(text, b"{")?;
+    append_reason(text, &derivation.reason)?;
+    append_word(text, b"}")?;
+    append_last(text, derivation.last)?;
+    text.push(b'\n')?;
+    Ok(())
+}
+
 /// A derivation.
 pub(crate) fn append_derivation(
     text: &mut Vec<u8>,
@@ -136,10 +150,5 @@ pub(crate) fn append_derivation(
         ++ line_text (derivation_words (derivation_of derivation.now))) }
 {
     append_stated(text, &derivation.name, &derivation.constraint)?;
-    append_word(text, b"{")?;
-    append_reason(text, &derivation.reason)?;
-    append_word(text, b"}")?;
-    append_last(text, derivation.last)?;
-    text.push(b'\n')?;
-    Ok(())
+    append_end(text, derivation)
 }
