@@ -16,8 +16,8 @@ ghost use Rattle.vipr_read.specs.Items.{Knows};
 ghost use Rattle.vipr_rules.specs.Profile.{profile_of};
 ghost use Rattle.vipr_write.specs.Steps.{AreKept, AreStepsOf};
 ghost use Rattle.vipr_check.specs.Run.{IsAmong, IsAt};
-ghost use Rattle.vipr_tighten.specs.Keeping.{AnswersProof, AnswersWhy, KeepsListed, KeepsMet};
-ghost use Rattle.vipr_tighten.specs.Keeping.{KeepsWhole, KeepsFinished, KeepsProof, KeepsSteps};
+ghost use Rattle.vipr_tighten.specs.Keeping.{AnswersProof, AnswersWhy, KeepsMet};
+ghost use Rattle.vipr_tighten.specs.Keeping.{KeepsFinished, KeepsProof, KeepsSteps};
 ghost use Rattle.vipr_tighten.specs.Keeping.{IsKeptOf, IsForSame};
 ghost use Rattle.vipr_tighten.specs.Keeping.{solutions_left, derivations_left};
 
@@ -143,9 +143,19 @@ fn read_listed<R: Source>(
         → IsAmong P p [] checker.old solutions.old → IsSome solutions.old.rest
         → AnswersWhy P (solutions_left p [] solutions.old) e) }
 {
-    let listed = read_solutions(alloc, checker, solutions)?;
-    checker.end_solutions()?;
-    Ok(listed)
+    let mut listed = Vec::new(alloc);
+    'solutions: loop {
+        match solutions.next(alloc)? {
+            Some(solution) => {
+                checker.solution(&solution)?;
+                listed.push(solution)?;
+            }
+            None => {
+                checker.end_solutions()?;
+                return Ok(listed);
+            }
+        }
+    }
 }
 
 // All derivations that follow, up to the end of the text, and the report, where they make a proof.
@@ -170,69 +180,13 @@ fn read_derived<R: Source>(
         → IsAt P (start p ss) checker.old derivations.old → IsSome derivations.old.rest
         → AnswersWhy P (derivations_left (start p ss) derivations.old) e) }
 {
-    let steps = read_derivations(alloc, checker, statements, derivations)?;
-    let report = checker.finish()?;
-    Ok((steps, report))
-}
-
-// All solutions that follow.
-fn read_solutions<R: Source>(
-    alloc: Global,
-    checker: &mut Checker<Table>,
-    solutions: &mut Solutions<R>,
-) -> Result<Vec<Named<Solution>>, NoProof>
-    requires { (P : ProfileMeant) × (p : ProblemMeant)
-        × IsAmong P p [] checker.old solutions.old }
-    ensures none { IfOk result (λ ss. solutions.new.left ≡ 0) }
-    ensures items { IfOk result (λ ss.
-        All (SolutionShape solutions.old.variables) (map solution_of ss.items)
-        × All (λ s. RowFits s.item) (map solution_of ss.items)) }
-    ensures kept { IfOk result (λ ss. (P : ProfileMeant) (p : ProblemMeant)
-        → IsAmong P p [] checker.old solutions.old
-        → KeepsListed P p solutions.old (map solution_of ss.items) checker.new solutions.new) }
-    ensures unproved { IfErr result (λ e. (P : ProfileMeant) (p : ProblemMeant)
-        → IsAmong P p [] checker.old solutions.old → IsSome solutions.old.rest
-        → AnswersWhy P (solutions_left p [] solutions.old) e) }
-{
-    let mut listed = Vec::new(alloc);
-    'solutions: loop {
-        match solutions.next(alloc)? {
-            Some(solution) => {
-                checker.solution(&solution)?;
-                listed.push(solution)?;
-            }
-            None => return Ok(listed),
-        }
-    }
-}
-
-// All derivations that follow, up to the end of the text.
-fn read_derivations<R: Source>(
-    alloc: Global,
-    checker: &mut Checker<Table>,
-    statements: &mut Statements,
-    derivations: &mut Derivations<R>,
-) -> Result<Vec<Step<Statement>>, NoProof>
-    requires at { (P : ProfileMeant) × (p : ProblemMeant) × (ss : List (NamedMeant Row))
-        × IsAt P (start p ss) checker.old derivations.old }
-    requires none { AreKept statements.old [] [] }
-    ensures same { OnOk result (IsForSame statements.old statements.new) }
-    ensures kept { IfOk result (λ steps. (ds : List DerivationMeant)
-        × KeepsSteps derivations.old.variables statements.new steps.items ds
-        × ((P : ProfileMeant) (p : ProblemMeant) (ss : List (NamedMeant Row))
-        → IsAt P (start p ss) checker.old derivations.old
-        → KeepsWhole P (start p ss) derivations.old (with_more (start p ss) ds) checker.new)) }
-    ensures unproved { IfErr result
-        (λ e. (P : ProfileMeant) (p : ProblemMeant) (ss : List (NamedMeant Row))
-        → IsAt P (start p ss) checker.old derivations.old → IsSome derivations.old.rest
-        → AnswersWhy P (derivations_left (start p ss) derivations.old) e) }
-{
     let mut steps = Vec::new(alloc);
     let mut step = Derivation::blank(alloc);
     'steps: loop {
         let found = derivations.next_into(alloc, &mut step)?;
         if !found {
-            return Ok(steps);
+            let report = checker.finish()?;
+            return Ok((steps, report));
         }
         checker.derivation(alloc, &step)?;
         let kept = statements.keep(alloc, &step)?;

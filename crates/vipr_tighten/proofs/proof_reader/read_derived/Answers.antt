@@ -1,38 +1,133 @@
+use Rattle.std.proofs.Common.{[], ◌∷◌, ◌++◌, refl, ◌∙◌, subst}
+use Rattle.std.proofs.lemmas.List.Elements.{All-push, All-nil}
+use Rattle.vipr_spec.specs.Constraint.{at}
 use Rattle.vipr_spec.specs.Checking.{start}
 use Rattle.vipr_spec.specs.Steps.{with_more}
-use Rattle.vipr_check.specs.Reasons.{stop_reason}
-use Rattle.vipr_tighten.proofs.Reading.{err_given, finish_answers}
+use Rattle.vipr_spec.specs.Shape.{DerivationShape, DerivationFits}
+use Rattle.vipr_spec.specs.Tests.{none}
+use Rattle.vipr_check.specs.declared.no_proof.NoProof.TheVariants as reason
+use Rattle.vipr_cert.specs.Items.{derivation_of}
+use Rattle.vipr_check.specs.Reasons.{stop_reason, text_reason}
+use Rattle.vipr_check.proofs.Laws.{names_for, room_for}
+use Rattle.vipr_tighten.proofs.Reading.{err_given, derived_first, step_accepted, step_refused}
+use Rattle.vipr_tighten.proofs.Reading.{step_unread, at_end, finish_answers}
 use Rattle.vipr_tighten.proofs.proof_reader.read_derived.Goals as goal
 
-pub read_derivations-requires-clause-at : goal.read_derivations-requires-clause-at
-read_derivations-requires-clause-at g c = c.requires.at
+pub steps-init : goal.steps-init
+steps-init g c =
+    let r = c.args.derivations.now in
+    rw c.new-steps.ensures.items (record {
+      same = record { form = refl; objective = refl };
+      variables = refl;
+      read = (
+        [],
+        record { kept = c.requires.none; shapes = All-nil (DerivationShape r.variables); fit = All-nil DerivationFits },
+        λ P p ss is. derived_first P (start p ss) c.args.checker.now r is,
+      );
+    })
 
-pub returns-in_err-steps-clause-unproved : goal.returns-in_err-steps-clause-unproved
-returns-in_err-steps-clause-unproved g c =
-    err_given _ c.from_residual.result c.in_err-steps.field-0.0 c.from_residual.ensures.1 c.in_err-steps.ensures.unproved
+pub derivation-requires-clause-phase : goal.derivation-requires-clause-phase
+derivation-requires-clause-phase g c =
+    let (P, p, ss, is) = c.requires.at in
+    let (ds, steps, kept) = c.steps.invariant.read in
+    (kept P p ss is).is_at.phase
+
+pub derivation-requires-clause-room : goal.derivation-requires-clause-room
+derivation-requires-clause-room g c =
+    let (P, p, ss, is) = c.requires.at in
+    let (ds, steps, kept) = c.steps.invariant.read in
+    let h = rw c.if-not-found.false at c.in_ok-found.ensures in
+    room_for P (with_more (start p ss) ds) c.steps.checker c.steps.derivations c.next_into.new.self.left (kept P p ss is).is_at h.moves.counted
+
+pub derivation-requires-clause-names : goal.derivation-requires-clause-names
+derivation-requires-clause-names g c =
+    let (P, p, ss, is) = c.requires.at in
+    let (ds, steps, kept) = c.steps.invariant.read in
+    let h = rw c.if-not-found.false at c.in_ok-found.ensures in
+    names_for P (with_more (start p ss) ds) c.steps.checker c.steps.derivations (at c.next_into.new.step.constraint.row) (kept P p ss is).is_at h.shape.row
+
+pub returns-in_err-derivation-clause-unproved :
+    goal.returns-in_err-derivation-clause-unproved
+returns-in_err-derivation-clause-unproved g c =
+    let e = c.in_err-derivation.field-0.0 in
+    err_given _ c.from_residual-in_err-derivation.result (stop_reason e) c.from_residual-in_err-derivation.ensures.1 (λ P p ss is known.
+    let (ds, steps, keeps) = c.steps.invariant.read in
+    let h = rw c.if-not-found.false at c.in_ok-found.ensures in
+    let s = start p ss in
+    let now = with_more s ds in
+    let kept = keeps P p ss is in
+    step_refused P s now c.steps.checker c.derivation.new.self c.args.derivations.now c.steps.derivations kept c.next_into.new.self (derivation_of c.next_into.new.step) h.moves.counted h.moves.remembers h.moves.working
+    (λ t. let r = h.read p kept.is_at.knows t in (r.1, r.2)) h.shape.reason e (c.in_err-derivation.ensures.next now kept.is_at.runs kept.is_at.has) known)
+
+pub steps-preserved : goal.steps-preserved
+steps-preserved g c =
+    let h = rw c.if-not-found.false at c.in_ok-found.ensures in
+    let (ds, steps, keeps) = c.steps.invariant.read in
+    let first = c.args.derivations.now in
+    let d = derivation_of c.next_into.new.step in
+    let old = c.steps.derivations in
+    let step = c.in_ok-kept.ensures in
+    let same = c.steps.invariant.same in
+    rw c.in_ok-push.ensures.items (record {
+      same = record { form = step.form ∙ same.form; objective = step.objective ∙ same.objective };
+      variables = h.moves.remembers.variables ∙ c.steps.invariant.variables;
+      read = (
+        ds ++ d ∷ [],
+        record {
+          kept = step.kept c.steps.steps.items ds steps.kept;
+          shapes = All-push (DerivationShape first.variables) ds d steps.shapes (subst (λ n. DerivationShape n d) c.steps.invariant.variables h.shape);
+          fit = All-push DerivationFits ds d steps.fit h.fits;
+        },
+        λ P p ss is.
+            let kept = keeps P p ss is in
+            let now = with_more (start p ss) ds in
+            step_accepted P (start p ss) now c.steps.checker c.derivation.new.self first old kept c.next_into.new.self d h.moves.counted h.moves.remembers h.moves.working
+            (λ t. let r = h.read p kept.is_at.knows t in (r.1, r.2)) (c.in_ok-derivation.ensures.next now kept.is_at.runs kept.is_at.has),
+      );
+    })
 
 pub finish-requires : goal.finish-requires
 finish-requires g c =
-    let (P, p, ss, at) = c.requires.at in
-    let (ds, steps, whole) = c.in_ok-steps.ensures.kept in
-    (whole P p ss at).phase
+    let (P, p, ss, is) = c.requires.at in
+    let (ds, steps, keeps) = c.steps.invariant.read in
+    (keeps P p ss is).is_at.phase
 
 pub returns-in_err-report-clause-unproved : goal.returns-in_err-report-clause-unproved
 returns-in_err-report-clause-unproved g c =
     let e = c.in_err-report.field-0.0 in
-    err_given _ c.from_residual-in_err-report.result (stop_reason e) c.from_residual-in_err-report.ensures.1 (λ P p ss at known.
-    let (ds, steps, wholes) = c.in_ok-steps.ensures.kept in
-    let whole = wholes P p ss at in
+    let h = rw c.if-not-found.true at c.in_ok-found.ensures in
+    err_given _ c.from_residual-in_err-report.result (stop_reason e) c.from_residual-in_err-report.ensures.1 (λ P p ss is known.
+    let (ds, steps, keeps) = c.steps.invariant.read in
+    let kept = keeps P p ss is in
     let d = with_more (start p ss) ds in
-    finish_answers P (start p ss) c.args.derivations.now d c.read_derivations.new.checker c.finish.new.self whole known e (c.in_err-report.ensures.next d whole.runs whole.has))
+    let whole = at_end P (start p ss) d c.steps.checker c.steps.checker c.args.derivations.now c.steps.derivations kept (h.read p kept.is_at.knows) in
+    finish_answers P (start p ss) c.args.derivations.now d c.steps.checker c.finish.new.self whole known e (c.in_err-report.ensures.next d whole.runs whole.has))
 
-pub returns-clause-kept : goal.returns-clause-kept
-returns-clause-kept g c =
-    let (ds, steps, wholes) = c.in_ok-steps.ensures.kept in (
+pub returns-then-not-found-clause-kept : goal.returns-then-not-found-clause-kept
+returns-then-not-found-clause-kept g c =
+    let h = rw c.if-not-found.true at c.in_ok-found.ensures in
+    let (ds, steps, keeps) = c.steps.invariant.read in (
       ds,
       steps,
-      λ P p ss at.
-          let whole = wholes P p ss at in
+      λ P p ss is.
+          let kept = keeps P p ss is in
           let d = with_more (start p ss) ds in
-          record { before = c.read_derivations.new.checker; whole = whole; done = c.in_ok-report.ensures.next d whole.runs whole.has },
+          let whole = at_end P (start p ss) d c.steps.checker c.steps.checker c.args.derivations.now c.steps.derivations kept (h.read p kept.is_at.knows) in
+          record { before = c.steps.checker; whole = whole; done = c.in_ok-report.ensures.next d whole.runs whole.has },
     )
+
+pub returns-in_err-found-clause-unproved : goal.returns-in_err-found-clause-unproved
+returns-in_err-found-clause-unproved g c =
+    let e = c.in_err-found.field-0.0 in
+    err_given _ c.from_residual.result (text_reason e) c.from_residual.ensures.1 (λ P p ss is known.
+    let (ds, steps, keeps) = c.steps.invariant.read in
+    let kept = keeps P p ss is in
+    step_unread P (start p ss) (with_more (start p ss) ds) c.steps.checker c.steps.checker c.args.derivations.now c.steps.derivations kept e (c.in_err-found.ensures.read p kept.is_at.knows (kept.known known)) known)
+
+pub returns-in_err-kept-clause-unproved : goal.returns-in_err-kept-clause-unproved
+returns-in_err-kept-clause-unproved g c =
+    err_given _ c.from_residual-in_err-kept.result reason.Memory c.from_residual-in_err-kept.ensures.1 (λ P p ss is known. (none, tt))
+
+pub returns-in_err-push-clause-unproved : goal.returns-in_err-push-clause-unproved
+returns-in_err-push-clause-unproved g c =
+    err_given _ c.from_residual-in_err-push.result reason.Memory c.from_residual-in_err-push.ensures.1 (λ P p ss is known. (none, tt))

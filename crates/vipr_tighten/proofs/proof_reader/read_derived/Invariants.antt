@@ -5,7 +5,7 @@ use Rattle.vipr_spec.specs.Checking.{start}
 use Rattle.vipr_spec.specs.Steps.{with_more}
 use Rattle.vipr_check.specs.Run.{IsAt}
 use Rattle.vipr_tighten.specs.Keeping.{IsForSame, KeepsDerived, KeepsSteps}
-use Rattle.vipr_tighten.proofs.proof_reader.read_derivations.Given as goal
+use Rattle.vipr_tighten.proofs.proof_reader.read_derived.Given as goal
 
 abbrev pub invariant-steps : goal.invariant-steps
 invariant-steps g l = record {

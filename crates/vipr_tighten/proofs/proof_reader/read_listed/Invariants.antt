@@ -6,7 +6,7 @@ use Rattle.vipr_spec.specs.Shape.{RowFits, SolutionShape}
 use Rattle.vipr_cert.specs.Items.{solution_of}
 use Rattle.vipr_check.specs.Run.{IsAmong}
 use Rattle.vipr_tighten.specs.Keeping.{KeepsListed}
-use Rattle.vipr_tighten.proofs.proof_reader.read_solutions.Given as goal
+use Rattle.vipr_tighten.proofs.proof_reader.read_listed.Given as goal
 
 abbrev pub invariant-solutions : goal.invariant-solutions
 invariant-solutions g l = record {
