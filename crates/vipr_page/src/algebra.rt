@@ -135,7 +135,9 @@ impl Display for Terms<'_> {
         match self.entries {
             [] => f.write_str("0"),
             [first, others @ ..] => {
-                let first = FirstTerm {
+                let (_, coefficient) = *first;
+                let sign = if coefficient.numer() < 0 { "-" } else { "" };
+                let first = Term {
                     problem,
                     entry: *first,
                 };
@@ -143,33 +145,9 @@ impl Display for Terms<'_> {
                     problem,
                     entries: others,
                 };
-                write!(f, "{first}{others}")
+                write!(f, "{sign}{first}{others}")
             }
         }
-    }
-}
-
-// The first term.
-#[derive(Clone, Copy)]
-struct FirstTerm<'a> {
-    problem: &'a Problem,
-    entry: (u32, Frac),
-}
-
-impl Display for FirstTerm<'_> {
-    ghost use Rattle.vipr_page.specs.Algebra.{first_term};
-
-    ghost output = { λ t. Some (first_term t.problem.now.names t.entry) };
-
-    fn fmt<W: Write>(&self, f: &mut Formatter<W>) -> fmt::Result {
-        let (index, coefficient) = self.entry;
-        let variable = VariableName {
-            problem: self.problem,
-            index,
-        };
-        let sign = if coefficient.numer() < 0 { "-" } else { "" };
-        let factor = Factor(size_of(coefficient));
-        write!(f, "{sign}{factor}{variable}")
     }
 }
 
@@ -190,23 +168,31 @@ impl Display for OtherTerms<'_> {
         let problem = self.problem;
         for entry in self.entries {
             let entry = *entry;
-            write!(f, "{}", NextTerm { problem, entry })?;
+            let (_, coefficient) = entry;
+            let sign = if coefficient.numer() < 0 {
+                " - "
+            } else {
+                " + "
+            };
+            write!(f, "{sign}{}", Term { problem, entry })?;
         }
         Ok(())
     }
 }
 
-// A term behind others.
+// A term without its sign: a factor of 1 isn't written.
 #[derive(Clone, Copy)]
-struct NextTerm<'a> {
+struct Term<'a> {
     problem: &'a Problem,
     entry: (u32, Frac),
 }
 
-impl Display for NextTerm<'_> {
-    ghost use Rattle.vipr_page.specs.Algebra.{next_term};
+impl Display for Term<'_> {
+    ghost use Rattle.std.specs.Prelude.{◌++◌};
+    ghost use Rattle.vipr_page.specs.Algebra.{factor_text, size, variable_text};
 
-    ghost output = { λ t. Some (next_term t.problem.now.names t.entry) };
+    ghost output = { λ t. Some (factor_text (size t.entry.1)
+        ++ variable_text t.problem.now.names t.entry.0) };
 
     fn fmt<W: Write>(&self, f: &mut Formatter<W>) -> fmt::Result {
         let (index, coefficient) = self.entry;
@@ -214,31 +200,11 @@ impl Display for NextTerm<'_> {
             problem: self.problem,
             index,
         };
-        let sign = if coefficient.numer() < 0 {
-            " - "
-        } else {
-            " + "
-        };
-        let factor = Factor(size_of(coefficient));
-        write!(f, "{sign}{factor}{variable}")
-    }
-}
-
-// A factor in front of a variable: 1 isn't written.
-#[derive(Clone, Copy)]
-struct Factor(Frac);
-
-impl Display for Factor {
-    ghost use Rattle.vipr_page.specs.Algebra.{factor_text};
-
-    ghost output = { λ s. Some (factor_text s.0) };
-
-    fn fmt<W: Write>(&self, f: &mut Formatter<W>) -> fmt::Result {
-        let factor = self.0;
+        let factor = size_of(coefficient);
         if factor == Frac::one() {
-            Ok(())
+            write!(f, "{variable}")
         } else {
-            write!(f, "{factor} ")
+            write!(f, "{factor} {variable}")
         }
     }
 }

@@ -1,10 +1,12 @@
 //! How what a reason gives differs from what a derivation states.
-ghost use Rattle.std.specs.Prelude.{◌≡◌, ◌++◌, Option, Some, IfOk, OnOk, flat_map};
+ghost use Rattle.std.specs.Prelude.{◌≡◌, ◌++◌, Option, Some, IfOk, OnOk, flat_map, take};
 ghost use Rattle.std.specs.FinMap.{entries};
+ghost use Rattle.std.specs.List.{enumerate_from};
 ghost use Rattle.vipr_spec.specs.Fraction.{ℚ};
 ghost use Rattle.vipr_linear.specs.Constraint.{constraint_of, sense_of};
 ghost use Rattle.vipr_page.specs.Differences.{IsExcess, added_at, changed_at, row_differences};
 ghost use Rattle.vipr_page.specs.Differences.{difference_line, is_other_sense};
+ghost use Rattle.vipr_page.specs.Differences.{numbered_difference, other_sides, rows_text};
 ghost use Rattle.vipr_page.specs.Written.{PutsText};
 
 use crate::algebra::{VariableName, sign_of, size_of};
@@ -26,12 +28,12 @@ pub(crate) struct Difference {
 }
 
 /// Says where the computed and the stated constraint differ.
-pub fn put_difference<'x>(
+pub fn put_difference(
     page: &mut Page,
     alloc: Global,
-    problem: &'x Problem,
-    computed: &'x Constraint,
-    stated: &'x Constraint,
+    problem: &Problem,
+    computed: &Constraint,
+    stated: &Constraint,
 ) -> Result<(), AllocError>
     ensures { OnOk result ((gap : Option ℚ) × IsExcess computed.now.rhs stated.now.rhs gap
         × PutsText page.old page.new (difference_line problem.now.names
@@ -39,14 +41,13 @@ pub fn put_difference<'x>(
 {
     let differences = row_differences(alloc, &computed.row, &stated.row)?;
     let gap = gap_of(computed.rhs, stated.rhs);
-    let difference = ConstraintDifference {
-        problem,
-        differences: differences.as_slice(),
-        computed,
-        stated,
-        gap,
-    };
-    page.put_value(&format_args!("    difference {difference}\n"));
+    page.put("    difference ");
+    if differences.is_empty() {
+        put_sides(page, computed, stated, gap);
+    } else {
+        put_rows(page, problem, differences.as_slice());
+    }
+    page.put("\n");
     Ok(())
 }
 
@@ -136,70 +137,22 @@ fn gap_of(computed: Frac, stated: Frac) -> Option<Frac>
     computed.add(stated.neg()).ok()
 }
 
-// How two constraints differ: by their rows, which differ so, or by a side of them.
-#[derive(Clone, Copy)]
-struct ConstraintDifference<'a> {
-    problem: &'a Problem,
-    differences: &'a [Difference],
-    computed: &'a Constraint,
-    stated: &'a Constraint,
-    gap: Option<Frac>,
-}
-
-impl Display for ConstraintDifference<'_> {
-    ghost use Rattle.vipr_linear.specs.Constraint.{constraint_of};
-    ghost use Rattle.vipr_page.specs.Differences.{difference_text};
-
-    ghost output = { λ s. Some (difference_text s.problem.now.names s.differences.now
-        (constraint_of s.computed.now) (constraint_of s.stated.now) s.gap) };
-
-    fn fmt<W: Write>(&self, f: &mut Formatter<W>) -> fmt::Result {
-        if self.differences.is_empty() {
-            let sides = OtherSides {
-                computed: self.computed,
-                stated: self.stated,
-                gap: self.gap,
-            };
-            write!(f, "{sides}")
-        } else {
-            let rows = OtherRows {
-                problem: self.problem,
-                differences: self.differences,
-            };
-            write!(f, "{rows}")
-        }
-    }
-}
-
-// How the senses differ, or else the right-hand sides.
-#[derive(Clone, Copy)]
-struct OtherSides<'a> {
-    computed: &'a Constraint,
-    stated: &'a Constraint,
-    gap: Option<Frac>,
-}
-
-impl Display for OtherSides<'_> {
-    ghost use Rattle.vipr_linear.specs.Constraint.{constraint_of};
-    ghost use Rattle.vipr_page.specs.Differences.{other_sides};
-
-    ghost output = { λ s. Some
-        (other_sides (constraint_of s.computed.now) (constraint_of s.stated.now) s.gap) };
-
-    fn fmt<W: Write>(&self, f: &mut Formatter<W>) -> fmt::Result {
-        if is_other_sense(self.computed.sense, self.stated.sense) {
-            let computed = sign_of(self.computed.sense);
-            let stated = sign_of(self.stated.sense);
-            write!(f, "the sense: computed {computed}, stated {stated}")
-        } else {
-            let computed = self.computed.rhs;
-            let stated = self.stated.rhs;
-            let excess = Excess(self.gap);
-            write!(
-                f,
-                "right-hand side: computed {computed}, stated {stated}{excess}"
-            )
-        }
+// Says how the senses differ, or else the right-hand sides.
+fn put_sides(page: &mut Page, computed: &Constraint, stated: &Constraint, gap: Option<Frac>)
+    ensures { PutsText page.old page.new
+        (other_sides (constraint_of computed.now) (constraint_of stated.now) gap) }
+{
+    if is_other_sense(computed.sense, stated.sense) {
+        let computed = sign_of(computed.sense);
+        let stated = sign_of(stated.sense);
+        page.put_value(&format_args!("the sense: computed {computed}, stated {stated}"));
+    } else {
+        let computed = computed.rhs;
+        let stated = stated.rhs;
+        let excess = Excess(gap);
+        page.put_value(&format_args!(
+            "right-hand side: computed {computed}, stated {stated}{excess}"
+        ));
     }
 }
 
@@ -240,80 +193,38 @@ impl Display for Excess {
     }
 }
 
-// How two rows differ.
-#[derive(Clone, Copy)]
-struct OtherRows<'a> {
-    problem: &'a Problem,
-    differences: &'a [Difference],
+// Says how two rows differ.
+fn put_rows(page: &mut Page, problem: &Problem, differences: &[Difference])
+    ensures { PutsText page.old page.new (rows_text problem.now.names differences.now) }
+{
+    page.put("the rows are not the same:");
+    put_differences(page, problem, differences);
+    page.put_value(&DifferenceCount(differences.len()));
 }
 
-impl Display for OtherRows<'_> {
-    ghost use Rattle.vipr_page.specs.Differences.{rows_text};
-
-    ghost output = { λ s. Some (rows_text s.problem.now.names s.differences.now) };
-
-    fn fmt<W: Write>(&self, f: &mut Formatter<W>) -> fmt::Result {
-        let shown = ShownDifferences {
-            problem: self.problem,
-            differences: first_of(self.differences),
-        };
-        let count = DifferenceCount(self.differences.len());
-        write!(f, "the rows are not the same:{shown}{count}")
+// Names the first differences.
+fn put_differences(page: &mut Page, problem: &Problem, differences: &[Difference])
+    ensures { PutsText page.old page.new (flat_map (numbered_difference problem.now.names)
+        (enumerate_from 0 (take 6 differences.now))) }
+{
+    for (position, difference) in first_of(differences).iter().enumerate() {
+        put_numbered(page, problem, position, *difference);
     }
 }
 
-// Differences, one behind the other.
-#[derive(Clone, Copy)]
-struct ShownDifferences<'a> {
-    problem: &'a Problem,
-    differences: &'a [Difference],
-}
-
-impl Display for ShownDifferences<'_> {
-    ghost use Rattle.std.specs.Prelude.{flat_map};
-    ghost use Rattle.std.specs.List.{enumerate_from};
-    ghost use Rattle.vipr_page.specs.Differences.{numbered_difference};
-
-    ghost output = { λ s. Some (flat_map (numbered_difference s.problem.now.names)
-        (enumerate_from 0 s.differences.now)) };
-
-    fn fmt<W: Write>(&self, f: &mut Formatter<W>) -> fmt::Result {
-        for (position, difference) in self.differences.iter().enumerate() {
-            let line = NumberedDifference {
-                problem: self.problem,
-                position,
-                difference: *difference,
-            };
-            write!(f, "{line}")?;
-        }
-        Ok(())
-    }
-}
-
-// A difference behind so many others.
-#[derive(Clone, Copy)]
-struct NumberedDifference<'a> {
-    problem: &'a Problem,
-    position: usize,
-    difference: Difference,
-}
-
-impl Display for NumberedDifference<'_> {
-    ghost use Rattle.vipr_page.specs.Differences.{numbered_difference};
-
-    ghost output = { λ s. Some
-        (numbered_difference s.problem.now.names (s.position, s.difference)) };
-
-    fn fmt<W: Write>(&self, f: &mut Formatter<W>) -> fmt::Result {
-        let front = if self.position == 0 { " " } else { "; " };
-        let variable = VariableName {
-            problem: self.problem,
-            index: self.difference.variable,
-        };
-        let computed = self.difference.computed;
-        let stated = self.difference.stated;
-        write!(f, "{front}{variable}: computed {computed}, stated {stated}")
-    }
+// Names a difference behind so many others.
+fn put_numbered(page: &mut Page, problem: &Problem, position: usize, difference: Difference)
+    ensures { PutsText page.old page.new
+        (numbered_difference problem.now.names (position, difference)) }
+{
+    let front = if position == 0 { " " } else { "; " };
+    let variable = VariableName {
+        problem,
+        index: difference.variable,
+    };
+    let computed = difference.computed;
+    let stated = difference.stated;
+    page.put_value(&format_args!("{front}{variable}: computed {computed}, stated {stated}"));
 }
 
 // How many differences there are, if not all are shown.

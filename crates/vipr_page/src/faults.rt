@@ -3,6 +3,7 @@ ghost use Rattle.std.specs.Prelude.{◌≡◌, ◌++◌, Some, IfOk, OnOk};
 ghost use Rattle.std.specs.FinMap.{entries};
 ghost use Rattle.vipr_linear.specs.Constraint.{constraint_of, sense_of};
 ghost use Rattle.vipr_page.specs.RowFaults.{coefficient_fault, faults_at, row_faults};
+ghost use Rattle.vipr_page.specs.RowFaults.{equation_text, faults_text, row_fault_text};
 ghost use Rattle.vipr_page.specs.RowFaults.{not_roundable_text, not_split_text, split_sides};
 ghost use Rattle.vipr_page.specs.RowFaults.{are_same_entries, variable_fault};
 ghost use Rattle.vipr_page.specs.Written.{PutsText};
@@ -37,66 +38,17 @@ pub fn put_not_roundable(
         (sense_of sum.now.sense) (row_faults problem.now.integers sum.now.row))) }
 {
     let faults = row_faults(alloc, problem.ints(), &sum.row)?;
-    page.put_value(&UnroundedSum {
-        problem,
-        sense: sum.sense,
-        faults: faults.as_slice(),
-    });
+    put_if_equation(page, sum.sense, faults.len());
+    put_faults(page, problem, faults.as_slice());
     Ok(())
 }
 
-// Why a sum of this sense, whose row has these faults, can't be rounded.
-#[derive(Clone, Copy)]
-struct UnroundedSum<'a> {
-    problem: &'a Problem,
-    sense: Sense,
-    faults: &'a [RowFault],
-}
-
-impl Display for UnroundedSum<'_> {
-    ghost use Rattle.vipr_linear.specs.Constraint.{sense_of};
-    ghost use Rattle.vipr_page.specs.RowFaults.{not_roundable_text};
-
-    ghost output = { λ s. Some
-        (not_roundable_text s.problem.now.names (sense_of s.sense) s.faults.now) };
-
-    fn fmt<W: Write>(&self, f: &mut Formatter<W>) -> fmt::Result {
-        let equation = EquationPart {
-            sense: self.sense,
-            count: self.faults.len(),
-        };
-        let faults = RowFaults {
-            problem: self.problem,
-            faults: first_of(self.faults),
-        };
-        write!(f, "{equation}{faults}")
-    }
-}
-
-// That an equation can't be rounded, if it has no other fault.
-#[derive(Clone, Copy)]
-struct EquationPart {
-    sense: Sense,
-    count: usize,
-}
-
-impl Display for EquationPart {
-    ghost use Rattle.vipr_linear.specs.Constraint.{sense_of};
-    ghost use Rattle.vipr_page.specs.RowFaults.{equation_text};
-
-    ghost output = { λ s. Some (equation_text (sense_of s.sense) s.count) };
-
-    fn fmt<W: Write>(&self, f: &mut Formatter<W>) -> fmt::Result {
-        match self.sense {
-            Sense::E => {
-                if self.count == 0 {
-                    f.write_str("    an equation can't be rounded\n")
-                } else {
-                    Ok(())
-                }
-            }
-            Sense::L | Sense::G => Ok(()),
-        }
+// Says that an equation can't be rounded, if its row has no fault.
+fn put_if_equation(page: &mut Page, sense: Sense, faults: usize)
+    ensures { PutsText page.old page.new (equation_text (sense_of sense) faults) }
+{
+    if sense == Sense::E && faults == 0 {
+        page.put("    an equation can't be rounded\n");
     }
 }
 
@@ -112,14 +64,15 @@ pub fn put_not_split(
         problem.now.integers (constraint_of first.now) (constraint_of second.now))) }
 {
     if has_same_entries(&first.row, &second.row) {
-        put_sides(page, alloc, problem, first, second)
+        let faults = row_faults(alloc, problem.ints(), &first.row)?;
+        put_split_sides(page, problem, first, second, faults.as_slice());
     } else {
         page.put(
             "    they are about different rows: a split is of one row, \
              at most k and at least k + 1\n",
         );
-        Ok(())
     }
+    Ok(())
 }
 
 // Whether two rows have the same entries.
@@ -129,59 +82,25 @@ fn has_same_entries(first: &Row, second: &Row) -> bool
     first.entries() == second.entries()
 }
 
-// Says why two assumptions about one row are no split.
-fn put_sides(
+// Says why two assumptions about one row, which has these faults, are no split.
+fn put_split_sides(
     page: &mut Page,
-    alloc: Global,
     problem: &Problem,
     first: &Constraint,
     second: &Constraint,
-) -> Result<(), AllocError>
-    ensures { OnOk result (PutsText page.old page.new (split_sides problem.now.names
-        (constraint_of first.now) (constraint_of second.now)
-        (row_faults problem.now.integers first.now.row))) }
+    faults: &[RowFault],
+)
+    ensures { PutsText page.old page.new (split_sides problem.now.names
+        (constraint_of first.now) (constraint_of second.now) faults.now) }
 {
-    let faults = row_faults(alloc, problem.ints(), &first.row)?;
-    page.put_value(&SplitSides {
-        problem,
-        first,
-        second,
-        faults: faults.as_slice(),
-    });
-    Ok(())
-}
-
-// Two assumptions about one row, which has these faults.
-#[derive(Clone, Copy)]
-struct SplitSides<'a> {
-    problem: &'a Problem,
-    first: &'a Constraint,
-    second: &'a Constraint,
-    faults: &'a [RowFault],
-}
-
-impl Display for SplitSides<'_> {
-    ghost use Rattle.vipr_linear.specs.Constraint.{constraint_of};
-    ghost use Rattle.vipr_page.specs.RowFaults.{split_sides};
-
-    ghost output = { λ s. Some (split_sides s.problem.now.names (constraint_of s.first.now)
-        (constraint_of s.second.now) s.faults.now) };
-
-    fn fmt<W: Write>(&self, f: &mut Formatter<W>) -> fmt::Result {
-        let first = Side(self.first);
-        let second = Side(self.second);
-        let faults = RowFaults {
-            problem: self.problem,
-            faults: first_of(self.faults),
-        };
-        if self.faults.is_empty() {
-            write!(
-                f,
-                "    a split is <= k and >= k + 1 with k whole; here it is {first} and {second}\n"
-            )
-        } else {
-            write!(f, "{faults}")
-        }
+    if faults.is_empty() {
+        let first = Side(first);
+        let second = Side(second);
+        page.put_value(&format_args!(
+            "    a split is <= k and >= k + 1 with k whole; here it is {first} and {second}\n"
+        ));
+    } else {
+        put_faults(page, problem, faults);
     }
 }
 
@@ -249,66 +168,32 @@ fn add_variable(faults: &mut Vec<RowFault>, ints: &Ints, variable: u32) -> Resul
     Ok(())
 }
 
-// Faults, each in a line.
-#[derive(Clone, Copy)]
-struct RowFaults<'a> {
-    problem: &'a Problem,
-    faults: &'a [RowFault],
-}
-
-impl Display for RowFaults<'_> {
-    ghost use Rattle.std.specs.Prelude.{flat_map};
-    ghost use Rattle.vipr_page.specs.RowFaults.{row_fault_text};
-
-    ghost output = { λ s. Some (flat_map (row_fault_text s.problem.now.names) s.faults.now) };
-
-    fn fmt<W: Write>(&self, f: &mut Formatter<W>) -> fmt::Result {
-        for fault in self.faults {
-            let line = FaultLine {
-                problem: self.problem,
-                fault: *fault,
-            };
-            write!(f, "{line}")?;
-        }
-        Ok(())
+// Says of each fault what it is, of the first ones.
+fn put_faults(page: &mut Page, problem: &Problem, faults: &[RowFault])
+    ensures { PutsText page.old page.new (faults_text problem.now.names faults.now) }
+{
+    for fault in first_of(faults) {
+        put_fault(page, problem, *fault);
     }
 }
 
-// A fault.
-#[derive(Clone, Copy)]
-struct FaultLine<'a> {
-    problem: &'a Problem,
-    fault: RowFault,
-}
-
-impl Display for FaultLine<'_> {
-    ghost use Rattle.vipr_page.specs.RowFaults.{row_fault_text};
-
-    ghost output = { λ s. Some (row_fault_text s.problem.now.names s.fault) };
-
-    fn fmt<W: Write>(&self, f: &mut Formatter<W>) -> fmt::Result {
-        match self.fault {
-            RowFault::NotWhole(variable, coefficient) => {
-                let name = VariableName {
-                    problem: self.problem,
-                    index: variable,
-                };
-                write!(
-                    f,
-                    "    the coefficient {coefficient} of {name} is not whole\n"
-                )
-            }
-            RowFault::NotInteger(variable) => {
-                let name = VariableName {
-                    problem: self.problem,
-                    index: variable,
-                };
-                write!(
-                    f,
-                    "    {name} is not an integer variable: write its index {variable} in INT, \
-                     or leave it out here\n"
-                )
-            }
+// Says what a fault is.
+fn put_fault(page: &mut Page, problem: &Problem, fault: RowFault)
+    ensures { PutsText page.old page.new (row_fault_text problem.now.names fault) }
+{
+    match fault {
+        RowFault::NotWhole(index, coefficient) => {
+            let name = VariableName { problem, index };
+            page.put_value(&format_args!(
+                "    the coefficient {coefficient} of {name} is not whole\n"
+            ));
+        }
+        RowFault::NotInteger(index) => {
+            let name = VariableName { problem, index };
+            page.put_value(&format_args!(
+                "    {name} is not an integer variable: write its index {index} in INT, \
+                 or leave it out here\n"
+            ));
         }
     }
 }

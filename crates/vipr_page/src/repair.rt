@@ -32,7 +32,7 @@ pub fn put_repair(
     );
 }
 
-// That `rnd` in place of `lin` is enough, if so.
+// That `rnd` in place of `lin` is enough, with the right-hand side to which it rounds, if so.
 #[derive(Clone, Copy)]
 struct ReasonHelp<'a> {
     reason: &'a Reason,
@@ -45,29 +45,12 @@ impl Display for ReasonHelp<'_> {
     ghost output = { λ s. Some (reason_help s.reason.now s.bound) };
 
     fn fmt<W: Write>(&self, f: &mut Formatter<W>) -> fmt::Result {
-        match self.reason {
-            Reason::Lin(_) => write!(f, "{}", RoundingHelp(self.bound)),
-            _ => Ok(()),
-        }
-    }
-}
-
-// The right-hand side to which `rnd` rounds, if it is enough.
-#[derive(Clone, Copy)]
-struct RoundingHelp(Option<i128>);
-
-impl Display for RoundingHelp {
-    ghost use Rattle.vipr_page.specs.Repairs.{rounding_help};
-
-    ghost output = { λ s. Some (rounding_help s.0) };
-
-    fn fmt<W: Write>(&self, f: &mut Formatter<W>) -> fmt::Result {
-        match self.0 {
-            Some(bound) => write!(
+        match (self.reason, self.bound) {
+            (Reason::Lin(_), Some(bound)) => write!(
                 f,
                 "  = help: `rnd` in place of `lin` rounds the right-hand side to {bound}\n"
             ),
-            None => Ok(()),
+            _ => Ok(()),
         }
     }
 }
