@@ -29,6 +29,15 @@ impl Handed {
             text: Vec::new(alloc),
         }
     }
+
+    /// Writes the text to a buffer as `fill` does, its length to `length`, and returns the status.
+    pub(crate) fn hand_over(self, room: &mut [u8], length: &mut usize) -> i32
+        ensures status { result ≡ self.status }
+        ensures text { Fills self.text.items room.old room.new length.new }
+    {
+        *length = fill(room, self.text.as_slice());
+        self.status
+    }
 }
 
 /// Writes the first bytes of a text to the front of a buffer, as many as there is room for, and

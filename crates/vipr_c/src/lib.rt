@@ -61,9 +61,7 @@ pub extern "C" fn vipr_report(
         × ByProfile (profile_numbered profile) (ReturnsReport text.now) result made
         × Fills made lines.old lines.new length.new }
 {
-    let made = report::report(alloc, profile, text);
-    *length = fill(lines, made.text.as_slice());
-    made.status
+    report::report(alloc, profile, text).hand_over(lines, length)
 }
 
 /// Writes what `vipr explain` prints of the text, in the form of `vipr_report`.
@@ -79,9 +77,7 @@ pub extern "C" fn vipr_explain(
         × ByProfile (profile_numbered profile) (ReturnsExplanation text.now) result made
         × Fills made lines.old lines.new length.new }
 {
-    let made = report::explanation(alloc, profile, text);
-    *length = fill(lines, made.text.as_slice());
-    made.status
+    report::explanation(alloc, profile, text).hand_over(lines, length)
 }
 
 /// Writes what `vipr show` does of the text, in its compact form unless `compact` is 0, in the form
@@ -101,8 +97,7 @@ pub extern "C" fn vipr_show(
 {
     let (made, refusal) = shown::shown(alloc, form_flagged(compact), text);
     *answer = refusal;
-    *length = fill(shown, made.text.as_slice());
-    made.status
+    made.hand_over(shown, length)
 }
 
 /// Writes what `vipr tighten` does of the text, by the rules of a profile, in its compact form
@@ -125,8 +120,7 @@ pub extern "C" fn vipr_tighten(
 {
     let (made, numbers) = tightened::tightened(alloc, profile, form_flagged(compact), text);
     *figures = numbers;
-    *length = fill(tightened, made.text.as_slice());
-    made.status
+    made.hand_over(tightened, length)
 }
 
 /// Writes the name of a cause to `name`, as many bytes as there is room for, and returns how many

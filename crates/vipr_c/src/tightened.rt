@@ -72,16 +72,12 @@ fn tightened_by(
         x.0.text.items x.1) }
 {
     let mut out = Collected::new(alloc);
-    match tighten_into(alloc, profile, form, text, &mut out) {
-        Ok(outcome) => Ok((
-            Handed {
-                status: status_for(&outcome),
-                text: out.bytes,
-            },
-            figures_of(&outcome),
-        )),
-        Err(fault) => Err(fault),
-    }
+    let outcome = tighten_into(alloc, profile, form, text, &mut out)?;
+    let made = Handed {
+        status: status_for(&outcome),
+        text: out.bytes,
+    };
+    Ok((made, figures_of(&outcome)))
 }
 
 fn tighten_into(
