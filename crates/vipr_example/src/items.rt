@@ -1,8 +1,8 @@
 //! Reads a certificate item by item.
-ghost use Rattle.std.specs.Prelude.{◌≡◌, ◌≢◌, IfErr, IfOk, false};
+ghost use Rattle.std.specs.Prelude.{◌≢◌, IfErr};
 
 use std::alloc::Global;
-use vipr_lib::{Bytes, CertReader, Derivations, Problem, Reason, Solutions, Source, TextError};
+use vipr_lib::{Bytes, CertReader, Problem, Reason, TextError};
 
 /// The items of a certificate.
 #[derive(Clone, Copy, Debug, Default, PartialEq, Eq)]
@@ -33,9 +33,13 @@ pub fn count_items(alloc: Global, text: &[u8]) -> Result<Counts, TextError>
     let (problem, mut solutions) = reader.read_problem(alloc)?;
     let mut counts = Counts::of_problem(&problem);
     drop(problem);
-    counts.count_solutions(alloc, &mut solutions)?;
+    while let Some(_solution) = solutions.next(alloc)? {
+        counts.solutions = counts.solutions.saturating_add(1);
+    }
     let mut derivations = solutions.finish()?;
-    counts.count_derivations(alloc, &mut derivations)?;
+    while let Some(derivation) = derivations.next(alloc)? {
+        counts.count(&derivation.reason);
+    }
     Ok(counts)
 }
 
@@ -47,38 +51,6 @@ impl Counts {
             constraints: problem.cons().len(),
             ..Counts::default()
         }
-    }
-
-    // Counts the solutions that follow.
-    fn count_solutions<R: Source>(
-        &mut self,
-        alloc: Global,
-        solutions: &mut Solutions<R>,
-    ) -> Result<(), TextError>
-        requires { solutions.old.failed ≡ false }
-        ensures read { IfOk result (λ _. (solutions.new.failed ≡ false)
-            × (solutions.new.left ≡ 0)) }
-        ensures error { IfErr result (λ error. error ≢ TextError.Spent) }
-    {
-        while let Some(_solution) = solutions.next(alloc)? {
-            self.solutions = self.solutions.saturating_add(1);
-        }
-        Ok(())
-    }
-
-    // Counts the derivations that follow.
-    fn count_derivations<R: Source>(
-        &mut self,
-        alloc: Global,
-        derivations: &mut Derivations<R>,
-    ) -> Result<(), TextError>
-        requires { derivations.old.failed ≡ false }
-        ensures { IfErr result (λ error. error ≢ TextError.Spent) }
-    {
-        while let Some(derivation) = derivations.next(alloc)? {
-            self.count(&derivation.reason);
-        }
-        Ok(())
     }
 
     // Counts a derivation with this reason.
