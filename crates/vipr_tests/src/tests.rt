@@ -18,6 +18,7 @@ use std::process::Abort;
 use vipr_bytes::Bytes;
 use vipr_cert::Certificate;
 use vipr_frac::Frac;
+use vipr_linear::Row;
 use vipr_read::read_certificate;
 
 /// What `assert_eq!` does, proved once for all its callers.
@@ -30,6 +31,11 @@ type Parts = (i128, i128);
 
 fn fraction(rt: &impl Abort, (p, q): Parts) -> Frac {
     Frac::new(p, q).expect(rt, "a fraction")
+}
+
+/// The row of these coefficients.
+fn row_of(rt: &impl Abort, alloc: Global, pairs: Vec<(u32, Frac)>) -> Row {
+    Row::from_pairs(alloc, pairs).expect(rt, "a row")
 }
 
 /// The certificate that a text spells.

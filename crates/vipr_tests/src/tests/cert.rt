@@ -1,5 +1,5 @@
 //! Each constructor once within its limits, and past those that are cheap to reach.
-use super::{lengths, same};
+use super::{lengths, row_of, same};
 use bstr::BString;
 use std::alloc::Global;
 use std::process::Abort;
@@ -14,8 +14,7 @@ fn name(rt: &impl Abort, alloc: Global, bytes: &[u8]) -> Name {
 
 // The row with the coefficient 1 at a variable.
 fn row(rt: &impl Abort, alloc: Global, variable: u32) -> Row {
-    let pairs = only(rt, alloc, (variable, Frac::one()));
-    Row::from_pairs(alloc, pairs).expect(rt, "a row")
+    row_of(rt, alloc, only(rt, alloc, (variable, Frac::one())))
 }
 
 // That the variable is at least 1.

@@ -31,7 +31,7 @@ const MISSPELLED: &[u8] =
 const GLUED: &[u8] =
     b"VER 1.0\nVAR 1\nx\nINT 0\nOBJ min\n0\nCON 2 0\na G 1 1 0 1\nb L 0 1 0 1\nRTP infeas\nSOL 0\nDER 1\nf G 1 0 {lin 2 0 1 1 -1 } -1\n";
 // 0 >= 1, without variables.
-const ABSURD: &[u8] =
+pub(super) const ABSURD: &[u8] =
     b"VER 1.0\nVAR 0\nINT 0\nOBJ min\n0\nCON 1 0\na G 1 0\nRTP infeas\nSOL 0\nDER 0\n";
 // The multiplier of b has the wrong sign.
 const MIXED: &[u8] =
@@ -62,8 +62,8 @@ const UNMET: &[u8] = b"VER 1.0 VAR 0 INT 0 OBJ min 0 CON 0 0 RTP range -inf 0 SO
 
 const LISTED: &[u8] = b"VER 1.0 VAR 0 INT 0 OBJ min 0 CON 0 0 RTP infeas SOL 1 s 0 DER 0";
 
-// x >= 3, and the solution 3.
-const SOLVED: &[u8] =
+// x >= 3, the solution 3, and the cutoff there.
+pub(super) const SOLVED: &[u8] =
     b"VER 1.0\nVAR 1\nx\nINT 0\nOBJ min\n1 0 1\nCON 1 0\na G 3 1 0 1\nRTP infeas\nSOL 1\ns 1 0 3\nDER 1\nc L 3 1 0 1 { sol } -1\n";
 
 // x >= 3, and 2 as solution.
@@ -77,11 +77,11 @@ const CUT_OFF: &[u8] =
     b"VER 1.0 VAR 0 INT 0 OBJ min 0 CON 0 0 RTP infeas SOL 0 DER 1 f G 1 0 { sol } -1";
 
 // Both branches of a split: four derived constraints are held at most.
-const BRANCHES: &[u8] =
+pub(super) const BRANCHES: &[u8] =
     b"VER 1.0\nVAR 1\nx\nINT 1\n0\nOBJ min\n0\nCON 2 0\na G 1 1 0 2\nb L 1 1 0 2\nRTP infeas\nSOL 0\nDER 5\nc L 0 1 0 1 { asm } 6\nd G 1 1 0 1 { asm } 6\ne G 1 0 { lin 2 0 1 2 -2 } 6\nf G 1 0 { lin 2 3 2 1 -1 } 6\ng G 1 0 { uns 4 2 5 3 } -1\n";
 
 // The same with an unused assumption in front, and nothing is ever dropped.
-const BRANCHES_AND_MORE: &[u8] =
+pub(super) const BRANCHES_AND_MORE: &[u8] =
     b"VER 1.0\nVAR 1\nx\nINT 1\n0\nOBJ min\n0\nCON 2 0\na G 1 1 0 2\nb L 1 1 0 2\nRTP infeas\nSOL 0\nDER 6\nz L 5 1 0 1 { asm } -1\nc L 0 1 0 1 { asm } -1\nd G 1 1 0 1 { asm } -1\ne G 1 0 { lin 2 0 1 3 -2 } -1\nf G 1 0 { lin 2 4 2 1 -1 } -1\ng G 1 0 { uns 5 3 6 4 } -1\n";
 
 fn report_of(verdict: Verdict) -> Option<Report> {
@@ -192,10 +192,14 @@ fn shows(rt: &impl Abort, alloc: Global, text: &[u8], wanted: &Shown) -> bool {
     shown
 }
 
+fn without_detail((verdict, detail): (Verdict, Detail)) -> Verdict {
+    drop(detail);
+    verdict
+}
+
 // The goal of a proof, beside its detail.
 fn explained_goal(rt: &impl Abort, alloc: Global, text: &[u8]) -> Option<u32> {
-    let (verdict, detail) = explanation(rt, alloc, text);
-    drop(detail);
+    let verdict = without_detail(explanation(rt, alloc, text));
     report_of(verdict).expect(rt, "a proof").goal
 }
 
@@ -275,6 +279,16 @@ struct Counting<'a> {
     fails: bool,
     reads: &'a Cell<usize>,
     ghost some: { 0 < piece },
+}
+
+/// Gives its bytes one by one, and then the end.
+fn by_bytes<'a>(left: &'a [u8], reads: &'a Cell<usize>) -> Counting<'a> {
+    Counting {
+        left,
+        piece: 1,
+        fails: false,
+        reads,
+    }
 }
 
 impl Source for Counting<'_> {
@@ -428,21 +442,26 @@ fn stops_behind_derivations(
     }
 }
 
+// The solutions behind the problem, at which nothing is read before it is asked for.
+fn behind_problem<'a>(
+    rt: &impl Abort,
+    alloc: Global,
+    source: Counting<'a>,
+    reads: &Cell<usize>,
+) -> Solutions<Counting<'a>> {
+    let reader = CertReader::new(alloc, source).expect(rt, "a reader");
+    same(rt, reads.get(), 0);
+    let (problem, solutions) = reader.read_problem(alloc).expect(rt, "a problem");
+    drop(problem);
+    solutions
+}
+
 /// Each reader stops behind its item, and the last one at the end.
 #[test]
 fn readers_stop_behind_their_items(rt: HostRuntime) {
     let alloc = rt.alloc();
     let reads = Cell::new(0);
-    let source = Counting {
-        left: SOLVED,
-        piece: 1,
-        fails: false,
-        reads: &reads,
-    };
-    let reader = CertReader::new(alloc, source).expect(&rt, "a reader");
-    same(&rt, reads.get(), 0);
-    let (problem, mut solutions) = reader.read_problem(alloc).expect(&rt, "a problem");
-    drop(problem);
+    let mut solutions = behind_problem(&rt, alloc, by_bytes(SOLVED, &reads), &reads);
     same(&rt, reads.get(), 73);
     stops_behind_solutions(&rt, alloc, &reads, &mut solutions);
     assert!(rt; solutions.left() == 0);
@@ -493,9 +512,7 @@ fn fails_after<H: Abort + AllocGlobal>(rt: &H, left: &[u8], reads: &Cell<usize>)
         fails: true,
         reads,
     };
-    let reader = CertReader::new(alloc, source).expect(rt, "a reader");
-    let (problem, mut solutions) = reader.read_problem(alloc).expect(rt, "a problem");
-    drop(problem);
+    let mut solutions = behind_problem(rt, alloc, source, reads);
     if left.len() < 81 {
         fails_in_solutions(rt, alloc, &mut solutions);
     } else {
@@ -517,13 +534,7 @@ fn readers_stop_at_a_failure(rt: HostRuntime) {
 // What is answered to a beginning of a proof, a byte at a time and at once.
 fn answer_to(rt: &impl Abort, alloc: Global, beginning: &[u8]) -> Result<Option<Refusal>, Fault> {
     let reads = Cell::new(0);
-    let source = Counting {
-        left: beginning,
-        piece: 1,
-        fails: false,
-        reads: &reads,
-    };
-    let answer = answered(alloc, source);
+    let answer = answered(alloc, by_bytes(beginning, &reads));
     same(rt, answered(alloc, Bytes::new(beginning)), answer);
     answer
 }

@@ -3,7 +3,7 @@
 ghost use Rattle.std.specs.Prelude.{◌≡◌, length};
 
 use self::Asked::{Covers, Dominates, DominatesRounded, Splits};
-use super::{fraction, same};
+use super::{fraction, row_of, same};
 use std::alloc::Global;
 use std::process::Abort;
 use vipr_frac::Frac;
@@ -21,7 +21,7 @@ fn row(rt: &impl Abort, alloc: Global, pairs: &[(u32, i128)]) -> Row {
         let entry = (*variable, fraction(rt, (*coefficient, 1)));
         entries.push(entry).expect(rt, "entries");
     }
-    Row::from_pairs(alloc, entries).expect(rt, "a row")
+    row_of(rt, alloc, entries)
 }
 
 // A constraint of the first variable: its coefficient, the sense, and the right-hand side `p` over
@@ -203,6 +203,23 @@ fn adds(
     same(rt, sum.add(constraint, multiplier), wanted);
 }
 
+// Adds a constraint of the first variable to such a sum.
+fn adds_bound(
+    rt: &impl Abort,
+    alloc: Global,
+    sum: &mut Combination,
+    stated: Bound,
+    multiplier: Frac,
+    wanted: Result<(), CombError>,
+)
+    requires { length sum.old.sums ≡ 3 }
+    ensures { length sum.new.sums ≡ 3 }
+{
+    let added = bound(rt, alloc, stated);
+    adds(rt, sum, &added, multiplier, wanted);
+    drop(added);
+}
+
 // 2 times the third variable and 4 times the first are at least 3.
 fn two_variables(rt: &impl Abort, alloc: Global) -> Constraint {
     Constraint {
@@ -218,9 +235,9 @@ fn at_least_half(rt: &impl Abort, alloc: Global) -> Constraint {
     let half = fraction(rt, (1, 2));
     let first = two_variables(rt, alloc);
     adds(rt, &mut sum, &first, half, Ok(()));
-    let second = bound(rt, alloc, (2, L, 1, 1));
-    adds(rt, &mut sum, &second, Frac::one().neg(), Ok(()));
-    drop((first, second));
+    drop(first);
+    let second = (2, L, 1, 1);
+    adds_bound(rt, alloc, &mut sum, second, Frac::one().neg(), Ok(()));
     sum.finish(alloc).expect(rt, "a sum")
 }
 
@@ -276,14 +293,14 @@ fn mixed_signs(rt: HostRuntime) {
     let alloc = rt.alloc();
     let one = Frac::one();
     let mut sum = Combination::new(alloc, 3).expect(&rt, "a sum");
-    let most = bound(&rt, alloc, (1, L, 0, 1));
-    adds(&rt, &mut sum, &most, one, Ok(()));
-    let least = bound(&rt, alloc, (1, G, 1, 1));
-    adds(&rt, &mut sum, &least, one, Err(CombError::MixedSigns));
-    let zero = Frac::zero();
-    adds(&rt, &mut sum, &least, zero, Err(CombError::Spent));
+    adds_bound(&rt, alloc, &mut sum, (1, L, 0, 1), one, Ok(()));
+    let least = (1, G, 1, 1);
+    let mixed = Err(CombError::MixedSigns);
+    adds_bound(&rt, alloc, &mut sum, least, one, mixed);
+    let spent = Err(CombError::Spent);
+    adds_bound(&rt, alloc, &mut sum, least, Frac::zero(), spent);
     sum.clear();
     let empty = sum.finish(alloc).expect(&rt, "no sum");
     assert!(rt; empty.row.is_empty());
-    drop((most, least, empty));
+    drop(empty);
 }

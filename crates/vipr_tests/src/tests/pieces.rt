@@ -5,19 +5,9 @@ use std::alloc::Global;
 use std::process::Abort;
 use vipr_write::{WriteError, write_certificate};
 
-const FRONT: &[u8] = b"VER 1.0
-VAR 2
-";
+const FRONT: &[u8] = b"VER 1.0\nVAR 2\n";
 
-const BACK: &[u8] = b"
-INT 0
-OBJ min
-0
-CON 0 0
-RTP infeas
-SOL 0
-DER 0
-";
+const BACK: &[u8] = b"\nINT 0\nOBJ min\n0\nCON 0 0\nRTP infeas\nSOL 0\nDER 0\n";
 
 /// A text has so many bytes beside its two names.
 const OTHERS: usize = 63;

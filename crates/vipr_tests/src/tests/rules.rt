@@ -1,20 +1,19 @@
 use super::check::problem_of;
-use super::{fraction, same};
+use super::{fraction, row_of, same};
 use std::alloc::Global;
 use std::process::Abort;
 use vipr_cert::Problem;
 use vipr_frac::Frac;
-use vipr_linear::{Combination, Constraint, Row, Sense, Solution};
+use vipr_linear::{Combination, Constraint, Sense, Solution};
 use vipr_rules::{
     Assumptions, Columns, Entry, KeepAll, LiveOnly, Rows, SolutionError, test_solution,
     test_solution_by_columns,
 };
 
 fn entry(rt: &impl Abort, alloc: Global, last: Option<u32>, is_assumption: bool) -> Entry {
-    let row = Row::from_pairs(alloc, Vec::new(alloc)).expect(rt, "a row");
     Entry {
         constraint: Constraint {
-            row,
+            row: row_of(rt, alloc, Vec::new(alloc)),
             sense: Sense::G,
             rhs: Frac::one(),
         },
@@ -169,7 +168,7 @@ fn found(
 ) -> Result<Frac, SolutionError> {
     let mut scratch = Combination::new(alloc, problem.names().len() as u32).expect(rt, "a sum");
     let values = vec![in alloc; (0, x), (1, y)].expect(rt, "values");
-    let solution = Solution(Row::from_pairs(alloc, values).expect(rt, "a row"));
+    let solution = Solution(row_of(rt, alloc, values));
     let found = test_solution(problem, &mut scratch, &solution);
     drop((scratch, solution));
     found
@@ -244,7 +243,7 @@ fn point(rt: &impl Abort, alloc: Global, numbers: [i128; 3], denominator: i128) 
         (2, fraction(rt, (z, denominator))),
     ];
     let values = Vec::from_array(alloc, values).expect(rt, "values");
-    Solution(Row::from_pairs(alloc, values).expect(rt, "a row"))
+    Solution(row_of(rt, alloc, values))
 }
 
 fn agree(rt: &impl Abort, alloc: Global, text: &[u8]) {

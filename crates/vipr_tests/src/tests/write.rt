@@ -30,25 +30,10 @@ g E 0 0 { sol } -1
 ";
 
 /// The same certificate, with its entries in another order, and numbers that aren't in lowest terms.
-const SPELLED: &[u8] = b"VER 1.0
-VAR 2
-x y
-INT 2 1 1
-OBJ max 2 1 -3 0 2/4
-CON 2 1
-a G -1/3 0
-b E 0 2 1 -3 0 2/4
-RTP range -inf 7/2
-SOL 2
-s 1 1 1
-t 0
-DER 5
-c L 12 1 1 1 { asm } 6
-d G 13 1 1 1 { lin 2 0 0 1 -5/10 } -1
-e L 0 0 { rnd 0 } -1
-f L 0 0 { uns 4 2 5 3 } -1
-g E 0 0 { sol } -1
-";
+const SPELLED: &[u8] = b"VER 1.0 VAR 2 x y INT 2 1 1 OBJ max 2 1 -3 0 2/4
+    CON 2 1 a G -1/3 0 b E 0 2 1 -3 0 2/4 RTP range -inf 7/2 SOL 2 s 1 1 1 t 0
+    DER 5 c L 12 1 1 1 { asm } 6 d G 13 1 1 1 { lin 2 0 0 1 -5/10 } -1
+    e L 0 0 { rnd 0 } -1 f L 0 0 { uns 4 2 5 3 } -1 g E 0 0 { sol } -1";
 
 const SHORT: &[u8] = b"VER 1.0
 VAR 0

@@ -43,8 +43,8 @@ pub(super) fn finish<S: Rows>(checker: &mut Checker<S>) -> Result<(), Stop> {
     }
 }
 
-/// What is answered, and how many constraints are held then.
-type Answer = (Result<(), Stop>, usize);
+/// What each derivation and then the end are answered, and how many constraints are held behind each.
+type Wanted<'a> = (Result<(), Stop>, &'a [usize]);
 
 // Each derivation and then the end are answered so.
 fn answers<S: Rows>(
@@ -52,16 +52,16 @@ fn answers<S: Rows>(
     alloc: Global,
     checker: &mut Checker<S>,
     derivations: &[Derivation],
-    wanted: &[Answer],
+    (wanted, held): Wanted<'_>,
 ) {
-    let mut left = wanted.iter();
+    let mut held = held.iter();
     for step in derivations {
-        let answer = derivation(alloc, checker, step);
-        same(rt, Some(&(answer, checker.held())), left.next());
+        same(rt, derivation(alloc, checker, step), wanted);
+        same(rt, Some(&checker.held()), held.next());
     }
-    let answer = finish(checker);
-    same(rt, Some(&(answer, checker.held())), left.next());
-    assert!(rt; left.next().is_none());
+    same(rt, finish(checker), wanted);
+    same(rt, Some(&checker.held()), held.next());
+    assert!(rt; held.next().is_none());
 }
 
 fn answers_again<S: Rows>(
@@ -70,7 +70,7 @@ fn answers_again<S: Rows>(
     checker: &mut Checker<S>,
     derivations: &[Derivation],
     times: u32,
-    wanted: &[Answer],
+    wanted: Wanted<'_>,
 ) {
     let _ = end_solutions(checker);
     for _ in 0..times {
@@ -85,7 +85,7 @@ fn answers_behind<S: Rows>(
     problem: Problem,
     derivations: &[Derivation],
     times: u32,
-    wanted: &[Answer],
+    wanted: Wanted<'_>,
 ) {
     let checker = Checker::new(alloc, problem);
     let mut checker: Checker<S> = checker.expect(rt, "a checker");
@@ -94,35 +94,23 @@ fn answers_behind<S: Rows>(
 }
 
 // The same for a certificate that lists no solution.
-fn answers_to<S: Rows>(rt: &impl Abort, alloc: Global, text: &[u8], times: u32, wanted: &[Answer]) {
+fn answers_to<S: Rows>(
+    rt: &impl Abort,
+    alloc: Global,
+    text: &[u8],
+    times: u32,
+    wanted: Wanted<'_>,
+) {
     let (problem, solutions, steps) = spelled(rt, alloc, text).into_parts();
     drop(solutions);
     answers_behind::<S>(rt, alloc, problem, steps.as_slice(), times, wanted);
     drop(steps);
 }
 
-const HELD: [Answer; 6] = [
-    (Ok(()), 1),
-    (Ok(()), 2),
-    (Ok(()), 3),
-    (Ok(()), 4),
-    (Ok(()), 3),
-    (Ok(()), 3),
-];
-
-const HELD_MORE: [Answer; 7] = [
-    (Ok(()), 1),
-    (Ok(()), 2),
-    (Ok(()), 3),
-    (Ok(()), 4),
-    (Ok(()), 5),
-    (Ok(()), 6),
-    (Ok(()), 6),
-];
-
 fn holds<S: Rows>(rt: &impl Abort, alloc: Global) {
-    answers_to::<S>(rt, alloc, BRANCHES, 1, &HELD);
-    answers_to::<S>(rt, alloc, BRANCHES_AND_MORE, 1, &HELD_MORE);
+    answers_to::<S>(rt, alloc, BRANCHES, 1, (Ok(()), &[1, 2, 3, 4, 3, 3]));
+    let held = (Ok(()), [1, 2, 3, 4, 5, 6, 6].as_slice());
+    answers_to::<S>(rt, alloc, BRANCHES_AND_MORE, 1, held);
 }
 
 /// The assumptions stay to the end, and any table says how many are not forgotten.
@@ -139,10 +127,10 @@ pub(super) fn refused(cause: u8, place: Place) -> Result<(), Stop> {
 #[test]
 fn refusals_are_answered_again(rt: HostRuntime) {
     let alloc = rt.alloc();
-    let derived = (refused(34, Place::Der(2)), 0);
-    let ended = (refused(51, Place::End), 0);
-    answers_to::<LiveOnly>(&rt, alloc, MIXED, 3, &[derived, derived]);
-    answers_to::<LiveOnly>(&rt, alloc, UNPROVED, 3, &[ended]);
+    let derived = refused(34, Place::Der(2));
+    answers_to::<LiveOnly>(&rt, alloc, MIXED, 3, (derived, &[0, 0]));
+    let ended = refused(51, Place::End);
+    answers_to::<LiveOnly>(&rt, alloc, UNPROVED, 3, (ended, &[0]));
 }
 
 // A solution and twice their end.

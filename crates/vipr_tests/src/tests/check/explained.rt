@@ -1,9 +1,6 @@
 //! What is shown by the second profile, for each kind of detail.
 
-use super::{
-    BOUNDED, CUT_OFF, INFEASIBLE, LATE, MIXED, UNDOMINATED, UNMET, UNPROVED, UNSOLVED, at,
-    refusal_of,
-};
+use super::{INFEASIBLE, OTHERS, at, refusal_of, without_detail};
 use crate::tests::same;
 use std::alloc::Global;
 use std::process::Abort;
@@ -26,30 +23,22 @@ const NOT_ROUNDABLE: &[u8] = b"VER 1.0 VAR 1 x INT 1 0 OBJ min 0 CON 1 0 a G 1 1
 // What is answered: none where it is verified.
 fn refusal(rt: &impl Abort, alloc: Global, text: &[u8]) -> Option<Refusal> {
     let explained = explain_in(alloc, Profile::Two, Bytes::new(text));
-    let (verdict, detail) = explained.expect(rt, "a verdict");
-    drop(detail);
-    refusal_of(verdict)
+    refusal_of(without_detail(explained.expect(rt, "a verdict")))
 }
 
-const ROWS: [(&[u8], u8, Place); 12] = [
+const ROWS: [(&[u8], u8, Place); 4] = [
     (HALF, 21, Place::Sol(0)),
-    (UNSOLVED, 22, Place::Sol(0)),
     (LARGE_ROW, 23, Place::Sol(0)),
     (LARGE_OBJECTIVE, 23, Place::Sol(0)),
-    (LATE, 31, Place::Der(2)),
-    (MIXED, 34, Place::Der(2)),
     (NOT_ROUNDABLE, 36, Place::Der(1)),
-    (UNDOMINATED, 38, Place::Der(2)),
-    (CUT_OFF, 39, Place::Der(0)),
-    (UNPROVED, 51, Place::End),
-    (BOUNDED, 51, Place::End),
-    (UNMET, 52, Place::End),
 ];
 
 #[test]
 fn each_kind_is_shown(rt: HostRuntime) {
     same(&rt, refusal(&rt, rt.alloc(), INFEASIBLE), None);
-    for (text, cause, place) in &ROWS {
-        same(&rt, refusal(&rt, rt.alloc(), text), at(*cause, *place));
+    for rows in [OTHERS.as_slice(), ROWS.as_slice()] {
+        for (text, cause, place) in rows {
+            same(&rt, refusal(&rt, rt.alloc(), text), at(*cause, *place));
+        }
     }
 }

@@ -1,5 +1,6 @@
 //! Whole texts: what is written for them, and what of it if a read or a write fails.
-use super::{IGNORED, ROUNDED, SPLIT, UNUSED};
+use super::{IGNORED, ROUNDED};
+use crate::tests::check::{ABSURD, BRANCHES, BRANCHES_AND_MORE};
 use crate::tests::same;
 use std::alloc::{AllocError, Global};
 use std::process::Abort;
@@ -7,19 +8,6 @@ use vipr_bytes::{Bytes, Failed, FromWrite, Sink, Source};
 use vipr_check::{Place, Refusal, Verdict, check};
 use vipr_rules::Profile;
 use vipr_tighten::{Outcome, TightenFault, tighten, tighten_in};
-
-// A constraint of the problem is the goal.
-const ABSURD: &[u8] = b"VER 1.0
-VAR 0
-INT 0
-OBJ min
-0
-CON 1 0
-a G 1 0
-RTP infeas
-SOL 0
-DER 0
-";
 
 // No bound is claimed.
 const UNBOUNDED: &[u8] = b"VER 1.0
@@ -35,21 +23,8 @@ DER 0
 ";
 
 // No bound is claimed, and a constraint is derived.
-const NEEDLESS: &[u8] = b"VER 1.0
-VAR 1
-x
-INT 1
-0
-OBJ max
-1 0 1
-CON 1 0
-a L 5/2 1 0 1
-RTP range -inf inf
-SOL 1
-s 1 0 2
-DER 1
-d L 2 1 0 1 { rnd 1 0 1 } -1
-";
+const NEEDLESS: &[u8] = b"VER 1.0 VAR 1 x INT 1 0 OBJ max 1 0 1 CON 1 0 a L 5/2 1 0 1
+    RTP range -inf inf SOL 1 s 1 0 2 DER 1 d L 2 1 0 1 { rnd 1 0 1 } -1";
 
 const NOTHING_DERIVED: &[u8] = b"VER 1.0
 VAR 1
@@ -88,21 +63,8 @@ DER 0
 ";
 
 // x >= 1/2 for a whole x that is to be small, and what nothing needs.
-const WHOLE: &[u8] = b"VER 1.0
-VAR 1
-x
-INT 1
-0
-OBJ min
-1 0 1
-CON 1 0
-a G 1/2 1 0 1
-RTP range 1 1
-SOL 1
-s 1 0 1
-DER 1
-d L 7 1 0 1 { asm } -1
-";
+const WHOLE: &[u8] = b"VER 1.0 VAR 1 x INT 1 0 OBJ min 1 0 1 CON 1 0 a G 1/2 1 0 1
+    RTP range 1 1 SOL 1 s 1 0 1 DER 1 d L 7 1 0 1 { asm } -1";
 
 const WHOLE_ALONE: &[u8] = b"VER 1.0
 VAR 1
@@ -119,26 +81,10 @@ s 1 0 1
 DER 0
 ";
 
-// The split, with a last reference that is too small.
-const DROPPED: &[u8] = b"VER 1.0
-VAR 1
-x
-INT 1
-0
-OBJ min
-0
-CON 2 0
-a G 1 1 0 2
-b L 1 1 0 2
-RTP infeas
-SOL 0
-DER 5
-c L 0 1 0 1 { asm } 6
-d G 1 1 0 1 { asm } 6
-e G 1 0 { lin 2 0 1 2 -2 } 5
-f G 1 0 { lin 2 3 2 1 -1 } 6
-g G 1 0 { uns 4 2 5 3 } -1
-";
+// Both branches of a split, with a last reference that is too small.
+const DROPPED: &[u8] = b"VER 1.0 VAR 1 x INT 1 0 OBJ min 0 CON 2 0 a G 1 1 0 2 b L 1 1 0 2
+    RTP infeas SOL 0 DER 5 c L 0 1 0 1 { asm } 6 d G 1 1 0 1 { asm } 6
+    e G 1 0 { lin 2 0 1 2 -2 } 5 f G 1 0 { lin 2 3 2 1 -1 } 6 g G 1 0 { uns 4 2 5 3 } -1";
 
 /// Gives one byte a read, and fails at a chosen read. It counts its reads.
 #[derive(Drop)]
@@ -263,7 +209,7 @@ fn becomes(rt: &impl Abort, alloc: Global, text: &[u8], wanted: &[u8], figures: 
 const BECOMES: [(&[u8], &[u8], Figures); 7] = [
     (IGNORED, ROUNDED, (1, 1, 2, 1)),
     (ROUNDED, ROUNDED, (1, 0, 1, 1)),
-    (UNUSED, SPLIT, (5, 1, 6, 4)),
+    (BRANCHES_AND_MORE, BRANCHES, (5, 1, 6, 4)),
     (ABSURD, ABSURD, (0, 0, 0, 0)),
     (UNBOUNDED, UNBOUNDED, (0, 0, 0, 0)),
     (NEEDLESS, NOTHING_DERIVED, (0, 1, 1, 0)),
@@ -281,10 +227,14 @@ fn refused(cause: u8, place: Place) -> Result<Outcome, TightenFault> {
     Ok(Outcome::Refused(Refusal { cause, place }))
 }
 
+fn tighten_to(alloc: Global, text: &[u8], slots: &mut Slots) -> Result<Outcome, TightenFault> {
+    tighten(alloc, Bytes::new(text), slots)
+}
+
 #[test]
 fn nothing_is_written_where_it_is_refused(rt: HostRuntime) {
     let mut slots = Slots::stopping_at(1, true);
-    let outcome = tighten(rt.alloc(), Bytes::new(DROPPED), &mut slots);
+    let outcome = tighten_to(rt.alloc(), DROPPED, &mut slots);
     same(&rt, slots.calls, 0);
     same(&rt, outcome, refused(32, Place::Der(6)));
 }
@@ -295,14 +245,23 @@ fn took(rt: &impl Abort, slots: &Slots, calls: usize, front: &[u8]) {
     assert!(rt; slots.front(front.len()) == front);
 }
 
+fn tighten_by(
+    alloc: Global,
+    profile: Profile,
+    text: &[u8],
+    slots: &mut Slots,
+) -> Result<Outcome, TightenFault> {
+    tighten_in(alloc, profile, Bytes::new(text), slots)
+}
+
 /// The profile decides what is a proof, and so whether anything is written.
 #[test]
 fn profiles_tighten(rt: HostRuntime) {
     let mut slots = Slots::stopping_at(0, false);
-    let outcome = tighten_in(rt.alloc(), Profile::One, Bytes::new(WHOLE), &mut slots);
+    let outcome = tighten_by(rt.alloc(), Profile::One, WHOLE, &mut slots);
     same(&rt, slots.calls, 0);
     same(&rt, outcome, refused(51, Place::End));
-    let outcome = tighten_in(rt.alloc(), Profile::Two, Bytes::new(WHOLE), &mut slots);
+    let outcome = tighten_by(rt.alloc(), Profile::Two, WHOLE, &mut slots);
     holds_back(&rt, outcome, slots.calls > 0);
     same(&rt, outcome, tightened((0, 1, 1, 0)));
     same(&rt, WHOLE_ALONE.len(), 94);
@@ -310,11 +269,8 @@ fn profiles_tighten(rt: HostRuntime) {
 }
 
 /// A derivation that refers to one other, with its last reference.
-fn link(alloc: Global, before: u32, last: Option<u64>) -> Result<String, AllocError> {
-    match last {
-        Some(last) => format!(in alloc; "f G 1 1 0 1 {{ lin 1 {before} 1 }} {last}\n"),
-        None => format!(in alloc; "f G 1 1 0 1 {{ lin 1 {before} 1 }} -1\n"),
-    }
+fn link(alloc: Global, before: u32, last: i64) -> Result<String, AllocError> {
+    format!(in alloc; "f G 1 1 0 1 {{ lin 1 {before} 1 }} {last}\n")
 }
 
 fn front(alloc: Global, length: u32) -> Result<String, AllocError> {
@@ -334,20 +290,16 @@ fn add(rt: &impl Abort, text: &mut String, line: Result<String, AllocError>) {
     drop(line);
 }
 
-fn last_reference(place: u32, dropped: bool) -> Option<u64> {
-    if dropped {
-        Some(place as u64 + 2)
-    } else {
-        None
-    }
-}
-
 /// A chain of derivations, each of which refers to the one before, with these last references.
 fn chain(rt: &impl Abort, alloc: Global, length: u32, dropped: bool) -> String {
     let mut text = front(alloc, length).expect(rt, "a text");
     for place in 1..length {
         let before = if place == 1 { 0 } else { place };
-        let last = last_reference(place, dropped);
+        let last = if dropped {
+            i64::from(place.saturating_add(2))
+        } else {
+            -1
+        };
         add(rt, &mut text, link(alloc, before, last));
     }
     add(rt, &mut text, end(alloc, length));
@@ -371,7 +323,7 @@ fn stops_behind(rt: &impl Abort, alloc: Global, front: &[u8], fails: bool) {
         taken: front.len() as u64,
     };
     let mut slots = Slots::stopping_at(calls, fails);
-    let outcome = tighten(alloc, Bytes::new(IGNORED), &mut slots);
+    let outcome = tighten_to(alloc, IGNORED, &mut slots);
     holds_back(rt, outcome, slots.calls > 0);
     same(rt, outcome, Err(fault));
     took(rt, &slots, calls, front);
@@ -380,7 +332,7 @@ fn stops_behind(rt: &impl Abort, alloc: Global, front: &[u8], fails: bool) {
 /// The call that would be the last is not made.
 fn takes_all(rt: &impl Abort, alloc: Global, fails: bool) {
     let mut slots = Slots::stopping_at(ROUNDED.len() + 1, fails);
-    let outcome = tighten(alloc, Bytes::new(IGNORED), &mut slots);
+    let outcome = tighten_to(alloc, IGNORED, &mut slots);
     holds_back(rt, outcome, slots.calls > 0);
     same(rt, outcome.err(), None);
     took(rt, &slots, ROUNDED.len(), ROUNDED);
