@@ -1,13 +1,11 @@
 //! How far a certificate's text was read: what it has to have at its next token.
-ghost use Rattle.std.specs.Prelude.{◌≡◌};
-ghost use Rattle.vipr_explain.specs.Progress.{at_start, branch_ended, claim_passed};
-ghost use Rattle.vipr_explain.specs.Progress.{count_spelled, count_passed, entries_begun};
-ghost use Rattle.vipr_explain.specs.Progress.{entry_begun};
-ghost use Rattle.vipr_explain.specs.Progress.{entry_ended, first_of, first_of_item, index_of};
-ghost use Rattle.vipr_explain.specs.Progress.{item_begun, item_ended, item_word, keyword_of};
-ghost use Rattle.vipr_explain.specs.Progress.{name_passed, next_section, pair_begun, pair_ended};
-ghost use Rattle.vipr_explain.specs.Progress.{passed, reason_passed, row_ended, section_ended};
-ghost use Rattle.vipr_explain.specs.Progress.{counted_name, first_of_reason, pairs_begun};
+ghost use Rattle.std.specs.Prelude.{◌≡◌, ◌+◌};
+ghost use Rattle.vipr_explain.specs.Progress.{at_start, claim_passed, count_passed, count_spelled};
+ghost use Rattle.vipr_explain.specs.Progress.{counted_name, first_of, first_of_item};
+ghost use Rattle.vipr_explain.specs.Progress.{first_of_reason, in_u32, index_of, item_begun};
+ghost use Rattle.vipr_explain.specs.Progress.{item_ended, item_word, keyword_of, name_passed};
+ghost use Rattle.vipr_explain.specs.Progress.{next_section, pair_begun, part_begun, passed};
+ghost use Rattle.vipr_explain.specs.Progress.{reason_passed, row_ended, section_ended};
 
 /// The sections of a certificate, in their order.
 #[derive(Clone, Copy, PartialEq)]
@@ -196,18 +194,33 @@ impl TextProgress {
             Wanted::Direction => self.wanted = Wanted::RowCount,
             Wanted::Sense => self.wanted = Wanted::RightHandSide,
             Wanted::RightHandSide => self.wanted = Wanted::RowCount,
-            Wanted::RowCount => self.begin_pairs(count_of(word)),
+            Wanted::RowCount => {
+                self.set_parts(count_of(word));
+                self.begin_pair();
+            }
             Wanted::RowIndex => self.wanted = Wanted::RowCoefficient,
-            Wanted::RowCoefficient => self.end_pair(),
+            Wanted::RowCoefficient => {
+                self.end_part();
+                self.begin_pair();
+            }
             Wanted::Claim => self.pass_claim(word),
             Wanted::LowerBound => self.wanted = Wanted::UpperBound,
             Wanted::UpperBound => self.end_section(),
             Wanted::OpenBrace => self.wanted = Wanted::Reason,
             Wanted::Reason => self.pass_reason(word),
-            Wanted::EntryCount => self.begin_entries(count_of(word)),
+            Wanted::EntryCount => {
+                self.set_parts(count_of(word));
+                self.begin_part(Wanted::EntryIndex);
+            }
             Wanted::EntryIndex => self.wanted = Wanted::EntryMultiplier,
-            Wanted::EntryMultiplier => self.end_entry(),
-            Wanted::Branch => self.end_branch(),
+            Wanted::EntryMultiplier => {
+                self.end_part();
+                self.begin_part(Wanted::EntryIndex);
+            }
+            Wanted::Branch => {
+                self.end_part();
+                self.begin_part(Wanted::Branch);
+            }
             Wanted::CloseBrace => self.wanted = Wanted::LastReference,
             Wanted::LastReference => self.end_item(),
             Wanted::Nothing => {}
@@ -276,16 +289,22 @@ impl TextProgress {
         }
     }
 
-    // Begins so many pairs of a row.
-    fn begin_pairs(&mut self, count: u32)
-        ensures { self.new ≡ pairs_begun self.old count }
+    // Takes so many parts to be in the item.
+    fn set_parts(&mut self, count: u32)
+        ensures { self.new ≡ record self.old { part = 0; parts = count } }
     {
         self.part = 0;
         self.parts = count;
-        self.begin_pair();
     }
 
-    // Begins the next pair, if there is one.
+    // Ends a part of the item.
+    fn end_part(&mut self)
+        ensures { self.new ≡ record self.old { part = in_u32 (self.old.part + 1) } }
+    {
+        self.part = self.part.saturating_add(1);
+    }
+
+    // Begins the next pair of a row, if there is one.
     fn begin_pair(&mut self)
         ensures { self.new ≡ pair_begun self.old }
     {
@@ -294,14 +313,6 @@ impl TextProgress {
         } else {
             self.end_row();
         }
-    }
-
-    // Ends a pair.
-    fn end_pair(&mut self)
-        ensures { self.new ≡ pair_ended self.old }
-    {
-        self.part = self.part.saturating_add(1);
-        self.begin_pair();
     }
 
     // Ends a row.
@@ -315,41 +326,12 @@ impl TextProgress {
         }
     }
 
-    // Begins so many entries of a reason.
-    fn begin_entries(&mut self, count: u32)
-        ensures { self.new ≡ entries_begun self.old count }
-    {
-        self.part = 0;
-        self.parts = count;
-        self.begin_entry();
-    }
-
-    // Begins the next entry, if there is one.
-    fn begin_entry(&mut self)
-        ensures { self.new ≡ entry_begun self.old }
+    // Begins the next part of a reason, if there is one.
+    fn begin_part(&mut self, part: Wanted)
+        ensures { self.new ≡ part_begun part self.old }
     {
         self.wanted = if self.part < self.parts {
-            Wanted::EntryIndex
-        } else {
-            Wanted::CloseBrace
-        };
-    }
-
-    // Ends an entry.
-    fn end_entry(&mut self)
-        ensures { self.new ≡ entry_ended self.old }
-    {
-        self.part = self.part.saturating_add(1);
-        self.begin_entry();
-    }
-
-    // Ends a number of `uns`.
-    fn end_branch(&mut self)
-        ensures { self.new ≡ branch_ended self.old }
-    {
-        self.part = self.part.saturating_add(1);
-        self.wanted = if self.part < self.parts {
-            Wanted::Branch
+            part
         } else {
             Wanted::CloseBrace
         };
@@ -370,8 +352,7 @@ impl TextProgress {
     fn pass_reason(&mut self, word: &[u8])
         ensures { self.new ≡ reason_passed self.old word.now }
     {
-        self.part = 0;
-        self.parts = 4;
+        self.set_parts(4);
         self.wanted = first_of_reason(word);
     }
 }
