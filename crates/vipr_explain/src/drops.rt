@@ -155,9 +155,7 @@ fn names_constraint(index: u32, reason: &Reason) -> bool
     match reason.references() {
         References::Nothing => false,
         References::Entries(entries) => has_entry(entries, index),
-        References::Branches { i1, l1, i2, l2 } => {
-            i1 == index || l1 == index || i2 == index || l2 == index
-        }
+        References::Branches { i1, l1, i2, l2 } => [i1, l1, i2, l2].contains(&index),
     }
 }
 

@@ -4,9 +4,9 @@ use Rattle.vipr_spec.specs.Reading.{problem_read}
 use Rattle.vipr_bytes.specs.Known.{text_of}
 use Rattle.vipr_scan.specs.Giving.{rest_of}
 use Rattle.vipr_cert.specs.Items.{solution_of}
-use Rattle.vipr_explain.specs.Found.{IsListedSolution}
+use Rattle.vipr_explain.specs.Found.{IsListedSolution, Missed}
 use Rattle.vipr_explain.proofs.Again.{known_by}
-use Rattle.vipr_explain.proofs.Lacks.{err_is, listed_lacks, only_after}
+use Rattle.vipr_explain.proofs.Lacks.{because, err_is, listed_fault, listed_lacks, only_after}
 use Rattle.vipr_explain.proofs.items.read_solution.Goals as goal
 
 pub returns-clause-found : goal.returns-clause-found
@@ -35,3 +35,9 @@ returns-in_err-nth_solution-clause-error g c =
     let m = c.in_err-nth_solution.field-0.0 in
     err_is c.from_residual-in_err-nth_solution.result _ c.from_residual-in_err-nth_solution.ensures.1 (only_after (g.T.Text.input c.args.text.now) m (λ i. (problem_read (text_of i) ≡ Ok ((p, old.left), rest_of old.rest)) × IsSome old.rest) _ c.in_ok-problem.ensures.read
     (λ i h. listed_lacks c.args.number (problem_read (text_of i)) p old.left (rest_of old.rest) m h.0 (c.in_err-nth_solution.ensures.error p c.in_ok-problem.ensures.knows h.1)))
+
+pub returns-in_err-problem-clause-error : goal.returns-in_err-problem-clause-error
+returns-in_err-problem-clause-error g c =
+    let m = c.in_err-problem.field-0.0 in
+    err_is c.from_residual.result _ c.from_residual.ensures.1 (only_after (g.T.Text.input c.args.text.now) m (λ i. Missed m (problem_read (text_of i))) _ c.in_err-problem.ensures.read
+    (λ i h. because m _ _ (listed_fault c.args.number (problem_read (text_of i))) h))
