@@ -203,36 +203,15 @@ impl Display for EntryLine<'_> {
             own: self.own,
             index,
         };
-        let arrow = Arrow {
-            is_at_fault,
-            position,
-        };
-        if position < MOST_ENTRIES || is_at_fault {
-            write!(f, "      {multiplier} x {constraint}{arrow}")
+        if is_at_fault {
+            write!(
+                f,
+                "      {multiplier} x {constraint} <-- entry {position}\n"
+            )
+        } else if position < MOST_ENTRIES {
+            write!(f, "      {multiplier} x {constraint}\n")
         } else {
             Ok(())
-        }
-    }
-}
-
-// The end of an entry's line.
-#[derive(Clone, Copy)]
-struct Arrow {
-    is_at_fault: bool,
-    position: usize,
-}
-
-impl Display for Arrow {
-    ghost use Rattle.vipr_explain.specs.Steps.{arrow_text};
-
-    ghost output = { λ a. Some (arrow_text a.is_at_fault a.position) };
-
-    fn fmt<W: Write>(&self, f: &mut Formatter<W>) -> fmt::Result {
-        let position = self.position;
-        if self.is_at_fault {
-            write!(f, " <-- entry {position}\n")
-        } else {
-            f.write_str("\n")
         }
     }
 }
