@@ -1,10 +1,11 @@
 //! A part of a line with carets below a place in it.
 ghost use Rattle.vipr_explain.specs.Excerpted.{carets_text, end_text, excerpt_text, front_text};
 ghost use Rattle.vipr_explain.specs.Excerpted.{head_text, part_text, room_for, room_text};
+ghost use Rattle.vipr_explain.specs.Excerpted.{spaces};
 ghost use Rattle.vipr_page.specs.Page.{line_byte};
 ghost use Rattle.vipr_page.specs.Written.{PutsText};
 ghost use Rattle.std.specs.Prelude.{◌≡◌, ℕ, ◌+◌, ◌++◌, ◌∷◌, true, [], max, min, length, take, drop};
-ghost use Rattle.std.specs.Prelude.{List, IfOk, IfErr, IfSome, OnOk, decimal, flat_map};
+ghost use Rattle.std.specs.Prelude.{List, IfOk, IfErr, IfSome, OnOk, codes, decimal, flat_map};
 ghost use Rattle.vipr_spec.specs.Input.{Input};
 ghost use Rattle.vipr_explain.specs.Letters.{HasGiven};
 ghost use Rattle.vipr_explain.specs.Excerpts.{IsExcerpt, ShowsLine, ReadsInLine, line_at};
@@ -184,8 +185,7 @@ impl Excerpt {
         let column = self.spot.column;
         page.put_spaces(margin);
         page.put_value(&format_args!("--> {file}:{line}:{column}\n"));
-        page.put_spaces(margin);
-        page.put(" |\n");
+        put_bar(page, margin);
     }
 
     // Shows the part of the line.
@@ -228,8 +228,7 @@ impl Excerpt {
         self.put_room(page);
         page.put_carets(count);
         page.put_value(&format_args!(" {label}\n"));
-        page.put_spaces(margin);
-        page.put(" |\n");
+        put_bar(page, margin);
     }
 
     // Shows as many spaces as the part of the line before the place has columns.
@@ -239,6 +238,14 @@ impl Excerpt {
         page.put_spaces(self.front().len());
         put_spaces_for(page, self.before.as_slice());
     }
+}
+
+// Shows a line that has nothing behind its bar.
+fn put_bar(page: &mut Page, margin: usize)
+    ensures { PutsText page.old page.new (spaces margin ++ codes " |\n") }
+{
+    page.put_spaces(margin);
+    page.put(" |\n");
 }
 
 // Shows as many spaces as bytes take columns.
