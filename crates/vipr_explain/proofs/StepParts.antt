@@ -6,6 +6,7 @@ use Rattle.vipr_spec.specs.Input.{Input}
 use Rattle.vipr_bytes.specs.Known.{IfKnown, text_of}
 use Rattle.vipr_cert.specs.declared.items.Derivation.{Derivation}
 use Rattle.vipr_check.specs.declared.detail.StepDetail.{StepDetail}
+use Rattle.vipr_check.specs.declared.detail.StepDetail.TheVariants as step
 use Rattle.vipr_explain.specs.Found.{AreFoundItems}
 use Rattle.vipr_explain.specs.Listed.{kept_derivation}
 use Rattle.vipr_explain.specs.Marked.{AreMarksOf}
@@ -63,6 +64,16 @@ pub puts_before : {E : Type 0} (p q s : Page) (a b : List ℕ) (r : Result (Unit
     → PutsText p q a → OnOk r (PutsText q s b) → OnOk r (PutsText p s (a ++ b))
 puts_before p q s a b (Ok u) first second = puts_then first second
 puts_before p q s a b (Err e) first second = tt
+
+-- no constraint is at fault
+pub no_cause : (input : Option Input) (file : List ℕ) (cause index : ℕ) (what : StepDetail)
+    → ((named : ℕ) → what ≡ step.Index named → ⊥) → IsCauseText input file cause index what []
+no_cause input file cause index (step.Index named) other = absurd (other named refl)
+no_cause input file cause index (step.Entry entry) other = refl
+no_cause input file cause index (step.Sum sum) other = refl
+no_cause input file cause index (step.Pair first second) other = refl
+no_cause input file cause index (step.Rows computed stated) other = refl
+no_cause input file cause index step.Nothing other = refl
 
 -- the whole of what is said of a derivation
 pub derivation_text : (input : Option Input) (file : List ℕ) (cause index : ℕ) (what : StepDetail)

@@ -25,6 +25,8 @@ use Rattle.vipr_explain.specs.Explained.{IsSolutionPlace, IsSolutionText, see_te
 use Rattle.vipr_explain.specs.Found.{AreItemsOf, IsListedSolution, OnlyIf}
 use Rattle.vipr_explain.specs.Lacking.{LacksItem}
 use Rattle.vipr_explain.specs.Goals.{goal_line, proved_text}
+use Rattle.vipr_explain.specs.Marked.{IsMarkOf}
+use Rattle.vipr_explain.specs.StepPages.{IsSpotText, name_spot}
 use Rattle.vipr_explain.specs.Solutions.{fault_lines, solution_error}
 use Rattle.vipr_explain.specs.Pages.{ExplainsVerdict, IsClaimText, IsPageFor, IsRefusalText}
 use Rattle.vipr_explain.specs.Pages.{IsVerdictPage, PutsSome, PutsSomeWith, ShowsWith, not_read}
@@ -110,6 +112,15 @@ pub proved_lines : (input : Option Input) (report : Report) (p q s : Page)
 proved_lines input report p q s (Ok u) front goal =
     (proved_text report.claim ++ goal.0, record { goal = goal.0; is_goal = goal.1; parts = refl }, puts_then front goal.2)
 proved_lines input report p q s (Err e) front goal = tt
+
+pub solution_place : (input : Option Input) (file : List ℕ) (number : ℕ) (mark : Option ItemPlace)
+    (p q : Page) (r : Result (Unit {0}) Missing) → IsMarkOf input number mark
+    → IfOk r (λ _. PutsSome (IsSpotText input file (codes "this solution")
+    (option_map name_spot mark)) p q)
+    → IfOk r (λ _. PutsSome (IsSolutionPlace input file number) p q)
+solution_place input file number mark p q (Ok u) is_mark place =
+    (place.0, record { mark = mark; is_mark = is_mark; shown = place.1 }, place.2)
+solution_place input file number mark p q (Err e) is_mark place = tt
 
 pub solution_lines : (input : Option Input) (file : List ℕ) (number : ℕ) (d : Detail)
     (problem : is.Problem) (solution : is.Named spec.Row) (p q s t : Page)

@@ -1,76 +1,47 @@
 //! Explains a derivation that is refused, and the constraint that it needs, if that was dropped.
-ghost use Rattle.std.specs.Prelude.{IfErr, IfOk, List, ℕ};
+ghost use Rattle.std.specs.Prelude.{IfErr, IfOk};
 ghost use Rattle.vipr_explain.specs.Found.{OnlyIf};
 ghost use Rattle.vipr_explain.specs.Lacking.{LacksHead, LacksStep};
-ghost use Rattle.vipr_explain.specs.StepPages.{IsCauseText, IsDerivationText, IsDroppedPart};
-ghost use Rattle.vipr_page.specs.Written.{PutsText};
+ghost use Rattle.vipr_explain.specs.Pages.{PutsSome};
+ghost use Rattle.vipr_explain.specs.StepPages.{IsCauseText, IsDerivationText};
 
-use crate::drops::put_dropped;
 use crate::missing::Missing;
-use crate::step::put_step;
+use crate::step::StepFault;
 use crate::text::{Subject, Text};
 use vipr_check::{StepDetail, cause};
 use vipr_page::Page;
 
-/// Explains the refusal of the derivation of this constraint, and of what it needs.
-pub(crate) fn put_derivation<T: Text>(
-    page: &mut Page,
-    subject: &Subject<'_, T>,
-    cause: u8,
-    index: u32,
-    what: &StepDetail,
-) -> Result<(), Missing>
-    ensures shown { IfOk result (λ _. (text : List ℕ)
-        × IsDerivationText (T.input subject.now.text.now) subject.now.file.now cause index what.now
-        text × PutsText page.old page.new text) }
-    ensures error { IfErr result
-        (OnlyIf (T.input subject.now.text.now) (LacksStep index what.now)) }
-{
-    put_step(page, subject, cause, index, what)?;
-    put_cause(page, subject, cause, index, what)
-}
-
-// Explains that a constraint was dropped, if that is the cause.
-fn put_cause<T: Text>(
-    page: &mut Page,
-    subject: &Subject<'_, T>,
-    cause: u8,
-    index: u32,
-    what: &StepDetail,
-) -> Result<(), Missing>
-    ensures shown { IfOk result (λ _. (text : List ℕ)
-        × IsCauseText (T.input subject.now.text.now) subject.now.file.now cause index what.now text
-        × PutsText page.old page.new text) }
-    ensures error { IfErr result (OnlyIf (T.input subject.now.text.now) LacksHead) }
-{
-    match what {
-        StepDetail::Index(named) => {
-            put_if_dropped(page, subject, cause == cause::DROPPED, *named, index)
-        }
-        StepDetail::Entry(_) => Ok(()),
-        StepDetail::Sum(_) => Ok(()),
-        StepDetail::Pair(_, _) => Ok(()),
-        StepDetail::Rows { .. } => Ok(()),
-        StepDetail::Nothing => Ok(()),
+impl<T: Text> Subject<'_, T> {
+    /// Explains the refusal of a derivation, and of what it needs.
+    pub(crate) fn put_derivation(
+        &self,
+        page: &mut Page,
+        fault: &StepFault<'_>,
+    ) -> Result<(), Missing>
+        ensures shown { IfOk result (λ _. PutsSome (IsDerivationText (T.input self.now.text.now)
+            self.now.file.now fault.now.cause fault.now.index fault.now.what.now)
+            page.old page.new) }
+        ensures error { IfErr result (OnlyIf (T.input self.now.text.now)
+            (LacksStep fault.now.index fault.now.what.now)) }
+    {
+        self.put_step(page, fault)?;
+        self.put_cause(page, fault)
     }
-}
 
-// Explains that a constraint is needed, if it was dropped.
-fn put_if_dropped<T: Text>(
-    page: &mut Page,
-    subject: &Subject<'_, T>,
-    is_dropped: bool,
-    index: u32,
-    needed_by: u32,
-) -> Result<(), Missing>
-    ensures shown { IfOk result (λ _. (text : List ℕ)
-        × IsDroppedPart (T.input subject.now.text.now) subject.now.file.now is_dropped index
-        needed_by text × PutsText page.old page.new text) }
-    ensures error { IfErr result (OnlyIf (T.input subject.now.text.now) LacksHead) }
-{
-    if is_dropped {
-        put_dropped(page, subject, index, needed_by)
-    } else {
-        Ok(())
+    // Explains that the constraint at fault was dropped, if that is the cause.
+    fn put_cause(&self, page: &mut Page, fault: &StepFault<'_>) -> Result<(), Missing>
+        ensures shown { IfOk result (λ _. PutsSome (IsCauseText (T.input self.now.text.now)
+            self.now.file.now fault.now.cause fault.now.index fault.now.what.now)
+            page.old page.new) }
+        ensures error { IfErr result (OnlyIf (T.input self.now.text.now) LacksHead) }
+    {
+        let StepDetail::Index(named) = fault.what else {
+            return Ok(());
+        };
+        if fault.cause == cause::DROPPED {
+            self.put_dropped(page, *named, fault.index)
+        } else {
+            Ok(())
+        }
     }
 }

@@ -1,5 +1,5 @@
 //! Explains that a constraint is needed that was dropped.
-ghost use Rattle.std.specs.Prelude.{◌≡◌, ◌+◌, ◌<◌, ◌^◌, ◌==◌, IfOk, IsSome, List, length, ℕ};
+ghost use Rattle.std.specs.Prelude.{◌≡◌, ◌+◌, ◌<◌, ◌^◌, ◌==◌, IfOk, IsSome, length};
 ghost use Rattle.std.specs.Prelude.{IfErr, IfSome, option_map, suc, true};
 ghost use Rattle.std.specs.List.{list_any};
 ghost use Rattle.vipr_spec.specs.Certificate.{Problem as ProblemMeant};
@@ -11,7 +11,7 @@ ghost use Rattle.vipr_explain.specs.Drops.{IsLastUse, ReadsNext, last_among, lat
 ghost use Rattle.vipr_explain.specs.Drops.{names_constraint};
 ghost use Rattle.vipr_explain.specs.Found.{HasFault, OnlyIf, head_read};
 ghost use Rattle.vipr_explain.specs.Lacking.{LacksHead};
-ghost use Rattle.vipr_explain.specs.Listed.{place_found};
+ghost use Rattle.vipr_explain.specs.Pages.{PutsSome};
 ghost use Rattle.vipr_explain.specs.StepPages.{IsDroppedText, IsSpotText, dropped_line, last_label};
 ghost use Rattle.vipr_explain.specs.StepPages.{last_spot};
 ghost use Rattle.vipr_page.specs.Written.{PutsText};
@@ -19,7 +19,6 @@ ghost use Rattle.vipr_page.specs.Written.{PutsText};
 use crate::items::open_derivations;
 use crate::marks::{ItemPlace, find_constraints, mark_of};
 use crate::missing::Missing;
-use crate::spots::put_excerpt;
 use crate::text::{Subject, Text};
 use std::alloc::Global;
 use vipr_bytes::Source;
@@ -29,23 +28,34 @@ use vipr_page::Page;
 use vipr_read::Derivations;
 use vipr_scan::TextError;
 
-/// Explains that a dropped constraint is needed: the place of its last reference, and what
-/// that would have to be.
-pub(crate) fn put_dropped<T: Text>(
-    page: &mut Page,
-    subject: &Subject<'_, T>,
-    index: u32,
-    needed_by: u32,
-) -> Result<(), Missing>
-    ensures shown { IfOk result (λ _. (text : List ℕ)
-        × IsDroppedText (T.input subject.now.text.now) subject.now.file.now index needed_by text
-        × PutsText page.old page.new text) }
-    ensures error { IfErr result (OnlyIf (T.input subject.now.text.now) LacksHead) }
-{
-    put_dropped_line(page, index);
-    let marks = find_constraints(subject.alloc, subject.text, [index].as_slice())?;
-    let last = last_use(subject.alloc, subject.text, index, needed_by)?;
-    put_last(page, subject, marks.as_slice(), index, last)
+impl<T: Text> Subject<'_, T> {
+    /// Explains that a dropped constraint is needed: the place of its last reference, and what
+    /// that would have to be.
+    pub(crate) fn put_dropped(&self, page: &mut Page, index: u32, user: u32) -> Result<(), Missing>
+        ensures shown { IfOk result (λ _. PutsSome (IsDroppedText (T.input self.now.text.now)
+            self.now.file.now index user) page.old page.new) }
+        ensures error { IfErr result (OnlyIf (T.input self.now.text.now) LacksHead) }
+    {
+        put_dropped_line(page, index);
+        let marks = find_constraints(self.alloc, self.text, [index].as_slice())?;
+        let last = last_use(self.alloc, self.text, index, user)?;
+        self.put_last(page, mark_of(marks.as_slice(), index), last)
+    }
+
+    // Shows the last reference of an item, if it was found, and what it would have to be.
+    fn put_last(&self, page: &mut Page, mark: Option<ItemPlace>, last: u32) -> Result<(), Missing>
+        ensures shown { IfOk result (λ _. PutsSome (IsSpotText (T.input self.now.text.now)
+            self.now.file.now (last_label last) (option_map last_spot mark)) page.old page.new) }
+        ensures error { IfErr result (OnlyIf (T.input self.now.text.now) (λ i. i.fails ≡ true)) }
+    {
+        match mark {
+            Some(mark) => {
+                let label = format!(in self.alloc; "write {last} or -1 here")?;
+                self.put_excerpt(page, mark.last, mark.last_size, label.as_str())
+            }
+            None => Ok(()),
+        }
+    }
 }
 
 // Says when a constraint was dropped.
@@ -55,30 +65,6 @@ fn put_dropped_line(page: &mut Page, index: u32)
     page.put_value(&format_args!(
         "  constraint {index} was dropped behind the last reference that it states\n"
     ));
-}
-
-// Shows the last reference, if it was found, and what it would have to be.
-fn put_last<T: Text>(
-    page: &mut Page,
-    subject: &Subject<'_, T>,
-    marks: &[ItemPlace],
-    index: u32,
-    last: u32,
-) -> Result<(), Missing>
-    ensures shown { IfOk result (λ _. (text : List ℕ)
-        × IsSpotText (T.input subject.now.text.now) subject.now.file.now (last_label last)
-        (option_map last_spot (place_found marks.now index)) text
-        × PutsText page.old page.new text) }
-    ensures error { IfErr result
-        (OnlyIf (T.input subject.now.text.now) (λ i. i.fails ≡ true)) }
-{
-    match mark_of(marks, index) {
-        Some(mark) => {
-            let label = format!(in subject.alloc; "write {last} or -1 here")?;
-            put_excerpt(page, subject, mark.last, mark.last_size, label.as_str())
-        }
-        None => Ok(()),
-    }
 }
 
 // The last derivation that names a constraint, as far as the text can be read.

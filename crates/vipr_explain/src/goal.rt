@@ -16,6 +16,7 @@ ghost use Rattle.vipr_explain.specs.Near.{AreNearLines, IsGapText, IsNoProofText
 ghost use Rattle.vipr_explain.specs.Near.{IsStrengthIn, IsStrengthOf, base_text, bases_by};
 ghost use Rattle.vipr_explain.specs.Near.{cut_mark_of, near_head, near_text, some_bases};
 ghost use Rattle.vipr_explain.specs.Nearing.{near_of};
+ghost use Rattle.vipr_explain.specs.Pages.{PutsSome};
 ghost use Rattle.vipr_page.specs.Written.{PutsText};
 ghost use Rattle.vipr_explain.specs.declared.shown.PlacedItems.{PlacedItems};
 
@@ -31,87 +32,74 @@ use vipr_frac::Frac;
 use vipr_linear::Constraint;
 use vipr_page::{Algebra, Page, size_of};
 
-/// Explains a verified certificate: the constraint that proves its dual side, in algebra.
-pub(crate) fn put_goal<T: Text>(
-    page: &mut Page,
-    subject: &Subject<'_, T>,
-    report: &Report,
-) -> Result<(), Missing>
-    ensures shown { IfOk result (λ _. (text : List ℕ)
-        × IsProvedText (T.input subject.now.text.now) report.now text
-        × PutsText page.old page.new text) }
-    ensures error { IfErr result
-        (OnlyIf (T.input subject.now.text.now) (LacksGoal report.now.goal)) }
-{
-    let claim = &report.claim;
-    page.put_value(&format_args!("proved: {claim}\n"));
-    put_goal_line(page, subject, report.goal)
-}
+impl<T: Text> Subject<'_, T> {
+    /// Explains a verified certificate: the constraint that proves its dual side, in algebra.
+    pub(crate) fn put_goal(&self, page: &mut Page, report: &Report) -> Result<(), Missing>
+        ensures shown { IfOk result (λ _. PutsSome
+            (IsProvedText (T.input self.now.text.now) report.now) page.old page.new) }
+        ensures error { IfErr result
+            (OnlyIf (T.input self.now.text.now) (LacksGoal report.now.goal)) }
+    {
+        let claim = &report.claim;
+        page.put_value(&format_args!("proved: {claim}\n"));
+        self.put_goal_line(page, report.goal)
+    }
 
-// Shows the constraint that proves the dual side, if one has to.
-fn put_goal_line<T: Text>(
-    page: &mut Page,
-    subject: &Subject<'_, T>,
-    goal: Option<u32>,
-) -> Result<(), Missing>
-    ensures shown { IfOk result (λ _. (text : List ℕ)
-        × IsGoalText (T.input subject.now.text.now) goal text
-        × PutsText page.old page.new text) }
-    ensures error { IfErr result (OnlyIf (T.input subject.now.text.now) (LacksGoal goal)) }
-{
-    match goal {
-        Some(goal) => put_goal_item(page, subject, goal),
-        None => {
-            page.put("  nothing has to be proved of the dual side\n");
-            Ok(())
+    // Shows the constraint that proves the dual side, if one has to.
+    fn put_goal_line(&self, page: &mut Page, goal: Option<u32>) -> Result<(), Missing>
+        ensures shown { IfOk result (λ _. PutsSome
+            (IsGoalText (T.input self.now.text.now) goal) page.old page.new) }
+        ensures error { IfErr result (OnlyIf (T.input self.now.text.now) (LacksGoal goal)) }
+    {
+        match goal {
+            Some(goal) => self.put_goal_item(page, goal),
+            None => {
+                page.put("  nothing has to be proved of the dual side\n");
+                Ok(())
+            }
         }
     }
-}
 
-// Shows the constraint that proves the dual side.
-fn put_goal_item<T: Text>(
-    page: &mut Page,
-    subject: &Subject<'_, T>,
-    goal: u32,
-) -> Result<(), Missing>
-    ensures shown { IfOk result (λ _. (known : PlacedItems)
-        × AreItemsOf (T.input subject.now.text.now) (goal ∷ []) known
-        × PutsText page.old page.new (goal_line known goal)) }
-    ensures error { IfErr result (OnlyIf (T.input subject.now.text.now) (LacksItems (goal ∷ []))) }
-{
-    let known = PlacedItems::read(subject, [goal].as_slice())?;
-    let item = ListedConstraint {
-        known: &known,
-        index: goal,
-    };
-    page.put_value(&format_args!("  goal   {item}\n"));
-    Ok(())
-}
+    // Shows the constraint that proves the dual side.
+    fn put_goal_item(&self, page: &mut Page, goal: u32) -> Result<(), Missing>
+        ensures shown { IfOk result (λ _. (known : PlacedItems)
+            × AreItemsOf (T.input self.now.text.now) (goal ∷ []) known
+            × PutsText page.old page.new (goal_line known goal)) }
+        ensures error { IfErr result (OnlyIf (T.input self.now.text.now) (LacksItems (goal ∷ []))) }
+    {
+        let known = PlacedItems::read(self, [goal].as_slice())?;
+        let item = ListedConstraint {
+            known: &known,
+            index: goal,
+        };
+        page.put_value(&format_args!("  goal   {item}\n"));
+        Ok(())
+    }
 
-/// Explains that no constraint proves the claim: what is wanted, and the nearest constraints
-/// with the assumptions that they rest on.
-pub(crate) fn put_no_proof<T: Text>(
-    page: &mut Page,
-    subject: &Subject<'_, T>,
-    goal: Option<&Constraint>,
-) -> Result<(), Missing>
-    ensures shown { IfOk result (λ _. (text : List ℕ)
-        × IsNoProofText (T.input subject.now.text.now)
-        (option_map (λ c. constraint_of c.now) goal.entry) text × PutsText page.old page.new text) }
-    ensures error { IfErr result (OnlyIf (T.input subject.now.text.now)
-        (λ i. (i.fails ≡ true) ⊎ HasFault (all_derivations_read (text_of i)))) }
-{
-    let near = find_near(subject.alloc, subject.text, goal)?;
-    let nearest = near.as_slice();
-    let known = known_of(subject, nearest)?;
-    put_wanted(page, &known.items.problem, goal);
-    page.put(head_of(nearest));
-    put_all_near(page, &known, goal, nearest);
-    page.put_help(
-        "join the branches by `uns i1 l1 i2 l2`, so that no assumption is left, \
-         or claim what is proved behind RTP",
-    );
-    Ok(())
+    /// Explains that no constraint proves the claim: what is wanted, and the nearest constraints
+    /// with the assumptions that they rest on.
+    pub(crate) fn put_no_proof(
+        &self,
+        page: &mut Page,
+        goal: Option<&Constraint>,
+    ) -> Result<(), Missing>
+        ensures shown { IfOk result (λ _. PutsSome (IsNoProofText (T.input self.now.text.now)
+            (option_map (λ c. constraint_of c.now) goal.entry)) page.old page.new) }
+        ensures error { IfErr result (OnlyIf (T.input self.now.text.now)
+            (λ i. (i.fails ≡ true) ⊎ HasFault (all_derivations_read (text_of i)))) }
+    {
+        let near = find_near(self.alloc, self.text, goal)?;
+        let nearest = near.as_slice();
+        let known = known_of(self, nearest)?;
+        put_wanted(page, &known.items.problem, goal);
+        page.put(head_of(nearest));
+        put_all_near(page, &known, goal, nearest);
+        page.put_help(
+            "join the branches by `uns i1 l1 i2 l2`, so that no assumption is left, \
+             or claim what is proved behind RTP",
+        );
+        Ok(())
+    }
 }
 
 // What stands in front of the nearest constraints.
@@ -172,9 +160,8 @@ fn put_wanted(page: &mut Page, problem: &Problem, goal: Option<&Constraint>)
 
 // Shows the constraints that come near.
 fn put_all_near(page: &mut Page, known: &PlacedItems, goal: Option<&Constraint>, near: &[Near])
-    ensures { (text : List ℕ) × AreNearLines known.now
-        (option_map (λ c. constraint_of c.now) goal.entry) (map near_of near.now) text
-        × PutsText page.old page.new text }
+    ensures { PutsSome (AreNearLines known.now (option_map (λ c. constraint_of c.now) goal.entry)
+        (map near_of near.now)) page.old page.new }
 {
     for item in near {
         put_near(page, known, goal, item);
@@ -199,9 +186,8 @@ fn put_near(page: &mut Page, known: &PlacedItems, goal: Option<&Constraint>, nea
 
 // Says whether a constraint is as strong as the goal, if there is one.
 fn put_strength(page: &mut Page, items: &Items, goal: Option<&Constraint>, index: u32)
-    ensures { (text : List ℕ) × IsStrengthIn items.now
-        (option_map (λ c. constraint_of c.now) goal.entry) index text
-        × PutsText page.old page.new text }
+    ensures { PutsSome (IsStrengthIn items.now
+        (option_map (λ c. constraint_of c.now) goal.entry) index) page.old page.new }
 {
     match goal {
         Some(goal) => put_known_strength(page, items, goal, index),
@@ -211,9 +197,8 @@ fn put_strength(page: &mut Page, items: &Items, goal: Option<&Constraint>, index
 
 // The same if the constraint is known.
 fn put_known_strength(page: &mut Page, items: &Items, goal: &Constraint, index: u32)
-    ensures { (text : List ℕ)
-        × IsStrengthOf (constraint_of goal.now) (known_constraint items.now index) text
-        × PutsText page.old page.new text }
+    ensures { PutsSome (IsStrengthOf (constraint_of goal.now)
+        (known_constraint items.now index)) page.old page.new }
 {
     match items.constraint(index) {
         Some(constraint) => put_comparison(page, goal, constraint),
@@ -223,9 +208,8 @@ fn put_known_strength(page: &mut Page, items: &Items, goal: &Constraint, index: 
 
 // Compares a constraint with the goal.
 fn put_comparison(page: &mut Page, goal: &Constraint, constraint: &Constraint)
-    ensures { (text : List ℕ)
-        × IsStrengthOf (constraint_of goal.now) (Some (constraint_of constraint.now)) text
-        × PutsText page.old page.new text }
+    ensures { PutsSome (IsStrengthOf (constraint_of goal.now)
+        (Some (constraint_of constraint.now))) page.old page.new }
 {
     if constraint.dominates(goal) {
         page.put(", strong enough");
@@ -236,7 +220,7 @@ fn put_comparison(page: &mut Page, goal: &Constraint, constraint: &Constraint)
 
 // Says by how much a right-hand side is too weak.
 fn put_gap(page: &mut Page, wanted: Frac, found: Frac)
-    ensures { (text : List ℕ) × IsGapText wanted found text × PutsText page.old page.new text }
+    ensures { PutsSome (IsGapText wanted found) page.old page.new }
 {
     match wanted.add(found.neg()) {
         Ok(gap) => put_size(page, gap),

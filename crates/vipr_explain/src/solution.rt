@@ -1,7 +1,7 @@
 //! Explains a listed solution that is refused, and a primal bound that no listed one
 //! attains.
 ghost use Rattle.std.specs.Prelude.{◌≡◌, ◌≤◌, ◌⊎◌, true, IfErr, IfOk, IfSome, List, length};
-ghost use Rattle.std.specs.Prelude.{[], if◌then◌else◌, nat_lt, slice_get, ℕ, ◌<◌, IsSome, Ok, OnOk};
+ghost use Rattle.std.specs.Prelude.{[], if◌then◌else◌, nat_lt, slice_get, ◌<◌, IsSome, Ok, OnOk};
 ghost use Rattle.std.specs.Prelude.{◌∷◌, Some, map, suc};
 ghost use Rattle.vipr_spec.specs.Certificate.{Named as NamedMeant, Problem as ProblemMeant};
 ghost use Rattle.vipr_spec.specs.Constraint.{Row as RowMeant};
@@ -18,6 +18,7 @@ ghost use Rattle.vipr_explain.specs.Explained.{ArePlacesFor, IsSolutionPlace, Is
 ghost use Rattle.vipr_explain.specs.Found.{HasFault, Missed, OnlyIf, all_solutions_read};
 ghost use Rattle.vipr_explain.specs.Lacking.{LacksBroken, LacksSolution};
 ghost use Rattle.vipr_explain.specs.Marked.{AreMarksOf};
+ghost use Rattle.vipr_explain.specs.Pages.{PutsSome};
 ghost use Rattle.vipr_explain.specs.declared.marks.ItemPlace.{ItemPlace};
 ghost use Rattle.vipr_explain.specs.Solutions.{best_text, broken_text, false_text, not_whole_text};
 ghost use Rattle.vipr_explain.specs.Solutions.{overflow_lines, overflow_text, primal_error};
@@ -30,7 +31,6 @@ use crate::items::{open_problem, read_solution};
 use crate::marks::{ItemPlace, find_constraints, find_solution, mark_of};
 use crate::missing::Missing;
 use crate::shown::LinePart;
-use crate::spots::put_excerpt;
 use crate::text::{Subject, Text};
 use crate::values::Values;
 use std::alloc::Global;
@@ -45,62 +45,128 @@ use vipr_read::Solutions;
 /// How many solutions are shown.
 const MOST_SOLUTIONS: u32 = 10;
 
-/// Explains the refusal of the solution of this number.
-pub(crate) fn put_solution<T: Text>(
-    page: &mut Page,
-    subject: &Subject<'_, T>,
-    number: u32,
-    detail: &Detail,
-) -> Result<(), Missing>
-    ensures shown { IfOk result (λ _. (text : List ℕ)
-        × IsSolutionText (T.input subject.now.text.now) subject.now.file.now number detail.now text
-        × PutsText page.old page.new text) }
-    ensures error { IfErr result
-        (OnlyIf (T.input subject.now.text.now) (LacksSolution number detail.now)) }
-{
-    let (problem, solution) = read_solution(subject.alloc, subject.text, number)?;
-    put_error(page, number, &solution, detail);
-    put_place(page, subject, number)?;
-    put_detail(page, subject, &problem, &solution.item, detail)
-}
+impl<T: Text> Subject<'_, T> {
+    /// Explains the refusal of the solution of this number.
+    pub(crate) fn put_solution(
+        &self,
+        page: &mut Page,
+        number: u32,
+        detail: &Detail,
+    ) -> Result<(), Missing>
+        ensures shown { IfOk result (λ _. PutsSome (IsSolutionText (T.input self.now.text.now)
+            self.now.file.now number detail.now) page.old page.new) }
+        ensures error { IfErr result
+            (OnlyIf (T.input self.now.text.now) (LacksSolution number detail.now)) }
+    {
+        let (problem, solution) = read_solution(self.alloc, self.text, number)?;
+        put_error(page, number, &solution, detail);
+        self.put_solution_place(page, number)?;
+        self.put_solution_fault(page, &problem, &solution.item, detail)
+    }
 
-// Shows the fault.
-fn put_detail<T: Text>(
-    page: &mut Page,
-    subject: &Subject<'_, T>,
-    problem: &Problem,
-    solution: &Solution,
-    detail: &Detail,
-) -> Result<(), Missing>
-    ensures shown { IfOk result (λ _. (places : List ItemPlace)
-        × ArePlacesFor (T.input subject.now.text.now) detail.now places
-        × PutsText page.old page.new
-        (fault_lines problem.now places solution.now.0 detail.now)) }
-    ensures error { IfErr result (OnlyIf (T.input subject.now.text.now)
-        (λ i. (i.fails ≡ true) ⊎ LacksBroken detail.now problem.now)) }
-{
-    match detail {
-        Detail::NotWhole {
-            variable,
-            value,
-            ..
-        } => {
-            put_not_whole(page, problem, *variable, *value);
-            Ok(())
+    // Shows the place of a solution.
+    fn put_solution_place(&self, page: &mut Page, number: u32) -> Result<(), Missing>
+        ensures shown { IfOk result (λ _. PutsSome (IsSolutionPlace (T.input self.now.text.now)
+            self.now.file.now number) page.old page.new) }
+        ensures error { IfErr result (OnlyIf (T.input self.now.text.now) (λ i. i.fails ≡ true)) }
+    {
+        let mark = find_solution(self.alloc, self.text, number)?;
+        self.put_name(page, mark, "this solution")
+    }
+
+    // Shows the fault.
+    fn put_solution_fault(
+        &self,
+        page: &mut Page,
+        problem: &Problem,
+        solution: &Solution,
+        detail: &Detail,
+    ) -> Result<(), Missing>
+        ensures shown { IfOk result (λ _. (places : List ItemPlace)
+            × ArePlacesFor (T.input self.now.text.now) detail.now places
+            × PutsText page.old page.new
+            (fault_lines problem.now places solution.now.0 detail.now)) }
+        ensures error { IfErr result (OnlyIf (T.input self.now.text.now)
+            (λ i. (i.fails ≡ true) ⊎ LacksBroken detail.now problem.now)) }
+    {
+        match detail {
+            Detail::NotWhole {
+                variable,
+                value,
+                ..
+            } => {
+                put_not_whole(page, problem, *variable, *value);
+                Ok(())
+            }
+            Detail::Breaks {
+                constraint,
+                left,
+                ..
+            } => self.put_broken(page, problem, *constraint, solution, *left),
+            Detail::SolutionOverflow { at, .. } => {
+                put_overflow_at(page, at);
+                Ok(())
+            }
+            Detail::Step { .. } => Ok(()),
+            Detail::NoProof(_) => Ok(()),
+            Detail::NoPrimal(_) => Ok(()),
+            Detail::None => Ok(()),
         }
-        Detail::Breaks {
-            constraint,
-            left,
-            ..
-        } => put_broken(page, subject, problem, *constraint, solution, *left),
-        Detail::SolutionOverflow { at, .. } => {
-            put_overflow_at(page, at);
-            Ok(())
+    }
+
+    // Shows a constraint that is false, and the values at its variables.
+    fn put_broken(
+        &self,
+        page: &mut Page,
+        problem: &Problem,
+        index: u32,
+        solution: &Solution,
+        left: Frac,
+    ) -> Result<(), Missing>
+        ensures shown { IfOk result (λ _. (places : List ItemPlace)
+            × AreMarksOf (T.input self.now.text.now) (index ∷ []) places
+            × PutsText page.old page.new (broken_text problem.now.names places index
+            solution.now.0 left (slice_get problem.now.constraints index))) }
+        ensures error { IfErr result (OnlyIf (T.input self.now.text.now)
+            (λ i. (i.fails ≡ true) ⊎ (length problem.now.constraints ≤ index))) }
+    {
+        match problem.cons().get(index as usize) {
+            Some(broken) => {
+                let marks = find_constraints(self.alloc, self.text, [index].as_slice())?;
+                put_false(page, problem, index, broken, marks.as_slice());
+                put_values(page, problem, &broken.item, solution);
+                put_sides(page, &broken.item, left);
+                Ok(())
+            }
+            None => Err(Missing::Text),
         }
-        Detail::Step { .. } => Ok(()),
-        Detail::NoProof(_) => Ok(()),
-        Detail::NoPrimal(_) => Ok(()),
-        Detail::None => Ok(()),
+    }
+
+    /// Explains that no listed solution attains the primal bound: the best value of those
+    /// listed.
+    pub(crate) fn put_no_primal(&self, page: &mut Page, bound: Frac) -> Result<(), Missing>
+        ensures shown { IfOk result (λ _. PutsSome
+            (IsNoPrimalText (T.input self.now.text.now) bound) page.old page.new) }
+        ensures error { IfErr result
+            (OnlyIf (T.input self.now.text.now) (λ i. HasFault (all_solutions_read (text_of i)))) }
+    {
+        put_primal_error(page, bound);
+        let best = self.put_listed_values(page)?;
+        put_best(page, best);
+        Ok(())
+    }
+
+    // Shows the objective at the listed solutions, and answers its best value.
+    fn put_listed_values(&self, page: &mut Page) -> Result<Option<Frac>, Missing>
+        ensures shown { IfOk result (λ best. (p : ProblemMeant) × (valued : List Valued)
+            × ShowsValues p valued best page.old page.new
+            × IfKnown (T.input self.now.text.now)
+            (λ i. AreListed (text_of i) p (map (λ s. s.0) valued))) }
+        ensures error { IfErr result
+            (OnlyIf (T.input self.now.text.now) (λ i. HasFault (all_solutions_read (text_of i)))) }
+    {
+        let (problem, mut solutions) = open_problem(self.alloc, self.text)?;
+        put_all_values(page, self.alloc, &problem, &mut solutions)
     }
 }
 
@@ -121,19 +187,6 @@ fn fault_of(detail: &Detail) -> &'static str
         Detail::NotWhole { .. } => "` is not whole at an integer variable\n",
         Detail::Breaks { .. } => "` breaks a constraint\n",
         _ => "` has a value past 2^127 - 1\n",
-    }
-}
-
-// Shows the place of a solution.
-fn put_place<T: Text>(page: &mut Page, subject: &Subject<'_, T>, number: u32) -> Result<(), Missing>
-    ensures shown { IfOk result (λ _. (text : List ℕ)
-        × IsSolutionPlace (T.input subject.now.text.now) subject.now.file.now number text
-        × PutsText page.old page.new text) }
-    ensures error { IfErr result (OnlyIf (T.input subject.now.text.now) (λ i. i.fails ≡ true)) }
-{
-    match find_solution(subject.alloc, subject.text, number)? {
-        Some(mark) => put_excerpt(page, subject, mark.spot, mark.size, "this solution"),
-        None => Ok(()),
     }
 }
 
@@ -166,34 +219,6 @@ fn put_not_whole(page: &mut Page, problem: &Problem, variable: u32, value: Frac)
         "  {name} (variable {variable}) is {value} here, and has to be whole (INT)\n  \
          = help: write whole values, or take the variable out of INT\n"
     ));
-}
-
-// Shows a constraint that is false, and the values at its variables.
-fn put_broken<T: Text>(
-    page: &mut Page,
-    subject: &Subject<'_, T>,
-    problem: &Problem,
-    index: u32,
-    solution: &Solution,
-    left: Frac,
-) -> Result<(), Missing>
-    ensures shown { IfOk result (λ _. (places : List ItemPlace)
-        × AreMarksOf (T.input subject.now.text.now) (index ∷ []) places
-        × PutsText page.old page.new (broken_text problem.now.names places index solution.now.0 left
-        (slice_get problem.now.constraints index))) }
-    ensures error { IfErr result (OnlyIf (T.input subject.now.text.now)
-        (λ i. (i.fails ≡ true) ⊎ (length problem.now.constraints ≤ index))) }
-{
-    match problem.cons().get(index as usize) {
-        Some(broken) => {
-            let marks = find_constraints(subject.alloc, subject.text, [index].as_slice())?;
-            put_false(page, problem, index, broken, marks.as_slice());
-            put_values(page, problem, &broken.item, solution);
-            put_sides(page, &broken.item, left);
-            Ok(())
-        }
-        None => Err(Missing::Text),
-    }
 }
 
 // Shows a constraint that is false.
@@ -242,25 +267,6 @@ fn put_values(page: &mut Page, problem: &Problem, constraint: &Constraint, solut
     });
 }
 
-/// Explains that no listed solution attains the primal bound: the best value of those
-/// listed.
-pub(crate) fn put_no_primal<T: Text>(
-    page: &mut Page,
-    subject: &Subject<'_, T>,
-    bound: Frac,
-) -> Result<(), Missing>
-    ensures shown { IfOk result (λ _. (text : List ℕ)
-        × IsNoPrimalText (T.input subject.now.text.now) bound text
-        × PutsText page.old page.new text) }
-    ensures error { IfErr result
-        (OnlyIf (T.input subject.now.text.now) (λ i. HasFault (all_solutions_read (text_of i)))) }
-{
-    put_primal_error(page, bound);
-    let best = put_values_listed(page, subject)?;
-    put_best(page, best);
-    Ok(())
-}
-
 // Says which primal bound is wanted.
 fn put_primal_error(page: &mut Page, bound: Frac)
     ensures { PutsText page.old page.new (primal_error bound) }
@@ -284,22 +290,6 @@ fn put_best(page: &mut Page, best: Option<Frac>)
              = help: list a solution behind SOL, or claim no primal bound behind RTP\n",
         ),
     }
-}
-
-// Shows the objective at the listed solutions, and answers its best value.
-fn put_values_listed<T: Text>(
-    page: &mut Page,
-    subject: &Subject<'_, T>,
-) -> Result<Option<Frac>, Missing>
-    ensures shown { IfOk result (λ best. (p : ProblemMeant) × (valued : List Valued)
-        × ShowsValues p valued best page.old page.new
-        × IfKnown (T.input subject.now.text.now)
-        (λ i. AreListed (text_of i) p (map (λ s. s.0) valued))) }
-    ensures error { IfErr result
-        (OnlyIf (T.input subject.now.text.now) (λ i. HasFault (all_solutions_read (text_of i)))) }
-{
-    let (problem, mut solutions) = open_problem(subject.alloc, subject.text)?;
-    put_all_values(page, subject.alloc, &problem, &mut solutions)
 }
 
 // The same of all solutions that are to come.

@@ -1,29 +1,47 @@
 //! A place in the text, as an explanation shows it.
-ghost use Rattle.std.specs.Prelude.{◌≡◌, IfErr, IfOk, List, true, ℕ};
+ghost use Rattle.std.specs.Prelude.{◌≡◌, IfErr, IfOk, option_map, true};
 ghost use Rattle.vipr_explain.specs.Found.{OnlyIf};
-ghost use Rattle.vipr_explain.specs.StepPages.{IsExcerptAt};
-ghost use Rattle.vipr_page.specs.Written.{PutsText};
+ghost use Rattle.vipr_explain.specs.Pages.{PutsSome};
+ghost use Rattle.vipr_explain.specs.StepPages.{IsExcerptAt, IsSpotText, name_spot};
 
 use crate::excerpt::Excerpt;
+use crate::marks::ItemPlace;
 use crate::missing::Missing;
 use crate::text::{Spot, Subject, Text};
 use vipr_page::Page;
 
-/// Shows the part of the line round a place, with carets below so many bytes of it and a label.
-pub(crate) fn put_excerpt<T: Text>(
-    page: &mut Page,
-    subject: &Subject<'_, T>,
-    spot: Spot,
-    size: usize,
-    label: &str,
-) -> Result<(), Missing>
-    ensures shown { IfOk result (λ _. (text : List ℕ)
-        × IsExcerptAt (T.input subject.now.text.now) subject.now.file.now spot size label.now text
-        × PutsText page.old page.new text) }
-    ensures error { IfErr result
-        (OnlyIf (T.input subject.now.text.now) (λ i. i.fails ≡ true)) }
-{
-    let excerpt = Excerpt::read(subject, spot)?;
-    excerpt.put(page, subject.file, size, label);
-    Ok(())
+impl<T: Text> Subject<'_, T> {
+    /// Shows the place of an item's name, if it was found, with a label.
+    pub(crate) fn put_name(
+        &self,
+        page: &mut Page,
+        mark: Option<ItemPlace>,
+        label: &str,
+    ) -> Result<(), Missing>
+        ensures shown { IfOk result (λ _. PutsSome (IsSpotText (T.input self.now.text.now)
+            self.now.file.now label.now (option_map name_spot mark)) page.old page.new) }
+        ensures error { IfErr result (OnlyIf (T.input self.now.text.now) (λ i. i.fails ≡ true)) }
+    {
+        match mark {
+            Some(mark) => self.put_excerpt(page, mark.spot, mark.size, label),
+            None => Ok(()),
+        }
+    }
+
+    /// Shows the part of the line round a place, with carets below so many bytes of it and a label.
+    pub(crate) fn put_excerpt(
+        &self,
+        page: &mut Page,
+        spot: Spot,
+        size: usize,
+        label: &str,
+    ) -> Result<(), Missing>
+        ensures shown { IfOk result (λ _. PutsSome (IsExcerptAt (T.input self.now.text.now)
+            self.now.file.now spot size label.now) page.old page.new) }
+        ensures error { IfErr result (OnlyIf (T.input self.now.text.now) (λ i. i.fails ≡ true)) }
+    {
+        let excerpt = Excerpt::read(self, spot)?;
+        excerpt.put(page, self.file, size, label);
+        Ok(())
+    }
 }

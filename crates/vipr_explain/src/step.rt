@@ -1,25 +1,21 @@
 //! Explains a derivation that is refused.
-ghost use Rattle.std.specs.Prelude.{◌≡◌, ◌++◌, ◌∷◌, [], IfErr, IfOk, List, OnOk, Option, Some, ℕ};
-ghost use Rattle.std.specs.Prelude.{codes, option_map, true};
-ghost use Rattle.std.specs.List.{enumerate_from, flat_map};
+ghost use Rattle.std.specs.Prelude.{◌≡◌, ◌++◌, IfErr, IfOk, OnOk, Some};
 ghost use Rattle.vipr_linear.specs.Constraint.{constraint_of};
 ghost use Rattle.vipr_explain.specs.Found.{LacksItems, OnlyIf};
 ghost use Rattle.vipr_explain.specs.Lacking.{LacksStep};
-ghost use Rattle.vipr_explain.specs.Listed.{place_found};
+ghost use Rattle.vipr_explain.specs.Pages.{PutsSome};
 ghost use Rattle.vipr_explain.specs.References.{entry_indices, reason_indices, shown_index};
 ghost use Rattle.vipr_explain.specs.References.{step_indices};
-ghost use Rattle.vipr_explain.specs.StepPages.{IsDetailText, IsRefusedText, IsRowsText, IsSpotText};
-ghost use Rattle.vipr_explain.specs.StepPages.{IsStepText, name_spot, pair_lines, stated_lines};
-ghost use Rattle.vipr_explain.specs.StepPages.{sum_lines};
-ghost use Rattle.vipr_explain.specs.Steps.{labelled, reason_text, step_error, step_help};
+ghost use Rattle.vipr_explain.specs.StepPages.{IsDetailText, IsRefusedText, IsRowsText};
+ghost use Rattle.vipr_explain.specs.StepPages.{IsStepText, pair_lines, stated_lines, sum_lines};
+ghost use Rattle.vipr_explain.specs.Steps.{labelled, step_error, step_help};
 ghost use Rattle.vipr_page.specs.Written.{PutsText};
 
 use crate::items::read_items;
-use crate::marks::{ItemPlace, mark_of};
+use crate::marks::mark_of;
 use crate::missing::Missing;
 use crate::reason::{ReasonLines, is_entry_shown};
 use crate::shown::PlacedItems;
-use crate::spots::put_excerpt;
 use crate::text::{Subject, Text};
 use std::alloc::{AllocError, Global};
 use std::fmt;
@@ -32,94 +28,107 @@ use vipr_page::{
     Algebra, Page, ShownName, put_difference, put_not_roundable, put_not_split, put_repair,
 };
 
-/// Explains the refusal of the derivation of this constraint.
-pub(crate) fn put_step<T: Text>(
-    page: &mut Page,
-    subject: &Subject<'_, T>,
-    cause: u8,
-    index: u32,
-    what: &StepDetail,
-) -> Result<(), Missing>
-    ensures shown { IfOk result (λ _. (text : List ℕ)
-        × IsStepText (T.input subject.now.text.now) subject.now.file.now cause index what.now text
-        × PutsText page.old page.new text) }
-    ensures error { IfErr result
-        (OnlyIf (T.input subject.now.text.now) (LacksStep index what.now)) }
-{
-    let own = read_items(subject.alloc, subject.text, [index].as_slice())?;
-    match own.derivation(index) {
-        Some(step) => put_refused(page, subject, cause, index, step, what),
-        None => Err(Missing::Text),
+/// What is wrong with a derivation: the cause, the index of its constraint, and the part at fault.
+#[derive(Clone, Copy)]
+pub(crate) struct StepFault<'a> {
+    pub(crate) cause: u8,
+    pub(crate) index: u32,
+    pub(crate) what: &'a StepDetail,
+}
+
+impl Display for StepFault<'_> {
+    ghost use Rattle.vipr_explain.specs.Steps.{step_fault};
+
+    ghost output = { λ s. Some (step_fault s.cause s.what.now) };
+
+    fn fmt<W: Write>(&self, f: &mut Formatter<W>) -> fmt::Result {
+        match self.what {
+            StepDetail::Index(index) => match self.cause {
+                cause::NOT_EARLIER => write!(f, "names constraint {index}, which is not earlier"),
+                cause::DROPPED => write!(f, "needs constraint {index}, which was dropped"),
+                _ => write!(
+                    f,
+                    "takes constraint {index} for an assumption, which it is not"
+                ),
+            },
+            StepDetail::Entry(entry) => match self.cause {
+                cause::OVERFLOW => write!(f, "is past 2^127 - 1 at entry {entry} of its sum"),
+                _ => write!(f, "turns a sense around at entry {entry} of its sum"),
+            },
+            StepDetail::Sum(_) => f.write_str("has a sum that can't be rounded"),
+            StepDetail::Pair(_, _) => {
+                f.write_str("has two assumptions that leave a gap, and are no split")
+            }
+            StepDetail::Rows { .. } => f.write_str("does not follow from its reason"),
+            StepDetail::Nothing => f.write_str("needs a listed solution"),
+        }
     }
 }
 
-// The same, of a derivation that was read.
-fn put_refused<T: Text>(
-    page: &mut Page,
-    subject: &Subject<'_, T>,
-    cause: u8,
-    index: u32,
-    step: &Derivation,
-    what: &StepDetail,
-) -> Result<(), Missing>
-    ensures shown { IfOk result (λ _. (text : List ℕ)
-        × IsRefusedText (T.input subject.now.text.now) subject.now.file.now cause index step.now
-        what.now text × PutsText page.old page.new text) }
-    ensures error { IfErr result (OnlyIf (T.input subject.now.text.now)
-        (LacksItems (step_indices index what.now step.now.reason))) }
-{
-    let wanted = step_indices(subject.alloc, index, &step.reason, what)?;
-    let known = PlacedItems::read(subject, wanted.as_slice())?;
-    put_error(page, cause, index, step, what);
-    put_place(page, subject, known.marks.as_slice(), index)?;
-    put_stated(page, &known, index, step, what);
-    let problem = &known.items.problem;
-    put_detail(page, subject.alloc, problem, &step.reason, what)?;
-    put_help(page, cause, problem.cons().len());
-    Ok(())
+impl<T: Text> Subject<'_, T> {
+    /// Explains the refusal of a derivation.
+    pub(crate) fn put_step(&self, page: &mut Page, fault: &StepFault<'_>) -> Result<(), Missing>
+        ensures shown { IfOk result (λ _. PutsSome (IsStepText (T.input self.now.text.now)
+            self.now.file.now fault.now.cause fault.now.index fault.now.what.now)
+            page.old page.new) }
+        ensures error { IfErr result (OnlyIf (T.input self.now.text.now)
+            (LacksStep fault.now.index fault.now.what.now)) }
+    {
+        let own = read_items(self.alloc, self.text, [fault.index].as_slice())?;
+        match own.derivation(fault.index) {
+            Some(step) => self.put_refused(page, fault, step),
+            None => Err(Missing::Text),
+        }
+    }
+
+    // The same, of a derivation that was read.
+    fn put_refused(
+        &self,
+        page: &mut Page,
+        fault: &StepFault<'_>,
+        step: &Derivation,
+    ) -> Result<(), Missing>
+        ensures shown { IfOk result (λ _. PutsSome (IsRefusedText (T.input self.now.text.now)
+            self.now.file.now fault.now.cause fault.now.index step.now fault.now.what.now)
+            page.old page.new) }
+        ensures error { IfErr result (OnlyIf (T.input self.now.text.now)
+            (LacksItems (step_indices fault.now.index fault.now.what.now step.now.reason))) }
+    {
+        let wanted = step_indices(self.alloc, fault, &step.reason)?;
+        let known = PlacedItems::read(self, wanted.as_slice())?;
+        put_error(page, fault, step);
+        let mark = mark_of(known.marks.as_slice(), fault.index);
+        self.put_name(page, mark, "this derivation")?;
+        put_stated(page, &known, fault, step);
+        let problem = &known.items.problem;
+        put_detail(page, self.alloc, problem, &step.reason, fault.what)?;
+        put_help(page, fault.cause, problem.cons().len());
+        Ok(())
+    }
 }
 
 // Says which derivation is at fault.
-fn put_error(page: &mut Page, cause: u8, index: u32, step: &Derivation, what: &StepDetail)
-    ensures { PutsText page.old page.new (step_error cause index step.now.name what.now) }
+fn put_error(page: &mut Page, fault: &StepFault<'_>, step: &Derivation)
+    ensures { PutsText page.old page.new
+        (step_error fault.now.cause fault.now.index step.now.name fault.now.what.now) }
 {
+    let index = fault.index;
     let name = ShownName(&step.name);
-    let fault = StepFault { cause, what };
     page.put_value(&format_args!("error: derivation {index} `{name}` {fault}\n"));
-}
-
-// Shows the place of a derivation, if it was found.
-fn put_place<T: Text>(
-    page: &mut Page,
-    subject: &Subject<'_, T>,
-    marks: &[ItemPlace],
-    index: u32,
-) -> Result<(), Missing>
-    ensures shown { IfOk result (λ _. (text : List ℕ)
-        × IsSpotText (T.input subject.now.text.now) subject.now.file.now (codes "this derivation")
-        (option_map name_spot (place_found marks.now index)) text
-        × PutsText page.old page.new text) }
-    ensures error { IfErr result
-        (OnlyIf (T.input subject.now.text.now) (λ i. i.fails ≡ true)) }
-{
-    match mark_of(marks, index) {
-        Some(mark) => put_excerpt(page, subject, mark.spot, mark.size, "this derivation"),
-        None => Ok(()),
-    }
 }
 
 // The derivation's own constraint, and the constraints in its reason that are shown.
 fn step_indices(
     alloc: Global,
-    index: u32,
+    fault: &StepFault<'_>,
     reason: &Reason,
-    what: &StepDetail,
 ) -> Result<Vec<u32>, AllocError>
-    ensures { IfOk result (λ wanted. wanted.items ≡ step_indices index what.now reason.now) }
+    ensures { IfOk result (λ wanted. wanted.items
+        ≡ step_indices fault.now.index fault.now.what.now reason.now) }
 {
     let mut wanted = Vec::new(alloc);
-    wanted.push(index)?;
-    add_references(&mut wanted, reason, what)?;
+    wanted.push(fault.index)?;
+    add_references(&mut wanted, reason, fault.what)?;
     Ok(wanted)
 }
 
@@ -170,107 +179,18 @@ fn add_entry(
     Ok(())
 }
 
-/// What is wrong with a derivation.
-#[derive(Clone, Copy)]
-struct StepFault<'a> {
-    cause: u8,
-    what: &'a StepDetail,
-}
-
-impl Display for StepFault<'_> {
-    ghost use Rattle.vipr_explain.specs.Steps.{step_fault};
-
-    ghost output = { λ s. Some (step_fault s.cause s.what.now) };
-
-    fn fmt<W: Write>(&self, f: &mut Formatter<W>) -> fmt::Result {
-        let cause = self.cause;
-        match self.what {
-            StepDetail::Index(index) => {
-                let index = *index;
-                write!(f, "{}", IndexFault { cause, index })
-            }
-            StepDetail::Entry(entry) => {
-                let entry = *entry;
-                write!(f, "{}", EntryFault { cause, entry })
-            }
-            StepDetail::Sum(_) => f.write_str("has a sum that can't be rounded"),
-            StepDetail::Pair(_, _) => {
-                f.write_str("has two assumptions that leave a gap, and are no split")
-            }
-            StepDetail::Rows { .. } => f.write_str("does not follow from its reason"),
-            StepDetail::Nothing => f.write_str("needs a listed solution"),
-        }
-    }
-}
-
-// What is wrong with a reference.
-#[derive(Clone, Copy)]
-struct IndexFault {
-    cause: u8,
-    index: u32,
-}
-
-impl Display for IndexFault {
-    ghost use Rattle.vipr_explain.specs.Steps.{index_fault};
-
-    ghost output = { λ s. Some (index_fault s.cause s.index) };
-
-    fn fmt<W: Write>(&self, f: &mut Formatter<W>) -> fmt::Result {
-        let index = self.index;
-        match self.cause {
-            cause::NOT_EARLIER => write!(f, "names constraint {index}, which is not earlier"),
-            cause::DROPPED => write!(f, "needs constraint {index}, which was dropped"),
-            _ => write!(
-                f,
-                "takes constraint {index} for an assumption, which it is not"
-            ),
-        }
-    }
-}
-
-// What is wrong with an entry of a sum.
-#[derive(Clone, Copy)]
-struct EntryFault {
-    cause: u8,
-    entry: u32,
-}
-
-impl Display for EntryFault {
-    ghost use Rattle.vipr_explain.specs.Steps.{entry_fault};
-
-    ghost output = { λ s. Some (entry_fault s.cause s.entry) };
-
-    fn fmt<W: Write>(&self, f: &mut Formatter<W>) -> fmt::Result {
-        let entry = self.entry;
-        match self.cause {
-            cause::OVERFLOW => write!(f, "is past 2^127 - 1 at entry {entry} of its sum"),
-            _ => write!(f, "turns a sense around at entry {entry} of its sum"),
-        }
-    }
-}
-
 // Shows what the derivation states, and its reason.
-fn put_stated(page: &mut Page, known: &PlacedItems, own: u32, step: &Derivation, what: &StepDetail)
-    ensures { PutsText page.old page.new (stated_lines known.now own what.now step.now) }
+fn put_stated(page: &mut Page, known: &PlacedItems, fault: &StepFault<'_>, step: &Derivation)
+    ensures { PutsText page.old page.new
+        (stated_lines known.now fault.now.index fault.now.what.now step.now) }
 {
-    put_labelled(
-        page,
-        &known.items.problem,
-        "  it states    ",
-        &step.constraint,
-    );
-    put_reason(page, known, own, &step.reason, what);
-}
-
-// Shows the reason.
-fn put_reason(page: &mut Page, known: &PlacedItems, own: u32, reason: &Reason, what: &StepDetail)
-    ensures { PutsText page.old page.new (reason_text known.now own what.now reason.now) }
-{
+    let problem = &known.items.problem;
+    put_labelled(page, problem, "  it states    ", &step.constraint);
     page.put_value(&ReasonLines {
         known,
-        own,
-        what,
-        reason,
+        own: fault.index,
+        what: fault.what,
+        reason: &step.reason,
     });
 }
 
@@ -282,8 +202,8 @@ fn put_detail(
     reason: &Reason,
     what: &StepDetail,
 ) -> Result<(), AllocError>
-    ensures { OnOk result ((text : List ℕ)
-        × IsDetailText problem.now reason.now what.now text × PutsText page.old page.new text) }
+    ensures { OnOk result
+        (PutsSome (IsDetailText problem.now reason.now what.now) page.old page.new) }
 {
     match what {
         StepDetail::Index(_) => Ok(()),
@@ -306,9 +226,8 @@ fn put_rows(
     computed: &Constraint,
     stated: &Constraint,
 ) -> Result<(), AllocError>
-    ensures { OnOk result ((text : List ℕ) × IsRowsText problem.now reason.now
-        (constraint_of computed.now) (constraint_of stated.now) text
-        × PutsText page.old page.new text) }
+    ensures { OnOk result (PutsSome (IsRowsText problem.now reason.now
+        (constraint_of computed.now) (constraint_of stated.now)) page.old page.new) }
 {
     put_labelled(page, problem, "    computed   ", computed);
     put_labelled(page, problem, "    stated     ", stated);

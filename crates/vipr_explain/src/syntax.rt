@@ -1,11 +1,12 @@
 //! Explains a fault of a text: its place, and what is wanted there.
-ghost use Rattle.std.specs.Prelude.{◌≡◌, ◌<◌, ◌^◌, ℕ, List, [], IfErr, IfOk, OnOk, length, true};
+ghost use Rattle.std.specs.Prelude.{◌≡◌, ◌<◌, ◌^◌, [], IfErr, IfOk, OnOk, length, true};
 ghost use Rattle.vipr_spec.specs.Input.{Input};
 ghost use Rattle.vipr_explain.specs.Contexts.{context_text, error_text, token_fault_text};
 ghost use Rattle.vipr_explain.specs.Contexts.{found_words};
 ghost use Rattle.vipr_explain.specs.Contexts.{has_items, has_name, is_in_head, is_in_item};
 ghost use Rattle.vipr_explain.specs.Contexts.{item_part, item_text, label_text, item_name};
 ghost use Rattle.vipr_explain.specs.Found.{OnlyIf};
+ghost use Rattle.vipr_explain.specs.Pages.{PutsSome};
 ghost use Rattle.vipr_explain.specs.Progress.{at_start, named_at, passed};
 ghost use Rattle.vipr_explain.specs.Syntax.{IsFoundAt, IsSyntaxText, PassesUpTo};
 ghost use Rattle.vipr_explain.specs.Words.{IsReading, kept_word, no_token};
@@ -34,36 +35,26 @@ struct FoundToken<R> {
     is_end: bool,
 }
 
-/// Explains the fault of this cause at this byte.
-pub(crate) fn put_syntax<T: Text>(
-    page: &mut Page,
-    subject: &Subject<'_, T>,
-    cause: u8,
-    offset: u64,
-) -> Result<(), Missing>
-    ensures shown { IfOk result (λ _. (text : List ℕ)
-        × IsSyntaxText (T.input subject.now.text.now) subject.now.file.now cause offset text
-        × PutsText page.old page.new text) }
-    ensures error { IfErr result
-        (OnlyIf (T.input subject.now.text.now) (λ i. i.fails ≡ true)) }
-{
-    let found = FoundToken::<T::Reader>::find(subject, offset)?;
-    let excerpt = Excerpt::read(subject, found.words.spot())?;
-    let fault = TokenFault {
-        cause,
-        progress: found.progress,
-        word: found.words.word(),
-    };
-    put_error(page, cause, found.is_end, &found.progress);
-    excerpt.put(
-        page,
-        subject.file,
-        found.words.size(),
-        label_of(found.is_end),
-    );
-    put_context(page, &found.progress, found.name.as_slice());
-    put_hints(page, &fault);
-    Ok(())
+impl<T: Text> Subject<'_, T> {
+    /// Explains the fault of this cause at this byte.
+    pub(crate) fn put_syntax(&self, page: &mut Page, cause: u8, offset: u64) -> Result<(), Missing>
+        ensures shown { IfOk result (λ _. PutsSome (IsSyntaxText (T.input self.now.text.now)
+            self.now.file.now cause offset) page.old page.new) }
+        ensures error { IfErr result (OnlyIf (T.input self.now.text.now) (λ i. i.fails ≡ true)) }
+    {
+        let found = FoundToken::<T::Reader>::find(self, offset)?;
+        let excerpt = Excerpt::read(self, found.words.spot())?;
+        let fault = TokenFault {
+            cause,
+            progress: found.progress,
+            word: found.words.word(),
+        };
+        put_error(page, cause, found.is_end, &found.progress);
+        excerpt.put(page, self.file, found.words.size(), label_of(found.is_end));
+        put_context(page, &found.progress, found.name.as_slice());
+        put_hints(page, &fault);
+        Ok(())
+    }
 }
 
 impl<R: Source + Drop> FoundToken<R> {

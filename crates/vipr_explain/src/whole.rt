@@ -7,11 +7,8 @@ ghost use Rattle.vipr_explain.specs.Pages.{ExplainsVerdict, IsClaimText, IsPageF
 ghost use Rattle.vipr_explain.specs.Pages.{IsRefusalText, IsTextAt, IsVerdictPage, PutsSome};
 ghost use Rattle.vipr_explain.specs.Pages.{not_read};
 
-use crate::derivation::put_derivation;
-use crate::goal::{put_goal, put_no_proof};
 use crate::missing::Missing;
-use crate::solution::{put_no_primal, put_solution};
-use crate::syntax::put_syntax;
+use crate::step::StepFault;
 use crate::text::{Subject, Text};
 use std::alloc::Global;
 use vipr_check::{Detail, Place, Refusal, Verdict};
@@ -38,7 +35,7 @@ pub fn explain_at_length<'a, T: Text>(
     let subject = Subject { alloc, text, file };
     let mut page = Page::new(alloc);
     page.put("\n");
-    put_verdict(&mut page, &subject, verdict, detail)?;
+    subject.put_verdict(&mut page, verdict, detail)?;
     if page.has_failed() {
         return Err(Missing::Memory);
     }
@@ -90,82 +87,76 @@ fn page_of(alloc: Global, text: &str) -> Option<Page>
     if page.has_failed() { None } else { Some(page) }
 }
 
-// Explains a verdict.
-fn put_verdict<T: Text>(
-    page: &mut Page,
-    subject: &Subject<'_, T>,
-    verdict: &Verdict,
-    detail: &Detail,
-) -> Result<(), Missing>
-    ensures shown { IfOk result (λ _. ExplainsVerdict (T.input subject.now.text.now)
-        subject.now.file.now verdict.now detail.now page.old page.new) }
-    ensures error { IfErr result
-        (OnlyIf (T.input subject.now.text.now) (LacksItem verdict.now detail.now)) }
-{
-    match verdict {
-        Verdict::Verified(report) => put_goal(page, subject, report),
-        Verdict::Refused(refusal) => {
-            put_refusal(page, subject, refusal, detail)?;
-            let cause = refusal.cause;
-            page.put_value(&format_args!("  = see: docs/FORMAT.md, cause {cause}\n"));
-            Ok(())
+impl<T: Text> Subject<'_, T> {
+    // Explains a verdict.
+    fn put_verdict(
+        &self,
+        page: &mut Page,
+        verdict: &Verdict,
+        detail: &Detail,
+    ) -> Result<(), Missing>
+        ensures shown { IfOk result (λ _. ExplainsVerdict (T.input self.now.text.now)
+            self.now.file.now verdict.now detail.now page.old page.new) }
+        ensures error { IfErr result
+            (OnlyIf (T.input self.now.text.now) (LacksItem verdict.now detail.now)) }
+    {
+        match verdict {
+            Verdict::Verified(report) => self.put_goal(page, report),
+            Verdict::Refused(refusal) => {
+                self.put_refusal(page, refusal, detail)?;
+                let cause = refusal.cause;
+                page.put_value(&format_args!("  = see: docs/FORMAT.md, cause {cause}\n"));
+                Ok(())
+            }
         }
     }
-}
 
-// Explains a refusal.
-fn put_refusal<T: Text>(
-    page: &mut Page,
-    subject: &Subject<'_, T>,
-    refusal: &Refusal,
-    detail: &Detail,
-) -> Result<(), Missing>
-    ensures shown { IfOk result (λ _. PutsSome (IsRefusalText (T.input subject.now.text.now)
-        subject.now.file.now refusal.now.cause refusal.now.place detail.now) page.old page.new) }
-    ensures error { IfErr result
-        (OnlyIf (T.input subject.now.text.now) (LacksPlace refusal.now.place detail.now)) }
-{
-    match refusal.place {
-        Place::Byte(offset) => put_syntax(page, subject, refusal.cause, offset),
-        Place::Sol(number) => put_solution(page, subject, number, detail),
-        Place::Der(index) => put_at(page, subject, refusal.cause, index, detail),
-        Place::End => put_claim(page, subject, detail),
+    // Explains a refusal.
+    fn put_refusal(
+        &self,
+        page: &mut Page,
+        refusal: &Refusal,
+        detail: &Detail,
+    ) -> Result<(), Missing>
+        ensures shown { IfOk result (λ _. PutsSome (IsRefusalText (T.input self.now.text.now)
+            self.now.file.now refusal.now.cause refusal.now.place detail.now) page.old page.new) }
+        ensures error { IfErr result
+            (OnlyIf (T.input self.now.text.now) (LacksPlace refusal.now.place detail.now)) }
+    {
+        match refusal.place {
+            Place::Byte(offset) => self.put_syntax(page, refusal.cause, offset),
+            Place::Sol(number) => self.put_solution(page, number, detail),
+            Place::Der(index) => self.put_at(page, refusal.cause, index, detail),
+            Place::End => self.put_claim(page, detail),
+        }
     }
-}
 
-// Explains a refusal at a derivation: of that, or of a claim that nothing proves.
-fn put_at<T: Text>(
-    page: &mut Page,
-    subject: &Subject<'_, T>,
-    cause: u8,
-    index: u32,
-    detail: &Detail,
-) -> Result<(), Missing>
-    ensures shown { IfOk result (λ _. PutsSome (IsTextAt (T.input subject.now.text.now)
-        subject.now.file.now cause index detail.now) page.old page.new) }
-    ensures error { IfErr result (OnlyIf (T.input subject.now.text.now)
-        (LacksDerivation index detail.now)) }
-{
-    match detail {
-        Detail::Step { what, .. } => put_derivation(page, subject, cause, index, what),
-        _ => put_claim(page, subject, detail),
+    // Explains a refusal at a derivation: of that, or of a claim that nothing proves.
+    fn put_at(&self, page: &mut Page, cause: u8, index: u32, detail: &Detail) -> Result<(), Missing>
+        ensures shown { IfOk result (λ _. PutsSome (IsTextAt (T.input self.now.text.now)
+            self.now.file.now cause index detail.now) page.old page.new) }
+        ensures error { IfErr result
+            (OnlyIf (T.input self.now.text.now) (LacksDerivation index detail.now)) }
+    {
+        match detail {
+            Detail::Step { what, .. } => self.put_derivation(
+                page,
+                &StepFault { cause, index, what },
+            ),
+            _ => self.put_claim(page, detail),
+        }
     }
-}
 
-// Explains that a side of the claim isn't proved.
-fn put_claim<T: Text>(
-    page: &mut Page,
-    subject: &Subject<'_, T>,
-    detail: &Detail,
-) -> Result<(), Missing>
-    ensures shown { IfOk result
-        (λ _. PutsSome (IsClaimText (T.input subject.now.text.now) detail.now)
-        page.old page.new) }
-    ensures error { IfErr result (OnlyIf (T.input subject.now.text.now) (LacksClaim detail.now)) }
-{
-    match detail {
-        Detail::NoProof(goal) => put_no_proof(page, subject, goal.as_ref()),
-        Detail::NoPrimal(bound) => put_no_primal(page, subject, *bound),
-        _ => Ok(()),
+    // Explains that a side of the claim isn't proved.
+    fn put_claim(&self, page: &mut Page, detail: &Detail) -> Result<(), Missing>
+        ensures shown { IfOk result (λ _. PutsSome
+            (IsClaimText (T.input self.now.text.now) detail.now) page.old page.new) }
+        ensures error { IfErr result (OnlyIf (T.input self.now.text.now) (LacksClaim detail.now)) }
+    {
+        match detail {
+            Detail::NoProof(goal) => self.put_no_proof(page, goal.as_ref()),
+            Detail::NoPrimal(bound) => self.put_no_primal(page, *bound),
+            _ => Ok(()),
+        }
     }
 }
