@@ -36,7 +36,7 @@ pub enum Goal {
 }
 
 /// Why a derived constraint holds.
-#[derive(Debug, Drop)]
+#[derive(Clone, Debug, Drop)]
 pub enum Reason {
     /// It is an assumption.
     Asm,

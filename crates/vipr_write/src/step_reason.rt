@@ -134,16 +134,9 @@ impl StepReason {
         ensures shortest { IfOk result IsShortest }
     {
         match reason {
-            Reason::Asm => Ok(StepReason::Whole(Reason::Asm)),
             Reason::Lin(entries) => lin_of(alloc, entries),
             Reason::Rnd(entries) => rnd_of(alloc, entries),
-            Reason::Uns { i1, l1, i2, l2 } => Ok(StepReason::Whole(Reason::Uns {
-                i1: *i1,
-                l1: *l1,
-                i2: *i2,
-                l2: *l2,
-            })),
-            Reason::Sol => Ok(StepReason::Whole(Reason::Sol)),
+            whole => Ok(StepReason::Whole(whole.clone()?)),
         }
     }
 
