@@ -9,6 +9,7 @@ use Rattle.vipr_spec.specs.Digits.{is_digit}
 use Rattle.vipr_spec.specs.Fraction.{ℚ}
 use Rattle.vipr_spec.specs.Number.{number_text}
 use Rattle.vipr_page.specs.Decimals.{decimal_of}
+use Rattle.vipr_explain.specs.ReasonTexts.{reason_hint, sum_form}
 use Rattle.vipr_explain.specs.declared.wanted.Section.{Section}
 use Rattle.vipr_explain.specs.declared.wanted.Section.TheVariants as section
 use Rattle.vipr_explain.specs.declared.wanted.Wanted.{Wanted}
@@ -102,7 +103,7 @@ brace_hint wanted.OpenBrace word = if begins word (codes "{")
 brace_hint _ word = if ends word (codes "}")
     then codes "put a space before the brace"
     else codes "the reason should end here: is its number of entries missing or too small? "
-    ++ codes "It is lin COUNT INDEX MULTIPLIER .., and so is rnd"
+    ++ (codes "It is " ++ sum_form)
 
 -- the text ends in a section
 abbrev pub cut_hint : Section → List ℕ
@@ -135,11 +136,7 @@ plain_hints = (
     )
     ∷ (cause.bad_objective_sense, codes "write `min` or `max` behind `OBJ`")
     ∷ (cause.bad_claim, codes "write `infeas`, or `range` and two bounds, behind `RTP`")
-    ∷ (
-      cause.bad_reason,
-      codes "write `uns i1 l1 i2 l2` to join two branches, `lin` or `rnd` for a sum, "
-          ++ codes "`asm` for an assumption, `sol` for a cutoff",
-    )
+    ∷ (cause.bad_reason, reason_hint)
     ∷ (
       cause.bad_reference,
       codes "a constraint is named by its index, digits alone; is the number of entries right?",

@@ -11,6 +11,7 @@ pub mod Letters
 pub mod Missed
 pub mod Excerpts
 pub mod Found
+pub mod ReasonTexts
 pub mod Progress
 pub mod Wanted
 pub mod Hints

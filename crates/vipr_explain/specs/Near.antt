@@ -16,6 +16,7 @@ use Rattle.vipr_page.specs.Algebra.{size}
 use Rattle.vipr_explain.specs.Found.{AreItemsOf, head_read}
 use Rattle.vipr_explain.specs.Goals.{wanted_text}
 use Rattle.vipr_explain.specs.Listed.{known_constraint, listed_text}
+use Rattle.vipr_explain.specs.ReasonTexts.{join_help}
 use Rattle.vipr_explain.specs.declared.items.Items.{Items}
 use Rattle.vipr_explain.specs.declared.shown.PlacedItems.{PlacedItems}
 
@@ -167,8 +168,7 @@ near_head [] = codes "  no constraint is like it\n"
 near_head (n ∷ ns) = codes "  nearest:\n"
 
 abbrev pub no_proof_help : List ℕ
-no_proof_help = codes "  = help: join the branches by `uns i1 l1 i2 l2`, so that no assumption "
-    ++ codes "is left, or claim what is proved behind RTP\n"
+no_proof_help = codes "  = help: " ++ (join_help ++ codes ", or claim what is proved behind RTP\n")
 
 -- these are the problem and the derivations of a text
 pub record AreDerived (text : Rest) (p : is.Problem) (derivations : List is.Derivation)

@@ -1,8 +1,9 @@
 -- How far a certificate's text was read: what it has to have at its next token
-use Rattle.std.specs.Prelude.{ℕ, ◌+◌, ◌-◌, ◌^◌, ◌||◌, min, nat_lt, if◌then◌else◌, List, [], ◌∷◌}
+use Rattle.std.specs.Prelude.{ℕ, ◌+◌, ◌-◌, ◌^◌, min, nat_lt, if◌then◌else◌, List, [], ◌∷◌}
 use Rattle.std.specs.Prelude.{Option, Some, None, codes}
 use Rattle.std.specs.Str.{bytes_eq}
 use Rattle.vipr_spec.specs.Digits.{natural_of}
+use Rattle.vipr_explain.specs.ReasonTexts.{first_of_reason}
 use Rattle.vipr_explain.specs.declared.wanted.Section.{Section}
 use Rattle.vipr_explain.specs.declared.wanted.Section.TheVariants as section
 use Rattle.vipr_explain.specs.declared.wanted.Wanted.{Wanted}
@@ -173,12 +174,7 @@ abbrev pub claim_passed : TextProgress → List ℕ → TextProgress
 claim_passed p word = if bytes_eq word (codes "range") then wants p wanted.LowerBound
     else section_ended p
 
--- what follows the word of a reason
-abbrev pub first_of_reason : List ℕ → Wanted
-first_of_reason word = if bytes_eq word (codes "uns") then wanted.Branch else
-    (if bytes_eq word (codes "lin") || bytes_eq word (codes "rnd") then wanted.EntryCount
-    else wanted.CloseBrace)
-
+-- behind the word of a reason
 abbrev pub reason_passed : TextProgress → List ℕ → TextProgress
 reason_passed p word = record p { part = 0; parts = 4; wanted = first_of_reason word }
 

@@ -10,11 +10,11 @@ use Rattle.vipr_spec.specs.Number.{number_text}
 use Rattle.vipr_cert.specs.Items.{reason_of}
 use Rattle.vipr_cert.specs.Reasons.{reason_word}
 use Rattle.vipr_cert.specs.declared.items.Reason.{Reason}
-use Rattle.vipr_cert.specs.declared.items.Reason.TheVariants.{Sol}
 use Rattle.vipr_check.specs.declared.detail.StepDetail.{StepDetail}
 use Rattle.vipr_check.specs.declared.detail.StepDetail.TheVariants as step
 use Rattle.vipr_page.specs.Algebra.{algebra_text, shown_name}
 use Rattle.vipr_explain.specs.Listed.{kept_derivation, listed_text, word_or_given}
+use Rattle.vipr_explain.specs.ReasonTexts.{assumption_help, note_of}
 use Rattle.vipr_explain.specs.declared.shown.PlacedItems.{PlacedItems}
 
 -- what is wrong with a reference, by the cause
@@ -103,11 +103,6 @@ sum_text known own what word es = codes "  its reason   " ++ (word ++ (codes " o
     ++ (decimal (length es) ++ (codes ":\n"
     ++ flat_map (numbered_line known own what (length es)) (enumerate_from 0 es)))))
 
--- what is said behind the word of a reason that refers to nothing
-abbrev pub note_of : Reason → List ℕ
-note_of Sol = codes ", the cutoff at the best listed solution"
-note_of _ = []
-
 -- a reason, by its word, that note and what it refers to
 abbrev pub lines_by : PlacedItems → ℕ → StepDetail → List ℕ → List ℕ → References → List ℕ
 lines_by known own what word note no_references =
@@ -132,8 +127,7 @@ first_index count = codes "  = help: constraints count from 0: the problem has "
 -- what is likely to be wrong, by the cause
 abbrev pub step_help : ℕ → ℕ → List ℕ
 step_help cause count = if cause == 31 then first_index count
-    else (if cause == 33 then codes "  = help: `uns i1 l1 i2 l2` names what follows first, "
-    ++ codes "and behind it its assumption, a derivation by `asm`\n"
+    else (if cause == 33 then codes "  = help: " ++ (assumption_help ++ codes "\n")
     else (if cause == 34
     then codes "  = help: a sum that is >= takes positive multiples of >= and negative ones of "
     ++ (codes "<=; a sum that is <= the other way round: change the sign "

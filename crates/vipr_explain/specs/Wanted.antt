@@ -1,6 +1,7 @@
 -- What a certificate's text has to have at a token, in words
 use Rattle.std.specs.Prelude.{ℕ, ◌-◌, ◌==◌, if◌then◌else◌, List, ◌++◌, codes, decimal}
 use Rattle.vipr_explain.specs.Progress.{counted_name, index_of, item_word, keyword_of}
+use Rattle.vipr_explain.specs.ReasonTexts.{branch_words, reason_list}
 use Rattle.vipr_explain.specs.declared.wanted.Section.{Section}
 use Rattle.vipr_explain.specs.declared.wanted.Wanted.{Wanted}
 use Rattle.vipr_explain.specs.declared.wanted.Wanted.TheVariants as wanted
@@ -27,14 +28,6 @@ abbrev pub wanted_part : List ℕ → TextProgress → List ℕ
 wanted_part what p = what ++ (decimal p.part ++ (codes " (there are " ++ (decimal p.parts
     ++ codes ", counted from 0)")))
 
--- a number of `uns`, by its position
-abbrev pub branch_words : ℕ → List ℕ
-branch_words part =
-    if part == 0 then codes "i1 of `uns`: the constraint that holds in the first case" else
-    (if part == 1 then codes "l1 of `uns`: the assumption of the first case" else
-    (if part == 2 then codes "i2 of `uns`: the constraint that holds in the second case" else
-    codes "l2 of `uns`: the assumption of the second case"))
-
 -- what no number belongs to
 abbrev pub plain_words : Wanted → List ℕ
 plain_words wanted.Version = codes "the version `1.0`"
@@ -48,7 +41,7 @@ plain_words wanted.Claim = codes "`infeas` or `range`"
 plain_words wanted.LowerBound = codes "the lower bound, a number or `-inf`"
 plain_words wanted.UpperBound = codes "the upper bound, a number or `inf`"
 plain_words wanted.OpenBrace = codes "`{`, a token of its own"
-plain_words wanted.Reason = codes "a reason: `asm`, `lin`, `rnd`, `uns` or `sol`"
+plain_words wanted.Reason = codes "a reason: " ++ reason_list
 plain_words wanted.EntryCount = codes "the number of entries, a count in digits"
 plain_words wanted.CloseBrace = codes "`}`, a token of its own"
 plain_words wanted.LastReference = codes "the last reference: a constraint's index or -1"

@@ -1,6 +1,7 @@
 //! The reason of a derivation, with the constraints that it refers to.
 ghost use Rattle.std.specs.Prelude.{◌≡◌, ◌||◌, Some, nat_lt};
-ghost use Rattle.vipr_explain.specs.Steps.{is_at_fault, note_of};
+ghost use Rattle.vipr_explain.specs.ReasonTexts.{note_of};
+ghost use Rattle.vipr_explain.specs.Steps.{is_at_fault};
 
 use crate::shown::{ListedConstraint, PlacedItems};
 use std::fmt;

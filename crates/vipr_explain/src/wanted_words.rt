@@ -1,6 +1,7 @@
 //! What a certificate's text has to have at a token, in words.
 ghost use Rattle.std.specs.Prelude.{◌≡◌};
-ghost use Rattle.vipr_explain.specs.Wanted.{branch_words, plain_words, wanted_count, wanted_index};
+ghost use Rattle.vipr_explain.specs.ReasonTexts.{branch_words};
+ghost use Rattle.vipr_explain.specs.Wanted.{plain_words, wanted_count, wanted_index};
 ghost use Rattle.vipr_explain.specs.Wanted.{wanted_keyword, wanted_name, wanted_part};
 ghost use Rattle.vipr_explain.specs.Wanted.{wanted_phrase};
 ghost use Rattle.vipr_page.specs.Written.{PutsText};
