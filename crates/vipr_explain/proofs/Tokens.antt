@@ -7,13 +7,14 @@ use Rattle.std.proofs.lemmas.List.{length-drop, length-take, take-append-le, tak
 use Rattle.vipr_spec.specs.Input.{Input}
 use Rattle.vipr_spec.specs.Tokens.{Token, is_white, tokens_after_front, tokens_from}
 use Rattle.vipr_spec.proofs.Laws.{token_whole}
+use Rattle.vipr_scan.specs.Places.{tokens_in}
+use Rattle.vipr_scan.specs.declared.place.Position.{Position}
+use Rattle.vipr_scan.specs.declared.place.Position.TheVariants.{Front, Comment, Past}
 use Rattle.vipr_explain.specs.Letters.{HasGiven}
 use Rattle.vipr_explain.specs.Places.{place_at}
-use Rattle.vipr_explain.specs.Words.{GivesToken, HoldsStart, IsReadWhole, Kept, ReadsInToken, tokens_at}
+use Rattle.vipr_explain.specs.Words.{GivesToken, HoldsStart, IsReadWhole, Kept, ReadsInToken}
 use Rattle.vipr_explain.specs.Words.{tokens_left}
 use Rattle.vipr_explain.specs.declared.text.Spot.{Spot}
-use Rattle.vipr_explain.specs.declared.words.Stage.{Stage}
-use Rattle.vipr_explain.specs.declared.words.Stage.TheVariants.{Front, Comment, Past}
 use Rattle.vipr_explain.specs.declared.words.Words.{Words}
 use Rattle.vipr_explain.proofs.Lines.{line_more}
 
@@ -52,41 +53,41 @@ holds_full bytes b old new holds full size same memory = record {
 
 -- ---- up to the first byte of a token
 
-none_in : (p : Stage) (fails : Bool) (o : ℕ) → tokens_at p fails o [] ≡ []
+none_in : (p : Position) (fails : Bool) (o : ℕ) → tokens_in p fails o [] ≡ []
 unfolding tokens_from tokens_after_front
 none_in Front fails o = refl
 none_in Comment fails o = refl
 none_in Past fails o = refl
 
 -- all bytes were passed
-pub none_left : (p : Stage) (i : Input) (n : ℕ) (ts : List Token) → n ≡ length i.bytes
+pub none_left : (p : Position) (i : Input) (n : ℕ) (ts : List Token) → n ≡ length i.bytes
     → tokens_left p i n ≡ ts → ts ≡ []
 none_left p i n ts all are =
-    sym are ∙ ap (tokens_at p i.fails n) (drop_all n i.bytes (omega arith)) ∙ none_in p i.fails n
+    sym are ∙ ap (tokens_in p i.fails n) (drop_all n i.bytes (omega arith)) ∙ none_in p i.fails n
 
 -- a byte was passed that begins no token
-pub byte_passed : (p q : Stage) (i : Input) (n b : ℕ) (ts : List Token) → n < length i.bytes
+pub byte_passed : (p q : Position) (i : Input) (n b : ℕ) (ts : List Token) → n < length i.bytes
     → b ≡ get_or i.bytes n 0
     → ((fails : Bool) (offset : ℕ) (rest : List ℕ)
-    → tokens_at p fails offset (b ∷ rest) ≡ tokens_at q fails (offset + 1) rest)
+    → tokens_in p fails offset (b ∷ rest) ≡ tokens_in q fails (offset + 1) rest)
     → tokens_left p i n ≡ ts → tokens_left q i (n + 1) ≡ ts
 byte_passed p q i n b ts within byte gap are =
-    sym (at_drop_more (tokens_at p i.fails n) i.bytes n 0 within
-    ∙ ap (λ x. tokens_at p i.fails n (x ∷ drop (n + 1) i.bytes)) (sym byte)
+    sym (at_drop_more (tokens_in p i.fails n) i.bytes n 0 within
+    ∙ ap (λ x. tokens_in p i.fails n (x ∷ drop (n + 1) i.bytes)) (sym byte)
     ∙ gap i.fails n (drop (n + 1) i.bytes)) ∙ are
 
 -- a byte begins a token
-pub byte_begins : (p : Stage) (i : Input) (n b : ℕ) (ts : List Token) → n < length i.bytes
+pub byte_begins : (p : Position) (i : Input) (n b : ℕ) (ts : List Token) → n < length i.bytes
     → b ≡ get_or i.bytes n 0
     → ((fails : Bool) (offset : ℕ) (rest : List ℕ)
-    → tokens_at p fails offset (b ∷ rest) ≡ tokens_from fails false offset (b ∷ rest))
+    → tokens_in p fails offset (b ∷ rest) ≡ tokens_from fails false offset (b ∷ rest))
     → tokens_left p i n ≡ ts → tokens_from i.fails false n (drop n i.bytes) ≡ ts
 byte_begins p i n b ts within byte token are =
     let rest = drop (n + 1) i.bytes in
     at_drop_more (tokens_from i.fails false n) i.bytes n 0 within
     ∙ ap (λ x. tokens_from i.fails false n (x ∷ rest)) (sym byte) ∙ sym (token i.fails n rest)
-    ∙ ap (λ x. tokens_at p i.fails n (x ∷ rest)) byte
-    ∙ sym (at_drop_more (tokens_at p i.fails n) i.bytes n 0 within) ∙ are
+    ∙ ap (λ x. tokens_in p i.fails n (x ∷ rest)) byte
+    ∙ sym (at_drop_more (tokens_in p i.fails n) i.bytes n 0 within) ∙ are
 
 -- ---- up to the end of a token
 
@@ -151,7 +152,7 @@ pub part_ends : {R : Type 0} (input : R → Option Input) (i : Input) (n k : ℕ
     (new : Words R) (b : Bool) → b ≡ false
     → ((j : ℕ) → j < k + 1 → is_white (get_or i.bytes (n + j) 0) ≡ false)
     → ReadsInToken input i (n + (k + 1)) (take (k + 1) (drop n i.bytes)) new b
-    → n + (k + 1) ≤ length i.bytes → new.stage ≡ Past → new.spot ≡ place_at i.bytes n
+    → n + (k + 1) ≤ length i.bytes → new.position ≡ Past → new.spot ≡ place_at i.bytes n
     → IsReadWhole new → tokens_from i.fails false n (drop n i.bytes) ≡ ts → GivesToken input i ts new
 part_ends {R} input i n k ts new b is solid read within past at whole are =
     let r = subst (λ c. ReadsInToken input i (n + (k + 1)) (take (k + 1) (drop n i.bytes)) new c) is read in

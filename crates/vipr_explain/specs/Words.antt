@@ -2,12 +2,12 @@
 use Rattle.std.specs.Prelude.{◌≡◌, ℕ, ◌+◌, ◌<◌, Bool, true, false, List, [], ◌∷◌, ◌++◌, length}
 use Rattle.std.specs.Prelude.{take, drop, fold, slice_index, Option, Some, None, ◌⊎◌}
 use Rattle.vipr_spec.specs.Input.{Input}
-use Rattle.vipr_spec.specs.Tokens.{Token, is_white, tokens_after_front, tokens_from}
+use Rattle.vipr_spec.specs.Tokens.{Token, is_white, tokens_from}
+use Rattle.vipr_scan.specs.Places.{tokens_in}
+use Rattle.vipr_scan.specs.declared.place.Position.{Position}
 use Rattle.vipr_explain.specs.Letters.{HasGiven}
 use Rattle.vipr_explain.specs.Places.{in_u64, place_at, place_behind}
 use Rattle.vipr_explain.specs.declared.text.Spot.{Spot}
-use Rattle.vipr_explain.specs.declared.words.Stage.{Stage}
-use Rattle.vipr_explain.specs.declared.words.Stage.TheVariants.{Front, Comment, Past}
 use Rattle.vipr_explain.specs.declared.words.Words.{Words}
 
 -- it gave some bytes of this text
@@ -54,22 +54,16 @@ pub record HoldsStart {R : Type 0} (bytes : List ℕ) (w : Words R) : Type 0 whe
 
 -- ---- the tokens that are to come
 
--- the tokens of a text that begins at this stage of a reader
-abbrev pub tokens_at : Stage → Bool → ℕ → List ℕ → List Token
-tokens_at Front fails offset text = tokens_after_front fails false offset text
-tokens_at Comment fails offset text = tokens_after_front fails true offset text
-tokens_at Past fails offset text = tokens_from fails false offset text
-
 -- those behind the first n bytes
-abbrev pub tokens_left : Stage → Input → ℕ → List Token
-tokens_left stage i n = tokens_at stage i.fails n (drop n i.bytes)
+abbrev pub tokens_left : Position → Input → ℕ → List Token
+tokens_left position i n = tokens_in position i.fails n (drop n i.bytes)
 
 -- it gave the first n bytes of this text, and these tokens are behind them
 pub record AreLeft {R : Type 0} (input : R → Option Input) (i : Input) (ts : List Token)
     (w : Words R) : Type 0 where
   pub n : ℕ
   pub given : HasGiven input i n w.letters
-  pub tokens : tokens_left w.stage i n ≡ ts
+  pub tokens : tokens_left w.position i n ≡ ts
 
 -- it gave the first byte of the first of these tokens
 pub record BeginsToken {R : Type 0} (input : R → Option Input) (i : Input) (ts : List Token)

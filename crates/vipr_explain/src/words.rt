@@ -1,76 +1,27 @@
 //! The tokens of a text with their places.
 ghost use Rattle.std.specs.Prelude.{◌≡◌, ◌+◌, ◌<◌, ◌^◌, ◌∷◌, ◌++◌, [], ℕ, false, true, length};
-ghost use Rattle.std.specs.Prelude.{Bool, List, None, IfOk, IfErr, IfNone, IfSome};
+ghost use Rattle.std.specs.Prelude.{List, None, IfOk, IfErr, IfNone, IfSome};
 ghost use Rattle.vipr_spec.specs.Input.{Input};
-ghost use Rattle.vipr_spec.specs.Tokens.{Token, is_white, tokens, tokens_from};
+ghost use Rattle.vipr_spec.specs.Tokens.{Token, tokens};
 ghost use Rattle.vipr_explain.specs.Letters.{HasGiven};
 ghost use Rattle.vipr_explain.specs.Words.{AreLeft, BeginsToken, FindsToken, GivesToken};
 ghost use Rattle.vipr_explain.specs.Words.{HoldsStart, IsReadWhole, IsReading, ReadsInToken};
-ghost use Rattle.vipr_explain.specs.Words.{ReadsToken, kept_word, no_token, tokens_at};
+ghost use Rattle.vipr_explain.specs.Words.{ReadsToken, kept_word, no_token};
 
 use crate::missing::Missing;
 use crate::text::{Letters, Spot, Text};
 use std::alloc::Global;
 use vipr_bytes::Source;
-use vipr_scan::is_white;
+use vipr_scan::{Position, is_white, step};
 
 /// How many bytes of a token are kept.
 const MOST_KEPT: usize = 64;
-
-/// The part of a text that a reader is in: before its first token, within a comment there, or past
-/// it.
-#[derive(Clone, Copy)]
-pub(crate) enum Stage {
-    Front,
-    Comment,
-    Past,
-}
-
-impl Stage {
-    // The stage behind a byte that begins no token.
-    #[tactic(auto, unfolding(vipr_spec::specs::Tokens::tokens_from, vipr_spec::specs::Tokens::tokens_after_front))]
-    fn behind(self, byte: u8) -> Option<Stage>
-        ensures gap { IfSome result (λ next. (fails : Bool) (offset : ℕ) (rest : List ℕ) →
-            tokens_at self fails offset (byte ∷ rest)
-            ≡ tokens_at next fails (offset + 1) rest) }
-        ensures token { IfNone result ((fails : Bool) (offset : ℕ) (rest : List ℕ) →
-            tokens_at self fails offset (byte ∷ rest)
-            ≡ tokens_from fails false offset (byte ∷ rest)) }
-        ensures solid { IfNone result (is_white byte ≡ false) }
-    {
-        match self {
-            Stage::Comment => {
-                if byte == b'\n' {
-                    Some(Stage::Front)
-                } else {
-                    Some(Stage::Comment)
-                }
-            }
-            Stage::Front => {
-                if byte == b'%' {
-                    Some(Stage::Comment)
-                } else if is_white(byte) {
-                    Some(Stage::Front)
-                } else {
-                    None
-                }
-            }
-            Stage::Past => {
-                if is_white(byte) {
-                    Some(Stage::Past)
-                } else {
-                    None
-                }
-            }
-        }
-    }
-}
 
 /// Reads the tokens of a text one by one. It keeps the place and the first 64 bytes of each.
 #[derive(Drop)]
 pub(crate) struct Words<R> {
     letters: Letters<R>,
-    stage: Stage,
+    position: Position,
     word: Vec<u8>,
     size: usize,
     spot: Spot,
@@ -91,7 +42,7 @@ impl<R: Source + Drop> Words<R> {
     {
         Ok(Words {
             letters: Letters::open(text)?,
-            stage: Stage::Front,
+            position: Position::Front,
             word: Vec::new(alloc),
             size: 0,
             spot: Spot::start(),
@@ -175,8 +126,8 @@ impl<R: Source + Drop> Words<R> {
             let Some(byte) = self.letters.next() else {
                 return None;
             };
-            match self.stage.behind(byte) {
-                Some(stage) => self.stage = stage,
+            match step(self.position, byte) {
+                Some(next) => self.position = next,
                 None => {
                     self.spot = spot;
                     return Some(byte);
@@ -195,7 +146,7 @@ impl<R: Source + Drop> Words<R> {
             → BeginsToken R.input i ts first self.old → IsReadWhole self.new
             → GivesToken R.input i ts self.new }
     {
-        self.stage = Stage::Past;
+        self.position = Position::Past;
         self.word.clear();
         self.size = 0;
         self.take(first);
@@ -208,7 +159,7 @@ impl<R: Source + Drop> Words<R> {
 
     // Reads the next byte of the token, and answers whether it has one.
     fn read_in_word(&mut self) -> bool
-        ensures stage { self.new.stage ≡ self.old.stage }
+        ensures position { self.new.position ≡ self.old.position }
         ensures spot { self.new.spot ≡ self.old.spot }
         ensures reading { (i : Input) → IsReading R.input i self.old
             → IsReading R.input i self.new }
@@ -228,7 +179,7 @@ impl<R: Source + Drop> Words<R> {
     // Takes a byte of a token.
     fn take(&mut self, byte: u8)
         ensures letters { self.new.letters ≡ self.old.letters }
-        ensures stage { self.new.stage ≡ self.old.stage }
+        ensures position { self.new.position ≡ self.old.position }
         ensures spot { self.new.spot ≡ self.old.spot }
         ensures memory { self.new.lacks_memory ≡ false → self.old.lacks_memory ≡ false }
         ensures held { (bytes : List ℕ) → HoldsStart bytes self.old
@@ -243,7 +194,7 @@ impl<R: Source + Drop> Words<R> {
     // Keeps a byte of a token, if there is memory for it.
     fn keep(&mut self, byte: u8)
         ensures letters { self.new.letters ≡ self.old.letters }
-        ensures stage { self.new.stage ≡ self.old.stage }
+        ensures position { self.new.position ≡ self.old.position }
         ensures spot { self.new.spot ≡ self.old.spot }
         ensures size { self.new.size ≡ self.old.size }
         ensures memory { self.new.lacks_memory ≡ false → self.old.lacks_memory ≡ false }

@@ -14,5 +14,6 @@ mod window;
 pub use bytes::{is_white, run_end};
 pub use error::{ScanError, TextError};
 pub use kind::{TokenKind, Unfit};
+pub use place::{Position, step};
 pub use scanner::Scanner;
 pub use tokens::{Token, Tokens};

@@ -14,7 +14,7 @@ loop-preserved g c = record {
         record {
           n = so_far.0.n + 1;
           given = one.2;
-          tokens = byte_passed c.loop.self.stage c.in-Some-behind.stage i so_far.0.n c.in-Some.byte ts one.0 one.1 c.in-Some-behind.ensures.gap so_far.0.tokens;
+          tokens = byte_passed c.loop.self.position c.in-Some-step.next i so_far.0.n c.in-Some.byte ts one.0 one.1 c.in-Some-step.ensures.gap so_far.0.tokens;
         },
         omega (arith, so_far.1),
       );
@@ -28,7 +28,7 @@ returns-in_default-clause-reading g c i h =
 pub returns-in_default-clause-token : goal.returns-in_default-clause-token
 returns-in_default-clause-token g c i ts short h =
     let left = (c.loop.invariant.left i ts h).0 in
-    none_left c.loop.self.stage i left.n ts (c.in_default.ensures.given i left.n left.given).0 left.tokens
+    none_left c.loop.self.position i left.n ts (c.in_default.ensures.given i left.n left.given).0 left.tokens
 
 pub returns-in-None-clause-reading : goal.returns-in-None-clause-reading
 returns-in-None-clause-reading g c i h =
@@ -46,10 +46,10 @@ returns-in-None-clause-token g c i ts short h =
       solid = c.in-None.ensures.solid;
       given = one.2;
       spot = c.spot-spot.ensures ∙ left.given.place;
-      tokens = byte_begins c.loop.self.stage i left.n c.in-Some.byte ts one.0 one.1 c.in-None.ensures.token left.tokens;
+      tokens = byte_begins c.loop.self.position i left.n c.in-Some.byte ts one.0 one.1 c.in-None.ensures.token left.tokens;
     }
 
 pub returns-clause-token : goal.returns-clause-token
 returns-clause-token g c i ts short h =
     let so_far = c.loop.invariant.left i ts h in
-    none_left c.loop.self.stage i so_far.0.n ts (omega (arith, so_far.1, so_far.0.given.within, short)) so_far.0.tokens
+    none_left c.loop.self.position i so_far.0.n ts (omega (arith, so_far.1, so_far.0.given.within, short)) so_far.0.tokens

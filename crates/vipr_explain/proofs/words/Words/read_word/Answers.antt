@@ -11,7 +11,7 @@ loop-preserved g c =
     let one = c.read_in_word.ensures in
     let k = c.loop.counter in
     record {
-      stage = one.stage ∙ so_far.stage;
+      position = one.position ∙ so_far.position;
       spot = one.spot ∙ so_far.spot;
       reading = λ i h. one.reading i (so_far.reading i h);
       whole = λ s. so_far.whole (one.whole s);
@@ -38,4 +38,4 @@ returns-then-not-read_in_word-clause-token g c i ts short begins whole =
     let first : HoldsStart (get_or i.bytes n 0 ∷ []) c.take.new.self = subst (λ b. HoldsStart (b ∷ []) c.take.new.self) begins.byte (c.take.ensures.held [] (record { size = omega arith; word = λ _. c.clear.ensures.items })) in
     let part = so_far.part i n begins.within solid (subst (λ l. HasGiven g.R.Source.input i (n + 1) l) (sym c.take.ensures.letters) begins.given) first in
     part_ends g.R.Source.input i n k ts c.read_in_word.new.self _ c.if-not-read_in_word.true part.solid (one.read i (n + (k + 1)) (take (k + 1) (drop n i.bytes)) part.given part.held) part.given.within
-    (one.stage ∙ so_far.stage) (one.spot ∙ so_far.spot ∙ c.take.ensures.spot ∙ begins.spot) whole begins.tokens
+    (one.position ∙ so_far.position) (one.spot ∙ so_far.spot ∙ c.take.ensures.spot ∙ begins.spot) whole begins.tokens

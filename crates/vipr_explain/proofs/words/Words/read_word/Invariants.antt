@@ -1,15 +1,15 @@
 use Rattle.std.proofs.Common.{◌≡◌, ℕ, ◌+◌, ◌<◌, [], ◌∷◌, false, get_or, length}
 use Rattle.vipr_spec.specs.Input.{Input}
 use Rattle.vipr_spec.specs.Tokens.{is_white}
+use Rattle.vipr_scan.specs.declared.place.Position.TheVariants.{Past}
 use Rattle.vipr_explain.specs.Letters.{HasGiven}
 use Rattle.vipr_explain.specs.Words.{HoldsStart, IsReading, IsReadWhole}
-use Rattle.vipr_explain.specs.declared.words.Stage.TheVariants.{Past}
 use Rattle.vipr_explain.proofs.Tokens.{IsPart}
 use Rattle.vipr_explain.proofs.words.Words.read_word.Given as goal
 
 abbrev pub invariant-loop : goal.invariant-loop
 invariant-loop g l = record {
-  stage : l.self.stage ≡ Past;
+  position : l.self.position ≡ Past;
   spot : l.self.spot ≡ l.initial.self.spot;
   reading : (i : Input) → IsReading g.R.Source.input i l.initial.self → IsReading g.R.Source.input i l.self;
   whole : IsReadWhole l.self → IsReadWhole l.initial.self;
