@@ -36,31 +36,11 @@ impl Display for ReasonLines<'_> {
             }
             References::Entries(entries) => write!(f, "{}", self.sum(word, entries)),
             References::Branches { i1, l1, i2, l2 } => {
-                let first = JoinedBranch {
-                    known: self.known,
-                    own: self.own,
-                    label: "  case 1 gives ",
-                    index: i1,
-                };
-                let second = JoinedBranch {
-                    known: self.known,
-                    own: self.own,
-                    label: "     assuming  ",
-                    index: l1,
-                };
-                let third = JoinedBranch {
-                    known: self.known,
-                    own: self.own,
-                    label: "  case 2 gives ",
-                    index: i2,
-                };
-                let fourth = JoinedBranch {
-                    known: self.known,
-                    own: self.own,
-                    label: "     assuming  ",
-                    index: l2,
-                };
-                write!(f, "{first}{second}{third}{fourth}")
+                let first = self.branch("  case 1 gives ", i1);
+                let first_assumed = self.branch("     assuming  ", l1);
+                let second = self.branch("  case 2 gives ", i2);
+                let second_assumed = self.branch("     assuming  ", l2);
+                write!(f, "{first}{first_assumed}{second}{second_assumed}")
             }
         }
     }
@@ -91,6 +71,23 @@ impl<'a> ReasonLines<'a> {
             what: self.what,
             word,
             entries,
+        }
+    }
+
+    // A constraint of a join, behind a label.
+    fn branch(&self, label: &'static str, index: u32) -> JoinedBranch<'a>
+        ensures { result ≡ record {
+          known = self.now.known;
+          own = self.now.own;
+          label = label.entry;
+          index = index;
+        } }
+    {
+        JoinedBranch {
+            known: self.known,
+            own: self.own,
+            label,
+            index,
         }
     }
 }
