@@ -40,7 +40,7 @@ abbrev pub word_or_given : Option Derivation → List ℕ
 word_or_given (Some d) = reason_word (reason_of d.reason)
 word_or_given None = codes "given"
 
--- the place of a constraint, if it was found
+-- the place of an item, if it was found
 abbrev pub place_found : List ItemPlace → ℕ → Option ItemPlace
 place_found places index = find (λ p. p.index == index) places
 

@@ -67,7 +67,8 @@ fn put_dropped_line(page: &mut Page, index: u32)
     ));
 }
 
-// The last derivation that names a constraint, as far as the text can be read.
+// The last derivation that names a constraint, as far as the text can be read; `needed_by` if none
+// behind that one does.
 fn last_use<T: Text>(alloc: Global, text: &T, index: u32, needed_by: u32) -> Result<u32, Missing>
     ensures found { IfKnown (T.input text.now) (λ i.
         IfOk result (IsLastUse (text_of i) index needed_by)) }
@@ -79,7 +80,7 @@ fn last_use<T: Text>(alloc: Global, text: &T, index: u32, needed_by: u32) -> Res
     last_among(alloc, &mut derivations, first, index, needed_by)
 }
 
-// The same among derivations, the first of which has this index.
+// The same among derivations, the first of which has the index `first`.
 fn last_among<R: Source + Drop>(
     alloc: Global,
     derivations: &mut Derivations<R>,

@@ -1,19 +1,18 @@
 //! A part of a line with carets below a place in it.
-ghost use Rattle.vipr_explain.specs.Excerpted.{carets_text, end_text, excerpt_text, front_text};
-ghost use Rattle.vipr_explain.specs.Excerpted.{head_text, part_text, room_for, room_text};
-ghost use Rattle.vipr_explain.specs.Excerpted.{spaces};
-ghost use Rattle.vipr_page.specs.Page.{line_byte};
-ghost use Rattle.vipr_page.specs.Written.{PutsText};
 ghost use Rattle.std.specs.Prelude.{◌≡◌, ℕ, ◌+◌, ◌++◌, ◌∷◌, true, [], max, min, length, take, drop};
 ghost use Rattle.std.specs.Prelude.{List, IfOk, IfErr, IfSome, OnOk, codes, decimal, flat_map};
 ghost use Rattle.vipr_spec.specs.Input.{Input};
-ghost use Rattle.vipr_explain.specs.Letters.{HasGiven};
+ghost use Rattle.vipr_explain.specs.Excerpted.{carets_text, end_text, excerpt_text, front_text};
+ghost use Rattle.vipr_explain.specs.Excerpted.{head_text, part_text, room_for, room_text, spaces};
 ghost use Rattle.vipr_explain.specs.Excerpts.{IsExcerpt, ShowsLine, ReadsInLine, line_at};
+ghost use Rattle.vipr_explain.specs.Letters.{HasGiven};
+ghost use Rattle.vipr_page.specs.Page.{line_byte};
+ghost use Rattle.vipr_page.specs.Written.{PutsText};
 
 use crate::missing::Missing;
 use crate::text::{Letters, Spot, Subject, Text};
 use itoa::Buffer;
-use std::alloc::{AllocError, Global};
+use std::alloc::AllocError;
 use vipr_bytes::Source;
 use vipr_page::{Page, StrangeBytes};
 

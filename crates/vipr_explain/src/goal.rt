@@ -1,24 +1,23 @@
 //! Explains what proves the claim, and which constraints come nearest if none does.
 ghost use Rattle.std.specs.Prelude.{◌≡◌, ◌∷◌, ◌++◌, ◌⊎◌, [], true, codes, IfErr, IfOk, List, Some};
-ghost use Rattle.std.specs.Prelude.{flat_map, map, option_map};
-ghost use Rattle.std.specs.Prelude.{ℕ};
+ghost use Rattle.std.specs.Prelude.{flat_map, map, option_map, ℕ};
+ghost use Rattle.vipr_spec.specs.Number.{number_text};
 ghost use Rattle.vipr_bytes.specs.Known.{text_of};
 ghost use Rattle.vipr_linear.specs.Constraint.{constraint_of};
 ghost use Rattle.vipr_explain.specs.Explained.{IsGoalText, IsProvedText};
 ghost use Rattle.vipr_explain.specs.Found.{AreItemsOf, HasFault, LacksItems, OnlyIf};
 ghost use Rattle.vipr_explain.specs.Found.{all_derivations_read};
-ghost use Rattle.vipr_explain.specs.Lacking.{LacksGoal};
-ghost use Rattle.vipr_spec.specs.Number.{number_text};
-ghost use Rattle.vipr_page.specs.Algebra.{size};
-ghost use Rattle.vipr_explain.specs.Listed.{known_constraint};
 ghost use Rattle.vipr_explain.specs.Goals.{goal_line, wanted_text};
+ghost use Rattle.vipr_explain.specs.Lacking.{LacksGoal};
+ghost use Rattle.vipr_explain.specs.Listed.{known_constraint};
 ghost use Rattle.vipr_explain.specs.Near.{AreNearLines, IsGapText, IsNoProofText, IsStrength};
 ghost use Rattle.vipr_explain.specs.Near.{IsStrengthIn, IsStrengthOf, base_text, bases_by};
 ghost use Rattle.vipr_explain.specs.Near.{cut_mark_of, near_head, near_text, some_bases};
 ghost use Rattle.vipr_explain.specs.Nearing.{near_of};
 ghost use Rattle.vipr_explain.specs.Pages.{PutsSome};
-ghost use Rattle.vipr_page.specs.Written.{PutsText};
 ghost use Rattle.vipr_explain.specs.declared.shown.PlacedItems.{PlacedItems};
+ghost use Rattle.vipr_page.specs.Algebra.{size};
+ghost use Rattle.vipr_page.specs.Written.{PutsText};
 
 use crate::items::Items;
 use crate::missing::Missing;

@@ -1,20 +1,17 @@
 //! The items of a text that an explanation names.
 ghost use Rattle.std.specs.Prelude.{◌≡◌, ◌≤◌, ◌<◌, ◌+◌, ◌^◌, ◌∷◌, ◌++◌, suc, false, Ok, [], map};
-ghost use Rattle.std.specs.Prelude.{fold, max, IfErr, IfOk, IfSome, OnOk, IsSome};
-ghost use Rattle.std.specs.Prelude.{◌⊎◌, length, true};
-ghost use Rattle.vipr_spec.specs.Input.{Input};
+ghost use Rattle.std.specs.Prelude.{◌⊎◌, fold, max, length, IfErr, IfOk, OnOk, IsSome};
 ghost use Rattle.vipr_spec.specs.Certificate.{Problem as ProblemMeant};
-ghost use Rattle.vipr_spec.specs.Reading.{derivation_read, problem_read, read_each};
-ghost use Rattle.vipr_spec.specs.Reading.{solution_read};
+ghost use Rattle.vipr_spec.specs.Reading.{derivation_read, problem_read, read_each, solution_read};
 ghost use Rattle.vipr_bytes.specs.Known.{IfKnown, text_of};
 ghost use Rattle.vipr_scan.specs.Giving.{rest_of};
 ghost use Rattle.vipr_cert.specs.Items.{solution_of, derivation_of};
 ghost use Rattle.vipr_read.specs.Items.{Knows, Remembers};
 ghost use Rattle.vipr_explain.specs.Found.{Finds, WerePassed, derivations_behind, head_read};
-ghost use Rattle.vipr_explain.specs.Found.{nth_read, numbered_of, wanted_among};
-ghost use Rattle.vipr_explain.specs.Found.{HasKeptItems, KeepsNext, AreFoundItems};
-ghost use Rattle.vipr_explain.specs.Found.{Because, HasFault, IsListedSolution, Missed, OnlyIf};
-ghost use Rattle.vipr_explain.specs.Found.{LacksListed, count_read, items_up_to};
+ghost use Rattle.vipr_explain.specs.Found.{nth_read, numbered_of, wanted_among, HasKeptItems};
+ghost use Rattle.vipr_explain.specs.Found.{KeepsNext, AreFoundItems, Because, HasFault};
+ghost use Rattle.vipr_explain.specs.Found.{IsListedSolution, Missed, OnlyIf, LacksListed};
+ghost use Rattle.vipr_explain.specs.Found.{count_read, items_up_to};
 
 use crate::missing::Missing;
 use crate::text::Text;

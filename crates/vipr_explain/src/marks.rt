@@ -1,6 +1,6 @@
 //! The places of items' names in a text, and of their last references.
-ghost use Rattle.std.specs.Prelude.{◌≡◌, ◌<◌, ◌^◌, ℕ, List, true, length, map, option_copied};
-ghost use Rattle.std.specs.Prelude.{IfErr, IfOk, OnOk};
+ghost use Rattle.std.specs.Prelude.{◌≡◌, ◌<◌, ◌^◌, List, true, length, map, option_copied, IfErr};
+ghost use Rattle.std.specs.Prelude.{IfOk, OnOk};
 ghost use Rattle.vipr_spec.specs.Input.{Input};
 ghost use Rattle.vipr_spec.specs.Tokens.{Token};
 ghost use Rattle.vipr_bytes.specs.Known.{IfKnown};
@@ -130,7 +130,7 @@ fn mark_items<R: Source + Drop>(
     Err(Missing::Memory)
 }
 
-/// The mark of a constraint among others.
+/// The mark of an item among others.
 pub(crate) fn mark_of(marks: &[ItemPlace], index: u32) -> Option<ItemPlace>
     ensures { result ≡ place_found marks.now index }
 {

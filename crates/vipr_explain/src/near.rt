@@ -1,9 +1,7 @@
 //! Finds the constraints that come nearest to a claim, and the assumptions that they rest on.
-ghost use Rattle.std.specs.Prelude.{◌≡◌, ◌≤◌, ◌<◌, ◌+◌, ◌-◌, ◌^◌, ◌∷◌, ◌++◌, ◌↔◌, [], ℕ, IsTrue};
-ghost use Rattle.std.specs.Prelude.{List};
-ghost use Rattle.std.specs.Prelude.{IfErr, IfOk, IsSome, OnOk, Option, drop, fold, length, map};
-ghost use Rattle.std.specs.Prelude.{option_map};
-ghost use Rattle.std.specs.Prelude.{slice_get, suc};
+ghost use Rattle.std.specs.Prelude.{◌≡◌, ◌≤◌, ◌<◌, ◌+◌, ◌-◌, ◌^◌, ◌∷◌, ◌++◌, ◌↔◌, [], List, IsTrue};
+ghost use Rattle.std.specs.Prelude.{IfErr, IfOk, IsSome, OnOk, drop, fold, length, map, option_map};
+ghost use Rattle.std.specs.Prelude.{suc};
 ghost use Rattle.vipr_spec.specs.Certificate.{Derivation as DerivationMeant};
 ghost use Rattle.vipr_spec.specs.Certificate.{Problem as ProblemMeant, reason_references};
 ghost use Rattle.vipr_spec.specs.Reading.{derivation_read, read_each};
@@ -17,7 +15,7 @@ ghost use Rattle.vipr_explain.specs.Near.{AreCompared, AreNearest, IsNear, Compa
 ghost use Rattle.vipr_explain.specs.Near.{last_three, leaves_out, near_with, nearest, resting_by};
 ghost use Rattle.vipr_explain.specs.Near.{rests_on_none, with_others, with_entry_of, with_one};
 ghost use Rattle.vipr_explain.specs.Near.{with_referred, with_those};
-ghost use Rattle.vipr_explain.specs.Nearing.{PassesNext, near_of, passed_of};
+ghost use Rattle.vipr_explain.specs.Nearing.{PassesNext, near_of};
 
 use crate::items::open_derivations;
 use crate::missing::Missing;

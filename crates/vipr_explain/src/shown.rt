@@ -20,10 +20,6 @@ pub(crate) struct PlacedItems {
 }
 
 impl PlacedItems {
-    ghost use Rattle.std.specs.Prelude.{IfOk};
-    ghost use Rattle.vipr_bytes.specs.Known.{IfKnown, text_of};
-    ghost use Rattle.vipr_explain.specs.Found.{AreFoundItems};
-
     /// Reads the constraints of these indices.
     pub(crate) fn read<T: Text>(
         subject: &Subject<'_, T>,

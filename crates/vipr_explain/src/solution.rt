@@ -1,30 +1,28 @@
-//! Explains a listed solution that is refused, and a primal bound that no listed one
-//! attains.
-ghost use Rattle.std.specs.Prelude.{◌≡◌, ◌≤◌, ◌⊎◌, true, IfErr, IfOk, IfSome, List, length};
-ghost use Rattle.std.specs.Prelude.{[], if◌then◌else◌, nat_lt, slice_get, ◌<◌, IsSome, Ok, OnOk};
-ghost use Rattle.std.specs.Prelude.{◌∷◌, Some, map, suc};
+//! Explains a listed solution that is refused, and a primal bound that no listed one attains.
+ghost use Rattle.std.specs.Prelude.{◌≡◌, ◌≤◌, ◌⊎◌, true, IfErr, IfOk, List, length, []};
+ghost use Rattle.std.specs.Prelude.{if◌then◌else◌, nat_lt, slice_get, ◌<◌, IsSome, Ok, OnOk, ◌∷◌};
+ghost use Rattle.std.specs.Prelude.{Some, map, suc};
+ghost use Rattle.std.specs.FinMap.{entries};
 ghost use Rattle.vipr_spec.specs.Certificate.{Named as NamedMeant, Problem as ProblemMeant};
 ghost use Rattle.vipr_spec.specs.Constraint.{Row as RowMeant};
 ghost use Rattle.vipr_spec.specs.Reading.{read_each, solution_read};
-ghost use Rattle.vipr_scan.specs.Giving.{rest_of};
-ghost use Rattle.vipr_read.specs.Items.{Knows, Remembers};
-ghost use Rattle.vipr_explain.specs.Primal.{AreListed, IsNoPrimalText, ShowsValue, ShowsValues};
-ghost use Rattle.vipr_explain.specs.Primal.{Valued, better_of, better_value_of};
-ghost use Rattle.std.specs.FinMap.{entries};
-ghost use Rattle.vipr_linear.specs.Constraint.{constraint_of};
 ghost use Rattle.vipr_bytes.specs.Known.{IfKnown, text_of};
+ghost use Rattle.vipr_scan.specs.Giving.{rest_of};
+ghost use Rattle.vipr_linear.specs.Constraint.{constraint_of};
 ghost use Rattle.vipr_cert.specs.Items.{direction_of, named_of, solution_of};
+ghost use Rattle.vipr_read.specs.Items.{Knows, Remembers};
 ghost use Rattle.vipr_explain.specs.Explained.{ArePlacesFor, IsSolutionPlace, IsSolutionText};
 ghost use Rattle.vipr_explain.specs.Found.{HasFault, Missed, OnlyIf, all_solutions_read};
 ghost use Rattle.vipr_explain.specs.Lacking.{LacksBroken, LacksSolution};
 ghost use Rattle.vipr_explain.specs.Marked.{AreMarksOf};
 ghost use Rattle.vipr_explain.specs.Pages.{PutsSome};
-ghost use Rattle.vipr_explain.specs.declared.marks.ItemPlace.{ItemPlace};
+ghost use Rattle.vipr_explain.specs.Primal.{AreListed, IsNoPrimalText, ShowsValue, ShowsValues};
+ghost use Rattle.vipr_explain.specs.Primal.{Valued, better_of, better_value_of};
 ghost use Rattle.vipr_explain.specs.Solutions.{best_text, broken_text, false_text, not_whole_text};
 ghost use Rattle.vipr_explain.specs.Solutions.{overflow_lines, overflow_text, primal_error};
-ghost use Rattle.vipr_explain.specs.Solutions.{sides_text};
-ghost use Rattle.vipr_explain.specs.Solutions.{fault_lines, solution_error, solution_fault};
-ghost use Rattle.vipr_explain.specs.Solutions.{value_line, values_text};
+ghost use Rattle.vipr_explain.specs.Solutions.{sides_text, fault_lines, solution_error};
+ghost use Rattle.vipr_explain.specs.Solutions.{solution_fault, value_line, values_text};
+ghost use Rattle.vipr_explain.specs.declared.marks.ItemPlace.{ItemPlace};
 ghost use Rattle.vipr_page.specs.Written.{PutsText};
 
 use crate::items::{open_problem, read_solution};
@@ -142,8 +140,7 @@ impl<T: Text> Subject<'_, T> {
         }
     }
 
-    /// Explains that no listed solution attains the primal bound: the best value of those
-    /// listed.
+    /// Explains that no listed solution attains the primal bound: the best value of those listed.
     pub(crate) fn put_no_primal(&self, page: &mut Page, bound: Frac) -> Result<(), Missing>
         ensures shown { IfOk result (λ _. PutsSome
             (IsNoPrimalText (T.input self.now.text.now) bound) page.old page.new) }
@@ -292,7 +289,7 @@ fn put_best(page: &mut Page, best: Option<Frac>)
     }
 }
 
-// The same of all solutions that are to come.
+// Shows the objective at all solutions that are to come, and answers its best value.
 fn put_all_values<R: Source + Drop>(
     page: &mut Page,
     alloc: Global,

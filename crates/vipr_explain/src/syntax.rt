@@ -1,5 +1,5 @@
 //! Explains a fault of a text: its place, and what is wanted there.
-ghost use Rattle.std.specs.Prelude.{◌≡◌, ◌<◌, ◌^◌, [], IfErr, IfOk, OnOk, length, true};
+ghost use Rattle.std.specs.Prelude.{◌≡◌, [], IfErr, IfOk, OnOk, true};
 ghost use Rattle.vipr_spec.specs.Input.{Input};
 ghost use Rattle.vipr_explain.specs.Contexts.{context_text, error_text, token_fault_text};
 ghost use Rattle.vipr_explain.specs.Contexts.{found_words};

@@ -52,7 +52,7 @@ impl Spot {
         }
     }
 
-    /// The place behind a byte that is here.
+    // The place behind a byte that is here.
     fn after(self, byte: u8) -> Spot
         ensures { (bytes : List ℕ) → self ≡ place_behind bytes
             → result ≡ place_behind (bytes ++ byte ∷ []) }

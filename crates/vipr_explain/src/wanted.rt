@@ -1,11 +1,11 @@
 //! How far a certificate's text was read: what it has to have at its next token.
 ghost use Rattle.std.specs.Prelude.{◌≡◌, ◌+◌};
 ghost use Rattle.vipr_explain.specs.Progress.{at_start, claim_passed, count_passed, count_spelled};
-ghost use Rattle.vipr_explain.specs.Progress.{counted_name, first_of, first_of_item};
-ghost use Rattle.vipr_explain.specs.Progress.{in_u32, index_of, item_begun};
-ghost use Rattle.vipr_explain.specs.Progress.{item_ended, item_word, keyword_of, name_passed};
-ghost use Rattle.vipr_explain.specs.Progress.{next_section, pair_begun, part_begun, passed};
-ghost use Rattle.vipr_explain.specs.Progress.{reason_passed, row_ended, section_ended};
+ghost use Rattle.vipr_explain.specs.Progress.{counted_name, first_of, first_of_item, in_u32};
+ghost use Rattle.vipr_explain.specs.Progress.{index_of, item_begun, item_ended, item_word};
+ghost use Rattle.vipr_explain.specs.Progress.{keyword_of, name_passed, next_section, pair_begun};
+ghost use Rattle.vipr_explain.specs.Progress.{part_begun, passed, reason_passed, row_ended};
+ghost use Rattle.vipr_explain.specs.Progress.{section_ended};
 ghost use Rattle.vipr_explain.specs.ReasonTexts.{first_of_reason};
 
 /// The sections of a certificate, in their order.

@@ -2,10 +2,9 @@
 ghost use Rattle.std.specs.Prelude.{◌≡◌, IfErr, IfOk, IfSome, option_map};
 ghost use Rattle.vipr_explain.specs.Found.{OnlyIf};
 ghost use Rattle.vipr_explain.specs.Lacking.{LacksClaim, LacksDerivation, LacksItem, LacksPlace};
+ghost use Rattle.vipr_explain.specs.Pages.{ExplainsVerdict, IsClaimText, IsPageFor, IsRefusalText};
+ghost use Rattle.vipr_explain.specs.Pages.{IsTextAt, IsVerdictPage, PutsSome, not_read};
 ghost use Rattle.vipr_page.specs.Page.{cut, shown_text};
-ghost use Rattle.vipr_explain.specs.Pages.{ExplainsVerdict, IsClaimText, IsPageFor};
-ghost use Rattle.vipr_explain.specs.Pages.{IsRefusalText, IsTextAt, IsVerdictPage, PutsSome};
-ghost use Rattle.vipr_explain.specs.Pages.{not_read};
 
 use crate::missing::Missing;
 use crate::step::StepFault;
