@@ -68,27 +68,8 @@ fn keep(gathered: &mut Gathered, piece: &[u8])
     }
 }
 
-// Adds a piece for which the buffer has to be emptied before.
-fn gather_past<W: Sink>(
-    sink: &mut W,
-    gathered: &mut Gathered,
-    piece: &[u8],
-) -> Result<(), WriteFailed>
-    requires buffer { IsBuffer gathered.old }
-    requires count { gathered.old.handed + length gathered.old.bytes.items + length piece.now
-        < 2 ^ 64 }
-    ensures { Gathers (W.output sink.old) (W.output sink.new) (W.failures sink.old)
-        (W.failures sink.new) gathered.old gathered.new piece.now result }
-{
-    flush(sink, gathered)?;
-    if piece.len() > BUFFER_BYTES {
-        return hand(sink, &mut gathered.handed, piece);
-    }
-    keep(gathered, piece);
-    Ok(())
-}
-
-/// Adds a piece. Bytes are handed on if there is no room for it.
+/// Adds a piece. Bytes are handed on if there is no room for it, and a piece that is longer than
+/// the whole buffer goes with them.
 pub(crate) fn gather<W: Sink>(
     sink: &mut W,
     gathered: &mut Gathered,
@@ -100,8 +81,13 @@ pub(crate) fn gather<W: Sink>(
     ensures { Gathers (W.output sink.old) (W.output sink.new) (W.failures sink.old)
         (W.failures sink.new) gathered.old gathered.new piece.now result }
 {
-    if piece.len() > BUFFER_BYTES - gathered.bytes.len() {
-        return gather_past(sink, gathered, piece);
+    if piece.len() <= BUFFER_BYTES - gathered.bytes.len() {
+        keep(gathered, piece);
+        return Ok(());
+    }
+    flush(sink, gathered)?;
+    if piece.len() > BUFFER_BYTES {
+        return hand(sink, &mut gathered.handed, piece);
     }
     keep(gathered, piece);
     Ok(())
