@@ -1,8 +1,8 @@
 -- The numbers that a sum and a product go through, and what the fields of a `Frac` keep.
-use Rattle.std.specs.Prelude.{ℕ, ◌*◌, ◌/◌, ◌<◌, ◌≤◌, ◌^◌, ◌⊎◌, ℤ, pos, ◌+ℤ◌, ◌*ℤ◌}
-use Rattle.std.specs.Prelude.{unsigned_abs, int_div, FitsSigned}
+use Rattle.std.specs.Prelude.{◌≡◌, ◌↔◌, ℕ, ◌*◌, ◌/◌, ◌<◌, ◌≤◌, ◌^◌, ◌⊎◌, ℤ, pos, ◌+ℤ◌, ◌*ℤ◌}
+use Rattle.std.specs.Prelude.{unsigned_abs, int_div, FitsSigned, Result, IsOk, OnOk, OnErr}
 use Rattle.std.specs.Int.{w64}
-use Rattle.vipr_spec.specs.Fraction.{ℚ, most}
+use Rattle.vipr_spec.specs.Fraction.{ℚ, most, ◌+ℚ◌, ◌*ℚ◌, ProductFits, SumFits}
 use Rattle.vipr_spec.specs.Gcd.{gcd}
 use Rattle.vipr_spec.specs.Lowest.{IsLowest}
 
@@ -71,3 +71,9 @@ pub record FitsSum (x y : ℚ) : Type 0 where
 pub record IsSmall (x : ℚ) : Type 0 where
   pub numer : unsigned_abs x.numer ≤ 2 ^ 63
   pub denom : x.denom < 2 ^ 63
+
+-- the product of a and b was added to a sum, unless it or the new sum is out of bound
+pub record AddsProduct {E : Type 0} (a b old new : ℚ) (result : Result (Unit {0}) E) : Type 0 where
+  pub fits : IsOk result ↔ (ProductFits a b × SumFits old (a *ℚ b))
+  pub sum : OnOk result (new ≡ old +ℚ a *ℚ b)
+  pub kept : OnErr result (new ≡ old)

@@ -3,7 +3,7 @@ ghost use Rattle.std.specs.Prelude.{◌≡◌, ◌↔◌, ◌<◌, ◌≤◌, �
 ghost use Rattle.std.specs.Prelude.{IsFalse, MatchOption, OnOk, OnErr, unsigned_abs, FitsSigned};
 ghost use Rattle.std.specs.Int.{w64};
 ghost use Rattle.vipr_spec.specs.Fraction.{over, zero_ℚ, ◌+ℚ◌, ◌*ℚ◌, SumFits, ProductFits};
-ghost use Rattle.vipr_frac.specs.Parts.{IsPartial, IsReduced};
+ghost use Rattle.vipr_frac.specs.Parts.{AddsProduct, IsPartial, IsReduced};
 
 use crate::frac::{Frac, Overflow, of_parts, reduced_words};
 use crate::pairs::{is_word, mixed_sum, pair_product, raised_sum, words};
@@ -266,10 +266,7 @@ impl Partial {
 fn add_long(sum: &mut Partial, p: i128, q: u128, r: i128, s: u128) -> Result<(), Overflow>
     requires left { IsReduced p q }
     requires right { IsReduced r s }
-    ensures fits { IsOk result ↔ (ProductFits (over p q) (over r s)
-        × SumFits sum.old (over p q *ℚ over r s)) }
-    ensures sum { OnOk result (sum.new ≡ sum.old +ℚ over p q *ℚ over r s) }
-    ensures kept { OnErr result (sum.new ≡ sum.old) }
+    ensures { AddsProduct (over p q) (over r s) sum.old sum.new result }
 {
     if add_word_product(sum, p, q, r, s) {
         return Ok(());
@@ -282,10 +279,7 @@ fn add_long(sum: &mut Partial, p: i128, q: u128, r: i128, s: u128) -> Result<(),
 fn add_exact(sum: &mut Partial, p: i128, q: u128, r: i128, s: u128) -> Result<(), Overflow>
     requires left { IsReduced p q }
     requires right { IsReduced r s }
-    ensures fits { IsOk result ↔ (ProductFits (over p q) (over r s)
-        × SumFits sum.old (over p q *ℚ over r s)) }
-    ensures sum { OnOk result (sum.new ≡ sum.old +ℚ over p q *ℚ over r s) }
-    ensures kept { OnErr result (sum.new ≡ sum.old) }
+    ensures { AddsProduct (over p q) (over r s) sum.old sum.new result }
 {
     let exact = exact_sum(sum.value(), of_parts(p, q), of_parts(r, s))?;
     *sum = Partial::of(exact);
