@@ -1,9 +1,10 @@
 //! A status with a text, and how a text gets into a buffer.
 
-ghost use Rattle.std.specs.Prelude.{◌≡◌, []};
-ghost use Rattle.vipr_c.specs.Handed.{Fills, profile_numbered};
+ghost use Rattle.std.specs.Prelude.{◌≡◌, [], MatchResult};
+ghost use Rattle.vipr_c.specs.Handed.{Fills, HasNoMemory, profile_numbered};
 
 use std::alloc::Global;
+use vipr_check::Fault;
 use vipr_rules::Profile;
 
 /// The status of a profile that there isn't.
@@ -27,6 +28,17 @@ impl Handed {
         Handed {
             status,
             text: Vec::new(alloc),
+        }
+    }
+
+    /// What was made, or a status alone if there was no memory for it.
+    pub(crate) fn or_no_memory(alloc: Global, made: Result<Handed, Fault>) -> Handed
+        ensures { MatchResult made (λ handed. result ≡ handed)
+            (λ _. HasNoMemory result.status result.text.items) }
+    {
+        match made {
+            Ok(handed) => handed,
+            Err(_) => Handed::nothing(alloc, NO_MEMORY),
         }
     }
 

@@ -12,7 +12,7 @@ ghost use Rattle.vipr_c.specs.AnswerOf.{status_of};
 ghost use Rattle.vipr_c.specs.Handed.{ByProfile, IsExplanation, IsReport, ReturnsExplanation};
 ghost use Rattle.vipr_c.specs.Handed.{ReturnsReport, in_memory, profile_numbered};
 
-use crate::handed::{Handed, NO_MEMORY, NO_PROFILE, profile_numbered};
+use crate::handed::{Handed, NO_PROFILE, profile_numbered};
 use std::alloc::{AllocError, Global};
 use vipr_bytes::Bytes;
 use vipr_check::{Detail, Explanation, Fault, Verdict, check_in, explain_in};
@@ -23,12 +23,9 @@ pub(crate) fn report(alloc: Global, profile: u32, text: &[u8]) -> Handed
     ensures { ByProfile (profile_numbered profile) (ReturnsReport text.now) result.status
         result.text.items }
 {
-    let Some(profile) = profile_numbered(profile) else {
-        return Handed::nothing(alloc, NO_PROFILE);
-    };
-    match verdict_lines(alloc, profile, text) {
-        Ok(lines) => lines,
-        Err(_) => Handed::nothing(alloc, NO_MEMORY),
+    match profile_numbered(profile) {
+        Some(profile) => Handed::or_no_memory(alloc, verdict_lines(alloc, profile, text)),
+        None => Handed::nothing(alloc, NO_PROFILE),
     }
 }
 
@@ -70,12 +67,9 @@ pub(crate) fn explanation(alloc: Global, profile: u32, text: &[u8]) -> Handed
     ensures { ByProfile (profile_numbered profile) (ReturnsExplanation text.now) result.status
         result.text.items }
 {
-    let Some(profile) = profile_numbered(profile) else {
-        return Handed::nothing(alloc, NO_PROFILE);
-    };
-    match explanation_lines(alloc, profile, text) {
-        Ok(lines) => lines,
-        Err(_) => Handed::nothing(alloc, NO_MEMORY),
+    match profile_numbered(profile) {
+        Some(profile) => Handed::or_no_memory(alloc, explanation_lines(alloc, profile, text)),
+        None => Handed::nothing(alloc, NO_PROFILE),
     }
 }
 
