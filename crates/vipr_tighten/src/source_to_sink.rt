@@ -17,6 +17,7 @@ use crate::outcome::{Outcome, TightenFault};
 use crate::peak::peak;
 use crate::proof_reader::{KeptProof, read_proof};
 use std::alloc::Global;
+use std::mem::replace;
 use vipr_bytes::{Sink, Source};
 use vipr_check::NoProof;
 use vipr_rules::Profile;
@@ -89,7 +90,12 @@ pub fn tighten_as<R: Source + Drop, W: Sink>(
         (W.output sink.new) result }
 {
     match read_proof(alloc, profile, form, source) {
-        Ok(proof) => write_tightened(alloc, proof, sink),
+        Ok(mut proof) => {
+            let written = write_tightened(alloc, &mut proof, sink);
+            // Dropped at this one place, whatever was answered.
+            drop(proof);
+            written
+        }
         Err(reason) => without_proof(reason),
     }
 }
@@ -105,29 +111,30 @@ fn without_proof(reason: NoProof) -> Result<Outcome, TightenFault>
     }
 }
 
-// Writes the tightened certificate of the proof of which this is kept.
+// Writes the tightened certificate of the proof of which this is kept. The steps are moved out.
 fn write_tightened<W: Sink>(
     alloc: Global,
-    proof: KeptProof,
+    proof: &mut KeptProof,
     sink: &mut W,
 ) -> Result<Outcome, TightenFault>
     requires { (P : ProfileMeant) × (F : FormMeant) × (c : CertificateMeant)
-        × IsKeptOf P F c proof }
-    ensures { (P : ProfileMeant) (F : FormMeant) (c : CertificateMeant) → IsKeptOf P F c proof
+        × IsKeptOf P F c proof.old }
+    ensures { (P : ProfileMeant) (F : FormMeant) (c : CertificateMeant) → IsKeptOf P F c proof.old
         → TightensText P F (kind_of c) (W.output sink.old) (W.output sink.new) result }
 {
+    let steps = replace(&mut proof.steps, Vec::new(alloc));
     let KeptProof {
         problem,
         solutions,
         statements,
-        steps,
         report,
-    } = proof;
+        ..
+    } = &*proof;
     let first = problem.cons().len();
     let tightened = tighten_steps(alloc, steps, first as u32, report.goal)?;
     let peak_after = peak(alloc, first, &tightened)?;
     let kept = tightened.len() as u32;
-    match write_steps(alloc, &problem, &solutions, &statements, &tightened, sink) {
+    match write_steps(alloc, problem, solutions, statements, &tightened, sink) {
         Ok(()) => Ok(Outcome::Tightened {
             kept,
             removed: report.derived - kept,

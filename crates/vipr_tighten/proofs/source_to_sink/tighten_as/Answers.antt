@@ -4,8 +4,8 @@ use Rattle.vipr_tighten.specs.Tightens.{TightensAs}
 use Rattle.vipr_tighten.proofs.Outcomes.{decided_proof, decided_not}
 use Rattle.vipr_tighten.proofs.source_to_sink.tighten_as.Goals as goal
 
-pub write_tightened-requires : goal.write_tightened-requires
-write_tightened-requires g c =
+pub write_tightened-written-requires : goal.write_tightened-written-requires
+write_tightened-written-requires g c =
     let (x, is, found) = c.in-Ok.ensures.proof in
     (profile_of c.args.profile, c.args.form, x, is)
 
@@ -13,7 +13,7 @@ pub returns-in-Ok : goal.returns-in-Ok
 returns-in-Ok g c =
     let P = profile_of c.args.profile in
     let (x, is, found) = c.in-Ok.ensures.proof in
-    decided_proof P c.args.form (g.R.Source.input c.args.source) x c.in-Ok.proof.report (g.W.Sink.output c.args.sink.now) (g.W.Sink.output c.write_tightened.new.sink) c.write_tightened.result (c.write_tightened.ensures P c.args.form x is) found
+    decided_proof P c.args.form (g.R.Source.input c.args.source) x c.in-Ok.proof.report (g.W.Sink.output c.args.sink.now) (g.W.Sink.output c.write_tightened-written.new.sink) c.write_tightened-written.result (c.write_tightened-written.ensures P c.args.form x is) found
 
 pub returns-in-Err : goal.returns-in-Err
 returns-in-Err g c =
