@@ -85,15 +85,51 @@ fn read_rest<R: Source + Drop>(
         → AnswersWhy (profile_of profile) (solutions_left problem [] solutions) e) }
 {
     let mut statements = Statements::new(alloc, form, problem.objective())?;
-    let mut checker: Checker<Table> = Checker::new_in(alloc, profile, problem)?;
-    let (listed, steps, report) = read_items(alloc, &mut checker, &mut statements, solutions)?;
+    let (problem, solutions, steps, report) = read_checked(
+        alloc,
+        profile,
+        problem,
+        &mut statements,
+        solutions,
+    )?;
     Ok(KeptProof {
-        problem: checker.into_problem(),
-        solutions: listed,
+        problem,
+        solutions,
         statements,
         steps,
         report,
     })
+}
+
+// The problem, with the solutions and the derivations that follow it up to the end of the text, and
+// the report of the proof that they make.
+fn read_checked<R: Source + Drop>(
+    alloc: Global,
+    profile: Profile,
+    problem: Problem,
+    statements: &mut Statements,
+    solutions: Solutions<R>,
+) -> Result<(Problem, Vec<Named<Solution>>, Vec<Step<Statement>>, Report), NoProof>
+    requires knows { Knows solutions problem }
+    requires working { solutions.failed ≡ false }
+    requires counted { solutions.left < 2 ^ 32 }
+    requires none { AreKept statements.old [] [] }
+    ensures same { OnOk result (IsForSame statements.old statements.new) }
+    ensures kept { IfOk result (λ x. (x.0 ≡ problem) × (ds : List DerivationMeant)
+        × AreKept statements.new x.2.items ds
+        × (CanWriteProblem problem
+        → CanWrite (with_more (start problem (map solution_of x.1.items)) ds))
+        × KeepsProof (profile_of profile) problem solutions
+        (with_more (start problem (map solution_of x.1.items)) ds) x.3) }
+    ensures unproved { IfErr result (λ e. IsSome solutions.rest
+        → AnswersWhy (profile_of profile) (solutions_left problem [] solutions) e) }
+{
+    let mut checker: Checker<Table> = Checker::new_in(alloc, profile, problem)?;
+    let read = read_items(alloc, &mut checker, statements, solutions);
+    // The checker is given up at this one place, whatever was answered.
+    let problem = checker.into_problem();
+    let (listed, steps, report) = read?;
+    Ok((problem, listed, steps, report))
 }
 
 // The solutions and the derivations that follow, up to the end of the text, and the report of the
@@ -120,7 +156,12 @@ fn read_items<R: Source + Drop>(
 {
     let listed = read_listed(alloc, checker, &mut solutions)?;
     let mut derivations = solutions.finish()?;
-    let (steps, report) = read_derived(alloc, checker, statements, &mut derivations)?;
+    let mut step = Derivation::blank(alloc);
+    let derived = read_derived(alloc, checker, statements, &mut derivations, &mut step);
+    // Dropped at this one place, whatever was answered.
+    drop(step);
+    drop(derivations);
+    let (steps, report) = derived?;
     Ok((listed, steps, report))
 }
 
@@ -159,11 +200,13 @@ fn read_listed<R: Source>(
 }
 
 // All derivations that follow, up to the end of the text, and the report, where they make a proof.
+// Each is read in place of `step`.
 fn read_derived<R: Source>(
     alloc: Global,
     checker: &mut Checker<Table>,
     statements: &mut Statements,
     derivations: &mut Derivations<R>,
+    step: &mut Derivation,
 ) -> Result<(Vec<Step<Statement>>, Report), NoProof>
     requires at { (P : ProfileMeant) × (p : ProblemMeant) × (ss : List (NamedMeant Row))
         × IsAt P (start p ss) checker.old derivations.old }
@@ -181,15 +224,14 @@ fn read_derived<R: Source>(
         → AnswersWhy P (derivations_left (start p ss) derivations.old) e) }
 {
     let mut steps = Vec::new(alloc);
-    let mut step = Derivation::blank(alloc);
     'steps: loop {
-        let found = derivations.next_into(alloc, &mut step)?;
+        let found = derivations.next_into(alloc, step)?;
         if !found {
             let report = checker.finish()?;
             return Ok((steps, report));
         }
-        checker.derivation(alloc, &step)?;
-        let kept = statements.keep(alloc, &step)?;
+        checker.derivation(alloc, step)?;
+        let kept = statements.keep(alloc, step)?;
         steps.push(kept)?;
     }
 }

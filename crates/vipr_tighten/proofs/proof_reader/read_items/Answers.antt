@@ -22,8 +22,8 @@ returns-in_err-derivations-clause-unproved g c =
     let met = c.in_ok-listed.ensures.kept P p is in
     unread_answers P p c.args.solutions (map solution_of c.in_ok-listed.listed.items) c.read_listed.new.checker c.read_listed.new.solutions met c.in_ok-listed.ensures.none e (c.in_err-derivations.ensures.read p met.listed.is_among.knows) known)
 
-pub read_derived-requires-clause-at : goal.read_derived-requires-clause-at
-read_derived-requires-clause-at g c =
+pub read_derived-derived-requires-clause-at : goal.read_derived-derived-requires-clause-at
+read_derived-derived-requires-clause-at g c =
     let (P, p, is) = c.requires.among in
     let ss = map solution_of c.in_ok-listed.listed.items in
     let f = c.in_ok-derivations.ensures in
@@ -54,5 +54,5 @@ returns-clause-kept g c = λ P p is.
     let at = at_then P p c.args.solutions ss c.read_listed.new.checker c.read_listed.new.solutions met c.in_ok-listed.ensures.none u f.remembers f.working f.counted in
     let (ds, steps, finished) = c.in_ok-steps.ensures.kept in
     let (same_problem, writes, proof) = proof_kept P p c.args.solutions ss c.read_listed.new.checker c.read_listed.new.solutions met c.in_ok-listed.ensures.none u f.remembers f.working f.counted (f.read p met.listed.is_among.knows)
-    ds c.in_ok-steps.report c.read_derived.new.checker is.knows c.in_ok-listed.ensures.items (steps.shapes, steps.fit) (finished P p ss at) in
+    ds c.in_ok-steps.report c.read_derived-derived.new.checker is.knows c.in_ok-listed.ensures.items (steps.shapes, steps.fit) (finished P p ss at) in
     (same_problem, ds, steps.kept, writes, proof)
