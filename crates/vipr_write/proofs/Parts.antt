@@ -1,10 +1,14 @@
--- Lines and sections in the parts in which they are appended
-use Rattle.std.proofs.Common.{◌≡◌, ℕ, List, [], ◌∷◌, ◌++◌, length, map, append_assoc, sym, ap, ◌∙◌}
+-- Numbers, lines and sections in the parts in which they are appended
+use Rattle.std.proofs.Common.{◌≡◌, ℕ, Bool, if◌then◌else◌, List, [], ◌∷◌, ◌++◌, length, map}
+use Rattle.std.proofs.Common.{append_assoc, sym, ap, ◌∙◌}
 use Rattle.std.specs.Prelude.{codes}
 use Rattle.std.specs.List.{flat_map}
+use Rattle.std.specs.Fmt.{decimal, signed_decimal}
+use Rattle.std.proofs.lemmas.Bool.{eq-eqb, ne_eqb}
 use Rattle.std.proofs.lemmas.List.{append-nil, length-map}
 use Rattle.std.proofs.lemmas.List.Folds.{flat_map-map}
 use Rattle.std.proofs.lemmas.Grind.{flat_map-append}
+use Rattle.vipr_spec.specs.Fraction.{ℚ}
 use Rattle.vipr_spec.specs.Constraint.{Row}
 use Rattle.vipr_spec.specs.Certificate.{Problem, integer_variables, Derivation, Certificate}
 use Rattle.vipr_spec.specs.Number.{number_text}
@@ -18,6 +22,17 @@ use Rattle.vipr_write.specs.Forms.{certificate_lines_in}
 use Rattle.vipr_write.specs.Lines.{words_text, integers_lines, constraints_heading}
 use Rattle.vipr_write.specs.Lines.{constraints_lines, constraints_lines_in}
 use Rattle.vipr_write.specs.declared.form.Form.{Form}
+
+abbrev number_by : ℚ → Bool → List ℕ
+number_by x is_whole = if is_whole then signed_decimal x.numer else signed_decimal x.numer ++ 47 ∷ decimal x.denom
+
+-- a number that is its numerator, and one with a denominator
+pub whole_text : (x : ℚ) → x.denom ≡ 1 → signed_decimal x.numer ≡ number_text x
+whole_text x one = sym (ap (number_by x) (eq-eqb x.denom 1 one))
+
+pub parted_text : (x : ℚ) → (x.denom ≡ 1 → ⊥)
+    → signed_decimal x.numer ++ 47 ∷ decimal x.denom ≡ number_text x
+parted_text x more = sym (ap (number_by x) (ne_eqb x.denom 1 more))
 
 words_after_spaces-append : (ws us : List (List ℕ))
     → words_after_spaces (ws ++ us) ≡ words_after_spaces ws ++ words_after_spaces us
