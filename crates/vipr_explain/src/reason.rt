@@ -59,11 +59,13 @@ fn note_of(reason: &Reason) -> &'static str
 impl<'a> ReasonLines<'a> {
     // A sum of these entries.
     fn sum(&self, word: &'static str, entries: &'a [(u32, Frac)]) -> SumLines<'a>
-        ensures known { result.known.now ≡ self.now.known.now }
-        ensures own { result.own ≡ self.now.own }
-        ensures what { result.what.now ≡ self.now.what.now }
-        ensures word { result.word.now ≡ word.now }
-        ensures entries { result.entries.now ≡ entries.now }
+        ensures { result ≡ record {
+          known = self.now.known;
+          own = self.now.own;
+          what = self.now.what;
+          word = word.entry;
+          entries = entries.entry;
+        } }
     {
         SumLines {
             known: self.known,
