@@ -210,12 +210,12 @@ all_lines known goal near i p q le so_far =
 
 pub lines_none : (known : PlacedItems) (goal : Option spec.Constraint) (p : Page)
     → (text : List ℕ) × AreNearLines known goal [] text × PutsText p p text
-lines_none known goal p = ([], record { said = []; each = refl; strengths = All-nil (λ (x : Near × List ℕ). IsStrength known goal x.0.0 x.1); parts = refl }, puts_none p)
+lines_none known goal p = ([], record { said = []; each = refl; strengths = All-nil (λ (x : Near × List ℕ). IsStrength known.items goal x.0.0 x.1); parts = refl }, puts_none p)
 
 -- one more
 pub lines_more : (known : PlacedItems) (goal : Option spec.Constraint) (near more : List Near)
     (n : Near) (strength : List ℕ) (p q r : Page) → more ≡ near ++ n ∷ []
-    → IsStrength known goal n.0 strength → PutsText q r (near_text known (n, strength))
+    → IsStrength known.items goal n.0 strength → PutsText q r (near_text known (n, strength))
     → ((text : List ℕ) × AreNearLines known goal near text × PutsText p q text)
     → (text : List ℕ) × AreNearLines known goal more text × PutsText p r text
 lines_more known goal near more n strength p q r e is one so_far =
@@ -224,7 +224,7 @@ lines_more known goal near more n strength p q r e is one so_far =
       record {
         said = said;
         each = map-append (λ n. n.0) so_far.1.said ((n, strength) ∷ []) ∙ ap (λ l. l ++ n ∷ []) so_far.1.each ∙ sym e;
-        strengths = All-append (λ (x : Near × List ℕ). IsStrength known goal x.0.0 x.1) so_far.1.said ((n, strength) ∷ []) so_far.1.strengths (All-cons (λ (x : Near × List ℕ). IsStrength known goal x.0.0 x.1) (n, strength) [] is (All-nil (λ (x : Near × List ℕ). IsStrength known goal x.0.0 x.1)));
+        strengths = All-append (λ (x : Near × List ℕ). IsStrength known.items goal x.0.0 x.1) so_far.1.said ((n, strength) ∷ []) so_far.1.strengths (All-cons (λ (x : Near × List ℕ). IsStrength known.items goal x.0.0 x.1) (n, strength) [] is (All-nil (λ (x : Near × List ℕ). IsStrength known.items goal x.0.0 x.1)));
         parts = ap (λ l. l ++ near_text known (n, strength)) so_far.1.parts
             ∙ ap (λ l. flat_map (near_text known) so_far.1.said ++ l) (sym (append-nil (near_text known (n, strength))))
             ∙ sym (flat_map-append (near_text known) so_far.1.said ((n, strength) ∷ []));

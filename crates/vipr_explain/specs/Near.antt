@@ -137,12 +137,9 @@ IsStrengthOf goal (Some c) text =
     × IsGapText goal.bound c.bound text)
 IsStrengthOf goal None text = text ≡ []
 
-abbrev pub IsStrengthIn : Items → Option spec.Constraint → ℕ → List ℕ → Type 0
-IsStrengthIn items (Some goal) index text = IsStrengthOf goal (known_constraint items index) text
-IsStrengthIn items None index text = text ≡ []
-
-abbrev pub IsStrength : PlacedItems → Option spec.Constraint → ℕ → List ℕ → Type 0
-IsStrength known goal index text = IsStrengthIn known.items goal index text
+abbrev pub IsStrength : Items → Option spec.Constraint → ℕ → List ℕ → Type 0
+IsStrength items (Some goal) index text = IsStrengthOf goal (known_constraint items index) text
+IsStrength items None index text = text ≡ []
 
 abbrev pub base_text : ℕ → List ℕ
 base_text index = codes " [" ++ (decimal index ++ codes "]")
@@ -193,7 +190,7 @@ pub record AreNearLines (known : PlacedItems) (goal : Option spec.Constraint) (n
     (text : List ℕ) : Type 0 where
   pub said : List (Near × List ℕ)
   pub each : map (λ n. n.0) said ≡ near
-  pub strengths : All (λ n. IsStrength known goal n.0.0 n.1) said
+  pub strengths : All (λ n. IsStrength known.items goal n.0.0 n.1) said
   pub parts : text ≡ flat_map (near_text known) said
 
 -- what is said if no constraint proves the claim

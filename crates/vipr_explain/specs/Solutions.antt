@@ -18,11 +18,7 @@ solution_fault (detail.NotWhole solution variable name value) =
     codes "` is not whole at an integer variable\n"
 solution_fault (detail.Breaks solution constraint name left sense right) =
     codes "` breaks a constraint\n"
-solution_fault (detail.SolutionOverflow solution at) = codes "` has a value past 2^127 - 1\n"
-solution_fault (detail.Step name what) = codes "` has a value past 2^127 - 1\n"
-solution_fault (detail.NoProof goal) = codes "` has a value past 2^127 - 1\n"
-solution_fault (detail.NoPrimal bound) = codes "` has a value past 2^127 - 1\n"
-solution_fault detail.None = codes "` has a value past 2^127 - 1\n"
+solution_fault _ = codes "` has a value past 2^127 - 1\n"
 
 -- which solution is at fault
 abbrev pub solution_error : ℕ → List ℕ → Detail → List ℕ

@@ -11,8 +11,8 @@ ghost use Rattle.vipr_explain.specs.Goals.{goal_line, wanted_text};
 ghost use Rattle.vipr_explain.specs.Lacking.{LacksGoal};
 ghost use Rattle.vipr_explain.specs.Listed.{known_constraint};
 ghost use Rattle.vipr_explain.specs.Near.{AreNearLines, IsGapText, IsNoProofText, IsStrength};
-ghost use Rattle.vipr_explain.specs.Near.{IsStrengthIn, IsStrengthOf, base_text, bases_by};
-ghost use Rattle.vipr_explain.specs.Near.{cut_mark_of, near_head, near_text, some_bases};
+ghost use Rattle.vipr_explain.specs.Near.{IsStrengthOf, base_text, bases_by, cut_mark_of};
+ghost use Rattle.vipr_explain.specs.Near.{near_head, near_text, some_bases};
 ghost use Rattle.vipr_explain.specs.Nearing.{near_of};
 ghost use Rattle.vipr_explain.specs.Pages.{PutsSome};
 ghost use Rattle.vipr_explain.specs.declared.shown.PlacedItems.{PlacedItems};
@@ -169,7 +169,7 @@ fn put_all_near(page: &mut Page, known: &PlacedItems, goal: Option<&Constraint>,
 
 // Shows a constraint that comes near, and why it isn't enough.
 fn put_near(page: &mut Page, known: &PlacedItems, goal: Option<&Constraint>, near: &Near)
-    ensures { (strength : List ℕ) × IsStrength known.now
+    ensures { (strength : List ℕ) × IsStrength known.now.items
         (option_map (λ c. constraint_of c.now) goal.entry) near.now.index strength
         × PutsText page.old page.new (near_text known.now (near_of near.now, strength)) }
 {
@@ -185,7 +185,7 @@ fn put_near(page: &mut Page, known: &PlacedItems, goal: Option<&Constraint>, nea
 
 // Says whether a constraint is as strong as the goal, if there is one.
 fn put_strength(page: &mut Page, items: &Items, goal: Option<&Constraint>, index: u32)
-    ensures { PutsSome (IsStrengthIn items.now
+    ensures { PutsSome (IsStrength items.now
         (option_map (λ c. constraint_of c.now) goal.entry) index) page.old page.new }
 {
     match goal {
