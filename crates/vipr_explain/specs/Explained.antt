@@ -40,12 +40,7 @@ pub record IsSolutionPlace (input : Option Input) (file : List ℕ) (number : �
 abbrev pub ArePlacesFor : Option Input → Detail → List ItemPlace → Type 0
 ArePlacesFor input (detail.Breaks solution index name left sense right) places =
     AreMarksOf input (index ∷ []) places
-ArePlacesFor input (detail.NotWhole solution variable name value) places = places ≡ []
-ArePlacesFor input (detail.SolutionOverflow solution at) places = places ≡ []
-ArePlacesFor input (detail.Step name what) places = places ≡ []
-ArePlacesFor input (detail.NoProof goal) places = places ≡ []
-ArePlacesFor input (detail.NoPrimal bound) places = places ≡ []
-ArePlacesFor input detail.None places = places ≡ []
+ArePlacesFor input _ places = places ≡ []
 
 -- what is said of a solution of this number that is refused: the one that the text lists
 pub record IsSolutionText (input : Option Input) (file : List ℕ) (number : ℕ) (d : Detail)

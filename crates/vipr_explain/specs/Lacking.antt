@@ -30,12 +30,7 @@ LacksGoal None i = ⊥
 abbrev pub LacksBroken : Detail → Problem → Type 0
 LacksBroken (detail.Breaks solution constraint name left sense right) p =
     length p.constraints ≤ constraint
-LacksBroken (detail.NotWhole solution variable name value) p = ⊥
-LacksBroken (detail.SolutionOverflow solution at) p = ⊥
-LacksBroken (detail.Step name what) p = ⊥
-LacksBroken (detail.NoProof goal) p = ⊥
-LacksBroken (detail.NoPrimal bound) p = ⊥
-LacksBroken detail.None p = ⊥
+LacksBroken _ p = ⊥
 
 abbrev pub LacksFault : Detail → Read (Problem × ℕ) → Type 0
 LacksFault d (Ok x) = LacksBroken d x.0.0

@@ -91,10 +91,7 @@ fault_lines p places solution (detail.NotWhole s variable name value) =
 fault_lines p places solution (detail.Breaks s constraint name left sense right) =
     broken_text p.names places constraint solution left (slice_get p.constraints constraint)
 fault_lines p places solution (detail.SolutionOverflow s at) = overflow_lines at
-fault_lines p places solution (detail.Step name what) = []
-fault_lines p places solution (detail.NoProof goal) = []
-fault_lines p places solution (detail.NoPrimal bound) = []
-fault_lines p places solution detail.None = []
+fault_lines p places solution _ = []
 
 -- which primal bound is wanted
 abbrev pub primal_error : ℚ → List ℕ

@@ -73,14 +73,12 @@ pair_lines p first second = labelled p.names (codes "    first      ") first
     ++ not_split_text p.names p.integers first second)
 
 abbrev pub IsDetailText : is.Problem → Reason → StepDetail → List ℕ → Type 0
-IsDetailText p reason (step.Index index) text = text ≡ []
-IsDetailText p reason (step.Entry entry) text = text ≡ []
 IsDetailText p reason (step.Sum sum) text = text ≡ sum_lines p (constraint_of sum)
 IsDetailText p reason (step.Pair first second) text =
     text ≡ pair_lines p (constraint_of first) (constraint_of second)
 IsDetailText p reason (step.Rows computed stated) text =
     IsRowsText p reason (constraint_of computed) (constraint_of stated) text
-IsDetailText p reason step.Nothing text = text ≡ []
+IsDetailText p reason _ text = text ≡ []
 
 -- ---- the whole
 
@@ -143,11 +141,7 @@ IsDroppedPart input file false index needed_by text = text ≡ []
 abbrev pub IsCauseText : Option Input → List ℕ → ℕ → ℕ → StepDetail → List ℕ → Type 0
 IsCauseText input file cause index (step.Index named) text =
     IsDroppedPart input file (cause == 32) named index text
-IsCauseText input file cause index (step.Entry entry) text = text ≡ []
-IsCauseText input file cause index (step.Sum sum) text = text ≡ []
-IsCauseText input file cause index (step.Pair first second) text = text ≡ []
-IsCauseText input file cause index (step.Rows computed stated) text = text ≡ []
-IsCauseText input file cause index step.Nothing text = text ≡ []
+IsCauseText input file cause index _ text = text ≡ []
 
 -- what is said of the derivation of this constraint
 pub record IsDerivationText (input : Option Input) (file : List ℕ) (cause index : ℕ)

@@ -68,10 +68,7 @@ branch_text known own label index = label ++ (referred_text known own index ++ (
 abbrev pub is_at_fault : StepDetail → ℕ → ℕ → Bool
 is_at_fault (step.Entry entry) position index = entry == position
 is_at_fault (step.Index at) position index = at == index
-is_at_fault (step.Sum sum) position index = false
-is_at_fault (step.Pair first second) position index = false
-is_at_fault (step.Rows computed stated) position index = false
-is_at_fault step.Nothing position index = false
+is_at_fault _ position index = false
 
 -- the end of an entry's line
 abbrev pub arrow_text : Bool → ℕ → List ℕ
