@@ -15,16 +15,12 @@ use Rattle.vipr_cert.specs.declared.items.Named.{Named}
 use Rattle.vipr_cert.specs.declared.items.Derivation.{Derivation}
 use Rattle.vipr_write.specs.Steps.{step_of}
 use Rattle.vipr_write.specs.declared.statements.Step.{Step}
-use Rattle.vipr_tighten.specs.Passes.{StandFor, StepsNameEarlier}
+use Rattle.vipr_tighten.specs.Passes.{AreDerivationsOf, StandFor, StepsNameEarlier}
 use Rattle.vipr_tighten.proofs.Renumbering.{steps_earlier, stand_count}
 
-module _ (c : is.Certificate) (p : is.Problem) (ss : List (Named Solution)) (ds : List Derivation) (parts : c ≡ certificate_with p ss ds) (first : ℕ) (is_first : length p.constraints ≡ first)
-    (steps : List (Step (Named Constraint))) (made : map (step_of (named_of constraint_of)) steps ≡ map derivation_of ds) where
+module _ (c : is.Certificate) (ds : List Derivation) (first : ℕ) (are : AreDerivationsOf c first (map derivation_of ds)) (steps : List (Step (Named Constraint))) (made : map (step_of (named_of constraint_of)) steps ≡ map derivation_of ds) where
   pub stand : StandFor steps (named_of constraint_of) first c
-  stand = record {
-    first_is = ap (λ (x : is.Certificate). length x.problem.constraints) parts ∙ is_first;
-    those = made ∙ ap (λ (x : is.Certificate). x.derivations) (sym parts);
-  }
+  stand = record { first_is = are.first_is; those = made ∙ are.those }
 
   pub stand_early : RefersBack c → StepsNameEarlier first steps
   stand_early back = steps_earlier (named_of constraint_of) c first steps back stand
@@ -38,13 +34,19 @@ module _ (c : is.Certificate) (p : is.Problem) (ss : List (Named Solution)) (ds 
   pub stand_goal : (goal : Option ℕ) → IfSome goal (λ g. g < is.count c) → IfSome goal (λ g. g < first + length steps)
   stand_goal goal h = subst (λ n. IfSome goal (λ g. g < n)) counted h
 
-  -- what is kept
-  module _ (goal : Option ℕ) (kept : List (Step (Named Constraint))) (are : map (step_of (named_of constraint_of)) kept ≡ (tightened_certificate c goal).derivations) where
-    module _ (tightened : List Derivation) (back : map derivation_of tightened ≡ map (step_of (named_of constraint_of)) kept) where
-      pub tightened_parts : certificate_with p ss tightened ≡ tightened_certificate c goal
-      tightened_parts =
-          ap (λ l. record (certificate_with p ss ds) { derivations = l }) (back ∙ are)
-          ∙ ap (λ (x : is.Certificate). record x { derivations = (tightened_certificate c goal).derivations }) (sym parts)
+module _ (c : is.Certificate) (p : is.Problem) (ss : List (Named Solution)) (ds : List Derivation) (parts : c ≡ certificate_with p ss ds) where
+  pub derived : (first : ℕ) → length p.constraints ≡ first → AreDerivationsOf c first (map derivation_of ds)
+  derived first is_first = record {
+    first_is = ap (λ (x : is.Certificate). length x.problem.constraints) parts ∙ is_first;
+    those = ap (λ (x : is.Certificate). x.derivations) (sym parts);
+  }
 
-      pub parts_within : CanWrite c → CanWrite (certificate_with p ss tightened)
-      parts_within w = subst CanWrite (sym tightened_parts) (can_write c goal w)
+  -- what is kept
+  module _ (goal : Option ℕ) (tightened : List Derivation) (are : map derivation_of tightened ≡ (tightened_certificate c goal).derivations) where
+    pub tightened_parts : certificate_with p ss tightened ≡ tightened_certificate c goal
+    tightened_parts =
+        ap (λ l. record (certificate_with p ss ds) { derivations = l }) are
+        ∙ ap (λ (x : is.Certificate). record x { derivations = (tightened_certificate c goal).derivations }) (sym parts)
+
+    pub parts_within : CanWrite c → CanWrite (certificate_with p ss tightened)
+    parts_within w = subst CanWrite (sym tightened_parts) (can_write c goal w)

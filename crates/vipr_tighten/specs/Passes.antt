@@ -19,6 +19,11 @@ pub record StandFor {S : Type 0} (steps : List (Step S)) (view : S → Named Con
   pub first_is : length c.problem.constraints ≡ first
   pub those : map (step_of view) steps ≡ c.derivations
 
+-- the derivations of the certificate c, of which the first has the index `first`
+pub record AreDerivationsOf (c : Certificate) (first : ℕ) (ds : List Derivation) : Type 0 where
+  pub first_is : length c.problem.constraints ≡ first
+  pub those : ds ≡ c.derivations
+
 -- the reasons; none past the end
 abbrev pub step_reason : {S : Type 0} → List (Step S) → ℕ → Option Reason
 step_reason steps k = slice_index_or (map (λ s. Some (kept_reason_of s.reason)) steps) k None

@@ -4,12 +4,13 @@ ghost use Rattle.vipr_spec.specs.Constraint.{Constraint as ConstraintMeant};
 ghost use Rattle.vipr_spec.specs.Certificate.{Certificate as CertificateMeant};
 ghost use Rattle.vipr_spec.specs.Certificate.{Named as NamedMeant, count};
 ghost use Rattle.vipr_spec.specs.Reading.{most_count};
+ghost use Rattle.vipr_spec.specs.Shape.{CanWrite};
 ghost use Rattle.vipr_spec.specs.Steps.{RefersBack};
 ghost use Rattle.vipr_spec.specs.Tightened.{tightened_certificate};
 ghost use Rattle.vipr_linear.specs.Constraint.{constraint_of};
 ghost use Rattle.vipr_cert.specs.Items.{named_of, derivation_of};
 ghost use Rattle.vipr_write.specs.Steps.{step_of};
-ghost use Rattle.vipr_tighten.specs.Passes.{StepsNameEarlier, StandFor};
+ghost use Rattle.vipr_tighten.specs.Passes.{AreDerivationsOf, StepsNameEarlier, StandFor};
 
 use crate::needed::needed;
 use crate::renumber::renumber;
@@ -39,10 +40,27 @@ pub fn tighten_certificate(
 {
     let (problem, solutions, derivations) = certificate.into_parts();
     let first = problem.cons().len() as u32;
+    let tightened = tighten_derivations(alloc, derivations, first, goal)?;
+    Ok(Certificate::of_parts(problem, solutions, tightened))
+}
+
+// The derivations alone that a goal needs. The first one has the index `first`.
+fn tighten_derivations(
+    alloc: Global,
+    derivations: Vec<Derivation>,
+    first: u32,
+    goal: Option<u32>,
+) -> Result<Vec<Derivation>, AllocError>
+    requires { (c : CertificateMeant)
+        × AreDerivationsOf c first (map derivation_of derivations.items)
+        × CanWrite c × RefersBack c × IfSome goal (λ g. g < count c) }
+    ensures { IfOk result (λ kept. (c : CertificateMeant)
+        → AreDerivationsOf c first (map derivation_of derivations.items)
+        → map derivation_of kept.items ≡ (tightened_certificate c goal).derivations) }
+{
     let steps = steps_of(alloc, derivations)?;
     let kept = tighten_steps(alloc, steps, first, goal)?;
-    let tightened = derivations_of(alloc, kept)?;
-    Ok(Certificate::of_parts(problem, solutions, tightened))
+    derivations_of(alloc, kept)
 }
 
 /// The steps alone that a goal needs, as `tighten_certificate` keeps the derivations. The first

@@ -2,40 +2,30 @@ use Rattle.std.proofs.Common.{◌≡◌, length, sym, ap, ◌∙◌}
 use Rattle.std.proofs.lemmas.List.{length-map}
 use Rattle.vipr_linear.specs.Constraint.{constraint_of}
 use Rattle.vipr_cert.specs.Items.{named_of}
-use Rattle.vipr_tighten.proofs.Tightening.{stand, stand_early, stand_few, stand_goal}
-use Rattle.vipr_tighten.proofs.Tightening.{tightened_parts, parts_within}
+use Rattle.vipr_tighten.proofs.Tightening.{derived, tightened_parts, parts_within}
 use Rattle.vipr_tighten.proofs.certificate.tighten_certificate.Goals as goal
 
-pub tighten_steps-requires-clause-few : goal.tighten_steps-requires-clause-few
-tighten_steps-requires-clause-few c =
+pub tighten_derivations-requires : goal.tighten_derivations-requires
+tighten_derivations-requires c =
     let is_first : length c.into_parts-problem.result.0.constraints ≡ length c.cons.result.now =
-    ap length (sym c.cons.ensures.constraints) ∙ length-map c.cons.result.now (named_of constraint_of) in
-    stand_few c.args.certificate c.into_parts-problem.result.0 c.into_parts-problem.result.1.items c.into_parts-problem.result.2.items c.into_parts-problem.ensures.parts (length c.cons.result.now) is_first c.in_ok-steps.steps.items c.in_ok-steps.ensures c.into_parts-problem.ensures.writes
-
-pub tighten_steps-requires-clause-earlier : goal.tighten_steps-requires-clause-earlier
-tighten_steps-requires-clause-earlier c =
-    let is_first : length c.into_parts-problem.result.0.constraints ≡ length c.cons.result.now =
-    ap length (sym c.cons.ensures.constraints) ∙ length-map c.cons.result.now (named_of constraint_of) in
-    stand_early c.args.certificate c.into_parts-problem.result.0 c.into_parts-problem.result.1.items c.into_parts-problem.result.2.items c.into_parts-problem.ensures.parts (length c.cons.result.now) is_first c.in_ok-steps.steps.items c.in_ok-steps.ensures c.requires.back
-
-pub tighten_steps-requires-clause-goal : goal.tighten_steps-requires-clause-goal
-tighten_steps-requires-clause-goal c =
-    let is_first : length c.into_parts-problem.result.0.constraints ≡ length c.cons.result.now =
-    ap length (sym c.cons.ensures.constraints) ∙ length-map c.cons.result.now (named_of constraint_of) in
-    stand_goal c.args.certificate c.into_parts-problem.result.0 c.into_parts-problem.result.1.items c.into_parts-problem.result.2.items c.into_parts-problem.ensures.parts (length c.cons.result.now) is_first c.in_ok-steps.steps.items c.in_ok-steps.ensures c.args.goal c.requires.goal
+    ap length (sym c.cons.ensures.constraints) ∙ length-map c.cons.result.now (named_of constraint_of) in (
+      c.args.certificate,
+      derived c.args.certificate c.into_parts-problem.result.0 c.into_parts-problem.result.1.items c.into_parts-problem.result.2.items c.into_parts-problem.ensures.parts (length c.cons.result.now) is_first,
+      c.into_parts-problem.ensures.writes,
+      c.requires.back,
+      c.requires.goal,
+    )
 
 pub of_parts-requires : goal.of_parts-requires
 of_parts-requires c =
     let is_first : length c.into_parts-problem.result.0.constraints ≡ length c.cons.result.now =
     ap length (sym c.cons.ensures.constraints) ∙ length-map c.cons.result.now (named_of constraint_of) in
-    let stands = stand c.args.certificate c.into_parts-problem.result.0 c.into_parts-problem.result.1.items c.into_parts-problem.result.2.items c.into_parts-problem.ensures.parts (length c.cons.result.now) is_first c.in_ok-steps.steps.items c.in_ok-steps.ensures in
-    let are = c.in_ok-kept.ensures (named_of constraint_of) c.args.certificate stands in
-    parts_within c.args.certificate c.into_parts-problem.result.0 c.into_parts-problem.result.1.items c.into_parts-problem.result.2.items c.into_parts-problem.ensures.parts (length c.cons.result.now) is_first c.in_ok-steps.steps.items c.in_ok-steps.ensures c.args.goal c.in_ok-kept.kept.items are c.in_ok-tightened.tightened.items c.in_ok-tightened.ensures c.into_parts-problem.ensures.writes
+    let are = c.in_ok-tightened.ensures c.args.certificate (derived c.args.certificate c.into_parts-problem.result.0 c.into_parts-problem.result.1.items c.into_parts-problem.result.2.items c.into_parts-problem.ensures.parts (length c.cons.result.now) is_first) in
+    parts_within c.args.certificate c.into_parts-problem.result.0 c.into_parts-problem.result.1.items c.into_parts-problem.result.2.items c.into_parts-problem.ensures.parts c.args.goal c.in_ok-tightened.tightened.items are c.into_parts-problem.ensures.writes
 
 pub returns : goal.returns
 returns c =
     let is_first : length c.into_parts-problem.result.0.constraints ≡ length c.cons.result.now =
     ap length (sym c.cons.ensures.constraints) ∙ length-map c.cons.result.now (named_of constraint_of) in
-    let stands = stand c.args.certificate c.into_parts-problem.result.0 c.into_parts-problem.result.1.items c.into_parts-problem.result.2.items c.into_parts-problem.ensures.parts (length c.cons.result.now) is_first c.in_ok-steps.steps.items c.in_ok-steps.ensures in
-    let are = c.in_ok-kept.ensures (named_of constraint_of) c.args.certificate stands in
-    c.of_parts.ensures.parts ∙ tightened_parts c.args.certificate c.into_parts-problem.result.0 c.into_parts-problem.result.1.items c.into_parts-problem.result.2.items c.into_parts-problem.ensures.parts (length c.cons.result.now) is_first c.in_ok-steps.steps.items c.in_ok-steps.ensures c.args.goal c.in_ok-kept.kept.items are c.in_ok-tightened.tightened.items c.in_ok-tightened.ensures
+    let are = c.in_ok-tightened.ensures c.args.certificate (derived c.args.certificate c.into_parts-problem.result.0 c.into_parts-problem.result.1.items c.into_parts-problem.result.2.items c.into_parts-problem.ensures.parts (length c.cons.result.now) is_first) in
+    c.of_parts.ensures.parts ∙ tightened_parts c.args.certificate c.into_parts-problem.result.0 c.into_parts-problem.result.1.items c.into_parts-problem.result.2.items c.into_parts-problem.ensures.parts c.args.goal c.in_ok-tightened.tightened.items are
