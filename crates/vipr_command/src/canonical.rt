@@ -44,8 +44,10 @@ fn text_from<R: Source + Drop>(
     let text = solution_lines(alloc, text, &mut solutions)?;
     let mut derivations = solutions.finish()?;
     let text = text.derivation_count(derivations.left())?;
-    let lines = derivation_lines(alloc, text, &mut derivations);
+    let mut derivation = Derivation::blank(alloc);
+    let lines = derivation_lines(alloc, text, &mut derivations, &mut derivation);
     // Dropped at this one place, whatever was answered.
+    drop(derivation);
     drop(derivations);
     let text = lines?;
     Ok(text)
@@ -89,22 +91,23 @@ fn solution_lines<R: Source>(
 }
 
 // The text with a line for each derivation that follows, up to the end of the text that is read.
+// Each is read in place of `derivation`.
 fn derivation_lines<R: Source>(
     alloc: Global,
     mut text: CompactText,
     derivations: &mut Derivations<R>,
+    derivation: &mut Derivation,
 ) -> Result<CompactText, TextError>
     requires { derivations.old.failed ≡ false }
     ensures { (p : ProblemMeant) → Knows derivations.old p
         → Appends (derivation_read p) end_read (derivation_words_in text.form text.objective)
         derivations.old derivations.new text (λ t. t) result }
 {
-    let mut derivation = Derivation::blank(alloc);
     'lines: loop {
-        let found = derivations.next_into(alloc, &mut derivation)?;
+        let found = derivations.next_into(alloc, derivation)?;
         if !found {
             return Ok(text);
         }
-        text = text.derivation(&derivation)?;
+        text = text.derivation(derivation)?;
     }
 }
