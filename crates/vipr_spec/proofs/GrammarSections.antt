@@ -15,8 +15,8 @@ use Rattle.vipr_spec.specs.Grammar.{SpellsCount, SpellsVariable, SpellsDirection
 use Rattle.vipr_spec.specs.Grammar.{one, ◌then◌, each, constraint, version, names, integers}
 use Rattle.vipr_spec.specs.Grammar.{objective, constraints, claim, solution}
 use Rattle.vipr_spec.specs.GrammarLaws.{ReadsFront, Reads, SpellsRange, problem_and_count}
-use Rattle.vipr_spec.proofs.GrammarSteps.{bind_ok, ok_then, answer, read_as, read_is, read_then}
-use Rattle.vipr_spec.proofs.GrammarSteps.{parted}
+use Rattle.vipr_spec.proofs.GrammarSteps.{bind_ok, read_first, ok_then, answer, read_as, read_is}
+use Rattle.vipr_spec.proofs.GrammarSteps.{read_then, parted}
 use Rattle.vipr_spec.proofs.GrammarTokens.{kinds_of_token}
 use Rattle.vipr_spec.proofs.GrammarBounds.{bound_is, no_lower, no_upper}
 use Rattle.vipr_spec.proofs.GrammarParts.{reads_one, reads_name, reads_fixed, reads_count}
@@ -189,16 +189,16 @@ problem_sound : (r s : Rest) (x : Problem × ℕ) → problem_read r ≡ Ok (x, 
     → ReadsFront (problem_and_count x) r s
 unfolding problem_read
 problem_sound r s x e =
-    let v = bind_ok e in let ns = bind_ok v.2 in let is = bind_ok ns.2 in let o = bind_ok is.2 in let cs = bind_ok o.2 in
-    let c = bind_ok cs.2 in let k = bind_ok c.2 in let n = bind_ok k.2 in
-    read_is problem_and_count n.2
+    read_first e (λ v version e. read_first e (λ ns named e. read_first e (λ is whole e. read_first e (λ o coefficients e.
+    read_first e (λ cs listed e. read_first e (λ c claimed e. read_first e (λ k keyword e. read_first e (λ n count e.
+    read_is problem_and_count e
     (read_then
-    (read_then ((reads_version r v.0.1 tt).0 v.1)
-    (read_then ((reads_names v.0.1 ns.0.1 ns.0.0).0 ns.1)
-    (read_then ((reads_integers (length ns.0.0) ns.0.1 is.0.1 is.0.0).0 is.1)
-    (read_then ((reads_objective (length ns.0.0) is.0.1 o.0.1 o.0.0).0 o.1)
-    (read_then ((reads_constraints (length ns.0.0) o.0.0.1 o.0.1 cs.0.1 cs.0.0).0 cs.1) ((reads_claim cs.0.1 c.0.1 c.0.0).0 c.1))))))
-    (read_then ((reads_keyword _ c.0.1 k.0.1 tt).0 k.1) ((reads_count k.0.1 n.0.1 n.0.0).0 n.1)))
+    (read_then ((reads_version r v.1 tt).0 version)
+    (read_then ((reads_names v.1 ns.1 ns.0).0 named)
+    (read_then ((reads_integers (length ns.0) ns.1 is.1 is.0).0 whole)
+    (read_then ((reads_objective (length ns.0) is.1 o.1 o.0).0 coefficients)
+    (read_then ((reads_constraints (length ns.0) o.0.1 o.1 cs.1 cs.0).0 listed) ((reads_claim cs.1 c.1 c.0).0 claimed))))))
+    (read_then ((reads_keyword _ c.1 k.1 tt).0 keyword) ((reads_count k.1 n.1 n.0).0 count)))))))))))
 
 problem_complete : (r s : Rest) (x : Problem × ℕ) → ReadsFront (problem_and_count x) r s
     → problem_read r ≡ Ok (x, s)
