@@ -1,11 +1,15 @@
 -- The program's command line as clap's parse reads it, and what a command line asks for.
-use Rattle.std.specs.Prelude.{◌&&◌, Bool, true, false, List, [], ◌∷◌, Option, Some, None, codes}
-use Rattle.std.specs.Prelude.{if◌then◌else◌, is_some, option_map}
+use Rattle.std.specs.Prelude.{◌≡◌, ◌&&◌, Bool, true, false, List, [], ◌∷◌, Option, Some, None}
+use Rattle.std.specs.Prelude.{codes, if◌then◌else◌, is_some, option_map}
 use Rattle.std.specs.Option.{option_map_or}
 use Rattle.std.specs.Str.{bytes_eq}
-use Rattle.clap.specs.Words.{App, Kinds, Rule, Text, fault_of, first_of, new_app, new_rule}
-use Rattle.clap.specs.Words.{subcommand_of, takes, with_rule, with_subcommand}
+use Rattle.clap.specs.Words.{App, Kinds, Rule, Text, app_of, fault_of, first_of}
+use Rattle.clap.specs.Words.{new_app, new_rule, rule_of, subcommand_of, takes, with_rule}
+use Rattle.clap.specs.Words.{with_subcommand}
 use Rattle.clap.specs.Kinds.{or_else}
+use Rattle.clap.specs.declared.builder.arg.Arg.{Arg}
+use Rattle.clap.specs.declared.builder.command.Command.{Command}
+use Rattle.clap.specs.declared.builder.command.Command.TheViews.{out-Command as fields_of}
 use Rattle.clap.specs.declared.builder.action.ArgAction.TheVariants.{SetTrue}
 use Rattle.clap.specs.declared.error.ErrorKind.TheVariants.{InvalidValue}
 use Rattle.vipr_rules.specs.declared.profile.Profile.{Profile}
@@ -53,25 +57,17 @@ command_word Explain = codes "explain"
 command_word Show = codes "show"
 command_word Tighten = codes "tighten"
 
--- a subcommand with `[FILE]`
+-- a task's subcommand with `[FILE]` alone
 abbrev pub with_file : Task → App
 with_file t = with_rule (new_app (command_word t)) file_rule
 
--- the same with `[--compact]`
-abbrev pub with_compact : Task → App
-with_compact t = with_rule (with_file t) compact_rule
-
--- a subcommand with `[FILE]` and `[--profile PROFILE]`
-abbrev pub with_profile : Task → App
-with_profile t = with_rule (with_file t) profile_rule
-
--- that with `[--long]`
-abbrev pub with_long : Task → App
-with_long t = with_rule (with_profile t) long_rule
-
--- the same with `[-o OUT]` and `[--compact]`
-abbrev pub with_out : Task → App
-with_out t = with_rule (with_rule (with_profile t) out_rule) compact_rule
+-- a task's subcommand
+abbrev pub app_for : Task → App
+app_for Check = with_rule (with_file Check) profile_rule
+app_for Explain = with_rule (with_rule (with_file Explain) profile_rule) long_rule
+app_for Show = with_rule (with_file Show) compact_rule
+app_for Tighten = with_rule (with_rule (with_rule (with_file Tighten) profile_rule) out_rule)
+    compact_rule
 
 -- the name and a version, with a subcommand required; clap adds the subcommand `help`
 abbrev pub bare : App
@@ -82,11 +78,20 @@ bare = record (new_app (codes "vipr")) {
   };
 }
 
+-- one more task
+abbrev pub with_task : App → Task → App
+with_task a t = with_subcommand a (app_for t).top
+
 unfoldable pub line : App
-line =
-    with_subcommand (with_subcommand (with_subcommand
-    (with_subcommand bare (with_profile Check).top) (with_long Explain).top)
-    (with_compact Show).top) (with_out Tighten).top
+line = with_task (with_task (with_task (with_task bare Check) Explain) Show) Tighten
+
+-- this argument has the rule, and is one of its own command alone
+abbrev pub IsArgument : Arg → Rule → Type 0
+IsArgument a r = (rule_of a ≡ r) × (a.global ≡ false)
+
+-- this command is read so, and has no argument of other commands
+abbrev pub IsCommand : Command → App → Type 0
+IsCommand c a = (app_of c ≡ a) × ((fields_of c).has_globals ≡ false)
 
 -- the profile of this value of PROFILE, the first if it is absent
 abbrev pub profile_named : Option Text → Option Profile

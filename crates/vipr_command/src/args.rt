@@ -1,13 +1,12 @@
 //! The command line, read by `clap`.
-ghost use Rattle.std.specs.Prelude.{◌≡◌, Some, IfErr, IfOk, IfSome, IsNone, true, false, map};
-ghost use Rattle.std.specs.Prelude.{option_map, IsOkAnd};
-ghost use Rattle.clap.specs.Words.{FailsBy, app_of, kind_of, new_app, rule_of, with_rule};
-ghost use Rattle.clap.specs.Words.{with_subcommand};
-ghost use Rattle.clap.specs.declared.builder.command.Command.TheViews.{out-Command as fields_of};
-ghost use Rattle.vipr_command.specs.Args.{are_accepted, request_of, asked_by, bare, command_word};
-ghost use Rattle.vipr_command.specs.Args.{compact_rule, file_named, file_rule, flag_rule};
-ghost use Rattle.vipr_command.specs.Args.{form_asked, is_long_asked, line, long_rule};
-ghost use Rattle.vipr_command.specs.Args.{out_rule, profile_named, profile_rule, words_fault};
+ghost use Rattle.std.specs.Prelude.{◌≡◌, Some, IfErr, IfOk, IfSome, IsNone, true, map};
+ghost use Rattle.std.specs.Prelude.{option_map};
+ghost use Rattle.clap.specs.Words.{FailsBy, app_of, kind_of};
+ghost use Rattle.vipr_command.specs.Args.{IsArgument, IsCommand, app_for, are_accepted, asked_by};
+ghost use Rattle.vipr_command.specs.Args.{bare, command_word, compact_rule, file_named, file_rule};
+ghost use Rattle.vipr_command.specs.Args.{flag_rule, form_asked, is_long_asked, line, long_rule};
+ghost use Rattle.vipr_command.specs.Args.{out_rule, profile_named, profile_rule, request_of};
+ghost use Rattle.vipr_command.specs.Args.{with_file, with_task, words_fault};
 ghost use Rattle.vipr_command.specs.declared.request.Task.{Task};
 
 use crate::request::{Job, Task};
@@ -142,34 +141,10 @@ fn is_long_asked(flag: Option<&str>) -> bool
 fn command_line<'a>(alloc: Global) -> Result<Command<'a>, AllocError>
     ensures { IfOk result (λ c. app_of c ≡ line) }
 {
-    let check = checking_command(
-        alloc,
-        "check",
-        "Checks a certificate and prints the verdict",
-        "Example: vipr check plan.vipr",
-    );
-    let line = with_command(no_commands(alloc), check)?;
-    let explain = explaining(
-        alloc,
-        "explain",
-        "Checks a certificate and prints the verdict with what shows it",
-        "Example: xz -dc plan.vipr.xz | vipr explain",
-    );
-    let line = with_command(line, explain)?;
-    let show = showing(
-        alloc,
-        "show",
-        "Writes a certificate's canonical text",
-        "Example: vipr show plan.vipr > canonical.vipr",
-    );
-    let line = with_command(line, show)?;
-    let tighten = with_out(
-        alloc,
-        "tighten",
-        "Writes a verified certificate without what its proof doesn't need",
-        "Example: vipr tighten plan.vipr --out short.vipr",
-    );
-    with_command(line, tighten)
+    let line = with_task(alloc, no_commands(alloc), Task::Check)?;
+    let line = with_task(alloc, line, Task::Explain)?;
+    let line = with_task(alloc, line, Task::Show)?;
+    with_task(alloc, line, Task::Tighten)
 }
 
 /// The program's name and version, before any command.
@@ -182,98 +157,80 @@ fn no_commands<'a>(alloc: Global) -> Command<'a>
         .subcommand_required(true)
 }
 
-/// The command line with one more command, if that was made.
-fn with_command<'a>(
-    line: Command<'a>,
-    made: Result<Command<'a>, AllocError>,
-) -> Result<Command<'a>, AllocError>
-    requires { IfOk made (λ m. (fields_of m).has_globals ≡ false) }
-    ensures { IfOk result (λ c. IsOkAnd made.entry
-        (λ m. app_of c ≡ with_subcommand (app_of line.entry) (app_of m).top)) }
+/// The command line with the command of one more task.
+fn with_task<'a>(alloc: Global, line: Command<'a>, task: Task) -> Result<Command<'a>, AllocError>
+    ensures { IfOk result (λ c. app_of c ≡ with_task (app_of line.entry) task) }
 {
-    line.subcommand(made?)
+    line.subcommand(command_for(alloc, task)?)
 }
 
-/// A subcommand that reads FILE.
-fn on_file<'a>(
-    alloc: Global,
-    name: &'a str,
-    about: &'a str,
-    example: &'a str,
-) -> Result<Command<'a>, AllocError>
-    ensures app { IfOk result (λ c. app_of c ≡ with_rule (new_app name.entry.now) file_rule) }
-    ensures local { IfOk result (λ c. (fields_of c).has_globals ≡ false) }
+/// The command of a task, with its arguments.
+fn command_for<'a>(alloc: Global, task: Task) -> Result<Command<'a>, AllocError>
+    ensures { IfOk result (λ c. IsCommand c (app_for task)) }
 {
-    Command::new(alloc, name)
+    let command = on_file(alloc, task)?;
+    match task {
+        Task::Check => command.arg(profile(alloc)),
+        Task::Explain => command.arg(profile(alloc))?.arg(long(alloc)),
+        Task::Show => command.arg(compact(alloc)),
+        Task::Tighten => command
+            .arg(profile(alloc))?
+            .arg(out(alloc))?
+            .arg(compact(alloc)),
+    }
+}
+
+/// The command of a task, with FILE alone.
+fn on_file<'a>(alloc: Global, task: Task) -> Result<Command<'a>, AllocError>
+    ensures { IfOk result (λ c. IsCommand c (with_file task)) }
+{
+    let CommandHelp {
+        word,
+        about,
+        example,
+    } = help_for(task);
+    Command::new(alloc, word)
         .about(about)
         .after_help(example)
         .arg(file(alloc))
 }
 
-/// A subcommand that reads FILE and writes a text in either form.
-fn showing<'a>(
-    alloc: Global,
-    name: &'a str,
+/// The word of a command, and what help says of it.
+struct CommandHelp<'a> {
+    word: &'a str,
     about: &'a str,
     example: &'a str,
-) -> Result<Command<'a>, AllocError>
-    ensures app { IfOk result
-        (λ c. app_of c ≡ with_rule (with_rule (new_app name.entry.now) file_rule) compact_rule) }
-    ensures local { IfOk result (λ c. (fields_of c).has_globals ≡ false) }
-{
-    on_file(alloc, name, about, example)?.arg(compact(alloc))
 }
 
-/// A subcommand that reads FILE and takes a profile.
-fn checking_command<'a>(
-    alloc: Global,
-    name: &'a str,
-    about: &'a str,
-    example: &'a str,
-) -> Result<Command<'a>, AllocError>
-    ensures app { IfOk result
-        (λ c. app_of c ≡ with_rule (with_rule (new_app name.entry.now) file_rule) profile_rule) }
-    ensures local { IfOk result (λ c. (fields_of c).has_globals ≡ false) }
+fn help_for<'a>(task: Task) -> CommandHelp<'a>
+    ensures { result.word.now ≡ command_word task }
 {
-    on_file(alloc, name, about, example)?.arg(profile(alloc))
-}
-
-/// A subcommand that reads FILE, takes a profile, and may be long.
-fn explaining<'a>(
-    alloc: Global,
-    name: &'a str,
-    about: &'a str,
-    example: &'a str,
-) -> Result<Command<'a>, AllocError>
-    ensures app { IfOk result (λ c. app_of c
-        ≡ with_rule (with_rule (with_rule (new_app name.entry.now) file_rule) profile_rule)
-        long_rule) }
-    ensures local { IfOk result (λ c. (fields_of c).has_globals ≡ false) }
-{
-    let long = flag(alloc, "long", "Adds an explanation for people");
-    checking_command(alloc, name, about, example)?.arg(long)
-}
-
-/// A subcommand that reads FILE, takes a profile, and writes to OUT a text in either form.
-fn with_out<'a>(
-    alloc: Global,
-    name: &'a str,
-    about: &'a str,
-    example: &'a str,
-) -> Result<Command<'a>, AllocError>
-    ensures app { IfOk result (λ c. app_of c
-        ≡ with_rule (with_rule (with_rule (with_rule (new_app name.entry.now) file_rule)
-        profile_rule) out_rule) compact_rule) }
-    ensures local { IfOk result (λ c. (fields_of c).has_globals ≡ false) }
-{
-    checking_command(alloc, name, about, example)?
-        .arg(out(alloc))?
-        .arg(compact(alloc))
+    match task {
+        Task::Check => CommandHelp {
+            word: "check",
+            about: "Checks a certificate and prints the verdict",
+            example: "Example: vipr check plan.vipr",
+        },
+        Task::Explain => CommandHelp {
+            word: "explain",
+            about: "Checks a certificate and prints the verdict with what shows it",
+            example: "Example: xz -dc plan.vipr.xz | vipr explain",
+        },
+        Task::Show => CommandHelp {
+            word: "show",
+            about: "Writes a certificate's canonical text",
+            example: "Example: vipr show plan.vipr > canonical.vipr",
+        },
+        Task::Tighten => CommandHelp {
+            word: "tighten",
+            about: "Writes a verified certificate without what its proof doesn't need",
+            example: "Example: vipr tighten plan.vipr --out short.vipr",
+        },
+    }
 }
 
 fn file<'a>(alloc: Global) -> Arg<'a>
-    ensures rule { rule_of result ≡ file_rule }
-    ensures local { result.global ≡ false }
+    ensures { IsArgument result file_rule }
 {
     Arg::new(alloc, "file")
         .value_name("FILE")
@@ -281,8 +238,7 @@ fn file<'a>(alloc: Global) -> Arg<'a>
 }
 
 fn profile<'a>(alloc: Global) -> Arg<'a>
-    ensures rule { rule_of result ≡ profile_rule }
-    ensures local { result.global ≡ false }
+    ensures { IsArgument result profile_rule }
 {
     Arg::new(alloc, "profile")
         .long("profile")
@@ -291,8 +247,7 @@ fn profile<'a>(alloc: Global) -> Arg<'a>
 }
 
 fn out<'a>(alloc: Global) -> Arg<'a>
-    ensures rule { rule_of result ≡ out_rule }
-    ensures local { result.global ≡ false }
+    ensures { IsArgument result out_rule }
 {
     Arg::new(alloc, "out")
         .short('o')
@@ -302,8 +257,7 @@ fn out<'a>(alloc: Global) -> Arg<'a>
 }
 
 fn compact<'a>(alloc: Global) -> Arg<'a>
-    ensures rule { rule_of result ≡ compact_rule }
-    ensures local { result.global ≡ false }
+    ensures { IsArgument result compact_rule }
 {
     flag(
         alloc,
@@ -312,10 +266,15 @@ fn compact<'a>(alloc: Global) -> Arg<'a>
     )
 }
 
+fn long<'a>(alloc: Global) -> Arg<'a>
+    ensures { IsArgument result long_rule }
+{
+    flag(alloc, "long", "Adds an explanation for people")
+}
+
 /// A flag of this name.
 fn flag<'a>(alloc: Global, name: &'a str, help: &'a str) -> Arg<'a>
-    ensures rule { rule_of result ≡ flag_rule name.entry.now }
-    ensures local { result.global ≡ false }
+    ensures { IsArgument result (flag_rule name.entry.now) }
 {
     Arg::new(alloc, name)
         .long(name)
