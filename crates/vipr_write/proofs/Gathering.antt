@@ -116,36 +116,3 @@ gather_long o p q n m k old mid handed piece (Ok u) flushed buffer empty hands =
     }
 gather_long o p q n m k old mid handed piece (Err e) flushed buffer empty hands =
     (length old.bytes.items + hands.0, (let a = flushed.1 in let b = hands.1 in omega arith), stopped_after o p q n m k old.bytes.items piece hands.0 flushed.0 hands.2)
-
--- what was kept is handed on, and the piece is kept
-pub gather_short : (o p : Option Output) (n m : Option ℕ) (old mid new : Gathered) (piece : List ℕ)
-    → HandsOn o p n m old.handed mid.handed old.bytes.items (Ok tt) → mid.bytes.items ≡ []
-    → new.bytes.items ≡ mid.bytes.items ++ piece → new.handed ≡ mid.handed → IsBuffer new
-    → Gathers o p n m old new piece (Ok tt)
-gather_short o p n m old mid new piece flushed empty kept same buffer =
-    record {
-      sent = old.bytes.items;
-      parts = ap (λ t. old.bytes.items ++ t) (sym (kept ∙ ap (λ t. t ++ piece) empty));
-      accepted = flushed.0;
-      counted = let a = flushed.1 in omega arith;
-      buffer = buffer;
-    }
-
--- what was kept could not be handed on
-pub gather_stopped : (o p : Option Output) (n m : Option ℕ) (old new : Gathered) (handed : ℕ)
-    (piece : List ℕ) (e : WriteFailed) → HandsOn o p n m old.handed handed old.bytes.items (Err e)
-    → Gathers o p n m old new piece (Err e)
-gather_stopped o p n m old new handed piece e hands = (hands.0, hands.1, stopped_within o p n m old.bytes.items piece hands.0 hands.2)
-
--- there is room for the piece
-pub gather_kept : (o : Option Output) (n : Option ℕ) (old new : Gathered) (piece : List ℕ)
-    → new.bytes.items ≡ old.bytes.items ++ piece → new.handed ≡ old.handed → IsBuffer new
-    → Gathers o o n n old new piece (Ok tt)
-gather_kept o n old new piece kept same buffer =
-    record {
-      sent = [];
-      parts = sym kept;
-      accepted = sent_none o n;
-      counted = omega arith;
-      buffer = buffer;
-    }
