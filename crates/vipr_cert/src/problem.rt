@@ -4,11 +4,13 @@
 //! constraints and a claim. Variables and constraints are known by their index, from 0. `new` tests
 //! the limits of the format. `of_parts` tests nothing, and its caller proves that the parts are
 //! within them.
-ghost use Rattle.std.specs.Prelude.{◌≡◌, ◌↔◌, ◌≤◌, IsOk, IfOk, map};
+ghost use Rattle.std.specs.Prelude.{◌≡◌, ◌↔◌, ◌≤◌, ℕ, All, IsOk, IfOk, IsTrue, map};
 ghost use Rattle.vipr_spec.specs.Certificate.{Problem as Meant, integer_variables};
-ghost use Rattle.vipr_spec.specs.Shape.{ProblemShape, CanWriteProblem};
+ghost use Rattle.vipr_spec.specs.Shape.{ProblemShape, CanWriteProblem, RowFits, ConstraintFits};
 ghost use Rattle.vipr_linear.specs.Constraint.{constraint_of};
 ghost use Rattle.vipr_cert.specs.Items.{problem_with, named_of, direction_of, claim_of};
+ghost use Rattle.vipr_cert.specs.declared.items.Claim.{Claim as Claimed};
+ghost use Rattle.vipr_cert.specs.declared.items.Goal.{Goal as Sense};
 ghost use Rattle.vipr_cert.specs.Codes.{problem_code};
 
 use crate::items::{Claim, Goal, Named};
@@ -64,17 +66,8 @@ impl Problem {
         ensures parts { IfOk result
             (λ p. p ≡ problem_with names.items ints sense objective cons.items bound_count claim) }
     {
-        limits::names(&names);
         limits::claim(&claim);
-        let _ = objective.entries();
-        if !limits::is_count(names.len()) {
-            return Err(BadShape);
-        }
-        let variables = names.len() as u32;
-        if !limits::is_count(cons.len()) || !limits::are_below(&ints, variables) {
-            return Err(BadShape);
-        }
-        if !objective.names_below(variables) || !limits::are_within(&cons, variables) {
+        if !are_within(&names, &ints, &objective, &cons) {
             return Err(BadShape);
         }
         Ok(Problem::of_parts(names, ints, sense, objective, cons, bound_count, claim))
@@ -167,4 +160,28 @@ impl Problem {
     {
         self.claim
     }
+}
+
+// Whether these parts are within the limits of a problem. The others always are.
+fn are_within(names: &[Name], ints: &Ints, objective: &Row, cons: &[Named<Constraint>]) -> bool
+    ensures shape { (sense : Sense) → (bound_count : ℕ) → (claim : Claimed) → (IsTrue result
+        ↔ ProblemShape (problem_with names.now ints.now sense objective.now cons.now bound_count
+        claim)) }
+    ensures objective { RowFits objective.now }
+    ensures constraints { IsTrue result
+        → All (λ c. ConstraintFits c.item) (map (named_of constraint_of) cons.now) }
+{
+    limits::names(names);
+    let _ = objective.entries();
+    if !limits::is_count(names.len()) {
+        return false;
+    }
+    let variables = names.len() as u32;
+    if !limits::is_count(cons.len()) || !limits::are_below(ints, variables) {
+        return false;
+    }
+    if !objective.names_below(variables) || !limits::are_within(cons, variables) {
+        return false;
+    }
+    true
 }
