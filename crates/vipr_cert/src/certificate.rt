@@ -8,7 +8,7 @@ ghost use Rattle.std.specs.Prelude.{length};
 ghost use Rattle.vipr_spec.specs.Certificate.{Certificate as Meant, NamesEarlier};
 ghost use Rattle.vipr_spec.specs.Steps.{RefersBack};
 ghost use Rattle.vipr_spec.specs.Reading.{most_count};
-ghost use Rattle.vipr_spec.specs.Shape.{CertificateShape, CanWrite};
+ghost use Rattle.vipr_spec.specs.Shape.{CertificateShape, CertificateFits, CanWrite};
 ghost use Rattle.vipr_cert.specs.Items.{certificate_with, solution_of, reason_of, derivation_of};
 ghost use Rattle.vipr_cert.specs.Codes.{certificate_code};
 ghost use Rattle.vipr_cert.specs.Earlier.{NameEarlierFrom};
@@ -57,14 +57,7 @@ impl Certificate {
         ensures parts { IfOk result
             (λ c. c ≡ certificate_with problem solutions.items derivations.items) }
     {
-        let variables = problem.names().len() as u32;
-        let room = u32::MAX as usize - problem.cons().len();
-        if !limits::is_count(solutions.len()) || derivations.len() > room {
-            return Err(BadShape);
-        }
-        if !limits::are_within(&solutions, variables)
-            || !limits::are_within(&derivations, variables)
-        {
+        if !are_within(&problem, &solutions, &derivations) {
             return Err(BadShape);
         }
         Ok(Certificate::of_parts(problem, solutions, derivations))
@@ -123,6 +116,24 @@ impl Certificate {
     {
         refer_back(self.derivations(), self.problem().cons().len())
     }
+}
+
+// Whether these are within the limits of a certificate. A problem always is.
+fn are_within(problem: &Problem, solutions: &[Named<Solution>], derivations: &[Derivation]) -> bool
+    ensures shape { IsTrue result
+        ↔ CertificateShape (certificate_with problem.now solutions.now derivations.now) }
+    ensures fits { IsTrue result
+        → CertificateFits (certificate_with problem.now solutions.now derivations.now) }
+{
+    let variables = problem.names().len() as u32;
+    let room = u32::MAX as usize - problem.cons().len();
+    if !limits::is_count(solutions.len()) || derivations.len() > room {
+        return false;
+    }
+    if !limits::are_within(solutions, variables) || !limits::are_within(derivations, variables) {
+        return false;
+    }
+    true
 }
 
 // Whether each reason names smaller indices alone than that of its derivation, of which the first

@@ -1,48 +1,12 @@
-use Rattle.std.proofs.Common.{rules, ◌≡◌, ◌+◌, ◌-◌, ◌≤◌, All, map, length, arith, ap, sym, ◌∙◌}
-use Rattle.std.proofs.lemmas.List.{length-map}
-use Rattle.vipr_linear.specs.Constraint.{constraint_of}
-use Rattle.vipr_spec.specs.Certificate as is
-use Rattle.vipr_spec.specs.Certificate.{variables}
-use Rattle.vipr_spec.specs.Constraint as linear
-use Rattle.vipr_spec.specs.Reading.{most_count}
-use Rattle.vipr_spec.specs.Shape.{SolutionShape, DerivationShape, CertificateShape, RowFits}
-use Rattle.vipr_spec.specs.Shape.{DerivationFits, CertificateFits}
-use Rattle.vipr_cert.specs.Items.{certificate_with, named_of, solution_of, derivation_of}
+use Rattle.std.proofs.Common.{rules}
 use Rattle.vipr_cert.proofs.certificate.Certificate.new.Goals as goal
 
-module _ (c : goal.Else-not-are_within-2) where
-  few_solutions : length (map solution_of c.args.solutions.items) ≤ most_count
-  few_solutions =
-      let size : length c.args.solutions.items ≤ most_count = search rules in
-      rw (length-map c.args.solutions.items solution_of) size
-
-  few_derivations : length c.args.problem.constraints + length (map derivation_of c.args.derivations.items) ≤ most_count
-  few_derivations =
-      let given : length c.args.problem.constraints ≡ length c.cons.result.now = ap length (sym c.cons.ensures.constraints) ∙ length-map c.cons.result.now (named_of constraint_of) in
-      let few : length c.args.problem.constraints ≤ most_count = c.cons.ensures.writes.shape.few_constraints in
-      let room : length c.args.derivations.items ≤ most_count - length c.cons.result.now = search rules in
-      rw (length-map c.args.derivations.items derivation_of) (omega (arith, given, few, room))
-
-  solutions : All (SolutionShape (variables c.args.problem)) (map solution_of c.args.solutions.items)
-  solutions = search rules
-
-  derivations : All (DerivationShape (variables c.args.problem)) (map derivation_of c.args.derivations.items)
-  derivations = search rules
-
-  is_within : CertificateShape (certificate_with c.args.problem c.args.solutions.items c.args.derivations.items)
-  is_within = record { problem = c.names.ensures.writes.shape; few_solutions = few_solutions; solutions = solutions; few_derivations = few_derivations; derivations = derivations }
-
-  solution_numbers : All (λ (s : is.Named linear.Row). RowFits s.item) (map solution_of c.args.solutions.items)
-  solution_numbers = search rules
-
-  derivation_numbers : All DerivationFits (map derivation_of c.args.derivations.items)
-  derivation_numbers = search rules
-
-  fits : CertificateFits (certificate_with c.args.problem c.args.solutions.items c.args.derivations.items)
-  fits = record { problem = c.names.ensures.writes.fits; solutions = solution_numbers; derivations = derivation_numbers }
-
 pub of_parts-requires : goal.of_parts-requires
-of_parts-requires c = record { shape = is_within c; fits = fits c }
+of_parts-requires c =
+    let t = c.if-not-are_within.false in
+    let shape = rw (c.deref.ensures.value, c.deref-2.ensures.value) at (c.are_within.ensures.shape.0 t) in
+    let fits = rw (c.deref.ensures.value, c.deref-2.ensures.value) at (c.are_within.ensures.fits t) in
+    record { shape = shape; fits = fits }
 
 pub returns-clause-shape : goal.returns-clause-shape
 returns-clause-shape c = (λ t. rw c.of_parts.ensures.parts at c.of_parts.ensures.writes.shape, λ h. search rules)
