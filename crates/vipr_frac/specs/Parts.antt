@@ -1,6 +1,7 @@
 -- The numbers that a sum and a product go through, and what the fields of a `Frac` keep.
 use Rattle.std.specs.Prelude.{◌≡◌, ◌↔◌, ℕ, ◌*◌, ◌/◌, ◌<◌, ◌≤◌, ◌^◌, ◌⊎◌, ℤ, pos, ◌+ℤ◌, ◌*ℤ◌}
 use Rattle.std.specs.Prelude.{unsigned_abs, int_div, FitsSigned, Result, IsOk, OnOk, OnErr}
+use Rattle.std.specs.Prelude.{Bool, IsTrue, IsFalse}
 use Rattle.std.specs.Int.{w64}
 use Rattle.vipr_spec.specs.Fraction.{ℚ, most, ◌+ℚ◌, ◌*ℚ◌, ProductFits, SumFits}
 use Rattle.vipr_spec.specs.Gcd.{gcd}
@@ -16,6 +17,11 @@ pub record IsReduced (p : ℤ) (q : ℕ) : Type 0 where
 pub record AreWords (p : ℤ) (q : ℕ) : Type 0 where
   pub numer : FitsSigned w64 p
   pub denom : q < 2 ^ 63
+
+-- a denominator that is a word of 64 bits with a sign
+pub record IsWordDenom (q : ℕ) : Type 0 where
+  pub some : 0 < q
+  pub below : q < 2 ^ 63
 
 -- p / q is bounded, and in lowest terms unless both are words of 64 bits
 pub record IsPartial (p : ℤ) (q : ℕ) : Type 0 where
@@ -77,3 +83,8 @@ pub record AddsProduct {E : Type 0} (a b old new : ℚ) (result : Result (Unit {
   pub fits : IsOk result ↔ (ProductFits a b × SumFits old (a *ℚ b))
   pub sum : OnOk result (new ≡ old +ℚ a *ℚ b)
   pub kept : OnErr result (new ≡ old)
+
+-- where it is done a sum is x, and else it stays as it was
+pub record PutsOrKeeps (x old new : ℚ) (done : Bool) : Type 0 where
+  pub sum : IsTrue done → new ≡ x
+  pub kept : IsFalse done → new ≡ old

@@ -3,7 +3,8 @@ ghost use Rattle.std.specs.Prelude.{◌≡◌, ◌↔◌, ◌<◌, ◌≤◌, �
 ghost use Rattle.std.specs.Prelude.{IsFalse, MatchOption, OnOk, OnErr, unsigned_abs, FitsSigned};
 ghost use Rattle.std.specs.Int.{w64};
 ghost use Rattle.vipr_spec.specs.Fraction.{over, zero_ℚ, ◌+ℚ◌, ◌*ℚ◌, SumFits, ProductFits};
-ghost use Rattle.vipr_frac.specs.Parts.{AddsProduct, IsPartial, IsReduced};
+ghost use Rattle.vipr_frac.specs.Parts.{AddsProduct, IsPartial, IsReduced, IsWordDenom};
+ghost use Rattle.vipr_frac.specs.Parts.{PutsOrKeeps};
 
 use crate::frac::{Frac, Overflow, of_parts, reduced_words};
 use crate::pairs::{is_word, mixed_sum, pair_product, raised_sum, words};
@@ -127,12 +128,9 @@ fn add_words(sum: &mut Partial, r: i64, s: u64) -> bool
 // Puts the sum of two fractions, if all numbers on the way are words of 64 bits.
 #[inline(always)]
 fn put_sum(sum: &mut Partial, p: i64, q: u64, r: i64, s: u64) -> bool
-    requires left { 0 < q }
-    requires left_below { q < 2 ^ 63 }
-    requires right { 0 < s }
-    requires right_below { s < 2 ^ 63 }
-    ensures sum { IsTrue result → sum.new ≡ over p q +ℚ over r s }
-    ensures kept { IsFalse result → sum.new ≡ sum.old }
+    requires left { IsWordDenom q }
+    requires right { IsWordDenom s }
+    ensures { PutsOrKeeps (over p q +ℚ over r s) sum.old sum.new result }
 {
     if q == 1 {
         return put(sum, raised_sum(p, s, r, s));
@@ -150,12 +148,9 @@ fn put_sum(sum: &mut Partial, p: i64, q: u64, r: i64, s: u64) -> bool
 // The same where the first denominator divides the other more often than not.
 #[inline(never)]
 fn put_mixed(sum: &mut Partial, p: i64, q: u64, r: i64, s: u64) -> bool
-    requires left { 0 < q }
-    requires left_below { q < 2 ^ 63 }
-    requires right { 0 < s }
-    requires right_below { s < 2 ^ 63 }
-    ensures sum { IsTrue result → sum.new ≡ over p q +ℚ over r s }
-    ensures kept { IsFalse result → sum.new ≡ sum.old }
+    requires left { IsWordDenom q }
+    requires right { IsWordDenom s }
+    ensures { PutsOrKeeps (over p q +ℚ over r s) sum.old sum.new result }
 {
     put(sum, mixed_sum(p, q, r, s))
 }

@@ -3,12 +3,8 @@ use Rattle.std.proofs.lemmas.Int.{to_z-of_z}
 use Rattle.vipr_frac.proofs.Unreduced.{put_value}
 use Rattle.vipr_frac.proofs.partial.put_mixed.Goals as goal
 
-pub returns-clause-sum : goal.returns-clause-sum
-returns-clause-sum c =
+pub returns : goal.returns
+returns c =
     let sum = rw (to_z-of_z w64 c.args.p c.ranges.p, to_z-of_z w64 c.args.r c.ranges.r) at c.mixed_sum.ensures.sum in
-    (put_value c.mixed_sum.result c.put.result _ _ _ c.put.ensures sum).0
-
-pub returns-clause-kept : goal.returns-clause-kept
-returns-clause-kept c =
-    let sum = rw (to_z-of_z w64 c.args.p c.ranges.p, to_z-of_z w64 c.args.r c.ranges.r) at c.mixed_sum.ensures.sum in
-    (put_value c.mixed_sum.result c.put.result _ _ _ c.put.ensures sum).1
+    let h = put_value c.mixed_sum.result c.put.result _ _ _ c.put.ensures sum in
+    record { sum = h.0; kept = h.1 }
