@@ -1,10 +1,11 @@
 -- Which places were touched: a mark at each, and their list
 use Rattle.std.specs.Prelude.{◌≡◌, ◌≢◌, ℕ, ◌≤◌, Bool, true, false, nat_eq, List, length}
-use Rattle.std.specs.Prelude.{slice_index_or, Contains}
+use Rattle.std.specs.Prelude.{slice_index_or, Contains, filter, map}
 use Rattle.std.specs.FinMap.{from_sorted}
 use Rattle.vipr_spec.specs.Constraint.{at}
 use Rattle.std.specs.List.{IsDistinct, list_any}
 use Rattle.vipr_spec.specs.Fraction.{ℚ, zero_ℚ}
+use Rattle.vipr_spec.specs.Reading.{is_nonzero}
 
 -- the list has the marked places, each once
 pub record Touching (marks : List Bool) (touched : List ℕ) : Type 0 where
@@ -34,3 +35,8 @@ CoversNonzero sums places = (j : ℕ) → slice_index_or sums j zero_ℚ ≢ zer
 -- the entries of a row whose coefficients are the sums
 abbrev pub HasRowEntries : List ℚ → List (ℕ × ℚ) → Type 0
 HasRowEntries sums es = (j : ℕ) → at (from_sorted es) j ≡ slice_index_or sums j zero_ℚ
+
+-- the sums at these places that are not 0, with the places
+abbrev pub nonzero_entries : List ℚ → List ℕ → List (ℕ × ℚ)
+nonzero_entries sums places =
+    filter is_nonzero (map (λ j. (j, slice_index_or sums j zero_ℚ)) places)

@@ -2,16 +2,16 @@
 //!
 //! What goes over the sums takes time for the touched places alone.
 ghost use Rattle.std.specs.Prelude.{◌≡◌, ◌≢◌, ◌↔◌, ◌<◌, ℕ, false, true, replicate, All};
-ghost use Rattle.std.specs.Prelude.{IsTrue, IsOk, IfOk, OnOk, OnErr, filter, map, length};
+ghost use Rattle.std.specs.Prelude.{IsTrue, IsOk, IfOk, OnOk, OnErr, length};
 ghost use Rattle.std.specs.Prelude.{slice_index_or, slice_set};
 ghost use Rattle.vipr_spec.specs.Fraction.{zero_ℚ, IsBounded};
-ghost use Rattle.vipr_spec.specs.Reading.{is_nonzero};
 ghost use Rattle.vipr_spec.specs.Constraint.{at};
 ghost use Rattle.vipr_spec.specs.MoreEntries.{TermFits};
 ghost use Rattle.vipr_linear.specs.Accumulator.{with_term, with_terms, TermsFitIn};
 ghost use Rattle.vipr_linear.specs.Values.{with_set};
 ghost use Rattle.vipr_linear.specs.Row.{AreEntries};
 ghost use Rattle.vipr_linear.specs.Touched.{Touching, CoversNonzero, HasRowEntries};
+ghost use Rattle.vipr_linear.specs.Touched.{nonzero_entries};
 
 use crate::row::{Row, is_zero};
 use std::alloc::{AllocError, Global};
@@ -237,8 +237,7 @@ fn nonzero_sums(
     places: &[u32],
 ) -> Result<Vec<(u32, Frac)>, AllocError>
     requires { All (λ j. j < length sums.now) places.now }
-    ensures kept { IfOk result (λ v. v.items
-        ≡ filter is_nonzero (map (λ j. (j, slice_index_or sums.now j zero_ℚ)) places.now)) }
+    ensures kept { IfOk result (λ v. v.items ≡ nonzero_entries sums.now places.now) }
     ensures bounded { IfOk result (λ v. All (λ e. IsBounded e.1) v.items) }
 {
     let mut entries = Vec::with_capacity(alloc, places.len())?;
@@ -254,8 +253,7 @@ fn nonzero_sums(
 // How many of the sums at these places are not 0.
 fn count_nonzero(sums: &[Partial], places: &[u32]) -> usize
     requires { All (λ j. j < length sums.now) places.now }
-    ensures { result ≡ length
-        (filter is_nonzero (map (λ j. (j, slice_index_or sums.now j zero_ℚ)) places.now)) }
+    ensures { result ≡ length (nonzero_entries sums.now places.now) }
 {
     let mut count = 0;
     for place in places {
