@@ -8,6 +8,7 @@ mod Applying
 mod BranchLemmas
 mod SoundLemmas
 mod RoundLemmas
+mod ComputedLemmas
 mod CutoffLemmas
 mod ClaimLemmas
 mod ValueLemmas

@@ -5,13 +5,15 @@ use Rattle.std.specs.FinSet as set
 use Rattle.std.specs.Ordering.{nat_cmp}
 use Rattle.vipr_spec.specs.Fraction.{ℚ}
 use Rattle.vipr_spec.specs.Constraint.{Profile, Condition, condition, Entry as Summand, SumOfFits}
-use Rattle.vipr_spec.specs.Constraint.{Dominates}
+use Rattle.vipr_spec.specs.Constraint.{Dominates, DominatesRounded, IsWholeRow, Ints}
 use Rattle.vipr_spec.specs.Certificate.{Problem, Reason, uns, sol, Derivation, Certificate}
+use Rattle.vipr_spec.specs.Certificate.{lin, rnd}
 use Rattle.vipr_spec.specs.Certificate.{is_live, count, is_assumption}
 use Rattle.vipr_spec.specs.Causes as cause
 use Rattle.vipr_spec.specs.Steps.{PassesStep, with_next, StepTest, earlier, live, assumed, listed}
 use Rattle.vipr_spec.specs.Steps.{step_tests, RefersBack, FirstFailing, step_cause, Shows, Refuses}
 use Rattle.vipr_spec.specs.Steps.{StepDetail, index, position, sum, both, compared, nothing}
+use Rattle.vipr_spec.specs.Steps.{by_sum, roundable, by_rounding}
 use Rattle.vipr_spec.specs.Soundness.{IsSound, IsBestValue}
 use Rattle.vipr_linear.specs.Accumulator.{IsSuitable}
 use Rattle.vipr_linear.specs.Constraint.{condition_of}
@@ -29,6 +31,8 @@ use Rattle.vipr_table.specs.Table.{Table}
 use Rattle.vipr_table.specs.History.{IsEntryOf, IsTableOf}
 use Rattle.vipr_rules.specs.Context.{IsContextOf, IsSetByReason}
 use Rattle.vipr_rules.specs.declared.context.Context.{Context}
+use Rattle.vipr_rules.specs.declared.sum.Computed.{Computed}
+use Rattle.vipr_rules.specs.declared.sum.Computed.TheVariants.{Sum, Rounding}
 use Rattle.vipr_rules.specs.Soundness.{HasSoundRows, IsSoundRow}
 
 -- ---- what an error says
@@ -121,6 +125,22 @@ abbrev pub IsRuledIn : {S : Type 0} → (S → Table) → Context S → Constrai
     → Result (set.FinSet nat_cmp) RuleError → Type 0
 IsRuledIn table x stated r result = (P : Profile) (c : Certificate) (d : Derivation)
     → IsContextOf table P c x → condition_of stated ≡ condition d.stated → IsRuledBy P c d r result
+
+-- ---- what is computed of the entries
+
+abbrev pub reason_by : Computed → List (ℕ × ℚ) → Reason
+reason_by Sum es = lin es
+reason_by Rounding es = rnd es
+
+-- the tests behind those of the sum
+abbrev pub computed_tests : Computed → List (ℕ × ℚ) → List StepTest
+computed_tests Sum es = by_sum es ∷ []
+computed_tests Rounding es = roundable es ∷ by_rounding es ∷ []
+
+-- what is computed of this sum dominates a condition
+abbrev pub DominatesBy : Computed → Ints → Condition → Condition → Type 0
+DominatesBy Sum ints x stated = Dominates x stated
+DominatesBy Rounding ints x stated = IsWholeRow ints x.row × DominatesRounded x stated
 
 -- ---- what a call answers
 

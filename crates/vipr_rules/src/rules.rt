@@ -31,7 +31,7 @@ use crate::context::Context;
 use crate::cutoff::cut_off;
 use crate::error::RuleError;
 use crate::profile::Profile;
-use crate::sum::{combine, combine_rounded};
+use crate::sum::{Computed, combine};
 use std::alloc::Global;
 use std::mem::replace;
 use vipr_cert::{Derivation, Problem, Reason};
@@ -171,8 +171,10 @@ fn assumptions_of<S: Rows>(
     let stated = &step.constraint;
     match &step.reason {
         Reason::Asm => Ok(Assumptions::single(alloc, context.rows.next())?),
-        Reason::Lin(entries) => combine(alloc, context, scratch, stated, entries),
-        Reason::Rnd(entries) => combine_rounded(alloc, context, scratch, stated, entries),
+        Reason::Lin(entries) => combine(alloc, context, scratch, stated, entries, Computed::Sum),
+        Reason::Rnd(entries) => {
+            combine(alloc, context, scratch, stated, entries, Computed::Rounding)
+        }
         Reason::Uns { i1, l1, i2, l2 } => {
             let first = Branch {
                 conclusion: *i1,

@@ -6,21 +6,19 @@ ghost use Rattle.std.specs.Prelude.{MatchOption, MatchResult};
 ghost use Rattle.std.specs.FinSet as set;
 ghost use Rattle.vipr_spec.specs.Fraction.{ℚ};
 ghost use Rattle.vipr_spec.specs.Constraint.{Profile, Entry as Summand, at, condition, NamesBelow};
-ghost use Rattle.vipr_spec.specs.Constraint.{IsWholeRow, Dominates, DominatesRounded};
+ghost use Rattle.vipr_spec.specs.Constraint.{IsWholeRow, DominatesRounded};
 ghost use Rattle.vipr_spec.specs.Certificate.{Certificate, Derivation, variables};
-ghost use Rattle.vipr_spec.specs.Certificate.{lin as by_lin, rnd as by_rnd};
 ghost use Rattle.vipr_spec.specs.Reading.{is_nonzero};
 ghost use Rattle.vipr_spec.specs.Steps.{reference_tests, sum_tests, roundable, by_rounding, IsSum};
 ghost use Rattle.vipr_linear.specs.Accumulator.{Holds, held_condition};
 ghost use Rattle.vipr_linear.specs.Constraint.{condition_of};
-ghost use Rattle.vipr_linear.specs.declared.constraint.Constraint.{Constraint as LinearConstraint};
 ghost use Rattle.vipr_table.specs.Table.{DerivedBelow};
 ghost use Rattle.vipr_table.specs.Unions.{union_so_far};
 ghost use Rattle.vipr_rules.specs.Context.{IsContextOf, IsKnownAs, IsSetOfAll, row_found, set_of};
 ghost use Rattle.vipr_rules.specs.Context.{set_found, AreJoined};
 ghost use Rattle.vipr_rules.specs.Soundness.{IsSoundUnder};
 ghost use Rattle.vipr_rules.specs.Apply.{PassesTestsIn, StopsIn, SumStops, IsRuledIn};
-ghost use Rattle.vipr_rules.specs.Apply.{IsNotDominated};
+ghost use Rattle.vipr_rules.specs.Apply.{DominatesBy, computed_tests, reason_by};
 ghost use Rattle.vipr_rules.specs.declared.error.RuleError.TheVariants.{Memory};
 
 use crate::context::{Context, Known};
@@ -34,67 +32,70 @@ use vipr_table::{Assumptions, Rows, Union};
 // In how many entries before it an index is looked for.
 const FEW_BEFORE: usize = 8;
 
-/// Tests a derivation by `lin`, and gives the assumptions that it rests on.
+/// What has to dominate the stated constraint.
+#[derive(Clone, Copy)]
+pub(crate) enum Computed {
+    /// The sum of the entries.
+    Sum,
+    /// Its rounding.
+    Rounding,
+}
+
+/// Tests a derivation by `lin` or `rnd`, and gives the assumptions that it rests on.
 pub(crate) fn combine<S: Rows>(
     alloc: Global,
     context: &Context<S>,
     scratch: &mut Combination,
     stated: &Constraint,
     entries: &[(u32, Frac)],
+    computed: Computed,
 ) -> Result<Assumptions, RuleError>
     requires variables { length scratch.old.sums ≡ variables context.now.problem.now }
     requires rows { let n = variables context.now.problem.now in
         DerivedBelow n (S.table context.now.rows.now) }
-    ensures ruled { IsRuledIn S.table context.now stated.now (by_lin entries.now) result }
+    ensures ruled { IsRuledIn S.table context.now stated.now (reason_by computed entries.now)
+        result }
     ensures sound { IfOk result (λ s.
         IsSoundUnder S.table context.now s (condition_of stated.now)) }
     ensures variables { length scratch.new.sums ≡ length scratch.old.sums }
 {
-    let assumptions = add_up(alloc, context, scratch, entries)?;
-    check_sum(alloc, scratch, stated)?;
-    Ok(assumptions)
+    let mut assumptions = Union::new(alloc);
+    add_up(alloc, context, scratch, entries, &mut assumptions)?;
+    check_computed(alloc, scratch, context.problem.ints(), stated, computed)?;
+    Ok(assumptions.finish(alloc)?)
 }
 
-/// Tests a derivation by `rnd`, and gives the assumptions that it rests on.
-pub(crate) fn combine_rounded<S: Rows>(
+// Tests that the sum, or its rounding, dominates the stated constraint. The sum becomes a
+// constraint only where it doesn't, for what is reported then.
+fn check_computed(
     alloc: Global,
-    context: &Context<S>,
     scratch: &mut Combination,
+    ints: &Ints,
     stated: &Constraint,
-    entries: &[(u32, Frac)],
-) -> Result<Assumptions, RuleError>
-    requires variables { length scratch.old.sums ≡ variables context.now.problem.now }
-    requires rows { let n = variables context.now.problem.now in
-        DerivedBelow n (S.table context.now.rows.now) }
-    ensures ruled { IsRuledIn S.table context.now stated.now (by_rnd entries.now) result }
-    ensures sound { IfOk result (λ s.
-        IsSoundUnder S.table context.now s (condition_of stated.now)) }
-    ensures variables { length scratch.new.sums ≡ length scratch.old.sums }
-{
-    let assumptions = add_up(alloc, context, scratch, entries)?;
-    if scratch.rounds_to(context.problem.ints(), stated) {
-        return Ok(assumptions);
-    }
-    let sum = finish(alloc, scratch)?;
-    check_rounded(alloc, sum, context.problem.ints(), stated)?;
-    Ok(assumptions)
-}
-
-// Tests that the sum dominates the stated constraint. It becomes a constraint only where it
-// doesn't, for what is reported then.
-fn check_sum(alloc: Global, scratch: &mut Combination, stated: &Constraint) -> Result<(), RuleError>
+    computed: Computed,
+) -> Result<(), RuleError>
     requires fresh { scratch.old.spent ≡ false }
-    ensures dominates { MatchResult result
-        (λ _. Dominates (held_condition scratch.old) (condition_of stated.now))
-        (λ e. (e ≡ Memory) ⊎ ((sum : LinearConstraint)
-        × (condition_of sum ≡ held_condition scratch.old) × IsNotDominated sum stated.now e)) }
+    ensures tests { (P : Profile) (c : Certificate) (d : Derivation) (es : List (ℕ × ℚ))
+        → IsSum c es (held_condition scratch.old) → c.problem.integers ≡ ints.now
+        → condition_of stated.now ≡ condition d.stated
+        → MatchResult result (λ _. PassesTestsIn P c d (computed_tests computed es))
+        (λ e. (e ≡ Memory) ⊎ StopsIn P c d (computed_tests computed es) e) }
+    ensures follows { OnOk result
+        (DominatesBy computed ints.now (held_condition scratch.old) (condition_of stated.now)) }
     ensures variables { length scratch.new.sums ≡ length scratch.old.sums }
 {
-    if scratch.dominates(stated) {
+    let follows = match computed {
+        Computed::Sum => scratch.dominates(stated),
+        Computed::Rounding => scratch.rounds_to(ints, stated),
+    };
+    if follows {
         return Ok(());
     }
     let sum = finish(alloc, scratch)?;
-    check_domination(alloc, &sum, stated)
+    match computed {
+        Computed::Sum => check_domination(alloc, &sum, stated),
+        Computed::Rounding => check_rounded(alloc, sum, ints, stated),
+    }
 }
 
 // Tests that the sum can be rounded and then dominates the stated constraint.
@@ -119,39 +120,39 @@ fn check_rounded(
     }
 }
 
-// Adds the entries in their order, those with the multiplier 0 left out, and gives the assumptions
-// that they rest on. Each reference is looked up once; where an entry can't be added, those behind
-// it are tested first.
+// Adds the entries in their order, those with the multiplier 0 left out, and what they rest on to
+// the assumptions. Each reference is looked up once; where an entry can't be added, those behind it
+// are tested first.
 fn add_up<S: Rows>(
     alloc: Global,
     context: &Context<S>,
     scratch: &mut Combination,
     entries: &[(u32, Frac)],
-) -> Result<Assumptions, RuleError>
+    assumptions: &mut Union,
+) -> Result<(), RuleError>
     requires variables { length scratch.old.sums ≡ variables context.now.problem.now }
     requires rows { let n = variables context.now.problem.now in
         DerivedBelow n (S.table context.now.rows.now) }
+    requires none { union_so_far assumptions.old ≡ set.empty }
     ensures sum { (P : Profile) (c : Certificate) (d : Derivation)
         → IsContextOf S.table P c context.now
         → MatchResult result
-        (λ s. PassesTestsIn P c d (sum_tests entries.now)
+        (λ _. PassesTestsIn P c d (sum_tests entries.now)
         × IsSum c entries.now (held_condition scratch.new)
-        × IsSetOfAll c entries.now s)
+        × IsSetOfAll c entries.now (union_so_far assumptions.new))
         (λ e. (e ≡ Memory) ⊎ StopsIn P c d (sum_tests entries.now) e) }
     ensures fresh { OnOk result (scratch.new.spent ≡ false) }
-    ensures sound { IfOk result (λ s.
-        IsSoundUnder S.table context.now s (held_condition scratch.new)) }
+    ensures sound { OnOk result (IsSoundUnder S.table context.now (union_so_far assumptions.new)
+        (held_condition scratch.new)) }
     ensures variables { length scratch.new.sums ≡ length scratch.old.sums }
 {
-    let mut assumptions = Union::new(alloc);
     scratch.clear();
     for (position, entry) in entries.iter().enumerate() {
         let Some(known) = find_used(context, entry)? else {
             continue;
         };
         if let Err(error) = add_multiple(scratch, known.constraint(), entry.1, position) {
-            check_references(context, &entries[position + 1..])?;
-            return Err(error);
+            return Err(first_error(context, &entries[position + 1..], error));
         }
         join(
             alloc,
@@ -160,11 +161,27 @@ fn add_up<S: Rows>(
             entries,
             position,
             entry.0,
-            &mut assumptions,
+            assumptions,
         )?;
     }
-    let joined = assumptions.finish(alloc)?;
-    Ok(joined)
+    Ok(())
+}
+
+// The error of the first reference of these entries that fails, or else this one.
+fn first_error<S: Rows>(
+    context: &Context<S>,
+    entries: &[(u32, Frac)],
+    error: RuleError,
+) -> RuleError
+    ensures { (P : Profile) (c : Certificate) (d : Derivation)
+        → IsContextOf S.table P c context.now
+        → ((result ≡ error) × PassesTestsIn P c d (flat_map reference_tests entries.now))
+        ⊎ StopsIn P c d (flat_map reference_tests entries.now) result }
+{
+    match check_references(context, entries) {
+        Ok(()) => error,
+        Err(refused) => refused,
+    }
 }
 
 // Adds the assumptions of the constraint of the entry at a position, unless an entry shortly before

@@ -34,10 +34,10 @@ returns-in-Lin-clause-sound g c = IfOk-weaker c.combine.result _ _ (λ s sound s
 pub returns-in-Rnd-clause-ruled : goal.returns-in-Rnd-clause-ruled
 returns-in-Rnd-clause-ruled g c = λ P d is.
     let by = ap reason_of c.in-Rnd.is ∙ ap rnd (sym c.deref-in-Rnd.ensures.value) in
-    subst (λ r. IsRuledBy P d (derivation_of c.args.step.now) r c.combine_rounded.result) (sym by) (c.combine_rounded.ensures.ruled P d (derivation_of c.args.step.now) is refl)
+    subst (λ r. IsRuledBy P d (derivation_of c.args.step.now) r c.combine-in-Rnd.result) (sym by) (c.combine-in-Rnd.ensures.ruled P d (derivation_of c.args.step.now) is refl)
 
 pub returns-in-Rnd-clause-sound : goal.returns-in-Rnd-clause-sound
-returns-in-Rnd-clause-sound g c = IfOk-weaker c.combine_rounded.result _ _ (λ s sound says x at next. sound says x at) c.combine_rounded.ensures.sound
+returns-in-Rnd-clause-sound g c = IfOk-weaker c.combine-in-Rnd.result _ _ (λ s sound says x at next. sound says x at) c.combine-in-Rnd.ensures.sound
 
 pub returns-in-Uns-clause-ruled : goal.returns-in-Uns-clause-ruled
 returns-in-Uns-clause-ruled g c = λ P d is.

@@ -1,5 +1,5 @@
 use Rattle.std.proofs.Common.{◌+◌, [], ◌∷◌, ◌++◌, Some, None, take, length, sym, ◌∙◌, ap, subst}
-use Rattle.std.proofs.Common.{subst₂, refl, inr, arith}
+use Rattle.std.proofs.Common.{subst₂, refl, inl, inr, arith}
 use Rattle.std.specs.Prelude.{flat_map}
 use Rattle.std.proofs.lemmas.Result.{err_from_is_err_and}
 use Rattle.std.proofs.lemmas.List.{length-replicate}
@@ -22,7 +22,7 @@ use Rattle.vipr_rules.proofs.SumLemmas.{entries_more, unused_held, IsTrueSum, no
 use Rattle.vipr_rules.proofs.SumLemmas.{more_true, sum_is_true}
 use Rattle.vipr_rules.proofs.UnionLemmas.{IsSetOfAll-none, without_it, with_it}
 use Rattle.vipr_table.specs.Unions.{union_so_far}
-use Rattle.vipr_rules.proofs.SoundLemmas.{AreTrue, true_left, true_right}
+use Rattle.vipr_rules.proofs.SoundLemmas.{true_left, true_right}
 use Rattle.vipr_rules.proofs.JoinedLemmas.{joined_more, joined_unused}
 use Rattle.vipr_rules.proofs.sum.add_up.Goals as goal
 
@@ -33,7 +33,7 @@ loop-position-init g c =
     record {
       places = ap (λ (a : Accumulator). length a.sums) cleared ∙ length-replicate (variables c.args.context.now.problem.now) zero_ℚ;
       fresh = ap (λ (a : Accumulator). a.spent) cleared;
-      sum = λ P d e is. (refl, refl, subst (Holds (variables c.args.context.now.problem.now) []) (sym cleared) (start_held (variables c.args.context.now.problem.now)), subst (IsSetOfAll d []) (sym c.new-assumptions.ensures) (IsSetOfAll-none d));
+      sum = λ P d e is. (refl, refl, subst (Holds (variables c.args.context.now.problem.now) []) (sym cleared) (start_held (variables c.args.context.now.problem.now)), subst (IsSetOfAll d []) (sym c.requires.none) (IsSetOfAll-none d));
       sound = λ says x at h. subst (IsTrueSum (variables c.args.context.now.problem.now) x) (sym cleared) (nothing_true (variables c.args.context.now.problem.now) x);
       joined = λ k d less. absurd (omega arith);
     }
@@ -119,18 +119,6 @@ returns-in_err-known-clause-sum g c = λ P d s is.
     (inr (stops_first P d s (flat_map reference_tests c.args.entries.now) (entry_tests [] c.args.entries.now) _
     (stops.0, reference_fails (PassesStep P d (condition s.stated)) _ _ _ c.loop-position-test.true c.index-entries-position.is stops.0 so_far.0 stops.1, stops.2)))
 
-pub returns-in_err-check_references-clause-sum : goal.returns-in_err-check_references-clause-sum
-returns-in_err-check_references-clause-sum g c = λ P d s is.
-    let so_far = c.loop-position.invariant.sum P d s is in
-    let found = c.in_ok-known.ensures.known P d s is in
-    let before = references_more (PassesStep P d (condition s.stated)) _ _ _ c.loop-position-test.true c.index-entries-position.is None so_far.0 found.0 in
-    let stops = c.in_err-check_references.ensures P d s is in
-    let rest = subst (λ l. FirstFailing (PassesStep P d (condition s.stated)) (flat_map reference_tests l) (Some stops.0)) (to_end c.args.entries.now (c.loop-position.position + 1)) stops.1 in
-    let p = err_from_is_err_and c.from_residual-in_err-check_references.result c.from_residual-in_err-check_references.ensures.1 in
-    rw (p.1, p.2)
-    (inr (stops_first P d s (flat_map reference_tests c.args.entries.now) (entry_tests [] c.args.entries.now) _
-    (stops.0, references_rest (PassesStep P d (condition s.stated)) c.args.entries.now (c.loop-position.position + 1) (Some stops.0) before rest, stops.2)))
-
 pub returns-in-Err-clause-sum : goal.returns-in-Err-clause-sum
 returns-in-Err-clause-sum g c = λ P d s is.
     let so_far = c.loop-position.invariant.sum P d s is in
@@ -140,15 +128,22 @@ returns-in-Err-clause-sum g c = λ P d s is.
     let found = c.in_ok-known.ensures.known P d s is in
     let used = rw c.in-Some.is at found.1 in
     let before = references_more (PassesStep P d (condition s.stated)) _ _ _ lt item None so_far.0 found.0 in
-    let rest = subst (λ l. PassesTestsIn P d s (flat_map reference_tests l)) (to_end c.args.entries.now (c.loop-position.position + 1)) (c.in_ok-check_references.ensures P d s is) in
-    let all = references_rest (PassesStep P d (condition s.stated)) c.args.entries.now (c.loop-position.position + 1) None before rest in
     let says = ap condition_of c.constraint.ensures ∙ used.1.says in
     let stops =
     subst (λ l. SumStops l c.loop-position.position c.in-Err.error)
     (sym (entries_more d (take c.loop-position.position c.args.entries.now) e (condition_of c.constraint.result.now) says))
     (c.in-Err.ensures.sum (variables c.args.context.now.problem.now) _ so_far.2) in
-    inr (stops_second P d s (flat_map reference_tests c.args.entries.now) (entry_tests [] c.args.entries.now) _ all
-    (sum_stops P d s c.args.entries.now c.loop-position.position e c.in-Err.error lt item so_far.1 stops))
+    elim (c.first_error.ensures P d s is) [
+      | inl same ↦
+          let rest = subst (λ l. PassesTestsIn P d s (flat_map reference_tests l)) (to_end c.args.entries.now (c.loop-position.position + 1)) same.1 in
+          let all = references_rest (PassesStep P d (condition s.stated)) c.args.entries.now (c.loop-position.position + 1) None before rest in
+          rw same.0 (inr (stops_second P d s (flat_map reference_tests c.args.entries.now) (entry_tests [] c.args.entries.now) _ all
+          (sum_stops P d s c.args.entries.now c.loop-position.position e c.in-Err.error lt item so_far.1 stops)))
+      | inr refused ↦
+          let rest = subst (λ l. FirstFailing (PassesStep P d (condition s.stated)) (flat_map reference_tests l) (Some refused.0)) (to_end c.args.entries.now (c.loop-position.position + 1)) refused.1 in
+          inr (stops_first P d s (flat_map reference_tests c.args.entries.now) (entry_tests [] c.args.entries.now) _
+          (refused.0, references_rest (PassesStep P d (condition s.stated)) c.args.entries.now (c.loop-position.position + 1) (Some refused.0) before rest, refused.2))
+    ]
 
 pub returns-clause-sum : goal.returns-clause-sum
 returns-clause-sum g c = λ P d s is.
@@ -158,10 +153,10 @@ returns-clause-sum g c = λ P d s is.
       subst (λ l. PassesTestsIn P d s (sum_tests l)) all
           (passes_both P d s (flat_map reference_tests (take c.loop-position.position c.args.entries.now)) (entry_tests [] (take c.loop-position.position c.args.entries.now)) so_far.0 so_far.1),
       subst (λ l. IsSum d l (held_condition c.loop-position.scratch)) all (_, sum.0, sum.1),
-      subst (IsSetOfAll d c.args.entries.now) (sym c.in_ok-joined.ensures) (subst (λ l. IsSetOfAll d l (union_so_far c.loop-position.assumptions)) all so_far.3),
+      subst (λ l. IsSetOfAll d l (union_so_far c.loop-position.assumptions)) all so_far.3,
     )
 
 pub returns-clause-sound : goal.returns-clause-sound
 returns-clause-sound g c = λ says x here h.
     let n = variables c.args.context.now.problem.now in
-    sum_is_true n x c.loop-position.scratch (c.loop-position.invariant.sound says x here (subst (λ s. AreTrue n says s x) c.in_ok-joined.ensures h))
+    sum_is_true n x c.loop-position.scratch (c.loop-position.invariant.sound says x here h)
