@@ -97,9 +97,9 @@ stops_solution p ss s n e (Refused r f) same is fails = (
 )
 
 -- with the item's own name it stops for what the tests answered
-pub solution_halted : (n : ℕ) (name x : List ℕ) (e : SolutionError) (h : Halt)
-    → h ≡ solution_halt n name e → name ≡ x → IsSolutionHalt n x e h
-solution_halted n name x e h is same = subst (λ y. IsSolutionHalt n y e h) same (subst (IsSolutionHalt n name e) (sym is) (refl, refl))
+pub solution_halted : (n : ℕ) (name : List ℕ) (e : SolutionError) (h : Halt)
+    → h ≡ solution_halt n name e → IsSolutionHalt n name e h
+solution_halted n name e h is = subst (IsSolutionHalt n name e) (sym is) (refl, refl)
 
 -- want of memory is no refusal
 pub memory_stops : (k : ℕ) (name : List ℕ) (e : RuleError) (h : Halt) → e ≡ rule.Memory

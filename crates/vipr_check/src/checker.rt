@@ -164,9 +164,15 @@ impl<S: Rows> Checker<S> {
     {
         self.go_on()?;
         let number = self.progress.solutions();
-        match self.progress.take_solution(solution) {
-            Ok(()) => Ok(()),
-            Err((name, error)) => {
+        let Named { name, item } = solution;
+        let tested = self.progress.solution(&item);
+        drop(item);
+        match tested {
+            Ok(()) => {
+                drop(name);
+                Ok(())
+            }
+            Err(error) => {
                 Err(stop(&mut self.halt, Halt::at_solution(number, name, error)))
             }
         }

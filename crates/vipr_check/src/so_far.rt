@@ -4,15 +4,15 @@ ghost use Rattle.std.specs.Prelude.{◌≡◌, ◌≢◌, ◌≤◌, ◌+◌, �
 ghost use Rattle.std.specs.Prelude.{OnErr, MatchResult, MatchOption, IsTrue, Ok, List, [], ◌∷◌};
 ghost use Rattle.std.specs.Prelude.{◌++◌, length, None, option_map};
 ghost use Rattle.vipr_spec.specs.Certificate.{Named as NamedMeant, Derivation as DerivationMeant};
-ghost use Rattle.vipr_spec.specs.Certificate.{Certificate, variables, MeetsPrimal, NeedsGoal};
-ghost use Rattle.vipr_spec.specs.Certificate.{IsProof, count, count_held, objective_at};
+ghost use Rattle.vipr_spec.specs.Certificate.{Certificate, variables, MeetsPrimal, count};
+ghost use Rattle.vipr_spec.specs.Certificate.{objective_at};
 ghost use Rattle.vipr_spec.specs.Constraint.{Row, at, NamesBelow};
 ghost use Rattle.vipr_spec.specs.Steps.{with_next, step_tests, FirstFailing};
 ghost use Rattle.vipr_spec.specs.Tests.{PassesSolution, solution_tests, meets_dual};
 ghost use Rattle.vipr_spec.specs.Tests.{Passes as PassesTest, goal_needed_by};
 ghost use Rattle.vipr_spec.specs.Verdict.{Reports};
 ghost use Rattle.vipr_linear.specs.Constraint.{condition_of};
-ghost use Rattle.vipr_cert.specs.Items.{solution_of, derivation_of};
+ghost use Rattle.vipr_cert.specs.Items.{derivation_of};
 ghost use Rattle.vipr_rules.specs.Claim.{target_bound, IsTargetIn};
 ghost use Rattle.vipr_rules.specs.Profile.{profile_of};
 ghost use Rattle.vipr_table.specs.Table.{step as table_step, advance_table, held_count as held_in};
@@ -28,7 +28,7 @@ use crate::goal::{goal_among, goal_with};
 use crate::verdict::Report;
 use std::alloc::{AllocError, Global};
 use std::marker::Model;
-use vipr_cert::{Derivation, Name, Named, Problem};
+use vipr_cert::{Derivation, Problem};
 use vipr_frac::Frac;
 use vipr_linear::{Combination, Constraint, Solution};
 use vipr_rules::{
@@ -267,32 +267,6 @@ impl<S: Rows> Progress<S> {
         self.best = better(&self.problem, self.best, value);
         self.solutions += 1;
         Ok(())
-    }
-
-    /// Tests the next listed solution, and goes on with it if it passes. Else its name comes back
-    /// with the error.
-    pub(crate) fn take_solution(
-        &mut self,
-        solution: Named<Solution>,
-    ) -> Result<(), (Name, SolutionError)>
-        requires { self.old.solutions + 1 < 2 ^ 32 }
-        ensures next { (ss : List (NamedMeant Row)) → HasSolutions ss self.old
-            → MatchResult result (λ _. FirstFailing
-            (PassesSolution self.old.problem (solution_of solution).item)
-            (solution_tests self.old.problem) None
-            × HasSolutions (ss ++ solution_of solution ∷ []) self.new)
-            (λ e. FailsBy self.old.problem (solution_of solution).item
-            (solution_tests self.old.problem) e.1) }
-        ensures named { IfErr result (λ e. e.0 ≡ solution.name) }
-        ensures ok { OnOk result
-            (self.new ≡ record self.old { solutions = self.new.solutions; best = self.new.best }) }
-        ensures err { OnErr result (self.new ≡ self.old) }
-    {
-        let Named { name, item } = solution;
-        match self.solution(&item) {
-            Ok(()) => Ok(()),
-            Err(error) => Err((name, error)),
-        }
     }
 
     /// Forgets the columns, since no solution follows.
