@@ -2,7 +2,8 @@
 use Rattle.std.proofs.Common.{◌≡◌, ◌≢◌, ℕ, zero, suc, ◌+◌, ◌<◌, ◌^◌, true, false, List, [], ◌∷◌}
 use Rattle.std.proofs.Common.{◌++◌, Some, None, Result, Ok, Err, inl, inr, arith, refl, sym, ◌∙◌}
 use Rattle.std.proofs.Common.{ap, subst}
-use Rattle.std.specs.Prelude.{◌⊎◌, IsSome}
+use Rattle.std.specs.Prelude.{◌⊎◌, IsSome, IfSome, IfOk, Option}
+use Rattle.std.specs.Result.{result_transpose}
 use Rattle.vipr_scan.specs.Giving.{rest_of}
 use Rattle.std.proofs.lemmas.List.{length-append}
 use Rattle.vipr_spec.specs.Constraint.{Profile, Row, NamesBelow}
@@ -43,7 +44,7 @@ use Rattle.vipr_check.specs.Progress.{HasSolutions, HasSteps}
 use Rattle.vipr_check.specs.State.{State, HaltsBy, StopsSolution, TakesSolution, StopsEnd}
 use Rattle.vipr_check.specs.State.{EndsSolutions, StopsStep, TakesStep, StopsFinish, Finishes}
 use Rattle.vipr_check.specs.Reasons.{stop_reason, text_reason, SaysWhy}
-use Rattle.vipr_check.specs.Run.{IsAmong, HasListed, IsAt, HasReached, SaysWith}
+use Rattle.vipr_check.specs.Run.{IsAmong, HasListed, IsAt, HasReached, Goes, SaysWith}
 use Rattle.vipr_check.proofs.Answering.{SaysWhy-by, SaysWith-by, text_says}
 use Rattle.vipr_check.proofs.ShownLemmas.{missed_bound, stop_shown, halted_shown, unshown}
 
@@ -114,6 +115,35 @@ pub reached_why : (P : Profile) (c : Certificate) (k : State) (old mid : Items)
     → SaysWhy (Explained P (derivations_from h.now mid.left (rest_of mid.rest))) x e)
     → SaysWhy (Explained P (derivations_from c old.left (rest_of old.rest))) x e
 reached_why P c k old mid h known x e s = let leads = h.leads known in SaysWhy-by (Explained P (derivations_from h.now mid.left (rest_of mid.rest))) (Explained P (derivations_from c old.left (rest_of old.rest))) x e leads.answers (s leads.known)
+
+-- what ends the steps says of what was left before what it says of what is left now
+pub step_ends : (P : Profile) (c : Certificate) (k l : State) (old mid new : Items)
+    (h : HasReached P c old k mid) (r : Result (Option Report) NoProof) (x : Result Report NoProof)
+    → Some x ≡ result_transpose r → Goes P h.now mid l new r → IsSome old.rest
+    → SaysWith (Explained P (derivations_from c old.left (rest_of old.rest))) (state_shown l) x
+step_ends P c k l old mid new h (Ok None) x is goes known = absurd (cc is)
+step_ends P c k l old mid new h (Ok (Some report)) x is goes known =
+    let same : x ≡ Ok report = cc is in
+    subst (SaysWith (Explained P (derivations_from c old.left (rest_of old.rest))) (state_shown l)) (sym same) (reached_says P c k old mid h known (verified (report_of report)) (state_shown l) goes)
+step_ends P c k l old mid new h (Err e) x is goes known =
+    let same : x ≡ Err e = cc is in
+    subst (SaysWith (Explained P (derivations_from c old.left (rest_of old.rest))) (state_shown l)) (sym same) (reached_why P c k old mid h known (state_shown l) e goes)
+
+pub step_ends_proved : (Q : Report → Type 0) (r : Result (Option Report) NoProof) (x : Result Report NoProof)
+    → Some x ≡ result_transpose r → IfOk r (λ o. IfSome o Q) → IfOk x Q
+step_ends_proved Q (Ok None) x is q = absurd (cc is)
+step_ends_proved Q (Ok (Some report)) x is q =
+    let same : x ≡ Ok report = cc is in subst (λ (y : Result Report NoProof). IfOk y Q) (sym same) q
+step_ends_proved Q (Err e) x is q =
+    let same : x ≡ Err e = cc is in subst (λ (y : Result Report NoProof). IfOk y Q) (sym same) tt
+
+-- and if they go on, the checker is behind one more
+pub step_goes_on : (P : Profile) (c : Certificate) (k l : State) (old mid new : Items)
+    (h : HasReached P c old k mid) (r : Result (Option Report) NoProof)
+    → None ≡ result_transpose r → Goes P h.now mid l new r → HasReached P c old l new
+step_goes_on P c k l old mid new h (Ok None) is goes = reached_later P c k l old mid new h goes
+step_goes_on P c k l old mid new h (Ok (Some report)) is goes = absurd (cc is)
+step_goes_on P c k l old mid new h (Err e) is goes = absurd (cc is)
 
 module _ (P : Profile) (c : Certificate) (k l : State) (old new : Items) (d : Derivation) (is : IsAt P c k old) (fewer : old.left ≡ suc new.left) where
   pub step_taken : Remembers old new → new.failed ≡ false → TakesStep c d k l (Ok tt) → IsAt P (with_next c d) l new

@@ -7,10 +7,10 @@ ghost use Rattle.vipr_spec.specs.Constraint.{Profile as ProfileMeant, Row};
 ghost use Rattle.vipr_spec.specs.Certificate.{Named as NamedMeant, Problem as ProblemMeant};
 ghost use Rattle.vipr_spec.specs.Certificate.{Certificate};
 ghost use Rattle.vipr_spec.specs.Reading.{Rest, problem_read};
-ghost use Rattle.vipr_spec.specs.Verdict.{Explained, IsExplained, Answer, IsAnswer};
+ghost use Rattle.vipr_spec.specs.Verdict.{Explained, IsExplained};
 ghost use Rattle.vipr_spec.specs.Progress.{derivations_from, solutions_from};
 ghost use Rattle.vipr_rules.specs.Profile.{profile_of};
-ghost use Rattle.vipr_read.specs.Items.{Items, Knows};
+ghost use Rattle.vipr_read.specs.Items.{Knows};
 ghost use Rattle.vipr_bytes.specs.Known.{text_of, IfKnown};
 ghost use Rattle.vipr_check.specs.Shown.{state_shown};
 ghost use Rattle.vipr_check.specs.Run.{IsAmong, GoesAmong, IsAt, Goes, SaysWith, SaysAtEnd};
@@ -159,8 +159,9 @@ fn after_steps<R: Source + Drop, S: Rows>(
 {
     let mut step = Derivation::blank(alloc);
     'steps: loop {
-        if let Some(report) = next_step(alloc, checker, &mut derivations, &mut step)? {
-            return Ok(report);
+        let taken = next_step(alloc, checker, &mut derivations, &mut step);
+        if let Some(outcome) = taken.transpose() {
+            return outcome;
         }
     }
 }
