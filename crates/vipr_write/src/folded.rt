@@ -1,13 +1,13 @@
 //! A text that keeps what is written for the objective's row once.
 ghost use Rattle.std.specs.Prelude.{◌≡◌, ◌<◌, ◌-◌, ◌^◌, ◌++◌, [], length, IsTrue, IfOk, OnOk};
 ghost use Rattle.vipr_linear.specs.Constraint.{constraint_of};
-ghost use Rattle.vipr_cert.specs.Items.{derivation_of, named_of, solution_of};
+ghost use Rattle.vipr_cert.specs.Items.{derivation_of, named_of};
 ghost use Rattle.vipr_write.specs.Canonical.{words_after_spaces, line_text, lines_text};
 ghost use Rattle.vipr_write.specs.Forms.{row_words, constraint_words_in, given_words_in};
 ghost use Rattle.vipr_write.specs.Forms.{derivation_words_in, problem_lines_in};
 ghost use Rattle.vipr_write.specs.Lines.{words_text};
 ghost use Rattle.vipr_write.specs.Folded.{IsFolded, Extends, begun, opening, stated_words};
-ghost use Rattle.vipr_write.specs.Folded.{constraints_text, derivation_end};
+ghost use Rattle.vipr_write.specs.Folded.{constraints_text};
 
 use crate::form::Form;
 use crate::lines::{append_claim, append_end};

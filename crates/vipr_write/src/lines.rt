@@ -1,6 +1,6 @@
 //! The lines of a certificate's items, in a text that grows: a constraint, a claim, a solution, a
 //! derivation.
-ghost use Rattle.std.specs.Prelude.{◌≡◌, ◌∷◌, ◌++◌, OnOk};
+ghost use Rattle.std.specs.Prelude.{◌≡◌, ◌++◌, OnOk};
 ghost use Rattle.vipr_spec.specs.Certificate.{range, by_branches, reason_references};
 ghost use Rattle.vipr_linear.specs.Constraint.{constraint_of};
 ghost use Rattle.vipr_write.specs.Canonical.{reference_words, constraint_words, given_words};
