@@ -112,6 +112,11 @@ pub record IsForSame (old new : Statements) : Type 0 where
   pub form : new.form ≡ old.form
   pub objective : new.objective ≡ old.objective
 
+-- the text is for this form and this problem
+pub record IsFor (F : Form) (p : Problem) (t : Statements) : Type 0 where
+  pub form : t.form ≡ F
+  pub objective : t.objective ≡ p.objective
+
 -- these steps are kept of the derivations ds, which are over n variables and can be written
 pub record KeepsSteps (n : ℕ) (t : Statements) (steps : List (Step Statement))
     (ds : List Derivation) : Type 0 where

@@ -14,11 +14,11 @@ ghost use Rattle.vipr_bytes.specs.Known.{text_of, IfKnown};
 ghost use Rattle.vipr_cert.specs.Items.{solution_of};
 ghost use Rattle.vipr_read.specs.Items.{Knows};
 ghost use Rattle.vipr_rules.specs.Profile.{profile_of};
-ghost use Rattle.vipr_write.specs.Steps.{AreKept, AreStepsOf};
+ghost use Rattle.vipr_write.specs.Steps.{AreKept};
 ghost use Rattle.vipr_check.specs.Run.{IsAmong, IsAt};
 ghost use Rattle.vipr_tighten.specs.Keeping.{AnswersProof, AnswersWhy, KeepsMet};
 ghost use Rattle.vipr_tighten.specs.Keeping.{KeepsFinished, KeepsProof, KeepsSteps};
-ghost use Rattle.vipr_tighten.specs.Keeping.{IsKeptOf, IsForSame};
+ghost use Rattle.vipr_tighten.specs.Keeping.{IsKeptOf, IsForSame, IsFor};
 ghost use Rattle.vipr_tighten.specs.Keeping.{solutions_left, derivations_left};
 
 use std::alloc::Global;
@@ -84,14 +84,11 @@ fn read_rest<R: Source + Drop>(
     ensures unproved { IfErr result (λ e. IsSome solutions.rest
         → AnswersWhy (profile_of profile) (solutions_left problem [] solutions) e) }
 {
-    let mut statements = Statements::new(alloc, form, problem.objective())?;
-    let (problem, solutions, steps, report) = read_checked(
-        alloc,
-        profile,
-        problem,
-        &mut statements,
-        solutions,
-    )?;
+    let mut checker: Checker<Table> = Checker::new_in(alloc, profile, problem)?;
+    let read = read_items(alloc, &mut checker, form, solutions);
+    // The checker is given up at this one place, whatever was answered.
+    let problem = checker.into_problem();
+    let (solutions, statements, steps, report) = read?;
     Ok(KeptProof {
         problem,
         solutions,
@@ -101,68 +98,32 @@ fn read_rest<R: Source + Drop>(
     })
 }
 
-// The problem, with the solutions and the derivations that follow it up to the end of the text, and
-// the report of the proof that they make.
-fn read_checked<R: Source + Drop>(
-    alloc: Global,
-    profile: Profile,
-    problem: Problem,
-    statements: &mut Statements,
-    solutions: Solutions<R>,
-) -> Result<(Problem, Vec<Named<Solution>>, Vec<Step<Statement>>, Report), NoProof>
-    requires knows { Knows solutions problem }
-    requires working { solutions.failed ≡ false }
-    requires counted { solutions.left < 2 ^ 32 }
-    requires none { AreKept statements.old [] [] }
-    ensures same { OnOk result (IsForSame statements.old statements.new) }
-    ensures kept { IfOk result (λ x. (x.0 ≡ problem) × (ds : List DerivationMeant)
-        × AreKept statements.new x.2.items ds
-        × (CanWriteProblem problem
-        → CanWrite (with_more (start problem (map solution_of x.1.items)) ds))
-        × KeepsProof (profile_of profile) problem solutions
-        (with_more (start problem (map solution_of x.1.items)) ds) x.3) }
-    ensures unproved { IfErr result (λ e. IsSome solutions.rest
-        → AnswersWhy (profile_of profile) (solutions_left problem [] solutions) e) }
-{
-    let mut checker: Checker<Table> = Checker::new_in(alloc, profile, problem)?;
-    let read = read_items(alloc, &mut checker, statements, solutions);
-    // The checker is given up at this one place, whatever was answered.
-    let problem = checker.into_problem();
-    let (listed, steps, report) = read?;
-    Ok((problem, listed, steps, report))
-}
-
 // The solutions and the derivations that follow, up to the end of the text, and the report of the
 // proof that they make.
 fn read_items<R: Source + Drop>(
     alloc: Global,
     checker: &mut Checker<Table>,
-    statements: &mut Statements,
+    form: Form,
     mut solutions: Solutions<R>,
-) -> Result<(Vec<Named<Solution>>, Vec<Step<Statement>>, Report), NoProof>
-    requires among { (P : ProfileMeant) × (p : ProblemMeant)
-        × IsAmong P p [] checker.old solutions }
-    requires none { AreKept statements.old [] [] }
-    ensures same { OnOk result (IsForSame statements.old statements.new) }
+) -> Result<(Vec<Named<Solution>>, Statements, Vec<Step<Statement>>, Report), NoProof>
+    requires { (P : ProfileMeant) × (p : ProblemMeant) × IsAmong P p [] checker.old solutions }
     ensures kept { IfOk result (λ x. (P : ProfileMeant) (p : ProblemMeant)
         → IsAmong P p [] checker.old solutions
-        → (checker.new.progress.problem ≡ p) × (ds : List DerivationMeant)
-        × AreKept statements.new x.1.items ds
+        → (checker.new.progress.problem ≡ p) × IsFor form p x.1 × (ds : List DerivationMeant)
+        × AreKept x.1 x.2.items ds
         × (CanWriteProblem p → CanWrite (with_more (start p (map solution_of x.0.items)) ds))
-        × KeepsProof P p solutions (with_more (start p (map solution_of x.0.items)) ds) x.2) }
+        × KeepsProof P p solutions (with_more (start p (map solution_of x.0.items)) ds) x.3) }
     ensures unproved { IfErr result (λ e. (P : ProfileMeant) (p : ProblemMeant)
         → IsAmong P p [] checker.old solutions → IsSome solutions.rest
         → AnswersWhy P (solutions_left p [] solutions) e) }
 {
     let listed = read_listed(alloc, checker, &mut solutions)?;
     let mut derivations = solutions.finish()?;
-    let mut step = Derivation::blank(alloc);
-    let derived = read_derived(alloc, checker, statements, &mut derivations, &mut step);
+    let read = read_steps(alloc, checker, form, &mut derivations);
     // Dropped at this one place, whatever was answered.
-    drop(step);
     drop(derivations);
-    let (steps, report) = derived?;
-    Ok((listed, steps, report))
+    let (statements, steps, report) = read?;
+    Ok((listed, statements, steps, report))
 }
 
 // All solutions that follow, where they meet the primal side of the claim.
@@ -197,6 +158,36 @@ fn read_listed<R: Source>(
             }
         }
     }
+}
+
+// All derivations that follow, up to the end of the text, with what is kept of their names and
+// constraints, and the report, where they make a proof.
+fn read_steps<R: Source>(
+    alloc: Global,
+    checker: &mut Checker<Table>,
+    form: Form,
+    derivations: &mut Derivations<R>,
+) -> Result<(Statements, Vec<Step<Statement>>, Report), NoProof>
+    requires { (P : ProfileMeant) × (p : ProblemMeant) × (ss : List (NamedMeant Row))
+        × IsAt P (start p ss) checker.old derivations.old }
+    ensures form { IfOk result (λ x. IsFor form checker.old.progress.problem x.0) }
+    ensures kept { IfOk result (λ x. (ds : List DerivationMeant)
+        × KeepsSteps derivations.old.variables x.0 x.1.items ds
+        × ((P : ProfileMeant) (p : ProblemMeant) (ss : List (NamedMeant Row))
+        → IsAt P (start p ss) checker.old derivations.old
+        → KeepsFinished P (start p ss) derivations.old (with_more (start p ss) ds) x.2
+        checker.new)) }
+    ensures unproved { IfErr result
+        (λ e. (P : ProfileMeant) (p : ProblemMeant) (ss : List (NamedMeant Row))
+        → IsAt P (start p ss) checker.old derivations.old → IsSome derivations.old.rest
+        → AnswersWhy P (derivations_left (start p ss) derivations.old) e) }
+{
+    let mut statements = Statements::new(alloc, form, checker.problem().objective())?;
+    let mut step = Derivation::blank(alloc);
+    let derived = read_derived(alloc, checker, &mut statements, derivations, &mut step);
+    drop(step);
+    let (steps, report) = derived?;
+    Ok((statements, steps, report))
 }
 
 // All derivations that follow, up to the end of the text, and the report, where they make a proof.
