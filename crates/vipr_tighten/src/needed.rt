@@ -1,5 +1,5 @@
 //! What the goal needs: one pass from the end.
-ghost use Rattle.std.specs.Prelude.{ℕ, Bool, ◌&&◌, ◌+◌, ◌≡◌, nat_eq, not, map, length, IfOk, pos};
+ghost use Rattle.std.specs.Prelude.{◌&&◌, ◌≡◌, nat_eq, map, IfOk, pos};
 ghost use Rattle.std.specs.List.{list_any};
 ghost use Rattle.std.specs.Ordering.{int_eq};
 ghost use Rattle.vipr_spec.specs.Constraint.{Constraint as ConstraintMeant};
