@@ -159,8 +159,8 @@ fn after_steps<R: Source + Drop, S: Rows>(
 {
     let mut step = Derivation::blank(alloc);
     'steps: loop {
-        let taken = next_step(alloc, checker, &mut derivations, &mut step);
-        if let Some(outcome) = taken.transpose() {
+        let answer = next_step(alloc, checker, &mut derivations, &mut step);
+        if let Some(outcome) = answer.transpose() {
             return outcome;
         }
     }
