@@ -119,10 +119,13 @@ fn read_items<R: Source + Drop>(
 {
     let listed = read_listed(alloc, checker, &mut solutions)?;
     let mut derivations = solutions.finish()?;
-    let read = read_steps(alloc, checker, form, &mut derivations);
+    let mut statements = Statements::new(alloc, form, checker.problem().objective())?;
+    let mut step = Derivation::blank(alloc);
+    let derived = read_derived(alloc, checker, &mut statements, &mut derivations, &mut step);
     // Dropped at this one place, whatever was answered.
+    drop(step);
     drop(derivations);
-    let (statements, steps, report) = read?;
+    let (steps, report) = derived?;
     Ok((listed, statements, steps, report))
 }
 
@@ -158,36 +161,6 @@ fn read_listed<R: Source>(
             }
         }
     }
-}
-
-// All derivations that follow, up to the end of the text, with what is kept of their names and
-// constraints, and the report, where they make a proof.
-fn read_steps<R: Source>(
-    alloc: Global,
-    checker: &mut Checker<Table>,
-    form: Form,
-    derivations: &mut Derivations<R>,
-) -> Result<(Statements, Vec<Step<Statement>>, Report), NoProof>
-    requires { (P : ProfileMeant) × (p : ProblemMeant) × (ss : List (NamedMeant Row))
-        × IsAt P (start p ss) checker.old derivations.old }
-    ensures form { IfOk result (λ x. IsFor form checker.old.progress.problem x.0) }
-    ensures kept { IfOk result (λ x. (ds : List DerivationMeant)
-        × KeepsSteps derivations.old.variables x.0 x.1.items ds
-        × ((P : ProfileMeant) (p : ProblemMeant) (ss : List (NamedMeant Row))
-        → IsAt P (start p ss) checker.old derivations.old
-        → KeepsFinished P (start p ss) derivations.old (with_more (start p ss) ds) x.2
-        checker.new)) }
-    ensures unproved { IfErr result
-        (λ e. (P : ProfileMeant) (p : ProblemMeant) (ss : List (NamedMeant Row))
-        → IsAt P (start p ss) checker.old derivations.old → IsSome derivations.old.rest
-        → AnswersWhy P (derivations_left (start p ss) derivations.old) e) }
-{
-    let mut statements = Statements::new(alloc, form, checker.problem().objective())?;
-    let mut step = Derivation::blank(alloc);
-    let derived = read_derived(alloc, checker, &mut statements, derivations, &mut step);
-    drop(step);
-    let (steps, report) = derived?;
-    Ok((statements, steps, report))
 }
 
 // All derivations that follow, up to the end of the text, and the report, where they make a proof.
