@@ -10,9 +10,9 @@ it changes, then all of its file, then the whole crate, and that once more from 
 still proved with the edit. Edits of one file follow one another. Crates are tried side by side, as many as memory allows.
 
 Without words all are tried, and the day, the commit and the result are written into docs/PROOF.md. A run that is cut
-off goes on where it was: an edit that was refused over the same text isn't tried once more. --sample tries N
-that follow one another in one crate; crates that have fewer count as one. The commit chooses them (outside of a git
-checkout the text of the crates does), so that each run names other ones. It takes over what `rt ci` proved, if nothing
+off goes on where it was: an edit that was refused over the same text isn't tried once more. --sample tries N, about
+one of each crate, and each commit begins where the one before ends: as many commits as there are edits try each of
+them N times. Without all commits the text of the crates chooses. It takes over what `rt ci` proved, if nothing
 changed since: then no more is proved than the functions that are changed and those that they call.
 
 Prints what each came to, and last `N refused, M not`; the exit status is 1 if one isn't refused, or if a crate
@@ -78,21 +78,26 @@ def edits(crate):
     return sorted(Path(crate.folder, 'wrong').glob('*.edit'), key=lambda path: (changed(path), path.name))
 
 
-def sample(paths, count):
-    """That many edits in a row of one crate, so that few files alone are proved once more. The parts cover the list."""
-    lists, few = [], []
+def spread(paths):
+    """The edits in an order in which those of each crate are spread evenly, so that few in a row are of one crate."""
+    places = {}
     for _, there in groupby(paths, key=lambda path: path.parent):
         there = list(there)
-        if len(there) < count:
-            few += there
-        else:
-            lists.append(there)
-    parts = [there[max(0, min(at, len(there) - count)):][:count] for there in lists + [few] for at in range(0, len(there), count)]
-    commit = git('rev-parse', 'HEAD')
-    part = int(commit or text_sum(), 16) % len(parts)
-    by = f'by the commit {commit[:7]}' if commit else 'by the text of the crates'
-    print(f'part {part + 1} of {len(parts)} of the {len(paths)} wrong versions, chosen {by}', flush=True)
-    return parts[part]
+        places |= {path: (at + 0.5) / len(there) for at, path in enumerate(there)}
+    return sorted(paths, key=places.get)
+
+
+def sample(paths, count, turn):
+    """That many edits in a row as they are spread, in a ring. Each turn begins where the one before ends."""
+    ring, first = spread(paths), turn * count % len(paths)
+    return sorted((ring + ring)[first:first + min(count, len(paths))], key=paths.index)
+
+
+def commit_number():
+    """A number that each commit raises, and what it comes from: without all commits, the text of the crates."""
+    if git('rev-parse', '--is-shallow-repository') == 'false':
+        return int(git('rev-list', '--count', 'HEAD')), f'the commit {git("rev-parse", "--short=7", "HEAD")}'
+    return int(text_sum(), 16), 'the text of the crates'
 
 
 def copied(room):
@@ -259,7 +264,10 @@ def main(words):
         paths = [path for name, it in crates.items() for path in edits(it)
                  if is_sample or not words or {name, f'{name}/{path.stem}'} & set(words)]
         if is_sample:
-            paths = sample(paths, int(words[1]))
+            number, by = commit_number()
+            part = sample(paths, int(words[1]), number)
+            print(f'{len(part)} of the {len(paths)} wrong versions, chosen by {by}', flush=True)
+            paths = part
         by_crate = {}
         for path in paths:
             by_crate.setdefault(path.parent.parent.name, []).append(path)
