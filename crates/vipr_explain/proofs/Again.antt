@@ -18,27 +18,25 @@ use Rattle.vipr_scan.specs.declared.error.TextError.{TextError}
 use Rattle.vipr_scan.specs.declared.error.TextError.TheVariants as error
 use Rattle.vipr_read.specs.Items.{Items, Knows, Remembers, Moves, HasPassed, NextIs}
 use Rattle.vipr_read.specs.Parsing.{with_front}
-use Rattle.vipr_explain.specs.Missed.{missing_of}
 use Rattle.vipr_explain.specs.Found.{Missed, WerePassed, wanted_among, is_wanted, numbered_of}
 use Rattle.vipr_explain.specs.Found.{KeepsNext, HasKeptItems, count_read}
 use Rattle.vipr_explain.specs.declared.items.Numbered.{Numbered}
-use Rattle.vipr_explain.specs.declared.missing.Missing.{Missing}
-use Rattle.vipr_explain.specs.declared.missing.Missing.TheVariants as missing
 
 -- ---- what is missing
 
-pub missed_of : {Y : Type 0} (e : TextError) (r : Result Y Fault) → Fails e r
-    → Missed (missing_of e) r
+pub missed_of : {Y : Type 0} (e : TextError) (r : Result Y Fault) → Fails e r → Missed e r
 missed_of (error.Refused c o) r h = (refused c o, h)
 missed_of error.Read r h = (unread, h)
 missed_of error.Memory r h = tt
 missed_of error.Spent r h = absurd h
 
 -- what goes on after it is missing too
-pub missed_first : {X Y : Type 0} (m : Missing) (r : Result X Fault) (f : X → Result Y Fault)
+pub missed_first : {X Y : Type 0} (m : TextError) (r : Result X Fault) (f : X → Result Y Fault)
     → Missed m r → Missed m (r >>= f)
-missed_first missing.Text r f h = (h.0, rw h.1 refl)
-missed_first missing.Memory r f h = tt
+missed_first (error.Refused c o) r f h = (h.0, rw h.1 refl)
+missed_first error.Read r f h = (h.0, rw h.1 refl)
+missed_first error.Memory r f h = tt
+missed_first error.Spent r f h = (h.0, rw h.1 refl)
 
 pub known_by : (o : Option Input) (P Q : Input → Type 0) → ((i : Input) → P i → Q i) → IfKnown o P
     → IfKnown o Q
@@ -93,18 +91,20 @@ module _ {A : Type 0} (item : Rest → Read A) where
       let one : with_front front (read_each item n l) ≡ Ok (front, l) = rw e (ap (λ (xs : List A). Ok (xs, l)) (append-nil front)) in
       sym so_far ∙ one
 
-  fails_on : (m : Missing) (front : List A) (k : ℕ) (l : Rest) → Missed m (item l) → Missed m (with_front front (read_each item (suc k) l))
+  fails_on : (m : TextError) (front : List A) (k : ℕ) (l : Rest) → Missed m (item l) → Missed m (with_front front (read_each item (suc k) l))
   unfolding read_each
-  fails_on missing.Text front k l h = (h.0, rw h.1 refl)
-  fails_on missing.Memory front k l h = tt
+  fails_on (error.Refused c o) front k l h = (h.0, rw h.1 refl)
+  fails_on error.Read front k l h = (h.0, rw h.1 refl)
+  fails_on error.Memory front k l h = tt
+  fails_on error.Spent front k l h = (h.0, rw h.1 refl)
 
   -- the next one is missing
-  pub one_missed : (m : Missing) (front : List A) (n k : ℕ) (l : Rest) (total : Read (List A)) → n ≡ suc k
+  pub one_missed : (m : TextError) (front : List A) (n k : ℕ) (l : Rest) (total : Read (List A)) → n ≡ suc k
       → Missed m (item l) → with_front front (read_each item n l) ≡ total → Missed m total
   one_missed m front n k l total e h so_far =
       subst (Missed m) (ap (λ j. with_front front (read_each item j l)) (sym e) ∙ so_far) (fails_on m front k l h)
 
-  pub next_missed : (m : Missing) (front : List A) (n : ℕ) (l : Rest) (total : Read (List A))
+  pub next_missed : (m : TextError) (front : List A) (n : ℕ) (l : Rest) (total : Read (List A))
       → Missed m (item l) → with_front front (read_each item n l) ≡ total → 0 < n → Missed m total
   next_missed m front n l total h so_far some = one_missed m front n (n - 1) l total (omega arith) h so_far
 
@@ -128,7 +128,7 @@ passed ended old new (Some x) none some m = m
 
 pub missed_next : {X Y : Type 0} (view : X → Y) (item : Rest → Read Y)
     (ending : Rest → Result (Unit {0}) Fault) (old new : Items) (e : TextError) → 0 < old.left
-    → NextIs view item ending old new (Err e) → Missed (missing_of e) (item (rest_of old.rest))
+    → NextIs view item ending old new (Err e) → Missed e (item (rest_of old.rest))
 missed_next view item ending old new e some (inl h) = let z = h.0 in absurd (omega arith)
 missed_next view item ending old new e some (inr h) = missed_of e (item (rest_of old.rest)) h.1
 

@@ -14,8 +14,8 @@ use Rattle.vipr_explain.specs.Lacking.{LacksSolution, LacksStep}
 use Rattle.vipr_explain.specs.Listed.{kept_derivation}
 use Rattle.vipr_explain.specs.References.{step_indices}
 use Rattle.vipr_explain.specs.declared.items.Items.{Items}
-use Rattle.vipr_explain.specs.declared.missing.Missing.{Missing}
-use Rattle.vipr_explain.specs.declared.missing.Missing.TheVariants as missing
+use Rattle.vipr_scan.specs.declared.error.TextError.{TextError}
+use Rattle.vipr_scan.specs.declared.error.TextError.TheVariants as error
 use Rattle.vipr_explain.proofs.Lacks.{err_because_after, fault_first, only_after}
 
 pub lacks_in_solution : (number : ℕ) (d : Detail) (i : Input) (p : Problem) (n : ℕ) (r : Rest)
@@ -42,7 +42,7 @@ lacks_kept index what items d i found kept h =
 
 -- what is shown of a derivation that was read
 pub step_lacks : {A : Type 0} (o : Option Input) (index : ℕ) (what : StepDetail) (items : Items)
-    (d : Derivation) (r : Result A Missing)
+    (d : Derivation) (r : Result A TextError)
     → IfKnown o (λ i. AreFoundItems (index ∷ []) (text_of i) items)
     → kept_derivation items.derivations.items index ≡ Some d
     → IfErr r (OnlyIf o (LacksItems (step_indices index what d.reason)))
@@ -55,7 +55,7 @@ step_lacks o index what items d r found kept h =
 pub no_step : (o : Option Input) (index : ℕ) (what : StepDetail) (items : Items)
     → IfKnown o (λ i. AreFoundItems (index ∷ []) (text_of i) items)
     → kept_derivation items.derivations.items index ≡ None
-    → OnlyIf o (LacksStep index what) missing.Text
+    → OnlyIf o (LacksStep index what) error.Read
 no_step o index what items found none =
-    only_after o missing.Text (λ i. AreFoundItems (index ∷ []) (text_of i) items) (LacksStep index what) found
+    only_after o error.Read (λ i. AreFoundItems (index ∷ []) (text_of i) items) (LacksStep index what) found
     (λ i is. inr (record { items = items; found = is; lacks = subst (λ k. LacksShown index what k i) (sym none) tt }))

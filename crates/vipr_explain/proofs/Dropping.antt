@@ -14,7 +14,7 @@ use Rattle.vipr_explain.specs.Drops.{IsLastUse, ReadsNext, last_among, last_nami
 use Rattle.vipr_explain.specs.Drops.{read_most}
 use Rattle.vipr_explain.specs.Drops.{read_on}
 use Rattle.vipr_explain.specs.Found.{head_read}
-use Rattle.vipr_explain.specs.declared.missing.Missing.{Missing}
+use Rattle.vipr_scan.specs.declared.error.TextError.{TextError}
 
 -- so many are left, the next of which has this number, and this is the last one so far
 pub record IsPartWay (p : Problem) (index number last left : ℕ) (reader : Items) (total : ℕ) : Type 0 where
@@ -72,7 +72,7 @@ part_ends p index number last left reader total e so_far =
 
 -- the answer for a text
 pub is_last_use : (text : Rest) (p : Problem) (d : Items) (index needed_by : ℕ)
-    (r : Result ℕ Missing)
+    (r : Result ℕ TextError)
     → head_read text ≡ Ok ((p, d.left), rest_of d.rest)
     → IfOk r (λ last. last ≡ last_among p d.left (rest_of d.rest) index needed_by)
     → IfOk r (IsLastUse text index needed_by)

@@ -1,23 +1,30 @@
 -- The parts of a text before its derivations, one after the other
-use Rattle.std.proofs.Common.{◌≡◌, ℕ, List, Ok, sym, ap, ◌∙◌, subst}
+use Rattle.std.proofs.Common.{◌≡◌, ◌<◌, ℕ, List, Ok, sym, ap, ◌∙◌, subst, Option, Result, Err}
+use Rattle.std.proofs.Common.{IfOk, IfErr}
+use Rattle.std.specs.Option.{IsSome}
 use Rattle.vipr_spec.specs.Certificate.{Named, Problem}
 use Rattle.vipr_spec.specs.Constraint.{Row}
 use Rattle.vipr_spec.specs.Reading.{Rest, ◌>>=◌, read_each, problem_read, solution_read}
 use Rattle.vipr_spec.specs.Reading.{derivations_read}
+use Rattle.vipr_spec.specs.Input.{Input}
+use Rattle.vipr_bytes.specs.Known.{IfKnown, text_of}
+use Rattle.vipr_cert.specs.Items.{solution_of}
+use Rattle.vipr_cert.specs.declared.items.Named.{Named as Kept}
+use Rattle.vipr_linear.specs.declared.row.Solution.{Solution}
 use Rattle.vipr_scan.specs.Giving.{rest_of}
 use Rattle.vipr_read.specs.Items.{Items as Reader}
 use Rattle.vipr_explain.specs.Found.{Missed, derivations_behind, head_read, nth_read, HasKeptItems}
-use Rattle.vipr_explain.specs.Found.{AreFoundItems}
+use Rattle.vipr_explain.specs.Found.{AreFoundItems, Finds, IsListedSolution, Opens, beside}
 use Rattle.vipr_explain.specs.declared.items.Items.{Items}
-use Rattle.vipr_explain.specs.declared.missing.Missing.{Missing}
-use Rattle.vipr_explain.proofs.Again.{missed_first}
+use Rattle.vipr_scan.specs.declared.error.TextError.{TextError}
+use Rattle.vipr_explain.proofs.Again.{known_by, missed_first}
 
 pub behind_found : (p : Problem) (n k : ℕ) (r r' r'' : Rest) (xs : List (Named Row))
     → read_each (solution_read p) n r ≡ Ok (xs, r') → derivations_read p r' ≡ Ok (k, r'')
     → derivations_behind p n r ≡ Ok (k, r'')
 behind_found p n k r r' r'' xs first second = ap (λ x. x >>= λ ss. derivations_read p ss.1) first ∙ second
 
-pub behind_missed : (p : Problem) (n : ℕ) (r r' : Rest) (xs : List (Named Row)) (m : Missing)
+pub behind_missed : (p : Problem) (n : ℕ) (r r' : Rest) (xs : List (Named Row)) (m : TextError)
     → read_each (solution_read p) n r ≡ Ok (xs, r') → Missed m (derivations_read p r')
     → Missed m (derivations_behind p n r)
 behind_missed p n r r' xs m first second = subst (Missed m) (sym (ap (λ x. x >>= λ ss. derivations_read p ss.1) first)) second
@@ -34,12 +41,51 @@ head_found text p n k r r' first second =
     ap (λ x. x >>= λ q. derivations_behind q.0.0 q.0.1 q.1 >>= λ d. Ok ((q.0.0, d.0), d.1)) first
     ∙ ap (λ x. x >>= λ d. Ok ((p, d.0), d.1)) second
 
-pub head_missed : (text : Rest) (p : Problem) (n : ℕ) (r : Rest) (m : Missing)
+pub head_missed : (text : Rest) (p : Problem) (n : ℕ) (r : Rest) (m : TextError)
     → problem_read text ≡ Ok ((p, n), r) → Missed m (derivations_behind p n r)
     → Missed m (head_read text)
 head_missed text p n r m first second =
     subst (Missed m) (sym (ap (λ x. x >>= λ q. derivations_behind q.0.0 q.0.1 q.1 >>= λ d. Ok ((q.0.0, d.0), d.1)) first))
     (missed_first m (derivations_behind p n r) (λ d. Ok ((p, d.0), d.1)) second)
+
+-- ---- a problem with what is behind it
+
+pub ok_beside : {A B E : Type 0} (x : A) (r : Result B E) (P : A × B → Type 0)
+    → IfOk r (λ y. P (x, y)) → IfOk (beside x r) P
+ok_beside x (Ok y) P h = h
+ok_beside x (Err e) P h = tt
+
+pub err_beside : {A B E : Type 0} (x : A) (r : Result B E) (P : E → Type 0)
+    → IfErr r P → IfErr (beside x r) P
+err_beside x (Ok y) P h = tt
+err_beside x (Err e) P h = h
+
+pub head_opened : (text : Rest) (p : Problem) (s : Reader) (r : Result Reader TextError)
+    → problem_read text ≡ Ok ((p, s.left), rest_of s.rest)
+    → Finds (λ d. d.left) (λ d. d.rest) r (derivations_behind p s.left (rest_of s.rest))
+    → Opens (beside p r) (head_read text)
+head_opened text p s (Ok d) first behind = (head_found text p s.left d.left (rest_of s.rest) (rest_of d.rest) first behind.0, behind.1)
+head_opened text p s (Err m) first behind = head_missed text p s.left (rest_of s.rest) m first behind
+
+-- the solution behind so many others is the one of that number
+pub is_listed : (o : Option Input) (number : ℕ) (p : Problem) (old new : Reader)
+    (r : Result (Kept Solution) TextError)
+    → IfKnown o (λ i. (problem_read (text_of i) ≡ Ok ((p, old.left), rest_of old.rest))
+    × IsSome old.rest)
+    → IfOk r (λ s. number < old.left)
+    → (IsSome old.rest → IfOk r (λ s. nth_read p number (rest_of old.rest)
+    ≡ Ok (solution_of s, rest_of new.rest)))
+    → IfOk r (λ s. IfKnown o (λ i. IsListedSolution number (text_of i) p (solution_of s)))
+is_listed o number p old new (Ok s) known within read =
+    known_by o _ (λ i. IsListedSolution number (text_of i) p (solution_of s)) (λ i h. record {
+      count = old.left;
+      behind = rest_of old.rest;
+      problem = h.0;
+      within = within;
+      rest = rest_of new.rest;
+      solution = read h.1;
+    }) known
+is_listed o number p old new (Err m) known within read = tt
 
 pub are_items : (wanted : List ℕ) (text : Rest) (items : Items) (p : Problem) (d d' : Reader)
     → p ≡ items.problem → head_read text ≡ Ok ((p, d.left), rest_of d.rest)

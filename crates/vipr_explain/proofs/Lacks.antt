@@ -1,5 +1,5 @@
 -- Why a text can't be read again, through the calls that read it
-use Rattle.std.proofs.Common.{◌≡◌, ℕ, zero, suc, ◌≤◌, ◌⊎◌, inl, inr, true, List, ◌∷◌, length}
+use Rattle.std.proofs.Common.{◌≡◌, ◌≢◌, ℕ, zero, suc, ◌≤◌, ◌⊎◌, inl, inr, true, List, ◌∷◌, length}
 use Rattle.std.proofs.Common.{Option, Some, None, Result, Ok, Err, IfSome, IfErr, refl, sym}
 use Rattle.std.proofs.Common.{IsErrAnd, subst, arith}
 use Rattle.vipr_spec.specs.Input.{Input}
@@ -12,82 +12,87 @@ use Rattle.vipr_explain.specs.Found.{Because, HasFault, Missed, OnlyIf, count_re
 use Rattle.vipr_explain.specs.Found.{nth_read, items_up_to, all_derivations_read}
 use Rattle.vipr_explain.specs.Found.{all_solutions_read}
 use Rattle.vipr_explain.specs.Found.{LacksItems, LacksListed}
-use Rattle.vipr_explain.specs.declared.missing.Missing.{Missing}
-use Rattle.vipr_explain.specs.declared.missing.Missing.TheVariants as missing
+use Rattle.vipr_scan.specs.declared.error.TextError.{TextError}
+use Rattle.vipr_scan.specs.declared.error.TextError.TheVariants as error
 
 -- ---- a reason, and one that follows from it
 
-pub because : (m : Missing) (P Q : Type 0) → (P → Q) → Because m P → Because m Q
-because missing.Text P Q f h = f h
-because missing.Memory P Q f h = tt
+pub because : (m : TextError) (P Q : Type 0) → (P → Q) → Because m P → Because m Q
+because (error.Refused c o) P Q f h = f h
+because error.Read P Q f h = f h
+because error.Memory P Q f h = tt
+because error.Spent P Q f h = f h
 
-pub of_memory : (m : Missing) (P : Type 0) → m ≡ missing.Memory → Because m P
+pub of_memory : (m : TextError) (P : Type 0) → m ≡ error.Memory → Because m P
 of_memory m P e = subst (λ n. Because n P) (sym e) tt
 
-pub if_text : (m : Missing) (P : Type 0) → (m ≡ missing.Text → P) → Because m P
-if_text missing.Text P f = f refl
-if_text missing.Memory P f = tt
+-- memory didn't run out
+not_memory : (m : TextError) (P : Type 0) → m ≢ error.Memory → Because m P → P
+not_memory (error.Refused c o) P is h = h
+not_memory error.Read P is h = h
+not_memory error.Memory P is h = absurd (is refl)
+not_memory error.Spent P is h = h
+
+pub known_unless_memory : (o : Option Input) (m : TextError) (Q : Input → Type 0)
+    → m ≢ error.Memory → OnlyIf o Q m → IfKnown o Q
+known_unless_memory None m Q is h = tt
+known_unless_memory (Some i) m Q is h = λ short. not_memory m (Q i) is (h short)
 
 -- a call fails for the reason that a call in it gave
-pub err_is : {A : Type 0} (r : Result A Missing) {m : Missing} (P : Missing → Type 0)
+pub err_is : {A : Type 0} (r : Result A TextError) {m : TextError} (P : TextError → Type 0)
     → IsErrAnd r (λ e. e ≡ m) → P m → IfErr r P
 err_is (Ok x) P is h = absurd is
-err_is (Err e) P is h = subst (λ (x : Missing). P x) (sym is) h
+err_is (Err e) P is h = subst (λ (x : TextError). P x) (sym is) h
 
 -- of the bytes of a text, if they are known
-pub only_if : (o : Option Input) (m : Missing) (P Q : Input → Type 0) → ((i : Input) → P i → Q i)
+pub only_if : (o : Option Input) (m : TextError) (P Q : Input → Type 0) → ((i : Input) → P i → Q i)
     → OnlyIf o P m → OnlyIf o Q m
 only_if None m P Q f h = tt
 only_if (Some i) m P Q f h = λ short. because m (P i) (Q i) (f i) (h short)
 
 -- of what was known before
-pub only_after : (o : Option Input) (m : Missing) (P Q : Input → Type 0) → IfKnown o P
+pub only_after : (o : Option Input) (m : TextError) (P Q : Input → Type 0) → IfKnown o P
     → ((i : Input) → P i → Because m (Q i)) → OnlyIf o Q m
 only_after None m P Q h f = tt
 only_after (Some i) m P Q h f = λ short. f i (h short)
 
-pub only_read : (o : Option Input) (m : Missing) (Q : Input → Type 0)
-    → IfSome o (λ i. m ≡ missing.Text → Q i) → OnlyIf o Q m
+pub only_read : (o : Option Input) (m : TextError) (Q : Input → Type 0)
+    → IfSome o (λ i. Because m (Q i)) → OnlyIf o Q m
 only_read None m Q h = tt
-only_read (Some i) m Q h = λ short. if_text m (Q i) h
+only_read (Some i) m Q h = λ short. h
 
-pub only_given : (o : Option Input) (m : Missing) (P Q : Input → Type 0) → IfSome o P
+pub only_given : (o : Option Input) (m : TextError) (P Q : Input → Type 0) → IfSome o P
     → ((i : Input) → P i → Because m (Q i)) → OnlyIf o Q m
 only_given None m P Q h f = tt
 only_given (Some i) m P Q h f = λ short. f i h
 
-pub only_none : (o : Option Input) (m : Missing) (Q : Input → Type 0) → o ≡ None → OnlyIf o Q m
+pub only_none : (o : Option Input) (m : TextError) (Q : Input → Type 0) → o ≡ None → OnlyIf o Q m
 only_none o m Q e = subst (λ p. OnlyIf p Q m) (sym e) tt
 
 -- of a call that may fail
-pub err_only_if : {A : Type 0} (o : Option Input) (r : Result A Missing) (P Q : Input → Type 0)
+pub err_only_if : {A : Type 0} (o : Option Input) (r : Result A TextError) (P Q : Input → Type 0)
     → ((i : Input) → P i → Q i) → IfErr r (OnlyIf o P) → IfErr r (OnlyIf o Q)
 err_only_if o (Ok x) P Q f h = tt
 err_only_if o (Err m) P Q f h = only_if o m P Q f h
 
-pub err_after : {A : Type 0} (o : Option Input) (r : Result A Missing) (P Q : Input → Type 0)
+pub err_after : {A : Type 0} (o : Option Input) (r : Result A TextError) (P Q : Input → Type 0)
     → IfKnown o P → ((i : Input) → P i → IfErr r (λ m. Because m (Q i))) → IfErr r (OnlyIf o Q)
 err_after o (Ok x) P Q h f = tt
 err_after o (Err m) P Q h f = only_after o m P Q h f
 
-pub err_because_after : {A : Type 0} (o : Option Input) (r : Result A Missing)
+pub err_because_after : {A : Type 0} (o : Option Input) (r : Result A TextError)
     (P Q S : Input → Type 0) → IfKnown o P → ((i : Input) → P i → Q i → S i)
     → IfErr r (OnlyIf o Q) → IfErr r (OnlyIf o S)
 err_because_after o (Ok x) P Q S p f h = tt
 err_because_after None (Err m) P Q S p f h = tt
 err_because_after (Some i) (Err m) P Q S p f h = λ short. because m (Q i) (S i) (f i (p short)) (h short)
 
-pub err_if_text : {A : Type 0} (r : Result A Missing) (P : Type 0)
-    → IfErr r (λ m. m ≡ missing.Text → P) → IfErr r (λ m. Because m P)
-err_if_text (Ok x) P h = tt
-err_if_text (Err m) P h = if_text m P h
-
-pub err_memory : {A : Type 0} (r : Result A Missing) (P : Type 0)
-    → IfErr r (λ m. m ≡ missing.Memory) → IfErr r (λ m. Because m P)
+pub err_memory : {A : Type 0} (r : Result A TextError) (P : Type 0)
+    → IfErr r (λ m. m ≡ error.Memory) → IfErr r (λ m. Because m P)
 err_memory (Ok x) P h = tt
 err_memory (Err m) P h = of_memory m P h
 
-err_because : {A : Type 0} (r : Result A Missing) (P Q : Type 0) → (P → Q)
+err_because : {A : Type 0} (r : Result A TextError) (P Q : Type 0) → (P → Q)
     → IfErr r (λ m. Because m P) → IfErr r (λ m. Because m Q)
 err_because (Ok x) P Q f h = tt
 err_because (Err m) P Q f h = because m P Q f h
@@ -149,38 +154,38 @@ of_items wanted i (inr h) = inr (all_fault wanted (text_of i) h)
 
 -- ---- behind a part that was read
 
-pub counted_missed : (p : Problem) (count n : ℕ) (r : Rest) (m : Missing)
+pub counted_missed : (p : Problem) (count n : ℕ) (r : Rest) (m : TextError)
     → Missed m (read_each (derivation_read p) count r) → count ≡ n
     → Missed m (read_each (derivation_read p) n r)
 counted_missed p count n r m h e = subst (λ k. Missed m (read_each (derivation_read p) k r)) e h
 
 pub head_then_missed : (wanted : List ℕ) (text : Rest) (p : Problem) (n : ℕ) (r : Rest)
-    (m : Missing)
+    (m : TextError)
     → head_read text ≡ Ok ((p, n), r)
     → Missed m (read_each (derivation_read p) (count_read wanted (length p.constraints) n) r)
     → Missed m (items_up_to wanted text)
 head_then_missed wanted text p n r m e h = because m _ _ (fault_behind (head_read text) ((p, n), r) (λ x. read_each (derivation_read x.0.0) (count_read wanted (length x.0.0.constraints) x.0.1) x.1) e) h
 
-pub head_first_missed : (wanted : List ℕ) (text : Rest) (m : Missing) → Missed m (head_read text)
+pub head_first_missed : (wanted : List ℕ) (text : Rest) (m : TextError) → Missed m (head_read text)
     → Missed m (items_up_to wanted text)
 head_first_missed wanted text m h = because m _ _ (fault_first (head_read text) (λ x. read_each (derivation_read x.0.0) (count_read wanted (length x.0.0.constraints) x.0.1) x.1)) h
 
-pub solutions_first_missed : (text : Rest) (m : Missing) → Missed m (problem_read text)
+pub solutions_first_missed : (text : Rest) (m : TextError) → Missed m (problem_read text)
     → Missed m (all_solutions_read text)
 solutions_first_missed text m h = because m _ _ (fault_first (problem_read text) (λ p. read_each (solution_read p.0.0) p.0.1 p.1)) h
 
 pub solutions_then_missed : {A : Type 0} (text : Rest) (p : Problem) (n : ℕ) (r : Rest)
-    (result : Result A Missing) → problem_read text ≡ Ok ((p, n), r)
+    (result : Result A TextError) → problem_read text ≡ Ok ((p, n), r)
     → IfErr result (λ m. Missed m (read_each (solution_read p) n r))
     → IfErr result (λ m. Missed m (all_solutions_read text))
 solutions_then_missed text p n r result e h = err_because result _ _ (fault_behind (problem_read text) ((p, n), r) (λ p. read_each (solution_read p.0.0) p.0.1 p.1) e) h
 
-pub derivations_first_missed : (text : Rest) (m : Missing) → Missed m (head_read text)
+pub derivations_first_missed : (text : Rest) (m : TextError) → Missed m (head_read text)
     → Missed m (all_derivations_read text)
 derivations_first_missed text m h = because m _ _ (fault_first (head_read text) (λ x. read_each (derivation_read x.0.0) x.0.1 x.1)) h
 
 pub derivations_then_missed : {A : Type 0} (text : Rest) (p : Problem) (n : ℕ) (r : Rest)
-    (result : Result A Missing) → head_read text ≡ Ok ((p, n), r)
+    (result : Result A TextError) → head_read text ≡ Ok ((p, n), r)
     → IfErr result (λ m. Missed m (read_each (derivation_read p) n r))
     → IfErr result (λ m. Missed m (all_derivations_read text))
 derivations_then_missed text p n r result e h = err_because result _ _ (fault_behind (head_read text) ((p, n), r) (λ x. read_each (derivation_read x.0.0) x.0.1 x.1) e) h
@@ -191,18 +196,18 @@ pub listed_fault : (number : ℕ) (r : Read (Problem × ℕ)) → HasFault r →
 listed_fault number (Err f) h = tt
 listed_fault number (Ok x) h = absurd (cc)
 
-pub listed_lacks : (number : ℕ) (text : Read (Problem × ℕ)) (p : Problem) (n : ℕ) (r : Rest)
-    (m : Missing) → text ≡ Ok ((p, n), r)
-    → Because m ((n ≤ number) ⊎ HasFault (nth_read p number r))
-    → Because m (LacksListed number text)
-listed_lacks number text p n r m e h = because m _ _ (λ x. subst (LacksListed number) (sym e) x) h
+pub nth_lacks : {A : Type 0} (number : ℕ) (text : Read (Problem × ℕ)) (p : Problem) (n : ℕ)
+    (r : Rest) (result : Result A TextError) → text ≡ Ok ((p, n), r)
+    → IfErr result (λ m. Because m ((n ≤ number) ⊎ HasFault (nth_read p number r)))
+    → IfErr result (λ m. Because m (LacksListed number text))
+nth_lacks number text p n r result e h = err_because result _ _ (λ x. subst (LacksListed number) (sym e) x) h
 
-pub nth_first_missed : (p : Problem) (n left : ℕ) (r : Rest) (m : Missing)
+pub nth_first_missed : (p : Problem) (n left : ℕ) (r : Rest) (m : TextError)
     → Missed m (read_each (solution_read p) n r)
     → Because m ((left ≤ n) ⊎ HasFault (nth_read p n r))
 nth_first_missed p n left r m h = because m _ _ (λ x. inr (fault_first (read_each (solution_read p) n r) (λ ss. solution_read p ss.1) x)) h
 
-pub nth_then_missed : (p : Problem) (n left : ℕ) (r r' : Rest) (xs : List (Named Row)) (m : Missing)
+pub nth_then_missed : (p : Problem) (n left : ℕ) (r r' : Rest) (xs : List (Named Row)) (m : TextError)
     → read_each (solution_read p) n r ≡ Ok (xs, r') → Missed m (solution_read p r')
     → Because m ((left ≤ n) ⊎ HasFault (nth_read p n r))
 nth_then_missed p n left r r' xs m e h = because m _ _ (λ x. inr (fault_behind (read_each (solution_read p) n r) (xs, r') (λ ss. solution_read p ss.1) e x)) h
@@ -213,12 +218,12 @@ pub all_known : (o : Option Input) (P : Input → Type 0) → ((i : Input) → P
 all_known None P f = tt
 all_known (Some i) P f = λ short. f i
 
-pub only_nothing_of_memory : (o : Option Input) (P : Input → Type 0) → OnlyIf o P missing.Memory
+pub only_nothing_of_memory : (o : Option Input) (P : Input → Type 0) → OnlyIf o P error.Memory
 only_nothing_of_memory None P = tt
 only_nothing_of_memory (Some i) P = λ short. tt
 
-pub err_memory_only : {A : Type 0} (o : Option Input) (r : Result A Missing) (P : Input → Type 0)
-    → IfErr r (λ m. m ≡ missing.Memory) → IfErr r (OnlyIf o P)
+pub err_memory_only : {A : Type 0} (o : Option Input) (r : Result A TextError) (P : Input → Type 0)
+    → IfErr r (λ m. m ≡ error.Memory) → IfErr r (OnlyIf o P)
 err_memory_only o (Ok x) P h = tt
 err_memory_only None (Err m) P h = tt
 err_memory_only (Some i) (Err m) P h = λ short. of_memory m (P i) h

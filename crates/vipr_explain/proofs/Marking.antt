@@ -6,30 +6,28 @@ use Rattle.vipr_spec.specs.Input.{Input}
 use Rattle.vipr_spec.specs.Tokens.{Token}
 use Rattle.vipr_explain.specs.Marked.{is_past, marked, marks_from, with_last}
 use Rattle.vipr_explain.specs.Progress.{passed}
-use Rattle.vipr_explain.specs.Words.{AreLeft, GivesToken, Kept, kept_token, kept_word}
+use Rattle.vipr_explain.specs.Words.{AreLeft, GivesToken, Kept, kept_token, kept_word, span_of}
 use Rattle.vipr_explain.specs.declared.marks.ItemSort.{ItemSort}
 use Rattle.vipr_explain.specs.declared.marks.ItemPlace.{ItemPlace}
-use Rattle.vipr_explain.specs.declared.text.Spot.{Spot}
+use Rattle.vipr_explain.specs.declared.text.Span.{Span}
 use Rattle.vipr_explain.specs.declared.wanted.TextProgress.{TextProgress}
 use Rattle.vipr_explain.specs.declared.words.Words.{Words}
 
 -- the last mark is changed in place
-pub last_set : (spot : Spot) (size : ℕ) (m : ItemPlace) (ms : List ItemPlace) (n : ℕ)
+pub last_set : (span : Span) (m : ItemPlace) (ms : List ItemPlace) (n : ℕ)
     → n + 1 ≡ length ms → m ≡ slice_index_or ms n m
     → slice_set ms n (let r : ItemPlace = record {
       index = m.index;
-      spot = m.spot;
-      size = m.size;
-      last = spot;
-      last_size = size;
+      name = m.name;
+      last = span;
     } in r)
-    ≡ with_last spot size ms
-last_set spot size m [] n is here = absurd (omega (arith, is))
-last_set spot size m (x ∷ []) zero is here = rw here refl
-last_set spot size m (x ∷ []) (suc n) is here = absurd (omega (arith, is))
-last_set spot size m (x ∷ (y ∷ ms)) zero is here = absurd (omega (arith, is))
-last_set spot size m (x ∷ (y ∷ ms)) (suc n) is here =
-    ap (λ (l : List ItemPlace). x ∷ l) (last_set spot size m (y ∷ ms) n (omega (arith, is)) here)
+    ≡ with_last span ms
+last_set span m [] n is here = absurd (omega (arith, is))
+last_set span m (x ∷ []) zero is here = rw here refl
+last_set span m (x ∷ []) (suc n) is here = absurd (omega (arith, is))
+last_set span m (x ∷ (y ∷ ms)) zero is here = absurd (omega (arith, is))
+last_set span m (x ∷ (y ∷ ms)) (suc n) is here =
+    ap (λ (l : List ItemPlace). x ∷ l) (last_set span m (y ∷ ms) n (omega (arith, is)) here)
 
 -- some tokens of a text are left, and what was marked so far becomes all marks over those
 pub record MarksFrom {R : Type 0} (input : R → Option Input) (i : Input) (kind : ItemSort) (indices : List ℕ)
@@ -42,7 +40,7 @@ pub record MarksFrom {R : Type 0} (input : R → Option Input) (i : Input) (kind
 one_mark : (kind : ItemSort) (indices : List ℕ) (p : TextProgress) (marks : List ItemPlace) (k : Kept)
     (ks : List Kept) → is_past kind p (fold max 0 indices) ≡ false
     → marks_from kind indices p marks (k ∷ ks)
-    ≡ marks_from kind indices (passed p k.word) (marked kind indices p k.spot k.size marks) ks
+    ≡ marks_from kind indices (passed p k.word) (marked kind indices p (span_of k) marks) ks
 one_mark kind indices p marks k ks e = rw e refl
 
 pub next_mark : {R : Type 0} (input : R → Option Input) (i : Input) (kind : ItemSort) (indices : List ℕ)
@@ -50,7 +48,7 @@ pub next_mark : {R : Type 0} (input : R → Option Input) (i : Input) (kind : It
     → (so_far : MarksFrom input i kind indices all p marks old)
     → is_past kind p (fold max 0 indices) ≡ false → GivesToken input i so_far.others new
     → MarksFrom input i kind indices all (passed p new.word.items)
-    (marked kind indices p new.spot new.size marks) new
+    (marked kind indices p (span_of (kept_word new)) marks) new
 next_mark input i kind indices all p marks old new so_far goes gives =
     let ks = map (kept_token i) gives.others in
     record {

@@ -33,7 +33,7 @@ use Rattle.vipr_explain.specs.Near.{IsGapText, Passed, Resting, bases_by, pass_o
 use Rattle.vipr_explain.specs.Near.{some_bases}
 use Rattle.vipr_explain.specs.Nearing.{PassesNext, near_of, passed_of}
 use Rattle.vipr_page.specs.Written.{PutsText}
-use Rattle.vipr_explain.specs.declared.missing.Missing.{Missing}
+use Rattle.vipr_scan.specs.declared.error.TextError.{TextError}
 use Rattle.vipr_explain.specs.declared.near.Near as found
 use Rattle.vipr_explain.specs.declared.near.Passed as found_passed
 use Rattle.vipr_page.specs.declared.page.Page.{Page}
@@ -161,7 +161,7 @@ derived_known input p d d' derivations head read = known_by input
     (λ i h. record { count = d.left; behind = rest_of d.rest; rest = rest_of d'.rest; head = h.0; derived = read h.1 }) head
 
 pub nearest_found : (input : Option Input) (goal : Option spec.Constraint) (p : is.Problem)
-    (d d' : Reader) (first : ℕ) {A : Type 0} (view : A → List Near) (r : Result A Missing)
+    (d d' : Reader) (first : ℕ) {A : Type 0} (view : A → List Near) (r : Result A TextError)
     → first ≡ length p.constraints → Knows d p
     → IfKnown input
     (λ i. (head_read (text_of i) ≡ Ok ((p, d.left), rest_of d.rest)) × IsSome d.rest)

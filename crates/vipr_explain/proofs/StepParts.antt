@@ -18,7 +18,7 @@ use Rattle.vipr_explain.specs.Drops.{IsLastUse}
 use Rattle.vipr_page.specs.Written.{PutsText}
 use Rattle.vipr_explain.specs.declared.marks.ItemPlace.{ItemPlace}
 use Rattle.vipr_explain.specs.declared.items.Items.{Items}
-use Rattle.vipr_explain.specs.declared.missing.Missing.{Missing}
+use Rattle.vipr_scan.specs.declared.error.TextError.{TextError}
 use Rattle.vipr_page.specs.declared.page.Page.{Page}
 use Rattle.vipr_page.proofs.Laws.{puts_then}
 
@@ -31,7 +31,7 @@ given_text p q t (Err e) puts = tt
 
 -- the derivation that was read
 pub step_text : (input : Option Input) (file : List ℕ) (cause index : ℕ) (what : StepDetail)
-    (items : Items) (d : Derivation) (p q : Page) (r : Result (Unit {0}) Missing)
+    (items : Items) (d : Derivation) (p q : Page) (r : Result (Unit {0}) TextError)
     → IfKnown input (λ i. AreFoundItems (index ∷ []) (text_of i) items)
     → kept_derivation items.derivations.items index ≡ Some d
     → IfOk r (λ _. (text : List ℕ) × IsRefusedText input file cause index d what text
@@ -44,7 +44,7 @@ step_text input file cause index what items d p q (Err e) found kept says = tt
 
 -- the last reference of a constraint
 pub dropped_text : (input : Option Input) (file : List ℕ) (index needed_by last : ℕ)
-    (marks : List ItemPlace) (p q s : Page) (r : Result (Unit {0}) Missing)
+    (marks : List ItemPlace) (p q s : Page) (r : Result (Unit {0}) TextError)
     → AreMarksOf input (index ∷ []) marks
     → IfKnown input (λ i. IsLastUse (text_of i) index needed_by last)
     → PutsText p q (dropped_line index)
@@ -77,7 +77,7 @@ no_cause input file cause index step.Nothing other = refl
 
 -- the whole of what is said of a derivation
 pub derivation_text : (input : Option Input) (file : List ℕ) (cause index : ℕ) (what : StepDetail)
-    (p q s : Page) (r : Result (Unit {0}) Missing)
+    (p q s : Page) (r : Result (Unit {0}) TextError)
     → ((text : List ℕ) × IsStepText input file cause index what text × PutsText p q text)
     → IfOk r
     (λ _. (text : List ℕ) × IsCauseText input file cause index what text × PutsText q s text)

@@ -25,7 +25,7 @@ use Rattle.vipr_explain.specs.Primal.{AreListed, IsNoPrimalText, IsValueAt, Show
 use Rattle.vipr_explain.specs.Primal.{Valued, best_of, better_of, numbered_value, values_lines}
 use Rattle.vipr_explain.specs.Solutions.{best_text, primal_error, value_line}
 use Rattle.vipr_page.specs.Written.{PutsText}
-use Rattle.vipr_explain.specs.declared.missing.Missing.{Missing}
+use Rattle.vipr_scan.specs.declared.error.TextError.{TextError}
 use Rattle.vipr_page.specs.declared.page.Page.{Page}
 use Rattle.vipr_explain.proofs.Again.{all_read, known_by, none_yet, numbered_more, one_more}
 use Rattle.vipr_page.proofs.Laws.{puts_none, puts_same, puts_then}
@@ -115,7 +115,7 @@ listed_known input p s s' solutions problem read = known_by input
     (λ i h. record { count = s.left; behind = rest_of s.rest; rest = rest_of s'.rest; problem = h.0; listed = (read h.1).1 }) problem
 
 pub values_found : (input : Option Input) (p : Problem) (s s' : Reader)
-    (r : Result (Option ℚ) Missing) (a b : Page)
+    (r : Result (Option ℚ) TextError) (a b : Page)
     → IfKnown input
     (λ i. (problem_read (text_of i) ≡ Ok ((p, s.left), rest_of s.rest)) × IsSome s.rest)
     → IfOk r (λ best. (valued : List Valued) × ShowsValues p valued best a b

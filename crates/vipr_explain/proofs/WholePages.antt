@@ -1,7 +1,7 @@
 -- Whole pages
-use Rattle.std.proofs.Common.{◌≡◌, ℕ, ap, ◌∙◌, List, [], ◌∷◌, ◌++◌, Option, Some, None}
+use Rattle.std.proofs.Common.{◌≡◌, ◌≢◌, ℕ, ap, ◌∙◌, List, [], ◌∷◌, ◌++◌, Option, Some, None}
 use Rattle.std.proofs.Common.{IfSome, IfOk, Result, Ok, Err, codes, inr, refl, sym, map, false}
-use Rattle.std.proofs.Common.{slice_get, subst}
+use Rattle.std.proofs.Common.{slice_get}
 use Rattle.std.proofs.Common.{option_map}
 use Rattle.std.proofs.lemmas.Option.{slice_get-map}
 use Rattle.vipr_spec.specs.Certificate as is
@@ -32,11 +32,12 @@ use Rattle.vipr_explain.specs.Pages.{ExplainsVerdict, IsClaimText, IsPageFor, Is
 use Rattle.vipr_explain.specs.Pages.{IsVerdictPage, PutsSome, PutsSomeWith, ShowsWith, not_read}
 use Rattle.vipr_explain.specs.Pages.{too_long}
 use Rattle.vipr_explain.specs.declared.marks.ItemPlace.{ItemPlace}
-use Rattle.vipr_explain.specs.declared.missing.Missing.{Missing}
-use Rattle.vipr_explain.specs.declared.missing.Missing.TheVariants as missing
+use Rattle.vipr_scan.specs.declared.error.TextError.{TextError}
+use Rattle.vipr_scan.specs.declared.error.TextError.TheVariants as error
 use Rattle.vipr_page.specs.declared.page.Page.{Page}
 use Rattle.vipr_explain.specs.declared.shown.PlacedItems.{PlacedItems}
 use Rattle.vipr_page.proofs.Laws.{puts_then}
+use Rattle.vipr_explain.proofs.Lacks.{known_unless_memory}
 
 -- a page on which one text was written
 pub one_text : (p q : Page) (text : List ℕ) → p.bytes.items ≡ [] → PutsText p q text
@@ -81,12 +82,12 @@ page_too_long file v d None is = is
 page_too_long file v d (Some p) is = is ∙ long_shown
 
 pub page_not_read : (input : Option Input) (file : List ℕ) (v : Verdict) (d : Detail)
-    (m : Missing) (r : Option Page) → OnlyIf input (LacksItem v d) m
-    → IfSome r (λ p. (m ≡ missing.Text) × (p.bytes.items ≡ cut (shown_text not_read)))
+    (m : TextError) (r : Option Page) → OnlyIf input (LacksItem v d) m
+    → IfSome r (λ p. (m ≢ error.Memory) × (p.bytes.items ≡ cut (shown_text not_read)))
     → IfSome r (λ p. IsPageFor (Some input) file v d p.bytes.items)
 page_not_read input file v d m None lacks is = is
 page_not_read input file v d m (Some p) lacks is =
-    inr (is.1 ∙ read_shown, subst (OnlyIf input (LacksItem v d)) is.0 lacks)
+    inr (is.1 ∙ read_shown, known_unless_memory input m (LacksItem v d) is.0 lacks)
 
 pub with_reason : {X : Type 0} (r : Option X) (A : Type 0) (P : X → Type 0) → A → IfSome r P
     → IfSome r (λ x. A × P x)
@@ -96,7 +97,7 @@ with_reason (Some x) A P a h = (a, h)
 -- ---- parts of a page, behind a call that may fail
 
 pub goal_item_lines : (input : Option Input) (goal : ℕ) (p q : Page)
-    (r : Result (Unit {0}) Missing)
+    (r : Result (Unit {0}) TextError)
     → IfOk r (λ _. (known : PlacedItems) × AreItemsOf input (goal ∷ []) known
     × PutsText p q (goal_line known goal))
     → IfOk r (λ _. (text : List ℕ) × IsGoalText input (Some goal) text × PutsText p q text)
@@ -105,7 +106,7 @@ goal_item_lines input goal p q (Ok u) item =
 goal_item_lines input goal p q (Err e) item = tt
 
 pub proved_lines : (input : Option Input) (report : Report) (p q s : Page)
-    (r : Result (Unit {0}) Missing)
+    (r : Result (Unit {0}) TextError)
     → PutsText p q (proved_text report.claim)
     → IfOk r (λ _. (text : List ℕ) × IsGoalText input report.goal text × PutsText q s text)
     → IfOk r (λ _. (text : List ℕ) × IsProvedText input report text × PutsText p s text)
@@ -114,7 +115,7 @@ proved_lines input report p q s (Ok u) front goal =
 proved_lines input report p q s (Err e) front goal = tt
 
 pub solution_place : (input : Option Input) (file : List ℕ) (number : ℕ) (mark : Option ItemPlace)
-    (p q : Page) (r : Result (Unit {0}) Missing) → IsMarkOf input number mark
+    (p q : Page) (r : Result (Unit {0}) TextError) → IsMarkOf input number mark
     → IfOk r (λ _. PutsSome (IsSpotText input file (codes "this solution")
     (option_map name_spot mark)) p q)
     → IfOk r (λ _. PutsSome (IsSolutionPlace input file number) p q)
@@ -124,7 +125,7 @@ solution_place input file number mark p q (Err e) is_mark place = tt
 
 pub solution_lines : (input : Option Input) (file : List ℕ) (number : ℕ) (d : Detail)
     (problem : is.Problem) (solution : is.Named spec.Row) (p q s t : Page)
-    (r : Result (Unit {0}) Missing)
+    (r : Result (Unit {0}) TextError)
     → IfKnown input (λ i. IsListedSolution number (text_of i) problem solution)
     → PutsText p q (solution_error number solution.name d)
     → ((text : List ℕ) × IsSolutionPlace input file number text × PutsText q s text)

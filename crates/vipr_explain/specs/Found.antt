@@ -13,8 +13,8 @@ use Rattle.vipr_scan.specs.Giving.{rest_of}
 use Rattle.vipr_read.specs.Items.{Items as Reader}
 use Rattle.vipr_cert.specs.Items.{derivation_of}
 use Rattle.vipr_explain.specs.Marked.{AreMarksOf}
-use Rattle.vipr_explain.specs.declared.missing.Missing.{Missing}
-use Rattle.vipr_explain.specs.declared.missing.Missing.TheVariants as missing
+use Rattle.vipr_scan.specs.declared.error.TextError.{TextError}
+use Rattle.vipr_scan.specs.declared.error.TextError.TheVariants as error
 use Rattle.vipr_explain.specs.declared.items.Numbered.{Numbered}
 use Rattle.vipr_explain.specs.declared.items.Items.{Items}
 use Rattle.vipr_explain.specs.declared.shown.PlacedItems.{PlacedItems}
@@ -24,25 +24,35 @@ abbrev pub HasFault : {Y : Type 0} → Result Y Fault → Type 0
 HasFault r = (f : Fault) × (r ≡ Err f)
 
 -- for this reason the text can't be read again, or memory ran out
-abbrev pub Because : Missing → Type 0 → Type 0
-Because missing.Text reason = reason
-Because missing.Memory reason = ⊤
+abbrev pub Because : TextError → Type 0 → Type 0
+Because error.Memory reason = ⊤
+Because _ reason = reason
 
 -- the same of the bytes of a text, if they are known
-abbrev pub OnlyIf : Option Input → (Input → Type 0) → Missing → Type 0
+abbrev pub OnlyIf : Option Input → (Input → Type 0) → TextError → Type 0
 OnlyIf input Reason m = IfKnown input (λ i. Because m (Reason i))
 
 -- the reading has a fault, or memory ran out
-abbrev pub Missed : {Y : Type 0} → Missing → Result Y Fault → Type 0
+abbrev pub Missed : {Y : Type 0} → TextError → Result Y Fault → Type 0
 Missed m r = Because m (HasFault r)
 
 -- the value that the reading gives, with the rest that the reader in it has then
-abbrev pub Finds : {X Y : Type 0} → (X → Y) → (X → Option Rest) → Result X Missing → Read Y → Type 0
+abbrev pub Finds : {X Y : Type 0} → (X → Y) → (X → Option Rest) → Result X TextError → Read Y
+    → Type 0
 Finds view rest (Ok x) r = (r ≡ Ok (view x, rest_of (rest x))) × IsSome (rest x)
 Finds view rest (Err m) r = Missed m r
 
+-- the problem that the reading gives, and the reader of what is behind it
+abbrev pub Opens : Result (Problem × Reader) TextError → Read (Problem × ℕ) → Type 0
+Opens result r = Finds (λ x. (x.0, x.1.left)) (λ x. x.1.rest) result r
+
+-- a value with the one behind it, if that could be read
+abbrev pub beside : {A B E : Type 0} → A → Result B E → Result (A × B) E
+beside x (Ok y) = Ok (x, y)
+beside x (Err e) = Err e
+
 -- the values that the reading gives were passed, up to this rest
-abbrev pub WerePassed : {A : Type 0} → Option Rest → Result (Unit {0}) Missing → Read A → Type 0
+abbrev pub WerePassed : {A : Type 0} → Option Rest → Result (Unit {0}) TextError → Read A → Type 0
 WerePassed {A} rest (Ok done) r = (x : A) × (r ≡ Ok (x, rest_of rest)) × IsSome rest
 WerePassed rest (Err m) r = Missed m r
 

@@ -8,7 +8,6 @@ pub mod Explained
 pub mod Kept
 pub mod Places
 pub mod Letters
-pub mod Missed
 pub mod Excerpts
 pub mod Found
 pub mod ReasonTexts

@@ -54,7 +54,7 @@ algebra_part names (Some c) = algebra_text names c
 algebra_part names None = []
 
 abbrev pub line_part : Option ItemPlace → List ℕ
-line_part (Some place) = codes "  (line " ++ (decimal place.spot.line ++ codes ")")
+line_part (Some place) = codes "  (line " ++ (decimal place.name.spot.line ++ codes ")")
 line_part None = []
 
 -- a constraint: its index, its name, its algebra and its line

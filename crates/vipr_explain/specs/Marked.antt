@@ -7,11 +7,11 @@ use Rattle.vipr_spec.specs.Tokens.{tokens}
 use Rattle.vipr_bytes.specs.Known.{IfKnown}
 use Rattle.vipr_explain.specs.Listed.{place_found}
 use Rattle.vipr_explain.specs.Progress.{at_start, index_of, passed}
-use Rattle.vipr_explain.specs.Words.{Kept, kept_token}
+use Rattle.vipr_explain.specs.Words.{Kept, kept_token, span_of}
 use Rattle.vipr_explain.specs.declared.marks.ItemSort.{ItemSort}
 use Rattle.vipr_explain.specs.declared.marks.ItemSort.TheVariants as kind
 use Rattle.vipr_explain.specs.declared.marks.ItemPlace.{ItemPlace}
-use Rattle.vipr_explain.specs.declared.text.Spot.{Spot}
+use Rattle.vipr_explain.specs.declared.text.Span.{Span}
 use Rattle.vipr_explain.specs.declared.wanted.Section.{Section}
 use Rattle.vipr_explain.specs.declared.wanted.Section.TheVariants as section
 use Rattle.vipr_explain.specs.declared.wanted.Wanted.{Wanted}
@@ -19,15 +19,14 @@ use Rattle.vipr_explain.specs.declared.wanted.Wanted.TheVariants as wanted
 use Rattle.vipr_explain.specs.declared.wanted.TextProgress.{TextProgress}
 
 -- an item whose name is here; its last reference isn't known yet
-abbrev pub mark_at : ℕ → Spot → ℕ → ItemPlace
-mark_at index spot size =
-    record { index = index; spot = spot; size = size; last = spot; last_size = size }
+abbrev pub mark_at : ℕ → Span → ItemPlace
+mark_at index span = record { index = index; name = span; last = span }
 
 -- the last reference of the item that was marked last is here
-abbrev pub with_last : Spot → ℕ → List ItemPlace → List ItemPlace
-with_last spot size [] = []
-with_last spot size (m ∷ []) = record m { last = spot; last_size = size } ∷ []
-with_last spot size (m ∷ (n ∷ ms)) = m ∷ with_last spot size (n ∷ ms)
+abbrev pub with_last : Span → List ItemPlace → List ItemPlace
+with_last span [] = []
+with_last span (m ∷ []) = record m { last = span } ∷ []
+with_last span (m ∷ (n ∷ ms)) = m ∷ with_last span (n ∷ ms)
 
 -- ---- items of a kind
 
@@ -57,24 +56,23 @@ is_past kind p end = is_behind kind p.section
     || (is_past_head p.wanted && (is_of kind p.section && nat_lt end (index_of p)))
 
 -- behind a token at this place, by what is wanted there of an item that is marked
-abbrev pub marked_at : Wanted → ℕ → Spot → ℕ → List ItemPlace → List ItemPlace
-marked_at wanted.Name index spot size marks = marks ++ mark_at index spot size ∷ []
-marked_at wanted.LastReference index spot size marks = with_last spot size marks
-marked_at _ index spot size marks = marks
+abbrev pub marked_at : Wanted → ℕ → Span → List ItemPlace → List ItemPlace
+marked_at wanted.Name index span marks = marks ++ mark_at index span ∷ []
+marked_at wanted.LastReference index span marks = with_last span marks
+marked_at _ index span marks = marks
 
 -- the same if the item is of this kind, and one of these
-abbrev pub marked : ItemSort → List ℕ → TextProgress → Spot → ℕ → List ItemPlace
-    → List ItemPlace
-marked kind indices p spot size marks =
+abbrev pub marked : ItemSort → List ℕ → TextProgress → Span → List ItemPlace → List ItemPlace
+marked kind indices p span marks =
     if is_of kind p.section && list_any (λ i. i == index_of p) indices
-    then marked_at p.wanted (index_of p) spot size marks else marks
+    then marked_at p.wanted (index_of p) span marks else marks
 
 -- the items of this kind and these indices among the tokens from here on
 abbrev pub marks_from : ItemSort → List ℕ → TextProgress → List ItemPlace → List Kept
     → List ItemPlace
 marks_from kind indices p marks [] = marks
 marks_from kind indices p marks (k ∷ ks) = if is_past kind p (fold max 0 indices) then marks
-    else marks_from kind indices (passed p k.word) (marked kind indices p k.spot k.size marks) ks
+    else marks_from kind indices (passed p k.word) (marked kind indices p (span_of k) marks) ks
 
 -- those of a text
 abbrev pub marks_in : ItemSort → List ℕ → Input → List ItemPlace

@@ -26,29 +26,29 @@ use Rattle.vipr_explain.specs.declared.excerpt.Excerpt.{Excerpt}
 use Rattle.vipr_explain.specs.declared.marks.ItemPlace.{ItemPlace}
 use Rattle.vipr_explain.specs.declared.items.Items.{Items}
 use Rattle.vipr_explain.specs.declared.shown.PlacedItems.{PlacedItems}
-use Rattle.vipr_explain.specs.declared.text.Spot.{Spot}
+use Rattle.vipr_explain.specs.declared.text.Span.{Span}
 
 -- ---- places
 
 -- the part of the line round a place, with carets below so many bytes of it and a label
-pub record IsExcerptAt (input : Option Input) (file : List ℕ) (spot : Spot) (size : ℕ)
+pub record IsExcerptAt (input : Option Input) (file : List ℕ) (span : Span)
     (label text : List ℕ) : Type 0 where
   pub excerpt : Excerpt
-  pub place : excerpt.spot ≡ spot
-  pub found : IfSome input (λ i. IsExcerpt spot i.bytes excerpt)
-  pub parts : text ≡ excerpt_text excerpt file size label
+  pub place : excerpt.spot ≡ span.spot
+  pub found : IfSome input (λ i. IsExcerpt span.spot i.bytes excerpt)
+  pub parts : text ≡ excerpt_text excerpt file span.size label
 
 -- the same, or nothing if the place isn't known
-abbrev pub IsSpotText : Option Input → List ℕ → List ℕ → Option (Spot × ℕ) → List ℕ → Type 0
-IsSpotText input file label (Some at) text = IsExcerptAt input file at.0 at.1 label text
+abbrev pub IsSpotText : Option Input → List ℕ → List ℕ → Option Span → List ℕ → Type 0
+IsSpotText input file label (Some at) text = IsExcerptAt input file at label text
 IsSpotText input file label None text = text ≡ []
 
 -- an item's name, and its last reference
-abbrev pub name_spot : ItemPlace → Spot × ℕ
-name_spot place = (place.spot, place.size)
+abbrev pub name_spot : ItemPlace → Span
+name_spot place = place.name
 
-abbrev pub last_spot : ItemPlace → Spot × ℕ
-last_spot place = (place.last, place.last_size)
+abbrev pub last_spot : ItemPlace → Span
+last_spot place = place.last
 
 -- ---- what is behind the fault
 

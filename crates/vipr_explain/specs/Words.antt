@@ -7,6 +7,7 @@ use Rattle.vipr_scan.specs.Places.{tokens_in}
 use Rattle.vipr_scan.specs.declared.place.Position.{Position}
 use Rattle.vipr_explain.specs.Letters.{HasGiven}
 use Rattle.vipr_explain.specs.Places.{in_u64, place_at, place_behind}
+use Rattle.vipr_explain.specs.declared.text.Span.{Span}
 use Rattle.vipr_explain.specs.declared.text.Spot.{Spot}
 use Rattle.vipr_explain.specs.declared.words.Words.{Words}
 
@@ -28,6 +29,9 @@ pub record Kept : Type 0 where
 
 abbrev pub kept_word : {R : Type 0} → Words R → Kept
 kept_word w = record { word = w.word.items; size = w.size; spot = w.spot }
+
+abbrev pub span_of : Kept → Span
+span_of k = record { spot = k.spot; size = k.size }
 
 abbrev pub first_bytes : Token → List ℕ
 first_bytes t = take 64 t.bytes

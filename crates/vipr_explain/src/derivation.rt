@@ -5,19 +5,14 @@ ghost use Rattle.vipr_explain.specs.Lacking.{LacksHead, LacksStep};
 ghost use Rattle.vipr_explain.specs.Pages.{PutsSome};
 ghost use Rattle.vipr_explain.specs.StepPages.{IsCauseText, IsDerivationText};
 
-use crate::missing::Missing;
 use crate::step::StepFault;
-use crate::text::{Subject, Text};
+use crate::text::{Reread, Subject, Text};
 use vipr_check::{StepDetail, cause};
 use vipr_page::Page;
 
 impl<T: Text> Subject<'_, T> {
     /// Explains the refusal of a derivation, and of what it needs.
-    pub(crate) fn put_derivation(
-        &self,
-        page: &mut Page,
-        fault: &StepFault<'_>,
-    ) -> Result<(), Missing>
+    pub(crate) fn put_derivation(&self, page: &mut Page, fault: &StepFault<'_>) -> Reread<()>
         ensures shown { IfOk result (λ _. PutsSome (IsDerivationText (T.input self.now.text.now)
             self.now.file.now fault.now.cause fault.now.index fault.now.what.now)
             page.old page.new) }
@@ -29,7 +24,7 @@ impl<T: Text> Subject<'_, T> {
     }
 
     // Explains that the constraint at fault was dropped, if that is the cause.
-    fn put_cause(&self, page: &mut Page, fault: &StepFault<'_>) -> Result<(), Missing>
+    fn put_cause(&self, page: &mut Page, fault: &StepFault<'_>) -> Reread<()>
         ensures shown { IfOk result (λ _. PutsSome (IsCauseText (T.input self.now.text.now)
             self.now.file.now fault.now.cause fault.now.index fault.now.what.now)
             page.old page.new) }

@@ -18,8 +18,7 @@ ghost use Rattle.vipr_page.specs.Written.{PutsText};
 
 use crate::items::open_derivations;
 use crate::marks::{ItemPlace, find_constraints, mark_of};
-use crate::missing::Missing;
-use crate::text::{Subject, Text};
+use crate::text::{Reread, Subject, Text};
 use std::alloc::Global;
 use vipr_bytes::Source;
 use vipr_cert::{Derivation, Reason, References};
@@ -31,7 +30,7 @@ use vipr_scan::TextError;
 impl<T: Text> Subject<'_, T> {
     /// Explains that a dropped constraint is needed: the place of its last reference, and what
     /// that would have to be.
-    pub(crate) fn put_dropped(&self, page: &mut Page, index: u32, user: u32) -> Result<(), Missing>
+    pub(crate) fn put_dropped(&self, page: &mut Page, index: u32, user: u32) -> Reread<()>
         ensures shown { IfOk result (λ _. PutsSome (IsDroppedText (T.input self.now.text.now)
             self.now.file.now index user) page.old page.new) }
         ensures error { IfErr result (OnlyIf (T.input self.now.text.now) LacksHead) }
@@ -43,7 +42,7 @@ impl<T: Text> Subject<'_, T> {
     }
 
     // Shows the last reference of an item, if it was found, and what it would have to be.
-    fn put_last(&self, page: &mut Page, mark: Option<ItemPlace>, last: u32) -> Result<(), Missing>
+    fn put_last(&self, page: &mut Page, mark: Option<ItemPlace>, last: u32) -> Reread<()>
         ensures shown { IfOk result (λ _. PutsSome (IsSpotText (T.input self.now.text.now)
             self.now.file.now (last_label last) (option_map last_spot mark)) page.old page.new) }
         ensures error { IfErr result (OnlyIf (T.input self.now.text.now) (λ i. i.fails ≡ true)) }
@@ -51,7 +50,7 @@ impl<T: Text> Subject<'_, T> {
         match mark {
             Some(mark) => {
                 let label = format!(in self.alloc; "write {last} or -1 here")?;
-                self.put_excerpt(page, mark.last, mark.last_size, label.as_str())
+                self.put_excerpt(page, mark.last, label.as_str())
             }
             None => Ok(()),
         }
@@ -69,7 +68,7 @@ fn put_dropped_line(page: &mut Page, index: u32)
 
 // The last derivation that names a constraint, as far as the text can be read; `needed_by` if none
 // behind that one does.
-fn last_use<T: Text>(alloc: Global, text: &T, index: u32, needed_by: u32) -> Result<u32, Missing>
+fn last_use<T: Text>(alloc: Global, text: &T, index: u32, needed_by: u32) -> Reread<u32>
     ensures found { IfKnown (T.input text.now) (λ i.
         IfOk result (IsLastUse (text_of i) index needed_by)) }
     ensures error { IfErr result
@@ -87,13 +86,13 @@ fn last_among<R: Source + Drop>(
     first: u32,
     index: u32,
     needed_by: u32,
-) -> Result<u32, Missing>
+) -> Reread<u32>
     requires { first + derivations.old.left < 2 ^ 32 }
     ensures found { (p : ProblemMeant) → Knows derivations.old p → IsSome derivations.old.rest
         → first ≡ length p.constraints
         → IfOk result (λ last. last ≡ last_among p derivations.old.left
         (rest_of derivations.old.rest) index needed_by) }
-    ensures error { IfErr result (λ m. m ≡ Missing.Memory) }
+    ensures error { IfErr result (λ m. m ≡ TextError.Memory) }
 {
     let mut last = needed_by;
     for passed in 0..derivations.left() {
@@ -109,17 +108,17 @@ fn last_among<R: Source + Drop>(
 fn next_derivation<R: Source + Drop>(
     alloc: Global,
     derivations: &mut Derivations<R>,
-) -> Result<Option<Derivation>, Missing>
+) -> Reread<Option<Derivation>>
     ensures left { IfOk result (λ next. IfSome next (λ _.
         derivations.old.left ≡ suc derivations.new.left)) }
     ensures read { (p : ProblemMeant) → Knows derivations.old p → IsSome derivations.old.rest
         → 0 < derivations.old.left
         → IfOk result (ReadsNext p derivations.old derivations.new) }
-    ensures error { IfErr result (λ m. m ≡ Missing.Memory) }
+    ensures error { IfErr result (λ m. m ≡ TextError.Memory) }
 {
     match derivations.next(alloc) {
         Ok(next) => Ok(next),
-        Err(TextError::Memory) => Err(Missing::Memory),
+        Err(TextError::Memory) => Err(TextError::Memory),
         Err(_) => Ok(None),
     }
 }

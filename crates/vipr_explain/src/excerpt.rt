@@ -5,16 +5,17 @@ ghost use Rattle.vipr_spec.specs.Input.{Input};
 ghost use Rattle.vipr_explain.specs.Excerpted.{carets_text, end_text, excerpt_text, front_text};
 ghost use Rattle.vipr_explain.specs.Excerpted.{head_text, part_text, room_for, room_text, spaces};
 ghost use Rattle.vipr_explain.specs.Excerpts.{IsExcerpt, ShowsLine, ReadsInLine, line_at};
+ghost use Rattle.vipr_explain.specs.Found.{Because};
 ghost use Rattle.vipr_explain.specs.Letters.{HasGiven};
 ghost use Rattle.vipr_page.specs.Page.{line_byte};
 ghost use Rattle.vipr_page.specs.Written.{PutsText};
 
-use crate::missing::Missing;
-use crate::text::{Letters, Spot, Subject, Text};
+use crate::text::{Letters, Reread, Spot, Subject, Text};
 use itoa::Buffer;
 use std::alloc::AllocError;
 use vipr_bytes::Source;
 use vipr_page::{Page, StrangeBytes};
+use vipr_scan::TextError;
 
 /// How many bytes of a line are shown before a place, and from it on.
 const MOST_BEFORE: u64 = 60;
@@ -41,13 +42,13 @@ impl Excerpt {
     ///
     /// # Errors
     ///
-    /// `Text` if the text can't be read up to there, `Memory` if a growth is refused.
-    pub(crate) fn read<T: Text>(subject: &Subject<'_, T>, spot: Spot) -> Result<Excerpt, Missing>
+    /// `Read` if the text can't be read up to there, `Memory` if a growth is refused.
+    pub(crate) fn read<T: Text>(subject: &Subject<'_, T>, spot: Spot) -> Reread<Excerpt>
         ensures place { IfOk result (λ e. e.spot ≡ spot) }
         ensures found { IfSome (T.input subject.now.text.now)
             (λ i. IfOk result (IsExcerpt spot i.bytes)) }
         ensures error { IfSome (T.input subject.now.text.now)
-            (λ i. IfErr result (λ e. e ≡ Missing.Text → i.fails ≡ true)) }
+            (λ i. IfErr result (λ e. Because e (i.fails ≡ true))) }
     {
         let mut letters = Letters::<T::Reader>::open(subject.text)?;
         let mut excerpt = Excerpt {
@@ -58,7 +59,7 @@ impl Excerpt {
         };
         excerpt.fill(&mut letters)?;
         if letters.has_failed() {
-            return Err(Missing::Text);
+            return Err(TextError::Read);
         }
         Ok(excerpt)
     }

@@ -20,10 +20,9 @@ ghost use Rattle.vipr_page.specs.Algebra.{size};
 ghost use Rattle.vipr_page.specs.Written.{PutsText};
 
 use crate::items::Items;
-use crate::missing::Missing;
 use crate::near::{Bases, Near, find_near};
 use crate::shown::{ListedConstraint, PlacedItems};
-use crate::text::{Subject, Text};
+use crate::text::{Reread, Subject, Text};
 use std::alloc::{AllocError, Global};
 use vipr_cert::Problem;
 use vipr_check::Report;
@@ -33,7 +32,7 @@ use vipr_page::{Algebra, Page, size_of};
 
 impl<T: Text> Subject<'_, T> {
     /// Explains a verified certificate: the constraint that proves its dual side, in algebra.
-    pub(crate) fn put_goal(&self, page: &mut Page, report: &Report) -> Result<(), Missing>
+    pub(crate) fn put_goal(&self, page: &mut Page, report: &Report) -> Reread<()>
         ensures shown { IfOk result (λ _. PutsSome
             (IsProvedText (T.input self.now.text.now) report.now) page.old page.new) }
         ensures error { IfErr result
@@ -45,7 +44,7 @@ impl<T: Text> Subject<'_, T> {
     }
 
     // Shows the constraint that proves the dual side, if one has to.
-    fn put_goal_line(&self, page: &mut Page, goal: Option<u32>) -> Result<(), Missing>
+    fn put_goal_line(&self, page: &mut Page, goal: Option<u32>) -> Reread<()>
         ensures shown { IfOk result (λ _. PutsSome
             (IsGoalText (T.input self.now.text.now) goal) page.old page.new) }
         ensures error { IfErr result (OnlyIf (T.input self.now.text.now) (LacksGoal goal)) }
@@ -60,7 +59,7 @@ impl<T: Text> Subject<'_, T> {
     }
 
     // Shows the constraint that proves the dual side.
-    fn put_goal_item(&self, page: &mut Page, goal: u32) -> Result<(), Missing>
+    fn put_goal_item(&self, page: &mut Page, goal: u32) -> Reread<()>
         ensures shown { IfOk result (λ _. (known : PlacedItems)
             × AreItemsOf (T.input self.now.text.now) (goal ∷ []) known
             × PutsText page.old page.new (goal_line known goal)) }
@@ -77,11 +76,7 @@ impl<T: Text> Subject<'_, T> {
 
     /// Explains that no constraint proves the claim: what is wanted, and the nearest constraints
     /// with the assumptions that they rest on.
-    pub(crate) fn put_no_proof(
-        &self,
-        page: &mut Page,
-        goal: Option<&Constraint>,
-    ) -> Result<(), Missing>
+    pub(crate) fn put_no_proof(&self, page: &mut Page, goal: Option<&Constraint>) -> Reread<()>
         ensures shown { IfOk result (λ _. PutsSome (IsNoProofText (T.input self.now.text.now)
             (option_map (λ c. constraint_of c.now) goal.entry)) page.old page.new) }
         ensures error { IfErr result (OnlyIf (T.input self.now.text.now)
@@ -113,7 +108,7 @@ fn head_of(near: &[Near]) -> &'static str
 }
 
 // Reads constraints that come near.
-fn known_of<T: Text>(subject: &Subject<'_, T>, near: &[Near]) -> Result<PlacedItems, Missing>
+fn known_of<T: Text>(subject: &Subject<'_, T>, near: &[Near]) -> Reread<PlacedItems>
     ensures found { IfOk result (AreItemsOf (T.input subject.now.text.now)
         (map (λ n. n.0) (map near_of near.now))) }
     ensures error { IfErr result (OnlyIf (T.input subject.now.text.now)

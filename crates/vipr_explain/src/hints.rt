@@ -73,13 +73,11 @@ fn number_hint(wanted: Wanted) -> &'static str
 fn put_index_hint(page: &mut Page, variables: u32)
     ensures { PutsText page.old page.new (index_hints variables) }
 {
-    if variables == 0 {
-        page.put_help("the text has no variables (VAR 0)");
-    } else {
-        let last = variables - 1;
-        page.put_value(&format_args!(
+    match variables.checked_sub(1) {
+        Some(last) => page.put_value(&format_args!(
             "  = help: indices count from 0: {variables} variables have the indices 0 to {last}\n"
-        ));
+        )),
+        None => page.put_help("the text has no variables (VAR 0)"),
     }
 }
 

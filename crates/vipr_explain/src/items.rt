@@ -7,19 +7,19 @@ ghost use Rattle.vipr_bytes.specs.Known.{IfKnown, text_of};
 ghost use Rattle.vipr_scan.specs.Giving.{rest_of};
 ghost use Rattle.vipr_cert.specs.Items.{solution_of, derivation_of};
 ghost use Rattle.vipr_read.specs.Items.{Knows, Remembers};
-ghost use Rattle.vipr_explain.specs.Found.{Finds, WerePassed, derivations_behind, head_read};
+ghost use Rattle.vipr_explain.specs.Found.{Finds, Opens, WerePassed, beside, derivations_behind};
 ghost use Rattle.vipr_explain.specs.Found.{nth_read, numbered_of, wanted_among, HasKeptItems};
 ghost use Rattle.vipr_explain.specs.Found.{KeepsNext, AreFoundItems, Because, HasFault};
 ghost use Rattle.vipr_explain.specs.Found.{IsListedSolution, Missed, OnlyIf, LacksListed};
-ghost use Rattle.vipr_explain.specs.Found.{count_read, items_up_to};
+ghost use Rattle.vipr_explain.specs.Found.{count_read, head_read, items_up_to};
 
-use crate::missing::Missing;
-use crate::text::Text;
+use crate::text::{Reread, Text};
 use std::alloc::Global;
 use vipr_bytes::Source;
 use vipr_cert::{Derivation, Name, Named, Problem};
 use vipr_linear::{Constraint, Solution};
 use vipr_read::{CertReader, Derivations, Solutions};
+use vipr_scan::TextError;
 
 /// A derivation with its constraint's index.
 #[derive(Drop)]
@@ -95,7 +95,7 @@ impl Items {
         alloc: Global,
         derivations: &mut Derivations<R>,
         wanted: &[u32],
-    ) -> Result<(), Missing>
+    ) -> Reread<()>
         requires { self.old.derivations.items ≡ [] }
         ensures problem { self.new.problem ≡ self.old.problem }
         ensures read { Knows derivations.old self.old.problem → IsSome derivations.old.rest
@@ -122,7 +122,7 @@ impl Items {
         derivations: &mut Derivations<R>,
         wanted: &[u32],
         index: u32,
-    ) -> Result<(), Missing>
+    ) -> Reread<()>
         requires { 0 < derivations.old.left }
         ensures problem { self.new.problem ≡ self.old.problem }
         ensures left { OnOk result (derivations.old.left ≡ suc derivations.new.left) }
@@ -140,12 +140,12 @@ impl Items {
     }
 
     // Keeps a derivation that is wanted.
-    fn keep(&mut self, wanted: &[u32], index: u32, derivation: Derivation) -> Result<(), Missing>
+    fn keep(&mut self, wanted: &[u32], index: u32, derivation: Derivation) -> Reread<()>
         ensures problem { self.new.problem ≡ self.old.problem }
         ensures kept { OnOk result (map numbered_of self.new.derivations.items
             ≡ map numbered_of self.old.derivations.items
             ++ wanted_among wanted.now index (derivation_of derivation ∷ [])) }
-        ensures error { IfErr result (λ m. m ≡ Missing.Memory) }
+        ensures error { IfErr result (λ m. m ≡ TextError.Memory) }
     {
         if wanted.contains(&index) {
             self.derivations.push(Numbered { index, derivation })?;
@@ -156,13 +156,12 @@ impl Items {
     }
 }
 
+/// The problem of a text, and a reader of what is behind it.
+type Opened<L> = Reread<(Problem, L)>;
+
 /// The problem, and a reader of the solutions.
-pub(crate) fn open_problem<T: Text>(
-    alloc: Global,
-    text: &T,
-) -> Result<(Problem, Solutions<T::Reader>), Missing>
-    ensures read { IfKnown (T.input text.now) (λ i.
-        Finds (λ x. (x.0, x.1.left)) (λ x. x.1.rest) result (problem_read (text_of i))) }
+pub(crate) fn open_problem<T: Text>(alloc: Global, text: &T) -> Opened<Solutions<T::Reader>>
+    ensures read { IfKnown (T.input text.now) (λ i. Opens result (problem_read (text_of i))) }
     ensures knows { IfOk result (λ x. Knows x.1 x.0) }
     ensures working { IfOk result (λ x. x.1.failed ≡ false) }
 {
@@ -171,30 +170,36 @@ pub(crate) fn open_problem<T: Text>(
             let reader = CertReader::new(alloc, source)?;
             Ok(reader.read_problem(alloc)?)
         }
-        None => Err(Missing::Text),
+        None => Err(TextError::Read),
     }
 }
 
 /// The problem, and a reader of the derivations.
-pub(crate) fn open_derivations<T: Text>(
-    alloc: Global,
-    text: &T,
-) -> Result<(Problem, Derivations<T::Reader>), Missing>
-    ensures read { IfKnown (T.input text.now) (λ i.
-        Finds (λ x. (x.0, x.1.left)) (λ x. x.1.rest) result (head_read (text_of i))) }
+pub(crate) fn open_derivations<T: Text>(alloc: Global, text: &T) -> Opened<Derivations<T::Reader>>
+    ensures read { IfKnown (T.input text.now) (λ i. Opens result (head_read (text_of i))) }
     ensures knows { IfOk result (λ x. Knows x.1 x.0) }
     ensures working { IfOk result (λ x. x.1.failed ≡ false) }
     ensures counted { IfOk result (λ x. x.1.constraints + x.1.left < 2 ^ 32) }
 {
     let (problem, solutions) = open_problem(alloc, text)?;
-    Ok((problem, skip_solutions(alloc, solutions)?))
+    beside(problem, skip_solutions(alloc, solutions))
+}
+
+// A value with the one behind it, if that could be read.
+fn beside<A: Drop, B>(first: A, second: Reread<B>) -> Reread<(A, B)>
+    ensures { result ≡ beside first second }
+{
+    match second {
+        Ok(second) => Ok((first, second)),
+        Err(missing) => Err(missing),
+    }
 }
 
 // The derivations behind the solutions.
 fn skip_solutions<R: Source + Drop>(
     alloc: Global,
     mut solutions: Solutions<R>,
-) -> Result<Derivations<R>, Missing>
+) -> Reread<Derivations<R>>
     ensures read { (p : ProblemMeant) → Knows solutions p → IsSome solutions.rest
         → Finds (λ d. d.left) (λ d. d.rest) result
         (derivations_behind p solutions.left (rest_of solutions.rest)) }
@@ -208,11 +213,7 @@ fn skip_solutions<R: Source + Drop>(
 }
 
 // Reads so many solutions.
-fn pass_solutions<R: Source>(
-    alloc: Global,
-    solutions: &mut Solutions<R>,
-    count: u32,
-) -> Result<(), Missing>
+fn pass_solutions<R: Source>(alloc: Global, solutions: &mut Solutions<R>, count: u32) -> Reread<()>
     requires { count ≤ solutions.old.left }
     ensures left { OnOk result (solutions.new.left + count ≡ solutions.old.left) }
     ensures remembers { OnOk result (Remembers solutions.old solutions.new) }
@@ -231,14 +232,14 @@ pub(crate) fn read_solution<T: Text>(
     alloc: Global,
     text: &T,
     number: u32,
-) -> Result<(Problem, Named<Solution>), Missing>
+) -> Reread<(Problem, Named<Solution>)>
     ensures found { IfOk result (λ x. IfKnown (T.input text.now)
         (λ i. IsListedSolution number (text_of i) x.0 (solution_of x.1))) }
     ensures error { IfErr result
         (OnlyIf (T.input text.now) (λ i. LacksListed number (problem_read (text_of i)))) }
 {
     let (problem, mut solutions) = open_problem(alloc, text)?;
-    Ok((problem, nth_solution(alloc, &mut solutions, number)?))
+    beside(problem, nth_solution(alloc, &mut solutions, number))
 }
 
 // The solution behind so many others.
@@ -246,7 +247,7 @@ fn nth_solution<R: Source>(
     alloc: Global,
     solutions: &mut Solutions<R>,
     number: u32,
-) -> Result<Named<Solution>, Missing>
+) -> Reread<Named<Solution>>
     ensures within { IfOk result (λ _. number < solutions.old.left) }
     ensures read { (p : ProblemMeant) → Knows solutions.old p → IsSome solutions.old.rest
         → IfOk result (λ s. nth_read p number (rest_of solutions.old.rest)
@@ -256,17 +257,17 @@ fn nth_solution<R: Source>(
         ⊎ HasFault (nth_read p number (rest_of solutions.old.rest)))) }
 {
     if number >= solutions.left() {
-        return Err(Missing::Text);
+        return Err(TextError::Read);
     }
     pass_solutions(alloc, solutions, number)?;
     match solutions.next(alloc)? {
         Some(solution) => Ok(solution),
-        None => Err(Missing::Text),
+        None => Err(TextError::Read),
     }
 }
 
 /// The problem, and the derivations of those of these constraints that are derived.
-pub(crate) fn read_items<T: Text>(alloc: Global, text: &T, wanted: &[u32]) -> Result<Items, Missing>
+pub(crate) fn read_items<T: Text>(alloc: Global, text: &T, wanted: &[u32]) -> Reread<Items>
     ensures found { IfOk result (λ items. IfKnown (T.input text.now)
         (λ i. AreFoundItems wanted.now (text_of i) items)) }
     ensures error { IfErr result

@@ -9,7 +9,6 @@ mod hints;
 mod items;
 mod kept;
 mod marks;
-mod missing;
 mod near;
 mod reason;
 mod shown;
@@ -25,7 +24,6 @@ mod whole;
 mod words;
 
 pub use kept::{Keeping, KeptBytes, KeptText};
-pub use missing::Missing;
 pub use text::Text;
 pub use vipr_page::Page;
 pub use whole::{explain_at_length, page_for};

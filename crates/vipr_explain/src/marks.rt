@@ -13,12 +13,12 @@ ghost use Rattle.vipr_explain.specs.Progress.{at_start, index_of};
 ghost use Rattle.vipr_explain.specs.Words.{AreLeft, IsReading, IsReadWhole, kept_token};
 
 use crate::items::greatest;
-use crate::missing::Missing;
-use crate::text::{Spot, Text};
+use crate::text::{Reread, Span, Text};
 use crate::wanted::{Section, TextProgress, Wanted};
 use crate::words::Words;
 use std::alloc::{AllocError, Global};
 use vipr_bytes::Source;
+use vipr_scan::TextError;
 
 /// The items that are looked for: constraints, of the problem or derived, or solutions.
 #[derive(Clone, Copy)]
@@ -54,10 +54,8 @@ impl ItemSort {
 #[derive(Clone, Copy)]
 pub(crate) struct ItemPlace {
     pub(crate) index: u32,
-    pub(crate) spot: Spot,
-    pub(crate) size: usize,
-    pub(crate) last: Spot,
-    pub(crate) last_size: usize,
+    pub(crate) name: Span,
+    pub(crate) last: Span,
 }
 
 /// The places of constraints by their indices.
@@ -65,7 +63,7 @@ pub(crate) fn find_constraints<T: Text>(
     alloc: Global,
     text: &T,
     wanted: &[u32],
-) -> Result<Vec<ItemPlace>, Missing>
+) -> Reread<Vec<ItemPlace>>
     ensures found { IfOk result (λ marks. AreMarksOf (T.input text.now) wanted.now marks.items) }
     ensures error { IfErr result (OnlyIf (T.input text.now) (λ i. i.fails ≡ true)) }
 {
@@ -77,7 +75,7 @@ pub(crate) fn find_solution<T: Text>(
     alloc: Global,
     text: &T,
     number: u32,
-) -> Result<Option<ItemPlace>, Missing>
+) -> Reread<Option<ItemPlace>>
     ensures found { IfOk result (IsMarkOf (T.input text.now) number) }
     ensures error { IfErr result (OnlyIf (T.input text.now) (λ i. i.fails ≡ true)) }
 {
@@ -91,7 +89,7 @@ fn find_items<T: Text>(
     text: &T,
     kind: ItemSort,
     wanted: &[u32],
-) -> Result<Vec<ItemPlace>, Missing>
+) -> Reread<Vec<ItemPlace>>
     ensures found { IfOk result (λ marks. IfKnown (T.input text.now)
         (λ i. marks.items ≡ marks_in kind wanted.now i)) }
     ensures error { IfErr result (OnlyIf (T.input text.now) (λ i. i.fails ≡ true)) }
@@ -109,14 +107,14 @@ fn mark_items<R: Source + Drop>(
     marks: &mut Vec<ItemPlace>,
     kind: ItemSort,
     wanted: &[u32],
-) -> Result<(), Missing>
+) -> Reread<()>
     ensures reading { (i : Input) → IsReading R.input i words.old
         → IsReading R.input i words.new }
     ensures marked { (i : Input) (ts : List Token) → length i.bytes < 2 ^ 64
         → AreLeft R.input i ts words.old → IsReadWhole words.new
         → OnOk result (marks.new.items
         ≡ marks_from kind wanted.now at_start marks.old.items (map (kept_token i) ts)) }
-    ensures error { IfErr result (λ m. m ≡ Missing.Memory) }
+    ensures error { IfErr result (λ m. m ≡ TextError.Memory) }
 {
     let mut progress = TextProgress::start();
     let end = greatest(wanted);
@@ -124,10 +122,10 @@ fn mark_items<R: Source + Drop>(
         if is_past(kind, &progress, end) || !words.next() {
             return Ok(());
         }
-        mark(marks, kind, wanted, &progress, words.spot(), words.size())?;
+        mark(marks, kind, wanted, &progress, words.span())?;
         progress.pass(words.word());
     }
-    Err(Missing::Memory)
+    Err(TextError::Memory)
 }
 
 /// The mark of an item among others.
@@ -153,14 +151,13 @@ fn mark(
     kind: ItemSort,
     wanted: &[u32],
     progress: &TextProgress,
-    spot: Spot,
-    size: usize,
+    span: Span,
 ) -> Result<(), AllocError>
     ensures { OnOk result
-        (marks.new.items ≡ marked kind wanted.now progress.now spot size marks.old.items) }
+        (marks.new.items ≡ marked kind wanted.now progress.now span marks.old.items) }
 {
     if kind.is_of(progress.section) && wanted.contains(&progress.index()) {
-        mark_part(marks, progress, spot, size)?;
+        mark_part(marks, progress, span)?;
     }
     Ok(())
 }
@@ -169,40 +166,36 @@ fn mark(
 fn mark_part(
     marks: &mut Vec<ItemPlace>,
     progress: &TextProgress,
-    spot: Spot,
-    size: usize,
+    span: Span,
 ) -> Result<(), AllocError>
     ensures { OnOk result (marks.new.items
-        ≡ marked_at progress.now.wanted (index_of progress.now) spot size marks.old.items) }
+        ≡ marked_at progress.now.wanted (index_of progress.now) span marks.old.items) }
 {
     match progress.wanted {
-        Wanted::Name => marks.push(mark_at(progress, spot, size))?,
-        Wanted::LastReference => mark_last(marks, spot, size),
+        Wanted::Name => marks.push(mark_at(progress, span))?,
+        Wanted::LastReference => mark_last(marks, span),
         _ => {}
     }
     Ok(())
 }
 
 // Marks the last reference in the item that was marked last.
-fn mark_last(marks: &mut Vec<ItemPlace>, spot: Spot, size: usize)
-    ensures { marks.new.items ≡ with_last spot size marks.old.items }
+fn mark_last(marks: &mut Vec<ItemPlace>, span: Span)
+    ensures { marks.new.items ≡ with_last span marks.old.items }
 {
     if let Some(mark) = marks.last_mut() {
-        mark.last = spot;
-        mark.last_size = size;
+        mark.last = span;
     }
 }
 
 // The mark of an item by the place of its name.
-fn mark_at(progress: &TextProgress, spot: Spot, size: usize) -> ItemPlace
-    ensures { result ≡ mark_at (index_of progress.now) spot size }
+fn mark_at(progress: &TextProgress, span: Span) -> ItemPlace
+    ensures { result ≡ mark_at (index_of progress.now) span }
 {
     ItemPlace {
         index: progress.index(),
-        spot,
-        size,
-        last: spot,
-        last_size: size,
+        name: span,
+        last: span,
     }
 }
 

@@ -18,8 +18,7 @@ ghost use Rattle.vipr_explain.specs.Near.{with_referred, with_those};
 ghost use Rattle.vipr_explain.specs.Nearing.{PassesNext, near_of};
 
 use crate::items::open_derivations;
-use crate::missing::Missing;
-use crate::text::Text;
+use crate::text::{Reread, Text};
 use std::alloc::{AllocError, Global};
 use std::marker::Model;
 use vipr_bytes::Source;
@@ -27,6 +26,7 @@ use vipr_cert::{Derivation, Reason, References};
 use vipr_frac::Frac;
 use vipr_linear::Constraint;
 use vipr_read::Derivations;
+use vipr_scan::TextError;
 
 /// How many constraints are shown, and how many assumptions of each.
 const MOST_SHOWN: usize = 3;
@@ -71,7 +71,7 @@ pub(crate) fn find_near<T: Text>(
     alloc: Global,
     text: &T,
     goal: Option<&Constraint>,
-) -> Result<Vec<Near>, Missing>
+) -> Reread<Vec<Near>>
     ensures found { IfOk result (λ near. AreNearest (T.input text.now)
         (option_map (λ c. constraint_of c.now) goal.entry) (map near_of near.items)) }
     ensures error { IfErr result
@@ -88,7 +88,7 @@ fn find_among<R: Source + Drop>(
     derivations: &mut Derivations<R>,
     first: usize,
     goal: Option<&Constraint>,
-) -> Result<Vec<Near>, Missing>
+) -> Reread<Vec<Near>>
     requires { first + derivations.old.left < 2 ^ 32 }
     ensures found { IfOk result (λ near. (compared : List Compared)
         × AreCompared (option_map (λ c. constraint_of c.now) goal.entry) compared
@@ -119,7 +119,7 @@ impl Passed {
         alloc: Global,
         derivations: &mut Derivations<R>,
         goal: Option<&Constraint>,
-    ) -> Result<(), Missing>
+    ) -> Reread<()>
         requires some { 0 < derivations.old.left }
         requires index { self.old.first + length self.old.all.items < 2 ^ 32 }
         requires few { length self.old.near.items ≤ 3 }
@@ -141,18 +141,13 @@ impl Passed {
     }
 
     // Passes a derivation, and keeps it if it is near.
-    fn pass(
-        &mut self,
-        alloc: Global,
-        step: &Derivation,
-        goal: Option<&Constraint>,
-    ) -> Result<(), Missing>
+    fn pass(&mut self, alloc: Global, step: &Derivation, goal: Option<&Constraint>) -> Reread<()>
         requires index { self.old.first + length self.old.all.items < 2 ^ 32 }
         requires few { length self.old.near.items ≤ 3 }
         ensures first { self.new.first ≡ self.old.first }
         ensures passed { OnOk result (PassesNext (option_map (λ c. constraint_of c.now) goal.entry)
             (derivation_of step.now) self.old self.new) }
-        ensures error { IfErr result (λ m. m ≡ Missing.Memory) }
+        ensures error { IfErr result (λ m. m ≡ TextError.Memory) }
     {
         let index = (self.first + self.all.len()) as u32;
         let bases = bases_of(alloc, &step.reason, index, self.first, self.all.as_slice())?;

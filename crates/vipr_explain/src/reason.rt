@@ -261,22 +261,8 @@ impl Display for Referred<'_> {
         if index < self.own {
             write!(f, "{}", ListedConstraint { known, index })
         } else {
-            write!(f, "{}", NotBefore(index))
+            write!(f, "[{index}], which is not before this derivation")
         }
-    }
-}
-
-// A constraint that isn't before a derivation.
-#[derive(Clone, Copy)]
-struct NotBefore(u32);
-
-impl Display for NotBefore {
-    ghost use Rattle.vipr_explain.specs.Steps.{not_before};
-
-    ghost output = { λ s. Some (not_before s.0) };
-
-    fn fmt<W: Write>(&self, f: &mut Formatter<W>) -> fmt::Result {
-        write!(f, "[{}], which is not before this derivation", self.0)
     }
 }
 

@@ -4,8 +4,7 @@ ghost use Rattle.vipr_explain.specs.Found.{AreItemsOf, LacksItems, OnlyIf};
 
 use crate::items::{Items, read_items};
 use crate::marks::{ItemPlace, find_constraints, mark_of};
-use crate::missing::Missing;
-use crate::text::{Subject, Text};
+use crate::text::{Reread, Subject, Text};
 use std::fmt;
 use std::fmt::{Display, Formatter, Write};
 use vipr_cert::{Name, Problem};
@@ -21,10 +20,7 @@ pub(crate) struct PlacedItems {
 
 impl PlacedItems {
     /// Reads the constraints of these indices.
-    pub(crate) fn read<T: Text>(
-        subject: &Subject<'_, T>,
-        wanted: &[u32],
-    ) -> Result<PlacedItems, Missing>
+    pub(crate) fn read<T: Text>(subject: &Subject<'_, T>, wanted: &[u32]) -> Reread<PlacedItems>
         ensures found { IfOk result (AreItemsOf (T.input subject.now.text.now) wanted.now) }
         ensures error { IfErr result
             (OnlyIf (T.input subject.now.text.now) (LacksItems wanted.now)) }
@@ -119,7 +115,7 @@ impl Display for LinePart {
 
     fn fmt<W: Write>(&self, f: &mut Formatter<W>) -> fmt::Result {
         match self.0 {
-            Some(place) => write!(f, "  (line {})", place.spot.line),
+            Some(place) => write!(f, "  (line {})", place.name.spot.line),
             None => Ok(()),
         }
     }

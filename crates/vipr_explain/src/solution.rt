@@ -27,9 +27,8 @@ ghost use Rattle.vipr_page.specs.Written.{PutsText};
 
 use crate::items::{open_problem, read_solution};
 use crate::marks::{ItemPlace, find_constraints, find_solution, mark_of};
-use crate::missing::Missing;
 use crate::shown::LinePart;
-use crate::text::{Subject, Text};
+use crate::text::{Reread, Subject, Text};
 use crate::values::Values;
 use std::alloc::Global;
 use vipr_bytes::Source;
@@ -39,18 +38,14 @@ use vipr_frac::Frac;
 use vipr_linear::{Constraint, Solution, value_at};
 use vipr_page::{Algebra, Page, ShownName, VariableName, sign_of};
 use vipr_read::Solutions;
+use vipr_scan::TextError;
 
 /// How many solutions are shown.
 const MOST_SOLUTIONS: u32 = 10;
 
 impl<T: Text> Subject<'_, T> {
     /// Explains the refusal of the solution of this number.
-    pub(crate) fn put_solution(
-        &self,
-        page: &mut Page,
-        number: u32,
-        detail: &Detail,
-    ) -> Result<(), Missing>
+    pub(crate) fn put_solution(&self, page: &mut Page, number: u32, detail: &Detail) -> Reread<()>
         ensures shown { IfOk result (λ _. PutsSome (IsSolutionText (T.input self.now.text.now)
             self.now.file.now number detail.now) page.old page.new) }
         ensures error { IfErr result
@@ -63,7 +58,7 @@ impl<T: Text> Subject<'_, T> {
     }
 
     // Shows the place of a solution.
-    fn put_solution_place(&self, page: &mut Page, number: u32) -> Result<(), Missing>
+    fn put_solution_place(&self, page: &mut Page, number: u32) -> Reread<()>
         ensures shown { IfOk result (λ _. PutsSome (IsSolutionPlace (T.input self.now.text.now)
             self.now.file.now number) page.old page.new) }
         ensures error { IfErr result (OnlyIf (T.input self.now.text.now) (λ i. i.fails ≡ true)) }
@@ -79,7 +74,7 @@ impl<T: Text> Subject<'_, T> {
         problem: &Problem,
         solution: &Solution,
         detail: &Detail,
-    ) -> Result<(), Missing>
+    ) -> Reread<()>
         ensures shown { IfOk result (λ _. (places : List ItemPlace)
             × ArePlacesFor (T.input self.now.text.now) detail.now places
             × PutsText page.old page.new
@@ -120,7 +115,7 @@ impl<T: Text> Subject<'_, T> {
         index: u32,
         solution: &Solution,
         left: Frac,
-    ) -> Result<(), Missing>
+    ) -> Reread<()>
         ensures shown { IfOk result (λ _. (places : List ItemPlace)
             × AreMarksOf (T.input self.now.text.now) (index ∷ []) places
             × PutsText page.old page.new (broken_text problem.now.names places index
@@ -136,12 +131,12 @@ impl<T: Text> Subject<'_, T> {
                 put_sides(page, &broken.item, left);
                 Ok(())
             }
-            None => Err(Missing::Text),
+            None => Err(TextError::Read),
         }
     }
 
     /// Explains that no listed solution attains the primal bound: the best value of those listed.
-    pub(crate) fn put_no_primal(&self, page: &mut Page, bound: Frac) -> Result<(), Missing>
+    pub(crate) fn put_no_primal(&self, page: &mut Page, bound: Frac) -> Reread<()>
         ensures shown { IfOk result (λ _. PutsSome
             (IsNoPrimalText (T.input self.now.text.now) bound) page.old page.new) }
         ensures error { IfErr result
@@ -154,7 +149,7 @@ impl<T: Text> Subject<'_, T> {
     }
 
     // Shows the objective at the listed solutions, and answers its best value.
-    fn put_listed_values(&self, page: &mut Page) -> Result<Option<Frac>, Missing>
+    fn put_listed_values(&self, page: &mut Page) -> Reread<Option<Frac>>
         ensures shown { IfOk result (λ best. (p : ProblemMeant) × (valued : List Valued)
             × ShowsValues p valued best page.old page.new
             × IfKnown (T.input self.now.text.now)
@@ -295,7 +290,7 @@ fn put_all_values<R: Source + Drop>(
     alloc: Global,
     problem: &Problem,
     solutions: &mut Solutions<R>,
-) -> Result<Option<Frac>, Missing>
+) -> Reread<Option<Frac>>
     requires { Knows solutions.old problem.now }
     ensures shown { IfOk result (λ best. (valued : List Valued)
         × ShowsValues problem.now valued best page.old page.new
@@ -321,7 +316,7 @@ fn put_next<R: Source + Drop>(
     number: u32,
     solutions: &mut Solutions<R>,
     best: Option<Frac>,
-) -> Result<Option<Frac>, Missing>
+) -> Reread<Option<Frac>>
     requires some { 0 < solutions.old.left }
     requires knows { Knows solutions.old problem.now }
     ensures shown { IfOk result (λ now. (s : NamedMeant RowMeant)

@@ -6,8 +6,7 @@ ghost use Rattle.vipr_explain.specs.StepPages.{IsExcerptAt, IsSpotText, name_spo
 
 use crate::excerpt::Excerpt;
 use crate::marks::ItemPlace;
-use crate::missing::Missing;
-use crate::text::{Spot, Subject, Text};
+use crate::text::{Reread, Span, Subject, Text};
 use vipr_page::Page;
 
 impl<T: Text> Subject<'_, T> {
@@ -17,31 +16,25 @@ impl<T: Text> Subject<'_, T> {
         page: &mut Page,
         mark: Option<ItemPlace>,
         label: &str,
-    ) -> Result<(), Missing>
+    ) -> Reread<()>
         ensures shown { IfOk result (λ _. PutsSome (IsSpotText (T.input self.now.text.now)
             self.now.file.now label.now (option_map name_spot mark)) page.old page.new) }
         ensures error { IfErr result (OnlyIf (T.input self.now.text.now) (λ i. i.fails ≡ true)) }
     {
         match mark {
-            Some(mark) => self.put_excerpt(page, mark.spot, mark.size, label),
+            Some(mark) => self.put_excerpt(page, mark.name, label),
             None => Ok(()),
         }
     }
 
     /// Shows the part of the line round a place, with carets below so many bytes of it and a label.
-    pub(crate) fn put_excerpt(
-        &self,
-        page: &mut Page,
-        spot: Spot,
-        size: usize,
-        label: &str,
-    ) -> Result<(), Missing>
+    pub(crate) fn put_excerpt(&self, page: &mut Page, span: Span, label: &str) -> Reread<()>
         ensures shown { IfOk result (λ _. PutsSome (IsExcerptAt (T.input self.now.text.now)
-            self.now.file.now spot size label.now) page.old page.new) }
+            self.now.file.now span label.now) page.old page.new) }
         ensures error { IfErr result (OnlyIf (T.input self.now.text.now) (λ i. i.fails ≡ true)) }
     {
-        let excerpt = Excerpt::read(self, spot)?;
-        excerpt.put(page, self.file, size, label);
+        let excerpt = Excerpt::read(self, span.spot)?;
+        excerpt.put(page, self.file, span.size, label);
         Ok(())
     }
 }

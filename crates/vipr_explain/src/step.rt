@@ -4,19 +4,17 @@ ghost use Rattle.vipr_linear.specs.Constraint.{constraint_of};
 ghost use Rattle.vipr_explain.specs.Found.{LacksItems, OnlyIf};
 ghost use Rattle.vipr_explain.specs.Lacking.{LacksStep};
 ghost use Rattle.vipr_explain.specs.Pages.{PutsSome};
-ghost use Rattle.vipr_explain.specs.References.{entry_indices, reason_indices, shown_index};
-ghost use Rattle.vipr_explain.specs.References.{step_indices};
+ghost use Rattle.vipr_explain.specs.References.{entry_indices, shown_index, step_indices};
 ghost use Rattle.vipr_explain.specs.StepPages.{IsDetailText, IsRefusedText, IsRowsText};
-ghost use Rattle.vipr_explain.specs.StepPages.{IsStepText, pair_lines, stated_lines, sum_lines};
+ghost use Rattle.vipr_explain.specs.StepPages.{IsStepText, stated_lines, sum_lines};
 ghost use Rattle.vipr_explain.specs.Steps.{labelled, step_error, step_help};
 ghost use Rattle.vipr_page.specs.Written.{PutsText};
 
 use crate::items::read_items;
 use crate::marks::mark_of;
-use crate::missing::Missing;
 use crate::reason::{ReasonLines, is_entry_shown};
 use crate::shown::PlacedItems;
-use crate::text::{Subject, Text};
+use crate::text::{Reread, Subject, Text};
 use std::alloc::{AllocError, Global};
 use std::fmt;
 use std::fmt::{Display, Formatter, Write};
@@ -27,6 +25,7 @@ use vipr_linear::Constraint;
 use vipr_page::{
     Algebra, Page, ShownName, put_difference, put_not_roundable, put_not_split, put_repair,
 };
+use vipr_scan::TextError;
 
 /// What is wrong with a derivation: the cause, the index of its constraint, and the part at fault.
 #[derive(Clone, Copy)]
@@ -67,7 +66,7 @@ impl Display for StepFault<'_> {
 
 impl<T: Text> Subject<'_, T> {
     /// Explains the refusal of a derivation.
-    pub(crate) fn put_step(&self, page: &mut Page, fault: &StepFault<'_>) -> Result<(), Missing>
+    pub(crate) fn put_step(&self, page: &mut Page, fault: &StepFault<'_>) -> Reread<()>
         ensures shown { IfOk result (λ _. PutsSome (IsStepText (T.input self.now.text.now)
             self.now.file.now fault.now.cause fault.now.index fault.now.what.now)
             page.old page.new) }
@@ -77,17 +76,12 @@ impl<T: Text> Subject<'_, T> {
         let own = read_items(self.alloc, self.text, [fault.index].as_slice())?;
         match own.derivation(fault.index) {
             Some(step) => self.put_refused(page, fault, step),
-            None => Err(Missing::Text),
+            None => Err(TextError::Read),
         }
     }
 
     // The same, of a derivation that was read.
-    fn put_refused(
-        &self,
-        page: &mut Page,
-        fault: &StepFault<'_>,
-        step: &Derivation,
-    ) -> Result<(), Missing>
+    fn put_refused(&self, page: &mut Page, fault: &StepFault<'_>, step: &Derivation) -> Reread<()>
         ensures shown { IfOk result (λ _. PutsSome (IsRefusedText (T.input self.now.text.now)
             self.now.file.now fault.now.cause fault.now.index step.now fault.now.what.now)
             page.old page.new) }
@@ -128,24 +122,12 @@ fn step_indices(
 {
     let mut wanted = Vec::new(alloc);
     wanted.push(fault.index)?;
-    add_references(&mut wanted, reason, fault.what)?;
-    Ok(wanted)
-}
-
-// Adds the constraints in a reason that are shown.
-fn add_references(
-    wanted: &mut Vec<u32>,
-    reason: &Reason,
-    what: &StepDetail,
-) -> Result<(), AllocError>
-    ensures { OnOk result (wanted.new.items
-        ≡ wanted.old.items ++ reason_indices what.now reason.now) }
-{
     match reason.references() {
-        References::Nothing => Ok(()),
-        References::Entries(entries) => add_shown(wanted, entries, what),
-        References::Branches { i1, l1, i2, l2 } => wanted.extend_from_slice(&[i1, l1, i2, l2]),
+        References::Nothing => {}
+        References::Entries(entries) => add_shown(&mut wanted, entries, fault.what)?,
+        References::Branches { i1, l1, i2, l2 } => wanted.extend_from_slice(&[i1, l1, i2, l2])?,
     }
+    Ok(wanted)
 }
 
 // Adds the constraints of the entries that are shown.
@@ -212,7 +194,11 @@ fn put_detail(
             put_rows(page, alloc, problem, reason, computed, stated)
         }
         StepDetail::Sum(sum) => put_sum(page, alloc, problem, sum),
-        StepDetail::Pair(first, second) => put_pair(page, alloc, problem, first, second),
+        StepDetail::Pair(first, second) => {
+            put_labelled(page, problem, "    first      ", first);
+            put_labelled(page, problem, "    second     ", second);
+            put_not_split(page, alloc, problem, first, second)
+        }
         StepDetail::Nothing => Ok(()),
     }
 }
@@ -248,22 +234,6 @@ fn put_sum(
 {
     put_labelled(page, problem, "    sum        ", sum);
     put_not_roundable(page, alloc, problem, sum)
-}
-
-// Shows two assumptions that are no split.
-fn put_pair(
-    page: &mut Page,
-    alloc: Global,
-    problem: &Problem,
-    first: &Constraint,
-    second: &Constraint,
-) -> Result<(), AllocError>
-    ensures { OnOk result (PutsText page.old page.new
-        (pair_lines problem.now (constraint_of first.now) (constraint_of second.now))) }
-{
-    put_labelled(page, problem, "    first      ", first);
-    put_labelled(page, problem, "    second     ", second);
-    put_not_split(page, alloc, problem, first, second)
 }
 
 // Shows a constraint behind a label.

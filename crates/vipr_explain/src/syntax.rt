@@ -14,8 +14,7 @@ ghost use Rattle.vipr_page.specs.Written.{PutsText};
 
 use crate::excerpt::Excerpt;
 use crate::hints::{TokenFault, put_hints};
-use crate::missing::Missing;
-use crate::text::{Subject, Text};
+use crate::text::{Reread, Subject, Text};
 use crate::wanted::{Section, TextProgress, Wanted};
 use crate::wanted_words::put_wanted;
 use crate::words::Words;
@@ -23,6 +22,7 @@ use std::alloc::AllocError;
 use vipr_bytes::Source;
 use vipr_check::cause;
 use vipr_page::{Page, StrangeBytes};
+use vipr_scan::TextError;
 
 /// A token at fault: the reader that is at it, and what is known of it.
 #[derive(Drop)]
@@ -37,20 +37,21 @@ struct FoundToken<R> {
 
 impl<T: Text> Subject<'_, T> {
     /// Explains the fault of this cause at this byte.
-    pub(crate) fn put_syntax(&self, page: &mut Page, cause: u8, offset: u64) -> Result<(), Missing>
+    pub(crate) fn put_syntax(&self, page: &mut Page, cause: u8, offset: u64) -> Reread<()>
         ensures shown { IfOk result (λ _. PutsSome (IsSyntaxText (T.input self.now.text.now)
             self.now.file.now cause offset) page.old page.new) }
         ensures error { IfErr result (OnlyIf (T.input self.now.text.now) (λ i. i.fails ≡ true)) }
     {
         let found = FoundToken::<T::Reader>::find(self, offset)?;
-        let excerpt = Excerpt::read(self, found.words.spot())?;
+        let span = found.words.span();
+        let excerpt = Excerpt::read(self, span.spot)?;
         let fault = TokenFault {
             cause,
             progress: found.progress,
             word: found.words.word(),
         };
         put_error(page, cause, found.is_end, &found.progress);
-        excerpt.put(page, self.file, found.words.size(), label_of(found.is_end));
+        excerpt.put(page, self.file, span.size, found_words(found.is_end).label);
         put_context(page, &found.progress, found.name.as_slice());
         put_hints(page, &fault);
         Ok(())
@@ -59,10 +60,7 @@ impl<T: Text> Subject<'_, T> {
 
 impl<R: Source + Drop> FoundToken<R> {
     // Reads up to the token at a byte.
-    fn find<T: Text<Reader = R>>(
-        subject: &Subject<'_, T>,
-        offset: u64,
-    ) -> Result<FoundToken<R>, Missing>
+    fn find<T: Text<Reader = R>>(subject: &Subject<'_, T>, offset: u64) -> Reread<FoundToken<R>>
         ensures found { IfOk result (IsFoundAt (T.input subject.now.text.now) offset) }
         ensures error { IfErr result
             (OnlyIf (T.input subject.now.text.now) (λ i. i.fails ≡ true)) }
@@ -79,7 +77,7 @@ impl<R: Source + Drop> FoundToken<R> {
     }
 
     // Passes the tokens before a byte.
-    fn pass_up_to(&mut self, offset: u64) -> Result<(), Missing>
+    fn pass_up_to(&mut self, offset: u64) -> Reread<()>
         requires progress { self.old.progress ≡ at_start }
         requires name { self.old.name.items ≡ [] }
         requires token { kept_word self.old.words ≡ no_token }
@@ -87,19 +85,19 @@ impl<R: Source + Drop> FoundToken<R> {
         ensures found { OnOk result (PassesUpTo R.input offset self.old self.new) }
         ensures reading { (i : Input) → IsReading R.input i self.old.words
             → OnOk result (IsReading R.input i self.new.words) }
-        ensures error { IfErr result (λ m. m ≡ Missing.Memory) }
+        ensures error { IfErr result (λ m. m ≡ TextError.Memory) }
     {
         for _ in 0..u64::MAX {
             if !self.words.next() {
                 return Ok(());
             }
-            if self.words.spot().offset >= offset {
+            if self.words.span().spot.offset >= offset {
                 self.is_end = false;
                 return Ok(());
             }
             self.pass()?;
         }
-        Err(Missing::Memory)
+        Err(TextError::Memory)
     }
 
     // Passes the token that was read.
@@ -151,30 +149,33 @@ fn put_fault(page: &mut Page, cause: u8, is_end: bool, progress: &TextProgress)
     if cause == cause::TRAILING_TEXT {
         page.put(": text behind the last derivation");
     } else {
-        page.put(words_in_front(is_end));
+        page.put(found_words(is_end).front);
         put_wanted(page, progress);
     }
 }
 
-// What is in front of what is wanted.
-fn words_in_front(is_end: bool) -> &'static str
-    ensures { result.now ≡ found_words is_end }
-{
-    if is_end {
-        ": the text ends where this is wanted: "
-    } else {
-        ": wanted "
-    }
+// What is said of a token at fault: in front of what is wanted, and below its place.
+#[derive(Clone, Copy)]
+struct FoundWords {
+    front: &'static str,
+    label: &'static str,
 }
 
-// What is below the place.
-fn label_of(is_end: bool) -> &'static str
-    ensures { result.now ≡ label_text is_end }
+// The words for a token, or for the end of the text.
+fn found_words(is_end: bool) -> FoundWords
+    ensures front { result.front.now ≡ found_words is_end }
+    ensures label { result.label.now ≡ label_text is_end }
 {
     if is_end {
-        "the text ends behind this"
+        FoundWords {
+            front: ": the text ends where this is wanted: ",
+            label: "the text ends behind this",
+        }
     } else {
-        "this was found"
+        FoundWords {
+            front: ": wanted ",
+            label: "this was found",
+        }
     }
 }
 

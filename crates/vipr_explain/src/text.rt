@@ -3,9 +3,9 @@ ghost use Rattle.std.specs.Prelude.{◌≡◌, ℕ, ◌≤◌, length, Option, S
 ghost use Rattle.std.specs.Prelude.{IfSome, IsSomeAnd};
 ghost use Rattle.vipr_spec.specs.Input.{Input};
 
-use crate::missing::Missing;
 use std::alloc::Global;
 use vipr_bytes::Source;
+use vipr_scan::TextError;
 
 /// A text that can be read from its start again and again.
 pub trait Text {
@@ -21,6 +21,9 @@ pub trait Text {
             (λ i. IsSomeAnd result (λ r. Self.Reader.input r ≡ Some i)) };
 }
 
+/// What a text gives that is read again, or why it gives none.
+pub(crate) type Reread<T> = Result<T, TextError>;
+
 /// What an explanation is about: a text and its name.
 #[derive(Drop)]
 pub(crate) struct Subject<'a, T> {
@@ -35,6 +38,13 @@ pub(crate) struct Spot {
     pub(crate) offset: u64,
     pub(crate) line: u64,
     pub(crate) column: u64,
+}
+
+/// The place of a token's first byte, and how many bytes it has.
+#[derive(Clone, Copy)]
+pub(crate) struct Span {
+    pub(crate) spot: Spot,
+    pub(crate) size: usize,
 }
 
 impl Spot {
@@ -95,11 +105,11 @@ impl<R: Source + Drop> Letters<R> {
     ghost use Rattle.vipr_explain.specs.Places.{place_behind};
 
     /// A reader at the start of a text.
-    pub(crate) fn open<T: Text<Reader = R>>(text: &T) -> Result<Letters<R>, Missing>
+    pub(crate) fn open<T: Text<Reader = R>>(text: &T) -> Reread<Letters<R>>
         ensures start { IfOk result (λ l. IfSome (T.input text.now)
             (λ i. HasGiven R.input i 0 l)) }
         ensures error { IfErr result
-            (λ e. (e ≡ Missing.Text) × (T.input text.now ≡ None)) }
+            (λ e. (e ≡ TextError.Read) × (T.input text.now ≡ None)) }
     {
         match text.open() {
             Some(source) => Ok(Letters {
@@ -110,7 +120,7 @@ impl<R: Source + Drop> Letters<R> {
                 spot: Spot::start(),
                 has_failed: false,
             }),
-            None => Err(Missing::Text),
+            None => Err(TextError::Read),
         }
     }
 

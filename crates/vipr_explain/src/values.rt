@@ -75,44 +75,18 @@ impl Display for AllValues<'_> {
                     solution,
                     variable: first.0,
                 };
-                let others = OtherValues {
-                    problem,
-                    solution,
-                    entries: others,
-                };
-                write!(f, "{first}{others}")
+                write!(f, "{first}")?;
+                for other in others {
+                    let other = ValueAt {
+                        problem,
+                        solution,
+                        variable: other.0,
+                    };
+                    write!(f, ", {other}")?;
+                }
+                Ok(())
             }
         }
-    }
-}
-
-// The values behind the first one.
-#[derive(Clone, Copy)]
-struct OtherValues<'a> {
-    problem: &'a Problem,
-    solution: &'a Solution,
-    entries: &'a [(u32, Frac)],
-}
-
-impl Display for OtherValues<'_> {
-    ghost use Rattle.std.specs.Prelude.{flat_map};
-    ghost use Rattle.vipr_explain.specs.Solutions.{next_value};
-
-    ghost output = { λ v. Some
-        (flat_map (next_value v.problem.now.names v.solution.now.0) v.entries.now) };
-
-    fn fmt<W: Write>(&self, f: &mut Formatter<W>) -> fmt::Result {
-        let problem = self.problem;
-        let solution = self.solution;
-        for entry in self.entries {
-            let value = ValueAt {
-                problem,
-                solution,
-                variable: entry.0,
-            };
-            write!(f, ", {value}")?;
-        }
-        Ok(())
     }
 }
 

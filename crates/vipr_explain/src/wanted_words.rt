@@ -56,11 +56,9 @@ fn put_wanted_name(page: &mut Page, progress: &TextProgress)
 fn put_wanted_index(page: &mut Page, variables: u32)
     ensures { PutsText page.old page.new (wanted_index variables) }
 {
-    if variables == 0 {
-        page.put("the index of a variable, but there is none");
-    } else {
-        let last = variables - 1;
-        page.put_value(&format_args!("the index of a variable, 0 to {last}"));
+    match variables.checked_sub(1) {
+        Some(last) => page.put_value(&format_args!("the index of a variable, 0 to {last}")),
+        None => page.put("the index of a variable, but there is none"),
     }
 }
 

@@ -1,32 +1,32 @@
 //! The whole explanation of a verdict.
-ghost use Rattle.std.specs.Prelude.{◌≡◌, IfErr, IfOk, IfSome, option_map};
+ghost use Rattle.std.specs.Prelude.{◌≡◌, ◌≢◌, IfErr, IfOk, IfSome, option_map};
 ghost use Rattle.vipr_explain.specs.Found.{OnlyIf};
 ghost use Rattle.vipr_explain.specs.Lacking.{LacksClaim, LacksDerivation, LacksItem, LacksPlace};
 ghost use Rattle.vipr_explain.specs.Pages.{ExplainsVerdict, IsClaimText, IsPageFor, IsRefusalText};
 ghost use Rattle.vipr_explain.specs.Pages.{IsTextAt, IsVerdictPage, PutsSome, not_read};
 ghost use Rattle.vipr_page.specs.Page.{cut, shown_text};
 
-use crate::missing::Missing;
 use crate::step::StepFault;
-use crate::text::{Subject, Text};
+use crate::text::{Reread, Subject, Text};
 use std::alloc::Global;
 use vipr_check::{Detail, Place, Refusal, Verdict};
 use vipr_page::Page;
+use vipr_scan::TextError;
 
 /// Explains a verdict on a text, which is read again, for people: the place at fault, what
 /// is wanted there, and what is likely to be wrong. `file` is the text's name.
 ///
 /// # Errors
 ///
-/// `Text` if the text can't be read again, or isn't the one that was checked, `Memory` if a growth
-/// is refused.
+/// `Memory` if a growth is refused. Another one if the text can't be read again, or isn't the one
+/// that was checked.
 pub fn explain_at_length<'a, T: Text>(
     alloc: Global,
     text: &'a T,
     file: &'a str,
     verdict: &Verdict,
     detail: &Detail,
-) -> Result<Page, Missing>
+) -> Result<Page, TextError>
     ensures shown { IfOk result (λ page. IsVerdictPage (T.input text.now) file.now verdict.now
         detail.now page.bytes.items) }
     ensures error { IfErr result (OnlyIf (T.input text.now) (LacksItem verdict.now detail.now)) }
@@ -36,7 +36,7 @@ pub fn explain_at_length<'a, T: Text>(
     page.put("\n");
     subject.put_verdict(&mut page, verdict, detail)?;
     if page.has_failed() {
-        return Err(Missing::Memory);
+        return Err(TextError::Memory);
     }
     Ok(page)
 }
@@ -67,13 +67,13 @@ pub fn page_for<'a, T: Text>(
 }
 
 // A line that says why there is no explanation, unless memory ran out.
-fn page_without(alloc: Global, missing: Missing) -> Option<Page>
-    ensures { IfSome result (λ page. (missing ≡ Missing.Text)
+fn page_without(alloc: Global, missing: TextError) -> Option<Page>
+    ensures { IfSome result (λ page. (missing ≢ TextError.Memory)
         × (page.bytes.items ≡ cut (shown_text not_read))) }
 {
     match missing {
-        Missing::Text => page_of(alloc, "\nthe text can't be read again to explain it\n"),
-        Missing::Memory => None,
+        TextError::Memory => None,
+        _ => page_of(alloc, "\nthe text can't be read again to explain it\n"),
     }
 }
 
@@ -88,12 +88,7 @@ fn page_of(alloc: Global, text: &str) -> Option<Page>
 
 impl<T: Text> Subject<'_, T> {
     // Explains a verdict.
-    fn put_verdict(
-        &self,
-        page: &mut Page,
-        verdict: &Verdict,
-        detail: &Detail,
-    ) -> Result<(), Missing>
+    fn put_verdict(&self, page: &mut Page, verdict: &Verdict, detail: &Detail) -> Reread<()>
         ensures shown { IfOk result (λ _. ExplainsVerdict (T.input self.now.text.now)
             self.now.file.now verdict.now detail.now page.old page.new) }
         ensures error { IfErr result
@@ -111,12 +106,7 @@ impl<T: Text> Subject<'_, T> {
     }
 
     // Explains a refusal.
-    fn put_refusal(
-        &self,
-        page: &mut Page,
-        refusal: &Refusal,
-        detail: &Detail,
-    ) -> Result<(), Missing>
+    fn put_refusal(&self, page: &mut Page, refusal: &Refusal, detail: &Detail) -> Reread<()>
         ensures shown { IfOk result (λ _. PutsSome (IsRefusalText (T.input self.now.text.now)
             self.now.file.now refusal.now.cause refusal.now.place detail.now) page.old page.new) }
         ensures error { IfErr result
@@ -131,7 +121,7 @@ impl<T: Text> Subject<'_, T> {
     }
 
     // Explains a refusal at a derivation: of that, or of a claim that nothing proves.
-    fn put_at(&self, page: &mut Page, cause: u8, index: u32, detail: &Detail) -> Result<(), Missing>
+    fn put_at(&self, page: &mut Page, cause: u8, index: u32, detail: &Detail) -> Reread<()>
         ensures shown { IfOk result (λ _. PutsSome (IsTextAt (T.input self.now.text.now)
             self.now.file.now cause index detail.now) page.old page.new) }
         ensures error { IfErr result
@@ -147,7 +137,7 @@ impl<T: Text> Subject<'_, T> {
     }
 
     // Explains that a side of the claim isn't proved.
-    fn put_claim(&self, page: &mut Page, detail: &Detail) -> Result<(), Missing>
+    fn put_claim(&self, page: &mut Page, detail: &Detail) -> Reread<()>
         ensures shown { IfOk result (λ _. PutsSome
             (IsClaimText (T.input self.now.text.now) detail.now) page.old page.new) }
         ensures error { IfErr result (OnlyIf (T.input self.now.text.now) (LacksClaim detail.now)) }

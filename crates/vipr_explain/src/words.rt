@@ -6,13 +6,12 @@ ghost use Rattle.vipr_spec.specs.Tokens.{Token, tokens};
 ghost use Rattle.vipr_explain.specs.Letters.{HasGiven};
 ghost use Rattle.vipr_explain.specs.Words.{AreLeft, BeginsToken, FindsToken, GivesToken};
 ghost use Rattle.vipr_explain.specs.Words.{HoldsStart, IsReadWhole, IsReading, ReadsInToken};
-ghost use Rattle.vipr_explain.specs.Words.{ReadsToken, kept_word, no_token};
+ghost use Rattle.vipr_explain.specs.Words.{ReadsToken, kept_word, no_token, span_of};
 
-use crate::missing::Missing;
-use crate::text::{Letters, Spot, Text};
+use crate::text::{Letters, Reread, Span, Spot, Text};
 use std::alloc::Global;
 use vipr_bytes::Source;
-use vipr_scan::{Position, is_white, step};
+use vipr_scan::{Position, TextError, is_white, step};
 
 /// How many bytes of a token are kept.
 const MOST_KEPT: usize = 64;
@@ -30,15 +29,17 @@ pub(crate) struct Words<R> {
 }
 
 impl<R: Source + Drop> Words<R> {
+    ghost use Rattle.vipr_explain.specs.Found.{Because};
+
     /// A reader at the start of a text.
-    pub(crate) fn open<T: Text<Reader = R>>(alloc: Global, text: &T) -> Result<Words<R>, Missing>
+    pub(crate) fn open<T: Text<Reader = R>>(alloc: Global, text: &T) -> Reread<Words<R>>
         ensures start { IfOk result (λ w. IfSome (T.input text.now)
             (λ i. IsReading R.input i w)) }
         ensures tokens { IfOk result (λ w. IfSome (T.input text.now)
             (λ i. AreLeft R.input i (tokens i) w)) }
         ensures empty { IfOk result (λ w. kept_word w ≡ no_token) }
         ensures error { IfErr result
-            (λ e. (e ≡ Missing.Text) × (T.input text.now ≡ None)) }
+            (λ e. (e ≡ TextError.Read) × (T.input text.now ≡ None)) }
     {
         Ok(Words {
             letters: Letters::open(text)?,
@@ -76,16 +77,16 @@ impl<R: Source + Drop> Words<R> {
     ///
     /// # Errors
     ///
-    /// `Text` if a read failed, `Memory` if a growth was refused.
-    pub(crate) fn check(&self) -> Result<(), Missing>
+    /// `Read` if a read failed, `Memory` if a growth was refused.
+    pub(crate) fn check(&self) -> Reread<()>
         ensures whole { IfOk result (λ _. IsReadWhole self.now) }
         ensures error { (i : Input) → IsReading R.input i self.now
-            → IfErr result (λ e. e ≡ Missing.Text → i.fails ≡ true) }
+            → IfErr result (λ e. Because e (i.fails ≡ true)) }
     {
         if self.letters.has_failed() {
-            Err(Missing::Text)
+            Err(TextError::Read)
         } else if self.lacks_memory {
-            Err(Missing::Memory)
+            Err(TextError::Memory)
         } else {
             Ok(())
         }
@@ -98,18 +99,14 @@ impl<R: Source + Drop> Words<R> {
         self.word.as_slice()
     }
 
-    /// How many bytes it has.
-    pub(crate) fn size(&self) -> usize
-        ensures { result ≡ self.now.size }
+    /// Its place.
+    pub(crate) fn span(&self) -> Span
+        ensures { result ≡ span_of (kept_word self.now) }
     {
-        self.size
-    }
-
-    /// The place of its first byte.
-    pub(crate) fn spot(&self) -> Spot
-        ensures { result ≡ self.now.spot }
-    {
-        self.spot
+        Span {
+            spot: self.spot,
+            size: self.size,
+        }
     }
 
     // The first byte of the next token, whose place is kept.

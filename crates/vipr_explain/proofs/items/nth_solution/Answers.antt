@@ -2,7 +2,6 @@ use Rattle.std.proofs.Common.{◌<◌, Ok, arith}
 use Rattle.vipr_spec.specs.Reading.{solution_read}
 use Rattle.vipr_scan.specs.Giving.{rest_of}
 use Rattle.vipr_cert.specs.Items.{solution_of}
-use Rattle.vipr_explain.specs.Missed.{missing_of}
 use Rattle.vipr_explain.proofs.Again.{missed_next, still_knows}
 use Rattle.vipr_explain.proofs.Lacks.{err_is, nth_first_missed, nth_then_missed}
 use Rattle.vipr_explain.proofs.items.nth_solution.Goals as goal
@@ -21,6 +20,6 @@ returns-in_err-solution-clause-error g c p knows known =
     let front = passed.read p knows known in
     let e = c.in_err-solution.field-0.0 in
     let some : 0 < mid.left = omega (arith, passed.left) in
-    err_is c.from_residual-in_err-solution.result _ c.from_residual-in_err-solution.ensures.1 (nth_then_missed p c.args.number old.left (rest_of old.rest) (rest_of mid.rest) front.0 (missing_of e) front.1
+    err_is c.from_residual-in_err-solution.result _ c.from_residual-in_err-solution.ensures.1 (nth_then_missed p c.args.number old.left (rest_of old.rest) (rest_of mid.rest) front.0 e front.1
     (missed_next solution_of (solution_read p) (λ _. Ok tt) mid c.next.new.self e some
     (c.in_err-solution.ensures.read p (still_knows old mid p passed.remembers knows) front.2)))

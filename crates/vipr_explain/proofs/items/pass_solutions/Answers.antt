@@ -4,7 +4,6 @@ use Rattle.vipr_spec.specs.Reading.{solution_read}
 use Rattle.vipr_scan.specs.Giving.{rest_of}
 use Rattle.vipr_cert.specs.Items.{solution_of}
 use Rattle.vipr_read.specs.Items.{HasNone}
-use Rattle.vipr_explain.specs.Missed.{missing_of}
 use Rattle.vipr_explain.proofs.Again.{ends, turned, passed, still_knows, remembers_both, one_missed}
 use Rattle.vipr_explain.proofs.Again.{missed_next}
 use Rattle.vipr_explain.proofs.items.pass_solutions.Goals as goal
@@ -33,7 +32,7 @@ returns-in_err-next-clause-read g c p knows known =
     let e = c.in_err-next.field-0.0 in
     let some : 0 < old.left = omega arith in
     let part = so_far.read p knows known in
-    rw (q.1, q.2) (one_missed (solution_read p) (missing_of e) part.0 (c.args.count - c.loop.counter) (c.args.count - (c.loop.counter + 1)) (rest_of old.rest) _ (omega arith)
+    rw (q.1, q.2) (one_missed (solution_read p) e part.0 (c.args.count - c.loop.counter) (c.args.count - (c.loop.counter + 1)) (rest_of old.rest) _ (omega arith)
     (missed_next solution_of (solution_read p) (λ _. Ok tt) old c.next.new.self e some (c.in_err-next.ensures.read p (still_knows c.args.solutions.now old p so_far.remembers knows) part.1))
     part.2)
 

@@ -41,5 +41,8 @@ loop-preserved g c =
           let gives = subst (λ b. ReadsToken input i so_far.others new b) c.if-not-next.false (c.next.ensures.token i so_far.others short so_far.left whole) in
           let goes = ap (is_past c.args.kind p) (sym c.greatest-end.ensures) ∙ sym c.is_past.ensures ∙ c.if-is_past.false in
           let next = next_mark input i c.args.kind c.args.wanted.now _ p c.loop.marks.items c.loop.words new so_far goes gives in
-          rw (c.pass.ensures, c.word.ensures, c.in_ok-mark.ensures, c.spot.ensures, c.size.ensures) next;
+          rw (c.pass.ensures, c.word.ensures, c.in_ok-mark.ensures, c.span.ensures) next;
     }
+
+pub returns-in_err-mark-clause-reading : goal.returns-in_err-mark-clause-reading
+returns-in_err-mark-clause-reading g c i h = c.next.ensures.reading i (c.loop.invariant.reading i h)

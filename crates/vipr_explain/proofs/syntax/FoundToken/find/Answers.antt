@@ -3,7 +3,7 @@ use Rattle.vipr_spec.specs.Tokens.{tokens}
 use Rattle.vipr_explain.specs.Syntax.{IsTokenAt}
 use Rattle.vipr_explain.specs.Words.{AreLeft, IsReading, kept_word}
 use Rattle.vipr_explain.proofs.Finding.{known_at}
-use Rattle.vipr_explain.proofs.Lacks.{err_is, if_text, only_given, only_none}
+use Rattle.vipr_explain.proofs.Lacks.{err_is, only_given, only_none}
 use Rattle.vipr_explain.proofs.syntax.FoundToken.find.Goals as goal
 
 pub returns-in_err-open-clause-error : goal.returns-in_err-open-clause-error
@@ -14,7 +14,7 @@ pub returns-in_err-check-clause-error : goal.returns-in_err-check-clause-error
 returns-in_err-check-clause-error g c =
     let m = c.in_err-check.field-0.0 in
     err_is c.from_residual-in_err-check.result _ c.from_residual-in_err-check.ensures.1 (only_given (g.T.Text.input c.args.subject.now.text.now) m (λ i. IsReading g.R.Source.input i c.in_ok-open.field-0) (λ i. i.fails ≡ true) c.in_ok-open.ensures.start
-    (λ i h. if_text m _ (c.in_err-check.ensures.error i (c.in_ok-pass_up_to.ensures.reading i h))))
+    (λ i h. c.in_err-check.ensures.error i (c.in_ok-pass_up_to.ensures.reading i h)))
 
 pub returns-clause-found : goal.returns-clause-found
 returns-clause-found g c =

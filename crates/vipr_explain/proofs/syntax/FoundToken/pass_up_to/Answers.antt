@@ -1,5 +1,5 @@
 use Rattle.std.proofs.Common.{[], ◌∷◌, ◌++◌, ap, subst, sym, arith, ◌∙◌}
-use Rattle.vipr_explain.specs.declared.text.Spot.{Spot}
+use Rattle.vipr_explain.specs.declared.text.Span.{Span}
 use Rattle.vipr_explain.specs.Words.{IsReading, IsReadWhole, ReadsToken}
 use Rattle.vipr_explain.proofs.Finding.{HasPassed, no_token_there, none_passed, one_passed}
 use Rattle.vipr_explain.proofs.Finding.{passed_word, token_there}
@@ -29,7 +29,7 @@ loop-preserved g c =
             let so_far = were.2 i short left (c.next.ensures.whole mid_sound) in
             let gives = subst (λ b. ReadsToken g.R.Source.input i so_far.others mid b) c.if-not-next.false (c.next.ensures.token i so_far.others short so_far.left mid_sound) in
             subst (λ w. HasPassed g.R.Source.input i c.args.offset (were.0 ++ word ∷ []) w) (sym c.in_ok-pass.ensures.words)
-            (one_passed g.R.Source.input i c.args.offset were.0 c.loop.self.words mid short so_far gives (omega (arith, ap (λ (s : Spot). s.offset) c.spot.ensures))),
+            (one_passed g.R.Source.input i c.args.offset were.0 c.loop.self.words mid short so_far gives (omega (arith, ap (λ (s : Span). s.spot.offset) c.span.ensures))),
       );
     }
 
@@ -45,8 +45,8 @@ returns-then-not-next-clause-found g c =
           rw c.loop.invariant.end (no_token_there g.R.Source.input i c.args.offset were.0 c.loop.self.words mid so_far none (c.next.ensures.kept c.if-not-next.true)),
     )
 
-pub returns-then-spot-offset-clause-found : goal.returns-then-spot-offset-clause-found
-returns-then-spot-offset-clause-found g c =
+pub returns-then-span-offset-clause-found : goal.returns-then-span-offset-clause-found
+returns-then-span-offset-clause-found g c =
     let were = c.loop.invariant.passed in
     let mid = c.next.new.self in (
       were.0,
@@ -54,5 +54,5 @@ returns-then-spot-offset-clause-found g c =
       λ i short left whole.
           let so_far = were.2 i short left (c.next.ensures.whole whole) in
           let gives = subst (λ b. ReadsToken g.R.Source.input i so_far.others mid b) c.if-not-next.false (c.next.ensures.token i so_far.others short so_far.left whole) in
-          token_there g.R.Source.input i c.args.offset were.0 c.loop.self.words mid short so_far gives (omega (arith, ap (λ (s : Spot). s.offset) c.spot.ensures)),
+          token_there g.R.Source.input i c.args.offset were.0 c.loop.self.words mid short so_far gives (omega (arith, ap (λ (s : Span). s.spot.offset) c.span.ensures)),
     )
