@@ -1,7 +1,8 @@
 -- The parts of a text before its derivations, one after the other
 use Rattle.std.proofs.Common.{◌≡◌, ◌<◌, ℕ, List, Ok, sym, ap, ◌∙◌, subst, Option, Result, Err}
-use Rattle.std.proofs.Common.{IfOk, IfErr}
+use Rattle.std.proofs.Common.{IfOk, IfErr, OnOk}
 use Rattle.std.specs.Option.{IsSome}
+use Rattle.std.specs.Result.{result_and}
 use Rattle.vipr_spec.specs.Certificate.{Named, Problem}
 use Rattle.vipr_spec.specs.Constraint.{Row}
 use Rattle.vipr_spec.specs.Reading.{Rest, ◌>>=◌, read_each, problem_read, solution_read}
@@ -102,3 +103,19 @@ are_items wanted text items p d d' same head kept =
       each = k.each;
       kept = k.kept;
     }
+
+-- what was kept is given if the reading passed
+pub items_kept : (o : Option Input) (wanted : List ℕ) (p : Problem) (d d' : Reader) (items : Items)
+    (r : Result (Unit {0}) TextError)
+    → IfKnown o (λ i. (head_read (text_of i) ≡ Ok ((p, d.left), rest_of d.rest)) × IsSome d.rest)
+    → p ≡ items.problem
+    → (IsSome d.rest → OnOk r (HasKeptItems p wanted d d' items.derivations.items))
+    → IfOk (result_and r (Ok items)) (λ x. IfKnown o (λ i. AreFoundItems wanted (text_of i) x))
+items_kept o wanted p d d' items (Ok u) known same kept =
+    known_by o _ (λ i. AreFoundItems wanted (text_of i) items) (λ i h. are_items wanted (text_of i) items p d d' same h.0 (kept h.1)) known
+items_kept o wanted p d d' items (Err e) known same kept = tt
+
+pub err_first : {A E : Type 0} (r : Result (Unit {0}) E) (s : Result A E) (P : E → Type 0)
+    → IfErr r P → IfErr s P → IfErr (result_and r s) P
+err_first (Ok u) s P h k = k
+err_first (Err e) s P h k = h

@@ -278,8 +278,8 @@ pub(crate) fn read_items<T: Text>(alloc: Global, text: &T, wanted: &[u32]) -> Re
         problem,
         derivations: Vec::new(alloc),
     };
-    items.keep_wanted(alloc, &mut derivations, wanted)?;
-    Ok(items)
+    let kept = items.keep_wanted(alloc, &mut derivations, wanted);
+    kept.and(Ok(items))
 }
 
 /// The greatest of indices, 0 if there is none.
