@@ -21,6 +21,7 @@ ghost use Rattle.vipr_c.specs.Written.{ReturnsText, TightensBy, form_flagged};
 
 use crate::answer::{Answer, answer_of, status};
 use crate::handed::fill;
+use crate::report::Lines;
 use crate::shown::form_flagged;
 use crate::tightened::Figures;
 use std::alloc::Global;
@@ -61,7 +62,7 @@ pub extern "C" fn vipr_report(
         × ByProfile (profile_numbered profile) (ReturnsReport text.now) result made
         × Fills made lines.old lines.new length.new }
 {
-    report::report(alloc, profile, text).hand_over(lines, length)
+    report::lines_on(alloc, Lines::Report, profile, text).hand_over(lines, length)
 }
 
 /// Writes what `vipr explain` prints of the text, in the form of `vipr_report`.
@@ -77,7 +78,7 @@ pub extern "C" fn vipr_explain(
         × ByProfile (profile_numbered profile) (ReturnsExplanation text.now) result made
         × Fills made lines.old lines.new length.new }
 {
-    report::explanation(alloc, profile, text).hand_over(lines, length)
+    report::lines_on(alloc, Lines::Explanation, profile, text).hand_over(lines, length)
 }
 
 /// Writes what `vipr show` does of the text, in its compact form unless `compact` is 0, in the form

@@ -1,16 +1,12 @@
 //! The lines of `vipr check` and `vipr explain`, with their status.
 
-ghost use Rattle.std.specs.Prelude.{◌≡◌, ◌++◌, codes, IfOk, Ok};
-ghost use Rattle.vipr_spec.specs.Verdict.{IsExplained};
-ghost use Rattle.vipr_bytes.specs.Known.{IfKnown, text_of};
+ghost use Rattle.std.specs.Prelude.{◌≡◌, IfOk, Ok};
 ghost use Rattle.vipr_rules.specs.Profile.{profile_of};
 ghost use Rattle.vipr_check.specs.Checks.{ChecksIn};
 ghost use Rattle.vipr_check.specs.Explanation.{explained_text};
-ghost use Rattle.vipr_check.specs.Run.{SaysInDetail, verdict_in};
-ghost use Rattle.vipr_check.specs.Text.{verdict_text};
 ghost use Rattle.vipr_c.specs.AnswerOf.{status_of};
-ghost use Rattle.vipr_c.specs.Handed.{ByProfile, IsExplanation, IsReport, ReturnsExplanation};
-ghost use Rattle.vipr_c.specs.Handed.{ReturnsReport, in_memory, profile_numbered};
+ghost use Rattle.vipr_c.specs.Handed.{AreLines, ByProfile, GivesDetail, IsExplanation, IsReport};
+ghost use Rattle.vipr_c.specs.Handed.{ReturnsLines, in_memory, profile_numbered, report_lines};
 
 use crate::handed::{Handed, NO_PROFILE, profile_numbered};
 use std::alloc::{AllocError, Global};
@@ -18,14 +14,33 @@ use vipr_bytes::Bytes;
 use vipr_check::{Detail, Explanation, Fault, Verdict, check_in, explain_in};
 use vipr_rules::{LiveOnly, Profile};
 
-/// The lines of the verdict on a text by the rules of the profile with this number.
-pub(crate) fn report(alloc: Global, profile: u32, text: &[u8]) -> Handed
-    ensures { ByProfile (profile_numbered profile) (ReturnsReport text.now) result.status
+/// Which lines are made.
+#[derive(Clone, Copy)]
+pub(crate) enum Lines {
+    /// Those of the verdict.
+    Report,
+    /// Those of the verdict with those of its detail.
+    Explanation,
+}
+
+/// The lines on a text by the rules of the profile with this number.
+pub(crate) fn lines_on(alloc: Global, which: Lines, profile: u32, text: &[u8]) -> Handed
+    ensures { ByProfile (profile_numbered profile) (ReturnsLines which text.now) result.status
         result.text.items }
 {
     match profile_numbered(profile) {
-        Some(profile) => Handed::or_no_memory(alloc, verdict_lines(alloc, profile, text)),
+        Some(profile) => Handed::or_no_memory(alloc, lines_by(alloc, which, profile, text)),
         None => Handed::nothing(alloc, NO_PROFILE),
+    }
+}
+
+fn lines_by(alloc: Global, which: Lines, profile: Profile, text: &[u8]) -> Result<Handed, Fault>
+    ensures { IfOk result
+        (λ lines. AreLines which text.now (profile_of profile) lines.status lines.text.items) }
+{
+    match which {
+        Lines::Report => verdict_lines(alloc, profile, text),
+        Lines::Explanation => explanation_lines(alloc, profile, text),
     }
 }
 
@@ -41,7 +56,7 @@ fn verdict_lines(alloc: Global, profile: Profile, text: &[u8]) -> Result<Handed,
 
 fn lines_of(alloc: Global, verdict: Verdict) -> Result<Handed, AllocError>
     ensures { IfOk result (λ lines. (lines.status ≡ status_of (Ok verdict))
-        × (lines.text.items ≡ verdict_text verdict ++ codes "\n")) }
+        × (lines.text.items ≡ report_lines verdict)) }
 {
     Ok(Handed {
         status: status_for(&verdict),
@@ -56,21 +71,10 @@ fn verdict_on(alloc: Global, profile: Profile, text: &[u8]) -> Result<Verdict, F
 }
 
 fn with_line_feed(alloc: Global, verdict: &Verdict) -> Result<Vec<u8>, AllocError>
-    ensures { IfOk result (λ text. text.items ≡ verdict_text verdict.now ++ codes "\n") }
+    ensures { IfOk result (λ text. text.items ≡ report_lines verdict.now) }
 {
     let lines = format!(in alloc; "{verdict}\n")?;
     Ok(lines.into_bytes())
-}
-
-/// The lines of the verdict on a text with those of its detail.
-pub(crate) fn explanation(alloc: Global, profile: u32, text: &[u8]) -> Handed
-    ensures { ByProfile (profile_numbered profile) (ReturnsExplanation text.now) result.status
-        result.text.items }
-{
-    match profile_numbered(profile) {
-        Some(profile) => Handed::or_no_memory(alloc, explanation_lines(alloc, profile, text)),
-        None => Handed::nothing(alloc, NO_PROFILE),
-    }
 }
 
 fn explanation_lines(alloc: Global, profile: Profile, text: &[u8]) -> Result<Handed, Fault>
@@ -89,9 +93,7 @@ fn explanation_lines(alloc: Global, profile: Profile, text: &[u8]) -> Result<Han
 }
 
 fn explanation_on(alloc: Global, profile: Profile, text: &[u8]) -> Result<(Verdict, Detail), Fault>
-    ensures verdict { ChecksIn (profile_of profile) (in_memory text.now) (verdict_in result) }
-    ensures detail { IfKnown (in_memory text.now)
-        (λ i. SaysInDetail (IsExplained (profile_of profile) (text_of i)) result) }
+    ensures { GivesDetail text.now (profile_of profile) result }
 {
     explain_in(alloc, profile, Bytes::new(text))
 }

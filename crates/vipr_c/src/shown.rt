@@ -1,12 +1,7 @@
 //! What `vipr show` writes.
 
-ghost use Rattle.std.specs.Prelude.{◌≡◌, IfOk};
-ghost use Rattle.vipr_spec.specs.Reading.{certificate_read};
-ghost use Rattle.vipr_spec.specs.Grammar.{Spells};
-ghost use Rattle.vipr_bytes.specs.Known.{IfKnown, IfWhole, text_of};
-ghost use Rattle.vipr_read.specs.Whole.{IsRead};
-ghost use Rattle.vipr_c.specs.Handed.{in_memory};
-ghost use Rattle.vipr_c.specs.Written.{ReturnsText, WritesWhole, form_flagged};
+ghost use Rattle.std.specs.Prelude.{◌≡◌};
+ghost use Rattle.vipr_c.specs.Written.{ReadsText, ReturnsText, WritesWhole, form_flagged};
 
 use crate::answer::{Answer, NOTHING, answer_of};
 use crate::collected::Collected;
@@ -46,9 +41,7 @@ pub(crate) fn shown(alloc: Global, form: Form, text: &[u8]) -> (Handed, Answer)
 }
 
 fn certificate_of(alloc: Global, text: &[u8]) -> Result<Certificate, TextError>
-    ensures read { IfKnown (in_memory text.now)
-        (λ i. IsRead (λ c. c) result (certificate_read (text_of i))) }
-    ensures spelled { IfWhole (in_memory text.now) (λ all. IfOk result (λ c. Spells all c)) }
+    ensures { ReadsText text.now result }
 {
     read_certificate(alloc, Bytes::new(text))
 }

@@ -4,8 +4,7 @@ ghost use Rattle.std.specs.Prelude.{◌≡◌, IfOk, Some};
 ghost use Rattle.vipr_rules.specs.Profile.{profile_of};
 ghost use Rattle.vipr_tighten.specs.Tightens.{TightensAs};
 ghost use Rattle.vipr_c.specs.Handed.{in_memory, profile_numbered};
-ghost use Rattle.vipr_c.specs.Written.{IsTightened, TightensBy, figures_of, holding};
-ghost use Rattle.vipr_c.specs.Written.{outcome_code};
+ghost use Rattle.vipr_c.specs.Written.{IsTightened, TightensBy, figures_of, holding, outcome_code};
 
 use crate::answer::answer_of;
 use crate::collected::Collected;
