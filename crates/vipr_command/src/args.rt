@@ -1,6 +1,5 @@
 //! The command line, read by `clap`.
-ghost use Rattle.std.specs.Prelude.{◌≡◌, Some, IfErr, IfOk, IfSome, IsNone, true, map};
-ghost use Rattle.std.specs.Prelude.{option_map};
+ghost use Rattle.std.specs.Prelude.{◌≡◌, Some, IfErr, IfOk, IfSome, IsNone, true, map, option_map};
 ghost use Rattle.clap.specs.Words.{FailsBy, app_of, kind_of};
 ghost use Rattle.vipr_command.specs.Args.{IsArgument, IsCommand, app_for, are_accepted, asked_by};
 ghost use Rattle.vipr_command.specs.Args.{bare, command_word, compact_rule, file_named, file_rule};
@@ -53,16 +52,23 @@ fn job_by<'a>(
     let Some(command) = task_named(name) else {
         unreachable!()
     };
-    let Some(profile) = profile_named(inner.get_str("profile")) else {
-        return Err(no_profile(alloc, commands, name, inner.get_str("profile"))?);
+    let word = inner.get_str("profile");
+    let form = form_asked(inner.get_str("compact"));
+    let is_long = is_long_asked(inner.get_str("long"));
+    let file = file_named(inner.get_str("file"));
+    let out = file_named(inner.get_str("out"));
+    // Dropped at this one place, whatever the profile is.
+    drop(matches);
+    let Some(profile) = profile_named(word) else {
+        return Err(no_profile(alloc, commands, name, word)?);
     };
     Ok(Job {
         command,
         profile,
-        form: form_asked(inner.get_str("compact")),
-        is_long: is_long_asked(inner.get_str("long")),
-        file: file_named(inner.get_str("file")),
-        out: file_named(inner.get_str("out")),
+        form,
+        is_long,
+        file,
+        out,
     })
 }
 
@@ -184,49 +190,39 @@ fn command_for<'a>(alloc: Global, task: Task) -> Result<Command<'a>, AllocError>
 fn on_file<'a>(alloc: Global, task: Task) -> Result<Command<'a>, AllocError>
     ensures { IfOk result (λ c. IsCommand c (with_file task)) }
 {
-    let CommandHelp {
-        word,
-        about,
-        example,
-    } = help_for(task);
-    Command::new(alloc, word)
+    let (about, example) = help_for(task);
+    Command::new(alloc, word_of(task))
         .about(about)
         .after_help(example)
         .arg(file(alloc))
 }
 
-/// The word of a command, and what help says of it.
-struct CommandHelp<'a> {
-    word: &'a str,
-    about: &'a str,
-    example: &'a str,
-}
-
-fn help_for<'a>(task: Task) -> CommandHelp<'a>
-    ensures { result.word.now ≡ command_word task }
+fn word_of<'a>(task: Task) -> &'a str
+    ensures { result.now ≡ command_word task }
 {
     match task {
-        Task::Check => CommandHelp {
-            word: "check",
-            about: "Checks a certificate and prints the verdict",
-            example: "Example: vipr check plan.vipr",
-        },
-        Task::Explain => CommandHelp {
-            word: "explain",
-            about: "Checks a certificate and prints the verdict with what shows it",
-            example: "Example: xz -dc plan.vipr.xz | vipr explain",
-        },
-        Task::Show => CommandHelp {
-            word: "show",
-            about: "Writes a certificate's canonical text",
-            example: "Example: vipr show plan.vipr > canonical.vipr",
-        },
-        Task::Tighten => CommandHelp {
-            word: "tighten",
-            about: "Writes a verified certificate without what its proof doesn't need",
-            example: "Example: vipr tighten plan.vipr --out short.vipr",
-        },
+        Task::Check => "check",
+        Task::Explain => "explain",
+        Task::Show => "show",
+        Task::Tighten => "tighten",
     }
+}
+
+/// What help says of a command: what it does, and an example.
+fn help_for<'a>(task: Task) -> (&'a str, &'a str) {
+    let about = match task {
+        Task::Check => "Checks a certificate and prints the verdict",
+        Task::Explain => "Checks a certificate and prints the verdict with what shows it",
+        Task::Show => "Writes a certificate's canonical text",
+        Task::Tighten => "Writes a verified certificate without what its proof doesn't need",
+    };
+    let example = match task {
+        Task::Check => "Example: vipr check plan.vipr",
+        Task::Explain => "Example: xz -dc plan.vipr.xz | vipr explain",
+        Task::Show => "Example: vipr show plan.vipr > canonical.vipr",
+        Task::Tighten => "Example: vipr tighten plan.vipr --out short.vipr",
+    };
+    (about, example)
 }
 
 fn file<'a>(alloc: Global) -> Arg<'a>
