@@ -22,7 +22,8 @@ use Rattle.vipr_write.specs.Canonical.{solution_words, heading, line_text, lines
 use Rattle.vipr_write.specs.Folded.{Begun, with_more_bytes}
 use Rattle.vipr_write.specs.Forms.{problem_lines_in, derivation_words_in, text_in}
 use Rattle.vipr_write.specs.declared.form.Form.{Form}
-use Rattle.vipr_command.specs.Spelling.{HasAppended, Respells, RespellsText}
+use Rattle.vipr_command.specs.Spelling.{Appends, HasAppended, HasBegun, Respells, RespellsText}
+use Rattle.vipr_command.specs.Spelling.{with_count}
 
 -- a fault is that of what goes on after it
 pub fails_first : {X Y : Type 0} (e : TextError) (r : Result X Fault) (f : X → Result Y Fault)
@@ -246,6 +247,35 @@ all_lines F p ss ds n m left over t1 t2 t3 t4 some no_more steps none e1 e2 e3 e
     let last : t4.bytes ≡ t3.bytes ++ lines_text (map (derivation_words_in F p.objective) ds) =
     ap (λ (b : Begun). b.bytes) e4 ∙ ap (λ f. t3.bytes ++ lines_text (map (derivation_words_in f t3.objective) ds)) form ∙ ap (λ o. t3.bytes ++ lines_text (map (derivation_words_in F o) ds)) objective in
     all_bytes F p ss ds n m left over t1.bytes t2.bytes t3.bytes t4.bytes some no_more steps none (ap (λ (b : Begun). b.bytes) e1) (ap (λ (b : Begun). b.bytes) e2) (ap (λ (b : Begun). b.bytes) e3) last
+
+-- where the problem and the solutions were read, what is answered of the derivations is answered of
+-- the whole text
+module _ (F : Form) (rest : Option Rest) (old mid steps new : Items) (t1 t2 : Begun) (begun : HasBegun F rest t1 old) where
+  pub whole_text : (r : Result Begun TextError) (listed : HasAppended (solution_read begun.problem) solution_words old mid t1 t2) → mid.left ≡ 0
+      → (IsSome mid.rest → (derivations_read begun.problem (rest_of mid.rest) ≡ Ok (steps.left, rest_of steps.rest)) × IsSome steps.rest)
+      → Appends (derivation_read begun.problem) end_read (derivation_words_in t2.form t2.objective) steps new (with_count t2 steps.left) (λ t. t) r
+      → Respells F (λ text. text.bytes) rest r
+  whole_text (Ok t4) listed none count (derived, over, ended) =
+      let p = begun.problem in
+      let t3 = with_count t2 steps.left in (
+        record { problem = p; solutions = listed.items; derivations = derived.items },
+        all_lines F p listed.items derived.items old.left steps.left mid.left new.left t1 t2 t3 t4
+            listed.counted none derived.counted over begun.lines listed.lines refl derived.lines,
+        λ known.
+            let r = begun.read known in
+            let solutions = were_read (solution_read p) solution_words old mid t1 t2 listed none r.1 in
+            let k = count (listed.known r.1) in
+            let derivations = were_read (derivation_read p) (derivation_words_in t2.form t2.objective) steps new t3 t4 derived over k.1 in
+            whole_read (rest_of rest) (rest_of old.rest) p old.left r.0 (rest_of mid.rest) listed.items solutions (rest_of steps.rest) steps.left k.0 (rest_of new.rest) derived.items derivations (ended k.1),
+      )
+  whole_text (Err e) listed none count fault = (
+    fault.0,
+    λ known.
+        let r = begun.read known in
+        let solutions = were_read (solution_read begun.problem) solution_words old mid t1 t2 listed none r.1 in
+        let k = count (listed.known r.1) in
+        derivations_fail (rest_of rest) (rest_of old.rest) begun.problem old.left r.0 (rest_of mid.rest) listed.items solutions (rest_of steps.rest) steps.left k.0 e (fault.1 k.1),
+  )
 
 -- what a source gives, as the rest that a reader starts with
 pub known : {X : Type 0} (F : Form) (bytes : X → List ℕ) (source : Option Input)

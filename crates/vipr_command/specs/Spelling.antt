@@ -41,6 +41,10 @@ abbrev pub BeginsText : {X : Type 0} → Form → (X → Begun) → (X → Items
 BeginsText form text items rest (Ok x) = HasBegun form rest (text x) (items x)
 BeginsText form text items rest (Err e) = Faults rest problem_read e
 
+-- the text with the number of derivations behind it
+abbrev pub with_count : Begun → ℕ → Begun
+with_count text n = with_more_bytes text (line_text (heading (codes "DER") n))
+
 -- these items were read, and a line was appended for each
 pub record HasAppended {Y : Type 0} (item : Rest → Read Y) (words : Y → List (List ℕ))
     (old new : Items) (before after : Begun) : Type 0 where

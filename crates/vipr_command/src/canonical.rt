@@ -6,6 +6,7 @@ ghost use Rattle.vipr_read.specs.Items.{Knows};
 ghost use Rattle.vipr_write.specs.Canonical.{solution_words};
 ghost use Rattle.vipr_write.specs.Forms.{derivation_words_in};
 ghost use Rattle.vipr_command.specs.Spelling.{BeginsText, Appends, Respells, RespellsText};
+ghost use Rattle.vipr_command.specs.Spelling.{with_count};
 
 use std::alloc::Global;
 use vipr_bytes::Source;
@@ -43,14 +44,10 @@ fn text_from<R: Source + Drop>(
     let (text, mut solutions) = problem_text(alloc, form, reader)?;
     let text = solution_lines(alloc, text, &mut solutions)?;
     let mut derivations = solutions.finish()?;
-    let text = text.derivation_count(derivations.left())?;
-    let mut derivation = Derivation::blank(alloc);
-    let lines = derivation_lines(alloc, text, &mut derivations, &mut derivation);
+    let whole = derived_text(alloc, text, &mut derivations);
     // Dropped at this one place, whatever was answered.
-    drop(derivation);
     drop(derivations);
-    let text = lines?;
-    Ok(text)
+    whole
 }
 
 // The text of the problem, up to and with the number of solutions.
@@ -88,6 +85,26 @@ fn solution_lines<R: Source>(
         text = longer?;
     }
     Ok(text)
+}
+
+// The text with the number of derivations, and with a line for each, up to the end of the text that
+// is read.
+fn derived_text<R: Source>(
+    alloc: Global,
+    text: CompactText,
+    derivations: &mut Derivations<R>,
+) -> Result<CompactText, TextError>
+    requires { derivations.old.failed ≡ false }
+    ensures { (p : ProblemMeant) → Knows derivations.old p
+        → Appends (derivation_read p) end_read (derivation_words_in text.form text.objective)
+        derivations.old derivations.new (with_count text derivations.old.left) (λ t. t) result }
+{
+    let text = text.derivation_count(derivations.left())?;
+    let mut derivation = Derivation::blank(alloc);
+    let lines = derivation_lines(alloc, text, derivations, &mut derivation);
+    // Dropped at this one place, whatever was answered.
+    drop(derivation);
+    lines
 }
 
 // The text with a line for each derivation that follows, up to the end of the text that is read.
