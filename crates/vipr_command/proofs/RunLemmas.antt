@@ -21,7 +21,7 @@ use Rattle.vipr_command.specs.Args.{are_accepted, request_of, asked_by, words_fa
 use Rattle.vipr_command.specs.Run.{AnswersError, Declines, Does, DoesJob, IsStatusFor, KnownInput}
 use Rattle.vipr_command.specs.Run.{OfInput, RunsOver, exit_status, read_from, unknown_input}
 use Rattle.vipr_command.specs.Show.{Kind, ShowsText}
-use Rattle.vipr_command.proofs.InputLemmas.{of_any}
+use Rattle.vipr_command.proofs.InputLemmas.{of_any, of_input}
 use Rattle.vipr_command.proofs.ShowLemmas.{stays}
 use Rattle.vipr_command.specs.declared.fault.CommandFault.{CommandFault}
 use Rattle.vipr_command.specs.declared.fault.CommandFault.TheVariants.{Memory, Read, Write}
@@ -140,6 +140,8 @@ module _ (j : Job) (source : Option Input) (old new : Option Output) (r : Result
 
 -- the words ask for what is done
 pub obeyed : (words : List Text) (j : Job) → asked_by words ≡ Some (request_of j)
-    → (k : KnownInput) (old new : Option Output) (r : Result ℕ CommandFault)
-    → DoesJob j (read_from (named j.file) k) old new r → RunsOver words k old new r
-obeyed words j is k old new r done = inl (j.command, j.profile, j.form, j.is_long, named j.file, named j.out, is, done)
+    → (source : Option Input) (old new : Option Output) (r : Result ℕ CommandFault)
+    → OfInput source (λ k. DoesJob j (read_from (named j.file) k) old new r)
+    → OfInput source (λ k. RunsOver words k old new r)
+obeyed words j is source old new r = of_input source (λ k. DoesJob j (read_from (named j.file) k) old new r) (λ k. RunsOver words k old new r)
+    (λ k done. inl (j.command, j.profile, j.form, j.is_long, named j.file, named j.out, is, done))

@@ -1,9 +1,9 @@
 //! The whole program, over any source and sinks in place of the standard streams.
-ghost use Rattle.std.specs.Prelude.{◌≡◌, ◌≤◌, IfOk, false, map, option_map};
+ghost use Rattle.std.specs.Prelude.{◌≡◌, ◌≤◌, IfOk, false, map};
 ghost use Rattle.clap.specs.Words.{kind_of};
 ghost use Rattle.vipr_command.specs.Args.{are_accepted};
 ghost use Rattle.vipr_command.specs.Run.{AnswersError, DoesJob, IsStatusFor, OfInput, RunsOver};
-ghost use Rattle.vipr_command.specs.Run.{read_from, unknown_input};
+ghost use Rattle.vipr_command.specs.Run.{unknown_input};
 
 use crate::args::job;
 use crate::check::print_verdict;
@@ -69,9 +69,19 @@ fn run_over<H: AllocGlobal + Files, R: Source + Drop, O: Sink, E: Write>(
     ensures runs { OfInput (R.input input) (λ k. RunsOver (map (λ w. w.now) words.now) k
         (O.output out.old) (O.output out.new) result) }
 {
-    match job(rt.alloc(), words) {
-        Ok(job) => do_job(rt, &job, input, out, err),
-        Err(error) => answer(rt.alloc(), &error, out, err),
+    let job = match job(rt.alloc(), words) {
+        Ok(job) => job,
+        Err(error) => return answer(rt.alloc(), &error, out, err),
+    };
+    match job.file {
+        None => do_task(rt, &job, input, out, err),
+        Some(path) => {
+            let done = do_task_on_file(rt, &job, path, out, err);
+            if job.is_long && done == Err(CommandFault::Read) {
+                say_why_unread(rt, path, err);
+            }
+            done
+        }
     }
 }
 
@@ -93,29 +103,6 @@ fn answer<O: Sink, E: Write>(
     }
     print(alloc, error, out)?;
     Ok(0)
-}
-
-fn do_job<H: AllocGlobal + Files, R: Source + Drop, O: Sink, E: Write>(
-    rt: &H,
-    job: &Job<'_>,
-    input: R,
-    out: &mut O,
-    err: &mut E,
-) -> Result<u8, CommandFault>
-    ensures { OfInput (R.input input) (λ k. DoesJob job.now
-        (read_from (option_map (λ s. s.now) job.now.file) k) (O.output out.old) (O.output out.new)
-        result) }
-{
-    match job.file {
-        None => do_task(rt, job, input, out, err),
-        Some(path) => {
-            let done = do_task_on_file(rt, job, path, out, err);
-            if job.is_long && done == Err(CommandFault::Read) {
-                say_why_unread(rt, path, err);
-            }
-            done
-        }
-    }
 }
 
 fn do_task_on_file<H: AllocGlobal + Files, O: Sink, E: Write>(

@@ -1,8 +1,9 @@
 use Rattle.std.proofs.Common.{map}
 use Rattle.clap.specs.Words.{kind_of}
-use Rattle.vipr_command.specs.Run.{DoesJob, RunsOver, read_from}
-use Rattle.vipr_command.proofs.InputLemmas.{of_any, of_input}
-use Rattle.vipr_command.proofs.RunLemmas.{declined, named, obeyed, wrong_words}
+use Rattle.vipr_command.specs.Run.{RunsOver}
+use Rattle.vipr_command.proofs.InputLemmas.{of_any}
+use Rattle.vipr_command.proofs.RunLemmas.{declined, done_with_file, done_with_input, obeyed}
+use Rattle.vipr_command.proofs.RunLemmas.{wrong_words}
 use Rattle.vipr_command.proofs.command.run_over.Goals as goal
 
 pub returns-in-Err-clause-usage : goal.returns-in-Err-clause-usage
@@ -17,11 +18,20 @@ returns-in-Err-clause-runs g c =
     of_any (g.R.Source.input c.args.input) (λ k. RunsOver words k old new c.answer.result)
     (λ k. declined words k c.in-Err.error old new c.answer.result c.in-Err.ensures.kinds c.answer.ensures)
 
-pub returns-in-Ok-clause-runs : goal.returns-in-Ok-clause-runs
-returns-in-Ok-clause-runs g c =
+pub returns-in-None-clause-runs : goal.returns-in-None-clause-runs
+returns-in-None-clause-runs g c =
     let words = map (λ w. w.now) c.args.words.now in
     let job = c.in-Ok.job in
+    let source = g.R.Source.input c.args.input in
     let old = g.O.Sink.output c.args.out.now in
-    let new = g.O.Sink.output c.do_job.new.out in
-    of_input (g.R.Source.input c.args.input) (λ k. DoesJob job (read_from (named job.file) k) old new c.do_job.result) (λ k. RunsOver words k old new c.do_job.result)
-    (λ k. obeyed words job c.in-Ok.ensures.ok k old new c.do_job.result) c.do_job.ensures
+    let new = g.O.Sink.output c.do_task.new.out in
+    obeyed words job c.in-Ok.ensures.ok source old new c.do_task.result (done_with_input job source old new c.do_task.result c.in-None.is c.do_task.ensures)
+
+pub returns-after-job-clause-runs : goal.returns-after-job-clause-runs
+returns-after-job-clause-runs g c =
+    let words = map (λ w. w.now) c.args.words.now in
+    let job = c.in-Ok.job in
+    let source = g.R.Source.input c.args.input in
+    let old = g.O.Sink.output c.args.out.now in
+    let new = g.O.Sink.output c.do_task_on_file-done.new.out in
+    obeyed words job c.in-Ok.ensures.ok source old new c.do_task_on_file-done.result (done_with_file job source old new c.do_task_on_file-done.result c.in-Some.path c.in-Some.is c.do_task_on_file-done.ensures)
