@@ -58,8 +58,7 @@ pub(crate) fn explain_job<H: AllocGlobal + Files, R: Source + Drop, O: Sink>(
         Some(path) if is_regular(rt, path) => {
             print_file_at_length(rt, job.profile, path, source, out)
         }
-        Some(path) => print_kept_at_length(rt.alloc(), job.profile, path, source, out),
-        None => print_kept_at_length(rt.alloc(), job.profile, "standard input", source, out),
+        _ => print_kept_at_length(rt.alloc(), job, source, out),
     }
 }
 
@@ -92,18 +91,18 @@ fn print_file_at_length<H: AllocGlobal + Files, R: Source + Drop, O: Sink>(
 /// This of a source that can be read only once: its bytes are kept while it is read.
 fn print_kept_at_length<R: Source + Drop, O: Sink>(
     alloc: Global,
-    profile: Profile,
-    name: &str,
+    job: &Job<'_>,
     source: R,
     out: &mut O,
 ) -> Result<u8, CommandFault>
-    ensures { OfInput (R.input source) (λ k. PrintsAtLength (profile_of profile) k
+    ensures { OfInput (R.input source) (λ k. PrintsAtLength (profile_of job.now.profile) k
         (O.output out.old) (O.output out.new) result) }
 {
     let mut kept = KeptBytes::new(alloc);
     let reader = Keeping::new(source, &mut kept);
-    let (verdict, detail) = explain_in(alloc, profile, reader)?;
+    let (verdict, detail) = explain_in(alloc, job.profile, reader)?;
     let text = kept.text();
+    let name = job.file.unwrap_or("standard input");
     let page = page_for(alloc, text.as_ref(), name, &verdict, &detail);
     print_with_page(alloc, &verdict, detail, page, out)
 }

@@ -19,6 +19,9 @@ pub fn print<T: Display, W: Sink>(
     ensures { Prints (T.output text.now) (W.output writer.old) (W.output writer.new) result }
 {
     let text = text.to_string(alloc)?;
-    write_bytes(writer, text.as_bytes())?;
+    let written = write_bytes(writer, text.as_bytes());
+    // Dropped at this one place, whatever was written.
+    drop(text);
+    written?;
     Ok(())
 }
