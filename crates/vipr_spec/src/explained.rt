@@ -7,8 +7,7 @@ ghost use Rattle.vipr_spec.specs.Constraint.{Profile, Row, condition};
 ghost use Rattle.vipr_spec.specs.Certificate.{Named, Problem, Derivation, Certificate, MeetsPrimal};
 ghost use Rattle.vipr_spec.specs.Certificate.{count};
 ghost use Rattle.vipr_spec.specs.Reading.{Rest, Fault, problem_read, solution_read};
-ghost use Rattle.vipr_spec.specs.Reading.{derivations_read};
-ghost use Rattle.vipr_spec.specs.Reading.{derivation_read, end_read};
+ghost use Rattle.vipr_spec.specs.Reading.{derivations_read, derivation_read, end_read};
 ghost use Rattle.vipr_spec.specs.Steps.{with_next, StepTest, PassesStep, step_tests, FirstFailing};
 ghost use Rattle.vipr_spec.specs.Steps.{StepDetail, Shows};
 ghost use Rattle.vipr_spec.specs.Tests.{SolutionTest, PassesSolution, solution_tests, of_solution};
@@ -17,8 +16,7 @@ ghost use Rattle.vipr_spec.specs.Tests.{none};
 ghost use Rattle.vipr_spec.specs.Tests.{step, no_proof, no_primal, solution_detail, goal_needed_by};
 ghost use Rattle.vipr_spec.specs.Tests.{finite_primal};
 ghost use Rattle.vipr_spec.specs.Verdict.{Report, Reports, Answer, verified, answer_of_test};
-ghost use Rattle.vipr_spec.specs.Verdict.{IsAnswer};
-ghost use Rattle.vipr_spec.specs.Verdict.{Explained, IsExplained};
+ghost use Rattle.vipr_spec.specs.Verdict.{IsAnswer, Explained, IsExplained};
 ghost use Rattle.vipr_spec.specs.Progress.{derivations_from, solutions_from};
 
 /// The answer is the first part of an explained one, and an answer has one detail at most.

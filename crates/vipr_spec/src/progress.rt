@@ -12,8 +12,7 @@ ghost use Rattle.vipr_spec.specs.Steps.{FirstFailing};
 ghost use Rattle.vipr_spec.specs.Tests.{SolutionTest, PassesSolution, solution_tests, of_solution};
 ghost use Rattle.vipr_spec.specs.Tests.{spelled, meets_primal, of_step, meets_dual, Passes, Detail};
 ghost use Rattle.vipr_spec.specs.Verdict.{Report, Reports, Answer, verified, answer_of_test};
-ghost use Rattle.vipr_spec.specs.Verdict.{Answers};
-ghost use Rattle.vipr_spec.specs.Verdict.{IsAnswer, IsExplained};
+ghost use Rattle.vipr_spec.specs.Verdict.{Answers, IsAnswer, IsExplained};
 ghost use Rattle.vipr_spec.specs.Progress.{derivations_from, solutions_from};
 
 /// The problem comes first.

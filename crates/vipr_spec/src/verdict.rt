@@ -10,8 +10,7 @@ ghost use Rattle.vipr_spec.specs.Soundness.{IsShown};
 ghost use Rattle.vipr_spec.specs.Steps.{FirstFailing};
 ghost use Rattle.vipr_spec.specs.Tests.{Test, Passes};
 ghost use Rattle.vipr_spec.specs.Verdict.{found_in, Report, Reports, Refusal, Answer, refuses};
-ghost use Rattle.vipr_spec.specs.Verdict.{verified};
-ghost use Rattle.vipr_spec.specs.Verdict.{IsAnswer};
+ghost use Rattle.vipr_spec.specs.Verdict.{verified, IsAnswer};
 ghost use Rattle.vipr_spec.specs.RefusalLaws.{EndsAt, IsRefusedBy};
 ghost use Rattle.vipr_spec.specs.Causes as cause;
 
