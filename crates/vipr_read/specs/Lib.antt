@@ -6,3 +6,4 @@ pub mod ItemsCode
 pub mod Whole
 pub mod Sections
 pub mod Limits
+pub mod Deriving

@@ -57,7 +57,10 @@ pub fn read_certificate<R: Source + Drop>(
 }
 
 // The certificate that the parser is at the start of.
-fn whole<R: Source + Drop>(alloc: Global, mut parser: Parser<R>) -> Result<Certificate, ScanError>
+fn whole<R: Source + Drop>(
+    alloc: Global,
+    mut parser: Parser<Scanner<R>>,
+) -> Result<Certificate, ScanError>
     ensures { IsSome parser.rest
         → IsParsed (λ c. c) result (certificate_read (rest_of parser.rest)) }
 {
@@ -65,7 +68,10 @@ fn whole<R: Source + Drop>(alloc: Global, mut parser: Parser<R>) -> Result<Certi
 }
 
 // The certificate that the caller's parser reads.
-fn parts<R: Source>(alloc: Global, parser: &mut Parser<R>) -> Result<Certificate, ScanError>
+fn parts<R: Source>(
+    alloc: Global,
+    parser: &mut Parser<Scanner<R>>,
+) -> Result<Certificate, ScanError>
     ensures { IsSome parser.old.rest
         → IsParsed (λ c. c) result (certificate_read (rest_of parser.old.rest)) }
 {
@@ -77,7 +83,7 @@ fn parts<R: Source>(alloc: Global, parser: &mut Parser<R>) -> Result<Certificate
 // The solutions, of which there are so many, and the derivations.
 fn items<R: Source>(
     alloc: Global,
-    parser: &mut Parser<R>,
+    parser: &mut Parser<Scanner<R>>,
     problem: &Problem,
     count: u32,
 ) -> Result<(Vec<Named<Solution>>, Vec<Derivation>), ScanError>
@@ -96,7 +102,7 @@ fn items<R: Source>(
 // The derivations, and the end of the text behind them.
 fn derivations<R: Source>(
     alloc: Global,
-    parser: &mut Parser<R>,
+    parser: &mut Parser<Scanner<R>>,
     problem: &Problem,
 ) -> Result<Vec<Derivation>, ScanError>
     requires { parser.old.variables ≡ variables problem.now }

@@ -6,16 +6,15 @@ ghost use Rattle.vipr_spec.specs.Certificate.{Named as NamedMeant, Derivation as
 ghost use Rattle.vipr_spec.specs.Reading.{Rest, Read, read_each, solution_read, derivation_read};
 ghost use Rattle.vipr_spec.specs.Shape.{RowFits, SolutionShape, DerivationShape, DerivationFits};
 ghost use Rattle.vipr_cert.specs.Items.{solution_of, derivation_of};
-ghost use Rattle.vipr_read.specs.Parsing.{Parses};
+ghost use Rattle.vipr_read.specs.Parsing.{Parses, Retains};
 ghost use Rattle.vipr_read.specs.Limits.{CanWriteRow};
 
 use crate::parser::Parser;
 use crate::repeat::push_among;
 use std::alloc::Global;
-use vipr_bytes::Source;
 use vipr_cert::{Derivation, Named};
 use vipr_linear::{Row, Solution};
-use vipr_scan::ScanError;
+use vipr_scan::{Scan, ScanError};
 
 /// A kind of item, as a parser reads it if the problem is known.
 pub(crate) trait ItemKind {
@@ -34,16 +33,16 @@ pub(crate) trait ItemKind {
     /// The numbers of each can be written.
     ghost fits: { Meant → Type 0 };
 
-    fn parse<R: Source>(
+    fn parse<S: Scan>(
         &self,
-        parser: &mut Parser<R>,
+        parser: &mut Parser<S>,
         alloc: Global,
         objective: &Row,
     ) -> Result<Self::Value, ScanError>
         requires objective { CanWriteRow parser.old.variables objective.now }
         ensures read { (p : ProblemMeant) → parser.old.variables ≡ variables_in p
             → objective.now ≡ p.objective → Parses view (reading p) parser.old parser.new result }
-        ensures variables { parser.new.variables ≡ parser.old.variables }
+        ensures kept { Retains parser.old parser.new }
         ensures item { IfOk result
             (λ x. shape parser.old.variables (view x) × fits (view x)) };
 }
@@ -64,9 +63,9 @@ impl ItemKind for Listed {
 
     ghost fits = { λ s. RowFits s.item };
 
-    fn parse<R: Source>(
+    fn parse<S: Scan>(
         &self,
-        parser: &mut Parser<R>,
+        parser: &mut Parser<S>,
         alloc: Global,
         _objective: &Row,
     ) -> Result<Named<Solution>, ScanError> {
@@ -90,9 +89,9 @@ impl ItemKind for Derived {
 
     ghost fits = { DerivationFits };
 
-    fn parse<R: Source>(
+    fn parse<S: Scan>(
         &self,
-        parser: &mut Parser<R>,
+        parser: &mut Parser<S>,
         alloc: Global,
         objective: &Row,
     ) -> Result<Derivation, ScanError> {
@@ -101,8 +100,8 @@ impl ItemKind for Derived {
 }
 
 /// So many items in a row.
-pub(crate) fn all<R: Source, I: ItemKind>(
-    parser: &mut Parser<R>,
+pub(crate) fn all<S: Scan, I: ItemKind>(
+    parser: &mut Parser<S>,
     alloc: Global,
     item: &I,
     objective: &Row,
@@ -112,7 +111,7 @@ pub(crate) fn all<R: Source, I: ItemKind>(
     ensures read { (p : ProblemMeant) → parser.old.variables ≡ variables_in p
         → objective.now ≡ p.objective → Parses (λ v. map I.view v.items)
         (read_each (I.reading p) count) parser.old parser.new result }
-    ensures variables { parser.new.variables ≡ parser.old.variables }
+    ensures kept { Retains parser.old parser.new }
     ensures count { IfOk result (λ v. length v.items ≡ count) }
     ensures items { IfOk result (λ v. All (I.shape parser.old.variables) (map I.view v.items)
         × All I.fits (map I.view v.items)) }

@@ -8,8 +8,7 @@ ghost use Rattle.std.specs.Prelude.{IsErrOf, IsSome, None, if◌then◌else◌};
 ghost use Rattle.vipr_spec.specs.Certificate.{Problem as ProblemMeant};
 ghost use Rattle.vipr_spec.specs.Reading.{solution_read, derivations_read, derivation_read};
 ghost use Rattle.vipr_spec.specs.Reading.{end_read};
-ghost use Rattle.vipr_spec.specs.Shape.{RowFits, SolutionShape, DerivationShape};
-ghost use Rattle.vipr_spec.specs.Shape.{DerivationFits};
+ghost use Rattle.vipr_spec.specs.Shape.{RowFits, SolutionShape, DerivationShape, DerivationFits};
 ghost use Rattle.vipr_cert.specs.Items.{solution_of, derivation_of};
 ghost use Rattle.vipr_scan.specs.Giving.{rest_of};
 ghost use Rattle.vipr_read.specs.Items.{Items, Knows, Remembers, HasNone, HasEnded, Moves};
@@ -18,21 +17,23 @@ ghost use Rattle.vipr_read.specs.ItemsCode.{items_code};
 ghost use Rattle.vipr_read.specs.Limits.{CanWriteRow};
 
 use crate::item::{Derived, ItemKind, Listed};
-use crate::parser::Parser;
+use crate::parser::{Parser, likely_bytes};
 use std::alloc::Global;
 use std::marker::Model;
 use vipr_bytes::Source;
 use vipr_cert::{Derivation, Named};
 use vipr_linear::{Row, Solution};
-use vipr_scan::TextError;
+use vipr_scan::{Scanner, TextError};
 
 /// Reads items of either kind, if the problem is known.
 #[derive(Drop)]
 struct ItemReader<R: Source> {
-    parser: Parser<R>,
+    parser: Parser<Scanner<R>>,
     left: u32,
     constraints: u32,
     objective: Row,
+    /// How many bytes at hand are worth a try to read a derivation from them alone.
+    wanted: usize,
     /// Whether an error came.
     failed: bool,
 }
@@ -105,7 +106,10 @@ impl<R: Source> ItemReader<R> {
         if left == 0 {
             return Ok(false);
         }
-        match self.parser.derivation_into(alloc, &self.objective, step) {
+        match self
+            .parser
+            .next_derivation(alloc, &self.objective, step, &mut self.wanted)
+        {
             Ok(()) => {
                 self.left = left - 1;
                 Ok(true)
@@ -135,7 +139,7 @@ impl<R: Source> Model for Solutions<R> {
 impl<R: Source> Solutions<R> {
     /// The solutions of which so many are to come, if so much is known of the problem.
     pub(crate) fn new(
-        parser: Parser<R>,
+        parser: Parser<Scanner<R>>,
         left: u32,
         constraints: u32,
         objective: Row,
@@ -156,6 +160,7 @@ impl<R: Source> Solutions<R> {
                 left,
                 constraints,
                 objective,
+                wanted: likely_bytes(0),
                 failed: false,
             },
         }

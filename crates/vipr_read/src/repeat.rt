@@ -6,8 +6,7 @@ ghost use Rattle.vipr_read.specs.Parsing.{Parses};
 
 use crate::parser::Parser;
 use std::alloc::{AllocError, Global};
-use vipr_bytes::Source;
-use vipr_scan::{ScanError, TokenKind};
+use vipr_scan::{Scan, ScanError, TokenKind};
 
 /// A part of a certificate, as a parser reads it if so many variables are known.
 pub(crate) trait Part {
@@ -23,9 +22,9 @@ pub(crate) trait Part {
     /// What is so of each part, whether or not the source's bytes are known.
     ghost shape: { Self → ℕ → Self.Value → Type 0 } = { λ _ _ _. ⊤ };
 
-    fn parse<R: Source>(
+    fn parse<S: Scan>(
         &self,
-        parser: &mut Parser<R>,
+        parser: &mut Parser<S>,
         alloc: Global,
     ) -> Result<Self::Value, ScanError>
         ensures read { Parses view (reading self.now parser.old.variables) parser.old parser.new
@@ -48,9 +47,9 @@ impl<K: TokenKind> Part for One<K> {
 
     ghost shape = { λ one _ x. K.bounds one.0 x };
 
-    fn parse<R: Source>(
+    fn parse<S: Scan>(
         &self,
-        parser: &mut Parser<R>,
+        parser: &mut Parser<S>,
         _alloc: Global,
     ) -> Result<K::Value, ScanError> {
         parser.take(&self.0)
@@ -94,8 +93,8 @@ fn widen<T: Drop>(alloc: Global, list: &mut Vec<T>, count: u32) -> Result<(), Al
 }
 
 /// So many parts in a row.
-pub(crate) fn many<R: Source, P: Part>(
-    parser: &mut Parser<R>,
+pub(crate) fn many<S: Scan, P: Part>(
+    parser: &mut Parser<S>,
     alloc: Global,
     part: &P,
     count: u32,
@@ -112,8 +111,8 @@ pub(crate) fn many<R: Source, P: Part>(
 
 /// So many parts in a row, put into an empty list.
 #[inline(always)]
-pub(crate) fn many_into<R: Source, P: Part>(
-    parser: &mut Parser<R>,
+pub(crate) fn many_into<S: Scan, P: Part>(
+    parser: &mut Parser<S>,
     alloc: Global,
     part: &P,
     count: u32,

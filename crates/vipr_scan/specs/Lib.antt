@@ -4,3 +4,6 @@ pub mod Faults
 pub mod Giving
 pub mod Meaning
 pub mod Tokens
+pub mod Hand
+pub mod Scanning
+pub mod Cursor

@@ -4,16 +4,20 @@
 mod buffer;
 mod bytes;
 pub mod cause;
+mod cursor;
 mod error;
 mod kind;
 mod place;
+mod scan;
 mod scanner;
 mod tokens;
 mod window;
 
 pub use bytes::{is_white, run_end};
+pub use cursor::Cursor;
 pub use error::{ScanError, TextError};
 pub use kind::{TokenKind, Unfit};
 pub use place::{Position, step};
+pub use scan::Scan;
 pub use scanner::Scanner;
 pub use tokens::{Token, Tokens};

@@ -29,10 +29,10 @@ pub(crate) struct Found {
 pub(crate) struct Window<R> {
     source: R,
     pub(crate) buf: Box<[u8; BUFFER_BYTES]>,
-    start: usize,
+    pub(crate) start: usize,
     end: usize,
     /// The end of the bytes in which a token may begin: none do at the front of the text.
-    ready: usize,
+    pub(crate) ready: usize,
     /// The offset of the first byte of the buffer in the text.
     offset: u64,
     place: Position,
@@ -59,6 +59,7 @@ impl<R: Source> Window<R> {
     ghost use Rattle.std.specs.Io.BufRead.{Rests};
     ghost use Rattle.vipr_scan.specs.contracts.window.Window.{the_row};
     ghost use Rattle.vipr_scan.specs.Places.{tokens_in};
+    ghost use Rattle.vipr_scan.specs.Hand.{at_hand, hand_of, rest_behind};
     ghost use Rattle.vipr_scan.specs.View.{unread, input_left, rest_of_window, rounds, Keeps};
     ghost use Rattle.vipr_scan.specs.View.{IsOver, front_offset};
     ghost use Rattle.vipr_scan.specs.View.{IsAtToken, view_of_found, next_answer, next_left};
@@ -157,6 +158,25 @@ impl<R: Source> Window<R> {
         let bytes = &self.buf[self.start..self.ready];
         let n = white(bytes);
         (n, &bytes[n..])
+    }
+
+    /// The bytes in which a token may begin.
+    #[inline(always)]
+    pub(crate) fn hand(&self) -> &[u8]
+        ensures { result.now ≡ at_hand self.now }
+    {
+        &self.buf[self.start..self.ready]
+    }
+
+    /// Goes to the place at which so many of the bytes at hand are left.
+    #[inline(always)]
+    pub(crate) fn go_to(&mut self, left: usize)
+        requires { left ≤ length (at_hand self.old) }
+        ensures { rest_of_window R.input self.new
+            ≡ rest_behind (hand_of R.input self.old) (length (at_hand self.old) - left) }
+    {
+        let passed = self.hand().len() - left;
+        self.start += passed;
     }
 
     /// Takes white space, the token behind it, of that many bytes, and the byte that ends it.

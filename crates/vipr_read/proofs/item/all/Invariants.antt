@@ -4,12 +4,12 @@ use Rattle.std.specs.List.{All}
 use Rattle.vipr_spec.specs.Certificate.{Problem, variables as variables_in}
 use Rattle.vipr_spec.specs.Reading.{read_each}
 use Rattle.vipr_scan.specs.Giving.{rest_of}
-use Rattle.vipr_read.specs.Parsing.{with_front}
+use Rattle.vipr_read.specs.Parsing.{Retains, with_front}
 use Rattle.vipr_read.proofs.item.all.Given as goal
 
 abbrev pub invariant-loop : goal.invariant-loop
 invariant-loop g l = record {
-  variables : l.parser.variables ≡ l.initial.parser.variables;
+  kept : Retains l.initial.parser l.parser;
   so_many : length l.items.items ≡ l.counter;
   shape : All (g.I.ItemKind.shape l.initial.parser.variables) (map g.I.ItemKind.view l.items.items);
   fits : All g.I.ItemKind.fits (map g.I.ItemKind.view l.items.items);

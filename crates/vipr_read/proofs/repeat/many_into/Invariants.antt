@@ -3,12 +3,12 @@ use Rattle.std.specs.Option.{IsSome}
 use Rattle.std.specs.List.{All}
 use Rattle.vipr_spec.specs.Reading.{read_each}
 use Rattle.vipr_scan.specs.Giving.{rest_of}
-use Rattle.vipr_read.specs.Parsing.{with_front}
+use Rattle.vipr_read.specs.Parsing.{Retains, with_front}
 use Rattle.vipr_read.proofs.repeat.many_into.Given as goal
 
 abbrev pub invariant-loop : goal.invariant-loop
 invariant-loop g l = record {
-  variables : l.parser.variables ≡ l.initial.parser.variables;
+  kept : Retains l.initial.parser l.parser;
   so_many : length l.parts.items ≡ l.counter;
   shape : All (g.P.Part.shape l.part l.initial.parser.variables) l.parts.items;
   known : IsSome l.initial.parser.rest → IsSome l.parser.rest;

@@ -1,6 +1,6 @@
-use Rattle.std.proofs.Common.{◌∙◌}
 use Rattle.std.proofs.lemmas.Result.{err_from_is_err_and}
 use Rattle.vipr_spec.specs.Reading.{derivation_read}
+use Rattle.vipr_read.proofs.Keeping.{kept_on}
 use Rattle.vipr_read.proofs.Whole.{fails_first}
 use Rattle.vipr_read.proofs.parser.Parser.derivation_into.Goals as goal
 
@@ -18,6 +18,6 @@ returns-in_err-reason_into-clause-read g c p variables objective =
     let stated = c.in_ok-stated_into.ensures.read in
     let reason = c.in_err-reason_into.ensures.read in
     rw (q.1, q.2) (
-      reason.0 ∙ stated.0,
+      kept_on _ _ _ stated.0 reason.0,
       λ known. rw (← variables, ← objective, (stated.1 known).0) (fails_first c.in_err-reason_into.field-0.0 _ _ (reason.1 (stated.1 known).1)),
     )

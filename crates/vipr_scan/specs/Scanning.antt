@@ -1,0 +1,14 @@
+-- What a scanner has left, and what of it is at hand
+use Rattle.std.specs.Prelude.{Option}
+use Rattle.vipr_spec.specs.Reading.{Rest}
+use Rattle.vipr_spec.specs.Input.{Input}
+use Rattle.vipr_scan.specs.Hand.{Hand, hand_of}
+use Rattle.vipr_scan.specs.View.{rest_of_window}
+use Rattle.vipr_scan.specs.declared.window.Window.{Window}
+
+pub record Scanning : Type 0 where
+  pub rest : Option Rest
+  pub hand : Hand
+
+abbrev pub scanning_of : {R : Type 0} → (R → Option Input) → Window R → Scanning
+scanning_of input t = record { rest = rest_of_window input t; hand = hand_of input t }
