@@ -13,6 +13,11 @@ pub record IsReduced (p : ℤ) (q : ℕ) : Type 0 where
   pub numer_bounded : unsigned_abs p ≤ most
   pub denom_bounded : q ≤ most
 
+-- p / q and r / s are
+pub record AreReduced (p : ℤ) (q : ℕ) (r : ℤ) (s : ℕ) : Type 0 where
+  pub left : IsReduced p q
+  pub right : IsReduced r s
+
 -- both are words of 64 bits with a sign
 pub record AreWords (p : ℤ) (q : ℕ) : Type 0 where
   pub numer : FitsSigned w64 p

@@ -3,7 +3,7 @@ ghost use Rattle.std.specs.Prelude.{◌≡◌, ◌↔◌, ◌<◌, ◌≤◌, �
 ghost use Rattle.std.specs.Prelude.{IsFalse, MatchOption, OnOk, OnErr, unsigned_abs, FitsSigned};
 ghost use Rattle.std.specs.Int.{w64};
 ghost use Rattle.vipr_spec.specs.Fraction.{over, zero_ℚ, ◌+ℚ◌, ◌*ℚ◌, SumFits, ProductFits};
-ghost use Rattle.vipr_frac.specs.Parts.{AddsProduct, IsPartial, IsReduced, IsWordDenom};
+ghost use Rattle.vipr_frac.specs.Parts.{AddsProduct, AreReduced, IsPartial, IsWordDenom};
 ghost use Rattle.vipr_frac.specs.Parts.{PutsOrKeeps};
 
 use crate::frac::{Frac, Overflow, of_parts, reduced_words};
@@ -158,8 +158,7 @@ fn put_mixed(sum: &mut Partial, p: i64, q: u64, r: i64, s: u64) -> bool
 // The product of two fractions, if its parts are words of 64 bits.
 #[inline(always)]
 fn word_product(p: i128, q: u128, r: i128, s: u128) -> Option<(i64, u64)>
-    requires left { IsReduced p q }
-    requires right { IsReduced r s }
+    requires { AreReduced p q r s }
     ensures fits { IsSome result → ProductFits (over p q) (over r s) }
     ensures product { IfSome result (λ t. over t.0 t.1 ≡ over p q *ℚ over r s) }
     ensures some { IfSome result (λ t. 0 < t.1) }
@@ -174,8 +173,7 @@ fn word_product(p: i128, q: u128, r: i128, s: u128) -> Option<(i64, u64)>
 // stays as it was.
 #[inline(always)]
 fn add_word_product(sum: &mut Partial, p: i128, q: u128, r: i128, s: u128) -> bool
-    requires left { IsReduced p q }
-    requires right { IsReduced r s }
+    requires { AreReduced p q r s }
     ensures product_fits { IsTrue result → ProductFits (over p q) (over r s) }
     ensures sum_fits { IsTrue result → SumFits sum.old (over p q *ℚ over r s) }
     ensures sum { IsTrue result → sum.new ≡ sum.old +ℚ over p q *ℚ over r s }
@@ -259,8 +257,7 @@ impl Partial {
 // Adds the product of p / q and r / s, by words of 64 bits if they hold it.
 #[inline(never)]
 fn add_long(sum: &mut Partial, p: i128, q: u128, r: i128, s: u128) -> Result<(), Overflow>
-    requires left { IsReduced p q }
-    requires right { IsReduced r s }
+    requires { AreReduced p q r s }
     ensures { AddsProduct (over p q) (over r s) sum.old sum.new result }
 {
     if add_word_product(sum, p, q, r, s) {
@@ -272,8 +269,7 @@ fn add_long(sum: &mut Partial, p: i128, q: u128, r: i128, s: u128) -> Result<(),
 // Adds the product of p / q and r / s, in lowest terms all the way.
 #[inline(never)]
 fn add_exact(sum: &mut Partial, p: i128, q: u128, r: i128, s: u128) -> Result<(), Overflow>
-    requires left { IsReduced p q }
-    requires right { IsReduced r s }
+    requires { AreReduced p q r s }
     ensures { AddsProduct (over p q) (over r s) sum.old sum.new result }
 {
     let exact = exact_sum(sum.value(), of_parts(p, q), of_parts(r, s))?;
