@@ -9,6 +9,7 @@ ghost use Rattle.std.specs.Prelude.{◌≤ℤ◌, unsigned_abs, int_div, ◌↔�
 ghost use Rattle.std.specs.Prelude.{IsSome, IfSome, FitsSigned};
 ghost use Rattle.std.specs.Int.{w128};
 ghost use Rattle.std.specs.Ordering.{nat_cmp, int_cmp};
+ghost use Rattle.std.specs.Ordering.{int_eq};
 ghost use Rattle.vipr_spec.specs.Fraction.{most, over, whole, zero_ℚ, neg_ℚ, ◌+ℚ◌, ◌*ℚ◌, IsBounded};
 ghost use Rattle.vipr_spec.specs.Fraction.{IsWhole, SumFits, ProductFits};
 ghost use Rattle.vipr_spec.specs.FractionOrder.{IsFloor, IsCeil, eq_ℚ};
@@ -444,6 +445,14 @@ impl Frac {
         ensures bounded { IsBounded self }
     {
         self.parts().1 as i128
+    }
+
+    /// Whether it is 0.
+    pub fn is_zero(self) -> bool
+        ensures zero { result ≡ int_eq self.numer (pos 0) }
+        ensures bounded { IsBounded self }
+    {
+        self.numer() == 0
     }
 
     /// The fraction with the other sign.

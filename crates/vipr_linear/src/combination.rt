@@ -23,7 +23,7 @@ use crate::constraint::{Constraint, Sense, compares};
 use crate::ints::Ints;
 use crate::places::Places;
 use crate::rounding::{is_whole_row, rounded_rhs};
-use crate::row::{Row, Solution, is_zero};
+use crate::row::{Row, Solution};
 use crate::values::value_in;
 use std::alloc::{AllocError, Global};
 use std::cmp::Ordering;
@@ -137,7 +137,7 @@ impl Combination {
             self.is_spent = true;
             return Err(CombError::MixedSigns);
         };
-        if is_zero(multiplier) {
+        if multiplier.is_zero() {
             return Ok(());
         }
         match add_multiple(&mut self.places, &mut self.rhs, constraint, multiplier) {

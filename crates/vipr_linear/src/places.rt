@@ -13,7 +13,7 @@ ghost use Rattle.vipr_linear.specs.Row.{AreEntries};
 ghost use Rattle.vipr_linear.specs.Touched.{Touching, CoversNonzero, HasRowEntries};
 ghost use Rattle.vipr_linear.specs.Touched.{nonzero_entries};
 
-use crate::row::{Row, is_zero};
+use crate::row::Row;
 use std::alloc::{AllocError, Global};
 use std::marker::Model;
 use vipr_frac::{Frac, Overflow, Partial};
@@ -243,7 +243,7 @@ fn nonzero_sums(
     let mut entries = Vec::with_capacity(alloc, places.len())?;
     for variable in places {
         let sum = sums[*variable as usize].value();
-        if !is_zero(sum) {
+        if !sum.is_zero() {
             entries.push((*variable, sum))?;
         }
     }

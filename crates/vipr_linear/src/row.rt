@@ -112,7 +112,7 @@ impl Row {
         ensures row { result ≡ row_of ((variable, coefficient) ∷ []) }
         ensures fits { RowFits result }
     {
-        if is_zero(coefficient) {
+        if coefficient.is_zero() {
             return Row {
                 kept: RowEntries::Own(Vec::new(alloc)),
             };
@@ -129,7 +129,7 @@ impl Row {
         ensures fits { RowFits self.new }
     {
         match &mut self.kept {
-            RowEntries::One(entry) if !is_zero(coefficient) => *entry = (variable, coefficient),
+            RowEntries::One(entry) if !coefficient.is_zero() => *entry = (variable, coefficient),
             _ => self.set_one_anew(alloc, variable, coefficient),
         }
     }
@@ -299,13 +299,5 @@ fn drop_zeros(pairs: &mut Vec<(u32, Frac)>)
     ensures kept { pairs.new.items ≡ filter is_nonzero pairs.old.items }
     ensures bounded { All (λ p. IsBounded p.1) pairs.new.items }
 {
-    pairs.retain(|pair| !is_zero(pair.1));
-}
-
-/// Whether a fraction is 0.
-pub(crate) fn is_zero(x: Frac) -> bool
-    ensures zero { result ≡ int_eq x.numer (pos 0) }
-    ensures bounded { IsBounded x }
-{
-    x.numer() == 0
+    pairs.retain(|pair| !pair.1.is_zero());
 }

@@ -6,8 +6,10 @@ use Rattle.vipr_spec.specs.Reading.{Rest, end_read}
 use Rattle.vipr_spec.specs.Shape.{DerivationShape, DerivationFits}
 use Rattle.vipr_spec.specs.Soundness.{IsShown}
 use Rattle.vipr_spec.specs.Tests.{Detail}
-use Rattle.vipr_spec.specs.Verdict.{Found, Answer, Reports, verified, Explained}
+use Rattle.vipr_spec.specs.Input.{Input}
+use Rattle.vipr_spec.specs.Verdict.{Found, found_in, Answer, Reports, verified, Explained}
 use Rattle.vipr_spec.specs.Progress.{solutions_from, derivations_from}
+use Rattle.vipr_bytes.specs.Known.{text_of}
 use Rattle.vipr_scan.specs.Giving.{rest_of}
 use Rattle.vipr_cert.specs.Items.{solution_of}
 use Rattle.vipr_read.specs.Items.{Items}
@@ -26,6 +28,10 @@ use Rattle.vipr_write.specs.Steps.{AreKept, AreStepsOf}
 use Rattle.vipr_tighten.specs.declared.proof_reader.KeptProof.{KeptProof}
 
 -- ---- what is answered
+
+-- what is found in the text that an input is
+abbrev pub found_by : Input → Found
+found_by i = found_in (text_of i)
 
 -- this is the answer for what was found in a text, with its detail
 abbrev pub HasAnswer : Profile → Found → Answer → Type 0

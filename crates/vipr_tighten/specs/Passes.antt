@@ -2,9 +2,12 @@
 -- passes over them
 use Rattle.std.specs.Prelude.{◌≡◌, ℕ, ◌+◌, ◌-◌, ◌<◌, ◌||◌, Bool, false, nat_lt, if◌then◌else◌}
 use Rattle.std.specs.Prelude.{List, [], ◌∷◌, ◌++◌, length, map, take, drop, slice_index_or}
-use Rattle.std.specs.Prelude.{Option, Some, None}
+use Rattle.std.specs.Prelude.{Option, Some, None, IfSome}
 use Rattle.vipr_spec.specs.Constraint.{Constraint}
 use Rattle.vipr_spec.specs.Certificate.{Named, Reason, Derivation, Certificate, NamesEarlier}
+use Rattle.vipr_spec.specs.Certificate.{count}
+use Rattle.vipr_spec.specs.Shape.{CanWrite}
+use Rattle.vipr_spec.specs.Steps.{RefersBack}
 use Rattle.vipr_spec.specs.Tightened.{is_marked, refers_to, referred_by, with_new_indices}
 use Rattle.vipr_write.specs.StepReasons.{kept_reason_of}
 use Rattle.vipr_write.specs.Steps.{step_of}
@@ -12,12 +15,22 @@ use Rattle.vipr_write.specs.declared.statements.Step.{Step}
 
 -- ---- the steps
 
+-- a constraint with its name, as a view of what is kept of a step gives it
+abbrev pub NamedConstraint : Type 0
+NamedConstraint = Named Constraint
+
 -- The steps are the derivations of the certificate c, of which the first has the index `first`,
 -- if `view` reads the names and the constraints that are kept of them.
-pub record StandFor {S : Type 0} (steps : List (Step S)) (view : S → Named Constraint) (first : ℕ)
+pub record StandFor {S : Type 0} (steps : List (Step S)) (view : S → NamedConstraint) (first : ℕ)
     (c : Certificate) : Type 0 where
   pub first_is : length c.problem.constraints ≡ first
   pub those : map (step_of view) steps ≡ c.derivations
+
+-- it can be written, refers back, and has the goal
+pub record CanTighten (c : Certificate) (goal : Option ℕ) : Type 0 where
+  pub writes : CanWrite c
+  pub back : RefersBack c
+  pub named : IfSome goal (λ g. g < count c)
 
 -- the derivations of the certificate c, of which the first has the index `first`
 pub record AreDerivationsOf (c : Certificate) (first : ℕ) (ds : List Derivation) : Type 0 where
@@ -61,7 +74,7 @@ index_by first table i = if nat_lt i first then i else slice_index_or table (i -
 -- What the place holds moves behind the first `kept`, under its new indices and with no
 -- last reference yet, and is now the last one that refers to those before it. What follows the
 -- place stays.
-pub record TakesOver {S : Type 0} (view : S → Named Constraint) (first : ℕ) (table : List ℕ)
+pub record TakesOver {S : Type 0} (view : S → NamedConstraint) (first : ℕ) (table : List ℕ)
     (kept place : ℕ) (old new : List (Step S)) : Type 0 where
   pub size : length new ≡ length old
   pub left : drop (place + 1) new ≡ drop (place + 1) old

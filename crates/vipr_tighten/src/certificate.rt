@@ -1,16 +1,14 @@
 //! The tightened certificate.
 ghost use Rattle.std.specs.Prelude.{◌≡◌, ◌+◌, ◌<◌, ◌≤◌, length, map, IfOk, IfSome};
-ghost use Rattle.vipr_spec.specs.Constraint.{Constraint as ConstraintMeant};
-ghost use Rattle.vipr_spec.specs.Certificate.{Certificate as CertificateMeant};
-ghost use Rattle.vipr_spec.specs.Certificate.{Named as NamedMeant, count};
+ghost use Rattle.vipr_spec.specs.Certificate.{Certificate as CertificateMeant, count};
 ghost use Rattle.vipr_spec.specs.Reading.{most_count};
-ghost use Rattle.vipr_spec.specs.Shape.{CanWrite};
 ghost use Rattle.vipr_spec.specs.Steps.{RefersBack};
 ghost use Rattle.vipr_spec.specs.Tightened.{tightened_certificate};
 ghost use Rattle.vipr_linear.specs.Constraint.{constraint_of};
 ghost use Rattle.vipr_cert.specs.Items.{named_of, derivation_of};
 ghost use Rattle.vipr_write.specs.Steps.{step_of};
-ghost use Rattle.vipr_tighten.specs.Passes.{AreDerivationsOf, StepsNameEarlier, StandFor};
+ghost use Rattle.vipr_tighten.specs.Passes.{NamedConstraint, AreDerivationsOf, CanTighten};
+ghost use Rattle.vipr_tighten.specs.Passes.{StepsNameEarlier, StandFor};
 
 use crate::needed::needed;
 use crate::renumber::renumber;
@@ -53,7 +51,7 @@ fn tighten_derivations(
 ) -> Result<Vec<Derivation>, AllocError>
     requires { (c : CertificateMeant)
         × AreDerivationsOf c first (map derivation_of derivations.items)
-        × CanWrite c × RefersBack c × IfSome goal (λ g. g < count c) }
+        × CanTighten c goal }
     ensures { IfOk result (λ kept. (c : CertificateMeant)
         → AreDerivationsOf c first (map derivation_of derivations.items)
         → map derivation_of kept.items ≡ (tightened_certificate c goal).derivations) }
@@ -78,7 +76,7 @@ pub(crate) fn tighten_steps<S: Drop>(
     requires few { first + length steps.items ≤ most_count }
     requires earlier { StepsNameEarlier first steps.items }
     requires goal { IfSome goal (λ g. g < first + length steps.items) }
-    ensures { IfOk result (λ kept. (view : S → NamedMeant ConstraintMeant) (c : CertificateMeant)
+    ensures { IfOk result (λ kept. (view : S → NamedConstraint) (c : CertificateMeant)
         → StandFor steps.items view first c
         → map (step_of view) kept.items ≡ (tightened_certificate c goal).derivations) }
 {

@@ -1,15 +1,12 @@
 //! What the goal needs: one pass from the end.
-ghost use Rattle.std.specs.Prelude.{◌&&◌, ◌≡◌, nat_eq, map, IfOk, pos};
+ghost use Rattle.std.specs.Prelude.{◌&&◌, ◌≡◌, nat_eq, map, IfOk};
 ghost use Rattle.std.specs.List.{list_any};
-ghost use Rattle.std.specs.Ordering.{int_eq};
-ghost use Rattle.vipr_spec.specs.Constraint.{Constraint as ConstraintMeant};
-ghost use Rattle.vipr_spec.specs.Certificate.{Named as NamedMeant};
 ghost use Rattle.vipr_spec.specs.Reading.{is_nonzero};
 ghost use Rattle.vipr_spec.specs.Tightened.{include, refers_to};
 ghost use Rattle.vipr_cert.specs.Reasons.{references_of};
 ghost use Rattle.vipr_write.specs.Steps.{step_of};
 ghost use Rattle.vipr_write.specs.StepReasons.{entry_of, kept_reason_of};
-ghost use Rattle.vipr_tighten.specs.Passes.{MarksAlso, AreMarks};
+ghost use Rattle.vipr_tighten.specs.Passes.{NamedConstraint, MarksAlso, AreMarks};
 
 use std::alloc::{AllocError, Global};
 use vipr_cert::References;
@@ -23,7 +20,7 @@ pub(crate) fn needed<S>(
     first: usize,
     goal: Option<u32>,
 ) -> Result<Vec<bool>, AllocError>
-    ensures { IfOk result (λ marks. (view : S → NamedMeant ConstraintMeant)
+    ensures { IfOk result (λ marks. (view : S → NamedConstraint)
         → AreMarks goal first (map (step_of view) steps.now) marks.items) }
 {
     let mut marks = vec![in alloc; false; steps.len()]?;
@@ -70,7 +67,7 @@ fn mark_entries(marks: &mut [bool], first: usize, entries: &[(u32, Frac)])
         marks.old marks.new }
 {
     for (index, multiplier) in entries {
-        if !is_zero(multiplier) {
+        if !multiplier.is_zero() {
             mark(marks, first, *index);
         }
     }
@@ -83,7 +80,7 @@ fn mark_short_entries(marks: &mut [bool], first: usize, entries: &[ShortEntry])
         marks.old marks.new }
 {
     for entry in entries {
-        if !is_zero(&entry.multiplier()) {
+        if !entry.multiplier().is_zero() {
             mark(marks, first, entry.index);
         }
     }
@@ -97,11 +94,4 @@ fn mark(marks: &mut [bool], first: usize, index: u32)
     if first <= index && index - first < marks.len() {
         marks[index - first] = true;
     }
-}
-
-/// Whether a fraction is 0.
-pub(crate) fn is_zero(x: &Frac) -> bool
-    ensures { result ≡ int_eq x.now.numer (pos 0) }
-{
-    x.numer() == 0
 }

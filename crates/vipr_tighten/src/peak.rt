@@ -1,13 +1,11 @@
 //! How many derived constraints have to be held.
-ghost use Rattle.std.specs.Prelude.{◌≡◌, ◌+◌, ◌<◌, ◌≤◌, ◌^◌, ℕ, cond, nat_eq, length, Some};
-ghost use Rattle.std.specs.Prelude.{IfOk, slice_index_or};
-ghost use Rattle.vipr_spec.specs.Constraint.{Constraint as ConstraintMeant};
-ghost use Rattle.vipr_spec.specs.Certificate.{Certificate as CertificateMeant};
-ghost use Rattle.vipr_spec.specs.Certificate.{Named as NamedMeant, peak};
+ghost use Rattle.std.specs.Prelude.{◌≡◌, ◌+◌, ◌<◌, ◌≤◌, ◌^◌, ℕ, cond, nat_eq, length, Some, IfOk};
+ghost use Rattle.std.specs.Prelude.{slice_index_or};
+ghost use Rattle.vipr_spec.specs.Certificate.{Certificate as CertificateMeant, peak};
 ghost use Rattle.vipr_spec.specs.Reading.{most_count};
 ghost use Rattle.vipr_write.specs.StepReasons.{kept_reason_of};
 ghost use Rattle.vipr_tighten.specs.Dropping.{dropped_after};
-ghost use Rattle.vipr_tighten.specs.Passes.{StandFor};
+ghost use Rattle.vipr_tighten.specs.Passes.{NamedConstraint, StandFor};
 
 use std::alloc::{AllocError, Global};
 use vipr_cert::Reason;
@@ -17,7 +15,7 @@ use vipr_write::{Step, StepReason};
 /// the index `first`.
 pub(crate) fn peak<S>(alloc: Global, first: usize, steps: &[Step<S>]) -> Result<usize, AllocError>
     requires { first + length steps.now ≤ most_count }
-    ensures { IfOk result (λ n. (view : S → NamedMeant ConstraintMeant) (c : CertificateMeant)
+    ensures { IfOk result (λ n. (view : S → NamedConstraint) (c : CertificateMeant)
         → StandFor steps.now view first c → n ≡ peak c) }
 {
     let mut dropped = vec![in alloc; 0usize; steps.len()]?;

@@ -1,7 +1,7 @@
 //! Reads a certificate: each item is checked before the next one is read, and kept.
 
-ghost use Rattle.std.specs.Prelude.{◌≡◌, ◌<◌, ◌^◌, false, List, [], All, map, IfOk, IfErr};
-ghost use Rattle.std.specs.Prelude.{IsSome, OnOk};
+ghost use Rattle.std.specs.Prelude.{◌≡◌, ◌<◌, ◌^◌, false, List, [], All, map, IfOk, IfErr, IsSome};
+ghost use Rattle.std.specs.Prelude.{OnOk};
 ghost use Rattle.vipr_spec.specs.Constraint.{Profile as ProfileMeant, Row};
 ghost use Rattle.vipr_spec.specs.Certificate.{Named as NamedMeant, Problem as ProblemMeant};
 ghost use Rattle.vipr_spec.specs.Certificate.{Derivation as DerivationMeant};
@@ -9,17 +9,15 @@ ghost use Rattle.vipr_spec.specs.Certificate.{Certificate as CertificateMeant};
 ghost use Rattle.vipr_spec.specs.Checking.{start};
 ghost use Rattle.vipr_spec.specs.Shape.{RowFits, SolutionShape, CanWriteProblem, CanWrite};
 ghost use Rattle.vipr_spec.specs.Steps.{with_more};
-ghost use Rattle.vipr_spec.specs.Verdict.{found_in};
-ghost use Rattle.vipr_bytes.specs.Known.{text_of, IfKnown};
+ghost use Rattle.vipr_bytes.specs.Known.{IfKnown};
 ghost use Rattle.vipr_cert.specs.Items.{solution_of};
 ghost use Rattle.vipr_read.specs.Items.{Knows};
 ghost use Rattle.vipr_rules.specs.Profile.{profile_of};
 ghost use Rattle.vipr_write.specs.Steps.{AreKept};
 ghost use Rattle.vipr_check.specs.Run.{IsAmong, IsAt};
-ghost use Rattle.vipr_tighten.specs.Keeping.{AnswersProof, AnswersWhy, KeepsMet};
-ghost use Rattle.vipr_tighten.specs.Keeping.{KeepsFinished, KeepsProof, KeepsSteps};
-ghost use Rattle.vipr_tighten.specs.Keeping.{IsKeptOf, IsForSame, IsFor};
-ghost use Rattle.vipr_tighten.specs.Keeping.{solutions_left, derivations_left};
+ghost use Rattle.vipr_tighten.specs.Keeping.{found_by, AnswersProof, AnswersWhy, KeepsMet};
+ghost use Rattle.vipr_tighten.specs.Keeping.{KeepsFinished, KeepsProof, KeepsSteps, IsKeptOf};
+ghost use Rattle.vipr_tighten.specs.Keeping.{IsForSame, IsFor, solutions_left, derivations_left};
 
 use std::alloc::Global;
 use vipr_bytes::Source;
@@ -55,9 +53,9 @@ pub(crate) fn read_proof<R: Source + Drop>(
     ensures proof { IfOk result (λ kept. (c : CertificateMeant)
         × IsKeptOf (profile_of profile) form c kept
         × IfKnown (R.input source)
-        (λ i. AnswersProof (profile_of profile) (found_in (text_of i)) c kept.report)) }
+        (λ i. AnswersProof (profile_of profile) (found_by i) c kept.report)) }
     ensures unproved { IfErr result (λ e. IfKnown (R.input source)
-        (λ i. AnswersWhy (profile_of profile) (found_in (text_of i)) e)) }
+        (λ i. AnswersWhy (profile_of profile) (found_by i) e)) }
 {
     let reader = CertReader::new(alloc, source)?;
     match reader.read_problem(alloc) {

@@ -2,20 +2,18 @@
 ghost use Rattle.std.specs.Prelude.{◌≡◌, ◌+◌, ◌<◌, ◌≤◌, ◌&&◌, nat_eq, All, IfOk, Some, None, map};
 ghost use Rattle.std.specs.Prelude.{◌∷◌, [], length};
 ghost use Rattle.std.specs.List.{list_any};
-ghost use Rattle.vipr_spec.specs.Constraint.{Constraint as ConstraintMeant};
-ghost use Rattle.vipr_spec.specs.Certificate.{Named as NamedMeant, NamesEarlier, lin};
+ghost use Rattle.vipr_spec.specs.Certificate.{NamesEarlier, lin};
 ghost use Rattle.vipr_spec.specs.Reading.{is_nonzero, most_count};
-ghost use Rattle.vipr_spec.specs.Tightened.{include, refers_to};
-ghost use Rattle.vipr_spec.specs.Tightened.{renumbered_entries, renumbered_reason};
-ghost use Rattle.vipr_spec.specs.Tightened.{with_new_indices, kept_derivations, referred_by};
+ghost use Rattle.vipr_spec.specs.Tightened.{include, refers_to, renumbered_entries};
+ghost use Rattle.vipr_spec.specs.Tightened.{renumbered_reason, with_new_indices, kept_derivations};
+ghost use Rattle.vipr_spec.specs.Tightened.{referred_by};
 ghost use Rattle.vipr_cert.specs.Items.{reason_of};
 ghost use Rattle.vipr_cert.specs.Reasons.{references_of};
 ghost use Rattle.vipr_write.specs.Steps.{step_of};
 ghost use Rattle.vipr_write.specs.StepReasons.{entry_of, kept_reason_of};
-ghost use Rattle.vipr_tighten.specs.Passes.{step_reason, StepsNameEarlier};
+ghost use Rattle.vipr_tighten.specs.Passes.{NamedConstraint, step_reason, StepsNameEarlier};
 ghost use Rattle.vipr_tighten.specs.Passes.{kept_by, index_by, TakesOver};
 
-use crate::needed::is_zero;
 use std::alloc::{AllocError, Global};
 use vipr_cert::{Reason, References};
 use vipr_frac::Frac;
@@ -32,7 +30,7 @@ pub(crate) fn renumber<S: Drop>(
     requires size { length marks.now ≡ length steps.items }
     requires few { first + length steps.items ≤ most_count }
     requires earlier { StepsNameEarlier first steps.items }
-    ensures { IfOk result (λ kept. (view : S → NamedMeant ConstraintMeant)
+    ensures { IfOk result (λ kept. (view : S → NamedConstraint)
         → map (step_of view) kept.items
         ≡ kept_derivations (kept_by first marks.now) first (map (step_of view) steps.items)) }
 {
@@ -64,7 +62,7 @@ fn take_over<S>(
     requires there { place < length steps.old }
     requires few { first + kept ≤ most_count }
     requires earlier { NamesEarlier (first + length table.now) (step_reason steps.old place) }
-    ensures { (view : S → NamedMeant ConstraintMeant)
+    ensures { (view : S → NamedConstraint)
         → TakesOver view first table.now kept place steps.old steps.new }
 {
     steps.swap(kept, place);
@@ -91,7 +89,7 @@ fn renumber_entries(entries: &mut Vec<(u32, Frac)>, first: u32, table: &[u32])
     requires { All (λ e. e.0 < first + length table.now) entries.old.items }
     ensures { entries.new.items ≡ renumbered_entries (index_by first table.now) entries.old.items }
 {
-    entries.retain(|entry| !is_zero(&entry.1));
+    entries.retain(|entry| !entry.1.is_zero());
     for i in 0..entries.len() {
         entries[i].0 = index_of(entries[i].0, first, table);
     }
@@ -103,7 +101,7 @@ fn renumber_short_entries(entries: &mut Vec<ShortEntry>, first: u32, table: &[u3
     ensures { map entry_of entries.new.items
         ≡ renumbered_entries (index_by first table.now) (map entry_of entries.old.items) }
 {
-    entries.retain(|entry| !is_zero(&entry.multiplier()));
+    entries.retain(|entry| !entry.multiplier().is_zero());
     for i in 0..entries.len() {
         entries[i].index = index_of(entries[i].index, first, table);
     }
@@ -115,7 +113,7 @@ fn renumbered_one(alloc: Global, entry: ShortEntry, first: u32, table: &[u32]) -
     ensures { kept_reason_of result
         ≡ lin (renumbered_entries (index_by first table.now) (entry_of entry ∷ [])) }
 {
-    if is_zero(&entry.multiplier()) {
+    if entry.multiplier().is_zero() {
         StepReason::Lin(Vec::new(alloc))
     } else {
         let mut moved = entry;
@@ -160,7 +158,7 @@ fn renumber_step_reason(alloc: Global, reason: &mut StepReason, first: u32, tabl
 // Gives a step the new indices, and takes its last reference away.
 fn renumber_references<S>(alloc: Global, step: &mut Step<S>, first: u32, table: &[u32])
     requires { NamesEarlier (first + length table.now) (Some (kept_reason_of step.old.reason)) }
-    ensures { (view : S → NamedMeant ConstraintMeant) → step_of view step.new
+    ensures { (view : S → NamedConstraint) → step_of view step.new
         ≡ record (with_new_indices (index_by first table.now) (step_of view step.old)) {
           last = None;
         } }
@@ -171,7 +169,7 @@ fn renumber_references<S>(alloc: Global, step: &mut Step<S>, first: u32, table: 
 
 // Gives the steps that the reason of a later one refers to this last reference.
 fn set_last<S>(kept: &mut [Step<S>], first: u32, reason: &StepReason, last: u32)
-    ensures { (view : S → NamedMeant ConstraintMeant) → map (step_of view) kept.new
+    ensures { (view : S → NamedConstraint) → map (step_of view) kept.new
         ≡ referred_by (refers_to (kept_reason_of reason.now)) last first
         (map (step_of view) kept.old) }
 {
@@ -183,7 +181,7 @@ fn set_last<S>(kept: &mut [Step<S>], first: u32, reason: &StepReason, last: u32)
 
 // Gives the steps that a reason refers to that names these this last reference.
 fn set_last_referred<S>(kept: &mut [Step<S>], first: u32, references: References<'_>, last: u32)
-    ensures { (view : S → NamedMeant ConstraintMeant) → map (step_of view) kept.new
+    ensures { (view : S → NamedConstraint) → map (step_of view) kept.new
         ≡ referred_by (include (references_of references.entry)) last first
         (map (step_of view) kept.old) }
 {
@@ -201,12 +199,12 @@ fn set_last_referred<S>(kept: &mut [Step<S>], first: u32, references: References
 
 // Gives the steps that entries with a nonzero multiplier name this last reference.
 fn set_last_named<S>(kept: &mut [Step<S>], first: u32, entries: &[(u32, Frac)], last: u32)
-    ensures { (view : S → NamedMeant ConstraintMeant) → map (step_of view) kept.new
+    ensures { (view : S → NamedConstraint) → map (step_of view) kept.new
         ≡ referred_by (λ i. list_any (λ e. nat_eq i e.0 && is_nonzero e) entries.now) last first
         (map (step_of view) kept.old) }
 {
     for (index, multiplier) in entries {
-        if !is_zero(multiplier) {
+        if !multiplier.is_zero() {
             set_last_at(kept, first, *index, last);
         }
     }
@@ -214,13 +212,13 @@ fn set_last_named<S>(kept: &mut [Step<S>], first: u32, entries: &[(u32, Frac)], 
 
 // The same of short ones.
 fn set_last_short<S>(kept: &mut [Step<S>], first: u32, entries: &[ShortEntry], last: u32)
-    ensures { (view : S → NamedMeant ConstraintMeant) → map (step_of view) kept.new
+    ensures { (view : S → NamedConstraint) → map (step_of view) kept.new
         ≡ referred_by
         (λ i. list_any (λ e. nat_eq i e.0 && is_nonzero e) (map entry_of entries.now)) last first
         (map (step_of view) kept.old) }
 {
     for entry in entries {
-        if !is_zero(&entry.multiplier()) {
+        if !entry.multiplier().is_zero() {
             set_last_at(kept, first, entry.index, last);
         }
     }
@@ -228,7 +226,7 @@ fn set_last_short<S>(kept: &mut [Step<S>], first: u32, entries: &[ShortEntry], l
 
 // Gives the step of this index, if it is there, this last reference.
 fn set_last_at<S>(kept: &mut [Step<S>], first: u32, index: u32, last: u32)
-    ensures { (view : S → NamedMeant ConstraintMeant) → map (step_of view) kept.new
+    ensures { (view : S → NamedConstraint) → map (step_of view) kept.new
         ≡ referred_by (λ i. nat_eq i index) last first (map (step_of view) kept.old) }
 {
     if first <= index {

@@ -11,9 +11,11 @@ tighten_derivations-requires c =
     ap length (sym c.cons.ensures.constraints) ∙ length-map c.cons.result.now (named_of constraint_of) in (
       c.args.certificate,
       derived c.args.certificate c.into_parts-problem.result.0 c.into_parts-problem.result.1.items c.into_parts-problem.result.2.items c.into_parts-problem.ensures.parts (length c.cons.result.now) is_first,
-      c.into_parts-problem.ensures.writes,
-      c.requires.back,
-      c.requires.goal,
+      record {
+        writes = c.into_parts-problem.ensures.writes;
+        back = c.requires.back;
+        named = c.requires.goal;
+      },
     )
 
 pub of_parts-requires : goal.of_parts-requires

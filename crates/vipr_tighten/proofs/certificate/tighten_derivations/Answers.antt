@@ -7,18 +7,18 @@ use Rattle.vipr_tighten.proofs.certificate.tighten_derivations.Goals as goal
 
 pub tighten_steps-requires-clause-few : goal.tighten_steps-requires-clause-few
 tighten_steps-requires-clause-few c =
-    let (x, are, writes, back, among) = c.requires in
-    stand_few x c.args.derivations.items c.args.first are c.in_ok-steps.steps.items c.in_ok-steps.ensures writes
+    let (x, are, can) = c.requires in
+    stand_few x c.args.derivations.items c.args.first are c.in_ok-steps.steps.items c.in_ok-steps.ensures can.writes
 
 pub tighten_steps-requires-clause-earlier : goal.tighten_steps-requires-clause-earlier
 tighten_steps-requires-clause-earlier c =
-    let (x, are, writes, back, among) = c.requires in
-    stand_early x c.args.derivations.items c.args.first are c.in_ok-steps.steps.items c.in_ok-steps.ensures back
+    let (x, are, can) = c.requires in
+    stand_early x c.args.derivations.items c.args.first are c.in_ok-steps.steps.items c.in_ok-steps.ensures can.back
 
 pub tighten_steps-requires-clause-goal : goal.tighten_steps-requires-clause-goal
 tighten_steps-requires-clause-goal c =
-    let (x, are, writes, back, among) = c.requires in
-    stand_goal x c.args.derivations.items c.args.first are c.in_ok-steps.steps.items c.in_ok-steps.ensures c.args.goal among
+    let (x, are, can) = c.requires in
+    stand_goal x c.args.derivations.items c.args.first are c.in_ok-steps.steps.items c.in_ok-steps.ensures c.args.goal can.named
 
 pub returns : goal.returns
 returns c =
