@@ -172,9 +172,7 @@ impl<S: Rows> Checker<S> {
                 drop(name);
                 Ok(())
             }
-            Err(error) => {
-                Err(stop(&mut self.halt, Halt::at_solution(number, name, error)))
-            }
+            Err(error) => { Err(stop(&mut self.halt, Halt::at_solution(number, name, error))) }
         }
     }
 

@@ -103,7 +103,15 @@ fn read_items<R: Source + Drop>(
     checker: &mut Checker<Table>,
     form: Form,
     mut solutions: Solutions<R>,
-) -> Result<(Vec<Named<Solution>>, Statements, Vec<Step<Statement>>, Report), NoProof>
+) -> Result<
+    (
+        Vec<Named<Solution>>,
+        Statements,
+        Vec<Step<Statement>>,
+        Report,
+    ),
+    NoProof,
+>
     requires { (P : ProfileMeant) × (p : ProblemMeant) × IsAmong P p [] checker.old solutions }
     ensures kept { IfOk result (λ x. (P : ProfileMeant) (p : ProblemMeant)
         → IsAmong P p [] checker.old solutions
