@@ -7,8 +7,9 @@
  *
  * The words behind `..` may come more than once, and each time there is a call. The line is `status S length L`, and what the call's struct holds. The buffer is filled with `.` before the call, and so
  * has to be the byte behind the room after it. `growths` makes each call with its first growth refused, its second, and
- * so on: each has to return 3, a length of 0 and a struct of zeros, to leave the buffer, and to keep no memory. It writes
- * how many growths it refused. Linked with -Wl,--wrap=malloc,--wrap=realloc,--wrap=free. */
+ * so on: each has to return 3, a length of 0 and a struct of zeros, and to leave the buffer; or all that it returns without
+ * a refusal, since a derivation whose reading failed so at first is read anew. None may keep memory. It writes how many
+ * growths it refused. Linked with -Wl,--wrap=malloc,--wrap=realloc,--wrap=free. */
 #include <stdio.h>
 #include <stdlib.h>
 #include <string.h>
@@ -112,22 +113,34 @@ static int lacks(const struct job *it, int32_t status)
         && (it->call != TIGHTEN || are_all(&it->figures, sizeof it->figures, 0));
 }
 
+/* Whether a call returned what another one did, and kept no memory. */
+static int repeats(const struct job *it, int32_t status, const struct job *first, const char *text, int32_t ended)
+{
+    return status == ended && it->length == first->length && kept == 0 && memcmp(it->buffer, text, it->room + 1) == 0
+        && memcmp(&it->answer, &first->answer, sizeof it->answer) == 0
+        && memcmp(&it->figures, &first->figures, sizeof it->figures) == 0;
+}
+
 /* Makes a call with each of its growths refused in turn, and returns how many there were, or -1. */
 static long refuse_each(struct job *it)
 {
-    int32_t status;
+    static char text[ROOM + 1];
+    struct job first;
+    int32_t status, ended;
     long number, count;
     growths = refused = kept = 0;
-    status = run(it);
+    ended = run(it);
     count = growths;
-    if (status == VIPR_NO_MEMORY || kept != 0)
+    if (ended == VIPR_NO_MEMORY || kept != 0)
         return -1;
+    first = *it;
+    memcpy(text, it->buffer, it->room + 1);
     for (number = 1; number <= count; number++) {
         growths = 0;
         refused = number;
         status = run(it);
         refused = 0;
-        if (!lacks(it, status)) {
+        if (!lacks(it, status) && !repeats(it, status, &first, text, ended)) {
             printf("%s, growth %ld: status %d, length %zu, kept %ld\n", NAMES[it->call], number, status, it->length, kept);
             return -1;
         }
