@@ -1,5 +1,6 @@
 #!/usr/bin/env python3
 """Checks how the repository is built, from its text alone: what no prover checks and each reader relies on.
+The layout of its files is checked if the toolchain is there.
 
 usage: tests/house.py [--write]
 
@@ -9,6 +10,7 @@ Prints the place of each fault, and last `house: N checks, F failed`; the exit s
 import collections
 import os
 import re
+import shutil
 import subprocess
 import sys
 
@@ -352,8 +354,21 @@ def named_files_are_there():
                         yield '%s:%d: no file %s' % (page, n, name)
 
 
+def formatted():
+    """Sources, specs and proofs are in the layout of `rt fmt`, without which `rt ci` fails after its proofs."""
+    rt = shutil.which(os.environ.get('RT', 'rt'))
+    rattle = rt and os.path.join(os.path.dirname(os.path.realpath(rt)), 'rattle')
+    if rattle and os.path.exists(rattle):
+        paths = [path for part, ends in (('src', '.rt'), ('specs', '.antt'), ('proofs', '.antt'))
+                 for _, _, path in files([part], ends)]
+        said = subprocess.run([rattle, 'fmt', '--check', *paths], capture_output=True, text=True, check=False)
+        for line in (said.stdout + said.stderr).splitlines() if said.returncode else []:
+            yield line.removeprefix(ROOT + os.sep)
+
+
 CHECKS = [foreign_proofs, private_lemmas, names_twice, types_twice, plain_words, comments_stand_alone, unused_imports, proofs_in_specs, long_lines, long_files, crates_are_there, graph_is_current,
-          statement_is_current, examples_are_there, causes_agree, edits_stand, versions_agree, named_files_are_there]
+          statement_is_current, examples_are_there, causes_agree, edits_stand, versions_agree, named_files_are_there,
+          formatted]
 
 
 def write():
