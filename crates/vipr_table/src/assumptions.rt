@@ -14,9 +14,7 @@ ghost use Rattle.vipr_table.specs.IndexList.{listed_items, IsListOf};
 ghost use Rattle.vipr_table.specs.Rising.{IsRising};
 
 use crate::assumptions::list::IndexList;
-use crate::assumptions::merge::{
-    all_but, but_last, concat, has_all, is_below, is_in, join, join_alike,
-};
+use crate::assumptions::merge::{all_but, concat, has_all, is_below, is_in, join, join_but_last};
 pub use crate::assumptions::union::Union;
 use std::alloc::{AllocError, Global};
 use std::borrow::CowSlice;
@@ -151,11 +149,30 @@ impl Assumptions {
     {
         match self.join_but_last(alloc, index, other, other_index)? {
             Some(items) => Assumptions::of_rising(alloc, items),
-            None => {
-                let other = other.without(alloc, other_index)?;
-                self.without(alloc, index)?.union(alloc, &other)
-            }
+            None => self.union_of_rests(alloc, index, other, other_index),
         }
+    }
+
+    // The same, by the set that is left of each.
+    fn union_of_rests(
+        &self,
+        alloc: Global,
+        index: u32,
+        other: &Assumptions,
+        other_index: u32,
+    ) -> Result<Self, AllocError>
+        ensures { IfOk result (λ s.
+            s ≡ set.union (set.remove self.now index) (set.remove other.now other_index)) }
+    {
+        let theirs = other.without(alloc, other_index)?;
+        let Ok(ours) = self.without(alloc, index) else {
+            drop(theirs);
+            return Err(AllocError);
+        };
+        let union = ours.union(alloc, &theirs);
+        drop(ours);
+        drop(theirs);
+        union
     }
 
     // Whether both share their indices. `true` says that the sets are equal.
@@ -193,8 +210,29 @@ impl Assumptions {
     fn joined(&self, alloc: Global, other: &Assumptions) -> Result<Self, AllocError>
         ensures { IfOk result (λ s. s ≡ set.union self.now other.now) }
     {
-        let (ours, theirs) = (self.flat(alloc)?, other.flat(alloc)?);
-        let (ours, theirs) = (ours.as_slice(), theirs.as_slice());
+        let ours = self.flat(alloc)?;
+        let Ok(theirs) = other.flat(alloc) else {
+            drop(ours);
+            return Err(AllocError);
+        };
+        let union = self.joined_lists(alloc, other, ours.as_slice(), theirs.as_slice());
+        drop(ours);
+        drop(theirs);
+        union
+    }
+
+    // The same of both sets, whose indices are these.
+    fn joined_lists(
+        &self,
+        alloc: Global,
+        other: &Assumptions,
+        ours: &[u32],
+        theirs: &[u32],
+    ) -> Result<Self, AllocError>
+        requires ours { IsListOf self.now ours.now }
+        requires theirs { IsListOf other.now theirs.now }
+        ensures { IfOk result (λ s. s ≡ set.union self.now other.now) }
+    {
         if has_all(ours, theirs) {
             return self.clone();
         }
@@ -216,13 +254,21 @@ impl Assumptions {
         ensures { IfOk result (λ o. IfSome o (λ v. IsListOf
             (set.union (set.remove self.now index) (set.remove other.now other_index)) v.items)) }
     {
-        let (ours, theirs) = (self.flat(alloc)?, other.flat(alloc)?);
-        let ours = but_last(ours.as_slice(), index);
-        let theirs = but_last(theirs.as_slice(), other_index);
-        match (ours, theirs) {
-            (Some(ours), Some(theirs)) => Ok(Some(join_alike(alloc, ours, theirs)?)),
-            _ => Ok(None),
-        }
+        let ours = self.flat(alloc)?;
+        let Ok(theirs) = other.flat(alloc) else {
+            drop(ours);
+            return Err(AllocError);
+        };
+        let union = join_but_last(
+            alloc,
+            ours.as_slice(),
+            index,
+            theirs.as_slice(),
+            other_index,
+        );
+        drop(ours);
+        drop(theirs);
+        union
     }
 
     // The set of these indices, in any order, of which some may occur twice.

@@ -92,11 +92,12 @@ impl IndexList {
     ) -> Result<IndexList, AllocError>
         ensures { IfOk result (λ list. listed_items list ≡ listed_first self.now ++ behind.items) }
     {
-        let first = match self {
-            IndexList::Many(items) => items.clone()?,
-            IndexList::Longer(lists) => lists.as_ref().first.clone()?,
+        let first: Result<_, _> = match self {
+            IndexList::Many(items) => items.clone(),
+            IndexList::Longer(lists) => lists.as_ref().first.clone(),
             _ => return IndexList::of(alloc, concat(alloc, self.first(), &behind)?),
         };
+        let first = first?;
         let lists = Shared::new(alloc, Longer { first, behind })?;
         Ok(IndexList::Longer(lists))
     }

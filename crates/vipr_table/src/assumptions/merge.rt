@@ -61,8 +61,30 @@ pub(crate) fn join(alloc: Global, xs: &[u32], ys: &[u32]) -> Result<Vec<u32>, Al
     merge(alloc, xs, ys)
 }
 
-/// Joins two rising lists, of which one often has all items of the other.
-pub(crate) fn join_alike(alloc: Global, xs: &[u32], ys: &[u32]) -> Result<Vec<u32>, AllocError>
+/// Joins two rising lists without the last item of each, if these are `x` and `y`.
+pub(crate) fn join_but_last(
+    alloc: Global,
+    xs: &[u32],
+    x: u32,
+    ys: &[u32],
+    y: u32,
+) -> Result<Option<Vec<u32>>, AllocError>
+    requires left { IsRising xs.now }
+    requires right { IsRising ys.now }
+    ensures { IfOk result (λ o. IfSome o (λ v. IsUnion (filter (λ n. not (nat_eq n x)) xs.now)
+        (filter (λ n. not (nat_eq n y)) ys.now) v.items)) }
+{
+    let Some(xs) = but_last(xs, x) else {
+        return Ok(None);
+    };
+    let Some(ys) = but_last(ys, y) else {
+        return Ok(None);
+    };
+    Ok(Some(join_alike(alloc, xs, ys)?))
+}
+
+// Joins two rising lists, of which one often has all items of the other.
+fn join_alike(alloc: Global, xs: &[u32], ys: &[u32]) -> Result<Vec<u32>, AllocError>
     requires left { IsRising xs.now }
     requires right { IsRising ys.now }
     ensures { IfOk result (λ v. IsUnion xs.now ys.now v.items) }
@@ -92,10 +114,16 @@ pub(crate) fn is_below(xs: &[u32], ys: &[u32]) -> bool
 pub(crate) fn concat(alloc: Global, xs: &[u32], ys: &[u32]) -> Result<Vec<u32>, AllocError>
     ensures { IfOk result (λ v. v.items ≡ xs.now ++ ys.now) }
 {
-    let mut all = Vec::with_capacity(alloc, xs.len() + ys.len())?;
-    all.extend_from_slice(xs)?;
-    all.extend_from_slice(ys)?;
-    Ok(all)
+    extended(Vec::with_capacity(alloc, xs.len() + ys.len())?, xs, ys)
+}
+
+// A list with the items of two others behind it.
+fn extended(mut all: Vec<u32>, xs: &[u32], ys: &[u32]) -> Result<Vec<u32>, AllocError>
+    ensures { IfOk result (λ v. v.items ≡ (all.items ++ xs.now) ++ ys.now) }
+{
+    let xs_added = all.extend_from_slice(xs);
+    let ys_added = all.extend_from_slice(ys);
+    xs_added.and(ys_added).and(Ok(all))
 }
 
 // Joins two rising lists, item by item.
@@ -113,13 +141,11 @@ fn merge(alloc: Global, xs: &[u32], ys: &[u32]) -> Result<Vec<u32>, AllocError>
         j += (ys[j] == low) as usize;
         all.push(low)?;
     }
-    all.extend_from_slice(&xs[i..])?;
-    all.extend_from_slice(&ys[j..])?;
-    Ok(all)
+    extended(all, &xs[i..], &ys[j..])
 }
 
-/// The items before the last one, if that is `index`.
-pub(crate) fn but_last(xs: &[u32], index: u32) -> Option<&[u32]>
+// The items before the last one, if that is `index`.
+fn but_last(xs: &[u32], index: u32) -> Option<&[u32]>
     requires { IsRising xs.now }
     ensures { IfSome result (λ rest. rest.now ≡ filter (λ x. not (nat_eq x index)) xs.now) }
 {

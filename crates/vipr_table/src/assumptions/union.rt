@@ -18,6 +18,12 @@ pub struct Union {
     few: Vec<u32>,
 }
 
+fn put(place: &mut Assumptions, set: Assumptions)
+    ensures { place.new ≡ set }
+{
+    drop(mem::replace(place, set));
+}
+
 // Whether a set is small enough to be joined at once to one of another size.
 fn is_near(len: usize, other: usize) -> bool {
     len < 32 || len / 2 <= other
@@ -53,7 +59,8 @@ impl Union {
         ensures { OnOk result (union_so_far self.new ≡ set.union (union_so_far self.old) more.now) }
     {
         if is_near(self.last.len(), more.len()) {
-            self.last = self.last.union(alloc, more)?;
+            let joined = self.last.union(alloc, more)?;
+            put(&mut self.last, joined);
         } else {
             let last = mem::replace(&mut self.last, more.clone()?);
             self.below.push(last)?;
@@ -70,7 +77,9 @@ impl Union {
                 self.below.push(top)?;
                 return Ok(());
             }
-            self.last = top.union(alloc, &self.last)?;
+            let joined = top.union(alloc, &self.last);
+            drop(top);
+            put(&mut self.last, joined?);
         }
         Ok(())
     }
@@ -94,7 +103,13 @@ fn with_below(
 {
     let mut all = last;
     while let Some(top) = below.pop() {
-        all = top.union(alloc, &all)?;
+        let joined = top.union(alloc, &all);
+        drop(top);
+        let Ok(joined) = joined else {
+            drop(all);
+            return Err(AllocError);
+        };
+        put(&mut all, joined);
     }
     Ok(all)
 }
@@ -106,6 +121,12 @@ fn with_few(alloc: Global, last: Assumptions, few: Vec<u32>) -> Result<Assumptio
     if few.is_empty() {
         return Ok(last);
     }
-    let few = Assumptions::of_indices(alloc, few)?;
-    last.union(alloc, &few)
+    let Ok(few) = Assumptions::of_indices(alloc, few) else {
+        drop(last);
+        return Err(AllocError);
+    };
+    let union = last.union(alloc, &few);
+    drop(few);
+    drop(last);
+    union
 }

@@ -4,23 +4,9 @@ use Rattle.vipr_table.specs.Unions.{union_of_all}
 use Rattle.vipr_table.proofs.UnionsLemmas.{top_joined, none_union, no_sets}
 use Rattle.vipr_table.proofs.assumptions.union.with_below.Goals as goal
 
-pub loop-top-preserved-in_ok-all : goal.loop-top-preserved-in_ok-all
-loop-top-preserved-in_ok-all c =
-    ap (union (union_of_all c.pop.new.self.items)) c.in_ok-all.ensures
-    ∙ sym (top_joined c.pop.new.self.items c.in-Some.top c.loop-top.all)
-    ∙ ap (λ ss. union (union_of_all ss) c.loop-top.all) (sym c.in-Some.ensures.items)
-    ∙ c.loop-top.invariant
-
-pub loop-top-preserved-in_ok-all-2 : goal.loop-top-preserved-in_ok-all-2
-loop-top-preserved-in_ok-all-2 c =
-    ap (union (union_of_all c.pop.new.self.items)) c.in_ok-all.ensures
-    ∙ sym (top_joined c.pop.new.self.items c.in-Some.top c.loop-top.all)
-    ∙ ap (λ ss. union (union_of_all ss) c.loop-top.all) (sym c.in-Some.ensures.items)
-    ∙ c.loop-top.invariant
-
 pub loop-top-preserved : goal.loop-top-preserved
 loop-top-preserved c =
-    ap (union (union_of_all c.pop.new.self.items)) c.in_ok-all.ensures
+    ap (union (union_of_all c.pop.new.self.items)) (c.put.ensures ∙ c.in-Ok.ensures)
     ∙ sym (top_joined c.pop.new.self.items c.in-Some.top c.loop-top.all)
     ∙ ap (λ ss. union (union_of_all ss) c.loop-top.all) (sym c.in-Some.ensures.items)
     ∙ c.loop-top.invariant

@@ -1,7 +1,5 @@
-use Rattle.std.proofs.Common.{◌≡◌, ◌∙◌, ap, length, arith}
+use Rattle.std.proofs.Common.{◌≡◌, length, arith}
 use Rattle.std.proofs.lemmas.Bool.Decides.{nat_tests}
-use Rattle.std.proofs.lemmas.Result.{MatchResult-weaker}
-use Rattle.std.specs.FinSet.{union}
 use Rattle.vipr_table.proofs.UnionsLemmas.{no_few}
 use Rattle.vipr_table.proofs.assumptions.union.with_few.Goals as goal
 
@@ -10,6 +8,3 @@ returns-then-is_empty c =
     let known = c.if-is_empty.true in
     let none : length c.args.few.items ≡ 0 = let e = c.is_empty.ensures in grind (arith, nat_tests) in
     no_few c.args.last c.args.few.items none
-
-pub returns : goal.returns
-returns c = MatchResult-weaker c.union.result c.union.ensures (λ s e. e ∙ ap (union c.args.last) c.in_ok-few.ensures) (λ _ _. tt)
