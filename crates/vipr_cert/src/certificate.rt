@@ -58,6 +58,7 @@ impl Certificate {
             (λ c. c ≡ certificate_with problem solutions.items derivations.items) }
     {
         if !are_within(&problem, &solutions, &derivations) {
+            drop(problem);
             return Err(BadShape);
         }
         Ok(Certificate::of_parts(problem, solutions, derivations))

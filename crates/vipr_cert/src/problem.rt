@@ -68,6 +68,8 @@ impl Problem {
     {
         limits::claim(&claim);
         if !are_within(&names, &ints, &objective, &cons) {
+            drop(objective);
+            drop(ints);
             return Err(BadShape);
         }
         Ok(Problem::of_parts(names, ints, sense, objective, cons, bound_count, claim))
