@@ -76,8 +76,15 @@ fn parts<R: Source>(
         → IsParsed (λ c. c) result (certificate_read (rest_of parser.old.rest)) }
 {
     let (problem, count) = parser.problem(alloc)?;
-    let (solutions, derivations) = items(alloc, parser, &problem, count)?;
-    Ok(Certificate::of_parts(problem, solutions, derivations))
+    match items(alloc, parser, &problem, count) {
+        Ok((solutions, derivations)) => {
+            Ok(Certificate::of_parts(problem, solutions, derivations))
+        }
+        Err(stop) => {
+            drop(problem);
+            Err(stop)
+        }
+    }
 }
 
 // The solutions, of which there are so many, and the derivations.

@@ -16,7 +16,7 @@ ghost use Rattle.vipr_read.specs.Items.{NextItem, GivesFrom, item_in};
 ghost use Rattle.vipr_read.specs.ItemsCode.{items_code};
 ghost use Rattle.vipr_read.specs.Limits.{CanWriteRow};
 
-use crate::item::{Derived, ItemKind, Listed};
+use crate::item::{ItemKind, Listed};
 use crate::parser::{Parser, likely_bytes};
 use std::alloc::Global;
 use std::marker::Model;
@@ -210,6 +210,7 @@ impl<R: Source> Solutions<R> {
     {
         let mut items = self.items;
         if items.failed {
+            drop(items);
             return Err(TextError::Spent);
         }
         match items.parser.derivation_count(items.constraints) {
@@ -217,7 +218,30 @@ impl<R: Source> Solutions<R> {
                 items.left = left;
                 Ok(Derivations { items })
             }
-            Err(stop) => Err(TextError::from(stop)),
+            Err(stop) => {
+                drop(items);
+                Err(TextError::from(stop))
+            }
+        }
+    }
+}
+
+/// The derivation that was read in place of another one, if one was.
+fn item_read(
+    step: Derivation,
+    read: Result<bool, TextError>,
+) -> Result<Option<Derivation>, TextError>
+    ensures { result ≡ item_in step read }
+{
+    match read {
+        Ok(true) => Ok(Some(step)),
+        Ok(false) => {
+            drop(step);
+            Ok(None)
+        }
+        Err(error) => {
+            drop(step);
+            Err(error)
         }
     }
 }
@@ -291,15 +315,8 @@ impl<R: Source> Derivations<R> {
         ensures read { (p : ProblemMeant) → Knows self.old p
             → NextItem derivation_of (derivation_read p) end_read self.old self.new result }
     {
-        match self.items.next(alloc, &Derived) {
-            Ok(None) => match self.items.parser.end() {
-                Ok(()) => Ok(None),
-                Err(stop) => {
-                    self.items.failed = true;
-                    Err(TextError::from(stop))
-                }
-            },
-            next => next,
-        }
+        let mut step = Derivation::blank(alloc);
+        let read = self.next_into(alloc, &mut step);
+        item_read(step, read)
     }
 }

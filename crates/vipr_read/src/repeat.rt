@@ -105,8 +105,8 @@ pub(crate) fn many<S: Scan, P: Part>(
     ensures shape { IfOk result (λ v. All (P.shape part.now parser.old.variables) v.items) }
 {
     let mut parts = Vec::new(alloc);
-    many_into(parser, alloc, part, count, &mut parts)?;
-    Ok(parts)
+    let read = many_into(parser, alloc, part, count, &mut parts);
+    read.and(Ok(parts))
 }
 
 /// So many parts in a row, put into an empty list.

@@ -10,13 +10,12 @@ returns-in_err-problem g c known =
     let l = rest_of c.args.parser.now.rest in
     rw (q.1, q.2, certificate_parts l) (fails_first c.in_err-problem.field-0.0 (problem_read l) _ (c.in_err-problem.ensures.read known))
 
-pub returns-in_err-solutions : goal.returns-in_err-solutions
-returns-in_err-solutions g c known =
-    let q = err_from_is_err_and c.from_residual-in_err-solutions.result c.from_residual-in_err-solutions.ensures.1 in
+pub returns-in-Err : goal.returns-in-Err
+returns-in-Err g c known =
     let problem = c.in_ok-problem.ensures.read known in
-    rw (q.1, q.2, certificate_parts (rest_of c.args.parser.now.rest), problem.0) (c.in_err-solutions.ensures.read problem.1)
+    rw (certificate_parts (rest_of c.args.parser.now.rest), problem.0) ((rw c.in-Err.is at c.items.ensures.read) problem.1)
 
-pub returns : goal.returns
-returns g c known =
+pub returns-in-Ok : goal.returns-in-Ok
+returns-in-Ok g c known =
     let problem = c.in_ok-problem.ensures.read known in
-    rw (certificate_parts (rest_of c.args.parser.now.rest), problem.0, c.of_parts.ensures.parts) (c.in_ok-solutions.ensures.read problem.1)
+    rw (certificate_parts (rest_of c.args.parser.now.rest), problem.0, c.of_parts.ensures.parts) ((rw c.in-Ok.is at c.items.ensures.read) problem.1)

@@ -12,26 +12,25 @@ returns-in_err-names-clause-read g c known =
     let l = rest_of c.args.self.now.rest in
     rw (q.1, q.2, problem_parts l) (fails_first c.in_err-names.field-0.0 (variables_read l) _ (c.in_err-names.ensures.read known))
 
-pub returns-in_err-sections-clause-read : goal.returns-in_err-sections-clause-read
-returns-in_err-sections-clause-read g c known =
-    let q = err_from_is_err_and c.from_residual-in_err-sections.result c.from_residual-in_err-sections.ensures.1 in
+pub returns-in-Err-clause-read : goal.returns-in-Err-clause-read
+returns-in-Err-clause-read g c known =
     let size : c.len.result ≡ length c.in_ok-names.names.items = search rules in
     let names = c.in_ok-names.ensures.read known in
-    let sections = rw size at c.in_err-sections.ensures.read in
-    rw (q.1, q.2, problem_parts (rest_of c.args.self.now.rest), names.0) (fails_first c.in_err-sections.field-0.0 _ _ (sections.1 names.1))
+    let sections = rw (size, c.in-Err.is) at c.sections.ensures.read in
+    rw (problem_parts (rest_of c.args.self.now.rest), names.0) (fails_first c.in-Err.stop _ _ (sections.1 names.1))
 
-pub returns-in_err-claim-clause-read : goal.returns-in_err-claim-clause-read
-returns-in_err-claim-clause-read g c known =
-    let q = err_from_is_err_and c.from_residual-in_err-claim.result c.from_residual-in_err-claim.ensures.1 in
+pub returns-in-Err-claim_and_count-clause-read : goal.returns-in-Err-claim_and_count-clause-read
+returns-in-Err-claim_and_count-clause-read g c known =
     let size : c.len.result ≡ length c.in_ok-names.names.items = search rules in
     let names = c.in_ok-names.ensures.read known in
-    let sections = (rw size at c.in_ok-sections.ensures.read).1 names.1 in
-    rw (q.1, q.2, problem_parts (rest_of c.args.self.now.rest), names.0, sections.0) (fails_first c.in_err-claim.field-0.0 _ _ (c.in_err-claim.ensures.read.1 sections.1))
+    let sections = (rw (size, c.in-Ok.is) at c.sections.ensures.read).1 names.1 in
+    let claim = rw c.in-Err-claim_and_count.is at c.claim_and_count.ensures.read in
+    rw (problem_parts (rest_of c.args.self.now.rest), names.0, sections.0) (fails_first c.in-Err-claim_and_count.stop _ _ (claim.1 sections.1))
 
 pub of_parts-problem-requires : goal.of_parts-problem-requires
 of_parts-problem-requires g c =
     let size : c.len.result ≡ length c.in_ok-names.names.items = search rules in
-    let sections = rw size at c.in_ok-sections.ensures.sections in
+    let sections = rw (size, c.in-Ok.is) at c.sections.ensures.sections in
     record {
       shape = record {
         names = c.in_ok-names.ensures.names.tokens;
@@ -45,7 +44,7 @@ of_parts-problem-requires g c =
         objective = sections.objective.fits;
         constraints = sections.constraints.fit;
         bound_count = sections.constraints.bounds;
-        claim = c.in_ok-claim.ensures.fits;
+        claim = rw c.in-Ok-claim_and_count.is at c.claim_and_count.ensures.fits;
       };
     }
 
@@ -53,6 +52,6 @@ pub returns-clause-read : goal.returns-clause-read
 returns-clause-read g c known =
     let size : c.len.result ≡ length c.in_ok-names.names.items = search rules in
     let names = c.in_ok-names.ensures.read known in
-    let sections = (rw size at c.in_ok-sections.ensures.read).1 names.1 in
-    let claim = c.in_ok-claim.ensures.read.1 sections.1 in
+    let sections = (rw (size, c.in-Ok.is) at c.sections.ensures.read).1 names.1 in
+    let claim = (rw c.in-Ok-claim_and_count.is at c.claim_and_count.ensures.read).1 sections.1 in
     rw (problem_parts (rest_of c.args.self.now.rest), names.0, sections.0, claim.0, c.of_parts-problem.ensures.parts) (refl, claim.1)
