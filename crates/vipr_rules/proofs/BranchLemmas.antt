@@ -3,7 +3,8 @@
 use Rattle.std.proofs.Common.{◌≡◌, ◌≢◌, ℕ, Bool, true, false, not, ◌&&◌, nat_eq, List, [], ◌∷◌}
 use Rattle.std.proofs.Common.{◌++◌, Option, Some, None, refl, sym, ap, ap₂, ◌∙◌, subst, inl, inr}
 use Rattle.std.proofs.Common.{arith}
-use Rattle.std.specs.Prelude.{◌↔◌, IsTrue}
+use Rattle.std.specs.Prelude.{◌↔◌, ◌⊎◌, IsTrue, Result, Ok, Err, IfOk, OnOk, MatchResult}
+use Rattle.std.specs.Result.{result_and}
 use Rattle.std.proofs.lemmas.Bool.Decides.{nat_tests}
 use Rattle.std.specs.Cmp.{nat_cmp_total}
 use Rattle.std.specs.Ordering.{nat_cmp}
@@ -18,11 +19,11 @@ use Rattle.vipr_linear.specs.Constraint.{condition_of}
 use Rattle.vipr_linear.specs.declared.constraint.Constraint.{Constraint}
 use Rattle.vipr_rules.specs.declared.branches.Branch.{Branch}
 use Rattle.vipr_rules.specs.declared.error.RuleError.{RuleError}
-use Rattle.vipr_rules.specs.declared.error.RuleError.TheVariants.{NotAssumption}
+use Rattle.vipr_rules.specs.declared.error.RuleError.TheVariants.{NotAssumption, Memory}
 use Rattle.vipr_rules.specs.declared.context.Known.{Known}
 use Rattle.vipr_rules.specs.Context.{IsKnownAs, IsSetWithout, IsSetByReason, set_of, is_assumed}
 use Rattle.vipr_rules.specs.Apply.{index_tests, free_tests, PassesTestsIn, StopsIn, IsNotDominated}
-use Rattle.vipr_rules.specs.Apply.{shown_by}
+use Rattle.vipr_rules.specs.Apply.{IsRuledBy, shown_by}
 use Rattle.vipr_table.proofs.Laws.{tied_numbers}
 use Rattle.vipr_rules.proofs.StepLemmas.{stops_first, stops_second, passes_both, passes_one}
 use Rattle.vipr_rules.proofs.StepLemmas.{stops_one}
@@ -97,6 +98,12 @@ module _ (P : Profile) (c : Certificate) (d : Derivation) where
     constraint_stops e (is, bad) =
         stops_one P c d (by_constraint i) e (λ h. bad (dominates _ _ _ _ (sym says_x) (sym says_y) h)) (compared (condition_of x) (condition_of y), is, ap₂ compared says_x says_y)
 
+    pub constraint_tested : (r : Result (Unit {0}) RuleError) → MatchResult r (λ _. Dominates (condition_of x) (condition_of y)) (λ e. (e ≡ Memory) ⊎ IsNotDominated x y e)
+        → MatchResult r (λ _. PassesTestsIn P c d (by_constraint i ∷ [])) (λ e. (e ≡ Memory) ⊎ StopsIn P c d (by_constraint i ∷ []) e)
+    constraint_tested (Ok u) h = constraint_passes h
+    constraint_tested (Err e) (inl memory) = inl memory
+    constraint_tested (Err e) (inr known) = inr (constraint_stops e known)
+
 -- ---- all tests
 module _ (P : Profile) (c : Certificate) (d : Derivation) (first second : Branch) where
   abbrev reason : Reason
@@ -169,3 +176,37 @@ module _ (P : Profile) (c : Certificate) (d : Derivation) (first second : Branch
         all_pass p9 =
             passes_both P c d (indices ++ assumptions) (split first.assumption second.assumption ∷ conclusions) free
             (passes_both P c d (split first.assumption second.assumption ∷ []) conclusions p7 (passes_both P c d (by_constraint first.conclusion ∷ []) (by_constraint second.conclusion ∷ []) p8 p9))
+
+  -- the outcomes of the tests behind the indices, one after another, and then the joined set
+  module _ (found : PassesTestsIn P c d indices) where
+    pub branches_ruled : (r1 r2 r3 r4 r5 : Result (Unit {0}) RuleError) (joined : Result (FinSet nat_cmp) RuleError)
+        → MatchResult r1 (λ _. PassesTestsIn P c d (assumed first.assumption ∷ [])) (StopsIn P c d (assumed first.assumption ∷ []))
+        → MatchResult r2 (λ _. PassesTestsIn P c d (assumed second.assumption ∷ [])) (StopsIn P c d (assumed second.assumption ∷ []))
+        → MatchResult r3 (λ _. PassesTestsIn P c d (split first.assumption second.assumption ∷ [])) (λ e. (e ≡ Memory) ⊎ StopsIn P c d (split first.assumption second.assumption ∷ []) e)
+        → MatchResult r4 (λ _. PassesTestsIn P c d (by_constraint first.conclusion ∷ [])) (λ e. (e ≡ Memory) ⊎ StopsIn P c d (by_constraint first.conclusion ∷ []) e)
+        → MatchResult r5 (λ _. PassesTestsIn P c d (by_constraint second.conclusion ∷ [])) (λ e. (e ≡ Memory) ⊎ StopsIn P c d (by_constraint second.conclusion ∷ []) e)
+        → MatchResult joined (IsSetByReason c reason) (λ e. e ≡ Memory)
+        → IsRuledBy P c d reason (result_and (result_and (result_and (result_and (result_and r1 r2) r3) r4) r5) joined)
+    branches_ruled (Err e) r2 r3 r4 r5 joined h1 h2 h3 h4 h5 h6 = inr (stops_unless_first_assumed found e h1)
+    branches_ruled (Ok u1) (Err e) r3 r4 r5 joined h1 h2 h3 h4 h5 h6 = inr (stops_unless_second_assumed found h1 e h2)
+    branches_ruled (Ok u1) (Ok u2) (Err e) r4 r5 joined h1 h2 (inl memory) h4 h5 h6 = inl (memory, free_pass found h1 h2)
+    branches_ruled (Ok u1) (Ok u2) (Err e) r4 r5 joined h1 h2 (inr stops) h4 h5 h6 = inr (stops_unless_split (free_pass found h1 h2) e stops)
+    branches_ruled (Ok u1) (Ok u2) (Ok u3) (Err e) r5 joined h1 h2 h3 (inl memory) h5 h6 = inl (memory, free_pass found h1 h2)
+    branches_ruled (Ok u1) (Ok u2) (Ok u3) (Err e) r5 joined h1 h2 h3 (inr stops) h5 h6 = inr (stops_unless_first_dominates (free_pass found h1 h2) h3 e stops)
+    branches_ruled (Ok u1) (Ok u2) (Ok u3) (Ok u4) (Err e) joined h1 h2 h3 h4 (inl memory) h6 = inl (memory, free_pass found h1 h2)
+    branches_ruled (Ok u1) (Ok u2) (Ok u3) (Ok u4) (Err e) joined h1 h2 h3 h4 (inr stops) h6 = inr (stops_unless_second_dominates (free_pass found h1 h2) h3 h4 e stops)
+    branches_ruled (Ok u1) (Ok u2) (Ok u3) (Ok u4) (Ok u5) (Err e) h1 h2 h3 h4 h5 h6 = inl (h6, free_pass found h1 h2)
+    branches_ruled (Ok u1) (Ok u2) (Ok u3) (Ok u4) (Ok u5) (Ok s) h1 h2 h3 h4 h5 h6 = (all_pass (free_pass found h1 h2) h3 h4 h5, h6)
+
+-- what follows if all of these tests pass
+pub follows_if_all : {S : Type 0} (r1 r2 r3 r4 r5 : Result (Unit {0}) RuleError) (j : Result S RuleError)
+    (A1 A2 A3 A4 A5 : Type 0) (B4 B5 : RuleError → Type 0) (Q : S → Type 0)
+    → OnOk r1 A1 → OnOk r2 A2 → OnOk r3 A3 → MatchResult r4 (λ _. A4) B4
+    → MatchResult r5 (λ _. A5) B5 → (A1 → A2 → A3 → A4 → A5 → IfOk j Q)
+    → IfOk (result_and (result_and (result_and (result_and (result_and r1 r2) r3) r4) r5) j) Q
+follows_if_all (Err e) r2 r3 r4 r5 j A1 A2 A3 A4 A5 B4 B5 Q h1 h2 h3 h4 h5 f = tt
+follows_if_all (Ok u1) (Err e) r3 r4 r5 j A1 A2 A3 A4 A5 B4 B5 Q h1 h2 h3 h4 h5 f = tt
+follows_if_all (Ok u1) (Ok u2) (Err e) r4 r5 j A1 A2 A3 A4 A5 B4 B5 Q h1 h2 h3 h4 h5 f = tt
+follows_if_all (Ok u1) (Ok u2) (Ok u3) (Err e) r5 j A1 A2 A3 A4 A5 B4 B5 Q h1 h2 h3 h4 h5 f = tt
+follows_if_all (Ok u1) (Ok u2) (Ok u3) (Ok u4) (Err e) j A1 A2 A3 A4 A5 B4 B5 Q h1 h2 h3 h4 h5 f = tt
+follows_if_all (Ok u1) (Ok u2) (Ok u3) (Ok u4) (Ok u5) j A1 A2 A3 A4 A5 B4 B5 Q h1 h2 h3 h4 h5 f = f h1 h2 h3 h4 h5

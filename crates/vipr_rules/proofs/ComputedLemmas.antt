@@ -1,5 +1,8 @@
 -- What is computed of a sum: the sum itself, or its rounding, and the tests of it.
 use Rattle.std.proofs.Common.{◌≡◌, ℕ, List, [], ◌∷◌, refl}
+use Rattle.std.proofs.Common.{inl, inr}
+use Rattle.std.specs.Prelude.{◌⊎◌, Result, Ok, Err, MatchResult}
+use Rattle.std.specs.Result.{result_and}
 use Rattle.std.specs.FinSet.{FinSet}
 use Rattle.std.specs.Ordering.{nat_cmp}
 use Rattle.vipr_spec.specs.Fraction.{ℚ}
@@ -12,8 +15,9 @@ use Rattle.vipr_linear.specs.declared.constraint.Constraint.{Constraint}
 use Rattle.vipr_rules.specs.declared.error.RuleError.{RuleError}
 use Rattle.vipr_rules.specs.declared.sum.Computed.{Computed}
 use Rattle.vipr_rules.specs.declared.sum.Computed.TheVariants.{Sum, Rounding}
+use Rattle.vipr_rules.specs.declared.error.RuleError.TheVariants.{Memory}
 use Rattle.vipr_rules.specs.Context.{IsSetOfAll, IsSetByReason}
-use Rattle.vipr_rules.specs.Apply.{PassesTestsIn, StopsIn, free_tests}
+use Rattle.vipr_rules.specs.Apply.{PassesTestsIn, StopsIn, IsRuledBy, free_tests}
 use Rattle.vipr_rules.specs.Apply.{reason_by, computed_tests, DominatesBy}
 use Rattle.vipr_rules.proofs.StepLemmas.{stops_first, stops_second, passes_both, dominated}
 use Rattle.vipr_rules.proofs.RoundLemmas.{sum_rounded}
@@ -40,6 +44,15 @@ module _ (P : Profile) (c : Certificate) (d : Derivation) (es : List (ℕ × ℚ
       → DominatesBy k ints x (condition_of stated) → PassesTestsIn P c d (computed_tests k es)
   computed_passes Sum x stated ints summed same says h = dominated P c d es x stated summed says h
   computed_passes Rounding x stated ints summed same says h = sum_rounded P c d es x (condition_of stated) summed ints same says h.0 h.1
+
+  -- the outcome of these tests, and then the set
+  pub computed_ruled : (k : Computed) → PassesTestsIn P c d (sum_tests es) → (r : Result (Unit {0}) RuleError) (s : Result (FinSet nat_cmp) RuleError)
+      → MatchResult r (λ _. PassesTestsIn P c d (computed_tests k es)) (λ e. (e ≡ Memory) ⊎ StopsIn P c d (computed_tests k es) e)
+      → MatchResult s (IsSetByReason c (reason_by k es)) (λ e. e ≡ Memory) → IsRuledBy P c d (reason_by k es) (result_and r s)
+  computed_ruled k p (Err e) s (inl memory) h = inl (memory, none_free k)
+  computed_ruled k p (Err e) s (inr stops) h = inr (computing_stops k e p stops)
+  computed_ruled k p (Ok u) (Err e) q h = inl (h, none_free k)
+  computed_ruled k p (Ok u) (Ok s) q h = (all_computed k p q, h)
 
 pub set_computed : (c : Certificate) (es : List (ℕ × ℚ)) (s : FinSet nat_cmp) (k : Computed)
     → IsSetOfAll c es s → IsSetByReason c (reason_by k es) s

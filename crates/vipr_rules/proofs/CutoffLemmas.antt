@@ -1,6 +1,10 @@
 -- What the tests of the reason `sol` say of the best value.
 use Rattle.std.proofs.Common.{◌≡◌, ◌<◌, length, List, [], ◌∷◌, Some, None, All, refl, sym, ap, ap₂}
 use Rattle.std.proofs.Common.{◌∙◌, subst, inl, inr, arith}
+use Rattle.std.specs.Prelude.{◌⊎◌, Result, Ok, Err, MatchResult}
+use Rattle.std.specs.Result.{result_and}
+use Rattle.std.specs.FinSet.{FinSet}
+use Rattle.std.specs.Ordering.{nat_cmp}
 use Rattle.vipr_spec.specs.Fraction.{ℚ}
 use Rattle.vipr_spec.specs.Constraint.{Profile, Row, at, Condition, condition, Dominates, Compares}
 use Rattle.vipr_spec.specs.Certificate.{Named, Certificate, Derivation, Direction, minimum, maximum}
@@ -11,8 +15,9 @@ use Rattle.vipr_spec.proofs.Laws.{cuts_off}
 use Rattle.vipr_linear.specs.Constraint.{condition_of}
 use Rattle.vipr_linear.specs.declared.constraint.Constraint.{Constraint}
 use Rattle.vipr_rules.specs.declared.error.RuleError.{RuleError}
-use Rattle.vipr_rules.specs.declared.error.RuleError.TheVariants.{NoSolution}
-use Rattle.vipr_rules.specs.Apply.{StopsIn, PassesTestsIn, IsNotDominated}
+use Rattle.vipr_rules.specs.declared.error.RuleError.TheVariants.{NoSolution, Memory}
+use Rattle.vipr_rules.specs.Context.{IsSetByReason}
+use Rattle.vipr_rules.specs.Apply.{StopsIn, PassesTestsIn, IsNotDominated, IsRuledBy}
 
 none_below : (ss : List (Named Row)) → ss ≡ [] → ¬ (0 < length ss)
 none_below ss e h = let n = ap length e in omega (arith, n)
@@ -49,6 +54,12 @@ module _ (P : Profile) (c : Certificate) (d : Derivation) (best : ℚ) (is : IsB
         ),
       ),
     )
+
+    pub cut_ruled : (r : Result (Unit {0}) RuleError) (s : FinSet nat_cmp) → MatchResult r (λ _. Dominates (condition_of computed) (condition_of stated)) (λ e. (e ≡ Memory) ⊎ IsNotDominated computed stated e)
+        → IsSetByReason c sol s → IsRuledBy P c d sol (result_and r (Ok s))
+    cut_ruled (Ok u) s h rests = (cut_passes h, rests)
+    cut_ruled (Err e) s (inl memory) rests = inl (memory, listed_passes)
+    cut_ruled (Err e) s (inr known) rests = inr (cut_not_dominated e known)
 
 -- a value as good as the bound
 pub reached : (d : Direction) (v w : ℚ) → IsAsGood d v w → Compares (reaches d) v w

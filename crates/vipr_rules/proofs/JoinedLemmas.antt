@@ -6,8 +6,8 @@ use Rattle.std.proofs.lemmas.Bool.{cases_eq}
 use Rattle.std.proofs.lemmas.List.{get_or_default}
 use Rattle.std.specs.Cmp.{nat_cmp_total}
 use Rattle.std.specs.Ordering.{nat_cmp}
-use Rattle.std.specs.FinSet.{FinSet, contains, union, same_set, contains-union}
-use Rattle.std.specs.FinSet.{nat_cmp-IsAntisymmetric}
+use Rattle.std.specs.FinSet.{FinSet, contains, union, empty, same_set}
+use Rattle.std.specs.FinSet.{contains-union, contains-empty, nat_cmp-IsAntisymmetric}
 use Rattle.vipr_spec.specs.Fraction.{ℚ}
 use Rattle.vipr_spec.specs.Reading.{is_nonzero}
 use Rattle.vipr_rules.specs.Context.{AreJoined}
@@ -22,6 +22,10 @@ both false false h = refl
 pub union_within : (s t : FinSet nat_cmp)
     → ((a : ℕ) → IsTrue (contains t a) → IsTrue (contains s a)) → s ≡ union s t
 union_within s t h = same_set nat_cmp_total nat_cmp-IsAntisymmetric s (union s t) (λ q. both (contains s q) (contains t q) (h q) ∙ sym (contains-union nat_cmp_total s t q))
+
+-- a set to which the empty one is added
+pub none_union : (s : FinSet nat_cmp) → s ≡ union empty s
+none_union s = same_set nat_cmp_total nat_cmp-IsAntisymmetric s (union empty s) (λ q. sym (contains-union nat_cmp_total empty s q ∙ ap (λ b. b || contains s q) (contains-empty nat_cmp q)))
 
 module _ (found : ℕ → FinSet nat_cmp) (es : List (ℕ × ℚ)) (n : ℕ) (e : ℕ × ℚ) (lt : n < length es) (is : e ≡ get_or es n e) where
   is_same : (k : ℕ) (d : ℕ × ℚ) → k ≡ n → d ≡ get_or es k d → d ≡ e

@@ -2,7 +2,8 @@
 use Rattle.std.proofs.Common.{◌≡◌, ℕ, ◌<◌, ◌≤◌, length, IsTrue, true, false, ◌||◌, nat_eq, ap₂}
 use Rattle.std.proofs.Common.{arith, List, [], ◌∷◌, ◌++◌, Some, None, refl, sym, ◌∙◌, ap, subst}
 use Rattle.std.proofs.Common.{inl, inr}
-use Rattle.std.specs.Prelude.{◌↔◌, ◌⊎◌, Result, Ok, Err, MatchResult}
+use Rattle.std.specs.Prelude.{◌↔◌, ◌⊎◌, Result, Ok, Err, IfOk, MatchResult}
+use Rattle.std.specs.Result.{result_and, result_unwrap_or}
 use Rattle.std.proofs.lemmas.Bool.{cases_lt}
 use Rattle.std.specs.FinSet.{FinSet, contains, empty, insert, contains-insert, contains-empty}
 use Rattle.std.specs.Cmp.{nat_cmp_total, unsigned_tied}
@@ -27,7 +28,7 @@ use Rattle.vipr_table.specs.History.{IsEntryOf}
 use Rattle.vipr_rules.specs.Context.{IsSetByReason}
 use Rattle.vipr_rules.specs.declared.error.RuleError.TheVariants.{Memory}
 use Rattle.vipr_rules.specs.Apply.{StopsIn, PassesTestsIn, ReportsTest, KeepsSound, IsRefusalIn}
-use Rattle.vipr_rules.specs.Apply.{IsNotDominated, shown_by, free_tests}
+use Rattle.vipr_rules.specs.Apply.{IsNotDominated, IsRuledBy, shown_by, free_tests}
 use Rattle.vipr_rules.proofs.EntryTests.{passing_parts}
 
 -- ---- one list of tests after another
@@ -96,6 +97,43 @@ pub laid_out_known : (r : Result (Unit {0}) RuleError) (sum stated : Constraint)
 laid_out_known (Ok u) sum stated computed same h = subst (λ x. Dominates x (condition_of stated)) same h
 laid_out_known (Err e) sum stated computed same (inl memory) = inl memory
 laid_out_known (Err e) sum stated computed same (inr known) = inr (sum, same, known)
+
+-- ---- outcomes that are chained
+-- what follows of the second one if the first one is no error
+pub follows_if_ok : {S : Type 0} (r : Result (Unit {0}) RuleError) (s : Result S RuleError)
+    (A : Type 0) (B : RuleError → Type 0) (Q : S → Type 0)
+    → MatchResult r (λ _. A) B → (A → IfOk s Q) → IfOk (result_and r s) Q
+follows_if_ok (Ok u) s A B Q h f = f h
+follows_if_ok (Err e) s A B Q h f = tt
+
+-- a set that is found, unless a growth was refused
+module _ {E : Type 0} (found : Result (FinSet nat_cmp) E) (r : Result (FinSet nat_cmp) RuleError) (Q : FinSet nat_cmp → Type 0) where
+  pub found_or_memory : MatchResult found (λ s. r ≡ Ok s) (λ _. r ≡ Err Memory) → IfOk found Q → MatchResult r Q (λ e. e ≡ Memory)
+  found_or_memory is h = by found is h
+    where
+      by : (o : Result (FinSet nat_cmp) E) → MatchResult o (λ s. r ≡ Ok s) (λ _. r ≡ Err Memory) → IfOk o Q → MatchResult r Q (λ e. e ≡ Memory)
+      by (Ok s) is h = subst (λ x. MatchResult x Q (λ e. e ≡ Memory)) (sym is) h
+      by (Err e) is h = subst (λ x. MatchResult x Q (λ e. e ≡ Memory)) (sym is) refl
+
+  pub found_if_ok : MatchResult found (λ s. r ≡ Ok s) (λ _. r ≡ Err Memory) → IfOk found Q → IfOk r Q
+  found_if_ok is h = by found is h
+    where
+      by : (o : Result (FinSet nat_cmp) E) → MatchResult o (λ s. r ≡ Ok s) (λ _. r ≡ Err Memory) → IfOk o Q → IfOk r Q
+      by (Ok s) is h = subst (λ x. IfOk x Q) (sym is) h
+      by (Err e) is h = subst (λ x. IfOk x Q) (sym is) tt
+
+-- an error that is made, unless a growth was refused
+pub error_or_memory : {E : Type 0} (made : Result RuleError E) (e : RuleError)
+    (Q : RuleError → Type 0) → e ≡ result_unwrap_or made Memory → IfOk made Q
+    → (e ≡ Memory) ⊎ Q e
+error_or_memory (Ok x) e Q is h = inr (subst Q (sym is) h)
+error_or_memory (Err x) e Q is h = inl is
+
+pub assumption_ruled : (P : Profile) (c : Certificate) (d : Derivation)
+    (r : Result (FinSet nat_cmp) RuleError)
+    → MatchResult r (IsSetByReason c asm) (λ e. e ≡ Memory) → IsRuledBy P c d asm r
+assumption_ruled P c d (Ok s) h = (refl, h)
+assumption_ruled P c d (Err e) h = inl (h, refl)
 
 -- ---- what an assumption rests on
 pub own_set : (n a : ℕ) → IsTrue (contains (insert {R = nat_cmp} empty n) a) ↔ (n ≡ a)

@@ -14,7 +14,7 @@ ghost use Rattle.vipr_rules.specs.declared.error.RuleError.TheVariants.{Memory};
 
 use crate::context::{Context, Known};
 use crate::domination::check_domination;
-use crate::error::{RuleError, not_split};
+use crate::error::{RuleError, not_split, or_memory};
 use crate::profile::Profile;
 use std::alloc::Global;
 use vipr_linear::{Constraint, Ints};
@@ -46,20 +46,21 @@ pub(crate) fn join_branches<S: Rows>(
     let first_assumption = context.find(first.assumption)?;
     let second_conclusion = context.find(second.conclusion)?;
     let second_assumption = context.find(second.assumption)?;
-    check_assumption(first.assumption, first_assumption)?;
-    check_assumption(second.assumption, second_assumption)?;
-    check_split(
+    let (l1, l2) = (first.assumption, second.assumption);
+    let split = check_split(
         alloc,
         context.profile,
         first_assumption.constraint(),
         second_assumption.constraint(),
         context.problem.ints(),
-    )?;
-    check_domination(alloc, first_conclusion.constraint(), stated)?;
-    check_domination(alloc, second_conclusion.constraint(), stated)?;
-    let (l1, l2) = (first.assumption, second.assumption);
-    let joined = first_conclusion.joined_without(alloc, l1, second_conclusion, l2)?;
-    Ok(joined)
+    );
+    let tested = check_assumption(l1, first_assumption)
+        .and(check_assumption(l2, second_assumption))
+        .and(split)
+        .and(check_domination(alloc, first_conclusion.constraint(), stated))
+        .and(check_domination(alloc, second_conclusion.constraint(), stated));
+    let joined = first_conclusion.joined_without(alloc, l1, second_conclusion, l2);
+    tested.and(or_memory(joined))
 }
 
 fn check_assumption(index: u32, known: Known) -> Result<(), RuleError>

@@ -106,12 +106,14 @@ impl<'a> Known<'a> {
         ensures { IfOk result (λ s. s ≡ set.union (set.remove (set_of self.entry) index)
             (set.remove (set_of other.entry) other_index)) }
     {
-        if let (Known::Derived(first), Known::Derived(second)) = (self, other) {
-            let (first, second) = (&first.assumptions, &second.assumptions);
-            return first.union_without(alloc, index, second, other_index);
+        match (self, other) {
+            (Known::Given(_), _) => other.without(alloc, other_index),
+            (_, Known::Given(_)) => self.without(alloc, index),
+            (Known::Derived(first), Known::Derived(second)) => {
+                let (first, second) = (&first.assumptions, &second.assumptions);
+                first.union_without(alloc, index, second, other_index)
+            }
         }
-        let other = other.without(alloc, other_index)?;
-        self.without(alloc, index)?.union(alloc, &other)
     }
 }
 

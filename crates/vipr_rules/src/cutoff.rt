@@ -30,8 +30,9 @@ pub(crate) fn cut_off<S: Rows>(
         return Err(RuleError::NoSolution);
     };
     let computed = cutoff(context.problem, *value)?;
-    check_domination(alloc, &computed, stated)?;
-    Ok(Assumptions::empty(alloc))
+    let tested = check_domination(alloc, &computed, stated);
+    drop(computed);
+    tested.and(Ok(Assumptions::empty(alloc)))
 }
 
 /// The objective with this value as right-hand side: at most that if it is to be small, at least

@@ -4,14 +4,16 @@
 //! the position of an entry, or the constraints that don't go together. `Memory` is the one variant
 //! that says nothing about the derivation.
 
-ghost use Rattle.std.specs.Prelude.{◌≡◌, IfOk, Some};
+ghost use Rattle.std.specs.Prelude.{◌≡◌, IfOk, Some, Ok, Err, MatchResult};
 ghost use Rattle.vipr_spec.specs.Causes as cause;
 ghost use Rattle.vipr_spec.specs.Steps.{sum as shown_sum, both, compared};
 ghost use Rattle.vipr_linear.specs.Constraint.{condition_of};
 ghost use Rattle.vipr_rules.specs.Apply.{shown_by};
+ghost use Rattle.vipr_rules.specs.declared.error.RuleError.TheVariants.{Memory};
 
 use std::alloc::{AllocError, Global};
 use vipr_linear::Constraint;
+use vipr_table::Assumptions;
 
 /// Why a derivation is refused, with what there is to show of it.
 #[derive(Debug, Drop)]
@@ -55,6 +57,17 @@ impl From<AllocError> for RuleError {
     }
 }
 
+/// The assumptions that were found, or that a growth was refused.
+#[inline(always)]
+pub(crate) fn or_memory(found: Result<Assumptions, AllocError>) -> Result<Assumptions, RuleError>
+    ensures { MatchResult found (λ s. result ≡ Ok s) (λ _. result ≡ Err Memory) }
+{
+    match found {
+        Ok(assumptions) => Ok(assumptions),
+        Err(_) => Err(RuleError::Memory),
+    }
+}
+
 /// The error that says that this sum can't be rounded.
 pub(crate) fn not_roundable(alloc: Global, sum: Constraint) -> Result<RuleError, AllocError>
     ensures { IfOk result (λ e.
@@ -72,9 +85,14 @@ pub(crate) fn not_split(
     ensures { IfOk result (λ e. shown_by e
         ≡ Some (cause.not_split, both (condition_of first.now) (condition_of second.now))) }
 {
-    let first = Box::new(alloc, first.clone()?)?;
-    let second = Box::new(alloc, second.clone()?)?;
-    Ok(RuleError::NotSplit(first, second))
+    let first = boxed(alloc, first)?;
+    match boxed(alloc, second) {
+        Ok(second) => Ok(RuleError::NotSplit(first, second)),
+        Err(error) => {
+            drop(first);
+            Err(error)
+        }
+    }
 }
 
 /// The error that says that the one doesn't dominate the other.
@@ -88,7 +106,19 @@ pub(crate) fn not_dominated(
       compared (condition_of computed.now) (condition_of stated.now),
     )) }
 {
-    let computed = Box::new(alloc, computed.clone()?)?;
-    let stated = Box::new(alloc, stated.clone()?)?;
-    Ok(RuleError::NotDominated { computed, stated })
+    let computed = boxed(alloc, computed)?;
+    match boxed(alloc, stated) {
+        Ok(stated) => Ok(RuleError::NotDominated { computed, stated }),
+        Err(error) => {
+            drop(computed);
+            Err(error)
+        }
+    }
+}
+
+// A copy of the constraint, in a box.
+fn boxed(alloc: Global, constraint: &Constraint) -> Result<Box<Constraint>, AllocError>
+    ensures { IfOk result (λ b. b.value ≡ constraint.now) }
+{
+    Ok(Box::new(alloc, constraint.clone()?)?)
 }

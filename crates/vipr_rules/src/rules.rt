@@ -29,7 +29,7 @@ ghost use Rattle.vipr_rules.specs.Apply.{IsRuledBy, Applies, judged_entry, judge
 use crate::branches::{Branch, join_branches};
 use crate::context::Context;
 use crate::cutoff::cut_off;
-use crate::error::RuleError;
+use crate::error::{RuleError, or_memory};
 use crate::profile::Profile;
 use crate::sum::{Computed, combine};
 use std::alloc::Global;
@@ -93,12 +93,18 @@ pub fn apply_in<S: Rows>(
         rows,
     };
     let assumptions = assumptions_of(alloc, &context, scratch, step)?;
-    Ok(Entry {
-        constraint: step.constraint.clone()?,
-        assumptions,
-        is_assumption: is_assumption(&step.reason),
-        last: step.last,
-    })
+    match step.constraint.clone() {
+        Ok(constraint) => Ok(Entry {
+            constraint,
+            assumptions,
+            is_assumption: is_assumption(&step.reason),
+            last: step.last,
+        }),
+        Err(_) => {
+            drop(assumptions);
+            Err(RuleError::Memory)
+        }
+    }
 }
 
 /// Applies a derivation's reason, and gives the assumptions that its constraint rests on.
@@ -170,7 +176,7 @@ fn assumptions_of<S: Rows>(
 {
     let stated = &step.constraint;
     match &step.reason {
-        Reason::Asm => Ok(Assumptions::single(alloc, context.rows.next())?),
+        Reason::Asm => or_memory(Assumptions::single(alloc, context.rows.next())),
         Reason::Lin(entries) => combine(alloc, context, scratch, stated, entries, Computed::Sum),
         Reason::Rnd(entries) => {
             combine(alloc, context, scratch, stated, entries, Computed::Rounding)

@@ -23,7 +23,7 @@ ghost use Rattle.vipr_rules.specs.declared.error.RuleError.TheVariants.{Memory};
 
 use crate::context::{Context, Known};
 use crate::domination::check_domination;
-use crate::error::{RuleError, not_roundable};
+use crate::error::{RuleError, not_roundable, or_memory};
 use std::alloc::{AllocError, Global};
 use vipr_frac::Frac;
 use vipr_linear::{CombError, Combination, Constraint, Ints, NotRoundable, Rounded};
@@ -60,9 +60,17 @@ pub(crate) fn combine<S: Rows>(
     ensures variables { length scratch.new.sums ≡ length scratch.old.sums }
 {
     let mut assumptions = Union::new(alloc);
-    add_up(alloc, context, scratch, entries, &mut assumptions)?;
-    check_computed(alloc, scratch, context.problem.ints(), stated, computed)?;
-    Ok(assumptions.finish(alloc)?)
+    match add_up(alloc, context, scratch, entries, &mut assumptions) {
+        Ok(()) => {
+            let ints = context.problem.ints();
+            let tested = check_computed(alloc, scratch, ints, stated, computed);
+            tested.and(or_memory(assumptions.finish(alloc)))
+        }
+        Err(error) => {
+            drop(assumptions);
+            Err(error)
+        }
+    }
 }
 
 // Tests that the sum, or its rounding, dominates the stated constraint. The sum becomes a
@@ -93,7 +101,11 @@ fn check_computed(
     }
     let sum = finish(alloc, scratch)?;
     match computed {
-        Computed::Sum => check_domination(alloc, &sum, stated),
+        Computed::Sum => {
+            let tested = check_domination(alloc, &sum, stated);
+            drop(sum);
+            tested
+        }
         Computed::Rounding => check_rounded(alloc, sum, ints, stated),
     }
 }
@@ -114,9 +126,13 @@ fn check_rounded(
         × DominatesRounded (condition_of sum) (condition_of stated.now)) }
 {
     match sum.round(ints) {
-        Ok(Rounded::Row(computed)) => check_domination(alloc, &computed, stated),
+        Ok(Rounded::Row(computed)) => {
+            let tested = check_domination(alloc, &computed, stated);
+            drop(computed);
+            tested
+        }
         Ok(Rounded::Absurd) => Ok(()),
-        Err(NotRoundable(sum)) => Err(not_roundable(alloc, sum)?),
+        Err(NotRoundable(sum)) => Err(not_roundable(alloc, sum).unwrap_or(RuleError::Memory)),
     }
 }
 

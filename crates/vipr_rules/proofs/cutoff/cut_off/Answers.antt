@@ -6,9 +6,8 @@ use Rattle.vipr_spec.specs.Certificate.{Problem, variables, objective_at, object
 use Rattle.vipr_spec.specs.Certificate.{reaches, IsAsGood}
 use Rattle.vipr_spec.specs.Soundness.{IsBestValue}
 use Rattle.vipr_spec.proofs.Laws.{dominates_true}
-use Rattle.vipr_rules.proofs.CutoffLemmas.{none_listed, listed_passes, cut_passes}
-use Rattle.vipr_rules.proofs.CutoffLemmas.{cut_not_dominated, reached}
-use Rattle.vipr_rules.proofs.StepLemmas.{no_set}
+use Rattle.vipr_rules.proofs.CutoffLemmas.{none_listed, listed_passes, cut_ruled, reached}
+use Rattle.vipr_rules.proofs.StepLemmas.{no_set, follows_if_ok}
 use Rattle.vipr_rules.proofs.cutoff.cut_off.Goals as goal
 
 pub returns-in_err-computed-clause-ruled : goal.returns-in_err-computed-clause-ruled
@@ -19,33 +18,22 @@ returns-in_err-computed-clause-ruled g c = λ P d e is says.
     let q = err_from_is_err_and c.from_residual.result c.from_residual.ensures.1 in
     rw (q.1, q.2) (inl (refl, listed_passes P d e value best))
 
-pub returns-in_err-check_domination-clause-ruled : goal.returns-in_err-check_domination-clause-ruled
-returns-in_err-check_domination-clause-ruled g c = λ P d e is says.
-    let p = c.args.context.now.problem.now in
-    let value = c.in-Some.value.now in
-    let best = subst (λ p. IsBestValue p d.solutions (Some value)) (sym is.problem) (subst (IsBestValue p d.solutions) (ap option_copied c.in-Some.is) is.best) in
-    let same = c.in_ok-computed.ensures ∙ ap (λ (p : Problem). objective_constraint p (reaches p.direction) value) (sym is.problem) in
-    let q = err_from_is_err_and c.from_residual-in_err-check_domination.result c.from_residual-in_err-check_domination.ensures.1 in
-    rw (q.1, q.2) (elim c.in_err-check_domination.ensures [
-      | inl memory ↦ inl (memory, listed_passes P d e value best)
-      | inr known ↦ inr (cut_not_dominated P d e value best c.in_ok-computed.computed c.args.stated.now same says _ known)
-    ])
-
 pub returns-clause-ruled : goal.returns-clause-ruled
 returns-clause-ruled g c = λ P d e is says.
     let p = c.args.context.now.problem.now in
     let value = c.in-Some.value.now in
     let best = subst (λ p. IsBestValue p d.solutions (Some value)) (sym is.problem) (subst (IsBestValue p d.solutions) (ap option_copied c.in-Some.is) is.best) in
     let same = c.in_ok-computed.ensures ∙ ap (λ (p : Problem). objective_constraint p (reaches p.direction) value) (sym is.problem) in
-    (cut_passes P d e value best c.in_ok-computed.computed c.args.stated.now same says c.in_ok-check_domination.ensures, no_set d _ c.empty.ensures)
+    rw c.and.ensures (cut_ruled P d e value best c.in_ok-computed.computed c.args.stated.now same says c.check_domination-tested.result c.empty.result c.check_domination-tested.ensures (no_set d _ c.empty.ensures))
 
 pub returns-clause-sound : goal.returns-clause-sound
-returns-clause-sound g c = λ says x at h.
+returns-clause-sound g c =
     let p = c.args.context.now.problem.now in
     let value = c.in-Some.value.now in
+    rw c.and.ensures (follows_if_ok c.check_domination-tested.result _ _ _ _ c.check_domination-tested.ensures (λ dominates says x at h.
     let unbeaten = subst (λ b. IfSome b (IsAsGood p.direction (objective_at p x))) (ap option_copied c.in-Some.is) at.admitted.unbeaten in
-    dominates_true (variables p) x _ _ c.in_ok-check_domination.ensures
-    (subst (λ d. IsTrueAt (variables p) d x) (sym c.in_ok-computed.ensures) (reached p.direction (objective_at p x) value unbeaten))
+    dominates_true (variables p) x _ _ dominates
+    (subst (λ d. IsTrueAt (variables p) d x) (sym c.in_ok-computed.ensures) (reached p.direction (objective_at p x) value unbeaten))))
 
 pub returns-in_default-clause-ruled : goal.returns-in_default-clause-ruled
 returns-in_default-clause-ruled g c = λ P d e is says.

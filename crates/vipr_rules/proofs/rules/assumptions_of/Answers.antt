@@ -4,24 +4,24 @@ use Rattle.std.specs.FinSet.{empty, insert, contains}
 use Rattle.std.specs.Prelude.{IsTrue}
 use Rattle.vipr_spec.specs.Constraint.{IsTrueAt}
 use Rattle.vipr_spec.specs.Certificate.{variables, asm, lin, rnd, count}
-use Rattle.vipr_spec.specs.Steps.{step_tests}
 use Rattle.vipr_cert.specs.Items.{reason_of, derivation_of}
 use Rattle.vipr_rules.specs.Context.{IsSetByReason}
-use Rattle.vipr_rules.specs.Apply.{IsRuledBy, PassesTestsIn}
-use Rattle.vipr_rules.proofs.StepLemmas.{own_set}
+use Rattle.vipr_rules.specs.Apply.{IsRuledBy}
+use Rattle.vipr_rules.proofs.StepLemmas.{own_set, found_or_memory, found_if_ok, assumption_ruled}
 use Rattle.vipr_rules.proofs.rules.assumptions_of.Goals as goal
 
-pub returns-in_ok-single-in-Asm-clause-ruled : goal.returns-in_ok-single-in-Asm-clause-ruled
-returns-in_ok-single-in-Asm-clause-ruled g c = λ P d is.
+pub returns-in-Asm-clause-ruled : goal.returns-in-Asm-clause-ruled
+returns-in-Asm-clause-ruled g c = λ P d is.
     let step = derivation_of c.args.step.now in
-    let by = ap reason_of c.in-Asm.is in
-    let own = c.in_ok-single-in-Asm.ensures ∙ ap (insert empty) (c.next.ensures ∙ is.rows.next) in
-    subst (λ r. PassesTestsIn P d step (step_tests r) × IsSetByReason d r c.in_ok-single-in-Asm.field-0) (sym by) (refl, subst (IsSetByReason d asm) (sym own) (own_set (count d)))
+    let found = found_or_memory c.single.result c.or_memory.result (IsSetByReason d asm) c.or_memory.ensures
+    (IfOk-weaker c.single.result _ _ (λ s same. subst (IsSetByReason d asm) (sym (same ∙ ap (insert empty) (c.next.ensures ∙ is.rows.next))) (own_set (count d))) c.single.ensures) in
+    subst (λ r. IsRuledBy P d step r c.or_memory.result) (sym (ap reason_of c.in-Asm.is)) (assumption_ruled P d step c.or_memory.result found)
 
-pub returns-in_ok-single-in-Asm-clause-sound : goal.returns-in_ok-single-in-Asm-clause-sound
-returns-in_ok-single-in-Asm-clause-sound g c = λ says x at next h.
+pub returns-in-Asm-clause-sound : goal.returns-in-Asm-clause-sound
+returns-in-Asm-clause-sound g c =
+    found_if_ok c.single.result c.or_memory.result _ c.or_memory.ensures (IfOk-weaker c.single.result _ _ (λ s same says x at next h.
     subst (λ d. IsTrueAt (variables c.args.context.now.problem.now) d x) (ap says c.next.ensures ∙ next)
-    (h c.next.result (subst (λ s. IsTrue (contains s c.next.result)) (sym c.in_ok-single-in-Asm.ensures) ((own_set c.next.result c.next.result).1 refl)))
+    (h c.next.result (subst (λ s. IsTrue (contains s c.next.result)) (sym same) ((own_set c.next.result c.next.result).1 refl)))) c.single.ensures)
 
 pub returns-in-Lin-clause-ruled : goal.returns-in-Lin-clause-ruled
 returns-in-Lin-clause-ruled g c = λ P d is.

@@ -28,10 +28,10 @@ returns-then-follows-clause-tests c = λ P d e es summed ints says.
 
 pub returns-in-Sum-computed-clause-tests : goal.returns-in-Sum-computed-clause-tests
 returns-in-Sum-computed-clause-tests c = λ P d e es summed ints says.
-    let r = c.check_domination.result in
+    let r = c.check_domination-tested.result in
     let same = c.in_ok-sum.ensures.sum ∙ ap held_condition (kept (goal.at.returns-in-Sum-computed-clause-tests c).After-finish) in
     subst (λ k. MatchResult r (λ _. PassesTestsIn P d e (computed_tests k es)) (λ error. (error ≡ Memory) ⊎ StopsIn P d e (computed_tests k es) error)) (sym c.in-Sum-computed.is)
-    (MatchResult-weaker r (laid_out_known r _ _ _ same c.check_domination.ensures)
+    (MatchResult-weaker r (laid_out_known r _ _ _ same c.check_domination-tested.ensures)
     (λ _ h. dominated P d e es (held_condition c.args.scratch.now) c.args.stated.now summed says h)
     (λ error known. elim known [
       | inl memory ↦ inl memory
@@ -40,10 +40,10 @@ returns-in-Sum-computed-clause-tests c = λ P d e es summed ints says.
 
 pub returns-in-Sum-computed-clause-follows : goal.returns-in-Sum-computed-clause-follows
 returns-in-Sum-computed-clause-follows c =
-    let r = c.check_domination.result in
+    let r = c.check_domination-tested.result in
     let same = c.in_ok-sum.ensures.sum ∙ ap held_condition (kept (goal.at.returns-in-Sum-computed-clause-follows c).After-finish) in
     subst (λ k. OnOk r (DominatesBy k c.args.ints.now (held_condition c.args.scratch.now) (condition_of c.args.stated.now))) (sym c.in-Sum-computed.is)
-    (MatchResult-weaker r (laid_out_known r _ _ _ same c.check_domination.ensures) (λ _ h. h) (λ error known. tt))
+    (MatchResult-weaker r (laid_out_known r _ _ _ same c.check_domination-tested.ensures) (λ _ h. h) (λ error known. tt))
 
 pub returns-in-Rounding-computed-clause-tests : goal.returns-in-Rounding-computed-clause-tests
 returns-in-Rounding-computed-clause-tests c = λ P d e es summed ints says.
