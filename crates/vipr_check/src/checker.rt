@@ -162,7 +162,10 @@ impl<S: Rows> Checker<S> {
             → TakesSolution ss (solution_of solution) self.old self.new result }
         ensures decided { result ≢ Err Stop.Memory }
     {
-        self.go_on()?;
+        if let Err(stop) = self.go_on() {
+            drop(solution);
+            return Err(stop);
+        }
         let number = self.progress.solutions();
         let Named { name, item } = solution;
         let tested = self.progress.solution(&item);
@@ -245,7 +248,9 @@ impl<S: Rows> Checker<S> {
             → TakesStep c (derivation_of step) self.old self.new result }
     {
         let mut step = step;
-        self.take_from(alloc, &mut step)
+        let outcome = self.take_from(alloc, &mut step);
+        drop(step);
+        outcome
     }
 
     /// Checks the next derivation and takes its constraint, or its name if it is refused. Another
@@ -326,9 +331,7 @@ fn stop(halt: &mut Option<Halt>, why: Halt) -> Stop
     ensures halt { halt.new ≡ Some why }
     ensures answer { result ≡ halt_answer why }
 {
-    let answer = why.first_answer();
-    *halt = Some(why);
-    answer
+    halt.insert(why).first_answer()
 }
 
 // Stops at a derivation, and gives what is answered.

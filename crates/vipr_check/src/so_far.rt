@@ -28,6 +28,7 @@ use crate::goal::{goal_among, goal_with};
 use crate::verdict::Report;
 use std::alloc::{AllocError, Global};
 use std::marker::Model;
+use std::mem::replace;
 use vipr_cert::{Derivation, Problem};
 use vipr_frac::Frac;
 use vipr_linear::{Combination, Constraint, Solution};
@@ -139,7 +140,7 @@ fn lay_columns(alloc: Global, problem: &Problem, solutions: u32, columns: &mut O
     ensures { HasColumns problem.now columns.new }
 {
     if solutions == 1 {
-        *columns = Columns::of(alloc, problem);
+        drop(replace(columns, Columns::of(alloc, problem)));
     }
 }
 
@@ -206,7 +207,9 @@ impl<S: Rows> Progress<S> {
     pub(crate) fn into_problem(self) -> Problem
         ensures { result ≡ self.problem }
     {
-        self.problem
+        let (problem, target) = self.into_parts();
+        drop(target);
+        problem
     }
 
     /// The problem.
@@ -220,8 +223,28 @@ impl<S: Rows> Progress<S> {
     pub(crate) fn into_needed(self) -> Option<Constraint>
         ensures { option_map condition_of result ≡ goal_needed_by self.problem self.problem.claim }
     {
-        let Progress { target, .. } = self;
+        let (problem, target) = self.into_parts();
+        drop(problem);
         bound_of(target)
+    }
+
+    // The problem, and what a constraint must say to prove the dual side.
+    fn into_parts(self) -> (Problem, Target)
+        ensures problem { result.0 ≡ self.problem }
+        ensures needed { target_bound result.1 ≡ goal_needed_by self.problem self.problem.claim }
+    {
+        let Progress {
+            problem,
+            target,
+            rows,
+            scratch,
+            columns,
+            ..
+        } = self;
+        drop(rows);
+        drop(scratch);
+        drop(columns);
+        (problem, target)
     }
 
     /// How many solutions were listed.
@@ -273,7 +296,7 @@ impl<S: Rows> Progress<S> {
     pub(crate) fn forget_columns(&mut self)
         ensures { self.new ≡ self.old }
     {
-        self.columns = None;
+        drop(self.columns.take());
     }
 
     /// Whether the listed solutions meet the primal side of the claim.

@@ -89,7 +89,10 @@ fn after_solutions<R: Source + Drop, S: Rows>(
         → IsAmong P p ss checker.old solutions → IfOk result (IsOfProof P) }
 {
     'solutions: while solutions.left() > 0 {
-        next_solution(alloc, checker, &mut solutions)?;
+        if let Err(error) = next_solution(alloc, checker, &mut solutions) {
+            drop(solutions);
+            return Err(error);
+        }
     }
     after_last_solution(alloc, checker, solutions)
 }
@@ -137,9 +140,16 @@ fn after_last_solution<R: Source + Drop, S: Rows>(
     ensures any { (P : ProfileMeant) (p : ProblemMeant) (ss : List (NamedMeant Row))
         → IsAmong P p ss checker.old solutions → IfOk result (IsOfProof P) }
 {
-    checker.end_solutions()?;
-    let derivations = solutions.finish()?;
-    after_steps(alloc, checker, derivations)
+    match checker.end_solutions() {
+        Ok(()) => {
+            let derivations = solutions.finish()?;
+            after_steps(alloc, checker, derivations)
+        }
+        Err(stop) => {
+            drop(solutions);
+            Err(NoProof::from(stop))
+        }
+    }
 }
 
 // The report, if the checker took all derivations so far.
@@ -161,6 +171,8 @@ fn after_steps<R: Source + Drop, S: Rows>(
     'steps: loop {
         let answer = next_step(alloc, checker, &mut derivations, &mut step);
         if let Some(outcome) = answer.transpose() {
+            drop(step);
+            drop(derivations);
             return outcome;
         }
     }

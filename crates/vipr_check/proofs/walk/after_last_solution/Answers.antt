@@ -6,7 +6,7 @@ use Rattle.vipr_spec.specs.Progress.{solutions_from}
 use Rattle.vipr_scan.specs.Giving.{rest_of}
 use Rattle.vipr_check.specs.declared.no_proof.NoProof.{NoProof}
 use Rattle.vipr_check.specs.declared.verdict.Report.{Report}
-use Rattle.vipr_check.specs.Reasons.{text_reason, stop_reason}
+use Rattle.vipr_check.specs.Reasons.{text_reason}
 use Rattle.vipr_check.specs.Shown.{state_shown}
 use Rattle.vipr_check.specs.Run.{SaysWith}
 use Rattle.vipr_check.proofs.Answering.{handed_on}
@@ -17,48 +17,45 @@ use Rattle.vipr_check.proofs.walk.after_last_solution.Goals as goal
 pub end_solutions-requires : goal.end_solutions-requires
 end_solutions-requires g c = let (P, p, ss, is) = c.requires.among in is.phase
 
-pub returns-in_err-end_solutions-clause-explained :
-    goal.returns-in_err-end_solutions-clause-explained
-returns-in_err-end_solutions-clause-explained g c = λ P p ss is.
+pub returns-in-Err-clause-explained : goal.returns-in-Err-clause-explained
+returns-in-Err-clause-explained g c = λ P p ss is known.
     let left = rest_of c.args.solutions.rest in
     let l = c.end_solutions.new.self in
-    let e = c.in_err-end_solutions.field-0.0 in
-    handed_on (λ (r : Result Report NoProof). IsSome c.args.solutions.rest → SaysWith (Explained P (solutions_from p ss 0 left)) (state_shown l) r) c.from_residual.result (stop_reason e) c.from_residual.ensures.1
-    (λ known. ending_unmet P p ss c.args.checker.now l left e is.problem (c.in_err-end_solutions.ensures.next ss is.runs is.has))
+    rw c.from.ensures (ending_unmet P p ss c.args.checker.now l left c.in-Err.stop is.problem (c.in-Err.ensures.next ss is.runs is.has))
 
-pub returns-in_err-derivations-clause-explained : goal.returns-in_err-derivations-clause-explained
-returns-in_err-derivations-clause-explained g c = λ P p ss is.
+pub returns-in_err-derivations-in-Ok-clause-explained : goal.returns-in_err-derivations-in-Ok-clause-explained
+returns-in_err-derivations-in-Ok-clause-explained g c = λ P p ss is.
     let old = c.args.solutions in
     let k = c.args.checker.now in
     let l = c.end_solutions.new.self in
-    let h = c.in_ok-end_solutions.ensures.next ss is.runs is.has in
-    let e = c.in_err-derivations.field-0.0 in
-    handed_on (λ (r : Result Report NoProof). IsSome old.rest → SaysWith (Explained P (solutions_from p ss 0 (rest_of old.rest))) (state_shown l) r) c.from_residual-in_err-derivations.result (text_reason e) c.from_residual-in_err-derivations.ensures.1
-    (λ known. ending_failed P p ss (rest_of old.rest) (state_shown l) e (ending_shown P p ss k l old is h) (ending_met p ss k l is.problem h) (c.in_err-derivations.ensures.read p is.knows known))
+    let h = c.in-Ok.ensures.next ss is.runs is.has in
+    let e = c.in_err-derivations-in-Ok.field-0.0 in
+    handed_on (λ (r : Result Report NoProof). IsSome old.rest → SaysWith (Explained P (solutions_from p ss 0 (rest_of old.rest))) (state_shown l) r) c.from_residual.result (text_reason e) c.from_residual.ensures.1
+    (λ known. ending_failed P p ss (rest_of old.rest) (state_shown l) e (ending_shown P p ss k l old is h) (ending_met p ss k l is.problem h) (c.in_err-derivations-in-Ok.ensures.read p is.knows known))
 
 pub after_steps-requires : goal.after_steps-requires
 after_steps-requires g c =
     let (P, p, ss, is) = c.requires.among in
-    let new = c.in_ok-derivations.derivations in
-    let read = c.in_ok-derivations.ensures in
-    (P, start p ss, at_start P p ss c.args.checker.now c.end_solutions.new.self c.args.solutions is (c.in_ok-end_solutions.ensures.next ss is.runs is.has) new (knows_still p c.args.solutions new is.knows read.remembers) read.working read.counted)
+    let new = c.in_ok-derivations-in-Ok.derivations in
+    let read = c.in_ok-derivations-in-Ok.ensures in
+    (P, start p ss, at_start P p ss c.args.checker.now c.end_solutions.new.self c.args.solutions is (c.in-Ok.ensures.next ss is.runs is.has) new (knows_still p c.args.solutions new is.knows read.remembers) read.working read.counted)
 
-pub returns-clause-explained : goal.returns-clause-explained
-returns-clause-explained g c = λ P p ss is known.
+pub returns-in_ok-derivations-in-Ok-clause-explained : goal.returns-in_ok-derivations-in-Ok-clause-explained
+returns-in_ok-derivations-in-Ok-clause-explained g c = λ P p ss is known.
     let old = c.args.solutions in
-    let new = c.in_ok-derivations.derivations in
-    let read = c.in_ok-derivations.ensures in
+    let new = c.in_ok-derivations-in-Ok.derivations in
+    let read = c.in_ok-derivations-in-Ok.ensures in
     let k = c.args.checker.now in
     let l = c.end_solutions.new.self in
-    let h = c.in_ok-end_solutions.ensures.next ss is.runs is.has in
+    let h = c.in-Ok.ensures.next ss is.runs is.has in
     let r = read.read p is.knows known in
     let at = at_start P p ss k l old is h new (knows_still p old new is.knows read.remembers) read.working read.counted in
     ending_read P p ss new.left (rest_of old.rest) (rest_of new.rest) (state_shown c.after_steps.new.checker) c.after_steps.result (ending_met p ss k l is.problem h) r.0 (c.after_steps.ensures.explained P (start p ss) at r.1)
 
-pub returns-clause-any : goal.returns-clause-any
-returns-clause-any g c = λ P p ss is.
+pub returns-in_ok-derivations-in-Ok-clause-any : goal.returns-in_ok-derivations-in-Ok-clause-any
+returns-in_ok-derivations-in-Ok-clause-any g c = λ P p ss is.
     let old = c.args.solutions in
-    let new = c.in_ok-derivations.derivations in
-    let read = c.in_ok-derivations.ensures in
-    let h = c.in_ok-end_solutions.ensures.next ss is.runs is.has in
+    let new = c.in_ok-derivations-in-Ok.derivations in
+    let read = c.in_ok-derivations-in-Ok.ensures in
+    let h = c.in-Ok.ensures.next ss is.runs is.has in
     c.after_steps.ensures.any P (start p ss) (at_start P p ss c.args.checker.now c.end_solutions.new.self old is h new (knows_still p old new is.knows read.remembers) read.working read.counted)

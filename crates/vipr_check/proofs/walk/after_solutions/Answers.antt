@@ -5,7 +5,6 @@ use Rattle.vipr_scan.specs.Giving.{rest_of}
 use Rattle.vipr_check.specs.Shown.{state_shown}
 use Rattle.vipr_check.specs.Run.{SaysWith}
 use Rattle.vipr_check.proofs.RunLemmas.{listed_now, listed_later, listed_says}
-use Rattle.vipr_check.proofs.Answering.{handed_on}
 use Rattle.vipr_check.proofs.walk.after_solutions.Goals as goal
 
 pub solutions-init : goal.solutions-init
@@ -18,17 +17,13 @@ pub solutions-preserved : goal.solutions-preserved
 solutions-preserved g c = λ P p ss is.
     let h = c.solutions.invariant P p ss is in
     let new = c.next_solution.new in
-    listed_later P p ss c.solutions.checker new.checker c.args.solutions c.solutions.solutions new.solutions h (c.in_ok-next_solution.ensures.step P p h.now h.is_among)
+    listed_later P p ss c.solutions.checker new.checker c.args.solutions c.solutions.solutions new.solutions h (rw c.in_default.is at (c.next_solution.ensures.step P p h.now h.is_among))
 
-pub returns-in_err-next_solution-clause-explained :
-    goal.returns-in_err-next_solution-clause-explained
-returns-in_err-next_solution-clause-explained g c = λ P p ss is known.
+pub returns-in-Err-clause-explained : goal.returns-in-Err-clause-explained
+returns-in-Err-clause-explained g c = λ P p ss is known.
     let h = c.solutions.invariant P p ss is in
-    let old = c.args.solutions in
     let shown = state_shown c.next_solution.new.checker in
-    let e = c.in_err-next_solution.field-0.0 in
-    handed_on (SaysWith (Explained P (solutions_from p ss old.left (rest_of old.rest))) shown) c.from_residual.result e c.from_residual.ensures.1
-    (listed_says P p ss c.solutions.checker old c.solutions.solutions h known shown (Err e) (c.in_err-next_solution.ensures.step P p h.now h.is_among))
+    listed_says P p ss c.solutions.checker c.args.solutions c.solutions.solutions h known shown (Err c.in-Err.error) (c.in-Err.ensures.step P p h.now h.is_among)
 
 pub after_last_solution-requires-clause-among : goal.after_last_solution-requires-clause-among
 after_last_solution-requires-clause-among g c = let (P, p, ss, is) = c.requires in let h = c.solutions.invariant P p ss is in (P, p, h.now, h.is_among)

@@ -13,20 +13,20 @@ use Rattle.vipr_check.proofs.checker.Checker.take_solution.Goals as goal
 pub invariant_of-self : goal.invariant_of-self
 invariant_of-self g c =
     let s = solution_of c.args.solution in
-    reached_listed _ c.args.self.now c.solution-tested.new.self _ s c.self.view_is c.in_ok-go_on.ensures c.requires.phase c.self.invariant (λ ss has. (c.in-Ok.ensures.next ss s has refl).1)
+    reached_listed _ c.args.self.now c.solution-tested.new.self _ s c.self.view_is (rw c.in_default.is at c.go_on.ensures) c.requires.phase c.self.invariant (λ ss has. (c.in-Ok.ensures.next ss s has refl).1)
 
-pub invariant_of-self-in-Err : goal.invariant_of-self-in-Err
-invariant_of-self-in-Err g c =
+pub invariant_of-self-in-Err-tested : goal.invariant_of-self-in-Err-tested
+invariant_of-self-in-Err-tested g c =
     let s = solution_of c.args.solution in
     let k = c.self.inside.progress in
     let n = c.solutions-number.result in
     let h = c.at_solution.result in
-    let halted = solution_halted n s.name c.in-Err.error h c.at_solution.ensures in
-    let unstopped : c.self.inside.halt ≡ None = ap (λ v. v.halt) c.self.view_is ∙ runs_of c.args.self.now.halt _ c.in_ok-go_on.ensures in
+    let halted = solution_halted n s.name c.in-Err-tested.error h c.at_solution.ensures in
+    let unstopped : c.self.inside.halt ≡ None = ap (λ v. v.halt) c.self.view_is ∙ runs_of c.args.self.now.halt _ (rw c.in_default.is at c.go_on.ensures) in
     let phase : c.self.inside.in_solutions ≡ true = ap (λ v. v.in_solutions) c.self.view_is ∙ c.requires.phase in
     let r = c.self.invariant.solutions (λ m. absurd (cc (unstopped, m))) phase in
-    let shows = subst (CanShowHalt k.problem) (sym c.stop.ensures.halt) (solution_can_show k.problem s.item n s.name c.in-Err.error h (c.in-Err.ensures.next r.0 s r.1 refl) halted) in
-    subst (λ x. IsReached x c.self.inside.in_solutions c.stop.new.halt) (sym c.in-Err.ensures.err) (reached_still k c.self.inside.in_solutions c.self.inside.halt c.stop.new.halt unstopped shows c.self.invariant)
+    let shows = subst (CanShowHalt k.problem) (sym c.stop.ensures.halt) (solution_can_show k.problem s.item n s.name c.in-Err-tested.error h (c.in-Err-tested.ensures.next r.0 s r.1 refl) halted) in
+    subst (λ x. IsReached x c.self.inside.in_solutions c.stop.new.halt) (sym c.in-Err-tested.ensures.err) (reached_still k c.self.inside.in_solutions c.self.inside.halt c.stop.new.halt unstopped shows c.self.invariant)
 
 pub returns-in-Ok-clause-next : goal.returns-in-Ok-clause-next
 returns-in-Ok-clause-next g c = λ ss halted has.
@@ -39,16 +39,16 @@ returns-in-Ok-clause-next g c = λ ss halted has.
       listed_frame _ c.args.self.now new new.solutions new.best c.self.view_is c.in-Ok.ensures.ok,
     )
 
-pub returns-in-Err-clause-next : goal.returns-in-Err-clause-next
-returns-in-Err-clause-next g c = λ ss unhalted has.
+pub returns-in-Err-tested-clause-next : goal.returns-in-Err-tested-clause-next
+returns-in-Err-tested-clause-next g c = λ ss unhalted has.
     let s = solution_of c.args.solution in
     let k = c.self.inside.progress in
     let n = c.solutions-number.result in
     let same = ap (λ v. v.progress) c.self.view_is in
     let is = subst (HasSolutions ss) (sym same) has in
     let h = c.at_solution.result in
-    let halted = solution_halted n s.name c.in-Err.error h c.at_solution.ensures in (
+    let halted = solution_halted n s.name c.in-Err-tested.error h c.at_solution.ensures in (
       h,
-      halts_same _ c.args.self.now c.solution-tested.new.self c.stop.new.halt h c.stop.result c.self.view_is c.in-Err.ensures.err c.stop.ensures.halt c.stop.ensures.answer,
-      subst (λ (x : Progress). StopsSolution x.problem ss s h) same (stops_solution k.problem ss s n c.in-Err.error h (is.solutions ∙ sym c.solutions-number.ensures) halted (c.in-Err.ensures.next ss s is refl)),
+      halts_same _ c.args.self.now c.solution-tested.new.self c.stop.new.halt h c.stop.result c.self.view_is c.in-Err-tested.ensures.err c.stop.ensures.halt c.stop.ensures.answer,
+      subst (λ (x : Progress). StopsSolution x.problem ss s h) same (stops_solution k.problem ss s n c.in-Err-tested.error h (is.solutions ∙ sym c.solutions-number.ensures) halted (c.in-Err-tested.ensures.next ss s is refl)),
     )
