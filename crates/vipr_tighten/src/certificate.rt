@@ -1,5 +1,5 @@
 //! The tightened certificate.
-ghost use Rattle.std.specs.Prelude.{◌≡◌, ◌+◌, ◌<◌, ◌≤◌, length, map, IfOk, IfSome};
+ghost use Rattle.std.specs.Prelude.{◌≡◌, ◌+◌, ◌<◌, ◌≤◌, length, map, IfOk, IfSome, OnOk};
 ghost use Rattle.vipr_spec.specs.Certificate.{Certificate as CertificateMeant, count};
 ghost use Rattle.vipr_spec.specs.Reading.{most_count};
 ghost use Rattle.vipr_spec.specs.Steps.{RefersBack};
@@ -38,8 +38,14 @@ pub fn tighten_certificate(
 {
     let (problem, solutions, derivations) = certificate.into_parts();
     let first = problem.cons().len() as u32;
-    let tightened = tighten_derivations(alloc, derivations, first, goal)?;
-    Ok(Certificate::of_parts(problem, solutions, tightened))
+    match tighten_derivations(alloc, derivations, first, goal) {
+        Ok(tightened) => Ok(Certificate::of_parts(problem, solutions, tightened)),
+        Err(error) => {
+            drop(problem);
+            drop(solutions);
+            Err(error)
+        }
+    }
 }
 
 // The derivations alone that a goal needs. The first one has the index `first`.
@@ -56,31 +62,36 @@ fn tighten_derivations(
         → AreDerivationsOf c first (map derivation_of derivations.items)
         → map derivation_of kept.items ≡ (tightened_certificate c goal).derivations) }
 {
-    let steps = steps_of(alloc, derivations)?;
-    let kept = tighten_steps(alloc, steps, first, goal)?;
-    derivations_of(alloc, kept)
+    let mut steps = steps_of(alloc, derivations)?;
+    match tighten_steps(alloc, &mut steps, first, goal) {
+        Ok(()) => derivations_of(alloc, steps),
+        Err(error) => {
+            drop(steps);
+            Err(error)
+        }
+    }
 }
 
-/// The steps alone that a goal needs, as `tighten_certificate` keeps the derivations. The first
-/// step has the index `first`.
+/// Keeps the steps alone that a goal needs, as `tighten_certificate` keeps the derivations. The
+/// first step has the index `first`.
 ///
 /// # Errors
 ///
-/// `AllocError` if a growth was refused. The steps are dropped.
+/// `AllocError` if a growth was refused. The steps are good for nothing then.
 pub(crate) fn tighten_steps<S: Drop>(
     alloc: Global,
-    steps: Vec<Step<S>>,
+    steps: &mut Vec<Step<S>>,
     first: u32,
     goal: Option<u32>,
-) -> Result<Vec<Step<S>>, AllocError>
-    requires few { first + length steps.items ≤ most_count }
-    requires earlier { StepsNameEarlier first steps.items }
-    requires goal { IfSome goal (λ g. g < first + length steps.items) }
-    ensures { IfOk result (λ kept. (view : S → NamedConstraint) (c : CertificateMeant)
-        → StandFor steps.items view first c
-        → map (step_of view) kept.items ≡ (tightened_certificate c goal).derivations) }
+) -> Result<(), AllocError>
+    requires few { first + length steps.old.items ≤ most_count }
+    requires earlier { StepsNameEarlier first steps.old.items }
+    requires goal { IfSome goal (λ g. g < first + length steps.old.items) }
+    ensures { OnOk result ((view : S → NamedConstraint) (c : CertificateMeant)
+        → StandFor steps.old.items view first c
+        → map (step_of view) steps.new.items ≡ (tightened_certificate c goal).derivations) }
 {
-    let marks = needed(alloc, &steps, first as usize, goal)?;
+    let marks = needed(alloc, steps, first as usize, goal)?;
     renumber(alloc, steps, &marks, first)
 }
 
@@ -130,10 +141,16 @@ fn derivations_of(
 fn as_derivation(alloc: Global, step: Step<Named<Constraint>>) -> Result<Derivation, AllocError>
     ensures { IfOk result (λ d. derivation_of d ≡ step_of (named_of constraint_of) step) }
 {
-    Ok(Derivation {
-        name: step.stated.name,
-        constraint: step.stated.item,
-        reason: step.reason.into_reason(alloc)?,
-        last: step.last,
-    })
+    match step.reason.into_reason(alloc) {
+        Ok(reason) => Ok(Derivation {
+            name: step.stated.name,
+            constraint: step.stated.item,
+            reason,
+            last: step.last,
+        }),
+        Err(error) => {
+            drop(step.stated);
+            Err(error)
+        }
+    }
 }

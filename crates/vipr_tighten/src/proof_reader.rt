@@ -82,57 +82,93 @@ fn read_rest<R: Source + Drop>(
     ensures unproved { IfErr result (λ e. IsSome solutions.rest
         → AnswersWhy (profile_of profile) (solutions_left problem [] solutions) e) }
 {
-    let mut checker: Checker<Table> = Checker::new_in(alloc, profile, problem)?;
-    let read = read_items(alloc, &mut checker, form, solutions);
+    let Ok(mut checker) = Checker::<Table>::new_in(alloc, profile, problem) else {
+        drop(solutions);
+        return Err(NoProof::Memory);
+    };
+    let mut listed = Vec::new(alloc);
+    let mut steps = Vec::new(alloc);
+    let read = read_items(
+        alloc,
+        &mut checker,
+        form,
+        solutions,
+        &mut listed,
+        &mut steps,
+    );
     // The checker is given up at this one place, whatever was answered.
     let problem = checker.into_problem();
-    let (solutions, statements, steps, report) = read?;
-    Ok(KeptProof {
-        problem,
-        solutions,
-        statements,
-        steps,
-        report,
-    })
+    match read {
+        Ok((statements, report)) => Ok(KeptProof {
+            problem,
+            solutions: listed,
+            statements,
+            steps,
+            report,
+        }),
+        Err(reason) => {
+            drop(problem);
+            drop(listed);
+            drop(steps);
+            Err(reason)
+        }
+    }
 }
 
-// The solutions and the derivations that follow, up to the end of the text, and the report of the
-// proof that they make.
+// The solutions and the derivations that follow, up to the end of the text. The steps are kept
+// with their statements. Gives the report of the proof that they make.
 fn read_items<R: Source + Drop>(
     alloc: Global,
     checker: &mut Checker<Table>,
     form: Form,
     mut solutions: Solutions<R>,
-) -> Result<
-    (
-        Vec<Named<Solution>>,
-        Statements,
-        Vec<Step<Statement>>,
-        Report,
-    ),
-    NoProof,
->
-    requires { (P : ProfileMeant) × (p : ProblemMeant) × IsAmong P p [] checker.old solutions }
+    listed: &mut Vec<Named<Solution>>,
+    steps: &mut Vec<Step<Statement>>,
+) -> Result<(Statements, Report), NoProof>
+    requires among { (P : ProfileMeant) × (p : ProblemMeant)
+        × IsAmong P p [] checker.old solutions }
+    requires none_listed { listed.old.items ≡ [] }
+    requires no_steps { steps.old.items ≡ [] }
     ensures kept { IfOk result (λ x. (P : ProfileMeant) (p : ProblemMeant)
         → IsAmong P p [] checker.old solutions
-        → (checker.new.progress.problem ≡ p) × IsFor form p x.1 × (ds : List DerivationMeant)
-        × AreKept x.1 x.2.items ds
-        × (CanWriteProblem p → CanWrite (with_more (start p (map solution_of x.0.items)) ds))
-        × KeepsProof P p solutions (with_more (start p (map solution_of x.0.items)) ds) x.3) }
+        → (checker.new.progress.problem ≡ p) × IsFor form p x.0 × (ds : List DerivationMeant)
+        × AreKept x.0 steps.new.items ds
+        × (CanWriteProblem p
+        → CanWrite (with_more (start p (map solution_of listed.new.items)) ds))
+        × KeepsProof P p solutions (with_more (start p (map solution_of listed.new.items)) ds)
+        x.1) }
     ensures unproved { IfErr result (λ e. (P : ProfileMeant) (p : ProblemMeant)
         → IsAmong P p [] checker.old solutions → IsSome solutions.rest
         → AnswersWhy P (solutions_left p [] solutions) e) }
 {
-    let listed = read_listed(alloc, checker, &mut solutions)?;
+    if let Err(reason) = read_listed(alloc, checker, &mut solutions, listed) {
+        drop(solutions);
+        return Err(reason);
+    }
     let mut derivations = solutions.finish()?;
-    let mut statements = Statements::new(alloc, form, checker.problem().objective())?;
+    let Ok(mut statements) = Statements::new(alloc, form, checker.problem().objective()) else {
+        drop(derivations);
+        return Err(NoProof::Memory);
+    };
     let mut step = Derivation::blank(alloc);
-    let derived = read_derived(alloc, checker, &mut statements, &mut derivations, &mut step);
+    let derived = read_derived(
+        alloc,
+        checker,
+        &mut statements,
+        &mut derivations,
+        &mut step,
+        steps,
+    );
     // Dropped at this one place, whatever was answered.
     drop(step);
     drop(derivations);
-    let (steps, report) = derived?;
-    Ok((listed, statements, steps, report))
+    match derived {
+        Ok(report) => Ok((statements, report)),
+        Err(reason) => {
+            drop(statements);
+            Err(reason)
+        }
+    }
 }
 
 // All solutions that follow, where they meet the primal side of the claim.
@@ -140,65 +176,71 @@ fn read_listed<R: Source>(
     alloc: Global,
     checker: &mut Checker<Table>,
     solutions: &mut Solutions<R>,
-) -> Result<Vec<Named<Solution>>, NoProof>
-    requires { (P : ProfileMeant) × (p : ProblemMeant)
+    listed: &mut Vec<Named<Solution>>,
+) -> Result<(), NoProof>
+    requires among { (P : ProfileMeant) × (p : ProblemMeant)
         × IsAmong P p [] checker.old solutions.old }
-    ensures none { IfOk result (λ ss. solutions.new.left ≡ 0) }
-    ensures items { IfOk result (λ ss.
-        All (SolutionShape solutions.old.variables) (map solution_of ss.items)
-        × All (λ s. RowFits s.item) (map solution_of ss.items)) }
-    ensures kept { IfOk result (λ ss. (P : ProfileMeant) (p : ProblemMeant)
+    requires none_listed { listed.old.items ≡ [] }
+    ensures none { OnOk result (solutions.new.left ≡ 0) }
+    ensures items { OnOk result
+        (All (SolutionShape solutions.old.variables) (map solution_of listed.new.items)
+        × All (λ s. RowFits s.item) (map solution_of listed.new.items)) }
+    ensures kept { OnOk result ((P : ProfileMeant) (p : ProblemMeant)
         → IsAmong P p [] checker.old solutions.old
-        → KeepsMet P p solutions.old (map solution_of ss.items) checker.new solutions.new) }
+        → KeepsMet P p solutions.old (map solution_of listed.new.items) checker.new
+        solutions.new) }
     ensures unproved { IfErr result (λ e. (P : ProfileMeant) (p : ProblemMeant)
         → IsAmong P p [] checker.old solutions.old → IsSome solutions.old.rest
         → AnswersWhy P (solutions_left p [] solutions.old) e) }
 {
-    let mut listed = Vec::new(alloc);
     'solutions: loop {
         match solutions.next(alloc)? {
             Some(solution) => {
-                checker.solution(&solution)?;
+                if let Err(stop) = checker.solution(&solution) {
+                    drop(solution);
+                    return Err(NoProof::from(stop));
+                }
                 listed.push(solution)?;
             }
             None => {
                 checker.end_solutions()?;
-                return Ok(listed);
+                return Ok(());
             }
         }
     }
 }
 
-// All derivations that follow, up to the end of the text, and the report, where they make a proof.
-// Each is read in place of `step`.
+// All derivations that follow, up to the end of the text, where they make a proof. Each is read in
+// place of `step`. Gives the report.
 fn read_derived<R: Source>(
     alloc: Global,
     checker: &mut Checker<Table>,
     statements: &mut Statements,
     derivations: &mut Derivations<R>,
     step: &mut Derivation,
-) -> Result<(Vec<Step<Statement>>, Report), NoProof>
+    steps: &mut Vec<Step<Statement>>,
+) -> Result<Report, NoProof>
     requires at { (P : ProfileMeant) × (p : ProblemMeant) × (ss : List (NamedMeant Row))
         × IsAt P (start p ss) checker.old derivations.old }
     requires none { AreKept statements.old [] [] }
+    requires no_steps { steps.old.items ≡ [] }
     ensures same { OnOk result (IsForSame statements.old statements.new) }
-    ensures kept { IfOk result (λ x. (ds : List DerivationMeant)
-        × KeepsSteps derivations.old.variables statements.new x.0.items ds
+    ensures kept { IfOk result (λ report. (ds : List DerivationMeant)
+        × KeepsSteps derivations.old.variables statements.new steps.new.items ds
         × ((P : ProfileMeant) (p : ProblemMeant) (ss : List (NamedMeant Row))
         → IsAt P (start p ss) checker.old derivations.old
-        → KeepsFinished P (start p ss) derivations.old (with_more (start p ss) ds) x.1
+        → KeepsFinished P (start p ss) derivations.old (with_more (start p ss) ds) report
         checker.new)) }
     ensures unproved { IfErr result
         (λ e. (P : ProfileMeant) (p : ProblemMeant) (ss : List (NamedMeant Row))
         → IsAt P (start p ss) checker.old derivations.old → IsSome derivations.old.rest
         → AnswersWhy P (derivations_left (start p ss) derivations.old) e) }
 {
-    let mut steps = Vec::new(alloc);
     'steps: loop {
         let found = derivations.next_into(alloc, step)?;
         if !found {
             let report = checker.finish()?;
-            return Ok((steps, report));
+            return Ok(report);
         }
         checker.derivation(alloc, step)?;
         let kept = statements.keep(alloc, step)?;

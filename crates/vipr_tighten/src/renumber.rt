@@ -1,5 +1,5 @@
 //! New indices and last references: one pass from the front.
-ghost use Rattle.std.specs.Prelude.{◌≡◌, ◌+◌, ◌<◌, ◌≤◌, ◌&&◌, nat_eq, All, IfOk, Some, None, map};
+ghost use Rattle.std.specs.Prelude.{◌≡◌, ◌+◌, ◌<◌, ◌≤◌, ◌&&◌, nat_eq, All, OnOk, Some, None, map};
 ghost use Rattle.std.specs.Prelude.{◌∷◌, [], length};
 ghost use Rattle.std.specs.List.{list_any};
 ghost use Rattle.vipr_spec.specs.Certificate.{NamesEarlier, lin};
@@ -19,33 +19,33 @@ use vipr_cert::{Reason, References};
 use vipr_frac::Frac;
 use vipr_write::{ShortEntry, Step, StepReason, StepReferences};
 
-/// The steps with a mark, in their order, under their new indices and with their last references.
-/// The first step has the index `first`.
+/// Keeps the steps with a mark, in their order, under their new indices and with their last
+/// references. The first step has the index `first`.
 pub(crate) fn renumber<S: Drop>(
     alloc: Global,
-    mut steps: Vec<Step<S>>,
+    steps: &mut Vec<Step<S>>,
     marks: &[bool],
     first: u32,
-) -> Result<Vec<Step<S>>, AllocError>
-    requires size { length marks.now ≡ length steps.items }
-    requires few { first + length steps.items ≤ most_count }
-    requires earlier { StepsNameEarlier first steps.items }
-    ensures { IfOk result (λ kept. (view : S → NamedConstraint)
-        → map (step_of view) kept.items
-        ≡ kept_derivations (kept_by first marks.now) first (map (step_of view) steps.items)) }
+) -> Result<(), AllocError>
+    requires size { length marks.now ≡ length steps.old.items }
+    requires few { first + length steps.old.items ≤ most_count }
+    requires earlier { StepsNameEarlier first steps.old.items }
+    ensures { OnOk result ((view : S → NamedConstraint)
+        → map (step_of view) steps.new.items
+        ≡ kept_derivations (kept_by first marks.now) first (map (step_of view) steps.old.items)) }
 {
     let mut table = Vec::with_capacity(alloc, steps.len())?;
     let mut kept = 0;
     for place in 0..steps.len() {
         let index = first + kept as u32;
         if marks[place] {
-            take_over(alloc, &mut steps, kept, place, first, &table);
+            take_over(alloc, steps, kept, place, first, &table);
             kept += 1;
         }
         table.push(index)?;
     }
     steps.truncate(kept);
-    Ok(steps)
+    Ok(())
 }
 
 // Takes the step at a place over, behind the first `kept`: under its new indices, and as the last

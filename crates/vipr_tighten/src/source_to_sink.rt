@@ -17,7 +17,6 @@ use crate::outcome::{Outcome, TightenFault};
 use crate::peak::peak;
 use crate::proof_reader::{KeptProof, read_proof};
 use std::alloc::Global;
-use std::mem::replace;
 use vipr_bytes::{Sink, Source};
 use vipr_check::NoProof;
 use vipr_rules::Profile;
@@ -111,7 +110,7 @@ fn without_proof(reason: NoProof) -> Result<Outcome, TightenFault>
     }
 }
 
-// Writes the tightened certificate of the proof of which this is kept. The steps are moved out.
+// Writes the tightened certificate of the proof of which this is kept. Only its steps stay.
 fn write_tightened<W: Sink>(
     alloc: Global,
     proof: &mut KeptProof,
@@ -122,19 +121,18 @@ fn write_tightened<W: Sink>(
     ensures { (P : ProfileMeant) (F : FormMeant) (c : CertificateMeant) → IsKeptOf P F c proof.old
         → TightensText P F (kind_of c) (W.output sink.old) (W.output sink.new) result }
 {
-    let steps = replace(&mut proof.steps, Vec::new(alloc));
+    let first = proof.problem.cons().len();
+    tighten_steps(alloc, &mut proof.steps, first as u32, proof.report.goal)?;
     let KeptProof {
         problem,
         solutions,
         statements,
+        steps,
         report,
-        ..
     } = &*proof;
-    let first = problem.cons().len();
-    let tightened = tighten_steps(alloc, steps, first as u32, report.goal)?;
-    let peak_after = peak(alloc, first, &tightened)?;
-    let kept = tightened.len() as u32;
-    match write_steps(alloc, problem, solutions, statements, &tightened, sink) {
+    let peak_after = peak(alloc, first, steps)?;
+    let kept = steps.len() as u32;
+    match write_steps(alloc, problem, solutions, statements, steps, sink) {
         Ok(()) => Ok(Outcome::Tightened {
             kept,
             removed: report.derived - kept,

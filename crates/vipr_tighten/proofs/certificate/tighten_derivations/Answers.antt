@@ -20,7 +20,7 @@ tighten_steps-requires-clause-goal c =
     let (x, are, can) = c.requires in
     stand_goal x c.args.derivations.items c.args.first are c.in_ok-steps.steps.items c.in_ok-steps.ensures c.args.goal can.named
 
-pub returns : goal.returns
-returns c =
+pub returns-in-Ok : goal.returns-in-Ok
+returns-in-Ok c =
     IfOk-weaker c.derivations_of.result _ _ (λ kept h x are.
-    h ∙ c.in_ok-kept.ensures (named_of constraint_of) x (stand x c.args.derivations.items c.args.first are c.in_ok-steps.steps.items c.in_ok-steps.ensures)) c.derivations_of.ensures
+    h ∙ c.in-Ok.ensures (named_of constraint_of) x (stand x c.args.derivations.items c.args.first are c.in_ok-steps.steps.items c.in_ok-steps.ensures)) c.derivations_of.ensures

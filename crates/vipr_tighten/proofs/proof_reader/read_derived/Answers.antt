@@ -16,7 +16,7 @@ use Rattle.vipr_tighten.proofs.proof_reader.read_derived.Goals as goal
 pub steps-init : goal.steps-init
 steps-init g c =
     let r = c.args.derivations.now in
-    rw c.new-steps.ensures.items (record {
+    rw c.requires.no_steps (record {
       same = record { form = refl; objective = refl };
       variables = refl;
       read = (

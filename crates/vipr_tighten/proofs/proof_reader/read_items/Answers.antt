@@ -8,61 +8,59 @@ use Rattle.vipr_tighten.proofs.Reading.{err_given, unread_answers, at_then, late
 use Rattle.vipr_tighten.proofs.Reading.{proof_kept}
 use Rattle.vipr_tighten.proofs.proof_reader.read_items.Goals as goal
 
-pub read_listed-requires : goal.read_listed-requires
-read_listed-requires g c = c.requires
+pub read_listed-requires-clause-among : goal.read_listed-requires-clause-among
+read_listed-requires-clause-among g c = c.requires.among
 
-pub returns-in_err-listed-clause-unproved : goal.returns-in_err-listed-clause-unproved
-returns-in_err-listed-clause-unproved g c =
-    err_given _ c.from_residual.result c.in_err-listed.field-0.0 c.from_residual.ensures.1 c.in_err-listed.ensures.unproved
+pub returns-in-Err-clause-unproved : goal.returns-in-Err-clause-unproved
+returns-in-Err-clause-unproved g c = c.in-Err.ensures.unproved
 
 pub finish-requires : goal.finish-requires
-finish-requires g c = c.in_ok-listed.ensures.none
+finish-requires g c = c.in_default.ensures.none
 
 pub returns-in_err-derivations-clause-unproved : goal.returns-in_err-derivations-clause-unproved
 returns-in_err-derivations-clause-unproved g c =
     let e = c.in_err-derivations.field-0.0 in
-    err_given _ c.from_residual-in_err-derivations.result (text_reason e) c.from_residual-in_err-derivations.ensures.1 (λ P p is known.
-    let met = c.in_ok-listed.ensures.kept P p is in
-    unread_answers P p c.args.solutions (map solution_of c.in_ok-listed.listed.items) c.read_listed.new.checker c.read_listed.new.solutions met c.in_ok-listed.ensures.none e (c.in_err-derivations.ensures.read p met.listed.is_among.knows) known)
+    err_given _ c.from_residual.result (text_reason e) c.from_residual.ensures.1 (λ P p is known.
+    let met = c.in_default.ensures.kept P p is in
+    unread_answers P p c.args.solutions (map solution_of c.read_listed.new.listed.items) c.read_listed.new.checker c.read_listed.new.solutions met c.in_default.ensures.none e (c.in_err-derivations.ensures.read p met.listed.is_among.knows) known)
 
-pub returns-in_err-statements-clause-unproved : goal.returns-in_err-statements-clause-unproved
-returns-in_err-statements-clause-unproved g c =
-    err_given _ c.from_residual-in_err-statements.result reason.Memory c.from_residual-in_err-statements.ensures.1 (λ P p is known. (none, tt))
+pub returns-in_default-new-clause-unproved : goal.returns-in_default-new-clause-unproved
+returns-in_default-new-clause-unproved g c = λ P p is known. (none, tt)
 
 pub read_derived-derived-requires-clause-at : goal.read_derived-derived-requires-clause-at
 read_derived-derived-requires-clause-at g c =
-    let (P, p, is) = c.requires in
-    let ss = map solution_of c.in_ok-listed.listed.items in
+    let (P, p, is) = c.requires.among in
+    let ss = map solution_of c.read_listed.new.listed.items in
     let f = c.in_ok-derivations.ensures in
-    (P, p, ss, at_then P p c.args.solutions ss c.read_listed.new.checker c.read_listed.new.solutions (c.in_ok-listed.ensures.kept P p is) c.in_ok-listed.ensures.none c.in_ok-derivations.derivations f.remembers f.working f.counted)
+    (P, p, ss, at_then P p c.args.solutions ss c.read_listed.new.checker c.read_listed.new.solutions (c.in_default.ensures.kept P p is) c.in_default.ensures.none c.in_ok-derivations.derivations f.remembers f.working f.counted)
 
-pub returns-in_err-steps-clause-unproved : goal.returns-in_err-steps-clause-unproved
-returns-in_err-steps-clause-unproved g c =
-    let ss = map solution_of c.in_ok-listed.listed.items in
-    let r = c.args.solutions in
+pub returns-in-Err-derived-clause-unproved : goal.returns-in-Err-derived-clause-unproved
+returns-in-Err-derived-clause-unproved g c = λ P p is known.
+    let ss = map solution_of c.read_listed.new.listed.items in
     let k = c.read_listed.new.checker in
     let s = c.read_listed.new.solutions in
     let u = c.in_ok-derivations.derivations in
     let f = c.in_ok-derivations.ensures in
-    let e = c.in_err-steps.field-0.0 in
-    err_given _ c.from_residual-in_err-steps.result e c.from_residual-in_err-steps.ensures.1
-    (λ P p is known.
-    let met = c.in_ok-listed.ensures.kept P p is in
-    let at = at_then P p r ss k s met c.in_ok-listed.ensures.none u f.remembers f.working f.counted in
-    later_answers P p r ss k s met c.in_ok-listed.ensures.none u f.remembers f.working f.counted (f.read p met.listed.is_among.knows) e
-    (c.in_err-steps.ensures.unproved P p ss at) known)
+    let none = c.in_default.ensures.none in
+    let met = c.in_default.ensures.kept P p is in
+    let at = at_then P p c.args.solutions ss k s met none u f.remembers f.working f.counted in
+    later_answers P p c.args.solutions ss k s met none u f.remembers f.working f.counted (f.read p met.listed.is_among.knows) c.in-Err-derived.reason
+    (c.in-Err-derived.ensures.unproved P p ss at) known
 
-pub returns-clause-kept : goal.returns-clause-kept
-returns-clause-kept g c = λ P p is.
-    let ss = map solution_of c.in_ok-listed.listed.items in
+pub returns-in-Ok-derived-clause-kept : goal.returns-in-Ok-derived-clause-kept
+returns-in-Ok-derived-clause-kept g c = λ P p is.
+    let ss = map solution_of c.read_listed.new.listed.items in
+    let k = c.read_listed.new.checker in
+    let s = c.read_listed.new.solutions in
     let u = c.in_ok-derivations.derivations in
     let f = c.in_ok-derivations.ensures in
-    let met = c.in_ok-listed.ensures.kept P p is in
-    let at = at_then P p c.args.solutions ss c.read_listed.new.checker c.read_listed.new.solutions met c.in_ok-listed.ensures.none u f.remembers f.working f.counted in
-    let (ds, steps, finished) = c.in_ok-steps.ensures.kept in
-    let (same_problem, writes, proof) = proof_kept P p c.args.solutions ss c.read_listed.new.checker c.read_listed.new.solutions met c.in_ok-listed.ensures.none u f.remembers f.working f.counted (f.read p met.listed.is_among.knows)
-    ds c.in_ok-steps.report c.read_derived-derived.new.checker is.knows c.in_ok-listed.ensures.items (steps.shapes, steps.fit) (finished P p ss at) in
-    let same = c.in_ok-steps.ensures.same in
-    let first = c.in_ok-statements.ensures in
+    let none = c.in_default.ensures.none in
+    let met = c.in_default.ensures.kept P p is in
+    let at = at_then P p c.args.solutions ss k s met none u f.remembers f.working f.counted in
+    let (ds, steps, finished) = c.in-Ok-derived.ensures.kept in
+    let (same_problem, writes, proof) = proof_kept P p c.args.solutions ss k s met none u f.remembers f.working f.counted (f.read p met.listed.is_among.knows)
+    ds c.in-Ok-derived.report c.read_derived-derived.new.checker is.knows c.in_default.ensures.items (steps.shapes, steps.fit) (finished P p ss at) in
+    let same = c.in-Ok-derived.ensures.same in
+    let first = c.in-Ok.ensures in
     let objective = same.objective ∙ (first.objective ∙ (c.objective.ensures.objective ∙ ap (λ (q : Problem). q.objective) (c.problem.ensures ∙ sym at.has.problem))) in
     (same_problem, record { form = same.form ∙ first.form; objective = objective }, ds, steps.kept, writes, proof)

@@ -18,18 +18,17 @@ use Rattle.vipr_tighten.proofs.proof_reader.read_listed.Goals as goal
 
 pub solutions-init : goal.solutions-init
 solutions-init g c =
-    rw c.new-listed.ensures.items (record { kept = λ P p is. listed_first P p c.args.checker.now c.args.solutions.now is; items = (All-nil (SolutionShape c.args.solutions.now.variables), All-nil (λ (s : Named Row). RowFits s.item)); variables = refl })
+    rw c.requires.none_listed (record { kept = λ P p is. listed_first P p c.args.checker.now c.args.solutions.now is; items = (All-nil (SolutionShape c.args.solutions.now.variables), All-nil (λ (s : Named Row). RowFits s.item)); variables = refl })
 
-pub returns-in_err-solution-in-Some-clause-unproved :
-    goal.returns-in_err-solution-in-Some-clause-unproved
-returns-in_err-solution-in-Some-clause-unproved g c =
-    let e = c.in_err-solution-in-Some.field-0.0 in
-    err_given _ c.from_residual-in_err-solution-in-Some.result (stop_reason e) c.from_residual-in_err-solution-in-Some.ensures.1 (λ P p is known.
+pub returns-in-Err-clause-unproved : goal.returns-in-Err-clause-unproved
+returns-in-Err-clause-unproved g c =
+    let e = c.in-Err.stop in
     let h = rw c.in-Some.is at c.in_ok-solution.ensures in
     let ss = map solution_of c.solutions.listed.items in
+    rw c.from.ensures (λ P p is known.
     let kept = c.solutions.invariant.kept P p is in
     solution_refused P p ss c.solutions.checker c.solution.new.self c.args.solutions.now c.solutions.solutions kept c.next.new.self (solution_of c.in-Some.solution) h.moves.counted h.moves.remembers h.moves.working
-    (λ t. let r = h.read p kept.is_among.knows t in (r.1, r.2)) e (c.in_err-solution-in-Some.ensures.next ss kept.is_among.runs kept.is_among.has) known)
+    (λ t. let r = h.read p kept.is_among.knows t in (r.1, r.2)) e (c.in-Err.ensures.next ss kept.is_among.runs kept.is_among.has) known)
 
 pub solutions-preserved : goal.solutions-preserved
 solutions-preserved g c =
@@ -42,7 +41,7 @@ solutions-preserved g c =
       kept = λ P p is.
           let kept = c.solutions.invariant.kept P p is in
           solution_accepted P p ss c.solutions.checker c.solution.new.self first old kept c.next.new.self (solution_of x) h.moves.counted h.moves.remembers h.moves.working
-          (λ t. let r = h.read p kept.is_among.knows t in (r.1, r.2)) (c.in_ok-solution-in-Some.ensures.next ss kept.is_among.runs kept.is_among.has);
+          (λ t. let r = h.read p kept.is_among.knows t in (r.1, r.2)) (c.in_default.ensures.next ss kept.is_among.runs kept.is_among.has);
       items = (
         All-push (SolutionShape first.variables) ss (solution_of x) c.solutions.invariant.items.0 (subst (λ n. SolutionShape n (solution_of x)) c.solutions.invariant.variables h.shape),
         All-push (λ (s : Named Row). RowFits s.item) ss (solution_of x) c.solutions.invariant.items.1 h.fits,
@@ -52,7 +51,7 @@ solutions-preserved g c =
 
 pub end_solutions-requires : goal.end_solutions-requires
 end_solutions-requires g c =
-    let (P, p, is) = c.requires in
+    let (P, p, is) = c.requires.among in
     (c.solutions.invariant.kept P p is).is_among.phase
 
 pub returns-in_err-end_solutions-in-None-clause-unproved :

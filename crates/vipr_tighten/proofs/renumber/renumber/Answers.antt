@@ -10,7 +10,7 @@ use Rattle.vipr_tighten.proofs.renumber.renumber.Goals.{then-marks-place, else-m
 
 pub take_over-requires-clause-earlier : goal.take_over-requires-clause-earlier
 take_over-requires-clause-earlier g c =
-    let all = c.args.steps.items in
+    let all = c.args.steps.now.items in
     let inv = c.loop-place.invariant in
     let there : c.loop-place.place < length all = omega (arith, c.loop-place-test.true, c.len-place-end.ensures) in
     rw (c.deref.ensures.value, c.deref_mut.ensures.value) (earlier_in c.args.first all c.loop-place.steps.items c.loop-place.table.items c.loop-place.place c.requires.earlier inv.place there (inv.so_far no_statement).others)
@@ -19,7 +19,7 @@ pub loop-place-preserved : goal.loop-place-preserved
 loop-place-preserved g c =
     let first = c.args.first in
     let marks = c.args.marks.now in
-    let all = c.args.steps.items in
+    let all = c.args.steps.now.items in
     let ds = c.loop-place.steps.items in
     let table = c.loop-place.table.items in
     let kept = c.loop-place.kept in
