@@ -76,7 +76,10 @@ fn last_use<T: Text>(alloc: Global, text: &T, index: u32, needed_by: u32) -> Rer
 {
     let (problem, mut derivations) = open_derivations(alloc, text)?;
     let first = problem.cons().len() as u32;
-    last_among(alloc, &mut derivations, first, index, needed_by)
+    let last = last_among(alloc, &mut derivations, first, index, needed_by);
+    drop(derivations);
+    drop(problem);
+    last
 }
 
 // The same among derivations, the first of which has the index `first`.
@@ -100,6 +103,7 @@ fn last_among<R: Source + Drop>(
             return Ok(last);
         };
         last = later_of(index, last, first + passed, &step);
+        drop(step);
     }
     Ok(last)
 }

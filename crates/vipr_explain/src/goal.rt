@@ -71,6 +71,7 @@ impl<T: Text> Subject<'_, T> {
             index: goal,
         };
         page.put_value(&format_args!("  goal   {item}\n"));
+        drop(known);
         Ok(())
     }
 
@@ -92,6 +93,7 @@ impl<T: Text> Subject<'_, T> {
             "join the branches by `uns i1 l1 i2 l2`, so that no assumption is left, \
              or claim what is proved behind RTP",
         );
+        drop(known);
         Ok(())
     }
 }

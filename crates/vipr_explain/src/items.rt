@@ -208,8 +208,13 @@ fn skip_solutions<R: Source + Drop>(
     ensures counted { IfOk result (λ d. d.constraints + d.left < 2 ^ 32) }
 {
     let left = solutions.left();
-    pass_solutions(alloc, &mut solutions, left)?;
-    Ok(solutions.finish()?)
+    match pass_solutions(alloc, &mut solutions, left) {
+        Ok(()) => Ok(solutions.finish()?),
+        Err(missing) => {
+            drop(solutions);
+            Err(missing)
+        }
+    }
 }
 
 // Reads so many solutions.
@@ -239,7 +244,9 @@ pub(crate) fn read_solution<T: Text>(
         (OnlyIf (T.input text.now) (λ i. LacksListed number (problem_read (text_of i)))) }
 {
     let (problem, mut solutions) = open_problem(alloc, text)?;
-    beside(problem, nth_solution(alloc, &mut solutions, number))
+    let found = nth_solution(alloc, &mut solutions, number);
+    drop(solutions);
+    beside(problem, found)
 }
 
 // The solution behind so many others.
@@ -279,6 +286,7 @@ pub(crate) fn read_items<T: Text>(alloc: Global, text: &T, wanted: &[u32]) -> Re
         derivations: Vec::new(alloc),
     };
     let kept = items.keep_wanted(alloc, &mut derivations, wanted);
+    drop(derivations);
     kept.and(Ok(items))
 }
 

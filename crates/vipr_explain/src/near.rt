@@ -79,7 +79,10 @@ pub(crate) fn find_near<T: Text>(
 {
     let (problem, mut derivations) = open_derivations(alloc, text)?;
     let first = problem.cons().len();
-    find_among(alloc, &mut derivations, first, goal)
+    let near = find_among(alloc, &mut derivations, first, goal);
+    drop(derivations);
+    drop(problem);
+    near
 }
 
 // The same among derivations, the first of which has this index.
@@ -135,7 +138,11 @@ impl Passed {
             → IfErr result (λ m. Missed m (derivation_read p (rest_of derivations.old.rest))) }
     {
         match derivations.next(alloc)? {
-            Some(step) => self.pass(alloc, &step, goal),
+            Some(step) => {
+                let passed = self.pass(alloc, &step, goal);
+                drop(step);
+                passed
+            }
             None => Ok(()),
         }
     }

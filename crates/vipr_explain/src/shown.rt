@@ -25,10 +25,14 @@ impl PlacedItems {
         ensures error { IfErr result
             (OnlyIf (T.input subject.now.text.now) (LacksItems wanted.now)) }
     {
-        Ok(PlacedItems {
-            items: read_items(subject.alloc, subject.text, wanted)?,
-            marks: find_constraints(subject.alloc, subject.text, wanted)?,
-        })
+        let items = read_items(subject.alloc, subject.text, wanted)?;
+        match find_constraints(subject.alloc, subject.text, wanted) {
+            Ok(marks) => Ok(PlacedItems { items, marks }),
+            Err(missing) => {
+                drop(items);
+                Err(missing)
+            }
+        }
     }
 }
 

@@ -12,7 +12,8 @@ ghost use Rattle.vipr_linear.specs.Constraint.{constraint_of};
 ghost use Rattle.vipr_cert.specs.Items.{direction_of, named_of, solution_of};
 ghost use Rattle.vipr_read.specs.Items.{Knows, Remembers};
 ghost use Rattle.vipr_explain.specs.Explained.{ArePlacesFor, IsSolutionPlace, IsSolutionText};
-ghost use Rattle.vipr_explain.specs.Found.{HasFault, Missed, OnlyIf, all_solutions_read};
+ghost use Rattle.vipr_explain.specs.Found.{HasFault, IsListedSolution, Missed, OnlyIf};
+ghost use Rattle.vipr_explain.specs.Found.{all_solutions_read};
 ghost use Rattle.vipr_explain.specs.Lacking.{LacksBroken, LacksSolution};
 ghost use Rattle.vipr_explain.specs.Marked.{AreMarksOf};
 ghost use Rattle.vipr_explain.specs.Pages.{PutsSome};
@@ -52,9 +53,31 @@ impl<T: Text> Subject<'_, T> {
             (OnlyIf (T.input self.now.text.now) (LacksSolution number detail.now)) }
     {
         let (problem, solution) = read_solution(self.alloc, self.text, number)?;
-        put_error(page, number, &solution, detail);
+        let explained = self.put_listed_solution(page, number, &problem, &solution, detail);
+        drop(solution);
+        drop(problem);
+        explained
+    }
+
+    // The same, of a solution that was read.
+    fn put_listed_solution(
+        &self,
+        page: &mut Page,
+        number: u32,
+        problem: &Problem,
+        solution: &Named<Solution>,
+        detail: &Detail,
+    ) -> Reread<()>
+        requires { IfKnown (T.input self.now.text.now) (λ i.
+            IsListedSolution number (text_of i) problem.now (solution_of solution.now)) }
+        ensures shown { IfOk result (λ _. PutsSome (IsSolutionText (T.input self.now.text.now)
+            self.now.file.now number detail.now) page.old page.new) }
+        ensures error { IfErr result
+            (OnlyIf (T.input self.now.text.now) (LacksSolution number detail.now)) }
+    {
+        put_error(page, number, solution, detail);
         self.put_solution_place(page, number)?;
-        self.put_solution_fault(page, &problem, &solution.item, detail)
+        self.put_solution_fault(page, problem, &solution.item, detail)
     }
 
     // Shows the place of a solution.
@@ -158,7 +181,10 @@ impl<T: Text> Subject<'_, T> {
             (OnlyIf (T.input self.now.text.now) (λ i. HasFault (all_solutions_read (text_of i)))) }
     {
         let (problem, mut solutions) = open_problem(self.alloc, self.text)?;
-        put_all_values(page, self.alloc, &problem, &mut solutions)
+        let best = put_all_values(page, self.alloc, &problem, &mut solutions);
+        drop(solutions);
+        drop(problem);
+        best
     }
 }
 
@@ -330,7 +356,11 @@ fn put_next<R: Source + Drop>(
         (solution_read problem.now (rest_of solutions.old.rest))) }
 {
     match solutions.next(alloc)? {
-        Some(solution) => Ok(put_listed(page, problem, number, &solution, best)),
+        Some(solution) => {
+            let better = put_listed(page, problem, number, &solution, best);
+            drop(solution);
+            Ok(better)
+        }
         None => Ok(best),
     }
 }

@@ -1,7 +1,7 @@
 //! Explains a derivation that is refused.
-ghost use Rattle.std.specs.Prelude.{◌≡◌, ◌++◌, IfErr, IfOk, OnOk, Some};
+ghost use Rattle.std.specs.Prelude.{◌≡◌, ◌++◌, IfErr, IfOk, OnOk, Some, true};
 ghost use Rattle.vipr_linear.specs.Constraint.{constraint_of};
-ghost use Rattle.vipr_explain.specs.Found.{LacksItems, OnlyIf};
+ghost use Rattle.vipr_explain.specs.Found.{AreItemsOf, LacksItems, OnlyIf};
 ghost use Rattle.vipr_explain.specs.Lacking.{LacksStep};
 ghost use Rattle.vipr_explain.specs.Pages.{PutsSome};
 ghost use Rattle.vipr_explain.specs.References.{entry_indices, shown_index, step_indices};
@@ -75,8 +75,15 @@ impl<T: Text> Subject<'_, T> {
     {
         let own = read_items(self.alloc, self.text, [fault.index].as_slice())?;
         match own.derivation(fault.index) {
-            Some(step) => self.put_refused(page, fault, step),
-            None => Err(TextError::Read),
+            Some(step) => {
+                let explained = self.put_refused(page, fault, step);
+                drop(own);
+                explained
+            }
+            None => {
+                drop(own);
+                Err(TextError::Read)
+            }
         }
     }
 
@@ -90,10 +97,30 @@ impl<T: Text> Subject<'_, T> {
     {
         let wanted = step_indices(self.alloc, fault, &step.reason)?;
         let known = PlacedItems::read(self, wanted.as_slice())?;
+        let explained = self.put_known(page, fault, step, &known);
+        drop(known);
+        explained
+    }
+
+    // The same, with the constraints that it names.
+    fn put_known(
+        &self,
+        page: &mut Page,
+        fault: &StepFault<'_>,
+        step: &Derivation,
+        known: &PlacedItems,
+    ) -> Reread<()>
+        requires { AreItemsOf (T.input self.now.text.now)
+            (step_indices fault.now.index fault.now.what.now step.now.reason) known.now }
+        ensures shown { IfOk result (λ _. PutsSome (IsRefusedText (T.input self.now.text.now)
+            self.now.file.now fault.now.cause fault.now.index step.now fault.now.what.now)
+            page.old page.new) }
+        ensures error { IfErr result (OnlyIf (T.input self.now.text.now) (λ i. i.fails ≡ true)) }
+    {
         put_error(page, fault, step);
         let mark = mark_of(known.marks.as_slice(), fault.index);
         self.put_name(page, mark, "this derivation")?;
-        put_stated(page, &known, fault, step);
+        put_stated(page, known, fault, step);
         let problem = &known.items.problem;
         put_detail(page, self.alloc, problem, &step.reason, fault.what)?;
         put_help(page, fault.cause, problem.cons().len());

@@ -9,7 +9,7 @@ ghost use Rattle.vipr_explain.specs.Progress.{section_ended};
 ghost use Rattle.vipr_explain.specs.ReasonTexts.{first_of_reason};
 
 /// The sections of a certificate, in their order.
-#[derive(Clone, Copy, PartialEq)]
+#[derive(Clone, Copy)]
 pub(crate) enum Section {
     Version,
     Variables,
@@ -22,7 +22,7 @@ pub(crate) enum Section {
 }
 
 /// What is wanted at a token.
-#[derive(Clone, Copy, PartialEq)]
+#[derive(Clone, Copy)]
 pub(crate) enum Wanted {
     Keyword,
     Version,

@@ -18,8 +18,8 @@ returns-clause-found g c =
     let known = c.in_ok-problem.ensures in
     known_by (g.T.Text.input c.args.text.now)
     (λ i. (head_read (text_of i) ≡ Ok ((p, d.left), rest_of d.rest)) × IsSome d.rest)
-    (λ i. IfOk c.last_among.result (IsLastUse (text_of i) c.args.index c.args.needed_by))
-    (λ i h. is_last_use (text_of i) p d c.args.index c.args.needed_by c.last_among.result h.0 (c.last_among.ensures.found p known.knows h.1 (omega (arith, count, known.counted, known.knows.constraints))))
+    (λ i. IfOk c.last_among-last.result (IsLastUse (text_of i) c.args.index c.args.needed_by))
+    (λ i h. is_last_use (text_of i) p d c.args.index c.args.needed_by c.last_among-last.result h.0 (c.last_among-last.ensures.found p known.knows h.1 (omega (arith, count, known.counted, known.knows.constraints))))
     c.in_ok-problem.ensures.read
 
 pub returns-in_err-problem-clause-error : goal.returns-in_err-problem-clause-error
@@ -28,4 +28,4 @@ returns-in_err-problem-clause-error g c =
     err_is c.from_residual.result _ c.from_residual.ensures.1 (only_after (g.T.Text.input c.args.text.now) m (λ i. Missed m (head_read (text_of i))) _ c.in_err-problem.ensures.read (λ i h. h))
 
 pub returns-clause-error : goal.returns-clause-error
-returns-clause-error g c = err_memory_only (g.T.Text.input c.args.text.now) c.last_among.result _ c.last_among.ensures.error
+returns-clause-error g c = err_memory_only (g.T.Text.input c.args.text.now) c.last_among-last.result _ c.last_among-last.ensures.error

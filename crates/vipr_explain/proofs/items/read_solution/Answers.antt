@@ -14,20 +14,20 @@ pub returns-clause-found : goal.returns-clause-found
 returns-clause-found g c =
     let p = c.in_ok-problem.problem in
     let old = c.in_ok-problem.solutions in
-    let new = c.nth_solution.new.solutions in
-    let r = c.nth_solution.result in
+    let new = c.nth_solution-found.new.solutions in
+    let r = c.nth_solution-found.result in
     let input = g.T.Text.input c.args.text.now in
     rw c.beside.ensures (ok_beside p r (λ x. IfKnown input (λ i. IsListedSolution c.args.number (text_of i) x.0 (solution_of x.1)))
-    (is_listed input c.args.number p old new r c.in_ok-problem.ensures.read c.nth_solution.ensures.within (c.nth_solution.ensures.read p c.in_ok-problem.ensures.knows)))
+    (is_listed input c.args.number p old new r c.in_ok-problem.ensures.read c.nth_solution-found.ensures.within (c.nth_solution-found.ensures.read p c.in_ok-problem.ensures.knows)))
 
 pub returns-clause-error : goal.returns-clause-error
 returns-clause-error g c =
     let p = c.in_ok-problem.problem in
     let old = c.in_ok-problem.solutions in
-    let r = c.nth_solution.result in
+    let r = c.nth_solution-found.result in
     let input = g.T.Text.input c.args.text.now in
     rw c.beside.ensures (err_beside p r _ (err_after input r (λ i. (problem_read (text_of i) ≡ Ok ((p, old.left), rest_of old.rest)) × IsSome old.rest) (λ i. LacksListed c.args.number (problem_read (text_of i))) c.in_ok-problem.ensures.read
-    (λ i h. nth_lacks c.args.number (problem_read (text_of i)) p old.left (rest_of old.rest) r h.0 (c.nth_solution.ensures.error p c.in_ok-problem.ensures.knows h.1))))
+    (λ i h. nth_lacks c.args.number (problem_read (text_of i)) p old.left (rest_of old.rest) r h.0 (c.nth_solution-found.ensures.error p c.in_ok-problem.ensures.knows h.1))))
 
 pub returns-in_err-problem-clause-error : goal.returns-in_err-problem-clause-error
 returns-in_err-problem-clause-error g c =

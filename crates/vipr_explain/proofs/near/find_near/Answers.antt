@@ -10,8 +10,8 @@ use Rattle.vipr_explain.proofs.Lacks.{only_after}
 use Rattle.vipr_explain.proofs.Nearby.{nearest_found}
 use Rattle.vipr_explain.proofs.near.find_near.Goals as goal
 
-pub find_among-requires : goal.find_among-requires
-find_among-requires g c =
+pub find_among-near-requires : goal.find_among-near-requires
+find_among-near-requires g c =
     let p = c.in_ok-problem.problem in
     let size : length c.cons-first.result.now ≡ length p.constraints = sym (length-map c.cons-first.result.now _) ∙ ap length c.cons-first.ensures.constraints in
     omega (arith, size, c.in_ok-problem.ensures.knows.constraints, c.in_ok-problem.ensures.counted)
@@ -25,13 +25,13 @@ pub returns-clause-error : goal.returns-clause-error
 returns-clause-error g c =
     let p = c.in_ok-problem.problem in
     let d = c.in_ok-problem.derivations in
-    err_after (g.T.Text.input c.args.text.now) c.find_among.result
+    err_after (g.T.Text.input c.args.text.now) c.find_among-near.result
     (λ i. (head_read (text_of i) ≡ Ok ((p, d.left), rest_of d.rest)) × IsSome d.rest) _ c.in_ok-problem.ensures.read
-    (λ i h. derivations_then_missed (text_of i) p d.left (rest_of d.rest) c.find_among.result h.0 (c.find_among.ensures.error p c.in_ok-problem.ensures.knows h.1))
+    (λ i h. derivations_then_missed (text_of i) p d.left (rest_of d.rest) c.find_among-near.result h.0 (c.find_among-near.ensures.error p c.in_ok-problem.ensures.knows h.1))
 
 pub returns-clause-found : goal.returns-clause-found
 returns-clause-found g c =
     let p = c.in_ok-problem.problem in
     let size : length c.cons-first.result.now ≡ length p.constraints = sym (length-map c.cons-first.result.now _) ∙ ap length c.cons-first.ensures.constraints in
-    nearest_found (g.T.Text.input c.args.text.now) _ p c.in_ok-problem.derivations c.find_among.new.derivations _ (λ near. map near_of near.items) c.find_among.result size
-    c.in_ok-problem.ensures.knows c.in_ok-problem.ensures.read c.find_among.ensures.found
+    nearest_found (g.T.Text.input c.args.text.now) _ p c.in_ok-problem.derivations c.find_among-near.new.derivations _ (λ near. map near_of near.items) c.find_among-near.result size
+    c.in_ok-problem.ensures.knows c.in_ok-problem.ensures.read c.find_among-near.ensures.found

@@ -16,7 +16,7 @@ returns-in_err-solution-clause-error g c known =
 pub returns-in-Some-clause-shown : goal.returns-in-Some-clause-shown
 returns-in-Some-clause-shown g c = (
   solution_of c.in-Some.solution,
-  c.put_listed.ensures,
+  c.put_listed-better.ensures,
   λ known.
       let next = subst (λ o. NextIs solution_of (solution_read c.args.problem.now) (λ _. Ok tt) c.args.solutions.now c.next.new.self (Ok o)) c.in-Some.is (c.in_ok-solution.ensures.read c.args.problem.now c.requires.knows known) in
       (next.2, next.1),

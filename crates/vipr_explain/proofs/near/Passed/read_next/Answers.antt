@@ -13,13 +13,13 @@ returns-in_err-step-clause-error g c p knows known =
     err_is c.from_residual.result _ c.from_residual.ensures.1 (missed_next derivation_of (derivation_read p) end_read c.args.derivations.now c.next.new.self e c.requires.some (c.in_err-step.ensures.read p knows known))
 
 pub returns-in-Some-clause-error : goal.returns-in-Some-clause-error
-returns-in-Some-clause-error g c p knows known = err_memory c.pass.result _ c.pass.ensures.error
+returns-in-Some-clause-error g c p knows known = err_memory c.pass-passed.result _ c.pass-passed.ensures.error
 
 pub returns-in-Some-clause-passed : goal.returns-in-Some-clause-passed
-returns-in-Some-clause-passed g c = on_ok c.pass.result _ _ (λ passed. (
+returns-in-Some-clause-passed g c = on_ok c.pass-passed.result _ _ (λ passed. (
   derivation_of c.in-Some.step,
   passed,
   λ p knows known.
       let next = subst (λ o. NextIs derivation_of (derivation_read p) end_read c.args.derivations.now c.next.new.self (Ok o)) c.in-Some.is (c.in_ok-step.ensures.read p knows known) in
       (next.2, next.1),
-)) c.pass.ensures.passed
+)) c.pass-passed.ensures.passed

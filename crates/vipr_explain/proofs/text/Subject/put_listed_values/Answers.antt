@@ -18,10 +18,10 @@ pub returns-clause-error : goal.returns-clause-error
 returns-clause-error g c =
     let p = c.in_ok-problem.problem in
     let s = c.in_ok-problem.solutions in
-    err_after (g.T.Text.input c.args.self.now.text.now) c.put_all_values.result
+    err_after (g.T.Text.input c.args.self.now.text.now) c.put_all_values-best.result
     (λ i. (problem_read (text_of i) ≡ Ok ((p, s.left), rest_of s.rest)) × IsSome s.rest) _ c.in_ok-problem.ensures.read
-    (λ i h. solutions_then_missed (text_of i) p s.left (rest_of s.rest) c.put_all_values.result h.0 (c.put_all_values.ensures.error h.1))
+    (λ i h. solutions_then_missed (text_of i) p s.left (rest_of s.rest) c.put_all_values-best.result h.0 (c.put_all_values-best.ensures.error h.1))
 
 pub returns-clause-shown : goal.returns-clause-shown
 returns-clause-shown g c =
-    values_found (g.T.Text.input c.args.self.now.text.now) c.in_ok-problem.problem c.in_ok-problem.solutions c.put_all_values.new.solutions c.put_all_values.result c.args.page.now c.put_all_values.new.page c.in_ok-problem.ensures.read c.put_all_values.ensures.shown
+    values_found (g.T.Text.input c.args.self.now.text.now) c.in_ok-problem.problem c.in_ok-problem.solutions c.put_all_values-best.new.solutions c.put_all_values-best.result c.args.page.now c.put_all_values-best.new.page c.in_ok-problem.ensures.read c.put_all_values-best.ensures.shown

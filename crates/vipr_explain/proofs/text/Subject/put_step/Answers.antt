@@ -18,17 +18,17 @@ returns-in_err-own-clause-error g c =
 pub returns-in-Some-clause-shown : goal.returns-in-Some-clause-shown
 returns-in-Some-clause-shown g c =
     let subject = c.args.self.now in
-    step_text (g.T.Text.input subject.text.now) subject.file.now c.args.fault.now.cause c.args.fault.now.index c.args.fault.now.what.now c.in_ok-own.own c.in-Some.step.now c.args.page.now c.put_refused.new.page c.put_refused.result
-    (subst (λ (wanted : List ℕ). IfKnown (g.T.Text.input subject.text.now) (λ i. AreFoundItems wanted (text_of i) c.in_ok-own.own)) c.as_slice.ensures c.in_ok-own.ensures.found) (sym c.derivation.ensures ∙ ap (option_map (λ d. d.now)) c.in-Some.is) c.put_refused.ensures.shown
+    step_text (g.T.Text.input subject.text.now) subject.file.now c.args.fault.now.cause c.args.fault.now.index c.args.fault.now.what.now c.in_ok-own.own c.in-Some.step.now c.args.page.now c.put_refused-explained.new.page c.put_refused-explained.result
+    (subst (λ (wanted : List ℕ). IfKnown (g.T.Text.input subject.text.now) (λ i. AreFoundItems wanted (text_of i) c.in_ok-own.own)) c.as_slice.ensures c.in_ok-own.ensures.found) (sym c.derivation.ensures ∙ ap (option_map (λ d. d.now)) c.in-Some.is) c.put_refused-explained.ensures.shown
 
 pub returns-in-Some-clause-error : goal.returns-in-Some-clause-error
 returns-in-Some-clause-error g c =
     let o = g.T.Text.input c.args.self.now.text.now in
-    step_lacks o c.args.fault.now.index c.args.fault.now.what.now c.in_ok-own.own c.in-Some.step.now c.put_refused.result
-    (subst (λ (wanted : List ℕ). IfKnown o (λ i. AreFoundItems wanted (text_of i) c.in_ok-own.own)) c.as_slice.ensures c.in_ok-own.ensures.found) (sym c.derivation.ensures ∙ ap (option_map (λ d. d.now)) c.in-Some.is) c.put_refused.ensures.error
+    step_lacks o c.args.fault.now.index c.args.fault.now.what.now c.in_ok-own.own c.in-Some.step.now c.put_refused-explained.result
+    (subst (λ (wanted : List ℕ). IfKnown o (λ i. AreFoundItems wanted (text_of i) c.in_ok-own.own)) c.as_slice.ensures c.in_ok-own.ensures.found) (sym c.derivation.ensures ∙ ap (option_map (λ d. d.now)) c.in-Some.is) c.put_refused-explained.ensures.error
 
-pub returns-clause-error : goal.returns-clause-error
-returns-clause-error g c =
+pub returns-in-None-clause-error : goal.returns-in-None-clause-error
+returns-in-None-clause-error g c =
     let o = g.T.Text.input c.args.self.now.text.now in
     let none : kept_derivation c.in_ok-own.own.derivations.items c.args.fault.now.index ≡ None = sym c.derivation.ensures ∙ ap (option_map (λ d. d.now)) c.in-None.is in
     no_step o c.args.fault.now.index c.args.fault.now.what.now c.in_ok-own.own
