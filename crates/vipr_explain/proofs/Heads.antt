@@ -1,5 +1,6 @@
 -- The parts of a text before its derivations, one after the other
 use Rattle.std.proofs.Common.{◌≡◌, ◌<◌, ℕ, List, Ok, sym, ap, ◌∙◌, subst, Option, Result, Err}
+use Rattle.std.proofs.Common.{refl}
 use Rattle.std.proofs.Common.{IfOk, IfErr, OnOk}
 use Rattle.std.specs.Option.{IsSome}
 use Rattle.std.specs.Result.{result_and}
@@ -119,3 +120,10 @@ pub err_first : {A E : Type 0} (r : Result (Unit {0}) E) (s : Result A E) (P : E
     → IfErr r P → IfErr s P → IfErr (result_and r s) P
 err_first (Ok u) s P h k = k
 err_first (Err e) s P h k = h
+
+-- a value is given if two calls passed
+pub ok_both : {A E : Type 0} (r s : Result (Unit {0}) E) (x : A) (P : A → Type 0)
+    → ((u v : Unit {0}) → r ≡ Ok u → s ≡ Ok v → P x) → IfOk (result_and (result_and r s) (Ok x)) P
+ok_both (Ok u) (Ok v) x P f = f u v refl refl
+ok_both (Ok u) (Err e) x P f = tt
+ok_both (Err e) s x P f = tt

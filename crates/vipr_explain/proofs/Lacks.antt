@@ -70,6 +70,11 @@ pub only_none : (o : Option Input) (m : TextError) (Q : Input → Type 0) → o 
 only_none o m Q e = subst (λ p. OnlyIf p Q m) (sym e) tt
 
 -- of a call that may fail
+pub err_given : {A : Type 0} (o : Option Input) (r : Result A TextError) (P Q : Input → Type 0)
+    → IfSome o P → ((i : Input) → P i → IfErr r (λ m. Because m (Q i))) → IfErr r (OnlyIf o Q)
+err_given o (Ok x) P Q h f = tt
+err_given o (Err m) P Q h f = only_given o m P Q h f
+
 pub err_only_if : {A : Type 0} (o : Option Input) (r : Result A TextError) (P Q : Input → Type 0)
     → ((i : Input) → P i → Q i) → IfErr r (OnlyIf o P) → IfErr r (OnlyIf o Q)
 err_only_if o (Ok x) P Q f h = tt

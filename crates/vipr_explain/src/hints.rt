@@ -6,7 +6,7 @@ ghost use Rattle.vipr_explain.specs.Hints.{number_hints, plain_hint, sense_hint,
 ghost use Rattle.vipr_explain.specs.Hints.{compressed_hint, text_hint};
 ghost use Rattle.vipr_page.specs.Written.{PutsText};
 
-use crate::wanted::{Section, TextProgress, Wanted};
+use crate::wanted::{Section, TextProgress, Wanted, is_word};
 use vipr_check::cause;
 use vipr_page::{Page, fraction_of};
 
@@ -134,11 +134,11 @@ fn compressed_hint(word: &[u8]) -> &'static str
 fn sense_hint(word: &[u8]) -> &'static str
     ensures { result.now ≡ sense_hint word.now }
 {
-    if word == b">=".as_slice() || word == b"=>".as_slice() {
+    if is_word(word, ">=") || is_word(word, "=>") {
         "write `G` for `>=`"
-    } else if word == b"<=".as_slice() || word == b"=<".as_slice() {
+    } else if is_word(word, "<=") || is_word(word, "=<") {
         "write `L` for `<=`"
-    } else if word == b"=".as_slice() || word == b"==".as_slice() {
+    } else if is_word(word, "=") || is_word(word, "==") {
         "write `E` for `=`"
     } else if begins_number(word) {
         "sense and right-hand side are before the coefficients: \
@@ -166,7 +166,7 @@ fn begins_number(word: &[u8]) -> bool
 fn count_hint(wanted: Wanted, word: &[u8]) -> &'static str
     ensures { result.now ≡ count_hint wanted word.now }
 {
-    if word == b"weak".as_slice() || word == b"incomplete".as_slice() {
+    if is_word(word, "weak") || is_word(word, "incomplete") {
         return "this derivation is of version 1.1: complete the certificate first, \
                 by viprcomp of the VIPR package";
     }

@@ -96,9 +96,10 @@ fn find_items<T: Text>(
 {
     let mut words = Words::<T::Reader>::open(alloc, text)?;
     let mut marks = Vec::new(alloc);
-    mark_items(&mut words, &mut marks, kind, wanted)?;
-    words.check()?;
-    Ok(marks)
+    let marked = mark_items(&mut words, &mut marks, kind, wanted);
+    let checked = marked.and(words.check());
+    drop(words);
+    checked.and(Ok(marks))
 }
 
 // Marks items of a kind, up to the greatest index.

@@ -1,5 +1,6 @@
 //! How far a certificate's text was read: what it has to have at its next token.
 ghost use Rattle.std.specs.Prelude.{◌≡◌, ◌+◌};
+ghost use Rattle.std.specs.Str.{bytes_eq};
 ghost use Rattle.vipr_explain.specs.Progress.{at_start, claim_passed, count_passed, count_spelled};
 ghost use Rattle.vipr_explain.specs.Progress.{counted_name, first_of, first_of_item, in_u32};
 ghost use Rattle.vipr_explain.specs.Progress.{index_of, item_begun, item_ended, item_word};
@@ -342,7 +343,7 @@ impl TextProgress {
     fn pass_claim(&mut self, word: &[u8])
         ensures { self.new ≡ claim_passed self.old word.now }
     {
-        if word == b"range".as_slice() {
+        if is_word(word, "range") {
             self.wanted = Wanted::LowerBound;
         } else {
             self.end_section();
@@ -358,13 +359,20 @@ impl TextProgress {
     }
 }
 
+/// Whether a token is this word.
+pub(crate) fn is_word(token: &[u8], word: &str) -> bool
+    ensures { result ≡ bytes_eq token.now word.now }
+{
+    token == word.as_bytes()
+}
+
 // What follows the word of a reason.
 fn first_of_reason(word: &[u8]) -> Wanted
     ensures { result ≡ first_of_reason word.now }
 {
-    if word == b"uns".as_slice() {
+    if is_word(word, "uns") {
         Wanted::Branch
-    } else if word == b"lin".as_slice() || word == b"rnd".as_slice() {
+    } else if is_word(word, "lin") || is_word(word, "rnd") {
         Wanted::EntryCount
     } else {
         Wanted::CloseBrace
