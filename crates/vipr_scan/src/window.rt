@@ -16,7 +16,7 @@ use std::alloc::{AllocError, Global};
 use vipr_bytes::{BUFFER_BYTES, Failed, Source};
 
 /// Where a token lies in the buffer.
-#[derive(Clone, Copy, Debug)]
+#[derive(Clone, Copy)]
 pub(crate) struct Found {
     pub(crate) start: usize,
     pub(crate) len: usize,
