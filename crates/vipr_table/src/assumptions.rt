@@ -305,6 +305,7 @@ impl Assumptions {
     }
 
     // All indices as one list.
+    #[inline(always)]
     fn flat(&self, alloc: Global) -> Result<CowSlice<'_, u32>, AllocError>
         ensures { IfOk result (λ items. IsListOf self.now (cow_slice_items items)) }
     {

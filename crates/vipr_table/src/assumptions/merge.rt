@@ -118,6 +118,7 @@ pub(crate) fn concat(alloc: Global, xs: &[u32], ys: &[u32]) -> Result<Vec<u32>, 
 }
 
 // A list with the items of two others behind it.
+#[inline(always)]
 fn extended(mut all: Vec<u32>, xs: &[u32], ys: &[u32]) -> Result<Vec<u32>, AllocError>
     ensures { IfOk result (λ v. v.items ≡ (all.items ++ xs.now) ++ ys.now) }
 {

@@ -25,7 +25,7 @@ fn forget(rows: &mut IndexMap<u32, Entry, IndexHashing>, index: u32)
     ensures { map.from_entries {R = nat_cmp} rows.new.entries
         ≡ map.remove (map.from_entries rows.old.entries) index }
 {
-    drop(rows.swap_remove(&index));
+    rows.swap_remove(&index);
 }
 
 // Puts the entry at an index, or hands it back.
