@@ -18,7 +18,7 @@ HEAD = """# What the gate takes
 `tests/gate.py` writes this page from the output of two commands, each in a clone without a build. `make build` is the first build. `python3 tests/all.py --anew` is the test command, which proves everything anew. Other pages name no such figures and link here.
 """
 STUB = 'No run is written here yet.\n'
-# the crate whose build shows how fast a machine is: no crate is below it, and none is built beside it
+# the crate whose build shows how fast a machine is: it is built first, beside the small `vipr_shared`
 YARDSTICK = 'vipr_spec'
 KINDS = ('proof', 'tests', 'edits')
 
@@ -69,7 +69,7 @@ def page(run):
              row('Result', f'`{run.result}`'), row('Wrong versions refused', run.edits), row('Proved here', run.share)]
     if YARDSTICK in run.built:
         wall, spent = run.built[YARDSTICK]
-        lines.append(row('Yardstick', f'`{YARDSTICK}` alone: {wall:.0f} seconds, {spent:.0f} of processor time'))
+        lines.append(row('Yardstick', f'the build of `{YARDSTICK}`: {wall:.0f} seconds, {spent:.0f} of processor time'))
     elif YARDSTICK in run.crates:
         lines.append(row('Yardstick', f'the proof of `{YARDSTICK}`: {60 * run.crates[YARDSTICK][0]:.0f} seconds of processor time'))
     lines += ['', 'If the yardstick takes half as long on your machine, so does about everything below.', '',
