@@ -10,10 +10,10 @@ it changes, then all of its file, then the whole crate, and that once more from 
 still proved with the edit. Edits of one file follow one another. Crates are tried side by side, as many as memory allows.
 
 Without words all are tried, and the day, the commit and the result are written into docs/PROOF.md. A run that is cut
-off goes on where it was: an edit that was refused over the same text isn't tried once more. --sample tries N, about
-one of each crate, and each commit begins where the one before ends: as many commits as there are edits try each of
-them N times. Without all commits the text of the crates chooses. It takes over what `rt ci` proved, if nothing
-changed since: then no more is proved than the functions that are changed and those that they call.
+off goes on where it was: an edit that was refused over the same text isn't tried once more. --sample tries N that follow
+one another, and each commit begins where the one before ends: as many commits as there are edits try each of them N
+times. Without all commits the text of the crates chooses. It takes over what `rt ci` proved, if nothing changed since:
+then no more is proved than the functions that are changed and, once, those that they call.
 
 Prints what each came to, and last `N refused, M not`; the exit status is 1 if one isn't refused, or if a crate
 isn't proved without an edit.
@@ -27,7 +27,6 @@ import subprocess
 import sys
 import tempfile
 from concurrent.futures import ThreadPoolExecutor
-from itertools import groupby
 from pathlib import Path
 
 TOP = Path(__file__).resolve().parent.parent
@@ -78,19 +77,10 @@ def edits(crate):
     return sorted(Path(crate.folder, 'wrong').glob('*.edit'), key=lambda path: (changed(path), path.name))
 
 
-def spread(paths):
-    """The edits in an order in which those of each crate are spread evenly, so that few in a row are of one crate."""
-    places = {}
-    for _, there in groupby(paths, key=lambda path: path.parent):
-        there = list(there)
-        places |= {path: (at + 0.5) / len(there) for at, path in enumerate(there)}
-    return sorted(paths, key=places.get)
-
-
 def sample(paths, count, turn):
-    """That many edits in a row as they are spread, in a ring. Each turn begins where the one before ends."""
-    ring, first = spread(paths), turn * count % len(paths)
-    return sorted((ring + ring)[first:first + min(count, len(paths))], key=paths.index)
+    """That many edits in a row, in a ring: neighbours share what they call. Each turn begins where the one before ends."""
+    first = turn * count % len(paths)
+    return sorted((paths + paths)[first:first + min(count, len(paths))], key=paths.index)
 
 
 def commit_number():
