@@ -4,9 +4,10 @@
 usage: (make build; python3 tests/all.py --anew) > LOG 2>&1     in a clone without a build
        tests/gate.py LOG [BUILD ..]
 
-If LOG has no `make build`, the first BUILD is the log of one, with the line `commit: ..` of the commit that was built.
-Each log may have a build of the yardstick, one before the run and one after it, say: all are written, in this order.
-The exit status is 1, and nothing is written, if LOG has no whole run of `make test`.
+If LOG has no `make build`, BUILD is the log of one, with the line `commit: ..` of the commit that was built. Each BUILD may
+also have the yardstick alone, in the line that `make build` prints of it (`[1 of 1] vipr_spec 24 s, 41 s of processor
+time`): that is what `time rt lib --jobs 2` takes in its folder, just before LOG and just after it. All are written, in
+the order of the logs. The exit status is 1, and nothing is written, if LOG has no whole run of `make test`.
 """
 import re
 import sys
@@ -19,7 +20,7 @@ HEAD = """# What the gate takes
 `tests/gate.py` writes this page from the output of two commands, each in a clone without a build. `make build` is the first build. `python3 tests/all.py --anew` is the test command, which proves everything anew. Other pages name no such figures and link here.
 """
 STUB = 'No run is written here yet.\n'
-# the crate whose build shows how fast a machine is: it is built first, beside the small `vipr_shared`
+# the crate whose build shows how fast a machine is: `make build` builds it first, beside the small `vipr_shared`
 YARDSTICK = 'vipr_spec'
 KINDS = ('proof', 'tests', 'edits')
 
@@ -52,10 +53,11 @@ class Run:
         self.edits = f'{edits[-1] if edits else 0} of `must-fail/`'
         self.edits += f', {sample[-1][0]} of {sum(map(int, sample[-1]))} tried of `wrong/`' if sample else ''
 
-    def take_builds(self, others):
-        """Takes the first build of another log, and the yardsticks of all."""
-        self.built, self.build, self.built_commit = others[0].built, others[0].build, others[0].built_commit
-        self.yardsticks += [it for other in others for it in other.yardsticks]
+    def take(self, other):
+        """Takes the yardstick of another log, and its first build if this one has none."""
+        self.yardsticks += other.yardsticks
+        if other.build and not self.build:
+            self.built, self.build, self.built_commit = other.built, other.build, other.built_commit
 
     def is_whole(self):
         return bool(self.said and self.result and any(re.search(r'rt ci( --anew)?$', name) for name, _, _ in self.steps))
@@ -71,12 +73,12 @@ def page(run):
              row('Kit', f'`{run.said.get("kit", "")}`'), row('Machine', run.said.get('machine', '')),
              row('Result', f'`{run.result}`'), row('Wrong versions refused', run.edits), row('Proved here', run.share)]
     if run.yardsticks:
-        took = '; again: '.join(f'{wall:.0f} seconds, {spent:.0f} of processor time' for wall, spent in run.yardsticks)
+        took = '; then '.join(f'{wall:.0f} seconds, {spent:.0f} of processor time' for wall, spent in run.yardsticks)
         lines.append(row('Yardstick', f'the build of `{YARDSTICK}`: {took}'))
     elif YARDSTICK in run.crates:
         lines.append(row('Yardstick', f'the proof of `{YARDSTICK}`: {60 * run.crates[YARDSTICK][0]:.0f} seconds of processor time'))
-    lines += ['', 'If the yardstick takes half as long on your machine, so does about everything below. If it was built again, that '
-              'was after the run, and the two show how much the speed of a shared machine changes.', '',
+    lines += ['', 'If the yardstick takes half as long on your machine, so does about everything below. A second figure is from '
+              'after the run: a machine that others use changes its speed.', '',
               '| Command | Minutes | Processor minutes |', '|---|---|---|']
     if run.build:
         at = '' if run.built_commit == run.said.get('commit', '') else f' at commit `{run.built_commit}`'
@@ -92,7 +94,7 @@ def page(run):
         built = run.built[crate][1] / 60 if crate in run.built else ''
         lines.append(row(f'`{crate}`', built, *run.crates.get(crate, [''] * len(KINDS))))
     sums = [float(sum(it[at] for it in run.crates.values())) for at in range(len(KINDS))]
-    lines.append(row('all', sum(it[1] for it in run.built.values()) / 60, *sums))
+    lines.append(row('all', sum(it[1] for it in run.built.values()) / 60 if run.built else '', *sums))
     return '\n'.join(lines) + '\n'
 
 
@@ -101,8 +103,8 @@ def main(words):
         print(__doc__.split('\n\n')[1])
         return 2
     run, *builds = (Run(Path(word).read_text(errors='replace')) for word in words)
-    if builds:
-        run.take_builds(builds)
+    for build in builds:
+        run.take(build)
     if not run.is_whole():
         print(f'{words[0]} has no whole run of make test')
         return 1

@@ -16,6 +16,9 @@ import sys
 
 ROOT = os.path.dirname(os.path.dirname(os.path.abspath(__file__)))
 CRATES = os.path.join(ROOT, 'crates')
+sys.path.insert(0, os.path.join(ROOT, 'tools'))
+import wrong  # noqa: E402
+
 WIDTH = 100
 LENGTH = 800
 # words that name the model of a type, one in each crate that has such a type
@@ -327,6 +330,14 @@ def edits_stand():
                 old = None
 
 
+def samples_go_round():
+    """As many commits as there are wrong versions try each of them as often as the others: ten times, by ten at once."""
+    for count, size in ((10, 552), (10, 23), (10, 4), (3, 3)):
+        tried = collections.Counter(it for turn in range(size) for it in wrong.sample(list(range(size)), count, turn))
+        if tried != dict.fromkeys(range(size), min(count, size)):
+            yield 'tools/wrong.py: of %d, a sample of %d leaves some out' % (size, count)
+
+
 def versions_agree():
     """Each place that names the program's version names that of the command line."""
     number = re.search(r'\.version\("(.*)"\)', read(os.path.join(CRATES, 'vipr_command', 'src', 'args.rt')))[1]
@@ -367,7 +378,7 @@ def formatted():
 
 
 CHECKS = [foreign_proofs, private_lemmas, names_twice, types_twice, plain_words, comments_stand_alone, unused_imports, proofs_in_specs, long_lines, long_files, crates_are_there, graph_is_current,
-          statement_is_current, examples_are_there, causes_agree, edits_stand, versions_agree, named_files_are_there,
+          statement_is_current, examples_are_there, causes_agree, edits_stand, samples_go_round, versions_agree, named_files_are_there,
           formatted]
 
 
