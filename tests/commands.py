@@ -66,7 +66,8 @@ class Reader:
             (stand_ins / 'sbatch').chmod(0o755)
         self.environment = dict(os.environ, HOME=str(self.home), LC_ALL='C.UTF-8', MANPAGER='cat', PAGER='cat',
                                 PATH=f'{self.home}/.local/bin:{stand_ins}:{os.environ["PATH"]}')
-        self.environment.pop('MAKEFLAGS', None)
+        for name in ('MAKEFLAGS', 'TMPDIR'):
+            self.environment.pop(name, None)
         self.has_history = self.run('git rev-parse HEAD', TOP)[0] == 0
         self.place_source()
 

@@ -4,9 +4,11 @@
 usage: tests/pages.py [PROGRAM]     crates/vipr/out/vipr without it
 
 In README.md, CONTRIBUTING.md and the pages of docs/ and examples/ it looks at
-- blocks marked `console`: each line `$ COMMAND` is run at the top of the repository, with the built program as `vipr`
-  on the path; the lines below it are what is printed on standard output and standard error, in the order in which they
-  come; after a command whose last line is `$ echo $?` stands its status. The commands of one block share a shell;
+- blocks marked `console`: each line `$ COMMAND` is run as a reader would, in one shell for all blocks of a page, at the top
+  of the repository, with the built program as `vipr` on the path. The lines below it are what is printed on standard output
+  and standard error, in the order in which they come; after a command whose last line is `$ echo $?` stands its status.
+  The home folder is empty, TMPDIR isn't set, and a variable that isn't set ends the shell. The commands of
+  docs/TUTORIAL.md are run in an empty folder, with the files of its blocks marked `vipr as NAME`;
 - blocks marked with a file's name, as `vipr examples/infeasible.vipr`: they are that file, or a part of it, line by line;
 - tables below a line `Changes of [..](..):`, with the columns `In place of`, `Write` and `Printed` last: each row changes
   one piece of the file that the line names, and `check` prints the last column as its first line;
@@ -37,9 +39,10 @@ sys.path.insert(0, str(TOP / 'bench'))
 from plain_check import explained  # noqa: E402
 
 PROGRAM = Path(sys.argv[1] if len(sys.argv) > 1 else TOP / 'crates/vipr/out/vipr').resolve()
-PAGES = ['README.md', 'CONTRIBUTING.md', 'CHANGELOG.md', 'docs/FORMAT.md', 'docs/USE.md', 'docs/LIBRARY.md',
-         'docs/PROOF.md', 'docs/SECURITY.md', 'docs/BENCHMARKS.md', 'docs/ARCHITECTURE.md', 'docs/DECISIONS.md', 'docs/WHY.md', 'docs/GLOSSARY.md',
-         'examples/README.md']
+PAGES = ['README.md', 'CONTRIBUTING.md', 'CHANGELOG.md', 'docs/TUTORIAL.md', 'docs/FORMAT.md', 'docs/USE.md',
+         'docs/LIBRARY.md', 'docs/PROOF.md', 'docs/SECURITY.md', 'docs/BENCHMARKS.md', 'docs/ARCHITECTURE.md',
+         'docs/DECISIONS.md', 'docs/WHY.md', 'docs/GLOSSARY.md', 'examples/README.md']
+TUTORIAL = 'docs/TUTORIAL.md'
 # what may stand in a block that isn't run
 KNOWN = {'git', 'cd', 'make', 'man', 'vipr', 'rt', 'python3', 'source', 'parallel', 'sbatch', 'export', 'sudo', 'pv', 'cc', './check', 'g++',
          './gmp_check'}
@@ -70,33 +73,37 @@ def commands_of():
     return re.findall(r'^  ([a-z]+)  ', text.split('Commands:')[1].split('\n\n')[0], re.M)
 
 
-def shell(words, folder):
-    environment = dict(os.environ, PATH=f'{folder}:{os.environ["PATH"]}', LC_ALL='C.UTF-8', TMPDIR=str(folder))
-    done = subprocess.run(['bash', '-c', words], cwd=TOP, env=environment, stdout=subprocess.PIPE,
-                          stderr=subprocess.STDOUT, stdin=subprocess.DEVNULL, text=True, timeout=300, check=False)
+def shell(words, home, place):
+    """What a reader's shell prints in a folder, with an empty home folder."""
+    environment = {name: value for name, value in os.environ.items() if name not in ('TMPDIR', 'MAKEFLAGS')}
+    environment.update(PATH=f'{home.parent}:{os.environ["PATH"]}', LC_ALL='C.UTF-8', HOME=str(home))
+    done = subprocess.run(['bash', '-uc', words], cwd=place, env=environment, stdout=subprocess.PIPE,
+                          stderr=subprocess.STDOUT, stdin=subprocess.DEVNULL, text=True, errors='replace', timeout=300,
+                          check=False)
     return done.stdout
 
 
-def console(page, line, text, folder):
-    """Runs the commands of a block in one shell, with a mark in front of the output of each."""
+def console(page, blocks, home, place):
+    """Runs the commands of a page's blocks in one shell, with a mark in front of the output of each."""
     commands, wanted = [], []
-    for row in text.split('\n')[:-1]:
-        if row.startswith('$ '):
-            commands.append(row[2:])
-            wanted.append('')
-        elif row.startswith('> ') and not wanted[-1]:
-            commands[-1] += '\n' + row[2:]
-        else:
-            wanted[-1] += row + '\n'
-    needed = re.search(r'\b(parallel|xz|gzip|zstd|pv|man|fish|zsh)\b', '\n'.join(commands))
-    if needed and not shutil.which(needed[1]):
-        left_out.add(needed[1])
-        return
+    for line, text in blocks:
+        needed = re.search(r'^[$>] .*?\b(parallel|xz|gzip|zstd|pv|man|fish|zsh)\b', text, re.M)
+        if needed and not shutil.which(needed[1]):
+            left_out.add(needed[1])
+            continue
+        for row in text.split('\n')[:-1]:
+            if row.startswith('$ '):
+                commands.append((line, row[2:]))
+                wanted.append('')
+            elif row.startswith('> ') and not wanted[-1]:
+                commands[-1] = line, commands[-1][1] + '\n' + row[2:]
+            else:
+                wanted[-1] += row + '\n'
     mark = '@@@@ next'
-    got = shell('\n'.join(f'printf "%s\\n" "{mark}"; (exit $status)\n{command}\nstatus=$?' for command in commands),
-                folder)
+    got = shell('status=0\n' + '\n'.join(f'printf "%s\\n" "{mark}"; (exit $status)\n{command}\nstatus=$?'
+                                         for _, command in commands), home, place)
     parts = got.split(mark + '\n')[1:]
-    for number, command in enumerate(commands):
+    for number, (line, command) in enumerate(commands):
         printed = parts[number] if number < len(parts) else '(nothing was run)'
         check(printed == wanted[number], page, line,
               f'{command!r} prints {printed!r}, and the page has {wanted[number]!r}')
@@ -228,25 +235,34 @@ def examples(commands):
             check(made == path.read_bytes(), page, line, f'{maker[1]} makes another text than {name}')
 
 
+def look_at(page, text, room):
+    """What a page's blocks, tables and links say."""
+    home, place = room / 'home', room / 'empty' if page == TUTORIAL else TOP
+    blocks = []
+    for found in BLOCK.finditer(text):
+        line, words = text[:found.start()].count('\n') + 1, found[1].split()
+        if words[:1] == ['console']:
+            blocks.append((line, found[2]))
+        elif words[:1] == ['sh']:
+            not_run(page, line, found[2])
+        elif words[1:2] == ['as']:
+            (place / words[2]).write_text(found[2])
+        elif len(words) == 2:
+            quoted(page, line, found[2], words[1])
+    console(page, blocks, home, place)
+    changes(page, text)
+    links(page, text)
+
+
 def main():
     commands = commands_of()
     with tempfile.TemporaryDirectory() as name:
-        folder = Path(name)
-        (folder / 'vipr').symlink_to(PROGRAM)
+        room = Path(name)
+        (room / 'vipr').symlink_to(PROGRAM)
+        for folder in ('home', 'empty'):
+            (room / folder).mkdir()
         for page in PAGES:
-            if not (TOP / page).is_file():
-                continue
-            text = (TOP / page).read_text()
-            for found in BLOCK.finditer(text):
-                line, words = text[:found.start()].count('\n') + 1, found[1].split()
-                if words[:1] == ['console']:
-                    console(page, line, found[2], folder)
-                elif words[:1] == ['sh']:
-                    not_run(page, line, found[2])
-                elif len(words) == 2:
-                    quoted(page, line, found[2], words[1])
-            changes(page, text)
-            links(page, text)
+            look_at(page, (TOP / page).read_text(), room)
         examples(commands)
         documented()
     if left_out:
