@@ -8,7 +8,7 @@
 # make house             checks the repository's text: laws, names, lengths, the tables and pages made from the files
 # make wrong             tries more wrong versions of the code, which the prover has to refuse (hours), CRATES=NAME those of one crate
 # make bench             times the program over certificates that a script makes, beside wc -w and cat
-# make statement         writes docs/STATEMENT.md, docs/PROOF.md, the crate graph, the man page and the completions anew
+# make statement         writes docs/STATEMENT.md, docs/CONTRACTS.md, the crate graph, the man page and the completions anew
 RT ?= rt
 PYTHON ?= python3
 FILE ?= examples/infeasible.vipr

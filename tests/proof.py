@@ -1,13 +1,14 @@
 #!/usr/bin/env python3
-"""Writes the tables of docs/PROOF.md from the sources, or says whether they are current.
+"""Writes the tables of docs/CONTRACTS.md from the sources, and how many edits there are into docs/PROOF.md, or says
+whether both are current.
 
 usage: tests/proof.py [--check]
 
 A row for each public call: the call, the names of its clauses (`-` for one without a name), the definitions that they
 cite, the laws that its proof cites, and the edits of its code: those of must-fail/, which `make test` tries, and those
 of wrong/, which `make wrong` tries. Edits of what lies below the public calls, of definitions and of laws stand in the
-lines below a crate's table. Of the table by hand it says which row is missing, and which names a clause that its calls
-don't have.
+lines below a crate's table. Of docs/PROOF.md it says which crate has no heading there, and which clause in brackets is
+none of the calls before it, or of the record behind `of`.
 """
 import os
 import re
@@ -15,8 +16,11 @@ import sys
 from pathlib import Path
 
 TOP = Path(__file__).resolve().parent.parent
-PAGE = TOP / 'docs/PROOF.md'
+PROOF, CONTRACTS = TOP / 'docs/PROOF.md', TOP / 'docs/CONTRACTS.md'
+EDITS = '<!-- edits: written by `tests/proof.py` -->', '<!-- end of the edits -->'
 MARKS = '<!-- tables: written by `tests/proof.py` from the sources -->', '<!-- end of the tables -->'
+# crates that only have the public names of others
+WITHOUT_CALLS = ('vipr_text', 'vipr_lib')
 OPENS = {'{': 1, '}': -1}
 
 
@@ -189,42 +193,67 @@ def tables():
     return '\n'.join([MARKS[0], ''] + lines + [MARKS[1]])
 
 
+def how_many():
+    """The edits that there are today, as a sentence."""
+    count = {folder: sum(len(list(edits(crate, folder))) for crate in order()) for folder in FOLDERS}
+    return '\n'.join([EDITS[0], 'Today there are ' + ' and '.join(f'{n} in `{folder}/`' for folder, n in count.items())
+                      + '.', EDITS[1]])
+
+
 def clauses_of(crate):
-    """By the name of a function of the crate, or of a trait's member, the names of its clauses."""
-    named = {}
+    """By the name of a function of the crate, of a trait's member or of a record, the names of its clauses. A word that
+    abbreviates a record has those of the record."""
+    named, short = {}, {}
     for path in sorted((TOP / 'crates' / crate / 'src').rglob('*.rt')):
         for name, _, _, clauses, _, _ in functions(path):
             named.setdefault(name, set()).update(clause for _, clause, _ in clauses if clause)
+    for path in sorted((TOP / 'crates' / crate / 'specs').rglob('*.antt')):
+        text = path.read_text()
+        for found in re.finditer(r'^pub record (\w+)(.*?)(?=^\S|\Z)', text, re.M | re.S):
+            named[found[1]] = set(re.findall(r'^  pub (\w+) :', found[2], re.M))
+        short.update(re.findall(r'^([A-Z]\w*) [^=\n]*=\s*([A-Z]\w*)\b', text, re.M))
+    for name in short:
+        record = name
+        while record in short and record not in named:
+            record = short[record]
+        if record in named:
+            named.setdefault(name, named[record])
     return named
 
 
-def faults_of_rows(text):
-    """The table by hand: each crate has one row, and a clause in brackets is one of the calls before them."""
-    by_hand = re.findall(r'^\| `(vipr\w*)` \|[^|]*\|([^|]*)\|', text.split(MARKS[0])[0], re.M)
+def faults_of_page(text):
+    """docs/PROOF.md: each crate with calls has one heading, and a clause in brackets is one of the calls before it."""
+    parts = re.findall(r'^### ((?:`vipr\w*`(?:, )?)+)\n(.*?)(?=^##|\Z)', text, re.M | re.S)
+    headed = [crate for heads, _ in parts for crate in re.findall(r'`(\w+)`', heads)]
     for crate in order():
-        count = sum(crate == name for name, _ in by_hand)
-        if count != 1:
-            yield f'{crate} has {count} rows'
-    for crate, cited in by_hand:
+        if headed.count(crate) != (crate not in WITHOUT_CALLS):
+            yield f'{crate} has {headed.count(crate)} headings'
+    for heads, part in parts:
+        crate = re.search(r'`(\w+)`', heads)[1]
         named = clauses_of(crate)
-        for calls, clauses in re.findall(r'((?:`[\w:]+`(?:, | and )?)+) \(((?:`\w+`(?:, )?)+)\)', cited):
-            known = [named[name] for name in re.findall(r'(?:\w+::)?(\w+)`', calls) if name in named]
+        for calls, clauses, record in re.findall(
+                r'((?:`[\w:]+`(?:, | and )?)+) \(((?:`\w+`(?:, )?)+)(?: of `(\w+)`)?\)', part):
+            words = [record] if record else re.findall(r'(?:\w+::)?(\w+)`', calls)
+            known = [named[name] for name in words if name in named]
             for clause in re.findall(r'`(\w+)`', clauses):
-                if clause.islower() and known and not any(clause in names for names in known):
-                    yield f'{crate}: {calls} has no clause {clause}'
+                if (clause.islower() or record) and (known or record) and not any(clause in names for names in known):
+                    yield f'{crate}: {record or calls} has no clause {clause}'
 
 
 def main():
-    text = PAGE.read_text()
-    faults = list(faults_of_rows(text))
+    faults = list(faults_of_page(PROOF.read_text()))
     for fault in faults:
-        print(f'{os.path.relpath(PAGE, TOP)}: {fault}')
-    new = re.sub(re.escape(MARKS[0]) + r'(?:.|\n)*' + re.escape(MARKS[1]), lambda m: tables(), text)
-    if '--check' in sys.argv:
-        print(f'{os.path.relpath(PAGE, TOP)} is {"current" if new == text else "not what tests/proof.py makes of the sources"}')
-        return int(new != text or bool(faults))
-    PAGE.write_text(new)
-    return int(bool(faults))
+        print(f'{os.path.relpath(PROOF, TOP)}: {fault}')
+    current = True
+    for page, marks, made in ((CONTRACTS, MARKS, tables()), (PROOF, EDITS, how_many())):
+        text = page.read_text()
+        new = re.sub(re.escape(marks[0]) + r'(?:.|\n)*' + re.escape(marks[1]), lambda m: made, text)
+        if '--check' in sys.argv:
+            current = current and new == text
+            print(f'{os.path.relpath(page, TOP)} is {"current" if new == text else "not what tests/proof.py makes of the sources"}')
+        else:
+            page.write_text(new)
+    return int(not current or bool(faults))
 
 
 if __name__ == '__main__':
