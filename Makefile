@@ -1,7 +1,7 @@
 # make check FILE=path   builds the program if needed and checks a certificate (examples/infeasible.vipr without FILE)
 # make test              proves everything, and runs the tests
 # make build             proves and builds the program, crates/vipr/out/vipr, and says how far it is
-# make install PREFIX=.. builds it if needed, and installs it with its man page and completions (/usr/local)
+# make install PREFIX=.. builds it if needed, and installs it with its man page, completions and pages (/usr/local)
 # make uninstall PREFIX=.. takes them away again
 # make lib               the library for C: libvipr.a and a shared one in crates/vipr_c/out
 # make install-lib PREFIX=.. installs it, with include/vipr.h and vipr.pc; make uninstall-lib removes it
@@ -19,6 +19,10 @@ BIN = $(DESTDIR)$(PREFIX)/bin
 SHARE = $(DESTDIR)$(PREFIX)/share
 INSTALLED = $(BIN)/vipr $(SHARE)/man/man1/vipr.1 $(SHARE)/bash-completion/completions/vipr \
 	$(SHARE)/zsh/site-functions/_vipr $(SHARE)/fish/vendor_completions.d/vipr.fish
+# what is installed to be read: the pages, and what they link to
+PAGES = README.md CONTRIBUTING.md CHANGELOG.md LICENSE include/vipr.h $(wildcard docs/*.md docs/*.svg) \
+	$(wildcard examples/*.* examples/*/*.*)
+DOC = $(SHARE)/doc/vipr
 
 # the library for C: its version is the program's
 VERSION = $(shell sed -n 's/.*\.version("\(.*\)").*/\1/p' crates/vipr_command/src/args.rt)
@@ -54,11 +58,13 @@ install: $(PROGRAM)
 	@install -D -m 644 completions/vipr.bash "$(SHARE)/bash-completion/completions/vipr"
 	@install -D -m 644 completions/_vipr "$(SHARE)/zsh/site-functions/_vipr"
 	@install -D -m 644 completions/vipr.fish "$(SHARE)/fish/vendor_completions.d/vipr.fish"
-	@echo "vipr is installed in $(BIN)"
+	@for page in $(PAGES); do install -D -m 644 "$$page" "$(DOC)/$$page"; done
+	@echo "vipr is installed in $(BIN), and its pages in $(DOC)"
 	@$(if $(filter /usr /usr/local,$(PREFIX)),,echo "for zsh, in ~/.zshrc before compinit: fpath+=($(PREFIX)/share/zsh/site-functions)")
 
 uninstall:
 	@rm -f $(foreach file,$(INSTALLED),"$(file)")
+	@rm -rf "$(DOC)"
 	@echo "vipr is taken out of $(BIN)"
 
 $(MADE)/libvipr.a: $(SOURCES) include/vipr.map tools/library.py

@@ -34,7 +34,7 @@ RUNNING = re.compile(r'make test|make house|python3 tests/\w+\.py')
 # what may not be installed
 WANTED = ['cc', 'man', 'parallel', 'pv']
 INSTALLED = ['bin/vipr', 'share/bash-completion/completions/vipr', 'share/fish/vendor_completions.d/vipr.fish',
-             'share/man/man1/vipr.1', 'share/zsh/site-functions/_vipr']
+             'share/man/man1/vipr.1', 'share/zsh/site-functions/_vipr', 'share/doc/vipr/docs/FORMAT.md']
 ARCHIVE = 'crates/vipr_c/out/libvipr.a'
 LIBRARY = ['include/vipr.h', 'lib/libvipr.a', 'lib/libvipr.so', 'lib/pkgconfig/vipr.pc']
 TASKS = 3

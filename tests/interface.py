@@ -7,7 +7,7 @@ completions/vipr.bash, completions/_vipr (zsh) and completions/vipr.fish are mad
 `.\\" made: WORD` and `.\\" end` are made: the synopsis and the commands from the help, the causes from docs/FORMAT.md.
 The exit statuses of docs/USE.md are those of the man page.
 Then the bash completion is tried, also in a terminal, the man page is laid out if `groff` is there, its examples are
-run, and the program is installed into a folder and removed again.
+run, and the program is installed into a folder and removed again. Each link of an installed page is followed there.
 
 Prints each fault, and last `interface: N checks, F failed`; the exit status is 1 if one failed.
 """
@@ -28,6 +28,7 @@ MAN, USE = TOP / 'man/vipr.1', TOP / 'docs/USE.md'
 USE_MARKS = ('<!-- exit statuses: written by `tests/interface.py --write` from the man page -->', '<!-- end of the exit statuses -->')
 INSTALLED = ['bin/vipr', 'share/bash-completion/completions/vipr', 'share/fish/vendor_completions.d/vipr.fish',
              'share/man/man1/vipr.1', 'share/zsh/site-functions/_vipr']
+DOC = 'share/doc/vipr'
 checks = failed = 0
 
 
@@ -174,7 +175,7 @@ def usage_roff(usage):
     """A usage line: what is typed in bold, what stands for something in italics."""
     parts = []
     for word in usage.split():
-        bare = word.strip('[]<>')
+        bare = word.strip('[]<>,')
         kind = 'I' if bare.isupper() else 'B'
         shown = re.sub(re.escape(bare), lambda m: f'\\f{kind}{roff(bare)}\\fR', word, count=1).replace('<', '').replace('>', '')
         parts.append(shown)
@@ -190,14 +191,12 @@ def man_parts(commands, options):
     for command in commands:
         rows += ['.TP', usage_roff(command.usage), roff(command.about) + '.']
         for words, about in command.arguments + [o for o in command.options if '--help' not in o[0]]:
-            rows += ['.RS', '.TP', usage_roff(words.replace(',', '')), roff(about) + '.', '.RE']
+            rows += ['.RS', '.TP', usage_roff(words), roff(about) + '.', '.RE']
     causes = []
     page = (TOP / 'docs/FORMAT.md').read_text()
-    for number, name, when in re.findall(r'^\| (\d+) \| ([A-Z]\w*) \| ([^|]+?) \|', page, re.M):
-        plain = re.sub(r'\*\*|`', '', when)
-        # a word of the format keeps its letters
-        shown = plain[0].upper() + plain[1:] if re.match(r'[a-z]+ ', when) else plain
-        causes += ['.TP', f'\\fB{number}\\fR {name}', roff(shown) + '.']
+    for number, name, cells in re.findall(r'^\| (\d+) \| ([A-Z]\w*) \| (.*) \|$', page, re.M):
+        when, *_, why = [re.sub(r'\[([^\]]*)\]\([^)]*\)|`', r'\1', cell) for cell in cells.split(' | ')]
+        causes += ['.TP', f'\\fB{number}\\fR {name}', roff(when[0].upper() + when[1:]) + '.', f'Often: {roff(why)}.']
     return {'synopsis': synopsis[:], 'commands': rows, 'causes': causes}
 
 
@@ -312,12 +311,24 @@ def installation():
             done = subprocess.run(words, cwd=TOP, capture_output=True, text=True, check=False)
             check(done.returncode == 0, f'make {target}: {done.stdout}{done.stderr}')
             there = sorted(str(path.relative_to(name)) for path in Path(name).rglob('*') if path.is_file())
+            pages = [it for it in there if it.startswith(DOC)]
             wanted = INSTALLED if target == 'install' else []
-            check(there == wanted, f'make {target} leaves {there}')
+            check([it for it in there if it not in pages] == wanted and bool(pages) == bool(wanted), f'make {target} leaves {there}')
             if target == 'install':
+                links(Path(name) / DOC)
                 done = subprocess.run([Path(name) / 'bin/vipr', 'check', 'examples/infeasible.vipr'], cwd=TOP, check=False,
                                       capture_output=True, text=True)
                 check(done.stdout.startswith('verified infeas\n'), f'the installed program prints {done.stdout!r}')
+
+
+def links(folder):
+    """Each page that the man page names is installed, and so is what the links of installed pages name."""
+    for name in re.findall(r'[\w/]+\.md', MAN.read_text()):
+        check((folder / name).is_file(), f'the man page names {name}, which is not installed')
+    for page in sorted(folder.rglob('*.md')):
+        for target in re.findall(r'\]\(([^)#\s]+)[^)]*\)', page.read_text()):
+            if not re.match('[a-z]+:', target):
+                check((page.parent / target).exists(), f'{page.relative_to(folder)}: {target} is not installed')
 
 
 def make(*words):
