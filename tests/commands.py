@@ -155,7 +155,7 @@ def look_at(reader, rows, said):
     if 'make install-lib' in words:
         for name in LIBRARY:
             check((reader.home / '.local' / name).is_file(), f'make install-lib leaves no {name}')
-        callers = words.count('/check ') + words.count('/check.py ')
+        callers = len(re.findall(r'/check(?:\.py)? examples', words))
         check(callers and said.count('infeasible.vipr: verified infeas, solutions 0') == callers, f'the callers print {said[-400:]!r}')
     if 'pv ' in words:
         check('verified infeas' in said, f'pv certificate.vipr | vipr check prints {said!r}')

@@ -9,7 +9,8 @@ of a link, count as the words that a reader sees; code in backquotes counts as o
 writes between two `<!-- .. -->` marks, aren't looked at.
 
 Each sentence has at most MOST words, and the median of a page's running text, without tables and headings, is at most
-MEDIAN. None has a turn of TURNS. In doc comments (`///`, `//!`), and in the help's words in crates/vipr_command, the same
+MEDIAN. On the pages that lead a reader, and on all pages together, at most SHARE of 100 sentences have more than LONG
+words. None has a turn of TURNS. A word of OWN is on the pages that lead a reader in the one sentence that translates it. In doc comments (`///`, `//!`), and in the help's words in crates/vipr_command, the same
 sentences and turns are refused. The documentation of a public item doesn't begin with `The same`: it is read alone.
 Prints the place of each fault, and last `language: N checks, F failed`; the exit status is 1 if one failed.
 --figures prints the number of sentences, the median and the longest of each page.
@@ -24,7 +25,13 @@ PAGES = ['README.md', 'CONTRIBUTING.md', 'CHANGELOG.md', 'docs/TUTORIAL.md', 'do
          'docs/LIBRARY.md', 'docs/ARCHITECTURE.md', 'docs/DECISIONS.md', 'docs/GLOSSARY.md', 'docs/WHY.md',
          'docs/BENCHMARKS.md', 'docs/GATE.md', 'docs/PROOF.md', 'docs/CONTRACTS.md', 'docs/STATEMENT.md', 'examples/README.md', 'tools/README.md']
 MAN, HELP = 'man/vipr.1', 'crates/vipr_command/src/args.rt'
-MOST, MEDIAN = 40, 19
+# pages that lead a reader: they say what they say in the words of integer programming
+LEADING = ['README.md', 'docs/TUTORIAL.md', 'docs/USE.md', 'docs/LIBRARY.md', 'docs/WHY.md', 'examples/README.md']
+MOST, MEDIAN, LONG, SHARE = 40, 19, 30, 3
+# words of our own: a contradiction, signs that agree, integral; and the sentence of README that translates them
+OWN = re.compile(r"\babsurd\w*|\bsuitable\b|\bwhole (?:points?|numbers?|numerators?|coefficients?|values?|objective|rows?)\b"
+                 r"|\bwhole at\b|\b(?:isn't|aren't|is|are|be) whole\b(?! and)", re.I)
+TRANSLATES = 'words of our own'
 # a turn, and what to write in its place
 TURNS = {
     r'(?<!`)\b(?:tells?|told)\b(?!`)': 'reports, shows',
@@ -80,6 +87,9 @@ def length(sentence):
 
 def faults_of(sentence, place):
     """What is wrong with a sentence: its length, and the turns that it has."""
+    own = OWN.search(re.sub('`[^`]*`', '', sentence))
+    if own and place.split(':')[0] in (*LEADING, MAN) and TRANSLATES not in sentence:
+        yield f'{place}: {own[0]!r} is a word of our own: {sentence[:60]} ..'
     if length(sentence) > MOST:
         yield f'{place}: {length(sentence)} words: {sentence[:70]} ..'
     for turn, better in TURNS.items():
@@ -89,18 +99,26 @@ def faults_of(sentence, place):
 
 
 def measured(page):
-    """The lengths of a page's sentences in running text, the number of checks, and its faults."""
-    lengths, faults, count = [], [], 0
+    """The lengths of a page's sentences in running text and of all, the number of checks, and its faults."""
+    lengths, every, faults, count = [], [], [], 0
     for line, running, piece in prose((TOP / page).read_text()):
         for sentence in sentences(piece):
-            count += 1 + len(TURNS)
+            count += 2 + len(TURNS)
+            every.append(length(sentence))
             if running:
                 lengths.append(length(sentence))
             faults += faults_of(sentence, f'{page}:{line}')
     median = statistics.median(lengths)
     if median > MEDIAN:
         faults.append(f'{page}: the median is {median:g} words a sentence')
-    return lengths, count + 1, faults
+    if page in LEADING and share(every) > SHARE:
+        faults.append(f'{page}: {share(every):.1f} of 100 sentences have more than {LONG} words')
+    return lengths, every, count + 1, faults
+
+
+def share(lengths):
+    """How many of 100 sentences of these lengths are long."""
+    return 100 * sum(it > LONG for it in lengths) / len(lengths)
 
 
 def manual():
@@ -133,7 +151,7 @@ def beside_pages():
     count = 0
     for place, piece in pieces:
         for sentence in sentences(piece):
-            count += 1 + len(TURNS)
+            count += 2 + len(TURNS)
             faults += faults_of(sentence, place)
     return count, faults
 
@@ -152,13 +170,19 @@ def main():
         count, faults = beside_pages()
         checks, failed = checks + count, failed + len(faults)
         print(*faults, sep='\n', end='\n' if faults else '')
+    of_all = []
     for page in pages:
-        lengths, count, faults = measured(page)
+        lengths, every, count, faults = measured(page)
+        of_all += every
         checks, failed = checks + count, failed + len(faults)
         for fault in faults:
             print(fault)
         if figures:
-            print(f'{page}: {len(lengths)} sentences, median {statistics.median(lengths):g}, longest {max(lengths)}')
+            print(f'{page}: {len(lengths)} sentences, median {statistics.median(lengths):g}, longest {max(lengths)}, '
+                  f'{share(every):.1f} of 100 long')
+    if pages is PAGES and share(of_all) > SHARE:
+        failed += 1
+        print(f'{share(of_all):.1f} of 100 sentences have more than {LONG} words')
     print(f'language: {checks} checks, {failed} failed')
     return 1 if failed else 0
 

@@ -44,8 +44,8 @@ PAGES = ['README.md', 'CONTRIBUTING.md', 'CHANGELOG.md', 'docs/TUTORIAL.md', 'do
          'docs/DECISIONS.md', 'docs/WHY.md', 'docs/GLOSSARY.md', 'examples/README.md']
 TUTORIAL = 'docs/TUTORIAL.md'
 # what may stand in a block that isn't run
-KNOWN = {'git', 'cd', 'make', 'man', 'vipr', 'rt', 'python3', 'source', 'parallel', 'sbatch', 'export', 'sudo', 'pv', 'cc', './check', 'g++',
-         './gmp_check'}
+KNOWN = {'git', 'cd', 'make', 'man', 'vipr', 'rt', 'python3', 'source', 'parallel', 'sbatch', 'export', 'sudo', 'pv', 'cc', 'g++',
+         './gmp_check', '$work/check'}
 # public calls whose documentation shows an example
 DOCUMENTED = ['check', 'explain', 'read_certificate', 'tighten', 'write_certificate']
 COMMENT = re.compile(r'(?:^ *//[/!][^\n]*\n)+', re.M)
@@ -115,7 +115,7 @@ def not_run(page, line, text):
     for row in re.sub(r'\\\n', ' ', text).split('\n'):
         for part in re.split(r'&&|\|', row.split('#')[0]):
             words = part.split()
-            if words:
+            if words and not re.match(r'\w+=', words[0]):
                 check(words[0] in KNOWN, page, line, f'{words[0]!r} is no known program')
                 if words[0] == 'make':
                     for target in [word for word in words[1:] if '=' not in word]:
