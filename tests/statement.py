@@ -59,11 +59,11 @@ LAWS = {
 NEEDLESS = ['whole']
 BY_LAW = COMPUTED | LISTED | {'IsGoodStep'}
 
-# Each part: its title, its clauses of `ChecksIn`, those that imply the others, the most lines to believe for these by
-# themselves, the laws that stand for definitions, those that they hide, those that they cite instead, what the part
+# Each part: its title, its clauses of `ChecksIn`, those that imply the others, the most lines to believe for these, the
+# laws that stand for definitions, those that they hide, those that they cite instead, what the part
 # says, and what a reader knows behind it.
 PARTS = [
-    {'title': 'What is claimed is true', 'clauses': ['sound'], 'core': ['sound'], 'most': 260,
+    {'title': 'What is claimed is true', 'clauses': ['sound'], 'core': ['sound'], 'most': 254,
      'laws': ['cross_products', 'one_problem'], 'instead': ['StatesOnly'],
      'hidden': COMPUTED | {'gcd', 'euclid', 'IsLowest', 'ℚ', 'SpellsOnly', 'Certificate'},
      'what': 'What `verified` promises of the problem in the text.',
@@ -72,7 +72,7 @@ PARTS = [
               'a constraint. Under `range` the dual bound holds at each such point that meets all constraints; and if '
               'a primal bound is claimed, a listed solution is feasible and attains it. Nothing here speaks of rules '
               'or derivations, so no mistake in a rule can make it false. Stop here if a false `verified` is all that you fear.'},
-    {'title': 'Verified in both directions', 'clauses': ['proof', 'every'], 'core': ['proof', 'every'], 'most': 450, 'laws': ['field_by_field', 'rules_by_reason'],
+    {'title': 'Verified in both directions', 'clauses': ['proof', 'every'], 'core': ['proof', 'every'], 'most': 484, 'laws': ['field_by_field', 'rules_by_reason'],
      'instead': ['AreUsable', 'is_live', 'SumOfFits', 'entries', 'HasSense', 'sum_of', 'Dominates', 'DominatesRounded', 'IsWholeRow', 'IsSplit',
                  'IsBest', 'cutoff'],
      'hidden': BY_LAW | {'Reports', 'report_of', 'Profile'},
@@ -179,7 +179,8 @@ files, and then an example of each. The prover computes the examples that are te
 COUNTED = '''
 Lines are those to believe: clauses, definitions, and laws that are quoted instead of definitions, without comments and \
 imports. The code that is quoted, and the words of the standard library (numbers, lists, finite maps and sets), aren't \
-counted. The last column is a part without the parts before it: what `sound` needs; what `proof` and `every` need; what \
+counted. The headline in both directions is parts 1 and 2 together: their lines are those of part 2 under 'Up to here'. The last \
+column is a part without the parts before it: what `sound` needs; what `proof` and `every` need; what \
 `any` and `exact` need, which imply all other clauses. These two need no grammar, since a law says that it and the reading \
 are the same. By other laws the tests of derivations (`PassesSteps`) replace their rules there, and the spelling of digits \
 (`SpellsNatural`) replaces how they are read.
@@ -583,8 +584,10 @@ def page():
         lines = count(shown) + sum(believed(lines) for lines in clauses + quoted_laws)
         up_to += lines
         by_itself = alone(files, home, fields, number)
-        if by_itself > part['most']:
-            faults.append('docs/STATEMENT.md: part %d has %d lines to believe by itself, more than %d' % (number, by_itself, part['most']))
+        # the headline is parts 1 and 2 together; part 3 implies both
+        needed = up_to if number == 2 else by_itself
+        if needed > part['most']:
+            faults.append('docs/STATEMENT.md: part %d has %d lines to believe, more than %d' % (number, needed, part['most']))
         title = '%d. %s' % (number, part['title'])
         clauses_named = ', '.join('`%s`' % name for name in part['clauses'])
         rows.append('| [%s](#%s) | %s | %d | %d | %d | %d |' % (title, anchor(title), clauses_named, len(new), lines, up_to, by_itself))

@@ -15,6 +15,7 @@ pub fn cross_products()
         → over p q *ℚ over r s ≡ over (p *ℤ r) (q * s) }
     ensures whole { (p : ℤ) (q : ℕ) → 0 < q → IsWhole (over p q) ↔ ((k : ℤ) × (p ≡ k *ℤ pos q)) }
     ensures parts { (x : ℚ) → over x.numer x.denom ≡ x }
+    ensures positive { (x : ℚ) → 0 < x.denom }
 {}
 
 /// Each list of fractions is one of whole numerators over one denominator.

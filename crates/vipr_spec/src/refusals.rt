@@ -1,13 +1,19 @@
 //! The table of causes: the number of each cause, the place that goes with it, and what is shown.
 
-ghost use Rattle.std.specs.Prelude.{◌≡◌, ℕ, List, ◌-◌, length, Option, Some, None};
+ghost use Rattle.std.specs.Prelude.{◌≡◌, ℕ, List, ◌-◌, ◌<◌, length, Option, Some, None, Ok, Err};
+ghost use Rattle.std.specs.Prelude.{Contains};
 ghost use Rattle.vipr_spec.specs.Causes as cause;
 ghost use Rattle.vipr_spec.specs.Fraction.{ℚ};
 ghost use Rattle.vipr_spec.specs.Constraint.{Row, at, Condition, at_least, at_most, value};
 ghost use Rattle.vipr_spec.specs.Certificate.{Name, minimum, maximum, infeasible, range, Problem};
 ghost use Rattle.vipr_spec.specs.Certificate.{variables, Certificate, constraint_at};
 ghost use Rattle.vipr_spec.specs.Certificate.{objective_constraint};
-ghost use Rattle.vipr_spec.specs.Reading.{refused, unread};
+ghost use Rattle.vipr_spec.specs.Digits.{natural_of};
+ghost use Rattle.vipr_spec.specs.Number.{number_read, not_a_number, too_large, zero_denominator};
+ghost use Rattle.vipr_spec.specs.Reading.{refused, unread, most_count, count_of, last_of, rule_of};
+ghost use Rattle.vipr_spec.specs.Reading.{derivation_count_of, number_of, variable_of};
+ghost use Rattle.vipr_spec.specs.Reading.{new_variable_of, spelled_sense, spelled_direction};
+ghost use Rattle.vipr_spec.specs.Reading.{has_range_of, reference_of};
 ghost use Rattle.vipr_spec.specs.Steps.{earlier, live, assumed, suitable, fitting, roundable};
 ghost use Rattle.vipr_spec.specs.Steps.{split, listed, by_sum, by_rounding, by_constraint};
 ghost use Rattle.vipr_spec.specs.Steps.{by_cutoff, StepTest, step_cause, Shows, IsSum, index};
@@ -40,6 +46,30 @@ pub fn causes_of_tokens()
     ensures reference { cause.bad_reference ≡ 16 }
     ensures token_size { cause.token_too_long ≡ 17 }
     ensures trailing { cause.trailing_text ≡ 18 }
+{}
+
+/// The cause of each token that isn't what its place asks for.
+pub fn causes_by_token()
+    ensures count { (bs : List ℕ) → natural_of bs ≡ None → count_of bs ≡ Err 7 }
+    ensures count_size { (bs : List ℕ) (n : ℕ) → natural_of bs ≡ Some n → most_count < n
+        → count_of bs ≡ Err 8 }
+    ensures derivations { (m : ℕ) (bs : List ℕ) → natural_of bs ≡ None
+        → derivation_count_of m bs ≡ Err 7 }
+    ensures derivations_size { (m n : ℕ) (bs : List ℕ) → natural_of bs ≡ Some n
+        → most_count - m < n → derivation_count_of m bs ≡ Err 8 }
+    ensures number { (bs : List ℕ) → number_read bs ≡ Err not_a_number → number_of bs ≡ Err 4 }
+    ensures number_size { (bs : List ℕ) → number_read bs ≡ Err too_large → number_of bs ≡ Err 5 }
+    ensures denominator { (bs : List ℕ) → number_read bs ≡ Err zero_denominator
+        → number_of bs ≡ Err 6 }
+    ensures variable { (n c : ℕ) (bs : List ℕ) → variable_of n bs ≡ Err c → c ≡ 9 }
+    ensures repeated { (n i : ℕ) (before bs : List ℕ) → variable_of n bs ≡ Ok i
+        → Contains before i → new_variable_of n before bs ≡ Err 10 }
+    ensures sense { (bs : List ℕ) (c : ℕ) → spelled_sense bs ≡ Err c → c ≡ 11 }
+    ensures direction { (bs : List ℕ) (c : ℕ) → spelled_direction bs ≡ Err c → c ≡ 12 }
+    ensures claim { (bs : List ℕ) (c : ℕ) → has_range_of bs ≡ Err c → c ≡ 13 }
+    ensures reason { (bs : List ℕ) (c : ℕ) → rule_of bs ≡ Err c → c ≡ 14 }
+    ensures reference { (bs : List ℕ) (c : ℕ) → reference_of bs ≡ Err c → c ≡ 16 }
+    ensures last { (bs : List ℕ) (c : ℕ) → last_of bs ≡ Err c → c ≡ 16 }
 {}
 
 /// The numbers of the causes that a listed solution, a derivation and a side of the claim have.
