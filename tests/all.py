@@ -29,6 +29,7 @@ SCRIPTS = [
     ['tools/wrong.py', '--sample', '10'],
     ['tests/answers.py'],
     ['tests/long.py'],
+    ['tests/large.py'],
     ['tests/hostile.py'],
     ['tests/output.py'],
     ['tests/growths.py'],

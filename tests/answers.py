@@ -19,6 +19,7 @@ import subprocess
 import sys
 import tempfile
 import termios
+import threading
 import time
 from pathlib import Path
 
@@ -28,6 +29,8 @@ from plain_check import readable  # noqa: E402
 
 PROGRAM = Path(sys.argv[1] if len(sys.argv) > 1 else TOP / 'crates/vipr/out/vipr').resolve()
 COMMANDS = ['check', 'explain', 'show', 'tighten']
+# a run that takes longer is ended, and its answer is none that is wanted
+SECONDS = 60
 # the largest number
 M = 2**127 - 1
 
@@ -300,6 +303,8 @@ def answer(words, *pieces, folder=None):
     with subprocess.Popen(['vipr', *words], executable=PROGRAM, stdin=read, stdout=subprocess.PIPE,
                           stderr=subprocess.PIPE, cwd=folder) as child:
         os.close(read)
+        clock = threading.Timer(SECONDS, child.kill)
+        clock.start()
         try:
             for piece in pieces:
                 while is_unread(write) and child.poll() is None:
@@ -309,6 +314,7 @@ def answer(words, *pieces, folder=None):
             pass
         os.close(write)
         printed, complained = child.communicate()
+        clock.cancel()
     return printed, complained, child.returncode
 
 

@@ -1,0 +1,160 @@
+#!/usr/bin/env python3
+"""What the built program answers on texts that are large in one respect, and on files beside others of a similar name.
+
+usage: tests/large.py [PROGRAM]     crates/vipr/out/vipr without it
+
+Small texts don't show a limit that isn't the format's: so many variables, derivations, entries or bytes, behind which a
+text is cut off or memory is said to be wanted. Every answer is known beforehand. A sparse file takes no room on a disk.
+
+Prints each fault, and last `large: N runs, F failed`; the exit status is 1 if one failed.
+"""
+import os
+import resource
+import subprocess
+import sys
+import tempfile
+from pathlib import Path
+
+TOP = Path(__file__).resolve().parent.parent
+PROGRAM = Path(sys.argv[1] if len(sys.argv) > 1 else TOP / 'crates/vipr/out/vipr').resolve()
+SECONDS = 300
+# the largest number
+M = 2**127 - 1
+SPARSE_BYTES = 3 << 30
+WIDE = 2000
+
+runs, failed = 0, 0
+
+
+def expect(what, wanted, words, text=None, source=None):
+    """Runs the program, and compares both outputs and the status. `source` is a file for standard input."""
+    global runs, failed
+    runs += 1
+    try:
+        done = subprocess.run([PROGRAM, *words], input=text, stdin=source, capture_output=True, timeout=SECONDS,
+                              check=False)
+        got = done.stdout, done.stderr, done.returncode
+    except subprocess.TimeoutExpired:
+        got = b'', b'no answer', None
+    if got != wanted:
+        failed += 1
+        print(f'vipr {" ".join(map(str, words))}: {what}: {got!r:.400}, wanted {wanted!r:.400}')
+
+
+def verdict(lines):
+    return f'{lines}\n'.encode(), b'', int(lines.startswith('refused'))
+
+
+def many(variables, needless, used, is_tight):
+    """A proof of so many derivations that nothing needs and so many that one sum needs, over that many variables, and its
+    figures. Each is held to the end, or only as long as it is needed."""
+    first = 2 + needless
+    total = first + used
+    split, below, above, absurd, goal = range(total + 1, total + 6)
+
+    def last(index):
+        return index if is_tight else -1
+    lines = [f'VER 1.0\nVAR {variables}', *['x'] * variables, 'INT 1\n0\nOBJ min\n0\nCON 2 0', 'a G 1 1 0 1',
+             'b L 0 1 0 1', f'RTP infeas\nSOL 0\nDER {needless + used + 6}', *['d G 0 0 { lin 0 } -1'] * needless]
+    lines += [f'f G 1 1 0 1 {{ lin 1 0 1 }} {last(total)}'] * used
+    entries = ' '.join(f'{index} 1' for index in range(first, total))
+    lines += [f's G {used} 1 0 {used} {{ lin {used} {entries} }} {last(absurd)}',
+              f'p G 1 1 0 1 {{ asm }} {last(goal)}',
+              f'q G 1 0 {{ lin 2 {split} 1 1 -1 }} {last(goal)}',
+              f'r L 0 1 0 1 {{ asm }} {last(goal)}',
+              f't G {used} 0 {{ lin 2 {total} 1 {above} {-used} }} {last(goal)}',
+              f'g G 1 0 {{ uns {below} {split} {absurd} {above} }} -1']
+    return '\n'.join(lines).encode() + b'\n', needless + used + 6
+
+
+def of_many_items():
+    """A million variables, a million derivations that go, 110,000 that stay and that one sum names."""
+    variables, needless, used = 1_100_000, 1_000_000, 110_000
+    text, derived = many(variables, needless, used, False)
+    tight, kept = many(variables, 0, used, True)
+    expect('many items', verdict(f'verified infeas\nsolutions 0 derived {derived} peak {derived}'), ['check'], text)
+    expect('many items', (text, b'', 0), ['show'], text)
+    said = f'kept {kept} removed {needless} peak {derived} {used}\n'.encode()
+    expect('many items', (tight, said, 0), ['tighten'], text)
+    expect('many items, tightened', verdict(f'verified infeas\nsolutions 0 derived {kept} peak {used}'), ['check'], tight)
+
+
+def row(coefficient=1):
+    return f'{WIDE} ' + ' '.join(f'{variable} {coefficient}' for variable in range(WIDE))
+
+
+def entries(multiplier=1, last='0 1', index=0):
+    """A reason's entries, all but the last of one constraint and one multiplier."""
+    return f'{WIDE} ' + f'{index} {multiplier} ' * (WIDE - 1) + last
+
+
+def refusals():
+    """For each cause of a derivation the derivations of a text over wide rows, and the refused one's index."""
+    half = row('1/3')
+    yield 31, f'd G 0 {row()} {{ lin {entries(last="9 1")} }} -1', 2
+    yield 32, f'd G 1 {row()} {{ lin 1 0 1 }} 3\ne G 1 {row()} {{ lin 1 2 1 }} -1\nf G 0 0 {{ lin {entries(last="2 1")} }} -1', 4
+    yield 33, f'd G 1 {row()} {{ asm }} -1\ne G 1 {row()} {{ lin 1 0 1 }} -1\nf G 1 {row()} {{ uns 2 2 3 3 }} -1', 4
+    yield 34, f'd G 0 {row()} {{ lin {entries(last="0 -1")} }} -1', 2
+    yield 35, f'd G 0 {row()} {{ lin {entries(last=f"0 {M}")} }} -1', 2
+    yield 36, f'd G 1/3 {half} {{ lin 1 0 1/3 }} -1\ne G 1 {row()} {{ rnd {entries(index=2, last="2 1")} }} -1', 3
+    yield 37, f'd G 1 {row()} {{ asm }} -1\ne G 1 {row()} {{ asm }} -1\nf G 1 {row()} {{ uns 2 2 3 3 }} -1', 4
+    yield 38, f'd G {WIDE + 1} {row(WIDE)} {{ lin {entries()} }} -1', 2
+    yield 39, f'd L 0 {row()} {{ sol }} -1', 2
+
+
+def of_wide_rows():
+    """Each cause of a derivation once, with rows and reasons of 2,000 entries."""
+    names = '\n'.join(f'x{variable}' for variable in range(WIDE))
+    whole = f'{WIDE} ' + ' '.join(map(str, range(WIDE)))
+    for cause, derivations, index in refusals():
+        text = (f'VER 1.0\nVAR {WIDE}\n{names}\nINT {whole}\nOBJ min\n{row()}\nCON 2 0\na G 1 {row()}\nb G 0 0\n'
+                f'RTP range -inf inf\nSOL 0\nDER {derivations.count(chr(10)) + 1}\n{derivations}\n').encode()
+        line = f'refused {cause} at DER {index}'
+        expect('wide rows', verdict(line), ['check'], text)
+        expect('wide rows', (b'', f'{line}\n'.encode(), 1), ['tighten'], text)
+
+
+def of_many_bytes(room):
+    """A comment of three gigabytes in front of a proof, as FILE and, with a token behind the end, as standard input."""
+    proof = (TOP / 'examples/infeasible.vipr').read_bytes()
+    path = room / 'sparse'
+    with path.open('wb') as file:
+        file.write(b'%')
+        file.seek(SPARSE_BYTES)
+        file.write(b'\n' + proof)
+    expect('a long comment', verdict('verified infeas\nsolutions 0 derived 1 peak 1'), ['check', path])
+    with path.open('ab') as file:
+        file.write(b'x')
+    with path.open('rb') as file:
+        expect('a token behind a long text', verdict(f'refused 18 at byte {SPARSE_BYTES + 1 + len(proof)}'), ['check'],
+               source=file)
+
+
+def of_one_name(room):
+    """FILE is the file of that name, whatever is beside it."""
+    proof = (TOP / 'examples/infeasible.vipr').read_bytes()
+    other = (TOP / 'examples/rounding_min.vipr').read_bytes()
+    (room / 'plan.vipr').write_bytes(other)
+    (room / 'plan').write_bytes(other)
+    lines = verdict('verified infeas\nsolutions 0 derived 1 peak 1')
+    for name in ('plan.vipr~', 'plan.vipr.bak', 'plan.vipr ', ' plan.vipr', 'plan.vipr.gz', '#plan.vipr#', 'Plan.vipr',
+                 'plan.vipr.1', 'plan.vip', 'plan.vipr\n', 'plan\\.vipr', 'plan.vipr%', '.plan.vipr', 'plan?vipr', 'plan*'):
+        path = room / name
+        path.write_bytes(proof)
+        expect('a file beside another', lines, ['check', path])
+        path.unlink()
+        expect('a file that is not there', (b'', b'fault read\n', 3), ['check', path])
+
+
+def main():
+    of_wide_rows()
+    of_many_items()
+    with tempfile.TemporaryDirectory(prefix='vipr-large-') as room:
+        of_one_name(Path(room))
+        of_many_bytes(Path(room))
+    spent = resource.getrusage(resource.RUSAGE_CHILDREN)
+    print(f'large: {runs} runs, {failed} failed, {spent.ru_utime + spent.ru_stime:.0f} seconds of processor time')
+    return 1 if failed else 0
+
+
+sys.exit(main())
