@@ -13,14 +13,14 @@ use Rattle.vipr_spec.specs.Constraint.{Row}
 use Rattle.vipr_spec.specs.Certificate.{Problem, integer_variables, Derivation, Certificate}
 use Rattle.vipr_spec.specs.Number.{number_text}
 use Rattle.vipr_write.specs.Canonical.{sense_word, reason_words, last_word}
-use Rattle.vipr_write.specs.Canonical.{direction_word, vector_words, given_words}
-use Rattle.vipr_write.specs.Canonical.{claim_words, variables_lines, problem_lines, solutions_lines}
+use Rattle.vipr_write.specs.Canonical.{direction_word, vector_words}
+use Rattle.vipr_write.specs.Canonical.{claim_words, variables_lines, solutions_lines}
 use Rattle.vipr_write.specs.Canonical.{words_after_spaces, heading, line_text, lines_text}
 use Rattle.vipr_write.specs.Forms.{row_words, constraint_words_in, derivation_words_in}
 use Rattle.vipr_write.specs.Forms.{given_words_in, problem_lines_in, derivations_lines_in}
 use Rattle.vipr_write.specs.Forms.{certificate_lines_in}
 use Rattle.vipr_write.specs.Lines.{words_text, integers_lines, constraints_heading}
-use Rattle.vipr_write.specs.Lines.{constraints_lines, constraints_lines_in}
+use Rattle.vipr_write.specs.Lines.{constraints_lines_in}
 use Rattle.vipr_write.specs.declared.form.Form.{Form}
 
 abbrev number_by : ℚ → Bool → List ℕ
@@ -75,15 +75,6 @@ variables_parts p names js same members =
     ap (λ ns. codes "VER 1.0\n" ++ (line_text (heading (codes "VAR") (length ns)) ++ (lines_text (map (λ name. name ∷ []) ns) ++ lines_text (integers_lines js)))) same
     ∙ ap (λ ks. codes "VER 1.0\n" ++ (line_text (heading (codes "VAR") (length p.names)) ++ (lines_text (map (λ name. name ∷ []) p.names) ++ lines_text (integers_lines ks)))) members
     ∙ ap (λ t. codes "VER 1.0\n" ++ (line_text (heading (codes "VAR") (length p.names)) ++ t)) (sym (lines_text-append (map (λ name. name ∷ []) p.names) (integers_lines (integer_variables p))))
-
-pub problem_parts : (start : List ℕ) (p : Problem) →
-    start ++ lines_text (problem_lines p) ≡
-    ((((start ++ lines_text (variables_lines p))
-    ++ line_text (codes "OBJ" ∷ direction_word p.direction ∷ []))
-    ++ line_text (vector_words p.objective))
-    ++ lines_text (constraints_lines p.constraints p.bound_count))
-    ++ line_text (claim_words p.claim)
-problem_parts start p = section_parts start (variables_lines p) (map given_words p.constraints) (codes "OBJ" ∷ direction_word p.direction ∷ []) (vector_words p.objective) (constraints_heading p.bound_count (length p.constraints)) (claim_words p.claim)
 
 pub problem_parts_in : (form : Form) (start : List ℕ) (p : Problem) →
     start ++ lines_text (problem_lines_in form p) ≡

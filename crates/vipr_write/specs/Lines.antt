@@ -3,7 +3,7 @@ use Rattle.std.specs.Prelude.{ℕ, List, [], ◌∷◌, ◌++◌, length, map, c
 use Rattle.std.specs.Fmt.{decimal}
 use Rattle.vipr_spec.specs.Constraint.{Row, Constraint}
 use Rattle.vipr_spec.specs.Certificate.{Named}
-use Rattle.vipr_write.specs.Canonical.{heading, given_words, words_after_spaces}
+use Rattle.vipr_write.specs.Canonical.{heading, words_after_spaces}
 use Rattle.vipr_write.specs.Forms.{given_words_in}
 use Rattle.vipr_write.specs.declared.form.Form.{Form}
 
@@ -19,9 +19,6 @@ integers_lines js = heading (codes "INT") (length js) ∷ map (λ j. decimal j �
 -- how many constraints there are, and how many of them are bounds
 abbrev pub constraints_heading : ℕ → ℕ → List (List ℕ)
 constraints_heading bound_count n = codes "CON" ∷ decimal n ∷ decimal bound_count ∷ []
-
-abbrev pub constraints_lines : List (Named Constraint) → ℕ → List (List (List ℕ))
-constraints_lines cs bound_count = constraints_heading bound_count (length cs) ∷ map given_words cs
 
 abbrev pub constraints_lines_in : Form → Row → List (Named Constraint) → ℕ → List (List (List ℕ))
 constraints_lines_in form objective cs bound_count =

@@ -1,24 +1,17 @@
-//! The lines of a certificate's items, in a text that grows: a constraint, a claim, a solution, a
+//! Lines of a certificate's items, in a text that grows: a claim, a solution, the end of a
 //! derivation.
 ghost use Rattle.std.specs.Prelude.{◌≡◌, ◌++◌, OnOk};
 ghost use Rattle.vipr_spec.specs.Certificate.{range, by_branches, reason_references};
-ghost use Rattle.vipr_linear.specs.Constraint.{constraint_of};
-ghost use Rattle.vipr_write.specs.Canonical.{reference_words, constraint_words, given_words};
-ghost use Rattle.vipr_write.specs.Canonical.{claim_words, solution_words, reason_words};
-ghost use Rattle.vipr_write.specs.Canonical.{derivation_words, heading, words_after_spaces};
-ghost use Rattle.vipr_write.specs.Canonical.{line_text};
-ghost use Rattle.vipr_cert.specs.Items.{named_of, solution_of, claim_of, reason_of, derivation_of};
-ghost use Rattle.vipr_write.specs.Lines.{words_text};
+ghost use Rattle.vipr_write.specs.Canonical.{reference_words, claim_words, solution_words};
+ghost use Rattle.vipr_write.specs.Canonical.{reason_words, heading, words_after_spaces, line_text};
+ghost use Rattle.vipr_cert.specs.Items.{solution_of, claim_of, reason_of, derivation_of};
 ghost use Rattle.vipr_write.specs.Folded.{derivation_end};
 
-use crate::words::{
-    append_bound, append_counted, append_index, append_last, append_number, append_sense,
-    append_word,
-};
+use crate::words::{append_bound, append_counted, append_index, append_last, append_word};
 use std::alloc::AllocError;
-use vipr_cert::{Claim, Derivation, Name, Named, Reason, References};
+use vipr_cert::{Claim, Derivation, Named, Reason, References};
 use vipr_frac::Frac;
-use vipr_linear::{Constraint, Solution};
+use vipr_linear::Solution;
 
 /// A keyword and a count.
 pub(crate) fn append_heading(text: &mut Vec<u8>, keyword: &[u8], n: usize) -> Result<(), AllocError>
@@ -26,30 +19,6 @@ pub(crate) fn append_heading(text: &mut Vec<u8>, keyword: &[u8], n: usize) -> Re
 {
     text.extend_from_slice(keyword)?;
     append_index(text, n)?;
-    text.push(b'\n')?;
-    Ok(())
-}
-
-// The words of a constraint, with no line feed.
-fn append_stated(text: &mut Vec<u8>, name: &Name, constraint: &Constraint) -> Result<(), AllocError>
-    ensures { OnOk result (text.new.items ≡ text.old.items
-        ++ words_text (constraint_words name.now (constraint_of constraint.now))) }
-{
-    text.extend_from_slice(name.as_bytes())?;
-    append_sense(text, constraint.sense)?;
-    append_number(text, &constraint.rhs)?;
-    append_counted(text, constraint.row.entries())
-}
-
-/// A constraint.
-pub(crate) fn append_constraint(
-    text: &mut Vec<u8>,
-    constraint: &Named<Constraint>,
-) -> Result<(), AllocError>
-    ensures { OnOk result (text.new.items ≡ text.old.items
-        ++ line_text (given_words (named_of constraint_of constraint.now))) }
-{
-    append_stated(text, &constraint.name, &constraint.item)?;
     text.push(b'\n')?;
     Ok(())
 }
@@ -139,16 +108,4 @@ pub(crate) fn append_end(text: &mut Vec<u8>, derivation: &Derivation) -> Result<
     append_last(text, derivation.last)?;
     text.push(b'\n')?;
     Ok(())
-}
-
-/// A derivation.
-pub(crate) fn append_derivation(
-    text: &mut Vec<u8>,
-    derivation: &Derivation,
-) -> Result<(), AllocError>
-    ensures { OnOk result (text.new.items ≡ text.old.items
-        ++ line_text (derivation_words (derivation_of derivation.now))) }
-{
-    append_stated(text, &derivation.name, &derivation.constraint)?;
-    append_end(text, derivation)
 }

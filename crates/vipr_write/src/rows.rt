@@ -20,8 +20,9 @@ fn is_named(form: Form, objective: &Row, row: &Row) -> bool
     match form {
         Form::Canonical => false,
         Form::Compact => {
+            let _objective = objective.entries();
             let entries = row.entries();
-            entries == objective.entries() && !entries.is_empty()
+            row.is_same(objective) && !entries.is_empty()
         }
     }
 }

@@ -1,17 +1,16 @@
-//! The section of a problem, in a text that grows.
+//! What comes before the constraints of a problem, in a text that grows.
 ghost use Rattle.std.specs.Prelude.{◌≡◌, ◌∷◌, ◌++◌, [], map, codes, OnOk};
 ghost use Rattle.std.specs.Fmt.{decimal};
-ghost use Rattle.vipr_linear.specs.Constraint.{constraint_of};
 ghost use Rattle.vipr_write.specs.Canonical.{direction_word, vector_words, variables_lines};
-ghost use Rattle.vipr_write.specs.Canonical.{problem_lines, line_text, lines_text};
-ghost use Rattle.vipr_cert.specs.Items.{named_of, direction_of};
-ghost use Rattle.vipr_write.specs.Lines.{integers_lines, constraints_heading, constraints_lines};
+ghost use Rattle.vipr_write.specs.Canonical.{line_text, lines_text};
+ghost use Rattle.vipr_cert.specs.Items.{direction_of};
+ghost use Rattle.vipr_write.specs.Lines.{integers_lines, constraints_heading};
 
-use crate::lines::{append_claim, append_constraint, append_heading};
+use crate::lines::append_heading;
 use crate::words::{append_decimal, append_index, append_pairs};
 use std::alloc::AllocError;
-use vipr_cert::{Goal, Name, Named, Problem};
-use vipr_linear::{Constraint, Row};
+use vipr_cert::{Goal, Name, Problem};
+use vipr_linear::Row;
 
 // The names, each on its line.
 fn append_names(text: &mut Vec<u8>, names: &[Name]) -> Result<(), AllocError>
@@ -94,32 +93,4 @@ pub(crate) fn append_counts(
     append_index(text, bound_count)?;
     text.push(b'\n')?;
     Ok(())
-}
-
-// The constraints, with how many of them are bounds.
-fn append_constraints(
-    text: &mut Vec<u8>,
-    cons: &[Named<Constraint>],
-    bound_count: u32,
-) -> Result<(), AllocError>
-    ensures { OnOk result (text.new.items ≡ text.old.items
-        ++ lines_text (constraints_lines (map (named_of constraint_of) cons.now) bound_count)) }
-{
-    append_counts(text, cons.len(), bound_count as usize)?;
-    for constraint in cons {
-        append_constraint(text, constraint)?;
-    }
-    Ok(())
-}
-
-/// What a certificate is about.
-pub(crate) fn append_problem(text: &mut Vec<u8>, problem: &Problem) -> Result<(), AllocError>
-    ensures { OnOk result
-        (text.new.items ≡ text.old.items ++ lines_text (problem_lines problem.now)) }
-{
-    append_variables(text, problem)?;
-    append_goal(text, problem.sense())?;
-    append_coefficients(text, problem.objective())?;
-    append_constraints(text, problem.cons(), problem.bound_count())?;
-    append_claim(text, problem.claim())
 }

@@ -4,7 +4,7 @@ use std::alloc::Global;
 use std::process::Abort;
 use vipr_bytes::{Failed, FromWrite, Sink};
 use vipr_cert::Certificate;
-use vipr_write::{GrowingText, WriteError, write_certificate};
+use vipr_write::{WriteError, write_certificate};
 
 const TEXT: &[u8] = b"VER 1.0
 VAR 2
@@ -116,27 +116,6 @@ fn each_kind_of_line(rt: HostRuntime) {
         let certificate = spelled(&rt, rt.alloc(), text);
         is_written(&rt, rt.alloc(), certificate, wanted);
     }
-}
-
-/// The text of a certificate with two solutions and five derivations, item by item.
-fn grown(rt: &impl Abort, alloc: Global, certificate: &Certificate) -> Vec<u8> {
-    let mut text = GrowingText::new(alloc, certificate.problem(), 2).expect(rt, "the problem");
-    for solution in certificate.solutions() {
-        text.push_solution(solution).expect(rt, "a solution");
-    }
-    text.push_derivation_count(5).expect(rt, "a count");
-    for derivation in certificate.derivations() {
-        text.push_derivation(derivation).expect(rt, "a derivation");
-    }
-    text.into_bytes()
-}
-
-#[test]
-fn item_by_item(rt: HostRuntime) {
-    let certificate = spelled(&rt, rt.alloc(), SPELLED);
-    let text = grown(&rt, rt.alloc(), &certificate);
-    same(&rt, text.as_slice(), TEXT);
-    drop((certificate, text));
 }
 
 /// Writes a certificate to a sink, and compares the answer, what was taken, and the calls.
