@@ -22,8 +22,8 @@ CRATES = os.path.join(ROOT, 'crates')
 TARGET = os.path.join(ROOT, 'docs', 'STATEMENT.md')
 EXAMPLES = os.path.join(ROOT, 'tests', 'statement_examples.md')
 WORKED = os.path.join(CRATES, 'vipr_worked', 'src')
-SPEC_CRATES = ['vipr_spec', 'vipr_bytes', 'vipr_cert', 'vipr_check']
-MOST_LINES = 1700
+SPEC_CRATES = ['vipr_spec', 'vipr_bytes', 'vipr_cert', 'vipr_check', 'vipr_tighten']
+MOST_LINES = 1750
 # the columns of a line that is quoted with its comment, and of an item of examples
 WIDTH, ITEM = 122, 600
 
@@ -116,6 +116,21 @@ NOTES = {
         'proves that no test fails exactly if the derivation is good (`IsGoodStep`).',
 }
 
+# The last part is of another call: its clause, the definitions that it quotes, and what the part says.
+TIGHTENING = {
+    'clause': 'spelled',
+    'quoted': ['IsNeeded', 'IsNeededFor', 'IsProofFor', 'IsTight', 'AreFigures', 'KindOfText', 'kind_spelled', 'ForProof',
+               'TightensText'],
+    'what': 'What `tighten_as` writes to a sink, in the form F: the contract is the record `TightensAs`, and this clause is for '
+            'whole texts in memory. `text_in F t` is the canonical or the compact text of t; `IsTight` says what it spells, so '
+            'neither it nor `tightened_certificate` has to be believed. `GoalIs` and `peak` are those of part 3. `TakesText` '
+            'says that the sink accepted the text, or, beside `Err n`, its first n bytes; `TakesNothing` that it accepted '
+            'nothing.',
+    'known': 'If `tighten_as` answers that it tightened, the text that the sink accepted spells a proof of the same claim about '
+             'the same problem, with the same solutions. Each of its derivations is needed, and its peak isn\'t larger. If the '
+             'text is no proof, nothing is written. For a file in place of a text in memory `written` says the same of some '
+             'proof.'}
+
 # What no clause of `Checks` cites, and why it is quoted.
 APPENDIX = ['over', '◌+ℚ◌', '◌*ℚ◌', '◌≤ℚ◌', 'IsTrueClaim', 'AreTokens', 'PassesSteps', 'IsExplained']
 
@@ -158,7 +173,7 @@ certificate that is a proof, and what that certificate claims is true. That it i
 file spell is a premise, and no theorem. It rests on this: `check` has one body for all sources, and that body can't ask \
 which source it has. So a slice that holds what a file's reads gave gets the same answer.
 
-**How to read it.** The page has three parts, by the clauses of the contract, and an appendix. You can stop after each \
+**How to read it.** The page has three parts, by the clauses of the contract, a fourth about `tighten`, and an appendix. You can stop after each \
 part: it says what you know by then. A part quotes the definitions that its clauses rest on, word by word from the spec \
 files, and then an example of each. The prover computes the examples that are terms; `apart`, `example` and \
 `dropped_example` in them are a problem and certificates of `vipr_spec/specs/Examples.antt`. The words `abbrev`, \
@@ -388,12 +403,25 @@ def is_number(d):
 
 
 def quoted(d):
-    """A definition's lines below its comment, or with the comment at the first line's end if there is room; a cause's
-    number in one line."""
-    comment, lines = ' '.join(l[2:].strip() for l in d.comment), d.lines[1:] if is_number(d) else d.lines
+    """A definition's lines below its comment; a comment stands at the end of the line below it if there is room. A cause's
+    number is in one line."""
+    comment, lines = ' '.join(l[2:].strip() for l in d.comment), d.lines[1:] if is_number(d) else folded(d.lines)
     if comment and len(lines[0]) + len(comment) + 4 <= WIDTH:
         return [lines[0] + ' -- ' + comment] + lines[1:]
     return textwrap.wrap(comment, WIDTH, initial_indent='-- ', subsequent_indent='-- ') + lines
+
+
+def folded(lines):
+    """Lines of which each comment of one line is at the end of the line below it, if there is room."""
+    out = []
+    for line in lines:
+        above = out[-1].strip() if out else ''
+        is_alone = above.startswith('-- ') and (len(out) < 2 or not out[-2].strip().startswith('--'))
+        if is_alone and not line.strip().startswith('--') and len(line) + len(above) + 1 <= WIDTH:
+            out[-1] = line + ' ' + above
+        else:
+            out.append(line)
+    return out
 
 
 def count(definitions):
@@ -561,6 +589,19 @@ def alone(files, home, fields, number):
     return count([split(d)[0] for d in found]) + sum(believed(lines) for lines in clauses + [law(f) for f in laws])
 
 
+def tightening(files):
+    """The part about tightening."""
+    home = files[('vipr_tighten', 'Tightens')]
+    shown = [file.own[name] for name in TIGHTENING['quoted']
+             for file in (files[('vipr_spec', 'Certificate')], files[('vipr_spec', 'Tightened')], home) if name in file.own]
+    clause = record_fields(home.own['TightensAs'])[TIGHTENING['clause']]
+    lines = count(shown) + believed(clause)
+    title = '%d. What `tighten` writes' % (len(PARTS) + 1)
+    row = '| [%s](#%s) | `%s` of `tighten_as` | %d | %d | - | - |' % (title, anchor(title), TIGHTENING['clause'], len(shown), lines)
+    return row, ['## %s\n' % title, TIGHTENING['what'] + '\n', fenced(clause + [line for d in shown for line in quoted(d)]),
+                 '**What you know now.** %s\n' % TIGHTENING['known']]
+
+
 def page():
     """The page, its faults, and what has no example or no definition."""
     files, examples, faults = load(), Examples(), []
@@ -594,6 +635,9 @@ def page():
         body += ['## %s\n' % title, part['what'] + '\n', fenced([line for lines in clauses for line in lines])]
         body += sections(number, shown, examples, part['laws'])
         body.append('**What you know now.** %s\n' % part['known'])
+    row, last = tightening(files)
+    rows.append(row)
+    body += last
     rest = closure(files, named(files, APPENDIX), set(), known)
     body += [APPENDIX_HEAD] + sections('A', rest, examples, [])
     body += ['### A.%d Laws by which definitions say the same\n' % (1 + len(dict.fromkeys(topic_of(d.module, 'A') for d in rest)))]
