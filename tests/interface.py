@@ -6,11 +6,13 @@ usage: tests/interface.py [--write] [PROGRAM]     crates/vipr/out/vipr without i
 completions/vipr.bash, completions/_vipr (zsh) and completions/vipr.fish are made whole. In man/vipr.1 the parts between
 `.\\" made: WORD` and `.\\" end` are made: the synopsis and the commands from the help, the causes from docs/FORMAT.md.
 The exit statuses of docs/USE.md are those of the man page.
-Then the bash completion is tried, also in a terminal, the man page is laid out if `groff` is there, its examples are
-run, and the program is installed into a folder and removed again. Each link of an installed page is followed there.
+Then the bash completion is tried, also in a terminal, the man page is laid out if `groff` is there, its examples and
+those of the help are run, and the program is installed into a folder and removed again. Each link of an installed page
+is followed there.
 
 Prints each fault, and last `interface: N checks, F failed`; the exit status is 1 if one failed.
 """
+import lzma
 import os
 import pty
 import re
@@ -303,6 +305,21 @@ def examples():
         check(done.stdout + done.stderr == wanted, f'man/vipr.1: {command!r} prints {done.stdout + done.stderr!r}')
 
 
+def helped(names):
+    """What stands behind `Example:` in a command's help can be run, and is an example of that command."""
+    with tempfile.TemporaryDirectory() as folder:
+        plan = Path(folder, 'plan.vipr')
+        shutil.copy(TOP / 'examples/infeasible.vipr', plan)
+        Path(folder, 'plan.vipr.xz').write_bytes(lzma.compress(plan.read_bytes()))
+        path = {**os.environ, 'PATH': f'{PROGRAM.parent}:{os.environ["PATH"]}'}
+        for name in names:
+            example = re.search(r'^Example: (.*)$', help_of(name), re.M)
+            check(example is not None and f'vipr {name}' in example[1], f'vipr {name} --help has no example of it')
+            if example and (shutil.which('xz') or 'xz' not in example[1]):
+                done = subprocess.run(['sh', '-c', example[1]], cwd=folder, env=path, capture_output=True, check=False)
+                check(done.returncode == 0, f'vipr {name} --help: {example[1]!r}: {done.stderr.decode()}')
+
+
 def installation():
     """`make install` puts each file in its place, and `make uninstall` takes them all away."""
     with tempfile.TemporaryDirectory() as name:
@@ -390,6 +407,7 @@ def main():
             check(done.returncode == 0, f'{shell}: {done.stderr}')
     heading()
     examples()
+    helped(names)
     installation()
     first_commands()
     print(f'interface: {checks} checks, {failed} failed')
