@@ -46,17 +46,26 @@ pub or_false : (a : Bool) → (a || (false || false)) ≡ a
 or_false true = refl
 or_false false = refl
 
+-- ---- one more place in a list
+pub unmarked_more : (list : List ℕ) (v j : ℕ) → j ≢ v → list_any (nat_eq j) list ≡ list_any (nat_eq j) (list ++ v ∷ [])
+unmarked_more list v j n = sym (list_any-append (nat_eq j) list (v ∷ []) ∙ ap (λ b. list_any (nat_eq j) list || (b || false)) (other j v n) ∙ or_false _)
+
+pub marked_more : (marks : List Bool) (list : List ℕ) (v j : ℕ) → v < length marks
+    → get_or marks j false ≡ list_any (nat_eq j) list
+    → get_or (slice_set marks v true) j false ≡ list_any (nat_eq j) (list ++ v ∷ [])
+marked_more marks list v j l is = by (cases_eq j v)
+  where
+    by : (j ≡ v) ⊎ (j ≢ v) → get_or (slice_set marks v true) j false ≡ list_any (nat_eq j) (list ++ v ∷ [])
+    by (inl e) = ap (λ k. get_or (slice_set marks v true) k false) e ∙ get_or-set_same marks v true false l ∙ sym (list_any-append (nat_eq j) list (v ∷ []) ∙ ap (λ b. list_any (nat_eq j) list || (b || false)) (ap (λ k. nat_eq j k) (sym e) ∙ itself j) ∙ or_true _)
+    by (inr n) = get_or-set_other marks v j true false n ∙ is ∙ unmarked_more list v j n
+
 -- ---- one more touched variable
 module _ (marks : List Bool) (touched : List ℕ) (v : ℕ) (l : v < length marks) (m : get_or marks v false ≡ false) (t : Touching marks touched) where
   distinct_more : IsDistinct nat_eq (touched ++ v ∷ [])
   distinct_more = IsDistinct-push nat_eq_equiv touched v t.distinct (sym (t.listed v) ∙ m)
 
   listed_more : (j : ℕ) → get_or (slice_set marks v true) j false ≡ list_any (nat_eq j) (touched ++ v ∷ [])
-  listed_more j = by (cases_eq j v)
-    where
-      by : (j ≡ v) ⊎ (j ≢ v) → get_or (slice_set marks v true) j false ≡ list_any (nat_eq j) (touched ++ v ∷ [])
-      by (inl e) = ap (λ k. get_or (slice_set marks v true) k false) e ∙ get_or-set_same marks v true false l ∙ sym (list_any-append (nat_eq j) touched (v ∷ []) ∙ ap (λ b. list_any (nat_eq j) touched || (b || false)) (ap (λ k. nat_eq j k) (sym e) ∙ itself j) ∙ or_true _)
-      by (inr n) = get_or-set_other marks v j true false n ∙ t.listed j ∙ sym (list_any-append (nat_eq j) touched (v ∷ []) ∙ ap (λ b. list_any (nat_eq j) touched || (b || false)) (other j v n) ∙ or_false _)
+  listed_more j = marked_more marks touched v j l (t.listed j)
 
   pub touch_more : Touching (slice_set marks v true) (touched ++ v ∷ [])
   touch_more = record { listed = listed_more; distinct = distinct_more }

@@ -1,6 +1,8 @@
 -- What a sum becomes by rounding
-use Rattle.std.specs.Prelude.{◌≡◌, ℕ, ℤ, List, Option, IfSome}
+use Rattle.std.specs.Prelude.{◌≡◌, ◌<◌, ℕ, ℤ, Bool, false, nat_eq, List, length, slice_index_or}
+use Rattle.std.specs.Prelude.{Option, IfSome}
 use Rattle.std.specs.FinSet.{from_list}
+use Rattle.std.specs.List.{list_any}
 use Rattle.std.specs.List.Sorted.{IsStrictlyIncreasing}
 use Rattle.vipr_spec.specs.Fraction.{whole, IsWhole}
 use Rattle.vipr_spec.specs.Constraint.{Row as Entries, at, Condition, equal, RoundsTo}
@@ -21,7 +23,13 @@ abbrev pub RoundedDominates : Rounded → Condition → Type 0
 RoundedDominates (Row c) d = Dominates (condition_of c) d
 RoundedDominates Absurd d = Unit {0}
 
--- variables in rising order, and a row that is whole over them, if there is one
-pub record AreIntegers (indices : List ℕ) (row : Option Entries) : Type 0 where
+-- each mark says whether its place is one of these variables
+abbrev pub MarksEach : List ℕ → List Bool → Type 0
+MarksEach indices marks = (j : ℕ) → j < length marks
+    → slice_index_or marks j false ≡ list_any (nat_eq j) indices
+
+-- variables in rising order with their marks, and a row that is whole over them, if there is one
+pub record AreIntegers (indices : List ℕ) (marks : List Bool) (row : Option Entries) : Type 0 where
   pub rising : IsStrictlyIncreasing indices
+  pub marked : MarksEach indices marks
   pub whole : IfSome row (λ r. IsWholeRow (from_list indices) (at r))

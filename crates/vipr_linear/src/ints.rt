@@ -6,6 +6,7 @@ ghost use Rattle.std.specs.Prelude.{◌≡◌, ◌↔◌, IsTrue, IfOk};
 ghost use Rattle.std.specs.FinSet.{from_list};
 ghost use Rattle.std.specs.List.Sorted.{IsStrictlyIncreasing};
 ghost use Rattle.vipr_spec.specs.Constraint.{at, IsInteger, IsWholeRow};
+ghost use Rattle.vipr_linear.specs.Rounding.{MarksEach};
 
 use crate::row::Row;
 use std::alloc::{AllocError, Global};
@@ -15,6 +16,8 @@ use std::marker::Model;
 #[derive(Debug, Drop)]
 pub struct Ints {
     indices: Vec<u32>,
+    // whether each variable up to the last is in the set; none if few of them are
+    marks: Vec<bool>,
     // a row that is known to have whole coefficients at these variables alone
     whole: Option<Row>,
 }
@@ -31,18 +34,19 @@ impl Model for Ints {
 
     ghost view = { λ a. from_list a.indices.items };
 
-    ghost invariant = { λ a. AreIntegers a.indices.items a.whole };
+    ghost invariant = { λ a. AreIntegers a.indices.items a.marks.items a.whole };
 }
 
 impl Ints {
     /// The set of these variables, in any order, of which some may occur twice.
-    pub fn from_indices(_alloc: Global, indices: Vec<u32>) -> Result<Ints, AllocError>
+    pub fn from_indices(alloc: Global, indices: Vec<u32>) -> Result<Ints, AllocError>
         ensures { IfOk result (λ ints. ints ≡ from_list indices.items) }
     {
         let mut indices = indices;
         indices.sort_unstable();
         indices.dedup();
         Ok(Ints {
+            marks: marks_of(alloc, &indices)?,
             indices,
             whole: None,
         })
@@ -52,7 +56,10 @@ impl Ints {
     pub fn contains(&self, variable: u32) -> bool
         ensures { IsTrue result ↔ IsInteger self.now variable }
     {
-        self.indices.binary_search(&variable).is_ok()
+        match self.marks.get(variable as usize) {
+            Some(is_marked) => *is_marked,
+            None => self.indices.binary_search(&variable).is_ok(),
+        }
     }
 
     /// The variables, in rising order.
@@ -81,4 +88,21 @@ impl Ints {
             None => false,
         }
     }
+}
+
+// A mark at each variable up to the last, if there are at most eight times as many as these.
+fn marks_of(alloc: Global, indices: &[u32]) -> Result<Vec<bool>, AllocError>
+    ensures { IfOk result (λ marks. MarksEach indices.now marks.items) }
+{
+    let places = match indices.last() {
+        Some(last) if *last as usize / 8 < indices.len() => *last as usize + 1,
+        _ => 0,
+    };
+    let mut marks = vec![in alloc; false; places]?;
+    for index in indices {
+        if let Some(mark) = marks.get_mut(*index as usize) {
+            *mark = true;
+        }
+    }
+    Ok(marks)
 }
