@@ -1,7 +1,8 @@
 -- The greatest common divisor by taking out factors 2.
+use mir.Val.{bits}
 use Rattle.std.proofs.Common.{◌≡◌, ℕ, zero, suc, ◌+◌, ◌*◌, ◌/◌, ◌%◌, ◌^◌, ◌-◌, ◌<◌, ◌≤◌, sym, ap}
 use Rattle.std.proofs.Common.{ap₂, subst, ◌∙◌, arith, min, inl, inr}
-use Rattle.std.specs.Int.{◌∣◌, bit_at, abs_diff, trailing_zeros, w64}
+use Rattle.std.specs.Int.{◌∣◌, bit_at, abs_diff, trailing_zeros, Width}
 use Rattle.std.proofs.Math.Nat.{mul_comm, mul_assoc, add-mul, mul-one, pow-suc, dvd-mul_right}
 use Rattle.std.proofs.Math.Nat.{dvd-sub, div-add-mod'}
 use Rattle.std.proofs.lemmas.Bool.{cases_lt}
@@ -85,24 +86,32 @@ odd_step x o odd other = elim (cases_lt x o) [
       (ap (λ n. n % 2) e.0 ∙ other, ap₂ gcd e.0 e.1 ∙ gcd-swap o (x - o) ∙ gcd_difference x o h)
 ]
 
--- ---- the factors 2 of a word
-abbrev pub odd_part : ℕ → ℕ
-odd_part n = n / 2 ^ trailing_zeros w64 n
+-- ---- the factors 2 of a number of this width
+module _ (w : Width) where
+  abbrev pub odd_part : ℕ → ℕ
+  odd_part n = n / 2 ^ trailing_zeros w n
 
-pub odd_is : (n : ℕ) → 0 < n → n < 2 ^ 64 → odd_part n % 2 ≡ 1
-odd_is n some small = (bit_at-trailing_zeros w64 n some small).1
+  pub odd_is : (n : ℕ) → 0 < n → n < 2 ^ bits w → odd_part n % 2 ≡ 1
+  odd_is n some small = (bit_at-trailing_zeros w n some small).1
 
-pub twos_out : (n : ℕ) → 0 < n → n < 2 ^ 64 → n ≡ odd_part n * 2 ^ trailing_zeros w64 n
-twos_out n some small = above_zeros (trailing_zeros w64 n) n (bit_at-trailing_zeros w64 n some small).2
+  pub twos_out : (n : ℕ) → 0 < n → n < 2 ^ bits w → n ≡ odd_part n * 2 ^ trailing_zeros w n
+  twos_out n some small = above_zeros (trailing_zeros w n) n (bit_at-trailing_zeros w n some small).2
 
--- only the odd part has divisors in common with an odd number
-pub odd_alone : (x n : ℕ) → 0 < n → n < 2 ^ 64 → x % 2 ≡ 1 → gcd x n ≡ gcd x (odd_part n)
-odd_alone x n some small odd = ap (gcd x) (twos_out n some small) ∙ odd_shift (trailing_zeros w64 n) x (odd_part n) odd
+  -- only the odd part has divisors in common with an odd number
+  pub odd_alone : (x n : ℕ) → 0 < n → n < 2 ^ bits w → x % 2 ≡ 1 → gcd x n ≡ gcd x (odd_part n)
+  odd_alone x n some small odd = ap (gcd x) (twos_out n some small) ∙ odd_shift (trailing_zeros w n) x (odd_part n) odd
 
-pub twos_back : (a b : ℕ) → 0 < a → a < 2 ^ 64 → 0 < b → b < 2 ^ 64
-    → gcd (odd_part b) a * 2 ^ min (trailing_zeros w64 b) (trailing_zeros w64 a) ≡ gcd a b
-twos_back a b some small other below =
-    let least : ℕ = min (trailing_zeros w64 b) (trailing_zeros w64 a) in
-    ap (λ g. g * 2 ^ least) (odd_alone (odd_part b) a some small (odd_is b other below))
-    ∙ sym (both_odd (trailing_zeros w64 b) (trailing_zeros w64 a) (odd_part b) (odd_part a) (odd_is b other below) (odd_is a some small))
-    ∙ ap₂ gcd (sym (twos_out b other below)) (sym (twos_out a some small)) ∙ gcd-swap b a
+  -- a step of the division by halving
+  pub halved : (x n : ℕ) → 0 < n → n < 2 ^ bits w → x % 2 ≡ 1
+      → (min x (odd_part n) % 2 ≡ 1) × (gcd (min x (odd_part n)) (abs_diff x (odd_part n)) ≡ gcd x n)
+  halved x n some small odd =
+      let step = odd_step x (odd_part n) odd (odd_is n some small) in
+      (step.0, step.1 ∙ sym (odd_alone x n some small odd))
+
+  pub twos_back : (a b : ℕ) → 0 < a → a < 2 ^ bits w → 0 < b → b < 2 ^ bits w
+      → gcd (odd_part b) a * 2 ^ min (trailing_zeros w b) (trailing_zeros w a) ≡ gcd a b
+  twos_back a b some small other below =
+      let least : ℕ = min (trailing_zeros w b) (trailing_zeros w a) in
+      ap (λ g. g * 2 ^ least) (odd_alone (odd_part b) a some small (odd_is b other below))
+      ∙ sym (both_odd (trailing_zeros w b) (trailing_zeros w a) (odd_part b) (odd_part a) (odd_is b other below) (odd_is a some small))
+      ∙ ap₂ gcd (sym (twos_out b other below)) (sym (twos_out a some small)) ∙ gcd-swap b a

@@ -52,20 +52,42 @@ pub(crate) fn gcd_of(a: u128, b: u128) -> u128
     ensures at_most { result ≤ b }
 {
     if a == 1 || b == 1 {
-        return 1;
+        1
+    } else if b <= WORD {
+        gcd_with_word(a, b as u64)
+    } else if a <= WORD {
+        gcd_with_word(b, a as u64)
+    } else {
+        wide_gcd(a, b)
     }
-    let mut x = a;
-    let mut y = b;
+}
+
+fn gcd_with_word(n: u128, word: u64) -> u128
+    ensures { result ≡ gcd n word }
+{
+    if word == 0 {
+        return n;
+    }
+    let rest = remainder(n, u128::from(word));
+    u128::from(word_gcd(rest as u64, word))
+}
+
+// By halving, until one of the two is a word.
+#[inline(never)]
+fn wide_gcd(a: u128, b: u128) -> u128
+    requires first { 0 < a }
+    requires second { 0 < b }
+    ensures { result ≡ gcd a b }
+{
+    let twos = b.trailing_zeros();
+    let mut x = b >> twos;
+    let mut y = a;
     while y > WORD {
-        let rest = x % y;
-        x = y;
-        y = rest;
+        let odd = y >> y.trailing_zeros();
+        y = x.abs_diff(odd);
+        x = x.min(odd);
     }
-    if y == 0 {
-        return x;
-    }
-    let rest = remainder(x, y);
-    word_gcd(rest as u64, y as u64) as u128
+    gcd_with_word(x, y as u64) << twos.min(a.trailing_zeros())
 }
 
 // The whole quotient.

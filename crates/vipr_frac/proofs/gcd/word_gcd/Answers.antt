@@ -1,5 +1,6 @@
 use Rattle.std.proofs.Common.{◌≡◌, ◌*◌, ◌%◌, ◌<◌, ◌^◌, ap, ap₂, sym, ◌∙◌, arith, pos_of_ne-zero}
 use Rattle.std.proofs.Math.Nat.{mod-eq_of_lt}
+use Rattle.std.specs.Int.{w64}
 use Rattle.vipr_spec.specs.Gcd.{gcd}
 use Rattle.vipr_frac.proofs.Steps.{zero-gcd, gcd-some, gcd-at_most}
 use Rattle.vipr_frac.proofs.Halving.{odd_is, twos_back}
@@ -10,12 +11,12 @@ pub returns-then-a-eq0-clause-value : goal.returns-then-a-eq0-clause-value
 returns-then-a-eq0-clause-value c = sym (ap (λ n. gcd n c.args.b) c.if-a-eq0.true ∙ zero-gcd c.args.b)
 
 pub odd_gcd-requires : goal.odd_gcd-requires
-odd_gcd-requires c = odd_is c.args.b c.requires c.ranges.b.fits
+odd_gcd-requires c = odd_is w64 c.args.b c.requires c.ranges.b.fits
 
 product_is : (c : After-min) → c.odd_gcd.result * 2 ^ c.min.result ≡ gcd c.args.a c.args.b
 product_is c =
     ap₂ (λ g n. g * 2 ^ n) c.odd_gcd.ensures c.min.ensures
-    ∙ twos_back c.args.a c.args.b (pos_of_ne-zero c.if-a-eq0.false) c.ranges.a.fits c.requires c.ranges.b.fits
+    ∙ twos_back w64 c.args.a c.args.b (pos_of_ne-zero c.if-a-eq0.false) c.ranges.a.fits c.requires c.ranges.b.fits
 
 value_is : (c : After-min) → c.odd_gcd.result * 2 ^ c.min.result % 2 ^ 64 ≡ gcd c.args.a c.args.b
 value_is c =
