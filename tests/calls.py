@@ -4,12 +4,15 @@
 usage: tests/calls.py [--write] [PROGRAM]     crates/vipr/out/vipr without it
 
 Each command is run over small and larger texts, verified ones and refused ones. `tighten` writes to a new file, to one
-that is there and through a link, also if a call that gives the file its owner, its name or a place on the disk fails;
-and as root, to a file of another owner. What strace shows of a run, from the moment at which the program itself begins,
-has to be in the list; and the files that are opened are the one that is named, OUT, and a file beside it.
+that is there and through links, also relative ones, and beside what a killed run left; also if a call that gives the file
+its owner, its name or a place on the disk fails; and as root, to a file of another owner. What strace shows of a run, from
+the moment at which the program itself begins, has to be in the list; and the files that are opened are the one that is
+named, OUT, its folder, and files beside it. The same runs, under a filter that kills a run at any call that isn't in the
+list, end by themselves.
 
 --write writes the list. Prints each call that isn't in it, and last `calls: N runs, F failed`. Without strace, or if
-it may not trace, nothing is run, and a line says so. The exit status is 1 if a run failed.
+it may not trace, nothing is run, and without a C compiler no filter is made; a line says so. The exit status is 1 if a
+run failed.
 """
 import os
 import re
@@ -30,11 +33,52 @@ BEGINS = 'rt_sigaction(SIGPIPE'
 IN_PLACE = {'/'}
 
 
+# runs a program under a filter of the system calls
+FILTER = r'''
+#include <linux/filter.h>
+#include <linux/seccomp.h>
+#include <stddef.h>
+#include <sys/prctl.h>
+#include <sys/syscall.h>
+#include <unistd.h>
+
+static const int allowed[] = {%s};
+enum { COUNT = sizeof allowed / sizeof *allowed };
+
+int main(int count, char **words)
+{
+    struct sock_filter filter[COUNT + 3];
+    struct sock_fprog program = {COUNT + 3, filter};
+    (void)count;
+    filter[0] = (struct sock_filter)BPF_STMT(BPF_LD | BPF_W | BPF_ABS, offsetof(struct seccomp_data, nr));
+    for (int n = 0; n < COUNT; n++)
+        filter[n + 1] = (struct sock_filter)BPF_JUMP(BPF_JMP | BPF_JEQ | BPF_K, allowed[n], COUNT - n, 0);
+    filter[COUNT + 1] = (struct sock_filter)BPF_STMT(BPF_RET | BPF_K, SECCOMP_RET_KILL_PROCESS);
+    filter[COUNT + 2] = (struct sock_filter)BPF_STMT(BPF_RET | BPF_K, SECCOMP_RET_ALLOW);
+    if (prctl(PR_SET_NO_NEW_PRIVS, 1, 0, 0, 0) || prctl(PR_SET_SECCOMP, SECCOMP_MODE_FILTER, &program))
+        return 99;
+    execv(words[1], words + 1);
+    return 98;
+}
+'''
+
+
+def filter_of(calls, name):
+    """A program that runs another one, which is killed at any other call; None if it can't be made or is of no use here."""
+    compiler, path = shutil.which('cc'), Path(ROOM, f'{name}.c')
+    path.write_text(FILTER % ', '.join(f'SYS_{call}' for call in sorted(calls)))
+    made = compiler and subprocess.run([compiler, '-o', path.with_suffix(''), path], capture_output=True, check=False)
+    if not made or made.returncode:
+        return None
+    tried = subprocess.run([path.with_suffix(''), PROGRAM, '--version'], capture_output=True, check=False)
+    return None if tried.returncode == 99 else str(path.with_suffix(''))
+
+
 def traced(words, text=b'', options=()):
     """The calls of a run, each whole, those of the loader and those of the program."""
-    with tempfile.NamedTemporaryFile(dir=ROOM) as file:
+    with tempfile.NamedTemporaryFile(dir=OUTSIDE) as file:
         subprocess.run(['strace', '-f', '-qq', *options, '-o', file.name, PROGRAM, *words], input=text, capture_output=True,
-                       check=False)
+                       cwd=ROOM, check=False)
         calls = [re.sub(r'^\d+ +', '', line) for line in Path(file.name).read_text(errors='replace').split('\n')]
     calls = [line for line in calls if re.match(r'\w+\(', line)]
     begins = next((n for n, line in enumerate(calls) if line.startswith(BEGINS)), len(calls))
@@ -46,7 +90,7 @@ def names(calls):
 
 
 def opened(calls):
-    return {Path(path) for path in re.findall(r'^open(?:at)?\((?:AT_FDCWD, )?"([^"]*)"', '\n'.join(calls), re.M)}
+    return {Path(os.path.normpath(Path(ROOM, path))) for path in re.findall(r'^open(?:at)?\((?:AT_FDCWD, )?"([^"]*)"', '\n'.join(calls), re.M)}
 
 
 def runs():
@@ -54,24 +98,41 @@ def runs():
     small, refused = TOP / 'examples/cutoff_loose.vipr', TOP / 'examples/overflow.vipr'
     large = Path(ROOM, 'large.vipr')
     large.write_bytes(text_of(families.tree, 2_000_000))
-    for command in 'check', 'explain', 'show', 'tighten':
+    for command in ('check',), ('explain',), ('explain', '--long'), ('show',), ('tighten',):
         for path in small, refused, large, Path(ROOM, 'missing'):
-            yield [command, str(path)], b'', {path}, False, []
-        yield [command], small.read_bytes(), set(), False, []
+            yield [*command, str(path)], b'', {path}, False, []
+        yield [*command], small.read_bytes(), set(), False, []
+        yield [*command], refused.read_bytes(), set(), False, []
     for path in small, refused, large:
-        out = Path(ROOM, f'{path.stem}.out')
-        for _ in 'new', 'there':
-            yield ['tighten', str(path), '--out', str(out)], b'', {path, out}, True, []
-        same = Path(ROOM, f'{path.stem}.same')
-        same.write_bytes(path.read_bytes())
-        if os.geteuid() == 0:
-            os.chown(same, 1, 1)
-        link = Path(ROOM, f'{path.stem}.link')
-        link.symlink_to(same)
-        for to in same, link:
-            for call in 'fsync', 'rename', 'fchmod', 'lchown', None:
-                refused_call = ['-e', f'inject={call}:error=EIO'] if call else []
-                yield ['tighten', str(path), '--out', str(to)], b'', {path, same}, True, refused_call
+        yield from runs_to_out(path)
+
+
+def runs_to_out(path):
+    out = Path(ROOM, f'{path.stem}.out')
+    for call in 'link:error=EPERM', 'link:error=EIO', None:
+        out.unlink(missing_ok=True)
+        yield ['tighten', str(path), '--out', out.name], b'', {path, out}, True, inject(call)
+    yield ['tighten', str(path), '--out', str(out)], b'', {path, out}, True, []
+    same = Path(ROOM, f'{path.stem}.same')
+    same.write_bytes(path.read_bytes())
+    if os.geteuid() == 0:
+        os.chown(same, 1, 1)
+    folder = Path(ROOM, f'{path.stem}.folder')
+    folder.mkdir()
+    links = [folder / 'whole', folder / 'up', folder / 'again']
+    for link, target in zip(links, (same, f'../{same.name}', 'up')):
+        link.symlink_to(target)
+    names_of_out = [str(same), same.name, *map(str, links), f'{folder.name}/again']
+    for name in names_of_out:
+        (same.parent / '.vipr-tighten-left.tmp').touch()
+        for call in ('fsync:error=EIO', 'rename:error=EIO', 'rename:error=EBUSY', 'fchmod:error=EIO', 'fchown:error=EIO',
+                     'openat:error=EACCES:when=6', None):
+            yield ['tighten', str(path), '--out', name], b'', {path, same}, True, inject(call)
+
+
+def inject(call):
+    """The options of strace by which a call fails."""
+    return ['-e', f'inject={call}'] if call else []
 
 
 def listed(calls):
@@ -86,17 +147,19 @@ def table(found):
 
 
 def main():
-    count, failed, found = 0, 0, {None: set(), False: set(), True: set()}
+    count, failed, found, kept = 0, 0, {None: set(), False: set(), True: set()}, []
     between = re.compile(re.escape(MARKS[0]) + '.*?' + re.escape(MARKS[1]), re.S)
     page = PAGE.read_text(encoding='utf-8')
     rows = re.findall(r'^\| .* \| (.*) \|$', between.search(page)[0], re.M)[1:]
     known = [set(re.findall(r'`(\w+)`', row)) for row in rows]
     for words, text, paths, is_out, options in runs():
         loader, own = traced(words, text, options)
+        kept.append((words, text, is_out))
         found[None] |= names(loader)
         found[is_out] |= names(own)
         count += 1
-        beside = {path for path in opened(own) if path.parent not in {it.parent for it in paths} | {Path('/')}}
+        folders = {it.parent for it in paths} | {Path('/')}
+        beside = {path for path in opened(own) if path.parent not in folders and path not in folders}
         if not is_out:
             beside = opened(own) - paths - {Path(it) for it in IN_PLACE}
         wrong = [] if WRITES else sorted(names(own) - known[0] - (known[1] if is_out else set()))
@@ -105,13 +168,22 @@ def main():
             print(f'vipr {" ".join(words)}: calls {wrong}, opens {sorted(map(str, beside))}, {len(own)} calls')
     if WRITES:
         PAGE.write_text(between.sub(lambda _: table(found), page), encoding='utf-8')
+    filters = [filter_of(known[0] | known[2], 'most'), filter_of(known[0] | known[1] | known[2], 'out')]
+    if None in filters:
+        print('calls: no filter of system calls can be made here, so none is tried')
+    for words, text, is_out in kept if not WRITES and None not in filters else []:
+        done = subprocess.run([filters[is_out], PROGRAM, *words], input=text, capture_output=True, cwd=ROOM, check=False)
+        count += 1
+        if not 0 <= done.returncode <= 3:
+            failed += 1
+            print(f'vipr {" ".join(words)} under a filter: status {done.returncode}')
     print(f'calls: {count} runs, {failed} failed')
     return int(failed > 0)
 
 
 WRITES = '--write' in sys.argv
 PROGRAM = program([word for word in sys.argv[1:] if word != '--write'])
-with tempfile.TemporaryDirectory(prefix='vipr-calls-') as ROOM:
+with tempfile.TemporaryDirectory(prefix='vipr-calls-') as ROOM, tempfile.TemporaryDirectory() as OUTSIDE:
     if not shutil.which('strace') or not any(traced(['--version'])):
         print('calls: strace is not here or may not trace, so no call is looked at')
         STATUS = 0

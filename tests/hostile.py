@@ -7,7 +7,7 @@ Each command that the program has is run over the examples. What a run may answe
 - where a growth is refused, `fault memory` with status 3 and nothing on the output, or what the run without it answers;
 - where a read fails, `fault read`, or that answer where it was decided before; and no read follows the failed one;
 - where a write fails, `fault write after N` with exactly the first N bytes on the output; and no write follows;
-- the same of OUT, which gets each byte once: one that is new holds the first N bytes then, and any other what it held;
+- the same of OUT, for which each byte is written once: one that is new isn't there then, and any other is what it was;
 - with any of the three streams closed, past a limit on the length of files, and where a stream doesn't wait, the same.
 Beginnings of the examples, whole and a byte at a time, are answered as the plain model under bench/ does it; texts at
 the format's limits have the answer that the rules give, within a small limit of memory. Each family of bench/families.py
@@ -245,14 +245,15 @@ def writes_to_out(path, text):
         out = file if kind == 'FILE' else folder / 'out'
         if kind == 'there':
             out.write_bytes(b'before')
-        before = out.read_bytes() if out.exists() else printed[:n - 1]
+        before = out.read_bytes() if out.exists() else None
         got = answer(['tighten', str(file), '--out', str(out)], b'', {'WRITE_AT_MOST': 1, how: n})
         fails = n <= len(printed)
         what = f'tighten {path.name} to OUT ({kind}) with {how} {n}'
         expect(what, got, (b'', b'fault write after %d\n' % (n - 1), 3) if fails else (b'', said, 0))
         expect(f'{what}, writes and those after it', got.calls[2:5:2], (min(n, len(printed)), 0))
-        expect(f'{what}: OUT', (out.read_bytes(),), (before if fails else printed,))
-        expect(f'{what}: names', (sorted(it.name for it in folder.iterdir()),), (sorted({'a.vipr', out.name}),))
+        expect(f'{what}: OUT', (out.read_bytes() if out.exists() else None,), (before if fails else printed,))
+        after = {'a.vipr', *(() if fails and kind == 'new' else (out.name,))}
+        expect(f'{what}: names', (sorted(it.name for it in folder.iterdir()),), (sorted(after),))
         shutil.rmtree(folder)
     each(one, itertools.product(range(1, len(printed) + 2), ('FAIL_WRITE', 'NO_WRITE', 'INTERRUPT_WRITE'),
                                 ('new', 'there', 'FILE')))
@@ -478,9 +479,11 @@ def names_at_a_refusal():
     for place, back in (('SOL', 'SOL 1\n%s 0\nDER 0\n'), ('DER', 'SOL 0\nDER 1\n%s G 2 1 0 1 { lin 1 0 1 } -1\n')):
         for length in (1, 30, 31, 3000):
             row = (front + back % ('n' * length)).encode()
-            what = f'check of a refusal at {place} with a name of {length} bytes'
-            expect(what, answer(['check'], row), lines(verdict(row)))
-            growths_refused(what, ['check'], row)
+            for command in 'check', 'explain', 'tighten':
+                what = f'{command} of a refusal at {place} with a name of {length} bytes'
+                if command == 'check':
+                    expect(what, answer([command], row), lines(verdict(row)))
+                growths_refused(what, [command], row)
 
 
 def long_comment(length):

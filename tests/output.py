@@ -5,23 +5,28 @@ usage: tests/output.py [PROGRAM]     crates/vipr/out/vipr without it
 
 - Each set of the descriptors 0 to 2 is closed at the start: a closed stream fails as a closed stream does, and no file
   that the program opens is one of them.
-- `tighten --out OUT`, OUT there before and FILE itself too: it ends with the old text or the whole new one, with a file
-  size limit, a full device and a kill at any time, and no file beside it is there but after a kill. It keeps its
-  permissions and owner, and a link stays a link. Streams, devices and folders are written in place.
+- `tighten --out OUT`, OUT new, there before and FILE itself too: with a file size limit, a full device and calls that
+  fail it ends with the old text, the whole new one, or isn't there, and no file beside it is there. It keeps its
+  permissions and owner, and a link stays a link. Streams, devices and mount points are written in place.
+- While a run waits in a system call, the file beside OUT is moved, removed or replaced, and another OUT comes: no file
+  but the run's own is given away, renamed or removed. What killed runs left is removed, and nothing else.
 - Each line on standard error is one write.
+
+tests/kills.py kills runs.
 
 Prints each run that answers something else, and last `output: N runs, F failed`. What the machine doesn't have (a
 small file system of its own, a user without rights, strace) is skipped, and a line says so. The exit status is 1
 if a run failed.
 """
+import fcntl
 import itertools
 import os
-import random
 import resource
 import shutil
 import signal
 import socket
 import stat
+import struct
 import subprocess
 import sys
 import tempfile
@@ -63,6 +68,11 @@ def names(folder):
     return sorted(it.name for it in folder.iterdir())
 
 
+def read(path):
+    """The text of a file, if it is there."""
+    return path.read_bytes() if path.exists() else None
+
+
 TIGHT, KEPT, _ = run(['tighten'], LOOSE)
 
 
@@ -90,7 +100,7 @@ def one_closed(command, closed, named, text, out):
     target = {'none': None, 'new': folder / 'out', 'there': folder / 'out', 'file': file}[out]
     if out == 'there':
         target.write_bytes(b'before')
-    old = target.read_bytes() if target and target.exists() else None
+    old = read(target) if target else None
     words = [command]
     if command in ('check', 'explain', 'show', 'tighten'):
         words += [file] if named else []
@@ -109,7 +119,7 @@ def one_closed(command, closed, named, text, out):
     expect(what, run(words, text, closer(closed)), (wanted_out, wanted_err, wanted))
     if target:
         is_written = wanted == 0
-        expect(f'{what}: OUT', target.read_bytes() if target.exists() else None, TIGHT if is_written else old)
+        expect(f'{what}: OUT', read(target), TIGHT if is_written else old)
     expect(f'{what}: FILE', file.read_bytes(), TIGHT if out == 'file' and wanted == 0 else text)
     expect(f'{what}: names', set(names(folder)) <= {'a.vipr', 'out'}, True)
     shutil.rmtree(folder)
@@ -117,9 +127,9 @@ def one_closed(command, closed, named, text, out):
 
 # ---- OUT that is there
 
-def file_limit(size):
+def file_limit(size, action=signal.SIG_IGN):
     def limit():
-        signal.signal(signal.SIGXFSZ, signal.SIG_IGN)
+        signal.signal(signal.SIGXFSZ, action)
         resource.setrlimit(resource.RLIMIT_FSIZE, (size, size))
     return limit
 
@@ -127,21 +137,21 @@ def file_limit(size):
 def limited():
     """A limit of the size of files, of each length up to the text's: a failed write, and OUT as it was."""
     for size in range(0, len(TIGHT) + 2):
-        for kind in ('file', 'there', 'link'):
+        for kind in ('file', 'there', 'link', 'new'):
             folder, file = fresh()
-            out = {'file': file, 'there': folder / 'out', 'link': folder / 'link'}[kind]
+            out = {'file': file, 'link': folder / 'link'}.get(kind, folder / 'out')
             if kind == 'there':
                 out.write_bytes(b'before')
             if kind == 'link':
                 (folder / 'out').write_bytes(b'before')
                 out.symlink_to('out')
-            old, names_before = out.read_bytes(), names(folder)
+            old, has_room = read(out), size >= len(TIGHT)
+            names_after = sorted({*names(folder), *([out.name] if has_room else [])})
             got = run(['tighten', file, '--out', out], b'', file_limit(size))
-            has_room = size >= len(TIGHT)
             what = f'tighten to OUT ({kind}) with files of at most {size} bytes'
             expect(what, got, (b'', KEPT, 0) if has_room else (b'', b'fault write after %d\n' % size, 3))
-            expect(f'{what}: OUT', out.read_bytes(), TIGHT if has_room else old)
-            expect(f'{what}: names', names(folder), names_before)
+            expect(f'{what}: OUT', read(out), TIGHT if has_room else old)
+            expect(f'{what}: names', names(folder), names_after)
             expect(f'{what}: a link', out.is_symlink(), kind == 'link')
             shutil.rmtree(folder)
 
@@ -158,38 +168,27 @@ def many(n):
     return ''.join(f'{line}\n' for line in lines).encode()
 
 
-def killed():
-    """Killed at any time: OUT is the old text or the whole new one."""
-    text = many(60_000)
-    folder, file = fresh(text)
-    start = time.monotonic()
+def large():
+    """The line and the text of a certificate of more than a buffer."""
+    n = 60_000
+    folder, file = fresh(many(n))
+    kept = b'kept %d removed 1 peak %d 1\n' % (n + 1, n + 2)
     whole = run(['tighten', file])
-    length = time.monotonic() - start
-    expect('a large text is tightened', whole[2], 0)
-    pick = random.Random(1)
-    halves = 0
-    for n in range(60):
-        file.write_bytes(text)
-        global runs
-        runs += 1
-        with subprocess.Popen([PROGRAM, 'tighten', file, '--out', file], stderr=subprocess.DEVNULL) as child:
-            time.sleep(pick.uniform(length / 2, length * 1.3) if n % 4 else 0)
-            while n % 4 == 0 and child.poll() is None and not any(it.endswith('.tmp') for it in names(folder)):
-                pass
-            child.kill()
-        expect(f'OUT of a run that was killed ({n})', file.read_bytes() in (text, whole[0]), True)
-        strays = [it for it in folder.iterdir() if it.name.endswith('.tmp')]
-        halves += bool(strays)
-        for it in strays:
-            expect('the permissions of a file beside OUT', stat.S_IMODE(it.stat().st_mode) & ~0o644, 0)
-            if n % 8:
-                it.unlink()
-    if not halves:
-        print('output: no run was killed while it wrote')
-    file.write_bytes(text)
-    got = run(['tighten', file, '--out', file])
-    expect('tighten beside what killed runs wrote', (got[2], file.read_bytes()), (0, whole[0]))
-    shutil.rmtree(folder)
+    expect('a large text is tightened', whole[1:], (kept, 0))
+    expect('a large text to OUT', run(['tighten', file, '--out', folder / 'out']), (b'', kept, 0))
+    expect('a large text to OUT: its text', (folder / 'out').read_bytes() == whole[0], True)
+
+
+def small_stack():
+    """A new OUT, one that is there and one by a link, beside what a killed run left, with a stack of 64 kB."""
+    folder, file = fresh()
+    out = folder / 'out'
+    (folder / 'link').symlink_to('out')
+    for name in 'out', 'out', 'link':
+        (folder / '.vipr-tighten-0.tmp').touch()
+        got = run(['tighten', file, '--out', folder / name], b'',
+                  lambda: resource.setrlimit(resource.RLIMIT_STACK, (64 << 10, 64 << 10)), env={})
+        expect('tighten to OUT with a small stack', (got, out.read_bytes()), ((b'', KEPT, 0), TIGHT))
 
 
 def full_device():
@@ -205,10 +204,11 @@ def full_device():
     try:
         file = folder / 'a.vipr'
         file.write_bytes(text)
-        got = run(['tighten', file, '--out', file])
-        expect('tighten to a full device: status', got[2], 3)
-        expect('tighten to a full device: line', got[1].startswith(b'fault write after ') and got[1].count(b'\n'), 1)
-        expect('tighten to a full device: OUT', (file.read_bytes() == text, names(folder)), (True, ['a.vipr']))
+        for out in (file, folder / 'new'):
+            got = run(['tighten', file, '--out', out])
+            expect('tighten to a full device: status', got[2], 3)
+            expect('tighten to a full device: line', got[1].startswith(b'fault write after ') and got[1].count(b'\n'), 1)
+            expect('tighten to a full device: OUT', (file.read_bytes() == text, names(folder)), (True, ['a.vipr']))
     finally:
         subprocess.run(['umount', folder], check=True)
 
@@ -224,14 +224,38 @@ def modes():
             expect(f'tighten to OUT of mode {mode:o}', got, (b'', KEPT, 0) if may else (b'', NOT_WRITTEN, 3))
             expect(f'OUT of mode {mode:o}', (stat.S_IMODE(file.stat().st_mode), names(folder), file.read_bytes()),
                    (mode, ['a.vipr'], TIGHT if may else LOOSE))
+    for mask in (0o022, 0o077, 0):
+        folder, file = fresh()
+        got = run(['tighten', file, '--out', folder / 'out'], b'', lambda m=mask: os.umask(m))
+        expect('tighten to a new OUT', (got, stat.S_IMODE((folder / 'out').stat().st_mode)), ((b'', KEPT, 0), 0o666 & ~mask))
+    access_list()
     if os.getuid():
         print('output: the user has no right to give files away, so the runs of other owners are skipped')
         return
-    folder, file = fresh()
-    os.chown(file, 1234, 2345)
-    expect('tighten to OUT of another owner', run(['tighten', file, '--out', file]), (b'', KEPT, 0))
-    expect('its owner', (file.stat().st_uid, file.stat().st_gid, file.read_bytes()), (1234, 2345, TIGHT))
+    for owner in ((1234, 2345), (1234, 0), (0, 2345)):
+        folder, file = fresh()
+        os.chown(file, *owner)
+        expect(f'tighten to OUT of {owner}', run(['tighten', file, '--out', file]), (b'', KEPT, 0))
+        expect(f'OUT of {owner}', (file.stat().st_uid, file.stat().st_gid, file.read_bytes()), (*owner, TIGHT))
     without_rights()
+
+
+def access_list():
+    """A new file has no access control list, and the group has what the list's mask was; a text that is copied keeps it."""
+    folder, file = fresh()
+    name, no_one = 'system.posix_acl_access', 0xffffffff
+    # the owner rw, user 1234 rw, the group nothing, the mask rw, others nothing
+    entries = (0x01, 6, no_one), (0x02, 6, 1234), (0x04, 0, no_one), (0x10, 6, no_one), (0x20, 0, no_one)
+    try:
+        os.setxattr(file, name, struct.pack('<I', 2) + b''.join(struct.pack('<HHI', *entry) for entry in entries))
+    except OSError:
+        print('output: access control lists are not known here, so they are skipped')
+        return
+    expect('a text to a new file', run(['tighten', file, '--out', folder / 'new']), (b'', KEPT, 0))
+    file.write_bytes((folder / 'new').read_bytes())
+    expect('a text that is copied', (name in os.listxattr(file), file.read_bytes()), (True, TIGHT))
+    expect('tighten to OUT with a list', run(['tighten', file, '--out', file])[2], 0)
+    expect('OUT without its list', (name in os.listxattr(file), stat.S_IMODE(file.stat().st_mode)), (False, 0o660))
 
 
 def without_rights():
@@ -300,10 +324,37 @@ def relative():
     file.write_bytes(BROKEN)
     got = run(['tighten', file, '--out', longest])
     expect('refused, OUT of the longest name', (got[2], longest.read_bytes(), len(names(folder))), (1, TIGHT, 2))
-    for name in range(1000):
-        (folder / f'.vipr-tighten-{name}.tmp').touch()
-    expect('all names beside OUT in use', run(['tighten', '--out', longest], LOOSE), (b'', KEPT, 0))
-    expect('all names beside OUT in use: OUT', (longest.read_bytes(), len(names(folder))), (TIGHT, 1002))
+    deep = folder.joinpath(*['d' * 250] * 12)
+    deep.mkdir(parents=True)
+    for before in (None, b'before'):
+        if before:
+            (deep / 'out').write_bytes(before)
+        node = before and (deep / 'out').stat().st_ino
+        expect('OUT of a long path', run(['tighten', '--out', deep / 'out'], LOOSE), (b'', KEPT, 0))
+        expect('its text', ((deep / 'out').read_bytes(), names(deep)), (TIGHT, ['out']))
+        expect('it is a new file', (deep / 'out').stat().st_ino != node, True)
+
+
+def strays():
+    """What killed runs left is removed by the next run that writes, and nothing else is, or is waited for."""
+    folder, file = fresh()
+    start, end = '.vipr-tighten-', '.tmp'
+    for name in '0', '0123456789abcdef', 'held':
+        (folder / f'{start}{name}{end}').write_bytes(b'left')
+    stay = [f'{start}held{end}', f'{start}link{end}', f'{start}pipe{end}', f'{start}folder{end}', f'{start}1', f'1{end}']
+    for name in stay[4:]:
+        (folder / name).touch()
+    (folder / stay[1]).symlink_to('a.vipr')
+    os.mkfifo(folder / stay[2])
+    (folder / stay[3]).mkdir()
+    with (folder / stay[0]).open() as held:
+        fcntl.flock(held, fcntl.LOCK_EX)
+        file.write_bytes(BROKEN)
+        expect('a refused text beside what was left', run(['tighten', file, '--out', folder / 'out'])[2], 1)
+        expect('what was left stays', len(names(folder)), 9)
+        file.write_bytes(LOOSE)
+        expect('tighten beside what was left', run(['tighten', file, '--out', folder / 'out']), (b'', KEPT, 0))
+        expect('what stays', names(folder), sorted([*stay, 'a.vipr', 'out']))
 
 
 def in_place():
@@ -321,12 +372,104 @@ def in_place():
         run(['tighten', '--out', '/dev/stdout'], LOOSE, stdout=stream)
         expect('the output is a file', printed.stat().st_ino, os.fstat(stream.fileno()).st_ino)
     expect('the output is a file: its text', printed.read_bytes(), TIGHT)
+    open_files(folder, printed)
     pipe = folder / 'pipe'
     os.mkfifo(pipe)
     with subprocess.Popen(['cat', pipe], stdout=subprocess.PIPE) as reader:
         expect('OUT is a pipe', run(['tighten', '--out', pipe], LOOSE), (b'', KEPT, 0))
         expect('OUT is a pipe: its text', reader.communicate()[0], TIGHT)
     expect('names in place', (names(folder), pipe.is_fifo()), (['a.vipr', 'pipe', 'printed'], True))
+
+
+def open_files(folder, printed):
+    """A name that leads to an open file leads to that, by however many links, and the file isn't replaced."""
+    links = [folder / 'near', folder / 'far', folder / 'relative', folder / 'by_number']
+    links[0].symlink_to('/dev/stdout')
+    links[1].symlink_to('near')
+    links[2].symlink_to(os.path.relpath('/dev/stdout', os.path.realpath(folder)))
+    links[3].symlink_to('/dev/fd/1')
+    for out in ('/proc/self/fd/1', '/dev/fd/1', '/dev/stdout', *links):
+        printed.write_bytes(b'held')
+        with printed.open('ab') as stream:
+            expect(f'OUT is {out}', run(['tighten', '--out', out], LOOSE, stdout=stream)[1:], (KEPT, 0))
+            expect(f'OUT is {out}: the file', (printed.stat().st_ino, printed.read_bytes()),
+                   (os.fstat(stream.fileno()).st_ino, TIGHT))
+    for link in links:
+        expect(f'{link.name} stays a link', link.is_symlink(), True)
+        link.unlink()
+
+
+def below_dev():
+    """A regular file below /dev is replaced as elsewhere, by a link too."""
+    if not os.access('/dev/shm', os.W_OK):
+        print('output: /dev/shm may not be written, so files below /dev are skipped')
+        return
+    with tempfile.TemporaryDirectory(dir='/dev/shm') as name:
+        folder = Path(name)
+        target, link = folder / 'target', folder / 'link'
+        link.symlink_to(target)
+        for out in target, link:
+            target.write_bytes(b'before')
+            with target.open() as old:
+                expect(f'OUT is {out.name} below /dev', run(['tighten', '--out', out], LOOSE), (b'', KEPT, 0))
+                expect('what was there', (old.read(), target.read_bytes(), names(folder)), ('before', TIGHT, ['link', 'target']))
+
+
+def mounted():
+    """A file that is a mount point keeps its place, and gets the text."""
+    folder, file = fresh()
+    point, behind = folder / 'point', folder / 'behind'
+    for path in point, behind:
+        path.write_bytes(b'before')
+    if os.getuid() or subprocess.run(['mount', '--bind', behind, point], capture_output=True, check=False).returncode:
+        print('output: no file can be a mount point here, so such files are skipped')
+        return
+    try:
+        expect('OUT is a mount point', run(['tighten', file, '--out', point]), (b'', KEPT, 0))
+        expect('its text', (point.read_bytes(), behind.read_bytes(), names(folder)),
+               (TIGHT, TIGHT, ['a.vipr', 'behind', 'point']))
+    finally:
+        subprocess.run(['umount', point], check=True)
+
+
+# ---- the table of ends
+
+NEW, BEFORE, NONE, FIRST = 'the new text', 'as before', 'not there', 'the first bytes'
+ENDS = (
+    ('status 0', NEW, NEW, NEW, NEW),
+    ('a refusal, `fault read` or `fault memory`', NONE, BEFORE, BEFORE, 'empty'),
+    ('`fault write after N`: a limit, a full disk', NONE, BEFORE, 'the first N bytes', 'the first N bytes'),
+    ('`fault write after N`: the disk or the name fails', NONE, BEFORE, NEW, 'never'),
+    ('a signal, while it writes', NONE, BEFORE, FIRST, FIRST))
+LIMIT = 50
+
+
+def ends():
+    """What OUT is after each end of a run is what the page has in its table."""
+    page = (TOP / 'docs/SECURITY.md').read_text(encoding='utf-8')
+    may_trace = shutil.which('strace') and not traced(['--version'])[0][2]
+    for end, *cells in ENDS:
+        expect(f'the page: {end}', f'| {end} | {" | ".join(cells)} |' in page, True)
+        for kind, cell in zip(('new', 'there', 'in place', '>'), cells):
+            if cell != 'never' and (may_trace or 'name' not in end):
+                one_end(end, kind, cell)
+
+
+def one_end(end, kind, cell):
+    folder, file = fresh(BROKEN if 'refusal' in end else LOOSE)
+    out = folder / 'out'
+    if kind in ('there', 'in place'):
+        out.write_bytes(b'before')
+    words = ['tighten', file] + ([] if kind == '>' else ['--out', '/proc/self/fd/1' if kind == 'in place' else out])
+    with open(out if kind in ('in place', '>') else '/dev/null', 'ab') as stream:
+        if 'name' in end:
+            got = traced(words, '-e', 'trace=fsync', '-e', 'inject=fsync:error=EIO', stdout=stream)[0]
+        else:
+            limit = file_limit(LIMIT, signal.SIG_DFL if 'signal' in end else signal.SIG_IGN)
+            got = run(words, b'', limit if 'limit' in end or 'signal' in end else None, stdout=stream)
+    status = next(status for word, status in (('0', 0), ('refusal', 1), ('signal', -signal.SIGXFSZ), ('write', 3)) if word in end)
+    texts = {NEW: TIGHT, NONE: None, BEFORE: b'before', 'empty': b''}
+    expect(f'{end}, OUT {kind}', (got[2], read(out)), (status, texts.get(cell, TIGHT[:LIMIT])))
 
 
 # ---- standard error
@@ -361,12 +504,13 @@ def lines():
 
 # ---- the calls of one run
 
-def traced(words, *settings):
+def traced(words, *settings, stdout=subprocess.PIPE):
     """A run under strace, with the calls that it made once FILE was opened."""
     trace = Path(tempfile.mkdtemp(dir=WORK)) / 'trace'
     global runs
     runs += 1
-    done = subprocess.run(['strace', '-o', trace, *settings, PROGRAM, *map(str, words)], capture_output=True, check=False)
+    done = subprocess.run(['strace', '-o', trace, *settings, PROGRAM, *map(str, words)], stdout=stdout, stderr=subprocess.PIPE,
+                          check=False)
     text = trace.read_text().split('\n') if trace.exists() else []
     first = next((n for n, line in enumerate(text) if 'a.vipr' in line and 'openat' in line), len(text))
     return (done.stdout, done.stderr, done.returncode), [line for line in text[first:] if '(' in line]
@@ -378,23 +522,120 @@ def calls():
     if not shutil.which('strace') or traced(['tighten', file], '-e', 'trace=openat')[0][2]:
         print('output: strace is not here or may not run, so the calls of a run are skipped')
         return
-    got, lines_of = traced(['tighten', file, '--out', file], '-e', 'trace=openat,rename,close,write,fsync')
+    got, lines_of = traced(['tighten', file, '--out', file], '-e', 'trace=openat,flock,rename,close,write,fsync')
     expect('a traced run', got, (b'', KEPT, 0))
     expect('the calls of a run', [line.split('(')[0] for line in lines_of],
-           ['openat', 'close', 'openat', 'close', 'openat', 'write', 'fsync', 'close', 'rename', 'write'])
-    all_written = b'', b'fault write after %d\n' % len(TIGHT), 3
-    for call, wanted, after in (('fsync', all_written, LOOSE), ('rename', all_written, LOOSE),
-                                ('fchmod', (b'', KEPT, 0), TIGHT), ('write:when=1', (b'', NOT_WRITTEN, 3), LOOSE)):
-        file.write_bytes(LOOSE)
-        what = f'{call} fails'
-        name, _, when = call.partition(':')
-        error = ':error=ENOSPC' + (f':{when}' if when else '')
-        got, _ = traced(['tighten', file, '--out', file], '-e', f'trace={name}', '-e', f'inject={name}{error}')
-        expect(what, got, wanted)
-        expect(f'{what}: OUT', (file.read_bytes(), names(folder)), (after, ['a.vipr']))
+           ['openat', 'close', 'openat', 'close', 'openat', 'close', 'openat', 'flock', 'write', 'fsync', 'rename', 'openat',
+            'fsync', 'close', 'close', 'write'])
+    expect('the file beside OUT is for its owner alone', [', 0600)' in line for line in lines_of if 'O_EXCL' in line], [True])
+    failing_calls(LOOSE, TIGHT, KEPT)
+    failing_calls(many(20_000), run(['tighten'], many(20_000))[0], b'kept 20001 removed 1 peak 20002 1\n')
+    without_names()
+    swapped()
+    overtaken()
+
+
+def failing_calls(text, tight, kept):
+    folder, file = fresh(text)
+    all_written = b'', b'fault write after %d\n' % len(tight), 3
+    for call, wanted, after in (
+            ('fsync:error=ENOSPC', all_written, text), ('rename:error=ENOSPC', all_written, text),
+            ('fchmod:error=ENOSPC', (b'', kept, 0), tight), ('write:error=ENOSPC:when=1', (b'', NOT_WRITTEN, 3), text),
+            ('statx:error=EPERM', (b'', NOT_WRITTEN, 3), text), ('flock:error=ENOSYS', (b'', kept, 0), tight),
+            ('fsync:error=EINVAL', (b'', kept, 0), tight), ('fsync:error=ENOSYS', (b'', kept, 0), tight),
+            ('fsync:error=EOPNOTSUPP', (b'', kept, 0), tight), ('fsync:error=ENOSPC:when=2', (b'', kept, 0), tight)):
+        file.write_bytes(text)
+        got, _ = traced(['tighten', file, '--out', file], '-e', f'trace={call.partition(":")[0]}', '-e', f'inject={call}')
+        expect(f'{call} of {len(text)} bytes', got, wanted)
+        expect(f'{call} of {len(text)} bytes: OUT', (file.read_bytes() == after, names(folder)), (True, ['a.vipr']))
+    file.write_bytes(text)
     out = folder / 'out'
-    got, _ = traced(['tighten', file, '--out', out], '-e', 'trace=fsync', '-e', 'inject=fsync:error=ENOSPC')
-    expect('fsync of a new OUT fails', (got, out.exists() and out.read_bytes()), (all_written, TIGHT))
+    for call, wanted in (('fsync:error=ENOSPC', all_written), ('link:error=EPERM', (b'', kept, 0))):
+        got, _ = traced(['tighten', file, '--out', out], '-e', f'trace={call.partition(":")[0]}', '-e', f'inject={call}')
+        expect(f'{call}, OUT new', (got, read(out) == (None if wanted[2] else tight)), (wanted, True))
+        expect(f'{call}, OUT new: names', names(folder), ['a.vipr', *(['out'] if not wanted[2] else [])])
+
+
+def without_names():
+    """Where no name beside OUT can be had, nothing is written."""
+    folder, file = fresh()
+    _, lines_of = traced(['tighten', file, '--out', file], '-e', 'trace=openat')
+    before = len(lines_of) - 2
+    file.write_bytes(LOOSE)
+    # the calls of the loader come before those that traced gives
+    loader = 2
+    got, tried = traced(['tighten', file, '--out', file], '-e', 'trace=openat', '-e',
+                        f'inject=openat:error=EEXIST:when={loader + before + 1}+')
+    expect('all names beside OUT in use', got, (b'', NOT_WRITTEN, 3))
+    expect('the names that were tried', len({line for line in tried if 'O_EXCL' in line}), 16)
+    expect('all names beside OUT in use: OUT', (file.read_bytes(), names(folder)), (LOOSE, ['a.vipr']))
+
+
+def during(words, call, folder, size, act, options=()):
+    """A run that waits in a system call while something is done to the file beside OUT, once that has its size."""
+    global runs
+    runs += 1
+    with subprocess.Popen(['strace', '-o', '/dev/null', '-e', f'trace={call},link', '-e', f'inject={call}:delay_enter=1200000:when=1',
+                           *options, PROGRAM, *map(str, words)], stdout=subprocess.PIPE, stderr=subprocess.PIPE) as child:
+        found = []
+        while child.poll() is None and not found:
+            found = [it for it in folder.glob('.*.tmp') if it.stat().st_size >= size]
+        expect(f'a run that waits in {call}', len(found), 1)
+        time.sleep(0.3)
+        act(found[0])
+        out, err = child.communicate()
+    return out, err, child.returncode
+
+
+def swapped():
+    """Another file gets the name of the one beside OUT: it keeps its owner, and is neither renamed nor removed."""
+    failed = b'', b'fault write after %d\n' % len(TIGHT), 3
+
+    def put(path):
+        path.unlink()
+        path.write_bytes(b'theirs')
+    for kind in 'new', 'there':
+        folder, file = fresh()
+        out = folder / 'out'
+        if kind == 'there':
+            out.write_bytes(b'before')
+        old = read(out)
+        got = during(['tighten', file, '--out', out], 'fsync', folder, len(TIGHT), put)
+        expect(f'the file beside OUT ({kind}) is swapped', (got, read(out)), (failed, old))
+        expect(f'the file beside OUT ({kind}) is swapped: it', [it.read_bytes() for it in folder.glob('.*.tmp')], [b'theirs'])
+    if os.getuid():
+        return
+    folder, file = fresh()
+    out, secret = folder / 'out', folder / 'secret'
+    for path in out, secret:
+        path.write_bytes(b'before')
+    os.chown(out, 1234, 1234)
+    secret.chmod(0o600)
+
+    def move(path):
+        path.rename(folder / 'moved')
+        secret.rename(path)
+    got = during(['tighten', file, '--out', out], 'fchown', folder, 0, move)
+    expect('the file that is to be given away is swapped', (got, out.read_bytes()), (failed, b'before'))
+    after = [(it.stat().st_uid, stat.S_IMODE(it.stat().st_mode), it.read_bytes()) for it in folder.glob('.*.tmp')]
+    expect('the file that is to be given away is swapped: it', after, [(0, 0o600, b'before')])
+
+
+def overtaken():
+    """A file comes where none was, and another run writes into the folder, while a run goes on."""
+    for options in (), ('-e', 'inject=link:error=EPERM'):
+        folder, file = fresh()
+        out = folder / 'out'
+        got = during(['tighten', file, '--out', out], 'fsync', folder, len(TIGHT),
+                     lambda _, o=out: o.write_bytes(b'theirs'), options)
+        expect('OUT came meanwhile', (got, out.read_bytes(), names(folder)),
+               ((b'', b'fault write after %d\n' % len(TIGHT), 3), b'theirs', ['a.vipr', 'out']))
+    folder, file = fresh()
+    first, second = folder / 'first', folder / 'second'
+    got = during(['tighten', file, '--out', first], 'fsync', folder, len(TIGHT),
+                 lambda _: expect('a run beside another', run(['tighten', file, '--out', second]), (b'', KEPT, 0)))
+    expect('a run that another overtakes', (got, first.read_bytes(), second.read_bytes(), names(folder)),
+           ((b'', KEPT, 0), TIGHT, TIGHT, ['a.vipr', 'first', 'second']))
 
 
 def main():
@@ -404,11 +645,16 @@ def main():
     modes()
     links()
     relative()
+    strays()
     in_place()
+    below_dev()
+    mounted()
     lines()
     calls()
+    ends()
+    small_stack()
     full_device()
-    killed()
+    large()
     signal.signal(signal.SIGXFSZ, before)
     print(f'output: {runs} runs, {len(failures)} failed')
     return 1 if failures else 0

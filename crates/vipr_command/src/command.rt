@@ -8,6 +8,7 @@ ghost use Rattle.vipr_command.specs.Run.{unknown_input};
 use crate::args::job;
 use crate::check::print_verdict;
 use crate::fault::CommandFault;
+use crate::host::Host;
 use crate::length::explain_job;
 use crate::line::{say, say_at_length};
 use crate::output::print;
@@ -20,7 +21,6 @@ use clap::error::ErrorKind;
 use std::alloc::Global;
 use std::fs::File;
 use std::io::{Read, Write};
-use std::rt::Files;
 use vipr_bytes::{FromRead, FromWrite, Sink, Source};
 
 /// Does what the words ask for, of which the first is the program's name, and answers the exit
@@ -30,7 +30,7 @@ use vipr_bytes::{FromRead, FromWrite, Sink, Source};
 /// A verdict, an explanation, a certificate and help go to `out`. To `err` go what is wrong with
 /// the words, a fault, the refusal of a certificate that was to be shown or tightened, and what was
 /// removed. A tightened certificate goes to a file if the words name one.
-pub fn run<H: AllocGlobal + Files, R: Read + Drop, O: Write, E: Write>(
+pub fn run<H: Host, R: Read + Drop, O: Write, E: Write>(
     rt: &H,
     words: &[&str],
     input: R,
@@ -57,7 +57,7 @@ pub fn run<H: AllocGlobal + Files, R: Read + Drop, O: Write, E: Write>(
 /// # Errors
 ///
 /// If a file can't be opened or a read fails, a growth is refused, or a write fails.
-fn run_over<H: AllocGlobal + Files, R: Source + Drop, O: Sink, E: Write>(
+fn run_over<H: Host, R: Source + Drop, O: Sink, E: Write>(
     rt: &H,
     words: &[&str],
     input: R,
@@ -105,7 +105,7 @@ fn answer<O: Sink, E: Write>(
     Ok(0)
 }
 
-fn do_task_on_file<H: AllocGlobal + Files, O: Sink, E: Write>(
+fn do_task_on_file<H: Host, O: Sink, E: Write>(
     rt: &H,
     job: &Job<'_>,
     path: &str,
@@ -120,7 +120,7 @@ fn do_task_on_file<H: AllocGlobal + Files, O: Sink, E: Write>(
     }
 }
 
-fn do_task<H: AllocGlobal + Files, R: Source + Drop, O: Sink, E: Write>(
+fn do_task<H: Host, R: Source + Drop, O: Sink, E: Write>(
     rt: &H,
     job: &Job<'_>,
     source: R,

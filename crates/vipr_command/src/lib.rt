@@ -4,11 +4,13 @@
 #![tactic(auto)]
 
 mod args;
+mod beside;
 mod canonical;
 mod check;
 mod command;
 mod explain;
 mod fault;
+mod host;
 mod length;
 mod line;
 mod out_file;
@@ -23,6 +25,7 @@ pub use check::print_verdict;
 pub use command::run;
 pub use explain::print_explanation;
 pub use fault::CommandFault;
+pub use host::Host;
 pub use request::{Job, Task};
 pub use show::print_text;
 pub use tighten::write_tightened;

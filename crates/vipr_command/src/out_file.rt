@@ -1,228 +1,183 @@
 //! The file that a tightened certificate is written to.
 ghost use Rattle.std.specs.Prelude.{None};
 
-use arrayvec::ArrayString;
+use crate::beside::{appears, create_beside, is_made_like, is_synced, remove, replaces, room_for};
+use crate::host::Host;
 use std::alloc::AllocError;
-use std::fmt::Write as _;
-use std::fs;
-use std::fs::{File, Metadata, OpenFile, OpenOptions};
+use std::fs::{File, Metadata, OpenOptions};
 use std::io::{ErrorKind, Write};
-use std::os::unix::fs::{MetadataExt, OpenOptionsExt, lchown};
-use std::path::{Path, PathBuf};
-use std::rt::Files;
+use std::os::unix::fs::MetadataExt;
+use std::path::PathBuf;
+use std::{fs, io};
 use vipr_bytes::{Failed, Sink, WriteFailed};
 
-/// How many names are tried for a file beside another.
-const NAMES: u32 = 1000;
+/// How many links are followed.
+const LINKS: u32 = 40;
 
 /// The file at a path, which is opened at the first write to it.
 ///
-/// If a regular file is there already, the text goes to a new file beside it, which gets that
-/// one's name at the end. Any other file is created, or emptied, and written in place.
+/// A regular file that is there is replaced, and a new one appears, once the whole text is written
+/// beside it. Any other file is emptied, and written in place.
 #[derive(Drop)]
-pub(crate) struct OutFile<'a, H: Files> {
+pub(crate) struct OutFile<'a, H> {
     rt: &'a H,
-    path: &'a str,
-    /// What the path leads to, if it is a link.
-    target: Option<PathBuf>,
-    file: Option<H::File>,
-    /// The name of the file beside the one that there is, if `file` is that.
-    beside: Option<ArrayString<4096>>,
+    /// What the path leads to. It is empty if its links can't be followed.
+    target: PathBuf,
+    /// The path of a file beside it, or room for that.
+    name: String,
+    destination: Option<Destination>,
     count: u64,
 }
 
-impl<'a, H: AllocGlobal + Files> OutFile<'a, H> {
+/// What the text goes to: the file itself, or a new one beside it.
+#[derive(Drop)]
+enum Destination {
+    Itself(File),
+    Replaces(File),
+    Appears(File),
+}
+
+impl<'a, H: Host> OutFile<'a, H> {
     /// The file at this path. Nothing is opened yet.
     ///
     /// # Errors
     ///
     /// A growth is refused.
-    pub(crate) fn new(rt: &'a H, path: &'a str) -> Result<OutFile<'a, H>, AllocError> {
-        let target = link_target(rt, path)?;
+    pub(crate) fn new(rt: &'a H, path: &str) -> Result<OutFile<'a, H>, AllocError> {
+        let target = end_of(rt, path)?;
+        let name = room_for(rt.alloc(), target.as_str())?;
         Ok(OutFile {
             rt,
-            path,
             target,
-            file: None,
-            beside: None,
+            name,
+            destination: None,
             count: 0,
         })
-    }
-}
-
-impl<H: Files> OutFile<'_, H> {
-    fn open(&mut self) -> Option<H::File> {
-        match open_beside(self.rt, end_of(&self.target, self.path)) {
-            Some((file, name)) => {
-                self.beside = Some(name);
-                Some(file)
-            }
-            None => File::create(self.rt, self.path).ok(),
-        }
     }
 
     /// Ends a text that was written whole: what was there before is gone, and the file is closed.
     ///
     /// # Errors
     ///
-    /// The system can't keep what it took. A file that there was is as before then.
+    /// The system can't keep what it took, or another file has become OUT meanwhile. A file that
+    /// there was is as before then.
     pub(crate) fn keep(self) -> Result<(), WriteFailed> {
-        let OutFile {
-            rt,
-            path,
-            target,
-            file,
-            beside,
-            count,
-        } = self;
-        let Some(file) = file else {
-            return Ok(());
+        let (name, target) = (self.name.as_str(), self.target.as_str());
+        let is_kept = match &self.destination {
+            None => true,
+            Some(Destination::Itself(file)) => is_synced(file),
+            Some(Destination::Replaces(file)) => replaces(self.rt, file, name, target),
+            Some(Destination::Appears(file)) => appears(self.rt, file, name, target),
         };
-        let is_synced = is_synced(&file);
-        drop(file);
-        let Some(name) = beside else {
-            return if is_synced {
-                Ok(())
-            } else {
-                Err(WriteFailed { accepted: count })
-            };
-        };
-        if is_synced && fs::rename(rt, name.as_str(), end_of(&target, path)).is_ok() {
-            return Ok(());
+        if is_kept {
+            Ok(())
+        } else {
+            Err(WriteFailed {
+                accepted: self.count,
+            })
         }
-        let _ = fs::remove_file(rt, name.as_str());
-        Err(WriteFailed { accepted: count })
     }
 
     /// Ends a text that wasn't written whole: a file that there was is as before.
     pub(crate) fn abandon(self) {
-        let OutFile {
-            rt,
-            file,
-            beside,
-            ..
-        } = self;
-        drop(file);
-        if let Some(name) = beside {
-            let _ = fs::remove_file(rt, name.as_str());
+        match &self.destination {
+            Some(Destination::Replaces(file) | Destination::Appears(file)) => {
+                remove(self.rt, file, self.name.as_str());
+            }
+            _ => {}
         }
     }
 }
 
-impl<H: Files> Sink for OutFile<'_, H> {
+impl<H: Host> Sink for OutFile<'_, H> {
     ghost output = { λ _. None };
 
     ghost failures = { λ _. None };
 
     fn write(&mut self, bytes: &[u8]) -> Result<usize, Failed> {
-        if self.file.is_none() {
-            self.file = self.open();
+        if self.destination.is_none() {
+            self.destination = open(self.rt, self.target.as_str(), &mut self.name).ok();
         }
-        match &mut self.file {
-            Some(file) => match file.write(bytes) {
-                Ok(n) => {
-                    self.count = self.count.saturating_add(n as u64);
-                    Ok(n)
-                }
-                Err(_) => Err(Failed),
-            },
-            None => Err(Failed),
-        }
-    }
-}
-
-/// What the path leads to.
-fn end_of<'a>(target: &'a Option<PathBuf>, path: &'a str) -> &'a str {
-    match target {
-        Some(target) => target.as_str(),
-        None => path,
-    }
-}
-
-/// What the path leads to, if it is a link to what isn't a stream or a device.
-fn link_target<H: AllocGlobal + Files>(rt: &H, path: &str) -> Result<Option<PathBuf>, AllocError> {
-    match fs::symlink_metadata(rt, path) {
-        Ok(found) if found.is_symlink() => {}
-        _ => return Ok(None),
-    }
-    match fs::read_link(rt, path) {
-        Ok(link) if is_of_system(path) || is_of_system(link.as_str()) => Ok(None),
-        Ok(_) => match fs::canonicalize(rt, path) {
-            Ok(target) => Ok(Some(target)),
-            Err(error) if error.kind() == ErrorKind::OutOfMemory => Err(AllocError),
-            Err(_) => Ok(None),
-        },
-        Err(error) if error.kind() == ErrorKind::OutOfMemory => Err(AllocError),
-        Err(_) => Ok(None),
-    }
-}
-
-/// Whether a link of this name, or to it, may be an open file, as `/dev/stdout` is.
-fn is_of_system(path: &str) -> bool {
-    path.starts_with("/dev/") || path.starts_with("/proc/")
-}
-
-/// A new file beside the regular file at `target`, with its owner and permissions, and its name.
-fn open_beside<H: Files>(rt: &H, target: &str) -> Option<(H::File, ArrayString<4096>)> {
-    let before = fs::symlink_metadata(rt, target).ok()?;
-    if !before.is_file() || !may_be_written(rt, target) {
-        return None;
-    }
-    let (file, name) = create_beside(rt, target)?;
-    if is_made_like(rt, &file, name.as_str(), &before) {
-        return Some((file, name));
-    }
-    drop(file);
-    let _ = fs::remove_file(rt, name.as_str());
-    None
-}
-
-fn may_be_written<H: Files>(rt: &H, path: &str) -> bool {
-    OpenOptions::new().write(true).open(rt, path).is_ok()
-}
-
-fn create_beside<H: Files>(rt: &H, target: &str) -> Option<(H::File, ArrayString<4096>)> {
-    let folder = match Path::new(target).parent() {
-        Some(folder) if !folder.as_str().is_empty() => folder.as_str(),
-        _ => ".",
-    };
-    for number in 0..NAMES {
-        let mut name = ArrayString::<4096>::new();
-        if write!(name, "{folder}/.vipr-tighten-{number}.tmp").is_err() {
-            return None;
-        }
-        match create_private(rt, name.as_str()) {
-            Ok(file) => return Some((file, name)),
-            Err(ErrorKind::AlreadyExists) => {}
-            Err(_) => return None,
+        let written = match &mut self.destination {
+            Some(
+                Destination::Itself(file)
+                | Destination::Replaces(file)
+                | Destination::Appears(file),
+            ) => file.write(bytes),
+            None => return Err(Failed),
+        };
+        match written {
+            Ok(n) => {
+                self.count = self.count.saturating_add(n as u64);
+                Ok(n)
+            }
+            Err(_) => Err(Failed),
         }
     }
-    None
 }
 
-/// A file that wasn't there before, for its owner alone.
-fn create_private<H: Files>(rt: &H, name: &str) -> Result<H::File, ErrorKind> {
-    OpenOptions::new()
-        .write(true)
-        .create_new(true)
-        .mode(0o600)
-        .open(rt, name)
-        .map_err(|error| error.kind())
+/// What a text for the file at `target` goes to. A new file's path is in `name`.
+#[inline(never)]
+fn open<H: Host>(rt: &H, target: &str, name: &mut String) -> io::Result<Destination> {
+    match fs::symlink_metadata(rt, target) {
+        Ok(before) if before.is_file() => open_beside(rt, target, name, &before),
+        Ok(_) => Ok(Destination::Itself(File::create(rt, target)?)),
+        Err(error) if error.kind() == ErrorKind::NotFound && !target.is_empty() => Ok(
+            Destination::Appears(create_beside(rt, target, name, 0o666)?),
+        ),
+        Err(error) => Err(error),
+    }
 }
 
-/// Gives the owner, the group and the permissions of another file, and answers whether it has them.
-fn is_made_like<H: Files>(rt: &H, file: &H::File, name: &str, before: &Metadata) -> bool {
-    let is_owned = match file.metadata() {
-        Ok(new) if new.uid() == before.uid() && new.gid() == before.gid() => true,
-        _ => lchown(rt, name, Some(before.uid()), Some(before.gid())).is_ok(),
-    };
-    is_owned && file.set_permissions(before.permissions()).is_ok()
+/// This for a regular file. It is written itself only if its user may not create one beside it, or
+/// not give that its owner and permissions.
+fn open_beside<H: Host>(
+    rt: &H,
+    target: &str,
+    name: &mut String,
+    before: &Metadata,
+) -> io::Result<Destination> {
+    OpenOptions::new().write(true).open(rt, target)?;
+    match create_beside(rt, target, name, 0o600) {
+        Ok(file) if is_made_like(&file, before) => return Ok(Destination::Replaces(file)),
+        Ok(file) => remove(rt, &file, name.as_str()),
+        Err(error) if is_forbidden(error.kind()) => {}
+        Err(error) => return Err(error),
+    }
+    Ok(Destination::Itself(File::create(rt, target)?))
 }
 
-/// Whether what a regular file took is on its device. Other files are never asked.
-fn is_synced<F: OpenFile>(file: &F) -> bool {
-    match file.metadata() {
-        Ok(found) if found.is_file() => file.sync_all().is_ok(),
-        _ => true,
+fn is_forbidden(kind: ErrorKind) -> bool {
+    matches!(
+        kind,
+        ErrorKind::PermissionDenied | ErrorKind::ReadOnlyFilesystem
+    )
+}
+
+/// What a path leads to: its end, or the link on the way that the system makes for an open file.
+fn end_of<H: Host>(rt: &H, path: &str) -> Result<PathBuf, AllocError> {
+    let mut end = PathBuf::from_str(rt.alloc(), path)?;
+    for _ in 0..LINKS {
+        match fs::symlink_metadata(rt, end.as_str()) {
+            Ok(found) if found.is_symlink() && !is_of_system(rt, &found) => {}
+            _ => return Ok(end),
+        }
+        match fs::read_link(rt, end.as_str()) {
+            Ok(link) => {
+                end.pop();
+                end.push(link.as_str())?;
+            }
+            Err(error) if error.kind() == ErrorKind::OutOfMemory => return Err(AllocError),
+            Err(_) => break,
+        }
+    }
+    Ok(PathBuf::new(rt.alloc()))
+}
+
+/// Whether a file lies among the links that the system has to open files.
+fn is_of_system<H: Host>(rt: &H, file: &Metadata) -> bool {
+    match fs::symlink_metadata(rt, "/proc/self") {
+        Ok(own) => own.dev() == file.dev(),
+        Err(_) => false,
     }
 }

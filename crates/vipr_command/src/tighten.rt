@@ -5,11 +5,11 @@ ghost use Rattle.vipr_command.specs.Run.{OfInput, PrintsTightened};
 ghost use Rattle.vipr_command.specs.Tighten.{Settles, WritesFile, WritesTightened, outcome_status};
 
 use crate::fault::CommandFault;
+use crate::host::Host;
 use crate::line::say;
 use crate::out_file::OutFile;
 use std::alloc::Global;
 use std::io::Write;
-use std::rt::Files;
 use vipr_bytes::{Sink, Source};
 use vipr_rules::Profile;
 use vipr_tighten::{Outcome, TightenFault, tighten_as};
@@ -28,7 +28,7 @@ use vipr_write::Form;
 ///
 /// A read fails or a growth is refused: nothing was written. A write fails, the file can't be
 /// opened, or the system can't keep what it took.
-pub fn print_tightened<H: AllocGlobal + Files, R: Source + Drop, O: Sink, E: Write>(
+pub fn print_tightened<H: Host, R: Source + Drop, O: Sink, E: Write>(
     rt: &H,
     profile: Profile,
     form: Form,
@@ -47,7 +47,7 @@ pub fn print_tightened<H: AllocGlobal + Files, R: Source + Drop, O: Sink, E: Wri
     }
 }
 
-fn write_file<H: AllocGlobal + Files, R: Source + Drop, E: Write>(
+fn write_file<H: Host, R: Source + Drop, E: Write>(
     rt: &H,
     profile: Profile,
     form: Form,
@@ -66,7 +66,7 @@ fn write_file<H: AllocGlobal + Files, R: Source + Drop, E: Write>(
 }
 
 /// Keeps what was written of a certificate that was tightened, and nothing else.
-fn settle<H: Files>(
+fn settle<H: Host>(
     place: OutFile<'_, H>,
     tightened: Result<Outcome, TightenFault>,
 ) -> Result<Outcome, CommandFault>
