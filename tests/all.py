@@ -32,6 +32,7 @@ SCRIPTS = [
     ['tests/large.py'],
     ['tests/hostile.py'],
     ['tests/output.py'],
+    ['tests/kills.py'],
     ['tests/growths.py'],
     ['tests/costs.py'],
     ['tests/fuzz.py'],
