@@ -38,6 +38,7 @@ SCRIPTS = [
     ['tests/fuzz.py'],
     ['tests/calls.py'],
     ['tests/library.py'],
+    ['tests/python.py'],
     ['tests/pages.py'],
     ['tests/language.py'],
     ['tests/commands.py'],

@@ -136,7 +136,7 @@ def look_at_callers(prefix, room):
     names = sorted((TOP / 'examples').rglob('*.vipr'))
     lines = [', '.join(wanted(path).rstrip('\n').split('\n')) for path in names]
     expected = ''.join(f'{path}: {line}\n' for path, line in zip(names, lines))
-    environment = dict(os.environ, LD_LIBRARY_PATH=str(prefix / 'lib'), PYTHONDONTWRITEBYTECODE='1',
+    environment = dict(os.environ, LD_LIBRARY_PATH=str(prefix / 'lib'), PYTHONDONTWRITEBYTECODE='1', PYTHONPATH=str(TOP / 'python'),
                        VIPR_LIBRARY=str(prefix / f'lib/libvipr.so.{version().split(".")[0]}'))
     count = 0
     for name, words in callers(prefix, room):

@@ -40,12 +40,12 @@ from plain_check import explained  # noqa: E402
 
 PROGRAM = Path(sys.argv[1] if len(sys.argv) > 1 else TOP / 'crates/vipr/out/vipr').resolve()
 PAGES = ['README.md', 'CONTRIBUTING.md', 'CHANGELOG.md', 'docs/TUTORIAL.md', 'docs/FORMAT.md', 'docs/USE.md',
-         'docs/LIBRARY.md', 'docs/PROOF.md', 'docs/CONTRACTS.md', 'docs/SECURITY.md', 'docs/BENCHMARKS.md', 'docs/ARCHITECTURE.md',
+         'docs/LIBRARY.md', 'docs/PYTHON.md', 'docs/PROOF.md', 'docs/CONTRACTS.md', 'docs/SECURITY.md', 'docs/BENCHMARKS.md', 'docs/ARCHITECTURE.md',
          'docs/DECISIONS.md', 'docs/WHY.md', 'docs/GLOSSARY.md', 'examples/README.md']
 TUTORIAL = 'docs/TUTORIAL.md'
 # what may stand in a block that isn't run
 KNOWN = {'git', 'cd', 'make', 'man', 'vipr', 'rt', 'python3', 'source', 'parallel', 'sbatch', 'export', 'sudo', 'pv', 'cc', 'g++',
-         './gmp_check', '$work/check'}
+         './gmp_check', '$work/check', 'pip', 'vipr-picture'}
 # public calls whose documentation shows an example
 DOCUMENTED = ['check', 'explain', 'read_certificate', 'tighten', 'write_certificate']
 COMMENT = re.compile(r'(?:^ *//[/!][^\n]*\n)+', re.M)

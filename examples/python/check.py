@@ -1,5 +1,5 @@
 #!/usr/bin/env python3
-"""Checks certificates by the module vipr.py beside it, and prints a line for each, which names the claim.
+"""Checks certificates by the package of python/, and prints a line for each, which names the claim.
 
 usage: check.py FILE..
 
@@ -13,15 +13,15 @@ import vipr
 def check(name):
     try:
         with open(name, 'rb') as file:
-            verified, lines = vipr.check(file.read())
+            verdict = vipr.check(file.read())
     except OSError as fault:
         print(f'{name}: {fault.strerror}', file=sys.stderr)
         return 2
-    except MemoryError:
+    except vipr.OutOfMemory:
         print(f'{name}: no memory')
         return 3
-    print(f'{name}: {", ".join(lines.splitlines())}')
-    return 0 if verified else 1
+    print(f'{name}: {", ".join(str(verdict).splitlines())}')
+    return 0 if verdict else 1
 
 
 if __name__ == '__main__':

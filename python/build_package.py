@@ -1,0 +1,44 @@
+"""Builds the package for pip (PEP 517) with the standard library alone: `pip install ./python` needs no network."""
+import base64
+import hashlib
+import re
+import tarfile
+import zipfile
+from pathlib import Path
+
+TOP = Path(__file__).resolve().parent
+PROJECT = (TOP / 'pyproject.toml').read_text()
+VALUES = dict(re.findall(r'^([\w-]+) = "(.*)"$', PROJECT, re.M))
+NAME = f'{VALUES["name"]}-{VALUES["version"]}'
+METADATA = (f'Metadata-Version: 2.1\nName: {VALUES["name"]}\nVersion: {VALUES["version"]}\n'
+            f'Summary: {VALUES["description"]}\nLicense: Apache-2.0\nRequires-Python: {VALUES["requires-python"]}\n')
+SCRIPTS = ''.join(f'{name} = {call}\n' for name, call in re.findall(r'^(vipr-[\w-]+) = "(.*)"$', PROJECT, re.M))
+
+
+def sources():
+    return sorted([*(TOP / 'vipr').glob('*.py'), TOP / 'vipr/py.typed'])
+
+
+def build_wheel(wheel_directory, config_settings=None, metadata_directory=None):
+    files = {path.relative_to(TOP).as_posix(): path.read_bytes() for path in sources()}
+    files[f'{NAME}.dist-info/METADATA'] = METADATA.encode()
+    files[f'{NAME}.dist-info/WHEEL'] = b'Wheel-Version: 1.0\nGenerator: vipr\nRoot-Is-Purelib: true\nTag: py3-none-any\n'
+    files[f'{NAME}.dist-info/entry_points.txt'] = f'[console_scripts]\n{SCRIPTS}'.encode()
+    record = f'{NAME}.dist-info/RECORD'
+    sums = {name: base64.urlsafe_b64encode(hashlib.sha256(text).digest()).rstrip(b'=').decode() for name, text in files.items()}
+    rows = [f'{name},sha256={sums[name]},{len(text)}\n' for name, text in files.items()]
+    files[record] = ''.join([*rows, f'{record},,\n']).encode()
+    wheel = f'{NAME}-py3-none-any.whl'
+    with zipfile.ZipFile(Path(wheel_directory, wheel), 'w', zipfile.ZIP_DEFLATED) as archive:
+        for name, text in files.items():
+            # (a fixed date, so that the same sources give the same bytes)
+            archive.writestr(zipfile.ZipInfo(name, (2020, 1, 1, 0, 0, 0)), text)
+    return wheel
+
+
+def build_sdist(sdist_directory, config_settings=None):
+    name = f'{NAME}.tar.gz'
+    with tarfile.open(Path(sdist_directory, name), 'w:gz') as archive:
+        for path in [*sources(), TOP / 'pyproject.toml', Path(__file__).resolve()]:
+            archive.add(path, f'{NAME}/{path.relative_to(TOP)}')
+    return name

@@ -1,0 +1,256 @@
+"""A certificate's text as values, read by docs/FORMAT.md. Nothing proves this reader.
+
+It refuses what `vipr show` refuses, with the same cause and place: a text's faults. Whether the proof holds isn't tested.
+A number is an int if it is whole, and a Fraction otherwise.
+"""
+from __future__ import annotations
+
+import re
+from dataclasses import dataclass
+from fractions import Fraction
+from typing import Callable, Dict, List, Optional, Set, Tuple, Union
+
+from .verdict import Cause, Claim, Place, Refusal
+
+Number = Union[int, Fraction]
+Row = Dict[int, Number]
+
+LARGEST = 2**127 - 1
+LARGEST_COUNT = 2**32 - 1
+LONGEST_TOKEN = 65535
+_COMMENTS = re.compile(rb'[\t-\r ]*(?:%[^\n]*(?:\n|$)[\t-\r ]*)*')
+_TOKEN = re.compile(rb'[^\t-\r ]+')
+_NUMBER = re.compile(rb'([+-]?)([0-9]+)(?:/([0-9]+))?')
+
+
+@dataclass(frozen=True)
+class Constraint:
+    """A name, a sense (`G` at least, `L` at most, `E` equal), a right-hand side, and the nonzero coefficients by variable."""
+    name: bytes
+    sense: str
+    bound: Number
+    row: Row
+
+
+@dataclass(frozen=True)
+class Derivation:
+    """A derived constraint and its reason. Under `lin` and `rnd` there are entries, each a constraint's index and a
+    multiplier; under `uns` the four indices i1, l1, i2, l2. `last` is None for the last reference -1."""
+    constraint: Constraint
+    reason: str
+    entries: Tuple[Tuple[int, Number], ...]
+    indices: Tuple[int, ...]
+    last: Optional[int]
+
+    def named(self) -> Tuple[int, ...]:
+        """The constraints that the reason rests on: an entry with multiplier 0 is no reference."""
+        return self.indices or tuple(index for index, multiplier in self.entries if multiplier)
+
+
+@dataclass(frozen=True)
+class Solution:
+    """A listed solution: the nonzero values by variable."""
+    name: bytes
+    values: Row
+
+
+@dataclass(frozen=True)
+class Problem:
+    """The problem of a certificate, with its claim. `bounds` is how many of the constraints it counts as bounds."""
+    names: List[bytes]
+    integers: Set[int]
+    maximizes: bool
+    objective: Row
+    bounds: int
+    constraints: List[Constraint]
+    claim: Claim
+
+
+@dataclass(frozen=True)
+class Certificate:
+    """A problem, solutions and derivations. The first derived constraint has the index len(problem.constraints)."""
+    problem: Problem
+    solutions: List[Solution]
+    derivations: List[Derivation]
+
+    def constraint(self, index: int) -> Constraint:
+        """A constraint by its index, of the problem or derived."""
+        count = len(self.problem.constraints)
+        return self.problem.constraints[index] if index < count else self.derivations[index - count].constraint
+
+
+class _Fault(Exception):
+    """A refusal on its way out of the reader."""
+
+    def __init__(self, cause: Cause, offset: int):
+        super().__init__(cause)
+        self.refusal = Refusal(cause, Place.BYTE, offset)
+
+
+class _Reader:
+    """The tokens of a text, one after the other."""
+
+    def __init__(self, text: bytes):
+        self.end = len(text)
+        begin = _COMMENTS.match(text)
+        self.matches = _TOKEN.finditer(text, begin.end() if begin else 0)
+        self.offset = 0
+        self.held: Optional[bytes] = None
+
+    def next(self) -> bytes:
+        """The next token; its offset is kept for a fault."""
+        if self.held is not None:
+            token, self.held = self.held, None
+            return token
+        match = next(self.matches, None)
+        if match is None:
+            raise _Fault(Cause.TRUNCATED, self.end)
+        token, self.offset = match[0], match.start()
+        if len(token) > LONGEST_TOKEN:
+            raise _Fault(Cause.TOKEN_TOO_LONG, self.offset)
+        return token
+
+    def fault(self, cause: Cause) -> _Fault:
+        """A fault of the token that was read last."""
+        return _Fault(cause, self.offset)
+
+    def word(self, wanted: Dict[bytes, str], cause: Cause) -> str:
+        token = self.next()
+        if token not in wanted:
+            raise self.fault(cause)
+        return wanted[token]
+
+    def keyword(self, word: bytes) -> None:
+        self.word({word: ''}, Cause.WRONG_KEYWORD)
+
+    def whole(self, token: bytes, bad: Cause, large: Cause, most: int = LARGEST_COUNT) -> int:
+        """A token of digits alone."""
+        if not token.isdigit():
+            raise self.fault(bad)
+        digits = token if len(token) < 10 else token.lstrip(b'0') or b'0'
+        value = int(digits) if len(digits) <= 10 else most + 1
+        if value > most:
+            raise self.fault(large)
+        return value
+
+    def count(self, most: int = LARGEST_COUNT) -> int:
+        return self.whole(self.next(), Cause.BAD_COUNT, Cause.COUNT_TOO_LARGE, most)
+
+    def reference(self) -> int:
+        return self.whole(self.next(), Cause.BAD_REFERENCE, Cause.BAD_REFERENCE)
+
+    def number(self) -> Number:
+        return self.number_of(self.next())
+
+    def number_of(self, token: bytes) -> Number:
+        if len(token) < 39 and token.isdigit():
+            return int(token)
+        match = _NUMBER.fullmatch(token)
+        if not match:
+            raise self.fault(Cause.BAD_NUMBER)
+        sign, above, below = match.groups()
+        numerator, denominator = (self.bounded(digits) for digits in (above, below or b'1'))
+        if not denominator:
+            raise self.fault(Cause.ZERO_DENOMINATOR)
+        value: Number = numerator if denominator == 1 else Fraction(numerator, denominator)
+        if denominator != 1 and value.denominator == 1:
+            value = value.numerator
+        return -value if sign == b'-' else value
+
+    def bounded(self, digits: bytes) -> int:
+        digits = digits.lstrip(b'0')
+        if len(digits) > 39 or int(digits or b'0') > LARGEST:
+            raise self.fault(Cause.NUMBER_TOO_LARGE)
+        return int(digits or b'0')
+
+    def vector(self, variables: int) -> Row:
+        row: Row = {}
+        for _ in range(self.count()):
+            index = self.whole(self.next(), Cause.BAD_INDEX, Cause.BAD_INDEX, variables - 1)
+            if index in row:
+                raise self.fault(Cause.REPEATED_INDEX)
+            row[index] = self.number()
+        return {index: value for index, value in row.items() if value}
+
+    def constraint(self, variables: int, objective: Row) -> Constraint:
+        name = self.next()
+        sense = self.word({b'E': 'E', b'L': 'L', b'G': 'G'}, Cause.BAD_SENSE)
+        bound, token = self.number(), self.next()
+        if token == b'OBJ':
+            return Constraint(name, sense, bound, objective)
+        self.held = token
+        return Constraint(name, sense, bound, self.vector(variables))
+
+    def bound(self, infinite: bytes) -> Optional[Fraction]:
+        token = self.next()
+        return None if token == infinite else Fraction(self.number_of(token))
+
+    def claim(self) -> Claim:
+        word = self.word({b'infeas': 'infeas', b'range': 'range'}, Cause.BAD_CLAIM)
+        return Claim(True) if word == 'infeas' else Claim(False, self.bound(b'-inf'), self.bound(b'inf'))
+
+    def problem(self) -> Problem:
+        self.keyword(b'VER')
+        self.word({b'1.0': ''}, Cause.UNSUPPORTED_VERSION)
+        self.keyword(b'VAR')
+        names = [self.next() for _ in range(self.count())]
+        self.keyword(b'INT')
+        integers = {self.whole(self.next(), Cause.BAD_INDEX, Cause.BAD_INDEX, len(names) - 1) for _ in range(self.count())}
+        self.keyword(b'OBJ')
+        direction = self.word({b'min': 'min', b'max': 'max'}, Cause.BAD_OBJECTIVE_SENSE)
+        objective = self.vector(len(names))
+        self.keyword(b'CON')
+        count, bounds = self.count(), self.count()
+        constraints = [self.constraint(len(names), objective) for _ in range(count)]
+        self.keyword(b'RTP')
+        return Problem(names, integers, direction == 'max', objective, bounds, constraints, self.claim())
+
+    def solution(self, variables: int) -> Solution:
+        return Solution(self.next(), self.vector(variables))
+
+    def derivation(self, variables: int, objective: Row) -> Derivation:
+        constraint = self.constraint(variables, objective)
+        self.word({b'{': ''}, Cause.BAD_BRACE)
+        reason = self.word({word.encode(): word for word in ('asm', 'lin', 'rnd', 'uns', 'sol')}, Cause.BAD_REASON)
+        entries: List[Tuple[int, Number]] = []
+        indices: List[int] = []
+        if reason in ('lin', 'rnd'):
+            for _ in range(self.count()):
+                index = self.reference()
+                entries.append((index, self.number()))
+        elif reason == 'uns':
+            indices = [self.reference() for _ in range(4)]
+        self.word({b'}': ''}, Cause.BAD_BRACE)
+        token = self.next()
+        last = None if token == b'-1' else self.whole(token, Cause.BAD_REFERENCE, Cause.BAD_REFERENCE)
+        return Derivation(constraint, reason, tuple(entries), tuple(indices), last)
+
+    def certificate(self) -> Certificate:
+        problem = self.problem()
+        variables = len(problem.names)
+        self.keyword(b'SOL')
+        solutions = [self.solution(variables) for _ in range(self.count())]
+        self.keyword(b'DER')
+        count = self.count(LARGEST_COUNT - len(problem.constraints))
+        derivations = [self.derivation(variables, problem.objective) for _ in range(count)]
+        behind = next(self.matches, None)
+        if behind is not None:
+            raise _Fault(Cause.TRAILING_TEXT, behind.start())
+        return Certificate(problem, solutions, derivations)
+
+
+def _read(text: bytes, part: Callable[[_Reader], object]) -> object:
+    try:
+        return part(_Reader(text))
+    except _Fault as fault:
+        return fault.refusal
+
+
+def read(text: bytes) -> Certificate | Refusal:
+    """The certificate that a text spells, or the refusal of a text that spells none."""
+    return _read(text, _Reader.certificate)  # type: ignore[return-value]
+
+
+def read_problem(text: bytes) -> Problem | Refusal:
+    """The problem at the front of a certificate's text, or the refusal of its first fault. The rest isn't read."""
+    return _read(text, _Reader.problem)  # type: ignore[return-value]

@@ -1,0 +1,139 @@
+"""The calls of the library for C, which `make install-lib` installs.
+
+VIPR_LIBRARY names the library's file. Without it the system is asked for `vipr`. The library is loaded at the first call.
+"""
+from __future__ import annotations
+
+import ctypes
+import ctypes.util
+import functools
+import os
+from dataclasses import dataclass
+from typing import Tuple
+
+from .verdict import Cause, Place, Refusal, Verdict
+
+ROOM = 4096  # how many bytes a call is offered at first
+_SIZE, _NUMBER, _TEXT = ctypes.c_size_t, ctypes.c_uint32, ctypes.c_char_p
+
+
+class Error(Exception):
+    """A call that gave no verdict."""
+
+
+class LibraryMissing(Error, ImportError):
+    """The library is not installed, or has not these calls."""
+
+
+class OutOfMemory(Error, MemoryError):
+    """The library was refused memory."""
+
+
+class BadProfile(Error, ValueError):
+    """The profile is neither 1 nor 2."""
+
+
+class _Answer(ctypes.Structure):
+    """`struct vipr_answer` of include/vipr.h."""
+    _fields_ = [('cause', _NUMBER), ('place', _NUMBER), ('number', ctypes.c_uint64), ('solutions', _NUMBER),
+                ('derived', _NUMBER), ('peak', ctypes.c_uint64), ('has_goal', _NUMBER), ('goal', _NUMBER)]
+
+
+class _Figures(ctypes.Structure):
+    """`struct vipr_figures` of include/vipr.h."""
+    _fields_ = [('cause', _NUMBER), ('place', _NUMBER), ('number', ctypes.c_uint64), ('kept', _NUMBER),
+                ('removed', _NUMBER), ('peak_before', ctypes.c_uint64), ('peak_after', ctypes.c_uint64)]
+
+
+@dataclass(frozen=True)
+class Tightened:
+    """A certificate without what its proof doesn't need: its text, how many derivations it kept and lost, and how many
+    derived constraints a check had to hold at once before and has to hold now."""
+    text: bytes
+    kept: int
+    removed: int
+    peak_before: int
+    peak_after: int
+
+
+@functools.lru_cache(maxsize=None)
+def _library() -> ctypes.CDLL:
+    name = os.environ.get('VIPR_LIBRARY') or ctypes.util.find_library('vipr')
+    if not name:
+        raise LibraryMissing('the library vipr is not installed: make install-lib, or set VIPR_LIBRARY to its file')
+    text, buffer = [_TEXT, _SIZE], [_TEXT, _SIZE, ctypes.POINTER(_SIZE)]
+    try:
+        library = ctypes.CDLL(name)
+        library.vipr_report.argtypes = library.vipr_explain.argtypes = [_NUMBER, *text, *buffer]
+        library.vipr_show.argtypes = [_NUMBER, *text, *buffer, ctypes.POINTER(_Answer)]
+        library.vipr_tighten.argtypes = [_NUMBER, _NUMBER, *text, *buffer, ctypes.POINTER(_Figures)]
+        library.vipr_version.argtypes, library.vipr_version.restype = [_TEXT, _SIZE], _SIZE
+    except (OSError, AttributeError) as fault:
+        raise LibraryMissing(f'{name}: {fault}') from fault
+    return library
+
+
+def _call(name: str, options: Tuple[int, ...], text: bytes, *behind: ctypes.Structure) -> Tuple[bool, bytes]:
+    """Whether the status is 0, and the text of a call, which is made again if its text needs more room."""
+    if not isinstance(text, bytes):
+        raise TypeError(f'a certificate is bytes, not {type(text).__name__}')
+    call, length = getattr(_library(), name), _SIZE(ROOM)
+    while True:
+        room = length.value
+        buffer = ctypes.create_string_buffer(max(1, room))
+        status = call(*options, text, len(text), buffer, room, ctypes.byref(length), *map(ctypes.byref, behind))
+        if status == 2:
+            raise BadProfile('the profiles are 1 and 2')
+        if status == 3:
+            raise OutOfMemory('vipr: memory was refused')
+        if length.value <= room:
+            return status == 0, buffer.raw[:length.value]
+
+
+def _refusal(answer: ctypes.Structure) -> Refusal:
+    return Refusal(Cause(answer.cause), list(Place)[answer.place - 1], answer.number)
+
+
+def check(text: bytes, profile: int = 1) -> Verdict:
+    """The verdict on a certificate's text, by profile 1 or 2 of the rules.
+
+    Raises BadProfile for another profile, OutOfMemory if memory was refused, and LibraryMissing.
+    """
+    return Verdict.parse(_call('vipr_report', (profile,), text)[1].decode())
+
+
+def explain(text: bytes, profile: int = 1) -> bytes:
+    """What `vipr explain` prints: the verdict and what shows it, in bytes, since names may be in any encoding.
+
+    Raises what `check` raises.
+    """
+    return _call('vipr_explain', (profile,), text)[1]
+
+
+def show(text: bytes, compact: bool = False) -> bytes | Refusal:
+    """The one canonical text of a certificate, or the refusal of a text that spells none. The proof is not checked.
+
+    Raises OutOfMemory and LibraryMissing.
+    """
+    answer = _Answer()
+    good, shown = _call('vipr_show', (compact,), text, answer)
+    return shown if good else _refusal(answer)
+
+
+def tighten(text: bytes, profile: int = 1, compact: bool = False) -> Tightened | Refusal:
+    """A certificate without what its proof doesn't need, or the refusal of a text that is no proof.
+
+    Raises what `check` raises.
+    """
+    figures = _Figures()
+    good, shown = _call('vipr_tighten', (profile, compact), text, figures)
+    if not good:
+        return _refusal(figures)
+    return Tightened(shown, figures.kept, figures.removed, figures.peak_before, figures.peak_after)
+
+
+def version() -> str:
+    """The version of the library. Raises LibraryMissing."""
+    buffer = ctypes.create_string_buffer(32)
+    _library().vipr_version(buffer, len(buffer))
+    return buffer.value.decode()

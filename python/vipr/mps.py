@@ -1,0 +1,377 @@
+"""MPS files that have one meaning, read exactly.
+
+MPS has no standard, and tools read some texts in different ways. This reader takes the texts that all read alike. It refuses
+any other at its line, with a cause that says what is unclear; docs/PYTHON.md lists them. Nothing proves it.
+
+A point gives each column a value. A row's sides are its least and its greatest value, None for none; so are a column's.
+"""
+from __future__ import annotations
+
+import enum
+import re
+from dataclasses import dataclass, field
+from typing import Callable, Dict, List, Optional, Tuple
+
+from .certificate import LARGEST, Fraction, Number
+from .files import printable
+
+Sides = Tuple[Optional[Number], Optional[Number]]
+SECTIONS = [b'NAME', b'OBJSENSE', b'ROWS', b'COLUMNS', b'RHS', b'RANGES', b'BOUNDS', b'ENDATA']
+REQUIRED = {b'NAME', b'ROWS', b'COLUMNS', b'ENDATA'}
+WHITE = b' \t\r\v\f'
+UNCLEAR = 10**20  # tools take a number from here on for infinite
+MAXIMIZE, MINIMIZE = (b'MAX', b'MAXIMIZE'), (b'MIN', b'MINIMIZE')
+INFINITE = {sign + word: sign != b'-' for sign in (b'', b'+', b'-') for word in (b'inf', b'Inf', b'infinity', b'Infinity')}
+_DECIMAL = re.compile(rb'([+-]?)(?:([0-9]+)(?:\.([0-9]*))?|\.([0-9]+))(?:[eE]([+-]?)([0-9]+))?')
+
+
+class Cause(enum.IntEnum):
+    """Why a file is refused, from 101 on, and how a certificate's problem differs from it, from 201 on."""
+    PROBLEM_ENDS = 101
+    UNKNOWN_SECTION = 102
+    SECTION_ORDER = 103
+    FIELD_COUNT = 104
+    BAD_ROW_TYPE = 105
+    REPEATED_ROW = 106
+    NO_OBJECTIVE = 107
+    UNKNOWN_ROW = 108
+    REPEATED_COLUMN = 109
+    REPEATED_ENTRY = 110
+    BAD_MARKER = 111
+    BAD_DECIMAL = 112
+    DECIMAL_TOO_LARGE = 113
+    SECOND_SET = 114
+    UNKNOWN_COLUMN = 115
+    BAD_BOUND_TYPE = 116
+    REPEATED_BOUND = 117
+    UNCLEAR_INFINITY = 118
+    BAD_DIRECTION = 119
+    RANGE_OF_FREE_ROW = 120
+    TEXT_BEHIND = 121
+    UNCLEAR_SET = 122
+    UNCLEAR_LOWER = 124
+    UNCLEAR_INTEGER = 125
+    UNCLEAR_NAME = 126
+    RANGE_TOO_LARGE = 127
+    NAMES_REPEAT = 201
+    NOT_A_COLUMN = 202
+    NOT_A_VARIABLE = 203
+    WHOLE_DIFFERS = 204
+    DIRECTION_DIFFERS = 205
+    OBJECTIVE_DIFFERS = 206
+    NOT_IN_FILE = 207
+    NOT_IN_CERTIFICATE = 208
+
+    @property
+    def word(self) -> str:
+        """The name that is printed, as UnclearInteger."""
+        return self.name.title().replace('_', '')
+
+
+class Refused(Exception):
+    """A fault of a file or a difference: its cause, its place (a line of the file is `line N`), and what shows it, a line each."""
+
+    def __init__(self, cause: Cause, place: str, *shown: str):
+        super().__init__(f'refused {int(cause)} at {place}')
+        self.cause, self.place, self.shown = cause, place, shown
+
+
+@dataclass
+class Column:
+    """A column: the line that it begins at, whether it is whole, its entries by row, and what lines of BOUNDS set."""
+    line: int
+    is_whole: bool
+    entries: Dict[bytes, Number] = field(default_factory=dict)
+    set_sides: List[Optional[Tuple[Optional[Number], int]]] = field(default_factory=lambda: [None, None])
+
+    def sides(self) -> Sides:
+        """Its bounds: from 0 on, if no line says otherwise."""
+        lower, upper = self.set_sides
+        return (0 if lower is None else lower[0]), (None if upper is None else upper[0])
+
+
+@dataclass
+class MpsFile:
+    """What a file says. `objective` is the name of its first row of type N."""
+    maximizes: bool = False
+    objective: Optional[bytes] = None
+    rows: Dict[bytes, Tuple[str, int]] = field(default_factory=dict)
+    columns: Dict[bytes, Column] = field(default_factory=dict)
+    right_sides: Dict[bytes, Tuple[Number, int]] = field(default_factory=dict)
+    ranges: Dict[bytes, Tuple[Number, int]] = field(default_factory=dict)
+
+    def sides(self, name: bytes) -> Sides:
+        """The sides of a row."""
+        kind, right = self.rows[name][0], self.right_sides.get(name, (0, 0))[0]
+        if kind == 'N':
+            return None, None
+        if name not in self.ranges:
+            return (right if kind in 'GE' else None), (right if kind in 'LE' else None)
+        size = self.ranges[name][0]
+        if kind == 'E':
+            return min(right, right + size), max(right, right + size)
+        return (right - abs(size), right) if kind == 'L' else (right, right + abs(size))
+
+    def entries(self) -> Dict[bytes, Dict[bytes, Number]]:
+        """The nonzero coefficients of each row, by column."""
+        rows: Dict[bytes, Dict[bytes, Number]] = {name: {} for name in self.rows}
+        for name, column in self.columns.items():
+            for row, value in column.entries.items():
+                if value:
+                    rows[row][name] = value
+        return rows
+
+    def constant(self) -> Number:
+        """The number that RHS gives the objective's row. Tools add it, subtract it or ignore it; the row has none."""
+        return self.right_sides.get(self.objective or b'', (0, 0))[0]
+
+
+def decimal(token: bytes) -> Optional[Number]:
+    """The exact value of a decimal, or None if the token is none. Raises OverflowError past the limit."""
+    match = _DECIMAL.fullmatch(token)
+    if not match:
+        return None
+    sign, whole, behind, alone, minus, power = match.groups()
+    fraction = behind or alone or b''
+    digits = ((whole or b'') + fraction).lstrip(b'0')
+    short = digits.rstrip(b'0')
+    if not short:
+        return 0
+    power = (power or b'').lstrip(b'0')
+    exponent = int(power or b'0') if len(power) <= 9 else 10**9
+    exponent = (-exponent if minus == b'-' else exponent) - len(fraction) + len(digits) - len(short)
+    if len(short) > 39 or not -38 <= exponent <= 38 or int(short) > LARGEST:
+        raise OverflowError
+    value: Number = int(short) * 10**exponent if exponent >= 0 else Fraction(int(short), 10**-exponent)
+    if abs(value) > LARGEST:
+        raise OverflowError
+    return -value if sign == b'-' else value
+
+
+class _Reader:
+    """A file that is being read, line by line."""
+
+    def __init__(self) -> None:
+        self.file = MpsFile()
+        self.section, self.seen = b'', set()
+        self.line = 0
+        self.has_direction = self.is_marked = False
+        self.column: Optional[bytes] = None
+        self.sets: Dict[bytes, Optional[bytes]] = {}
+        self.read: Dict[bytes, Callable[[List[bytes]], None]] = {
+            b'ROWS': self.row, b'COLUMNS': self.entry, b'RHS': self.right_side, b'RANGES': self.range, b'BOUNDS': self.bound}
+
+    def fault(self, cause: Cause, *tokens: bytes) -> Refused:
+        return Refused(cause, f'line {self.line}', f'cause {cause.word}', *(f'field {printable(it)}' for it in tokens))
+
+    def lines(self, text: bytes) -> None:
+        for self.line, line in enumerate(text.split(b'\n')[:None if text[-1:] not in (b'\n', b'') else -1], 1):
+            if line[:1] == b'*' or not line.strip(WHITE):
+                continue
+            if self.section == b'ENDATA':
+                raise self.fault(Cause.TEXT_BEHIND)
+            fields = line.split()
+            if line[:1] not in (b' ', b'\t', b'\r', b'\v', b'\f'):
+                self.open(fields)
+                continue
+            if self.section in (b'', b'NAME'):
+                raise self.fault(Cause.SECTION_ORDER)
+            if self.section == b'OBJSENSE':
+                if self.has_direction or len(fields) != 1:
+                    raise self.fault(Cause.FIELD_COUNT)
+                self.direction(fields[0])
+                continue
+            comment = next((at for at, word in enumerate(fields) if at and word[:1] == b'$'), None)
+            self.read[self.section](fields[:comment])
+        if self.section != b'ENDATA':
+            self.line += 1
+            raise self.fault(Cause.PROBLEM_ENDS)
+
+    def open(self, fields: List[bytes]) -> None:
+        """A line that opens a section: each comes once, in order, and those of REQUIRED come."""
+        word = fields[0]
+        if word not in SECTIONS:
+            raise self.fault(Cause.UNKNOWN_SECTION, word)
+        skipped = SECTIONS[:SECTIONS.index(word)]
+        if any(it not in skipped for it in self.seen) or any(it in REQUIRED and it not in self.seen for it in skipped):
+            raise self.fault(Cause.SECTION_ORDER, word)
+        if self.section == b'OBJSENSE' and not self.has_direction:
+            raise self.fault(Cause.BAD_DIRECTION)
+        if self.section == b'ROWS' and self.file.objective is None:
+            raise self.fault(Cause.NO_OBJECTIVE)
+        if word == b'OBJSENSE' and len(fields) == 2:
+            self.direction(fields[1])
+        elif word != b'NAME' and len(fields) > 1:
+            raise self.fault(Cause.FIELD_COUNT)
+        self.seen.add(word)
+        self.section = word
+
+    def direction(self, word: bytes) -> None:
+        if word not in MAXIMIZE + MINIMIZE:
+            raise self.fault(Cause.BAD_DIRECTION, word)
+        self.file.maximizes, self.has_direction = word in MAXIMIZE, True
+
+    def row(self, fields: List[bytes]) -> None:
+        if len(fields) != 2:
+            raise self.fault(Cause.FIELD_COUNT)
+        kind, name = fields
+        if kind not in (b'N', b'L', b'G', b'E'):
+            raise self.fault(Cause.BAD_ROW_TYPE, kind)
+        if name in self.file.rows:
+            raise self.fault(Cause.REPEATED_ROW, name)
+        self.file.rows[name] = kind.decode(), self.line
+        if kind == b'N' and self.file.objective is None:
+            self.file.objective = name
+
+    def entry(self, fields: List[bytes]) -> None:
+        """A line of COLUMNS: a marker, or a column with one pair or two. The lines of a column follow each other."""
+        if len(fields) not in (3, 5):
+            raise self.fault(Cause.FIELD_COUNT)
+        name = fields[0]
+        if fields[1] == b"'MARKER'":
+            if fields[2:] != [b"'INTEND'" if self.is_marked else b"'INTORG'"]:
+                raise self.fault(Cause.BAD_MARKER, *fields[2:])
+            self.is_marked, self.column = not self.is_marked, None
+            return
+        if name[:1] == b'$':
+            raise self.fault(Cause.UNCLEAR_NAME, name)
+        if name != self.column:
+            if name in self.file.columns:
+                raise self.fault(Cause.REPEATED_COLUMN, name)
+            self.file.columns[name] = Column(self.line, self.is_marked)
+            self.column = name
+        entries = self.file.columns[name].entries
+        for row, value in self.pairs(fields[1:], entries):
+            entries[row] = value
+
+    def pairs(self, fields: List[bytes], before: Dict[bytes, object]):
+        """Pairs of a row and a number; no row comes twice."""
+        for row, token in zip(fields[::2], fields[1::2]):
+            if row not in self.file.rows:
+                raise self.fault(Cause.UNKNOWN_ROW, row)
+            if self.section == b'RANGES' and self.file.rows[row][0] == 'N':
+                raise self.fault(Cause.RANGE_OF_FREE_ROW, row)
+            value = self.number(token)
+            if self.section != b'COLUMNS' and abs(value) >= UNCLEAR:
+                raise self.fault(Cause.UNCLEAR_INFINITY, token)
+            if row in before:
+                raise self.fault(Cause.REPEATED_ENTRY, row)
+            yield row, value
+
+    def number(self, token: bytes) -> Number:
+        try:
+            value = decimal(token)
+        except OverflowError:
+            raise self.fault(Cause.DECIMAL_TOO_LARGE, token) from None
+        if value is None:
+            raise self.fault(Cause.BAD_DECIMAL, token)
+        return value
+
+    def right_side(self, fields: List[bytes]) -> None:
+        self.sized(fields, self.file.right_sides)
+
+    def range(self, fields: List[bytes]) -> None:
+        self.sized(fields, self.file.ranges)
+
+    def sized(self, fields: List[bytes], before: Dict[bytes, Tuple[Number, int]]) -> None:
+        """A line of RHS or RANGES: a set's name or none, and one pair or two."""
+        if not 2 <= len(fields) <= 5:
+            raise self.fault(Cause.FIELD_COUNT)
+        named = len(fields) % 2
+        self.same_set(fields[0] if named else None)
+        for row, value in self.pairs(fields[named:], before):
+            before[row] = value, self.line
+
+    def same_set(self, name: Optional[bytes]) -> None:
+        """All lines of a section are of one set: all have its name, or none has one."""
+        if self.sets.setdefault(self.section, name) != name:
+            raise self.fault(Cause.SECOND_SET, *([name] if name else []))
+
+    def bound(self, fields: List[bytes]) -> None:
+        """A line of BOUNDS: it sets sides, and each side of a column is set at most once."""
+        kind, file = fields[0], self.file
+        if kind in (b'UP', b'LO', b'FX', b'UI', b'LI'):
+            if len(fields) not in (3, 4):
+                raise self.fault(Cause.FIELD_COUNT)
+            *front, name, token = fields[1:]
+        elif kind in (b'FR', b'MI', b'PL', b'BV'):
+            if not 2 <= len(fields) <= 4:
+                raise self.fault(Cause.FIELD_COUNT)
+            if len(fields) == 4:
+                self.infinite_or_number(fields.pop())
+            *front, name = fields[1:]
+        else:
+            raise self.fault(Cause.BAD_BOUND_TYPE, kind)
+        if front and front[0] in file.columns:
+            raise self.fault(Cause.UNCLEAR_SET, front[0])
+        self.same_set(front[0] if front else None)
+        if name not in file.columns:
+            raise self.fault(Cause.UNKNOWN_COLUMN, name)
+        column = file.columns[name]
+        if kind in (b'UP', b'UI'):
+            sides = {1: self.side(token, True)}
+        elif kind in (b'LO', b'LI'):
+            sides = {0: self.side(token, False)}
+        elif kind == b'FX':
+            sides = dict.fromkeys((0, 1), self.side(token, None))
+        else:
+            sides = {b'FR': {0: None, 1: None}, b'MI': {0: None}, b'PL': {1: None}, b'BV': {0: 0, 1: 1}}[kind]
+        for at, value in sides.items():
+            if column.set_sides[at] is not None:
+                raise self.fault(Cause.REPEATED_BOUND, name)
+            column.set_sides[at] = value, self.line
+        column.is_whole = column.is_whole or kind in (b'BV', b'LI', b'UI')
+
+    def infinite_or_number(self, token: bytes) -> None:
+        """A number behind a bound that needs none: it counts for nothing."""
+        try:
+            if token not in INFINITE and decimal(token) is None:
+                raise self.fault(Cause.BAD_DECIMAL, token)
+        except OverflowError:
+            pass
+
+    def side(self, token: bytes, infinite: Optional[bool]) -> Optional[Number]:
+        """A bound's number, or None for the infinity that it may be: True is the positive one."""
+        if token in INFINITE:
+            if INFINITE[token] is not infinite:
+                raise self.fault(Cause.UNCLEAR_INFINITY, token)
+            return None
+        value = self.number(token)
+        if abs(value) >= UNCLEAR:
+            raise self.fault(Cause.UNCLEAR_INFINITY, token)
+        return value
+
+    def whole(self, integers: Optional[str]) -> None:
+        """What only the whole file shows: an upper bound below 0 alone, an integer column without an upper bound, and a range
+        past the limit."""
+        for name, column in self.file.columns.items():
+            lower, upper = column.set_sides
+            if lower is None and upper is not None and upper[0] is not None and upper[0] < 0:
+                self.line = upper[1]
+                raise self.fault(Cause.UNCLEAR_LOWER, name)
+            if column.is_whole and upper is None:
+                if integers is None:
+                    self.line = column.line
+                    raise self.fault(Cause.UNCLEAR_INTEGER, name)
+                column.set_sides[1] = (1 if integers == 'one' else None), column.line
+        for name, (_, line) in self.file.ranges.items():
+            if any(it is not None and max(abs(it.numerator), it.denominator) > LARGEST for it in self.file.sides(name)):
+                self.line = line
+                raise self.fault(Cause.RANGE_TOO_LARGE, name)
+
+
+def read_mps(text: bytes, integers: Optional[str] = None, maximize: bool = False) -> MpsFile:
+    """The file that a text spells. Raises Refused.
+
+    `integers` is the upper bound of an integer column that no line gives one: 'one' or 'inf'; without it such a file is
+    refused. With `maximize` a file without a direction is to be maximized, and one with a direction is refused.
+    """
+    reader = _Reader()
+    reader.lines(text)
+    reader.whole(integers)
+    if maximize:
+        if reader.has_direction:
+            reader.line = 1
+            raise reader.fault(Cause.BAD_DIRECTION)
+        reader.file.maximizes = True
+    return reader.file

@@ -1,0 +1,139 @@
+"""What the checker answers, as values: a verdict with a claim or a refusal."""
+from __future__ import annotations
+
+import enum
+import re
+from dataclasses import dataclass
+from fractions import Fraction
+from typing import Optional
+
+
+class Cause(enum.IntEnum):
+    """Why a text is refused: docs/FORMAT.md says when each cause comes."""
+    TRUNCATED = 1
+    WRONG_KEYWORD = 2
+    UNSUPPORTED_VERSION = 3
+    BAD_NUMBER = 4
+    NUMBER_TOO_LARGE = 5
+    ZERO_DENOMINATOR = 6
+    BAD_COUNT = 7
+    COUNT_TOO_LARGE = 8
+    BAD_INDEX = 9
+    REPEATED_INDEX = 10
+    BAD_SENSE = 11
+    BAD_OBJECTIVE_SENSE = 12
+    BAD_CLAIM = 13
+    BAD_REASON = 14
+    BAD_BRACE = 15
+    BAD_REFERENCE = 16
+    TOKEN_TOO_LONG = 17
+    TRAILING_TEXT = 18
+    SOLUTION_NOT_WHOLE = 21
+    SOLUTION_BREAKS = 22
+    SOLUTION_OVERFLOW = 23
+    NOT_EARLIER = 31
+    DROPPED = 32
+    NOT_ASSUMPTION = 33
+    MIXED_SIGNS = 34
+    OVERFLOW = 35
+    NOT_ROUNDABLE = 36
+    NOT_SPLIT = 37
+    NOT_DOMINATED = 38
+    NO_SOLUTION = 39
+    NO_PROOF = 51
+    NO_PRIMAL = 52
+
+    @property
+    def word(self) -> str:
+        """The name that `vipr explain` prints, as NotDominated."""
+        return self.name.title().replace('_', '')
+
+
+class Place(enum.Enum):
+    """Where a text is refused: the word that `vipr check` prints."""
+    BYTE = 'byte'
+    SOLUTION = 'SOL'
+    DERIVATION = 'DER'
+    END = 'end'
+
+
+@dataclass(frozen=True)
+class Refusal:
+    """A cause and its place. The number is a token's offset in bytes, a solution or a derived constraint; 0 at the end."""
+    cause: Cause
+    place: Place
+    number: int = 0
+
+    def __str__(self) -> str:
+        where = self.place.value if self.place is Place.END else f'{self.place.value} {self.number}'
+        return f'refused {int(self.cause)} at {where}'
+
+    @classmethod
+    def parse(cls, line: str) -> Refusal:
+        """The refusal of a line of `vipr check`."""
+        found = re.fullmatch(r'refused (\d+) at (\w+)(?: (\d+))?', line)
+        if not found:
+            raise ValueError(f'no refusal: {line!r}')
+        return cls(Cause(int(found[1])), Place(found[2]), int(found[3] or 0))
+
+
+@dataclass(frozen=True)
+class Claim:
+    """That a problem has no solution, or bounds of its optimum. A bound that is None is infinite."""
+    infeasible: bool
+    lower: Optional[Fraction] = None
+    upper: Optional[Fraction] = None
+
+    def __str__(self) -> str:
+        if self.infeasible:
+            return 'infeas'
+        return (f'range {"-inf" if self.lower is None else self.lower} '
+                f'{"inf" if self.upper is None else self.upper}')
+
+    def turned(self) -> Claim:
+        """The claim about the negative objective."""
+        return Claim(self.infeasible, *(None if it is None else -it for it in (self.upper, self.lower)))
+
+    @classmethod
+    def parse(cls, text: str) -> Claim:
+        """The claim of `infeas` or `range LOWER UPPER`."""
+        words = text.split(' ')
+        if words == ['infeas']:
+            return cls(True)
+        if len(words) != 3 or words[0] != 'range':
+            raise ValueError(f'no claim: {text!r}')
+        return cls(False, *(None if word in ('-inf', 'inf') else Fraction(word) for word in words[1:]))
+
+
+@dataclass(frozen=True)
+class Verdict:
+    """The answer on a text. It is true in a condition if the text is verified.
+
+    A verified text has a claim, which is true of the problem in it, and counts: its solutions, its derivations, and how
+    many derived constraints had to be held at once. Any other has a refusal, and its counts are 0.
+    """
+    claim: Optional[Claim]
+    refusal: Optional[Refusal]
+    solutions: int = 0
+    derived: int = 0
+    peak: int = 0
+
+    def __bool__(self) -> bool:
+        return self.claim is not None
+
+    def __str__(self) -> str:
+        """The lines of `vipr check`."""
+        if self.claim is None:
+            return str(self.refusal)
+        return f'verified {self.claim}\nsolutions {self.solutions} derived {self.derived} peak {self.peak}'
+
+    @classmethod
+    def parse(cls, lines: str) -> Verdict:
+        """The verdict of what `vipr check` printed."""
+        first, *rest = lines.rstrip('\n').split('\n')
+        if not first.startswith('verified '):
+            return cls(None, Refusal.parse(first))
+        counts = re.fullmatch(r'solutions (\d+) derived (\d+) peak (\d+)', ''.join(rest))
+        if not counts:
+            raise ValueError(f'no counts: {rest}')
+        return cls(Claim.parse(first[len('verified '):]), None, *map(int, counts.groups()))

@@ -1,0 +1,435 @@
+#!/usr/bin/env python3
+"""Tries the Python package: its reader, its calls of the library, and each of its commands.
+
+usage: tests/python.py [PROGRAM]     crates/vipr/out/vipr without it
+
+- The package is installed from a copy of python/ into a folder, without a network, if this Python has pip; else its commands
+  are run from python/ itself, with a word.
+- The reader answers as `vipr show`: on the examples, on damaged texts, and on texts of 4 MB.
+- The calls give what the program prints, if `make lib` built the library here; else they are left out, with a word.
+- compare-mps gives the lines of tests/mps_changes.py for changes of one MPS file and one certificate; it finds each example
+  the same as an MPS file that is made of it; on random pairs it answers as a loop over all pairs of conditions does.
+- stats gives the goal of `vipr explain`, and as many needed derivations as `vipr tighten` keeps.
+- picture writes well-formed XML, with a box for each derivation, and the page's picture is as it is in docs/.
+- check-all has a row for each file of a folder, plain, compressed, cut and refused, and goes on after a stop.
+
+Prints each fault, and last `python: N checks, F failed`; the exit status is 1 if one failed.
+"""
+import gzip
+import importlib.util
+import json
+import lzma
+import os
+import random
+import re
+import shutil
+import subprocess
+import sys
+import tempfile
+import xml.etree.ElementTree
+from concurrent.futures import ThreadPoolExecutor
+from pathlib import Path
+
+TOP = Path(__file__).resolve().parent.parent
+PROGRAM = Path(sys.argv[1] if len(sys.argv) > 1 else TOP / 'crates/vipr/out/vipr').resolve()
+sys.path[:0] = [str(TOP / 'python'), str(TOP / 'bench')]
+sys.dont_write_bytecode = True
+import families  # noqa: E402
+import vipr  # noqa: E402
+from vipr import compare_mps, mps, picture, proof as structure, stats  # noqa: E402
+from mps_changes import CHANGES  # noqa: E402
+
+EXAMPLES = {path: path.read_bytes() for path in sorted((TOP / 'examples').rglob('*.vipr'))}
+NAMES = ('check-all', 'compare-mps', 'picture', 'stats')
+PIECES = [b'0', b'1', b'-1', b'OBJ', b'{', b'}', b'inf', b'-inf', b'1/0', b'3.5', b'9' * 39, b'4294967296', b'00007', b'+3/6',
+          b'VER', b'%', b'lin', b'uns', b'G', b'x' * 65536, b'\xff\x1b']
+LARGE = 4_000_000
+checks = failed = 0
+
+
+def check(good, what):
+    global checks, failed
+    checks += 1
+    if not good:
+        failed += 1
+        print(str(what)[:2000])
+
+
+def ran(words, text=b'', **options):
+    done = subprocess.run([*map(str, words)], input=text, capture_output=True, check=False, **options)
+    return done.returncode, done.stdout, done.stderr
+
+
+def damaged(text, dice):
+    """A text with one piece less, more or other, cut, or with another byte."""
+    token = dice.choice(list(re.finditer(rb'\S+', text)))
+    way, piece, at = dice.randrange(5), dice.choice(PIECES), dice.randrange(len(text))
+    if way == 0:
+        return text[:token.start()] + text[token.end():]
+    if way == 1:
+        return text[:token.start()] + piece + text[token.end():]
+    if way == 2:
+        return text[:token.start()] + piece + b' ' + text[token.start():]
+    return text[:at] if way == 3 else text[:at] + bytes([dice.randrange(256)]) + text[at + 1:]
+
+
+def large_texts():
+    for family in (families.tree, families.wide, families.solutions):
+        yield family.__name__, '\n'.join(families_lines(family)).encode() + b'\n'
+
+
+def families_lines(family):
+    return list(family(LARGE))
+
+
+# ---- the package as it is installed
+
+def installed(room):
+    """The commands of the package: those that pip installs, or the modules of python/."""
+    modules = {name: [sys.executable, '-m', f'vipr.{name.replace("-", "_")}'] for name in NAMES}
+    if importlib.util.find_spec('pip') is None:
+        print('python: not installed, for want of pip')
+        return modules
+    shutil.copytree(TOP / 'python', room / 'source', ignore=shutil.ignore_patterns('__pycache__'))
+    status, said, fault = ran([sys.executable, '-m', 'pip', 'install', '-q', '--no-index', '--disable-pip-version-check',
+                               '--target', room / 'site', room / 'source'])
+    check(status == 0, (said + fault).decode())
+    return {name: [sys.executable, room / 'site/bin' / f'vipr-{name}'] for name in NAMES} if status == 0 else modules
+
+
+# ---- the reader, and the calls
+
+def agrees(text, what):
+    """Whether the reader answers as `vipr show`."""
+    status, _, said = ran([PROGRAM, 'show'], text)
+    got = vipr.read(text)
+    is_refused = isinstance(got, vipr.Refusal)
+    check(is_refused == (status == 1) and (not is_refused or str(got) == said.decode().rstrip('\n')), f'{what}: {got!r:.200}, {said}')
+    front = vipr.read_problem(text)
+    check(front == got or (is_refused and isinstance(front, vipr.Problem)) or (not is_refused and front == got.problem),
+          f'{what}: the problem alone is read otherwise')
+    return got
+
+
+def reader(dice):
+    texts = [(path.name, text) for path, text in EXAMPLES.items()]
+    texts += [(f'{path.name} damaged', damaged(text, dice)) for path, text in EXAMPLES.items()
+              for _ in range(20 if len(text) < 5000 else 2)]
+    with ThreadPoolExecutor(4) as pool:
+        list(pool.map(lambda it: agrees(it[1], it[0]), texts))
+    return [text for _, text in texts]
+
+
+def library():
+    found = sorted((TOP / 'crates/vipr_c/out').glob('libvipr.so.*'))
+    if not found:
+        print('python: the calls of the library are left out: make lib')
+        return None
+    os.environ['VIPR_LIBRARY'] = str(found[-1])
+    return found[-1]
+
+
+def calls(texts):
+    for text in texts:
+        for profile in (1, 2):
+            status, out, fault = ran([PROGRAM, 'check', f'--profile={profile}'], text)
+            verdict = vipr.check(text, profile)
+            check(f'{verdict}\n'.encode() == out + fault and bool(verdict) == (status == 0), f'check: {verdict}, {out}')
+            check(vipr.explain(text, profile) == ran([PROGRAM, 'explain', f'--profile={profile}'], text)[1], 'explain differs')
+        for words, compact in (([], False), (['--compact'], True)):
+            for command, call in (('show', vipr.show), ('tighten', vipr.tighten)):
+                status, out, fault = ran([PROGRAM, command, *words], text)
+                got = call(text, compact=compact)
+                if isinstance(got, vipr.Refusal):
+                    check(status == 1 and f'{got}\n'.encode() == fault, f'{command}: {got}, {fault}')
+                elif command == 'show':
+                    check(got == out, 'show differs')
+                else:
+                    line = f'kept {got.kept} removed {got.removed} peak {got.peak_before} {got.peak_after}\n'
+                    check((got.text, line.encode()) == (out, fault), f'tighten: {line}, {fault}')
+    check(vipr.version() in ran([PROGRAM, '--version'])[1].decode(), 'the versions differ')
+    for wrong, error in ((lambda: vipr.check(b'', 3), vipr.BadProfile), (lambda: vipr.check('VER 1.0'), TypeError)):
+        try:
+            wrong()
+            check(False, f'no {error.__name__}')
+        except error:
+            check(True, '')
+    claim = vipr.check(EXAMPLES[TOP / 'examples/problems/diet.vipr']).claim
+    check(str(claim) == 'range 16/5 16/5' and claim.lower == claim.upper and claim.turned().lower == -claim.upper, claim)
+
+
+def causes():
+    """Each cause of the page of the format has its name."""
+    page = (TOP / 'docs/FORMAT.md').read_text()
+    named = {int(number): word for number, word in re.findall(r'^\| (\d+) \| ([A-Z]\w+) \|', page, re.M)}
+    check({int(it): it.word for it in vipr.Cause} == named, f'the causes are {list(vipr.Cause)}')
+    page = (TOP / 'docs/PYTHON.md').read_text()
+    named = {int(number): word for number, word in re.findall(r'^\| (\d+) \| ([A-Z]\w+) \|', page, re.M)}
+    check({int(it): it.word for it in mps.Cause} == named, f'the causes of MPS files are {list(mps.Cause)}')
+
+
+# ---- the commands
+
+def changes():
+    """The changes of tests/mps_changes.py: what is changed, both texts then, the lines to be printed, and the options."""
+    base = {'file': (TOP / 'examples/plan.mps').read_text(), 'certificate': (TOP / 'examples/plan.vipr').read_text()}
+    for what, side, old, new, printed, options in CHANGES:
+        text = base[side]
+        check(old in (None, '', '\n', 'BND') or text.count(old) == 1, f'{what}: the piece is not there once')
+        text = new if old is None else text.replace(old, new) if old else text
+        if side == 'certificate':
+            count = text[text.index('CON '):text.index('RTP')].count('\n') - 1
+            text = re.sub(r'CON \d+', f'CON {count}', text)
+        yield what, {**base, side: text}, printed, options
+
+
+def written_mps(problem):
+    """A certificate's problem as an MPS file, each bound a row but for the variables' signs."""
+    def decimal(value):
+        power = next((it for it in range(40) if (value * 10**it).denominator == 1), None)
+        if power is None:
+            raise ValueError
+        return f'{int(value * 10**power)}e-{power}'
+    columns = {at: [('obj', problem.objective.get(at, 0))] for at in range(len(problem.names))}
+    for at, it in enumerate(problem.constraints):
+        for index, value in it.row.items():
+            columns[index].append((f'r{at}', value))
+    out = ['NAME', 'OBJSENSE', f' {"MAX" if problem.maximizes else "MIN"}', 'ROWS', ' N obj']
+    out += [f' {it.sense} r{at}' for at, it in enumerate(problem.constraints)] + ['COLUMNS']
+    for at, name in enumerate(problem.names):
+        word = 'INTORG' if at in problem.integers else ''
+        out += [f" M 'MARKER' '{word}'"] if word else []
+        out += [f' {name.decode()} {row} {decimal(value)}' for row, value in columns[at]]
+        out += [" M 'MARKER' 'INTEND'"] if word else []
+    out += ['RHS', *(f' r{at} {decimal(it.bound)}' for at, it in enumerate(problem.constraints)), 'BOUNDS']
+    return '\n'.join([*out, *(f' FR {name.decode()}' for name in problem.names), 'ENDATA', '']).encode()
+
+
+def follows(wanted, conditions, whole):
+    """Whether one condition of some says as much as a condition: the definition, with no index over them."""
+    row, sense, bound = wanted
+    def rounded(row, sense, bound):
+        if row and whole(row):
+            return -(-bound.numerator // bound.denominator) if sense == 'G' else bound.numerator // bound.denominator
+        return bound
+    def says(condition):
+        if not condition[0] and ((condition[1] == 'G') == (condition[2] > 0)) and condition[2]:
+            return True
+        good, need = (rounded(condition[0], condition[1], condition[2]), rounded(row, sense, bound))
+        return condition[:2] == (row, sense) and (good >= need if sense == 'G' else good <= need)
+    return (not row and (bound <= 0 if sense == 'G' else bound >= 0)) or any(map(says, conditions))
+
+
+def halves(row, sense, bound):
+    return [(row, it, bound) for it in 'GL' if sense in ('E', it)]
+
+
+def random_pair(dice):
+    """An MPS file and a certificate of a few rows, mostly the same problem, and whether they are it by the definition."""
+    integers = dice.sample([0, 1], dice.randrange(3))
+    rows = [({j: dice.choice([1, -1, 2, 0.5]) for j in dice.sample([0, 1], dice.randrange(3))}, dice.choice('GLE'),
+             dice.choice([-1, 0, 0.5, 1, 2])) for _ in range(dice.randrange(4))]
+    other = [*rows]
+    for _ in range(dice.randrange(3)):
+        change = dice.randrange(4)
+        if change == 0 and other:
+            other.pop(dice.randrange(len(other)))
+        elif change == 1 and other:
+            at = dice.randrange(len(other))
+            other[at] = (other[at][0], other[at][1], other[at][2] + dice.choice([-1, -0.5, 0.5, 1]))
+        elif change == 2 and other:
+            other.append(dice.choice(other))
+        else:
+            other.append(({}, dice.choice('GL'), dice.choice([-1, 0, 1])))
+    exact = [[(tuple(sorted((j, vipr.certificate.Fraction(v)) for j, v in row.items())), sense, vipr.certificate.Fraction(bound))
+              for row, sense, bound in side] for side in (rows, other)]
+    def whole(row):
+        return all(j in integers and v.denominator == 1 for j, v in row)
+    conditions = [[half for it in side for half in halves(*it)] for side in exact]
+    same = all(follows(it, conditions[1 - at], whole) for at in (0, 1) for it in conditions[at])
+    problem = vipr.Problem([b'a', b'b'], set(integers), False, {}, 0,
+                           [vipr.Constraint(b'c', sense, bound, dict(row)) for row, sense, bound in exact[0]], vipr.Claim(True))
+    body = f'VER 1.0 VAR 2 a b INT {len(integers)} {" ".join(map(str, integers))} OBJ min 0 CON {len(other)} 0 '
+    body += ' '.join(f'c {sense} {bound} {len(row)} ' + ' '.join(f'{j} {v}' for j, v in row) for row, sense, bound in exact[1])
+    return written_mps(problem), f'{body} RTP infeas SOL 0 DER 0\n'.encode(), same
+
+
+def comparisons(dice):
+    for what, texts, printed, options in changes():
+        _, lines = compare_mps.compared(texts['file'].encode(), texts['certificate'].encode(), **options)
+        lines = [it for it in lines if not it.startswith('cause ')]
+        check(lines == printed, f'{what}: compare-mps prints {lines}, and the table has {printed}')
+    for path, text in EXAMPLES.items():
+        problem = vipr.read_problem(text)
+        try:
+            model = written_mps(problem)
+        except ValueError:
+            continue
+        check(compare_mps.compared(model, text, 'inf')[1] == [f'problem {problem.claim}'], f'{path.name} is not the same')
+    for _ in range(2000):
+        model, text, same = random_pair(dice)
+        status, lines = compare_mps.compared(model, text, 'inf')
+        check((status == 0) == same, f'{model.decode()}{text.decode()}{lines}')
+
+
+def figures():
+    for path, text in EXAMPLES.items():
+        status, out, _ = ran([PROGRAM, 'explain', path])
+        if status:
+            continue
+        found = stats.figures(vipr.read(text))
+        goal = re.search(r'^goal (\w+)', out.decode(), re.M)[1]
+        check(str(found['goal']) == goal.title().replace('None', 'None') or (goal == 'none' and found['goal'] is None),
+              f'{path.name}: goal {found["goal"]}, {goal}')
+        if found['goal'] is not None:
+            kept = re.match(rb'kept (\d+)', ran([PROGRAM, 'tighten', path])[2])[1]
+            check(found['needed_derivations'] == int(kept), f'{path.name}: {found["needed_derivations"]} needed, {kept} kept')
+    found = stats.figures(vipr.read(EXAMPLES[TOP / 'examples/overflow.vipr']))
+    check((found['written_bits'], found['computed_bits']) == (127, 128), found)
+    found = stats.figures(vipr.read(EXAMPLES[TOP / 'examples/branch_and_bound.vipr']))
+    check((found['by_reason'], found['assumption_depth'], found['objective_rows']) ==
+          ({'asm': 2, 'lin': 1, 'rnd': 1, 'uns': 1, 'sol': 0}, 1, 3), found)
+
+
+def drawn(text, boxes=picture.MOST_BOXES):
+    """A picture of a text, and how many boxes it has, of which style."""
+    svg = picture.Picture(vipr.read(text)).svg(boxes, picture.MOST_SPLITS)
+    root = xml.etree.ElementTree.fromstring(svg)
+    return svg, [it.get('class').split() for it in root.iter('{http://www.w3.org/2000/svg}g')]
+
+
+def pictures(texts):
+    for text in texts:
+        proof = vipr.read(text)
+        if isinstance(proof, vipr.Refusal):
+            continue
+        count, goal = len(proof.derivations), structure.goal(proof, structure.assumptions(proof))
+        boxes = drawn(text)[1]
+        if count <= picture.MOST_BOXES:
+            check(len(boxes) == count, f'{len(boxes)} boxes for {count} derivations')
+            is_drawn = goal is not None and goal >= len(proof.problem.constraints)
+            check(sum('goal' in it for it in boxes) == is_drawn, f'the goal {goal} is marked {boxes}')
+            needed = structure.needed(proof, goal)
+            spare = count - sum(it >= len(proof.problem.constraints) for it in needed) if goal is not None else 0
+            check(sum('spare' in it for it in boxes) == spare, f'{spare} are not needed: {boxes}')
+        drawn(text, 0)
+    check((TOP / 'docs/branch_and_bound.svg').read_text() == drawn(EXAMPLES[TOP / 'examples/branch_and_bound.vipr'])[0],
+          'docs/branch_and_bound.svg is another picture: python3 -m vipr.picture')
+
+
+def commands(room, words):
+    """Each command as a user has it: its help, a file that is missing, a damaged text, a name of a stranger, a large text."""
+    example = TOP / 'examples/branch_and_bound.vipr'
+    model = room / 'model.mps.gz'
+    model.write_bytes(gzip.compress(written_mps(vipr.read_problem(EXAMPLES[example]))))
+    faulty = room / 'faulty.vipr'
+    faulty.write_bytes(EXAMPLES[example].replace(b'CON 2', b'CONS 2'))
+    strange = room / 'strange.vipr'
+    strange.write_bytes(EXAMPLES[example].replace(b'left', b'\x1b[2J\xff<&>').replace(b'joined', b'"]]>\xe2\x80\xae\x07'))
+    front = {'compare-mps': [model], 'picture': [], 'stats': []}
+    for name in NAMES:
+        status, out, fault = ran([*words[name], '--help'])
+        check(status == 0 and b'usage: vipr-' in out and not fault, f'{name} --help: {out} {fault}')
+        status, out, fault = ran([*words[name], '--nothing'])
+        check(status == 2 and not out, f'{name} --nothing: {status} {out}')
+    for name, before in front.items():
+        status, out, fault = ran([*words[name], *before, room / 'missing.vipr'])
+        check((status, out) == (3, b'') and fault.endswith(b'missing.vipr: No such file or directory\n'), f'{name}: {fault}')
+        status, out, fault = ran([*words[name], *before, faulty])
+        check((status, out.split(b'\n')[0], fault) == (1, b'refused 2 at byte 42', b''), f'{name}: {status} {out} {fault}')
+        status, out, fault = ran([*words[name], *before, '-'], EXAMPLES[example])
+        check((status, fault) == (0, b'') and out, f'{name}: {status} {out} {fault}')
+        status, out, fault = ran([*words[name], *before, strange])
+        check(status == 0 and not fault and not set(out) & {*range(10), *range(11, 32), 127}, f'{name}: {out} {fault}')
+        status, out, fault = ran(['bash', '-c', '"$@" | true; echo "${PIPESTATUS[0]}"', 'sh', *words[name], *before, example])
+        check(out in (b'0\n', b'3\n') and not fault, f'{name} into a pipe that ends: {out} {fault}')
+    status, out, _ = ran([*words['compare-mps'], model, example])
+    check((status, out) == (0, b'problem range 1 1\n'), out)
+    status, out, _ = ran([*words['stats'], '--json', example])
+    check(json.loads(out)['goal'] == 6, out)
+    status, _, fault = ran([*words['picture'], example, '-o', room / 'no/picture.svg'])
+    check(status == 3 and b'No such file' in fault, fault)
+    (room / 'cut.mps.gz').write_bytes(model.read_bytes()[:60])
+    status, _, fault = ran([*words['compare-mps'], room / 'cut.mps.gz', example])
+    check(status == 3 and b'not unpacked' in fault, fault)
+
+
+def large(room, words):
+    """Each command on texts of 4 MB, whole and cut."""
+    for name, text in large_texts():
+        proof = agrees(text, f'{name} of 4 MB')
+        agrees(text[:-len(text) // 3], f'{name} of 4 MB, cut')
+        path = room / f'{name}.vipr'
+        path.write_bytes(text)
+        status, out, fault = ran([*words['stats'], '--json', path])
+        check(status == 0 and json.loads(out)['derivations'] == len(proof.derivations), f'{name}: {fault}')
+        status, out, fault = ran([*words['picture'], path])
+        check(status == 0 and xml.etree.ElementTree.fromstring(out) is not None, f'{name}: {fault}')
+        model = room / f'{name}.mps'
+        model.write_bytes(written_mps(proof.problem))
+        status, out, fault = ran([*words['compare-mps'], model, path, '--integers=inf'])
+        check((status, out) == (0, f'problem {proof.problem.claim}\n'.encode()), f'{name}: {out} {fault}')
+        with open(model, 'rb+') as file:
+            file.truncate(len(model.read_bytes()) // 2)
+        status, out, fault = ran([*words['compare-mps'], model, path])
+        check(status == 1 and out.startswith(b'refused 10'), f'{name}, cut: {out} {fault}')
+        path.unlink()
+
+
+def check_all(room, words):
+    folder = room / 'folder'
+    (folder / 'below').mkdir(parents=True)
+    plain, refused = EXAMPLES[TOP / 'examples/long_chain.vipr'], EXAMPLES[TOP / 'examples/overflow.vipr']
+    files = {'plain.vipr': (plain, 'verified'), 'below/a b.vipr.gz': (gzip.compress(plain), 'verified'),
+             'packed.vipr.xz': (lzma.compress(plain), 'verified'), 'refused.vipr': (refused, 'refused'),
+             'cut.vipr.xz': (lzma.compress(plain)[:3000], 'unpack'), 'no.vipr.gz': (plain, 'unpack'),
+             os.fsdecode(b'caf\xe9.vipr'): (plain, 'verified')}
+    for name, (text, _) in files.items():
+        (folder / name).write_bytes(text)
+    (folder / 'notes.txt').write_text('none')
+    run = [*words['check-all'], '--vipr', PROGRAM]
+    wanted = {str(folder / name): result for name, (_, result) in files.items()}
+    for flags in ([], ['--json']):
+        table = room / f'table{len(flags)}'
+        status, out, fault = ran([*run, *flags, '-o', table, folder])
+        check((status, out) == (1, b'') and fault == b'7 checked: 1 refused, 2 unpack, 4 verified\n', f'{status} {out} {fault}')
+        rows = [json.loads(it) if flags else dict(zip(('result', 'seconds', 'file', 'line'), it.split('\t')))
+                for it in table.read_text(errors='surrogateescape').splitlines()]
+        check({it['file']: it['result'] for it in rows} == wanted, rows)
+        (folder / 'more.vipr').write_bytes(plain)
+        status, _, fault = ran([*run, *flags, '--resume', '-o', table, folder])
+        check(status == 1 and fault == b'1 checked, 7 before: 1 verified\n', f'{status} {fault}')
+        (folder / 'more.vipr').unlink()
+    status, _, fault = ran([*run, '--memory', '1000', folder / 'plain.vipr'])
+    check(status == 0, fault)
+    (room / 'empty').mkdir()
+    for path, said in ((room / 'empty', b'0 checked: none\n'), (room / 'missing', b'1 checked: 1 unpack\n')):
+        status, _, fault = ran([*run, path])
+        check((status, fault) == (1, said), f'{path}: {status} {fault}')
+    status, out, fault = ran([*words['check-all'], '--vipr', 'no-such-program', folder])
+    check(status == 2 and b'there is no program' in fault and b'Traceback' not in fault, fault)
+
+
+def main():
+    dice = random.Random(20)
+    os.environ['PYTHONPATH'] = str(TOP / 'python')
+    os.environ['PYTHONDONTWRITEBYTECODE'] = '1'
+    with tempfile.TemporaryDirectory(prefix='vipr-python-') as name:
+        room = Path(name)
+        words = installed(room)
+        texts = reader(dice)
+        if library():
+            calls(texts[::3])
+        causes()
+        comparisons(dice)
+        figures()
+        pictures(texts)
+        commands(room, words)
+        check_all(room, words)
+        large(room, words)
+    print(f'python: {checks} checks, {failed} failed')
+    return 1 if failed else 0
+
+
+if __name__ == '__main__':
+    sys.exit(main())
