@@ -8,6 +8,7 @@
 # make house             checks the repository's text: laws, names, lengths, the tables and pages made from the files
 # make wrong             tries more wrong versions of the code, which the prover has to refuse (hours), CRATES=NAME those of one crate
 # make bench             times the program over certificates that a script makes, beside wc -w and cat
+# make help              prints these lines
 # make statement         writes docs/STATEMENT.md, docs/CONTRACTS.md, the crate graph, the man page and the completions anew
 RT ?= rt
 PYTHON ?= python3
@@ -35,10 +36,14 @@ INCLUDE = $(DESTDIR)$(PREFIX)/include
 INSTALLED_LIB = $(INCLUDE)/vipr.h $(LIB)/pkgconfig/vipr.pc \
 	$(foreach name,libvipr.a $(SHARED) $(SONAME) libvipr.so,$(LIB)/$(name))
 
-.PHONY: check test build install uninstall lib install-lib uninstall-lib house statement wrong bench
+.PHONY: help check test build install uninstall lib install-lib uninstall-lib house statement wrong bench
 
 # what the program is made from: check, install and bench build it if it isn't there or one of these is newer
 SOURCES = crates.txt $(shell find crates -name out -prune -o \( -name '*.rt' -o -name '*.antt' \) -print)
+
+# check and install use only the program that was proved and built here
+IS_BUILT = cd $(dir $(PROGRAM)) && sha256sum --status -c vipr.sha256 2> /dev/null || \
+	{ echo "$(PROGRAM) isn't the program that was proved and built here: say make build"; exit 1; }
 
 build:
 	@RT="$(RT)" $(PYTHON) tools/build.py && touch $(PROGRAM)
@@ -46,13 +51,18 @@ build:
 $(PROGRAM): $(SOURCES)
 	@RT="$(RT)" $(PYTHON) tools/build.py && touch $@
 
+help:
+	@sed -n '/^#/!q; s/^# //p' Makefile
+
 check: $(PROGRAM)
+	@($(IS_BUILT))
 	@$(PROGRAM) check "$(FILE)"
 
 test:
 	@RT="$(RT)" $(PYTHON) tests/all.py
 
 install: $(PROGRAM)
+	@($(IS_BUILT))
 	@install -D -m 755 $(PROGRAM) "$(BIN)/vipr"
 	@install -D -m 644 man/vipr.1 "$(SHARE)/man/man1/vipr.1"
 	@install -D -m 644 completions/vipr.bash "$(SHARE)/bash-completion/completions/vipr"

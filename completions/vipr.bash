@@ -5,7 +5,7 @@ _vipr() {
     COMPREPLY=()
     if [ "$COMP_CWORD" -eq 1 ]; then
         compopt +o bashdefault +o default 2> /dev/null
-        COMPREPLY=($(compgen -W "check explain show tighten -h --help -V --version" -- "$word"))
+        COMPREPLY=($(compgen -W "check explain show tighten help -h --help -V --version" -- "$word"))
         return
     fi
     # behind -- there are files alone
@@ -20,6 +20,7 @@ _vipr() {
         --profile) COMPREPLY=($(compgen -W "1 2" -- "$word")); return ;;
     esac
     case "${COMP_WORDS[1]}" in
+        help) [ "$COMP_CWORD" -eq 2 ] && compopt +o bashdefault +o default 2> /dev/null && COMPREPLY=($(compgen -W "check explain show tighten" -- "$word")); return ;;
         check) words="--profile -h --help" ;;
         explain) words="--profile --long -h --help" ;;
         show) words="--compact -h --help" ;;

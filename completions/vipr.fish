@@ -3,6 +3,8 @@ complete -c vipr -n __fish_use_subcommand -f -a check -d 'Checks a certificate a
 complete -c vipr -n __fish_use_subcommand -f -a explain -d 'Checks a certificate and prints the verdict with what shows it'
 complete -c vipr -n __fish_use_subcommand -f -a show -d 'Writes a certificate\'s canonical text'
 complete -c vipr -n __fish_use_subcommand -f -a tighten -d 'Writes a verified certificate without what its proof doesn\'t need'
+complete -c vipr -n __fish_use_subcommand -f -a help -d 'Prints help of a command'
+complete -c vipr -n '__fish_seen_subcommand_from help' -f -a 'check explain show tighten'
 complete -c vipr -n __fish_use_subcommand -f -s h -l help -d 'Print help'
 complete -c vipr -n __fish_use_subcommand -f -s V -l version -d 'Print version'
 complete -c vipr -n '__fish_seen_subcommand_from check' -l profile -x -a '1 2' -d 'The profile of the rules, 1 or 2; 1 if absent'

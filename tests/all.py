@@ -7,7 +7,7 @@ First `rt ci`: every proof, the must-fail edits, the tests. A kit whose `rt ci` 
 run of it passed on this machine, and nothing with --anew; other kits prove everything each time, and --anew isn't handed
 on to them. Then each script of SCRIPTS, which counts as one. Prints
 what each took, and what of the processor time went into each crate's proof, tests and edits, found by looking at the
-processes once a second. The last line is `N passed, M failed`; the exit status is 1 if one failed. `tests/gate.py`
+processes once a second. The last line is `N passed, M failed`, below the SHA-256 of the program and of the libraries; the exit status is 1 if one failed. `tests/gate.py`
 makes a page of this output.
 """
 import datetime
@@ -20,6 +20,8 @@ import threading
 import time
 from collections import defaultdict
 from pathlib import Path
+
+import proved
 
 TOP = Path(__file__).resolve().parent.parent
 RT = os.environ.get('RT', 'rt')
@@ -151,6 +153,9 @@ def timed(words):
 
 
 def main():
+    if proved.without_toolchain():
+        print(proved.without_toolchain())
+        return 2
     print(*machine(), sep='\n', flush=True)
     with Watch() as watch:
         last, status = timed(ci_words())
@@ -158,12 +163,20 @@ def main():
     counted = re.fullmatch(r'(\d+) passed, (\d+) failed', last)
     passed, failed = map(int, counted.groups()) if counted else (0, 1)
     failed += bool(status and not failed)
+    if not status:
+        proved.write_sum(TOP)
     for script in SCRIPTS:
         _, status = timed([sys.executable, *script])
         passed, failed = passed + (status == 0), failed + (status != 0)
+    for file in [TOP / 'crates/vipr/out/vipr', *sorted((TOP / 'crates/vipr_c/out').glob('libvipr.*'))]:
+        if file.is_file():
+            print(f'sha256 {proved.sum_of(file)} {file.name}')
     print(f'{passed} passed, {failed} failed')
     return 1 if failed else 0
 
 
 if __name__ == '__main__':
-    sys.exit(main())
+    try:
+        sys.exit(main())
+    except KeyboardInterrupt:
+        sys.exit('stopped')

@@ -4,8 +4,8 @@
 usage: (make build; python3 tests/all.py --anew) > LOG 2>&1     in a clone without a build
        tests/gate.py LOG [BUILD ..]
 
-If LOG has no `make build`, BUILD is the log of one, with the line `commit: ..` of the commit that was built. Each BUILD may
-also have the yardstick alone, in the line that `make build` prints of it (`[1 of 1] vipr_spec 24 s, 41 s of processor
+If LOG has no `make build`, BUILD is the log of one, with the line `commit: ..` of the commit that was built. It may be the
+log of `make lib` or `make wrong`, too. Each BUILD may also have the yardstick alone, in the line that `make build` prints of it (`[1 of 1] vipr_spec 24 s, 41 s of processor
 time`): that is what `time rt lib --jobs 2` takes in its folder, just before LOG and just after it. All are written, in
 the order of the logs. The exit status is 1, and nothing is written, if LOG has no whole run of `make test`.
 """
@@ -37,6 +37,9 @@ class Run:
         self.built = {crate: (number(wall), number(spent)) for crate, wall, spent in re.findall(
             r'^\[\d+ of \d+\] (\w+) (\d+) s, (\d+) s of processor time', text, re.M)}
         self.build = re.search(r'^built: ([\d.]+) minutes, ([\d.]+) of processor time$', text, re.M)
+        self.sums = re.findall(r'^sha256 ([0-9a-f]{64}) (\S+)$', text, re.M)
+        self.others = {name: (number(wall), number(spent)) for name, wall, spent in re.findall(
+            r'^(make (?:lib|wrong)): ([\d.]+) minutes, ([\d.]+) of processor time$', text, re.M)}
         self.crates = {crate: tuple(map(number, rest)) for crate, *rest in re.findall(
             r'^(\w+): proof ([\d.]+), tests ([\d.]+), edits ([\d.]+) minutes of processor time$', text, re.M)}
         self.steps = [(name, number(wall), number(spent)) for name, wall, spent in re.findall(
@@ -54,8 +57,9 @@ class Run:
         self.edits += f', {sample[-1][0]} of {sum(map(int, sample[-1]))} tried of `wrong/`' if sample else ''
 
     def take(self, other):
-        """Takes the yardstick of another log, and its first build if this one has none."""
+        """Takes the yardstick of another log, and the commands that this one hasn't."""
         self.yardsticks += other.yardsticks
+        self.others = {**other.others, **self.others}
         if other.build and not self.build:
             self.built, self.build, self.built_commit = other.built, other.build, other.built_commit
 
@@ -72,6 +76,7 @@ def page(run):
     lines = ['| Run | |', '|---|---|', row('Day', run.said.get('date', '')), row('Commit', f'`{run.said.get("commit", "")}`'),
              row('Kit', f'`{run.said.get("kit", "")}`'), row('Machine', run.said.get('machine', '')),
              row('Result', f'`{run.result}`'), row('Wrong versions refused', run.edits), row('Proved here', run.share)]
+    lines += [row(f'SHA-256 of `{name}`', f'`{digits}`') for digits, name in run.sums]
     if run.yardsticks:
         took = '; then '.join(f'{wall:.0f} seconds, {spent:.0f} of processor time' for wall, spent in run.yardsticks)
         lines.append(row('Yardstick', f'the build of `{YARDSTICK}`: {took}'))
@@ -87,6 +92,7 @@ def page(run):
         lines.append(row('`make build`', 'not in this run', ''))
     lines.append(row('`make test`', *[sum(step[at] for step in run.steps) for at in (1, 2)]))
     lines += [row(f'its step `{name}`', wall, spent) for name, wall, spent in run.steps]
+    lines += [row(f'`{name}`', *run.others.get(name, ('not in this run', ''))) for name in ('make lib', 'make wrong')]
     lines += ['', 'The same by crates, in processor minutes. `make test` proves a crate with its tests once more. It also proves a '
               'crate with wrong versions once more before it tries those, which counts with them here.', '',
               '| Crate | `make build` | `make test`: proof | tests | wrong versions |', '|---|---|---|---|---|']

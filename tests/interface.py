@@ -23,6 +23,8 @@ import tempfile
 import threading
 from pathlib import Path
 
+import proved
+
 TOP = Path(__file__).resolve().parent.parent
 WORDS = [word for word in sys.argv[1:] if word != '--write']
 PROGRAM = Path(WORDS[0] if WORDS else TOP / 'crates/vipr/out/vipr').resolve()
@@ -85,7 +87,7 @@ def program():
 
 
 def bash(commands, options):
-    top = ' '.join([c.name for c in commands] + [flag for flags, _ in options for flag in flags])
+    top = ' '.join([*(c.name for c in commands), 'help'] + [flag for flags, _ in options for flag in flags])
     lines = ['# Completion of vipr for bash. Made by tests/interface.py from the program\'s help.',
              '# Files are completed by bash itself, also names with spaces.',
              '_vipr() {',
@@ -112,6 +114,8 @@ def bash(commands, options):
                   for flag, values in sorted(valued.items())]
         lines.append('    esac')
     lines.append('    case "${COMP_WORDS[1]}" in')
+    lines.append(f'        help) [ "$COMP_CWORD" -eq 2 ] && compopt +o bashdefault +o default 2> /dev/null && '
+                 f'COMPREPLY=($(compgen -W "{" ".join(it.name for it in commands)}" -- "$word")); return ;;')
     for command in commands:
         lines.append(f'        {command.name}) words="{" ".join(flag for flags, _, _ in command.flags() for flag in flags)}" ;;')
     lines += ['    esac',
@@ -131,7 +135,7 @@ def zsh(commands, options):
     lines = ['#compdef vipr', '# Completion of vipr for zsh. Made by tests/interface.py from the program\'s help.',
              'local -a commands', 'commands=(']
     lines += [f"    '{command.name}:{zsh_words(command.about)}'" for command in commands]
-    lines += [')', 'if (( CURRENT == 2 )); then', "    _describe command commands",
+    lines += ["    'help:Prints help of a command'", ')', 'if (( CURRENT == 2 )); then', "    _describe command commands",
               '    compadd -- ' + ' '.join(flag for flags, _ in options for flag in flags), '    return', 'fi',
               'local command="$words[2]"', 'shift words', '(( CURRENT-- ))', 'case "$command" in']
     for command in commands:
@@ -141,6 +145,7 @@ def zsh(commands, options):
                  for flags, value, about in command.flags() for flag in flags]
         files = ["'1:file:_files'"] if command.arguments else []
         lines.append(f'    {command.name}) _arguments {" ".join(flags + files)} ;;')
+    lines.append(f"    help) _arguments '1:command:({' '.join(command.name for command in commands)})' ;;")
     return '\n'.join(lines + ['esac']) + '\n'
 
 
@@ -155,6 +160,9 @@ def fish(commands, options):
     lines = ['# Completion of vipr for fish. Made by tests/interface.py from the program\'s help.']
     for command in commands:
         lines.append(f'complete -c vipr -n __fish_use_subcommand -f -a {command.name} -d {quote(command.about)}')
+    lines.append("complete -c vipr -n __fish_use_subcommand -f -a help -d 'Prints help of a command'")
+    names = ' '.join(command.name for command in commands)
+    lines.append(f"complete -c vipr -n '__fish_seen_subcommand_from help' -f -a '{names}'")
     for flags, about in options:
         lines.append('complete -c vipr -n __fish_use_subcommand -f ' + fish_flags(flags) + f' -d {quote(about)}')
     for command in commands:
@@ -246,6 +254,8 @@ TYPED = [
     ('vipr tighten two\t--out pla\t', ['tighten', 'two words.vipr', '--out', 'plain.vipr']),
     ('vipr tighten --out=two\t', ['tighten', '--out=two words.vipr']),
     ('vipr plain\t', ['plain']),
+    ('vipr he\tti\t', ['help', 'tighten']),
+    ('vipr help plain\t', ['help', 'plain']),
 ]
 
 
@@ -322,10 +332,19 @@ def helped(names):
 
 def installation():
     """`make install` puts each file in its place, and `make uninstall` takes them all away."""
-    with tempfile.TemporaryDirectory() as name:
+    with tempfile.TemporaryDirectory() as name, tempfile.TemporaryDirectory() as room:
+        program = Path(room) / 'vipr'
+        shutil.copy(PROGRAM, program)
+        words = ['make', '--no-print-directory', '-o', str(program), f'PROGRAM={program}', f'PREFIX={name}']
+        for wrong in ('', f'{"0" * 64}  vipr\n'):
+            program.with_name('vipr.sha256').write_text(wrong)
+            for target in ('install', 'check'):
+                done = subprocess.run([*words, target], cwd=TOP, capture_output=True, text=True, check=False)
+                check(done.returncode and "isn't the program" in done.stdout and not any(Path(name).iterdir()),
+                      f'make {target} takes another program: {done.stdout}')
+        program.with_name('vipr.sha256').write_text(f'{proved.sum_of(program)}  vipr\n')
         for target in ('install', 'uninstall'):
-            words = ['make', '--no-print-directory', '-o', str(PROGRAM), target, f'PROGRAM={PROGRAM}', f'PREFIX={name}']
-            done = subprocess.run(words, cwd=TOP, capture_output=True, text=True, check=False)
+            done = subprocess.run([*words, target], cwd=TOP, capture_output=True, text=True, check=False)
             check(done.returncode == 0, f'make {target}: {done.stdout}{done.stderr}')
             there = sorted(str(path.relative_to(name)) for path in Path(name).rglob('*') if path.is_file())
             pages = [it for it in there if it.startswith(DOC)]
@@ -384,7 +403,7 @@ def main():
         there = path.read_text() if path.is_file() else ''
         check(there == text, f'{path.relative_to(TOP)} is not what the help gives (tests/interface.py --write)')
     names = sorted(command.name for command in commands)
-    check(completed(['vipr', '']) == sorted(names + [flag for flags, _ in options for flag in flags]),
+    check(completed(['vipr', '']) == sorted([*names, 'help'] + [flag for flags, _ in options for flag in flags]),
           f'bash completes a first word to {completed(["vipr", ""])}')
     for name in names:
         check(completed(['vipr', name[:-1]]) == [name], f'bash completes {name[:-1]} to {completed(["vipr", name[:-1]])}')

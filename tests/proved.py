@@ -17,6 +17,25 @@ RT = os.environ.get('RT', 'rt')
 PARTS = ('src', 'specs', 'proofs')
 
 
+def without_toolchain():
+    """What to say if the toolchain isn't on the path, and nothing if it is."""
+    if shutil.which(RT):
+        return ''
+    return (f"'{RT}' isn't on the path. vipr is written in Rattle (Rust with contracts); the Rattle kit proves and builds it:\n"
+            'README.md, "Install and use", says what it is. RT=/path/to/rt make .. names another command.')
+
+
+def sum_of(file):
+    """The SHA-256 of a file, as `sha256sum` prints it."""
+    return hashlib.sha256(file.read_bytes()).hexdigest()
+
+
+def write_sum(top):
+    """Writes the SHA-256 of the program that was proved and built beside it: `make check` and `make install` use no other."""
+    program = top / 'crates/vipr/out/vipr'
+    program.with_name('vipr.sha256').write_text(f'{sum_of(program)}  vipr\n')
+
+
 def texts(crate):
     return [it for part in PARTS for it in (crate / part).rglob('*') if it.is_file()]
 
@@ -47,8 +66,7 @@ def stamp(copy):
             (rlib.parent / 'stamp').write_text(crate.stamp())
         if crate.is_program and program.is_file():
             rt.read_files(crate)
-            sum_of = hashlib.sha256(program.read_bytes()).hexdigest()
-            program.with_suffix('.stamp').write_text(crate.stamp() + sum_of)
+            program.with_suffix('.stamp').write_text(crate.stamp() + sum_of(program))
 
 
 def take_over(top, copy):

@@ -5,12 +5,11 @@ usage: tools/build.py
 
 A crate begins once those below it are built; two of which neither is below the other are built side by side, if there are
 four cores and 8 GB of memory free. What was proved before isn't proved again. The program is crates/vipr/out/vipr
-afterwards. RT names the command of the toolchain, `rt` without it. The exit status is 1 if a crate isn't proved or
+afterwards, with its SHA-256 in vipr.sha256 beside it. RT names the command of the toolchain, `rt` without it. The exit status is 1 if a crate isn't proved or
 can't be built; its output is printed.
 """
 import os
 import re
-import shutil
 import subprocess
 import sys
 import threading
@@ -143,15 +142,21 @@ class Build:
 
 
 def main():
-    if shutil.which(RT) is None:
-        print(f"'{RT}' isn't on the path. vipr is written in Rattle (Rust with contracts); the Rattle kit proves and builds it:\n"
-              'README.md, "Install and use", says what it is. RT=/path/to/rt make check names another command.')
+    missing = proved.without_toolchain()
+    if missing:
+        print(missing)
         return 1
     start, build = time.monotonic(), Build()
     if not (TOP / 'crates' / PROGRAM / 'out' / PROGRAM).is_file():
         say(f'Every function of {len(build.below)} crates is proved before the program is built. That is done once, and takes\n'
             '4 GB of memory or more; docs/GATE.md says how long it took.')
-    well = build.all()
+    try:
+        well = build.all()
+    except KeyboardInterrupt:
+        say('stopped: what is proved stays so, and make build goes on from there')
+        return 130
+    if well:
+        proved.write_sum(TOP)
     if well and build.spoke:
         say(f'built: {(time.monotonic() - start) / 60:.1f} minutes, {build.seconds / 60:.1f} of processor time')
     return 0 if well else 1

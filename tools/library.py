@@ -10,13 +10,18 @@ name other commands. The exit status is 1 if one is missing or fails.
 """
 import os
 import re
+import resource
 import shutil
 import subprocess
 import sys
 import tempfile
+import time
 from pathlib import Path
 
 TOP = Path(__file__).resolve().parent.parent
+sys.path.insert(0, str(TOP / 'tests'))
+import proved  # noqa: E402
+
 TOOLS = {name: os.environ.get(name.upper()) or name for name in ('rt', 'cc', 'ld', 'objcopy', 'ar', 'nm')}
 
 
@@ -69,16 +74,22 @@ def make(folder, version):
 
 
 def main():
+    if proved.without_toolchain():
+        print(proved.without_toolchain())
+        return 1
     missing = [word for word in TOOLS.values() if not shutil.which(word)]
     if missing or len(sys.argv) < 2:
         print(f'not on the path: {", ".join(missing)}' if missing else 'usage: tools/library.py VERSION [FOLDER]')
         return 1
     folder = Path(sys.argv[2]) if len(sys.argv) > 2 else TOP / 'crates/vipr_c/out'
+    start = time.monotonic()
     try:
         make(folder, sys.argv[1])
     except Failed as fault:
         print(fault)
         return 1
+    usage = resource.getrusage(resource.RUSAGE_CHILDREN)
+    print(f'make lib: {(time.monotonic() - start) / 60:.1f} minutes, {(usage.ru_utime + usage.ru_stime) / 60:.1f} of processor time')
     return 0
 
 

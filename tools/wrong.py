@@ -22,10 +22,12 @@ import datetime
 import hashlib
 import os
 import re
+import resource
 import shutil
 import subprocess
 import sys
 import tempfile
+import time
 from concurrent.futures import ThreadPoolExecutor
 from pathlib import Path
 
@@ -246,8 +248,12 @@ def main(words):
     if '--sample' in words and not (len(words) == 2 and words[0] == '--sample' and words[1].isdigit() and int(words[1])):
         print(__doc__.split('\n\n')[1])
         return 2
+    if proved.without_toolchain():
+        print(proved.without_toolchain())
+        return 2
     rt = proved.toolchain()
     rt.rtlib.guarded()
+    start = time.monotonic()
     with tempfile.TemporaryDirectory(prefix='vipr-wrong-') as room:
         is_sample = words[:1] == ['--sample']
         crates = {it.name: it for it in rt.rtlib.crates_below(str(copied(room) if is_sample else TOP))}
@@ -276,6 +282,9 @@ def main(words):
     lost = [name for name, refused in results if not refused]
     if not words:
         record(results)
+        usage = resource.getrusage(resource.RUSAGE_CHILDREN)
+        print(f'make wrong: {(time.monotonic() - start) / 60:.1f} minutes, '
+              f'{(usage.ru_utime + usage.ru_stime) / 60:.1f} of processor time')
     for name in lost:
         print(f'not refused: {name}')
     print(f'{len(results) - len(lost)} refused, {len(lost)} not')
