@@ -17,7 +17,7 @@ ghost use Rattle.vipr_check.specs.Shown.{detail_of, state_shown};
 use crate::cause;
 use crate::detail::{Detail, of_halt};
 use crate::halt::{Finding, Halt, Stop};
-use crate::so_far::Progress;
+use crate::progress::Progress;
 use crate::verdict::Report;
 use std::alloc::{AllocError, Global};
 use std::marker::Model;
@@ -231,31 +231,14 @@ impl<S: Rows> Checker<S> {
         }
     }
 
-    /// Checks the next derivation and takes its constraint, or its name if it is refused, so that
-    /// nothing of it is cloned.
+    /// Checks the next derivation, and takes its constraint out of it, or its name if it is
+    /// refused. So nothing is cloned, and the next derivation can be read into `step`.
     ///
     /// # Errors
     ///
     /// The refusal with the first cause that the derivation has, or want of memory for its rule or
     /// its constraint. A refusal needs no memory.
-    pub fn take(&mut self, alloc: Global, step: Derivation) -> Result<(), Stop>
-        requires phase { self.old.in_solutions ≡ false }
-        requires room { self.old.progress.rows.next + 1 < 2 ^ 32 }
-        requires names { NamesBelow (variables self.old.progress.problem)
-            (at step.constraint.row) }
-        ensures again { Repeats self.old self.new result }
-        ensures next { (c : Certificate) → self.old.halt ≡ None → HasSteps c self.old.progress
-            → TakesStep c (derivation_of step) self.old self.new result }
-    {
-        let mut step = step;
-        let outcome = self.take_from(alloc, &mut step);
-        drop(step);
-        outcome
-    }
-
-    /// Checks the next derivation and takes its constraint, or its name if it is refused. Another
-    /// one can be read in the place of `step` then.
-    pub(crate) fn take_from(&mut self, alloc: Global, step: &mut Derivation) -> Result<(), Stop>
+    pub fn take_from(&mut self, alloc: Global, step: &mut Derivation) -> Result<(), Stop>
         requires phase { self.old.in_solutions ≡ false }
         requires room { self.old.progress.rows.next + 1 < 2 ^ 32 }
         requires names { NamesBelow (variables self.old.progress.problem)
