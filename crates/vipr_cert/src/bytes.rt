@@ -41,7 +41,7 @@ impl NameBytes {
         }
     }
 
-    // The same, for bytes that don't go where those before were.
+    // Makes it these bytes, which don't go where those before were.
     #[inline(never)]
     fn set_anew(&mut self, alloc: Global, bytes: &[u8]) -> Result<(), AllocError>
         ensures bytes { OnOk result (name_bytes self.new ≡ bytes.now) }

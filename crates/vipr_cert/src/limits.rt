@@ -1,5 +1,5 @@
 //! Tests of the format's limits, and what the types of the parts promise of their numbers.
-ghost use Rattle.std.specs.Prelude.{◌↔◌, ℕ, ◌+◌, ◌<◌, ◌≤◌, All, IfSome, IsTrue, map};
+ghost use Rattle.std.specs.Prelude.{◌↔◌, ℕ, ◌<◌, ◌≤◌, All, IfSome, IsTrue, map};
 ghost use Rattle.vipr_spec.specs.Constraint.{IsInteger};
 ghost use Rattle.vipr_spec.specs.Fraction.{IsBounded};
 ghost use Rattle.vipr_spec.specs.Tokens.{IsToken};
@@ -92,7 +92,7 @@ impl NamesVariables for Derivation {
     fn is_within(&self, n: u32) -> bool {
         let Constraint { row, rhs, .. } = &self.constraint;
         let (_, _, _) = (self.name.as_bytes(), row.entries(), rhs.denom());
-        reference(self.last);
+        reference_fits(self.last);
         is_short(&self.reason) && row.names_below(n)
     }
 }
@@ -131,17 +131,17 @@ fn is_short(reason: &Reason) -> bool
 {
     match reason.references() {
         References::Entries(sum) => {
-            entries(sum);
+            entries_fit(sum);
             is_count(sum.len())
         }
         References::Nothing | References::Branches { .. } => true,
     }
 }
 
-// ---- What the types promise. Nothing is computed.
+// ---- What the types of the parts promise; there is nothing to compute.
 
-/// Names are tokens.
-pub(crate) fn names(names: &[Name])
+/// Each name is a token.
+pub(crate) fn names_are_tokens(names: &[Name])
     ensures { All IsToken names.now }
 {
     for name in names {
@@ -150,16 +150,16 @@ pub(crate) fn names(names: &[Name])
 }
 
 /// The bounds of a claim are bounded.
-pub(crate) fn claim(claim: &Claim)
+pub(crate) fn claim_fits(claim: &Claim)
     ensures { ClaimFits (claim_of claim.now) }
 {
     if let Claim::Range(lower, upper) = claim {
-        bound(*lower);
-        bound(*upper);
+        bound_fits(*lower);
+        bound_fits(*upper);
     }
 }
 
-fn bound(bound: Option<Frac>)
+fn bound_fits(bound: Option<Frac>)
     ensures { IfSome bound IsBounded }
 {
     if let Some(x) = bound {
@@ -167,7 +167,7 @@ fn bound(bound: Option<Frac>)
     }
 }
 
-fn reference(last: Option<u32>)
+fn reference_fits(last: Option<u32>)
     ensures { IfSome last (λ i. i ≤ most_count) }
 {
     if let Some(i) = last {
@@ -175,17 +175,17 @@ fn reference(last: Option<u32>)
     }
 }
 
-fn entry(entry: &(u32, Frac))
+fn entry_fits(entry: &(u32, Frac))
     ensures { EntryFits entry.now }
 {
     let (_index, multiplier) = *entry;
     let _ = multiplier.denom();
 }
 
-fn entries(entries: &[(u32, Frac)])
+fn entries_fit(entries: &[(u32, Frac)])
     ensures { All EntryFits entries.now }
 {
     for each in entries {
-        entry(each);
+        entry_fits(each);
     }
 }

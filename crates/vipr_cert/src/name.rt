@@ -2,7 +2,7 @@
 //!
 //! A [`Name`] is the bytes of a token: between 1 and 65,535, of which none is white space. They
 //! need not be text. A name of at most 30 bytes takes no memory of its own.
-ghost use Rattle.std.specs.Prelude.{◌≡◌, ◌↔◌, ◌≤◌, ℕ, List, ◌∷◌, [], length};
+ghost use Rattle.std.specs.Prelude.{◌≡◌, ◌↔◌, ℕ, List, ◌∷◌, []};
 ghost use Rattle.std.specs.Prelude.{IsOk, IfOk, OnOk, OnErr, IsTrue};
 ghost use Rattle.bstr.specs.Owned.{bstring_bytes};
 ghost use Rattle.bstr.specs.Show.{debug_text};

@@ -4,7 +4,7 @@
 //! constraints and a claim. Variables and constraints are known by their index, from 0. `new` tests
 //! the limits of the format. `of_parts` tests nothing, and its caller proves that the parts are
 //! within them.
-ghost use Rattle.std.specs.Prelude.{◌≡◌, ◌↔◌, ◌≤◌, ℕ, All, IsOk, IfOk, IsTrue, map};
+ghost use Rattle.std.specs.Prelude.{◌≡◌, ◌↔◌, ℕ, All, IsOk, IfOk, IsTrue, map};
 ghost use Rattle.vipr_spec.specs.Certificate.{Problem as Meant, integer_variables};
 ghost use Rattle.vipr_spec.specs.Shape.{ProblemShape, CanWriteProblem, RowFits, ConstraintFits};
 ghost use Rattle.vipr_linear.specs.Constraint.{constraint_of};
@@ -66,7 +66,7 @@ impl Problem {
         ensures parts { IfOk result
             (λ p. p ≡ problem_with names.items ints sense objective cons.items bound_count claim) }
     {
-        limits::claim(&claim);
+        limits::claim_fits(&claim);
         if !are_within(&names, &ints, &objective, &cons) {
             drop(objective);
             drop(ints);
@@ -173,7 +173,7 @@ fn are_within(names: &[Name], ints: &Ints, objective: &Row, cons: &[Named<Constr
     ensures constraints { IsTrue result
         → All (λ c. ConstraintFits c.item) (map (named_of constraint_of) cons.now) }
 {
-    limits::names(names);
+    limits::names_are_tokens(names);
     let _ = objective.entries();
     if !limits::is_count(names.len()) {
         return false;

@@ -62,7 +62,7 @@ fn after_problem<R: Source + Drop, S: Rows>(
 {
     match Checker::new_in(alloc, profile, problem) {
         Ok(mut checker) => {
-            let outcome = after_solutions(alloc, &mut checker, solutions);
+            let outcome = check_solutions(alloc, &mut checker, solutions);
             (outcome, Some(checker))
         }
         Err(_) => {
@@ -72,8 +72,8 @@ fn after_problem<R: Source + Drop, S: Rows>(
     }
 }
 
-// The report, if the checker took all solutions so far.
-fn after_solutions<R: Source + Drop, S: Rows>(
+// Takes all solutions and all derivations, and gives the report.
+fn check_solutions<R: Source + Drop, S: Rows>(
     alloc: Global,
     checker: &mut Checker<S>,
     mut solutions: Solutions<R>,
@@ -143,7 +143,7 @@ fn after_last_solution<R: Source + Drop, S: Rows>(
     match checker.end_solutions() {
         Ok(()) => {
             let derivations = solutions.finish()?;
-            after_steps(alloc, checker, derivations)
+            check_derivations(alloc, checker, derivations)
         }
         Err(stop) => {
             drop(solutions);
@@ -152,8 +152,8 @@ fn after_last_solution<R: Source + Drop, S: Rows>(
     }
 }
 
-// The report, if the checker took all derivations so far.
-fn after_steps<R: Source + Drop, S: Rows>(
+// Takes all derivations, and gives the report.
+fn check_derivations<R: Source + Drop, S: Rows>(
     alloc: Global,
     checker: &mut Checker<S>,
     mut derivations: Derivations<R>,

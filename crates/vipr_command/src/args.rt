@@ -27,7 +27,6 @@ pub fn job<'a>(alloc: Global, words: &'a [&'a str]) -> Result<Job<'a>, Error>
 {
     let mut line = command_line(alloc)?;
     let read = job_by(alloc, &mut line, words);
-    // Dropped at this one place, whatever was read.
     drop(line);
     read
 }
@@ -57,7 +56,6 @@ fn job_by<'a>(
     let is_long = is_long_asked(inner.get_str("long"));
     let file = file_named(inner.get_str("file"));
     let out = file_named(inner.get_str("out"));
-    // Dropped at this one place, whatever the profile is.
     drop(matches);
     let Some(profile) = profile_named(word) else {
         return Err(no_profile(alloc, commands, name, word)?);

@@ -7,9 +7,9 @@ ghost use Rattle.vipr_command.specs.Run.{unknown_input};
 
 use crate::args::job;
 use crate::check::print_verdict;
+use crate::explain_long::explain_job;
 use crate::fault::CommandFault;
 use crate::host::Host;
-use crate::length::explain_job;
 use crate::line::{say, say_at_length};
 use crate::output::print;
 use crate::request::{Job, Task};

@@ -27,7 +27,6 @@ pub fn print_explanation<R: Source + Drop, O: Sink>(
         detail: &detail,
     };
     let printed = print(alloc, &explanation, out);
-    // Dropped at this one place, whatever print answers.
     drop(detail);
     printed?;
     Ok(status_of(&verdict))

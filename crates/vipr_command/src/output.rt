@@ -20,7 +20,6 @@ pub fn print<T: Display, W: Sink>(
 {
     let text = text.to_string(alloc)?;
     let written = write_bytes(writer, text.as_bytes());
-    // Dropped at this one place, whatever was written.
     drop(text);
     written?;
     Ok(())

@@ -110,7 +110,7 @@ fn add_short(sum: &mut Partial, p: i128, q: u64) -> bool
     add_words(sum, p as i64, q)
 }
 
-// The same of a word.
+// Adds a fraction of words to a sum, if all numbers on the way are words of 64 bits.
 #[inline(always)]
 fn add_words(sum: &mut Partial, r: i64, s: u64) -> bool
     requires some { 0 < s }
@@ -145,7 +145,8 @@ fn put_sum(sum: &mut Partial, p: i64, q: u64, r: i64, s: u64) -> bool
     }
 }
 
-// The same where the first denominator divides the other more often than not.
+// Puts the sum of two fractions that aren't whole. The first denominator divides the other more
+// often than not.
 #[inline(never)]
 fn put_mixed(sum: &mut Partial, p: i64, q: u64, r: i64, s: u64) -> bool
     requires left { IsWordDenom q }

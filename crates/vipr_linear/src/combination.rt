@@ -140,7 +140,7 @@ impl Combination {
         if multiplier.is_zero() {
             return Ok(());
         }
-        match add_multiple(&mut self.places, &mut self.rhs, constraint, multiplier) {
+        match add_constraint(&mut self.places, &mut self.rhs, constraint, multiplier) {
             Ok(()) => {
                 self.sense = sense;
                 Ok(())
@@ -159,7 +159,9 @@ impl Combination {
             ↔ Dominates (held_condition self.old) (condition_of other.now) }
         ensures kept { self.new ≡ self.old }
     {
-        dominate(&self.places, self.sense, self.rhs.value(), other)
+        let bound = self.rhs.value();
+        say_as_much(&self.places, self.sense, bound, other)
+            || are_absurd(&self.places, self.sense, bound)
     }
 
     /// Whether the sum has the row of a constraint, whose coefficients are whole and at integer
@@ -171,7 +173,13 @@ impl Combination {
             → DominatesRounded (held_condition self.old) (condition_of other.now) }
         ensures kept { self.new ≡ self.old }
     {
-        round_to(&self.places, self.sense, self.rhs.value(), ints, other)
+        match rounded_rhs(self.sense, self.rhs.value()) {
+            Some(rounded) => {
+                say_as_much(&self.places, self.sense, rounded, other)
+                    && is_whole_row(&other.row, ints)
+            }
+            None => false,
+        }
     }
 
     /// Gives the sum, and makes it empty. After an error it is spent.
@@ -243,33 +251,8 @@ fn say_as_much(places: &Places, sense: Sense, bound: Frac, other: &Constraint) -
         && places.are_row(&other.row)
 }
 
-// Whether sums with this sense and this right-hand side dominate a constraint.
-fn dominate(places: &Places, sense: Sense, bound: Frac, other: &Constraint) -> bool
-    ensures { IsTrue result
-        ↔ Dominates (summed_condition places.now (sense_of sense) bound) (condition_of other.now) }
-{
-    say_as_much(places, sense, bound, other) || are_absurd(places, sense, bound)
-}
-
-// Whether sums with this sense have a constraint's row, which is whole, and say as much once this
-// right-hand side is rounded.
-fn round_to(places: &Places, sense: Sense, bound: Frac, ints: &Ints, other: &Constraint) -> bool
-    ensures whole { IsTrue result
-        → IsWholeRow ints.now (summed_condition places.now (sense_of sense) bound).row }
-    ensures dominates { IsTrue result
-        → DominatesRounded (summed_condition places.now (sense_of sense) bound)
-        (condition_of other.now) }
-{
-    match rounded_rhs(sense, bound) {
-        Some(rounded) => {
-            say_as_much(places, sense, rounded, other) && is_whole_row(&other.row, ints)
-        }
-        None => false,
-    }
-}
-
 // Adds the multiple of a constraint to the sums and to the right-hand side.
-fn add_multiple(
+fn add_constraint(
     places: &mut Places,
     rhs: &mut Partial,
     constraint: &Constraint,

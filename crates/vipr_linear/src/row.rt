@@ -3,9 +3,8 @@
 //! A [`Row`] lists its variables in rising order with their coefficients, none of which is 0. In
 //! contracts it is a finite map from variables to coefficients, so rows with the same coefficients
 //! are equal however they were made. A row can share its entries with its clones.
-ghost use Rattle.std.specs.Prelude.{All, ◌≡◌, ◌≢◌, ◌↔◌, ◌+◌, ◌<◌, nat_eq, IsTrue, IsOk, IfOk};
-ghost use Rattle.std.specs.Prelude.{IfErr, OnOk, MatchOption, filter, pos, length, ℕ, ◌∷◌, []};
-ghost use Rattle.std.specs.Ordering.{int_eq};
+ghost use Rattle.std.specs.Prelude.{All, ◌≡◌, ◌↔◌, ◌<◌, nat_eq, IsTrue, IfOk};
+ghost use Rattle.std.specs.Prelude.{OnOk, MatchOption, filter, ℕ, ◌∷◌, []};
 ghost use Rattle.std.specs.List.{IsDistinct};
 ghost use Rattle.std.specs.List.Sorted.{IsPermutation, IsNonDecreasingBy, IsStrictlyIncreasing};
 ghost use Rattle.std.specs.FinMap.{entries, from_sorted};
@@ -134,7 +133,7 @@ impl Row {
         }
     }
 
-    // The same, if no entry was there or none is to be.
+    // Makes it such a row, if it had no entry or is to have none.
     #[inline(never)]
     fn set_one_anew(&mut self, alloc: Global, variable: u32, coefficient: Frac)
         ensures row { self.new ≡ row_of ((variable, coefficient) ∷ []) }

@@ -18,7 +18,7 @@ use Rattle.vipr_rules.specs.declared.error.RuleError.{RuleError}
 use Rattle.vipr_rules.specs.declared.error.RuleError.TheVariants.{Memory}
 use Rattle.vipr_rules.specs.Context.{IsSetByReason}
 use Rattle.vipr_rules.specs.Soundness.{HasSoundRows, IsTrueUnder}
-use Rattle.vipr_rules.specs.Apply.{IsRuledBy, Applies, judged_entry, judged_answer}
+use Rattle.vipr_rules.specs.Apply.{IsRuledBy, Applies, entry_resting_on, answer_with_entry}
 use Rattle.vipr_rules.proofs.StepLemmas.{kept_entry, keeps_sound, refusal, known_is_not_memory}
 use Rattle.vipr_rules.proofs.StepLemmas.{free_of_all}
 
@@ -72,11 +72,11 @@ module _ (P : Profile) (p : Problem) (best : Option ℚ) (table : Table) (step :
       }
 
   -- either is so of what is kept of it
-  pub judged : (x : Result (FinSet nat_cmp) RuleError) → Rules x
+  pub applies_with_entry : (x : Result (FinSet nat_cmp) RuleError) → Rules x
       → IfOk x (λ s. (says : ℕ → Condition) (q : Point) → HasSoundRows p best table says → IsAdmittedBy p best q → says table.next ≡ condition_of step.constraint → IsTrueUnder (variables p) says s (condition_of step.constraint) q)
-      → Applies P p best table step (judged_answer step x)
-  judged (Ok s) ruled follows = applies s ruled follows (judged_entry step s) refl refl refl refl
-  judged (Err e) ruled follows = applies_not e ruled
+      → Applies P p best table step (answer_with_entry step x)
+  applies_with_entry (Ok s) ruled follows = applies s ruled follows (entry_resting_on step s) refl refl refl refl
+  applies_with_entry (Err e) ruled follows = applies_not e ruled
 
 pub weaker : {A E : Type 0} (x : Result A E) (P Q : A → Type 0) → ((a : A) → P a → Q a) → IfOk x P
     → IfOk x Q

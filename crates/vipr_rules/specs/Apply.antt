@@ -145,18 +145,18 @@ DominatesBy Rounding ints x stated = IsWholeRow ints x.row × DominatesRounded x
 -- ---- what a call answers
 
 -- what is kept of a derivation that rests on these assumptions
-abbrev pub judged_entry : Step → set.FinSet nat_cmp → Entry
-judged_entry step s = record {
+abbrev pub entry_resting_on : Step → set.FinSet nat_cmp → Entry
+entry_resting_on step s = record {
   constraint = step.constraint;
   assumptions = s;
   is_assumption = is_assumption (Some (reason_of step.reason));
   last = step.last;
 }
 
--- the same of a derivation that was tested
-abbrev pub judged_answer : Step → Result (set.FinSet nat_cmp) RuleError → Result Entry RuleError
-judged_answer step (Ok s) = Ok (judged_entry step s)
-judged_answer step (Err e) = Err e
+-- the answer with what is kept, if these assumptions are answered
+abbrev pub answer_with_entry : Step → Result (set.FinSet nat_cmp) RuleError → Result Entry RuleError
+answer_with_entry step (Ok s) = Ok (entry_resting_on step s)
+answer_with_entry step (Err e) = Err e
 
 -- of the derivation `step`, by a profile, against a problem, the best objective value among the
 -- listed solutions and the table of earlier derivations

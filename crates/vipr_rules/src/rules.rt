@@ -9,9 +9,9 @@
 //! [`apply`] tests a derivation against the problem, the best value of the listed solutions and the
 //! table of earlier constraints. It gives the [`Entry`] to be kept: the constraint with the
 //! assumptions that it rests on and its last reference. [`apply_in`] does so by the rules of a
-//! [`Profile`]. [`judge`] tests it against a [`Context`] and gives the assumptions alone, and
-//! [`take_entry`] makes the entry: it moves the constraint out of the derivation. An error is the
-//! first test that fails, with what shows it.
+//! [`Profile`]. [`assumptions_of`] tests it against a [`Context`] and gives the assumptions alone,
+//! and [`take_entry`] makes the entry: it moves the constraint out of the derivation. An error is
+//! the first test that fails, with what shows it.
 
 ghost use Rattle.std.specs.Prelude.{◌≡◌, ℕ, length, Some, IfOk};
 ghost use Rattle.std.specs.Prelude.{option_copied};
@@ -24,7 +24,7 @@ ghost use Rattle.vipr_table.specs.Table.{DerivedBelow};
 ghost use Rattle.vipr_rules.specs.Profile.{profile_of};
 ghost use Rattle.vipr_rules.specs.Context.{IsContextOf};
 ghost use Rattle.vipr_rules.specs.Soundness.{IsSoundAt, IsTrueUnder};
-ghost use Rattle.vipr_rules.specs.Apply.{IsRuledBy, Applies, judged_entry, judged_answer};
+ghost use Rattle.vipr_rules.specs.Apply.{IsRuledBy, Applies, entry_resting_on, answer_with_entry};
 
 use crate::branches::{Branch, join_branches};
 use crate::context::Context;
@@ -92,7 +92,7 @@ pub fn apply_in<S: Rows>(
         best,
         rows,
     };
-    let assumptions = assumptions_of(alloc, &context, scratch, step)?;
+    let assumptions = test_by_rule(alloc, &context, scratch, step)?;
     match step.constraint.clone() {
         Ok(constraint) => Ok(Entry {
             constraint,
@@ -115,7 +115,7 @@ pub fn apply_in<S: Rows>(
 ///
 /// The first test that the derivation fails, with what shows it.
 #[inline(always)]
-pub fn judge<S: Rows>(
+pub fn assumptions_of<S: Rows>(
     alloc: Global,
     context: &Context<S>,
     scratch: &mut Combination,
@@ -126,16 +126,16 @@ pub fn judge<S: Rows>(
         DerivedBelow n (S.table context.now.rows.now) }
     ensures applies { let x = context.now in
         Applies (profile_of x.profile) x.problem.now (option_copied x.best) (S.table x.rows.now)
-        step.now (judged_answer step.now result) }
+        step.now (answer_with_entry step.now result) }
     ensures variables { length scratch.new.sums ≡ length scratch.old.sums }
 {
-    assumptions_of(alloc, context, scratch, step)
+    test_by_rule(alloc, context, scratch, step)
 }
 
 /// What is kept of a derivation that rests on these assumptions. Its constraint is moved out of it.
 #[inline(always)]
 pub fn take_entry(alloc: Global, step: &mut Derivation, assumptions: Assumptions) -> Entry
-    ensures kept { result ≡ judged_entry step.old assumptions }
+    ensures kept { result ≡ entry_resting_on step.old assumptions }
     ensures named { step.new.name ≡ step.old.name }
 {
     Entry {
@@ -156,7 +156,7 @@ fn nothing_stated(alloc: Global) -> Constraint {
 }
 
 /// Tests a derivation by the rule of its reason, and gives the assumptions that it rests on.
-fn assumptions_of<S: Rows>(
+fn test_by_rule<S: Rows>(
     alloc: Global,
     context: &Context<S>,
     scratch: &mut Combination,

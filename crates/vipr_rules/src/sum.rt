@@ -1,6 +1,6 @@
 //! The rules by which a sum of constraints, or its rounding, dominates the stated one.
 
-ghost use Rattle.std.specs.Prelude.{◌≡◌, ◌≢◌, ◌↔◌, ◌⊎◌, ◌<◌, ◌∷◌, ◌++◌, [], List, ℕ, true, false};
+ghost use Rattle.std.specs.Prelude.{◌≡◌, ◌↔◌, ◌⊎◌, ◌<◌, ◌∷◌, ◌++◌, [], List, ℕ, true, false};
 ghost use Rattle.std.specs.Prelude.{flat_map, length, get_or, IsTrue, IfOk, IfErr, IfSome, OnOk};
 ghost use Rattle.std.specs.Prelude.{MatchOption, MatchResult};
 ghost use Rattle.std.specs.FinSet as set;

@@ -7,7 +7,7 @@ mod list;
 mod merge;
 mod union;
 
-ghost use Rattle.std.specs.Prelude.{◌≡◌, ◌↔◌, IfOk, IfSome, IsTrue, length};
+ghost use Rattle.std.specs.Prelude.{◌≡◌, ◌↔◌, IfOk, IfSome, IsTrue};
 ghost use Rattle.std.specs.Cow.{cow_slice_items};
 ghost use Rattle.std.specs.FinSet as set;
 ghost use Rattle.vipr_table.specs.IndexList.{listed_items, IsListOf};
@@ -153,7 +153,7 @@ impl Assumptions {
         }
     }
 
-    // The same, by the set that is left of each.
+    // Joins two sets, each without an index, by the set that is left of each.
     fn union_of_rests(
         &self,
         alloc: Global,
@@ -221,7 +221,7 @@ impl Assumptions {
         union
     }
 
-    // The same of both sets, whose indices are these.
+    // Joins two sets, whose indices are these.
     fn joined_lists(
         &self,
         alloc: Global,

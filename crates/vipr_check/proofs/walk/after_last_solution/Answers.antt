@@ -33,8 +33,8 @@ returns-in_err-derivations-in-Ok-clause-explained g c = λ P p ss is.
     handed_on (λ (r : Result Report NoProof). IsSome old.rest → SaysWith (Explained P (solutions_from p ss 0 (rest_of old.rest))) (state_shown l) r) c.from_residual.result (text_reason e) c.from_residual.ensures.1
     (λ known. ending_failed P p ss (rest_of old.rest) (state_shown l) e (ending_shown P p ss k l old is h) (ending_met p ss k l is.problem h) (c.in_err-derivations-in-Ok.ensures.read p is.knows known))
 
-pub after_steps-requires : goal.after_steps-requires
-after_steps-requires g c =
+pub check_derivations-requires : goal.check_derivations-requires
+check_derivations-requires g c =
     let (P, p, ss, is) = c.requires.among in
     let new = c.in_ok-derivations-in-Ok.derivations in
     let read = c.in_ok-derivations-in-Ok.ensures in
@@ -50,7 +50,7 @@ returns-in_ok-derivations-in-Ok-clause-explained g c = λ P p ss is known.
     let h = c.in-Ok.ensures.next ss is.runs is.has in
     let r = read.read p is.knows known in
     let at = at_start P p ss k l old is h new (knows_still p old new is.knows read.remembers) read.working read.counted in
-    ending_read P p ss new.left (rest_of old.rest) (rest_of new.rest) (state_shown c.after_steps.new.checker) c.after_steps.result (ending_met p ss k l is.problem h) r.0 (c.after_steps.ensures.explained P (start p ss) at r.1)
+    ending_read P p ss new.left (rest_of old.rest) (rest_of new.rest) (state_shown c.check_derivations.new.checker) c.check_derivations.result (ending_met p ss k l is.problem h) r.0 (c.check_derivations.ensures.explained P (start p ss) at r.1)
 
 pub returns-in_ok-derivations-in-Ok-clause-any : goal.returns-in_ok-derivations-in-Ok-clause-any
 returns-in_ok-derivations-in-Ok-clause-any g c = λ P p ss is.
@@ -58,4 +58,4 @@ returns-in_ok-derivations-in-Ok-clause-any g c = λ P p ss is.
     let new = c.in_ok-derivations-in-Ok.derivations in
     let read = c.in_ok-derivations-in-Ok.ensures in
     let h = c.in-Ok.ensures.next ss is.runs is.has in
-    c.after_steps.ensures.any P (start p ss) (at_start P p ss c.args.checker.now c.end_solutions.new.self old is h new (knows_still p old new is.knows read.remembers) read.working read.counted)
+    c.check_derivations.ensures.any P (start p ss) (at_start P p ss c.args.checker.now c.end_solutions.new.self old is h new (knows_still p old new is.knows read.remembers) read.working read.counted)
