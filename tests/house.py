@@ -144,25 +144,88 @@ def comments_stand_alone():
                 yield '%s:%d' % (shown(path), n)
 
 
-IMPORT = re.compile(r'^\s*(?:ghost )?(?:unfoldable )?(pub )?use Rattle[^\s{]+\.\{([^}]*)\};?$', re.M)
+WORD = re.compile(r"[^\s(){}\[\];,.]+")
+USE = re.compile(r'^[ \t]*(?:(pub|pub\(\w+\)|ghost|unfoldable) )*use ([^{;\n]*)(\{[^}]*\})?[^;\n]*;?$', re.M)
+# what a `use` brings without its name: calls of a trait, and notations
+UNNAMED = {'Write', 'Read', 'Hash', 'Hasher', 'ByteSlice', 'MetadataExt', 'OpenOptionsExt', '_', '*',
+           '◌>>=◌', '[]', 'if◌then◌else◌'}
+
+
+# crates in which lemmas, calls and imports may still wait for what is to use them, or to be taken out
+WAITING = {'vipr_explain', 'vipr_page', 'vipr_write'}
+
+
+def imported(use):
+    """The names that a `use` brings into its file."""
+    items = use[3][1:-1].split(',') if use[3] else [re.split(r'::|\.', use[2])[-1]]
+    return [name for name in (item.split(' as ')[-1].strip() for item in items) if name]
 
 
 def unused_imports():
-    """Each name that a file of definitions or lemmas imports occurs in it."""
-    for crate, part, path in files(('specs', 'proofs'), ('.antt',)):
+    """Each name that a file imports occurs in it."""
+    for crate, part, path in files(('src', 'specs', 'proofs'), ('.rt', '.antt')):
         text = read(path)
-        rest = IMPORT.sub('', text)
-        words = set(re.findall(r"[^\s(){}\[\];,.λ]+", rest))
-        for m in IMPORT.finditer(text):
-            if m[1]:
-                continue
-            for item in m[2].split(','):
-                name = item.split(' as ')[-1].strip()
-                pieces = [piece for piece in name.split('◌') if piece]
-                used = name in ('◌>>=◌', '[]', 'if◌then◌else◌') or all(piece in words or piece in rest and '◌' in name for piece in pieces or [name])
-                if name and not used:
-                    line = text[:m.start()].count('\n') + 1
-                    yield '%s:%d: %s' % (shown(path), line, name)
+        rest = USE.sub('', text)
+        if path.endswith('.rt'):
+            rest = re.sub(r'//.*', '', rest)
+        words = set(re.findall(r'[^\s(){}\[\];,.λ:<>&!?|]+' if path.endswith('.rt') else r'[^\s(){}\[\];,.λ]+', rest))
+        for use in USE.finditer(text) if crate not in WAITING or path.endswith('.antt') else ():
+            for name in [] if (use[1] or '').startswith('pub') else imported(use):
+                pieces = [piece for piece in name.split('◌') if piece] or [name]
+                if name not in UNNAMED and not all(it in words or '◌' in name and it in rest for it in pieces):
+                    yield '%s:%d: %s' % (shown(path), text[:use.start()].count('\n') + 1, name)
+
+
+HEAD = re.compile(r'^(  )?(?:(?:pub|abbrev|unfoldable|record|data) )*([^\s:({]+)(?=[\s:({])')
+
+
+def heads(lines):
+    """Of each lemma and each definition of a file its line, its name, and the lines that state and prove it."""
+    n, in_module = 0, False
+    while n < len(lines):
+        head = HEAD.match(lines[n])
+        in_module = lines[n].startswith('module ') or in_module and lines[n][:1] in ('', ' ')
+        indent = (head and head[1]) or ''
+        is_one = head and not lines[n].startswith(indent + '--') and head[2] not in ('use', 'mod', 'open', 'module')
+        end = n + 1
+        if is_one and (not indent or in_module) and re.search(r' :( |$)', lines[n]):
+            own = re.compile(r'%s(?: |--|%s(?: |$))|$' % (indent, re.escape(head[2])))
+            while end < len(lines) and own.match(lines[end]):
+                end += 1
+            yield n + 1, head[2], '\n'.join(lines[n:end])
+        n = end
+
+
+def dead_lemmas():
+    """Each lemma and each definition is cited by another one, a contract or an answer."""
+    cited, found = collections.Counter(), []
+    for crate, part, path in files(('src', 'specs', 'proofs'), ('.rt', '.antt')):
+        text = read(path)
+        cited.update(WORD.findall(USE.sub('', text)))
+        if path.endswith('.antt') and os.path.basename(path) not in ('Answers.antt', 'Invariants.antt', 'Proof.antt'):
+            found += [(crate, path, *head) for head in heads(text.split('\n'))]
+    for crate, path, n, name, own in found:
+        if crate not in WAITING and cited[name] <= WORD.findall(own).count(name):
+            yield '%s:%d: nothing cites %s' % (shown(path), n, name)
+
+
+# calls for callers, which nothing here makes but tests
+OFFERED = {'apply', 'count_items', 'from_pairs', 'holds_at', 'in_solutions', 'refers_back', 'tighten_certificate',
+           'is_of_text', 'is_overflow'}
+# a public call, and its body if that is empty: such a function states a law
+CALL = re.compile(r'^( *)pub (?:const |unsafe )*fn (\w+).*(?:\{$|(?:\n(?!\1\{).*)*\n\1\{(\})?$)', re.M)
+
+
+def dead_calls():
+    """Each public call is made by a crate that isn't of tests, or is for callers, as OFFERED says."""
+    texts = {(crate, path): re.sub(r'//.*', '', USE.sub('', read(path))) for crate, part, path in files(('src',), ('.rt',))
+             if crate != 'vipr_tests'}
+    named = collections.Counter(word for text in texts.values() for word in re.findall(r'\w+', text))
+    defined = collections.Counter(name for text in texts.values() for name in re.findall(r'\bfn (\w+)', text))
+    for (crate, path), text in texts.items():
+        for _, name, law in CALL.findall(text) if crate not in WAITING else ():
+            if not law and name not in OFFERED and named[name] <= defined[name]:
+                yield '%s: nothing calls %s' % (shown(path), name)
 
 
 # spec files that prove what their own definitions need: divisibility, lowest terms, and that a value fits a word
@@ -377,7 +440,7 @@ def formatted():
             yield line.removeprefix(ROOT + os.sep)
 
 
-CHECKS = [foreign_proofs, private_lemmas, names_twice, types_twice, plain_words, comments_stand_alone, unused_imports, proofs_in_specs, long_lines, long_files, crates_are_there, graph_is_current,
+CHECKS = [foreign_proofs, private_lemmas, names_twice, types_twice, plain_words, comments_stand_alone, unused_imports, dead_lemmas, dead_calls, proofs_in_specs, long_lines, long_files, crates_are_there, graph_is_current,
           statement_is_current, examples_are_there, causes_agree, edits_stand, samples_go_round, versions_agree, named_files_are_there,
           formatted]
 

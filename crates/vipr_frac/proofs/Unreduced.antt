@@ -1,16 +1,16 @@
 -- Sums of fractions whose parts are words of 64 bits, and needn't be in lowest terms.
 use Rattle.std.proofs.Common.{◌≡◌, ℕ, ◌*◌, ◌/◌, ◌%◌, ◌<◌, ◌≤◌, ◌^◌, refl, sym, ap, ap₂, ◌∙◌, arith}
-use Rattle.std.proofs.Common.{FitsSigned, lit≤, pos_of_ne-zero, zero-mul}
+use Rattle.std.proofs.Common.{FitsSigned, pos_of_ne-zero, zero-mul}
 use Rattle.std.specs.Prelude.{ℤ, pos, ◌+ℤ◌, ◌*ℤ◌, unsigned_abs, Bool, true, false, Option, Some}
 use Rattle.std.specs.Prelude.{None, IsSome, IfSome, IsTrue, IsFalse, MatchOption}
 use Rattle.std.specs.Int.{w64}
-use Rattle.std.proofs.Math.Nat.{le_trans, div-mul_cancel, mul_comm}
+use Rattle.std.proofs.Math.Nat.{div-mul_cancel, mul_comm}
 use Rattle.std.proofs.lemmas.Int.{ints}
 use Rattle.std.proofs.lemmas.Nat.Gcd.{dvd_of_mod-eq-zero}
 use Rattle.vipr_spec.specs.Gcd.{gcd}
 use Rattle.vipr_spec.specs.GcdLaws.{gcd_is}
 use Rattle.vipr_spec.specs.Lowest.{abs_div}
-use Rattle.vipr_spec.specs.Fraction.{ℚ, over, ◌+ℚ◌, ◌*ℚ◌, IsBounded}
+use Rattle.vipr_spec.specs.Fraction.{ℚ, over, ◌+ℚ◌, ◌*ℚ◌}
 use Rattle.vipr_spec.proofs.Laws.{over_common}
 use Rattle.vipr_frac.specs.Parts.{IsSmall, AreWords}
 use Rattle.vipr_frac.proofs.Small.{quotient_bound, quotient_below}
@@ -67,9 +67,6 @@ small_over p q some h k =
       numer = rw (parts.0, abs_div p (gcd (unsigned_abs p) q)) (quotient_bound (unsigned_abs p) _ h);
       denom = rw parts.1 (quotient_below q _ k);
     }
-
-pub small_bounded : (x : ℚ) → IsSmall x → IsBounded x
-small_bounded x h = (le_trans h.numer (lit≤ tt), let k = h.denom in omega arith)
 
 pub product_over : (x y : ℚ) → x *ℚ y ≡ over (x.numer *ℤ y.numer) (x.denom * y.denom)
 unfolding ◌*ℚ◌

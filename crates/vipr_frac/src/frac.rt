@@ -4,8 +4,8 @@
 //! there is one `Frac` for each number, and equality compares parts. A sum or a product is exact or
 //! refused with [`Overflow`], and its contract says exactly when. Comparison, `floor` and `ceil`
 //! are exact and never refused. In contracts a `Frac` is the fraction itself.
-ghost use Rattle.std.specs.Prelude.{◌≡◌, ℕ, ℤ, pos, ◌+◌, ◌*◌, ◌^◌, ◌<◌, ◌≤◌, ◌+ℤ◌, ◌*ℤ◌, ◌<ℤ◌};
-ghost use Rattle.std.specs.Prelude.{◌≤ℤ◌, unsigned_abs, int_div, ◌↔◌, ◌⊎◌, IsOk, IfOk, IsTrue};
+ghost use Rattle.std.specs.Prelude.{◌≡◌, ℤ, pos, ◌+◌, ◌*◌, ◌^◌, ◌<◌, ◌≤◌, ◌+ℤ◌, ◌*ℤ◌, ◌<ℤ◌};
+ghost use Rattle.std.specs.Prelude.{unsigned_abs, int_div, ◌↔◌, ◌⊎◌, IsOk, IfOk, IsTrue};
 ghost use Rattle.std.specs.Prelude.{IsSome, IfSome, FitsSigned};
 ghost use Rattle.std.specs.Int.{w128};
 ghost use Rattle.std.specs.Ordering.{nat_cmp, int_cmp};
@@ -90,8 +90,6 @@ impl Eq for Frac {
 }
 
 impl Hash for Frac {
-    ghost use Rattle.std.specs.Prelude.{◌++◌};
-    ghost use Rattle.std.specs.Hash as fed;
     ghost use Rattle.vipr_frac.specs.Fields.{hash_input_of, hash_input_respects};
 
     ghost hash_input = { hash_input_of };

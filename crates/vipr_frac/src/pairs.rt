@@ -1,8 +1,8 @@
 //! Fractions whose parts are words of 64 bits, and may have a common divisor.
-ghost use Rattle.std.specs.Prelude.{◌≡◌, ◌↔◌, ◌*◌, ◌<◌, ◌^◌, ℕ, ℤ, pos, ◌+ℤ◌, ◌*ℤ◌, IsTrue, IfSome};
+ghost use Rattle.std.specs.Prelude.{◌≡◌, ◌↔◌, ◌*◌, ◌<◌, ◌^◌, ℕ, pos, ◌+ℤ◌, ◌*ℤ◌, IsTrue, IfSome};
 ghost use Rattle.std.specs.Prelude.{MatchOption, FitsSigned};
 ghost use Rattle.std.specs.Int.{w64};
-ghost use Rattle.vipr_spec.specs.Fraction.{over, ◌+ℚ◌, ◌*ℚ◌};
+ghost use Rattle.vipr_spec.specs.Fraction.{over, ◌+ℚ◌};
 ghost use Rattle.vipr_frac.specs.Parts.{AreWords};
 
 use crate::gcd::word_gcd;

@@ -42,9 +42,6 @@ pub there : {A : Type 0} → (xs : List A) (k : ℕ) (d x : A) → k < length xs
     → get_or xs k d ≡ x
 there xs k d x l e = get_or_default xs k d x l ∙ sym e
 
-pub each_more : (P : ℕ → Type 0) (i : ℕ) → ((k : ℕ) → k < i → P k) → P i → (k : ℕ) → k < i + 1 → P k
-each_more P i before this k l = elim (cases_lt k i) [ inl below ↦ before k below | inr past ↦ let e : i ≡ k = omega (arith, l, past) in subst P e this ]
-
 module _ {A : Type 0} (number : A → ℕ) (d : A) where
   pub none_occur : (xs : List A) (c i : ℕ) → length xs ≤ c → OccursFrom number d c xs i → ⊥
   none_occur xs c i past s = let a : c ≤ s.0 = s.1 in let b : s.0 < length xs = s.2 in absurd (omega (arith, past, a, b))
@@ -112,9 +109,6 @@ module _ (row : Row) (es : List (ℕ × ℚ)) (list : es ≡ entries row) (r : R
 -- ---- where a variable stands
 later : (cs : List Constraint) (i j : ℕ) (e : ℕ × ℕ) → IsPlace cs i j e → IsPlace cs (i + 1) j e
 later cs i j e h = let l : e.0 < i = h.0 in (omega (arith, l), h.1, h.2)
-
-pub no_places : (o : Row) (cs : List Constraint) (j : ℕ) → ArePlaces o cs 0 j []
-no_places o cs j = record { found = λ k l. absurd (omega arith); rising = λ a b m l. absurd (omega arith); rest = λ i l. absurd (omega arith) }
 
 module _ (o : Row) (cs : List Constraint) (i j : ℕ) (places : List (ℕ × ℕ)) (is : ArePlaces o cs i j places) where
   pub places_same : HasRow o (nth cs i) ⊎ (at (nth cs i).row j ≡ zero_ℚ) → ArePlaces o cs (i + 1) j places

@@ -19,9 +19,6 @@ IsSetOf c i s = (a : ℕ) → IsTrue (contains s a) ↔ RestsOn c i a
 none_in_empty : (a : ℕ) → ¬ IsTrue (contains {R = nat_cmp} empty a)
 none_in_empty a t = let e = contains-empty nat_cmp a in cc
 
-pub IsSetOf-none : (c : Certificate) (i : ℕ) → ((a : ℕ) → ¬ RestsOn c i a) → IsSetOf c i empty
-IsSetOf-none c i none a = (λ t. absurd (none_in_empty a t), λ r. absurd (none a r))
-
 pub IsSetOfAll-none : (c : Certificate) → IsSetOfAll c [] empty
 IsSetOfAll-none c a = (λ t. absurd (none_in_empty a t), λ (e, h, n, r). absurd (let lt = h.1 in omega arith))
 

@@ -1,7 +1,7 @@
-ghost use Rattle.std.specs.Prelude.{◌≡◌, ◌≢◌, ◌^◌, ◌<◌, ◌≤◌, ◌-◌, length, Some, IfOk, IfSome};
-ghost use Rattle.std.specs.Prelude.{IfErr, OnOk, IsSome, Option};
+ghost use Rattle.std.specs.Prelude.{◌≡◌, ◌≢◌, ◌<◌, ◌≤◌, ◌-◌, length, Some, IfOk};
+ghost use Rattle.std.specs.Prelude.{IfErr, OnOk, IsSome};
 ghost use Rattle.vipr_bytes.specs.Known.{IfKnown, text_of};
-ghost use Rattle.vipr_spec.specs.Reading.{Rest, token_of, end_read};
+ghost use Rattle.vipr_spec.specs.Reading.{token_of, end_read};
 ghost use Rattle.vipr_scan.specs.Giving.{Scans, Ends, IsBehind, rest_of, Takes};
 ghost use Rattle.vipr_scan.specs.Scanning.{Scanning, scanning_of};
 

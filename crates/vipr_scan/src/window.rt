@@ -1,14 +1,12 @@
-ghost use Rattle.std.specs.Prelude.{◌≡◌, ℕ, ◌+◌, ◌-◌, ◌^◌, ◌<◌, ◌≤◌, min, Bool, true, false, List};
-ghost use Rattle.std.specs.Prelude.{◌∷◌, ◌++◌, length, drop, slice_index, Option, Some, None, Ok};
-ghost use Rattle.std.specs.Prelude.{Err, IfOk, IfSome, IfErr, IfNone, IsErrOf, ◌↔◌, take, OnOk};
+ghost use Rattle.std.specs.Prelude.{◌≡◌, ◌+◌, ◌-◌, ◌<◌, ◌≤◌, min, true, false};
+ghost use Rattle.std.specs.Prelude.{length, drop, Option, Some, None, Ok};
+ghost use Rattle.std.specs.Prelude.{Err, IfOk, IfSome, IfErr, take, OnOk};
 ghost use Rattle.std.specs.Prelude.{OnErr, slice_range, ◌≢◌};
-ghost use Rattle.vipr_spec.specs.Input.{Input};
-ghost use Rattle.vipr_spec.specs.Tokens.{is_white, IsToken};
 ghost use Rattle.vipr_bytes.specs.Known.{IfKnown, text_of};
 ghost use Rattle.vipr_scan.specs.declared.place.Position.TheVariants.{Past};
 
 use crate::buffer::{move_to_front, read_behind};
-use crate::bytes::{is_white, run_end};
+use crate::bytes::run_end;
 use crate::cause;
 use crate::error::ScanError;
 use crate::place::{Position, gap, white};
@@ -55,10 +53,6 @@ fn ready_end(place: Position, start: usize, end: usize) -> usize
 }
 
 impl<R: Source> Window<R> {
-    ghost use Rattle.std.specs.Borrow.{sem};
-    ghost use Rattle.std.specs.Io.BufRead.{Rests};
-    ghost use Rattle.vipr_scan.specs.contracts.window.Window.{the_row};
-    ghost use Rattle.vipr_scan.specs.Places.{tokens_in};
     ghost use Rattle.vipr_scan.specs.Hand.{at_hand, hand_of, rest_behind};
     ghost use Rattle.vipr_scan.specs.View.{unread, input_left, rest_of_window, rounds, Keeps};
     ghost use Rattle.vipr_scan.specs.View.{IsOver, front_offset};

@@ -1,6 +1,6 @@
 //! What some certificates become.
 
-ghost use Rattle.std.specs.Prelude.{◌≡◌, ℕ, List, Option, Some, None};
+ghost use Rattle.std.specs.Prelude.{◌≡◌, List, Some, None};
 ghost use Rattle.vipr_spec.specs.Constraint.{Row, Constraint};
 ghost use Rattle.vipr_spec.specs.Certificate.{Named, Problem};
 ghost use Rattle.vipr_spec.specs.Tightened.{tightened_certificate};

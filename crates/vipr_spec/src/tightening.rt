@@ -1,6 +1,6 @@
 //! What the tightened certificate of a proof is.
 
-ghost use Rattle.std.specs.Prelude.{◌≡◌, ℕ, ◌+◌, ◌<◌, ◌≤◌, not, IsTrue, List, [], length};
+ghost use Rattle.std.specs.Prelude.{◌≡◌, ℕ, ◌+◌, ◌<◌, ◌≤◌, not, IsTrue, [], length};
 ghost use Rattle.std.specs.Prelude.{count_by, Option, Some, None};
 ghost use Rattle.std.specs.List.{range_with_len};
 ghost use Rattle.vipr_spec.specs.Constraint.{Profile};

@@ -1,7 +1,7 @@
 //! When the entries of a table expire.
 
 ghost use Rattle.std.specs.Prelude.{◌≡◌, ℕ, ◌<◌, ◌≤◌, OnOk, IfSome, IfNone, All, IsPermutation};
-ghost use Rattle.std.specs.Prelude.{◌∷◌, [], map};
+ghost use Rattle.std.specs.Prelude.{◌∷◌, []};
 ghost use Rattle.std.specs.BinaryHeap.{IsHeap, heap_items, heap_len, heap_capacity};
 ghost use Rattle.std.proofs.Props.{props};
 ghost use Rattle.vipr_table.specs.Expiry.{due_cmp, dues, Notes};

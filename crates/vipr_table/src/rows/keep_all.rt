@@ -45,7 +45,6 @@ impl Model for KeepAll {
 
     ghost coded = { table_code };
 
-    ghost use Rattle.std.specs.FinMap as map;
     ghost use Rattle.vipr_table.specs.Expiry.{dues};
     ghost use Rattle.vipr_table.specs.KeepAll.{entries_not_forgotten, IsKept};
 

@@ -1,5 +1,4 @@
-ghost use Rattle.std.specs.Prelude.{◌≡◌, ◌<◌, length, Some};
-ghost use Rattle.vipr_spec.specs.Input.{Input};
+ghost use Rattle.std.specs.Prelude.{◌<◌, length, Some};
 
 mod checkers;
 mod explained;
