@@ -7,8 +7,9 @@ First `rt ci`: every proof, the must-fail edits, the tests. A kit whose `rt ci` 
 run of it passed on this machine, and nothing with --anew; other kits prove everything each time, and --anew isn't handed
 on to them. Then each script of SCRIPTS, which counts as one. Prints
 what each took, and what of the processor time went into each crate's proof, tests and edits, found by looking at the
-processes once a second. The last line is `N passed, M failed`, below the SHA-256 of the program and of the libraries; the exit status is 1 if one failed. `tests/gate.py`
-makes a page of this output.
+processes once a second. The last line is `N passed, M failed`, and behind it `, K skipped` if a script says K times that
+it left something out, since a tool isn't installed here; above it are the SHA-256 of the program and of the libraries.
+The exit status is 1 if one failed. `tests/gate.py` makes a page of this output.
 """
 import datetime
 import os
@@ -49,6 +50,8 @@ SCRIPTS = [
     ['docs/architecture.py', '--check'],
     ['bench/compare.py', '--profiles', 'crates/vipr/out/vipr', '1000'],
 ]
+# a line by which a script says that it left something out
+SKIPPED = re.compile(r'\w+: (?:no |left out|.*\bskipped$|.*, so no )')
 TICKS = os.sysconf('SC_CLK_TCK')
 SECONDS_BETWEEN = 1
 
@@ -139,17 +142,18 @@ def spent():
 
 
 def timed(words):
-    """Runs a command, hands its output on, and gives its last line and its status."""
-    start, before, last = time.monotonic(), spent(), ''
+    """Runs a command, hands its output on, and gives its last line, its status, and how often it left something out."""
+    start, before, last, skipped = time.monotonic(), spent(), '', 0
     with subprocess.Popen(words, stdout=subprocess.PIPE, stderr=subprocess.STDOUT, text=True, errors='replace',
                           cwd=TOP) as child:
         for line in child.stdout:
             print(line, end='', flush=True)
             last = line.strip() or last
+            skipped += bool(SKIPPED.match(line))
     minutes, processor = (time.monotonic() - start) / 60, (spent() - before) / 60
     shown = ' '.join(words[1:] if words[0] == sys.executable else words)
     print(f'{shown}: {minutes:.1f} minutes, {processor:.1f} of processor time', flush=True)
-    return last, child.returncode
+    return last, child.returncode, skipped
 
 
 def main():
@@ -158,7 +162,7 @@ def main():
         return 2
     print(*machine(), sep='\n', flush=True)
     with Watch() as watch:
-        last, status = timed(ci_words())
+        last, status, skipped = timed(ci_words())
     print(*watch.lines(), sep='\n', flush=True)
     counted = re.fullmatch(r'(\d+) passed, (\d+) failed', last)
     passed, failed = map(int, counted.groups()) if counted else (0, 1)
@@ -166,12 +170,12 @@ def main():
     if not status:
         proved.write_sum(TOP)
     for script in SCRIPTS:
-        _, status = timed([sys.executable, *script])
-        passed, failed = passed + (status == 0), failed + (status != 0)
+        _, status, more = timed([sys.executable, *script])
+        passed, failed, skipped = passed + (status == 0), failed + (status != 0), skipped + more
     for file in [TOP / 'crates/vipr/out/vipr', *sorted((TOP / 'crates/vipr_c/out').glob('libvipr.*'))]:
         if file.is_file():
             print(f'sha256 {proved.sum_of(file)} {file.name}')
-    print(f'{passed} passed, {failed} failed')
+    print(f'{passed} passed, {failed} failed' + (f', {skipped} skipped' if skipped else ''))
     return 1 if failed else 0
 
 

@@ -47,7 +47,7 @@ class Run:
             if re.search(r'rt ci( --anew)?$', name) or '.py' in name]
         self.built_commit = self.said.get('commit', '')
         self.yardsticks = [self.built[YARDSTICK]] if YARDSTICK in self.built else []
-        ends = re.findall(r'^\d+ passed, \d+ failed$', text, re.M)
+        ends = re.findall(r'^\d+ passed, \d+ failed(?:, \d+ skipped)?$', text, re.M)
         self.result = ends[-1] if ends else ''
         shares = re.findall(r'^(?:rt: )?ok; handles allowed: .*; (.*)$', text, re.M)
         self.share = shares[-1] if shares else 'not said'
