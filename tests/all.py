@@ -48,7 +48,6 @@ SCRIPTS = [
     ['tests/proof.py', '--check'],
     ['tests/interface.py'],
     ['docs/architecture.py', '--check'],
-    ['bench/compare.py', '--profiles', 'crates/vipr/out/vipr', '1000'],
 ]
 # a line by which a script says that it left something out
 SKIPPED = re.compile(r'\w+: (?:no |left out|.*\bskipped$|.*, so no )')

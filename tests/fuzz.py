@@ -1,16 +1,20 @@
 #!/usr/bin/env python3
-"""Damaged texts for every command: each run ends verified or refused, and says only what the pages name.
+"""Damaged texts for every command: what is printed is what plain models say, and each run ends verified or refused.
 
-usage: tests/fuzz.py [--runs N] [--seed S] [PROGRAM]     20,000 runs, seed 1 and crates/vipr/out/vipr without them
+usage: tests/fuzz.py [--models N] [--runs N] [--seed S] [PROGRAM]     1,000 texts, 20,000 runs, seed 1 and
+                                                                      crates/vipr/out/vipr without them
 
-The texts are the examples and short ones of the families of bench/families.py, with tokens replaced, bytes changed, and
-parts cut out, doubled or moved. Each is given to a command, from a file or from standard input, by one of the profiles;
-`tighten` writes to standard output, to another file, or to the file that it reads. A run fails if it ends by a
-signal or with another status, if standard error has anything but a line of LINES, if both outputs contradict the
-status, or if a file isn't what it was and not a whole text that is verified.
+First the examples and copies of them with tokens replaced are given to each command, by both profiles. Standard output,
+standard error and exit status must be those of the plain models of bench/, byte for byte.
 
-Prints each run that fails with its number, and last `fuzz: N runs, F failed, S seconds of processor time`. The exit
-status is 1 if one failed. A run's number and the seed make its text again.
+Then more texts, without a model. They are the examples and short ones of the families of bench/families.py, with tokens
+replaced, bytes changed, and parts cut out, doubled or moved. Each is given to a command, from a file or from standard
+input, by one of the profiles; `tighten` writes to standard output, to another file, or to the file that it reads. A run
+fails if it ends by a signal or with another status, if standard error has anything but a line of LINES, if both outputs
+contradict the status, or if a file isn't what it was and not a whole text that is verified.
+
+Prints each text or run that fails with its number, what the models answered, and last `fuzz: N texts and M runs, F failed,
+S seconds of processor time`. The exit status is 1 if one failed. A number and the seed make its text again.
 """
 import argparse
 import multiprocessing
@@ -20,13 +24,23 @@ import re
 import subprocess
 import sys
 import tempfile
+from collections import Counter
 from pathlib import Path
 
 from texts import examples, program, spent, text_of
-from compare import damaged
+from plain_check import explained, verdict
+from plain_show import shown
+from plain_tighten import tightened
 import families
 
-COMMANDS = ['check', 'explain', 'show', 'tighten']
+# for each command its model: what goes to standard output, what to standard error, and the exit status
+MODELS = {
+    'check': lambda text, profile: of_verdict(verdict(text, profile)),
+    'explain': lambda text, profile: of_verdict(explained(text, profile)),
+    'show': lambda text, profile: shown(text),
+    'tighten': tightened,
+}
+PROFILES = {'show': [1]}
 # for each status what may be on standard error, and how standard output may begin
 KEPT, REFUSED = rb'kept \d+ removed \d+ peak \d+ \d+\n', rb'refused \d+ at (byte \d+|SOL \d+|DER \d+|end)\n'
 LINES = {
@@ -35,9 +49,43 @@ LINES = {
     ('show', 0): (rb'', rb'VER 1\.0\n'), ('show', 1): (REFUSED, rb'$'),
     ('tighten', 0): (KEPT, rb'VER 1\.0\n'), ('tighten', 1): (REFUSED, rb'$'),
 }
+SPARE = [
+    b'0', b'1', b'2', b'3', b'-1', b'+1', b'00', b'1/2', b'-2/4', b'1/0', b'0/7', b'1/-2', b'0.5', b'-0', b'4294967295',
+    b'4294967296', b'%d' % (2**127 - 1), b'%d' % 2**127, b'-%d/%d' % (2**127 - 1, 2**127 - 2), b'1/%d' % 2**127,
+    b'OBJ', b'E', b'L', b'G', b'min', b'max', b'infeas', b'range', b'inf', b'-inf', b'asm', b'lin', b'rnd', b'uns',
+    b'sol', b'{', b'}', b'%', b'VER', b'DER', b'\xff', b'x' * 65535, b'x' * 65536,
+]
+NUMBER = re.compile(rb'[-+]?[0-9]+(/[0-9]+)?')
+GAPS = [b' ', b'\n', b'\t', b'\r\n', b'\v \f']
 BLOCK = 100
 # seconds that a run may take, on a machine with other work
 LONGEST = 60
+
+
+def damaged(text, chance):
+    """The text with a few tokens replaced."""
+    tokens = re.findall(rb'[^\t-\r ]+', text)
+    for _ in range(chance.choice([0, 1, 1, 1, 2, 3])):
+        at = chance.randrange(len(tokens))
+        other = chance.choice(tokens + SPARE)
+        what = chance.randrange(20)
+        numbers = [index for index, token in enumerate(tokens) if NUMBER.fullmatch(token)]
+        if what > 4 and numbers:
+            # most often a number in place of another, so that many texts reach the rules
+            at = chance.choice(numbers)
+            tokens[at] = tokens[chance.choice(numbers)]
+        elif what == 0:
+            del tokens[at:]
+        elif what == 1:
+            del tokens[at]
+        elif what == 2:
+            tokens.insert(at, other)
+        else:
+            tokens[at] = other
+        if not tokens:
+            return b''
+    front = chance.choice([b'', b'', b'\n', b'%\n', b'% VER 1.1\n \t%%\n'])
+    return front + b''.join(token + chance.choice(GAPS) for token in tokens)
 
 
 def changed(text, chance):
@@ -61,6 +109,28 @@ def changed(text, chance):
             to = chance.randrange(len(text) + 1)
             text[to:to] = part
     return bytes(text)
+
+
+def of_verdict(lines):
+    """What is printed, on both streams, and the exit status, of the lines of a verdict."""
+    return f'{lines}\n'.encode(), b'', 0 if lines.startswith('verified') else 1
+
+
+def against_models(number):
+    """Of a text what differs from the models, and how often each command and status came. The first texts are the examples."""
+    chance = random.Random(f'{GIVEN.seed} model {number}')
+    text = WHOLE[number] if number < len(WHOLE) else damaged(chance.choice(SHORT), chance)
+    found, counts = [], Counter()
+    for command, model in MODELS.items():
+        for profile in PROFILES.get(command, [1, 2]):
+            words = [command, '--profile', '2'] if profile == 2 else [command]
+            wanted = model(text, profile)
+            done = subprocess.run([PROGRAM, *words], input=text, capture_output=True, check=False)
+            got = done.stdout, done.stderr, done.returncode
+            counts[f'{" ".join(words)}: status {wanted[2]}'] += 1
+            if got != wanted:
+                found.append(f'text {number}: vipr {" ".join(words)}: wanted {wanted!r}, got {got!r}: {text[:2000]!r}')
+    return found, counts
 
 
 def fault(command, words, text, file, out):
@@ -92,7 +162,7 @@ def block(first):
         chance = random.Random(f'{GIVEN.seed} {number}')
         text = chance.choice(TEXTS)
         text = chance.choice([damaged, damaged, changed])(text, chance)
-        command = chance.choice(COMMANDS)
+        command = chance.choice(list(MODELS))
         words = [command] if command == 'show' else [command, '--profile', chance.choice('12')]
         file = out = None
         if chance.randrange(2):
@@ -109,26 +179,33 @@ def block(first):
 
 
 def main():
-    failed = 0
+    failed, counts, texts = 0, Counter(), len(WHOLE) + GIVEN.models
     with multiprocessing.get_context('fork').Pool(os.cpu_count()) as pool:
-        for found in pool.imap_unordered(block, range(0, GIVEN.runs, BLOCK)):
+        modelled = pool.imap_unordered(against_models, range(texts), 10)
+        for found, seen in (*modelled, *((it, {}) for it in pool.imap_unordered(block, range(0, GIVEN.runs, BLOCK)))):
             failed += len(found)
+            counts.update(seen)
             for it in found:
                 print(it)
         pool.close()
         pool.join()
-    print(f'fuzz: {GIVEN.runs} runs, {failed} failed, {spent():.0f} seconds of processor time')
+    print(', '.join(f'{what} {number}' for what, number in sorted(counts.items())))
+    print(f'fuzz: {texts} texts and {GIVEN.runs} runs, {failed} failed, {spent():.0f} seconds of processor time')
     return int(failed > 0)
 
 
 words_of = argparse.ArgumentParser(description=__doc__.split('\n', maxsplit=1)[0])
 words_of.add_argument('program', nargs='*')
+words_of.add_argument('--models', type=int, default=1_000)
 words_of.add_argument('--runs', type=int, default=20_000)
 words_of.add_argument('--seed', default='1')
 GIVEN = words_of.parse_args()
 PROGRAM = program(GIVEN.program)
-TEXTS = [text for _, text in examples(10_000)]
-TEXTS += [text_of(family, 1500) for family in families.FAMILIES + families.HOSTILE + families.PRODUCTS]
+# the models read numbers of any length
+sys.set_int_max_str_digits(0)
+WHOLE = [text for _, text in examples(10**9)]
+SHORT = [text for text in WHOLE if len(text) < 10_000]
+TEXTS = SHORT + [text_of(family, 1500) for family in families.FAMILIES + families.HOSTILE + families.PRODUCTS]
 with tempfile.TemporaryDirectory(prefix='vipr-fuzz-') as ROOM:
     STATUS = main()
 sys.exit(STATUS)
