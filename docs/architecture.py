@@ -10,6 +10,9 @@ from html import escape
 from pathlib import Path
 
 TOP = Path(__file__).resolve().parent.parent
+sys.path.insert(0, str(TOP / 'tests'))
+from sources import levels  # noqa: E402
+
 PICTURE = TOP / 'docs/architecture.svg'
 LIFE = [('bytes', 'a file, or standard input', 'vipr_bytes'), ('tokens', 'each with its offset', 'vipr_scan'),
         ('items', 'problem, solutions, derivations', 'vipr_read'),
@@ -19,33 +22,6 @@ WIDTH, BOX, HIGH, STEP = 1000, 150, 34, 92
 PASSING, SWEEPS = 0.35, 24
 STYLE = ('text{font:14px sans-serif;fill:#222}.s{font-size:11px;fill:#555}.h{font-weight:bold}'
          'rect{fill:#eef3fa;stroke:#345;rx:5}.d{fill:#f7f1e3}.g{fill:#fff;stroke:none;rx:0}path{stroke:#678;fill:none}')
-
-
-def crates():
-    """Each crate with the crates of the repository below it, from crates.txt."""
-    out = {}
-    for line in (TOP / 'crates.txt').read_text().split('\n'):
-        head, _, tail = line.split('#')[0].partition(':')
-        if head.strip():
-            out[head.split()[0]] = tail.split()
-    return {crate: [dep for dep in deps if dep in out] for crate, deps in out.items()}
-
-
-def levels(deps):
-    below, level = {}, {}
-
-    def walk(crate):
-        if crate not in below:
-            below[crate] = set()
-            for dep in deps[crate]:
-                below[crate] |= {dep} | walk(dep)
-            level[crate] = 1 + max([level[dep] for dep in deps[crate]] + [-1])
-        return below[crate]
-    for crate in deps:
-        walk(crate)
-    direct = {crate: [dep for dep in deps[crate] if not any(dep in below[other] for other in deps[crate] if other != dep)]
-              for crate in deps}
-    return level, direct
 
 
 def layers(level, direct):
@@ -105,8 +81,7 @@ def box(x, y, wide, kind=''):
 
 
 def picture():
-    deps = crates()
-    level, direct = levels(deps)
+    level, direct = levels()
     top = max(level.values())
     graph = 150
     high = graph + top * STEP + HIGH + 20
@@ -128,13 +103,13 @@ def picture():
         path = [f'M{place[crate][0]:.0f},{place[crate][1] + HIGH:.0f}']
         for above, node in zip([crate, *nodes], nodes):
             (x, y), (to_x, to_y) = place[above], place[node]
-            end = to_y - 2 if node in deps else to_y
+            end = to_y - 2 if node in level else to_y
             middle = (y + HIGH + to_y) / 2
             path.append(f'C{x:.0f},{middle:.0f} {to_x:.0f},{middle:.0f} {to_x:.0f},{end:.0f}')
-            if node not in deps:
+            if node not in level:
                 path.append(f'L{to_x:.0f},{to_y + HIGH:.0f}')
         out.append(f'<path d="{" ".join(path)}" marker-end="url(#a)"/>')
-    for crate, (x, y) in sorted((node, place[node]) for node in deps):
+    for crate, (x, y) in sorted((node, place[node]) for node in level):
         out += [box(x, y, BOX), text(x, y + 22, crate)]
     return '\n'.join(out + ['</svg>']) + '\n'
 

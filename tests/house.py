@@ -18,6 +18,7 @@ ROOT = os.path.dirname(os.path.dirname(os.path.abspath(__file__)))
 CRATES = os.path.join(ROOT, 'crates')
 sys.path.insert(0, os.path.join(ROOT, 'tools'))
 import wrong  # noqa: E402
+from sources import crates, levels, replaced  # noqa: E402
 
 WIDTH = 100
 LENGTH = 800
@@ -32,17 +33,6 @@ def read(path):
 
 def shown(path):
     return os.path.relpath(path, ROOT)
-
-
-def crates():
-    """crates.txt: each crate with what it depends on."""
-    out = {}
-    for line in read(os.path.join(ROOT, 'crates.txt')).split('\n'):
-        line = line.split('#')[0].strip()
-        if line:
-            head, _, deps = line.partition(':')
-            out[head.split()[0]] = deps.split()
-    return out
 
 
 def files(parts, ends):
@@ -270,26 +260,11 @@ GRAPH = ('<!-- crate graph: written by `tests/house.py --write` from crates.txt 
 
 def crate_graph():
     """The graph as docs/ARCHITECTURE.md has it: by level, each crate with the crates directly below it."""
-    all_deps = crates()
-    own = {c: [d for d in deps if d in all_deps] for c, deps in all_deps.items()}
-    others = {c: [d for d in deps if d not in all_deps] for c, deps in all_deps.items()}
-    below, level = {}, {}
-
-    def walk(crate):
-        if crate not in below:
-            below[crate] = set()
-            for d in own[crate]:
-                below[crate] |= {d} | walk(d)
-            level[crate] = 1 + max([level[d] for d in own[crate]] + [-1])
-        return below[crate]
-    for crate in own:
-        walk(crate)
-    width = max(len(c) for c in own)
-    rows = []
-    for crate in sorted(own, key=lambda c: (level[c], c)):
-        direct = [d for d in sorted(own[crate]) if not any(d in below[e] for e in own[crate] if e != d)]
-        kit = ' + ' + ' '.join(others[crate]) if others[crate] else ''
-        rows.append(('%d  %s  %s%s' % (level[crate], crate.ljust(width), ' '.join(direct), kit)).rstrip())
+    deps, (level, direct) = crates(), levels()
+    width, rows = max(map(len, deps)), []
+    for crate in sorted(deps, key=lambda it: (level[it], it)):
+        kit = ''.join(' %s' % it for it in deps[crate] if it not in deps)
+        rows.append(('%d  %s  %s%s' % (level[crate], crate.ljust(width), ' '.join(sorted(direct[crate])), kit and ' +' + kit)).rstrip())
     return '\n'.join([GRAPH[0], '```text'] + rows + ['```', GRAPH[1]])
 
 
@@ -448,9 +423,8 @@ CHECKS = [foreign_proofs, private_lemmas, names_twice, types_twice, plain_words,
 def write():
     path = os.path.join(ROOT, 'docs', 'ARCHITECTURE.md')
     text = read(path)
-    new = re.sub(re.escape(GRAPH[0]) + r'(?:.|\n)*?' + re.escape(GRAPH[1]), lambda m: crate_graph(), text)
     with open(path, 'w', encoding='utf-8') as f:
-        f.write(new)
+        f.write(replaced(text, GRAPH, crate_graph()))
     subprocess.run([sys.executable, os.path.join(ROOT, 'tests', 'statement.py')], check=True)
 
 

@@ -13,21 +13,15 @@ none of the calls before it, or of the record behind `of`.
 import os
 import re
 import sys
-from pathlib import Path
 
-TOP = Path(__file__).resolve().parent.parent
+from sources import TOP, crates, replaced
+
 PROOF, CONTRACTS = TOP / 'docs/PROOF.md', TOP / 'docs/CONTRACTS.md'
 EDITS = '<!-- edits: written by `tests/proof.py` -->', '<!-- end of the edits -->'
 MARKS = '<!-- tables: written by `tests/proof.py` from the sources -->', '<!-- end of the tables -->'
 # crates that only have the public names of others
 WITHOUT_CALLS = ('vipr_text', 'vipr_lib')
 OPENS = {'{': 1, '}': -1}
-
-
-def order():
-    """The crates as crates.txt has them."""
-    lines = (TOP / 'crates.txt').read_text().split('\n')
-    return [line.split(':')[0].split()[0] for line in lines if line.split('#')[0].strip()]
 
 
 def braced(text, start):
@@ -188,14 +182,14 @@ def table(crate):
 
 def tables():
     lines = []
-    for crate in order():
+    for crate in crates():
         lines += table(crate)
     return '\n'.join([MARKS[0], ''] + lines + [MARKS[1]])
 
 
 def how_many():
     """The edits that there are today, as a sentence."""
-    count = {folder: sum(len(list(edits(crate, folder))) for crate in order()) for folder in FOLDERS}
+    count = {folder: sum(len(list(edits(crate, folder))) for crate in crates()) for folder in FOLDERS}
     return '\n'.join([EDITS[0], 'Today there are ' + ' and '.join(f'{n} in `{folder}/`' for folder, n in count.items())
                       + '.', EDITS[1]])
 
@@ -225,7 +219,7 @@ def faults_of_page(text):
     """docs/PROOF.md: each crate with calls has one heading, and a clause in brackets is one of the calls before it."""
     parts = re.findall(r'^### ((?:`vipr\w*`(?:, )?)+)\n(.*?)(?=^##|\Z)', text, re.M | re.S)
     headed = [crate for heads, _ in parts for crate in re.findall(r'`(\w+)`', heads)]
-    for crate in order():
+    for crate in crates():
         if headed.count(crate) != (crate not in WITHOUT_CALLS):
             yield f'{crate} has {headed.count(crate)} headings'
     for heads, part in parts:
@@ -247,7 +241,7 @@ def main():
     current = True
     for page, marks, made in ((CONTRACTS, MARKS, tables()), (PROOF, EDITS, how_many())):
         text = page.read_text()
-        new = re.sub(re.escape(marks[0]) + r'(?:.|\n)*' + re.escape(marks[1]), lambda m: made, text)
+        new = replaced(text, marks, made)
         if '--check' in sys.argv:
             current = current and new == text
             print(f'{os.path.relpath(page, TOP)} is {"current" if new == text else "not what tests/proof.py makes of the sources"}')

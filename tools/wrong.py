@@ -34,6 +34,7 @@ from pathlib import Path
 TOP = Path(__file__).resolve().parent.parent
 sys.path.insert(0, str(TOP / 'tests'))
 import proved  # noqa: E402
+from sources import replaced  # noqa: E402
 
 PAGE = TOP / 'docs/PROOF.md'
 MARKS = '<!-- last run: written by `make wrong` -->', '<!-- end of the last run -->'
@@ -238,10 +239,7 @@ def record(results):
     said = f'all {len(results)} were refused' if not lost else (
         f'{len(results) - len(lost)} of {len(results)} were refused, and not: {", ".join(lost)}')
     line = f'`make wrong` was last run whole on {datetime.date.today()}, {tree}: {said}.'
-    text = PAGE.read_text()
-    new = re.sub(re.escape(MARKS[0]) + r'(?:.|\n)*?' + re.escape(MARKS[1]),
-                 lambda m: f'{MARKS[0]}\n{line}\n{MARKS[1]}', text)
-    PAGE.write_text(new)
+    PAGE.write_text(replaced(PAGE.read_text(), MARKS, f'{MARKS[0]}\n{line}\n{MARKS[1]}'))
 
 
 def main(words):
