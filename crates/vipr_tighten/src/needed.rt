@@ -1,5 +1,5 @@
 //! What the goal needs: one pass from the end.
-ghost use Rattle.std.specs.Prelude.{◌&&◌, ◌≡◌, nat_eq, map, IfOk};
+ghost use Rattle.std.specs.Prelude.{◌&&◌, nat_eq, map, IfOk};
 ghost use Rattle.std.specs.List.{list_any};
 ghost use Rattle.vipr_spec.specs.Reading.{is_nonzero};
 ghost use Rattle.vipr_spec.specs.Tightened.{include, refers_to};
