@@ -2,7 +2,8 @@
 //!
 //! One pass from the end marks the derivations that the goal needs. One pass from the front gives
 //! them their new indices and last references. Rows are moved and never copied. From a source to a
-//! sink names and rows of derivations are kept as the text that is written for them.
+//! sink names and rows of derivations are kept as the text that is written for them, before the
+//! checker takes the row.
 #![tactic(auto)]
 
 mod certificate;

@@ -96,7 +96,7 @@ fn read_rest<R: Source + Drop>(
         &mut listed,
         &mut steps,
     );
-    // The checker is given up at this one place, whatever was answered.
+    // The checker is given up, whatever was answered.
     let problem = checker.into_problem();
     match read {
         Ok((statements, report)) => Ok(KeptProof {
@@ -159,7 +159,6 @@ fn read_items<R: Source + Drop>(
         &mut step,
         steps,
     );
-    // Dropped at this one place, whatever was answered.
     drop(step);
     drop(derivations);
     match derived {
@@ -242,8 +241,8 @@ fn read_derived<R: Source>(
             let report = checker.finish()?;
             return Ok(report);
         }
-        checker.derivation(alloc, step)?;
         let kept = statements.keep(alloc, step)?;
+        checker.take_from(alloc, step)?;
         steps.push(kept)?;
     }
 }

@@ -91,7 +91,6 @@ pub fn tighten_as<R: Source + Drop, W: Sink>(
     match read_proof(alloc, profile, form, source) {
         Ok(mut proof) => {
             let written = write_tightened(alloc, &mut proof, sink);
-            // Dropped at this one place, whatever was answered.
             drop(proof);
             written
         }

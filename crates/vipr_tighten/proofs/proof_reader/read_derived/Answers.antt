@@ -26,38 +26,38 @@ steps-init g c =
       );
     })
 
-pub derivation-requires-clause-phase : goal.derivation-requires-clause-phase
-derivation-requires-clause-phase g c =
+pub take_from-requires-clause-phase : goal.take_from-requires-clause-phase
+take_from-requires-clause-phase g c =
     let (P, p, ss, is) = c.requires.at in
     let (ds, steps, kept) = c.steps.invariant.read in
     (kept P p ss is).is_at.phase
 
-pub derivation-requires-clause-room : goal.derivation-requires-clause-room
-derivation-requires-clause-room g c =
+pub take_from-requires-clause-room : goal.take_from-requires-clause-room
+take_from-requires-clause-room g c =
     let (P, p, ss, is) = c.requires.at in
     let (ds, steps, kept) = c.steps.invariant.read in
     let h = rw c.if-not-found.false at c.in_ok-found.ensures in
     room_for P (with_more (start p ss) ds) c.steps.checker c.steps.derivations c.next_into.new.self.left (kept P p ss is).is_at h.moves.counted
 
-pub derivation-requires-clause-names : goal.derivation-requires-clause-names
-derivation-requires-clause-names g c =
+pub take_from-requires-clause-names : goal.take_from-requires-clause-names
+take_from-requires-clause-names g c =
     let (P, p, ss, is) = c.requires.at in
     let (ds, steps, kept) = c.steps.invariant.read in
     let h = rw c.if-not-found.false at c.in_ok-found.ensures in
     names_for P (with_more (start p ss) ds) c.steps.checker c.steps.derivations (at c.next_into.new.step.constraint.row) (kept P p ss is).is_at h.shape.row
 
-pub returns-in_err-derivation-clause-unproved :
-    goal.returns-in_err-derivation-clause-unproved
-returns-in_err-derivation-clause-unproved g c =
-    let e = c.in_err-derivation.field-0.0 in
-    err_given _ c.from_residual-in_err-derivation.result (stop_reason e) c.from_residual-in_err-derivation.ensures.1 (λ P p ss is known.
+pub returns-in_err-take_from-clause-unproved :
+    goal.returns-in_err-take_from-clause-unproved
+returns-in_err-take_from-clause-unproved g c =
+    let e = c.in_err-take_from.field-0.0 in
+    err_given _ c.from_residual-in_err-take_from.result (stop_reason e) c.from_residual-in_err-take_from.ensures.1 (λ P p ss is known.
     let (ds, steps, keeps) = c.steps.invariant.read in
     let h = rw c.if-not-found.false at c.in_ok-found.ensures in
     let s = start p ss in
     let now = with_more s ds in
     let kept = keeps P p ss is in
-    step_refused P s now c.steps.checker c.derivation.new.self c.args.derivations.now c.steps.derivations kept c.next_into.new.self (derivation_of c.next_into.new.step) h.moves.counted h.moves.remembers h.moves.working
-    (λ t. let r = h.read p kept.is_at.knows t in (r.1, r.2)) h.shape.reason e (c.in_err-derivation.ensures.next now kept.is_at.runs kept.is_at.has) known)
+    step_refused P s now c.steps.checker c.take_from.new.self c.args.derivations.now c.steps.derivations kept c.next_into.new.self (derivation_of c.next_into.new.step) h.moves.counted h.moves.remembers h.moves.working
+    (λ t. let r = h.read p kept.is_at.knows t in (r.1, r.2)) h.shape.reason e (c.in_err-take_from.ensures.next now kept.is_at.runs kept.is_at.has) known)
 
 pub steps-preserved : goal.steps-preserved
 steps-preserved g c =
@@ -81,8 +81,8 @@ steps-preserved g c =
         λ P p ss is.
             let kept = keeps P p ss is in
             let now = with_more (start p ss) ds in
-            step_accepted P (start p ss) now c.steps.checker c.derivation.new.self first old kept c.next_into.new.self d h.moves.counted h.moves.remembers h.moves.working
-            (λ t. let r = h.read p kept.is_at.knows t in (r.1, r.2)) (c.in_ok-derivation.ensures.next now kept.is_at.runs kept.is_at.has),
+            step_accepted P (start p ss) now c.steps.checker c.take_from.new.self first old kept c.next_into.new.self d h.moves.counted h.moves.remembers h.moves.working
+            (λ t. let r = h.read p kept.is_at.knows t in (r.1, r.2)) (c.in_ok-take_from.ensures.next now kept.is_at.runs kept.is_at.has),
       );
     })
 
