@@ -6,7 +6,6 @@ use Rattle.std.proofs.Math.ListN.{set}
 use Rattle.std.specs.Ordering.{int_eq}
 use Rattle.std.specs.List.{list_any}
 use Rattle.std.proofs.lemmas.List.{get_or-map, length-map, take_all}
-use Rattle.vipr_spec.specs.Fraction.{ℚ}
 use Rattle.vipr_spec.specs.Constraint.{Constraint}
 use Rattle.vipr_spec.specs.Certificate.{Named}
 use Rattle.vipr_spec.specs.Reading.{is_nonzero}
@@ -33,36 +32,35 @@ module _ (es : List ShortEntry) (i : ℕ) where
   all_short h = take_all i (map entry_of es) (let e = length-map es entry_of in omega arith)
 
 -- what the test of its multiplier says
-short_nonzero : (e : ShortEntry) (x : ℚ) → x ≡ multiplier_of e → (a b : Bool)
-    → a ≡ int_eq x.numer (pos 0) → a ≡ b → is_nonzero (entry_of e) ≡ not b
-short_nonzero e x is a b t h =
-    sym (ap (λ (y : ℚ). not (int_eq y.numer (pos 0))) is) ∙ ap not (sym t ∙ h)
+short_nonzero : (e : ShortEntry) (a b : Bool) → a ≡ int_eq (multiplier_of e).numer (pos 0) → a ≡ b
+    → is_nonzero (entry_of e) ≡ not b
+short_nonzero e a b t h = ap not (sym t ∙ h)
 
 -- ---- one entry more
 
-module _ (first : ℕ) (short : List ShortEntry) (i : ℕ) (d : ShortEntry) (x : ℚ) (h : i < length short) (is : x ≡ multiplier_of (get_or short i d)) (b : Bool) (t : b ≡ int_eq x.numer (pos 0))
+module _ (first : ℕ) (short : List ShortEntry) (i : ℕ) (d : ShortEntry) (h : i < length short) (b : Bool) (t : b ≡ int_eq (multiplier_of (get_or short i d)).numer (pos 0))
     (old mid : List Bool) (size : length mid ≡ length old) where
   pub short_marked : (new : List Bool) → b ≡ false → MarksAlso first (λ j. list_any (λ e. nat_eq j e.0 && is_nonzero e) (take i (map entry_of short))) old mid
       → MarksAlso first (λ j. nat_eq j (get_or short i d).index) mid new
       → MarksAlso first (λ j. list_any (λ e. nat_eq j e.0 && is_nonzero e) (take (i + 1) (map entry_of short))) old new
   short_marked new f a m =
-      entry_marked first (map entry_of short) i (entry_of (get_or short i d)) (short_inside short i h) (short_read_or short i d h) old mid size new (short_nonzero (get_or short i d) x is b false t f) a m
+      entry_marked first (map entry_of short) i (entry_of (get_or short i d)) (short_inside short i h) (short_read_or short i d h) old mid size new (short_nonzero (get_or short i d) b false t f) a m
 
   pub short_passed : b ≡ true → MarksAlso first (λ j. list_any (λ e. nat_eq j e.0 && is_nonzero e) (take i (map entry_of short))) old mid
       → MarksAlso first (λ j. list_any (λ e. nat_eq j e.0 && is_nonzero e) (take (i + 1) (map entry_of short))) old mid
   short_passed f a =
-      entry_passed first (map entry_of short) i (entry_of (get_or short i d)) (short_inside short i h) (short_read_or short i d h) old mid size (short_nonzero (get_or short i d) x is b true t f) a
+      entry_passed first (map entry_of short) i (entry_of (get_or short i d)) (short_inside short i h) (short_read_or short i d h) old mid size (short_nonzero (get_or short i d) b true t f) a
 
-module _ {S : Type 0} (view : S → Named Constraint) (last first : ℕ) (short : List ShortEntry) (i : ℕ) (d : ShortEntry) (x : ℚ) (h : i < length short) (is : x ≡ multiplier_of (get_or short i d)) (b : Bool) (t : b ≡ int_eq x.numer (pos 0))
+module _ {S : Type 0} (view : S → Named Constraint) (last first : ℕ) (short : List ShortEntry) (i : ℕ) (d : ShortEntry) (h : i < length short) (b : Bool) (t : b ≡ int_eq (multiplier_of (get_or short i d)).numer (pos 0))
     (old mid : List (Step S)) (so_far : map (step_of view) mid ≡ referred_by (λ j. list_any (λ e. nat_eq j e.0 && is_nonzero e) (take i (map entry_of short))) last first (map (step_of view) old)) where
   pub short_referred : (new : List (Step S)) → b ≡ false → map (step_of view) new ≡ referred_by (λ j. nat_eq j (get_or short i d).index) last first (map (step_of view) mid)
       → map (step_of view) new ≡ referred_by (λ j. list_any (λ e. nat_eq j e.0 && is_nonzero e) (take (i + 1) (map entry_of short))) last first (map (step_of view) old)
   short_referred new f this =
-      entry_referred view last first (map entry_of short) i (entry_of (get_or short i d)) (short_inside short i h) (short_read_or short i d h) old mid so_far new (short_nonzero (get_or short i d) x is b false t f) this
+      entry_referred view last first (map entry_of short) i (entry_of (get_or short i d)) (short_inside short i h) (short_read_or short i d h) old mid so_far new (short_nonzero (get_or short i d) b false t f) this
 
   pub short_skipped : b ≡ true → map (step_of view) mid ≡ referred_by (λ j. list_any (λ e. nat_eq j e.0 && is_nonzero e) (take (i + 1) (map entry_of short))) last first (map (step_of view) old)
   short_skipped f =
-      entry_skipped view last first (map entry_of short) i (entry_of (get_or short i d)) (short_inside short i h) (short_read_or short i d h) old mid so_far (short_nonzero (get_or short i d) x is b true t f)
+      entry_skipped view last first (map entry_of short) i (entry_of (get_or short i d)) (short_inside short i h) (short_read_or short i d h) old mid so_far (short_nonzero (get_or short i d) b true t f)
 
 -- ---- changes
 

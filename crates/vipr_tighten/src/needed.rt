@@ -80,7 +80,7 @@ fn mark_short_entries(marks: &mut [bool], first: usize, entries: &[ShortEntry])
         marks.old marks.new }
 {
     for entry in entries {
-        if !entry.multiplier().is_zero() {
+        if !entry.is_zero() {
             mark(marks, first, entry.index);
         }
     }

@@ -101,7 +101,7 @@ fn renumber_short_entries(entries: &mut Vec<ShortEntry>, first: u32, table: &[u3
     ensures { map entry_of entries.new.items
         ≡ renumbered_entries (index_by first table.now) (map entry_of entries.old.items) }
 {
-    entries.retain(|entry| !entry.multiplier().is_zero());
+    entries.retain(|entry| !entry.is_zero());
     for i in 0..entries.len() {
         entries[i].index = index_of(entries[i].index, first, table);
     }
@@ -113,7 +113,7 @@ fn renumbered_one(alloc: Global, entry: ShortEntry, first: u32, table: &[u32]) -
     ensures { kept_reason_of result
         ≡ lin (renumbered_entries (index_by first table.now) (entry_of entry ∷ [])) }
 {
-    if entry.multiplier().is_zero() {
+    if entry.is_zero() {
         StepReason::Lin(Vec::new(alloc))
     } else {
         let mut moved = entry;
@@ -218,7 +218,7 @@ fn set_last_short<S>(kept: &mut [Step<S>], first: u32, entries: &[ShortEntry], l
         (map (step_of view) kept.old) }
 {
     for entry in entries {
-        if !entry.multiplier().is_zero() {
+        if !entry.is_zero() {
             set_last_at(kept, first, entry.index, last);
         }
     }

@@ -1,5 +1,6 @@
 //! The reason of a step, which takes little memory.
-ghost use Rattle.std.specs.Prelude.{◌≡◌, ◌≤◌, ◌↔◌, IfOk, IfSome, IsSome, length, map};
+ghost use Rattle.std.specs.Prelude.{◌≡◌, ◌≤◌, ◌↔◌, IfOk, IfSome, IsSome, length, map, pos};
+ghost use Rattle.std.specs.Ordering.{int_eq};
 ghost use Rattle.vipr_spec.specs.Certificate.{lin, reason_references, rnd};
 ghost use Rattle.vipr_spec.specs.Reading.{most_bytes};
 ghost use Rattle.vipr_cert.specs.Items.{reason_of};
@@ -53,6 +54,17 @@ impl ShortEntry {
             }),
             _ => None,
         }
+    }
+
+    /// Whether its multiplier is 0. That takes no greatest common divisor.
+    #[inline(always)]
+    pub fn is_zero(self) -> bool
+        ensures { result ≡ int_eq (multiplier_of self).numer (pos 0) }
+    {
+        if self.denom == 0 {
+            return true;
+        }
+        self.numer == 0
     }
 
     /// Its multiplier.

@@ -11,10 +11,10 @@ pub loop-entry-preserved : goal.loop-entry-preserved
 loop-entry-preserved c = elim c.if-not-is_zero.branch [
   | then-not-is_zero w ↦
       rw w.marks-is
-      (short_marked c.args.first c.args.entries.now c.loop-entry.entry-index _ c.multiplier.result c.loop-entry-test.true c.multiplier.ensures c.is_zero.result c.is_zero.ensures.zero c.args.marks.now c.loop-entry.marks c.loop-entry.auto.marks w.mark.new.marks w.if-not-is_zero.true c.loop-entry.invariant w.mark.ensures)
+      (short_marked c.args.first c.args.entries.now c.loop-entry.entry-index _ c.loop-entry-test.true c.is_zero.result c.is_zero.ensures c.args.marks.now c.loop-entry.marks c.loop-entry.auto.marks w.mark.new.marks w.if-not-is_zero.true c.loop-entry.invariant w.mark.ensures)
   | else-not-is_zero w ↦
       rw w.marks-is
-      (short_passed c.args.first c.args.entries.now c.loop-entry.entry-index _ c.multiplier.result c.loop-entry-test.true c.multiplier.ensures c.is_zero.result c.is_zero.ensures.zero c.args.marks.now c.loop-entry.marks c.loop-entry.auto.marks w.if-not-is_zero.false c.loop-entry.invariant)
+      (short_passed c.args.first c.args.entries.now c.loop-entry.entry-index _ c.loop-entry-test.true c.is_zero.result c.is_zero.ensures c.args.marks.now c.loop-entry.marks c.loop-entry.auto.marks w.if-not-is_zero.false c.loop-entry.invariant)
 ]
 
 pub returns : goal.returns

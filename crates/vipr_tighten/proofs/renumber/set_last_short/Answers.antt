@@ -16,10 +16,10 @@ pub loop-entry-preserved : goal.loop-entry-preserved
 loop-entry-preserved g c = λ view. elim c.if-not-is_zero.branch [
   | then-not-is_zero w ↦
       rw w.kept-is
-      (short_referred view c.args.last c.args.first c.args.entries.now c.loop-entry.entry-index _ c.multiplier.result c.loop-entry-test.true c.multiplier.ensures c.is_zero.result c.is_zero.ensures.zero c.args.kept.now c.loop-entry.kept (c.loop-entry.invariant view) w.set_last_at.new.kept w.if-not-is_zero.true (w.set_last_at.ensures view))
+      (short_referred view c.args.last c.args.first c.args.entries.now c.loop-entry.entry-index _ c.loop-entry-test.true c.is_zero.result c.is_zero.ensures c.args.kept.now c.loop-entry.kept (c.loop-entry.invariant view) w.set_last_at.new.kept w.if-not-is_zero.true (w.set_last_at.ensures view))
   | else-not-is_zero w ↦
       rw w.kept-is
-      (short_skipped view c.args.last c.args.first c.args.entries.now c.loop-entry.entry-index _ c.multiplier.result c.loop-entry-test.true c.multiplier.ensures c.is_zero.result c.is_zero.ensures.zero c.args.kept.now c.loop-entry.kept (c.loop-entry.invariant view) w.if-not-is_zero.false)
+      (short_skipped view c.args.last c.args.first c.args.entries.now c.loop-entry.entry-index _ c.loop-entry-test.true c.is_zero.result c.is_zero.ensures c.args.kept.now c.loop-entry.kept (c.loop-entry.invariant view) w.if-not-is_zero.false)
 ]
 
 pub returns : goal.returns
