@@ -137,7 +137,7 @@ def comments_stand_alone():
 WORD = re.compile(r"[^\s(){}\[\];,.]+")
 USE = re.compile(r'^[ \t]*(?:(pub|pub\(\w+\)|ghost|unfoldable) )*use ([^{;\n]*)(\{[^}]*\})?[^;\n]*;?$', re.M)
 # what a `use` brings without its name: calls of a trait, and notations
-UNNAMED = {'Write', 'Read', 'Hash', 'Hasher', 'ByteSlice', 'MetadataExt', 'OpenOptionsExt', '_', '*',
+UNNAMED = {'Write', 'Read', 'Seek', 'Hash', 'Hasher', 'ByteSlice', 'MetadataExt', 'OpenOptionsExt', '_', '*',
            '◌>>=◌', '[]', 'if◌then◌else◌'}
 
 
