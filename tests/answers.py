@@ -590,6 +590,8 @@ def other_words():
     check(b'[possible values: 1, 2]\n' in answer(['check', '--profile', '3'])[1], 'the profiles are not told')
     for words in ['help'], ['help', 'check'], ['help', 'explain'], ['help', 'show'], ['help', 'tighten']:
         expect('help', answer([*words[1:], '--help']), words)
+    for word in '--help', '-h':
+        expect('help of help', answer(['help']), ['help', word])
     expect('the version', (b'vipr 1.0.0\n', b'', 0), ['--version'])
     expect('whole_objective', judged(EDITS['whole_objective'][0][3]), ['explain', '--profile=2'],
            certificate('whole_objective'))

@@ -1,14 +1,15 @@
 -- What clap's parse of the line says, for `job`.
 use Rattle.std.proofs.Common.{◌≡◌, ◌∙◌, ap, refl, sym, subst, true≢false, inl, inr, ◌⊎◌, List, []}
 use Rattle.std.proofs.Common.{◌∷◌, Option, Some, None, Bool, true, false, codes, is_some}
-use Rattle.std.proofs.Common.{option_map, find, if◌then◌else◌, ◌&&◌}
-use Rattle.std.specs.Prelude.{IfErr, Result, Ok, Err, IsErrAnd}
+use Rattle.std.proofs.Common.{map, option_map, find, if◌then◌else◌, ◌&&◌, take}
+use Rattle.std.specs.Prelude.{IfErr, IfOk, Result, Ok, Err, IsErrAnd}
 use Rattle.clap.specs.declared.error.Error.{Error}
 use Rattle.clap.specs.Walk.{idle, nothing_held, stop_after, walk, walk_from, settled, finished}
+use Rattle.clap.specs.Takes.{walk_passes}
 use Rattle.clap.specs.Faults.{walk_fault, entered_fault, settle_fault, defaults_fault}
 use Rattle.clap.specs.Kinds.{FailsBy, HasKind, IsAmong, Kinds, or_else}
 use Rattle.clap.specs.declared.error.ErrorKind.{ErrorKind}
-use Rattle.clap.specs.declared.error.ErrorKind.TheVariants.{InvalidValue}
+use Rattle.clap.specs.declared.error.ErrorKind.TheVariants.{DisplayHelp, InvalidSubcommand, InvalidValue}
 use Rattle.clap.specs.Faults.{check_fault}
 use Rattle.clap.specs.Walk.{answers_to}
 use Rattle.clap.specs.Simple.{argument_words, built, entered, label_of, names_of, rows_at}
@@ -18,9 +19,10 @@ use Rattle.clap.specs.Words.{subcommand_rows_of, takes}
 use Rattle.clap.specs.declared.parser.matches.ArgMatches.{ArgMatches}
 use Rattle.clap.specs.declared.parser.matches.ArgMatches.TheViews.{out-ArgMatches}
 use Rattle.std.specs.Str.{bytes_eq}
+use Rattle.std.proofs.lemmas.Slice.Eq.{bytes_eq-Decides}
 use Rattle.vipr_command.proofs.HelpLemmas.{NotHelp, first_none, later_none, met_help, never_met}
 use Rattle.vipr_rules.specs.declared.profile.Profile.{Profile}
-use Rattle.vipr_command.specs.Args.{are_accepted, request_of, asked_by, command_word, file_named}
+use Rattle.vipr_command.specs.Args.{are_accepted, asks_for_help, request_of, asked_by, command_word, file_named}
 use Rattle.vipr_command.specs.Args.{form_asked, is_long_asked, line, names_profile, profile_named}
 use Rattle.vipr_command.specs.Args.{words_fault}
 use Rattle.vipr_command.specs.declared.request.Job.{Job}
@@ -192,3 +194,52 @@ module _ (words : List Text) (name : Text) (rows : List Row) (e : subcommand_of 
     profile_wrong f x k =
         let is : words_fault words ≡ InvalidValue ∷ [] = later_fault (fault_of line words) (names_profile words) f ∙ ap (λ b. if b then [] else InvalidValue ∷ []) (names_by None h) in
         subst (λ ks. HasKind ks x) (sym is) (inr (inl k))
+
+-- ---- `help --help`
+
+-- `help` ends the words, whatever follows it
+help_fault : (name : Text) (rest : List Text)
+    → fault_of line (name ∷ codes "help" ∷ rest) ≡ DisplayHelp ∷ InvalidSubcommand ∷ []
+unfolding line walk_fault
+help_fault name rest = refl
+
+help_refused : (name : Text) (rest : List Text) → takes line (name ∷ codes "help" ∷ rest) ≡ true → ⊥
+unfolding line walk_passes
+help_refused name rest h = true≢false (sym (and_second _ _ h))
+
+abbrev pub AsksHelp : List Text → Type 0
+AsksHelp words = (name : Text) × (rest : List Text) × (words ≡ name ∷ codes "help" ∷ rest)
+
+pub help_asked : (words : List Text) → asks_for_help words ≡ true → AsksHelp words
+help_asked [] h = cc
+help_asked (a ∷ []) h = cc
+help_asked (a ∷ b ∷ []) h = cc
+help_asked (a ∷ b ∷ c ∷ []) h = (a, c ∷ [], ap (λ x. a ∷ x ∷ c ∷ []) ((bytes_eq-Decides b (codes "help")).0 (and_first _ _ h)))
+help_asked (a ∷ b ∷ c ∷ d ∷ e) h = cc
+
+-- so do the first two of such words
+pub still_asked : {X : Type 0} (f : X → Text) (words : List X) → AsksHelp (map f words)
+    → AsksHelp (map f (take 2 words))
+still_asked f [] (name, rest, e) = cc
+still_asked f (a ∷ []) (name, rest, e) = cc
+still_asked f (a ∷ b ∷ more) (name, rest, e) = let is : f b ≡ codes "help" = cc in (f a, [], ap (λ x. f a ∷ x ∷ []) is)
+
+asked_fault : (words : List Text) → AsksHelp words
+    → words_fault words ≡ DisplayHelp ∷ InvalidSubcommand ∷ []
+asked_fault words (name, rest, e) =
+    let given = name ∷ codes "help" ∷ rest in
+    ap (λ ws. words_fault ws) e ∙ ap (λ k. or_else k (if names_profile given then [] else InvalidValue ∷ [])) (help_fault name rest)
+
+pub asked_kinds : {T : Type 0} (r : Result T Error) (words short : List Text) → AsksHelp words
+    → AsksHelp short → FailsBy (words_fault short) r → FailsBy (words_fault words) r
+asked_kinds r words short a b h = subst (λ k. FailsBy k r) (asked_fault short b ∙ sym (asked_fault words a)) h
+
+pub asked_ok : {T : Type 0} (r : Result T Error) (short : List Text) (P : T → Type 0)
+    → AsksHelp short → FailsBy (words_fault short) r → IfOk r P
+asked_ok (Ok x) short P b h = let bad : DisplayHelp ∷ InvalidSubcommand ∷ [] ≡ [] = sym (asked_fault short b) ∙ h in cc
+asked_ok (Err e) short P b h = tt
+
+pub asked_err : {T : Type 0} (r : Result T Error) (words : List Text) (P : Error → Type 0)
+    → AsksHelp words → IfErr r (λ e. are_accepted words ≡ true → P e)
+asked_err (Ok x) words P a = tt
+asked_err (Err x) words P (name, rest, e) = λ t. absurd (help_refused name rest (subst (λ ws. takes line ws ≡ true) e (accepted_by_clap words t)))

@@ -1,5 +1,5 @@
 -- The program's command line as clap's parse reads it, and what a command line asks for.
-use Rattle.std.specs.Prelude.{◌≡◌, ◌&&◌, Bool, true, false, List, [], ◌∷◌, Option, Some, None}
+use Rattle.std.specs.Prelude.{◌≡◌, ◌&&◌, ◌||◌, Bool, true, false, List, [], ◌∷◌, Option, Some, None}
 use Rattle.std.specs.Prelude.{codes, if◌then◌else◌, is_some, option_map}
 use Rattle.std.specs.Option.{option_map_or}
 use Rattle.std.specs.Str.{bytes_eq}
@@ -147,6 +147,12 @@ names_profile words = option_map_or (λ r. is_some r.1) (asked_by words) true
 -- clap takes the words, and their profile is one
 abbrev pub are_accepted : List Text → Bool
 are_accepted words = takes line words && names_profile words
+
+-- the words are `help` and a call for help
+abbrev pub asks_for_help : List Text → Bool
+asks_for_help (name ∷ command ∷ word ∷ []) = bytes_eq command (codes "help")
+    && (bytes_eq word (codes "--help") || bytes_eq word (codes "-h"))
+asks_for_help _ = false
 
 -- the kinds of error that the words may give: those of clap's parse, and then that of a wrong
 -- profile

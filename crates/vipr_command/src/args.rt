@@ -2,10 +2,11 @@
 ghost use Rattle.std.specs.Prelude.{◌≡◌, Some, IfErr, IfOk, IfSome, IsNone, true, map, option_map};
 ghost use Rattle.clap.specs.Words.{FailsBy, app_of, kind_of};
 ghost use Rattle.vipr_command.specs.Args.{IsArgument, IsCommand, app_for, are_accepted, asked_by};
-ghost use Rattle.vipr_command.specs.Args.{bare, command_word, compact_rule, file_named, file_rule};
-ghost use Rattle.vipr_command.specs.Args.{flag_rule, form_asked, is_long_asked, line, long_rule};
-ghost use Rattle.vipr_command.specs.Args.{out_rule, profile_named, profile_rule, request_of};
-ghost use Rattle.vipr_command.specs.Args.{with_file, with_task, words_fault};
+ghost use Rattle.vipr_command.specs.Args.{asks_for_help, bare, command_word, compact_rule};
+ghost use Rattle.vipr_command.specs.Args.{file_named, file_rule, flag_rule, form_asked};
+ghost use Rattle.vipr_command.specs.Args.{is_long_asked, line, long_rule, out_rule, profile_named};
+ghost use Rattle.vipr_command.specs.Args.{profile_rule, request_of, with_file, with_task};
+ghost use Rattle.vipr_command.specs.Args.{words_fault};
 ghost use Rattle.vipr_command.specs.declared.request.Task.{Task};
 
 use crate::request::{Job, Task};
@@ -26,9 +27,38 @@ pub fn job<'a>(alloc: Global, words: &'a [&'a str]) -> Result<Job<'a>, Error>
     ensures kinds { FailsBy (words_fault (map (λ w. w.now) words.entry.now)) result }
 {
     let mut line = command_line(alloc)?;
-    let read = job_by(alloc, &mut line, words);
+    let read = job_for(alloc, &mut line, words);
     drop(line);
     read
+}
+
+/// Reads a command line, `help --help` as `help`.
+fn job_for<'a>(
+    alloc: Global,
+    commands: &mut Command<'a>,
+    words: &'a [&'a str],
+) -> Result<Job<'a>, Error>
+    requires { app_of commands.old ≡ line }
+    ensures ok { IfOk result
+        (λ j. asked_by (map (λ w. w.now) words.entry.now) ≡ Some (request_of j)) }
+    ensures err { IfErr result (λ e. are_accepted (map (λ w. w.now) words.entry.now) ≡ true
+        → kind_of e ≡ ErrorKind.OutOfMemory) }
+    ensures kinds { FailsBy (words_fault (map (λ w. w.now) words.entry.now)) result }
+{
+    if asks_for_help(words) {
+        job_by(alloc, commands, &words[..2])
+    } else {
+        job_by(alloc, commands, words)
+    }
+}
+
+fn asks_for_help(words: &[&str]) -> bool
+    ensures { result ≡ asks_for_help (map (λ w. w.now) words.now) }
+{
+    match words {
+        [_, command, word] => *command == "help" && (*word == "--help" || *word == "-h"),
+        _ => false,
+    }
 }
 
 /// Reads a command line by the program's commands.
