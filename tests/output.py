@@ -559,13 +559,12 @@ def failing_calls(text, tight, kept):
 def without_names():
     """Where no name beside OUT can be had, nothing is written."""
     folder, file = fresh()
-    _, lines_of = traced(['tighten', file, '--out', file], '-e', 'trace=openat')
-    before = len(lines_of) - 2
+    trace = Path(WORK, 'openat')
+    subprocess.run(['strace', '-o', trace, '-e', 'trace=openat', PROGRAM, 'tighten', file, '--out', file], capture_output=True,
+                   check=True)
+    first = next(n for n, line in enumerate(trace.read_text().split('\n'), 1) if 'O_EXCL' in line)
     file.write_bytes(LOOSE)
-    # the calls of the loader come before those that traced gives
-    loader = 2
-    got, tried = traced(['tighten', file, '--out', file], '-e', 'trace=openat', '-e',
-                        f'inject=openat:error=EEXIST:when={loader + before + 1}+')
+    got, tried = traced(['tighten', file, '--out', file], '-e', 'trace=openat', '-e', f'inject=openat:error=EEXIST:when={first}+')
     expect('all names beside OUT in use', got, (b'', NOT_WRITTEN, 3))
     expect('the names that were tried', len({line for line in tried if 'O_EXCL' in line}), 16)
     expect('all names beside OUT in use: OUT', (file.read_bytes(), names(folder)), (LOOSE, ['a.vipr']))
