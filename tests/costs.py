@@ -3,10 +3,10 @@
 
 usage: tests/costs.py [--write] [PROGRAM]     crates/vipr/out/vipr without it
 
-Of each family of PRODUCTS and HOSTILE (bench/families.py) a text and one of four times its length are checked;
-instructions and the peak of memory may grow by five times at most. Each command may have no more memory than MOST bytes for a byte of
-text, whatever it writes, beside what an empty run has and ROOM; that is tried with the families of KEPT, and with
-constraints written `OBJ`, which are much longer in the canonical text.
+Of each family of PRODUCTS and HOSTILE (bench/families.py) a text and one of four times its length are checked, and
+written in the compact form; instructions and the peak of memory may grow by five times at most. Each command may have
+no more memory than MOST bytes for a byte of text, whatever it writes, beside what an empty run has and ROOM; that is
+tried with the families of KEPT, and with constraints written `OBJ`, which are much longer in the canonical text.
 
 Instructions are counted by valgrind and memory is measured by GNU time; what isn't there is left out, and a line says
 so. --write writes the figures into docs/SECURITY.md. Prints each fault, and last `costs: N checks, F failed, S seconds
@@ -24,6 +24,8 @@ import families
 
 # what doesn't meet its bound yet: pairs of a family's name and a command
 OPEN = set()
+# the commands that write the compact text
+COMPACT = 'show --compact', 'tighten --compact'
 # how much more a text of four times the length may cost
 GROWTH = 5
 # bytes of memory for a byte of text, and what is free beside them
@@ -48,7 +50,7 @@ def check(good, name, command, what):
 
 
 def file_of(family, command, length):
-    path = f'{ROOM_FOR_FILES}/{family.__name__}.{command}.{length}'
+    path = f'{ROOM_FOR_FILES}/{family.__name__}.{command.replace(" ", "")}.{length}'
     Path(path).write_bytes(text_of(family, length))
     return path, os.path.getsize(path)
 
@@ -60,7 +62,7 @@ def growth(task):
     for measure, is_there, length, free in ((instructions, VALGRIND, least, 0),
                                             (peak, GNU_TIME, max(least, MEMORY_LENGTH), EMPTY)):
         files = [file_of(family, command, it) for it in (length, 4 * length)]
-        known = [is_there and measure([PROGRAM, command, path], SECONDS) for path, _ in files]
+        known = [is_there and measure([PROGRAM, *command.split(), path], SECONDS) for path, _ in files]
         times = files[1][1] / files[0][1] / 4
         found.append((known[1] - free) / (known[0] - free) / times if all(known) else None if is_there else 0)
     return found
@@ -78,16 +80,27 @@ def figure(number):
     return f'over {SECONDS} seconds' if number is None else f'{number:.1f}' if number else 'not measured'
 
 
+def row(what, command, found):
+    return f'| {what} | `{command}` | {figure(found[0])} | {figure(found[1])} |'
+
+
 def growths(pool):
     """Checks the families of PRODUCTS and HOSTILE, and gives the rows of their table."""
-    tasks = [(family, 'check') for family in families.PRODUCTS + families.HOSTILE]
-    tasks += [(families.objective_tested, 'explain')]
+    chosen = families.PRODUCTS + families.HOSTILE
+    tasks = [(family, 'check') for family in chosen] + [(families.objective_tested, 'explain')]
+    tasks += [(family, command) for command in COMPACT for family in chosen]
+    most = {command: [0, 0] for command in COMPACT}
     for (family, command), found in zip(tasks, pool.map(growth, tasks)):
         name = family.__name__
         for what, times in zip(('instructions', 'memory'), found):
             check(times is not None, name, command, f'{what}: not verified within {SECONDS} seconds')
             check((times or 0) <= GROWTH, name, command, f'{what}: {times or 0:.1f} times for 4 times the text')
-        yield f'| {ABOUT[name]} | `{command}` | {figure(found[0])} | {figure(found[1])} |'
+        if command in COMPACT:
+            most[command] = [max(*pair, key=lambda times: times or 0) for pair in zip(most[command], found)]
+        else:
+            yield row(ABOUT[name], command, found)
+    for command, found in most.items():
+        yield row('the most of all these texts', command, found)
 
 
 def memory(pool):
