@@ -1,1 +1,5 @@
 mod Handed
+mod Grown
+mod Handing
+mod Putting
+pub mod Laws

@@ -1,5 +1,5 @@
 -- The law of a writer whose accepted bytes are known.
-use Rattle.std.specs.Prelude.{◌≡◌, ℕ, zero, suc, ◌+◌, ◌-◌, ◌<◌, ◌≤◌, List, ◌++◌, take, Option, Some}
+use Rattle.std.specs.Prelude.{◌≡◌, ℕ, zero, suc, ◌-◌, ◌<◌, ◌≤◌, List, ◌++◌, take, Option, Some}
 use Rattle.std.specs.Prelude.{None, option_map, IfSome, Result, Ok, Err}
 use Rattle.vipr_bytes.specs.declared.source.Failed.{Failed}
 

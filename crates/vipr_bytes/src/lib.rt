@@ -8,10 +8,16 @@
 /// How many bytes a reader or a writer over a buffer of its own holds at most.
 pub const BUFFER_BYTES: usize = 65_536;
 
+mod growing;
+mod out;
 mod sink;
+mod sink_buffer;
 mod source;
 mod write;
 
+pub use growing::Growing;
+pub use out::Out;
 pub use sink::{FromWrite, Sink};
+pub use sink_buffer::{SinkBuffer, ToSink};
 pub use source::{Bytes, Failed, FromRead, Source};
 pub use write::{WriteFailed, write_bytes};

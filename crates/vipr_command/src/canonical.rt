@@ -1,4 +1,4 @@
-//! Makes a certificate's canonical text while it is read.
+//! Makes a certificate's text, in a form, while it is read.
 ghost use Rattle.std.specs.Prelude.{◌≡◌, false, Ok, IfOk};
 ghost use Rattle.vipr_spec.specs.Certificate.{Problem as ProblemMeant};
 ghost use Rattle.vipr_spec.specs.Reading.{solution_read, derivation_read, end_read};
@@ -13,7 +13,7 @@ use vipr_bytes::Source;
 use vipr_cert::Derivation;
 use vipr_read::{CertReader, Derivations, Solutions};
 use vipr_scan::TextError;
-use vipr_write::{CompactText, Form};
+use vipr_write::{FoldedText, Form};
 
 /// The text of the certificate that `source` gives, in a form. The source is read to its end. No
 /// item is kept once its line is made.
@@ -26,7 +26,7 @@ pub(crate) fn respelled<R: Source + Drop>(
     alloc: Global,
     form: Form,
     source: R,
-) -> Result<CompactText, TextError>
+) -> Result<FoldedText, TextError>
     ensures { RespellsText form (λ text. text.bytes) (R.input source) result }
 {
     let reader = CertReader::new(alloc, source)?;
@@ -38,7 +38,7 @@ fn text_from<R: Source + Drop>(
     alloc: Global,
     form: Form,
     reader: CertReader<R>,
-) -> Result<CompactText, TextError>
+) -> Result<FoldedText, TextError>
     ensures { Respells form (λ text. text.bytes) reader result }
 {
     let (text, mut solutions) = problem_text(alloc, form, reader)?;
@@ -55,11 +55,11 @@ fn problem_text<R: Source + Drop>(
     alloc: Global,
     form: Form,
     reader: CertReader<R>,
-) -> Result<(CompactText, Solutions<R>), TextError>
+) -> Result<(FoldedText, Solutions<R>), TextError>
     ensures { BeginsText form (λ x. x.0) (λ x. x.1) reader result }
 {
     let (problem, solutions) = reader.read_problem(alloc)?;
-    let lines = CompactText::new(alloc, form, &problem, solutions.left());
+    let lines = FoldedText::new(alloc, form, &problem, solutions.left());
     // Dropped at this one place, whatever was answered.
     drop(problem);
     let text = lines?;
@@ -69,9 +69,9 @@ fn problem_text<R: Source + Drop>(
 // The text with a line for each solution that follows.
 fn solution_lines<R: Source>(
     alloc: Global,
-    mut text: CompactText,
+    mut text: FoldedText,
     solutions: &mut Solutions<R>,
-) -> Result<CompactText, TextError>
+) -> Result<FoldedText, TextError>
     requires { solutions.old.failed ≡ false }
     ensures none { IfOk result (λ _. solutions.new.left ≡ 0) }
     ensures lines { (p : ProblemMeant) → Knows solutions.old p
@@ -79,10 +79,9 @@ fn solution_lines<R: Source>(
         (λ t. t) result }
 {
     while let Some(solution) = solutions.next(alloc)? {
-        let longer = text.solution(&solution);
-        // Dropped at this one place, whatever was answered.
+        let pushed = text.push_solution(&solution);
         drop(solution);
-        text = longer?;
+        pushed?;
     }
     Ok(text)
 }
@@ -91,15 +90,15 @@ fn solution_lines<R: Source>(
 // is read.
 fn derived_text<R: Source>(
     alloc: Global,
-    text: CompactText,
+    mut text: FoldedText,
     derivations: &mut Derivations<R>,
-) -> Result<CompactText, TextError>
+) -> Result<FoldedText, TextError>
     requires { derivations.old.failed ≡ false }
     ensures { (p : ProblemMeant) → Knows derivations.old p
         → Appends (derivation_read p) end_read (derivation_words_in text.form text.objective)
         derivations.old derivations.new (with_count text derivations.old.left) (λ t. t) result }
 {
-    let text = text.derivation_count(derivations.left())?;
+    text.push_derivation_count(derivations.left())?;
     let mut derivation = Derivation::blank(alloc);
     let lines = derivation_lines(alloc, text, derivations, &mut derivation);
     // Dropped at this one place, whatever was answered.
@@ -111,10 +110,10 @@ fn derived_text<R: Source>(
 // Each is read in place of `derivation`.
 fn derivation_lines<R: Source>(
     alloc: Global,
-    mut text: CompactText,
+    mut text: FoldedText,
     derivations: &mut Derivations<R>,
     derivation: &mut Derivation,
-) -> Result<CompactText, TextError>
+) -> Result<FoldedText, TextError>
     requires { derivations.old.failed ≡ false }
     ensures { (p : ProblemMeant) → Knows derivations.old p
         → Appends (derivation_read p) end_read (derivation_words_in text.form text.objective)
@@ -125,6 +124,6 @@ fn derivation_lines<R: Source>(
         if !found {
             return Ok(text);
         }
-        text = text.derivation(derivation)?;
+        text.push_derivation(derivation)?;
     }
 }

@@ -11,7 +11,7 @@ use std::io::Write;
 use vipr_bytes::{Sink, Source};
 use vipr_check::{Place, Refusal};
 use vipr_scan::TextError;
-use vipr_write::{CompactText, Form, WriteError};
+use vipr_write::{FoldedText, Form, WriteError};
 
 /// What became of a certificate that was to be shown.
 #[derive(Clone, Copy, Debug, PartialEq, Eq)]
@@ -57,7 +57,7 @@ pub fn show<R: Source + Drop, W: Sink>(
 // Writes a text.
 fn write_text<W: Sink>(
     alloc: Global,
-    text: &CompactText,
+    text: &FoldedText,
     writer: &mut W,
 ) -> Result<Shown, CommandFault>
     ensures { WritesText (W.output writer.old) (W.output writer.new) text.now.bytes result }

@@ -30,4 +30,4 @@ pub use vipr_scan::{TextError, Token, Tokens};
 pub use vipr_tighten::{
     Outcome, TightenFault, tighten, tighten_as, tighten_certificate, tighten_in,
 };
-pub use vipr_write::{CompactText, Form, WriteError, write_certificate, write_certificate_in};
+pub use vipr_write::{FoldedText, Form, WriteError, write_certificate, write_certificate_in};

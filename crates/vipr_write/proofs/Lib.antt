@@ -1,10 +1,8 @@
 mod Appended
 mod Expanding
 mod Folding
-mod Gathering
-mod Writing
+mod Unfolding
 mod Parts
-mod Handing
 mod LineTokens
 mod WordTokens
 mod SameRows

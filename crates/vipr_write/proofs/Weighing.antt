@@ -25,7 +25,7 @@ use Rattle.vipr_write.specs.Forms.{derivation_words_in, problem_lines_in, deriva
 use Rattle.vipr_write.specs.Forms.{certificate_lines_in, text_in}
 use Rattle.vipr_write.specs.declared.form.Form.{Form}
 use Rattle.vipr_write.specs.declared.form.Form.TheVariants.{Canonical, Compact}
-use Rattle.vipr_write.specs.Hands.{counted}
+use Rattle.vipr_bytes.specs.Hands.{counted}
 use Rattle.vipr_write.specs.Weight.{weight}
 use Rattle.vipr_write.proofs.LineTokens.{words_of}
 use Rattle.vipr_write.proofs.WholeText.{tokens_all}

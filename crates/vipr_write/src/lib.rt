@@ -7,27 +7,21 @@
 #![tactic(auto)]
 
 mod canonical;
-mod compact;
+mod countable;
 mod folded;
 mod form;
-mod gathered;
-mod length;
 mod lines;
-mod pending;
-mod put_lines;
-mod put_sections;
-mod put_steps;
-mod put_words;
 mod rows;
 mod sections;
 mod statements;
 mod step_reason;
+mod steps;
 mod words;
 mod write;
 mod written_steps;
 
 pub use canonical::{canonical_form, canonical_texts, compact_texts, spelled_ones, worked_example};
-pub use compact::CompactText;
+pub use folded::FoldedText;
 pub use form::Form;
 pub use statements::{Statement, Statements, Step};
 pub use step_reason::{ShortEntry, StepReason, StepReferences};

@@ -1,111 +1,234 @@
-//! Lines of a certificate's items, in a text that grows: a claim, a solution, the end of a
-//! derivation.
-ghost use Rattle.std.specs.Prelude.{◌≡◌, ◌++◌, OnOk};
-ghost use Rattle.vipr_spec.specs.Certificate.{range, by_branches, reason_references};
+//! The lines of a certificate.
+ghost use Rattle.std.specs.Prelude.{◌≤◌, ◌∷◌, [], codes, length};
+ghost use Rattle.vipr_spec.specs.Certificate.{range, by_branches};
+ghost use Rattle.vipr_linear.specs.Constraint.{constraint_of};
 ghost use Rattle.vipr_write.specs.Canonical.{reference_words, claim_words, solution_words};
 ghost use Rattle.vipr_write.specs.Canonical.{reason_words, heading, words_after_spaces, line_text};
-ghost use Rattle.vipr_cert.specs.Items.{solution_of, claim_of, reason_of, derivation_of};
-ghost use Rattle.vipr_write.specs.Folded.{derivation_end};
+ghost use Rattle.vipr_write.specs.Canonical.{direction_word, vector_words};
+ghost use Rattle.vipr_write.specs.Forms.{constraint_words_in, given_words_in, derivation_words_in};
+ghost use Rattle.vipr_cert.specs.Items.{named_of, solution_of, claim_of, reason_of, derivation_of};
+ghost use Rattle.vipr_cert.specs.Items.{direction_of};
+ghost use Rattle.vipr_cert.specs.Reasons.{references_of};
+ghost use Rattle.vipr_write.specs.Lines.{words_text, constraints_heading};
+ghost use Rattle.vipr_write.specs.Folded.{stated_words};
+ghost use Rattle.vipr_bytes.specs.Puts.{Puts};
+ghost use Rattle.vipr_write.specs.StepReasons.{kept_reason_of, kept_references_of};
 
-use crate::words::{append_bound, append_counted, append_index, append_last, append_word};
-use std::alloc::AllocError;
-use vipr_cert::{Claim, Derivation, Named, Reason, References};
+use crate::form::Form;
+use crate::rows::PutRow;
+use crate::step_reason::{StepReason, StepReferences};
+use crate::words::{
+    put_bound, put_counted, put_decimal, put_index, put_last, put_number, put_pairs, put_sense,
+    put_short_counted, put_word,
+};
+use vipr_bytes::Out;
+use vipr_cert::{Claim, Derivation, Goal, Name, Named, Reason, References};
 use vipr_frac::Frac;
-use vipr_linear::Solution;
+use vipr_linear::{Constraint, Row, Solution};
 
 /// A keyword and a count.
-pub(crate) fn append_heading(text: &mut Vec<u8>, keyword: &[u8], n: usize) -> Result<(), AllocError>
-    ensures { OnOk result (text.new.items ≡ text.old.items ++ line_text (heading keyword.now n)) }
+pub(crate) fn put_heading<O: Out>(out: &mut O, keyword: &[u8], n: usize)
+    ensures { Puts O.carries out.old out.new
+        (line_text (heading keyword.now n)) }
 {
-    text.extend_from_slice(keyword)?;
-    append_index(text, n)?;
-    text.push(b'\n')?;
-    Ok(())
+    out.put(keyword);
+    put_index(out, n);
+    out.push(b'\n');
+}
+
+/// A name.
+pub(crate) fn put_name<O: Out>(out: &mut O, name: &Name)
+    ensures { Puts O.carries out.old out.new name.now }
+{
+    out.put(name.as_bytes());
+}
+
+/// The line of the objective's direction.
+pub(crate) fn put_goal<O: Out>(out: &mut O, sense: Goal)
+    ensures { Puts O.carries out.old out.new
+        (line_text (codes "OBJ" ∷ direction_word (direction_of sense) ∷ [])) }
+{
+    match sense {
+        Goal::Min => out.put(b"OBJ min\n"),
+        Goal::Max => out.put(b"OBJ max\n"),
+    }
+}
+
+/// The coefficients of the objective.
+pub(crate) fn put_coefficients<O: Out>(out: &mut O, row: &Row)
+    ensures { Puts O.carries out.old out.new
+        (line_text (vector_words row.now)) }
+{
+    let entries = row.entries();
+    put_decimal(out, entries.len());
+    put_pairs(out, entries);
+    out.push(b'\n');
+}
+
+/// How many constraints there are, and how many of them are bounds.
+pub(crate) fn put_counts<O: Out>(out: &mut O, count: usize, bound_count: usize)
+    ensures { Puts O.carries out.old out.new
+        (line_text (constraints_heading bound_count count)) }
+{
+    out.put(b"CON");
+    put_index(out, count);
+    put_index(out, bound_count);
+    out.push(b'\n');
+}
+
+/// The words of a constraint up to its row.
+pub(crate) fn put_start<O: Out>(out: &mut O, name: &Name, constraint: &Constraint)
+    ensures { Puts O.carries out.old out.new
+        (words_text (stated_words name.now (constraint_of constraint.now))) }
+{
+    put_name(out, name);
+    put_sense(out, constraint.sense);
+    put_number(out, &constraint.rhs);
+}
+
+// The words of a constraint, with no line feed.
+fn put_stated<O: PutRow>(
+    out: &mut O,
+    form: Form,
+    objective: &Row,
+    name: &Name,
+    constraint: &Constraint,
+)
+    ensures { Puts O.carries out.old out.new
+        (words_text (constraint_words_in form objective.now name.now
+        (constraint_of constraint.now))) }
+{
+    put_start(out, name, constraint);
+    out.put_row(form, objective, &constraint.row);
+}
+
+/// A constraint, unless it has failed.
+pub(crate) fn put_constraint<O: PutRow>(
+    out: &mut O,
+    form: Form,
+    objective: &Row,
+    constraint: &Named<Constraint>,
+)
+    ensures { Puts O.carries out.old out.new
+        (line_text (given_words_in form objective.now (named_of constraint_of constraint.now))) }
+{
+    if out.has_failed() {
+        return;
+    }
+    put_stated(out, form, objective, &constraint.name, &constraint.item);
+    out.push(b'\n');
 }
 
 // A claim of two bounds.
-fn append_range(
-    text: &mut Vec<u8>,
-    lower: Option<Frac>,
-    upper: Option<Frac>,
-) -> Result<(), AllocError>
-    ensures { OnOk result
-        (text.new.items ≡ text.old.items ++ line_text (claim_words (range lower upper))) }
+fn put_range<O: Out>(out: &mut O, lower: Option<Frac>, upper: Option<Frac>)
+    ensures { Puts O.carries out.old out.new
+        (line_text (claim_words (range lower upper))) }
 {
-    text.extend_from_slice(b"RTP range")?;
-    append_bound(text, b"-inf", lower)?;
-    append_bound(text, b"inf", upper)?;
-    text.push(b'\n')?;
-    Ok(())
+    out.put(b"RTP range");
+    put_bound(out, b"-inf", lower);
+    put_bound(out, b"inf", upper);
+    out.push(b'\n');
 }
 
 /// What is claimed.
-pub(crate) fn append_claim(text: &mut Vec<u8>, claim: Claim) -> Result<(), AllocError>
-    ensures { OnOk result
-        (text.new.items ≡ text.old.items ++ line_text (claim_words (claim_of claim))) }
+pub(crate) fn put_claim<O: Out>(out: &mut O, claim: Claim)
+    ensures { Puts O.carries out.old out.new
+        (line_text (claim_words (claim_of claim))) }
 {
     match claim {
-        Claim::Infeas => text.extend_from_slice(b"RTP infeas\n"),
-        Claim::Range(lower, upper) => append_range(text, lower, upper),
+        Claim::Infeas => out.put(b"RTP infeas\n"),
+        Claim::Range(lower, upper) => put_range(out, lower, upper),
     }
 }
 
-/// A listed solution.
-pub(crate) fn append_solution(
-    text: &mut Vec<u8>,
-    solution: &Named<Solution>,
-) -> Result<(), AllocError>
-    ensures { OnOk result
-        (text.new.items ≡ text.old.items ++ line_text (solution_words (solution_of solution.now))) }
+/// A listed solution, unless it has failed.
+pub(crate) fn put_solution<O: Out>(out: &mut O, solution: &Named<Solution>)
+    ensures { Puts O.carries out.old out.new
+        (line_text (solution_words (solution_of solution.now))) }
 {
-    text.extend_from_slice(solution.name.as_bytes())?;
-    append_counted(text, solution.item.0.entries())?;
-    text.push(b'\n')?;
-    Ok(())
+    if out.has_failed() {
+        return;
+    }
+    put_name(out, &solution.name);
+    put_counted(out, solution.item.0.entries());
+    out.push(b'\n');
 }
 
 // The conclusions of two branches, each with its assumption behind it.
-fn append_branches(text: &mut Vec<u8>, i1: u32, l1: u32, i2: u32, l2: u32) -> Result<(), AllocError>
-    ensures { OnOk result (text.new.items ≡ text.old.items
-        ++ words_after_spaces (reference_words (by_branches i1 l1 i2 l2))) }
+fn put_branches<O: Out>(out: &mut O, i1: u32, l1: u32, i2: u32, l2: u32)
+    ensures { Puts O.carries out.old out.new
+        (words_after_spaces (reference_words (by_branches i1 l1 i2 l2))) }
 {
-    append_index(text, i1 as usize)?;
-    append_index(text, l1 as usize)?;
-    append_index(text, i2 as usize)?;
-    append_index(text, l2 as usize)
+    put_index(out, i1 as usize);
+    put_index(out, l1 as usize);
+    put_index(out, i2 as usize);
+    put_index(out, l2 as usize);
 }
 
 // What a reason names.
-fn append_references(text: &mut Vec<u8>, reason: &Reason) -> Result<(), AllocError>
-    ensures { OnOk result (text.new.items ≡ text.old.items
-        ++ words_after_spaces (reference_words (reason_references (reason_of reason.now)))) }
+fn put_references<O: Out>(out: &mut O, references: References<'_>)
+    ensures { Puts O.carries out.old out.new
+        (words_after_spaces (reference_words (references_of references.entry))) }
 {
-    match reason.references() {
-        References::Nothing => Ok(()),
-        References::Entries(entries) => append_counted(text, entries),
-        References::Branches { i1, l1, i2, l2 } => append_branches(text, i1, l1, i2, l2),
+    match references {
+        References::Nothing => {}
+        References::Entries(entries) => put_counted(out, entries),
+        References::Branches { i1, l1, i2, l2 } => put_branches(out, i1, l1, i2, l2),
     }
 }
 
-// Why a derived constraint holds.
-pub(crate) fn append_reason(text: &mut Vec<u8>, reason: &Reason) -> Result<(), AllocError>
-    ensures { OnOk result
-        (text.new.items ≡ text.old.items
-        ++ words_after_spaces (reason_words (reason_of reason.now))) }
+// What the reason of a step names.
+fn put_step_references<O: Out>(out: &mut O, references: StepReferences<'_>)
+    ensures { Puts O.carries out.old out.new
+        (words_after_spaces (reference_words (kept_references_of references.entry))) }
 {
-    append_word(text, reason.word().as_bytes())?;
-    append_references(text, reason)
+    match references {
+        StepReferences::Whole(references) => put_references(out, references),
+        StepReferences::Short(entries) => put_short_counted(out, entries),
+    }
 }
 
-/// What follows the constraint of a derivation.
-pub(crate) fn append_end(text: &mut Vec<u8>, derivation: &Derivation) -> Result<(), AllocError>
-    ensures { OnOk result (text.new.items
-        ≡ text.old.items ++ derivation_end (derivation_of derivation.now)) }
+/// Why the derived constraint of a step holds.
+pub(crate) fn put_step_reason<O: Out>(out: &mut O, reason: &StepReason)
+    ensures { Puts O.carries out.old out.new
+        (words_after_spaces (reason_words (kept_reason_of reason.now))) }
 {
-    append_word(text, b"{")?;
-    append_reason(text, &derivation.reason)?;
-    append_word(text, b"}")?;
-    append_last(text, derivation.last)?;
-    text.push(b'\n')?;
-    Ok(())
+    put_word(out, reason.word().as_bytes());
+    put_step_references(out, reason.references());
+}
+
+/// Why a derived constraint holds.
+pub(crate) fn put_reason<O: Out>(out: &mut O, reason: &Reason)
+    ensures { Puts O.carries out.old out.new
+        (words_after_spaces (reason_words (reason_of reason.now))) }
+{
+    put_word(out, reason.word().as_bytes());
+    put_references(out, reason.references());
+}
+
+/// A derivation, unless it has failed.
+pub(crate) fn put_derivation<O: PutRow>(
+    out: &mut O,
+    form: Form,
+    objective: &Row,
+    derivation: &Derivation,
+)
+    ensures { Puts O.carries out.old out.new
+        (line_text (derivation_words_in form objective.now (derivation_of derivation.now))) }
+{
+    if out.has_failed() {
+        return;
+    }
+    put_stated(
+        out,
+        form,
+        objective,
+        &derivation.name,
+        &derivation.constraint,
+    );
+    put_word(out, b"{");
+    put_reason(out, &derivation.reason);
+    put_word(out, b"}");
+    put_last(out, derivation.last);
+    out.push(b'\n');
 }

@@ -1,96 +1,128 @@
-//! What comes before the constraints of a problem, in a text that grows.
-ghost use Rattle.std.specs.Prelude.{◌≡◌, ◌∷◌, ◌++◌, [], map, codes, OnOk};
+//! The sections of a certificate.
+ghost use Rattle.std.specs.Prelude.{◌∷◌, [], map};
 ghost use Rattle.std.specs.Fmt.{decimal};
-ghost use Rattle.vipr_write.specs.Canonical.{direction_word, vector_words, variables_lines};
-ghost use Rattle.vipr_write.specs.Canonical.{line_text, lines_text};
-ghost use Rattle.vipr_cert.specs.Items.{direction_of};
-ghost use Rattle.vipr_write.specs.Lines.{integers_lines, constraints_heading};
+ghost use Rattle.vipr_linear.specs.Constraint.{constraint_of};
+ghost use Rattle.vipr_write.specs.Canonical.{variables_lines, solutions_lines, lines_text};
+ghost use Rattle.vipr_write.specs.Forms.{problem_lines_in, derivations_lines_in, text_in};
+ghost use Rattle.vipr_cert.specs.Items.{named_of, solution_of, derivation_of};
+ghost use Rattle.vipr_write.specs.Lines.{integers_lines, constraints_lines_in};
+ghost use Rattle.vipr_bytes.specs.Puts.{Puts};
 
-use crate::lines::append_heading;
-use crate::words::{append_decimal, append_index, append_pairs};
-use std::alloc::AllocError;
-use vipr_cert::{Goal, Name, Problem};
-use vipr_linear::Row;
+use crate::form::Form;
+use crate::lines::{
+    put_claim, put_coefficients, put_constraint, put_counts, put_derivation, put_goal, put_heading,
+    put_name, put_solution,
+};
+use crate::rows::PutRow;
+use crate::words::put_decimal;
+use vipr_bytes::Out;
+use vipr_cert::{Certificate, Derivation, Name, Named, Problem};
+use vipr_linear::{Constraint, Row, Solution};
 
 // The names, each on its line.
-fn append_names(text: &mut Vec<u8>, names: &[Name]) -> Result<(), AllocError>
-    ensures { OnOk result
-        (text.new.items ≡ text.old.items ++ lines_text (map (λ name. name ∷ []) names.now)) }
+fn put_names<O: Out>(out: &mut O, names: &[Name])
+    ensures { Puts O.carries out.old out.new
+        (lines_text (map (λ name. name ∷ []) names.now)) }
 {
     for name in names {
-        text.extend_from_slice(name.as_bytes())?;
-        text.push(b'\n')?;
+        put_name(out, name);
+        out.push(b'\n');
     }
-    Ok(())
 }
 
 // The indices, each on its line.
-fn append_indices(text: &mut Vec<u8>, indices: &[u32]) -> Result<(), AllocError>
-    ensures { OnOk result
-        (text.new.items ≡ text.old.items ++ lines_text (map (λ j. decimal j ∷ []) indices.now)) }
+fn put_indices<O: Out>(out: &mut O, indices: &[u32])
+    ensures { Puts O.carries out.old out.new
+        (lines_text (map (λ j. decimal j ∷ []) indices.now)) }
 {
     for index in indices {
-        append_decimal(text, *index as usize)?;
-        text.push(b'\n')?;
+        put_decimal(out, *index as usize);
+        out.push(b'\n');
     }
-    Ok(())
 }
 
 // How many integer variables there are, and each of them.
-fn append_integers(text: &mut Vec<u8>, indices: &[u32]) -> Result<(), AllocError>
-    ensures { OnOk result
-        (text.new.items ≡ text.old.items ++ lines_text (integers_lines indices.now)) }
+fn put_integers<O: Out>(out: &mut O, indices: &[u32])
+    ensures { Puts O.carries out.old out.new
+        (lines_text (integers_lines indices.now)) }
 {
-    append_heading(text, b"INT", indices.len())?;
-    append_indices(text, indices)
+    put_heading(out, b"INT", indices.len());
+    put_indices(out, indices);
 }
 
 // The version, the variables, and which of them are integer.
-pub(crate) fn append_variables(text: &mut Vec<u8>, problem: &Problem) -> Result<(), AllocError>
-    ensures { OnOk result
-        (text.new.items ≡ text.old.items ++ lines_text (variables_lines problem.now)) }
+fn put_variables<O: Out>(out: &mut O, problem: &Problem)
+    ensures { Puts O.carries out.old out.new
+        (lines_text (variables_lines problem.now)) }
 {
     let names = problem.names();
-    text.extend_from_slice(b"VER 1.0\n")?;
-    append_heading(text, b"VAR", names.len())?;
-    append_names(text, names)?;
-    append_integers(text, problem.integer_variables())
+    out.put(b"VER 1.0\n");
+    put_heading(out, b"VAR", names.len());
+    put_names(out, names);
+    put_integers(out, problem.integer_variables());
 }
 
-// The line of the objective's direction.
-pub(crate) fn append_goal(text: &mut Vec<u8>, sense: Goal) -> Result<(), AllocError>
-    ensures { OnOk result (text.new.items ≡ text.old.items
-        ++ line_text (codes "OBJ" ∷ direction_word (direction_of sense) ∷ [])) }
+// The constraints, with how many of them are bounds.
+fn put_constraints<O: PutRow>(
+    out: &mut O,
+    form: Form,
+    objective: &Row,
+    cons: &[Named<Constraint>],
+    bound_count: u32,
+)
+    ensures { Puts O.carries out.old out.new
+        (lines_text (constraints_lines_in form objective.now
+        (map (named_of constraint_of) cons.now) bound_count)) }
 {
-    match sense {
-        Goal::Min => text.extend_from_slice(b"OBJ min\n"),
-        Goal::Max => text.extend_from_slice(b"OBJ max\n"),
+    put_counts(out, cons.len(), bound_count as usize);
+    for constraint in cons {
+        put_constraint(out, form, objective, constraint);
     }
 }
 
-// The coefficients of the objective.
-pub(crate) fn append_coefficients(text: &mut Vec<u8>, row: &Row) -> Result<(), AllocError>
-    ensures { OnOk result (text.new.items ≡ text.old.items ++ line_text (vector_words row.now)) }
+/// What a certificate is about.
+pub(crate) fn put_problem<O: PutRow>(out: &mut O, form: Form, problem: &Problem)
+    ensures { Puts O.carries out.old out.new
+        (lines_text (problem_lines_in form problem.now)) }
 {
-    let entries = row.entries();
-    append_decimal(text, entries.len())?;
-    append_pairs(text, entries)?;
-    text.push(b'\n')?;
-    Ok(())
+    let objective = problem.objective();
+    put_variables(out, problem);
+    put_goal(out, problem.sense());
+    put_coefficients(out, objective);
+    put_constraints(out, form, objective, problem.cons(), problem.bound_count());
+    put_claim(out, problem.claim());
 }
 
-// How many constraints there are, and how many of them are bounds.
-pub(crate) fn append_counts(
-    text: &mut Vec<u8>,
-    count: usize,
-    bound_count: usize,
-) -> Result<(), AllocError>
-    ensures { OnOk result
-        (text.new.items ≡ text.old.items ++ line_text (constraints_heading bound_count count)) }
+/// The listed solutions.
+pub(crate) fn put_solutions<O: Out>(out: &mut O, solutions: &[Named<Solution>])
+    ensures { Puts O.carries out.old out.new
+        (lines_text (solutions_lines (map solution_of solutions.now))) }
 {
-    text.extend_from_slice(b"CON")?;
-    append_index(text, count)?;
-    append_index(text, bound_count)?;
-    text.push(b'\n')?;
-    Ok(())
+    put_heading(out, b"SOL", solutions.len());
+    for solution in solutions {
+        put_solution(out, solution);
+    }
+}
+
+// The derivations.
+fn put_derivations<O: PutRow>(out: &mut O, form: Form, objective: &Row, derivations: &[Derivation])
+    ensures { Puts O.carries out.old out.new
+        (lines_text (derivations_lines_in form objective.now
+        (map derivation_of derivations.now))) }
+{
+    put_heading(out, b"DER", derivations.len());
+    for derivation in derivations {
+        put_derivation(out, form, objective, derivation);
+    }
+}
+
+/// The text of a certificate in a form.
+pub(crate) fn put_certificate<O: PutRow>(out: &mut O, form: Form, certificate: &Certificate)
+    ensures { Puts O.carries out.old out.new
+        (text_in form certificate.now) }
+{
+    let problem = certificate.problem();
+    put_problem(out, form, problem);
+    put_solutions(out, certificate.solutions());
+    put_derivations(out, form, problem.objective(), certificate.derivations());
 }

@@ -5,6 +5,8 @@
 ghost use Rattle.std.specs.Prelude.{◌≡◌, ◌≤◌, ◌∷◌, ◌++◌, [], List, IfOk, OnOk, IsTrue, cond};
 ghost use Rattle.std.specs.Prelude.{length, slice_index};
 ghost use Rattle.vipr_spec.specs.Certificate.{Derivation as DerivationMeant};
+ghost use Rattle.vipr_bytes.specs.Grown.{GrowsBy};
+ghost use Rattle.vipr_bytes.specs.Puts.{Puts};
 ghost use Rattle.vipr_cert.specs.Items.{derivation_of};
 ghost use Rattle.vipr_write.specs.declared.statements.Statement.{Statement as StatementMeant};
 ghost use Rattle.vipr_write.specs.declared.statements.Step.{Step as StepMeant};
@@ -13,11 +15,12 @@ ghost use Rattle.vipr_write.specs.Forms.{row_words};
 ghost use Rattle.vipr_write.specs.StepReasons.{IsShortest};
 ghost use Rattle.vipr_write.specs.Steps.{own_bytes, row_bytes, AreKept};
 
-use crate::folded::append_start;
 use crate::form::Form;
-use crate::rows;
+use crate::lines::put_start;
+use crate::rows::{is_row, spell_row, spelled_objective};
 use crate::step_reason::StepReason;
 use std::alloc::{AllocError, Global};
+use vipr_bytes::{Growing, Out};
 use vipr_cert::Derivation;
 use vipr_linear::Row;
 
@@ -45,30 +48,22 @@ pub struct Statements {
     pub(crate) objective: Row,
     /// What is written for the objective's row.
     pub(crate) spelled: Vec<u8>,
-    pub(crate) text: Vec<u8>,
+    pub(crate) text: Growing,
     /// The end of each of them in the text.
     pub(crate) ends: Vec<usize>,
 }
 
 // The words of a row, unless it is the objective's. Whether it is.
-fn append_other_row(
-    text: &mut Vec<u8>,
-    form: Form,
-    objective: &Row,
-    row: &Row,
-) -> Result<bool, AllocError>
-    ensures text { IfOk result (λ is_same. text.new.items ≡ text.old.items
-        ++ cond is_same [] (words_after_spaces (row_words form objective.now row.now))) }
-    ensures row { IfOk result (λ is_same. IsTrue is_same
-        → row_words form objective.now row.now ≡ row_words form objective.now objective.now) }
+fn put_other_row(text: &mut Growing, form: Form, objective: &Row, row: &Row) -> bool
+    ensures text { Puts GrowsBy text.old text.new
+        (cond result [] (words_after_spaces (row_words form objective.now row.now))) }
+    ensures row { IsTrue result → row.now ≡ objective.now }
 {
-    let _entries = objective.entries();
-    let _others = row.entries();
-    if row.is_same(objective) {
-        return Ok(true);
+    if is_row(row, objective) {
+        return true;
     }
-    rows::append_row(text, form, objective, row)?;
-    Ok(false)
+    spell_row(text, form, objective, row);
+    false
 }
 
 impl Statements {
@@ -78,13 +73,11 @@ impl Statements {
         ensures objective { IfOk result (λ t. t.objective ≡ objective.now) }
         ensures none { IfOk result (λ t. AreKept t [] []) }
     {
-        let mut spelled = Vec::new(alloc);
-        rows::append_row(&mut spelled, form, objective, objective)?;
         Ok(Statements {
             form,
             objective: objective.clone()?,
-            spelled,
-            text: Vec::new(alloc),
+            spelled: spelled_objective(alloc, form, objective)?,
+            text: Growing::new(alloc),
             ends: Vec::new(alloc),
         })
     }
@@ -109,14 +102,17 @@ impl Statements {
         let Ok(index) = u32::try_from(self.ends.len()) else {
             return Err(AllocError);
         };
-        append_start(&mut self.text, &derivation.name, &derivation.constraint)?;
-        let is_cut = append_other_row(
+        put_start(&mut self.text, &derivation.name, &derivation.constraint);
+        let is_cut = put_other_row(
             &mut self.text,
             self.form,
             &self.objective,
             &derivation.constraint.row,
-        )?;
-        self.ends.push(self.text.len())?;
+        );
+        if self.text.has_failed() {
+            return Err(AllocError);
+        }
+        self.ends.push(self.text.as_slice().len())?;
         Ok(Step {
             stated: Statement { index, is_cut },
             reason: StepReason::of(alloc, &derivation.reason)?,
@@ -140,8 +136,9 @@ impl Statements {
         if index < self.ends.len() {
             let start = self.start_of(index);
             let end = self.ends[index];
-            if start <= end && end <= self.text.len() {
-                return &self.text[start..end];
+            let text = self.text.as_slice();
+            if start <= end && end <= text.len() {
+                return &text[start..end];
             }
         }
         b""

@@ -1,118 +1,153 @@
 //! Words, each behind a space.
-ghost use Rattle.std.specs.Prelude.{◌≡◌, ◌∷◌, ◌++◌, flat_map, OnOk};
+ghost use Rattle.std.specs.Prelude.{◌≤◌, ◌∷◌, flat_map, length, map};
 ghost use Rattle.std.specs.Fmt.{decimal};
 ghost use Rattle.vipr_spec.specs.Number.{number_text};
 ghost use Rattle.vipr_linear.specs.Constraint.{sense_of};
 ghost use Rattle.vipr_write.specs.Canonical.{pair_words, counted_words, sense_word, bound_word};
 ghost use Rattle.vipr_write.specs.Canonical.{last_word, words_after_spaces};
+ghost use Rattle.vipr_bytes.specs.Puts.{Puts};
+ghost use Rattle.vipr_write.specs.StepReasons.{entry_of};
 
+use crate::step_reason::ShortEntry;
 use itoa::Buffer;
-use std::alloc::AllocError;
+use vipr_bytes::Out;
 use vipr_frac::Frac;
 use vipr_linear::Sense;
 
 /// A count or an index, with no space.
-#[tactic(auto, using(std::proofs::lemmas::Fmt::decimal_digit))]
 #[inline(always)]
-pub(crate) fn append_decimal(text: &mut Vec<u8>, n: usize) -> Result<(), AllocError>
-    ensures { OnOk result (text.new.items ≡ text.old.items ++ decimal n) }
+pub(crate) fn put_decimal<O: Out>(out: &mut O, n: usize)
+    ensures { Puts O.carries out.old out.new (decimal n) }
 {
     if n < 10 {
-        text.push(b'0' + n as u8)?;
-        return Ok(());
+        out.push(b'0' + n as u8);
+        return;
     }
-    append_digits(text, n)
+    put_digits(out, n);
 }
 
 // A count or an index of any size, with no space.
-fn append_digits(text: &mut Vec<u8>, n: usize) -> Result<(), AllocError>
-    ensures { OnOk result (text.new.items ≡ text.old.items ++ decimal n) }
+fn put_digits<O: Out>(out: &mut O, n: usize)
+    ensures { Puts O.carries out.old out.new (decimal n) }
 {
     let mut buffer = Buffer::new();
-    text.extend_from_slice(buffer.format(n).as_bytes())
+    out.put(buffer.format(n).as_bytes());
 }
 
 /// A word.
 #[inline(always)]
-pub(crate) fn append_word(text: &mut Vec<u8>, word: &[u8]) -> Result<(), AllocError>
-    ensures { OnOk result (text.new.items ≡ text.old.items ++ 32 ∷ word.now) }
+pub(crate) fn put_word<O: Out>(out: &mut O, word: &[u8])
+    ensures { Puts O.carries out.old out.new (32 ∷ word.now) }
 {
-    text.push(b' ')?;
-    text.extend_from_slice(word)
+    out.push(b' ');
+    out.put(word);
 }
 
 /// A count or an index.
 #[inline(always)]
-pub(crate) fn append_index(text: &mut Vec<u8>, n: usize) -> Result<(), AllocError>
-    ensures { OnOk result (text.new.items ≡ text.old.items ++ 32 ∷ decimal n) }
+pub(crate) fn put_index<O: Out>(out: &mut O, n: usize)
+    ensures { Puts O.carries out.old out.new (32 ∷ decimal n) }
 {
-    text.push(b' ')?;
-    append_decimal(text, n)
+    out.push(b' ');
+    put_decimal(out, n);
 }
 
 /// A number.
-pub(crate) fn append_number(text: &mut Vec<u8>, x: &Frac) -> Result<(), AllocError>
-    ensures { OnOk result (text.new.items ≡ text.old.items ++ 32 ∷ number_text x.now) }
+pub(crate) fn put_number<O: Out>(out: &mut O, x: &Frac)
+    ensures { Puts O.carries out.old out.new
+        (32 ∷ number_text x.now) }
 {
-    text.push(b' ')?;
+    out.push(b' ');
     match usize::try_from(x.numer()) {
-        Ok(n) if x.is_whole() => append_decimal(text, n),
-        _ => x.write_to(text),
+        Ok(n) if x.is_whole() => put_decimal(out, n),
+        _ => put_fraction(out, x),
     }
+}
+
+// A number of any size, with no space.
+fn put_fraction<O: Out>(out: &mut O, x: &Frac)
+    ensures { Puts O.carries out.old out.new (number_text x.now) }
+{
+    let mut top = Buffer::new();
+    out.put(top.format(x.numer()).as_bytes());
+    if x.denom() == 1 {
+        return;
+    }
+    let mut bottom = Buffer::new();
+    out.push(b'/');
+    out.put(bottom.format(x.denom()).as_bytes());
 }
 
 /// Indices with numbers.
-pub(crate) fn append_pairs(text: &mut Vec<u8>, pairs: &[(u32, Frac)]) -> Result<(), AllocError>
-    ensures { OnOk result
-        (text.new.items ≡ text.old.items ++ words_after_spaces (flat_map pair_words pairs.now)) }
+pub(crate) fn put_pairs<O: Out>(out: &mut O, pairs: &[(u32, Frac)])
+    ensures { Puts O.carries out.old out.new
+        (words_after_spaces (flat_map pair_words pairs.now)) }
 {
     for pair in pairs {
-        append_index(text, pair.0 as usize)?;
-        append_number(text, &pair.1)?;
+        put_index(out, pair.0 as usize);
+        put_number(out, &pair.1);
     }
-    Ok(())
+}
+
+// Indices with short numbers.
+fn put_short_pairs<O: Out>(out: &mut O, pairs: &[ShortEntry])
+    ensures { Puts O.carries out.old out.new
+        (words_after_spaces (flat_map pair_words (map entry_of pairs.now))) }
+{
+    for pair in pairs {
+        put_index(out, pair.index as usize);
+        put_number(out, &pair.multiplier());
+    }
+}
+
+/// How many indices with short numbers there are, and then each of them.
+pub(crate) fn put_short_counted<O: Out>(out: &mut O, pairs: &[ShortEntry])
+    ensures { Puts O.carries out.old out.new
+        (words_after_spaces (counted_words (map entry_of pairs.now))) }
+{
+    put_index(out, pairs.len());
+    put_short_pairs(out, pairs);
 }
 
 /// How many indices with numbers there are, and then each of them.
-pub(crate) fn append_counted(text: &mut Vec<u8>, pairs: &[(u32, Frac)]) -> Result<(), AllocError>
-    ensures { OnOk result
-        (text.new.items ≡ text.old.items ++ words_after_spaces (counted_words pairs.now)) }
+pub(crate) fn put_counted<O: Out>(out: &mut O, pairs: &[(u32, Frac)])
+    ensures { Puts O.carries out.old out.new
+        (words_after_spaces (counted_words pairs.now)) }
 {
-    append_index(text, pairs.len())?;
-    append_pairs(text, pairs)
+    put_index(out, pairs.len());
+    put_pairs(out, pairs);
 }
 
 /// A sense.
-pub(crate) fn append_sense(text: &mut Vec<u8>, sense: Sense) -> Result<(), AllocError>
-    ensures { OnOk result (text.new.items ≡ text.old.items ++ 32 ∷ sense_word (sense_of sense)) }
+pub(crate) fn put_sense<O: Out>(out: &mut O, sense: Sense)
+    ensures { Puts O.carries out.old out.new
+        (32 ∷ sense_word (sense_of sense)) }
 {
     match sense {
-        Sense::E => append_word(text, b"E"),
-        Sense::L => append_word(text, b"L"),
-        Sense::G => append_word(text, b"G"),
+        Sense::E => put_word(out, b"E"),
+        Sense::L => put_word(out, b"L"),
+        Sense::G => put_word(out, b"G"),
     }
 }
 
 /// A bound of the claim, with how it is written if it is infinite.
-pub(crate) fn append_bound(
-    text: &mut Vec<u8>,
-    infinite: &[u8],
-    bound: Option<Frac>,
-) -> Result<(), AllocError>
-    ensures { OnOk result (text.new.items ≡ text.old.items ++ 32 ∷ bound_word infinite.now bound) }
+pub(crate) fn put_bound<O: Out>(out: &mut O, infinite: &[u8], bound: Option<Frac>)
+    ensures { Puts O.carries out.old out.new
+        (32 ∷ bound_word infinite.now bound) }
 {
     match bound {
-        None => append_word(text, infinite),
-        Some(x) => append_number(text, &x),
+        None => put_word(out, infinite),
+        Some(x) => put_number(out, &x),
     }
 }
 
 /// The last derivation that refers to one.
-pub(crate) fn append_last(text: &mut Vec<u8>, last: Option<u32>) -> Result<(), AllocError>
-    ensures { OnOk result (text.new.items ≡ text.old.items ++ 32 ∷ last_word last) }
+pub(crate) fn put_last<O: Out>(out: &mut O, last: Option<u32>)
+    ensures { Puts O.carries out.old out.new
+        (32 ∷ last_word last) }
 {
     match last {
-        None => append_word(text, b"-1"),
-        Some(i) => append_index(text, i as usize),
+        None => put_word(out, b"-1"),
+        Some(i) => put_index(out, i as usize),
     }
 }

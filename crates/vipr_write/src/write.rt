@@ -1,21 +1,19 @@
 //! Writes the canonical text of a certificate.
 ghost use Rattle.std.specs.Prelude.{◌≡◌, ◌^◌, ◌<◌, [], length, IfErr, IfSome};
 ghost use Rattle.vipr_spec.specs.Grammar.{SpellsOnly};
-ghost use Rattle.vipr_bytes.specs.Written.{Wrote, EndsAtFailure};
 ghost use Rattle.vipr_write.specs.Canonical.{canonical_text};
 ghost use Rattle.vipr_write.specs.Forms.{text_in};
 ghost use Rattle.vipr_write.specs.declared.form.Form.{Form};
-ghost use Rattle.vipr_write.specs.Hands.{Start};
-ghost use Rattle.vipr_write.specs.Carried.{Carries};
+ghost use Rattle.vipr_bytes.specs.Hands.{Start, start_of, IsEnd};
+ghost use Rattle.vipr_bytes.specs.Sent.{Carries};
 ghost use Rattle.vipr_write.specs.WrittenText.{WroteText, IsWithin, LeavesFailures, write_error};
 
+use crate::countable::is_countable;
 use crate::form::Form;
-use crate::length::is_countable;
-use crate::pending::Pending;
-use crate::put_sections::put_certificate;
+use crate::sections::put_certificate;
 use std::alloc::Global;
 use thiserror::Error;
-use vipr_bytes::{Sink, WriteFailed};
+use vipr_bytes::{Sink, SinkBuffer, ToSink, WriteFailed};
 use vipr_cert::Certificate;
 
 /// Why a certificate was not written whole. The count says how many bytes of its text, the first
@@ -101,27 +99,28 @@ pub fn write_certificate_in<W: Sink>(
     if !is_countable(certificate) {
         return Err(WriteError::Memory { taken: 0 });
     }
-    match Pending::new(alloc) {
-        Ok(text) => Ok(write_text(text, form, certificate, sink)?),
+    match SinkBuffer::new(alloc) {
+        Ok(buffer) => Ok(write_text(buffer, form, certificate, sink)?),
         Err(_) => Err(WriteError::Memory { taken: 0 }),
     }
 }
 
 // Writes the text of a certificate, of which nothing is written yet.
 fn write_text<W: Sink>(
-    mut text: Pending,
+    mut buffer: SinkBuffer,
     form: Form,
     certificate: &Certificate,
     sink: &mut W,
 ) -> Result<(), WriteFailed>
-    requires nothing { (start : Start) → Carries start start text [] }
+    requires nothing { (start : Start) → Carries start start buffer [] }
     requires short { length (text_in form certificate.now) < 2 ^ 64 }
-    ensures output { IfSome (W.output sink.old)
-        (λ o. Wrote o (W.output sink.new) (text_in form certificate.now) result) }
-    ensures part { IfErr result (λ e. e.accepted < length (text_in form certificate.now)) }
-    ensures failures { IfSome (W.failures sink.old)
-        (λ n. EndsAtFailure n (W.failures sink.new) result) }
+    ensures { IsEnd (start_of W.output W.failures sink.old) (start_of W.output W.failures sink.new)
+        (text_in form certificate.now) result }
 {
-    put_certificate(&mut text, sink, form, certificate);
-    text.finish(sink)
+    let mut out = ToSink {
+        sink,
+        buffer: &mut buffer,
+    };
+    put_certificate(&mut out, form, certificate);
+    out.finish()
 }

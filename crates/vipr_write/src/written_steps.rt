@@ -5,19 +5,18 @@ ghost use Rattle.vipr_spec.specs.Grammar.{SpellsOnly};
 ghost use Rattle.vipr_cert.specs.Items.{solution_of};
 ghost use Rattle.vipr_write.specs.Forms.{text_in};
 ghost use Rattle.vipr_write.specs.declared.form.Form.{Form};
-ghost use Rattle.vipr_write.specs.Hands.{Start, start_of, IsEnd};
-ghost use Rattle.vipr_write.specs.Carried.{Carries};
+ghost use Rattle.vipr_bytes.specs.Hands.{Start, start_of, IsEnd};
+ghost use Rattle.vipr_bytes.specs.Sent.{Carries};
 ghost use Rattle.vipr_write.specs.Steps.{AreStepsOf};
 ghost use Rattle.vipr_write.specs.WrittenText.{WroteText, IsWithin, LeavesFailures};
 
-use crate::length::are_countable;
-use crate::pending::Pending;
-use crate::put_sections::{put_problem, put_solutions};
-use crate::put_steps::put_steps;
+use crate::countable::are_countable;
+use crate::sections::{put_problem, put_solutions};
 use crate::statements::{Statement, Statements, Step};
+use crate::steps::put_steps;
 use crate::write::WriteError;
 use std::alloc::Global;
-use vipr_bytes::{Sink, WriteFailed};
+use vipr_bytes::{Sink, SinkBuffer, ToSink, WriteFailed};
 use vipr_cert::{Named, Problem};
 use vipr_linear::Solution;
 
@@ -53,30 +52,34 @@ pub fn write_steps<W: Sink>(
     if !are_countable(problem, solutions, statements, steps) {
         return Err(WriteError::Memory { taken: 0 });
     }
-    match Pending::new(alloc) {
-        Ok(text) => Ok(write_parts(text, problem, solutions, statements, steps, sink)?),
+    match SinkBuffer::new(alloc) {
+        Ok(buffer) => Ok(write_parts(buffer, problem, solutions, statements, steps, sink)?),
         Err(_) => Err(WriteError::Memory { taken: 0 }),
     }
 }
 
 // Writes that text, of which nothing is written yet.
 fn write_parts<W: Sink>(
-    mut text: Pending,
+    mut buffer: SinkBuffer,
     problem: &Problem,
     solutions: &[Named<Solution>],
     statements: &Statements,
     steps: &[Step<Statement>],
     sink: &mut W,
 ) -> Result<(), WriteFailed>
-    requires { (start : Start) → Carries start start text [] }
+    requires { (start : Start) → Carries start start buffer [] }
     ensures { (c : CertificateMeant)
         → AreStepsOf c problem.now (map solution_of solutions.now) statements.now steps.now
         → length (text_in statements.now.form c) < 2 ^ 64
         → IsEnd (start_of W.output W.failures sink.old) (start_of W.output W.failures sink.new)
         (text_in statements.now.form c) result }
 {
-    put_problem(&mut text, sink, statements.form, problem);
-    put_solutions(&mut text, sink, solutions);
-    put_steps(&mut text, sink, statements, steps);
-    text.finish(sink)
+    let mut out = ToSink {
+        sink,
+        buffer: &mut buffer,
+    };
+    put_problem(&mut out, statements.form, problem);
+    put_solutions(&mut out, solutions);
+    put_steps(&mut out, statements, steps);
+    out.finish()
 }

@@ -33,7 +33,7 @@ lines-preserved g c =
       working = r.moves.working;
       lines = λ p knows.
           let h = c.lines.invariant.lines p knows in
-          one_more (derivation_read p) (derivation_words_in c.args.text.form c.args.text.objective) c.args.derivations.now mid c.next_into.new.self c.args.text c.lines.text c.in_ok-text.text (derivation_of c.next_into.new.step) h r.moves.counted r.moves.remembers r.moves.working
+          one_more (derivation_read p) (derivation_words_in c.args.text.form c.args.text.objective) c.args.derivations.now mid c.next_into.new.self c.args.text c.lines.text c.push_derivation.new.self (derivation_of c.next_into.new.step) h r.moves.counted r.moves.remembers r.moves.working
           (λ known. let next = r.read p (still_knows p c.args.derivations.now mid knows h.remembers) known in (next.1, next.2))
-          (c.in_ok-text.ensures ∙ ap (λ (b : Begun). with_more_bytes c.lines.text (line_text (derivation_words_in b.form b.objective (derivation_of c.next_into.new.step)))) h.lines);
+          (c.in_ok-push_derivation.ensures.ok ∙ ap (λ (b : Begun). with_more_bytes c.lines.text (line_text (derivation_words_in b.form b.objective (derivation_of c.next_into.new.step)))) h.lines);
     }

@@ -31,6 +31,6 @@ loop-text-preserved g c =
       working = r.moves.working;
       lines = λ p knows.
           let h = c.loop-text.invariant.lines p knows in
-          one_more (solution_read p) solution_words c.args.solutions.now mid c.next.new.self c.args.text c.loop-text.text c.in_ok-text.text (solution_of c.in-Some.solution) h r.moves.counted r.moves.remembers r.moves.working
-          (λ known. let next = r.read p (still_knows p c.args.solutions.now mid knows h.remembers) known in (next.1, next.2)) c.in_ok-text.ensures;
+          one_more (solution_read p) solution_words c.args.solutions.now mid c.next.new.self c.args.text c.loop-text.text c.push_solution-pushed.new.self (solution_of c.in-Some.solution) h r.moves.counted r.moves.remembers r.moves.working
+          (λ known. let next = r.read p (still_knows p c.args.solutions.now mid knows h.remembers) known in (next.1, next.2)) c.in_ok-pushed.ensures.ok;
     }

@@ -1,13 +1,13 @@
 use Rattle.std.proofs.Common.{rules}
-use Rattle.vipr_write.proofs.SameRows.{same_coefficients}
+use Rattle.vipr_write.proofs.SameRows.{same_entries}
 use Rattle.vipr_write.proofs.rows.is_named.Goals as goal
 
-pub returns-then-is_same : goal.returns-then-is_same
-returns-then-is_same c =
-    let same = same_coefficients c.args.objective.now c.args.row.now c.is_same.result c.entries-entries.ensures.no_zeros c.entries-objective.ensures.no_zeros c.is_same.ensures in
+pub returns-then-is_row : goal.returns-then-is_row
+returns-then-is_row c =
+    let same = same_entries c.args.objective.now c.args.row.now c.is_row.result c.is_row.ensures in
     search rules
 
-pub returns-else-is_same : goal.returns-else-is_same
-returns-else-is_same c =
-    let same = same_coefficients c.args.objective.now c.args.row.now c.is_same.result c.entries-entries.ensures.no_zeros c.entries-objective.ensures.no_zeros c.is_same.ensures in
+pub returns-else-is_row : goal.returns-else-is_row
+returns-else-is_row c =
+    let same = same_entries c.args.objective.now c.args.row.now c.is_row.result c.is_row.ensures in
     search rules

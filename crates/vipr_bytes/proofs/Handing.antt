@@ -1,0 +1,209 @@
+-- A text that is handed to a sink piece by piece
+use Rattle.std.proofs.Common.{◌≡◌, ℕ, suc, ◌+◌, ◌-◌, ◌<◌, ◌≤◌, refl, option_map, Bool, true}
+use Rattle.std.proofs.Common.{false, List, [], ◌++◌, length, take, Option, Some}
+use Rattle.std.proofs.Common.{None, Result, Ok, Err, IfSome, IfErr, sym, ap, ◌∙◌, subst}
+use Rattle.std.proofs.Common.{append_assoc, arith}
+use Rattle.std.proofs.Math.Seq.{take-append-add}
+use Rattle.std.proofs.lemmas.List.{length-append, take-append-le, append-nil}
+use Rattle.vipr_bytes.specs.Output.{Output, with_first}
+use Rattle.vipr_bytes.specs.Written.{Wrote, with_all, EndsAtFailure}
+use Rattle.vipr_bytes.specs.declared.write.WriteFailed.{WriteFailed}
+use Rattle.vipr_bytes.specs.Hands.{Start, start_of, counted, IsEnd, Flows, Stops, Carries_by, Hands}
+use Rattle.vipr_bytes.specs.Puts.{Puts}
+use Rattle.vipr_bytes.specs.Sent.{Carries, Sends, SendsTo}
+use Rattle.vipr_bytes.specs.declared.sink_buffer.SinkBuffer.{SinkBuffer}
+use Rattle.vipr_bytes.specs.declared.sink_buffer.ToSink.{ToSink}
+
+output : (accepted taken' : List ℕ) (room room' : Option ℕ) → accepted ≡ taken' → room ≡ room'
+    → (let o : Output = record { accepted = accepted; room = room } in o)
+    ≡ (let o : Output = record { accepted = taken'; room = room' } in o)
+output accepted taken' room room' t r = λ i. (let o : Output = record { accepted = t i; room = r i } in o)
+
+room_after : (a b c : ℕ) (room : Option ℕ) → a + b ≡ c
+    → option_map (λ r. r - b) (option_map (λ r. r - a) room) ≡ option_map (λ r. r - c) room
+room_after a b c None e = refl
+room_after a b c (Some r) e = ap Some (omega (arith, e))
+
+all_behind : (front bytes : List ℕ) (o : Output)
+    → with_all bytes (with_all front o) ≡ with_all (front ++ bytes) o
+all_behind front bytes o = output _ _ _ _ (append_assoc o.accepted front bytes) (room_after (length front) (length bytes) (length (front ++ bytes)) o.room (sym (length-append front bytes)))
+
+first_behind : (front bytes : List ℕ) (k : ℕ) (o : Output)
+    → with_first k bytes (with_all front o) ≡ with_first (length front + k) (front ++ bytes) o
+first_behind front bytes k o = output _ _ _ _ (append_assoc o.accepted front (take k bytes) ∙ ap (λ t. o.accepted ++ t) (sym (take-append-add front bytes k))) (room_after (length front) k (length front + k) o.room refl)
+
+-- the answer with so many bytes before
+abbrev pub behind : ℕ → Result (Unit {0}) WriteFailed → Result (Unit {0}) WriteFailed
+behind n (Ok u) = Ok u
+behind n (Err e) = Err (record { accepted = n + e.accepted })
+
+room_whole : (a b c : ℕ) (room : Option ℕ) → a + b ≡ c → IfSome room (λ r. a ≤ r)
+    → IfSome (option_map (λ r. r - a) room) (λ r. b ≤ r) → IfSome room (λ r. c ≤ r)
+room_whole a b c None e first second = tt
+room_whole a b c (Some r) e first second = omega (arith, e, first, second)
+
+room_met : (a b : ℕ) (room : Option ℕ) → IfSome room (λ r. a ≤ r)
+    → IfSome (option_map (λ r. r - a) room) (λ r. b ≡ r) → IfSome room (λ r. a + b ≡ r)
+room_met a b None first second = tt
+room_met a b (Some r) first second = omega (arith, first, second)
+
+wrote_more : (o : Output) (new : Option Output) (front bytes : List ℕ)
+    (r : Result (Unit {0}) WriteFailed) → IfSome o.room (λ room. length front ≤ room)
+    → Wrote (with_all front o) new bytes r → Wrote o new (front ++ bytes) (behind (length front) r)
+wrote_more o new front bytes (Ok u) first w = (room_whole (length front) (length bytes) (length (front ++ bytes)) o.room (sym (length-append front bytes)) first w.0, w.1 ∙ ap Some (all_behind front bytes o))
+wrote_more o new front bytes (Err e) first w = (omega (arith, length-append front bytes, w.0), room_met (length front) e.accepted o.room first w.1, w.2 ∙ ap Some (first_behind front bytes e.accepted o))
+
+output_more : (start now new : Option Output) (front bytes : List ℕ)
+    (r : Result (Unit {0}) WriteFailed) → IfSome start (λ o. Wrote o now front (Ok tt))
+    → IfSome now (λ o. Wrote o new bytes r)
+    → IfSome start (λ o. Wrote o new (front ++ bytes) (behind (length front) r))
+output_more None now new front bytes r first second = tt
+output_more (Some o) now new front bytes r first second = wrote_more o new front bytes r first.0 (subst (λ s. IfSome s (λ p. Wrote p new bytes r)) first.1 second)
+
+failures_more : (start now new : Option ℕ) (n : ℕ) (r : Result (Unit {0}) WriteFailed)
+    → IfSome start (λ k. now ≡ Some k) → IfSome now (λ k. EndsAtFailure k new r)
+    → IfSome start (λ k. EndsAtFailure k new (behind n r))
+failures_more None now new n r first second = tt
+failures_more (Some k) now new n (Ok u) first second = subst (λ s. IfSome s (λ j. new ≡ Some j)) first second
+failures_more (Some k) now new n (Err e) first second = subst (λ s. IfSome s (λ j. new ≡ Some (suc j))) first second
+
+part_more : (front bytes : List ℕ) (r : Result (Unit {0}) WriteFailed)
+    → IfErr r (λ e. e.accepted < length bytes)
+    → IfErr (behind (length front) r) (λ e. e.accepted < length (front ++ bytes))
+part_more front bytes (Ok u) p = tt
+part_more front bytes (Err e) p = omega (arith, length-append front bytes, p)
+
+pub end_more : (start now new : Start) (front bytes : List ℕ) (r : Result (Unit {0}) WriteFailed)
+    → IsEnd start now front (Ok tt) → IsEnd now new bytes r
+    → IsEnd start new (front ++ bytes) (behind (length front) r)
+end_more start now new front bytes r first second = record {
+  output = output_more start.output now.output new.output front bytes r first.output second.output;
+  part = part_more front bytes r second.part;
+  failures = failures_more start.failures now.failures new.failures (length front) r first.failures second.failures;
+}
+
+-- what follows a failed write changes nothing
+cut_output : (start now : Option Output) (text more : List ℕ) (n : ℕ) → n < length text
+    → IfSome start (λ o. Wrote o now text (Err (record { accepted = n })))
+    → IfSome start (λ o. Wrote o now (text ++ more) (Err (record { accepted = n })))
+cut_output None now text more n l w = tt
+cut_output (Some o) now text more n l w = (omega (arith, length-append text more, l), w.1, w.2 ∙ ap Some (output _ _ _ _ (ap (λ t. o.accepted ++ t) (sym (take-append-le n text more (omega (arith, l))))) refl))
+
+end_cut : (start now : Start) (text more : List ℕ) (n : ℕ)
+    → IsEnd start now text (Err (record { accepted = n }))
+    → IsEnd start now (text ++ more) (Err (record { accepted = n }))
+end_cut start now text more n w = record {
+  output = cut_output start.output now.output text more n w.part w.output;
+  part = omega (arith, length-append text more, w.part);
+  failures = w.failures;
+}
+
+pub stops_more : (start now : Start) (accepted : ℕ) (text more : List ℕ)
+    → Stops start now accepted text → Stops start now accepted (text ++ more)
+stops_more start now accepted text more s = record { n = s.n; count = s.count; writes = end_cut start now text more s.n s.writes }
+
+-- ---- what is pending
+pub carries_more : (failed : Bool) (start now : Start) (accepted : ℕ) (pending text more : List ℕ)
+    → Carries_by failed start now accepted pending text
+    → Carries_by failed start now accepted (pending ++ more) (text ++ more)
+carries_more false start now accepted pending text more c = record { front = c.front; parts = sym (append_assoc c.front pending more) ∙ ap (λ t. t ++ more) c.parts; count = c.count; writes = c.writes }
+carries_more true start now accepted pending text more c = stops_more start now accepted text more c
+
+counts : (a b c accepted : ℕ) → a + b ≡ c → accepted ≡ counted a
+    → counted (accepted + b) ≡ counted c
+counts a b c accepted e t = omega (arith, e, t)
+
+pub flows_on : (start now new : Start) (accepted : ℕ) (pending text : List ℕ)
+    → Flows start now accepted pending text → IsEnd now new pending (Ok tt)
+    → Flows start new (counted (accepted + length pending)) [] (text ++ [])
+flows_on start now new accepted pending text c w = record {
+  front = c.front ++ pending;
+  parts = ap (λ t. t ++ []) c.parts;
+  count = counts (length c.front) (length pending) (length (c.front ++ pending)) accepted (sym (length-append c.front pending)) c.count;
+  writes = end_more start now new c.front pending (Ok tt) c.writes w;
+}
+
+pub flow_stops : (start now new : Start) (accepted : ℕ) (pending text : List ℕ) (e : WriteFailed)
+    → Flows start now accepted pending text → IsEnd now new pending (Err e)
+    → Stops start new (counted (accepted + e.accepted)) (text ++ [])
+flow_stops start now new accepted pending text e c w = stops_more start new _ text [] (record {
+  n = length c.front + e.accepted;
+  count = counts (length c.front) e.accepted (length c.front + e.accepted) accepted refl c.count;
+  writes = subst (λ t. IsEnd start new t (Err (record { accepted = length c.front + e.accepted }))) c.parts (end_more start now new c.front pending (Err e) c.writes w);
+})
+
+pub hands_all : {S : Type 0} (f : S → Option Output) (g : S → Option ℕ) (s t : S) (before total : ℕ)
+    (bytes : List ℕ) → total ≡ counted (before + length bytes)
+    → IfSome (f s) (λ o. Wrote o (f t) bytes (Ok tt))
+    → IfSome (g s) (λ n. EndsAtFailure n (g t) (let r : Result (Unit {0}) WriteFailed = Ok tt in r))
+    → Hands f g s t before bytes (total, false)
+hands_all f g s t before total bytes e wrote ended = record {
+  law = λ start text c. subst (λ n. Flows start (start_of f g t) n [] (text ++ [])) (sym e) (flows_on start (start_of f g s) (start_of f g t) before bytes text c (record { output = wrote; part = tt; failures = ended }));
+}
+
+pub hands_front : {S : Type 0} (f : S → Option Output) (g : S → Option ℕ) (s t : S)
+    (before total : ℕ) (bytes : List ℕ) (failed : WriteFailed)
+    → total ≡ counted (before + failed.accepted)
+    → IfSome (f s) (λ o. Wrote o (f t) bytes (Err failed)) → failed.accepted < length bytes → IfSome
+    (g s) (λ n. EndsAtFailure n (g t) (let r : Result (Unit {0}) WriteFailed = Err failed in r))
+    → Hands f g s t before bytes (total, true)
+hands_front f g s t before total bytes failed e wrote part ended = record {
+  law = λ start text c. subst (λ n. Stops start (start_of f g t) n (text ++ [])) (sym e) (flow_stops start (start_of f g s) (start_of f g t) before bytes text failed c (record { output = wrote; part = part; failures = ended }));
+}
+
+-- ---- what is pending is handed over, or is forgotten
+pub sends_handed : {S : Type 0} {f : S → Option Output} {g : S → Option ℕ} {s t : S} (p q : SinkBuffer)
+    (bytes : List ℕ) → p.failed ≡ false → bytes ≡ p.bytes.items
+    → Hands f g s t p.accepted bytes (q.accepted, q.failed) → q.bytes.items ≡ []
+    → Sends f g s t p q []
+sends_handed {S} {f} {g} {s} {t} p q bytes flows same hands none = record {
+  law = λ start text c.
+      let now = subst (λ b. Carries_by b start (start_of f g s) p.accepted p.bytes.items text) flows c in
+      let after = hands.law start text (subst (λ b. Flows start (start_of f g s) p.accepted b text) (sym same) now) in
+      subst (λ b. Carries_by q.failed start (start_of f g t) q.accepted b (text ++ [])) (sym none) after;
+}
+
+pub sends_none : {S : Type 0} {f : S → Option Output} {g : S → Option ℕ} {s : S} (p q : SinkBuffer)
+    → p.failed ≡ true → q.failed ≡ p.failed → q.accepted ≡ p.accepted → Sends f g s s p q []
+sends_none {S} {f} {g} {s} p q stopped failed accepted = record {
+  law = λ start text c.
+      let now = subst (λ b. Carries_by b start (start_of f g s) p.accepted p.bytes.items text) stopped c in
+      subst (λ b. Carries_by b start (start_of f g s) q.accepted q.bytes.items (text ++ [])) (sym (failed ∙ stopped))
+      (subst (λ n. Stops start (start_of f g s) n (text ++ [])) (sym accepted) (stops_more start (start_of f g s) p.accepted text [] now));
+}
+
+-- bytes that are handed over with nothing before them
+pub sends_long : {S : Type 0} {f : S → Option Output} {g : S → Option ℕ} {s t : S} (p q : SinkBuffer)
+    (bytes : List ℕ) → p.failed ≡ false → p.bytes.items ≡ []
+    → Hands f g s t p.accepted bytes (q.accepted, q.failed) → q.bytes.items ≡ []
+    → Sends f g s t p q bytes
+sends_long {S} {f} {g} {s} {t} p q bytes flows none hands empty = record {
+  law = λ start text c.
+      let now = subst (λ b. Carries_by b start (start_of f g s) p.accepted p.bytes.items text) flows c in
+      let more = carries_more false start (start_of f g s) p.accepted [] text bytes (subst (λ b. Flows start (start_of f g s) p.accepted b text) none now) in
+      let after = hands.law start (text ++ bytes) more in
+      subst (λ b. Carries_by q.failed start (start_of f g t) q.accepted b (text ++ bytes)) (sym empty) (subst (λ x. Carries_by q.failed start (start_of f g t) q.accepted [] x) (append-nil (text ++ bytes)) after);
+}
+
+-- ---- a sink with the buffer before it
+module _ {S : Type 0} {f : S → Option Output} {g : S → Option ℕ} where
+  nothing : (s : S) (b : SinkBuffer) → Sends f g s s b b []
+  nothing s b = record { law = λ start text c. subst (λ t. Carries_by b.failed start (start_of f g s) b.accepted b.bytes.items t) (sym (append-nil text)) c }
+
+  -- what was put there
+  put_to_sink : (o p : ToSink S) (bytes : List ℕ) → Puts (SendsTo f g) o p bytes
+      → SendsTo f g o bytes p
+  put_to_sink o p bytes m = m.law o [] (refl, refl, nothing o.sink.now o.buffer.now)
+
+  -- the text was put and finished, and the sink is free again
+  pub put_and_finished : (o p q : ToSink S) (text : List ℕ) (sink : S) (start : Start)
+      (r : Result (Unit {0}) WriteFailed) → Puts (SendsTo f g) o p text
+      → Carries start (start_of f g o.sink.now) o.buffer.now []
+      → q.sink.ghost_name ≡ p.sink.ghost_name
+      → (Carries start (start_of f g p.sink.now) p.buffer.now text
+      → IsEnd start (start_of f g q.sink.now) text r)
+      → (o.sink.ghost_name ≡ q.sink.ghost_name → sink ≡ q.sink.now)
+      → IsEnd start (start_of f g sink) text r
+  put_and_finished o p q text sink start r m none same end free =
+      let sent = put_to_sink o p text m in
+      subst (λ s. IsEnd start (start_of f g s) text r) (sym (free (sym (same ∙ sent.0)))) (end (sent.2.law start [] none))

@@ -1,0 +1,72 @@
+-- A text with marks that is put with what they mean
+use Rattle.std.proofs.Common.{◌≡◌, ℕ, suc, ◌+◌, ◌*◌, ◌-◌, ◌<◌, ◌≤◌, List, [], ◌∷◌, ◌++◌, length}
+use Rattle.std.proofs.Common.{take, drop, sum, get_or, slice_range, refl, sym, ap, ◌∙◌, append_assoc}
+use Rattle.std.proofs.Common.{drop-cons, arith}
+use Rattle.std.proofs.lemmas.List.{append-nil, drop-drop, drop_all, take_all, length-drop}
+use Rattle.std.proofs.lemmas.List.Sums.{sum_by-cons}
+use Rattle.std.specs.Prelude.{slice_index_or}
+use Rattle.vipr_bytes.specs.Puts.{Puts}
+use Rattle.vipr_bytes.proofs.Laws.{puts_none, puts_then, puts_same}
+use Rattle.vipr_write.specs.Folded.{IsFolded, expanded, full}
+use Rattle.vipr_write.specs.declared.folded.Folded.{Folded}
+use Rattle.vipr_write.proofs.Expanding.{long}
+
+-- a text whose length can be counted
+pub short_by : (f : Folded) (n : ℕ) → IsFolded f → n ≡ length f.gaps.items * length f.spelled.items
+    → n + length f.text.bytes.items < 18446744073709551616 → length (full f) < 18446744073709551616
+short_by f n is counted short = let w = is.within in let m = is.marks in let l = long f.spelled.items f.gaps.items f.text.bytes.items (omega arith) in omega arith
+
+-- of the whole text the tail isn't put yet
+pub record PutUpTo {S : Type 0} (carries : S → List ℕ → S → Type 0) (first now : S)
+    (tail whole : List ℕ) : Type 0 where
+  pub front : List ℕ
+  pub parts : front ++ tail ≡ whole
+  pub puts : Puts carries first now front
+
+pub up_to_none : {S : Type 0} {carries : S → List ℕ → S → Type 0} (now : S) (whole : List ℕ)
+    → PutUpTo carries now now whole whole
+up_to_none now whole = record { front = []; parts = refl; puts = puts_none now }
+
+module _ {S : Type 0} {carries : S → List ℕ → S → Type 0} {first now : S} {whole : List ℕ} where
+  pub up_to_more : {new : S} (piece tail : List ℕ) → PutUpTo carries first now (piece ++ tail) whole
+      → Puts carries now new piece → PutUpTo carries first new tail whole
+  up_to_more piece tail up more = record {
+    front = up.front ++ piece;
+    parts = append_assoc up.front piece tail ∙ up.parts;
+    puts = puts_then up.puts more;
+  }
+
+  pub up_to_end : {new : S} {tail : List ℕ} → PutUpTo carries first now tail whole
+      → Puts carries now new tail → Puts carries first new whole
+  up_to_end up more = puts_same up.parts (puts_then up.puts more)
+
+-- the text up to the next mark, and the row
+pub next_gap : (part ns text xs t p : List ℕ) (i at : ℕ) → xs ≡ ns → t ≡ text → p ≡ part
+    → i < length xs → at + sum (drop i ns) ≤ length text →
+    (expanded part (drop i ns) (drop at text) ≡ slice_range t at (at + slice_index_or xs i 0)
+    ++ (p ++ expanded part (drop (i + 1) ns) (drop (at + slice_index_or xs i 0) text)))
+    × (at + slice_index_or xs i 0 + sum (drop (i + 1) ns) ≤ length text)
+next_gap part ns text xs t p i at e s q l h =
+    rw (e, s, q) (
+    let gap = get_or ns i 0 in
+    let inside = rw e at l in
+    let following : suc i ≡ i + 1 = omega arith in
+    let cons : drop i ns ≡ gap ∷ drop (i + 1) ns = drop-cons ns i 0 inside ∙ ap (λ k. gap ∷ drop k ns) following in
+    let front : take gap (drop at text) ≡ slice_range text at (at + gap) = ap (λ k. take k (drop at text)) (omega arith) in
+    let rest : drop gap (drop at text) ≡ drop (at + gap) text = drop-drop gap at text in
+    let listed = sum_by-cons (λ x. x) gap (drop (i + 1) ns) in
+    let cut = ap sum cons in (
+      ap (λ ks. expanded part ks (drop at text)) cons ∙ ap (λ u. u ++ (part ++ expanded part (drop (i + 1) ns) (drop gap (drop at text)))) front ∙ ap (λ u. slice_range text at (at + gap) ++ (part ++ expanded part (drop (i + 1) ns) u)) rest,
+      omega arith,
+    )
+    )
+
+-- the text behind the last mark
+pub last_piece : (part ns text xs t : List ℕ) (i at : ℕ) → xs ≡ ns → t ≡ text → length xs ≤ i
+    → expanded part (drop i ns) (drop at text) ≡ slice_range t at (length t) ++ []
+last_piece part ns text xs t i at e s l =
+    rw s (
+    let none : drop i ns ≡ [] = drop_all i ns (rw e at l) in
+    let whole : take (length text - at) (drop at text) ≡ drop at text = take_all (length text - at) (drop at text) (omega (arith, length-drop at text)) in
+    ap (λ ks. expanded part ks (drop at text)) none ∙ sym whole ∙ sym (append-nil (take (length text - at) (drop at text)))
+    )

@@ -1,9 +1,0 @@
-use Rattle.std.proofs.Common.{◌∷◌, sym}
-use Rattle.std.specs.Fmt.{decimal}
-use Rattle.std.proofs.lemmas.List.{append-nil}
-use Rattle.vipr_write.proofs.Handing.{puts_then, puts_same}
-use Rattle.vipr_write.proofs.put_lines.put_branches.Goals as goal
-
-pub returns : goal.returns
-returns g c =
-    puts_then c.put_index.ensures (puts_then c.put_index-2.ensures (puts_then c.put_index-3.ensures (puts_same (sym (append-nil (32 ∷ decimal c.args.l2))) c.put_index-4.ensures)))

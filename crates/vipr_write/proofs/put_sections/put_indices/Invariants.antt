@@ -1,9 +1,0 @@
-use Rattle.std.proofs.Common.{take, [], ◌∷◌}
-use Rattle.std.specs.List.{flat_map}
-use Rattle.std.specs.Fmt.{decimal}
-use Rattle.vipr_write.specs.Canonical.{line_text}
-use Rattle.vipr_write.specs.Carried.{Puts}
-use Rattle.vipr_write.proofs.put_sections.put_indices.Given as goal
-
-abbrev pub invariant-loop-index : goal.invariant-loop-index
-invariant-loop-index g l = Puts g.W.Sink.output g.W.Sink.failures l.initial.sink l.sink l.initial.text l.text (flat_map (λ j. line_text (decimal j ∷ [])) (take l.index-index l.indices))

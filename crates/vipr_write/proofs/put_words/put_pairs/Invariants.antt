@@ -1,8 +1,0 @@
-use Rattle.std.proofs.Common.{take}
-use Rattle.std.specs.List.{flat_map}
-use Rattle.vipr_write.specs.Canonical.{pair_words, words_after_spaces}
-use Rattle.vipr_write.specs.Carried.{Puts}
-use Rattle.vipr_write.proofs.put_words.put_pairs.Given as goal
-
-abbrev pub invariant-loop-pair : goal.invariant-loop-pair
-invariant-loop-pair g l = Puts g.W.Sink.output g.W.Sink.failures l.initial.sink l.sink l.initial.text l.text (flat_map (λ p. words_after_spaces (pair_words p)) (take l.pair-index l.pairs))

@@ -1,8 +1,0 @@
-use Rattle.std.proofs.Common.{◌≡◌, [], ◌∷◌, ◌++◌, take}
-use Rattle.std.specs.List.{flat_map}
-use Rattle.std.specs.Fmt.{decimal}
-use Rattle.vipr_write.specs.Canonical.{line_text}
-use Rattle.vipr_write.proofs.sections.append_indices.Given as goal
-
-abbrev pub invariant-loop-index : goal.invariant-loop-index
-invariant-loop-index l = l.text.items ≡ l.initial.text.items ++ flat_map (λ j. line_text (decimal j ∷ [])) (take l.index-index l.indices)

@@ -1,7 +1,0 @@
-use Rattle.std.proofs.Common.{◌≡◌, [], ◌∷◌, ◌++◌, take}
-use Rattle.std.specs.List.{flat_map}
-use Rattle.vipr_write.specs.Canonical.{line_text}
-use Rattle.vipr_write.proofs.sections.append_names.Given as goal
-
-abbrev pub invariant-loop-name : goal.invariant-loop-name
-invariant-loop-name l = l.text.items ≡ l.initial.text.items ++ flat_map (λ name. line_text (name ∷ [])) (take l.name-index l.names)

@@ -1,7 +1,0 @@
-use Rattle.std.proofs.Common.{◌≡◌, ◌++◌, take}
-use Rattle.std.specs.List.{flat_map}
-use Rattle.vipr_write.specs.Canonical.{pair_words, words_after_spaces}
-use Rattle.vipr_write.proofs.words.append_pairs.Given as goal
-
-abbrev pub invariant-loop-pair : goal.invariant-loop-pair
-invariant-loop-pair l = l.text.items ≡ l.initial.text.items ++ flat_map (λ p. words_after_spaces (pair_words p)) (take l.pair-index l.pairs)
