@@ -1,8 +1,7 @@
 ghost use Rattle.std.specs.Prelude.{◌∷◌, [], List, ℕ, IsTrue};
 ghost use Rattle.vipr_bytes.specs.Puts.{Puts};
 
-/// Takes a text piece by piece. It remembers a failure, so that its caller asks for it where it
-/// likes.
+/// Takes a text piece by piece. It remembers a failure, and says so if it is asked.
 pub trait Out {
     // From the first state to the last one, these bytes were put.
     ghost carries: { Self → List ℕ → Self → Type 0 };

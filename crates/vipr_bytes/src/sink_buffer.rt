@@ -37,7 +37,7 @@ fn hand<W: Sink>(sink: &mut W, bytes: &[u8], before: u64) -> (u64, bool)
 }
 
 impl SinkBuffer {
-    ghost use Rattle.std.specs.Prelude.{◌≡◌, ◌+◌, ◌^◌, ◌<◌, [], ◌∷◌, List, ℕ, IfOk};
+    ghost use Rattle.std.specs.Prelude.{◌≡◌, ◌^◌, ◌<◌, [], ◌∷◌, List, ℕ, IfOk};
     ghost use Rattle.vipr_bytes.specs.Hands.{Start, start_of, IsEnd};
     ghost use Rattle.vipr_bytes.specs.Sent.{Carries, Sends};
 
@@ -117,7 +117,7 @@ impl SinkBuffer {
         self.failed = failed;
     }
 
-    // Hands over what is left at the end of the text.
+    // Hands over the last bytes of the text.
     fn finish<W: Sink>(&mut self, sink: &mut W) -> Result<(), WriteFailed>
         ensures { (start : Start) (text : List ℕ) → length text < 2 ^ 64
             → Carries start (start_of W.output W.failures sink.old) self.old text
@@ -138,7 +138,7 @@ impl<W: Sink> ToSink<'_, W> {
     ghost use Rattle.vipr_bytes.specs.Hands.{Start, start_of, IsEnd};
     ghost use Rattle.vipr_bytes.specs.Sent.{Carries};
 
-    /// Hands over what is left at the end of the text.
+    /// Hands over the last bytes of the text.
     ///
     /// # Errors
     ///
