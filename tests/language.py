@@ -26,7 +26,7 @@ PAGES = ['README.md', 'CONTRIBUTING.md', 'CHANGELOG.md', 'docs/TUTORIAL.md', 'do
          'docs/BENCHMARKS.md', 'docs/GATE.md', 'docs/PROOF.md', 'docs/CONTRACTS.md', 'docs/STATEMENT.md', 'examples/README.md', 'tools/README.md']
 MAN, HELP = 'man/vipr.1', 'crates/vipr_command/src/args.rt'
 # pages that lead a reader: they say what they say in the words of integer programming
-LEADING = ['README.md', 'docs/TUTORIAL.md', 'docs/USE.md', 'docs/LIBRARY.md', 'docs/WHY.md', 'examples/README.md']
+LEADING = ['README.md', 'docs/TUTORIAL.md', 'docs/USE.md', 'docs/LIBRARY.md', 'docs/PYTHON.md', 'docs/WHY.md', 'examples/README.md']
 MOST, MEDIAN, LONG, SHARE = 40, 19, 30, 3
 # words of our own: a contradiction, signs that agree, integral; and the sentence of README that translates them
 OWN = re.compile(r"\babsurd\w*|\bsuitable\b|\bwhole (?:points?|numbers?|numerators?|coefficients?|values?|objective|rows?)\b"
