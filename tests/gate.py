@@ -17,7 +17,7 @@ TOP = Path(__file__).resolve().parent.parent
 PAGE = TOP / 'docs/GATE.md'
 HEAD = """# What the gate takes
 
-`tests/gate.py` writes this page from the output of two commands, each in a clone without a build. `make build` is the first build. `python3 tests/all.py --anew` is the test command, which proves everything anew. Other pages name no such figures and link here.
+`tests/gate.py` writes this page from the output of two commands, each in a clone without a build. `make build` is the first build. `python3 tests/all.py --anew` is the test command, which proves everything anew. Other pages link here; README alone rounds what the first build takes.
 """
 STUB = 'No run is written here yet.\n'
 # the crate whose build shows how fast a machine is: `make build` builds it first, beside the small `vipr_shared`
