@@ -633,7 +633,7 @@ def overtaken():
     first, second = folder / 'first', folder / 'second'
     got = during(['tighten', file, '--out', first], 'fsync', folder, len(TIGHT),
                  lambda _: expect('a run beside another', run(['tighten', file, '--out', second]), (b'', KEPT, 0)))
-    expect('a run that another overtakes', (got, first.read_bytes(), second.read_bytes(), names(folder)),
+    expect('a run that another overtakes', (got, read(first), read(second), names(folder)),
            ((b'', KEPT, 0), TIGHT, TIGHT, ['a.vipr', 'first', 'second']))
 
 
