@@ -222,13 +222,13 @@ def with_refused_calls(commands, examples):
         growths_refused('vipr ' + ' '.join(words), words, b'')
     for path, text in examples:
         for command in commands:
-            growths_refused(f'{command} {path.name}', [command], text)
-            growths_refused(f'{command} FILE {path.name}', [command, str(path)], b'')
+            growths_refused(f'{command} {path.name}', command.split(), text)
+            growths_refused(f'{command} FILE {path.name}', [*command.split(), str(path)], b'')
     known_texts()
     for path, text in examples[::3]:
         for command in commands:
-            reads_fail(f'{command} {path.name}', [command], text)
-            writes_fail(f'{command} {path.name}', [command], text)
+            reads_fail(f'{command} {path.name}', command.split(), text)
+            writes_fail(f'{command} {path.name}', command.split(), text)
 
 
 # ---- OUT
@@ -532,7 +532,7 @@ def main():
     families_are_answered()
     if LIBRARY:
         what_is_asked_for()
-        with_refused_calls(commands, examples)
+        with_refused_calls([*commands, *(f'{it} --compact' for it in ('show', 'tighten') if it in commands)], examples)
         names_at_a_refusal()
         reads_of_a_byte(commands)
         if 'tighten' in commands:
