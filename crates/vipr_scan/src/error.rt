@@ -1,13 +1,54 @@
+ghost use Rattle.std.specs.Prelude.{◌≡◌};
+
 use std::alloc::{AllocError, AllocFailed};
+use std::marker::Model;
 use thiserror::Error;
 use vipr_bytes::Failed;
+
+/// The number of a cause, in a word: a result that may hold it is moved in whole words.
+#[derive(Clone, Copy, Debug, PartialEq, Eq)]
+pub struct Cause {
+    number: u32,
+}
+
+impl Model for Cause {
+    ghost use Rattle.std.specs.Prelude.{ℕ, ◌<◌};
+    ghost use Rattle.std.specs.Coded.{coded_ℕ};
+
+    ghost Value = { ℕ };
+
+    ghost coded = { coded_ℕ };
+
+    ghost view = { λ c. c.number };
+
+    ghost invariant = { λ c. c.number < 256 };
+
+    ghost inverse = { λ n. record { number = n } };
+}
+
+impl Cause {
+    #[inline(always)]
+    pub fn new(number: u8) -> Cause
+        ensures { result ≡ number }
+    {
+        Cause {
+            number: u32::from(number),
+        }
+    }
+
+    pub fn number(self) -> u8
+        ensures { result ≡ self }
+    {
+        self.number as u8
+    }
+}
 
 /// Why a text was not read on.
 #[derive(Clone, Copy, Debug, PartialEq, Eq)]
 pub enum ScanError {
     /// The text is refused: the number of the cause, and the offset of the first byte of the token
     /// that is at fault.
-    Refused { cause: u8, offset: u64 },
+    Refused { cause: Cause, offset: u64 },
 
     /// A read failed.
     Read,
@@ -67,7 +108,10 @@ impl From<ScanError> for TextError {
 
     fn from(stop: ScanError) -> TextError {
         match stop {
-            ScanError::Refused { cause, offset } => TextError::Refused { cause, offset },
+            ScanError::Refused { cause, offset } => TextError::Refused {
+                cause: cause.number(),
+                offset,
+            },
             ScanError::Read => TextError::Read,
             ScanError::Memory => TextError::Memory,
         }

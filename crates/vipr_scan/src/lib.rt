@@ -15,7 +15,7 @@ mod window;
 
 pub use bytes::{is_white, run_end};
 pub use cursor::Cursor;
-pub use error::{ScanError, TextError};
+pub use error::{Cause, ScanError, TextError};
 pub use kind::{TokenKind, Unfit};
 pub use place::{Position, step};
 pub use scan::Scan;

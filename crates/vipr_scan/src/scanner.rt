@@ -6,7 +6,7 @@ ghost use Rattle.vipr_scan.specs.Giving.{Scans, Ends, IsBehind, rest_of, Takes};
 ghost use Rattle.vipr_scan.specs.Scanning.{Scanning, scanning_of};
 
 use crate::cursor::Cursor;
-use crate::error::ScanError;
+use crate::error::{Cause, ScanError};
 use crate::kind::{TokenKind, Unfit};
 use crate::scan::Scan;
 use crate::window::Window;
@@ -126,7 +126,7 @@ impl<R: Source> Scanner<R> {
         match kind.read(bytes) {
             Ok(value) => Ok(value),
             Err(Unfit::Cause(cause)) => Err(ScanError::Refused {
-                cause,
+                cause: Cause::new(cause),
                 offset: found.offset,
             }),
             Err(Unfit::Memory) => Err(ScanError::Memory),

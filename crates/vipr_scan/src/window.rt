@@ -8,7 +8,7 @@ ghost use Rattle.vipr_scan.specs.declared.place.Position.TheVariants.{Past};
 use crate::buffer::{move_to_front, read_behind};
 use crate::bytes::run_end;
 use crate::cause;
-use crate::error::ScanError;
+use crate::error::{Cause, ScanError};
 use crate::place::{Position, gap, white};
 use std::alloc::{AllocError, Global};
 use vipr_bytes::{BUFFER_BYTES, Failed, Source};
@@ -297,13 +297,13 @@ impl<R: Source> Window<R> {
     {
         let Some(found) = self.advance()? else {
             return Err(ScanError::Refused {
-                cause: cause::TRUNCATED,
+                cause: Cause::new(cause::TRUNCATED),
                 offset: self.front_offset(),
             });
         };
         if found.long {
             return Err(ScanError::Refused {
-                cause: cause::TOKEN_TOO_LONG,
+                cause: Cause::new(cause::TOKEN_TOO_LONG),
                 offset: found.offset,
             });
         }
@@ -322,7 +322,7 @@ impl<R: Source> Window<R> {
         match self.advance()? {
             None => Ok(()),
             Some(found) => Err(ScanError::Refused {
-                cause: cause::TRAILING_TEXT,
+                cause: Cause::new(cause::TRAILING_TEXT),
                 offset: found.offset,
             }),
         }

@@ -6,7 +6,7 @@ use super::same;
 use std::alloc::Global;
 use std::process::Abort;
 use vipr_bytes::{Bytes, FromRead, Source};
-use vipr_scan::{ScanError, Scanner, TextError, TokenKind, Tokens, Unfit, cause};
+use vipr_scan::{Cause, ScanError, Scanner, TextError, TokenKind, Tokens, Unfit, cause};
 
 /// Asks for a token, and compares its bytes and its offset.
 fn gives<R: Source>(rt: &impl Abort, tokens: &mut Tokens<R>, wanted: Option<(&[u8], u64)>) {
@@ -95,7 +95,7 @@ fn is_read_whole(rt: &impl Abort, alloc: Global, text: &[u8], wanted: usize) {
 fn a_token_of_65536_bytes_is_refused(rt: HostRuntime) {
     let text = [b'a'; 65536];
     let refused = ScanError::Refused {
-        cause: cause::TOKEN_TOO_LONG,
+        cause: Cause::new(cause::TOKEN_TOO_LONG),
         offset: 0,
     };
     is_refused(&rt, rt.alloc(), &text, refused);

@@ -21,7 +21,7 @@ pub returns-in-None-clause-read : goal.returns-in-None-clause-read
 returns-in-None-clause-read g c = some_weaker (rest_of_window g.R.Source.input c.args.self.now) _ _ (λ (l : Rest) h. ended l h) (rw c.in-None.is at c.in_ok-advance.ensures.answer)
 
 pub returns-in-Some-clause-read : goal.returns-in-Some-clause-read
-returns-in-Some-clause-read g c = some_weaker (rest_of_window g.R.Source.input c.args.self.now) _ _ (λ (l : Rest) h. trailing l (view_of_found c.advance.new.self.buf.value c.in-Some.found) h) (rw c.in-Some.is at c.in_ok-advance.ensures.answer)
+returns-in-Some-clause-read g c = rw c.new.ensures (some_weaker (rest_of_window g.R.Source.input c.args.self.now) _ _ (λ (l : Rest) h. trailing l (view_of_found c.advance.new.self.buf.value c.in-Some.found) h) (rw c.in-Some.is at c.in_ok-advance.ensures.answer))
 
 pub returns-in_err-advance-clause-behind : goal.returns-in_err-advance-clause-behind
 returns-in_err-advance-clause-behind g c =
