@@ -31,6 +31,11 @@ Those of PRODUCTS have a product of large factors in a short text, which a progr
   same_set               a sum that names one large set of assumptions again and again
   alternating_sets       a sum that names two large sets of assumptions in turn
 
+Those of STEPS have a product of large factors that has no shorter way, so each of its steps is to be short:
+
+  split_on_rows  two assumptions with rows of integer variables, split on again and again
+  wide_divisors  sums of fractions of 127 bits whose denominators have a large common divisor
+
 Those of KEPT are texts of which much is kept:
 
   names                  variables with names of one byte
@@ -302,6 +307,22 @@ def split_on_objective(size):
     yield from proof(both + ['u G 0 0 { uns 2 0 2 1 } 0'] * count)
 
 
+def split_on_rows(size):
+    count = size // 40
+    both = [constraint(*text, unit(count)) + ' { asm } -1' for text in (('l', 'L', 0), ('g', 'G', 1))]
+    yield from problem(count, range(count), [], 'range -inf inf')
+    yield from proof(both + ['z G 0 0 { lin 0 } -1'] + ['u G 0 0 { uns 2 0 2 1 } 0'] * count)
+
+
+def wide_divisors(size):
+    count, shared = size // 208, 2**66 - 5
+    rows = [{j: Fraction(10**17 + 2 * j + k, shared * other) for j in range(count)}
+            for k, other in ((1, 267914296), (3, 433494437))]
+    entries = [(0, 1), (1, 1), (0, -1), (1, -1)] * (size // 48)
+    yield from problem(count, [], [constraint('c', 'E', 0, row) for row in rows], 'range -inf inf')
+    yield from proof([f'f E 0 0 {lin(entries)} 0'])
+
+
 def gathered(count, start=0):
     """Assumptions, and sums of two by two of them, as they stand from the index on; the last one rests on all."""
     steps, level = ['a G 0 0 { asm } -1'] * count, list(range(start, start + count))
@@ -386,6 +407,7 @@ def long_sum(size):
 
 PRODUCTS = [objective_tested, columns_and_objective, objective_stated, objective_kept, weak_goals, split_on_objective,
             same_set, alternating_sets]
+STEPS = [split_on_rows, wide_divisors]
 KEPT = [names, names_and_solutions, empty_constraints, long_named, short_constraints, long_constraint, integer_indices,
         empty_solutions, empty_sums, assumptions, long_sum]
 HOSTILE = [objective, handed_on, growing, one_sum, integers]

@@ -6,7 +6,8 @@ usage: tests/costs.py [--write] [PROGRAM]     crates/vipr/out/vipr without it
 Of each family of PRODUCTS and HOSTILE (bench/families.py) a text and one of four times its length are checked, and
 written in the compact form; instructions and the peak of memory may grow by five times at most. Each command may have
 no more memory than MOST bytes for a byte of text, whatever it writes, beside what an empty run has and ROOM; that is
-tried with the families of KEPT, and with constraints written `OBJ`, which are much longer in the canonical text.
+tried with the families of KEPT, and with constraints written `OBJ`, which are much longer in the canonical text. Each
+family of STEPS may take no more than so many instructions.
 
 Instructions are counted by valgrind and memory is measured by GNU time; what isn't there is left out, and a line says
 so. --write writes the figures into docs/SECURITY.md. Prints each fault, and last `costs: N checks, F failed, S seconds
@@ -34,6 +35,8 @@ ROOM = 2 << 20
 # the lengths of the shorter texts; sets show what they cost in longer ones
 LENGTH, LONG = 8_000, {'same_set': 400_000, 'alternating_sets': 400_000, 'growing': 100_000}
 MEMORY_LENGTH, KEPT_LENGTH, WRITTEN_LENGTH = 200_000, 500_000, 100_000
+# instructions that a text of this length may take whose steps have no shorter way
+STEPS_LENGTH, STEPS_MOST = 20_000, {'split_on_rows': 13_000_000, 'wide_divisors': 300_000_000}
 # processor time that a run may take, in seconds
 SECONDS = 10
 PAGE = TOP / 'docs/SECURITY.md'
@@ -118,6 +121,16 @@ def memory(pool):
         yield f'| {ABOUT[family.__name__]} | ' + ' | '.join(cells) + ' |'
 
 
+def steps(pool):
+    """Checks the families of STEPS."""
+    def cost(family):
+        return instructions([PROGRAM, 'check', file_of(family, 'check', STEPS_LENGTH)[0]], SECONDS) if VALGRIND else 0
+
+    for family, found in zip(families.STEPS, pool.map(cost, families.STEPS)):
+        good = found is not None and found <= STEPS_MOST[family.__name__]
+        check(good, family.__name__, 'check', f'{found} instructions for {STEPS_LENGTH} bytes')
+
+
 def beyond():
     """A sentence that names what doesn't meet its bound yet."""
     named = [f'`{command}` of {ABOUT[name]}' for name, command in sorted(OPEN)]
@@ -139,6 +152,7 @@ def main():
     with ThreadPoolExecutor(os.cpu_count()) as pool:
         first = list(growths(pool))
         second = list(memory(pool)) if GNU_TIME else []
+        steps(pool)
     if WRITES:
         text = PAGE.read_text(encoding='utf-8')
         between = re.escape(MARKS[0]) + '.*?' + re.escape(MARKS[1])
