@@ -5,11 +5,11 @@ usage: tests/all.py [--anew]
 
 First `rt ci`: every proof, the must-fail edits, the tests. A kit whose `rt ci` knows --anew takes over what an earlier
 run of it passed on this machine, and nothing with --anew; other kits prove everything each time, and --anew isn't handed
-on to them. Then each script of SCRIPTS, which counts as one. Prints
-what each took, and what of the processor time went into each crate's proof, tests and edits, found by looking at the
-processes once a second. The last line is `N passed, M failed`, and behind it `, K skipped` if a script says K times that
-it left something out, since a tool isn't installed here; above it are the SHA-256 of the program and of the libraries.
-The exit status is 1 if one failed. `tests/gate.py` makes a page of this output.
+on to them. Then each script of SCRIPTS, which counts as one. Prints what each took, and what of the processor time went
+into each crate's proof, tests and edits, found by looking at the processes once a second, and the SHA-256 of the program
+and of the libraries. The last line is `N passed, M failed`, and behind it `, K skipped` if a script says K times that it
+left something out, since strace, valgrind, GNU time, git or a C compiler isn't installed here. The exit status is 1 if
+one failed. `tests/gate.py` makes a page of this output.
 """
 import datetime
 import os
@@ -49,8 +49,8 @@ SCRIPTS = [
     ['tests/interface.py'],
     ['docs/architecture.py', '--check'],
 ]
-# a line by which a script says that it left something out
-SKIPPED = re.compile(r'\w+: (?:no |left out|.*\bskipped$|.*, so no )')
+# a line by which a script says that it left something out, since one of these tools isn't installed
+SKIPPED = re.compile(r'\w+: (?=.*\b(?:strace|valgrind|GNU time|compiler|git)\b).*(?:\bno\b|left out|skipped)')
 TICKS = os.sysconf('SC_CLK_TCK')
 SECONDS_BETWEEN = 1
 
