@@ -6,7 +6,7 @@ use crate::host::Host;
 use std::alloc::{AllocError, Global};
 use std::fmt::Write as _;
 use std::fs::{File, Metadata, OpenOptions, TryLockError};
-use std::io::{ErrorKind, Read, Seek};
+use std::io::{ErrorKind, Read};
 use std::os::unix::fs::{MetadataExt, OpenOptionsExt, fchown};
 use std::{fs, io};
 
@@ -124,7 +124,7 @@ fn is_copied<H: Host>(rt: &H, file: &File, target: &str) -> bool {
         return false;
     };
     let mut from = file;
-    from.rewind().is_ok() && io::copy(&mut from, &mut &to).is_ok() && is_synced(&to)
+    io::Seek::rewind(&mut from).is_ok() && io::copy(&mut from, &mut &to).is_ok() && is_synced(&to)
 }
 
 /// Removes a file's first name, if that is still its own, and brings the folder to its disk, if the
