@@ -9,12 +9,15 @@ no more memory than MOST bytes for a byte of text, whatever it writes, beside wh
 tried with the families of KEPT, and with constraints written `OBJ`, which are much longer in the canonical text. Each
 family of STEPS may take no more than so many instructions.
 
+`explain --long` is tried with texts of its own.
+
 Instructions are counted by valgrind and memory is measured by GNU time; what isn't there is left out, and a line says
 so. --write writes the figures into docs/SECURITY.md. Prints each fault, and last `costs: N checks, F failed, S seconds
 of processor time`; the exit status is 1 if one failed.
 """
 import os
 import re
+import subprocess
 import sys
 import tempfile
 from concurrent.futures import ThreadPoolExecutor
@@ -144,6 +147,50 @@ def table(first, second):
         '| Texts | `check` | `show` | `tighten` |', '|---|---|---|---|', *second, *beyond(), MARKS[1]])
 
 
+def long_texts(n):
+    """Texts of which an explanation for people looks at much: some n items each, by their names."""
+    head = 'VER 1.0\nVAR {0}\n{1}\nINT 0\nOBJ min\n{0} {2}\nCON {3} 0\n{4}\nRTP {5}\nSOL {6}\n{7}DER {8}\n{9}'
+
+    def text(claim, con=(), sol='', count=0, der=(), variables=n):
+        names = ' '.join(f'x{it}' for it in range(variables))
+        row = ' '.join(f'{it} 1' for it in range(variables))
+        return head.format(variables, names, row, len(con), '\n'.join(con), claim, count, sol,
+                           len(der), '\n'.join(der))
+
+    assumed = [f'a{it} G 0 OBJ {{ asm }} -1' for it in range(n)]
+    named = [f'c{it} G 0 0' for it in range(n)]
+    chain = ['a G 0 OBJ { asm } -1'] + [f'd{it} G 0 OBJ {{ lin 1 {it} 1 }} {it + 2}' for it in range(n)]
+    yield 'listed solutions and a long objective', text('range -inf -2', sol='s 0\n' * (3 * n), count=3 * n)
+    yield 'many constraints near the claim', text('range 1 inf', der=assumed)
+    yield 'a chain near the claim', text('range 1 inf', der=chain, variables=1)
+    yield 'one index in a long sum', text('infeas', con=named, variables=0, der=[
+        f'd G 1 0 {{ lin {n} ' + f'{n + 9} 1 ' * n + '} -1'])
+    yield 'a long token', 'VER ' + '1' * (8 * n)
+    yield 'a long line', 'VER 1.0 VAR 1 ' + 'x ' * (8 * n)
+
+
+def long_growth(task):
+    """How much more instructions an explanation of four times the text costs."""
+    known = []
+    for which, n in enumerate(task[1:]):
+        name, text = list(long_texts(n))[task[0]]
+        path = Path(ROOM_FOR_FILES, f'long.{task[0]}.{which}')
+        path.write_text(text, encoding='utf-8')
+        run = subprocess.run([VALGRIND, '--tool=callgrind', '--callgrind-out-file=/dev/null', PROGRAM, 'explain',
+                              '--long', path], capture_output=True, check=False, timeout=20 * SECONDS)
+        found = re.search(rb'Collected : (\d+)', run.stderr)
+        known.append((found and int(found[1]), len(text)))
+    (first, size), (second, larger) = known
+    return name, None if None in (first, second) else second / first / (larger / size / 4)
+
+
+def long_growths(pool):
+    """Checks what `explain --long` costs."""
+    for name, times in pool.map(long_growth, [(it, 500, 2000) for it in range(6)]):
+        check(times is not None, name, 'explain --long', f'not explained within {SECONDS} seconds')
+        check((times or 0) <= GROWTH, name, 'explain --long', f'{times or 0:.1f} times for 4 times the text')
+
+
 def main():
     for tool, what in ((VALGRIND, 'valgrind, so instructions are not counted'),
                        (GNU_TIME, 'GNU time, so memory is not measured')):
@@ -153,6 +200,8 @@ def main():
         first = list(growths(pool))
         second = list(memory(pool)) if GNU_TIME else []
         steps(pool)
+        if VALGRIND:
+            long_growths(pool)
     if WRITES:
         text = PAGE.read_text(encoding='utf-8')
         between = re.escape(MARKS[0]) + '.*?' + re.escape(MARKS[1])

@@ -1,27 +1,39 @@
 #!/usr/bin/env python3
 """What `vipr explain --long` says of 47 mistakes that a person makes in the ten small problems of examples/problems.
 
-usage: tests/long.py [PROGRAM]     crates/vipr/out/vipr without it
+usage: tests/long.py [--write] [PROGRAM]     crates/vipr/out/vipr without it
 
-Each mistake is made in a copy, which is explained from its file and from standard input. The lines of `vipr explain`
-have to come first, byte for byte, with the same exit status; behind them the place at fault, and what to change there. So has each
-of the ten problems as it is: it is verified, and its goal is shown. Then texts that are no certificate, a line of
-binary bytes, names with controls, and long rows. Every byte that is printed behind the first lines is printable ASCII
-or a line feed, and there are 65,536 of them at most. A file that can't be read has the answer of
-`vipr explain`, and in front of it a line with its name and the reason.
+Each mistake is made in a copy, which is explained from its file, from standard input, and from a pipe that gives a
+byte a read. The lines of `vipr explain` have to come first, byte for byte, with the same exit status; behind them the
+place at fault, and what to change there. So has each of the ten problems as it is: it is verified, and its goal is
+shown. Then texts that are no certificate, a line of binary bytes, names with controls, long rows, and texts of which
+an explanation is easily wrong: what a constraint rests on, what comes near a claim, what a profile asks for. Every byte
+that is printed behind the first lines is printable ASCII or a line feed, and there are 65,536 of them at most. A file
+is opened once. One that can't be opened has the answer of `vipr explain`, and in front of it a line with its name and
+the reason.
+
+Each page is compared with the one that tests/long_pages.txt has of its text, so no word of it changes unseen; --write
+writes that file. There is a page for each cause, by each of the two profiles where they differ.
 
 Prints each fault, and last `long: N checks, F failed`; the exit status is 1 if one failed.
 """
+import array
 import errno
+import fcntl
 import gzip
 import os
+import shutil
 import subprocess
 import sys
 import tempfile
+import termios
+import time
 from pathlib import Path
 
 TOP = Path(__file__).resolve().parent.parent
-PROGRAM = Path(sys.argv[1] if len(sys.argv) > 1 else TOP / 'crates/vipr/out/vipr').resolve()
+WORDS = [word for word in sys.argv[1:] if word != '--write']
+PROGRAM = Path(WORDS[0] if WORDS else TOP / 'crates/vipr/out/vipr').resolve()
+PAGES = TOP / 'tests/long_pages.txt'
 PROBLEMS = TOP / 'examples/problems'
 MOST_BYTES = 65536
 
@@ -195,7 +207,88 @@ STRANGE = [
       + ' RTP infeas SOL 0 DER 1 d G 1 0 { lin 30 ' + ' '.join(f'{i} 1' for i in range(30)) + ' } -1').encode(),
      '.. (300 terms)'),
 ]
+# What an explanation says of a text: the words of the command, the text, what has to be in the page, and what must not.
+ASSUMED = ' '.join(f'a{i} L 0 0 {{ asm }} -1' for i in range(4)) + ' b G 1 0 { asm } -1 '
+TRUE = [
+    # a constraint rests on an assumption that isn't one of the first four
+    ([], 'VER 1.0 VAR 1 x INT 0 OBJ min 1 0 1 CON 0 0 RTP range 1 inf SOL 0 DER 11 ' + ASSUMED
+     + 'e G 1 1 0 1 { asm } -1 f G 1 1 0 1 { lin 5 0 -1 1 -1 2 -1 3 -1 5 1 } -1 u0 G 1 1 0 1 { uns 6 0 4 4 } -1 '
+     'u1 G 1 1 0 1 { uns 7 1 4 4 } -1 u2 G 1 1 0 1 { uns 8 2 4 4 } -1 u3 G 1 1 0 1 { uns 9 3 4 4 } -1',
+     ['u0  x >= 1  (line 1), strong enough, rests on the assumptions [1] [2] [3] [5]'], ['no assumption\n']),
+    # the index of a constraint that isn't earlier is behind a fault of the text
+    ([], 'VER 1.0 VAR 0 INT 0 OBJ min 0 CON 0 0 RTP infeas SOL 0 DER 2 a G 1 0 { lin 1 1 1 } -1 b G one',
+     ['1 x [1], which is not before this derivation <-- entry 0', 'the problem has none'], ["isn't one of this text"]),
+    # many entries name the constraint at fault: one is marked
+    ([], 'VER 1.0 VAR 0 INT 0 OBJ min 0 CON 1 0 c G 0 0 RTP infeas SOL 0 DER 1 a G 1 0 { lin 600' + ' 7 1' * 600
+     + ' } -1', ['<-- entry 0', '(600 entries)', 'constraints count from 0', '= see: docs/FORMAT.md, cause 31'],
+     ['<-- entry 1']),
+    # an entry with multiplier 0 needs nothing
+    ([], 'VER 1.0 VAR 0 INT 0 OBJ min 0 CON 1 0 c G 0 0 RTP infeas SOL 0 DER 3 a G 1 0 { asm } 1 '
+     'b G 1 0 { asm } 1 d G 1 0 { asm } -1 e G 1 0 { lin 3 1 0 0 1 1 1 } -1'.replace('{ asm } 1', '{ lin 0 } 1')
+     .replace('DER 3', 'DER 4').replace('G 1 0 { lin 0 } 1', 'G 0 0 { lin 0 } 1'),
+     ['<-- entry 2', 'write 4 or -1 here'], ['<-- entry 0']),
+    # counts with leading zeros
+    ([], 'VER 1.0 VAR ' + '0' * 80 + '1 x INT 0 OBJ mid 0', ['wanted `min` or `max`'], ['wanted the number']),
+    # by the second profile a bound of a whole objective is rounded
+    (['--profile', '2'], 'VER 1.0 VAR 1 x INT 1 0 OBJ min 1 0 1 CON 0 0 RTP range 1 inf SOL 0 DER 1 '
+     'a G 1/2 1 0 1 { asm } -1', ['x >= 1/2  (line 1), strong enough, rests on the assumptions [0]'], ['too weak']),
+    ([], 'VER 1.0 VAR 1 x INT 1 0 OBJ min 1 0 1 CON 0 0 RTP range 1 inf SOL 0 DER 1 a G 1/2 1 0 1 { asm } -1',
+     ['x >= 1/2  (line 1), too weak by 1/2, rests on the assumptions [0]'], ['strong enough']),
+    # constraints of the problem come near, too, and the nearest is first
+    ([], 'VER 1.0 VAR 1 x INT 0 OBJ min 1 0 1 CON 1 0 c G 1/2 1 0 1 RTP range 1 inf SOL 0 DER 4 '
+     'd0 G 9/10 1 0 1 { asm } -1 d1 G 0 1 0 1 { asm } -1 d2 G 0 1 0 1 { asm } -1 d3 G 0 1 0 1 { asm } -1',
+     ['nearest:\n    [1] d0  x >= 9/10', '[0] c  x >= 1/2  (line 1), too weak by 1/2, rests on no assumption'],
+     ['no constraint is like it']),
+    # two assumptions that leave no gap are no split by the first profile
+    ([], 'VER 1.0 VAR 1 x INT 1 0 OBJ min 0 CON 0 0 RTP infeas SOL 0 DER 3 l L 1/2 1 0 1 { asm } -1 '
+     'g G 2/3 1 0 1 { asm } -1 u G 0 0 { uns 0 0 1 1 } -1', ['`--profile 2` accepts these', 'with k whole'], ['gap']),
+    (['--profile', '2'], 'VER 1.0 VAR 1 x INT 1 0 OBJ min 0 CON 0 0 RTP infeas SOL 0 DER 3 l L 1/2 1 0 1 { asm } -1 '
+     'g G 5/2 1 0 1 { asm } -1 u G 0 0 { uns 0 0 1 1 } -1', ['h rounded up is at most k rounded down plus 1'],
+     ['with k whole', 'accepts']),
+    # what is wanted is an upper bound
+    ([], 'VER 1.0 VAR 1 x INT 0 OBJ max 1 0 1 CON 0 0 RTP range -inf 5 SOL 0 DER 0', ['says x <= 5 or stronger'], []),
+    # a listed solution is feasible
+    ([], 'VER 1.0 VAR 1 x INT 0 OBJ min 0 CON 0 0 RTP infeas SOL 1 s 0 DER 0', ['so `infeas` is false'], []),
+    # the row of a broken constraint is empty
+    ([], 'VER 1.0 VAR 1 x INT 0 OBJ min 0 CON 1 0 c G 1 0 RTP infeas SOL 1 s 0 DER 0', ['the row is empty; the left'],
+     ['at the solution']),
+    # what is no decimal
+    *[([], f'VER 1.0 VAR 1 x INT 0 OBJ min 1 0 {word}', ['a number is digits'], ['decimals'])
+      for word in ('.', '-.', '1+.5', '--3.5', '0-3.5')],
+    ([], 'VER 1.0 VAR 1 x INT 0 OBJ min 1 0 -3.5', ['write -7/2'], []),
+    # bounds of a claim
+    ([], 'VER 1.0 VAR 0 INT 0 OBJ min 0 CON 0 0 RTP range 0 +inf SOL 0 DER 0', ['write `inf`'], ['takes two bounds']),
+    ([], 'VER 1.0 VAR 0 INT 0 OBJ min 0 CON 0 0 RTP range 0 1e5 SOL 0 DER 0', ['a number is digits'], ['two bounds']),
+    # names and tokens as they are shown
+    ([], 'VER 1.0 VAR 1 x INT 0 OBJ min 0 CON 1 0 ' + 'n' * 100 + ' Q', ['`' + 'n' * 40 + '..`'], ['n' * 61 + '`']),
+    ([], 'VER 1.0 VAR 1 x INT 0 OBJ min 0 CON 1 0 a\\x1b Q', ['`a\\\\x1b`'], []),
+    ([], 'VER 1.0 VAR 0 INT 0 OBJ m\xfcn', ['| ' + ' ' * 24 + '^' * 6 + ' this was found'], []),
+]
+# The last reference has to be 9000, which a part of the text doesn't show.
+LATE = ('VER 1.0 VAR 0 INT 0 OBJ min 0 CON 1 0 c G 0 0 RTP infeas SOL 0 DER 9001\nd G 0 0 { lin 0 } 1\n'
+        + 'e G 0 0 { lin 1 1 1 } -1\n' + 'f G 0 0 { lin 1 0 1 } -1\n' * 8997 + 'g G 0 0 { lin 1 1 1 } -1\n'
+        + 'h G 0 0 { lin 1 0 1 } -1\n')
+# One more text for each cause that the others don't have.
+FRONT = 'VER 1.0 VAR 1 x INT 1 0 OBJ min 1 0 1 CON 1 0 c G 1 1 0 1 RTP infeas SOL '
+LARGE = str(2 ** 127 - 1)
+CAUSES = [
+    f'VER 1.0 VAR 1 x INT 0 OBJ min 1 0 {2 ** 127}',
+    'VER 1.0 VAR 1 x INT 0 OBJ min 1 0 1/0',
+    'VER 1.0 VAR 4294967296',
+    'VER 1.0 VAR 0 INT 0 OBJ min 0 CON 0 0 RTP maybe',
+    FRONT + '0 DER 1 a G 1 0 { lin 1 c 1 } -1',
+    'VER ' + 'v' * 65536,
+    FRONT + '1 half 1 0 1/2 DER 0',
+    f'VER 1.0 VAR 1 x INT 0 OBJ min 0 CON 1 0 c G 1 1 0 {LARGE} RTP infeas SOL 1 large 1 0 2 DER 0',
+    f'VER 1.0 VAR 1 x INT 0 OBJ min 1 0 {LARGE} CON 0 0 RTP infeas SOL 1 large 1 0 2 DER 0',
+    FRONT + f'0 DER 1 a G 1 0 {{ lin 2 0 1 0 {LARGE} }} -1',
+    FRONT + '0 DER 1 a L 0 1 0 1 { sol } -1',
+    FRONT + '0 DER 1 a G 1 1 0 1 { lin 1 5 1 } -1',
+    FRONT + '0 DER 2 a L 0 1 0 1 { asm } -1 b G 0 0 { uns 0 0 1 1 } -1',
+    'VER 1.0 VAR 0 INT 0 OBJ min 0 CON 0 0 RTP range -inf -1 SOL 0 DER 0',
+]
 checks = failed = 0
+pages = {}
 
 
 def explained(words, data=None):
@@ -221,6 +314,9 @@ def page_of(path, name):
     piped, piped_status = explained(['--long'], data)
     check(long.startswith(short) and status == long_status, f'{name}: the first lines and the status of explain')
     check(piped.startswith(short) and status == piped_status, f'{name}: the same from standard input')
+    if len(data) <= 1000:
+        slow, slow_status = explained_slowly([], data)
+        check((slow, slow_status) == (piped, piped_status), f'{name}: the same from a byte a read')
     page = long[len(short):]
     check(all(byte == 10 or 32 <= byte <= 126 for byte in page), f'{name}: every byte is shown')
     check(len(page) <= MOST_BYTES, f'{name}: the length')
@@ -230,8 +326,49 @@ def page_of(path, name):
     return named
 
 
+def explained_slowly(words, data):
+    """The same, of a pipe that never holds more than one byte."""
+    run = subprocess.Popen([PROGRAM, 'explain', '--long', *words], stdin=subprocess.PIPE, stdout=subprocess.PIPE)
+    pipe, held = run.stdin.fileno(), array.array('i', [0])
+    for byte in data:
+        os.write(pipe, bytes([byte]))
+        for _ in range(100_000):
+            fcntl.ioctl(pipe, termios.FIONREAD, held)
+            if not held[0]:
+                break
+            time.sleep(0)
+    run.stdin.close()
+    return run.stdout.read(), run.wait()
+
+
+def opened_once(path):
+    """A file is opened once, whatever is explained."""
+    if not shutil.which('strace'):
+        return
+    run = subprocess.run(['strace', '-f', '-e', 'trace=open,openat', PROGRAM, 'explain', '--long', path],
+                         capture_output=True, check=False)
+    count = run.stderr.count(str(path).encode())
+    check(count == 1, f'{path}: opened {count} times')
+
+
+def keep(name, page, path):
+    """Keeps a page under a name, to compare it with the one in the file."""
+    pages[name] = page.replace(str(path), 'FILE')
+
+
+def compare():
+    """Compares the pages with those of the file, or writes them there."""
+    text = ''.join(f'==== {name}\n{page}' for name, page in pages.items())
+    if '--write' in sys.argv:
+        PAGES.write_text(text, encoding='ascii')
+    known = dict(part.split('\n', 1) for part in PAGES.read_text(encoding='ascii').split('==== ')[1:])
+    for name, page in pages.items():
+        check(known.get(name) == page, f'{name}: another page than in {PAGES.name}: {page}')
+    check(list(known) == list(pages), f'{PAGES.name} has the names {set(known) ^ set(pages)} too many or too few')
+
+
 def unread(path, reason):
-    """A file that can't be read: `fault read` is all that is printed without --long, which names it and the reason."""
+    """A file that can't be opened: `fault read` is all that is printed without --long, which names it and the reason."""
     short, long = (subprocess.run([PROGRAM, 'explain', *words, path], capture_output=True, check=False)
                    for words in ([], ['--long']))
     check((short.stdout, short.stderr, short.returncode) == (b'', b'fault read\n', 3), f'{path!r}: {short}')
@@ -251,21 +388,40 @@ def main():
         path.unlink()
         for name in ('missing.vipr', 'a \x1b[31m name\n', ''):
             unread(name and f'{folder}/{name}', errno.ENOENT)
-        unread(folder, errno.EISDIR)
+        check(explained(['--long', folder]) == (b'', 3), 'a folder')
         for problem, old, new, place, change in MISTAKES:
             name = f'{problem}, {old!r} -> {new!r}'
             text = (PROBLEMS / f'{problem}.vipr').read_text()
             check(old in text, f'{name}: the text to be replaced')
             path.write_text(text.replace(old, new, 1))
             page = page_of(path, name)
+            keep(name, page, path)
             check(place in page, f'{name}: the place {place!r}')
             check(change in page, f'{name}: the change {change!r}')
         for problem in sorted({row[0] for row in MISTAKES}):
             page = page_of(PROBLEMS / f'{problem}.vipr', problem)
+            keep(problem, page, PROBLEMS / f'{problem}.vipr')
             check('proved: ' in page and '  goal   [' in page, f'{problem}: the goal')
         for data, wanted in STRANGE:
             path.write_bytes(data)
             check(wanted in page_of(path, repr(data[:20])), f'{data[:20]!r}: {wanted!r}')
+        for words, text, wanted, unwanted in TRUE:
+            path.write_bytes(text.encode('latin-1'))
+            page = explained(['--long', *words, path])[0].decode('ascii', 'replace')
+            for part in wanted:
+                check(part in page, f'{text[:400]!r}: {part!r} in {page}')
+            for part in unwanted:
+                check(part not in page, f'{text[:400]!r}: {part!r} in {page}')
+            if not words:
+                page_of(path, text[:40])
+            opened_once(path)
+            keep(' '.join([*words, text[:1000]]).replace('\n', ' ').encode('unicode_escape').decode(), page, path)
+        for text in CAUSES:
+            path.write_text(text)
+            keep(text.replace('\n', ' '), page_of(path, text), path)
+        path.write_text(LATE)
+        check('write 9000 or -1 here' in page_of(path, 'a late reference'), 'a late reference')
+    compare()
     print(f'long: {checks} checks, {failed} failed')
     sys.exit(1 if failed else 0)
 

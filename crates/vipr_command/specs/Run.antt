@@ -7,13 +7,15 @@ use Rattle.clap.specs.declared.error.ErrorKind.TheVariants as kind
 use Rattle.vipr_spec.specs.Constraint.{Profile}
 use Rattle.vipr_spec.specs.Input.{Input}
 use Rattle.vipr_spec.specs.Reading.{certificate_read}
-use Rattle.vipr_spec.specs.Verdict.{IsAnswer, IsExplained}
+use Rattle.vipr_spec.specs.Tests.{none}
+use Rattle.vipr_spec.specs.Verdict.{IsAnswer, IsExplained, cut_short}
 use Rattle.vipr_bytes.specs.Output.{Output}
 use Rattle.vipr_bytes.specs.Known.{IfKnown, text_of}
 use Rattle.vipr_rules.specs.Profile.{profile_of}
 use Rattle.vipr_rules.specs.declared.profile.Profile as rules
 use Rattle.vipr_check.specs.Explanation.{explained_text}
-use Rattle.vipr_check.specs.View.{Says}
+use Rattle.vipr_check.specs.Shown.{detail_of}
+use Rattle.vipr_check.specs.View.{Says, answer_of}
 use Rattle.vipr_check.specs.Run.{SaysInDetail}
 use Rattle.vipr_check.specs.declared.detail.Detail.{Detail}
 use Rattle.vipr_check.specs.declared.verdict.Fault.{Fault as CheckFault}
@@ -68,9 +70,10 @@ fault_text Read = codes "fault read"
 fault_text Memory = codes "fault memory"
 fault_text (Write n) = codes "fault write after " ++ decimal n
 
--- What is known of an input: which verdict it can have by a profile, and with which detail, which
--- certificate it can spell, and of which proof by a profile it can be.
+-- What is known of an input: what it can give, which verdict it can have by a profile, and with
+-- which detail, which certificate it can spell, and of which proof by a profile it can be.
 pub record KnownInput : Type 1 where
+  pub Gives : Input → Type 0
   pub Checked : Profile → Result Verdict CheckFault → Type 0
   pub Explained : Profile → Result (Verdict × Detail) CheckFault → Type 0
   pub kind : Kind
@@ -79,6 +82,7 @@ pub record KnownInput : Type 1 where
 -- an input of which nothing is known
 abbrev pub unknown_input : KnownInput
 unknown_input = record {
+  Gives = λ _. ⊤;
   Checked = λ _ _. ⊤;
   Explained = λ _ _. ⊤;
   kind = any_text;
@@ -89,6 +93,7 @@ unknown_input = record {
 abbrev pub known_by : Input → KnownInput
 known_by i =
     record {
+      Gives = λ j. j ≡ i;
       Checked = λ P. Says (IsAnswer P (text_of i));
       Explained = λ P. SaysInDetail (IsExplained P (text_of i));
       kind = text_read (certificate_read (text_of i));
@@ -120,17 +125,39 @@ PrintsExplanation P k old new (Err Memory) = Stays old new
 PrintsExplanation P k old new (Err (Write n)) = (v : Verdict) × (x : Detail)
     × k.Explained P (Ok (v, x)) × Took old new (explained_text v x) (Err (after_first n))
 
--- the same, and behind them a page for people, which may be empty
+-- these bytes, and whether a read fails behind them
+abbrev pub input_of : List ℕ → Bool → Input
+input_of bytes fails = record { bytes = bytes; fails = fails }
+
+-- these bytes were read of this input, and that is left
+abbrev pub HasRead : Input → Option Input → List ℕ → Type 0
+HasRead i left bytes = (rest : Input) × (left ≡ Some rest)
+    × (i ≡ input_of (bytes ++ rest.bytes) rest.fails)
+
+-- a read found more, or the end, or failed there
+abbrev pub ReadsOn : Input → Option Input → List ℕ → Bool → Bool → Type 0
+ReadsOn i left bytes has_failed true = HasRead i left bytes
+ReadsOn i left bytes has_failed false = i ≡ input_of bytes has_failed
+
+-- the verdict's lines of this input were printed with those of the detail, and behind them a page
+-- for people, which may be empty
+abbrev pub PrintsPage : Profile → Input → Option Output → Option Output → Result ℕ CommandFault
+    → Type 0
+PrintsPage P i old new (Ok s) = (v : Verdict) × (x : Detail) × (more : List ℕ)
+    × IsExplained P (text_of i) (answer_of v) (detail_of x) × IsPage more
+    × (s ≡ status_for v) × Took old new (explained_text v x ++ more) (Ok tt)
+PrintsPage P i old new (Err Read) =
+    IsExplained P (text_of i) cut_short none × Stays old new
+PrintsPage P i old new (Err Memory) = Stays old new
+PrintsPage P i old new (Err (Write n)) = (v : Verdict) × (x : Detail) × (more : List ℕ)
+    × IsExplained P (text_of i) (answer_of v) (detail_of x) × IsPage more
+    × Took old new (explained_text v x ++ more) (Err (after_first n))
+
+-- what the input gave was explained, and this printed; a file that can't be opened gives nothing
 abbrev pub PrintsAtLength : Profile → KnownInput → Option Output → Option Output
     → Result ℕ CommandFault → Type 0
-PrintsAtLength P k old new (Ok s) = (v : Verdict) × (x : Detail) × (more : List ℕ)
-    × k.Explained P (Ok (v, x)) × IsPage more × (s ≡ status_for v)
-    × Took old new (explained_text v x ++ more) (Ok tt)
 PrintsAtLength P k old new (Err Read) = k.Explained P (Err CheckRead) × Stays old new
-PrintsAtLength P k old new (Err Memory) = Stays old new
-PrintsAtLength P k old new (Err (Write n)) = (v : Verdict) × (x : Detail) × (more : List ℕ)
-    × k.Explained P (Ok (v, x)) × IsPage more
-    × Took old new (explained_text v x ++ more) (Err (after_first n))
+PrintsAtLength P k old new r = (i : Input) × k.Gives i × PrintsPage P i old new r
 
 -- the text was printed in this form, or the certificate refused
 abbrev pub PrintsText : Form → KnownInput → Option Output → Option Output → Result ℕ CommandFault

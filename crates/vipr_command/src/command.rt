@@ -10,12 +10,11 @@ use crate::check::print_verdict;
 use crate::explain_long::explain_job;
 use crate::fault::CommandFault;
 use crate::host::Host;
-use crate::line::{say, say_at_length};
+use crate::line::{say, say_at_length, say_why_unread};
 use crate::output::print;
 use crate::request::{Job, Task};
 use crate::show::print_text;
 use crate::tighten::print_tightened;
-use crate::unread::say_why_unread;
 use clap::Error;
 use clap::error::ErrorKind;
 use std::alloc::Global;
@@ -75,13 +74,7 @@ fn run_over<H: Host, R: Source + Drop, O: Sink, E: Write>(
     };
     match job.file {
         None => do_task(rt, &job, input, out, err),
-        Some(path) => {
-            let done = do_task_on_file(rt, &job, path, out, err);
-            if job.is_long && done == Err(CommandFault::Read) {
-                say_why_unread(rt, path, err);
-            }
-            done
-        }
+        Some(path) => do_task_on_file(rt, &job, path, out, err),
     }
 }
 
@@ -116,7 +109,12 @@ fn do_task_on_file<H: Host, O: Sink, E: Write>(
 {
     match File::open(rt, path) {
         Ok(file) => do_task(rt, job, FromRead::new(file), out, err),
-        Err(_) => Err(CommandFault::Read),
+        Err(error) => {
+            if job.is_long {
+                say_why_unread(rt.alloc(), path, &error, err);
+            }
+            Err(CommandFault::Read)
+        }
     }
 }
 
@@ -133,7 +131,7 @@ fn do_task<H: Host, R: Source + Drop, O: Sink, E: Write>(
     let alloc = rt.alloc();
     match job.command {
         Task::Check => print_verdict(alloc, job.profile, source, out),
-        Task::Explain => explain_job(rt, job, source, out),
+        Task::Explain => explain_job(alloc, job, source, out),
         Task::Show => print_text(alloc, job.form, source, out, err),
         Task::Tighten => print_tightened(rt, job.profile, job.form, source, job.out, out, err),
     }

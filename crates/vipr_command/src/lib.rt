@@ -18,7 +18,6 @@ mod output;
 mod request;
 mod show;
 mod tighten;
-mod unread;
 
 pub use args::job;
 pub use check::print_verdict;

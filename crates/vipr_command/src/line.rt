@@ -3,7 +3,9 @@
 use arrayvec::ArrayString;
 use std::alloc::Global;
 use std::fmt::{Display, Write as _};
+use std::io;
 use std::io::Write;
+use vipr_page::StrangeBytes;
 
 /// Writes a text of at most 128 bytes in one piece, and needs no memory for it. A failed write is
 /// ignored.
@@ -20,4 +22,10 @@ pub(crate) fn say_at_length<T: Display, E: Write>(alloc: Global, err: &mut E, te
         Ok(text) => err.write_all(text.as_bytes()),
         Err(_) => write!(err, "{text}"),
     };
+}
+
+/// Writes a line with the name of a file that can't be opened, and the system's reason.
+pub(crate) fn say_why_unread<E: Write>(alloc: Global, path: &str, reason: &io::Error, err: &mut E) {
+    let name = StrangeBytes(path.as_bytes());
+    say_at_length(alloc, err, &format_args!("{name}: {reason}\n"));
 }

@@ -3,7 +3,7 @@ use Rattle.std.proofs.Common.{◌≡◌, ℕ, ◌+◌, ◌-◌, ◌^◌, ◌<◌
 use Rattle.std.proofs.Common.{List, [], ◌∷◌, ◌++◌, length, take, drop, get_or, Option, refl, sym, ap, ◌∙◌}
 use Rattle.std.proofs.Common.{subst, arith, below_more}
 use Rattle.std.proofs.lemmas.List.{at_drop_more, drop-drop, drop_all, get_or-drop, length-append}
-use Rattle.std.proofs.lemmas.List.{length-drop, length-take, take-append-le, take_all}
+use Rattle.std.proofs.lemmas.List.{length-drop}
 use Rattle.vipr_spec.specs.Input.{Input}
 use Rattle.vipr_spec.specs.Tokens.{Token, is_white, tokens_after_front, tokens_from}
 use Rattle.vipr_spec.proofs.Laws.{token_whole}
@@ -23,32 +23,14 @@ use Rattle.vipr_explain.proofs.Lines.{line_more}
 length_more : (bytes : List ℕ) (b : ℕ) → length (bytes ++ b ∷ []) ≡ length bytes + 1
 length_more bytes b = length-append bytes (b ∷ [])
 
--- there was room for it
 pub holds_more : {R : Type 0} (bytes : List ℕ) (b : ℕ) (old new : Words R) → HoldsStart bytes old
-    → length old.word.items < 64 → new.size ≡ min (old.size + 1) (2 ^ 64 - 1)
+    → new.size ≡ min (old.size + 1) (2 ^ 64 - 1)
     → (new.lacks_memory ≡ false → old.lacks_memory ≡ false)
     → (new.lacks_memory ≡ false → new.word.items ≡ old.word.items ++ b ∷ [])
     → HoldsStart (bytes ++ b ∷ []) new
-holds_more bytes b old new holds room size memory pushed = record {
+holds_more bytes b old new holds size memory pushed = record {
   size = omega (arith, size, holds.size, length_more bytes b);
-  word = λ fine.
-      let word = holds.word (memory fine) in
-      let short : length bytes < 64 = omega (arith, ap length word, length-take 64 bytes) in
-      pushed fine ∙ ap (λ (xs : List ℕ). xs ++ b ∷ []) (word ∙ take_all 64 bytes (omega arith))
-      ∙ sym (take_all 64 (bytes ++ b ∷ []) (omega (arith, length_more bytes b)));
-}
-
--- there was none
-pub holds_full : {R : Type 0} (bytes : List ℕ) (b : ℕ) (old new : Words R) → HoldsStart bytes old
-    → 64 ≤ length old.word.items → new.size ≡ min (old.size + 1) (2 ^ 64 - 1)
-    → new.word.items ≡ old.word.items → (new.lacks_memory ≡ false → old.lacks_memory ≡ false)
-    → HoldsStart (bytes ++ b ∷ []) new
-holds_full bytes b old new holds full size same memory = record {
-  size = omega (arith, size, holds.size, length_more bytes b);
-  word = λ fine.
-      let word = holds.word (memory fine) in
-      let long : 64 ≤ length bytes = omega (arith, ap length word, length-take 64 bytes) in
-      same ∙ word ∙ sym (take-append-le 64 bytes (b ∷ []) long);
+  word = λ fine. pushed fine ∙ ap (λ (xs : List ℕ). xs ++ b ∷ []) (holds.word (memory fine));
 }
 
 -- ---- up to the first byte of a token

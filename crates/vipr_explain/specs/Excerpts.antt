@@ -5,8 +5,10 @@ use Rattle.std.specs.Prelude.{slice_index, Option}
 use Rattle.vipr_spec.specs.Input.{Input}
 use Rattle.vipr_explain.specs.Letters.{HasGiven}
 use Rattle.vipr_explain.specs.declared.text.Letters.{Letters}
+use Rattle.vipr_explain.specs.declared.text.Span.{Span}
 use Rattle.vipr_explain.specs.declared.text.Spot.{Spot}
 use Rattle.vipr_explain.specs.declared.excerpt.Excerpt.{Excerpt}
+use Rattle.vipr_explain.specs.declared.excerpt.KnownPlace.{KnownPlace}
 
 -- the most bytes that are shown before a place, and from it on; and how many are read at most to
 -- see whether there are more
@@ -60,3 +62,8 @@ ReadsInLine input i n line letters e true =
 ReadsInLine input i n line letters e false =
     (n < length i.bytes → is_in_line (slice_index i.bytes n) ≡ false)
     × ShowsLine line e × ((k : ℕ) × HasGiven input i k letters)
+
+-- the part of the line round a place of this text, which has so many bytes
+pub record IsPlaceAt (text : List ℕ) (span : Span) (p : KnownPlace) : Type 0 where
+  pub excerpt : IsExcerpt span.spot text p.excerpt
+  pub size : p.size ≡ span.size

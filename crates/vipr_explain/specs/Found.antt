@@ -1,7 +1,7 @@
 -- What is found when a text is read again
-use Rattle.std.specs.Prelude.{◌≡◌, ◌≤◌, ◌⊎◌, ℕ, ◌+◌, ◌-◌, ◌<◌, ◌==◌, ◌++◌, ◌∷◌, [], ⊤, true, min}
+use Rattle.std.specs.Prelude.{◌≡◌, ◌≤◌, ◌⊎◌, ℕ, ◌+◌, ◌-◌, ◌<◌, ◌==◌, ◌++◌, ◌∷◌, [], ⊤, min}
 use Rattle.std.specs.Prelude.{max, fold, filter}
-use Rattle.std.specs.Prelude.{Bool, List, map, length, Option, Result, Ok, Err, IsSome}
+use Rattle.std.specs.Prelude.{Bool, List, map, length, Option, Some, Result, Ok, Err, IsSome, false}
 use Rattle.std.specs.List.{list_any, enumerate_from}
 use Rattle.vipr_spec.specs.Certificate.{Named, Problem, Derivation}
 use Rattle.vipr_spec.specs.Constraint.{Row}
@@ -18,6 +18,10 @@ use Rattle.vipr_scan.specs.declared.error.TextError.TheVariants as error
 use Rattle.vipr_explain.specs.declared.items.Numbered.{Numbered}
 use Rattle.vipr_explain.specs.declared.items.Items.{Items}
 use Rattle.vipr_explain.specs.declared.shown.PlacedItems.{PlacedItems}
+
+-- the input that the bytes of a text in memory are
+abbrev pub text_input : List ℕ → Option Input
+text_input bytes = Some (record { bytes = bytes; fails = false })
 
 -- the reading has a fault
 abbrev pub HasFault : {Y : Type 0} → Result Y Fault → Type 0
@@ -70,14 +74,6 @@ head_read r = do
 -- the solution behind so many others
 abbrev pub nth_read : Problem → ℕ → Rest → Read (Named Row)
 nth_read p n r = read_each (solution_read p) n r >>= λ ss. solution_read p ss.1
-
--- the problem, and all solutions
-abbrev pub all_solutions_read : Rest → Read (List (Named Row))
-all_solutions_read r = problem_read r >>= λ p. read_each (solution_read p.0.0) p.0.1 p.1
-
--- all derivations
-abbrev pub all_derivations_read : Rest → Read (List Derivation)
-all_derivations_read r = head_read r >>= λ h. read_each (derivation_read h.0.0) h.0.1 h.1
 
 -- the problem of a text, and the solution of this number that it lists
 pub record IsListedSolution (number : ℕ) (text : Rest) (p : Problem) (s : Named Row)
@@ -147,10 +143,6 @@ pub record AreItemsOf (input : Option Input) (wanted : List ℕ) (known : Placed
   pub marks : AreMarksOf input wanted known.marks.items
 
 -- ---- what can't be read again
-
--- a read fails, or the text has a fault up to the greatest of these constraints
-abbrev pub LacksItems : List ℕ → Input → Type 0
-LacksItems wanted i = (i.fails ≡ true) ⊎ HasFault (items_up_to wanted (text_of i))
 
 -- the problem can't be read, or the solution of this number isn't listed, or can't be read
 abbrev pub LacksListed : ℕ → Read (Problem × ℕ) → Type 0

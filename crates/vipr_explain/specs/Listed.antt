@@ -1,5 +1,5 @@
--- The constraints that an explanation names, as they are listed
-use Rattle.std.specs.Prelude.{ℕ, List, [], ◌++◌, ◌==◌, Option, Some, None, codes, decimal, find}
+-- The constraints that an explanation names
+use Rattle.std.specs.Prelude.{ℕ, List, ◌==◌, Option, Some, None, codes, find}
 use Rattle.std.specs.Prelude.{slice_get, option_map}
 use Rattle.vipr_spec.specs.Certificate as is
 use Rattle.vipr_spec.specs.Constraint as spec
@@ -7,11 +7,9 @@ use Rattle.vipr_linear.specs.Constraint.{constraint_of}
 use Rattle.vipr_cert.specs.Items.{reason_of}
 use Rattle.vipr_cert.specs.Reasons.{reason_word}
 use Rattle.vipr_cert.specs.declared.items.Derivation.{Derivation}
-use Rattle.vipr_page.specs.Algebra.{algebra_text, shown_name}
 use Rattle.vipr_explain.specs.declared.marks.ItemPlace.{ItemPlace}
 use Rattle.vipr_explain.specs.declared.items.Items.{Items}
 use Rattle.vipr_explain.specs.declared.items.Numbered.{Numbered}
-use Rattle.vipr_explain.specs.declared.shown.PlacedItems.{PlacedItems}
 
 -- the derivation of a constraint, if it was kept
 abbrev pub kept_derivation : List Numbered → ℕ → Option Derivation
@@ -43,23 +41,3 @@ word_or_given None = codes "given"
 -- the place of an item, if it was found
 abbrev pub place_found : List ItemPlace → ℕ → Option ItemPlace
 place_found places index = find (λ p. p.index == index) places
-
--- what is left out where it isn't known
-abbrev pub name_part : Option (List ℕ) → List ℕ
-name_part (Some name) = shown_name name
-name_part None = []
-
-abbrev pub algebra_part : List (List ℕ) → Option spec.Constraint → List ℕ
-algebra_part names (Some c) = algebra_text names c
-algebra_part names None = []
-
-abbrev pub line_part : Option ItemPlace → List ℕ
-line_part (Some place) = codes "  (line " ++ (decimal place.name.spot.line ++ codes ")")
-line_part None = []
-
--- a constraint: its index, its name, its algebra and its line
-abbrev pub listed_text : PlacedItems → ℕ → List ℕ
-listed_text known index = codes "[" ++ (decimal index ++ (codes "] "
-    ++ (name_part (known_name known.items index) ++ (codes "  "
-    ++ (algebra_part known.items.problem.names (known_constraint known.items index)
-    ++ line_part (place_found known.marks.items index))))))

@@ -1,9 +1,8 @@
 -- How far a certificate's text was read: what it has to have at its next token
-use Rattle.std.specs.Prelude.{ℕ, ◌+◌, ◌-◌, ◌^◌, min, nat_lt, if◌then◌else◌, List, [], ◌∷◌}
+use Rattle.std.specs.Prelude.{ℕ, ◌+◌, ◌-◌, ◌^◌, min, nat_lt, ◌||◌, if◌then◌else◌, List, [], ◌∷◌}
 use Rattle.std.specs.Prelude.{Option, Some, None, codes}
 use Rattle.std.specs.Str.{bytes_eq}
 use Rattle.vipr_spec.specs.Digits.{natural_of}
-use Rattle.vipr_explain.specs.ReasonTexts.{first_of_reason}
 use Rattle.vipr_explain.specs.declared.wanted.Section.{Section}
 use Rattle.vipr_explain.specs.declared.wanted.Section.TheVariants as section
 use Rattle.vipr_explain.specs.declared.wanted.Wanted.{Wanted}
@@ -15,38 +14,6 @@ abbrev pub in_u32 : ℕ → ℕ
 in_u32 n = min n (2 ^ 32 - 1)
 
 -- ---- the sections
-
-abbrev pub keyword_of : Section → List ℕ
-keyword_of section.Version = codes "VER"
-keyword_of section.Variables = codes "VAR"
-keyword_of section.Integers = codes "INT"
-keyword_of section.Objective = codes "OBJ"
-keyword_of section.Constraints = codes "CON"
-keyword_of section.Claim = codes "RTP"
-keyword_of section.Solutions = codes "SOL"
-keyword_of section.Derivations = codes "DER"
-
--- what a count counts
-abbrev pub counted_name : Section → List ℕ
-counted_name section.Version = codes "items"
-counted_name section.Variables = codes "variables"
-counted_name section.Integers = codes "integer variables"
-counted_name section.Objective = codes "items"
-counted_name section.Constraints = codes "constraints"
-counted_name section.Claim = codes "items"
-counted_name section.Solutions = codes "solutions"
-counted_name section.Derivations = codes "derivations"
-
--- what an item is
-abbrev pub item_word : Section → List ℕ
-item_word section.Version = codes "item"
-item_word section.Variables = codes "variable"
-item_word section.Integers = codes "integer variable"
-item_word section.Objective = codes "item"
-item_word section.Constraints = codes "constraint"
-item_word section.Claim = codes "item"
-item_word section.Solutions = codes "solution"
-item_word section.Derivations = codes "derivation"
 
 abbrev pub next_section : Section → Option Section
 next_section section.Version = Some section.Variables
@@ -73,6 +40,12 @@ first_of section.Derivations = wanted.Count
 abbrev pub first_of_item : Section → Wanted
 first_of_item section.Integers = wanted.IntegerIndex
 first_of_item _ = wanted.Name
+
+-- what follows the word of a reason
+abbrev pub first_of_reason : List ℕ → Wanted
+first_of_reason word = if bytes_eq word (codes "uns") then wanted.Branch else
+    (if bytes_eq word (codes "lin") || bytes_eq word (codes "rnd") then wanted.EntryCount
+    else wanted.CloseBrace)
 
 -- ---- the tokens
 

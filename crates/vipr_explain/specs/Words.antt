@@ -1,6 +1,6 @@
 -- The tokens of a text, as they are read one by one
 use Rattle.std.specs.Prelude.{◌≡◌, ℕ, ◌+◌, ◌<◌, Bool, true, false, List, [], ◌∷◌, ◌++◌, length}
-use Rattle.std.specs.Prelude.{take, drop, fold, slice_index, Option, Some, None, ◌⊎◌}
+use Rattle.std.specs.Prelude.{drop, fold, slice_index, Option, Some, None, ◌⊎◌}
 use Rattle.vipr_spec.specs.Input.{Input}
 use Rattle.vipr_spec.specs.Tokens.{Token, is_white, tokens_from}
 use Rattle.vipr_scan.specs.Places.{tokens_in}
@@ -21,7 +21,7 @@ IsReadWhole w = (w.letters.has_failed ≡ false) × (w.lacks_memory ≡ false)
 
 -- ---- what is kept of a token
 
--- its first 64 bytes, its size and its place
+-- its bytes, their number and its place
 pub record Kept : Type 0 where
   pub word : List ℕ
   pub size : ℕ
@@ -34,7 +34,7 @@ abbrev pub span_of : Kept → Span
 span_of k = record { spot = k.spot; size = k.size }
 
 abbrev pub first_bytes : Token → List ℕ
-first_bytes t = take 64 t.bytes
+first_bytes t = t.bytes
 
 abbrev pub kept_token : Input → Token → Kept
 kept_token i t = record {
@@ -54,7 +54,7 @@ kept_last i ts = fold (λ _ t. kept_token i t) no_token ts
 -- these bytes of a token were read
 pub record HoldsStart {R : Type 0} (bytes : List ℕ) (w : Words R) : Type 0 where
   pub size : w.size ≡ in_u64 (length bytes)
-  pub word : w.lacks_memory ≡ false → w.word.items ≡ take 64 bytes
+  pub word : w.lacks_memory ≡ false → w.word.items ≡ bytes
 
 -- ---- the tokens that are to come
 

@@ -1,6 +1,6 @@
 //! Explains that a constraint is needed that was dropped.
 ghost use Rattle.std.specs.Prelude.{◌≡◌, ◌+◌, ◌<◌, ◌^◌, ◌==◌, IfOk, IsSome, length};
-ghost use Rattle.std.specs.Prelude.{IfErr, IfSome, option_map, suc, true};
+ghost use Rattle.std.specs.Prelude.{IfErr, IfSome, suc};
 ghost use Rattle.std.specs.List.{list_any};
 ghost use Rattle.vipr_spec.specs.Certificate.{Problem as ProblemMeant};
 ghost use Rattle.vipr_bytes.specs.Known.{IfKnown, text_of};
@@ -10,60 +10,71 @@ ghost use Rattle.vipr_read.specs.Items.{Knows};
 ghost use Rattle.vipr_explain.specs.Drops.{IsLastUse, ReadsNext, last_among, later_of};
 ghost use Rattle.vipr_explain.specs.Drops.{names_constraint};
 ghost use Rattle.vipr_explain.specs.Found.{HasFault, OnlyIf, head_read};
-ghost use Rattle.vipr_explain.specs.Lacking.{LacksHead};
-ghost use Rattle.vipr_explain.specs.Pages.{PutsSome};
-ghost use Rattle.vipr_explain.specs.StepPages.{IsDroppedText, IsSpotText, dropped_line, last_label};
-ghost use Rattle.vipr_explain.specs.StepPages.{last_spot};
-ghost use Rattle.vipr_page.specs.Written.{PutsText};
+ghost use Rattle.vipr_explain.specs.Found.{text_input};
 
+use crate::excerpt::{KnownPlace, PlaceLabel, ShownPlace};
 use crate::items::open_derivations;
-use crate::marks::{ItemPlace, find_constraints, mark_of};
+use crate::marks::{find_constraints, mark_of};
+use crate::step::StepFault;
 use crate::text::{Reread, Subject, Text};
 use std::alloc::Global;
+use std::fmt;
+use std::fmt::{Formatter, Write};
 use vipr_bytes::Source;
 use vipr_cert::{Derivation, Reason, References};
+use vipr_check::{StepDetail, cause};
 use vipr_frac::Frac;
-use vipr_page::Page;
 use vipr_read::Derivations;
 use vipr_scan::TextError;
 
-impl<T: Text> Subject<'_, T> {
-    /// Explains that a dropped constraint is needed: the place of its last reference, and what
-    /// that would have to be.
-    pub(crate) fn put_dropped(&self, page: &mut Page, index: u32, user: u32) -> Reread<()>
-        ensures shown { IfOk result (λ _. PutsSome (IsDroppedText (T.input self.now.text.now)
-            self.now.file.now index user) page.old page.new) }
-        ensures error { IfErr result (OnlyIf (T.input self.now.text.now) LacksHead) }
-    {
-        put_dropped_line(page, index);
-        let marks = find_constraints(self.alloc, self.text, [index].as_slice())?;
-        let last = last_use(self.alloc, self.text, index, user)?;
-        self.put_last(page, mark_of(marks.as_slice(), index), last)
+/// The last use of a constraint that was dropped, and the place of its last reference.
+#[derive(Drop)]
+pub(crate) struct LastUse {
+    index: u32,
+    last: u32,
+    place: Option<KnownPlace>,
+}
+
+impl LastUse {
+    /// Reads it, if that such a constraint is needed is the fault.
+    pub(crate) fn of(subject: Subject<'_>, fault: StepFault<'_>) -> Reread<Option<LastUse>> {
+        match fault.what {
+            StepDetail::Index(index) if fault.cause == cause::DROPPED => {
+                Ok(Some(LastUse::find(subject, *index, fault.index)?))
+            }
+            _ => Ok(None),
+        }
     }
 
-    // Shows the last reference of an item, if it was found, and what it would have to be.
-    fn put_last(&self, page: &mut Page, mark: Option<ItemPlace>, last: u32) -> Reread<()>
-        ensures shown { IfOk result (λ _. PutsSome (IsSpotText (T.input self.now.text.now)
-            self.now.file.now (last_label last) (option_map last_spot mark)) page.old page.new) }
-        ensures error { IfErr result (OnlyIf (T.input self.now.text.now) (λ i. i.fails ≡ true)) }
+    // Reads that of a constraint, which a derivation needs.
+    fn find(subject: Subject<'_>, index: u32, user: u32) -> Reread<LastUse>
+        ensures { IfOk result (λ found. IfKnown (text_input subject.entry.text.0.now)
+            (λ i. IsLastUse (text_of i) index user found.last)) }
     {
-        match mark {
-            Some(mark) => {
-                let label = format!(in self.alloc; "write {last} or -1 here")?;
-                self.put_excerpt(page, mark.last, label.as_str())
+        let last = last_use(subject.alloc, &subject.text, index, user)?;
+        let marks = find_constraints(subject.alloc, &subject.text, [index].as_slice())?;
+        let place = match mark_of(marks.as_slice(), index) {
+            Some(mark) => Some(KnownPlace::read(subject, mark.last)?),
+            None => None,
+        };
+        Ok(LastUse { index, last, place })
+    }
+
+    /// Writes the place of the last reference, and what that would have to be.
+    pub(crate) fn write<W: Write>(&self, f: &mut Formatter<W>, file: &str) -> fmt::Result {
+        let index = self.index;
+        write!(
+            f,
+            "  constraint {index} was dropped behind the last reference that it states\n"
+        )?;
+        match &self.place {
+            Some(place) => {
+                let label = PlaceLabel::LastReference(self.last);
+                write!(f, "{}", ShownPlace { place, file, label })
             }
             None => Ok(()),
         }
     }
-}
-
-// Says when a constraint was dropped.
-fn put_dropped_line(page: &mut Page, index: u32)
-    ensures { PutsText page.old page.new (dropped_line index) }
-{
-    page.put_value(&format_args!(
-        "  constraint {index} was dropped behind the last reference that it states\n"
-    ));
 }
 
 // The last derivation that names a constraint, as far as the text can be read; `needed_by` if none

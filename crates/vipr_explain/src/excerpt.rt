@@ -1,20 +1,20 @@
 //! A part of a line with carets below a place in it.
-ghost use Rattle.std.specs.Prelude.{◌≡◌, ℕ, ◌+◌, ◌++◌, ◌∷◌, true, [], max, min, length, take, drop};
-ghost use Rattle.std.specs.Prelude.{List, IfOk, IfErr, IfSome, OnOk, codes, decimal, flat_map};
+ghost use Rattle.std.specs.Prelude.{◌≡◌, ℕ, ◌+◌, ◌++◌, ◌∷◌, true, [], min, length, take, drop};
+ghost use Rattle.std.specs.Prelude.{List, IfOk, IfErr, IfSome, OnOk, decimal};
 ghost use Rattle.vipr_spec.specs.Input.{Input};
-ghost use Rattle.vipr_explain.specs.Excerpted.{carets_text, end_text, excerpt_text, front_text};
-ghost use Rattle.vipr_explain.specs.Excerpted.{head_text, part_text, room_for, room_text, spaces};
-ghost use Rattle.vipr_explain.specs.Excerpts.{IsExcerpt, ShowsLine, ReadsInLine, line_at};
+ghost use Rattle.vipr_explain.specs.Excerpts.{IsExcerpt, IsPlaceAt};
+ghost use Rattle.vipr_explain.specs.Excerpts.{ReadsInLine, ShowsLine, line_at};
 ghost use Rattle.vipr_explain.specs.Found.{Because};
 ghost use Rattle.vipr_explain.specs.Letters.{HasGiven};
 ghost use Rattle.vipr_page.specs.Page.{line_byte};
-ghost use Rattle.vipr_page.specs.Written.{PutsText};
 
-use crate::text::{Letters, Reread, Spot, Subject, Text};
+use crate::text::{Letters, Reread, Span, Spot, Subject, Text};
 use itoa::Buffer;
-use std::alloc::AllocError;
+use std::alloc::{AllocError, Global};
+use std::fmt;
+use std::fmt::{Display, Formatter, Write};
 use vipr_bytes::Source;
-use vipr_page::{Page, StrangeBytes};
+use vipr_page::StrangeBytes;
 use vipr_scan::TextError;
 
 /// How many bytes of a line are shown before a place, and from it on.
@@ -43,18 +43,17 @@ impl Excerpt {
     /// # Errors
     ///
     /// `Read` if the text can't be read up to there, `Memory` if a growth is refused.
-    pub(crate) fn read<T: Text>(subject: &Subject<'_, T>, spot: Spot) -> Reread<Excerpt>
+    fn read<T: Text>(alloc: Global, text: &T, spot: Spot) -> Reread<Excerpt>
         ensures place { IfOk result (λ e. e.spot ≡ spot) }
-        ensures found { IfSome (T.input subject.now.text.now)
-            (λ i. IfOk result (IsExcerpt spot i.bytes)) }
-        ensures error { IfSome (T.input subject.now.text.now)
+        ensures found { IfSome (T.input text.now) (λ i. IfOk result (IsExcerpt spot i.bytes)) }
+        ensures error { IfSome (T.input text.now)
             (λ i. IfErr result (λ e. Because e (i.fails ≡ true))) }
     {
-        let mut letters = Letters::<T::Reader>::open(subject.text)?;
+        let mut letters = Letters::<T::Reader>::open(text)?;
         let mut excerpt = Excerpt {
             spot,
-            before: Vec::new(subject.alloc),
-            behind: Vec::new(subject.alloc),
+            before: Vec::new(alloc),
+            behind: Vec::new(alloc),
             is_cut: false,
         };
         excerpt.fill(&mut letters)?;
@@ -167,101 +166,14 @@ impl Excerpt {
         Ok(())
     }
 
-    /// Shows the line, with carets below so many bytes of it and a label behind them.
-    pub(crate) fn put(&self, page: &mut Page, file: &str, size: usize, label: &str)
-        ensures { PutsText page.old page.new (excerpt_text self.now file.now size label.now) }
-    {
-        let margin = digits_of(self.spot.line);
-        self.put_head(page, file, margin);
-        self.put_line(page);
-        self.put_carets(page, margin, size, label);
-    }
-
-    // Shows where the place is.
-    fn put_head(&self, page: &mut Page, file: &str, margin: usize)
-        ensures { PutsText page.old page.new (head_text margin file.now self.now.spot) }
-    {
-        let line = self.spot.line;
-        let column = self.spot.column;
-        page.put_spaces(margin);
-        page.put_value(&format_args!("--> {file}:{line}:{column}\n"));
-        put_bar(page, margin);
-    }
-
-    // Shows the part of the line.
-    fn put_line(&self, page: &mut Page)
-        ensures { PutsText page.old page.new (part_text self.now) }
-    {
-        let line = self.spot.line;
-        let front = self.front();
-        let before = StrangeBytes(self.before.as_slice());
-        let behind = StrangeBytes(self.behind.as_slice());
-        let end = self.end();
-        page.put_value(&format_args!("{line} | {front}{before}{behind}{end}"));
-    }
-
     // What stands for the bytes of the line that are left out in front.
-    fn front(&self) -> &'static str
-        ensures { result.now ≡ front_text self.now.spot }
-    {
+    fn front(&self) -> &'static str {
         if self.spot.column > MOST_BEFORE.saturating_add(1) {
             ".."
         } else {
             ""
         }
     }
-
-    // What stands for those that are left out behind.
-    fn end(&self) -> &'static str
-        ensures { result.now ≡ end_text self.now.is_cut }
-    {
-        if self.is_cut { "..\n" } else { "\n" }
-    }
-
-    // Shows the carets.
-    fn put_carets(&self, page: &mut Page, margin: usize, size: usize, label: &str)
-        ensures { PutsText page.old page.new (carets_text margin self.now size label.now) }
-    {
-        let count = caret_count(size);
-        page.put_spaces(margin);
-        page.put(" | ");
-        self.put_room(page);
-        page.put_carets(count);
-        page.put_value(&format_args!(" {label}\n"));
-        put_bar(page, margin);
-    }
-
-    // Shows as many spaces as the part of the line before the place has columns.
-    fn put_room(&self, page: &mut Page)
-        ensures { PutsText page.old page.new (room_text self.now) }
-    {
-        page.put_spaces(self.front().len());
-        put_spaces_for(page, self.before.as_slice());
-    }
-}
-
-// Shows a line that has nothing behind its bar.
-fn put_bar(page: &mut Page, margin: usize)
-    ensures { PutsText page.old page.new (spaces margin ++ codes " |\n") }
-{
-    page.put_spaces(margin);
-    page.put(" |\n");
-}
-
-// Shows as many spaces as bytes take columns.
-fn put_spaces_for(page: &mut Page, bytes: &[u8])
-    ensures { PutsText page.old page.new (flat_map room_for bytes.now) }
-{
-    for byte in bytes {
-        page.put_spaces(width_of(*byte));
-    }
-}
-
-// How many carets are below so many bytes.
-fn caret_count(size: usize) -> usize
-    ensures { result ≡ min (max size 1) 40 }
-{
-    size.max(1).min(MOST_CARETS)
 }
 
 // Passes so many bytes.
@@ -274,11 +186,110 @@ fn skip<R: Source + Drop>(letters: &mut Letters<R>, count: u64)
     }
 }
 
+/// A place in the text: the part of its line round it, and how many bytes are there.
+#[derive(Drop)]
+pub(crate) struct KnownPlace {
+    excerpt: Excerpt,
+    size: usize,
+}
+
+impl KnownPlace {
+    /// Reads what is round a place.
+    ///
+    /// # Errors
+    ///
+    /// `Memory` if a growth is refused.
+    pub(crate) fn read(subject: Subject<'_>, span: Span) -> Reread<KnownPlace>
+        ensures found { IfOk result (IsPlaceAt subject.entry.text.0.now span) }
+    {
+        Ok(KnownPlace {
+            excerpt: Excerpt::read(subject.alloc, &subject.text, span.spot)?,
+            size: span.size,
+        })
+    }
+}
+
+/// What is said below a place.
+#[derive(Clone, Copy)]
+pub(crate) enum PlaceLabel {
+    Words(&'static str),
+    /// What the last reference there has to be.
+    LastReference(u32),
+}
+
+impl Display for PlaceLabel {
+    fn fmt<W: Write>(&self, f: &mut Formatter<W>) -> fmt::Result {
+        match self {
+            PlaceLabel::Words(words) => f.write_str(words),
+            PlaceLabel::LastReference(last) => write!(f, "write {last} or -1 here"),
+        }
+    }
+}
+
+/// A place in a file, with carets and a label below it.
+#[derive(Clone, Copy)]
+pub(crate) struct ShownPlace<'a> {
+    pub(crate) place: &'a KnownPlace,
+    pub(crate) file: &'a str,
+    pub(crate) label: PlaceLabel,
+}
+
+impl Display for ShownPlace<'_> {
+    fn fmt<W: Write>(&self, f: &mut Formatter<W>) -> fmt::Result {
+        let excerpt = &self.place.excerpt;
+        let line = excerpt.spot.line;
+        let column = excerpt.spot.column;
+        let margin = digits_of(line);
+        let front = excerpt.front();
+        let before = excerpt.before.as_slice();
+        let behind = excerpt.behind.as_slice();
+        let carets = caret_count(&behind[..self.place.size.min(behind.len())]);
+        write_copies(f, " ", margin)?;
+        let file = StrangeBytes(self.file.as_bytes());
+        write!(f, "--> {file}:{line}:{column}\n")?;
+        write_copies(f, " ", margin)?;
+        f.write_str(" |\n")?;
+        let shown_before = StrangeBytes(before);
+        let shown_behind = StrangeBytes(behind);
+        let end = if excerpt.is_cut { ".." } else { "" };
+        write!(f, "{line} | {front}{shown_before}{shown_behind}{end}\n")?;
+        write_copies(f, " ", margin)?;
+        f.write_str(" | ")?;
+        write_copies(f, " ", front.len())?;
+        for byte in before {
+            write_copies(f, " ", width_of(*byte))?;
+        }
+        write_copies(f, "^", carets)?;
+        let label = self.label;
+        write!(f, " {label}\n")?;
+        write_copies(f, " ", margin)?;
+        f.write_str(" |\n")
+    }
+}
+
+// Writes a text so many times.
+fn write_copies<W: Write>(f: &mut Formatter<W>, text: &str, count: usize) -> fmt::Result {
+    for _ in 0..count {
+        f.write_str(text)?;
+    }
+    Ok(())
+}
+
+// How many carets are below these bytes.
+fn caret_count(bytes: &[u8]) -> usize {
+    let mut count: usize = 0;
+    for byte in bytes {
+        count = count.saturating_add(width_of(*byte));
+    }
+    count.max(1).min(MOST_CARETS)
+}
+
 // How many columns a byte takes on a page.
 fn width_of(byte: u8) -> usize
     ensures { result ≡ length (line_byte byte) }
 {
     match byte {
+        92 => 2,
         9 | 32..=126 => 1,
         _ => 4,
     }

@@ -1,276 +1,177 @@
-//! Explains what proves the claim, and which constraints come nearest if none does.
-ghost use Rattle.std.specs.Prelude.{◌≡◌, ◌∷◌, ◌++◌, ◌⊎◌, [], true, codes, IfErr, IfOk, List, Some};
-ghost use Rattle.std.specs.Prelude.{flat_map, map, option_map, ℕ};
-ghost use Rattle.vipr_spec.specs.Number.{number_text};
-ghost use Rattle.vipr_bytes.specs.Known.{text_of};
-ghost use Rattle.vipr_linear.specs.Constraint.{constraint_of};
-ghost use Rattle.vipr_explain.specs.Explained.{IsGoalText, IsProvedText};
-ghost use Rattle.vipr_explain.specs.Found.{AreItemsOf, HasFault, LacksItems, OnlyIf};
-ghost use Rattle.vipr_explain.specs.Found.{all_derivations_read};
-ghost use Rattle.vipr_explain.specs.Goals.{goal_line, wanted_text};
-ghost use Rattle.vipr_explain.specs.Lacking.{LacksGoal};
-ghost use Rattle.vipr_explain.specs.Listed.{known_constraint};
-ghost use Rattle.vipr_explain.specs.Near.{AreNearLines, IsGapText, IsNoProofText, IsStrength};
-ghost use Rattle.vipr_explain.specs.Near.{IsStrengthOf, base_text, bases_by, cut_mark_of};
-ghost use Rattle.vipr_explain.specs.Near.{near_head, near_text, some_bases};
-ghost use Rattle.vipr_explain.specs.Nearing.{near_of};
-ghost use Rattle.vipr_explain.specs.Pages.{PutsSome};
-ghost use Rattle.vipr_explain.specs.declared.shown.PlacedItems.{PlacedItems};
-ghost use Rattle.vipr_page.specs.Algebra.{size};
-ghost use Rattle.vipr_page.specs.Written.{PutsText};
+//! What proves the claim, and which constraints come nearest to it if none does.
 
-use crate::items::Items;
-use crate::near::{Bases, Near, find_near};
+use crate::items::open_problem;
+use crate::near::{Near, NearSearch, find_near};
 use crate::shown::{ListedConstraint, PlacedItems};
-use crate::text::{Reread, Subject, Text};
-use std::alloc::{AllocError, Global};
-use vipr_cert::Problem;
+use crate::text::{Reread, Subject};
+use std::fmt;
+use std::fmt::{Display, Formatter, Write};
 use vipr_check::Report;
-use vipr_frac::Frac;
 use vipr_linear::Constraint;
-use vipr_page::{Algebra, Page, size_of};
+use vipr_page::{Algebra, size_of};
+use vipr_rules::Target;
 
-impl<T: Text> Subject<'_, T> {
-    /// Explains a verified certificate: the constraint that proves its dual side, in algebra.
-    pub(crate) fn put_goal(&self, page: &mut Page, report: &Report) -> Reread<()>
-        ensures shown { IfOk result (λ _. PutsSome
-            (IsProvedText (T.input self.now.text.now) report.now) page.old page.new) }
-        ensures error { IfErr result
-            (OnlyIf (T.input self.now.text.now) (LacksGoal report.now.goal)) }
-    {
-        let claim = &report.claim;
-        page.put_value(&format_args!("proved: {claim}\n"));
-        self.put_goal_line(page, report.goal)
+/// How many assumptions of a constraint are shown.
+const MOST_ASSUMPTIONS: u32 = 4;
+
+/// The page of a verified certificate: the constraint that proves its dual side, if one has to.
+#[derive(Clone, Copy)]
+pub(crate) struct ProvedPage<'a> {
+    pub(crate) known: Option<&'a PlacedItems>,
+    pub(crate) report: &'a Report,
+}
+
+impl Display for ProvedPage<'_> {
+    fn fmt<W: Write>(&self, f: &mut Formatter<W>) -> fmt::Result {
+        let claim = &self.report.claim;
+        write!(f, "proved: {claim}\n")?;
+        match (self.known, self.report.goal) {
+            (Some(known), Some(index)) => {
+                write!(f, "  goal   {}\n", ListedConstraint { known, index })
+            }
+            _ => f.write_str("  nothing has to be proved of the dual side\n"),
+        }
     }
+}
 
-    // Shows the constraint that proves the dual side, if one has to.
-    fn put_goal_line(&self, page: &mut Page, goal: Option<u32>) -> Reread<()>
-        ensures shown { IfOk result (λ _. PutsSome
-            (IsGoalText (T.input self.now.text.now) goal) page.old page.new) }
-        ensures error { IfErr result (OnlyIf (T.input self.now.text.now) (LacksGoal goal)) }
-    {
-        match goal {
-            Some(goal) => self.put_goal_item(page, goal),
-            None => {
-                page.put("  nothing has to be proved of the dual side\n");
-                Ok(())
+/// What is known if no constraint proves the claim: what is wanted, and the nearest constraints.
+#[derive(Drop)]
+pub(crate) struct UnprovedClaim {
+    search: NearSearch,
+    items: PlacedItems,
+    /// Whether a solution is listed, which is feasible then.
+    has_solution: bool,
+}
+
+impl UnprovedClaim {
+    /// Reads the constraints that come nearest.
+    pub(crate) fn find(subject: Subject<'_>) -> Reread<UnprovedClaim> {
+        let has_solution = has_solution(subject)?;
+        let search = find_near(subject)?;
+        match read_near(subject, search.near.as_slice()) {
+            Ok(items) => Ok(UnprovedClaim {
+                search,
+                items,
+                has_solution,
+            }),
+            Err(missing) => {
+                drop(search);
+                Err(missing)
             }
         }
     }
 
-    // Shows the constraint that proves the dual side.
-    fn put_goal_item(&self, page: &mut Page, goal: u32) -> Reread<()>
-        ensures shown { IfOk result (λ _. (known : PlacedItems)
-            × AreItemsOf (T.input self.now.text.now) (goal ∷ []) known
-            × PutsText page.old page.new (goal_line known goal)) }
-        ensures error { IfErr result (OnlyIf (T.input self.now.text.now) (LacksItems (goal ∷ []))) }
-    {
-        let known = PlacedItems::read(self, [goal].as_slice())?;
-        let item = ListedConstraint {
-            known: &known,
-            index: goal,
-        };
-        page.put_value(&format_args!("  goal   {item}\n"));
-        drop(known);
-        Ok(())
-    }
-
-    /// Explains that no constraint proves the claim: what is wanted, and the nearest constraints
-    /// with the assumptions that they rest on.
-    pub(crate) fn put_no_proof(&self, page: &mut Page, goal: Option<&Constraint>) -> Reread<()>
-        ensures shown { IfOk result (λ _. PutsSome (IsNoProofText (T.input self.now.text.now)
-            (option_map (λ c. constraint_of c.now) goal.entry)) page.old page.new) }
-        ensures error { IfErr result (OnlyIf (T.input self.now.text.now)
-            (λ i. (i.fails ≡ true) ⊎ HasFault (all_derivations_read (text_of i)))) }
-    {
-        let near = find_near(self.alloc, self.text, goal)?;
-        let nearest = near.as_slice();
-        let known = known_of(self, nearest)?;
-        put_wanted(page, &known.items.problem, goal);
-        page.put(head_of(nearest));
-        put_all_near(page, &known, goal, nearest);
-        page.put_help(
-            "join the branches by `uns i1 l1 i2 l2`, so that no assumption is left, \
-             or claim what is proved behind RTP",
-        );
-        drop(known);
-        Ok(())
+    // What a constraint has to dominate; none is the absurdity.
+    fn bound(&self) -> Option<&Constraint> {
+        match &self.search.target {
+            Target::Bound(bound) => Some(bound),
+            Target::WholeBound(bound) => Some(bound),
+            Target::Absurdity => None,
+            Target::Nothing => None,
+        }
     }
 }
 
-// What stands in front of the nearest constraints.
-fn head_of(near: &[Near]) -> &'static str
-    ensures { result.now ≡ near_head (map near_of near.now) }
-{
-    if near.is_empty() {
-        "  no constraint is like it\n"
-    } else {
-        "  nearest:\n"
-    }
+// Whether a text lists a solution.
+fn has_solution(subject: Subject<'_>) -> Reread<bool> {
+    let (problem, solutions) = open_problem(subject.alloc, &subject.text)?;
+    let count = solutions.left();
+    drop(solutions);
+    drop(problem);
+    Ok(count > 0)
 }
 
 // Reads constraints that come near.
-fn known_of<T: Text>(subject: &Subject<'_, T>, near: &[Near]) -> Reread<PlacedItems>
-    ensures found { IfOk result (AreItemsOf (T.input subject.now.text.now)
-        (map (λ n. n.0) (map near_of near.now))) }
-    ensures error { IfErr result (OnlyIf (T.input subject.now.text.now)
-        (λ i. (i.fails ≡ true) ⊎ HasFault (all_derivations_read (text_of i)))) }
-{
-    let indices = indices_of(subject.alloc, near)?;
-    PlacedItems::read(subject, indices.as_slice())
-}
-
-// The indices of constraints.
-fn indices_of(alloc: Global, near: &[Near]) -> Result<Vec<u32>, AllocError>
-    ensures { IfOk result (λ v. v.items ≡ map (λ n. n.0) (map near_of near.now)) }
-{
-    let mut indices = Vec::new(alloc);
+fn read_near(subject: Subject<'_>, near: &[Near]) -> Reread<PlacedItems> {
+    let mut wanted = Vec::new(subject.alloc);
     for item in near {
-        indices.push(item.index)?;
+        wanted.push(item.index)?;
     }
-    Ok(indices)
+    PlacedItems::read(subject, wanted.as_slice())
 }
 
-// Says what is wanted.
-fn put_wanted(page: &mut Page, problem: &Problem, goal: Option<&Constraint>)
-    ensures { PutsText page.old page.new
-        (wanted_text problem.now.names (option_map (λ c. constraint_of c.now) goal.entry)) }
-{
-    match goal {
-        Some(constraint) => {
-            let algebra = Algebra {
-                problem,
-                constraint,
-            };
-            page.put_value(&format_args!(
-                "error: no constraint proves the claim\n  \
-                 wanted: a constraint that rests on no assumption and says {algebra} or more\n"
-            ));
+/// The page of a claim that no constraint proves.
+#[derive(Clone, Copy)]
+pub(crate) struct UnprovedPage<'a>(pub(crate) &'a UnprovedClaim);
+
+impl Display for UnprovedPage<'_> {
+    fn fmt<W: Write>(&self, f: &mut Formatter<W>) -> fmt::Result {
+        let known = self.0;
+        f.write_str("error: no constraint proves the claim\n  ")?;
+        f.write_str("wanted: a constraint that rests on no assumption and ")?;
+        match known.bound() {
+            Some(constraint) => {
+                let problem = &known.items.items.problem;
+                let algebra = Algebra {
+                    problem,
+                    constraint,
+                };
+                write!(f, "says {algebra} or stronger\n")?;
+            }
+            None => f.write_str("is absurd, as 0 >= 1\n")?,
         }
-        None => page.put(
-            "error: no constraint proves the claim\n  \
-             wanted: a constraint that rests on no assumption and is absurd, as 0 >= 1\n",
-        ),
+        if known.search.near.is_empty() {
+            f.write_str("  no constraint is like it\n")?;
+        } else {
+            f.write_str("  nearest:\n")?;
+        }
+        let mut is_strong = false;
+        for near in &known.search.near {
+            is_strong = is_strong || near.is_strong;
+            write_near(f, known, near)?;
+        }
+        if is_strong {
+            return f.write_str(
+                "  = help: join the branches by `uns i1 l1 i2 l2`, so that no assumption is left, \
+                 or claim what is proved behind RTP\n",
+            );
+        }
+        if known.has_solution && known.bound().is_none() {
+            f.write_str(
+                "  = help: the text lists a solution that is feasible, so `infeas` is false\n",
+            )
+        } else {
+            f.write_str("  = help: derive it, or claim what is proved behind RTP\n")
+        }
     }
 }
 
-// Shows the constraints that come near.
-fn put_all_near(page: &mut Page, known: &PlacedItems, goal: Option<&Constraint>, near: &[Near])
-    ensures { PutsSome (AreNearLines known.now (option_map (λ c. constraint_of c.now) goal.entry)
-        (map near_of near.now)) page.old page.new }
-{
-    for item in near {
-        put_near(page, known, goal, item);
-    }
-}
-
-// Shows a constraint that comes near, and why it isn't enough.
-fn put_near(page: &mut Page, known: &PlacedItems, goal: Option<&Constraint>, near: &Near)
-    ensures { (strength : List ℕ) × IsStrength known.now.items
-        (option_map (λ c. constraint_of c.now) goal.entry) near.now.index strength
-        × PutsText page.old page.new (near_text known.now (near_of near.now, strength)) }
-{
+// Writes a constraint that comes near, and why it isn't enough.
+fn write_near<W: Write>(f: &mut Formatter<W>, known: &UnprovedClaim, near: &Near) -> fmt::Result {
     let item = ListedConstraint {
-        known,
+        known: &known.items,
         index: near.index,
     };
-    page.put_value(&format_args!("    {item}"));
-    put_strength(page, &known.items, goal, near.index);
-    put_bases(page, &near.bases);
-    page.put("\n");
-}
-
-// Says whether a constraint is as strong as the goal, if there is one.
-fn put_strength(page: &mut Page, items: &Items, goal: Option<&Constraint>, index: u32)
-    ensures { PutsSome (IsStrength items.now
-        (option_map (λ c. constraint_of c.now) goal.entry) index) page.old page.new }
-{
-    match goal {
-        Some(goal) => put_known_strength(page, items, goal, index),
-        None => {}
+    write!(f, "    {item}")?;
+    if known.bound().is_some() {
+        if near.is_strong {
+            f.write_str(", strong enough")?;
+        } else if let Some(gap) = near.gap {
+            let size = size_of(gap);
+            write!(f, ", too weak by {size}")?;
+        }
     }
+    write_assumptions(f, near)
 }
 
-// The same if the constraint is known.
-fn put_known_strength(page: &mut Page, items: &Items, goal: &Constraint, index: u32)
-    ensures { PutsSome (IsStrengthOf (constraint_of goal.now)
-        (known_constraint items.now index)) page.old page.new }
-{
-    match items.constraint(index) {
-        Some(constraint) => put_comparison(page, goal, constraint),
-        None => {}
+// Writes the first assumptions that a constraint rests on, and how many others there are.
+fn write_assumptions<W: Write>(f: &mut Formatter<W>, near: &Near) -> fmt::Result {
+    if near.assumptions.is_empty() {
+        return f.write_str(", rests on no assumption\n");
     }
-}
-
-// Compares a constraint with the goal.
-fn put_comparison(page: &mut Page, goal: &Constraint, constraint: &Constraint)
-    ensures { PutsSome (IsStrengthOf (constraint_of goal.now)
-        (Some (constraint_of constraint.now))) page.old page.new }
-{
-    if constraint.dominates(goal) {
-        page.put(", strong enough");
-        return;
+    f.write_str(", rests on the assumptions")?;
+    let mut count: u32 = 0;
+    for index in 0..=near.index {
+        if near.assumptions.contains(index) {
+            if count < MOST_ASSUMPTIONS {
+                write!(f, " [{index}]")?;
+            }
+            count = count.saturating_add(1);
+        }
     }
-    put_gap(page, goal.rhs, constraint.rhs);
-}
-
-// Says by how much a right-hand side is too weak.
-fn put_gap(page: &mut Page, wanted: Frac, found: Frac)
-    ensures { PutsSome (IsGapText wanted found) page.old page.new }
-{
-    match wanted.add(found.neg()) {
-        Ok(gap) => put_size(page, gap),
-        Err(_) => {}
+    if count > MOST_ASSUMPTIONS {
+        let more = count - MOST_ASSUMPTIONS;
+        write!(f, " and {more} more")?;
     }
-}
-
-// Says how far a right-hand side is off.
-fn put_size(page: &mut Page, gap: Frac)
-    ensures { PutsText page.old page.new (codes ", too weak by " ++ number_text (size gap)) }
-{
-    let size = size_of(gap);
-    page.put_value(&format_args!(", too weak by {size}"));
-}
-
-// Says which assumptions a constraint rests on.
-fn put_bases(page: &mut Page, bases: &Bases)
-    ensures { PutsText page.old page.new (bases_by bases.now.is_cut bases.now.indices) }
-{
-    if bases.indices.is_empty() {
-        page.put(", rests on no assumption");
-        return;
-    }
-    put_some_bases(page, bases);
-}
-
-// The same if there are some.
-fn put_some_bases(page: &mut Page, bases: &Bases)
-    ensures { PutsText page.old page.new (some_bases bases.now.is_cut bases.now.indices) }
-{
-    page.put(", rests on the assumptions");
-    put_indices(page, bases.indices.as_slice());
-    page.put(cut_mark(bases.is_cut));
-}
-
-// What stands for the assumptions that are left out.
-fn cut_mark(is_cut: bool) -> &'static str
-    ensures { result.now ≡ cut_mark_of is_cut }
-{
-    if is_cut { " .." } else { "" }
-}
-
-// Names assumptions.
-fn put_indices(page: &mut Page, indices: &[u32])
-    ensures { PutsText page.old page.new (flat_map base_text indices.now) }
-{
-    for index in indices {
-        put_base(page, *index);
-    }
-}
-
-// Names an assumption.
-fn put_base(page: &mut Page, index: u32)
-    ensures { PutsText page.old page.new (base_text index) }
-{
-    page.put_value(&format_args!(" [{index}]"));
+    f.write_str("\n")
 }

@@ -1,14 +1,10 @@
 //! Likely mistakes behind a fault of a text, and what to write instead.
-ghost use Rattle.std.specs.Prelude.{◌≡◌};
-ghost use Rattle.vipr_explain.specs.Hints.{begins_number, brace_hint, count_hint, end_hint};
-ghost use Rattle.vipr_explain.specs.Hints.{hints_text, index_hints, keyword_hint, number_hint};
-ghost use Rattle.vipr_explain.specs.Hints.{number_hints, plain_hint, sense_hint, start_hint};
-ghost use Rattle.vipr_explain.specs.Hints.{compressed_hint, text_hint};
-ghost use Rattle.vipr_page.specs.Written.{PutsText};
 
 use crate::wanted::{Section, TextProgress, Wanted, is_word};
+use std::fmt;
+use std::fmt::{Formatter, Write};
 use vipr_check::cause;
-use vipr_page::{Page, fraction_of};
+use vipr_page::fraction_of;
 
 /// A token at fault: how far the text was read before it, and its first bytes.
 #[derive(Clone, Copy)]
@@ -19,21 +15,21 @@ pub(crate) struct TokenFault<'a> {
 }
 
 /// Writes what is likely to be wrong, and what to write instead.
-pub(crate) fn put_hints(page: &mut Page, fault: &TokenFault<'_>)
-    ensures { PutsText page.old page.new
-        (hints_text fault.now.cause fault.now.progress fault.now.word.now) }
-{
+pub(crate) fn write_hints<W: Write>(f: &mut Formatter<W>, fault: TokenFault<'_>) -> fmt::Result {
     match fault.cause {
-        cause::BAD_NUMBER => put_number_hint(page, fault.progress.wanted, fault.word),
-        cause::BAD_INDEX => put_index_hint(page, fault.progress.variables),
-        _ => page.put_help(text_hint(fault)),
+        cause::BAD_NUMBER => write_number_hint(f, fault.progress.wanted, fault.word),
+        cause::BAD_INDEX => write_index_hint(f, fault.progress.variables),
+        _ => write_help(f, text_hint(fault)),
     }
 }
 
+// Writes a line of help.
+fn write_help<W: Write>(f: &mut Formatter<W>, help: &str) -> fmt::Result {
+    write!(f, "  = help: {help}\n")
+}
+
 // A hint that has no value in it.
-fn text_hint(fault: &TokenFault<'_>) -> &'static str
-    ensures { result.now ≡ text_hint fault.now.cause fault.now.progress fault.now.word.now }
-{
+fn text_hint(fault: TokenFault<'_>) -> &'static str {
     match fault.cause {
         cause::WRONG_KEYWORD => keyword_hint(fault.progress.section, fault.word),
         cause::BAD_SENSE => sense_hint(fault.word),
@@ -45,23 +41,23 @@ fn text_hint(fault: &TokenFault<'_>) -> &'static str
 }
 
 // A number: a decimal is written as a fraction.
-fn put_number_hint(page: &mut Page, wanted: Wanted, word: &[u8])
-    ensures { PutsText page.old page.new (number_hints wanted word.now) }
-{
+fn write_number_hint<W: Write>(f: &mut Formatter<W>, wanted: Wanted, word: &[u8]) -> fmt::Result {
     match fraction_of(word) {
-        Some(fraction) => page.put_value(&format_args!(
+        Some(fraction) => write!(
+            f,
             "  = help: decimals are not in the format: write {fraction}\n"
-        )),
-        None => page.put_help(number_hint(wanted)),
+        ),
+        None => write_help(f, number_hint(wanted, word)),
     }
 }
 
 // A number that isn't a decimal.
-fn number_hint(wanted: Wanted) -> &'static str
-    ensures { result.now ≡ number_hint wanted }
-{
+fn number_hint(wanted: Wanted, word: &[u8]) -> &'static str {
     match wanted {
-        Wanted::UpperBound => "`range` takes two bounds: the lower and the upper one",
+        Wanted::UpperBound if is_word(word, "SOL") => {
+            "`range` takes two bounds: the lower and the upper one"
+        }
+        Wanted::UpperBound if is_word(word, "+inf") => "write `inf`",
         _ => {
             "a number is digits with or without a sign, or a fraction, as -3 or 13/4; \
              is the count before it right?"
@@ -70,21 +66,18 @@ fn number_hint(wanted: Wanted) -> &'static str
 }
 
 // An index of a variable: they count from 0.
-fn put_index_hint(page: &mut Page, variables: u32)
-    ensures { PutsText page.old page.new (index_hints variables) }
-{
+fn write_index_hint<W: Write>(f: &mut Formatter<W>, variables: u32) -> fmt::Result {
     match variables.checked_sub(1) {
-        Some(last) => page.put_value(&format_args!(
+        Some(last) => write!(
+            f,
             "  = help: indices count from 0: {variables} variables have the indices 0 to {last}\n"
-        )),
-        None => page.put_help("the text has no variables (VAR 0)"),
+        ),
+        None => write_help(f, "the text has no variables (VAR 0)"),
     }
 }
 
 // A keyword: at the start of the text it may be no certificate at all.
-fn keyword_hint(section: Section, word: &[u8]) -> &'static str
-    ensures { result.now ≡ keyword_hint section word.now }
-{
+fn keyword_hint(section: Section, word: &[u8]) -> &'static str {
     match section {
         Section::Version => start_hint(word),
         _ => {
@@ -99,9 +92,7 @@ fn keyword_hint(section: Section, word: &[u8]) -> &'static str
 }
 
 // The first token isn't `VER`.
-fn start_hint(word: &[u8]) -> &'static str
-    ensures { result.now ≡ start_hint word.now }
-{
+fn start_hint(word: &[u8]) -> &'static str {
     if word.starts_with(b"\xef\xbb\xbf") {
         "a byte order mark is before `VER`: save the file without it"
     } else if word.starts_with(b"\xff\xfe") || word.starts_with(b"\xfe\xff") {
@@ -114,9 +105,7 @@ fn start_hint(word: &[u8]) -> &'static str
 }
 
 // The first token isn't `VER`: it may be compressed.
-fn compressed_hint(word: &[u8]) -> &'static str
-    ensures { result.now ≡ compressed_hint word.now }
-{
+fn compressed_hint(word: &[u8]) -> &'static str {
     if word.starts_with(b"\x1f\x8b") {
         "this is compressed by gzip: gzip -dc FILE | vipr explain"
     } else if word.starts_with(b"\xfd7zXZ") {
@@ -131,9 +120,7 @@ fn compressed_hint(word: &[u8]) -> &'static str
 }
 
 // A sense.
-fn sense_hint(word: &[u8]) -> &'static str
-    ensures { result.now ≡ sense_hint word.now }
-{
+fn sense_hint(word: &[u8]) -> &'static str {
     if is_word(word, ">=") || is_word(word, "=>") {
         "write `G` for `>=`"
     } else if is_word(word, "<=") || is_word(word, "=<") {
@@ -150,9 +137,7 @@ fn sense_hint(word: &[u8]) -> &'static str
 }
 
 // Whether a token begins as a number does.
-fn begins_number(word: &[u8]) -> bool
-    ensures { result ≡ begins_number word.now }
-{
+fn begins_number(word: &[u8]) -> bool {
     match word {
         [] => false,
         [first, ..] => {
@@ -163,9 +148,7 @@ fn begins_number(word: &[u8]) -> bool
 }
 
 // A count.
-fn count_hint(wanted: Wanted, word: &[u8]) -> &'static str
-    ensures { result.now ≡ count_hint wanted word.now }
-{
+fn count_hint(wanted: Wanted, word: &[u8]) -> &'static str {
     if is_word(word, "weak") || is_word(word, "incomplete") {
         return "this derivation is of version 1.1: complete the certificate first, \
                 by viprcomp of the VIPR package";
@@ -184,9 +167,7 @@ fn count_hint(wanted: Wanted, word: &[u8]) -> &'static str
 }
 
 // A brace.
-fn brace_hint(wanted: Wanted, word: &[u8]) -> &'static str
-    ensures { result.now ≡ brace_hint wanted word.now }
-{
+fn brace_hint(wanted: Wanted, word: &[u8]) -> &'static str {
     match wanted {
         Wanted::OpenBrace => {
             if word.starts_with(b"{") {
@@ -208,9 +189,7 @@ fn brace_hint(wanted: Wanted, word: &[u8]) -> &'static str
 }
 
 // The end of the text.
-fn end_hint(section: Section, wanted: Wanted) -> &'static str
-    ensures { result.now ≡ end_hint section wanted }
-{
+fn end_hint(section: Section, wanted: Wanted) -> &'static str {
     match wanted {
         Wanted::LastReference => {
             "write the last reference behind `}`: the last derivation that names this one, \
@@ -225,9 +204,7 @@ fn end_hint(section: Section, wanted: Wanted) -> &'static str
 }
 
 // What is likely for the other causes.
-fn plain_hint(number: u8) -> &'static str
-    ensures { result.now ≡ plain_hint number }
-{
+fn plain_hint(number: u8) -> &'static str {
     match number {
         cause::UNSUPPORTED_VERSION => {
             "only version 1.0 is read: if no derivation is `weak` or `incomplete`, write 1.0"
@@ -235,7 +212,7 @@ fn plain_hint(number: u8) -> &'static str
         cause::NUMBER_TOO_LARGE => "numerator and denominator may be 2^127 - 1 at most",
         cause::ZERO_DENOMINATOR => "a denominator may not be 0",
         cause::COUNT_TOO_LARGE =>
-            "counts, and constraints and derivations together, may be 4294967295",
+            "counts, and constraints and derivations together, may be 4294967295 at most",
         cause::REPEATED_INDEX => {
             "each variable may be in a vector once: it is a count, and then pairs INDEX VALUE, \
              and not a list of all values"
@@ -249,7 +226,7 @@ fn plain_hint(number: u8) -> &'static str
         cause::BAD_REFERENCE => {
             "a constraint is named by its index, digits alone; is the number of entries right?"
         }
-        cause::TOKEN_TOO_LONG => "a token may have 65,535 bytes",
+        cause::TOKEN_TOO_LONG => "a token may have 65,535 bytes at most",
         cause::TRAILING_TEXT =>
             "write the count behind `DER` larger, or remove what is from here on",
         _ => "see the table of causes in docs/FORMAT.md",

@@ -1,30 +1,24 @@
-//! Explains a derivation that is refused.
-ghost use Rattle.std.specs.Prelude.{◌≡◌, ◌++◌, IfErr, IfOk, OnOk, Some, true};
-ghost use Rattle.vipr_linear.specs.Constraint.{constraint_of};
-ghost use Rattle.vipr_explain.specs.Found.{AreItemsOf, LacksItems, OnlyIf};
-ghost use Rattle.vipr_explain.specs.Lacking.{LacksStep};
-ghost use Rattle.vipr_explain.specs.Pages.{PutsSome};
-ghost use Rattle.vipr_explain.specs.References.{entry_indices, shown_index, step_indices};
-ghost use Rattle.vipr_explain.specs.StepPages.{IsDetailText, IsRefusedText, IsRowsText};
-ghost use Rattle.vipr_explain.specs.StepPages.{IsStepText, stated_lines, sum_lines};
-ghost use Rattle.vipr_explain.specs.Steps.{labelled, step_error, step_help};
-ghost use Rattle.vipr_page.specs.Written.{PutsText};
+//! A derivation that is refused.
 
-use crate::items::read_items;
+use crate::drops::LastUse;
+use crate::excerpt::{KnownPlace, PlaceLabel, ShownPlace};
+use crate::items::{Items, read_items};
 use crate::marks::mark_of;
-use crate::reason::{ReasonLines, is_entry_shown};
+use crate::reason::{ReasonLines, step_indices};
 use crate::shown::PlacedItems;
-use crate::text::{Reread, Subject, Text};
+use crate::text::{Reread, Subject};
 use std::alloc::{AllocError, Global};
 use std::fmt;
 use std::fmt::{Display, Formatter, Write};
-use vipr_cert::{Derivation, Problem, Reason, References};
+use vipr_cert::{Derivation, Problem, Reason};
 use vipr_check::{StepDetail, cause};
 use vipr_frac::Frac;
-use vipr_linear::Constraint;
+use vipr_linear::{Constraint, Sense};
 use vipr_page::{
-    Algebra, Page, ShownName, put_difference, put_not_roundable, put_not_split, put_repair,
+    Algebra, Difference, DifferenceLine, RowFault, RowFaults, ShownName, rounded, row_differences,
+    row_faults, sign_of,
 };
+use vipr_rules::Profile;
 use vipr_scan::TextError;
 
 /// What is wrong with a derivation: the cause, the index of its constraint, and the part at fault.
@@ -35,267 +29,307 @@ pub(crate) struct StepFault<'a> {
     pub(crate) what: &'a StepDetail,
 }
 
-impl Display for StepFault<'_> {
-    ghost use Rattle.vipr_explain.specs.Steps.{step_fault};
+/// A derivation that is refused, with the constraints that it names, and what is behind the fault.
+#[derive(Drop)]
+pub(crate) struct RefusedStep {
+    /// The derivation alone, by its index.
+    own: Items,
+    named: NamedItems,
+    profile: Profile,
+}
 
-    ghost output = { λ s. Some (step_fault s.cause s.what.now) };
+/// What a derivation names, its place, and what is behind its fault.
+#[derive(Drop)]
+struct NamedItems {
+    known: PlacedItems,
+    place: Option<KnownPlace>,
+    differences: Vec<Difference>,
+    /// What keeps its sum, or the row of its assumptions, from being whole.
+    faults: Vec<RowFault>,
+    /// The right-hand side by `rnd`, if that is enough.
+    rounded: Option<i128>,
+    dropped: Option<LastUse>,
+}
 
-    fn fmt<W: Write>(&self, f: &mut Formatter<W>) -> fmt::Result {
-        match self.what {
-            StepDetail::Index(index) => match self.cause {
-                cause::NOT_EARLIER => write!(f, "names constraint {index}, which is not earlier"),
-                cause::DROPPED => write!(f, "needs constraint {index}, which was dropped"),
-                _ => write!(
-                    f,
-                    "takes constraint {index} for an assumption, which it is not"
-                ),
-            },
-            StepDetail::Entry(entry) => match self.cause {
-                cause::OVERFLOW => write!(f, "is past 2^127 - 1 at entry {entry} of its sum"),
-                _ => write!(f, "turns a sense around at entry {entry} of its sum"),
-            },
-            StepDetail::Sum(_) => f.write_str("has a sum that can't be rounded"),
-            StepDetail::Pair(_, _) => {
-                f.write_str("has two assumptions that leave a gap, and are no split")
+impl RefusedStep {
+    /// Reads the derivation that is refused, and what it names.
+    pub(crate) fn find(subject: Subject<'_>, fault: StepFault<'_>) -> Reread<RefusedStep> {
+        let own = read_items(subject.alloc, &subject.text, [fault.index].as_slice())?;
+        match read_named(subject, fault, &own) {
+            Ok(named) => Ok(RefusedStep {
+                own,
+                named,
+                profile: subject.profile,
+            }),
+            Err(missing) => {
+                drop(own);
+                Err(missing)
             }
-            StepDetail::Rows { .. } => f.write_str("does not follow from its reason"),
-            StepDetail::Nothing => f.write_str("needs a listed solution"),
         }
     }
 }
 
-impl<T: Text> Subject<'_, T> {
-    /// Explains the refusal of a derivation.
-    pub(crate) fn put_step(&self, page: &mut Page, fault: &StepFault<'_>) -> Reread<()>
-        ensures shown { IfOk result (λ _. PutsSome (IsStepText (T.input self.now.text.now)
-            self.now.file.now fault.now.cause fault.now.index fault.now.what.now)
-            page.old page.new) }
-        ensures error { IfErr result (OnlyIf (T.input self.now.text.now)
-            (LacksStep fault.now.index fault.now.what.now)) }
-    {
-        let own = read_items(self.alloc, self.text, [fault.index].as_slice())?;
-        match own.derivation(fault.index) {
-            Some(step) => {
-                let explained = self.put_refused(page, fault, step);
-                drop(own);
-                explained
-            }
-            None => {
-                drop(own);
-                Err(TextError::Read)
-            }
-        }
-    }
-
-    // The same, of a derivation that was read.
-    fn put_refused(&self, page: &mut Page, fault: &StepFault<'_>, step: &Derivation) -> Reread<()>
-        ensures shown { IfOk result (λ _. PutsSome (IsRefusedText (T.input self.now.text.now)
-            self.now.file.now fault.now.cause fault.now.index step.now fault.now.what.now)
-            page.old page.new) }
-        ensures error { IfErr result (OnlyIf (T.input self.now.text.now)
-            (LacksItems (step_indices fault.now.index fault.now.what.now step.now.reason))) }
-    {
-        let wanted = step_indices(self.alloc, fault, &step.reason)?;
-        let known = PlacedItems::read(self, wanted.as_slice())?;
-        let explained = self.put_known(page, fault, step, &known);
-        drop(known);
-        explained
-    }
-
-    // The same, with the constraints that it names.
-    fn put_known(
-        &self,
-        page: &mut Page,
-        fault: &StepFault<'_>,
-        step: &Derivation,
-        known: &PlacedItems,
-    ) -> Reread<()>
-        requires { AreItemsOf (T.input self.now.text.now)
-            (step_indices fault.now.index fault.now.what.now step.now.reason) known.now }
-        ensures shown { IfOk result (λ _. PutsSome (IsRefusedText (T.input self.now.text.now)
-            self.now.file.now fault.now.cause fault.now.index step.now fault.now.what.now)
-            page.old page.new) }
-        ensures error { IfErr result (OnlyIf (T.input self.now.text.now) (λ i. i.fails ≡ true)) }
-    {
-        put_error(page, fault, step);
-        let mark = mark_of(known.marks.as_slice(), fault.index);
-        self.put_name(page, mark, "this derivation")?;
-        put_stated(page, known, fault, step);
-        let problem = &known.items.problem;
-        put_detail(page, self.alloc, problem, &step.reason, fault.what)?;
-        put_help(page, fault.cause, problem.cons().len());
-        Ok(())
-    }
-}
-
-// Says which derivation is at fault.
-fn put_error(page: &mut Page, fault: &StepFault<'_>, step: &Derivation)
-    ensures { PutsText page.old page.new
-        (step_error fault.now.cause fault.now.index step.now.name fault.now.what.now) }
-{
-    let index = fault.index;
-    let name = ShownName(&step.name);
-    page.put_value(&format_args!("error: derivation {index} `{name}` {fault}\n"));
-}
-
-// The derivation's own constraint, and the constraints in its reason that are shown.
-fn step_indices(
-    alloc: Global,
-    fault: &StepFault<'_>,
-    reason: &Reason,
-) -> Result<Vec<u32>, AllocError>
-    ensures { IfOk result (λ wanted. wanted.items
-        ≡ step_indices fault.now.index fault.now.what.now reason.now) }
-{
-    let mut wanted = Vec::new(alloc);
-    wanted.push(fault.index)?;
-    match reason.references() {
-        References::Nothing => {}
-        References::Entries(entries) => add_shown(&mut wanted, entries, fault.what)?,
-        References::Branches { i1, l1, i2, l2 } => wanted.extend_from_slice(&[i1, l1, i2, l2])?,
-    }
-    Ok(wanted)
-}
-
-// Adds the constraints of the entries that are shown.
-fn add_shown(
-    wanted: &mut Vec<u32>,
-    entries: &[(u32, Frac)],
-    what: &StepDetail,
-) -> Result<(), AllocError>
-    ensures { OnOk result (wanted.new.items
-        ≡ wanted.old.items ++ entry_indices what.now entries.now) }
-{
-    for (position, entry) in entries.iter().enumerate() {
-        add_entry(wanted, position, entry.0, what)?;
-    }
-    Ok(())
-}
-
-// Adds the constraint of an entry, if it is shown.
-fn add_entry(
-    wanted: &mut Vec<u32>,
-    position: usize,
-    index: u32,
-    what: &StepDetail,
-) -> Result<(), AllocError>
-    ensures { OnOk result (wanted.new.items
-        ≡ wanted.old.items ++ shown_index what.now position index) }
-{
-    if is_entry_shown(position, index, what) {
-        wanted.push(index)?;
-    }
-    Ok(())
-}
-
-// Shows what the derivation states, and its reason.
-fn put_stated(page: &mut Page, known: &PlacedItems, fault: &StepFault<'_>, step: &Derivation)
-    ensures { PutsText page.old page.new
-        (stated_lines known.now fault.now.index fault.now.what.now step.now) }
-{
-    let problem = &known.items.problem;
-    put_labelled(page, problem, "  it states    ", &step.constraint);
-    page.put_value(&ReasonLines {
+// Reads what a derivation names.
+fn read_named(subject: Subject<'_>, fault: StepFault<'_>, own: &Items) -> Reread<NamedItems> {
+    let Some(step) = own.derivation(fault.index) else {
+        return Err(TextError::Read);
+    };
+    let wanted = step_indices(subject.alloc, fault, &step.reason)?;
+    let known = PlacedItems::read(subject, wanted.as_slice())?;
+    let place = step_place(subject, &known, fault.index)?;
+    let differences = differences_of(subject.alloc, fault.what)?;
+    let faults = faults_of(subject.alloc, &known.items.problem, fault.what)?;
+    let dropped = LastUse::of(subject, fault)?;
+    let rounded = rounding_of(&known.items.problem, &step.reason, fault.what);
+    Ok(NamedItems {
         known,
-        own: fault.index,
-        what: fault.what,
-        reason: &step.reason,
-    });
+        place,
+        differences,
+        faults,
+        rounded,
+        dropped,
+    })
 }
 
-// Shows what is behind the fault.
-fn put_detail(
-    page: &mut Page,
-    alloc: Global,
-    problem: &Problem,
-    reason: &Reason,
-    what: &StepDetail,
-) -> Result<(), AllocError>
-    ensures { OnOk result
-        (PutsSome (IsDetailText problem.now reason.now what.now) page.old page.new) }
-{
-    match what {
-        StepDetail::Index(_) => Ok(()),
-        StepDetail::Entry(_) => Ok(()),
-        StepDetail::Rows { computed, stated } => {
-            put_rows(page, alloc, problem, reason, computed, stated)
-        }
-        StepDetail::Sum(sum) => put_sum(page, alloc, problem, sum),
-        StepDetail::Pair(first, second) => {
-            put_labelled(page, problem, "    first      ", first);
-            put_labelled(page, problem, "    second     ", second);
-            put_not_split(page, alloc, problem, first, second)
-        }
-        StepDetail::Nothing => Ok(()),
+// The place of a derivation.
+fn step_place(subject: Subject<'_>, known: &PlacedItems, index: u32) -> Reread<Option<KnownPlace>> {
+    match mark_of(known.marks.as_slice(), index) {
+        Some(mark) => Ok(Some(KnownPlace::read(subject, mark.name)?)),
+        None => Ok(None),
     }
 }
 
-// Shows how what was computed differs from what is stated.
-fn put_rows(
-    page: &mut Page,
+// Where the rows of a computed and a stated constraint differ, if these are at fault.
+fn differences_of(alloc: Global, what: &StepDetail) -> Result<Vec<Difference>, AllocError> {
+    match what {
+        StepDetail::Rows { computed, stated } => {
+            row_differences(alloc, &computed.row, &stated.row)
+        }
+        _ => Ok(Vec::new(alloc)),
+    }
+}
+
+// What keeps a sum from being rounded, or the row of two assumptions from being split.
+fn faults_of(
     alloc: Global,
     problem: &Problem,
-    reason: &Reason,
-    computed: &Constraint,
-    stated: &Constraint,
-) -> Result<(), AllocError>
-    ensures { OnOk result (PutsSome (IsRowsText problem.now reason.now
-        (constraint_of computed.now) (constraint_of stated.now)) page.old page.new) }
-{
-    put_labelled(page, problem, "    computed   ", computed);
-    put_labelled(page, problem, "    stated     ", stated);
-    put_difference(page, alloc, problem, computed, stated)?;
-    put_repair(page, problem, reason, computed, stated);
+    what: &StepDetail,
+) -> Result<Vec<RowFault>, AllocError> {
+    match what {
+        StepDetail::Sum(sum) => row_faults(alloc, problem.ints(), &sum.row),
+        StepDetail::Pair(first, _) => row_faults(alloc, problem.ints(), &first.row),
+        _ => Ok(Vec::new(alloc)),
+    }
+}
+
+// The right-hand side that `rnd` gives in place of `lin`, if that is enough.
+fn rounding_of(problem: &Problem, reason: &Reason, what: &StepDetail) -> Option<i128> {
+    match (reason, what) {
+        (Reason::Lin(_), StepDetail::Rows { computed, stated }) => {
+            rounded(problem.ints(), computed, stated)
+        }
+        _ => None,
+    }
+}
+
+/// The page of a derivation that is refused.
+#[derive(Clone, Copy)]
+pub(crate) struct StepPage<'a> {
+    pub(crate) step: &'a RefusedStep,
+    pub(crate) fault: StepFault<'a>,
+    pub(crate) file: &'a str,
+}
+
+impl Display for StepPage<'_> {
+    fn fmt<W: Write>(&self, f: &mut Formatter<W>) -> fmt::Result {
+        let step = &self.step.named;
+        let fault = self.fault;
+        let file = self.file;
+        let Some(own) = self.step.own.derivation(fault.index) else {
+            return Ok(());
+        };
+        let index = fault.index;
+        let name = ShownName(&own.name);
+        write!(f, "error: derivation {index} `{name}` ")?;
+        write_fault(f, fault)?;
+        f.write_str("\n")?;
+        if let Some(place) = &step.place {
+            let label = PlaceLabel::Words("this derivation");
+            write!(f, "{}", ShownPlace { place, file, label })?;
+        }
+        let problem = &step.known.items.problem;
+        write_labelled(f, problem, "  it states    ", &own.constraint)?;
+        let reason = ReasonLines {
+            known: &step.known,
+            fault,
+            reason: &own.reason,
+        };
+        write!(f, "{reason}")?;
+        write_detail(f, self.step, problem, fault.what)?;
+        write_help(f, fault.cause, problem.cons().len())?;
+        match &step.dropped {
+            Some(dropped) => dropped.write(f, file),
+            None => Ok(()),
+        }
+    }
+}
+
+// Writes what is wrong, behind the derivation's name.
+fn write_fault<W: Write>(f: &mut Formatter<W>, fault: StepFault<'_>) -> fmt::Result {
+    match fault.what {
+        StepDetail::Index(index) => match fault.cause {
+            cause::NOT_EARLIER => write!(f, "names constraint {index}, which is not earlier"),
+            cause::DROPPED => write!(f, "needs constraint {index}, which was dropped"),
+            _ => write!(
+                f,
+                "takes constraint {index} for an assumption, which it is not"
+            ),
+        },
+        StepDetail::Entry(entry) => match fault.cause {
+            cause::OVERFLOW => write!(f, "is past 2^127 - 1 at entry {entry} of its sum"),
+            _ => write!(f, "turns a sense around at entry {entry} of its sum"),
+        },
+        StepDetail::Sum(_) => f.write_str("has a sum that can't be rounded"),
+        StepDetail::Pair(_, _) => f.write_str("has two assumptions that are no split"),
+        StepDetail::Rows { .. } => f.write_str("does not follow from its reason"),
+        StepDetail::Nothing => f.write_str("needs a listed solution"),
+    }
+}
+
+// Writes what is behind the fault.
+fn write_detail<W: Write>(
+    f: &mut Formatter<W>,
+    refused: &RefusedStep,
+    problem: &Problem,
+    what: &StepDetail,
+) -> fmt::Result {
+    let step = &refused.named;
+    let faults = RowFaults {
+        problem,
+        faults: step.faults.as_slice(),
+    };
+    match what {
+        StepDetail::Rows { computed, stated } => {
+            write_labelled(f, problem, "    computed   ", computed)?;
+            write_labelled(f, problem, "    stated     ", stated)?;
+            let difference = DifferenceLine {
+                problem,
+                computed,
+                stated,
+                differences: step.differences.as_slice(),
+            };
+            write!(f, "{difference}")?;
+            if let Some(bound) = step.rounded {
+                write!(
+                    f,
+                    "  = help: `rnd` in place of `lin` rounds the right-hand side to {bound}\n"
+                )?;
+            }
+            f.write_str(
+                "  = help: state what was computed, or change the constraints and multipliers \
+                 of the reason\n",
+            )
+        }
+        StepDetail::Sum(sum) => {
+            write_labelled(f, problem, "    sum        ", sum)?;
+            write!(f, "{faults}")
+        }
+        StepDetail::Pair(first, second) => {
+            write_labelled(f, problem, "    first      ", first)?;
+            write_labelled(f, problem, "    second     ", second)?;
+            if first.row.entries() != second.row.entries() {
+                f.write_str(
+                    "    they are about different rows: a split is of one row, at most k and \
+                     at least k + 1\n",
+                )
+            } else if step.faults.is_empty() {
+                write_gap(f, refused.profile, first, second)
+            } else {
+                write!(f, "{faults}")
+            }
+        }
+        _ => Ok(()),
+    }
+}
+
+// Writes which two sides are a split, and which these are.
+fn write_gap<W: Write>(
+    f: &mut Formatter<W>,
+    profile: Profile,
+    first: &Constraint,
+    second: &Constraint,
+) -> fmt::Result {
+    f.write_str(match profile {
+        Profile::One => "    a split is <= k and >= k + 1 with k whole",
+        Profile::Two => {
+            "    a split is <= k and >= h, where h rounded up is at most k rounded down plus 1"
+        }
+    })?;
+    let (first_sign, second_sign) = (sign_of(first.sense), sign_of(second.sense));
+    let (first_side, second_side) = (first.rhs, second.rhs);
+    write!(
+        f,
+        "; here it is {first_sign} {first_side} and {second_sign} {second_side}\n"
+    )?;
+    if profile == Profile::One && leaves_no_gap(first, second) {
+        f.write_str("  = help: `--profile 2` accepts these\n")?;
+    }
     Ok(())
 }
 
-// Shows a sum that can't be rounded.
-fn put_sum(
-    page: &mut Page,
-    alloc: Global,
-    problem: &Problem,
-    sum: &Constraint,
-) -> Result<(), AllocError>
-    ensures { OnOk result (PutsText page.old page.new
-        (sum_lines problem.now (constraint_of sum.now))) }
-{
-    put_labelled(page, problem, "    sum        ", sum);
-    put_not_roundable(page, alloc, problem, sum)
+// Whether every whole value of their row is in one of two constraints.
+fn leaves_no_gap(first: &Constraint, second: &Constraint) -> bool {
+    match (first.sense, second.sense) {
+        (Sense::L, Sense::G) => meets(first.rhs, second.rhs),
+        (Sense::G, Sense::L) => meets(second.rhs, first.rhs),
+        _ => false,
+    }
 }
 
-// Shows a constraint behind a label.
-fn put_labelled(page: &mut Page, problem: &Problem, label: &str, constraint: &Constraint)
-    ensures { PutsText page.old page.new
-        (labelled problem.now.names label.now (constraint_of constraint.now)) }
-{
+fn meets(below: Frac, above: Frac) -> bool {
+    above.ceil() <= below.floor().saturating_add(1)
+}
+
+// Writes a constraint behind a label.
+fn write_labelled<W: Write>(
+    f: &mut Formatter<W>,
+    problem: &Problem,
+    label: &str,
+    constraint: &Constraint,
+) -> fmt::Result {
     let algebra = Algebra {
         problem,
         constraint,
     };
-    page.put_value(&format_args!("{label}{algebra}\n"));
+    write!(f, "{label}{algebra}\n")
 }
 
-// Says what is likely to be wrong; the problem has so many constraints.
-fn put_help(page: &mut Page, cause: u8, count: usize)
-    ensures { PutsText page.old page.new (step_help cause count) }
-{
+// Writes what is likely to be wrong; the problem has so many constraints.
+fn write_help<W: Write>(f: &mut Formatter<W>, cause: u8, count: usize) -> fmt::Result {
     match cause {
-        cause::NOT_EARLIER => page.put_value(&format_args!(
+        cause::NOT_EARLIER if count == 0 => f.write_str(
+            "  = help: constraints count from 0: the problem has none, so the first derivation \
+             is 0\n",
+        ),
+        cause::NOT_EARLIER => write!(
+            f,
             "  = help: constraints count from 0: the problem has {count}: 0 is the first one; \
              the first derivation is {count}\n"
-        )),
-        cause::NOT_ASSUMPTION => page.put_help(
-            "`uns i1 l1 i2 l2` names what follows first, and behind it its assumption, \
-             a derivation by `asm`",
         ),
-        cause::MIXED_SIGNS => page.put_help(
-            "a sum that is >= takes positive multiples of >= and negative ones of <=; \
-             a sum that is <= the other way round: change the sign of this multiplier",
+        cause::NOT_ASSUMPTION => f.write_str(
+            "  = help: `uns i1 l1 i2 l2` names what follows first, and behind it its assumption, \
+             a derivation by `asm`\n",
         ),
-        cause::OVERFLOW => page.put_help(
-            "docs/FORMAT.md says what can help when a number is past the limit",
+        cause::MIXED_SIGNS => f.write_str(
+            "  = help: a sum that is >= takes positive multiples of >= and negative ones of <=; \
+             a sum that is <= the other way round: change the sign of this multiplier\n",
         ),
-        cause::NO_SOLUTION => page.put_help("list a solution in SOL, or give another reason"),
-        _ => page.put(""),
+        cause::OVERFLOW => f.write_str(
+            "  = help: docs/FORMAT.md says what can help when a number is past the limit\n",
+        ),
+        cause::NO_SOLUTION => {
+            f.write_str("  = help: list a solution in SOL, or give another reason\n")
+        }
+        _ => Ok(()),
     }
 }

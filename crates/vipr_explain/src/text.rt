@@ -4,11 +4,12 @@ ghost use Rattle.std.specs.Prelude.{IfSome, IsSomeAnd};
 ghost use Rattle.vipr_spec.specs.Input.{Input};
 
 use std::alloc::Global;
-use vipr_bytes::Source;
+use vipr_bytes::{Bytes, Source};
+use vipr_rules::Profile;
 use vipr_scan::TextError;
 
 /// A text that can be read from its start again and again.
-pub trait Text {
+pub(crate) trait Text {
     // The bytes of the text and what follows them, if they are known.
     ghost input: { Self → Option Input };
 
@@ -21,15 +22,29 @@ pub trait Text {
             (λ i. IsSomeAnd result (λ r. Self.Reader.input r ≡ Some i)) };
 }
 
+/// A text in memory.
+#[derive(Clone, Copy)]
+pub(crate) struct TextBytes<'a>(pub(crate) &'a [u8]);
+
+impl<'a> Text for TextBytes<'a> {
+    ghost input = { λ t. Some (record { bytes = t.0.now; fails = false }) };
+
+    type Reader = Bytes<'a>;
+
+    fn open(&self) -> Option<Bytes<'a>> {
+        Some(Bytes::new(self.0))
+    }
+}
+
 /// What a text gives that is read again, or why it gives none.
 pub(crate) type Reread<T> = Result<T, TextError>;
 
-/// What an explanation is about: a text and its name.
-#[derive(Drop)]
-pub(crate) struct Subject<'a, T> {
+/// What an explanation is about: a text, and the rules by which it was checked.
+#[derive(Clone, Copy)]
+pub(crate) struct Subject<'a> {
     pub(crate) alloc: Global,
-    pub(crate) text: &'a T,
-    pub(crate) file: &'a str,
+    pub(crate) profile: Profile,
+    pub(crate) text: TextBytes<'a>,
 }
 
 /// A place in a text: a byte's offset, counted from 0, its line and its column, counted from 1.

@@ -2,12 +2,11 @@
 ghost use Rattle.std.specs.Prelude.{◌≡◌, ◌+◌};
 ghost use Rattle.std.specs.Str.{bytes_eq};
 ghost use Rattle.vipr_explain.specs.Progress.{at_start, claim_passed, count_passed, count_spelled};
-ghost use Rattle.vipr_explain.specs.Progress.{counted_name, first_of, first_of_item, in_u32};
-ghost use Rattle.vipr_explain.specs.Progress.{index_of, item_begun, item_ended, item_word};
-ghost use Rattle.vipr_explain.specs.Progress.{keyword_of, name_passed, next_section, pair_begun};
+ghost use Rattle.vipr_explain.specs.Progress.{first_of, first_of_item, first_of_reason, in_u32};
+ghost use Rattle.vipr_explain.specs.Progress.{index_of, item_begun, item_ended};
+ghost use Rattle.vipr_explain.specs.Progress.{name_passed, next_section, pair_begun};
 ghost use Rattle.vipr_explain.specs.Progress.{part_begun, passed, reason_passed, row_ended};
 ghost use Rattle.vipr_explain.specs.Progress.{section_ended};
-ghost use Rattle.vipr_explain.specs.ReasonTexts.{first_of_reason};
 
 /// The sections of a certificate, in their order.
 #[derive(Clone, Copy)]
@@ -69,9 +68,7 @@ pub(crate) struct TextProgress {
 
 impl Section {
     /// Its keyword.
-    pub(crate) fn keyword(self) -> &'static str
-        ensures { result.now ≡ keyword_of self }
-    {
+    pub(crate) fn keyword(self) -> &'static str {
         match self {
             Section::Version => "VER",
             Section::Variables => "VAR",
@@ -85,9 +82,7 @@ impl Section {
     }
 
     /// What its count counts.
-    pub(crate) fn counted(self) -> &'static str
-        ensures { result.now ≡ counted_name self }
-    {
+    pub(crate) fn counted(self) -> &'static str {
         match self {
             Section::Variables => "variables",
             Section::Integers => "integer variables",
@@ -99,9 +94,7 @@ impl Section {
     }
 
     /// What one of its items is.
-    pub(crate) fn item(self) -> &'static str
-        ensures { result.now ≡ item_word self }
-    {
+    pub(crate) fn item(self) -> &'static str {
         match self {
             Section::Variables => "variable",
             Section::Integers => "integer variable",

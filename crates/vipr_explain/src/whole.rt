@@ -1,150 +1,166 @@
-//! The whole explanation of a verdict.
-ghost use Rattle.std.specs.Prelude.{◌≡◌, ◌≢◌, IfErr, IfOk, IfSome, option_map};
-ghost use Rattle.vipr_explain.specs.Found.{OnlyIf};
-ghost use Rattle.vipr_explain.specs.Lacking.{LacksClaim, LacksDerivation, LacksItem, LacksPlace};
-ghost use Rattle.vipr_explain.specs.Pages.{ExplainsVerdict, IsClaimText, IsPageFor, IsRefusalText};
-ghost use Rattle.vipr_explain.specs.Pages.{IsTextAt, IsVerdictPage, PutsSome, not_read};
-ghost use Rattle.vipr_page.specs.Page.{cut, shown_text};
+//! The whole explanation of a verdict: what is found for it, and how that is shown.
 
-use crate::step::StepFault;
-use crate::text::{Reread, Subject, Text};
+use crate::goal::{ProvedPage, UnprovedClaim, UnprovedPage};
+use crate::shown::PlacedItems;
+use crate::solution::{ListedValues, NoPrimalPage, RefusedSolution, SolutionPage};
+use crate::step::{RefusedStep, StepFault, StepPage};
+use crate::syntax::{FaultPage, TextFault};
+use crate::text::{Reread, Subject, TextBytes};
 use std::alloc::Global;
+use std::fmt;
+use std::fmt::{Display, Formatter, Write};
 use vipr_check::{Detail, Place, Refusal, Verdict};
 use vipr_page::Page;
+use vipr_rules::Profile;
 use vipr_scan::TextError;
 
-/// Explains a verdict on a text, which is read again, for people: the place at fault, what
-/// is wanted there, and what is likely to be wrong. `file` is the text's name.
-///
-/// # Errors
-///
-/// `Memory` if a growth is refused. Another one if the text can't be read again, or isn't the one
-/// that was checked.
-pub fn explain_at_length<'a, T: Text>(
-    alloc: Global,
-    text: &'a T,
-    file: &'a str,
-    verdict: &Verdict,
-    detail: &Detail,
-) -> Result<Page, TextError>
-    ensures shown { IfOk result (λ page. IsVerdictPage (T.input text.now) file.now verdict.now
-        detail.now page.bytes.items) }
-    ensures error { IfErr result (OnlyIf (T.input text.now) (LacksItem verdict.now detail.now)) }
-{
-    let subject = Subject { alloc, text, file };
-    let mut page = Page::new(alloc);
-    page.put("\n");
-    subject.put_verdict(&mut page, verdict, detail)?;
-    if page.has_failed() {
-        return Err(TextError::Memory);
-    }
-    Ok(page)
+/// What is found in a text that explains a verdict.
+#[derive(Drop)]
+enum Findings {
+    Proved(Option<PlacedItems>),
+    Text(TextFault),
+    Solution(RefusedSolution),
+    Step(RefusedStep),
+    NoProof(UnprovedClaim),
+    NoPrimal(ListedValues),
+    /// The detail is of another verdict.
+    Nothing,
 }
 
-/// The explanation of a verdict, or a line that says why there is none: `text` is `None` for one
-/// that can't be read again. The answer is `None` if a growth is refused.
-pub fn page_for<'a, T: Text>(
+/// The page that explains a verdict for people: the place at fault, what is wanted there, and what
+/// is likely to be wrong. The text is the one that was checked, by the rules of `profile`; `file`
+/// is its name, and `text` is `None` if a read failed behind what is refused. There is no page if a
+/// growth is refused.
+pub fn page_for(
     alloc: Global,
-    text: Option<&'a T>,
-    file: &'a str,
+    profile: Profile,
+    text: Option<&[u8]>,
+    file: &str,
     verdict: &Verdict,
     detail: &Detail,
-) -> Option<Page>
-    ensures { IfSome result
-        (λ page. IsPageFor (option_map (λ t. T.input t.now) text.entry) file.now verdict.now
-        detail.now page.bytes.items) }
-{
-    let Some(text) = text else {
-        return page_of(
-            alloc,
-            "\nthis text is too long to be kept: give its file to explain it at length\n",
-        );
+) -> Option<Page> {
+    let Some(bytes) = text else {
+        return Page::of(alloc, &NO_WHOLE_TEXT);
     };
-    match explain_at_length(alloc, text, file, verdict, detail) {
-        Ok(page) => Some(page),
-        Err(missing) => page_without(alloc, missing),
+    let subject = Subject {
+        alloc,
+        profile,
+        text: TextBytes(bytes),
+    };
+    match find(subject, verdict, detail) {
+        Ok(known) => {
+            let page = LongExplanation {
+                known: &known,
+                verdict,
+                detail,
+                file,
+            };
+            let page = Page::of(alloc, &page);
+            drop(known);
+            page
+        }
+        Err(TextError::Memory) => None,
+        Err(_) => Page::of(alloc, &ANOTHER_TEXT),
     }
 }
 
-// A line that says why there is no explanation, unless memory ran out.
-fn page_without(alloc: Global, missing: TextError) -> Option<Page>
-    ensures { IfSome result (λ page. (missing ≢ TextError.Memory)
-        × (page.bytes.items ≡ cut (shown_text not_read))) }
-{
-    match missing {
-        TextError::Memory => None,
-        _ => page_of(alloc, "\nthe text can't be read again to explain it\n"),
+// What stands in the place of a page.
+const NO_WHOLE_TEXT: &str = "\na read failed behind what is refused, so it isn't explained\n";
+
+const ANOTHER_TEXT: &str = "\nthe verdict isn't one of this text, so it isn't explained\n";
+
+// Finds what explains a verdict.
+fn find(subject: Subject<'_>, verdict: &Verdict, detail: &Detail) -> Reread<Findings> {
+    match verdict {
+        Verdict::Verified(report) => match report.goal {
+            Some(goal) => {
+                let items = PlacedItems::read(subject, [goal].as_slice())?;
+                Ok(Findings::Proved(Some(items)))
+            }
+            None => Ok(Findings::Proved(None)),
+        },
+        Verdict::Refused(refusal) => find_refusal(subject, refusal, detail),
     }
 }
 
-// A page of one text.
-fn page_of(alloc: Global, text: &str) -> Option<Page>
-    ensures { IfSome result (λ page. page.bytes.items ≡ cut (shown_text text.now)) }
-{
-    let mut page = Page::new(alloc);
-    page.put(text);
-    if page.has_failed() { None } else { Some(page) }
+// Finds what explains a refusal.
+fn find_refusal(subject: Subject<'_>, refusal: &Refusal, detail: &Detail) -> Reread<Findings> {
+    match (refusal.place, detail) {
+        (Place::Byte(offset), _) => Ok(Findings::Text(TextFault::find(subject, offset)?)),
+        (Place::Sol(number), _) => {
+            Ok(Findings::Solution(RefusedSolution::find(subject, number, detail)?))
+        }
+        (Place::Der(index), Detail::Step { what, .. }) => {
+            let fault = StepFault {
+                cause: refusal.cause,
+                index,
+                what,
+            };
+            Ok(Findings::Step(RefusedStep::find(subject, fault)?))
+        }
+        (_, Detail::NoProof(_)) => Ok(Findings::NoProof(UnprovedClaim::find(subject)?)),
+        (_, Detail::NoPrimal(_)) => Ok(Findings::NoPrimal(ListedValues::find(subject)?)),
+        _ => Ok(Findings::Nothing),
+    }
 }
 
-impl<T: Text> Subject<'_, T> {
-    // Explains a verdict.
-    fn put_verdict(&self, page: &mut Page, verdict: &Verdict, detail: &Detail) -> Reread<()>
-        ensures shown { IfOk result (λ _. ExplainsVerdict (T.input self.now.text.now)
-            self.now.file.now verdict.now detail.now page.old page.new) }
-        ensures error { IfErr result
-            (OnlyIf (T.input self.now.text.now) (LacksItem verdict.now detail.now)) }
-    {
-        match verdict {
-            Verdict::Verified(report) => self.put_goal(page, report),
+/// The whole page.
+#[derive(Clone, Copy)]
+struct LongExplanation<'a> {
+    known: &'a Findings,
+    verdict: &'a Verdict,
+    detail: &'a Detail,
+    file: &'a str,
+}
+
+impl Display for LongExplanation<'_> {
+    fn fmt<W: Write>(&self, f: &mut Formatter<W>) -> fmt::Result {
+        f.write_str("\n")?;
+        match self.verdict {
+            Verdict::Verified(report) => match self.known {
+                Findings::Proved(known) => {
+                    let known = known.as_ref();
+                    write!(f, "{}", ProvedPage { known, report })
+                }
+                _ => Ok(()),
+            },
             Verdict::Refused(refusal) => {
-                self.put_refusal(page, refusal, detail)?;
+                self.write_refusal(f, refusal)?;
                 let cause = refusal.cause;
-                page.put_value(&format_args!("  = see: docs/FORMAT.md, cause {cause}\n"));
-                Ok(())
+                write!(f, "  = see: docs/FORMAT.md, cause {cause}\n")
             }
         }
     }
+}
 
-    // Explains a refusal.
-    fn put_refusal(&self, page: &mut Page, refusal: &Refusal, detail: &Detail) -> Reread<()>
-        ensures shown { IfOk result (λ _. PutsSome (IsRefusalText (T.input self.now.text.now)
-            self.now.file.now refusal.now.cause refusal.now.place detail.now) page.old page.new) }
-        ensures error { IfErr result
-            (OnlyIf (T.input self.now.text.now) (LacksPlace refusal.now.place detail.now)) }
-    {
-        match refusal.place {
-            Place::Byte(offset) => self.put_syntax(page, refusal.cause, offset),
-            Place::Sol(number) => self.put_solution(page, number, detail),
-            Place::Der(index) => self.put_at(page, refusal.cause, index, detail),
-            Place::End => self.put_claim(page, detail),
-        }
-    }
-
-    // Explains a refusal at a derivation: of that, or of a claim that nothing proves.
-    fn put_at(&self, page: &mut Page, cause: u8, index: u32, detail: &Detail) -> Reread<()>
-        ensures shown { IfOk result (λ _. PutsSome (IsTextAt (T.input self.now.text.now)
-            self.now.file.now cause index detail.now) page.old page.new) }
-        ensures error { IfErr result
-            (OnlyIf (T.input self.now.text.now) (LacksDerivation index detail.now)) }
-    {
-        match detail {
-            Detail::Step { what, .. } => self.put_derivation(
-                page,
-                &StepFault { cause, index, what },
-            ),
-            _ => self.put_claim(page, detail),
-        }
-    }
-
-    // Explains that a side of the claim isn't proved.
-    fn put_claim(&self, page: &mut Page, detail: &Detail) -> Reread<()>
-        ensures shown { IfOk result (λ _. PutsSome
-            (IsClaimText (T.input self.now.text.now) detail.now) page.old page.new) }
-        ensures error { IfErr result (OnlyIf (T.input self.now.text.now) (LacksClaim detail.now)) }
-    {
-        match detail {
-            Detail::NoProof(goal) => self.put_no_proof(page, goal.as_ref()),
-            Detail::NoPrimal(bound) => self.put_no_primal(page, *bound),
+impl LongExplanation<'_> {
+    // Writes what was found of a refusal.
+    fn write_refusal<W: Write>(&self, f: &mut Formatter<W>, refusal: &Refusal) -> fmt::Result {
+        let cause = refusal.cause;
+        let detail = self.detail;
+        let file = self.file;
+        match (self.known, refusal.place, detail) {
+            (Findings::Text(fault), _, _) => write!(f, "{}", FaultPage { fault, cause, file }),
+            (Findings::Solution(known), _, _) => {
+                write!(
+                    f,
+                    "{}",
+                    SolutionPage {
+                        known,
+                        detail,
+                        file
+                    }
+                )
+            }
+            (Findings::Step(step), Place::Der(index), Detail::Step { what, .. }) => {
+                let fault = StepFault { cause, index, what };
+                write!(f, "{}", StepPage { step, fault, file })
+            }
+            (Findings::NoProof(known), _, _) => write!(f, "{}", UnprovedPage(known)),
+            (Findings::NoPrimal(known), _, Detail::NoPrimal(bound)) => {
+                let bound = *bound;
+                write!(f, "{}", NoPrimalPage { known, bound })
+            }
             _ => Ok(()),
         }
     }

@@ -13,10 +13,7 @@ use std::alloc::Global;
 use vipr_bytes::Source;
 use vipr_scan::{Position, TextError, is_white, step};
 
-/// How many bytes of a token are kept.
-const MOST_KEPT: usize = 64;
-
-/// Reads the tokens of a text one by one. It keeps the place and the first 64 bytes of each.
+/// Reads the tokens of a text one by one. It keeps the place and the bytes of one.
 #[derive(Drop)]
 pub(crate) struct Words<R> {
     letters: Letters<R>,
@@ -92,7 +89,7 @@ impl<R: Source + Drop> Words<R> {
         }
     }
 
-    /// The first bytes of the last token that was read.
+    /// The bytes of the last token that was read.
     pub(crate) fn word(&self) -> &[u8]
         ensures { result.now ≡ self.now.word.items }
     {
@@ -183,9 +180,7 @@ impl<R: Source + Drop> Words<R> {
             → HoldsStart (bytes ++ byte ∷ []) self.new }
     {
         self.size = self.size.saturating_add(1);
-        if self.word.len() < MOST_KEPT {
-            self.keep(byte);
-        }
+        self.keep(byte);
     }
 
     // Keeps a byte of a token, if there is memory for it.

@@ -1,10 +1,9 @@
 -- A list that is gathered item by item
 use Rattle.std.proofs.Common.{◌≡◌, ℕ, ◌+◌, ◌<◌, ◌≤◌, List, [], ◌∷◌, ◌++◌, length, take, get_or, sym}
 use Rattle.std.proofs.Common.{ap}
-use Rattle.std.proofs.Common.{◌∙◌, append_assoc}
-use Rattle.std.specs.List.{enumerate_from, flat_map}
+use Rattle.std.proofs.Common.{◌∙◌}
+use Rattle.std.specs.List.{flat_map}
 use Rattle.std.proofs.lemmas.List.{flat_map_more, take_all, take_more}
-use Rattle.vipr_page.proofs.Listing.{next_numbered}
 
 -- one more item
 pub gather_more : {X A : Type 0} (part : X → List A) (front now new : List A) (xs : List X) (i : ℕ)
@@ -20,19 +19,3 @@ pub gather_all : {X A : Type 0} (part : X → List A) (front now : List A) (xs y
     → now ≡ front ++ flat_map part ys
 gather_all part front now xs ys i l same so_far =
     so_far ∙ ap (λ zs. front ++ flat_map part zs) (take_all i xs l ∙ same)
-
--- the same of items that are numbered
-pub gather_numbered : {X : Type 0} (part : ℕ × X → List ℕ) (front now new : List ℕ) (xs : List X)
-    (i : ℕ) (x d : X) → i < length xs → x ≡ get_or xs i d
-    → now ≡ front ++ flat_map part (enumerate_from 0 (take i xs)) → new ≡ now ++ part (i, x)
-    → new ≡ front ++ flat_map part (enumerate_from 0 (take (i + 1) xs))
-gather_numbered part front now new xs i x d within this so_far more =
-    more ∙ ap (λ l. l ++ part (i, x)) so_far
-    ∙ append_assoc front (flat_map part (enumerate_from 0 (take i xs))) (part (i, x))
-    ∙ ap (λ l. front ++ l) (next_numbered part xs i x d within this)
-
-pub gather_all_numbered : {X : Type 0} (part : ℕ × X → List ℕ) (front now : List ℕ) (xs : List X)
-    (i : ℕ) → length xs ≤ i → now ≡ front ++ flat_map part (enumerate_from 0 (take i xs))
-    → now ≡ front ++ flat_map part (enumerate_from 0 xs)
-gather_all_numbered part front now xs i l so_far =
-    so_far ∙ ap (λ zs. front ++ flat_map part (enumerate_from 0 zs)) (take_all i xs l)

@@ -1,5 +1,4 @@
 pub mod Page
-pub mod Written
 pub mod Algebra
 pub mod Differences
 pub mod RowFaults

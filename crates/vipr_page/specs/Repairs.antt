@@ -1,11 +1,8 @@
 -- How a derivation that doesn't follow from its reason can be repaired
-use Rattle.std.specs.Prelude.{◌≡◌, ◌≢◌, ℕ, ℤ, List, [], ◌++◌, Option, Some, None, codes}
-use Rattle.std.specs.Fmt.{signed_decimal}
+use Rattle.std.specs.Prelude.{◌≡◌, ◌≢◌, ℕ, ℤ, Option, Some, None}
 use Rattle.vipr_spec.specs.Constraint.{Ints, Sense, equal, at, Constraint, Compares, IsWholeRow}
 use Rattle.vipr_spec.specs.Constraint.{RoundsTo}
 use Rattle.vipr_spec.specs.Fraction.{ℚ, whole}
-use Rattle.vipr_cert.specs.declared.items.Reason.{Reason}
-use Rattle.vipr_cert.specs.declared.items.Reason.TheVariants.{Lin}
 
 -- but for the right-hand side, the stated constraint is the computed one, which can be rounded
 pub record CanRound (integers : Ints) (computed stated : Constraint) : Type 0 where
@@ -30,18 +27,3 @@ IsRounded integers computed stated (Some k) = CanRound integers computed stated
     × RoundsInto computed.sense computed.bound stated.bound k
 IsRounded integers computed stated None = (k : ℤ) → CanRound integers computed stated
     → ¬ RoundsInto computed.sense computed.bound stated.bound k
-
-abbrev pub rounding_help : Option ℤ → List ℕ
-rounding_help (Some k) = codes "  = help: `rnd` in place of `lin` rounds the right-hand side to "
-    ++ (signed_decimal k ++ codes "\n")
-rounding_help None = []
-
--- only a sum that isn't rounded yet can be
-abbrev pub reason_help : Reason → Option ℤ → List ℕ
-reason_help (Lin entries) bound = rounding_help bound
-reason_help _ bound = []
-
-abbrev pub repair_text : Reason → Option ℤ → List ℕ
-repair_text reason bound = reason_help reason bound
-    ++ (codes "  = help: " ++ (codes "state what was computed, or change the constraints and "
-    ++ codes "multipliers of the reason" ++ codes "\n"))

@@ -3,7 +3,6 @@ ghost use Rattle.std.specs.Prelude.{◌≡◌, ◌<◌, Some, length, take};
 ghost use Rattle.vipr_linear.specs.Constraint.{sense_of};
 ghost use Rattle.vipr_page.specs.Algebra.{sense_sign, size};
 
-use crate::page::Page;
 use crate::stranger::StrangeBytes;
 use std::fmt;
 use std::fmt::{Display, Formatter, Write};
@@ -27,7 +26,21 @@ impl Display for ShownName<'_> {
     ghost output = { λ s. Some (shown_name s.0.now) };
 
     fn fmt<W: Write>(&self, f: &mut Formatter<W>) -> fmt::Result {
-        let bytes = self.0.as_bytes();
+        write!(f, "{}", CutBytes(self.0.as_bytes()))
+    }
+}
+
+/// Bytes of a stranger's name, cut if they are many.
+#[derive(Clone, Copy)]
+pub struct CutBytes<'a>(pub &'a [u8]);
+
+impl Display for CutBytes<'_> {
+    ghost use Rattle.vipr_page.specs.Algebra.{shown_name};
+
+    ghost output = { λ s. Some (shown_name s.0.now) };
+
+    fn fmt<W: Write>(&self, f: &mut Formatter<W>) -> fmt::Result {
+        let bytes = self.0;
         if bytes.len() > MOST_OF_NAME {
             write!(f, "{}..", StrangeBytes(front_of(bytes)))
         } else {

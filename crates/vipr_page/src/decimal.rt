@@ -1,6 +1,6 @@
 //! A number with a decimal point, which isn't in the format.
-ghost use Rattle.std.specs.Prelude.{◌≡◌, ◌≤◌, ◌<◌, IfSome};
-ghost use Rattle.vipr_page.specs.Decimals.{decimal_digit, decimal_next, decimal_of};
+ghost use Rattle.std.specs.Prelude.{◌≡◌, ◌≤◌, ◌<◌, IfSome, Some};
+ghost use Rattle.vipr_page.specs.Decimals.{decimal_digit, decimal_from, decimal_next};
 ghost use Rattle.vipr_page.specs.Decimals.{decimal_start, decimal_value};
 
 use vipr_frac::Frac;
@@ -8,14 +8,14 @@ use vipr_frac::Frac;
 /// Digits are read up to here.
 const LIMIT: u64 = 1_000_000_000_000_000_000;
 
-/// What was read of a decimal: its digits as a number, the power of ten below them, whether the
-/// point was read, and whether a minus was.
+/// What was read of a decimal behind its sign: its digits as a number, the power of ten below them,
+/// whether the point was read, and whether a digit was.
 #[derive(Clone, Copy)]
 struct Decimal {
     above: u64,
     below: u64,
     is_behind: bool,
-    is_negative: bool,
+    has_digit: bool,
 }
 
 impl Decimal {
@@ -27,7 +27,7 @@ impl Decimal {
             above: 0,
             below: 1,
             is_behind: false,
-            is_negative: false,
+            has_digit: false,
         }
     }
 
@@ -42,11 +42,6 @@ impl Decimal {
                 is_behind: true,
                 ..self
             }),
-            b'-' if self.above == 0 && !self.is_behind => Some(Decimal {
-                is_negative: true,
-                ..self
-            }),
-            b'+' => Some(self),
             _ => None,
         }
     }
@@ -68,28 +63,35 @@ impl Decimal {
         Some(Decimal {
             above: self.above * 10 + u64::from(digit),
             below,
+            has_digit: true,
             ..self
         })
     }
 
-    // Its value, if it has a point.
+    // Its value, if it has a point and a digit.
     fn value(self) -> Option<Frac>
         requires { 0 < self.below }
         ensures { result ≡ decimal_value self }
     {
-        if !self.is_behind {
+        if !self.is_behind || !self.has_digit {
             return None;
         }
-        match Frac::new(i128::from(self.above), i128::from(self.below)) {
-            Ok(size) => Some(if self.is_negative { size.neg() } else { size }),
-            Err(_) => None,
-        }
+        Frac::new(i128::from(self.above), i128::from(self.below)).ok()
     }
 }
 
-/// The value of a decimal, `None` for other bytes.
-pub fn fraction_of(word: &[u8]) -> Option<Frac>
-    ensures { result ≡ decimal_of word.now }
+/// The value of a decimal, `None` for other bytes. Only the first one may be a sign.
+pub fn fraction_of(word: &[u8]) -> Option<Frac> {
+    match word {
+        [b'-', size @ ..] => size_of(size).map(|size| size.neg()),
+        [b'+', size @ ..] => size_of(size),
+        size => size_of(size),
+    }
+}
+
+// The value of a decimal without a sign.
+fn size_of(word: &[u8]) -> Option<Frac>
+    ensures { result ≡ decimal_from (Some decimal_start) word.now }
 {
     let mut decimal = Decimal::start();
     for byte in word {

@@ -8,13 +8,12 @@ mod differences;
 mod faults;
 mod page;
 mod repair;
-mod shown;
 mod stranger;
 
-pub use algebra::{Algebra, ShownName, VariableName, sign_of, size_of};
+pub use algebra::{Algebra, CutBytes, ShownName, VariableName, sign_of, size_of};
 pub use decimal::fraction_of;
-pub use differences::put_difference;
-pub use faults::{put_not_roundable, put_not_split};
+pub use differences::{Difference, DifferenceLine, row_differences};
+pub use faults::{RowFault, RowFaults, row_faults};
 pub use page::{MOST_BYTES, Page};
-pub use repair::put_repair;
+pub use repair::rounded;
 pub use stranger::StrangeBytes;

@@ -1,62 +1,15 @@
 //! How a derivation that doesn't follow from its reason can be repaired.
-ghost use Rattle.std.specs.Prelude.{◌≡◌, ◌≢◌, ◌≤◌, ◌↔◌, ℤ, Option, Some, IsTrue, unsigned_abs};
+ghost use Rattle.std.specs.Prelude.{◌≡◌, ◌≢◌, ◌≤◌, ◌↔◌, IsTrue, unsigned_abs};
 ghost use Rattle.vipr_spec.specs.Constraint.{equal, RoundsTo};
 ghost use Rattle.vipr_spec.specs.Fraction.{most, whole};
 ghost use Rattle.vipr_linear.specs.Constraint.{constraint_of, sense_of};
-ghost use Rattle.vipr_page.specs.Repairs.{CanRound, IsRounded, IsRoundedBound, repair_text};
-ghost use Rattle.vipr_page.specs.Written.{PutsText};
+ghost use Rattle.vipr_page.specs.Repairs.{CanRound, IsRounded, IsRoundedBound};
 
-use crate::page::Page;
-use std::fmt;
-use std::fmt::{Display, Formatter, Write};
-use vipr_cert::{Problem, Reason};
 use vipr_frac::Frac;
 use vipr_linear::{Constraint, Ints, Sense, compares, is_whole_row};
 
-/// Says how a derivation that doesn't follow can be repaired.
-pub fn put_repair(
-    page: &mut Page,
-    problem: &Problem,
-    reason: &Reason,
-    computed: &Constraint,
-    stated: &Constraint,
-)
-    ensures { (bound : Option ℤ) × IsRounded problem.now.integers
-        (constraint_of computed.now) (constraint_of stated.now) bound
-        × PutsText page.old page.new (repair_text reason.now bound) }
-{
-    let bound = rounded(problem.ints(), computed, stated);
-    page.put_value(&ReasonHelp { reason, bound });
-    page.put_help(
-        "state what was computed, or change the constraints and multipliers of the reason",
-    );
-}
-
-// That `rnd` in place of `lin` is enough, with the right-hand side to which it rounds, if so.
-#[derive(Clone, Copy)]
-struct ReasonHelp<'a> {
-    reason: &'a Reason,
-    bound: Option<i128>,
-}
-
-impl Display for ReasonHelp<'_> {
-    ghost use Rattle.vipr_page.specs.Repairs.{reason_help};
-
-    ghost output = { λ s. Some (reason_help s.reason.now s.bound) };
-
-    fn fmt<W: Write>(&self, f: &mut Formatter<W>) -> fmt::Result {
-        match (self.reason, self.bound) {
-            (Reason::Lin(_), Some(bound)) => write!(
-                f,
-                "  = help: `rnd` in place of `lin` rounds the right-hand side to {bound}\n"
-            ),
-            _ => Ok(()),
-        }
-    }
-}
-
-// The right-hand side to which `rnd` rounds the computed constraint, if that is strong enough.
-fn rounded(ints: &Ints, computed: &Constraint, stated: &Constraint) -> Option<i128>
+/// The right-hand side to which `rnd` rounds the computed constraint, if that is strong enough.
+pub fn rounded(ints: &Ints, computed: &Constraint, stated: &Constraint) -> Option<i128>
     ensures { IsRounded ints.now (constraint_of computed.now) (constraint_of stated.now) result }
 {
     if can_round(ints, computed, stated) {

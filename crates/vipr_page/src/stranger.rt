@@ -5,7 +5,8 @@ use crate::page::digit;
 use std::fmt;
 use std::fmt::{Display, Formatter, Write};
 
-/// A tab is shown as a space, and each other byte that isn't printable ASCII is escaped.
+/// A tab is shown as a space, a backslash is doubled, and each other byte that isn't printable
+/// ASCII is escaped.
 #[derive(Clone, Copy)]
 pub struct StrangeBytes<'a>(pub &'a [u8]);
 
@@ -35,6 +36,7 @@ impl Display for StrangeByte {
         let byte = self.0;
         match byte {
             9 => f.write_str(" "),
+            92 => f.write_str("\\\\"),
             32..=126 => f.write_char(char::from(byte)),
             _ => {
                 let high = char::from(digit(byte / 16));

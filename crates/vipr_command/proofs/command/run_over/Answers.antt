@@ -27,11 +27,11 @@ returns-in-None-clause-runs g c =
     let new = g.O.Sink.output c.do_task.new.out in
     obeyed words job c.in-Ok.ensures.ok source old new c.do_task.result (done_with_input job source old new c.do_task.result c.in-None.is c.do_task.ensures)
 
-pub returns-after-job-clause-runs : goal.returns-after-job-clause-runs
-returns-after-job-clause-runs g c =
+pub returns-in-Some-clause-runs : goal.returns-in-Some-clause-runs
+returns-in-Some-clause-runs g c =
     let words = map (λ w. w.now) c.args.words.now in
     let job = c.in-Ok.job in
     let source = g.R.Source.input c.args.input in
     let old = g.O.Sink.output c.args.out.now in
-    let new = g.O.Sink.output c.do_task_on_file-done.new.out in
-    obeyed words job c.in-Ok.ensures.ok source old new c.do_task_on_file-done.result (done_with_file job source old new c.do_task_on_file-done.result c.in-Some.path c.in-Some.is c.do_task_on_file-done.ensures)
+    let new = g.O.Sink.output c.do_task_on_file.new.out in
+    obeyed words job c.in-Ok.ensures.ok source old new c.do_task_on_file.result (done_with_file job source old new c.do_task_on_file.result c.in-Some.path c.in-Some.is c.do_task_on_file.ensures)
