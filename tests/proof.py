@@ -20,7 +20,7 @@ PROOF, CONTRACTS = TOP / 'docs/PROOF.md', TOP / 'docs/CONTRACTS.md'
 EDITS = '<!-- edits: written by `tests/proof.py` -->', '<!-- end of the edits -->'
 MARKS = '<!-- tables: written by `tests/proof.py` from the sources -->', '<!-- end of the tables -->'
 # crates that only have the public names of others
-WITHOUT_CALLS = ('vipr_text', 'vipr_lib')
+WITHOUT_CALLS = ('vipr_lib',)
 OPENS = {'{': 1, '}': -1}
 
 

@@ -1,20 +1,26 @@
 -- What is handed over of a certificate that was read
-use Rattle.std.proofs.Common.{◌≡◌, ℕ, ℤ, List, Ok, inl, inr, refl, subst}
+use Rattle.std.proofs.Common.{◌≡◌, ℕ, ℤ, List, Ok, inl, inr, refl, subst, ◌∙◌}
 use Rattle.vipr_spec.specs.Certificate.{Certificate}
 use Rattle.vipr_spec.specs.Grammar.{Spells}
 use Rattle.vipr_spec.specs.Reading.{certificate_read}
+use Rattle.vipr_spec.proofs.Laws.{reads_texts}
 use Rattle.vipr_bytes.specs.Known.{text_of, IfKnown, IfWhole}
+use Rattle.vipr_write.specs.Forms.{text_in}
 use Rattle.vipr_write.specs.declared.form.Form.{Form}
 use Rattle.vipr_c.specs.Handed.{in_memory}
 use Rattle.vipr_c.specs.declared.answer.Answer.{Answer}
 use Rattle.vipr_c.specs.Written.{ReturnsText, WritesWhole, no_answer}
 
-pub shown_by : (F : Form) (bytes : List ℕ) (c : Certificate) (status : ℤ) (text : List ℕ)
+spelled : (bytes : List ℕ) (c : Certificate)
     → IfKnown (in_memory bytes) (λ i. certificate_read (text_of i) ≡ Ok c)
     → IfWhole (in_memory bytes) (λ all. Spells all c)
-    → WritesWhole F c status text → ReturnsText F bytes status text no_answer
-shown_by F bytes c status text read spelled (inl (ok, is)) = record { is = inl (c, read, spelled, ok, is, refl) }
-shown_by F bytes c status text read spelled (inr lacks) = record { is = inr (inr (lacks, refl)) }
+spelled bytes c read = λ short whole. (reads_texts bytes c).0 (read short)
+
+pub shown_by : (F : Form) (bytes whole : List ℕ) (c : Certificate) (status : ℤ) (text : List ℕ)
+    → whole ≡ text_in F c → IfKnown (in_memory bytes) (λ i. certificate_read (text_of i) ≡ Ok c)
+    → WritesWhole whole status text → ReturnsText F bytes status text no_answer
+shown_by F bytes whole c status text is read (inl (ok, same)) = record { is = inl (c, read, spelled bytes c read, ok, same ∙ is, refl) }
+shown_by F bytes whole c status text is read (inr lacks) = record { is = inr (inr (lacks, refl)) }
 
 -- the form and the status under other names
 pub renamed : (F G : Form) (bytes : List ℕ) (s t : ℤ) (text : List ℕ) (a : Answer) → F ≡ G → s ≡ t

@@ -1,14 +1,12 @@
 -- What the calls that write a certificate hand to a program in C
 use Rattle.std.specs.Prelude.{◌≡◌, ◌⊎◌, ℕ, ℤ, pos, ◌==◌, if◌then◌else◌, List, [], Option, Some}
-use Rattle.std.specs.Prelude.{None, Result, Ok, Err, IfOk}
+use Rattle.std.specs.Prelude.{None, Ok, Err}
 use Rattle.vipr_spec.specs.Certificate.{Certificate}
 use Rattle.vipr_spec.specs.Constraint as is
 use Rattle.vipr_spec.specs.Grammar.{Spells}
 use Rattle.vipr_spec.specs.Reading.{certificate_read, refused}
 use Rattle.vipr_bytes.specs.Known.{text_of, IfKnown, IfWhole}
 use Rattle.vipr_bytes.specs.Output.{Output}
-use Rattle.vipr_scan.specs.declared.error.TextError.{TextError}
-use Rattle.vipr_read.specs.Whole.{IsRead}
 use Rattle.vipr_rules.specs.Profile.{profile_of}
 use Rattle.vipr_rules.specs.declared.profile.Profile.{Profile}
 use Rattle.vipr_write.specs.Forms.{text_in}
@@ -35,11 +33,6 @@ holding bytes = record { accepted = bytes; room = None }
 
 -- ---- a certificate that is shown
 
--- the certificate that these bytes spell, or the first fault, if memory isn't refused
-pub record ReadsText (bytes : List ℕ) (r : Result Certificate TextError) : Type 0 where
-  pub read : IfKnown (in_memory bytes) (λ i. IsRead (λ c. c) r (certificate_read (text_of i)))
-  pub spelled : IfWhole (in_memory bytes) (λ all. IfOk r (λ c. Spells all c))
-
 abbrev pub no_answer : Answer
 no_answer = answer_of_verdict (Err Memory)
 
@@ -64,10 +57,9 @@ pub record ReturnsText (F : Form) (bytes : List ℕ) (status : ℤ) (text : List
   pub is : IsRespelled F bytes status text answer ⊎ IsUnspelled bytes status text answer
       ⊎ (HasNoMemory status text × (answer ≡ no_answer))
 
--- the text of a certificate in a form was written whole, or there was no memory for it
-abbrev pub WritesWhole : Form → Certificate → ℤ → List ℕ → Type 0
-WritesWhole F c status text =
-    ((status ≡ pos 0) × (text ≡ text_in F c)) ⊎ HasNoMemory status text
+-- a text was written whole, or there was no memory for it
+abbrev pub WritesWhole : List ℕ → ℤ → List ℕ → Type 0
+WritesWhole whole status text = ((status ≡ pos 0) × (text ≡ whole)) ⊎ HasNoMemory status text
 
 -- ---- one that is tightened
 

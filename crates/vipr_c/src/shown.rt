@@ -1,17 +1,19 @@
 //! What `vipr show` writes.
 
 ghost use Rattle.std.specs.Prelude.{◌≡◌};
-ghost use Rattle.vipr_c.specs.Written.{ReadsText, ReturnsText, WritesWhole, form_flagged};
+ghost use Rattle.vipr_text.specs.Spelling.{RespellsText};
+ghost use Rattle.vipr_c.specs.Handed.{in_memory};
+ghost use Rattle.vipr_c.specs.Written.{ReturnsText, WritesWhole, form_flagged};
 
 use crate::answer::{Answer, NOTHING, answer_of};
 use crate::collected::Collected;
 use crate::handed::{Handed, NO_MEMORY};
 use std::alloc::Global;
 use vipr_bytes::Bytes;
-use vipr_cert::Certificate;
 use vipr_check::{Place, Refusal, Verdict};
-use vipr_read::{TextError, read_certificate};
-use vipr_write::{Form, write_certificate_in};
+use vipr_scan::TextError;
+use vipr_text::respell;
+use vipr_write::{FoldedText, Form};
 
 /// The compact form, unless the flag is 0.
 pub(crate) fn form_flagged(compact: u32) -> Form
@@ -27,8 +29,8 @@ pub(crate) fn form_flagged(compact: u32) -> Form
 pub(crate) fn shown(alloc: Global, form: Form, text: &[u8]) -> (Handed, Answer)
     ensures { ReturnsText form text.now result.0.status result.0.text.items result.1 }
 {
-    match certificate_of(alloc, text) {
-        Ok(certificate) => (written(alloc, form, &certificate), NOTHING),
+    match respelled(alloc, form, text) {
+        Ok(whole) => (written(alloc, &whole), NOTHING),
         Err(TextError::Refused { cause, offset }) => (
             Handed::nothing(alloc, 1),
             answer_of(&Ok(Verdict::Refused(Refusal {
@@ -40,17 +42,17 @@ pub(crate) fn shown(alloc: Global, form: Form, text: &[u8]) -> (Handed, Answer)
     }
 }
 
-fn certificate_of(alloc: Global, text: &[u8]) -> Result<Certificate, TextError>
-    ensures { ReadsText text.now result }
+fn respelled(alloc: Global, form: Form, text: &[u8]) -> Result<FoldedText, TextError>
+    ensures { RespellsText form (λ text. text.bytes) (in_memory text.now) result }
 {
-    read_certificate(alloc, Bytes::new(text))
+    respell(alloc, form, Bytes::new(text))
 }
 
-fn written(alloc: Global, form: Form, certificate: &Certificate) -> Handed
-    ensures { WritesWhole form certificate.now result.status result.text.items }
+fn written(alloc: Global, text: &FoldedText) -> Handed
+    ensures { WritesWhole text.now.bytes result.status result.text.items }
 {
     let mut out = Collected::new(alloc);
-    match write_certificate_in(alloc, form, certificate, &mut out) {
+    match text.write_to(alloc, &mut out) {
         Ok(()) => Handed {
             status: 0,
             text: out.bytes,

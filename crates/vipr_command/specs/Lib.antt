@@ -1,7 +1,6 @@
 pub mod Args
 pub mod Text
 pub mod Output
-pub mod Spelling
 pub mod Show
 pub mod Tighten
 pub mod Run

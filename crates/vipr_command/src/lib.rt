@@ -5,7 +5,6 @@
 
 mod args;
 mod beside;
-mod canonical;
 mod check;
 mod command;
 mod explain;

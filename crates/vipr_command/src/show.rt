@@ -3,7 +3,6 @@ ghost use Rattle.vipr_bytes.specs.Known.{IfWhole};
 ghost use Rattle.vipr_command.specs.Run.{OfInput, PrintsText};
 ghost use Rattle.vipr_command.specs.Show.{ShowsText, WritesText, text_spelling};
 
-use crate::canonical::respelled;
 use crate::fault::CommandFault;
 use crate::line::say;
 use std::alloc::Global;
@@ -11,6 +10,7 @@ use std::io::Write;
 use vipr_bytes::{Sink, Source};
 use vipr_check::{Place, Refusal};
 use vipr_scan::TextError;
+use vipr_text::respell;
 use vipr_write::{FoldedText, Form, WriteError};
 
 /// What became of a certificate that was to be shown.
@@ -42,7 +42,7 @@ pub fn show<R: Source + Drop, W: Sink>(
     ensures spelled { IfWhole (R.input source) (λ bytes. ShowsText form (text_spelling bytes)
         (W.output writer.old) (W.output writer.new) result) }
 {
-    match respelled(alloc, form, source) {
+    match respell(alloc, form, source) {
         Ok(text) => write_text(alloc, &text, writer),
         Err(TextError::Refused { cause, offset }) => Ok(Shown::Refused(Refusal {
             cause,

@@ -3,4 +3,5 @@ use Rattle.vipr_c.proofs.shown.shown.Goals as goal
 
 pub returns-in-Ok : goal.returns-in-Ok
 returns-in-Ok c =
-    shown_by c.args.form c.args.text.now c.in-Ok.certificate c.written.result.status c.written.result.text.items c.in-Ok.ensures.read c.in-Ok.ensures.spelled c.written.ensures
+    let found = c.in-Ok.ensures in
+    shown_by c.args.form c.args.text.now c.in-Ok.whole.bytes found.0 c.written.result.status c.written.result.text.items found.1 found.2 c.written.ensures

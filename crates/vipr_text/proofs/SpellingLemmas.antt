@@ -22,8 +22,8 @@ use Rattle.vipr_write.specs.Canonical.{solution_words, heading, line_text, lines
 use Rattle.vipr_write.specs.Folded.{Begun, with_more_bytes}
 use Rattle.vipr_write.specs.Forms.{problem_lines_in, derivation_words_in, text_in}
 use Rattle.vipr_write.specs.declared.form.Form.{Form}
-use Rattle.vipr_command.specs.Spelling.{Appends, HasAppended, HasBegun, Respells, RespellsText}
-use Rattle.vipr_command.specs.Spelling.{with_count}
+use Rattle.vipr_text.specs.Spelling.{Appends, HasAppended, HasBegun, Respells, RespellsText}
+use Rattle.vipr_text.specs.Spelling.{with_count}
 
 -- a fault is that of what goes on after it
 pub fails_first : {X Y : Type 0} (e : TextError) (r : Result X Fault) (f : X → Result Y Fault)

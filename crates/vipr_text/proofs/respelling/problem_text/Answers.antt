@@ -3,7 +3,7 @@ use Rattle.std.specs.Prelude.{codes}
 use Rattle.vipr_write.specs.Canonical.{heading, line_text, lines_text}
 use Rattle.vipr_write.specs.Folded.{Begun}
 use Rattle.vipr_write.specs.Forms.{problem_lines_in}
-use Rattle.vipr_command.proofs.canonical.problem_text.Goals as goal
+use Rattle.vipr_text.proofs.respelling.problem_text.Goals as goal
 
 pub returns : goal.returns
 returns g c =

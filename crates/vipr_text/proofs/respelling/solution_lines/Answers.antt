@@ -2,9 +2,9 @@ use Rattle.std.proofs.lemmas.Result.{err_from_is_err_and}
 use Rattle.vipr_spec.specs.Reading.{solution_read}
 use Rattle.vipr_cert.specs.Items.{solution_of}
 use Rattle.vipr_write.specs.Canonical.{solution_words}
-use Rattle.vipr_command.proofs.SpellingLemmas.{no_ending, none_yet, one_more, still_knows, stops}
-use Rattle.vipr_command.proofs.SpellingLemmas.{unspent}
-use Rattle.vipr_command.proofs.canonical.solution_lines.Goals as goal
+use Rattle.vipr_text.proofs.SpellingLemmas.{no_ending, none_yet, one_more, still_knows, stops}
+use Rattle.vipr_text.proofs.SpellingLemmas.{unspent}
+use Rattle.vipr_text.proofs.respelling.solution_lines.Goals as goal
 
 pub loop-text-init : goal.loop-text-init
 loop-text-init g c = record {

@@ -2,8 +2,8 @@ use Rattle.std.proofs.Common.{ap, subst, ◌∙◌}
 use Rattle.vipr_spec.specs.Reading.{derivation_read, end_read}
 use Rattle.vipr_write.specs.Folded.{Begun}
 use Rattle.vipr_write.specs.Forms.{derivation_words_in}
-use Rattle.vipr_command.specs.Spelling.{Appends, with_count}
-use Rattle.vipr_command.proofs.canonical.derived_text.Goals as goal
+use Rattle.vipr_text.specs.Spelling.{Appends, with_count}
+use Rattle.vipr_text.proofs.respelling.derived_text.Goals as goal
 
 pub returns : goal.returns
 returns g c p knows =

@@ -5,8 +5,8 @@ use Rattle.std.proofs.Common.{ap, ◌∙◌}
 use Rattle.vipr_write.specs.Canonical.{line_text}
 use Rattle.vipr_write.specs.Folded.{Begun, with_more_bytes}
 use Rattle.vipr_write.specs.Forms.{derivation_words_in}
-use Rattle.vipr_command.proofs.SpellingLemmas.{none_yet, one_more, still_knows, stops, unspent}
-use Rattle.vipr_command.proofs.canonical.derivation_lines.Goals as goal
+use Rattle.vipr_text.proofs.SpellingLemmas.{none_yet, one_more, still_knows, stops, unspent}
+use Rattle.vipr_text.proofs.respelling.derivation_lines.Goals as goal
 
 pub lines-init : goal.lines-init
 lines-init g c = record {

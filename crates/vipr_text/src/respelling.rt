@@ -5,8 +5,8 @@ ghost use Rattle.vipr_spec.specs.Reading.{solution_read, derivation_read, end_re
 ghost use Rattle.vipr_read.specs.Items.{Knows};
 ghost use Rattle.vipr_write.specs.Canonical.{solution_words};
 ghost use Rattle.vipr_write.specs.Forms.{derivation_words_in};
-ghost use Rattle.vipr_command.specs.Spelling.{BeginsText, Appends, Respells, RespellsText};
-ghost use Rattle.vipr_command.specs.Spelling.{with_count};
+ghost use Rattle.vipr_text.specs.Spelling.{BeginsText, Appends, Respells, RespellsText};
+ghost use Rattle.vipr_text.specs.Spelling.{with_count};
 
 use std::alloc::Global;
 use vipr_bytes::Source;
@@ -22,7 +22,7 @@ use vipr_write::{FoldedText, Form};
 ///
 /// `Refused` if the text spells no certificate, `Read` if a read fails before that is known,
 /// and `Memory` if a growth is refused.
-pub(crate) fn respelled<R: Source + Drop>(
+pub fn respell<R: Source + Drop>(
     alloc: Global,
     form: Form,
     source: R,

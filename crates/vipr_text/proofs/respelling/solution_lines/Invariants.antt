@@ -3,8 +3,8 @@ use Rattle.vipr_spec.specs.Certificate.{Problem}
 use Rattle.vipr_spec.specs.Reading.{solution_read}
 use Rattle.vipr_read.specs.Items.{Knows}
 use Rattle.vipr_write.specs.Canonical.{solution_words}
-use Rattle.vipr_command.specs.Spelling.{HasAppended}
-use Rattle.vipr_command.proofs.canonical.solution_lines.Given as goal
+use Rattle.vipr_text.specs.Spelling.{HasAppended}
+use Rattle.vipr_text.proofs.respelling.solution_lines.Given as goal
 
 abbrev pub invariant-loop-text : goal.invariant-loop-text
 invariant-loop-text g l = record {

@@ -2,9 +2,9 @@ use Rattle.std.proofs.lemmas.Result.{err_from_is_err_and}
 use Rattle.vipr_spec.specs.Reading.{solution_read}
 use Rattle.vipr_scan.specs.Giving.{rest_of}
 use Rattle.vipr_write.specs.Canonical.{solution_words}
-use Rattle.vipr_command.proofs.SpellingLemmas.{problem_fails, solutions_fail, count_fails}
-use Rattle.vipr_command.proofs.SpellingLemmas.{were_read, still_knows, unspent, whole_text}
-use Rattle.vipr_command.proofs.canonical.text_from.Goals as goal
+use Rattle.vipr_text.proofs.SpellingLemmas.{problem_fails, solutions_fail, count_fails}
+use Rattle.vipr_text.proofs.SpellingLemmas.{were_read, still_knows, unspent, whole_text}
+use Rattle.vipr_text.proofs.respelling.text_from.Goals as goal
 
 pub returns-in_err-text : goal.returns-in_err-text
 returns-in_err-text g c =

@@ -3,8 +3,8 @@ use Rattle.vipr_spec.specs.Certificate.{Problem}
 use Rattle.vipr_spec.specs.Reading.{derivation_read}
 use Rattle.vipr_read.specs.Items.{Knows}
 use Rattle.vipr_write.specs.Forms.{derivation_words_in}
-use Rattle.vipr_command.specs.Spelling.{HasAppended}
-use Rattle.vipr_command.proofs.canonical.derivation_lines.Given as goal
+use Rattle.vipr_text.specs.Spelling.{HasAppended}
+use Rattle.vipr_text.proofs.respelling.derivation_lines.Given as goal
 
 abbrev pub invariant-lines : goal.invariant-lines
 invariant-lines g l = record {
