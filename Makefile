@@ -5,6 +5,7 @@
 # make uninstall PREFIX=.. takes them away again
 # make lib               the library for C: libvipr.a and a shared one in crates/vipr_c/out
 # make install-lib PREFIX=.. installs it, with include/vipr.h and vipr.pc; make uninstall-lib removes it
+# make dist              one archive of program, libraries, man page, completions and pages, which needs no kit: dist/
 # make house             checks the repository's text: laws, names, lengths, the tables and pages made from the files
 # make wrong             tries more wrong versions of the code, which the prover has to refuse (hours), CRATES=NAME those of one crate
 # make bench             times the program over certificates that a script makes, beside wc -w and cat
@@ -36,7 +37,7 @@ INCLUDE = $(DESTDIR)$(PREFIX)/include
 INSTALLED_LIB = $(INCLUDE)/vipr.h $(LIB)/pkgconfig/vipr.pc \
 	$(foreach name,libvipr.a $(SHARED) $(SONAME) libvipr.so,$(LIB)/$(name))
 
-.PHONY: help check test build install uninstall lib install-lib uninstall-lib house statement wrong bench
+.PHONY: help check test build install uninstall lib install-lib uninstall-lib dist house statement wrong bench
 
 # what the program is made from: check, install and bench build it if it isn't there or one of these is newer
 SOURCES = crates.txt $(shell find crates -name out -prune -o \( -name '*.rt' -o -name '*.antt' \) -print)
@@ -97,6 +98,9 @@ install-lib: $(MADE)/libvipr.a
 uninstall-lib:
 	@rm -f $(foreach file,$(INSTALLED_LIB),"$(file)")
 	@echo "the library is removed from $(LIB)"
+
+dist: $(PROGRAM) $(MADE)/libvipr.a
+	@RT="$(RT)" $(PYTHON) tools/dist.py $(VERSION)
 
 house:
 	@$(PYTHON) tests/house.py

@@ -42,6 +42,7 @@ SCRIPTS = [
     ['tests/calls.py'],
     ['tests/library.py'],
     ['tests/python.py'],
+    ['tests/dist.py'],
     ['tests/pages.py'],
     ['tests/language.py'],
     ['tests/commands.py'],

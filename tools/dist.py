@@ -1,0 +1,104 @@
+#!/usr/bin/env python3
+"""Makes one archive of what is built: program, libraries, header, man page, completions, pages and the Python package.
+
+usage: tools/dist.py VERSION [FOLDER]     FOLDER is dist without it
+
+`make dist` calls it once the program and the library are built. FOLDER gets vipr-VERSION-linux-x86_64.tar.gz, whose files
+lie in a folder vipr-VERSION: bin, lib, include and share as `make install` lays them out, python, and debian, so that
+`dpkg-buildpackage -b` makes packages of them. SHA256SUMS has the sum of each file, and BUILD the kit, its logic and the
+commit. The same files and commit give the same bytes. The exit status is 1 if a command fails.
+"""
+import gzip
+import hashlib
+import os
+import shutil
+import subprocess
+import sys
+import tarfile
+import tempfile
+from email.utils import format_datetime
+from datetime import datetime, timezone
+from pathlib import Path
+
+TOP = Path(__file__).resolve().parent.parent
+INSTALL = '''vipr {version}, a proved checker of VIPR certificates, built for Linux on x86-64.
+
+It needs glibc 2.34 or later (Debian 12, Ubuntu 22.04), and nothing else: neither Rust nor the kit that proved it.
+
+    sha256sum -c --quiet SHA256SUMS
+    ./bin/vipr check share/doc/vipr/examples/infeasible.vipr
+    sudo cp -r bin include lib share /usr/local && sudo ldconfig
+
+The last command installs it; another folder than /usr/local will do. share/doc/vipr/README.md is the first page.
+    pip install ./python            the Python package
+    dpkg-buildpackage -b -us -uc    makes Debian packages
+BUILD says which commit was proved by which kit.
+'''
+
+
+def said(*words):
+    done = subprocess.run(words, cwd=TOP, capture_output=True, text=True, check=False)
+    return done.stdout.strip() if done.returncode == 0 else ''
+
+
+def lay_out(tree, version):
+    """Puts the files into a folder."""
+    built = [word for file in ('crates/vipr/out/vipr', 'crates/vipr_c/out/libvipr.a') for word in ('-o', file)]
+    subprocess.run(['make', '--no-print-directory', '-s', *built, 'install', 'install-lib', f'DESTDIR={tree}', 'PREFIX=/'],
+                   cwd=TOP, stdout=subprocess.DEVNULL, check=True)
+    pc = tree / 'lib/pkgconfig/vipr.pc'
+    lines = {'prefix=': 'prefix=${pcfiledir}/../..', 'libdir=': 'libdir=${prefix}/lib'}
+    pc.write_text('\n'.join(next((new for old, new in lines.items() if it.startswith(old)), it)
+                            for it in pc.read_text().split('\n')))
+    for name in ('python', 'debian'):
+        shutil.copytree(TOP / name, tree / name, ignore=shutil.ignore_patterns('__pycache__', 'build', '*.egg-info'))
+    commit, day = said('git', 'rev-parse', 'HEAD'), int(said('git', 'log', '-1', '--format=%ct') or 0)
+    changed = ' with changes' if said('git', 'status', '--porcelain', '-uno') else ''
+    build = f'version: {version}\ncommit: {commit or "none"}{changed}\nkit: {said(os.environ.get("RT", "rt"), "version")}\n'
+    (tree / 'BUILD').write_text(build)
+    (tree / 'INSTALL').write_text(INSTALL.format(version=version))
+    maintainer = next(it[len('Maintainer: '):] for it in (tree / 'debian/control').read_text().split('\n')
+                      if it.startswith('Maintainer: '))
+    at = format_datetime(datetime.fromtimestamp(day, timezone.utc))
+    (tree / 'debian/changelog').write_text(f'vipr ({version}) unstable; urgency=medium\n\n  * CHANGELOG.md says what is new.\n\n'
+                                           f' -- {maintainer}  {at}\n')
+    files = sorted(it for it in tree.rglob('*') if it.is_file() and not it.is_symlink())
+    (tree / 'SHA256SUMS').write_text(''.join(
+        f'{hashlib.sha256(it.read_bytes()).hexdigest()}  {it.relative_to(tree)}\n' for it in files))
+    return day
+
+
+def pack(tree, archive, day):
+    """Writes a folder as an archive, in which nothing depends on when and by whom it was made."""
+    def plain(it):
+        it.uid = it.gid = 0
+        it.uname = it.gname = 'root'
+        it.mtime = day
+        it.mode = 0o755 if it.isdir() or it.mode & 0o100 else 0o644
+        return it
+    with open(archive, 'wb') as file, gzip.GzipFile('', 'wb', 9, file, 0) as packed:
+        with tarfile.open(fileobj=packed, mode='w', format=tarfile.GNU_FORMAT) as tar:
+            for path in [tree, *sorted(tree.rglob('*'))]:
+                tar.add(path, path.relative_to(tree.parent), recursive=False, filter=plain)
+
+
+def main():
+    if len(sys.argv) < 2:
+        print(__doc__.split('\n\n')[1])
+        return 2
+    version, folder = sys.argv[1], Path(sys.argv[2] if len(sys.argv) > 2 else TOP / 'dist')
+    folder.mkdir(parents=True, exist_ok=True)
+    archive = folder / f'vipr-{version}-linux-x86_64.tar.gz'
+    with tempfile.TemporaryDirectory(prefix='vipr-dist-') as name:
+        tree = Path(name) / f'vipr-{version}'
+        try:
+            pack(tree, archive, lay_out(tree, version))
+        except subprocess.CalledProcessError as fault:
+            print(f'{fault.cmd[0]} failed with status {fault.returncode}')
+            return 1
+    print(f'{archive} is made')
+    return 0
+
+
+if __name__ == '__main__':
+    sys.exit(main())
