@@ -23,7 +23,7 @@ INSTALLED = $(BIN)/vipr $(SHARE)/man/man1/vipr.1 $(SHARE)/bash-completion/comple
 	$(SHARE)/zsh/site-functions/_vipr $(SHARE)/fish/vendor_completions.d/vipr.fish
 # what is installed to be read: the pages, and what they link to
 PAGES = README.md CONTRIBUTING.md CHANGELOG.md LICENSE include/vipr.h $(wildcard docs/*.md docs/*.svg) \
-	$(wildcard examples/*.* examples/*/*.*)
+	$(wildcard examples/*.* examples/*/*.* examples/rust/src/*.rs examples/rust/src/bin/*.rs)
 DOC = $(SHARE)/doc/vipr
 
 # the library for C: its version is the program's

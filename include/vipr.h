@@ -3,7 +3,10 @@
  * crates/vipr_c proves what the calls answer; docs/LIBRARY.md says how to build and link them.
  * They keep nothing between calls and may be called from several threads at once. Their memory comes from malloc, realloc
  * and free, and all of it is given back before a call returns. A call takes less than 64 kB of stack, whatever the text.
- * Its time has no bound that is promised, and it can't be stopped: check a stranger's text in a process of its own. */
+ * Its time has no bound that is promised, and it can't be stopped: check a stranger's text in a process of its own.
+ *
+ * No pointer may be null, also if the size or the room is 0 (in C++ the data of an empty vector or string_view may be null).
+ * `size` is the number of bytes of the text, which isn't changed. */
 #ifndef VIPR_H
 #define VIPR_H
 
@@ -11,6 +14,8 @@
 #include <stdint.h>
 
 #define VIPR_VERSION "1.0.0"
+#define VIPR_VERSION_MAJOR 1
+#define VIPR_VERSION_MINOR 0
 
 #ifdef __cplusplus
 extern "C" {
@@ -45,25 +50,28 @@ struct vipr_answer {
     uint32_t goal;      /* the least index of one that does */
 };
 
-/* Checks the text of a certificate. Neither pointer may be null, also where the length is 0 (in C++ the data of an empty
- * vector or string_view may be null); the text isn't changed. */
-int32_t vipr_check(const uint8_t *text, size_t length, struct vipr_answer *answer);
+/* Checks the text of a certificate by the rules of the first profile. */
+int32_t vipr_check(const void *text, size_t size, struct vipr_answer *answer);
 
 /* The calls below write a text to a buffer of the caller, and its whole length to *length. They write at most `room`
  * bytes: the first of the text, without a 0 behind them. What the buffer held behind them stays. If the length is larger
- * than the room, call again with as much room. With VIPR_NO_PROFILE and VIPR_NO_MEMORY there is no text, and the length is
- * 0. No pointer may be null, also with room for no byte, and the buffer may not overlap the text. */
+ * than the room, call again with as much room: the work is done once more. With VIPR_NO_PROFILE and VIPR_NO_MEMORY there is
+ * no text, the length is 0, and so is all in the struct. The buffer may not overlap the text. */
 
-/* What `vipr check` prints of the text by the rules of a profile, 1 or 2: "verified range 1 1\nsolutions ..". The status is
- * that of vipr_check. */
-int32_t vipr_report(uint32_t profile, const uint8_t *text, size_t size, char *lines, size_t room, size_t *length);
+/* Room that is always enough for vipr_report. The texts of the others have no such bound: they quote rows and names. */
+#define VIPR_REPORT_ROOM 512
+
+/* Checks the text of a certificate by the rules of a profile, 1 or 2. Gives the numbers, and what `vipr check` prints, as
+ * "verified range 1 1\nsolutions 1 derived 5 peak 4\n": the claim is in the first line. */
+int32_t vipr_report(uint32_t profile, const void *text, size_t size, char *lines, size_t room, size_t *length,
+                    struct vipr_answer *answer);
 
 /* What `vipr explain` prints. */
-int32_t vipr_explain(uint32_t profile, const uint8_t *text, size_t size, char *lines, size_t room, size_t *length);
+int32_t vipr_explain(uint32_t profile, const void *text, size_t size, char *lines, size_t room, size_t *length);
 
 /* What `vipr show` writes, with `--compact` unless `compact` is 0. The answer has the refusal of a text that spells no
  * certificate; all else in it is 0. */
-int32_t vipr_show(uint32_t compact, const uint8_t *text, size_t size, char *shown, size_t room, size_t *length,
+int32_t vipr_show(uint32_t compact, const void *text, size_t size, char *shown, size_t room, size_t *length,
                   struct vipr_answer *answer);
 
 /* What became of a certificate that was to be tightened. What the status doesn't ask for is 0. */
@@ -78,14 +86,14 @@ struct vipr_figures {
 };
 
 /* What `vipr tighten` writes by the rules of a profile, with `--compact` unless `compact` is 0. */
-int32_t vipr_tighten(uint32_t profile, uint32_t compact, const uint8_t *text, size_t size, char *tightened, size_t room,
+int32_t vipr_tighten(uint32_t profile, uint32_t compact, const void *text, size_t size, char *tightened, size_t room,
                      size_t *length, struct vipr_figures *figures);
 
-/* The name of a cause, such as "NotDominated", to a buffer as above. Returns its length, 0 for a number that is no cause.
- * No name has more than 18 bytes: a buffer of 19 that is 0 before the call holds a string after it. */
+/* The name of a cause, such as "NotDominated", to a buffer as above, and a 0 behind it if there is room for that. Returns its
+ * length without the 0, which is 0 for a number that is no cause. No name has more than 18 bytes. */
 size_t vipr_cause_name(uint32_t cause, char *name, size_t room);
 
-/* The version of the library, VIPR_VERSION of the header that it was built with, to a buffer as above. Returns its length. */
+/* The version of the library, VIPR_VERSION of the header that it was built with, in the same way. */
 size_t vipr_version(char *version, size_t room);
 
 #ifdef __cplusplus

@@ -85,7 +85,7 @@ static int32_t run(struct job *it)
     case CHECK:
         return vipr_check(it->text, it->size, &it->answer);
     case REPORT:
-        return vipr_report(it->profile, it->text, it->size, it->buffer, it->room, &it->length);
+        return vipr_report(it->profile, it->text, it->size, it->buffer, it->room, &it->length, &it->answer);
     case EXPLAIN:
         return vipr_explain(it->profile, it->text, it->size, it->buffer, it->room, &it->length);
     case SHOW:
@@ -103,7 +103,7 @@ static int are_all(const void *bytes, size_t count, int value)
     return count == 0;
 }
 
-static int has_answer(const struct job *it) { return it->call == CHECK || it->call == SHOW; }
+static int has_answer(const struct job *it) { return it->call == CHECK || it->call == REPORT || it->call == SHOW; }
 
 /* Whether a call that lacked memory answered so, and kept none. */
 static int lacks(const struct job *it, int32_t status)
@@ -190,7 +190,7 @@ static int has_buffer(struct job *it)
 /* The name of a cause, or the version where there is none, in a buffer. */
 static int print_name(const char *cause, const char *room)
 {
-    struct job it = {REPORT, 0, 0, NULL, 0, number(room), 0, NULL, {0}, {0}};
+    struct job it = {EXPLAIN, 0, 0, NULL, 0, number(room), 0, NULL, {0}, {0}};
     if (!has_buffer(&it))
         return 2;
     memset(it.buffer, '.', it.room + 1);

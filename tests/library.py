@@ -23,7 +23,7 @@ import proved
 
 TOP = Path(__file__).resolve().parent.parent
 PROGRAM = Path(sys.argv[1] if len(sys.argv) > 1 else TOP / 'crates/vipr/out/vipr').resolve()
-COMPILERS = {'c': ('CC', 'cc', 'gcc'), 'cpp': ('CXX', 'c++', 'g++'), 'rust': ('RUSTC', 'rustc')}
+COMPILERS = {'c': ('CC', 'cc', 'gcc'), 'cpp': ('CXX', 'c++', 'g++'), 'rust': ('CARGO', 'cargo')}
 different = 0
 
 
@@ -94,11 +94,21 @@ def look_at_files(prefix):
             fail(f'pkg-config says {said}')
 
 
-def build(words):
-    done = subprocess.run(list(map(str, words)), stdout=subprocess.PIPE, stderr=subprocess.STDOUT, text=True, check=False)
+def build(words, places=None):
+    done = subprocess.run(list(map(str, words)), stdout=subprocess.PIPE, stderr=subprocess.STDOUT, text=True, check=False,
+                          env={**os.environ, **(places or {})})
     if done.returncode:
         fail(f'{" ".join(map(str, words))}: {done.stdout}')
     return done.returncode == 0
+
+
+def look_at_symbols(prefix):
+    """Each call of the shared library has the version of its first release, which is its soname's number."""
+    if shutil.which('nm'):
+        said = run('nm', '-D', '--defined-only', prefix / 'lib/libvipr.so').stdout.decode()
+        versions = set(re.findall(r'@@?(\w+)$', said, re.M))
+        if versions != {f'VIPR_{version().split(".")[0]}'}:
+            fail(f'the symbols have the versions {versions}')
 
 
 def look_at_header(prefix, room):
@@ -117,15 +127,18 @@ def callers(prefix, room):
     missing = [language for language in COMPILERS if not compiler(language)]
     for linked in ('shared', 'archive'):
         end = [lib / 'libvipr.a'] if linked == 'archive' else [f'-L{lib}', '-lvipr']
-        rust = ['-L', f'native={lib}'] + (['-l', 'static=vipr'] if linked == 'archive' else [])
         sources = TOP / 'examples'
         words = {'c': [sources / 'c/check.c', '-std=c99', '-D_POSIX_C_SOURCE=200809L', *strict, *end],
-                 'cpp': [sources / 'cpp/check.cpp', '-std=c++17', '-pthread', *strict, *end],
-                 'rust': [sources / 'rust/check.rs', '-O', '--edition', '2021', '-D', 'warnings', *rust]}
-        for language in COMPILERS:
+                 'cpp': [sources / 'cpp/check.cpp', '-std=c++17', '-pthread', *strict, *end]}
+        for language in ('c', 'cpp'):
             program = room / f'{language}_{linked}'
             if language not in missing and build([compiler(language), *words[language], '-o', program]):
                 yield f'{language}, {linked}', [program]
+        crate = [compiler('rust'), 'build', '--offline', '--locked', '--quiet', '--release', '--manifest-path',
+                 sources / 'rust/Cargo.toml', '--target-dir', room / f'rust_{linked}']
+        places = {'VIPR_LIB_DIR': str(lib), 'RUSTFLAGS': '-D warnings', **({'VIPR_STATIC': '1'} if linked == 'archive' else {})}
+        if 'rust' not in missing and build(crate, places):
+            yield f'rust, {linked}', [room / f'rust_{linked}/release/check']
     yield 'python', [sys.executable, TOP / 'examples/python/check.py']
     if missing:
         print(f'library: left out, for want of a compiler: {", ".join(missing)}')
@@ -145,6 +158,10 @@ def look_at_callers(prefix, room):
             count += len(files)
             if done.returncode != status or text not in (None, done.stdout):
                 fail(f'the caller in {name} answers {done.returncode}: {done.stdout}{done.stderr}')
+        for missing in (room, room / 'missing'):
+            done = subprocess.run([*words, missing, names[0]], env=environment, capture_output=True, text=True, check=False)
+            if done.returncode != 2 or lines[0] not in done.stdout:
+                fail(f'the caller in {name} answers {done.returncode} for {missing}: {done.stdout}{done.stderr}')
     return count
 
 
@@ -188,9 +205,9 @@ def calls(path, whole):
     said = run(PROGRAM, 'explain', path)
     yield ['check', 1, 0], (said.returncode, b'', ['answer', *answer(said.stdout)])
     for profile in (1, 2) if whole else (1,):
-        for call in ('report', 'explain'):
-            said = run(PROGRAM, {'report': 'check'}.get(call, call), '--profile', profile, path)
-            yield [call, profile, 0], (said.returncode, said.stdout, [])
+        said, explained = (run(PROGRAM, call, '--profile', profile, path) for call in ('check', 'explain'))
+        yield ['report', profile, 0], (said.returncode, said.stdout, ['answer', *answer(explained.stdout)])
+        yield ['explain', profile, 0], (explained.returncode, explained.stdout, [])
         for compact in (0, 1) if whole else (0,):
             said = run(PROGRAM, 'tighten', '--profile', profile, *['--compact'] * compact, path)
             yield ['tighten', profile, compact], (said.returncode, said.stdout, ['figures', *figures(said.stderr.rstrip())])
@@ -198,9 +215,9 @@ def calls(path, whole):
         said = run(PROGRAM, 'show', *['--compact'] * compact, path)
         yield ['show', 1, compact], (said.returncode, said.stdout, ['answer', *refusal(said.stderr.rstrip()), *[0] * 5])
     if whole:
-        for call in ('report', 'explain'):
-            yield [call, 0, 0], (2, b'', [])
-            yield [call, 3, 0], (2, b'', [])
+        for profile in (0, 3):
+            yield ['report', profile, 0], (2, b'', ['answer', *[0] * 8])
+            yield ['explain', profile, 0], (2, b'', [])
         yield ['tighten', 3, 0], (2, b'', ['figures', *[0] * 7])
 
 
@@ -209,6 +226,12 @@ def answered(room, status, text, numbers):
     held = text[:room] + b'.' * (room - len(text))
     words = ['status', status, 'length', len(text), *numbers]
     return held + b'\n' + ' '.join(map(str, words)).encode() + b'\n'
+
+
+def ended(room, word):
+    """The same for a word that has a 0 behind it, if there is room for that."""
+    held = (word + b'\0')[:room]
+    return held + b'.' * (room - len(held)) + f'\nstatus 0 length {len(word)}\n'.encode()
 
 
 def compare(words, rows):
@@ -237,9 +260,9 @@ def look_at_names(program):
     rows = []
     for cause in [*range(300), 2 ** 32 - 1]:
         name = names.get(str(cause), '').encode()
-        rows += [([cause, room], answered(room, 0, name, [])) for room in sorted({0, len(name), 20})]
+        rows += [([cause, room], ended(room, name)) for room in sorted({0, len(name), len(name) + 1, 20})]
     compare([program, 'name'], rows)
-    if run(program, 'version', 9).stdout != answered(9, 0, version().encode(), []) or len(names) < 30:
+    if run(program, 'version', 9).stdout != ended(9, version().encode()) or len(names) < 30:
         fail('the version, or too few names of causes')
 
 
@@ -294,6 +317,7 @@ def main():
             hand_back(top)
             look_at_files(prefix)
             look_at_header(prefix, room)
+            look_at_symbols(prefix)
             count = look_at_texts(prefix, room) + look_at_callers(prefix, room)
             look_at_memory(room / 'library', room)
             if make('uninstall-lib', top, prefix) and installed(prefix):

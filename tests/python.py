@@ -135,6 +135,8 @@ def calls(texts):
             status, out, fault = ran([PROGRAM, 'check', f'--profile={profile}'], text)
             verdict = vipr.check(text, profile)
             check(f'{verdict}\n'.encode() == out + fault and bool(verdict) == (status == 0), f'check: {verdict}, {out}')
+            goal = re.search(rb'^goal (\d+)', ran([PROGRAM, 'explain', f'--profile={profile}'], text)[1], re.M)
+            check(verdict.goal == (int(goal[1]) if goal and verdict else None), f'the goal is {verdict.goal}, not {goal}')
             check(vipr.explain(text, profile) == ran([PROGRAM, 'explain', f'--profile={profile}'], text)[1], 'explain differs')
         for words, compact in (([], False), (['--compact'], True)):
             for command, call in (('show', vipr.show), ('tighten', vipr.tighten)):

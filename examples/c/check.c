@@ -3,7 +3,8 @@
  *     cc check.c $(pkg-config --cflags --libs vipr) -o check
  *     ./check FILE..
  *
- * The exit status is the largest of the files': 0 verified, 1 refused, 3 no memory; 2 if one can't be read. */
+ * The exit status is the largest of the files': 0 verified, 1 refused, 3 no memory; 2 if one can't be read. A file that is
+ * cut by another process while it is checked ends this one by SIGBUS, as any mapped file does. */
 #include <fcntl.h>
 #include <stdio.h>
 #include <sys/mman.h>
@@ -12,15 +13,12 @@
 
 #include "vipr.h"
 
-/* The lines of a verdict have fewer bytes: the claim has at most two numbers, of at most 81 bytes each. */
-#define ROOM 512
-
 /* Prints the lines of a verdict as one. */
 static void print(const char *name, const char *lines, size_t length)
 {
     size_t at;
     printf("%s: ", name);
-    for (at = 0; at < length && at < ROOM; at++) {
+    for (at = 0; at < length && at < VIPR_REPORT_ROOM; at++) {
         if (lines[at] != '\n')
             putchar(lines[at]);
         else
@@ -33,8 +31,9 @@ static void print(const char *name, const char *lines, size_t length)
 /* Checks a file where it lies: its pages are mapped, so that a large one needs no memory of its own. */
 static int check(const char *name)
 {
-    char lines[ROOM];
+    char lines[VIPR_REPORT_ROOM];
     size_t length;
+    struct vipr_answer answer;
     struct stat about;
     const void *text = "";
     int32_t status;
@@ -46,7 +45,7 @@ static int check(const char *name)
     close(file);
     if (text == MAP_FAILED)
         return perror(name), 2;
-    status = vipr_report(1, text, (size_t)about.st_size, lines, ROOM, &length);
+    status = vipr_report(1, text, (size_t)about.st_size, lines, sizeof lines, &length, &answer);
     print(name, lines, length);
     if (about.st_size > 0)
         munmap((void *)text, (size_t)about.st_size);

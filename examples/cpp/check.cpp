@@ -34,19 +34,20 @@ std::string joined(std::string lines)
 
 Result check(const std::string &name)
 {
-    std::ifstream file(name, std::ios::binary);
-    if (!file)
+    std::string text;
+    try {
+        std::ifstream file;
+        file.exceptions(std::ios::failbit | std::ios::badbit);
+        file.open(name, std::ios::binary);
+        text.assign(std::istreambuf_iterator<char>(file), {});
+    } catch (const std::ios_base::failure &) {
+        // a missing file, and a folder, which is opened and can't be read
         return {2, name + ": can't be read"};
-    // the data of a string is never null, also of an empty one
-    const std::string text{std::istreambuf_iterator<char>(file), {}};
-    const auto *bytes = reinterpret_cast<const uint8_t *>(text.data());
-    std::string lines(128, '\0');
-    std::size_t length;
-    int status = vipr_report(1, bytes, text.size(), lines.data(), lines.size(), &length);
-    if (length > lines.size()) {
-        lines.resize(length);
-        status = vipr_report(1, bytes, text.size(), lines.data(), lines.size(), &length);
     }
+    std::string lines(VIPR_REPORT_ROOM, '\0');
+    std::size_t length;
+    vipr_answer answer;
+    const int status = vipr_report(1, text.data(), text.size(), &lines[0], lines.size(), &length, &answer);
     lines.resize(length);
     return {status, name + ": " + (status == VIPR_NO_MEMORY ? "no memory" : joined(lines))};
 }

@@ -8,7 +8,7 @@ import ctypes
 import ctypes.util
 import functools
 import os
-from dataclasses import dataclass
+from dataclasses import dataclass, replace
 from typing import Tuple
 
 from .verdict import Cause, Place, Refusal, Verdict
@@ -64,7 +64,8 @@ def _library() -> ctypes.CDLL:
     text, buffer = [_TEXT, _SIZE], [_TEXT, _SIZE, ctypes.POINTER(_SIZE)]
     try:
         library = ctypes.CDLL(name)
-        library.vipr_report.argtypes = library.vipr_explain.argtypes = [_NUMBER, *text, *buffer]
+        library.vipr_report.argtypes = [_NUMBER, *text, *buffer, ctypes.POINTER(_Answer)]
+        library.vipr_explain.argtypes = [_NUMBER, *text, *buffer]
         library.vipr_show.argtypes = [_NUMBER, *text, *buffer, ctypes.POINTER(_Answer)]
         library.vipr_tighten.argtypes = [_NUMBER, _NUMBER, *text, *buffer, ctypes.POINTER(_Figures)]
         library.vipr_version.argtypes, library.vipr_version.restype = [_TEXT, _SIZE], _SIZE
@@ -99,7 +100,9 @@ def check(text: bytes, profile: int = 1) -> Verdict:
 
     Raises BadProfile for another profile, OutOfMemory if memory was refused, and LibraryMissing.
     """
-    return Verdict.parse(_call('vipr_report', (profile,), text)[1].decode())
+    answer = _Answer()
+    verdict = Verdict.parse(_call('vipr_report', (profile,), text, answer)[1].decode())
+    return replace(verdict, goal=answer.goal) if answer.has_goal else verdict
 
 
 def explain(text: bytes, profile: int = 1) -> bytes:

@@ -110,13 +110,15 @@ class Verdict:
     """The answer on a text. It is true in a condition if the text is verified.
 
     A verified text has a claim, which is true of the problem in it, and counts: its solutions, its derivations, and how
-    many derived constraints had to be held at once. Any other has a refusal, and its counts are 0.
+    many derived constraints had to be held at once. `goal` is the constraint that proves the claim's dual side, None if
+    nothing has to be proved. Any other text has a refusal, and its counts are 0.
     """
     claim: Optional[Claim]
     refusal: Optional[Refusal]
     solutions: int = 0
     derived: int = 0
     peak: int = 0
+    goal: Optional[int] = None
 
     def __bool__(self) -> bool:
         return self.claim is not None

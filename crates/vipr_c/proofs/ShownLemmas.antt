@@ -9,7 +9,8 @@ use Rattle.vipr_write.specs.Forms.{text_in}
 use Rattle.vipr_write.specs.declared.form.Form.{Form}
 use Rattle.vipr_c.specs.Handed.{in_memory}
 use Rattle.vipr_c.specs.declared.answer.Answer.{Answer}
-use Rattle.vipr_c.specs.Written.{ReturnsText, WritesWhole, no_answer}
+use Rattle.vipr_c.specs.AnswerOf.{no_answer}
+use Rattle.vipr_c.specs.Written.{ReturnsText, WritesWhole}
 
 spelled : (bytes : List ℕ) (c : Certificate)
     → IfKnown (in_memory bytes) (λ i. certificate_read (text_of i) ≡ Ok c)

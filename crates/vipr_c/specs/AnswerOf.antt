@@ -1,6 +1,7 @@
 -- What a program in C gets of a verdict
 use Rattle.std.specs.Prelude.{ℕ, ℤ, pos, Option, Some, None, Result, Ok, Err}
 use Rattle.vipr_check.specs.declared.verdict.Fault.{Fault}
+use Rattle.vipr_check.specs.declared.verdict.Fault.TheVariants.{Memory}
 use Rattle.vipr_check.specs.declared.verdict.Place.{Place}
 use Rattle.vipr_check.specs.declared.verdict.Place.TheVariants.{Byte, Sol, Der, End}
 use Rattle.vipr_check.specs.declared.verdict.Verdict.{Verdict}
@@ -67,3 +68,6 @@ answer_of_verdict (Err e) =
       has_goal = 0;
       goal = 0;
     }
+
+abbrev pub no_answer : Answer
+no_answer = answer_of_verdict (Err Memory)

@@ -1,7 +1,7 @@
 -- What a call hands to a program in C: a status, and a text in a buffer
 use Rattle.std.specs.Prelude.{◌≡◌, ◌⊎◌, ℕ, ℤ, pos, ◌==◌, if◌then◌else◌, List, [], ◌++◌, length}
 use Rattle.std.specs.Prelude.{take, drop}
-use Rattle.std.specs.Prelude.{Option, Some, None, Result, Ok, codes, false}
+use Rattle.std.specs.Prelude.{Option, Some, None, Result, Ok, codes, false, set}
 use Rattle.vipr_spec.specs.Constraint as is
 use Rattle.vipr_spec.specs.Input.{Input}
 use Rattle.vipr_spec.specs.Verdict.{IsExplained}
@@ -16,9 +16,8 @@ use Rattle.vipr_check.specs.Text.{verdict_text}
 use Rattle.vipr_check.specs.declared.detail.Detail.{Detail}
 use Rattle.vipr_check.specs.declared.verdict.Fault.{Fault}
 use Rattle.vipr_check.specs.declared.verdict.Verdict.{Verdict}
-use Rattle.vipr_c.specs.AnswerOf.{status_of}
-use Rattle.vipr_c.specs.declared.report.Lines.{Lines}
-use Rattle.vipr_c.specs.declared.report.Lines.TheVariants.{Report, Explanation}
+use Rattle.vipr_c.specs.AnswerOf.{status_of, answer_of_verdict, no_answer}
+use Rattle.vipr_c.specs.declared.answer.Answer.{Answer}
 
 -- ---- the buffer
 
@@ -31,15 +30,14 @@ filled room text = take (length room) text ++ drop (length text) room
 abbrev pub Fills : List ℕ → List ℕ → List ℕ → ℕ → Type 0
 Fills text old new n = (new ≡ filled old text) × (n ≡ length text)
 
+-- a buffer with a word in front as far as there is room, and a 0 behind it if there is room
+abbrev pub ended : List ℕ → List ℕ → List ℕ
+ended room word = set (filled room word) (length word) 0
+
 -- ---- the profile
 
 abbrev pub profile_numbered : ℕ → Option Profile
 profile_numbered n = if n == 1 then Some One else (if n == 2 then Some Two else None)
-
--- the status and the text by the rules of a profile; 2 and no text if there is none
-abbrev pub ByProfile : Option Profile → (is.Profile → ℤ → List ℕ → Type 0) → ℤ → List ℕ → Type 0
-ByProfile (Some p) R status text = R (profile_of p) status text
-ByProfile None R status text = (status ≡ pos 2) × (text ≡ [])
 
 -- ---- the lines
 
@@ -51,13 +49,17 @@ in_memory bytes = Some (record { bytes = bytes; fails = false })
 abbrev pub HasNoMemory : ℤ → List ℕ → Type 0
 HasNoMemory status text = (status ≡ pos 3) × (text ≡ [])
 
+-- there is no such profile: 2, and no text
+abbrev pub HasNoProfile : ℤ → List ℕ → Type 0
+HasNoProfile status text = (status ≡ pos 2) × (text ≡ [])
+
 abbrev pub report_lines : Verdict → List ℕ
 report_lines v = verdict_text v ++ codes "\n"
 
--- the lines of the verdict on these bytes, with its status
-abbrev pub IsReport : List ℕ → is.Profile → ℤ → List ℕ → Type 0
-IsReport bytes P status text = (v : Verdict) × ChecksIn P (in_memory bytes) (Ok v)
-    × (status ≡ status_of (Ok v)) × (text ≡ report_lines v)
+-- the lines of the verdict on these bytes, with its status and its numbers
+abbrev pub IsReport : List ℕ → is.Profile → ℤ → List ℕ → Answer → Type 0
+IsReport bytes P status text answer = (v : Verdict) × ChecksIn P (in_memory bytes) (Ok v)
+    × (status ≡ status_of (Ok v)) × (text ≡ report_lines v) × (answer ≡ answer_of_verdict (Ok v))
 
 -- the lines of the verdict with those of its detail
 abbrev pub IsExplanation : List ℕ → is.Profile → ℤ → List ℕ → Type 0
@@ -72,17 +74,14 @@ pub record GivesDetail (bytes : List ℕ) (P : is.Profile) (r : Result (Verdict 
   pub verdict : ChecksIn P (in_memory bytes) (verdict_in r)
   pub detail : IfKnown (in_memory bytes) (λ i. SaysInDetail (IsExplained P (text_of i)) r)
 
-abbrev pub ReturnsReport : List ℕ → is.Profile → ℤ → List ℕ → Type 0
-ReturnsReport bytes P status text = IsReport bytes P status text ⊎ HasNoMemory status text
+-- the lines, status and numbers by the rules of a profile
+abbrev pub ReportsBy : Option Profile → List ℕ → ℤ → List ℕ → Answer → Type 0
+ReportsBy (Some p) bytes status text answer = IsReport bytes (profile_of p) status text answer
+    ⊎ (HasNoMemory status text × (answer ≡ no_answer))
+ReportsBy None bytes status text answer = HasNoProfile status text × (answer ≡ no_answer)
 
-abbrev pub ReturnsExplanation : List ℕ → is.Profile → ℤ → List ℕ → Type 0
-ReturnsExplanation bytes P status text = IsExplanation bytes P status text ⊎ HasNoMemory status text
-
--- the lines of which this says
-abbrev pub AreLines : Lines → List ℕ → is.Profile → ℤ → List ℕ → Type 0
-AreLines Report = IsReport
-AreLines Explanation = IsExplanation
-
-abbrev pub ReturnsLines : Lines → List ℕ → is.Profile → ℤ → List ℕ → Type 0
-ReturnsLines Report = ReturnsReport
-ReturnsLines Explanation = ReturnsExplanation
+-- the explanation and its status by the rules of a profile
+abbrev pub ExplainsBy : Option Profile → List ℕ → ℤ → List ℕ → Type 0
+ExplainsBy (Some p) bytes status text =
+    IsExplanation bytes (profile_of p) status text ⊎ HasNoMemory status text
+ExplainsBy None bytes status text = HasNoProfile status text

@@ -12,14 +12,13 @@ use Rattle.vipr_rules.specs.declared.profile.Profile.{Profile}
 use Rattle.vipr_write.specs.Forms.{text_in}
 use Rattle.vipr_write.specs.declared.form.Form.{Form}
 use Rattle.vipr_write.specs.declared.form.Form.TheVariants.{Canonical, Compact}
-use Rattle.vipr_check.specs.declared.verdict.Fault.TheVariants.{Memory}
 use Rattle.vipr_check.specs.declared.verdict.Place.TheVariants.{Byte}
 use Rattle.vipr_check.specs.declared.verdict.Verdict.TheVariants as verdict
 use Rattle.vipr_tighten.specs.Tightens.{TightensAs}
 use Rattle.vipr_tighten.specs.declared.outcome.Outcome.{Outcome}
 use Rattle.vipr_tighten.specs.declared.outcome.Outcome.TheVariants.{Tightened, Refused}
 use Rattle.vipr_c.specs.Handed.{HasNoMemory, in_memory}
-use Rattle.vipr_c.specs.AnswerOf.{kind_of_place, number_of_place, answer_of_verdict}
+use Rattle.vipr_c.specs.AnswerOf.{kind_of_place, number_of_place, answer_of_verdict, no_answer}
 use Rattle.vipr_c.specs.declared.answer.Answer.{Answer}
 use Rattle.vipr_c.specs.declared.tightened.Figures.{Figures}
 
@@ -32,9 +31,6 @@ abbrev pub holding : List ℕ → Output
 holding bytes = record { accepted = bytes; room = None }
 
 -- ---- a certificate that is shown
-
-abbrev pub no_answer : Answer
-no_answer = answer_of_verdict (Err Memory)
 
 -- the text of the certificate that these bytes spell, in a form
 abbrev pub IsRespelled : Form → List ℕ → ℤ → List ℕ → Answer → Type 0

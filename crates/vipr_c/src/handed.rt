@@ -1,7 +1,7 @@
 //! A status with a text, and how a text gets into a buffer.
 
-ghost use Rattle.std.specs.Prelude.{◌≡◌, [], MatchResult};
-ghost use Rattle.vipr_c.specs.Handed.{Fills, HasNoMemory, profile_numbered};
+ghost use Rattle.std.specs.Prelude.{◌≡◌, [], MatchResult, length};
+ghost use Rattle.vipr_c.specs.Handed.{Fills, HasNoMemory, ended, profile_numbered};
 
 use std::alloc::Global;
 use vipr_check::Fault;
@@ -60,6 +60,18 @@ pub(crate) fn fill(room: &mut [u8], text: &[u8]) -> usize
     let n = text.len().min(room.len());
     room[..n].copy_from_slice(&text[..n]);
     text.len()
+}
+
+/// Writes a word as `fill` does, and a 0 behind it if there is room for that, too.
+pub(crate) fn end(room: &mut [u8], word: &[u8]) -> usize
+    ensures word { room.new ≡ ended room.old word.now }
+    ensures count { result ≡ length word.now }
+{
+    let n = fill(room, word);
+    if n < room.len() {
+        room[n] = 0;
+    }
+    n
 }
 
 /// The profile with a number.

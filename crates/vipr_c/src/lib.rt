@@ -9,19 +9,17 @@ mod report;
 mod shown;
 mod tightened;
 
-ghost use Rattle.std.specs.Prelude.{◌≡◌, ℕ, List, Result, Some, codes, false};
+ghost use Rattle.std.specs.Prelude.{◌≡◌, ℕ, List, Result, Some, codes, false, length};
 ghost use Rattle.vipr_spec.specs.Causes.{cause_name};
 ghost use Rattle.vipr_check.specs.Checks.{Checks};
 ghost use Rattle.vipr_check.specs.declared.verdict.Fault.{Fault as Failure};
 ghost use Rattle.vipr_check.specs.declared.verdict.Verdict.{Verdict as Answered};
 ghost use Rattle.vipr_c.specs.AnswerOf.{status_of, answer_of_verdict};
-ghost use Rattle.vipr_c.specs.Handed.{ByProfile, Fills, ReturnsExplanation, ReturnsReport};
-ghost use Rattle.vipr_c.specs.Handed.{profile_numbered};
+ghost use Rattle.vipr_c.specs.Handed.{ExplainsBy, Fills, ReportsBy, ended, profile_numbered};
 ghost use Rattle.vipr_c.specs.Written.{ReturnsText, TightensBy, form_flagged};
 
 use crate::answer::{Answer, answer_of, status};
-use crate::handed::fill;
-use crate::report::Lines;
+use crate::handed::end;
 use crate::shown::form_flagged;
 use crate::tightened::Figures;
 use std::alloc::Global;
@@ -48,8 +46,9 @@ fn verdict_on(alloc: Global, text: &[u8]) -> Result<Verdict, Fault>
 }
 
 /// Writes what `vipr check` prints of the text, by the rules of a profile, to `lines`: as many
-/// bytes as there is room for. `length` gets how many there are, and the status is that of
-/// `vipr_check`, or 2 and no line for a profile that is neither 1 nor 2.
+/// bytes as there is room for. `length` gets how many there are, `answer` the numbers of the
+/// verdict, and the status is that of `vipr_check`, or 2 and no line for a profile that is neither
+/// 1 nor 2.
 #[unsafe(no_mangle)]
 pub extern "C" fn vipr_report(
     alloc: Global,
@@ -57,12 +56,15 @@ pub extern "C" fn vipr_report(
     text: &[u8],
     lines: &mut [u8],
     length: &mut usize,
+    answer: &mut Answer,
 ) -> i32
     ensures { (made : List ℕ)
-        × ByProfile (profile_numbered profile) (ReturnsReport text.now) result made
+        × ReportsBy (profile_numbered profile) text.now result made answer.new
         × Fills made lines.old lines.new length.new }
 {
-    report::lines_on(alloc, Lines::Report, profile, text).hand_over(lines, length)
+    let (made, numbers) = report::report_on(alloc, profile, text);
+    *answer = numbers;
+    made.hand_over(lines, length)
 }
 
 /// Writes what `vipr explain` prints of the text, in the form of `vipr_report`.
@@ -75,10 +77,10 @@ pub extern "C" fn vipr_explain(
     length: &mut usize,
 ) -> i32
     ensures { (made : List ℕ)
-        × ByProfile (profile_numbered profile) (ReturnsExplanation text.now) result made
+        × ExplainsBy (profile_numbered profile) text.now result made
         × Fills made lines.old lines.new length.new }
 {
-    report::lines_on(alloc, Lines::Explanation, profile, text).hand_over(lines, length)
+    report::explanation_on(alloc, profile, text).hand_over(lines, length)
 }
 
 /// Writes what `vipr show` does of the text, in its compact form unless `compact` is 0, in the form
@@ -124,20 +126,23 @@ pub extern "C" fn vipr_tighten(
     made.hand_over(tightened, length)
 }
 
-/// Writes the name of a cause to `name`, as many bytes as there is room for, and returns how many
-/// it has: 0 for a number that is no cause.
+/// Writes the name of a cause to `name`, as many bytes as there is room for, and a 0 behind it if
+/// there is room for that, too. Returns how many bytes the name has: 0 for a number that is no
+/// cause.
 #[unsafe(no_mangle)]
 pub extern "C" fn vipr_cause_name(cause: u32, name: &mut [u8]) -> usize
-    ensures { Fills (cause_name cause) name.old name.new result }
+    ensures word { name.new ≡ ended name.old (cause_name cause) }
+    ensures count { result ≡ length (cause_name cause) }
 {
-    fill(name, name::of_cause(cause).as_bytes())
+    end(name, name::of_cause(cause).as_bytes())
 }
 
-/// Writes the version to `version`, as many bytes as there is room for, and returns how many it
+/// Writes the version to `version` in the form of `vipr_cause_name`, and returns how many bytes it
 /// has.
 #[unsafe(no_mangle)]
 pub extern "C" fn vipr_version(version: &mut [u8]) -> usize
-    ensures { Fills (codes "1.0.0") version.old version.new result }
+    ensures word { version.new ≡ ended version.old (codes "1.0.0") }
+    ensures count { result ≡ length (codes "1.0.0") }
 {
-    fill(version, "1.0.0".as_bytes())
+    end(version, "1.0.0".as_bytes())
 }

@@ -1,55 +1,57 @@
 //! The lines of `vipr check` and `vipr explain`, with their status.
 
-ghost use Rattle.std.specs.Prelude.{◌≡◌, IfOk, Ok};
+ghost use Rattle.std.specs.Prelude.{◌≡◌, IfOk, Ok, Some};
 ghost use Rattle.vipr_rules.specs.Profile.{profile_of};
 ghost use Rattle.vipr_check.specs.Checks.{ChecksIn};
 ghost use Rattle.vipr_check.specs.Explanation.{explained_text};
 ghost use Rattle.vipr_c.specs.AnswerOf.{status_of};
-ghost use Rattle.vipr_c.specs.Handed.{AreLines, ByProfile, GivesDetail, IsExplanation, IsReport};
-ghost use Rattle.vipr_c.specs.Handed.{ReturnsLines, in_memory, profile_numbered, report_lines};
+ghost use Rattle.vipr_c.specs.Handed.{ExplainsBy, GivesDetail, IsExplanation, IsReport, ReportsBy};
+ghost use Rattle.vipr_c.specs.Handed.{in_memory, profile_numbered, report_lines};
 
-use crate::handed::{Handed, NO_PROFILE, profile_numbered};
+use crate::answer::{Answer, NOTHING, answer_of};
+use crate::handed::{Handed, NO_MEMORY, NO_PROFILE, profile_numbered};
 use std::alloc::{AllocError, Global};
 use vipr_bytes::Bytes;
 use vipr_check::{Detail, Explanation, Fault, Verdict, check_in, explain_in};
 use vipr_rules::{LiveOnly, Profile};
 
-/// Which lines are made.
-#[derive(Clone, Copy)]
-pub(crate) enum Lines {
-    /// Those of the verdict.
-    Report,
-    /// Those of the verdict with those of its detail.
-    Explanation,
-}
-
-/// The lines on a text by the rules of the profile with this number.
-pub(crate) fn lines_on(alloc: Global, which: Lines, profile: u32, text: &[u8]) -> Handed
-    ensures { ByProfile (profile_numbered profile) (ReturnsLines which text.now) result.status
-        result.text.items }
+/// What `vipr check` prints of a text by the rules of the profile with this number, and the numbers
+/// of its verdict.
+pub(crate) fn report_on(alloc: Global, profile: u32, text: &[u8]) -> (Handed, Answer)
+    ensures { ReportsBy (profile_numbered profile) text.now result.0.status result.0.text.items
+        result.1 }
 {
     match profile_numbered(profile) {
-        Some(profile) => Handed::or_no_memory(alloc, lines_by(alloc, which, profile, text)),
+        Some(profile) => report_by(alloc, profile, text),
+        None => (Handed::nothing(alloc, NO_PROFILE), NOTHING),
+    }
+}
+
+fn report_by(alloc: Global, profile: Profile, text: &[u8]) -> (Handed, Answer)
+    ensures { ReportsBy (Some profile) text.now result.0.status result.0.text.items result.1 }
+{
+    match verdict_lines(alloc, profile, text) {
+        Ok(report) => report,
+        Err(_) => (Handed::nothing(alloc, NO_MEMORY), NOTHING),
+    }
+}
+
+/// What `vipr explain` prints of a text by the rules of the profile with this number.
+pub(crate) fn explanation_on(alloc: Global, profile: u32, text: &[u8]) -> Handed
+    ensures { ExplainsBy (profile_numbered profile) text.now result.status result.text.items }
+{
+    match profile_numbered(profile) {
+        Some(profile) => { Handed::or_no_memory(alloc, explanation_lines(alloc, profile, text)) }
         None => Handed::nothing(alloc, NO_PROFILE),
     }
 }
 
-fn lines_by(alloc: Global, which: Lines, profile: Profile, text: &[u8]) -> Result<Handed, Fault>
-    ensures { IfOk result
-        (λ lines. AreLines which text.now (profile_of profile) lines.status lines.text.items) }
-{
-    match which {
-        Lines::Report => verdict_lines(alloc, profile, text),
-        Lines::Explanation => explanation_lines(alloc, profile, text),
-    }
-}
-
-fn verdict_lines(alloc: Global, profile: Profile, text: &[u8]) -> Result<Handed, Fault>
-    ensures { IfOk result
-        (λ lines. IsReport text.now (profile_of profile) lines.status lines.text.items) }
+fn verdict_lines(alloc: Global, profile: Profile, text: &[u8]) -> Result<(Handed, Answer), Fault>
+    ensures { IfOk result (λ report. IsReport text.now (profile_of profile) report.0.status
+        report.0.text.items report.1) }
 {
     match verdict_on(alloc, profile, text) {
-        Ok(verdict) => Ok(lines_of(alloc, verdict)?),
+        Ok(verdict) => Ok((lines_of(alloc, verdict)?, answer_of(&Ok(verdict)))),
         Err(fault) => Err(fault),
     }
 }
@@ -81,7 +83,7 @@ fn explanation_lines(alloc: Global, profile: Profile, text: &[u8]) -> Result<Han
     ensures { IfOk result
         (λ lines. IsExplanation text.now (profile_of profile) lines.status lines.text.items) }
 {
-    let (verdict, detail) = explanation_on(alloc, profile, text)?;
+    let (verdict, detail) = detail_on(alloc, profile, text)?;
     let lines = explained(alloc, &verdict, &detail);
     // Dropped at this one place, whether or not there is memory.
     drop(detail);
@@ -92,7 +94,7 @@ fn explanation_lines(alloc: Global, profile: Profile, text: &[u8]) -> Result<Han
     })
 }
 
-fn explanation_on(alloc: Global, profile: Profile, text: &[u8]) -> Result<(Verdict, Detail), Fault>
+fn detail_on(alloc: Global, profile: Profile, text: &[u8]) -> Result<(Verdict, Detail), Fault>
     ensures { GivesDetail text.now (profile_of profile) result }
 {
     explain_in(alloc, profile, Bytes::new(text))

@@ -1,4 +1,4 @@
-use Rattle.vipr_c.proofs.report.explanation_on.Goals as goal
+use Rattle.vipr_c.proofs.report.detail_on.Goals as goal
 
 pub returns : goal.returns
 returns c = record {
