@@ -47,7 +47,7 @@ def folder(room):
     for name in ('Makefile', 'crates.txt'):
         copy.mkdir(exist_ok=True)
         shutil.copy(TOP / name, copy)
-    for name in ('crates', 'include', 'tools'):
+    for name in ('crates', 'include', 'tests', 'tools'):
         shutil.copytree(TOP / name, copy / name, ignore=shutil.ignore_patterns('incremental'))
     return copy if proved.take_over(TOP, copy) else TOP
 
