@@ -7,13 +7,19 @@ usage: (make build; python3 tests/all.py --anew) > LOG 2>&1     in a clone witho
 If LOG has no `make build`, BUILD is the log of one, with the line `commit: ..` of the commit that was built. It may be the
 log of `make lib` or `make wrong`, too. Each BUILD may also have the yardstick alone, in the line that `make build` prints of it (`[1 of 1] vipr_spec 24 s, 41 s of processor
 time`): that is what `time rt lib --jobs 2` takes in its folder, just before LOG and just after it. All are written, in
-the order of the logs. The exit status is 1, and nothing is written, if LOG has no whole run of `make test`.
+the order of the logs.
+
+It also adds to docs/PROOF.md which wrong versions the run's sample tried and the prover refused. The exit status is 1, and
+nothing is written, if LOG has no whole run of `make test`.
 """
 import re
 import sys
 from pathlib import Path
 
 TOP = Path(__file__).resolve().parent.parent
+sys.path.insert(0, str(TOP / 'tools'))
+import wrong  # noqa: E402
+
 PAGE = TOP / 'docs/GATE.md'
 HEAD = """# What the gate takes
 
@@ -55,6 +61,8 @@ class Run:
         sample = re.findall(r'^(\d+) refused, (\d+) not$', text, re.M)
         self.edits = f'{edits[-1] if edits else 0} of `must-fail/`'
         self.edits += f', {sample[-1][0]} of {sum(map(int, sample[-1]))} tried of `wrong/`' if sample else ''
+        refused = re.findall(rf'^{wrong.REFUSED}(.*)$', text, re.M)
+        self.tried = re.findall(r'\S+ ([0-9a-f]+)', refused[-1]) if refused else []
 
     def take(self, other):
         """Takes the yardstick of another log, and the commands that this one hasn't."""
@@ -116,6 +124,9 @@ def main(words):
         return 1
     PAGE.write_text(f'{HEAD}\n{page(run)}')
     print(f'{PAGE.relative_to(TOP)} is written')
+    proof = wrong.counted_anew(wrong.PAGE.read_text(), run.tried)
+    if proof:
+        wrong.PAGE.write_text(proof)
     return 0
 
 

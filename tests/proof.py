@@ -1,6 +1,6 @@
 #!/usr/bin/env python3
-"""Writes the tables of docs/CONTRACTS.md from the sources, and how many edits there are into docs/PROOF.md, or says
-whether both are current.
+"""Writes the tables of docs/CONTRACTS.md from the sources, and how many edits there are into docs/PROOF.md, and how many
+came since `make wrong` was last run whole, or says whether both are current.
 
 usage: tests/proof.py [--check]
 
@@ -8,13 +8,16 @@ A row for each public call: the call, the names of its clauses (`-` for one with
 cite, the laws that its proof cites, and the edits of its code: those of must-fail/, which `make test` tries, and those
 of wrong/, which `make wrong` tries. Edits of what lies below the public calls, of definitions and of laws stand in the
 lines below a crate's table. Of docs/PROOF.md it says which crate has no heading there, and which clause in brackets is
-none of the calls before it, or of the record behind `of`.
+none of the calls before it, or of the record behind `of`. Without git and the commit of that run, what came since is left
+out, and a line says so.
 """
 import os
 import re
 import sys
 
 from sources import TOP, crates, replaced
+sys.path.insert(0, str(TOP / 'tools'))
+import wrong  # noqa: E402
 
 PROOF, CONTRACTS = TOP / 'docs/PROOF.md', TOP / 'docs/CONTRACTS.md'
 EDITS = '<!-- edits: written by `tests/proof.py` -->', '<!-- end of the edits -->'
@@ -194,6 +197,14 @@ def how_many():
                       + '.', EDITS[1]])
 
 
+def came_since(text):
+    """The page with the edits counted that came since all were tried, if git knows the commit."""
+    made = wrong.counted_anew(text)
+    if made is None:
+        print('proof: no git, or not the commit of the last whole run of make wrong, so what came since is left out')
+    return made or text
+
+
 def clauses_of(crate):
     """By the name of a function of the crate, of a trait's member or of a record, the names of its clauses. A word that
     abbreviates a record has those of the record."""
@@ -239,9 +250,10 @@ def main():
     for fault in faults:
         print(f'{os.path.relpath(PROOF, TOP)}: {fault}')
     current = True
-    for page, marks, made in ((CONTRACTS, MARKS, tables()), (PROOF, EDITS, how_many())):
+    for page, made in ((CONTRACTS, lambda text: replaced(text, MARKS, tables())),
+                       (PROOF, lambda text: came_since(replaced(text, EDITS, how_many())))):
         text = page.read_text()
-        new = replaced(text, marks, made)
+        new = made(text)
         if '--check' in sys.argv:
             current = current and new == text
             print(f'{os.path.relpath(page, TOP)} is {"current" if new == text else "not what tests/proof.py makes of the sources"}')

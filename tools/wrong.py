@@ -9,14 +9,17 @@ than everything else together. Each is checked on a copy, over what the crate's 
 it changes, then all of its file, then the whole crate, and that once more from nothing; each only if what came before is
 still proved with the edit. Edits of one file follow one another. Crates are tried side by side, as many as memory allows.
 
-Without words all are tried, and the day, the commit and the result are written into docs/PROOF.md. A run that is cut
-off goes on where it was: an edit that was refused over the same text isn't tried once more. --sample tries N that follow
-one another, and each commit begins where the one before ends: as many commits as there are edits try each of them N
-times. Without all commits the text of the crates chooses. It takes over what `rt ci` proved, if nothing changed since:
-then no more is proved than the functions that are changed and, once, those that they call.
+Without words all are tried, and the day, the commit and the result are written into docs/PROOF.md. Behind them stands
+what came since: how many edits were added or changed, by git, and how many of those samples refused. `tests/proof.py`
+counts the former anew, and `tests/gate.py` adds the latter, from the log of a run. A run that is cut off goes on where it
+was: an edit that was refused over the same text isn't tried once more.
 
-Prints what each came to, and last `N refused, M not`; the exit status is 1 if one isn't refused, or if a crate
-isn't proved without an edit.
+--sample tries N that follow one another, and each commit begins where the one before ends: as many commits as there are
+edits try each of them N times. Without all commits the text of the crates chooses. It takes over what `rt ci` proved, if
+nothing changed since: then no more is proved than the functions that are changed and, once, those that they call.
+
+Prints what each came to, which were refused, each with its git blob, and last `N refused, M not`; the exit status is 1
+if one isn't refused, or if a crate isn't proved without an edit.
 """
 import datetime
 import hashlib
@@ -37,7 +40,9 @@ import proved  # noqa: E402
 from sources import replaced  # noqa: E402
 
 PAGE = TOP / 'docs/PROOF.md'
-MARKS = '<!-- last run: written by `make wrong` -->', '<!-- end of the last run -->'
+MARKS = '<!-- last run: written by `make wrong`, and what came since by `tests/proof.py` -->', '<!-- end of the last run -->'
+# what a run prints of edits that were refused, and where the page keeps the blobs of those that samples refused since
+REFUSED, TRIED = 'refused of wrong/: ', '<!-- refused by samples, by their git blobs:'
 # a place that a check names, and what it says of a proof that only lacks a name which the edit took away
 PLACE = re.compile(r'(note: )?\S+:\d+:\d+:')
 NAMES = re.compile(r'(note: )?(\./)?proofs/.*(has no field|is not in scope|has no `|was not admitted|were not checked)')
@@ -230,6 +235,35 @@ def at_once():
     return max(1, min(len(os.sched_getaffinity(0)), int(free[1]) // ROOM if free else 1))
 
 
+def blob(path):
+    """How git names an edit's text, shortened."""
+    data = path.read_bytes()
+    return hashlib.sha1(b'blob %d\0' % len(data) + data).hexdigest()[:12]
+
+
+def since(whole, tried):
+    """The lines about a whole run and what came since it: how many of today's edits its commit lacks, and how many of these are
+    among those that samples refused. None if git doesn't know the commit."""
+    commit = re.search(r'at commit (\w+)', whole)
+    listed = git('ls-tree', '-r', commit[1], 'crates') if commit else None
+    if listed is None:
+        return None
+    then = {row.split()[2][:12] for row in listed.split('\n') if re.search(r'/wrong/[^/]*\.edit$', row)}
+    new = {blob(path) for path in TOP.glob('crates/*/wrong/*.edit')} - then
+    known = sorted(new & set(tried))
+    said = f'samples tried {len(known)} of these, and all were refused' if known else 'no sample of these is recorded yet'
+    lines = [MARKS[0], whole, f'Since then {len(new)} were added or changed; {said}.']
+    return '\n'.join([*lines, *[f'{TRIED} {" ".join(known)} -->'] * bool(known), MARKS[1]])
+
+
+def counted_anew(page, more=()):
+    """The page with the edits counted anew that came since the whole run; `more` were refused, too. None if that can't be done here."""
+    part = page.split(MARKS[0] + '\n', 1)[1].split(MARKS[1], 1)[0].split('\n')
+    tried = [word for line in part if line.startswith(TRIED) for word in re.findall(r'\b[0-9a-f]{12}\b', line)]
+    made = since(part[0], [*tried, *more])
+    return made and replaced(page, MARKS, made)
+
+
 def record(results):
     """Writes what a whole run came to into docs/PROOF.md."""
     commit = git('rev-parse', '--short=7', 'HEAD')
@@ -239,7 +273,7 @@ def record(results):
     said = f'all {len(results)} were refused' if not lost else (
         f'{len(results) - len(lost)} of {len(results)} were refused, and not: {", ".join(lost)}')
     line = f'`make wrong` was last run whole on {datetime.date.today()}, {tree}: {said}.'
-    PAGE.write_text(replaced(PAGE.read_text(), MARKS, f'{MARKS[0]}\n{line}\n{MARKS[1]}'))
+    PAGE.write_text(replaced(PAGE.read_text(), MARKS, since(line, []) or f'{MARKS[0]}\n{line}\n{MARKS[1]}'))
 
 
 def main(words):
@@ -278,6 +312,8 @@ def main(words):
                     for name, there in dearest]
             results = [it for run in runs for it in run.result()]
     lost = [name for name, refused in results if not refused]
+    blobs = {f'{path.parent.parent.name}/{path.stem}': blob(path) for path in paths}
+    print(REFUSED + ', '.join(f'{name} {blobs[name]}' for name, refused in results if refused))
     if not words:
         record(results)
         usage = resource.getrusage(resource.RUSAGE_CHILDREN)
