@@ -7,7 +7,7 @@ usage: (make build; python3 tests/all.py --anew) > LOG 2>&1     in a clone witho
 If LOG has no `make build`, BUILD is the log of one, with the line `commit: ..` of the commit that was built. It may be the
 log of `make lib` or `make wrong`, too. Each BUILD may also have the yardstick alone, in the line that `make build` prints of it (`[1 of 1] vipr_spec 24 s, 41 s of processor
 time`): that is what `time rt lib --jobs 2` takes in its folder, just before LOG and just after it. All are written, in
-the order of the logs.
+the order of the logs. A table has what the prover said of each crate: the last line of its proof, word by word.
 
 It also adds to docs/PROOF.md which wrong versions the run's sample tried and the prover refused. The exit status is 1, and
 nothing is written, if LOG has no whole run of `make test`.
@@ -29,6 +29,12 @@ STUB = 'No run is written here yet.\n'
 # the crate whose build shows how fast a machine is: `make build` builds it first, beside the small `vipr_shared`
 YARDSTICK = 'vipr_spec'
 KINDS = ('proof', 'tests', 'edits')
+# what `rt ci` prints of a crate that it proves: among other lines how many functions it tried for a contract that no call can
+# meet, and the verdict
+PROVED = re.compile(r'^== (\w+)(: its tests)?\n((?:(?!== ).*\n)*?)rt: \1(?:: its tests are)? proved$', re.M)
+EMPTY = re.compile(r'^empty contracts: (\d+) found; tried (\d+) of (\d+) functions$', re.M)
+LOOKED = 'Tried: found'
+VERDICT = re.compile(r'^(?:\S+=\S+ )*logic=\w+(?: \S+=\S+)*$', re.M)
 
 
 def number(text):
@@ -63,6 +69,7 @@ class Run:
         self.edits += f', {sample[-1][0]} of {sum(map(int, sample[-1]))} tried of `wrong/`' if sample else ''
         refused = re.findall(rf'^{wrong.REFUSED}(.*)$', text, re.M)
         self.tried = re.findall(r'\S+ ([0-9a-f]+)', refused[-1]) if refused else []
+        self.verdicts = dict(verdicts(text))
 
     def take(self, other):
         """Takes the yardstick of another log, and the commands that this one hasn't."""
@@ -73,6 +80,29 @@ class Run:
 
     def is_whole(self):
         return bool(self.said and self.result and any(re.search(r'rt ci( --anew)?$', name) for name, _, _ in self.steps))
+
+
+def verdicts(text):
+    """Of each crate that was proved, or of its tests, the words of the verdict, and how many functions were tried."""
+    for crate, tests, said in PROVED.findall(text):
+        last, looked = VERDICT.findall(said), EMPTY.findall(said)
+        if last:
+            words = dict(word.split('=', 1) for word in last[-1].split())
+            yield f'{crate}{tests}', words | {LOOKED: '{1} of {2}: {0}'.format(*looked[-1]) if looked else ''}
+
+
+def said_of_proofs(found):
+    """The table of what the prover said of each crate; above it stands what it said of all."""
+    words = dict.fromkeys(word for it in found.values() for word in it)
+    shared = [word for word in words if word != LOOKED and len({it.get(word) for it in found.values()}) == 1]
+    rest = [word for word in words if word != LOOKED and word not in shared]
+    first = next(iter(found.values()))
+    return ['', '## What the prover said', '',
+            'The last line that `rt ci` printed of each crate that this run proved, word by word; [PROOF.md](PROOF.md) says what the words '
+            f'mean. All of them have {", ".join(f"`{word}={first[word]}`" for word in shared)}. The last column '
+            'is how many functions the prover tried to find a contract that no call can meet, and how many have one.', '',
+            row('Crate', *(f'`{word}`' for word in rest), LOOKED), '|---' * (2 + len(rest)) + '|',
+            *(row(f'`{name}`', *(it.get(word, '') for word in rest), it[LOOKED]) for name, it in sorted(found.items()))]
 
 
 def row(*cells):
@@ -109,6 +139,8 @@ def page(run):
         lines.append(row(f'`{crate}`', built, *run.crates.get(crate, [''] * len(KINDS))))
     sums = [float(sum(it[at] for it in run.crates.values())) for at in range(len(KINDS))]
     lines.append(row('all', sum(it[1] for it in run.built.values()) / 60 if run.built else '', *sums))
+    if run.verdicts:
+        lines += said_of_proofs(run.verdicts)
     return '\n'.join(lines) + '\n'
 
 
