@@ -22,9 +22,9 @@ import time
 from collections import defaultdict
 from pathlib import Path
 
-import proved
+from texts import SKIPPED, TOP
+import kit
 
-TOP = Path(__file__).resolve().parent.parent
 RT = os.environ.get('RT', 'rt')
 # what to run once the program is built, in the repository's folder
 SCRIPTS = [
@@ -45,13 +45,10 @@ SCRIPTS = [
     ['tests/dist.py'],
     ['tests/pages.py'],
     ['tests/language.py'],
-    ['tests/commands.py'],
     ['tests/proof.py', '--check'],
     ['tests/interface.py'],
     ['docs/architecture.py', '--check'],
 ]
-# a line by which a script says that it left something out, since one of these tools isn't installed
-SKIPPED = re.compile(r'\w+: (?=.*\b(?:strace|valgrind|GNU time|compiler|git)\b).*(?:\bno\b|left out|skipped)')
 TICKS = os.sysconf('SC_CLK_TCK')
 SECONDS_BETWEEN = 1
 
@@ -157,8 +154,8 @@ def timed(words):
 
 
 def main():
-    if proved.without_toolchain():
-        print(proved.without_toolchain())
+    if kit.missing():
+        print(kit.missing())
         return 2
     print(*machine(), sep='\n', flush=True)
     with Watch() as watch:
@@ -168,13 +165,13 @@ def main():
     passed, failed = map(int, counted.groups()) if counted else (0, 1)
     failed += bool(status and not failed)
     if not status:
-        proved.write_sum(TOP)
+        kit.write_sum()
     for script in SCRIPTS:
         _, status, more = timed([sys.executable, *script])
         passed, failed, skipped = passed + (status == 0), failed + (status != 0), skipped + more
     for file in [TOP / 'crates/vipr/out/vipr', *sorted((TOP / 'crates/vipr_c/out').glob('libvipr.*'))]:
         if file.is_file():
-            print(f'sha256 {proved.sum_of(file)} {file.name}')
+            print(f'sha256 {kit.sum_of(file)} {file.name}')
     print(f'{passed} passed, {failed} failed' + (f', {skipped} skipped' if skipped else ''))
     return 1 if failed else 0
 

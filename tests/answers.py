@@ -10,27 +10,18 @@ the files that are written. Streams that fail are tried by tests/hostile.py and 
 
 Prints each fault, and last `answers: N checks, F failed`; the exit status is 1 where one failed.
 """
-import array
-import fcntl
 import itertools
 import multiprocessing
 import os
-import subprocess
 import sys
 import tempfile
-import termios
-import threading
-import time
 from pathlib import Path
 
-TOP = Path(__file__).resolve().parent.parent
-sys.path.insert(0, str(TOP / 'bench'))
-from plain_check import readable  # noqa: E402
+from texts import TOP, Checks, fed, program
+from plain_check import readable
 
-PROGRAM = Path(sys.argv[1] if len(sys.argv) > 1 else TOP / 'crates/vipr/out/vipr').resolve()
+PROGRAM = program(sys.argv[1:])
 COMMANDS = ['check', 'explain', 'show', 'tighten']
-# a run that takes longer is ended, and its answer is none that is wanted
-SECONDS = 60
 # the largest number
 M = 2**127 - 1
 
@@ -278,44 +269,16 @@ WRONG = [
 HELP = ['check    Checks a certificate', 'explain  Checks a certificate', 'show     Writes a certificate',
         'tighten  Writes a verified certificate', 'help     Print this message']
 
-results = []
+CHECKS = Checks('answers')
+check = CHECKS.check
 numbers = itertools.count()
-
-
-def check(good, what):
-    results.append(good)
-    if not good:
-        print(what, flush=True)
 
 
 # ---- runs
 
-def is_unread(pipe):
-    """Whether bytes that were written to a pipe wait to be read."""
-    count = array.array('i', [0])
-    fcntl.ioctl(pipe, termios.FIONREAD, count)
-    return count[0] > 0
-
-
 def answer(words, *pieces, folder=None):
-    """What is printed on both outputs, and the exit status, where standard input comes in these pieces."""
-    read, write = os.pipe()
-    with subprocess.Popen(['vipr', *words], executable=PROGRAM, stdin=read, stdout=subprocess.PIPE,
-                          stderr=subprocess.PIPE, cwd=folder) as child:
-        os.close(read)
-        clock = threading.Timer(SECONDS, child.kill)
-        clock.start()
-        try:
-            for piece in pieces:
-                while is_unread(write) and child.poll() is None:
-                    time.sleep(0)
-                os.write(write, piece)
-        except BrokenPipeError:
-            pass
-        os.close(write)
-        printed, complained = child.communicate()
-        clock.cancel()
-    return printed, complained, child.returncode
+    """What is answered if standard input comes in these pieces."""
+    return fed(['vipr', *words], pieces, executable=PROGRAM, cwd=folder)
 
 
 def expect(what, wanted, words, *pieces, folder=None):
@@ -601,10 +564,10 @@ def other_words():
 
 
 def done(task):
-    """Does a task in a process of its own, and gives its results."""
-    results.clear()
+    """Does a task in a process of its own, and gives how many checks it made, and how many failed."""
+    CHECKS.count = CHECKS.failed = 0
     task[0](*task[1:])
-    return results
+    return CHECKS.count, CHECKS.failed
 
 
 def main():
@@ -617,11 +580,10 @@ def main():
     tasks += [(words_are_wrong, *row) for row in WRONG]
     tasks += [(files_stay,), (other_words,)]
     with multiprocessing.get_context('fork').Pool(os.cpu_count()) as pool:
-        for more in pool.imap_unordered(done, tasks):
-            results.extend(more)
-    failed = results.count(False)
-    print(f'answers: {len(results)} checks, {failed} failed')
-    return 1 if failed else 0
+        for count, failed in pool.imap_unordered(done, tasks):
+            CHECKS.count += count
+            CHECKS.failed += failed
+    return CHECKS.end()
 
 
 with tempfile.TemporaryDirectory(prefix='vipr-answers-') as ROOM:

@@ -17,12 +17,12 @@ run failed.
 import os
 import re
 import shutil
-import subprocess
 import sys
 import tempfile
 from pathlib import Path
 
-from texts import TOP, program, text_of
+from sources import replaced
+from texts import TOP, Checks, program, run, text_of
 import families
 
 PAGE = TOP / 'docs/SECURITY.md'
@@ -67,18 +67,15 @@ def filter_of(calls, name):
     """A program that runs another one, which is killed at any other call; None if it can't be made or is of no use here."""
     compiler, path = shutil.which('cc'), Path(ROOM, f'{name}.c')
     path.write_text(FILTER % ', '.join(f'SYS_{call}' for call in sorted(calls)))
-    made = compiler and subprocess.run([compiler, '-o', path.with_suffix(''), path], capture_output=True, check=False)
-    if not made or made.returncode:
+    if not compiler or run([compiler, '-o', path.with_suffix(''), path]).returncode:
         return None
-    tried = subprocess.run([path.with_suffix(''), PROGRAM, '--version'], capture_output=True, check=False)
-    return None if tried.returncode == 99 else str(path.with_suffix(''))
+    return None if run([path.with_suffix(''), PROGRAM, '--version']).returncode == 99 else path.with_suffix('')
 
 
 def traced(words, text=b'', options=()):
     """The calls of a run, each whole, those of the loader and those of the program."""
     with tempfile.NamedTemporaryFile(dir=OUTSIDE) as file:
-        subprocess.run(['strace', '-f', '-qq', *options, '-o', file.name, PROGRAM, *words], input=text, capture_output=True,
-                       cwd=ROOM, check=False)
+        run(['strace', '-f', '-qq', *options, '-o', file.name, PROGRAM, *words], text, cwd=ROOM)
         calls = [re.sub(r'^\d+ +', '', line) for line in Path(file.name).read_text(errors='replace').split('\n')]
     calls = [line for line in calls if re.match(r'\w+\(', line)]
     begins = next((n for n, line in enumerate(calls) if line.startswith(BEGINS)), len(calls))
@@ -147,45 +144,41 @@ def table(found):
 
 
 def main():
-    count, failed, found, kept = 0, 0, {None: set(), False: set(), True: set()}, []
-    between = re.compile(re.escape(MARKS[0]) + '.*?' + re.escape(MARKS[1]), re.S)
+    found, kept = {None: set(), False: set(), True: set()}, []
     page = PAGE.read_text(encoding='utf-8')
-    rows = re.findall(r'^\| .* \| (.*) \|$', between.search(page)[0], re.M)[1:]
+    rows = re.findall(r'^\| .* \| (.*) \|$', page.split(MARKS[0])[1].split(MARKS[1])[0], re.M)[1:]
     known = [set(re.findall(r'`(\w+)`', row)) for row in rows]
     for words, text, paths, is_out, options in runs():
         loader, own = traced(words, text, options)
         kept.append((words, text, is_out))
         found[None] |= names(loader)
         found[is_out] |= names(own)
-        count += 1
         folders = {it.parent for it in paths} | {Path('/')}
         beside = {path for path in opened(own) if path.parent not in folders and path not in folders}
         if not is_out:
             beside = opened(own) - paths - {Path(it) for it in IN_PLACE}
         wrong = [] if WRITES else sorted(names(own) - known[0] - (known[1] if is_out else set()))
-        if beside or wrong or not own:
-            failed += 1
-            print(f'vipr {" ".join(words)}: calls {wrong}, opens {sorted(map(str, beside))}, {len(own)} calls')
+        CHECKS.check(own and not beside and not wrong,
+                     f'vipr {" ".join(words)}: calls {wrong}, opens {sorted(map(str, beside))}, {len(own)} calls')
     if WRITES:
-        PAGE.write_text(between.sub(lambda _: table(found), page), encoding='utf-8')
+        PAGE.write_text(replaced(page, MARKS, table(found)), encoding='utf-8')
     filters = [filter_of(known[0] | known[2], 'most'), filter_of(known[0] | known[1] | known[2], 'out')]
-    if None in filters:
+    if not shutil.which('cc'):
+        CHECKS.skip('C compiler', 'no run is tried under a filter of its calls')
+    elif None in filters:
         print('calls: no filter of system calls can be made here, so none is tried')
     for words, text, is_out in kept if not WRITES and None not in filters else []:
-        done = subprocess.run([filters[is_out], PROGRAM, *words], input=text, capture_output=True, cwd=ROOM, check=False)
-        count += 1
-        if not 0 <= done.returncode <= 3:
-            failed += 1
-            print(f'vipr {" ".join(words)} under a filter: status {done.returncode}')
-    print(f'calls: {count} runs, {failed} failed')
-    return int(failed > 0)
+        status = run([filters[is_out], PROGRAM, *words], text, cwd=ROOM).returncode
+        CHECKS.check(status in range(4), f'vipr {" ".join(words)} under a filter: status {status}')
+    return CHECKS.end()
 
 
+CHECKS = Checks('calls', 'runs')
 WRITES = '--write' in sys.argv
 PROGRAM = program([word for word in sys.argv[1:] if word != '--write'])
 with tempfile.TemporaryDirectory(prefix='vipr-calls-') as ROOM, tempfile.TemporaryDirectory() as OUTSIDE:
     if not shutil.which('strace') or not any(traced(['--version'])):
-        print('calls: strace is not here or may not trace, so no call is looked at')
+        CHECKS.skip('strace that may trace', 'no call is looked at')
         STATUS = 0
     else:
         STATUS = main()

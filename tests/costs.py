@@ -17,13 +17,13 @@ of processor time`; the exit status is 1 if one failed.
 """
 import os
 import re
-import subprocess
 import sys
 import tempfile
 from concurrent.futures import ThreadPoolExecutor
 from pathlib import Path
 
-from texts import GNU_TIME, TOP, VALGRIND, described, instructions, peak, program, spent, text_of
+from sources import replaced
+from texts import GNU_TIME, TOP, VALGRIND, Checks, described, instructions, peak, program, run, spent, text_of
 import families
 
 # what doesn't meet its bound yet: pairs of a family's name and a command
@@ -44,15 +44,15 @@ STEPS_LENGTH, STEPS_MOST = 20_000, {'split_on_rows': 13_000_000, 'wide_divisors'
 SECONDS = 10
 PAGE = TOP / 'docs/SECURITY.md'
 MARKS = '<!-- costs: written by `tests/costs.py --write` -->', '<!-- end of the costs -->'
-results, unmet = [], set()
+CHECKS, unmet = Checks('costs'), set()
 
 
 def check(good, name, command, what):
     is_open = (name, command) in OPEN
-    results.append(good or is_open)
     unmet.update([(name, command)] if not good else [])
-    if not good:
-        print(f'{name}: {command}: {what}' + (' (open)' if is_open else ''))
+    CHECKS.check(good or is_open, f'{name}: {command}: {what}')
+    if is_open and not good:
+        print(f'{name}: {command}: {what} (open)')
 
 
 def file_of(family, command, length):
@@ -176,9 +176,8 @@ def long_growth(task):
         name, text = list(long_texts(n))[task[0]]
         path = Path(ROOM_FOR_FILES, f'long.{task[0]}.{which}')
         path.write_text(text, encoding='utf-8')
-        run = subprocess.run([VALGRIND, '--tool=callgrind', '--callgrind-out-file=/dev/null', PROGRAM, 'explain',
-                              '--long', path], capture_output=True, check=False, timeout=20 * SECONDS)
-        found = re.search(rb'Collected : (\d+)', run.stderr)
+        words = [VALGRIND, '--tool=callgrind', '--callgrind-out-file=/dev/null', PROGRAM, 'explain', '--long', path]
+        found = re.search(rb'Collected : (\d+)', run(words, timeout=20 * SECONDS).stderr)
         known.append((found and int(found[1]), len(text)))
     (first, size), (second, larger) = known
     return name, None if None in (first, second) else second / first / (larger / size / 4)
@@ -192,10 +191,10 @@ def long_growths(pool):
 
 
 def main():
-    for tool, what in ((VALGRIND, 'valgrind, so instructions are not counted'),
-                       (GNU_TIME, 'GNU time, so memory is not measured')):
-        if not tool:
-            print(f'costs: no {what}')
+    if not VALGRIND:
+        CHECKS.skip('valgrind', 'no instructions are counted')
+    if not GNU_TIME:
+        CHECKS.skip('GNU time', 'no memory is measured')
     with ThreadPoolExecutor(os.cpu_count()) as pool:
         first = list(growths(pool))
         second = list(memory(pool)) if GNU_TIME else []
@@ -204,12 +203,10 @@ def main():
             long_growths(pool)
     if WRITES:
         text = PAGE.read_text(encoding='utf-8')
-        between = re.escape(MARKS[0]) + '.*?' + re.escape(MARKS[1])
-        PAGE.write_text(re.sub(between, lambda _: table(first, second), text, flags=re.S), encoding='utf-8')
+        PAGE.write_text(replaced(text, MARKS, table(first, second)), encoding='utf-8')
     for name, command in sorted(OPEN - unmet):
         print(f'{name}: {command}: meets its bound, and is in OPEN')
-    print(f'costs: {len(results)} checks, {results.count(False)} failed, {spent():.0f} seconds of processor time')
-    return int(False in results)
+    return CHECKS.end(f', {spent():.0f} seconds of processor time')
 
 
 WRITES = '--write' in sys.argv

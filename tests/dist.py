@@ -18,21 +18,15 @@ import sys
 import tempfile
 from pathlib import Path
 
-TOP = Path(__file__).resolve().parent.parent
+from texts import TOP, Checks
+
 VERSION = re.search(r'VIPR_VERSION "(.*)"', (TOP / 'include/vipr.h').read_text())[1]
 PATH = '/usr/sbin:/usr/bin:/sbin:/bin'
 EXAMPLE = 'share/doc/vipr/examples/infeasible.vipr'
 VERDICT = 'verified infeas\nsolutions 0 derived 1 peak 1\n'
-checks = failed = 0
+CHECKS = Checks('dist')
+check = CHECKS.check
 left_out = []
-
-
-def check(good, what):
-    global checks, failed
-    checks += 1
-    if not good:
-        failed += 1
-        print(str(what)[:2000])
 
 
 class Place:
@@ -112,7 +106,10 @@ def packages(place):
 def main():
     root = Path(sys.argv[1]).resolve() if len(sys.argv) > 1 else None
     if not (TOP / 'crates/vipr_c/out/libvipr.a').is_file():
-        print('dist: not made, for want of the library: make lib')
+        if shutil.which('cc'):
+            print('dist: not made, for want of the library: make lib')
+        else:
+            CHECKS.skip('C compiler', 'there is no library, and no archive was made')
         return 0
     with tempfile.TemporaryDirectory(prefix='vipr-dist-', dir=root and root / 'tmp') as name:
         folder = Path(name)
@@ -124,10 +121,11 @@ def main():
         place = Place(folder / f'vipr-{VERSION}', root)
         use(place)
         packages(place)
+    if 'cc' in left_out:
+        CHECKS.skip('C compiler', 'the library of the archive was not linked')
     if left_out:
         print(f'dist: left out, for want of {", ".join(left_out)}')
-    print(f'dist: {checks} checks, {failed} failed')
-    return 1 if failed else 0
+    return CHECKS.end()
 
 
 if __name__ == '__main__':

@@ -21,13 +21,12 @@ import multiprocessing
 import os
 import random
 import re
-import subprocess
 import sys
 import tempfile
 from collections import Counter
 from pathlib import Path
 
-from texts import examples, program, spent, text_of
+from texts import examples, program, run, spent, text_of
 from plain_check import explained, verdict
 from plain_show import shown
 from plain_tighten import tightened
@@ -125,8 +124,7 @@ def against_models(number):
         for profile in PROFILES.get(command, [1, 2]):
             words = [command, '--profile', '2'] if profile == 2 else [command]
             wanted = model(text, profile)
-            done = subprocess.run([PROGRAM, *words], input=text, capture_output=True, check=False)
-            got = done.stdout, done.stderr, done.returncode
+            got = run([PROGRAM, *words], text)
             counts[f'{" ".join(words)}: status {wanted[2]}'] += 1
             if got != wanted:
                 found.append(f'text {number}: vipr {" ".join(words)}: wanted {wanted!r}, got {got!r}: {text[:2000]!r}')
@@ -136,10 +134,8 @@ def against_models(number):
 def fault(command, words, text, file, out):
     """What is wrong with a run, or nothing."""
     before = out.read_bytes() if out and out.exists() else None
-    try:
-        done = subprocess.run([PROGRAM, *words], input=b'' if file else text, capture_output=True, timeout=LONGEST,
-                              check=False)
-    except subprocess.TimeoutExpired:
+    done = run([PROGRAM, *words], b'' if file else text, timeout=LONGEST)
+    if done.returncode is None:
         return f'takes more than {LONGEST} seconds'
     answer = f'status {done.returncode}, {done.stdout[:200]!r}, {done.stderr[:200]!r}'
     if (command, done.returncode) not in LINES:
@@ -148,7 +144,7 @@ def fault(command, words, text, file, out):
     if not re.fullmatch(said, done.stderr):
         return answer
     if out and done.returncode == 0:
-        again = subprocess.run([PROGRAM, 'check', *words[1:3], out], capture_output=True, check=False)
+        again = run([PROGRAM, 'check', *words[1:3], out])
         return None if again.returncode == 0 and not done.stdout else f'{answer}; OUT is {again.stdout[:200]!r}'
     if out and (out.read_bytes() if out.exists() else None) != before:
         return f'{answer}; OUT was changed'

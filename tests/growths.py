@@ -24,7 +24,10 @@ import tempfile
 from concurrent.futures import ThreadPoolExecutor
 from pathlib import Path
 
-TOP = Path(__file__).resolve().parent.parent
+from sources import crates
+from texts import TOP, Checks
+
+CHECKS = Checks('growths', 'runs')
 # its growths are refused by tests/hostile.py
 PROGRAM = 'vipr'
 # tests whose growths aren't refused: reading and writing bytes takes no memory of its own
@@ -86,35 +89,31 @@ def chosen(last):
 
 def libraries():
     """The libraries with tests."""
-    names = [line.split(':')[0].split()[0] for line in (TOP / 'crates.txt').read_text().split('\n') if ':' in line]
-    return [it for it in names if it != PROGRAM
+    return [it for it in crates() if it != PROGRAM
             and any('#[test]' in file.read_text() for file in (TOP / 'crates' / it / 'src').rglob('*.rt'))]
 
 
 def main():
     compiler = os.environ.get('CC') or shutil.which('cc') or shutil.which('gcc')
     if not compiler:
-        print('growths: no C compiler, so no growth was refused')
+        CHECKS.skip('C compiler', 'no growth was refused')
         return 0
-    runs = failed = 0
     with tempfile.TemporaryDirectory(prefix='vipr-growths-') as room, ThreadPoolExecutor(os.cpu_count()) as pool:
         library = f'{room}/refuse.so'
         subprocess.run([compiler, '-O1', '-shared', '-fPIC', '-o', library, TOP / 'tests/refuse.c'], check=True)
         for crate in sys.argv[1:] or libraries():
             program = TOP / f'crates/{crate}/out/{crate}_tests'
             if not program.exists():
-                failed += 1
-                print(f'{crate}: its tests are not built')
+                CHECKS.fail(f'{crate}: its tests are not built')
                 continue
             tests = Tests(program, library, room)
             of_crate = [tests.refuse_each(pool, name) for name in tests.names]
             tried, bad = sum(it[0] for it in of_crate), [line for it in of_crate for line in it[1]]
-            runs, failed = runs + tried, failed + len(bad)
+            CHECKS.count += tried
             for it in bad:
-                print(f'{crate} {it}')
+                CHECKS.fail(f'{crate} {it}')
             print(f'{crate}: {tried} runs, {len(bad)} failed')
-    print(f'growths: {runs} runs, {failed} failed')
-    return 1 if failed or not runs else 0
+    return CHECKS.end() or int(not CHECKS.count)
 
 
 sys.exit(main())

@@ -34,12 +34,11 @@ import threading
 from concurrent.futures import ThreadPoolExecutor
 from pathlib import Path
 
-TOP = Path(__file__).resolve().parent.parent
-sys.path.insert(0, str(TOP / 'bench'))
-import families  # noqa: E402
-from plain_check import verdict  # noqa: E402
+from texts import TOP, Checks, program, run, spent, text_of
+import families
+from plain_check import verdict
 
-PROGRAM = str(Path(sys.argv[1] if len(sys.argv) > 1 else TOP / 'crates/vipr/out/vipr').resolve())
+PROGRAM = program(sys.argv[1:])
 M = 2**127 - 1
 MEMORY = b'', b'fault memory\n', 3
 READ = b'', b'fault read\n', 3
@@ -47,8 +46,8 @@ ROOM = 64 << 20
 STACK = 64 << 10
 # families whose sets of assumptions the rules ask for, each anew
 GROWS = {'growing'}
-failures = []
-runs = 0
+CHECKS = Checks('hostile', 'runs')
+expect = CHECKS.expect
 
 
 class Answer(tuple):
@@ -121,23 +120,14 @@ SERVERS = Servers()
 
 def answer(words, text=b'', settings=None, room=None):
     """Runs the program, with the library of refused calls where there are settings."""
-    global runs
-    runs += 1
+    CHECKS.count += 1
     if settings is not None:
         server = SERVERS.take(words)
         out = server.answer(text, settings)
         SERVERS.put(server)
         return out
     limit = (lambda: resource.setrlimit(resource.RLIMIT_AS, (room, room))) if room else None
-    done = subprocess.run([PROGRAM, *words], input=text, capture_output=True, env={'PATH': '/usr/bin:/bin'},
-                          preexec_fn=limit, timeout=120, check=False)
-    return Answer((done.stdout, done.stderr, done.returncode))
-
-
-def expect(what, got, *wanted):
-    if tuple(got) not in [tuple(it) for it in wanted]:
-        failures.append(what)
-        print(f'{what}: {tuple(got)!r:.300}, wanted {tuple(wanted[0])!r:.300}')
+    return Answer(run([PROGRAM, *words], text, env={'PATH': '/usr/bin:/bin'}, preexec_fn=limit))
 
 
 def each(action, items):
@@ -294,16 +284,14 @@ def streams(commands):
         expect(f'{command} of a folder', answer([command, WORK]), READ)
         expect(f'{command} of a file that is not there', answer([command, WORK + '/missing']), READ)
         for name, words in (('a full device', '> /dev/full'), ('a closed output', '>&-')):
-            done = subprocess.run(['sh', '-c', f'exec "$0" "$1" {words}', PROGRAM, command], input=text,
-                                  capture_output=True, check=False)
-            expect(f'{command} to {name}', (done.stderr, done.returncode), (b'fault write after 0\n', 3))
-        done = subprocess.run(['sh', '-c', 'exec "$0" "$1" <&-', PROGRAM, command], capture_output=True, check=False)
-        expect(f'{command} from a closed input', (done.stdout, done.stderr, done.returncode), READ)
+            got = run(['sh', '-c', f'exec "$0" "$1" {words}', PROGRAM, command], text)
+            expect(f'{command} to {name}', got[1:], (b'fault write after 0\n', 3))
+        expect(f'{command} from a closed input', run(['sh', '-c', 'exec "$0" "$1" <&-', PROGRAM, command]), READ)
         read, write = os.pipe()
         os.close(read)
-        done = subprocess.run([PROGRAM, command], input=text, stdout=write, stderr=subprocess.PIPE, check=False)
+        got = run([PROGRAM, command], text, stdout=write)
         os.close(write)
-        expect(f'{command} to a broken pipe', (done.stderr, done.returncode), (b'fault write after 0\n', 3))
+        expect(f'{command} to a broken pipe', got[1:], (b'fault write after 0\n', 3))
     if 'tighten' in commands:
         expect('OUT in a folder that is not there', answer(['tighten', '--out', WORK + '/missing/x'], text),
                (b'', b'fault write after 0\n', 3))
@@ -316,11 +304,10 @@ def closed(*numbers):
 
 def streams_closed(commands):
     """Each set of the three streams is closed, and a text comes from a file or from standard input."""
-    global runs
     texts = [TOP / 'examples/cutoff_loose.vipr', TOP / 'examples/false_claims/gap.vipr', TOP / 'examples/lenient.vipr']
     sets = [which for size in (1, 2, 3) for which in itertools.combinations((0, 1, 2), size)]
     for command, path, which, is_file in itertools.product(commands, texts, sets, (True, False)):
-        runs += 1
+        CHECKS.count += 1
         words, text = [command, str(path)] if is_file else [command], path.read_bytes()
         printed, said, status = whole = answer([command], text)
         if 0 in which and not is_file:
@@ -331,29 +318,25 @@ def streams_closed(commands):
         with tempfile.TemporaryFile() as file:
             file.write(text)
             file.seek(0)
-            done = subprocess.run([PROGRAM, *words], stdin=file, capture_output=True, preexec_fn=closed(*which),
-                                  check=False)
-        got = done.stdout, done.stderr, done.returncode
+            got = run([PROGRAM, *words], stdin=file, preexec_fn=closed(*which))
         expect(f'{" ".join(words)} with {which} closed', got, wanted)
         expect(f'{path} with {which} closed', (path.read_bytes(),), (text,))
 
 
 def limit_of_files(command, most):
     """A limit on the length of files: the signal ends a run, or the write fails where the caller ignores it."""
-    global runs
     path = TOP / 'examples/long_chain.vipr'
     printed = answer([command, str(path)])[0]
     for ignores in (False, True):
-        runs += 1
+        CHECKS.count += 1
 
         def limit():
             signal.signal(signal.SIGXFSZ, signal.SIG_IGN if ignores else signal.SIG_DFL)
             resource.setrlimit(resource.RLIMIT_FSIZE, (most, most))
         with tempfile.TemporaryFile() as output:
-            done = subprocess.run([PROGRAM, command, str(path)], stdout=output, stderr=subprocess.PIPE,
-                                  preexec_fn=limit, check=False)
+            said = run([PROGRAM, command, path], stdout=output, preexec_fn=limit)
             output.seek(0)
-            got = output.read(), done.stderr, done.returncode
+            got = output.read(), *said[1:]
         wanted = printed[:most], b'', -signal.SIGXFSZ
         if ignores:
             wanted = printed[:most], b'fault write after %d\n' % most, 3
@@ -362,36 +345,33 @@ def limit_of_files(command, most):
 
 def streams_that_do_not_wait(commands):
     """An input without a byte, and an output without room, that give an error in place of waiting."""
-    global runs
     for command in commands:
-        runs += 1
+        CHECKS.count += 1
         read, write = os.pipe2(os.O_NONBLOCK)
-        done = subprocess.run([PROGRAM, command], stdin=read, capture_output=True, check=False)
+        got = run([PROGRAM, command], stdin=read)
         os.close(read), os.close(write)
-        expect(f'{command} of an input that does not wait', (done.stdout, done.stderr, done.returncode), READ)
+        expect(f'{command} of an input that does not wait', got, READ)
     if 'show' in commands:
-        runs += 1
-        text = ''.join(f'{line}\n' for line in families.chain(200_000)).encode()
+        CHECKS.count += 1
+        text = text_of(families.chain, 200_000)
         read, write = os.pipe2(os.O_NONBLOCK)
         room = fcntl.fcntl(write, fcntl.F_GETPIPE_SZ)
-        done = subprocess.run([PROGRAM, 'show'], input=text, stdout=write, stderr=subprocess.PIPE, check=False)
+        said = run([PROGRAM, 'show'], text, stdout=write)
         os.close(write)
         with open(read, 'rb') as rest:
             printed = rest.read()
-        expect('show to an output that does not wait', (printed, done.stderr, done.returncode),
+        expect('show to an output that does not wait', (printed, *said[1:]),
                (answer(['show'], text)[0][:room], b'fault write after %d\n' % room, 3))
 
 
 def little_stack(commands):
     """Texts of each family in 64 kB of stack."""
     def one(task):
-        global runs
-        runs += 1
+        CHECKS.count += 1
         family, command = task
-        text = ''.join(f'{line}\n' for line in family(20_000)).encode()
-        done = subprocess.run([PROGRAM, command], input=text, capture_output=True, timeout=120, check=False,
-                              preexec_fn=lambda: resource.setrlimit(resource.RLIMIT_STACK, (STACK, STACK)))
-        expect(f'{command} of {family.__name__} in {STACK} bytes of stack', (done.returncode,), (0,))
+        got = run([PROGRAM, command], text_of(family, 20_000),
+                  preexec_fn=lambda: resource.setrlimit(resource.RLIMIT_STACK, (STACK, STACK)))
+        expect(f'{command} of {family.__name__} in {STACK} bytes of stack', got.returncode, 0)
     every = families.FAMILIES + families.HOSTILE + families.KEPT
     each(one, itertools.product(every, commands))
 
@@ -488,8 +468,7 @@ def names_at_a_refusal():
 
 def long_comment(length):
     """A comment that is longer than the memory that the program may ask for."""
-    global runs
-    runs += 1
+    CHECKS.count += 1
     text = (TOP / 'examples/infeasible.vipr').read_bytes()
     piece = b'c' * (1 << 20)
     with subprocess.Popen([PROGRAM, 'check'], stdin=subprocess.PIPE, stdout=subprocess.PIPE,
@@ -541,11 +520,9 @@ def main():
             writes_to_out(loose, loose.read_bytes())
             short_writes_to_out(loose, loose.read_bytes())
     else:
-        print('hostile: no C compiler is here, so the runs with refused calls are left out')
+        CHECKS.skip('C compiler', 'the runs with refused calls are left out')
     SERVERS.end()
-    spent = sum(resource.getrusage(who)[k] for who in (resource.RUSAGE_CHILDREN, resource.RUSAGE_SELF) for k in (0, 1))
-    print(f'hostile: {runs} runs, {len(failures)} failed, {spent:.0f} seconds of processor time')
-    return 1 if failures else 0
+    return CHECKS.end(f', {spent():.0f} seconds of processor time')
 
 
 with tempfile.TemporaryDirectory(prefix='hostile-') as WORK:

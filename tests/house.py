@@ -391,12 +391,15 @@ def versions_agree():
 
 
 def named_files_are_there():
-    """Each file of the repository that a page names in code quotes is there, in the folder or crate that it names."""
-    listed = subprocess.run(['git', 'ls-files'], cwd=ROOT, capture_output=True, text=True, check=True).stdout.split('\n')
+    """Each file of the repository that a page names in code quotes is there, in the folder or crate that it names; docs/GATE.md
+    has the scripts of the commit that it is of."""
+    listed = (wrong.git('ls-files') or '').split('\n')
+    if not any(listed):
+        print('house: no git that knows this folder, so the files that pages name are not looked for')
     # as they are named: STATEMENT.md leaves out `crates` and `specs`
     known = ['/' + path for path in listed] + ['/' + path.replace('crates/', '').replace('/specs/', '/') for path in listed]
     for page in listed:
-        if page.endswith('.md'):
+        if page.endswith('.md') and page != 'docs/GATE.md':
             for n, line in enumerate(read(os.path.join(ROOT, page)).split('\n'), 1):
                 for name in re.findall(r'`([\w./-]*\w\.(?:rt|antt|py))`', line):
                     if not any(path.endswith('/' + name) for path in known):

@@ -23,25 +23,18 @@ import tempfile
 import threading
 from pathlib import Path
 
-import proved
+from sources import replaced
+from texts import TOP, Checks, program
+import kit
 
-TOP = Path(__file__).resolve().parent.parent
-WORDS = [word for word in sys.argv[1:] if word != '--write']
-PROGRAM = Path(WORDS[0] if WORDS else TOP / 'crates/vipr/out/vipr').resolve()
+PROGRAM = program([word for word in sys.argv[1:] if word != '--write'])
 MAN, USE = TOP / 'man/vipr.1', TOP / 'docs/USE.md'
 USE_MARKS = ('<!-- exit statuses: written by `tests/interface.py --write` from the man page -->', '<!-- end of the exit statuses -->')
 INSTALLED = ['bin/vipr', 'share/bash-completion/completions/vipr', 'share/fish/vendor_completions.d/vipr.fish',
              'share/man/man1/vipr.1', 'share/zsh/site-functions/_vipr']
 DOC = 'share/doc/vipr'
-checks = failed = 0
-
-
-def check(good, what):
-    global checks, failed
-    checks += 1
-    if not good:
-        failed += 1
-        print(what)
+CHECKS = Checks('interface')
+check = CHECKS.check
 
 
 def help_of(*words):
@@ -80,7 +73,8 @@ def values_in(about):
     return list(found.groups()) if found else []
 
 
-def program():
+def described():
+    """What the help says of the program: a line, its commands, and its options."""
     text = help_of()
     return text.split('\n')[0], [Command(*row) for row in section(text, 'Commands') if row[0] != 'help'], \
         [(re.findall(r'--?[a-zA-Z][a-z-]*', words), about) for words, about in section(text, 'Options')]
@@ -217,8 +211,7 @@ def man(parts):
         if start not in text:
             check(False, f'man/vipr.1 has no part {word}')
             continue
-        front, rest = text.split(start, 1)
-        text = front + start + '\n'.join(lines) + '\n' + end + rest.split(end, 1)[1]
+        text = replaced(text, (start, end), start + '\n'.join(lines) + '\n' + end)
     return text
 
 
@@ -226,9 +219,7 @@ def statuses():
     """docs/USE.md with the exit statuses of the man page."""
     part = MAN.read_text().split('.SH EXIT STATUS\n', 1)[1].split('.SH ', 1)[0].replace('\\(aq', "'")
     rows = [f'| {status} | {means.rstrip(".")} |' for status, means in re.findall(r'^\.B (\d)\n(.*)$', part, re.M)]
-    start, end = USE_MARKS
-    front, rest = USE.read_text().split(start, 1)
-    return '\n'.join([front + start, '| Status | Means |', '|---|---|', *rows, end]) + rest.split(end, 1)[1]
+    return replaced(USE.read_text(), USE_MARKS, '\n'.join([USE_MARKS[0], '| Status | Means |', '|---|---|', *rows, USE_MARKS[1]]))
 
 
 def completed(words):
@@ -342,7 +333,7 @@ def installation():
                 done = subprocess.run([*words, target], cwd=TOP, capture_output=True, text=True, check=False)
                 check(done.returncode and "isn't the program" in done.stdout and not any(Path(name).iterdir()),
                       f'make {target} takes another program: {done.stdout}')
-        program.with_name('vipr.sha256').write_text(f'{proved.sum_of(program)}  vipr\n')
+        program.with_name('vipr.sha256').write_text(f'{kit.sum_of(program)}  vipr\n')
         for target in ('install', 'uninstall'):
             done = subprocess.run([*words, target], cwd=TOP, capture_output=True, text=True, check=False)
             check(done.returncode == 0, f'make {target}: {done.stdout}{done.stderr}')
@@ -394,7 +385,7 @@ def first_commands():
 
 
 def main():
-    _, commands, options = program()
+    _, commands, options = described()
     made = {TOP / 'completions/vipr.bash': bash(commands, options), TOP / 'completions/_vipr': zsh(commands, options),
             TOP / 'completions/vipr.fish': fish(commands, options), MAN: man(man_parts(commands, options)), USE: statuses()}
     for path, text in made.items():
@@ -429,8 +420,7 @@ def main():
     helped(names)
     installation()
     first_commands()
-    print(f'interface: {checks} checks, {failed} failed')
-    return 1 if failed else 0
+    return CHECKS.end()
 
 
 sys.exit(main())

@@ -21,12 +21,13 @@ import time
 from collections import Counter
 from pathlib import Path
 
-from texts import TOP, program
+from texts import TOP, Checks, program, run
 
 SMALL = (TOP / 'examples/cutoff_loose.vipr').read_bytes()
 KINDS = 'new', 'there', 'FILE', 'link'
 SIGNALS = signal.SIGKILL, signal.SIGTERM, signal.SIGINT, signal.SIGHUP
-runs, failures, found_beside = 0, 0, 0
+CHECKS = Checks('kills', 'runs')
+found_beside = 0
 
 
 def many(n):
@@ -83,22 +84,20 @@ class Room:
             yield f'beside OUT {[(it.name, oct(it.stat().st_mode)) for it in beside]}'
         if self.kind != 'new' and stat.S_IMODE(self.end.stat().st_mode) != 0o640:
             yield 'OUT has other permissions'
-        done = subprocess.run([PROGRAM, 'tighten', '--out', self.folder / 'next'], input=SMALL, capture_output=True, check=False)
+        done = run([PROGRAM, 'tighten', '--out', self.folder / 'next'], SMALL)
         if done.returncode or self.beside() or self.text_of_out() != now:
             yield f'the next run: {done.stderr!r}, {sorted(self.all_names())}'
         shutil.rmtree(self.folder)
 
 
 def expect(what, room, whole):
-    global runs, failures
-    runs += 1
+    CHECKS.count += 1
     for fault in room.faults(whole):
-        failures += 1
-        print(f'{what}, OUT {room.kind}: {fault}')
+        CHECKS.fail(f'{what}, OUT {room.kind}: {fault}')
 
 
 def tight(text):
-    return subprocess.run([PROGRAM, 'tighten'], input=text, capture_output=True, check=True).stdout
+    return run([PROGRAM, 'tighten'], text).stdout
 
 
 def calls_of(kind):
@@ -107,7 +106,7 @@ def calls_of(kind):
         return None
     room = Room(kind, SMALL)
     trace = room.folder / 'trace'
-    subprocess.run(['strace', '-o', trace, *room.words()], capture_output=True, check=False)
+    run(['strace', '-o', trace, *room.words()])
     lines = trace.read_text().split('\n') if trace.exists() else []
     names = [line.split('(')[0] for line in lines if '(' in line]
     return names if 'openat' in names else None
@@ -117,15 +116,14 @@ def at_each_call(whole):
     for kind in KINDS:
         names = calls_of(kind)
         if not names:
-            print('kills: strace is not here or may not trace, so runs are killed at random moments alone')
+            CHECKS.skip('strace that may trace', 'runs are killed at random moments alone')
             return
         # the call that begins the program comes before strace may stop it
         met = Counter(names[:1])
         for name in names[1:]:
             met[name] += 1
             room = Room(kind, SMALL)
-            subprocess.run(['strace', '-o', '/dev/null', '-e', f'inject={name}:signal=KILL:when={met[name]}', *room.words()],
-                           capture_output=True, check=False)
+            run(['strace', '-o', '/dev/null', '-e', f'inject={name}:signal=KILL:when={met[name]}', *room.words()])
             expect(f'killed at {name} {met[name]}', room, whole)
 
 
@@ -134,7 +132,7 @@ def at_random(moments, text):
     whole, pick = tight(text), random.Random(1)
     start = time.monotonic()
     room = Room('new', text)
-    subprocess.run(room.words(), capture_output=True, check=True)
+    run(room.words())
     length = time.monotonic() - start
     for n in range(moments):
         room = Room(KINDS[n % len(KINDS)], text)
@@ -156,5 +154,4 @@ PROGRAM = program(WORDS[:1])
 with tempfile.TemporaryDirectory(prefix='vipr-kills-') as WORK:
     at_each_call(tight(SMALL))
     at_random(int(WORDS[1]) if len(WORDS) > 1 else 100, many(20_000))
-print(f'kills: {runs} runs, {failures} failed')
-sys.exit(int(failures > 0))
+sys.exit(CHECKS.end())

@@ -8,37 +8,25 @@ text is cut off or memory is said to be wanted. Every answer is known beforehand
 
 Prints each fault, and last `large: N runs, F failed`; the exit status is 1 if one failed.
 """
-import os
-import resource
-import subprocess
 import sys
 import tempfile
 from pathlib import Path
 
-TOP = Path(__file__).resolve().parent.parent
-PROGRAM = Path(sys.argv[1] if len(sys.argv) > 1 else TOP / 'crates/vipr/out/vipr').resolve()
+from texts import TOP, Checks, program, run, spent
+
+PROGRAM = program(sys.argv[1:])
 SECONDS = 300
 # the largest number
 M = 2**127 - 1
 SPARSE_BYTES = 3 << 30
 WIDE = 2000
+CHECKS = Checks('large', 'runs')
 
-runs, failed = 0, 0
 
-
-def expect(what, wanted, words, text=None, source=None):
-    """Runs the program, and compares both outputs and the status. `source` is a file for standard input."""
-    global runs, failed
-    runs += 1
-    try:
-        done = subprocess.run([PROGRAM, *words], input=text, stdin=source, capture_output=True, timeout=SECONDS,
-                              check=False)
-        got = done.stdout, done.stderr, done.returncode
-    except subprocess.TimeoutExpired:
-        got = b'', b'no answer', None
-    if got != wanted:
-        failed += 1
-        print(f'vipr {" ".join(map(str, words))}: {what}: {got!r:.400}, wanted {wanted!r:.400}')
+def expect(what, wanted, words, text=b'', **source):
+    """Runs the program, and compares its answer. `stdin` is a file for standard input."""
+    CHECKS.count += 1
+    CHECKS.expect(f'vipr {" ".join(map(str, words))}: {what}', run([PROGRAM, *words], text, timeout=SECONDS, **source), wanted)
 
 
 def verdict(lines):
@@ -127,7 +115,7 @@ def of_many_bytes(room):
         file.write(b'x')
     with path.open('rb') as file:
         expect('a token behind a long text', verdict(f'refused 18 at byte {SPARSE_BYTES + 1 + len(proof)}'), ['check'],
-               source=file)
+               stdin=file)
 
 
 def of_one_name(room):
@@ -152,9 +140,7 @@ def main():
     with tempfile.TemporaryDirectory(prefix='vipr-large-') as room:
         of_one_name(Path(room))
         of_many_bytes(Path(room))
-    spent = resource.getrusage(resource.RUSAGE_CHILDREN)
-    print(f'large: {runs} runs, {failed} failed, {spent.ru_utime + spent.ru_stime:.0f} seconds of processor time')
-    return 1 if failed else 0
+    return CHECKS.end(f', {spent():.0f} seconds of processor time')
 
 
 sys.exit(main())

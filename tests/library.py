@@ -19,37 +19,21 @@ import tempfile
 from concurrent.futures import ThreadPoolExecutor
 from pathlib import Path
 
-import proved
+from texts import TOP, Checks, program, run
+import kit
 
-TOP = Path(__file__).resolve().parent.parent
-PROGRAM = Path(sys.argv[1] if len(sys.argv) > 1 else TOP / 'crates/vipr/out/vipr').resolve()
+PROGRAM = program(sys.argv[1:])
 COMPILERS = {'c': ('CC', 'cc', 'gcc'), 'cpp': ('CXX', 'c++', 'g++'), 'rust': ('CARGO', 'cargo')}
-different = 0
-
-
-def fail(what):
-    global different
-    different += 1
-    print(what)
+# seconds for a run that makes many calls, or that valgrind looks at
+LONG = 600
+CHECKS = Checks('library', 'texts')
+fail = CHECKS.fail
 
 
 def compiler(language):
     """The compiler of a language, or None."""
     variable, *names = COMPILERS[language]
     return os.environ.get(variable) or next(filter(None, map(shutil.which, names)), None)
-
-
-def folder(room):
-    """Where to build the library: in a copy that takes over what `rt ci` proved, where there is such, and else here."""
-    if not proved.is_of_one_run(TOP):
-        return TOP
-    copy = room / 'vipr'
-    for name in ('Makefile', 'crates.txt'):
-        copy.mkdir(exist_ok=True)
-        shutil.copy(TOP / name, copy)
-    for name in ('crates', 'include', 'tests', 'tools'):
-        shutil.copytree(TOP / name, copy / name, ignore=shutil.ignore_patterns('incremental'))
-    return copy if proved.take_over(TOP, copy) else TOP
 
 
 def hand_back(top):
@@ -105,7 +89,7 @@ def build(words, places=None):
 def look_at_symbols(prefix):
     """Each call of the shared library has the version of its first release, which is its soname's number."""
     if shutil.which('nm'):
-        said = run('nm', '-D', '--defined-only', prefix / 'lib/libvipr.so').stdout.decode()
+        said = run(['nm', '-D', '--defined-only', prefix / 'lib/libvipr.so']).stdout.decode()
         versions = set(re.findall(r'@@?(\w+)$', said, re.M))
         if versions != {f'VIPR_{version().split(".")[0]}'}:
             fail(f'the symbols have the versions {versions}')
@@ -141,7 +125,7 @@ def callers(prefix, room):
             yield f'rust, {linked}', [room / f'rust_{linked}/release/check']
     yield 'python', [sys.executable, TOP / 'examples/python/check.py']
     if missing:
-        print(f'library: left out, for want of a compiler: {", ".join(missing)}')
+        print(f'library: left out, for want of its compiler: {", ".join(missing)}')
 
 
 def look_at_callers(prefix, room):
@@ -176,10 +160,6 @@ def texts(room):
             yield part, False
 
 
-def run(*words):
-    return subprocess.run(list(map(str, words)), capture_output=True, check=False)
-
-
 def refusal(line):
     """Cause, place and number of a refusal."""
     found = re.match(rb'refused (\d+) at (?:(byte|SOL|DER) (\d+)|end)$', line)
@@ -202,17 +182,17 @@ def answer(lines):
 
 def calls(path, whole):
     """The calls on a file: their words, and what each has to give: the status, the text and the numbers."""
-    said = run(PROGRAM, 'explain', path)
+    said = run([PROGRAM, 'explain', path])
     yield ['check', 1, 0], (said.returncode, b'', ['answer', *answer(said.stdout)])
     for profile in (1, 2) if whole else (1,):
-        said, explained = (run(PROGRAM, call, '--profile', profile, path) for call in ('check', 'explain'))
+        said, explained = (run([PROGRAM, call, '--profile', profile, path]) for call in ('check', 'explain'))
         yield ['report', profile, 0], (said.returncode, said.stdout, ['answer', *answer(explained.stdout)])
         yield ['explain', profile, 0], (explained.returncode, explained.stdout, [])
         for compact in (0, 1) if whole else (0,):
-            said = run(PROGRAM, 'tighten', '--profile', profile, *['--compact'] * compact, path)
+            said = run([PROGRAM, 'tighten', '--profile', profile, *['--compact'] * compact, path])
             yield ['tighten', profile, compact], (said.returncode, said.stdout, ['figures', *figures(said.stderr.rstrip())])
     for compact in (0, 1) if whole else (0,):
-        said = run(PROGRAM, 'show', *['--compact'] * compact, path)
+        said = run([PROGRAM, 'show', *['--compact'] * compact, path])
         yield ['show', 1, compact], (said.returncode, said.stdout, ['answer', *refusal(said.stderr.rstrip()), *[0] * 5])
     if whole:
         for profile in (0, 3):
@@ -236,7 +216,7 @@ def ended(room, word):
 
 def compare(words, rows):
     """Makes the calls of the rows in one process, and compares what it writes: a row has a call's words and its answer."""
-    said, at = run(*words, *(word for row, _ in rows for word in row)), 0
+    said, at = run([*words, *(word for row, _ in rows for word in row)], timeout=LONG), 0
     for row, expected in rows:
         found, at = said.stdout[at:at + len(expected)], at + len(expected)
         if found != expected:
@@ -262,7 +242,7 @@ def look_at_names(program):
         name = names.get(str(cause), '').encode()
         rows += [([cause, room], ended(room, name)) for room in sorted({0, len(name), len(name) + 1, 20})]
     compare([program, 'name'], rows)
-    if run(program, 'version', 9).stdout != ended(9, version().encode()) or len(names) < 30:
+    if run([program, 'version', 9]).stdout != ended(9, version().encode()) or len(names) < 30:
         fail('the version, or too few names of causes')
 
 
@@ -270,27 +250,28 @@ def look_at_memory(program, room):
     """Each growth refused in turn, and memcheck and helgrind, if they are there."""
     names = sorted((TOP / 'examples').rglob('*.vipr'))
     for path in names:
-        said = run(program, 'growths', path)
+        said = run([program, 'growths', path], timeout=LONG)
         if said.returncode:
             fail(f'{path.name}: {said.stdout!r}')
     if not shutil.which('valgrind'):
-        print('library: left out, for want of valgrind: memcheck, helgrind')
+        CHECKS.skip('valgrind', 'memcheck and helgrind are left out')
         return
+    front = ['valgrind', '-q', '--error-exitcode=9']
     for path in (TOP / 'examples/branch_and_bound.vipr', TOP / 'examples/overflow.vipr', room / 'infeasible.10'):
         words = [word for call in ('check', 'report', 'explain', 'show', 'tighten') for word in (call, 1, 1, 100)]
-        said = run('valgrind', '-q', '--error-exitcode=9', '--leak-check=full', '--show-leak-kinds=all', program, path, *words)
+        said = run([*front, '--leak-check=full', '--show-leak-kinds=all', program, path, *words], timeout=LONG)
         if said.returncode or said.stderr:
             fail(f'memcheck of {path.name}: {said.stderr!r}')
     threads = room / 'cpp_archive'
     if threads.exists():
-        said = run('valgrind', '-q', '--tool=helgrind', '--error-exitcode=9', threads, *names[:12])
+        said = run([*front, '--tool=helgrind', threads, *names[:12]], timeout=LONG)
         if said.returncode == 9 or said.stderr:
             fail(f'helgrind: {said.stderr!r}')
 
 
 def wanted(path):
     """What the program prints of a file."""
-    return subprocess.run([PROGRAM, 'check', path], capture_output=True, text=True, check=False).stdout
+    return run([PROGRAM, 'check', path]).stdout.decode()
 
 
 def look_at_texts(prefix, room):
@@ -307,23 +288,22 @@ def look_at_texts(prefix, room):
 
 def main():
     if not compiler('c'):
-        print('library: no C compiler, so the library was not linked')
+        CHECKS.skip('C compiler', 'the library was not linked')
         return 0
-    count = 0
     with tempfile.TemporaryDirectory(prefix='vipr-library-') as name:
         room, prefix = Path(name), Path(name) / 'installed'
-        top = folder(room)
+        # (a copy that takes over what `rt ci` proved, if there is such)
+        top = kit.copied(room, 'Makefile', 'crates.txt', 'crates', 'include', 'tools')
         if make('install-lib', top, prefix):
             hand_back(top)
             look_at_files(prefix)
             look_at_header(prefix, room)
             look_at_symbols(prefix)
-            count = look_at_texts(prefix, room) + look_at_callers(prefix, room)
+            CHECKS.count = look_at_texts(prefix, room) + look_at_callers(prefix, room)
             look_at_memory(room / 'library', room)
             if make('uninstall-lib', top, prefix) and installed(prefix):
                 fail(f'make uninstall-lib leaves {installed(prefix)}')
-    print(f'library: {count} texts, {different} different')
-    return 1 if different or not count else 0
+    return CHECKS.end() or int(not CHECKS.count)
 
 
 sys.exit(main())

@@ -17,22 +17,17 @@ writes that file. There is a page for each cause, by each of the two profiles wh
 
 Prints each fault, and last `long: N checks, F failed`; the exit status is 1 if one failed.
 """
-import array
 import errno
-import fcntl
 import gzip
 import os
 import shutil
-import subprocess
 import sys
 import tempfile
-import termios
-import time
 from pathlib import Path
 
-TOP = Path(__file__).resolve().parent.parent
-WORDS = [word for word in sys.argv[1:] if word != '--write']
-PROGRAM = Path(WORDS[0] if WORDS else TOP / 'crates/vipr/out/vipr').resolve()
+from texts import TOP, Checks, fed, program, run
+
+PROGRAM = program([word for word in sys.argv[1:] if word != '--write'])
 PAGES = TOP / 'tests/long_pages.txt'
 PROBLEMS = TOP / 'examples/problems'
 MOST_BYTES = 65536
@@ -287,23 +282,14 @@ CAUSES = [
     FRONT + '0 DER 2 a L 0 1 0 1 { asm } -1 b G 0 0 { uns 0 0 1 1 } -1',
     'VER 1.0 VAR 0 INT 0 OBJ min 0 CON 0 0 RTP range -inf -1 SOL 0 DER 0',
 ]
-checks = failed = 0
+CHECKS = Checks('long')
+check = CHECKS.check
 pages = {}
 
 
-def explained(words, data=None):
+def explained(words, data=b''):
     """What the program prints, and its exit status."""
-    run = subprocess.run([PROGRAM, 'explain', *words], input=data, capture_output=True, check=False)
-    return run.stdout, run.returncode
-
-
-def check(holds, what):
-    """Counts a check, and prints what failed."""
-    global checks, failed
-    checks += 1
-    if not holds:
-        failed += 1
-        print(f'FAILED: {what}')
+    return run([PROGRAM, 'explain', *words], data)[::2]
 
 
 def page_of(path, name):
@@ -315,7 +301,7 @@ def page_of(path, name):
     check(long.startswith(short) and status == long_status, f'{name}: the first lines and the status of explain')
     check(piped.startswith(short) and status == piped_status, f'{name}: the same from standard input')
     if len(data) <= 1000:
-        slow, slow_status = explained_slowly([], data)
+        slow, _, slow_status = fed([PROGRAM, 'explain', '--long'], [data[at:at + 1] for at in range(len(data))])
         check((slow, slow_status) == (piped, piped_status), f'{name}: the same from a byte a read')
     page = long[len(short):]
     check(all(byte == 10 or 32 <= byte <= 126 for byte in page), f'{name}: every byte is shown')
@@ -326,28 +312,9 @@ def page_of(path, name):
     return named
 
 
-def explained_slowly(words, data):
-    """The same, of a pipe that never holds more than one byte."""
-    run = subprocess.Popen([PROGRAM, 'explain', '--long', *words], stdin=subprocess.PIPE, stdout=subprocess.PIPE)
-    pipe, held = run.stdin.fileno(), array.array('i', [0])
-    for byte in data:
-        os.write(pipe, bytes([byte]))
-        for _ in range(100_000):
-            fcntl.ioctl(pipe, termios.FIONREAD, held)
-            if not held[0]:
-                break
-            time.sleep(0)
-    run.stdin.close()
-    return run.stdout.read(), run.wait()
-
-
 def opened_once(path):
     """A file is opened once, whatever is explained."""
-    if not shutil.which('strace'):
-        return
-    run = subprocess.run(['strace', '-f', '-e', 'trace=open,openat', PROGRAM, 'explain', '--long', path],
-                         capture_output=True, check=False)
-    count = run.stderr.count(str(path).encode())
+    count = run(['strace', '-f', '-e', 'trace=open,openat', PROGRAM, 'explain', '--long', path]).stderr.count(str(path).encode())
     check(count == 1, f'{path}: opened {count} times')
 
 
@@ -369,9 +336,8 @@ def compare():
 
 def unread(path, reason):
     """A file that can't be opened: `fault read` is all that is printed without --long, which names it and the reason."""
-    short, long = (subprocess.run([PROGRAM, 'explain', *words, path], capture_output=True, check=False)
-                   for words in ([], ['--long']))
-    check((short.stdout, short.stderr, short.returncode) == (b'', b'fault read\n', 3), f'{path!r}: {short}')
+    short, long = (run([PROGRAM, 'explain', *words, path]) for words in ([], ['--long']))
+    check(short == (b'', b'fault read\n', 3), f'{path!r}: {short}')
     named = ''.join(it if ' ' <= it <= '~' else f'\\x{ord(it):02x}' for it in str(path))
     line = f'{named}: {os.strerror(reason)} (os error {reason})\n'
     check((long.stdout, long.stderr.decode(), long.returncode) == (b'', line + 'fault read\n', 3),
@@ -414,7 +380,8 @@ def main():
                 check(part not in page, f'{text[:400]!r}: {part!r} in {page}')
             if not words:
                 page_of(path, text[:40])
-            opened_once(path)
+            if shutil.which('strace'):
+                opened_once(path)
             keep(' '.join([*words, text[:1000]]).replace('\n', ' ').encode('unicode_escape').decode(), page, path)
         for text in CAUSES:
             path.write_text(text)
@@ -422,9 +389,9 @@ def main():
         path.write_text(LATE)
         check('write 9000 or -1 here' in page_of(path, 'a late reference'), 'a late reference')
     compare()
-    print(f'long: {checks} checks, {failed} failed')
-    sys.exit(1 if failed else 0)
+    if not shutil.which('strace'):
+        CHECKS.skip('strace', 'it is not known how often a file is opened')
+    return CHECKS.end()
 
 
-if __name__ == '__main__':
-    main()
+sys.exit(main())

@@ -33,28 +33,21 @@ import tempfile
 import time
 from pathlib import Path
 
-TOP = Path(__file__).resolve().parent.parent
-PROGRAM = str(Path(sys.argv[1] if len(sys.argv) > 1 else TOP / 'crates/vipr/out/vipr').resolve())
+from texts import TOP, Checks, program
+import texts
+
+PROGRAM = program(sys.argv[1:])
 LOOSE = (TOP / 'examples/cutoff_loose.vipr').read_bytes()
 BROKEN = LOOSE.replace(b'VER', b'VEX', 1)
 READ, NOT_WRITTEN = b'fault read\n', b'fault write after 0\n'
-failures = []
-runs = 0
+CHECKS = Checks('output', 'runs')
+expect = CHECKS.expect
 
 
 def run(words, text=b'', before=None, **more):
-    """What is on the output and on standard error, and the status."""
-    global runs
-    runs += 1
-    streams = {'input': text, 'stdout': subprocess.PIPE, 'stderr': subprocess.PIPE} | more
-    done = subprocess.run([PROGRAM, *map(str, words)], preexec_fn=before, timeout=120, check=False, **streams)
-    return done.stdout, done.stderr, done.returncode
-
-
-def expect(what, got, wanted):
-    if got != wanted:
-        failures.append(what)
-        print(f'{what}: {got!r:.300}, wanted {wanted!r:.300}')
+    """What a run of the program answers."""
+    CHECKS.count += 1
+    return texts.run([PROGRAM, *words], text, preexec_fn=before, **more)
 
 
 def fresh(text=LOOSE):
@@ -507,20 +500,18 @@ def lines():
 def traced(words, *settings, stdout=subprocess.PIPE):
     """A run under strace, with the calls that it made once FILE was opened."""
     trace = Path(tempfile.mkdtemp(dir=WORK)) / 'trace'
-    global runs
-    runs += 1
-    done = subprocess.run(['strace', '-o', trace, *settings, PROGRAM, *map(str, words)], stdout=stdout, stderr=subprocess.PIPE,
-                          check=False)
+    CHECKS.count += 1
+    got = texts.run(['strace', '-o', trace, *settings, PROGRAM, *words], stdout=stdout)
     text = trace.read_text().split('\n') if trace.exists() else []
     first = next((n for n, line in enumerate(text) if 'a.vipr' in line and 'openat' in line), len(text))
-    return (done.stdout, done.stderr, done.returncode), [line for line in text[first:] if '(' in line]
+    return got, [line for line in text[first:] if '(' in line]
 
 
 def calls():
     """The file is closed before the line is written; a call that fails is a failed write, and OUT as it was."""
     folder, file = fresh()
     if not shutil.which('strace') or traced(['tighten', file], '-e', 'trace=openat')[0][2]:
-        print('output: strace is not here or may not run, so the calls of a run are skipped')
+        CHECKS.skip('strace that may trace', 'the calls of a run are left out')
         return
     got, lines_of = traced(['tighten', file, '--out', file], '-e', 'trace=openat,flock,rename,close,write,fsync')
     expect('a traced run', got, (b'', KEPT, 0))
@@ -560,8 +551,7 @@ def without_names():
     """Where no name beside OUT can be had, nothing is written."""
     folder, file = fresh()
     trace = Path(WORK, 'openat')
-    subprocess.run(['strace', '-o', trace, '-e', 'trace=openat', PROGRAM, 'tighten', file, '--out', file], capture_output=True,
-                   check=True)
+    texts.run(['strace', '-o', trace, '-e', 'trace=openat', PROGRAM, 'tighten', file, '--out', file])
     first = next(n for n, line in enumerate(trace.read_text().split('\n'), 1) if 'O_EXCL' in line)
     file.write_bytes(LOOSE)
     got, tried = traced(['tighten', file, '--out', file], '-e', 'trace=openat', '-e', f'inject=openat:error=EEXIST:when={first}+')
@@ -572,8 +562,7 @@ def without_names():
 
 def during(words, call, folder, size, act, options=()):
     """A run that waits in a system call while something is done to the file beside OUT, once that has its size."""
-    global runs
-    runs += 1
+    CHECKS.count += 1
     with subprocess.Popen(['strace', '-o', '/dev/null', '-e', f'trace={call},link', '-e', f'inject={call}:delay_enter=1200000:when=1',
                            *options, PROGRAM, *map(str, words)], stdout=subprocess.PIPE, stderr=subprocess.PIPE) as child:
         found = []
@@ -655,8 +644,7 @@ def main():
     full_device()
     large()
     signal.signal(signal.SIGXFSZ, before)
-    print(f'output: {runs} runs, {len(failures)} failed')
-    return 1 if failures else 0
+    return CHECKS.end()
 
 
 with tempfile.TemporaryDirectory(prefix='output-') as WORK:

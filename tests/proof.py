@@ -201,7 +201,7 @@ def came_since(text):
     """The page with the edits counted that came since all were tried, if git knows the commit."""
     made = wrong.counted_anew(text)
     if made is None:
-        print('proof: no git, or not the commit of the last whole run of make wrong, so what came since is left out')
+        print('proof: no git that knows the commit of the last whole run of make wrong, so what came since is left out')
     return made or text
 
 

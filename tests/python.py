@@ -23,18 +23,18 @@ import os
 import random
 import re
 import shutil
-import subprocess
 import sys
 import tempfile
 import xml.etree.ElementTree
 from concurrent.futures import ThreadPoolExecutor
 from pathlib import Path
 
-TOP = Path(__file__).resolve().parent.parent
-PROGRAM = Path(sys.argv[1] if len(sys.argv) > 1 else TOP / 'crates/vipr/out/vipr').resolve()
-sys.path[:0] = [str(TOP / 'python'), str(TOP / 'bench')]
+from texts import TOP, Checks, program, run
+import families
+
+PROGRAM = program(sys.argv[1:])
+sys.path.insert(0, str(TOP / 'python'))
 sys.dont_write_bytecode = True
-import families  # noqa: E402
 import vipr  # noqa: E402
 from vipr import compare_mps, mps, picture, proof as structure, stats  # noqa: E402
 from mps_changes import CHANGES  # noqa: E402
@@ -44,20 +44,8 @@ NAMES = ('check-all', 'compare-mps', 'picture', 'stats')
 PIECES = [b'0', b'1', b'-1', b'OBJ', b'{', b'}', b'inf', b'-inf', b'1/0', b'3.5', b'9' * 39, b'4294967296', b'00007', b'+3/6',
           b'VER', b'%', b'lin', b'uns', b'G', b'x' * 65536, b'\xff\x1b']
 LARGE = 4_000_000
-checks = failed = 0
-
-
-def check(good, what):
-    global checks, failed
-    checks += 1
-    if not good:
-        failed += 1
-        print(str(what)[:2000])
-
-
-def ran(words, text=b'', **options):
-    done = subprocess.run([*map(str, words)], input=text, capture_output=True, check=False, **options)
-    return done.returncode, done.stdout, done.stderr
+CHECKS = Checks('python')
+check = CHECKS.check
 
 
 def damaged(text, dice):
@@ -91,7 +79,7 @@ def installed(room):
         print('python: not installed, for want of pip')
         return modules
     shutil.copytree(TOP / 'python', room / 'source', ignore=shutil.ignore_patterns('__pycache__'))
-    status, said, fault = ran([sys.executable, '-m', 'pip', 'install', '-q', '--no-index', '--disable-pip-version-check',
+    said, fault, status = run([sys.executable, '-m', 'pip', 'install', '-q', '--no-index', '--disable-pip-version-check',
                                '--target', room / 'site', room / 'source'])
     check(status == 0, (said + fault).decode())
     return {name: [sys.executable, room / 'site/bin' / f'vipr-{name}'] for name in NAMES} if status == 0 else modules
@@ -101,7 +89,7 @@ def installed(room):
 
 def agrees(text, what):
     """Whether the reader answers as `vipr show`."""
-    status, _, said = ran([PROGRAM, 'show'], text)
+    _, said, status = run([PROGRAM, 'show'], text)
     got = vipr.read(text)
     is_refused = isinstance(got, vipr.Refusal)
     check(is_refused == (status == 1) and (not is_refused or str(got) == said.decode().rstrip('\n')), f'{what}: {got!r:.200}, {said}')
@@ -123,7 +111,10 @@ def reader(dice):
 def library():
     found = sorted((TOP / 'crates/vipr_c/out').glob('libvipr.so.*'))
     if not found:
-        print('python: the calls of the library are left out: make lib')
+        if shutil.which('cc'):
+            print('python: the calls of the library are left out: make lib')
+        else:
+            CHECKS.skip('C compiler', 'there is no library, and its calls are left out')
         return None
     os.environ['VIPR_LIBRARY'] = str(found[-1])
     return found[-1]
@@ -132,15 +123,15 @@ def library():
 def calls(texts):
     for text in texts:
         for profile in (1, 2):
-            status, out, fault = ran([PROGRAM, 'check', f'--profile={profile}'], text)
+            out, fault, status = run([PROGRAM, 'check', f'--profile={profile}'], text)
             verdict = vipr.check(text, profile)
             check(f'{verdict}\n'.encode() == out + fault and bool(verdict) == (status == 0), f'check: {verdict}, {out}')
-            goal = re.search(rb'^goal (\d+)', ran([PROGRAM, 'explain', f'--profile={profile}'], text)[1], re.M)
+            goal = re.search(rb'^goal (\d+)', run([PROGRAM, 'explain', f'--profile={profile}'], text).stdout, re.M)
             check(verdict.goal == (int(goal[1]) if goal and verdict else None), f'the goal is {verdict.goal}, not {goal}')
-            check(vipr.explain(text, profile) == ran([PROGRAM, 'explain', f'--profile={profile}'], text)[1], 'explain differs')
+            check(vipr.explain(text, profile) == run([PROGRAM, 'explain', f'--profile={profile}'], text).stdout, 'explain differs')
         for words, compact in (([], False), (['--compact'], True)):
             for command, call in (('show', vipr.show), ('tighten', vipr.tighten)):
-                status, out, fault = ran([PROGRAM, command, *words], text)
+                out, fault, status = run([PROGRAM, command, *words], text)
                 got = call(text, compact=compact)
                 if isinstance(got, vipr.Refusal):
                     check(status == 1 and f'{got}\n'.encode() == fault, f'{command}: {got}, {fault}')
@@ -149,7 +140,7 @@ def calls(texts):
                 else:
                     line = f'kept {got.kept} removed {got.removed} peak {got.peak_before} {got.peak_after}\n'
                     check((got.text, line.encode()) == (out, fault), f'tighten: {line}, {fault}')
-    check(vipr.version() in ran([PROGRAM, '--version'])[1].decode(), 'the versions differ')
+    check(vipr.version() in run([PROGRAM, '--version']).stdout.decode(), 'the versions differ')
     for wrong, error in ((lambda: vipr.check(b'', 3), vipr.BadProfile), (lambda: vipr.check('VER 1.0'), TypeError)):
         try:
             wrong()
@@ -276,7 +267,7 @@ def comparisons(dice):
 
 def figures():
     for path, text in EXAMPLES.items():
-        status, out, _ = ran([PROGRAM, 'explain', path])
+        out, _, status = run([PROGRAM, 'explain', path])
         if status:
             continue
         found = stats.figures(vipr.read(text))
@@ -284,7 +275,7 @@ def figures():
         check(str(found['goal']) == goal.title().replace('None', 'None') or (goal == 'none' and found['goal'] is None),
               f'{path.name}: goal {found["goal"]}, {goal}')
         if found['goal'] is not None:
-            kept = re.match(rb'kept (\d+)', ran([PROGRAM, 'tighten', path])[2])[1]
+            kept = re.match(rb'kept (\d+)', run([PROGRAM, 'tighten', path]).stderr)[1]
             check(found['needed_derivations'] == int(kept), f'{path.name}: {found["needed_derivations"]} needed, {kept} kept')
     found = stats.figures(vipr.read(EXAMPLES[TOP / 'examples/overflow.vipr']))
     check((found['written_bits'], found['computed_bits']) == (127, 128), found)
@@ -330,29 +321,29 @@ def commands(room, words):
     strange.write_bytes(EXAMPLES[example].replace(b'left', b'\x1b[2J\xff<&>').replace(b'joined', b'"]]>\xe2\x80\xae\x07'))
     front = {'compare-mps': [model], 'picture': [], 'stats': []}
     for name in NAMES:
-        status, out, fault = ran([*words[name], '--help'])
+        out, fault, status = run([*words[name], '--help'])
         check(status == 0 and b'usage: vipr-' in out and not fault, f'{name} --help: {out} {fault}')
-        status, out, fault = ran([*words[name], '--nothing'])
+        out, fault, status = run([*words[name], '--nothing'])
         check(status == 2 and not out, f'{name} --nothing: {status} {out}')
     for name, before in front.items():
-        status, out, fault = ran([*words[name], *before, room / 'missing.vipr'])
+        out, fault, status = run([*words[name], *before, room / 'missing.vipr'])
         check((status, out) == (3, b'') and fault.endswith(b'missing.vipr: No such file or directory\n'), f'{name}: {fault}')
-        status, out, fault = ran([*words[name], *before, faulty])
+        out, fault, status = run([*words[name], *before, faulty])
         check((status, out.split(b'\n')[0], fault) == (1, b'refused 2 at byte 42', b''), f'{name}: {status} {out} {fault}')
-        status, out, fault = ran([*words[name], *before, '-'], EXAMPLES[example])
+        out, fault, status = run([*words[name], *before, '-'], EXAMPLES[example])
         check((status, fault) == (0, b'') and out, f'{name}: {status} {out} {fault}')
-        status, out, fault = ran([*words[name], *before, strange])
+        out, fault, status = run([*words[name], *before, strange])
         check(status == 0 and not fault and not set(out) & {*range(10), *range(11, 32), 127}, f'{name}: {out} {fault}')
-        status, out, fault = ran(['bash', '-c', '"$@" | true; echo "${PIPESTATUS[0]}"', 'sh', *words[name], *before, example])
+        out, fault, status = run(['bash', '-c', '"$@" | true; echo "${PIPESTATUS[0]}"', 'sh', *words[name], *before, example])
         check(out in (b'0\n', b'3\n') and not fault, f'{name} into a pipe that ends: {out} {fault}')
-    status, out, _ = ran([*words['compare-mps'], model, example])
+    out, _, status = run([*words['compare-mps'], model, example])
     check((status, out) == (0, b'problem range 1 1\n'), out)
-    status, out, _ = ran([*words['stats'], '--json', example])
+    out, _, status = run([*words['stats'], '--json', example])
     check(json.loads(out)['goal'] == 6, out)
-    status, _, fault = ran([*words['picture'], example, '-o', room / 'no/picture.svg'])
+    _, fault, status = run([*words['picture'], example, '-o', room / 'no/picture.svg'])
     check(status == 3 and b'No such file' in fault, fault)
     (room / 'cut.mps.gz').write_bytes(model.read_bytes()[:60])
-    status, _, fault = ran([*words['compare-mps'], room / 'cut.mps.gz', example])
+    _, fault, status = run([*words['compare-mps'], room / 'cut.mps.gz', example])
     check(status == 3 and b'not unpacked' in fault, fault)
 
 
@@ -363,17 +354,17 @@ def large(room, words):
         agrees(text[:-len(text) // 3], f'{name} of 4 MB, cut')
         path = room / f'{name}.vipr'
         path.write_bytes(text)
-        status, out, fault = ran([*words['stats'], '--json', path])
+        out, fault, status = run([*words['stats'], '--json', path])
         check(status == 0 and json.loads(out)['derivations'] == len(proof.derivations), f'{name}: {fault}')
-        status, out, fault = ran([*words['picture'], path])
+        out, fault, status = run([*words['picture'], path])
         check(status == 0 and xml.etree.ElementTree.fromstring(out) is not None, f'{name}: {fault}')
         model = room / f'{name}.mps'
         model.write_bytes(written_mps(proof.problem))
-        status, out, fault = ran([*words['compare-mps'], model, path, '--integers=inf'])
+        out, fault, status = run([*words['compare-mps'], model, path, '--integers=inf'])
         check((status, out) == (0, f'problem {proof.problem.claim}\n'.encode()), f'{name}: {out} {fault}')
         with open(model, 'rb+') as file:
             file.truncate(len(model.read_bytes()) // 2)
-        status, out, fault = ran([*words['compare-mps'], model, path])
+        out, fault, status = run([*words['compare-mps'], model, path])
         check(status == 1 and out.startswith(b'refused 10'), f'{name}, cut: {out} {fault}')
         path.unlink()
 
@@ -389,26 +380,26 @@ def check_all(room, words):
     for name, (text, _) in files.items():
         (folder / name).write_bytes(text)
     (folder / 'notes.txt').write_text('none')
-    run = [*words['check-all'], '--vipr', PROGRAM]
+    command = [*words['check-all'], '--vipr', PROGRAM]
     wanted = {str(folder / name): result for name, (_, result) in files.items()}
     for flags in ([], ['--json']):
         table = room / f'table{len(flags)}'
-        status, out, fault = ran([*run, *flags, '-o', table, folder])
+        out, fault, status = run([*command, *flags, '-o', table, folder])
         check((status, out) == (1, b'') and fault == b'7 checked: 1 refused, 2 unpack, 4 verified\n', f'{status} {out} {fault}')
         rows = [json.loads(it) if flags else dict(zip(('result', 'seconds', 'file', 'line'), it.split('\t')))
                 for it in table.read_text(errors='surrogateescape').splitlines()]
         check({it['file']: it['result'] for it in rows} == wanted, rows)
         (folder / 'more.vipr').write_bytes(plain)
-        status, _, fault = ran([*run, *flags, '--resume', '-o', table, folder])
+        _, fault, status = run([*command, *flags, '--resume', '-o', table, folder])
         check(status == 1 and fault == b'1 checked, 7 before: 1 verified\n', f'{status} {fault}')
         (folder / 'more.vipr').unlink()
-    status, _, fault = ran([*run, '--memory', '1000', folder / 'plain.vipr'])
+    _, fault, status = run([*command, '--memory', '1000', folder / 'plain.vipr'])
     check(status == 0, fault)
     (room / 'empty').mkdir()
     for path, said in ((room / 'empty', b'0 checked: none\n'), (room / 'missing', b'1 checked: 1 unpack\n')):
-        status, _, fault = ran([*run, path])
+        _, fault, status = run([*command, path])
         check((status, fault) == (1, said), f'{path}: {status} {fault}')
-    status, out, fault = ran([*words['check-all'], '--vipr', 'no-such-program', folder])
+    out, fault, status = run([*words['check-all'], '--vipr', 'no-such-program', folder])
     check(status == 2 and b'there is no program' in fault and b'Traceback' not in fault, fault)
 
 
@@ -429,8 +420,7 @@ def main():
         commands(room, words)
         check_all(room, words)
         large(room, words)
-    print(f'python: {checks} checks, {failed} failed')
-    return 1 if failed else 0
+    return CHECKS.end()
 
 
 if __name__ == '__main__':

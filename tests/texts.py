@@ -1,16 +1,59 @@
-"""What the scripts of tests/ share: the program, texts of a family, and what a run of the program takes."""
+"""What the scripts of tests/ share: what they found, the program and its runs, texts of a family, and what a run takes."""
+import array
+import fcntl
 import os
 import re
 import resource
 import shutil
 import subprocess
 import sys
+import termios
+import threading
+import time
+from collections import namedtuple
 from pathlib import Path
 
 TOP = Path(__file__).resolve().parent.parent
-sys.path.insert(0, str(TOP / 'bench'))
+sys.path[:0] = [str(TOP / 'bench'), str(TOP / 'tools')]
 GNU_TIME, VALGRIND = shutil.which('time'), shutil.which('valgrind')
 ENVIRONMENT = {'PATH': os.environ.get('PATH', '/usr/bin:/bin'), 'LC_ALL': 'C.UTF-8'}
+# a run that takes longer is ended, and its answer is none that is wanted
+SECONDS = 120
+# how much of a fault is printed
+MOST = 4000
+# the tools that the test command needs, and a line by which a script says that it left something out for want of one
+NEEDED = 'strace', 'valgrind', 'GNU time', 'C compiler', 'git'
+SKIPPED = re.compile(rf'\w+: no (?:{"|".join(NEEDED)})\b')
+
+
+class Checks:
+    """What a script found: how many checks it made, or runs, and how many failed. Prints each fault."""
+
+    def __init__(self, script, unit='checks'):
+        self.script, self.unit, self.count, self.failed = script, unit, 0, 0
+
+    def fail(self, what):
+        self.failed += 1
+        print(str(what)[:MOST], flush=True)
+
+    def check(self, good, what):
+        self.count += 1
+        if not good:
+            self.fail(what)
+
+    def expect(self, what, got, *wanted):
+        """Whether an answer of a run, which was counted, is one of those that are wanted."""
+        if got not in wanted:
+            self.fail(f'{what}: {got!r:.400}, wanted {wanted[0]!r:.400}')
+
+    def skip(self, tool, what):
+        """Says what is left out for want of a tool of NEEDED."""
+        print(f'{self.script}: no {tool} here, so {what}')
+
+    def end(self, more=''):
+        """Prints the last line, and gives the exit status."""
+        print(f'{self.script}: {self.count} {self.unit}, {self.failed} failed{more}')
+        return int(self.failed > 0)
 
 
 def program(words):
@@ -18,7 +61,49 @@ def program(words):
     path = Path(words[0] if words else TOP / 'crates/vipr/out/vipr').resolve()
     if not path.is_file():
         sys.exit(f'{path} is not there: `make build` builds the program')
-    return str(path)
+    return path
+
+
+# what a run prints on both outputs, and its exit status, which is None if it was ended
+Ran = namedtuple('Ran', 'stdout stderr returncode')
+
+
+def run(words, text=b'', **more):
+    """What a run answers that gets the text on standard input, or a file as `stdin`."""
+    streams = {'stdout': subprocess.PIPE, 'stderr': subprocess.PIPE, 'timeout': SECONDS} | more
+    streams |= {} if 'stdin' in more else {'input': text}
+    try:
+        done = subprocess.run([*map(str, words)], check=False, **streams)
+    except subprocess.TimeoutExpired as ended:
+        return Ran(ended.stdout, ended.stderr, None)
+    return Ran(done.stdout, done.stderr, done.returncode)
+
+
+def is_unread(pipe):
+    """Whether bytes that were written to a pipe wait to be read."""
+    count = array.array('i', [0])
+    fcntl.ioctl(pipe, termios.FIONREAD, count)
+    return count[0] > 0
+
+
+def fed(words, pieces, **more):
+    """What a run answers whose standard input comes in these pieces, each once the one before was read."""
+    read, write = os.pipe()
+    with subprocess.Popen(words, stdin=read, stdout=subprocess.PIPE, stderr=subprocess.PIPE, **more) as child:
+        os.close(read)
+        clock = threading.Timer(SECONDS, child.kill)
+        clock.start()
+        try:
+            for piece in pieces:
+                while is_unread(write) and child.poll() is None:
+                    time.sleep(0)
+                os.write(write, piece)
+        except BrokenPipeError:
+            pass
+        os.close(write)
+        printed, complained = child.communicate()
+        clock.cancel()
+    return Ran(printed, complained, child.returncode)
 
 
 def text_of(family, size):

@@ -17,9 +17,9 @@ import time
 from concurrent.futures import FIRST_COMPLETED, ThreadPoolExecutor, wait
 from pathlib import Path
 
+import kit
+
 TOP = Path(__file__).resolve().parent.parent
-sys.path.insert(0, str(TOP / 'tests'))
-import proved  # noqa: E402
 
 RT = os.environ.get('RT', 'rt')
 PROGRAM = 'vipr'
@@ -55,8 +55,7 @@ def heights(below):
 
     def of(crate):
         if crate not in height:
-            folder = TOP / 'crates' / crate
-            own = sum(it.stat().st_size for part in proved.PARTS for it in (folder / part).rglob('*') if it.is_file())
+            own = sum(it.stat().st_size for it in kit.texts(crate))
             height[crate] = own + max((of(it) for it in below if crate in below[it]), default=0)
         return height[crate]
     for crate in below:
@@ -73,7 +72,7 @@ def has_room():
 def locked():
     """Keeps other commands of the toolchain out of the crates, as each does for itself; None if that can't be done."""
     try:
-        rtlib = proved.toolchain().rtlib
+        rtlib = kit.toolchain().rtlib
         return rtlib.lock(rtlib.crates_below(str(TOP)))
     except (Exception, SystemExit):
         return None
@@ -81,7 +80,7 @@ def locked():
 
 def unlocked(words):
     """One command of the toolchain, without a lock of its own."""
-    rt = proved.toolchain()
+    rt = kit.toolchain()
     rt.rtlib.lock = lambda crates: []
     return rt.main(words)
 
@@ -142,9 +141,8 @@ class Build:
 
 
 def main():
-    missing = proved.without_toolchain()
-    if missing:
-        print(missing)
+    if kit.missing():
+        print(kit.missing())
         return 1
     start, build = time.monotonic(), Build()
     if not (TOP / 'crates' / PROGRAM / 'out' / PROGRAM).is_file():
@@ -156,7 +154,7 @@ def main():
         say('stopped: what is proved stays so, and make build goes on from there')
         return 130
     if well:
-        proved.write_sum(TOP)
+        kit.write_sum()
     if well and build.spoke:
         say(f'built: {(time.monotonic() - start) / 60:.1f} minutes, {build.seconds / 60:.1f} of processor time')
     return 0 if well else 1

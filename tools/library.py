@@ -18,9 +18,9 @@ import tempfile
 import time
 from pathlib import Path
 
+import kit
+
 TOP = Path(__file__).resolve().parent.parent
-sys.path.insert(0, str(TOP / 'tests'))
-import proved  # noqa: E402
 
 TOOLS = {name: os.environ.get(name.upper()) or name for name in ('rt', 'cc', 'ld', 'objcopy', 'ar', 'nm')}
 
@@ -74,8 +74,8 @@ def make(folder, version):
 
 
 def main():
-    if proved.without_toolchain():
-        print(proved.without_toolchain())
+    if kit.missing():
+        print(kit.missing())
         return 1
     missing = [word for word in TOOLS.values() if not shutil.which(word)]
     if missing or len(sys.argv) < 2:

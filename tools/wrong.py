@@ -34,9 +34,10 @@ import time
 from concurrent.futures import ThreadPoolExecutor
 from pathlib import Path
 
+import kit
+
 TOP = Path(__file__).resolve().parent.parent
 sys.path.insert(0, str(TOP / 'tests'))
-import proved  # noqa: E402
 from sources import replaced  # noqa: E402
 
 PAGE = TOP / 'docs/PROOF.md'
@@ -96,18 +97,6 @@ def commit_number():
     if git('rev-parse', '--is-shallow-repository') == 'false':
         return int(git('rev-list', '--count', 'HEAD')), f'the commit {git("rev-parse", "--short=7", "HEAD")}'
     return int(text_sum(), 16), 'the text of the crates'
-
-
-def copied(room):
-    """A copy of the crates that takes over what `rt ci` proved here, if all libraries are of one run of it."""
-    if not proved.is_of_one_run(TOP):
-        return TOP
-    copy = Path(room, 'vipr')
-    copy.mkdir()
-    for name in ('crates.txt', 'HANDLES'):
-        shutil.copy(TOP / name, copy)
-    shutil.copytree(TOP / 'crates', copy / 'crates', ignore=shutil.ignore_patterns('incremental'))
-    return copy if proved.take_over(TOP, copy) else TOP
 
 
 def is_refused(rt, found):
@@ -280,15 +269,17 @@ def main(words):
     if '--sample' in words and not (len(words) == 2 and words[0] == '--sample' and words[1].isdigit() and int(words[1])):
         print(__doc__.split('\n\n')[1])
         return 2
-    if proved.without_toolchain():
-        print(proved.without_toolchain())
+    if kit.missing():
+        print(kit.missing())
         return 2
-    rt = proved.toolchain()
+    rt = kit.toolchain()
     rt.rtlib.guarded()
     start = time.monotonic()
     with tempfile.TemporaryDirectory(prefix='vipr-wrong-') as room:
         is_sample = words[:1] == ['--sample']
-        crates = {it.name: it for it in rt.rtlib.crates_below(str(copied(room) if is_sample else TOP))}
+        # (a sample takes over what `rt ci` proved)
+        top = kit.copied(room, 'crates.txt', 'HANDLES', 'crates') if is_sample else TOP
+        crates = {it.name: it for it in rt.rtlib.crates_below(str(top))}
         paths = [path for name, it in crates.items() for path in edits(it)
                  if is_sample or not words or {name, f'{name}/{path.stem}'} & set(words)]
         if is_sample:

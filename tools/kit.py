@@ -1,0 +1,97 @@
+"""What scripts need of the Rattle kit: whether it is there, its own account of the crates, and what `rt ci` proved.
+
+`rt ci` leaves each library without the stamp by which other commands know what it was made from. Behind a run of it from
+nothing, `rt lib` and the wrong versions would prove every crate below them once more, as the first build does. So the stamps
+are written into a copy of the crates that is thrown away. That is done only if all libraries are those of one run of `rt ci`
+and nothing changed since; else, and if the kit isn't as it's known here, the commands prove what they need. Behind `make
+build`, whose libraries are stamped, they use those.
+"""
+import hashlib
+import importlib.machinery
+import importlib.util
+import os
+import shutil
+import sys
+from pathlib import Path
+
+TOP = Path(__file__).resolve().parent.parent
+RT = os.environ.get('RT', 'rt')
+PARTS = ('src', 'specs', 'proofs')
+
+
+def missing():
+    """What to say if the kit isn't on the path, and nothing if it is."""
+    if shutil.which(RT):
+        return ''
+    return (f"'{RT}' isn't on the path. vipr is written in Rattle (Rust with contracts); the Rattle kit proves and builds it:\n"
+            'README.md, "Install and use", says what it is. RT=/path/to/rt make .. names another command.')
+
+
+def toolchain():
+    """The kit's `rt` as a module."""
+    loader = importlib.machinery.SourceFileLoader('rt', os.path.realpath(shutil.which(RT)))
+    module = importlib.util.module_from_spec(importlib.util.spec_from_loader('rt', loader))
+    sys.modules['rt'] = module
+    loader.exec_module(module)
+    return module
+
+
+def sum_of(file):
+    """The SHA-256 of a file, as `sha256sum` prints it."""
+    return hashlib.sha256(file.read_bytes()).hexdigest()
+
+
+def write_sum():
+    """Writes the SHA-256 of the program that was proved and built beside it: `make check` and `make install` use no other."""
+    program = TOP / 'crates/vipr/out/vipr'
+    program.with_name('vipr.sha256').write_text(f'{sum_of(program)}  vipr\n')
+
+
+def texts(crate):
+    """The files that a crate is proved and built from."""
+    return [it for part in PARTS for it in (TOP / 'crates' / crate / part).rglob('*') if it.is_file()]
+
+
+def is_of_one_run():
+    """Whether each library here was made by `rt ci`, and from the text that stands there."""
+    made = [it.stat().st_mtime for it in TOP.glob('crates/*/out/rlib/*.rlib')]
+    newest = max(it.stat().st_mtime for crate in (TOP / 'crates').iterdir() for it in texts(crate.name))
+    return bool(made) and not any(TOP.glob('crates/*/out/rlib/stamp')) and min(made) > newest
+
+
+def stamp(copy):
+    """Writes the stamps in a copy of the libraries of one run."""
+    rt = toolchain()
+    for crate in rt.rtlib.crates_below(str(copy)):
+        rlib, program = Path(crate.rlib), Path(crate.folder, 'out', crate.name)
+        if rlib.is_dir():
+            (rlib.parent / 'stamp').write_text(crate.stamp())
+        if crate.is_program and program.is_file():
+            rt.read_files(crate)
+            program.with_suffix('.stamp').write_text(crate.stamp() + sum_of(program))
+
+
+def take_over(copy):
+    """Stamps what `rt ci` proved here and was copied to another folder, and says whether that could be done."""
+    try:
+        if not is_of_one_run():
+            return False
+        stamp(copy)
+    except (Exception, SystemExit) as fault:
+        print(f'kit: {fault}: what rt ci proved is proved once more')
+        return False
+    return True
+
+
+def copied(room, *names):
+    """A copy of these files and folders that takes over what `rt ci` proved here; this repository, if that can't be done."""
+    if not is_of_one_run():
+        return TOP
+    copy = Path(room, 'vipr')
+    copy.mkdir()
+    for name in names:
+        if (TOP / name).is_dir():
+            shutil.copytree(TOP / name, copy / name, ignore=shutil.ignore_patterns('incremental'))
+        else:
+            shutil.copy(TOP / name, copy)
+    return copy if take_over(copy) else TOP
