@@ -18,17 +18,13 @@ ROOT = os.path.dirname(os.path.dirname(os.path.abspath(__file__)))
 CRATES = os.path.join(ROOT, 'crates')
 sys.path.insert(0, os.path.join(ROOT, 'tools'))
 import wrong  # noqa: E402
-from sources import crates, levels, replaced  # noqa: E402
+import statement  # noqa: E402
+from sources import crates, levels, read, replaced  # noqa: E402
 
 WIDTH = 100
 LENGTH = 800
 # words that name the model of a type, one in each crate that has such a type
 MODEL_WORDS = {'view', 'coded', 'Value'}
-
-
-def read(path):
-    with open(path, encoding='utf-8') as f:
-        return f.read()
 
 
 def shown(path):
@@ -291,17 +287,16 @@ def crates_are_there():
 
 def statement_is_current():
     """docs/STATEMENT.md is what tests/statement.py makes of the spec files, and no part of it has too many lines."""
-    out = subprocess.run([sys.executable, os.path.join(ROOT, 'tests', 'statement.py'), '--check'], capture_output=True, text=True, check=False)
-    if out.returncode:
-        yield from (out.stdout + out.stderr).strip().split('\n')
+    text, faults, _ = statement.page()
+    yield from faults
+    if text != read(statement.TARGET):
+        yield 'docs/STATEMENT.md is not current: run tests/statement.py'
 
 
 def examples_are_there():
     """Each definition that docs/STATEMENT.md quotes has an example in tests/statement_examples.md."""
-    out = subprocess.run([sys.executable, os.path.join(ROOT, 'tests', 'statement.py'), '--missing'], capture_output=True, text=True, check=False)
-    for line in out.stdout.split('\n'):
-        if line.startswith('no example: '):
-            yield line
+    for definition in statement.page()[2].without:
+        yield f'no example: {definition}'
 
 
 def snake(name):
@@ -428,7 +423,7 @@ def write():
     text = read(path)
     with open(path, 'w', encoding='utf-8') as f:
         f.write(replaced(text, GRAPH, crate_graph()))
-    subprocess.run([sys.executable, os.path.join(ROOT, 'tests', 'statement.py')], check=True)
+    statement.main()
 
 
 def main():

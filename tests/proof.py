@@ -15,7 +15,7 @@ import os
 import re
 import sys
 
-from sources import TOP, crates, replaced
+from sources import TOP, blanked, braced, crates, edits, files_of, functions, owners, read, record_fields, replaced
 sys.path.insert(0, str(TOP / 'tools'))
 import wrong  # noqa: E402
 
@@ -24,24 +24,6 @@ EDITS = '<!-- edits: written by `tests/proof.py` -->', '<!-- end of the edits --
 MARKS = '<!-- tables: written by `tests/proof.py` from the sources -->', '<!-- end of the tables -->'
 # crates that only have the public names of others
 WITHOUT_CALLS = ('vipr_lib',)
-OPENS = {'{': 1, '}': -1}
-
-
-def braced(text, start):
-    """Where the brace that opens at `start` closes."""
-    depth = 0
-    for at in range(start, len(text)):
-        depth += OPENS.get(text[at], 0)
-        if depth == 0:
-            return at + 1
-    return len(text)
-
-
-def blanked(text):
-    """The text without comments, of the same length."""
-    return re.sub(r'//[^\n]*', lambda m: ' ' * len(m[0]), text)
-
-
 def imports(text):
     """The words that `ghost use` brings in from the definitions of our crates."""
     words = set()
@@ -54,60 +36,8 @@ def imports(text):
     return words
 
 
-def owners(text):
-    """Where each `impl` and `trait` begins and ends, and whose it is."""
-    out = []
-    for found in re.finditer(r'^(?:pub )?(impl|trait)\b([^{;]*?)\{', text, re.M):
-        head = re.sub(r'\s+', ' ', found[2]).strip()
-        head = re.sub(r'^<[^>]*>\s*', '', head) if found[1] == 'impl' else head
-        head = head.split(' where ')[0]
-        trait = None
-        if ' for ' in head:
-            trait, head = head.split(' for ', 1)
-        name = re.match(r'(?:\w+::)*(\w+)', head)
-        out.append((found.start(), braced(text, found.end() - 1), name[1] if name else head, trait, found[1]))
-    return out
-
-
-def functions(path):
-    """The functions of a file: name, whether public, clauses, where its text begins and ends."""
-    text = blanked(path.read_text())
-    whole = owners(text)
-    for found in re.finditer(r'^( *)(pub (?:\([^)]*\) )?|pub\(crate\) )?fn (\w+)', text, re.M):
-        owner = next((o for o in whole if o[0] <= found.start() < o[1]), None)
-        at, clauses = found.end(), []
-        while at < len(text):
-            clause = re.compile(r'\s*(?:where\b[^{;]*?(?=\brequires|\bensures|\{))?\s*(requires|ensures)\*?\s*(\w*)\s*(?=\{)').match(text, at)
-            if clause:
-                end = braced(text, clause.end())
-                clauses.append((clause[1], clause[2], text[clause.end():end]))
-                at = end
-                continue
-            char = text[at]
-            if char == '{':
-                end = braced(text, at)
-                break
-            if char == ';':
-                end = at
-                break
-            at += 1
-        else:
-            end = len(text)
-        public = bool(found[2] and found[2].strip() == 'pub')
-        if owner and owner[4] == 'trait':
-            public = text[owner[0]:].startswith('pub')
-        yield found[3], owner, public, clauses, found.start(), end
-
-
 # the folders of edits, and which command tries those
 FOLDERS = {'must-fail': 'make test', 'wrong': 'make wrong'}
-
-
-def edits(crate, folder):
-    """Of each edit in one of a crate's folders its name, file and text."""
-    for path in sorted((TOP / 'crates' / crate / folder).glob('*.edit')):
-        text = path.read_text()
-        yield path.stem, re.search(r'^file: (.*)$', text, re.M)[1].strip(), re.search(r'^old: (.*)$', text, re.M)[1]
 
 
 def laws(crate, name):
@@ -116,7 +46,7 @@ def laws(crate, name):
     for folder in (TOP / 'crates' / crate / 'proofs').rglob(name):
         if folder.is_dir():
             for path in sorted(folder.glob('*.antt')):
-                for found in re.finditer(r'^use Rattle\.(vipr\w*)\.proofs\.Laws\.\{([^}]*)\}', path.read_text(), re.M):
+                for found in re.finditer(r'^use Rattle\.(vipr\w*)\.proofs\.Laws\.\{([^}]*)\}', read(path), re.M):
                     out |= {item.split(' as ')[0].strip() for item in found[2].split(',')}
     return sorted(out)
 
@@ -146,10 +76,10 @@ def table(crate):
     """The table of one crate, as lines."""
     rows, placed = [], set()
     all_edits = {folder: list(edits(crate, folder)) for folder in FOLDERS}
-    for path in sorted((TOP / 'crates' / crate / 'src').rglob('*.rt')):
+    for path in files_of(crate, 'src', '.rt'):
         if 'tests' in str(path.relative_to(TOP)):
             continue
-        text = path.read_text()
+        text = read(path)
         file = str(path.relative_to(TOP / 'crates' / crate))
         words = imports(text)
         rows += traits(file, text, words)
@@ -209,13 +139,13 @@ def clauses_of(crate):
     """By the name of a function of the crate, of a trait's member or of a record, the names of its clauses. A word that
     abbreviates a record has those of the record."""
     named, short = {}, {}
-    for path in sorted((TOP / 'crates' / crate / 'src').rglob('*.rt')):
+    for path in files_of(crate, 'src', '.rt'):
         for name, _, _, clauses, _, _ in functions(path):
             named.setdefault(name, set()).update(clause for _, clause, _ in clauses if clause)
-    for path in sorted((TOP / 'crates' / crate / 'specs').rglob('*.antt')):
-        text = path.read_text()
+    for path in files_of(crate, 'specs', '.antt'):
+        text = read(path)
         for found in re.finditer(r'^pub record (\w+)(.*?)(?=^\S|\Z)', text, re.M | re.S):
-            named[found[1]] = set(re.findall(r'^  pub (\w+) :', found[2], re.M))
+            named[found[1]] = set(record_fields(found[2].split('\n')))
         short.update(re.findall(r'^([A-Z]\w*) [^=\n]*=\s*([A-Z]\w*)\b', text, re.M))
     for name in short:
         record = name

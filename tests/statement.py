@@ -12,16 +12,13 @@ the clause `X_is` of the crate vipr_worked, which the prover computes, or a sent
 --check compares with the file, and fails if it isn't current or too long, or if a part has more lines to believe than
 it may. --missing lists the definitions without an example, and the examples without a definition.
 """
-import os
 import re
 import sys
 import textwrap
 
-ROOT = os.path.dirname(os.path.dirname(os.path.abspath(__file__)))
-CRATES = os.path.join(ROOT, 'crates')
-TARGET = os.path.join(ROOT, 'docs', 'STATEMENT.md')
-EXAMPLES = os.path.join(ROOT, 'tests', 'statement_examples.md')
-WORKED = os.path.join(CRATES, 'vipr_worked', 'src')
+from sources import CRATES, TOP, files_of, functions, in_order, read, record_fields
+
+TARGET, EXAMPLES = TOP / 'docs/STATEMENT.md', TOP / 'tests/statement_examples.md'
 SPEC_CRATES = ['vipr_spec', 'vipr_bytes', 'vipr_cert', 'vipr_check', 'vipr_tighten']
 MOST_LINES = 1750
 # the columns of a line that is quoted with its comment, and of an item of examples
@@ -207,16 +204,11 @@ No clause of `Checks` needs what follows. Other calls cite it, or a law says tha
 '''
 
 
-def read(path):
-    with open(path, encoding='utf-8') as f:
-        return f.read()
-
-
 class Definition:
     def __init__(self, path, order, comment, lines, names, is_proof):
         self.path, self.order = path, order
         self.comment, self.lines, self.names, self.is_proof = comment, lines, names, is_proof
-        self.module = os.path.basename(path)[:-5]
+        self.module = path.stem
 
     def words(self):
         """The words that can mean a definition: no fields of records, and of a dotted path the whole."""
@@ -261,21 +253,6 @@ def signatures(lines):
     return out
 
 
-def spec_files(crate):
-    """The spec files of a crate in the order of its Lib.antt, the others behind."""
-    folder = os.path.join(CRATES, crate, 'specs')
-    if not os.path.isdir(folder):
-        return []
-    lib = os.path.join(folder, 'Lib.antt')
-    first = re.findall(r'^(?:pub )?mod (\w+)$', read(lib), re.M) if os.path.isfile(lib) else []
-    found = []
-    for base, subfolders, names in os.walk(folder):
-        subfolders.sort()
-        found += [os.path.join(base, n) for n in sorted(names) if n.endswith('.antt') and n != 'Lib.antt']
-    rank = {name: i for i, name in enumerate(first)}
-    return sorted(found, key=lambda p: (rank.get(os.path.relpath(p, folder)[:-5].split(os.sep)[0], len(rank)), p))
-
-
 IMPORT = re.compile(r'^(?:unfoldable )?(?:pub )?use Rattle\.(\w+)\.specs\.([\w.]+?)(?:\.\{([^}]*)\}|(?: as (\w+))?)[ \t]*$', re.M)
 
 
@@ -303,9 +280,9 @@ def operators(name):
 def load():
     files, order = {}, 0
     for crate in SPEC_CRATES:
-        for path in spec_files(crate):
+        for path in in_order(crate):
             text = read(path)
-            file = files[(crate, os.path.basename(path)[:-5])] = File(crate, path, text)
+            file = files[(crate, path.stem)] = File(crate, path, text)
             for lines in paragraphs(text):
                 names = signatures(lines)
                 if not names:
@@ -341,21 +318,6 @@ def meant(files, file, word):
     return None
 
 
-def record_fields(definition):
-    """The fields of a record by name, each with its comment, as lines."""
-    out, comment, name = {}, [], None
-    for line in definition.lines[1:]:
-        field = re.match(r'  pub (\w+) :', line)
-        if field:
-            name, comment = field[1], comment + [line]
-            out[name], comment = comment, []
-        elif line.startswith('  --'):
-            comment.append(line)
-        elif name:
-            out[name].append(line)
-    return out
-
-
 def closure(files, start, hidden, known):
     """What these definitions rest on, in the order of reading, without what is hidden or known."""
     found, todo = set(), list(start)
@@ -378,7 +340,7 @@ def named(files, names):
 
 def cited(files, home, lines):
     """The definitions that these lines of a file mean."""
-    words = Definition('', 0, [], lines, [], False).words()
+    words = Definition(TOP, 0, [], lines, [], False).words()
     return [d for d in (meant(files, home, word) for word in sorted(words)) if d is not None]
 
 
@@ -446,14 +408,10 @@ OPERATORS = {'sum': '◌+ℚ◌', 'product': '◌*ℚ◌', 'order': '◌≤ℚ�
 def worked():
     """The examples that are proved, by the definition that they are of."""
     out = {}
-    for name in sorted(os.listdir(WORKED)):
-        text = read(os.path.join(WORKED, name))
-        for m in re.finditer(r'^    ensures (\w+)_is \{', text, re.M):
-            end, depth = m.end(), 1
-            while depth:
-                depth += {'{': 1, '}': -1}.get(text[end], 0)
-                end += 1
-            out[OPERATORS.get(m[1], m[1])] = ' '.join(text[m.end():end - 1].split())
+    for path in files_of('vipr_worked', 'src', '.rt'):
+        for _, _, _, clauses, _, _ in functions(path):
+            for name, text in [(name.removesuffix('_is'), text) for _, name, text in clauses if name.endswith('_is')]:
+                out[OPERATORS.get(name, name)] = ' '.join(text[1:-1].split())
     return out
 
 
@@ -504,7 +462,7 @@ class Examples:
 def item(path, head):
     """An item of a source file from its head on, without attributes and documentation: a type with its body, a call up
     to its body."""
-    text = read(os.path.join(CRATES, path))
+    text = read(CRATES / path)
     m = re.search(r'^%s(?:.|\n)*?^\}$' % head, text, re.M)
     lines = m[0].split('\n')
     if not re.match(r'pub (?:enum|struct|trait)', lines[0]):
@@ -514,14 +472,14 @@ def item(path, head):
 
 def law(function):
     """The clauses of a law, but for those that aren't needed."""
-    m = re.search(r'^pub fn %s\(\)\n((?:.|\n)*?)^\{\}$' % function, read(os.path.join(CRATES, LAWS[function][1])), re.M)
+    m = re.search(r'^pub fn %s\(\)\n((?:.|\n)*?)^\{\}$' % function, read(CRATES / LAWS[function][1]), re.M)
     clauses = re.split(r'^(?=    ensures )', m[1], flags=re.M)[1:]
     needed = [c for c in clauses if not re.match(r'    ensures (?:%s) ' % '|'.join(NEEDLESS), c)]
     return ['pub fn %s()' % function] + [line for c in needed for line in c.rstrip('\n').split('\n')]
 
 
 def line_of(path, start):
-    return next(l for l in read(os.path.join(CRATES, path)).split('\n') if l.strip().startswith(start))
+    return next(l for l in read(CRATES / path).split('\n') if l.strip().startswith(start))
 
 
 def fenced(lines):
@@ -557,7 +515,7 @@ def sections(number, definitions, examples, laws):
     out = []
     titles = list(dict.fromkeys(topic_of(d.module, number) for d in definitions))
     for k, title in enumerate(titles, 1):
-        paths = dict.fromkeys('`%s`' % os.path.relpath(d.path, CRATES).replace('/specs', '') for d in definitions if topic_of(d.module, number) == title)
+        paths = dict.fromkeys('`%s`' % str(d.path.relative_to(CRATES)).replace('/specs', '') for d in definitions if topic_of(d.module, number) == title)
         out.append('### %s.%d %s\n' % (number, k, title + (' (%s)' % ', '.join(paths) if paths else '')))
         if (number, title) in NOTES:
             out.append(NOTES[(number, title)] + '\n')
@@ -594,7 +552,7 @@ def tightening(files):
     home = files[('vipr_tighten', 'Tightens')]
     shown = [file.own[name] for name in TIGHTENING['quoted']
              for file in (files[('vipr_spec', 'Certificate')], files[('vipr_spec', 'Tightened')], home) if name in file.own]
-    clause = record_fields(home.own['TightensAs'])[TIGHTENING['clause']]
+    clause = record_fields(home.own['TightensAs'].lines)[TIGHTENING['clause']]
     lines = count(shown) + believed(clause)
     title = '%d. What `tighten` writes' % (len(PARTS) + 1)
     row = '| [%s](#%s) | `%s` of `tighten_as` | %d | %d | - | - |' % (title, anchor(title), TIGHTENING['clause'], len(shown), lines)
@@ -606,7 +564,7 @@ def page():
     """The page, its faults, and what has no example or no definition."""
     files, examples, faults = load(), Examples(), []
     home = files[('vipr_check', 'Checks')]
-    fields = record_fields(home.own['ChecksIn'])
+    fields = record_fields(home.own['ChecksIn'].lines)
     call, known = the_call(files, examples)
     missing = set(fields) ^ {name for part in PARTS for name in part['clauses']}
     faults += ['docs/STATEMENT.md: the clause %s of ChecksIn is in no part' % name for name in sorted(missing)]
@@ -644,7 +602,7 @@ def page():
     body.append('Each is the contract of a function without code, proved for all values: [PROOF.md](PROOF.md#vipr_spec) has its clauses.\n')
     body.append('| Law | File | What it says |\n|---|---|---|\n' + '\n'.join('| `%s` | `%s` | %s |' % (function, path, said) for said, path, function in SAME) + '\n')
     for _, path, function in SAME:
-        if not re.search(r'^pub fn %s\(\)$' % function, read(os.path.join(CRATES, path)), re.M):
+        if not re.search(r'^pub fn %s\(\)$' % function, read(CRATES / path), re.M):
             faults.append('docs/STATEMENT.md: there is no law %s in %s' % (function, path))
     table = ['| Part | Clauses | Definitions | Lines | Up to here | By itself |\n|---|---|---|---|---|---|'] + rows
     text = '\n'.join([HEAD] + table + [COUNTED] + call + body).rstrip('\n') + '\n'
@@ -663,15 +621,14 @@ def main():
         print('\n'.join(['no example: ' + w for w in examples.without] + ['no definition: ' + u for u in examples.unused()]))
         return 0
     if '--check' in sys.argv:
-        old = read(TARGET) if os.path.isfile(TARGET) else ''
-        if old != new:
+        if read(TARGET) != new:
             faults.append('docs/STATEMENT.md is not current: run tests/statement.py')
         print('\n'.join(faults))
         return 1 if faults else 0
-    with open(TARGET, 'w', encoding='utf-8') as f:
-        f.write(new)
+    TARGET.write_text(new, encoding='utf-8')
     print('\n'.join(faults + ['docs/STATEMENT.md: %d lines; definitions without an example: %d' % (new.count('\n'), len(examples.without))]))
     return 1 if faults else 0
 
 
-sys.exit(main())
+if __name__ == '__main__':
+    sys.exit(main())

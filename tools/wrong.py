@@ -38,7 +38,7 @@ import kit
 
 TOP = Path(__file__).resolve().parent.parent
 sys.path.insert(0, str(TOP / 'tests'))
-from sources import replaced  # noqa: E402
+from sources import changed, replaced  # noqa: E402
 
 PAGE = TOP / 'docs/PROOF.md'
 MARKS = '<!-- last run: written by `make wrong`, and what came since by `tests/proof.py` -->', '<!-- end of the last run -->'
@@ -73,12 +73,6 @@ def text_sum():
                        for it in TOP.glob(f'crates/*/{part}/**/*') if it.is_file()):
         total.update(f'{path.relative_to(TOP)}\n'.encode() + path.read_bytes())
     return total.hexdigest()
-
-
-def changed(path):
-    """The file of its crate that an edit changes."""
-    found = re.search(r'^file: (.*)$', path.read_text(), re.M)
-    return found[1].strip() if found else ''
 
 
 def edits(crate):
