@@ -21,8 +21,8 @@ _vipr() {
     esac
     case "${COMP_WORDS[1]}" in
         help) [ "$COMP_CWORD" -eq 2 ] && compopt +o bashdefault +o default 2> /dev/null && COMPREPLY=($(compgen -W "check explain show tighten" -- "$word")); return ;;
-        check) words="--profile -h --help" ;;
-        explain) words="--profile --long -h --help" ;;
+        check) words="--profile --sum -h --help" ;;
+        explain) words="--profile --long --sum -h --help" ;;
         show) words="--compact -h --help" ;;
         tighten) words="--profile -o --out --compact -h --help" ;;
     esac

@@ -10,6 +10,7 @@ the files that are written. Streams that fail are tried by tests/hostile.py and 
 
 Prints each fault, and last `answers: N checks, F failed`; the exit status is 1 where one failed.
 """
+import hashlib
 import itertools
 import multiprocessing
 import os
@@ -251,6 +252,9 @@ WRONG = [
     ('explain --out=b', "unexpected argument '--out' found"),
     ('show --profile 1', "unexpected argument '--profile' found"),
     ('check --compact', "unexpected argument '--compact' found"),
+    ('show --sum', "unexpected argument '--sum' found"),
+    ('tighten --sum a', "unexpected argument '--sum' found"),
+    ('check --sum --sum', "the argument '--sum' cannot be used multiple times"),
     ('explain a --compact', "unexpected argument '--compact' found"),
     ('show --compact --compact', "the argument '--compact' cannot be used multiple times"),
     ('show --compact=true', "unexpected value 'true' for '--compact' found; no more were expected"),
@@ -289,6 +293,12 @@ def expect(what, wanted, words, *pieces, folder=None):
 def judged(lines):
     """The answer that is these lines."""
     return f'{lines}\n'.encode(), b'', int(lines.startswith('refused'))
+
+
+def summed(wanted, text):
+    """An answer with the line of the text's digest."""
+    printed, complained, status = wanted
+    return printed + f'sha256 {hashlib.sha256(text).hexdigest()}\n'.encode(), complained, status
 
 
 def verdict(lines):
@@ -368,6 +378,8 @@ def explains(what, text, lines):
         from_both(what, first, text, command)
         in_pieces(what, first, text, command, [1, 2, 3, 7])
         from_both(what, second, text, command, '--profile', '2')
+        from_both(what, summed(first, text), text, command, '--sum')
+        from_both(what, summed(second, text), text, command, '--sum', '--profile', '2')
         if len(printed) > 1:
             from_both(what, first, text, command, '--profile', '1')
 
@@ -387,6 +399,7 @@ def long_texts():
 def explains_long(what, text, lines):
     for command, printed in ('explain', lines), ('check', verdict(lines)):
         from_both(what, judged(printed), text, command)
+        from_both(what, summed(judged(printed), text), text, command, '--sum')
         in_pieces(what, judged(printed), text, command, [4999])
     in_pieces(what, judged(verdict(lines)), text, 'check', [7])
     # where a buffer ends, and near the end
@@ -560,7 +573,8 @@ def other_words():
            certificate('whole_objective'))
     for command in COMMANDS:
         for path in new_path(), '/':
-            expect('what cannot be read', (b'', b'fault read\n', 3), [command, path], certificate('infeasible'))
+            for options in [], *([['--sum']] if command in ('check', 'explain') else []):
+                expect('what cannot be read', (b'', b'fault read\n', 3), [command, *options, path], certificate('infeasible'))
 
 
 def done(task):

@@ -21,6 +21,7 @@ Prints each run that answers something else, and last `hostile: N runs, F failed
 a C compiler the runs with refused calls are left out, and a line says so. The exit status is 1 where a run failed.
 """
 import fcntl
+import hashlib
 import itertools
 import os
 import resource
@@ -188,12 +189,17 @@ def known_texts():
                            ('infeasible', 'cutoff_loose', 'cutoff_tight'))
     misspelled, refused = b'VER 1.0\nVAX 1\nx\nINT 0\n', b'refused 2 at byte 8\n'
     verified, kept = b'verified infeas\nsolutions 0 derived 1 peak 1\n', b'kept 1 removed 1 peak 2 1\n'
+    summed = b'sha256 %s\n' % hashlib.sha256(proof).hexdigest().encode()
     for command, text, enough, wanted in [
             ('check', proof, 118, (verified, b'', 0)), ('check', misspelled, 12, (refused, b'', 1)),
+            ('check --sum', proof, 118, (verified + summed, b'', 0)),
             ('show', proof, 118, (proof, b'', 0)), ('show', misspelled, 12, (b'', refused, 1)),
             ('tighten', loose, 151, (tight, kept, 0)), ('tighten', misspelled, 12, (b'', refused, 1))]:
-        whole = reads_fail(f'{command} of {text[8:40]!r}', [command], text, len(text))
+        whole = reads_fail(f'{command} of {text[8:40]!r}', command.split(), text, len(text))
         expect(f'{command} of {text[8:40]!r}, and its reads', (*whole, whole.calls[1]), (*wanted, enough))
+    growths_refused('check --sum', ['check', '--sum'], proof)
+    unread = answer(['check', '--sum'], misspelled, {'READ_AT_MOST': 1, 'FAIL_READ': len(misspelled)})
+    expect('check --sum, and a read fails behind what is refused', unread, (refused, b'', 1))
     for word, text, said in [('check', proof, b''), ('show', proof, b''), ('tighten', loose, kept), ('--help', b'', b'')]:
         expect(f'{word}, all of it written', writes_fail(word, [word], text)[1:], (said, 0))
 

@@ -8,6 +8,7 @@ text is cut off or memory is said to be wanted. Every answer is known beforehand
 
 Prints each fault, and last `large: N runs, F failed`; the exit status is 1 if one failed.
 """
+import subprocess
 import sys
 import tempfile
 from pathlib import Path
@@ -118,6 +119,16 @@ def of_many_bytes(room):
                stdin=file)
 
 
+def of_its_digest(room):
+    """The digest of a text of 100 MB, as FILE and from a pipe, is that of `sha256sum`."""
+    path = room / 'summed'
+    path.write_bytes(b'% a comment, to be read and hashed\n' * 2_857_000 + (TOP / 'examples/infeasible.vipr').read_bytes())
+    digest = subprocess.run(['sha256sum', path], capture_output=True, text=True, check=True).stdout.split()[0]
+    lines = verdict(f'verified infeas\nsolutions 0 derived 1 peak 1\nsha256 {digest}')
+    expect('a digest', lines, ['check', '--sum', path])
+    expect('a digest, from a pipe', lines, ['check', '--sum'], path.read_bytes())
+
+
 def of_one_name(room):
     """FILE is the file of that name, whatever is beside it."""
     proof = (TOP / 'examples/infeasible.vipr').read_bytes()
@@ -140,6 +151,7 @@ def main():
     with tempfile.TemporaryDirectory(prefix='vipr-large-') as room:
         of_one_name(Path(room))
         of_many_bytes(Path(room))
+        of_its_digest(Path(room))
     return CHECKS.end(f', {spent():.0f} seconds of processor time')
 
 

@@ -19,6 +19,7 @@ Prints each fault, and last `long: N checks, F failed`; the exit status is 1 if 
 """
 import errno
 import gzip
+import hashlib
 import os
 import shutil
 import sys
@@ -303,6 +304,9 @@ def page_of(path, name):
     if len(data) <= 1000:
         slow, _, slow_status = fed([PROGRAM, 'explain', '--long'], [data[at:at + 1] for at in range(len(data))])
         check((slow, slow_status) == (piped, piped_status), f'{name}: the same from a byte a read')
+    summed = explained(['--sum', '--long', path])
+    digest = f'sha256 {hashlib.sha256(data).hexdigest()}\n'.encode()
+    check(summed == (long + digest, long_status), f'{name}: the digest behind the page')
     page = long[len(short):]
     check(all(byte == 10 or 32 <= byte <= 126 for byte in page), f'{name}: every byte is shown')
     check(len(page) <= MOST_BYTES, f'{name}: the length')

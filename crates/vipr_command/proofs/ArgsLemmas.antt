@@ -23,7 +23,7 @@ use Rattle.std.proofs.lemmas.Slice.Eq.{bytes_eq-Decides}
 use Rattle.vipr_command.proofs.HelpLemmas.{NotHelp, first_none, later_none, met_help, never_met}
 use Rattle.vipr_rules.specs.declared.profile.Profile.{Profile}
 use Rattle.vipr_command.specs.Args.{are_accepted, asks_for_help, request_of, asked_by, command_word, file_named}
-use Rattle.vipr_command.specs.Args.{form_asked, is_long_asked, line, names_profile, profile_named}
+use Rattle.vipr_command.specs.Args.{form_asked, is_set, line, names_profile, profile_named}
 use Rattle.vipr_command.specs.Args.{words_fault}
 use Rattle.vipr_command.specs.declared.request.Job.{Job}
 use Rattle.vipr_command.specs.declared.request.Task.{Task}
@@ -142,11 +142,12 @@ pub is_asked : (words : List Text) (j : Job) (name : Text) (rows : List Row)
     → subcommand_of line words ≡ Some (name, rows) → command_word j.command ≡ name
     → Some j.profile ≡ profile_named (first_of (codes "profile") rows)
     → j.form ≡ form_asked (first_of (codes "compact") rows)
-    → j.is_long ≡ is_long_asked (first_of (codes "long") rows)
+    → j.is_long ≡ is_set (first_of (codes "long") rows)
+    → j.has_sum ≡ is_set (first_of (codes "sum") rows)
     → option_map (λ s. s.now) j.file ≡ file_named (first_of (codes "file") rows)
     → option_map (λ s. s.now) j.out ≡ file_named (first_of (codes "out") rows)
     → asked_by words ≡ Some (request_of j)
-is_asked words j name rows e n p g l f o = rw (e, n, p, g, l, f, o) refl
+is_asked words j name rows e n p g l s f o = rw (e, n, p, g, l, s, f, o) refl
 
 -- ---- the profile
 

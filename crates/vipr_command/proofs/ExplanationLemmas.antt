@@ -8,6 +8,8 @@ use Rattle.vipr_spec.specs.Tests.{none}
 use Rattle.vipr_spec.specs.Verdict.{IsExplained, cut_short}
 use Rattle.vipr_bytes.specs.Known.{IfKnown, text_of}
 use Rattle.vipr_bytes.specs.Output.{Output}
+use Rattle.vipr_bytes.specs.declared.write.WriteFailed.{WriteFailed}
+use Rattle.vipr_check.specs.Checks.{ChecksIn}
 use Rattle.vipr_check.specs.Explanation.{explained_text}
 use Rattle.vipr_check.specs.Run.{SaysInDetail}
 use Rattle.vipr_check.specs.declared.detail.Detail.{Detail}
@@ -17,10 +19,11 @@ use Rattle.vipr_check.specs.declared.verdict.Fault.TheVariants.{Read as CheckRea
 use Rattle.vipr_check.specs.declared.verdict.Verdict.{Verdict}
 use Rattle.vipr_command.specs.declared.fault.CommandFault.{CommandFault}
 use Rattle.vipr_command.specs.declared.fault.CommandFault.TheVariants.{Memory, Read, Write}
-use Rattle.vipr_command.specs.Output.{Took, Prints, PrintsMore, after_first}
-use Rattle.vipr_command.specs.Run.{KnownInput, OfInput, PrintsAtLength, PrintsExplanation}
-use Rattle.vipr_command.specs.Run.{PrintsPage, fault_for, input_of, known_by, status_for}
+use Rattle.vipr_command.specs.Output.{Took, Prints, after_first}
+use Rattle.vipr_command.specs.Run.{KnownInput, OfInput, PrintsExplanation, PrintsInMemory}
+use Rattle.vipr_command.specs.Run.{PrintsWhole, Tells, fault_for, input_of, known_by, status_for}
 use Rattle.vipr_command.specs.Run.{unknown_input}
+use Rattle.vipr_command.specs.declared.request.Task.{Task}
 use Rattle.vipr_command.proofs.InputLemmas.{of_input, of_fault}
 use Rattle.vipr_command.proofs.ShowLemmas.{stays}
 
@@ -55,45 +58,50 @@ module _ (source : Option Input) (P : Profile) (old : Option Output) where
     not_printed f r is p =
         of_fault source (λ k. k.Explained P (Ok (v, x))) (λ k r. PrintsExplanation P k old new r) f r is (λ k h. text_not_printed P k v x h old new f p) explained
 
--- ---- a text in memory, and its page
+-- ---- a text in memory
 
--- what is said of what a reader of the text gives
-pub said_of : (P : Profile) (r : Result (Verdict × Detail) CheckFault) (bytes bytes' : List ℕ) (fails ends : Bool)
-    → bytes' ≡ bytes → ends ≡ fails → length bytes < 2 ^ 64
-    → IfKnown (Some (input_of bytes' ends)) (λ i. SaysInDetail (IsExplained P (text_of i)) r)
-    → SaysInDetail (IsExplained P (text_of (input_of bytes fails))) r
-said_of P r bytes bytes' fails ends same end short said =
-    subst (λ b. length b < 2 ^ 64 → SaysInDetail (IsExplained P (text_of (input_of b fails))) r) same
-    (subst (λ f. length bytes' < 2 ^ 64 → SaysInDetail (IsExplained P (text_of (input_of bytes' f))) r) end said) short
+module _ (bytes bytes' : List ℕ) (fails ends : Bool) (same : bytes' ≡ bytes) (end : ends ≡ fails) where
+  -- what a reader of the text gives is the text
+  read_as : (Q : Input → Type 0) → Q (input_of bytes' ends) → Q (input_of bytes fails)
+  read_as Q h = subst (λ b. Q (input_of b fails)) same (subst (λ f. Q (input_of bytes' f)) end h)
 
-module _ (P : Profile) (i : Input) (old : Option Output) where
-  nothing_of : (e : CheckFault) → SaysInDetail (IsExplained P (text_of i)) (Err e) → PrintsPage P i old old (Err (fault_for e))
+  pub said_of : (P : Profile) (r : Result (Verdict × Detail) CheckFault) → length bytes < 2 ^ 64 → IfKnown (Some (input_of bytes' ends)) (λ i. SaysInDetail (IsExplained P (text_of i)) r) → SaysInDetail (IsExplained P (text_of (input_of bytes fails))) r
+  said_of P r short said = read_as (λ i. IfKnown (Some i) (λ i. SaysInDetail (IsExplained P (text_of i)) r)) said short
+
+  pub checked_of : (P : Profile) (r : Result Verdict CheckFault) → ChecksIn P (Some (input_of bytes' ends)) r → ChecksIn P (Some (input_of bytes fails)) r
+  checked_of P r h = read_as (λ i. ChecksIn P (Some i) r) h
+
+module _ (t : Task) (P : Profile) (l s : Bool) (i : Input) (old : Option Output) where
+  nothing_of : (e : CheckFault) → SaysInDetail (IsExplained P (text_of i)) (Err e) → PrintsWhole t P l s i old old (Err (fault_for e))
   nothing_of CheckRead h = (h, stays old)
   nothing_of CheckMemory h = stays old
 
-  pub no_page : (e : CheckFault) (r : Result ℕ CommandFault) → IsErrAnd r (λ f. f ≡ fault_for e) → SaysInDetail (IsExplained P (text_of i)) (Err e) → PrintsPage P i old old r
-  no_page e (Ok s) is h = absurd is
-  no_page e (Err f) is h = subst (λ f. PrintsPage P i old old (Err f)) (sym is) (nothing_of e h)
+  pub no_answer : (e : CheckFault) (r : Result ℕ CommandFault) → IsErrAnd r (λ f. f ≡ fault_for e) → SaysInDetail (IsExplained P (text_of i)) (Err e) → PrintsWhole t P l s i old old r
+  no_answer e (Ok x) is h = absurd is
+  no_answer e (Err f) is h = subst (λ f. PrintsWhole t P l s i old old (Err f)) (sym is) (nothing_of e h)
 
-  pub with_page : (v : Verdict) (x : Detail) → SaysInDetail (IsExplained P (text_of i)) (Ok (v, x)) → (new : Option Output) (r : Result ℕ CommandFault) → PrintsMore (explained_text v x) (status_for v) old new r → PrintsPage P i old new r
-  with_page v x explained new (Ok s) (more, page, is, took) = (v, x, more, explained, page, is, took)
-  with_page v x explained new (Err Read) p = absurd p
-  with_page v x explained new (Err Memory) p = p
-  with_page v x explained new (Err (Write n)) (more, page, took) = (v, x, more, explained, page, took)
+  pub no_room : (r : Result ℕ CommandFault) → IsErrAnd r (λ f. f ≡ Memory) → PrintsWhole t P l s i old old r
+  no_room (Ok x) is = absurd is
+  no_room (Err f) is = subst (λ f. PrintsWhole t P l s i old old (Err f)) (sym is) (stays old)
+
+  module _ (v : Verdict) (text : List ℕ) (tells : Tells t P l s i v text) (new : Option Output) where
+    pub not_whole : (e : WriteFailed) (r : Result ℕ CommandFault) → IsErrAnd r (λ f. f ≡ Write e.accepted) → Took old new text (Err e) → PrintsWhole t P l s i old new r
+    not_whole e (Ok x) is took = absurd is
+    not_whole e (Err f) is took = subst (λ f. PrintsWhole t P l s i old new (Err f)) (sym is) (v, text, tells, took)
 
 -- what a source gave, which is its input if that is known
-module _ (P : Profile) (old : Option Output) where
-  of_given : (k : KnownInput) (i : Input) → k.Gives i → (IsExplained P (text_of i) cut_short none → k.Explained P (Err CheckRead)) → (new : Option Output) (r : Result ℕ CommandFault) → PrintsPage P i old new r → PrintsAtLength P k old new r
-  of_given k i gives unread new (Ok s) p = (i, gives, p)
+module _ (t : Task) (P : Profile) (l s : Bool) (old : Option Output) where
+  of_given : (k : KnownInput) (i : Input) → k.Gives i → (IsExplained P (text_of i) cut_short none → k.Explained P (Err CheckRead)) → (new : Option Output) (r : Result ℕ CommandFault) → PrintsWhole t P l s i old new r → PrintsInMemory t P l s k old new r
+  of_given k i gives unread new (Ok x) p = (i, gives, p)
   of_given k i gives unread new (Err Read) (h, same) = (unread h, same)
   of_given k i gives unread new (Err Memory) p = (i, gives, p)
   of_given k i gives unread new (Err (Write n)) p = (i, gives, p)
 
-  pub at_length : (source : Option Input) (i : Input) → IfSome source (λ j. i ≡ j) → (new : Option Output) (r : Result ℕ CommandFault) → PrintsPage P i old new r → OfInput source (λ k. PrintsAtLength P k old new r)
-  at_length None i is new r p = (of_given unknown_input i tt (λ h. tt) new r p, tt)
-  at_length (Some j) i is new r p = (of_given unknown_input i tt (λ h. tt) new r p, λ short. of_given (known_by j) i is (λ h. subst (λ x. IsExplained P (text_of x) cut_short none) is h) new r p)
+  pub in_memory : (source : Option Input) (i : Input) → IfSome source (λ j. i ≡ j) → (new : Option Output) (r : Result ℕ CommandFault) → PrintsWhole t P l s i old new r → OfInput source (λ k. PrintsInMemory t P l s k old new r)
+  in_memory None i is new r p = (of_given unknown_input i tt (λ h. tt) new r p, tt)
+  in_memory (Some j) i is new r p = (of_given unknown_input i tt (λ h. tt) new r p, λ short. of_given (known_by j) i is (λ h. subst (λ x. IsExplained P (text_of x) cut_short none) is h) new r p)
 
-  pub without_memory : (source : Option Input) (r : Result ℕ CommandFault) → IsErrAnd r (λ f. f ≡ Memory) → OfInput source (λ k. PrintsAtLength P k old old r)
-  without_memory source (Ok s) is = absurd is
-  without_memory None (Err f) is = subst (λ f. OfInput None (λ k. PrintsAtLength P k old old (Err f))) (sym is) ((input_of [] false, tt, stays old), tt)
-  without_memory (Some j) (Err f) is = subst (λ f. OfInput (Some j) (λ k. PrintsAtLength P k old old (Err f))) (sym is) ((j, tt, stays old), λ short. (j, refl, stays old))
+  pub without_memory : (source : Option Input) (r : Result ℕ CommandFault) → IsErrAnd r (λ f. f ≡ Memory) → OfInput source (λ k. PrintsInMemory t P l s k old old r)
+  without_memory source (Ok x) is = absurd is
+  without_memory None (Err f) is = subst (λ f. OfInput None (λ k. PrintsInMemory t P l s k old old (Err f))) (sym is) ((input_of [] false, tt, stays old), tt)
+  without_memory (Some j) (Err f) is = subst (λ f. OfInput (Some j) (λ k. PrintsInMemory t P l s k old old (Err f))) (sym is) ((j, tt, stays old), λ short. (j, refl, stays old))

@@ -1,6 +1,6 @@
 -- What the program answers if the words aren't taken, if nothing is known of the output, and from
 -- what is read
-use Rattle.std.proofs.Common.{◌≡◌, Bor, option_map, ℕ, List, Option, Some, None, Result, Ok, Err}
+use Rattle.std.proofs.Common.{◌≡◌, ◌⊎◌, Bor, option_map, ℕ, List, Option, Some, None, Result, Ok, Err}
 use Rattle.std.proofs.Common.{Bool, true, false, inl, inr, refl, sym, subst}
 use Rattle.std.specs.Prelude.{IfOk}
 use Rattle.clap.specs.Words.{HasKind, Text, kind_of}
@@ -19,7 +19,8 @@ use Rattle.vipr_tighten.specs.declared.outcome.TightenFault.{TightenFault}
 use Rattle.vipr_tighten.specs.declared.outcome.TightenFault.TheVariants as tighten
 use Rattle.vipr_command.specs.Args.{are_accepted, request_of, asked_by, words_fault}
 use Rattle.vipr_command.specs.Run.{AnswersError, Declines, Does, DoesJob, IsStatusFor, KnownInput}
-use Rattle.vipr_command.specs.Run.{OfInput, RunsOver, exit_status, read_from, unknown_input}
+use Rattle.vipr_command.specs.Run.{OfInput, PrintsInMemory, RunsOver, exit_status, read_from}
+use Rattle.vipr_command.specs.Run.{unknown_input}
 use Rattle.vipr_command.specs.Show.{Kind, ShowsText}
 use Rattle.vipr_command.proofs.InputLemmas.{of_any, of_input}
 use Rattle.vipr_command.proofs.ShowLemmas.{stays}
@@ -75,29 +76,36 @@ tightens_untold P F k old new (Err tighten.Read) (is, stays) = (is, tt)
 tightens_untold P F k old new (Err (tighten.Memory n)) (is, stays) = (is, tt)
 tightens_untold P F k old new (Err (tighten.Write n)) (c, goal, is, proof, tight, (less, accepted)) = (c, goal, is, proof, tight, (less, tt))
 
-does_untold : (t : Task) (P : Profile) (F : Form) (l : Bool) (out : Option Text) (k : KnownInput)
-    (old new : Option Output) (r : Result ℕ CommandFault) → Does t P F l out k old new r
-    → Does t P F l out k None None r
-does_untold Check P F l out k old new (Ok s) (v, decided, is, took) = (v, decided, is, tt)
-does_untold Check P F l out k old new (Err Read) (decided, stays) = (decided, tt)
-does_untold Check P F l out k old new (Err Memory) stays = tt
-does_untold Check P F l out k old new (Err (Write n)) (v, decided, took) = (v, decided, tt)
-does_untold Explain P F false out k old new (Ok s) (v, x, explained, is, took) = (v, x, explained, is, tt)
-does_untold Explain P F false out k old new (Err Read) (explained, stays) = (explained, tt)
-does_untold Explain P F false out k old new (Err Memory) stays = tt
-does_untold Explain P F false out k old new (Err (Write n)) (v, x, explained, took) = (v, x, explained, tt)
-does_untold Explain P F true out k old new (Ok s) (i, gives, (v, x, more, explained, page, is, took)) = (i, gives, (v, x, more, explained, page, is, tt))
-does_untold Explain P F true out k old new (Err Read) (explained, stays) = (explained, tt)
-does_untold Explain P F true out k old new (Err Memory) (i, gives, stays) = (i, gives, tt)
-does_untold Explain P F true out k old new (Err (Write n)) (i, gives, (v, x, more, explained, page, took)) = (i, gives, (v, x, more, explained, page, tt))
-does_untold Show P F l out k old new (Ok s) (x, is, shows) = (x, is, shows_untold F k.kind old new (Ok x) shows)
-does_untold Show P F l out k old new (Err f) shows = shows_untold F k.kind old new (Err f) shows
-does_untold Tighten P F l None k old new r (x, is, tightens) = (x, is, tightens_untold P F (k.proof P) old new x tightens)
-does_untold Tighten P F l (Some out) k old new r (tightened, stays) = (tightened, tt)
+whole_untold : (t : Task) (P : Profile) (l s : Bool) (k : KnownInput) (old new : Option Output)
+    (r : Result ℕ CommandFault) → PrintsInMemory t P l s k old new r
+    → PrintsInMemory t P l s k None None r
+whole_untold t P l s k old new (Ok x) (i, gives, (v, text, tells, is, took)) = (i, gives, (v, text, tells, is, tt))
+whole_untold t P l s k old new (Err Read) (explained, stays) = (explained, tt)
+whole_untold t P l s k old new (Err Memory) (i, gives, stays) = (i, gives, tt)
+whole_untold t P l s k old new (Err (Write n)) (i, gives, (v, text, tells, took)) = (i, gives, (v, text, tells, tt))
+
+does_untold : (t : Task) (P : Profile) (F : Form) (l s : Bool) (out : Option Text) (k : KnownInput)
+    (old new : Option Output) (r : Result ℕ CommandFault) → Does t P F l s out k old new r
+    → Does t P F l s out k None None r
+does_untold Check P F l false out k old new (Ok s) (v, decided, is, took) = (v, decided, is, tt)
+does_untold Check P F l false out k old new (Err Read) (decided, stays) = (decided, tt)
+does_untold Check P F l false out k old new (Err Memory) stays = tt
+does_untold Check P F l false out k old new (Err (Write n)) (v, decided, took) = (v, decided, tt)
+does_untold Check P F l true out k old new r does = whole_untold Check P l true k old new r does
+does_untold Explain P F false false out k old new (Ok s) (v, x, explained, is, took) = (v, x, explained, is, tt)
+does_untold Explain P F false false out k old new (Err Read) (explained, stays) = (explained, tt)
+does_untold Explain P F false false out k old new (Err Memory) stays = tt
+does_untold Explain P F false false out k old new (Err (Write n)) (v, x, explained, took) = (v, x, explained, tt)
+does_untold Explain P F false true out k old new r does = whole_untold Explain P false true k old new r does
+does_untold Explain P F true s out k old new r does = whole_untold Explain P true s k old new r does
+does_untold Show P F l s out k old new (Ok x) (y, is, shows) = (y, is, shows_untold F k.kind old new (Ok y) shows)
+does_untold Show P F l s out k old new (Err f) shows = shows_untold F k.kind old new (Err f) shows
+does_untold Tighten P F l s None k old new r (x, is, tightens) = (x, is, tightens_untold P F (k.proof P) old new x tightens)
+does_untold Tighten P F l s (Some out) k old new r (tightened, stays) = (tightened, tt)
 
 untold : (words : List Text) (k : KnownInput) (old new : Option Output) (r : Result ℕ CommandFault)
     → RunsOver words k old new r → RunsOver words k None None r
-untold words k old new r (inl (t, P, F, l, file, out, request_of, does)) = inl (t, P, F, l, file, out, request_of, does_untold t (profile_of P) F l out (read_from file k) old new r does)
+untold words k old new r (inl (t, P, F, l, s, file, out, request_of, does)) = inl (t, P, F, l, s, file, out, request_of, does_untold t (profile_of P) F l s out (read_from file k) old new r does)
 untold words k old new r (inr (inl (e, among, declines))) = inr (inl (e, among, declines_untold e old new r declines))
 untold words k old new r (inr (inr (is, stays))) = inr (inr (is, tt))
 
@@ -106,17 +114,19 @@ pub fits : (words : List Text) (old new : Option Output) (r : Result ℕ Command
 fits words old new r obeys = (r, refl, untold words unknown_input old new r obeys)
 
 -- a file that can't be opened
-unread : (t : Task) (P : Profile) (F : Form) (l : Bool) (out : Option Text) (old : Option Output)
-    → Does t P F l out unknown_input old old (Err Read)
-unread Check P F l out old = (tt, stays old)
-unread Explain P F false out old = (tt, stays old)
-unread Explain P F true out old = (tt, stays old)
-unread Show P F l out old = (tt, stays old)
-unread Tighten P F l None old = (Err tighten.Read, refl, (tt, stays old))
-unread Tighten P F l (Some out) old = (inl (Err tighten.Read, refl, (tt, tt)), stays old)
+unread : (t : Task) (P : Profile) (F : Form) (l s : Bool) (out : Option Text) (old : Option Output)
+    → Does t P F l s out unknown_input old old (Err Read)
+unread Check P F l false out old = (tt, stays old)
+unread Check P F l true out old = (tt, stays old)
+unread Explain P F false false out old = (tt, stays old)
+unread Explain P F false true out old = (tt, stays old)
+unread Explain P F true s out old = (tt, stays old)
+unread Show P F l s out old = (tt, stays old)
+unread Tighten P F l s None old = (Err tighten.Read, refl, (tt, stays old))
+unread Tighten P F l s (Some out) old = (inl (Err tighten.Read, refl, (tt, tt)), stays old)
 
 pub unread_job : (j : Job) (old : Option Output) → DoesJob j unknown_input old old (Err Read)
-unread_job j old = unread j.command (profile_of j.profile) j.form j.is_long (option_map (λ s. s.now) j.out) old
+unread_job j old = unread j.command (profile_of j.profile) j.form j.is_long j.has_sum (option_map (λ s. s.now) j.out) old
 
 abbrev pub named : Option (Bor (List ℕ)) → Option Text
 named o = option_map (λ s. s.now) o
@@ -135,8 +145,23 @@ module _ (j : Job) (source : Option Input) (old new : Option Output) (r : Result
   done_with_file file is done = subst DoneWith (sym is) (of_any source (λ _. DoesJob j unknown_input old new r) (λ _. done))
 
   -- what is done is this task
-  pub done_as : (t : Task) → j.command ≡ t → OfInput source (λ k. Does t (profile_of j.profile) j.form j.is_long (named j.out) k old new r) → OfInput source (λ k. DoesJob j k old new r)
-  done_as t is done = subst (λ (t : Task). OfInput source (λ k. Does t (profile_of j.profile) j.form j.is_long (named j.out) k old new r)) (sym is) done
+  pub done_as : (t : Task) → j.command ≡ t → OfInput source (λ k. Does t (profile_of j.profile) j.form j.is_long j.has_sum (named j.out) k old new r) → OfInput source (λ k. DoesJob j k old new r)
+  done_as t is done = subst (λ (t : Task). OfInput source (λ k. Does t (profile_of j.profile) j.form j.is_long j.has_sum (named j.out) k old new r)) (sym is) done
+
+-- the text is read into memory
+module _ (source : Option Input) (P : Profile) (F : Form) (out : Option Text) (old new : Option Output) (r : Result ℕ CommandFault) where
+  abbrev Kept : Task → Bool → Bool → Type 0
+  Kept t l s = OfInput source (λ k. PrintsInMemory t P l s k old new r)
+
+  pub checked_in_memory : (l s : Bool) → s ≡ true → Kept Check l s → OfInput source (λ k. Does Check P F l s out k old new r)
+  checked_in_memory l true is h = h
+  checked_in_memory l false is h = cc
+
+  pub explained_in_memory : (l s : Bool) → (l ≡ true) ⊎ (s ≡ true) → Kept Explain l s → OfInput source (λ k. Does Explain P F l s out k old new r)
+  explained_in_memory true s is h = h
+  explained_in_memory false true is h = h
+  explained_in_memory false false (inl is) h = cc
+  explained_in_memory false false (inr is) h = cc
 
 -- the words ask for what is done
 pub obeyed : (words : List Text) (j : Job) → asked_by words ≡ Some (request_of j)
@@ -144,4 +169,4 @@ pub obeyed : (words : List Text) (j : Job) → asked_by words ≡ Some (request_
     → OfInput source (λ k. DoesJob j (read_from (named j.file) k) old new r)
     → OfInput source (λ k. RunsOver words k old new r)
 obeyed words j is source old new r = of_input source (λ k. DoesJob j (read_from (named j.file) k) old new r) (λ k. RunsOver words k old new r)
-    (λ k done. inl (j.command, j.profile, j.form, j.is_long, named j.file, named j.out, is, done))
+    (λ k done. inl (j.command, j.profile, j.form, j.is_long, j.has_sum, named j.file, named j.out, is, done))

@@ -51,6 +51,10 @@ compact_rule = flag_rule (codes "compact")
 abbrev pub long_rule : Rule
 long_rule = flag_rule (codes "long")
 
+-- `[--sum]`
+abbrev pub sum_rule : Rule
+sum_rule = flag_rule (codes "sum")
+
 abbrev pub command_word : Task → Text
 command_word Check = codes "check"
 command_word Explain = codes "explain"
@@ -63,8 +67,9 @@ with_file t = with_rule (new_app (command_word t)) file_rule
 
 -- a task's subcommand
 abbrev pub app_for : Task → App
-app_for Check = with_rule (with_file Check) profile_rule
-app_for Explain = with_rule (with_rule (with_file Explain) profile_rule) long_rule
+app_for Check = with_rule (with_rule (with_file Check) profile_rule) sum_rule
+app_for Explain = with_rule (with_rule (with_rule (with_file Explain) profile_rule) long_rule)
+    sum_rule
 app_for Show = with_rule (with_file Show) compact_rule
 app_for Tighten = with_rule (with_rule (with_rule (with_file Tighten) profile_rule) out_rule)
     compact_rule
@@ -109,15 +114,15 @@ abbrev pub form_asked : Option Text → Form
 form_asked None = Canonical
 form_asked (Some word) = if bytes_eq word (codes "true") then Compact else Canonical
 
--- whether an explanation is to be long, by the value of the flag `--long`
-abbrev pub is_long_asked : Option Text → Bool
-is_long_asked None = false
-is_long_asked (Some word) = bytes_eq word (codes "true")
+-- whether `--long` or `--sum` is among the words, by the value of this flag
+abbrev pub is_set : Option Text → Bool
+is_set None = false
+is_set (Some word) = bytes_eq word (codes "true")
 
 -- a subcommand's name, the profile, if PROFILE names one, the form, whether the explanation is to
--- be long, and the files that FILE and OUT name
+-- be long, whether the digest is to be added, and the files that FILE and OUT name
 abbrev pub Request : Type 0
-Request = Text × Option Profile × Form × Bool × Option Text × Option Text
+Request = Text × Option Profile × Form × Bool × Bool × Option Text × Option Text
 
 -- what clap's matches of the words are
 abbrev pub asked_by : List Text → Option Request
@@ -125,7 +130,8 @@ asked_by words = option_map (λ p. (
   p.0,
   profile_named (first_of (codes "profile") p.1),
   form_asked (first_of (codes "compact") p.1),
-  is_long_asked (first_of (codes "long") p.1),
+  is_set (first_of (codes "long") p.1),
+  is_set (first_of (codes "sum") p.1),
   file_named (first_of (codes "file") p.1),
   file_named (first_of (codes "out") p.1),
 )) (subcommand_of line words)
@@ -136,6 +142,7 @@ request_of j = (
   Some j.profile,
   j.form,
   j.is_long,
+  j.has_sum,
   option_map (λ s. s.now) j.file,
   option_map (λ s. s.now) j.out,
 )

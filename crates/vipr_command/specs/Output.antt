@@ -1,7 +1,6 @@
 -- What a writer took of what was to be printed.
-use Rattle.std.specs.Prelude.{◌≡◌, ◌++◌, ℕ, List, Option, Some, IfSome, Result, Ok, Err}
+use Rattle.std.specs.Prelude.{◌≡◌, ℕ, List, Option, Some, IfSome, Result, Ok, Err}
 use Rattle.vipr_bytes.specs.Output.{Output}
-use Rattle.vipr_page.specs.Page.{IsPage}
 use Rattle.vipr_bytes.specs.Written.{Wrote}
 use Rattle.vipr_bytes.specs.declared.write.WriteFailed.{WriteFailed}
 use Rattle.vipr_command.specs.declared.fault.CommandFault.{CommandFault}
@@ -23,16 +22,6 @@ Stays old new = IfSome old (λ o. new ≡ Some o)
 -- the text in question, if it is known
 abbrev pub IsText : Option (List ℕ) → List ℕ → Type 0
 IsText known text = IfSome known (λ t. text ≡ t)
-
--- What follows a text is a page, which may be empty. Ok: both were written, and this status is
--- answered. Write: their first n bytes were, and no more. Memory: nothing was.
-abbrev pub PrintsMore : List ℕ → ℕ → Option Output → Option Output → Result ℕ CommandFault → Type 0
-PrintsMore text status old new (Ok s) = (more : List ℕ) × IsPage more × (s ≡ status)
-    × Took old new (text ++ more) (Ok tt)
-PrintsMore text status old new (Err Read) = ⊥
-PrintsMore text status old new (Err Memory) = Stays old new
-PrintsMore text status old new (Err (Write n)) = (more : List ℕ) × IsPage more
-    × Took old new (text ++ more) (Err (after_first n))
 
 -- Ok: the text was accepted whole. Write: its first n bytes were, and no more. Memory: nothing was.
 abbrev pub Prints : Option (List ℕ) → Option Output → Option Output → Result (Unit {0}) CommandFault

@@ -1,6 +1,6 @@
 -- What the program answers, and what it prints.
 use Rattle.std.specs.Prelude.{⊤, ◌≡◌, ◌≢◌, ◌⊎◌, ℕ, List, Option, Some, None, Result, Ok, Err, codes}
-use Rattle.std.specs.Prelude.{◌++◌, Bool, true, false, decimal, option_map}
+use Rattle.std.specs.Prelude.{◌++◌, ◌<◌, ◌^◌, [], Bool, true, false, decimal, option_map, length}
 use Rattle.clap.specs.Words.{IsAmong, Text}
 use Rattle.clap.specs.declared.error.ErrorKind.{ErrorKind}
 use Rattle.clap.specs.declared.error.ErrorKind.TheVariants as kind
@@ -13,6 +13,7 @@ use Rattle.vipr_bytes.specs.Output.{Output}
 use Rattle.vipr_bytes.specs.Known.{IfKnown, text_of}
 use Rattle.vipr_rules.specs.Profile.{profile_of}
 use Rattle.vipr_rules.specs.declared.profile.Profile as rules
+use Rattle.vipr_check.specs.Checks.{ChecksIn}
 use Rattle.vipr_check.specs.Explanation.{explained_text}
 use Rattle.vipr_check.specs.Shown.{detail_of}
 use Rattle.vipr_check.specs.View.{Says, answer_of}
@@ -29,7 +30,7 @@ use Rattle.vipr_write.specs.declared.write.WriteError.{WriteError}
 use Rattle.vipr_write.specs.declared.write.WriteError.TheVariants as write
 use Rattle.vipr_page.specs.Page.{IsPage}
 use Rattle.vipr_command.specs.Args.{asked_by, command_word, words_fault}
-use Rattle.vipr_command.specs.Text.{verdict_lines}
+use Rattle.vipr_command.specs.Text.{answer_lines, sum_read, verdict_lines}
 use Rattle.vipr_command.specs.Output.{Took, Stays, after_first}
 use Rattle.vipr_command.specs.Show.{Kind, ShowsText, any_text, text_read}
 use Rattle.vipr_command.specs.Tighten.{WritesFile, WritesTightened}
@@ -139,25 +140,43 @@ abbrev pub ReadsOn : Input → Option Input → List ℕ → Bool → Bool → T
 ReadsOn i left bytes has_failed true = HasRead i left bytes
 ReadsOn i left bytes has_failed false = i ≡ input_of bytes has_failed
 
--- the verdict's lines of this input were printed with those of the detail, and behind them a page
--- for people, which may be empty
-abbrev pub PrintsPage : Profile → Input → Option Output → Option Output → Result ℕ CommandFault
-    → Type 0
-PrintsPage P i old new (Ok s) = (v : Verdict) × (x : Detail) × (more : List ℕ)
-    × IsExplained P (text_of i) (answer_of v) (detail_of x) × IsPage more
-    × (s ≡ status_for v) × Took old new (explained_text v x ++ more) (Ok tt)
-PrintsPage P i old new (Err Read) =
-    IsExplained P (text_of i) cut_short none × Stays old new
-PrintsPage P i old new (Err Memory) = Stays old new
-PrintsPage P i old new (Err (Write n)) = (v : Verdict) × (x : Detail) × (more : List ℕ)
-    × IsExplained P (text_of i) (answer_of v) (detail_of x) × IsPage more
-    × Took old new (explained_text v x ++ more) (Err (after_first n))
+-- the digest's line, if it is asked for
+abbrev pub sum_asked : Bool → Input → List ℕ
+sum_asked true i = sum_read i
+sum_asked false i = []
 
--- what the input gave was explained, and this printed; a file that can't be opened gives nothing
-abbrev pub PrintsAtLength : Profile → KnownInput → Option Output → Option Output
+-- the lines of a task, if it is to be long a page for people behind them, which may be empty, and
+-- the digest's line, if that is asked for
+abbrev pub IsPrinted : Task → Bool → Bool → Input → Verdict → Detail → List ℕ → Type 0
+IsPrinted t long sum i v x text = (page : List ℕ) × IsPage page × (long ≡ false → page ≡ [])
+    × (text ≡ answer_lines t v x ++ page ++ sum_asked sum i)
+
+-- this verdict is the exact answer for an input, and that is printed of it
+pub record Tells (t : Task) (P : Profile) (long sum : Bool) (i : Input) (v : Verdict)
+    (text : List ℕ) : Type 0 where
+  pub x : Detail
+  pub explained : IsExplained P (text_of i) (answer_of v) (detail_of x)
+  pub checked : ChecksIn P (Some i) (Ok v)
+  pub short : length i.bytes < 2 ^ 64
+  pub printed : IsPrinted t long sum i v x text
+
+-- so much was printed of an input, and the status is the verdict's
+abbrev pub PrintsWhole : Task → Profile → Bool → Bool → Input → Option Output → Option Output
     → Result ℕ CommandFault → Type 0
-PrintsAtLength P k old new (Err Read) = k.Explained P (Err CheckRead) × Stays old new
-PrintsAtLength P k old new r = (i : Input) × k.Gives i × PrintsPage P i old new r
+PrintsWhole t P long sum i old new (Ok s) = (v : Verdict) × (text : List ℕ)
+    × Tells t P long sum i v text × (s ≡ status_for v) × Took old new text (Ok tt)
+PrintsWhole t P long sum i old new (Err Read) =
+    IsExplained P (text_of i) cut_short none × Stays old new
+PrintsWhole t P long sum i old new (Err Memory) = Stays old new
+PrintsWhole t P long sum i old new (Err (Write n)) = (v : Verdict) × (text : List ℕ)
+    × Tells t P long sum i v text × Took old new text (Err (after_first n))
+
+-- the same of what some input gave; a file that can't be opened gives nothing
+abbrev pub PrintsInMemory : Task → Profile → Bool → Bool → KnownInput → Option Output
+    → Option Output → Result ℕ CommandFault → Type 0
+PrintsInMemory t P long sum k old new (Err Read) = k.Explained P (Err CheckRead) × Stays old new
+PrintsInMemory t P long sum k old new r = (i : Input) × k.Gives i
+    × PrintsWhole t P long sum i old new r
 
 -- the text was printed in this form, or the certificate refused
 abbrev pub PrintsText : Form → KnownInput → Option Output → Option Output → Result ℕ CommandFault
@@ -173,19 +192,22 @@ abbrev pub PrintsTightened : Profile → Form → Option Text → KnownInput →
 PrintsTightened P F None k old new r = WritesTightened P F (k.proof P) old new r
 PrintsTightened P F (Some out) k old new r = WritesFile P F (k.proof P) r × Stays old new
 
--- the task is done by this profile, in this form, long or not, with this OUT
-abbrev pub Does : Task → Profile → Form → Bool → Option Text → KnownInput → Option Output
+-- the task is done by this profile, in this form, long or not, with the digest or without, with
+-- this OUT
+abbrev pub Does : Task → Profile → Form → Bool → Bool → Option Text → KnownInput → Option Output
     → Option Output → Result ℕ CommandFault → Type 0
-Does Check P F long out k old new r = PrintsVerdict P k old new r
-Does Explain P F false out k old new r = PrintsExplanation P k old new r
-Does Explain P F true out k old new r = PrintsAtLength P k old new r
-Does Show P F long out k old new r = PrintsText F k old new r
-Does Tighten P F long out k old new r = PrintsTightened P F out k old new r
+Does Check P F long false out k old new r = PrintsVerdict P k old new r
+Does Check P F long true out k old new r = PrintsInMemory Check P long true k old new r
+Does Explain P F false false out k old new r = PrintsExplanation P k old new r
+Does Explain P F false true out k old new r = PrintsInMemory Explain P false true k old new r
+Does Explain P F true sum out k old new r = PrintsInMemory Explain P true sum k old new r
+Does Show P F long sum out k old new r = PrintsText F k old new r
+Does Tighten P F long sum out k old new r = PrintsTightened P F out k old new r
 
 -- the task of a command line is done
 abbrev pub DoesJob : Job → KnownInput → Option Output → Option Output → Result ℕ CommandFault
     → Type 0
-DoesJob j k old new r = Does j.command (profile_of j.profile) j.form j.is_long
+DoesJob j k old new r = Does j.command (profile_of j.profile) j.form j.is_long j.has_sum
     (option_map (λ s. s.now) j.out) k old new r
 
 -- what is read: of a file that is named nothing is known
@@ -198,9 +220,9 @@ abbrev pub DoesAsked : List Text → KnownInput → Option Output → Option Out
     → Result ℕ CommandFault
     → Type 0
 DoesAsked words k old new r = (t : Task) × (P : rules.Profile) × (F : Form)
-    × (long : Bool) × (file out : Option Text)
-    × (asked_by words ≡ Some (command_word t, Some P, F, long, file, out))
-    × Does t (profile_of P) F long out (read_from file k) old new r
+    × (long sum : Bool) × (file out : Option Text)
+    × (asked_by words ≡ Some (command_word t, Some P, F, long, sum, file, out))
+    × Does t (profile_of P) F long sum out (read_from file k) old new r
 
 abbrev pub IsHelp : ErrorKind → Type 0
 IsHelp k = (k ≡ kind.DisplayHelp) ⊎ (k ≡ kind.DisplayVersion)

@@ -4,8 +4,8 @@ ghost use Rattle.clap.specs.Words.{FailsBy, app_of, kind_of};
 ghost use Rattle.vipr_command.specs.Args.{IsArgument, IsCommand, app_for, are_accepted, asked_by};
 ghost use Rattle.vipr_command.specs.Args.{asks_for_help, bare, command_word, compact_rule};
 ghost use Rattle.vipr_command.specs.Args.{file_named, file_rule, flag_rule, form_asked};
-ghost use Rattle.vipr_command.specs.Args.{is_long_asked, line, long_rule, out_rule, profile_named};
-ghost use Rattle.vipr_command.specs.Args.{profile_rule, request_of, with_file, with_task};
+ghost use Rattle.vipr_command.specs.Args.{is_set, line, long_rule, out_rule, profile_named};
+ghost use Rattle.vipr_command.specs.Args.{profile_rule, request_of, sum_rule, with_file, with_task};
 ghost use Rattle.vipr_command.specs.Args.{words_fault};
 ghost use Rattle.vipr_command.specs.declared.request.Task.{Task};
 
@@ -83,7 +83,8 @@ fn job_by<'a>(
     };
     let word = inner.get_str("profile");
     let form = form_asked(inner.get_str("compact"));
-    let is_long = is_long_asked(inner.get_str("long"));
+    let is_long = is_set(inner.get_str("long"));
+    let has_sum = is_set(inner.get_str("sum"));
     let file = file_named(inner.get_str("file"));
     let out = file_named(inner.get_str("out"));
     drop(matches);
@@ -95,6 +96,7 @@ fn job_by<'a>(
         profile,
         form,
         is_long,
+        has_sum,
         file,
         out,
     })
@@ -162,8 +164,8 @@ fn form_asked(flag: Option<&str>) -> Form
 }
 
 // The flag's value is `true` where it is among the words.
-fn is_long_asked(flag: Option<&str>) -> bool
-    ensures { result ≡ is_long_asked (option_map (λ s. s.now) flag.entry) }
+fn is_set(flag: Option<&str>) -> bool
+    ensures { result ≡ is_set (option_map (λ s. s.now) flag.entry) }
 {
     match flag {
         Some("true") => true,
@@ -204,8 +206,11 @@ fn command_for<'a>(alloc: Global, task: Task) -> Result<Command<'a>, AllocError>
 {
     let command = on_file(alloc, task)?;
     match task {
-        Task::Check => command.arg(profile(alloc)),
-        Task::Explain => command.arg(profile(alloc))?.arg(long(alloc)),
+        Task::Check => command.arg(profile(alloc))?.arg(sum(alloc)),
+        Task::Explain => command
+            .arg(profile(alloc))?
+            .arg(long(alloc))?
+            .arg(sum(alloc)),
         Task::Show => command.arg(compact(alloc)),
         Task::Tighten => command
             .arg(profile(alloc))?
@@ -294,6 +299,12 @@ fn long<'a>(alloc: Global) -> Arg<'a>
     ensures { IsArgument result long_rule }
 {
     flag(alloc, "long", "Adds an explanation for people")
+}
+
+fn sum<'a>(alloc: Global) -> Arg<'a>
+    ensures { IsArgument result sum_rule }
+{
+    flag(alloc, "sum", "Adds the SHA-256 of what was read")
 }
 
 /// A flag of this name.

@@ -6,10 +6,9 @@ ghost use Rattle.vipr_command.specs.Run.{AnswersError, DoesJob, IsStatusFor, OfI
 ghost use Rattle.vipr_command.specs.Run.{unknown_input};
 
 use crate::args::job;
-use crate::check::print_verdict;
-use crate::explain_long::explain_job;
 use crate::fault::CommandFault;
 use crate::host::Host;
+use crate::in_memory::{check_job, explain_job};
 use crate::line::{say, say_at_length, say_why_unread};
 use crate::output::print;
 use crate::request::{Job, Task};
@@ -130,7 +129,7 @@ fn do_task<H: Host, R: Source + Drop, O: Sink, E: Write>(
 {
     let alloc = rt.alloc();
     match job.command {
-        Task::Check => print_verdict(alloc, job.profile, source, out),
+        Task::Check => check_job(alloc, job, source, out),
         Task::Explain => explain_job(alloc, job, source, out),
         Task::Show => print_text(alloc, job.form, source, out, err),
         Task::Tighten => print_tightened(rt, job.profile, job.form, source, job.out, out, err),

@@ -3,7 +3,7 @@ use Rattle.std.proofs.Common.{Some}
 use Rattle.clap.specs.Words.{App, Kinds, HasKind, fault_of, found_of, is_simple, is_simple_and_free}
 use Rattle.clap.specs.Words.{Row, Text, rows_of, subcommand_of, takes}
 use Rattle.clap.proofs.WalkLemmas.{first_value-rows}
-use Rattle.vipr_command.specs.Args.{file_named, form_asked, is_long_asked, line, profile_named}
+use Rattle.vipr_command.specs.Args.{file_named, form_asked, is_set, line, profile_named}
 use Rattle.vipr_command.proofs.ArgsLemmas.{clap_fault, entered_is, failed_on, handed_on, is_asked}
 use Rattle.vipr_command.proofs.ArgsLemmas.{is_free_line, is_simple_line, never_other}
 use Rattle.vipr_command.proofs.ArgsLemmas.{never_accepted, never_without, profile_fine}
@@ -76,9 +76,10 @@ returns-clause-ok c =
     is_asked (words k) _ _ _ (entered k) c.in-Some-task_named.ensures.some
     (c.in-Some-profile_named.ensures ∙ ap profile_named (c.get_str-word.ensures ∙ first_value-rows (found_of c.in-Some.inner.now) (codes "profile")))
     (c.form_asked-form.ensures ∙ ap form_asked (c.get_str.ensures ∙ first_value-rows (found_of c.in-Some.inner.now) (codes "compact")))
-    (c.is_long_asked-is_long.ensures ∙ ap is_long_asked (c.get_str-2.ensures ∙ first_value-rows (found_of c.in-Some.inner.now) (codes "long")))
-    (c.file_named-file.ensures ∙ ap file_named (c.get_str-3.ensures ∙ first_value-rows (found_of c.in-Some.inner.now) (codes "file")))
-    (c.file_named-out.ensures ∙ ap file_named (c.get_str-4.ensures ∙ first_value-rows (found_of c.in-Some.inner.now) (codes "out")))
+    (c.is_set-is_long.ensures ∙ ap is_set (c.get_str-2.ensures ∙ first_value-rows (found_of c.in-Some.inner.now) (codes "long")))
+    (c.is_set-has_sum.ensures ∙ ap is_set (c.get_str-3.ensures ∙ first_value-rows (found_of c.in-Some.inner.now) (codes "sum")))
+    (c.file_named-file.ensures ∙ ap file_named (c.get_str-4.ensures ∙ first_value-rows (found_of c.in-Some.inner.now) (codes "file")))
+    (c.file_named-out.ensures ∙ ap file_named (c.get_str-5.ensures ∙ first_value-rows (found_of c.in-Some.inner.now) (codes "out")))
 
 pub returns-clause-kinds : goal.returns-clause-kinds
 returns-clause-kinds c =

@@ -3,7 +3,7 @@ use Rattle.vipr_command.proofs.RunLemmas.{done_as}
 use Rattle.vipr_command.proofs.command.do_task.Goals as goal
 
 pub returns-in-Check : goal.returns-in-Check
-returns-in-Check g c = done_as c.args.job.now (g.R.Source.input c.args.source) (g.O.Sink.output c.args.out.now) (g.O.Sink.output c.print_verdict.new.out) c.print_verdict.result Check c.in-Check.is c.print_verdict.ensures
+returns-in-Check g c = done_as c.args.job.now (g.R.Source.input c.args.source) (g.O.Sink.output c.args.out.now) (g.O.Sink.output c.check_job.new.out) c.check_job.result Check c.in-Check.is c.check_job.ensures
 
 pub returns-in-Explain : goal.returns-in-Explain
 returns-in-Explain g c = done_as c.args.job.now (g.R.Source.input c.args.source) (g.O.Sink.output c.args.out.now) (g.O.Sink.output c.explain_job.new.out) c.explain_job.result Explain c.in-Explain.is c.explain_job.ensures

@@ -1,7 +1,7 @@
 use Rattle.std.proofs.Common.{subst, sym, ◌∙◌}
 use Rattle.vipr_command.specs.Run.{HasRead, ReadsOn}
 use Rattle.vipr_command.proofs.ReadingLemmas.{nothing_read, of_known}
-use Rattle.vipr_command.proofs.explain_long.read_all.Goals as goal
+use Rattle.vipr_command.proofs.in_memory.read_all.Goals as goal
 
 pub returns-in_err-buffer : goal.returns-in_err-buffer
 returns-in_err-buffer g c = nothing_read (g.R.Source.input c.args.source.now) c.from_residual.result _ _ c.from_residual.ensures.1

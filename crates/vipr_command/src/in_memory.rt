@@ -1,0 +1,255 @@
+//! Answers for a text that is read into memory: with a page for people, or with its digest.
+ghost use Rattle.std.specs.Prelude.{◌≡◌, ◌<◌, ◌^◌, ◌++◌, ℕ, List, [], Some, None, true, false};
+ghost use Rattle.std.specs.Prelude.{length, IfOk, IfSome, option_map, string_bytes};
+ghost use Rattle.vipr_spec.specs.Input.{Input};
+ghost use Rattle.vipr_rules.specs.Profile.{profile_of};
+ghost use Rattle.vipr_page.specs.Page.{IsPage};
+ghost use Rattle.vipr_command.specs.Run.{Does, HasRead, IsPrinted, OfInput, PrintsInMemory};
+ghost use Rattle.vipr_command.specs.Run.{PrintsWhole, ReadsOn, input_of, sum_asked};
+ghost use Rattle.vipr_command.specs.Text.{answer_lines};
+ghost use Rattle.vipr_command.specs.declared.request.Task.{Task};
+
+use crate::check::{print_verdict, status_of};
+use crate::explain::print_explanation;
+use crate::fault::CommandFault;
+use crate::request::{Job, Task};
+use sha2::{Digest as _, Sha256};
+use std::alloc::{AllocError, Global};
+use vipr_bytes::{BUFFER_BYTES, Bytes, Failed, Sink, Source, write_bytes};
+use vipr_check::{Detail, Explanation, Verdict, explain_in};
+use vipr_explain::page_for;
+use vipr_page::Page;
+
+/// What a source gave: its bytes, and whether a read failed behind them.
+#[derive(Drop)]
+struct ReadText {
+    bytes: Vec<u8>,
+    has_failed: bool,
+}
+
+/// Reads a text from memory, up to the read that failed if one did.
+#[derive(Drop)]
+struct TextReader<'a> {
+    bytes: Bytes<'a>,
+    has_failed: bool,
+}
+
+impl Source for TextReader<'_> {
+    ghost reads_left = { λ r. length r.bytes };
+
+    ghost input = { λ r. Some (record { bytes = r.bytes; fails = r.has_failed }) };
+
+    fn read(&mut self, buf: &mut [u8]) -> Result<usize, Failed> {
+        match self.bytes.read(buf) {
+            Ok(0) if self.has_failed => Err(Failed),
+            given => given,
+        }
+    }
+}
+
+/// Prints the verdict on a certificate, with the digest of its text if the job asks for that.
+pub(crate) fn check_job<R: Source + Drop, O: Sink>(
+    alloc: Global,
+    job: &Job<'_>,
+    source: R,
+    out: &mut O,
+) -> Result<u8, CommandFault>
+    ensures { OfInput (R.input source)
+        (λ k. Does Task.Check (profile_of job.now.profile) job.now.form job.now.is_long
+        job.now.has_sum (option_map (λ s. s.now) job.now.out) k (O.output out.old)
+        (O.output out.new) result) }
+{
+    if job.has_sum {
+        return print_in_memory(alloc, Task::Check, job, source, out);
+    }
+    print_verdict(alloc, job.profile, source, out)
+}
+
+/// Explains a certificate, at length and with the digest of its text if the job asks for that.
+pub(crate) fn explain_job<R: Source + Drop, O: Sink>(
+    alloc: Global,
+    job: &Job<'_>,
+    source: R,
+    out: &mut O,
+) -> Result<u8, CommandFault>
+    ensures { OfInput (R.input source)
+        (λ k. Does Task.Explain (profile_of job.now.profile) job.now.form job.now.is_long
+        job.now.has_sum (option_map (λ s. s.now) job.now.out) k (O.output out.old)
+        (O.output out.new) result) }
+{
+    if job.is_long || job.has_sum {
+        return print_in_memory(alloc, Task::Explain, job, source, out);
+    }
+    print_explanation(alloc, job.profile, source, out)
+}
+
+/// Prints the answer for a certificate, whose whole text is read into memory for that. Answers the
+/// exit status, the verdict's.
+fn print_in_memory<R: Source + Drop, O: Sink>(
+    alloc: Global,
+    task: Task,
+    job: &Job<'_>,
+    mut source: R,
+    out: &mut O,
+) -> Result<u8, CommandFault>
+    ensures { OfInput (R.input source) (λ k. PrintsInMemory task (profile_of job.now.profile)
+        job.now.is_long job.now.has_sum k (O.output out.old) (O.output out.new) result) }
+{
+    let text = read_all(alloc, &mut source)?;
+    print_answer(alloc, task, job, &text, out)
+}
+
+// Reads all that a source gives.
+fn read_all<R: Source>(alloc: Global, source: &mut R) -> Result<ReadText, AllocError>
+    ensures { IfSome (R.input source.old)
+        (λ i. IfOk result (λ t. input_of t.bytes.items t.has_failed ≡ i)) }
+{
+    let mut buffer = Box::new(alloc, [0; BUFFER_BYTES])?;
+    let mut text = ReadText {
+        bytes: Vec::new(alloc),
+        has_failed: false,
+    };
+    loop {
+        let room: &mut [u8; BUFFER_BYTES] = &mut buffer;
+        if !text.read_more(source, room)? {
+            return Ok(text);
+        }
+    }
+}
+
+// Checks a text in memory, and prints the answer.
+fn print_answer<O: Sink>(
+    alloc: Global,
+    task: Task,
+    job: &Job<'_>,
+    text: &ReadText,
+    out: &mut O,
+) -> Result<u8, CommandFault>
+    ensures { PrintsWhole task (profile_of job.now.profile) job.now.is_long job.now.has_sum
+        (input_of text.now.bytes.items text.now.has_failed) (O.output out.old) (O.output out.new)
+        result }
+{
+    let (verdict, detail) = explain_in(alloc, job.profile, text.reader())?;
+    let printed = text.answer(alloc, task, job, &verdict, &detail);
+    drop(detail);
+    let printed = printed?;
+    write_bytes(out, printed.as_slice())?;
+    Ok(status_of(&verdict))
+}
+
+impl ReadText {
+    // Reads the next bytes of a source, and answers whether more may follow.
+    fn read_more<R: Source>(&mut self, source: &mut R, room: &mut [u8]) -> Result<bool, AllocError>
+        requires { 0 < length room.old }
+        ensures bound { IfOk result
+            (λ more. more ≡ true → R.reads_left source.new < R.reads_left source.old) }
+        ensures working { IfOk result
+            (λ more. more ≡ true → self.new.has_failed ≡ self.old.has_failed) }
+        ensures read { (i : Input) → HasRead i (R.input source.old) self.old.bytes.items
+            → self.old.has_failed ≡ false → IfOk result (ReadsOn i (R.input source.new)
+            self.new.bytes.items self.new.has_failed) }
+    {
+        match source.read(room) {
+            Ok(0) => Ok(false),
+            Ok(count) => {
+                self.bytes.extend_from_slice(&room[..count])?;
+                Ok(true)
+            }
+            Err(_) => {
+                self.has_failed = true;
+                Ok(false)
+            }
+        }
+    }
+
+    // A reader of it.
+    fn reader(&self) -> TextReader<'_>
+        ensures bytes { result.bytes ≡ self.now.bytes.items }
+        ensures end { result.has_failed ≡ self.now.has_failed }
+        ensures short { length self.now.bytes.items < 2 ^ 64 }
+    {
+        TextReader {
+            bytes: Bytes::new(self.bytes.as_slice()),
+            has_failed: self.has_failed,
+        }
+    }
+
+    // What is printed of the answer for it.
+    fn answer(
+        &self,
+        alloc: Global,
+        task: Task,
+        job: &Job<'_>,
+        verdict: &Verdict,
+        detail: &Detail,
+    ) -> Result<Vec<u8>, AllocError>
+        ensures { IfOk result (λ text. IsPrinted task job.now.is_long job.now.has_sum
+            (input_of self.now.bytes.items self.now.has_failed) verdict.now detail.now
+            text.items) }
+    {
+        let sum = self.sum(alloc, job.has_sum)?;
+        let lines = lines(alloc, task, verdict, detail)?;
+        let mut text = with_page(lines.into_bytes(), self.page(alloc, job, verdict, detail));
+        text.extend_from_slice(sum.as_bytes())?;
+        Ok(text)
+    }
+
+    // The page that explains the answer for people, if there is to be one and memory for it.
+    fn page(&self, alloc: Global, job: &Job<'_>, verdict: &Verdict, detail: &Detail) -> Option<Page>
+        ensures { job.now.is_long ≡ false → result ≡ None }
+    {
+        if !job.is_long {
+            return None;
+        }
+        let name = job.file.unwrap_or("standard input");
+        page_for(alloc, job.profile, self.whole(), name, verdict, detail)
+    }
+
+    // The line of its digest, if that is asked for and no read failed.
+    fn sum(&self, alloc: Global, is_asked: bool) -> Result<String, AllocError>
+        ensures { IfOk result (λ line. string_bytes line
+            ≡ sum_asked is_asked (input_of self.now.bytes.items self.now.has_failed)) }
+    {
+        if !is_asked || self.has_failed {
+            return Ok(String::new(alloc));
+        }
+        let digest = hex::encode(alloc, Sha256::digest(self.bytes.as_slice()))?;
+        format!(in alloc; "sha256 {digest}\n")
+    }
+
+    // All bytes of the source, if no read failed.
+    fn whole(&self) -> Option<&[u8]> {
+        if self.has_failed {
+            None
+        } else {
+            Some(self.bytes.as_slice())
+        }
+    }
+}
+
+// The lines of the verdict, with those of the detail for a task that explains.
+fn lines(
+    alloc: Global,
+    task: Task,
+    verdict: &Verdict,
+    detail: &Detail,
+) -> Result<String, AllocError>
+    ensures { IfOk result (λ t. string_bytes t ≡ answer_lines task verdict.now detail.now) }
+{
+    match task {
+        Task::Check => format!(in alloc; "{verdict}\n"),
+        _ => Explanation { verdict, detail }.to_string(alloc),
+    }
+}
+
+// A text with a page behind it, or with none if there is no memory for that.
+fn with_page(mut text: Vec<u8>, page: Option<Page>) -> Vec<u8>
+    ensures { (more : List ℕ) × IsPage more × (page ≡ None → more ≡ [])
+        × (result.items ≡ text.items ++ more) }
+{
+    if let Some(page) = page {
+        let _ = text.extend_from_slice(page.as_bytes());
+        drop(page);
+    }
+    text
+}
