@@ -16,8 +16,8 @@ use Rattle.vipr_rules.specs.declared.profile.Profile as rules
 use Rattle.vipr_check.specs.Checks.{ChecksIn}
 use Rattle.vipr_check.specs.Explanation.{explained_text}
 use Rattle.vipr_check.specs.Shown.{detail_of}
-use Rattle.vipr_check.specs.View.{Says, answer_of}
-use Rattle.vipr_check.specs.Run.{SaysInDetail}
+use Rattle.vipr_check.specs.View.{IfVerified, IsOfProof, Says, answer_of}
+use Rattle.vipr_check.specs.Run.{SaysInDetail, verdict_in}
 use Rattle.vipr_check.specs.declared.detail.Detail.{Detail}
 use Rattle.vipr_check.specs.declared.verdict.Fault.{Fault as CheckFault}
 use Rattle.vipr_check.specs.declared.verdict.Fault.TheVariants.{Memory as CheckMemory}
@@ -80,12 +80,12 @@ pub record KnownInput : Type 1 where
   pub kind : Kind
   pub proof : Profile → KindOfText
 
--- an input of which nothing is known
+-- an input of which nothing is known: what is verified is the report of some proof
 abbrev pub unknown_input : KnownInput
 unknown_input = record {
   Gives = λ _. ⊤;
-  Checked = λ _ _. ⊤;
-  Explained = λ _ _. ⊤;
+  Checked = λ P r. IfVerified r (IsOfProof P);
+  Explained = λ P r. IfVerified (verdict_in r) (IsOfProof P);
   kind = any_text;
   proof = λ _. any_kind;
 }
