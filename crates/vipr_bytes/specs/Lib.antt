@@ -1,3 +1,4 @@
+pub mod Asked
 pub mod Reads
 pub mod Output
 pub mod Written

@@ -17,7 +17,7 @@ mod write;
 
 pub use growing::Growing;
 pub use out::Out;
-pub use sink::{FromWrite, Sink};
+pub use sink::{FromWrite, Sink, WriteOnce};
 pub use sink_buffer::{SinkBuffer, ToSink};
-pub use source::{Bytes, Failed, FromRead, Source};
+pub use source::{Bytes, Failed, FromRead, ReadOnce, Source};
 pub use write::{WriteFailed, write_bytes};

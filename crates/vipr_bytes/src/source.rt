@@ -1,8 +1,11 @@
 ghost use Rattle.std.specs.Prelude.{◌≡◌, ℕ, ◌+◌, ◌-◌, ◌^◌, ◌<◌, ◌≤◌, List, length, Option, Some};
-ghost use Rattle.std.specs.Prelude.{None, Ok, false, IfOk, IfSome, IsErr, OnOk, MatchResult, ◌↔◌};
+ghost use Rattle.std.specs.Prelude.{None, Result, Ok, false, IfOk, IfSome, IsErr, OnOk};
+ghost use Rattle.std.specs.Prelude.{MatchResult, ◌↔◌};
 ghost use Rattle.std.specs.Io.KnownBytes.{ReadConsumes};
 ghost use Rattle.vipr_spec.specs.Input.{Input};
 ghost use Rattle.vipr_bytes.specs.Reads.{ReadsBytes};
+ghost use Rattle.vipr_bytes.specs.Asked.{PassesOn};
+ghost use Rattle.std.specs.declared.io.Error.{Error};
 
 use std::io::{self, Read};
 use std::marker::Model;
@@ -67,6 +70,29 @@ impl Source for Bytes<'_> {
     }
 }
 
+/// A reader of std. It has a word for what one read gives, and none for what two give. So a
+/// contract can say that exactly one was asked for.
+pub trait ReadOnce: Read {
+    // A read of the first reader gives this, and this is in the buffer then. The last one is left.
+    ghost gives: { Self → Result ℕ Error → List ℕ → Self → Type 0 };
+
+    /// Reads once.
+    fn read_once(&mut self, buf: &mut [u8]) -> io::Result<usize>
+        ensures bound { IfOk result (λ n. n ≤ length buf.new) }
+        ensures bytes { ReadConsumes (Self.remaining self.old) (Self.remaining self.new)
+            result buf.new }
+        ensures gives { gives self.old result buf.new self.new };
+}
+
+impl<R: Read> ReadOnce for R {
+    ghost gives = { λ old result buf new. ReadConsumes (R.remaining old) (R.remaining new)
+        result buf };
+
+    fn read_once(&mut self, buf: &mut [u8]) -> io::Result<usize> {
+        self.read(buf)
+    }
+}
+
 /// Reads a reader of std. The bytes to come aren't known.
 ///
 /// It fails on every error of the reader, an interrupted read too, and at its 2^64th read.
@@ -101,21 +127,25 @@ impl<R: Read> FromRead<R> {
     }
 }
 
-impl<R: Read> Source for FromRead<R> {
+impl<R: ReadOnce> Source for FromRead<R> {
     ghost reads_left = { λ r. 2 ^ 64 - 1 - r.reads };
 
     ghost input = { λ _. None };
 
-    // What it gives is what the reader gave.
+    // What it gives is what the reader gave, which is asked once, unless that is the 2^64th read.
     fn read(&mut self, buf: &mut [u8]) -> Result<usize, Failed>
         ensures count { IfOk result (λ n. n ≤ length buf.new) }
         ensures bound { IfOk result
             (λ n. 0 < n → 2 ^ 64 - 1 - self.new.reads < 2 ^ 64 - 1 - self.old.reads) }
         ensures given { ReadConsumes (R.remaining self.old.reader)
             (R.remaining self.new.reader) result buf.new }
+        ensures asked { self.old.reads < 2 ^ 64 - 1 → PassesOn
+            (λ given. R.gives self.old.reader given buf.new self.new.reader) result }
+        ensures counted { self.old.reads < 2 ^ 64 - 1 → self.new.reads ≡ self.old.reads + 1 }
+        ensures limit { self.old.reads ≡ 2 ^ 64 - 1 → IsErr result }
     {
         self.count()?;
-        answer(self.reader.read(buf))
+        answer(self.reader.read_once(buf))
     }
 }
 
