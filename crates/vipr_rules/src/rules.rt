@@ -13,10 +13,10 @@
 //! and [`take_entry`] makes the entry: it moves the constraint out of the derivation. An error is
 //! the first test that fails, with what shows it.
 
-ghost use Rattle.std.specs.Prelude.{◌≡◌, ℕ, length, Some, IfOk};
+ghost use Rattle.std.specs.Prelude.{◌≡◌, ℕ, length, Some, IfOk, IsOk};
 ghost use Rattle.std.specs.Prelude.{option_copied};
 ghost use Rattle.vipr_spec.specs.Constraint.{Profile as ProfileMeant, one, Condition, Point};
-ghost use Rattle.vipr_spec.specs.Certificate.{Certificate, variables};
+ghost use Rattle.vipr_spec.specs.Certificate.{Certificate, variables, asm};
 ghost use Rattle.vipr_spec.specs.Certificate.{is_assumption as is_assumption_by};
 ghost use Rattle.vipr_linear.specs.Constraint.{condition_of};
 ghost use Rattle.vipr_cert.specs.Items.{derivation_of, reason_of};
@@ -127,6 +127,8 @@ pub fn assumptions_of<S: Rows>(
     ensures applies { let x = context.now in
         Applies (profile_of x.profile) x.problem.now (option_copied x.best) (S.table x.rows.now)
         step.now (answer_with_entry step.now result) }
+    // An assumption passes, and wants no memory.
+    ensures assumed { reason_of step.now.reason ≡ asm → IsOk result }
     ensures variables { length scratch.new.sums ≡ length scratch.old.sums }
 {
     test_by_rule(alloc, context, scratch, step)
@@ -172,6 +174,7 @@ fn test_by_rule<S: Rows>(
         → says (S.table context.now.rows.now).next ≡ condition_of step.now.constraint
         → IsTrueUnder (variables context.now.problem.now) says s
         (condition_of step.now.constraint) x) }
+    ensures assumed { reason_of step.now.reason ≡ asm → IsOk result }
     ensures variables { length scratch.new.sums ≡ length scratch.old.sums }
 {
     let stated = &step.constraint;

@@ -7,7 +7,7 @@ mod list;
 mod merge;
 mod union;
 
-ghost use Rattle.std.specs.Prelude.{◌≡◌, ◌↔◌, IfOk, IfSome, IsTrue};
+ghost use Rattle.std.specs.Prelude.{◌≡◌, ◌↔◌, IfOk, IfSome, IsOk, IsTrue};
 ghost use Rattle.std.specs.Cow.{cow_slice_items};
 ghost use Rattle.std.specs.FinSet as set;
 ghost use Rattle.vipr_table.specs.IndexList.{listed_items, IsListOf};
@@ -71,13 +71,10 @@ impl Assumptions {
         }
     }
 
-    /// The set of one index.
-    ///
-    /// # Errors
-    ///
-    /// If the growth is refused.
+    /// The set of one index. Takes no memory, so it is never an error.
     pub fn single(_alloc: Global, index: u32) -> Result<Self, AllocError>
-        ensures { IfOk result (λ s. s ≡ set.insert set.empty index) }
+        ensures ok { IsOk result }
+        ensures set { IfOk result (λ s. s ≡ set.insert set.empty index) }
     {
         Ok(Assumptions {
             list: IndexList::One(index),

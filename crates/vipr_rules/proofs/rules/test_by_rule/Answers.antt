@@ -14,14 +14,14 @@ pub returns-in-Asm-clause-ruled : goal.returns-in-Asm-clause-ruled
 returns-in-Asm-clause-ruled g c = λ P d is.
     let step = derivation_of c.args.step.now in
     let found = found_or_memory c.single.result c.or_memory.result (IsSetByReason d asm) c.or_memory.ensures
-    (IfOk-weaker c.single.result _ _ (λ s same. subst (IsSetByReason d asm) (sym (same ∙ ap (insert empty) (c.next.ensures ∙ is.rows.next))) (own_set (count d))) c.single.ensures) in
+    (IfOk-weaker c.single.result _ _ (λ s same. subst (IsSetByReason d asm) (sym (same ∙ ap (insert empty) (c.next.ensures ∙ is.rows.next))) (own_set (count d))) c.single.ensures.set) in
     subst (λ r. IsRuledBy P d step r c.or_memory.result) (sym (ap reason_of c.in-Asm.is)) (assumption_ruled P d step c.or_memory.result found)
 
 pub returns-in-Asm-clause-sound : goal.returns-in-Asm-clause-sound
 returns-in-Asm-clause-sound g c =
     found_if_ok c.single.result c.or_memory.result _ c.or_memory.ensures (IfOk-weaker c.single.result _ _ (λ s same says x at next h.
     subst (λ d. IsTrueAt (variables c.args.context.now.problem.now) d x) (ap says c.next.ensures ∙ next)
-    (h c.next.result (subst (λ s. IsTrue (contains s c.next.result)) (sym same) ((own_set c.next.result c.next.result).1 refl)))) c.single.ensures)
+    (h c.next.result (subst (λ s. IsTrue (contains s c.next.result)) (sym same) ((own_set c.next.result c.next.result).1 refl)))) c.single.ensures.set)
 
 pub returns-in-Lin-clause-ruled : goal.returns-in-Lin-clause-ruled
 returns-in-Lin-clause-ruled g c = λ P d is.
