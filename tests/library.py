@@ -3,12 +3,12 @@
 
 usage: tests/library.py [PROGRAM]     crates/vipr/out/vipr without it
 
-`make install-lib` installs it into a folder. tests/library.c, with the archive alone, makes each call on all examples, by
-both profiles, in both forms and with less room than they need, and on beginnings of each; and with each of its growths
-refused. The callers of examples/c, cpp, python and rust check all examples with the shared library, and so do those in C,
-C++ and Rust with the archive. Memcheck and helgrind, if they are there, look at some of it. `make uninstall-lib` removes
-all of it. Prints each difference, and last `library: N texts, F different`. What isn't built for want of a compiler is
-named. The exit status is 1 if a text or a file differs.
+`make install-lib` installs it into a folder. tests/library.c, with the archive alone, makes each call on all examples,
+by both profiles, in both forms and with less room than they need, on beginnings of each and on a text of 5 MB; and
+with each of its growths refused. The callers of examples/c, cpp, python and rust check all examples with the shared
+library, and so do those in C, C++ and Rust with the archive. Memcheck and helgrind, if they are there, look at some of
+it. `make uninstall-lib` removes all of it. Prints each difference, and last `library: N texts, F different`. What
+isn't built for want of a compiler is named. The exit status is 1 if a text or a file differs.
 """
 import os
 import re
@@ -150,7 +150,11 @@ def look_at_callers(prefix, room):
 
 
 def texts(room):
-    """The files to check, and whether each is whole: each example, and its beginnings of some lengths."""
+    """The files to check, and whether each is whole: each example, its beginnings of some lengths, and a text of 5 MB."""
+    large = room / 'large.vipr'
+    large.write_text('VER 1.0 VAR 1 x INT 0 OBJ min 0 CON 1 0 a G 1 1 0 1 RTP range -inf inf SOL 0 DER 180000\n'
+                     + 'd G 1 1 0 1 { lin 1 0 1 } -1\n' * 180_000)
+    yield large, False
     for path in sorted((TOP / 'examples').rglob('*.vipr')):
         yield path, True
         whole = path.read_bytes()

@@ -7,10 +7,10 @@ Each mistake is made in a copy, which is explained from its file, from standard 
 byte a read. The lines of `vipr explain` have to come first, byte for byte, with the same exit status; behind them the
 place at fault, and what to change there. So has each of the ten problems as it is: it is verified, and its goal is
 shown. Then texts that are no certificate, a line of binary bytes, names with controls, long rows, and texts of which
-an explanation is easily wrong: what a constraint rests on, what comes near a claim, what a profile asks for. Every byte
-that is printed behind the first lines is printable ASCII or a line feed, and there are 65,536 of them at most. A file
-is opened once. One that can't be opened has the answer of `vipr explain`, and in front of it a line with its name and
-the reason.
+an explanation is easily wrong: what a constraint rests on, what comes near a claim, what a profile asks for; and texts
+that are large in one respect, so that a page could be cut off there. Every byte that is printed behind the first lines
+is printable ASCII or a line feed, and there are 65,536 of them at most. A file is opened once, a named pipe too. One
+that can't be opened has the answer of `vipr explain`, and in front of it a line with its name and the reason.
 
 Each page is compared with the one that tests/long_pages.txt has of its text, so no word of it changes unseen; --write
 writes that file. There is a page for each cause, by each of the two profiles where they differ.
@@ -24,6 +24,7 @@ import os
 import shutil
 import sys
 import tempfile
+import threading
 from pathlib import Path
 
 from texts import TOP, Checks, fed, program, run
@@ -264,6 +265,25 @@ TRUE = [
 LATE = ('VER 1.0 VAR 0 INT 0 OBJ min 0 CON 1 0 c G 0 0 RTP infeas SOL 0 DER 9001\nd G 0 0 { lin 0 } 1\n'
         + 'e G 0 0 { lin 1 1 1 } -1\n' + 'f G 0 0 { lin 1 0 1 } -1\n' * 8997 + 'g G 0 0 { lin 1 1 1 } -1\n'
         + 'h G 0 0 { lin 1 0 1 } -1\n')
+# More texts, of which some are large in one respect, so that a page could be cut off there: what is in the page of each,
+# and the least length of that.
+MORE = [
+    # a claim behind a comment of 9 MiB and 30,000 derivations
+    ('%' + 'c' * (9 << 20) + '\nVER 1.0 VAR 1 x INT 0 OBJ min 1 0 1 CON 1 0 a G 7 OBJ RTP range 9 inf SOL 0 DER 30000\n'
+     + ''.join(f'd{it} G {1 + it % 6} OBJ {{ lin 1 0 1 }} -1\n' for it in range(30_000)),
+     '[0] a  x >= 7  (line 2), too weak by 2, rests on no assumption', 0),
+    # the thirteenth solution
+    ('VER 1.0 VAR 1 x INT 0 OBJ min 1 0 1 CON 1 0 a G 1 1 0 1 RTP range -inf 1 SOL 13\n' + 's 1 0 1\n' * 12 + 's 0 DER 0',
+     'constraint 0 `a`: x >= 1  (line 1)', 0),
+    # a page of more than 4,096 bytes
+    ('VER 1.0 VAR 20 ' + ' '.join(f'x{it:030}' for it in range(20)) + ' INT 0 OBJ min 20 '
+     + ' '.join(f'{it} 1' for it in range(20)) + ' CON 30 0 ' + ' '.join(f'c{it:030} G 1 OBJ' for it in range(30))
+     + ' RTP infeas SOL 0 DER 1 d G 1 0 { lin 30 ' + ' '.join(f'{it} 1' for it in range(30)) + ' } -1',
+     'change the constraints and multipliers of the reason', 4_097),
+    # senses of algebra
+    *[(f'VER 1.0 VAR 1 x INT 0 OBJ min 0 CON 1 0 c {sense} 1 1 0 1', f'write `{letter}` for `{sense}`', 0)
+      for letter, sense in (('G', '>='), ('L', '<='), ('E', '='))],
+]
 # One more text for each cause that the others don't have.
 FRONT = 'VER 1.0 VAR 1 x INT 1 0 OBJ min 1 0 1 CON 1 0 c G 1 1 0 1 RTP infeas SOL '
 LARGE = str(2 ** 127 - 1)
@@ -320,6 +340,15 @@ def opened_once(path):
     """A file is opened once, whatever is explained."""
     count = run(['strace', '-f', '-e', 'trace=open,openat', PROGRAM, 'explain', '--long', path]).stderr.count(str(path).encode())
     check(count == 1, f'{path}: opened {count} times')
+
+
+def of_a_pipe(pipe, path):
+    """A named pipe is read once, as standard input is."""
+    data = path.read_bytes()
+    os.mkfifo(pipe)
+    threading.Thread(target=pipe.write_bytes, args=(data,), daemon=True).start()
+    page, status = explained(['--long'], data)
+    check(explained(['--long', pipe]) == (page.replace(b'standard input', bytes(pipe)), status), 'a named pipe')
 
 
 def keep(name, page, path):
@@ -390,6 +419,11 @@ def main():
         for text in CAUSES:
             path.write_text(text)
             keep(text.replace('\n', ' '), page_of(path, text), path)
+        for text, wanted, length in MORE:
+            path.write_text(text)
+            page = page_of(path, wanted)
+            check(wanted in page and len(page) >= length, f'{text[:400]!r}: {wanted!r} in {page}')
+        of_a_pipe(Path(folder) / 'pipe', PROBLEMS / 'cutoff.vipr')
         path.write_text(LATE)
         check('write 9000 or -1 here' in page_of(path, 'a late reference'), 'a late reference')
     compare()
