@@ -37,7 +37,11 @@ BUILD says which commit was proved by which kit.
 
 
 def said(*words):
-    done = subprocess.run(words, cwd=TOP, capture_output=True, text=True, check=False)
+    """What a command says; nothing if it fails, or isn't here."""
+    try:
+        done = subprocess.run(words, cwd=TOP, capture_output=True, text=True, check=False)
+    except OSError:
+        return ''
     return done.stdout.strip() if done.returncode == 0 else ''
 
 
