@@ -133,12 +133,12 @@ def comments_stand_alone():
 WORD = re.compile(r"[^\s(){}\[\];,.]+")
 USE = re.compile(r'^[ \t]*(?:(pub|pub\(\w+\)|ghost|unfoldable) )*use ([^{;\n]*)(\{[^}]*\})?[^;\n]*;?$', re.M)
 # what a `use` brings without its name: calls of a trait, and notations
-UNNAMED = {'Write', 'Read', 'Seek', 'Hash', 'Hasher', 'ByteSlice', 'MetadataExt', 'OpenOptionsExt', '_', '*',
+UNNAMED = {'Write', 'Rows', 'Read', 'Seek', 'Hash', 'Hasher', 'ByteSlice', 'MetadataExt', 'OpenOptionsExt', '_', '*',
            '◌>>=◌', '[]', 'if◌then◌else◌'}
 
 
 # crates in which lemmas, calls and imports may still wait for what is to use them, or to be taken out
-WAITING = {'vipr_explain', 'vipr_page', 'vipr_write'}
+WAITING = {'vipr_write'}
 
 
 def imported(use):

@@ -2,7 +2,7 @@
 use Rattle.std.proofs.Common.{◌≡◌, ℕ, suc, ◌+◌, ◌-◌, ◌<◌, inl, inr, List, [], ◌∷◌, ◌++◌, map}
 use Rattle.std.proofs.Common.{length, filter, Option, Some, None, Result, Ok, Err, refl, sym, ap}
 use Rattle.std.proofs.Common.{◌∙◌}
-use Rattle.std.proofs.Common.{cond, true, false, subst, append_assoc, arith, IfSome}
+use Rattle.std.proofs.Common.{cond, true, subst, append_assoc, arith, OnOk}
 use Rattle.std.specs.Option.{IsSome}
 use Rattle.std.specs.List.{enumerate_from}
 use Rattle.std.proofs.lemmas.List.{append-nil, length-append}
@@ -43,12 +43,9 @@ pub known_by : (o : Option Input) (P Q : Input → Type 0) → ((i : Input) → 
 known_by None P Q k h = tt
 known_by (Some i) P Q k h = λ short. k i (h short)
 
--- of a reader's input, if it is the text's
-pub known_of_text : (o s : Option Input) (P : Input → Type 0) → IfSome o (λ i. s ≡ Some i)
-    → IfKnown s P
-    → IfKnown o P
-known_of_text None s P same h = tt
-known_of_text (Some i) s P same h = subst (λ k. IfKnown k P) same h
+pub on_ok : {T E : Type 0} (r : Result T E) (P Q : Type 0) → (P → Q) → OnOk r P → OnOk r Q
+on_ok (Ok x) P Q f h = f h
+on_ok (Err e) P Q f h = tt
 
 -- ---- a reader that knows a problem
 
@@ -180,17 +177,6 @@ keeps_more p wanted first done index n k old new before now total e at next so_f
       ∙ sym (ap (filter (is_wanted wanted)) (numbered_more first so_far.front next.read) ∙ filter-append (is_wanted wanted) (enumerate_from first so_far.front) ((first + length so_far.front, next.read) ∷ []));
 }
 
-pub keeps_none : (p : Problem) (wanted : List ℕ) (first n m : ℕ) (rest : Option Rest)
-    (now : List Numbered) → m ≡ n → now ≡ [] → IsSome rest
-    → KeepsPartWay p wanted first 0 m rest now (read_each (derivation_read p) n (rest_of rest))
-keeps_none p wanted first n m rest now e none known = record {
-  front = [];
-  known = known;
-  part = ap (λ j. with_front [] (read_each (derivation_read p) j (rest_of rest))) e ∙ none_yet (derivation_read p) (read_each (derivation_read p) n (rest_of rest));
-  size = refl;
-  kept = ap (map numbered_of) none;
-}
-
 pub keeps_all : (p : Problem) (wanted : List ℕ) (done n : ℕ) (old new : Items)
     (now : List Numbered) (count : ℕ) → n ≡ 0
     → count ≡ count_read wanted (length p.constraints) old.left
@@ -208,7 +194,3 @@ keeps_all p wanted done n old new now count e counted so_far = record {
 pub one_kept : (wanted : List ℕ) (index : ℕ) (d : Derivation) → is_wanted wanted (index, d) ≡ true
     → wanted_among wanted index (d ∷ []) ≡ (index, d) ∷ []
 one_kept wanted index d is = ap (λ b. cond b ((index, d) ∷ []) []) is
-
-pub none_kept : (wanted : List ℕ) (index : ℕ) (d : Derivation) → is_wanted wanted (index, d) ≡ false
-    → wanted_among wanted index (d ∷ []) ≡ []
-none_kept wanted index d is = ap (λ b. cond b ((index, d) ∷ []) []) is

@@ -1,5 +1,5 @@
 -- Which derivation is the last one that names a constraint, read one after the other
-use Rattle.std.proofs.Common.{◌≡◌, ℕ, suc, ◌+◌, [], ◌∷◌, length, Some, None, IfOk, Result, Ok, Err}
+use Rattle.std.proofs.Common.{◌≡◌, ℕ, suc, ◌+◌, [], ◌∷◌, Some, None, IfOk, Result, Ok, Err}
 use Rattle.std.proofs.Common.{refl}
 use Rattle.std.proofs.Common.{sym, ap, ◌∙◌}
 use Rattle.std.specs.Option.{IsSome}
@@ -79,14 +79,3 @@ pub is_last_use : (text : Rest) (p : Problem) (d : Items) (index needed_by : ℕ
 is_last_use text p d index needed_by (Ok last) head is =
     record { problem = p; count = d.left; behind = rest_of d.rest; head = head; is_last = is }
 is_last_use text p d index needed_by (Err e) head is = tt
-
--- none was read
-pub part_starts : (p : Problem) (index first number last : ℕ) (reader : Items) → Knows reader p
-    → IsSome reader.rest → first ≡ length p.constraints → number ≡ first
-    → IsPartWay p index number last reader.left reader
-    (last_among p reader.left (rest_of reader.rest) index last)
-part_starts p index first number last reader knows known at same = record {
-  knows = knows;
-  known = known;
-  part = ap (λ n. last_naming index last (enumerate_from n (read_most (derivation_read p) reader.left (rest_of reader.rest)))) (same ∙ at);
-}

@@ -1,13 +1,10 @@
 -- The parts of a text before its derivations, one after the other
 use Rattle.std.proofs.Common.{◌≡◌, ◌<◌, ℕ, List, Ok, sym, ap, ◌∙◌, subst, Option, Result, Err}
-use Rattle.std.proofs.Common.{refl}
 use Rattle.std.proofs.Common.{IfOk, IfErr, OnOk}
 use Rattle.std.specs.Option.{IsSome}
 use Rattle.std.specs.Result.{result_and}
-use Rattle.vipr_spec.specs.Certificate.{Named, Problem}
-use Rattle.vipr_spec.specs.Constraint.{Row}
-use Rattle.vipr_spec.specs.Reading.{Rest, ◌>>=◌, read_each, problem_read, solution_read}
-use Rattle.vipr_spec.specs.Reading.{derivations_read}
+use Rattle.vipr_spec.specs.Certificate.{Problem}
+use Rattle.vipr_spec.specs.Reading.{Rest, ◌>>=◌, problem_read}
 use Rattle.vipr_spec.specs.Input.{Input}
 use Rattle.vipr_bytes.specs.Known.{IfKnown, text_of}
 use Rattle.vipr_cert.specs.Items.{solution_of}
@@ -20,21 +17,6 @@ use Rattle.vipr_explain.specs.Found.{AreFoundItems, Finds, IsListedSolution, Ope
 use Rattle.vipr_explain.specs.declared.items.Items.{Items}
 use Rattle.vipr_scan.specs.declared.error.TextError.{TextError}
 use Rattle.vipr_explain.proofs.Again.{known_by, missed_first}
-
-pub behind_found : (p : Problem) (n k : ℕ) (r r' r'' : Rest) (xs : List (Named Row))
-    → read_each (solution_read p) n r ≡ Ok (xs, r') → derivations_read p r' ≡ Ok (k, r'')
-    → derivations_behind p n r ≡ Ok (k, r'')
-behind_found p n k r r' r'' xs first second = ap (λ x. x >>= λ ss. derivations_read p ss.1) first ∙ second
-
-pub behind_missed : (p : Problem) (n : ℕ) (r r' : Rest) (xs : List (Named Row)) (m : TextError)
-    → read_each (solution_read p) n r ≡ Ok (xs, r') → Missed m (derivations_read p r')
-    → Missed m (derivations_behind p n r)
-behind_missed p n r r' xs m first second = subst (Missed m) (sym (ap (λ x. x >>= λ ss. derivations_read p ss.1) first)) second
-
-pub nth_found : (p : Problem) (n : ℕ) (r r' r'' : Rest) (xs : List (Named Row)) (s : Named Row)
-    → read_each (solution_read p) n r ≡ Ok (xs, r') → solution_read p r' ≡ Ok (s, r'')
-    → nth_read p n r ≡ Ok (s, r'')
-nth_found p n r r' r'' xs s first second = ap (λ x. x >>= λ ss. solution_read p ss.1) first ∙ second
 
 pub head_found : (text : Rest) (p : Problem) (n k : ℕ) (r r' : Rest)
     → problem_read text ≡ Ok ((p, n), r) → derivations_behind p n r ≡ Ok (k, r')
@@ -120,10 +102,3 @@ pub err_first : {A E : Type 0} (r : Result (Unit {0}) E) (s : Result A E) (P : E
     → IfErr r P → IfErr s P → IfErr (result_and r s) P
 err_first (Ok u) s P h k = k
 err_first (Err e) s P h k = h
-
--- a value is given if two calls passed
-pub ok_both : {A E : Type 0} (r s : Result (Unit {0}) E) (x : A) (P : A → Type 0)
-    → ((u v : Unit {0}) → r ≡ Ok u → s ≡ Ok v → P x) → IfOk (result_and (result_and r s) (Ok x)) P
-ok_both (Ok u) (Ok v) x P f = f u v refl refl
-ok_both (Ok u) (Err e) x P f = tt
-ok_both (Err e) s x P f = tt

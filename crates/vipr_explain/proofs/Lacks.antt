@@ -42,9 +42,6 @@ pub only_given : (o : Option Input) (m : TextError) (P Q : Input → Type 0) →
 only_given None m P Q h f = tt
 only_given (Some i) m P Q h f = λ short. f i h
 
-pub only_none : (o : Option Input) (m : TextError) (Q : Input → Type 0) → o ≡ None → OnlyIf o Q m
-only_none o m Q e = subst (λ p. OnlyIf p Q m) (sym e) tt
-
 -- of a call that may fail
 pub err_given : {A : Type 0} (o : Option Input) (r : Result A TextError) (P Q : Input → Type 0)
     → IfSome o P → ((i : Input) → P i → IfErr r (λ m. Because m (Q i))) → IfErr r (OnlyIf o Q)
@@ -89,10 +86,6 @@ pub head_then_missed : (wanted : List ℕ) (text : Rest) (p : Problem) (n : ℕ)
     → Missed m (read_each (derivation_read p) (count_read wanted (length p.constraints) n) r)
     → Missed m (items_up_to wanted text)
 head_then_missed wanted text p n r m e h = because m _ _ (fault_behind (head_read text) ((p, n), r) (λ x. read_each (derivation_read x.0.0) (count_read wanted (length x.0.0.constraints) x.0.1) x.1) e) h
-
-pub head_first_missed : (wanted : List ℕ) (text : Rest) (m : TextError) → Missed m (head_read text)
-    → Missed m (items_up_to wanted text)
-head_first_missed wanted text m h = because m _ _ (fault_first (head_read text) (λ x. read_each (derivation_read x.0.0) (count_read wanted (length x.0.0.constraints) x.0.1) x.1)) h
 
 -- ---- a listed solution
 

@@ -1,11 +1,8 @@
-mod Passing
-mod Lines
 mod Again
 mod Heads
 mod Numerals
-mod Finding
 mod Dropping
 mod Lacks
-mod Reading
 mod Tokens
+mod Finding
 mod Marking

@@ -136,11 +136,10 @@ pub record AreFoundItems (wanted : List ℕ) (text : Rest) (items : Items) : Typ
   pub kept : map numbered_of items.derivations.items
       ≡ wanted_among wanted (length items.problem.constraints) read
 
--- items of these indices and their places are those of the text, if its bytes are known
-pub record AreItemsOf (input : Option Input) (wanted : List ℕ) (known : PlacedItems)
-    : Type 0 where
-  pub items : IfKnown input (λ i. AreFoundItems wanted (text_of i) known.items)
-  pub marks : AreMarksOf input wanted known.marks.items
+-- items of these indices and their places are those of the text
+pub record AreItemsOf (text : List ℕ) (wanted : List ℕ) (known : PlacedItems) : Type 0 where
+  pub items : IfKnown (text_input text) (λ i. AreFoundItems wanted (text_of i) known.items)
+  pub marks : AreMarksOf text wanted known.marks.items
 
 -- ---- what can't be read again
 

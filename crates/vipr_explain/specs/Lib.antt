@@ -1,7 +1,6 @@
 pub mod Listed
 pub mod Marked
 pub mod Places
-pub mod Letters
 pub mod Excerpts
 pub mod Found
 pub mod Progress

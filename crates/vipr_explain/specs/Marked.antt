@@ -1,13 +1,11 @@
 -- The places of items' names, and of their last references, among the tokens of a text
 use Rattle.std.specs.Prelude.{◌≡◌, ℕ, ◌&&◌, ◌||◌, ◌==◌, ◌∷◌, ◌++◌, [], Bool, true, false, List}
-use Rattle.std.specs.Prelude.{Option, fold, map, max, nat_lt, if◌then◌else◌}
+use Rattle.std.specs.Prelude.{Option, fold, max, nat_lt, if◌then◌else◌}
 use Rattle.std.specs.List.{list_any}
-use Rattle.vipr_spec.specs.Input.{Input}
-use Rattle.vipr_spec.specs.Tokens.{tokens}
-use Rattle.vipr_bytes.specs.Known.{IfKnown}
+use Rattle.vipr_spec.specs.Tokens.{Token, text_tokens}
 use Rattle.vipr_explain.specs.Listed.{place_found}
 use Rattle.vipr_explain.specs.Progress.{at_start, index_of, passed}
-use Rattle.vipr_explain.specs.Words.{Kept, kept_token, span_of}
+use Rattle.vipr_explain.specs.Words.{span_in}
 use Rattle.vipr_explain.specs.declared.marks.ItemSort.{ItemSort}
 use Rattle.vipr_explain.specs.declared.marks.ItemSort.TheVariants as kind
 use Rattle.vipr_explain.specs.declared.marks.ItemPlace.{ItemPlace}
@@ -67,23 +65,22 @@ marked kind indices p span marks =
     if is_of kind p.section && list_any (λ i. i == index_of p) indices
     then marked_at p.wanted (index_of p) span marks else marks
 
--- the items of this kind and these indices among the tokens from here on
-abbrev pub marks_from : ItemSort → List ℕ → TextProgress → List ItemPlace → List Kept
+-- the items of this kind and these indices among the tokens of a text from here on
+abbrev pub marks_from : ItemSort → List ℕ → List ℕ → TextProgress → List ItemPlace → List Token
     → List ItemPlace
-marks_from kind indices p marks [] = marks
-marks_from kind indices p marks (k ∷ ks) = if is_past kind p (fold max 0 indices) then marks
-    else marks_from kind indices (passed p k.word) (marked kind indices p (span_of k) marks) ks
+marks_from kind indices text p marks [] = marks
+marks_from kind indices text p marks (t ∷ ts) = if is_past kind p (fold max 0 indices) then marks
+    else marks_from kind indices text (passed p t.bytes)
+    (marked kind indices p (span_in text t) marks) ts
 
 -- those of a text
-abbrev pub marks_in : ItemSort → List ℕ → Input → List ItemPlace
-marks_in kind indices i =
-    marks_from kind indices at_start [] (map (kept_token i) (tokens i))
+abbrev pub marks_in : ItemSort → List ℕ → List ℕ → List ItemPlace
+marks_in kind indices text = marks_from kind indices text at_start [] (text_tokens text)
 
--- these are the places of the constraints of these indices in a text, if its bytes are known
-abbrev pub AreMarksOf : Option Input → List ℕ → List ItemPlace → Type 0
-AreMarksOf input indices marks = IfKnown input (λ i. marks ≡ marks_in kind.Constraints indices i)
+-- these are the places of the constraints of these indices in a text
+abbrev pub AreMarksOf : List ℕ → List ℕ → List ItemPlace → Type 0
+AreMarksOf text indices marks = marks ≡ marks_in kind.Constraints indices text
 
--- this is the place of the solution of this number in a text, if its bytes are known
-abbrev pub IsMarkOf : Option Input → ℕ → Option ItemPlace → Type 0
-IsMarkOf input number mark = IfKnown input
-    (λ i. mark ≡ place_found (marks_in kind.Solutions (number ∷ []) i) number)
+-- this is the place of the solution of this number in a text
+abbrev pub IsMarkOf : List ℕ → ℕ → Option ItemPlace → Type 0
+IsMarkOf text number mark = mark ≡ place_found (marks_in kind.Solutions (number ∷ []) text) number

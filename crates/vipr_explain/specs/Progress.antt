@@ -1,5 +1,5 @@
 -- How far a certificate's text was read: what it has to have at its next token
-use Rattle.std.specs.Prelude.{ℕ, ◌+◌, ◌-◌, ◌^◌, min, nat_lt, ◌||◌, if◌then◌else◌, List, [], ◌∷◌}
+use Rattle.std.specs.Prelude.{ℕ, ◌+◌, ◌-◌, ◌^◌, min, nat_lt, ◌||◌, if◌then◌else◌, List, []}
 use Rattle.std.specs.Prelude.{Option, Some, None, codes}
 use Rattle.std.specs.Str.{bytes_eq}
 use Rattle.vipr_spec.specs.Digits.{natural_of}
@@ -182,17 +182,6 @@ passed_at wanted.Nothing p word = p
 abbrev pub passed : TextProgress → List ℕ → TextProgress
 passed p word = passed_at p.wanted p word
 
--- behind these tokens, and the name of the item that is read: the last token where a name was
--- wanted
-abbrev pub passed_all : TextProgress → List (List ℕ) → TextProgress
-passed_all p [] = p
-passed_all p (word ∷ words) = passed_all (passed p word) words
-
 abbrev pub named_at : Wanted → List ℕ → List ℕ → List ℕ
 named_at wanted.Name name word = word
 named_at _ name word = name
-
-abbrev pub name_after : TextProgress → List ℕ → List (List ℕ) → List ℕ
-name_after p name [] = name
-name_after p name (word ∷ words) =
-    name_after (passed p word) (named_at p.wanted name word) words

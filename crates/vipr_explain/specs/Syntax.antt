@@ -1,44 +1,59 @@
 -- The token at a fault of a text
-use Rattle.std.specs.Prelude.{◌≡◌, ◌<◌, ◌≤◌, ◌^◌, ℕ, Bool, true, false, List, [], ◌∷◌, ◌++◌, All}
-use Rattle.std.specs.Prelude.{length, map, Option}
-use Rattle.vipr_spec.specs.Input.{Input}
-use Rattle.vipr_spec.specs.Tokens.{Token, tokens}
-use Rattle.vipr_bytes.specs.Known.{IfKnown}
-use Rattle.vipr_explain.specs.Progress.{at_start, name_after, passed_all}
-use Rattle.vipr_explain.specs.Words.{AreLeft, IsReadWhole, Kept, first_bytes, kept_last, kept_word}
-use Rattle.vipr_explain.specs.Words.{kept_token}
-use Rattle.vipr_explain.specs.declared.syntax.FoundToken.{FoundToken}
+use Rattle.std.specs.Prelude.{◌≡◌, ℕ, Bool, true, false, List, [], ◌∷◌, nat_le, if◌then◌else◌}
+use Rattle.vipr_spec.specs.Tokens.{Token, text_tokens}
+use Rattle.vipr_explain.specs.Excerpts.{IsPlaceAt}
+use Rattle.vipr_explain.specs.Places.{place_at, place_behind}
+use Rattle.vipr_explain.specs.Progress.{at_start, named_at, passed}
+use Rattle.vipr_explain.specs.Words.{span_of}
+use Rattle.vipr_explain.specs.declared.syntax.FaultToken.{FaultToken}
+use Rattle.vipr_explain.specs.declared.syntax.TextFault.{TextFault}
+use Rattle.vipr_explain.specs.declared.text.Spot.{Spot}
+use Rattle.vipr_explain.specs.declared.wanted.TextProgress.{TextProgress}
 
--- the first one of the tokens behind others, or none and the last one of those, as it is kept
-abbrev pub IsFirstOf : Input → ℕ → List Token → List Token → Bool → Kept → Type 0
-IsFirstOf i offset before (t ∷ ts) is_end kept =
-    (is_end ≡ false) × (offset ≤ t.offset) × (kept ≡ kept_token i t)
-IsFirstOf i offset before [] is_end kept = (is_end ≡ true) × (kept ≡ kept_last i before)
+-- how far a text was read: behind these tokens, in the item of this name; the token that was read
+-- last, and whether the fault is behind it
+pub record TokenFound : Type 0 where
+  pub progress : TextProgress
+  pub name : List ℕ
+  pub word : List ℕ
+  pub spot : Spot
+  pub is_end : Bool
 
--- these are the first bytes of the tokens that begin before an offset, and this is the first token
--- that begins there or behind it; or none does, and this is the last one
-pub record IsTokenAt (i : Input) (offset : ℕ) (words : List (List ℕ)) (is_end : Bool) (kept : Kept)
-    : Type 0 where
-  pub before : List Token
-  pub others : List Token
-  pub whole : tokens i ≡ before ++ others
-  pub early : All (λ t. t.offset < offset) before
-  pub passed : words ≡ map first_bytes before
-  pub first : IsFirstOf i offset before others is_end kept
+abbrev pub found_at_start : TokenFound
+found_at_start = record {
+  progress = at_start;
+  name = [];
+  word = [];
+  spot = place_behind [];
+  is_end = true;
+}
 
--- these words were passed
-pub record ArePassed {R : Type 0} (words : List (List ℕ)) (f : FoundToken R) : Type 0 where
-  pub progress : f.progress ≡ passed_all at_start words
-  pub name : f.name.items ≡ name_after at_start [] words
+-- one more token: it is the one at the fault if it begins at this byte or behind it, else it is
+-- passed
+abbrev pub found_behind : ℕ → TokenFound → List ℕ → Spot → TokenFound
+found_behind offset f word spot = if nat_le offset spot.offset
+    then record f { word = word; spot = spot; is_end = false }
+    else record f {
+      progress = passed f.progress word;
+      name = named_at f.progress.wanted f.name word;
+      word = word;
+      spot = spot;
+    }
 
--- the words before the token at this offset were passed, if the text is known
-abbrev pub IsFoundAt : {R : Type 0} → Option Input → ℕ → FoundToken R → Type 0
-IsFoundAt input offset f = (words : List (List ℕ)) × ArePassed words f
-    × IfKnown input (λ i. IsTokenAt i offset words f.is_end (kept_word f.words))
+-- the first token that begins at this byte or behind it, or the last one of the text
+abbrev pub found_from : List ℕ → ℕ → TokenFound → List Token → TokenFound
+found_from text offset f [] = f
+found_from text offset f (t ∷ ts) = if f.is_end
+    then found_from text offset (found_behind offset f t.bytes (place_at text t.offset)) ts else f
 
--- the same of any text, at the start of which the reader was, and which was read without a failure
-abbrev pub PassesUpTo : {R : Type 0} → (R → Option Input) → ℕ → FoundToken R → FoundToken R
-    → Type 0
-PassesUpTo input offset old new = (words : List (List ℕ)) × ArePassed words new
-    × ((i : Input) → length i.bytes < 2 ^ 64 → AreLeft input i (tokens i) old.words
-    → IsReadWhole new.words → IsTokenAt i offset words new.is_end (kept_word new.words))
+pub record IsTokenFound (f : TokenFound) (k : FaultToken) : Type 0 where
+  pub progress : k.progress ≡ f.progress
+  pub name : k.name.now ≡ f.name
+  pub word : k.word.bytes.now ≡ f.word
+  pub spot : k.word.spot ≡ f.spot
+  pub is_end : k.is_end ≡ f.is_end
+
+-- what is found of the token at this byte of a text
+pub record IsFoundAt (text : List ℕ) (offset : ℕ) (f : TextFault) : Type 0 where
+  pub found : IsTokenFound (found_from text offset found_at_start (text_tokens text)) f.found
+  pub place : IsPlaceAt text (span_of f.found.word.spot f.found.word.bytes.now) f.place

@@ -16,7 +16,7 @@ use crate::excerpt::{KnownPlace, PlaceLabel, ShownPlace};
 use crate::items::open_derivations;
 use crate::marks::{find_constraints, mark_of};
 use crate::step::StepFault;
-use crate::text::{Reread, Subject, Text};
+use crate::text::{Reread, Subject};
 use std::alloc::Global;
 use std::fmt;
 use std::fmt::{Formatter, Write};
@@ -29,15 +29,15 @@ use vipr_scan::TextError;
 
 /// The last use of a constraint that was dropped, and the place of its last reference.
 #[derive(Drop)]
-pub(crate) struct LastUse {
+pub(crate) struct LastUse<'a> {
     index: u32,
     last: u32,
-    place: Option<KnownPlace>,
+    place: Option<KnownPlace<'a>>,
 }
 
-impl LastUse {
+impl<'a> LastUse<'a> {
     /// Reads it, if that such a constraint is needed is the fault.
-    pub(crate) fn of(subject: Subject<'_>, fault: StepFault<'_>) -> Reread<Option<LastUse>> {
+    pub(crate) fn of(subject: Subject<'a>, fault: StepFault<'_>) -> Reread<Option<LastUse<'a>>> {
         match fault.what {
             StepDetail::Index(index) if fault.cause == cause::DROPPED => {
                 Ok(Some(LastUse::find(subject, *index, fault.index)?))
@@ -47,14 +47,14 @@ impl LastUse {
     }
 
     // Reads that of a constraint, which a derivation needs.
-    fn find(subject: Subject<'_>, index: u32, user: u32) -> Reread<LastUse>
-        ensures { IfOk result (λ found. IfKnown (text_input subject.entry.text.0.now)
+    fn find(subject: Subject<'a>, index: u32, user: u32) -> Reread<LastUse<'a>>
+        ensures { IfOk result (λ found. IfKnown (text_input subject.entry.text.now)
             (λ i. IsLastUse (text_of i) index user found.last)) }
     {
-        let last = last_use(subject.alloc, &subject.text, index, user)?;
-        let marks = find_constraints(subject.alloc, &subject.text, [index].as_slice())?;
+        let last = last_use(subject.alloc, subject.text, index, user)?;
+        let marks = find_constraints(subject.alloc, subject.text, [index].as_slice())?;
         let place = match mark_of(marks.as_slice(), index) {
-            Some(mark) => Some(KnownPlace::read(subject, mark.last)?),
+            Some(mark) => Some(KnownPlace::of(subject.text, mark.last)),
             None => None,
         };
         Ok(LastUse { index, last, place })
@@ -67,7 +67,7 @@ impl LastUse {
             f,
             "  constraint {index} was dropped behind the last reference that it states\n"
         )?;
-        match &self.place {
+        match self.place {
             Some(place) => {
                 let label = PlaceLabel::LastReference(self.last);
                 write!(f, "{}", ShownPlace { place, file, label })
@@ -79,11 +79,11 @@ impl LastUse {
 
 // The last derivation that names a constraint, as far as the text can be read; `needed_by` if none
 // behind that one does.
-fn last_use<T: Text>(alloc: Global, text: &T, index: u32, needed_by: u32) -> Reread<u32>
-    ensures found { IfKnown (T.input text.now) (λ i.
+fn last_use(alloc: Global, text: &[u8], index: u32, needed_by: u32) -> Reread<u32>
+    ensures found { IfKnown (text_input text.now) (λ i.
         IfOk result (IsLastUse (text_of i) index needed_by)) }
     ensures error { IfErr result
-        (OnlyIf (T.input text.now) (λ i. HasFault (head_read (text_of i)))) }
+        (OnlyIf (text_input text.now) (λ i. HasFault (head_read (text_of i)))) }
 {
     let (problem, mut derivations) = open_derivations(alloc, text)?;
     let first = problem.cons().len() as u32;

@@ -1,169 +1,48 @@
 //! A part of a line with carets below a place in it.
-ghost use Rattle.std.specs.Prelude.{◌≡◌, ℕ, ◌+◌, ◌++◌, ◌∷◌, true, [], min, length, take, drop};
-ghost use Rattle.std.specs.Prelude.{List, IfOk, IfErr, IfSome, OnOk, decimal};
-ghost use Rattle.vipr_spec.specs.Input.{Input};
-ghost use Rattle.vipr_explain.specs.Excerpts.{IsExcerpt, IsPlaceAt};
-ghost use Rattle.vipr_explain.specs.Excerpts.{ReadsInLine, ShowsLine, line_at};
-ghost use Rattle.vipr_explain.specs.Found.{Because};
-ghost use Rattle.vipr_explain.specs.Letters.{HasGiven};
+ghost use Rattle.std.specs.Prelude.{◌≡◌, length, decimal, take, drop};
+ghost use Rattle.vipr_explain.specs.Excerpts.{IsPlaceAt, is_in_line, line_of};
 ghost use Rattle.vipr_page.specs.Page.{line_byte};
 
-use crate::text::{Letters, Reread, Span, Spot, Subject, Text};
+use crate::text::{Span, Spot};
 use itoa::Buffer;
-use std::alloc::{AllocError, Global};
 use std::fmt;
 use std::fmt::{Display, Formatter, Write};
-use vipr_bytes::Source;
 use vipr_page::StrangeBytes;
-use vipr_scan::TextError;
 
 /// How many bytes of a line are shown before a place, and from it on.
 const MOST_BEFORE: u64 = 60;
 
-const MOST_BEHIND: usize = 60;
+const MOST_BEHIND: u64 = 60;
 
 /// How many carets are shown.
 const MOST_CARETS: usize = 40;
 
-/// How many bytes of a line are read from a place on, to see whether more are there.
-const MOST_READ: usize = 4096;
-
-/// A part of a line: what is before a place, what is there, and whether more is behind it.
-#[derive(Drop)]
-pub(crate) struct Excerpt {
+/// A place in the text: what is before it in its line, what is there, and whether more is behind
+/// that; and how many bytes belong to the place.
+#[derive(Clone, Copy)]
+pub(crate) struct KnownPlace<'a> {
     spot: Spot,
-    before: Vec<u8>,
-    behind: Vec<u8>,
+    size: usize,
+    before: &'a [u8],
+    behind: &'a [u8],
     is_cut: bool,
 }
 
-impl Excerpt {
-    /// Reads the part of a line round a place.
-    ///
-    /// # Errors
-    ///
-    /// `Read` if the text can't be read up to there, `Memory` if a growth is refused.
-    fn read<T: Text>(alloc: Global, text: &T, spot: Spot) -> Reread<Excerpt>
-        ensures place { IfOk result (λ e. e.spot ≡ spot) }
-        ensures found { IfSome (T.input text.now) (λ i. IfOk result (IsExcerpt spot i.bytes)) }
-        ensures error { IfSome (T.input text.now)
-            (λ i. IfErr result (λ e. Because e (i.fails ≡ true))) }
+impl<'a> KnownPlace<'a> {
+    /// The part of the line round a place.
+    pub(crate) fn of(text: &'a [u8], span: Span) -> KnownPlace<'a>
+        ensures { IsPlaceAt text.now span result }
     {
-        let mut letters = Letters::<T::Reader>::open(text)?;
-        let mut excerpt = Excerpt {
+        let spot = span.spot;
+        let count = spot.column.saturating_sub(1).min(MOST_BEFORE);
+        let line = line_of(from(text, spot.offset));
+        KnownPlace {
             spot,
-            before: Vec::new(alloc),
-            behind: Vec::new(alloc),
-            is_cut: false,
-        };
-        excerpt.fill(&mut letters)?;
-        if letters.has_failed() {
-            return Err(TextError::Read);
+            size: span.size,
+            before: first(from(text, spot.offset.saturating_sub(count)), count),
+            behind: first(line, MOST_BEHIND),
+            is_cut: line.len() as u64 > MOST_BEHIND,
         }
-        Ok(excerpt)
-    }
-
-    // Reads the part of a line from the start of its text.
-    fn fill<R: Source + Drop>(&mut self, letters: &mut Letters<R>) -> Result<(), AllocError>
-        requires before { self.old.before.items ≡ [] }
-        requires behind { ShowsLine [] self.old }
-        ensures place { self.new.spot ≡ self.old.spot }
-        ensures found { (i : Input) → HasGiven R.input i 0 letters.old
-            → OnOk result (IsExcerpt self.old.spot i.bytes self.new) }
-        ensures left { (i : Input) → HasGiven R.input i 0 letters.old
-            → OnOk result ((n : ℕ) × HasGiven R.input i n letters.new) }
-    {
-        let before_count = self.spot.column.saturating_sub(1).min(MOST_BEFORE);
-        skip(letters, self.spot.offset.saturating_sub(before_count));
-        self.fill_before(letters, before_count)?;
-        self.fill_behind(letters)
-    }
-
-    // Reads so many bytes that are before the place.
-    fn fill_before<R: Source + Drop>(
-        &mut self,
-        letters: &mut Letters<R>,
-        count: u64,
-    ) -> Result<(), AllocError>
-        ensures place { self.new.spot ≡ self.old.spot }
-        ensures behind { (line : List ℕ) → ShowsLine line self.old → ShowsLine line self.new }
-        ensures before { (i : Input) (n : ℕ) → HasGiven R.input i n letters.old → OnOk result
-            (self.new.before.items ≡ self.old.before.items ++ take count (drop n i.bytes)) }
-        ensures left { (i : Input) (n : ℕ) → HasGiven R.input i n letters.old → OnOk result
-            (HasGiven R.input i (min (n + count) (length i.bytes)) letters.new) }
-    {
-        for _ in 0..count {
-            self.read_before(letters)?;
-        }
-        Ok(())
-    }
-
-    // Reads the next byte before the place, if the text has one.
-    fn read_before<R: Source + Drop>(&mut self, letters: &mut Letters<R>) -> Result<(), AllocError>
-        ensures place { self.new.spot ≡ self.old.spot }
-        ensures behind { (line : List ℕ) → ShowsLine line self.old → ShowsLine line self.new }
-        ensures before { (i : Input) (n : ℕ) → HasGiven R.input i n letters.old → OnOk result
-            (self.new.before.items ≡ self.old.before.items ++ take 1 (drop n i.bytes)) }
-        ensures left { (i : Input) (n : ℕ) → HasGiven R.input i n letters.old → OnOk result
-            (HasGiven R.input i (min (n + 1) (length i.bytes)) letters.new) }
-    {
-        if let Some(byte) = letters.next() {
-            self.before.push(byte)?;
-        }
-        Ok(())
-    }
-
-    // Reads the line from the place on.
-    fn fill_behind<R: Source + Drop>(&mut self, letters: &mut Letters<R>) -> Result<(), AllocError>
-        requires { ShowsLine [] self.old }
-        ensures place { self.new.spot ≡ self.old.spot }
-        ensures before { self.new.before ≡ self.old.before }
-        ensures line { (i : Input) (n : ℕ) → HasGiven R.input i n letters.old
-            → OnOk result (ShowsLine (line_at n i.bytes) self.new) }
-        ensures left { (i : Input) (n : ℕ) → HasGiven R.input i n letters.old
-            → OnOk result ((k : ℕ) × HasGiven R.input i k letters.new) }
-    {
-        for _ in 0..MOST_READ {
-            if !self.read_in_line(letters)? {
-                break;
-            }
-        }
-        Ok(())
-    }
-
-    // Reads the next byte of the line, and answers whether it has one.
-    fn read_in_line<R: Source + Drop>(
-        &mut self,
-        letters: &mut Letters<R>,
-    ) -> Result<bool, AllocError>
-        ensures place { self.new.spot ≡ self.old.spot }
-        ensures before { self.new.before ≡ self.old.before }
-        ensures read { (i : Input) (n : ℕ) (line : List ℕ) → HasGiven R.input i n letters.old
-            → ShowsLine line self.old
-            → IfOk result (ReadsInLine R.input i n line letters.new self.new) }
-    {
-        match letters.next() {
-            Some(byte) if byte != b'\n' && byte != b'\r' => {
-                self.take(byte)?;
-                Ok(true)
-            }
-            _ => Ok(false),
-        }
-    }
-
-    // Takes a byte from the place on.
-    fn take(&mut self, byte: u8) -> Result<(), AllocError>
-        ensures place { self.new.spot ≡ self.old.spot }
-        ensures before { self.new.before ≡ self.old.before }
-        ensures line { (line : List ℕ) → ShowsLine line self.old
-            → OnOk result (ShowsLine (line ++ byte ∷ []) self.new) }
-    {
-        if self.behind.len() < MOST_BEHIND {
-            self.behind.push(byte)?;
-        } else {
-            self.is_cut = true;
-        }
-        Ok(())
     }
 
     // What stands for the bytes of the line that are left out in front.
@@ -176,37 +55,37 @@ impl Excerpt {
     }
 }
 
-// Passes so many bytes.
-fn skip<R: Source + Drop>(letters: &mut Letters<R>, count: u64)
-    ensures { (i : Input) (n : ℕ) → HasGiven R.input i n letters.old
-        → HasGiven R.input i (min (n + count) (length i.bytes)) letters.new }
+// The bytes of a text from an offset on.
+fn from(text: &[u8], offset: u64) -> &[u8]
+    ensures { result.now ≡ drop offset text.now }
 {
-    for _ in 0..count {
-        let _ = letters.next();
-    }
+    &text[offset.min(text.len() as u64) as usize..]
 }
 
-/// A place in the text: the part of its line round it, and how many bytes are there.
-#[derive(Drop)]
-pub(crate) struct KnownPlace {
-    excerpt: Excerpt,
-    size: usize,
+// The first bytes: so many, if there are.
+fn first(bytes: &[u8], count: u64) -> &[u8]
+    ensures { result.now ≡ take count bytes.now }
+{
+    &bytes[..count.min(bytes.len() as u64) as usize]
 }
 
-impl KnownPlace {
-    /// Reads what is round a place.
-    ///
-    /// # Errors
-    ///
-    /// `Memory` if a growth is refused.
-    pub(crate) fn read(subject: Subject<'_>, span: Span) -> Reread<KnownPlace>
-        ensures found { IfOk result (IsPlaceAt subject.entry.text.0.now span) }
-    {
-        Ok(KnownPlace {
-            excerpt: Excerpt::read(subject.alloc, &subject.text, span.spot)?,
-            size: span.size,
-        })
+// What is before the end of the line.
+fn line_of(bytes: &[u8]) -> &[u8]
+    ensures { result.now ≡ line_of bytes.now }
+{
+    for at in 0..bytes.len() {
+        if !is_in_line(bytes[at]) {
+            return &bytes[..at];
+        }
     }
+    bytes
+}
+
+// Whether a byte doesn't end a line.
+fn is_in_line(byte: u8) -> bool
+    ensures { result ≡ is_in_line byte }
+{
+    byte != b'\n' && byte != b'\r'
 }
 
 /// What is said below a place.
@@ -229,21 +108,21 @@ impl Display for PlaceLabel {
 /// A place in a file, with carets and a label below it.
 #[derive(Clone, Copy)]
 pub(crate) struct ShownPlace<'a> {
-    pub(crate) place: &'a KnownPlace,
+    pub(crate) place: KnownPlace<'a>,
     pub(crate) file: &'a str,
     pub(crate) label: PlaceLabel,
 }
 
 impl Display for ShownPlace<'_> {
     fn fmt<W: Write>(&self, f: &mut Formatter<W>) -> fmt::Result {
-        let excerpt = &self.place.excerpt;
-        let line = excerpt.spot.line;
-        let column = excerpt.spot.column;
+        let place = self.place;
+        let line = place.spot.line;
+        let column = place.spot.column;
         let margin = digits_of(line);
-        let front = excerpt.front();
-        let before = excerpt.before.as_slice();
-        let behind = excerpt.behind.as_slice();
-        let carets = caret_count(&behind[..self.place.size.min(behind.len())]);
+        let front = place.front();
+        let before = place.before;
+        let behind = place.behind;
+        let carets = caret_count(&behind[..place.size.min(behind.len())]);
         write_copies(f, " ", margin)?;
         let file = StrangeBytes(self.file.as_bytes());
         write!(f, "--> {file}:{line}:{column}\n")?;
@@ -251,7 +130,7 @@ impl Display for ShownPlace<'_> {
         f.write_str(" |\n")?;
         let shown_before = StrangeBytes(before);
         let shown_behind = StrangeBytes(behind);
-        let end = if excerpt.is_cut { ".." } else { "" };
+        let end = if place.is_cut { ".." } else { "" };
         write!(f, "{line} | {front}{shown_before}{shown_behind}{end}\n")?;
         write_copies(f, " ", margin)?;
         f.write_str(" | ")?;

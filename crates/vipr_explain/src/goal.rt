@@ -74,7 +74,7 @@ impl UnprovedClaim {
 
 // Whether a text lists a solution.
 fn has_solution(subject: Subject<'_>) -> Reread<bool> {
-    let (problem, solutions) = open_problem(subject.alloc, &subject.text)?;
+    let (problem, solutions) = open_problem(subject.alloc, subject.text)?;
     let count = solutions.left();
     drop(solutions);
     drop(problem);

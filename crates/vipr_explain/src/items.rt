@@ -11,11 +11,11 @@ ghost use Rattle.vipr_explain.specs.Found.{Finds, Opens, WerePassed, beside, der
 ghost use Rattle.vipr_explain.specs.Found.{nth_read, numbered_of, wanted_among, HasKeptItems};
 ghost use Rattle.vipr_explain.specs.Found.{KeepsNext, AreFoundItems, Because, HasFault};
 ghost use Rattle.vipr_explain.specs.Found.{IsListedSolution, Missed, OnlyIf, LacksListed};
-ghost use Rattle.vipr_explain.specs.Found.{count_read, head_read, items_up_to};
+ghost use Rattle.vipr_explain.specs.Found.{count_read, head_read, items_up_to, text_input};
 
-use crate::text::{Reread, Text};
+use crate::text::Reread;
 use std::alloc::Global;
-use vipr_bytes::Source;
+use vipr_bytes::{Bytes, Source};
 use vipr_cert::{Derivation, Name, Named, Problem};
 use vipr_linear::{Constraint, Solution};
 use vipr_read::{CertReader, Derivations, Solutions};
@@ -160,23 +160,18 @@ impl Items {
 type Opened<L> = Reread<(Problem, L)>;
 
 /// The problem, and a reader of the solutions.
-pub(crate) fn open_problem<T: Text>(alloc: Global, text: &T) -> Opened<Solutions<T::Reader>>
-    ensures read { IfKnown (T.input text.now) (λ i. Opens result (problem_read (text_of i))) }
+pub(crate) fn open_problem(alloc: Global, text: &[u8]) -> Opened<Solutions<Bytes<'_>>>
+    ensures read { IfKnown (text_input text.now) (λ i. Opens result (problem_read (text_of i))) }
     ensures knows { IfOk result (λ x. Knows x.1 x.0) }
     ensures working { IfOk result (λ x. x.1.failed ≡ false) }
 {
-    match text.open() {
-        Some(source) => {
-            let reader = CertReader::new(alloc, source)?;
-            Ok(reader.read_problem(alloc)?)
-        }
-        None => Err(TextError::Read),
-    }
+    let reader = CertReader::new(alloc, Bytes::new(text))?;
+    Ok(reader.read_problem(alloc)?)
 }
 
 /// The problem, and a reader of the derivations.
-pub(crate) fn open_derivations<T: Text>(alloc: Global, text: &T) -> Opened<Derivations<T::Reader>>
-    ensures read { IfKnown (T.input text.now) (λ i. Opens result (head_read (text_of i))) }
+pub(crate) fn open_derivations(alloc: Global, text: &[u8]) -> Opened<Derivations<Bytes<'_>>>
+    ensures read { IfKnown (text_input text.now) (λ i. Opens result (head_read (text_of i))) }
     ensures knows { IfOk result (λ x. Knows x.1 x.0) }
     ensures working { IfOk result (λ x. x.1.failed ≡ false) }
     ensures counted { IfOk result (λ x. x.1.constraints + x.1.left < 2 ^ 32) }
@@ -233,15 +228,15 @@ fn pass_solutions<R: Source>(alloc: Global, solutions: &mut Solutions<R>, count:
 }
 
 /// The problem, and the listed solution of this number.
-pub(crate) fn read_solution<T: Text>(
+pub(crate) fn read_solution(
     alloc: Global,
-    text: &T,
+    text: &[u8],
     number: u32,
 ) -> Reread<(Problem, Named<Solution>)>
-    ensures found { IfOk result (λ x. IfKnown (T.input text.now)
+    ensures found { IfOk result (λ x. IfKnown (text_input text.now)
         (λ i. IsListedSolution number (text_of i) x.0 (solution_of x.1))) }
     ensures error { IfErr result
-        (OnlyIf (T.input text.now) (λ i. LacksListed number (problem_read (text_of i)))) }
+        (OnlyIf (text_input text.now) (λ i. LacksListed number (problem_read (text_of i)))) }
 {
     let (problem, mut solutions) = open_problem(alloc, text)?;
     let found = nth_solution(alloc, &mut solutions, number);
@@ -274,11 +269,11 @@ fn nth_solution<R: Source>(
 }
 
 /// The problem, and the derivations of those of these constraints that are derived.
-pub(crate) fn read_items<T: Text>(alloc: Global, text: &T, wanted: &[u32]) -> Reread<Items>
-    ensures found { IfOk result (λ items. IfKnown (T.input text.now)
+pub(crate) fn read_items(alloc: Global, text: &[u8], wanted: &[u32]) -> Reread<Items>
+    ensures found { IfOk result (λ items. IfKnown (text_input text.now)
         (λ i. AreFoundItems wanted.now (text_of i) items)) }
     ensures error { IfErr result
-        (OnlyIf (T.input text.now) (λ i. HasFault (items_up_to wanted.now (text_of i)))) }
+        (OnlyIf (text_input text.now) (λ i. HasFault (items_up_to wanted.now (text_of i)))) }
 {
     let (problem, mut derivations) = open_derivations(alloc, text)?;
     let mut items = Items {

@@ -1,24 +1,16 @@
 //! The places of items' names in a text, and of their last references.
-ghost use Rattle.std.specs.Prelude.{◌≡◌, ◌<◌, ◌^◌, List, true, length, map, option_copied, IfErr};
-ghost use Rattle.std.specs.Prelude.{IfOk, OnOk};
-ghost use Rattle.vipr_spec.specs.Input.{Input};
-ghost use Rattle.vipr_spec.specs.Tokens.{Token};
-ghost use Rattle.vipr_bytes.specs.Known.{IfKnown};
-ghost use Rattle.vipr_explain.specs.Found.{OnlyIf};
+ghost use Rattle.std.specs.Prelude.{◌≡◌, option_copied, IfOk, OnOk};
 ghost use Rattle.vipr_explain.specs.Listed.{place_found};
 ghost use Rattle.vipr_explain.specs.Marked.{AreMarksOf, IsMarkOf, is_behind, is_of, is_past};
-ghost use Rattle.vipr_explain.specs.Marked.{is_past_head, mark_at, marked, marked_at, marks_from};
-ghost use Rattle.vipr_explain.specs.Marked.{marks_in, with_last};
-ghost use Rattle.vipr_explain.specs.Progress.{at_start, index_of};
-ghost use Rattle.vipr_explain.specs.Words.{AreLeft, IsReading, IsReadWhole, kept_token};
+ghost use Rattle.vipr_explain.specs.Marked.{is_past_head, mark_at, marked, marked_at, marks_in};
+ghost use Rattle.vipr_explain.specs.Marked.{with_last};
+ghost use Rattle.vipr_explain.specs.Progress.{index_of};
 
 use crate::items::greatest;
-use crate::text::{Reread, Span, Text};
+use crate::text::Span;
 use crate::wanted::{Section, TextProgress, Wanted};
 use crate::words::Words;
 use std::alloc::{AllocError, Global};
-use vipr_bytes::Source;
-use vipr_scan::TextError;
 
 /// The items that are looked for: constraints, of the problem or derived, or solutions.
 #[derive(Clone, Copy)]
@@ -59,74 +51,49 @@ pub(crate) struct ItemPlace {
 }
 
 /// The places of constraints by their indices.
-pub(crate) fn find_constraints<T: Text>(
+pub(crate) fn find_constraints(
     alloc: Global,
-    text: &T,
+    text: &[u8],
     wanted: &[u32],
-) -> Reread<Vec<ItemPlace>>
-    ensures found { IfOk result (λ marks. AreMarksOf (T.input text.now) wanted.now marks.items) }
-    ensures error { IfErr result (OnlyIf (T.input text.now) (λ i. i.fails ≡ true)) }
+) -> Result<Vec<ItemPlace>, AllocError>
+    ensures { IfOk result (λ marks. AreMarksOf text.now wanted.now marks.items) }
 {
     find_items(alloc, text, ItemSort::Constraints, wanted)
 }
 
 /// The place of a solution by its number.
-pub(crate) fn find_solution<T: Text>(
+pub(crate) fn find_solution(
     alloc: Global,
-    text: &T,
+    text: &[u8],
     number: u32,
-) -> Reread<Option<ItemPlace>>
-    ensures found { IfOk result (IsMarkOf (T.input text.now) number) }
-    ensures error { IfErr result (OnlyIf (T.input text.now) (λ i. i.fails ≡ true)) }
+) -> Result<Option<ItemPlace>, AllocError>
+    ensures { IfOk result (IsMarkOf text.now number) }
 {
     let marks = find_items(alloc, text, ItemSort::Solutions, [number].as_slice())?;
     Ok(mark_of(marks.as_slice(), number))
 }
 
-// The places of items of a kind by their indices.
-fn find_items<T: Text>(
+// The places of items of a kind by their indices: up to the greatest one.
+fn find_items(
     alloc: Global,
-    text: &T,
+    text: &[u8],
     kind: ItemSort,
     wanted: &[u32],
-) -> Reread<Vec<ItemPlace>>
-    ensures found { IfOk result (λ marks. IfKnown (T.input text.now)
-        (λ i. marks.items ≡ marks_in kind wanted.now i)) }
-    ensures error { IfErr result (OnlyIf (T.input text.now) (λ i. i.fails ≡ true)) }
+) -> Result<Vec<ItemPlace>, AllocError>
+    ensures { IfOk result (λ marks. marks.items ≡ marks_in kind wanted.now text.now) }
 {
-    let mut words = Words::<T::Reader>::open(alloc, text)?;
-    let mut marks = Vec::new(alloc);
-    let marked = mark_items(&mut words, &mut marks, kind, wanted);
-    let checked = marked.and(words.check());
-    drop(words);
-    checked.and(Ok(marks))
-}
-
-// Marks items of a kind, up to the greatest index.
-fn mark_items<R: Source + Drop>(
-    words: &mut Words<R>,
-    marks: &mut Vec<ItemPlace>,
-    kind: ItemSort,
-    wanted: &[u32],
-) -> Reread<()>
-    ensures reading { (i : Input) → IsReading R.input i words.old
-        → IsReading R.input i words.new }
-    ensures marked { (i : Input) (ts : List Token) → length i.bytes < 2 ^ 64
-        → AreLeft R.input i ts words.old → IsReadWhole words.new
-        → OnOk result (marks.new.items
-        ≡ marks_from kind wanted.now at_start marks.old.items (map (kept_token i) ts)) }
-    ensures error { IfErr result (λ m. m ≡ TextError.Memory) }
-{
+    let mut words = Words::of(text);
     let mut progress = TextProgress::start();
+    let mut marks = Vec::new(alloc);
     let end = greatest(wanted);
-    for _ in 0..u64::MAX {
-        if is_past(kind, &progress, end) || !words.next() {
-            return Ok(());
-        }
-        mark(marks, kind, wanted, &progress, words.span())?;
-        progress.pass(words.word());
+    while !is_past(kind, &progress, end) {
+        let Some(word) = words.next() else {
+            return Ok(marks);
+        };
+        mark(&mut marks, kind, wanted, &progress, word.span())?;
+        progress.pass(word.bytes);
     }
-    Err(TextError::Memory)
+    Ok(marks)
 }
 
 /// The mark of an item among others.

@@ -39,7 +39,7 @@ pub(crate) struct NearSearch {
 
 /// The constraints of a text that come nearest to its claim.
 pub(crate) fn find_near(subject: Subject<'_>) -> Reread<NearSearch> {
-    let (problem, mut derivations) = open_derivations(subject.alloc, &subject.text)?;
+    let (problem, mut derivations) = open_derivations(subject.alloc, subject.text)?;
     let search = search_all(subject, &problem, &mut derivations);
     drop(derivations);
     drop(problem);

@@ -1,6 +1,6 @@
 //! The constraints that an explanation names, and how each is shown.
 ghost use Rattle.std.specs.Prelude.{IfOk};
-ghost use Rattle.vipr_explain.specs.Found.{AreItemsOf, text_input};
+ghost use Rattle.vipr_explain.specs.Found.{AreItemsOf};
 
 use crate::items::{Items, read_items};
 use crate::marks::{ItemPlace, find_constraints, mark_of};
@@ -19,14 +19,14 @@ pub(crate) struct PlacedItems {
 impl PlacedItems {
     /// Reads the constraints of these indices.
     pub(crate) fn read(subject: Subject<'_>, wanted: &[u32]) -> Reread<PlacedItems>
-        ensures { IfOk result (AreItemsOf (text_input subject.entry.text.0.now) wanted.now) }
+        ensures { IfOk result (AreItemsOf subject.entry.text.now wanted.now) }
     {
-        let items = read_items(subject.alloc, &subject.text, wanted)?;
-        match find_constraints(subject.alloc, &subject.text, wanted) {
+        let items = read_items(subject.alloc, subject.text, wanted)?;
+        match find_constraints(subject.alloc, subject.text, wanted) {
             Ok(marks) => Ok(PlacedItems { items, marks }),
-            Err(missing) => {
+            Err(error) => {
                 drop(items);
-                Err(missing)
+                Err(error.into())
             }
         }
     }

@@ -28,25 +28,25 @@ const MOST_VALUES: usize = 10;
 
 /// A listed solution that is refused: its place, and that of the constraint that it breaks.
 #[derive(Drop)]
-pub(crate) struct RefusedSolution {
+pub(crate) struct RefusedSolution<'a> {
     problem: Problem,
     solution: Named<Solution>,
     number: u32,
-    place: Option<KnownPlace>,
+    place: Option<KnownPlace<'a>>,
     broken: Vec<ItemPlace>,
 }
 
-impl RefusedSolution {
+impl<'a> RefusedSolution<'a> {
     /// Reads the listed solution of this number, which is refused so.
     pub(crate) fn find(
-        subject: Subject<'_>,
+        subject: Subject<'a>,
         number: u32,
         detail: &Detail,
-    ) -> Reread<RefusedSolution>
-        ensures { IfOk result (λ s. IfKnown (text_input subject.entry.text.0.now)
+    ) -> Reread<RefusedSolution<'a>>
+        ensures { IfOk result (λ s. IfKnown (text_input subject.entry.text.now)
             (λ i. IsListedSolution number (text_of i) s.problem (solution_of s.solution))) }
     {
-        let (problem, solution) = read_solution(subject.alloc, &subject.text, number)?;
+        let (problem, solution) = read_solution(subject.alloc, subject.text, number)?;
         match places_of(subject, number, detail) {
             Ok((place, broken)) => Ok(RefusedSolution {
                 problem,
@@ -58,18 +58,18 @@ impl RefusedSolution {
             Err(missing) => {
                 drop(solution);
                 drop(problem);
-                Err(missing)
+                Err(missing.into())
             }
         }
     }
 }
 
 // The place of a solution, and that of the constraint that it breaks.
-fn places_of(
-    subject: Subject<'_>,
+fn places_of<'a>(
+    subject: Subject<'a>,
     number: u32,
     detail: &Detail,
-) -> Reread<(Option<KnownPlace>, Vec<ItemPlace>)> {
+) -> Result<(Option<KnownPlace<'a>>, Vec<ItemPlace>), AllocError> {
     let broken = broken_place(subject, detail)?;
     match solution_place(subject, number) {
         Ok(place) => Ok((place, broken)),
@@ -81,18 +81,18 @@ fn places_of(
 }
 
 // The place of a solution.
-fn solution_place(subject: Subject<'_>, number: u32) -> Reread<Option<KnownPlace>> {
-    match find_solution(subject.alloc, &subject.text, number)? {
-        Some(mark) => Ok(Some(KnownPlace::read(subject, mark.name)?)),
+fn solution_place(subject: Subject<'_>, number: u32) -> Result<Option<KnownPlace<'_>>, AllocError> {
+    match find_solution(subject.alloc, subject.text, number)? {
+        Some(mark) => Ok(Some(KnownPlace::of(subject.text, mark.name))),
         None => Ok(None),
     }
 }
 
 // The place of the constraint that a solution breaks, if that is the fault.
-fn broken_place(subject: Subject<'_>, detail: &Detail) -> Reread<Vec<ItemPlace>> {
+fn broken_place(subject: Subject<'_>, detail: &Detail) -> Result<Vec<ItemPlace>, AllocError> {
     match detail {
         Detail::Breaks { constraint, .. } => {
-            find_constraints(subject.alloc, &subject.text, [*constraint].as_slice())
+            find_constraints(subject.alloc, subject.text, [*constraint].as_slice())
         }
         _ => Ok(Vec::new(subject.alloc)),
     }
@@ -101,7 +101,7 @@ fn broken_place(subject: Subject<'_>, detail: &Detail) -> Reread<Vec<ItemPlace>>
 /// The page of a solution that is refused.
 #[derive(Clone, Copy)]
 pub(crate) struct SolutionPage<'a> {
-    pub(crate) known: &'a RefusedSolution,
+    pub(crate) known: &'a RefusedSolution<'a>,
     pub(crate) detail: &'a Detail,
     pub(crate) file: &'a str,
 }
@@ -117,7 +117,7 @@ impl Display for SolutionPage<'_> {
             _ => "has a value past 2^127 - 1",
         };
         write!(f, "error: solution {number} `{name}` {fault}\n")?;
-        if let Some(place) = &known.place {
+        if let Some(place) = known.place {
             let label = PlaceLabel::Words("this solution");
             let file = self.file;
             write!(f, "{}", ShownPlace { place, file, label })?;
@@ -163,7 +163,7 @@ fn write_not_whole<W: Write>(
 // Writes the constraint that is false, and the values at its variables.
 fn write_broken<W: Write>(
     f: &mut Formatter<W>,
-    known: &RefusedSolution,
+    known: &RefusedSolution<'_>,
     index: u32,
     left: Frac,
 ) -> fmt::Result {
@@ -237,7 +237,7 @@ pub(crate) struct ListedValues {
 impl ListedValues {
     /// Reads the listed solutions.
     pub(crate) fn find(subject: Subject<'_>) -> Reread<ListedValues> {
-        let (problem, mut solutions) = open_problem(subject.alloc, &subject.text)?;
+        let (problem, mut solutions) = open_problem(subject.alloc, subject.text)?;
         let mut known = ListedValues {
             first: Vec::new(subject.alloc),
             best: None,

@@ -10,7 +10,7 @@ use crate::text::{Reread, Subject};
 use std::alloc::{AllocError, Global};
 use std::fmt;
 use std::fmt::{Display, Formatter, Write};
-use vipr_cert::{Derivation, Problem, Reason};
+use vipr_cert::{Problem, Reason};
 use vipr_check::{StepDetail, cause};
 use vipr_frac::Frac;
 use vipr_linear::{Constraint, Sense};
@@ -31,30 +31,30 @@ pub(crate) struct StepFault<'a> {
 
 /// A derivation that is refused, with the constraints that it names, and what is behind the fault.
 #[derive(Drop)]
-pub(crate) struct RefusedStep {
+pub(crate) struct RefusedStep<'a> {
     /// The derivation alone, by its index.
     own: Items,
-    named: NamedItems,
+    named: NamedItems<'a>,
     profile: Profile,
 }
 
 /// What a derivation names, its place, and what is behind its fault.
 #[derive(Drop)]
-struct NamedItems {
+struct NamedItems<'a> {
     known: PlacedItems,
-    place: Option<KnownPlace>,
+    place: Option<KnownPlace<'a>>,
     differences: Vec<Difference>,
     /// What keeps its sum, or the row of its assumptions, from being whole.
     faults: Vec<RowFault>,
     /// The right-hand side by `rnd`, if that is enough.
     rounded: Option<i128>,
-    dropped: Option<LastUse>,
+    dropped: Option<LastUse<'a>>,
 }
 
-impl RefusedStep {
+impl<'a> RefusedStep<'a> {
     /// Reads the derivation that is refused, and what it names.
-    pub(crate) fn find(subject: Subject<'_>, fault: StepFault<'_>) -> Reread<RefusedStep> {
-        let own = read_items(subject.alloc, &subject.text, [fault.index].as_slice())?;
+    pub(crate) fn find(subject: Subject<'a>, fault: StepFault<'_>) -> Reread<RefusedStep<'a>> {
+        let own = read_items(subject.alloc, subject.text, [fault.index].as_slice())?;
         match read_named(subject, fault, &own) {
             Ok(named) => Ok(RefusedStep {
                 own,
@@ -70,13 +70,17 @@ impl RefusedStep {
 }
 
 // Reads what a derivation names.
-fn read_named(subject: Subject<'_>, fault: StepFault<'_>, own: &Items) -> Reread<NamedItems> {
+fn read_named<'a>(
+    subject: Subject<'a>,
+    fault: StepFault<'_>,
+    own: &Items,
+) -> Reread<NamedItems<'a>> {
     let Some(step) = own.derivation(fault.index) else {
         return Err(TextError::Read);
     };
     let wanted = step_indices(subject.alloc, fault, &step.reason)?;
     let known = PlacedItems::read(subject, wanted.as_slice())?;
-    let place = step_place(subject, &known, fault.index)?;
+    let place = step_place(subject, &known, fault.index);
     let differences = differences_of(subject.alloc, fault.what)?;
     let faults = faults_of(subject.alloc, &known.items.problem, fault.what)?;
     let dropped = LastUse::of(subject, fault)?;
@@ -92,10 +96,10 @@ fn read_named(subject: Subject<'_>, fault: StepFault<'_>, own: &Items) -> Reread
 }
 
 // The place of a derivation.
-fn step_place(subject: Subject<'_>, known: &PlacedItems, index: u32) -> Reread<Option<KnownPlace>> {
+fn step_place<'a>(subject: Subject<'a>, known: &PlacedItems, index: u32) -> Option<KnownPlace<'a>> {
     match mark_of(known.marks.as_slice(), index) {
-        Some(mark) => Ok(Some(KnownPlace::read(subject, mark.name)?)),
-        None => Ok(None),
+        Some(mark) => Some(KnownPlace::of(subject.text, mark.name)),
+        None => None,
     }
 }
 
@@ -135,7 +139,7 @@ fn rounding_of(problem: &Problem, reason: &Reason, what: &StepDetail) -> Option<
 /// The page of a derivation that is refused.
 #[derive(Clone, Copy)]
 pub(crate) struct StepPage<'a> {
-    pub(crate) step: &'a RefusedStep,
+    pub(crate) step: &'a RefusedStep<'a>,
     pub(crate) fault: StepFault<'a>,
     pub(crate) file: &'a str,
 }
@@ -153,7 +157,7 @@ impl Display for StepPage<'_> {
         write!(f, "error: derivation {index} `{name}` ")?;
         write_fault(f, fault)?;
         f.write_str("\n")?;
-        if let Some(place) = &step.place {
+        if let Some(place) = step.place {
             let label = PlaceLabel::Words("this derivation");
             write!(f, "{}", ShownPlace { place, file, label })?;
         }
@@ -199,7 +203,7 @@ fn write_fault<W: Write>(f: &mut Formatter<W>, fault: StepFault<'_>) -> fmt::Res
 // Writes what is behind the fault.
 fn write_detail<W: Write>(
     f: &mut Formatter<W>,
-    refused: &RefusedStep,
+    refused: &RefusedStep<'_>,
     problem: &Problem,
     what: &StepDetail,
 ) -> fmt::Result {

@@ -1,162 +1,107 @@
 //! A fault of a text: its place, and what is wanted there.
-ghost use Rattle.std.specs.Prelude.{◌≡◌, [], IfErr, IfOk, OnOk, true};
-ghost use Rattle.vipr_spec.specs.Input.{Input};
-ghost use Rattle.vipr_explain.specs.Found.{OnlyIf, text_input};
-ghost use Rattle.vipr_explain.specs.Progress.{at_start, named_at, passed};
-ghost use Rattle.vipr_explain.specs.Syntax.{IsFoundAt, PassesUpTo};
-ghost use Rattle.vipr_explain.specs.Words.{IsReading, kept_word, no_token};
+ghost use Rattle.vipr_explain.specs.Syntax.{TokenFound, IsTokenFound, IsFoundAt};
+ghost use Rattle.vipr_explain.specs.Syntax.{found_at_start, found_behind};
 
 use crate::excerpt::{KnownPlace, PlaceLabel, ShownPlace};
 use crate::hints::{TokenFault, write_hints};
-use crate::text::{Reread, Subject, Text};
+use crate::text::Spot;
 use crate::wanted::{Section, TextProgress, Wanted};
 use crate::wanted_words::write_wanted;
-use crate::words::Words;
-use std::alloc::{AllocError, Global};
+use crate::words::{TextWord, Words};
 use std::fmt;
 use std::fmt::{Display, Formatter, Write};
-use vipr_bytes::{Bytes, Source};
 use vipr_check::cause;
 use vipr_page::CutBytes;
-use vipr_scan::TextError;
 
-/// A token at fault: the reader that is at it, and what is known of it.
-#[derive(Drop)]
-struct FoundToken<R> {
-    words: Words<R>,
+/// How far a text was read before the token at a fault, and that token.
+#[derive(Clone, Copy)]
+struct FaultToken<'a> {
     progress: TextProgress,
-    /// The name of the item that it is in, empty before that is read.
-    name: Vec<u8>,
-    /// Whether the text ends before it. Then the token is the last one.
+    /// The name of the item that the token is in, empty before that is read.
+    name: &'a [u8],
+    word: TextWord<'a>,
+    /// Whether the text ends before the token. Then `word` is the last one.
     is_end: bool,
 }
 
-impl<R: Source + Drop> FoundToken<R> {
-    // Reads up to the token at a byte.
-    fn find<T: Text<Reader = R>>(alloc: Global, text: &T, offset: u64) -> Reread<FoundToken<R>>
-        ensures found { IfOk result (IsFoundAt (T.input text.now) offset) }
-        ensures error { IfErr result (OnlyIf (T.input text.now) (λ i. i.fails ≡ true)) }
+impl<'a> FaultToken<'a> {
+    // Nothing was read.
+    fn start() -> FaultToken<'a>
+        ensures { IsTokenFound found_at_start result }
     {
-        let mut found = FoundToken {
-            words: Words::open(alloc, text)?,
+        let bytes = b"".as_slice();
+        let spot = Spot::start();
+        FaultToken {
             progress: TextProgress::start(),
-            name: Vec::new(alloc),
+            name: bytes,
+            word: TextWord { bytes, spot },
             is_end: true,
-        };
-        found.pass_up_to(offset)?;
-        found.words.check()?;
-        Ok(found)
-    }
-
-    // Passes the tokens before a byte.
-    fn pass_up_to(&mut self, offset: u64) -> Reread<()>
-        requires progress { self.old.progress ≡ at_start }
-        requires name { self.old.name.items ≡ [] }
-        requires token { kept_word self.old.words ≡ no_token }
-        requires end { self.old.is_end ≡ true }
-        ensures found { OnOk result (PassesUpTo R.input offset self.old self.new) }
-        ensures reading { (i : Input) → IsReading R.input i self.old.words
-            → OnOk result (IsReading R.input i self.new.words) }
-        ensures error { IfErr result (λ m. m ≡ TextError.Memory) }
-    {
-        for _ in 0..u64::MAX {
-            if !self.words.next() {
-                return Ok(());
-            }
-            if self.words.span().spot.offset >= offset {
-                self.is_end = false;
-                return Ok(());
-            }
-            self.pass()?;
         }
-        Err(TextError::Memory)
     }
 
-    // Passes the token that was read.
-    fn pass(&mut self) -> Result<(), AllocError>
-        ensures words { self.new.words ≡ self.old.words }
-        ensures is_end { self.new.is_end ≡ self.old.is_end }
-        ensures name { OnOk result (self.new.name.items
-            ≡ named_at self.old.progress.wanted self.old.name.items self.old.words.word.items) }
-        ensures progress { OnOk result
-            (self.new.progress ≡ passed self.old.progress self.old.words.word.items) }
+    // Takes the next token, which is passed if it is before this byte.
+    fn take(&mut self, word: TextWord<'a>, offset: u64)
+        ensures { (f : TokenFound) → IsTokenFound f self.old
+            → IsTokenFound (found_behind offset f word.entry.bytes.now word.entry.spot) self.new }
     {
-        self.take_name()?;
-        self.progress.pass(self.words.word());
-        Ok(())
-    }
-
-    // Takes the token that was read as the name of an item, if it is one.
-    fn take_name(&mut self) -> Result<(), AllocError>
-        ensures words { self.new.words ≡ self.old.words }
-        ensures is_end { self.new.is_end ≡ self.old.is_end }
-        ensures progress { self.new.progress ≡ self.old.progress }
-        ensures name { OnOk result (self.new.name.items
-            ≡ named_at self.old.progress.wanted self.old.name.items self.old.words.word.items) }
-    {
-        match self.progress.wanted {
-            Wanted::Name => {
-                self.name.clear();
-                self.name.extend_from_slice(self.words.word())
-            }
-            _ => Ok(()),
+        self.word = word;
+        if word.spot.offset >= offset {
+            self.is_end = false;
+            return;
         }
+        if let Wanted::Name = self.progress.wanted {
+            self.name = word.bytes;
+        }
+        self.progress.pass(word.bytes);
     }
 }
 
 /// A fault of a text: the token at it, and its place.
-#[derive(Drop)]
-pub(crate) struct TextFault {
-    progress: TextProgress,
-    name: Vec<u8>,
-    word: Vec<u8>,
-    is_end: bool,
-    place: KnownPlace,
+#[derive(Clone, Copy)]
+pub(crate) struct TextFault<'a> {
+    found: FaultToken<'a>,
+    place: KnownPlace<'a>,
 }
 
-impl TextFault {
-    /// Reads up to the token at a byte.
-    pub(crate) fn find(subject: Subject<'_>, offset: u64) -> Reread<TextFault> {
-        let found = FoundToken::<Bytes<'_>>::find(subject.alloc, &subject.text, offset)?;
-        let place = KnownPlace::read(subject, found.words.span())?;
-        let mut word = Vec::new(subject.alloc);
-        word.extend_from_slice(found.words.word())?;
-        let FoundToken {
-            words,
-            progress,
-            name,
-            is_end,
-        } = found;
-        drop(words);
-        Ok(TextFault {
-            progress,
-            name,
-            word,
-            is_end,
-            place,
-        })
+impl<'a> TextFault<'a> {
+    /// The token at a byte of a text.
+    pub(crate) fn find(text: &'a [u8], offset: u64) -> TextFault<'a>
+        ensures { IsFoundAt text.now offset result }
+    {
+        let mut words = Words::of(text);
+        let mut found = FaultToken::start();
+        while found.is_end {
+            let Some(word) = words.next() else {
+                break;
+            };
+            found.take(word, offset);
+        }
+        TextFault {
+            place: KnownPlace::of(text, found.word.span()),
+            found,
+        }
     }
 }
 
 /// The page of a fault of this cause.
 #[derive(Clone, Copy)]
 pub(crate) struct FaultPage<'a> {
-    pub(crate) fault: &'a TextFault,
+    pub(crate) fault: TextFault<'a>,
     pub(crate) cause: u8,
     pub(crate) file: &'a str,
 }
 
 impl Display for FaultPage<'_> {
     fn fmt<W: Write>(&self, f: &mut Formatter<W>) -> fmt::Result {
-        let fault = self.fault;
+        let found = self.fault.found;
         let cause = self.cause;
-        let progress = fault.progress;
+        let progress = found.progress;
         let name = cause::name(cause);
         write!(f, "error: {name}")?;
         if cause == cause::TRAILING_TEXT {
             f.write_str(": text behind the last derivation")?;
         } else {
-            f.write_str(if fault.is_end {
+            f.write_str(if found.is_end {
                 ": the text ends where this is wanted: "
             } else {
                 ": wanted "
@@ -164,24 +109,24 @@ impl Display for FaultPage<'_> {
             write_wanted(f, &progress)?;
         }
         f.write_str("\n")?;
-        let label = PlaceLabel::Words(if fault.is_end {
+        let label = PlaceLabel::Words(if found.is_end {
             "the text ends behind this"
         } else {
             "this was found"
         });
         let place = ShownPlace {
-            place: &fault.place,
+            place: self.fault.place,
             file: self.file,
             label,
         };
         write!(f, "{place}")?;
-        write_context(f, &progress, fault.name.as_slice())?;
+        write_context(f, &progress, found.name)?;
         write_hints(
             f,
             TokenFault {
                 cause,
                 progress,
-                word: fault.word.as_slice(),
+                word: found.word.bytes,
             },
         )
     }

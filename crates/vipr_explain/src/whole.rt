@@ -5,7 +5,7 @@ use crate::shown::PlacedItems;
 use crate::solution::{ListedValues, NoPrimalPage, RefusedSolution, SolutionPage};
 use crate::step::{RefusedStep, StepFault, StepPage};
 use crate::syntax::{FaultPage, TextFault};
-use crate::text::{Reread, Subject, TextBytes};
+use crate::text::{Reread, Subject};
 use std::alloc::Global;
 use std::fmt;
 use std::fmt::{Display, Formatter, Write};
@@ -16,11 +16,11 @@ use vipr_scan::TextError;
 
 /// What is found in a text that explains a verdict.
 #[derive(Drop)]
-enum Findings {
+enum Findings<'a> {
     Proved(Option<PlacedItems>),
-    Text(TextFault),
-    Solution(RefusedSolution),
-    Step(RefusedStep),
+    Text(TextFault<'a>),
+    Solution(RefusedSolution<'a>),
+    Step(RefusedStep<'a>),
     NoProof(UnprovedClaim),
     NoPrimal(ListedValues),
     /// The detail is of another verdict.
@@ -45,7 +45,7 @@ pub fn page_for(
     let subject = Subject {
         alloc,
         profile,
-        text: TextBytes(bytes),
+        text: bytes,
     };
     match find(subject, verdict, detail) {
         Ok(known) => {
@@ -70,7 +70,7 @@ const NO_WHOLE_TEXT: &str = "\na read failed behind what is refused, so it isn't
 const ANOTHER_TEXT: &str = "\nthe verdict isn't one of this text, so it isn't explained\n";
 
 // Finds what explains a verdict.
-fn find(subject: Subject<'_>, verdict: &Verdict, detail: &Detail) -> Reread<Findings> {
+fn find<'a>(subject: Subject<'a>, verdict: &Verdict, detail: &Detail) -> Reread<Findings<'a>> {
     match verdict {
         Verdict::Verified(report) => match report.goal {
             Some(goal) => {
@@ -84,9 +84,13 @@ fn find(subject: Subject<'_>, verdict: &Verdict, detail: &Detail) -> Reread<Find
 }
 
 // Finds what explains a refusal.
-fn find_refusal(subject: Subject<'_>, refusal: &Refusal, detail: &Detail) -> Reread<Findings> {
+fn find_refusal<'a>(
+    subject: Subject<'a>,
+    refusal: &Refusal,
+    detail: &Detail,
+) -> Reread<Findings<'a>> {
     match (refusal.place, detail) {
-        (Place::Byte(offset), _) => Ok(Findings::Text(TextFault::find(subject, offset)?)),
+        (Place::Byte(offset), _) => Ok(Findings::Text(TextFault::find(subject.text, offset))),
         (Place::Sol(number), _) => {
             Ok(Findings::Solution(RefusedSolution::find(subject, number, detail)?))
         }
@@ -107,7 +111,7 @@ fn find_refusal(subject: Subject<'_>, refusal: &Refusal, detail: &Detail) -> Rer
 /// The whole page.
 #[derive(Clone, Copy)]
 struct LongExplanation<'a> {
-    known: &'a Findings,
+    known: &'a Findings<'a>,
     verdict: &'a Verdict,
     detail: &'a Detail,
     file: &'a str,
@@ -140,7 +144,10 @@ impl LongExplanation<'_> {
         let detail = self.detail;
         let file = self.file;
         match (self.known, refusal.place, detail) {
-            (Findings::Text(fault), _, _) => write!(f, "{}", FaultPage { fault, cause, file }),
+            (Findings::Text(fault), _, _) => {
+                let fault = *fault;
+                write!(f, "{}", FaultPage { fault, cause, file })
+            }
             (Findings::Solution(known), _, _) => {
                 write!(
                     f,

@@ -1,201 +1,102 @@
 //! The tokens of a text with their places.
-ghost use Rattle.std.specs.Prelude.{◌≡◌, ◌+◌, ◌<◌, ◌^◌, ◌∷◌, ◌++◌, [], ℕ, false, true, length};
-ghost use Rattle.std.specs.Prelude.{List, None, IfOk, IfErr, IfNone, IfSome};
-ghost use Rattle.vipr_spec.specs.Input.{Input};
-ghost use Rattle.vipr_spec.specs.Tokens.{Token, tokens};
-ghost use Rattle.vipr_explain.specs.Letters.{HasGiven};
-ghost use Rattle.vipr_explain.specs.Words.{AreLeft, BeginsToken, FindsToken, GivesToken};
-ghost use Rattle.vipr_explain.specs.Words.{HoldsStart, IsReadWhole, IsReading, ReadsInToken};
-ghost use Rattle.vipr_explain.specs.Words.{ReadsToken, kept_word, no_token, span_of};
+ghost use Rattle.std.specs.Prelude.{◌≡◌, ◌+◌, ◌<◌, ◌≤◌, ℕ, List, length, drop};
+ghost use Rattle.std.specs.Prelude.{IfSome, false, slice_index};
+ghost use Rattle.vipr_spec.specs.Tokens.{Token, is_white, text_tokens};
+ghost use Rattle.vipr_scan.specs.declared.place.Position.TheVariants.{Past};
+ghost use Rattle.vipr_explain.specs.Words.{AreLeft, GivesWord, IsAtByte, span_of, words_at};
 
-use crate::text::{Letters, Reread, Span, Spot, Text};
-use std::alloc::Global;
-use vipr_bytes::Source;
-use vipr_scan::{Position, TextError, is_white, step};
+use crate::text::{Span, Spot};
+use vipr_scan::{Position, run_end, step};
 
-/// Reads the tokens of a text one by one. It keeps the place and the bytes of one.
-#[derive(Drop)]
-pub(crate) struct Words<R> {
-    letters: Letters<R>,
-    position: Position,
-    word: Vec<u8>,
-    size: usize,
-    spot: Spot,
-    /// Whether a growth was refused.
-    lacks_memory: bool,
+/// A token of a text: its bytes, and the place of the first one.
+#[derive(Clone, Copy)]
+pub(crate) struct TextWord<'a> {
+    pub(crate) bytes: &'a [u8],
+    pub(crate) spot: Spot,
 }
 
-impl<R: Source + Drop> Words<R> {
-    ghost use Rattle.vipr_explain.specs.Found.{Because};
-
-    /// A reader at the start of a text.
-    pub(crate) fn open<T: Text<Reader = R>>(alloc: Global, text: &T) -> Reread<Words<R>>
-        ensures start { IfOk result (λ w. IfSome (T.input text.now)
-            (λ i. IsReading R.input i w)) }
-        ensures tokens { IfOk result (λ w. IfSome (T.input text.now)
-            (λ i. AreLeft R.input i (tokens i) w)) }
-        ensures empty { IfOk result (λ w. kept_word w ≡ no_token) }
-        ensures error { IfErr result
-            (λ e. (e ≡ TextError.Read) × (T.input text.now ≡ None)) }
-    {
-        Ok(Words {
-            letters: Letters::open(text)?,
-            position: Position::Front,
-            word: Vec::new(alloc),
-            size: 0,
-            spot: Spot::start(),
-            lacks_memory: false,
-        })
-    }
-
-    /// Reads the next token, and answers whether there is one.
-    pub(crate) fn next(&mut self) -> bool
-        ensures reading { (i : Input) → IsReading R.input i self.old
-            → IsReading R.input i self.new }
-        ensures whole { IsReadWhole self.new → IsReadWhole self.old }
-        ensures kept { result ≡ false → kept_word self.new ≡ kept_word self.old }
-        ensures token { (i : Input) (ts : List Token) → length i.bytes < 2 ^ 64
-            → AreLeft R.input i ts self.old → IsReadWhole self.new
-            → ReadsToken R.input i ts self.new result }
-    {
-        if self.lacks_memory {
-            return false;
-        }
-        match self.first_byte() {
-            Some(byte) => {
-                self.read_word(byte);
-                true
-            }
-            None => false,
-        }
-    }
-
-    /// Whether each token up to here was read whole.
-    ///
-    /// # Errors
-    ///
-    /// `Read` if a read failed, `Memory` if a growth was refused.
-    pub(crate) fn check(&self) -> Reread<()>
-        ensures whole { IfOk result (λ _. IsReadWhole self.now) }
-        ensures error { (i : Input) → IsReading R.input i self.now
-            → IfErr result (λ e. Because e (i.fails ≡ true)) }
-    {
-        if self.letters.has_failed() {
-            Err(TextError::Read)
-        } else if self.lacks_memory {
-            Err(TextError::Memory)
-        } else {
-            Ok(())
-        }
-    }
-
-    /// The bytes of the last token that was read.
-    pub(crate) fn word(&self) -> &[u8]
-        ensures { result.now ≡ self.now.word.items }
-    {
-        self.word.as_slice()
-    }
-
-    /// Its place.
+impl TextWord<'_> {
+    /// Its place and its size.
     pub(crate) fn span(&self) -> Span
-        ensures { result ≡ span_of (kept_word self.now) }
+        ensures { result ≡ span_of self.now.spot self.now.bytes.now }
     {
         Span {
             spot: self.spot,
-            size: self.size,
+            size: self.bytes.len(),
         }
     }
+}
 
-    // The first byte of the next token, whose place is kept.
-    fn first_byte(&mut self) -> Option<u8>
-        ensures reading { (i : Input) → IsReading R.input i self.old
-            → IsReading R.input i self.new }
-        ensures whole { IsReadWhole self.new → IsReadWhole self.old }
-        ensures kept { IfNone result (kept_word self.new ≡ kept_word self.old) }
-        ensures token { (i : Input) (ts : List Token) → length i.bytes < 2 ^ 64
-            → AreLeft R.input i ts self.old → FindsToken R.input i ts self.new result }
+/// Reads the tokens of a text one by one.
+#[derive(Clone, Copy)]
+pub(crate) struct Words<'a> {
+    rest: &'a [u8],
+    /// The place of the first byte of the rest.
+    spot: Spot,
+    position: Position,
+}
+
+impl<'a> Words<'a> {
+    /// A reader at the start of a text.
+    pub(crate) fn of(text: &'a [u8]) -> Words<'a>
+        ensures { AreLeft text.now (text_tokens text.now) result }
     {
-        for _ in 0..u64::MAX {
-            let spot = self.letters.spot();
-            let Some(byte) = self.letters.next() else {
-                return None;
-            };
-            match step(self.position, byte) {
-                Some(next) => self.position = next,
-                None => {
-                    self.spot = spot;
-                    return Some(byte);
-                }
-            }
+        Words {
+            rest: text,
+            spot: Spot::start(),
+            position: Position::Front,
         }
-        None
     }
 
-    // Reads a token to its end, behind its first byte.
-    fn read_word(&mut self, first: u8)
-        ensures reading { (i : Input) → IsReading R.input i self.old
-            → IsReading R.input i self.new }
-        ensures whole { IsReadWhole self.new → IsReadWhole self.old }
-        ensures token { (i : Input) (ts : List Token) → length i.bytes < 2 ^ 64
-            → BeginsToken R.input i ts first self.old → IsReadWhole self.new
-            → GivesToken R.input i ts self.new }
+    /// The next token, `None` if there is none.
+    pub(crate) fn next(&mut self) -> Option<TextWord<'a>>
+        ensures shorter { IfSome result
+            (λ _. length self.new.rest.now < length self.old.rest.now) }
+        ensures given { (text : List ℕ) (ts : List Token) → AreLeft text ts self.old
+            → GivesWord text ts self.new result }
     {
-        self.position = Position::Past;
-        self.word.clear();
-        self.size = 0;
-        self.take(first);
-        for _ in 0..u64::MAX {
-            if !self.read_in_word() {
-                break;
-            }
+        let (count, position) = gap(self.position, self.rest);
+        self.skip(count);
+        self.position = position;
+        let size = run_end(self.rest, 0);
+        if size == 0 {
+            return None;
         }
+        let word = TextWord {
+            bytes: &self.rest[..size],
+            spot: self.spot,
+        };
+        self.skip(size);
+        Some(word)
     }
 
-    // Reads the next byte of the token, and answers whether it has one.
-    fn read_in_word(&mut self) -> bool
+    // Passes so many bytes.
+    fn skip(&mut self, count: usize)
+        requires { count ≤ length self.old.rest.now }
         ensures position { self.new.position ≡ self.old.position }
-        ensures spot { self.new.spot ≡ self.old.spot }
-        ensures reading { (i : Input) → IsReading R.input i self.old
-            → IsReading R.input i self.new }
-        ensures whole { IsReadWhole self.new → IsReadWhole self.old }
-        ensures read { (i : Input) (n : ℕ) (bytes : List ℕ) → HasGiven R.input i n self.old.letters
-            → HoldsStart bytes self.old → ReadsInToken R.input i n bytes self.new result }
+        ensures rest { self.new.rest.now ≡ drop count self.old.rest.now }
+        ensures at { (text : List ℕ) (n : ℕ) → IsAtByte text n self.old
+            → IsAtByte text (n + count) self.new }
     {
-        match self.letters.next() {
-            Some(byte) if !is_white(byte) => {
-                self.take(byte);
-                true
-            }
-            _ => false,
+        self.spot = self.spot.behind(&self.rest[..count]);
+        self.rest = &self.rest[count..];
+    }
+}
+
+// How many bytes are before the next token, and the position there.
+fn gap(start: Position, bytes: &[u8]) -> (usize, Position)
+    ensures within { result.0 ≤ length bytes.now }
+    ensures tokens { (offset : ℕ) → words_at start offset bytes.now
+        ≡ words_at result.1 (offset + result.0) (drop result.0 bytes.now) }
+    ensures token { result.0 < length bytes.now
+        → (result.1 ≡ Past) × (is_white (slice_index bytes.now result.0) ≡ false) }
+{
+    let mut position = start;
+    for passed in 0..bytes.len() {
+        match step(position, bytes[passed]) {
+            Some(next) => position = next,
+            None => return (passed, Position::Past),
         }
     }
-
-    // Takes a byte of a token.
-    fn take(&mut self, byte: u8)
-        ensures letters { self.new.letters ≡ self.old.letters }
-        ensures position { self.new.position ≡ self.old.position }
-        ensures spot { self.new.spot ≡ self.old.spot }
-        ensures memory { self.new.lacks_memory ≡ false → self.old.lacks_memory ≡ false }
-        ensures held { (bytes : List ℕ) → HoldsStart bytes self.old
-            → HoldsStart (bytes ++ byte ∷ []) self.new }
-    {
-        self.size = self.size.saturating_add(1);
-        self.keep(byte);
-    }
-
-    // Keeps a byte of a token, if there is memory for it.
-    fn keep(&mut self, byte: u8)
-        ensures letters { self.new.letters ≡ self.old.letters }
-        ensures position { self.new.position ≡ self.old.position }
-        ensures spot { self.new.spot ≡ self.old.spot }
-        ensures size { self.new.size ≡ self.old.size }
-        ensures memory { self.new.lacks_memory ≡ false → self.old.lacks_memory ≡ false }
-        ensures word { self.new.lacks_memory ≡ false
-            → self.new.word.items ≡ self.old.word.items ++ byte ∷ [] }
-    {
-        match self.word.push(byte) {
-            Ok(()) => {}
-            Err(_) => self.lacks_memory = true,
-        }
-    }
+    (bytes.len(), position)
 }

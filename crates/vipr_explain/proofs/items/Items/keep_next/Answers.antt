@@ -3,8 +3,7 @@ use Rattle.vipr_spec.specs.Reading.{derivation_read, end_read}
 use Rattle.vipr_cert.specs.Items.{derivation_of}
 use Rattle.vipr_read.specs.Items.{NextIs}
 use Rattle.vipr_explain.specs.Found.{KeepsNext}
-use Rattle.vipr_explain.proofs.Lines.{on_ok}
-use Rattle.vipr_explain.proofs.Again.{missed_next}
+use Rattle.vipr_explain.proofs.Again.{missed_next, on_ok}
 use Rattle.vipr_explain.proofs.Lacks.{err_is, err_memory}
 use Rattle.vipr_explain.proofs.items.Items.keep_next.Goals as goal
 
