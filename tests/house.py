@@ -133,12 +133,8 @@ def comments_stand_alone():
 WORD = re.compile(r"[^\s(){}\[\];,.]+")
 USE = re.compile(r'^[ \t]*(?:(pub|pub\(\w+\)|ghost|unfoldable) )*use ([^{;\n]*)(\{[^}]*\})?[^;\n]*;?$', re.M)
 # what a `use` brings without its name: calls of a trait, and notations
-UNNAMED = {'Write', 'Rows', 'Read', 'Seek', 'Hash', 'Hasher', 'ByteSlice', 'MetadataExt', 'OpenOptionsExt', '_', '*',
+UNNAMED = {'Write', 'Rows', 'Read', 'Seek', 'Hash', 'Hasher', 'ByteSlice', 'MetadataExt', 'OpenOptionsExt', 'Out', '_', '*',
            '◌>>=◌', '[]', 'if◌then◌else◌'}
-
-
-# crates in which lemmas, calls and imports may still wait for what is to use them, or to be taken out
-WAITING = {'vipr_write'}
 
 
 def imported(use):
@@ -155,7 +151,7 @@ def unused_imports():
         if path.endswith('.rt'):
             rest = re.sub(r'//.*', '', rest)
         words = set(re.findall(r'[^\s(){}\[\];,.λ:<>&!?|]+' if path.endswith('.rt') else r'[^\s(){}\[\];,.λ]+', rest))
-        for use in USE.finditer(text) if crate not in WAITING or path.endswith('.antt') else ():
+        for use in USE.finditer(text):
             for name in [] if (use[1] or '').startswith('pub') else imported(use):
                 pieces = [piece for piece in name.split('◌') if piece] or [name]
                 if name not in UNNAMED and not all(it in words or '◌' in name and it in rest for it in pieces):
@@ -191,7 +187,7 @@ def dead_lemmas():
         if path.endswith('.antt') and os.path.basename(path) not in ('Answers.antt', 'Invariants.antt', 'Proof.antt'):
             found += [(crate, path, *head) for head in heads(text.split('\n'))]
     for crate, path, n, name, own in found:
-        if crate not in WAITING and cited[name] <= WORD.findall(own).count(name):
+        if cited[name] <= WORD.findall(own).count(name):
             yield '%s:%d: nothing cites %s' % (shown(path), n, name)
 
 
@@ -209,7 +205,7 @@ def dead_calls():
     named = collections.Counter(word for text in texts.values() for word in re.findall(r'\w+', text))
     defined = collections.Counter(name for text in texts.values() for name in re.findall(r'\bfn (\w+)', text))
     for (crate, path), text in texts.items():
-        for _, name, law in CALL.findall(text) if crate not in WAITING else ():
+        for _, name, law in CALL.findall(text):
             if not law and name not in OFFERED and named[name] <= defined[name]:
                 yield '%s: nothing calls %s' % (shown(path), name)
 

@@ -1,7 +1,7 @@
 mod Marking
 mod Referring
 mod Entries
-mod ShortEntries
+mod Pairs
 mod Moving
 mod Renumbering
 mod Tightening

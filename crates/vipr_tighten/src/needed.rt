@@ -5,13 +5,12 @@ ghost use Rattle.vipr_spec.specs.Reading.{is_nonzero};
 ghost use Rattle.vipr_spec.specs.Tightened.{include, refers_to};
 ghost use Rattle.vipr_cert.specs.Reasons.{references_of};
 ghost use Rattle.vipr_write.specs.Steps.{step_of};
-ghost use Rattle.vipr_write.specs.StepReasons.{entry_of, kept_reason_of};
+ghost use Rattle.vipr_write.specs.StepReasons.{kept_reason_of};
 ghost use Rattle.vipr_tighten.specs.Passes.{NamedConstraint, MarksAlso, AreMarks};
 
 use std::alloc::{AllocError, Global};
 use vipr_cert::References;
-use vipr_frac::Frac;
-use vipr_write::{ShortEntry, Step, StepReason, StepReferences};
+use vipr_write::{Step, StepReason, StepReferences, SumEntry};
 
 /// For each step whether the goal needs it. The first step has the index `first`.
 pub(crate) fn needed<S>(
@@ -41,7 +40,7 @@ fn mark_reason(marks: &mut [bool], first: usize, reason: &StepReason)
 {
     match reason.references() {
         StepReferences::Whole(references) => mark_references(marks, first, references),
-        StepReferences::Short(entries) => mark_short_entries(marks, first, entries),
+        StepReferences::Short(entries) => mark_entries(marks, first, entries),
     }
 }
 
@@ -62,26 +61,14 @@ fn mark_references(marks: &mut [bool], first: usize, references: References<'_>)
 }
 
 // Marks what the entries with a nonzero multiplier name.
-fn mark_entries(marks: &mut [bool], first: usize, entries: &[(u32, Frac)])
-    ensures { MarksAlso first (λ i. list_any (λ e. nat_eq i e.0 && is_nonzero e) entries.now)
-        marks.old marks.new }
-{
-    for (index, multiplier) in entries {
-        if !multiplier.is_zero() {
-            mark(marks, first, *index);
-        }
-    }
-}
-
-// The same of short ones.
-fn mark_short_entries(marks: &mut [bool], first: usize, entries: &[ShortEntry])
+fn mark_entries<E: SumEntry>(marks: &mut [bool], first: usize, entries: &[E])
     ensures { MarksAlso first
-        (λ i. list_any (λ e. nat_eq i e.0 && is_nonzero e) (map entry_of entries.now))
+        (λ i. list_any (λ e. nat_eq i e.0 && is_nonzero e) (map E.pair entries.now))
         marks.old marks.new }
 {
     for entry in entries {
         if !entry.is_zero() {
-            mark(marks, first, entry.index);
+            mark(marks, first, entry.index());
         }
     }
 }

@@ -16,8 +16,7 @@ ghost use Rattle.vipr_tighten.specs.Passes.{kept_by, index_by, TakesOver};
 
 use std::alloc::{AllocError, Global};
 use vipr_cert::{Reason, References};
-use vipr_frac::Frac;
-use vipr_write::{ShortEntry, Step, StepReason, StepReferences};
+use vipr_write::{ShortEntry, Step, StepReason, StepReferences, SumEntry};
 
 /// Keeps the steps with a mark, in their order, under their new indices and with their last
 /// references. The first step has the index `first`.
@@ -85,25 +84,15 @@ fn index_of(index: u32, first: u32, table: &[u32]) -> u32
 }
 
 // Takes out the entries with multiplier 0, and gives the others their new indices.
-fn renumber_entries(entries: &mut Vec<(u32, Frac)>, first: u32, table: &[u32])
-    requires { All (λ e. e.0 < first + length table.now) entries.old.items }
-    ensures { entries.new.items ≡ renumbered_entries (index_by first table.now) entries.old.items }
-{
-    entries.retain(|entry| !entry.1.is_zero());
-    for i in 0..entries.len() {
-        entries[i].0 = index_of(entries[i].0, first, table);
-    }
-}
-
-// The same of short ones.
-fn renumber_short_entries(entries: &mut Vec<ShortEntry>, first: u32, table: &[u32])
-    requires { All (λ e. e.0 < first + length table.now) (map entry_of entries.old.items) }
-    ensures { map entry_of entries.new.items
-        ≡ renumbered_entries (index_by first table.now) (map entry_of entries.old.items) }
+fn renumber_entries<E: SumEntry>(entries: &mut Vec<E>, first: u32, table: &[u32])
+    requires { All (λ e. e.0 < first + length table.now) (map E.pair entries.old.items) }
+    ensures { map E.pair entries.new.items
+        ≡ renumbered_entries (index_by first table.now) (map E.pair entries.old.items) }
 {
     entries.retain(|entry| !entry.is_zero());
     for i in 0..entries.len() {
-        entries[i].index = index_of(entries[i].index, first, table);
+        let moved = index_of(entries[i].index(), first, table);
+        entries[i].set_index(moved);
     }
 }
 
@@ -150,8 +139,8 @@ fn renumber_step_reason(alloc: Global, reason: &mut StepReason, first: u32, tabl
     match reason {
         StepReason::Whole(reason) => renumber_reason(reason, first, table),
         StepReason::One(entry) => *reason = renumbered_one(alloc, *entry, first, table),
-        StepReason::Lin(entries) => renumber_short_entries(entries, first, table),
-        StepReason::Rnd(entries) => renumber_short_entries(entries, first, table),
+        StepReason::Lin(entries) => renumber_entries(entries, first, table),
+        StepReason::Rnd(entries) => renumber_entries(entries, first, table),
     }
 }
 
@@ -175,7 +164,7 @@ fn set_last<S>(kept: &mut [Step<S>], first: u32, reason: &StepReason, last: u32)
 {
     match reason.references() {
         StepReferences::Whole(references) => set_last_referred(kept, first, references, last),
-        StepReferences::Short(entries) => set_last_short(kept, first, entries, last),
+        StepReferences::Short(entries) => set_last_named(kept, first, entries, last),
     }
 }
 
@@ -198,28 +187,15 @@ fn set_last_referred<S>(kept: &mut [Step<S>], first: u32, references: References
 }
 
 // Gives the steps that entries with a nonzero multiplier name this last reference.
-fn set_last_named<S>(kept: &mut [Step<S>], first: u32, entries: &[(u32, Frac)], last: u32)
-    ensures { (view : S → NamedConstraint) → map (step_of view) kept.new
-        ≡ referred_by (λ i. list_any (λ e. nat_eq i e.0 && is_nonzero e) entries.now) last first
-        (map (step_of view) kept.old) }
-{
-    for (index, multiplier) in entries {
-        if !multiplier.is_zero() {
-            set_last_at(kept, first, *index, last);
-        }
-    }
-}
-
-// The same of short ones.
-fn set_last_short<S>(kept: &mut [Step<S>], first: u32, entries: &[ShortEntry], last: u32)
+fn set_last_named<S, E: SumEntry>(kept: &mut [Step<S>], first: u32, entries: &[E], last: u32)
     ensures { (view : S → NamedConstraint) → map (step_of view) kept.new
         ≡ referred_by
-        (λ i. list_any (λ e. nat_eq i e.0 && is_nonzero e) (map entry_of entries.now)) last first
+        (λ i. list_any (λ e. nat_eq i e.0 && is_nonzero e) (map E.pair entries.now)) last first
         (map (step_of view) kept.old) }
 {
     for entry in entries {
         if !entry.is_zero() {
-            set_last_at(kept, first, entry.index, last);
+            set_last_at(kept, first, entry.index(), last);
         }
     }
 }

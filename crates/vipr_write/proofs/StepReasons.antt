@@ -6,10 +6,8 @@ use Rattle.std.specs.Ordering.{int_eq}
 use Rattle.std.proofs.Math.IntN.{zero-*ℤ}
 use Rattle.std.proofs.lemmas.Bool.Decides.{Decides-int_eq}
 use Rattle.std.proofs.lemmas.Int.{ints}
-use Rattle.std.specs.List.{flat_map}
 use Rattle.std.specs.Fmt.{decimal}
 use Rattle.std.proofs.lemmas.List.{append-nil, get_or-map, length-map, map_push, take_more}
-use Rattle.std.proofs.lemmas.List.Folds.{flat_map-map}
 use Rattle.vipr_spec.specs.Fraction.{ℚ, over, zero_ℚ}
 use Rattle.vipr_spec.specs.Number.{number_text}
 use Rattle.vipr_spec.specs.Certificate.{by_entries}
@@ -70,19 +68,6 @@ pub zero_without : (e : ShortEntry) → e.denom ≡ 0 → true ≡ int_eq (multi
 zero_without e none =
     sym ((Decides-int_eq (multiplier_of e).numer (pos 0)).1 (ap (λ m. (cond (nat_eq m 0) zero_ℚ (over e.numer e.denom)).numer) none ∙ zero_numer))
 
--- the words of short entries, one after the other
-pub mapped_pairs : (es : List ShortEntry)
-    → flat_map (λ p. words_after_spaces (pair_words p)) (map entry_of es)
-    ≡ flat_map (λ p. words_after_spaces (pair_words (entry_of p))) es
-mapped_pairs es = flat_map-map (λ p. words_after_spaces (pair_words p)) entry_of es
-
--- a list of one element
-pub one_alone : {A : Type 0} (xs : List A) (x : A) → length xs ≡ 1 → x ≡ get_or xs 0 x
-    → x ∷ [] ≡ xs
-one_alone [] x l e = absurd (omega arith)
-one_alone (y ∷ []) x l e = ap (λ z. z ∷ []) e
-one_alone (y ∷ (z ∷ xs)) x l e = absurd (omega arith)
-
 -- one more of the entries
 pub take_next : (es : List ShortEntry) (i : ℕ) (d : ShortEntry) (x : ℚ) (before : List (ℕ × ℚ))
     → i < length es → x ≡ multiplier_of (get_or es i d) → before ≡ take i (map entry_of es)
@@ -98,13 +83,11 @@ pub short_length : (es : List ShortEntry)
     → 2 + 2 * length es ≡ suc (length (reference_words (by_entries (map entry_of es))))
 short_length es = let p = pairs_length (map entry_of es) in let s = length-map es entry_of in omega (arith, p, s)
 
-pub short_words : (es : List ShortEntry) (i : ℕ) (d : ShortEntry) (x : ℚ)
-    → x ≡ multiplier_of (get_or es i d)
-    → (32 ∷ decimal (get_or es i d).index) ++ (32 ∷ number_text x)
-    ≡ words_after_spaces (pair_words (entry_of (get_or es i d)))
-short_words es i d x is =
-    ap (λ m. (32 ∷ decimal (get_or es i d).index) ++ (32 ∷ number_text m)) is
-    ∙ ap (λ t. (32 ∷ decimal (get_or es i d).index) ++ t) (sym (append-nil (32 ∷ number_text (multiplier_of (get_or es i d)))))
+pub entry_words : (e : ℕ × ℚ) (n : ℕ) (x : ℚ) → n ≡ e.0 → x ≡ e.1
+    → (32 ∷ decimal n) ++ (32 ∷ number_text x) ≡ words_after_spaces (pair_words e)
+entry_words e n x index multiplier =
+    ap₂ (λ n (x : ℚ). (32 ∷ decimal n) ++ (32 ∷ number_text x)) index multiplier
+    ∙ ap (λ t. (32 ∷ decimal e.0) ++ t) (sym (append-nil (32 ∷ number_text e.1)))
 
 -- one more of the short entries
 pub one_more : (short new : List ShortEntry) (es : List (ℕ × ℚ)) (i : ℕ) (e : ShortEntry)

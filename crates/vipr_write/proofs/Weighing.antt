@@ -64,12 +64,6 @@ pairs_length (p ∷ ps) = let rest = pairs_length ps in omega (arith, rest)
 pub weight-append : (ls ms : List (List (List ℕ))) → weight (ls ++ ms) ≡ weight ls + weight ms
 weight-append ls ms = sum_by-append (λ (ws : List (List ℕ)). suc (length ws)) ls ms
 
--- the lines that are made of the items
-weight-map : {X : Type 0} (f : X → List (List ℕ)) (xs : List X)
-    → weight (map f xs) ≡ sum_by (λ x. suc (length (f x))) xs
-weight-map f [] = refl
-weight-map f (x ∷ xs) = sum_by-cons (λ (ws : List (List ℕ)). suc (length ws)) (f x) (map f xs) ∙ ap (λ n. suc (length (f x)) + n) (weight-map f xs) ∙ sym (sum_by-cons (λ x. suc (length (f x))) x xs)
-
 sum_next : {X : Type 0} (f : X → ℕ) (xs : List X) (i : ℕ) (d : X) → i < length xs
     → sum_by f (take (i + 1) xs) ≡ sum_by f (take i xs) + f (get_or xs i d)
 sum_next f xs i d l =

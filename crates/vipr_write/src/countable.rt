@@ -3,10 +3,9 @@ ghost use Rattle.std.specs.Prelude.{◌≡◌, ◌↔◌, ◌+◌, ◌*◌, ◌^
 ghost use Rattle.std.specs.Prelude.{◌∷◌, [], suc};
 ghost use Rattle.vipr_spec.specs.Shape.{CanWrite};
 ghost use Rattle.vipr_linear.specs.Constraint.{constraint_of};
-ghost use Rattle.vipr_cert.specs.Items.{named_of, solution_of, reason_of, derivation_of, claim_of};
-ghost use Rattle.vipr_cert.specs.Reasons.{references_of};
+ghost use Rattle.vipr_cert.specs.Items.{named_of, solution_of, derivation_of, claim_of};
 ghost use Rattle.vipr_write.specs.Canonical.{given_words, claim_words, solution_words};
-ghost use Rattle.vipr_write.specs.Canonical.{reason_words, reference_words, derivation_words};
+ghost use Rattle.vipr_write.specs.Canonical.{reference_words, derivation_words};
 ghost use Rattle.vipr_write.specs.Canonical.{problem_lines, certificate_lines};
 ghost use Rattle.vipr_write.specs.Forms.{text_in};
 ghost use Rattle.vipr_write.specs.declared.form.Form.{Form};
@@ -15,11 +14,11 @@ ghost use Rattle.vipr_write.specs.Weight.{weight};
 ghost use Rattle.std.specs.List.{sum_by};
 ghost use Rattle.vipr_spec.specs.Certificate.{Certificate as CertificateMeant};
 ghost use Rattle.vipr_write.specs.Steps.{step_weight, AreStepsOf};
-ghost use Rattle.vipr_write.specs.StepReasons.{kept_reason_of};
+ghost use Rattle.vipr_write.specs.StepReasons.{kept_references_of};
 
 use crate::statements::{Statement, Statements, Step};
-use crate::step_reason::{StepReason, StepReferences};
-use vipr_cert::{Certificate, Claim, Derivation, Named, Problem, Reason, References};
+use crate::step_reason::StepReferences;
+use vipr_cert::{Certificate, Claim, Derivation, Named, Problem, References};
 use vipr_linear::{Constraint, Solution};
 
 // With so many words and ends of lines, and twice as many as there are entries.
@@ -60,30 +59,14 @@ fn more_solutions(total: u64, solutions: &[Named<Solution>]) -> u64
 
 // With the word of a rule and the words of what it names.
 #[tactic(auto, using(crate::proofs::Weighing::pairs_length))]
-fn more_references(total: u64, references: References<'_>) -> u64
+fn more_references(total: u64, references: StepReferences<'_>) -> u64
     ensures { result
-        ≡ counted (total + suc (length (reference_words (references_of references.entry)))) }
+        ≡ counted (total + suc (length (reference_words (kept_references_of references.entry)))) }
 {
     match references {
-        References::Nothing => more(total, 1, 0),
-        References::Entries(entries) => more(total, 2, entries.len()),
-        References::Branches { .. } => more(total, 5, 0),
-    }
-}
-
-// With the words of a reason.
-fn more_reason(total: u64, reason: &Reason) -> u64
-    ensures { result ≡ counted (total + length (reason_words (reason_of reason.now))) }
-{
-    more_references(total, reason.references())
-}
-
-// With the words of a step's reason.
-fn more_step_reason(total: u64, reason: &StepReason) -> u64
-    ensures { result ≡ counted (total + length (reason_words (kept_reason_of reason.now))) }
-{
-    match reason.references() {
-        StepReferences::Whole(references) => more_references(total, references),
+        StepReferences::Whole(References::Nothing) => more(total, 1, 0),
+        StepReferences::Whole(References::Entries(entries)) => more(total, 2, entries.len()),
+        StepReferences::Whole(References::Branches { .. }) => more(total, 5, 0),
         StepReferences::Short(entries) => more(total, 2, entries.len()),
     }
 }
@@ -96,7 +79,7 @@ fn more_derivations(total: u64, derivations: &[Derivation]) -> u64
     let mut total = total;
     for derivation in derivations {
         total = more(total, 8, derivation.constraint.row.entries().len());
-        total = more_reason(total, &derivation.reason);
+        total = more_references(total, StepReferences::Whole(derivation.reason.references()));
     }
     total
 }
@@ -138,7 +121,7 @@ fn more_step(total: u64, statements: &Statements, step: &Step<Statement>) -> u64
     let own = statements.own_bytes(step.stated).len() as u64;
     let row = statements.row_bytes(step.stated).len() as u64;
     let total = total.saturating_add(own).saturating_add(row);
-    more_step_reason(more(total, 8, 0), &step.reason)
+    more_references(more(total, 8, 0), step.reason.references())
 }
 
 // With those of all steps.

@@ -24,6 +24,6 @@ pub use canonical::{canonical_form, canonical_texts, compact_texts, spelled_ones
 pub use folded::FoldedText;
 pub use form::Form;
 pub use statements::{Statement, Statements, Step};
-pub use step_reason::{ShortEntry, StepReason, StepReferences};
+pub use step_reason::{ShortEntry, StepReason, StepReferences, SumEntry};
 pub use write::{WriteError, write_certificate, write_certificate_in};
 pub use written_steps::write_steps;

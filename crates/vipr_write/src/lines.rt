@@ -1,28 +1,27 @@
 //! The lines of a certificate.
-ghost use Rattle.std.specs.Prelude.{◌≤◌, ◌∷◌, [], codes, length};
+ghost use Rattle.std.specs.Prelude.{◌∷◌, [], codes};
 ghost use Rattle.vipr_spec.specs.Certificate.{range, by_branches};
 ghost use Rattle.vipr_linear.specs.Constraint.{constraint_of};
 ghost use Rattle.vipr_write.specs.Canonical.{reference_words, claim_words, solution_words};
-ghost use Rattle.vipr_write.specs.Canonical.{reason_words, heading, words_after_spaces, line_text};
+ghost use Rattle.vipr_write.specs.Canonical.{heading, words_after_spaces, line_text};
 ghost use Rattle.vipr_write.specs.Canonical.{direction_word, vector_words};
 ghost use Rattle.vipr_write.specs.Forms.{constraint_words_in, given_words_in, derivation_words_in};
-ghost use Rattle.vipr_cert.specs.Items.{named_of, solution_of, claim_of, reason_of, derivation_of};
+ghost use Rattle.vipr_cert.specs.Items.{named_of, solution_of, claim_of, derivation_of};
 ghost use Rattle.vipr_cert.specs.Items.{direction_of};
-ghost use Rattle.vipr_cert.specs.Reasons.{references_of};
 ghost use Rattle.vipr_write.specs.Lines.{words_text, constraints_heading};
 ghost use Rattle.vipr_write.specs.Folded.{stated_words};
 ghost use Rattle.vipr_bytes.specs.Puts.{Puts};
-ghost use Rattle.vipr_write.specs.StepReasons.{kept_reason_of, kept_references_of};
+ghost use Rattle.vipr_write.specs.StepReasons.{kept_references_of};
 
 use crate::form::Form;
 use crate::rows::PutRow;
-use crate::step_reason::{StepReason, StepReferences};
+use crate::step_reason::StepReferences;
 use crate::words::{
     put_bound, put_counted, put_decimal, put_index, put_last, put_number, put_pairs, put_sense,
-    put_short_counted, put_word,
+    put_word,
 };
 use vipr_bytes::Out;
-use vipr_cert::{Claim, Derivation, Goal, Name, Named, Reason, References};
+use vipr_cert::{Claim, Derivation, Goal, Name, Named, References};
 use vipr_frac::Frac;
 use vipr_linear::{Constraint, Row, Solution};
 
@@ -166,44 +165,27 @@ fn put_branches<O: Out>(out: &mut O, i1: u32, l1: u32, i2: u32, l2: u32)
 }
 
 // What a reason names.
-fn put_references<O: Out>(out: &mut O, references: References<'_>)
-    ensures { Puts O.carries out.old out.new
-        (words_after_spaces (reference_words (references_of references.entry))) }
-{
-    match references {
-        References::Nothing => {}
-        References::Entries(entries) => put_counted(out, entries),
-        References::Branches { i1, l1, i2, l2 } => put_branches(out, i1, l1, i2, l2),
-    }
-}
-
-// What the reason of a step names.
-fn put_step_references<O: Out>(out: &mut O, references: StepReferences<'_>)
+fn put_references<O: Out>(out: &mut O, references: StepReferences<'_>)
     ensures { Puts O.carries out.old out.new
         (words_after_spaces (reference_words (kept_references_of references.entry))) }
 {
     match references {
-        StepReferences::Whole(references) => put_references(out, references),
-        StepReferences::Short(entries) => put_short_counted(out, entries),
+        StepReferences::Whole(References::Nothing) => {}
+        StepReferences::Whole(References::Entries(entries)) => put_counted(out, entries),
+        StepReferences::Whole(References::Branches { i1, l1, i2, l2 }) => {
+            put_branches(out, i1, l1, i2, l2)
+        }
+        StepReferences::Short(entries) => put_counted(out, entries),
     }
 }
 
-/// Why the derived constraint of a step holds.
-pub(crate) fn put_step_reason<O: Out>(out: &mut O, reason: &StepReason)
-    ensures { Puts O.carries out.old out.new
-        (words_after_spaces (reason_words (kept_reason_of reason.now))) }
+/// Why a derived constraint holds: the word of its rule, and what it names.
+pub(crate) fn put_reason<O: Out>(out: &mut O, word: &str, references: StepReferences<'_>)
+    ensures { Puts O.carries out.old out.new (words_after_spaces
+        (word.now ∷ reference_words (kept_references_of references.entry))) }
 {
-    put_word(out, reason.word().as_bytes());
-    put_step_references(out, reason.references());
-}
-
-/// Why a derived constraint holds.
-pub(crate) fn put_reason<O: Out>(out: &mut O, reason: &Reason)
-    ensures { Puts O.carries out.old out.new
-        (words_after_spaces (reason_words (reason_of reason.now))) }
-{
-    put_word(out, reason.word().as_bytes());
-    put_references(out, reason.references());
+    put_word(out, word.as_bytes());
+    put_references(out, references);
 }
 
 /// A derivation, unless it has failed.
@@ -227,7 +209,12 @@ pub(crate) fn put_derivation<O: PutRow>(
         &derivation.constraint,
     );
     put_word(out, b"{");
-    put_reason(out, &derivation.reason);
+    let reason = &derivation.reason;
+    put_reason(
+        out,
+        reason.word(),
+        StepReferences::Whole(reason.references()),
+    );
     put_word(out, b"}");
     put_last(out, derivation.last);
     out.push(b'\n');

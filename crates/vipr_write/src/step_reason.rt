@@ -1,11 +1,12 @@
 //! The reason of a step, which takes little memory.
-ghost use Rattle.std.specs.Prelude.{◌≡◌, ◌≤◌, ◌↔◌, IfOk, IfSome, IsSome, length, map, pos};
+ghost use Rattle.std.specs.Prelude.{◌≡◌, ◌≤◌, ◌↔◌, ℕ, IfOk, IfSome, IsSome, length, map, pos};
 ghost use Rattle.std.specs.Ordering.{int_eq};
+ghost use Rattle.vipr_spec.specs.Fraction.{ℚ};
 ghost use Rattle.vipr_spec.specs.Certificate.{lin, reason_references, rnd};
 ghost use Rattle.vipr_spec.specs.Reading.{most_bytes};
 ghost use Rattle.vipr_cert.specs.Items.{reason_of};
 ghost use Rattle.vipr_cert.specs.Reasons.{reason_word};
-ghost use Rattle.vipr_write.specs.StepReasons.{multiplier_of, entry_of, kept_reason_of};
+ghost use Rattle.vipr_write.specs.StepReasons.{entry_of, kept_reason_of};
 ghost use Rattle.vipr_write.specs.StepReasons.{kept_references_of, IsShort, AreShort, IsShortest};
 
 use std::alloc::{AllocError, Global};
@@ -38,6 +39,82 @@ pub enum StepReferences<'a> {
     Short(&'a [ShortEntry]),
 }
 
+/// An entry of a sum: an index with a multiplier.
+pub trait SumEntry: Copy {
+    // The index and the multiplier.
+    ghost pair: { Self → ℕ × ℚ };
+
+    /// Its index.
+    fn index(&self) -> u32
+        ensures { result ≡ (pair self.now).0 };
+
+    /// Its multiplier.
+    fn multiplier(&self) -> Frac
+        ensures { result ≡ (pair self.now).1 };
+
+    /// Whether its multiplier is 0.
+    fn is_zero(&self) -> bool
+        ensures { result ≡ int_eq (pair self.now).1.numer (pos 0) };
+
+    /// Gives it another index.
+    fn set_index(&mut self, index: u32)
+        ensures { pair self.new ≡ (index, (pair self.old).1) };
+}
+
+impl SumEntry for (u32, Frac) {
+    ghost pair = { λ e. e };
+
+    #[inline(always)]
+    fn index(&self) -> u32 {
+        self.0
+    }
+
+    #[inline(always)]
+    fn multiplier(&self) -> Frac {
+        self.1
+    }
+
+    #[inline(always)]
+    fn is_zero(&self) -> bool {
+        self.1.is_zero()
+    }
+
+    #[inline(always)]
+    fn set_index(&mut self, index: u32) {
+        self.0 = index;
+    }
+}
+
+impl SumEntry for ShortEntry {
+    ghost pair = { entry_of };
+
+    #[inline(always)]
+    fn index(&self) -> u32 {
+        self.index
+    }
+
+    fn multiplier(&self) -> Frac {
+        match Frac::new(i128::from(self.numer), i128::from(self.denom)) {
+            Ok(multiplier) => multiplier,
+            Err(_) => Frac::zero(),
+        }
+    }
+
+    // That takes no greatest common divisor.
+    #[inline(always)]
+    fn is_zero(&self) -> bool {
+        if self.denom == 0 {
+            return true;
+        }
+        self.numer == 0
+    }
+
+    #[inline(always)]
+    fn set_index(&mut self, index: u32) {
+        self.index = index;
+    }
+}
+
 impl ShortEntry {
     /// The entry of this index and this multiplier, `None` if a part of it is too long.
     pub fn of(index: u32, multiplier: &Frac) -> Option<ShortEntry>
@@ -53,27 +130,6 @@ impl ShortEntry {
                 denom,
             }),
             _ => None,
-        }
-    }
-
-    /// Whether its multiplier is 0. That takes no greatest common divisor.
-    #[inline(always)]
-    pub fn is_zero(self) -> bool
-        ensures { result ≡ int_eq (multiplier_of self).numer (pos 0) }
-    {
-        if self.denom == 0 {
-            return true;
-        }
-        self.numer == 0
-    }
-
-    /// Its multiplier.
-    pub fn multiplier(self) -> Frac
-        ensures { result ≡ multiplier_of self }
-    {
-        match Frac::new(i128::from(self.numer), i128::from(self.denom)) {
-            Ok(multiplier) => multiplier,
-            Err(_) => Frac::zero(),
         }
     }
 }

@@ -2,7 +2,7 @@
 ghost use Rattle.vipr_bytes.specs.Puts.{Puts};
 ghost use Rattle.vipr_write.specs.Steps.{step_line, steps_section};
 
-use crate::lines::{put_heading, put_step_reason};
+use crate::lines::{put_heading, put_reason};
 use crate::statements::{Statement, Statements, Step};
 use crate::words::{put_last, put_word};
 use vipr_bytes::Out;
@@ -18,7 +18,7 @@ fn put_step<O: Out>(out: &mut O, statements: &Statements, step: &Step<Statement>
     out.put(statements.own_bytes(step.stated));
     out.put(statements.row_bytes(step.stated));
     put_word(out, b"{");
-    put_step_reason(out, &step.reason);
+    put_reason(out, step.reason.word(), step.reason.references());
     put_word(out, b"}");
     put_last(out, step.last);
     out.push(b'\n');

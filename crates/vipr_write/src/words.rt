@@ -1,14 +1,13 @@
 //! Words, each behind a space.
-ghost use Rattle.std.specs.Prelude.{◌≤◌, ◌∷◌, flat_map, length, map};
+ghost use Rattle.std.specs.Prelude.{◌∷◌, flat_map, map};
 ghost use Rattle.std.specs.Fmt.{decimal};
 ghost use Rattle.vipr_spec.specs.Number.{number_text};
 ghost use Rattle.vipr_linear.specs.Constraint.{sense_of};
 ghost use Rattle.vipr_write.specs.Canonical.{pair_words, counted_words, sense_word, bound_word};
 ghost use Rattle.vipr_write.specs.Canonical.{last_word, words_after_spaces};
 ghost use Rattle.vipr_bytes.specs.Puts.{Puts};
-ghost use Rattle.vipr_write.specs.StepReasons.{entry_of};
 
-use crate::step_reason::ShortEntry;
+use crate::step_reason::SumEntry;
 use itoa::Buffer;
 use vipr_bytes::Out;
 use vipr_frac::Frac;
@@ -79,40 +78,20 @@ fn put_fraction<O: Out>(out: &mut O, x: &Frac)
 }
 
 /// Indices with numbers.
-pub(crate) fn put_pairs<O: Out>(out: &mut O, pairs: &[(u32, Frac)])
+pub(crate) fn put_pairs<O: Out, E: SumEntry>(out: &mut O, pairs: &[E])
     ensures { Puts O.carries out.old out.new
-        (words_after_spaces (flat_map pair_words pairs.now)) }
+        (words_after_spaces (flat_map pair_words (map E.pair pairs.now))) }
 {
     for pair in pairs {
-        put_index(out, pair.0 as usize);
-        put_number(out, &pair.1);
-    }
-}
-
-// Indices with short numbers.
-fn put_short_pairs<O: Out>(out: &mut O, pairs: &[ShortEntry])
-    ensures { Puts O.carries out.old out.new
-        (words_after_spaces (flat_map pair_words (map entry_of pairs.now))) }
-{
-    for pair in pairs {
-        put_index(out, pair.index as usize);
+        put_index(out, pair.index() as usize);
         put_number(out, &pair.multiplier());
     }
 }
 
-/// How many indices with short numbers there are, and then each of them.
-pub(crate) fn put_short_counted<O: Out>(out: &mut O, pairs: &[ShortEntry])
-    ensures { Puts O.carries out.old out.new
-        (words_after_spaces (counted_words (map entry_of pairs.now))) }
-{
-    put_index(out, pairs.len());
-    put_short_pairs(out, pairs);
-}
-
 /// How many indices with numbers there are, and then each of them.
-pub(crate) fn put_counted<O: Out>(out: &mut O, pairs: &[(u32, Frac)])
+pub(crate) fn put_counted<O: Out, E: SumEntry>(out: &mut O, pairs: &[E])
     ensures { Puts O.carries out.old out.new
-        (words_after_spaces (counted_words pairs.now)) }
+        (words_after_spaces (counted_words (map E.pair pairs.now))) }
 {
     put_index(out, pairs.len());
     put_pairs(out, pairs);

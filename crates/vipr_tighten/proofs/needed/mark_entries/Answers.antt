@@ -1,17 +1,32 @@
-use Rattle.std.proofs.Common.{◌≡◌, not, true, false, ap, sym, ◌∙◌}
+use Rattle.std.proofs.Common.{◌≡◌, ℕ, ◌&&◌, nat_eq, not, true, false, List, map, ap, sym, ◌∙◌, subst}
+use Rattle.std.specs.List.{list_any}
+use Rattle.vipr_spec.specs.Fraction.{ℚ}
 use Rattle.vipr_spec.specs.Reading.{is_nonzero}
+use Rattle.vipr_tighten.specs.Passes.{MarksAlso}
 use Rattle.vipr_tighten.proofs.Marking.{entry_marked, entry_passed}
+use Rattle.vipr_tighten.proofs.Pairs.{pair_inside, pair_read, all_pairs}
 use Rattle.vipr_tighten.proofs.needed.mark_entries.Goals as goal
 use Rattle.vipr_tighten.proofs.needed.mark_entries.Goals.{then-not-is_zero, else-not-is_zero}
 
-pub loop-index-preserved : goal.loop-index-preserved
-loop-index-preserved c = elim c.if-not-is_zero.branch [
-  | then-not-is_zero w ↦
-      let t : is_nonzero c.loop-index-item.result ≡ true = ap not (sym c.is_zero.ensures.zero) ∙ ap not w.if-not-is_zero.true in
-      let more = entry_marked c.args.first c.args.entries.now c.loop-index.index-index c.loop-index-item.result c.loop-index-test.true c.loop-index-item.is c.args.marks.now c.loop-index.marks c.loop-index.auto.marks w.mark.new.marks t c.loop-index.invariant w.mark.ensures in
-      rw w.marks-is more
-  | else-not-is_zero w ↦
-      let t : is_nonzero c.loop-index-item.result ≡ false = ap not (sym c.is_zero.ensures.zero) ∙ ap not w.if-not-is_zero.false in
-      let more = entry_passed c.args.first c.args.entries.now c.loop-index.index-index c.loop-index-item.result c.loop-index-test.true c.loop-index-item.is c.args.marks.now c.loop-index.marks c.loop-index.auto.marks t c.loop-index.invariant in
-      rw w.marks-is more
-]
+pub loop-entry-preserved : goal.loop-entry-preserved
+loop-entry-preserved g c =
+    let pair = g.E.SumEntry.pair in
+    let es = c.args.entries.now in
+    let n = c.loop-entry.entry-index in
+    let x = c.entry-item.result in
+    let there = pair_inside pair es n c.loop-entry-test.true in
+    let is = pair_read pair es n x c.loop-entry-test.true c.entry-item.is in
+    elim c.if-not-is_zero.branch [
+      | then-not-is_zero w ↦
+          let t : is_nonzero (pair x) ≡ true = ap not (sym c.is_zero.ensures ∙ w.if-not-is_zero.true) in
+          let marked = subst (λ i. MarksAlso c.args.first (λ j. nat_eq j i) c.loop-entry.marks w.mark.new.marks) w.index.ensures w.mark.ensures in
+          rw w.marks-is (entry_marked c.args.first (map pair es) n (pair x) there is c.args.marks.now c.loop-entry.marks c.loop-entry.auto.marks w.mark.new.marks t c.loop-entry.invariant marked)
+      | else-not-is_zero w ↦
+          let t : is_nonzero (pair x) ≡ false = ap not (sym c.is_zero.ensures ∙ w.if-not-is_zero.false) in
+          rw w.marks-is (entry_passed c.args.first (map pair es) n (pair x) there is c.args.marks.now c.loop-entry.marks c.loop-entry.auto.marks t c.loop-entry.invariant)
+    ]
+
+pub returns : goal.returns
+returns g c =
+    subst (λ (es : List (ℕ × ℚ)). MarksAlso c.args.first (λ i. list_any (λ e. nat_eq i e.0 && is_nonzero e) es) c.args.marks.now c.loop-entry.marks)
+    (all_pairs g.E.SumEntry.pair c.args.entries.now c.loop-entry.entry-index c.loop-entry-test.false) c.loop-entry.invariant

@@ -1,39 +1,59 @@
 use Rattle.std.proofs.Common.{rules, ◌≡◌, ℕ, ◌+◌, ◌<◌, All, filter, map, length, slice_set, arith}
 use Rattle.std.proofs.Common.{sym, ap, ◌∙◌, subst}
 use Rattle.std.proofs.lemmas.Fn.{filter_same}
+use Rattle.std.proofs.lemmas.List.{length-map, map-set}
 use Rattle.std.proofs.lemmas.List.Elements.{All-filter}
 use Rattle.vipr_spec.specs.Fraction.{ℚ}
 use Rattle.vipr_spec.specs.Reading.{is_nonzero}
 use Rattle.vipr_tighten.specs.Passes.{index_by}
-use Rattle.vipr_tighten.proofs.Entries.{EntriesSoFar, under, next_below, same_entry, next_entry}
-use Rattle.vipr_tighten.proofs.Entries.{all_entries}
+use Rattle.vipr_tighten.proofs.Entries.{EntriesSoFar, none_so_far, under, next_below, same_entry}
+use Rattle.vipr_tighten.proofs.Entries.{next_entry, all_entries}
+use Rattle.vipr_tighten.proofs.Pairs.{pair_read, pair_filter}
 use Rattle.vipr_tighten.proofs.renumber.renumber_entries.Goals as goal
 
-pub index_of-requires : goal.index_of-requires
-index_of-requires c =
-    let old = c.retain.new.self.items in
-    let kept : old ≡ filter is_nonzero c.args.entries.now.items = filter_same _ is_nonzero _ (λ x r f' k. search rules) _ _ c.retain.ensures.filtered in
-    let below : All (λ e. e.0 < c.args.first + length c.args.table.now) (filter is_nonzero c.args.entries.now.items) =
-    All-filter is_nonzero (λ (e : ℕ × ℚ). e.0 < c.args.first + length c.args.table.now) c.args.entries.now.items c.requires in
+pub loop-i-init : goal.loop-i-init
+loop-i-init g c = none_so_far c.args.first c.args.table.now (map g.E.SumEntry.pair c.retain.new.self.items)
+
+pub index_of-moved-requires : goal.index_of-moved-requires
+index_of-moved-requires g c =
+    let pair = g.E.SumEntry.pair in
+    let all = map pair c.args.entries.now.items in
+    let old = map pair c.retain.new.self.items in
+    let size = length-map c.retain.new.self.items pair in
+    let kept : old ≡ filter is_nonzero all = ap (map pair) (filter_same _ (λ e. is_nonzero (pair e)) _ (λ x r f' k. search rules) _ _ c.retain.ensures.filtered) ∙ pair_filter pair c.args.entries.now.items in
+    let below : All (λ e. e.0 < c.args.first + length c.args.table.now) (filter is_nonzero all) =
+    All-filter is_nonzero (λ (e : ℕ × ℚ). e.0 < c.args.first + length c.args.table.now) all c.requires in
     let inside : c.loop-i.i < length old = omega arith in
-    next_below c.args.first c.args.table.now old c.loop-i.i c.loop-i.entries.items inside c.loop-i.invariant c.index.result.now c.index.ensures
-    (c.args.first + length c.args.table.now) (subst (All (λ (e : ℕ × ℚ). e.0 < c.args.first + length c.args.table.now)) (sym kept) below)
+    rw c.index-in-loop-i.ensures
+    (next_below c.args.first c.args.table.now old c.loop-i.i (map pair c.loop-i.entries.items) inside c.loop-i.invariant (pair c.index.result.now)
+    (pair_read pair c.loop-i.entries.items c.loop-i.i c.index.result.now (search rules) c.index.ensures)
+    (c.args.first + length c.args.table.now) (subst (All (λ (e : ℕ × ℚ). e.0 < c.args.first + length c.args.table.now)) (sym kept) below))
 
 pub loop-i-preserved : goal.loop-i-preserved
-loop-i-preserved c =
-    let old = c.retain.new.self.items in
+loop-i-preserved g c =
+    let pair = g.E.SumEntry.pair in
+    let old = map pair c.retain.new.self.items in
+    let size = length-map c.retain.new.self.items pair in
     let now = c.loop-i.entries.items in
     let inside : c.loop-i.i < length old = omega arith in
     let y = c.index_mut.result.now in
-    let made = next_entry c.args.first c.args.table.now old c.loop-i.i now inside c.loop-i.invariant y c.index_mut.ensures.value in
-    let same = same_entry c.args.first c.args.table.now old c.loop-i.i now inside c.loop-i.invariant y c.index_mut.ensures.value c.index.result.now c.index.ensures in
-    let there : c.index_of.result ≡ index_by c.args.first c.args.table.now y.0 = c.index_of.ensures ∙ ap (λ (e : ℕ × ℚ). index_by c.args.first c.args.table.now e.0) same in
-    subst (λ n. EntriesSoFar c.args.first c.args.table.now old (c.loop-i.i + 1) (slice_set now c.loop-i.i (n, y.1))) (sym there) made
+    let read = pair_read pair now c.loop-i.i y (search rules) c.index_mut.ensures.value in
+    let other = pair_read pair now c.loop-i.i c.index.result.now (search rules) c.index.ensures in
+    let made = next_entry c.args.first c.args.table.now old c.loop-i.i (map pair now) inside c.loop-i.invariant (pair y) read in
+    let same = same_entry c.args.first c.args.table.now old c.loop-i.i (map pair now) inside c.loop-i.invariant (pair y) read (pair c.index.result.now) other in
+    let there : c.index_of-moved.result ≡ index_by c.args.first c.args.table.now (pair y).0 =
+    c.index_of-moved.ensures ∙ ap (λ i. index_by c.args.first c.args.table.now i) c.index-in-loop-i.ensures ∙ ap (λ (e : ℕ × ℚ). index_by c.args.first c.args.table.now e.0) same in
+    let moved : pair c.set_index.new.self ≡ under c.args.first c.args.table.now (pair y) = c.set_index.ensures ∙ ap (λ n. (n, (pair y).1)) there in
+    subst (EntriesSoFar c.args.first c.args.table.now old (c.loop-i.i + 1)) (sym (map-set pair now c.loop-i.i c.set_index.new.self))
+    (subst (λ e. EntriesSoFar c.args.first c.args.table.now old (c.loop-i.i + 1) (slice_set (map pair now) c.loop-i.i e)) (sym moved) made)
 
 pub returns : goal.returns
-returns c =
-    let old = c.retain.new.self.items in
-    let kept : old ≡ filter is_nonzero c.args.entries.now.items = filter_same _ is_nonzero _ (λ x r f' k. search rules) _ _ c.retain.ensures.filtered in
+returns g c =
+    let pair = g.E.SumEntry.pair in
+    let all = map pair c.args.entries.now.items in
+    let old = map pair c.retain.new.self.items in
+    let size = length-map c.retain.new.self.items pair in
+    let kept : old ≡ filter is_nonzero all = ap (map pair) (filter_same _ (λ e. is_nonzero (pair e)) _ (λ x r f' k. search rules) _ _ c.retain.ensures.filtered) ∙ pair_filter pair c.args.entries.now.items in
     let past : length old < c.loop-i.i + 1 = omega arith in
-    all_entries c.args.first c.args.table.now old c.loop-i.i c.loop-i.entries.items c.loop-i.invariant past
+    all_entries c.args.first c.args.table.now old c.loop-i.i (map pair c.loop-i.entries.items) c.loop-i.invariant past
     ∙ ap (λ l. map (under c.args.first c.args.table.now) l) kept

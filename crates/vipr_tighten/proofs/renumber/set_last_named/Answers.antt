@@ -1,21 +1,37 @@
-use Rattle.std.proofs.Common.{◌≡◌, not, true, false, map, ap, sym, ◌∙◌}
+use Rattle.std.proofs.Common.{◌≡◌, ℕ, ◌&&◌, nat_eq, not, true, false, List, map, ap, sym, ◌∙◌, subst}
+use Rattle.std.specs.List.{list_any}
+use Rattle.vipr_spec.specs.Fraction.{ℚ}
 use Rattle.vipr_spec.specs.Reading.{is_nonzero}
+use Rattle.vipr_spec.specs.Tightened.{referred_by}
 use Rattle.vipr_write.specs.Steps.{step_of}
 use Rattle.vipr_tighten.proofs.Referring.{entry_referred, entry_skipped, none_referred}
+use Rattle.vipr_tighten.proofs.Pairs.{pair_inside, pair_read, all_pairs}
 use Rattle.vipr_tighten.proofs.renumber.set_last_named.Goals as goal
 use Rattle.vipr_tighten.proofs.renumber.set_last_named.Goals.{then-not-is_zero, else-not-is_zero}
 
-pub loop-index-init : goal.loop-index-init
-loop-index-init g c = λ view. none_referred c.args.last c.args.first (map (step_of view) c.args.kept.now)
+pub loop-entry-init : goal.loop-entry-init
+loop-entry-init g c = λ view. none_referred c.args.last c.args.first (map (step_of view) c.args.kept.now)
 
-pub loop-index-preserved : goal.loop-index-preserved
-loop-index-preserved g c = λ view. elim c.if-not-is_zero.branch [
-  | then-not-is_zero w ↦
-      let t : is_nonzero c.loop-index-item.result ≡ true = ap not (sym c.is_zero.ensures.zero) ∙ ap not w.if-not-is_zero.true in
-      let more = entry_referred view c.args.last c.args.first c.args.entries.now c.loop-index.index-index c.loop-index-item.result c.loop-index-test.true c.loop-index-item.is c.args.kept.now c.loop-index.kept (c.loop-index.invariant view) w.set_last_at.new.kept t (w.set_last_at.ensures view) in
-      rw w.kept-is more
-  | else-not-is_zero w ↦
-      let t : is_nonzero c.loop-index-item.result ≡ false = ap not (sym c.is_zero.ensures.zero) ∙ ap not w.if-not-is_zero.false in
-      let more = entry_skipped view c.args.last c.args.first c.args.entries.now c.loop-index.index-index c.loop-index-item.result c.loop-index-test.true c.loop-index-item.is c.args.kept.now c.loop-index.kept (c.loop-index.invariant view) t in
-      rw w.kept-is more
-]
+pub loop-entry-preserved : goal.loop-entry-preserved
+loop-entry-preserved g c = λ view.
+    let pair = g.E.SumEntry.pair in
+    let es = c.args.entries.now in
+    let n = c.loop-entry.entry-index in
+    let x = c.entry-item.result in
+    let there = pair_inside pair es n c.loop-entry-test.true in
+    let is = pair_read pair es n x c.loop-entry-test.true c.entry-item.is in
+    elim c.if-not-is_zero.branch [
+      | then-not-is_zero w ↦
+          let t : is_nonzero (pair x) ≡ true = ap not (sym c.is_zero.ensures ∙ w.if-not-is_zero.true) in
+          let set = subst (λ i. map (step_of view) w.set_last_at.new.kept ≡ referred_by (λ j. nat_eq j i) c.args.last c.args.first (map (step_of view) c.loop-entry.kept)) w.index.ensures (w.set_last_at.ensures view) in
+          rw w.kept-is (entry_referred view c.args.last c.args.first (map pair es) n (pair x) there is c.args.kept.now c.loop-entry.kept (c.loop-entry.invariant view) w.set_last_at.new.kept t set)
+      | else-not-is_zero w ↦
+          let t : is_nonzero (pair x) ≡ false = ap not (sym c.is_zero.ensures ∙ w.if-not-is_zero.false) in
+          rw w.kept-is (entry_skipped view c.args.last c.args.first (map pair es) n (pair x) there is c.args.kept.now c.loop-entry.kept (c.loop-entry.invariant view) t)
+    ]
+
+pub returns : goal.returns
+returns g c = λ view.
+    c.loop-entry.invariant view
+    ∙ ap (λ (es : List (ℕ × ℚ)). referred_by (λ i. list_any (λ e. nat_eq i e.0 && is_nonzero e) es) c.args.last c.args.first (map (step_of view) c.args.kept.now))
+    (all_pairs g.E.SumEntry.pair c.args.entries.now c.loop-entry.entry-index c.loop-entry-test.false)

@@ -1,9 +1,0 @@
-use Rattle.std.proofs.Common.{◌∷◌, ap, ◌∙◌}
-use Rattle.vipr_write.specs.Canonical.{reference_words, words_after_spaces}
-use Rattle.vipr_bytes.proofs.Laws.{puts_then, puts_same}
-use Rattle.vipr_write.proofs.lines.put_step_reason.Goals as goal
-
-pub returns : goal.returns
-returns g c =
-    puts_then (puts_same (ap (λ w. 32 ∷ w) (c.as_bytes.ensures.value ∙ c.word.ensures.word)) c.put_word.ensures)
-    (puts_same (ap (λ rs. words_after_spaces (reference_words rs)) c.references.ensures) c.put_step_references.ensures)

@@ -1,9 +1,0 @@
-use Rattle.std.proofs.Common.{take}
-use Rattle.std.specs.List.{flat_map}
-use Rattle.vipr_write.specs.Canonical.{pair_words, words_after_spaces}
-use Rattle.vipr_bytes.specs.Puts.{Puts}
-use Rattle.vipr_write.specs.StepReasons.{entry_of}
-use Rattle.vipr_write.proofs.words.put_short_pairs.Given as goal
-
-abbrev pub invariant-loop-pair : goal.invariant-loop-pair
-invariant-loop-pair g l = Puts g.O.Out.carries l.initial.out l.out (flat_map (λ p. words_after_spaces (pair_words (entry_of p))) (take l.pair-index l.pairs))
