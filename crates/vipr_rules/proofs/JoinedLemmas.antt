@@ -1,15 +1,13 @@
--- Which assumptions the first entries of a sum have brought.
-use Rattle.std.proofs.Common.{◌≡◌, ◌≢◌, ℕ, ◌+◌, ◌<◌, ◌⊎◌, Bool, true, false, ◌||◌, List, length}
-use Rattle.std.proofs.Common.{get_or, refl, sym, ◌∙◌, ap, subst, inl, inr, arith}
+-- Which assumptions a sum has brought so far.
+use Rattle.std.proofs.Common.{◌≡◌, ℕ, ◌⊎◌, Bool, true, false, ◌||◌, refl, sym, ◌∙◌, ap, subst}
+use Rattle.std.proofs.Common.{inl, inr}
 use Rattle.std.specs.Prelude.{IsTrue}
-use Rattle.std.proofs.lemmas.Bool.{cases_eq}
-use Rattle.std.proofs.lemmas.List.{get_or_default}
 use Rattle.std.specs.Cmp.{nat_cmp_total}
 use Rattle.std.specs.Ordering.{nat_cmp}
 use Rattle.std.specs.FinSet.{FinSet, contains, union, empty, same_set}
 use Rattle.std.specs.FinSet.{contains-union, contains-empty, nat_cmp-IsAntisymmetric}
-use Rattle.vipr_spec.specs.Fraction.{ℚ}
-use Rattle.vipr_spec.specs.Reading.{is_nonzero}
+use Rattle.vipr_table.specs.Unions.{union_so_far, has_noted, NotesAtMost}
+use Rattle.vipr_table.specs.declared.assumptions.union.Union.{Union}
 use Rattle.vipr_rules.specs.Context.{AreJoined}
 use Rattle.vipr_rules.proofs.UnionLemmas.{in_union}
 
@@ -27,22 +25,12 @@ union_within s t h = same_set nat_cmp_total nat_cmp-IsAntisymmetric s (union s t
 pub none_union : (s : FinSet nat_cmp) → s ≡ union empty s
 none_union s = same_set nat_cmp_total nat_cmp-IsAntisymmetric s (union empty s) (λ q. sym (contains-union nat_cmp_total empty s q ∙ ap (λ b. b || contains s q) (contains-empty nat_cmp q)))
 
-module _ (found : ℕ → FinSet nat_cmp) (es : List (ℕ × ℚ)) (n : ℕ) (e : ℕ × ℚ) (lt : n < length es) (is : e ≡ get_or es n e) where
-  is_same : (k : ℕ) (d : ℕ × ℚ) → k ≡ n → d ≡ get_or es k d → d ≡ e
-  is_same k d same at = at ∙ ap (λ i. get_or es i d) same ∙ get_or_default es n d e lt ∙ sym is
-
-  -- with an entry whose multiplier isn't 0
-  pub joined_more : (s t u : FinSet nat_cmp) → AreJoined found es n s → t ≡ found e.0 → u ≡ union s t → AreJoined found es (n + 1) u
-  joined_more s t u so_far at added k d less here some a has = subst (λ v. IsTrue (contains v a)) (sym added) ((in_union s t a).1 (by (cases_eq k n)))
-    where
-      by : (k ≡ n) ⊎ (k ≢ n) → IsTrue (contains s a) ⊎ IsTrue (contains t a)
-      by (inl same) = inr (subst (λ v. IsTrue (contains v a)) (sym at) (subst (λ (p : ℕ × ℚ). IsTrue (contains (found p.0) a)) (is_same k d same here) has))
-      by (inr apart) = inl (so_far k d (omega arith) here some a has)
-
-  -- with one whose multiplier is 0
-  pub joined_unused : (s : FinSet nat_cmp) → AreJoined found es n s → is_nonzero e ≡ false → AreJoined found es (n + 1) s
-  joined_unused s so_far unused k d less here some a has = by (cases_eq k n)
-    where
-      by : (k ≡ n) ⊎ (k ≢ n) → IsTrue (contains s a)
-      by (inl same) = absurd (let e = ap is_nonzero (is_same k d same here) in cc)
-      by (inr apart) = so_far k d (omega arith) here some a has
+-- with those of one more constraint, at this index
+pub joined_more : (found : ℕ → FinSet nat_cmp) (i : ℕ) (u v : Union) (t : FinSet nat_cmp)
+    → AreJoined found u → t ≡ found i → union_so_far v ≡ union (union_so_far u) t
+    → NotesAtMost i u v → AreJoined found v
+joined_more found i u v t so_far at added noted j is a has = subst (λ s. IsTrue (contains s a)) (sym added) ((in_union (union_so_far u) t a).1 (by (noted j is)))
+  where
+    by : IsTrue (has_noted u j) ⊎ (j ≡ i) → IsTrue (contains (union_so_far u) a) ⊎ IsTrue (contains t a)
+    by (inl before) = inl (so_far j before a has)
+    by (inr same) = inr (subst (λ s. IsTrue (contains s a)) (ap found same ∙ sym at) has)

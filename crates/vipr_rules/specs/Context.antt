@@ -1,11 +1,10 @@
 -- What a derivation is tested against, and the constraints before it
-use Rattle.std.specs.Prelude.{◌≡◌, ◌≢◌, ◌↔◌, ℕ, ◌<◌, Bool, true, false, cond, List, length, get_or}
+use Rattle.std.specs.Prelude.{◌≡◌, ◌≢◌, ◌↔◌, ℕ, Bool, false, cond, List, length}
 use Rattle.std.specs.Prelude.{Option, None, Some, IsTrue, nat_lt, option_copied}
 use Rattle.std.specs.FinSet as set
 use Rattle.std.specs.Ordering.{nat_cmp}
 use Rattle.vipr_spec.specs.Fraction.{ℚ}
 use Rattle.vipr_spec.specs.Constraint.{Profile}
-use Rattle.vipr_spec.specs.Reading.{is_nonzero}
 use Rattle.vipr_spec.specs.Soundness.{IsBestValue}
 use Rattle.vipr_spec.specs.Steps.{SomeRestsOn, RestsBy}
 use Rattle.vipr_spec.specs.Certificate.{Certificate, Reason, constraint_at, reason_at, count}
@@ -19,6 +18,8 @@ use Rattle.vipr_rules.specs.Profile.{profile_of}
 use Rattle.vipr_table.specs.declared.rows.Entry.{Entry}
 use Rattle.vipr_table.specs.Table.{Table, entry_at}
 use Rattle.vipr_table.specs.History.{IsTableOf}
+use Rattle.vipr_table.specs.Unions.{union_so_far, has_noted}
+use Rattle.vipr_table.specs.declared.assumptions.union.Union.{Union}
 
 -- the profile is P; the problem, the best objective value and the table are those of the
 -- certificate so far
@@ -73,8 +74,7 @@ IsSetWithout c i l s = (a : ℕ) → IsTrue (set.contains s a) ↔ (RestsOn c i 
 abbrev pub IsSetByReason : Certificate → Reason → set.FinSet nat_cmp → Type 0
 IsSetByReason c r s = (a : ℕ) → IsTrue (set.contains s a) ↔ RestsBy c (count c) (Some r) a
 
--- the set has the assumptions that are found for each of the first n entries, those with the
--- multiplier 0 left out
-abbrev pub AreJoined : (ℕ → set.FinSet nat_cmp) → List (ℕ × ℚ) → ℕ → set.FinSet nat_cmp → Type 0
-AreJoined found es n s = (k : ℕ) (d : ℕ × ℚ) → k < n → d ≡ get_or es k d → is_nonzero d ≡ true
-    → (a : ℕ) → IsTrue (set.contains (found d.0) a) → IsTrue (set.contains s a)
+-- the union has the assumptions that are found for each constraint that it noted
+abbrev pub AreJoined : (ℕ → set.FinSet nat_cmp) → Union → Type 0
+AreJoined found u = (i : ℕ) → IsTrue (has_noted u i)
+    → (a : ℕ) → IsTrue (set.contains (found i) a) → IsTrue (set.contains (union_so_far u) a)

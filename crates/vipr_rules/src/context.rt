@@ -1,13 +1,13 @@
 //! What a derivation is tested against, and the constraints that it may refer to.
 
-ghost use Rattle.std.specs.Prelude.{◌≡◌, ◌↔◌, ◌∷◌, [], true, IsTrue, IfOk, OnOk, MatchResult};
+ghost use Rattle.std.specs.Prelude.{◌≡◌, ◌∷◌, [], true, IsTrue, IfOk, OnOk, MatchResult};
 ghost use Rattle.std.specs.FinSet as set;
 ghost use Rattle.vipr_spec.specs.Constraint.{Profile as ProfileMeant, at, NamesBelow};
 ghost use Rattle.vipr_spec.specs.Certificate.{Certificate, Derivation, variables};
 ghost use Rattle.vipr_spec.specs.Steps.{earlier};
 ghost use Rattle.vipr_linear.specs.Constraint.{condition_of};
 ghost use Rattle.vipr_table.specs.Table.{DerivedBelow};
-ghost use Rattle.vipr_table.specs.Unions.{union_so_far};
+ghost use Rattle.vipr_table.specs.Unions.{union_so_far, has_noted, NotesAtMost};
 ghost use Rattle.vipr_rules.specs.Context.{IsContextOf, IsKnownAs, row_found, set_of, set_found};
 ghost use Rattle.vipr_rules.specs.Context.{is_assumed};
 ghost use Rattle.vipr_rules.specs.Soundness.{IsSoundUnder, IsStatedAt};
@@ -64,24 +64,34 @@ impl<'a> Known<'a> {
         }
     }
 
-    /// Whether it rests on no assumption.
-    pub(crate) fn is_unconditional(self) -> bool
-        ensures { IsTrue result ↔ (set_of self.entry ≡ set.empty) }
-    {
-        match self {
-            Known::Given(_) => true,
-            Known::Derived(entry) => entry.assumptions.is_empty(),
-        }
-    }
-
     /// Adds the assumptions that it rests on to those of others.
     pub(crate) fn add_to(self, alloc: Global, others: &mut Union) -> Result<(), AllocError>
-        ensures { OnOk result
+        ensures union { OnOk result
             (union_so_far others.new ≡ set.union (union_so_far others.old) (set_of self.entry)) }
+        ensures noted { others.new.noted ≡ others.old.noted }
     {
         match self {
             Known::Given(_) => Ok(()),
             Known::Derived(entry) => others.add(alloc, &entry.assumptions),
+        }
+    }
+
+    /// Adds the assumptions that it rests on, as constraint `index`, unless it was added so before.
+    pub(crate) fn add_once_to(
+        self,
+        alloc: Global,
+        index: u32,
+        others: &mut Union,
+    ) -> Result<(), AllocError>
+        requires { IsTrue (has_noted others.old index)
+            → union_so_far others.old ≡ set.union (union_so_far others.old) (set_of self) }
+        ensures union { OnOk result
+            (union_so_far others.new ≡ set.union (union_so_far others.old) (set_of self.entry)) }
+        ensures noted { OnOk result (NotesAtMost index others.old others.new) }
+    {
+        match self {
+            Known::Given(_) => Ok(()),
+            Known::Derived(entry) => others.add_once(alloc, index, &entry.assumptions),
         }
     }
 

@@ -1,7 +1,7 @@
 //! The rules by which a sum of constraints, or its rounding, dominates the stated one.
 
-ghost use Rattle.std.specs.Prelude.{◌≡◌, ◌↔◌, ◌⊎◌, ◌<◌, ◌∷◌, ◌++◌, [], List, ℕ, true, false};
-ghost use Rattle.std.specs.Prelude.{flat_map, length, get_or, IsTrue, IfOk, IfErr, IfSome, OnOk};
+ghost use Rattle.std.specs.Prelude.{◌≡◌, ◌⊎◌, ◌∷◌, ◌++◌, [], List, ℕ, true, false};
+ghost use Rattle.std.specs.Prelude.{flat_map, length, IsTrue, IfOk, IfErr, IfSome, OnOk};
 ghost use Rattle.std.specs.Prelude.{MatchOption, MatchResult};
 ghost use Rattle.std.specs.FinSet as set;
 ghost use Rattle.vipr_spec.specs.Fraction.{ℚ};
@@ -13,9 +13,9 @@ ghost use Rattle.vipr_spec.specs.Steps.{reference_tests, sum_tests, roundable, b
 ghost use Rattle.vipr_linear.specs.Accumulator.{Holds, held_condition};
 ghost use Rattle.vipr_linear.specs.Constraint.{condition_of};
 ghost use Rattle.vipr_table.specs.Table.{DerivedBelow};
-ghost use Rattle.vipr_table.specs.Unions.{union_so_far};
+ghost use Rattle.vipr_table.specs.Unions.{union_so_far, has_noted, NotesAtMost};
 ghost use Rattle.vipr_rules.specs.Context.{IsContextOf, IsKnownAs, IsSetOfAll, row_found, set_of};
-ghost use Rattle.vipr_rules.specs.Context.{set_found, AreJoined};
+ghost use Rattle.vipr_rules.specs.Context.{set_found};
 ghost use Rattle.vipr_rules.specs.Soundness.{IsSoundUnder};
 ghost use Rattle.vipr_rules.specs.Apply.{PassesTestsIn, StopsIn, SumStops, IsRuledIn};
 ghost use Rattle.vipr_rules.specs.Apply.{DominatesBy, computed_tests, reason_by};
@@ -29,8 +29,8 @@ use vipr_frac::Frac;
 use vipr_linear::{CombError, Combination, Constraint, Ints, NotRoundable, Rounded};
 use vipr_table::{Assumptions, Rows, Union};
 
-// In how many entries before it an index is looked for.
-const FEW_BEFORE: usize = 8;
+// A sum of more entries adds the assumptions of a constraint once, however often it is named.
+const FEW_ENTRIES: usize = 8;
 
 /// What has to dominate the stated constraint.
 #[derive(Clone, Copy)]
@@ -150,6 +150,7 @@ fn add_up<S: Rows>(
     requires rows { let n = variables context.now.problem.now in
         DerivedBelow n (S.table context.now.rows.now) }
     requires none { union_so_far assumptions.old ≡ set.empty }
+    requires not_noted { (i : ℕ) → has_noted assumptions.old i ≡ false }
     ensures sum { (P : Profile) (c : Certificate) (d : Derivation)
         → IsContextOf S.table P c context.now
         → MatchResult result
@@ -170,15 +171,7 @@ fn add_up<S: Rows>(
         if let Err(error) = add_multiple(scratch, known.constraint(), entry.1, position) {
             return Err(first_error(context, &entries[position + 1..], error));
         }
-        join(
-            alloc,
-            context,
-            known,
-            entries,
-            position,
-            entry.0,
-            assumptions,
-        )?;
+        join(alloc, known, entry.0, entries.len(), assumptions)?;
     }
     Ok(())
 }
@@ -200,54 +193,27 @@ fn first_error<S: Rows>(
     }
 }
 
-// Adds the assumptions of the constraint of the entry at a position, unless an entry shortly before
-// has named it.
-fn join<S: Rows>(
+// Adds the assumptions of constraint `index` to those of a sum of so many entries. In a long sum a
+// constraint that is named again has brought them.
+#[inline(always)]
+fn join(
     alloc: Global,
-    context: &Context<S>,
     known: Known,
-    entries: &[(u32, Frac)],
-    position: usize,
     index: u32,
+    entries: usize,
     assumptions: &mut Union,
 ) -> Result<(), AllocError>
-    requires place { position < length entries.now }
-    requires found { set_of known ≡ set_found S.table context.now index }
-    requires joined { AreJoined (set_found S.table context.now) entries.now position
-        (union_so_far assumptions.old) }
-    ensures { OnOk result
-        (union_so_far assumptions.new
+    requires { IsTrue (has_noted assumptions.old index) → union_so_far assumptions.old
+        ≡ set.union (union_so_far assumptions.old) (set_of known) }
+    ensures union { OnOk result (union_so_far assumptions.new
         ≡ set.union (union_so_far assumptions.old) (set_of known.entry)) }
+    ensures noted { OnOk result (NotesAtMost index assumptions.old assumptions.new) }
 {
-    if known.is_unconditional() {
-        return known.add_to(alloc, assumptions);
+    if entries > FEW_ENTRIES {
+        known.add_once_to(alloc, index, assumptions)
+    } else {
+        known.add_to(alloc, assumptions)
     }
-    if is_repeated(entries, position, index) {
-        return Ok(());
-    }
-    known.add_to(alloc, assumptions)
-}
-
-// Whether one of the few entries before a position names constraint `index`, with a multiplier that
-// isn't 0.
-fn is_repeated(entries: &[(u32, Frac)], position: usize, index: u32) -> bool
-    requires { position < length entries.now }
-    ensures { IsTrue result → (k : ℕ) × (e : ℕ × ℚ) × (k < position) × (e ≡ get_or entries.now k e)
-        × (is_nonzero e ≡ true) × (e.0 ≡ index) }
-{
-    for k in position.saturating_sub(FEW_BEFORE)..position {
-        if uses(&entries[k], index) {
-            return true;
-        }
-    }
-    false
-}
-
-// Whether an entry names constraint `index`, with a multiplier that isn't 0.
-fn uses(entry: &(u32, Frac), index: u32) -> bool
-    ensures { IsTrue result ↔ (is_nonzero entry.now ≡ true) × (entry.now.0 ≡ index) }
-{
-    entry.0 == index && is_used(entry)
 }
 
 // Adds the multiple of a constraint, that of the entry at a position.

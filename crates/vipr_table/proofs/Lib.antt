@@ -1,5 +1,6 @@
 mod RisingLemmas
 mod SetLemmas
+mod PartLemmas
 mod ExpiryLemmas
 mod TableLemmas
 mod ExpiryOrderLemmas

@@ -249,7 +249,7 @@ rises_order low high (x ∷ xs) r (suc i) (suc j) le lt = rises_order (x + 1) hi
 pub to_end : (i : ℕ) (xs : List ℕ) → take (length xs - i) (drop i xs) ≡ drop i xs
 to_end i xs = ap (λ n. take n (drop i xs)) (sym (length-drop i xs)) ∙ take-length (drop i xs)
 
-or_turned : (a b : Bool) → (a || b) ≡ (b || a)
+pub or_turned : (a b : Bool) → (a || b) ≡ (b || a)
 or_turned true true = refl
 or_turned true false = refl
 or_turned false true = refl
@@ -318,33 +318,3 @@ joined_with_part xs ys r within = record { rising = r; members = λ q. or_part (
 pub joined_with_whole : (xs ys : List ℕ) → IsRising ys
     → ((q : ℕ) → has xs q ≡ true → has ys q ≡ true) → IsUnion xs ys ys
 joined_with_whole xs ys r within = record { rising = r; members = λ q. or_part (has ys q) (has xs q) (within q) ∙ or_turned (has ys q) (has xs q) }
-
--- the parts of a list that rises, and a list that goes on behind
-pub rises_left : (low high : ℕ) (xs ys : List ℕ) → RisesWithin low high (xs ++ ys)
-    → RisesWithin low high xs
-rises_left low high [] ys r = tt
-rises_left low high (x ∷ xs) ys r = (r.0, r.1, rises_left (x + 1) high xs ys r.2)
-
-pub rises_right : (low high : ℕ) (xs ys : List ℕ) → RisesWithin low high (xs ++ ys)
-    → RisesWithin low high ys
-rises_right low high [] ys r = r
-rises_right low high (x ∷ xs) ys r = rises_from (x + 1) low high ys (let le : low ≤ x = r.0 in omega arith) (rises_right (x + 1) high xs ys r.2)
-
-rises_on : (low high : ℕ) (xs : List ℕ) (y : ℕ) (ys zs : List ℕ)
-    → RisesWithin low high (xs ++ y ∷ ys) → RisesWithin 0 high (y ∷ ys ++ zs)
-    → RisesWithin low high (xs ++ (y ∷ ys ++ zs))
-rises_on low high [] y ys zs r s = (r.0, s.1, s.2)
-rises_on low high (x ∷ xs) y ys zs r s = (r.0, r.1, rises_on (x + 1) high xs y ys zs r.2 s)
-
-pub rises_longer : (xs ys zs : List ℕ) → IsRising (xs ++ ys) → 0 < length ys → IsRising (ys ++ zs)
-    → IsRising (xs ++ (ys ++ zs))
-rises_longer xs [] zs r some s = absurd (omega arith)
-rises_longer xs (y ∷ ys) zs r some s = rises_on 0 (2 ^ 32) xs y ys zs r s
-
--- a list goes on behind the last of two that has an item
-pub rises_behind : (xs ys zs last : List ℕ) → IsRising (xs ++ ys)
-    → ((length ys ≡ 0) × (last ≡ xs)) ⊎ ((0 < length ys) × (last ≡ ys)) → IsRising (last ++ zs)
-    → IsRising (xs ++ (ys ++ zs))
-rises_behind xs [] zs last r (inl (none, is)) s = subst (λ l. IsRising (l ++ zs)) is s
-rises_behind xs (y ∷ ys) zs last r (inl (none, is)) s = absurd (omega arith)
-rises_behind xs ys zs last r (inr (some, is)) s = rises_longer xs ys zs r some (subst (λ l. IsRising (l ++ zs)) is s)

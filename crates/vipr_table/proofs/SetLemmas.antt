@@ -141,24 +141,6 @@ pub parts_have : (xs ys : List ℕ) (q : ℕ)
     → contains (from_list {R = nat_cmp} (xs ++ ys)) q ≡ (has xs q || has ys q)
 parts_have xs ys q = contains-from_list_nat (xs ++ ys) q ∙ list_any-append (λ n. nat_eq n q) xs ys
 
-pub first_has : (a b r : Bool) → r ≡ a → r ≡ true → r ≡ (a || b)
-first_has true b r e t = e
-first_has false b r e t = absurd (cc)
-
-pub second_has : (a b r s : Bool) → r ≡ a → r ≡ false → s ≡ b → s ≡ (a || b)
-second_has true b r s e f h = absurd (cc)
-second_has false b r s e f h = h
-
-pub second_empty : (xs ys : List ℕ) (a b : Bool) → a ≡ nat_eq (length xs) 0 → a ≡ true
-    → b ≡ nat_eq (length ys) 0 → b ≡ nat_eq (length (xs ++ ys)) 0
-second_empty [] ys a b e t h = h
-second_empty (x ∷ xs) ys a b e t h = absurd (let none : nat_eq (length (x ∷ xs)) 0 ≡ false = grind (arith, nat_tests) in cc)
-
-pub first_some : (xs ys : List ℕ) (a : Bool) → a ≡ nat_eq (length xs) 0 → a ≡ false
-    → a ≡ nat_eq (length (xs ++ ys)) 0
-first_some [] ys a e f = absurd (let none : nat_eq 0 0 ≡ true = grind (arith, nat_tests) in cc)
-first_some (x ∷ xs) ys a e f = f ∙ (let some : nat_eq (length ((x ∷ xs) ++ ys)) 0 ≡ false = grind (arith, nat_tests) in sym some)
-
 -- a list that goes on
 pub longer_seen : (xs ys zs : List ℕ)
     → from_list {R = nat_cmp} (xs ++ (ys ++ zs)) ≡ union (from_list (xs ++ ys)) (from_list zs)

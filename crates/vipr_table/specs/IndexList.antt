@@ -13,15 +13,39 @@ listed_first (One index) = index ∷ []
 listed_first (Many items) = items.items
 listed_first (Longer lists) = lists.first.items
 
-abbrev pub listed_behind : IndexList → List ℕ
-listed_behind Nothing = []
-listed_behind (One _) = []
-listed_behind (Many _) = []
-listed_behind (Longer lists) = lists.behind.items
+abbrev pub listed_second : IndexList → List ℕ
+listed_second Nothing = []
+listed_second (One _) = []
+listed_second (Many _) = []
+listed_second (Longer lists) = lists.second.items
 
--- the list as a whole
+abbrev pub listed_more : IndexList → List ℕ
+listed_more Nothing = []
+listed_more (One _) = []
+listed_more (Many _) = []
+listed_more (Longer lists) = lists.more.items
+
+-- all of them
 abbrev pub listed_items : IndexList → List ℕ
-listed_items list = listed_first list ++ listed_behind list
+listed_items list = listed_first list ++ (listed_second list ++ listed_more list)
+
+-- each of the lists rises
+pub record AreRising (list : IndexList) : Type 0 where
+  pub first : IsRising (listed_first list)
+  pub second : IsRising (listed_second list)
+  pub more : IsRising (listed_more list)
+
+-- there is one list
+pub record IsOneList (list : IndexList) (items : List ℕ) : Type 0 where
+  pub first : listed_first list ≡ items
+  pub second : listed_second list ≡ []
+  pub more : listed_more list ≡ []
+
+-- one list of each, together
+pub record IsPairOf (list other pair : IndexList) : Type 0 where
+  pub ours : IsOneList list (listed_first pair)
+  pub theirs : IsOneList other (listed_second pair)
+  pub more : listed_more pair ≡ []
 
 -- the list has in rising order what the set has
 pub record IsListOf (s : set.FinSet nat_cmp) (xs : List ℕ) : Type 0 where

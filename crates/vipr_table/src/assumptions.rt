@@ -2,19 +2,20 @@
 //!
 //! [`Assumptions`] is a set of indices. A sum rests on the union of the sets of its constraints,
 //! and a split takes one assumption out of each of its branches. Clones share their indices, so a
-//! long set that many constraints rest on is in memory once.
+//! long set that many constraints rest on is in memory once. Unions share, too: with a short set it
+//! is a short list that is new, and two long sets that are one list each are both shared.
 mod list;
 mod merge;
 mod union;
 
-ghost use Rattle.std.specs.Prelude.{◌≡◌, ◌↔◌, IfOk, IfSome, IsOk, IsTrue};
+ghost use Rattle.std.specs.Prelude.{◌≡◌, ◌↔◌, ℕ, true, IfOk, IfSome, IsOk, IsTrue};
 ghost use Rattle.std.specs.Cow.{cow_slice_items};
 ghost use Rattle.std.specs.FinSet as set;
 ghost use Rattle.vipr_table.specs.IndexList.{listed_items, IsListOf};
-ghost use Rattle.vipr_table.specs.Rising.{IsRising};
+ghost use Rattle.vipr_table.specs.Rising.{IsRising, has};
 
 use crate::assumptions::list::IndexList;
-use crate::assumptions::merge::{all_but, concat, has_all, is_below, is_in, join, join_but_last};
+use crate::assumptions::merge::{all_but, has_all, is_in, join, join_but_last};
 pub use crate::assumptions::union::Union;
 use std::alloc::{AllocError, Global};
 use std::borrow::CowSlice;
@@ -29,7 +30,7 @@ const FEW: usize = 8;
 /// A set of the constraint indices of assumptions. Its clones share the indices.
 #[derive(Debug, Drop)]
 pub struct Assumptions {
-    // each index once, in rising order
+    // lists in rising order; an index may be in several
     list: IndexList,
 }
 
@@ -37,8 +38,7 @@ impl Model for Assumptions {
     ghost use Rattle.std.specs.Ordering.{nat_cmp};
     ghost use Rattle.std.specs.FinSet as set;
     ghost use Rattle.std.specs.Coded.{coded_ℕ};
-    ghost use Rattle.vipr_table.specs.IndexList.{listed_items};
-    ghost use Rattle.vipr_table.specs.Rising.{IsRising};
+    ghost use Rattle.vipr_table.specs.IndexList.{listed_items, AreRising};
 
     ghost Value = { set.FinSet nat_cmp };
 
@@ -46,7 +46,7 @@ impl Model for Assumptions {
 
     ghost view = { λ a. set.from_list (listed_items a.list) };
 
-    ghost invariant = { λ a. IsRising (listed_items a.list) };
+    ghost invariant = { λ a. AreRising a.list };
 }
 
 impl Clone for Assumptions {
@@ -85,14 +85,20 @@ impl Assumptions {
     pub fn is_empty(&self) -> bool
         ensures { IsTrue result ↔ (self.now ≡ set.empty) }
     {
-        self.list.first().is_empty() && self.list.behind().is_empty()
+        self.list.len() == 0
     }
 
     /// Whether an index is in the set.
     pub fn contains(&self, index: u32) -> bool
         ensures { result ≡ set.contains self.now index }
     {
-        is_in(self.list.first(), index) || is_in(self.list.behind(), index)
+        if is_in(self.list.first(), index) {
+            return true;
+        }
+        if is_in(self.list.second(), index) {
+            return true;
+        }
+        is_in(self.list.more(), index)
     }
 
     /// The set of the indices of both.
@@ -112,7 +118,13 @@ impl Assumptions {
         if self.is_one(other) {
             return self.clone();
         }
-        match self.longer_by(alloc, other)? {
+        if !self.is_long() && !other.is_long() {
+            return self.joined(alloc, other);
+        }
+        if let Some(longer) = self.longer_by(alloc, other)? {
+            return Ok(longer);
+        }
+        match other.longer_by(alloc, self)? {
             Some(longer) => Ok(longer),
             None => self.joined(alloc, other),
         }
@@ -179,31 +191,45 @@ impl Assumptions {
         self.list.is_one(&other.list)
     }
 
-    // The union, where all indices of the other come behind and a short list takes them. Lists that
+    // The union, if the other set is so short that a short list takes its indices. Lists that
     // aren't long stay whole.
     fn longer_by(&self, alloc: Global, other: &Assumptions) -> Result<Option<Self>, AllocError>
         ensures { IfOk result (λ o. IfSome o (λ s. s ≡ set.union self.now other.now)) }
     {
-        let (first, behind) = (self.list.first(), self.list.behind());
-        let more = other.list.first();
-        let count = behind.len() + more.len();
-        if !other.list.behind().is_empty() || first.len() < LONG {
+        let first = self.list.first();
+        if first.len() < LONG {
             return Ok(None);
         }
+        let Some(theirs) = other.list.as_one() else {
+            return Ok(None);
+        };
+        let count = self.list.more().len() + theirs.len();
         if count == 0 || first.len() / count < count / 8 {
             return Ok(None);
         }
-        let last = if behind.is_empty() { first } else { behind };
-        if !is_below(last, more) {
-            return Ok(None);
+        if self.has_each(theirs) {
+            return Ok(Some(self.clone()?));
         }
-        let behind = concat(alloc, behind, more)?;
+        let more = join(alloc, self.list.more(), theirs)?;
         Ok(Some(Assumptions {
-            list: self.list.with_behind(alloc, behind)?,
+            list: self.list.with_more(alloc, more)?,
         }))
     }
 
-    // The union by a list of its indices, unless one of the sets has them all.
+    // Whether each of these indices is in the set.
+    fn has_each(&self, indices: &[u32]) -> bool
+        ensures { IsTrue result → (q : ℕ) → has indices.now q ≡ true
+            → set.contains self.now q ≡ true }
+    {
+        for index in indices {
+            if !self.contains(*index) {
+                return false;
+            }
+        }
+        true
+    }
+
+    // The union of sets of which none is short, unless one of them has all indices.
     fn joined(&self, alloc: Global, other: &Assumptions) -> Result<Self, AllocError>
         ensures { IfOk result (λ s. s ≡ set.union self.now other.now) }
     {
@@ -236,8 +262,24 @@ impl Assumptions {
         if has_all(theirs, ours) {
             return other.clone();
         }
+        if let Some(pair) = self.paired(alloc, other)? {
+            return Ok(pair);
+        }
         let items = join(alloc, ours, theirs)?;
         Assumptions::of_rising(alloc, items)
+    }
+
+    // The union of two long lists, which it shares.
+    fn paired(&self, alloc: Global, other: &Assumptions) -> Result<Option<Self>, AllocError>
+        ensures { IfOk result (λ o. IfSome o (λ s. s ≡ set.union self.now other.now)) }
+    {
+        if !self.is_long() || !other.is_long() {
+            return Ok(None);
+        }
+        let Some(list) = self.list.paired(alloc, &other.list)? else {
+            return Ok(None);
+        };
+        Ok(Some(Assumptions { list }))
     }
 
     // The indices of both, but for one of each, if these are the last ones.
@@ -293,11 +335,9 @@ impl Assumptions {
     fn as_few(&self) -> Option<&[u32]>
         ensures { IfSome result (λ few. set.from_list few.now ≡ self.now) }
     {
-        let items = self.list.first();
-        if self.list.behind().is_empty() && items.len() <= FEW {
-            Some(items)
-        } else {
-            None
+        match self.list.as_one() {
+            Some(items) if items.len() <= FEW => Some(items),
+            _ => None,
         }
     }
 
@@ -306,15 +346,27 @@ impl Assumptions {
     fn flat(&self, alloc: Global) -> Result<CowSlice<'_, u32>, AllocError>
         ensures { IfOk result (λ items. IsListOf self.now (cow_slice_items items)) }
     {
-        let (first, behind) = (self.list.first(), self.list.behind());
-        if behind.is_empty() {
-            return Ok(CowSlice::Borrowed(first));
+        match self.list.as_one() {
+            Some(items) => Ok(CowSlice::Borrowed(items)),
+            None => Ok(CowSlice::Owned(self.merged(alloc)?)),
         }
-        Ok(CowSlice::Owned(concat(alloc, first, behind)?))
     }
 
-    // How many indices are in the set.
+    // The indices of all lists, as one.
+    fn merged(&self, alloc: Global) -> Result<Vec<u32>, AllocError>
+        ensures { IfOk result (λ items. IsListOf self.now items.items) }
+    {
+        let rest = join(alloc, self.list.second(), self.list.more())?;
+        join(alloc, self.list.first(), &rest)
+    }
+
+    // Whether its first list is long.
+    fn is_long(&self) -> bool {
+        self.list.first().len() >= LONG
+    }
+
+    // How many indices the lists have.
     fn len(&self) -> usize {
-        self.list.first().len() + self.list.behind().len()
+        self.list.len()
     }
 }

@@ -1,15 +1,15 @@
 //! Lists of indices that their copies share.
 
-ghost use Rattle.std.specs.Prelude.{◌≡◌, ◌++◌, IfOk, IsTrue};
-ghost use Rattle.vipr_table.specs.IndexList.{listed_items, listed_first, listed_behind};
+ghost use Rattle.std.specs.Prelude.{◌≡◌, length, IfOk, IfSome, IsTrue};
+ghost use Rattle.vipr_table.specs.IndexList.{listed_items, listed_first, listed_second};
+ghost use Rattle.vipr_table.specs.IndexList.{listed_more, IsOneList, IsPairOf};
 
-use crate::assumptions::merge::concat;
 use std::alloc::{AllocError, Global};
 use std::slice;
 use vipr_shared::Shared;
 
-/// Indices in a fixed order: a first list, and what comes behind it, mostly nothing. Only more than
-/// one take memory, and a copy takes none.
+/// Indices in lists: a first one, mostly no second one, and mostly no more indices. Only more than
+/// one index takes memory, and a copy takes none.
 #[derive(Debug, Drop)]
 pub(crate) enum IndexList {
     Nothing,
@@ -18,17 +18,18 @@ pub(crate) enum IndexList {
     Longer(Shared<Longer>),
 }
 
-/// A first list, which others may share, and what comes behind it.
+/// A first list and a second one, which others may share, and more indices.
 #[derive(Debug, Drop)]
 pub(crate) struct Longer {
     first: Shared<Vec<u32>>,
-    behind: Vec<u32>,
+    second: Shared<Vec<u32>>,
+    more: Vec<u32>,
 }
 
 impl IndexList {
-    /// What holds this list, with nothing behind it.
+    /// What holds this list alone.
     pub(crate) fn of(alloc: Global, items: Vec<u32>) -> Result<IndexList, AllocError>
-        ensures { IfOk result (λ held. listed_items held ≡ items.items) }
+        ensures { IfOk result (λ held. IsOneList held items.items) }
     {
         match items.as_slice() {
             [] => Ok(IndexList::Nothing),
@@ -49,13 +50,40 @@ impl IndexList {
         }
     }
 
-    /// What comes behind the first list.
-    pub(crate) fn behind(&self) -> &[u32]
-        ensures { result.now ≡ listed_behind self.now }
+    /// The second list.
+    pub(crate) fn second(&self) -> &[u32]
+        ensures { result.now ≡ listed_second self.now }
     {
         match self {
-            IndexList::Longer(lists) => lists.as_ref().behind.as_slice(),
+            IndexList::Longer(lists) => lists.as_ref().second.as_ref().as_slice(),
             _ => &[],
+        }
+    }
+
+    /// The indices that are in neither list.
+    pub(crate) fn more(&self) -> &[u32]
+        ensures { result.now ≡ listed_more self.now }
+    {
+        match self {
+            IndexList::Longer(lists) => lists.as_ref().more.as_slice(),
+            _ => &[],
+        }
+    }
+
+    /// How many indices there are, those in several lists counted again.
+    pub(crate) fn len(&self) -> usize
+        ensures { result ≡ length (listed_items self.now) }
+    {
+        self.first().len() + self.second().len() + self.more().len()
+    }
+
+    /// All indices, if they are one list.
+    pub(crate) fn as_one(&self) -> Option<&[u32]>
+        ensures { IfSome result (λ items. IsOneList self.now items.now) }
+    {
+        match self {
+            IndexList::Longer(_) => None,
+            _ => Some(self.first()),
         }
     }
 
@@ -74,7 +102,7 @@ impl IndexList {
 
     /// A copy, which shares the lists.
     pub(crate) fn try_copy(&self) -> Result<IndexList, AllocError>
-        ensures { IfOk result (λ copy. listed_items copy ≡ listed_items self.now) }
+        ensures { IfOk result (λ copy. copy ≡ self.now) }
     {
         match self {
             IndexList::Nothing => Ok(IndexList::Nothing),
@@ -84,21 +112,54 @@ impl IndexList {
         }
     }
 
-    /// The first list with other items behind it. A first list of more than one index is shared.
-    pub(crate) fn with_behind(
-        &self,
-        alloc: Global,
-        behind: Vec<u32>,
-    ) -> Result<IndexList, AllocError>
-        ensures { IfOk result (λ list. listed_items list ≡ listed_first self.now ++ behind.items) }
+    /// Both lists with these indices besides. A list of more than one index is shared.
+    pub(crate) fn with_more(&self, alloc: Global, more: Vec<u32>) -> Result<IndexList, AllocError>
+        ensures { IfOk result (λ list. (listed_first list ≡ listed_first self.now)
+            × (listed_second list ≡ listed_second self.now) × (listed_more list ≡ more.items)) }
+    {
+        let (first, second) = self.lists(alloc)?;
+        let lists = Longer {
+            first,
+            second,
+            more,
+        };
+        Ok(IndexList::Longer(Shared::new(alloc, lists)?))
+    }
+
+    // Both lists, shared.
+    fn lists(&self, alloc: Global) -> Result<(Shared<Vec<u32>>, Shared<Vec<u32>>), AllocError>
+        ensures { IfOk result (λ lists. (lists.0.items ≡ listed_first self.now)
+            × (lists.1.items ≡ listed_second self.now)) }
     {
         let first: Result<_, _> = match self {
+            IndexList::Longer(lists) => {
+                return Ok((
+                    lists.as_ref().first.clone()?,
+                    lists.as_ref().second.clone()?,
+                ));
+            }
             IndexList::Many(items) => items.clone(),
-            IndexList::Longer(lists) => lists.as_ref().first.clone(),
-            _ => return IndexList::of(alloc, concat(alloc, self.first(), &behind)?),
+            _ => Shared::new(alloc, self.first().to_vec(alloc)?),
         };
-        let first = first?;
-        let lists = Shared::new(alloc, Longer { first, behind })?;
-        Ok(IndexList::Longer(lists))
+        Ok((first?, Shared::new(alloc, Vec::new(alloc))?))
+    }
+
+    /// Both lists together, shared, if each has more than one index and they aren't longer.
+    pub(crate) fn paired(
+        &self,
+        alloc: Global,
+        other: &IndexList,
+    ) -> Result<Option<IndexList>, AllocError>
+        ensures { IfOk result (λ o. IfSome o (IsPairOf self.now other.now)) }
+    {
+        let (IndexList::Many(items), IndexList::Many(others)) = (self, other) else {
+            return Ok(None);
+        };
+        let lists = Longer {
+            first: items.clone()?,
+            second: others.clone()?,
+            more: Vec::new(alloc),
+        };
+        Ok(Some(IndexList::Longer(Shared::new(alloc, lists)?)))
     }
 }

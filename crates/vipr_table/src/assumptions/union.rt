@@ -1,11 +1,12 @@
 //! The union of sets that come one after another.
 
-ghost use Rattle.std.specs.Prelude.{◌≡◌, IfOk, OnOk};
+ghost use Rattle.std.specs.Prelude.{◌≡◌, ℕ, false, IsTrue, IfOk, OnOk};
 ghost use Rattle.std.specs.FinSet as set;
-ghost use Rattle.vipr_table.specs.Unions.{union_of_all, union_so_far};
+ghost use Rattle.vipr_table.specs.Unions.{union_of_all, union_so_far, has_noted, NotesAtMost};
 
 use crate::assumptions::Assumptions;
 use std::alloc::{AllocError, Global};
+use std::collections::BTreeSet;
 use std::mem;
 
 /// The union of the sets that were added. A large one waits below the last until that has grown to
@@ -16,6 +17,8 @@ pub struct Union {
     below: Vec<Assumptions>,
     // in any order, and some may occur twice
     few: Vec<u32>,
+    // indices of constraints whose sets were added, but for small sets
+    noted: BTreeSet<u32>,
 }
 
 fn put(place: &mut Assumptions, set: Assumptions)
@@ -32,18 +35,44 @@ fn is_near(len: usize, other: usize) -> bool {
 impl Union {
     /// The union of no sets. Takes no memory.
     pub fn new(alloc: Global) -> Union
-        ensures { union_so_far result ≡ set.empty }
+        ensures none { union_so_far result ≡ set.empty }
+        ensures not_noted { (i : ℕ) → has_noted result i ≡ false }
     {
         Union {
             last: Assumptions::empty(alloc),
             below: Vec::new(alloc),
             few: Vec::new(alloc),
+            noted: BTreeSet::new(alloc),
         }
+    }
+
+    /// Adds the set of constraint `index`. If that is named again, it costs a look-up at most.
+    pub fn add_once(
+        &mut self,
+        alloc: Global,
+        index: u32,
+        more: &Assumptions,
+    ) -> Result<(), AllocError>
+        requires { IsTrue (has_noted self.old index)
+            → union_so_far self.old ≡ set.union (union_so_far self.old) more.now }
+        ensures union { OnOk result
+            (union_so_far self.new ≡ set.union (union_so_far self.old) more.now) }
+        ensures noted { OnOk result (NotesAtMost index self.old self.new) }
+    {
+        if more.as_few().is_some() {
+            return self.add(alloc, more);
+        }
+        if !self.noted.insert(index)? {
+            return Ok(());
+        }
+        self.add(alloc, more)
     }
 
     /// Adds a set.
     pub fn add(&mut self, alloc: Global, more: &Assumptions) -> Result<(), AllocError>
-        ensures { OnOk result (union_so_far self.new ≡ set.union (union_so_far self.old) more.now) }
+        ensures union { OnOk result
+            (union_so_far self.new ≡ set.union (union_so_far self.old) more.now) }
+        ensures noted { self.new.noted ≡ self.old.noted }
     {
         if more.is_empty() {
             return Ok(());
@@ -56,7 +85,9 @@ impl Union {
 
     // Joins a set to the last one, or puts it above if it is much smaller.
     fn place(&mut self, alloc: Global, more: &Assumptions) -> Result<(), AllocError>
-        ensures { OnOk result (union_so_far self.new ≡ set.union (union_so_far self.old) more.now) }
+        ensures union { OnOk result
+            (union_so_far self.new ≡ set.union (union_so_far self.old) more.now) }
+        ensures noted { self.new.noted ≡ self.old.noted }
     {
         if is_near(self.last.len(), more.len()) {
             let joined = self.last.union(alloc, more)?;
@@ -70,7 +101,8 @@ impl Union {
 
     // Joins what waits to the last set, as far as it isn't much larger.
     fn settle(&mut self, alloc: Global) -> Result<(), AllocError>
-        ensures { OnOk result (union_so_far self.new ≡ union_so_far self.old) }
+        ensures union { OnOk result (union_so_far self.new ≡ union_so_far self.old) }
+        ensures noted { self.new.noted ≡ self.old.noted }
     {
         while let Some(top) = self.below.pop() {
             if !is_near(top.len(), self.last.len()) {
@@ -88,7 +120,12 @@ impl Union {
     pub fn finish(self, alloc: Global) -> Result<Assumptions, AllocError>
         ensures { IfOk result (λ s. s ≡ union_so_far self) }
     {
-        let Union { last, below, few } = self;
+        let Union {
+            last,
+            below,
+            few,
+            ..
+        } = self;
         with_below(alloc, below, with_few(alloc, last, few)?)
     }
 }

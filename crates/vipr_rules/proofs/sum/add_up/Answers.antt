@@ -1,6 +1,8 @@
 use Rattle.std.proofs.Common.{◌+◌, [], ◌∷◌, ◌++◌, Some, None, take, length, sym, ◌∙◌, ap, subst}
-use Rattle.std.proofs.Common.{subst₂, refl, inl, inr, arith}
-use Rattle.std.specs.Prelude.{flat_map}
+use Rattle.std.proofs.Common.{subst₂, refl, inl, inr}
+use Rattle.std.specs.Prelude.{flat_map, IsTrue}
+use Rattle.std.specs.FinSet.{FinSet, contains}
+use Rattle.std.specs.Ordering.{nat_cmp}
 use Rattle.std.proofs.lemmas.Result.{err_from_is_err_and}
 use Rattle.std.proofs.lemmas.List.{length-replicate}
 use Rattle.vipr_spec.specs.Fraction.{zero_ℚ}
@@ -23,7 +25,7 @@ use Rattle.vipr_rules.proofs.SumLemmas.{more_true, sum_is_true}
 use Rattle.vipr_rules.proofs.UnionLemmas.{IsSetOfAll-none, without_it, with_it}
 use Rattle.vipr_table.specs.Unions.{union_so_far}
 use Rattle.vipr_rules.proofs.SoundLemmas.{true_left, true_right}
-use Rattle.vipr_rules.proofs.JoinedLemmas.{joined_more, joined_unused}
+use Rattle.vipr_rules.proofs.JoinedLemmas.{joined_more, union_within}
 use Rattle.vipr_rules.proofs.sum.add_up.Goals as goal
 
 pub loop-position-init : goal.loop-position-init
@@ -35,7 +37,7 @@ loop-position-init g c =
       fresh = ap (λ (a : Accumulator). a.spent) cleared;
       sum = λ P d e is. (refl, refl, subst (Holds (variables c.args.context.now.problem.now) []) (sym cleared) (start_held (variables c.args.context.now.problem.now)), subst (IsSetOfAll d []) (sym c.requires.none) (IsSetOfAll-none d));
       sound = λ says x at h. subst (IsTrueSum (variables c.args.context.now.problem.now) x) (sym cleared) (nothing_true (variables c.args.context.now.problem.now) x);
-      joined = λ k d less. absurd (omega arith);
+      joined = λ i is. absurd (let none = c.requires.not_noted i in cc);
     }
 
 pub add_multiple-requires : goal.add_multiple-requires
@@ -68,23 +70,21 @@ loop-position-preserved g c =
             entry_passes (PassesStep P d (condition s.stated)) _ _ _ lt item so_far.1 (new.sense, held.sense_is) held.fits,
             subst (λ l. Holds n (entries d l) new) (sym more) held,
             subst (λ l. IsSetOfAll d l (union_so_far c.join.new.assumptions)) (sym more)
-                (subst (IsSetOfAll d (take c.loop-position.position c.args.entries.now ++ e ∷ [])) (sym c.in_ok-join.ensures)
+                (subst (IsSetOfAll d (take c.loop-position.position c.args.entries.now ++ e ∷ [])) (sym c.in_ok-join.ensures.union)
                 (with_it d (take c.loop-position.position c.args.entries.now) e (union_so_far c.loop-position.assumptions) so_far.3 (not_zero e.1 used.0) (set_of known) used.1.rests)),
           );
       sound = λ says x here h.
           let sound = rw c.in-Some.is at c.in_ok-known.ensures.sound in
-          let so_far = c.loop-position.invariant.sound says x here (true_left n says x (union_so_far c.loop-position.assumptions) (set_of known) (union_so_far c.join.new.assumptions) c.in_ok-join.ensures h) in
+          let so_far = c.loop-position.invariant.sound says x here (true_left n says x (union_so_far c.loop-position.assumptions) (set_of known) (union_so_far c.join.new.assumptions) c.in_ok-join.ensures.union h) in
           more_true n x c.loop-position.scratch new (e.1, condition_of c.constraint.result.now) so_far (c.in_default-add_multiple.ensures.sum n so_far.es so_far.held)
-          (subst (λ (r : Constraint). IsTrueAt n (condition_of r) x) (sym c.constraint.ensures) (sound says x here (true_right n says x (union_so_far c.loop-position.assumptions) (set_of known) (union_so_far c.join.new.assumptions) c.in_ok-join.ensures h)));
-      joined = joined_more (set_found g.S.Rows.table c.args.context.now) c.args.entries.now c.loop-position.position e lt item (union_so_far c.loop-position.assumptions) (set_of known) (union_so_far c.join.new.assumptions) c.loop-position.invariant.joined (rw c.in-Some.is at c.in_ok-known.ensures.set) c.in_ok-join.ensures;
+          (subst (λ (r : Constraint). IsTrueAt n (condition_of r) x) (sym c.constraint.ensures) (sound says x here (true_right n says x (union_so_far c.loop-position.assumptions) (set_of known) (union_so_far c.join.new.assumptions) c.in_ok-join.ensures.union h)));
+      joined = joined_more (set_found g.S.Rows.table c.args.context.now) e.0 c.loop-position.assumptions c.join.new.assumptions (set_of known) c.loop-position.invariant.joined (rw c.in-Some.is at c.in_ok-known.ensures.set) c.in_ok-join.ensures.union c.in_ok-join.ensures.noted;
     }
 
 pub join-requires : goal.join-requires
-join-requires g c = record {
-  place = c.loop-position-test.true;
-  found = rw c.in-Some.is at c.in_ok-known.ensures.set;
-  joined = c.loop-position.invariant.joined;
-}
+join-requires g c = λ noted.
+    let found = rw c.in-Some.is at c.in_ok-known.ensures.set in
+    union_within (union_so_far c.loop-position.assumptions) _ (λ a has. c.loop-position.invariant.joined _ noted a (subst (λ (s : FinSet nat_cmp). IsTrue (contains s a)) found has))
 
 pub loop-position-preserved-in_default : goal.loop-position-preserved-in_default
 loop-position-preserved-in_default g c =
@@ -107,7 +107,7 @@ loop-position-preserved-in_default g c =
             subst (λ l. IsSetOfAll d l (union_so_far c.loop-position.assumptions)) (sym more) (without_it d (take c.loop-position.position c.args.entries.now) e (union_so_far c.loop-position.assumptions) so_far.3 (λ m. absurd (m none))),
           );
       sound = c.loop-position.invariant.sound;
-      joined = joined_unused (set_found g.S.Rows.table c.args.context.now) c.args.entries.now c.loop-position.position e lt item (union_so_far c.loop-position.assumptions) c.loop-position.invariant.joined (rw c.in_default.is at c.in_ok-known.ensures.used);
+      joined = c.loop-position.invariant.joined;
     }
 
 pub returns-in_err-known-clause-sum : goal.returns-in_err-known-clause-sum

@@ -22,5 +22,5 @@ invariant-loop-position g l =
           × Holds (variables l.context.problem.now) (entries c (take l.position l.entries)) l.scratch × IsSetOfAll c (take l.position l.entries) (union_so_far l.assumptions);
       sound : (says : ℕ → Condition) (x : Point) → IsSoundAt g.S.Rows.table l.context says x
           → AreTrue (variables l.context.problem.now) says (union_so_far l.assumptions) x → IsTrueSum (variables l.context.problem.now) x l.scratch;
-      joined : AreJoined (set_found g.S.Rows.table l.context) l.entries l.position (union_so_far l.assumptions);
+      joined : AreJoined (set_found g.S.Rows.table l.context) l.assumptions;
     }

@@ -1,27 +1,29 @@
-use Rattle.std.proofs.Common.{◌∙◌, ◌^◌, ap, sym}
-use Rattle.std.specs.FinSet.{contains}
-use Rattle.vipr_table.specs.IndexList.{listed_first, listed_behind}
-use Rattle.vipr_table.proofs.RisingLemmas.{rises_left, rises_right}
-use Rattle.vipr_table.proofs.SetLemmas.{parts_have, first_has, second_has}
+use Rattle.std.proofs.Common.{◌||◌, ◌∙◌, ap, ap₂, sym}
+use Rattle.vipr_table.specs.IndexList.{listed_second, listed_more}
+use Rattle.vipr_table.specs.Rising.{has}
+use Rattle.vipr_table.proofs.PartLemmas.{lists_have}
 use Rattle.vipr_table.proofs.assumptions.Assumptions.contains.Goals as goal
-
-pub is_in-requires : goal.is_in-requires
-is_in-requires c = rw c.first.ensures (rises_left 0 (2 ^ 32) (listed_first c.self.inside.list) (listed_behind c.self.inside.list) c.self.invariant)
-
-pub is_in-requires-else-is_in : goal.is_in-requires-else-is_in
-is_in-requires-else-is_in c = rw c.behind.ensures (rises_right 0 (2 ^ 32) (listed_first c.self.inside.list) (listed_behind c.self.inside.list) c.self.invariant)
 
 pub returns-then-is_in : goal.returns-then-is_in
 returns-then-is_in c =
+    let q = c.args.index in
+    let list = c.self.inside.list in
     let first = rw c.first.ensures at c.is_in.ensures in
-    first_has _ _ _ first c.if-is_in.true
-    ∙ sym (parts_have (listed_first c.self.inside.list) (listed_behind c.self.inside.list) c.args.index)
-    ∙ ap (λ s. contains s c.args.index) c.self.view_is
+    sym (lists_have list _ q c.self.view_is ∙ ap (λ b. b || (has (listed_second list) q || has (listed_more list) q)) (sym first ∙ c.if-is_in.true))
 
-pub returns-else-is_in : goal.returns-else-is_in
-returns-else-is_in c =
+pub returns-then-is_in-2 : goal.returns-then-is_in-2
+returns-then-is_in-2 c =
+    let q = c.args.index in
+    let list = c.self.inside.list in
     let first = rw c.first.ensures at c.is_in.ensures in
-    let second = rw c.behind.ensures at c.is_in-else-is_in.ensures in
-    second_has _ _ _ _ first c.if-is_in.false second
-    ∙ sym (parts_have (listed_first c.self.inside.list) (listed_behind c.self.inside.list) c.args.index)
-    ∙ ap (λ s. contains s c.args.index) c.self.view_is
+    let second = rw c.second.ensures at c.is_in-2.ensures in
+    sym (lists_have list _ q c.self.view_is ∙ ap₂ (λ a b. a || (b || has (listed_more list) q)) (sym first ∙ c.if-is_in.false) (sym second ∙ c.if-is_in-2.true))
+
+pub returns : goal.returns
+returns c =
+    let q = c.args.index in
+    let list = c.self.inside.list in
+    let first = rw c.first.ensures at c.is_in.ensures in
+    let second = rw c.second.ensures at c.is_in-2.ensures in
+    let more = rw c.more.ensures at c.is_in-3.ensures in
+    more ∙ sym (lists_have list _ q c.self.view_is ∙ ap₂ (λ a b. a || (b || has (listed_more list) q)) (sym first ∙ c.if-is_in.false) (sym second ∙ c.if-is_in-2.false))

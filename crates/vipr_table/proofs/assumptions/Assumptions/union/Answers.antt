@@ -3,6 +3,7 @@ use Rattle.std.proofs.lemmas.Result.{MatchResult-weaker}
 use Rattle.std.specs.FinSet.{union}
 use Rattle.vipr_table.proofs.SetLemmas.{union_none, union_same}
 use Rattle.vipr_table.proofs.UnionsLemmas.{none_union}
+use Rattle.vipr_table.proofs.PartLemmas.{union_turned}
 use Rattle.vipr_table.proofs.assumptions.Assumptions.union.Goals as goal
 
 pub returns-then-is_empty : goal.returns-then-is_empty
@@ -19,3 +20,8 @@ pub returns-then-is_one : goal.returns-then-is_one
 returns-then-is_one c =
     let same = union_same c.args.self.now ∙ ap (union c.args.self.now) (c.is_one.ensures c.if-is_one.true) in
     MatchResult-weaker c.clone-then-is_one.result c.clone-then-is_one.ensures.cases (λ s e. e ∙ same) (λ _ _. tt)
+
+pub returns-in-Some-2 : goal.returns-in-Some-2
+returns-in-Some-2 c =
+    let longer = rw c.in-Some-2.is at c.in_ok-longer-2.ensures in
+    longer ∙ union_turned c.args.other.now c.args.self.now

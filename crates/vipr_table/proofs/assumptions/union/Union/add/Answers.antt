@@ -7,8 +7,8 @@ use Rattle.vipr_table.proofs.SetLemmas.{union_none}
 use Rattle.vipr_table.proofs.UnionsLemmas.{few_put}
 use Rattle.vipr_table.proofs.assumptions.union.Union.add.Goals as goal
 
-pub returns-then-is_empty : goal.returns-then-is_empty
-returns-then-is_empty c =
+pub returns-then-is_empty-clause-union : goal.returns-then-is_empty-clause-union
+returns-then-is_empty-clause-union c =
     let all = union_so_far c.args.self.now in
     union_none all ∙ ap (union all) (sym (c.is_empty.ensures.0 c.if-is_empty.true))
 
@@ -19,7 +19,7 @@ gathered : {A E : Type 0} (r : Result A E) (rest more : FinSet nat_cmp) (old few
 gathered (Ok x) rest more old few new e f = ap (λ l. union rest (from_list l)) e ∙ few_put rest old few ∙ ap (union (union rest (from_list old))) f
 gathered (Err d) rest more old few new e f = tt
 
-pub returns-in-Some : goal.returns-in-Some
-returns-in-Some c =
+pub returns-in-Some-clause-union : goal.returns-in-Some-clause-union
+returns-in-Some-clause-union c =
     let old = c.args.self.now in
     gathered c.extend_from_slice.result (union (union_of_all old.below.items) old.last) c.args.more.now old.few.items c.in-Some.few.now _ c.extend_from_slice.ensures.items c.in-Some.ensures

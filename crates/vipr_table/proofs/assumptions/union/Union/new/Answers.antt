@@ -2,5 +2,5 @@ use Rattle.std.proofs.Common.{sym}
 use Rattle.vipr_table.proofs.UnionsLemmas.{nothing_gathered}
 use Rattle.vipr_table.proofs.assumptions.union.Union.new.Goals as goal
 
-pub returns : goal.returns
-returns c = rw (c.new.ensures.items, c.empty.ensures, c.new-2.ensures.items) (sym nothing_gathered)
+pub returns-clause-none : goal.returns-clause-none
+returns-clause-none c = rw (c.new.ensures.items, c.empty.ensures, c.new-2.ensures.items) (sym nothing_gathered)

@@ -2,13 +2,14 @@ use Rattle.std.proofs.Common.{◌≡◌, ◌∙◌, ◌++◌, ◌∷◌, [], ap,
 use Rattle.std.proofs.lemmas.Result.{MatchResult-weaker}
 use Rattle.std.specs.FinSet.{union, from_list}
 use Rattle.vipr_table.specs.Unions.{union_of_all, union_so_far}
+use Rattle.vipr_table.specs.declared.assumptions.union.Union.{Union}
 use Rattle.vipr_table.proofs.UnionsLemmas.{union_assoc, one_put, last_two}
 use Rattle.vipr_table.proofs.assumptions.union.Union.place.Goals as goal
 use Rattle.vipr_table.proofs.assumptions.union.Union.place.Goals.{then-is_near+in_ok-joined}
 use Rattle.vipr_table.proofs.assumptions.union.Union.place.Goals.{else-is_near+in_ok-clone+in_ok-push}
 
-pub returns : goal.returns
-returns c =
+pub returns-clause-union : goal.returns-clause-union
+returns-clause-union c =
     let old = c.args.self.now in
     let more = c.args.more.now in
     let all = union_of_all old.below.items in
@@ -21,4 +22,10 @@ returns c =
           ∙ ap₂ (λ ss s. union (union (union_of_all ss) s) few) (w.in_ok-push.ensures.items ∙ ap (λ s. old.below.items ++ s ∷ []) w.replace-last.ensures.value) (w.replace-last.ensures.after ∙ w.in_ok-clone.ensures.cases)
           ∙ ap (λ s. union s few) (one_put old.below.items old.last more) ∙ past
     ] in
-    MatchResult-weaker c.settle.result c.settle.ensures (λ _ e. e ∙ step) (λ _ _. tt)
+    MatchResult-weaker c.settle.result c.settle.ensures.union (λ _ e. e ∙ step) (λ _ _. tt)
+
+pub returns-clause-noted : goal.returns-clause-noted
+returns-clause-noted c = c.settle.ensures.noted ∙ (elim c.if-is_near.branch [
+  | then-is_near+in_ok-joined w ↦ ap (λ (u : Union). u.noted) w.self-is
+  | else-is_near+in_ok-clone+in_ok-push w ↦ ap (λ (u : Union). u.noted) w.self-is
+])
