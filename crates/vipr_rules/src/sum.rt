@@ -269,6 +269,7 @@ fn check_references<S: Rows>(context: &Context<S>, entries: &[(u32, Frac)]) -> R
 
 // The constraint of an entry, tested to come before the derivation and to be live there. An entry
 // with the multiplier 0 uses none, and its index is only tested to come before.
+#[inline(always)]
 fn find_used<'a, S: Rows>(
     context: &Context<'a, S>,
     entry: &(u32, Frac),
