@@ -30,6 +30,10 @@ Those of PRODUCTS have a product of large factors in a short text, which a progr
   split_on_objective     two assumptions `OBJ`, split on again and again
   same_set               a sum that names one large set of assumptions again and again
   alternating_sets       a sum that names two large sets of assumptions in turn
+  nine_sets              a sum that names nine large sets of assumptions in turn
+  joined_sets            sums that join the same two large sets of assumptions, kept to the end
+  growing_at_the_front   sets of assumptions that grow in front of all others, kept to the end
+  growing_in_the_middle  sets of assumptions that grow between all others
 
 Those of STEPS have a product of large factors that has no shorter way, so each of its steps is to be short:
 
@@ -253,6 +257,27 @@ def growing(size):
     yield from proof(assumed(count) + steps[:-1] + [steps[-1][:steps[-1].rindex(' ')] + ' -1'])
 
 
+def joined_one_by_one(count, order, last):
+    """Assumptions, and sums that join one after another in this order."""
+    steps = ['a G 0 0 { asm } -1'] * count + [f'f G 0 0 {lin([(order[0], 1)])} {last or count + 1}']
+    for k, index in enumerate(order[1:], count):
+        steps.append(f'f G 0 0 {lin([(k, 1), (index, 1)])} {last or k + 2}')
+    return steps
+
+
+def growing_at_the_front(size):
+    count = size // 52 + 1
+    yield from problem(1, [], [], 'range -inf inf')
+    yield from proof(joined_one_by_one(count, range(count - 1, -1, -1), -1))
+
+
+def growing_in_the_middle(size):
+    count = size // 56 + 1
+    order = [k // 2 if k % 2 == 0 else count - 1 - k // 2 for k in range(count)]
+    yield from problem(1, [], [], 'range -inf inf')
+    yield from proof(joined_one_by_one(count, order, 0))
+
+
 def one_sum(size):
     count = size // 36
     entries = lin([(k, 1) for k in range(count)])
@@ -350,6 +375,27 @@ def alternating_sets(size):
     yield from proof(steps + [f'f G 0 0 {lin([(i, 1) for i in tops] * count)} -1'])
 
 
+def nine_sets(size):
+    count = size // 85 + 1
+    steps = gathered(count)
+    shared, tops = len(steps) - 1, []
+    for _ in range(9):
+        steps += ['a G 0 0 { asm } -1', f'f G 0 0 {lin([(shared, 1), (len(steps), 1)])} -1']
+        tops.append(len(steps) - 1)
+    yield from problem(1, [], [], 'range -inf inf')
+    yield from proof(steps + [f'f G 0 0 {lin([(i, 1) for i in tops] * (count // 2))} -1'])
+
+
+def joined_sets(size):
+    count = size // 160 + 1
+    steps = gathered(count)
+    tops = [len(steps) - 1]
+    steps += gathered(count, len(steps))
+    tops.append(len(steps) - 1)
+    yield from problem(1, [], [], 'range -inf inf')
+    yield from proof(steps + [f'f G 0 0 {lin([(i, 1) for i in tops])} -1'] * count)
+
+
 def names(size, solutions=()):
     yield from (line[:1] if line[0] == 'x' else line for line in problem(size // 2, [], [], 'range -inf inf'))
     yield from proof([], solutions)
@@ -406,7 +452,7 @@ def long_sum(size):
 
 
 PRODUCTS = [objective_tested, columns_and_objective, objective_stated, objective_kept, weak_goals, split_on_objective,
-            same_set, alternating_sets]
+            same_set, alternating_sets, nine_sets, joined_sets, growing_at_the_front, growing_in_the_middle]
 STEPS = [split_on_rows, wide_divisors]
 KEPT = [names, names_and_solutions, empty_constraints, long_named, short_constraints, long_constraint, integer_indices,
         empty_solutions, empty_sums, assumptions, long_sum]
