@@ -1,5 +1,5 @@
 -- What a writer took of what was to be printed.
-use Rattle.std.specs.Prelude.{◌≡◌, ℕ, List, Option, Some, IfSome, Result, Ok, Err}
+use Rattle.std.specs.Prelude.{◌≡◌, ℕ, suc, List, Option, Some, IfSome, Result, Ok, Err}
 use Rattle.vipr_bytes.specs.Output.{Output}
 use Rattle.vipr_bytes.specs.Written.{Wrote}
 use Rattle.vipr_bytes.specs.declared.write.WriteFailed.{WriteFailed}
@@ -31,3 +31,11 @@ Prints known old new (Err Read) = ⊥
 Prints known old new (Err Memory) = Stays old new
 Prints known old new (Err (Write n)) = (text : List ℕ) × IsText known text
     × Took old new text (Err (after_first n))
+
+-- So many writes had failed or accepted nothing before, if that is known, and so many have now:
+-- one more if a failed write is answered, and else no more.
+abbrev pub CountsWriteFaults : {A : Type 0} → Option ℕ → Option ℕ → Result A CommandFault → Type 0
+CountsWriteFaults old new (Ok x) = IfSome old (λ n. new ≡ Some n)
+CountsWriteFaults old new (Err Read) = IfSome old (λ n. new ≡ Some n)
+CountsWriteFaults old new (Err Memory) = IfSome old (λ n. new ≡ Some n)
+CountsWriteFaults old new (Err (Write k)) = IfSome old (λ n. new ≡ Some (suc n))

@@ -1,5 +1,5 @@
 //! How a text is printed.
-ghost use Rattle.vipr_command.specs.Output.{Prints};
+ghost use Rattle.vipr_command.specs.Output.{CountsWriteFaults, Prints};
 
 use crate::fault::CommandFault;
 use std::alloc::Global;
@@ -16,7 +16,8 @@ pub fn print<T: Display, W: Sink>(
     text: &T,
     writer: &mut W,
 ) -> Result<(), CommandFault>
-    ensures { Prints (T.output text.now) (W.output writer.old) (W.output writer.new) result }
+    ensures text { Prints (T.output text.now) (W.output writer.old) (W.output writer.new) result }
+    ensures failures { CountsWriteFaults (W.failures writer.old) (W.failures writer.new) result }
 {
     let text = text.to_string(alloc)?;
     let written = write_bytes(writer, text.as_bytes());

@@ -1,5 +1,6 @@
 //! Shows a certificate: writes its text in a form.
 ghost use Rattle.vipr_bytes.specs.Known.{IfWhole};
+ghost use Rattle.vipr_command.specs.Output.{CountsWriteFaults};
 ghost use Rattle.vipr_command.specs.Run.{OfInput, PrintsText};
 ghost use Rattle.vipr_command.specs.Show.{ShowsText, WritesText, text_spelling};
 
@@ -41,6 +42,8 @@ pub fn show<R: Source + Drop, W: Sink>(
     // The certificate is what the text spells, and it is refused where it spells none.
     ensures spelled { IfWhole (R.input source) (λ bytes. ShowsText form (text_spelling bytes)
         (W.output writer.old) (W.output writer.new) result) }
+    // A write that fails or takes nothing is the last one.
+    ensures failures { CountsWriteFaults (W.failures writer.old) (W.failures writer.new) result }
 {
     match respell(alloc, form, source) {
         Ok(text) => write_text(alloc, &text, writer),
@@ -60,7 +63,8 @@ fn write_text<W: Sink>(
     text: &FoldedText,
     writer: &mut W,
 ) -> Result<Shown, CommandFault>
-    ensures { WritesText (W.output writer.old) (W.output writer.new) text.now.bytes result }
+    ensures text { WritesText (W.output writer.old) (W.output writer.new) text.now.bytes result }
+    ensures failures { CountsWriteFaults (W.failures writer.old) (W.failures writer.new) result }
 {
     match text.write_to(alloc, writer) {
         Ok(()) => Ok(Shown::Whole),

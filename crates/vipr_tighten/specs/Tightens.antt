@@ -1,5 +1,5 @@
 -- What `tighten` answers for what the source gives, and what was written then
-use Rattle.std.specs.Prelude.{◌≡◌, ⊤, ℕ, ◌+◌, ◌<◌, ◌≤◌, true, List, length, Option, Some}
+use Rattle.std.specs.Prelude.{◌≡◌, ⊤, ℕ, suc, ◌+◌, ◌<◌, ◌≤◌, true, List, length, Option, Some}
 use Rattle.std.specs.Prelude.{IfSome, Result, Ok, Err}
 use Rattle.vipr_spec.specs.Input.{Input}
 use Rattle.vipr_spec.specs.Constraint.{Profile, one}
@@ -100,6 +100,14 @@ TightensText P F k old new (Err Read) = k.IsCutShort × TakesNothing old new
 TightensText P F k old new (Err (Memory n)) = (n ≡ 0) × TakesNothing old new
 TightensText P F k old new (Err (Write n)) =
     ForProof P F k (λ c t text. TakesText old new text (Err n))
+
+-- So many writes had failed or accepted nothing before, if that is known, and so many have now:
+-- one more if a failed write is answered, and else no more.
+abbrev pub CountsFailures : Option ℕ → Option ℕ → Result Outcome TightenFault → Type 0
+CountsFailures old new (Ok x) = IfSome old (λ n. new ≡ Some n)
+CountsFailures old new (Err Read) = IfSome old (λ n. new ≡ Some n)
+CountsFailures old new (Err (Memory k)) = IfSome old (λ n. new ≡ Some n)
+CountsFailures old new (Err (Write k)) = IfSome old (λ n. new ≡ Some (suc n))
 
 -- a text of which nothing is known
 abbrev pub any_kind : KindOfText

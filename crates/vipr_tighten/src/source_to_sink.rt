@@ -10,7 +10,7 @@ ghost use Rattle.vipr_rules.specs.Profile.{profile_of};
 ghost use Rattle.vipr_write.specs.declared.form.Form.{Form as FormMeant};
 ghost use Rattle.vipr_tighten.specs.Keeping.{IsKeptOf};
 ghost use Rattle.vipr_tighten.specs.Tightens.{Tightens, TightensAs, TightensIn, TightensText};
-ghost use Rattle.vipr_tighten.specs.Tightens.{kind_of, unproved_answer};
+ghost use Rattle.vipr_tighten.specs.Tightens.{CountsFailures, kind_of, unproved_answer};
 
 use crate::certificate::tighten_steps;
 use crate::outcome::{Outcome, TightenFault};
@@ -48,7 +48,8 @@ pub fn tighten<R: Source + Drop, W: Sink>(
     source: R,
     sink: &mut W,
 ) -> Result<Outcome, TightenFault>
-    ensures { Tightens (R.input source) (W.output sink.old) (W.output sink.new) result }
+    ensures tightens { Tightens (R.input source) (W.output sink.old) (W.output sink.new) result }
+    ensures failures { CountsFailures (W.failures sink.old) (W.failures sink.new) result }
 {
     tighten_in(alloc, Profile::One, source, sink)
 }
@@ -65,8 +66,9 @@ pub fn tighten_in<R: Source + Drop, W: Sink>(
     source: R,
     sink: &mut W,
 ) -> Result<Outcome, TightenFault>
-    ensures { TightensIn (profile_of profile) (R.input source) (W.output sink.old)
+    ensures tightens { TightensIn (profile_of profile) (R.input source) (W.output sink.old)
         (W.output sink.new) result }
+    ensures failures { CountsFailures (W.failures sink.old) (W.failures sink.new) result }
 {
     tighten_as(alloc, profile, Form::Canonical, source, sink)
 }
@@ -85,8 +87,9 @@ pub fn tighten_as<R: Source + Drop, W: Sink>(
     source: R,
     sink: &mut W,
 ) -> Result<Outcome, TightenFault>
-    ensures { TightensAs (profile_of profile) form (R.input source) (W.output sink.old)
+    ensures tightens { TightensAs (profile_of profile) form (R.input source) (W.output sink.old)
         (W.output sink.new) result }
+    ensures failures { CountsFailures (W.failures sink.old) (W.failures sink.new) result }
 {
     match read_proof(alloc, profile, form, source) {
         Ok(mut proof) => {
@@ -117,8 +120,10 @@ fn write_tightened<W: Sink>(
 ) -> Result<Outcome, TightenFault>
     requires { (P : ProfileMeant) × (F : FormMeant) × (c : CertificateMeant)
         × IsKeptOf P F c proof.old }
-    ensures { (P : ProfileMeant) (F : FormMeant) (c : CertificateMeant) → IsKeptOf P F c proof.old
+    ensures text { (P : ProfileMeant) (F : FormMeant) (c : CertificateMeant)
+        → IsKeptOf P F c proof.old
         → TightensText P F (kind_of c) (W.output sink.old) (W.output sink.new) result }
+    ensures failures { CountsFailures (W.failures sink.old) (W.failures sink.new) result }
 {
     let first = proof.problem.cons().len();
     tighten_steps(alloc, &mut proof.steps, first as u32, proof.report.goal)?;

@@ -8,8 +8,8 @@ returns-in_err-verdict g c =
 
 pub returns-in_err-print : goal.returns-in_err-print
 returns-in_err-print g c =
-    verdict_not_printed (g.R.Source.input c.args.source) (profile_of c.args.profile) (g.O.Sink.output c.args.out.now) c.in_ok-verdict.verdict (c.in_ok-verdict.ensures.any, c.in_ok-verdict.ensures.exact) (g.O.Sink.output c.print.new.writer) c.in_err-print.field-0.0 c.from_residual-in_err-print.result c.from_residual-in_err-print.ensures.1 c.in_err-print.ensures
+    verdict_not_printed (g.R.Source.input c.args.source) (profile_of c.args.profile) (g.O.Sink.output c.args.out.now) c.in_ok-verdict.verdict (c.in_ok-verdict.ensures.any, c.in_ok-verdict.ensures.exact) (g.O.Sink.output c.print.new.writer) c.in_err-print.field-0.0 c.from_residual-in_err-print.result c.from_residual-in_err-print.ensures.1 c.in_err-print.ensures.text
 
 pub returns : goal.returns
 returns g c =
-    verdict_printed (g.R.Source.input c.args.source) (profile_of c.args.profile) (g.O.Sink.output c.args.out.now) c.in_ok-verdict.verdict (c.in_ok-verdict.ensures.any, c.in_ok-verdict.ensures.exact) (g.O.Sink.output c.print.new.writer) c.status_of.result c.status_of.ensures c.in_ok-print.ensures
+    verdict_printed (g.R.Source.input c.args.source) (profile_of c.args.profile) (g.O.Sink.output c.args.out.now) c.in_ok-verdict.verdict (c.in_ok-verdict.ensures.any, c.in_ok-verdict.ensures.exact) (g.O.Sink.output c.print.new.writer) c.status_of.result c.status_of.ensures c.in_ok-print.ensures.text

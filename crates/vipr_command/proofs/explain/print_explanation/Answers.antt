@@ -8,8 +8,8 @@ returns-in_err-verdict g c =
 
 pub returns-in_err-printed : goal.returns-in_err-printed
 returns-in_err-printed g c =
-    not_printed (g.R.Source.input c.args.source) (profile_of c.args.profile) (g.O.Sink.output c.args.out.now) c.in_ok-verdict.verdict c.in_ok-verdict.detail (c.in_ok-verdict.ensures.verdict.any, c.in_ok-verdict.ensures.detail) (g.O.Sink.output c.print-printed.new.writer) c.in_err-printed.field-0.0 c.from_residual-in_err-printed.result c.from_residual-in_err-printed.ensures.1 c.in_err-printed.ensures
+    not_printed (g.R.Source.input c.args.source) (profile_of c.args.profile) (g.O.Sink.output c.args.out.now) c.in_ok-verdict.verdict c.in_ok-verdict.detail (c.in_ok-verdict.ensures.verdict.any, c.in_ok-verdict.ensures.detail) (g.O.Sink.output c.print-printed.new.writer) c.in_err-printed.field-0.0 c.from_residual-in_err-printed.result c.from_residual-in_err-printed.ensures.1 c.in_err-printed.ensures.text
 
 pub returns : goal.returns
 returns g c =
-    printed (g.R.Source.input c.args.source) (profile_of c.args.profile) (g.O.Sink.output c.args.out.now) c.in_ok-verdict.verdict c.in_ok-verdict.detail (c.in_ok-verdict.ensures.verdict.any, c.in_ok-verdict.ensures.detail) (g.O.Sink.output c.print-printed.new.writer) c.status_of.result c.status_of.ensures c.in_ok-printed.ensures
+    printed (g.R.Source.input c.args.source) (profile_of c.args.profile) (g.O.Sink.output c.args.out.now) c.in_ok-verdict.verdict c.in_ok-verdict.detail (c.in_ok-verdict.ensures.verdict.any, c.in_ok-verdict.ensures.detail) (g.O.Sink.output c.print-printed.new.writer) c.status_of.result c.status_of.ensures c.in_ok-printed.ensures.text

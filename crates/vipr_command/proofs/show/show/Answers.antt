@@ -9,7 +9,7 @@ use Rattle.vipr_command.proofs.show.show.Goals.{After-write_text}
 shown : (g : Over) (c : After-write_text g) (k : Kind) → k.Spelled c.in-Ok.ensures.0
     → ShowsText c.args.form k (g.W.Sink.output c.args.writer.now)
     (g.W.Sink.output c.write_text.new.writer) c.write_text.result
-shown g c = shown_by c.args.form (g.W.Sink.output c.args.writer.now) (g.W.Sink.output c.write_text.new.writer) c.in-Ok.text.bytes c.in-Ok.ensures.0 c.write_text.result c.in-Ok.ensures.1 c.write_text.ensures
+shown g c = shown_by c.args.form (g.W.Sink.output c.args.writer.now) (g.W.Sink.output c.write_text.new.writer) c.in-Ok.text.bytes c.in-Ok.ensures.0 c.write_text.result c.in-Ok.ensures.1 c.write_text.ensures.text
 
 pub returns-in-Ok-clause-exact : goal.returns-in-Ok-clause-exact
 returns-in-Ok-clause-exact g c =

@@ -22,7 +22,7 @@ returns-in_err-outcome g c =
     let r = c.tighten_as-tightened.result in
     let f = c.in_err-outcome.field-0.0 in
     let q = err_from_is_err_and c.from_residual-in_err-outcome.result c.from_residual-in_err-outcome.ensures.1 in
-    rw (q.1, q.2) (of_input source (λ k. TightensText P F (k.proof P) None None r) (λ k. WritesFile P F (k.proof P) (Err f)) (λ k. failed P F (k.proof P) r f c.in_err-outcome.ensures) (known P F source None None r c.tighten_as-tightened.ensures))
+    rw (q.1, q.2) (of_input source (λ k. TightensText P F (k.proof P) None None r) (λ k. WritesFile P F (k.proof P) (Err f)) (λ k. failed P F (k.proof P) r f c.in_err-outcome.ensures) (known P F source None None r c.tighten_as-tightened.ensures.tightens))
 
 pub returns : goal.returns
 returns g c =
@@ -30,4 +30,4 @@ returns g c =
     let F = c.args.form in
     let source = g.R.Source.input c.args.source in
     let r = c.tighten_as-tightened.result in
-    of_input source (λ k. TightensText P F (k.proof P) None None r) (λ k. WritesFile P F (k.proof P) (Ok c.status_of.result)) (λ k. kept P F (k.proof P) r c.in_ok-outcome.outcome c.status_of.result c.status_of.ensures c.in_ok-outcome.ensures) (known P F source None None r c.tighten_as-tightened.ensures)
+    of_input source (λ k. TightensText P F (k.proof P) None None r) (λ k. WritesFile P F (k.proof P) (Ok c.status_of.result)) (λ k. kept P F (k.proof P) r c.in_ok-outcome.outcome c.status_of.result c.status_of.ensures c.in_ok-outcome.ensures) (known P F source None None r c.tighten_as-tightened.ensures.tightens)

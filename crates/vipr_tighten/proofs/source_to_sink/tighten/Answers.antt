@@ -12,5 +12,5 @@ in_one : {P : Profile} {source : Option Input} {old new : Option Output} {x :
     → Tightens source old new x
 in_one {P} {source} {old} {new} {x} h e = subst (λ Q. TightensIn Q source old new x) e h
 
-pub returns : goal.returns
-returns g c = in_one c.tighten_in.ensures refl
+pub returns-clause-tightens : goal.returns-clause-tightens
+returns-clause-tightens g c = in_one c.tighten_in.ensures.tightens refl

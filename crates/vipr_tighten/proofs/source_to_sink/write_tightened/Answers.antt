@@ -1,12 +1,26 @@
 use Rattle.std.proofs.Common.{◌≡◌, length, map, arith, rules}
+use Rattle.vipr_spec.specs.Constraint.{Profile}
+use Rattle.vipr_spec.specs.Certificate.{Certificate}
 use Rattle.vipr_spec.specs.Tightened.{tightened_certificate}
 use Rattle.vipr_cert.specs.Items.{solution_of}
 use Rattle.vipr_write.specs.Forms.{text_in}
 use Rattle.vipr_write.specs.Steps.{AreStepsOf}
+use Rattle.vipr_write.specs.declared.form.Form.{Form}
+use Rattle.vipr_tighten.specs.Keeping.{IsKeptOf}
 use Rattle.vipr_tighten.proofs.Kept.{few_steps, earlier_steps, goal_among, tight_steps, tight_few}
 use Rattle.vipr_tighten.proofs.Kept.{tight_fewer, tightens_whole, tightens_part}
 use Rattle.vipr_tighten.proofs.Outcomes.{written_not}
+use Rattle.vipr_tighten.proofs.source_to_sink.write_tightened.Given.{Over}
 use Rattle.vipr_tighten.proofs.source_to_sink.write_tightened.Goals as goal
+use Rattle.vipr_tighten.proofs.source_to_sink.write_tightened.Goals.{After-write_steps}
+
+-- the steps that are written are those of the tightened certificate
+steps_of : (g : Over) (c : After-write_steps g) (P : Profile) (F : Form) (x : Certificate)
+    → IsKeptOf P F x c.args.proof.now
+    → AreStepsOf (tightened_certificate x c.args.proof.now.report.goal) c.args.proof.now.problem
+    (map solution_of c.deref-2.result.now) c.args.proof.now.statements c.deref-3.result.now
+steps_of g c P F x is =
+    rw (c.deref-2.ensures.value, c.deref-3.ensures.value) (tight_steps P F x c.args.proof.now is c.cons-first.result.now c.cons-first.ensures.constraints c.tighten_steps.new.steps.items c.in_ok-tighten_steps.ensures)
 
 pub tighten_steps-requires-clause-few : goal.tighten_steps-requires-clause-few
 tighten_steps-requires-clause-few g c =
@@ -44,35 +58,48 @@ overflow_sub-result g c =
     let size : c.len-kept.result ≡ length kept = search rules in
     omega arith
 
-pub returns-in-Ok : goal.returns-in-Ok
-returns-in-Ok g c = λ P F x is.
+pub returns-in-Ok-clause-text : goal.returns-in-Ok-clause-text
+returns-in-Ok-clause-text g c = λ P F x is.
     let k = c.args.proof.now in
     let kept = c.tighten_steps.new.steps.items in
     let all = c.in_ok-tighten_steps.ensures in
-    let of : AreStepsOf (tightened_certificate x k.report.goal) k.problem (map solution_of c.deref-2.result.now) k.statements c.deref-3.result.now =
-    rw (c.deref-2.ensures.value, c.deref-3.ensures.value) (tight_steps P F x k is c.cons-first.result.now c.cons-first.ensures.constraints kept all) in
+    let of = steps_of g (goal.at.returns-in-Ok-clause-text g c).After-write_steps P F x is in
     let size : c.len-kept.result ≡ length kept = search rules in
     tightens_whole P F x k is c.cons-first.result.now c.cons-first.ensures.constraints kept all (c.in-Ok.ensures.law _ of)
     (g.W.Sink.output c.args.sink.now) (g.W.Sink.output c.write_steps.new.sink) c.len-kept.result c.in_ok-peak_after.peak_after size (rw c.deref.ensures.value at c.in_ok-peak_after.ensures) (c.in-Ok.ensures.output _ of)
 
-pub returns-in-Err-Memory : goal.returns-in-Err-Memory
-returns-in-Err-Memory g c = λ P F x is.
+pub returns-in-Err-Memory-clause-text : goal.returns-in-Err-Memory-clause-text
+returns-in-Err-Memory-clause-text g c = λ P F x is.
     let k = c.args.proof.now in
-    let kept = c.tighten_steps.new.steps.items in
     let t = tightened_certificate x k.report.goal in
-    let of : AreStepsOf t k.problem (map solution_of c.deref-2.result.now) k.statements c.deref-3.result.now =
-    rw (c.deref-2.ensures.value, c.deref-3.ensures.value) (tight_steps P F x k is c.cons-first.result.now c.cons-first.ensures.constraints kept c.in_ok-tighten_steps.ensures) in
+    let of = steps_of g (goal.at.returns-in-Err-Memory-clause-text g c).After-write_steps P F x is in
     let h = rw c.in-Err-Memory.field-0-is at c.in-Err-Memory.ensures in
     rw c.in-Err-Memory.field-0-is (written_not P F x (g.W.Sink.output c.args.sink.now) (g.W.Sink.output c.write_steps.new.sink) (text_in k.statements.form t) c.in-Err-Memory.taken (h.part t of) (h.output t of))
 
-pub returns-in-Err-Write : goal.returns-in-Err-Write
-returns-in-Err-Write g c = λ P F x is.
+pub returns-in-Err-Write-clause-text : goal.returns-in-Err-Write-clause-text
+returns-in-Err-Write-clause-text g c = λ P F x is.
     let k = c.args.proof.now in
     let kept = c.tighten_steps.new.steps.items in
     let all = c.in_ok-tighten_steps.ensures in
     let t = tightened_certificate x k.report.goal in
-    let of : AreStepsOf t k.problem (map solution_of c.deref-2.result.now) k.statements c.deref-3.result.now =
-    rw (c.deref-2.ensures.value, c.deref-3.ensures.value) (tight_steps P F x k is c.cons-first.result.now c.cons-first.ensures.constraints kept all) in
+    let of = steps_of g (goal.at.returns-in-Err-Write-clause-text g c).After-write_steps P F x is in
     let h = rw c.in-Err-Write.field-0-is at c.in-Err-Write.ensures in
     rw c.in-Err-Write.field-0-is (tightens_part P F x k is c.cons-first.result.now c.cons-first.ensures.constraints kept all (h.law t of)
     (g.W.Sink.output c.args.sink.now) (g.W.Sink.output c.write_steps.new.sink) c.in-Err-Write.taken (h.part t of) (h.output t of))
+
+pub returns-in-Ok-clause-failures : goal.returns-in-Ok-clause-failures
+returns-in-Ok-clause-failures g c =
+    let (P, F, x, is) = c.requires in
+    c.in-Ok.ensures.failures _ (steps_of g (goal.at.returns-in-Ok-clause-failures g c).After-write_steps P F x is)
+
+pub returns-in-Err-Memory-clause-failures : goal.returns-in-Err-Memory-clause-failures
+returns-in-Err-Memory-clause-failures g c =
+    let (P, F, x, is) = c.requires in
+    let h = rw c.in-Err-Memory.field-0-is at c.in-Err-Memory.ensures in
+    h.failures _ (steps_of g (goal.at.returns-in-Err-Memory-clause-failures g c).After-write_steps P F x is)
+
+pub returns-in-Err-Write-clause-failures : goal.returns-in-Err-Write-clause-failures
+returns-in-Err-Write-clause-failures g c =
+    let (P, F, x, is) = c.requires in
+    let h = rw c.in-Err-Write.field-0-is at c.in-Err-Write.ensures in
+    h.failures _ (steps_of g (goal.at.returns-in-Err-Write-clause-failures g c).After-write_steps P F x is)
