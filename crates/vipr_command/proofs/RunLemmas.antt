@@ -2,7 +2,7 @@
 -- what is read
 use Rattle.std.proofs.Common.{◌≡◌, ◌⊎◌, Bor, option_map, ℕ, List, Option, Some, None, Result, Ok, Err}
 use Rattle.std.proofs.Common.{Bool, true, false, inl, inr, refl, sym, subst}
-use Rattle.std.specs.Prelude.{IfOk}
+use Rattle.std.specs.Prelude.{IfOk, IfSome}
 use Rattle.clap.specs.Words.{HasKind, Text, kind_of}
 use Rattle.clap.specs.declared.error.Error.{Error}
 use Rattle.clap.specs.declared.error.ErrorKind.{ErrorKind}
@@ -18,11 +18,11 @@ use Rattle.vipr_tighten.specs.declared.outcome.Outcome.TheVariants.{Tightened, R
 use Rattle.vipr_tighten.specs.declared.outcome.TightenFault.{TightenFault}
 use Rattle.vipr_tighten.specs.declared.outcome.TightenFault.TheVariants as tighten
 use Rattle.vipr_command.specs.Args.{are_accepted, request_of, asked_by, words_fault}
-use Rattle.vipr_command.specs.Run.{AnswersError, Declines, Does, DoesJob, IsStatusFor, KnownInput}
-use Rattle.vipr_command.specs.Run.{OfInput, PrintsInMemory, RunsOver, exit_status, read_from}
-use Rattle.vipr_command.specs.Run.{unknown_input}
+use Rattle.vipr_command.specs.Folder.{IsFileOf, Names, text_held, unknown_files}
+use Rattle.vipr_command.specs.Run.{AnswersError, Declines, Does, DoesJob, FailsToRead, IsStatusFor}
+use Rattle.vipr_command.specs.Run.{KnownInput, OfInput, PrintsInMemory, RunsOver, UnlessMissing}
+use Rattle.vipr_command.specs.Run.{exit_status, read_from, unknown_input}
 use Rattle.vipr_command.specs.Show.{Kind, ShowsText}
-use Rattle.vipr_command.proofs.InputLemmas.{of_any, of_input}
 use Rattle.vipr_command.proofs.ShowLemmas.{stays}
 use Rattle.vipr_command.specs.declared.fault.CommandFault.{CommandFault}
 use Rattle.vipr_command.specs.declared.fault.CommandFault.TheVariants.{Memory, Read, Write}
@@ -32,12 +32,12 @@ use Rattle.vipr_command.specs.declared.request.Job.{Job}
 use Rattle.vipr_command.specs.declared.request.Task.{Task}
 use Rattle.vipr_command.specs.declared.request.Task.TheVariants.{Check, Explain, Show, Tighten}
 
-pub declined : (words : List Text) (k : KnownInput) (e : Error) (old new : Option Output)
-    (r : Result ℕ CommandFault) → HasKind (words_fault words) e → AnswersError (kind_of e) old new r
-    → RunsOver words k old new r
-declined words k e old new r (inl memory) (inl (other, d)) = absurd (other memory)
-declined words k e old new r (inr among) (inl (other, d)) = inr (inl (kind_of e, among, d))
-declined words k e old new r has (inr (memory, l)) = inr (inr l)
+pub declined : (words : List Text) (holds : Names) (input : Option Input) (e : Error)
+    (old new : Option Output) (r : Result ℕ CommandFault) → HasKind (words_fault words) e
+    → AnswersError (kind_of e) old new r → RunsOver words holds input old new r
+declined words holds input e old new r (inl memory) (inl (other, d)) = absurd (other memory)
+declined words holds input e old new r (inr among) (inl (other, d)) = inr (inl (kind_of e, among, d))
+declined words holds input e old new r has (inr (memory, l)) = inr (inr l)
 
 not_true : (b : Bool) → (b ≡ true → ⊥) → b ≡ false
 not_true true n = absurd (n refl)
@@ -103,15 +103,40 @@ does_untold Show P F l s out k old new (Err f) shows = shows_untold F k.kind old
 does_untold Tighten P F l s None k old new r (x, is, tightens) = (x, is, tightens_untold P F (k.proof P) old new x tightens)
 does_untold Tighten P F l s (Some out) k old new r (tightened, stays) = (tightened, tt)
 
-untold : (words : List Text) (k : KnownInput) (old new : Option Output) (r : Result ℕ CommandFault)
-    → RunsOver words k old new r → RunsOver words k None None r
-untold words k old new r (inl (t, P, F, l, s, file, out, request_of, does)) = inl (t, P, F, l, s, file, out, request_of, does_untold t (profile_of P) F l s out (read_from file k) old new r does)
-untold words k old new r (inr (inl (e, among, declines))) = inr (inl (e, among, declines_untold e old new r declines))
-untold words k old new r (inr (inr (is, stays))) = inr (inr (is, tt))
+-- of a folder of which nothing is known, nothing is read that is known
+nothing_known : (file : Option Text) → read_from unknown_files None file ≡ None
+nothing_known None = refl
+nothing_known (Some f) = refl
 
-pub fits : (words : List Text) (old new : Option Output) (r : Result ℕ CommandFault)
-    → RunsOver words unknown_input old new r → IsStatusFor words (exit_status r)
-fits words old new r obeys = (r, refl, untold words unknown_input old new r obeys)
+never_missing : (file : Option Text) (old new : Option Output) (r : Result ℕ CommandFault)
+    → UnlessMissing unknown_files file old new r
+never_missing None old new r = tt
+never_missing (Some f) old new r = λ missing. cc
+
+untold : (words : List Text) (holds : Names) (input : Option Input) (old new : Option Output)
+    (r : Result ℕ CommandFault) → RunsOver words holds input old new r
+    → RunsOver words unknown_files None None None r
+untold words holds input old new r (inl (t, P, F, l, s, file, out, asked, does, found)) =
+    let Done : Option Input → Type 0 = λ x. OfInput x (λ k. Does t (profile_of P) F l s out k None None r) in
+    inl (
+      t,
+      P,
+      F,
+      l,
+      s,
+      file,
+      out,
+      asked,
+      subst Done (sym (nothing_known file)) (does_untold t (profile_of P) F l s out unknown_input old new r does.0, tt),
+      never_missing file None None r,
+    )
+untold words holds input old new r (inr (inl (e, among, declines))) = inr (inl (e, among, declines_untold e old new r declines))
+untold words holds input old new r (inr (inr (is, stays))) = inr (inr (is, tt))
+
+pub fits : (words : List Text) (holds : Names) (input : Option Input) (old new : Option Output)
+    (r : Result ℕ CommandFault) → RunsOver words holds input old new r
+    → IsStatusFor words (exit_status r)
+fits words holds input old new r obeys = (r, refl, untold words holds input old new r obeys)
 
 -- a file that can't be opened
 unread : (t : Task) (P : Profile) (F : Form) (l s : Bool) (out : Option Text) (old : Option Output)
@@ -125,25 +150,50 @@ unread Show P F l s out old = (tt, stays old)
 unread Tighten P F l s None old = (Err tighten.Read, refl, (tt, stays old))
 unread Tighten P F l s (Some out) old = (inl (Err tighten.Read, refl, (tt, tt)), stays old)
 
-pub unread_job : (j : Job) (old : Option Output) → DoesJob j unknown_input old old (Err Read)
+unread_job : (j : Job) (old : Option Output) → DoesJob j unknown_input old old (Err Read)
 unread_job j old = unread j.command (profile_of j.profile) j.form j.is_long j.has_sum (option_map (λ s. s.now) j.out) old
+
+-- what a folder opened
+module _ {S : Type 0} (E : Type 0) (input : S → Option Input) (held : Option (Option Input)) where
+  abbrev Opened : Result S E → Type 0
+  Opened r = IfSome held (λ h. IsFileOf input h r)
+
+  pub done_with_opened : (s : S) (P : KnownInput → Type 0) → Opened (Ok s) → OfInput (input s) P → OfInput (text_held held) P
+  done_with_opened s P opened done = go held opened
+    where
+      go : (h : Option (Option Input)) → IfSome h (λ h. IsFileOf {S = S} {E = E} input h (Ok s)) → OfInput (text_held h) P
+      go None o = (done.0, tt)
+      go (Some None) o = absurd o
+      go (Some (Some i)) o = subst (λ x. OfInput x P) o done
+
+  pub never_opened : (s : S) → Opened (Ok s) → held ≡ Some None → ⊥
+  never_opened s opened missing = let P : Option (Option Input) → Type 0 = λ h. IfSome h (λ h. IsFileOf {S = S} {E = E} input h (Ok s)) in absurd (subst P missing opened)
+
+  pub unopened : (e : E) (j : Job) (old : Option Output) → Opened (Err e) → OfInput (text_held held) (λ k. DoesJob j k old old (Err Read))
+  unopened e j old opened = go held opened
+    where
+      go : (h : Option (Option Input)) → IfSome h (λ h. IsFileOf {S = S} {E = E} input h (Err e)) → OfInput (text_held h) (λ k. DoesJob j k old old (Err Read))
+      go None o = (unread_job j old, tt)
+      go (Some None) o = (unread_job j old, tt)
+      go (Some (Some i)) o = absurd o
 
 abbrev pub named : Option (Bor (List ℕ)) → Option Text
 named o = option_map (λ s. s.now) o
 
-module _ (j : Job) (source : Option Input) (old new : Option Output) (r : Result ℕ CommandFault) where
+module _ (j : Job) (holds : Names) (source : Option Input) (old new : Option Output) (r : Result ℕ CommandFault) where
   -- the task is done with what is read
   abbrev DoneWith : Option (Bor (List ℕ)) → Type 0
-  DoneWith file = OfInput source (λ k. DoesJob j (read_from (named file) k) old new r)
+  DoneWith file = OfInput (read_from holds source (named file)) (λ k. DoesJob j k old new r) × UnlessMissing holds (named file) old new r
 
   -- no file is named
   pub done_with_input : j.file ≡ None → OfInput source (λ k. DoesJob j k old new r) → DoneWith j.file
-  done_with_input is done = subst DoneWith (sym is) done
+  done_with_input is done = subst DoneWith (sym is) (done, tt)
 
-  -- of a file nothing is known
-  pub done_with_file : (file : Bor (List ℕ)) → j.file ≡ Some file → DoesJob j unknown_input old new r → DoneWith j.file
-  done_with_file file is done = subst DoneWith (sym is) (of_any source (λ _. DoesJob j unknown_input old new r) (λ _. done))
+  -- a file of the folder
+  pub done_with_file : (file : Bor (List ℕ)) → j.file ≡ Some file → OfInput (text_held (holds file.now)) (λ k. DoesJob j k old new r) → (holds file.now ≡ Some None → FailsToRead old new r) → DoneWith j.file
+  done_with_file file is done found = subst DoneWith (sym is) (done, found)
 
+module _ (j : Job) (source : Option Input) (old new : Option Output) (r : Result ℕ CommandFault) where
   -- what is done is this task
   pub done_as : (t : Task) → j.command ≡ t → OfInput source (λ k. Does t (profile_of j.profile) j.form j.is_long j.has_sum (named j.out) k old new r) → OfInput source (λ k. DoesJob j k old new r)
   done_as t is done = subst (λ (t : Task). OfInput source (λ k. Does t (profile_of j.profile) j.form j.is_long j.has_sum (named j.out) k old new r)) (sym is) done
@@ -164,9 +214,7 @@ module _ (source : Option Input) (P : Profile) (F : Form) (out : Option Text) (o
   explained_in_memory false false (inr is) h = cc
 
 -- the words ask for what is done
-pub obeyed : (words : List Text) (j : Job) → asked_by words ≡ Some (request_of j)
-    → (source : Option Input) (old new : Option Output) (r : Result ℕ CommandFault)
-    → OfInput source (λ k. DoesJob j (read_from (named j.file) k) old new r)
-    → OfInput source (λ k. RunsOver words k old new r)
-obeyed words j is source old new r = of_input source (λ k. DoesJob j (read_from (named j.file) k) old new r) (λ k. RunsOver words k old new r)
-    (λ k done. inl (j.command, j.profile, j.form, j.is_long, j.has_sum, named j.file, named j.out, is, done))
+pub obeyed : (words : List Text) (j : Job) → asked_by words ≡ Some (request_of j) → (holds : Names)
+    (source : Option Input) (old new : Option Output) (r : Result ℕ CommandFault)
+    → DoneWith j holds source old new r j.file → RunsOver words holds source old new r
+obeyed words j is holds source old new r (done, found) = inl (j.command, j.profile, j.form, j.is_long, j.has_sum, named j.file, named j.out, is, done, found)

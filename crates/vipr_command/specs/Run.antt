@@ -31,6 +31,7 @@ use Rattle.vipr_write.specs.declared.write.WriteError.TheVariants as write
 use Rattle.vipr_page.specs.Page.{IsPage}
 use Rattle.vipr_command.specs.Args.{asked_by, command_word, words_fault}
 use Rattle.vipr_command.specs.Text.{answer_lines, sum_read, verdict_lines}
+use Rattle.vipr_command.specs.Folder.{Names, text_held, unknown_files}
 use Rattle.vipr_command.specs.Output.{Took, Stays, after_first}
 use Rattle.vipr_command.specs.Show.{Kind, ShowsText, any_text, text_read}
 use Rattle.vipr_command.specs.Tighten.{WritesFile, WritesTightened}
@@ -210,19 +211,30 @@ abbrev pub DoesJob : Job → KnownInput → Option Output → Option Output → 
 DoesJob j k old new r = Does j.command (profile_of j.profile) j.form j.is_long j.has_sum
     (option_map (λ s. s.now) j.out) k old new r
 
--- what is read: of a file that is named nothing is known
-abbrev pub read_from : Option Text → KnownInput → KnownInput
-read_from None k = k
-read_from (Some file) k = unknown_input
+-- what is read, if it is known: the named file, or else standard input
+abbrev pub read_from : Names → Option Input → Option Text → Option Input
+read_from holds input None = input
+read_from holds input (Some file) = text_held (holds file)
 
--- the words ask for a task, which is done
-abbrev pub DoesAsked : List Text → KnownInput → Option Output → Option Output
-    → Result ℕ CommandFault
-    → Type 0
-DoesAsked words k old new r = (t : Task) × (P : rules.Profile) × (F : Form)
+-- nothing was answered but that a read failed
+abbrev pub FailsToRead : Option Output → Option Output → Result ℕ CommandFault → Type 0
+FailsToRead old new r = (r ≡ Err Read) × Stays old new
+
+-- a named file that is known to be none that can be opened fails to be read
+abbrev pub UnlessMissing : Names → Option Text → Option Output → Option Output
+    → Result ℕ CommandFault → Type 0
+UnlessMissing holds None old new r = ⊤
+UnlessMissing holds (Some file) old new r = holds file ≡ Some None → FailsToRead old new r
+
+-- the words ask for a task, which is done with the named file, or else with standard input
+abbrev pub DoesAsked : List Text → Names → Option Input → Option Output → Option Output
+    → Result ℕ CommandFault → Type 0
+DoesAsked words holds input old new r = (t : Task) × (P : rules.Profile) × (F : Form)
     × (long sum : Bool) × (file out : Option Text)
     × (asked_by words ≡ Some (command_word t, Some P, F, long, sum, file, out))
-    × Does t (profile_of P) F long sum out (read_from file k) old new r
+    × OfInput (read_from holds input file)
+    (λ k. Does t (profile_of P) F long sum out k old new r)
+    × UnlessMissing holds file old new r
 
 abbrev pub IsHelp : ErrorKind → Type 0
 IsHelp k = (k ≡ kind.DisplayHelp) ⊎ (k ≡ kind.DisplayVersion)
@@ -252,12 +264,12 @@ DeclinesWords words old new r = (k : ErrorKind) × IsAmong k (words_fault words)
     × Declines k old new r
 
 -- what the words ask for is done, or they are declined, or memory ran out before that was known
-abbrev pub RunsOver : List Text → KnownInput → Option Output → Option Output → Result ℕ CommandFault
-    → Type 0
-RunsOver words k old new r = DoesAsked words k old new r ⊎ DeclinesWords words old new r
-    ⊎ LacksMemory old new r
+abbrev pub RunsOver : List Text → Names → Option Input → Option Output → Option Output
+    → Result ℕ CommandFault → Type 0
+RunsOver words holds input old new r = DoesAsked words holds input old new r
+    ⊎ DeclinesWords words old new r ⊎ LacksMemory old new r
 
 -- an exit status for these words, whatever is read and printed
 abbrev pub IsStatusFor : List Text → ℕ → Type 0
 IsStatusFor words status = (r : Result ℕ CommandFault) × (status ≡ exit_status r)
-    × RunsOver words unknown_input None None r
+    × RunsOver words unknown_files None None None r

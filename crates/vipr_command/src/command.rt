@@ -1,12 +1,14 @@
 //! The whole program, over any source and sinks in place of the standard streams.
-ghost use Rattle.std.specs.Prelude.{◌≡◌, ◌≤◌, IfOk, false, map};
+ghost use Rattle.std.specs.Prelude.{◌≡◌, ◌≤◌, IfOk, Some, None, false, map};
 ghost use Rattle.clap.specs.Words.{kind_of};
 ghost use Rattle.vipr_command.specs.Args.{are_accepted};
-ghost use Rattle.vipr_command.specs.Run.{AnswersError, DoesJob, IsStatusFor, OfInput, RunsOver};
-ghost use Rattle.vipr_command.specs.Run.{unknown_input};
+ghost use Rattle.vipr_command.specs.Folder.{text_held};
+ghost use Rattle.vipr_command.specs.Run.{AnswersError, DoesJob, FailsToRead, IsStatusFor, OfInput};
+ghost use Rattle.vipr_command.specs.Run.{RunsOver};
 
 use crate::args::job;
 use crate::fault::CommandFault;
+use crate::folder::{Folder, SystemFiles};
 use crate::host::Host;
 use crate::in_memory::{check_job, explain_job};
 use crate::line::{say, say_at_length, say_why_unread};
@@ -17,7 +19,6 @@ use crate::tighten::print_tightened;
 use clap::Error;
 use clap::error::ErrorKind;
 use std::alloc::Global;
-use std::fs::File;
 use std::io::{Read, Write};
 use vipr_bytes::{FromRead, FromWrite, Sink, Source};
 
@@ -41,7 +42,8 @@ pub fn run<H: Host, R: Read + Drop, O: Write, E: Write>(
     ensures fits { IsStatusFor (map (λ w. w.now) words.now) result }
 {
     let source = FromRead::new(input);
-    match run_over(rt, words, source, &mut FromWrite::new(out), err) {
+    let files = SystemFiles { rt };
+    match run_over(rt, &files, words, source, &mut FromWrite::new(out), err) {
         Ok(status) => status,
         Err(fault) => {
             say(err, &format_args!("{fault}\n"));
@@ -50,13 +52,15 @@ pub fn run<H: Host, R: Read + Drop, O: Write, E: Write>(
     }
 }
 
-/// Runs a command over any source and sink; returns a fault instead of printing it.
+/// Runs a command over any folder, source and sink; returns a fault instead of printing it. A file
+/// that is read is the folder's, and OUT is the system's.
 ///
 /// # Errors
 ///
 /// If a file can't be opened or a read fails, a growth is refused, or a write fails.
-fn run_over<H: Host, R: Source + Drop, O: Sink, E: Write>(
+pub fn run_over<H: Host, D: Folder, R: Source + Drop, O: Sink, E: Write>(
     rt: &H,
+    files: &D,
     words: &[&str],
     input: R,
     out: &mut O,
@@ -64,8 +68,8 @@ fn run_over<H: Host, R: Source + Drop, O: Sink, E: Write>(
 ) -> Result<u8, CommandFault>
     ensures status { IfOk result (λ s. s ≤ 2) }
     ensures usage { IfOk result (λ s. s ≡ 2 → are_accepted (map (λ w. w.now) words.now) ≡ false) }
-    ensures runs { OfInput (R.input input) (λ k. RunsOver (map (λ w. w.now) words.now) k
-        (O.output out.old) (O.output out.new) result) }
+    ensures runs { RunsOver (map (λ w. w.now) words.now) (D.holds files.now) (R.input input)
+        (O.output out.old) (O.output out.new) result }
 {
     let job = match job(rt.alloc(), words) {
         Ok(job) => job,
@@ -73,7 +77,7 @@ fn run_over<H: Host, R: Source + Drop, O: Sink, E: Write>(
     };
     match job.file {
         None => do_task(rt, &job, input, out, err),
-        Some(path) => do_task_on_file(rt, &job, path, out, err),
+        Some(name) => do_task_on_file(rt, files, &job, name, out, err),
     }
 }
 
@@ -97,20 +101,24 @@ fn answer<O: Sink, E: Write>(
     Ok(0)
 }
 
-fn do_task_on_file<H: Host, O: Sink, E: Write>(
+fn do_task_on_file<H: Host, D: Folder, O: Sink, E: Write>(
     rt: &H,
+    files: &D,
     job: &Job<'_>,
-    path: &str,
+    name: &str,
     out: &mut O,
     err: &mut E,
 ) -> Result<u8, CommandFault>
-    ensures { DoesJob job.now unknown_input (O.output out.old) (O.output out.new) result }
+    ensures done { OfInput (text_held (D.holds files.now name.now))
+        (λ k. DoesJob job.now k (O.output out.old) (O.output out.new) result) }
+    ensures missing { D.holds files.now name.now ≡ Some None
+        → FailsToRead (O.output out.old) (O.output out.new) result }
 {
-    match File::open(rt, path) {
-        Ok(file) => do_task(rt, job, FromRead::new(file), out, err),
+    match files.open(name) {
+        Ok(source) => do_task(rt, job, source, out, err),
         Err(error) => {
             if job.is_long {
-                say_why_unread(rt.alloc(), path, &error, err);
+                say_why_unread(rt.alloc(), name, &error, err);
             }
             Err(CommandFault::Read)
         }

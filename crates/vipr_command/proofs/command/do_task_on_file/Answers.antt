@@ -1,11 +1,19 @@
-use Rattle.vipr_command.proofs.RunLemmas.{unread_job}
+use Rattle.vipr_command.specs.Run.{DoesJob}
+use Rattle.vipr_command.proofs.RunLemmas.{done_with_opened, never_opened, unopened}
 use Rattle.vipr_command.proofs.command.do_task_on_file.Goals as goal
 
-pub returns-in-Ok : goal.returns-in-Ok
-returns-in-Ok g c = c.do_task.ensures.0
+pub returns-in-Ok-clause-done : goal.returns-in-Ok-clause-done
+returns-in-Ok-clause-done g c =
+    done_with_opened _ g.D.In.Source.input (g.D.Folder.holds c.args.files.now c.args.name.now) c.in-Ok.source (λ k. DoesJob c.args.job.now k (g.O.Sink.output c.args.out.now) (g.O.Sink.output c.do_task.new.out) c.do_task.result) c.in-Ok.ensures c.do_task.ensures
 
-pub returns-then-job : goal.returns-then-job
-returns-then-job g c = unread_job c.args.job.now (g.O.Sink.output c.args.out.now)
+pub returns-in-Ok-clause-missing : goal.returns-in-Ok-clause-missing
+returns-in-Ok-clause-missing g c =
+    λ missing. absurd (never_opened _ g.D.In.Source.input (g.D.Folder.holds c.args.files.now c.args.name.now) c.in-Ok.source c.in-Ok.ensures missing)
 
-pub returns-else-job : goal.returns-else-job
-returns-else-job g c = unread_job c.args.job.now (g.O.Sink.output c.args.out.now)
+pub returns-then-job-clause-done : goal.returns-then-job-clause-done
+returns-then-job-clause-done g c =
+    unopened _ g.D.In.Source.input (g.D.Folder.holds c.args.files.now c.args.name.now) c.in-Err.error c.args.job.now (g.O.Sink.output c.args.out.now) c.in-Err.ensures
+
+pub returns-else-job-clause-done : goal.returns-else-job-clause-done
+returns-else-job-clause-done g c =
+    unopened _ g.D.In.Source.input (g.D.Folder.holds c.args.files.now c.args.name.now) c.in-Err.error c.args.job.now (g.O.Sink.output c.args.out.now) c.in-Err.ensures

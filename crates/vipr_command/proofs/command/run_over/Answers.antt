@@ -1,7 +1,5 @@
 use Rattle.std.proofs.Common.{map}
 use Rattle.clap.specs.Words.{kind_of}
-use Rattle.vipr_command.specs.Run.{RunsOver}
-use Rattle.vipr_command.proofs.InputLemmas.{of_any}
 use Rattle.vipr_command.proofs.RunLemmas.{declined, done_with_file, done_with_input, obeyed}
 use Rattle.vipr_command.proofs.RunLemmas.{wrong_words}
 use Rattle.vipr_command.proofs.command.run_over.Goals as goal
@@ -12,26 +10,22 @@ returns-in-Err-clause-usage g c =
 
 pub returns-in-Err-clause-runs : goal.returns-in-Err-clause-runs
 returns-in-Err-clause-runs g c =
-    let words = map (λ w. w.now) c.args.words.now in
-    let old = g.O.Sink.output c.args.out.now in
-    let new = g.O.Sink.output c.answer.new.out in
-    of_any (g.R.Source.input c.args.input) (λ k. RunsOver words k old new c.answer.result)
-    (λ k. declined words k c.in-Err.error old new c.answer.result c.in-Err.ensures.kinds c.answer.ensures)
+    declined (map (λ w. w.now) c.args.words.now) (g.D.Folder.holds c.args.files.now) (g.R.Source.input c.args.input) c.in-Err.error (g.O.Sink.output c.args.out.now) (g.O.Sink.output c.answer.new.out) c.answer.result c.in-Err.ensures.kinds c.answer.ensures
 
 pub returns-in-None-clause-runs : goal.returns-in-None-clause-runs
 returns-in-None-clause-runs g c =
-    let words = map (λ w. w.now) c.args.words.now in
     let job = c.in-Ok.job in
+    let holds = g.D.Folder.holds c.args.files.now in
     let source = g.R.Source.input c.args.input in
     let old = g.O.Sink.output c.args.out.now in
     let new = g.O.Sink.output c.do_task.new.out in
-    obeyed words job c.in-Ok.ensures.ok source old new c.do_task.result (done_with_input job source old new c.do_task.result c.in-None.is c.do_task.ensures)
+    obeyed (map (λ w. w.now) c.args.words.now) job c.in-Ok.ensures.ok holds source old new c.do_task.result (done_with_input job holds source old new c.do_task.result c.in-None.is c.do_task.ensures)
 
 pub returns-in-Some-clause-runs : goal.returns-in-Some-clause-runs
 returns-in-Some-clause-runs g c =
-    let words = map (λ w. w.now) c.args.words.now in
     let job = c.in-Ok.job in
+    let holds = g.D.Folder.holds c.args.files.now in
     let source = g.R.Source.input c.args.input in
     let old = g.O.Sink.output c.args.out.now in
     let new = g.O.Sink.output c.do_task_on_file.new.out in
-    obeyed words job c.in-Ok.ensures.ok source old new c.do_task_on_file.result (done_with_file job source old new c.do_task_on_file.result c.in-Some.path c.in-Some.is c.do_task_on_file.ensures)
+    obeyed (map (λ w. w.now) c.args.words.now) job c.in-Ok.ensures.ok holds source old new c.do_task_on_file.result (done_with_file job holds source old new c.do_task_on_file.result c.in-Some.name c.in-Some.is c.do_task_on_file.ensures.done c.do_task_on_file.ensures.missing)
