@@ -139,14 +139,14 @@ def each(action, items):
 
 # ---- refused calls
 
-def growths_refused(name, words, text, output=None):
-    """The nth growth refused, for each n up to a run that meets none."""
+def growths_refused(name, words, text, output=None, others=()):
+    """The nth growth refused, for each n up to a run that meets none. Others are answers that there may be then, too."""
     whole = answer(words, text, {})
 
     def one(n):
         if output:
             output(n)
-        expect(f'{name} with growth {n} refused', answer(words, text, {'REFUSE_GROWTH': n}), MEMORY, whole)
+        expect(f'{name} with growth {n} refused', answer(words, text, {'REFUSE_GROWTH': n}), MEMORY, whole, *others)
     each(one, range(1, whole.calls[0] + 2))
 
 
@@ -225,6 +225,24 @@ def with_refused_calls(commands, examples):
         for command in commands:
             reads_fail(f'{command} {path.name}', command.split(), text)
             writes_fail(f'{command} {path.name}', command.split(), text)
+
+
+def at_length(examples):
+    """`explain --long`: without memory for its page there are the lines of `explain` alone, and a line says that a read
+    failed behind what is refused."""
+    words = ['explain', '--long']
+    for path, text in examples:
+        short = answer(['explain'], text)
+        growths_refused(f'explain --long {path.name}', words, text, others=(short,))
+        growths_refused(f'explain --long FILE {path.name}', [*words, str(path)], b'', others=(short,))
+    for path, text in examples[::3]:
+        writes_fail(f'explain --long {path.name}', words, text)
+        whole, short = answer(words, text, {'READ_AT_MOST': 1}), answer(['explain'], text)
+        unread = short[0] + b"\na read failed behind what is refused, so it isn't explained\n", b'', short[2]
+        for n in range(1, len(text) + 3):
+            got = answer(words, text, {'READ_AT_MOST': 1, 'FAIL_READ': n})
+            wanted = (READ, unread) if n <= len(text) + 1 else (whole,)
+            expect(f'explain --long {path.name} with FAIL_READ {n}', got, *wanted)
 
 
 # ---- OUT
@@ -519,6 +537,7 @@ def main():
     if LIBRARY:
         what_is_asked_for()
         with_refused_calls([*commands, *(f'{it} --compact' for it in ('show', 'tighten') if it in commands)], examples)
+        at_length(examples)
         names_at_a_refusal()
         reads_of_a_byte(commands)
         if 'tighten' in commands:

@@ -1,9 +1,8 @@
 //! Answers for a text that is read into memory: with a page for people, or with its digest.
-ghost use Rattle.std.specs.Prelude.{◌≡◌, ◌<◌, ◌^◌, ◌++◌, ℕ, List, [], Some, None, true, false};
+ghost use Rattle.std.specs.Prelude.{◌≡◌, ◌<◌, ◌^◌, [], Some, None, true, false};
 ghost use Rattle.std.specs.Prelude.{length, IfOk, IfSome, option_map, string_bytes};
 ghost use Rattle.vipr_spec.specs.Input.{Input};
 ghost use Rattle.vipr_rules.specs.Profile.{profile_of};
-ghost use Rattle.vipr_page.specs.Page.{IsPage};
 ghost use Rattle.vipr_command.specs.Run.{Does, HasRead, IsPrinted, OfInput, PrintsInMemory};
 ghost use Rattle.vipr_command.specs.Run.{PrintsWhole, ReadsOn, input_of, sum_asked};
 ghost use Rattle.vipr_command.specs.Text.{answer_lines};
@@ -18,7 +17,7 @@ use std::alloc::{AllocError, Global};
 use vipr_bytes::{BUFFER_BYTES, Bytes, Failed, Sink, Source, write_bytes};
 use vipr_check::{Detail, Explanation, Verdict, explain_in};
 use vipr_explain::page_for;
-use vipr_page::Page;
+use vipr_page::{Page, with_page};
 
 /// What a source gave: its bytes, and whether a read failed behind them.
 #[derive(Drop)]
@@ -201,7 +200,7 @@ impl ReadText {
         if !job.is_long {
             return None;
         }
-        let name = job.file.unwrap_or("standard input");
+        let name = job.file.unwrap_or("standard input").as_bytes();
         page_for(alloc, job.profile, self.whole(), name, verdict, detail)
     }
 
@@ -240,16 +239,4 @@ fn lines(
         Task::Check => format!(in alloc; "{verdict}\n"),
         _ => Explanation { verdict, detail }.to_string(alloc),
     }
-}
-
-// A text with a page behind it, or with none if there is no memory for that.
-fn with_page(mut text: Vec<u8>, page: Option<Page>) -> Vec<u8>
-    ensures { (more : List ℕ) × IsPage more × (page ≡ None → more ≡ [])
-        × (result.items ≡ text.items ++ more) }
-{
-    if let Some(page) = page {
-        let _ = text.extend_from_slice(page.as_bytes());
-        drop(page);
-    }
-    text
 }

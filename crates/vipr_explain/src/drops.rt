@@ -61,7 +61,7 @@ impl<'a> LastUse<'a> {
     }
 
     /// Writes the place of the last reference, and what that would have to be.
-    pub(crate) fn write<W: Write>(&self, f: &mut Formatter<W>, file: &str) -> fmt::Result {
+    pub(crate) fn write<W: Write>(&self, f: &mut Formatter<W>, file: &[u8]) -> fmt::Result {
         let index = self.index;
         write!(
             f,

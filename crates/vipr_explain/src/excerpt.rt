@@ -109,7 +109,7 @@ impl Display for PlaceLabel {
 #[derive(Clone, Copy)]
 pub(crate) struct ShownPlace<'a> {
     pub(crate) place: KnownPlace<'a>,
-    pub(crate) file: &'a str,
+    pub(crate) file: &'a [u8],
     pub(crate) label: PlaceLabel,
 }
 
@@ -124,7 +124,7 @@ impl Display for ShownPlace<'_> {
         let behind = place.behind;
         let carets = caret_count(&behind[..place.size.min(behind.len())]);
         write_copies(f, " ", margin)?;
-        let file = StrangeBytes(self.file.as_bytes());
+        let file = StrangeBytes(self.file);
         write!(f, "--> {file}:{line}:{column}\n")?;
         write_copies(f, " ", margin)?;
         f.write_str(" |\n")?;

@@ -1,23 +1,55 @@
 //! What proves the claim, and which constraints come nearest to it if none does.
 
 use crate::items::open_problem;
-use crate::near::{Near, NearSearch, find_near};
+use crate::near::{Join, Near, NearSearch, find_near};
 use crate::shown::{ListedConstraint, PlacedItems};
+use crate::solution::{BestValue, ListedValues};
 use crate::text::{Reread, Subject};
 use std::fmt;
 use std::fmt::{Display, Formatter, Write};
+use vipr_cert::Claim;
 use vipr_check::Report;
-use vipr_linear::Constraint;
+use vipr_frac::Frac;
+use vipr_linear::{Constraint, compares};
 use vipr_page::{Algebra, size_of};
 use vipr_rules::Target;
 
 /// How many assumptions of a constraint are shown.
 const MOST_ASSUMPTIONS: u32 = 4;
 
-/// The page of a verified certificate: the constraint that proves its dual side, if one has to.
+/// What proves a claim: the constraint that proves the dual side, if one has to, and the solutions.
+#[derive(Drop)]
+pub(crate) struct ProvedClaim {
+    goal: Option<PlacedItems>,
+    values: ListedValues,
+}
+
+impl ProvedClaim {
+    /// Reads what proves the claim of a report.
+    pub(crate) fn find(subject: Subject<'_>, report: &Report) -> Reread<ProvedClaim> {
+        let values = ListedValues::find(subject)?;
+        match read_goal(subject, report) {
+            Ok(goal) => Ok(ProvedClaim { goal, values }),
+            Err(missing) => {
+                drop(values);
+                Err(missing)
+            }
+        }
+    }
+}
+
+// Reads the constraint that proves the dual side.
+fn read_goal(subject: Subject<'_>, report: &Report) -> Reread<Option<PlacedItems>> {
+    match report.goal {
+        Some(goal) => Ok(Some(PlacedItems::read(subject, [goal].as_slice())?)),
+        None => Ok(None),
+    }
+}
+
+/// The page of a verified certificate: what proves each side of its claim.
 #[derive(Clone, Copy)]
 pub(crate) struct ProvedPage<'a> {
-    pub(crate) known: Option<&'a PlacedItems>,
+    pub(crate) known: &'a ProvedClaim,
     pub(crate) report: &'a Report,
 }
 
@@ -25,12 +57,16 @@ impl Display for ProvedPage<'_> {
     fn fmt<W: Write>(&self, f: &mut Formatter<W>) -> fmt::Result {
         let claim = &self.report.claim;
         write!(f, "proved: {claim}\n")?;
-        match (self.known, self.report.goal) {
+        match (&self.known.goal, self.report.goal) {
             (Some(known), Some(index)) => {
-                write!(f, "  goal   {}\n", ListedConstraint { known, index })
+                write!(f, "  goal   {}\n", ListedConstraint { known, index })?;
             }
-            _ => f.write_str("  nothing has to be proved of the dual side\n"),
+            _ => f.write_str("  nothing has to be proved of the dual side\n")?,
         }
+        if matches!(claim, Claim::Infeas) {
+            return Ok(());
+        }
+        write!(f, "  primal {}\n", BestValue(&self.known.values))
     }
 }
 
@@ -115,25 +151,62 @@ impl Display for UnprovedPage<'_> {
         } else {
             f.write_str("  nearest:\n")?;
         }
-        let mut is_strong = false;
         for near in &known.search.near {
-            is_strong = is_strong || near.is_strong;
             write_near(f, known, near)?;
         }
-        if is_strong {
-            return f.write_str(
-                "  = help: join the branches by `uns i1 l1 i2 l2`, so that no assumption is left, \
-                 or claim what is proved behind RTP\n",
-            );
-        }
-        if known.has_solution && known.bound().is_none() {
-            f.write_str(
-                "  = help: the text lists a solution that is feasible, so `infeas` is false\n",
-            )
-        } else {
-            f.write_str("  = help: derive it, or claim what is proved behind RTP\n")
-        }
+        f.write_str("  = help: ")?;
+        write_advice(f, known)?;
+        f.write_str("\n")
     }
+}
+
+// Writes what to do, by what was found.
+fn write_advice<W: Write>(f: &mut Formatter<W>, known: &UnprovedClaim) -> fmt::Result {
+    let near = &known.search.near;
+    if let Some(Join { i1, l1, i2, l2 }) = near.iter().find_map(|near| near.crossed) {
+        return write!(
+            f,
+            "[{i1}] rests on [{l2}] and [{i2}] on [{l1}]: exchange l1 and l2, `uns {i1} {l2} {i2} {l1}`"
+        );
+    }
+    let given = known.items.items.problem.cons().len();
+    let is_strong = near.iter().any(|near| near.is_strong);
+    let free = near
+        .iter()
+        .find(|near| near.assumptions.is_empty() && near.gap.is_some());
+    match (known.bound(), free) {
+        (Some(_), Some(free)) if free.index as usize >= given || !is_strong => {
+            let index = free.index;
+            write!(
+                f,
+                "claim no more than [{index}] says behind RTP: nothing better is proved without an \
+                 assumption; is a constant of the objective in the claim? The format has none"
+            )
+        }
+        (Some(bound), None) if near.is_empty() && is_true_at_0(bound) => {
+            let sense = bound.sense;
+            let side = bound.rhs;
+            write!(
+                f,
+                "add the derivation `NAME {sense} {side} 0 {{ lin 0 }} -1`, and 1 to the count \
+                 behind DER"
+            )
+        }
+        (None, _) if known.has_solution => f.write_str(
+            "the text lists a solution that is feasible, so `infeas` is false: claim `range` and \
+             two bounds",
+        ),
+        _ if is_strong => f.write_str(
+            "join the branches by `uns i1 l1 i2 l2`, so that no assumption is left, or claim what \
+             is proved behind RTP",
+        ),
+        _ => f.write_str("derive it, or claim what is proved behind RTP"),
+    }
+}
+
+// Whether a bound is one of the objective 0, and true.
+fn is_true_at_0(bound: &Constraint) -> bool {
+    bound.row.is_empty() && compares(bound.sense, Frac::zero(), bound.rhs)
 }
 
 // Writes a constraint that comes near, and why it isn't enough.

@@ -26,6 +26,17 @@ pub(crate) struct Near {
     pub(crate) gap: Option<Frac>,
     /// The assumptions that it rests on.
     pub(crate) assumptions: Assumptions,
+    /// Its reason, if that joins two branches of which each rests on the other one's assumption.
+    pub(crate) crossed: Option<Join>,
+}
+
+/// What `uns i1 l1 i2 l2` names.
+#[derive(Clone, Copy)]
+pub(crate) struct Join {
+    pub(crate) i1: u32,
+    pub(crate) l1: u32,
+    pub(crate) i2: u32,
+    pub(crate) l2: u32,
 }
 
 /// A search for the three constraints that come nearest to a claim: those that are strong enough
@@ -67,7 +78,7 @@ impl NearSearch {
     fn pass_problem(&mut self, alloc: Global, problem: &Problem) -> Result<(), AllocError> {
         let nothing = Assumptions::empty(alloc);
         for (index, named) in problem.cons().iter().enumerate() {
-            self.add(index as u32, &named.item, &nothing)?;
+            self.add(index as u32, &named.item, &nothing, None)?;
         }
         Ok(())
     }
@@ -104,7 +115,8 @@ impl NearSearch {
     fn pass(&mut self, alloc: Global, step: &mut Derivation) -> Result<(), AllocError> {
         let index = self.rows.next();
         let assumptions = self.assumptions_of(alloc, &step.reason)?;
-        match self.add(index, &step.constraint, &assumptions) {
+        let crossed = self.crossed_join(&step.reason);
+        match self.add(index, &step.constraint, &assumptions, crossed) {
             Ok(()) => self.place(take_entry(alloc, step, assumptions)),
             Err(error) => {
                 drop(assumptions);
@@ -135,6 +147,7 @@ impl NearSearch {
         index: u32,
         constraint: &Constraint,
         assumptions: &Assumptions,
+        crossed: Option<Join>,
     ) -> Result<(), AllocError> {
         if !is_like(&self.target, constraint) {
             return Ok(());
@@ -144,6 +157,7 @@ impl NearSearch {
             is_strong: self.target.is_met_by(constraint),
             gap: gap_of(&self.target, constraint),
             assumptions: assumptions.clone()?,
+            crossed,
         };
         insert(&mut self.near, near)
     }
@@ -253,6 +267,21 @@ impl NearSearch {
                     (None, None) => Ok(Assumptions::empty(alloc)),
                 }
             }
+        }
+    }
+
+    // What a reason joins, if each branch rests on the other one's assumption and not on its own.
+    fn crossed_join(&self, reason: &Reason) -> Option<Join> {
+        let References::Branches { i1, l1, i2, l2 } = reason.references() else {
+            return None;
+        };
+        let first = &self.rows.get(i1)?.assumptions;
+        let second = &self.rows.get(i2)?.assumptions;
+        let is_apart = !first.contains(l1) && !second.contains(l2);
+        if is_apart && first.contains(l2) && second.contains(l1) {
+            Some(Join { i1, l1, i2, l2 })
+        } else {
+            None
         }
     }
 

@@ -155,6 +155,8 @@ impl ReasonLines<'_> {
         let known = self.known;
         if index < self.fault.index {
             write!(f, "{}", ListedConstraint { known, index })
+        } else if index == self.fault.index {
+            write!(f, "[{index}], this derivation itself")
         } else {
             write!(f, "[{index}], which is not before this derivation")
         }

@@ -13,11 +13,11 @@ use std::alloc::{AllocError, Global};
 use std::fmt;
 use std::fmt::{Display, Formatter, Write};
 use vipr_bytes::Source;
-use vipr_cert::{Name, Named, Problem};
+use vipr_cert::{Claim, Name, Named, Problem};
 use vipr_check::Detail;
 use vipr_frac::Frac;
-use vipr_linear::{Row, Solution, value_at};
-use vipr_page::{Algebra, ShownName, VariableName, sign_of};
+use vipr_linear::{Constraint, Row, Sense, Solution, compares, value_at};
+use vipr_page::{Algebra, ShownName, VariableName, sign_of, size_of};
 use vipr_read::Solutions;
 use vipr_rules::better;
 
@@ -103,7 +103,7 @@ fn broken_place(subject: Subject<'_>, detail: &Detail) -> Result<Vec<ItemPlace>,
 pub(crate) struct SolutionPage<'a> {
     pub(crate) known: &'a RefusedSolution<'a>,
     pub(crate) detail: &'a Detail,
-    pub(crate) file: &'a str,
+    pub(crate) file: &'a [u8],
 }
 
 impl Display for SolutionPage<'_> {
@@ -136,11 +136,17 @@ impl Display for SolutionPage<'_> {
             Detail::SolutionOverflow {
                 at: Some((index, _)),
                 ..
-            } => write!(f, "  it is past the limit in constraint {index}\n"),
-            _ => Ok(()),
+            } => write!(
+                f,
+                "  it is past the limit in constraint {index}\n{PAST_LIMIT}"
+            ),
+            _ => write!(f, "  it is past the limit in the objective\n{PAST_LIMIT}"),
         }
     }
 }
+
+const PAST_LIMIT: &str =
+    "  = help: docs/FORMAT.md says what can help when a number is past the limit\n";
 
 // Writes which variable isn't whole.
 fn write_not_whole<W: Write>(
@@ -182,11 +188,39 @@ fn write_broken<W: Write>(
     write_values(f, problem, &constraint.row, &known.solution.item)?;
     let sign = sign_of(constraint.sense);
     let right = constraint.rhs;
-    write!(
-        f,
-        "; the left side is {left}, which is not {sign} {right}\n  \
-         = help: change the solution, or leave it out; a variable that it doesn't list is 0\n"
-    )
+    write!(f, "; the left side is {left}, which is not {sign} {right}")?;
+    let gap = gap_between(left, right);
+    if let Some(gap) = gap {
+        write!(f, ", off by {gap}")?;
+    }
+    f.write_str("\n  = help: ")?;
+    f.write_str(solution_hint(known, constraint, gap))
+}
+
+// How far two numbers are apart, if that fits.
+fn gap_between(left: Frac, right: Frac) -> Option<Frac> {
+    let gap = right.add(left.neg()).ok()?;
+    Some(size_of(gap))
+}
+
+// What is likely to be wrong with a solution that breaks a constraint by so much.
+fn solution_hint(
+    known: &RefusedSolution<'_>,
+    constraint: &Constraint,
+    gap: Option<Frac>,
+) -> &'static str {
+    if constraint.row.is_empty() {
+        return "no solution meets this constraint: change it, or take it out\n";
+    }
+    match (known.solution.name.as_bytes(), gap) {
+        ([b'0'..=b'9', ..], _) if known.solution.item.0.is_empty() => {
+            "a number was read as the name: is the name missing?\n"
+        }
+        (_, Some(gap)) if gap.denom() / 1000 >= gap.numer() => {
+            "is a value rounded, as one of floating point is? Write exact fractions\n"
+        }
+        _ => "change the solution, or leave it out; a variable that it doesn't list is 0\n",
+    }
 }
 
 // Writes the values at the variables of a row. Many are cut, with the number of variables.
@@ -232,6 +266,8 @@ struct KnownValue {
 pub(crate) struct ListedValues {
     first: Vec<KnownValue>,
     best: Option<Frac>,
+    /// Whether the lower bound of the claim is above the upper one.
+    is_exchanged: bool,
 }
 
 impl ListedValues {
@@ -241,6 +277,10 @@ impl ListedValues {
         let mut known = ListedValues {
             first: Vec::new(subject.alloc),
             best: None,
+            is_exchanged: match problem.claim() {
+                Claim::Range(Some(lower), Some(upper)) => !compares(Sense::L, lower, upper),
+                _ => false,
+            },
         };
         let added = known.add_all(subject.alloc, &problem, &mut solutions);
         drop(solutions);
@@ -301,6 +341,26 @@ impl ListedValues {
     }
 }
 
+/// The best value at the listed solutions, and the first solution that has it, if it is shown.
+#[derive(Clone, Copy)]
+pub(crate) struct BestValue<'a>(pub(crate) &'a ListedValues);
+
+impl Display for BestValue<'_> {
+    fn fmt<W: Write>(&self, f: &mut Formatter<W>) -> fmt::Result {
+        let Some(best) = self.0.best else {
+            return f.write_str("no solution is listed");
+        };
+        for known in &self.0.first {
+            if known.value == best {
+                let number = known.number;
+                let name = ShownName(&known.name);
+                return write!(f, "solution {number} `{name}`: objective {best}");
+            }
+        }
+        write!(f, "a listed solution: objective {best}")
+    }
+}
+
 /// The page of a primal bound that no listed solution attains.
 #[derive(Clone, Copy)]
 pub(crate) struct NoPrimalPage<'a> {
@@ -322,10 +382,16 @@ impl Display for NoPrimalPage<'_> {
             let value = known.value;
             write!(f, "  solution {number} `{name}`: objective {value}\n")?;
         }
+        if self.known.is_exchanged {
+            f.write_str(
+                "  = help: the lower bound of the claim is above the upper one: are they exchanged?\n",
+            )?;
+        }
         match self.known.best {
             Some(best) => write!(
                 f,
-                "  = help: claim {best} as the primal bound behind RTP, or list a better solution\n"
+                "  = help: claim {best} as the primal bound behind RTP, or list a better solution; \
+                 an objective has no constant\n"
             ),
             None => f.write_str(
                 "  the text lists no solution (SOL 0)\n  \

@@ -4,6 +4,7 @@ use crate::drops::LastUse;
 use crate::excerpt::{KnownPlace, PlaceLabel, ShownPlace};
 use crate::items::{Items, read_items};
 use crate::marks::mark_of;
+use crate::mends::{Mend, MendLine, find_mends, is_turned};
 use crate::reason::{ReasonLines, step_indices};
 use crate::shown::PlacedItems;
 use crate::text::{Reread, Subject};
@@ -44,11 +45,15 @@ struct NamedItems<'a> {
     known: PlacedItems,
     place: Option<KnownPlace<'a>>,
     differences: Vec<Difference>,
+    /// The multipliers that mend some of them.
+    mends: Vec<Mend>,
     /// What keeps its sum, or the row of its assumptions, from being whole.
     faults: Vec<RowFault>,
     /// The right-hand side by `rnd`, if that is enough.
     rounded: Option<i128>,
     dropped: Option<LastUse<'a>>,
+    /// Whether its reason is `sol`.
+    is_cutoff: bool,
 }
 
 impl<'a> RefusedStep<'a> {
@@ -82,6 +87,16 @@ fn read_named<'a>(
     let known = PlacedItems::read(subject, wanted.as_slice())?;
     let place = step_place(subject, &known, fault.index);
     let differences = differences_of(subject.alloc, fault.what)?;
+    let mends = match fault.what {
+        StepDetail::Rows { stated, .. } => find_mends(
+            subject.alloc,
+            &known.items,
+            &step.reason,
+            stated.sense,
+            differences.as_slice(),
+        )?,
+        _ => Vec::new(subject.alloc),
+    };
     let faults = faults_of(subject.alloc, &known.items.problem, fault.what)?;
     let dropped = LastUse::of(subject, fault)?;
     let rounded = rounding_of(&known.items.problem, &step.reason, fault.what);
@@ -89,9 +104,11 @@ fn read_named<'a>(
         known,
         place,
         differences,
+        mends,
         faults,
         rounded,
         dropped,
+        is_cutoff: matches!(step.reason, Reason::Sol),
     })
 }
 
@@ -141,7 +158,7 @@ fn rounding_of(problem: &Problem, reason: &Reason, what: &StepDetail) -> Option<
 pub(crate) struct StepPage<'a> {
     pub(crate) step: &'a RefusedStep<'a>,
     pub(crate) fault: StepFault<'a>,
-    pub(crate) file: &'a str,
+    pub(crate) file: &'a [u8],
 }
 
 impl Display for StepPage<'_> {
@@ -229,10 +246,7 @@ fn write_detail<W: Write>(
                     "  = help: `rnd` in place of `lin` rounds the right-hand side to {bound}\n"
                 )?;
             }
-            f.write_str(
-                "  = help: state what was computed, or change the constraints and multipliers \
-                 of the reason\n",
-            )
+            write_repair(f, refused, computed, stated)
         }
         StepDetail::Sum(sum) => {
             write_labelled(f, problem, "    sum        ", sum)?;
@@ -254,6 +268,36 @@ fn write_detail<W: Write>(
         }
         _ => Ok(()),
     }
+}
+
+// Writes how a derivation that states another constraint than the computed one can be repaired.
+fn write_repair<W: Write>(
+    f: &mut Formatter<W>,
+    refused: &RefusedStep<'_>,
+    computed: &Constraint,
+    stated: &Constraint,
+) -> fmt::Result {
+    let step = &refused.named;
+    if step.is_cutoff {
+        return f.write_str(
+            "  = help: state what was computed: `sol` gives the best listed value, and nothing \
+             better\n",
+        );
+    }
+    if is_turned(computed, stated, step.differences.as_slice()) {
+        return f.write_str(
+            "  = help: each coefficient has the other sign: multiply all multipliers by -1\n",
+        );
+    }
+    for mend in &step.mends {
+        let items = &step.known.items;
+        let mend = *mend;
+        write!(f, "{}", MendLine { items, mend })?;
+    }
+    f.write_str(
+        "  = help: state what was computed, or change the constraints and multipliers of the \
+         reason\n",
+    )
 }
 
 // Writes which two sides are a split, and which these are.
@@ -313,12 +357,12 @@ fn write_help<W: Write>(f: &mut Formatter<W>, cause: u8, count: usize) -> fmt::R
     match cause {
         cause::NOT_EARLIER if count == 0 => f.write_str(
             "  = help: constraints count from 0: the problem has none, so the first derivation \
-             is 0\n",
+             is 0; is this line in front of one that it needs?\n",
         ),
         cause::NOT_EARLIER => write!(
             f,
             "  = help: constraints count from 0: the problem has {count}: 0 is the first one; \
-             the first derivation is {count}\n"
+             the first derivation is {count}; is this line in front of one that it needs?\n"
         ),
         cause::NOT_ASSUMPTION => f.write_str(
             "  = help: `uns i1 l1 i2 l2` names what follows first, and behind it its assumption, \
@@ -326,7 +370,9 @@ fn write_help<W: Write>(f: &mut Formatter<W>, cause: u8, count: usize) -> fmt::R
         ),
         cause::MIXED_SIGNS => f.write_str(
             "  = help: a sum that is >= takes positive multiples of >= and negative ones of <=; \
-             a sum that is <= the other way round: change the sign of this multiplier\n",
+             a sum that is <= the other way round: change the sign of this multiplier; or is \
+             another constraint meant, of which bounds are some, or is the sense of this one \
+             wrong?\n",
         ),
         cause::OVERFLOW => f.write_str(
             "  = help: docs/FORMAT.md says what can help when a number is past the limit\n",

@@ -1,10 +1,11 @@
 //! A fault of a text: its place, and what is wanted there.
+ghost use Rattle.std.specs.Prelude.{◌≡◌, ◌+◌, ◌↔◌, IsTrue, length};
 ghost use Rattle.vipr_explain.specs.Syntax.{TokenFound, IsTokenFound, IsFoundAt};
 ghost use Rattle.vipr_explain.specs.Syntax.{found_at_start, found_behind};
 
 use crate::excerpt::{KnownPlace, PlaceLabel, ShownPlace};
 use crate::hints::{TokenFault, write_hints};
-use crate::text::Spot;
+use crate::text::{Span, Spot};
 use crate::wanted::{Section, TextProgress, Wanted};
 use crate::wanted_words::write_wanted;
 use crate::words::{TextWord, Words};
@@ -60,6 +61,8 @@ impl<'a> FaultToken<'a> {
 #[derive(Clone, Copy)]
 pub(crate) struct TextFault<'a> {
     found: FaultToken<'a>,
+    /// Whether the text ends with the token's last byte.
+    is_last: bool,
     place: KnownPlace<'a>,
 }
 
@@ -78,9 +81,17 @@ impl<'a> TextFault<'a> {
         }
         TextFault {
             place: KnownPlace::of(text, found.word.span()),
+            is_last: ends_text(found.word.span(), text),
             found,
         }
     }
+}
+
+// Whether a text ends with the last byte of a token.
+fn ends_text(span: Span, text: &[u8]) -> bool
+    ensures { IsTrue result ↔ (span.spot.offset + span.size ≡ length text.now) }
+{
+    span.spot.offset.checked_add(span.size as u64) == Some(text.len() as u64)
 }
 
 /// The page of a fault of this cause.
@@ -88,7 +99,7 @@ impl<'a> TextFault<'a> {
 pub(crate) struct FaultPage<'a> {
     pub(crate) fault: TextFault<'a>,
     pub(crate) cause: u8,
-    pub(crate) file: &'a str,
+    pub(crate) file: &'a [u8],
 }
 
 impl Display for FaultPage<'_> {
@@ -126,7 +137,9 @@ impl Display for FaultPage<'_> {
             TokenFault {
                 cause,
                 progress,
+                name: found.name,
                 word: found.word.bytes,
+                is_last: self.fault.is_last && !found.is_end,
             },
         )
     }

@@ -67,6 +67,18 @@ pub(crate) struct TextProgress {
 }
 
 impl Section {
+    /// All of them.
+    pub(crate) const ALL: [Section; 8] = [
+        Section::Version,
+        Section::Variables,
+        Section::Integers,
+        Section::Objective,
+        Section::Constraints,
+        Section::Claim,
+        Section::Solutions,
+        Section::Derivations,
+    ];
+
     /// Its keyword.
     pub(crate) fn keyword(self) -> &'static str {
         match self {

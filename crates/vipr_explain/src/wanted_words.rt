@@ -1,6 +1,6 @@
 //! What a certificate's text has to have at a token, in words.
 
-use crate::wanted::{TextProgress, Wanted};
+use crate::wanted::{Section, TextProgress, Wanted};
 use std::fmt;
 use std::fmt::{Formatter, Write};
 
@@ -22,9 +22,13 @@ pub(crate) fn write_wanted<W: Write>(f: &mut Formatter<W>, progress: &TextProgre
         Wanted::IntegerIndex => write_wanted_index(f, progress.variables),
         Wanted::RowIndex => write_wanted_index(f, progress.variables),
         Wanted::RowCoefficient => {
+            let number = match progress.section {
+                Section::Solutions => "value",
+                _ => "coefficient",
+            };
             write!(
                 f,
-                "the number of pair {part} (there are {parts}, counted from 0)"
+                "the {number} of pair {part} (there are {parts}, counted from 0)"
             )
         }
         Wanted::EntryIndex => write!(

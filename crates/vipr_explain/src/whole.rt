@@ -1,7 +1,6 @@
 //! The whole explanation of a verdict: what is found for it, and how that is shown.
 
-use crate::goal::{ProvedPage, UnprovedClaim, UnprovedPage};
-use crate::shown::PlacedItems;
+use crate::goal::{ProvedClaim, ProvedPage, UnprovedClaim, UnprovedPage};
 use crate::solution::{ListedValues, NoPrimalPage, RefusedSolution, SolutionPage};
 use crate::step::{RefusedStep, StepFault, StepPage};
 use crate::syntax::{FaultPage, TextFault};
@@ -17,7 +16,7 @@ use vipr_scan::TextError;
 /// What is found in a text that explains a verdict.
 #[derive(Drop)]
 enum Findings<'a> {
-    Proved(Option<PlacedItems>),
+    Proved(ProvedClaim),
     Text(TextFault<'a>),
     Solution(RefusedSolution<'a>),
     Step(RefusedStep<'a>),
@@ -35,7 +34,7 @@ pub fn page_for(
     alloc: Global,
     profile: Profile,
     text: Option<&[u8]>,
-    file: &str,
+    file: &[u8],
     verdict: &Verdict,
     detail: &Detail,
 ) -> Option<Page> {
@@ -72,13 +71,7 @@ const ANOTHER_TEXT: &str = "\nthe verdict isn't one of this text, so it isn't ex
 // Finds what explains a verdict.
 fn find<'a>(subject: Subject<'a>, verdict: &Verdict, detail: &Detail) -> Reread<Findings<'a>> {
     match verdict {
-        Verdict::Verified(report) => match report.goal {
-            Some(goal) => {
-                let items = PlacedItems::read(subject, [goal].as_slice())?;
-                Ok(Findings::Proved(Some(items)))
-            }
-            None => Ok(Findings::Proved(None)),
-        },
+        Verdict::Verified(report) => Ok(Findings::Proved(ProvedClaim::find(subject, report)?)),
         Verdict::Refused(refusal) => find_refusal(subject, refusal, detail),
     }
 }
@@ -114,7 +107,7 @@ struct LongExplanation<'a> {
     known: &'a Findings<'a>,
     verdict: &'a Verdict,
     detail: &'a Detail,
-    file: &'a str,
+    file: &'a [u8],
 }
 
 impl Display for LongExplanation<'_> {
@@ -122,10 +115,7 @@ impl Display for LongExplanation<'_> {
         f.write_str("\n")?;
         match self.verdict {
             Verdict::Verified(report) => match self.known {
-                Findings::Proved(known) => {
-                    let known = known.as_ref();
-                    write!(f, "{}", ProvedPage { known, report })
-                }
+                Findings::Proved(known) => write!(f, "{}", ProvedPage { known, report }),
                 _ => Ok(()),
             },
             Verdict::Refused(refusal) => {

@@ -17,9 +17,9 @@ const MOST_SHOWN: usize = 6;
 /// A variable whose coefficients differ in two rows.
 #[derive(Clone, Copy)]
 pub struct Difference {
-    variable: u32,
-    computed: Frac,
-    stated: Frac,
+    pub variable: u32,
+    pub computed: Frac,
+    pub stated: Frac,
 }
 
 /// The differences of two rows: first at the entries of the computed one, then at those that the
@@ -178,7 +178,11 @@ fn write_rows<W: Write>(
         };
         let computed = difference.computed;
         let stated = difference.stated;
-        write!(f, "{front}{name}: computed {computed}, stated {stated}")?;
+        let index = difference.variable;
+        write!(
+            f,
+            "{front}{name} (variable {index}): computed {computed}, stated {stated}"
+        )?;
     }
     let count = differences.len();
     if count > MOST_SHOWN {

@@ -14,6 +14,6 @@ pub use algebra::{Algebra, CutBytes, ShownName, VariableName, sign_of, size_of};
 pub use decimal::fraction_of;
 pub use differences::{Difference, DifferenceLine, row_differences};
 pub use faults::{RowFault, RowFaults, row_faults};
-pub use page::{MOST_BYTES, Page};
-pub use repair::rounded;
+pub use page::{MOST_BYTES, Page, with_page};
+pub use repair::{mended, rounded};
 pub use stranger::StrangeBytes;

@@ -1,5 +1,5 @@
 //! A page of text for a terminal.
-ghost use Rattle.std.specs.Prelude.{◌≡◌, ◌<◌, ◌≤◌, false, true};
+ghost use Rattle.std.specs.Prelude.{◌≡◌, ◌<◌, ◌≤◌, ◌++◌, ℕ, List, [], None, false, true};
 ghost use Rattle.std.specs.Fmt.{digit_glyph};
 ghost use Rattle.vipr_page.specs.Page.{IsPage, is_shown};
 
@@ -84,6 +84,18 @@ impl Page {
             self.has_failed = true;
         }
     }
+}
+
+/// A text with a page behind it, or with none if there is none or no memory for it.
+pub fn with_page(mut text: Vec<u8>, page: Option<Page>) -> Vec<u8>
+    ensures { (more : List ℕ) × IsPage more × (page ≡ None → more ≡ [])
+        × (result.items ≡ text.items ++ more) }
+{
+    if let Some(page) = page {
+        let _ = text.extend_from_slice(page.as_bytes());
+        drop(page);
+    }
+    text
 }
 
 impl fmt::Write for Page {

@@ -1,9 +1,9 @@
 //! How a derivation that doesn't follow from its reason can be repaired.
-ghost use Rattle.std.specs.Prelude.{◌≡◌, ◌≢◌, ◌≤◌, ◌↔◌, IsTrue, unsigned_abs};
+ghost use Rattle.std.specs.Prelude.{◌≡◌, ◌≢◌, ◌≤◌, ◌↔◌, IfSome, IsTrue, unsigned_abs};
 ghost use Rattle.vipr_spec.specs.Constraint.{equal, RoundsTo};
-ghost use Rattle.vipr_spec.specs.Fraction.{most, whole};
+ghost use Rattle.vipr_spec.specs.Fraction.{most, whole, ◌+ℚ◌, ◌*ℚ◌};
 ghost use Rattle.vipr_linear.specs.Constraint.{constraint_of, sense_of};
-ghost use Rattle.vipr_page.specs.Repairs.{CanRound, IsRounded, IsRoundedBound};
+ghost use Rattle.vipr_page.specs.Repairs.{CanRound, IsRounded, IsRoundedBound, Mends};
 
 use vipr_frac::Frac;
 use vipr_linear::{Constraint, Ints, Sense, compares, is_whole_row};
@@ -62,4 +62,42 @@ fn whole(k: i128) -> Frac
     ensures { result ≡ whole k }
 {
     Frac::new(k, 1).unwrap()
+}
+
+/// The multiplier that makes a coefficient of a sum what is stated, in place of the one that a
+/// constraint has; the constraint's own coefficient is `coefficient`.
+pub fn mended(multiplier: Frac, coefficient: Frac, computed: Frac, stated: Frac) -> Option<Frac>
+    ensures { IfSome result (λ k. Mends multiplier coefficient computed stated k) }
+{
+    let missing = sum(stated, computed.neg())?;
+    let mended = sum(multiplier, product(missing, inverse(coefficient)?)?)?;
+    let added = product(sum(mended, multiplier.neg())?, coefficient)?;
+    if sum(computed, added)? == stated {
+        Some(mended)
+    } else {
+        None
+    }
+}
+
+// The sum of two numbers, if it fits.
+fn sum(a: Frac, b: Frac) -> Option<Frac>
+    ensures { IfSome result (λ s. s ≡ a +ℚ b) }
+{
+    a.add(b).ok()
+}
+
+// Their product, if it fits.
+fn product(a: Frac, b: Frac) -> Option<Frac>
+    ensures { IfSome result (λ p. p ≡ a *ℚ b) }
+{
+    a.mul(b).ok()
+}
+
+// 1 divided by a number.
+fn inverse(number: Frac) -> Option<Frac> {
+    if number.numer() < 0 {
+        Frac::new(-number.denom(), -number.numer()).ok()
+    } else {
+        Frac::new(number.denom(), number.numer()).ok()
+    }
 }

@@ -1,0 +1,209 @@
+//! Multipliers with which a sum is what a derivation states.
+ghost use Rattle.std.specs.Prelude.{◌≡◌, ◌↔◌, IfSome, IsTrue};
+ghost use Rattle.std.specs.List.{All};
+ghost use Rattle.vipr_spec.specs.Constraint.{at};
+ghost use Rattle.vipr_spec.specs.Fraction.{neg_ℚ};
+ghost use Rattle.vipr_page.specs.Repairs.{Mends};
+
+use crate::items::Items;
+use std::alloc::{AllocError, Global};
+use std::fmt;
+use std::fmt::{Display, Formatter, Write};
+use vipr_cert::{Reason, References};
+use vipr_frac::Frac;
+use vipr_linear::{Constraint, Sense};
+use vipr_page::{Difference, ShownName, VariableName, mended};
+
+/// For how many differences a multiplier is looked for.
+const MOST_MENDED: usize = 3;
+
+/// A multiplier of a constraint with which the coefficients of its variables are the stated ones.
+#[derive(Clone, Copy)]
+pub(crate) struct Mend {
+    /// The variable, if it is the only one.
+    variable: Option<u32>,
+    index: u32,
+    /// The multiplier that the constraint has, if it is in the sum.
+    present: Option<Frac>,
+    multiplier: Frac,
+}
+
+/// A multiplier that mends all differences, or else one for each of the first. Its constraint has
+/// these variables alone, and is in the sum, or else it is the first such one of the problem.
+pub(crate) fn find_mends(
+    alloc: Global,
+    items: &Items,
+    reason: &Reason,
+    sense: Sense,
+    differences: &[Difference],
+) -> Result<Vec<Mend>, AllocError> {
+    let mut mends = Vec::new(alloc);
+    let References::Entries(entries) = reason.references() else {
+        return Ok(mends);
+    };
+    if let Some(mend) = mend_of(items, entries, sense, differences) {
+        mends.push(mend)?;
+        return Ok(mends);
+    }
+    for difference in differences.iter().take(MOST_MENDED) {
+        if let Some(mend) = mend_of(items, entries, sense, [*difference].as_slice()) {
+            mends.push(mend)?;
+        }
+    }
+    Ok(mends)
+}
+
+// A multiplier that mends these differences.
+fn mend_of(
+    items: &Items,
+    entries: &[(u32, Frac)],
+    sense: Sense,
+    differences: &[Difference],
+) -> Option<Mend> {
+    for entry in entries {
+        let (index, present) = *entry;
+        if let Some(constraint) = items.constraint(index) {
+            if has_variables_of(constraint, differences) {
+                let multiplier = multiplier_by(constraint, present, sense, differences)?;
+                return Some(Mend {
+                    variable: only_variable(differences),
+                    index,
+                    present: Some(present),
+                    multiplier,
+                });
+            }
+        }
+    }
+    for (index, named) in items.problem.cons().iter().enumerate() {
+        if has_variables_of(&named.item, differences) {
+            if let Some(multiplier) = multiplier_by(&named.item, Frac::zero(), sense, differences) {
+                return Some(Mend {
+                    variable: only_variable(differences),
+                    index: index as u32,
+                    present: None,
+                    multiplier,
+                });
+            }
+        }
+    }
+    None
+}
+
+// The variable of the differences, if there is one alone.
+fn only_variable(differences: &[Difference]) -> Option<u32> {
+    match differences {
+        [difference] => Some(difference.variable),
+        _ => None,
+    }
+}
+
+// Whether a constraint has as many variables as there are differences, and that of the first one.
+fn has_variables_of(constraint: &Constraint, differences: &[Difference]) -> bool {
+    match differences {
+        [first, ..] => {
+            constraint.row.entries().len() == differences.len()
+                && !constraint.row.coefficient(first.variable).is_zero()
+        }
+        [] => false,
+    }
+}
+
+// The multiplier that mends these differences, unless it turns the sense of the sum around.
+fn multiplier_by(
+    constraint: &Constraint,
+    present: Frac,
+    sense: Sense,
+    differences: &[Difference],
+) -> Option<Frac> {
+    let mut multiplier = None;
+    for difference in differences {
+        let found = multiplier_for(constraint, present, *difference)?;
+        if multiplier.unwrap_or(found) != found {
+            return None;
+        }
+        multiplier = Some(found);
+    }
+    multiplier.filter(|found| keeps_sense(constraint.sense, sense, *found))
+}
+
+// Whether a multiple of a constraint has the sense of a sum.
+fn keeps_sense(constraint: Sense, sum: Sense, multiplier: Frac) -> bool {
+    match (constraint, sum) {
+        (Sense::E, _) => true,
+        (Sense::G, Sense::G) | (Sense::L, Sense::L) => multiplier.numer() >= 0,
+        (Sense::G, Sense::L) | (Sense::L, Sense::G) => multiplier.numer() <= 0,
+        (_, Sense::E) => false,
+    }
+}
+
+// The multiplier with which a coefficient is the stated one.
+fn multiplier_for(constraint: &Constraint, present: Frac, difference: Difference) -> Option<Frac>
+    ensures { IfSome result (λ k. Mends present (at constraint.now.row difference.variable)
+        difference.computed difference.stated k) }
+{
+    mended(
+        present,
+        constraint.row.coefficient(difference.variable),
+        difference.computed,
+        difference.stated,
+    )
+}
+
+/// Whether the coefficients of a sum are the stated ones with the other sign, and so is its sense.
+pub(crate) fn is_turned(
+    computed: &Constraint,
+    stated: &Constraint,
+    differences: &[Difference],
+) -> bool {
+    let is_other_way = match (computed.sense, stated.sense) {
+        (Sense::G, Sense::L) | (Sense::L, Sense::G) | (Sense::E, Sense::E) => true,
+        _ => false,
+    };
+    is_other_way
+        && !differences.is_empty()
+        && differences.len() == stated.row.entries().len()
+        && are_opposite(differences)
+}
+
+// Whether each stated coefficient is the computed one with the other sign.
+fn are_opposite(differences: &[Difference]) -> bool
+    ensures { IsTrue result ↔ All (λ d. d.stated ≡ neg_ℚ d.computed) differences.now }
+{
+    differences.iter().all(|difference| difference.stated == difference.computed.neg())
+}
+
+/// A line that offers it.
+#[derive(Clone, Copy)]
+pub(crate) struct MendLine<'a> {
+    pub(crate) items: &'a Items,
+    pub(crate) mend: Mend,
+}
+
+impl Display for MendLine<'_> {
+    fn fmt<W: Write>(&self, f: &mut Formatter<W>) -> fmt::Result {
+        let Mend {
+            variable,
+            index,
+            present,
+            multiplier,
+        } = self.mend;
+        let problem = &self.items.problem;
+        f.write_str("  = help: ")?;
+        match variable {
+            Some(index) => {
+                let name = VariableName { problem, index };
+                write!(f, "the coefficient of {name} is")?;
+            }
+            None => f.write_str("all coefficients are")?,
+        }
+        write!(f, " as stated with the multiplier {multiplier}")?;
+        match present {
+            Some(present) => write!(f, " in place of {present} at [{index}]")?,
+            None => write!(f, " for [{index}], which is not in the sum:")?,
+        }
+        if let Some(name) = self.items.name(index) {
+            write!(f, " {}", ShownName(name))?;
+        }
+        f.write_str("\n")
+    }
+}
