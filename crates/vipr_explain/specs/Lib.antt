@@ -7,3 +7,4 @@ pub mod Progress
 pub mod Syntax
 pub mod Drops
 pub mod Words
+pub mod Refused

@@ -9,6 +9,7 @@ ghost use Rattle.vipr_cert.specs.Items.{derivation_of, reason_of};
 ghost use Rattle.vipr_read.specs.Items.{Knows};
 ghost use Rattle.vipr_explain.specs.Drops.{IsLastUse, ReadsNext, last_among, later_of};
 ghost use Rattle.vipr_explain.specs.Drops.{names_constraint};
+ghost use Rattle.vipr_explain.specs.Refused.{IsLastUseIn};
 ghost use Rattle.vipr_explain.specs.Found.{HasFault, OnlyIf, head_read};
 ghost use Rattle.vipr_explain.specs.Found.{text_input};
 
@@ -37,7 +38,10 @@ pub(crate) struct LastUse<'a> {
 
 impl<'a> LastUse<'a> {
     /// Reads it, if that such a constraint is needed is the fault.
-    pub(crate) fn of(subject: Subject<'a>, fault: StepFault<'_>) -> Reread<Option<LastUse<'a>>> {
+    pub(crate) fn of(subject: Subject<'a>, fault: StepFault<'_>) -> Reread<Option<LastUse<'a>>>
+        ensures { IfOk result (λ found. IfSome found
+            (λ l. IsLastUseIn subject.entry.text.now l.index fault.entry.index l)) }
+    {
         match fault.what {
             StepDetail::Index(index) if fault.cause == cause::DROPPED => {
                 Ok(Some(LastUse::find(subject, *index, fault.index)?))
@@ -48,8 +52,7 @@ impl<'a> LastUse<'a> {
 
     // Reads that of a constraint, which a derivation needs.
     fn find(subject: Subject<'a>, index: u32, user: u32) -> Reread<LastUse<'a>>
-        ensures { IfOk result (λ found. IfKnown (text_input subject.entry.text.now)
-            (λ i. IsLastUse (text_of i) index user found.last)) }
+        ensures { IfOk result (IsLastUseIn subject.entry.text.now index user) }
     {
         let last = last_use(subject.alloc, subject.text, index, user)?;
         let marks = find_constraints(subject.alloc, subject.text, [index].as_slice())?;

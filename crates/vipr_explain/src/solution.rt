@@ -3,6 +3,7 @@ ghost use Rattle.std.specs.Prelude.{IfOk};
 ghost use Rattle.vipr_bytes.specs.Known.{IfKnown, text_of};
 ghost use Rattle.vipr_cert.specs.Items.{solution_of};
 ghost use Rattle.vipr_explain.specs.Found.{IsListedSolution, text_input};
+ghost use Rattle.vipr_explain.specs.Refused.{AreBroken, IsSolutionPlace};
 
 use crate::excerpt::{KnownPlace, PlaceLabel, ShownPlace};
 use crate::items::{open_problem, read_solution};
@@ -43,8 +44,12 @@ impl<'a> RefusedSolution<'a> {
         number: u32,
         detail: &Detail,
     ) -> Reread<RefusedSolution<'a>>
-        ensures { IfOk result (λ s. IfKnown (text_input subject.entry.text.now)
+        ensures listed { IfOk result (λ s. IfKnown (text_input subject.entry.text.now)
             (λ i. IsListedSolution number (text_of i) s.problem (solution_of s.solution))) }
+        ensures place { IfOk result
+            (λ s. IsSolutionPlace subject.entry.text.now number s.place) }
+        ensures broken { IfOk result
+            (λ s. AreBroken subject.entry.text.now detail.now s.broken.items) }
     {
         let (problem, solution) = read_solution(subject.alloc, subject.text, number)?;
         match places_of(subject, number, detail) {
@@ -69,7 +74,10 @@ fn places_of<'a>(
     subject: Subject<'a>,
     number: u32,
     detail: &Detail,
-) -> Result<(Option<KnownPlace<'a>>, Vec<ItemPlace>), AllocError> {
+) -> Result<(Option<KnownPlace<'a>>, Vec<ItemPlace>), AllocError>
+    ensures place { IfOk result (λ x. IsSolutionPlace subject.entry.text.now number x.0) }
+    ensures broken { IfOk result (λ x. AreBroken subject.entry.text.now detail.now x.1.items) }
+{
     let broken = broken_place(subject, detail)?;
     match solution_place(subject, number) {
         Ok(place) => Ok((place, broken)),
@@ -81,7 +89,9 @@ fn places_of<'a>(
 }
 
 // The place of a solution.
-fn solution_place(subject: Subject<'_>, number: u32) -> Result<Option<KnownPlace<'_>>, AllocError> {
+fn solution_place(subject: Subject<'_>, number: u32) -> Result<Option<KnownPlace<'_>>, AllocError>
+    ensures { IfOk result (IsSolutionPlace subject.entry.text.now number) }
+{
     match find_solution(subject.alloc, subject.text, number)? {
         Some(mark) => Ok(Some(KnownPlace::of(subject.text, mark.name))),
         None => Ok(None),
@@ -89,7 +99,9 @@ fn solution_place(subject: Subject<'_>, number: u32) -> Result<Option<KnownPlace
 }
 
 // The place of the constraint that a solution breaks, if that is the fault.
-fn broken_place(subject: Subject<'_>, detail: &Detail) -> Result<Vec<ItemPlace>, AllocError> {
+fn broken_place(subject: Subject<'_>, detail: &Detail) -> Result<Vec<ItemPlace>, AllocError>
+    ensures { IfOk result (λ marks. AreBroken subject.entry.text.now detail.now marks.items) }
+{
     match detail {
         Detail::Breaks { constraint, .. } => {
             find_constraints(subject.alloc, subject.text, [*constraint].as_slice())

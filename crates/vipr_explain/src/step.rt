@@ -1,4 +1,7 @@
 //! A derivation that is refused.
+ghost use Rattle.std.specs.Prelude.{◌≡◌, ◌↔◌, IfOk, IsTrue};
+ghost use Rattle.vipr_explain.specs.Refused.{AreSplit, IsNamePlace, IsNamedOf, IsRefusedStep};
+ghost use Rattle.vipr_explain.specs.Refused.{IsRepair, differences_in, faults_in};
 
 use crate::drops::LastUse;
 use crate::excerpt::{KnownPlace, PlaceLabel, ShownPlace};
@@ -13,8 +16,7 @@ use std::fmt;
 use std::fmt::{Display, Formatter, Write};
 use vipr_cert::{Problem, Reason};
 use vipr_check::{StepDetail, cause};
-use vipr_frac::Frac;
-use vipr_linear::{Constraint, Sense};
+use vipr_linear::{Constraint, covers};
 use vipr_page::{
     Algebra, Difference, DifferenceLine, RowFault, RowFaults, ShownName, rounded, row_differences,
     row_faults, sign_of,
@@ -51,6 +53,8 @@ struct NamedItems<'a> {
     faults: Vec<RowFault>,
     /// The right-hand side by `rnd`, if that is enough.
     rounded: Option<i128>,
+    /// Whether its two assumptions are a split by the second profile.
+    is_split: bool,
     dropped: Option<LastUse<'a>>,
     /// Whether its reason is `sol`.
     is_cutoff: bool,
@@ -58,7 +62,10 @@ struct NamedItems<'a> {
 
 impl<'a> RefusedStep<'a> {
     /// Reads the derivation that is refused, and what it names.
-    pub(crate) fn find(subject: Subject<'a>, fault: StepFault<'_>) -> Reread<RefusedStep<'a>> {
+    pub(crate) fn find(subject: Subject<'a>, fault: StepFault<'_>) -> Reread<RefusedStep<'a>>
+        ensures { IfOk result
+            (IsRefusedStep subject.entry.text.now fault.entry.index fault.entry.what.now) }
+    {
         let own = read_items(subject.alloc, subject.text, [fault.index].as_slice())?;
         match read_named(subject, fault, &own) {
             Ok(named) => Ok(RefusedStep {
@@ -75,11 +82,10 @@ impl<'a> RefusedStep<'a> {
 }
 
 // Reads what a derivation names.
-fn read_named<'a>(
-    subject: Subject<'a>,
-    fault: StepFault<'_>,
-    own: &Items,
-) -> Reread<NamedItems<'a>> {
+fn read_named<'a>(subject: Subject<'a>, fault: StepFault<'_>, own: &Items) -> Reread<NamedItems<'a>>
+    ensures { IfOk result
+        (IsNamedOf subject.entry.text.now own.now fault.entry.index fault.entry.what.now) }
+{
     let Some(step) = own.derivation(fault.index) else {
         return Err(TextError::Read);
     };
@@ -100,6 +106,7 @@ fn read_named<'a>(
     let faults = faults_of(subject.alloc, &known.items.problem, fault.what)?;
     let dropped = LastUse::of(subject, fault)?;
     let rounded = rounding_of(&known.items.problem, &step.reason, fault.what);
+    let is_split = are_split(&known.items.problem, fault.what);
     Ok(NamedItems {
         known,
         place,
@@ -107,13 +114,16 @@ fn read_named<'a>(
         mends,
         faults,
         rounded,
+        is_split,
         dropped,
         is_cutoff: matches!(step.reason, Reason::Sol),
     })
 }
 
 // The place of a derivation.
-fn step_place<'a>(subject: Subject<'a>, known: &PlacedItems, index: u32) -> Option<KnownPlace<'a>> {
+fn step_place<'a>(subject: Subject<'a>, known: &PlacedItems, index: u32) -> Option<KnownPlace<'a>>
+    ensures { IsNamePlace subject.entry.text.now known.now.marks.items index result }
+{
     match mark_of(known.marks.as_slice(), index) {
         Some(mark) => Some(KnownPlace::of(subject.text, mark.name)),
         None => None,
@@ -121,7 +131,9 @@ fn step_place<'a>(subject: Subject<'a>, known: &PlacedItems, index: u32) -> Opti
 }
 
 // Where the rows of a computed and a stated constraint differ, if these are at fault.
-fn differences_of(alloc: Global, what: &StepDetail) -> Result<Vec<Difference>, AllocError> {
+fn differences_of(alloc: Global, what: &StepDetail) -> Result<Vec<Difference>, AllocError>
+    ensures { IfOk result (λ found. found.items ≡ differences_in what.now) }
+{
     match what {
         StepDetail::Rows { computed, stated } => {
             row_differences(alloc, &computed.row, &stated.row)
@@ -135,7 +147,9 @@ fn faults_of(
     alloc: Global,
     problem: &Problem,
     what: &StepDetail,
-) -> Result<Vec<RowFault>, AllocError> {
+) -> Result<Vec<RowFault>, AllocError>
+    ensures { IfOk result (λ faults. faults.items ≡ faults_in problem.now.integers what.now) }
+{
     match what {
         StepDetail::Sum(sum) => row_faults(alloc, problem.ints(), &sum.row),
         StepDetail::Pair(first, _) => row_faults(alloc, problem.ints(), &first.row),
@@ -144,12 +158,24 @@ fn faults_of(
 }
 
 // The right-hand side that `rnd` gives in place of `lin`, if that is enough.
-fn rounding_of(problem: &Problem, reason: &Reason, what: &StepDetail) -> Option<i128> {
+fn rounding_of(problem: &Problem, reason: &Reason, what: &StepDetail) -> Option<i128>
+    ensures { IsRepair problem.now.integers reason.now what.now result }
+{
     match (reason, what) {
         (Reason::Lin(_), StepDetail::Rows { computed, stated }) => {
             rounded(problem.ints(), computed, stated)
         }
         _ => None,
+    }
+}
+
+// Whether two assumptions are a split by the second profile, if that is the fault.
+fn are_split(problem: &Problem, what: &StepDetail) -> bool
+    ensures { IsTrue result ↔ AreSplit problem.now.integers what.now }
+{
+    match what {
+        StepDetail::Pair(first, second) => covers(first, second, problem.ints()),
+        _ => false,
     }
 }
 
@@ -261,7 +287,7 @@ fn write_detail<W: Write>(
                      at least k + 1\n",
                 )
             } else if step.faults.is_empty() {
-                write_gap(f, refused.profile, first, second)
+                write_gap(f, refused, first, second)
             } else {
                 write!(f, "{faults}")
             }
@@ -303,11 +329,11 @@ fn write_repair<W: Write>(
 // Writes which two sides are a split, and which these are.
 fn write_gap<W: Write>(
     f: &mut Formatter<W>,
-    profile: Profile,
+    refused: &RefusedStep<'_>,
     first: &Constraint,
     second: &Constraint,
 ) -> fmt::Result {
-    f.write_str(match profile {
+    f.write_str(match refused.profile {
         Profile::One => "    a split is <= k and >= k + 1 with k whole",
         Profile::Two => {
             "    a split is <= k and >= h, where h rounded up is at most k rounded down plus 1"
@@ -319,23 +345,10 @@ fn write_gap<W: Write>(
         f,
         "; here it is {first_sign} {first_side} and {second_sign} {second_side}\n"
     )?;
-    if profile == Profile::One && leaves_no_gap(first, second) {
+    if refused.profile == Profile::One && refused.named.is_split {
         f.write_str("  = help: `--profile 2` accepts these\n")?;
     }
     Ok(())
-}
-
-// Whether every whole value of their row is in one of two constraints.
-fn leaves_no_gap(first: &Constraint, second: &Constraint) -> bool {
-    match (first.sense, second.sense) {
-        (Sense::L, Sense::G) => meets(first.rhs, second.rhs),
-        (Sense::G, Sense::L) => meets(second.rhs, first.rhs),
-        _ => false,
-    }
-}
-
-fn meets(below: Frac, above: Frac) -> bool {
-    above.ceil() <= below.floor().saturating_add(1)
 }
 
 // Writes a constraint behind a label.

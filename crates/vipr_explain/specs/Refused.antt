@@ -1,0 +1,105 @@
+-- What is found of a derivation or a listed solution that is refused
+use Rattle.std.specs.Prelude.{◌≡◌, ◌↔◌, ℕ, ℤ, ⊤, List, [], ◌∷◌, IfSome, IsTrue, Option, Some}
+use Rattle.std.specs.Prelude.{None, option_map}
+use Rattle.vipr_spec.specs.Constraint.{Ints, IsSplit, two}
+use Rattle.vipr_bytes.specs.Known.{IfKnown, text_of}
+use Rattle.vipr_linear.specs.Constraint.{condition_of, constraint_of}
+use Rattle.vipr_cert.specs.declared.items.Derivation.{Derivation}
+use Rattle.vipr_cert.specs.declared.items.Reason.{Reason}
+use Rattle.vipr_cert.specs.declared.items.Reason.TheVariants as reason
+use Rattle.vipr_check.specs.declared.detail.Detail.{Detail}
+use Rattle.vipr_check.specs.declared.detail.Detail.TheVariants as detail
+use Rattle.vipr_check.specs.declared.detail.StepDetail.{StepDetail}
+use Rattle.vipr_check.specs.declared.detail.StepDetail.TheVariants as what
+use Rattle.vipr_page.specs.Differences.{row_differences}
+use Rattle.vipr_page.specs.Repairs.{IsRounded}
+use Rattle.vipr_page.specs.RowFaults.{row_faults}
+use Rattle.vipr_page.specs.declared.differences.Difference.{Difference}
+use Rattle.vipr_page.specs.declared.faults.RowFault.{RowFault}
+use Rattle.vipr_explain.specs.Drops.{IsLastUse}
+use Rattle.vipr_explain.specs.Excerpts.{IsPlaceAt}
+use Rattle.vipr_explain.specs.Found.{AreFoundItems, AreItemsOf, text_input}
+use Rattle.vipr_explain.specs.Listed.{kept_derivation, place_found}
+use Rattle.vipr_explain.specs.Marked.{marks_in}
+use Rattle.vipr_explain.specs.declared.drops.LastUse.{LastUse}
+use Rattle.vipr_explain.specs.declared.excerpt.KnownPlace.{KnownPlace}
+use Rattle.vipr_explain.specs.declared.items.Items.{Items}
+use Rattle.vipr_explain.specs.declared.marks.ItemPlace.{ItemPlace}
+use Rattle.vipr_explain.specs.declared.marks.ItemSort.TheVariants as kind
+use Rattle.vipr_explain.specs.declared.step.NamedItems.{NamedItems}
+use Rattle.vipr_explain.specs.declared.step.RefusedStep.{RefusedStep}
+use Rattle.vipr_explain.specs.declared.text.Span.{Span}
+
+-- the place of this part of a text, none if it wasn't found
+abbrev pub IsPlaceFor : List ℕ → Option Span → Option KnownPlace → Type 0
+IsPlaceFor text (Some span) (Some place) = IsPlaceAt text span place
+IsPlaceFor text None None = ⊤
+IsPlaceFor text _ _ = ⊥
+
+-- where the rows of a computed and a stated constraint differ, if these are at fault
+abbrev pub differences_in : StepDetail → List Difference
+differences_in (what.Rows computed stated) = row_differences computed.row stated.row
+differences_in _ = []
+
+-- what keeps a sum, or the row of two assumptions, from being whole
+abbrev pub faults_in : Ints → StepDetail → List RowFault
+faults_in integers (what.Sum sum) = row_faults integers sum.row
+faults_in integers (what.Pair first second) = row_faults integers first.row
+faults_in integers _ = []
+
+-- the right-hand side by rnd in place of lin, if that is enough
+abbrev pub IsRepair : Ints → Reason → StepDetail → Option ℤ → Type 0
+IsRepair integers (reason.Lin es) (what.Rows computed stated) k =
+    IsRounded integers (constraint_of computed) (constraint_of stated) k
+IsRepair integers _ _ k = k ≡ None
+
+-- the two assumptions are a split by the second profile
+abbrev pub AreSplit : Ints → StepDetail → Type 0
+AreSplit integers (what.Pair first second) =
+    IsSplit two integers (condition_of first) (condition_of second)
+AreSplit integers _ = ⊥
+
+-- the place of an item's name among these, and that of its last reference
+abbrev pub IsNamePlace : List ℕ → List ItemPlace → ℕ → Option KnownPlace → Type 0
+IsNamePlace text marks index place =
+    IsPlaceFor text (option_map (λ m. m.name) (place_found marks index)) place
+
+abbrev pub IsLastPlace : List ℕ → List ItemPlace → ℕ → Option KnownPlace → Type 0
+IsLastPlace text marks index place =
+    IsPlaceFor text (option_map (λ m. m.last) (place_found marks index)) place
+
+-- the last use of this constraint, which derivation user needs
+pub record IsLastUseIn (text : List ℕ) (index user : ℕ) (l : LastUse) : Type 0 where
+  pub index_is : l.index ≡ index
+  pub last : IfKnown (text_input text) (λ i. IsLastUse (text_of i) index user l.last)
+  pub place : IsLastPlace text (marks_in kind.Constraints (index ∷ []) text) index l.place
+
+-- what the derivation of constraint k, which is refused, names in a text, and what is behind that
+pub record IsNamedOf (text : List ℕ) (own : Items) (k : ℕ) (detail : StepDetail) (n : NamedItems)
+    : Type 0 where
+  pub step : Derivation
+  pub own_is : kept_derivation own.derivations.items k ≡ Some step
+  pub wanted : List ℕ
+  pub known : AreItemsOf text wanted n.known
+  pub place : IsNamePlace text n.known.marks.items k n.place
+  pub differences : n.differences.items ≡ differences_in detail
+  pub faults : n.faults.items ≡ faults_in n.known.items.problem.integers detail
+  pub split : IsTrue n.is_split ↔ AreSplit n.known.items.problem.integers detail
+  pub rounded : IsRepair n.known.items.problem.integers step.reason detail n.rounded
+  pub dropped : IfSome n.dropped (λ l. IsLastUseIn text l.index k l)
+
+pub record IsRefusedStep (text : List ℕ) (k : ℕ) (detail : StepDetail) (s : RefusedStep)
+    : Type 0 where
+  pub own : IfKnown (text_input text) (λ i. AreFoundItems (k ∷ []) (text_of i) s.own)
+  pub named : IsNamedOf text s.own k detail s.named
+
+-- the place of a solution
+abbrev pub IsSolutionPlace : List ℕ → ℕ → Option KnownPlace → Type 0
+IsSolutionPlace text number place =
+    IsNamePlace text (marks_in kind.Solutions (number ∷ []) text) number place
+
+-- the place of the constraint that a solution breaks, if that is the fault
+abbrev pub AreBroken : List ℕ → Detail → List ItemPlace → Type 0
+AreBroken text (detail.Breaks name constraint _ _ _ _) marks =
+    marks ≡ marks_in kind.Constraints (constraint ∷ []) text
+AreBroken text _ marks = marks ≡ []
