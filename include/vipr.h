@@ -69,6 +69,11 @@ int32_t vipr_report(uint32_t profile, const void *text, size_t size, char *lines
 /* What `vipr explain` prints. */
 int32_t vipr_explain(uint32_t profile, const void *text, size_t size, char *lines, size_t room, size_t *length);
 
+/* What `vipr explain --long` prints of a file: the same, and a page for people that explains it. The name of the file is
+ * `name_size` bytes, which the page shows. */
+int32_t vipr_explain_long(uint32_t profile, const char *name, size_t name_size, const void *text, size_t size, char *lines,
+                          size_t room, size_t *length);
+
 /* What `vipr show` writes, with `--compact` unless `compact` is 0. The answer has the refusal of a text that spells no
  * certificate; all else in it is 0. */
 int32_t vipr_show(uint32_t compact, const void *text, size_t size, char *shown, size_t room, size_t *length,

@@ -1,6 +1,6 @@
 /* Calls the library on a file, with a buffer of its own, and writes what the buffer holds and then a line of numbers.
  *
- * usage: library FILE CALL PROFILE COMPACT ROOM ..  CALL is check, report, explain, show or tighten
+ * usage: library FILE CALL PROFILE COMPACT ROOM ..  CALL is check, report, explain, long, show or tighten
  *        library name CAUSE ROOM ..
  *        library version ROOM
  *        library growths FILE
@@ -8,7 +8,8 @@
  * The words behind `..` may come more than once, and each time there is a call. The line is `status S length L`, and what the call's struct holds. The buffer is filled with `.` before the call, and so
  * has to be the byte behind the room after it. `growths` makes each call with its first growth refused, its second, and
  * so on: each has to return 3, a length of 0 and a struct of zeros, and to leave the buffer; or all that it returns without
- * a refusal, since a derivation whose reading failed so at first is read anew. None may keep memory. It writes how many
+ * a refusal, since a derivation whose reading failed so at first is read anew; or, of `long`, that without its page. None
+ * may keep memory. It writes how many
  * growths it refused. Linked with -Wl,--wrap=malloc,--wrap=realloc,--wrap=free. */
 #include <stdio.h>
 #include <stdlib.h>
@@ -18,9 +19,9 @@
 
 #define ROOM 4096
 
-enum call { CHECK, REPORT, EXPLAIN, SHOW, TIGHTEN, CALLS };
+enum call { CHECK, REPORT, EXPLAIN, EXPLAIN_LONG, SHOW, TIGHTEN, CALLS };
 
-static const char *const NAMES[] = {"check", "report", "explain", "show", "tighten"};
+static const char *const NAMES[] = {"check", "report", "explain", "long", "show", "tighten"};
 
 /* What a call is asked, and what it answers. */
 struct job {
@@ -88,6 +89,8 @@ static int32_t run(struct job *it)
         return vipr_report(it->profile, it->text, it->size, it->buffer, it->room, &it->length, &it->answer);
     case EXPLAIN:
         return vipr_explain(it->profile, it->text, it->size, it->buffer, it->room, &it->length);
+    case EXPLAIN_LONG:
+        return vipr_explain_long(it->profile, "standard input", 14, it->text, it->size, it->buffer, it->room, &it->length);
     case SHOW:
         return vipr_show(it->compact, it->text, it->size, it->buffer, it->room, &it->length, &it->answer);
     default:
@@ -121,6 +124,13 @@ static int repeats(const struct job *it, int32_t status, const struct job *first
         && memcmp(&it->figures, &first->figures, sizeof it->figures) == 0;
 }
 
+/* Whether a long explanation has its first lines alone, since there was no memory for the page behind them. */
+static int lacks_page(const struct job *it, int32_t status, const struct job *first, const char *text, int32_t ended)
+{
+    return it->call == EXPLAIN_LONG && status == ended && it->length < first->length && kept == 0
+        && memcmp(it->buffer, text, it->length < it->room ? it->length : it->room) == 0;
+}
+
 /* Makes a call with each of its growths refused in turn, and returns how many there were, or -1. */
 static long refuse_each(struct job *it)
 {
@@ -140,7 +150,8 @@ static long refuse_each(struct job *it)
         refused = number;
         status = run(it);
         refused = 0;
-        if (!lacks(it, status) && !repeats(it, status, &first, text, ended)) {
+        if (!lacks(it, status) && !repeats(it, status, &first, text, ended)
+            && !lacks_page(it, status, &first, text, ended)) {
             printf("%s, growth %ld: status %d, length %zu, kept %ld\n", NAMES[it->call], number, status, it->length, kept);
             return -1;
         }

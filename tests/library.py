@@ -192,6 +192,8 @@ def calls(path, whole):
         said, explained = (run([PROGRAM, call, '--profile', profile, path]) for call in ('check', 'explain'))
         yield ['report', profile, 0], (said.returncode, said.stdout, ['answer', *answer(explained.stdout)])
         yield ['explain', profile, 0], (explained.returncode, explained.stdout, [])
+        long = run([PROGRAM, 'explain', '--long', '--profile', profile], Path(path).read_bytes())
+        yield ['long', profile, 0], (long.returncode, long.stdout, [])
         for compact in (0, 1) if whole else (0,):
             said = run([PROGRAM, 'tighten', '--profile', profile, *['--compact'] * compact, path])
             yield ['tighten', profile, compact], (said.returncode, said.stdout, ['figures', *figures(said.stderr.rstrip())])
@@ -202,6 +204,7 @@ def calls(path, whole):
         for profile in (0, 3):
             yield ['report', profile, 0], (2, b'', ['answer', *[0] * 8])
             yield ['explain', profile, 0], (2, b'', [])
+            yield ['long', profile, 0], (2, b'', [])
         yield ['tighten', 3, 0], (2, b'', ['figures', *[0] * 7])
 
 
@@ -262,7 +265,7 @@ def look_at_memory(program, room):
         return
     front = ['valgrind', '-q', '--error-exitcode=9']
     for path in (TOP / 'examples/branch_and_bound.vipr', TOP / 'examples/overflow.vipr', room / 'infeasible.10'):
-        words = [word for call in ('check', 'report', 'explain', 'show', 'tighten') for word in (call, 1, 1, 100)]
+        words = [word for call in ('check', 'report', 'explain', 'long', 'show', 'tighten') for word in (call, 1, 1, 100)]
         said = run([*front, '--leak-check=full', '--show-leak-kinds=all', program, path, *words], timeout=LONG)
         if said.returncode or said.stderr:
             fail(f'memcheck of {path.name}: {said.stderr!r}')

@@ -15,6 +15,7 @@ usage: tests/python.py [PROGRAM]     crates/vipr/out/vipr without it
 
 Prints each fault, and last `python: N checks, F failed`; the exit status is 1 if one failed.
 """
+import functools
 import gzip
 import importlib.util
 import json
@@ -128,7 +129,9 @@ def calls(texts):
             check(f'{verdict}\n'.encode() == out + fault and bool(verdict) == (status == 0), f'check: {verdict}, {out}')
             goal = re.search(rb'^goal (\d+)', run([PROGRAM, 'explain', f'--profile={profile}'], text).stdout, re.M)
             check(verdict.goal == (int(goal[1]) if goal and verdict else None), f'the goal is {verdict.goal}, not {goal}')
-            check(vipr.explain(text, profile) == run([PROGRAM, 'explain', f'--profile={profile}'], text).stdout, 'explain differs')
+            for call, words in ((vipr.explain, ()), (functools.partial(vipr.explain_long, name='standard input'), ('--long',))):
+                out = run([PROGRAM, 'explain', *words, f'--profile={profile}'], text).stdout
+                check(call(text, profile=profile) == out, f'explain {words} differs')
         for words, compact in (([], False), (['--compact'], True)):
             for command, call in (('show', vipr.show), ('tighten', vipr.tighten)):
                 out, fault, status = run([PROGRAM, command, *words], text)

@@ -66,6 +66,7 @@ def _library() -> ctypes.CDLL:
         library = ctypes.CDLL(name)
         library.vipr_report.argtypes = [_NUMBER, *text, *buffer, ctypes.POINTER(_Answer)]
         library.vipr_explain.argtypes = [_NUMBER, *text, *buffer]
+        library.vipr_explain_long.argtypes = [_NUMBER, *text, *text, *buffer]
         library.vipr_show.argtypes = [_NUMBER, *text, *buffer, ctypes.POINTER(_Answer)]
         library.vipr_tighten.argtypes = [_NUMBER, _NUMBER, *text, *buffer, ctypes.POINTER(_Figures)]
         library.vipr_version.argtypes, library.vipr_version.restype = [_TEXT, _SIZE], _SIZE
@@ -74,7 +75,7 @@ def _library() -> ctypes.CDLL:
     return library
 
 
-def _call(name: str, options: Tuple[int, ...], text: bytes, *behind: ctypes.Structure) -> Tuple[bool, bytes]:
+def _call(name: str, options: Tuple[int | bytes, ...], text: bytes, *behind: ctypes.Structure) -> Tuple[bool, bytes]:
     """Whether the status is 0, and the text of a call, which is made again if its text needs more room."""
     if not isinstance(text, bytes):
         raise TypeError(f'a certificate is bytes, not {type(text).__name__}')
@@ -111,6 +112,15 @@ def explain(text: bytes, profile: int = 1) -> bytes:
     Raises what `check` raises.
     """
     return _call('vipr_explain', (profile,), text)[1]
+
+
+def explain_long(text: bytes, name: str = 'the text', profile: int = 1) -> bytes:
+    """What `vipr explain --long` prints of a file of this name: a page for people behind what `explain` gives.
+
+    Raises what `check` raises.
+    """
+    shown = os.fsencode(name)
+    return _call('vipr_explain_long', (profile, shown, len(shown)), text)[1]
 
 
 def show(text: bytes, compact: bool = False) -> bytes | Refusal:

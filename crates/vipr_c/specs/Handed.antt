@@ -16,6 +16,7 @@ use Rattle.vipr_check.specs.Text.{verdict_text}
 use Rattle.vipr_check.specs.declared.detail.Detail.{Detail}
 use Rattle.vipr_check.specs.declared.verdict.Fault.{Fault}
 use Rattle.vipr_check.specs.declared.verdict.Verdict.{Verdict}
+use Rattle.vipr_page.specs.Page.{IsPage}
 use Rattle.vipr_c.specs.AnswerOf.{status_of, answer_of_verdict, no_answer}
 use Rattle.vipr_c.specs.declared.answer.Answer.{Answer}
 
@@ -68,6 +69,11 @@ IsExplanation bytes P status text = (v : Verdict) × (x : Detail)
     × IfKnown (in_memory bytes) (λ i. SaysInDetail (IsExplained P (text_of i)) (Ok (v, x)))
     × (status ≡ status_of (Ok v)) × (text ≡ explained_text v x)
 
+-- these lines, and a page behind them
+abbrev pub IsLong : List ℕ → is.Profile → ℤ → List ℕ → Type 0
+IsLong bytes P status text = (lines more : List ℕ) × IsExplanation bytes P status lines
+    × IsPage more × (text ≡ lines ++ more)
+
 -- the verdict on these bytes with its detail, if memory isn't refused
 pub record GivesDetail (bytes : List ℕ) (P : is.Profile) (r : Result (Verdict × Detail) Fault)
     : Type 0 where
@@ -85,3 +91,9 @@ abbrev pub ExplainsBy : Option Profile → List ℕ → ℤ → List ℕ → Typ
 ExplainsBy (Some p) bytes status text =
     IsExplanation bytes (profile_of p) status text ⊎ HasNoMemory status text
 ExplainsBy None bytes status text = HasNoProfile status text
+
+-- the same with a page behind it
+abbrev pub ExplainsAtLength : Option Profile → List ℕ → ℤ → List ℕ → Type 0
+ExplainsAtLength (Some p) bytes status text =
+    IsLong bytes (profile_of p) status text ⊎ HasNoMemory status text
+ExplainsAtLength None bytes status text = HasNoProfile status text

@@ -15,7 +15,8 @@ ghost use Rattle.vipr_check.specs.Checks.{Checks};
 ghost use Rattle.vipr_check.specs.declared.verdict.Fault.{Fault as Failure};
 ghost use Rattle.vipr_check.specs.declared.verdict.Verdict.{Verdict as Answered};
 ghost use Rattle.vipr_c.specs.AnswerOf.{status_of, answer_of_verdict};
-ghost use Rattle.vipr_c.specs.Handed.{ExplainsBy, Fills, ReportsBy, ended, profile_numbered};
+ghost use Rattle.vipr_c.specs.Handed.{ExplainsAtLength, ExplainsBy, Fills, ReportsBy, ended};
+ghost use Rattle.vipr_c.specs.Handed.{profile_numbered};
 ghost use Rattle.vipr_c.specs.Written.{ReturnsText, TightensBy, form_flagged};
 
 use crate::answer::{Answer, answer_of, status};
@@ -81,6 +82,24 @@ pub extern "C" fn vipr_explain(
         × Fills made lines.old lines.new length.new }
 {
     report::explanation_on(alloc, profile, text).hand_over(lines, length)
+}
+
+/// Writes what `vipr explain --long` prints of the text, which has this name, in the form of
+/// `vipr_report`.
+#[unsafe(no_mangle)]
+pub extern "C" fn vipr_explain_long(
+    alloc: Global,
+    profile: u32,
+    name: &[u8],
+    text: &[u8],
+    lines: &mut [u8],
+    length: &mut usize,
+) -> i32
+    ensures { (made : List ℕ)
+        × ExplainsAtLength (profile_numbered profile) text.now result made
+        × Fills made lines.old lines.new length.new }
+{
+    report::long_explanation_on(alloc, profile, name, text).hand_over(lines, length)
 }
 
 /// Writes what `vipr show` does of the text, in its compact form unless `compact` is 0, in the form

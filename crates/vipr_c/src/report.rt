@@ -1,11 +1,13 @@
 //! The lines of `vipr check` and `vipr explain`, with their status.
 
-ghost use Rattle.std.specs.Prelude.{◌≡◌, IfOk, Ok, Some};
+ghost use Rattle.std.specs.Prelude.{◌≡◌, ◌++◌, ℕ, List, IfOk, Ok, Some};
 ghost use Rattle.vipr_rules.specs.Profile.{profile_of};
 ghost use Rattle.vipr_check.specs.Checks.{ChecksIn};
 ghost use Rattle.vipr_check.specs.Explanation.{explained_text};
+ghost use Rattle.vipr_page.specs.Page.{IsPage};
 ghost use Rattle.vipr_c.specs.AnswerOf.{status_of};
-ghost use Rattle.vipr_c.specs.Handed.{ExplainsBy, GivesDetail, IsExplanation, IsReport, ReportsBy};
+ghost use Rattle.vipr_c.specs.Handed.{ExplainsAtLength, ExplainsBy, GivesDetail, IsExplanation};
+ghost use Rattle.vipr_c.specs.Handed.{IsLong, IsReport, ReportsBy};
 ghost use Rattle.vipr_c.specs.Handed.{in_memory, profile_numbered, report_lines};
 
 use crate::answer::{Answer, NOTHING, answer_of};
@@ -13,6 +15,8 @@ use crate::handed::{Handed, NO_MEMORY, NO_PROFILE, profile_numbered};
 use std::alloc::{AllocError, Global};
 use vipr_bytes::Bytes;
 use vipr_check::{Detail, Explanation, Fault, Verdict, check_in, explain_in};
+use vipr_explain::page_for;
+use vipr_page::with_page;
 use vipr_rules::{LiveOnly, Profile};
 
 /// What `vipr check` prints of a text by the rules of the profile with this number, and the numbers
@@ -42,6 +46,18 @@ pub(crate) fn explanation_on(alloc: Global, profile: u32, text: &[u8]) -> Handed
 {
     match profile_numbered(profile) {
         Some(profile) => { Handed::or_no_memory(alloc, explanation_lines(alloc, profile, text)) }
+        None => Handed::nothing(alloc, NO_PROFILE),
+    }
+}
+
+/// What `vipr explain --long` prints of a text of this name by the rules of the profile with this
+/// number.
+pub(crate) fn long_explanation_on(alloc: Global, profile: u32, name: &[u8], text: &[u8]) -> Handed
+    ensures { ExplainsAtLength (profile_numbered profile) text.now result.status
+        result.text.items }
+{
+    match profile_numbered(profile) {
+        Some(profile) => Handed::or_no_memory(alloc, long_lines(alloc, profile, name, text)),
         None => Handed::nothing(alloc, NO_PROFILE),
     }
 }
@@ -92,6 +108,36 @@ fn explanation_lines(alloc: Global, profile: Profile, text: &[u8]) -> Result<Han
         status: status_for(&verdict),
         text,
     })
+}
+
+fn long_lines(alloc: Global, profile: Profile, name: &[u8], text: &[u8]) -> Result<Handed, Fault>
+    ensures { IfOk result
+        (λ lines. IsLong text.now (profile_of profile) lines.status lines.text.items) }
+{
+    let (verdict, detail) = detail_on(alloc, profile, text)?;
+    let lines = lines_with_page(alloc, profile, name, text, &verdict, &detail);
+    drop(detail);
+    let text = lines?;
+    Ok(Handed {
+        status: status_for(&verdict),
+        text,
+    })
+}
+
+fn lines_with_page(
+    alloc: Global,
+    profile: Profile,
+    name: &[u8],
+    text: &[u8],
+    verdict: &Verdict,
+    detail: &Detail,
+) -> Result<Vec<u8>, AllocError>
+    ensures { IfOk result (λ lines. (more : List ℕ) × IsPage more
+        × (lines.items ≡ explained_text verdict.now detail.now ++ more)) }
+{
+    let lines = explained(alloc, verdict, detail)?;
+    let page = page_for(alloc, profile, Some(text), name, verdict, detail);
+    Ok(with_page(lines, page))
 }
 
 fn detail_on(alloc: Global, profile: Profile, text: &[u8]) -> Result<(Verdict, Detail), Fault>
