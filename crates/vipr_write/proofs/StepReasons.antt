@@ -83,10 +83,10 @@ pub short_length : (es : List ShortEntry)
     → 2 + 2 * length es ≡ suc (length (reference_words (by_entries (map entry_of es))))
 short_length es = let p = pairs_length (map entry_of es) in let s = length-map es entry_of in omega (arith, p, s)
 
-pub entry_words : (e : ℕ × ℚ) (n : ℕ) (x : ℚ) → n ≡ e.0 → x ≡ e.1
-    → (32 ∷ decimal n) ++ (32 ∷ number_text x) ≡ words_after_spaces (pair_words e)
-entry_words e n x index multiplier =
-    ap₂ (λ n (x : ℚ). (32 ∷ decimal n) ++ (32 ∷ number_text x)) index multiplier
+pub entry_words : (e : ℕ × ℚ) (n : ℕ) → n ≡ e.0
+    → (32 ∷ decimal n) ++ (32 ∷ number_text e.1) ≡ words_after_spaces (pair_words e)
+entry_words e n index =
+    ap (λ n. (32 ∷ decimal n) ++ (32 ∷ number_text e.1)) index
     ∙ ap (λ t. (32 ∷ decimal e.0) ++ t) (sym (append-nil (32 ∷ number_text e.1)))
 
 -- one more of the short entries

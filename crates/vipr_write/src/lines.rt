@@ -8,14 +8,13 @@ ghost use Rattle.vipr_write.specs.Canonical.{direction_word, vector_words};
 ghost use Rattle.vipr_write.specs.Forms.{constraint_words_in, given_words_in, derivation_words_in};
 ghost use Rattle.vipr_cert.specs.Items.{named_of, solution_of, claim_of, derivation_of};
 ghost use Rattle.vipr_cert.specs.Items.{direction_of};
+ghost use Rattle.vipr_cert.specs.Reasons.{references_of};
 ghost use Rattle.vipr_write.specs.Lines.{words_text, constraints_heading};
 ghost use Rattle.vipr_write.specs.Folded.{stated_words};
 ghost use Rattle.vipr_bytes.specs.Puts.{Puts};
-ghost use Rattle.vipr_write.specs.StepReasons.{kept_references_of};
 
 use crate::form::Form;
 use crate::rows::PutRow;
-use crate::step_reason::StepReferences;
 use crate::words::{
     put_bound, put_counted, put_decimal, put_index, put_last, put_number, put_pairs, put_sense,
     put_word,
@@ -164,28 +163,16 @@ fn put_branches<O: Out>(out: &mut O, i1: u32, l1: u32, i2: u32, l2: u32)
     put_index(out, l2 as usize);
 }
 
-// What a reason names.
-fn put_references<O: Out>(out: &mut O, references: StepReferences<'_>)
+/// What a reason names.
+pub(crate) fn put_references<O: Out>(out: &mut O, references: References<'_>)
     ensures { Puts O.carries out.old out.new
-        (words_after_spaces (reference_words (kept_references_of references.entry))) }
+        (words_after_spaces (reference_words (references_of references.entry))) }
 {
     match references {
-        StepReferences::Whole(References::Nothing) => {}
-        StepReferences::Whole(References::Entries(entries)) => put_counted(out, entries),
-        StepReferences::Whole(References::Branches { i1, l1, i2, l2 }) => {
-            put_branches(out, i1, l1, i2, l2)
-        }
-        StepReferences::Short(entries) => put_counted(out, entries),
+        References::Nothing => {}
+        References::Entries(entries) => put_counted(out, entries),
+        References::Branches { i1, l1, i2, l2 } => put_branches(out, i1, l1, i2, l2),
     }
-}
-
-/// Why a derived constraint holds: the word of its rule, and what it names.
-pub(crate) fn put_reason<O: Out>(out: &mut O, word: &str, references: StepReferences<'_>)
-    ensures { Puts O.carries out.old out.new (words_after_spaces
-        (word.now ∷ reference_words (kept_references_of references.entry))) }
-{
-    put_word(out, word.as_bytes());
-    put_references(out, references);
 }
 
 /// A derivation, unless it has failed.
@@ -209,12 +196,8 @@ pub(crate) fn put_derivation<O: PutRow>(
         &derivation.constraint,
     );
     put_word(out, b"{");
-    let reason = &derivation.reason;
-    put_reason(
-        out,
-        reason.word(),
-        StepReferences::Whole(reason.references()),
-    );
+    put_word(out, derivation.reason.word().as_bytes());
+    put_references(out, derivation.reason.references());
     put_word(out, b"}");
     put_last(out, derivation.last);
     out.push(b'\n');

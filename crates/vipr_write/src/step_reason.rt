@@ -1,16 +1,20 @@
 //! The reason of a step, which takes little memory.
-ghost use Rattle.std.specs.Prelude.{◌≡◌, ◌≤◌, ◌↔◌, ℕ, IfOk, IfSome, IsSome, length, map, pos};
+ghost use Rattle.std.specs.Prelude.{◌≡◌, ◌≤◌, ◌↔◌, ◌∷◌, ℕ, IfOk, IfSome, IsSome, length, map, pos};
 ghost use Rattle.std.specs.Ordering.{int_eq};
 ghost use Rattle.vipr_spec.specs.Fraction.{ℚ};
+ghost use Rattle.vipr_spec.specs.Number.{number_text};
 ghost use Rattle.vipr_spec.specs.Certificate.{lin, reason_references, rnd};
 ghost use Rattle.vipr_spec.specs.Reading.{most_bytes};
 ghost use Rattle.vipr_cert.specs.Items.{reason_of};
 ghost use Rattle.vipr_cert.specs.Reasons.{reason_word};
-ghost use Rattle.vipr_write.specs.StepReasons.{entry_of, kept_reason_of};
+ghost use Rattle.vipr_bytes.specs.Puts.{Puts};
+ghost use Rattle.vipr_write.specs.StepReasons.{multiplier_of, entry_of, kept_reason_of};
 ghost use Rattle.vipr_write.specs.StepReasons.{kept_references_of, IsShort, AreShort, IsShortest};
 
+use crate::words::put_number;
 use std::alloc::{AllocError, Global};
 use std::slice::from_ref;
+use vipr_bytes::Out;
 use vipr_cert::{Reason, References};
 use vipr_frac::Frac;
 
@@ -48,9 +52,9 @@ pub trait SumEntry: Copy {
     fn index(&self) -> u32
         ensures { result ≡ (pair self.now).0 };
 
-    /// Its multiplier.
-    fn multiplier(&self) -> Frac
-        ensures { result ≡ (pair self.now).1 };
+    /// Puts its multiplier, behind a space.
+    fn put_multiplier<O: Out>(&self, out: &mut O)
+        ensures { Puts O.carries out.old out.new (32 ∷ number_text (pair self.now).1) };
 
     /// Whether its multiplier is 0.
     fn is_zero(&self) -> bool
@@ -70,8 +74,8 @@ impl SumEntry for (u32, Frac) {
     }
 
     #[inline(always)]
-    fn multiplier(&self) -> Frac {
-        self.1
+    fn put_multiplier<O: Out>(&self, out: &mut O) {
+        put_number(out, &self.1);
     }
 
     #[inline(always)]
@@ -93,11 +97,9 @@ impl SumEntry for ShortEntry {
         self.index
     }
 
-    fn multiplier(&self) -> Frac {
-        match Frac::new(i128::from(self.numer), i128::from(self.denom)) {
-            Ok(multiplier) => multiplier,
-            Err(_) => Frac::zero(),
-        }
+    #[inline(always)]
+    fn put_multiplier<O: Out>(&self, out: &mut O) {
+        put_number(out, &self.multiplier());
     }
 
     // That takes no greatest common divisor.
@@ -130,6 +132,16 @@ impl ShortEntry {
                 denom,
             }),
             _ => None,
+        }
+    }
+
+    // Its multiplier.
+    fn multiplier(self) -> Frac
+        ensures { result ≡ multiplier_of self }
+    {
+        match Frac::new(i128::from(self.numer), i128::from(self.denom)) {
+            Ok(multiplier) => multiplier,
+            Err(_) => Frac::zero(),
         }
     }
 }

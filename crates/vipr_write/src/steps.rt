@@ -1,11 +1,25 @@
 //! The lines of steps.
 ghost use Rattle.vipr_bytes.specs.Puts.{Puts};
+ghost use Rattle.vipr_write.specs.Canonical.{reference_words, words_after_spaces};
+ghost use Rattle.vipr_write.specs.StepReasons.{kept_references_of};
 ghost use Rattle.vipr_write.specs.Steps.{step_line, steps_section};
 
-use crate::lines::{put_heading, put_reason};
+use crate::lines::{put_heading, put_references};
 use crate::statements::{Statement, Statements, Step};
-use crate::words::{put_last, put_word};
+use crate::step_reason::StepReferences;
+use crate::words::{put_counted, put_last, put_word};
 use vipr_bytes::Out;
+
+// What the reason of a step names.
+fn put_step_references<O: Out>(out: &mut O, references: StepReferences<'_>)
+    ensures { Puts O.carries out.old out.new
+        (words_after_spaces (reference_words (kept_references_of references.entry))) }
+{
+    match references {
+        StepReferences::Whole(references) => put_references(out, references),
+        StepReferences::Short(entries) => put_counted(out, entries),
+    }
+}
 
 // A derivation of which this step is kept, unless it has failed.
 fn put_step<O: Out>(out: &mut O, statements: &Statements, step: &Step<Statement>)
@@ -18,7 +32,8 @@ fn put_step<O: Out>(out: &mut O, statements: &Statements, step: &Step<Statement>
     out.put(statements.own_bytes(step.stated));
     out.put(statements.row_bytes(step.stated));
     put_word(out, b"{");
-    put_reason(out, step.reason.word(), step.reason.references());
+    put_word(out, step.reason.word().as_bytes());
+    put_step_references(out, step.reason.references());
     put_word(out, b"}");
     put_last(out, step.last);
     out.push(b'\n');

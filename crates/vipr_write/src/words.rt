@@ -84,7 +84,7 @@ pub(crate) fn put_pairs<O: Out, E: SumEntry>(out: &mut O, pairs: &[E])
 {
     for pair in pairs {
         put_index(out, pair.index() as usize);
-        put_number(out, &pair.multiplier());
+        pair.put_multiplier(out);
     }
 }
 

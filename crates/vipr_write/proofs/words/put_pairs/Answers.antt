@@ -10,7 +10,7 @@ pub loop-pair-preserved : goal.loop-pair-preserved
 loop-pair-preserved g c =
     let x = c.pair-item.result in
     puts_next (λ p. words_after_spaces (pair_words (g.E.SumEntry.pair p))) c.args.pairs.now c.loop-pair.pair-index x c.loop-pair-test.true c.pair-item.is c.loop-pair.invariant
-    (puts_same (entry_words (g.E.SumEntry.pair x) c.index.result c.multiplier.result c.index.ensures c.multiplier.ensures) (puts_then c.put_index.ensures c.put_number.ensures))
+    (puts_same (entry_words (g.E.SumEntry.pair x) c.index.result c.index.ensures) (puts_then c.put_index.ensures c.put_multiplier.ensures))
 
 pub returns : goal.returns
 returns g c =
