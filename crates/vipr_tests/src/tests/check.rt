@@ -32,10 +32,10 @@ const GLUED: &[u8] =
 // 0 >= 1, without variables.
 pub(super) const ABSURD: &[u8] =
     b"VER 1.0\nVAR 0\nINT 0\nOBJ min\n0\nCON 1 0\na G 1 0\nRTP infeas\nSOL 0\nDER 0\n";
-// The multiplier of b has the wrong sign.
+// The multiplier of b has the wrong sign. The name is too long for a clone without memory.
 const MIXED: &[u8] =
-    b"VER 1.0\nVAR 1\nx\nINT 0\nOBJ min\n0\nCON 2 0\na G 1 1 0 1\nb L 0 1 0 1\nRTP infeas\nSOL 0\nDER 1\nf G 1 0 { lin 2 0 1 1 1 } -1\n";
-// The same, and something behind the last derivation.
+    b"VER 1.0\nVAR 1\nx\nINT 0\nOBJ min\n0\nCON 2 0\na G 1 1 0 1\nb L 0 1 0 1\nRTP infeas\nSOL 0\nDER 1\na_name_of_more_than_forty_bytes_takes_memory G 1 0 { lin 2 0 1 1 1 } -1\n";
+// The same with a short name, and something behind the last derivation.
 const MIXED_AND_MORE: &[u8] =
     b"VER 1.0\nVAR 1\nx\nINT 0\nOBJ min\n0\nCON 2 0\na G 1 1 0 1\nb L 0 1 0 1\nRTP infeas\nSOL 0\nDER 1\nf G 1 0 { lin 2 0 1 1 1 } -1\n x";
 // The derivation refers to itself.
@@ -65,9 +65,9 @@ const LISTED: &[u8] = b"VER 1.0 VAR 0 INT 0 OBJ min 0 CON 0 0 RTP infeas SOL 1 s
 pub(super) const SOLVED: &[u8] =
     b"VER 1.0\nVAR 1\nx\nINT 0\nOBJ min\n1 0 1\nCON 1 0\na G 3 1 0 1\nRTP infeas\nSOL 1\ns 1 0 3\nDER 1\nc L 3 1 0 1 { sol } -1\n";
 
-// x >= 3, and 2 as solution.
+// x >= 3, and 2 as solution, with such a name.
 const UNSOLVED: &[u8] =
-    b"VER 1.0\nVAR 1\nx\nINT 0\nOBJ min\n1 0 1\nCON 1 0\na G 3 1 0 1\nRTP infeas\nSOL 1\ns 1 0 2\nDER 1\nc L 3 1 0 1 { sol } -1\n";
+    b"VER 1.0\nVAR 1\nx\nINT 0\nOBJ min\n1 0 1\nCON 1 0\na G 3 1 0 1\nRTP infeas\nSOL 1\na_name_of_more_than_forty_bytes_takes_memory 1 0 2\nDER 1\nc L 3 1 0 1 { sol } -1\n";
 
 const ASSUMED: &[u8] =
     b"VER 1.0 VAR 0 INT 0 OBJ min 0 CON 0 0 RTP infeas SOL 0 DER 1 f G 1 0 { asm } -1";
@@ -205,7 +205,10 @@ fn explained_goal(rt: &impl Abort, alloc: Global, text: &[u8]) -> Option<u32> {
 const DETAILS: [(&[u8], Shown); 5] = [
     (INFEASIBLE, Shown::Nothing),
     (MISSPELLED, Shown::Nothing),
-    (MIXED, Shown::Entry(b"f", 1)),
+    (
+        MIXED,
+        Shown::Entry(b"a_name_of_more_than_forty_bytes_takes_memory", 1),
+    ),
     (UNSOLVED, Shown::Broken(b"a", 2, 3)),
     (UNPROVED, Shown::NoProof),
 ];
@@ -372,7 +375,7 @@ fn reads_are_made_as_they_are_needed(rt: HostRuntime) {
         (GLUED, 100, at(15, Place::Byte(95))),
         (BOUNDED, 66, at(51, Place::End)),
         (UNMET, 61, at(52, Place::End)),
-        (UNSOLVED, 81, at(22, Place::Sol(0))),
+        (UNSOLVED, 124, at(22, Place::Sol(0))),
         (LATE, 117, at(31, Place::Der(2))),
         (MIXED_AND_MORE, 116, at(34, Place::Der(2))),
         (UNPROVED, 88, at(51, Place::End)),

@@ -6,7 +6,9 @@ use super::same;
 use std::alloc::Global;
 use std::process::Abort;
 use vipr_bytes::{Bytes, FromRead, Source};
-use vipr_scan::{Cause, ScanError, Scanner, TextError, TokenKind, Tokens, Unfit, cause};
+use vipr_scan::{
+    Cause, Scan as _, ScanError, Scanner, TextError, TokenKind, Tokens, Unfit, cause, run_end,
+};
 
 /// Asks for a token, and compares its bytes and its offset.
 fn gives<R: Source>(rt: &impl Abort, tokens: &mut Tokens<R>, wanted: Option<(&[u8], u64)>) {
@@ -76,6 +78,15 @@ impl TokenKind for Any {
     fn read(&self, bytes: &[u8]) -> Result<usize, Unfit> {
         Ok(bytes.len())
     }
+
+    fn read_front(&self, bytes: &[u8]) -> Option<(usize, usize)> {
+        let n = run_end(bytes, 0);
+        if n == 0 || n == bytes.len() {
+            None
+        } else {
+            Some((n, n))
+        }
+    }
 }
 
 fn is_refused(rt: &impl Abort, alloc: Global, text: &[u8], wanted: ScanError) {
@@ -100,4 +111,18 @@ fn a_token_of_65536_bytes_is_refused(rt: HostRuntime) {
     };
     is_refused(&rt, rt.alloc(), &text, refused);
     is_read_whole(&rt, rt.alloc(), &text[1..], 65535);
+}
+
+/// It is lent the bytes at hand, and a token that may go on behind them isn't taken.
+#[test]
+fn a_cursor_takes_the_tokens_at_hand(rt: HostRuntime) {
+    let scanner = Scanner::new(rt.alloc(), Bytes::new(b"ab cde fg"));
+    let mut scanner = scanner.expect(&rt, "a scanner");
+    same(&rt, scanner.take(&Any), Ok(2));
+    let mut cursor = scanner.cursor();
+    same(&rt, cursor.take(&Any), Ok(3));
+    same(&rt, cursor.take(&Any), Err(ScanError::Memory));
+    drop(cursor);
+    same(&rt, scanner.take(&Any), Ok(3));
+    drop(scanner);
 }
