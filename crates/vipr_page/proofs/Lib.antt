@@ -2,3 +2,4 @@ mod Listing
 mod Counting
 mod Gathering
 mod Repairing
+mod Cutting

@@ -1,8 +1,8 @@
 -- A number with a decimal point, which isn't in the format
 use Rattle.std.specs.Prelude.{ℕ, ◌+◌, ◌-◌, ◌*◌, ◌^◌, true, false, not, ◌&&◌, ◌==◌, nat_lt}
-use Rattle.std.specs.Prelude.{if◌then◌else◌, List, [], ◌∷◌, Option, Some, None, pos}
+use Rattle.std.specs.Prelude.{if◌then◌else◌, List, [], ◌∷◌, Option, Some, None, pos, option_map}
 use Rattle.vipr_spec.specs.Digits.{is_digit}
-use Rattle.vipr_spec.specs.Fraction.{ℚ, over}
+use Rattle.vipr_spec.specs.Fraction.{ℚ, neg_ℚ, over}
 use Rattle.vipr_page.specs.declared.decimal.Decimal.{Decimal}
 
 -- nothing of it
@@ -38,3 +38,12 @@ unfoldable pub decimal_from : Option Decimal → List ℕ → Option ℚ
 decimal_from None bytes = None
 decimal_from (Some d) [] = decimal_value d
 decimal_from (Some d) (b ∷ bs) = decimal_from (decimal_next d b) bs
+
+-- the value of a decimal: only its first byte may be a sign
+abbrev pub size_from : List ℕ → Option ℚ
+size_from bytes = decimal_from (Some decimal_start) bytes
+
+abbrev pub decimal_of : List ℕ → Option ℚ
+decimal_of [] = None
+decimal_of (b ∷ bs) = if b == 45 then option_map neg_ℚ (size_from bs) else
+    (if b == 43 then size_from bs else size_from (b ∷ bs))

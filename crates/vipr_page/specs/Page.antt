@@ -1,6 +1,6 @@
 -- What a page holds: bytes that a terminal shows as they are.
-use Rattle.std.specs.Prelude.{◌==◌, ◌&&◌, ◌||◌, ◌≡◌, ◌<◌, ◌≤◌, ◌/◌, ◌%◌, ℕ, Bool, true, false, List}
-use Rattle.std.specs.Prelude.{[], ◌∷◌}
+use Rattle.std.specs.Prelude.{◌==◌, ◌&&◌, ◌||◌, ◌≡◌, ◌≢◌, ◌⊎◌, ◌<◌, ◌≤◌, ◌/◌, ◌%◌, ◌-◌, ℕ, Bool}
+use Rattle.std.specs.Prelude.{true, false, List, [], ◌∷◌, ◌++◌, codes}
 use Rattle.std.specs.Prelude.{length, slice_index, nat_le, if◌then◌else◌, flat_map}
 use Rattle.std.specs.Fmt.{digit_glyph}
 
@@ -27,3 +27,25 @@ line_byte b = if b == 9 then 32 ∷ [] else (if b == 92 then 92 ∷ 92 ∷ []
 -- bytes of a stranger's text
 abbrev pub shown_bytes : List ℕ → List ℕ
 shown_bytes bytes = flat_map line_byte bytes
+
+-- ---- a page that is cut
+
+-- n bytes are whole lines
+abbrev pub AreLines : List ℕ → ℕ → Type 0
+AreLines bytes n = (n ≡ 0) ⊎ (slice_index bytes (n - 1) ≡ 10)
+
+-- whole lines are before here, and no line ends behind
+pub record IsLinesEnd (bytes : List ℕ) (n : ℕ) : Type 0 where
+  pub within : n ≤ length bytes
+  pub lines : AreLines bytes n
+  pub last : (k : ℕ) → n ≤ k → k < length bytes → slice_index bytes k ≢ 10
+
+-- the last line of a page that is cut
+abbrev pub cut_line : List ℕ
+cut_line = codes ".. the rest is left out\n"
+
+-- whole lines, and behind them the line that says so
+pub record IsCutPage (text : List ℕ) : Type 0 where
+  pub lines : List ℕ
+  pub whole : AreLines lines (length lines)
+  pub is : text ≡ lines ++ cut_line

@@ -1,7 +1,7 @@
 //! A number with a decimal point, which isn't in the format.
 ghost use Rattle.std.specs.Prelude.{◌≡◌, ◌≤◌, ◌<◌, IfSome, Some};
-ghost use Rattle.vipr_page.specs.Decimals.{decimal_digit, decimal_from, decimal_next};
-ghost use Rattle.vipr_page.specs.Decimals.{decimal_start, decimal_value};
+ghost use Rattle.vipr_page.specs.Decimals.{decimal_digit, decimal_next, decimal_of};
+ghost use Rattle.vipr_page.specs.Decimals.{decimal_start, decimal_value, size_from};
 
 use vipr_frac::Frac;
 
@@ -81,17 +81,22 @@ impl Decimal {
 }
 
 /// The value of a decimal, `None` for other bytes. Only the first one may be a sign.
-pub fn fraction_of(word: &[u8]) -> Option<Frac> {
+pub fn fraction_of(word: &[u8]) -> Option<Frac>
+    ensures { result ≡ decimal_of word.now }
+{
     match word {
-        [b'-', size @ ..] => size_of(size).map(|size| size.neg()),
-        [b'+', size @ ..] => size_of(size),
-        size => size_of(size),
+        [] => None,
+        [first, size @ ..] => match *first {
+            b'-' => size_of(size).map(|size| size.neg()),
+            b'+' => size_of(size),
+            _ => size_of(word),
+        },
     }
 }
 
 // The value of a decimal without a sign.
 fn size_of(word: &[u8]) -> Option<Frac>
-    ensures { result ≡ decimal_from (Some decimal_start) word.now }
+    ensures { result ≡ size_from word.now }
 {
     let mut decimal = Decimal::start();
     for byte in word {

@@ -1,7 +1,8 @@
 //! A page of text for a terminal.
-ghost use Rattle.std.specs.Prelude.{◌≡◌, ◌<◌, ◌≤◌, ◌++◌, ℕ, List, [], None, false, true};
+ghost use Rattle.std.specs.Prelude.{◌≡◌, ◌+◌, ◌<◌, ◌≤◌, ◌++◌, ◌∷◌, ℕ, List, [], None, false, true};
+ghost use Rattle.std.specs.Prelude.{length, IfSome};
 ghost use Rattle.std.specs.Fmt.{digit_glyph};
-ghost use Rattle.vipr_page.specs.Page.{IsPage, is_shown};
+ghost use Rattle.vipr_page.specs.Page.{IsCutPage, IsLinesEnd, IsPage, is_shown};
 
 use std::alloc::Global;
 use std::fmt;
@@ -25,11 +26,14 @@ pub struct Page {
     has_failed: bool,
     ghost is_page: { IsPage bytes.items },
     ghost bounded: { most ≤ 65536 },
+    ghost room: { length bytes.items ≤ most },
 }
 
 impl Page {
     /// A page of a value, `None` if a growth is refused.
-    pub fn of<D: Display>(alloc: Global, value: &D) -> Option<Page> {
+    pub fn of<D: Display>(alloc: Global, value: &D) -> Option<Page>
+        ensures { IfSome result (λ page. page.is_cut ≡ true → IsCutPage page.bytes.items) }
+    {
         let mut page = Page {
             bytes: Vec::new(alloc),
             most: MOST_BYTES - CUT.len(),
@@ -52,8 +56,12 @@ impl Page {
     }
 
     // Takes away what is behind the last line feed, and says that it is cut.
-    fn end_cut(&mut self) {
-        let end = lines_end(self.bytes.as_slice());
+    fn end_cut(&mut self)
+        ensures { self.new.has_failed ≡ false → IsCutPage self.new.bytes.items }
+    {
+        let bytes = self.bytes.as_slice();
+        let room = bytes.len().min(MOST_BYTES - CUT.len());
+        let end = lines_end(&bytes[..room]);
         self.bytes.truncate(end);
         self.most = MOST_BYTES;
         for byte in CUT.as_bytes() {
@@ -62,7 +70,13 @@ impl Page {
     }
 
     // Writes a byte of a text.
-    fn put_shown(&mut self, byte: u8) {
+    fn put_shown(&mut self, byte: u8)
+        ensures most { self.new.most ≡ self.old.most }
+        ensures failed { self.new.has_failed ≡ false → self.old.has_failed ≡ false }
+        ensures shown { is_shown byte ≡ true → length self.old.bytes.items < self.old.most
+            → self.new.has_failed ≡ false
+            → self.new.bytes.items ≡ self.old.bytes.items ++ byte ∷ [] }
+    {
         match byte {
             10 | 32..=126 => self.put_byte(byte),
             other => {
@@ -77,6 +91,10 @@ impl Page {
     // Writes a byte, if there is room for it.
     fn put_byte(&mut self, byte: u8)
         requires { is_shown byte ≡ true }
+        ensures most { self.new.most ≡ self.old.most }
+        ensures failed { self.new.has_failed ≡ false → self.old.has_failed ≡ false }
+        ensures shown { length self.old.bytes.items < self.old.most → self.new.has_failed ≡ false
+            → self.new.bytes.items ≡ self.old.bytes.items ++ byte ∷ [] }
     {
         if self.bytes.len() >= self.most {
             self.is_cut = true;
@@ -112,12 +130,12 @@ impl fmt::Write for Page {
 }
 
 // Where the last line that is whole ends.
-fn lines_end(bytes: &[u8]) -> usize {
-    let mut end = 0;
-    for (position, byte) in bytes.iter().enumerate() {
-        if *byte == b'\n' {
-            end = position.saturating_add(1);
-        }
+fn lines_end(bytes: &[u8]) -> usize
+    ensures { IsLinesEnd bytes.now result }
+{
+    let mut end = bytes.len();
+    while end > 0 && bytes[end - 1] != b'\n' {
+        end -= 1;
     }
     end
 }
