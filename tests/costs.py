@@ -35,6 +35,8 @@ GROWTH = 5
 # bytes of memory for a byte of text, and what is free beside them
 MOST = {'check': 50, 'explain': 50, 'show': 50, 'tighten': 50}
 ROOM = 2 << 20
+# by how many bytes the peak of a run varies, by what the system maps of the program
+NOISE = 256 << 10
 # the lengths of the shorter texts; sets show what they cost in longer ones
 LENGTH, LONG = 8_000, {'same_set': 400_000, 'alternating_sets': 400_000, 'nine_sets': 400_000, 'joined_sets': 400_000,
                        'growing': 100_000, 'growing_at_the_front': 100_000, 'growing_in_the_middle': 100_000}
@@ -67,7 +69,7 @@ def growth(task):
     family, command = task
     least, found = LONG.get(family.__name__, LENGTH), []
     for measure, is_there, length, free in ((instructions, VALGRIND, least, 0),
-                                            (peak, GNU_TIME, max(least, MEMORY_LENGTH), EMPTY)):
+                                            (peak, GNU_TIME, max(least, MEMORY_LENGTH), (EMPTY or 0) - NOISE)):
         files = [file_of(family, command, it) for it in (length, 4 * length)]
         known = [is_there and measure([PROGRAM, *command.split(), path], SECONDS) for path, _ in files]
         times = files[1][1] / files[0][1] / 4
