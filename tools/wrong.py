@@ -281,6 +281,7 @@ def main(words):
             part = sample(paths, int(words[1]), number)
             print(f'{len(part)} of the {len(paths)} wrong versions, chosen by {by}', flush=True)
             paths = part
+        blobs = {f'{path.parent.parent.name}/{path.stem}': blob(path) for path in paths}
         by_crate = {}
         for path in paths:
             by_crate.setdefault(path.parent.parent.name, []).append(path)
@@ -297,7 +298,6 @@ def main(words):
                     for name, there in dearest]
             results = [it for run in runs for it in run.result()]
     lost = [name for name, refused in results if not refused]
-    blobs = {f'{path.parent.parent.name}/{path.stem}': blob(path) for path in paths}
     print(REFUSED + ', '.join(f'{name} {blobs[name]}' for name, refused in results if refused))
     if not words:
         record(results)
