@@ -31,7 +31,7 @@ use Rattle.vipr_write.specs.declared.write.WriteError.TheVariants as write
 use Rattle.vipr_page.specs.Page.{IsPage}
 use Rattle.vipr_command.specs.Args.{asked_by, command_word, words_fault}
 use Rattle.vipr_command.specs.Text.{answer_lines, sum_read, verdict_lines}
-use Rattle.vipr_command.specs.Folder.{Names, text_held, unknown_files}
+use Rattle.vipr_command.specs.Folder.{Names, Unchanged, text_held}
 use Rattle.vipr_command.specs.Output.{Took, Stays, after_first}
 use Rattle.vipr_command.specs.Show.{Kind, ShowsText, any_text, text_read}
 use Rattle.vipr_command.specs.Tighten.{WritesFile, WritesTightened}
@@ -186,28 +186,49 @@ PrintsText F k old new (Ok s) = (x : Shown) × (s ≡ shown_status x)
     × ShowsText F k.kind old new (Ok x)
 PrintsText F k old new (Err f) = ShowsText F k.kind old new (Err f)
 
--- the tightened certificate was written: to standard output, or else to a file, of which nothing
--- is said, and nothing was printed
-abbrev pub PrintsTightened : Profile → Form → Option Text → KnownInput → Option Output
-    → Option Output → Result ℕ CommandFault → Type 0
-PrintsTightened P F None k old new r = WritesTightened P F (k.proof P) old new r
-PrintsTightened P F (Some out) k old new r = WritesFile P F (k.proof P) r × Stays old new
+-- the verdict was printed, with the digest or without
+abbrev pub PrintsCheck : Profile → Bool → Bool → KnownInput → Option Output → Option Output
+    → Result ℕ CommandFault → Type 0
+PrintsCheck P long false k old new r = PrintsVerdict P k old new r
+PrintsCheck P long true k old new r = PrintsInMemory Check P long true k old new r
+
+-- the explanation was printed, long or not, with the digest or without
+abbrev pub PrintsExplain : Profile → Bool → Bool → KnownInput → Option Output → Option Output
+    → Result ℕ CommandFault → Type 0
+PrintsExplain P false false k old new r = PrintsExplanation P k old new r
+PrintsExplain P false true k old new r = PrintsInMemory Explain P false true k old new r
+PrintsExplain P true sum k old new r = PrintsInMemory Explain P true sum k old new r
+
+-- what is known of where a run writes: what its output accepted, and what its files hold
+pub record Outside : Type 0 where
+  pub output : Option Output
+  pub files : Names
+
+abbrev pub outside_of : Option Output → Names → Outside
+outside_of output files = record { output = output; files = files }
+
+-- the tightened certificate was written: to standard output, or else to OUT with nothing printed
+abbrev pub PrintsTightened : Profile → Form → Option Text → KnownInput → Outside → Outside
+    → Result ℕ CommandFault → Type 0
+PrintsTightened P F None k old new r = WritesTightened P F (k.proof P) old.output new.output r
+    × Unchanged old.files new.files
+PrintsTightened P F (Some out) k old new r = WritesFile P F (k.proof P) old.files new.files out r
+    × Stays old.output new.output
 
 -- the task is done by this profile, in this form, long or not, with the digest or without, with
--- this OUT
-abbrev pub Does : Task → Profile → Form → Bool → Bool → Option Text → KnownInput → Option Output
-    → Option Output → Result ℕ CommandFault → Type 0
-Does Check P F long false out k old new r = PrintsVerdict P k old new r
-Does Check P F long true out k old new r = PrintsInMemory Check P long true k old new r
-Does Explain P F false false out k old new r = PrintsExplanation P k old new r
-Does Explain P F false true out k old new r = PrintsInMemory Explain P false true k old new r
-Does Explain P F true sum out k old new r = PrintsInMemory Explain P true sum k old new r
-Does Show P F long sum out k old new r = PrintsText F k old new r
+-- this OUT, and all other files hold what they held
+abbrev pub Does : Task → Profile → Form → Bool → Bool → Option Text → KnownInput → Outside → Outside
+    → Result ℕ CommandFault → Type 0
+Does Check P F long sum out k old new r = PrintsCheck P long sum k old.output new.output r
+    × Unchanged old.files new.files
+Does Explain P F long sum out k old new r = PrintsExplain P long sum k old.output new.output r
+    × Unchanged old.files new.files
+Does Show P F long sum out k old new r = PrintsText F k old.output new.output r
+    × Unchanged old.files new.files
 Does Tighten P F long sum out k old new r = PrintsTightened P F out k old new r
 
 -- the task of a command line is done
-abbrev pub DoesJob : Job → KnownInput → Option Output → Option Output → Result ℕ CommandFault
-    → Type 0
+abbrev pub DoesJob : Job → KnownInput → Outside → Outside → Result ℕ CommandFault → Type 0
 DoesJob j k old new r = Does j.command (profile_of j.profile) j.form j.is_long j.has_sum
     (option_map (λ s. s.now) j.out) k old new r
 
@@ -227,14 +248,13 @@ UnlessMissing holds None old new r = ⊤
 UnlessMissing holds (Some file) old new r = holds file ≡ Some None → FailsToRead old new r
 
 -- the words ask for a task, which is done with the named file, or else with standard input
-abbrev pub DoesAsked : List Text → Names → Option Input → Option Output → Option Output
-    → Result ℕ CommandFault → Type 0
-DoesAsked words holds input old new r = (t : Task) × (P : rules.Profile) × (F : Form)
+abbrev pub DoesAsked : List Text → Option Input → Outside → Outside → Result ℕ CommandFault → Type 0
+DoesAsked words input old new r = (t : Task) × (P : rules.Profile) × (F : Form)
     × (long sum : Bool) × (file out : Option Text)
     × (asked_by words ≡ Some (command_word t, Some P, F, long, sum, file, out))
-    × OfInput (read_from holds input file)
+    × OfInput (read_from old.files input file)
     (λ k. Does t (profile_of P) F long sum out k old new r)
-    × UnlessMissing holds file old new r
+    × UnlessMissing old.files file old.output new.output r
 
 abbrev pub IsHelp : ErrorKind → Type 0
 IsHelp k = (k ≡ kind.DisplayHelp) ⊎ (k ≡ kind.DisplayVersion)
@@ -264,12 +284,12 @@ DeclinesWords words old new r = (k : ErrorKind) × IsAmong k (words_fault words)
     × Declines k old new r
 
 -- what the words ask for is done, or they are declined, or memory ran out before that was known
-abbrev pub RunsOver : List Text → Names → Option Input → Option Output → Option Output
-    → Result ℕ CommandFault → Type 0
-RunsOver words holds input old new r = DoesAsked words holds input old new r
-    ⊎ DeclinesWords words old new r ⊎ LacksMemory old new r
+abbrev pub RunsOver : List Text → Option Input → Outside → Outside → Result ℕ CommandFault → Type 0
+RunsOver words input old new r = DoesAsked words input old new r
+    ⊎ (DeclinesWords words old.output new.output r ⊎ LacksMemory old.output new.output r)
+    × Unchanged old.files new.files
 
--- an exit status for these words, whatever is read and printed
+-- an exit status for these words, of some run: whatever is read, printed and put into files
 abbrev pub IsStatusFor : List Text → ℕ → Type 0
-IsStatusFor words status = (r : Result ℕ CommandFault) × (status ≡ exit_status r)
-    × RunsOver words unknown_files None None None r
+IsStatusFor words status = (input : Option Input) × (old new : Outside)
+    × (r : Result ℕ CommandFault) × (status ≡ exit_status r) × RunsOver words input old new r

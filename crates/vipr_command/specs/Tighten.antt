@@ -1,13 +1,14 @@
 -- What `tighten` does: how it answers, and what was written then.
-use Rattle.std.specs.Prelude.{◌≡◌, ◌⊎◌, ℕ, Option, None, Result, Ok, Err}
+use Rattle.std.specs.Prelude.{◌≡◌, ◌⊎◌, ℕ, List, Option, Some, None, IfSome, Result, Ok, Err}
 use Rattle.vipr_spec.specs.Constraint.{Profile}
 use Rattle.vipr_bytes.specs.Output.{Output}
-use Rattle.vipr_tighten.specs.Tightens.{KindOfText, TightensText}
+use Rattle.vipr_tighten.specs.Tightens.{AreFigures, ForProof, KindOfText, TightensText}
 use Rattle.vipr_write.specs.declared.form.Form.{Form}
 use Rattle.vipr_tighten.specs.declared.outcome.Outcome.{Outcome}
 use Rattle.vipr_tighten.specs.declared.outcome.Outcome.TheVariants.{Tightened, Refused}
 use Rattle.vipr_tighten.specs.declared.outcome.TightenFault.{TightenFault}
 use Rattle.vipr_tighten.specs.declared.outcome.TightenFault.TheVariants as tighten
+use Rattle.vipr_command.specs.Folder.{Names, Replaces, Unchanged, UnchangedBut, whole_input}
 use Rattle.vipr_command.specs.declared.fault.CommandFault.{CommandFault}
 use Rattle.vipr_command.specs.declared.fault.CommandFault.TheVariants.{Memory, Read, Write}
 
@@ -33,17 +34,33 @@ abbrev pub WritesTightened : Profile → Form → KindOfText → Option Output �
 WritesTightened P F k old new result = (r : Result Outcome TightenFault)
     × (result ≡ tighten_answer r) × TightensText P F k old new r
 
--- What is answered of a text that was tightened to a file. Once it was written, the file may still
--- fail to keep it, and then that is a failed write. All else is answered as it is.
-abbrev pub Settles : Result Outcome TightenFault → Result Outcome CommandFault → Type 0
-Settles (Ok (Tightened kept removed before after)) r =
-    (r ≡ Ok (Tightened kept removed before after)) ⊎ ((n : ℕ) × (r ≡ Err (Write n)))
-Settles (Ok (Refused x)) r = r ≡ Ok (Refused x)
-Settles (Err e) r = r ≡ Err (tighten_fault_for e)
+-- What is answered of a text that was tightened to a file, which out is the place of. Once it was
+-- written, the file may still fail to keep it, and then that is a failed write. All else is
+-- answered as it is, and each name of the folder holds what it held.
+abbrev pub Settles : Result Outcome TightenFault → Names → Names → List ℕ → Option Output
+    → Result Outcome CommandFault → Type 0
+Settles (Ok (Tightened kept removed before after)) old new name out r =
+    ((r ≡ Ok (Tightened kept removed before after)) × Replaces old new name out (Ok tt))
+    ⊎ (((n : ℕ) × (r ≡ Err (Write n))) × Unchanged old new)
+Settles (Ok (Refused x)) old new name out r = (r ≡ Ok (Refused x)) × Unchanged old new
+Settles (Err e) old new name out r = (r ≡ Err (tighten_fault_for e)) × Unchanged old new
 
--- A text of this kind was tightened to a file, of which nothing is said, and the answer is that of
--- what became of it; or the whole text of a tightened certificate was written, and the file failed
--- to keep it.
-abbrev pub WritesFile : Profile → Form → KindOfText → Result ℕ CommandFault → Type 0
-WritesFile P F k result = WritesTightened P F k None None result
-    ⊎ ((n : ℕ) × (result ≡ Err (Write n)) × WritesTightened P F k None None (Ok 0))
+-- A text of this kind was tightened to the file of this name. Tightened: the name holds the whole
+-- text of the tightened certificate, if it is known what it held, and each other name what it held.
+-- Else each holds what it held.
+abbrev pub PutsTightened : Profile → Form → KindOfText → Names → Names → List ℕ
+    → Result Outcome TightenFault → Type 0
+PutsTightened P F k old new name (Ok (Tightened kept removed before after)) =
+    ForProof P F k (λ c t text. AreFigures c t kept removed before after
+    × IfSome (old name) (λ _. new name ≡ Some (Some (whole_input text))))
+    × UnchangedBut name old new
+PutsTightened P F k old new name r = TightensText P F k None None r × Unchanged old new
+
+-- The answer is that of what became of a text that was tightened to a file; or the whole text of a
+-- tightened certificate was written, and the file failed to keep it: each name holds what it held.
+abbrev pub WritesFile : Profile → Form → KindOfText → Names → Names → List ℕ
+    → Result ℕ CommandFault → Type 0
+WritesFile P F k old new name result = ((r : Result Outcome TightenFault)
+    × (result ≡ tighten_answer r) × PutsTightened P F k old new name r)
+    ⊎ (((n : ℕ) × (result ≡ Err (Write n))) × WritesTightened P F k None None (Ok 0)
+    × Unchanged old new)

@@ -4,17 +4,18 @@ ghost use Rattle.clap.specs.Words.{kind_of};
 ghost use Rattle.vipr_command.specs.Args.{are_accepted};
 ghost use Rattle.vipr_command.specs.Folder.{text_held};
 ghost use Rattle.vipr_command.specs.Run.{AnswersError, DoesJob, FailsToRead, IsStatusFor, OfInput};
-ghost use Rattle.vipr_command.specs.Run.{RunsOver};
+ghost use Rattle.vipr_command.specs.Run.{RunsOver, outside_of};
 
 use crate::args::job;
 use crate::fault::CommandFault;
-use crate::folder::{Folder, SystemFiles};
+use crate::folder::Folder;
 use crate::host::Host;
 use crate::in_memory::{check_job, explain_job};
 use crate::line::{say, say_at_length, say_why_unread};
 use crate::output::print;
 use crate::request::{Job, Task};
 use crate::show::print_text;
+use crate::system::SystemFiles;
 use crate::tighten::print_tightened;
 use clap::Error;
 use clap::error::ErrorKind;
@@ -42,8 +43,9 @@ pub fn run<H: Host, R: Read + Drop, O: Write, E: Write>(
     ensures fits { IsStatusFor (map (λ w. w.now) words.now) result }
 {
     let source = FromRead::new(input);
-    let files = SystemFiles { rt };
-    match run_over(rt, &files, words, source, &mut FromWrite::new(out), err) {
+    let mut files = SystemFiles { rt };
+    let out = &mut FromWrite::new(out);
+    match run_over(rt.alloc(), &mut files, words, source, out, err) {
         Ok(status) => status,
         Err(fault) => {
             say(err, &format_args!("{fault}\n"));
@@ -52,15 +54,15 @@ pub fn run<H: Host, R: Read + Drop, O: Write, E: Write>(
     }
 }
 
-/// Runs a command over any folder, source and sink; returns a fault instead of printing it. A file
-/// that is read is the folder's, and OUT is the system's.
+/// Runs a command over any folder, source and sink; returns a fault instead of printing it. FILE
+/// and OUT are the folder's.
 ///
 /// # Errors
 ///
 /// If a file can't be opened or a read fails, a growth is refused, or a write fails.
-pub fn run_over<H: Host, D: Folder, R: Source + Drop, O: Sink, E: Write>(
-    rt: &H,
-    files: &D,
+pub fn run_over<D: Folder, R: Source + Drop, O: Sink, E: Write>(
+    alloc: Global,
+    files: &mut D,
     words: &[&str],
     input: R,
     out: &mut O,
@@ -68,16 +70,17 @@ pub fn run_over<H: Host, D: Folder, R: Source + Drop, O: Sink, E: Write>(
 ) -> Result<u8, CommandFault>
     ensures status { IfOk result (λ s. s ≤ 2) }
     ensures usage { IfOk result (λ s. s ≡ 2 → are_accepted (map (λ w. w.now) words.now) ≡ false) }
-    ensures runs { RunsOver (map (λ w. w.now) words.now) (D.holds files.now) (R.input input)
-        (O.output out.old) (O.output out.new) result }
+    ensures runs { RunsOver (map (λ w. w.now) words.now) (R.input input)
+        (outside_of (O.output out.old) (D.holds files.old))
+        (outside_of (O.output out.new) (D.holds files.new)) result }
 {
-    let job = match job(rt.alloc(), words) {
+    let job = match job(alloc, words) {
         Ok(job) => job,
-        Err(error) => return answer(rt.alloc(), &error, out, err),
+        Err(error) => return answer(alloc, &error, out, err),
     };
     match job.file {
-        None => do_task(rt, &job, input, out, err),
-        Some(name) => do_task_on_file(rt, files, &job, name, out, err),
+        None => do_task(alloc, files, &job, input, out, err),
+        Some(name) => do_task_on_file(alloc, files, &job, name, out, err),
     }
 }
 
@@ -101,45 +104,47 @@ fn answer<O: Sink, E: Write>(
     Ok(0)
 }
 
-fn do_task_on_file<H: Host, D: Folder, O: Sink, E: Write>(
-    rt: &H,
-    files: &D,
+fn do_task_on_file<D: Folder, O: Sink, E: Write>(
+    alloc: Global,
+    files: &mut D,
     job: &Job<'_>,
     name: &str,
     out: &mut O,
     err: &mut E,
 ) -> Result<u8, CommandFault>
-    ensures done { OfInput (text_held (D.holds files.now name.now))
-        (λ k. DoesJob job.now k (O.output out.old) (O.output out.new) result) }
-    ensures missing { D.holds files.now name.now ≡ Some None
+    ensures done { OfInput (text_held (D.holds files.old name.now)) (λ k. DoesJob job.now k
+        (outside_of (O.output out.old) (D.holds files.old))
+        (outside_of (O.output out.new) (D.holds files.new)) result) }
+    ensures missing { D.holds files.old name.now ≡ Some None
         → FailsToRead (O.output out.old) (O.output out.new) result }
 {
     match files.open(name) {
-        Ok(source) => do_task(rt, job, source, out, err),
+        Ok(source) => do_task(alloc, files, job, source, out, err),
         Err(error) => {
             if job.is_long {
-                say_why_unread(rt.alloc(), name, &error, err);
+                say_why_unread(alloc, name, &error, err);
             }
             Err(CommandFault::Read)
         }
     }
 }
 
-fn do_task<H: Host, R: Source + Drop, O: Sink, E: Write>(
-    rt: &H,
+fn do_task<D: Folder, R: Source + Drop, O: Sink, E: Write>(
+    alloc: Global,
+    files: &mut D,
     job: &Job<'_>,
     source: R,
     out: &mut O,
     err: &mut E,
 ) -> Result<u8, CommandFault>
-    ensures { OfInput (R.input source)
-        (λ k. DoesJob job.now k (O.output out.old) (O.output out.new) result) }
+    ensures { OfInput (R.input source) (λ k. DoesJob job.now k
+        (outside_of (O.output out.old) (D.holds files.old))
+        (outside_of (O.output out.new) (D.holds files.new)) result) }
 {
-    let alloc = rt.alloc();
     match job.command {
         Task::Check => check_job(alloc, job, source, out),
         Task::Explain => explain_job(alloc, job, source, out),
         Task::Show => print_text(alloc, job.form, source, out, err),
-        Task::Tighten => print_tightened(rt, job.profile, job.form, source, job.out, out, err),
+        Task::Tighten => print_tightened(alloc, files, job, source, out, err),
     }
 }

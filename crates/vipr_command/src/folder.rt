@@ -1,15 +1,15 @@
 //! Files by their names.
-ghost use Rattle.std.specs.Prelude.{ℕ, List, Option, None, IfSome};
+ghost use Rattle.std.specs.Prelude.{ℕ, List, Option, Some, None, IfOk, IfSome};
 ghost use Rattle.vipr_spec.specs.Input.{Input};
-ghost use Rattle.vipr_command.specs.Folder.{IsFileOf, one_file};
+ghost use Rattle.vipr_bytes.specs.Output.{output_of};
+ghost use Rattle.vipr_command.specs.Folder.{BeginsEmpty, IsFileOf, Replaces, Unchanged, one_file};
 
-use crate::host::Host;
-use std::fs::File;
+use std::alloc::{AllocError, Global};
 use std::io;
 use std::io::ErrorKind;
-use vipr_bytes::{Bytes, FromRead, Source};
+use vipr_bytes::{Bytes, Failed, Sink, Source, WriteFailed};
 
-/// Files that can be read, by their names.
+/// Files that can be read and replaced, by their names.
 pub trait Folder {
     // What each name holds, if that is known: a text, or nothing that can be opened.
     ghost holds: { Self → List ℕ → Option (Option Input) };
@@ -17,32 +17,61 @@ pub trait Folder {
     /// A file that is read from its start.
     type In: Source + Drop;
 
+    /// A text that is to replace a file.
+    type Out: Sink + Drop;
+
     /// Opens the file of this name.
     fn open(&self, name: &str) -> io::Result<Self::In>
         ensures { IfSome (holds self.now name.now) (λ held. IsFileOf Self.In.input held result) };
+
+    /// Begins a text for this name, which holds what it held.
+    ///
+    /// # Errors
+    ///
+    /// A growth is refused.
+    fn begin(&self, name: &str) -> Result<Self::Out, AllocError>
+        ensures { IfOk result
+            (λ text. BeginsEmpty (holds self.now name.now) (Self.Out.output text)) };
+
+    /// Gives this name the text that was begun for it.
+    ///
+    /// # Errors
+    ///
+    /// The text can't be kept. The name holds what it held.
+    fn keep(&mut self, name: &str, text: Self::Out) -> Result<(), WriteFailed>
+        ensures { Replaces (holds self.old) (holds self.new) name.now (Self.Out.output text)
+            result };
+
+    /// Gives up a text that was begun.
+    fn abandon(&mut self, text: Self::Out)
+        ensures { Unchanged (holds self.old) (holds self.new) };
 }
 
-/// The system's files. What they hold isn't known.
-#[derive(Drop)]
-pub(crate) struct SystemFiles<'a, H> {
-    pub rt: &'a H,
-}
-
-impl<H: Host> Folder for SystemFiles<'_, H> {
-    ghost holds = { λ _ _. None };
-
-    type In = FromRead<File>;
-
-    fn open(&self, name: &str) -> io::Result<FromRead<File>> {
-        Ok(FromRead::new(File::open(self.rt, name)?))
-    }
-}
-
-/// One file in memory.
+/// One file in memory. A text that replaced another one is never freed.
 #[derive(Clone, Copy)]
 pub struct OneFile<'a> {
+    pub alloc: Global,
     pub name: &'a str,
     pub text: &'a [u8],
+}
+
+/// A text in memory.
+#[derive(Drop)]
+pub struct NewText {
+    bytes: Vec<u8>,
+}
+
+impl Sink for NewText {
+    ghost output = { λ text. output_of (Some text.bytes.items) };
+
+    ghost failures = { λ _. None };
+
+    fn write(&mut self, bytes: &[u8]) -> Result<usize, Failed> {
+        match self.bytes.extend_from_slice(bytes) {
+            Ok(()) => Ok(bytes.len()),
+            Err(_) => Err(Failed),
+        }
+    }
 }
 
 impl<'a> Folder for OneFile<'a> {
@@ -50,11 +79,33 @@ impl<'a> Folder for OneFile<'a> {
 
     type In = Bytes<'a>;
 
+    type Out = NewText;
+
     fn open(&self, name: &str) -> io::Result<Bytes<'a>> {
         if name == self.name {
             Ok(Bytes::new(self.text))
         } else {
             Err(io::Error::from(ErrorKind::NotFound))
         }
+    }
+
+    fn begin(&self, _name: &str) -> Result<NewText, AllocError> {
+        Ok(NewText {
+            bytes: Vec::new(self.alloc),
+        })
+    }
+
+    fn keep(&mut self, name: &str, text: NewText) -> Result<(), WriteFailed> {
+        if name != self.name {
+            return Err(WriteFailed {
+                accepted: text.bytes.len() as u64,
+            });
+        }
+        self.text = text.bytes.leak();
+        Ok(())
+    }
+
+    fn abandon(&mut self, text: NewText) {
+        drop(text);
     }
 }

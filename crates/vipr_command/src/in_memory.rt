@@ -1,12 +1,11 @@
 //! Answers for a text that is read into memory: with a page for people, or with its digest.
 ghost use Rattle.std.specs.Prelude.{◌≡◌, ◌<◌, ◌^◌, [], Some, None, true, false};
-ghost use Rattle.std.specs.Prelude.{length, IfOk, IfSome, option_map, string_bytes};
+ghost use Rattle.std.specs.Prelude.{length, IfOk, IfSome, string_bytes};
 ghost use Rattle.vipr_spec.specs.Input.{Input};
 ghost use Rattle.vipr_rules.specs.Profile.{profile_of};
-ghost use Rattle.vipr_command.specs.Run.{Does, HasRead, IsPrinted, OfInput, PrintsInMemory};
-ghost use Rattle.vipr_command.specs.Run.{PrintsWhole, ReadsOn, input_of, sum_asked};
+ghost use Rattle.vipr_command.specs.Run.{HasRead, IsPrinted, OfInput, PrintsCheck, PrintsExplain};
+ghost use Rattle.vipr_command.specs.Run.{PrintsInMemory, PrintsWhole, ReadsOn, input_of, sum_asked};
 ghost use Rattle.vipr_command.specs.Text.{answer_lines};
-ghost use Rattle.vipr_command.specs.declared.request.Task.{Task};
 
 use crate::check::{print_verdict, status_of};
 use crate::explain::print_explanation;
@@ -53,10 +52,8 @@ pub(crate) fn check_job<R: Source + Drop, O: Sink>(
     source: R,
     out: &mut O,
 ) -> Result<u8, CommandFault>
-    ensures { OfInput (R.input source)
-        (λ k. Does Task.Check (profile_of job.now.profile) job.now.form job.now.is_long
-        job.now.has_sum (option_map (λ s. s.now) job.now.out) k (O.output out.old)
-        (O.output out.new) result) }
+    ensures { OfInput (R.input source) (λ k. PrintsCheck (profile_of job.now.profile)
+        job.now.is_long job.now.has_sum k (O.output out.old) (O.output out.new) result) }
 {
     if job.has_sum {
         return print_in_memory(alloc, Task::Check, job, source, out);
@@ -71,10 +68,8 @@ pub(crate) fn explain_job<R: Source + Drop, O: Sink>(
     source: R,
     out: &mut O,
 ) -> Result<u8, CommandFault>
-    ensures { OfInput (R.input source)
-        (λ k. Does Task.Explain (profile_of job.now.profile) job.now.form job.now.is_long
-        job.now.has_sum (option_map (λ s. s.now) job.now.out) k (O.output out.old)
-        (O.output out.new) result) }
+    ensures { OfInput (R.input source) (λ k. PrintsExplain (profile_of job.now.profile)
+        job.now.is_long job.now.has_sum k (O.output out.old) (O.output out.new) result) }
 {
     if job.is_long || job.has_sum {
         return print_in_memory(alloc, Task::Explain, job, source, out);

@@ -4,7 +4,6 @@
 #![tactic(auto)]
 
 mod args;
-mod beside;
 mod check;
 mod command;
 mod explain;
@@ -13,10 +12,10 @@ mod folder;
 mod host;
 mod in_memory;
 mod line;
-mod out_file;
 mod output;
 mod request;
 mod show;
+mod system;
 mod tighten;
 
 pub use args::job;

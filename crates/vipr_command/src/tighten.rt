@@ -1,13 +1,13 @@
 //! Tightens a certificate: writes what its proof needs.
 ghost use Rattle.std.specs.Prelude.{◌≡◌, option_map};
 ghost use Rattle.vipr_rules.specs.Profile.{profile_of};
-ghost use Rattle.vipr_command.specs.Run.{OfInput, PrintsTightened};
+ghost use Rattle.vipr_command.specs.Run.{OfInput, PrintsTightened, outside_of};
 ghost use Rattle.vipr_command.specs.Tighten.{Settles, WritesFile, WritesTightened, outcome_status};
 
 use crate::fault::CommandFault;
-use crate::host::Host;
+use crate::folder::Folder;
 use crate::line::say;
-use crate::out_file::OutFile;
+use crate::request::Job;
 use std::alloc::Global;
 use std::io::Write;
 use vipr_bytes::{Sink, Source};
@@ -15,74 +15,74 @@ use vipr_rules::Profile;
 use vipr_tighten::{Outcome, TightenFault, tighten_as};
 use vipr_write::Form;
 
-/// Prints a certificate's text in a form, tightened by the rules of a profile, or writes it to the
-/// file at `path`. Reports on `err` what was kept and removed, or why there is none, and answers
-/// the exit status.
+/// Prints a certificate's text, tightened as a job says, or writes it to the job's OUT. Reports on
+/// `err` what was kept and removed, or why there is none, and answers the exit status.
 ///
-/// The file is opened at the first byte that is written to it: not for a certificate that is
-/// refused. It may be the one that is read. A regular file that is there already is replaced once
-/// the whole text is written beside it, and else stays as it was. Any other file is written in
-/// place. It is closed before `err` is written to.
+/// OUT is begun before the certificate is read, and may be the file that is read. It is kept once
+/// the whole text is written, and before `err` is written to, and else given up.
 ///
 /// # Errors
 ///
-/// A read fails or a growth is refused: nothing was written. A write fails, the file can't be
-/// opened, or the system can't keep what it took.
-pub fn print_tightened<H: Host, R: Source + Drop, O: Sink, E: Write>(
-    rt: &H,
-    profile: Profile,
-    form: Form,
+/// A read fails or a growth is refused: nothing was written. A write fails, or OUT can't be kept.
+pub fn print_tightened<D: Folder, R: Source + Drop, O: Sink, E: Write>(
+    alloc: Global,
+    files: &mut D,
+    job: &Job<'_>,
     source: R,
-    path: Option<&str>,
     out: &mut O,
     err: &mut E,
 ) -> Result<u8, CommandFault>
-    ensures { OfInput (R.input source)
-        (λ k. PrintsTightened (profile_of profile) form (option_map (λ s. s.now) path.entry) k
-        (O.output out.old) (O.output out.new) result) }
+    ensures { OfInput (R.input source) (λ k. PrintsTightened (profile_of job.now.profile)
+        job.now.form (option_map (λ s. s.now) job.now.out) k
+        (outside_of (O.output out.old) (D.holds files.old))
+        (outside_of (O.output out.new) (D.holds files.new)) result) }
 {
-    match path {
-        None => write_tightened(rt.alloc(), profile, form, source, out, err),
-        Some(path) => write_file(rt, profile, form, source, path, err),
+    match job.out {
+        None => write_tightened(alloc, job.profile, job.form, source, out, err),
+        Some(name) => write_file(alloc, files, job, source, name, err),
     }
 }
 
-fn write_file<H: Host, R: Source + Drop, E: Write>(
-    rt: &H,
-    profile: Profile,
-    form: Form,
+fn write_file<D: Folder, R: Source + Drop, E: Write>(
+    alloc: Global,
+    files: &mut D,
+    job: &Job<'_>,
     source: R,
-    path: &str,
+    name: &str,
     err: &mut E,
 ) -> Result<u8, CommandFault>
-    ensures { OfInput (R.input source) (λ k. WritesFile (profile_of profile) form
-        (k.proof (profile_of profile)) result) }
+    ensures { OfInput (R.input source) (λ k. WritesFile (profile_of job.now.profile) job.now.form
+        (k.proof (profile_of job.now.profile)) (D.holds files.old) (D.holds files.new) name.now
+        result) }
 {
-    let mut place = OutFile::new(rt, path)?;
-    let tightened = tighten_as(rt.alloc(), profile, form, source, &mut place);
-    let outcome = settle(place, tightened)?;
+    let mut place = files.begin(name)?;
+    let tightened = tighten_as(alloc, job.profile, job.form, source, &mut place);
+    let outcome = settle(files, name, place, tightened)?;
     say(err, &format_args!("{outcome}\n"));
     Ok(status_of(&outcome))
 }
 
 /// Keeps what was written of a certificate that was tightened, and nothing else.
-fn settle<H: Host>(
-    place: OutFile<'_, H>,
+fn settle<D: Folder>(
+    files: &mut D,
+    name: &str,
+    place: D::Out,
     tightened: Result<Outcome, TightenFault>,
 ) -> Result<Outcome, CommandFault>
-    ensures { Settles tightened result }
+    ensures { Settles tightened (D.holds files.old) (D.holds files.new) name.now
+        (D.Out.output place) result }
 {
     match tightened {
         Ok(Outcome::Refused(refusal)) => {
-            place.abandon();
+            files.abandon(place);
             Ok(Outcome::Refused(refusal))
         }
         Ok(outcome) => {
-            place.keep()?;
+            files.keep(name, place)?;
             Ok(outcome)
         }
         Err(fault) => {
-            place.abandon();
+            files.abandon(place);
             Err(CommandFault::from(fault))
         }
     }

@@ -1,15 +1,39 @@
+use Rattle.vipr_rules.specs.Profile.{profile_of}
+use Rattle.vipr_command.specs.Run.{PrintsCheck, PrintsExplain, PrintsText, outside_of}
 use Rattle.vipr_command.specs.declared.request.Task.TheVariants.{Check, Explain, Show, Tighten}
-use Rattle.vipr_command.proofs.RunLemmas.{done_as}
+use Rattle.vipr_command.proofs.RunLemmas.{beside, done_as}
 use Rattle.vipr_command.proofs.command.do_task.Goals as goal
 
 pub returns-in-Check : goal.returns-in-Check
-returns-in-Check g c = done_as c.args.job.now (g.R.Source.input c.args.source) (g.O.Sink.output c.args.out.now) (g.O.Sink.output c.check_job.new.out) c.check_job.result Check c.in-Check.is c.check_job.ensures
+returns-in-Check g c =
+    let j = c.args.job.now in
+    let source = g.R.Source.input c.args.source in
+    let files = g.D.Folder.holds c.args.files.now in
+    let old = g.O.Sink.output c.args.out.now in
+    let new = g.O.Sink.output c.check_job.new.out in
+    let r = c.check_job.result in
+    done_as j source (outside_of old files) (outside_of new files) r Check c.in-Check.is (beside source (λ k. PrintsCheck (profile_of j.profile) j.is_long j.has_sum k old new r) files c.check_job.ensures)
 
 pub returns-in-Explain : goal.returns-in-Explain
-returns-in-Explain g c = done_as c.args.job.now (g.R.Source.input c.args.source) (g.O.Sink.output c.args.out.now) (g.O.Sink.output c.explain_job.new.out) c.explain_job.result Explain c.in-Explain.is c.explain_job.ensures
+returns-in-Explain g c =
+    let j = c.args.job.now in
+    let source = g.R.Source.input c.args.source in
+    let files = g.D.Folder.holds c.args.files.now in
+    let old = g.O.Sink.output c.args.out.now in
+    let new = g.O.Sink.output c.explain_job.new.out in
+    let r = c.explain_job.result in
+    done_as j source (outside_of old files) (outside_of new files) r Explain c.in-Explain.is (beside source (λ k. PrintsExplain (profile_of j.profile) j.is_long j.has_sum k old new r) files c.explain_job.ensures)
 
 pub returns-in-Show : goal.returns-in-Show
-returns-in-Show g c = done_as c.args.job.now (g.R.Source.input c.args.source) (g.O.Sink.output c.args.out.now) (g.O.Sink.output c.print_text.new.out) c.print_text.result Show c.in-Show.is c.print_text.ensures
+returns-in-Show g c =
+    let j = c.args.job.now in
+    let source = g.R.Source.input c.args.source in
+    let files = g.D.Folder.holds c.args.files.now in
+    let old = g.O.Sink.output c.args.out.now in
+    let new = g.O.Sink.output c.print_text.new.out in
+    let r = c.print_text.result in
+    done_as j source (outside_of old files) (outside_of new files) r Show c.in-Show.is (beside source (λ k. PrintsText j.form k old new r) files c.print_text.ensures)
 
 pub returns-in-Tighten : goal.returns-in-Tighten
-returns-in-Tighten g c = done_as c.args.job.now (g.R.Source.input c.args.source) (g.O.Sink.output c.args.out.now) (g.O.Sink.output c.print_tightened.new.out) c.print_tightened.result Tighten c.in-Tighten.is c.print_tightened.ensures
+returns-in-Tighten g c =
+    done_as c.args.job.now (g.R.Source.input c.args.source) (outside_of (g.O.Sink.output c.args.out.now) (g.D.Folder.holds c.args.files.now)) (outside_of (g.O.Sink.output c.print_tightened.new.out) (g.D.Folder.holds c.print_tightened.new.files)) c.print_tightened.result Tighten c.in-Tighten.is c.print_tightened.ensures

@@ -1,10 +1,12 @@
-use Rattle.vipr_command.specs.Run.{DoesJob}
+use Rattle.vipr_command.specs.Run.{DoesJob, outside_of}
 use Rattle.vipr_command.proofs.RunLemmas.{done_with_opened, never_opened, unopened}
 use Rattle.vipr_command.proofs.command.do_task_on_file.Goals as goal
 
 pub returns-in-Ok-clause-done : goal.returns-in-Ok-clause-done
 returns-in-Ok-clause-done g c =
-    done_with_opened _ g.D.In.Source.input (g.D.Folder.holds c.args.files.now c.args.name.now) c.in-Ok.source (λ k. DoesJob c.args.job.now k (g.O.Sink.output c.args.out.now) (g.O.Sink.output c.do_task.new.out) c.do_task.result) c.in-Ok.ensures c.do_task.ensures
+    let old = outside_of (g.O.Sink.output c.args.out.now) (g.D.Folder.holds c.args.files.now) in
+    let new = outside_of (g.O.Sink.output c.do_task.new.out) (g.D.Folder.holds c.do_task.new.files) in
+    done_with_opened _ g.D.In.Source.input (g.D.Folder.holds c.args.files.now c.args.name.now) c.in-Ok.source (λ k. DoesJob c.args.job.now k old new c.do_task.result) c.in-Ok.ensures c.do_task.ensures
 
 pub returns-in-Ok-clause-missing : goal.returns-in-Ok-clause-missing
 returns-in-Ok-clause-missing g c =
@@ -12,8 +14,8 @@ returns-in-Ok-clause-missing g c =
 
 pub returns-then-job-clause-done : goal.returns-then-job-clause-done
 returns-then-job-clause-done g c =
-    unopened _ g.D.In.Source.input (g.D.Folder.holds c.args.files.now c.args.name.now) c.in-Err.error c.args.job.now (g.O.Sink.output c.args.out.now) c.in-Err.ensures
+    unopened _ g.D.In.Source.input (g.D.Folder.holds c.args.files.now c.args.name.now) c.in-Err.error c.args.job.now (outside_of (g.O.Sink.output c.args.out.now) (g.D.Folder.holds c.args.files.now)) c.in-Err.ensures
 
 pub returns-else-job-clause-done : goal.returns-else-job-clause-done
 returns-else-job-clause-done g c =
-    unopened _ g.D.In.Source.input (g.D.Folder.holds c.args.files.now c.args.name.now) c.in-Err.error c.args.job.now (g.O.Sink.output c.args.out.now) c.in-Err.ensures
+    unopened _ g.D.In.Source.input (g.D.Folder.holds c.args.files.now c.args.name.now) c.in-Err.error c.args.job.now (outside_of (g.O.Sink.output c.args.out.now) (g.D.Folder.holds c.args.files.now)) c.in-Err.ensures

@@ -1,4 +1,4 @@
-use Rattle.std.proofs.Common.{None, Ok, Err}
+use Rattle.std.proofs.Common.{Ok, Err}
 use Rattle.std.proofs.lemmas.Result.{err_from_is_err_and}
 use Rattle.vipr_rules.specs.Profile.{profile_of}
 use Rattle.vipr_tighten.specs.Tightens.{TightensText}
@@ -10,24 +10,36 @@ use Rattle.vipr_command.proofs.tighten.write_file.Goals as goal
 
 pub returns-in_err-place : goal.returns-in_err-place
 returns-in_err-place g c =
-    let P = profile_of c.args.profile in
+    let P = profile_of c.args.job.now.profile in
+    let F = c.args.job.now.form in
+    let files = g.D.Folder.holds c.args.files.now in
     let q = err_from_is_err_and c.from_residual.result c.from_residual.ensures.1 in
-    rw (q.1, q.2) (of_any (g.R.Source.input c.args.source) (λ k. WritesFile P c.args.form (k.proof P) (Err Memory)) (λ k. nameless P c.args.form (k.proof P)))
+    rw (q.1, q.2) (of_any (g.R.Source.input c.args.source) (λ k. WritesFile P F (k.proof P) files files c.args.name.now (Err Memory)) (λ k. nameless P F (k.proof P) files c.args.name.now))
 
 pub returns-in_err-outcome : goal.returns-in_err-outcome
 returns-in_err-outcome g c =
-    let P = profile_of c.args.profile in
-    let F = c.args.form in
+    let P = profile_of c.args.job.now.profile in
+    let F = c.args.job.now.form in
     let source = g.R.Source.input c.args.source in
+    let old = g.D.Folder.holds c.args.files.now in
+    let new = g.D.Folder.holds c.settle.new.files in
+    let name = c.args.name.now in
+    let before = g.D.Out.Sink.output c.in_ok-place.place in
+    let after = g.D.Out.Sink.output c.tighten_as-tightened.new.sink in
     let r = c.tighten_as-tightened.result in
     let f = c.in_err-outcome.field-0.0 in
     let q = err_from_is_err_and c.from_residual-in_err-outcome.result c.from_residual-in_err-outcome.ensures.1 in
-    rw (q.1, q.2) (of_input source (λ k. TightensText P F (k.proof P) None None r) (λ k. WritesFile P F (k.proof P) (Err f)) (λ k. failed P F (k.proof P) r f c.in_err-outcome.ensures) (known P F source None None r c.tighten_as-tightened.ensures.tightens))
+    rw (q.1, q.2) (of_input source (λ k. TightensText P F (k.proof P) before after r) (λ k. WritesFile P F (k.proof P) old new name (Err f)) (λ k. failed P F (k.proof P) old new name before after r f c.in_ok-place.ensures c.in_err-outcome.ensures) (known P F source before after r c.tighten_as-tightened.ensures.tightens))
 
 pub returns : goal.returns
 returns g c =
-    let P = profile_of c.args.profile in
-    let F = c.args.form in
+    let P = profile_of c.args.job.now.profile in
+    let F = c.args.job.now.form in
     let source = g.R.Source.input c.args.source in
+    let old = g.D.Folder.holds c.args.files.now in
+    let new = g.D.Folder.holds c.settle.new.files in
+    let name = c.args.name.now in
+    let before = g.D.Out.Sink.output c.in_ok-place.place in
+    let after = g.D.Out.Sink.output c.tighten_as-tightened.new.sink in
     let r = c.tighten_as-tightened.result in
-    of_input source (λ k. TightensText P F (k.proof P) None None r) (λ k. WritesFile P F (k.proof P) (Ok c.status_of.result)) (λ k. kept P F (k.proof P) r c.in_ok-outcome.outcome c.status_of.result c.status_of.ensures c.in_ok-outcome.ensures) (known P F source None None r c.tighten_as-tightened.ensures.tightens)
+    of_input source (λ k. TightensText P F (k.proof P) before after r) (λ k. WritesFile P F (k.proof P) old new name (Ok c.status_of.result)) (λ k. kept P F (k.proof P) old new name before after r c.in_ok-outcome.outcome c.status_of.result c.status_of.ensures c.in_ok-place.ensures c.in_ok-outcome.ensures) (known P F source before after r c.tighten_as-tightened.ensures.tightens)
