@@ -1,6 +1,7 @@
 mod bytes;
 mod cert;
 mod check;
+mod command;
 mod example;
 mod frac;
 mod linear;

@@ -25,12 +25,12 @@ DER 0
 ";
 
 // A cutoff that an entry with multiplier 0 names, and the goal.
-const IGNORED: &[u8] = b"VER 1.0 VAR 1 x INT 1 0 OBJ min 1 0 1 CON 1 0 a G 5 1 0 2
+pub(super) const IGNORED: &[u8] = b"VER 1.0 VAR 1 x INT 1 0 OBJ min 1 0 1 CON 1 0 a G 5 1 0 2
     RTP range 3 3 SOL 1 s 1 0 3
     DER 2 c L 3 1 0 1 { sol } -1 g G 3 1 0 1 { rnd 2 0 1/2 1 0 } -1";
 
 // The goal alone.
-const ROUNDED: &[u8] = b"VER 1.0
+pub(super) const ROUNDED: &[u8] = b"VER 1.0
 VAR 1
 x
 INT 1
