@@ -427,7 +427,7 @@ CAUSES = [
 # Texts of the sources that no page has: of sections without items, of faults that there aren't, of a verdict on another
 # text, of a read that fails (hostile.py tries it), and of pages that are longer than those of the file.
 UNREACHED = {
-    'items', 'item', 'the end of the text: the last derivation is before this', 'a token',
+    'item', 'the end of the text: the last derivation is before this', 'a token',
     'see the table of causes in docs/FORMAT.md', "\nthe verdict isn't one of this text, so it isn't explained\n",
     "\na read failed behind what is refused, so it isn't explained\n", '.. the rest is left out\n',
 }

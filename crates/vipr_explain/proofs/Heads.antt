@@ -1,12 +1,9 @@
 -- The parts of a text before its derivations, one after the other
-use Rattle.std.proofs.Common.{◌≡◌, ◌<◌, ℕ, List, Ok, sym, ap, ◌∙◌, subst, Option, Result, Err}
+use Rattle.std.proofs.Common.{◌≡◌, ◌<◌, ℕ, List, Ok, sym, ap, ◌∙◌, subst, Result, Err}
 use Rattle.std.proofs.Common.{IfOk, IfErr, OnOk}
-use Rattle.std.specs.Option.{IsSome}
 use Rattle.std.specs.Result.{result_and}
 use Rattle.vipr_spec.specs.Certificate.{Problem}
 use Rattle.vipr_spec.specs.Reading.{Rest, ◌>>=◌, problem_read}
-use Rattle.vipr_spec.specs.Input.{Input}
-use Rattle.vipr_bytes.specs.Known.{IfKnown, text_of}
 use Rattle.vipr_cert.specs.Items.{solution_of}
 use Rattle.vipr_cert.specs.declared.items.Named.{Named as Kept}
 use Rattle.vipr_linear.specs.declared.row.Solution.{Solution}
@@ -16,7 +13,7 @@ use Rattle.vipr_explain.specs.Found.{Missed, derivations_behind, head_read, nth_
 use Rattle.vipr_explain.specs.Found.{AreFoundItems, Finds, IsListedSolution, Opens, beside}
 use Rattle.vipr_explain.specs.declared.items.Items.{Items}
 use Rattle.vipr_scan.specs.declared.error.TextError.{TextError}
-use Rattle.vipr_explain.proofs.Again.{known_by, missed_first}
+use Rattle.vipr_explain.proofs.Again.{missed_first}
 
 pub head_found : (text : Rest) (p : Problem) (n k : ℕ) (r r' : Rest)
     → problem_read text ≡ Ok ((p, n), r) → derivations_behind p n r ≡ Ok (k, r')
@@ -52,24 +49,21 @@ head_opened text p s (Ok d) first behind = (head_found text p s.left d.left (res
 head_opened text p s (Err m) first behind = head_missed text p s.left (rest_of s.rest) m first behind
 
 -- the solution behind so many others is the one of that number
-pub is_listed : (o : Option Input) (number : ℕ) (p : Problem) (old new : Reader)
+pub is_listed : (number : ℕ) (text : Rest) (p : Problem) (old new : Reader)
     (r : Result (Kept Solution) TextError)
-    → IfKnown o (λ i. (problem_read (text_of i) ≡ Ok ((p, old.left), rest_of old.rest))
-    × IsSome old.rest)
+    → problem_read text ≡ Ok ((p, old.left), rest_of old.rest)
     → IfOk r (λ s. number < old.left)
-    → (IsSome old.rest → IfOk r (λ s. nth_read p number (rest_of old.rest)
-    ≡ Ok (solution_of s, rest_of new.rest)))
-    → IfOk r (λ s. IfKnown o (λ i. IsListedSolution number (text_of i) p (solution_of s)))
-is_listed o number p old new (Ok s) known within read =
-    known_by o _ (λ i. IsListedSolution number (text_of i) p (solution_of s)) (λ i h. record {
-      count = old.left;
-      behind = rest_of old.rest;
-      problem = h.0;
-      within = within;
-      rest = rest_of new.rest;
-      solution = read h.1;
-    }) known
-is_listed o number p old new (Err m) known within read = tt
+    → IfOk r (λ s. nth_read p number (rest_of old.rest) ≡ Ok (solution_of s, rest_of new.rest))
+    → IfOk r (λ s. IsListedSolution number text p (solution_of s))
+is_listed number text p old new (Ok s) first within read = record {
+  count = old.left;
+  behind = rest_of old.rest;
+  problem = first;
+  within = within;
+  rest = rest_of new.rest;
+  solution = read;
+}
+is_listed number text p old new (Err m) first within read = tt
 
 pub are_items : (wanted : List ℕ) (text : Rest) (items : Items) (p : Problem) (d d' : Reader)
     → p ≡ items.problem → head_read text ≡ Ok ((p, d.left), rest_of d.rest)
@@ -88,15 +82,13 @@ are_items wanted text items p d d' same head kept =
     }
 
 -- what was kept is given if the reading passed
-pub items_kept : (o : Option Input) (wanted : List ℕ) (p : Problem) (d d' : Reader) (items : Items)
-    (r : Result (Unit {0}) TextError)
-    → IfKnown o (λ i. (head_read (text_of i) ≡ Ok ((p, d.left), rest_of d.rest)) × IsSome d.rest)
-    → p ≡ items.problem
-    → (IsSome d.rest → OnOk r (HasKeptItems p wanted d d' items.derivations.items))
-    → IfOk (result_and r (Ok items)) (λ x. IfKnown o (λ i. AreFoundItems wanted (text_of i) x))
-items_kept o wanted p d d' items (Ok u) known same kept =
-    known_by o _ (λ i. AreFoundItems wanted (text_of i) items) (λ i h. are_items wanted (text_of i) items p d d' same h.0 (kept h.1)) known
-items_kept o wanted p d d' items (Err e) known same kept = tt
+pub items_kept : (wanted : List ℕ) (text : Rest) (p : Problem) (d d' : Reader) (items : Items)
+    (r : Result (Unit {0}) TextError) → head_read text ≡ Ok ((p, d.left), rest_of d.rest)
+    → p ≡ items.problem → OnOk r (HasKeptItems p wanted d d' items.derivations.items)
+    → IfOk (result_and r (Ok items)) (AreFoundItems wanted text)
+items_kept wanted text p d d' items (Ok u) head same kept =
+    are_items wanted text items p d d' same head kept
+items_kept wanted text p d d' items (Err e) head same kept = tt
 
 pub err_first : {A E : Type 0} (r : Result (Unit {0}) E) (s : Result A E) (P : E → Type 0)
     → IfErr r P → IfErr s P → IfErr (result_and r s) P

@@ -1,14 +1,12 @@
 -- Why a text can't be read again, through the calls that read it
 use Rattle.std.proofs.Common.{◌≡◌, ℕ, ◌≤◌, ◌⊎◌, inr, List, length}
-use Rattle.std.proofs.Common.{Option, Some, None, Result, Ok, Err, IfSome, IfErr, refl, sym}
+use Rattle.std.proofs.Common.{Result, Ok, Err, IfErr, refl, sym}
 use Rattle.std.proofs.Common.{IsErrAnd, subst}
-use Rattle.vipr_spec.specs.Input.{Input}
 use Rattle.vipr_spec.specs.Certificate.{Named, Problem}
 use Rattle.vipr_spec.specs.Constraint.{Row}
 use Rattle.vipr_spec.specs.Reading.{Rest, Fault, Read, ◌>>=◌, read_each}
 use Rattle.vipr_spec.specs.Reading.{derivation_read, solution_read}
-use Rattle.vipr_bytes.specs.Known.{IfKnown}
-use Rattle.vipr_explain.specs.Found.{Because, HasFault, Missed, OnlyIf, count_read, head_read}
+use Rattle.vipr_explain.specs.Found.{Because, HasFault, Missed, count_read, head_read}
 use Rattle.vipr_explain.specs.Found.{nth_read, items_up_to}
 use Rattle.vipr_explain.specs.Found.{LacksListed}
 use Rattle.vipr_scan.specs.declared.error.TextError.{TextError}
@@ -30,28 +28,6 @@ pub err_is : {A : Type 0} (r : Result A TextError) {m : TextError} (P : TextErro
     → IsErrAnd r (λ e. e ≡ m) → P m → IfErr r P
 err_is (Ok x) P is h = absurd is
 err_is (Err e) P is h = subst (λ (x : TextError). P x) (sym is) h
-
--- of what was known before
-pub only_after : (o : Option Input) (m : TextError) (P Q : Input → Type 0) → IfKnown o P
-    → ((i : Input) → P i → Because m (Q i)) → OnlyIf o Q m
-only_after None m P Q h f = tt
-only_after (Some i) m P Q h f = λ short. f i (h short)
-
-pub only_given : (o : Option Input) (m : TextError) (P Q : Input → Type 0) → IfSome o P
-    → ((i : Input) → P i → Because m (Q i)) → OnlyIf o Q m
-only_given None m P Q h f = tt
-only_given (Some i) m P Q h f = λ short. f i h
-
--- of a call that may fail
-pub err_given : {A : Type 0} (o : Option Input) (r : Result A TextError) (P Q : Input → Type 0)
-    → IfSome o P → ((i : Input) → P i → IfErr r (λ m. Because m (Q i))) → IfErr r (OnlyIf o Q)
-err_given o (Ok x) P Q h f = tt
-err_given o (Err m) P Q h f = only_given o m P Q h f
-
-pub err_after : {A : Type 0} (o : Option Input) (r : Result A TextError) (P Q : Input → Type 0)
-    → IfKnown o P → ((i : Input) → P i → IfErr r (λ m. Because m (Q i))) → IfErr r (OnlyIf o Q)
-err_after o (Ok x) P Q h f = tt
-err_after o (Err m) P Q h f = only_after o m P Q h f
 
 pub err_memory : {A : Type 0} (r : Result A TextError) (P : Type 0)
     → IfErr r (λ m. m ≡ error.Memory) → IfErr r (λ m. Because m P)
@@ -108,11 +84,3 @@ pub nth_then_missed : (p : Problem) (n left : ℕ) (r r' : Rest) (xs : List (Nam
     → read_each (solution_read p) n r ≡ Ok (xs, r') → Missed m (solution_read p r')
     → Because m ((left ≤ n) ⊎ HasFault (nth_read p n r))
 nth_then_missed p n left r r' xs m e h = because m _ _ (λ x. inr (fault_behind (read_each (solution_read p) n r) (xs, r') (λ ss. solution_read p ss.1) e x)) h
-
--- ---- where nothing is said
-
-pub err_memory_only : {A : Type 0} (o : Option Input) (r : Result A TextError) (P : Input → Type 0)
-    → IfErr r (λ m. m ≡ error.Memory) → IfErr r (OnlyIf o P)
-err_memory_only o (Ok x) P h = tt
-err_memory_only None (Err m) P h = tt
-err_memory_only (Some i) (Err m) P h = λ short. of_memory m (P i) h

@@ -1,6 +1,5 @@
 mod Again
 mod Heads
-mod Numerals
 mod Dropping
 mod Lacks
 mod Tokens

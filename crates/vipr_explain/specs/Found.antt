@@ -8,7 +8,7 @@ use Rattle.vipr_spec.specs.Constraint.{Row}
 use Rattle.vipr_spec.specs.Reading.{Rest, Fault, Read, ◌>>=◌, read_each, problem_read}
 use Rattle.vipr_spec.specs.Reading.{solution_read, derivations_read, derivation_read}
 use Rattle.vipr_spec.specs.Input.{Input}
-use Rattle.vipr_bytes.specs.Known.{IfKnown, text_of}
+use Rattle.vipr_bytes.specs.Known.{text_of}
 use Rattle.vipr_scan.specs.Giving.{rest_of}
 use Rattle.vipr_read.specs.Items.{Items as Reader}
 use Rattle.vipr_cert.specs.Items.{derivation_of}
@@ -23,6 +23,10 @@ use Rattle.vipr_explain.specs.declared.shown.PlacedItems.{PlacedItems}
 abbrev pub text_input : List ℕ → Option Input
 text_input bytes = Some (record { bytes = bytes; fails = false })
 
+-- all that there is to read of it
+abbrev pub text_rest : List ℕ → Rest
+text_rest bytes = text_of (record { bytes = bytes; fails = false })
+
 -- the reading has a fault
 abbrev pub HasFault : {Y : Type 0} → Result Y Fault → Type 0
 HasFault r = (f : Fault) × (r ≡ Err f)
@@ -31,10 +35,6 @@ HasFault r = (f : Fault) × (r ≡ Err f)
 abbrev pub Because : TextError → Type 0 → Type 0
 Because error.Memory reason = ⊤
 Because _ reason = reason
-
--- the same of the bytes of a text, if they are known
-abbrev pub OnlyIf : Option Input → (Input → Type 0) → TextError → Type 0
-OnlyIf input Reason m = IfKnown input (λ i. Because m (Reason i))
 
 -- the reading has a fault, or memory ran out
 abbrev pub Missed : {Y : Type 0} → TextError → Result Y Fault → Type 0
@@ -138,7 +138,7 @@ pub record AreFoundItems (wanted : List ℕ) (text : Rest) (items : Items) : Typ
 
 -- items of these indices and their places are those of the text
 pub record AreItemsOf (text : List ℕ) (wanted : List ℕ) (known : PlacedItems) : Type 0 where
-  pub items : IfKnown (text_input text) (λ i. AreFoundItems wanted (text_of i) known.items)
+  pub items : AreFoundItems wanted (text_rest text) known.items
   pub marks : AreMarksOf text wanted known.marks.items
 
 -- ---- what can't be read again

@@ -81,6 +81,6 @@ marks_in kind indices text = marks_from kind indices text at_start [] (text_toke
 abbrev pub AreMarksOf : List ℕ → List ℕ → List ItemPlace → Type 0
 AreMarksOf text indices marks = marks ≡ marks_in kind.Constraints indices text
 
--- this is the place of the solution of this number in a text
-abbrev pub IsMarkOf : List ℕ → ℕ → Option ItemPlace → Type 0
-IsMarkOf text number mark = mark ≡ place_found (marks_in kind.Solutions (number ∷ []) text) number
+-- this is the place of the item of this kind and index in a text
+abbrev pub IsMarkOf : ItemSort → List ℕ → ℕ → Option ItemPlace → Type 0
+IsMarkOf kind text index mark = mark ≡ place_found (marks_in kind (index ∷ []) text) index

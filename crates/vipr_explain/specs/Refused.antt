@@ -2,7 +2,6 @@
 use Rattle.std.specs.Prelude.{◌≡◌, ◌↔◌, ℕ, ℤ, ⊤, List, [], ◌∷◌, IfSome, IsTrue, Option, Some}
 use Rattle.std.specs.Prelude.{None, option_map}
 use Rattle.vipr_spec.specs.Constraint.{Ints, IsSplit, two}
-use Rattle.vipr_bytes.specs.Known.{IfKnown, text_of}
 use Rattle.vipr_linear.specs.Constraint.{condition_of, constraint_of}
 use Rattle.vipr_cert.specs.declared.items.Derivation.{Derivation}
 use Rattle.vipr_cert.specs.declared.items.Reason.{Reason}
@@ -18,16 +17,17 @@ use Rattle.vipr_page.specs.declared.differences.Difference.{Difference}
 use Rattle.vipr_page.specs.declared.faults.RowFault.{RowFault}
 use Rattle.vipr_explain.specs.Drops.{IsLastUse}
 use Rattle.vipr_explain.specs.Excerpts.{IsPlaceAt}
-use Rattle.vipr_explain.specs.Found.{AreFoundItems, AreItemsOf, text_input}
+use Rattle.vipr_explain.specs.Found.{AreFoundItems, AreItemsOf, text_rest}
 use Rattle.vipr_explain.specs.Listed.{kept_derivation, place_found}
-use Rattle.vipr_explain.specs.Marked.{marks_in}
+use Rattle.vipr_explain.specs.Marked.{IsMarkOf, marks_in}
 use Rattle.vipr_explain.specs.declared.drops.LastUse.{LastUse}
 use Rattle.vipr_explain.specs.declared.excerpt.KnownPlace.{KnownPlace}
 use Rattle.vipr_explain.specs.declared.items.Items.{Items}
 use Rattle.vipr_explain.specs.declared.marks.ItemPlace.{ItemPlace}
 use Rattle.vipr_explain.specs.declared.marks.ItemSort.TheVariants as kind
-use Rattle.vipr_explain.specs.declared.step.NamedItems.{NamedItems}
+use Rattle.vipr_explain.specs.declared.shown.PlacedItems.{PlacedItems}
 use Rattle.vipr_explain.specs.declared.step.RefusedStep.{RefusedStep}
+use Rattle.vipr_explain.specs.declared.step.StepFacts.{StepFacts}
 use Rattle.vipr_explain.specs.declared.text.Span.{Span}
 
 -- the place of this part of a text, none if it wasn't found
@@ -71,27 +71,32 @@ IsLastPlace text marks index place =
 -- the last use of this constraint, which derivation user needs
 pub record IsLastUseIn (text : List ℕ) (index user : ℕ) (l : LastUse) : Type 0 where
   pub index_is : l.index ≡ index
-  pub last : IfKnown (text_input text) (λ i. IsLastUse (text_of i) index user l.last)
+  pub last : IsLastUse (text_rest text) index user l.last
   pub place : IsLastPlace text (marks_in kind.Constraints (index ∷ []) text) index l.place
 
--- what the derivation of constraint k, which is refused, names in a text, and what is behind that
-pub record IsNamedOf (text : List ℕ) (own : Items) (k : ℕ) (detail : StepDetail) (n : NamedItems)
-    : Type 0 where
+-- the place of the derivation of constraint k, which has this reason and names these items of a
+-- text, and what is behind its fault
+pub record AreFacts (text : List ℕ) (known : PlacedItems) (reason : Reason) (k : ℕ)
+    (detail : StepDetail) (f : StepFacts) : Type 0 where
+  pub place : IsNamePlace text known.marks.items k f.place
+  pub differences : f.differences.items ≡ differences_in detail
+  pub faults : f.faults.items ≡ faults_in known.items.problem.integers detail
+  pub split : IsTrue f.is_split ↔ AreSplit known.items.problem.integers detail
+  pub rounded : IsRepair known.items.problem.integers reason detail f.rounded
+  pub dropped : IfSome f.dropped (λ l. IsLastUseIn text l.index k l)
+
+pub record AreNamedBy (text : List ℕ) (own : Items) (k : ℕ) (detail : StepDetail)
+    (found : PlacedItems × StepFacts) : Type 0 where
   pub step : Derivation
   pub own_is : kept_derivation own.derivations.items k ≡ Some step
   pub wanted : List ℕ
-  pub known : AreItemsOf text wanted n.known
-  pub place : IsNamePlace text n.known.marks.items k n.place
-  pub differences : n.differences.items ≡ differences_in detail
-  pub faults : n.faults.items ≡ faults_in n.known.items.problem.integers detail
-  pub split : IsTrue n.is_split ↔ AreSplit n.known.items.problem.integers detail
-  pub rounded : IsRepair n.known.items.problem.integers step.reason detail n.rounded
-  pub dropped : IfSome n.dropped (λ l. IsLastUseIn text l.index k l)
+  pub known : AreItemsOf text wanted found.0
+  pub facts : AreFacts text found.0 step.reason k detail found.1
 
 pub record IsRefusedStep (text : List ℕ) (k : ℕ) (detail : StepDetail) (s : RefusedStep)
     : Type 0 where
-  pub own : IfKnown (text_input text) (λ i. AreFoundItems (k ∷ []) (text_of i) s.own)
-  pub named : IsNamedOf text s.own k detail s.named
+  pub own : AreFoundItems (k ∷ []) (text_rest text) s.own
+  pub named : AreNamedBy text s.own k detail (s.known, s.facts)
 
 -- the place of a solution
 abbrev pub IsSolutionPlace : List ℕ → ℕ → Option KnownPlace → Type 0
@@ -99,7 +104,7 @@ IsSolutionPlace text number place =
     IsNamePlace text (marks_in kind.Solutions (number ∷ []) text) number place
 
 -- the place of the constraint that a solution breaks, if that is the fault
-abbrev pub AreBroken : List ℕ → Detail → List ItemPlace → Type 0
-AreBroken text (detail.Breaks name constraint _ _ _ _) marks =
-    marks ≡ marks_in kind.Constraints (constraint ∷ []) text
-AreBroken text _ marks = marks ≡ []
+abbrev pub IsBroken : List ℕ → Detail → Option ItemPlace → Type 0
+IsBroken text (detail.Breaks name constraint _ _ _ _) mark =
+    IsMarkOf kind.Constraints text constraint mark
+IsBroken text _ mark = mark ≡ None

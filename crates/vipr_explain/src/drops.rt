@@ -3,19 +3,17 @@ ghost use Rattle.std.specs.Prelude.{◌≡◌, ◌+◌, ◌<◌, ◌^◌, ◌==�
 ghost use Rattle.std.specs.Prelude.{IfErr, IfSome, suc};
 ghost use Rattle.std.specs.List.{list_any};
 ghost use Rattle.vipr_spec.specs.Certificate.{Problem as ProblemMeant};
-ghost use Rattle.vipr_bytes.specs.Known.{IfKnown, text_of};
 ghost use Rattle.vipr_scan.specs.Giving.{rest_of};
 ghost use Rattle.vipr_cert.specs.Items.{derivation_of, reason_of};
 ghost use Rattle.vipr_read.specs.Items.{Knows};
 ghost use Rattle.vipr_explain.specs.Drops.{IsLastUse, ReadsNext, last_among, later_of};
 ghost use Rattle.vipr_explain.specs.Drops.{names_constraint};
 ghost use Rattle.vipr_explain.specs.Refused.{IsLastUseIn};
-ghost use Rattle.vipr_explain.specs.Found.{HasFault, OnlyIf, head_read};
-ghost use Rattle.vipr_explain.specs.Found.{text_input};
+ghost use Rattle.vipr_explain.specs.Found.{Missed, head_read, text_rest};
 
-use crate::excerpt::{KnownPlace, PlaceLabel, ShownPlace};
+use crate::excerpt::{KnownPlace, PlaceLabel};
 use crate::items::open_derivations;
-use crate::marks::{find_constraints, mark_of};
+use crate::marks::{ItemSort, find_item};
 use crate::step::StepFault;
 use crate::text::{Reread, Subject};
 use std::alloc::Global;
@@ -29,7 +27,7 @@ use vipr_read::Derivations;
 use vipr_scan::TextError;
 
 /// The last use of a constraint that was dropped, and the place of its last reference.
-#[derive(Drop)]
+#[derive(Clone, Copy)]
 pub(crate) struct LastUse<'a> {
     index: u32,
     last: u32,
@@ -55,8 +53,8 @@ impl<'a> LastUse<'a> {
         ensures { IfOk result (IsLastUseIn subject.entry.text.now index user) }
     {
         let last = last_use(subject.alloc, subject.text, index, user)?;
-        let marks = find_constraints(subject.alloc, subject.text, [index].as_slice())?;
-        let place = match mark_of(marks.as_slice(), index) {
+        let mark = find_item(subject.alloc, subject.text, ItemSort::Constraints, index)?;
+        let place = match mark {
             Some(mark) => Some(KnownPlace::of(subject.text, mark.last)),
             None => None,
         };
@@ -71,10 +69,7 @@ impl<'a> LastUse<'a> {
             "  constraint {index} was dropped behind the last reference that it states\n"
         )?;
         match self.place {
-            Some(place) => {
-                let label = PlaceLabel::LastReference(self.last);
-                write!(f, "{}", ShownPlace { place, file, label })
-            }
+            Some(place) => place.write(f, file, PlaceLabel::LastReference(self.last)),
             None => Ok(()),
         }
     }
@@ -83,10 +78,8 @@ impl<'a> LastUse<'a> {
 // The last derivation that names a constraint, as far as the text can be read; `needed_by` if none
 // behind that one does.
 fn last_use(alloc: Global, text: &[u8], index: u32, needed_by: u32) -> Reread<u32>
-    ensures found { IfKnown (text_input text.now) (λ i.
-        IfOk result (IsLastUse (text_of i) index needed_by)) }
-    ensures error { IfErr result
-        (OnlyIf (text_input text.now) (λ i. HasFault (head_read (text_of i)))) }
+    ensures found { IfOk result (IsLastUse (text_rest text.now) index needed_by) }
+    ensures error { IfErr result (λ m. Missed m (head_read (text_rest text.now))) }
 {
     let (problem, mut derivations) = open_derivations(alloc, text)?;
     let first = problem.cons().len() as u32;

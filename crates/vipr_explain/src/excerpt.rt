@@ -6,7 +6,7 @@ ghost use Rattle.vipr_page.specs.Page.{line_byte};
 use crate::text::{Span, Spot};
 use itoa::Buffer;
 use std::fmt;
-use std::fmt::{Display, Formatter, Write};
+use std::fmt::{Formatter, Write};
 use vipr_page::StrangeBytes;
 
 /// How many bytes of a line are shown before a place, and from it on.
@@ -43,6 +43,53 @@ impl<'a> KnownPlace<'a> {
             behind: first(line, MOST_BEHIND),
             is_cut: line.len() as u64 > MOST_BEHIND,
         }
+    }
+
+    /// Writes the place in a file of this name, with carets and a label below it.
+    pub(crate) fn write<W: Write>(
+        &self,
+        f: &mut Formatter<W>,
+        file: &[u8],
+        label: PlaceLabel,
+    ) -> fmt::Result {
+        let line = self.spot.line;
+        let column = self.spot.column;
+        let margin = digits_of(line);
+        write_copies(f, " ", margin)?;
+        write!(f, "--> {}:{line}:{column}\n", StrangeBytes(file))?;
+        write_copies(f, " ", margin)?;
+        f.write_str(" |\n")?;
+        self.write_line(f)?;
+        write_copies(f, " ", margin)?;
+        self.write_carets(f)?;
+        match label {
+            PlaceLabel::Words(words) => f.write_str(words)?,
+            PlaceLabel::LastReference(last) => write!(f, "write {last} or -1 here")?,
+        }
+        f.write_str("\n")?;
+        write_copies(f, " ", margin)?;
+        f.write_str(" |\n")
+    }
+
+    // Writes the part of the line.
+    fn write_line<W: Write>(&self, f: &mut Formatter<W>) -> fmt::Result {
+        let line = self.spot.line;
+        let front = self.front();
+        let before = StrangeBytes(self.before);
+        let behind = StrangeBytes(self.behind);
+        let end = if self.is_cut { ".." } else { "" };
+        write!(f, "{line} | {front}{before}{behind}{end}\n")
+    }
+
+    // Writes carets below the place.
+    fn write_carets<W: Write>(&self, f: &mut Formatter<W>) -> fmt::Result {
+        f.write_str(" | ")?;
+        write_copies(f, " ", self.front().len())?;
+        write_copies(f, " ", width_of_all(self.before))?;
+        let size = self.size.min(self.behind.len());
+        let carets = width_of_all(&self.behind[..size]);
+        write_copies(f, "^", carets.max(1).min(MOST_CARETS))?;
+        f.write_str(" ")
     }
 
     // What stands for the bytes of the line that are left out in front.
@@ -96,56 +143,6 @@ pub(crate) enum PlaceLabel {
     LastReference(u32),
 }
 
-impl Display for PlaceLabel {
-    fn fmt<W: Write>(&self, f: &mut Formatter<W>) -> fmt::Result {
-        match self {
-            PlaceLabel::Words(words) => f.write_str(words),
-            PlaceLabel::LastReference(last) => write!(f, "write {last} or -1 here"),
-        }
-    }
-}
-
-/// A place in a file, with carets and a label below it.
-#[derive(Clone, Copy)]
-pub(crate) struct ShownPlace<'a> {
-    pub(crate) place: KnownPlace<'a>,
-    pub(crate) file: &'a [u8],
-    pub(crate) label: PlaceLabel,
-}
-
-impl Display for ShownPlace<'_> {
-    fn fmt<W: Write>(&self, f: &mut Formatter<W>) -> fmt::Result {
-        let place = self.place;
-        let line = place.spot.line;
-        let column = place.spot.column;
-        let margin = digits_of(line);
-        let front = place.front();
-        let before = place.before;
-        let behind = place.behind;
-        let carets = caret_count(&behind[..place.size.min(behind.len())]);
-        write_copies(f, " ", margin)?;
-        let file = StrangeBytes(self.file);
-        write!(f, "--> {file}:{line}:{column}\n")?;
-        write_copies(f, " ", margin)?;
-        f.write_str(" |\n")?;
-        let shown_before = StrangeBytes(before);
-        let shown_behind = StrangeBytes(behind);
-        let end = if place.is_cut { ".." } else { "" };
-        write!(f, "{line} | {front}{shown_before}{shown_behind}{end}\n")?;
-        write_copies(f, " ", margin)?;
-        f.write_str(" | ")?;
-        write_copies(f, " ", front.len())?;
-        for byte in before {
-            write_copies(f, " ", width_of(*byte))?;
-        }
-        write_copies(f, "^", carets)?;
-        let label = self.label;
-        write!(f, " {label}\n")?;
-        write_copies(f, " ", margin)?;
-        f.write_str(" |\n")
-    }
-}
-
 // Writes a text so many times.
 fn write_copies<W: Write>(f: &mut Formatter<W>, text: &str, count: usize) -> fmt::Result {
     for _ in 0..count {
@@ -154,13 +151,13 @@ fn write_copies<W: Write>(f: &mut Formatter<W>, text: &str, count: usize) -> fmt
     Ok(())
 }
 
-// How many carets are below these bytes.
-fn caret_count(bytes: &[u8]) -> usize {
+// How many columns bytes take on a page.
+fn width_of_all(bytes: &[u8]) -> usize {
     let mut count: usize = 0;
     for byte in bytes {
         count = count.saturating_add(width_of(*byte));
     }
-    count.max(1).min(MOST_CARETS)
+    count
 }
 
 // How many columns a byte takes on a page.

@@ -116,38 +116,51 @@ fn hint(fault: TokenFault<'_>, look: Look) -> &'static str {
         (cause::BAD_NUMBER, Wanted::RightHandSide, Look::Keyword(Section::Objective)) => {
             "the right-hand side is missing: NAME SENSE RIGHT-HAND-SIDE, and then `OBJ`"
         }
-        _ if !is_of_part(fault.cause) => plain_hint(fault.cause, word),
-        (_, _, Look::Keyword(_)) => {
-            "this keyword begins the next section: is a count in front of it too large, or is \
-             something missing there?"
-        }
-        (_, _, Look::NotAscii) => {
-            "this token has a byte that is not ASCII, as a minus or a space of a word processor: \
-             signs, digits and spaces are ASCII"
-        }
-        (_, _, Look::Separated) => {
-            "tokens are separated by white space alone: remove the comma or semicolon"
-        }
-        (cause::BAD_NUMBER, _, _) => number_hint(wanted, look, word),
-        (cause::BAD_COUNT, _, _) => count_hint(fault.progress.section, wanted, word),
-        (cause::BAD_INDEX, _, _) => index_hint(wanted),
-        (cause::BAD_SENSE, _, _) => sense_hint(fault.name, look, word),
-        (cause::BAD_BRACE, _, _) => brace_hint(wanted, word),
-        _ => reference_hint(wanted, look, word),
-    }
-}
-
-// Whether a cause is of a number, a count, an index, a sense, a brace or a reference.
-fn is_of_part(number: u8) -> bool {
-    matches!(
-        number,
-        cause::BAD_NUMBER
+        (
+            cause::BAD_NUMBER
             | cause::BAD_COUNT
             | cause::BAD_INDEX
             | cause::BAD_SENSE
             | cause::BAD_BRACE
-            | cause::BAD_REFERENCE
-    )
+            | cause::BAD_REFERENCE,
+            _,
+            _,
+        ) => part_hint(fault, look),
+        _ => plain_hint(fault.cause, word),
+    }
+}
+
+// Something that is no part of an item as it is wanted.
+fn part_hint(fault: TokenFault<'_>, look: Look) -> &'static str {
+    let wanted = fault.progress.wanted;
+    let word = fault.word;
+    match (look, fault.cause) {
+        (Look::Keyword(_), _) => {
+            "this keyword begins the next section: is a count in front of it too large, or is \
+             something missing there?"
+        }
+        (Look::NotAscii, _) => {
+            "this token has a byte that is not ASCII, as a minus or a space of a word processor: \
+             signs, digits and spaces are ASCII"
+        }
+        (Look::Separated, _) => {
+            "tokens are separated by white space alone: remove the comma or semicolon"
+        }
+        (_, cause::BAD_NUMBER) => number_hint(wanted, look, word),
+        (_, cause::BAD_COUNT) => count_hint(fault.progress.section, wanted, word),
+        (_, cause::BAD_INDEX) => match wanted {
+            Wanted::IntegerIndex => {
+                "`INT` lists variables by their indices, from 0, and not by names"
+            }
+            _ => {
+                "a variable is named by its index, from 0: is a name in its place, or is the count \
+                 of pairs in front of it too large?"
+            }
+        },
+        (_, cause::BAD_SENSE) => sense_hint(fault.name, look, word),
+        (_, cause::BAD_BRACE) => brace_hint(wanted, word),
+        _ => reference_hint(wanted, look, word),
+    }
 }
 
 // Whether a section is the first one.
@@ -261,17 +274,6 @@ const ENDS_EARLY: &str =
     "the reason ends before its number of entries: is the count behind `lin` or `rnd` too large?";
 
 const SPACE_IN_NUMBER: &str = "a number has no spaces, as -11/9";
-
-// Something that is no index of a variable.
-fn index_hint(wanted: Wanted) -> &'static str {
-    match wanted {
-        Wanted::IntegerIndex => "`INT` lists variables by their indices, from 0, and not by names",
-        _ => {
-            "a variable is named by its index, from 0: is a name in its place, or is the count of \
-             pairs in front of it too large?"
-        }
-    }
-}
 
 // Something that is no sense.
 fn sense_hint(name: &[u8], look: Look, word: &[u8]) -> &'static str {

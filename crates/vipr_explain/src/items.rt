@@ -10,7 +10,7 @@ ghost use Rattle.vipr_read.specs.Items.{Knows, Remembers};
 ghost use Rattle.vipr_explain.specs.Found.{Finds, Opens, WerePassed, beside, derivations_behind};
 ghost use Rattle.vipr_explain.specs.Found.{nth_read, numbered_of, wanted_among, HasKeptItems};
 ghost use Rattle.vipr_explain.specs.Found.{KeepsNext, AreFoundItems, Because, HasFault};
-ghost use Rattle.vipr_explain.specs.Found.{IsListedSolution, Missed, OnlyIf, LacksListed};
+ghost use Rattle.vipr_explain.specs.Found.{IsListedSolution, Missed, LacksListed, text_rest};
 ghost use Rattle.vipr_explain.specs.Found.{count_read, head_read, items_up_to, text_input};
 
 use crate::text::Reread;
@@ -233,10 +233,10 @@ pub(crate) fn read_solution(
     text: &[u8],
     number: u32,
 ) -> Reread<(Problem, Named<Solution>)>
-    ensures found { IfOk result (λ x. IfKnown (text_input text.now)
-        (λ i. IsListedSolution number (text_of i) x.0 (solution_of x.1))) }
+    ensures found { IfOk result
+        (λ x. IsListedSolution number (text_rest text.now) x.0 (solution_of x.1)) }
     ensures error { IfErr result
-        (OnlyIf (text_input text.now) (λ i. LacksListed number (problem_read (text_of i)))) }
+        (λ m. Because m (LacksListed number (problem_read (text_rest text.now)))) }
 {
     let (problem, mut solutions) = open_problem(alloc, text)?;
     let found = nth_solution(alloc, &mut solutions, number);
@@ -270,10 +270,8 @@ fn nth_solution<R: Source>(
 
 /// The problem, and the derivations of those of these constraints that are derived.
 pub(crate) fn read_items(alloc: Global, text: &[u8], wanted: &[u32]) -> Reread<Items>
-    ensures found { IfOk result (λ items. IfKnown (text_input text.now)
-        (λ i. AreFoundItems wanted.now (text_of i) items)) }
-    ensures error { IfErr result
-        (OnlyIf (text_input text.now) (λ i. HasFault (items_up_to wanted.now (text_of i)))) }
+    ensures found { IfOk result (AreFoundItems wanted.now (text_rest text.now)) }
+    ensures error { IfErr result (λ m. Missed m (items_up_to wanted.now (text_rest text.now))) }
 {
     let (problem, mut derivations) = open_derivations(alloc, text)?;
     let mut items = Items {

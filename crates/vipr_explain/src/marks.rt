@@ -1,9 +1,8 @@
 //! The places of items' names in a text, and of their last references.
 ghost use Rattle.std.specs.Prelude.{◌≡◌, option_copied, IfOk, OnOk};
 ghost use Rattle.vipr_explain.specs.Listed.{place_found};
-ghost use Rattle.vipr_explain.specs.Marked.{AreMarksOf, IsMarkOf, is_behind, is_of, is_past};
-ghost use Rattle.vipr_explain.specs.Marked.{is_past_head, mark_at, marked, marked_at, marks_in};
-ghost use Rattle.vipr_explain.specs.Marked.{with_last};
+ghost use Rattle.vipr_explain.specs.Marked.{IsMarkOf, is_behind, is_of, is_past};
+ghost use Rattle.vipr_explain.specs.Marked.{is_past_head, marked, marked_at, marks_in, with_last};
 ghost use Rattle.vipr_explain.specs.Progress.{index_of};
 
 use crate::items::greatest;
@@ -14,7 +13,7 @@ use std::alloc::{AllocError, Global};
 
 /// The items that are looked for: constraints, of the problem or derived, or solutions.
 #[derive(Clone, Copy)]
-enum ItemSort {
+pub(crate) enum ItemSort {
     Constraints,
     Solutions,
 }
@@ -50,31 +49,21 @@ pub(crate) struct ItemPlace {
     pub(crate) last: Span,
 }
 
-/// The places of constraints by their indices.
-pub(crate) fn find_constraints(
+/// The place of an item of a kind by its index.
+pub(crate) fn find_item(
     alloc: Global,
     text: &[u8],
-    wanted: &[u32],
-) -> Result<Vec<ItemPlace>, AllocError>
-    ensures { IfOk result (λ marks. AreMarksOf text.now wanted.now marks.items) }
-{
-    find_items(alloc, text, ItemSort::Constraints, wanted)
-}
-
-/// The place of a solution by its number.
-pub(crate) fn find_solution(
-    alloc: Global,
-    text: &[u8],
-    number: u32,
+    kind: ItemSort,
+    index: u32,
 ) -> Result<Option<ItemPlace>, AllocError>
-    ensures { IfOk result (IsMarkOf text.now number) }
+    ensures { IfOk result (IsMarkOf kind text.now index) }
 {
-    let marks = find_items(alloc, text, ItemSort::Solutions, [number].as_slice())?;
-    Ok(mark_of(marks.as_slice(), number))
+    let marks = find_items(alloc, text, kind, [index].as_slice())?;
+    Ok(mark_of(marks.as_slice(), index))
 }
 
-// The places of items of a kind by their indices: up to the greatest one.
-fn find_items(
+/// The places of items of a kind by their indices: up to the greatest one.
+pub(crate) fn find_items(
     alloc: Global,
     text: &[u8],
     kind: ItemSort,
@@ -100,14 +89,14 @@ fn find_items(
 pub(crate) fn mark_of(marks: &[ItemPlace], index: u32) -> Option<ItemPlace>
     ensures { result ≡ place_found marks.now index }
 {
-    match marked(marks, index) {
+    match find_mark(marks, index) {
         Some(mark) => Some(*mark),
         None => None,
     }
 }
 
-// The same, where it lies.
-fn marked(marks: &[ItemPlace], index: u32) -> Option<&ItemPlace>
+// A reference to it.
+fn find_mark(marks: &[ItemPlace], index: u32) -> Option<&ItemPlace>
     ensures { option_copied result ≡ place_found marks.now index }
 {
     marks.iter().find(|mark| mark.index == index)
@@ -140,7 +129,11 @@ fn mark_part(
         ≡ marked_at progress.now.wanted (index_of progress.now) span marks.old.items) }
 {
     match progress.wanted {
-        Wanted::Name => marks.push(mark_at(progress, span))?,
+        Wanted::Name => marks.push(ItemPlace {
+            index: progress.index(),
+            name: span,
+            last: span,
+        })?,
         Wanted::LastReference => mark_last(marks, span),
         _ => {}
     }
@@ -153,17 +146,6 @@ fn mark_last(marks: &mut Vec<ItemPlace>, span: Span)
 {
     if let Some(mark) = marks.last_mut() {
         mark.last = span;
-    }
-}
-
-// The mark of an item by the place of its name.
-fn mark_at(progress: &TextProgress, span: Span) -> ItemPlace
-    ensures { result ≡ mark_at (index_of progress.now) span }
-{
-    ItemPlace {
-        index: progress.index(),
-        name: span,
-        last: span,
     }
 }
 

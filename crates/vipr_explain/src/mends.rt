@@ -8,7 +8,7 @@ ghost use Rattle.vipr_page.specs.Repairs.{Mends};
 use crate::items::Items;
 use std::alloc::{AllocError, Global};
 use std::fmt;
-use std::fmt::{Display, Formatter, Write};
+use std::fmt::{Formatter, Write};
 use vipr_cert::{Reason, References};
 use vipr_frac::Frac;
 use vipr_linear::{Constraint, Sense};
@@ -26,6 +26,32 @@ pub(crate) struct Mend {
     /// The multiplier that the constraint has, if it is in the sum.
     present: Option<Frac>,
     multiplier: Frac,
+}
+
+impl Mend {
+    /// Writes a line that offers it.
+    pub(crate) fn write<W: Write>(&self, f: &mut Formatter<W>, items: &Items) -> fmt::Result {
+        let index = self.index;
+        let multiplier = self.multiplier;
+        f.write_str("  = help: ")?;
+        match self.variable {
+            Some(index) => {
+                let problem = &items.problem;
+                let name = VariableName { problem, index };
+                write!(f, "the coefficient of {name} is")?;
+            }
+            None => f.write_str("all coefficients are")?,
+        }
+        write!(f, " as stated with the multiplier {multiplier}")?;
+        match self.present {
+            Some(present) => write!(f, " in place of {present} at [{index}]")?,
+            None => write!(f, " for [{index}], which is not in the sum:")?,
+        }
+        if let Some(name) = items.name(index) {
+            write!(f, " {}", ShownName(name))?;
+        }
+        f.write_str("\n")
+    }
 }
 
 /// A multiplier that mends all differences, or else one for each of the first. Its constraint has
@@ -60,16 +86,19 @@ fn mend_of(
     sense: Sense,
     differences: &[Difference],
 ) -> Option<Mend> {
+    let variable = match differences {
+        [difference] => Some(difference.variable),
+        _ => None,
+    };
     for entry in entries {
         let (index, present) = *entry;
         if let Some(constraint) = items.constraint(index) {
             if has_variables_of(constraint, differences) {
-                let multiplier = multiplier_by(constraint, present, sense, differences)?;
                 return Some(Mend {
-                    variable: only_variable(differences),
+                    variable,
                     index,
                     present: Some(present),
-                    multiplier,
+                    multiplier: multiplier_by(constraint, present, sense, differences)?,
                 });
             }
         }
@@ -78,7 +107,7 @@ fn mend_of(
         if has_variables_of(&named.item, differences) {
             if let Some(multiplier) = multiplier_by(&named.item, Frac::zero(), sense, differences) {
                 return Some(Mend {
-                    variable: only_variable(differences),
+                    variable,
                     index: index as u32,
                     present: None,
                     multiplier,
@@ -87,14 +116,6 @@ fn mend_of(
         }
     }
     None
-}
-
-// The variable of the differences, if there is one alone.
-fn only_variable(differences: &[Difference]) -> Option<u32> {
-    match differences {
-        [difference] => Some(difference.variable),
-        _ => None,
-    }
 }
 
 // Whether a constraint has as many variables as there are differences, and that of the first one.
@@ -155,10 +176,10 @@ pub(crate) fn is_turned(
     stated: &Constraint,
     differences: &[Difference],
 ) -> bool {
-    let is_other_way = match (computed.sense, stated.sense) {
-        (Sense::G, Sense::L) | (Sense::L, Sense::G) | (Sense::E, Sense::E) => true,
-        _ => false,
-    };
+    let is_other_way = matches!(
+        (computed.sense, stated.sense),
+        (Sense::G, Sense::L) | (Sense::L, Sense::G) | (Sense::E, Sense::E)
+    );
     is_other_way
         && !differences.is_empty()
         && differences.len() == stated.row.entries().len()
@@ -170,40 +191,4 @@ fn are_opposite(differences: &[Difference]) -> bool
     ensures { IsTrue result ↔ All (λ d. d.stated ≡ neg_ℚ d.computed) differences.now }
 {
     differences.iter().all(|difference| difference.stated == difference.computed.neg())
-}
-
-/// A line that offers it.
-#[derive(Clone, Copy)]
-pub(crate) struct MendLine<'a> {
-    pub(crate) items: &'a Items,
-    pub(crate) mend: Mend,
-}
-
-impl Display for MendLine<'_> {
-    fn fmt<W: Write>(&self, f: &mut Formatter<W>) -> fmt::Result {
-        let Mend {
-            variable,
-            index,
-            present,
-            multiplier,
-        } = self.mend;
-        let problem = &self.items.problem;
-        f.write_str("  = help: ")?;
-        match variable {
-            Some(index) => {
-                let name = VariableName { problem, index };
-                write!(f, "the coefficient of {name} is")?;
-            }
-            None => f.write_str("all coefficients are")?,
-        }
-        write!(f, " as stated with the multiplier {multiplier}")?;
-        match present {
-            Some(present) => write!(f, " in place of {present} at [{index}]")?,
-            None => write!(f, " for [{index}], which is not in the sum:")?,
-        }
-        if let Some(name) = self.items.name(index) {
-            write!(f, " {}", ShownName(name))?;
-        }
-        f.write_str("\n")
-    }
 }

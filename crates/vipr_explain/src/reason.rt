@@ -4,7 +4,7 @@ use crate::shown::{ListedConstraint, PlacedItems};
 use crate::step::StepFault;
 use std::alloc::{AllocError, Global};
 use std::fmt;
-use std::fmt::{Display, Formatter, Write};
+use std::fmt::{Formatter, Write};
 use vipr_cert::{Reason, References};
 use vipr_check::{StepDetail, cause};
 use vipr_frac::Frac;
@@ -75,8 +75,9 @@ pub(crate) struct ReasonLines<'a> {
     pub(crate) reason: &'a Reason,
 }
 
-impl Display for ReasonLines<'_> {
-    fn fmt<W: Write>(&self, f: &mut Formatter<W>) -> fmt::Result {
+impl ReasonLines<'_> {
+    /// Writes it.
+    pub(crate) fn write<W: Write>(&self, f: &mut Formatter<W>) -> fmt::Result {
         let word = self.reason.word();
         match self.reason.references() {
             References::Nothing => {
@@ -95,9 +96,7 @@ impl Display for ReasonLines<'_> {
             }
         }
     }
-}
 
-impl ReasonLines<'_> {
     // Writes the first entries of a sum, and the one at fault.
     fn write_sum<W: Write>(
         &self,

@@ -3,7 +3,7 @@ ghost use Rattle.std.specs.Prelude.{IfOk};
 ghost use Rattle.vipr_explain.specs.Found.{AreItemsOf};
 
 use crate::items::{Items, read_items};
-use crate::marks::{ItemPlace, find_constraints, mark_of};
+use crate::marks::{ItemPlace, ItemSort, find_items, mark_of};
 use crate::text::{Reread, Subject};
 use std::fmt;
 use std::fmt::{Display, Formatter, Write};
@@ -22,7 +22,7 @@ impl PlacedItems {
         ensures { IfOk result (AreItemsOf subject.entry.text.now wanted.now) }
     {
         let items = read_items(subject.alloc, subject.text, wanted)?;
-        match find_constraints(subject.alloc, subject.text, wanted) {
+        match find_items(subject.alloc, subject.text, ItemSort::Constraints, wanted) {
             Ok(marks) => Ok(PlacedItems { items, marks }),
             Err(error) => {
                 drop(items);

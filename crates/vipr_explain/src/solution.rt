@@ -1,13 +1,12 @@
 //! A listed solution that is refused, and a primal bound that no listed one attains.
 ghost use Rattle.std.specs.Prelude.{IfOk};
-ghost use Rattle.vipr_bytes.specs.Known.{IfKnown, text_of};
 ghost use Rattle.vipr_cert.specs.Items.{solution_of};
-ghost use Rattle.vipr_explain.specs.Found.{IsListedSolution, text_input};
-ghost use Rattle.vipr_explain.specs.Refused.{AreBroken, IsSolutionPlace};
+ghost use Rattle.vipr_explain.specs.Found.{IsListedSolution, text_rest};
+ghost use Rattle.vipr_explain.specs.Refused.{IsBroken, IsSolutionPlace};
 
-use crate::excerpt::{KnownPlace, PlaceLabel, ShownPlace};
+use crate::excerpt::{KnownPlace, PlaceLabel};
 use crate::items::{open_problem, read_solution};
-use crate::marks::{ItemPlace, find_constraints, find_solution, mark_of};
+use crate::marks::{ItemPlace, ItemSort, find_item};
 use crate::shown::LinePart;
 use crate::text::{Reread, Subject};
 use std::alloc::{AllocError, Global};
@@ -34,7 +33,7 @@ pub(crate) struct RefusedSolution<'a> {
     solution: Named<Solution>,
     number: u32,
     place: Option<KnownPlace<'a>>,
-    broken: Vec<ItemPlace>,
+    broken: Option<ItemPlace>,
 }
 
 impl<'a> RefusedSolution<'a> {
@@ -44,107 +43,54 @@ impl<'a> RefusedSolution<'a> {
         number: u32,
         detail: &Detail,
     ) -> Reread<RefusedSolution<'a>>
-        ensures listed { IfOk result (λ s. IfKnown (text_input subject.entry.text.now)
-            (λ i. IsListedSolution number (text_of i) s.problem (solution_of s.solution))) }
+        ensures listed { IfOk result (λ s. IsListedSolution number
+            (text_rest subject.entry.text.now) s.problem (solution_of s.solution)) }
         ensures place { IfOk result
             (λ s. IsSolutionPlace subject.entry.text.now number s.place) }
         ensures broken { IfOk result
-            (λ s. AreBroken subject.entry.text.now detail.now s.broken.items) }
+            (λ s. IsBroken subject.entry.text.now detail.now s.broken) }
     {
+        let place = solution_place(subject, number)?;
+        let broken = broken_place(subject, detail)?;
         let (problem, solution) = read_solution(subject.alloc, subject.text, number)?;
-        match places_of(subject, number, detail) {
-            Ok((place, broken)) => Ok(RefusedSolution {
-                problem,
-                solution,
-                number,
-                place,
-                broken,
-            }),
-            Err(missing) => {
-                drop(solution);
-                drop(problem);
-                Err(missing.into())
-            }
-        }
+        Ok(RefusedSolution {
+            problem,
+            solution,
+            number,
+            place,
+            broken,
+        })
     }
-}
 
-// The place of a solution, and that of the constraint that it breaks.
-fn places_of<'a>(
-    subject: Subject<'a>,
-    number: u32,
-    detail: &Detail,
-) -> Result<(Option<KnownPlace<'a>>, Vec<ItemPlace>), AllocError>
-    ensures place { IfOk result (λ x. IsSolutionPlace subject.entry.text.now number x.0) }
-    ensures broken { IfOk result (λ x. AreBroken subject.entry.text.now detail.now x.1.items) }
-{
-    let broken = broken_place(subject, detail)?;
-    match solution_place(subject, number) {
-        Ok(place) => Ok((place, broken)),
-        Err(missing) => {
-            drop(broken);
-            Err(missing)
-        }
-    }
-}
-
-// The place of a solution.
-fn solution_place(subject: Subject<'_>, number: u32) -> Result<Option<KnownPlace<'_>>, AllocError>
-    ensures { IfOk result (IsSolutionPlace subject.entry.text.now number) }
-{
-    match find_solution(subject.alloc, subject.text, number)? {
-        Some(mark) => Ok(Some(KnownPlace::of(subject.text, mark.name))),
-        None => Ok(None),
-    }
-}
-
-// The place of the constraint that a solution breaks, if that is the fault.
-fn broken_place(subject: Subject<'_>, detail: &Detail) -> Result<Vec<ItemPlace>, AllocError>
-    ensures { IfOk result (λ marks. AreBroken subject.entry.text.now detail.now marks.items) }
-{
-    match detail {
-        Detail::Breaks { constraint, .. } => {
-            find_constraints(subject.alloc, subject.text, [*constraint].as_slice())
-        }
-        _ => Ok(Vec::new(subject.alloc)),
-    }
-}
-
-/// The page of a solution that is refused.
-#[derive(Clone, Copy)]
-pub(crate) struct SolutionPage<'a> {
-    pub(crate) known: &'a RefusedSolution<'a>,
-    pub(crate) detail: &'a Detail,
-    pub(crate) file: &'a [u8],
-}
-
-impl Display for SolutionPage<'_> {
-    fn fmt<W: Write>(&self, f: &mut Formatter<W>) -> fmt::Result {
-        let known = self.known;
-        let number = known.number;
-        let name = ShownName(&known.solution.name);
-        let fault = match self.detail {
+    /// Writes the page of the solution, which is refused so.
+    pub(crate) fn write<W: Write>(
+        &self,
+        f: &mut Formatter<W>,
+        detail: &Detail,
+        file: &[u8],
+    ) -> fmt::Result {
+        let number = self.number;
+        let name = ShownName(&self.solution.name);
+        let fault = match detail {
             Detail::NotWhole { .. } => "is not whole at an integer variable",
             Detail::Breaks { .. } => "breaks a constraint",
             _ => "has a value past 2^127 - 1",
         };
         write!(f, "error: solution {number} `{name}` {fault}\n")?;
-        if let Some(place) = known.place {
-            let label = PlaceLabel::Words("this solution");
-            let file = self.file;
-            write!(f, "{}", ShownPlace { place, file, label })?;
+        if let Some(place) = self.place {
+            place.write(f, file, PlaceLabel::Words("this solution"))?;
         }
-        match self.detail {
+        match detail {
             Detail::NotWhole {
                 variable,
                 value,
                 ..
-            } => write_not_whole(f, &known.problem, *variable, *value),
+            } => write_not_whole(f, &self.problem, *variable, *value),
             Detail::Breaks {
                 constraint,
                 left,
                 ..
-            } => write_broken(f, known, *constraint, *left),
+            } => write_broken(f, self, *constraint, *left),
             Detail::SolutionOverflow {
                 at: Some((index, _)),
                 ..
@@ -154,6 +100,33 @@ impl Display for SolutionPage<'_> {
             ),
             _ => write!(f, "  it is past the limit in the objective\n{PAST_LIMIT}"),
         }
+    }
+}
+
+// The place of a solution.
+fn solution_place(subject: Subject<'_>, number: u32) -> Result<Option<KnownPlace<'_>>, AllocError>
+    ensures { IfOk result (IsSolutionPlace subject.entry.text.now number) }
+{
+    match find_item(subject.alloc, subject.text, ItemSort::Solutions, number)? {
+        Some(mark) => Ok(Some(KnownPlace::of(subject.text, mark.name))),
+        None => Ok(None),
+    }
+}
+
+// The place of the constraint that a solution breaks, if that is the fault.
+fn broken_place(subject: Subject<'_>, detail: &Detail) -> Result<Option<ItemPlace>, AllocError>
+    ensures { IfOk result (IsBroken subject.entry.text.now detail.now) }
+{
+    match detail {
+        Detail::Breaks { constraint, .. } => {
+            find_item(
+                subject.alloc,
+                subject.text,
+                ItemSort::Constraints,
+                *constraint,
+            )
+        }
+        _ => Ok(None),
     }
 }
 
@@ -195,7 +168,7 @@ fn write_broken<W: Write>(
         problem,
         constraint,
     };
-    let line = LinePart(mark_of(known.broken.as_slice(), index));
+    let line = LinePart(known.broken);
     write!(f, "  constraint {index} `{name}`: {algebra}{line}\n  ")?;
     write_values(f, problem, &constraint.row, &known.solution.item)?;
     let sign = sign_of(constraint.sense);
@@ -306,6 +279,37 @@ impl ListedValues {
         }
     }
 
+    /// Writes the page of a primal bound that none of them attains.
+    pub(crate) fn write<W: Write>(&self, f: &mut Formatter<W>, bound: Frac) -> fmt::Result {
+        write!(
+            f,
+            "error: no listed solution attains the primal bound\n  \
+             wanted: a solution whose objective is {bound} or better\n"
+        )?;
+        for known in &self.first {
+            let number = known.number;
+            let name = ShownName(&known.name);
+            let value = known.value;
+            write!(f, "  solution {number} `{name}`: objective {value}\n")?;
+        }
+        if self.is_exchanged {
+            f.write_str(
+                "  = help: the lower bound of the claim is above the upper one: are they exchanged?\n",
+            )?;
+        }
+        match self.best {
+            Some(best) => write!(
+                f,
+                "  = help: claim {best} as the primal bound behind RTP, or list a better solution; \
+                 an objective has no constant\n"
+            ),
+            None => f.write_str(
+                "  the text lists no solution (SOL 0)\n  \
+                 = help: list a solution behind SOL, or claim no primal bound behind RTP\n",
+            ),
+        }
+    }
+
     // Adds the objective at all solutions that are to come.
     fn add_all<R: Source + Drop>(
         &mut self,
@@ -370,45 +374,5 @@ impl Display for BestValue<'_> {
             }
         }
         write!(f, "a listed solution: objective {best}")
-    }
-}
-
-/// The page of a primal bound that no listed solution attains.
-#[derive(Clone, Copy)]
-pub(crate) struct NoPrimalPage<'a> {
-    pub(crate) known: &'a ListedValues,
-    pub(crate) bound: Frac,
-}
-
-impl Display for NoPrimalPage<'_> {
-    fn fmt<W: Write>(&self, f: &mut Formatter<W>) -> fmt::Result {
-        let bound = self.bound;
-        write!(
-            f,
-            "error: no listed solution attains the primal bound\n  \
-             wanted: a solution whose objective is {bound} or better\n"
-        )?;
-        for known in &self.known.first {
-            let number = known.number;
-            let name = ShownName(&known.name);
-            let value = known.value;
-            write!(f, "  solution {number} `{name}`: objective {value}\n")?;
-        }
-        if self.known.is_exchanged {
-            f.write_str(
-                "  = help: the lower bound of the claim is above the upper one: are they exchanged?\n",
-            )?;
-        }
-        match self.known.best {
-            Some(best) => write!(
-                f,
-                "  = help: claim {best} as the primal bound behind RTP, or list a better solution; \
-                 an objective has no constant\n"
-            ),
-            None => f.write_str(
-                "  the text lists no solution (SOL 0)\n  \
-                 = help: list a solution behind SOL, or claim no primal bound behind RTP\n",
-            ),
-        }
     }
 }

@@ -1,19 +1,19 @@
 //! A derivation that is refused.
 ghost use Rattle.std.specs.Prelude.{◌≡◌, ◌↔◌, IfOk, IsTrue};
-ghost use Rattle.vipr_explain.specs.Refused.{AreSplit, IsNamePlace, IsNamedOf, IsRefusedStep};
-ghost use Rattle.vipr_explain.specs.Refused.{IsRepair, differences_in, faults_in};
+ghost use Rattle.vipr_explain.specs.Refused.{AreFacts, AreNamedBy, AreSplit, IsNamePlace};
+ghost use Rattle.vipr_explain.specs.Refused.{IsRefusedStep, IsRepair, differences_in, faults_in};
 
 use crate::drops::LastUse;
-use crate::excerpt::{KnownPlace, PlaceLabel, ShownPlace};
+use crate::excerpt::{KnownPlace, PlaceLabel};
 use crate::items::{Items, read_items};
 use crate::marks::mark_of;
-use crate::mends::{Mend, MendLine, find_mends, is_turned};
+use crate::mends::{Mend, find_mends, is_turned};
 use crate::reason::{ReasonLines, step_indices};
 use crate::shown::PlacedItems;
 use crate::text::{Reread, Subject};
 use std::alloc::{AllocError, Global};
 use std::fmt;
-use std::fmt::{Display, Formatter, Write};
+use std::fmt::{Formatter, Write};
 use vipr_cert::{Problem, Reason};
 use vipr_check::{StepDetail, cause};
 use vipr_linear::{Constraint, covers};
@@ -37,14 +37,14 @@ pub(crate) struct StepFault<'a> {
 pub(crate) struct RefusedStep<'a> {
     /// The derivation alone, by its index.
     own: Items,
-    named: NamedItems<'a>,
+    known: PlacedItems,
+    facts: StepFacts<'a>,
     profile: Profile,
 }
 
-/// What a derivation names, its place, and what is behind its fault.
+/// The place of a derivation, and what is behind its fault.
 #[derive(Drop)]
-struct NamedItems<'a> {
-    known: PlacedItems,
+struct StepFacts<'a> {
     place: Option<KnownPlace<'a>>,
     differences: Vec<Difference>,
     /// The multipliers that mend some of them.
@@ -68,9 +68,10 @@ impl<'a> RefusedStep<'a> {
     {
         let own = read_items(subject.alloc, subject.text, [fault.index].as_slice())?;
         match read_named(subject, fault, &own) {
-            Ok(named) => Ok(RefusedStep {
+            Ok((known, facts)) => Ok(RefusedStep {
                 own,
-                named,
+                known,
+                facts,
                 profile: subject.profile,
             }),
             Err(missing) => {
@@ -79,45 +80,101 @@ impl<'a> RefusedStep<'a> {
             }
         }
     }
+
+    /// Writes its page.
+    pub(crate) fn write<W: Write>(
+        &self,
+        f: &mut Formatter<W>,
+        fault: StepFault<'_>,
+        file: &[u8],
+    ) -> fmt::Result {
+        let Some(own) = self.own.derivation(fault.index) else {
+            return Ok(());
+        };
+        let index = fault.index;
+        let name = ShownName(&own.name);
+        write!(f, "error: derivation {index} `{name}` ")?;
+        write_fault(f, fault)?;
+        f.write_str("\n")?;
+        if let Some(place) = self.facts.place {
+            place.write(f, file, PlaceLabel::Words("this derivation"))?;
+        }
+        let problem = &self.known.items.problem;
+        write_labelled(f, problem, "  it states    ", &own.constraint)?;
+        let reason = ReasonLines {
+            known: &self.known,
+            fault,
+            reason: &own.reason,
+        };
+        reason.write(f)?;
+        write_detail(f, self, problem, fault.what)?;
+        write_help(f, fault.cause, problem.cons().len())?;
+        match self.facts.dropped {
+            Some(dropped) => dropped.write(f, file),
+            None => Ok(()),
+        }
+    }
 }
 
-// Reads what a derivation names.
-fn read_named<'a>(subject: Subject<'a>, fault: StepFault<'_>, own: &Items) -> Reread<NamedItems<'a>>
+// Reads what a derivation names, and finds what is behind its fault.
+fn read_named<'a>(
+    subject: Subject<'a>,
+    fault: StepFault<'_>,
+    own: &Items,
+) -> Reread<(PlacedItems, StepFacts<'a>)>
     ensures { IfOk result
-        (IsNamedOf subject.entry.text.now own.now fault.entry.index fault.entry.what.now) }
+        (AreNamedBy subject.entry.text.now own.now fault.entry.index fault.entry.what.now) }
 {
     let Some(step) = own.derivation(fault.index) else {
         return Err(TextError::Read);
     };
     let wanted = step_indices(subject.alloc, fault, &step.reason)?;
     let known = PlacedItems::read(subject, wanted.as_slice())?;
-    let place = step_place(subject, &known, fault.index);
-    let differences = differences_of(subject.alloc, fault.what)?;
-    let mends = match fault.what {
-        StepDetail::Rows { stated, .. } => find_mends(
-            subject.alloc,
-            &known.items,
-            &step.reason,
-            stated.sense,
-            differences.as_slice(),
-        )?,
-        _ => Vec::new(subject.alloc),
-    };
-    let faults = faults_of(subject.alloc, &known.items.problem, fault.what)?;
-    let dropped = LastUse::of(subject, fault)?;
-    let rounded = rounding_of(&known.items.problem, &step.reason, fault.what);
-    let is_split = are_split(&known.items.problem, fault.what);
-    Ok(NamedItems {
-        known,
-        place,
-        differences,
-        mends,
-        faults,
-        rounded,
-        is_split,
-        dropped,
-        is_cutoff: matches!(step.reason, Reason::Sol),
-    })
+    match StepFacts::find(subject, fault, &known, &step.reason) {
+        Ok(facts) => Ok((known, facts)),
+        Err(missing) => {
+            drop(known);
+            Err(missing)
+        }
+    }
+}
+
+impl<'a> StepFacts<'a> {
+    // Finds what is behind the fault of a derivation with this reason, which names these items.
+    fn find(
+        subject: Subject<'a>,
+        fault: StepFault<'_>,
+        known: &PlacedItems,
+        reason: &Reason,
+    ) -> Reread<StepFacts<'a>>
+        ensures { IfOk result (AreFacts subject.entry.text.now known.now reason.now
+            fault.entry.index fault.entry.what.now) }
+    {
+        let problem = &known.items.problem;
+        let dropped = LastUse::of(subject, fault)?;
+        let differences = differences_of(subject.alloc, fault.what)?;
+        let faults = faults_of(subject.alloc, problem, fault.what)?;
+        let mends = match fault.what {
+            StepDetail::Rows { stated, .. } => find_mends(
+                subject.alloc,
+                &known.items,
+                reason,
+                stated.sense,
+                differences.as_slice(),
+            )?,
+            _ => Vec::new(subject.alloc),
+        };
+        Ok(StepFacts {
+            place: step_place(subject, known, fault.index),
+            differences,
+            mends,
+            faults,
+            rounded: rounding_of(problem, reason, fault.what),
+            is_split: are_split(problem, fault.what),
+            dropped,
+            is_cutoff: matches!(reason, Reason::Sol),
+        })
+    }
 }
 
 // The place of a derivation.
@@ -179,48 +236,6 @@ fn are_split(problem: &Problem, what: &StepDetail) -> bool
     }
 }
 
-/// The page of a derivation that is refused.
-#[derive(Clone, Copy)]
-pub(crate) struct StepPage<'a> {
-    pub(crate) step: &'a RefusedStep<'a>,
-    pub(crate) fault: StepFault<'a>,
-    pub(crate) file: &'a [u8],
-}
-
-impl Display for StepPage<'_> {
-    fn fmt<W: Write>(&self, f: &mut Formatter<W>) -> fmt::Result {
-        let step = &self.step.named;
-        let fault = self.fault;
-        let file = self.file;
-        let Some(own) = self.step.own.derivation(fault.index) else {
-            return Ok(());
-        };
-        let index = fault.index;
-        let name = ShownName(&own.name);
-        write!(f, "error: derivation {index} `{name}` ")?;
-        write_fault(f, fault)?;
-        f.write_str("\n")?;
-        if let Some(place) = step.place {
-            let label = PlaceLabel::Words("this derivation");
-            write!(f, "{}", ShownPlace { place, file, label })?;
-        }
-        let problem = &step.known.items.problem;
-        write_labelled(f, problem, "  it states    ", &own.constraint)?;
-        let reason = ReasonLines {
-            known: &step.known,
-            fault,
-            reason: &own.reason,
-        };
-        write!(f, "{reason}")?;
-        write_detail(f, self.step, problem, fault.what)?;
-        write_help(f, fault.cause, problem.cons().len())?;
-        match &step.dropped {
-            Some(dropped) => dropped.write(f, file),
-            None => Ok(()),
-        }
-    }
-}
-
 // Writes what is wrong, behind the derivation's name.
 fn write_fault<W: Write>(f: &mut Formatter<W>, fault: StepFault<'_>) -> fmt::Result {
     match fault.what {
@@ -250,10 +265,10 @@ fn write_detail<W: Write>(
     problem: &Problem,
     what: &StepDetail,
 ) -> fmt::Result {
-    let step = &refused.named;
+    let facts = &refused.facts;
     let faults = RowFaults {
         problem,
-        faults: step.faults.as_slice(),
+        faults: facts.faults.as_slice(),
     };
     match what {
         StepDetail::Rows { computed, stated } => {
@@ -263,10 +278,10 @@ fn write_detail<W: Write>(
                 problem,
                 computed,
                 stated,
-                differences: step.differences.as_slice(),
+                differences: facts.differences.as_slice(),
             };
             write!(f, "{difference}")?;
-            if let Some(bound) = step.rounded {
+            if let Some(bound) = facts.rounded {
                 write!(
                     f,
                     "  = help: `rnd` in place of `lin` rounds the right-hand side to {bound}\n"
@@ -286,7 +301,7 @@ fn write_detail<W: Write>(
                     "    they are about different rows: a split is of one row, at most k and \
                      at least k + 1\n",
                 )
-            } else if step.faults.is_empty() {
+            } else if facts.faults.is_empty() {
                 write_gap(f, refused, first, second)
             } else {
                 write!(f, "{faults}")
@@ -303,22 +318,20 @@ fn write_repair<W: Write>(
     computed: &Constraint,
     stated: &Constraint,
 ) -> fmt::Result {
-    let step = &refused.named;
-    if step.is_cutoff {
+    let facts = &refused.facts;
+    if facts.is_cutoff {
         return f.write_str(
             "  = help: state what was computed: `sol` gives the best listed value, and nothing \
              better\n",
         );
     }
-    if is_turned(computed, stated, step.differences.as_slice()) {
+    if is_turned(computed, stated, facts.differences.as_slice()) {
         return f.write_str(
             "  = help: each coefficient has the other sign: multiply all multipliers by -1\n",
         );
     }
-    for mend in &step.mends {
-        let items = &step.known.items;
-        let mend = *mend;
-        write!(f, "{}", MendLine { items, mend })?;
+    for mend in &facts.mends {
+        mend.write(f, &refused.known.items)?;
     }
     f.write_str(
         "  = help: state what was computed, or change the constraints and multipliers of the \
@@ -345,7 +358,7 @@ fn write_gap<W: Write>(
         f,
         "; here it is {first_sign} {first_side} and {second_sign} {second_side}\n"
     )?;
-    if refused.profile == Profile::One && refused.named.is_split {
+    if refused.profile == Profile::One && refused.facts.is_split {
         f.write_str("  = help: `--profile 2` accepts these\n")?;
     }
     Ok(())

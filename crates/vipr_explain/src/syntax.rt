@@ -3,14 +3,14 @@ ghost use Rattle.std.specs.Prelude.{◌≡◌, ◌+◌, ◌↔◌, IsTrue, lengt
 ghost use Rattle.vipr_explain.specs.Syntax.{TokenFound, IsTokenFound, IsFoundAt};
 ghost use Rattle.vipr_explain.specs.Syntax.{found_at_start, found_behind};
 
-use crate::excerpt::{KnownPlace, PlaceLabel, ShownPlace};
+use crate::excerpt::{KnownPlace, PlaceLabel};
 use crate::hints::{TokenFault, write_hints};
 use crate::text::{Span, Spot};
 use crate::wanted::{Section, TextProgress, Wanted};
 use crate::wanted_words::write_wanted;
 use crate::words::{TextWord, Words};
 use std::fmt;
-use std::fmt::{Display, Formatter, Write};
+use std::fmt::{Formatter, Write};
 use vipr_check::cause;
 use vipr_page::CutBytes;
 
@@ -85,30 +85,16 @@ impl<'a> TextFault<'a> {
             found,
         }
     }
-}
 
-// Whether a text ends with the last byte of a token.
-fn ends_text(span: Span, text: &[u8]) -> bool
-    ensures { IsTrue result ↔ (span.spot.offset + span.size ≡ length text.now) }
-{
-    span.spot.offset.checked_add(span.size as u64) == Some(text.len() as u64)
-}
-
-/// The page of a fault of this cause.
-#[derive(Clone, Copy)]
-pub(crate) struct FaultPage<'a> {
-    pub(crate) fault: TextFault<'a>,
-    pub(crate) cause: u8,
-    pub(crate) file: &'a [u8],
-}
-
-impl Display for FaultPage<'_> {
-    fn fmt<W: Write>(&self, f: &mut Formatter<W>) -> fmt::Result {
-        let found = self.fault.found;
-        let cause = self.cause;
-        let progress = found.progress;
-        let name = cause::name(cause);
-        write!(f, "error: {name}")?;
+    /// Writes the page of a fault of this cause.
+    pub(crate) fn write<W: Write>(
+        &self,
+        f: &mut Formatter<W>,
+        cause: u8,
+        file: &[u8],
+    ) -> fmt::Result {
+        let found = &self.found;
+        write!(f, "error: {}", cause::name(cause))?;
         if cause == cause::TRAILING_TEXT {
             f.write_str(": text behind the last derivation")?;
         } else {
@@ -117,7 +103,7 @@ impl Display for FaultPage<'_> {
             } else {
                 ": wanted "
             })?;
-            write_wanted(f, &progress)?;
+            write_wanted(f, &found.progress)?;
         }
         f.write_str("\n")?;
         let label = PlaceLabel::Words(if found.is_end {
@@ -125,24 +111,24 @@ impl Display for FaultPage<'_> {
         } else {
             "this was found"
         });
-        let place = ShownPlace {
-            place: self.fault.place,
-            file: self.file,
-            label,
+        self.place.write(f, file, label)?;
+        write_context(f, &found.progress, found.name)?;
+        let fault = TokenFault {
+            cause,
+            progress: found.progress,
+            name: found.name,
+            word: found.word.bytes,
+            is_last: self.is_last && !found.is_end,
         };
-        write!(f, "{place}")?;
-        write_context(f, &progress, found.name)?;
-        write_hints(
-            f,
-            TokenFault {
-                cause,
-                progress,
-                name: found.name,
-                word: found.word.bytes,
-                is_last: self.fault.is_last && !found.is_end,
-            },
-        )
+        write_hints(f, fault)
     }
+}
+
+// Whether a text ends with the last byte of a token.
+fn ends_text(span: Span, text: &[u8]) -> bool
+    ensures { IsTrue result ↔ (span.spot.offset + span.size ≡ length text.now) }
+{
+    span.spot.offset.checked_add(span.size as u64) == Some(text.len() as u64)
 }
 
 // Writes which part of which item was being read.

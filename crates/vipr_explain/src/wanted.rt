@@ -93,18 +93,6 @@ impl Section {
         }
     }
 
-    /// What its count counts.
-    pub(crate) fn counted(self) -> &'static str {
-        match self {
-            Section::Variables => "variables",
-            Section::Integers => "integer variables",
-            Section::Constraints => "constraints",
-            Section::Solutions => "solutions",
-            Section::Derivations => "derivations",
-            Section::Version | Section::Objective | Section::Claim => "items",
-        }
-    }
-
     /// What one of its items is.
     pub(crate) fn item(self) -> &'static str {
         match self {

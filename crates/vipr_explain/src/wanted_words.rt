@@ -11,16 +11,15 @@ pub(crate) fn write_wanted<W: Write>(f: &mut Formatter<W>, progress: &TextProgre
     match progress.wanted {
         Wanted::Keyword => write!(f, "the keyword `{}`", progress.section.keyword()),
         Wanted::Count => {
-            let counted = progress.section.counted();
-            write!(f, "the number of {counted}, a count in digits")
+            let item = progress.section.item();
+            write!(f, "the number of {item}s, a count in digits")
         }
         Wanted::Name => {
             let item = progress.section.item();
             let index = progress.index();
             write!(f, "the name of {item} {index}")
         }
-        Wanted::IntegerIndex => write_wanted_index(f, progress.variables),
-        Wanted::RowIndex => write_wanted_index(f, progress.variables),
+        Wanted::IntegerIndex | Wanted::RowIndex => write_wanted_index(f, progress.variables),
         Wanted::RowCoefficient => {
             let number = match progress.section {
                 Section::Solutions => "value",

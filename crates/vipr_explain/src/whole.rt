@@ -1,14 +1,15 @@
 //! The whole explanation of a verdict: what is found for it, and how that is shown.
 
 use crate::goal::{ProvedClaim, ProvedPage, UnprovedClaim, UnprovedPage};
-use crate::solution::{ListedValues, NoPrimalPage, RefusedSolution, SolutionPage};
-use crate::step::{RefusedStep, StepFault, StepPage};
-use crate::syntax::{FaultPage, TextFault};
+use crate::solution::{ListedValues, RefusedSolution};
+use crate::step::{RefusedStep, StepFault};
+use crate::syntax::TextFault;
 use crate::text::{Reread, Subject};
 use std::alloc::Global;
 use std::fmt;
 use std::fmt::{Display, Formatter, Write};
-use vipr_check::{Detail, Place, Refusal, Verdict};
+use vipr_check::{Detail, Place, Refusal, Report, Verdict};
+use vipr_frac::Frac;
 use vipr_page::Page;
 use vipr_rules::Profile;
 use vipr_scan::TextError;
@@ -16,12 +17,14 @@ use vipr_scan::TextError;
 /// What is found in a text that explains a verdict.
 #[derive(Drop)]
 enum Findings<'a> {
-    Proved(ProvedClaim),
-    Text(TextFault<'a>),
-    Solution(RefusedSolution<'a>),
-    Step(RefusedStep<'a>),
+    Proved(ProvedClaim, &'a Report),
+    /// And its cause.
+    Text(TextFault<'a>, u8),
+    Solution(RefusedSolution<'a>, &'a Detail),
+    Step(RefusedStep<'a>, StepFault<'a>),
     NoProof(UnprovedClaim),
-    NoPrimal(ListedValues),
+    /// And the bound.
+    NoPrimal(ListedValues, Frac),
     /// The detail is of another verdict.
     Nothing,
 }
@@ -51,7 +54,6 @@ pub fn page_for(
             let page = LongExplanation {
                 known: &known,
                 verdict,
-                detail,
                 file,
             };
             let page = Page::of(alloc, &page);
@@ -69,34 +71,42 @@ const NO_WHOLE_TEXT: &str = "\na read failed behind what is refused, so it isn't
 const ANOTHER_TEXT: &str = "\nthe verdict isn't one of this text, so it isn't explained\n";
 
 // Finds what explains a verdict.
-fn find<'a>(subject: Subject<'a>, verdict: &Verdict, detail: &Detail) -> Reread<Findings<'a>> {
+fn find<'a>(
+    subject: Subject<'a>,
+    verdict: &'a Verdict,
+    detail: &'a Detail,
+) -> Reread<Findings<'a>> {
     match verdict {
-        Verdict::Verified(report) => Ok(Findings::Proved(ProvedClaim::find(subject, report)?)),
-        Verdict::Refused(refusal) => find_refusal(subject, refusal, detail),
+        Verdict::Verified(report) => {
+            Ok(Findings::Proved(ProvedClaim::find(subject, report)?, report))
+        }
+        Verdict::Refused(refusal) => find_refusal(subject, *refusal, detail),
     }
 }
 
 // Finds what explains a refusal.
 fn find_refusal<'a>(
     subject: Subject<'a>,
-    refusal: &Refusal,
-    detail: &Detail,
+    refusal: Refusal,
+    detail: &'a Detail,
 ) -> Reread<Findings<'a>> {
+    let cause = refusal.cause;
     match (refusal.place, detail) {
-        (Place::Byte(offset), _) => Ok(Findings::Text(TextFault::find(subject.text, offset))),
+        (Place::Byte(offset), _) => {
+            Ok(Findings::Text(TextFault::find(subject.text, offset), cause))
+        }
         (Place::Sol(number), _) => {
-            Ok(Findings::Solution(RefusedSolution::find(subject, number, detail)?))
+            let known = RefusedSolution::find(subject, number, detail)?;
+            Ok(Findings::Solution(known, detail))
         }
         (Place::Der(index), Detail::Step { what, .. }) => {
-            let fault = StepFault {
-                cause: refusal.cause,
-                index,
-                what,
-            };
-            Ok(Findings::Step(RefusedStep::find(subject, fault)?))
+            let fault = StepFault { cause, index, what };
+            Ok(Findings::Step(RefusedStep::find(subject, fault)?, fault))
         }
         (_, Detail::NoProof(_)) => Ok(Findings::NoProof(UnprovedClaim::find(subject)?)),
-        (_, Detail::NoPrimal(_)) => Ok(Findings::NoPrimal(ListedValues::find(subject)?)),
+        (_, Detail::NoPrimal(bound)) => {
+            Ok(Findings::NoPrimal(ListedValues::find(subject)?, *bound))
+        }
         _ => Ok(Findings::Nothing),
     }
 }
@@ -106,20 +116,16 @@ fn find_refusal<'a>(
 struct LongExplanation<'a> {
     known: &'a Findings<'a>,
     verdict: &'a Verdict,
-    detail: &'a Detail,
     file: &'a [u8],
 }
 
 impl Display for LongExplanation<'_> {
     fn fmt<W: Write>(&self, f: &mut Formatter<W>) -> fmt::Result {
         f.write_str("\n")?;
+        self.write_findings(f)?;
         match self.verdict {
-            Verdict::Verified(report) => match self.known {
-                Findings::Proved(known) => write!(f, "{}", ProvedPage { known, report }),
-                _ => Ok(()),
-            },
+            Verdict::Verified(_) => Ok(()),
             Verdict::Refused(refusal) => {
-                self.write_refusal(f, refusal)?;
                 let cause = refusal.cause;
                 write!(f, "  = see: docs/FORMAT.md, cause {cause}\n")
             }
@@ -128,37 +134,20 @@ impl Display for LongExplanation<'_> {
 }
 
 impl LongExplanation<'_> {
-    // Writes what was found of a refusal.
-    fn write_refusal<W: Write>(&self, f: &mut Formatter<W>, refusal: &Refusal) -> fmt::Result {
-        let cause = refusal.cause;
-        let detail = self.detail;
+    // Writes what was found.
+    fn write_findings<W: Write>(&self, f: &mut Formatter<W>) -> fmt::Result {
         let file = self.file;
-        match (self.known, refusal.place, detail) {
-            (Findings::Text(fault), _, _) => {
-                let fault = *fault;
-                write!(f, "{}", FaultPage { fault, cause, file })
+        match self.known {
+            Findings::Proved(known, report) => {
+                let report = *report;
+                write!(f, "{}", ProvedPage { known, report })
             }
-            (Findings::Solution(known), _, _) => {
-                write!(
-                    f,
-                    "{}",
-                    SolutionPage {
-                        known,
-                        detail,
-                        file
-                    }
-                )
-            }
-            (Findings::Step(step), Place::Der(index), Detail::Step { what, .. }) => {
-                let fault = StepFault { cause, index, what };
-                write!(f, "{}", StepPage { step, fault, file })
-            }
-            (Findings::NoProof(known), _, _) => write!(f, "{}", UnprovedPage(known)),
-            (Findings::NoPrimal(known), _, Detail::NoPrimal(bound)) => {
-                let bound = *bound;
-                write!(f, "{}", NoPrimalPage { known, bound })
-            }
-            _ => Ok(()),
+            Findings::Text(fault, cause) => fault.write(f, *cause, file),
+            Findings::Solution(known, detail) => known.write(f, *detail, file),
+            Findings::Step(step, fault) => step.write(f, *fault, file),
+            Findings::NoProof(known) => write!(f, "{}", UnprovedPage(known)),
+            Findings::NoPrimal(known, bound) => known.write(f, *bound),
+            Findings::Nothing => Ok(()),
         }
     }
 }

@@ -129,7 +129,7 @@ fn write_sides<W: Write>(
     computed: &Constraint,
     stated: &Constraint,
 ) -> fmt::Result {
-    if is_other_sense(computed.sense, stated.sense) {
+    if computed.sense != Sense::E && computed.sense != stated.sense {
         let computed = sign_of(computed.sense);
         let stated = sign_of(stated.sense);
         return write!(f, "the sense: computed {computed}, stated {stated}");
@@ -143,21 +143,6 @@ fn write_sides<W: Write>(
             write!(f, ", which says {size} too much")
         }
         Err(_) => Ok(()),
-    }
-}
-
-// Whether a sense doesn't say what another one says.
-fn is_other_sense(computed: Sense, stated: Sense) -> bool {
-    match computed {
-        Sense::E => false,
-        Sense::L => match stated {
-            Sense::L => false,
-            Sense::E | Sense::G => true,
-        },
-        Sense::G => match stated {
-            Sense::G => false,
-            Sense::E | Sense::L => true,
-        },
     }
 }
 

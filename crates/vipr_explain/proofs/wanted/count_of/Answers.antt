@@ -1,11 +1,17 @@
 use Rattle.std.proofs.Common.{ℕ, ◌+◌, ◌-◌, ◌*◌, get_or, arith, refl, sym, ◌∙◌}
-use Rattle.std.proofs.Common.{ap, inl, inr}
-use Rattle.vipr_explain.specs.Progress.{number_or_none}
-use Rattle.vipr_explain.proofs.Numerals.{digits_begin}
+use Rattle.std.proofs.Common.{◌≡◌, List, [], ◌∷◌, ap, inl, inr}
+use Rattle.vipr_spec.specs.Digits.{natural_after, natural_of}
+use Rattle.vipr_explain.specs.Progress.{count_spelled, number_or_none}
 use Rattle.vipr_spec.proofs.Laws.{next_digit, next_other, at_end}
 use Rattle.vipr_explain.proofs.wanted.count_of.Goals as goal
 use Rattle.vipr_explain.proofs.wanted.count_of.Goals.{then-byte-lt48-via-then-byte-lt48}
 use Rattle.vipr_explain.proofs.wanted.count_of.Goals.{then-byte-lt48-via-else-byte-lt48+then-byte-gt57}
+
+-- no digits spell 0
+digits_begin : (word : List ℕ) → number_or_none (natural_after 0 word) ≡ count_spelled word
+unfolding natural_after natural_of
+digits_begin [] = refl
+digits_begin (b ∷ bs) = refl
 
 pub loop-byte-init : goal.loop-byte-init
 loop-byte-init c = (0, refl, digits_begin c.args.word.now)
