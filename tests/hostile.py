@@ -332,8 +332,8 @@ def streams_closed(commands):
     sets = [which for size in (1, 2, 3) for which in itertools.combinations((0, 1, 2), size)]
     for command, path, which, is_file in itertools.product(commands, texts, sets, (True, False)):
         CHECKS.count += 1
-        words, text = [command, str(path)] if is_file else [command], path.read_bytes()
-        printed, said, status = whole = answer([command], text)
+        words, text = command.split() + [str(path)] * is_file, path.read_bytes()
+        printed, said, status = whole = answer(words, text)
         if 0 in which and not is_file:
             whole = READ
         elif 1 in which and printed:
@@ -393,7 +393,7 @@ def little_stack(commands):
     def one(task):
         CHECKS.count += 1
         family, command = task
-        got = run([PROGRAM, command], text_of(family, 20_000),
+        got = run([PROGRAM, *command.split()], text_of(family, 20_000),
                   preexec_fn=lambda: resource.setrlimit(resource.RLIMIT_STACK, (STACK, STACK)))
         expect(f'{command} of {family.__name__} in {STACK} bytes of stack', got.returncode, 0)
     every = families.FAMILIES + families.HOSTILE + families.KEPT
@@ -525,11 +525,11 @@ def main():
     files = sorted(it for it in (TOP / 'examples').rglob('*.vipr') if it.parent.name != 'problems')
     examples = [(path, path.read_bytes()) for path in files if path.stat().st_size < 2000]
     streams(commands)
-    streams_closed(commands)
+    streams_closed([*commands, 'explain --long'])
     for command in commands:
         limit_of_files(command, 10)
     streams_that_do_not_wait(commands)
-    little_stack(commands)
+    little_stack([*commands, 'explain --long'])
     limits()
     long_comment(1 << 30)
     beginnings(examples)
