@@ -44,7 +44,7 @@ fn write_hint<W: Write>(f: &mut Formatter<W>, fault: TokenFault<'_>) -> fmt::Res
         (_, _, _, Some((counted, name))) => write!(
             f,
             "`{name}` was read as a name: is the count behind `{counted}`, {items}, too large, \
-             or is something missing in front of it?"
+             or is something missing in front of `{name}`?"
         ),
         (cause::TRUNCATED, Wanted::Keyword, _, _) if !is_first(progress.section) => {
             write!(f, "is the file cut? `{section}` is missing: write {empty}")
@@ -92,7 +92,7 @@ fn write_index_hint<W: Write>(f: &mut Formatter<W>, progress: TextProgress) -> f
     match variables.checked_sub(1) {
         Some(last) => write!(
             f,
-            "indices count from 0: {variables} variables have the indices 0 to {last}"
+            "indices count from 0: that of the last variable is {last}"
         )?,
         None => f.write_str("the text has no variables (VAR 0)")?,
     }
@@ -108,7 +108,7 @@ fn hint(fault: TokenFault<'_>, look: Look) -> &'static str {
     let word = fault.word;
     match (fault.cause, wanted, look) {
         (cause::WRONG_KEYWORD, _, _) if is_first(fault.progress.section) => start_hint(word),
-        (cause::WRONG_KEYWORD, _, _) => keyword_hint(fault.progress.section, look, word),
+        (cause::WRONG_KEYWORD, _, _) => keyword_hint(fault.progress.section, word),
         (cause::TRUNCATED, _, _) => end_hint(fault.progress.section, wanted),
         (cause::BAD_NUMBER, Wanted::UpperBound, Look::Keyword(_)) => {
             "`range` takes two bounds: the lower and the upper one"
@@ -153,8 +153,8 @@ fn part_hint(fault: TokenFault<'_>, look: Look) -> &'static str {
                 "`INT` lists variables by their indices, from 0, and not by names"
             }
             _ => {
-                "a variable is named by its index, from 0: is a name in its place, or is the count \
-                 of pairs in front of it too large?"
+                "a variable is named by its index, from 0: is a name in its place, is a pair \
+                 missing, or is the count of pairs in front of it too large?"
             }
         },
         (_, cause::BAD_SENSE) => sense_hint(fault.name, look, word),
@@ -174,11 +174,11 @@ fn empty_section(section: Section) -> &'static str {
         Section::Version => "`VER 1.0`",
         Section::Variables => "`VAR COUNT NAME ..`",
         Section::Integers => "`INT 0` if no variable is integer",
-        Section::Objective => "`OBJ min 0` if there is none",
-        Section::Constraints => "`CON 0 0` if there is none",
+        Section::Objective => "`OBJ min 0` if there is no objective",
+        Section::Constraints => "`CON 0 0` if there is no constraint",
         Section::Claim => "`RTP infeas` or `RTP range LOWER UPPER`",
         Section::Solutions => "`SOL 0` if none is listed",
-        Section::Derivations => "`DER 0` if there is none",
+        Section::Derivations => "`DER 0` if nothing is derived",
     }
 }
 
@@ -190,14 +190,12 @@ fn start_hint(word: &[u8]) -> &'static str {
             "this is UTF-16: save the file as ASCII or as UTF-8 without a byte order mark"
         }
         [b'<', ..] => "this looks like a page of HTML or XML, and not like a certificate",
-        [0x1f, 0x8b, ..] => "this is compressed by gzip: gzip -dc FILE | vipr explain",
+        [0x1f, 0x8b, ..] => "this is compressed: gzip -dc FILE | vipr explain --long",
         [0xfd, b'7', b'z', b'X', b'Z', ..] => {
-            "this is compressed by xz: xz -dc FILE | vipr explain"
+            "this is compressed: xz -dc FILE | vipr explain --long"
         }
-        [0x28, 0xb5, 0x2f, 0xfd, ..] => {
-            "this is compressed by zstd: zstd -dc FILE | vipr explain"
-        }
-        [b'B', b'Z', b'h', ..] => "this is compressed by bzip2: bzip2 -dc FILE | vipr explain",
+        [0x28, 0xb5, 0x2f, 0xfd, ..] => "this is compressed: zstd -dc FILE | vipr explain --long",
+        [b'B', b'Z', b'h', ..] => "this is compressed: bzip2 -dc FILE | vipr explain --long",
         [b'#', ..] | [b'/', b'/', ..] | [b'/', b'*', ..] => "a comment begins with `%`",
         [b'{', ..] | [b'[', ..] => "this looks like JSON, and not like a certificate",
         b"NAME" | b"ROWS" | [b'*', ..] => {
@@ -216,21 +214,18 @@ fn start_hint(word: &[u8]) -> &'static str {
 }
 
 // Another token than the keyword of a section, which isn't the first one.
-fn keyword_hint(section: Section, look: Look, word: &[u8]) -> &'static str {
-    match (section, look, word) {
-        (_, _, [b'%' | b'#', ..]) => "remove the comment: comments may only be before `VER`",
-        (Section::Integers, Look::Number, _) => {
-            "is the count behind `VAR` too small, or a name a number?"
+fn keyword_hint(section: Section, word: &[u8]) -> &'static str {
+    match (section, word) {
+        (_, [b'%' | b'#', ..]) => "remove the comment: comments may only be before `VER`",
+        (Section::Integers, _) => "is the count behind `VAR` right, or is a space in a name?",
+        (Section::Objective, _) => "is the count behind `INT` too small?",
+        (Section::Constraints, _) => "is the count behind `min` or `max` too small or missing?",
+        (Section::Claim, _) => {
+            "is the first count behind `CON` too small? It counts all constraints, bounds \
+             included; or is the last constraint's count of coefficients too small?"
         }
-        (Section::Integers, _, _) => "is the count behind `VAR` too small, or a space in a name?",
-        (Section::Objective, _, _) => "is the count behind `INT` too small?",
-        (Section::Constraints, _, _) => "is the count of coefficients of the objective too small?",
-        (Section::Claim, _, _) => {
-            "is the first count behind `CON` too small? It counts all constraints, the bounds \
-             among them, too"
-        }
-        (Section::Solutions, _, _) => "`range` takes two bounds, and `infeas` none",
-        (Section::Derivations, _, _) => {
+        (Section::Solutions, _) => "`range` takes two bounds, and `infeas` none",
+        (Section::Derivations, _) => {
             "is the count behind `SOL` too small, or that of a solution's values?"
         }
         _ => "the next section comes behind the version `1.0`",
@@ -271,7 +266,7 @@ fn number_hint(wanted: Wanted, look: Look, word: &[u8]) -> &'static str {
 }
 
 const ENDS_EARLY: &str =
-    "the reason ends before its number of entries: is the count behind `lin` or `rnd` too large?";
+    "the reason has fewer entries than it counts: is the count too large, or a number missing?";
 
 const SPACE_IN_NUMBER: &str = "a number has no spaces, as -11/9";
 
@@ -290,7 +285,7 @@ fn sense_hint(name: &[u8], look: Look, word: &[u8]) -> &'static str {
         (Look::Number | Look::Fraction, _, _) => {
             "a number was read as the name: is the count of coefficients in front of it too small?"
         }
-        (_, _, [.., b'"']) => "a name has no spaces, in quotes neither",
+        (_, _, [.., b'"']) => "a name has no spaces, not even in quotes",
         _ if matches!(name, b"G" | b"L" | b"E") => {
             "the sense was read as the name: write NAME SENSE RIGHT-HAND-SIDE COUNT INDEX \
              COEFFICIENT .."
@@ -321,7 +316,7 @@ fn count_hint(section: Section, wanted: Wanted, word: &[u8]) -> &'static str {
             "a solution is NAME COUNT INDEX VALUE ..: is the name missing, or a space in it?"
         }
         (_, Wanted::RowCount, _) => {
-            "a vector is a count and then so many pairs INDEX COEFFICIENT; \
+            "a vector is a count and then that many pairs INDEX COEFFICIENT; \
              the right-hand side is before it"
         }
         (_, Wanted::EntryCount, _) => "`lin` and `rnd` take COUNT INDEX MULTIPLIER ..",
@@ -340,7 +335,7 @@ fn brace_hint(wanted: Wanted, word: &[u8]) -> &'static str {
             "write `{` in front of this reason, and `}` behind it"
         }
         (Wanted::OpenBrace, _) => {
-            "the count of coefficients is too small or missing: COUNT, and then so many pairs \
+            "the count of coefficients is too small or missing: COUNT, and then that many pairs \
              INDEX COEFFICIENT, are before `{`"
         }
         (_, [.., b'}']) => "put a space before the brace",
@@ -401,7 +396,7 @@ fn plain_hint(number: u8, word: &[u8]) -> &'static str {
             "counts, and constraints and derivations together, may be 4294967295 at most"
         }
         (cause::REPEATED_INDEX, _) => {
-            "each variable may be in a vector once: it is a count, and then pairs INDEX VALUE, \
+            "a variable may be in a vector once: a vector is a count, and then pairs INDEX VALUE, \
              and not a list of all values"
         }
         (cause::BAD_OBJECTIVE_SENSE, _) => "write `min` or `max` behind `OBJ`",
@@ -412,10 +407,10 @@ fn plain_hint(number: u8, word: &[u8]) -> &'static str {
         }
         (cause::TOKEN_TOO_LONG, _) => "a token may have 65,535 bytes at most",
         (cause::TRAILING_TEXT, b"VER" | [b'%', ..]) => {
-            "a file is one certificate, without comments behind `VER`: remove what is from here on"
+            "a file is one certificate, without comments behind `VER`: remove all from here on"
         }
         (cause::TRAILING_TEXT, _) => {
-            "write the count behind `DER` larger, or remove what is from here on"
+            "make the count behind `DER` larger, or remove all from here on"
         }
         _ => "see the table of causes in docs/FORMAT.md",
     }

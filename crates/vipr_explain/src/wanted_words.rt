@@ -27,16 +27,16 @@ pub(crate) fn write_wanted<W: Write>(f: &mut Formatter<W>, progress: &TextProgre
             };
             write!(
                 f,
-                "the {number} of pair {part} (there are {parts}, counted from 0)"
+                "the {number} of pair {part} (of {parts}, counted from 0)"
             )
         }
         Wanted::EntryIndex => write!(
             f,
-            "the constraint's index of entry {part} (there are {parts}, counted from 0)"
+            "the constraint's index of entry {part} (of {parts}, counted from 0)"
         ),
         Wanted::EntryMultiplier => write!(
             f,
-            "the multiplier of entry {part} (there are {parts}, counted from 0)"
+            "the multiplier of entry {part} (of {parts}, counted from 0)"
         ),
         Wanted::Branch => f.write_str(branch_part(part)),
         other => f.write_str(plain(other)),
