@@ -99,7 +99,7 @@ MISTAKES = [
      '.vipr:3:1\n', 'remove the comment'),
     # forgot to declare y integer
     ('one_machine', 'INT 1\n2\n', 'INT 0\n',
-     '.vipr:24:1\n', 'y is not an integer variable: write its index 2 in INT'),
+     '.vipr:24:1\n', 'y is not an integer variable: list its index 2 in INT and make the count there 1 larger'),
     # uns with assumption before conclusion
     ('one_machine', 'uns 10 8 11 9', 'uns 8 10 9 11',
      '.vipr:25:1\n', 'names what follows first, and behind it its assumption'),
@@ -174,7 +174,7 @@ MISTAKES = [
      '.vipr:18:1\n', 'right-hand side: computed 0, stated 1, which says 1 too much'),
     # y not integer
     ('parity', 'INT 2 0 1', 'INT 1 0',
-     '.vipr:12:1\n', 'y is not an integer variable: write its index 1 in INT'),
+     '.vipr:12:1\n', 'y is not an integer variable: list its index 1 in INT and make the count there 1 larger'),
     # script: floor computed as n//2-1
     ('five_cycle', 'odd0 L 2', 'odd0 L 1',
      '.vipr:25:1\n', 'right-hand side: computed 2, stated 1, which says 1 too much'),

@@ -291,7 +291,11 @@ fn write_detail<W: Write>(
         }
         StepDetail::Sum(sum) => {
             write_labelled(f, problem, "    sum        ", sum)?;
-            write!(f, "{faults}")
+            write!(
+                f,
+                "{faults}  = help: `lin` in place of `rnd` proves this sum as it is; or choose \
+                 multipliers with which all coefficients are whole\n"
+            )
         }
         StepDetail::Pair(first, second) => {
             write_labelled(f, problem, "    first      ", first)?;

@@ -93,8 +93,8 @@ impl Display for RowFaults<'_> {
                     let name = VariableName { problem, index };
                     write!(
                         f,
-                        "    {name} is not an integer variable: write its index {index} in INT, \
-                         or leave it out here\n"
+                        "    {name} is not an integer variable: list its index {index} in INT and \
+                         make the count there 1 larger, or leave it out here\n"
                     )?;
                 }
             }
