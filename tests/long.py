@@ -120,7 +120,7 @@ MISTAKES = [
      '.vipr:24:1\n', 'right-hand side: computed 0, stated 1, which says 1 too much'),
     # forgot the bound x3 >= 0 in the sum (hidden x >= 0)
     ('set_cover', 'leaf1 G 7 OBJ { lin 3 1 4 10 3 5 1 } 13', 'leaf1 G 7 OBJ { lin 2 1 4 10 3 } 13',
-     '.vipr:24:1\n', 'as stated with the multiplier 1 for [5], which is not in the sum: l3'),
+     '.vipr:24:1\n', 'as stated with the multiplier 1 for one more entry, [5] l3'),
     # joined wrongly: scaled row under an assumption
     ('set_cover', 'all G 7 OBJ { uns 11 9 12 10 } -1', 'all G 14 3 0 6 1 8 2 10 { lin 1 12 2 } -1',
      '(line 24)', '[12] leaf1  3 x1 + 4 x2 + 5 x3 >= 7  (line 24), strong enough, rests on the assumptions [10]'),
@@ -271,7 +271,7 @@ HINTS = [
     # a derivation: an index, a multiplier, an order
     ('set_cover', 'lin 3 1 4', 'lin 3 1 3', 'all coefficients are as stated with the multiplier 4 in place of 3 at [1] b'),
     ('set_cover', 'lin 3 1 4 10 3 5 1', 'lin 3 1 -4 10 -3 5 -1', 'each coefficient has the other sign: multiply all'),
-    ('knapsack', '2 1/4 6 1/2', '1 1/4 6 1/2', 'is another constraint meant, of which bounds are some'),
+    ('knapsack', '2 1/4 6 1/2', '1 1/4 6 1/2', 'is another constraint meant (bounds are counted, too)'),
     ('set_cover', 'uns 11 9 12 10', 'uns 11 9 13 10', 'case 2 gives [13], this derivation itself'),
     ('two_levels', 'uns 9 7 10 8', 'uns 9 4 10 8', 'they are about different rows'),
     ('cutoff', 'cut L 7', 'cut L 6', '`sol` gives the best listed value, and nothing better'),
@@ -396,7 +396,7 @@ MORE = [
     ('VER 1.0 VAR 20 ' + ' '.join(f'x{it:030}' for it in range(20)) + ' INT 0 OBJ min 20 '
      + ' '.join(f'{it} 1' for it in range(20)) + ' CON 30 0 ' + ' '.join(f'c{it:030} G 1 OBJ' for it in range(30))
      + ' RTP infeas SOL 0 DER 1 d G 1 0 { lin 30 ' + ' '.join(f'{it} 1' for it in range(30)) + ' } -1',
-     'change the constraints and multipliers of the reason', 4_097),
+     'or mend the reason: a multiplier, which constraints', 4_097),
     # senses of algebra
     *[(f'VER 1.0 VAR 1 x INT 0 OBJ min 0 CON 1 0 c {sense} 1 1 0 1', f'write `{letter}` for `{sense}`', 0)
       for letter, sense in (('G', '>='), ('L', '<='), ('E', '='))],

@@ -69,7 +69,13 @@ impl<'a> LastUse<'a> {
             "  constraint {index} was dropped behind the last reference that it states\n"
         )?;
         match self.place {
-            Some(place) => place.write(f, file, PlaceLabel::LastReference(self.last)),
+            Some(place) => {
+                place.write(f, file, PlaceLabel::LastReference(self.last))?;
+                write!(
+                    f,
+                    "  = help: or is a constraint other than [{index}] meant?\n"
+                )
+            }
             None => Ok(()),
         }
     }

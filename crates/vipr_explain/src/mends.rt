@@ -45,7 +45,7 @@ impl Mend {
         write!(f, " as stated with the multiplier {multiplier}")?;
         match self.present {
             Some(present) => write!(f, " in place of {present} at [{index}]")?,
-            None => write!(f, " for [{index}], which is not in the sum:")?,
+            None => write!(f, " for one more entry, [{index}]")?,
         }
         if let Some(name) = items.name(index) {
             write!(f, " {}", ShownName(name))?;

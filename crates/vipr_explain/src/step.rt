@@ -248,7 +248,7 @@ fn write_fault<W: Write>(f: &mut Formatter<W>, fault: StepFault<'_>) -> fmt::Res
             ),
         },
         StepDetail::Entry(entry) => match fault.cause {
-            cause::OVERFLOW => write!(f, "is past 2^127 - 1 at entry {entry} of its sum"),
+            cause::OVERFLOW => write!(f, "passes 2^127 - 1 at entry {entry} of its sum"),
             _ => write!(f, "turns a sense around at entry {entry} of its sum"),
         },
         StepDetail::Sum(_) => f.write_str("has a sum that can't be rounded"),
@@ -338,8 +338,8 @@ fn write_repair<W: Write>(
         mend.write(f, &refused.known.items)?;
     }
     f.write_str(
-        "  = help: state what was computed, or change the constraints and multipliers of the \
-         reason\n",
+        "  = help: state what was computed, or mend the reason: a multiplier, which constraints it \
+         names, or a number in one of them\n",
     )
 }
 
@@ -391,17 +391,17 @@ fn write_help<W: Write>(f: &mut Formatter<W>, cause: u8, count: usize) -> fmt::R
         ),
         cause::NOT_EARLIER => write!(
             f,
-            "  = help: constraints count from 0: the problem has {count}: 0 is the first one; \
-             the first derivation is {count}; is this line in front of one that it needs?\n"
+            "  = help: constraints count from 0: the problem has {count}, so the first derivation \
+             is {count}; is this line in front of one that it needs?\n"
         ),
         cause::NOT_ASSUMPTION => f.write_str(
             "  = help: `uns i1 l1 i2 l2` names what follows first, and behind it its assumption, \
              a derivation by `asm`\n",
         ),
         cause::MIXED_SIGNS => f.write_str(
-            "  = help: a sum that is >= takes positive multiples of >= and negative ones of <=; \
-             a sum that is <= the other way round: change the sign of this multiplier; or is \
-             another constraint meant, of which bounds are some, or is the sense of this one \
+            "  = help: a sum that is >= takes positive multiples of >= and negative ones of <=, \
+             and a sum that is <= the other way round: change the sign of this multiplier; or is \
+             another constraint meant (bounds are counted, too), or is the sense of this one \
              wrong?\n",
         ),
         cause::OVERFLOW => f.write_str(
