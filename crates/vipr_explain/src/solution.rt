@@ -300,12 +300,14 @@ impl ListedValues {
         match self.best {
             Some(best) => write!(
                 f,
-                "  = help: claim {best} as the primal bound behind RTP, or list a better solution; \
-                 an objective has no constant\n"
+                "  = help: claim {best} as the primal bound behind RTP (the upper one for min, the \
+                 lower one for max), or list a better solution; is a constant of the objective in \
+                 the claim? The format has none\n"
             ),
             None => f.write_str(
                 "  the text lists no solution (SOL 0)\n  \
-                 = help: list a solution behind SOL, or claim no primal bound behind RTP\n",
+                 = help: list a solution behind SOL, or claim no primal bound behind RTP (`inf` \
+                 for min, `-inf` for max)\n",
             ),
         }
     }
