@@ -105,7 +105,7 @@ MISTAKES = [
      '.vipr:25:1\n', 'names what follows first, and behind it its assumption'),
     # uns with the assumptions crossed
     ('one_machine', 'uns 10 8 11 9', 'uns 10 9 11 8',
-     '(line 25)', '[12] no  0 >= 1  (line 25), rests on the assumptions [8] [9]'),
+     '(line 25)', '[12] no  0 >= 1  (line 25), rests on [8] [9]'),
     # last reference too early at an assumption
     ('one_machine', '{ asm } 12\ny1', '{ asm } 9\ny1',
      '(line 25)', 'goal   [12] no  0 >= 1'),
@@ -123,7 +123,7 @@ MISTAKES = [
      '.vipr:24:1\n', 'as stated with the multiplier 1 for one more entry, [5] l3'),
     # joined wrongly: scaled row under an assumption
     ('set_cover', 'all G 7 OBJ { uns 11 9 12 10 } -1', 'all G 14 3 0 6 1 8 2 10 { lin 1 12 2 } -1',
-     '(line 24)', '[12] leaf1  3 x1 + 4 x2 + 5 x3 >= 7  (line 24), strong enough, rests on the assumptions [10]'),
+     '(line 24)', '[12] leaf1  3 x1 + 4 x2 + 5 x3 >= 7  (line 24), strong enough, rests on [10]'),
     # a primal bound better than the solution
     ('set_cover', 'RTP range 7 7', 'RTP range 7 6',
      '', 'claim 7 as the primal bound behind RTP'),
@@ -277,7 +277,7 @@ HINTS = [
     ('cutoff', 'cut L 7', 'cut L 6', '`sol` gives the best listed value, and nothing better'),
     # a claim
     ('set_cover', 'uns 11 9 12 10', 'uns 11 10 12 9', '[11] rests on [9] and [12] on [10]: exchange l1 and l2, `uns 11 9 12 10`'),
-    ('set_cover', 'RTP range 7 7', 'RTP range 17 17', 'claim no more than [13] says behind RTP'),
+    ('set_cover', 'RTP range 7 7', 'RTP range 17 17', 'behind RTP claim no more than [13] says'),
     ('parity', 'RTP infeas\nSOL 0\nDER 1\nodd G 1 0 { rnd 1 0 1/2 } -1\n', 'RTP range 0 inf\nSOL 0\nDER 0\n', 'add the derivation `NAME G 0 0 { lin 0 } -1`'),
     ('diet', 'RTP range 16/5 16/5', 'RTP infeas', 'so `infeas` is false: claim `range` and two bounds'),
     ('diet', 'RTP range 16/5 16/5', 'RTP range 16/5 3', 'the lower bound of the claim is above the upper one: are they exchanged?'),
@@ -328,7 +328,7 @@ TRUE = [
     ([], 'VER 1.0 VAR 1 x INT 0 OBJ min 1 0 1 CON 0 0 RTP range 1 inf SOL 0 DER 11 ' + ASSUMED
      + 'e G 1 1 0 1 { asm } -1 f G 1 1 0 1 { lin 5 0 -1 1 -1 2 -1 3 -1 5 1 } -1 u0 G 1 1 0 1 { uns 6 0 4 4 } -1 '
      'u1 G 1 1 0 1 { uns 7 1 4 4 } -1 u2 G 1 1 0 1 { uns 8 2 4 4 } -1 u3 G 1 1 0 1 { uns 9 3 4 4 } -1',
-     ['u0  x >= 1  (line 1), strong enough, rests on the assumptions [1] [2] [3] [5]'], ['no assumption\n']),
+     ['u0  x >= 1  (line 1), strong enough, rests on [1] [2] [3] [5]'], ['no assumption\n']),
     # the index of a constraint that isn't earlier is behind a fault of the text
     ([], 'VER 1.0 VAR 0 INT 0 OBJ min 0 CON 0 0 RTP infeas SOL 0 DER 2 a G 1 0 { lin 1 1 1 } -1 b G one',
      ['1 x [1], which is not before this derivation <-- entry 0', 'the problem has none'], ["isn't one of this text"]),
@@ -345,9 +345,9 @@ TRUE = [
     ([], 'VER 1.0 VAR ' + '0' * 80 + '1 x INT 0 OBJ mid 0', ['wanted `min` or `max`'], ['wanted the number']),
     # by the second profile a bound of a whole objective is rounded
     (['--profile', '2'], 'VER 1.0 VAR 1 x INT 1 0 OBJ min 1 0 1 CON 0 0 RTP range 1 inf SOL 0 DER 1 '
-     'a G 1/2 1 0 1 { asm } -1', ['x >= 1/2  (line 1), strong enough, rests on the assumptions [0]'], ['too weak']),
+     'a G 1/2 1 0 1 { asm } -1', ['x >= 1/2  (line 1), strong enough, rests on [0]'], ['too weak']),
     ([], 'VER 1.0 VAR 1 x INT 1 0 OBJ min 1 0 1 CON 0 0 RTP range 1 inf SOL 0 DER 1 a G 1/2 1 0 1 { asm } -1',
-     ['x >= 1/2  (line 1), too weak by 1/2, rests on the assumptions [0]'], ['strong enough']),
+     ['x >= 1/2  (line 1), too weak by 1/2, rests on [0]'], ['strong enough']),
     # constraints of the problem come near, too, and the nearest is first
     ([], 'VER 1.0 VAR 1 x INT 0 OBJ min 1 0 1 CON 1 0 c G 1/2 1 0 1 RTP range 1 inf SOL 0 DER 4 '
      'd0 G 9/10 1 0 1 { asm } -1 d1 G 0 1 0 1 { asm } -1 d2 G 0 1 0 1 { asm } -1 d3 G 0 1 0 1 { asm } -1',

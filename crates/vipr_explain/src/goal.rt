@@ -179,8 +179,9 @@ fn write_advice<W: Write>(f: &mut Formatter<W>, known: &UnprovedClaim) -> fmt::R
             let index = free.index;
             write!(
                 f,
-                "claim no more than [{index}] says behind RTP: nothing better is proved without an \
-                 assumption; is a constant of the objective in the claim? The format has none"
+                "behind RTP claim no more than [{index}] says: nothing stronger with this row is \
+                 proved without an assumption; is a constant of the objective in the claim? The \
+                 format has none"
             )
         }
         (Some(bound), None) if near.is_empty() && is_true_at_0(bound) => {
@@ -197,10 +198,10 @@ fn write_advice<W: Write>(f: &mut Formatter<W>, known: &UnprovedClaim) -> fmt::R
              two bounds",
         ),
         _ if is_strong => f.write_str(
-            "join the branches by `uns i1 l1 i2 l2`, so that no assumption is left, or claim what \
-             is proved behind RTP",
+            "join the branches by `uns i1 l1 i2 l2`, so that no assumption is left, or claim \
+             behind RTP what is proved",
         ),
-        _ => f.write_str("derive it, or claim what is proved behind RTP"),
+        _ => f.write_str("derive it, or claim behind RTP what is proved"),
     }
 }
 
@@ -232,7 +233,7 @@ fn write_assumptions<W: Write>(f: &mut Formatter<W>, near: &Near) -> fmt::Result
     if near.assumptions.is_empty() {
         return f.write_str(", rests on no assumption\n");
     }
-    f.write_str(", rests on the assumptions")?;
+    f.write_str(", rests on")?;
     let mut count: u32 = 0;
     for index in 0..=near.index {
         if near.assumptions.contains(index) {
