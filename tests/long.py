@@ -1,11 +1,11 @@
 #!/usr/bin/env python3
-"""What `vipr explain --long` says of mistakes that a person makes in the ten small problems of examples/problems.
+"""What `vipr explain --long` says of mistakes that a person makes in the small problems of examples/problems.
 
 usage: tests/long.py [--write] [PROGRAM]     crates/vipr/out/vipr without it
 
 Each mistake is made in a copy, which is explained from its file, from standard input, and from a pipe that gives a
 byte a read. The lines of `vipr explain` have to come first, byte for byte, with the same exit status; behind them the
-place at fault, and what to change there. So has each of the ten problems as it is: it is verified, and its goal is
+place at fault, and what to change there. Ten of the problems are explained as they are: verified, and the goal is
 shown. Then texts that are no certificate, a line of binary bytes, names with controls, long rows, and texts of which
 an explanation is easily wrong: what a constraint rests on, what comes near a claim, what a profile asks for; and texts
 that are large in one respect, so that a page could be cut off there. Every byte that is printed behind the first lines
@@ -284,6 +284,17 @@ HINTS = [
     ('diet', 'RTP range 16/5 16/5', 'RTP range -inf 3', 'claim 16/5 as the primal bound behind RTP'),
     ('diet', 'RTP range 16/5 16/5\nSOL 1\nopt 2 0 3 1 2\n', 'RTP range 16/5 inf\nSOL 0\n', 'primal no solution is listed'),
     ('diet', 'RTP range 16/5 16/5', 'RTP range -inf 16/5', 'nothing has to be proved of the dual side'),
+    # the other problems: a bound left out of a sum, a digit, a continuous variable rounded, a branch, a claim
+    ('fixed_charge', 'lin 5 0 1 1 -1 2 -1 6 -4 9 -6', 'lin 4 0 1 1 -1 2 -1 9 -6', 'with the multiplier -4 for one more entry, [6] y1_up'),
+    ('fixed_charge', 'ten G 10 OBJ { lin', 'ten G 11 OBJ { rnd', '`lin` in place of `rnd` proves this sum as it is'),
+    ('fixed_charge', 'range 10 10', 'range 11 11', 'behind RTP claim no more than [13] says'),
+    ('bin_packing', 'lin 5 0 1 1 1 2 1', 'lin 4 0 1 1 1', 'all coefficients are as stated with the multiplier 1 for one more entry, [2] thing3'),
+    ('rounded_sum', 'lin 1 2 5', 'lin 1 2 4', 'with the multiplier 5 in place of 4 at [2] r'),
+    ('burma14', '147 328', '147 238', 'with the multiplier 328 in place of 238 at [147] least4_8'),
+    ('split_cut', 'uns 4 2 5 3', 'uns 4 3 5 2', 'exchange l1 and l2, `uns 4 2 5 3`'),
+    ('first_example', '10 14 }', '11 14 }', '14 x [11], this derivation itself <-- entry 2'),
+    ('diet', 'VAR 2', 'VAR 5', 'is the count behind `VAR` right, or is a space in a name?'),
+    ('diet', 'nm G 0 1 1 1', 'nm G 0 1 1 1 0 1', "or is the last constraint's count of coefficients too small?"),
     # a solution
     ('diet', 'opt 2 0 3 1 2', 'opt 2 0 3 1 1999999/1000000', 'is a value rounded, as one of floating point is?'),
     ('diet', 'opt 2 0 3 1 2', '2 0 3 1 2', 'a number was read as the name: is the name missing?'),
