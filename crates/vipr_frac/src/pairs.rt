@@ -48,6 +48,15 @@ fn denominator(q: u64, s: u64) -> Option<u64>
     }
 }
 
+// p * n.
+#[inline(always)]
+fn product(p: i64, n: u64) -> i128
+    requires { n < 2 ^ 63 }
+    ensures { result ≡ p *ℤ pos n }
+{
+    i128::from(p) * i128::from(n as i64)
+}
+
 // p * u + r * v.
 #[inline(always)]
 fn both(p: i64, u: u64, r: i64, v: u64) -> Option<i64>
@@ -55,10 +64,18 @@ fn both(p: i64, u: u64, r: i64, v: u64) -> Option<i64>
     requires right { v < 2 ^ 63 }
     ensures { IfSome result (λ t. t ≡ p *ℤ pos u +ℤ r *ℤ pos v) }
 {
-    let left = i128::from(p) * i128::from(u as i64);
-    let right = i128::from(r) * i128::from(v as i64);
-    let sum = left + right;
+    let sum = product(p, u) + product(r, v);
     if is_word(sum) { Some(sum as i64) } else { None }
+}
+
+/// Whether the cross products of two fractions are equal.
+#[inline(always)]
+pub(crate) fn are_equal(p: i64, q: u64, r: i64, s: u64) -> bool
+    requires left { q < 2 ^ 63 }
+    requires right { s < 2 ^ 63 }
+    ensures { IsTrue result ↔ (p *ℤ pos s ≡ r *ℤ pos q) }
+{
+    product(p, s) == product(r, q)
 }
 
 /// The sum of two fractions, the second of which has n times the denominator of the first.

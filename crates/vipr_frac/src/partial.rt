@@ -7,7 +7,7 @@ ghost use Rattle.vipr_frac.specs.Parts.{AddsProduct, AreReduced, IsPartial, IsWo
 ghost use Rattle.vipr_frac.specs.Parts.{PutsOrKeeps};
 
 use crate::frac::{Frac, Overflow, of_parts, reduced_words};
-use crate::pairs::{is_word, mixed_sum, pair_product, raised_sum, words};
+use crate::pairs::{are_equal, is_word, mixed_sum, pair_product, raised_sum, words};
 use std::alloc::AllocError;
 use std::marker::Model;
 
@@ -227,8 +227,14 @@ impl Partial {
     pub fn is(&self, fraction: Frac) -> bool
         ensures { IsTrue result ↔ (self.now ≡ fraction) }
     {
-        let (p, q) = fraction.parts();
-        (self.p == p && self.q == q) || self.value() == fraction
+        let (r, s) = fraction.parts();
+        if self.p == r && self.q == s {
+            return true;
+        }
+        match (words(self.p, self.q), words(r, s)) {
+            (Some((p, q)), Some((r, s))) => are_equal(p, q, r, s),
+            _ => self.value() == fraction,
+        }
     }
 
     /// Adds the product of a multiplier and a coefficient. It is refused if the product or the
