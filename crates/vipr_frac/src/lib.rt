@@ -10,5 +10,5 @@ mod partial;
 mod words;
 
 pub use frac::{Frac, FracError, Overflow};
-pub use number::{NumberError, front_natural};
+pub use number::{NumberError, front_natural, lone_digit};
 pub use partial::Partial;

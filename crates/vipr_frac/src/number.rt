@@ -11,7 +11,7 @@ ghost use Rattle.vipr_spec.specs.Tokens.{is_white};
 ghost use Rattle.vipr_spec.specs.Number.{SpellsNumber, is_slash, slash_place, top_of, bottom_of};
 ghost use Rattle.vipr_spec.specs.Number.{signed_integer, written_fraction, of_parts, number_read};
 ghost use Rattle.vipr_spec.specs.Number.{number_text};
-ghost use Rattle.vipr_frac.specs.Reading.{as_read};
+ghost use Rattle.vipr_frac.specs.Reading.{as_read, IsLoneDigit};
 
 use crate::frac::{Frac, of_whole, reduced, reduced_words};
 use itoa::Buffer;
@@ -188,6 +188,18 @@ fn digit_of(b: u8) -> u8
     b.wrapping_sub(b'0')
 }
 
+/// The digit at the front, if a space follows it.
+#[inline(always)]
+pub fn lone_digit(s: &[u8]) -> Option<u8>
+    ensures { IfSome result (IsLoneDigit s.now) }
+{
+    if s.len() < 2 || s[1] != b' ' {
+        return None;
+    }
+    let digit = digit_of(s[0]);
+    if digit > 9 { None } else { Some(digit) }
+}
+
 /// The number that the digits at the front write, 18 of them at most, and how many they are.
 #[inline(always)]
 pub fn front_natural(s: &[u8]) -> (u64, usize)
@@ -251,6 +263,11 @@ fn front_unsigned(is_negative: bool, s: &[u8]) -> Option<(Frac, usize)>
         (λ r. Ok r.0 ≡ of_parts is_negative (natural_of (top_of (take r.1 s.now)))
         (natural_of (bottom_of (take r.1 s.now)))) }
 {
+    // most numbers of most certificates
+    if let Some(digit) = lone_digit(s) {
+        let whole = short_signed(is_negative, u64::from(digit));
+        return Some((of_whole(i128::from(whole)), 1));
+    }
     let (top, len) = front_natural(s);
     if len == 0 {
         return None;
@@ -261,7 +278,7 @@ fn front_unsigned(is_negative: bool, s: &[u8]) -> Option<(Frac, usize)>
         };
         return Some((value, len + 1 + more));
     }
-    Some((of_whole(with_sign(is_negative, u128::from(top))), len))
+    Some((of_whole(i128::from(short_signed(is_negative, top))), len))
 }
 
 impl Frac {
