@@ -117,6 +117,7 @@ impl Union {
     }
 
     /// The union of all.
+    #[inline(always)]
     pub fn finish(self, alloc: Global) -> Result<Assumptions, AllocError>
         ensures { IfOk result (λ s. s ≡ union_so_far self) }
     {
@@ -126,6 +127,9 @@ impl Union {
             few,
             ..
         } = self;
+        if below.is_empty() && few.is_empty() {
+            return Ok(last);
+        }
         with_below(alloc, below, with_few(alloc, last, few)?)
     }
 }
