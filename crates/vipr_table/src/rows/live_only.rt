@@ -29,6 +29,7 @@ fn forget(rows: &mut IndexMap<u32, Entry, IndexHashing>, index: u32)
 }
 
 // Puts the entry at an index, or hands it back.
+#[inline(always)]
 fn insert(
     rows: &mut IndexMap<u32, Entry, IndexHashing>,
     index: u32,
@@ -82,6 +83,7 @@ impl Rows for LiveOnly {
         }
     }
 
+    #[inline(always)]
     fn put(&mut self, entry: Entry) -> Result<(), (Entry, AllocError)> {
         let index = self.next;
         let expiry = entry.expiry();
