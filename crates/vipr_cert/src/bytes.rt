@@ -1,5 +1,5 @@
 //! The bytes of a name.
-ghost use Rattle.std.specs.Prelude.{◌≡◌, IfOk, OnOk, OnErr};
+ghost use Rattle.std.specs.Prelude.{◌≡◌, ◌≤◌, length, take, IfOk, OnOk, OnErr};
 ghost use Rattle.bstr.specs.Owned.{bstring_bytes};
 ghost use Rattle.vipr_cert.specs.Names.{name_bytes};
 
@@ -26,18 +26,24 @@ impl NameBytes {
         Ok(NameBytes::Long(BString::from_slice(alloc, bytes)?))
     }
 
-    /// These bytes in place of those before. If there is no memory, those before stay.
+    /// The first bytes of these in place of those before. If there is no memory, those before stay.
     #[inline(always)]
-    pub(crate) fn set(&mut self, alloc: Global, bytes: &[u8]) -> Result<(), AllocError>
-        ensures bytes { OnOk result (name_bytes self.new ≡ bytes.now) }
+    pub(crate) fn set_front(
+        &mut self,
+        alloc: Global,
+        bytes: &[u8],
+        len: usize,
+    ) -> Result<(), AllocError>
+        requires { len ≤ length bytes.now }
+        ensures bytes { OnOk result (name_bytes self.new ≡ take len bytes.now) }
         ensures kept { OnErr result (self.new ≡ self.old) }
     {
         match self {
-            NameBytes::Short(short) if bytes.len() <= MOST_IN_PLACE => {
-                *short = Short::of(bytes);
+            NameBytes::Short(short) if len <= MOST_IN_PLACE && MOST_IN_PLACE <= bytes.len() => {
+                *short = Short::of_front(bytes, len);
                 Ok(())
             }
-            _ => self.set_anew(alloc, bytes),
+            _ => self.set_anew(alloc, &bytes[..len]),
         }
     }
 

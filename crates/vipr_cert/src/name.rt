@@ -2,7 +2,7 @@
 //!
 //! A [`Name`] is the bytes of a token: between 1 and 65,535, of which none is white space. They
 //! need not be text. A name of at most 30 bytes takes no memory of its own.
-ghost use Rattle.std.specs.Prelude.{◌≡◌, ◌↔◌, ℕ, List, ◌∷◌, []};
+ghost use Rattle.std.specs.Prelude.{◌≡◌, ◌↔◌, ◌≤◌, ℕ, List, ◌∷◌, [], length, take};
 ghost use Rattle.std.specs.Prelude.{IsOk, IfOk, OnOk, OnErr, IsTrue};
 ghost use Rattle.bstr.specs.Owned.{bstring_bytes};
 ghost use Rattle.bstr.specs.Show.{debug_text};
@@ -104,15 +104,16 @@ impl Name {
         })
     }
 
-    /// These bytes, which are those of a token, in place of those before. If there is no memory,
-    /// those before stay.
+    /// The first bytes of these, which are those of a token, in place of those before. If there is
+    /// no memory, those before stay.
     #[inline(always)]
-    pub fn set(&mut self, alloc: Global, bytes: &[u8]) -> Result<(), AllocError>
-        requires { IsToken bytes.now }
-        ensures bytes { OnOk result (self.new ≡ bytes.now) }
+    pub fn set_front(&mut self, alloc: Global, bytes: &[u8], len: usize) -> Result<(), AllocError>
+        requires within { len ≤ length bytes.now }
+        requires token { IsToken (take len bytes.now) }
+        ensures bytes { OnOk result (self.new ≡ take len bytes.now) }
         ensures kept { OnErr result (self.new ≡ self.old) }
     {
-        self.bytes.set(alloc, bytes)
+        self.bytes.set_front(alloc, bytes, len)
     }
 
     /// The bytes, which are those of a token.

@@ -27,6 +27,21 @@ impl Short {
         }
     }
 
+    /// The first bytes of these, of which there are enough for a copy of fixed length.
+    #[inline(always)]
+    pub(crate) fn of_front(bytes: &[u8], len: usize) -> Short
+        requires few { len ≤ 30 }
+        requires enough { 30 ≤ length bytes.now }
+        ensures { take result.len result.bytes ≡ take len bytes.now }
+    {
+        let mut kept = [0; 30];
+        kept.copy_from_slice(&bytes[..30]);
+        Short {
+            bytes: kept,
+            len: len as u8,
+        }
+    }
+
     /// The bytes.
     #[inline(always)]
     pub(crate) fn as_slice(&self) -> &[u8]
