@@ -1,5 +1,6 @@
 -- What a program in C gets of a verdict
 use Rattle.std.specs.Prelude.{ℕ, ℤ, pos, Option, Some, None, Result, Ok, Err}
+use Rattle.vipr_check.specs.Text.{verdict_status}
 use Rattle.vipr_check.specs.declared.verdict.Fault.{Fault}
 use Rattle.vipr_check.specs.declared.verdict.Fault.TheVariants.{Memory}
 use Rattle.vipr_check.specs.declared.verdict.Place.{Place}
@@ -8,10 +9,9 @@ use Rattle.vipr_check.specs.declared.verdict.Verdict.{Verdict}
 use Rattle.vipr_check.specs.declared.verdict.Verdict.TheVariants.{Verified, Refused}
 use Rattle.vipr_c.specs.declared.answer.Answer.{Answer}
 
--- 0 for verified, 1 for refused, 3 for no verdict
+-- the status of a verdict, 3 if there is none
 abbrev pub status_of : Result Verdict Fault → ℤ
-status_of (Ok (Verified r)) = pos 0
-status_of (Ok (Refused r)) = pos 1
+status_of (Ok v) = pos (verdict_status v)
 status_of (Err e) = pos 3
 
 abbrev pub kind_of_place : Place → ℕ

@@ -14,6 +14,7 @@ use Rattle.vipr_write.specs.declared.form.Form.{Form}
 use Rattle.vipr_write.specs.declared.form.Form.TheVariants.{Canonical, Compact}
 use Rattle.vipr_check.specs.declared.verdict.Place.TheVariants.{Byte}
 use Rattle.vipr_check.specs.declared.verdict.Verdict.TheVariants as verdict
+use Rattle.vipr_tighten.specs.Text.{outcome_status}
 use Rattle.vipr_tighten.specs.Tightens.{TightensAs}
 use Rattle.vipr_tighten.specs.declared.outcome.Outcome.{Outcome}
 use Rattle.vipr_tighten.specs.declared.outcome.Outcome.TheVariants.{Tightened, Refused}
@@ -59,11 +60,6 @@ WritesWhole whole status text = ((status ≡ pos 0) × (text ≡ whole)) ⊎ Has
 
 -- ---- one that is tightened
 
--- 0 if it is tightened, 1 if it is refused
-abbrev pub outcome_code : Outcome → ℤ
-outcome_code (Tightened kept removed before after) = pos 0
-outcome_code (Refused _) = pos 1
-
 abbrev pub no_figures : Figures
 no_figures =
     record {
@@ -102,7 +98,7 @@ figures_of (Refused r) =
 abbrev pub IsTightened : Form → List ℕ → is.Profile → ℤ → List ℕ → Figures → Type 0
 IsTightened F bytes P status text figures = (x : Outcome)
     × TightensAs P F (in_memory bytes) (Some (holding [])) (Some (holding text)) (Ok x)
-    × (status ≡ outcome_code x) × (figures ≡ figures_of x)
+    × (status ≡ pos (outcome_status x)) × (figures ≡ figures_of x)
 
 -- by the rules of a profile; 2 and no text if there is none
 abbrev pub TightensBy : Option Profile → Form → List ℕ → ℤ → List ℕ → Figures → Type 0

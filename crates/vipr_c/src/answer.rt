@@ -3,6 +3,7 @@
 ghost use Rattle.std.specs.Prelude.{◌≡◌};
 ghost use Rattle.vipr_c.specs.AnswerOf.{status_of, answer_of_verdict};
 
+use crate::handed::NO_MEMORY;
 use vipr_check::{Fault, Place, Verdict};
 
 /// A verdict in numbers: all but those that the status asks for are 0.
@@ -43,9 +44,8 @@ pub(crate) fn status(verdict: &Result<Verdict, Fault>) -> i32
     ensures { result ≡ status_of verdict.now }
 {
     match verdict {
-        Ok(Verdict::Verified(_)) => 0,
-        Ok(Verdict::Refused(_)) => 1,
-        Err(_) => 3,
+        Ok(verdict) => i32::from(verdict.status()),
+        Err(_) => NO_MEMORY,
     }
 }
 

@@ -1,10 +1,11 @@
 //! A status with a text, and how a text gets into a buffer.
 
-ghost use Rattle.std.specs.Prelude.{◌≡◌, [], MatchResult, length};
+ghost use Rattle.std.specs.Prelude.{◌≡◌, [], MatchResult, Ok, length};
+ghost use Rattle.vipr_c.specs.AnswerOf.{status_of};
 ghost use Rattle.vipr_c.specs.Handed.{Fills, HasNoMemory, ended, profile_numbered};
 
 use std::alloc::Global;
-use vipr_check::Fault;
+use vipr_check::{Fault, Verdict};
 use vipr_rules::Profile;
 
 /// The status of a profile that there isn't.
@@ -28,6 +29,17 @@ impl Handed {
         Handed {
             status,
             text: Vec::new(alloc),
+        }
+    }
+
+    /// Lines on a verdict, with its status.
+    pub(crate) fn of_verdict(verdict: &Verdict, text: Vec<u8>) -> Handed
+        ensures status { result.status ≡ status_of (Ok verdict.now) }
+        ensures text { result.text.items ≡ text.items }
+    {
+        Handed {
+            status: i32::from(verdict.status()),
+            text,
         }
     }
 

@@ -76,10 +76,8 @@ fn lines_of(alloc: Global, verdict: Verdict) -> Result<Handed, AllocError>
     ensures { IfOk result (λ lines. (lines.status ≡ status_of (Ok verdict))
         × (lines.text.items ≡ report_lines verdict)) }
 {
-    Ok(Handed {
-        status: status_for(&verdict),
-        text: with_line_feed(alloc, &verdict)?,
-    })
+    let text = with_line_feed(alloc, &verdict)?;
+    Ok(Handed::of_verdict(&verdict, text))
 }
 
 fn verdict_on(alloc: Global, profile: Profile, text: &[u8]) -> Result<Verdict, Fault>
@@ -104,10 +102,7 @@ fn explanation_lines(alloc: Global, profile: Profile, text: &[u8]) -> Result<Han
     // Dropped at this one place, whether or not there is memory.
     drop(detail);
     let text = lines?;
-    Ok(Handed {
-        status: status_for(&verdict),
-        text,
-    })
+    Ok(Handed::of_verdict(&verdict, text))
 }
 
 fn long_lines(alloc: Global, profile: Profile, name: &[u8], text: &[u8]) -> Result<Handed, Fault>
@@ -118,10 +113,7 @@ fn long_lines(alloc: Global, profile: Profile, name: &[u8], text: &[u8]) -> Resu
     let lines = lines_with_page(alloc, profile, name, text, &verdict, &detail);
     drop(detail);
     let text = lines?;
-    Ok(Handed {
-        status: status_for(&verdict),
-        text,
-    })
+    Ok(Handed::of_verdict(&verdict, text))
 }
 
 fn lines_with_page(
@@ -152,13 +144,4 @@ fn explained(alloc: Global, verdict: &Verdict, detail: &Detail) -> Result<Vec<u8
     let explanation = Explanation { verdict, detail };
     let lines = explanation.to_string(alloc)?;
     Ok(lines.into_bytes())
-}
-
-fn status_for(verdict: &Verdict) -> i32
-    ensures { result ≡ status_of (Ok verdict.now) }
-{
-    match verdict {
-        Verdict::Verified(_) => 0,
-        Verdict::Refused(_) => 1,
-    }
 }

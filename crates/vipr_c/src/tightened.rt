@@ -4,7 +4,7 @@ ghost use Rattle.std.specs.Prelude.{◌≡◌, IfOk, Some};
 ghost use Rattle.vipr_rules.specs.Profile.{profile_of};
 ghost use Rattle.vipr_tighten.specs.Tightens.{TightensAs};
 ghost use Rattle.vipr_c.specs.Handed.{in_memory, profile_numbered};
-ghost use Rattle.vipr_c.specs.Written.{IsTightened, TightensBy, figures_of, holding, outcome_code};
+ghost use Rattle.vipr_c.specs.Written.{IsTightened, TightensBy, figures_of, holding};
 
 use crate::answer::answer_of;
 use crate::collected::Collected;
@@ -73,7 +73,7 @@ fn tightened_by(
     let mut out = Collected::new(alloc);
     let outcome = tighten_into(alloc, profile, form, text, &mut out)?;
     let made = Handed {
-        status: status_for(&outcome),
+        status: i32::from(outcome.status()),
         text: out.bytes,
     };
     Ok((made, figures_of(&outcome)))
@@ -90,15 +90,6 @@ fn tighten_into(
         (Some (holding out.old.bytes.items)) (Some (holding out.new.bytes.items)) result }
 {
     tighten_as(alloc, profile, form, Bytes::new(text), out)
-}
-
-fn status_for(outcome: &Outcome) -> i32
-    ensures { result ≡ outcome_code outcome.now }
-{
-    match outcome {
-        Outcome::Tightened { .. } => 0,
-        Outcome::Refused(_) => 1,
-    }
 }
 
 fn figures_of(outcome: &Outcome) -> Figures

@@ -1,4 +1,4 @@
--- How a verdict is printed. The text has no line feed at its end
+-- How a verdict is printed, and its exit status. The text has no line feed at its end
 use Rattle.std.specs.Prelude.{ℕ, List, ◌++◌, codes, decimal}
 use Rattle.vipr_cert.specs.Text.{claim_text}
 use Rattle.vipr_check.specs.declared.verdict.Fault.{Fault}
@@ -27,6 +27,11 @@ report_text r = codes "verified " ++ (claim_text r.claim ++ (codes "\nsolutions 
 abbrev pub verdict_text : Verdict → List ℕ
 verdict_text (Verified report) = report_text report
 verdict_text (Refused refusal) = refusal_text refusal
+
+-- 0 if the certificate is verified, 1 if it is refused
+abbrev pub verdict_status : Verdict → ℕ
+verdict_status (Verified report) = 0
+verdict_status (Refused refusal) = 1
 
 -- why there is no verdict
 abbrev pub no_verdict_text : Fault → List ℕ

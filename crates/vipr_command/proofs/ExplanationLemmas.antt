@@ -12,6 +12,7 @@ use Rattle.vipr_bytes.specs.declared.write.WriteFailed.{WriteFailed}
 use Rattle.vipr_check.specs.Checks.{ChecksIn}
 use Rattle.vipr_check.specs.Explanation.{explained_text}
 use Rattle.vipr_check.specs.Run.{SaysInDetail}
+use Rattle.vipr_check.specs.Text.{verdict_status}
 use Rattle.vipr_check.specs.declared.detail.Detail.{Detail}
 use Rattle.vipr_check.specs.declared.verdict.Fault.{Fault as CheckFault}
 use Rattle.vipr_check.specs.declared.verdict.Fault.TheVariants.{Memory as CheckMemory}
@@ -21,7 +22,7 @@ use Rattle.vipr_command.specs.declared.fault.CommandFault.{CommandFault}
 use Rattle.vipr_command.specs.declared.fault.CommandFault.TheVariants.{Memory, Read, Write}
 use Rattle.vipr_command.specs.Output.{Took, Prints, after_first}
 use Rattle.vipr_command.specs.Run.{KnownInput, OfInput, PrintsExplanation, PrintsInMemory}
-use Rattle.vipr_command.specs.Run.{PrintsWhole, Tells, fault_for, input_of, known_by, status_for}
+use Rattle.vipr_command.specs.Run.{PrintsWhole, Tells, fault_for, input_of, known_by}
 use Rattle.vipr_command.specs.Run.{unknown_input}
 use Rattle.vipr_command.specs.declared.request.Task.{Task}
 use Rattle.vipr_command.proofs.InputLemmas.{of_input, of_fault}
@@ -35,7 +36,7 @@ module _ (P : Profile) (k : KnownInput) where
     nothing_to_print CheckMemory h = stays old
 
   module _ (v : Verdict) (x : Detail) (explained : k.Explained P (Ok (v, x))) (old new : Option Output) where
-    text_printed : (s : ℕ) → s ≡ status_for v → Prints (Some (explained_text v x)) old new (Ok tt) → PrintsExplanation P k old new (Ok s)
+    text_printed : (s : ℕ) → s ≡ verdict_status v → Prints (Some (explained_text v x)) old new (Ok tt) → PrintsExplanation P k old new (Ok s)
     text_printed s is (text, same, took) = (v, x, explained, is, subst (λ t. Took old new t (Ok tt)) same took)
 
     text_not_printed : (f : CommandFault) → Prints (Some (explained_text v x)) old new (Err f) → PrintsExplanation P k old new (Err f)
@@ -50,7 +51,7 @@ module _ (source : Option Input) (P : Profile) (old : Option Output) where
     unexplained = of_fault source (λ k. k.Explained P (Err e)) (λ k r. PrintsExplanation P k old old r) (fault_for e) r is (λ k. nothing_to_print P k old e) h
 
   module _ (v : Verdict) (x : Detail) (explained : OfInput source (λ k. k.Explained P (Ok (v, x)))) (new : Option Output) where
-    pub printed : (s : ℕ) → s ≡ status_for v → Prints (Some (explained_text v x)) old new (Ok tt) → OfInput source (λ k. PrintsExplanation P k old new (Ok s))
+    pub printed : (s : ℕ) → s ≡ verdict_status v → Prints (Some (explained_text v x)) old new (Ok tt) → OfInput source (λ k. PrintsExplanation P k old new (Ok s))
     printed s is p =
         of_input source (λ k. k.Explained P (Ok (v, x))) (λ k. PrintsExplanation P k old new (Ok s)) (λ k h. text_printed P k v x h old new s is p) explained
 

@@ -7,6 +7,7 @@ use Rattle.vipr_spec.specs.Input.{Input}
 use Rattle.vipr_spec.specs.Tightened.{tightened_certificate}
 use Rattle.vipr_bytes.specs.Output.{Output}
 use Rattle.vipr_bytes.specs.Written.{with_all}
+use Rattle.vipr_tighten.specs.Text.{outcome_status}
 use Rattle.vipr_tighten.specs.Tightens.{KindOfText, TakesText, TightensAs, TightensText}
 use Rattle.vipr_write.specs.Forms.{text_in}
 use Rattle.vipr_write.specs.declared.form.Form.{Form}
@@ -16,7 +17,7 @@ use Rattle.vipr_tighten.specs.declared.outcome.TightenFault.{TightenFault}
 use Rattle.vipr_tighten.specs.declared.outcome.TightenFault.TheVariants as tighten
 use Rattle.vipr_command.specs.Folder.{BeginsEmpty, Names, whole_input}
 use Rattle.vipr_command.specs.Run.{OfInput, PrintsTightened, Outside, outside_of}
-use Rattle.vipr_command.specs.Tighten.{Settles, WritesFile, WritesTightened, outcome_status}
+use Rattle.vipr_command.specs.Tighten.{Settles, WritesFile, WritesTightened}
 use Rattle.vipr_command.specs.declared.fault.CommandFault.{CommandFault}
 use Rattle.vipr_command.specs.declared.fault.CommandFault.TheVariants.{Memory}
 use Rattle.vipr_command.proofs.InputLemmas.{of_input}

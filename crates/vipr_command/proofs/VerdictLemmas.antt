@@ -4,6 +4,7 @@ use Rattle.std.specs.Prelude.{IsErrAnd}
 use Rattle.vipr_spec.specs.Constraint.{Profile}
 use Rattle.vipr_spec.specs.Input.{Input}
 use Rattle.vipr_bytes.specs.Output.{Output}
+use Rattle.vipr_check.specs.Text.{verdict_status}
 use Rattle.vipr_check.specs.declared.verdict.Fault.{Fault as CheckFault}
 use Rattle.vipr_check.specs.declared.verdict.Fault.TheVariants.{Memory as CheckMemory}
 use Rattle.vipr_check.specs.declared.verdict.Fault.TheVariants.{Read as CheckRead}
@@ -12,7 +13,7 @@ use Rattle.vipr_command.specs.declared.fault.CommandFault.{CommandFault}
 use Rattle.vipr_command.specs.declared.fault.CommandFault.TheVariants.{Memory, Read, Write}
 use Rattle.vipr_command.specs.Text.{verdict_lines}
 use Rattle.vipr_command.specs.Output.{Took, Prints, after_first}
-use Rattle.vipr_command.specs.Run.{KnownInput, OfInput, PrintsVerdict, fault_for, status_for}
+use Rattle.vipr_command.specs.Run.{KnownInput, OfInput, PrintsVerdict, fault_for}
 use Rattle.vipr_command.proofs.InputLemmas.{of_input, of_fault}
 use Rattle.vipr_command.proofs.ShowLemmas.{stays}
 
@@ -22,7 +23,7 @@ module _ (P : Profile) (k : KnownInput) where
   none_to_print old CheckMemory h = stays old
 
   module _ (v : Verdict) (is_verdict : k.Checked P (Ok v)) (old new : Option Output) where
-    printed : (s : ℕ) → s ≡ status_for v → Prints (Some (verdict_lines v)) old new (Ok tt) → PrintsVerdict P k old new (Ok s)
+    printed : (s : ℕ) → s ≡ verdict_status v → Prints (Some (verdict_lines v)) old new (Ok tt) → PrintsVerdict P k old new (Ok s)
     printed s is (text, same, took) = (v, is_verdict, is, subst (λ t. Took old new t (Ok tt)) same took)
 
     not_printed : (f : CommandFault) → Prints (Some (verdict_lines v)) old new (Err f) → PrintsVerdict P k old new (Err f)
@@ -38,7 +39,7 @@ module _ (source : Option Input) (P : Profile) (old : Option Output) where
       of_fault source (λ k. k.Checked P (Err e)) (λ k r. PrintsVerdict P k old old r) (fault_for e) r is (λ k. none_to_print P k old e) h
 
   module _ (v : Verdict) (decided : OfInput source (λ k. k.Checked P (Ok v))) (new : Option Output) where
-    pub verdict_printed : (s : ℕ) → s ≡ status_for v → Prints (Some (verdict_lines v)) old new (Ok tt) → OfInput source (λ k. PrintsVerdict P k old new (Ok s))
+    pub verdict_printed : (s : ℕ) → s ≡ verdict_status v → Prints (Some (verdict_lines v)) old new (Ok tt) → OfInput source (λ k. PrintsVerdict P k old new (Ok s))
     verdict_printed s is p =
         of_input source (λ k. k.Checked P (Ok v)) (λ k. PrintsVerdict P k old new (Ok s)) (λ k h. printed P k v h old new s is p) decided
 

@@ -18,12 +18,12 @@ use Rattle.vipr_check.specs.Explanation.{explained_text}
 use Rattle.vipr_check.specs.Shown.{detail_of}
 use Rattle.vipr_check.specs.View.{IfVerified, IsOfProof, Says, answer_of}
 use Rattle.vipr_check.specs.Run.{SaysInDetail, verdict_in}
+use Rattle.vipr_check.specs.Text.{verdict_status}
 use Rattle.vipr_check.specs.declared.detail.Detail.{Detail}
 use Rattle.vipr_check.specs.declared.verdict.Fault.{Fault as CheckFault}
 use Rattle.vipr_check.specs.declared.verdict.Fault.TheVariants.{Memory as CheckMemory}
 use Rattle.vipr_check.specs.declared.verdict.Fault.TheVariants.{Read as CheckRead}
 use Rattle.vipr_check.specs.declared.verdict.Verdict.{Verdict}
-use Rattle.vipr_check.specs.declared.verdict.Verdict.TheVariants.{Refused, Verified}
 use Rattle.vipr_tighten.specs.Tightens.{KindOfText, any_kind, kind_read}
 use Rattle.vipr_write.specs.declared.form.Form.{Form}
 use Rattle.vipr_write.specs.declared.write.WriteError.{WriteError}
@@ -42,11 +42,6 @@ use Rattle.vipr_command.specs.declared.show.Shown.TheVariants as shown
 use Rattle.vipr_command.specs.declared.request.Job.{Job}
 use Rattle.vipr_command.specs.declared.request.Task.{Task}
 use Rattle.vipr_command.specs.declared.request.Task.TheVariants.{Check, Explain, Show, Tighten}
-
--- 0 if the certificate is verified, 1 if it is refused
-abbrev pub status_for : Verdict → ℕ
-status_for (Verified _) = 0
-status_for (Refused _) = 1
 
 -- 0 if the certificate is shown, 1 if its text is refused
 abbrev pub shown_status : Shown → ℕ
@@ -110,7 +105,7 @@ OfInput source P = P unknown_input × IfKnown source (λ i. P (known_by i))
 -- The verdict's lines were printed, and the status is the verdict's.
 abbrev pub PrintsVerdict : Profile → KnownInput → Option Output → Option Output
     → Result ℕ CommandFault → Type 0
-PrintsVerdict P k old new (Ok s) = (v : Verdict) × k.Checked P (Ok v) × (s ≡ status_for v)
+PrintsVerdict P k old new (Ok s) = (v : Verdict) × k.Checked P (Ok v) × (s ≡ verdict_status v)
     × Took old new (verdict_lines v) (Ok tt)
 PrintsVerdict P k old new (Err Read) = k.Checked P (Err CheckRead) × Stays old new
 PrintsVerdict P k old new (Err Memory) = Stays old new
@@ -121,7 +116,7 @@ PrintsVerdict P k old new (Err (Write n)) = (v : Verdict) × k.Checked P (Ok v)
 abbrev pub PrintsExplanation : Profile → KnownInput → Option Output → Option Output
     → Result ℕ CommandFault → Type 0
 PrintsExplanation P k old new (Ok s) = (v : Verdict) × (x : Detail) × k.Explained P (Ok (v, x))
-    × (s ≡ status_for v) × Took old new (explained_text v x) (Ok tt)
+    × (s ≡ verdict_status v) × Took old new (explained_text v x) (Ok tt)
 PrintsExplanation P k old new (Err Read) = k.Explained P (Err CheckRead) × Stays old new
 PrintsExplanation P k old new (Err Memory) = Stays old new
 PrintsExplanation P k old new (Err (Write n)) = (v : Verdict) × (x : Detail)
@@ -165,7 +160,7 @@ pub record Tells (t : Task) (P : Profile) (long sum : Bool) (i : Input) (v : Ver
 abbrev pub PrintsWhole : Task → Profile → Bool → Bool → Input → Option Output → Option Output
     → Result ℕ CommandFault → Type 0
 PrintsWhole t P long sum i old new (Ok s) = (v : Verdict) × (text : List ℕ)
-    × Tells t P long sum i v text × (s ≡ status_for v) × Took old new text (Ok tt)
+    × Tells t P long sum i v text × (s ≡ verdict_status v) × Took old new text (Ok tt)
 PrintsWhole t P long sum i old new (Err Read) =
     IsExplained P (text_of i) cut_short none × Stays old new
 PrintsWhole t P long sum i old new (Err Memory) = Stays old new

@@ -2,6 +2,7 @@
 use Rattle.std.specs.Prelude.{◌≡◌, ◌⊎◌, ℕ, List, Option, Some, None, IfSome, Result, Ok, Err}
 use Rattle.vipr_spec.specs.Constraint.{Profile}
 use Rattle.vipr_bytes.specs.Output.{Output}
+use Rattle.vipr_tighten.specs.Text.{outcome_status}
 use Rattle.vipr_tighten.specs.Tightens.{AreFigures, ForProof, KindOfText, TightensText}
 use Rattle.vipr_write.specs.declared.form.Form.{Form}
 use Rattle.vipr_tighten.specs.declared.outcome.Outcome.{Outcome}
@@ -11,11 +12,6 @@ use Rattle.vipr_tighten.specs.declared.outcome.TightenFault.TheVariants as tight
 use Rattle.vipr_command.specs.Folder.{Names, Replaces, Unchanged, UnchangedBut, whole_input}
 use Rattle.vipr_command.specs.declared.fault.CommandFault.{CommandFault}
 use Rattle.vipr_command.specs.declared.fault.CommandFault.TheVariants.{Memory, Read, Write}
-
--- 0 if the certificate is tightened, 1 if it is refused
-abbrev pub outcome_status : Outcome → ℕ
-outcome_status (Tightened kept removed before after) = 0
-outcome_status (Refused _) = 1
 
 abbrev pub tighten_fault_for : TightenFault → CommandFault
 tighten_fault_for tighten.Read = Read

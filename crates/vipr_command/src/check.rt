@@ -1,13 +1,12 @@
 //! Checks a certificate and prints the verdict.
-ghost use Rattle.std.specs.Prelude.{◌≡◌};
 ghost use Rattle.vipr_rules.specs.Profile.{profile_of};
-ghost use Rattle.vipr_command.specs.Run.{OfInput, PrintsVerdict, status_for};
+ghost use Rattle.vipr_command.specs.Run.{OfInput, PrintsVerdict};
 
 use crate::fault::CommandFault;
 use crate::output::print;
 use std::alloc::Global;
 use vipr_bytes::{Sink, Source};
-use vipr_check::{Table, Verdict, check_in};
+use vipr_check::{Table, check_in};
 use vipr_rules::Profile;
 
 /// Prints the verdict on a certificate by the rules of a profile, and answers the exit status.
@@ -22,15 +21,5 @@ pub fn print_verdict<R: Source + Drop, O: Sink>(
 {
     let verdict = check_in::<R, Table>(alloc, profile, source)?;
     print(alloc, &format_args!("{verdict}\n"), out)?;
-    Ok(status_of(&verdict))
-}
-
-/// The exit status of a verdict.
-pub fn status_of(verdict: &Verdict) -> u8
-    ensures { result ≡ status_for verdict.now }
-{
-    match verdict {
-        Verdict::Verified(_) => 0,
-        Verdict::Refused(_) => 1,
-    }
+    Ok(verdict.status())
 }

@@ -2,7 +2,6 @@
 ghost use Rattle.vipr_rules.specs.Profile.{profile_of};
 ghost use Rattle.vipr_command.specs.Run.{OfInput, PrintsExplanation};
 
-use crate::check::status_of;
 use crate::fault::CommandFault;
 use crate::output::print;
 use std::alloc::Global;
@@ -29,5 +28,5 @@ pub fn print_explanation<R: Source + Drop, O: Sink>(
     let printed = print(alloc, &explanation, out);
     drop(detail);
     printed?;
-    Ok(status_of(&verdict))
+    Ok(verdict.status())
 }

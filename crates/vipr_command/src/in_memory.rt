@@ -7,7 +7,7 @@ ghost use Rattle.vipr_command.specs.Run.{HasRead, IsPrinted, OfInput, PrintsChec
 ghost use Rattle.vipr_command.specs.Run.{PrintsInMemory, PrintsWhole, ReadsOn, input_of, sum_asked};
 ghost use Rattle.vipr_command.specs.Text.{answer_lines};
 
-use crate::check::{print_verdict, status_of};
+use crate::check::print_verdict;
 use crate::explain::print_explanation;
 use crate::fault::CommandFault;
 use crate::request::{Job, Task};
@@ -128,7 +128,7 @@ fn print_answer<O: Sink>(
     drop(detail);
     let printed = printed?;
     write_bytes(out, printed.as_slice())?;
-    Ok(status_of(&verdict))
+    Ok(verdict.status())
 }
 
 impl ReadText {

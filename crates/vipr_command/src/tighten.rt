@@ -1,8 +1,8 @@
 //! Tightens a certificate: writes what its proof needs.
-ghost use Rattle.std.specs.Prelude.{◌≡◌, option_map};
+ghost use Rattle.std.specs.Prelude.{option_map};
 ghost use Rattle.vipr_rules.specs.Profile.{profile_of};
 ghost use Rattle.vipr_command.specs.Run.{OfInput, PrintsTightened, outside_of};
-ghost use Rattle.vipr_command.specs.Tighten.{Settles, WritesFile, WritesTightened, outcome_status};
+ghost use Rattle.vipr_command.specs.Tighten.{Settles, WritesFile, WritesTightened};
 
 use crate::fault::CommandFault;
 use crate::folder::Folder;
@@ -59,7 +59,7 @@ fn write_file<D: Folder, R: Source + Drop, E: Write>(
     let tightened = tighten_as(alloc, job.profile, job.form, source, &mut place);
     let outcome = settle(files, name, place, tightened)?;
     say(err, &format_args!("{outcome}\n"));
-    Ok(status_of(&outcome))
+    Ok(outcome.status())
 }
 
 /// Keeps what was written of a certificate that was tightened, and nothing else.
@@ -107,14 +107,5 @@ pub fn write_tightened<R: Source + Drop, W: Sink, E: Write>(
 {
     let outcome = tighten_as(alloc, profile, form, source, sink)?;
     say(err, &format_args!("{outcome}\n"));
-    Ok(status_of(&outcome))
-}
-
-fn status_of(outcome: &Outcome) -> u8
-    ensures { result ≡ outcome_status outcome.now }
-{
-    match outcome {
-        Outcome::Tightened { .. } => 0,
-        Outcome::Refused(_) => 1,
-    }
+    Ok(outcome.status())
 }

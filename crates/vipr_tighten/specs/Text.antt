@@ -1,4 +1,4 @@
--- How an outcome is printed. The text has no line feed at its end
+-- How an outcome is printed, and its exit status. The text has no line feed at its end
 use Rattle.std.specs.Prelude.{ℕ, List, ◌++◌, codes, decimal}
 use Rattle.vipr_check.specs.Text.{refusal_text}
 use Rattle.vipr_tighten.specs.declared.outcome.Outcome.{Outcome}
@@ -11,6 +11,11 @@ outcome_text (Tightened kept removed before after) = codes "kept " ++ (decimal k
     ++ (codes " removed " ++ (decimal removed ++ (codes " peak " ++ (decimal before
     ++ (codes " " ++ decimal after))))))
 outcome_text (Refused refusal) = refusal_text refusal
+
+-- 0 if the certificate is tightened, 1 if it is refused
+abbrev pub outcome_status : Outcome → ℕ
+outcome_status (Tightened kept removed before after) = 0
+outcome_status (Refused refusal) = 1
 
 -- why there is no outcome
 abbrev pub no_outcome_text : TightenFault → List ℕ

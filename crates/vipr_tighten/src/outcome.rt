@@ -3,6 +3,9 @@
 //! A proof is tightened, with counts of what was kept and removed. A certificate that is no proof
 //! is refused as a check refuses it. A fault says how many bytes of the text were accepted.
 
+ghost use Rattle.std.specs.Prelude.{◌≡◌};
+ghost use Rattle.vipr_tighten.specs.Text.{outcome_status};
+
 use std::alloc::AllocError;
 use vipr_check::Refusal;
 
@@ -22,6 +25,18 @@ pub enum Outcome {
     },
     /// It is none. Nothing was written.
     Refused(Refusal),
+}
+
+impl Outcome {
+    /// The program's exit status: 0 if the certificate is tightened, 1 if it is refused.
+    pub fn status(&self) -> u8
+        ensures { result ≡ outcome_status self.now }
+    {
+        match self {
+            Outcome::Tightened { .. } => 0,
+            Outcome::Refused(_) => 1,
+        }
+    }
 }
 
 /// Why there is no outcome.

@@ -12,4 +12,4 @@ returns-in_err-print g c =
 
 pub returns : goal.returns
 returns g c =
-    verdict_printed (g.R.Source.input c.args.source) (profile_of c.args.profile) (g.O.Sink.output c.args.out.now) c.in_ok-verdict.verdict (c.in_ok-verdict.ensures.any, c.in_ok-verdict.ensures.exact) (g.O.Sink.output c.print.new.writer) c.status_of.result c.status_of.ensures c.in_ok-print.ensures.text
+    verdict_printed (g.R.Source.input c.args.source) (profile_of c.args.profile) (g.O.Sink.output c.args.out.now) c.in_ok-verdict.verdict (c.in_ok-verdict.ensures.any, c.in_ok-verdict.ensures.exact) (g.O.Sink.output c.print.new.writer) c.status.result c.status.ensures c.in_ok-print.ensures.text

@@ -12,4 +12,4 @@ returns-in_err-printed g c =
 
 pub returns : goal.returns
 returns g c =
-    printed (g.R.Source.input c.args.source) (profile_of c.args.profile) (g.O.Sink.output c.args.out.now) c.in_ok-verdict.verdict c.in_ok-verdict.detail (c.in_ok-verdict.ensures.verdict.any, c.in_ok-verdict.ensures.detail) (g.O.Sink.output c.print-printed.new.writer) c.status_of.result c.status_of.ensures c.in_ok-printed.ensures.text
+    printed (g.R.Source.input c.args.source) (profile_of c.args.profile) (g.O.Sink.output c.args.out.now) c.in_ok-verdict.verdict c.in_ok-verdict.detail (c.in_ok-verdict.ensures.verdict.any, c.in_ok-verdict.ensures.detail) (g.O.Sink.output c.print-printed.new.writer) c.status.result c.status.ensures c.in_ok-printed.ensures.text

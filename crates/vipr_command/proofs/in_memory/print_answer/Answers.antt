@@ -49,6 +49,6 @@ returns g c =
       c.in_ok-verdict.verdict,
       c.in_ok-printed.printed.items,
       told g k,
-      c.status_of.ensures,
+      c.status.ensures,
       subst (λ b. Took (g.O.Sink.output c.args.out.now) (g.O.Sink.output c.write_bytes.new.sink) b (Ok tt)) c.as_slice.ensures.value c.in_ok-write_bytes.ensures.output,
     )

@@ -42,4 +42,4 @@ returns g c =
     let before = g.D.Out.Sink.output c.in_ok-place.place in
     let after = g.D.Out.Sink.output c.tighten_as-tightened.new.sink in
     let r = c.tighten_as-tightened.result in
-    of_input source (λ k. TightensText P F (k.proof P) before after r) (λ k. WritesFile P F (k.proof P) old new name (Ok c.status_of.result)) (λ k. kept P F (k.proof P) old new name before after r c.in_ok-outcome.outcome c.status_of.result c.status_of.ensures c.in_ok-place.ensures c.in_ok-outcome.ensures) (known P F source before after r c.tighten_as-tightened.ensures.tightens)
+    of_input source (λ k. TightensText P F (k.proof P) before after r) (λ k. WritesFile P F (k.proof P) old new name (Ok c.status.result)) (λ k. kept P F (k.proof P) old new name before after r c.in_ok-outcome.outcome c.status.result c.status.ensures c.in_ok-place.ensures c.in_ok-outcome.ensures) (known P F source before after r c.tighten_as-tightened.ensures.tightens)

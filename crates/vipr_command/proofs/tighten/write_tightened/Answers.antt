@@ -14,4 +14,4 @@ returns g c =
     let old = g.W.Sink.output c.args.sink.now in
     let new = g.W.Sink.output c.tighten_as.new.sink in
     let x = c.in_ok-outcome.outcome in
-    of_input source (λ k. TightensText P F (k.proof P) old new (Ok x)) (λ k. WritesTightened P F (k.proof P) old new (Ok c.status_of.result)) (λ k. answered P F (k.proof P) old new x c.status_of.result c.status_of.ensures) (known P F source old new (Ok x) c.in_ok-outcome.ensures.tightens)
+    of_input source (λ k. TightensText P F (k.proof P) old new (Ok x)) (λ k. WritesTightened P F (k.proof P) old new (Ok c.status.result)) (λ k. answered P F (k.proof P) old new x c.status.result c.status.ensures) (known P F source old new (Ok x) c.in_ok-outcome.ensures.tightens)
