@@ -1,10 +1,9 @@
 //! What a program in C gets of a verdict.
 
-ghost use Rattle.std.specs.Prelude.{◌≡◌};
-ghost use Rattle.vipr_c.specs.AnswerOf.{status_of, answer_of_verdict};
+ghost use Rattle.std.specs.Prelude.{◌≡◌, Ok};
+ghost use Rattle.vipr_c.specs.AnswerOf.{answer_of_verdict};
 
-use crate::handed::NO_MEMORY;
-use vipr_check::{Fault, Place, Verdict};
+use vipr_check::{Place, Verdict};
 
 /// A verdict in numbers: all but those that the status asks for are 0.
 #[repr(C)]
@@ -39,22 +38,12 @@ pub(crate) const NOTHING: Answer = Answer {
     goal: 0,
 };
 
-/// The status that says whether there is a verdict, and which.
-pub(crate) fn status(verdict: &Result<Verdict, Fault>) -> i32
-    ensures { result ≡ status_of verdict.now }
-{
-    match verdict {
-        Ok(verdict) => i32::from(verdict.status()),
-        Err(_) => NO_MEMORY,
-    }
-}
-
 /// The numbers of a verdict.
-pub(crate) fn answer_of(verdict: &Result<Verdict, Fault>) -> Answer
-    ensures { result ≡ answer_of_verdict verdict.now }
+pub(crate) fn answer_of(verdict: &Verdict) -> Answer
+    ensures { result ≡ answer_of_verdict (Ok verdict.now) }
 {
     match verdict {
-        Ok(Verdict::Verified(report)) => Answer {
+        Verdict::Verified(report) => Answer {
             solutions: report.solutions,
             derived: report.derived,
             peak: report.peak as u64,
@@ -62,7 +51,7 @@ pub(crate) fn answer_of(verdict: &Result<Verdict, Fault>) -> Answer
             goal: report.goal.unwrap_or(0),
             ..NOTHING
         },
-        Ok(Verdict::Refused(refusal)) => {
+        Verdict::Refused(refusal) => {
             let (place, number) = match refusal.place {
                 Place::Byte(offset) => (1, offset),
                 Place::Sol(number) => (2, number as u64),
@@ -76,6 +65,5 @@ pub(crate) fn answer_of(verdict: &Result<Verdict, Fault>) -> Answer
                 ..NOTHING
             }
         }
-        Err(_) => NOTHING,
     }
 }

@@ -3,10 +3,10 @@
 
 mod answer;
 mod collected;
-mod handed;
 mod name;
 mod report;
 mod shown;
+mod status_and_text;
 mod tightened;
 
 ghost use Rattle.std.specs.Prelude.{◌≡◌, ℕ, List, Result, Some, codes, false, length};
@@ -14,14 +14,14 @@ ghost use Rattle.vipr_spec.specs.Causes.{cause_name};
 ghost use Rattle.vipr_check.specs.Checks.{Checks};
 ghost use Rattle.vipr_check.specs.declared.verdict.Fault.{Fault as Failure};
 ghost use Rattle.vipr_check.specs.declared.verdict.Verdict.{Verdict as Answered};
-ghost use Rattle.vipr_c.specs.AnswerOf.{status_of, answer_of_verdict};
+ghost use Rattle.vipr_c.specs.AnswerOf.{answer_of_verdict, status_of};
 ghost use Rattle.vipr_c.specs.Handed.{ExplainsAtLength, ExplainsBy, Fills, ReportsBy, ended};
 ghost use Rattle.vipr_c.specs.Handed.{profile_numbered};
 ghost use Rattle.vipr_c.specs.Written.{ReturnsText, TightensBy, form_flagged};
 
-use crate::answer::{Answer, answer_of, status};
-use crate::handed::end;
+use crate::answer::{Answer, NOTHING, answer_of};
 use crate::shown::form_flagged;
+use crate::status_and_text::{NO_MEMORY, end};
 use crate::tightened::Figures;
 use std::alloc::Global;
 use vipr_bytes::Bytes;
@@ -35,9 +35,16 @@ pub extern "C" fn vipr_check(alloc: Global, text: &[u8], answer: &mut Answer) ->
         × Checks (Some (record { bytes = text.now; fails = false })) r
         × (result ≡ status_of r) × (answer.new ≡ answer_of_verdict r) }
 {
-    let verdict = verdict_on(alloc, text);
-    *answer = answer_of(&verdict);
-    status(&verdict)
+    match verdict_on(alloc, text) {
+        Ok(verdict) => {
+            *answer = answer_of(&verdict);
+            i32::from(verdict.status())
+        }
+        Err(_) => {
+            *answer = NOTHING;
+            NO_MEMORY
+        }
+    }
 }
 
 fn verdict_on(alloc: Global, text: &[u8]) -> Result<Verdict, Fault>

@@ -7,7 +7,7 @@ ghost use Rattle.vipr_c.specs.Written.{ReturnsText, WritesWhole, form_flagged};
 
 use crate::answer::{Answer, NOTHING, answer_of};
 use crate::collected::Collected;
-use crate::handed::{Handed, NO_MEMORY};
+use crate::status_and_text::{NO_MEMORY, StatusAndText};
 use std::alloc::Global;
 use vipr_bytes::Bytes;
 use vipr_check::{Place, Refusal, Verdict};
@@ -26,19 +26,19 @@ pub(crate) fn form_flagged(compact: u32) -> Form
 }
 
 /// The text of the certificate that a text spells, in a form.
-pub(crate) fn shown(alloc: Global, form: Form, text: &[u8]) -> (Handed, Answer)
+pub(crate) fn shown(alloc: Global, form: Form, text: &[u8]) -> (StatusAndText, Answer)
     ensures { ReturnsText form text.now result.0.status result.0.text.items result.1 }
 {
     match respelled(alloc, form, text) {
         Ok(whole) => (written(alloc, &whole), NOTHING),
         Err(TextError::Refused { cause, offset }) => (
-            Handed::nothing(alloc, 1),
-            answer_of(&Ok(Verdict::Refused(Refusal {
+            StatusAndText::nothing(alloc, 1),
+            answer_of(&Verdict::Refused(Refusal {
                 cause,
                 place: Place::Byte(offset),
-            }))),
+            })),
         ),
-        Err(_) => (Handed::nothing(alloc, NO_MEMORY), NOTHING),
+        Err(_) => (StatusAndText::nothing(alloc, NO_MEMORY), NOTHING),
     }
 }
 
@@ -48,15 +48,15 @@ fn respelled(alloc: Global, form: Form, text: &[u8]) -> Result<FoldedText, TextE
     respell(alloc, form, Bytes::new(text))
 }
 
-fn written(alloc: Global, text: &FoldedText) -> Handed
+fn written(alloc: Global, text: &FoldedText) -> StatusAndText
     ensures { WritesWhole text.now.bytes result.status result.text.items }
 {
     let mut out = Collected::new(alloc);
     match text.write_to(alloc, &mut out) {
-        Ok(()) => Handed {
+        Ok(()) => StatusAndText {
             status: 0,
             text: out.bytes,
         },
-        Err(_) => Handed::nothing(alloc, NO_MEMORY),
+        Err(_) => StatusAndText::nothing(alloc, NO_MEMORY),
     }
 }

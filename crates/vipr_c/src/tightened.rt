@@ -8,7 +8,7 @@ ghost use Rattle.vipr_c.specs.Written.{IsTightened, TightensBy, figures_of, hold
 
 use crate::answer::answer_of;
 use crate::collected::Collected;
-use crate::handed::{Handed, NO_MEMORY, NO_PROFILE, profile_numbered};
+use crate::status_and_text::{NO_MEMORY, NO_PROFILE, StatusAndText, profile_numbered};
 use std::alloc::Global;
 use vipr_bytes::Bytes;
 use vipr_check::Verdict;
@@ -48,16 +48,21 @@ const NO_FIGURES: Figures = Figures {
 };
 
 /// The text of the tightened certificate in a form, by the rules of the profile with this number.
-pub(crate) fn tightened(alloc: Global, profile: u32, form: Form, text: &[u8]) -> (Handed, Figures)
+pub(crate) fn tightened(
+    alloc: Global,
+    profile: u32,
+    form: Form,
+    text: &[u8],
+) -> (StatusAndText, Figures)
     ensures { TightensBy (profile_numbered profile) form text.now result.0.status
         result.0.text.items result.1 }
 {
     let Some(profile) = profile_numbered(profile) else {
-        return (Handed::nothing(alloc, NO_PROFILE), NO_FIGURES);
+        return (StatusAndText::nothing(alloc, NO_PROFILE), NO_FIGURES);
     };
     match tightened_by(alloc, profile, form, text) {
         Ok(tightened) => tightened,
-        Err(_) => (Handed::nothing(alloc, NO_MEMORY), NO_FIGURES),
+        Err(_) => (StatusAndText::nothing(alloc, NO_MEMORY), NO_FIGURES),
     }
 }
 
@@ -66,13 +71,13 @@ fn tightened_by(
     profile: Profile,
     form: Form,
     text: &[u8],
-) -> Result<(Handed, Figures), TightenFault>
+) -> Result<(StatusAndText, Figures), TightenFault>
     ensures { IfOk result (λ x. IsTightened form text.now (profile_of profile) x.0.status
         x.0.text.items x.1) }
 {
     let mut out = Collected::new(alloc);
     let outcome = tighten_into(alloc, profile, form, text, &mut out)?;
-    let made = Handed {
+    let made = StatusAndText {
         status: i32::from(outcome.status()),
         text: out.bytes,
     };
@@ -109,7 +114,7 @@ fn figures_of(outcome: &Outcome) -> Figures
             ..NO_FIGURES
         },
         Outcome::Refused(refusal) => {
-            let answer = answer_of(&Ok(Verdict::Refused(*refusal)));
+            let answer = answer_of(&Verdict::Refused(*refusal));
             Figures {
                 cause: answer.cause,
                 place: answer.place,

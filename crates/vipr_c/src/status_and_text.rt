@@ -15,42 +15,42 @@ pub(crate) const NO_MEMORY: i32 = 3;
 
 /// A status, and the text that comes with it.
 #[derive(Drop)]
-pub(crate) struct Handed {
+pub(crate) struct StatusAndText {
     pub(crate) status: i32,
     pub(crate) text: Vec<u8>,
 }
 
-impl Handed {
+impl StatusAndText {
     /// A status without a text.
-    pub(crate) fn nothing(alloc: Global, status: i32) -> Handed
+    pub(crate) fn nothing(alloc: Global, status: i32) -> StatusAndText
         ensures status { result.status ≡ status }
         ensures text { result.text.items ≡ [] }
     {
-        Handed {
+        StatusAndText {
             status,
             text: Vec::new(alloc),
         }
     }
 
     /// Lines on a verdict, with its status.
-    pub(crate) fn of_verdict(verdict: &Verdict, text: Vec<u8>) -> Handed
+    pub(crate) fn of_verdict(verdict: &Verdict, text: Vec<u8>) -> StatusAndText
         ensures status { result.status ≡ status_of (Ok verdict.now) }
         ensures text { result.text.items ≡ text.items }
     {
-        Handed {
+        StatusAndText {
             status: i32::from(verdict.status()),
             text,
         }
     }
 
     /// What was made, or a status alone if there was no memory for it.
-    pub(crate) fn or_no_memory(alloc: Global, made: Result<Handed, Fault>) -> Handed
+    pub(crate) fn or_no_memory(alloc: Global, made: Result<StatusAndText, Fault>) -> StatusAndText
         ensures { MatchResult made (λ handed. result ≡ handed)
             (λ _. HasNoMemory result.status result.text.items) }
     {
         match made {
             Ok(handed) => handed,
-            Err(_) => Handed::nothing(alloc, NO_MEMORY),
+            Err(_) => StatusAndText::nothing(alloc, NO_MEMORY),
         }
     }
 
