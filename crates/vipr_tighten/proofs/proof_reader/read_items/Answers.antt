@@ -2,7 +2,6 @@ use Rattle.std.proofs.Common.{map, sym, ◌∙◌, ap}
 use Rattle.vipr_spec.specs.Certificate.{Problem}
 use Rattle.vipr_spec.specs.Tests.{none}
 use Rattle.vipr_cert.specs.Items.{solution_of}
-use Rattle.vipr_check.specs.declared.no_proof.NoProof.TheVariants as reason
 use Rattle.vipr_check.specs.Reasons.{text_reason}
 use Rattle.vipr_tighten.proofs.Reading.{err_given, unread_answers, at_then, later_answers}
 use Rattle.vipr_tighten.proofs.Reading.{proof_kept}
