@@ -9,7 +9,7 @@ ghost use Rattle.std.specs.Prelude.{◌≡◌, ◌≢◌, ◌↔◌, ◌⊎◌, 
 ghost use Rattle.std.specs.Prelude.{IsTrue, IsOk, IsSome, IsNone, IfOk, IfErr, OnOk, OnErr};
 ghost use Rattle.std.specs.Prelude.{MatchOption, Some, None};
 ghost use Rattle.vipr_spec.specs.Fraction.{◌+ℚ◌, ◌*ℚ◌};
-ghost use Rattle.vipr_spec.specs.Constraint.{Point, at, NamesBelow, value, ValueFits};
+ghost use Rattle.vipr_spec.specs.Constraint.{Point, at, NamesBelow, value, ValueFits, Compares};
 ghost use Rattle.vipr_spec.specs.Constraint.{IsAbsurd, Dominates, IsWholeRow, DominatesRounded};
 ghost use Rattle.vipr_spec.specs.MoreEntries as combined;
 ghost use Rattle.vipr_spec.specs.MoreEntries.{TermFits};
@@ -241,13 +241,21 @@ fn are_absurd(places: &Places, sense: Sense, bound: Frac) -> bool
     !compares(sense, Frac::zero(), bound) && places.are_zero()
 }
 
+// Whether a bound compares so with a right-hand side. It mostly is the same.
+#[inline(always)]
+fn reaches(sense: Sense, bound: Frac, rhs: Frac) -> bool
+    ensures { IsTrue result ↔ Compares (sense_of sense) bound rhs }
+{
+    bound == rhs || compares(sense, bound, rhs)
+}
+
 // Whether sums with this sense and this right-hand side have a constraint's row, and say as much.
 fn say_as_much(places: &Places, sense: Sense, bound: Frac, other: &Constraint) -> bool
     ensures { IsTrue result
         ↔ SaysAsMuch (summed_condition places.now (sense_of sense) bound) (condition_of other.now) }
 {
     (sense == other.sense || sense == Sense::E)
-        && compares(other.sense, bound, other.rhs)
+        && reaches(other.sense, bound, other.rhs)
         && places.are_row(&other.row)
 }
 
