@@ -13,7 +13,7 @@ use Rattle.vipr_bytes.specs.Output.{Output}
 use Rattle.vipr_bytes.specs.Written.{Wrote}
 use Rattle.vipr_linear.specs.Constraint.{constraint_of}
 use Rattle.vipr_linear.specs.declared.constraint.Constraint.{Constraint as ConstraintItem}
-use Rattle.vipr_cert.specs.Items.{named_of, solution_of}
+use Rattle.vipr_cert.specs.Items.{named_of}
 use Rattle.vipr_cert.specs.declared.items.Named.{Named as NamedItem}
 use Rattle.vipr_check.specs.View.{report_of}
 use Rattle.vipr_write.specs.declared.form.Form.{Form}
@@ -82,7 +82,7 @@ module _ (P : Profile) (F : Form) (c : Certificate) (k : KeptProof) (is : IsKept
     tight_stand : StandFor kept (statement_in k.statements) first (tightened_certificate texts k.report.goal)
     tight_stand = record { first_is = first_is; those = all (statement_in k.statements) texts stand }
 
-    pub tight_steps : AreStepsOf tightened k.problem (map solution_of k.solutions.items) k.statements kept
+    pub tight_steps : AreStepsOf tightened k.problem k.solutions.bytes.items k.statements kept
     tight_steps = record {
       writes = can_write c k.report.goal is.steps.writes;
       problem = is.steps.problem;

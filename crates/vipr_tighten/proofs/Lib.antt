@@ -7,6 +7,7 @@ mod Renumbering
 mod Tightening
 mod Alike
 mod KeptTexts
+mod Lines
 mod Reading
 mod Held
 mod Outcomes

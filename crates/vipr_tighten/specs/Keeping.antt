@@ -1,9 +1,9 @@
 -- A checker run over a text, item by item, while the items are kept
-use Rattle.std.specs.Prelude.{◌≡◌, ℕ, ◌<◌, ◌^◌, false, List, [], map, All, None, IsSome, Ok}
+use Rattle.std.specs.Prelude.{◌≡◌, ℕ, ◌<◌, ◌^◌, false, List, [], All, None, IsSome, Ok}
 use Rattle.vipr_spec.specs.Constraint.{Profile, Row}
 use Rattle.vipr_spec.specs.Certificate.{Named, Problem, Derivation, Certificate, count, IsProof}
 use Rattle.vipr_spec.specs.Reading.{Rest, end_read}
-use Rattle.vipr_spec.specs.Shape.{DerivationShape, DerivationFits}
+use Rattle.vipr_spec.specs.Shape.{RowFits, SolutionShape, DerivationShape, DerivationFits}
 use Rattle.vipr_spec.specs.Soundness.{IsShown}
 use Rattle.vipr_spec.specs.Tests.{Detail}
 use Rattle.vipr_spec.specs.Input.{Input}
@@ -11,7 +11,6 @@ use Rattle.vipr_spec.specs.Verdict.{Found, found_in, Answer, Reports, verified, 
 use Rattle.vipr_spec.specs.Progress.{solutions_from, derivations_from}
 use Rattle.vipr_bytes.specs.Known.{text_of}
 use Rattle.vipr_scan.specs.Giving.{rest_of}
-use Rattle.vipr_cert.specs.Items.{solution_of}
 use Rattle.vipr_read.specs.Items.{Items}
 use Rattle.vipr_check.specs.View.{report_of}
 use Rattle.vipr_check.specs.Progress.{HasSteps}
@@ -24,6 +23,7 @@ use Rattle.vipr_write.specs.declared.form.Form.{Form}
 use Rattle.vipr_write.specs.declared.statements.Statement.{Statement}
 use Rattle.vipr_write.specs.declared.statements.Statements.{Statements}
 use Rattle.vipr_write.specs.declared.statements.Step.{Step}
+use Rattle.vipr_write.specs.Canonical.{solutions_lines, lines_text}
 use Rattle.vipr_write.specs.Steps.{AreKept, AreStepsOf}
 use Rattle.vipr_tighten.specs.declared.proof_reader.KeptProof.{KeptProof}
 
@@ -111,7 +111,13 @@ pub record KeepsProof (P : Profile) (p : Problem) (r : Items) (c : Certificate)
   pub shown : IsShown c.problem c.solutions c.problem.claim
   pub found : IsSome r.rest → AnswersProof P (solutions_left p [] r) c report
 
--- ---- the derivations, whose names and constraints are kept as text
+-- ---- the solutions, and the derivations, whose names and constraints are kept as text
+
+-- these are the lines of the solutions ss, which are over n variables and can be written
+pub record KeepsLines (n : ℕ) (kept : List ℕ) (ss : List (Named Row)) : Type 0 where
+  pub text : kept ≡ lines_text (solutions_lines ss)
+  pub shapes : All (SolutionShape n) ss
+  pub fit : All (λ (s : Named Row). RowFits s.item) ss
 
 -- the text is for the same form and the same objective
 pub record IsForSame (old new : Statements) : Type 0 where
@@ -132,7 +138,7 @@ pub record KeepsSteps (n : ℕ) (t : Statements) (steps : List (Step Statement))
 
 -- this is kept of the proof c, for a text in the form F
 pub record IsKeptOf (P : Profile) (F : Form) (c : Certificate) (kept : KeptProof) : Type 0 where
-  pub steps : AreStepsOf c kept.problem (map solution_of kept.solutions.items) kept.statements
+  pub steps : AreStepsOf c kept.problem kept.solutions.bytes.items kept.statements
       kept.steps.items
   pub form : kept.statements.form ≡ F
   pub proof : IsProof P c

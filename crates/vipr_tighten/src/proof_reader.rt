@@ -1,38 +1,39 @@
 //! Reads a certificate: each item is checked before the next one is read, and kept.
 
-ghost use Rattle.std.specs.Prelude.{◌≡◌, ◌<◌, ◌^◌, false, List, [], All, map, IfOk, IfErr, IsSome};
+ghost use Rattle.std.specs.Prelude.{◌≡◌, ◌<◌, ◌^◌, false, List, [], IfOk, IfErr, IsSome};
 ghost use Rattle.std.specs.Prelude.{OnOk};
 ghost use Rattle.vipr_spec.specs.Constraint.{Profile as ProfileMeant, Row};
 ghost use Rattle.vipr_spec.specs.Certificate.{Named as NamedMeant, Problem as ProblemMeant};
 ghost use Rattle.vipr_spec.specs.Certificate.{Derivation as DerivationMeant};
 ghost use Rattle.vipr_spec.specs.Certificate.{Certificate as CertificateMeant};
 ghost use Rattle.vipr_spec.specs.Checking.{start};
-ghost use Rattle.vipr_spec.specs.Shape.{RowFits, SolutionShape, CanWriteProblem, CanWrite};
+ghost use Rattle.vipr_spec.specs.Shape.{CanWriteProblem, CanWrite};
 ghost use Rattle.vipr_spec.specs.Steps.{with_more};
 ghost use Rattle.vipr_bytes.specs.Known.{IfKnown};
-ghost use Rattle.vipr_cert.specs.Items.{solution_of};
 ghost use Rattle.vipr_read.specs.Items.{Knows};
 ghost use Rattle.vipr_rules.specs.Profile.{profile_of};
+ghost use Rattle.vipr_write.specs.Canonical.{lines_text, solutions_lines};
 ghost use Rattle.vipr_write.specs.Steps.{AreKept};
 ghost use Rattle.vipr_check.specs.Run.{IsAmong, IsAt};
-ghost use Rattle.vipr_tighten.specs.Keeping.{found_by, AnswersProof, AnswersWhy, KeepsMet};
-ghost use Rattle.vipr_tighten.specs.Keeping.{KeepsFinished, KeepsProof, KeepsSteps, IsKeptOf};
+ghost use Rattle.vipr_tighten.specs.Keeping.{found_by, AnswersProof, AnswersWhy, KeepsLines};
+ghost use Rattle.vipr_tighten.specs.Keeping.{KeepsMet, KeepsFinished, KeepsProof, KeepsSteps};
+ghost use Rattle.vipr_tighten.specs.Keeping.{IsKeptOf};
 ghost use Rattle.vipr_tighten.specs.Keeping.{IsForSame, IsFor, solutions_left, derivations_left};
 
 use std::alloc::Global;
-use vipr_bytes::Source;
-use vipr_cert::{Derivation, Named, Problem};
+use vipr_bytes::{Growing, Out, Source};
+use vipr_cert::{Derivation, Problem};
 use vipr_check::{Checker, NoProof, Report, Table};
-use vipr_linear::Solution;
 use vipr_read::{CertReader, Derivations, Solutions};
 use vipr_rules::Profile;
-use vipr_write::{Form, Statement, Statements, Step};
+use vipr_write::{Form, Statement, Statements, Step, put_heading, put_solution};
 
-/// A proof, of whose derivations the names and the constraints are kept as text.
+/// A proof. Its solutions are kept as text, and so are the names and the constraints of its
+/// derivations.
 #[derive(Drop)]
 pub(crate) struct KeptProof {
     pub(crate) problem: Problem,
-    pub(crate) solutions: Vec<Named<Solution>>,
+    pub(crate) solutions: Growing,
     pub(crate) statements: Statements,
     pub(crate) steps: Vec<Step<Statement>>,
     pub(crate) report: Report,
@@ -86,7 +87,7 @@ fn read_rest<R: Source + Drop>(
         drop(solutions);
         return Err(NoProof::Memory);
     };
-    let mut listed = Vec::new(alloc);
+    let mut listed = Growing::new(alloc);
     let mut steps = Vec::new(alloc);
     let read = read_items(
         alloc,
@@ -115,28 +116,27 @@ fn read_rest<R: Source + Drop>(
     }
 }
 
-// The solutions and the derivations that follow, up to the end of the text. The steps are kept
-// with their statements. Gives the report of the proof that they make.
+// The solutions and the derivations that follow, up to the end of the text. The solutions are kept
+// as text, and the steps with their statements. Gives the report of the proof that they make.
 fn read_items<R: Source + Drop>(
     alloc: Global,
     checker: &mut Checker<Table>,
     form: Form,
     mut solutions: Solutions<R>,
-    listed: &mut Vec<Named<Solution>>,
+    listed: &mut Growing,
     steps: &mut Vec<Step<Statement>>,
 ) -> Result<(Statements, Report), NoProof>
     requires among { (P : ProfileMeant) × (p : ProblemMeant)
         × IsAmong P p [] checker.old solutions }
-    requires none_listed { listed.old.items ≡ [] }
+    requires none_listed { listed.old.bytes.items ≡ [] }
     requires no_steps { steps.old.items ≡ [] }
     ensures kept { IfOk result (λ x. (P : ProfileMeant) (p : ProblemMeant)
         → IsAmong P p [] checker.old solutions
-        → (checker.new.progress.problem ≡ p) × IsFor form p x.0 × (ds : List DerivationMeant)
+        → (checker.new.progress.problem ≡ p) × IsFor form p x.0 × (ss : List (NamedMeant Row))
+        × (ds : List DerivationMeant) × (listed.new.bytes.items ≡ lines_text (solutions_lines ss))
         × AreKept x.0 steps.new.items ds
-        × (CanWriteProblem p
-        → CanWrite (with_more (start p (map solution_of listed.new.items)) ds))
-        × KeepsProof P p solutions (with_more (start p (map solution_of listed.new.items)) ds)
-        x.1) }
+        × (CanWriteProblem p → CanWrite (with_more (start p ss) ds))
+        × KeepsProof P p solutions (with_more (start p ss) ds) x.1) }
     ensures unproved { IfErr result (λ e. (P : ProfileMeant) (p : ProblemMeant)
         → IsAmong P p [] checker.old solutions → IsSome solutions.rest
         → AnswersWhy P (solutions_left p [] solutions) e) }
@@ -170,28 +170,26 @@ fn read_items<R: Source + Drop>(
     }
 }
 
-// All solutions that follow, where they meet the primal side of the claim.
+// All solutions that follow, where they meet the primal side of the claim. They are kept as text.
 fn read_listed<R: Source>(
     alloc: Global,
     checker: &mut Checker<Table>,
     solutions: &mut Solutions<R>,
-    listed: &mut Vec<Named<Solution>>,
+    listed: &mut Growing,
 ) -> Result<(), NoProof>
     requires among { (P : ProfileMeant) × (p : ProblemMeant)
         × IsAmong P p [] checker.old solutions.old }
-    requires none_listed { listed.old.items ≡ [] }
+    requires none_listed { listed.old.bytes.items ≡ [] }
     ensures none { OnOk result (solutions.new.left ≡ 0) }
-    ensures items { OnOk result
-        (All (SolutionShape solutions.old.variables) (map solution_of listed.new.items)
-        × All (λ s. RowFits s.item) (map solution_of listed.new.items)) }
-    ensures kept { OnOk result ((P : ProfileMeant) (p : ProblemMeant)
-        → IsAmong P p [] checker.old solutions.old
-        → KeepsMet P p solutions.old (map solution_of listed.new.items) checker.new
-        solutions.new) }
+    ensures kept { OnOk result ((ss : List (NamedMeant Row))
+        × KeepsLines solutions.old.variables listed.new.bytes.items ss
+        × ((P : ProfileMeant) (p : ProblemMeant) → IsAmong P p [] checker.old solutions.old
+        → KeepsMet P p solutions.old ss checker.new solutions.new)) }
     ensures unproved { IfErr result (λ e. (P : ProfileMeant) (p : ProblemMeant)
         → IsAmong P p [] checker.old solutions.old → IsSome solutions.old.rest
         → AnswersWhy P (solutions_left p [] solutions.old) e) }
 {
+    put_heading(listed, b"SOL", solutions.left() as usize);
     'solutions: loop {
         match solutions.next(alloc)? {
             Some(solution) => {
@@ -199,10 +197,14 @@ fn read_listed<R: Source>(
                     drop(solution);
                     return Err(NoProof::from(stop));
                 }
-                listed.push(solution)?;
+                put_solution(listed, &solution);
+                drop(solution);
             }
             None => {
                 checker.end_solutions()?;
+                if listed.has_failed() {
+                    return Err(NoProof::Memory);
+                }
                 return Ok(());
             }
         }

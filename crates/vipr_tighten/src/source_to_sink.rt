@@ -136,7 +136,8 @@ fn write_tightened<W: Sink>(
     } = &*proof;
     let peak_after = peak(alloc, first, steps)?;
     let kept = steps.len() as u32;
-    match write_steps(alloc, problem, solutions, statements, steps, sink) {
+    let lines = solutions.as_slice();
+    match write_steps(alloc, problem, lines, statements, steps, sink) {
         Ok(()) => Ok(Outcome::Tightened {
             kept,
             removed: report.derived - kept,

@@ -12,9 +12,9 @@ use Rattle.std.proofs.lemmas.List.Elements.{All-push, All-head, All-tail, All-ni
 use Rattle.vipr_spec.specs.Number.{number_text}
 use Rattle.vipr_spec.specs.Fraction.{zero_ℚ}
 use Rattle.vipr_spec.specs.Constraint.{Row, Constraint, equal}
-use Rattle.vipr_write.specs.Canonical.{sense_word, reason_words, last_word, solutions_lines}
+use Rattle.vipr_write.specs.Canonical.{sense_word, reason_words, last_word}
 use Rattle.vipr_write.specs.Canonical.{heading, words_after_spaces, line_text, lines_text}
-use Rattle.vipr_spec.specs.Certificate.{Named, Problem, Derivation, Certificate}
+use Rattle.vipr_spec.specs.Certificate.{Problem, Derivation, Certificate}
 use Rattle.vipr_write.specs.StepReasons.{kept_reason_of}
 use Rattle.vipr_write.specs.Forms.{row_words, constraint_words_in, derivation_words_in}
 use Rattle.vipr_write.specs.Forms.{problem_lines_in, derivations_lines_in, text_in}
@@ -238,13 +238,12 @@ lines_are form objective t (s ∷ steps) (d ∷ ds) e =
     let others = lines_are form objective t steps ds (rest_of (map (step_of (statement_in t)) steps) (map (as_text form objective) ds) (step_of (statement_in t) s) (as_text form objective d) e) in
     (ap suc others.0, ap₂ (λ x l. x ++ l) (line_is form objective t s d one) others.1)
 
-pub steps_are : (c : Certificate) (p : Problem) (ss : List (Named Row)) (t : Statements)
-    (steps : List (Step Statement)) → AreStepsOf c p ss t steps
-    → (lines_text (problem_lines_in t.form p) ++ lines_text (solutions_lines ss))
-    ++ steps_section t steps ≡ text_in t.form c
-steps_are c p ss t steps of =
+pub steps_are : (c : Certificate) (p : Problem) (ls : List ℕ) (t : Statements)
+    (steps : List (Step Statement)) → AreStepsOf c p ls t steps
+    → (lines_text (problem_lines_in t.form p) ++ ls) ++ steps_section t steps ≡ text_in t.form c
+steps_are c p ls t steps of =
     let lines = lines_are t.form t.objective t steps c.derivations of.those in
     sym (certificate_parts t.form c
-    ∙ ap₂ (λ q rs. (lines_text (problem_lines_in t.form q) ++ lines_text (solutions_lines rs)) ++ lines_text (derivations_lines_in t.form c.problem.objective c.derivations)) of.problem of.solutions
-    ∙ ap (λ o. (lines_text (problem_lines_in t.form p) ++ lines_text (solutions_lines ss)) ++ lines_text (derivations_lines_in t.form o c.derivations)) (sym of.objective)
-    ∙ ap₂ (λ n l. (lines_text (problem_lines_in t.form p) ++ lines_text (solutions_lines ss)) ++ (line_text (heading (codes "DER") n) ++ l)) (sym lines.0) (sym lines.1))
+    ∙ ap₂ (λ q rs. (lines_text (problem_lines_in t.form q) ++ rs) ++ lines_text (derivations_lines_in t.form c.problem.objective c.derivations)) of.problem (sym of.solutions)
+    ∙ ap (λ o. (lines_text (problem_lines_in t.form p) ++ ls) ++ lines_text (derivations_lines_in t.form o c.derivations)) (sym of.objective)
+    ∙ ap₂ (λ n l. (lines_text (problem_lines_in t.form p) ++ ls) ++ (line_text (heading (codes "DER") n) ++ l)) (sym lines.0) (sym lines.1))

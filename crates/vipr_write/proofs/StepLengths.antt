@@ -1,5 +1,5 @@
 -- A text of few words and bytes is short
-use Rattle.std.proofs.Common.{◌≡◌, ℕ, suc, ◌+◌, ◌*◌, ◌^◌, ◌<◌, ◌≤◌, List, [], ◌∷◌, ◌++◌, length}
+use Rattle.std.proofs.Common.{◌≡◌, ℕ, ◌+◌, ◌*◌, ◌^◌, ◌<◌, ◌≤◌, List, [], ◌∷◌, ◌++◌, length}
 use Rattle.std.proofs.Common.{map, All, codes, sym, ap, ◌∙◌, subst, arith}
 use Rattle.std.specs.List.{flat_map, sum_by}
 use Rattle.std.proofs.lemmas.Grind.{flat_map-append}
@@ -8,10 +8,10 @@ use Rattle.std.proofs.lemmas.List.Sums.{sum_by-cons}
 use Rattle.std.proofs.lemmas.List.Elements.{All-head, All-tail}
 use Rattle.vipr_spec.specs.Tokens.{IsToken}
 use Rattle.vipr_spec.specs.Constraint.{Row}
-use Rattle.vipr_spec.specs.Certificate.{Named, Problem, Derivation, Certificate}
+use Rattle.vipr_spec.specs.Certificate.{Problem, Derivation, Certificate}
 use Rattle.vipr_spec.proofs.Laws.{all_parts}
 use Rattle.vipr_write.specs.StepReasons.{kept_reason_of}
-use Rattle.vipr_write.specs.Canonical.{reason_words, last_word, solution_words, solutions_lines}
+use Rattle.vipr_write.specs.Canonical.{reason_words, last_word, solutions_lines}
 use Rattle.vipr_write.specs.Canonical.{heading, problem_lines, words_after_spaces, line_text}
 use Rattle.vipr_write.specs.Canonical.{lines_text}
 use Rattle.vipr_write.specs.Forms.{constraint_words_in, derivation_words_in, problem_lines_in}
@@ -68,11 +68,11 @@ steps_short form objective t (s ∷ steps) (d ∷ ds) e a =
     let first = step_short t s reason last in
     omega (arith, first, rest, length-append (step_line t s) (flat_map (step_line t) steps), sum_by-cons (step_weight t) s steps)
 
-pub text_countable : (c : Certificate) (p : Problem) (ss : List (Named Row)) (t : Statements)
-    (steps : List (Step Statement)) → AreStepsOf c p ss t steps
-    → weight (problem_lines p) + 3 + weight (map solution_words ss) + 3
-    + sum_by (step_weight t) steps < 2 ^ 48 → length (text_in t.form c) < 2 ^ 64
-text_countable c p ss t steps of few =
+pub text_countable : (c : Certificate) (p : Problem) (ls : List ℕ) (t : Statements)
+    (steps : List (Step Statement)) → AreStepsOf c p ls t steps
+    → weight (problem_lines p) + 3 + length ls + sum_by (step_weight t) steps < 2 ^ 48
+    → length (text_in t.form c) < 2 ^ 64
+text_countable c p ls t steps of few =
     let form = t.form in
     let ps = problem_lines_in form c.problem in
     let rs = solutions_lines c.solutions in
@@ -85,19 +85,15 @@ text_countable c p ss t steps of few =
     let those = subst (λ o. map (step_of (statement_in t)) steps ≡ map (as_text form o) c.derivations) of.objective of.those in
     let h = steps_short form c.problem.objective t steps c.derivations those steps_tokens.1 in
     let p_short = lines_short ps split.0 in
-    let s_short = lines_short rs later.0 in
     let p_fewer = problem_fewer form c.problem in
     let p_same = ap (λ q. weight (problem_lines q)) of.problem in
-    let s_same = ap (λ q. weight (solutions_lines q)) of.solutions in
-    let s_cons = sum_by-cons (λ (ws : List (List ℕ)). suc (length ws)) (heading (codes "SOL") (length ss)) (map solution_words ss) in
     let head = heading_short (length c.derivations) (length steps) steps_tokens.0 (steps_count form c.problem.objective t steps c.derivations those) in
-    let whole = ap length (steps_are c p ss t steps of) in
-    let a = length-append (lines_text (problem_lines_in form p) ++ lines_text (solutions_lines ss)) (steps_section t steps) in
-    let b = length-append (lines_text (problem_lines_in form p)) (lines_text (solutions_lines ss)) in
+    let whole = ap length (steps_are c p ls t steps of) in
+    let a = length-append (lines_text (problem_lines_in form p) ++ ls) (steps_section t steps) in
+    let b = length-append (lines_text (problem_lines_in form p)) ls in
     let d = length-append (line_text (heading (codes "DER") (length steps))) (flat_map (step_line t) steps) in
     let p_text = ap (λ q. length (lines_text (problem_lines_in form q))) of.problem in
-    let s_text = ap (λ q. length (lines_text (solutions_lines q))) of.solutions in
-    omega (arith, few, h, p_short, s_short, p_fewer, p_same, s_same, s_cons, head, whole, a, b, d, p_text, s_text)
+    omega (arith, few, h, p_short, p_fewer, p_same, head, whole, a, b, d, p_text)
   where
     steps_count : (form : Form) (objective : Row) (t : Statements) (steps : List (Step Statement)) (ds : List Derivation) → map (step_of (statement_in t)) steps ≡ map (as_text form objective) ds → length ds ≡ length steps
     steps_count form objective t steps ds e = sym (sym (length-map steps (step_of (statement_in t))) ∙ ap length e ∙ length-map ds (as_text form objective))

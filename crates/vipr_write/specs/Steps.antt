@@ -8,7 +8,7 @@ use Rattle.vipr_spec.specs.Certificate.{Named, Problem, Derivation, Certificate}
 use Rattle.vipr_spec.specs.Shape.{CanWrite}
 use Rattle.vipr_write.specs.StepReasons.{kept_reason_of}
 use Rattle.vipr_write.specs.Canonical.{reason_words, last_word, words_after_spaces, heading}
-use Rattle.vipr_write.specs.Canonical.{line_text}
+use Rattle.vipr_write.specs.Canonical.{line_text, lines_text, solutions_lines}
 use Rattle.vipr_write.specs.Forms.{row_words, constraint_words_in}
 use Rattle.vipr_write.specs.Lines.{words_text}
 use Rattle.vipr_write.specs.declared.form.Form.{Form}
@@ -77,12 +77,12 @@ pub record AreKept (t : Statements) (steps : List (Step Statement)) (ds : List D
       steps
   pub those : map (step_of (statement_in t)) steps ≡ map (as_text t.form t.objective) ds
 
--- a certificate of this problem and these solutions, of whose derivations these steps are kept
-pub record AreStepsOf (c : Certificate) (p : Problem) (ss : List (Named Row)) (t : Statements)
+-- a certificate of this problem, of which these lines of the solutions and these steps are kept
+pub record AreStepsOf (c : Certificate) (p : Problem) (lines : List ℕ) (t : Statements)
     (steps : List (Step Statement)) : Type 0 where
   pub writes : CanWrite c
   pub problem : c.problem ≡ p
-  pub solutions : c.solutions ≡ ss
+  pub solutions : lines ≡ lines_text (solutions_lines c.solutions)
   pub row : SpellsRow t
   pub objective : t.objective ≡ c.problem.objective
   pub those : map (step_of (statement_in t)) steps ≡ map (as_text t.form t.objective) c.derivations

@@ -135,21 +135,21 @@ fn more_steps(total: u64, statements: &Statements, steps: &[Step<Statement>]) ->
     total
 }
 
-/// Whether the problem and the solutions have fewer than 2^48 words and lines, with the bytes of
-/// the statements and the words of the reasons.
+/// Whether the problem has fewer than 2^48 words and lines, with the bytes of the solutions and the
+/// statements and the words of the reasons.
 pub(crate) fn are_countable(
     problem: &Problem,
-    solutions: &[Named<Solution>],
+    solutions: &[u8],
     statements: &Statements,
     steps: &[Step<Statement>],
 ) -> bool
     ensures { IsTrue result → (c : CertificateMeant)
-        → AreStepsOf c problem.now (map solution_of solutions.now) statements.now steps.now
+        → AreStepsOf c problem.now solutions.now statements.now steps.now
         → length (text_in statements.now.form c) < 2 ^ 64 }
 {
-    let total = problem_weight(problem);
-    let total = more_solutions(more(total, 3, 0), solutions);
-    let total = more_steps(more(total, 3, 0), statements, steps);
+    let total = more(problem_weight(problem), 3, 0);
+    let total = more(total, solutions.len() as u64, 0);
+    let total = more_steps(total, statements, steps);
     total < 1 << 48
 }
 

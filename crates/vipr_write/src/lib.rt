@@ -23,6 +23,7 @@ mod written_steps;
 pub use canonical::{canonical_form, canonical_texts, compact_texts, spelled_ones, worked_example};
 pub use folded::FoldedText;
 pub use form::Form;
+pub use lines::{put_heading, put_solution};
 pub use statements::{Statement, Statements, Step};
 pub use step_reason::{ShortEntry, StepReason, StepReferences, SumEntry};
 pub use write::{WriteError, write_certificate, write_certificate_in};

@@ -25,7 +25,7 @@ use vipr_frac::Frac;
 use vipr_linear::{Constraint, Row, Solution};
 
 /// A keyword and a count.
-pub(crate) fn put_heading<O: Out>(out: &mut O, keyword: &[u8], n: usize)
+pub fn put_heading<O: Out>(out: &mut O, keyword: &[u8], n: usize)
     ensures { Puts O.carries out.old out.new
         (line_text (heading keyword.now n)) }
 {
@@ -140,7 +140,7 @@ pub(crate) fn put_claim<O: Out>(out: &mut O, claim: Claim)
 }
 
 /// A listed solution, unless it has failed.
-pub(crate) fn put_solution<O: Out>(out: &mut O, solution: &Named<Solution>)
+pub fn put_solution<O: Out>(out: &mut O, solution: &Named<Solution>)
     ensures { Puts O.carries out.old out.new
         (line_text (solution_words (solution_of solution.now))) }
 {

@@ -1,8 +1,7 @@
 //! Writes the text of a certificate, of whose derivations steps are kept.
-ghost use Rattle.std.specs.Prelude.{◌^◌, ◌<◌, [], length, map, IfErr, IfSome};
+ghost use Rattle.std.specs.Prelude.{◌^◌, ◌<◌, [], length, IfErr, IfSome};
 ghost use Rattle.vipr_spec.specs.Certificate.{Certificate as CertificateMeant};
 ghost use Rattle.vipr_spec.specs.Grammar.{SpellsOnly};
-ghost use Rattle.vipr_cert.specs.Items.{solution_of};
 ghost use Rattle.vipr_write.specs.Forms.{text_in};
 ghost use Rattle.vipr_write.specs.declared.form.Form.{Form};
 ghost use Rattle.vipr_bytes.specs.Hands.{Start, start_of, IsEnd};
@@ -11,42 +10,41 @@ ghost use Rattle.vipr_write.specs.Steps.{AreStepsOf};
 ghost use Rattle.vipr_write.specs.WrittenText.{WroteText, IsWithin, LeavesFailures};
 
 use crate::countable::are_countable;
-use crate::sections::{put_problem, put_solutions};
+use crate::sections::put_problem;
 use crate::statements::{Statement, Statements, Step};
 use crate::steps::put_steps;
 use crate::write::WriteError;
 use std::alloc::Global;
-use vipr_bytes::{Sink, SinkBuffer, ToSink, WriteFailed};
-use vipr_cert::{Named, Problem};
-use vipr_linear::Solution;
+use vipr_bytes::{Out, Sink, SinkBuffer, ToSink, WriteFailed};
+use vipr_cert::Problem;
 
-/// Writes the text of the certificate of this problem and these solutions, of whose derivations
+/// Writes the text of the certificate of this problem, of which these lines of the solutions and
 /// these steps are kept. The text is in the form of the statements.
 ///
 /// # Errors
 ///
-/// `Memory` if the buffer is refused, or if there are 2^48 words and bytes of statements or more:
+/// `Memory` if the buffer is refused, or if there are 2^48 words and bytes that are kept or more:
 /// nothing was written. `Write` if a write fails or takes nothing, and the sink is asked no more.
 pub fn write_steps<W: Sink>(
     alloc: Global,
     problem: &Problem,
-    solutions: &[Named<Solution>],
+    solutions: &[u8],
     statements: &Statements,
     steps: &[Step<Statement>],
     sink: &mut W,
 ) -> Result<(), WriteError>
     ensures output { (c : CertificateMeant)
-        → AreStepsOf c problem.now (map solution_of solutions.now) statements.now steps.now
+        → AreStepsOf c problem.now solutions.now statements.now steps.now
         → IfSome (W.output sink.old)
         (λ o. WroteText o (W.output sink.new) (text_in statements.now.form c) result) }
     ensures part { (c : CertificateMeant)
-        → AreStepsOf c problem.now (map solution_of solutions.now) statements.now steps.now
+        → AreStepsOf c problem.now solutions.now statements.now steps.now
         → IfErr result (IsWithin (text_in statements.now.form c)) }
     ensures failures { (c : CertificateMeant)
-        → AreStepsOf c problem.now (map solution_of solutions.now) statements.now steps.now
+        → AreStepsOf c problem.now solutions.now statements.now steps.now
         → IfSome (W.failures sink.old) (λ n. LeavesFailures n (W.failures sink.new) result) }
     ensures law { (c : CertificateMeant)
-        → AreStepsOf c problem.now (map solution_of solutions.now) statements.now steps.now
+        → AreStepsOf c problem.now solutions.now statements.now steps.now
         → (f : Form) → SpellsOnly (text_in f c) c }
 {
     if !are_countable(problem, solutions, statements, steps) {
@@ -62,14 +60,14 @@ pub fn write_steps<W: Sink>(
 fn write_parts<W: Sink>(
     mut buffer: SinkBuffer,
     problem: &Problem,
-    solutions: &[Named<Solution>],
+    solutions: &[u8],
     statements: &Statements,
     steps: &[Step<Statement>],
     sink: &mut W,
 ) -> Result<(), WriteFailed>
     requires { (start : Start) → Carries start start buffer [] }
     ensures { (c : CertificateMeant)
-        → AreStepsOf c problem.now (map solution_of solutions.now) statements.now steps.now
+        → AreStepsOf c problem.now solutions.now statements.now steps.now
         → length (text_in statements.now.form c) < 2 ^ 64
         → IsEnd (start_of W.output W.failures sink.old) (start_of W.output W.failures sink.new)
         (text_in statements.now.form c) result }
@@ -79,7 +77,7 @@ fn write_parts<W: Sink>(
         buffer: &mut buffer,
     };
     put_problem(&mut out, statements.form, problem);
-    put_solutions(&mut out, solutions);
+    out.put(solutions);
     put_steps(&mut out, statements, steps);
     out.finish()
 }

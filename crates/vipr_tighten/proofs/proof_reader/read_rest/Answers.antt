@@ -1,8 +1,7 @@
-use Rattle.std.proofs.Common.{map, refl, sym, ◌∙◌}
+use Rattle.std.proofs.Common.{sym, ◌∙◌}
 use Rattle.vipr_spec.specs.Checking.{start}
 use Rattle.vipr_spec.specs.Steps.{with_more}
 use Rattle.vipr_spec.specs.Tests.{none}
-use Rattle.vipr_cert.specs.Items.{solution_of}
 use Rattle.vipr_rules.specs.Profile.{profile_of}
 use Rattle.vipr_check.proofs.Laws.{among_start}
 use Rattle.vipr_tighten.proofs.proof_reader.read_rest.Goals as goal
@@ -27,13 +26,13 @@ returns-in-Ok-read-clause-kept g c =
     let P = profile_of c.args.profile in
     let e = c.in-Ok.ensures in
     let among = among_start P c.args.problem c.in-Ok.checker c.args.solutions e.profile e.problem e.start e.phase e.runs c.requires.knows c.requires.working c.requires.counted in
-    let (same_problem, is_for, ds, kept, writes, proof) = c.in-Ok-read.ensures.kept P c.args.problem among in (
-      with_more (start c.args.problem (map solution_of c.read_items-read.new.listed.items)) ds,
+    let (same_problem, is_for, ss, ds, lines, kept, writes, proof) = c.in-Ok-read.ensures.kept P c.args.problem among in (
+      with_more (start c.args.problem ss) ds,
       record {
         steps = record {
           writes = writes c.requires.writes;
           problem = sym (c.into_problem-problem.ensures ∙ same_problem);
-          solutions = refl;
+          solutions = lines;
           row = kept.row;
           objective = is_for.objective;
           those = kept.those;

@@ -1,8 +1,7 @@
-use Rattle.std.proofs.Common.{◌≡◌, length, map, arith, rules}
+use Rattle.std.proofs.Common.{◌≡◌, length, arith, rules}
 use Rattle.vipr_spec.specs.Constraint.{Profile}
 use Rattle.vipr_spec.specs.Certificate.{Certificate}
 use Rattle.vipr_spec.specs.Tightened.{tightened_certificate}
-use Rattle.vipr_cert.specs.Items.{solution_of}
 use Rattle.vipr_write.specs.Forms.{text_in}
 use Rattle.vipr_write.specs.Steps.{AreStepsOf}
 use Rattle.vipr_write.specs.declared.form.Form.{Form}
@@ -18,9 +17,9 @@ use Rattle.vipr_tighten.proofs.source_to_sink.write_tightened.Goals.{After-write
 steps_of : (g : Over) (c : After-write_steps g) (P : Profile) (F : Form) (x : Certificate)
     → IsKeptOf P F x c.args.proof.now
     → AreStepsOf (tightened_certificate x c.args.proof.now.report.goal) c.args.proof.now.problem
-    (map solution_of c.deref-2.result.now) c.args.proof.now.statements c.deref-3.result.now
+    c.as_slice-lines.result.now c.args.proof.now.statements c.deref-2.result.now
 steps_of g c P F x is =
-    rw (c.deref-2.ensures.value, c.deref-3.ensures.value) (tight_steps P F x c.args.proof.now is c.cons-first.result.now c.cons-first.ensures.constraints c.tighten_steps.new.steps.items c.in_ok-tighten_steps.ensures)
+    rw (c.as_slice-lines.ensures, c.deref-2.ensures.value) (tight_steps P F x c.args.proof.now is c.cons-first.result.now c.cons-first.ensures.constraints c.tighten_steps.new.steps.items c.in_ok-tighten_steps.ensures)
 
 pub tighten_steps-requires-clause-few : goal.tighten_steps-requires-clause-few
 tighten_steps-requires-clause-few g c =
