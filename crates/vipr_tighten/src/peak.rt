@@ -18,11 +18,11 @@ pub(crate) fn peak<S>(alloc: Global, first: usize, steps: &[Step<S>]) -> Result<
     ensures { IfOk result (λ n. (view : S → NamedConstraint) (c : CertificateMeant)
         → StandFor steps.now view first c → n ≡ peak c) }
 {
-    let mut dropped = vec![in alloc; 0usize; steps.len()]?;
+    let mut dropped = vec![in alloc; 0u32; steps.len()]?;
     let mut held = 0;
     let mut most = 0;
     for (place, step) in steps.iter().enumerate() {
-        held = held + 1 - dropped[place];
+        held = held + 1 - dropped[place] as usize;
         most = held.max(most);
         if let Some(at) = dropped_after(step, first + place) {
             count_at(&mut dropped, first, at);
@@ -46,9 +46,9 @@ fn dropped_after<S>(step: &Step<S>, index: usize) -> Option<usize>
 }
 
 // One more at this index, if it is there. The first count is that of index `first`.
-fn count_at(counts: &mut [usize], first: usize, at: usize)
+fn count_at(counts: &mut [u32], first: usize, at: usize)
     requires from { first ≤ at }
-    requires few { (k : ℕ) → k < length counts.old → slice_index_or counts.old k 0 + 1 < 2 ^ 64 }
+    requires few { (k : ℕ) → k < length counts.old → slice_index_or counts.old k 0 + 1 < 2 ^ 32 }
     ensures { (k : ℕ) → k < length counts.old → slice_index_or counts.new k 0
         ≡ slice_index_or counts.old k 0 + cond (nat_eq at (first + k)) 1 0 }
 {
