@@ -1,4 +1,5 @@
 mod Appended
+mod Digits
 mod Expanding
 mod Folding
 mod Unfolding

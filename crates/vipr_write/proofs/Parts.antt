@@ -1,5 +1,5 @@
 -- Numbers, lines and sections in the parts in which they are appended
-use Rattle.std.proofs.Common.{◌≡◌, ℕ, Bool, if◌then◌else◌, List, [], ◌∷◌, ◌++◌, length, map}
+use Rattle.std.proofs.Common.{◌≡◌, ℕ, ℤ, Bool, if◌then◌else◌, List, [], ◌∷◌, ◌++◌, length, map}
 use Rattle.std.proofs.Common.{append_assoc, sym, ap, ◌∙◌}
 use Rattle.std.specs.Prelude.{codes}
 use Rattle.std.specs.List.{flat_map}
@@ -8,7 +8,6 @@ use Rattle.std.proofs.lemmas.Bool.{eq-eqb, ne_eqb}
 use Rattle.std.proofs.lemmas.List.{append-nil, length-map}
 use Rattle.std.proofs.lemmas.List.Folds.{flat_map-map}
 use Rattle.std.proofs.lemmas.Grind.{flat_map-append}
-use Rattle.vipr_spec.specs.Fraction.{ℚ}
 use Rattle.vipr_spec.specs.Constraint.{Row}
 use Rattle.vipr_spec.specs.Certificate.{Problem, integer_variables, Derivation, Certificate}
 use Rattle.vipr_spec.specs.Number.{number_text}
@@ -19,20 +18,19 @@ use Rattle.vipr_write.specs.Canonical.{words_after_spaces, heading, line_text, l
 use Rattle.vipr_write.specs.Forms.{row_words, constraint_words_in, derivation_words_in}
 use Rattle.vipr_write.specs.Forms.{given_words_in, problem_lines_in, derivations_lines_in}
 use Rattle.vipr_write.specs.Forms.{certificate_lines_in}
-use Rattle.vipr_write.specs.Lines.{words_text, integers_lines, constraints_heading}
+use Rattle.vipr_write.specs.Lines.{parts_text, words_text, integers_lines, constraints_heading}
 use Rattle.vipr_write.specs.Lines.{constraints_lines_in}
 use Rattle.vipr_write.specs.declared.form.Form.{Form}
 
-abbrev number_by : ℚ → Bool → List ℕ
-number_by x is_whole = if is_whole then signed_decimal x.numer else signed_decimal x.numer ++ 47 ∷ decimal x.denom
+abbrev parts_by : ℤ → ℕ → Bool → List ℕ
+parts_by p q is_whole = if is_whole then signed_decimal p else signed_decimal p ++ 47 ∷ decimal q
 
 -- a number that is its numerator, and one with a denominator
-pub whole_text : (x : ℚ) → x.denom ≡ 1 → signed_decimal x.numer ≡ number_text x
-whole_text x one = sym (ap (number_by x) (eq-eqb x.denom 1 one))
+pub whole_text : (p : ℤ) (q : ℕ) → q ≡ 1 → signed_decimal p ≡ parts_text p q
+whole_text p q one = sym (ap (parts_by p q) (eq-eqb q 1 one))
 
-pub parted_text : (x : ℚ) → (x.denom ≡ 1 → ⊥)
-    → signed_decimal x.numer ++ 47 ∷ decimal x.denom ≡ number_text x
-parted_text x more = sym (ap (number_by x) (ne_eqb x.denom 1 more))
+pub parted_text : (p : ℤ) (q : ℕ) → (q ≡ 1 → ⊥) → signed_decimal p ++ 47 ∷ decimal q ≡ parts_text p q
+parted_text p q more = sym (ap (parts_by p q) (ne_eqb q 1 more))
 
 words_after_spaces-append : (ws us : List (List ℕ))
     → words_after_spaces (ws ++ us) ≡ words_after_spaces ws ++ words_after_spaces us

@@ -1,11 +1,15 @@
 -- Parts of the canonical text
-use Rattle.std.specs.Prelude.{ℕ, List, [], ◌∷◌, ◌++◌, length, map, codes}
-use Rattle.std.specs.Fmt.{decimal}
+use Rattle.std.specs.Prelude.{ℕ, ℤ, ◌==◌, if◌then◌else◌, List, [], ◌∷◌, ◌++◌, length, map, codes}
+use Rattle.std.specs.Fmt.{decimal, signed_decimal}
 use Rattle.vipr_spec.specs.Constraint.{Row, Constraint}
 use Rattle.vipr_spec.specs.Certificate.{Named}
 use Rattle.vipr_write.specs.Canonical.{heading, words_after_spaces}
 use Rattle.vipr_write.specs.Forms.{given_words_in}
 use Rattle.vipr_write.specs.declared.form.Form.{Form}
+
+-- the text of a number of these parts
+abbrev pub parts_text : ℤ → ℕ → List ℕ
+parts_text p q = if q == 1 then signed_decimal p else signed_decimal p ++ 47 ∷ decimal q
 
 -- a line without its line feed
 abbrev pub words_text : List (List ℕ) → List ℕ

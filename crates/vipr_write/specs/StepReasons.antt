@@ -1,20 +1,19 @@
 -- Reasons of steps as those of the definitions
-use Rattle.std.specs.Prelude.{◌≡◌, ◌≢◌, ℕ, ◌^◌, ◌<◌, List, ◌∷◌, [], map, length, All, cond, nat_eq}
+use Rattle.std.specs.Prelude.{◌≡◌, ◌≢◌, ℕ, ◌^◌, ◌<◌, List, ◌∷◌, [], map, length, All}
 use Rattle.std.specs.Prelude.{FitsSigned, ⊤}
 use Rattle.std.specs.Int.{w32}
-use Rattle.vipr_spec.specs.Fraction.{ℚ, over, zero_ℚ}
+use Rattle.vipr_spec.specs.Fraction.{ℚ, over}
 use Rattle.vipr_spec.specs.Certificate as is
 use Rattle.vipr_cert.specs.Items.{reason_of}
 use Rattle.vipr_cert.specs.Reasons.{references_of}
-use Rattle.vipr_write.specs.declared.step_reason.ShortEntry.{ShortEntry}
+use Rattle.vipr_write.specs.declared.short_entry.ShortEntry.{ShortEntry}
 use Rattle.vipr_write.specs.declared.step_reason.StepReason.{StepReason}
 use Rattle.vipr_write.specs.declared.step_reason.StepReason.TheVariants.{Whole, One, Lin, Rnd}
 use Rattle.vipr_write.specs.declared.step_reason.StepReferences.{StepReferences}
 use Rattle.vipr_write.specs.declared.step_reason.StepReferences.TheVariants as named
 
--- no denominator is 0, so the 0 never counts
 abbrev pub multiplier_of : ShortEntry → ℚ
-multiplier_of e = cond (nat_eq e.denom 0) zero_ℚ (over e.numer e.denom)
+multiplier_of e = over e.numer e.denom
 
 abbrev pub entry_of : ShortEntry → ℕ × ℚ
 entry_of e = (e.index, multiplier_of e)

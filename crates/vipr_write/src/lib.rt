@@ -13,6 +13,7 @@ mod form;
 mod lines;
 mod rows;
 mod sections;
+mod short_entry;
 mod statements;
 mod step_reason;
 mod steps;
@@ -24,7 +25,8 @@ pub use canonical::{canonical_form, canonical_texts, compact_texts, spelled_ones
 pub use folded::FoldedText;
 pub use form::Form;
 pub use lines::{put_heading, put_solution};
+pub use short_entry::ShortEntry;
 pub use statements::{Statement, Statements, Step};
-pub use step_reason::{ShortEntry, StepReason, StepReferences, SumEntry};
+pub use step_reason::{StepReason, StepReferences, SumEntry};
 pub use write::{WriteError, write_certificate, write_certificate_in};
 pub use written_steps::write_steps;

@@ -8,23 +8,16 @@ ghost use Rattle.vipr_spec.specs.Reading.{most_bytes};
 ghost use Rattle.vipr_cert.specs.Items.{reason_of};
 ghost use Rattle.vipr_cert.specs.Reasons.{reason_word};
 ghost use Rattle.vipr_bytes.specs.Puts.{Puts};
-ghost use Rattle.vipr_write.specs.StepReasons.{multiplier_of, entry_of, kept_reason_of};
-ghost use Rattle.vipr_write.specs.StepReasons.{kept_references_of, IsShort, AreShort, IsShortest};
+ghost use Rattle.vipr_write.specs.StepReasons.{entry_of, kept_reason_of, kept_references_of};
+ghost use Rattle.vipr_write.specs.StepReasons.{AreShort, IsShortest};
 
+use crate::short_entry::ShortEntry;
 use crate::words::put_number;
 use std::alloc::{AllocError, Global};
 use std::slice::from_ref;
 use vipr_bytes::Out;
 use vipr_cert::{Reason, References};
 use vipr_frac::Frac;
-
-/// An index, and a multiplier whose parts fit 32 bits.
-#[derive(Clone, Copy, Debug)]
-pub struct ShortEntry {
-    pub index: u32,
-    pub(crate) numer: i32,
-    pub(crate) denom: u32,
-}
 
 /// Why the derived constraint of a step holds: a reason, or a sum whose entries are short.
 #[derive(Debug, Drop)]
@@ -86,63 +79,6 @@ impl SumEntry for (u32, Frac) {
     #[inline(always)]
     fn set_index(&mut self, index: u32) {
         self.0 = index;
-    }
-}
-
-impl SumEntry for ShortEntry {
-    ghost pair = { entry_of };
-
-    #[inline(always)]
-    fn index(&self) -> u32 {
-        self.index
-    }
-
-    #[inline(always)]
-    fn put_multiplier<O: Out>(&self, out: &mut O) {
-        put_number(out, &self.multiplier());
-    }
-
-    // That takes no greatest common divisor.
-    #[inline(always)]
-    fn is_zero(&self) -> bool {
-        if self.denom == 0 {
-            return true;
-        }
-        self.numer == 0
-    }
-
-    #[inline(always)]
-    fn set_index(&mut self, index: u32) {
-        self.index = index;
-    }
-}
-
-impl ShortEntry {
-    /// The entry of this index and this multiplier, `None` if a part of it is too long.
-    pub fn of(index: u32, multiplier: &Frac) -> Option<ShortEntry>
-        ensures entry { IfSome result (λ e. entry_of e ≡ (index, multiplier.now)) }
-        ensures short { IsSome result ↔ IsShort multiplier.now }
-    {
-        let numer = i32::try_from(multiplier.numer());
-        let denom = u32::try_from(multiplier.denom());
-        match (numer, denom) {
-            (Ok(numer), Ok(denom)) => Some(ShortEntry {
-                index,
-                numer,
-                denom,
-            }),
-            _ => None,
-        }
-    }
-
-    // Its multiplier.
-    fn multiplier(self) -> Frac
-        ensures { result ≡ multiplier_of self }
-    {
-        match Frac::new(i128::from(self.numer), i128::from(self.denom)) {
-            Ok(multiplier) => multiplier,
-            Err(_) => Frac::zero(),
-        }
     }
 }
 

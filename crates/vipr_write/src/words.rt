@@ -1,10 +1,11 @@
 //! Words, each behind a space.
 ghost use Rattle.std.specs.Prelude.{◌∷◌, flat_map, map};
-ghost use Rattle.std.specs.Fmt.{decimal};
+ghost use Rattle.std.specs.Fmt.{decimal, signed_decimal};
 ghost use Rattle.vipr_spec.specs.Number.{number_text};
 ghost use Rattle.vipr_linear.specs.Constraint.{sense_of};
 ghost use Rattle.vipr_write.specs.Canonical.{pair_words, counted_words, sense_word, bound_word};
 ghost use Rattle.vipr_write.specs.Canonical.{last_word, words_after_spaces};
+ghost use Rattle.vipr_write.specs.Lines.{parts_text};
 ghost use Rattle.vipr_bytes.specs.Puts.{Puts};
 
 use crate::step_reason::SumEntry;
@@ -22,15 +23,48 @@ pub(crate) fn put_decimal<O: Out>(out: &mut O, n: usize)
         out.push(b'0' + n as u8);
         return;
     }
+    if n < 100 {
+        out.push(b'0' + (n / 10) as u8);
+        out.push(b'0' + (n % 10) as u8);
+        return;
+    }
     put_digits(out, n);
 }
 
 // A count or an index of any size, with no space.
+#[inline(never)]
 fn put_digits<O: Out>(out: &mut O, n: usize)
     ensures { Puts O.carries out.old out.new (decimal n) }
 {
     let mut buffer = Buffer::new();
     out.put(buffer.format(n).as_bytes());
+}
+
+/// A whole number, with no space.
+#[inline(always)]
+pub(crate) fn put_whole<O: Out>(out: &mut O, n: i64)
+    ensures { Puts O.carries out.old out.new (signed_decimal n) }
+{
+    let size = n.unsigned_abs();
+    if n < 0 {
+        out.push(b'-');
+        put_decimal(out, size as usize);
+        return;
+    }
+    put_decimal(out, size as usize);
+}
+
+/// A fraction of whole numbers, with no space.
+#[inline(always)]
+pub(crate) fn put_parts<O: Out>(out: &mut O, top: i64, bottom: usize)
+    ensures { Puts O.carries out.old out.new (parts_text top bottom) }
+{
+    put_whole(out, top);
+    if bottom == 1 {
+        return;
+    }
+    out.push(b'/');
+    put_decimal(out, bottom);
 }
 
 /// A word.
@@ -52,18 +86,22 @@ pub(crate) fn put_index<O: Out>(out: &mut O, n: usize)
 }
 
 /// A number.
+#[inline(always)]
 pub(crate) fn put_number<O: Out>(out: &mut O, x: &Frac)
     ensures { Puts O.carries out.old out.new
         (32 ∷ number_text x.now) }
 {
     out.push(b' ');
-    match usize::try_from(x.numer()) {
-        Ok(n) if x.is_whole() => put_decimal(out, n),
+    let top = i64::try_from(x.numer());
+    let bottom = usize::try_from(x.denom());
+    match (top, bottom) {
+        (Ok(top), Ok(bottom)) => put_parts(out, top, bottom),
         _ => put_fraction(out, x),
     }
 }
 
 // A number of any size, with no space.
+#[inline(never)]
 fn put_fraction<O: Out>(out: &mut O, x: &Frac)
     ensures { Puts O.carries out.old out.new (number_text x.now) }
 {

@@ -3,7 +3,7 @@ use Rattle.std.proofs.Common.{refl, arith}
 use Rattle.std.specs.Int.{w128}
 use Rattle.std.proofs.lemmas.Int.{ints, to_z-of_z}
 use Rattle.vipr_write.proofs.StepReasons.{short_is}
-use Rattle.vipr_write.proofs.step_reason.ShortEntry.of.Goals as goal
+use Rattle.vipr_write.proofs.short_entry.ShortEntry.of.Goals as goal
 
 pub returns-in-Ok-Ok-clause-entry : goal.returns-in-Ok-Ok-clause-entry
 returns-in-Ok-Ok-clause-entry c =
@@ -13,7 +13,7 @@ returns-in-Ok-Ok-clause-entry c =
     let numer : to_z w32 (of_z w32 c.in-Ok-Ok.numer) ≡ x.numer =
     to_z-of_z w32 c.in-Ok-Ok.numer (subst (SFits w32) (sym n.1) n.0) ∙ n.1 ∙ to_z-of_z w128 c.numer.result (record { sfits = c.numer.type_inv }) ∙ c.numer.ensures.value in
     let denom : c.in-Ok-Ok.denom ≡ x.denom = d.1 ∙ ap nat_abs (to_z-of_z w128 c.denom.result (record { sfits = c.denom.type_inv }) ∙ c.denom.ensures.value) in
-    ap (λ y. (c.args.index, y)) (short_is x (record { index = c.args.index; numer = to_z w32 (of_z w32 c.in-Ok-Ok.numer); denom = c.in-Ok-Ok.denom }) numer denom)
+    ap (λ y. (c.args.index, y)) (short_is x (to_z w32 (of_z w32 c.in-Ok-Ok.numer)) c.in-Ok-Ok.denom numer denom)
 
 pub returns-in-Ok-Ok-clause-short : goal.returns-in-Ok-Ok-clause-short
 returns-in-Ok-Ok-clause-short c =

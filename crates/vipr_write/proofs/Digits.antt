@@ -1,0 +1,19 @@
+-- Whole numbers: two digits, and the sign
+use Rattle.std.proofs.Common.{◌≡◌, ℕ, ◌+◌, ◌/◌, ◌%◌, ◌<◌, ◌≤◌, ℤ, pos, negsuc, ◌<ℤ◌, ◌≤ℤ◌, [], ◌∷◌}
+use Rattle.std.proofs.Common.{◌++◌, unsigned_abs, refl, sym, ap, ◌∙◌, arith}
+use Rattle.std.specs.Fmt.{decimal, signed_decimal}
+use Rattle.std.proofs.lemmas.Fmt.{decimal_digit, decimal_step}
+use Rattle.std.proofs.lemmas.Int.{ints}
+
+pub two_digits : (n : ℕ) → 10 ≤ n → n < 100
+    → (48 + n / 10) ∷ (48 + n % 10) ∷ [] ≡ decimal n
+two_digits n more few =
+    sym (decimal_step n more (omega arith) ∙ ap (λ l. l ++ (48 + n % 10) ∷ []) (decimal_digit (n / 10) (omega arith)))
+
+pub with_minus : (z : ℤ) → z <ℤ pos 0 → 45 ∷ decimal (unsigned_abs z) ≡ signed_decimal z
+with_minus (pos n) h = absurd (omega (arith, ints))
+with_minus (negsuc n) h = refl
+
+pub without_minus : (z : ℤ) → pos 0 ≤ℤ z → decimal (unsigned_abs z) ≡ signed_decimal z
+without_minus (pos n) h = refl
+without_minus (negsuc n) h = absurd (omega (arith, ints))
