@@ -1,5 +1,5 @@
 -- What the program answers if the words aren't taken, and from what is read
-use Rattle.std.proofs.Common.{◌≡◌, ◌⊎◌, Bor, option_map, ℕ, List, Option, Some, None, Result, Ok, Err}
+use Rattle.std.proofs.Common.{◌≡◌, ◌≢◌, ◌⊎◌, Bor, option_map, ℕ, List, Option, Some, None, Result, Ok, Err}
 use Rattle.std.proofs.Common.{Bool, true, false, inl, inr, refl, sym, subst}
 use Rattle.std.specs.Prelude.{IfOk, IfSome}
 use Rattle.clap.specs.Words.{HasKind, Text, kind_of}
@@ -17,7 +17,8 @@ use Rattle.vipr_command.specs.Folder.{IsFileOf, Names, Unchanged, text_held}
 use Rattle.vipr_command.specs.Run.{AnswersError, Does, DoesJob, FailsToRead, IsStatusFor}
 use Rattle.vipr_command.specs.Run.{KnownInput, OfInput, PrintsCheck, PrintsExplain, PrintsInMemory}
 use Rattle.vipr_command.specs.Run.{RunsOver, Outside, UnlessMissing, exit_status, read_from, outside_of}
-use Rattle.vipr_command.specs.Run.{unknown_input}
+use Rattle.vipr_command.specs.Run.{SaysNoMore, unknown_input}
+use Rattle.vipr_command.specs.Output.{Stays}
 use Rattle.vipr_command.proofs.InputLemmas.{of_input}
 use Rattle.vipr_command.proofs.ShowLemmas.{stays}
 use Rattle.vipr_command.specs.declared.fault.CommandFault.{CommandFault}
@@ -30,13 +31,14 @@ use Rattle.vipr_command.specs.declared.request.Task.TheVariants.{Check, Explain,
 pub same_files : (files : Names) → Unchanged files files
 same_files files n = refl
 
-pub declined : (words : List Text) (input : Option Input) (e : Error) (old new : Option Output)
-    (files : Names) (r : Result ℕ CommandFault) → HasKind (words_fault words) e
-    → AnswersError (kind_of e) old new r
-    → RunsOver words input (outside_of old files) (outside_of new files) r
-declined words input e old new files r (inl memory) (inl (other, d)) = absurd (other memory)
-declined words input e old new files r (inr among) (inl (other, d)) = inr (inl (kind_of e, among, d), same_files files)
-declined words input e old new files r has (inr (memory, l)) = inr (inr l, same_files files)
+pub declined : (words : List Text) (input : Option Input) (e : Error)
+    (old new before after : Option Output) (files : Names) (r : Result ℕ CommandFault)
+    → HasKind (words_fault words) e → AnswersError (kind_of e) old new r
+    → (r ≢ Ok 2 → Stays before after)
+    → RunsOver words input (outside_of old before files) (outside_of new after files) r
+declined words input e old new before after files r (inl memory) (inl (other, d)) said = absurd (other memory)
+declined words input e old new before after files r (inr among) (inl (other, d)) said = inr (inl (kind_of e, among, d), same_files files, said)
+declined words input e old new before after files r has (inr (memory, l)) said = inr (inr l, same_files files, said)
 
 not_true : (b : Bool) → (b ≡ true → ⊥) → b ≡ false
 not_true true n = absurd (n refl)
@@ -54,20 +56,33 @@ pub fits : (words : List Text) (input : Option Input) (old new : Outside) (r : R
     → RunsOver words input old new r → IsStatusFor words (exit_status r)
 fits words input old new r runs = (input, old, new, r, refl, runs)
 
--- a file that can't be opened
-unread : (t : Task) (P : Profile) (F : Form) (l s : Bool) (out : Option Text) (old : Outside)
-    → Does t P F l s out unknown_input old old (Err Read)
-unread Check P F l false out old = ((tt, stays old.output), same_files old.files)
-unread Check P F l true out old = ((tt, stays old.output), same_files old.files)
-unread Explain P F false false out old = ((tt, stays old.output), same_files old.files)
-unread Explain P F false true out old = ((tt, stays old.output), same_files old.files)
-unread Explain P F true s out old = ((tt, stays old.output), same_files old.files)
-unread Show P F l s out old = ((tt, stays old.output), same_files old.files)
-unread Tighten P F l s None old = ((Err tighten.Read, refl, (tt, stays old.output)), same_files old.files)
-unread Tighten P F l s (Some out) old = (inl (Err tighten.Read, refl, ((tt, tt), same_files old.files)), stays old.output)
+abbrev pub named : Option (Bor (List ℕ)) → Option Text
+named o = option_map (λ s. s.now) o
 
-unread_job : (j : Job) (old : Outside) → DoesJob j unknown_input old old (Err Read)
-unread_job j old = unread j.command (profile_of j.profile) j.form j.is_long j.has_sum (option_map (λ s. s.now) j.out) old
+-- a file that can't be opened
+unread : (t : Task) (P : Profile) (F : Form) (l s : Bool) (out : Option Text)
+    (old said : Option Output) (files : Names)
+    → Does t P F l s out unknown_input (outside_of old said files) (outside_of old said files) (Err Read)
+unread Check P F l false out old said files = ((tt, stays old), (same_files files, inl (stays said)))
+unread Check P F l true out old said files = ((tt, stays old), (same_files files, inl (stays said)))
+unread Explain P F false false out old said files = ((tt, stays old), (same_files files, inl (stays said)))
+unread Explain P F false true out old said files = ((tt, stays old), (same_files files, inl (stays said)))
+unread Explain P F true s out old said files = ((tt, stays old), (same_files files, inl (stays said)))
+unread Show P F l s out old said files = (((tt, stays old), stays said), same_files files)
+unread Tighten P F l s None old said files = ((Err tighten.Read, refl, (tt, stays old), stays said), same_files files)
+unread Tighten P F l s (Some out) old said files = (inl (Err tighten.Read, refl, ((tt, tt), same_files files), stays said), stays old)
+
+pub unread_job : (j : Job) (old said : Option Output) (files : Names)
+    → DoesJob j unknown_input (outside_of old said files) (outside_of old said files) (Err Read)
+unread_job j old said files = unread j.command (profile_of j.profile) j.form j.is_long j.has_sum (named j.out) old said files
+
+-- one that was to be explained at length
+pub unread_long : (j : Job) (old before after : Option Output) (files : Names)
+    → j.command ≡ Explain → j.is_long ≡ true
+    → DoesJob j unknown_input (outside_of old before files) (outside_of old after files) (Err Read)
+unread_long j old before after files is long =
+    let Done : Task → Bool → Type 0 = λ t l. Does t (profile_of j.profile) j.form l j.has_sum (named j.out) unknown_input (outside_of old before files) (outside_of old after files) (Err Read) in
+    subst (λ (t : Task). Done t j.is_long) (sym is) (subst (λ (l : Bool). Done Explain l) (sym long) ((tt, stays old), (same_files files, inr (refl, refl))))
 
 -- what a folder opened
 module _ {S : Type 0} (E : Type 0) (input : S → Option Input) (held : Option (Option Input)) where
@@ -85,16 +100,13 @@ module _ {S : Type 0} (E : Type 0) (input : S → Option Input) (held : Option (
   pub never_opened : (s : S) → Opened (Ok s) → held ≡ Some None → ⊥
   never_opened s opened missing = let P : Option (Option Input) → Type 0 = λ h. IfSome h (λ h. IsFileOf {S = S} {E = E} input h (Ok s)) in absurd (subst P missing opened)
 
-  pub unopened : (e : E) (j : Job) (old : Outside) → Opened (Err e) → OfInput (text_held held) (λ k. DoesJob j k old old (Err Read))
-  unopened e j old opened = go held opened
+  pub unopened : (e : E) (P : KnownInput → Type 0) → Opened (Err e) → P unknown_input → OfInput (text_held held) P
+  unopened e P opened done = go held opened
     where
-      go : (h : Option (Option Input)) → IfSome h (λ h. IsFileOf {S = S} {E = E} input h (Err e)) → OfInput (text_held h) (λ k. DoesJob j k old old (Err Read))
-      go None o = (unread_job j old, tt)
-      go (Some None) o = (unread_job j old, tt)
+      go : (h : Option (Option Input)) → IfSome h (λ h. IsFileOf {S = S} {E = E} input h (Err e)) → OfInput (text_held h) P
+      go None o = (done, tt)
+      go (Some None) o = (done, tt)
       go (Some (Some i)) o = absurd o
-
-abbrev pub named : Option (Bor (List ℕ)) → Option Text
-named o = option_map (λ s. s.now) o
 
 module _ (j : Job) (source : Option Input) (old new : Outside) (r : Result ℕ CommandFault) where
   -- the task is done with what is read
@@ -113,10 +125,11 @@ module _ (j : Job) (source : Option Input) (old new : Outside) (r : Result ℕ C
   pub done_as : (t : Task) → j.command ≡ t → OfInput source (λ k. Does t (profile_of j.profile) j.form j.is_long j.has_sum (named j.out) k old new r) → OfInput source (λ k. DoesJob j k old new r)
   done_as t is done = subst (λ (t : Task). OfInput source (λ k. Does t (profile_of j.profile) j.form j.is_long j.has_sum (named j.out) k old new r)) (sym is) done
 
--- the files hold what they held
-pub beside : (source : Option Input) (P : KnownInput → Type 0) (files : Names) → OfInput source P
-    → OfInput source (λ k. P k × Unchanged files files)
-beside source P files done = of_input source P (λ k. P k × Unchanged files files) (λ k p. (p, same_files files)) done
+-- nothing is said beside
+pub beside : (source : Option Input) (P : KnownInput → Type 0) (long : Bool)
+    (old new said : Option Output) (files : Names) (r : Result ℕ CommandFault) → OfInput source P
+    → OfInput source (λ k. P k × SaysNoMore long (outside_of old said files) (outside_of new said files) r)
+beside source P long old new said files r done = of_input source P (λ k. P k × SaysNoMore long (outside_of old said files) (outside_of new said files) r) (λ k p. (p, (same_files files, inl (stays said)))) done
 
 -- the text is read into memory
 module _ (source : Option Input) (P : Profile) (old new : Option Output) (r : Result ℕ CommandFault) where

@@ -17,17 +17,17 @@ use Rattle.vipr_tighten.specs.declared.outcome.TightenFault.{TightenFault}
 use Rattle.vipr_tighten.specs.declared.outcome.TightenFault.TheVariants as tighten
 use Rattle.vipr_command.specs.Folder.{BeginsEmpty, Names, whole_input}
 use Rattle.vipr_command.specs.Run.{OfInput, PrintsTightened, Outside, outside_of}
-use Rattle.vipr_command.specs.Tighten.{Settles, WritesFile, WritesTightened}
+use Rattle.vipr_command.specs.Tighten.{Settles, TellsOutcome, WritesFile, WritesTightened}
 use Rattle.vipr_command.specs.declared.fault.CommandFault.{CommandFault}
 use Rattle.vipr_command.specs.declared.fault.CommandFault.TheVariants.{Memory}
 use Rattle.vipr_command.proofs.InputLemmas.{of_input}
 use Rattle.vipr_command.proofs.ShowLemmas.{stays}
 
 -- what is answered of what became of a text
-pub answered : (P : Profile) (F : Form) (k : KindOfText) (old new : Option Output) (x : Outcome)
-    (s : ℕ) → s ≡ outcome_status x → TightensText P F k old new (Ok x)
-    → WritesTightened P F k old new (Ok s)
-answered P F k old new x s is h = subst (λ n. WritesTightened P F k old new (Ok n)) (sym is) (Ok x, refl, h)
+pub answered : (P : Profile) (F : Form) (k : KindOfText) (old new before after : Option Output)
+    (x : Outcome) (s : ℕ) → s ≡ outcome_status x → TellsOutcome {E = TightenFault} before after (Ok x)
+    → TightensText P F k old new (Ok x) → WritesTightened P F k old new before after (Ok s)
+answered P F k old new before after x s is told h = subst (λ n. WritesTightened P F k old new before after (Ok n)) (sym is) (Ok x, refl, h, told)
 
 module _ (P : Profile) (F : Form) (source : Option Input) where
   -- what is known of the text
@@ -38,12 +38,12 @@ module _ (P : Profile) (F : Form) (source : Option Input) where
   PrintedAt path old new r = OfInput source (λ k. PrintsTightened P F (option_map (λ s. s.now) path) k old new r)
 
   -- to standard output
-  pub printed_here : (path : Option (Bor (List ℕ))) (old new : Option Output) (files : Names) (r : Result ℕ CommandFault) → path ≡ None → OfInput source (λ k. WritesTightened P F (k.proof P) old new r) → PrintedAt path (outside_of old files) (outside_of new files) r
-  printed_here path old new files r is h = subst (λ p. PrintedAt p (outside_of old files) (outside_of new files) r) (sym is) (of_input source (λ k. WritesTightened P F (k.proof P) old new r) (λ k. PrintsTightened P F None k (outside_of old files) (outside_of new files) r) (λ k written. (written, λ n. refl)) h)
+  pub printed_here : (path : Option (Bor (List ℕ))) (old new before after : Option Output) (files : Names) (r : Result ℕ CommandFault) → path ≡ None → OfInput source (λ k. WritesTightened P F (k.proof P) old new before after r) → PrintedAt path (outside_of old before files) (outside_of new after files) r
+  printed_here path old new before after files r is h = subst (λ p. PrintedAt p (outside_of old before files) (outside_of new after files) r) (sym is) (of_input source (λ k. WritesTightened P F (k.proof P) old new before after r) (λ k. PrintsTightened P F None k (outside_of old before files) (outside_of new after files) r) (λ k written. (written, λ n. refl)) h)
 
   -- to a file
-  pub written_there : (path : Option (Bor (List ℕ))) (file : Bor (List ℕ)) (old : Option Output) (before after : Names) (r : Result ℕ CommandFault) → path ≡ Some file → OfInput source (λ k. WritesFile P F (k.proof P) before after file.now r) → PrintedAt path (outside_of old before) (outside_of old after) r
-  written_there path file old before after r is h = subst (λ p. PrintedAt p (outside_of old before) (outside_of old after) r) (sym is) (of_input source (λ k. WritesFile P F (k.proof P) before after file.now r) (λ k. PrintsTightened P F (Some file.now) k (outside_of old before) (outside_of old after) r) (λ k written. (written, stays old)) h)
+  pub written_there : (path : Option (Bor (List ℕ))) (file : Bor (List ℕ)) (old before after : Option Output) (was is : Names) (r : Result ℕ CommandFault) → path ≡ Some file → OfInput source (λ k. WritesFile P F (k.proof P) was is file.now before after r) → PrintedAt path (outside_of old before was) (outside_of old after is) r
+  written_there path file old before after was is r named h = subst (λ p. PrintedAt p (outside_of old before was) (outside_of old after is) r) (sym named) (of_input source (λ k. WritesFile P F (k.proof P) was is file.now before after r) (λ k. PrintsTightened P F (Some file.now) k (outside_of old before was) (outside_of old after is) r) (λ k written. (written, stays old)) h)
 
 -- what is so if nothing is known of the sink
 tightens_untold : (P : Profile) (F : Form) (k : KindOfText) (old new : Option Output)
@@ -75,22 +75,29 @@ abbrev answer_to : Result Outcome CommandFault → Result ℕ CommandFault
 answer_to (Ok x) = Ok (outcome_status x)
 answer_to (Err f) = Err f
 
-module _ (P : Profile) (F : Form) (k : KindOfText) (old new : Names) (name : List ℕ) (before after : Option Output) where
-  settled : (x : Result Outcome TightenFault) (r : Result Outcome CommandFault) → BeginsEmpty (old name) before → TightensText P F k before after x → Settles x old new name after r → WritesFile P F k old new name (answer_to r)
+module _ (P : Profile) (F : Form) (k : KindOfText) (old new : Names) (name : List ℕ) (before after first last : Option Output) where
+  abbrev Wrote : Result Outcome CommandFault → Type 0
+  Wrote r = TellsOutcome first last r → WritesFile P F k old new name first last (answer_to r)
+
+  settled : (x : Result Outcome TightenFault) (r : Result Outcome CommandFault) → BeginsEmpty (old name) before → TightensText P F k before after x → Settles x old new name after r → Wrote r
   settled (Ok (Tightened a b p q)) r empty (c, goal, of, proof, tight, (figures, took)) (inl (is, (kept, others))) =
       let held = held_whole (old name) (new name) before after (text_in F (tightened_certificate c goal)) empty took kept in
-      subst (λ z. WritesFile P F k old new name (answer_to z)) (sym is) (inl (Ok (Tightened a b p q), refl, ((c, goal, of, proof, tight, (figures, held)), others)))
-  settled (Ok (Tightened a b p q)) r empty t (inr ((n, is), same)) = subst (λ z. WritesFile P F k old new name (answer_to z)) (sym is) (inr ((n, refl), (Ok (Tightened a b p q), refl, tightens_untold P F k before after (Ok (Tightened a b p q)) t), same))
-  settled (Ok (Refused x)) r empty t (is, same) = subst (λ z. WritesFile P F k old new name (answer_to z)) (sym is) (inl (Ok (Refused x), refl, (tightens_untold P F k before after (Ok (Refused x)) t, same)))
-  settled (Err e) r empty t (is, same) = subst (λ z. WritesFile P F k old new name (answer_to z)) (sym is) (inl (Err e, refl, (tightens_untold P F k before after (Err e) t, same)))
+      subst Wrote (sym is) (λ told. inl (Ok (Tightened a b p q), refl, ((c, goal, of, proof, tight, (figures, held)), others), told))
+  settled (Ok (Tightened a b p q)) r empty t (inr ((n, is), same)) = subst Wrote (sym is) (λ told. inr ((n, refl), (Ok (Tightened a b p q), refl, tightens_untold P F k before after (Ok (Tightened a b p q)) t, (Ok tt, tt)), same, told))
+  settled (Ok (Refused x)) r empty t (is, same) = subst Wrote (sym is) (λ told. inl (Ok (Refused x), refl, (tightens_untold P F k before after (Ok (Refused x)) t, same), told))
+  settled (Err e) r empty t (is, same) = subst Wrote (sym is) (λ told. inl (Err e, refl, (tightens_untold P F k before after (Err e) t, same), told))
 
-  pub kept : (x : Result Outcome TightenFault) (o : Outcome) (s : ℕ) → s ≡ outcome_status o → BeginsEmpty (old name) before → Settles x old new name after (Ok o) → TightensText P F k before after x → WritesFile P F k old new name (Ok s)
-  kept x o s is empty settles t = subst (λ n. WritesFile P F k old new name (Ok n)) (sym is) (settled x (Ok o) empty t settles)
+  pub kept : (x : Result Outcome TightenFault) (o : Outcome) (s : ℕ) → s ≡ outcome_status o → BeginsEmpty (old name) before → Settles x old new name after (Ok o) → TellsOutcome {E = CommandFault} first last (Ok o) → TightensText P F k before after x → WritesFile P F k old new name first last (Ok s)
+  kept x o s is empty settles told t = subst (λ n. WritesFile P F k old new name first last (Ok n)) (sym is) (settled x (Ok o) empty t settles told)
 
-  pub failed : (x : Result Outcome TightenFault) (f : CommandFault) → BeginsEmpty (old name) before → Settles x old new name after (Err f) → TightensText P F k before after x → WritesFile P F k old new name (Err f)
-  failed x f empty settles t = settled x (Err f) empty t settles
+-- nothing is said of a fault
+pub failed : (P : Profile) (F : Form) (k : KindOfText) (old new : Names) (name : List ℕ)
+    (before after told : Option Output) (x : Result Outcome TightenFault) (f : CommandFault)
+    → BeginsEmpty (old name) before → Settles x old new name after (Err f)
+    → TightensText P F k before after x → WritesFile P F k old new name told told (Err f)
+failed P F k old new name before after told x f empty settles t = settled P F k old new name before after told told x (Err f) empty t settles (stays told)
 
 -- no memory for the name of the file
 pub nameless : (P : Profile) (F : Form) (k : KindOfText) (files : Names) (name : List ℕ)
-    → WritesFile P F k files files name (Err Memory)
-nameless P F k files name = inl (Err (tighten.Memory 0), refl, ((refl, tt), λ n. refl))
+    (told : Option Output) → WritesFile P F k files files name told told (Err Memory)
+nameless P F k files name told = inl (Err (tighten.Memory 0), refl, ((refl, tt), λ n. refl), stays told)

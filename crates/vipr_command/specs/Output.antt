@@ -23,6 +23,10 @@ Stays old new = IfSome old (λ o. new ≡ Some o)
 abbrev pub IsText : Option (List ℕ) → List ℕ → Type 0
 IsText known text = IfSome known (λ t. text ≡ t)
 
+-- the text was handed to it, with some result
+abbrev pub TellsLine : Option Output → Option Output → List ℕ → Type 0
+TellsLine old new text = (r : Result (Unit {0}) WriteFailed) × Took old new text r
+
 -- Ok: the text was accepted whole. Write: its first n bytes were, and no more. Memory: nothing was.
 abbrev pub Prints : Option (List ℕ) → Option Output → Option Output → Result (Unit {0}) CommandFault
     → Type 0

@@ -16,6 +16,7 @@ use Rattle.vipr_rules.specs.declared.profile.Profile as rules
 use Rattle.vipr_check.specs.Checks.{ChecksIn}
 use Rattle.vipr_check.specs.Explanation.{explained_text}
 use Rattle.vipr_check.specs.Shown.{detail_of}
+use Rattle.vipr_check.specs.Text.{refusal_text}
 use Rattle.vipr_check.specs.View.{IfVerified, IsOfProof, Says, answer_of}
 use Rattle.vipr_check.specs.Run.{SaysInDetail, verdict_in}
 use Rattle.vipr_check.specs.Text.{verdict_status}
@@ -32,7 +33,7 @@ use Rattle.vipr_page.specs.Page.{IsPage}
 use Rattle.vipr_command.specs.Args.{asked_by, command_word, words_fault}
 use Rattle.vipr_command.specs.Text.{answer_lines, sum_read, verdict_lines}
 use Rattle.vipr_command.specs.Folder.{Names, Unchanged, text_held}
-use Rattle.vipr_command.specs.Output.{Took, Stays, after_first}
+use Rattle.vipr_command.specs.Output.{TellsLine, Took, Stays, after_first}
 use Rattle.vipr_command.specs.Show.{Kind, ShowsText, any_text, text_read}
 use Rattle.vipr_command.specs.Tighten.{WritesFile, WritesTightened}
 use Rattle.vipr_command.specs.declared.fault.CommandFault.{CommandFault}
@@ -174,12 +175,19 @@ PrintsInMemory t P long sum k old new (Err Read) = k.Explained P (Err CheckRead)
 PrintsInMemory t P long sum k old new r = (i : Input) × k.Gives i
     × PrintsWhole t P long sum i old new r
 
--- the text was printed in this form, or the certificate refused
-abbrev pub PrintsText : Form → KnownInput → Option Output → Option Output → Result ℕ CommandFault
-    → Type 0
-PrintsText F k old new (Ok s) = (x : Shown) × (s ≡ shown_status x)
-    × ShowsText F k.kind old new (Ok x)
-PrintsText F k old new (Err f) = ShowsText F k.kind old new (Err f)
+-- the line of a refusal was said
+abbrev pub TellsShown : Option Output → Option Output → Shown → Type 0
+TellsShown before after shown.Whole = Stays before after
+TellsShown before after (shown.Refused x) = TellsLine before after (refusal_text x ++ codes "\n")
+
+-- the text was printed in this form, or the certificate refused; before and after are what
+-- standard error took
+abbrev pub PrintsText : Form → KnownInput → Option Output → Option Output → Option Output
+    → Option Output → Result ℕ CommandFault → Type 0
+PrintsText F k old new before after (Ok s) = (x : Shown) × (s ≡ shown_status x)
+    × ShowsText F k.kind old new (Ok x) × TellsShown before after x
+PrintsText F k old new before after (Err f) = ShowsText F k.kind old new (Err f)
+    × Stays before after
 
 -- the verdict was printed, with the digest or without
 abbrev pub PrintsCheck : Profile → Bool → Bool → KnownInput → Option Output → Option Output
@@ -194,20 +202,30 @@ PrintsExplain P false false k old new r = PrintsExplanation P k old new r
 PrintsExplain P false true k old new r = PrintsInMemory Explain P false true k old new r
 PrintsExplain P true sum k old new r = PrintsInMemory Explain P true sum k old new r
 
--- what is known of where a run writes: what its output accepted, and what its files hold
+-- what is known of where a run writes: what its output and standard error accepted, and what its
+-- files hold
 pub record Outside : Type 0 where
   pub output : Option Output
+  pub said : Option Output
   pub files : Names
 
-abbrev pub outside_of : Option Output → Names → Outside
-outside_of output files = record { output = output; files = files }
+abbrev pub outside_of : Option Output → Option Output → Names → Outside
+outside_of output said files = record { output = output; said = said; files = files }
+
+-- each name holds what it held, and nothing was said, unless a file couldn't be read for an
+-- explanation that is to be long
+abbrev pub SaysNoMore : Bool → Outside → Outside → Result ℕ CommandFault → Type 0
+SaysNoMore long old new r = Unchanged old.files new.files
+    × (Stays old.said new.said ⊎ ((long ≡ true) × (r ≡ Err Read)))
 
 -- the tightened certificate was written: to standard output, or else to OUT with nothing printed
 abbrev pub PrintsTightened : Profile → Form → Option Text → KnownInput → Outside → Outside
     → Result ℕ CommandFault → Type 0
-PrintsTightened P F None k old new r = WritesTightened P F (k.proof P) old.output new.output r
+PrintsTightened P F None k old new r =
+    WritesTightened P F (k.proof P) old.output new.output old.said new.said r
     × Unchanged old.files new.files
-PrintsTightened P F (Some out) k old new r = WritesFile P F (k.proof P) old.files new.files out r
+PrintsTightened P F (Some out) k old new r =
+    WritesFile P F (k.proof P) old.files new.files out old.said new.said r
     × Stays old.output new.output
 
 -- the task is done by this profile, in this form, long or not, with the digest or without, with
@@ -215,11 +233,11 @@ PrintsTightened P F (Some out) k old new r = WritesFile P F (k.proof P) old.file
 abbrev pub Does : Task → Profile → Form → Bool → Bool → Option Text → KnownInput → Outside → Outside
     → Result ℕ CommandFault → Type 0
 Does Check P F long sum out k old new r = PrintsCheck P long sum k old.output new.output r
-    × Unchanged old.files new.files
+    × SaysNoMore false old new r
 Does Explain P F long sum out k old new r = PrintsExplain P long sum k old.output new.output r
-    × Unchanged old.files new.files
-Does Show P F long sum out k old new r = PrintsText F k old.output new.output r
-    × Unchanged old.files new.files
+    × SaysNoMore long old new r
+Does Show P F long sum out k old new r =
+    PrintsText F k old.output new.output old.said new.said r × Unchanged old.files new.files
 Does Tighten P F long sum out k old new r = PrintsTightened P F out k old new r
 
 -- the task of a command line is done
@@ -282,7 +300,7 @@ DeclinesWords words old new r = (k : ErrorKind) × IsAmong k (words_fault words)
 abbrev pub RunsOver : List Text → Option Input → Outside → Outside → Result ℕ CommandFault → Type 0
 RunsOver words input old new r = DoesAsked words input old new r
     ⊎ (DeclinesWords words old.output new.output r ⊎ LacksMemory old.output new.output r)
-    × Unchanged old.files new.files
+    × Unchanged old.files new.files × (r ≢ Ok 2 → Stays old.said new.said)
 
 -- an exit status for these words, of some run: whatever is read, printed and put into files
 abbrev pub IsStatusFor : List Text → ℕ → Type 0

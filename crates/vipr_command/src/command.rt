@@ -1,8 +1,9 @@
 //! The whole program, over any source and sinks in place of the standard streams.
-ghost use Rattle.std.specs.Prelude.{◌≡◌, ◌≤◌, IfOk, Some, None, false, map};
+ghost use Rattle.std.specs.Prelude.{◌≡◌, ◌≢◌, ◌≤◌, IfOk, Some, None, false, map};
 ghost use Rattle.clap.specs.Words.{kind_of};
 ghost use Rattle.vipr_command.specs.Args.{are_accepted};
 ghost use Rattle.vipr_command.specs.Folder.{text_held};
+ghost use Rattle.vipr_command.specs.Output.{Stays};
 ghost use Rattle.vipr_command.specs.Run.{AnswersError, DoesJob, FailsToRead, IsStatusFor, OfInput};
 ghost use Rattle.vipr_command.specs.Run.{RunsOver, outside_of};
 
@@ -11,7 +12,7 @@ use crate::fault::CommandFault;
 use crate::folder::Folder;
 use crate::host::Host;
 use crate::in_memory::{check_job, explain_job};
-use crate::line::{say, say_at_length, say_why_unread};
+use crate::line::{fault_line, say, say_at_length, say_why_unread};
 use crate::output::print;
 use crate::request::{Job, Task};
 use crate::show::print_text;
@@ -44,11 +45,12 @@ pub fn run<H: Host, R: Read + Drop, O: Write, E: Write>(
 {
     let source = FromRead::new(input);
     let mut files = SystemFiles { rt };
+    let mut err = FromWrite::new(err);
     let out = &mut FromWrite::new(out);
-    match run_over(rt.alloc(), &mut files, words, source, out, err) {
+    match run_over(rt.alloc(), &mut files, words, source, out, &mut err) {
         Ok(status) => status,
         Err(fault) => {
-            say(err, &format_args!("{fault}\n"));
+            say(&mut err, &fault_line(fault));
             3
         }
     }
@@ -60,7 +62,7 @@ pub fn run<H: Host, R: Read + Drop, O: Write, E: Write>(
 /// # Errors
 ///
 /// If a file can't be opened or a read fails, a growth is refused, or a write fails.
-pub fn run_over<D: Folder, R: Source + Drop, O: Sink, E: Write>(
+pub fn run_over<D: Folder, R: Source + Drop, O: Sink, E: Sink>(
     alloc: Global,
     files: &mut D,
     words: &[&str],
@@ -71,8 +73,8 @@ pub fn run_over<D: Folder, R: Source + Drop, O: Sink, E: Write>(
     ensures status { IfOk result (λ s. s ≤ 2) }
     ensures usage { IfOk result (λ s. s ≡ 2 → are_accepted (map (λ w. w.now) words.now) ≡ false) }
     ensures runs { RunsOver (map (λ w. w.now) words.now) (R.input input)
-        (outside_of (O.output out.old) (D.holds files.old))
-        (outside_of (O.output out.new) (D.holds files.new)) result }
+        (outside_of (O.output out.old) (E.output err.old) (D.holds files.old))
+        (outside_of (O.output out.new) (E.output err.new) (D.holds files.new)) result }
 {
     let job = match job(alloc, words) {
         Ok(job) => job,
@@ -85,13 +87,15 @@ pub fn run_over<D: Folder, R: Source + Drop, O: Sink, E: Write>(
 }
 
 /// Prints help, or what is wrong with the words.
-fn answer<O: Sink, E: Write>(
+fn answer<O: Sink, E: Sink>(
     alloc: Global,
     error: &Error,
     out: &mut O,
     err: &mut E,
 ) -> Result<u8, CommandFault>
-    ensures { AnswersError (kind_of error.now) (O.output out.old) (O.output out.new) result }
+    ensures answered { AnswersError (kind_of error.now) (O.output out.old) (O.output out.new)
+        result }
+    ensures said { result ≢ Ok 2 → Stays (E.output err.old) (E.output err.new) }
 {
     if error.kind() == ErrorKind::OutOfMemory {
         return Err(CommandFault::Memory);
@@ -104,7 +108,7 @@ fn answer<O: Sink, E: Write>(
     Ok(0)
 }
 
-fn do_task_on_file<D: Folder, O: Sink, E: Write>(
+fn do_task_on_file<D: Folder, O: Sink, E: Sink>(
     alloc: Global,
     files: &mut D,
     job: &Job<'_>,
@@ -113,15 +117,15 @@ fn do_task_on_file<D: Folder, O: Sink, E: Write>(
     err: &mut E,
 ) -> Result<u8, CommandFault>
     ensures done { OfInput (text_held (D.holds files.old name.now)) (λ k. DoesJob job.now k
-        (outside_of (O.output out.old) (D.holds files.old))
-        (outside_of (O.output out.new) (D.holds files.new)) result) }
+        (outside_of (O.output out.old) (E.output err.old) (D.holds files.old))
+        (outside_of (O.output out.new) (E.output err.new) (D.holds files.new)) result) }
     ensures missing { D.holds files.old name.now ≡ Some None
         → FailsToRead (O.output out.old) (O.output out.new) result }
 {
     match files.open(name) {
         Ok(source) => do_task(alloc, files, job, source, out, err),
         Err(error) => {
-            if job.is_long {
+            if job.command == Task::Explain && job.is_long {
                 say_why_unread(alloc, name, &error, err);
             }
             Err(CommandFault::Read)
@@ -129,7 +133,7 @@ fn do_task_on_file<D: Folder, O: Sink, E: Write>(
     }
 }
 
-fn do_task<D: Folder, R: Source + Drop, O: Sink, E: Write>(
+fn do_task<D: Folder, R: Source + Drop, O: Sink, E: Sink>(
     alloc: Global,
     files: &mut D,
     job: &Job<'_>,
@@ -138,8 +142,8 @@ fn do_task<D: Folder, R: Source + Drop, O: Sink, E: Write>(
     err: &mut E,
 ) -> Result<u8, CommandFault>
     ensures { OfInput (R.input source) (λ k. DoesJob job.now k
-        (outside_of (O.output out.old) (D.holds files.old))
-        (outside_of (O.output out.new) (D.holds files.new)) result) }
+        (outside_of (O.output out.old) (E.output err.old) (D.holds files.old))
+        (outside_of (O.output out.new) (E.output err.new) (D.holds files.new)) result) }
 {
     match job.command {
         Task::Check => check_job(alloc, job, source, out),

@@ -1,12 +1,10 @@
 //! Why a command is cut short.
-ghost use Rattle.std.specs.Prelude.{◌≡◌, Some};
-ghost use Rattle.vipr_command.specs.Run.{fault_for, fault_text, write_fault_for};
+ghost use Rattle.std.specs.Prelude.{◌≡◌};
+ghost use Rattle.vipr_command.specs.Run.{fault_for, write_fault_for};
 ghost use Rattle.vipr_command.specs.Tighten.{tighten_fault_for};
 ghost use Rattle.vipr_command.specs.declared.fault.CommandFault.TheVariants.{Memory, Write};
 
 use std::alloc::AllocError;
-use std::fmt;
-use std::fmt::{Display, Formatter};
 use vipr_bytes::WriteFailed;
 use vipr_tighten::TightenFault;
 use vipr_write::WriteError;
@@ -18,18 +16,6 @@ pub enum CommandFault {
     Memory,
     /// The output refused more bytes than these.
     Write { taken: u64 },
-}
-
-impl Display for CommandFault {
-    ghost output = { λ fault. Some (fault_text fault) };
-
-    fn fmt<W: fmt::Write>(&self, f: &mut Formatter<W>) -> fmt::Result {
-        match self {
-            CommandFault::Read => f.write_str("fault read"),
-            CommandFault::Memory => f.write_str("fault memory"),
-            CommandFault::Write { taken } => write!(f, "fault write after {taken}"),
-        }
-    }
 }
 
 impl From<AllocError> for CommandFault {

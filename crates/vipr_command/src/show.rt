@@ -5,9 +5,8 @@ ghost use Rattle.vipr_command.specs.Run.{OfInput, PrintsText};
 ghost use Rattle.vipr_command.specs.Show.{ShowsText, WritesText, text_spelling};
 
 use crate::fault::CommandFault;
-use crate::line::say;
+use crate::line::{refusal_line, say};
 use std::alloc::Global;
-use std::io::Write;
 use vipr_bytes::{Sink, Source};
 use vipr_check::{Place, Refusal};
 use vipr_scan::TextError;
@@ -75,20 +74,20 @@ fn write_text<W: Sink>(
 
 /// Prints a certificate's text in a form, or on `err` why there is none, and answers the exit
 /// status.
-pub fn print_text<R: Source + Drop, O: Sink, E: Write>(
+pub fn print_text<R: Source + Drop, O: Sink, E: Sink>(
     alloc: Global,
     form: Form,
     source: R,
     out: &mut O,
     err: &mut E,
 ) -> Result<u8, CommandFault>
-    ensures { OfInput (R.input source)
-        (λ k. PrintsText form k (O.output out.old) (O.output out.new) result) }
+    ensures { OfInput (R.input source) (λ k. PrintsText form k (O.output out.old)
+        (O.output out.new) (E.output err.old) (E.output err.new) result) }
 {
     match show(alloc, form, source, out)? {
         Shown::Whole => Ok(0),
         Shown::Refused(refusal) => {
-            say(err, &format_args!("{refusal}\n"));
+            say(err, &refusal_line(&refusal));
             Ok(1)
         }
     }

@@ -6,10 +6,9 @@ ghost use Rattle.vipr_command.specs.Tighten.{Settles, WritesFile, WritesTightene
 
 use crate::fault::CommandFault;
 use crate::folder::Folder;
-use crate::line::say;
+use crate::line::{outcome_line, say};
 use crate::request::Job;
 use std::alloc::Global;
-use std::io::Write;
 use vipr_bytes::{Sink, Source};
 use vipr_rules::Profile;
 use vipr_tighten::{Outcome, TightenFault, tighten_as};
@@ -24,7 +23,7 @@ use vipr_write::Form;
 /// # Errors
 ///
 /// A read fails or a growth is refused: nothing was written. A write fails, or OUT can't be kept.
-pub fn print_tightened<D: Folder, R: Source + Drop, O: Sink, E: Write>(
+pub fn print_tightened<D: Folder, R: Source + Drop, O: Sink, E: Sink>(
     alloc: Global,
     files: &mut D,
     job: &Job<'_>,
@@ -34,8 +33,8 @@ pub fn print_tightened<D: Folder, R: Source + Drop, O: Sink, E: Write>(
 ) -> Result<u8, CommandFault>
     ensures { OfInput (R.input source) (λ k. PrintsTightened (profile_of job.now.profile)
         job.now.form (option_map (λ s. s.now) job.now.out) k
-        (outside_of (O.output out.old) (D.holds files.old))
-        (outside_of (O.output out.new) (D.holds files.new)) result) }
+        (outside_of (O.output out.old) (E.output err.old) (D.holds files.old))
+        (outside_of (O.output out.new) (E.output err.new) (D.holds files.new)) result) }
 {
     match job.out {
         None => write_tightened(alloc, job.profile, job.form, source, out, err),
@@ -43,7 +42,7 @@ pub fn print_tightened<D: Folder, R: Source + Drop, O: Sink, E: Write>(
     }
 }
 
-fn write_file<D: Folder, R: Source + Drop, E: Write>(
+fn write_file<D: Folder, R: Source + Drop, E: Sink>(
     alloc: Global,
     files: &mut D,
     job: &Job<'_>,
@@ -53,12 +52,12 @@ fn write_file<D: Folder, R: Source + Drop, E: Write>(
 ) -> Result<u8, CommandFault>
     ensures { OfInput (R.input source) (λ k. WritesFile (profile_of job.now.profile) job.now.form
         (k.proof (profile_of job.now.profile)) (D.holds files.old) (D.holds files.new) name.now
-        result) }
+        (E.output err.old) (E.output err.new) result) }
 {
     let mut place = files.begin(name)?;
     let tightened = tighten_as(alloc, job.profile, job.form, source, &mut place);
     let outcome = settle(files, name, place, tightened)?;
-    say(err, &format_args!("{outcome}\n"));
+    say(err, &outcome_line(&outcome));
     Ok(outcome.status())
 }
 
@@ -94,7 +93,7 @@ fn settle<D: Folder>(
 /// # Errors
 ///
 /// A read fails or a growth is refused: nothing was written. A write fails.
-pub fn write_tightened<R: Source + Drop, W: Sink, E: Write>(
+pub fn write_tightened<R: Source + Drop, W: Sink, E: Sink>(
     alloc: Global,
     profile: Profile,
     form: Form,
@@ -103,9 +102,10 @@ pub fn write_tightened<R: Source + Drop, W: Sink, E: Write>(
     err: &mut E,
 ) -> Result<u8, CommandFault>
     ensures { OfInput (R.input source) (λ k. WritesTightened (profile_of profile) form
-        (k.proof (profile_of profile)) (W.output sink.old) (W.output sink.new) result) }
+        (k.proof (profile_of profile)) (W.output sink.old) (W.output sink.new) (E.output err.old)
+        (E.output err.new) result) }
 {
     let outcome = tighten_as(alloc, profile, form, source, sink)?;
-    say(err, &format_args!("{outcome}\n"));
+    say(err, &outcome_line(&outcome));
     Ok(outcome.status())
 }

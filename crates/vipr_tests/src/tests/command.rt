@@ -25,7 +25,7 @@ fn run(
         words,
         input,
         &mut FromWrite::new(&mut out),
-        &mut err,
+        &mut FromWrite::new(&mut err),
     );
     if answer.is_ok() {
         same(rt, out.as_slice(), wanted);

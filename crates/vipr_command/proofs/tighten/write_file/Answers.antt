@@ -1,7 +1,10 @@
-use Rattle.std.proofs.Common.{Ok, Err}
+use Rattle.std.proofs.Common.{Ok, Err, ◌++◌}
+use Rattle.std.specs.Prelude.{codes}
 use Rattle.std.proofs.lemmas.Result.{err_from_is_err_and}
 use Rattle.vipr_rules.specs.Profile.{profile_of}
 use Rattle.vipr_tighten.specs.Tightens.{TightensText}
+use Rattle.vipr_tighten.specs.Text.{outcome_text}
+use Rattle.vipr_command.specs.Output.{TellsLine}
 use Rattle.vipr_command.specs.Tighten.{WritesFile}
 use Rattle.vipr_command.specs.declared.fault.CommandFault.TheVariants.{Memory}
 use Rattle.vipr_command.proofs.InputLemmas.{of_any, of_input}
@@ -13,8 +16,9 @@ returns-in_err-place g c =
     let P = profile_of c.args.job.now.profile in
     let F = c.args.job.now.form in
     let files = g.D.Folder.holds c.args.files.now in
+    let told = g.E.Sink.output c.args.err.now in
     let q = err_from_is_err_and c.from_residual.result c.from_residual.ensures.1 in
-    rw (q.1, q.2) (of_any (g.R.Source.input c.args.source) (λ k. WritesFile P F (k.proof P) files files c.args.name.now (Err Memory)) (λ k. nameless P F (k.proof P) files c.args.name.now))
+    rw (q.1, q.2) (of_any (g.R.Source.input c.args.source) (λ k. WritesFile P F (k.proof P) files files c.args.name.now told told (Err Memory)) (λ k. nameless P F (k.proof P) files c.args.name.now told))
 
 pub returns-in_err-outcome : goal.returns-in_err-outcome
 returns-in_err-outcome g c =
@@ -28,8 +32,9 @@ returns-in_err-outcome g c =
     let after = g.D.Out.Sink.output c.tighten_as-tightened.new.sink in
     let r = c.tighten_as-tightened.result in
     let f = c.in_err-outcome.field-0.0 in
+    let told = g.E.Sink.output c.args.err.now in
     let q = err_from_is_err_and c.from_residual-in_err-outcome.result c.from_residual-in_err-outcome.ensures.1 in
-    rw (q.1, q.2) (of_input source (λ k. TightensText P F (k.proof P) before after r) (λ k. WritesFile P F (k.proof P) old new name (Err f)) (λ k. failed P F (k.proof P) old new name before after r f c.in_ok-place.ensures c.in_err-outcome.ensures) (known P F source before after r c.tighten_as-tightened.ensures.tightens))
+    rw (q.1, q.2) (of_input source (λ k. TightensText P F (k.proof P) before after r) (λ k. WritesFile P F (k.proof P) old new name told told (Err f)) (λ k. failed P F (k.proof P) old new name before after told r f c.in_ok-place.ensures c.in_err-outcome.ensures) (known P F source before after r c.tighten_as-tightened.ensures.tightens))
 
 pub returns : goal.returns
 returns g c =
@@ -42,4 +47,7 @@ returns g c =
     let before = g.D.Out.Sink.output c.in_ok-place.place in
     let after = g.D.Out.Sink.output c.tighten_as-tightened.new.sink in
     let r = c.tighten_as-tightened.result in
-    of_input source (λ k. TightensText P F (k.proof P) before after r) (λ k. WritesFile P F (k.proof P) old new name (Ok c.status.result)) (λ k. kept P F (k.proof P) old new name before after r c.in_ok-outcome.outcome c.status.result c.status.ensures c.in_ok-place.ensures c.in_ok-outcome.ensures) (known P F source before after r c.tighten_as-tightened.ensures.tightens)
+    let first = g.E.Sink.output c.args.err.now in
+    let last = g.E.Sink.output c.say.new.err in
+    let told : TellsLine first last (outcome_text c.in_ok-outcome.outcome ++ codes "\n") = rw c.outcome_line.ensures at c.say.ensures in
+    of_input source (λ k. TightensText P F (k.proof P) before after r) (λ k. WritesFile P F (k.proof P) old new name first last (Ok c.status.result)) (λ k. kept P F (k.proof P) old new name before after first last r c.in_ok-outcome.outcome c.status.result c.status.ensures c.in_ok-place.ensures c.in_ok-outcome.ensures told) (known P F source before after r c.tighten_as-tightened.ensures.tightens)
