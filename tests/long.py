@@ -430,6 +430,10 @@ CAUSES = [
     FRONT + '0 DER 1 a G 1 1 0 1 { lin 1 5 1 } -1',
     FRONT + '0 DER 2 a L 0 1 0 1 { asm } -1 b G 0 0 { uns 0 0 1 1 } -1',
     'VER 1.0 VAR 0 INT 0 OBJ min 0 CON 0 0 RTP range -inf -1 SOL 0 DER 0',
+    # a sum that has nothing of a variable
+    'VER 1.0 VAR 2 x y INT 0 OBJ min 0 CON 1 0 c G 1 1 0 1 RTP infeas SOL 0 DER 1 a G 1 2 0 1 1 1 { lin 1 0 1 } -1',
+    # of two multipliers that mend a coefficient the second one makes the right-hand side too
+    'VER 1.0 VAR 1 x INT 0 OBJ min 0 CON 2 0 a G 0 1 0 1 b G 1 1 0 1 RTP infeas SOL 0 DER 1 d G 2 1 0 3 { lin 2 0 1 1 1 } -1',
     # a long row that is broken, and a best solution that is behind those that are shown
     'VER 1.0 VAR 11 a b c d e f g h i j k INT 0 OBJ min 0 CON 1 0 c G 1 11 ' + ' '.join(f'{it} 1' for it in range(11))
     + ' RTP infeas SOL 1 s 0 DER 0',

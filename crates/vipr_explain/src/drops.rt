@@ -162,8 +162,8 @@ fn names_constraint(index: u32, reason: &Reason) -> bool
     }
 }
 
-// Whether a sum has an entry of a constraint.
-fn has_entry(entries: &[(u32, Frac)], index: u32) -> bool
+/// Whether a sum has an entry of a constraint.
+pub(crate) fn has_entry(entries: &[(u32, Frac)], index: u32) -> bool
     ensures { result ≡ list_any (λ e. e.0 == index) entries.now }
 {
     entries.iter().any(|entry| entry.0 == index)

@@ -5,13 +5,14 @@ ghost use Rattle.vipr_spec.specs.Constraint.{at};
 ghost use Rattle.vipr_spec.specs.Fraction.{neg_ℚ};
 ghost use Rattle.vipr_page.specs.Repairs.{Mends};
 
+use crate::drops::has_entry;
 use crate::items::Items;
 use std::alloc::{AllocError, Global};
 use std::fmt;
 use std::fmt::{Formatter, Write};
 use vipr_cert::{Reason, References};
 use vipr_frac::Frac;
-use vipr_linear::{Constraint, Sense};
+use vipr_linear::{Constraint, Sense, compares};
 use vipr_page::{Difference, ShownName, VariableName, mended};
 
 /// For how many differences a multiplier is looked for.
@@ -26,6 +27,17 @@ pub(crate) struct Mend {
     /// The multiplier that the constraint has, if it is in the sum.
     present: Option<Frac>,
     multiplier: Frac,
+    /// Whether the derivation follows from its sum then.
+    is_enough: bool,
+}
+
+/// The sum of a derivation: the constraint that was computed, and the one that is stated.
+#[derive(Clone, Copy)]
+pub(crate) struct StatedSum<'a> {
+    pub(crate) items: &'a Items,
+    pub(crate) reason: &'a Reason,
+    pub(crate) computed: &'a Constraint,
+    pub(crate) stated: &'a Constraint,
 }
 
 impl Mend {
@@ -50,72 +62,115 @@ impl Mend {
         if let Some(name) = items.name(index) {
             write!(f, " {}", ShownName(name))?;
         }
-        f.write_str("\n")
+        f.write_str(if self.is_enough {
+            ", and the derivation follows\n"
+        } else {
+            "\n"
+        })
     }
 }
 
 /// A multiplier that mends all differences, or else one for each of the first. Its constraint has
-/// these variables alone, and is in the sum, or else it is the first such one of the problem.
+/// these variables alone, and is in the sum or of the problem.
 pub(crate) fn find_mends(
     alloc: Global,
-    items: &Items,
-    reason: &Reason,
-    sense: Sense,
+    sum: StatedSum<'_>,
     differences: &[Difference],
 ) -> Result<Vec<Mend>, AllocError> {
     let mut mends = Vec::new(alloc);
-    let References::Entries(entries) = reason.references() else {
+    let References::Entries(entries) = sum.reason.references() else {
         return Ok(mends);
     };
-    if let Some(mend) = mend_of(items, entries, sense, differences) {
+    if let Some(mend) = mend_of(sum, entries, differences) {
         mends.push(mend)?;
         return Ok(mends);
     }
     for difference in differences.iter().take(MOST_MENDED) {
-        if let Some(mend) = mend_of(items, entries, sense, [*difference].as_slice()) {
-            mends.push(mend)?;
+        if let Some(mend) = mend_of(sum, entries, [*difference].as_slice()) {
+            mends.push(Mend {
+                is_enough: false,
+                ..mend
+            })?;
         }
     }
     Ok(mends)
 }
 
-// A multiplier that mends these differences.
+// A multiplier that mends these differences: the first with which the derivation follows, or else
+// the first. Those of constraints in the sum come before others of the problem.
 fn mend_of(
-    items: &Items,
+    sum: StatedSum<'_>,
     entries: &[(u32, Frac)],
-    sense: Sense,
     differences: &[Difference],
 ) -> Option<Mend> {
-    let variable = match differences {
-        [difference] => Some(difference.variable),
-        _ => None,
-    };
+    let mut first = None;
     for entry in entries {
         let (index, present) = *entry;
-        if let Some(constraint) = items.constraint(index) {
-            if has_variables_of(constraint, differences) {
-                return Some(Mend {
-                    variable,
-                    index,
-                    present: Some(present),
-                    multiplier: multiplier_by(constraint, present, sense, differences)?,
-                });
+        if let Some(constraint) = sum.items.constraint(index) {
+            if let Some(mend) = mend_by(sum, index, constraint, Some(present), differences) {
+                if mend.is_enough {
+                    return Some(mend);
+                }
+                first = Some(first.unwrap_or(mend));
             }
         }
     }
-    for (index, named) in items.problem.cons().iter().enumerate() {
-        if has_variables_of(&named.item, differences) {
-            if let Some(multiplier) = multiplier_by(&named.item, Frac::zero(), sense, differences) {
-                return Some(Mend {
-                    variable,
-                    index: index as u32,
-                    present: None,
-                    multiplier,
-                });
+    for (index, named) in sum.items.problem.cons().iter().enumerate() {
+        if let Some(mend) = mend_by(sum, index as u32, &named.item, None, differences) {
+            if (mend.is_enough || first.is_none()) && !has_entry(entries, mend.index) {
+                if mend.is_enough {
+                    return Some(mend);
+                }
+                first = Some(mend);
             }
         }
     }
-    None
+    first
+}
+
+// A multiplier of a constraint that mends these differences, in place of the one that it has.
+fn mend_by(
+    sum: StatedSum<'_>,
+    index: u32,
+    constraint: &Constraint,
+    present: Option<Frac>,
+    differences: &[Difference],
+) -> Option<Mend> {
+    if !has_variables_of(constraint, differences) {
+        return None;
+    }
+    let old = present.unwrap_or(Frac::zero());
+    let multiplier = multiplier_by(constraint, old, sum.stated.sense, differences)?;
+    Some(Mend {
+        variable: match differences {
+            [difference] => Some(difference.variable),
+            _ => None,
+        },
+        index,
+        present,
+        multiplier,
+        is_enough: match mended_side(sum, constraint, old, multiplier) {
+            Some(side) => compares(sum.stated.sense, side, sum.stated.rhs),
+            None => false,
+        },
+    })
+}
+
+// The right-hand side of a sum by `lin`, if its sense is the stated one or `=`, with a multiplier
+// of a constraint in place of another one.
+fn mended_side(
+    sum: StatedSum<'_>,
+    constraint: &Constraint,
+    old: Frac,
+    multiplier: Frac,
+) -> Option<Frac> {
+    let sense = sum.computed.sense;
+    if !matches!(sum.reason, Reason::Lin(_)) || sense != Sense::E && sense != sum.stated.sense {
+        return None;
+    }
+    let more = multiplier.add(old.neg()).ok()?;
+    let added = more.mul(constraint.rhs).ok()?;
+    added.add(sum.computed.rhs).ok()
 }
 
 // Whether a constraint has as many variables as there are differences, and that of the first one.

@@ -1,5 +1,6 @@
 //! The reason of a derivation, with the constraints that it refers to.
 
+use crate::items::Items;
 use crate::shown::{ListedConstraint, PlacedItems};
 use crate::step::StepFault;
 use std::alloc::{AllocError, Global};
@@ -8,9 +9,13 @@ use std::fmt::{Formatter, Write};
 use vipr_cert::{Reason, References};
 use vipr_check::{StepDetail, cause};
 use vipr_frac::Frac;
+use vipr_page::VariableName;
 
 /// How many entries of a sum are shown.
 const MOST_ENTRIES: usize = 10;
+
+/// How many entries are shown that a coefficient comes from.
+const MOST_SOURCES: usize = 6;
 
 /// The derivation's own constraint, and those before it that are shown of its reason.
 pub(crate) fn step_indices(
@@ -160,4 +165,44 @@ impl ReasonLines<'_> {
             write!(f, "[{index}], which is not before this derivation")
         }
     }
+}
+
+/// Writes which entries of a sum bring the coefficient of a variable.
+pub(crate) fn write_sources<W: Write>(
+    f: &mut Formatter<W>,
+    items: &Items,
+    entries: &[(u32, Frac)],
+    variable: u32,
+) -> fmt::Result {
+    let name = VariableName {
+        problem: &items.problem,
+        index: variable,
+    };
+    write!(f, "      {name} comes from")?;
+    let mut count: usize = 0;
+    let mut is_whole = true;
+    for entry in entries {
+        let (index, multiplier) = *entry;
+        let coefficient = match items.constraint(index) {
+            Some(constraint) => constraint.row.coefficient(variable),
+            None => {
+                is_whole = false;
+                Frac::zero()
+            }
+        };
+        if !coefficient.is_zero() {
+            count = count.saturating_add(1);
+            if count <= MOST_SOURCES {
+                f.write_str(if count == 1 { " " } else { ", " })?;
+                write!(f, "{multiplier} x {coefficient} of [{index}]")?;
+            }
+        }
+    }
+    f.write_str(if count > MOST_SOURCES || !is_whole {
+        " ..\n"
+    } else if count == 0 {
+        " no entry\n"
+    } else {
+        "\n"
+    })
 }

@@ -7,14 +7,14 @@ use crate::drops::LastUse;
 use crate::excerpt::{KnownPlace, PlaceLabel};
 use crate::items::{Items, read_items};
 use crate::marks::mark_of;
-use crate::mends::{Mend, find_mends, is_turned};
-use crate::reason::{ReasonLines, step_indices};
+use crate::mends::{Mend, StatedSum, find_mends, is_turned};
+use crate::reason::{ReasonLines, step_indices, write_sources};
 use crate::shown::PlacedItems;
 use crate::text::{Reread, Subject};
 use std::alloc::{AllocError, Global};
 use std::fmt;
 use std::fmt::{Formatter, Write};
-use vipr_cert::{Problem, Reason};
+use vipr_cert::{Problem, Reason, References};
 use vipr_check::{StepDetail, cause};
 use vipr_linear::{Constraint, covers};
 use vipr_page::{
@@ -23,6 +23,9 @@ use vipr_page::{
 };
 use vipr_rules::Profile;
 use vipr_scan::TextError;
+
+/// How many variables are shown with the entries that bring their coefficients.
+const MOST_SOURCES: usize = 3;
 
 /// What is wrong with a derivation: the cause, the index of its constraint, and the part at fault.
 #[derive(Clone, Copy)]
@@ -56,8 +59,6 @@ struct StepFacts<'a> {
     /// Whether its two assumptions are a split by the second profile.
     is_split: bool,
     dropped: Option<LastUse<'a>>,
-    /// Whether its reason is `sol`.
-    is_cutoff: bool,
 }
 
 impl<'a> RefusedStep<'a> {
@@ -107,7 +108,7 @@ impl<'a> RefusedStep<'a> {
             reason: &own.reason,
         };
         reason.write(f)?;
-        write_detail(f, self, problem, fault.what)?;
+        write_detail(f, self, &own.reason, fault.what)?;
         write_help(f, fault.cause, problem.cons().len())?;
         match self.facts.dropped {
             Some(dropped) => dropped.write(f, file),
@@ -155,13 +156,15 @@ impl<'a> StepFacts<'a> {
         let differences = differences_of(subject.alloc, fault.what)?;
         let faults = faults_of(subject.alloc, problem, fault.what)?;
         let mends = match fault.what {
-            StepDetail::Rows { stated, .. } => find_mends(
-                subject.alloc,
-                &known.items,
-                reason,
-                stated.sense,
-                differences.as_slice(),
-            )?,
+            StepDetail::Rows { computed, stated } => {
+                let sum = StatedSum {
+                    items: &known.items,
+                    reason,
+                    computed,
+                    stated,
+                };
+                find_mends(subject.alloc, sum, differences.as_slice())?
+            }
             _ => Vec::new(subject.alloc),
         };
         Ok(StepFacts {
@@ -172,7 +175,6 @@ impl<'a> StepFacts<'a> {
             rounded: rounding_of(problem, reason, fault.what),
             is_split: are_split(problem, fault.what),
             dropped,
-            is_cutoff: matches!(reason, Reason::Sol),
         })
     }
 }
@@ -262,10 +264,11 @@ fn write_fault<W: Write>(f: &mut Formatter<W>, fault: StepFault<'_>) -> fmt::Res
 fn write_detail<W: Write>(
     f: &mut Formatter<W>,
     refused: &RefusedStep<'_>,
-    problem: &Problem,
+    reason: &Reason,
     what: &StepDetail,
 ) -> fmt::Result {
     let facts = &refused.facts;
+    let problem = &refused.known.items.problem;
     let faults = RowFaults {
         problem,
         faults: facts.faults.as_slice(),
@@ -281,13 +284,18 @@ fn write_detail<W: Write>(
                 differences: facts.differences.as_slice(),
             };
             write!(f, "{difference}")?;
+            if let References::Entries(entries) = reason.references() {
+                for difference in facts.differences.iter().take(MOST_SOURCES) {
+                    write_sources(f, &refused.known.items, entries, difference.variable)?;
+                }
+            }
             if let Some(bound) = facts.rounded {
                 write!(
                     f,
                     "  = help: `rnd` in place of `lin` rounds the right-hand side to {bound}\n"
                 )?;
             }
-            write_repair(f, refused, computed, stated)
+            write_repair(f, refused, reason, computed, stated)
         }
         StepDetail::Sum(sum) => {
             write_labelled(f, problem, "    sum        ", sum)?;
@@ -319,11 +327,12 @@ fn write_detail<W: Write>(
 fn write_repair<W: Write>(
     f: &mut Formatter<W>,
     refused: &RefusedStep<'_>,
+    reason: &Reason,
     computed: &Constraint,
     stated: &Constraint,
 ) -> fmt::Result {
     let facts = &refused.facts;
-    if facts.is_cutoff {
+    if matches!(reason, Reason::Sol) {
         return f.write_str(
             "  = help: state what was computed: `sol` gives the best listed value, and nothing \
              better\n",
