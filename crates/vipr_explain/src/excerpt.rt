@@ -55,20 +55,17 @@ impl<'a> KnownPlace<'a> {
         let line = self.spot.line;
         let column = self.spot.column;
         let margin = digits_of(line);
-        write_copies(f, " ", margin)?;
-        write!(f, "--> {}:{line}:{column}\n", StrangeBytes(file))?;
-        write_copies(f, " ", margin)?;
-        f.write_str(" |\n")?;
+        write_behind(f, margin, "--> ")?;
+        write!(f, "{}:{line}:{column}\n", StrangeBytes(file))?;
+        write_behind(f, margin, " |\n")?;
         self.write_line(f)?;
-        write_copies(f, " ", margin)?;
+        write_behind(f, margin, " | ")?;
         self.write_carets(f)?;
         match label {
-            PlaceLabel::Words(words) => f.write_str(words)?,
-            PlaceLabel::LastReference(last) => write!(f, "write {last} or -1 here")?,
+            PlaceLabel::Words(words) => write!(f, " {words}\n")?,
+            PlaceLabel::LastReference(last) => write!(f, " write {last} or -1 here\n")?,
         }
-        f.write_str("\n")?;
-        write_copies(f, " ", margin)?;
-        f.write_str(" |\n")
+        write_behind(f, margin, " |\n")
     }
 
     // Writes the part of the line.
@@ -83,13 +80,11 @@ impl<'a> KnownPlace<'a> {
 
     // Writes carets below the place.
     fn write_carets<W: Write>(&self, f: &mut Formatter<W>) -> fmt::Result {
-        f.write_str(" | ")?;
         write_copies(f, " ", self.front().len())?;
         write_copies(f, " ", width_of_all(self.before))?;
         let size = self.size.min(self.behind.len());
         let carets = width_of_all(&self.behind[..size]);
-        write_copies(f, "^", carets.max(1).min(MOST_CARETS))?;
-        f.write_str(" ")
+        write_copies(f, "^", carets.max(1).min(MOST_CARETS))
     }
 
     // What stands for the bytes of the line that are left out in front.
@@ -141,6 +136,12 @@ pub(crate) enum PlaceLabel {
     Words(&'static str),
     /// What the last reference there has to be.
     LastReference(u32),
+}
+
+// Writes a text behind so many spaces.
+fn write_behind<W: Write>(f: &mut Formatter<W>, margin: usize, text: &str) -> fmt::Result {
+    write_copies(f, " ", margin)?;
+    f.write_str(text)
 }
 
 // Writes a text so many times.

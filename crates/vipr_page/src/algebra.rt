@@ -151,20 +151,42 @@ impl Display for Terms<'_> {
                 let entry = *first;
                 let (_, coefficient) = entry;
                 let sign = if coefficient.numer() < 0 { "-" } else { "" };
-                write!(f, "{sign}{}", Term { problem, entry })?;
-                for other in others {
-                    let entry = *other;
-                    let (_, coefficient) = entry;
-                    let sign = if coefficient.numer() < 0 {
-                        " - "
-                    } else {
-                        " + "
-                    };
-                    write!(f, "{sign}{}", Term { problem, entry })?;
-                }
-                Ok(())
+                let others = OtherTerms {
+                    problem,
+                    entries: others,
+                };
+                write!(f, "{sign}{}{others}", Term { problem, entry })
             }
         }
+    }
+}
+
+// The terms behind the first one, each with its sign.
+#[derive(Clone, Copy)]
+struct OtherTerms<'a> {
+    problem: &'a Problem,
+    entries: &'a [(u32, Frac)],
+}
+
+impl Display for OtherTerms<'_> {
+    ghost use Rattle.std.specs.Prelude.{flat_map};
+    ghost use Rattle.vipr_page.specs.Algebra.{next_term};
+
+    ghost output = { λ t. Some (flat_map (next_term t.problem.now.names) t.entries.now) };
+
+    fn fmt<W: Write>(&self, f: &mut Formatter<W>) -> fmt::Result {
+        let problem = self.problem;
+        for other in self.entries {
+            let entry = *other;
+            let (_, coefficient) = entry;
+            let sign = if coefficient.numer() < 0 {
+                " - "
+            } else {
+                " + "
+            };
+            write!(f, "{sign}{}", Term { problem, entry })?;
+        }
+        Ok(())
     }
 }
 
