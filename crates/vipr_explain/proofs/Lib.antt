@@ -5,3 +5,6 @@ mod Lacks
 mod Tokens
 mod Finding
 mod Marking
+mod NearOrder
+mod Nearing
+mod Gaps

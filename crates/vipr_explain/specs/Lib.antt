@@ -8,3 +8,5 @@ pub mod Syntax
 pub mod Drops
 pub mod Words
 pub mod Refused
+pub mod Near
+pub mod Claims

@@ -1,4 +1,8 @@
 //! What proves the claim, and which constraints come nearest to it if none does.
+ghost use Rattle.std.specs.Prelude.{IfOk, map};
+ghost use Rattle.vipr_rules.specs.Profile.{profile_of};
+ghost use Rattle.vipr_explain.specs.Found.{AreItemsOf};
+ghost use Rattle.vipr_explain.specs.Claims.{IsGoalRead, IsUnproved};
 
 use crate::items::open_problem;
 use crate::near::{Join, Near, NearSearch, find_near};
@@ -26,7 +30,10 @@ pub(crate) struct ProvedClaim {
 
 impl ProvedClaim {
     /// Reads what proves the claim of a report.
-    pub(crate) fn find(subject: Subject<'_>, report: &Report) -> Reread<ProvedClaim> {
+    pub(crate) fn find(subject: Subject<'_>, report: &Report) -> Reread<ProvedClaim>
+        ensures { IfOk result
+            (λ k. IsGoalRead subject.entry.text.now report.now.goal k.goal) }
+    {
         let values = ListedValues::find(subject)?;
         match read_goal(subject, report) {
             Ok(goal) => Ok(ProvedClaim { goal, values }),
@@ -39,7 +46,9 @@ impl ProvedClaim {
 }
 
 // Reads the constraint that proves the dual side.
-fn read_goal(subject: Subject<'_>, report: &Report) -> Reread<Option<PlacedItems>> {
+fn read_goal(subject: Subject<'_>, report: &Report) -> Reread<Option<PlacedItems>>
+    ensures { IfOk result (IsGoalRead subject.entry.text.now report.now.goal) }
+{
     match report.goal {
         Some(goal) => Ok(Some(PlacedItems::read(subject, [goal].as_slice())?)),
         None => Ok(None),
@@ -81,7 +90,10 @@ pub(crate) struct UnprovedClaim {
 
 impl UnprovedClaim {
     /// Reads the constraints that come nearest.
-    pub(crate) fn find(subject: Subject<'_>) -> Reread<UnprovedClaim> {
+    pub(crate) fn find(subject: Subject<'_>) -> Reread<UnprovedClaim>
+        ensures { IfOk result
+            (IsUnproved (profile_of subject.entry.profile) subject.entry.text.now) }
+    {
         let has_solution = has_solution(subject)?;
         let search = find_near(subject)?;
         match read_near(subject, search.near.as_slice()) {
@@ -118,7 +130,10 @@ fn has_solution(subject: Subject<'_>) -> Reread<bool> {
 }
 
 // Reads constraints that come near.
-fn read_near(subject: Subject<'_>, near: &[Near]) -> Reread<PlacedItems> {
+fn read_near(subject: Subject<'_>, near: &[Near]) -> Reread<PlacedItems>
+    ensures { IfOk result
+        (AreItemsOf subject.entry.text.now (map (λ n. n.index) near.now)) }
+{
     let mut wanted = Vec::new(subject.alloc);
     for item in near {
         wanted.push(item.index)?;
@@ -171,9 +186,7 @@ fn write_advice<W: Write>(f: &mut Formatter<W>, known: &UnprovedClaim) -> fmt::R
     }
     let given = known.items.items.problem.cons().len();
     let is_strong = near.iter().any(|near| near.is_strong);
-    let free = near
-        .iter()
-        .find(|near| near.assumptions.is_empty() && near.gap.is_some());
+    let free = near.iter().find(|near| near.is_free && near.gap.is_some());
     match (known.bound(), free) {
         (Some(_), Some(free)) if free.index as usize >= given || !is_strong => {
             let index = free.index;
@@ -230,7 +243,7 @@ fn write_near<W: Write>(f: &mut Formatter<W>, known: &UnprovedClaim, near: &Near
 
 // Writes the first assumptions that a constraint rests on, and how many others there are.
 fn write_assumptions<W: Write>(f: &mut Formatter<W>, near: &Near) -> fmt::Result {
-    if near.assumptions.is_empty() {
+    if near.is_free {
         return f.write_str(", rests on no assumption\n");
     }
     f.write_str(", rests on")?;
