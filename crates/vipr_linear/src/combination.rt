@@ -114,6 +114,7 @@ impl Combination {
 
     /// Adds the multiple of a constraint. A multiplier 0 changes nothing. After an error it is
     /// spent.
+    #[inline(never)]
     pub fn add(&mut self, constraint: &Constraint, multiplier: Frac) -> Result<(), CombError>
         requires { NamesBelow (length self.old.sums) (at constraint.now.row) }
         ensures ok { IsOk result ↔ CanAdd self.old (multiplier, condition_of constraint.now) }

@@ -177,6 +177,7 @@ fn add_up<S: Rows>(
 }
 
 // The error of the first reference of these entries that fails, or else this one.
+#[inline(never)]
 fn first_error<S: Rows>(
     context: &Context<S>,
     entries: &[(u32, Frac)],
@@ -217,6 +218,7 @@ fn join(
 }
 
 // Adds the multiple of a constraint, that of the entry at a position.
+#[inline(always)]
 fn add_multiple(
     scratch: &mut Combination,
     constraint: &Constraint,

@@ -69,6 +69,7 @@ impl Union {
     }
 
     /// Adds a set.
+    #[inline(always)]
     pub fn add(&mut self, alloc: Global, more: &Assumptions) -> Result<(), AllocError>
         ensures union { OnOk result
             (union_so_far self.new ≡ set.union (union_so_far self.old) more.now) }
