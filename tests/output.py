@@ -173,14 +173,14 @@ def large():
 
 
 def small_stack():
-    """A new OUT, one that is there and one by a link, beside what a killed run left, with a stack of 72 kB."""
+    """A new OUT, one that is there and one by a link, beside what a killed run left, with a stack of 64 kB."""
     folder, file = fresh()
     out = folder / 'out'
     (folder / 'link').symlink_to('out')
     for name in 'out', 'out', 'link':
         (folder / '.vipr-tighten-0.tmp').touch()
         got = run(['tighten', file, '--out', folder / name], b'',
-                  lambda: resource.setrlimit(resource.RLIMIT_STACK, (72 << 10, 72 << 10)), env={})
+                  lambda: resource.setrlimit(resource.RLIMIT_STACK, (64 << 10, 64 << 10)), env={})
         expect('tighten to OUT with a small stack', (got, out.read_bytes()), ((b'', KEPT, 0), TIGHT))
 
 

@@ -79,6 +79,7 @@ pub(crate) fn explain_job<R: Source + Drop, O: Sink>(
 
 /// Prints the answer for a certificate, whose whole text is read into memory for that. Answers the
 /// exit status, the verdict's.
+#[inline(never)]
 fn print_in_memory<R: Source + Drop, O: Sink>(
     alloc: Global,
     task: Task,
