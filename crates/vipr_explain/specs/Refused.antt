@@ -1,7 +1,9 @@
 -- What is found of a derivation or a listed solution that is refused
 use Rattle.std.specs.Prelude.{◌≡◌, ◌↔◌, ℕ, ℤ, ⊤, List, [], ◌∷◌, IfSome, IsTrue, Option, Some}
-use Rattle.std.specs.Prelude.{None, option_map}
+use Rattle.std.specs.Prelude.{None, option_map, ◌≤◌, ◌⊎◌}
+use Rattle.std.specs.List.{All}
 use Rattle.vipr_spec.specs.Constraint.{Ints, IsSplit, two}
+use Rattle.vipr_spec.specs.Reading.{problem_read}
 use Rattle.vipr_linear.specs.Constraint.{condition_of, constraint_of}
 use Rattle.vipr_cert.specs.declared.items.Derivation.{Derivation}
 use Rattle.vipr_cert.specs.declared.items.Reason.{Reason}
@@ -10,6 +12,10 @@ use Rattle.vipr_check.specs.declared.detail.Detail.{Detail}
 use Rattle.vipr_check.specs.declared.detail.Detail.TheVariants as detail
 use Rattle.vipr_check.specs.declared.detail.StepDetail.{StepDetail}
 use Rattle.vipr_check.specs.declared.detail.StepDetail.TheVariants as what
+use Rattle.vipr_check.specs.declared.verdict.Place.{Place}
+use Rattle.vipr_check.specs.declared.verdict.Place.TheVariants as at
+use Rattle.vipr_check.specs.declared.verdict.Verdict.{Verdict}
+use Rattle.vipr_check.specs.declared.verdict.Verdict.TheVariants as verdict
 use Rattle.vipr_page.specs.Differences.{row_differences}
 use Rattle.vipr_page.specs.Repairs.{IsRounded}
 use Rattle.vipr_page.specs.RowFaults.{row_faults}
@@ -17,7 +23,8 @@ use Rattle.vipr_page.specs.declared.differences.Difference.{Difference}
 use Rattle.vipr_page.specs.declared.faults.RowFault.{RowFault}
 use Rattle.vipr_explain.specs.Drops.{IsLastUse}
 use Rattle.vipr_explain.specs.Excerpts.{IsPlaceAt}
-use Rattle.vipr_explain.specs.Found.{AreFoundItems, AreItemsOf, text_rest}
+use Rattle.vipr_explain.specs.Found.{AreFoundItems, AreItemsOf, HasFault, LacksListed, items_up_to}
+use Rattle.vipr_explain.specs.Found.{text_rest}
 use Rattle.vipr_explain.specs.Listed.{kept_derivation, place_found}
 use Rattle.vipr_explain.specs.Marked.{IsMarkOf, marks_in}
 use Rattle.vipr_explain.specs.declared.drops.LastUse.{LastUse}
@@ -97,6 +104,27 @@ pub record IsRefusedStep (text : List ℕ) (k : ℕ) (detail : StepDetail) (s : 
     : Type 0 where
   pub own : AreFoundItems (k ∷ []) (text_rest text) s.own
   pub named : AreNamedBy text s.own k detail (s.known, s.facts)
+
+-- ---- what a text lacks
+
+-- the derivations up to constraint k can't be read, or none of them is of k
+abbrev pub LacksStep : List ℕ → ℕ → Type 0
+LacksStep text k =
+    ((wanted : List ℕ) × All (λ i. i ≤ k) wanted × HasFault (items_up_to wanted (text_rest text)))
+    ⊎ ((own : Items) × AreFoundItems (k ∷ []) (text_rest text) own
+    × (kept_derivation own.derivations.items k ≡ None))
+
+-- the item at this place can't be read; nothing is said of the end
+abbrev pub LacksPlace : List ℕ → Place → Type 0
+LacksPlace text (at.Byte offset) = ⊥
+LacksPlace text (at.Sol number) = LacksListed number (problem_read (text_rest text))
+LacksPlace text (at.Der index) = LacksStep text index
+LacksPlace text at.End = ⊤
+
+-- what a verdict is about
+abbrev pub LacksItem : List ℕ → Verdict → Type 0
+LacksItem text (verdict.Verified report) = ⊤
+LacksItem text (verdict.Refused refusal) = LacksPlace text refusal.place
 
 -- the place of a solution
 abbrev pub IsSolutionPlace : List ℕ → ℕ → Option KnownPlace → Type 0

@@ -37,8 +37,10 @@ pub(crate) struct LastUse<'a> {
 impl<'a> LastUse<'a> {
     /// Reads it, if that such a constraint is needed is the fault.
     pub(crate) fn of(subject: Subject<'a>, fault: StepFault<'_>) -> Reread<Option<LastUse<'a>>>
-        ensures { IfOk result (λ found. IfSome found
+        ensures found { IfOk result (λ found. IfSome found
             (λ l. IsLastUseIn subject.entry.text.now l.index fault.entry.index l)) }
+        ensures missing { IfErr result
+            (λ m. Missed m (head_read (text_rest subject.entry.text.now))) }
     {
         match fault.what {
             StepDetail::Index(index) if fault.cause == cause::DROPPED => {
@@ -50,7 +52,9 @@ impl<'a> LastUse<'a> {
 
     // Reads that of a constraint, which a derivation needs.
     fn find(subject: Subject<'a>, index: u32, user: u32) -> Reread<LastUse<'a>>
-        ensures { IfOk result (IsLastUseIn subject.entry.text.now index user) }
+        ensures found { IfOk result (IsLastUseIn subject.entry.text.now index user) }
+        ensures missing { IfErr result
+            (λ m. Missed m (head_read (text_rest subject.entry.text.now))) }
     {
         let last = last_use(subject.alloc, subject.text, index, user)?;
         let mark = find_item(subject.alloc, subject.text, ItemSort::Constraints, index)?;

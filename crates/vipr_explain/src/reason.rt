@@ -1,4 +1,6 @@
 //! The reason of a derivation, with the constraints that it refers to.
+ghost use Rattle.std.specs.Prelude.{◌≤◌, IfOk, OnOk};
+ghost use Rattle.std.specs.List.{All};
 
 use crate::items::Items;
 use crate::shown::{ListedConstraint, PlacedItems};
@@ -22,7 +24,9 @@ pub(crate) fn step_indices(
     alloc: Global,
     fault: StepFault<'_>,
     reason: &Reason,
-) -> Result<Vec<u32>, AllocError> {
+) -> Result<Vec<u32>, AllocError>
+    ensures { IfOk result (λ wanted. All (λ i. i ≤ fault.entry.index) wanted.items) }
+{
     let mut wanted = Vec::new(alloc);
     wanted.push(fault.index)?;
     match reason.references() {
@@ -47,7 +51,10 @@ pub(crate) fn step_indices(
 }
 
 // Adds a constraint that is before the derivation: of another one nothing is shown.
-fn add_earlier(wanted: &mut Vec<u32>, own: u32, index: u32) -> Result<(), AllocError> {
+fn add_earlier(wanted: &mut Vec<u32>, own: u32, index: u32) -> Result<(), AllocError>
+    ensures { All (λ i. i ≤ own) wanted.old.items
+        → OnOk result (All (λ i. i ≤ own) wanted.new.items) }
+{
     if index < own {
         wanted.push(index)?;
     }

@@ -1,6 +1,6 @@
 //! The constraints that an explanation names, and how each is shown.
-ghost use Rattle.std.specs.Prelude.{IfOk};
-ghost use Rattle.vipr_explain.specs.Found.{AreItemsOf};
+ghost use Rattle.std.specs.Prelude.{IfErr, IfOk};
+ghost use Rattle.vipr_explain.specs.Found.{AreItemsOf, Missed, items_up_to, text_rest};
 
 use crate::items::{Items, read_items};
 use crate::marks::{ItemPlace, ItemSort, find_items, mark_of};
@@ -19,7 +19,9 @@ pub(crate) struct PlacedItems {
 impl PlacedItems {
     /// Reads the constraints of these indices.
     pub(crate) fn read(subject: Subject<'_>, wanted: &[u32]) -> Reread<PlacedItems>
-        ensures { IfOk result (AreItemsOf subject.entry.text.now wanted.now) }
+        ensures read { IfOk result (AreItemsOf subject.entry.text.now wanted.now) }
+        ensures missing { IfErr result
+            (λ m. Missed m (items_up_to wanted.now (text_rest subject.entry.text.now))) }
     {
         let items = read_items(subject.alloc, subject.text, wanted)?;
         match find_items(subject.alloc, subject.text, ItemSort::Constraints, wanted) {

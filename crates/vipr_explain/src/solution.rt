@@ -1,7 +1,8 @@
 //! A listed solution that is refused, and a primal bound that no listed one attains.
-ghost use Rattle.std.specs.Prelude.{IfOk};
+ghost use Rattle.std.specs.Prelude.{IfErr, IfOk};
 ghost use Rattle.vipr_cert.specs.Items.{solution_of};
-ghost use Rattle.vipr_explain.specs.Found.{IsListedSolution, text_rest};
+ghost use Rattle.vipr_spec.specs.Reading.{problem_read};
+ghost use Rattle.vipr_explain.specs.Found.{Because, IsListedSolution, LacksListed, text_rest};
 ghost use Rattle.vipr_explain.specs.Refused.{IsBroken, IsSolutionPlace};
 
 use crate::excerpt::{KnownPlace, PlaceLabel};
@@ -45,6 +46,8 @@ impl<'a> RefusedSolution<'a> {
     ) -> Reread<RefusedSolution<'a>>
         ensures listed { IfOk result (λ s. IsListedSolution number
             (text_rest subject.entry.text.now) s.problem (solution_of s.solution)) }
+        ensures missing { IfErr result (λ m. Because m
+            (LacksListed number (problem_read (text_rest subject.entry.text.now)))) }
         ensures place { IfOk result
             (λ s. IsSolutionPlace subject.entry.text.now number s.place) }
         ensures broken { IfOk result

@@ -1,7 +1,9 @@
 //! A derivation that is refused.
-ghost use Rattle.std.specs.Prelude.{◌≡◌, ◌↔◌, IfOk, IsTrue};
+ghost use Rattle.std.specs.Prelude.{◌≡◌, ◌↔◌, ◌∷◌, [], IfErr, IfOk, IsTrue};
+ghost use Rattle.vipr_explain.specs.Found.{AreFoundItems, Because, Missed, head_read, text_rest};
 ghost use Rattle.vipr_explain.specs.Refused.{AreFacts, AreNamedBy, AreSplit, IsNamePlace};
-ghost use Rattle.vipr_explain.specs.Refused.{IsRefusedStep, IsRepair, differences_in, faults_in};
+ghost use Rattle.vipr_explain.specs.Refused.{IsRefusedStep, IsRepair, LacksStep, differences_in};
+ghost use Rattle.vipr_explain.specs.Refused.{faults_in};
 
 use crate::drops::LastUse;
 use crate::excerpt::{KnownPlace, PlaceLabel};
@@ -64,8 +66,10 @@ struct StepFacts<'a> {
 impl<'a> RefusedStep<'a> {
     /// Reads the derivation that is refused, and what it names.
     pub(crate) fn find(subject: Subject<'a>, fault: StepFault<'_>) -> Reread<RefusedStep<'a>>
-        ensures { IfOk result
+        ensures found { IfOk result
             (IsRefusedStep subject.entry.text.now fault.entry.index fault.entry.what.now) }
+        ensures missing { IfErr result
+            (λ m. Because m (LacksStep subject.entry.text.now fault.entry.index)) }
     {
         let own = read_items(subject.alloc, subject.text, [fault.index].as_slice())?;
         match read_named(subject, fault, &own) {
@@ -123,8 +127,11 @@ fn read_named<'a>(
     fault: StepFault<'_>,
     own: &Items,
 ) -> Reread<(PlacedItems, StepFacts<'a>)>
-    ensures { IfOk result
+    ensures found { IfOk result
         (AreNamedBy subject.entry.text.now own.now fault.entry.index fault.entry.what.now) }
+    ensures missing { AreFoundItems (fault.entry.index ∷ []) (text_rest subject.entry.text.now)
+        own.now
+        → IfErr result (λ m. Because m (LacksStep subject.entry.text.now fault.entry.index)) }
 {
     let Some(step) = own.derivation(fault.index) else {
         return Err(TextError::Read);
@@ -148,8 +155,10 @@ impl<'a> StepFacts<'a> {
         known: &PlacedItems,
         reason: &Reason,
     ) -> Reread<StepFacts<'a>>
-        ensures { IfOk result (AreFacts subject.entry.text.now known.now reason.now
+        ensures found { IfOk result (AreFacts subject.entry.text.now known.now reason.now
             fault.entry.index fault.entry.what.now) }
+        ensures missing { IfErr result
+            (λ m. Missed m (head_read (text_rest subject.entry.text.now))) }
     {
         let problem = &known.items.problem;
         let dropped = LastUse::of(subject, fault)?;

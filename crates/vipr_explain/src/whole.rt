@@ -1,4 +1,7 @@
 //! The whole explanation of a verdict: what is found for it, and how that is shown.
+ghost use Rattle.std.specs.Prelude.{IfErr};
+ghost use Rattle.vipr_explain.specs.Found.{Because};
+ghost use Rattle.vipr_explain.specs.Refused.{LacksItem, LacksPlace, LacksStep};
 
 use crate::goal::{ProvedClaim, ProvedPage, UnprovedClaim, UnprovedPage};
 use crate::solution::{ListedValues, RefusedSolution};
@@ -71,11 +74,9 @@ const NO_WHOLE_TEXT: &str = "\na read failed behind what is refused, so it isn't
 const ANOTHER_TEXT: &str = "\nthe verdict isn't one of this text, so it isn't explained\n";
 
 // Finds what explains a verdict.
-fn find<'a>(
-    subject: Subject<'a>,
-    verdict: &'a Verdict,
-    detail: &'a Detail,
-) -> Reread<Findings<'a>> {
+fn find<'a>(subject: Subject<'a>, verdict: &'a Verdict, detail: &'a Detail) -> Reread<Findings<'a>>
+    ensures { IfErr result (λ m. Because m (LacksItem subject.entry.text.now verdict.now)) }
+{
     match verdict {
         Verdict::Verified(report) => {
             Ok(Findings::Proved(ProvedClaim::find(subject, report)?, report))
@@ -89,24 +90,44 @@ fn find_refusal<'a>(
     subject: Subject<'a>,
     refusal: Refusal,
     detail: &'a Detail,
-) -> Reread<Findings<'a>> {
+) -> Reread<Findings<'a>>
+    ensures { IfErr result (λ m. Because m (LacksPlace subject.entry.text.now refusal.place)) }
+{
     let cause = refusal.cause;
-    match (refusal.place, detail) {
-        (Place::Byte(offset), _) => {
-            Ok(Findings::Text(TextFault::find(subject.text, offset), cause))
-        }
-        (Place::Sol(number), _) => {
+    match refusal.place {
+        Place::Byte(offset) => Ok(Findings::Text(TextFault::find(subject.text, offset), cause)),
+        Place::Sol(number) => {
             let known = RefusedSolution::find(subject, number, detail)?;
             Ok(Findings::Solution(known, detail))
         }
-        (Place::Der(index), Detail::Step { what, .. }) => {
+        Place::Der(index) => find_step(subject, cause, index, detail),
+        Place::End => find_end(subject, detail),
+    }
+}
+
+// Finds what explains the refusal of a derivation.
+fn find_step<'a>(
+    subject: Subject<'a>,
+    cause: u8,
+    index: u32,
+    detail: &'a Detail,
+) -> Reread<Findings<'a>>
+    ensures { IfErr result (λ m. Because m (LacksStep subject.entry.text.now index)) }
+{
+    match detail {
+        Detail::Step { what, .. } => {
             let fault = StepFault { cause, index, what };
             Ok(Findings::Step(RefusedStep::find(subject, fault)?, fault))
         }
-        (_, Detail::NoProof(_)) => Ok(Findings::NoProof(UnprovedClaim::find(subject)?)),
-        (_, Detail::NoPrimal(bound)) => {
-            Ok(Findings::NoPrimal(ListedValues::find(subject)?, *bound))
-        }
+        _ => Ok(Findings::Nothing),
+    }
+}
+
+// Finds what explains that a claim isn't proved, or not attained.
+fn find_end<'a>(subject: Subject<'a>, detail: &Detail) -> Reread<Findings<'a>> {
+    match detail {
+        Detail::NoProof(_) => Ok(Findings::NoProof(UnprovedClaim::find(subject)?)),
+        Detail::NoPrimal(bound) => Ok(Findings::NoPrimal(ListedValues::find(subject)?, *bound)),
         _ => Ok(Findings::Nothing),
     }
 }
