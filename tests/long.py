@@ -10,7 +10,8 @@ shown. Then texts that are no certificate, a line of binary bytes, names with co
 an explanation is easily wrong: what a constraint rests on, what comes near a claim, what a profile asks for; and texts
 that are large in one respect, so that a page could be cut off there. Every byte that is printed behind the first lines
 is printable ASCII or a line feed, and there are 65,536 of them at most. A file is opened once, a named pipe too. One
-that can't be opened has the answer of `vipr explain`, and in front of it a line with its name and the reason.
+that can't be opened has the answer of `vipr explain`, and in front of it a line with its name and the reason. Each
+multiplier of the problems is changed, and one with which the derivation follows, as the page says, is tried.
 
 Each page is compared with the one that tests/long_pages.txt has of its text, so no word of it changes unseen; --write
 writes that file. There is a page for each cause, by each of the two profiles where they differ; and each text in the
@@ -20,6 +21,7 @@ Prints each fault, and last `long: N checks, F failed`; the exit status is 1 if 
 """
 import errno
 import hashlib
+import itertools
 import os
 import re
 import shutil
@@ -446,6 +448,8 @@ UNREACHED = {
     'see the table of causes in docs/FORMAT.md', "\nthe verdict isn't one of this text, so it isn't explained\n",
     "\na read failed behind what is refused, so it isn't explained\n", '.. the rest is left out\n',
 }
+# What a page says of a multiplier with which a derivation follows: that, the present one if there is one, and where.
+MEND = re.compile(r'with the multiplier (\S+) (?:in place of (\S+) at|for one more entry,) \[(\d+)\].*, and the derivation follows')
 CHECKS = Checks('long')
 check = CHECKS.check
 pages = {}
@@ -529,6 +533,37 @@ def count_unreached():
         check(text in UNREACHED or re.search(pattern, whole), f'no page has this text of {file}: {text!r}')
 
 
+def mended(lines, at, words, first):
+    """Whether a page offers a multiplier with which the derivation of this line follows: then that is tried."""
+    def text(words):
+        return '\n'.join([*lines[:at], ' '.join(words), *lines[at + 1:]]).encode()
+    page = explained(['--long'], text(words))[0].decode()
+    found = MEND.search(page)
+    if not found:
+        return False
+    new, old, index = found.groups()
+    if old:
+        place = next(it for it in range(first, len(words), 2) if words[it:it + 2] == [index, old])
+        words = [*words[:place + 1], new, *words[place + 2:]]
+    else:
+        words = [*words[:first - 1], str(int(words[first - 1]) + 1), index, new, *words[first:]]
+    answer, place = explained([], text(words))[0].decode(), page.partition('\n')[0].partition(' at ')[2]
+    check(f' at {place}\n' not in answer, f'{answer} for {" ".join(words)}, the mend of {page}')
+    return True
+
+
+def mends_suffice():
+    """Each multiplier of the problems is changed: one with which the derivation follows, as the page says, is tried."""
+    offered = 0
+    for path in sorted(PROBLEMS.glob('*.vipr')):
+        lines = run([PROGRAM, 'show', path]).stdout.decode().splitlines()
+        for at, words in enumerate(map(str.split, lines)):
+            first = words.index('{') + 3 if '{' in words else len(words)
+            for place, changed in itertools.product(range(first + 1, len(words) - 2, 2), ('5', '-1/3')):
+                offered += mended(lines, at, [*words[:place], changed, *words[place + 1:]], first)
+    check(offered >= 20, f'a multiplier that suffices is offered {offered} times')
+
+
 def unread(path, reason):
     """A file that can't be opened: `fault read` is all that is printed without --long, which names it and the reason."""
     short, long = (run([PROGRAM, 'explain', *words, path]) for words in ([], ['--long']))
@@ -596,6 +631,7 @@ def main():
             page = page_of(path, wanted)
             check(wanted in page and len(page) >= length, f'{text[:400]!r}: {wanted!r} in {page}')
         of_a_pipe(Path(folder) / 'pipe', PROBLEMS / 'cutoff.vipr')
+        mends_suffice()
         path.write_text(LATE)
         check('write 9000 or -1 here' in page_of(path, 'a late reference'), 'a late reference')
     compare()
