@@ -94,3 +94,14 @@ impl<W: WriteOnce> Sink for FromWrite<W> {
         answer(self.writer.write_once(bytes))
     }
 }
+
+// It takes what memory allows: a write fails, and keeps nothing, where a growth is refused.
+impl Sink for Vec<u8> {
+    ghost output = { λ v. output_of (Some v.items) };
+
+    ghost failures = { λ _. None };
+
+    fn write(&mut self, bytes: &[u8]) -> Result<usize, Failed> {
+        answer(self.write_once(bytes))
+    }
+}
