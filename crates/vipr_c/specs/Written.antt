@@ -6,7 +6,7 @@ use Rattle.vipr_spec.specs.Constraint as is
 use Rattle.vipr_spec.specs.Grammar.{Spells}
 use Rattle.vipr_spec.specs.Reading.{certificate_read, refused}
 use Rattle.vipr_bytes.specs.Known.{text_of, IfKnown, IfWhole}
-use Rattle.vipr_bytes.specs.Output.{Output}
+use Rattle.vipr_bytes.specs.Output.{output_of}
 use Rattle.vipr_rules.specs.Profile.{profile_of}
 use Rattle.vipr_rules.specs.declared.profile.Profile.{Profile}
 use Rattle.vipr_write.specs.Forms.{text_in}
@@ -26,10 +26,6 @@ use Rattle.vipr_c.specs.declared.tightened.Figures.{Figures}
 -- the compact form, unless the flag is 0
 abbrev pub form_flagged : ℕ → Form
 form_flagged n = if n == 0 then Canonical else Compact
-
--- a sink that holds these bytes, and takes what memory allows
-abbrev pub holding : List ℕ → Output
-holding bytes = record { accepted = bytes; room = None }
 
 -- ---- a certificate that is shown
 
@@ -97,7 +93,7 @@ figures_of (Refused r) =
 -- what `tighten` writes of these bytes, with its status and figures
 abbrev pub IsTightened : Form → List ℕ → is.Profile → ℤ → List ℕ → Figures → Type 0
 IsTightened F bytes P status text figures = (x : Outcome)
-    × TightensAs P F (in_memory bytes) (Some (holding [])) (Some (holding text)) (Ok x)
+    × TightensAs P F (in_memory bytes) (output_of (Some [])) (output_of (Some text)) (Ok x)
     × (status ≡ pos (outcome_status x)) × (figures ≡ figures_of x)
 
 -- by the rules of a profile; 2 and no text if there is none

@@ -2,7 +2,6 @@
 #![tactic(auto)]
 
 mod answer;
-mod collected;
 mod name;
 mod report;
 mod shown;

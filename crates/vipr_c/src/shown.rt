@@ -6,7 +6,6 @@ ghost use Rattle.vipr_c.specs.Handed.{in_memory};
 ghost use Rattle.vipr_c.specs.Written.{ReturnsText, WritesWhole, form_flagged};
 
 use crate::answer::{Answer, NOTHING, answer_of};
-use crate::collected::Collected;
 use crate::status_and_text::{NO_MEMORY, StatusAndText};
 use std::alloc::Global;
 use vipr_bytes::Bytes;
@@ -51,11 +50,11 @@ fn respelled(alloc: Global, form: Form, text: &[u8]) -> Result<FoldedText, TextE
 fn written(alloc: Global, text: &FoldedText) -> StatusAndText
     ensures { WritesWhole text.now.bytes result.status result.text.items }
 {
-    let mut out = Collected::new(alloc);
+    let mut out = Vec::new(alloc);
     match text.write_to(alloc, &mut out) {
         Ok(()) => StatusAndText {
             status: 0,
-            text: out.bytes,
+            text: out,
         },
         Err(_) => StatusAndText::nothing(alloc, NO_MEMORY),
     }

@@ -1,13 +1,11 @@
 //! What `vipr tighten` writes, with its figures.
 
-ghost use Rattle.std.specs.Prelude.{◌≡◌, IfOk, Some};
+ghost use Rattle.std.specs.Prelude.{◌≡◌, IfOk};
 ghost use Rattle.vipr_rules.specs.Profile.{profile_of};
-ghost use Rattle.vipr_tighten.specs.Tightens.{TightensAs};
-ghost use Rattle.vipr_c.specs.Handed.{in_memory, profile_numbered};
-ghost use Rattle.vipr_c.specs.Written.{IsTightened, TightensBy, figures_of, holding};
+ghost use Rattle.vipr_c.specs.Handed.{profile_numbered};
+ghost use Rattle.vipr_c.specs.Written.{IsTightened, TightensBy, figures_of};
 
 use crate::answer::answer_of;
-use crate::collected::Collected;
 use crate::status_and_text::{NO_MEMORY, NO_PROFILE, StatusAndText, profile_numbered};
 use std::alloc::Global;
 use vipr_bytes::Bytes;
@@ -75,26 +73,13 @@ fn tightened_by(
     ensures { IfOk result (λ x. IsTightened form text.now (profile_of profile) x.0.status
         x.0.text.items x.1) }
 {
-    let mut out = Collected::new(alloc);
-    let outcome = tighten_into(alloc, profile, form, text, &mut out)?;
+    let mut out = Vec::new(alloc);
+    let outcome = tighten_as(alloc, profile, form, Bytes::new(text), &mut out)?;
     let made = StatusAndText {
         status: i32::from(outcome.status()),
-        text: out.bytes,
+        text: out,
     };
     Ok((made, figures_of(&outcome)))
-}
-
-fn tighten_into(
-    alloc: Global,
-    profile: Profile,
-    form: Form,
-    text: &[u8],
-    out: &mut Collected,
-) -> Result<Outcome, TightenFault>
-    ensures { TightensAs (profile_of profile) form (in_memory text.now)
-        (Some (holding out.old.bytes.items)) (Some (holding out.new.bytes.items)) result }
-{
-    tighten_as(alloc, profile, form, Bytes::new(text), out)
 }
 
 fn figures_of(outcome: &Outcome) -> Figures
