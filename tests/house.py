@@ -106,6 +106,23 @@ def types_twice():
             yield '%s is the name of %d types: %s' % (name, len(places[name]), ', '.join(places[name]))
 
 
+# the types that hold bytes that grow: a text, the buffer before a sink, what was read of a file, a page
+GROWING = {'Growing', 'SinkBuffer', 'ReadText', 'Page'}
+
+
+def growing_types():
+    """Bytes that grow are a `Growing` or a `Vec<u8>`, which is a sink: the types of GROWING alone have such a field."""
+    found = {}
+    for crate, part, path in files(('src',), ('.rt',)):
+        text = '' if is_test(path) else read(path)
+        for name, fields in re.findall(r'^(?:pub(?:\([a-z]+\))? )?struct (\w+)[^{;]*\{([^}]*)', text, re.M):
+            if any(re.search(r'\.%s\.(push|extend|append|resize|write)\w*\(' % field, text)
+                   for field in re.findall(r'(\w+): Vec<u8>', fields)):
+                found[name] = shown(path)
+    for name in sorted(GROWING ^ set(found)):
+        yield '%s: %s' % (found.get(name, 'no file'), name)
+
+
 # words that say nothing of what they name, and the fixed names that have one of them
 BANNED = re.compile(r'(?<![\w-])(told|tells|judged|taken|obey|obeys)(?![\w-])')
 FIXED = re.compile(r'\b(Write|Memory) \{ taken|\btaken: u64\b|\btaken: (failed\.accepted|0|front\.len\(\))|after \{taken\}')
@@ -409,7 +426,7 @@ def formatted():
             yield line.removeprefix(ROOT + os.sep)
 
 
-CHECKS = [foreign_proofs, private_lemmas, names_twice, types_twice, plain_words, comments_stand_alone, unused_imports, dead_lemmas, dead_calls, proofs_in_specs, long_lines, long_files, crates_are_there, graph_is_current,
+CHECKS = [foreign_proofs, private_lemmas, names_twice, types_twice, growing_types, plain_words, comments_stand_alone, unused_imports, dead_lemmas, dead_calls, proofs_in_specs, long_lines, long_files, crates_are_there, graph_is_current,
           statement_is_current, examples_are_there, causes_agree, edits_stand, samples_go_round, versions_agree, named_files_are_there,
           formatted]
 

@@ -1,13 +1,12 @@
 //! Files by their names.
-ghost use Rattle.std.specs.Prelude.{ℕ, List, Option, Some, None, IfOk, IfSome};
+ghost use Rattle.std.specs.Prelude.{ℕ, List, Option, IfOk, IfSome};
 ghost use Rattle.vipr_spec.specs.Input.{Input};
-ghost use Rattle.vipr_bytes.specs.Output.{output_of};
 ghost use Rattle.vipr_command.specs.Folder.{BeginsEmpty, IsFileOf, Replaces, Unchanged, one_file};
 
 use std::alloc::{AllocError, Global};
 use std::io;
 use std::io::ErrorKind;
-use vipr_bytes::{Bytes, Failed, Sink, Source, WriteFailed};
+use vipr_bytes::{Bytes, Sink, Source, WriteFailed};
 
 /// Files that can be read and replaced, by their names.
 pub trait Folder {
@@ -55,31 +54,12 @@ pub struct OneFile<'a> {
     pub text: &'a [u8],
 }
 
-/// A text in memory.
-#[derive(Drop)]
-pub struct NewText {
-    bytes: Vec<u8>,
-}
-
-impl Sink for NewText {
-    ghost output = { λ text. output_of (Some text.bytes.items) };
-
-    ghost failures = { λ _. None };
-
-    fn write(&mut self, bytes: &[u8]) -> Result<usize, Failed> {
-        match self.bytes.extend_from_slice(bytes) {
-            Ok(()) => Ok(bytes.len()),
-            Err(_) => Err(Failed),
-        }
-    }
-}
-
 impl<'a> Folder for OneFile<'a> {
     ghost holds = { λ f. one_file f.name.now f.text.now };
 
     type In = Bytes<'a>;
 
-    type Out = NewText;
+    type Out = Vec<u8>;
 
     fn open(&self, name: &str) -> io::Result<Bytes<'a>> {
         if name == self.name {
@@ -89,23 +69,21 @@ impl<'a> Folder for OneFile<'a> {
         }
     }
 
-    fn begin(&self, _name: &str) -> Result<NewText, AllocError> {
-        Ok(NewText {
-            bytes: Vec::new(self.alloc),
-        })
+    fn begin(&self, _name: &str) -> Result<Vec<u8>, AllocError> {
+        Ok(Vec::new(self.alloc))
     }
 
-    fn keep(&mut self, name: &str, text: NewText) -> Result<(), WriteFailed> {
+    fn keep(&mut self, name: &str, text: Vec<u8>) -> Result<(), WriteFailed> {
         if name != self.name {
             return Err(WriteFailed {
-                accepted: text.bytes.len() as u64,
+                accepted: text.len() as u64,
             });
         }
-        self.text = text.bytes.leak();
+        self.text = text.leak();
         Ok(())
     }
 
-    fn abandon(&mut self, text: NewText) {
+    fn abandon(&mut self, text: Vec<u8>) {
         drop(text);
     }
 }
