@@ -1,6 +1,6 @@
 //! Spells a certificate in its canonical text.
 use std::alloc::Global;
-use vipr_lib::{Bytes, FromWrite, TextError, WriteError, read_certificate, write_certificate};
+use vipr_lib::{Bytes, TextError, WriteError, read_certificate, write_certificate};
 
 /// The canonical text of the certificate that the bytes spell.
 ///
@@ -10,7 +10,7 @@ use vipr_lib::{Bytes, FromWrite, TextError, WriteError, read_certificate, write_
 pub fn canonical(alloc: Global, text: &[u8]) -> Result<Vec<u8>, TextError> {
     let certificate = read_certificate(alloc, Bytes::new(text))?;
     let mut out = Vec::new(alloc);
-    match write_certificate(alloc, &certificate, &mut FromWrite::new(&mut out)) {
+    match write_certificate(alloc, &certificate, &mut out) {
         Ok(()) => Ok(out),
         // A vector takes each write whole, or has no memory for it.
         Err(WriteError::Write { .. } | WriteError::Memory { .. }) => Err(TextError::Memory),

@@ -10,8 +10,8 @@
 //! | check it item by item | [`Checker`] |
 //!
 //! Each reads from a [`Source`]: [`Bytes`] over a slice, or [`FromRead`] over a reader of std. What
-//! writes does so to a [`Sink`]: [`FromWrite`] over a writer of std. Answers print with `{}`, in
-//! the words of the program `vipr`.
+//! writes does so to a [`Sink`]: a `Vec<u8>`, or [`FromWrite`] over a writer of std. Answers print
+//! with `{}`, in the words of the program `vipr`.
 #![tactic(auto)]
 
 pub use vipr_bytes::{Bytes, Failed, FromRead, FromWrite, Sink, Source, WriteFailed};

@@ -38,7 +38,7 @@ use vipr_write::{Form, WriteError, write_steps};
 ///
 /// ```rust crates/vipr_example/src/tighten.rt
 /// let mut out = Vec::new(alloc);
-/// match tighten(alloc, Bytes::new(text), &mut FromWrite::new(&mut out))? {
+/// match tighten(alloc, Bytes::new(text), &mut out)? {
 ///     Outcome::Tightened { .. } => Ok(Some(out)),
 ///     Outcome::Refused(_) => Ok(None),
 /// }

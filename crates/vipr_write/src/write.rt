@@ -55,7 +55,7 @@ impl From<WriteFailed> for WriteError {
 ///
 /// ```rust crates/vipr_example/src/text.rt
 /// let mut out = Vec::new(alloc);
-/// match write_certificate(alloc, &certificate, &mut FromWrite::new(&mut out)) {
+/// match write_certificate(alloc, &certificate, &mut out) {
 ///     Ok(()) => Ok(out),
 ///     // A vector takes each write whole, or has no memory for it.
 ///     Err(WriteError::Write { .. } | WriteError::Memory { .. }) => Err(TextError::Memory),

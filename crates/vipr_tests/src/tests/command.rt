@@ -3,7 +3,7 @@ use super::same;
 use super::tighten::{IGNORED, ROUNDED};
 use std::alloc::Global;
 use std::process::Abort;
-use vipr_bytes::{Bytes, FromWrite};
+use vipr_bytes::Bytes;
 use vipr_command::{CommandFault, OneFile, run_over};
 
 const NAME: &str = "plan.vipr";
@@ -19,14 +19,7 @@ fn run(
     let mut out = Vec::new(alloc);
     let mut err = Vec::new(alloc);
     let input = Bytes::new(b"");
-    let answer = run_over(
-        alloc,
-        file,
-        words,
-        input,
-        &mut FromWrite::new(&mut out),
-        &mut FromWrite::new(&mut err),
-    );
+    let answer = run_over(alloc, file, words, input, &mut out, &mut err);
     if answer.is_ok() {
         same(rt, out.as_slice(), wanted);
     }

@@ -2,7 +2,7 @@
 use super::{same, spelled};
 use std::alloc::Global;
 use std::process::Abort;
-use vipr_bytes::{Failed, FromWrite, Sink};
+use vipr_bytes::{Failed, Sink};
 use vipr_cert::Certificate;
 use vipr_write::{WriteError, write_certificate};
 
@@ -96,16 +96,15 @@ impl Sink for Taking {
     }
 }
 
-fn write_into(rt: &impl Abort, alloc: Global, certificate: &Certificate, bytes: &mut Vec<u8>) {
-    let mut sink = FromWrite::new(bytes);
-    same(rt, write_certificate(alloc, certificate, &mut sink), Ok(()));
-}
-
 /// Compares what is written for a certificate.
 pub(super) fn is_written(rt: &impl Abort, alloc: Global, certificate: Certificate, wanted: &[u8]) {
     // the writer has its room before
     let mut bytes = Vec::with_capacity(alloc, 4096).expect(rt, "room");
-    write_into(rt, alloc, &certificate, &mut bytes);
+    same(
+        rt,
+        write_certificate(alloc, &certificate, &mut bytes),
+        Ok(()),
+    );
     same(rt, bytes.as_slice(), wanted);
     drop((certificate, bytes));
 }

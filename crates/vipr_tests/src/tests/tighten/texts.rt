@@ -4,7 +4,7 @@ use crate::tests::check::{ABSURD, BRANCHES, BRANCHES_AND_MORE};
 use crate::tests::same;
 use std::alloc::{AllocError, Global};
 use std::process::Abort;
-use vipr_bytes::{Bytes, Failed, FromWrite, Sink, Source};
+use vipr_bytes::{Bytes, Failed, Sink, Source};
 use vipr_check::{Place, Refusal, Verdict, check};
 use vipr_rules::Profile;
 use vipr_tighten::{Outcome, TightenFault, tighten, tighten_in};
@@ -180,15 +180,6 @@ fn tightened((kept, removed, peak_before, peak_after): Figures) -> Result<Outcom
     })
 }
 
-fn tighten_into(
-    alloc: Global,
-    text: &[u8],
-    written: &mut Vec<u8>,
-) -> Result<Outcome, TightenFault> {
-    let mut sink = FromWrite::new(written);
-    tighten(alloc, Bytes::new(text), &mut sink)
-}
-
 fn is_verified(rt: &impl Abort, alloc: Global, text: &[u8]) -> bool {
     let verdict = check(alloc, Bytes::new(text)).expect(rt, "a verdict");
     matches!(verdict, Verdict::Verified(_))
@@ -198,7 +189,7 @@ fn is_verified(rt: &impl Abort, alloc: Global, text: &[u8]) -> bool {
 fn becomes(rt: &impl Abort, alloc: Global, text: &[u8], wanted: &[u8], figures: Figures) {
     // the writer has its room before
     let mut written = Vec::with_capacity(alloc, wanted.len()).expect(rt, "room");
-    let outcome = tighten_into(alloc, text, &mut written);
+    let outcome = tighten(alloc, Bytes::new(text), &mut written);
     holds_back(rt, outcome, !written.is_empty());
     same(rt, outcome, tightened(figures));
     assert!(rt; written.as_slice() == wanted);
