@@ -105,7 +105,7 @@ def functions(path):
     """The functions of a file: name, whether public, clauses, where its text begins and ends."""
     text = blanked(read(path))
     whole = owners(text)
-    for found in re.finditer(r'^( *)(pub (?:\([^)]*\) )?|pub\(crate\) )?fn (\w+)', text, re.M):
+    for found in re.finditer(r'^( *)(pub (?:\([^)]*\) )?|pub\(crate\) )?(?:const |unsafe |extern "[^"]*" )*fn (\w+)', text, re.M):
         owner = next((o for o in whole if o[0] <= found.start() < o[1]), None)
         at, clauses = found.end(), []
         while at < len(text):
