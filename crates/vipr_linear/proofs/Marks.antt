@@ -167,31 +167,6 @@ pub touched_below : (marks : List Bool) (touched items : List ℕ) (i : ℕ) →
     → items ≡ touched → i < length items → get_or items i 0 < length marks
 touched_below marks touched items i t e l = marked_below marks _ (t.listed _ ∙ rw (← e) (list_any_at (nat_eq (get_or items i 0)) items i 0 l (itself _)))
 
--- what is not set back is in the rest of the list
-module _ {A : Type 0} (xs : List A) (d x : A) (items : List ℕ) (i : ℕ) (l : i < length items) (w : get_or items i 0 < length xs) where
-  still_left : (P : A → Type 0) → ¬ P x → (j : ℕ) → (P (get_or xs j d) → list_any (nat_eq j) (drop i items) ≡ true) → P (get_or (slice_set xs (get_or items i 0) x) j d) → list_any (nat_eq j) (drop (i + 1) items) ≡ true
-  still_left P never j before h = by (cases_eq j (get_or items i 0))
-    where
-      by : (j ≡ get_or items i 0) ⊎ (j ≢ get_or items i 0) → list_any (nat_eq j) (drop (i + 1) items) ≡ true
-      by (inl e) = absurd (never (subst P (ap (λ k. get_or (slice_set xs (get_or items i 0) x) k d) e ∙ get_or-set_same xs (get_or items i 0) x d w) h))
-      by (inr n) =
-          let was = before (subst P (get_or-set_other xs (get_or items i 0) j x d n) h) in
-          ap (λ b. b || list_any (nat_eq j) (drop (i + 1) items)) (sym (other j (get_or items i 0) n)) ∙ ap (list_any (nat_eq j)) (sym (next items i (get_or items i 0) l (get_or_default items i _ _ l))) ∙ was
-
-pub sums_left : (sums : List ℚ) (x : ℚ) (items : List ℕ) (i : ℕ) → i < length items
-    → get_or items i 0 < length sums → x ≡ zero_ℚ
-    → ((j : ℕ) → get_or sums j zero_ℚ ≢ zero_ℚ → list_any (nat_eq j) (drop i items) ≡ true)
-    → (j : ℕ) → get_or (slice_set sums (get_or items i 0) x) j zero_ℚ ≢ zero_ℚ
-    → list_any (nat_eq j) (drop (i + 1) items) ≡ true
-sums_left sums x items i l w z before j h = still_left sums zero_ℚ x items i l w (λ y. y ≢ zero_ℚ) (λ n. n z) j (before j) h
-
-pub marks_left : (marks : List Bool) (items : List ℕ) (i : ℕ) → i < length items
-    → get_or items i 0 < length marks
-    → ((j : ℕ) → get_or marks j false ≡ true → list_any (nat_eq j) (drop i items) ≡ true) → (j : ℕ)
-    → get_or (slice_set marks (get_or items i 0) false) j false ≡ true
-    → list_any (nat_eq j) (drop (i + 1) items) ≡ true
-marks_left marks items i l w before j h = still_left marks false false items i l w (λ y. y ≡ true) (λ t. absurd (cc)) j (before j) h
-
 none_there : (items : List ℕ) (i j : ℕ) → length items ≤ i
     → list_any (nat_eq j) (drop i items) ≡ true → ⊥
 none_there items i j h t = absurd (let e = ap (list_any (nat_eq j)) (drop_all i items h) in cc)

@@ -1,7 +1,6 @@
-use Rattle.std.proofs.Common.{arith, ◌≡◌, ◌≢◌, ◌<◌, ◌∙◌, ap, sym, get_or, length}
+use Rattle.std.proofs.Common.{arith, ◌≡◌, ◌≢◌, ◌<◌, ◌∙◌, sym, get_or, length}
 use Rattle.std.proofs.lemmas.Bool.{false≢true}
 use Rattle.vipr_spec.specs.Fraction.{zero_ℚ}
-use Rattle.vipr_linear.proofs.Marks.{all_picked}
 use Rattle.vipr_linear.proofs.Counting.{counted, passed}
 use Rattle.vipr_linear.proofs.places.count_nonzero.Goals as goal
 use Rattle.vipr_linear.proofs.places.count_nonzero.Goals.{then-not-is_zero, else-not-is_zero}
@@ -26,6 +25,3 @@ loop-place-preserved c =
             count = omega (arith, w.count-is, c.loop-place.invariant.count, same);
           }
     ]
-
-pub returns : goal.returns
-returns c = c.loop-place.invariant.count ∙ ap length (all_picked c.args.sums.now c.args.places.now c.loop-place.place-index c.loop-place-test.false)

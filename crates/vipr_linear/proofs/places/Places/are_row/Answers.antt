@@ -2,13 +2,10 @@ use Rattle.std.proofs.Common.{◌∙◌, sym, ap, subst, get_or}
 use Rattle.std.proofs.lemmas.Bool.{false≢true}
 use Rattle.vipr_spec.specs.Fraction.{zero_ℚ}
 use Rattle.vipr_linear.specs.Touched.{Covers}
-use Rattle.vipr_linear.proofs.Rows.{nonzero_from, exact}
+use Rattle.vipr_linear.proofs.Rows.{exact}
 use Rattle.vipr_linear.proofs.Collecting.{touched_within}
 use Rattle.vipr_linear.proofs.Counting.{row_counted, same_test}
 use Rattle.vipr_linear.proofs.places.Places.are_row.Goals as goal
-
-pub have_each-requires : goal.have_each-requires
-have_each-requires c = nonzero_from 0 _ c.entries-entries.ensures.rising
 
 pub count_nonzero-requires : goal.count_nonzero-requires
 count_nonzero-requires c = rw c.as_slice-sums.ensures.value (touched_within c.self.inside.sums.items c.self.inside.touched c.places-places.result.now c.self.invariant.places c.places-places.ensures)

@@ -19,9 +19,6 @@ nonzero_sums-requires c =
 pub invariant_of-touched : goal.invariant_of-touched
 invariant_of-touched c = touched_sorted _ _ _ _ _ c.sort_unstable.ensures.permutation c.sort_unstable.ensures.capacity c.touched.invariant
 
-pub invariant_of-self : goal.invariant_of-self
-invariant_of-self c = subst (AreCovered c.self.inside.sums.items) (sym c.touched.view_is) c.self.invariant
-
 pub returns-clause-entries : goal.returns-clause-entries
 returns-clause-entries c =
     let kept = touched_sorted _ _ _ _ _ c.sort_unstable.ensures.permutation c.sort_unstable.ensures.capacity c.touched.invariant in
@@ -40,6 +37,3 @@ returns-clause-sums c =
     both_ok c.nonzero_sums.result (λ v. v.items ≡ filter is_nonzero (map (pick c.deref.result.now) c.as_slice.result.now)) (λ v. All (λ e. IsBounded e.1) v.items) (λ v. HasRowEntries c.args.self.now v.items)
     (λ v is b j. ap (λ es. at (from_sorted es) j) (is ∙ list) ∙ collected_at c.self.inside.sums.items c.touched.inside.marks.items c.sort_unstable.new.self.items kept.touching covered.covers rising j ∙ ap (λ xs. get_or xs j zero_ℚ) c.self.view_is)
     c.nonzero_sums.ensures.kept c.nonzero_sums.ensures.bounded
-
-pub returns-clause-kept : goal.returns-clause-kept
-returns-clause-kept c = c.self.view_is

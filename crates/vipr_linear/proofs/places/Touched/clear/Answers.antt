@@ -1,14 +1,6 @@
-use Rattle.std.proofs.Common.{arith, ◌≡◌, ◌<◌, ◌∙◌, sym, ap, nat_eq, get_or, length, false}
-use Rattle.std.specs.List.{list_any}
-use Rattle.std.proofs.lemmas.List.{length-set}
-use Rattle.vipr_linear.proofs.Marks.{touched_below, marks_left, none_touched, all_false}
+use Rattle.std.proofs.Common.{arith, ◌≡◌, ap, length}
+use Rattle.vipr_linear.proofs.Marks.{touched_below, none_touched, all_false}
 use Rattle.vipr_linear.proofs.places.Touched.clear.Goals as goal
-
-pub loop-place-init : goal.loop-place-init
-loop-place-init c = record {
-  places = ap length c.self.view_is;
-  marks = λ j t. ap (list_any (nat_eq j)) c.deref-place-items.ensures.value ∙ sym (c.self.invariant.touching.listed j) ∙ t;
-}
 
 pub index_mut-requires : goal.index_mut-requires
 index_mut-requires c =
@@ -17,18 +9,6 @@ index_mut-requires c =
     let now = c.loop-place.invariant.places in
     let ok = c.loop-place.self-inside.1.0.ok in
     omega (arith, below, long, now, ok.0)
-
-pub loop-place-preserved : goal.loop-place-preserved
-loop-place-preserved c =
-    let below = touched_below c.self.inside.marks.items c.self.inside.list.items c.deref-place-items.result.now c.loop-place.place-index c.self.invariant.touching c.deref-place-items.ensures.value c.loop-place-test.true in
-    let long : length c.self.inside.marks.items ≡ length c.args.self.now = ap length c.self.view_is in
-    let now = c.loop-place.invariant.places in
-    let within : get_or c.deref-place-items.result.now c.loop-place.place-index 0 < length c.loop-place.self-inside.1.0.items = omega (arith, below, long, now) in
-    let set = length-set c.loop-place.self-inside.1.0.items (get_or c.deref-place-items.result.now c.loop-place.place-index 0) false in
-    record {
-      places = set ∙ now;
-      marks = marks_left c.loop-place.self-inside.1.0.items c.deref-place-items.result.now c.loop-place.place-index c.loop-place-test.true within c.loop-place.invariant.marks;
-    }
 
 pub invariant_of-self : goal.invariant_of-self
 invariant_of-self c =
