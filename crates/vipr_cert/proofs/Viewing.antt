@@ -2,13 +2,10 @@
 use Rattle.std.proofs.Common.{◌≡◌, ℕ, ◌+◌, ◌<◌, ◌≤◌, List, length, All, get_or, subst, sym, ◌∙◌}
 use Rattle.std.specs.List.{AllWithin}
 use Rattle.std.proofs.lemmas.List.{get_or_default}
-use Rattle.std.proofs.lemmas.List.Elements.{AllWithin-none, AllWithin-more, AllWithin-upto}
+use Rattle.std.proofs.lemmas.List.Elements.{AllWithin-more, AllWithin-upto}
 use Rattle.std.proofs.lemmas.List.Elements.{All-from_all_within}
 
 module _ {A : Type 0} (P : A → Type 0) (xs : List A) where
-  pub none_seen : AllWithin P xs 0 0
-  none_seen = AllWithin-none P xs 0
-
   pub one_more : (i : ℕ) (x : A) → i < length xs → x ≡ get_or xs i x → P x → AllWithin P xs 0 i → AllWithin P xs 0 (i + 1)
   one_more i x l is p before = AllWithin-more P xs 0 i before (λ d. subst P (is ∙ get_or_default xs i x d l) p)
 

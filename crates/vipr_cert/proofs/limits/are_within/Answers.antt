@@ -1,15 +1,8 @@
 use Rattle.std.proofs.Common.{refl, sym, ◌∙◌}
 use Rattle.std.proofs.lemmas.Bool.{false≢true}
-use Rattle.vipr_cert.proofs.Viewing.{none_seen, one_more, all_seen, fails_at}
+use Rattle.vipr_cert.proofs.Viewing.{all_seen, fails_at}
 use Rattle.vipr_cert.proofs.Within.{each_of, each_from}
 use Rattle.vipr_cert.proofs.limits.are_within.Goals as goal
-
-pub loop-item-init : goal.loop-item-init
-loop-item-init g c = none_seen (λ x. g.T.NamesVariables.shape c.args.n (g.T.NamesVariables.view x) × g.T.NamesVariables.fits (g.T.NamesVariables.view x)) c.args.items.now
-
-pub loop-item-preserved : goal.loop-item-preserved
-loop-item-preserved g c =
-    one_more (λ x. g.T.NamesVariables.shape c.args.n (g.T.NamesVariables.view x) × g.T.NamesVariables.fits (g.T.NamesVariables.view x)) c.args.items.now _ _ c.loop-item-test.true c.item-item.is (c.is_within.ensures.shape.0 c.if-not-is_within.false, c.is_within.ensures.fits) c.loop-item.invariant
 
 pub returns-then-not-is_within : goal.returns-then-not-is_within
 returns-then-not-is_within g c =

@@ -16,9 +16,6 @@ of_parts-requires c =
       fits = record { objective = known.objective; constraints = known.constraints t; bound_count = bound_count; claim = claim };
     }
 
-pub returns-clause-shape : goal.returns-clause-shape
-returns-clause-shape c = (λ t. rw c.of_parts.ensures.parts at c.of_parts.ensures.writes.shape, λ h. search rules)
-
 pub returns-then-not-are_within-clause-shape : goal.returns-then-not-are_within-clause-shape
 returns-then-not-are_within-clause-shape c =
     let known = rw (c.deref.ensures.value, c.deref-2.ensures.value) at c.are_within.ensures in
