@@ -6,6 +6,7 @@ ghost use Rattle.vipr_spec.specs.Fraction.{over, ◌+ℚ◌};
 ghost use Rattle.vipr_frac.specs.Parts.{AreWords};
 
 use crate::gcd::word_gcd;
+use crate::words::WHOLE;
 
 const MOST: u64 = i64::MAX as u64;
 
@@ -14,7 +15,13 @@ const MOST: u64 = i64::MAX as u64;
 pub(crate) fn is_word(p: i128) -> bool
     ensures { IsTrue result ↔ FitsSigned w64 p }
 {
-    p >= i64::MIN as i128 && p <= i64::MAX as i128
+    let bits = p.cast_unsigned();
+    let (low, high) = ((bits % WHOLE) as u64, (bits / WHOLE) as u64);
+    if low > MOST {
+        high == u64::MAX
+    } else {
+        high == 0
+    }
 }
 
 #[inline(always)]

@@ -6,7 +6,7 @@ use std::marker::Model;
 
 const HALF: u64 = 1 << 32;
 
-const WHOLE: u128 = 1 << 64;
+pub(crate) const WHOLE: u128 = 1 << 64;
 
 // A number of 64 bits.
 #[derive(Clone, Copy)]
