@@ -4,14 +4,11 @@ use Rattle.vipr_frac.proofs.Sums.{denom-whole, is-whole}
 use Rattle.vipr_frac.proofs.Views.{facts_of, Facts}
 use Rattle.vipr_frac.proofs.frac.Frac.is_whole.Goals as goal
 
-pub returns-clause-denominator : goal.returns-clause-denominator
-returns-clause-denominator c =
+pub returns : goal.returns
+returns c =
     let eq : IsTrue (eqb c.parts.result.1 1) → c.parts.result.1 ≡ 1 = λ t. search (rules, tests) in
     let f : Facts c.args.self c.parts.result.0 c.parts.result.1 = facts_of _ _ _ c.parts.ensures.numer c.parts.ensures.denom c.parts.ensures.reduced in
-    (λ t. sym f.denom ∙ eq t, λ e. eq-eqb _ _ (f.denom ∙ e))
-
-pub returns-clause-value : goal.returns-clause-value
-returns-clause-value c =
-    let eq : IsTrue (eqb c.parts.result.1 1) → c.parts.result.1 ≡ 1 = λ t. search (rules, tests) in
-    let f : Facts c.args.self c.parts.result.0 c.parts.result.1 = facts_of _ _ _ c.parts.ensures.numer c.parts.ensures.denom c.parts.ensures.reduced in
-    (λ t. (c.args.self.numer, is-whole c.args.self (sym f.denom ∙ eq t)), λ w. eq-eqb _ _ (f.denom ∙ denom-whole c.args.self w))
+    record {
+      denominator = (λ t. sym f.denom ∙ eq t, λ e. eq-eqb _ _ (f.denom ∙ e));
+      value = (λ t. (c.args.self.numer, is-whole c.args.self (sym f.denom ∙ eq t)), λ w. eq-eqb _ _ (f.denom ∙ denom-whole c.args.self w));
+    }

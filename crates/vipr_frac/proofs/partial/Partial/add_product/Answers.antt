@@ -73,26 +73,16 @@ returns-then-add_short-clause-sum c =
     h c.if-add_short.true
 
 -- the parts that are passed on are those of the factors
-pub returns-else-add_short-clause-fits : goal.returns-else-add_short-clause-fits
-returns-else-add_short-clause-fits c =
+pub returns-else-add_short : goal.returns-else-add_short
+returns-else-add_short c =
     let left = passed-on c.args.multiplier _ _ c.parts-p.ensures.numer c.parts-p.ensures.denom c.parts-p.ensures.reduced in
     let right = passed-on c.args.coefficient _ _ c.parts-r.ensures.numer c.parts-r.ensures.denom c.parts-r.ensures.reduced in
-    rw (left, right, c.add_short.ensures.kept c.if-add_short.false) at c.add_exact.ensures.fits
+    let h = rw (left, right, c.add_short.ensures.kept c.if-add_short.false) at c.add_exact.ensures in
+    record { fits = h.fits; sum = h.sum; kept = h.kept }
 
-pub returns-else-add_short-clause-sum : goal.returns-else-add_short-clause-sum
-returns-else-add_short-clause-sum c =
+pub returns-else-are_short : goal.returns-else-are_short
+returns-else-are_short c =
     let left = passed-on c.args.multiplier _ _ c.parts-p.ensures.numer c.parts-p.ensures.denom c.parts-p.ensures.reduced in
     let right = passed-on c.args.coefficient _ _ c.parts-r.ensures.numer c.parts-r.ensures.denom c.parts-r.ensures.reduced in
-    rw (left, right, c.add_short.ensures.kept c.if-add_short.false) at c.add_exact.ensures.sum
-
-pub returns-else-are_short-clause-fits : goal.returns-else-are_short-clause-fits
-returns-else-are_short-clause-fits c =
-    let left = passed-on c.args.multiplier _ _ c.parts-p.ensures.numer c.parts-p.ensures.denom c.parts-p.ensures.reduced in
-    let right = passed-on c.args.coefficient _ _ c.parts-r.ensures.numer c.parts-r.ensures.denom c.parts-r.ensures.reduced in
-    rw (left, right) at c.add_long.ensures.fits
-
-pub returns-else-are_short-clause-sum : goal.returns-else-are_short-clause-sum
-returns-else-are_short-clause-sum c =
-    let left = passed-on c.args.multiplier _ _ c.parts-p.ensures.numer c.parts-p.ensures.denom c.parts-p.ensures.reduced in
-    let right = passed-on c.args.coefficient _ _ c.parts-r.ensures.numer c.parts-r.ensures.denom c.parts-r.ensures.reduced in
-    rw (left, right) at c.add_long.ensures.sum
+    let h = rw (left, right) at c.add_long.ensures in
+    record { fits = h.fits; sum = h.sum; kept = h.kept }
