@@ -145,8 +145,21 @@ impl Places {
             (self.new ≡ with_term self.old multiplier (place, coefficient)) }
         ensures kept { OnErr result (self.new ≡ self.old) }
     {
-        self.touched.touch(place);
-        self.sums[place as usize].add_product(multiplier, coefficient)
+        self.add_term(multiplier, &(place, coefficient))
+    }
+
+    // Adds the multiple of an entry to the sum of its variable. The entry is read once its place is
+    // touched: so its words are together where they are tested.
+    #[inline(always)]
+    fn add_term(&mut self, multiplier: Frac, entry: &(u32, Frac)) -> Result<(), Overflow>
+        requires { entry.now.0 < length self.old }
+        ensures fits { IsOk result
+            ↔ TermFits (slice_index_or self.old entry.now.0 zero_ℚ) multiplier entry.now.1 }
+        ensures sum { OnOk result (self.new ≡ with_term self.old multiplier entry.now) }
+        ensures kept { OnErr result (self.new ≡ self.old) }
+    {
+        self.touched.touch(entry.0);
+        self.sums[entry.0 as usize].add_product(multiplier, entry.1)
     }
 
     /// Adds the multiple of each entry to the sum of its variable, in order.
@@ -160,8 +173,8 @@ impl Places {
         ensures sums { OnOk result (self.new ≡ with_terms self.old multiplier entries.now) }
         ensures places { length self.new ≡ length self.old }
     {
-        for (variable, coefficient) in entries {
-            self.add_product(*variable, multiplier, *coefficient)?;
+        for entry in entries {
+            self.add_term(multiplier, entry)?;
         }
         Ok(())
     }
