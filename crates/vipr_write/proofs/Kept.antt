@@ -74,89 +74,89 @@ within_by : (ends text : List ℕ) (s : Statement) → s.index < length ends
 within_by ends text s a b d = ap₂ (λ x y. x && y) (lt-ltb s.index (length ends) a) (ap₂ (λ x y. x && y) (tests_true (own_start ends s) (own_end ends s) b) (tests_true (own_end ends s) (length text) d))
 
 -- one more statement is behind the others
-module _ (t u : Statements) (more : List ℕ) (ends : u.ends.items ≡ t.ends.items ++ length u.text.bytes.items ∷ []) (e : u.text.bytes.items ≡ t.text.bytes.items ++ more) where
-  module _ (s : Statement) (here : is_within t.ends.items t.text.bytes.items s ≡ true) where
-    parts : (s.index < length t.ends.items) × (own_start t.ends.items s ≤ own_end t.ends.items s) × (own_end t.ends.items s ≤ length t.text.bytes.items)
-    parts = within_parts t.ends.items t.text.bytes.items s here
+module _ (t u : Statements) (more : List ℕ) (ends : u.ends ≡ t.ends ++ length u.text.bytes.items ∷ []) (e : u.text.bytes.items ≡ t.text.bytes.items ++ more) where
+  module _ (s : Statement) (here : is_within t.ends t.text.bytes.items s ≡ true) where
+    parts : (s.index < length t.ends) × (own_start t.ends s ≤ own_end t.ends s) × (own_end t.ends s ≤ length t.text.bytes.items)
+    parts = within_parts t.ends t.text.bytes.items s here
 
-    same_start : own_start u.ends.items s ≡ own_start t.ends.items s
-    same_start = ap (λ l. own_start l s) ends ∙ end_same (0 ∷ t.ends.items) (length u.text.bytes.items) s.index (omega (arith, parts.0))
+    same_start : own_start u.ends s ≡ own_start t.ends s
+    same_start = ap (λ l. own_start l s) ends ∙ end_same (0 ∷ t.ends) (length u.text.bytes.items) s.index (omega (arith, parts.0))
 
-    same_end : own_end u.ends.items s ≡ own_end t.ends.items s
-    same_end = ap (λ l. own_end l s) ends ∙ end_same t.ends.items (length u.text.bytes.items) s.index parts.0
+    same_end : own_end u.ends s ≡ own_end t.ends s
+    same_end = ap (λ l. own_end l s) ends ∙ end_same t.ends (length u.text.bytes.items) s.index parts.0
 
-    within_more : is_within u.ends.items u.text.bytes.items s ≡ true
+    within_more : is_within u.ends u.text.bytes.items s ≡ true
     within_more =
         let n = ap length ends in
-        let m = length-append t.ends.items (length u.text.bytes.items ∷ []) in
+        let m = length-append t.ends (length u.text.bytes.items ∷ []) in
         let k = ap length e in
         let l = length-append t.text.bytes.items more in
         let p = parts in
         let a = same_start in
         let b = same_end in
-        within_by u.ends.items u.text.bytes.items s (omega arith) (omega arith) (omega arith)
+        within_by u.ends u.text.bytes.items s (omega arith) (omega arith) (omega arith)
 
     own_same : own_bytes u s ≡ own_bytes t s
     own_same =
-        ap (λ b. cond b (slice_range u.text.bytes.items (own_start u.ends.items s) (own_end u.ends.items s)) []) within_more
+        ap (λ b. cond b (slice_range u.text.bytes.items (own_start u.ends s) (own_end u.ends s)) []) within_more
         ∙ ap₂ (slice_range u.text.bytes.items) same_start same_end
-        ∙ ap (λ l. slice_range l (own_start t.ends.items s) (own_end t.ends.items s)) e
-        ∙ part_same t.text.bytes.items more (own_start t.ends.items s) (own_end t.ends.items s) parts.1 parts.2
-        ∙ sym (ap (λ b. cond b (slice_range t.text.bytes.items (own_start t.ends.items s) (own_end t.ends.items s)) []) here)
+        ∙ ap (λ l. slice_range l (own_start t.ends s) (own_end t.ends s)) e
+        ∙ part_same t.text.bytes.items more (own_start t.ends s) (own_end t.ends s) parts.1 parts.2
+        ∙ sym (ap (λ b. cond b (slice_range t.text.bytes.items (own_start t.ends s) (own_end t.ends s)) []) here)
 
   -- the last one
-  module _ (s : Statement) (index : s.index ≡ length t.ends.items) (last : slice_index (0 ∷ t.ends.items) (length t.ends.items) ≡ length t.text.bytes.items) where
-    last_start : own_start u.ends.items s ≡ length t.text.bytes.items
-    last_start = ap (λ l. own_start l s) ends ∙ ap (λ i. slice_index (0 ∷ (t.ends.items ++ length u.text.bytes.items ∷ [])) i) index ∙ end_same (0 ∷ t.ends.items) (length u.text.bytes.items) (length t.ends.items) (omega arith) ∙ last
+  module _ (s : Statement) (index : s.index ≡ length t.ends) (last : slice_index (0 ∷ t.ends) (length t.ends) ≡ length t.text.bytes.items) where
+    last_start : own_start u.ends s ≡ length t.text.bytes.items
+    last_start = ap (λ l. own_start l s) ends ∙ ap (λ i. slice_index (0 ∷ (t.ends ++ length u.text.bytes.items ∷ [])) i) index ∙ end_same (0 ∷ t.ends) (length u.text.bytes.items) (length t.ends) (omega arith) ∙ last
 
-    last_end : own_end u.ends.items s ≡ length u.text.bytes.items
-    last_end = ap (λ l. own_end l s) ends ∙ get_or_push t.ends.items (length u.text.bytes.items) 0 s.index (sym index)
+    last_end : own_end u.ends s ≡ length u.text.bytes.items
+    last_end = ap (λ l. own_end l s) ends ∙ get_or_push t.ends (length u.text.bytes.items) 0 s.index (sym index)
 
-    last_within : is_within u.ends.items u.text.bytes.items s ≡ true
+    last_within : is_within u.ends u.text.bytes.items s ≡ true
     last_within =
         let n = ap length ends in
-        let m = length-append t.ends.items (length u.text.bytes.items ∷ []) in
+        let m = length-append t.ends (length u.text.bytes.items ∷ []) in
         let k = ap length e in
         let l = length-append t.text.bytes.items more in
         let a = last_start in
         let b = last_end in
-        within_by u.ends.items u.text.bytes.items s (omega arith) (omega arith) (omega arith)
+        within_by u.ends u.text.bytes.items s (omega arith) (omega arith) (omega arith)
 
     last_own : own_bytes u s ≡ more
     last_own =
-        ap (λ b. cond b (slice_range u.text.bytes.items (own_start u.ends.items s) (own_end u.ends.items s)) []) last_within
+        ap (λ b. cond b (slice_range u.text.bytes.items (own_start u.ends s) (own_end u.ends s)) []) last_within
         ∙ ap₂ (slice_range u.text.bytes.items) last_start last_end
         ∙ ap (λ l. slice_range l (length t.text.bytes.items) (length l)) e
         ∙ part_new t.text.bytes.items more
 
   steps_same : (steps : List (Step Statement)) → u.objective ≡ t.objective → u.spelled.items ≡ t.spelled.items
-      → All (λ (s : Step Statement). is_within t.ends.items t.text.bytes.items s.stated ≡ true) steps
+      → All (λ (s : Step Statement). is_within t.ends t.text.bytes.items s.stated ≡ true) steps
       → (map (step_of (statement_in u)) steps ≡ map (step_of (statement_in t)) steps)
-      × All (λ (s : Step Statement). is_within u.ends.items u.text.bytes.items s.stated ≡ true) steps
-  steps_same [] o r a = (refl, All-nil (λ (s : Step Statement). is_within u.ends.items u.text.bytes.items s.stated ≡ true))
+      × All (λ (s : Step Statement). is_within u.ends u.text.bytes.items s.stated ≡ true) steps
+  steps_same [] o r a = (refl, All-nil (λ (s : Step Statement). is_within u.ends u.text.bytes.items s.stated ≡ true))
   steps_same (s ∷ steps) o r a =
-      let P = λ (x : Step Statement). is_within t.ends.items t.text.bytes.items x.stated ≡ true in
+      let P = λ (x : Step Statement). is_within t.ends t.text.bytes.items x.stated ≡ true in
       let rest = steps_same steps o r (All-tail P s steps a) in
       let here = All-head P s steps a in
       let name : own_bytes u s.stated ++ row_bytes u.spelled.items s.stated ≡ own_bytes t s.stated ++ row_bytes t.spelled.items s.stated =
       ap₂ (λ x y. x ++ y) (own_same s.stated here) (ap (λ l. row_bytes l s.stated) r) in
       let one : step_of (statement_in u) s ≡ step_of (statement_in t) s =
       ap₂ (λ n q. let d : Derivation = record { name = n; stated = record { row = q; sense = equal; bound = zero_ℚ }; reason = kept_reason_of s.reason; last = s.last } in d) name o in
-      (ap₂ (λ x l. x ∷ l) one rest.0, All-cons (λ (x : Step Statement). is_within u.ends.items u.text.bytes.items x.stated ≡ true) s steps (within_more s.stated here) rest.1)
+      (ap₂ (λ x l. x ∷ l) one rest.0, All-cons (λ (x : Step Statement). is_within u.ends u.text.bytes.items x.stated ≡ true) s steps (within_more s.stated here) rest.1)
 
 pub kept_more : (t u : Statements) (more : List ℕ) (s : Step Statement) (d : Derivation)
     (steps : List (Step Statement)) (ds : List Derivation) → u.form ≡ t.form
     → u.objective ≡ t.objective → u.spelled.items ≡ t.spelled.items
     → u.text.bytes.items ≡ t.text.bytes.items ++ more
-    → u.ends.items ≡ t.ends.items ++ length u.text.bytes.items ∷ []
-    → s.stated.index ≡ length t.ends.items
+    → u.ends ≡ t.ends ++ length u.text.bytes.items ∷ []
+    → s.stated.index ≡ length t.ends
     → (SpellsRow t → more ++ row_bytes t.spelled.items s.stated
     ≡ words_text (constraint_words_in t.form t.objective d.name d.stated))
     → kept_reason_of s.reason ≡ d.reason → s.last ≡ d.last
     → AreKept t steps ds → AreKept u (steps ++ s ∷ []) (ds ++ d ∷ [])
 kept_more t u more s d steps ds f o r e ends index words reason last kept =
     let same = steps_same t u more ends e steps o r kept.within in
-    let P = λ (x : Step Statement). is_within u.ends.items u.text.bytes.items x.stated ≡ true in
+    let P = λ (x : Step Statement). is_within u.ends u.text.bytes.items x.stated ≡ true in
     let name : own_bytes u s.stated ++ row_bytes u.spelled.items s.stated ≡ words_text (constraint_words_in u.form u.objective d.name d.stated) =
     ap₂ (λ x y. x ++ y) (last_own t u more ends e s.stated index kept.last) (ap (λ l. row_bytes l s.stated) r)
     ∙ words kept.row ∙ sym (ap₂ (λ g q. words_text (constraint_words_in g q d.name d.stated)) f o) in
@@ -164,7 +164,7 @@ kept_more t u more s d steps ds f o r e ends index words reason last kept =
     λ i. let x : Derivation = record { name = name i; stated = record { row = u.objective; sense = equal; bound = zero_ℚ }; reason = reason i; last = last i } in x in
     record {
       row = r ∙ kept.row ∙ sym (ap₂ (λ g q. words_after_spaces (row_words g q q)) f o);
-      last = new_last t.ends.items (length u.text.bytes.items) u.ends.items ends;
+      last = new_last t.ends (length u.text.bytes.items) u.ends ends;
       within = All-push P steps s same.1 (last_within t u more ends e s.stated index kept.last);
       those = map_push (step_of (statement_in u)) steps s
           ∙ ap₂ (λ l x. l ++ x ∷ []) (same.0 ∙ kept.those ∙ sym (ap₂ (λ g q. map (as_text g q) ds) f o)) one

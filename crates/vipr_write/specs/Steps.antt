@@ -54,8 +54,8 @@ is_within ends text s = nat_lt s.index (length ends)
 
 -- the part of the text that is a statement's own
 abbrev pub own_bytes : Statements → Statement → List ℕ
-own_bytes t s = cond (is_within t.ends.items t.text.bytes.items s)
-    (slice_range t.text.bytes.items (own_start t.ends.items s) (own_end t.ends.items s)) []
+own_bytes t s = cond (is_within t.ends t.text.bytes.items s)
+    (slice_range t.text.bytes.items (own_start t.ends s) (own_end t.ends s)) []
 
 -- the words of the objective's row, if the statement ends before them
 abbrev pub row_bytes : List ℕ → Statement → List ℕ
@@ -71,9 +71,9 @@ SpellsRow t = t.spelled.items ≡ words_after_spaces (row_words t.form t.objecti
 pub record AreKept (t : Statements) (steps : List (Step Statement)) (ds : List Derivation)
     : Type 0 where
   pub row : SpellsRow t
-  pub last : slice_index (0 ∷ t.ends.items) (length t.ends.items) ≡ length t.text.bytes.items
+  pub last : slice_index (0 ∷ t.ends) (length t.ends) ≡ length t.text.bytes.items
   pub within : All
-      (λ (s : Step Statement). is_within t.ends.items t.text.bytes.items s.stated ≡ true)
+      (λ (s : Step Statement). is_within t.ends t.text.bytes.items s.stated ≡ true)
       steps
   pub those : map (step_of (statement_in t)) steps ≡ map (as_text t.form t.objective) ds
 

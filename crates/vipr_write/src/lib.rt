@@ -8,6 +8,7 @@
 
 mod canonical;
 mod countable;
+mod ends;
 mod folded;
 mod form;
 mod lines;

@@ -15,6 +15,7 @@ ghost use Rattle.vipr_write.specs.Forms.{row_words};
 ghost use Rattle.vipr_write.specs.StepReasons.{IsShortest};
 ghost use Rattle.vipr_write.specs.Steps.{own_bytes, row_bytes, AreKept};
 
+use crate::ends::Ends;
 use crate::form::Form;
 use crate::lines::put_start;
 use crate::rows::{is_row, spell_row, spelled_objective};
@@ -50,7 +51,7 @@ pub struct Statements {
     pub(crate) spelled: Vec<u8>,
     pub(crate) text: Growing,
     /// The end of each of them in the text.
-    pub(crate) ends: Vec<usize>,
+    pub(crate) ends: Ends,
 }
 
 // The words of a row, unless it is the objective's. Whether it is.
@@ -78,7 +79,7 @@ impl Statements {
             objective: objective.clone()?,
             spelled: spelled_objective(alloc, form, objective)?,
             text: Growing::new(alloc),
-            ends: Vec::new(alloc),
+            ends: Ends::new(alloc),
         })
     }
 
@@ -122,10 +123,14 @@ impl Statements {
 
     // The start of the statement of this index, which is the end of the one before it.
     fn start_of(&self, index: usize) -> usize
-        requires { index ≤ length self.now.ends.items }
-        ensures { result ≡ slice_index (0 ∷ self.now.ends.items) index }
+        requires { index ≤ length self.now.ends }
+        ensures { result ≡ slice_index (0 ∷ self.now.ends) index }
     {
-        if index == 0 { 0 } else { self.ends[index - 1] }
+        if index == 0 {
+            0
+        } else {
+            self.ends.at(index - 1)
+        }
     }
 
     /// What is kept of a statement alone, and nothing if it doesn't lie here.
@@ -135,7 +140,7 @@ impl Statements {
         let index = stated.index as usize;
         if index < self.ends.len() {
             let start = self.start_of(index);
-            let end = self.ends[index];
+            let end = self.ends.at(index);
             let text = self.text.as_slice();
             if start <= end && end <= text.len() {
                 return &text[start..end];

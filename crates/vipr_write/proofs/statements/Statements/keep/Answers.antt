@@ -1,4 +1,4 @@
-use Rattle.std.proofs.Common.{◌≡◌, List, ℕ, ◌∷◌, [], ◌++◌, cond, length, refl, rules, ap, ◌∙◌}
+use Rattle.std.proofs.Common.{◌≡◌, List, ℕ, ◌∷◌, [], ◌++◌, cond, length, refl, ap, ◌∙◌}
 use Rattle.vipr_cert.specs.Items.{derivation_of}
 use Rattle.vipr_write.specs.Canonical.{words_after_spaces}
 use Rattle.vipr_write.specs.Forms.{row_words}
@@ -23,6 +23,6 @@ returns-clause-kept c = λ ss ds kept.
     let place : Statement = record { index = c.in-Ok.index; is_cut = is_cut } in
     let s : Step Statement = record { stated = place; reason = c.in_ok-of.field-0; last = c.args.derivation.now.last } in
     let text = (grown t.text u.text (first ++ row) (puts_then c.put_start.ensures c.put_other_row-is_cut.ensures.text) (cc)).1 in
-    let ends : u.ends.items ≡ t.ends.items ++ length u.text.bytes.items ∷ [] = c.in_ok-push.ensures.items ∙ ap (λ (l : List ℕ). t.ends.items ++ length l ∷ []) c.as_slice.ensures in
-    let index : c.in-Ok.index ≡ length t.ends.items = c.in-Ok.ensures.1 ∙ search rules in
+    let ends : u.ends ≡ t.ends ++ length u.text.bytes.items ∷ [] = c.in_ok-push.ensures ∙ ap (λ (l : List ℕ). t.ends ++ length l ∷ []) c.as_slice.ensures in
+    let index : c.in-Ok.index ≡ length t.ends = c.in-Ok.ensures.1 ∙ c.len.ensures in
     kept_more t u (first ++ row) s d ss ds refl refl refl text ends index (λ spelled. words_are t.form t.objective t.spelled.items d.name d.stated is_cut spelled (λ is. ap (row_words t.form t.objective) (c.put_other_row-is_cut.ensures.row is))) c.in_ok-of.ensures.reason refl kept
